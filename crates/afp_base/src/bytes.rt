@@ -1,0 +1,65 @@
+//! Bytes that are owned.
+ghost use Rattle.std.specs.Prelude.{◌≡◌, ◌++◌, [], IfOk, OnOk, OnErr};
+
+use std::alloc::{AllocError, AllocFailed, Global};
+use std::marker::Model;
+
+/// There is no memory.
+#[derive(Clone, Copy, Debug, PartialEq, Eq)]
+pub struct OutOfMemory;
+
+impl From<AllocError> for OutOfMemory {
+    fn from(_error: AllocError) -> OutOfMemory {
+        OutOfMemory
+    }
+}
+
+impl<T: Drop> From<AllocFailed<T>> for OutOfMemory {
+    fn from(_error: AllocFailed<T>) -> OutOfMemory {
+        OutOfMemory
+    }
+}
+
+/// Bytes that are owned. Contracts see them as a list of bytes.
+#[derive(Debug, Drop)]
+pub struct Bytes(Vec<u8>);
+
+impl Model for Bytes {
+    ghost use Rattle.std.specs.Prelude.{List, ℕ};
+
+    ghost Value = { List ℕ };
+
+    ghost view = { λ a. a.0.items };
+}
+
+impl Bytes {
+    /// No bytes. It takes no memory.
+    pub fn new(alloc: Global) -> Bytes
+        ensures { result ≡ [] }
+    {
+        Bytes(Vec::new(alloc))
+    }
+
+    /// Appends a piece. An error changes nothing.
+    pub fn extend(&mut self, piece: &[u8]) -> Result<(), OutOfMemory>
+        ensures ok { OnOk result (self.new ≡ self.old ++ piece.now) }
+        ensures err { OnErr result (self.new ≡ self.old) }
+    {
+        self.0.extend_from_slice(piece)?;
+        Ok(())
+    }
+
+    /// The same bytes once more.
+    pub fn copy(&self) -> Result<Bytes, OutOfMemory>
+        ensures { IfOk result (λ b. b ≡ self.now) }
+    {
+        Ok(Bytes(self.0.clone()?))
+    }
+
+    /// The bytes, lent.
+    pub fn as_slice(&self) -> &[u8]
+        ensures { result.now ≡ self.now }
+    {
+        self.0.as_slice()
+    }
+}
