@@ -4,6 +4,7 @@
 mod bytes;
 mod code;
 mod ids;
+pub mod laws;
 mod moment;
 mod scan;
 
@@ -12,3 +13,6 @@ pub use code::Code;
 pub use ids::{ForkRef, LinkNumber, NodeId, SessionNumber, VolumeId};
 pub use moment::Moment;
 pub use scan::{Scan, Short};
+
+#[cfg(test)]
+mod tests;

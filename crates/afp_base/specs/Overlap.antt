@@ -1,0 +1,26 @@
+-- When two byte-range locks overlap (AFP Reference, FPByteRangeLock).
+use Rattle.std.specs.Prelude.{◌≡◌, ℕ, ◌≤◌, ◌↔◌}
+use Rattle.afp_base.specs.DenyMode.{Fork}
+
+-- the bytes of a fork from one place to another, both included
+pub record Range : Type 0 where
+  pub from : ℕ
+  pub to : ℕ
+
+-- the byte at this place lies in the range
+abbrev pub Covers : Range → ℕ → Type 0
+Covers r byte = (r.from ≤ byte) × (byte ≤ r.to)
+
+abbrev pub Meets : Range → Range → Type 0
+Meets a b = (a.from ≤ b.to) × (b.from ≤ a.to)
+
+-- Two locks overlap where they are on one fork, and neither ends before the other begins.
+abbrev pub Overlaps : Fork → Range → Fork → Range → Type 0
+Overlaps f a g b = (f ≡ g) × Meets a b
+
+-- the laws: which of the two is named first makes no difference, and to meet is to share a byte
+abbrev pub IsSymmetric : Type 0
+IsSymmetric = (f g : Fork) (a b : Range) → Overlaps f a g b → Overlaps g b f a
+
+abbrev pub SharesByte : Type 0
+SharesByte = (a b : Range) → a.from ≤ a.to → b.from ≤ b.to → (Meets a b ↔ ((byte : ℕ) × Covers a byte × Covers b byte))
