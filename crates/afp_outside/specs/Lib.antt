@@ -1,0 +1,6 @@
+pub mod Counts
+pub mod Link
+pub mod Listener
+pub mod Sink
+pub mod Tape
+pub mod Tcp

@@ -1,0 +1,194 @@
+-- Links, doors and sinks in memory, which follow a plan (this profile).
+use Rattle.std.specs.Prelude.{◌≡◌, ℕ, ◌+◌, ◌==◌, Bool, false, List, [], ◌∷◌, ◌++◌, zero, suc, length, take, drop, min, max, Some, Result, Ok, Err, if◌then◌else◌}
+use Rattle.std.specs.List.{list_any}
+use Rattle.afp_base.specs.declared.bytes.OutOfMemory.{OutOfMemory}
+use Rattle.afp_outside.specs.Counts.{counted}
+use Rattle.afp_outside.specs.Link.{Event, piece, quiet, LinkState, IsFresh}
+use Rattle.afp_outside.specs.Sink.{SinkState}
+use Rattle.afp_outside.specs.declared.link.Heard.{Heard}
+use Rattle.afp_outside.specs.declared.link.Heard.TheVariants.{Got, Quiet, End, Failed}
+use Rattle.afp_outside.specs.declared.link.Wrote.{Wrote}
+use Rattle.afp_outside.specs.declared.link.Wrote.TheVariants.{Took, Failed as WriteFailed}
+use Rattle.afp_outside.specs.Listener.{DoorState}
+use Rattle.afp_outside.specs.declared.listener.Accepted.{Accepted}
+use Rattle.afp_outside.specs.declared.listener.Accepted.TheVariants.{Link, Closed, Failed as AcceptFailed}
+
+-- The numbers of the calls that fail, and how many calls were made: the number of the next one.
+pub record Calls : Type 0 where
+  pub failing : List ℕ
+  pub made : ℕ
+
+-- whether the next call fails
+abbrev pub fails : Calls → Bool
+fails calls = list_any (λ number. number == calls.made) calls.failing
+
+-- after one call more
+abbrev pub after_call : Calls → Calls
+after_call calls = record { failing = calls.failing; made = counted 1 calls.made }
+
+-- What reads gave, and the bytes that they have left.
+pub record Incoming : Type 0 where
+  pub events : List Event
+  pub coming : List ℕ
+
+-- the events of reads, of what each gave and the bytes that all of them read from
+abbrev pub events_of : List ℕ → List Heard → List Event
+events_of bytes [] = []
+events_of bytes (Got n ∷ heard) = piece (take n bytes) ∷ events_of (drop n bytes) heard
+events_of bytes (Quiet ∷ heard) = quiet ∷ events_of bytes heard
+events_of bytes (End ∷ heard) = events_of bytes heard
+events_of bytes (Failed ∷ heard) = events_of bytes heard
+
+-- how many bytes the reads gave
+abbrev pub size_of : List Heard → ℕ
+size_of [] = 0
+size_of (Got n ∷ heard) = n + size_of heard
+size_of (Quiet ∷ heard) = size_of heard
+size_of (End ∷ heard) = size_of heard
+size_of (Failed ∷ heard) = size_of heard
+
+-- What writes took, and the most bytes that each write still to come takes.
+pub record Outgoing : Type 0 where
+  pub written : List ℕ
+  pub writes : List ℕ
+
+-- how many of n bytes the next write takes: 1 at least, and all where the sizes have ended
+abbrev pub write_size : List ℕ → ℕ → ℕ
+write_size [] n = n
+write_size (size ∷ sizes) n = min (max 1 size) n
+
+-- A link in memory: all that it is seen as, and its plan. `reads` and `writes` are the most bytes
+-- that each read and write to come takes, `moments` are those of the reads to come, and `moment` is
+-- that of the last read.
+pub record Tape : Type 0 where
+  pub events : List Event
+  pub coming : List ℕ
+  pub written : List ℕ
+  pub ended : Bool
+  pub read_faults : ℕ
+  pub write_faults : ℕ
+  pub quiets : ℕ
+  pub moment : ℕ
+  pub heard : ℕ
+  pub reads : List ℕ
+  pub writes : List ℕ
+  pub moments : List ℕ
+  pub calls : Calls
+
+-- it tells all
+abbrev pub link_of : Tape → LinkState
+link_of tape = record {
+  events = Some tape.events;
+  coming = Some tape.coming;
+  written = Some tape.written;
+  ended = tape.ended;
+  read_faults = tape.read_faults;
+  write_faults = tape.write_faults;
+  quiets = tape.quiets;
+  now = tape.moment;
+  heard = tape.heard;
+}
+
+-- it was neither read nor written
+abbrev pub IsFreshTape : Tape → Type 0
+IsFreshTape tape = IsFresh (link_of tape)
+
+-- a link in memory that was neither read nor written
+abbrev pub fresh_tape : ℕ → List ℕ → List ℕ → List ℕ → List ℕ → List ℕ → Tape
+fresh_tape made bytes reads writes moments failing = record {
+  events = [];
+  coming = bytes;
+  written = [];
+  ended = false;
+  read_faults = 0;
+  write_faults = 0;
+  quiets = 0;
+  moment = made;
+  heard = made;
+  reads = reads;
+  writes = writes;
+  moments = moments;
+  calls = record { failing = failing; made = 0 };
+}
+
+-- the most bytes that the next read into a room takes: all that fits where the sizes have ended
+abbrev pub read_size : List ℕ → ℕ → ℕ
+read_size [] room = room
+read_size (size ∷ sizes) room = min size room
+
+-- what a read of at most so many bytes hears, of the bytes still coming: 0 is a quiet
+abbrev pub heard_of : ℕ → List ℕ → Heard
+heard_of zero coming = Quiet
+heard_of (suc most) [] = End
+heard_of (suc most) (byte ∷ bytes) = Got (min (suc most) (length (byte ∷ bytes)))
+
+-- the moment of the next read, of the moments to come and the last one
+abbrev pub next_moment : List ℕ → ℕ → ℕ
+next_moment [] last = last
+next_moment (moment ∷ moments) last = moment
+
+-- A read follows the plan; one that fails uses up a moment, and no size.
+pub record TapeReads (old : Tape) (room : ℕ) (heard : Heard) (new : Tape) : Type 0 where
+  pub answer : heard ≡ (if fails old.calls then Failed else heard_of (read_size old.reads room) old.coming)
+  pub moment : new.moment ≡ next_moment old.moments old.moment
+  pub moments : new.moments ≡ drop 1 old.moments
+  pub reads : new.reads ≡ (if fails old.calls then old.reads else drop 1 old.reads)
+  pub writes : new.writes ≡ old.writes
+  pub calls : new.calls ≡ after_call old.calls
+
+-- what a write of n bytes answers by the plan; one that finds no memory fails too
+abbrev pub IsWroteBy : Calls → List ℕ → ℕ → Wrote → List ℕ → Type 0
+IsWroteBy calls sizes n (Took k) left = (fails calls ≡ false) × (k ≡ write_size sizes n) × (left ≡ drop 1 sizes)
+IsWroteBy calls sizes n WriteFailed left = left ≡ sizes
+
+-- A write follows the plan; one that fails uses up no size.
+pub record TapeWrites (old : Tape) (offered : List ℕ) (wrote : Wrote) (new : Tape) : Type 0 where
+  pub answer : IsWroteBy old.calls old.writes (length offered) wrote new.writes
+  pub moments : new.moments ≡ old.moments
+  pub reads : new.reads ≡ old.reads
+  pub calls : new.calls ≡ after_call old.calls
+
+-- what the writes take of a piece, or nothing for want of memory
+abbrev pub TakesOf : Outgoing → List ℕ → Result ℕ OutOfMemory → Outgoing → Type 0
+TakesOf old offered (Ok n) new = (new.written ≡ old.written ++ take n offered) × (n ≡ write_size old.writes (length offered)) × (new.writes ≡ drop 1 old.writes)
+TakesOf old offered (Err e) new = new ≡ old
+
+-- A sink in memory, and its plan.
+pub record TapeReport : Type 0 where
+  pub written : List ℕ
+  pub faults : ℕ
+  pub writes : List ℕ
+  pub calls : Calls
+
+-- it tells all
+abbrev pub sink_of : TapeReport → SinkState
+sink_of report = record { written = Some report.written; faults = report.faults }
+
+-- A write follows the plan; one that fails uses up no size.
+pub record ReportWrites (old : TapeReport) (offered : List ℕ) (wrote : Wrote) (new : TapeReport) : Type 0 where
+  pub answer : IsWroteBy old.calls old.writes (length offered) wrote new.writes
+  pub calls : new.calls ≡ after_call old.calls
+
+-- A door in memory: the links still to come, all that it is seen as, and its plan. Accepts are
+-- numbered.
+pub record TapeDoor : Type 0 where
+  pub coming : List Tape
+  pub handed : ℕ
+  pub back : List Tape
+  pub closed : Bool
+  pub faults : ℕ
+  pub calls : Calls
+
+abbrev pub door_of : TapeDoor → DoorState Tape
+door_of door = record { handed = door.handed; back = door.back; closed = door.closed; faults = door.faults }
+
+-- the next link, or none is left
+abbrev pub accepted_of : List Tape → Accepted Tape
+accepted_of [] = Closed
+accepted_of (link ∷ links) = Link link
+
+-- An accept follows the plan; one that fails hands out no link.
+pub record TapeAccepts (old : TapeDoor) (result : Accepted Tape) (new : TapeDoor) : Type 0 where
+  pub answer : result ≡ (if fails old.calls then AcceptFailed else accepted_of old.coming)
+  pub coming : new.coming ≡ (if fails old.calls then old.coming else drop 1 old.coming)
+  pub calls : new.calls ≡ after_call old.calls

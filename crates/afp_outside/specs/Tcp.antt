@@ -1,0 +1,27 @@
+-- Links and doors over TCP, which tell no bytes (this profile).
+use Rattle.std.specs.Prelude.{◌≡◌, ◌≢◌, ℕ, ◌-◌, Option, Some, None, option_map, min, zero, suc}
+use Rattle.afp_outside.specs.Link.{LinkState}
+use Rattle.afp_outside.specs.Listener.{DoorState}
+use Rattle.afp_outside.specs.declared.listener.Accepted.{Accepted}
+use Rattle.afp_outside.specs.declared.listener.Accepted.TheVariants.{Link, Closed, Failed}
+
+-- the moment of a Unix time in seconds: that of 2000-01-01 is 946,684,800 (AFP Reference, dates)
+abbrev pub moment_of_unix : ℕ → ℕ
+moment_of_unix seconds = min (seconds - 946684800) 2147483647
+
+-- A door over TCP, and how many links it hands out before it is closed: no end to them, where none
+-- is told.
+pub record TcpState : Type 0 where
+  pub door : DoorState LinkState
+  pub left : Option ℕ
+
+-- The door is closed exactly where it has handed out as many links as it may.
+abbrev pub Limits : Option ℕ → Accepted LinkState → Option ℕ → Type 0
+Limits old (Link link) new = (old ≢ Some 0) × (new ≡ option_map (λ n. n - 1) old)
+Limits old Closed new = (old ≡ Some 0) × (new ≡ old)
+Limits old Failed new = (old ≢ Some 0) × (new ≡ old)
+
+-- how many links are left, of a limit: 0 is none
+abbrev pub limit_of : ℕ → Option ℕ
+limit_of zero = None
+limit_of (suc n) = Some (suc n)

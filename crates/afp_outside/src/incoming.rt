@@ -1,0 +1,72 @@
+//! The bytes that the reads of a link in memory give.
+ghost use Rattle.std.specs.Prelude.{◌≡◌, ◌≤◌, ◌<◌, ◌++◌, ◌∷◌, [], length, take, drop};
+ghost use Rattle.afp_outside.specs.Link.{piece, quiet};
+
+use crate::link::Heard;
+use afp_base::Bytes;
+use ghost_log::Log;
+use std::marker::Model;
+
+/// Bytes that reads take from the first on. What each read gave is told to proofs alone.
+#[derive(Drop)]
+pub struct Incoming {
+    bytes: Bytes,
+    place: usize,
+    heard: Log<Heard>,
+}
+
+impl Model for Incoming {
+    ghost use Rattle.std.specs.Prelude.{◌≡◌, ◌≤◌, length, drop};
+    ghost use Rattle.afp_outside.specs.Tape.{Incoming, events_of, size_of};
+
+    ghost Value = { Incoming };
+
+    ghost view = { λ a. record { events = events_of a.bytes a.heard.items; coming = drop a.place a.bytes } };
+
+    ghost invariant = { λ a. (a.place ≤ length a.bytes) × (size_of a.heard.items ≡ a.place) };
+}
+
+impl Incoming {
+    /// These bytes, none of which was read.
+    pub fn new(bytes: Bytes) -> Incoming
+        ensures { result ≡ record { events = []; coming = bytes } }
+    {
+        Incoming {
+            bytes,
+            place: 0,
+            heard: Log::new(),
+        }
+    }
+
+    /// How many bytes are left.
+    pub fn left(&self) -> usize
+        ensures { result ≡ length self.now.coming }
+    {
+        self.bytes.as_slice().len() - self.place
+    }
+
+    /// Gives the next `n` bytes.
+    #[tactic(auto, using(crate::proofs::Events::got_place, crate::proofs::Events::got_size, crate::proofs::Events::got_events))]
+    pub fn give(&mut self, n: usize, room: &mut [u8])
+        requires most { n ≤ length self.old.coming }
+        requires fits { n ≤ length room.old }
+        ensures room { take n room.new ≡ take n self.old.coming }
+        ensures coming { self.new.coming ≡ drop n self.old.coming }
+        ensures events { self.new.events ≡ self.old.events ++ piece (take n self.old.coming) ∷ [] }
+    {
+        let bytes = self.bytes.as_slice();
+        let end = self.place + n;
+        room[..n].copy_from_slice(&bytes[self.place..end]);
+        self.place = end;
+        self.heard = self.heard.and(&Heard::Got(n));
+    }
+
+    /// Gives a quiet.
+    #[tactic(auto, using(crate::proofs::Events::quiet_size, crate::proofs::Events::quiet_events))]
+    pub fn be_quiet(&mut self)
+        ensures coming { self.new.coming ≡ self.old.coming }
+        ensures events { self.new.events ≡ self.old.events ++ quiet ∷ [] }
+    {
+        self.heard = self.heard.and(&Heard::Quiet);
+    }
+}

@@ -1,0 +1,29 @@
+//! What the server meets outside of it: links to its peers, doors through which they come, and
+//! sinks for reports, each as a trait, with one in memory and one over the real thing.
+#![tactic(auto)]
+
+mod calls;
+mod clock;
+mod incoming;
+mod link;
+mod listener;
+mod outgoing;
+mod sink;
+mod std_sink;
+mod tape_link;
+mod tape_listener;
+mod tape_sink;
+mod tcp_door;
+mod tcp_wire;
+#[cfg(test)]
+mod tests;
+
+pub use link::{Heard, Link, Wrote};
+pub use listener::{Accepted, Listener};
+pub use sink::Sink;
+pub use std_sink::StdSink;
+pub use tape_link::TapeLink;
+pub use tape_listener::TapeListener;
+pub use tape_sink::TapeSink;
+pub use tcp_door::TcpDoor;
+pub use tcp_wire::TcpWire;
