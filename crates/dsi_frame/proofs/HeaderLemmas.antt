@@ -1,0 +1,221 @@
+-- What the bytes of a header say, and how they follow from its fields.
+use Rattle.std.proofs.Common.{◌≡◌, ◌≢◌, ◌==◌, ◌&&◌, ℕ, zero, suc, ◌<◌, ◌≤◌, Bool, true, false, not, cond, nat_lt, List, [], ◌∷◌, ◌++◌, length, Option, Some, None, refl, sym, ap, ◌∙◌, subst, inl, inr, arith, ltb-false, le-ltb, lt-ltb}
+use Rattle.std.proofs.lemmas.Bool.{false≢true}
+use Rattle.std.proofs.lemmas.Bool.Decides.{eqb_tells}
+use Rattle.dsi_frame.specs.declared.frame.DsiCommand.{DsiCommand}
+use Rattle.dsi_frame.specs.declared.frame.DsiCommand.TheVariants as commands
+use Rattle.dsi_frame.specs.declared.frame.Reason.{Reason}
+use Rattle.dsi_frame.specs.declared.frame.Reason.TheVariants as reasons
+use Rattle.dsi_frame.specs.declared.frame.Header.{Header}
+use Rattle.dsi_frame.specs.Frame.{IsGoodHeader, WordFits, header_fault, first_found, flags_byte, flags_in, command_number, command_in, id_in, word_in, length_in, is_listed, payload_limit}
+
+-- the fault that four fields of a header show
+abbrev pub fault_of : ℕ → ℕ → ℕ → ℕ → Option Reason
+fault_of flags command word size = first_found (
+    record { found = nat_lt 1 flags; reason = reasons.Flags }
+    ∷ record { found = not (is_listed command); reason = reasons.Command }
+    ∷ record { found = nat_lt payload_limit size; reason = reasons.Length }
+    ∷ record { found = flags == 0 && command == command_number commands.Write && nat_lt size word; reason = reasons.Offset }
+    ∷ [])
+
+-- no fault in a header whose length and word are in bounds
+pub no_fault : (reply : Bool) (command : DsiCommand) (word size : ℕ) → size ≤ payload_limit → WordFits reply command word size
+    → fault_of (flags_byte reply) (command_number command) word size ≡ None
+no_fault true commands.CloseSession word size limit offset = rw (le-ltb payload_limit size limit) refl
+no_fault true commands.Command word size limit offset = rw (le-ltb payload_limit size limit) refl
+no_fault true commands.GetStatus word size limit offset = rw (le-ltb payload_limit size limit) refl
+no_fault true commands.OpenSession word size limit offset = rw (le-ltb payload_limit size limit) refl
+no_fault true commands.Tickle word size limit offset = rw (le-ltb payload_limit size limit) refl
+no_fault true commands.Write word size limit offset = rw (le-ltb payload_limit size limit) refl
+no_fault true commands.Attention word size limit offset = rw (le-ltb payload_limit size limit) refl
+no_fault false commands.CloseSession word size limit offset = rw (le-ltb payload_limit size limit) refl
+no_fault false commands.Command word size limit offset = rw (le-ltb payload_limit size limit) refl
+no_fault false commands.GetStatus word size limit offset = rw (le-ltb payload_limit size limit) refl
+no_fault false commands.OpenSession word size limit offset = rw (le-ltb payload_limit size limit) refl
+no_fault false commands.Tickle word size limit offset = rw (le-ltb payload_limit size limit) refl
+no_fault false commands.Write word size limit offset = rw (le-ltb payload_limit size limit, le-ltb size word offset) refl
+no_fault false commands.Attention word size limit offset = rw (le-ltb payload_limit size limit) refl
+
+-- a good header has no fault
+pub good_has_no_fault : (bytes : List ℕ) (h : Header) → IsGoodHeader bytes h → header_fault bytes ≡ None
+good_has_no_fault bytes h g =
+    let at_fields : fault_of (flags_in bytes) (command_in bytes) (word_in bytes) (length_in bytes) ≡ fault_of (flags_byte h.reply) (command_number h.command) h.word h.length =
+    rw (g.flags, g.command, g.word, g.size) refl in
+    at_fields ∙ no_fault h.reply h.command h.word h.length g.limit g.offset
+
+-- the command with a number, where one is listed
+abbrev pub command_at : ℕ → DsiCommand
+command_at n =
+    cond (n == 1) commands.CloseSession (cond (n == 2) commands.Command (cond (n == 3) commands.GetStatus
+    (cond (n == 4) commands.OpenSession (cond (n == 5) commands.Tickle (cond (n == 6) commands.Write commands.Attention)))))
+
+pub command_at-number : (c : DsiCommand) → command_at (command_number c) ≡ c
+command_at-number commands.CloseSession = refl
+command_at-number commands.Command = refl
+command_at-number commands.GetStatus = refl
+command_at-number commands.OpenSession = refl
+command_at-number commands.Tickle = refl
+command_at-number commands.Write = refl
+command_at-number commands.Attention = refl
+
+-- a number that is no command's is not listed
+pub not_listed : (n : ℕ) → n ≢ 1 → n ≢ 2 → n ≢ 3 → n ≢ 4 → n ≢ 5 → n ≢ 6 → n ≢ 8 → is_listed n ≡ false
+not_listed n a b c d e f g = grind arith
+
+-- a listed number is a command's
+pub listed : (n : ℕ) → is_listed n ≡ true → command_number (command_at n) ≡ n
+listed n h = elim (eqb_tells n 1) [
+  | inl w ↦ rw w.1 refl
+  | inr a ↦
+      elim (eqb_tells n 2) [
+        | inl w ↦ rw w.1 refl
+        | inr b ↦
+            elim (eqb_tells n 3) [
+              | inl w ↦ rw w.1 refl
+              | inr d ↦
+                  elim (eqb_tells n 4) [
+                    | inl w ↦ rw w.1 refl
+                    | inr e ↦
+                        elim (eqb_tells n 5) [
+                          | inl w ↦ rw w.1 refl
+                          | inr f ↦
+                              elim (eqb_tells n 6) [
+                                | inl w ↦ rw w.1 refl
+                                | inr g ↦
+                                    elim (eqb_tells n 8) [
+                                      | inl w ↦ rw w.1 refl
+                                      | inr i ↦
+                                          absurd (false≢true (sym (not_listed n a.1 b.1 d.1 e.1 f.1 g.1 i.1) ∙ h))
+                                    ]
+                              ]
+                        ]
+                  ]
+            ]
+      ]
+]
+
+-- a command's number is listed
+pub number_listed : (c : DsiCommand) → is_listed (command_number c) ≡ true
+number_listed commands.CloseSession = refl
+number_listed commands.Command = refl
+number_listed commands.GetStatus = refl
+number_listed commands.OpenSession = refl
+number_listed commands.Tickle = refl
+number_listed commands.Write = refl
+number_listed commands.Attention = refl
+
+-- what holds of 16 bytes and more holds of each list that is so long
+pub by_header : (P : List ℕ → Type 0)
+    → ((a b c d e f g h i j k l m n o p : ℕ) (tail : List ℕ) → P (a ∷ b ∷ c ∷ d ∷ e ∷ f ∷ g ∷ h ∷ i ∷ j ∷ k ∷ l ∷ m ∷ n ∷ o ∷ p ∷ tail))
+    → (bytes : List ℕ) → 16 ≤ length bytes → P bytes
+by_header P holds (a ∷ b ∷ c ∷ d ∷ e ∷ f ∷ g ∷ h ∷ i ∷ j ∷ k ∷ l ∷ m ∷ n ∷ o ∷ p ∷ tail) long = holds a b c d e f g h i j k l m n o p tail
+by_header P holds _ long = absurd (omega arith)
+
+-- a header's fault is in its 16 bytes
+pub header_fault-append : (bytes more : List ℕ) → 16 ≤ length bytes → header_fault (bytes ++ more) ≡ header_fault bytes
+header_fault-append bytes more long =
+    by_header (λ bs. header_fault (bs ++ more) ≡ header_fault bs) (λ a b c d e f g h i j k l m n o p tail. refl) bytes long
+
+some_is_not_none : (r : Reason) → Some r ≡ None → ⊥
+some_is_not_none r h = cc
+
+-- what follows from a header without fault
+cut_if : (b : Bool) (r : Reason) (o : Option Reason) → cond b (Some r) o ≡ None → (b ≡ false) × (o ≡ None)
+cut_if true r o h = absurd (some_is_not_none r h)
+cut_if false r o h = (refl, h)
+
+not_false : (b : Bool) → not b ≡ false → b ≡ true
+not_false true h = refl
+not_false false h = absurd (false≢true (sym h))
+
+-- the flag that the first byte says
+flag_at : (n : ℕ) → n ≤ 1 → n ≡ flags_byte (n == 1)
+flag_at zero h = refl
+flag_at (suc zero) h = refl
+flag_at (suc (suc n)) h = absurd (omega arith)
+
+and3_false : (a b c : Bool) → (a && b && c) ≡ false → a ≡ true → b ≡ true → c ≡ false
+and3_false true true c h p q = h
+and3_false true false c h p q = absurd (false≢true q)
+and3_false false b c h p q = absurd (false≢true p)
+
+word_fits : (reply : Bool) (command : DsiCommand) (word size : ℕ)
+    → (flags_byte reply == 0 && command_number command == command_number commands.Write && nat_lt size word) ≡ false → WordFits reply command word size
+word_fits false commands.Write word size h = ltb-false size word h
+word_fits false commands.CloseSession word size h = tt
+word_fits false commands.Command word size h = tt
+word_fits false commands.GetStatus word size h = tt
+word_fits false commands.OpenSession word size h = tt
+word_fits false commands.Tickle word size h = tt
+word_fits false commands.Attention word size h = tt
+word_fits true _ word size h = tt
+
+-- the header that bytes begin with
+abbrev pub header_in : List ℕ → Header
+header_in bytes = record {
+  reply = flags_in bytes == 1;
+  command = command_at (command_in bytes);
+  id = id_in bytes;
+  word = word_in bytes;
+  length = length_in bytes;
+}
+
+-- a header without fault is good
+pub faultless_is_good : (bytes : List ℕ) → header_fault bytes ≡ None → IsGoodHeader bytes (header_in bytes)
+faultless_is_good bytes h =
+    let flags = cut_if _ _ _ h in
+    let command = cut_if _ _ _ flags.1 in
+    let size = cut_if _ _ _ command.1 in
+    let offset = cut_if _ _ _ size.1 in
+    let one : flags_in bytes ≡ flags_byte (flags_in bytes == 1) = flag_at (flags_in bytes) (ltb-false 1 (flags_in bytes) flags.0) in
+    let two : command_number (command_at (command_in bytes)) ≡ command_in bytes = listed (command_in bytes) (not_false (is_listed (command_in bytes)) command.0) in
+    record {
+      flags = one;
+      command = sym two;
+      id = refl;
+      word = refl;
+      size = refl;
+      limit = ltb-false payload_limit (length_in bytes) size.0;
+      offset = word_fits (flags_in bytes == 1) (command_at (command_in bytes)) (word_in bytes) (length_in bytes)
+          (let P : ℕ → ℕ → Type 0 = λ m n. (m == 0 && n == command_number commands.Write && nat_lt (length_in bytes) (word_in bytes)) ≡ false in
+          subst (λ (m : ℕ). P m (command_number (command_at (command_in bytes)))) one (subst (λ (n : ℕ). P (flags_in bytes) n) (sym two) offset.0));
+    }
+
+-- the faults, each by its condition
+choose_first : (a : Bool) (x y : Option Reason) → a ≡ true → cond a x y ≡ x
+choose_first a x y p = rw p refl
+
+choose_second : (a b : Bool) (x y : Option Reason) (z : Option Reason) → a ≡ false → b ≡ true → cond a x (cond b y z) ≡ y
+choose_second a b x y z p q = rw (p, q) refl
+
+choose_third : (a b c : Bool) (w x y z : Option Reason) → a ≡ false → b ≡ false → c ≡ true → cond a w (cond b x (cond c y z)) ≡ y
+choose_third a b c w x y z p q r = rw (p, q, r) refl
+
+at_command : (flags command word size : ℕ) → flags ≤ 1 → is_listed command ≡ false → fault_of flags command word size ≡ Some reasons.Command
+at_command flags n word size low unlisted = choose_second (nat_lt 1 flags) (not (is_listed n)) _ _ _ (le-ltb 1 flags low) (ap not unlisted)
+
+at_length : (flags command word size : ℕ) → flags ≤ 1 → is_listed command ≡ true → payload_limit < size → fault_of flags command word size ≡ Some reasons.Length
+at_length flags n word size low is_one above =
+    choose_third (nat_lt 1 flags) (not (is_listed n)) (nat_lt payload_limit size) _ _ _ _ (le-ltb 1 flags low) (ap not is_one) (lt-ltb payload_limit size above)
+
+at_offset : (word size : ℕ) → size ≤ payload_limit → size < word → fault_of 0 6 word size ≡ Some reasons.Offset
+at_offset word size low above = rw (le-ltb payload_limit size low, lt-ltb size word above) refl
+
+pub flags_fault : (bytes : List ℕ) → 1 < flags_in bytes → header_fault bytes ≡ Some reasons.Flags
+flags_fault bytes flags = choose_first (nat_lt 1 (flags_in bytes)) _ _ (lt-ltb 1 (flags_in bytes) flags)
+
+pub command_fault : (bytes : List ℕ) → flags_in bytes ≤ 1 → is_listed (command_in bytes) ≡ false → header_fault bytes ≡ Some reasons.Command
+command_fault bytes flags unlisted =
+    let at_fields : fault_of (flags_in bytes) (command_in bytes) (word_in bytes) (length_in bytes) ≡ Some reasons.Command =
+    at_command (flags_in bytes) (command_in bytes) (word_in bytes) (length_in bytes) flags unlisted in
+    at_fields
+
+pub length_fault : (bytes : List ℕ) → flags_in bytes ≤ 1 → is_listed (command_in bytes) ≡ true → payload_limit < length_in bytes
+    → header_fault bytes ≡ Some reasons.Length
+length_fault bytes flags command size = at_length (flags_in bytes) (command_in bytes) (word_in bytes) (length_in bytes) flags command size
+
+pub offset_fault : (bytes : List ℕ) → flags_in bytes ≡ 0 → command_in bytes ≡ 6 → length_in bytes ≤ payload_limit → length_in bytes < word_in bytes
+    → header_fault bytes ≡ Some reasons.Offset
+offset_fault bytes flags command size word =
+    let at_fields : fault_of (flags_in bytes) (command_in bytes) (word_in bytes) (length_in bytes) ≡ fault_of 0 6 (word_in bytes) (length_in bytes) = rw (flags, command) refl in
+    at_fields ∙ at_offset (word_in bytes) (length_in bytes) size word

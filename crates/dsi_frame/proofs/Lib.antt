@@ -1,0 +1,4 @@
+pub mod BufferLemmas
+pub mod FrameLemmas
+pub mod HeaderLemmas
+pub mod StreamLemmas

@@ -1,0 +1,4 @@
+pub mod Buffered
+pub mod Deframe
+pub mod Frame
+pub mod Stream
