@@ -1,0 +1,3 @@
+pub mod FirstBad
+pub mod Faultless
+pub mod StatusParts

@@ -1,0 +1,5 @@
+pub mod Faultless
+pub mod Household
+pub mod Limits
+pub mod HouseFault
+pub mod StatusBlock
