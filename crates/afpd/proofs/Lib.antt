@@ -1,0 +1,9 @@
+pub mod HandlingLemmas
+pub mod Moving
+pub mod NineWords
+pub mod OneHouse
+pub mod Ports
+pub mod Replies
+pub mod ReportLemmas
+pub mod Runs
+pub mod Serving

@@ -1,0 +1,11 @@
+pub mod Handling
+pub mod LinkRun
+pub mod Plain
+pub mod Reading
+pub mod Reply
+pub mod Reporting
+pub mod Script
+pub mod Sending
+pub mod Setup
+pub mod Spoken
+pub mod Words

@@ -1,0 +1,40 @@
+//! The file server: it answers the status block to whoever asks, over TCP.
+#![tactic(auto)]
+
+mod frames;
+pub mod plain;
+mod reply;
+mod report;
+mod send;
+pub mod serve;
+pub mod setup;
+#[cfg(test)]
+mod tests;
+pub mod words;
+
+use afp_outside::{StdSink, TcpDoor};
+use plain::afpd_plain;
+use setup::setup;
+use std::alloc::Global;
+use std::process::ExitCode;
+use std::{env, io};
+
+/// The words behind the program's name.
+fn spoken(rt: &HostRuntime) -> io::Result<Vec<String>> {
+    let mut words = Vec::new(rt.alloc());
+    for word in env::args(rt)?.skip(1) {
+        words.push(word)?;
+    }
+    Ok(words)
+}
+
+fn main(rt: HostRuntime) -> ExitCode {
+    let alloc: Global = rt.alloc();
+    let words = spoken(&rt).unwrap_or(Vec::new(alloc));
+    let mut door = match setup(alloc, words.as_slice()) {
+        Ok(settings) => TcpDoor::bind(&rt, settings.port, settings.links),
+        Err(_) => TcpDoor::closed(&rt),
+    };
+    let mut report = StdSink::new(&rt);
+    ExitCode::from(afpd_plain(alloc, words.as_slice(), &mut door, &mut report))
+}
