@@ -1,0 +1,4 @@
+pub mod LongName
+pub mod MacRoman
+pub mod Name
+pub mod Path
