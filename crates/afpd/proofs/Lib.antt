@@ -1,3 +1,4 @@
+pub mod Completeness
 pub mod HandlingLemmas
 pub mod Moving
 pub mod NineWords

@@ -1,3 +1,4 @@
+pub mod Complete
 pub mod Handling
 pub mod LinkRun
 pub mod Plain

@@ -2,6 +2,7 @@
 #![tactic(auto)]
 
 mod frames;
+pub mod laws;
 pub mod plain;
 mod reply;
 mod report;
