@@ -1,4 +1,4 @@
--- The result codes and their numbers (AFP Reference, "Result Codes").
+-- The result codes and their numbers (AFP Reference, "Result Codes"; NoMemory is the memory manager's, and what it is for is this profile's).
 use Rattle.std.specs.Prelude.{ℤ, pos, negsuc}
 use Rattle.afp_base.specs.declared.code.Code.{Code}
 use Rattle.afp_base.specs.declared.code.Code.TheVariants.{Ok, NoMemory, NoMoreSessions, AccessDenied, BadUAM, BadVersNum, BitmapErr, CantMove, DenyConflict, DirNotEmpty, DiskFull, EOFErr, FileBusy, ItemNotFound, LockErr, MiscErr, NoMoreLocks, ObjectExists, ObjectNotFound, ParamErr, RangeNotLocked, RangeOverlap, UserNotAuth, CallNotSupported, ObjectTypeErr, TooManyFilesOpen, CantRename, DirNotFound, VolLocked, ObjectLocked, IDNotFound, IDExists, SameObjectErr, BadIDErr}

@@ -1,5 +1,5 @@
 -- When two opens of forks deny each other (AFP Reference, FPOpenFork; Inside AppleTalk, chapter 13).
-use Rattle.std.specs.Prelude.{◌≡◌, ℕ, Bool, true, ◌&&◌, ◌||◌}
+use Rattle.std.specs.Prelude.{◌≡◌, ◌↔◌, ◌⊎◌, ℕ, Bool, true, ◌&&◌, ◌||◌}
 
 -- what an open may do, and what it denies to others
 pub record Access : Type 0 where
@@ -18,6 +18,10 @@ pub record Fork : Type 0 where
 abbrev pub is_denied_by : Access → Access → Bool
 is_denied_by a b = (a.read && b.deny_read) || (a.write && b.deny_write)
 
+-- the same as a fact: a reads or writes what b denies
+abbrev pub Uses : Access → Access → Type 0
+Uses a b = ((a.read ≡ true) × (b.deny_read ≡ true)) ⊎ ((a.write ≡ true) × (b.deny_write ≡ true))
+
 -- whether one reads or writes what the other denies
 abbrev pub is_clash : Access → Access → Bool
 is_clash a b = is_denied_by a b || is_denied_by b a
@@ -30,3 +34,7 @@ Conflicts f a g b = (f ≡ g) × (is_clash a b ≡ true)
 -- the law: which of the two is named first makes no difference
 abbrev pub IsSymmetric : Type 0
 IsSymmetric = (f g : Fork) (a b : Access) → Conflicts f a g b → Conflicts g b f a
+
+-- the law: two opens of one fork conflict just where one uses what the other denies
+abbrev pub DeniesWhatIsUsed : Type 0
+DeniesWhatIsUsed = (f : Fork) (a b : Access) → (Conflicts f a f b ↔ (Uses a b ⊎ Uses b a))

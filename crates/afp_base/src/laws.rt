@@ -4,15 +4,22 @@ ghost use Rattle.afp_base.specs.DenyMode as deny_mode;
 ghost use Rattle.afp_base.specs.ForkBytes as fork_bytes;
 ghost use Rattle.afp_base.specs.Overlap as overlap;
 
-/// Of two opens that conflict, either may be named first.
-pub fn conflict_is_symmetric()
-    ensures { deny_mode.IsSymmetric }
+/// Two opens of one fork conflict just where one uses what the other denies; either may be named first.
+pub fn conflict_is_use_of_what_is_denied()
+    ensures symmetric { deny_mode.IsSymmetric }
+    ensures denied { deny_mode.DeniesWhatIsUsed }
 {}
 
 /// Of two locks that overlap, either may be named first; and to overlap is to share a byte.
 pub fn overlap_is_sharing_a_byte()
     ensures symmetric { overlap.IsSymmetric }
     ensures shares { overlap.SharesByte }
+{}
+
+/// A resized fork has its new length, and the bytes that were there, or zeros.
+pub fn resizing_keeps_the_front()
+    ensures length { fork_bytes.HasLength }
+    ensures front { fork_bytes.KeepsFront }
 {}
 
 /// A splice leaves the bytes before and behind, and puts the new ones between.
@@ -23,8 +30,9 @@ pub fn splice_puts_between()
     ensures reaches { fork_bytes.Reaches }
 {}
 
-/// An equal request finds the newest answer, and no other request finds it.
+/// A repeat is the same request. It finds the newest answer, and no other request finds it.
 pub fn repeat_finds_newest()
+    ensures repeats { cached.TellsRepeats }
     ensures newest { cached.FindsNewest }
     ensures others { cached.PassesOthers }
 {}

@@ -1,4 +1,4 @@
--- The character set of long names (Inside Macintosh: Text, "Standard Roman character set").
+-- The character set of long names (this profile, after Apple's Mac Roman with the euro sign).
 use Rattle.std.specs.Prelude.{ℕ, ◌+◌, ◌-◌, ◌==◌, List, Option, Some, nat_lt, if◌then◌else◌, map, option_map, position, slice_index, encode_utf8_all}
 use Rattle.afp_names.specs.declared.mac_roman.TheConstants.{MAC_ROMAN}
 

@@ -1,4 +1,4 @@
-//! The character set of long names (Inside Macintosh: Text, "Standard Roman character set").
+//! The character set of long names: Mac Roman, with the euro sign.
 ghost use Rattle.std.specs.Prelude.{◌≡◌, ◌<◌, ◌≤◌, ◌+◌, ◌-◌, ◌==◌, nat_lt, if◌then◌else◌, option_map, slice_index, length, position, string_bytes, IfOk, IfSome, Some};
 ghost use Rattle.afp_names.specs.MacRoman.{mac_roman_char, mac_roman_byte, mac_roman_text};
 
