@@ -1,39 +1,44 @@
 -- the events of reads, when one read more is heard of
-use Rattle.std.proofs.Common.{◌≡◌, ℕ, ◌+◌, ◌≤◌, List, [], ◌∷◌, ◌++◌, length, take, drop, refl, sym, ap, ◌∙◌, add_assoc, add-zero, zero-add, arith}
-use Rattle.std.proofs.lemmas.List.{drop-drop, length-drop}
-use Rattle.afp_outside.specs.Link.{piece, quiet}
-use Rattle.afp_outside.specs.Tape.{events_of, size_of}
+use Rattle.std.proofs.Common.{◌≡◌, ℕ, ◌+◌, ◌≤◌, List, [], ◌∷◌, ◌++◌, length, take, drop, Some, refl, sym, ap, ◌∙◌, add_assoc, add-zero, zero-add, arith}
+use Rattle.std.proofs.lemmas.List.{drop-drop, length-drop, append-nil, append_assoc}
+use Rattle.afp_outside.specs.Link.{Event, piece, quiet}
+use Rattle.afp_outside.specs.Tape.{Reading, event_of, heard_size, events_of, size_of}
 use Rattle.afp_outside.specs.declared.link.Heard.{Heard}
-use Rattle.afp_outside.specs.declared.link.Heard.TheVariants.{Got, Quiet, End, Failed}
+use Rattle.afp_outside.specs.declared.link.Heard.TheVariants.{Got, Quiet}
 
-pub size-more : (hs : List Heard) (h : Heard) → size_of (hs ++ h ∷ []) ≡ size_of hs + size_of (h ∷ [])
-size-more [] h = sym (zero-add (size_of (h ∷ [])))
-size-more (Got n ∷ hs) h = ap (λ k. n + k) (size-more hs h) ∙ sym (add_assoc n (size_of hs) (size_of (h ∷ [])))
-size-more (Quiet ∷ hs) h = size-more hs h
-size-more (End ∷ hs) h = size-more hs h
-size-more (Failed ∷ hs) h = size-more hs h
+pub size-more : (them : List Reading) (it : Reading) → size_of (them ++ it ∷ []) ≡ size_of them + heard_size it.heard
+size-more [] it = add-zero (heard_size it.heard) ∙ sym (zero-add (heard_size it.heard))
+size-more (first ∷ them) it = ap (λ k. heard_size first.heard + k) (size-more them it) ∙ sym (add_assoc (heard_size first.heard) (size_of them) (heard_size it.heard))
 
-pub events-more : (bytes : List ℕ) (hs : List Heard) (h : Heard) → events_of bytes (hs ++ h ∷ []) ≡ events_of bytes hs ++ events_of (drop (size_of hs) bytes) (h ∷ [])
-events-more bytes [] h = refl
-events-more bytes (Got n ∷ hs) h =
-    ap (λ es. piece (take n bytes) ∷ es) (events-more (drop n bytes) hs h
-    ∙ ap (λ rest. events_of (drop n bytes) hs ++ events_of rest (h ∷ [])) (drop-drop (size_of hs) n bytes))
-events-more bytes (Quiet ∷ hs) h = ap (λ es. quiet ∷ es) (events-more bytes hs h)
-events-more bytes (End ∷ hs) h = events-more bytes hs h
-events-more bytes (Failed ∷ hs) h = events-more bytes hs h
+pub events-more : (bytes : List ℕ) (them : List Reading) (it : Reading) → events_of bytes (them ++ it ∷ []) ≡ events_of bytes them ++ event_of it.heard it.written (drop (size_of them) bytes)
+events-more bytes [] it = append-nil (event_of it.heard it.written bytes)
+events-more bytes (first ∷ them) it =
+    ap (λ es. event_of first.heard first.written bytes ++ es) (events-more (drop (heard_size first.heard) bytes) them it
+    ∙ ap (λ rest. events_of (drop (heard_size first.heard) bytes) them ++ event_of it.heard it.written rest) (drop-drop (size_of them) (heard_size first.heard) bytes))
+    ∙ sym (append_assoc (event_of first.heard first.written bytes) (events_of (drop (heard_size first.heard) bytes) them) (event_of it.heard it.written (drop (heard_size first.heard + size_of them) bytes)))
 
 pub got_place : (bytes : List ℕ) (n place : ℕ) → place ≤ length bytes → n ≤ length (drop place bytes) → place + n ≤ length bytes
 got_place bytes n place p h = let e = length-drop place bytes in omega arith
 
 -- a read that gave n bytes at a place
-pub got_size : (hs : List Heard) (n place : ℕ) → size_of hs ≡ place → size_of (hs ++ Got n ∷ []) ≡ place + n
-got_size hs n place e = size-more hs (Got n) ∙ ap (λ k. size_of hs + k) (add-zero n) ∙ ap (λ k. k + n) e
+pub got_size : (them : List Reading) (it : Reading) (n : ℕ) (written : List ℕ) (place : ℕ) → it ≡ record { heard = Got n; written = written } → size_of them ≡ place
+    → size_of (them ++ it ∷ []) ≡ place + n
+got_size them it n written place is e = size-more them it ∙ ap (λ (x : Reading). size_of them + heard_size x.heard) is ∙ ap (λ k. k + n) e
 
-pub got_events : (bytes : List ℕ) (hs : List Heard) (n place : ℕ) → size_of hs ≡ place → events_of bytes (hs ++ Got n ∷ []) ≡ events_of bytes hs ++ piece (take n (drop place bytes)) ∷ []
-got_events bytes hs n place e = events-more bytes hs (Got n) ∙ ap (λ k. events_of bytes hs ++ piece (take n (drop k bytes)) ∷ []) e
+pub got_events : (bytes : List ℕ) (them : List Reading) (it : Reading) (n : ℕ) (written : List ℕ) (place : ℕ) → it ≡ record { heard = Got n; written = written } → size_of them ≡ place
+    → events_of bytes (them ++ it ∷ []) ≡ events_of bytes them ++ piece (Some written) (take n (drop place bytes)) ∷ []
+got_events bytes them it n written place is e =
+    events-more bytes them it
+    ∙ ap (λ (x : Reading). events_of bytes them ++ event_of x.heard x.written (drop (size_of them) bytes)) is
+    ∙ ap (λ k. events_of bytes them ++ piece (Some written) (take n (drop k bytes)) ∷ []) e
 
-pub quiet_size : (hs : List Heard) (place : ℕ) → size_of hs ≡ place → size_of (hs ++ Quiet ∷ []) ≡ place
-quiet_size hs place e = size-more hs Quiet ∙ add-zero (size_of hs) ∙ e
+-- a read that gave a quiet
+pub quiet_size : (them : List Reading) (it : Reading) (written : List ℕ) (place : ℕ) → it ≡ record { heard = Quiet; written = written } → size_of them ≡ place
+    → size_of (them ++ it ∷ []) ≡ place
+quiet_size them it written place is e = size-more them it ∙ ap (λ (x : Reading). size_of them + heard_size x.heard) is ∙ add-zero (size_of them) ∙ e
 
-pub quiet_events : (bytes : List ℕ) (hs : List Heard) → events_of bytes (hs ++ Quiet ∷ []) ≡ events_of bytes hs ++ quiet ∷ []
-quiet_events bytes hs = events-more bytes hs Quiet
+pub quiet_events : (bytes : List ℕ) (them : List Reading) (it : Reading) (written : List ℕ) → it ≡ record { heard = Quiet; written = written }
+    → events_of bytes (them ++ it ∷ []) ≡ events_of bytes them ++ quiet (Some written) ∷ []
+quiet_events bytes them it written is =
+    events-more bytes them it
+    ∙ ap (λ (x : Reading). events_of bytes them ++ event_of x.heard x.written (drop (size_of them) bytes)) is

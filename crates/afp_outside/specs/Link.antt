@@ -6,16 +6,17 @@ use Rattle.afp_outside.specs.declared.link.Heard.TheVariants.{Got, Quiet, End, F
 use Rattle.afp_outside.specs.declared.link.Wrote.{Wrote}
 use Rattle.afp_outside.specs.declared.link.Wrote.TheVariants.{Took, Failed as WriteFailed}
 
--- what a read gave: bytes, or a quiet in which none came
+-- what a read gave: bytes, or a quiet in which none came; first, what had been written before it, where
+-- the link tells that
 pub data Event : Type 0 where
-  piece : List ℕ → Event
-  quiet : Event
+  piece : Option (List ℕ) → List ℕ → Event
+  quiet : Option (List ℕ) → Event
 
 -- the bytes that reads gave, in order
 abbrev pub taken : List Event → List ℕ
 taken [] = []
-taken (piece bytes ∷ events) = bytes ++ taken events
-taken (quiet ∷ events) = taken events
+taken (piece written bytes ∷ events) = bytes ++ taken events
+taken (quiet written ∷ events) = taken events
 
 -- A link. The events, the bytes still coming and the bytes written are each known where the link
 -- tells them; `now` and `heard` are seconds since 2000-01-01 00:00 GMT.
@@ -34,7 +35,7 @@ pub record LinkState : Type 0 where
 pub record ReadsPiece (old : LinkState) (room : List ℕ) (n : ℕ) (new : LinkState) : Type 0 where
   pub least : 1 ≤ n
   pub most : n ≤ length room
-  pub events : new.events ≡ option_map (λ events. events ++ piece (take n room) ∷ []) old.events
+  pub events : new.events ≡ option_map (λ events. events ++ piece old.written (take n room) ∷ []) old.events
   pub coming : old.coming ≡ option_map (λ coming. take n room ++ coming) new.coming
   pub written : new.written ≡ old.written
   pub ended : new.ended ≡ old.ended
@@ -45,7 +46,7 @@ pub record ReadsPiece (old : LinkState) (room : List ℕ) (n : ℕ) (new : LinkS
 
 -- A read in whose time no byte came.
 pub record ReadsQuiet (old new : LinkState) : Type 0 where
-  pub events : new.events ≡ option_map (λ events. events ++ quiet ∷ []) old.events
+  pub events : new.events ≡ option_map (λ events. events ++ quiet old.written ∷ []) old.events
   pub coming : new.coming ≡ old.coming
   pub written : new.written ≡ old.written
   pub ended : new.ended ≡ old.ended

@@ -31,21 +31,34 @@ pub record Incoming : Type 0 where
   pub events : List Event
   pub coming : List ℕ
 
--- the events of reads, of what each gave and the bytes that all of them read from
-abbrev pub events_of : List ℕ → List Heard → List Event
-events_of bytes [] = []
-events_of bytes (Got n ∷ heard) = piece (take n bytes) ∷ events_of (drop n bytes) heard
-events_of bytes (Quiet ∷ heard) = quiet ∷ events_of bytes heard
-events_of bytes (End ∷ heard) = events_of bytes heard
-events_of bytes (Failed ∷ heard) = events_of bytes heard
+-- What a read gave, and what had been written before it.
+pub record Reading : Type 0 where
+  pub heard : Heard
+  pub written : List ℕ
 
--- how many bytes the reads gave
-abbrev pub size_of : List Heard → ℕ
+-- the event of a read, if it is one, of what it gave, what had been written, and the bytes to read
+abbrev pub event_of : Heard → List ℕ → List ℕ → List Event
+event_of (Got n) written bytes = piece (Some written) (take n bytes) ∷ []
+event_of Quiet written bytes = quiet (Some written) ∷ []
+event_of End written bytes = []
+event_of Failed written bytes = []
+
+-- how many bytes a read gave
+abbrev pub heard_size : Heard → ℕ
+heard_size (Got n) = n
+heard_size Quiet = 0
+heard_size End = 0
+heard_size Failed = 0
+
+-- the events of readings, of the bytes that all of them read from
+abbrev pub events_of : List ℕ → List Reading → List Event
+events_of bytes [] = []
+events_of bytes (it ∷ more) = event_of it.heard it.written bytes ++ events_of (drop (heard_size it.heard) bytes) more
+
+-- how many bytes the readings gave
+abbrev pub size_of : List Reading → ℕ
 size_of [] = 0
-size_of (Got n ∷ heard) = n + size_of heard
-size_of (Quiet ∷ heard) = size_of heard
-size_of (End ∷ heard) = size_of heard
-size_of (Failed ∷ heard) = size_of heard
+size_of (it ∷ more) = heard_size it.heard + size_of more
 
 -- What writes took, and the most bytes that each write still to come takes.
 pub record Outgoing : Type 0 where

@@ -1,18 +1,20 @@
 //! The bytes that the reads of a link in memory give.
-ghost use Rattle.std.specs.Prelude.{◌≡◌, ◌≤◌, ◌<◌, ◌++◌, ◌∷◌, [], length, take, drop};
+ghost use Rattle.std.specs.Prelude.{◌≡◌, ◌≤◌, ◌<◌, ◌++◌, ◌∷◌, [], Some, length, take, drop};
 ghost use Rattle.afp_outside.specs.Link.{piece, quiet};
 
 use crate::link::Heard;
+use crate::reading::Reading;
 use afp_base::Bytes;
 use ghost_log::Log;
 use std::marker::Model;
 
-/// Bytes that reads take from the first on. What each read gave is told to proofs alone.
+/// Bytes that reads take from the first on. What each read gave, and what had
+/// been written before it, is told to proofs alone.
 #[derive(Drop)]
 pub struct Incoming {
     bytes: Bytes,
     place: usize,
-    heard: Log<Heard>,
+    readings: Log<Reading>,
 }
 
 impl Model for Incoming {
@@ -21,9 +23,9 @@ impl Model for Incoming {
 
     ghost Value = { Incoming };
 
-    ghost view = { λ a. record { events = events_of a.bytes a.heard.items; coming = drop a.place a.bytes } };
+    ghost view = { λ a. record { events = events_of a.bytes a.readings.items; coming = drop a.place a.bytes } };
 
-    ghost invariant = { λ a. (a.place ≤ length a.bytes) × (size_of a.heard.items ≡ a.place) };
+    ghost invariant = { λ a. (a.place ≤ length a.bytes) × (size_of a.readings.items ≡ a.place) };
 }
 
 impl Incoming {
@@ -34,7 +36,7 @@ impl Incoming {
         Incoming {
             bytes,
             place: 0,
-            heard: Log::new(),
+            readings: Log::new(),
         }
     }
 
@@ -45,28 +47,28 @@ impl Incoming {
         self.bytes.as_slice().len() - self.place
     }
 
-    /// Gives the next `n` bytes.
-    #[tactic(auto, using(crate::proofs::Events::got_place, crate::proofs::Events::got_size, crate::proofs::Events::got_events))]
-    pub fn give(&mut self, n: usize, room: &mut [u8])
+    /// Gives the next `n` bytes, when so much is written.
+    #[tactic(auto, using(crate::proofs::Events::got_events))]
+    pub fn give(&mut self, n: usize, room: &mut [u8], written: &Bytes)
         requires most { n ≤ length self.old.coming }
         requires fits { n ≤ length room.old }
         ensures room { take n room.new ≡ take n self.old.coming }
         ensures coming { self.new.coming ≡ drop n self.old.coming }
-        ensures events { self.new.events ≡ self.old.events ++ piece (take n self.old.coming) ∷ [] }
+        ensures events { self.new.events ≡ self.old.events ++ piece (Some written.now) (take n self.old.coming) ∷ [] }
     {
         let bytes = self.bytes.as_slice();
         let end = self.place + n;
         room[..n].copy_from_slice(&bytes[self.place..end]);
         self.place = end;
-        self.heard = self.heard.and(&Heard::Got(n));
+        self.readings = self.readings.and(&Reading::new(Heard::Got(n), written));
     }
 
-    /// Gives a quiet.
-    #[tactic(auto, using(crate::proofs::Events::quiet_size, crate::proofs::Events::quiet_events))]
-    pub fn be_quiet(&mut self)
+    /// Gives a quiet, when so much is written.
+    #[tactic(auto, using(crate::proofs::Events::quiet_events))]
+    pub fn be_quiet(&mut self, written: &Bytes)
         ensures coming { self.new.coming ≡ self.old.coming }
-        ensures events { self.new.events ≡ self.old.events ++ quiet ∷ [] }
+        ensures events { self.new.events ≡ self.old.events ++ quiet (Some written.now) ∷ [] }
     {
-        self.heard = self.heard.and(&Heard::Quiet);
+        self.readings = self.readings.and(&Reading::new(Heard::Quiet, written));
     }
 }

@@ -8,6 +8,7 @@ mod incoming;
 mod link;
 mod listener;
 mod outgoing;
+mod reading;
 mod sink;
 mod std_sink;
 mod tape_link;

@@ -50,9 +50,9 @@ impl Outgoing {
     }
 
     /// The bytes written.
-    pub fn written(&self) -> &[u8]
+    pub fn written(&self) -> &Bytes
         ensures { result.now ≡ self.now.written }
     {
-        self.written.as_slice()
+        &self.written
     }
 }

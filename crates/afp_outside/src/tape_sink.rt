@@ -57,7 +57,7 @@ impl TapeSink {
     pub fn written(&self) -> &[u8]
         ensures { result.now ≡ self.now.written }
     {
-        self.outgoing.written()
+        self.outgoing.written().as_slice()
     }
 }
 

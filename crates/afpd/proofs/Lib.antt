@@ -3,6 +3,7 @@ pub mod HandlingLemmas
 pub mod Moving
 pub mod NineWords
 pub mod OneHouse
+pub mod PlainLaws
 pub mod Ports
 pub mod Replies
 pub mod ReportLemmas

@@ -24,13 +24,13 @@ left-left (Some zs) xs ys = ap Some (sym (append_assoc xs ys zs))
 
 pub taken-append : (es fs : List Event) → taken (es ++ fs) ≡ taken es ++ taken fs
 taken-append [] fs = refl
-taken-append (piece bytes ∷ es) fs = ap (λ rest. bytes ++ rest) (taken-append es fs) ∙ sym (append_assoc bytes (taken es) (taken fs))
-taken-append (quiet ∷ es) fs = taken-append es fs
+taken-append (piece written bytes ∷ es) fs = ap (λ rest. bytes ++ rest) (taken-append es fs) ∙ sym (append_assoc bytes (taken es) (taken fs))
+taken-append (quiet written ∷ es) fs = taken-append es fs
 
 pub quiets_in-append : (es fs : List Event) → quiets_in (es ++ fs) ≡ quiets_in es + quiets_in fs
 quiets_in-append [] fs = omega arith
-quiets_in-append (piece bytes ∷ es) fs = quiets_in-append es fs
-quiets_in-append (quiet ∷ es) fs = omega (arith, quiets_in-append es fs)
+quiets_in-append (piece written bytes ∷ es) fs = quiets_in-append es fs
+quiets_in-append (quiet written ∷ es) fs = omega (arith, quiets_in-append es fs)
 
 pub cost_of-append : (es fs : List Event) → cost_of (es ++ fs) ≡ cost_of es + cost_of fs
 cost_of-append es fs = omega (arith, quiets_in-append es fs, ap length (taken-append es fs), length-append (taken es) (taken fs))

@@ -2,9 +2,13 @@
 use Rattle.std.specs.Prelude.{◌≡◌, ◌⊎◌, ℕ, ◌+◌, ◌-◌, ◌<◌, List, ◌++◌, length, Some, option_map}
 use Rattle.afp_outside.specs.Counts.{last_count}
 use Rattle.afp_outside.specs.Link.{LinkState}
+use Rattle.afp_outside.specs.Listener.{DoorState}
+use Rattle.afp_outside.specs.Sink.{SinkState}
 use Rattle.dsi_frame.specs.Frame.{Frame}
 use Rattle.dsi_frame.specs.Stream.{Spelled}
 use Rattle.afpd.specs.LinkRun.{IsRun}
+use Rattle.afpd.specs.Plain.{Asks, IsPlainRun}
+use Rattle.afpd.specs.Words.{Spoken}
 use Rattle.afpd.specs.Script.{Script, spelling_of}
 use Rattle.afpd.specs.declared.serve.LinkEnd.{LinkEnd}
 use Rattle.afpd.specs.declared.serve.LinkEnd.TheVariants as ends
@@ -29,3 +33,9 @@ abbrev pub IsComplete : Type 0
 IsComplete = (block bytes : List ℕ) (replies : List Frame) (turns : ℕ) (old new : LinkState) (answer : LinkEnd) → IsRun block turns old answer new
     → old.coming ≡ Some bytes → AreRequests block bytes replies → RunsStill old new → length bytes + (new.quiets - old.quiets) < turns
     → (answer ≡ ends.Memory) ⊎ ((answer ≡ ends.Ended) × (new.written ≡ option_map (λ before. before ++ spelling_of replies) old.written))
+
+-- The law of the whole server: where the words ask for a house that is taken, and the door's count of
+-- faults neither rose nor stands at its last number, the status is 0, or 6 for want of memory.
+abbrev pub ServesGoodWords : {L : Type 0} → (L → LinkState) → Type 0
+ServesGoodWords {L} state = (words : List (List ℕ)) (spoken : Spoken) (old new : DoorState L) (before after : SinkState) (status : ℕ)
+    → IsPlainRun state words old new before after status → Asks words spoken → new.faults ≡ old.faults → old.faults < last_count → (status ≡ 0) ⊎ (status ≡ 6)

@@ -1,7 +1,8 @@
 -- What one run of a link is: what its reads gave, what was written, and why it ended (this profile).
-use Rattle.std.specs.Prelude.{◌≡◌, ◌⊎◌, ℕ, ◌+◌, ◌<◌, ◌≤◌, true, List, [], ◌∷◌, ◌++◌, length, IfSome, option_map}
+use Rattle.std.specs.Prelude.{◌≡◌, ◌⊎◌, ℕ, ◌+◌, ◌<◌, ◌≤◌, true, List, [], ◌∷◌, ◌++◌, length, Option, IfSome, option_map}
 use Rattle.afp_outside.specs.Counts.{Counts, Rises}
 use Rattle.afp_outside.specs.Link.{Event, piece, quiet, taken, LinkState}
+use Rattle.dsi_frame.specs.Buffered.{buffer_length}
 use Rattle.dsi_frame.specs.Frame.{Frame, IsBadHeader}
 use Rattle.dsi_frame.specs.Stream.{Begins, Spelled, IsUnfinished}
 use Rattle.dsi_frame.specs.declared.frame.Reason.TheVariants.{Phase}
@@ -13,8 +14,8 @@ use Rattle.afpd.specs.Script.{IsStatusRequest, Script, spelling_of}
 -- how many of the events are quiets
 abbrev pub quiets_in : List Event → ℕ
 quiets_in [] = 0
-quiets_in (piece bytes ∷ events) = quiets_in events
-quiets_in (quiet ∷ events) = 1 + quiets_in events
+quiets_in (piece written bytes ∷ events) = quiets_in events
+quiets_in (quiet written ∷ events) = 1 + quiets_in events
 
 -- what reads cost: the bytes taken and the quiets
 abbrev pub cost_of : List Event → ℕ
@@ -43,18 +44,37 @@ pub record GoesOn (block bytes : List ℕ) (replies : List Frame) (left : List �
   pub handled : Handled block bytes replies left
   pub unfinished : IsUnfinished left
 
--- A link reads only where it goes on and the cost so far is below the limit.
-pub record MayRead (block : List ℕ) (turns : ℕ) (events : List Event) : Type 0 where
+-- what had been written before a read
+abbrev pub written_before : Event → Option (List ℕ)
+written_before (piece written bytes) = written
+written_before (quiet written) = written
+
+-- how many bytes a read gave
+abbrev pub size_of : Event → ℕ
+size_of (piece written bytes) = length bytes
+size_of (quiet written) = 0
+
+-- the most bytes that one read takes
+abbrev pub read_limit : ℕ
+read_limit = 16384
+
+-- A link reads only where it goes on, all replies to what came are written behind what was `written` at
+-- first, and the cost so far is below the limit; and it takes no more than the limit of a read, and than
+-- its buffer has room for.
+pub record MayRead (block : List ℕ) (turns : ℕ) (written : Option (List ℕ)) (events : List Event) (event : Event) : Type 0 where
   pub replies : List Frame
   pub left : List ℕ
   pub goes_on : GoesOn block (taken events) replies left
+  pub sent : written_before event ≡ option_map (λ before. before ++ spelling_of replies) written
   pub below : cost_of events < turns
+  pub size : size_of event ≤ read_limit
+  pub room : length left + size_of event ≤ buffer_length
 
 -- Each of the reads that gave these events, behind those before, was made where the link may read.
-abbrev pub EachMayRead : List ℕ → ℕ → List Event → List Event → Type 0
-EachMayRead block turns before [] = Unit {0}
-EachMayRead block turns before (event ∷ events) =
-    MayRead block turns before × EachMayRead block turns (before ++ event ∷ []) events
+abbrev pub EachMayRead : List ℕ → ℕ → Option (List ℕ) → List Event → List Event → Type 0
+EachMayRead block turns written before [] = Unit {0}
+EachMayRead block turns written before (event ∷ events) =
+    MayRead block turns written before event × EachMayRead block turns written (before ++ event ∷ []) events
 
 -- The reads ended, with nothing left behind the frames handled.
 pub record EndsWhole (block : List ℕ) (turns : ℕ) (events : List Event) (wrote : List ℕ) (new : LinkState) : Type 0 where
@@ -143,5 +163,5 @@ pub record IsRun (block : List ℕ) (turns : ℕ) (old : LinkState) (answer : Li
   pub events : List Event
   pub wrote : List ℕ
   pub moves : Moves old events wrote new
-  pub reads : EachMayRead block turns [] events
+  pub reads : EachMayRead block turns old.written [] events
   pub ends : EndsBy block turns old events wrote answer new

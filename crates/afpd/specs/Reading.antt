@@ -1,9 +1,9 @@
 -- What one read does to a deframer and a link (this profile).
-use Rattle.std.specs.Prelude.{◌≡◌, ℕ, ◌≤◌, List, ◌++◌, take}
+use Rattle.std.specs.Prelude.{◌≡◌, ℕ, ◌+◌, ◌≤◌, List, ◌++◌, length, take}
 use Rattle.afp_outside.specs.Link.{LinkState, ReadsPiece, ReadsQuiet, ReadsEnd, FailsToRead}
 use Rattle.afp_outside.specs.declared.link.Heard.{Heard}
 use Rattle.afp_outside.specs.declared.link.Heard.TheVariants as heard
-use Rattle.dsi_frame.specs.Buffered.{Buffered}
+use Rattle.dsi_frame.specs.Buffered.{Buffered, buffer_length}
 
 -- The n bytes that came stand behind the rest.
 pub record Buffers (old : Buffered) (before : LinkState) (n : ℕ) (new : Buffered) (after : LinkState) : Type 0 where
@@ -11,6 +11,7 @@ pub record Buffers (old : Buffered) (before : LinkState) (n : ℕ) (new : Buffer
   pub reads : ReadsPiece before room n after
   pub rest : new.rest ≡ old.rest ++ take n room
   pub place : new.place ≡ old.place
+  pub fits : length old.rest + n ≤ buffer_length
 
 -- by what was heard
 abbrev pub ReadsMore : Buffered → LinkState → Heard → Buffered → LinkState → Type 0

@@ -1,6 +1,7 @@
-//! A law of the runs of a link. Its function does nothing.
-ghost use Rattle.afpd.specs.Complete.{IsComplete};
+//! Laws of whole runs: what is served where nothing is in the way. Their functions do nothing.
+ghost use Rattle.afpd.specs.Complete.{IsComplete, ServesGoodWords};
 
+use afp_outside::Listener;
 use dsi_frame::{one_frame, one_stream};
 
 /// Where only requests of the status block are coming, nothing fails and the limit is not reached, each
@@ -11,3 +12,8 @@ pub fn each_request_has_its_reply()
     one_frame();
     one_stream();
 }
+
+/// Where the words are good and the door does not fail, the server ends well, or there was no memory.
+pub fn good_words_are_served<N: Listener>()
+    ensures { ServesGoodWords N.Link.link_state }
+{}

@@ -14,11 +14,13 @@ mod tests;
 pub mod words;
 
 use afp_outside::{StdSink, TcpDoor};
-use plain::afpd_plain;
+use plain::{PlainEnd, afpd_plain, report_end};
 use setup::setup;
 use std::alloc::Global;
+use std::io::ErrorKind;
 use std::process::ExitCode;
 use std::{env, io};
+use words::WordFault;
 
 /// The words behind the program's name.
 fn spoken(rt: &HostRuntime) -> io::Result<Vec<String>> {
@@ -31,11 +33,21 @@ fn spoken(rt: &HostRuntime) -> io::Result<Vec<String>> {
 
 fn main(rt: HostRuntime) -> ExitCode {
     let alloc: Global = rt.alloc();
-    let words = spoken(&rt).unwrap_or(Vec::new(alloc));
+    let mut report = StdSink::new(&rt);
+    let words = match spoken(&rt) {
+        Ok(words) => words,
+        Err(error) => match error.kind() {
+            ErrorKind::OutOfMemory => return ExitCode::from(report_end(
+                PlainEnd::Memory,
+                &mut report,
+            )),
+            _ => Vec::new(alloc),
+        },
+    };
     let mut door = match setup(alloc, words.as_slice()) {
         Ok(settings) => TcpDoor::bind(&rt, settings.port, settings.links),
-        Err(_) => TcpDoor::closed(&rt),
+        Err(WordFault::Bad) => TcpDoor::closed(&rt),
+        Err(WordFault::Memory) => return ExitCode::from(report_end(PlainEnd::Memory, &mut report)),
     };
-    let mut report = StdSink::new(&rt);
     ExitCode::from(afpd_plain(alloc, words.as_slice(), &mut door, &mut report))
 }

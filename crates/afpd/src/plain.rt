@@ -103,7 +103,7 @@ fn run<N: Listener>(alloc: Global, words: &[String], door: &mut N) -> PlainEnd
 }
 
 /// Reports how the run ended, where there is something to say, and gives the exit status.
-fn report_end<O: Sink>(end: PlainEnd, report: &mut O) -> u8
+pub fn report_end<O: Sink>(end: PlainEnd, report: &mut O) -> u8
     ensures { Status end (O.sink_state report.old) (O.sink_state report.new) result }
 {
     match end {

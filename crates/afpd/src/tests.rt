@@ -1,6 +1,7 @@
 ghost use Rattle.std.specs.Prelude.{◌<◌, ◌^◌, IfOk};
 ghost use Rattle.afp_outside.specs.Tape.{IsFreshTape};
 
+use crate::laws::good_words_are_served;
 use crate::plain::afpd_plain;
 use crate::serve::{LinkEnd, serve_link};
 use crate::setup::setup;
@@ -289,6 +290,7 @@ fn the_server_serves_one_link(rt: HostRuntime) -> Result<(), Fail> {
     let mut door = TapeListener::new(alloc, Vec::new(alloc), Vec::new(alloc))?;
     let mut report = TapeSink::new(alloc, Vec::new(alloc), Vec::new(alloc))?;
     assert_eq!(rt; afpd_plain(alloc, words, &mut door, &mut report), 0);
+    good_words_are_served::<TapeListener>();
     let settings = setup(alloc, words).ok().expect(&rt, "the words are good");
     assert_eq!(rt; settings.places.len(), 1);
     assert_eq!(rt;

@@ -1,4 +1,4 @@
-use Rattle.std.proofs.Common.{◌+◌, ℕ, List, drop, refl, sym, ◌∙◌, subst}
+use Rattle.std.proofs.Common.{arith, ◌+◌, ℕ, List, drop, refl, sym, ◌∙◌, subst}
 use Rattle.std.specs.Prelude.{Some, None}
 use Rattle.dsi_frame.specs.Buffered.{Buffered}
 use Rattle.afpd.specs.Handling.{HandlesFrames}
@@ -48,7 +48,7 @@ loop-end-preserved-in-Got g c =
       block = c.handle_frames.ensures.block ∙ c.loop-end.invariant.block;
       frame = c.handle_frames.ensures.frame;
       so_far =
-          so_far-reads block c.args.turns c.loop-end.cost c.in-Got.n start after end c.handle_frames.new.deframer c.read_more.new.deframer buffers.room waits c.if-cost-turns.false buffers.reads buffers.rest buffers.place;
+          so_far-reads block c.args.turns c.loop-end.cost c.in-Got.n start after end c.handle_frames.new.deframer c.read_more.new.deframer buffers.room waits c.if-cost-turns.false buffers.reads buffers.rest buffers.place (omega (arith, c.in-Got.ensures.most)) buffers.fits;
     }
 
 pub loop-end-preserved : goal.loop-end-preserved
@@ -64,7 +64,7 @@ loop-end-preserved g c =
       block = c.handle_frames.ensures.block ∙ c.loop-end.invariant.block;
       frame = c.handle_frames.ensures.frame;
       so_far = subst (λ (d : Buffered). SoFar block c.args.turns start d (c.loop-end.cost + 1) end) (sym reads.1)
-          (so_far-quiet block c.args.turns c.loop-end.cost start after end c.handle_frames.new.deframer waits c.if-cost-turns.false reads.0);
+          (so_far-quiet block c.args.turns c.loop-end.cost start after end c.handle_frames.new.deframer waits c.if-cost-turns.false (omega (arith, c.in_default.ensures.handles.2)) reads.0);
     }
 
 pub returns-in-End : goal.returns-in-End
