@@ -1,9 +1,8 @@
 -- the events of reads, when one read more is heard of
-use Rattle.std.proofs.Common.{◌≡◌, ℕ, ◌+◌, ◌≤◌, List, [], ◌∷◌, ◌++◌, length, take, drop, Some, refl, sym, ap, ◌∙◌, add_assoc, add-zero, zero-add, arith}
+use Rattle.std.proofs.Common.{◌≡◌, ℕ, ◌+◌, ◌≤◌, List, [], ◌∷◌, ◌++◌, length, take, drop, Some, sym, ap, ◌∙◌, add_assoc, add-zero, zero-add, arith}
 use Rattle.std.proofs.lemmas.List.{drop-drop, length-drop, append-nil, append_assoc}
-use Rattle.afp_outside.specs.Link.{Event, piece, quiet}
+use Rattle.afp_outside.specs.Link.{piece, quiet}
 use Rattle.afp_outside.specs.Tape.{Reading, event_of, heard_size, events_of, size_of}
-use Rattle.afp_outside.specs.declared.link.Heard.{Heard}
 use Rattle.afp_outside.specs.declared.link.Heard.TheVariants.{Got, Quiet}
 
 pub size-more : (them : List Reading) (it : Reading) → size_of (them ++ it ∷ []) ≡ size_of them + heard_size it.heard
