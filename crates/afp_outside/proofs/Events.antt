@@ -20,9 +20,8 @@ pub got_place : (bytes : List ℕ) (n place : ℕ) → place ≤ length bytes �
 got_place bytes n place p h = let e = length-drop place bytes in omega arith
 
 -- a read that gave n bytes at a place
-pub got_size : (them : List Reading) (it : Reading) (n : ℕ) (written : List ℕ) (place : ℕ) → it ≡ record { heard = Got n; written = written } → size_of them ≡ place
-    → size_of (them ++ it ∷ []) ≡ place + n
-got_size them it n written place is e = size-more them it ∙ ap (λ (x : Reading). size_of them + heard_size x.heard) is ∙ ap (λ k. k + n) e
+pub got_size : (them : List Reading) (it : Reading) (n place : ℕ) → it.heard ≡ Got n → size_of them ≡ place → size_of (them ++ it ∷ []) ≡ place + n
+got_size them it n place is e = size-more them it ∙ ap (λ heard. size_of them + heard_size heard) is ∙ ap (λ k. k + n) e
 
 pub got_events : (bytes : List ℕ) (them : List Reading) (it : Reading) (n : ℕ) (written : List ℕ) (place : ℕ) → it ≡ record { heard = Got n; written = written } → size_of them ≡ place
     → events_of bytes (them ++ it ∷ []) ≡ events_of bytes them ++ piece (Some written) (take n (drop place bytes)) ∷ []
@@ -32,9 +31,8 @@ got_events bytes them it n written place is e =
     ∙ ap (λ k. events_of bytes them ++ piece (Some written) (take n (drop k bytes)) ∷ []) e
 
 -- a read that gave a quiet
-pub quiet_size : (them : List Reading) (it : Reading) (written : List ℕ) (place : ℕ) → it ≡ record { heard = Quiet; written = written } → size_of them ≡ place
-    → size_of (them ++ it ∷ []) ≡ place
-quiet_size them it written place is e = size-more them it ∙ ap (λ (x : Reading). size_of them + heard_size x.heard) is ∙ add-zero (size_of them) ∙ e
+pub quiet_size : (them : List Reading) (it : Reading) (place : ℕ) → it.heard ≡ Quiet → size_of them ≡ place → size_of (them ++ it ∷ []) ≡ place
+quiet_size them it place is e = size-more them it ∙ ap (λ heard. size_of them + heard_size heard) is ∙ add-zero (size_of them) ∙ e
 
 pub quiet_events : (bytes : List ℕ) (them : List Reading) (it : Reading) (written : List ℕ) → it ≡ record { heard = Quiet; written = written }
     → events_of bytes (them ++ it ∷ []) ≡ events_of bytes them ++ quiet (Some written) ∷ []
