@@ -1,0 +1,53 @@
+//! The shape of each field, by its bit.
+ghost use Rattle.std.specs.Prelude.{◌≡◌, ◌<◌, ◌^◌, length};
+ghost use Rattle.afp_bitmap.specs.Bits.{is_asked};
+ghost use Rattle.afp_bitmap.specs.Reading.{size_of, asked_size};
+
+/// How a field stands in the fixed part.
+#[derive(Clone, Copy, Debug)]
+pub(crate) enum Shape {
+    /// So many bytes with its value.
+    Plain(usize),
+    /// The place of a volume's or a long name.
+    LongName,
+    /// The place of a UTF-8 name and 4 zeros.
+    Utf8Name,
+}
+
+impl Shape {
+    /// How many bytes the field has in the fixed part.
+    pub(crate) fn size(self) -> usize
+        ensures { result ≡ size_of self }
+    {
+        match self {
+            Shape::Plain(size) => size,
+            Shape::LongName => 2,
+            Shape::Utf8Name => 6,
+        }
+    }
+}
+
+/// A bit, and the shape of the field that it asks for.
+#[derive(Clone, Copy, Debug)]
+pub(crate) struct Slot(pub(crate) u32, pub(crate) Shape);
+
+/// The bit is set.
+pub(crate) fn is_asked(bits: u16, bit: u32) -> bool
+    ensures { result ≡ is_asked bits bit }
+{
+    bit < 16 && bits >> bit & 1 == 1
+}
+
+/// The size of the fixed part, in bytes.
+pub(crate) fn fixed_size(bits: u16, table: &[Slot]) -> usize
+    requires { asked_size bits table.now < 2 ^ 16 }
+    ensures { result ≡ asked_size bits table.now }
+{
+    let mut size = 0;
+    for slot in table {
+        if is_asked(bits, slot.0) {
+            size += slot.1.size();
+        }
+    }
+    size
+}
