@@ -106,51 +106,79 @@ fn bad(at: u64, reason: Reason) -> LinkEnd {
 fn a_link_is_served_by_its_bytes(rt: HostRuntime) -> Result<(), Fail> {
     let alloc = rt.alloc();
     let twice = "0003000000000000000000000000000000030000000000000000000000000000";
-    for (hex, end, count) in [
-        // A request, and a part of one.
-        (REQUEST, LinkEnd::Ended, 1),
-        ("000300000000000000000000000000", LinkEnd::Cut { at: 0 }, 0),
-        ("", LinkEnd::Ended, 0),
+    let whole: &[usize] = &[];
+    for (hex, reads, end, count) in [
+        // A request, whole and in pieces, and a part of one.
+        (REQUEST, whole, LinkEnd::Ended, 1),
+        (REQUEST, [1, 11, 3].as_slice(), LinkEnd::Ended, 1),
+        (
+            "000300000000000000000000000000",
+            whole,
+            LinkEnd::Cut { at: 0 },
+            0,
+        ),
+        ("", whole, LinkEnd::Ended, 0),
         // Two requests, and a part of a third.
-        (twice, LinkEnd::Ended, 2),
+        (twice, whole, LinkEnd::Ended, 2),
         (
             "00030000000000000000000000000000000300000000000000000000000000000003000100",
+            whole,
             LinkEnd::Cut { at: 32 },
             2,
         ),
         // An OpenSession, alone and behind a request.
         (
             "00040000000000000000000600000000010400000400",
+            whole,
             bad(0, Reason::Phase),
             0,
         ),
         (
             "00030000000000000000000000000000000400010000000000000000000000000003000000000000000000000000000000",
+            whole,
             bad(16, Reason::Phase),
             1,
         ),
         // A reply, and headers that are bad.
-        ("01030000000000000000000000000000", bad(0, Reason::Phase), 0),
-        ("02070000000000000000000000000000", bad(0, Reason::Flags), 0),
+        (
+            "01030000000000000000000000000000",
+            whole,
+            bad(0, Reason::Phase),
+            0,
+        ),
+        (
+            "02070000000000000000000000000000",
+            whole,
+            bad(0, Reason::Flags),
+            0,
+        ),
         (
             "00070000000000000000000000000000",
+            whole,
             bad(0, Reason::Command),
             0,
         ),
         (
             "00060000000000000002000100000000",
+            whole,
             bad(0, Reason::Length),
             0,
         ),
         (
             "00060000000000020000000100000000",
+            whole,
             bad(0, Reason::Offset),
             0,
         ),
         // The word, the payload and the reserved bytes of a request are not looked at.
-        ("0003000000000007000000020000000961ff", LinkEnd::Ended, 1),
+        (
+            "0003000000000007000000020000000961ff",
+            whole,
+            LinkEnd::Ended,
+            1,
+        ),
     ] {
-        let link = link(&rt, alloc, hex, &[], &[], &[])?;
+        let link = link(&rt, alloc, hex, reads, &[], &[])?;
         let written = replies(alloc, count)?;
         expect_run(&rt, alloc, link, TURNS, end, written.as_slice())?;
     }
