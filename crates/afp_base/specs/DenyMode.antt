@@ -1,5 +1,6 @@
 -- When two opens of forks deny each other (AFP Reference, FPOpenFork; Inside AppleTalk, chapter 13).
-use Rattle.std.specs.Prelude.{◌≡◌, ◌↔◌, ◌⊎◌, ℕ, Bool, true, ◌&&◌, ◌||◌}
+use Rattle.std.specs.Prelude.{◌≡◌, ◌==◌, ◌↔◌, ◌⊎◌, ℕ, Bool, true, ◌&&◌, ◌||◌}
+use Rattle.std.specs.Bool.{beq}
 
 -- what an open may do, and what it denies to others
 pub record Access : Type 0 where
@@ -30,6 +31,17 @@ is_clash a b = is_denied_by a b || is_denied_by b a
 -- sessions that they belong to have no part in it.
 abbrev pub Conflicts : Fork → Access → Fork → Access → Type 0
 Conflicts f a g b = (f ≡ g) × (is_clash a b ≡ true)
+
+-- the same as tests
+abbrev pub is_one_fork : Fork → Fork → Bool
+is_one_fork a b = (a.volume == b.volume) && ((a.node == b.node) && beq a.resource b.resource)
+
+abbrev pub do_conflict : Fork → Access → Fork → Access → Bool
+do_conflict f a g b = is_one_fork f g && is_clash a b
+
+-- the law: the test tells conflicts
+abbrev pub TellsConflicts : Type 0
+TellsConflicts = (f g : Fork) (a b : Access) → (do_conflict f a g b ≡ true ↔ Conflicts f a g b)
 
 -- the law: which of the two is named first makes no difference
 abbrev pub IsSymmetric : Type 0

@@ -1,5 +1,5 @@
 //! Bytes that are owned.
-ghost use Rattle.std.specs.Prelude.{◌≡◌, ◌++◌, [], IfOk, OnOk, OnErr};
+ghost use Rattle.std.specs.Prelude.{◌≡◌, ◌≤◌, ◌+◌, ◌++◌, [], length, take, drop, IfOk, OnOk, OnErr};
 
 use std::alloc::{AllocError, AllocFailed, Global};
 use std::marker::Model;
@@ -47,6 +47,21 @@ impl Bytes {
     {
         self.0.extend_from_slice(piece)?;
         Ok(())
+    }
+
+    /// Puts a piece in place of the bytes from `at`, as many as it has.
+    pub fn put(&mut self, at: usize, piece: &[u8])
+        requires fits { at + length piece.now ≤ length self.old }
+        ensures { self.new ≡ take at self.old ++ piece.now ++ drop (at + length piece.now) self.old }
+    {
+        self.0.as_mut_slice()[at..at + piece.len()].copy_from_slice(piece);
+    }
+
+    /// Takes away the bytes behind the first `len`, and gives no memory back.
+    pub fn truncate(&mut self, len: usize)
+        ensures { self.new ≡ take len self.old }
+    {
+        self.0.truncate(len);
     }
 
     /// The same bytes once more.

@@ -4,16 +4,19 @@ ghost use Rattle.afp_base.specs.DenyMode as deny_mode;
 ghost use Rattle.afp_base.specs.ForkBytes as fork_bytes;
 ghost use Rattle.afp_base.specs.Overlap as overlap;
 
-/// Two opens of one fork conflict just where one uses what the other denies; either may be named first.
+/// Two opens of one fork conflict just where one uses what the other denies; either may be named first. The test
+/// tells it.
 pub fn conflict_is_use_of_what_is_denied()
     ensures symmetric { deny_mode.IsSymmetric }
     ensures denied { deny_mode.DeniesWhatIsUsed }
+    ensures told { deny_mode.TellsConflicts }
 {}
 
-/// Of two locks that overlap, either may be named first; and to overlap is to share a byte.
+/// Of two locks that overlap, either may be named first; and to overlap is to share a byte. The test tells it.
 pub fn overlap_is_sharing_a_byte()
     ensures symmetric { overlap.IsSymmetric }
     ensures shares { overlap.SharesByte }
+    ensures told { overlap.TellsOverlaps }
 {}
 
 /// A resized fork has its new length, and the bytes that were there, or zeros.

@@ -34,6 +34,10 @@ fn bytes_grow_and_are_copied(rt: HostRuntime) -> Result<(), Fail> {
     bytes.extend(b"d")?;
     let copy = bytes.copy()?;
     assert_eq!(rt; copy.as_slice(), b"afpd".as_slice());
+    bytes.put(1, b"xy");
+    assert_eq!(rt; bytes.as_slice(), b"axyd".as_slice());
+    bytes.truncate(2);
+    assert_eq!(rt; bytes.as_slice(), b"ax".as_slice());
     Ok(())
 }
 
