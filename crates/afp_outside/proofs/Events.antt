@@ -9,12 +9,12 @@ pub size-more : (them : List Reading) (it : Reading) → size_of (them ++ it ∷
 size-more [] it = add-zero (heard_size it.heard) ∙ sym (zero-add (heard_size it.heard))
 size-more (first ∷ them) it = ap (λ k. heard_size first.heard + k) (size-more them it) ∙ sym (add_assoc (heard_size first.heard) (size_of them) (heard_size it.heard))
 
-pub events-more : (bytes : List ℕ) (them : List Reading) (it : Reading) → events_of bytes (them ++ it ∷ []) ≡ events_of bytes them ++ event_of it.heard it.written (drop (size_of them) bytes)
-events-more bytes [] it = append-nil (event_of it.heard it.written bytes)
+pub events-more : (bytes : List ℕ) (them : List Reading) (it : Reading) → events_of bytes (them ++ it ∷ []) ≡ events_of bytes them ++ event_of it.heard it.written it.moment (drop (size_of them) bytes)
+events-more bytes [] it = append-nil (event_of it.heard it.written it.moment bytes)
 events-more bytes (first ∷ them) it =
-    ap (λ es. event_of first.heard first.written bytes ++ es) (events-more (drop (heard_size first.heard) bytes) them it
-    ∙ ap (λ rest. events_of (drop (heard_size first.heard) bytes) them ++ event_of it.heard it.written rest) (drop-drop (size_of them) (heard_size first.heard) bytes))
-    ∙ sym (append_assoc (event_of first.heard first.written bytes) (events_of (drop (heard_size first.heard) bytes) them) (event_of it.heard it.written (drop (heard_size first.heard + size_of them) bytes)))
+    ap (λ es. event_of first.heard first.written first.moment bytes ++ es) (events-more (drop (heard_size first.heard) bytes) them it
+    ∙ ap (λ rest. events_of (drop (heard_size first.heard) bytes) them ++ event_of it.heard it.written it.moment rest) (drop-drop (size_of them) (heard_size first.heard) bytes))
+    ∙ sym (append_assoc (event_of first.heard first.written first.moment bytes) (events_of (drop (heard_size first.heard) bytes) them) (event_of it.heard it.written it.moment (drop (heard_size first.heard + size_of them) bytes)))
 
 pub got_place : (bytes : List ℕ) (n place : ℕ) → place ≤ length bytes → n ≤ length (drop place bytes) → place + n ≤ length bytes
 got_place bytes n place p h = let e = length-drop place bytes in omega arith
@@ -23,19 +23,19 @@ got_place bytes n place p h = let e = length-drop place bytes in omega arith
 pub got_size : (them : List Reading) (it : Reading) (n place : ℕ) → it.heard ≡ Got n → size_of them ≡ place → size_of (them ++ it ∷ []) ≡ place + n
 got_size them it n place is e = size-more them it ∙ ap (λ heard. size_of them + heard_size heard) is ∙ ap (λ k. k + n) e
 
-pub got_events : (bytes : List ℕ) (them : List Reading) (it : Reading) (n : ℕ) (written : List ℕ) (place : ℕ) → it ≡ record { heard = Got n; written = written } → size_of them ≡ place
-    → events_of bytes (them ++ it ∷ []) ≡ events_of bytes them ++ piece (Some written) (take n (drop place bytes)) ∷ []
-got_events bytes them it n written place is e =
+pub got_events : (bytes : List ℕ) (them : List Reading) (it : Reading) (n : ℕ) (written : List ℕ) (moment place : ℕ) → it ≡ record { heard = Got n; written = written; moment = moment } → size_of them ≡ place
+    → events_of bytes (them ++ it ∷ []) ≡ events_of bytes them ++ piece (Some written) moment (take n (drop place bytes)) ∷ []
+got_events bytes them it n written moment place is e =
     events-more bytes them it
-    ∙ ap (λ (x : Reading). events_of bytes them ++ event_of x.heard x.written (drop (size_of them) bytes)) is
-    ∙ ap (λ k. events_of bytes them ++ piece (Some written) (take n (drop k bytes)) ∷ []) e
+    ∙ ap (λ (x : Reading). events_of bytes them ++ event_of x.heard x.written x.moment (drop (size_of them) bytes)) is
+    ∙ ap (λ k. events_of bytes them ++ piece (Some written) moment (take n (drop k bytes)) ∷ []) e
 
 -- a read that gave a quiet
 pub quiet_size : (them : List Reading) (it : Reading) (place : ℕ) → it.heard ≡ Quiet → size_of them ≡ place → size_of (them ++ it ∷ []) ≡ place
 quiet_size them it place is e = size-more them it ∙ ap (λ heard. size_of them + heard_size heard) is ∙ add-zero (size_of them) ∙ e
 
-pub quiet_events : (bytes : List ℕ) (them : List Reading) (it : Reading) (written : List ℕ) → it ≡ record { heard = Quiet; written = written }
-    → events_of bytes (them ++ it ∷ []) ≡ events_of bytes them ++ quiet (Some written) ∷ []
-quiet_events bytes them it written is =
+pub quiet_events : (bytes : List ℕ) (them : List Reading) (it : Reading) (written : List ℕ) (moment : ℕ) → it ≡ record { heard = Quiet; written = written; moment = moment }
+    → events_of bytes (them ++ it ∷ []) ≡ events_of bytes them ++ quiet (Some written) moment ∷ []
+quiet_events bytes them it written moment is =
     events-more bytes them it
-    ∙ ap (λ (x : Reading). events_of bytes them ++ event_of x.heard x.written (drop (size_of them) bytes)) is
+    ∙ ap (λ (x : Reading). events_of bytes them ++ event_of x.heard x.written x.moment (drop (size_of them) bytes)) is

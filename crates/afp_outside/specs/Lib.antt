@@ -1,4 +1,3 @@
-pub mod Counts
 pub mod Link
 pub mod Listener
 pub mod Sink

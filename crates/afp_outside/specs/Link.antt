@@ -1,22 +1,22 @@
 -- What a link to a peer is seen as, and what its reads and writes do to it (this profile).
 use Rattle.std.specs.Prelude.{◌≡◌, ℕ, ◌≤◌, Bool, true, false, List, [], ◌∷◌, ◌++◌, length, take, Option, IfSome, option_map}
-use Rattle.afp_outside.specs.Counts.{Rises, Counts}
+use Rattle.afp_base.specs.Counts.{Rises, Counts}
 use Rattle.afp_outside.specs.declared.link.Heard.{Heard}
 use Rattle.afp_outside.specs.declared.link.Heard.TheVariants.{Got, Quiet, End, Failed}
 use Rattle.afp_outside.specs.declared.link.Wrote.{Wrote}
 use Rattle.afp_outside.specs.declared.link.Wrote.TheVariants.{Took, Failed as WriteFailed}
 
 -- what a read gave: bytes, or a quiet in which none came; first, what had been written before it, where
--- the link tells that
+-- the link tells that, and the moment of the read, in seconds since 2000-01-01 00:00 GMT
 pub data Event : Type 0 where
-  piece : Option (List ℕ) → List ℕ → Event
-  quiet : Option (List ℕ) → Event
+  piece : Option (List ℕ) → ℕ → List ℕ → Event
+  quiet : Option (List ℕ) → ℕ → Event
 
 -- the bytes that reads gave, in order
 abbrev pub taken : List Event → List ℕ
 taken [] = []
-taken (piece written bytes ∷ events) = bytes ++ taken events
-taken (quiet written ∷ events) = taken events
+taken (piece written moment bytes ∷ events) = bytes ++ taken events
+taken (quiet written moment ∷ events) = taken events
 
 -- A link. The events, the bytes still coming and the bytes written are each known where the link
 -- tells them; `now` and `heard` are seconds since 2000-01-01 00:00 GMT.
@@ -35,7 +35,7 @@ pub record LinkState : Type 0 where
 pub record ReadsPiece (old : LinkState) (room : List ℕ) (n : ℕ) (new : LinkState) : Type 0 where
   pub least : 1 ≤ n
   pub most : n ≤ length room
-  pub events : new.events ≡ option_map (λ events. events ++ piece old.written (take n room) ∷ []) old.events
+  pub events : new.events ≡ option_map (λ events. events ++ piece old.written new.now (take n room) ∷ []) old.events
   pub coming : old.coming ≡ option_map (λ coming. take n room ++ coming) new.coming
   pub written : new.written ≡ old.written
   pub ended : new.ended ≡ old.ended
@@ -46,7 +46,7 @@ pub record ReadsPiece (old : LinkState) (room : List ℕ) (n : ℕ) (new : LinkS
 
 -- A read in whose time no byte came.
 pub record ReadsQuiet (old new : LinkState) : Type 0 where
-  pub events : new.events ≡ option_map (λ events. events ++ quiet old.written ∷ []) old.events
+  pub events : new.events ≡ option_map (λ events. events ++ quiet old.written new.now ∷ []) old.events
   pub coming : new.coming ≡ old.coming
   pub written : new.written ≡ old.written
   pub ended : new.ended ≡ old.ended

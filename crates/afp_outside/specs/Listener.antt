@@ -1,6 +1,6 @@
 -- A door through which links come, and what its calls do to it (this profile).
 use Rattle.std.specs.Prelude.{◌≡◌, ℕ, ◌+◌, ◌≤◌, Bool, true, List, [], ◌∷◌, ◌++◌}
-use Rattle.afp_outside.specs.Counts.{Rises}
+use Rattle.afp_base.specs.Counts.{Rises}
 use Rattle.afp_outside.specs.Link.{LinkState, IsFresh}
 use Rattle.afp_outside.specs.declared.listener.Accepted.{Accepted}
 use Rattle.afp_outside.specs.declared.listener.Accepted.TheVariants.{Link, Closed, Failed}

@@ -1,6 +1,6 @@
 -- Where a report goes, and what a write does to it (this profile).
 use Rattle.std.specs.Prelude.{◌≡◌, ℕ, ◌≤◌, List, ◌++◌, length, take, Option, option_map}
-use Rattle.afp_outside.specs.Counts.{Rises}
+use Rattle.afp_base.specs.Counts.{Rises}
 use Rattle.afp_outside.specs.declared.link.Wrote.{Wrote}
 use Rattle.afp_outside.specs.declared.link.Wrote.TheVariants.{Took, Failed}
 

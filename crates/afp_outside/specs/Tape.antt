@@ -2,7 +2,7 @@
 use Rattle.std.specs.Prelude.{◌≡◌, ℕ, ◌+◌, ◌==◌, Bool, false, List, [], ◌∷◌, ◌++◌, zero, suc, length, take, drop, min, max, Some, Result, Ok, Err, if◌then◌else◌}
 use Rattle.std.specs.List.{list_any}
 use Rattle.afp_base.specs.declared.bytes.OutOfMemory.{OutOfMemory}
-use Rattle.afp_outside.specs.Counts.{counted}
+use Rattle.afp_base.specs.Counts.{counted}
 use Rattle.afp_outside.specs.Link.{Event, piece, quiet, LinkState, IsFresh}
 use Rattle.afp_outside.specs.Sink.{SinkState}
 use Rattle.afp_outside.specs.declared.link.Heard.{Heard}
@@ -31,17 +31,18 @@ pub record Incoming : Type 0 where
   pub events : List Event
   pub coming : List ℕ
 
--- What a read gave, and what had been written before it.
+-- What a read gave, what had been written before it, and its moment.
 pub record Reading : Type 0 where
   pub heard : Heard
   pub written : List ℕ
+  pub moment : ℕ
 
--- the event of a read, if it is one, of what it gave, what had been written, and the bytes to read
-abbrev pub event_of : Heard → List ℕ → List ℕ → List Event
-event_of (Got n) written bytes = piece (Some written) (take n bytes) ∷ []
-event_of Quiet written bytes = quiet (Some written) ∷ []
-event_of End written bytes = []
-event_of Failed written bytes = []
+-- the event of a read, if it is one, of what it gave, what had been written, its moment, and the bytes to read
+abbrev pub event_of : Heard → List ℕ → ℕ → List ℕ → List Event
+event_of (Got n) written moment bytes = piece (Some written) moment (take n bytes) ∷ []
+event_of Quiet written moment bytes = quiet (Some written) moment ∷ []
+event_of End written moment bytes = []
+event_of Failed written moment bytes = []
 
 -- how many bytes a read gave
 abbrev pub heard_size : Heard → ℕ
@@ -53,7 +54,7 @@ heard_size Failed = 0
 -- the events of readings, of the bytes that all of them read from
 abbrev pub events_of : List ℕ → List Reading → List Event
 events_of bytes [] = []
-events_of bytes (it ∷ more) = event_of it.heard it.written bytes ++ events_of (drop (heard_size it.heard) bytes) more
+events_of bytes (it ∷ more) = event_of it.heard it.written it.moment bytes ++ events_of (drop (heard_size it.heard) bytes) more
 
 -- how many bytes the readings gave
 abbrev pub size_of : List Reading → ℕ

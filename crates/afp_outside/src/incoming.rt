@@ -4,12 +4,12 @@ ghost use Rattle.afp_outside.specs.Link.{piece, quiet};
 
 use crate::link::Heard;
 use crate::reading::Reading;
-use afp_base::Bytes;
+use afp_base::{Bytes, Moment};
 use ghost_log::Log;
 use std::marker::Model;
 
-/// Bytes that reads take from the first on. What each read gave, and what had
-/// been written before it, is told to proofs alone.
+/// Bytes that reads take from the first on. What each read gave, what had been written before it, and
+/// its moment are told to proofs alone.
 #[derive(Drop)]
 pub struct Incoming {
     bytes: Bytes,
@@ -47,28 +47,32 @@ impl Incoming {
         self.bytes.as_slice().len() - self.place
     }
 
-    /// Gives the next `n` bytes, when so much is written.
+    /// Gives the next `n` bytes at a moment, when so much is written.
     #[tactic(auto, using(crate::proofs::Events::got_events))]
-    pub fn give(&mut self, n: usize, room: &mut [u8], written: &Bytes)
+    pub fn give(&mut self, n: usize, room: &mut [u8], written: &Bytes, moment: Moment)
         requires most { n ≤ length self.old.coming }
         requires fits { n ≤ length room.old }
         ensures room { take n room.new ≡ take n self.old.coming }
         ensures coming { self.new.coming ≡ drop n self.old.coming }
-        ensures events { self.new.events ≡ self.old.events ++ piece (Some written.now) (take n self.old.coming) ∷ [] }
+        ensures events { self.new.events ≡ self.old.events ++ piece (Some written.now) moment (take n self.old.coming) ∷ [] }
     {
         let bytes = self.bytes.as_slice();
         let end = self.place + n;
         room[..n].copy_from_slice(&bytes[self.place..end]);
         self.place = end;
-        self.readings = self.readings.and(&Reading::new(Heard::Got(n), written));
+        self.readings = self
+            .readings
+            .and(&Reading::new(Heard::Got(n), written, moment));
     }
 
-    /// Gives a quiet, when so much is written.
+    /// Gives a quiet at a moment, when so much is written.
     #[tactic(auto, using(crate::proofs::Events::quiet_events))]
-    pub fn be_quiet(&mut self, written: &Bytes)
+    pub fn be_quiet(&mut self, written: &Bytes, moment: Moment)
         ensures coming { self.new.coming ≡ self.old.coming }
-        ensures events { self.new.events ≡ self.old.events ++ quiet (Some written.now) ∷ [] }
+        ensures events { self.new.events ≡ self.old.events ++ quiet (Some written.now) moment ∷ [] }
     {
-        self.readings = self.readings.and(&Reading::new(Heard::Quiet, written));
+        self.readings = self
+            .readings
+            .and(&Reading::new(Heard::Quiet, written, moment));
     }
 }

@@ -1,9 +1,10 @@
-//! What the server meets outside of it: links to its peers, doors through which they come, and
-//! sinks for reports, each as a trait, with one in memory and one over the real thing.
+//! What the server meets outside of it: links to its peers, doors through which they come, sinks for
+//! reports, and clocks, each as a trait, with one in memory and one over the real thing; and gates.
 #![tactic(auto)]
 
 mod calls;
 mod clock;
+mod gate;
 mod incoming;
 mod link;
 mod listener;
@@ -11,6 +12,8 @@ mod outgoing;
 mod reading;
 mod sink;
 mod std_sink;
+mod system_clock;
+mod tape_clock;
 mod tape_link;
 mod tape_listener;
 mod tape_sink;
@@ -19,10 +22,14 @@ mod tcp_wire;
 #[cfg(test)]
 mod tests;
 
+pub use clock::Clock;
+pub use gate::{Gate, OpenGate};
 pub use link::{Heard, Link, Wrote};
 pub use listener::{Accepted, Listener};
 pub use sink::Sink;
 pub use std_sink::StdSink;
+pub use system_clock::SystemClock;
+pub use tape_clock::TapeClock;
 pub use tape_link::TapeLink;
 pub use tape_listener::TapeListener;
 pub use tape_sink::TapeSink;

@@ -2,15 +2,16 @@
 ghost use Rattle.std.specs.Prelude.{◌≡◌};
 
 use crate::link::Heard;
-use afp_base::Bytes;
+use afp_base::{Bytes, Moment};
 use std::marker::Model;
 use std::snapshot::Snapshot;
 
-/// What a read gave, and what had been written before it.
+/// What a read gave, what had been written before it, and its moment.
 #[derive(Drop)]
 pub struct Reading {
     heard: Heard,
     written: Snapshot<Bytes>,
+    moment: Moment,
 }
 
 impl Model for Reading {
@@ -18,17 +19,18 @@ impl Model for Reading {
 
     ghost Value = { Reading };
 
-    ghost view = { λ a. record { heard = a.heard; written = a.written.value } };
+    ghost view = { λ a. record { heard = a.heard; written = a.written.value; moment = a.moment } };
 }
 
 impl Reading {
-    /// A read that gives this, when so much is written.
-    pub fn new(heard: Heard, written: &Bytes) -> Reading
-        ensures { result ≡ record { heard = heard; written = written.now } }
+    /// A read that gives this at a moment, when so much is written.
+    pub fn new(heard: Heard, written: &Bytes, moment: Moment) -> Reading
+        ensures { result ≡ record { heard = heard; written = written.now; moment = moment } }
     {
         Reading {
             heard,
             written: Snapshot::of(written),
+            moment,
         }
     }
 }

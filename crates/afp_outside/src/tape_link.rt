@@ -131,7 +131,7 @@ impl Link for TapeLink {
         }
         let most = next_size(&mut self.reads, room.len());
         if most == 0 {
-            self.incoming.be_quiet(self.outgoing.written());
+            self.incoming.be_quiet(self.outgoing.written(), self.moment);
             self.quiets = self.quiets.saturating_add(1);
             return Heard::Quiet;
         }
@@ -141,7 +141,8 @@ impl Link for TapeLink {
             return Heard::End;
         }
         let n = most.min(left);
-        self.incoming.give(n, room, self.outgoing.written());
+        self.incoming
+            .give(n, room, self.outgoing.written(), self.moment);
         self.heard = self.moment;
         Heard::Got(n)
     }

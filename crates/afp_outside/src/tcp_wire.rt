@@ -2,8 +2,8 @@
 ghost use Rattle.std.specs.Prelude.{IfOk};
 ghost use Rattle.afp_outside.specs.Link.{IsFresh};
 
-use crate::clock::moment_now;
 use crate::link::{Heard, Link, Wrote};
+use crate::system_clock::moment_now;
 use afp_base::Moment;
 use std::io;
 use std::io::{ErrorKind, Read, Write};

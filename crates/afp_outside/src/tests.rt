@@ -2,10 +2,13 @@ ghost use Rattle.std.specs.Prelude.{IfOk};
 ghost use Rattle.afp_outside.specs.Tape.{IsFreshTape};
 
 use super::*;
-use crate::clock::moment_of_unix;
-use afp_base::{Bytes, Moment, OutOfMemory};
+use crate::system_clock::moment_of_unix;
+use afp_base::{Bytes, LinkNumber, Moment, OutOfMemory};
 use std::alloc::Global;
+use std::io::ErrorKind;
 use std::test::Fail;
+use std::time::Duration;
+use std::{io, time};
 
 fn moment(seconds: u32) -> Moment {
     Moment::new(seconds).unwrap_or(moment_of_unix(0))
@@ -154,4 +157,45 @@ fn moments_of_the_clock_begin_in_2000(rt: HostRuntime) {
     ] {
         assert_eq!(rt; moment_of_unix(unix).seconds(), seconds);
     }
+}
+
+// A system's clock that stands at so many seconds since 1970, or fails.
+struct Stopped(Option<u64>);
+
+impl time::Clock for Stopped {
+    fn monotonic(&self) -> io::Result<Duration> {
+        self.since_1970()
+    }
+
+    fn since_1970(&self) -> io::Result<Duration> {
+        match self.0 {
+            Some(seconds) => Ok(Duration::from_secs(seconds)),
+            None => Err(io::Error::from(ErrorKind::Other)),
+        }
+    }
+}
+
+// What a clock tells, through its trait.
+fn told<C: Clock>(clock: &C) -> u32 {
+    clock.now().seconds()
+}
+
+#[test]
+fn clocks_tell_their_moment(rt: HostRuntime) {
+    let clock = TapeClock::new(moment(100));
+    assert_eq!(rt; (told(&clock), told(&clock)), (100, 100));
+    assert_eq!(rt; told(&SystemClock::new(&Stopped(Some(946_684_801)))), 1);
+    assert_eq!(rt; told(&SystemClock::new(&Stopped(None))), 0);
+}
+
+// Goes through a gate, for a link.
+fn passes<G: Gate>(gate: &G, link: LinkNumber) -> LinkNumber {
+    gate.before(link);
+    gate.after(link);
+    link
+}
+
+#[test]
+fn an_open_gate_lets_each_link_pass(rt: HostRuntime) {
+    assert_eq!(rt; passes(&OpenGate, LinkNumber(7)), LinkNumber(7));
 }
