@@ -154,9 +154,13 @@ pub fn write_frame(h: &Header, payload: &[u8], out: &mut Bytes) -> Result<(), Ou
     ensures ok { OnOk result (out.new ≡ out.old ++ canonical_frame (frame_of h.now payload.now)) }
     ensures err { OnErr result (out.new ≡ out.old) }
 {
-    let mut whole = out.copy()?;
-    whole.extend(&header_bytes(h))?;
-    whole.extend(payload)?;
-    *out = whole;
-    Ok(())
+    let start = out.as_slice().len();
+    out.extend(&header_bytes(h))?;
+    match out.extend(payload) {
+        Ok(()) => Ok(()),
+        Err(fault) => {
+            out.truncate(start);
+            Err(fault)
+        }
+    }
 }
