@@ -1,0 +1,4 @@
+pub mod Options
+pub mod OptionLaws
+pub mod Pulse
+pub mod RequestIds
