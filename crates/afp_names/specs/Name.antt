@@ -4,14 +4,10 @@ use Rattle.std.specs.List.{list_any}
 use Rattle.std.specs.Str.{is_utf8}
 use Rattle.unicode_normalization.specs.Forms.{nfd}
 use Rattle.caseless.specs.Caseless.{default_case_fold}
+use Rattle.afp_base.specs.Choice.{first_holding}
 use Rattle.afp_names.specs.declared.name.TheConstants.{LONGEST_NAME}
 use Rattle.afp_names.specs.declared.name.NameFault.{NameFault}
 use Rattle.afp_names.specs.declared.name.NameFault.TheVariants.{Empty, TooLong, HasNul, NotUtf8}
-
--- the value of the first row whose condition holds
-abbrev pub first_holding : {A : Type 0} → List (Bool × A) → Option A
-first_holding [] = None
-first_holding (row ∷ rows) = if row.0 then Some row.1 else first_holding rows
 
 -- why bytes are no name: the first of these rows that holds (this profile)
 unfoldable pub name_fault : List ℕ → Option NameFault

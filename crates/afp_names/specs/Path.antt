@@ -7,7 +7,8 @@ use Rattle.afp_names.specs.declared.path.PathFault.{PathFault}
 use Rattle.afp_names.specs.declared.path.PathFault.TheVariants.{Kind, Element}
 use Rattle.afp_names.specs.declared.path.Step.{Step}
 use Rattle.afp_names.specs.declared.path.Step.TheVariants.{Up, Down}
-use Rattle.afp_names.specs.Name.{first_holding, name_fault}
+use Rattle.afp_base.specs.Choice.{first_holding}
+use Rattle.afp_names.specs.Name.{name_fault}
 use Rattle.afp_names.specs.MacRoman.{mac_roman_text}
 use Rattle.afp_names.specs.LongName.{shown_byte}
 
