@@ -1,0 +1,9 @@
+pub mod Finding
+pub mod NumberLemmas
+pub mod Spellings
+pub mod Steps
+pub mod Entries
+pub mod Again
+pub mod Showing
+pub mod Unique
+pub mod Evenness

@@ -1,0 +1,300 @@
+-- What fits is shown: by the bytes that are written, as the reply to some request.
+use Rattle.std.proofs.Common.{◌≡◌, ℕ, ◌^◌, ◌<◌, ◌≤◌, Bool, true, false, List, [], ◌∷◌, ◌++◌, length, map, Option, Some, None, refl, sym, ap, ◌∙◌, subst, arith, append_assoc, w32}
+use Rattle.std.proofs.lemmas.List.{append-nil}
+use Rattle.std.specs.List.{concat, AllByRecursion}
+use Rattle.std.specs.Int.{cast_signed, cast_unsigned}
+use Rattle.afp_base.specs.declared.code.Code.TheVariants as codes
+use Rattle.afp_bitmap.specs.declared.params.Values.{Values}
+use Rattle.afp_bitmap.specs.declared.params.Values.TheVariants as kinds
+use Rattle.afp_bitmap.specs.Bits.{IsWithin, mask_of, is_asked}
+use Rattle.afp_bitmap.specs.Params.{params, IsAnswer}
+use Rattle.afp_replies.specs.declared.commands.Shape.{Shape}
+use Rattle.afp_replies.specs.declared.commands.Shape.TheVariants as shapes
+use Rattle.afp_replies.specs.declared.list.ListEntry.{ListEntry}
+use Rattle.afp_replies.specs.declared.reply.Reply.{Reply}
+use Rattle.afp_replies.specs.declared.reply.Reply.TheVariants as replies
+use Rattle.afp_replies.specs.declared.reply.ReplyKind.{ReplyKind}
+use Rattle.afp_replies.specs.declared.volumes.VolumeEntry.{VolumeEntry}
+use Rattle.afp_replies.specs.Bytes as bytes
+use Rattle.afp_replies.specs.Bytes.{width, counted, flag_of}
+use Rattle.afp_replies.specs.Entry.{is_dir, bits_for, kind_for, entry_bytes, FitsEntry}
+use Rattle.afp_replies.specs.Words.{Number, Asked, Raw, Pad, Counted, Flag, Entry}
+use Rattle.afp_replies.specs.Layout.{Layout, Is, Then, Has}
+use Rattle.afp_replies.specs.Layouts as layouts
+use Rattle.afp_replies.specs.Layouts.{optional, optional_text, volumes, volume, entries}
+use Rattle.afp_replies.specs.Commands.{rows, shape_in, shape_of, layout_of}
+use Rattle.afp_replies.specs.Fitting.{FitsReply, FitsOptional, FitsText, FitsVolume, FitsList}
+use Rattle.afp_replies.specs.Replies.{IsShown, layout_for, volume_bytes, message_bytes}
+use Rattle.afp_replies.specs.Writing.{CanWrite, FitsMessage}
+use Rattle.afp_replies.proofs.NumberLemmas.{date_again, date_lt}
+use Rattle.afp_replies.proofs.Again.{put_front, has_params, node_layout, node_within, with_more, volumes_zero, volumes_suc, entries_zero, entries_suc, entry_spelt, good_reply}
+
+-- a request with this command, which asked these bits
+abbrev request : ℕ → ℕ → ℕ → ReplyKind
+request command bits dir_bits = record { command = command; bits = bits; dir_bits = dir_bits }
+
+shown_by : (command bits dir_bits : ℕ) (shape : Shape) (r : Reply) (b : List ℕ) → shape_of command ≡ shape → Has (layout_of shape (request command bits dir_bits)) r b → IsShown r
+unfolding layout_for
+shown_by command bits dir_bits shape r b e h = record {
+  kind = request command bits dir_bits;
+  code = codes.Ok;
+  bytes = b;
+  shows = subst (λ (s : Shape). Has (layout_of s (request command bits dir_bits)) r b) (sym e) h;
+}
+
+-- the commands that are used here
+command_1 : shape_of 1 ≡ shapes.Start
+unfolding shape_of shape_in rows
+command_1 = refl
+
+command_2 : shape_of 2 ≡ shapes.Empty
+unfolding shape_of shape_in rows
+command_2 = refl
+
+command_6 : shape_of 6 ≡ shapes.Node
+unfolding shape_of shape_in rows
+command_6 = refl
+
+command_9 : shape_of 9 ≡ shapes.NarrowList
+unfolding shape_of shape_in rows
+command_9 = refl
+
+command_14 : shape_of 14 ≡ shapes.FileParams
+unfolding shape_of shape_in rows
+command_14 = refl
+
+command_15 : shape_of 15 ≡ shapes.Status
+unfolding shape_of shape_in rows
+command_15 = refl
+
+command_16 : shape_of 16 ≡ shapes.ServerParams
+unfolding shape_of shape_in rows
+command_16 = refl
+
+command_17 : shape_of 17 ≡ shapes.VolumeParams
+unfolding shape_of shape_in rows
+command_17 = refl
+
+command_21 : shape_of 21 ≡ shapes.MappedName
+unfolding shape_of shape_in rows
+command_21 = refl
+
+command_22 : shape_of 22 ≡ shapes.MappedId
+unfolding shape_of shape_in rows
+command_22 = refl
+
+command_26 : shape_of 26 ≡ shapes.Opened
+unfolding shape_of shape_in rows
+command_26 = refl
+
+command_27 : shape_of 27 ≡ shapes.Data
+unfolding shape_of shape_in rows
+command_27 = refl
+
+command_33 : shape_of 33 ≡ shapes.End
+unfolding shape_of shape_in rows
+command_33 = refl
+
+command_34 : shape_of 34 ≡ shapes.FileDirParams
+unfolding shape_of shape_in rows
+command_34 = refl
+
+command_37 : shape_of 37 ≡ shapes.UserInfo
+unfolding shape_of shape_in rows
+command_37 = refl
+
+command_38 : shape_of 38 ≡ shapes.Message
+unfolding shape_of shape_in rows
+command_38 = refl
+
+command_48 : shape_of 48 ≡ shapes.Desk
+unfolding shape_of shape_in rows
+command_48 = refl
+
+command_52 : shape_of 52 ≡ shapes.IconInfo
+unfolding shape_of shape_in rows
+command_52 = refl
+
+command_55 : shape_of 55 ≡ shapes.Appl
+unfolding shape_of shape_in rows
+command_55 = refl
+
+command_58 : shape_of 58 ≡ shapes.Comment
+unfolding shape_of shape_in rows
+command_58 = refl
+
+command_59 : shape_of 59 ≡ shapes.StartExt
+unfolding shape_of shape_in rows
+command_59 = refl
+
+command_61 : shape_of 61 ≡ shapes.EndExt
+unfolding shape_of shape_in rows
+command_61 = refl
+
+command_64 : shape_of 64 ≡ shapes.Token
+unfolding shape_of shape_in rows
+command_64 = refl
+
+command_66 : shape_of 66 ≡ shapes.WideList
+unfolding shape_of shape_in rows
+command_66 = refl
+
+-- ---- parts
+
+shown_optional : (asked : Bool) (next : Option ℕ → Layout) (r : Reply) (x : Option ℕ) (more : List ℕ) → FitsOptional asked x → Has (next x) r more → Has (optional asked next) r (bytes.optional x ++ more)
+unfolding optional
+shown_optional true next r (Some x) more f h = put_front (Number 4) _ x (bytes.u32 x) more (f, refl) h
+shown_optional true next r None more f h = absurd f
+shown_optional false next r (Some x) more f h = absurd f
+shown_optional false next r None more f h = h
+
+shown_text : (wide asked : Bool) (next : Option (List ℕ) → Layout) (r : Reply) (x : Option (List ℕ)) (more : List ℕ) → FitsText wide asked x → Has (next x) r more
+    → Has (optional_text wide asked next) r (message_bytes wide x ++ more)
+unfolding optional_text
+shown_text wide true next r (Some x) more f h = put_front (Counted (width wide)) _ x (counted (width wide) x) more (f, refl) h
+shown_text wide true next r None more f h = absurd f
+shown_text wide false next r (Some x) more f h = absurd f
+shown_text wide false next r None more f h = h
+
+shown_volumes : (all before : List VolumeEntry) (next : List VolumeEntry → Layout) (r : Reply) (more : List ℕ) → AllByRecursion FitsVolume all → Has (next (before ++ all)) r more
+    → Has (volumes (length all) before next) r (concat (map volume_bytes all) ++ more)
+shown_volumes [] before next r more f h = subst (λ (l : Layout). Has l r more) (ap next (append-nil before) ∙ sym (volumes_zero before next)) h
+shown_volumes (v ∷ all) before next r more f h =
+    let back = shown_volumes all (before ++ (v ∷ [])) next r more f.1 (subst (λ (x : List VolumeEntry). Has (next x) r more) (sym (with_more before v all)) h) in
+    let tail : List ℕ = concat (map volume_bytes all) in
+    let bytes_are : bytes.u8 v.flags ++ (counted 1 v.name ++ (tail ++ more)) ≡ (volume_bytes v ++ tail) ++ more =
+    sym (append_assoc (bytes.u8 v.flags) (counted 1 v.name) (tail ++ more)) ∙ sym (append_assoc (volume_bytes v) tail more) in
+    subst (λ (l : Layout). Has l r ((volume_bytes v ++ tail) ++ more)) (sym (volumes_suc (length all) before next))
+    (subst (Has (volume (λ x. volumes (length all) (before ++ (x ∷ [])) next)) r) bytes_are
+    (put_front (Number 1) _ v.flags (bytes.u8 v.flags) _ (f.0.0, refl) (put_front (Counted 1) _ v.name (counted 1 v.name) _ (f.0.1, refl) back)))
+
+shown_entries : (wide : Bool) (fb db : ℕ) (all before : List ListEntry) (next : List ListEntry → Layout) (r : Reply) (more : List ℕ) → AllByRecursion (FitsEntry wide fb db) all
+    → Has (next (before ++ all)) r more → Has (entries wide fb db (length all) before next) r (concat (map (entry_bytes wide fb db) all) ++ more)
+shown_entries wide fb db [] before next r more f h = subst (λ (l : Layout). Has l r more) (ap next (append-nil before) ∙ sym (entries_zero wide fb db before next)) h
+shown_entries wide fb db (e ∷ all) before next r more f h =
+    let back = shown_entries wide fb db all (before ++ (e ∷ [])) next r more f.1 (subst (λ (x : List ListEntry). Has (next x) r more) (sym (with_more before e all)) h) in
+    let tail : List ℕ = concat (map (entry_bytes wide fb db) all) in
+    let bytes_are : entry_bytes wide fb db e ++ (tail ++ more) ≡ (entry_bytes wide fb db e ++ tail) ++ more = sym (append_assoc (entry_bytes wide fb db e) tail more) in
+    subst (λ (l : Layout). Has l r ((entry_bytes wide fb db e ++ tail) ++ more)) (sym (entries_suc wide fb db (length all) before next))
+    (subst (Has (Then (Entry wide fb db) (λ x. entries wide fb db (length all) (before ++ (x ∷ [])) next)) r) bytes_are
+    (put_front (Entry wide fb db) _ e (entry_bytes wide fb db e) _ (entry_spelt wide fb db e f.0) back))
+
+-- ---- replies
+
+has_list : (wide : Bool) (fb db : ℕ) (all : List ListEntry) → FitsList wide fb db all
+    → Has (layouts.list wide fb db) (replies.List wide fb db all)
+    (bytes.u16 fb ++ (bytes.u16 db ++ (bytes.u16 (length all) ++ (concat (map (entry_bytes wide fb db) all) ++ []))))
+has_list wide fb db all f =
+    put_front (Asked _ fb) _ tt (bytes.u16 fb) _ (f.file, refl) (put_front (Asked _ db) _ tt (bytes.u16 db) _ (f.dir, refl)
+    (put_front (Number 2) _ (length all) (bytes.u16 (length all)) _ (f.few, refl)
+    (shown_entries wide fb db all [] (λ rows. Is (replies.List wide fb db rows)) (replies.List wide fb db all) [] f.each (refl, refl))))
+
+shown_list : (wide : Bool) (fb db : ℕ) (all : List ListEntry) → FitsList wide fb db all → IsShown (replies.List wide fb db all)
+shown_list true fb db all f = shown_by 66 fb db shapes.WideList (replies.List true fb db all) _ command_66 (has_list true fb db all f)
+shown_list false fb db all f = shown_by 9 fb db shapes.NarrowList (replies.List false fb db all) _ command_9 (has_list false fb db all f)
+
+is_wide_3 : layouts.is_wide 3 ≡ Some true
+unfolding layouts.is_wide
+is_wide_3 = refl
+
+is_wide_1 : layouts.is_wide 1 ≡ Some false
+unfolding layouts.is_wide
+is_wide_1 = refl
+
+has_name : (wide : Bool) (name : List ℕ) → length name < 256 ^ width wide → Has (layouts.name wide) (replies.MappedName wide name) (counted (width wide) name ++ [])
+has_name wide name f = put_front (Counted (width wide)) _ name (counted (width wide) name) [] (f, refl) (refl, refl)
+
+shown_name : (wide : Bool) (name : List ℕ) → length name < 256 ^ width wide → IsShown (replies.MappedName wide name)
+shown_name true name f =
+    shown_by 21 3 0 shapes.MappedName (replies.MappedName true name) (counted 2 name ++ []) command_21
+    (subst (λ (o : Option Bool). Has (layouts.mapped o) (replies.MappedName true name) (counted 2 name ++ [])) (sym is_wide_3) (has_name true name f))
+shown_name false name f =
+    shown_by 21 1 0 shapes.MappedName (replies.MappedName false name) (counted 1 name ++ []) command_21
+    (subst (λ (o : Option Bool). Has (layouts.mapped o) (replies.MappedName false name) (counted 1 name ++ [])) (sym is_wide_1) (has_name false name f))
+
+has_block : (kind bits : ℕ) (v : Values) → IsWithin (mask_of kind) bits → IsAnswer kind bits v → Has (layouts.params kind bits) (replies.Params bits v) (bytes.u16 bits ++ (params bits v ++ []))
+has_block kind bits v w a = put_front (Asked (mask_of kind) bits) _ tt (bytes.u16 bits) _ (w, refl) (has_params kind bits (λ x. replies.Params bits x) v a)
+
+shown_params : (bits : ℕ) (v : Values) → FitsReply (replies.Params bits v) → IsShown (replies.Params bits v)
+shown_params bits (kinds.Volume v) f =
+    shown_by 17 bits 0 shapes.VolumeParams (replies.Params bits (kinds.Volume v)) _ command_17 (has_block 0 bits (kinds.Volume v) f.1.within f.1.answer)
+shown_params bits (kinds.File v) f =
+    shown_by 14 bits 0 shapes.FileParams (replies.Params bits (kinds.File v)) _ command_14 (has_block 1 bits (kinds.File v) f.1.within f.1.answer)
+shown_params bits (kinds.Dir v) f = let le : 2 ≤ 1 = f.0 in absurd (omega arith)
+
+pub what_fits : (r : Reply) → FitsReply r → IsShown r
+what_fits replies.Empty f = shown_by 2 0 0 shapes.Empty replies.Empty [] command_2 (refl, refl)
+what_fits (replies.Start x) f = shown_by 1 0 0 shapes.Start (replies.Start x) _ command_1 (put_front (Number 4) _ x (bytes.u32 x) [] (f, refl) (refl, refl))
+what_fits (replies.StartExt x) f = shown_by 59 0 0 shapes.StartExt (replies.StartExt x) _ command_59 (put_front (Number 8) _ x (bytes.u64 x) [] (f, refl) (refl, refl))
+what_fits (replies.End x) f = shown_by 33 0 0 shapes.End (replies.End x) _ command_33 (put_front (Number 4) _ x (bytes.u32 x) [] (f, refl) (refl, refl))
+what_fits (replies.EndExt x) f = shown_by 61 0 0 shapes.EndExt (replies.EndExt x) _ command_61 (put_front (Number 8) _ x (bytes.u64 x) [] (f, refl) (refl, refl))
+what_fits (replies.Node id) f = shown_by 6 0 0 shapes.Node (replies.Node id) _ command_6 (put_front (Number 4) _ id.0 (bytes.u32 id.0) [] (f, refl) (refl, refl))
+what_fits (replies.List wide fb db all) f = shown_list wide fb db all f
+what_fits (replies.Params bits v) f = shown_params bits v f
+what_fits (replies.Status block) f = shown_by 15 0 0 shapes.Status (replies.Status block) block command_15 refl
+what_fits (replies.ServerParams time all) f =
+    let t : ℕ = cast_unsigned w32 time in
+    let back : cast_signed w32 t ≡ time = date_again time f.0 in
+    let small : t < 256 ^ 4 = (let lt : t < 2 ^ 32 = date_lt time f.0 in omega arith) in
+    shown_by 16 0 0 shapes.ServerParams (replies.ServerParams time all) _ command_16
+    (put_front (Number 4) _ t (bytes.u32 t) _ (small, refl) (put_front (Number 1) _ (length all) (bytes.u8 (length all)) _ (f.1, refl)
+    (shown_volumes all [] (λ x. Is (replies.ServerParams (cast_signed w32 t) x)) (replies.ServerParams time all) [] f.2 (ap (λ z. replies.ServerParams z all) (sym back), refl))))
+what_fits (replies.MappedName wide name) f = shown_name wide name f
+what_fits (replies.MappedId x) f = shown_by 22 0 0 shapes.MappedId (replies.MappedId x) _ command_22 (put_front (Number 4) _ x (bytes.u32 x) [] (f, refl) (refl, refl))
+what_fits (replies.Opened bits reference v) f =
+    shown_by 26 bits 0 shapes.Opened (replies.Opened bits reference v) _ command_26
+    (put_front (Asked _ bits) _ tt (bytes.u16 bits) _ (f.1.within, refl) (put_front (Number 2) _ reference.0 (bytes.u16 reference.0) _ (f.0, refl)
+    (has_params 1 bits (λ x. replies.Opened bits (record { 0 = reference.0 }) x) v f.1.answer)))
+what_fits (replies.Piece piece) f = shown_by 27 0 0 shapes.Data (replies.Piece piece) piece command_27 refl
+what_fits (replies.FileDirParams fb db v) f =
+    let dir : Bool = is_dir v in
+    shown_by 34 fb db shapes.FileDirParams (replies.FileDirParams fb db v) _ command_34
+    (put_front (Asked _ fb) _ tt (bytes.u16 fb) _ (f.0, refl) (put_front (Asked _ db) _ tt (bytes.u16 db) _ (f.1, refl)
+    (put_front Flag _ dir (flag_of dir ∷ []) _ refl (put_front Pad _ tt bytes.pad _ refl
+    (subst (λ (l : Layout). Has l (replies.FileDirParams fb db v) (params (bits_for dir fb db) v ++ [])) (sym (node_layout dir fb db))
+    (has_params (kind_for dir) (bits_for dir fb db) (λ x. replies.FileDirParams fb db x) v f.2))))))
+what_fits (replies.UserInfo bits id group) f =
+    shown_by 37 bits 0 shapes.UserInfo (replies.UserInfo bits id group) _ command_37
+    (put_front (Asked _ bits) _ tt (bytes.u16 bits) _ (f.0, refl)
+    (shown_optional (is_asked bits 0) (λ x. optional (is_asked bits 1) (λ y. Is (replies.UserInfo bits x y))) (replies.UserInfo bits id group) id _ f.1
+    (shown_optional (is_asked bits 1) (λ y. Is (replies.UserInfo bits id y)) (replies.UserInfo bits id group) group [] f.2 (refl, refl))))
+what_fits (replies.Message kind bits text) f =
+    shown_by 38 bits 0 shapes.Message (replies.Message kind bits text) _ command_38
+    (put_front (Number 2) _ kind (bytes.u16 kind) _ (f.0, refl) (put_front (Asked _ bits) _ tt (bytes.u16 bits) _ (f.1, refl)
+    (shown_text (is_asked bits 1) (is_asked bits 0) (λ x. Is (replies.Message kind bits x)) (replies.Message kind bits text) text [] f.2 (refl, refl))))
+what_fits (replies.Desk x) f = shown_by 48 0 0 shapes.Desk (replies.Desk x) _ command_48 (put_front (Number 2) _ x (bytes.u16 x) [] (f, refl) (refl, refl))
+what_fits (replies.IconInfo tag kind icon_kind size) f =
+    shown_by 52 0 0 shapes.IconInfo (replies.IconInfo tag kind icon_kind size) _ command_52
+    (put_front (Number 4) _ tag (bytes.u32 tag) _ (f.0, refl) (put_front (Raw 4) _ kind kind _ (f.1, refl) (put_front (Number 1) _ icon_kind (bytes.u8 icon_kind) _ (f.2, refl)
+    (put_front Pad _ tt bytes.pad _ refl (put_front (Number 2) _ size (bytes.u16 size) [] (f.3, refl) (refl, refl))))))
+what_fits (replies.Appl bits tag v) f =
+    shown_by 55 bits 0 shapes.Appl (replies.Appl bits tag v) _ command_55
+    (put_front (Asked _ bits) _ tt (bytes.u16 bits) _ (f.1.within, refl) (put_front (Number 4) _ tag (bytes.u32 tag) _ (f.0, refl)
+    (has_params 1 bits (λ x. replies.Appl bits tag x) v f.1.answer)))
+what_fits (replies.Comment x) f = shown_by 58 0 0 shapes.Comment (replies.Comment x) _ command_58 (put_front (Counted 1) _ x (counted 1 x) [] (f, refl) (refl, refl))
+what_fits (replies.Token x) f = shown_by 64 0 0 shapes.Token (replies.Token x) _ command_64 (put_front (Counted 4) _ x (counted 4 x) [] (f, refl) (refl, refl))
+
+-- ---- the other way, and for the writer
+
+pub what_is_shown : (r : Reply) → IsShown r → FitsReply r
+unfolding layout_for
+what_is_shown r h = (good_reply (shape_of h.kind.command) h.code h.kind r h.bytes h.shows).fits
+
+text_fits : (wide asked : Bool) (x : Option (List ℕ)) → FitsText wide asked x → FitsMessage wide x
+text_fits wide true (Some x) f = f
+text_fits wide true None f = tt
+text_fits wide false (Some x) f = absurd f
+text_fits wide false None f = tt
+
+pub can_write : (r : Reply) → FitsReply r → CanWrite r
+can_write (replies.List wide fb db all) f = f
+can_write (replies.Params bits v) f = record { kind_is = refl; within = f.1.within; fits = f.1.answer.fits }
+can_write (replies.ServerParams time all) f = (f.1, f.2)
+can_write (replies.MappedName wide name) f = f
+can_write (replies.Opened bits reference v) f = record { kind_is = f.1.answer.kind_is; within = f.1.within; fits = f.1.answer.fits }
+can_write (replies.FileDirParams fb db v) f = record { kind_is = f.2.kind_is; within = node_within (is_dir v) fb db f.0 f.1; fits = f.2.fits }
+can_write (replies.Message kind bits text) f = text_fits (is_asked bits 1) (is_asked bits 0) text f.2
+can_write (replies.Appl bits tag v) f = record { kind_is = f.1.answer.kind_is; within = f.1.within; fits = f.1.answer.fits }
+can_write (replies.Comment x) f = f
+can_write (replies.Token x) f = f
+can_write r f = tt

@@ -1,0 +1,5 @@
+use Rattle.afp_replies.proofs.Spellings.{number_took}
+use Rattle.afp_replies.proofs.cursor.Cursor.u64.Goals as goal
+
+pub returns : goal.returns
+returns c = rw c.read_u64.ensures (number_took 8 _ _ _ c.in_ok-piece.ensures)

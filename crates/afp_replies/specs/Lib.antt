@@ -1,0 +1,10 @@
+pub mod Bytes
+pub mod Entry
+pub mod Words
+pub mod Layout
+pub mod Layouts
+pub mod Commands
+pub mod Replies
+pub mod Fitting
+pub mod Reading
+pub mod Writing

@@ -1,0 +1,83 @@
+-- The bytes of replies.
+use Rattle.std.specs.Prelude.{ℕ, Bool, List, [], ◌∷◌, ◌++◌, length, map, Option, Some, None, Result, Ok, Err}
+use Rattle.std.specs.Int.{w32, cast_unsigned}
+use Rattle.std.specs.List.{concat}
+use Rattle.afp_base.specs.declared.code.Code.{Code}
+use Rattle.afp_bitmap.specs.Bits.{is_asked}
+use Rattle.afp_bitmap.specs.Params.{params}
+use Rattle.afp_replies.specs.declared.fields.TheConstants.{UTF8_BIT}
+use Rattle.afp_replies.specs.declared.volumes.VolumeEntry.{VolumeEntry}
+use Rattle.afp_replies.specs.declared.reply.Reply.{Reply}
+use Rattle.afp_replies.specs.declared.reply.Reply.TheVariants.{Empty, Start, StartExt, End, EndExt, Node, Params, Status, ServerParams, MappedName, MappedId, Opened, Piece, FileDirParams, UserInfo, Message, Desk, IconInfo, Appl, Comment, Token}
+use Rattle.afp_replies.specs.declared.reply.Reply.TheVariants as replies
+use Rattle.afp_replies.specs.declared.reply.ReplyFault.{ReplyFault}
+use Rattle.afp_replies.specs.declared.reply.ReplyFault.TheVariants as faults
+use Rattle.afp_replies.specs.declared.reply.ReplyKind.{ReplyKind}
+use Rattle.afp_replies.specs.Bytes.{u8, u16, u32, u64, optional, pad, counted, flag_of, width}
+use Rattle.afp_replies.specs.Entry.{is_dir, node_params, entry_bytes}
+use Rattle.afp_replies.specs.Layout.{Layout, Has, StopsAt}
+use Rattle.afp_replies.specs.Commands.{shape_of, reply_layout}
+
+-- the layout of a reply to this kind of request with this code
+unfoldable pub layout_for : ReplyKind → Code → Layout
+layout_for kind code = reply_layout (shape_of kind.command) code kind
+
+-- the bytes are the reply to this kind of request with this code
+abbrev pub Shows : Reply → ReplyKind → Code → List ℕ → Type 0
+Shows r kind code bytes = Has (layout_for kind code) r bytes
+
+-- some bytes are the reply
+pub record IsShown (r : Reply) : Type 0 where
+  pub kind : ReplyKind
+  pub code : Code
+  pub bytes : List ℕ
+  pub shows : Shows r kind code bytes
+
+-- the place where bytes stop being a reply to this kind of request with this code
+abbrev pub IsBadAt : ReplyKind → Code → List ℕ → ℕ → Type 0
+IsBadAt kind code bytes at = StopsAt (layout_for kind code) 0 bytes at
+
+-- what holds of the place of a fault, where there is one
+abbrev pub IfBad : Result Reply ReplyFault → (ℕ → Type 0) → Type 0
+IfBad (Ok r) P = Unit {0}
+IfBad (Err faults.Memory) P = Unit {0}
+IfBad (Err (faults.Bad at)) P = P at
+
+-- a volume of the server: flags 1, name
+abbrev pub volume_bytes : VolumeEntry → List ℕ
+volume_bytes v = u8 v.flags ++ counted 1 v.name
+
+-- a message with its count in a byte or two, where there is one
+abbrev pub message_bytes : Bool → Option (List ℕ) → List ℕ
+message_bytes wide None = []
+message_bytes wide (Some text) = counted (width wide) text
+
+-- the fields of a reply in order, as they are written: pads are 0
+abbrev pub fields : Reply → List (List ℕ)
+fields Empty = []
+fields (Start start) = u32 start ∷ []
+fields (StartExt start) = u64 start ∷ []
+fields (End end) = u32 end ∷ []
+fields (EndExt end) = u64 end ∷ []
+fields (Node id) = u32 id.0 ∷ []
+fields (replies.List wide file_bits dir_bits rows) = u16 file_bits ∷ u16 dir_bits ∷ u16 (length rows) ∷ map (entry_bytes wide file_bits dir_bits) rows
+fields (Params bits values) = u16 bits ∷ params bits values ∷ []
+fields (Status block) = block ∷ []
+fields (ServerParams time volumes) = u32 (cast_unsigned w32 time) ∷ u8 (length volumes) ∷ map volume_bytes volumes
+fields (MappedName wide name) = counted (width wide) name ∷ []
+fields (MappedId id) = u32 id ∷ []
+fields (Opened bits reference values) = u16 bits ∷ u16 reference.0 ∷ params bits values ∷ []
+fields (Piece piece) = piece ∷ []
+fields (FileDirParams file_bits dir_bits values) =
+    u16 file_bits ∷ u16 dir_bits ∷ (flag_of (is_dir values) ∷ []) ∷ pad ∷ node_params file_bits dir_bits values ∷ []
+fields (UserInfo bits id group) = u16 bits ∷ optional id ∷ optional group ∷ []
+fields (Message kind bits message) = u16 kind ∷ u16 bits ∷ message_bytes (is_asked bits UTF8_BIT) message ∷ []
+fields (Desk dt) = u16 dt ∷ []
+fields (IconInfo tag kind icon_kind size) = u32 tag ∷ kind ∷ u8 icon_kind ∷ pad ∷ u16 size ∷ []
+fields (Appl bits tag values) = u16 bits ∷ u32 tag ∷ params bits values ∷ []
+fields (Comment comment) = counted 1 comment ∷ []
+fields (Token token) = counted 4 token ∷ []
+
+-- the bytes of a reply, as they are written
+abbrev pub canonical_reply : Reply → List ℕ
+canonical_reply r = concat (fields r)

@@ -1,0 +1,26 @@
+//! Replies of the Apple Filing Protocol: written canonically, and read exactly (AFP Reference, "AFP
+//! Calls").
+#![tactic(auto)]
+
+mod answer;
+mod commands;
+mod cursor;
+mod fields;
+mod laws;
+mod list;
+mod read;
+mod reply;
+mod volumes;
+mod write;
+
+pub use answer::read_reply;
+pub use laws::{
+    entries_are_even, one_reply_for_each, what_fits_is_shown, what_is_written_is_shown,
+};
+pub use list::{ListEntry, ListRows};
+pub use reply::{Reply, ReplyFault, ReplyKind};
+pub use volumes::{VolumeEntry, VolumeList};
+pub use write::write_reply;
+
+#[cfg(test)]
+mod tests;

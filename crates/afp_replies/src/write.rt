@@ -1,0 +1,355 @@
+//! Replies, written field by field.
+ghost use Rattle.std.specs.Int.{w32, cast_unsigned};
+ghost use Rattle.std.specs.Prelude.{◌≡◌, ◌∷◌, ◌++◌, ◌<◌, ◌^◌, [], length, map, replicate, OnOk, OnErr};
+ghost use Rattle.std.specs.List.{concat, AllByRecursion};
+ghost use Rattle.byteorder.specs.Endian.{big_bytes};
+ghost use Rattle.afp_bitmap.specs.Bits.{IsWithin, file_mask, dir_mask, is_asked};
+ghost use Rattle.afp_bitmap.specs.Params.{params};
+ghost use Rattle.afp_bitmap.specs.Table.{kind_of};
+ghost use Rattle.afp_replies.specs.Bytes.{u8, u16, u32, optional, pad, counted, flag_of, width};
+ghost use Rattle.afp_replies.specs.Entry.{is_dir, bits_for, pad_count, node_params, entry_bytes, FitsEntry};
+ghost use Rattle.afp_replies.specs.Replies.{volume_bytes, message_bytes, canonical_reply, IsShown};
+ghost use Rattle.afp_replies.specs.Fitting.{FitsVolume, FitsList};
+ghost use Rattle.afp_replies.specs.Writing.{FitsParams, FitsNode, FitsMessage, CanWrite};
+
+use crate::fields::{
+    DIRECTORY, FILE, UTF8_BIT, head_size, is_asked, put_text, put_u8, put_u16, put_u32, put_u64,
+};
+use crate::list::ListEntry;
+use crate::reply::Reply;
+use crate::volumes::VolumeEntry;
+use afp_base::{Bytes, OutOfMemory};
+use afp_bitmap::{Values, put_params};
+use std::alloc::Global;
+
+/// Appends a number of 4 bytes, where there is one.
+fn put_optional(number: &Option<u32>, out: &mut Bytes) -> Result<(), OutOfMemory>
+    ensures { OnOk result (out.new ≡ out.old ++ optional number.now) }
+{
+    match number {
+        None => Ok(()),
+        Some(number) => put_u32(*number, out),
+    }
+}
+
+/// FPGetIconInfo.
+fn put_icon_info(
+    tag: u32,
+    kind: &[u8; 4],
+    icon_kind: u8,
+    size: u16,
+    out: &mut Bytes,
+) -> Result<(), OutOfMemory>
+    ensures { OnOk result (out.new ≡ out.old ++ concat (u32 tag ∷ kind.now ∷ u8 icon_kind ∷ pad ∷ u16 size ∷ [])) }
+{
+    put_u32(tag, out)?;
+    out.extend(kind)?;
+    put_u8(icon_kind, out)?;
+    put_u8(0, out)?;
+    put_u16(size, out)
+}
+
+/// FPGetUserInfo.
+fn put_user_info(
+    bits: u16,
+    id: &Option<u32>,
+    group: &Option<u32>,
+    out: &mut Bytes,
+) -> Result<(), OutOfMemory>
+    ensures { OnOk result (out.new ≡ out.old ++ concat (u16 bits ∷ optional id.now ∷ optional group.now ∷ [])) }
+{
+    put_u16(bits, out)?;
+    put_optional(id, out)?;
+    put_optional(group, out)
+}
+
+/// FPGetSrvrMsg.
+fn put_message(
+    kind: u16,
+    bits: u16,
+    message: &Option<Bytes>,
+    out: &mut Bytes,
+) -> Result<(), OutOfMemory>
+    requires { FitsMessage (is_asked bits UTF8_BIT) message.now }
+    ensures { OnOk result (out.new ≡ out.old ++ concat (u16 kind ∷ u16 bits ∷ message_bytes (is_asked bits UTF8_BIT) message.now ∷ [])) }
+{
+    put_u16(kind, out)?;
+    put_u16(bits, out)?;
+    match message {
+        None => Ok(()),
+        Some(text) => put_text(is_asked(bits, UTF8_BIT), text.as_slice(), out),
+    }
+}
+
+/// FPGetSessionToken.
+fn put_token(token: &[u8], out: &mut Bytes) -> Result<(), OutOfMemory>
+    requires { length token.now < 256 ^ 4 }
+    ensures { OnOk result (out.new ≡ out.old ++ counted 4 token.now) }
+{
+    put_u32(token.len() as u32, out)?;
+    out.extend(token)
+}
+
+/// A volume of FPGetSrvrParms.
+fn put_volume(volume: &VolumeEntry, out: &mut Bytes) -> Result<(), OutOfMemory>
+    requires { FitsVolume volume.now }
+    ensures { OnOk result (out.new ≡ out.old ++ volume_bytes volume.now) }
+{
+    put_u8(volume.flags, out)?;
+    put_text(false, volume.name.as_slice(), out)
+}
+
+/// The volumes of FPGetSrvrParms.
+fn put_volumes(volumes: &[VolumeEntry], out: &mut Bytes) -> Result<(), OutOfMemory>
+    requires { AllByRecursion FitsVolume volumes.now }
+    ensures { OnOk result (out.new ≡ out.old ++ concat (map volume_bytes volumes.now)) }
+{
+    for volume in volumes {
+        put_volume(volume, out)?;
+    }
+    Ok(())
+}
+
+/// FPGetSrvrParms.
+fn put_server_params(time: i32, volumes: &[VolumeEntry], out: &mut Bytes) -> Result<(), OutOfMemory>
+    requires few { length volumes.now < 256 ^ 1 }
+    requires fits { AllByRecursion FitsVolume volumes.now }
+    ensures { OnOk result (out.new ≡ out.old ++ concat (u32 (cast_unsigned w32 time) ∷ u8 (length volumes.now) ∷ map volume_bytes volumes.now)) }
+{
+    put_u32(time.cast_unsigned(), out)?;
+    put_u8(volumes.len() as u8, out)?;
+    put_volumes(volumes, out)
+}
+
+/// FPGetVolParms, FPOpenVol, FPGetForkParms, FPResolveID.
+fn put_block(alloc: Global, bits: u16, values: &Values, out: &mut Bytes) -> Result<(), OutOfMemory>
+    requires { FitsParams (kind_of values.now) bits values.now }
+    ensures { OnOk result (out.new ≡ out.old ++ concat (u16 bits ∷ params bits values.now ∷ [])) }
+{
+    put_u16(bits, out)?;
+    put_params(alloc, bits, values, out)
+}
+
+/// FPOpenFork.
+fn put_opened(
+    alloc: Global,
+    bits: u16,
+    reference: u16,
+    values: &Values,
+    out: &mut Bytes,
+) -> Result<(), OutOfMemory>
+    requires { FitsParams FILE bits values.now }
+    ensures { OnOk result (out.new ≡ out.old ++ concat (u16 bits ∷ u16 reference ∷ params bits values.now ∷ [])) }
+{
+    put_u16(bits, out)?;
+    put_u16(reference, out)?;
+    put_params(alloc, bits, values, out)
+}
+
+/// FPGetAPPL.
+fn put_appl(
+    alloc: Global,
+    bits: u16,
+    tag: u32,
+    values: &Values,
+    out: &mut Bytes,
+) -> Result<(), OutOfMemory>
+    requires { FitsParams FILE bits values.now }
+    ensures { OnOk result (out.new ≡ out.old ++ concat (u16 bits ∷ u32 tag ∷ params bits values.now ∷ [])) }
+{
+    put_u16(bits, out)?;
+    put_u32(tag, out)?;
+    put_params(alloc, bits, values, out)
+}
+
+/// Whether the values are a directory's.
+fn is_dir(values: &Values) -> bool
+    ensures { result ≡ is_dir values.now }
+{
+    match values {
+        Values::Dir(_) => true,
+        Values::File(_) => false,
+        Values::Volume(_) => false,
+    }
+}
+
+/// The flag of a directory or a file.
+fn flag_of(dir: bool) -> u8
+    ensures { result ≡ flag_of dir }
+{
+    if dir { DIRECTORY } else { 0 }
+}
+
+/// The bits that are asked of a directory or a file.
+fn bits_for(dir: bool, file_bits: u16, dir_bits: u16) -> u16
+    ensures { result ≡ bits_for dir file_bits dir_bits }
+{
+    if dir { dir_bits } else { file_bits }
+}
+
+/// FPGetFileDirParms.
+fn put_file_dir_params(
+    alloc: Global,
+    file_bits: u16,
+    dir_bits: u16,
+    values: &Values,
+    out: &mut Bytes,
+) -> Result<(), OutOfMemory>
+    requires { FitsNode file_bits dir_bits values.now }
+    ensures { OnOk result (out.new ≡ out.old ++ concat (u16 file_bits ∷ u16 dir_bits ∷ (flag_of (is_dir values.now) ∷ []) ∷ pad ∷ node_params file_bits dir_bits values.now ∷ [])) }
+{
+    let dir = is_dir(values);
+    put_u16(file_bits, out)?;
+    put_u16(dir_bits, out)?;
+    put_u8(flag_of(dir), out)?;
+    put_u8(0, out)?;
+    put_params(alloc, bits_for(dir, file_bits, dir_bits), values, out)
+}
+
+/// The length of an entry, narrow or wide.
+fn put_length(wide: bool, length: usize, out: &mut Bytes) -> Result<(), OutOfMemory>
+    requires { length < 256 ^ width wide }
+    ensures { OnOk result (out.new ≡ out.old ++ big_bytes (width wide) length) }
+{
+    if wide {
+        put_u16(length as u16, out)
+    } else {
+        put_u8(length as u8, out)
+    }
+}
+
+/// The pad behind the flag of an entry, in a wide list.
+fn put_pad(wide: bool, out: &mut Bytes) -> Result<(), OutOfMemory>
+    ensures { OnOk result (out.new ≡ out.old ++ replicate (pad_count wide) 0) }
+{
+    if wide { put_u8(0, out) } else { Ok(()) }
+}
+
+/// An entry of a list. Its parameters come first, apart, so that their size is known.
+fn put_entry(
+    alloc: Global,
+    wide: bool,
+    file_bits: u16,
+    dir_bits: u16,
+    entry: &ListEntry,
+    out: &mut Bytes,
+) -> Result<(), OutOfMemory>
+    requires file { IsWithin file_mask file_bits }
+    requires dir { IsWithin dir_mask dir_bits }
+    requires fits { FitsEntry wide file_bits dir_bits entry.now }
+    ensures { OnOk result (out.new ≡ out.old ++ entry_bytes wide file_bits dir_bits entry.now) }
+{
+    let dir = is_dir(&entry.values);
+    let mut block = Bytes::new(alloc);
+    let bits = bits_for(dir, file_bits, dir_bits);
+    put_params(alloc, bits, &entry.values, &mut block)?;
+    put_length(wide, head_size(wide) + block.as_slice().len(), out)?;
+    put_u8(flag_of(dir), out)?;
+    put_pad(wide, out)?;
+    out.extend(block.as_slice())
+}
+
+/// The entries of a list.
+fn put_entries(
+    alloc: Global,
+    wide: bool,
+    file_bits: u16,
+    dir_bits: u16,
+    rows: &[ListEntry],
+    out: &mut Bytes,
+) -> Result<(), OutOfMemory>
+    requires file { IsWithin file_mask file_bits }
+    requires dir { IsWithin dir_mask dir_bits }
+    requires fits { AllByRecursion (FitsEntry wide file_bits dir_bits) rows.now }
+    ensures { OnOk result (out.new ≡ out.old ++ concat (map (entry_bytes wide file_bits dir_bits) rows.now)) }
+{
+    for entry in rows {
+        put_entry(alloc, wide, file_bits, dir_bits, entry, out)?;
+    }
+    Ok(())
+}
+
+/// FPEnumerate, and with wide lengths FPEnumerateExt and FPEnumerateExt2.
+fn put_list(
+    alloc: Global,
+    wide: bool,
+    file_bits: u16,
+    dir_bits: u16,
+    rows: &[ListEntry],
+    out: &mut Bytes,
+) -> Result<(), OutOfMemory>
+    requires { FitsList wide file_bits dir_bits rows.now }
+    ensures { OnOk result (out.new ≡ out.old ++ concat (u16 file_bits ∷ u16 dir_bits ∷ u16 (length rows.now) ∷ map (entry_bytes wide file_bits dir_bits) rows.now)) }
+{
+    put_u16(file_bits, out)?;
+    put_u16(dir_bits, out)?;
+    put_u16(rows.len() as u16, out)?;
+    put_entries(alloc, wide, file_bits, dir_bits, rows, out)
+}
+
+/// Appends the fields of a reply.
+fn put_reply(alloc: Global, reply: &Reply, out: &mut Bytes) -> Result<(), OutOfMemory>
+    requires { CanWrite reply.now }
+    ensures { OnOk result (out.new ≡ out.old ++ canonical_reply reply.now) }
+{
+    match reply {
+        Reply::Empty => Ok(()),
+        Reply::Start { start } => put_u32(*start, out),
+        Reply::StartExt { start } => put_u64(*start, out),
+        Reply::End { end } => put_u32(*end, out),
+        Reply::EndExt { end } => put_u64(*end, out),
+        Reply::Node { id } => put_u32(id.0, out),
+        Reply::List {
+            wide,
+            file_bits,
+            dir_bits,
+            rows,
+        } => put_list(alloc, *wide, *file_bits, *dir_bits, rows.as_slice(), out),
+        Reply::Params { bits, values } => put_block(alloc, *bits, values, out),
+        Reply::Status { block } => out.extend(block.as_slice()),
+        Reply::ServerParams { time, volumes } => put_server_params(*time, volumes.as_slice(), out),
+        Reply::MappedName { wide, name } => put_text(*wide, name.as_slice(), out),
+        Reply::MappedId { id } => put_u32(*id, out),
+        Reply::Opened {
+            bits,
+            reference,
+            values,
+        } => put_opened(alloc, *bits, reference.0, values, out),
+        Reply::Piece { piece } => out.extend(piece.as_slice()),
+        Reply::FileDirParams {
+            file_bits,
+            dir_bits,
+            values,
+        } => put_file_dir_params(alloc, *file_bits, *dir_bits, values, out),
+        Reply::UserInfo { bits, id, group } => put_user_info(*bits, id, group, out),
+        Reply::Message {
+            kind,
+            bits,
+            message,
+        } => put_message(*kind, *bits, message, out),
+        Reply::Desk { dt } => put_u16(*dt, out),
+        Reply::IconInfo {
+            tag,
+            kind,
+            icon_kind,
+            size,
+        } => put_icon_info(*tag, kind, *icon_kind, *size, out),
+        Reply::Appl { bits, tag, values } => put_appl(alloc, *bits, *tag, values, out),
+        Reply::Comment { comment } => put_text(false, comment.as_slice(), out),
+        Reply::Token { token } => put_token(token.as_slice(), out),
+    }
+}
+
+/// Appends the bytes of a reply (AFP Reference, "AFP Calls"). All numbers are big-endian, and pads are
+/// 0. An error changes nothing.
+pub fn write_reply(alloc: Global, reply: &Reply, out: &mut Bytes) -> Result<(), OutOfMemory>
+    // Some bytes are the reply to some request: counts can hold its texts and lists, and its values
+    // are those that its bits ask for.
+    requires { IsShown reply.now }
+    ensures ok { OnOk result (out.new ≡ out.old ++ canonical_reply reply.now) }
+    ensures err { OnErr result (out.new ≡ out.old) }
+{
+    let mut block = Bytes::new(alloc);
+    put_reply(alloc, reply, &mut block)?;
+    out.extend(block.as_slice())
+}
