@@ -1,5 +1,5 @@
--- The limits of a house (this profile).
-use Rattle.std.specs.Prelude.{ℕ}
+-- The limits of the server (this profile).
+use Rattle.std.specs.Prelude.{ℕ, ◌^◌}
 
 -- the first and the last printable ASCII character: the space and the tilde
 abbrev pub first_printable : ℕ
@@ -31,3 +31,28 @@ most_volumes = 8
 -- the id of the first user: the next ones follow it
 abbrev pub first_user_id : ℕ
 first_user_id = 501
+
+-- the most sessions, attached and detached together; answers kept for one; forks that it has open; and locks of one reference
+abbrev pub most_sessions : ℕ
+most_sessions = 64
+
+abbrev pub most_kept : ℕ
+most_kept = 32
+
+abbrev pub most_forks : ℕ
+most_forks = 256
+
+abbrev pub most_locks : ℕ
+most_locks = 1024
+
+-- the most bytes of a reply's block: those of a frame's payload
+abbrev pub longest_block : ℕ
+longest_block = 131072
+
+-- how many link numbers there are: the last one is 2 ^ 64 - 1
+abbrev pub links_end : ℕ
+links_end = 2 ^ 64
+
+-- the seconds after which a detached session is gone
+abbrev pub detached_time : ℕ
+detached_time = 600

@@ -12,9 +12,16 @@ machine_type = codes "Macintosh"
 abbrev pub versions : List (List ℕ)
 versions = codes "AFP3.3" ∷ codes "AFP3.2" ∷ codes "AFP3.1" ∷ []
 
--- the user authentication methods (UAMs) that it takes
+-- the user authentication methods (UAMs): without a user, and by name and password (AFP Reference, "User Authentication Methods")
+abbrev pub no_user : List ℕ
+no_user = codes "No User Authent"
+
+abbrev pub cleartext : List ℕ
+cleartext = codes "Cleartxt Passwrd"
+
+-- those that it names
 abbrev pub uams : List (List ℕ)
-uams = codes "No User Authent" ∷ codes "Cleartxt Passwrd" ∷ []
+uams = no_user ∷ cleartext ∷ []
 
 -- its flags: CopyFile, server messages, server signature, TCP, reconnecting, UTF-8 server name
 abbrev pub server_flags : ℕ

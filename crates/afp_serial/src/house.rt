@@ -90,7 +90,8 @@ impl House {
 
     /// The same house once more.
     pub fn copy(&self, alloc: Global) -> Result<House, OutOfMemory>
-        ensures { IfOk result (λ house. house ≡ self.now) }
+        ensures value { IfOk result (λ house. house ≡ self.now) }
+        ensures faultless { house_fault self.now ≡ None }
     {
         Ok(House {
             server: self.server.copy()?,

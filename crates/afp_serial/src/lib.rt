@@ -1,15 +1,23 @@
-//! What a file server is set up with, and the answer that it gives before any session.
+//! The serial file server: what it is set up with, its world, what it is asked and tells, and whoever answers
+//! asks out of one history.
 #![tactic(auto)]
 
+mod ask;
+mod attachment;
 mod checks;
 mod house;
 mod house_fault;
+pub mod laws;
 mod limits;
 mod status;
+mod teller;
 mod user;
 
+pub use ask::{Ask, Entry, Outcome, Told};
+pub use attachment::Attachment;
 pub use house::House;
 pub use house_fault::HouseFault;
+pub use teller::Teller;
 pub use user::User;
 
 #[cfg(test)]

@@ -190,3 +190,40 @@ fn of_two_faults_the_earlier_is_told(rt: HostRuntime) {
     let got = fault_of(rt.alloc(), "", &[ann; 257], &[], "");
     assert_eq!(rt; got, Some(HouseFault::Server));
 }
+
+#[test]
+fn a_copy_of_an_ask_is_the_same_ask(rt: HostRuntime) -> Result<(), Fail> {
+    let call = Ask::Call {
+        id: 7,
+        write: true,
+        offset: 12,
+        payload: bytes_of(rt.alloc(), "FPWrite")?,
+    };
+    match call.copy()? {
+        Ask::Call {
+            id,
+            write,
+            offset,
+            payload,
+        } => {
+            assert_eq!(rt; id, 7);
+            assert!(rt; write);
+            assert_eq!(rt; offset, 12);
+            assert_eq!(rt; payload.as_slice(), b"FPWrite".as_slice());
+        }
+        _ => assert!(rt; false, "a call was copied"),
+    }
+    match (Ask::Open { attention: 1024 }).copy()? {
+        Ask::Open { attention } => assert_eq!(rt; attention, 1024),
+        _ => assert!(rt; false, "an Open was copied"),
+    }
+    let pulse = Ask::Pulse.copy()?;
+    let bye = Ask::Bye.copy()?;
+    let lost = Ask::Lost.copy()?;
+    let drain = Ask::Drain.copy()?;
+    assert!(rt; matches!(&pulse, Ask::Pulse));
+    assert!(rt; matches!(&bye, Ask::Bye));
+    assert!(rt; matches!(&lost, Ask::Lost));
+    assert!(rt; matches!(&drain, Ask::Drain));
+    Ok(())
+}

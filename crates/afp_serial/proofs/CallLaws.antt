@@ -1,0 +1,79 @@
+-- Kept answers, faults and the size of blocks.
+use Rattle.std.proofs.Common.{◌≡◌, ◌∙◌, ap, sym, refl, ℕ, Bool, true, List, length, Option, Some, None}
+use Rattle.std.proofs.lemmas.Bool.{leb-true}
+use Rattle.afp_serial.proofs.StaysSound.{answer-fits}
+use Rattle.afp_serial.proofs.Verdicts.{comes-to, kept-verdict}
+use Rattle.afp_serial.specs.declared.ask.Ask.{Ask}
+use Rattle.afp_serial.specs.declared.ask.Ask.TheVariants as ask
+use Rattle.afp_serial.specs.declared.ask.Entry.{Entry}
+use Rattle.afp_serial.specs.declared.ask.Outcome.{Outcome}
+use Rattle.afp_serial.specs.declared.ask.Outcome.TheVariants as outcome
+use Rattle.afp_serial.specs.Answer.{answer, after, answer_at, after_at, after_call, after_verdict, is_fault_legal, is_legal_outcome, may_fault, may_fault_at, request, told_call, told_verdict}
+use Rattle.afp_serial.specs.Laws.{FailsInPlace, FitsFrame, HidesNoRefusal, TellsKept}
+use Rattle.afp_serial.specs.Limits.{longest_block}
+use Rattle.afp_serial.specs.Sessions.{session_at}
+use Rattle.afp_serial.specs.Shown.{fits_frame}
+use Rattle.afp_serial.specs.Steps.{Verdict, repeats, refused, runs, verdict}
+use Rattle.afp_serial.specs.World.{World, Session, at_moment}
+
+pub fits-frame : FitsFrame
+fits-frame w e code block ends sound legal is = leb-true (length block) longest_block (ap fits_frame (sym is) ∙ answer-fits w e sound legal)
+
+-- a call of an attached session, by its verdict
+
+told-by : (w : World) (e : Entry) (id : ℕ) (write : Bool) (offset : ℕ) (payload : List ℕ) (s : Session) (v : Verdict) (o : Outcome) → e.ask ≡ ask.Call id write offset payload → session_at w e.link.0 ≡ Some s → verdict (at_moment w e.at) s (request id write offset payload) ≡ v → e.outcome ≡ o → answer w e ≡ told_verdict (at_moment w e.at) s v o
+unfolding answer_at
+told-by w e id write offset payload s v o asked attached is went =
+    (λ i. answer_at (at_moment w e.at) e.link.0 (asked i) (went i))
+    ∙ ap (λ (session : Option Session). told_call (at_moment w e.at) session (request id write offset payload) o) attached
+    ∙ ap (λ (x : Verdict). told_verdict (at_moment w e.at) s x o) is
+
+left-by : (w : World) (e : Entry) (id : ℕ) (write : Bool) (offset : ℕ) (payload : List ℕ) (s : Session) (v : Verdict) (o : Outcome) → e.ask ≡ ask.Call id write offset payload → session_at w e.link.0 ≡ Some s → verdict (at_moment w e.at) s (request id write offset payload) ≡ v → e.outcome ≡ o → after w e ≡ after_verdict (at_moment w e.at) s v o
+unfolding after_at
+left-by w e id write offset payload s v o asked attached is went =
+    (λ i. after_at (at_moment w e.at) e.link.0 (asked i) (went i))
+    ∙ ap (λ (session : Option Session). after_call (at_moment w e.at) session (request id write offset payload) o) attached
+    ∙ ap (λ (x : Verdict). after_verdict (at_moment w e.at) s x o) is
+
+pub tells-kept : TellsKept
+tells-kept w e id write offset payload s a asked attached kept =
+    let is : verdict (at_moment w e.at) s (request id write offset payload) ≡ repeats a = kept-verdict (at_moment w e.at) s (request id write offset payload) a kept in
+    (told-by w e id write offset payload s (repeats a) e.outcome asked attached is refl, left-by w e id write offset payload s (repeats a) e.outcome asked attached is refl)
+
+-- faults
+
+verdict-fails : (w : World) (e : Entry) (id : ℕ) (write : Bool) (offset : ℕ) (payload : List ℕ) (s : Session) (v : Verdict) → e.ask ≡ ask.Call id write offset payload → session_at w e.link.0 ≡ Some s → verdict (at_moment w e.at) s (request id write offset payload) ≡ v → e.outcome ≡ outcome.Fault → may_fault v ≡ true → FailsInPlace w e
+verdict-fails w e id write offset payload s (repeats a) asked attached is fault may = absurd (cc)
+verdict-fails w e id write offset payload s (refused c) asked attached is fault may = absurd (cc)
+verdict-fails w e id write offset payload s (runs call) asked attached is fault may = record {
+  id = id;
+  write = write;
+  offset = offset;
+  payload = payload;
+  asked = asked;
+  session = s;
+  attached = attached;
+  call = call;
+  runs = comes-to (at_moment w e.at) s (request id write offset payload) call is;
+  may = may;
+  answered = told-by w e id write offset payload s (runs call) outcome.Fault asked attached is fault;
+  left = left-by w e id write offset payload s (runs call) outcome.Fault asked attached is fault;
+}
+
+call-fails : (w : World) (e : Entry) (id : ℕ) (write : Bool) (offset : ℕ) (payload : List ℕ) (session : Option Session) → e.ask ≡ ask.Call id write offset payload → session_at w e.link.0 ≡ session → e.outcome ≡ outcome.Fault → is_fault_legal (at_moment w e.at) session (request id write offset payload) ≡ true → FailsInPlace w e
+call-fails w e id write offset payload None asked is fault may = absurd (cc)
+call-fails w e id write offset payload (Some s) asked is fault may =
+    verdict-fails w e id write offset payload s (verdict (at_moment w e.at) s (request id write offset payload)) asked is refl fault may
+
+ask-fails : (w : World) (e : Entry) (a : Ask) → e.ask ≡ a → e.outcome ≡ outcome.Fault → may_fault_at (at_moment w e.at) e.link.0 a ≡ true → FailsInPlace w e
+unfolding may_fault_at
+ask-fails w e (ask.Open attention) asked fault may = absurd (cc)
+ask-fails w e (ask.Call id write offset payload) asked fault may = call-fails w e id write offset payload (session_at w e.link.0) asked refl fault may
+ask-fails w e ask.Pulse asked fault may = absurd (cc)
+ask-fails w e ask.Bye asked fault may = absurd (cc)
+ask-fails w e ask.Lost asked fault may = absurd (cc)
+ask-fails w e ask.Drain asked fault may = absurd (cc)
+
+pub hides-no-refusal : HidesNoRefusal
+hides-no-refusal w e fault legal =
+    ask-fails w e e.ask refl fault (ap (is_legal_outcome (may_fault_at (at_moment w e.at) e.link.0 e.ask)) (sym fault) ∙ legal)

@@ -1,0 +1,147 @@
+-- A sound world stays sound, and what is told there is an answer to the ask and fits in a frame.
+use Rattle.std.proofs.Common.{◌≡◌, ◌∙◌, ap, sym, refl, ℕ, Bool, true, ◌&&◌, cond, List, [], ◌∷◌, length, Option, Some, None}
+use Rattle.std.specs.Prelude.{nat_le, ◌==◌}
+use Rattle.std.specs.List.{list_all}
+use Rattle.std.proofs.lemmas.Bool.{and_parts, cond_both}
+use Rattle.afp_base.specs.Cached.{Request, Answer, Kept, is_repeat, either, cached_answer}
+use Rattle.afp_base.specs.declared.code.Code.TheVariants as code
+use Rattle.afp_calls.specs.SoundVolume.{are_apart}
+use Rattle.afp_serial.proofs.Closed.{ending-sound}
+use Rattle.afp_serial.proofs.FreshWorld.{fresh-is-sound}
+use Rattle.afp_serial.proofs.Keeps.{Keeps, after-keeps, stand-keeps}
+use Rattle.afp_serial.proofs.Opened.{opened-sound}
+use Rattle.afp_serial.proofs.RowsSound.{effect-fits, effect-sound}
+use Rattle.afp_serial.proofs.SoundParts.{caches-parts}
+use Rattle.afp_serial.proofs.TestedLists.{find-all}
+use Rattle.afp_serial.proofs.Verdicts.{repeats-kept}
+use Rattle.afp_serial.specs.declared.ask.Ask.{Ask}
+use Rattle.afp_serial.specs.declared.ask.Ask.TheVariants as ask
+use Rattle.afp_serial.specs.declared.ask.Entry.{Entry}
+use Rattle.afp_serial.specs.declared.ask.Outcome.{Outcome}
+use Rattle.afp_serial.specs.declared.ask.Outcome.TheVariants as outcome
+use Rattle.afp_serial.specs.declared.ask.Told.TheVariants as told
+use Rattle.afp_serial.specs.Answer.{answer, after, is_legal, request, refusal_reply, link_number, is_full, told_verdict, told_call, told_pulse, told_parting, answer_at}
+use Rattle.afp_serial.specs.History.{is_lawful, stand}
+use Rattle.afp_serial.specs.Household.{Household}
+use Rattle.afp_serial.specs.HouseFault.{house_fault}
+use Rattle.afp_serial.specs.Limits.{longest_block, most_kept}
+use Rattle.afp_serial.specs.Sessions.{stands_at, session_at}
+use Rattle.afp_serial.specs.Shown.{fits_frame, is_answer_to, is_parting_answer}
+use Rattle.afp_serial.specs.Sound.{IsSound, has_apart_sessions, has_lawful_opens, has_lawful_locks, is_lawful_cache, has_lawful_caches, keeps_all_limits, serves_house}
+use Rattle.afp_serial.specs.Steps.{Verdict, repeats, refused, runs, verdict}
+use Rattle.afp_serial.specs.World.{World, Session, fresh_world, at_moment}
+
+-- neither the latest moment nor the drain moment counts
+moment-sound : (w : World) (now : ℕ) → IsSound w → IsSound (record w { latest = now })
+unfolding serves_house has_apart_sessions has_lawful_opens has_lawful_locks has_lawful_caches keeps_all_limits
+moment-sound w now h = record { house = h.house; served = h.served; trees = h.trees; names = h.names; notes = h.notes; sessions = h.sessions; opens = h.opens; locks = h.locks; caches = h.caches; limits = h.limits; volumes = h.volumes }
+
+drain-sound : (w : World) (since : Option ℕ) → IsSound w → IsSound (record w { drain = since })
+unfolding serves_house has_apart_sessions has_lawful_opens has_lawful_locks has_lawful_caches keeps_all_limits
+drain-sound w since h = record { house = h.house; served = h.served; trees = h.trees; names = h.names; notes = h.notes; sessions = h.sessions; opens = h.opens; locks = h.locks; caches = h.caches; limits = h.limits; volumes = h.volumes }
+
+pub sound-keeps : Keeps IsSound
+sound-keeps = record {
+  moment = moment-sound;
+  opens = opened-sound;
+  calls = λ w s call test found passes h. effect-sound w s call test found h;
+  ends = ending-sound;
+  drains = drain-sound;
+}
+
+pub after-sound : (w : World) (e : Entry) → IsSound w → is_legal w e ≡ true → IsSound (after w e)
+after-sound w e h legal = after-keeps sound-keeps w e h
+
+pub stand-sound : (start : World) (h : List Entry) → IsSound start → is_lawful start h ≡ true → IsSound (stand start h)
+stand-sound start h sound lawful = stand-keeps sound-keeps start h sound
+
+pub fresh-sound : (house : Household) (now : ℕ) → house_fault house ≡ None → IsSound (fresh_world house now)
+fresh-sound house now none = fresh-is-sound house now none
+
+-- what is told fits in a frame
+
+abbrev is_short : Kept → Bool
+is_short kept = nat_le (length kept.answer.block) longest_block
+
+either-fits : (a b : Option Answer) (x : Answer) → ((y : Answer) → a ≡ Some y → nat_le (length y.block) longest_block ≡ true) → ((y : Answer) → b ≡ Some y → nat_le (length y.block) longest_block ≡ true) → either a b ≡ Some x → nat_le (length x.block) longest_block ≡ true
+either-fits (Some a) b x p q h = p x h
+either-fits None b x p q h = q x h
+
+kept-fits : (cache : List Kept) (r : Request) (x : Answer) → list_all is_short cache ≡ true → cached_answer cache r ≡ Some x → nat_le (length x.block) longest_block ≡ true
+kept-fits [] r x short h = absurd (cc)
+kept-fits (k ∷ ks) r x short h =
+    let e = and_parts (is_short k) (list_all is_short ks) short in
+    either-fits (cached_answer ks r) (cond (is_repeat k.request r) (Some k.answer) None) x
+    (λ y is. kept-fits ks r y e.1 is)
+    (λ y. cond_both (is_repeat k.request r) (Some k.answer) None (λ o. o ≡ Some y → nat_le (length y.block) longest_block ≡ true)
+    (λ same is. let this : k.answer ≡ y = cc in ap (λ (a : Answer). nat_le (length a.block) longest_block) (sym this) ∙ e.0)
+    (λ other is. absurd (cc)))
+    h
+
+short-cache : (cache : List Kept) → is_lawful_cache cache ≡ true → list_all is_short cache ≡ true
+short-cache cache h =
+    let e = and_parts (nat_le (length cache) most_kept) (are_apart (λ a b. is_repeat a.request b.request) cache && list_all is_short cache) h in
+    (and_parts (are_apart (λ a b. is_repeat a.request b.request) cache) (list_all is_short cache) e.1).1
+
+verdict-fits : (w : World) (s : Session) (r : Request) → is_lawful_cache s.cache ≡ true → (v : Verdict) (o : Outcome) → verdict w s r ≡ v → fits_frame (told_verdict w s v o) ≡ true
+verdict-fits w s r lawful (repeats answer) o is = kept-fits s.cache r answer (short-cache s.cache lawful) (repeats-kept w s r answer is)
+verdict-fits w s r lawful (refused code) o is = refl
+verdict-fits w s r lawful (runs call) outcome.Fault is = refl
+verdict-fits w s r lawful (runs call) outcome.Done is = effect-fits w s call
+
+call-fits : (w : World) (link : ℕ) (session : Option Session) (r : Request) (o : Outcome) → list_all (λ s. is_lawful_cache s.cache) w.sessions ≡ true → session_at w link ≡ session → fits_frame (told_call w session r o) ≡ true
+call-fits w link None r o lawful is = refl
+call-fits w link (Some s) r o lawful is =
+    verdict-fits w s r (find-all (λ x. stands_at link x.place) (λ x. is_lawful_cache x.cache) w.sessions s is lawful) (verdict w s r) o refl
+
+pulse-fits : (w : World) (link : ℕ) (session : Option Session) → fits_frame (told_pulse w link session) ≡ true
+pulse-fits w link None = cond_both (link == 0) (told.Live w.drain) told.Displaced (λ t. fits_frame t ≡ true) (λ none. refl) (λ other. refl)
+pulse-fits w link (Some s) = refl
+
+parting-fits : (session : Option Session) → fits_frame (told_parting session) ≡ true
+parting-fits None = refl
+parting-fits (Some s) = refl
+
+at-fits : (w : World) (link : ℕ) (a : Ask) (o : Outcome) → list_all (λ s. is_lawful_cache s.cache) w.sessions ≡ true → fits_frame (answer_at w link a o) ≡ true
+unfolding answer_at
+at-fits w link (ask.Open attention) o lawful = cond_both (is_full w) (refusal_reply code.NoMoreSessions) (told.Opened (link_number w.next_link)) (λ t. fits_frame t ≡ true) (λ full. refl) (λ room. refl)
+at-fits w link (ask.Call id write offset payload) o lawful = call-fits w link (session_at w link) (request id write offset payload) o lawful refl
+at-fits w link ask.Pulse o lawful = pulse-fits w link (session_at w link)
+at-fits w link ask.Bye o lawful = parting-fits (session_at w link)
+at-fits w link ask.Lost o lawful = parting-fits (session_at w link)
+at-fits w link ask.Drain o lawful = refl
+
+pub answer-fits : (w : World) (e : Entry) → IsSound w → is_legal w e ≡ true → fits_frame (answer w e) ≡ true
+answer-fits w e h legal = at-fits (at_moment w e.at) e.link.0 e.ask e.outcome (caches-parts w h.caches)
+
+-- what is told is an answer to the ask
+
+verdict-kind : (w : World) (s : Session) (id : ℕ) (write : Bool) (offset : ℕ) (payload : List ℕ) (v : Verdict) (o : Outcome) → is_answer_to (ask.Call id write offset payload) (told_verdict w s v o) ≡ true
+verdict-kind w s id write offset payload (repeats answer) o = refl
+verdict-kind w s id write offset payload (refused code) o = refl
+verdict-kind w s id write offset payload (runs call) outcome.Fault = refl
+verdict-kind w s id write offset payload (runs call) outcome.Done = refl
+
+call-kind : (w : World) (session : Option Session) (id : ℕ) (write : Bool) (offset : ℕ) (payload : List ℕ) (r : Request) (o : Outcome) → is_answer_to (ask.Call id write offset payload) (told_call w session r o) ≡ true
+call-kind w None id write offset payload r o = refl
+call-kind w (Some s) id write offset payload r o = verdict-kind w s id write offset payload (verdict w s r) o
+
+pulse-kind : (w : World) (link : ℕ) (session : Option Session) → is_answer_to ask.Pulse (told_pulse w link session) ≡ true
+pulse-kind w link None = cond_both (link == 0) (told.Live w.drain) told.Displaced (λ t. is_answer_to ask.Pulse t ≡ true) (λ none. refl) (λ other. refl)
+pulse-kind w link (Some s) = refl
+
+parting-kind : (session : Option Session) → is_parting_answer (told_parting session) ≡ true
+parting-kind None = refl
+parting-kind (Some s) = refl
+
+at-kind : (w : World) (link : ℕ) (a : Ask) (o : Outcome) → is_answer_to a (answer_at w link a o) ≡ true
+unfolding answer_at
+at-kind w link (ask.Open attention) o = cond_both (is_full w) (refusal_reply code.NoMoreSessions) (told.Opened (link_number w.next_link)) (λ t. is_answer_to (ask.Open attention) t ≡ true) (λ full. refl) (λ room. refl)
+at-kind w link (ask.Call id write offset payload) o = call-kind w (session_at w link) id write offset payload (request id write offset payload) o
+at-kind w link ask.Pulse o = pulse-kind w link (session_at w link)
+at-kind w link ask.Bye o = parting-kind (session_at w link)
+at-kind w link ask.Lost o = parting-kind (session_at w link)
+at-kind w link ask.Drain o = refl
+
+pub answer-kind : (w : World) (e : Entry) → is_answer_to e.ask (answer w e) ≡ true
+answer-kind w e = at-kind (at_moment w e.at) e.link.0 e.ask e.outcome

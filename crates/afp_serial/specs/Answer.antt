@@ -1,0 +1,153 @@
+-- The serial answer to an ask, and the world after it (this profile). In all of these the world's latest moment is already the ask's.
+use Rattle.std.specs.Prelude.{ℕ, ◌+◌, ◌==◌, nat_le, Bool, true, false, not, ◌||◌, if◌then◌else◌, List, [], ◌∷◌, ◌++◌, length, Option, None, Some}
+use Rattle.afp_base.specs.Cached.{Request}
+use Rattle.afp_base.specs.declared.code.Code.{Code}
+use Rattle.afp_base.specs.declared.code.Code.TheVariants as code
+use Rattle.afp_base.specs.declared.ids.LinkNumber.{LinkNumber}
+use Rattle.afp_serial.specs.declared.ask.Ask.{Ask}
+use Rattle.afp_serial.specs.declared.ask.Ask.TheVariants as ask
+use Rattle.afp_serial.specs.declared.ask.Entry.{Entry}
+use Rattle.afp_serial.specs.declared.ask.Outcome.{Outcome}
+use Rattle.afp_serial.specs.declared.ask.Outcome.TheVariants as outcome
+use Rattle.afp_serial.specs.declared.ask.Told.{Told}
+use Rattle.afp_serial.specs.declared.ask.Told.TheVariants as told
+use Rattle.afp_serial.specs.declared.attachment.Attachment.{Attachment}
+use Rattle.afp_serial.specs.declared.attachment.Attachment.TheVariants.{Attached, Detached}
+use Rattle.afp_serial.specs.CallRow.{Effect}
+use Rattle.afp_serial.specs.Limits.{most_sessions, links_end, detached_time}
+use Rattle.afp_serial.specs.Rows.{effect, commits}
+use Rattle.afp_serial.specs.Sessions.{session_at, ending, without_session}
+use Rattle.afp_serial.specs.Steps.{Verdict, repeats, refused, runs, verdict}
+use Rattle.afp_serial.specs.World.{World, Session, at_moment}
+
+abbrev pub link_number : ℕ → LinkNumber
+link_number n = record { 0 = n }
+
+abbrev pub request : ℕ → Bool → ℕ → List ℕ → Request
+request id write offset payload = record { id = id; write = write; offset = offset; payload = payload }
+
+-- Open
+
+-- there are 64 sessions, or the link numbers have ended
+abbrev pub is_full : World → Bool
+is_full w = nat_le most_sessions (length w.sessions) || nat_le links_end w.next_link
+
+-- a session on the link of its number, which nobody has logged in to
+abbrev pub new_session : ℕ → Session
+new_session number = record { number = number; place = Attached (link_number number); user = None; volumes = []; cache = [] }
+
+abbrev pub with_new_session : World → World
+with_new_session w = record w { next_link = w.next_link + 1; sessions = w.sessions ++ new_session w.next_link ∷ [] }
+
+-- a call, by what its steps come to
+
+-- a reply with no bytes, behind which the session goes on
+abbrev pub refusal_reply : Code → Told
+refusal_reply code = told.Reply code [] false
+
+abbrev pub effect_reply : Effect → Told
+effect_reply e = told.Reply code.Ok e.block e.ends
+
+abbrev pub told_verdict : World → Session → Verdict → Outcome → Told
+told_verdict w s (repeats answer) o = told.Reply answer.code answer.block false
+told_verdict w s (refused code) o = refusal_reply code
+told_verdict w s (runs call) outcome.Fault = refusal_reply code.MiscErr
+told_verdict w s (runs call) outcome.Done = effect_reply (effect w s call)
+
+abbrev pub after_verdict : World → Session → Verdict → Outcome → World
+after_verdict w s (repeats answer) o = w
+after_verdict w s (refused code) o = w
+after_verdict w s (runs call) outcome.Fault = w
+after_verdict w s (runs call) outcome.Done = (effect w s call).world
+
+abbrev pub told_call : World → Option Session → Request → Outcome → Told
+told_call w None r o = told.Displaced
+told_call w (Some s) r o = told_verdict w s (verdict w s r) o
+
+abbrev pub after_call : World → Option Session → Request → Outcome → World
+after_call w None r o = w
+after_call w (Some s) r o = after_verdict w s (verdict w s r) o
+
+-- A fault comes only where the call would have its effect, and its row commits or settles: so it hides no refusal.
+abbrev pub may_fault : Verdict → Bool
+may_fault (repeats answer) = false
+may_fault (refused code) = false
+may_fault (runs call) = commits call
+
+abbrev pub is_fault_legal : World → Option Session → Request → Bool
+is_fault_legal w None r = false
+is_fault_legal w (Some s) r = may_fault (verdict w s r)
+
+-- Pulse
+
+-- a session that lost its link 600 seconds ago or before
+abbrev pub is_expired : ℕ → Attachment → Bool
+is_expired now (Attached link) = false
+is_expired now (Detached moment) = nat_le (moment + detached_time) now
+
+abbrev pub swept : World → World
+swept w = ending w (λ s. not (is_expired w.latest s.place))
+
+-- link 0 is no link of a session, and asks for the sweep alone
+abbrev pub told_pulse : World → ℕ → Option Session → Told
+told_pulse w link None = if link == 0 then told.Live w.drain else told.Displaced
+told_pulse w link (Some s) = told.Live w.drain
+
+-- Bye and Lost
+
+abbrev pub told_parting : Option Session → Told
+told_parting None = told.Displaced
+told_parting (Some s) = told.Done
+
+-- The session ends, with its open forks and locks; so does one whose link was lost, since none can come back.
+abbrev pub after_parting : World → Option Session → World
+after_parting w None = w
+after_parting w (Some s) = without_session w s.number
+
+-- Drain
+
+-- since when the server is about to stop: the first such moment counts
+abbrev pub drain_moment : ℕ → Option ℕ → Option ℕ
+drain_moment now None = Some now
+drain_moment now (Some moment) = Some moment
+
+-- what an ask is told
+unfoldable pub answer_at : World → ℕ → Ask → Outcome → Told
+answer_at w link (ask.Open attention) o = if is_full w then refusal_reply code.NoMoreSessions else told.Opened (link_number w.next_link)
+answer_at w link (ask.Call id write offset payload) o = told_call w (session_at w link) (request id write offset payload) o
+answer_at w link ask.Pulse o = told_pulse w link (session_at w link)
+answer_at w link ask.Bye o = told_parting (session_at w link)
+answer_at w link ask.Lost o = told_parting (session_at w link)
+answer_at w link ask.Drain o = told.Done
+
+-- the world that it leaves
+unfoldable pub after_at : World → ℕ → Ask → Outcome → World
+after_at w link (ask.Open attention) o = if is_full w then w else with_new_session w
+after_at w link (ask.Call id write offset payload) o = after_call w (session_at w link) (request id write offset payload) o
+after_at w link ask.Pulse o = swept w
+after_at w link ask.Bye o = after_parting w (session_at w link)
+after_at w link ask.Lost o = after_parting w (session_at w link)
+after_at w link ask.Drain o = record w { drain = drain_moment w.latest w.drain }
+
+-- whether a fault may be its outcome
+unfoldable pub may_fault_at : World → ℕ → Ask → Bool
+may_fault_at w link (ask.Open attention) = false
+may_fault_at w link (ask.Call id write offset payload) = is_fault_legal w (session_at w link) (request id write offset payload)
+may_fault_at w link ask.Pulse = false
+may_fault_at w link ask.Bye = false
+may_fault_at w link ask.Lost = false
+may_fault_at w link ask.Drain = false
+
+abbrev pub answer : World → Entry → Told
+answer w e = answer_at (at_moment w e.at) e.link.0 e.ask e.outcome
+
+abbrev pub after : World → Entry → World
+after w e = after_at (at_moment w e.at) e.link.0 e.ask e.outcome
+
+abbrev pub is_legal_outcome : Bool → Outcome → Bool
+is_legal_outcome may outcome.Done = true
+is_legal_outcome may outcome.Fault = may
+
+-- An entry is legal where its outcome may come there.
+abbrev pub is_legal : World → Entry → Bool
+is_legal w e = is_legal_outcome (may_fault_at (at_moment w e.at) e.link.0 e.ask) e.outcome

@@ -1,0 +1,142 @@
+-- The laws of the serial answer, in the subject's own words (this profile).
+use Rattle.std.specs.Prelude.{◌≡◌, ◌≢◌, ◌↔◌, ◌⊎◌, ℕ, ◌+◌, ◌<◌, ◌≤◌, ◌==◌, Bool, true, false, not, ◌&&◌, List, [], ◌∷◌, ◌++◌, length, take, All, Some, None, is_none, slice_get}
+use Rattle.afp_base.specs.Cached.{Request, Answer, cached_answer}
+use Rattle.afp_base.specs.declared.code.Code.{Code}
+use Rattle.afp_base.specs.declared.code.Code.TheVariants.{MiscErr}
+use Rattle.afp_base.specs.declared.ids.LinkNumber.{LinkNumber}
+use Rattle.afp_calls.specs.Spelt.{is_command, spelt_call}
+use Rattle.afp_calls.specs.declared.call.Call.{Call}
+use Rattle.afp_serial.specs.declared.ask.Ask.{Ask}
+use Rattle.afp_serial.specs.declared.ask.Ask.TheVariants as ask
+use Rattle.afp_serial.specs.declared.ask.Entry.{Entry}
+use Rattle.afp_serial.specs.declared.ask.Outcome.TheVariants.{Fault}
+use Rattle.afp_serial.specs.declared.ask.Told.TheVariants as told
+use Rattle.afp_serial.specs.declared.attachment.Attachment.TheVariants.{Attached}
+use Rattle.afp_serial.specs.Answer.{answer, after, is_legal, link_number, new_session, request, swept}
+use Rattle.afp_serial.specs.History.{answers, is_lawful, opened_in, stand}
+use Rattle.afp_serial.specs.Household.{Household}
+use Rattle.afp_serial.specs.HouseFault.{house_fault}
+use Rattle.afp_serial.specs.Limits.{longest_block}
+use Rattle.afp_serial.specs.Rows.{commits, refusal}
+use Rattle.afp_serial.specs.Sessions.{has_session, session_at}
+use Rattle.afp_serial.specs.Shown.{is_answer_to}
+use Rattle.afp_serial.specs.Sound.{IsSound}
+use Rattle.afp_serial.specs.Steps.{block_of, enclosed_of, needs_user}
+use Rattle.afp_serial.specs.World.{World, Session, fresh_world, at_moment}
+
+-- the law of soundness: a world that nobody has used is sound, and a legal entry keeps a sound world sound
+abbrev pub StartsSound : Type 0
+StartsSound = (house : Household) (now : ℕ) → house_fault house ≡ None → IsSound (fresh_world house now)
+
+abbrev pub KeepsSound : Type 0
+KeepsSound = (w : World) (e : Entry) → IsSound w → is_legal w e ≡ true → IsSound (after w e)
+
+abbrev pub StandsSound : Type 0
+StandsSound = (start : World) (h : List Entry) → IsSound start → is_lawful start h ≡ true → IsSound (stand start h)
+
+-- the block of a reply fits in a frame
+abbrev pub FitsFrame : Type 0
+FitsFrame = (w : World) (e : Entry) (code : Code) (block : List ℕ) (ends : Bool) → IsSound w → is_legal w e ≡ true → answer w e ≡ told.Reply code block ends → length block ≤ longest_block
+
+-- what is told is an answer to the ask
+abbrev pub AnswersAsk : Type 0
+AnswersAsk = (w : World) (e : Entry) → is_answer_to e.ask (answer w e) ≡ true
+
+-- no session is attached to the link
+abbrev pub HasNoSession : World → LinkNumber → Type 0
+HasNoSession w link = All (λ s. s.place ≢ Attached link) w.sessions
+
+-- an ask of a session: a call, Bye, Lost, or Pulse on a link that is not 0
+abbrev pub is_of_session : Ask → ℕ → Bool
+is_of_session (ask.Open attention) link = false
+is_of_session (ask.Call id write offset payload) link = true
+is_of_session ask.Pulse link = not (link == 0)
+is_of_session ask.Bye link = true
+is_of_session ask.Lost link = true
+is_of_session ask.Drain link = false
+
+-- the laws of Displaced: it is told just where an ask of a session comes on a link that no session has; then nothing
+-- changes but the latest moment, and in a Pulse the sessions that are gone by then
+abbrev pub TellsDisplaced : Type 0
+TellsDisplaced = (w : World) (e : Entry) → (answer w e ≡ told.Displaced ↔ ((is_of_session e.ask e.link.0 ≡ true) × HasNoSession w e.link))
+
+abbrev pub LeavesDisplaced : Type 0
+LeavesDisplaced = (w : World) (e : Entry) → answer w e ≡ told.Displaced → e.ask ≢ ask.Pulse → after w e ≡ at_moment w e.at
+
+abbrev pub OnlySweeps : Type 0
+OnlySweeps = (w : World) (e : Entry) → e.ask ≡ ask.Pulse → after w e ≡ swept (at_moment w e.at)
+
+-- the law of repeats: where an answer is kept for a session's request it is told again, the session goes on, and nothing
+-- changes but the latest moment
+abbrev pub TellsKept : Type 0
+TellsKept =
+    (w : World) (e : Entry) (id : ℕ) (write : Bool) (offset : ℕ) (payload : List ℕ) (s : Session) (a : Answer)
+    → e.ask ≡ ask.Call id write offset payload
+    → session_at w e.link.0 ≡ Some s
+    → cached_answer s.cache (request id write offset payload) ≡ Some a
+    → (answer w e ≡ told.Reply a.code a.block false) × (after w e ≡ at_moment w e.at)
+
+-- A request of a session comes to a call: no answer is kept for it, its command is one, and may come without a user or has one,
+-- block and enclosed bytes spell the call, and the call's row does not refuse it.
+pub record ComesTo (w : World) (s : Session) (r : Request) (call : Call) : Type 0 where
+  pub new : cached_answer s.cache r ≡ None
+  pub command : ℕ
+  pub fields : List ℕ
+  pub block : block_of r ≡ command ∷ fields
+  pub known : is_command command ≡ true
+  pub user : (is_none s.user && needs_user command) ≡ false
+  pub spelt : spelt_call (block_of r) (enclosed_of r) ≡ Some call
+  pub passes : refusal w s call ≡ None
+
+-- An entry is a call that would have its effect, and whose row commits or settles; it is told MiscErr, and nothing changes
+-- but the latest moment.
+pub record FailsInPlace (w : World) (e : Entry) : Type 0 where
+  pub id : ℕ
+  pub write : Bool
+  pub offset : ℕ
+  pub payload : List ℕ
+  pub asked : e.ask ≡ ask.Call id write offset payload
+  pub session : Session
+  pub attached : session_at w e.link.0 ≡ Some session
+  pub call : Call
+  pub runs : ComesTo (at_moment w e.at) session (request id write offset payload) call
+  pub may : commits call ≡ true
+  pub answered : answer w e ≡ told.Reply MiscErr [] false
+  pub left : after w e ≡ at_moment w e.at
+
+-- the law of faults: none hides a refusal
+abbrev pub HidesNoRefusal : Type 0
+HidesNoRefusal = (w : World) (e : Entry) → e.outcome ≡ Fault → is_legal w e ≡ true → FailsInPlace w e
+
+-- The plain laws of sessions, after any entries, legal or not, from a world that nobody has used: no two sessions have one link; the
+-- n-th session that is opened has the number n, so that none is given twice; and what is opened is a new session of that number.
+abbrev pub LinksDiffer : Type 0
+LinksDiffer =
+    (house : Household) (now : ℕ) (h : List Entry) (j k : ℕ) (s t : Session) (a b : LinkNumber)
+    → j < k
+    → slice_get (stand (fresh_world house now) h).sessions j ≡ Some s
+    → slice_get (stand (fresh_world house now) h).sessions k ≡ Some t
+    → s.place ≡ Attached a
+    → t.place ≡ Attached b
+    → a ≢ b
+
+abbrev pub CountsSessions : Type 0
+CountsSessions =
+    (house : Household) (now : ℕ) (h : List Entry) (k : ℕ) (l : LinkNumber)
+    → slice_get (answers (fresh_world house now) h) k ≡ Some (told.Opened l)
+    → l.0 ≡ opened_in (fresh_world house now) (take k h) + 1
+
+abbrev pub NeverTwice : Type 0
+NeverTwice =
+    (house : Household) (now : ℕ) (h : List Entry) (j k : ℕ) (a b : LinkNumber)
+    → j < k
+    → slice_get (answers (fresh_world house now) h) j ≡ Some (told.Opened a)
+    → slice_get (answers (fresh_world house now) h) k ≡ Some (told.Opened b)
+    → a.0 < b.0
+
+abbrev pub OpensNew : Type 0
+OpensNew = (w : World) (e : Entry) (l : LinkNumber) → answer w e ≡ told.Opened l → (after w e).sessions ≡ w.sessions ++ new_session l.0 ∷ []
+
+-- A session is there after an entry only where it was there before, or has just been opened.
+abbrev pub OnlyOpens : Type 0
+OnlyOpens = (w : World) (e : Entry) (number : ℕ) → has_session (after w e).sessions number ≡ true → (has_session w.sessions number ≡ true) ⊎ (answer w e ≡ told.Opened (link_number number))

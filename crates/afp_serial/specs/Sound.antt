@@ -1,0 +1,99 @@
+-- What holds of the world at each place of a history (this profile).
+use Rattle.std.specs.Prelude.{◌≡◌, ℕ, ◌==◌, nat_le, nat_lt, Bool, true, false, ◌&&◌, List, length, map, count_by, Option, Some, None, is_none, bytes_eq}
+use Rattle.std.specs.Cmp.Lexicographic.{pointwise}
+use Rattle.std.specs.List.{list_all, list_any}
+use Rattle.afp_base.specs.Cached.{Kept, is_repeat}
+use Rattle.afp_base.specs.DenyMode.{is_one_fork, do_conflict}
+use Rattle.afp_base.specs.Overlap.{do_meet}
+use Rattle.afp_calls.specs.VolumeState.{VolumeState}
+use Rattle.afp_calls.specs.SoundVolume.{are_apart, has_file, is_tree, has_apart_names, has_noted_nodes, is_formed_volume, keeps_limits}
+use Rattle.afp_serial.specs.declared.attachment.Attachment.{Attachment}
+use Rattle.afp_serial.specs.declared.attachment.Attachment.TheVariants.{Attached, Detached}
+use Rattle.afp_serial.specs.Limits.{most_users, most_volumes, most_sessions, most_kept, most_forks, most_locks, longest_block}
+use Rattle.afp_serial.specs.HouseFault.{house_fault}
+use Rattle.afp_serial.specs.Sessions.{has_opened, is_open, volume_at}
+use Rattle.afp_serial.specs.World.{World, Session, OpenFork}
+
+-- both are attached to one link
+abbrev pub share_link : Attachment → Attachment → Bool
+share_link (Attached a) (Attached b) = a.0 == b.0
+share_link (Attached a) (Detached m) = false
+share_link (Detached m) b = false
+
+abbrev pub is_link_below : ℕ → Attachment → Bool
+is_link_below next (Attached link) = nat_lt link.0 next
+is_link_below next (Detached moment) = true
+
+-- Numbers differ, links differ, and all are below the next link number.
+unfoldable pub has_apart_sessions : World → Bool
+has_apart_sessions w =
+    are_apart (λ a b. a.number == b.number) w.sessions
+    && (are_apart (λ a b. share_link a.place b.place) w.sessions
+    && list_all (λ s. nat_lt s.number w.next_link && is_link_below w.next_link s.place) w.sessions)
+
+-- a session of that number has that volume open
+abbrev pub has_volume_open : List Session → ℕ → ℕ → Bool
+has_volume_open sessions number volume = list_any (λ s. (s.number == number) && has_opened s volume) sessions
+
+abbrev pub is_file_of : Option VolumeState → ℕ → Bool
+is_file_of None node = false
+is_file_of (Some v) node = has_file v.rows node
+
+-- the fork's session has its volume open, and its node is a file
+abbrev pub is_lawful_open : World → OpenFork → Bool
+is_lawful_open w o = has_volume_open w.sessions o.session o.fork.volume && is_file_of (volume_at w.volumes o.fork.volume) o.fork.node
+
+-- Each open fork has a reference of its own, a session that has its volume open, and a file; and no two conflict.
+unfoldable pub has_lawful_opens : World → Bool
+has_lawful_opens w =
+    are_apart (λ a b. a.reference == b.reference) w.opens
+    && (list_all (is_lawful_open w) w.opens
+    && are_apart (λ a b. do_conflict a.fork a.access b.fork b.access) w.opens)
+
+-- both references are open on one fork
+abbrev pub share_fork : List OpenFork → ℕ → ℕ → Bool
+share_fork opens a b = list_any (λ x. (x.reference == a) && list_any (λ y. (y.reference == b) && is_one_fork x.fork y.fork) opens) opens
+
+-- Each lock's reference is open, and no two locks on one fork share a byte.
+unfoldable pub has_lawful_locks : World → Bool
+has_lawful_locks w =
+    list_all (λ lock. is_open w.opens lock.reference) w.locks
+    && are_apart (λ a b. share_fork w.opens a.reference b.reference && do_meet a.range b.range) w.locks
+
+-- at most 32 answers, of requests that differ, each short enough for a frame
+abbrev pub is_lawful_cache : List Kept → Bool
+is_lawful_cache cache =
+    nat_le (length cache) most_kept
+    && (are_apart (λ a b. is_repeat a.request b.request) cache
+    && list_all (λ kept. nat_le (length kept.answer.block) longest_block) cache)
+
+unfoldable pub has_lawful_caches : World → Bool
+has_lawful_caches w = list_all (λ s. is_lawful_cache s.cache) w.sessions
+
+-- The limits of users, volumes, sessions, forks of a session, locks of a reference, and of each volume are kept.
+unfoldable pub keeps_all_limits : World → Bool
+keeps_all_limits w =
+    nat_le (length w.house.users) most_users
+    && (nat_le (length w.volumes) most_volumes
+    && (nat_le (length w.sessions) most_sessions
+    && (list_all (λ s. nat_le (count_by (λ o. o.session == s.number) w.opens) most_forks) w.sessions
+    && (list_all (λ o. nat_le (count_by (λ lock. lock.reference == o.reference) w.locks) most_locks) w.opens
+    && list_all keeps_limits w.volumes))))
+
+-- The volumes are those of the house, in its order.
+unfoldable pub serves_house : World → Bool
+serves_house w = pointwise bytes_eq (map (λ v. v.name) w.volumes) w.house.volumes
+
+-- What holds of a world at each place of a history.
+pub record IsSound (w : World) : Type 0 where
+  pub house : is_none (house_fault w.house) ≡ true
+  pub served : serves_house w ≡ true
+  pub trees : list_all is_tree w.volumes ≡ true
+  pub names : list_all has_apart_names w.volumes ≡ true
+  pub notes : list_all has_noted_nodes w.volumes ≡ true
+  pub sessions : has_apart_sessions w ≡ true
+  pub opens : has_lawful_opens w ≡ true
+  pub locks : has_lawful_locks w ≡ true
+  pub caches : has_lawful_caches w ≡ true
+  pub limits : keeps_all_limits w ≡ true
+  pub volumes : list_all is_formed_volume w.volumes ≡ true

@@ -1,0 +1,41 @@
+//! Laws of the serial answer. Each function says one, and does nothing.
+ghost use Rattle.afp_serial.specs.Laws as laws;
+
+/// A world that nobody has used is sound. A legal entry keeps a sound world sound, and so does a history of such. What is told is an
+/// answer to the ask, and a reply's block fits in a frame: it has at most 131,072 bytes.
+pub fn sound_worlds_stay_sound()
+    ensures starts { laws.StartsSound }
+    ensures keeps { laws.KeepsSound }
+    ensures stands { laws.StandsSound }
+    ensures answers { laws.AnswersAsk }
+    ensures fits { laws.FitsFrame }
+{}
+
+/// Displaced is told just where an ask of a session comes on a link that no session has. Then nothing changes but the latest moment,
+/// and in a Pulse the sessions that are gone by then.
+pub fn displaced_changes_nothing()
+    ensures told { laws.TellsDisplaced }
+    ensures left { laws.LeavesDisplaced }
+    ensures swept { laws.OnlySweeps }
+{}
+
+/// An answer that is kept is told again, not ending, and nothing changes but the latest moment.
+pub fn kept_answer_is_told_again()
+    ensures { laws.TellsKept }
+{}
+
+/// A fault comes only where a call would have its effect, so it hides no refusal. It is told MiscErr, and nothing changes but the
+/// latest moment.
+pub fn fault_hides_no_refusal()
+    ensures { laws.HidesNoRefusal }
+{}
+
+/// After any entries, legal or not, from a world that nobody has used: no two sessions have one link, and the n-th session that is
+/// opened has the number n, so that none is given twice. A session is there only since it was opened.
+pub fn session_numbers_are_given_once()
+    ensures links { laws.LinksDiffer }
+    ensures counted { laws.CountsSessions }
+    ensures once { laws.NeverTwice }
+    ensures new { laws.OpensNew }
+    ensures only { laws.OnlyOpens }
+{}
