@@ -1,0 +1,5 @@
+pub mod SessionLemmas
+pub mod RowLemmas
+pub mod SpellingLemmas
+pub mod AskLemmas
+pub mod TurnLemmas

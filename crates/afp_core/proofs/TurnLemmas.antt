@@ -1,0 +1,123 @@
+-- Turns, and the histories that a core stands for.
+use Rattle.std.proofs.Common.{◌≡◌, ◌∙◌, ap, sym, refl, ℕ, ◌==◌, ◌+◌, Bool, true, false, ◌&&◌, cond, List, [], ◌∷◌, ◌++◌, length, count_by, nat_lt, arith, length-append, Option, Some, None}
+use Rattle.std.specs.List.{list_all}
+use Rattle.std.proofs.lemmas.Bool.{and_parts, ltb-true, ne_eqb, true≢false}
+use Rattle.std.proofs.lemmas.List.Sums.{sum_by-append}
+use Rattle.afp_base.specs.Cached.{Request}
+use Rattle.afp_base.specs.declared.ids.LinkNumber.{LinkNumber}
+use Rattle.afp_serial.specs.declared.ask.Ask.{Ask}
+use Rattle.afp_serial.specs.declared.ask.Ask.TheVariants as ask
+use Rattle.afp_serial.specs.declared.ask.Entry.{Entry}
+use Rattle.afp_serial.specs.declared.ask.Outcome.{Outcome}
+use Rattle.afp_serial.specs.declared.ask.Outcome.TheVariants as outcome
+use Rattle.afp_serial.specs.declared.ask.Told.{Told}
+use Rattle.afp_serial.specs.declared.ask.Told.TheVariants.{Opened, Reply, Live, Done, Displaced, Memory}
+use Rattle.afp_serial.specs.Answer.{after, answer, answer_at, is_full, is_legal, link_number, refusal_reply, told_call, told_parting, told_pulse, told_verdict}
+use Rattle.afp_base.specs.declared.code.Code.TheVariants.{NoMoreSessions}
+use Rattle.afp_serial.specs.History.{answers, entry, is_lawful, is_opened, opened_in, stand}
+use Rattle.afp_serial.specs.Sessions.{has_session, session_at}
+use Rattle.afp_serial.specs.Sound.{IsSound, has_apart_sessions, is_link_below}
+use Rattle.afp_serial.specs.Steps.{Verdict, refused, repeats, runs, verdict}
+use Rattle.afp_serial.specs.World.{World, Session}
+use Rattle.afp_serial.proofs.Grows.{lawful-snoc, stand-append}
+use Rattle.afp_core.specs.Counted.{IsCounted}
+use Rattle.afp_core.specs.Standing.{Standing}
+use Rattle.afp_core.specs.Turn.{IsNextFree, TakesTurn, Turned}
+
+-- the next link number is no session's
+below-fresh : (xs : List Session) (n : ℕ) → list_all (λ s. nat_lt s.number n && is_link_below n s.place) xs ≡ true → has_session xs n ≡ false
+below-fresh [] n h = refl
+below-fresh (s ∷ xs) n h =
+    let both = and_parts _ _ h in
+    let lower = and_parts _ _ both.0 in
+    let less = ltb-true s.number n lower.0 in
+    rw (ne_eqb s.number n (λ e. omega (arith, less, e))) (below-fresh xs n both.1)
+
+pub next-free : (w : World) → IsSound w → IsNextFree w
+unfolding has_apart_sessions
+next-free w sound = below-fresh w.sessions w.next_link (and_parts _ _ (and_parts _ _ sound.sessions).1).1
+
+-- an entry is never told Memory
+abbrev pub is_memory : Told → Bool
+is_memory (Opened l) = false
+is_memory (Reply code block ends) = false
+is_memory (Live drain) = false
+is_memory Done = false
+is_memory Displaced = false
+is_memory Memory = true
+
+verdict-told : (w : World) (s : Session) (v : Verdict) (o : Outcome) → is_memory (told_verdict w s v o) ≡ false
+verdict-told w s (repeats answer) o = refl
+verdict-told w s (refused code) o = refl
+verdict-told w s (runs call) outcome.Fault = refl
+verdict-told w s (runs call) outcome.Done = refl
+
+call-told : (w : World) (s : Option Session) (r : Request) (o : Outcome) → is_memory (told_call w s r o) ≡ false
+call-told w None r o = refl
+call-told w (Some s) r o = verdict-told w s (verdict w s r) o
+
+pulse-told : (w : World) (link : ℕ) (s : Option Session) → is_memory (told_pulse w link s) ≡ false
+pulse-told w link (Some s) = refl
+pulse-told w link None = by (link == 0)
+  where
+    by : (b : Bool) → is_memory (cond b (Live w.drain) Displaced) ≡ false
+    by true = refl
+    by false = refl
+
+parting-told : (s : Option Session) → is_memory (told_parting s) ≡ false
+parting-told None = refl
+parting-told (Some s) = refl
+
+answer_at-told : (w : World) (link : ℕ) (asked : Ask) (o : Outcome) → is_memory (answer_at w link asked o) ≡ false
+unfolding answer_at
+answer_at-told w link (ask.Open attention) o = by (is_full w)
+  where
+    by : (b : Bool) → is_memory (cond b (refusal_reply NoMoreSessions) (Opened (link_number w.next_link))) ≡ false
+    by true = refl
+    by false = refl
+answer_at-told w link (ask.Call id write offset payload) o = call-told w (session_at w link) _ o
+answer_at-told w link ask.Pulse o = pulse-told w link (session_at w link)
+answer_at-told w link ask.Bye o = parting-told (session_at w link)
+answer_at-told w link ask.Lost o = parting-told (session_at w link)
+answer_at-told w link ask.Drain o = refl
+
+pub answer-told : (w : World) (e : Entry) (told : Told) → told ≡ answer w e → told ≡ Memory → ⊥
+answer-told w e told is none = true≢false (ap is_memory (sym none) ∙ ap is_memory is ∙ answer_at-told _ _ _ _)
+
+-- a step, as a turn by what it is told
+pub turned-takes : (c d : Standing) (now : ℕ) (link : LinkNumber) (asked : Ask) (told : Told) (o : Outcome) → Turned c (entry now link asked o) told d → TakesTurn c now link asked told d
+turned-takes c d now link asked (Opened l) o t = (o, t)
+turned-takes c d now link asked (Reply code block ends) o t = (o, t)
+turned-takes c d now link asked (Live drain) o t = (o, t)
+turned-takes c d now link asked Done o t = (o, t)
+turned-takes c d now link asked Displaced o t = (o, t)
+turned-takes c d now link asked Memory o t = absurd (answer-told c.world (entry now link asked o) Memory t.serial refl)
+
+-- a turn at the end of a history that the core stands for
+module _ (start : World) (h : List Entry) (c d : Standing) (e : Entry) (told : Told) (stands : c.world ≡ stand start h) (t : Turned c e told d) where
+  pub turn-stands : d.world ≡ stand start (h ++ e ∷ [])
+  turn-stands = t.world ∙ ap (λ (w : World). after w e) stands ∙ sym (stand-append start h (e ∷ []))
+
+  pub turn-lawful : is_lawful start h ≡ true → is_lawful start (h ++ e ∷ []) ≡ true
+  turn-lawful l = lawful-snoc start h e l (ap (λ (w : World). is_legal w e) (sym stands) ∙ t.legal)
+
+  pub turn-tells : told ≡ answer (stand start h) e
+  turn-tells = t.serial ∙ ap (λ (w : World). answer w e) stands
+
+-- counts at the end of a history
+answers-append : (w : World) (h : List Entry) (e : Entry) → answers w (h ++ e ∷ []) ≡ answers w h ++ answer (stand w h) e ∷ []
+answers-append w [] e = refl
+answers-append w (x ∷ xs) e = ap (λ (l : List Told). answer w x ∷ l) (answers-append (after w x) xs e)
+
+opened-append : (w : World) (h : List Entry) (e : Entry) → opened_in w (h ++ e ∷ []) ≡ opened_in w h + count_by is_opened (answer (stand w h) e ∷ [])
+opened-append w h e = ap (count_by is_opened) (answers-append w h e) ∙ sum_by-append (λ t. cond (is_opened t) 1 0) (answers w h) (answer (stand w h) e ∷ [])
+
+pub turn-counted : (start c d : Standing) (h : List Entry) (e : Entry) (told : Told) → c.world ≡ stand start.world h → Turned c e told d → IsCounted start h c → IsCounted start (h ++ e ∷ []) d
+turn-counted start c d h e told stands t counts =
+    let longer : length (h ++ e ∷ []) ≡ length h + 1 = length-append h (e ∷ []) in
+    let more : opened_in start.world (h ++ e ∷ []) ≡ opened_in start.world h + count_by is_opened (told ∷ []) =
+    opened-append start.world h e ∙ ap (λ (x : Told). opened_in start.world h + count_by is_opened (x ∷ [])) (sym (turn-tells start.world h c d e told stands t)) in
+    record {
+      entries = omega (arith, longer, t.entries, counts.entries);
+      opened = omega (arith, more, t.opened, counts.opened);
+    }

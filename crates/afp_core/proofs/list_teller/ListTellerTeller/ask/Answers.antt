@@ -1,0 +1,63 @@
+use Rattle.std.proofs.Common.{◌≡◌, ◌∙◌, ◌∷◌, ◌++◌, [], ap, sym, refl, subst, true, ◌+◌, List, length, append-nil, arith}
+use Rattle.afp_base.specs.Counts.{Rises}
+use Rattle.afp_serial.specs.Answer.{answer}
+use Rattle.afp_serial.specs.History.{entry, fault_of, is_lawful, stand}
+use Rattle.afp_serial.specs.Sound.{IsSound}
+use Rattle.afp_serial.specs.Shown.{fits_frame, is_answer_to}
+use Rattle.afp_serial.specs.declared.ask.Ask.{Ask}
+use Rattle.afp_serial.specs.declared.ask.Entry.{Entry}
+use Rattle.afp_serial.specs.declared.ask.Outcome.{Outcome}
+use Rattle.afp_serial.proofs.Grows.{asked-adds}
+use Rattle.afp_serial.proofs.StaysSound.{answer-fits, answer-kind, stand-sound}
+use Rattle.afp_core.specs.Counted.{IsCounted}
+use Rattle.afp_core.specs.Places.{upto, upto-longer}
+use Rattle.afp_core.proofs.TurnLemmas.{answer-told, turn-counted, turn-lawful, turn-stands, turn-tells}
+use Rattle.afp_core.proofs.list_teller.ListTellerTeller.ask.Goals as goal
+
+pub invariant_of-self-in-Ok-step : goal.invariant_of-self-in-Ok-step
+invariant_of-self-in-Ok-step c =
+    let begin = c.args.self.now.start.value in
+    let h = c.args.self.now.entries.items in
+    let e : Entry = entry c.args.now c.args.link c.args.ask c.in-Ok-step.outcome in
+    let kept = ap (λ (a : Ask). entry c.args.now c.args.link a c.in-Ok-step.outcome) c.in-Ok.ensures in
+    let items = c.push_reserved.ensures.items ∙ (λ i. c.reserve.ensures.items i ++ kept i ∷ []) in
+    let stands = c.args.self.now.stands in
+    record {
+      sound = c.args.self.now.sound;
+      lawful = subst (λ (l : List Entry). is_lawful begin.world l ≡ true) (sym items) (turn-lawful begin.world h c.args.self.now.core c.step.new.self e c.in-Ok-step.told stands c.in-Ok-step.ensures c.args.self.now.lawful);
+      stands = turn-stands begin.world h c.args.self.now.core c.step.new.self e c.in-Ok-step.told stands c.in-Ok-step.ensures ∙ ap (stand begin.world) (sym items);
+      counted = subst (λ (l : List Entry). IsCounted begin l c.step.new.self) (sym items)
+          (turn-counted begin c.args.self.now.core c.step.new.self h e c.in-Ok-step.told stands c.in-Ok-step.ensures c.args.self.now.counted);
+    }
+
+pub returns-in-Ok-step-clause-asked : goal.returns-in-Ok-step-clause-asked
+returns-in-Ok-step-clause-asked c =
+    let begin = c.args.self.now.start.value.world in
+    let h = c.args.self.now.entries.items in
+    let e : Entry = entry c.args.now c.args.link c.args.ask c.in-Ok-step.outcome in
+    let kept = ap (λ (a : Ask). entry c.args.now c.args.link a c.in-Ok-step.outcome) c.in-Ok.ensures in
+    let items = c.push_reserved.ensures.items ∙ (λ i. c.reserve.ensures.items i ++ kept i ∷ []) in
+    let t = c.in-Ok-step.ensures in
+    let none : h ≡ h ++ [] = sym (append-nil h) in
+    asked-adds _ _ c.args.now c.args.link c.args.ask c.in-Ok-step.told (answer-told c.args.self.now.core.world e c.in-Ok-step.told t.serial) record {
+      between = [];
+      outcome = c.in-Ok-step.outcome;
+      start = refl;
+      history = items ∙ ap (λ (l : List Entry). l ++ e ∷ []) none;
+      mine = ap (λ (l : List Entry). upto (length l)) items ∙ upto-longer h e ∙ ap (λ (l : List Entry). upto (length h) ++ length l ∷ []) none;
+      serial = turn-tells begin h c.args.self.now.core c.step.new.self e c.in-Ok-step.told c.args.self.now.stands t ∙ ap (λ (l : List Entry). answer (stand begin l) e) none;
+      faults = subst (λ (o : Outcome). Rises (fault_of o + 0) 0 0) (sym t.faultless) (omega arith, omega arith);
+    }
+
+pub returns-in-Ok-step-clause-answers : goal.returns-in-Ok-step-clause-answers
+returns-in-Ok-step-clause-answers c =
+    let e : Entry = entry c.args.now c.args.link c.args.ask c.in-Ok-step.outcome in
+    ap (is_answer_to c.args.ask) c.in-Ok-step.ensures.serial ∙ answer-kind c.args.self.now.core.world e
+
+pub returns-in-Ok-step-clause-size : goal.returns-in-Ok-step-clause-size
+returns-in-Ok-step-clause-size c =
+    let begin = c.args.self.now.start.value.world in
+    let h = c.args.self.now.entries.items in
+    let e : Entry = entry c.args.now c.args.link c.args.ask c.in-Ok-step.outcome in
+    let sound = subst IsSound (sym c.args.self.now.stands) (stand-sound begin h c.args.self.now.sound c.args.self.now.lawful) in
+    ap fits_frame c.in-Ok-step.ensures.serial ∙ answer-fits c.args.self.now.core.world e sound c.in-Ok-step.ensures.legal

@@ -1,0 +1,22 @@
+//! FPCloseVol (AFP Reference, "FPCloseVol").
+ghost use Rattle.std.specs.Prelude.{◌≡◌, Ok};
+ghost use Rattle.afp_calls.specs.declared.call.Call.{Call};
+ghost use Rattle.afp_core.specs.Turn.{RunsRow};
+
+use crate::replies::{done, refused};
+use crate::state::State;
+use afp_base::{Bytes, Code, SessionNumber, VolumeId};
+use afp_serial::Told;
+
+impl State {
+    /// Closes a volume that the session has open.
+    pub(crate) fn close_vol(&mut self, session: SessionNumber, volume: VolumeId) -> Told
+        ensures { RunsRow self.old session.0 (Call.CloseVol volume) (Ok result) self.new }
+    {
+        if !self.sessions.has_volume(session, volume) {
+            return refused(self.alloc, Code::ParamErr);
+        }
+        self.sessions.close_volume(session, volume);
+        done(Bytes::new(self.alloc))
+    }
+}

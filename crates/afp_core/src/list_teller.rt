@@ -1,0 +1,93 @@
+//! A teller that stores its history.
+ghost use Rattle.std.specs.Prelude.{◌≡◌, true};
+ghost use Rattle.afp_serial.specs.History.{is_lawful, stand};
+ghost use Rattle.afp_serial.specs.Sound.{IsSound};
+ghost use Rattle.afp_core.specs.Counted.{IsCounted};
+
+use crate::turn::Core;
+use afp_base::{LinkNumber, Moment};
+use afp_serial::{Ask, Entry, Teller, Told};
+use std::alloc::Global;
+use std::snapshot::Snapshot;
+
+/// A core, and every entry of its history since it came here.
+#[derive(Drop)]
+pub struct ListTeller {
+    start: Snapshot<Core>,
+    core: Core,
+    entries: Vec<Entry>,
+    pub ghost sound: { IsSound start.value.world },
+    pub ghost lawful: { is_lawful start.value.world entries.items ≡ true },
+    pub ghost stands: { core.world ≡ stand start.value.world entries.items },
+    pub ghost counted: { IsCounted start.value entries.items core },
+}
+
+impl ListTeller {
+    ghost use Rattle.std.specs.Prelude.{[]};
+    ghost use Rattle.afp_core.specs.Telling.{start_of, core_of, history_of};
+
+    /// A teller that begins at the core's world, with no history.
+    pub fn new(alloc: Global, core: Core) -> ListTeller
+        ensures start { start_of result ≡ core }
+        ensures core { core_of result ≡ core }
+        ensures history { history_of result ≡ [] }
+    {
+        ListTeller {
+            start: Snapshot::of(&core),
+            core,
+            entries: Vec::new(alloc),
+        }
+    }
+
+    /// The history.
+    pub fn entries(&self) -> &[Entry]
+        ensures { result.now ≡ history_of self.now }
+    {
+        self.entries.as_slice()
+    }
+
+    /// The core. Its world is what the history makes of the world at the start, and its counts went on by the history.
+    pub fn core(&self) -> &Core
+        ensures value { result.now ≡ core_of self.now }
+        ensures stands { result.now.world ≡ stand (start_of self.now).world (history_of self.now) }
+        ensures counted { IsCounted (start_of self.now) (history_of self.now) result.now }
+    {
+        &self.core
+    }
+}
+
+impl Teller for ListTeller {
+    ghost use Rattle.std.specs.Prelude.{length};
+    ghost use Rattle.afp_core.specs.Places.{upto-within};
+    ghost use Rattle.afp_core.specs.Telling.{start_of, shown_of};
+
+    /// The core as it was at the start.
+    type Fixed = Core;
+
+    ghost fixed = { λ t. start_of t };
+
+    ghost shown = { λ t. shown_of t };
+
+    ghost sound = { λ t. record { start = t.sound; lawful = t.lawful; within = upto-within (length t.entries.items) } };
+
+    fn ask(&mut self, now: Moment, link: LinkNumber, ask: Ask) -> Told {
+        if self.entries.reserve(1).is_err() {
+            return Told::Memory;
+        }
+        let Ok(kept) = ask.copy() else {
+            return Told::Memory;
+        };
+        match self.core.step(now, link, ask) {
+            Ok((told, outcome)) => {
+                self.entries.push_reserved(Entry {
+                    link,
+                    at: now,
+                    ask: kept,
+                    outcome,
+                });
+                told
+            }
+            Err(_) => Told::Memory,
+        }
+    }
+}

@@ -1,0 +1,58 @@
+//! FPLogin (AFP Reference, "FPLogin").
+ghost use Rattle.std.specs.Prelude.{◌≡◌, Ok, bytes_eq};
+ghost use Rattle.std.specs.List.{list_any};
+ghost use Rattle.afp_calls.specs.declared.call.Call.{Call};
+ghost use Rattle.afp_serial.specs.StatusBlock.{versions};
+ghost use Rattle.afp_core.specs.Turn.{RunsRow};
+
+use crate::replies::{done, refused};
+use crate::state::State;
+use afp_base::{Bytes, Code, SessionNumber};
+use afp_serial::Told;
+
+/// The UAM by which anybody may log in.
+const NO_USER: &str = "No User Authent";
+
+/// The id of who logs in by it.
+const GUEST_ID: u32 = 500;
+
+/// The AFP versions that the server speaks.
+const VERSION_3_3: &str = "AFP3.3";
+
+const VERSION_3_2: &str = "AFP3.2";
+
+const VERSION_3_1: &str = "AFP3.1";
+
+impl State {
+    /// Logs the user without a name in to a session that has no user.
+    pub(crate) fn login(
+        &mut self,
+        session: SessionNumber,
+        version: &[u8],
+        uam: &[u8],
+        _tail: &[u8],
+    ) -> Told
+        ensures { RunsRow self.old session.0 (Call.Login version.now uam.now _tail.now) (Ok result) self.new }
+    {
+        if self.sessions.has_user(session) {
+            return refused(self.alloc, Code::ParamErr);
+        }
+        if !is_version(version) {
+            return refused(self.alloc, Code::BadVersNum);
+        }
+        if uam != NO_USER.as_bytes() {
+            return refused(self.alloc, Code::BadUAM);
+        }
+        self.sessions.set_user(session, GUEST_ID);
+        done(Bytes::new(self.alloc))
+    }
+}
+
+/// Whether the server speaks the version.
+fn is_version(version: &[u8]) -> bool
+    ensures { result ≡ list_any (bytes_eq version.now) versions }
+{
+    version == VERSION_3_3.as_bytes()
+        || version == VERSION_3_2.as_bytes()
+        || version == VERSION_3_1.as_bytes()
+}

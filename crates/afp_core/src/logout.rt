@@ -1,0 +1,22 @@
+//! FPLogout (AFP Reference, "FPLogout").
+ghost use Rattle.std.specs.Prelude.{◌≡◌, Ok};
+ghost use Rattle.afp_calls.specs.declared.call.Call.{Call};
+ghost use Rattle.afp_core.specs.Turn.{RunsRow};
+
+use crate::state::State;
+use afp_base::{Bytes, Code, SessionNumber};
+use afp_serial::Told;
+
+impl State {
+    /// Ends the session.
+    pub(crate) fn logout(&mut self, session: SessionNumber) -> Told
+        ensures { RunsRow self.old session.0 Call.Logout (Ok result) self.new }
+    {
+        self.sessions.end(session);
+        Told::Reply {
+            code: Code::Ok,
+            block: Bytes::new(self.alloc),
+            ends: true,
+        }
+    }
+}

@@ -1,0 +1,91 @@
+//! The steps by which a request is decided before its call's row.
+ghost use Rattle.std.specs.Prelude.{◌≡◌, ℕ, Bool, false, ◌&&◌, not};
+ghost use Rattle.std.specs.Option.{option_copied};
+ghost use Rattle.afp_serial.specs.Answer.{request};
+ghost use Rattle.afp_serial.specs.Steps.{needs_user};
+ghost use Rattle.afp_core.specs.Spelling.{first_needs_user, IsJudged, IsSpelled};
+
+use afp_base::Code;
+use afp_calls::{Call, ReadFault, read_call};
+use std::alloc::Global;
+
+/// Numbers of commands (AFP Reference, "AFP Commands").
+const GET_SRVR_INFO: u8 = 15;
+
+const LOGIN: u8 = 18;
+
+const LOGOUT: u8 = 20;
+
+const LOGIN_EXT: u8 = 63;
+
+/// The commands that ask for no user.
+const COMMANDS_WITHOUT_USER: [u8; 4] = [GET_SRVR_INFO, LOGIN, LOGOUT, LOGIN_EXT];
+
+/// Why a request comes to no call: it is refused, or there is no memory.
+#[derive(Clone, Copy, Debug, PartialEq, Eq)]
+pub enum Stop {
+    Refused(Code),
+    Memory,
+}
+
+/// The call that a request of a session spells; `has_user`: somebody has logged in to the session.
+pub fn spelled_call(
+    alloc: Global,
+    has_user: bool,
+    write: bool,
+    offset: u32,
+    payload: &[u8],
+) -> Result<Call, Stop>
+    ensures { (id : ℕ) → IsSpelled has_user (request id write offset payload.now) result }
+{
+    if write {
+        let (block, data) = payload.split_at((offset as usize).min(payload.len()));
+        judged_call(alloc, has_user, block, Some(data))
+    } else {
+        judged_call(alloc, has_user, payload, None)
+    }
+}
+
+/// The same of a block, and the bytes that are enclosed in a Write.
+fn judged_call(
+    alloc: Global,
+    has_user: bool,
+    block: &[u8],
+    enclosed: Option<&[u8]>,
+) -> Result<Call, Stop>
+    ensures { IsJudged has_user block.now (option_copied enclosed.entry) result }
+{
+    match read_call(alloc, block, enclosed) {
+        Ok(call) => {
+            if !has_user && first_needs_user(block) {
+                return Err(Stop::Refused(Code::UserNotAuth));
+            }
+            Ok(call)
+        }
+        Err(ReadFault::Param) => {
+            if !has_user && first_needs_user(block) {
+                return Err(Stop::Refused(Code::UserNotAuth));
+            }
+            Err(Stop::Refused(Code::ParamErr))
+        }
+        Err(ReadFault::NotSupported) => Err(Stop::Refused(Code::CallNotSupported)),
+        Err(ReadFault::Memory) => Err(Stop::Memory),
+    }
+}
+
+/// Whether the block begins with a command that asks for a user.
+fn first_needs_user(block: &[u8]) -> bool
+    ensures { result ≡ first_needs_user block.now }
+{
+    match block.first() {
+        Some(command) => needs_user(*command),
+        None => false,
+    }
+}
+
+/// Whether a command asks for a user.
+fn needs_user(command: u8) -> bool
+    ensures { result ≡ needs_user command }
+{
+    !COMMANDS_WITHOUT_USER.iter().any(|other| *other == command)
+}

@@ -1,0 +1,151 @@
+//! The state of the server: what it is set up with, moments, links and sessions.
+ghost use Rattle.std.specs.Prelude.{◌≡◌, ℕ, Ok};
+ghost use Rattle.afp_serial.specs.Answer.{told_pulse};
+ghost use Rattle.afp_serial.specs.Sessions.{session_at};
+ghost use Rattle.afp_serial.specs.World.{fresh_world};
+ghost use Rattle.afp_serial.specs.declared.ask.Ask.{Ask};
+ghost use Rattle.afp_core.specs.Turn.{IsNextFree, Runs, RunsAt, RunsOpen, RunsPart};
+
+use crate::link_numbers::LinkNumbers;
+use crate::moments::later;
+use crate::replies::refused;
+use crate::sessions::Sessions;
+use afp_base::{Code, LinkNumber, Moment, OutOfMemory};
+use afp_serial::{Ask, House, Told};
+use std::alloc::Global;
+use std::marker::Model;
+
+/// The most sessions.
+const MOST_SESSIONS: usize = 64;
+
+/// The state of the server.
+///
+/// Contracts see it as its world. No call changes a volume yet: its volumes are those of its house, as they were made.
+#[derive(Drop)]
+pub struct State {
+    pub(crate) alloc: Global,
+    pub(crate) house: House,
+    pub(crate) made: Moment,
+    pub(crate) latest: Moment,
+    pub(crate) drain: Option<Moment>,
+    pub(crate) links: LinkNumbers,
+    pub(crate) sessions: Sessions,
+}
+
+impl Model for State {
+    ghost use Rattle.afp_serial.specs.World.{World};
+    ghost use Rattle.afp_core.specs.Standing.{quiet_world};
+
+    ghost Value = { World };
+
+    ghost view = { λ a. quiet_world a.house a.made a.latest a.drain a.links a.sessions };
+}
+
+impl State {
+    /// The state of a house that nobody has used.
+    pub fn new(alloc: Global, house: House, now: Moment) -> State
+        ensures { result ≡ fresh_world house now }
+    {
+        State {
+            alloc,
+            house,
+            made: now,
+            latest: now,
+            drain: None,
+            links: LinkNumbers::new(),
+            sessions: Sessions::new(alloc),
+        }
+    }
+
+    /// Answers an ask. Without memory nothing changes; only `Open` and `Call` take some.
+    pub fn turn(&mut self, now: Moment, link: LinkNumber, ask: Ask) -> Result<Told, OutOfMemory>
+        requires { IsNextFree self.old }
+        ensures { Runs self.old now link ask result self.new }
+    {
+        let moment = later(self.latest, now);
+        let told = self.turn_at(moment, link, ask)?;
+        self.latest = moment;
+        Ok(told)
+    }
+
+    /// Answers an ask at a moment, all but that the moment becomes the latest.
+    fn turn_at(&mut self, moment: Moment, link: LinkNumber, ask: Ask) -> Result<Told, OutOfMemory>
+        requires { IsNextFree self.old }
+        ensures { RunsAt self.old moment link.0 ask result self.new }
+    {
+        match ask {
+            Ask::Open { .. } => self.open(),
+            Ask::Call {
+                id: _,
+                write,
+                offset,
+                payload,
+            } => self.call(link, write, offset, payload.as_slice()),
+            Ask::Pulse => Ok(self.pulse(moment, link)),
+            Ask::Bye | Ask::Lost => Ok(self.part(link)),
+            Ask::Drain => Ok(self.drain(moment)),
+        }
+    }
+
+    /// Opens a session on the next link.
+    fn open(&mut self) -> Result<Told, OutOfMemory>
+        requires { IsNextFree self.old }
+        ensures { RunsOpen self.old result self.new }
+    {
+        let Some(link) = self.links.next() else {
+            return Ok(refused(self.alloc, Code::NoMoreSessions));
+        };
+        if self.sessions.len() >= MOST_SESSIONS {
+            return Ok(refused(self.alloc, Code::NoMoreSessions));
+        }
+        self.sessions.open(link)?;
+        self.links.draw();
+        Ok(Told::Opened { link })
+    }
+
+    /// Ends the sessions that lost their links too long ago, and tells whether the link's session lives.
+    /// Link 0 is no link of a session.
+    fn pulse(&mut self, moment: Moment, link: LinkNumber) -> Told
+        ensures { RunsAt self.old moment link.0 Ask.Pulse (Ok result) self.new }
+    {
+        let told = self.told_pulse(link);
+        self.sessions.sweep(moment);
+        told
+    }
+
+    /// Whether the link's session lives, and since when the server is about to stop.
+    fn told_pulse(&self, link: LinkNumber) -> Told
+        ensures { result ≡ told_pulse self.now link.0 (session_at self.now link.0) }
+    {
+        if link.0 == 0 {
+            return Told::Live { drain: self.drain };
+        }
+        match self.sessions.at(link) {
+            Some(_) => Told::Live { drain: self.drain },
+            None => Told::Displaced,
+        }
+    }
+
+    /// Ends the link's session.
+    fn part(&mut self, link: LinkNumber) -> Told
+        ensures { RunsPart self.old link.0 result self.new }
+    {
+        match self.sessions.at(link) {
+            Some(session) => {
+                self.sessions.end(session);
+                Told::Done
+            }
+            None => Told::Displaced,
+        }
+    }
+
+    /// The server is about to stop: the first such moment counts.
+    fn drain(&mut self, moment: Moment) -> Told
+        ensures { (link : ℕ) → RunsAt self.old moment link Ask.Drain (Ok result) self.new }
+    {
+        if self.drain.is_none() {
+            self.drain = Some(moment);
+        }
+        Told::Done
+    }
+}
