@@ -1,0 +1,13 @@
+pub mod Buffers
+pub mod Moving
+pub mod Rows
+pub mod Traces
+pub mod Serving
+pub mod Moments
+pub mod Scripts
+pub mod WireLemmas
+pub mod FrameSteps
+pub mod ReadSteps
+pub mod ScriptLaws
+pub mod Completeness
+pub mod TestTeller

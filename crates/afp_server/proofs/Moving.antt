@@ -1,0 +1,87 @@
+-- A link moves on from step to step.
+use Rattle.std.proofs.Common.{◌≡◌, ℕ, ◌+◌, ◌≤◌, List, [], ◌∷◌, ◌++◌, length, refl, sym, ap, ◌∙◌, append_assoc, append-nil, length-append, take, drop, ◌-◌, length-drop, arith}
+use Rattle.std.proofs.lemmas.List.{take-append-drop, take_all}
+use Rattle.std.specs.Prelude.{Option, Some, None, option_map}
+use Rattle.afp_outside.specs.Link.{Event, piece, quiet, taken, LinkState, WritesPiece}
+use Rattle.afp_server.specs.LinkRun.{quiets_in, cost_of, Moves}
+use Rattle.afp_server.specs.Sending.{Sends}
+
+pub added-none : {X : Type 0} (o : Option (List X)) → o ≡ option_map (λ before. before ++ []) o
+added-none None = refl
+added-none (Some xs) = ap Some (sym (append-nil xs))
+
+pub added-added : {X : Type 0} (o : Option (List X)) (xs ys : List X) → option_map (λ before. before ++ ys) (option_map (λ before. before ++ xs) o) ≡ option_map (λ before. before ++ (xs ++ ys)) o
+added-added None xs ys = refl
+added-added (Some zs) xs ys = ap Some (append_assoc zs xs ys)
+
+pub left-none : (o : Option (List ℕ)) → o ≡ option_map (λ left. [] ++ left) o
+left-none None = refl
+left-none (Some xs) = refl
+
+pub left-left : (o : Option (List ℕ)) (xs ys : List ℕ) → option_map (λ left. xs ++ left) (option_map (λ left. ys ++ left) o) ≡ option_map (λ left. (xs ++ ys) ++ left) o
+left-left None xs ys = refl
+left-left (Some zs) xs ys = ap Some (sym (append_assoc xs ys zs))
+
+pub taken-append : (es fs : List Event) → taken (es ++ fs) ≡ taken es ++ taken fs
+taken-append [] fs = refl
+taken-append (piece written now bytes ∷ es) fs = ap (λ rest. bytes ++ rest) (taken-append es fs) ∙ sym (append_assoc bytes (taken es) (taken fs))
+taken-append (quiet written now ∷ es) fs = taken-append es fs
+
+pub quiets_in-append : (es fs : List Event) → quiets_in (es ++ fs) ≡ quiets_in es + quiets_in fs
+quiets_in-append [] fs = omega arith
+quiets_in-append (piece written now bytes ∷ es) fs = quiets_in-append es fs
+quiets_in-append (quiet written now ∷ es) fs = omega (arith, quiets_in-append es fs)
+
+pub cost_of-append : (es fs : List Event) → cost_of (es ++ fs) ≡ cost_of es + cost_of fs
+cost_of-append es fs = omega (arith, quiets_in-append es fs, ap length (taken-append es fs), length-append (taken es) (taken fs))
+
+pub moves-none : (a : LinkState) → Moves a [] [] a
+moves-none a = record {
+  told = added-none a.events;
+  coming = left-none a.coming;
+  written = added-none a.written;
+  quiets = (omega arith, omega arith, omega arith);
+  read_faults = omega arith;
+  write_faults = omega arith;
+}
+
+pub moves-join : (a b c : LinkState) (es fs : List Event) (wrote more : List ℕ) → Moves a es wrote b → Moves b fs more c → Moves a (es ++ fs) (wrote ++ more) c
+moves-join a b c es fs wrote more one two = record {
+  told = two.told ∙ ap (λ o. option_map (λ before. before ++ fs) o) one.told ∙ added-added a.events es fs;
+  coming = one.coming ∙ ap (λ o. option_map (λ left. taken es ++ left) o) two.coming ∙ left-left c.coming (taken es) (taken fs)
+      ∙ ap (λ bytes. option_map (λ left. bytes ++ left) c.coming) (sym (taken-append es fs));
+  written = two.written ∙ ap (λ o. option_map (λ before. before ++ more) o) one.written ∙ added-added a.written wrote more;
+  quiets = (omega arith, omega (arith, quiets_in-append es fs), omega (arith, quiets_in-append es fs));
+  read_faults = omega arith;
+  write_faults = omega arith;
+}
+
+-- what a write does is a move
+pub moves-write : (a b : LinkState) (offered : List ℕ) (n : ℕ) → WritesPiece a offered n b → Moves a [] (take n offered) b
+moves-write a b offered n w = record {
+  told = w.events ∙ added-none a.events;
+  coming = sym w.coming ∙ left-none b.coming;
+  written = w.written;
+  quiets = (omega (arith, w.quiets), omega (arith, w.quiets), omega (arith, w.quiets));
+  read_faults = w.read_faults;
+  write_faults = w.write_faults;
+}
+
+pub cut_at : (xs : List ℕ) (n : ℕ) → n ≤ length xs → xs ≡ take n xs ++ take (length xs - n) (drop n xs)
+cut_at xs n h = sym (take-append-drop n xs) ∙ ap (λ ys. take n xs ++ ys) (sym (take_all (length xs - n) (drop n xs) (omega (arith, length-drop n xs))))
+
+pub sends-join : (a b c : LinkState) (sent more : List ℕ) → Sends a sent b → Sends b more c → Sends a (sent ++ more) c
+sends-join a b c sent more one two = record {
+  moves = moves-join a b c [] [] sent more one.moves two.moves;
+  ended = two.ended ∙ one.ended;
+  now = two.now ∙ one.now;
+  heard = two.heard ∙ one.heard;
+}
+
+pub sends-more : (a b c : LinkState) (offered sent left : List ℕ) (n : ℕ) → offered ≡ sent ++ left → Sends a sent b → WritesPiece b left n c
+    → (x : List ℕ) × (offered ≡ x ++ take (length left - n) (drop n left)) × Sends a x c
+sends-more a b c offered sent left n split so_far w = (
+  sent ++ take n left,
+  split ∙ ap (λ rest. sent ++ rest) (cut_at left n w.most) ∙ sym (append_assoc sent (take n left) (take (length left - n) (drop n left))),
+  sends-join a b c sent (take n left) so_far (record { moves = moves-write b c left n w; ended = w.ended; now = w.now; heard = w.heard }),
+)

@@ -1,0 +1,200 @@
+-- The rows of the session machine.
+use Rattle.std.proofs.Common.{◌≡◌, ◌≢◌, ℕ, ◌≤◌, ◌<◌, Bool, true, false, List, [], ◌∷◌, refl, sym, ap, ◌∙◌, subst, append-nil}
+use Rattle.std.specs.Prelude.{Option, Some, None, MatchBool}
+use Rattle.afp_base.specs.declared.code.Code.{Code}
+use Rattle.afp_base.specs.declared.code.Code.TheVariants as code
+use Rattle.afp_base.specs.declared.ids.LinkNumber.{LinkNumber}
+use Rattle.afp_serial.specs.declared.ask.Ask.{Ask}
+use Rattle.afp_serial.specs.declared.ask.Ask.TheVariants as asks
+use Rattle.afp_serial.specs.declared.ask.Told.{Told}
+use Rattle.afp_serial.specs.declared.ask.Told.TheVariants as tells
+use Rattle.afp_serial.specs.Shown.{Shown, is_answer_to}
+use Rattle.afp_serial.specs.Went.{Step, step, Went}
+use Rattle.afp_serial.proofs.Grows.{went-none}
+use Rattle.dsi_frame.specs.Frame.{Frame, canonical_frame}
+use Rattle.afp_server.specs.Calls.{CallTold}
+use Rattle.afp_server.specs.Did.{Did}
+use Rattle.afp_server.specs.OpenSession.{OpenTold, option_bytes}
+use Rattle.afp_server.specs.Replies.{reply_to, listed, spelling_of}
+use Rattle.afp_server.specs.Script.{ReplyDoes, FrameDoes, Does}
+use Rattle.afp_server.specs.SessionState.{SessionState, Acts, CalledBy, PulseTold, RestsBy, IsCall, IsCallAnswer, IsOpenAnswer}
+use Rattle.dsi_session.specs.Pulse.{silence_limit, seconds_between}
+use Rattle.afp_server.specs.declared.stage.Rest.{Rest}
+use Rattle.afp_server.specs.declared.stage.Rest.TheVariants as rests
+use Rattle.afp_server.specs.Trace.{RestsOn}
+use Rattle.afp_server.specs.declared.stage.Stage.{Stage}
+use Rattle.afp_server.specs.declared.stage.Stage.TheVariants.{Fresh, Open, Closing}
+use Rattle.afp_server.specs.declared.stage.FrameEnd.TheVariants as ends
+
+pub true_part : (P Q : Type 0) (b : Bool) → b ≡ true → MatchBool b P Q → P
+true_part P Q true is p = p
+true_part P Q false is p = absurd (cc is)
+
+pub false_part : (P Q : Type 0) (b : Bool) → b ≡ false → MatchBool b P Q → Q
+false_part P Q true is q = absurd (cc is)
+false_part P Q false is q = q
+
+-- a frame's row, by the phase
+
+pub does-reply : (block : List ℕ) (now : ℕ) (stage : Stage) (f : Frame) (did : Did) → stage ≢ Closing → f.reply ≡ true → ReplyDoes f.command stage did → Does block now stage f did
+does-reply block now Fresh f did live is row = subst (λ (r : Bool). FrameDoes block now Fresh r f did) (sym is) row
+does-reply block now (Open link) f did live is row = subst (λ (r : Bool). FrameDoes block now (Open link) r f did) (sym is) row
+does-reply block now Closing f did live is row = absurd (live refl)
+
+-- nothing was asked
+
+pub went-nothing : (a : Shown) (steps : List Step) → steps ≡ [] → Went a steps a
+went-nothing a steps none = subst (λ (ss : List Step). Went a ss a) (sym none) (went-none a)
+
+pub acts-still : (old new : SessionState) (a : Shown) (did : Did) → new.block ≡ old.block → new.stage ≡ did.stage → new.reply ≡ [] → did.steps ≡ [] → did.reply ≡ None
+    → Acts old a did new a
+acts-still old new a did block stage reply steps none =
+    let nothing : new.reply ≡ spelling_of (listed did.reply) = reply ∙ sym (ap (λ (r : Option Frame). spelling_of (listed r)) none) in
+    record { state = λ i. record { block = block i; stage = stage i; reply = nothing i }; went = went-nothing a did.steps steps }
+
+pub replied : (f : Frame) (o : Option Frame) → o ≡ Some f → canonical_frame f ≡ spelling_of (listed o)
+replied f o is = sym (append-nil (canonical_frame f)) ∙ sym (ap (λ (r : Option Frame). spelling_of (listed r)) is)
+
+pub acts-replies : (old new : SessionState) (a : Shown) (did : Did) (f : Frame) → new.block ≡ old.block → new.stage ≡ did.stage → new.reply ≡ canonical_frame f → did.steps ≡ [] → did.reply ≡ Some f
+    → Acts old a did new a
+acts-replies old new a did f block stage reply steps some =
+    let bytes : new.reply ≡ spelling_of (listed did.reply) = reply ∙ replied f did.reply some in
+    record { state = λ i. record { block = block i; stage = stage i; reply = bytes i }; went = went-nothing a did.steps steps }
+
+-- some was
+
+pub acts-asks : (old new : SessionState) (a b : Shown) (did : Did) → new.block ≡ old.block → new.stage ≡ did.stage → new.reply ≡ spelling_of (listed did.reply) → Went a did.steps b
+    → Acts old a did new b
+acts-asks old new a b did block stage reply went = record { state = λ i. record { block = block i; stage = stage i; reply = reply i }; went = went }
+
+-- what an Open is told
+
+pub opened-session : (f : Frame) (t : Told) (link : LinkNumber) (payload : List ℕ) (new : SessionState) → t ≡ tells.Opened link → payload ≡ option_bytes → new.stage ≡ Open link
+    → new.reply ≡ canonical_frame (reply_to f code.Ok payload) → (x : Frame) × OpenTold f t (Some x) new.stage × (new.reply ≡ canonical_frame x)
+opened-session f t link payload new is same stage reply = (
+  reply_to f code.Ok option_bytes,
+  subst (λ (u : Told). OpenTold f u (Some (reply_to f code.Ok option_bytes)) new.stage) (sym is) (refl, stage),
+  reply ∙ ap (λ (p : List ℕ). canonical_frame (reply_to f code.Ok p)) same,
+)
+
+pub opened-refused : (f : Frame) (t : Told) (c : Code) (block payload : List ℕ) (e : Bool) (new : SessionState) → t ≡ tells.Reply c block e → payload ≡ block → new.stage ≡ Fresh
+    → new.reply ≡ canonical_frame (reply_to f c payload) → (x : Frame) × OpenTold f t (Some x) new.stage × (new.reply ≡ canonical_frame x)
+opened-refused f t c block payload e new is same stage reply = (
+  reply_to f c block,
+  subst (λ (u : Told). OpenTold f u (Some (reply_to f c block)) new.stage) (sym is) (refl, stage),
+  reply ∙ ap (λ (p : List ℕ). canonical_frame (reply_to f c p)) same,
+)
+
+pub opened-memory : (f : Frame) (t : Told) (new : SessionState) → t ≡ tells.Memory → new.stage ≡ Fresh
+    → new.reply ≡ canonical_frame (reply_to f code.NoMemory []) → (x : Frame) × OpenTold f t (Some x) new.stage × (new.reply ≡ canonical_frame x)
+opened-memory f t new is stage reply = (
+  reply_to f code.NoMemory [],
+  subst (λ (u : Told). OpenTold f u (Some (reply_to f code.NoMemory [])) new.stage) (sym is) (refl, stage),
+  reply,
+)
+
+-- what a call is told
+
+pub called-ends : (f : Frame) (t : Told) (c : Code) (block payload : List ℕ) (e : Bool) (old new : SessionState) → t ≡ tells.Reply c block e → e ≡ true → payload ≡ block → new.stage ≡ Closing
+    → new.reply ≡ canonical_frame (reply_to f c payload) → new.block ≡ old.block → (reply : Option Frame) × CalledBy f t reply old new (Some ends.Closed)
+called-ends f t c block payload e old new is ends_it same stage reply kept = (
+  Some (reply_to f c block),
+  record {
+    called = λ link at. subst (λ (u : Told). CallTold f link u (Some (reply_to f c block)) new.stage (Some ends.Closed)) (sym (is ∙ ap (λ (b : Bool). tells.Reply c block b) ends_it)) (refl, stage, refl);
+    replied = reply ∙ ap (λ (p : List ℕ). canonical_frame (reply_to f c p)) same ∙ replied (reply_to f c block) (Some (reply_to f c block)) refl;
+    block = kept;
+    goes_on = tt;
+  },
+)
+
+pub called-goes_on : (f : Frame) (t : Told) (c : Code) (block payload : List ℕ) (e : Bool) (old new : SessionState) → t ≡ tells.Reply c block e → e ≡ false → payload ≡ block
+    → new ≡ record { block = old.block; stage = old.stage; reply = canonical_frame (reply_to f c payload) } → (reply : Option Frame) × CalledBy f t reply old new None
+called-goes_on f t c block payload e old new is stays same state = (
+  Some (reply_to f c block),
+  record {
+    called = λ link at. subst (λ (u : Told). CallTold f link u (Some (reply_to f c block)) new.stage None) (sym (is ∙ ap (λ (b : Bool). tells.Reply c block b) stays)) (refl, ap (λ (s : SessionState). s.stage) state ∙ at, refl);
+    replied = ap (λ (s : SessionState). s.reply) state ∙ ap (λ (p : List ℕ). canonical_frame (reply_to f c p)) same ∙ replied (reply_to f c block) (Some (reply_to f c block)) refl;
+    block = ap (λ (s : SessionState). s.block) state;
+    goes_on = ap (λ (s : SessionState). s.stage) state;
+  },
+)
+
+pub called-memory : (f : Frame) (t : Told) (old new : SessionState) → t ≡ tells.Memory
+    → new ≡ record { block = old.block; stage = old.stage; reply = canonical_frame (reply_to f code.NoMemory []) } → (reply : Option Frame) × CalledBy f t reply old new None
+called-memory f t old new is state = (
+  Some (reply_to f code.NoMemory []),
+  record {
+    called = λ link at. subst (λ (u : Told). CallTold f link u (Some (reply_to f code.NoMemory [])) new.stage None) (sym is) (refl, ap (λ (s : SessionState). s.stage) state ∙ at, refl);
+    replied = ap (λ (s : SessionState). s.reply) state ∙ replied (reply_to f code.NoMemory []) (Some (reply_to f code.NoMemory [])) refl;
+    block = ap (λ (s : SessionState). s.block) state;
+    goes_on = ap (λ (s : SessionState). s.stage) state;
+  },
+)
+
+pub called-displaced : (f : Frame) (t : Told) (old new : SessionState) → t ≡ tells.Displaced → old.reply ≡ []
+    → new ≡ record { block = old.block; stage = Closing; reply = old.reply } → (reply : Option Frame) × CalledBy f t reply old new (Some ends.Displaced)
+called-displaced f t old new is unreplied state = (
+  None,
+  record {
+    called = λ link at. subst (λ (u : Told). CallTold f link u None new.stage (Some ends.Displaced)) (sym is) (refl, ap (λ (s : SessionState). s.stage) state, refl);
+    replied = ap (λ (s : SessionState). s.reply) state ∙ unreplied;
+    block = ap (λ (s : SessionState). s.block) state;
+    goes_on = tt;
+  },
+)
+
+-- what may be told
+
+pub call-told : (a : Ask) (t : Told) → IsCall a → is_answer_to a t ≡ true → IsCallAnswer t
+call-told (asks.Call id write offset payload) t is may = may
+call-told (asks.Open attention) t is may = absurd is
+call-told asks.Pulse t is may = absurd is
+call-told asks.Bye t is may = absurd is
+call-told asks.Lost t is may = absurd is
+call-told asks.Drain t is may = absurd is
+
+pub open-told : (n : ℕ) (a : Ask) (t : Told) → a ≡ asks.Open n → is_answer_to a t ≡ true → IsOpenAnswer t
+open-told n a t is may = subst (λ (x : Ask). is_answer_to x t ≡ true) is may
+
+-- a quiet
+
+pub rests-silent : (heard now : ℕ) (s : SessionState) (a : Shown) → silence_limit ≤ seconds_between heard now → RestsBy heard now s a rests.Silent s a
+rests-silent heard now s a long = record { steps = []; rests = (long, refl, refl); block = refl; went = went-none a }
+
+pub rests-fresh : (heard now : ℕ) (s : SessionState) (a : Shown) → s.stage ≡ Fresh → seconds_between heard now < silence_limit → RestsBy heard now s a rests.On s a
+rests-fresh heard now s a is short =
+    record { steps = []; rests = (short, subst (λ (stage : Stage). RestsOn now stage [] stage) (sym is) (refl, refl)); block = refl; went = went-none a }
+
+rests-on : (heard now : ℕ) (link : LinkNumber) (old new : SessionState) (a b : Shown) (t : Told) (rest : Rest) → old.stage ≡ Open link → seconds_between heard now < silence_limit
+    → t ≢ tells.Displaced → rest ≡ rests.On → new ≡ old → Went a (step now link asks.Pulse t ∷ []) b → RestsBy heard now old a rest new b
+rests-on heard now link old new a b t rest at short other on same went =
+    let stays : new.stage ≡ Open link = ap (λ (s : SessionState). s.stage) same ∙ at in
+    subst (λ (r : Rest). RestsBy heard now old a r new b) (sym on) record {
+      steps = step now link asks.Pulse t ∷ [];
+      rests = (short, subst (λ (stage : Stage). RestsOn now stage (step now link asks.Pulse t ∷ []) new.stage) (sym at) (t, refl, other, stays));
+      block = ap (λ (s : SessionState). s.block) same;
+      went = went;
+    }
+
+pub rests-pulse : (heard now : ℕ) (link : LinkNumber) (old new : SessionState) (a b : Shown) (t : Told) (rest : Rest) → old.stage ≡ Open link → seconds_between heard now < silence_limit
+    → PulseTold t old rest new → Went a (step now link asks.Pulse t ∷ []) b → RestsBy heard now old a rest new b
+rests-pulse heard now link old new a b tells.Displaced rest at short told went =
+    subst (λ (r : Rest). RestsBy heard now old a r new b) (sym told.0) record {
+      steps = step now link asks.Pulse tells.Displaced ∷ [];
+      rests = (short, record { link = link; in_session = at; asks = refl; closes = ap (λ (s : SessionState). s.stage) told.1 });
+      block = ap (λ (s : SessionState). s.block) told.1;
+      went = went;
+    }
+rests-pulse heard now link old new a b (tells.Opened l) rest at short told went = rests-on heard now link old new a b _ rest at short (λ e. cc e) told.0 told.1 went
+rests-pulse heard now link old new a b (tells.Reply c block e) rest at short told went = rests-on heard now link old new a b _ rest at short (λ e. cc e) told.0 told.1 went
+rests-pulse heard now link old new a b (tells.Live drain) rest at short told went = rests-on heard now link old new a b _ rest at short (λ e. cc e) told.0 told.1 went
+rests-pulse heard now link old new a b tells.Done rest at short told went = rests-on heard now link old new a b _ rest at short (λ e. cc e) told.0 told.1 went
+rests-pulse heard now link old new a b tells.Memory rest at short told went = rests-on heard now link old new a b _ rest at short (λ e. cc e) told.0 told.1 went
+
+pub pulse-live : (t : Told) (link : LinkNumber) (old new : SessionState) (rest : Rest) → old.stage ≡ Open link → PulseTold t old rest new → rest ≡ rests.On → new.stage ≢ Closing
+pulse-live tells.Displaced link old new rest at told on = absurd (cc (told.0, on))
+pulse-live (tells.Opened l) link old new rest at told on = λ e. let s = ap (λ (x : SessionState). x.stage) told.1 in cc (s, at, e)
+pulse-live (tells.Reply c block x) link old new rest at told on = λ e. let s = ap (λ (x : SessionState). x.stage) told.1 in cc (s, at, e)
+pulse-live (tells.Live drain) link old new rest at told on = λ e. let s = ap (λ (x : SessionState). x.stage) told.1 in cc (s, at, e)
+pulse-live tells.Done link old new rest at told on = λ e. let s = ap (λ (x : SessionState). x.stage) told.1 in cc (s, at, e)
+pulse-live tells.Memory link old new rest at told on = λ e. let s = ap (λ (x : SessionState). x.stage) told.1 in cc (s, at, e)

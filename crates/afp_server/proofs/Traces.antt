@@ -1,0 +1,117 @@
+-- Traces that grow at their end.
+use Rattle.std.proofs.Common.{◌≡◌, ℕ, List, [], ◌∷◌, ◌++◌, refl, sym, ap, ◌∙◌, subst, append_assoc, append-nil}
+use Rattle.std.specs.Prelude.{Option, Some, None, MatchOption}
+use Rattle.afp_outside.specs.Link.{Event, piece, quiet, taken}
+use Rattle.afp_serial.specs.Went.{Step}
+use Rattle.dsi_frame.specs.Frame.{Frame, IsSpelling}
+use Rattle.dsi_frame.specs.Stream.{Spelled}
+use Rattle.dsi_frame.specs.Frame.{canonical_frame}
+use Rattle.afp_server.specs.Did.{Did}
+use Rattle.afp_server.specs.LinkRun.{MayRead, EachMayRead, Fills, came_in}
+use Rattle.afp_server.specs.Replies.{listed, spelling_of}
+use Rattle.afp_server.specs.Trace.{Happening, came, rested, handled, events_in, frames_in, replies_in, steps_in, Standing, Cause, Takes, Follows}
+use Rattle.afp_server.proofs.Moving.{taken-append}
+
+pub events_in-append : (a b : List Happening) → events_in (a ++ b) ≡ events_in a ++ events_in b
+events_in-append [] b = refl
+events_in-append (came w n bytes ∷ a) b = ap (λ (es : List Event). piece w n bytes ∷ es) (events_in-append a b)
+events_in-append (rested w n steps ∷ a) b = ap (λ (es : List Event). quiet w n ∷ es) (events_in-append a b)
+events_in-append (handled f did ∷ a) b = events_in-append a b
+
+pub frames_in-append : (a b : List Happening) → frames_in (a ++ b) ≡ frames_in a ++ frames_in b
+frames_in-append [] b = refl
+frames_in-append (came w n bytes ∷ a) b = frames_in-append a b
+frames_in-append (rested w n steps ∷ a) b = frames_in-append a b
+frames_in-append (handled f did ∷ a) b = ap (λ (fs : List Frame). f ∷ fs) (frames_in-append a b)
+
+pub replies_in-append : (a b : List Happening) → replies_in (a ++ b) ≡ replies_in a ++ replies_in b
+replies_in-append [] b = refl
+replies_in-append (came w n bytes ∷ a) b = replies_in-append a b
+replies_in-append (rested w n steps ∷ a) b = replies_in-append a b
+replies_in-append (handled f did ∷ a) b = ap (λ (fs : List Frame). listed did.reply ++ fs) (replies_in-append a b) ∙ sym (append_assoc (listed did.reply) (replies_in a) (replies_in b))
+
+pub steps_in-append : (a b : List Happening) → steps_in (a ++ b) ≡ steps_in a ++ steps_in b
+steps_in-append [] b = refl
+steps_in-append (came w n bytes ∷ a) b = steps_in-append a b
+steps_in-append (rested w n steps ∷ a) b = ap (λ (ss : List Step). steps ++ ss) (steps_in-append a b) ∙ sym (append_assoc steps (steps_in a) (steps_in b))
+steps_in-append (handled f did ∷ a) b = ap (λ (ss : List Step). did.steps ++ ss) (steps_in-append a b) ∙ sym (append_assoc did.steps (steps_in a) (steps_in b))
+
+pub came_in-append : (a b : List Happening) → came_in (a ++ b) ≡ came_in a ++ came_in b
+came_in-append a b = ap taken (events_in-append a b) ∙ taken-append (events_in a) (events_in b)
+
+pub spelling_of-append : (frames others : List Frame) → spelling_of (frames ++ others) ≡ spelling_of frames ++ spelling_of others
+spelling_of-append [] others = refl
+spelling_of-append (f ∷ frames) others = ap (λ (b : List ℕ). canonical_frame f ++ b) (spelling_of-append frames others) ∙ sym (append_assoc (canonical_frame f) (spelling_of frames) (spelling_of others))
+
+-- one frame more, at the end
+
+pub replies-one : (trace : List Happening) (f : Frame) (did : Did) → replies_in (trace ++ handled f did ∷ []) ≡ replies_in trace ++ listed did.reply
+replies-one trace f did = replies_in-append trace (handled f did ∷ []) ∙ ap (λ (fs : List Frame). replies_in trace ++ fs) (append-nil (listed did.reply))
+
+pub steps-one : (trace : List Happening) (f : Frame) (did : Did) → steps_in (trace ++ handled f did ∷ []) ≡ steps_in trace ++ did.steps
+steps-one trace f did = steps_in-append trace (handled f did ∷ []) ∙ ap (λ (ss : List Step). steps_in trace ++ ss) (append-nil did.steps)
+
+pub events-one : (trace : List Happening) (f : Frame) (did : Did) → events_in (trace ++ handled f did ∷ []) ≡ events_in trace
+events-one trace f did = events_in-append trace (handled f did ∷ []) ∙ append-nil (events_in trace)
+
+pub sent-one : (trace : List Happening) (f : Frame) (did : Did) → spelling_of (replies_in (trace ++ handled f did ∷ [])) ≡ spelling_of (replies_in trace) ++ spelling_of (listed did.reply)
+sent-one trace f did = ap spelling_of (replies-one trace f did) ∙ spelling_of-append (replies_in trace) (listed did.reply)
+
+-- one step more
+
+follows-next : (block : List ℕ) (mid b c : Standing) (trace more : List Happening) (o why : Option Cause)
+    → (Follows block mid trace b None → Follows block mid more c why)
+    → MatchOption o (Follows block mid trace b None) (λ x. (trace ≡ []) × (b ≡ mid) × ((let none : Option Cause = None in none) ≡ Some x))
+    → MatchOption o (Follows block mid more c why) (λ x. (more ≡ []) × (c ≡ mid) × (why ≡ Some x))
+follows-next block mid b c trace more None why step rest = step rest
+follows-next block mid b c trace more (Some x) why step rest = absurd (cc (rest.2))
+
+pub follows-snoc : (block : List ℕ) (a b c : Standing) (trace : List Happening) (h : Happening) (why : Option Cause)
+    → Follows block a trace b None → Takes block b h c why → Follows block a (trace ++ h ∷ []) c why
+follows-snoc block a b c [] h None f t = (c, None, subst (λ (s : Standing). Takes block s h c None) f.0 t, (refl, refl))
+follows-snoc block a b c [] h (Some x) f t = (c, Some x, subst (λ (s : Standing). Takes block s h c (Some x)) f.0 t, (refl, refl, refl))
+follows-snoc block a b c (g ∷ trace) h why f t =
+    (f.0, f.1, f.2, follows-next block f.0 b c trace (trace ++ h ∷ []) f.1 why (λ r. follows-snoc block f.0 b c trace h why r t) f.3)
+
+-- what a happening asks of the reads
+abbrev pub MayHappen : ℕ → Option (List ℕ) → List Happening → Happening → Type 0
+MayHappen turns written before (came past now bytes) = MayRead turns written before (piece past now bytes)
+MayHappen turns written before (rested past now steps) = MayRead turns written before (quiet past now)
+MayHappen turns written before (handled f did) = Unit {0}
+
+pub each-snoc : (turns : ℕ) (written : Option (List ℕ)) (before trace : List Happening) (h : Happening) → EachMayRead turns written before trace
+    → MayHappen turns written (before ++ trace) h → EachMayRead turns written before (trace ++ h ∷ [])
+each-snoc turns written before [] (came past now bytes) each may = (subst (λ (b : List Happening). MayRead turns written b (piece past now bytes)) (append-nil before) may, tt)
+each-snoc turns written before [] (rested past now steps) each may = (subst (λ (b : List Happening). MayRead turns written b (quiet past now)) (append-nil before) may, tt)
+each-snoc turns written before [] (handled f did) each may = tt
+each-snoc turns written before (came past now bytes ∷ trace) h each may =
+    (each.0, each-snoc turns written (before ++ came past now bytes ∷ []) trace h each.1 (subst (λ (b : List Happening). MayHappen turns written b h) (sym (append_assoc before (came past now bytes ∷ []) trace)) may))
+each-snoc turns written before (rested past now steps ∷ trace) h each may =
+    (each.0, each-snoc turns written (before ++ rested past now steps ∷ []) trace h each.1 (subst (λ (b : List Happening). MayHappen turns written b h) (sym (append_assoc before (rested past now steps ∷ []) trace)) may))
+each-snoc turns written before (handled f did ∷ trace) h each may =
+    each-snoc turns written (before ++ handled f did ∷ []) trace h each (subst (λ (b : List Happening). MayHappen turns written b h) (sym (append_assoc before (handled f did ∷ []) trace)) may)
+
+-- frames that fill bytes
+
+pub spelled-append : (frames others : List Frame) (bytes more : List ℕ) → Spelled bytes frames → Spelled more others → Spelled (bytes ++ more) (frames ++ others)
+spelled-append [] others bytes more empty rest = rw empty rest
+spelled-append (f ∷ frames) others bytes more s rest =
+    (s.0, s.1 ++ more, ap (λ (b : List ℕ). b ++ more) s.2 ∙ append_assoc s.0 s.1 more, s.3, spelled-append frames others s.1 more s.4 rest)
+
+pub fills-none : (bytes : List ℕ) → Fills bytes [] bytes
+fills-none bytes = record { filled = []; spelled = refl; whole = refl }
+
+pub fills-one : (bytes left first more : List ℕ) (frames : List Frame) (f : Frame) → Fills bytes frames left → IsSpelling first f → left ≡ first ++ more → Fills bytes (frames ++ f ∷ []) more
+fills-one bytes left first more frames f s spelling whole = record {
+  filled = s.filled ++ first;
+  spelled = spelled-append frames (f ∷ []) s.filled first s.spelled (first, [], sym (append-nil first), spelling, refl);
+  whole = s.whole ∙ ap (λ (b : List ℕ). s.filled ++ b) whole ∙ sym (append_assoc s.filled first more);
+}
+
+-- what comes later stands behind what is left
+pub fills-later : (bytes left later : List ℕ) (frames : List Frame) → Fills bytes frames left → Fills (bytes ++ later) frames (left ++ later)
+fills-later bytes left later frames s = record {
+  filled = s.filled;
+  spelled = s.spelled;
+  whole = ap (λ (b : List ℕ). b ++ later) s.whole ∙ append_assoc s.filled left later;
+}

@@ -1,0 +1,24 @@
+use Rattle.std.proofs.Common.{ap, ◌∙◌, []}
+use Rattle.dsi_frame.specs.Frame.{frame_of}
+use Rattle.afp_server.specs.SessionState.{SessionState}
+use Rattle.afp_server.proofs.Rows.{called-ends, called-goes_on, called-memory}
+use Rattle.afp_server.proofs.session.Session.called.Goals as goal
+
+pub returns-then-ends : goal.returns-then-ends
+returns-then-ends c = record {
+  called =
+      called-ends (frame_of c.args.request.now []) c.args.told c.in-Reply.code c.in-Reply.block c.as_slice.result.now c.in-Reply.ends c.args.self.now c.close.new.self
+      c.in-Reply.is c.if-ends.true c.as_slice.ensures (ap (λ (s : SessionState). s.stage) c.close.ensures)
+      (ap (λ (s : SessionState). s.reply) c.close.ensures ∙ ap (λ (s : SessionState). s.reply) c.answer.ensures)
+      (ap (λ (s : SessionState). s.block) c.close.ensures ∙ ap (λ (s : SessionState). s.block) c.answer.ensures);
+}
+
+pub returns-in-Reply : goal.returns-in-Reply
+returns-in-Reply c = record {
+  called =
+      called-goes_on (frame_of c.args.request.now []) c.args.told c.in-Reply.code c.in-Reply.block c.as_slice.result.now c.in-Reply.ends c.args.self.now c.answer.new.self
+      c.in-Reply.is c.if-ends.false c.as_slice.ensures c.answer.ensures;
+}
+
+pub returns-in-Memory : goal.returns-in-Memory
+returns-in-Memory c = record { called = called-memory (frame_of c.args.request.now []) c.args.told c.args.self.now c.answer-in-Memory.new.self c.in-Memory.is c.answer-in-Memory.ensures }

@@ -1,0 +1,17 @@
+use Rattle.std.proofs.Common.{[], refl, ap}
+use Rattle.std.specs.Prelude.{None}
+use Rattle.dsi_frame.specs.Frame.{Frame, frame_of}
+use Rattle.afp_server.specs.Did.{Did}
+use Rattle.afp_server.specs.SessionState.{SessionState}
+use Rattle.afp_server.proofs.Rows.{acts-still, does-reply}
+use Rattle.afp_server.proofs.session.Session.handle.Goals as goal
+
+pub returns-then-header-clause-handles : goal.returns-then-header-clause-handles
+returns-then-header-clause-handles g c =
+    let f : Frame = frame_of c.args.header.now c.args.payload.now in
+    let did : Did = record { steps = []; reply = None; stage = c.args.self.now.stage; end = c.reply_end.result } in (
+      did,
+      does-reply c.args.self.now.block c.args.now c.args.self.now.stage f did c.requires c.if-header.true (c.reply_end.ensures c.args.self.now.stage),
+      acts-still c.args.self.now _ (g.T.Teller.shown c.args.teller.now) did (ap (λ (s : SessionState). s.block) c.self.view_is) (ap (λ (s : SessionState). s.stage) c.self.view_is) refl refl refl,
+      refl,
+    )

@@ -1,0 +1,23 @@
+use Rattle.std.proofs.Common.{refl}
+use Rattle.std.specs.Prelude.{Option, Some, None, IfNone}
+use Rattle.afp_server.specs.Wire.{FeedStart}
+use Rattle.afp_server.proofs.WireLemmas.{fed-none}
+use Rattle.afp_server.proofs.wire.Wire.feed.Goals as goal
+
+if_none : {X : Type 0} (o : Option X) (P : Type 0) → P → IfNone o P
+if_none None P p = p
+if_none (Some x) P p = tt
+
+pub returns-clause-feeds : goal.returns-clause-feeds
+returns-clause-feeds g c =
+    rw (← c.self.view_is) (if_none c.self.inside.end _ (λ bytes past given.
+    let start : FeedStart = record {
+      block = c.self.inside.session.block;
+      now = c.args.now;
+      bytes = bytes;
+      past = past;
+      stage = c.self.inside.session.stage;
+      out = c.args.out.now;
+      shown = g.T.Teller.shown c.args.teller.now;
+    } in
+    c.feed_piece-end.ensures.feeds start refl refl (fed-none start c.self.inside.deframer given)))

@@ -1,0 +1,15 @@
+pub mod Calls
+pub mod CloseSession
+pub mod Complete
+pub mod Did
+pub mod GetStatus
+pub mod LinkRun
+pub mod OpenSession
+pub mod Replies
+pub mod Script
+pub mod SessionState
+pub mod Trace
+pub mod Reading
+pub mod Sending
+pub mod Serving
+pub mod Wire

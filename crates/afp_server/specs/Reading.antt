@@ -1,0 +1,28 @@
+-- What one read does to a deframer and a link (this profile).
+use Rattle.std.specs.Prelude.{◌≡◌, ℕ, ◌+◌, ◌≤◌, List, ◌++◌, length, take}
+use Rattle.afp_outside.specs.Link.{LinkState, ReadsPiece, ReadsQuiet, ReadsEnd, FailsToRead}
+use Rattle.afp_outside.specs.declared.link.Heard.{Heard}
+use Rattle.afp_outside.specs.declared.link.Heard.TheVariants as heard
+use Rattle.dsi_frame.specs.Buffered.{Buffered, buffer_length}
+
+-- The n bytes that came stand behind the rest.
+pub record Buffers (old : Buffered) (before : LinkState) (n : ℕ) (new : Buffered) (after : LinkState) : Type 0 where
+  pub room : List ℕ
+  pub reads : ReadsPiece before room n after
+  pub rest : new.rest ≡ old.rest ++ take n room
+  pub place : new.place ≡ old.place
+  pub fits : length old.rest + n ≤ buffer_length
+
+-- by what was heard
+abbrev pub ReadsMore : Buffered → LinkState → Heard → Buffered → LinkState → Type 0
+ReadsMore old before (heard.Got n) new after = Buffers old before n new after
+ReadsMore old before heard.Quiet new after = ReadsQuiet before after × (new ≡ old)
+ReadsMore old before heard.End new after = ReadsEnd before after × (new ≡ old)
+ReadsMore old before heard.Failed new after = FailsToRead before after × (new ≡ old)
+
+-- no more bytes came than the room has
+abbrev pub TakesAtMost : Heard → ℕ → Type 0
+TakesAtMost (heard.Got n) most = n ≤ most
+TakesAtMost heard.Quiet most = Unit {0}
+TakesAtMost heard.End most = Unit {0}
+TakesAtMost heard.Failed most = Unit {0}

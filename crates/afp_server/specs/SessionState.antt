@@ -1,0 +1,101 @@
+-- What the session machine of a link does (this profile).
+use Rattle.std.specs.Prelude.{◌≡◌, ℕ, true, false, List, [], Option, Some, None, Result, Ok, Err, IfNone}
+use Rattle.afp_base.specs.declared.bytes.OutOfMemory.{OutOfMemory}
+use Rattle.afp_base.specs.declared.ids.LinkNumber.{LinkNumber}
+use Rattle.afp_serial.specs.declared.ask.Ask.{Ask}
+use Rattle.afp_serial.specs.declared.ask.Ask.TheVariants as asks
+use Rattle.afp_serial.specs.declared.ask.Told.{Told}
+use Rattle.afp_serial.specs.declared.ask.Told.TheVariants as tells
+use Rattle.afp_serial.specs.Shown.{Shown, is_answer_to}
+use Rattle.afp_serial.specs.Went.{Step, Went}
+use Rattle.dsi_frame.specs.Frame.{Frame}
+use Rattle.afp_server.specs.Did.{Did}
+use Rattle.afp_server.specs.LinkRun.{Parts, carries_call}
+use Rattle.afp_server.specs.Replies.{listed, spelling_of}
+use Rattle.afp_server.specs.Calls.{CallTold}
+use Rattle.dsi_frame.specs.declared.frame.DsiCommand.{DsiCommand}
+use Rattle.afp_server.specs.Script.{Does, OpenDoes}
+use Rattle.afp_server.specs.Trace.{Cause, displaced, silent, Rests}
+use Rattle.afp_server.specs.declared.stage.FrameEnd.{FrameEnd}
+use Rattle.afp_server.specs.declared.stage.Rest.{Rest}
+use Rattle.afp_server.specs.declared.stage.Rest.TheVariants as rests
+use Rattle.afp_server.specs.declared.stage.Stage.{Stage}
+use Rattle.afp_server.specs.declared.stage.Stage.TheVariants as stages
+
+-- the status block of its server, how far its link has come, and the bytes of the reply to its last frame: none, where there is
+-- none
+pub record SessionState : Type 0 where
+  pub block : List ℕ
+  pub stage : Stage
+  pub reply : List ℕ
+
+-- The machine did this: it asked the steps, and holds the reply.
+pub record Acts (old : SessionState) (before : Shown) (did : Did) (new : SessionState) (after : Shown) : Type 0 where
+  pub state : new ≡ record { block = old.block; stage = did.stage; reply = spelling_of (listed did.reply) }
+  pub went : Went before did.steps after
+
+-- A frame is handled by its row; or it is a call, and there was no memory for a copy of its payload: it was not asked.
+abbrev pub Handles : ℕ → Frame → SessionState → Shown → Result (Option FrameEnd) OutOfMemory → SessionState → Shown → Type 0
+Handles now f old before (Ok end) new after =
+    (did : Did) × Does old.block now old.stage f did × Acts old before did new after × (end ≡ did.end)
+Handles now f old before (Err fault) new after =
+    (link : LinkNumber) × (old.stage ≡ stages.Open link) × (f.reply ≡ false) × (carries_call f.command ≡ true)
+    × (new.stage ≡ old.stage) × (new.block ≡ old.block) × (after ≡ before)
+
+-- the same of a request on an open session
+abbrev pub HandlesOpen : ℕ → LinkNumber → DsiCommand → Frame → SessionState → Shown → Result (Option FrameEnd) OutOfMemory → SessionState → Shown → Type 0
+HandlesOpen now link command f old before (Ok end) new after =
+    (did : Did) × OpenDoes old.block now link command f did × Acts old before did new after × (end ≡ did.end)
+HandlesOpen now link command f old before (Err fault) new after =
+    (carries_call command ≡ true) × (new.stage ≡ old.stage) × (new.block ≡ old.block) × (after ≡ before)
+
+-- what a quiet comes to, as a cause
+abbrev pub rest_cause : Rest → Option Cause
+rest_cause rests.On = None
+rest_cause rests.Silent = Some silent
+rest_cause rests.Displaced = Some displaced
+
+-- A quiet, with what was asked in it.
+pub record RestsBy (heard now : ℕ) (old : SessionState) (before : Shown) (rest : Rest) (new : SessionState) (after : Shown) : Type 0 where
+  pub steps : List Step
+  pub rests : Rests heard now old.stage steps new.stage (rest_cause rest)
+  pub block : new.block ≡ old.block
+  pub went : Went before steps after
+
+-- What a Pulse's answer does: a session that was displaced closes its link.
+abbrev pub PulseTold : Told → SessionState → Rest → SessionState → Type 0
+PulseTold tells.Displaced old rest new = (rest ≡ rests.Displaced) × (new ≡ record { block = old.block; stage = stages.Closing; reply = old.reply })
+PulseTold (tells.Opened link) old rest new = (rest ≡ rests.On) × (new ≡ old)
+PulseTold (tells.Reply c block ends) old rest new = (rest ≡ rests.On) × (new ≡ old)
+PulseTold (tells.Live drain) old rest new = (rest ≡ rests.On) × (new ≡ old)
+PulseTold tells.Done old rest new = (rest ≡ rests.On) × (new ≡ old)
+PulseTold tells.Memory old rest new = (rest ≡ rests.On) × (new ≡ old)
+
+-- The end of a link, with what was asked at it.
+pub record PartsBy (stage : Stage) (now : ℕ) (before after : Shown) : Type 0 where
+  pub steps : List Step
+  pub parts : Parts stage now steps
+  pub went : Went before steps after
+
+-- A call was replied to, or not, and the link goes on or ends, by what it was told.
+pub record CalledBy (f : Frame) (told : Told) (reply : Option Frame) (old new : SessionState) (end : Option FrameEnd) : Type 0 where
+  pub called : (link : LinkNumber) → old.stage ≡ stages.Open link → CallTold f link told reply new.stage end
+  pub replied : new.reply ≡ spelling_of (listed reply)
+  pub block : new.block ≡ old.block
+  pub goes_on : IfNone end (new.stage ≡ old.stage)
+
+-- what a call and an Open may be told: whatever they ask
+abbrev pub IsCallAnswer : Told → Type 0
+IsCallAnswer told = is_answer_to (asks.Call 0 false 0 []) told ≡ true
+
+abbrev pub IsOpenAnswer : Told → Type 0
+IsOpenAnswer told = is_answer_to (asks.Open 0) told ≡ true
+
+-- a call
+abbrev pub IsCall : Ask → Type 0
+IsCall (asks.Call id write offset payload) = Unit {0}
+IsCall (asks.Open attention) = ⊥
+IsCall asks.Pulse = ⊥
+IsCall asks.Bye = ⊥
+IsCall asks.Lost = ⊥
+IsCall asks.Drain = ⊥

@@ -1,0 +1,127 @@
+-- What a link that is fed as bytes does (this profile).
+use Rattle.std.specs.Prelude.{◌≡◌, ◌⊎◌, ℕ, ◌+◌, List, [], ◌∷◌, ◌++◌, length, Option, Some, None, Result, Ok, Err, All}
+use Rattle.afp_base.specs.declared.bytes.OutOfMemory.{OutOfMemory}
+use Rattle.afp_serial.specs.Shown.{Shown}
+use Rattle.afp_serial.specs.Went.{Step, Went}
+use Rattle.dsi_frame.specs.Buffered.{Buffered}
+use Rattle.dsi_frame.specs.Deframe.{GivenOut}
+use Rattle.dsi_frame.specs.Frame.{Frame}
+use Rattle.dsi_frame.specs.Stream.{Begins, IsUnfinished, Stopped}
+use Rattle.dsi_frame.specs.declared.frame.BadFrame.{BadFrame}
+use Rattle.afp_server.specs.Did.{Did}
+use Rattle.afp_server.specs.LinkRun.{Fills}
+use Rattle.afp_server.specs.Replies.{listed, spelling_of}
+use Rattle.afp_server.specs.Script.{Does, Script}
+use Rattle.afp_server.specs.SessionState.{SessionState}
+use Rattle.afp_server.specs.declared.stage.FrameEnd.{FrameEnd}
+use Rattle.afp_server.specs.declared.stage.FrameEnd.TheVariants as ends
+use Rattle.afp_server.specs.declared.stage.Stage.{Stage}
+use Rattle.afp_server.specs.declared.stage.Stage.TheVariants as stages
+use Rattle.afp_server.specs.declared.wire.WireEnd.{WireEnd}
+use Rattle.afp_server.specs.declared.wire.WireEnd.TheVariants as wires
+
+-- A wire: its server's status block, what it holds of the bytes fed, how far the link has come, and the end that was answered, if
+-- one was.
+pub record WireState : Type 0 where
+  pub block : List ℕ
+  pub held : Buffered
+  pub stage : Stage
+  pub end : Option WireEnd
+
+-- Where a piece is fed: the status block, the moment, all bytes that were fed before and the frames that were handled of them, how
+-- far the link has come, the bytes in `out`, and what the teller shows.
+pub record FeedStart : Type 0 where
+  pub block : List ℕ
+  pub now : ℕ
+  pub bytes : List ℕ
+  pub past : List Frame
+  pub stage : Stage
+  pub out : List ℕ
+  pub shown : Shown
+
+-- Where that came to: how far the link has come, the bytes in `out`, and what the teller shows.
+pub record FeedPoint : Type 0 where
+  pub stage : Stage
+  pub out : List ℕ
+  pub shown : Shown
+
+abbrev pub feed_point : Stage → List ℕ → Shown → FeedPoint
+feed_point stage out shown = record { stage = stage; out = out; shown = shown }
+
+-- The frames were handled in order, each step at that moment, and their replies stand behind what was in `out`; the last frame
+-- may end the link.
+pub record Handled (start : FeedStart) (frames : List Frame) (end : Option FrameEnd) (p : FeedPoint) : Type 0 where
+  pub steps : List Step
+  pub replies : List Frame
+  pub script : Script start.block start.stage frames steps replies p.stage end
+  pub moments : All (λ s. s.at ≡ start.now) steps
+  pub sent : p.out ≡ start.out ++ spelling_of replies
+  pub went : Went start.shown steps p.shown
+
+-- Of all these bytes the frames that were given out were handled, none of them ended the link, and the rest is held.
+pub record FedSoFar (start : FeedStart) (bytes : List ℕ) (held : Buffered) (p : FeedPoint) : Type 0 where
+  pub frames : List Frame
+  pub handled : Handled start frames None p
+  pub given : GivenOut bytes (start.past ++ frames) held
+
+-- A frame ended the link so; of what stands behind it nothing is said.
+pub record FedToEnd (start : FeedStart) (bytes : List ℕ) (end : FrameEnd) (p : FeedPoint) : Type 0 where
+  pub frames : List Frame
+  pub handled : Handled start frames (Some end) p
+  pub left : List ℕ
+  pub fills : Fills bytes (start.past ++ frames) left
+  pub closing : p.stage ≡ stages.Closing
+
+-- Behind the frames handled there is a bad header.
+pub record FedToHeader (start : FeedStart) (bytes : List ℕ) (b : BadFrame) (p : FeedPoint) : Type 0 where
+  pub frames : List Frame
+  pub handled : Handled start frames None p
+  pub stopped : Stopped bytes (start.past ++ frames) b.at b.reason
+
+-- The last frame may not come where it came; it begins where those before it end.
+pub record FedToFrame (start : FeedStart) (bytes : List ℕ) (b : BadFrame) (p : FeedPoint) : Type 0 where
+  pub before : List Frame
+  pub last : Frame
+  pub handled : Handled start (before ++ last ∷ []) (Some (ends.Bad b.reason)) p
+  pub left : List ℕ
+  pub fills : Fills bytes (start.past ++ before) left
+  pub begins : Begins left last
+  pub place : b.at + length left ≡ length bytes
+
+-- There was no memory before the next frame: some frames were handled, in order, and no step is of another one.
+pub record FedInPart (start : FeedStart) (bytes : List ℕ) (p : FeedPoint) : Type 0 where
+  pub frames : List Frame
+  pub handled : Handled start frames None p
+  pub left : List ℕ
+  pub fills : Fills bytes (start.past ++ frames) left
+
+-- why it ended
+abbrev pub FedTo : FeedStart → List ℕ → WireEnd → FeedPoint → Type 0
+FedTo start bytes wires.Closed p = FedToEnd start bytes ends.Closed p
+FedTo start bytes wires.Displaced p = FedToEnd start bytes ends.Displaced p
+FedTo start bytes (wires.Bad b) p = FedToHeader start bytes b p ⊎ FedToFrame start bytes b p
+FedTo start bytes wires.Memory p = FedInPart start bytes p
+
+-- The frame at the front was handled: the link goes on, or ends.
+abbrev pub FeedsFrame : FeedStart → List ℕ → Option WireEnd → Buffered → FeedPoint → Type 0
+FeedsFrame start bytes None held p = FedSoFar start bytes held p
+FeedsFrame start bytes (Some end) held p = FedTo start bytes end p
+
+-- All whole frames of these bytes were handled, and less than a frame is left; or the link ended.
+abbrev pub Feeds : FeedStart → List ℕ → Option WireEnd → Buffered → FeedPoint → Type 0
+Feeds start bytes None held p = FedSoFar start bytes held p × IsUnfinished held.rest
+Feeds start bytes (Some end) held p = FedTo start bytes end p
+
+-- A frame is handled by its row, and its reply stands behind what was in `out`; or there was no memory, and nothing happened.
+abbrev pub Answers : ℕ → Frame → SessionState → List ℕ → Shown → Result (Option FrameEnd) OutOfMemory → SessionState → List ℕ → Shown → Type 0
+Answers now f old out before (Ok end) new sent after =
+    (did : Did) × Does old.block now old.stage f did × Went before did.steps after × (new.block ≡ old.block) × (new.stage ≡ did.stage)
+    × (sent ≡ out ++ spelling_of (listed did.reply)) × (end ≡ did.end)
+Answers now f old out before (Err fault) new sent after =
+    (new.block ≡ old.block) × (new.stage ≡ old.stage) × (sent ≡ out) × (after ≡ before)
+
+-- why a wire ends, by the frame that ends it, which begins at this place
+abbrev pub end_of_frame : FrameEnd → ℕ → WireEnd
+end_of_frame ends.Closed at = wires.Closed
+end_of_frame ends.Displaced at = wires.Displaced
+end_of_frame (ends.Bad reason) at = wires.Bad (record { at = at; reason = reason })

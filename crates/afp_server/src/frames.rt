@@ -1,0 +1,91 @@
+//! Serving the whole frames that are buffered.
+ghost use Rattle.std.specs.Prelude.{◌≡◌, ◌≢◌, ◌<◌, ℕ, length, IfNone};
+ghost use Rattle.dsi_frame.specs.Frame.{Frame, header_of};
+ghost use Rattle.dsi_frame.specs.Stream.{Begins};
+ghost use Rattle.afp_server.specs.Serving.{Start, SoFar, ServesFrame, ServesFrames, point, end_of_frame};
+
+use crate::send::send_all;
+use crate::serve::LinkEnd;
+use crate::session::Session;
+use crate::stage::{FrameEnd, Stage};
+use afp_outside::{Gate, Link};
+use afp_serial::Teller;
+use dsi_frame::{BadFrame, Deframer, Head, Header};
+
+/// Serves every whole frame that is buffered, in order, and says why the link ends, where a frame ends it.
+pub fn serve_frames<L: Link, T: Teller, G: Gate>(
+    deframer: &mut Deframer,
+    session: &mut Session,
+    link: &mut L,
+    teller: &mut T,
+    gate: &G,
+) -> Option<LinkEnd>
+    requires { session.old.stage ≢ Stage.Closing }
+    ensures fixed { T.fixed teller.new ≡ T.fixed teller.old }
+    ensures block { session.new.block ≡ session.old.block }
+    ensures live { IfNone result (session.new.stage ≢ Stage.Closing) }
+    ensures serves { (start : Start) (cost : ℕ) → start.block ≡ session.old.block
+        → SoFar start (point deframer.old session.old.stage (L.link_state link.old) (T.shown teller.old)) cost
+        → ServesFrames start cost result (point deframer.new session.new.stage (L.link_state link.new) (T.shown teller.new)) }
+{
+    loop {
+        match deframer.head() {
+            Head::NotYet => return None,
+            Head::Bad(bad) => return Some(LinkEnd::Bad(bad)),
+            Head::Whole(header) => {
+                if let Some(end) = serve_frame(&header, deframer, session, link, teller, gate) {
+                    return Some(end);
+                }
+            }
+        }
+    }
+}
+
+/// Serves the whole frame at the front, and writes its reply; a call has gone through the gate only then.
+fn serve_frame<L: Link, T: Teller, G: Gate>(
+    header: &Header,
+    deframer: &mut Deframer,
+    session: &mut Session,
+    link: &mut L,
+    teller: &mut T,
+    gate: &G,
+) -> Option<LinkEnd>
+    requires whole { (f : Frame) × Begins deframer.old.rest f × (header.now ≡ header_of f) }
+    requires live { session.old.stage ≢ Stage.Closing }
+    ensures fixed { T.fixed teller.new ≡ T.fixed teller.old }
+    ensures block { session.new.block ≡ session.old.block }
+    ensures live { IfNone result (session.new.stage ≢ Stage.Closing) }
+    ensures less { IfNone result (length deframer.new.rest < length deframer.old.rest) }
+    ensures serves { (start : Start) (cost : ℕ) → start.block ≡ session.old.block
+        → SoFar start (point deframer.old session.old.stage (L.link_state link.old) (T.shown teller.old)) cost
+        → ServesFrame start cost result (point deframer.new session.new.stage (L.link_state link.new) (T.shown teller.new)) }
+{
+    let called = session.called_link(header);
+    let Ok(end) = session.handle(header, deframer.payload(), link.now(), teller, gate) else {
+        return Some(LinkEnd::Memory);
+    };
+    if !send_all(link, session.reply()) {
+        return Some(LinkEnd::WriteFault);
+    }
+    if let Some(number) = called {
+        gate.after(number);
+    }
+    match end {
+        None => {
+            deframer.advance();
+            None
+        }
+        Some(end) => Some(link_end(end, deframer.place())),
+    }
+}
+
+/// Why a link ended, by the frame that ended it, which begins at this place.
+fn link_end(end: FrameEnd, at: u64) -> LinkEnd
+    ensures { result ≡ end_of_frame end at }
+{
+    match end {
+        FrameEnd::Closed => LinkEnd::Closed,
+        FrameEnd::Displaced => LinkEnd::Displaced,
+        FrameEnd::Bad(reason) => LinkEnd::Bad(BadFrame { at, reason }),
+    }
+}

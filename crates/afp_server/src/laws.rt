@@ -1,0 +1,18 @@
+//! Laws of whole runs. Their functions do nothing: the contract is the law.
+ghost use Rattle.afp_server.specs.Complete.{FollowsScript, IsComplete};
+
+use dsi_frame::{one_frame, one_stream};
+
+/// The frames of a run follow the script, with the steps that they asked and the replies to them.
+pub fn what_happens_follows_the_script()
+    ensures { FollowsScript }
+{}
+
+/// Where only whole good frames are coming, nothing fails or hinders the run and the limit is not reached, each
+/// request has its reply, up to the one that closes the link; or there was no memory.
+pub fn each_request_has_its_reply()
+    ensures { IsComplete }
+{
+    one_frame();
+    one_stream();
+}

@@ -1,0 +1,25 @@
+//! Links served over any teller: frames come in by reads, or as pieces, and their replies go out.
+#![tactic(auto)]
+
+mod frames;
+mod laws;
+mod reply;
+mod script_laws;
+mod send;
+mod serve;
+mod session;
+mod stage;
+mod wire;
+
+pub use laws::{each_request_has_its_reply, what_happens_follows_the_script};
+pub use script_laws::{a_frame_is_timely, scripts_join};
+pub use serve::{LinkEnd, LinkRoom, serve_link};
+pub use stage::{FrameEnd, Rest, Stage};
+pub use wire::{Wire, WireEnd};
+
+#[cfg(test)]
+mod tests;
+#[cfg(test)]
+mod tests_teller;
+#[cfg(test)]
+mod tests_wire;

@@ -1,0 +1,465 @@
+//! The session machine of a link: it takes frames, asks a teller, and holds the reply. It knows no bytes on a
+//! link.
+ghost use Rattle.std.specs.Prelude.{◌≡◌, ◌≢◌, ◌<◌, ◌≤◌, [], ◌∷◌, length, Option, IsTrue, IfOk, IfNone, MatchBool};
+ghost use Rattle.afp_serial.specs.StatusBlock.{status_block};
+ghost use Rattle.afp_serial.specs.Went.{Went, step};
+ghost use Rattle.afp_serial.specs.declared.ask.Told.{Told};
+ghost use Rattle.dsi_session.specs.Pulse.{silence_limit, seconds_between};
+ghost use Rattle.afp_server.specs.declared.stage.Stage.{Stage};
+ghost use Rattle.afp_server.specs.declared.stage.FrameEnd.{FrameEnd};
+ghost use Rattle.dsi_frame.specs.Frame.{canonical_frame, frame_of};
+ghost use Rattle.afp_server.specs.Calls.{Calls};
+ghost use Rattle.afp_server.specs.CloseSession.{ClosesSession};
+ghost use Rattle.afp_server.specs.Did.{Did};
+ghost use Rattle.afp_server.specs.OpenSession.{OpensSession};
+ghost use Rattle.afp_serial.specs.Shown.{fits_frame};
+ghost use Rattle.afp_server.specs.OpenSession.{OpenTold};
+ghost use Rattle.afp_server.specs.Replies.{reply_to};
+ghost use Rattle.afp_server.specs.Script.{FreshDoes, ReplyDoes};
+ghost use Rattle.afp_server.specs.SessionState.{Acts, Handles, HandlesOpen, CalledBy, RestsBy, PartsBy, PulseTold, IsCall, IsCallAnswer, IsOpenAnswer};
+ghost use Rattle.dsi_frame.specs.Frame.{Frame};
+
+use crate::reply::{MOST_REPLY, put_reply};
+use crate::stage::{FrameEnd, Rest, Stage};
+use afp_base::{Bytes, Code, LinkNumber, Moment, OutOfMemory};
+use afp_outside::Gate;
+use afp_serial::{Ask, House, Teller, Told};
+use dsi_frame::{DsiCommand, Header, Reason};
+use dsi_session::{Due, OpenOptions, Pulse, option_bytes, read_options};
+use std::alloc::Global;
+use std::marker::Model;
+
+/// No link of a session.
+const NO_LINK: LinkNumber = LinkNumber(0);
+
+/// A link's session, or that it has none yet; and room for one reply.
+///
+/// Contracts see the status block of its server, how far the link has come, and the bytes of the reply to the
+/// last frame.
+#[derive(Drop)]
+pub struct Session {
+    alloc: Global,
+    status: Bytes,
+    stage: Stage,
+    buffer: Vec<u8>,
+    size: usize,
+}
+
+impl Model for Session {
+    ghost use Rattle.std.specs.Prelude.{◌≡◌, ◌≤◌, length, take};
+    ghost use Rattle.afp_server.specs.SessionState.{SessionState};
+
+    ghost Value = { SessionState };
+
+    ghost view = { λ s. record { block = s.status; stage = s.stage; reply = take s.size s.buffer.items } };
+
+    ghost invariant = { λ s. (length s.status ≤ 131072) × (length s.buffer.items ≡ 131088) × (s.size ≤ 131088) };
+}
+
+/// Why a reply of the client's ends its link: only that to an Attention is expected.
+fn reply_end(command: DsiCommand) -> Option<FrameEnd>
+    ensures { (stage : Stage) → ReplyDoes command stage (record { steps = []; reply = None; stage = stage; end = result }) }
+{
+    match command {
+        DsiCommand::Attention => None,
+        DsiCommand::GetStatus
+        | DsiCommand::OpenSession
+        | DsiCommand::Command
+        | DsiCommand::Write
+        | DsiCommand::Tickle
+        | DsiCommand::CloseSession => Some(FrameEnd::Bad(Reason::Unexpected)),
+    }
+}
+
+impl Session {
+    /// No session yet. All memory that replies need is taken here.
+    pub fn new(alloc: Global, house: &House) -> Result<Session, OutOfMemory>
+        ensures { IfOk result (λ s. s ≡ record { block = status_block house.now; stage = Stage.Fresh; reply = [] }) }
+    {
+        Ok(Session {
+            alloc,
+            status: house.status(alloc)?,
+            stage: Stage::Fresh,
+            buffer: vec![in alloc; 0u8; MOST_REPLY]?,
+            size: 0,
+        })
+    }
+
+    /// How far the link has come.
+    pub fn stage(&self) -> Stage
+        ensures { result ≡ self.now.stage }
+    {
+        self.stage
+    }
+
+    /// The bytes of the reply to the last frame: none, where there is none.
+    pub fn reply(&self) -> &[u8]
+        ensures { result.now ≡ self.now.reply }
+    {
+        &self.buffer[..self.size]
+    }
+
+    /// How many bytes the reply to the last frame has.
+    pub fn reply_size(&self) -> usize
+        ensures size { result ≡ length self.now.reply }
+        ensures fits { result ≤ MOST_REPLY }
+    {
+        self.size
+    }
+
+    /// As many bytes as the longest reply has, whatever they are.
+    pub fn room(&self) -> &[u8]
+        ensures { length result.now ≡ MOST_REPLY }
+    {
+        self.buffer.as_slice()
+    }
+
+    /// The link of the session that a request is a call on.
+    pub fn called_link(&self, header: &Header) -> Option<LinkNumber> {
+        match (self.stage, header.command) {
+            (Stage::Open(link), DsiCommand::Command | DsiCommand::Write) if !header.reply => {
+                Some(link)
+            }
+            _ => None,
+        }
+    }
+
+    /// Handles a frame: asks what it asks, and holds the reply. It says why the frame ends the link, where it does.
+    /// A call goes through the gate before it is asked. An error: there was no memory for a copy of a call, and it
+    /// was not asked.
+    pub fn handle<T: Teller, G: Gate>(
+        &mut self,
+        header: &Header,
+        payload: &[u8],
+        now: Moment,
+        teller: &mut T,
+        gate: &G,
+    ) -> Result<Option<FrameEnd>, OutOfMemory>
+        requires { self.old.stage ≢ Stage.Closing }
+        ensures fixed { T.fixed teller.new ≡ T.fixed teller.old }
+        ensures handles { Handles now (frame_of header.now payload.now) self.old (T.shown teller.old) result self.new (T.shown teller.new) }
+        ensures live { IfOk result (λ end. IfNone end (self.new.stage ≢ Stage.Closing)) }
+    {
+        self.size = 0;
+        if header.reply {
+            return Ok(reply_end(header.command));
+        }
+        match self.stage {
+            Stage::Open(link) => self.handle_open(link, header, payload, now, teller, gate),
+            _ => Ok(self.handle_fresh(header, payload, now, teller)),
+        }
+    }
+
+    /// A request before a session is open.
+    fn handle_fresh<T: Teller>(
+        &mut self,
+        header: &Header,
+        payload: &[u8],
+        now: Moment,
+        teller: &mut T,
+    ) -> Option<FrameEnd>
+        requires fresh { self.old.stage ≡ Stage.Fresh }
+        requires no_reply { self.old.reply ≡ [] }
+        ensures fixed { T.fixed teller.new ≡ T.fixed teller.old }
+        ensures handles { (did : Did) × FreshDoes self.old.block now header.now.command (frame_of header.now payload.now) did
+            × Acts self.old (T.shown teller.old) did self.new (T.shown teller.new) × (result ≡ did.end) }
+        ensures live { IfNone result (self.new.stage ≢ Stage.Closing) }
+    {
+        match header.command {
+            DsiCommand::GetStatus => self.get_status(header),
+            DsiCommand::OpenSession => self.open_session(header, payload, now, teller),
+            DsiCommand::Command => Some(FrameEnd::Bad(Reason::Phase)),
+            DsiCommand::Write => Some(FrameEnd::Bad(Reason::Phase)),
+            DsiCommand::Tickle => None,
+            DsiCommand::CloseSession => {
+                self.close();
+                Some(FrameEnd::Closed)
+            }
+            DsiCommand::Attention => Some(FrameEnd::Bad(Reason::Unexpected)),
+        }
+    }
+
+    /// A request on an open session.
+    fn handle_open<T: Teller, G: Gate>(
+        &mut self,
+        link: LinkNumber,
+        header: &Header,
+        payload: &[u8],
+        now: Moment,
+        teller: &mut T,
+        gate: &G,
+    ) -> Result<Option<FrameEnd>, OutOfMemory>
+        requires session { self.old.stage ≡ Stage.Open link }
+        requires no_reply { self.old.reply ≡ [] }
+        ensures fixed { T.fixed teller.new ≡ T.fixed teller.old }
+        ensures handles { HandlesOpen now link header.now.command (frame_of header.now payload.now) self.old (T.shown teller.old) result self.new (T.shown teller.new) }
+        ensures live { IfOk result (λ end. IfNone end (self.new.stage ≢ Stage.Closing)) }
+    {
+        match header.command {
+            DsiCommand::GetStatus => Ok(self.get_status(header)),
+            DsiCommand::OpenSession => Ok(Some(FrameEnd::Bad(Reason::Phase))),
+            DsiCommand::Command => {
+                let ask = self.call_of(header, false, 0, payload)?;
+                gate.before(link);
+                Ok(self.call(link, header, ask, now, teller))
+            }
+            DsiCommand::Write => {
+                let ask = self.call_of(header, true, header.word, payload)?;
+                gate.before(link);
+                Ok(self.call(link, header, ask, now, teller))
+            }
+            DsiCommand::Tickle => Ok(None),
+            DsiCommand::CloseSession => Ok(self.close_session(link, now, teller)),
+            DsiCommand::Attention => Ok(Some(FrameEnd::Bad(Reason::Unexpected))),
+        }
+    }
+
+    /// DSIGetStatus: the reply is the status block.
+    fn get_status(&mut self, request: &Header) -> Option<FrameEnd>
+        ensures is { result ≡ None }
+        ensures reply { self.new ≡ record self.old { reply = canonical_frame (reply_to (frame_of request.now []) Code.Ok self.old.block) } }
+    {
+        self.size = put_reply(
+            self.buffer.as_mut_slice(),
+            request,
+            Code::Ok,
+            self.status.as_slice(),
+        );
+        None
+    }
+
+    /// DSIOpenSession on a link that has no session: a Pulse, so that the server sweeps, and then Open.
+    fn open_session<T: Teller>(
+        &mut self,
+        request: &Header,
+        payload: &[u8],
+        now: Moment,
+        teller: &mut T,
+    ) -> Option<FrameEnd>
+        requires fresh { self.old.stage ≡ Stage.Fresh }
+        ensures fixed { T.fixed teller.new ≡ T.fixed teller.old }
+        ensures is { result ≡ None }
+        ensures opens { (did : Did) × OpensSession now (frame_of request.now payload.now) did
+            × Acts self.old (T.shown teller.old) did self.new (T.shown teller.new) × (did.end ≡ None) }
+        ensures live { self.new.stage ≢ Stage.Closing }
+    {
+        match read_options(payload) {
+            Ok(options) => {
+                teller.ask(now, NO_LINK, Ask::Pulse);
+                let told = teller.ask(now, NO_LINK, open_of(options));
+                self.opened(request, told);
+            }
+            Err(_) => self.answer(request, Code::ParamErr, &[]),
+        }
+        None
+    }
+
+    /// The reply to an OpenSession, by what Open was told.
+    fn opened(&mut self, request: &Header, told: Told)
+        requires fresh { self.old.stage ≡ Stage.Fresh }
+        requires told { IsOpenAnswer told }
+        requires size { IsTrue (fits_frame told) }
+        ensures opened { (reply : Frame) × OpenTold (frame_of request.now []) told (Some reply) self.new.stage × (self.new.reply ≡ canonical_frame reply) }
+        ensures block { self.new.block ≡ self.old.block }
+        ensures live { self.new.stage ≢ Stage.Closing }
+    {
+        match told {
+            Told::Opened { link } => {
+                self.stage = Stage::Open(link);
+                self.answer(request, Code::Ok, &option_bytes());
+            }
+            Told::Reply { code, block, .. } => self.answer(request, code, block.as_slice()),
+            Told::Memory => self.answer(request, Code::NoMemory, &[]),
+            Told::Live { .. } | Told::Done | Told::Displaced => {}
+        }
+    }
+
+    /// A reply with this code and payload.
+    fn answer(&mut self, request: &Header, code: Code, payload: &[u8])
+        requires { length payload.now ≤ 131072 }
+        ensures { self.new ≡ record self.old { reply = canonical_frame (reply_to (frame_of request.now []) code payload.now) } }
+    {
+        self.size = put_reply(self.buffer.as_mut_slice(), request, code, payload);
+    }
+
+    /// The call that a request carries: a Write has the offset of its enclosed bytes.
+    fn call_of(
+        &self,
+        request: &Header,
+        write: bool,
+        offset: u32,
+        payload: &[u8],
+    ) -> Result<Ask, OutOfMemory>
+        ensures { IfOk result (λ ask. ask ≡ Ask.Call request.now.id write offset payload.now) }
+    {
+        let mut copy = Bytes::new(self.alloc);
+        copy.extend(payload)?;
+        Ok(Ask::Call {
+            id: request.id,
+            write,
+            offset,
+            payload: copy,
+        })
+    }
+
+    /// DSICommand and DSIWrite on an open session: the call is asked at its link.
+    fn call<T: Teller>(
+        &mut self,
+        link: LinkNumber,
+        request: &Header,
+        ask: Ask,
+        now: Moment,
+        teller: &mut T,
+    ) -> Option<FrameEnd>
+        requires session { self.old.stage ≡ Stage.Open link }
+        requires no_reply { self.old.reply ≡ [] }
+        requires call { IsCall ask }
+        ensures fixed { T.fixed teller.new ≡ T.fixed teller.old }
+        ensures calls { (did : Did) × Calls now link (frame_of request.now []) ask did
+            × Acts self.old (T.shown teller.old) did self.new (T.shown teller.new) × (result ≡ did.end) }
+        ensures live { IfNone result (self.new.stage ≢ Stage.Closing) }
+    {
+        let told = teller.ask(now, link, ask);
+        self.called(request, told)
+    }
+
+    /// The reply to a call, by what it was told.
+    fn called(&mut self, request: &Header, told: Told) -> Option<FrameEnd>
+        requires told { IsCallAnswer told }
+        requires size { IsTrue (fits_frame told) }
+        requires no_reply { self.old.reply ≡ [] }
+        ensures called { (reply : Option Frame) × CalledBy (frame_of request.now []) told reply self.old self.new result }
+    {
+        match told {
+            Told::Reply { code, block, ends } => {
+                self.answer(request, code, block.as_slice());
+                if ends {
+                    self.close();
+                    Some(FrameEnd::Closed)
+                } else {
+                    None
+                }
+            }
+            Told::Memory => {
+                self.answer(request, Code::NoMemory, &[]);
+                None
+            }
+            Told::Displaced | Told::Opened { .. } | Told::Live { .. } | Told::Done => {
+                self.close();
+                Some(FrameEnd::Displaced)
+            }
+        }
+    }
+
+    /// DSICloseSession on an open session: a Bye, whatever it is told.
+    fn close_session<T: Teller>(
+        &mut self,
+        link: LinkNumber,
+        now: Moment,
+        teller: &mut T,
+    ) -> Option<FrameEnd>
+        requires no_reply { self.old.reply ≡ [] }
+        ensures fixed { T.fixed teller.new ≡ T.fixed teller.old }
+        ensures is { result ≡ Some FrameEnd.Closed }
+        ensures closes { (did : Did) × ClosesSession now link did × Acts self.old (T.shown teller.old) did self.new (T.shown teller.new) × (result ≡ did.end) }
+    {
+        teller.ask(now, link, Ask::Bye);
+        self.close();
+        Some(FrameEnd::Closed)
+    }
+
+    /// The link ends.
+    fn close(&mut self)
+        ensures { self.new ≡ record self.old { stage = Stage.Closing } }
+    {
+        self.stage = Stage::Closing;
+    }
+
+    /// A quiet: silence ends the link; else an open session asks Pulse.
+    pub fn rest<T: Teller>(&mut self, heard: Moment, now: Moment, teller: &mut T) -> Rest
+        requires { self.old.stage ≢ Stage.Closing }
+        ensures fixed { T.fixed teller.new ≡ T.fixed teller.old }
+        ensures rests { RestsBy heard now self.old (T.shown teller.old) result self.new (T.shown teller.new) }
+        ensures live { result ≡ Rest.On → self.new.stage ≢ Stage.Closing }
+    {
+        if is_silent(heard, now) {
+            return Rest::Silent;
+        }
+        match self.stage {
+            Stage::Open(link) => self.pulse(link, now, teller),
+            Stage::Fresh => Rest::On,
+            Stage::Closing => Rest::On,
+        }
+    }
+
+    /// A Pulse of an open session.
+    fn pulse<T: Teller>(&mut self, link: LinkNumber, now: Moment, teller: &mut T) -> Rest
+        requires session { self.old.stage ≡ Stage.Open link }
+        ensures fixed { T.fixed teller.new ≡ T.fixed teller.old }
+        ensures pulses { (answer : Told) × PulseTold answer self.old result self.new × Went (T.shown teller.old) (step now link Ask.Pulse answer ∷ []) (T.shown teller.new) }
+    {
+        let told = teller.ask(now, link, Ask::Pulse);
+        self.pulsed(told)
+    }
+
+    /// What a Pulse's answer does.
+    fn pulsed(&mut self, told: Told) -> Rest
+        ensures { PulseTold told self.old result self.new }
+    {
+        match told {
+            Told::Displaced => {
+                self.close();
+                Rest::Displaced
+            }
+            Told::Opened { .. } => Rest::On,
+            Told::Reply { .. } => Rest::On,
+            Told::Live { .. } => Rest::On,
+            Told::Done => Rest::On,
+            Told::Memory => Rest::On,
+        }
+    }
+
+    /// The link ended: an open session asks Lost.
+    pub fn lose<T: Teller>(&mut self, now: Moment, teller: &mut T)
+        ensures fixed { T.fixed teller.new ≡ T.fixed teller.old }
+        ensures parts { PartsBy self.old.stage now (T.shown teller.old) (T.shown teller.new) }
+        ensures closed { self.new ≡ record self.old { stage = Stage.Closing } }
+    {
+        ask_lost(self.stage, now, teller);
+        self.stage = Stage::Closing;
+    }
+}
+
+/// Asks Lost, where a session is open.
+fn ask_lost<T: Teller>(stage: Stage, now: Moment, teller: &mut T)
+    ensures fixed { T.fixed teller.new ≡ T.fixed teller.old }
+    ensures parts { PartsBy stage now (T.shown teller.old) (T.shown teller.new) }
+{
+    match stage {
+        Stage::Open(link) => {
+            teller.ask(now, link, Ask::Lost);
+        }
+        Stage::Fresh => {}
+        Stage::Closing => {}
+    }
+}
+
+/// Whether a peer that was last heard at this moment is silent now.
+fn is_silent(heard: Moment, now: Moment) -> bool
+    ensures { MatchBool result (silence_limit ≤ seconds_between heard now) (seconds_between heard now < silence_limit) }
+{
+    match Pulse::new(heard).due(now) {
+        Due::Silent => true,
+        Due::Tickle => false,
+        Due::Nothing => false,
+    }
+}
+
+/// What an OpenSession asks.
+fn open_of(options: OpenOptions) -> Ask
+    ensures { result ≡ Ask.Open options.attention }
+{
+    Ask::Open {
+        attention: options.attention,
+    }
+}
