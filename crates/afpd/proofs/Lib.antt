@@ -1,11 +1,6 @@
-pub mod Completeness
-pub mod HandlingLemmas
-pub mod Moving
+pub mod LinksLemmas
 pub mod NineWords
 pub mod OneHouse
 pub mod PlainLaws
 pub mod Ports
-pub mod Replies
 pub mod ReportLemmas
-pub mod Runs
-pub mod Serving

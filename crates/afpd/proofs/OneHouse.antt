@@ -23,8 +23,8 @@ pub one_volume : (words : List (List ℕ)) (s t : Spoken) → IsWords words s �
 one_volume words s t a b =
     append_cancel_right s.volume t.volume (codes "=memory") (sym a.volume.whole ∙ one_place words s t a b ∙ b.volume.whole)
 
-pub one_house : (words : List (List ℕ)) (s t : Spoken) → IsWords words s → IsWords words t → house_of s ≡ house_of t
-one_house words s t a b =
+pub one_house : (words : List (List ℕ)) (key : List ℕ) (s t : Spoken) → IsWords words s → IsWords words t → house_of s key ≡ house_of t key
+one_house words key s t a b =
     let server = one_server words s t a b in
     let signature = one_signature words s t a b in
     let volume = one_volume words s t a b in

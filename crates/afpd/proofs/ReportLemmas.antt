@@ -1,9 +1,16 @@
 -- A report is written from step to step.
-use Rattle.std.proofs.Common.{◌≡◌, ℕ, ◌-◌, List, ◌++◌, length, take, drop, sym, ap, ◌∙◌, append_assoc, arith}
-use Rattle.std.specs.Prelude.{option_map}
+use Rattle.std.proofs.Common.{◌≡◌, ℕ, ◌-◌, ◌≤◌, List, ◌++◌, length, take, drop, length-drop, refl, sym, ap, ◌∙◌, append_assoc, arith}
+use Rattle.std.proofs.lemmas.List.{take-append-drop, take_all}
+use Rattle.std.specs.Prelude.{Option, Some, None, option_map}
 use Rattle.afp_outside.specs.Sink.{SinkState, SinkTakes}
-use Rattle.afpd.specs.Plain.{Reports}
-use Rattle.afpd.proofs.Moving.{added-added, cut_at}
+use Rattle.afpd.specs.Reporting.{Reports}
+
+added-added : (o : Option (List ℕ)) (xs ys : List ℕ) → option_map (λ before. before ++ ys) (option_map (λ before. before ++ xs) o) ≡ option_map (λ before. before ++ (xs ++ ys)) o
+added-added None xs ys = refl
+added-added (Some zs) xs ys = ap Some (append_assoc zs xs ys)
+
+cut_at : (xs : List ℕ) (n : ℕ) → n ≤ length xs → xs ≡ take n xs ++ take (length xs - n) (drop n xs)
+cut_at xs n h = sym (take-append-drop n xs) ∙ ap (λ ys. take n xs ++ ys) (sym (take_all (length xs - n) (drop n xs) (omega (arith, length-drop n xs))))
 
 pub reports-more : (a b c : SinkState) (text sent left : List ℕ) (n : ℕ) → text ≡ sent ++ left → Reports a sent b → SinkTakes b left n c
     → (x : List ℕ) × (text ≡ x ++ take (length left - n) (drop n left)) × Reports a x c

@@ -1,12 +1,7 @@
 pub mod Complete
-pub mod Handling
-pub mod LinkRun
+pub mod Links
 pub mod Plain
-pub mod Reading
-pub mod Reply
 pub mod Reporting
-pub mod Script
-pub mod Sending
 pub mod Setup
 pub mod Spoken
 pub mod Words

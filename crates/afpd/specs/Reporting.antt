@@ -1,7 +1,32 @@
--- What it is to write a whole report (this profile).
-use Rattle.std.specs.Prelude.{ℕ, Bool, true, false, List}
+-- The server's report: one line (this profile).
+use Rattle.std.specs.Prelude.{◌≡◌, ◌≤◌, ◌<◌, ℕ, Bool, true, false, List, ◌++◌, length, codes, option_map}
+use Rattle.std.specs.Fmt.{decimal}
+use Rattle.afp_base.specs.Counts.{Rises}
 use Rattle.afp_outside.specs.Sink.{SinkState}
-use Rattle.afpd.specs.Plain.{Reports, ReportsPart}
+
+abbrev pub bad_words : List ℕ
+bad_words = codes "bad words\n"
+
+abbrev pub no_memory : List ℕ
+no_memory = codes "no memory\n"
+
+-- how many entries the history has, and how many sessions were opened in it
+abbrev pub counts_line : ℕ → ℕ → List ℕ
+counts_line entries sessions = codes "entries " ++ decimal entries ++ codes " sessions " ++ decimal sessions ++ codes "\n"
+
+-- The whole text was written to a sink.
+pub record Reports (old : SinkState) (text : List ℕ) (new : SinkState) : Type 0 where
+  pub written : new.written ≡ option_map (λ before. before ++ text) old.written
+  pub faults : old.faults ≤ new.faults
+
+-- A write failed behind a first part of the text, and its fault is counted.
+pub record ReportsPart (old : SinkState) (text : List ℕ) (new : SinkState) : Type 0 where
+  pub part : List ℕ
+  pub lost : List ℕ
+  pub some_lost : 0 < length lost
+  pub cut : part ++ lost ≡ text
+  pub written : new.written ≡ option_map (λ before. before ++ part) old.written
+  pub fault : Rises 1 old.faults new.faults
 
 -- by the answer: whether all was written
 abbrev pub ReportsAll : SinkState → List ℕ → Bool → SinkState → Type 0

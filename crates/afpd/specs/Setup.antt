@@ -4,11 +4,11 @@ use Rattle.afpd.specs.Words.{Spoken, IsWords}
 use Rattle.afpd.specs.declared.setup.Settings.{Settings}
 use Rattle.afpd.specs.declared.setup.Place.TheVariants.{Memory}
 
--- the settings that the words ask for: one volume in memory, the port, one worker and one link
+-- the settings that the words ask for: one volume in memory, the port, one worker and the number of links
 pub record Sets (words : List (List ℕ)) (settings : Settings) : Type 0 where
   pub spoken : Spoken
   pub words_are : IsWords words spoken
   pub places : settings.places.items ≡ Memory ∷ []
   pub port : settings.port ≡ spoken.port
   pub workers : settings.workers ≡ 1
-  pub links : settings.links ≡ 1
+  pub links : settings.links ≡ spoken.links

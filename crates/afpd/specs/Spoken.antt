@@ -3,4 +3,4 @@ use Rattle.afpd.specs.Words.{Spoken}
 use Rattle.afpd.specs.declared.words.Words.{Words}
 
 abbrev pub spoken_of : Words → Spoken
-spoken_of words = record { server = words.server.now; signature = words.signature; port = words.port; volume = words.volume.now }
+spoken_of words = record { server = words.server.now; signature = words.signature; port = words.port; links = words.links; volume = words.volume.now }

@@ -1,14 +1,15 @@
 -- The words of the server's command line (this profile).
-use Rattle.std.specs.Prelude.{◌≡◌, ◌==◌, ℕ, ◌<◌, ◌^◌, List, [], ◌∷◌, ◌++◌, codes, false, Ok}
+use Rattle.std.specs.Prelude.{◌≡◌, ◌==◌, ℕ, ◌<◌, ◌≤◌, ◌^◌, List, [], ◌∷◌, ◌++◌, codes, false, Ok}
 use Rattle.std.specs.List.{list_any}
 use Rattle.std.specs.Fmt.{decimal}
 use Rattle.hex.specs.Hex.{decode_sized}
 
--- what they say: the server's name, its signature, its TCP port and the volume's name
+-- what they say: the server's name, its signature, its TCP port, how many links it serves, and the volume's name
 pub record Spoken : Type 0 where
   pub server : List ℕ
   pub signature : List ℕ
   pub port : ℕ
+  pub links : ℕ
   pub volume : List ℕ
 
 -- a volume that is kept in memory: its name, and the place behind the first =
@@ -16,13 +17,25 @@ pub record IsMemoryVolume (word name : List ℕ) : Type 0 where
   pub whole : word ≡ name ++ codes "=memory"
   pub no_equals : list_any (λ byte. byte == 61) name ≡ false
 
+-- the most links that may be asked for
+abbrev pub most_links : ℕ
+most_links = 1000000
+
+-- a number of links that may be asked for, in decimal
+pub record IsNumberOfLinks (word : List ℕ) (links : ℕ) : Type 0 where
+  pub spelled : word ≡ decimal links
+  pub least : 1 ≤ links
+  pub most : links ≤ most_links
+
 -- The nine words in their order: the name of the server, 32 hexadecimal digits of the signature, the
--- port in decimal, one link, and a volume in memory.
+-- port and the number of links in decimal, and a volume in memory.
 pub record IsWords (words : List (List ℕ)) (spoken : Spoken) : Type 0 where
   pub hex : List ℕ
+  pub links : List ℕ
   pub place : List ℕ
   pub whole : words ≡ codes "--server" ∷ spoken.server ∷ codes "--signature" ∷ hex ∷ codes "--port" ∷ decimal spoken.port
-      ∷ codes "--links" ∷ codes "1" ∷ place ∷ []
+      ∷ codes "--links" ∷ links ∷ place ∷ []
   pub signature : decode_sized hex 16 ≡ Ok spoken.signature
   pub port : spoken.port < 2 ^ 16
+  pub links_are : IsNumberOfLinks links spoken.links
   pub volume : IsMemoryVolume place spoken.volume

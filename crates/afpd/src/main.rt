@@ -1,24 +1,23 @@
-//! The file server: it answers the status block to whoever asks, over TCP.
+//! The file server: it serves sessions of the Apple Filing Protocol over TCP.
 #![tactic(auto)]
 
-mod frames;
 pub mod laws;
+pub mod links;
 pub mod plain;
-mod reply;
-mod report;
-mod send;
-pub mod serve;
+pub mod report;
 pub mod setup;
 #[cfg(test)]
 mod tests;
 pub mod words;
 
-use afp_outside::{StdSink, TcpDoor};
+use afp_core::Counts;
+use afp_outside::{OpenGate, StdSink, SystemClock, TcpDoor};
 use plain::{PlainEnd, afpd_plain, report_end};
 use setup::setup;
 use std::alloc::Global;
 use std::io::ErrorKind;
 use std::process::ExitCode;
+use std::random::RandomSource;
 use std::{env, io};
 use words::WordFault;
 
@@ -29,6 +28,13 @@ fn spoken(rt: &HostRuntime) -> io::Result<Vec<String>> {
         words.push(word)?;
     }
     Ok(words)
+}
+
+/// A key of session tokens, from the system's randomness.
+fn token_key(rt: &HostRuntime) -> io::Result<[u8; 32]> {
+    let mut key = [0; 32];
+    rt.fill_bytes(&mut key)?;
+    Ok(key)
 }
 
 fn main(rt: HostRuntime) -> ExitCode {
@@ -49,5 +55,23 @@ fn main(rt: HostRuntime) -> ExitCode {
         Err(WordFault::Bad) => TcpDoor::closed(&rt),
         Err(WordFault::Memory) => return ExitCode::from(report_end(PlainEnd::Memory, &mut report)),
     };
-    ExitCode::from(afpd_plain(alloc, words.as_slice(), &mut door, &mut report))
+    let Ok(key) = token_key(&rt) else {
+        // Without a key no door is opened.
+        return ExitCode::from(report_end(
+            PlainEnd::DoorFailed(Counts {
+                entries: 0,
+                sessions: 0,
+            }),
+            &mut report,
+        ));
+    };
+    ExitCode::from(afpd_plain(
+        alloc,
+        words.as_slice(),
+        &mut door,
+        &SystemClock::new(&rt),
+        &OpenGate,
+        key,
+        &mut report,
+    ))
 }

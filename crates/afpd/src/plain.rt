@@ -1,23 +1,18 @@
-//! The whole server: it reads its words, serves the link that comes through its door, and reports.
-ghost use Rattle.std.specs.Prelude.{◌≡◌, ◌≢◌, ◌∷◌, [], Some, false, map, string_bytes, IfOk, IfErr, None};
-ghost use Rattle.afp_outside.specs.Link.{LinkState};
+//! The whole server: it reads its words, serves the links that come through its door, and reports.
+ghost use Rattle.std.specs.Prelude.{◌≡◌, ◌≢◌, ◌∷◌, [], length, Some, false, map, string_bytes, IfOk, IfErr, None};
 ghost use Rattle.afp_serial.specs.HouseFault.{house_fault};
-ghost use Rattle.afp_serial.specs.StatusBlock.{status_block};
-ghost use Rattle.afpd.specs.Words.{Spoken, IsWords};
+ghost use Rattle.afpd.specs.Links.{ServesUpTo};
 ghost use Rattle.afpd.specs.Spoken.{spoken_of};
-ghost use Rattle.afpd.specs.Plain.{house_of, EndsPlain, EndsOne, Status, IsPlainRun, bad_words, no_memory};
-ghost use Rattle.afpd.specs.Reporting.{ReportsAll};
+ghost use Rattle.afpd.specs.Plain.{house_of, EndsPlain, EndsHouse, Status, IsPlainRun};
 
-use crate::report::report_all;
-use crate::serve::{LinkEnd, serve_link};
+use crate::links::{DoorEnd, serve_links};
+use crate::report::{report_all, report_counts};
 use crate::words::{WordFault, Words, read_words};
 use afp_base::{Bytes, OutOfMemory};
-use afp_outside::{Accepted, Listener, Sink};
+use afp_core::{Core, Counts, ListTeller};
+use afp_outside::{Clock, Gate, Listener, Sink};
 use afp_serial::{House, HouseFault};
 use std::alloc::Global;
-
-/// The limit of the bytes and quiets of a link: none that a link can reach.
-const NO_LIMIT: u64 = (1 << 63) - 1;
 
 /// How a run of the server ends.
 #[derive(Clone, Copy, Debug, PartialEq, Eq)]
@@ -27,9 +22,9 @@ pub enum PlainEnd {
     /// There was no memory.
     Memory,
     /// The door failed.
-    DoorFailed,
-    /// The door is closed, or its link was served and handed back.
-    Served,
+    DoorFailed(Counts),
+    /// As many links as the words say were served, or the door is closed.
+    Served(Counts),
 }
 
 /// The names of the one volume.
@@ -43,11 +38,11 @@ fn one_volume(alloc: Global, name: &[u8]) -> Result<Vec<Bytes>, OutOfMemory>
     Ok(volumes)
 }
 
-/// The house that the words ask for.
-fn house_for(alloc: Global, words: &Words<'_>) -> Result<House, HouseFault>
-    ensures house { IfOk result (λ house. house ≡ house_of (spoken_of words.now)) }
-    ensures sound { IfOk result (λ house. house_fault (house_of (spoken_of words.now)) ≡ None) }
-    ensures fault { IfErr result (λ fault. fault ≢ HouseFault.Memory → house_fault (house_of (spoken_of words.now)) ≡ Some fault) }
+/// The house that the words ask for, with this key of session tokens.
+fn house_for(alloc: Global, words: &Words<'_>, token_key: [u8; 32]) -> Result<House, HouseFault>
+    ensures house { IfOk result (λ house. house ≡ house_of (spoken_of words.now) token_key) }
+    ensures sound { IfOk result (λ house. house_fault (house_of (spoken_of words.now) token_key) ≡ None) }
+    ensures fault { IfErr result (λ fault. fault ≢ HouseFault.Memory → house_fault (house_of (spoken_of words.now) token_key) ≡ Some fault) }
 {
     let volumes = one_volume(alloc, words.volume)?;
     let users = Vec::new(alloc);
@@ -58,38 +53,52 @@ fn house_for(alloc: Global, words: &Words<'_>) -> Result<House, HouseFault>
         users,
         volumes,
         "",
-        [0; 32],
+        token_key,
     )
 }
 
-/// Serves the link that comes through the door, and hands it back.
-fn serve_one<N: Listener>(alloc: Global, house: &House, door: &mut N) -> PlainEnd
-    requires { (N.door_state door.old).closed ≡ false }
-    ensures { EndsOne N.Link.link_state (status_block house.now) (N.door_state door.old) (N.door_state door.new) result }
+/// Serves a house of one volume, up to so many links.
+fn serve_house<N: Listener, C: Clock, G: Gate>(
+    alloc: Global,
+    house: &House,
+    links: u64,
+    door: &mut N,
+    clock: &C,
+    gate: &G,
+) -> PlainEnd
+    requires open { (N.door_state door.old).closed ≡ false }
+    requires one { length house.now.volumes ≡ 1 }
+    ensures { EndsHouse N.Link.link_state house.now links (C.moment_told clock.now) (N.door_state door.old) (N.door_state door.new) result }
 {
-    match door.accept() {
-        Accepted::Closed => PlainEnd::Served,
-        Accepted::Failed => PlainEnd::DoorFailed,
-        Accepted::Link(link) => {
-            let mut link = link;
-            let end = serve_link(alloc, house, &mut link, NO_LIMIT);
-            door.back(link);
-            match end {
-                LinkEnd::Memory => PlainEnd::Memory,
-                _ => PlainEnd::Served,
-            }
-        }
+    // A house of one volume has a core, but for want of memory.
+    let Ok(core) = Core::new(alloc, house, clock.now()) else {
+        return PlainEnd::Memory;
+    };
+    let mut teller = ListTeller::new(alloc, core);
+    let end = serve_links(alloc, house, door, &mut teller, gate, links);
+    let counts = teller.core().counts();
+    match end {
+        DoorEnd::Done => PlainEnd::Served(counts),
+        DoorEnd::Failed => PlainEnd::DoorFailed(counts),
+        DoorEnd::Memory => PlainEnd::Memory,
     }
 }
 
 /// The run, without its report.
-fn run<N: Listener>(alloc: Global, words: &[String], door: &mut N) -> PlainEnd
+fn run<N: Listener, C: Clock, G: Gate>(
+    alloc: Global,
+    words: &[String],
+    door: &mut N,
+    clock: &C,
+    gate: &G,
+    token_key: [u8; 32],
+) -> PlainEnd
     requires { (N.door_state door.old).closed ≡ false }
-    ensures { EndsPlain N.Link.link_state (map (λ word. string_bytes word) words.now) (N.door_state door.old) (N.door_state door.new) result }
+    ensures { EndsPlain N.Link.link_state (map (λ word. string_bytes word) words.now) token_key (C.moment_told clock.now) (N.door_state door.old) (N.door_state door.new) result }
 {
     match read_words(alloc, words) {
-        Ok(words) => match house_for(alloc, &words) {
-            Ok(house) => serve_one(alloc, &house, door),
+        Ok(words) => match house_for(alloc, &words, token_key) {
+            Ok(house) => serve_house(alloc, &house, words.links, door, clock, gate),
             Err(fault) => match fault {
                 HouseFault::Memory => PlainEnd::Memory,
                 _ => PlainEnd::Refused,
@@ -102,13 +111,25 @@ fn run<N: Listener>(alloc: Global, words: &[String], door: &mut N) -> PlainEnd
     }
 }
 
-/// Reports how the run ended, where there is something to say, and gives the exit status.
+/// Reports how the run ended, and gives the exit status.
 pub fn report_end<O: Sink>(end: PlainEnd, report: &mut O) -> u8
     ensures { Status end (O.sink_state report.old) (O.sink_state report.new) result }
 {
     match end {
-        PlainEnd::Served => 0,
-        PlainEnd::DoorFailed => 4,
+        PlainEnd::Served(counts) => {
+            if report_counts(report, counts.entries, counts.sessions) {
+                0
+            } else {
+                5
+            }
+        }
+        PlainEnd::DoorFailed(counts) => {
+            if report_counts(report, counts.entries, counts.sessions) {
+                4
+            } else {
+                5
+            }
+        }
         PlainEnd::Refused => {
             if report_all(report, b"bad words\n") {
                 2
@@ -123,20 +144,26 @@ pub fn report_end<O: Sink>(end: PlainEnd, report: &mut O) -> u8
     }
 }
 
-/// The whole server over one door: it serves one link, and gives the exit status.
+/// The whole server over one door: it serves its links one after the other out of one history, hands each
+/// back, and gives the exit status.
 ///
-/// The words are `--server NAME --signature HEX --port N --links 1 VOLUME=memory`. The status is 2 where
-/// the words are others or the house is refused, with the report `bad words`; 6 for want of memory, with
-/// the report `no memory`; 4 where the door failed; 5 where the report could not be written; else 0.
-pub fn afpd_plain<N: Listener, O: Sink>(
+/// The words are `--server NAME --signature HEX --port N --links N VOLUME=memory`. The status is 2 where
+/// the words are others or the house is refused, with the report `bad words`; 6 for want of memory before a link
+/// was read, with the report `no memory`; 4 where the door failed; 0 where as many links as the words say were
+/// served, or the door is closed; both with the report `entries N sessions M`; and 5 where the report could not
+/// be written.
+pub fn afpd_plain<N: Listener, C: Clock, G: Gate, O: Sink>(
     alloc: Global,
     words: &[String],
     door: &mut N,
+    clock: &C,
+    gate: &G,
+    token_key: [u8; 32],
     report: &mut O,
 ) -> u8
     requires { (N.door_state door.old).closed ≡ false }
-    ensures { IsPlainRun N.Link.link_state (map (λ word. string_bytes word) words.now) (N.door_state door.old) (N.door_state door.new) (O.sink_state report.old) (O.sink_state report.new) result }
+    ensures { IsPlainRun N.Link.link_state (map (λ word. string_bytes word) words.now) token_key (C.moment_told clock.now) (N.door_state door.old) (N.door_state door.new) (O.sink_state report.old) (O.sink_state report.new) result }
 {
-    let end = run(alloc, words, door);
+    let end = run(alloc, words, door, clock, gate, token_key);
     report_end(end, report)
 }

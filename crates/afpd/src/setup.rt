@@ -42,7 +42,7 @@ pub fn setup(alloc: Global, words: &[String]) -> Result<Settings, WordFault>
                 places,
                 port: words.port,
                 workers: 1,
-                links: 1,
+                links: words.links,
             })
         }
     }

@@ -4,7 +4,7 @@ ghost use Rattle.std.specs.Fmt.{decimal};
 ghost use Rattle.std.specs.List.{list_any};
 ghost use Rattle.std.specs.Result.{result_ok};
 ghost use Rattle.hex.specs.Hex.{decode_sized};
-ghost use Rattle.afpd.specs.Words.{Spoken, IsWords, IsMemoryVolume};
+ghost use Rattle.afpd.specs.Words.{Spoken, IsWords, IsMemoryVolume, IsNumberOfLinks};
 ghost use Rattle.afpd.specs.Spoken.{spoken_of};
 
 use std::alloc::{AllocError, Global};
@@ -18,13 +18,14 @@ pub enum WordFault {
     Memory,
 }
 
-/// What the words say: the server's name, its signature of 16 bytes, its TCP port, and the name of its
-/// volume, which is kept in memory.
+/// What the words say: the server's name, its signature of 16 bytes, its TCP port, how many links it
+/// serves, and the name of its volume, which is kept in memory.
 #[derive(Drop)]
 pub struct Words<'a> {
     pub server: &'a str,
     pub signature: [u8; 16],
     pub port: u16,
+    pub links: u64,
     pub volume: &'a [u8],
 }
 
@@ -57,6 +58,30 @@ fn port_of(alloc: Global, text: &str) -> Result<u16, WordFault>
     }
 }
 
+/// The most links that may be asked for.
+const MOST_LINKS: u64 = 1_000_000;
+
+/// The number of links that decimal digits spell, without a sign or leading zeros.
+fn links_of(alloc: Global, text: &str) -> Result<u64, WordFault>
+    ensures found { IfOk result (λ links. IsNumberOfLinks text.now links) }
+    ensures bad { IsErrOf result WordFault.Bad → (links : ℕ) → IsNumberOfLinks text.now links → ⊥ }
+{
+    let Ok(links) = text.parse::<u64>() else {
+        return Err(WordFault::Bad);
+    };
+    if links < 1 || links > MOST_LINKS {
+        return Err(WordFault::Bad);
+    }
+    let Ok(printed) = links.to_string(alloc) else {
+        return Err(WordFault::Memory);
+    };
+    if printed.as_str() == text {
+        Ok(links)
+    } else {
+        Err(WordFault::Bad)
+    }
+}
+
 /// The place of a volume that is kept in memory, behind the =.
 const MEMORY: &[u8] = b"=memory";
 
@@ -82,15 +107,11 @@ fn volume_of(text: &[u8]) -> Option<&[u8]>
     }
 }
 
-/// Whether the four words that name what stands behind them are there, and the one link.
-fn are_names(server: &str, signature: &str, port: &str, links: &str, one: &str) -> bool
-    ensures { IsTrue result ↔ ((server.now ≡ codes "--server") × (signature.now ≡ codes "--signature") × (port.now ≡ codes "--port") × (links.now ≡ codes "--links") × (one.now ≡ codes "1")) }
+/// Whether the four words that name what stands behind them are there.
+fn are_names(server: &str, signature: &str, port: &str, links: &str) -> bool
+    ensures { IsTrue result ↔ ((server.now ≡ codes "--server") × (signature.now ≡ codes "--signature") × (port.now ≡ codes "--port") × (links.now ≡ codes "--links")) }
 {
-    server == "--server"
-        && signature == "--signature"
-        && port == "--port"
-        && links == "--links"
-        && one == "1"
+    server == "--server" && signature == "--signature" && port == "--port" && links == "--links"
 }
 
 /// What the words say.
@@ -106,7 +127,6 @@ pub fn read_words<'a>(alloc: Global, words: &'a [String]) -> Result<Words<'a>, W
         words[2].as_str(),
         words[4].as_str(),
         words[6].as_str(),
-        words[7].as_str(),
     );
     if !named {
         return Err(WordFault::Bad);
@@ -115,6 +135,7 @@ pub fn read_words<'a>(alloc: Global, words: &'a [String]) -> Result<Words<'a>, W
         return Err(WordFault::Bad);
     };
     let port = port_of(alloc, words[5].as_str())?;
+    let links = links_of(alloc, words[7].as_str())?;
     let Some(volume) = volume_of(words[8].as_bytes()) else {
         return Err(WordFault::Bad);
     };
@@ -122,6 +143,7 @@ pub fn read_words<'a>(alloc: Global, words: &'a [String]) -> Result<Words<'a>, W
         server: words[1].as_str(),
         signature,
         port,
+        links,
         volume,
     })
 }

@@ -9,7 +9,7 @@ use Rattle.afpd.proofs.plain.house_for.Goals as goal
 
 pub returns-clause-fault : goal.returns-clause-fault
 returns-clause-fault c =
-    let house : Household = house_of (spoken_of c.args.words.now) in
-    let same : household c.args.words.now.server.now c.args.words.now.signature c.new-users.result.items c.in_ok-volumes.volumes.items [] (replicate 32 0) ≡ house =
+    let house : Household = house_of (spoken_of c.args.words.now) c.args.token_key in
+    let same : household c.args.words.now.server.now c.args.words.now.signature c.new-users.result.items c.in_ok-volumes.volumes.items [] c.args.token_key ≡ house =
     cc (c.new-users.ensures.items, c.in_ok-volumes.ensures) in
     subst (λ (h : Household). IfErr c.new.result (λ fault. fault ≢ Memory → house_fault h ≡ Some fault)) same c.new.ensures.fault

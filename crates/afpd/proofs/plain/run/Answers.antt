@@ -8,7 +8,7 @@ use Rattle.afpd.proofs.plain.run.Goals as goal
 pub returns-in_default : goal.returns-in_default
 returns-in_default g c = (
   λ spoken asks.
-      let same = one_house _ spoken (spoken_of c.in-Ok.words) asks.words_are c.in-Ok.ensures.found in
+      let same = one_house _ c.args.token_key spoken (spoken_of c.in-Ok.words) asks.words_are c.in-Ok.ensures.found in
       cc (ap house_fault same, asks.house_is, c.in-Err-house_for.ensures.fault c.in_default.not-Memory),
   refl,
 )

@@ -1,5 +1,5 @@
 use Rattle.std.proofs.Common.{◌≡◌, ℕ, List, ◌++◌, length}
-use Rattle.afpd.specs.Plain.{Reports}
+use Rattle.afpd.specs.Reporting.{Reports}
 use Rattle.afpd.proofs.report.report_all.Given as goal
 
 abbrev pub invariant-loop-left : goal.invariant-loop-left
