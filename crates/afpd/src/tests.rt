@@ -16,10 +16,6 @@ use std::test::Fail;
 /// A request of the status block.
 const REQUEST: &str = "00030000000000000000000000000000";
 
-/// Its reply, from a server `Mac` with the signature 00 to 0f.
-const REPLY: &str =
-    "01030000000000000000006f00000000001600200036000002b9034d6163005800680069006a094d6163696e746f73680306414650332e3306414650332e3206414650332e31020f4e6f20557365722041757468656e7410436c6561727478742050617373777264000102030405060708090a0b0c0d0e0f000000034d6163";
-
 /// What a client writes, what it is answered, and the report of a server that served it alone.
 fn sessions() -> [(&'static str, &'static str, &'static str); 6] {
     [
@@ -134,9 +130,6 @@ fn expect_plain(
     Ok(())
 }
 
-/// The bytes of the answers but the last.
-const ANSWERS_BUT_THE_LAST: usize = 64;
-
 #[test]
 fn sessions_are_answered_as_the_worked_bytes(rt: HostRuntime) -> Result<(), Fail> {
     let alloc = rt.alloc();
@@ -151,50 +144,6 @@ fn sessions_are_answered_as_the_worked_bytes(rt: HostRuntime) -> Result<(), Fail
         }
         assert_eq!(rt; door.returned().len(), 1);
     }
-    Ok(())
-}
-
-/// Expects these bytes on the link of this place among those that were handed back.
-fn expect_written(
-    rt: &impl Abort,
-    door: &TapeListener,
-    at: usize,
-    written: &[u8],
-) -> Result<(), Fail> {
-    let link = door.returned().get(at).expect(rt, "a link of this place");
-    assert_eq!(rt; link.written(), written);
-    Ok(())
-}
-
-#[test]
-fn links_are_served_out_of_one_history(rt: HostRuntime) -> Result<(), Fail> {
-    let alloc = rt.alloc();
-    let words = words(alloc, 7, "4")?;
-    let (session, answers, _) = sessions()[0];
-    let answers = bytes(alloc, answers)?;
-    // Whole; byte by byte; broken off in the Logout; and the status block alone.
-    let links = vec![in alloc;
-        link(&rt, alloc, session, &[], &[])?,
-        link(&rt, alloc, session, &[1; 200], &[])?,
-        link(&rt, alloc, session, &[80, 17], &[5])?,
-        link(&rt, alloc, REQUEST, &[], &[])?,
-    ]?;
-    let mut door = TapeListener::new(alloc, links, Vec::new(alloc))?;
-    expect_plain(
-        &rt,
-        alloc,
-        words.as_slice(),
-        &mut door,
-        &[],
-        0,
-        "entries 15 sessions 3\n",
-    )?;
-    expect_written(&rt, &door, 0, answers.as_slice())?;
-    expect_written(&rt, &door, 1, answers.as_slice())?;
-    let begun = answers.as_slice().get(..ANSWERS_BUT_THE_LAST);
-    expect_written(&rt, &door, 2, begun.expect(&rt, "an answer"))?;
-    expect_written(&rt, &door, 3, bytes(alloc, REPLY)?.as_slice())?;
-    assert_eq!(rt; door.returned().len(), 4);
     Ok(())
 }
 
