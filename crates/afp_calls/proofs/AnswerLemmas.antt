@@ -1,16 +1,14 @@
 -- What an answer of reading a request says.
-use Rattle.std.proofs.Common.{◌≡◌, ◌==◌, ℕ, true, false, ◌<◌, List, [], ◌∷◌, length, get_or, Option, Some, None, Result, Ok, Err, MatchResult, refl, sym, ◌∙◌, inl, inr, arith}
+use Rattle.std.proofs.Common.{◌≡◌, ◌==◌, ℕ, true, false, List, [], ◌∷◌, ◌++◌, length, get_or, Option, Some, None, Result, Ok, Err, MatchResult, refl, sym, ap, subst, ◌∙◌, inl, inr, arith}
 use Rattle.std.proofs.lemmas.Bool.{eqb-true}
-use Rattle.afp_calls.specs.declared.call.Call.{Call}
-use Rattle.afp_calls.specs.declared.call.ReadFault.{ReadFault}
-use Rattle.afp_calls.specs.declared.call.ReadFault.TheVariants as faults
-use Rattle.afp_calls.specs.Answer.{IsRequest, BeginsWithNoCommand, BeginsWithCommand, IsUnknown, IsMisspelt, IsAnswer, IsRefused}
-use Rattle.afp_calls.specs.Code.{Reads}
-use Rattle.afp_calls.specs.Spelt.{is_command, spelt_call}
-use Rattle.afp_calls.proofs.ReaderLemmas.{spelt_spells, unknown_is_none, begins_can}
-use Rattle.afp_calls.proofs.SpellingLemmas.{AreBytes}
-use Rattle.afp_calls.specs.Call.{fields_of}
-use Rattle.afp_calls.proofs.CallLemmas.{readers_sound}
+use Rattle.afp_requests.specs.declared.call.Call.{Call}
+use Rattle.afp_requests.specs.declared.call.ReadFault.{ReadFault}
+use Rattle.afp_requests.specs.declared.call.ReadFault.TheVariants as faults
+use Rattle.afp_requests.specs.Laws.{BeginsWithNoCommand, BeginsWithCommand, IsBytes, IsFunction, SpeltCanBeWritten, UnknownIsNotSpelt}
+use Rattle.afp_requests.specs.Spelt.{is_command, readers, spelt_call}
+use Rattle.afp_fields.specs.Input.{Input}
+use Rattle.afp_calls.specs.Answer.{IsRequest, IsUnknown, IsMisspelt, IsAnswer, IsRefused}
+use Rattle.afp_calls.specs.Known.{Knows}
 
 pub answer_read : (block : List ℕ) (enclosed : Option (List ℕ)) (result : Result Call ReadFault) → IsAnswer block enclosed result → (call : Call) → spelt_call block enclosed ≡ Some call → MatchResult result (λ c. c ≡ call) (λ fault. fault ≡ faults.Memory)
 answer_read block enclosed (Ok c) h call e = let spelt = h.spelt in cc
@@ -22,11 +20,11 @@ not_both : (block : List ℕ) → BeginsWithNoCommand block → BeginsWithComman
 not_both [] unknown h = unknown
 not_both (n ∷ bytes) unknown h = cc
 
-pub answer_unknown : (block : List ℕ) (enclosed : Option (List ℕ)) (result : Result Call ReadFault) → IsAnswer block enclosed result → BeginsWithNoCommand block → IsRefused result faults.NotSupported
-answer_unknown block enclosed (Ok c) h first = let spelt = h.spelt in let none = unknown_is_none block enclosed first in cc
-answer_unknown block enclosed (Err faults.NotSupported) h first = inl refl
-answer_unknown block enclosed (Err faults.Param) h first = absurd (not_both block first h.first)
-answer_unknown block enclosed (Err faults.Memory) h first = inr refl
+pub answer_unknown : UnknownIsNotSpelt → (block : List ℕ) (enclosed : Option (List ℕ)) (result : Result Call ReadFault) → IsAnswer block enclosed result → BeginsWithNoCommand block → IsRefused result faults.NotSupported
+answer_unknown law block enclosed (Ok c) h first = let spelt = h.spelt in let none = law block enclosed first in cc
+answer_unknown law block enclosed (Err faults.NotSupported) h first = inl refl
+answer_unknown law block enclosed (Err faults.Param) h first = absurd (not_both block first h.first)
+answer_unknown law block enclosed (Err faults.Memory) h first = inr refl
 
 pub answer_misspelt : (block : List ℕ) (enclosed : Option (List ℕ)) (result : Result Call ReadFault) → IsAnswer block enclosed result → BeginsWithCommand block → spelt_call block enclosed ≡ None → IsRefused result faults.Param
 answer_misspelt block enclosed (Ok c) h first e = let spelt = h.spelt in cc
@@ -39,18 +37,20 @@ unfolding spelt_call
 empty_misspelt [] enclosed h = record { first = tt; spelt = refl }
 empty_misspelt (n ∷ bytes) enclosed h = absurd (let none : length (n ∷ bytes) ≡ 0 = eqb-true (length (n ∷ bytes)) 0 h in omega arith)
 
-pub first_unknown : (block : List ℕ) (enclosed : Option (List ℕ)) → (length block == 0) ≡ false → is_command (get_or block 0 0) ≡ false → IsUnknown block enclosed
-first_unknown [] enclosed some h = absurd cc
-first_unknown (n ∷ bytes) enclosed some h = record { first = h; spelt = unknown_is_none (n ∷ bytes) enclosed h }
+-- what the reader of the block's first byte finds is what the block spells
+knows_answer : IsFunction → SpeltCanBeWritten → UnknownIsNotSpelt → (n : ℕ) (bytes : List ℕ) (enclosed : Option (List ℕ)) (result : Result Call ReadFault) → IsBytes (n ∷ bytes)
+    → Knows readers n (record { bytes = n ∷ bytes; place = 1; enclosed = enclosed }) result → IsAnswer (n ∷ bytes) enclosed result
+unfolding spelt_call is_command
+knows_answer function written unknown n bytes enclosed (Ok c) small h =
+    let spells = (function (n ∷ bytes) enclosed c).0 h.1 in
+    record { spells = spells; spelt = h.1; spellable = written c (n ∷ bytes) enclosed small spells }
+knows_answer function written unknown n bytes enclosed (Err faults.Param) small h = record { first = h.0; spelt = h.1 }
+knows_answer function written unknown n bytes enclosed (Err faults.NotSupported) small h = record { first = h; spelt = unknown (n ∷ bytes) enclosed h }
+knows_answer function written unknown n bytes enclosed (Err faults.Memory) small h = tt
 
-first_known : (block : List ℕ) → is_command (get_or block 0 0) ≡ true → BeginsWithCommand block
-first_known [] h = tt
-first_known (n ∷ bytes) h = h
-
-pub reads_answer : (block : List ℕ) (enclosed : Option (List ℕ)) (result : Result Call ReadFault) → AreBytes block → is_command (get_or block 0 0) ≡ true → Reads block enclosed result → IsAnswer block enclosed result
-reads_answer block enclosed (Ok c) small known h =
-    let spells = spelt_spells readers_sound block enclosed c h in
-    record { spells = spells; spelt = h; spellable = begins_can (fields_of c) 0 block small spells.fields }
-reads_answer block enclosed (Err faults.NotSupported) small known h = absurd h
-reads_answer block enclosed (Err faults.Param) small known h = record { first = first_known block known; spelt = h }
-reads_answer block enclosed (Err faults.Memory) small known h = tt
+pub block_answer : IsFunction → SpeltCanBeWritten → UnknownIsNotSpelt → (block : List ℕ) (enclosed : Option (List ℕ)) (n : ℕ) (f : Input) (result : Result Call ReadFault) → IsBytes block → (length block == 0) ≡ false → n ≡ get_or block 0 0
+    → f ≡ record { bytes = block; place = 1; enclosed = enclosed } → Knows readers n f result → IsAnswer block enclosed result
+block_answer function written unknown [] enclosed n f result small some first at h = absurd cc
+block_answer function written unknown (b ∷ bytes) enclosed n f result small some first at h =
+    let here : Knows readers b (record { bytes = b ∷ bytes; place = 1; enclosed = enclosed }) result = subst (λ (m : ℕ). Knows readers m (record { bytes = b ∷ bytes; place = 1; enclosed = enclosed }) result) first (subst (λ (g : Input). Knows readers n g result) at h) in
+    knows_answer function written unknown b bytes enclosed result small here

@@ -1,6 +1,2 @@
-pub mod WordLemmas
-pub mod SpellingLemmas
-pub mod ReaderLemmas
-pub mod CallLemmas
+pub mod GroupLemmas
 pub mod AnswerLemmas
-pub mod PathBytes

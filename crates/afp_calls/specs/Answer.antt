@@ -1,26 +1,17 @@
 -- What reading a request answers (this profile).
-use Rattle.std.specs.Prelude.{◌≡◌, ◌↔◌, ◌⊎◌, ℕ, ◌<◌, Bool, true, false, List, [], ◌∷◌, slice_index, Option, Some, None, Result, Ok, Err}
-use Rattle.afp_calls.specs.declared.call.Call.{Call}
-use Rattle.afp_calls.specs.declared.call.ReadFault.{ReadFault}
-use Rattle.afp_calls.specs.declared.call.ReadFault.TheVariants as faults
-use Rattle.afp_calls.specs.Call.{Spells, IsTypedCall, IsSpellable, canonical_call, canonical_data}
-use Rattle.afp_calls.specs.Spelt.{is_command, spelt_call}
+use Rattle.std.specs.Prelude.{◌≡◌, ◌⊎◌, ℕ, List, Option, Some, None, Result, Ok, Err}
+use Rattle.afp_requests.specs.declared.call.Call.{Call}
+use Rattle.afp_requests.specs.declared.call.ReadFault.{ReadFault}
+use Rattle.afp_requests.specs.declared.call.ReadFault.TheVariants as faults
+use Rattle.afp_requests.specs.Call.{Spells, IsSpellable}
+use Rattle.afp_requests.specs.Laws.{BeginsWithCommand, BeginsWithNoCommand}
+use Rattle.afp_requests.specs.Spelt.{spelt_call}
 
--- the block and the data spell the request, and no other; so it can be written again
+-- the block and what comes with it spell the request, and no other; so it can be written again
 pub record IsRequest (block : List ℕ) (enclosed : Option (List ℕ)) (call : Call) : Type 0 where
   pub spells : Spells call block enclosed
   pub spelt : spelt_call block enclosed ≡ Some call
   pub spellable : IsSpellable call
-
--- the block has a first byte, which is no command
-abbrev pub BeginsWithNoCommand : List ℕ → Type 0
-BeginsWithNoCommand [] = ⊥
-BeginsWithNoCommand (n ∷ bytes) = is_command n ≡ false
-
--- the block is empty, or its first byte is a command
-abbrev pub BeginsWithCommand : List ℕ → Type 0
-BeginsWithCommand [] = Unit {0}
-BeginsWithCommand (n ∷ bytes) = is_command n ≡ true
 
 -- no request is spelt, since the command is not known
 pub record IsUnknown (block : List ℕ) (enclosed : Option (List ℕ)) : Type 0 where
@@ -43,32 +34,3 @@ IsAnswer block enclosed (Err faults.Memory) = Unit {0}
 abbrev pub IsRefused : Result Call ReadFault → ReadFault → Type 0
 IsRefused (Ok call) fault = ⊥
 IsRefused (Err found) fault = (found ≡ fault) ⊎ (found ≡ faults.Memory)
-
--- the laws: what a block and data spell is one request, the same as the function gives
-abbrev pub IsFunction : Type 0
-IsFunction = (block : List ℕ) (enclosed : Option (List ℕ)) (call : Call) → ((spelt_call block enclosed ≡ Some call) ↔ Spells call block enclosed)
-
-abbrev pub SpellsOne : Type 0
-SpellsOne = (block : List ℕ) (enclosed : Option (List ℕ)) (c d : Call) → Spells c block enclosed → Spells d block enclosed → c ≡ d
-
--- the laws: the canonical spelling of a request is spelt by it alone, and is read as it again
-abbrev pub CanonicalIsSpelt : Type 0
-CanonicalIsSpelt = (call : Call) → IsTypedCall call → IsSpellable call → Spells call (canonical_call call) (canonical_data call)
-
-abbrev pub CanonicalIsReadAgain : Type 0
-CanonicalIsReadAgain = (call : Call) → IsTypedCall call → IsSpellable call → spelt_call (canonical_call call) (canonical_data call) ≡ Some call
-
-abbrev pub CanonicalIsOfOne : Type 0
-CanonicalIsOfOne = (c d : Call) → IsTypedCall c → IsSpellable c → Spells d (canonical_call c) (canonical_data c) → d ≡ c
-
--- each is below 256
-abbrev pub IsBytes : List ℕ → Type 0
-IsBytes bytes = (i : ℕ) → slice_index bytes i < 256
-
--- what bytes spell can be written
-abbrev pub SpeltCanBeWritten : Type 0
-SpeltCanBeWritten = (call : Call) (block : List ℕ) (enclosed : Option (List ℕ)) → IsBytes block → Spells call block enclosed → IsSpellable call
-
--- a block whose first byte is no command spells nothing
-abbrev pub UnknownIsNotSpelt : Type 0
-UnknownIsNotSpelt = (block : List ℕ) (enclosed : Option (List ℕ)) → BeginsWithNoCommand block → spelt_call block enclosed ≡ None

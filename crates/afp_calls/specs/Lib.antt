@@ -1,10 +1,4 @@
 pub mod Answer
-pub mod Call
-pub mod Code
-pub mod Reading
-pub mod Session
+pub mod Known
 pub mod SoundVolume
-pub mod Spelt
-pub mod Volume
 pub mod VolumeState
-pub mod Words

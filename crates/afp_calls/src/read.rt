@@ -1,23 +1,29 @@
 //! Reads requests.
-ghost use Rattle.std.specs.Prelude.{◌≡◌, ◌<◌, length, slice_index, Some, None, MatchResult};
+ghost use Rattle.std.specs.Prelude.{◌≡◌, Some, None, MatchResult};
 ghost use Rattle.std.specs.Option.{option_copied};
-ghost use Rattle.afp_calls.specs.declared.call.Call.{Call};
-ghost use Rattle.afp_calls.specs.declared.call.ReadFault.{ReadFault};
-ghost use Rattle.afp_calls.specs.Answer.{IsAnswer, IsRefused, BeginsWithCommand, BeginsWithNoCommand};
-ghost use Rattle.afp_calls.specs.Code.{Reads};
-ghost use Rattle.afp_calls.specs.Spelt.{spelt_call};
+ghost use Rattle.afp_requests.specs.declared.call.Call.{Call};
+ghost use Rattle.afp_requests.specs.declared.call.ReadFault.{ReadFault};
+ghost use Rattle.afp_requests.specs.Laws.{BeginsWithCommand, BeginsWithNoCommand};
+ghost use Rattle.afp_requests.specs.Spelt.{readers, spelt_call};
+ghost use Rattle.afp_calls.specs.Answer.{IsAnswer, IsRefused};
+ghost use Rattle.afp_calls.specs.Known.{Knows};
 
-use crate::call::{Call, ReadFault};
-use crate::commands::{CLOSE_VOL, GET_SRVR_PARMS, LOGIN, LOGOUT, OPEN_VOL, is_command};
-use crate::fields::Fields;
-use crate::session::{read_get_srvr_parms, read_login, read_logout};
-use crate::volume::{read_close_vol, read_open_vol};
+use afp_desktop_calls::{is_desktop_call, read_desktop_call};
+use afp_directory_calls::{is_directory_call, read_directory_call};
+use afp_fields::Fields;
+use afp_file_calls::{is_file_call, read_file_call};
+use afp_fork_calls::{is_fork_call, read_fork_call};
+use afp_requests::laws::{one_request_for_each, what_is_spelt_can_be_written};
+use afp_requests::{Call, ReadFault};
+use afp_session_calls::{is_session_call, read_session_call};
+use afp_volume_calls::{is_volume_call, read_volume_call};
 use std::alloc::Global;
 
-/// The request that a block spells, with the bytes that are enclosed in a Write frame; other
-/// requests come in no Write frame. Bytes behind a request's last field are free. `NotSupported`
-/// exactly where the block's first byte is no command, `Param` exactly where there is no first byte
-/// or the command is spelt otherwise.
+/// The request that a block spells, with the bytes that are enclosed in a Write frame; FPWrite,
+/// FPWriteExt and FPAddIcon come in a Write frame alone, and the others in none. Bytes behind a
+/// request's last field are free, and so are those behind its piece. `NotSupported` exactly where
+/// the block's first byte is no command, `Param` exactly where there is no first byte or the command
+/// is spelt otherwise.
 pub fn read_call(alloc: Global, block: &[u8], enclosed: Option<&[u8]>) -> Result<Call, ReadFault>
     ensures answer { IsAnswer block.now (option_copied enclosed.entry) result }
 
@@ -30,46 +36,43 @@ pub fn read_call(alloc: Global, block: &[u8], enclosed: Option<&[u8]>) -> Result
     ensures misspelt { BeginsWithCommand block.now → spelt_call block.now (option_copied enclosed.entry) ≡ None
         → IsRefused result ReadFault.Param }
 {
+    one_request_for_each();
     read(alloc, block, enclosed)
 }
 
 fn read(alloc: Global, block: &[u8], enclosed: Option<&[u8]>) -> Result<Call, ReadFault>
     ensures { IsAnswer block.now (option_copied enclosed.entry) result }
 {
+    one_request_for_each();
+    what_is_spelt_can_be_written();
     if block.is_empty() {
         return Err(ReadFault::Param);
     }
-    if !is_command(block[0]) {
-        return Err(ReadFault::NotSupported);
-    }
-    match enclosed {
-        None => read_alone(alloc, block[0], block),
-        Some(data) => read_with_data(block[0], block, data),
-    }
+    let mut fields = Fields::new(block, 1, enclosed);
+    read_known(alloc, block[0], &mut fields)
 }
 
-/// The request of a command that comes with no data.
-fn read_alone(alloc: Global, command: u8, block: &[u8]) -> Result<Call, ReadFault>
-    requires some { 0 < length block.now }
-    requires first { command ≡ slice_index block.now 0 }
-    ensures { Reads block.now None result }
+/// The request of that number, whose fields stand behind it.
+fn read_known(alloc: Global, command: u8, fields: &mut Fields<'_>) -> Result<Call, ReadFault>
+    ensures { Knows readers command fields.old result }
 {
-    let mut fields = Fields::new(block, 1);
-    match command {
-        CLOSE_VOL => read_close_vol(&mut fields),
-        GET_SRVR_PARMS => Ok(read_get_srvr_parms(&mut fields)),
-        LOGIN => read_login(alloc, &mut fields),
-        LOGOUT => Ok(read_logout(&mut fields)),
-        OPEN_VOL => read_open_vol(alloc, &mut fields),
-        _ => Err(ReadFault::Param),
+    if is_session_call(command) {
+        return read_session_call(alloc, command, fields);
     }
-}
-
-/// The request of a command that comes with data.
-fn read_with_data(_command: u8, block: &[u8], data: &[u8]) -> Result<Call, ReadFault>
-    requires some { 0 < length block.now }
-    requires first { _command ≡ slice_index block.now 0 }
-    ensures { Reads block.now (Some data.now) result }
-{
-    Err(ReadFault::Param)
+    if is_volume_call(command) {
+        return read_volume_call(alloc, command, fields);
+    }
+    if is_directory_call(command) {
+        return read_directory_call(alloc, command, fields);
+    }
+    if is_file_call(command) {
+        return read_file_call(alloc, command, fields);
+    }
+    if is_fork_call(command) {
+        return read_fork_call(alloc, command, fields);
+    }
+    if is_desktop_call(command) {
+        return read_desktop_call(alloc, command, fields);
+    }
+    Err(ReadFault::NotSupported)
 }

@@ -1,12 +1,18 @@
 //! Writes requests.
-ghost use Rattle.std.specs.Prelude.{◌≡◌, ◌++◌, [], OnOk, OnErr};
-ghost use Rattle.afp_calls.specs.Code.{PutsAll};
-ghost use Rattle.afp_calls.specs.Call.{Spells, IsSpellable, fields_of, canonical_call, canonical_enclosed, canonical_data};
+ghost use Rattle.std.specs.Prelude.{◌≡◌, ◌++◌, OnOk, OnErr};
+ghost use Rattle.afp_requests.specs.Call.{Spells, IsSpellable, layout_of, canonical_call, canonical_data, canonical_piece};
+ghost use Rattle.afp_fields.specs.Putting.{PutsAll};
 
-use crate::call::Call;
-use crate::session::{write_get_srvr_parms, write_login, write_logout};
-use crate::volume::{write_close_vol, write_open_vol};
 use afp_base::{Bytes, OutOfMemory};
+use afp_desktop_calls::write_desktop_call;
+use afp_directory_calls::write_directory_call;
+use afp_fields::laws::fields_are_put_together;
+use afp_file_calls::write_file_call;
+use afp_fork_calls::write_fork_call;
+use afp_requests::Call;
+use afp_requests::laws::what_is_written_is_read_again;
+use afp_session_calls::write_session_call;
+use afp_volume_calls::write_volume_call;
 use std::alloc::Global;
 
 /// Appends the canonical spelling of a request: its block, and the bytes that come with it in a
@@ -19,37 +25,66 @@ pub fn write_call(
 ) -> Result<(), OutOfMemory>
     requires { IsSpellable call.now }
     ensures block { OnOk result (block.new ≡ block.old ++ canonical_call call.now) }
-    ensures enclosed { OnOk result (enclosed.new ≡ enclosed.old ++ canonical_enclosed call.now) }
+    ensures enclosed { OnOk result (enclosed.new ≡ enclosed.old ++ canonical_piece call.now) }
     ensures block_stays { OnErr result (block.new ≡ block.old) }
     ensures enclosed_stays { OnErr result (enclosed.new ≡ enclosed.old) }
     ensures spelt { OnOk result (Spells call.now (canonical_call call.now) (canonical_data call.now)) }
 {
+    fields_are_put_together();
+    what_is_written_is_read_again();
     let mut fields = Bytes::new(alloc);
-    put_call(&mut fields, call)?;
-    let mut whole = block.copy()?;
-    whole.extend(fields.as_slice())?;
-    enclosed.extend(data_of(call))?;
-    *block = whole;
-    Ok(())
-}
-
-/// Appends the canonical block of a request.
-fn put_call(out: &mut Bytes, call: &Call) -> Result<(), OutOfMemory>
-    requires { IsSpellable call.now }
-    ensures { OnOk result (PutsAll (fields_of call.now) out.old out.new) }
-{
-    match call {
-        Call::CloseVol { volume } => write_close_vol(out, *volume),
-        Call::GetSrvrParms => write_get_srvr_parms(out),
-        Call::Login { version, uam, tail } => write_login(out, version, uam, tail),
-        Call::Logout => write_logout(out),
-        Call::OpenVol { bits, name } => write_open_vol(out, *bits, name),
+    put_call(alloc, &mut fields, call)?;
+    let before = enclosed.as_slice().len();
+    enclosed.extend(piece_of(call))?;
+    match block.extend(fields.as_slice()) {
+        Ok(()) => Ok(()),
+        Err(error) => {
+            enclosed.truncate(before);
+            Err(error)
+        }
     }
 }
 
-/// The bytes that a request has enclosed.
-fn data_of(_call: &Call) -> &[u8]
-    ensures { result.now ≡ [] }
+/// Appends the canonical block of a request.
+fn put_call(alloc: Global, out: &mut Bytes, call: &Call) -> Result<(), OutOfMemory>
+    requires { IsSpellable call.now }
+    ensures { OnOk result (PutsAll (layout_of call.now).fields out.old out.new) }
 {
-    &[]
+    match write_session_call(out, call) {
+        Some(written) => return written,
+        None => {}
+    }
+    match write_volume_call(out, call) {
+        Some(written) => return written,
+        None => {}
+    }
+    match write_directory_call(alloc, out, call) {
+        Some(written) => return written,
+        None => {}
+    }
+    match write_file_call(alloc, out, call) {
+        Some(written) => return written,
+        None => {}
+    }
+    match write_fork_call(alloc, out, call) {
+        Some(written) => return written,
+        None => {}
+    }
+    match write_desktop_call(alloc, out, call) {
+        Some(written) => written,
+        None => Ok(()),
+    }
+}
+
+/// The piece that comes with a request, or nothing.
+#[tactic(auto, unfolding(afp_requests::specs::Call::canonical_piece))]
+fn piece_of(call: &Call) -> &[u8]
+    ensures { result.now ≡ canonical_piece call.now }
+{
+    match call {
+        Call::Write { piece, .. } => piece.as_slice(),
+        Call::WriteExt { piece, .. } => piece.as_slice(),
+        Call::AddIcon { piece, .. } => piece.as_slice(),
+        _ => &[],
+    }
 }

@@ -8,8 +8,8 @@ use Rattle.afp_base.specs.declared.code.Code.{Code}
 use Rattle.afp_base.specs.declared.code.Code.TheVariants.{CallNotSupported, NoMoreSessions}
 use Rattle.afp_base.specs.declared.ids.LinkNumber.{LinkNumber}
 use Rattle.afp_base.specs.declared.ids.VolumeId.{VolumeId}
-use Rattle.afp_calls.specs.declared.call.Call.{Call}
-use Rattle.afp_calls.specs.declared.call.Call.TheVariants as calls
+use Rattle.afp_requests.specs.declared.call.Call.{Call}
+use Rattle.afp_requests.specs.declared.call.Call.TheVariants as calls
 use Rattle.afp_serial.specs.declared.ask.Ask.{Ask}
 use Rattle.afp_serial.specs.declared.ask.Ask.TheVariants as ask
 use Rattle.afp_serial.specs.declared.ask.Outcome.TheVariants as outcome
@@ -134,7 +134,7 @@ unsupported w s (calls.CloseVol volume) a b c d = absurd (a volume refl)
 unsupported w s (calls.Login version uam tail) a b c d = absurd (b version uam tail refl)
 unsupported w s calls.Logout a b c d = absurd (c refl)
 unsupported w s (calls.OpenVol bits name) a b c d = absurd (d bits name refl)
-unsupported w s calls.GetSrvrParms a b c d = refl
+unsupported w s call a b c d = refl
 
 -- a session without kept answers
 uncached : (w : World) (s : Session) (r : Request) → s.cache ≡ [] → verdict w s r ≡ verdict_of_block w s r (block_of r)

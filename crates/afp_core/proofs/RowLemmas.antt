@@ -5,8 +5,8 @@ use Rattle.std.specs.List.{list_any}
 use Rattle.afp_base.specs.declared.code.Code.{Code}
 use Rattle.afp_base.specs.declared.code.Code.TheVariants.{Ok, ParamErr, BadVersNum, BadUAM, BitmapErr, ObjectNotFound}
 use Rattle.afp_base.specs.declared.ids.VolumeId.{VolumeId}
-use Rattle.afp_calls.specs.declared.call.Call.{Call}
-use Rattle.afp_calls.specs.declared.call.Call.TheVariants.{CloseVol, Login, Logout, OpenVol}
+use Rattle.afp_requests.specs.declared.call.Call.{Call}
+use Rattle.afp_requests.specs.declared.call.Call.TheVariants.{CloseVol, Login, Logout, OpenVol}
 use Rattle.afp_serial.specs.declared.ask.Told.{Told}
 use Rattle.afp_serial.specs.declared.ask.Told.TheVariants.{Reply}
 use Rattle.afp_serial.specs.declared.ask.Outcome.TheVariants.{Done}

@@ -1,7 +1,7 @@
 -- What a request spells, by its block and enclosed bytes.
 use Rattle.std.proofs.Common.{◌≡◌, ap, sym, refl, subst, ℕ, Bool, true, false, List, take, drop, Some, None}
 use Rattle.std.specs.Prelude.{Result}
-use Rattle.afp_calls.specs.declared.call.Call.{Call}
+use Rattle.afp_requests.specs.declared.call.Call.{Call}
 use Rattle.afp_serial.specs.Answer.{request}
 use Rattle.afp_core.specs.Spelling.{ComesTo, IsJudged, IsSpelled}
 use Rattle.afp_core.specs.declared.spelling.Stop.{Stop}

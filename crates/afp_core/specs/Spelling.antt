@@ -1,7 +1,7 @@
 -- What a request comes to before its call's row (this profile).
 use Rattle.std.specs.Prelude.{◌≡◌, ℕ, Bool, false, List, [], ◌∷◌, Option, Result, Ok, Err, is_some}
 use Rattle.afp_base.specs.Cached.{Request}
-use Rattle.afp_calls.specs.declared.call.Call.{Call}
+use Rattle.afp_requests.specs.declared.call.Call.{Call}
 use Rattle.afp_core.specs.declared.spelling.Stop.{Stop}
 use Rattle.afp_core.specs.declared.spelling.Stop.TheVariants.{Refused, Memory}
 use Rattle.afp_serial.specs.Rows.{refusal}

@@ -4,7 +4,7 @@ use Rattle.afp_base.specs.Cached.{Request}
 use Rattle.afp_base.specs.Counts.{counted}
 use Rattle.afp_base.specs.declared.bytes.OutOfMemory.{OutOfMemory}
 use Rattle.afp_base.specs.declared.ids.LinkNumber.{LinkNumber}
-use Rattle.afp_calls.specs.declared.call.Call.{Call}
+use Rattle.afp_requests.specs.declared.call.Call.{Call}
 use Rattle.afp_core.specs.SessionList.{session_of}
 use Rattle.afp_core.specs.Standing.{Standing}
 use Rattle.afp_serial.specs.Answer.{answer, answer_at, after, after_at, after_call, after_verdict, is_legal, told_call, told_verdict}

@@ -1,6 +1,6 @@
 //! FPCloseVol (AFP Reference, "FPCloseVol").
 ghost use Rattle.std.specs.Prelude.{◌≡◌, Ok};
-ghost use Rattle.afp_calls.specs.declared.call.Call.{Call};
+ghost use Rattle.afp_requests.specs.declared.call.Call.{Call};
 ghost use Rattle.afp_core.specs.Turn.{RunsRow};
 
 use crate::replies::{done, refused};

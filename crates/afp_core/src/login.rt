@@ -1,7 +1,7 @@
 //! FPLogin (AFP Reference, "FPLogin").
 ghost use Rattle.std.specs.Prelude.{◌≡◌, Ok, bytes_eq};
 ghost use Rattle.std.specs.List.{list_any};
-ghost use Rattle.afp_calls.specs.declared.call.Call.{Call};
+ghost use Rattle.afp_requests.specs.declared.call.Call.{Call};
 ghost use Rattle.afp_serial.specs.StatusBlock.{versions};
 ghost use Rattle.afp_core.specs.Turn.{RunsRow};
 

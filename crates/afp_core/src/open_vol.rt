@@ -1,7 +1,7 @@
 //! FPOpenVol (AFP Reference, "FPOpenVol").
 ghost use Rattle.std.specs.Prelude.{◌≡◌, ◌++◌, ◌+◌, ◌<◌, ◌≤◌, IfOk, IfSome, bytes_eq, length, option_map, position};
 ghost use Rattle.byteorder.specs.Endian.{big_bytes};
-ghost use Rattle.afp_calls.specs.declared.call.Call.{Call};
+ghost use Rattle.afp_requests.specs.declared.call.Call.{Call};
 ghost use Rattle.afp_serial.specs.Limits.{most_volumes};
 ghost use Rattle.afp_core.specs.Turn.{RunsRow};
 

@@ -6,17 +6,9 @@ ghost use Rattle.afp_serial.specs.Steps.{needs_user};
 ghost use Rattle.afp_core.specs.Spelling.{first_needs_user, IsJudged, IsSpelled};
 
 use afp_base::Code;
+use afp_calls::commands::{GET_SRVR_INFO, LOGIN, LOGIN_EXT, LOGOUT};
 use afp_calls::{Call, ReadFault, read_call};
 use std::alloc::Global;
-
-/// Numbers of commands (AFP Reference, "AFP Commands").
-const GET_SRVR_INFO: u8 = 15;
-
-const LOGIN: u8 = 18;
-
-const LOGOUT: u8 = 20;
-
-const LOGIN_EXT: u8 = 63;
 
 /// The commands that ask for no user.
 const COMMANDS_WITHOUT_USER: [u8; 4] = [GET_SRVR_INFO, LOGIN, LOGOUT, LOGIN_EXT];

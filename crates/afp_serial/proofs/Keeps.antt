@@ -3,7 +3,7 @@ use Rattle.std.proofs.Common.{◌≡◌, refl, ℕ, max, Bool, false, List, [], 
 use Rattle.std.specs.Prelude.{find, ◌==◌, not}
 use Rattle.std.proofs.lemmas.Bool.{cond_both}
 use Rattle.afp_base.specs.Cached.{Request}
-use Rattle.afp_calls.specs.declared.call.Call.{Call}
+use Rattle.afp_requests.specs.declared.call.Call.{Call}
 use Rattle.afp_serial.proofs.Verdicts.{comes-to}
 use Rattle.afp_serial.specs.declared.ask.Ask.{Ask}
 use Rattle.afp_serial.specs.declared.ask.Ask.TheVariants as ask

@@ -1,8 +1,8 @@
 -- What each call does keeps a sound world sound, and its block fits in a frame; here they are only dispatched.
 use Rattle.std.proofs.Common.{◌≡◌, refl, ℕ, Bool, true, length, Option, Some, None}
 use Rattle.std.specs.Prelude.{find, filter, nat_le, not, ◌==◌}
-use Rattle.afp_calls.specs.declared.call.Call.{Call}
-use Rattle.afp_calls.specs.declared.call.Call.TheVariants.{CloseVol, Login, Logout, OpenVol}
+use Rattle.afp_requests.specs.declared.call.Call.{Call}
+use Rattle.afp_requests.specs.declared.call.Call.TheVariants.{CloseVol, Login, Logout, OpenVol}
 use Rattle.afp_serial.proofs.LoginRows.{login-apart, login-sound, logout-apart, logout-sound}
 use Rattle.afp_serial.proofs.SoundParts.{ApartSessions}
 use Rattle.afp_serial.proofs.VolumeRows.{close-vol-apart, close-vol-sound, open-vol-apart, open-vol-sound, open-vol-fits, open-vol-next}

@@ -5,8 +5,8 @@ use Rattle.std.proofs.lemmas.Bool.{cond_both, not-false}
 use Rattle.afp_base.specs.Cached.{Request, Answer, cached_answer}
 use Rattle.afp_base.specs.declared.code.Code.{Code}
 use Rattle.afp_base.specs.declared.code.Code.TheVariants.{CallNotSupported, UserNotAuth}
-use Rattle.afp_calls.specs.Spelt.{is_command, spelt_call}
-use Rattle.afp_calls.specs.declared.call.Call.{Call}
+use Rattle.afp_requests.specs.Spelt.{is_command, spelt_call}
+use Rattle.afp_requests.specs.declared.call.Call.{Call}
 use Rattle.afp_serial.specs.Laws.{ComesTo}
 use Rattle.afp_serial.specs.Rows.{refusal}
 use Rattle.afp_serial.specs.Steps.{Verdict, repeats, refused, runs, block_of, enclosed_of, needs_user, verdict_of_row, verdict_of_spelling, verdict_of_block, verdict_of_kept, verdict}

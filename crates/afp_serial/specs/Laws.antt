@@ -4,8 +4,8 @@ use Rattle.afp_base.specs.Cached.{Request, Answer, cached_answer}
 use Rattle.afp_base.specs.declared.code.Code.{Code}
 use Rattle.afp_base.specs.declared.code.Code.TheVariants.{MiscErr}
 use Rattle.afp_base.specs.declared.ids.LinkNumber.{LinkNumber}
-use Rattle.afp_calls.specs.Spelt.{is_command, spelt_call}
-use Rattle.afp_calls.specs.declared.call.Call.{Call}
+use Rattle.afp_requests.specs.Spelt.{is_command, spelt_call}
+use Rattle.afp_requests.specs.declared.call.Call.{Call}
 use Rattle.afp_serial.specs.declared.ask.Ask.{Ask}
 use Rattle.afp_serial.specs.declared.ask.Ask.TheVariants as ask
 use Rattle.afp_serial.specs.declared.ask.Entry.{Entry}

@@ -2,8 +2,8 @@
 use Rattle.std.specs.Prelude.{Bool, false, true, List, [], ◌∷◌, Option}
 use Rattle.afp_base.specs.declared.code.Code.{Code}
 use Rattle.afp_base.specs.declared.code.Code.TheVariants.{CallNotSupported}
-use Rattle.afp_calls.specs.declared.call.Call.{Call}
-use Rattle.afp_calls.specs.declared.call.Call.TheVariants.{CloseVol, Login, Logout, OpenVol}
+use Rattle.afp_requests.specs.declared.call.Call.{Call}
+use Rattle.afp_requests.specs.declared.call.Call.TheVariants.{CloseVol, Login, Logout, OpenVol}
 use Rattle.afp_base.specs.Choice.{first_holding}
 use Rattle.afp_serial.specs.CallRow.{Refusal, Effect, silently}
 use Rattle.afp_serial.specs.CloseVol.{close_vol_refusals, close_vol_effect}

@@ -6,8 +6,9 @@ use Rattle.std.specs.List.{list_any}
 use Rattle.afp_base.specs.Cached.{Request, Answer, cached_answer}
 use Rattle.afp_base.specs.declared.code.Code.{Code}
 use Rattle.afp_base.specs.declared.code.Code.TheVariants.{ParamErr, CallNotSupported, UserNotAuth}
-use Rattle.afp_calls.specs.Spelt.{is_command, spelt_call}
-use Rattle.afp_calls.specs.declared.call.Call.{Call}
+use Rattle.afp_requests.specs.Spelt.{is_command, spelt_call}
+use Rattle.afp_requests.specs.declared.call.Call.{Call}
+use Rattle.afp_requests.specs.declared.commands.TheConstants.{GET_SRVR_INFO, LOGIN, LOGIN_EXT, LOGOUT}
 use Rattle.afp_serial.specs.Rows.{refusal}
 use Rattle.afp_serial.specs.World.{World, Session}
 
@@ -19,22 +20,9 @@ block_of r = if r.write then take r.offset r.payload else r.payload
 abbrev pub enclosed_of : Request → Option (List ℕ)
 enclosed_of r = if r.write then Some (drop r.offset r.payload) else None
 
--- commands (AFP Reference, "AFP Commands")
-abbrev pub get_srvr_info : ℕ
-get_srvr_info = 15
-
-abbrev pub login : ℕ
-login = 18
-
-abbrev pub logout : ℕ
-logout = 20
-
-abbrev pub login_ext : ℕ
-login_ext = 63
-
--- those that ask for no user
+-- the commands that ask for no user
 abbrev pub commands_without_user : List ℕ
-commands_without_user = get_srvr_info ∷ login ∷ logout ∷ login_ext ∷ []
+commands_without_user = GET_SRVR_INFO ∷ LOGIN ∷ LOGOUT ∷ LOGIN_EXT ∷ []
 
 abbrev pub needs_user : ℕ → Bool
 needs_user command = not (list_any (λ other. other == command) commands_without_user)

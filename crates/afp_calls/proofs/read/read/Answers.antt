@@ -1,18 +1,11 @@
-use Rattle.std.proofs.Common.{sym, ◌∙◌, arith}
-use Rattle.afp_calls.proofs.AnswerLemmas.{empty_misspelt, first_unknown, reads_answer}
+use Rattle.std.proofs.Common.{sym, ◌∙◌, refl, arith}
+use Rattle.afp_calls.proofs.AnswerLemmas.{empty_misspelt, block_answer}
 use Rattle.afp_calls.proofs.read.read.Goals as goal
 
 pub returns-then-is_empty : goal.returns-then-is_empty
 returns-then-is_empty c = empty_misspelt c.args.block.now _ (sym c.is_empty.ensures ∙ c.if-is_empty.true)
 
-pub returns-then-not-is_command : goal.returns-then-not-is_command
-returns-then-not-is_command c =
-    first_unknown c.args.block.now _ (sym c.is_empty.ensures ∙ c.if-is_empty.false) (sym c.is_command.ensures ∙ c.if-not-is_command.true)
-
-pub returns-in-None : goal.returns-in-None
-returns-in-None c =
-    rw c.in-None.is (reads_answer c.args.block.now _ c.read_alone.result (λ k. omega (arith, c.type_inv.block k)) (sym c.is_command.ensures ∙ c.if-not-is_command.false) c.read_alone.ensures)
-
-pub returns-in-Some : goal.returns-in-Some
-returns-in-Some c =
-    rw c.in-Some.is (reads_answer c.args.block.now _ c.read_with_data.result (λ k. omega (arith, c.type_inv.block k)) (sym c.is_command.ensures ∙ c.if-not-is_command.false) c.read_with_data.ensures)
+pub returns : goal.returns
+returns c =
+    block_answer c.one_request_for_each.ensures.function c.what_is_spelt_can_be_written.ensures c.one_request_for_each.ensures.unknown c.args.block.now _ _ c.new-fields.result c.read_known.result
+    (λ k. omega (arith, c.type_inv.block k)) (sym c.is_empty.ensures ∙ c.if-is_empty.false) refl c.new-fields.ensures c.read_known.ensures

@@ -2,7 +2,7 @@ use Rattle.std.proofs.Common.{◌∙◌, ap, sym, refl, List, ℕ, ◌==◌, fil
 use Rattle.afp_base.specs.declared.code.Code.TheVariants.{Ok, ParamErr}
 use Rattle.afp_serial.specs.World.{World}
 use Rattle.afp_serial.specs.declared.ask.Told.TheVariants.{Reply}
-use Rattle.afp_calls.specs.declared.call.Call.TheVariants.{CloseVol}
+use Rattle.afp_requests.specs.declared.call.Call.TheVariants.{CloseVol}
 use Rattle.afp_core.specs.SessionList.{replaced, session_of}
 use Rattle.afp_core.specs.Turn.{dated}
 use Rattle.afp_core.proofs.RowLemmas.{is_refused, close_vol-not_open, close_vol-runs, opens-bare, locks-bare}

@@ -5,7 +5,7 @@ use Rattle.afp_base.specs.declared.code.Code.TheVariants.{Ok, ParamErr, BadVersN
 use Rattle.afp_serial.specs.Login.{guest_id}
 use Rattle.afp_serial.specs.World.{World}
 use Rattle.afp_serial.specs.declared.ask.Told.TheVariants.{Reply}
-use Rattle.afp_calls.specs.declared.call.Call.TheVariants.{Login}
+use Rattle.afp_requests.specs.declared.call.Call.TheVariants.{Login}
 use Rattle.afp_core.specs.SessionList.{replaced, session_of}
 use Rattle.afp_core.specs.Turn.{dated}
 use Rattle.afp_core.proofs.RowLemmas.{is_refused, login-has_user, login-version, login-uam, login-runs}

@@ -5,7 +5,7 @@ use Rattle.afp_base.specs.declared.code.Code.TheVariants.{Ok, BitmapErr, ObjectN
 use Rattle.afp_serial.specs.OpenVol.{volume_id_bit, volume_named, with_volume}
 use Rattle.afp_serial.specs.World.{World}
 use Rattle.afp_serial.specs.declared.ask.Told.TheVariants.{Reply}
-use Rattle.afp_calls.specs.declared.call.Call.TheVariants.{OpenVol}
+use Rattle.afp_requests.specs.declared.call.Call.TheVariants.{OpenVol}
 use Rattle.afp_core.specs.SessionList.{replaced, session_of}
 use Rattle.afp_core.specs.Turn.{dated}
 use Rattle.afp_core.proofs.RowLemmas.{is_refused, open_vol-bits, open_vol-no_volume, open_vol-runs}

@@ -1,0 +1,127 @@
+//! The requests about APPL mappings (AFP Reference, "Desktop Database Commands").
+
+ghost use Rattle.std.specs.Prelude.{OnOk};
+ghost use Rattle.afp_requests.specs.Desktop.{add_appl, add_appl_reader, remove_appl, remove_appl_reader, get_appl, get_appl_reader};
+ghost use Rattle.afp_fields.specs.Taking.{Gives};
+ghost use Rattle.afp_fields.specs.Putting.{PutsAll};
+
+use afp_base::{Bytes, NodeId, OutOfMemory};
+use afp_fields::{Fields, put_bytes, put_command, put_pad, put_path, put_u16, put_u32};
+use afp_names::Path;
+use afp_requests::commands::{ADD_APPL, GET_APPL, REMOVE_APPL};
+use afp_requests::{Call, ReadFault};
+use std::alloc::Global;
+
+/// FPAddAPPL.
+pub(crate) fn read_add_appl(alloc: Global, fields: &mut Fields<'_>) -> Result<Call, ReadFault>
+    ensures { Gives add_appl_reader fields.old result }
+{
+    fields.pad()?;
+    let dt = fields.u16()?;
+    let dir = NodeId(fields.u32()?);
+    let creator = fields.four()?;
+    let tag = fields.u32()?;
+    let path = fields.path(alloc)?;
+    fields.alone()?;
+    Ok(Call::AddAPPL {
+        dt,
+        dir,
+        creator,
+        tag,
+        path,
+    })
+}
+
+/// FPAddAPPL.
+pub(crate) fn write_add_appl(
+    alloc: Global,
+    out: &mut Bytes,
+    dt: u16,
+    dir: NodeId,
+    creator: &[u8; 4],
+    tag: u32,
+    path: &Path,
+) -> Result<(), OutOfMemory>
+    ensures { OnOk result (PutsAll (add_appl dt dir creator.now tag path.now).fields out.old out.new) }
+{
+    put_command(out, ADD_APPL)?;
+    put_pad(out)?;
+    put_u16(out, dt)?;
+    put_u32(out, dir.0)?;
+    put_bytes(out, creator)?;
+    put_u32(out, tag)?;
+    put_path(alloc, out, path)
+}
+
+/// FPRemoveAPPL.
+pub(crate) fn read_remove_appl(alloc: Global, fields: &mut Fields<'_>) -> Result<Call, ReadFault>
+    ensures { Gives remove_appl_reader fields.old result }
+{
+    fields.pad()?;
+    let dt = fields.u16()?;
+    let dir = NodeId(fields.u32()?);
+    let creator = fields.four()?;
+    let path = fields.path(alloc)?;
+    fields.alone()?;
+    Ok(Call::RemoveAPPL {
+        dt,
+        dir,
+        creator,
+        path,
+    })
+}
+
+/// FPRemoveAPPL.
+pub(crate) fn write_remove_appl(
+    alloc: Global,
+    out: &mut Bytes,
+    dt: u16,
+    dir: NodeId,
+    creator: &[u8; 4],
+    path: &Path,
+) -> Result<(), OutOfMemory>
+    ensures { OnOk result (PutsAll (remove_appl dt dir creator.now path.now).fields out.old out.new) }
+{
+    put_command(out, REMOVE_APPL)?;
+    put_pad(out)?;
+    put_u16(out, dt)?;
+    put_u32(out, dir.0)?;
+    put_bytes(out, creator)?;
+    put_path(alloc, out, path)
+}
+
+/// FPGetAPPL.
+pub(crate) fn read_get_appl(fields: &mut Fields<'_>) -> Result<Call, ReadFault>
+    ensures { Gives get_appl_reader fields.old result }
+{
+    fields.pad()?;
+    let dt = fields.u16()?;
+    let creator = fields.four()?;
+    let index = fields.u16()?;
+    let bits = fields.u16()?;
+    fields.alone()?;
+    Ok(Call::GetAPPL {
+        dt,
+        creator,
+        index,
+        bits,
+    })
+}
+
+/// FPGetAPPL.
+pub(crate) fn write_get_appl(
+    out: &mut Bytes,
+    dt: u16,
+    creator: &[u8; 4],
+    index: u16,
+    bits: u16,
+) -> Result<(), OutOfMemory>
+    ensures { OnOk result (PutsAll (get_appl dt creator.now index bits).fields out.old out.new) }
+{
+    put_command(out, GET_APPL)?;
+    put_pad(out)?;
+    put_u16(out, dt)?;
+    put_bytes(out, creator)?;
+    put_u16(out, index)?;
+    put_u16(out, bits)
+}

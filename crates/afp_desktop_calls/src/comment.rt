@@ -1,0 +1,111 @@
+//! The requests about comments (AFP Reference, "Desktop Database Commands").
+
+ghost use Rattle.std.specs.Prelude.{◌<◌, length, OnOk};
+ghost use Rattle.afp_requests.specs.Desktop.{add_comment, add_comment_reader, remove_comment, remove_comment_reader, get_comment, get_comment_reader};
+ghost use Rattle.afp_fields.specs.Taking.{Gives};
+ghost use Rattle.afp_fields.specs.Putting.{PutsAll};
+
+use afp_base::{Bytes, NodeId, OutOfMemory};
+use afp_fields::{Fields, put_command, put_even, put_pad, put_path, put_str, put_u16, put_u32};
+use afp_names::Path;
+use afp_requests::commands::{ADD_COMMENT, GET_COMMENT, REMOVE_COMMENT};
+use afp_requests::{Call, ReadFault};
+use std::alloc::Global;
+
+/// FPAddComment.
+pub(crate) fn read_add_comment(alloc: Global, fields: &mut Fields<'_>) -> Result<Call, ReadFault>
+    ensures { Gives add_comment_reader fields.old result }
+{
+    fields.pad()?;
+    let dt = fields.u16()?;
+    let dir = NodeId(fields.u32()?);
+    let path = fields.path(alloc)?;
+    fields.even()?;
+    let comment = fields.str(alloc)?;
+    fields.alone()?;
+    Ok(Call::AddComment {
+        dt,
+        dir,
+        path,
+        comment,
+    })
+}
+
+/// FPAddComment.
+pub(crate) fn write_add_comment(
+    alloc: Global,
+    out: &mut Bytes,
+    dt: u16,
+    dir: NodeId,
+    path: &Path,
+    comment: &Bytes,
+) -> Result<(), OutOfMemory>
+    requires { length comment.now < 256 }
+    ensures { OnOk result (PutsAll (add_comment dt dir path.now comment.now).fields out.old out.new) }
+{
+    put_command(out, ADD_COMMENT)?;
+    put_pad(out)?;
+    put_u16(out, dt)?;
+    put_u32(out, dir.0)?;
+    put_path(alloc, out, path)?;
+    put_even(out)?;
+    put_str(out, comment.as_slice())
+}
+
+/// FPRemoveComment.
+pub(crate) fn read_remove_comment(alloc: Global, fields: &mut Fields<'_>) -> Result<Call, ReadFault>
+    ensures { Gives remove_comment_reader fields.old result }
+{
+    fields.pad()?;
+    let dt = fields.u16()?;
+    let dir = NodeId(fields.u32()?);
+    let path = fields.path(alloc)?;
+    fields.alone()?;
+    Ok(Call::RemoveComment { dt, dir, path })
+}
+
+/// FPRemoveComment.
+pub(crate) fn write_remove_comment(
+    alloc: Global,
+    out: &mut Bytes,
+    dt: u16,
+    dir: NodeId,
+    path: &Path,
+) -> Result<(), OutOfMemory>
+    ensures { OnOk result (PutsAll (remove_comment dt dir path.now).fields out.old out.new) }
+{
+    put_command(out, REMOVE_COMMENT)?;
+    put_pad(out)?;
+    put_u16(out, dt)?;
+    put_u32(out, dir.0)?;
+    put_path(alloc, out, path)
+}
+
+/// FPGetComment.
+pub(crate) fn read_get_comment(alloc: Global, fields: &mut Fields<'_>) -> Result<Call, ReadFault>
+    ensures { Gives get_comment_reader fields.old result }
+{
+    fields.pad()?;
+    let dt = fields.u16()?;
+    let dir = NodeId(fields.u32()?);
+    let path = fields.path(alloc)?;
+    fields.alone()?;
+    Ok(Call::GetComment { dt, dir, path })
+}
+
+/// FPGetComment.
+pub(crate) fn write_get_comment(
+    alloc: Global,
+    out: &mut Bytes,
+    dt: u16,
+    dir: NodeId,
+    path: &Path,
+) -> Result<(), OutOfMemory>
+    ensures { OnOk result (PutsAll (get_comment dt dir path.now).fields out.old out.new) }
+{
+    put_command(out, GET_COMMENT)?;
+    put_pad(out)?;
+    put_u16(out, dt)?;
+    put_u32(out, dir.0)?;
+    put_path(alloc, out, path)
+}

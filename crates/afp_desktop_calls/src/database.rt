@@ -1,0 +1,49 @@
+//! The requests about the desktop database (AFP Reference, "Desktop Database Commands").
+
+ghost use Rattle.std.specs.Prelude.{OnOk};
+ghost use Rattle.afp_requests.specs.Desktop.{open_dt, open_dt_reader, close_dt, close_dt_reader};
+ghost use Rattle.afp_fields.specs.Taking.{Gives};
+ghost use Rattle.afp_fields.specs.Putting.{PutsAll};
+
+use afp_base::{Bytes, OutOfMemory, VolumeId};
+use afp_fields::{Fields, put_command, put_pad, put_u16};
+use afp_requests::commands::{CLOSE_DT, OPEN_DT};
+use afp_requests::{Call, ReadFault};
+
+/// FPOpenDT.
+pub(crate) fn read_open_dt(fields: &mut Fields<'_>) -> Result<Call, ReadFault>
+    ensures { Gives open_dt_reader fields.old result }
+{
+    fields.pad()?;
+    let volume = VolumeId(fields.u16()?);
+    fields.alone()?;
+    Ok(Call::OpenDT { volume })
+}
+
+/// FPOpenDT.
+pub(crate) fn write_open_dt(out: &mut Bytes, volume: VolumeId) -> Result<(), OutOfMemory>
+    ensures { OnOk result (PutsAll (open_dt volume).fields out.old out.new) }
+{
+    put_command(out, OPEN_DT)?;
+    put_pad(out)?;
+    put_u16(out, volume.0)
+}
+
+/// FPCloseDT.
+pub(crate) fn read_close_dt(fields: &mut Fields<'_>) -> Result<Call, ReadFault>
+    ensures { Gives close_dt_reader fields.old result }
+{
+    fields.pad()?;
+    let dt = fields.u16()?;
+    fields.alone()?;
+    Ok(Call::CloseDT { dt })
+}
+
+/// FPCloseDT.
+pub(crate) fn write_close_dt(out: &mut Bytes, dt: u16) -> Result<(), OutOfMemory>
+    ensures { OnOk result (PutsAll (close_dt dt).fields out.old out.new) }
+{
+    put_command(out, CLOSE_DT)?;
+    put_pad(out)?;
+    put_u16(out, dt)
+}

@@ -1,0 +1,129 @@
+//! The requests about icons (AFP Reference, "Desktop Database Commands").
+
+ghost use Rattle.std.specs.Prelude.{◌<◌, length, OnOk, []};
+ghost use Rattle.afp_requests.specs.Desktop.{add_icon, add_icon_reader, get_icon, get_icon_reader, get_icon_info, get_icon_info_reader};
+ghost use Rattle.afp_fields.specs.Taking.{Gives};
+ghost use Rattle.afp_fields.specs.Putting.{PutsAll};
+
+use afp_base::{Bytes, OutOfMemory};
+use afp_fields::{Fields, put_bytes, put_command, put_pad, put_u8, put_u16, put_u32};
+use afp_requests::commands::{ADD_ICON, GET_ICON, GET_ICON_INFO};
+use afp_requests::{Call, ReadFault};
+use std::alloc::Global;
+
+/// FPAddIcon.
+pub(crate) fn read_add_icon(alloc: Global, fields: &mut Fields<'_>) -> Result<Call, ReadFault>
+    ensures { Gives add_icon_reader fields.old result }
+{
+    fields.pad()?;
+    let dt = fields.u16()?;
+    let creator = fields.four()?;
+    let kind = fields.four()?;
+    let icon_kind = fields.u8()?;
+    fields.pad()?;
+    let tag = fields.u32()?;
+    let size = fields.u16()?;
+    let piece = fields.enclosed(alloc, u64::from(size))?;
+    Ok(Call::AddIcon {
+        dt,
+        creator,
+        kind,
+        icon_kind,
+        tag,
+        size,
+        piece,
+    })
+}
+
+/// FPAddIcon.
+pub(crate) fn write_add_icon(
+    out: &mut Bytes,
+    dt: u16,
+    creator: &[u8; 4],
+    kind: &[u8; 4],
+    icon_kind: u8,
+    tag: u32,
+    size: u16,
+) -> Result<(), OutOfMemory>
+    ensures { OnOk result (PutsAll (add_icon dt creator.now kind.now icon_kind tag size []).fields out.old out.new) }
+{
+    put_command(out, ADD_ICON)?;
+    put_pad(out)?;
+    put_u16(out, dt)?;
+    put_bytes(out, creator)?;
+    put_bytes(out, kind)?;
+    put_u8(out, icon_kind)?;
+    put_pad(out)?;
+    put_u32(out, tag)?;
+    put_u16(out, size)
+}
+
+/// FPGetIcon.
+pub(crate) fn read_get_icon(fields: &mut Fields<'_>) -> Result<Call, ReadFault>
+    ensures { Gives get_icon_reader fields.old result }
+{
+    fields.pad()?;
+    let dt = fields.u16()?;
+    let creator = fields.four()?;
+    let kind = fields.four()?;
+    let icon_kind = fields.u8()?;
+    fields.pad()?;
+    let length = fields.u16()?;
+    fields.alone()?;
+    Ok(Call::GetIcon {
+        dt,
+        creator,
+        kind,
+        icon_kind,
+        length,
+    })
+}
+
+/// FPGetIcon.
+pub(crate) fn write_get_icon(
+    out: &mut Bytes,
+    dt: u16,
+    creator: &[u8; 4],
+    kind: &[u8; 4],
+    icon_kind: u8,
+    length: u16,
+) -> Result<(), OutOfMemory>
+    ensures { OnOk result (PutsAll (get_icon dt creator.now kind.now icon_kind length).fields out.old out.new) }
+{
+    put_command(out, GET_ICON)?;
+    put_pad(out)?;
+    put_u16(out, dt)?;
+    put_bytes(out, creator)?;
+    put_bytes(out, kind)?;
+    put_u8(out, icon_kind)?;
+    put_pad(out)?;
+    put_u16(out, length)
+}
+
+/// FPGetIconInfo.
+pub(crate) fn read_get_icon_info(fields: &mut Fields<'_>) -> Result<Call, ReadFault>
+    ensures { Gives get_icon_info_reader fields.old result }
+{
+    fields.pad()?;
+    let dt = fields.u16()?;
+    let creator = fields.four()?;
+    let index = fields.u16()?;
+    fields.alone()?;
+    Ok(Call::GetIconInfo { dt, creator, index })
+}
+
+/// FPGetIconInfo.
+pub(crate) fn write_get_icon_info(
+    out: &mut Bytes,
+    dt: u16,
+    creator: &[u8; 4],
+    index: u16,
+) -> Result<(), OutOfMemory>
+    ensures { OnOk result (PutsAll (get_icon_info dt creator.now index).fields out.old out.new) }
+{
+    put_command(out, GET_ICON_INFO)?;
+    put_pad(out)?;
+    put_u16(out, dt)?;
+    put_bytes(out, creator)?;
+    put_u16(out, index)
+}

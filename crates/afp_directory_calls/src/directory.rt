@@ -1,0 +1,96 @@
+//! The requests about directories (AFP Reference, "Directory Commands").
+
+ghost use Rattle.std.specs.Prelude.{OnOk};
+ghost use Rattle.afp_requests.specs.Directory.{create_dir, create_dir_reader, open_dir, open_dir_reader, close_dir, close_dir_reader};
+ghost use Rattle.afp_fields.specs.Taking.{Gives};
+ghost use Rattle.afp_fields.specs.Putting.{PutsAll};
+
+use afp_base::{Bytes, NodeId, OutOfMemory, VolumeId};
+use afp_fields::{Fields, put_command, put_pad, put_path, put_u16, put_u32};
+use afp_names::Path;
+use afp_requests::commands::{CLOSE_DIR, CREATE_DIR, OPEN_DIR};
+use afp_requests::{Call, ReadFault};
+use std::alloc::Global;
+
+/// FPCreateDir.
+pub(crate) fn read_create_dir(alloc: Global, fields: &mut Fields<'_>) -> Result<Call, ReadFault>
+    ensures { Gives create_dir_reader fields.old result }
+{
+    fields.pad()?;
+    let volume = VolumeId(fields.u16()?);
+    let dir = NodeId(fields.u32()?);
+    let path = fields.path(alloc)?;
+    fields.alone()?;
+    Ok(Call::CreateDir { volume, dir, path })
+}
+
+/// FPCreateDir.
+pub(crate) fn write_create_dir(
+    alloc: Global,
+    out: &mut Bytes,
+    volume: VolumeId,
+    dir: NodeId,
+    path: &Path,
+) -> Result<(), OutOfMemory>
+    ensures { OnOk result (PutsAll (create_dir volume dir path.now).fields out.old out.new) }
+{
+    put_command(out, CREATE_DIR)?;
+    put_pad(out)?;
+    put_u16(out, volume.0)?;
+    put_u32(out, dir.0)?;
+    put_path(alloc, out, path)
+}
+
+/// FPOpenDir.
+pub(crate) fn read_open_dir(alloc: Global, fields: &mut Fields<'_>) -> Result<Call, ReadFault>
+    ensures { Gives open_dir_reader fields.old result }
+{
+    fields.pad()?;
+    let volume = VolumeId(fields.u16()?);
+    let dir = NodeId(fields.u32()?);
+    let path = fields.path(alloc)?;
+    fields.alone()?;
+    Ok(Call::OpenDir { volume, dir, path })
+}
+
+/// FPOpenDir.
+pub(crate) fn write_open_dir(
+    alloc: Global,
+    out: &mut Bytes,
+    volume: VolumeId,
+    dir: NodeId,
+    path: &Path,
+) -> Result<(), OutOfMemory>
+    ensures { OnOk result (PutsAll (open_dir volume dir path.now).fields out.old out.new) }
+{
+    put_command(out, OPEN_DIR)?;
+    put_pad(out)?;
+    put_u16(out, volume.0)?;
+    put_u32(out, dir.0)?;
+    put_path(alloc, out, path)
+}
+
+/// FPCloseDir.
+pub(crate) fn read_close_dir(fields: &mut Fields<'_>) -> Result<Call, ReadFault>
+    ensures { Gives close_dir_reader fields.old result }
+{
+    fields.pad()?;
+    let volume = VolumeId(fields.u16()?);
+    let dir = NodeId(fields.u32()?);
+    fields.alone()?;
+    Ok(Call::CloseDir { volume, dir })
+}
+
+/// FPCloseDir.
+pub(crate) fn write_close_dir(
+    out: &mut Bytes,
+    volume: VolumeId,
+    dir: NodeId,
+) -> Result<(), OutOfMemory>
+    ensures { OnOk result (PutsAll (close_dir volume dir).fields out.old out.new) }
+{
+    put_command(out, CLOSE_DIR)?;
+    put_pad(out)?;
+    put_u16(out, volume.0)?;
+    put_u32(out, dir.0)
+}

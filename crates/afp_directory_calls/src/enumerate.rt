@@ -1,0 +1,172 @@
+//! The requests about what a directory holds (AFP Reference, "Directory Commands").
+
+ghost use Rattle.std.specs.Prelude.{OnOk};
+ghost use Rattle.afp_requests.specs.Directory.{enumerate, enumerate_reader, enumerate_ext, enumerate_ext_reader, enumerate_ext2, enumerate_ext2_reader};
+ghost use Rattle.afp_fields.specs.Taking.{Gives};
+ghost use Rattle.afp_fields.specs.Putting.{PutsAll};
+
+use afp_base::{Bytes, NodeId, OutOfMemory, VolumeId};
+use afp_fields::{Fields, put_command, put_pad, put_path, put_u16, put_u32};
+use afp_names::Path;
+use afp_requests::commands::{ENUMERATE, ENUMERATE_EXT, ENUMERATE_EXT2};
+use afp_requests::{Call, ReadFault};
+use std::alloc::Global;
+
+/// FPEnumerate.
+pub(crate) fn read_enumerate(alloc: Global, fields: &mut Fields<'_>) -> Result<Call, ReadFault>
+    ensures { Gives enumerate_reader fields.old result }
+{
+    fields.pad()?;
+    let volume = VolumeId(fields.u16()?);
+    let dir = NodeId(fields.u32()?);
+    let file_bits = fields.u16()?;
+    let dir_bits = fields.u16()?;
+    let count = fields.u16()?;
+    let start = fields.u16()?;
+    let size = fields.u16()?;
+    let path = fields.path(alloc)?;
+    fields.alone()?;
+    Ok(Call::Enumerate {
+        volume,
+        dir,
+        file_bits,
+        dir_bits,
+        count,
+        start,
+        size,
+        path,
+    })
+}
+
+/// FPEnumerate.
+pub(crate) fn write_enumerate(
+    alloc: Global,
+    out: &mut Bytes,
+    volume: VolumeId,
+    dir: NodeId,
+    file_bits: u16,
+    dir_bits: u16,
+    count: u16,
+    start: u16,
+    size: u16,
+    path: &Path,
+) -> Result<(), OutOfMemory>
+    ensures { OnOk result (PutsAll (enumerate volume dir file_bits dir_bits count start size path.now).fields out.old out.new) }
+{
+    put_command(out, ENUMERATE)?;
+    put_pad(out)?;
+    put_u16(out, volume.0)?;
+    put_u32(out, dir.0)?;
+    put_u16(out, file_bits)?;
+    put_u16(out, dir_bits)?;
+    put_u16(out, count)?;
+    put_u16(out, start)?;
+    put_u16(out, size)?;
+    put_path(alloc, out, path)
+}
+
+/// FPEnumerateExt.
+pub(crate) fn read_enumerate_ext(alloc: Global, fields: &mut Fields<'_>) -> Result<Call, ReadFault>
+    ensures { Gives enumerate_ext_reader fields.old result }
+{
+    fields.pad()?;
+    let volume = VolumeId(fields.u16()?);
+    let dir = NodeId(fields.u32()?);
+    let file_bits = fields.u16()?;
+    let dir_bits = fields.u16()?;
+    let count = fields.u16()?;
+    let start = fields.u16()?;
+    let size = fields.u16()?;
+    let path = fields.path(alloc)?;
+    fields.alone()?;
+    Ok(Call::EnumerateExt {
+        volume,
+        dir,
+        file_bits,
+        dir_bits,
+        count,
+        start,
+        size,
+        path,
+    })
+}
+
+/// FPEnumerateExt.
+pub(crate) fn write_enumerate_ext(
+    alloc: Global,
+    out: &mut Bytes,
+    volume: VolumeId,
+    dir: NodeId,
+    file_bits: u16,
+    dir_bits: u16,
+    count: u16,
+    start: u16,
+    size: u16,
+    path: &Path,
+) -> Result<(), OutOfMemory>
+    ensures { OnOk result (PutsAll (enumerate_ext volume dir file_bits dir_bits count start size path.now).fields out.old out.new) }
+{
+    put_command(out, ENUMERATE_EXT)?;
+    put_pad(out)?;
+    put_u16(out, volume.0)?;
+    put_u32(out, dir.0)?;
+    put_u16(out, file_bits)?;
+    put_u16(out, dir_bits)?;
+    put_u16(out, count)?;
+    put_u16(out, start)?;
+    put_u16(out, size)?;
+    put_path(alloc, out, path)
+}
+
+/// FPEnumerateExt2.
+pub(crate) fn read_enumerate_ext2(alloc: Global, fields: &mut Fields<'_>) -> Result<Call, ReadFault>
+    ensures { Gives enumerate_ext2_reader fields.old result }
+{
+    fields.pad()?;
+    let volume = VolumeId(fields.u16()?);
+    let dir = NodeId(fields.u32()?);
+    let file_bits = fields.u16()?;
+    let dir_bits = fields.u16()?;
+    let count = fields.u16()?;
+    let start = fields.u32()?;
+    let size = fields.u32()?;
+    let path = fields.path(alloc)?;
+    fields.alone()?;
+    Ok(Call::EnumerateExt2 {
+        volume,
+        dir,
+        file_bits,
+        dir_bits,
+        count,
+        start,
+        size,
+        path,
+    })
+}
+
+/// FPEnumerateExt2.
+pub(crate) fn write_enumerate_ext2(
+    alloc: Global,
+    out: &mut Bytes,
+    volume: VolumeId,
+    dir: NodeId,
+    file_bits: u16,
+    dir_bits: u16,
+    count: u16,
+    start: u32,
+    size: u32,
+    path: &Path,
+) -> Result<(), OutOfMemory>
+    ensures { OnOk result (PutsAll (enumerate_ext2 volume dir file_bits dir_bits count start size path.now).fields out.old out.new) }
+{
+    put_command(out, ENUMERATE_EXT2)?;
+    put_pad(out)?;
+    put_u16(out, volume.0)?;
+    put_u32(out, dir.0)?;
+    put_u16(out, file_bits)?;
+    put_u16(out, dir_bits)?;
+    put_u16(out, count)?;
+    put_u32(out, start)?;
+    put_u32(out, size)?;
+    put_path(alloc, out, path)
+}

@@ -1,0 +1,146 @@
+//! The requests about parameters of directories and files (AFP Reference, "Combined Directory-File Commands").
+
+ghost use Rattle.std.specs.Prelude.{OnOk};
+ghost use Rattle.afp_requests.specs.Directory.{set_dir_parms, set_dir_parms_reader, get_file_dir_parms, get_file_dir_parms_reader, set_file_dir_parms, set_file_dir_parms_reader};
+ghost use Rattle.afp_fields.specs.Taking.{Gives};
+ghost use Rattle.afp_fields.specs.Putting.{PutsAll};
+
+use afp_base::{Bytes, NodeId, OutOfMemory, VolumeId};
+use afp_fields::{Fields, put_bytes, put_command, put_even, put_pad, put_path, put_u16, put_u32};
+use afp_names::Path;
+use afp_requests::commands::{GET_FILE_DIR_PARMS, SET_DIR_PARMS, SET_FILE_DIR_PARMS};
+use afp_requests::{Call, ReadFault};
+use std::alloc::Global;
+
+/// FPSetDirParms.
+pub(crate) fn read_set_dir_parms(alloc: Global, fields: &mut Fields<'_>) -> Result<Call, ReadFault>
+    ensures { Gives set_dir_parms_reader fields.old result }
+{
+    fields.pad()?;
+    let volume = VolumeId(fields.u16()?);
+    let dir = NodeId(fields.u32()?);
+    let bits = fields.u16()?;
+    let path = fields.path(alloc)?;
+    fields.even()?;
+    let tail = fields.tail(alloc)?;
+    fields.alone()?;
+    Ok(Call::SetDirParms {
+        volume,
+        dir,
+        bits,
+        path,
+        tail,
+    })
+}
+
+/// FPSetDirParms.
+pub(crate) fn write_set_dir_parms(
+    alloc: Global,
+    out: &mut Bytes,
+    volume: VolumeId,
+    dir: NodeId,
+    bits: u16,
+    path: &Path,
+    tail: &Bytes,
+) -> Result<(), OutOfMemory>
+    ensures { OnOk result (PutsAll (set_dir_parms volume dir bits path.now tail.now).fields out.old out.new) }
+{
+    put_command(out, SET_DIR_PARMS)?;
+    put_pad(out)?;
+    put_u16(out, volume.0)?;
+    put_u32(out, dir.0)?;
+    put_u16(out, bits)?;
+    put_path(alloc, out, path)?;
+    put_even(out)?;
+    put_bytes(out, tail.as_slice())
+}
+
+/// FPGetFileDirParms.
+pub(crate) fn read_get_file_dir_parms(
+    alloc: Global,
+    fields: &mut Fields<'_>,
+) -> Result<Call, ReadFault>
+    ensures { Gives get_file_dir_parms_reader fields.old result }
+{
+    fields.pad()?;
+    let volume = VolumeId(fields.u16()?);
+    let dir = NodeId(fields.u32()?);
+    let file_bits = fields.u16()?;
+    let dir_bits = fields.u16()?;
+    let path = fields.path(alloc)?;
+    fields.alone()?;
+    Ok(Call::GetFileDirParms {
+        volume,
+        dir,
+        file_bits,
+        dir_bits,
+        path,
+    })
+}
+
+/// FPGetFileDirParms.
+pub(crate) fn write_get_file_dir_parms(
+    alloc: Global,
+    out: &mut Bytes,
+    volume: VolumeId,
+    dir: NodeId,
+    file_bits: u16,
+    dir_bits: u16,
+    path: &Path,
+) -> Result<(), OutOfMemory>
+    ensures { OnOk result (PutsAll (get_file_dir_parms volume dir file_bits dir_bits path.now).fields out.old out.new) }
+{
+    put_command(out, GET_FILE_DIR_PARMS)?;
+    put_pad(out)?;
+    put_u16(out, volume.0)?;
+    put_u32(out, dir.0)?;
+    put_u16(out, file_bits)?;
+    put_u16(out, dir_bits)?;
+    put_path(alloc, out, path)
+}
+
+/// FPSetFileDirParms.
+pub(crate) fn read_set_file_dir_parms(
+    alloc: Global,
+    fields: &mut Fields<'_>,
+) -> Result<Call, ReadFault>
+    ensures { Gives set_file_dir_parms_reader fields.old result }
+{
+    fields.pad()?;
+    let volume = VolumeId(fields.u16()?);
+    let dir = NodeId(fields.u32()?);
+    let bits = fields.u16()?;
+    let path = fields.path(alloc)?;
+    fields.even()?;
+    let tail = fields.tail(alloc)?;
+    fields.alone()?;
+    Ok(Call::SetFileDirParms {
+        volume,
+        dir,
+        bits,
+        path,
+        tail,
+    })
+}
+
+/// FPSetFileDirParms.
+pub(crate) fn write_set_file_dir_parms(
+    alloc: Global,
+    out: &mut Bytes,
+    volume: VolumeId,
+    dir: NodeId,
+    bits: u16,
+    path: &Path,
+    tail: &Bytes,
+) -> Result<(), OutOfMemory>
+    ensures { OnOk result (PutsAll (set_file_dir_parms volume dir bits path.now tail.now).fields out.old out.new) }
+{
+    put_command(out, SET_FILE_DIR_PARMS)?;
+    put_pad(out)?;
+    put_u16(out, volume.0)?;
+    put_u32(out, dir.0)?;
+    put_u16(out, bits)?;
+    put_path(alloc, out, path)?;
+    put_even(out)?;
+    put_bytes(out, tail.as_slice())
+}

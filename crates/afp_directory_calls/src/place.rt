@@ -1,0 +1,127 @@
+//! The requests about where directories and files stand (AFP Reference, "Combined Directory-File Commands").
+
+ghost use Rattle.std.specs.Prelude.{OnOk};
+ghost use Rattle.afp_requests.specs.Directory.{delete, delete_reader, rename, rename_reader, move_and_rename, move_and_rename_reader};
+ghost use Rattle.afp_fields.specs.Taking.{Gives};
+ghost use Rattle.afp_fields.specs.Putting.{PutsAll};
+
+use afp_base::{Bytes, NodeId, OutOfMemory, VolumeId};
+use afp_fields::{Fields, put_command, put_pad, put_path, put_u16, put_u32};
+use afp_names::Path;
+use afp_requests::commands::{DELETE, MOVE_AND_RENAME, RENAME};
+use afp_requests::{Call, ReadFault};
+use std::alloc::Global;
+
+/// FPDelete.
+pub(crate) fn read_delete(alloc: Global, fields: &mut Fields<'_>) -> Result<Call, ReadFault>
+    ensures { Gives delete_reader fields.old result }
+{
+    fields.pad()?;
+    let volume = VolumeId(fields.u16()?);
+    let dir = NodeId(fields.u32()?);
+    let path = fields.path(alloc)?;
+    fields.alone()?;
+    Ok(Call::Delete { volume, dir, path })
+}
+
+/// FPDelete.
+pub(crate) fn write_delete(
+    alloc: Global,
+    out: &mut Bytes,
+    volume: VolumeId,
+    dir: NodeId,
+    path: &Path,
+) -> Result<(), OutOfMemory>
+    ensures { OnOk result (PutsAll (delete volume dir path.now).fields out.old out.new) }
+{
+    put_command(out, DELETE)?;
+    put_pad(out)?;
+    put_u16(out, volume.0)?;
+    put_u32(out, dir.0)?;
+    put_path(alloc, out, path)
+}
+
+/// FPRename.
+pub(crate) fn read_rename(alloc: Global, fields: &mut Fields<'_>) -> Result<Call, ReadFault>
+    ensures { Gives rename_reader fields.old result }
+{
+    fields.pad()?;
+    let volume = VolumeId(fields.u16()?);
+    let dir = NodeId(fields.u32()?);
+    let path = fields.path(alloc)?;
+    let new_path = fields.path(alloc)?;
+    fields.alone()?;
+    Ok(Call::Rename {
+        volume,
+        dir,
+        path,
+        new_path,
+    })
+}
+
+/// FPRename.
+pub(crate) fn write_rename(
+    alloc: Global,
+    out: &mut Bytes,
+    volume: VolumeId,
+    dir: NodeId,
+    path: &Path,
+    new_path: &Path,
+) -> Result<(), OutOfMemory>
+    ensures { OnOk result (PutsAll (rename volume dir path.now new_path.now).fields out.old out.new) }
+{
+    put_command(out, RENAME)?;
+    put_pad(out)?;
+    put_u16(out, volume.0)?;
+    put_u32(out, dir.0)?;
+    put_path(alloc, out, path)?;
+    put_path(alloc, out, new_path)
+}
+
+/// FPMoveAndRename.
+pub(crate) fn read_move_and_rename(
+    alloc: Global,
+    fields: &mut Fields<'_>,
+) -> Result<Call, ReadFault>
+    ensures { Gives move_and_rename_reader fields.old result }
+{
+    fields.pad()?;
+    let volume = VolumeId(fields.u16()?);
+    let dir = NodeId(fields.u32()?);
+    let target_dir = NodeId(fields.u32()?);
+    let path = fields.path(alloc)?;
+    let target_path = fields.path(alloc)?;
+    let new_path = fields.path(alloc)?;
+    fields.alone()?;
+    Ok(Call::MoveAndRename {
+        volume,
+        dir,
+        target_dir,
+        path,
+        target_path,
+        new_path,
+    })
+}
+
+/// FPMoveAndRename.
+pub(crate) fn write_move_and_rename(
+    alloc: Global,
+    out: &mut Bytes,
+    volume: VolumeId,
+    dir: NodeId,
+    target_dir: NodeId,
+    path: &Path,
+    target_path: &Path,
+    new_path: &Path,
+) -> Result<(), OutOfMemory>
+    ensures { OnOk result (PutsAll (move_and_rename volume dir target_dir path.now target_path.now new_path.now).fields out.old out.new) }
+{
+    put_command(out, MOVE_AND_RENAME)?;
+    put_pad(out)?;
+    put_u16(out, volume.0)?;
+    put_u32(out, dir.0)?;
+    put_u32(out, target_dir.0)?;
+    put_path(alloc, out, path)?;
+    put_path(alloc, out, target_path)?;
+    put_path(alloc, out, new_path)
+}

@@ -1,0 +1,39 @@
+-- The bytes of a path, step by step.
+use Rattle.std.proofs.Common.{◌≡◌, ℕ, zero, suc, ◌+◌, ◌<◌, ◌≤◌, List, [], ◌∷◌, ◌++◌, length, take, drop, Option, Some, None, refl, sym, ◌∙◌, ap, arith, slice_get, replicate}
+use Rattle.std.proofs.lemmas.List.{append-nil, append_assoc, drop_all}
+use Rattle.afp_names.specs.declared.path.Step.{Step}
+use Rattle.byteorder.specs.Endian.{big_bytes}
+use Rattle.afp_requests.specs.Words.{pathname, hint_size, count_size}
+use Rattle.afp_fields.specs.Putting.{Puts}
+use Rattle.afp_names.specs.Path.{PathValue, IsPath, step_bytes, steps_bytes, canonical_path}
+
+one_more : (i : ℕ) → i + 1 ≡ suc i
+one_more i = omega arith
+
+step_first : (steps : List Step) (i : ℕ) (step : Step) → slice_get steps i ≡ Some step → drop i steps ≡ step ∷ drop (suc i) steps
+step_first [] i step h = absurd cc
+step_first (s ∷ steps) zero step h = let same : s ≡ step = cc in rw same refl
+step_first (s ∷ steps) (suc i) step h = step_first steps i step h
+
+-- a step more has been put
+pub step_put : (kind : ℕ) (before : Option Step) (steps : List Step) (i : ℕ) (step : Step) (bytes out whole : List ℕ) → slice_get steps i ≡ Some step → out ≡ bytes ++ step_bytes kind before step → bytes ++ steps_bytes kind before (drop i steps) ≡ whole → out ++ steps_bytes kind (Some step) (drop (i + 1) steps) ≡ whole
+step_put kind before steps i step bytes out whole is put so_far =
+    let first : drop i steps ≡ step ∷ drop (suc i) steps = step_first steps i step is in
+    let all : bytes ++ (step_bytes kind before step ++ steps_bytes kind (Some step) (drop (suc i) steps)) ≡ whole = rw first at so_far in
+    rw (put, one_more i, append_assoc) all
+
+pub none_put : (p : PathValue) (kind : ℕ) (bytes : List ℕ) → kind ≡ p.kind → bytes ≡ [] → bytes ++ steps_bytes kind None (drop 0 p.steps) ≡ canonical_path p
+unfolding canonical_path
+none_put p kind bytes is h = rw (is, h) refl
+
+pub all_put : (kind : ℕ) (before : Option Step) (steps : List Step) (i : ℕ) (bytes whole : List ℕ) → length steps ≤ i → bytes ++ steps_bytes kind before (drop i steps) ≡ whole → bytes ≡ whole
+all_put kind before steps i bytes whole end so_far =
+    let rest : drop i steps ≡ [] = drop_all i steps end in
+    sym (append-nil bytes) ∙ (rw rest at so_far)
+
+-- a path's type, its hint and count, and its bytes may be put apart
+pub path_put : (p : PathValue) (kind again : ℕ) (out one two new text : List ℕ) → IsPath p → kind ≡ p.kind → again ≡ p.kind → text ≡ canonical_path p → one ≡ out ++ (kind ∷ []) → two ≡ one ++ (replicate (hint_size again) 0 ++ big_bytes (count_size again) (length text)) → new ≡ two ++ text → Puts (pathname p) out new
+path_put p kind again out one two new text typed is same spelt a b c = record { typed = typed; bytes = whole }
+  where
+    whole : new ≡ out ++ (p.kind ∷ (replicate (hint_size p.kind) 0 ++ (big_bytes (count_size p.kind) (length (canonical_path p)) ++ canonical_path p)))
+    whole = rw (c, b, a, is, same, spelt, append_assoc, append_assoc) (ap (λ (l : List ℕ). out ++ (p.kind ∷ l)) (append_assoc (replicate (hint_size p.kind) 0) (big_bytes (count_size p.kind) (length (canonical_path p))) (canonical_path p)))

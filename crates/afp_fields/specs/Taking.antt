@@ -1,0 +1,55 @@
+-- How the words of a request are taken from a block, one after the other.
+use Rattle.std.specs.Prelude.{◌≡◌, ℕ, ◌+◌, ◌≤◌, ◌<◌, List, length, Option, Some, None, Result, Ok, Err}
+use Rattle.std.specs.Borrow.{Bor}
+use Rattle.afp_requests.specs.declared.call.Call.{Call}
+use Rattle.afp_requests.specs.declared.call.ReadFault.{ReadFault}
+use Rattle.afp_requests.specs.declared.call.ReadFault.TheVariants as faults
+use Rattle.afp_requests.specs.Words.{Word, Value}
+use Rattle.afp_requests.specs.Reading.{Reading, Then, Alone, With, Reader, read_by, path_size, path_text}
+use Rattle.afp_fields.specs.Input.{Input, piece_at, behind, bytes_left, read_on}
+
+-- The word is taken from the front: what is read of it and more is read of the more behind it. Param: it does not stand there.
+abbrev pub Takes : (w : Word) → Input → Result (Value w) ReadFault → Input → Type 0
+Takes w old (Ok x) new = (more : Value w → Reading) → read_on (Then w more) old ≡ read_on (more x) new
+Takes w old (Err faults.Param) new = (more : Value w → Reading) → read_on (Then w more) old ≡ None
+Takes w old (Err faults.Memory) new = Unit {0}
+Takes w old (Err faults.NotSupported) new = ⊥
+
+-- Nothing comes with the block, so a request that comes alone is read. Param: something comes with it.
+abbrev pub StandsAlone : Input → Result (Unit {0}) ReadFault → Type 0
+StandsAlone f (Ok x) = (call : Call) → read_on (Alone call) f ≡ Some call
+StandsAlone f (Err faults.Param) = (call : Call) → read_on (Alone call) f ≡ None
+StandsAlone f (Err faults.Memory) = ⊥
+StandsAlone f (Err faults.NotSupported) = ⊥
+
+-- The first bytes, so many, of what comes with the block are taken, and the request of them is read. Param: fewer come, or nothing.
+abbrev pub TakesEnclosed : ℕ → Input → Result (List ℕ) ReadFault → Type 0
+TakesEnclosed size f (Ok piece) = (make : List ℕ → Call) → read_on (With size make) f ≡ Some (make piece)
+TakesEnclosed size f (Err faults.Param) = (make : List ℕ → Call) → read_on (With size make) f ≡ None
+TakesEnclosed size f (Err faults.Memory) = Unit {0}
+TakesEnclosed size f (Err faults.NotSupported) = ⊥
+
+-- The answer is the request that was found. Param: none was found.
+abbrev pub IsFound : Option Call → Result Call ReadFault → Type 0
+IsFound found (Ok call) = found ≡ Some call
+IsFound found (Err faults.Param) = found ≡ None
+IsFound found (Err faults.Memory) = Unit {0}
+IsFound found (Err faults.NotSupported) = ⊥
+
+-- The answer is the request that the reader finds.
+abbrev pub Gives : Reader → Input → Result Call ReadFault → Type 0
+Gives r old answer = IsFound (read_on r.reading old) answer
+
+-- The answer is the request that the reader of this number finds, if one of the readers has it.
+abbrev pub GivesBy : List Reader → ℕ → Input → Result Call ReadFault → Type 0
+GivesBy rs n old answer = IsFound (read_by rs n old.place old.enclosed (bytes_left old)) answer
+
+-- The next n bytes are taken. Param: there are fewer.
+abbrev pub TakesPiece : ℕ → Input → Result (Bor (List ℕ)) ReadFault → Input → Type 0
+TakesPiece n old (Ok x) new = (old.place ≤ length old.bytes) × (old.place + n ≤ length old.bytes) × (x.now ≡ piece_at old n) × (new ≡ behind old n)
+TakesPiece n old (Err fault) new = (old.place ≤ length old.bytes) × (length old.bytes < old.place + n) × (fault ≡ faults.Param) × (new ≡ old)
+
+-- A path's bytes, of that type, are taken behind the type. Param: there are fewer than their count.
+abbrev pub TakesText : ℕ → Input → Result (Bor (List ℕ)) ReadFault → Input → Type 0
+TakesText kind old (Ok x) new = (old.place + path_size kind (bytes_left old) ≤ length old.bytes) × (x.now ≡ path_text kind (bytes_left old)) × (new ≡ behind old (path_size kind (bytes_left old)))
+TakesText kind old (Err fault) new = (length old.bytes < old.place + path_size kind (bytes_left old)) × (fault ≡ faults.Param)

@@ -1,0 +1,161 @@
+//! The requests about the bytes of a fork (AFP Reference, "Fork Commands").
+
+ghost use Rattle.std.specs.Prelude.{◌≡◌, OnOk, []};
+ghost use Rattle.afp_requests.specs.Fork.{read, read_reader, read_ext, read_ext_reader, write, write_reader, write_ext, write_ext_reader, piece_size};
+ghost use Rattle.afp_fields.specs.Taking.{Gives};
+ghost use Rattle.afp_fields.specs.Putting.{PutsAll};
+
+use afp_base::{Bytes, ForkRef, OutOfMemory};
+use afp_fields::{Fields, put_command, put_i32, put_i64, put_pad, put_u8, put_u16, put_u32};
+use afp_requests::commands::{READ, READ_EXT, WRITE, WRITE_EXT};
+use afp_requests::{Call, ReadFault};
+use std::alloc::Global;
+
+/// FPRead.
+pub(crate) fn read_read(fields: &mut Fields<'_>) -> Result<Call, ReadFault>
+    ensures { Gives read_reader fields.old result }
+{
+    fields.pad()?;
+    let reference = ForkRef(fields.u16()?);
+    let offset = fields.i32()?;
+    let count = fields.u32()?;
+    let mask = fields.u8()?;
+    let character = fields.u8()?;
+    fields.alone()?;
+    Ok(Call::Read {
+        reference,
+        offset,
+        count,
+        mask,
+        character,
+    })
+}
+
+/// FPRead.
+pub(crate) fn write_read(
+    out: &mut Bytes,
+    reference: ForkRef,
+    offset: i32,
+    count: u32,
+    mask: u8,
+    character: u8,
+) -> Result<(), OutOfMemory>
+    ensures { OnOk result (PutsAll (read reference offset count mask character).fields out.old out.new) }
+{
+    put_command(out, READ)?;
+    put_pad(out)?;
+    put_u16(out, reference.0)?;
+    put_i32(out, offset)?;
+    put_u32(out, count)?;
+    put_u8(out, mask)?;
+    put_u8(out, character)
+}
+
+/// FPReadExt.
+pub(crate) fn read_read_ext(fields: &mut Fields<'_>) -> Result<Call, ReadFault>
+    ensures { Gives read_ext_reader fields.old result }
+{
+    fields.pad()?;
+    let reference = ForkRef(fields.u16()?);
+    let offset = fields.i64()?;
+    let count = fields.i64()?;
+    fields.alone()?;
+    Ok(Call::ReadExt {
+        reference,
+        offset,
+        count,
+    })
+}
+
+/// FPReadExt.
+pub(crate) fn write_read_ext(
+    out: &mut Bytes,
+    reference: ForkRef,
+    offset: i64,
+    count: i64,
+) -> Result<(), OutOfMemory>
+    ensures { OnOk result (PutsAll (read_ext reference offset count).fields out.old out.new) }
+{
+    put_command(out, READ_EXT)?;
+    put_pad(out)?;
+    put_u16(out, reference.0)?;
+    put_i64(out, offset)?;
+    put_i64(out, count)
+}
+
+/// FPWrite.
+pub(crate) fn read_write(alloc: Global, fields: &mut Fields<'_>) -> Result<Call, ReadFault>
+    ensures { Gives write_reader fields.old result }
+{
+    let flag = fields.u8()?;
+    let reference = ForkRef(fields.u16()?);
+    let offset = fields.i32()?;
+    let count = fields.u32()?;
+    let piece = fields.enclosed(alloc, u64::from(count))?;
+    Ok(Call::Write {
+        flag,
+        reference,
+        offset,
+        count,
+        piece,
+    })
+}
+
+/// FPWrite.
+pub(crate) fn write_write(
+    out: &mut Bytes,
+    flag: u8,
+    reference: ForkRef,
+    offset: i32,
+    count: u32,
+) -> Result<(), OutOfMemory>
+    ensures { OnOk result (PutsAll (write flag reference offset count []).fields out.old out.new) }
+{
+    put_command(out, WRITE)?;
+    put_u8(out, flag)?;
+    put_u16(out, reference.0)?;
+    put_i32(out, offset)?;
+    put_u32(out, count)
+}
+
+/// FPWriteExt.
+pub(crate) fn read_write_ext(alloc: Global, fields: &mut Fields<'_>) -> Result<Call, ReadFault>
+    ensures { Gives write_ext_reader fields.old result }
+{
+    let flag = fields.u8()?;
+    let reference = ForkRef(fields.u16()?);
+    let offset = fields.i64()?;
+    let count = fields.i64()?;
+    let piece = fields.enclosed(alloc, piece_size(count))?;
+    Ok(Call::WriteExt {
+        flag,
+        reference,
+        offset,
+        count,
+        piece,
+    })
+}
+
+/// FPWriteExt.
+pub(crate) fn write_write_ext(
+    out: &mut Bytes,
+    flag: u8,
+    reference: ForkRef,
+    offset: i64,
+    count: i64,
+) -> Result<(), OutOfMemory>
+    ensures { OnOk result (PutsAll (write_ext flag reference offset count []).fields out.old out.new) }
+{
+    put_command(out, WRITE_EXT)?;
+    put_u8(out, flag)?;
+    put_u16(out, reference.0)?;
+    put_i64(out, offset)?;
+    put_i64(out, count)
+}
+
+/// How many bytes a signed count asks for: none where it is negative.
+fn piece_size(count: i64) -> u64
+    ensures { result ≡ piece_size count }
+{
+    if count < 0 { 0 } else { count as u64 }
+}

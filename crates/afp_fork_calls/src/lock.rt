@@ -1,0 +1,79 @@
+//! The requests about byte-range locks (AFP Reference, "Fork Commands").
+
+ghost use Rattle.std.specs.Prelude.{◌<◌, length, OnOk};
+ghost use Rattle.afp_requests.specs.Fork.{byte_range_lock, byte_range_lock_reader, byte_range_lock_ext, byte_range_lock_ext_reader};
+ghost use Rattle.afp_fields.specs.Taking.{Gives};
+ghost use Rattle.afp_fields.specs.Putting.{PutsAll};
+
+use afp_base::{Bytes, ForkRef, OutOfMemory};
+use afp_fields::{Fields, put_command, put_i32, put_i64, put_u8, put_u16};
+use afp_requests::commands::{BYTE_RANGE_LOCK, BYTE_RANGE_LOCK_EXT};
+use afp_requests::{Call, ReadFault};
+
+/// FPByteRangeLock.
+pub(crate) fn read_byte_range_lock(fields: &mut Fields<'_>) -> Result<Call, ReadFault>
+    ensures { Gives byte_range_lock_reader fields.old result }
+{
+    let flags = fields.u8()?;
+    let reference = ForkRef(fields.u16()?);
+    let offset = fields.i32()?;
+    let length = fields.i32()?;
+    fields.alone()?;
+    Ok(Call::ByteRangeLock {
+        flags,
+        reference,
+        offset,
+        length,
+    })
+}
+
+/// FPByteRangeLock.
+pub(crate) fn write_byte_range_lock(
+    out: &mut Bytes,
+    flags: u8,
+    reference: ForkRef,
+    offset: i32,
+    length: i32,
+) -> Result<(), OutOfMemory>
+    ensures { OnOk result (PutsAll (byte_range_lock flags reference offset length).fields out.old out.new) }
+{
+    put_command(out, BYTE_RANGE_LOCK)?;
+    put_u8(out, flags)?;
+    put_u16(out, reference.0)?;
+    put_i32(out, offset)?;
+    put_i32(out, length)
+}
+
+/// FPByteRangeLockExt.
+pub(crate) fn read_byte_range_lock_ext(fields: &mut Fields<'_>) -> Result<Call, ReadFault>
+    ensures { Gives byte_range_lock_ext_reader fields.old result }
+{
+    let flags = fields.u8()?;
+    let reference = ForkRef(fields.u16()?);
+    let offset = fields.i64()?;
+    let length = fields.i64()?;
+    fields.alone()?;
+    Ok(Call::ByteRangeLockExt {
+        flags,
+        reference,
+        offset,
+        length,
+    })
+}
+
+/// FPByteRangeLockExt.
+pub(crate) fn write_byte_range_lock_ext(
+    out: &mut Bytes,
+    flags: u8,
+    reference: ForkRef,
+    offset: i64,
+    length: i64,
+) -> Result<(), OutOfMemory>
+    ensures { OnOk result (PutsAll (byte_range_lock_ext flags reference offset length).fields out.old out.new) }
+{
+    put_command(out, BYTE_RANGE_LOCK_EXT)?;
+    put_u8(out, flags)?;
+    put_u16(out, reference.0)?;
+    put_i64(out, offset)?;
+    put_i64(out, length)
+}

@@ -1,0 +1,8 @@
+-- Each request about files has the fields that its reader reads.
+use Rattle.std.proofs.Common.{refl}
+use Rattle.std.specs.List.{AllByRecursion}
+use Rattle.afp_requests.specs.File.{file_readers}
+use Rattle.afp_requests.proofs.ReaderLemmas.{IsSound}
+
+pub file_sound : AllByRecursion IsSound file_readers
+file_sound = (λ vs bytes h. refl, (λ vs bytes h. refl, (λ vs bytes h. refl, (λ vs bytes h. refl, (λ vs bytes h. refl, (λ vs bytes h. refl, (λ vs bytes h. refl, tt)))))))

@@ -1,0 +1,8 @@
+-- Each request about open forks has the fields that its reader reads.
+use Rattle.std.proofs.Common.{refl}
+use Rattle.std.specs.List.{AllByRecursion}
+use Rattle.afp_requests.specs.Fork.{fork_readers}
+use Rattle.afp_requests.proofs.ReaderLemmas.{IsSound}
+
+pub fork_sound : AllByRecursion IsSound fork_readers
+fork_sound = (λ vs bytes h. refl, (λ vs bytes h. refl, (λ vs bytes h. refl, (λ vs bytes h. refl, (λ vs bytes h. refl, (λ vs bytes h. refl, (λ vs bytes h. refl, (λ vs bytes h. refl, (λ vs bytes h. refl, (λ vs bytes h. refl, (λ vs bytes h. refl, tt)))))))))))

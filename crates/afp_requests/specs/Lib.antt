@@ -1,0 +1,12 @@
+pub mod Call
+pub mod Desktop
+pub mod Directory
+pub mod File
+pub mod Fork
+pub mod Group
+pub mod Laws
+pub mod Reading
+pub mod Session
+pub mod Spelt
+pub mod Volume
+pub mod Words

@@ -1,0 +1,10 @@
+//! The requests of the Apple Filing Protocol: which there are, and which bytes spell them (AFP
+//! Reference, "AFP Calls"). They are defined here; the crates above read and write them.
+#![tactic(auto)]
+
+mod call;
+pub mod commands;
+pub mod kinds;
+pub mod laws;
+
+pub use call::{Call, ReadFault};

@@ -1,0 +1,139 @@
+//! The requests about logging in and out (AFP Reference, "Login Commands").
+
+ghost use Rattle.std.specs.Prelude.{◌<◌, ◌^◌, length, OnOk};
+ghost use Rattle.afp_requests.specs.Words.{Counted, count_size, counted};
+ghost use Rattle.afp_requests.specs.Session.{login, login_reader, login_ext, login_ext_reader, logout, logout_reader};
+ghost use Rattle.afp_fields.specs.Taking.{Gives, Takes};
+ghost use Rattle.afp_fields.specs.Putting.{PutsAll, Puts};
+
+use afp_base::{Bytes, OutOfMemory};
+use afp_fields::{
+    Fields, put_bytes, put_command, put_even, put_literal, put_pad, put_str, put_text, put_u8,
+    put_u16,
+};
+use afp_names::{LONG_NAMES, UTF8_NAMES};
+use afp_requests::commands::{LOGIN, LOGIN_EXT, LOGOUT};
+use afp_requests::{Call, ReadFault};
+use std::alloc::Global;
+
+/// FPLogin.
+pub(crate) fn read_login(alloc: Global, fields: &mut Fields<'_>) -> Result<Call, ReadFault>
+    ensures { Gives login_reader fields.old result }
+{
+    let version = fields.str(alloc)?;
+    let uam = fields.str(alloc)?;
+    let tail = fields.tail(alloc)?;
+    fields.alone()?;
+    Ok(Call::Login { version, uam, tail })
+}
+
+/// FPLogin.
+pub(crate) fn write_login(
+    out: &mut Bytes,
+    version: &Bytes,
+    uam: &Bytes,
+    tail: &Bytes,
+) -> Result<(), OutOfMemory>
+    requires version { length version.now < 256 }
+    requires uam { length uam.now < 256 }
+    ensures { OnOk result (PutsAll (login version.now uam.now tail.now).fields out.old out.new) }
+{
+    put_command(out, LOGIN)?;
+    put_str(out, version.as_slice())?;
+    put_str(out, uam.as_slice())?;
+    put_bytes(out, tail.as_slice())
+}
+
+/// FPLoginExt.
+pub(crate) fn read_login_ext(alloc: Global, fields: &mut Fields<'_>) -> Result<Call, ReadFault>
+    ensures { Gives login_ext_reader fields.old result }
+{
+    fields.pad()?;
+    let flags = fields.u16()?;
+    let version = fields.str(alloc)?;
+    let uam = fields.str(alloc)?;
+    fields.literal(UTF8_NAMES)?;
+    let name = fields.text(alloc)?;
+    let path_kind = fields.u8_within(LONG_NAMES, UTF8_NAMES)?;
+    let path = path_text(alloc, fields, path_kind)?;
+    fields.even()?;
+    let tail = fields.tail(alloc)?;
+    fields.alone()?;
+    Ok(Call::LoginExt {
+        flags,
+        version,
+        uam,
+        name,
+        path_kind,
+        path,
+        tail,
+    })
+}
+
+/// FPLoginExt.
+pub(crate) fn write_login_ext(
+    out: &mut Bytes,
+    flags: u16,
+    version: &Bytes,
+    uam: &Bytes,
+    name: &Bytes,
+    path_kind: u8,
+    path: &Bytes,
+    tail: &Bytes,
+) -> Result<(), OutOfMemory>
+    requires version { length version.now < 256 }
+    requires uam { length uam.now < 256 }
+    requires name { length name.now < 256 ^ 2 }
+    requires path { length path.now < 256 ^ (count_size path_kind) }
+    ensures { OnOk result (PutsAll (login_ext flags version.now uam.now name.now path_kind path.now tail.now).fields out.old out.new) }
+{
+    put_command(out, LOGIN_EXT)?;
+    put_pad(out)?;
+    put_u16(out, flags)?;
+    put_str(out, version.as_slice())?;
+    put_str(out, uam.as_slice())?;
+    put_literal(out, UTF8_NAMES)?;
+    put_text(out, name.as_slice())?;
+    put_u8(out, path_kind)?;
+    put_path_text(out, path_kind, path.as_slice())?;
+    put_even(out)?;
+    put_bytes(out, tail.as_slice())
+}
+
+/// FPLogout.
+pub(crate) fn read_logout(fields: &mut Fields<'_>) -> Result<Call, ReadFault>
+    ensures { Gives logout_reader fields.old result }
+{
+    fields.last_pad();
+    fields.alone()?;
+    Ok(Call::Logout)
+}
+
+/// FPLogout.
+pub(crate) fn write_logout(out: &mut Bytes) -> Result<(), OutOfMemory>
+    ensures { OnOk result (PutsAll logout.fields out.old out.new) }
+{
+    put_command(out, LOGOUT)?;
+    put_pad(out)
+}
+
+/// The bytes of a path of that type, behind their count.
+fn path_text(alloc: Global, fields: &mut Fields<'_>, kind: u8) -> Result<Bytes, ReadFault>
+    ensures { Takes (Counted (count_size kind)) fields.old result fields.new }
+{
+    if kind == LONG_NAMES {
+        return fields.str(alloc);
+    }
+    fields.text(alloc)
+}
+
+/// The bytes of a path of that type, behind their count.
+fn put_path_text(out: &mut Bytes, kind: u8, text: &[u8]) -> Result<(), OutOfMemory>
+    requires { length text.now < 256 ^ count_size kind }
+    ensures { OnOk result (Puts (counted (count_size kind) text.now) out.old out.new) }
+{
+    if kind == LONG_NAMES {
+        return put_str(out, text);
+    }
+    put_text(out, text)
+}

@@ -1,0 +1,100 @@
+//! The requests about users (AFP Reference, "User Commands").
+
+ghost use Rattle.std.specs.Prelude.{◌<◌, ◌^◌, length, OnOk};
+ghost use Rattle.afp_requests.specs.Words.{Counted, counted};
+ghost use Rattle.afp_requests.specs.Session.{get_user_info, get_user_info_reader, map_id, map_id_reader, map_name, map_name_reader, name_count};
+ghost use Rattle.afp_fields.specs.Taking.{Gives, Takes};
+ghost use Rattle.afp_fields.specs.Putting.{PutsAll, Puts};
+
+use afp_base::{Bytes, OutOfMemory};
+use afp_fields::{Fields, put_command, put_str, put_text, put_u8, put_u16, put_u32};
+use afp_requests::commands::{GET_USER_INFO, MAP_ID, MAP_NAME};
+use afp_requests::kinds::{FIRST_FUNCTION, LAST_FUNCTION, LAST_UTF8_FUNCTION};
+use afp_requests::{Call, ReadFault};
+use std::alloc::Global;
+
+/// FPGetUserInfo.
+pub(crate) fn read_get_user_info(fields: &mut Fields<'_>) -> Result<Call, ReadFault>
+    ensures { Gives get_user_info_reader fields.old result }
+{
+    let flag = fields.u8()?;
+    let id = fields.u32()?;
+    let bits = fields.u16()?;
+    fields.alone()?;
+    Ok(Call::GetUserInfo { flag, id, bits })
+}
+
+/// FPGetUserInfo.
+pub(crate) fn write_get_user_info(
+    out: &mut Bytes,
+    flag: u8,
+    id: u32,
+    bits: u16,
+) -> Result<(), OutOfMemory>
+    ensures { OnOk result (PutsAll (get_user_info flag id bits).fields out.old out.new) }
+{
+    put_command(out, GET_USER_INFO)?;
+    put_u8(out, flag)?;
+    put_u32(out, id)?;
+    put_u16(out, bits)
+}
+
+/// FPMapID.
+pub(crate) fn read_map_id(fields: &mut Fields<'_>) -> Result<Call, ReadFault>
+    ensures { Gives map_id_reader fields.old result }
+{
+    let function = fields.u8_within(FIRST_FUNCTION, LAST_FUNCTION)?;
+    let id = fields.u32()?;
+    fields.alone()?;
+    Ok(Call::MapID { function, id })
+}
+
+/// FPMapID.
+pub(crate) fn write_map_id(out: &mut Bytes, function: u8, id: u32) -> Result<(), OutOfMemory>
+    ensures { OnOk result (PutsAll (map_id function id).fields out.old out.new) }
+{
+    put_command(out, MAP_ID)?;
+    put_u8(out, function)?;
+    put_u32(out, id)
+}
+
+/// FPMapName.
+pub(crate) fn read_map_name(alloc: Global, fields: &mut Fields<'_>) -> Result<Call, ReadFault>
+    ensures { Gives map_name_reader fields.old result }
+{
+    let function = fields.u8_within(FIRST_FUNCTION, LAST_FUNCTION)?;
+    let name = name_text(alloc, fields, function)?;
+    fields.alone()?;
+    Ok(Call::MapName { function, name })
+}
+
+/// FPMapName.
+pub(crate) fn write_map_name(out: &mut Bytes, function: u8, name: &Bytes) -> Result<(), OutOfMemory>
+    requires { length name.now < 256 ^ (name_count function) }
+    ensures { OnOk result (PutsAll (map_name function name.now).fields out.old out.new) }
+{
+    put_command(out, MAP_NAME)?;
+    put_u8(out, function)?;
+    put_name_text(out, function, name.as_slice())
+}
+
+/// A name, behind its count, which is wider for the functions that map names in UTF-8.
+fn name_text(alloc: Global, fields: &mut Fields<'_>, function: u8) -> Result<Bytes, ReadFault>
+    ensures { Takes (Counted (name_count function)) fields.old result fields.new }
+{
+    if function <= LAST_UTF8_FUNCTION {
+        return fields.text(alloc);
+    }
+    fields.str(alloc)
+}
+
+/// A name, behind its count, which is wider for the functions that map names in UTF-8.
+fn put_name_text(out: &mut Bytes, function: u8, text: &[u8]) -> Result<(), OutOfMemory>
+    requires { length text.now < 256 ^ name_count function }
+    ensures { OnOk result (Puts (counted (name_count function) text.now) out.old out.new) }
+{
+    if function <= LAST_UTF8_FUNCTION {
+        return put_text(out, text);
+    }
+    put_str(out, text)
+}
