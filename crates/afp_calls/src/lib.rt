@@ -6,7 +6,7 @@ mod read;
 mod write;
 
 pub use afp_requests::{Call, ReadFault, commands};
-pub use read::read_call;
+pub use read::{is_command, read_call};
 pub use write::write_call;
 
 #[cfg(test)]

@@ -4,7 +4,7 @@ ghost use Rattle.std.specs.Option.{option_copied};
 ghost use Rattle.afp_requests.specs.declared.call.Call.{Call};
 ghost use Rattle.afp_requests.specs.declared.call.ReadFault.{ReadFault};
 ghost use Rattle.afp_requests.specs.Laws.{BeginsWithCommand, BeginsWithNoCommand};
-ghost use Rattle.afp_requests.specs.Spelt.{readers, spelt_call};
+ghost use Rattle.afp_requests.specs.Spelt.{is_command, readers, spelt_call};
 ghost use Rattle.afp_calls.specs.Answer.{IsAnswer, IsRefused};
 ghost use Rattle.afp_calls.specs.Known.{Knows};
 
@@ -18,6 +18,19 @@ use afp_requests::{Call, ReadFault};
 use afp_session_calls::{is_session_call, read_session_call};
 use afp_volume_calls::{is_volume_call, read_volume_call};
 use std::alloc::Global;
+
+/// Whether a command has that number.
+#[tactic(auto, unfolding(afp_requests::specs::Spelt::is_command))]
+pub fn is_command(number: u8) -> bool
+    ensures { result ≡ is_command number }
+{
+    is_session_call(number)
+        || is_volume_call(number)
+        || is_directory_call(number)
+        || is_file_call(number)
+        || is_fork_call(number)
+        || is_desktop_call(number)
+}
 
 /// The request that a block spells, with the bytes that are enclosed in a Write frame; FPWrite,
 /// FPWriteExt and FPAddIcon come in a Write frame alone, and the others in none. Bytes behind a

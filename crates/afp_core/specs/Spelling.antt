@@ -8,11 +8,6 @@ use Rattle.afp_serial.specs.Rows.{refusal}
 use Rattle.afp_serial.specs.Steps.{block_of, enclosed_of, needs_user, refused, verdict_of_block, verdict_of_row}
 use Rattle.afp_serial.specs.World.{World, Session}
 
--- whether the block begins with a command that asks for a user
-abbrev pub first_needs_user : List ℕ → Bool
-first_needs_user [] = false
-first_needs_user (command ∷ fields) = needs_user command
-
 -- The request comes to the row of this call, or is refused before; want of memory may take the place of each.
 abbrev pub ComesTo : World → Session → Request → List ℕ → Result Call Stop → Type 0
 ComesTo w s r block (Ok call) = verdict_of_block w s r block ≡ verdict_of_row call (refusal w s call)

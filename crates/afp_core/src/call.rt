@@ -26,23 +26,30 @@ impl State {
         };
         let has_user = self.sessions.has_user(session);
         match spelled_call(self.alloc, has_user, write, offset, payload) {
-            Ok(call) => self.row(session, call),
+            Ok(call) => self.run(session, call),
             Err(Stop::Refused(code)) => Ok(refused(self.alloc, code)),
             Err(Stop::Memory) => Err(OutOfMemory),
         }
     }
 
-    /// Runs the row of a call of a session. A call whose row is not there yet is not supported.
-    fn row(&mut self, session: SessionNumber, call: Call) -> Result<Told, OutOfMemory>
+    /// Runs the row of a call of a session, and lets go of the call.
+    fn run(&mut self, session: SessionNumber, call: Call) -> Result<Told, OutOfMemory>
         ensures { RunsRow self.old session.0 call result self.new }
     {
+        self.row(session, &call)
+    }
+
+    /// The row of a call of a session. A call whose row is not there yet is not supported.
+    fn row(&mut self, session: SessionNumber, call: &Call) -> Result<Told, OutOfMemory>
+        ensures { RunsRow self.old session.0 call.now result self.new }
+    {
         match call {
-            Call::CloseVol { volume } => Ok(self.close_vol(session, volume)),
+            Call::CloseVol { volume } => Ok(self.close_vol(session, *volume)),
             Call::Login { version, uam, tail } => {
                 Ok(self.login(session, version.as_slice(), uam.as_slice(), tail.as_slice()))
             }
             Call::Logout => Ok(self.logout(session)),
-            Call::OpenVol { bits, name } => self.open_vol(session, bits, name.as_slice()),
+            Call::OpenVol { bits, name } => self.open_vol(session, *bits, name.as_slice()),
             _ => Ok(refused(self.alloc, Code::CallNotSupported)),
         }
     }

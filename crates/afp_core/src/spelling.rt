@@ -3,11 +3,11 @@ ghost use Rattle.std.specs.Prelude.{◌≡◌, ℕ, Bool, false, ◌&&◌, not};
 ghost use Rattle.std.specs.Option.{option_copied};
 ghost use Rattle.afp_serial.specs.Answer.{request};
 ghost use Rattle.afp_serial.specs.Steps.{needs_user};
-ghost use Rattle.afp_core.specs.Spelling.{first_needs_user, IsJudged, IsSpelled};
+ghost use Rattle.afp_core.specs.Spelling.{IsJudged, IsSpelled};
 
 use afp_base::Code;
 use afp_calls::commands::{GET_SRVR_INFO, LOGIN, LOGIN_EXT, LOGOUT};
-use afp_calls::{Call, ReadFault, read_call};
+use afp_calls::{Call, ReadFault, is_command, read_call};
 use std::alloc::Global;
 
 /// The commands that ask for no user.
@@ -47,31 +47,19 @@ fn judged_call(
 ) -> Result<Call, Stop>
     ensures { IsJudged has_user block.now (option_copied enclosed.entry) result }
 {
-    match read_call(alloc, block, enclosed) {
-        Ok(call) => {
-            if !has_user && first_needs_user(block) {
-                return Err(Stop::Refused(Code::UserNotAuth));
-            }
-            Ok(call)
-        }
-        Err(ReadFault::Param) => {
-            if !has_user && first_needs_user(block) {
-                return Err(Stop::Refused(Code::UserNotAuth));
-            }
-            Err(Stop::Refused(Code::ParamErr))
-        }
-        Err(ReadFault::NotSupported) => Err(Stop::Refused(Code::CallNotSupported)),
-        Err(ReadFault::Memory) => Err(Stop::Memory),
+    let Some(command) = block.first() else {
+        return Err(Stop::Refused(Code::ParamErr));
+    };
+    if !is_command(*command) {
+        return Err(Stop::Refused(Code::CallNotSupported));
     }
-}
-
-/// Whether the block begins with a command that asks for a user.
-fn first_needs_user(block: &[u8]) -> bool
-    ensures { result ≡ first_needs_user block.now }
-{
-    match block.first() {
-        Some(command) => needs_user(*command),
-        None => false,
+    if !has_user && needs_user(*command) {
+        return Err(Stop::Refused(Code::UserNotAuth));
+    }
+    match read_call(alloc, block, enclosed) {
+        Ok(call) => Ok(call),
+        Err(ReadFault::Memory) => Err(Stop::Memory),
+        Err(_) => Err(Stop::Refused(Code::ParamErr)),
     }
 }
 

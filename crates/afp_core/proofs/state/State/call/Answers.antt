@@ -7,10 +7,10 @@ use Rattle.afp_core.proofs.state.State.call.Goals as goal
 
 pub returns-in-Ok : goal.returns-in-Ok
 returns-in-Ok c = λ id.
-    call-runs c.args.self.now c.row.new.self c.args.link.0 c.in-Some.session.0 (request id c.args.write c.args.offset c.args.payload.now) c.in-Ok.call c.row.result c.has_user-has_user.result
+    call-runs c.args.self.now c.run.new.self c.args.link.0 c.in-Some.session.0 (request id c.args.write c.args.offset c.args.payload.now) c.in-Ok.call c.run.result c.has_user-has_user.result
     (subst (λ (w : World). IsAt w.sessions c.args.link.0 c.in-Some.session.0) c.self.view_is c.in-Some.ensures)
     (λ s at. c.has_user-has_user.ensures s (ap (λ (w : World). session_of w.sessions c.in-Some.session.0) c.self.view_is ∙ at))
-    (c.in-Ok.ensures id) c.row.ensures
+    (c.in-Ok.ensures id) c.run.ensures
 
 pub returns-in-Err-Refused : goal.returns-in-Err-Refused
 returns-in-Err-Refused c = λ id.

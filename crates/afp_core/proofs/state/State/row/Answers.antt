@@ -7,5 +7,5 @@ use Rattle.afp_core.proofs.state.State.row.Goals as goal
 
 pub returns-in_default : goal.returns-in_default
 returns-in_default c = λ moment s at.
-    is_refused c.args.self.now _ moment s c.args.call CallNotSupported _
-    (unsupported (dated c.args.self.now moment) s c.args.call c.in_default.not-CloseVol c.in_default.not-Login c.in_default.not-Logout c.in_default.not-OpenVol) c.refused.ensures refl
+    is_refused c.args.self.now _ moment s c.args.call.now CallNotSupported _
+    (unsupported (dated c.args.self.now moment) s c.args.call.now c.in_default.not-CloseVol c.in_default.not-Login c.in_default.not-Logout c.in_default.not-OpenVol) c.refused.ensures refl
