@@ -1,13 +1,13 @@
 -- Links are served one after the other.
-use Rattle.std.proofs.Common.{◌≡◌, ◌⊎◌, ℕ, ◌+◌, ◌<◌, ◌≤◌, true, false, List, [], ◌∷◌, ◌++◌, length, inl, inr, refl, sym, ap, subst, ◌∙◌, append_assoc, append-nil, length-append, arith}
-use Rattle.std.specs.Prelude.{Option, Some, None}
+use Rattle.std.proofs.Common.{◌≡◌, ℕ, ◌+◌, ◌<◌, false, List, [], ◌∷◌, ◌++◌, inl, inr, refl, sym, ap, subst, ◌∙◌, append_assoc, append-nil, length-append, arith}
+use Rattle.std.specs.Prelude.{Some}
 use Rattle.afp_outside.specs.Link.{LinkState}
 use Rattle.afp_outside.specs.Listener.{DoorState}
 use Rattle.afp_serial.specs.Household.{Household}
 use Rattle.afp_serial.specs.Shown.{Shown}
 use Rattle.afpd.specs.declared.links.DoorEnd.{DoorEnd}
 use Rattle.afpd.specs.declared.links.DoorEnd.TheVariants as doors
-use Rattle.afpd.specs.Links.{ServesLink, ServesEach, Serves, ServesOne, ServesNext, ServesUpTo, ServedSoFar}
+use Rattle.afpd.specs.Links.{ServesLink, ServesEach, ServesOne, ServesNext, ServesUpTo, ServedSoFar}
 
 each-more : {L : Type 0} (state : L → LinkState) (house : Household) (a b c : Shown) (links : List L) (link : L)
     → ServesEach state house a links b → ServesLink state house b link c → ServesEach state house a (links ++ link ∷ []) c

@@ -1,4 +1,4 @@
-ghost use Rattle.std.specs.Prelude.{◌≡◌, false, IfOk};
+ghost use Rattle.std.specs.Prelude.{◌≡◌, false, All, IfOk};
 ghost use Rattle.afp_outside.specs.Tape.{IsFreshTape};
 
 use crate::laws::good_words_are_served;
@@ -15,6 +15,10 @@ use std::test::Fail;
 
 /// A request of the status block.
 const REQUEST: &str = "00030000000000000000000000000000";
+
+/// Its reply, from a server `Mac` with the signature 00 to 0f.
+const STATUS: &str =
+    "01030000000000000000006f00000000001600200036000002b9034d6163005800680069006a094d6163696e746f73680306414650332e3306414650332e3206414650332e31020f4e6f20557365722041757468656e7410436c6561727478742050617373777264000102030405060708090a0b0c0d0e0f000000034d6163";
 
 /// What a client writes, what it is answered, and the report of a server that served it alone.
 fn sessions() -> [(&'static str, &'static str, &'static str); 6] {
@@ -100,6 +104,17 @@ fn link(
     Ok(link)
 }
 
+/// Links on which bytes come that hexadecimal digits spell, each in reads of some sizes.
+fn links(rt: &impl Abort, alloc: Global, coming: &[(&str, &[usize])]) -> Result<Vec<TapeLink>, Fail>
+    ensures { IfOk result (λ links. All IsFreshTape links.items) }
+{
+    let mut links = Vec::new(alloc);
+    for (hex, reads) in coming {
+        links.push(link(rt, alloc, hex, reads, &[])?)?;
+    }
+    Ok(links)
+}
+
 /// The words, with one of them another.
 fn words(alloc: Global, at: usize, other: &str) -> Result<Vec<String>, Fail> {
     let mut words = Vec::new(alloc);
@@ -128,6 +143,82 @@ fn expect_plain(
     assert_eq!(rt; told, status);
     assert_eq!(rt; report.written(), text.as_bytes());
     Ok(())
+}
+
+/// Serves links in one run, and expects this report, and that each is handed back in its order with its answers
+/// written.
+fn expect_links(
+    rt: &impl Abort,
+    alloc: Global,
+    words: &[String],
+    links: Vec<TapeLink>,
+    answers: &[&str],
+    report: &str,
+) -> Result<(), Fail>
+    requires { All IsFreshTape links.items }
+{
+    let mut door = TapeListener::new(alloc, links, Vec::new(alloc))?;
+    expect_plain(rt, alloc, words, &mut door, &[], 0, report)?;
+    let returned = door.returned();
+    assert_eq!(rt; returned.len(), answers.len());
+    for (i, (link, answers)) in returned.iter().zip(answers.iter()).enumerate() {
+        assert_eq!(rt;
+            link.written(),
+            bytes(alloc, answers)?.as_slice(),
+            "link {i}"
+        );
+    }
+    Ok(())
+}
+
+#[test]
+fn links_of_one_run_have_one_history(rt: HostRuntime) -> Result<(), Fail> {
+    let alloc = rt.alloc();
+    let words = words(alloc, 7, "4")?;
+    let (session, answers, _) = sessions()[0];
+    // Broken off in the middle of the last frame, which asks for the last 16 bytes of the answers.
+    let broken = session.get(..2 * 97).expect(&rt, "the session is longer");
+    let fewer = answers.get(..2 * 64).expect(&rt, "the answers are longer");
+    let links = links(
+        &rt,
+        alloc,
+        &[
+            (session, &[]),
+            (session, &[1; 106]),
+            (broken, &[]),
+            (REQUEST, &[]),
+        ],
+    )?;
+    // A Pulse, Open, a login, a volume, and a logout or Lost of each session; the status asks nothing.
+    expect_links(
+        &rt,
+        alloc,
+        words.as_slice(),
+        links,
+        &[answers, answers, fewer, STATUS],
+        "entries 15 sessions 3\n",
+    )
+}
+
+#[test]
+fn refused_calls_of_one_run_are_answered_on_their_links(rt: HostRuntime) -> Result<(), Fail> {
+    let alloc = rt.alloc();
+    let words = words(alloc, 7, "6")?;
+    let mut coming: Vec<(&str, &[usize])> = Vec::new(alloc);
+    let mut answers = Vec::new(alloc);
+    for (session, answer, _) in sessions() {
+        coming.push((session, &[]))?;
+        answers.push(answer)?;
+    }
+    let links = links(&rt, alloc, coming.as_slice())?;
+    expect_links(
+        &rt,
+        alloc,
+        words.as_slice(),
+        links,
+        answers.as_slice(),
+        "entries 30 sessions 6\n",
+    )
 }
 
 #[test]

@@ -1,4 +1,4 @@
-use Rattle.std.proofs.Common.{◌≡◌, ◌≢◌, [], replicate, subst}
+use Rattle.std.proofs.Common.{◌≡◌, ◌≢◌, [], subst}
 use Rattle.std.specs.Prelude.{IfErr, Some}
 use Rattle.afp_serial.specs.Household.{Household, household}
 use Rattle.afp_serial.specs.HouseFault.{house_fault}
