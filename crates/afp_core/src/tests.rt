@@ -260,6 +260,88 @@ fn calls_are_refused_in_the_order_of_their_steps(rt: HostRuntime) -> Result<(), 
     run(&rt, rt.alloc(), &mut teller, &turns)
 }
 
+/// FPWrite of one byte to the fork of reference 1: its block, and with it the byte.
+const WRITE_1: &[u8] = b"\x21\x00\x00\x01\x00\x00\x00\x00\x00\x00\x00\x01x";
+
+/// FPLoginExt with AFP3.3 and the UAM of the user without a name.
+const LOGIN_EXT: &[u8] =
+    b"\x3f\x00\x00\x00\x06AFP3.3\x0fNo User Authent\x03\x00\x00\x03\x00\x00\x00";
+
+#[test]
+fn calls_without_a_row_are_not_supported_where_they_are_spelt(rt: HostRuntime) -> Result<(), Fail> {
+    let without_a_user = [
+        (100, 0, What::Open, Want::Opened(1)),
+        (
+            100,
+            1,
+            What::Call(1, b"\x10\x00"),
+            Want::Refused(Code::UserNotAuth),
+        ),
+        (
+            100,
+            1,
+            What::Call(2, b"\x0f\x00"),
+            Want::Refused(Code::CallNotSupported),
+        ),
+        (
+            100,
+            1,
+            What::Call(3, LOGIN_EXT),
+            Want::Refused(Code::CallNotSupported),
+        ),
+        (100, 1, What::Call(4, LOGIN), Want::Ok(b"")),
+    ];
+    let with_a_user = [
+        (
+            100,
+            1,
+            What::Call(5, b"\x11\x00\x00"),
+            Want::Refused(Code::ParamErr),
+        ),
+        (
+            100,
+            1,
+            What::Call(6, b"\x11\x00\x00\x01\x0f\xff"),
+            Want::Refused(Code::CallNotSupported),
+        ),
+        (
+            100,
+            1,
+            What::Call(7, b"\x08\x00\x00\x01\x00\x00\x00\x02\x02\x01a"),
+            Want::Refused(Code::CallNotSupported),
+        ),
+        // A path of no type.
+        (
+            100,
+            1,
+            What::Call(8, b"\x08\x00\x00\x01\x00\x00\x00\x02\x04\x01a"),
+            Want::Refused(Code::ParamErr),
+        ),
+        // FPWrite comes in a Write frame, with as many bytes as it counts.
+        (
+            100,
+            1,
+            What::Call(9, WRITE_1),
+            Want::Refused(Code::ParamErr),
+        ),
+        (
+            100,
+            1,
+            What::Write(12, WRITE_1),
+            Want::Refused(Code::CallNotSupported),
+        ),
+        (
+            100,
+            1,
+            What::Write(13, WRITE_1),
+            Want::Refused(Code::ParamErr),
+        ),
+    ];
+    let mut teller = teller(&rt, rt.alloc())?;
+    run(&rt, rt.alloc(), &mut teller, &without_a_user)?;
+    run(&rt, rt.alloc(), &mut teller, &with_a_user)
+}
+
 #[test]
 fn sessions_end_with_their_links_and_numbers_are_not_given_twice(
     rt: HostRuntime,

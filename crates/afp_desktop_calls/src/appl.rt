@@ -42,7 +42,8 @@ pub(crate) fn write_add_appl(
     tag: u32,
     path: &Path,
 ) -> Result<(), OutOfMemory>
-    ensures { OnOk result (PutsAll (add_appl dt dir creator.now tag path.now).fields out.old out.new) }
+    ensures { OnOk result
+        (PutsAll (add_appl dt dir creator.now tag path.now).fields out.old out.new) }
 {
     put_command(out, ADD_APPL)?;
     put_pad(out)?;
@@ -80,7 +81,8 @@ pub(crate) fn write_remove_appl(
     creator: &[u8; 4],
     path: &Path,
 ) -> Result<(), OutOfMemory>
-    ensures { OnOk result (PutsAll (remove_appl dt dir creator.now path.now).fields out.old out.new) }
+    ensures { OnOk result
+        (PutsAll (remove_appl dt dir creator.now path.now).fields out.old out.new) }
 {
     put_command(out, REMOVE_APPL)?;
     put_pad(out)?;

@@ -41,7 +41,8 @@ pub(crate) fn write_add_comment(
     comment: &Bytes,
 ) -> Result<(), OutOfMemory>
     requires { length comment.now < 256 }
-    ensures { OnOk result (PutsAll (add_comment dt dir path.now comment.now).fields out.old out.new) }
+    ensures { OnOk result
+        (PutsAll (add_comment dt dir path.now comment.now).fields out.old out.new) }
 {
     put_command(out, ADD_COMMENT)?;
     put_pad(out)?;

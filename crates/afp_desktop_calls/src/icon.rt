@@ -45,7 +45,8 @@ pub(crate) fn write_add_icon(
     tag: u32,
     size: u16,
 ) -> Result<(), OutOfMemory>
-    ensures { OnOk result (PutsAll (add_icon dt creator.now kind.now icon_kind tag size []).fields out.old out.new) }
+    ensures { OnOk result
+        (PutsAll (add_icon dt creator.now kind.now icon_kind tag size []).fields out.old out.new) }
 {
     put_command(out, ADD_ICON)?;
     put_pad(out)?;
@@ -88,7 +89,8 @@ pub(crate) fn write_get_icon(
     icon_kind: u8,
     length: u16,
 ) -> Result<(), OutOfMemory>
-    ensures { OnOk result (PutsAll (get_icon dt creator.now kind.now icon_kind length).fields out.old out.new) }
+    ensures { OnOk result
+        (PutsAll (get_icon dt creator.now kind.now icon_kind length).fields out.old out.new) }
 {
     put_command(out, GET_ICON)?;
     put_pad(out)?;

@@ -51,7 +51,9 @@ pub(crate) fn write_enumerate(
     size: u16,
     path: &Path,
 ) -> Result<(), OutOfMemory>
-    ensures { OnOk result (PutsAll (enumerate volume dir file_bits dir_bits count start size path.now).fields out.old out.new) }
+    ensures { OnOk result
+        (PutsAll (enumerate volume dir file_bits dir_bits count start size path.now).fields
+        out.old out.new) }
 {
     put_command(out, ENUMERATE)?;
     put_pad(out)?;
@@ -104,7 +106,9 @@ pub(crate) fn write_enumerate_ext(
     size: u16,
     path: &Path,
 ) -> Result<(), OutOfMemory>
-    ensures { OnOk result (PutsAll (enumerate_ext volume dir file_bits dir_bits count start size path.now).fields out.old out.new) }
+    ensures { OnOk result
+        (PutsAll (enumerate_ext volume dir file_bits dir_bits count start size path.now).fields
+        out.old out.new) }
 {
     put_command(out, ENUMERATE_EXT)?;
     put_pad(out)?;
@@ -157,7 +161,9 @@ pub(crate) fn write_enumerate_ext2(
     size: u32,
     path: &Path,
 ) -> Result<(), OutOfMemory>
-    ensures { OnOk result (PutsAll (enumerate_ext2 volume dir file_bits dir_bits count start size path.now).fields out.old out.new) }
+    ensures { OnOk result
+        (PutsAll (enumerate_ext2 volume dir file_bits dir_bits count start size path.now).fields
+        out.old out.new) }
 {
     put_command(out, ENUMERATE_EXT2)?;
     put_pad(out)?;

@@ -43,7 +43,8 @@ pub(crate) fn write_set_dir_parms(
     path: &Path,
     tail: &Bytes,
 ) -> Result<(), OutOfMemory>
-    ensures { OnOk result (PutsAll (set_dir_parms volume dir bits path.now tail.now).fields out.old out.new) }
+    ensures { OnOk result
+        (PutsAll (set_dir_parms volume dir bits path.now tail.now).fields out.old out.new) }
 {
     put_command(out, SET_DIR_PARMS)?;
     put_pad(out)?;
@@ -88,7 +89,9 @@ pub(crate) fn write_get_file_dir_parms(
     dir_bits: u16,
     path: &Path,
 ) -> Result<(), OutOfMemory>
-    ensures { OnOk result (PutsAll (get_file_dir_parms volume dir file_bits dir_bits path.now).fields out.old out.new) }
+    ensures { OnOk result
+        (PutsAll (get_file_dir_parms volume dir file_bits dir_bits path.now).fields
+        out.old out.new) }
 {
     put_command(out, GET_FILE_DIR_PARMS)?;
     put_pad(out)?;
@@ -133,7 +136,8 @@ pub(crate) fn write_set_file_dir_parms(
     path: &Path,
     tail: &Bytes,
 ) -> Result<(), OutOfMemory>
-    ensures { OnOk result (PutsAll (set_file_dir_parms volume dir bits path.now tail.now).fields out.old out.new) }
+    ensures { OnOk result
+        (PutsAll (set_file_dir_parms volume dir bits path.now tail.now).fields out.old out.new) }
 {
     put_command(out, SET_FILE_DIR_PARMS)?;
     put_pad(out)?;

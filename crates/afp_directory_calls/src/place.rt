@@ -68,7 +68,8 @@ pub(crate) fn write_rename(
     path: &Path,
     new_path: &Path,
 ) -> Result<(), OutOfMemory>
-    ensures { OnOk result (PutsAll (rename volume dir path.now new_path.now).fields out.old out.new) }
+    ensures { OnOk result
+        (PutsAll (rename volume dir path.now new_path.now).fields out.old out.new) }
 {
     put_command(out, RENAME)?;
     put_pad(out)?;
@@ -114,7 +115,9 @@ pub(crate) fn write_move_and_rename(
     target_path: &Path,
     new_path: &Path,
 ) -> Result<(), OutOfMemory>
-    ensures { OnOk result (PutsAll (move_and_rename volume dir target_dir path.now target_path.now new_path.now).fields out.old out.new) }
+    ensures { OnOk result
+        (PutsAll (move_and_rename volume dir target_dir path.now target_path.now new_path.now).fields
+        out.old out.new) }
 {
     put_command(out, MOVE_AND_RENAME)?;
     put_pad(out)?;

@@ -1,9 +1,8 @@
 -- What the words of requests are read as, where a cursor stands before them.
-use Rattle.std.proofs.Common.{◌≡◌, ◌&&◌, ℕ, ℤ, zero, suc, Bool, cond, subst, ◌+◌, ◌-◌, ◌%◌, ◌<◌, ◌≤◌, true, false, nat_le, min, List, [], ◌∷◌, ◌++◌, length, take, drop, get_or, is_none, w32, w64, Option, Some, None, Err, refl, sym, ◌∙◌, ap, arith}
-use Rattle.std.proofs.Math.Nat.{mod-eq_of_lt}
+use Rattle.std.proofs.Common.{◌≡◌, ◌&&◌, ℕ, ℤ, Bool, cond, subst, ◌+◌, ◌%◌, ◌<◌, ◌≤◌, true, false, nat_le, List, [], ◌∷◌, length, take, drop, get_or, is_none, w32, w64, Option, Some, None, Err, refl, sym, ◌∙◌, ap, arith}
 use Rattle.std.proofs.lemmas.Bool.{le-leb, lt-leb, eq-eqb, ne_eqb}
-use Rattle.std.proofs.lemmas.List.{append_assoc, append-nil, drop-drop, length-drop, length-take-le, take_all, drop_all, length-append}
-use Rattle.byteorder.specs.Endian.{big_number, big_bytes}
+use Rattle.std.proofs.lemmas.List.{drop-drop, length-drop, take_all, drop_all}
+use Rattle.byteorder.specs.Endian.{big_number}
 use Rattle.byteorder.specs.Numbers.{big_from-take}
 use Rattle.std.specs.Int.{cast_signed}
 use Rattle.afp_names.specs.declared.path.PathFault.{PathFault}

@@ -85,7 +85,9 @@ pub(crate) fn write_copy_file(
     target_path: &Path,
     new_path: &Path,
 ) -> Result<(), OutOfMemory>
-    ensures { OnOk result (PutsAll (copy_file volume dir target_volume target_dir path.now target_path.now new_path.now).fields out.old out.new) }
+    ensures { OnOk result
+        (PutsAll (copy_file volume dir target_volume target_dir path.now target_path.now new_path.now).fields
+        out.old out.new) }
 {
     put_command(out, COPY_FILE)?;
     put_pad(out)?;
@@ -129,7 +131,8 @@ pub(crate) fn write_set_file_parms(
     path: &Path,
     tail: &Bytes,
 ) -> Result<(), OutOfMemory>
-    ensures { OnOk result (PutsAll (set_file_parms volume dir bits path.now tail.now).fields out.old out.new) }
+    ensures { OnOk result
+        (PutsAll (set_file_parms volume dir bits path.now tail.now).fields out.old out.new) }
 {
     put_command(out, SET_FILE_PARMS)?;
     put_pad(out)?;
@@ -171,7 +174,9 @@ pub(crate) fn write_exchange_files(
     path: &Path,
     second_path: &Path,
 ) -> Result<(), OutOfMemory>
-    ensures { OnOk result (PutsAll (exchange_files volume dir second_dir path.now second_path.now).fields out.old out.new) }
+    ensures { OnOk result
+        (PutsAll (exchange_files volume dir second_dir path.now second_path.now).fields
+        out.old out.new) }
 {
     put_command(out, EXCHANGE_FILES)?;
     put_pad(out)?;

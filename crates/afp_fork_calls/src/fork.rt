@@ -44,7 +44,8 @@ pub(crate) fn write_open_fork(
     mode: u16,
     path: &Path,
 ) -> Result<(), OutOfMemory>
-    ensures { OnOk result (PutsAll (open_fork flag volume dir bits mode path.now).fields out.old out.new) }
+    ensures { OnOk result
+        (PutsAll (open_fork flag volume dir bits mode path.now).fields out.old out.new) }
 {
     put_command(out, OPEN_FORK)?;
     put_u8(out, flag)?;
@@ -141,7 +142,8 @@ pub(crate) fn write_set_fork_parms(
     bits: u16,
     tail: &Bytes,
 ) -> Result<(), OutOfMemory>
-    ensures { OnOk result (PutsAll (set_fork_parms reference bits tail.now).fields out.old out.new) }
+    ensures { OnOk result
+        (PutsAll (set_fork_parms reference bits tail.now).fields out.old out.new) }
 {
     put_command(out, SET_FORK_PARMS)?;
     put_pad(out)?;

@@ -40,7 +40,8 @@ pub(crate) fn write_read(
     mask: u8,
     character: u8,
 ) -> Result<(), OutOfMemory>
-    ensures { OnOk result (PutsAll (read reference offset count mask character).fields out.old out.new) }
+    ensures { OnOk result
+        (PutsAll (read reference offset count mask character).fields out.old out.new) }
 {
     put_command(out, READ)?;
     put_pad(out)?;
@@ -144,7 +145,8 @@ pub(crate) fn write_write_ext(
     offset: i64,
     count: i64,
 ) -> Result<(), OutOfMemory>
-    ensures { OnOk result (PutsAll (write_ext flag reference offset count []).fields out.old out.new) }
+    ensures { OnOk result
+        (PutsAll (write_ext flag reference offset count []).fields out.old out.new) }
 {
     put_command(out, WRITE_EXT)?;
     put_u8(out, flag)?;

@@ -35,7 +35,8 @@ pub(crate) fn write_byte_range_lock(
     offset: i32,
     length: i32,
 ) -> Result<(), OutOfMemory>
-    ensures { OnOk result (PutsAll (byte_range_lock flags reference offset length).fields out.old out.new) }
+    ensures { OnOk result
+        (PutsAll (byte_range_lock flags reference offset length).fields out.old out.new) }
 {
     put_command(out, BYTE_RANGE_LOCK)?;
     put_u8(out, flags)?;
@@ -69,7 +70,8 @@ pub(crate) fn write_byte_range_lock_ext(
     offset: i64,
     length: i64,
 ) -> Result<(), OutOfMemory>
-    ensures { OnOk result (PutsAll (byte_range_lock_ext flags reference offset length).fields out.old out.new) }
+    ensures { OnOk result
+        (PutsAll (byte_range_lock_ext flags reference offset length).fields out.old out.new) }
 {
     put_command(out, BYTE_RANGE_LOCK_EXT)?;
     put_u8(out, flags)?;

@@ -1,7 +1,7 @@
 -- Each request about the session: logging in and out, tokens, and what the server tells of itself and of users has the fields that its reader reads.
-use Rattle.std.proofs.Common.{◌≡◌, ℕ, ◌+◌, List, [], ◌∷◌, ◌++◌, length, Option, refl, sym, ◌∙◌, ap}
+use Rattle.std.proofs.Common.{◌≡◌, ℕ, List, [], ◌∷◌, length, Option, refl, sym, ◌∙◌, ap}
 use Rattle.std.specs.List.{AllByRecursion}
-use Rattle.afp_requests.specs.Words.{Field, Layout, BeginsWith, in_command, command, pad, u16_within, count_in, optional, plain}
+use Rattle.afp_requests.specs.Words.{BeginsWith, in_command, command, pad, u16_within, count_in, optional, plain}
 use Rattle.afp_requests.specs.Session.{session_readers, get_session_token_reader, has_stamp}
 use Rattle.afp_requests.specs.declared.commands.TheConstants.{GET_SESSION_TOKEN}
 use Rattle.afp_requests.specs.declared.kinds.TheConstants.{LOGIN_WITHOUT_ID, RECONN_WITH_TIME_AND_ID}

@@ -85,7 +85,9 @@ pub(crate) fn write_login_ext(
     requires uam { length uam.now < 256 }
     requires name { length name.now < 256 ^ 2 }
     requires path { length path.now < 256 ^ (count_size path_kind) }
-    ensures { OnOk result (PutsAll (login_ext flags version.now uam.now name.now path_kind path.now tail.now).fields out.old out.new) }
+    ensures { OnOk result
+        (PutsAll (login_ext flags version.now uam.now name.now path_kind path.now tail.now).fields
+        out.old out.new) }
 {
     put_command(out, LOGIN_EXT)?;
     put_pad(out)?;
