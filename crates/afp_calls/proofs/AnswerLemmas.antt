@@ -1,5 +1,5 @@
 -- What an answer of reading a request says.
-use Rattle.std.proofs.Common.{◌≡◌, ◌==◌, ℕ, true, false, List, [], ◌∷◌, ◌++◌, length, get_or, Option, Some, None, Result, Ok, Err, MatchResult, refl, sym, ap, subst, ◌∙◌, inl, inr, arith}
+use Rattle.std.proofs.Common.{◌≡◌, ◌==◌, ℕ, true, false, List, [], ◌∷◌, length, get_or, Option, Some, None, Result, Ok, Err, MatchResult, refl, subst, inl, inr, arith}
 use Rattle.std.proofs.lemmas.Bool.{eqb-true}
 use Rattle.afp_requests.specs.declared.call.Call.{Call}
 use Rattle.afp_requests.specs.declared.call.ReadFault.{ReadFault}
@@ -7,7 +7,7 @@ use Rattle.afp_requests.specs.declared.call.ReadFault.TheVariants as faults
 use Rattle.afp_requests.specs.Laws.{BeginsWithNoCommand, BeginsWithCommand, IsBytes, IsFunction, SpeltCanBeWritten, UnknownIsNotSpelt}
 use Rattle.afp_requests.specs.Spelt.{is_command, readers, spelt_call}
 use Rattle.afp_fields.specs.Input.{Input}
-use Rattle.afp_calls.specs.Answer.{IsRequest, IsUnknown, IsMisspelt, IsAnswer, IsRefused}
+use Rattle.afp_calls.specs.Answer.{IsMisspelt, IsAnswer, IsRefused}
 use Rattle.afp_calls.specs.Known.{Knows}
 
 pub answer_read : (block : List ℕ) (enclosed : Option (List ℕ)) (result : Result Call ReadFault) → IsAnswer block enclosed result → (call : Call) → spelt_call block enclosed ≡ Some call → MatchResult result (λ c. c ≡ call) (λ fault. fault ≡ faults.Memory)

@@ -1,12 +1,12 @@
 -- One of the groups of requests answers for all.
-use Rattle.std.proofs.Common.{◌≡◌, ◌≢◌, ℕ, ℤ, ◌==◌, ◌||◌, Bool, true, false, cond, List, [], ◌∷◌, ◌++◌, Option, Some, None, Result, Ok, Err, refl, sym, ap, ◌∙◌}
+use Rattle.std.proofs.Common.{◌≡◌, ◌≢◌, ℕ, ℤ, ◌==◌, ◌||◌, Bool, true, false, List, [], ◌∷◌, ◌++◌, Option, Result, Ok, Err, refl, sym, ap, ◌∙◌}
 use Rattle.afp_base.specs.declared.ids.ForkRef.{ForkRef}
 use Rattle.afp_requests.specs.declared.call.Call.{Call}
 use Rattle.afp_requests.specs.declared.call.Call.TheVariants.{Write, WriteExt, AddIcon}
 use Rattle.afp_requests.specs.Call.{layout_of, canonical_call, canonical_piece}
 use Rattle.afp_requests.specs.declared.call.ReadFault.{ReadFault}
 use Rattle.afp_requests.specs.declared.call.ReadFault.TheVariants as faults
-use Rattle.afp_requests.specs.Reading.{Reader, read, has_reader, read_by}
+use Rattle.afp_requests.specs.Reading.{Reader, has_reader, read_by}
 use Rattle.afp_requests.specs.Group.{Group, Session, Volume, Directory, File, Fork, Desktop}
 use Rattle.afp_fields.specs.Input.{Input, bytes_left}
 use Rattle.afp_fields.specs.Taking.{GivesBy}

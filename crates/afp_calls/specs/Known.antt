@@ -1,5 +1,5 @@
 -- What the groups of requests answer together, for the proofs; no public contract cites it.
-use Rattle.std.specs.Prelude.{◌≡◌, ℕ, true, false, List, Option, Some, None, Result, Ok, Err}
+use Rattle.std.specs.Prelude.{◌≡◌, ℕ, true, false, List, Some, None, Result, Ok, Err}
 use Rattle.afp_requests.specs.declared.call.Call.{Call}
 use Rattle.afp_requests.specs.declared.call.ReadFault.{ReadFault}
 use Rattle.afp_requests.specs.declared.call.ReadFault.TheVariants as faults

@@ -50,7 +50,7 @@ impl<'a> Fields<'a> {
     }
 
     /// The next `size` bytes.
-    pub fn piece(&mut self, size: usize) -> Result<&'a [u8], ReadFault>
+    pub(crate) fn piece(&mut self, size: usize) -> Result<&'a [u8], ReadFault>
         ensures { TakesPiece size self.old result self.new }
     {
         if self.block.len() - self.place < size {
