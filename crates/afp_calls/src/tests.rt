@@ -120,6 +120,19 @@ fn a_read_has_its_fields_and_bytes_behind_them_are_free(rt: HostRuntime) -> Resu
 }
 
 #[test]
+fn a_write_has_as_many_bytes_as_it_counts(rt: HostRuntime) -> Result<(), Fail> {
+    let block = b"\x21\x00\x00\x01\x00\x00\x00\x00\x00\x00\x00\x01";
+    expect_misspelt(&rt, rt.alloc(), block, None);
+    let call = read_call(rt.alloc(), block, Some(b"xy"))?;
+    if let Call::Write { piece, .. } = &call {
+        assert_eq!(rt; piece.as_slice(), b"x".as_slice());
+    } else {
+        assert!(rt; false, "no FPWrite");
+    }
+    expect_written(&rt, rt.alloc(), block, Some(b"xy"), block, b"x")
+}
+
+#[test]
 fn numbers_keep_their_signs(rt: HostRuntime) -> Result<(), Fail> {
     let block = b"\x01\x01\x00\x02\xff\xff\xff\xfe\x80\x00\x00\x01";
     let call = read_call(rt.alloc(), block, None)?;
