@@ -1,5 +1,6 @@
 //! Laws of the definitions that every layer cites. Each function says one, and does nothing.
 ghost use Rattle.afp_base.specs.Cached as cached;
+ghost use Rattle.afp_base.specs.Code as code;
 ghost use Rattle.afp_base.specs.DenyMode as deny_mode;
 ghost use Rattle.afp_base.specs.ForkBytes as fork_bytes;
 ghost use Rattle.afp_base.specs.Overlap as overlap;
@@ -38,4 +39,10 @@ pub fn repeat_finds_newest()
     ensures repeats { cached.TellsRepeats }
     ensures newest { cached.FindsNewest }
     ensures others { cached.PassesOthers }
+{}
+
+/// Different codes have different numbers; so what has a code's number is that code, and [`crate::Code::of`] gives it back.
+pub fn numbers_tell_codes()
+    ensures different { code.HasOwnNumber }
+    ensures found { code.FindsCode }
 {}
