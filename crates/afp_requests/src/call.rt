@@ -6,7 +6,7 @@ use afp_names::Path;
 /// are only: a `function` of 1 to 4; FPGetSessionToken's `kind` of 0 to 4, with a `stamp` exactly
 /// where it is 3 or 4; a `path_kind` of 2 or 3; a `piece` of exactly `count` (or `size`) bytes, of
 /// none where `count` is negative; texts that fit their counts. All other rules are the call's own.
-#[derive(Debug, Drop)]
+#[derive(Drop)]
 pub enum Call {
     ByteRangeLock {
         flags: u8,
