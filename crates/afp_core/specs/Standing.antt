@@ -1,6 +1,6 @@
 -- A server in memory: its world, and what it has counted (this profile).
 use Rattle.std.specs.Prelude.{ℕ, List, [], Option, map}
-use Rattle.afp_calls.specs.VolumeState.{fresh_volume}
+use Rattle.afp_volume.specs.VolumeState.{fresh_volume}
 use Rattle.afp_serial.specs.Household.{Household}
 use Rattle.afp_serial.specs.World.{World, Session, fresh_world}
 

@@ -11,8 +11,8 @@ use Rattle.afp_names.specs.Name.{name_fault}
 use Rattle.afp_names.specs.declared.name.NameFault.{NameFault}
 use Rattle.afp_names.specs.declared.name.TheConstants.{LONGEST_NAME}
 use Rattle.std.proofs.lemmas.Slice.Eq.{bytes_eq-Decides}
-use Rattle.afp_calls.specs.SoundVolume.{is_tree, has_apart_names, has_noted_nodes, is_formed_volume, keeps_limits}
-use Rattle.afp_calls.specs.VolumeState.{VolumeState, fresh_volume}
+use Rattle.afp_volume.specs.SoundVolume.{is_tree, has_apart_names, has_noted_nodes, is_formed_volume, keeps_limits}
+use Rattle.afp_volume.specs.VolumeState.{VolumeState, fresh_volume}
 use Rattle.afp_serial.proofs.Faultless.{faultless}
 use Rattle.afp_serial.proofs.SoundParts.{ApartSessions, sessions-whole, opens-whole, locks-whole, caches-whole, limits-whole}
 use Rattle.afp_serial.proofs.TestedLists.{all-each, all-map, all-map-where, length-mapped}

@@ -5,7 +5,7 @@ use Rattle.std.specs.List.{list_all}
 use Rattle.std.proofs.lemmas.Bool.{and_parts, and_from}
 use Rattle.afp_base.specs.DenyMode.{do_conflict}
 use Rattle.afp_base.specs.Overlap.{do_meet}
-use Rattle.afp_calls.specs.SoundVolume.{are_apart, keeps_limits}
+use Rattle.afp_volume.specs.SoundVolume.{are_apart, keeps_limits}
 use Rattle.afp_serial.specs.Limits.{most_users, most_volumes, most_sessions, most_forks, most_locks}
 use Rattle.afp_serial.specs.Sessions.{is_open}
 use Rattle.afp_serial.specs.Sound.{share_link, is_link_below, has_apart_sessions, is_lawful_open, has_lawful_opens, share_fork, has_lawful_locks, is_lawful_cache, has_lawful_caches, keeps_all_limits}

@@ -5,7 +5,7 @@ use Rattle.std.specs.List.{All, list_all, list_any, filter, find, count_by}
 use Rattle.std.proofs.lemmas.Bool.{and_parts, and_from, or_cases, or_left, or_right, cond_both, cond-true, cond-false, eqb-true, eq-eqb, cases_Bool, both_ways}
 use Rattle.std.proofs.lemmas.List.Folds.{list_any-append}
 use Rattle.std.proofs.lemmas.List.Sums.{sum_by-cons}
-use Rattle.afp_calls.specs.SoundVolume.{are_apart}
+use Rattle.afp_volume.specs.SoundVolume.{are_apart}
 
 -- where c gives b, what is not b is not c
 pub contra : (b c : Bool) → (c ≡ true → b ≡ true) → not b ≡ true → not c ≡ true

@@ -1,7 +1,7 @@
 -- Finding, changing and ending sessions (this profile).
 use Rattle.std.specs.Prelude.{ℕ, zero, suc, ◌==◌, Bool, false, not, if◌then◌else◌, List, filter, find, map, slice_get, Option, None}
 use Rattle.std.specs.List.{list_any}
-use Rattle.afp_calls.specs.VolumeState.{VolumeState}
+use Rattle.afp_volume.specs.VolumeState.{VolumeState}
 use Rattle.afp_serial.specs.declared.attachment.Attachment.{Attachment}
 use Rattle.afp_serial.specs.declared.attachment.Attachment.TheVariants.{Attached, Detached}
 use Rattle.afp_serial.specs.World.{World, Session, OpenFork}

@@ -5,8 +5,8 @@ use Rattle.std.specs.List.{list_all, list_any}
 use Rattle.afp_base.specs.Cached.{Kept, is_repeat}
 use Rattle.afp_base.specs.DenyMode.{is_one_fork, do_conflict}
 use Rattle.afp_base.specs.Overlap.{do_meet}
-use Rattle.afp_calls.specs.VolumeState.{VolumeState}
-use Rattle.afp_calls.specs.SoundVolume.{are_apart, has_file, is_tree, has_apart_names, has_noted_nodes, is_formed_volume, keeps_limits}
+use Rattle.afp_volume.specs.VolumeState.{VolumeState}
+use Rattle.afp_volume.specs.SoundVolume.{are_apart, has_file, is_tree, has_apart_names, has_noted_nodes, is_formed_volume, keeps_limits}
 use Rattle.afp_serial.specs.declared.attachment.Attachment.{Attachment}
 use Rattle.afp_serial.specs.declared.attachment.Attachment.TheVariants.{Attached, Detached}
 use Rattle.afp_serial.specs.Limits.{most_users, most_volumes, most_sessions, most_kept, most_forks, most_locks, longest_block}

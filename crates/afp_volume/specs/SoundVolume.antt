@@ -2,7 +2,7 @@
 use Rattle.std.specs.Prelude.{ℕ, zero, suc, ◌^◌, ◌+◌, ◌==◌, nat_le, nat_lt, Bool, true, not, ◌&&◌, ◌||◌, if◌then◌else◌, List, [], ◌∷◌, length, sum_by, bit_and, bytes_eq, is_none}
 use Rattle.std.specs.List.{list_all, list_any}
 use Rattle.afp_names.specs.Name.{name_fault, name_key}
-use Rattle.afp_calls.specs.VolumeState.{Row, Comment, Icon, Appl, VolumeState, finder_size, root_id, root_parent, first_id}
+use Rattle.afp_volume.specs.VolumeState.{Row, Comment, Icon, Appl, VolumeState, finder_size, root_id, root_parent, first_id}
 
 -- no two elements are alike
 abbrev pub are_apart : {A : Type 0} → (A → A → Bool) → List A → Bool

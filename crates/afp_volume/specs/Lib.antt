@@ -1,0 +1,2 @@
+pub mod VolumeState
+pub mod SoundVolume

@@ -1,0 +1,2 @@
+//! One volume: what it is, and what holds of it.
+#![tactic(auto)]
