@@ -1,2 +1,9 @@
 pub mod VolumeState
+pub mod Order
 pub mod SoundVolume
+pub mod Walk
+pub mod Edits
+pub mod TreeCalls
+pub mod Laws
+pub mod Listing
+pub mod TreeSteps

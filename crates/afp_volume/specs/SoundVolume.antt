@@ -1,7 +1,8 @@
 -- What holds of every volume (this profile, after the AFP Reference's "Catalog node IDs" and "Desktop database").
-use Rattle.std.specs.Prelude.{ℕ, zero, suc, ◌^◌, ◌+◌, ◌==◌, nat_le, nat_lt, Bool, true, not, ◌&&◌, ◌||◌, if◌then◌else◌, List, [], ◌∷◌, length, sum_by, bit_and, bytes_eq, is_none}
+use Rattle.std.specs.Prelude.{◌≡◌, ℕ, zero, suc, ◌^◌, ◌+◌, ◌==◌, nat_le, nat_lt, Bool, true, not, ◌&&◌, ◌||◌, if◌then◌else◌, List, [], ◌∷◌, ◌++◌, length, sum_by, bit_and, bytes_eq, is_none}
 use Rattle.std.specs.List.{list_all, list_any}
 use Rattle.afp_names.specs.Name.{name_fault, name_key}
+use Rattle.afp_volume.specs.Order.{rises, rises_from}
 use Rattle.afp_volume.specs.VolumeState.{Row, Comment, Icon, Appl, VolumeState, finder_size, root_id, root_parent, first_id}
 
 -- no two elements are alike
@@ -32,9 +33,13 @@ is_in_place v row =
 unfoldable pub is_tree : VolumeState → Bool
 is_tree v = are_apart (λ a b. a.id == b.id) v.rows && (has_node v.rows root_id && list_all (is_in_place v) v.rows)
 
+-- two nodes of one directory whose names have one key
+abbrev pub are_named_alike : Row → Row → Bool
+are_named_alike a b = (a.parent == b.parent) && bytes_eq (name_key a.name) (name_key b.name)
+
 -- no two nodes of a directory have names with one key
 unfoldable pub has_apart_names : VolumeState → Bool
-has_apart_names v = are_apart (λ a b. (a.parent == b.parent) && bytes_eq (name_key a.name) (name_key b.name)) v.rows
+has_apart_names v = are_apart are_named_alike v.rows
 
 -- comments stand on nodes, APPL mappings on files
 unfoldable pub has_noted_nodes : VolumeState → Bool
@@ -115,3 +120,39 @@ is_formed_volume v =
     && (list_all is_icon v.icons
     && (are_apart are_one_appl v.appls
     && list_all (λ appl. length appl.creator == code_size) v.appls))))))
+
+-- rows stand by rising id
+unfoldable pub has_rising_ids : List Row → Bool
+has_rising_ids rows = rises_from (λ row. row.id) 0 rows
+
+-- what an icon and an APPL mapping stand by in their lists
+abbrev pub icon_key : Icon → List ℕ
+icon_key icon = icon.creator ++ icon.kind ++ icon.icon_kind ∷ []
+
+abbrev pub appl_key : Appl → List ℕ
+appl_key appl = appl.creator ++ appl.node ∷ []
+
+-- rows stand by rising id, comments by rising node, icons by creator, type and icon type, APPL mappings by creator and node
+unfoldable pub is_in_order : VolumeState → Bool
+is_in_order v = has_rising_ids v.rows && (rises_from (λ comment. comment.node) 0 v.comments && (rises icon_key v.icons && rises appl_key v.appls))
+
+-- what holds of every volume
+pub record IsSoundVolume (v : VolumeState) : Type 0 where
+  pub tree : is_tree v ≡ true
+  pub names : has_apart_names v ≡ true
+  pub notes : has_noted_nodes v ≡ true
+  pub limits : keeps_limits v ≡ true
+  pub formed : is_formed_volume v ≡ true
+  pub order : is_in_order v ≡ true
+
+-- the bytes of a row's forks
+abbrev pub row_bytes : Row → ℕ
+row_bytes row = length row.data_fork + length row.resource_fork
+
+-- a row that may stand in the place of another
+pub record TakesRow (s t : Row) : Type 0 where
+  pub id : t.id ≡ s.id
+  pub parent : t.parent ≡ s.parent
+  pub dir : t.dir ≡ s.dir
+  pub name : t.name ≡ s.name
+  pub formed : is_formed t ≡ true

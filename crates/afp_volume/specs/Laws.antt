@@ -1,0 +1,108 @@
+-- The laws of a volume, in the subject's own words (this profile).
+use Rattle.std.specs.Prelude.{◌+◌, slice_get, slice_set, Ok, ◌≡◌, ◌↔◌, ℕ, suc, ◌||◌, ◌<◌, ◌≤◌, ◌==◌, sum, take, if◌then◌else◌, Bool, true, false, List, length, Some, None}
+use Rattle.std.specs.List.{remove, count_by, Contains, list_all}
+use Rattle.afp_names.specs.Path.{PathValue, SpellsPath}
+use Rattle.afp_volume.specs.Order.{rises}
+use Rattle.afp_volume.specs.Listing.{row_key, children, listed, is_child, pages}
+use Rattle.afp_volume.specs.VolumeState.{Row, VolumeState, fresh_volume}
+use Rattle.afp_volume.specs.SoundVolume.{has_rising_ids, TakesRow, row_bytes, fork_bytes, most_fork_bytes, IsSoundVolume, leads_to_root, are_apart, has_node}
+use Rattle.afp_volume.specs.Walk.{found, row_at, is_named_path, parent_at, child_by_key}
+use Rattle.afp_volume.specs.Edits.{exchanged, with_row, with_changed, without, is_below, is_taken, above, is_another}
+use Rattle.afp_volume.specs.TreeSteps.{TreeStep, is_named_call, after_steps}
+use Rattle.afp_names.specs.Name.{name_fault, name_key}
+use Rattle.afp_volume.specs.TreeCalls.{Opened, create_dir_refusal, create_dir_effect, create_file_refusal, create_file_effect, delete_refusal, delete_effect, rename_refusal, rename_effect, move_refusal, move_effect, attributes_effect}
+
+-- no way to the root is longer than there are rows, so the bound of soundness takes none away
+abbrev pub NeedsNoMore : Type 0
+NeedsNoMore = (rows : List Row) (steps id : ℕ) → leads_to_root rows steps id ≡ true → leads_to_root rows (length rows) id ≡ true
+
+-- a volume that nobody has used is sound
+abbrev pub FreshIsSound : Type 0
+FreshIsSound = (name : List ℕ) (now : ℕ) → name_fault name ≡ None → IsSoundVolume (fresh_volume name now)
+
+-- each call that is not refused keeps a sound volume sound
+
+abbrev pub CreateDirKeepsSound : Type 0
+CreateDirKeepsSound = (v : VolumeState) (now dir : ℕ) (path : PathValue) → is_named_path path ≡ true → create_dir_refusal v dir path ≡ None → IsSoundVolume v → IsSoundVolume (create_dir_effect v now dir path)
+
+abbrev pub CreateFileKeepsSound : Type 0
+CreateFileKeepsSound = (v : VolumeState) (opens : List Opened) (hard : Bool) (now dir : ℕ) (path : PathValue) → is_named_path path ≡ true → create_file_refusal v opens hard dir path ≡ None → IsSoundVolume v → IsSoundVolume (create_file_effect v now dir path)
+
+abbrev pub DeleteKeepsSound : Type 0
+DeleteKeepsSound = (v : VolumeState) (opens : List Opened) (now dir : ℕ) (path : PathValue) → delete_refusal v opens dir path ≡ None → IsSoundVolume v → IsSoundVolume (delete_effect v now dir path)
+
+abbrev pub RenameKeepsSound : Type 0
+RenameKeepsSound = (v : VolumeState) (now dir : ℕ) (path new : PathValue) → is_named_path new ≡ true → rename_refusal v dir path new ≡ None → IsSoundVolume v → IsSoundVolume (rename_effect v now dir path new)
+
+abbrev pub MoveKeepsSound : Type 0
+MoveKeepsSound = (v : VolumeState) (now dir : ℕ) (path : PathValue) (to_dir : ℕ) (to_path new : PathValue) → is_named_path new ≡ true → move_refusal v dir path to_dir to_path new ≡ None → IsSoundVolume v → IsSoundVolume (move_effect v now dir path to_dir to_path new)
+
+abbrev pub AttributesKeepSound : Type 0
+AttributesKeepSound = (v : VolumeState) (now dir : ℕ) (path : PathValue) (word : ℕ) → IsSoundVolume v → IsSoundVolume (attributes_effect v now dir path word)
+
+-- a list in order has each child of the directory just once, and nothing else; in a sound volume its keys rise
+abbrev pub ListsChildrenOnce : Type 0
+ListsChildrenOnce = (v : VolumeState) (dir id : ℕ) → IsSoundVolume v → count_by (λ (row : Row). row.id == id) (listed v.rows dir) ≡ (if is_child v.rows dir id then 1 else 0)
+
+abbrev pub ListsByKey : Type 0
+ListsByKey = (v : VolumeState) (dir : ℕ) → IsSoundVolume v → rises row_key (listed v.rows dir) ≡ true
+
+-- a list whose keys rise and that has the children of a directory is that list
+abbrev pub ListsNoOther : Type 0
+ListsNoOther = (v : VolumeState) (dir : ℕ) (list : List Row) → rises row_key list ≡ true → ((row : Row) → Contains list row ↔ Contains (children v.rows dir) row) → IsSoundVolume v → list ≡ listed v.rows dir
+
+-- pages from start 1, each from behind the one before it, are the list up to the sum of their counts
+abbrev pub PagesAreList : Type 0
+PagesAreList = (list : List Row) (counts : List ℕ) → pages list 1 counts ≡ take (sum counts) list
+
+-- what is asked by parent or by key: where ids differ a node is below another just where it is that, or its parent is below it; where
+-- names differ a place is taken just where the child with that key is another node
+abbrev pub BelowByParent : Type 0
+BelowByParent = (rows : List Row) (steps node id : ℕ) → are_apart (λ (a : Row) b. a.id == b.id) rows ≡ true → is_below rows (suc steps) node id ≡ ((id == node) || above (parent_at rows id) (is_below rows steps node))
+
+abbrev pub TakenByKey : Type 0
+TakenByKey = (v : VolumeState) (node dir : ℕ) (name : List ℕ) → IsSoundVolume v → is_taken v.rows node dir name ≡ is_another node (child_by_key v.rows dir (name_key name))
+
+-- calls one after another, refused or not, keep a volume sound
+abbrev pub StepsKeepSound : Type 0
+StepsKeepSound = (v : VolumeState) (steps : List TreeStep) → list_all (λ (step : TreeStep). is_named_call step.call) steps ≡ true → IsSoundVolume v → IsSoundVolume (after_steps v steps)
+
+-- an id that was drawn and is no node's is never a node's again
+abbrev pub NeverDrawnAgain : Type 0
+NeverDrawnAgain = (v : VolumeState) (steps : List TreeStep) (id : ℕ) → id < v.next_id → has_node v.rows id ≡ false → has_node (after_steps v steps).rows id ≡ false
+
+-- where a walk leads there is a node
+abbrev pub WalksEndAtNodes : Type 0
+WalksEndAtNodes = (v : VolumeState) (dir id : ℕ) (path : PathValue) → IsSoundVolume v → found v.rows dir path ≡ Ok id → has_node v.rows id ≡ true
+
+-- a row may take the place of one with the same id, parent, kind and name, if it is formed and the forks' bytes stay within the limit
+abbrev pub PutKeepsSound : Type 0
+PutKeepsSound = (v : VolumeState) (id : ℕ) (s t : Row) → row_at v.rows id ≡ Some s → TakesRow s t → fork_bytes v.rows + row_bytes t ≤ most_fork_bytes + row_bytes s → IsSoundVolume v → IsSoundVolume (record v { rows = with_changed id (λ row. t) v.rows })
+
+-- what is done by id is done at the place of the row with that id
+abbrev pub ChangesAtPlace : Type 0
+ChangesAtPlace = (change : Row → Row) (rows : List Row) (i : ℕ) (s : Row) → are_apart (λ (a : Row) b. a.id == b.id) rows ≡ true → slice_get rows i ≡ Some s → with_changed s.id change rows ≡ slice_set rows i (change s)
+
+abbrev pub RemovesAtPlace : Type 0
+RemovesAtPlace = (rows : List Row) (i : ℕ) (s : Row) → are_apart (λ (a : Row) b. a.id == b.id) rows ≡ true → slice_get rows i ≡ Some s → without s.id rows ≡ remove rows i
+
+-- where rows stand in the order of their ids, ids differ; each edit keeps that order
+abbrev pub RisingIdsDiffer : Type 0
+RisingIdsDiffer = (rows : List Row) → has_rising_ids rows ≡ true → are_apart (λ (a : Row) b. a.id == b.id) rows ≡ true
+
+abbrev pub NewRises : Type 0
+NewRises = (v : VolumeState) (row : Row) → IsSoundVolume v → has_rising_ids (with_row row v).rows ≡ true
+
+abbrev pub GoneRises : Type 0
+GoneRises = (rows : List Row) (id : ℕ) → has_rising_ids rows ≡ true → has_rising_ids (without id rows) ≡ true
+
+abbrev pub ChangedRises : Type 0
+ChangedRises = (rows : List Row) (id : ℕ) (change : Row → Row) → ((row : Row) → (change row).id ≡ row.id) → has_rising_ids rows ≡ true → has_rising_ids (with_changed id change rows) ≡ true
+
+-- a path that bytes spell in UTF-8 goes down to names alone
+abbrev pub Utf8PathsAreNamed : Type 0
+Utf8PathsAreNamed = (bytes : List ℕ) (path : PathValue) → SpellsPath bytes path → (path.kind == 2) ≡ false → is_named_path path ≡ true
+
+-- two files may change forks and modified dates
+abbrev pub ExchangeKeepsSound : Type 0
+ExchangeKeepsSound = (v : VolumeState) (a b : ℕ) (s t : Row) → (a == b) ≡ false → row_at v.rows a ≡ Some s → row_at v.rows b ≡ Some t → s.dir ≡ false → t.dir ≡ false → IsSoundVolume v → IsSoundVolume (exchanged a b s t v)

@@ -1,0 +1,65 @@
+//! Laws of a volume. Each function says one, and does nothing.
+ghost use Rattle.afp_volume.specs.Laws as laws;
+
+/// No way to the root is longer than there are rows.
+pub fn ways_are_short()
+    ensures { laws.NeedsNoMore }
+{}
+
+/// A volume that nobody has used is sound, under each name.
+pub fn fresh_volumes_are_sound()
+    ensures { laws.FreshIsSound }
+{}
+
+/// A call that is not refused keeps a sound volume sound.
+pub fn calls_keep_volumes_sound()
+    ensures create_dir { laws.CreateDirKeepsSound }
+    ensures create_file { laws.CreateFileKeepsSound }
+    ensures delete { laws.DeleteKeepsSound }
+    ensures rename { laws.RenameKeepsSound }
+    ensures moved { laws.MoveKeepsSound }
+    ensures attributes { laws.AttributesKeepSound }
+{}
+
+/// The list of a directory has each child just once, by the order of the keys, and no other list does. Pages from start 1, each from
+/// behind the one before it, are that list.
+pub fn lists_have_each_child_once()
+    ensures once { laws.ListsChildrenOnce }
+    ensures by_key { laws.ListsByKey }
+    ensures no_other { laws.ListsNoOther }
+    ensures pages { laws.PagesAreList }
+{}
+
+/// What a table by id and by name's key tells: whether a node is below another, by parents; whether a place is taken, by key.
+pub fn tables_tell_the_tree()
+    ensures below { laws.BelowByParent }
+    ensures taken { laws.TakenByKey }
+{}
+
+/// Calls one after another, refused or not, keep a volume sound; and an id that was drawn is never drawn again.
+pub fn calls_keep_volumes_sound_for_ever()
+    ensures sound { laws.StepsKeepSound }
+    ensures once { laws.NeverDrawnAgain }
+{}
+
+/// Where a walk leads there is a node. Another row may take the place of one. What is done by id is done at the place of that row.
+pub fn rows_are_changed_in_place()
+    ensures walks { laws.WalksEndAtNodes }
+    ensures put { laws.PutKeepsSound }
+    ensures exchanged { laws.ExchangeKeepsSound }
+    ensures changed { laws.ChangesAtPlace }
+    ensures removed { laws.RemovesAtPlace }
+{}
+
+/// Rows in the order of their ids have ids that differ, and each edit keeps that order.
+pub fn rows_stay_in_order()
+    ensures differ { laws.RisingIdsDiffer }
+    ensures new { laws.NewRises }
+    ensures gone { laws.GoneRises }
+    ensures changed { laws.ChangedRises }
+{}
+
+/// A path that bytes spell in UTF-8 goes down to names alone.
+pub fn utf8_paths_are_named()
+    ensures { laws.Utf8PathsAreNamed }
+{}
