@@ -2,4 +2,5 @@ pub mod SessionLemmas
 pub mod RowLemmas
 pub mod SpellingLemmas
 pub mod AskLemmas
+pub mod Faultless
 pub mod TurnLemmas

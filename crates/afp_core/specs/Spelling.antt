@@ -4,6 +4,7 @@ use Rattle.afp_base.specs.Cached.{Request}
 use Rattle.afp_requests.specs.declared.call.Call.{Call}
 use Rattle.afp_core.specs.declared.spelling.Stop.{Stop}
 use Rattle.afp_core.specs.declared.spelling.Stop.TheVariants.{Refused, Memory}
+use Rattle.afp_serial.specs.CallRow.{plain}
 use Rattle.afp_serial.specs.Rows.{refusal}
 use Rattle.afp_serial.specs.Steps.{block_of, enclosed_of, needs_user, refused, verdict_of_block, verdict_of_row}
 use Rattle.afp_serial.specs.World.{World, Session}
@@ -11,7 +12,7 @@ use Rattle.afp_serial.specs.World.{World, Session}
 -- The request comes to the row of this call, or is refused before; want of memory may take the place of each.
 abbrev pub ComesTo : World → Session → Request → List ℕ → Result Call Stop → Type 0
 ComesTo w s r block (Ok call) = verdict_of_block w s r block ≡ verdict_of_row call (refusal w s call)
-ComesTo w s r block (Err (Refused code)) = verdict_of_block w s r block ≡ refused code
+ComesTo w s r block (Err (Refused code)) = verdict_of_block w s r block ≡ refused (plain code)
 ComesTo w s r block (Err Memory) = Unit {0}
 
 -- that of every request with this block and these enclosed bytes, in a session that has a user or none

@@ -7,12 +7,12 @@ use Rattle.afp_base.specs.declared.ids.LinkNumber.{LinkNumber}
 use Rattle.afp_requests.specs.declared.call.Call.{Call}
 use Rattle.afp_core.specs.SessionList.{session_of}
 use Rattle.afp_core.specs.Standing.{Standing}
-use Rattle.afp_serial.specs.Answer.{answer, answer_at, after, after_at, after_call, after_verdict, is_legal, told_call, told_verdict}
+use Rattle.afp_serial.specs.Answer.{answer, answer_at, after, after_at, after_call, after_verdict, is_fault_legal, is_legal, is_legal_outcome, may_fault, may_fault_at, told_call, told_verdict}
 use Rattle.afp_serial.specs.History.{entry, is_opened}
 use Rattle.afp_serial.specs.Rows.{refusal}
 use Rattle.afp_serial.specs.Sessions.{has_session, session_at}
 use Rattle.afp_serial.specs.Steps.{Verdict, verdict_of_row}
-use Rattle.afp_serial.specs.World.{World, Session}
+use Rattle.afp_serial.specs.World.{World, Session, at_moment}
 use Rattle.afp_serial.specs.declared.ask.Ask.{Ask}
 use Rattle.afp_serial.specs.declared.ask.Ask.TheVariants as ask
 use Rattle.afp_serial.specs.declared.ask.Entry.{Entry}
@@ -20,10 +20,6 @@ use Rattle.afp_serial.specs.declared.ask.Outcome.{Outcome}
 use Rattle.afp_serial.specs.declared.ask.Outcome.TheVariants as outcome
 use Rattle.afp_serial.specs.declared.ask.Told.{Told}
 use Rattle.afp_serial.specs.declared.ask.Told.TheVariants.{Opened, Reply, Live, Done, Displaced, Memory}
-
--- the same world, with another moment as the latest
-abbrev pub dated : World → ℕ → World
-dated w moment = record w { latest = moment }
 
 -- no session has the next link's number
 abbrev pub IsNextFree : World → Type 0
@@ -38,52 +34,55 @@ takes_memory ask.Bye = false
 takes_memory ask.Lost = false
 takes_memory ask.Drain = false
 
--- what is told, and the next world
-pub record Comes (want : Told) (after : World) (told : Told) (next : World) : Type 0 where
+-- an outcome that may come, with what is told then, and the next world
+pub record Comes (want : Told) (after : World) (may : Bool) (o : Outcome) (told : Told) (next : World) : Type 0 where
+  pub legal : is_legal_outcome may o ≡ true
   pub serial : told ≡ want
   pub world : next ≡ after
 
--- A call of a session comes to its row and meets no fault: at every moment, what it is told and the world after are
--- the row's. Or there is no memory, and nothing changes.
-abbrev pub RunsRow : World → ℕ → Call → Result Told OutOfMemory → World → Type 0
-RunsRow old number call (Ok told) new =
-    (moment : ℕ) (s : Session) → session_of old.sessions number ≡ Some s
-    → let w : World = dated old moment in let v : Verdict = verdict_of_row call (refusal w s call) in
-    Comes (told_verdict w s v outcome.Done) (after_verdict w s v outcome.Done) told (dated new moment)
-RunsRow old number call (Err e) new = new ≡ old
+-- In all of these the world's latest moment is already the ask's.
+
+-- a call of a session that comes to this verdict
+abbrev pub RunsVerdict : World → Session → Verdict → Told × Outcome → World → Type 0
+RunsVerdict w s v r new = Comes (told_verdict w s v r.1) (after_verdict w s v r.1) (may_fault w s v) r.1 r.0 new
+
+-- A call of a session comes to its row: what it is told with its outcome, and the world after, are the row's. Or there is no memory,
+-- and nothing changes.
+abbrev pub RunsRow : World → ℕ → Call → Result (Told × Outcome) OutOfMemory → World → Type 0
+RunsRow w number call (Ok r) new =
+    (s : Session) → session_of w.sessions number ≡ Some s → RunsVerdict w s (verdict_of_row call (refusal w s call)) r new
+RunsRow w number call (Err e) new = new ≡ w
 
 -- the same of a call on a link
-abbrev pub RunsCall : World → ℕ → Request → Result Told OutOfMemory → World → Type 0
-RunsCall old link r (Ok told) new =
-    (moment : ℕ)
-    → let w : World = dated old moment in
-    Comes (told_call w (session_at w link) r outcome.Done) (after_call w (session_at w link) r outcome.Done) told (dated new moment)
-RunsCall old link r (Err e) new = new ≡ old
+abbrev pub RunsCall : World → ℕ → Request → Result (Told × Outcome) OutOfMemory → World → Type 0
+RunsCall w link q (Ok r) new =
+    Comes (told_call w (session_at w link) q r.1) (after_call w (session_at w link) q r.1) (is_fault_legal w (session_at w link) q) r.1 r.0 new
+RunsCall w link q (Err e) new = new ≡ w
 
--- the same of an ask, at one moment
-abbrev pub RunsAt : World → ℕ → ℕ → Ask → Result Told OutOfMemory → World → Type 0
-RunsAt old moment link ask (Ok told) new =
-    let w : World = dated old moment in
-    Comes (answer_at w link ask outcome.Done) (after_at w link ask outcome.Done) told (dated new moment)
-RunsAt old moment link ask (Err e) new = (takes_memory ask ≡ true) × (new ≡ old)
+-- the same of an ask
+abbrev pub RunsAsk : World → ℕ → Ask → Result (Told × Outcome) OutOfMemory → World → Type 0
+RunsAsk w link ask (Ok r) new = Comes (answer_at w link ask r.1) (after_at w link ask r.1) (may_fault_at w link ask) r.1 r.0 new
+RunsAsk w link ask (Err e) new = (takes_memory ask ≡ true) × (new ≡ w)
 
--- an Open, at every moment
+abbrev pub done : Told → Told × Outcome
+done told = (told, outcome.Done)
+
+-- an Open
 abbrev pub RunsOpen : World → Result Told OutOfMemory → World → Type 0
-RunsOpen old (Ok told) new = (moment link attention : ℕ) → RunsAt old moment link (ask.Open attention) (Ok told) new
-RunsOpen old (Err e) new = new ≡ old
+RunsOpen w (Ok told) new = (link attention : ℕ) → RunsAsk w link (ask.Open attention) (Ok (done told)) new
+RunsOpen w (Err e) new = new ≡ w
 
--- a Bye or a Lost, at every moment
-pub record RunsPart (old : World) (link : ℕ) (told : Told) (new : World) : Type 0 where
-  pub bye : (moment : ℕ) → RunsAt old moment link ask.Bye (Ok told) new
-  pub lost : (moment : ℕ) → RunsAt old moment link ask.Lost (Ok told) new
+-- a Bye or a Lost
+pub record RunsPart (w : World) (link : ℕ) (told : Told) (new : World) : Type 0 where
+  pub bye : RunsAsk w link ask.Bye (Ok (done told)) new
+  pub lost : RunsAsk w link ask.Lost (Ok (done told)) new
 
--- An ask becomes an entry without a fault, or there is no memory and nothing changes.
-abbrev pub Runs : World → ℕ → LinkNumber → Ask → Result Told OutOfMemory → World → Type 0
-Runs old now link ask (Ok told) new = Comes (answer old (entry now link ask outcome.Done)) (after old (entry now link ask outcome.Done)) told new
+-- An ask becomes an entry, or there is no memory and nothing changes.
+abbrev pub Runs : World → ℕ → LinkNumber → Ask → Result (Told × Outcome) OutOfMemory → World → Type 0
+Runs old now link ask (Ok r) new = RunsAsk (at_moment old now) link.0 ask (Ok r) new
 Runs old now link ask (Err e) new = (takes_memory ask ≡ true) × (new ≡ old)
 
--- An entry that is legal, with its serial answer, and the world after it; the counts go on. It meets no fault, since no keeper
--- is there yet that might fail.
+-- An entry that is legal, with its serial answer, and the world after it; the counts go on.
 pub record Turned (c : Standing) (e : Entry) (answered : Told) (d : Standing) : Type 0 where
   pub faultless : e.outcome ≡ outcome.Done
   pub legal : is_legal c.world e ≡ true

@@ -8,7 +8,7 @@ use crate::spelling::{Stop, spelled_call};
 use crate::state::State;
 use afp_base::{Code, LinkNumber, OutOfMemory, SessionNumber};
 use afp_calls::Call;
-use afp_serial::Told;
+use afp_serial::{Outcome, Told};
 
 impl State {
     /// Answers a call on a link.
@@ -18,39 +18,91 @@ impl State {
         write: bool,
         offset: u32,
         payload: &[u8],
-    ) -> Result<Told, OutOfMemory>
+    ) -> Result<(Told, Outcome), OutOfMemory>
         ensures { (id : ℕ) → RunsCall self.old link.0 (request id write offset payload.now) result self.new }
     {
         let Some(session) = self.sessions.at(link) else {
-            return Ok(Told::Displaced);
+            return Ok((Told::Displaced, Outcome::Done));
         };
         let has_user = self.sessions.has_user(session);
         match spelled_call(self.alloc, has_user, write, offset, payload) {
             Ok(call) => self.run(session, call),
-            Err(Stop::Refused(code)) => Ok(refused(self.alloc, code)),
+            Err(Stop::Refused(code)) => Ok((refused(self.alloc, code), Outcome::Done)),
             Err(Stop::Memory) => Err(OutOfMemory),
         }
     }
 
     /// Runs the row of a call of a session, and lets go of the call.
-    fn run(&mut self, session: SessionNumber, call: Call) -> Result<Told, OutOfMemory>
+    fn run(&mut self, session: SessionNumber, call: Call) -> Result<(Told, Outcome), OutOfMemory>
         ensures { RunsRow self.old session.0 call result self.new }
     {
         self.row(session, &call)
     }
 
     /// The row of a call of a session. A call whose row is not there yet is not supported.
-    fn row(&mut self, session: SessionNumber, call: &Call) -> Result<Told, OutOfMemory>
+    fn row(&mut self, session: SessionNumber, call: &Call) -> Result<(Told, Outcome), OutOfMemory>
         ensures { RunsRow self.old session.0 call.now result self.new }
     {
         match call {
-            Call::CloseVol { volume } => Ok(self.close_vol(session, *volume)),
+            Call::CloseVol { volume } => Ok((self.close_vol(session, *volume), Outcome::Done)),
             Call::Login { version, uam, tail } => {
-                Ok(self.login(session, version.as_slice(), uam.as_slice(), tail.as_slice()))
+                Ok((self.login(session, version.as_slice(), uam.as_slice(), tail.as_slice()), Outcome::Done))
             }
-            Call::Logout => Ok(self.logout(session)),
+            Call::Logout => Ok((self.logout(session), Outcome::Done)),
             Call::OpenVol { bits, name } => self.open_vol(session, *bits, name.as_slice()),
-            _ => Ok(refused(self.alloc, Code::CallNotSupported)),
+            Call::ByteRangeLock { .. }
+            | Call::CloseDir { .. }
+            | Call::CloseFork { .. }
+            | Call::CopyFile { .. }
+            | Call::CreateDir { .. }
+            | Call::CreateFile { .. }
+            | Call::Delete { .. }
+            | Call::Enumerate { .. }
+            | Call::Flush { .. }
+            | Call::FlushFork { .. }
+            | Call::GetForkParms { .. }
+            | Call::GetSrvrInfo
+            | Call::GetSrvrParms
+            | Call::GetVolParms { .. }
+            | Call::MapID { .. }
+            | Call::MapName { .. }
+            | Call::MoveAndRename { .. }
+            | Call::OpenDir { .. }
+            | Call::OpenFork { .. }
+            | Call::Read { .. }
+            | Call::Rename { .. }
+            | Call::SetDirParms { .. }
+            | Call::SetFileParms { .. }
+            | Call::SetForkParms { .. }
+            | Call::SetVolParms { .. }
+            | Call::Write { .. }
+            | Call::GetFileDirParms { .. }
+            | Call::SetFileDirParms { .. }
+            | Call::GetUserInfo { .. }
+            | Call::GetSrvrMsg { .. }
+            | Call::CreateID { .. }
+            | Call::DeleteID { .. }
+            | Call::ResolveID { .. }
+            | Call::ExchangeFiles { .. }
+            | Call::OpenDT { .. }
+            | Call::CloseDT { .. }
+            | Call::GetIcon { .. }
+            | Call::GetIconInfo { .. }
+            | Call::AddAPPL { .. }
+            | Call::RemoveAPPL { .. }
+            | Call::GetAPPL { .. }
+            | Call::AddComment { .. }
+            | Call::RemoveComment { .. }
+            | Call::GetComment { .. }
+            | Call::ByteRangeLockExt { .. }
+            | Call::ReadExt { .. }
+            | Call::WriteExt { .. }
+            | Call::LoginExt { .. }
+            | Call::GetSessionToken { .. }
+            | Call::DisconnectOldSession { .. }
+            | Call::EnumerateExt { .. }
+            | Call::EnumerateExt2 { .. }
+            | Call::AddIcon { .. } => Ok((refused(self.alloc, Code::CallNotSupported), Outcome::Done)),
         }
     }
 }

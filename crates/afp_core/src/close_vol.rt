@@ -1,7 +1,7 @@
 //! FPCloseVol (AFP Reference, "FPCloseVol").
 ghost use Rattle.std.specs.Prelude.{◌≡◌, Ok};
 ghost use Rattle.afp_requests.specs.declared.call.Call.{Call};
-ghost use Rattle.afp_core.specs.Turn.{RunsRow};
+ghost use Rattle.afp_core.specs.Turn.{RunsRow, done as with_done};
 
 use crate::replies::{done, refused};
 use crate::state::State;
@@ -11,7 +11,7 @@ use afp_serial::Told;
 impl State {
     /// Closes a volume that the session has open.
     pub(crate) fn close_vol(&mut self, session: SessionNumber, volume: VolumeId) -> Told
-        ensures { RunsRow self.old session.0 (Call.CloseVol volume) (Ok result) self.new }
+        ensures { RunsRow self.old session.0 (Call.CloseVol volume) (Ok (with_done result)) self.new }
     {
         if !self.sessions.has_volume(session, volume) {
             return refused(self.alloc, Code::ParamErr);

@@ -3,7 +3,7 @@ ghost use Rattle.std.specs.Prelude.{◌≡◌, Ok, bytes_eq};
 ghost use Rattle.std.specs.List.{list_any};
 ghost use Rattle.afp_requests.specs.declared.call.Call.{Call};
 ghost use Rattle.afp_serial.specs.StatusBlock.{versions};
-ghost use Rattle.afp_core.specs.Turn.{RunsRow};
+ghost use Rattle.afp_core.specs.Turn.{RunsRow, done as with_done};
 
 use crate::replies::{done, refused};
 use crate::state::State;
@@ -32,7 +32,7 @@ impl State {
         uam: &[u8],
         _tail: &[u8],
     ) -> Told
-        ensures { RunsRow self.old session.0 (Call.Login version.now uam.now _tail.now) (Ok result) self.new }
+        ensures { RunsRow self.old session.0 (Call.Login version.now uam.now _tail.now) (Ok (with_done result)) self.new }
     {
         if self.sessions.has_user(session) {
             return refused(self.alloc, Code::ParamErr);

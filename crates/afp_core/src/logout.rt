@@ -1,7 +1,7 @@
 //! FPLogout (AFP Reference, "FPLogout").
 ghost use Rattle.std.specs.Prelude.{◌≡◌, Ok};
 ghost use Rattle.afp_requests.specs.declared.call.Call.{Call};
-ghost use Rattle.afp_core.specs.Turn.{RunsRow};
+ghost use Rattle.afp_core.specs.Turn.{RunsRow, done as with_done};
 
 use crate::state::State;
 use afp_base::{Bytes, Code, SessionNumber};
@@ -10,7 +10,7 @@ use afp_serial::Told;
 impl State {
     /// Ends the session.
     pub(crate) fn logout(&mut self, session: SessionNumber) -> Told
-        ensures { RunsRow self.old session.0 Call.Logout (Ok result) self.new }
+        ensures { RunsRow self.old session.0 Call.Logout (Ok (with_done result)) self.new }
     {
         self.sessions.end(session);
         Told::Reply {

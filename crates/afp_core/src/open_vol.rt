@@ -8,7 +8,7 @@ ghost use Rattle.afp_core.specs.Turn.{RunsRow};
 use crate::replies::{done, refused};
 use crate::state::State;
 use afp_base::{Bytes, Code, OutOfMemory, SessionNumber, VolumeId};
-use afp_serial::Told;
+use afp_serial::{Outcome, Told};
 use std::alloc::Global;
 
 /// The volume bit that asks for the volume id.
@@ -21,18 +21,18 @@ impl State {
         session: SessionNumber,
         bits: u16,
         name: &[u8],
-    ) -> Result<Told, OutOfMemory>
+    ) -> Result<(Told, Outcome), OutOfMemory>
         ensures { RunsRow self.old session.0 (Call.OpenVol bits name.now) result self.new }
     {
         if bits != VOLUME_ID_BIT {
-            return Ok(refused(self.alloc, Code::BitmapErr));
+            return Ok((refused(self.alloc, Code::BitmapErr), Outcome::Done));
         }
         let Some(volume) = volume_named(self.house.volumes(), name) else {
-            return Ok(refused(self.alloc, Code::ObjectNotFound));
+            return Ok((refused(self.alloc, Code::ObjectNotFound), Outcome::Done));
         };
         let block = volume_block(self.alloc, bits, volume)?;
         self.sessions.open_volume(session, volume)?;
-        Ok(done(block))
+        Ok((done(block), Outcome::Done))
     }
 }
 

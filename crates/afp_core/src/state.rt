@@ -4,14 +4,14 @@ ghost use Rattle.afp_serial.specs.Answer.{told_pulse};
 ghost use Rattle.afp_serial.specs.Sessions.{session_at};
 ghost use Rattle.afp_serial.specs.World.{fresh_world};
 ghost use Rattle.afp_serial.specs.declared.ask.Ask.{Ask};
-ghost use Rattle.afp_core.specs.Turn.{IsNextFree, Runs, RunsAt, RunsOpen, RunsPart};
+ghost use Rattle.afp_core.specs.Turn.{IsNextFree, Runs, RunsAsk, RunsOpen, RunsPart, done};
 
 use crate::link_numbers::LinkNumbers;
 use crate::moments::later;
 use crate::replies::refused;
 use crate::sessions::Sessions;
 use afp_base::{Code, LinkNumber, Moment, OutOfMemory};
-use afp_serial::{Ask, House, Told};
+use afp_serial::{Ask, House, Outcome, Told};
 use std::alloc::Global;
 use std::marker::Model;
 
@@ -58,32 +58,42 @@ impl State {
     }
 
     /// Answers an ask. Without memory nothing changes; only `Open` and `Call` take some.
-    pub fn turn(&mut self, now: Moment, link: LinkNumber, ask: Ask) -> Result<Told, OutOfMemory>
+    pub fn turn(
+        &mut self,
+        now: Moment,
+        link: LinkNumber,
+        ask: Ask,
+    ) -> Result<(Told, Outcome), OutOfMemory>
         requires { IsNextFree self.old }
         ensures { Runs self.old now link ask result self.new }
     {
-        let moment = later(self.latest, now);
-        let told = self.turn_at(moment, link, ask)?;
-        self.latest = moment;
-        Ok(told)
+        let before = self.latest;
+        self.latest = later(before, now);
+        match self.turn_now(link, ask) {
+            Ok(told) => Ok(told),
+            Err(OutOfMemory) => {
+                self.latest = before;
+                Err(OutOfMemory)
+            }
+        }
     }
 
-    /// Answers an ask at a moment, all but that the moment becomes the latest.
-    fn turn_at(&mut self, moment: Moment, link: LinkNumber, ask: Ask) -> Result<Told, OutOfMemory>
+    /// Answers an ask at the latest moment.
+    fn turn_now(&mut self, link: LinkNumber, ask: Ask) -> Result<(Told, Outcome), OutOfMemory>
         requires { IsNextFree self.old }
-        ensures { RunsAt self.old moment link.0 ask result self.new }
+        ensures { RunsAsk self.old link.0 ask result self.new }
     {
         match ask {
-            Ask::Open { .. } => self.open(),
+            Ask::Open { .. } => Ok((self.open()?, Outcome::Done)),
             Ask::Call {
                 id: _,
                 write,
                 offset,
                 payload,
             } => self.call(link, write, offset, payload.as_slice()),
-            Ask::Pulse => Ok(self.pulse(moment, link)),
-            Ask::Bye | Ask::Lost => Ok(self.part(link)),
-            Ask::Drain => Ok(self.drain(moment)),
+            Ask::Pulse => Ok((self.pulse(link), Outcome::Done)),
+            Ask::Bye | Ask::Lost => Ok((self.part(link), Outcome::Done)),
+            Ask::Drain => Ok((self.drain(), Outcome::Done)),
         }
     }
 
@@ -105,11 +115,11 @@ impl State {
 
     /// Ends the sessions that lost their links too long ago, and tells whether the link's session lives.
     /// Link 0 is no link of a session.
-    fn pulse(&mut self, moment: Moment, link: LinkNumber) -> Told
-        ensures { RunsAt self.old moment link.0 Ask.Pulse (Ok result) self.new }
+    fn pulse(&mut self, link: LinkNumber) -> Told
+        ensures { RunsAsk self.old link.0 Ask.Pulse (Ok (done result)) self.new }
     {
         let told = self.told_pulse(link);
-        self.sessions.sweep(moment);
+        self.sessions.sweep(self.latest);
         told
     }
 
@@ -140,11 +150,11 @@ impl State {
     }
 
     /// The server is about to stop: the first such moment counts.
-    fn drain(&mut self, moment: Moment) -> Told
-        ensures { (link : ℕ) → RunsAt self.old moment link Ask.Drain (Ok result) self.new }
+    fn drain(&mut self) -> Told
+        ensures { (link : ℕ) → RunsAsk self.old link Ask.Drain (Ok (done result)) self.new }
     {
         if self.drain.is_none() {
-            self.drain = Some(moment);
+            self.drain = Some(self.latest);
         }
         Told::Done
     }

@@ -61,6 +61,7 @@ impl Core {
     }
 
     /// Answers one ask, and tells its outcome too.
+    #[tactic(auto, using(crate::proofs::Faultless::is_faultless))]
     pub(crate) fn step(
         &mut self,
         now: Moment,
@@ -69,12 +70,12 @@ impl Core {
     ) -> Result<(Told, Outcome), OutOfMemory>
         ensures { TakesStep self.old now link ask result self.new }
     {
-        let told = self.state.turn(now, link, ask)?;
+        let (told, outcome) = self.state.turn(now, link, ask)?;
         self.entries = self.entries.saturating_add(1);
         if let Told::Opened { .. } = told {
             self.opened = self.opened.saturating_add(1);
         }
-        Ok((told, Outcome::Done))
+        Ok((told, outcome))
     }
 
     /// Answers one ask. `Memory`: nothing has changed; that answer is for `Open` and `Call` alone.

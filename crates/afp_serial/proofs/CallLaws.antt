@@ -42,7 +42,7 @@ tells-kept w e id write offset payload s a asked attached kept =
 
 -- faults
 
-verdict-fails : (w : World) (e : Entry) (id : ℕ) (write : Bool) (offset : ℕ) (payload : List ℕ) (s : Session) (v : Verdict) → e.ask ≡ ask.Call id write offset payload → session_at w e.link.0 ≡ Some s → verdict (at_moment w e.at) s (request id write offset payload) ≡ v → e.outcome ≡ outcome.Fault → may_fault v ≡ true → FailsInPlace w e
+verdict-fails : (w : World) (e : Entry) (id : ℕ) (write : Bool) (offset : ℕ) (payload : List ℕ) (s : Session) (v : Verdict) → e.ask ≡ ask.Call id write offset payload → session_at w e.link.0 ≡ Some s → verdict (at_moment w e.at) s (request id write offset payload) ≡ v → e.outcome ≡ outcome.Fault → may_fault (at_moment w e.at) s v ≡ true → FailsInPlace w e
 verdict-fails w e id write offset payload s (repeats a) asked attached is fault may = absurd (cc)
 verdict-fails w e id write offset payload s (refused c) asked attached is fault may = absurd (cc)
 verdict-fails w e id write offset payload s (runs call) asked attached is fault may = record {

@@ -7,9 +7,12 @@ pub mod SoundParts
 pub mod Closed
 pub mod Replaced
 pub mod Opened
+pub mod SoundRow
+pub mod OpenVolBytes
 pub mod LoginRows
 pub mod VolumeRows
 pub mod RowsSound
+pub mod ShortRefusals
 pub mod Verdicts
 pub mod Keeps
 pub mod FreshWorld

@@ -11,7 +11,7 @@ use Rattle.afp_serial.proofs.Closed.{ending-apart}
 use Rattle.afp_serial.proofs.FreshWorld.{fresh-apart}
 use Rattle.afp_serial.proofs.Keeps.{Keeps, stand-keeps}
 use Rattle.afp_serial.proofs.Opened.{opened-apart}
-use Rattle.afp_serial.proofs.RowsSound.{effect-apart, effect-next, effect-old}
+use Rattle.afp_serial.proofs.RowsSound.{row-sound}
 use Rattle.afp_serial.proofs.SoundParts.{ApartSessions, same_link}
 use Rattle.afp_serial.proofs.TestedLists.{any-filter, apart-places, never}
 use Rattle.afp_serial.specs.declared.ask.Ask.{Ask}
@@ -35,7 +35,7 @@ apart-keeps : Keeps ApartSessions
 apart-keeps = record {
   moment = λ w now a. record { numbers = a.numbers; links = a.links; below = a.below };
   opens = λ w room a. opened-apart w a;
-  calls = λ w s call test found passes a. effect-apart w s call test found a;
+  calls = λ w s call test found passes a. (row-sound call).apart w s test found a;
   ends = ending-apart;
   drains = λ w since a. record { numbers = a.numbers; links = a.links; below = a.below };
 }
@@ -60,7 +60,7 @@ verdict-draws : (w : World) (s : Session) (v : Verdict) (o : Outcome) → DrawsN
 verdict-draws w s (repeats a) o = record { told = refl; next = refl; old = λ n h. h }
 verdict-draws w s (refused c) o = record { told = refl; next = refl; old = λ n h. h }
 verdict-draws w s (runs call) outcome.Fault = record { told = refl; next = refl; old = λ n h. h }
-verdict-draws w s (runs call) outcome.Done = record { told = refl; next = effect-next w s call; old = effect-old w s call }
+verdict-draws w s (runs call) outcome.Done = record { told = refl; next = (row-sound call).next w s; old = (row-sound call).old w s }
 
 call-draws : (w : World) (session : Option Session) (r : Request) (o : Outcome) → DrawsNone w (told_call w session r o) (after_call w session r o)
 call-draws w None r o = record { told = refl; next = refl; old = λ n h. h }

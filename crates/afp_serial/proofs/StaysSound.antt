@@ -10,10 +10,11 @@ use Rattle.afp_serial.proofs.Closed.{ending-sound}
 use Rattle.afp_serial.proofs.FreshWorld.{fresh-is-sound}
 use Rattle.afp_serial.proofs.Keeps.{Keeps, after-keeps, stand-keeps}
 use Rattle.afp_serial.proofs.Opened.{opened-sound}
-use Rattle.afp_serial.proofs.RowsSound.{effect-fits, effect-sound}
+use Rattle.afp_serial.proofs.RowsSound.{row-sound}
 use Rattle.afp_serial.proofs.SoundParts.{caches-parts}
+use Rattle.afp_serial.proofs.ShortRefusals.{refuses_shortly, verdict-short}
 use Rattle.afp_serial.proofs.TestedLists.{find-all}
-use Rattle.afp_serial.proofs.Verdicts.{repeats-kept}
+use Rattle.afp_serial.proofs.Verdicts.{comes-to, repeats-kept}
 use Rattle.afp_serial.specs.declared.ask.Ask.{Ask}
 use Rattle.afp_serial.specs.declared.ask.Ask.TheVariants as ask
 use Rattle.afp_serial.specs.declared.ask.Entry.{Entry}
@@ -44,7 +45,7 @@ pub sound-keeps : Keeps IsSound
 sound-keeps = record {
   moment = moment-sound;
   opens = opened-sound;
-  calls = λ w s call test found passes h. effect-sound w s call test found h;
+  calls = λ w s call test found passes h. (row-sound call).sound w s test found passes h;
   ends = ending-sound;
   drains = drain-sound;
 }
@@ -85,9 +86,9 @@ short-cache cache h =
 
 verdict-fits : (w : World) (s : Session) (r : Request) → is_lawful_cache s.cache ≡ true → (v : Verdict) (o : Outcome) → verdict w s r ≡ v → fits_frame (told_verdict w s v o) ≡ true
 verdict-fits w s r lawful (repeats answer) o is = kept-fits s.cache r answer (short-cache s.cache lawful) (repeats-kept w s r answer is)
-verdict-fits w s r lawful (refused code) o is = refl
+verdict-fits w s r lawful (refused x) o is = ap refuses_shortly (sym is) ∙ verdict-short w s r
 verdict-fits w s r lawful (runs call) outcome.Fault is = refl
-verdict-fits w s r lawful (runs call) outcome.Done is = effect-fits w s call
+verdict-fits w s r lawful (runs call) outcome.Done is = (row-sound call).fits w s (comes-to w s r call is).passes
 
 call-fits : (w : World) (link : ℕ) (session : Option Session) (r : Request) (o : Outcome) → list_all (λ s. is_lawful_cache s.cache) w.sessions ≡ true → session_at w link ≡ session → fits_frame (told_call w session r o) ≡ true
 call-fits w link None r o lawful is = refl

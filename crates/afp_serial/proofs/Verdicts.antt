@@ -3,16 +3,16 @@ use Rattle.std.proofs.Common.{◌≡◌, ◌∙◌, ap, sym, refl, ℕ, not, ◌
 use Rattle.std.specs.Prelude.{is_none}
 use Rattle.std.proofs.lemmas.Bool.{cond_both, not-false}
 use Rattle.afp_base.specs.Cached.{Request, Answer, cached_answer}
-use Rattle.afp_base.specs.declared.code.Code.{Code}
 use Rattle.afp_base.specs.declared.code.Code.TheVariants.{CallNotSupported, UserNotAuth}
 use Rattle.afp_requests.specs.Spelt.{is_command, spelt_call}
 use Rattle.afp_requests.specs.declared.call.Call.{Call}
 use Rattle.afp_serial.specs.Laws.{ComesTo}
+use Rattle.afp_serial.specs.CallRow.{Refused, plain}
 use Rattle.afp_serial.specs.Rows.{refusal}
 use Rattle.afp_serial.specs.Steps.{Verdict, repeats, refused, runs, block_of, enclosed_of, needs_user, verdict_of_row, verdict_of_spelling, verdict_of_block, verdict_of_kept, verdict}
 use Rattle.afp_serial.specs.World.{World, Session}
 
-row-runs : (c call : Call) (code : Option Code) → verdict_of_row c code ≡ runs call → (c ≡ call) × (code ≡ None)
+row-runs : (c call : Call) (code : Option Refused) → verdict_of_row c code ≡ runs call → (c ≡ call) × (code ≡ None)
 row-runs c call (Some code) h = absurd (cc)
 row-runs c call None h = (cc, refl)
 
@@ -25,11 +25,11 @@ spelling-runs w s (Some c) call h =
 block-runs : (w : World) (s : Session) (r : Request) (block : List ℕ) (call : Call) → cached_answer s.cache r ≡ None → block_of r ≡ block → verdict_of_block w s r block ≡ runs call → ComesTo w s r call
 block-runs w s r [] call new is h = absurd (cc)
 block-runs w s r (command ∷ fields) call new is h =
-    cond_both (not (is_command command)) (refused CallNotSupported) (behind)
+    cond_both (not (is_command command)) (refused (plain CallNotSupported)) (behind)
     (λ v. v ≡ runs call → ComesTo w s r call)
     (λ unknown h. absurd (cc))
     (λ known h.
-    cond_both (is_none s.user && needs_user command) (refused UserNotAuth) (verdict_of_spelling w s (spelt_call (block_of r) (enclosed_of r)))
+    cond_both (is_none s.user && needs_user command) (refused (plain UserNotAuth)) (verdict_of_spelling w s (spelt_call (block_of r) (enclosed_of r)))
     (λ v. v ≡ runs call → ComesTo w s r call)
     (λ lacks h. absurd (cc))
     (λ has h.
@@ -39,7 +39,7 @@ block-runs w s r (command ∷ fields) call new is h =
     h
   where
     behind : Verdict
-    behind = cond (is_none s.user && needs_user command) (refused UserNotAuth) (verdict_of_spelling w s (spelt_call (block_of r) (enclosed_of r)))
+    behind = cond (is_none s.user && needs_user command) (refused (plain UserNotAuth)) (verdict_of_spelling w s (spelt_call (block_of r) (enclosed_of r)))
 
 kept-runs : (w : World) (s : Session) (r : Request) (kept : Option Answer) (call : Call) → cached_answer s.cache r ≡ kept → verdict_of_kept w s r kept ≡ runs call → ComesTo w s r call
 kept-runs w s r (Some answer) call is h = absurd (cc)
@@ -51,7 +51,7 @@ comes-to w s r call h = kept-runs w s r (cached_answer s.cache r) call refl h
 
 -- a repeated answer is a kept one
 
-row-repeats : (c : Call) (code : Option Code) (a : Answer) → verdict_of_row c code ≡ repeats a → ⊥
+row-repeats : (c : Call) (code : Option Refused) (a : Answer) → verdict_of_row c code ≡ repeats a → ⊥
 row-repeats c (Some code) a h = cc
 row-repeats c None a h = cc
 
@@ -62,11 +62,11 @@ spelling-repeats w s (Some c) a h = row-repeats c (refusal w s c) a h
 block-repeats : (w : World) (s : Session) (r : Request) (block : List ℕ) (a : Answer) → verdict_of_block w s r block ≡ repeats a → ⊥
 block-repeats w s r [] a h = cc
 block-repeats w s r (command ∷ fields) a h =
-    cond_both (not (is_command command)) (refused CallNotSupported) (behind)
+    cond_both (not (is_command command)) (refused (plain CallNotSupported)) (behind)
     (λ v. v ≡ repeats a → ⊥)
     (λ unknown h. cc)
     (λ known h.
-    cond_both (is_none s.user && needs_user command) (refused UserNotAuth) (verdict_of_spelling w s (spelt_call (block_of r) (enclosed_of r)))
+    cond_both (is_none s.user && needs_user command) (refused (plain UserNotAuth)) (verdict_of_spelling w s (spelt_call (block_of r) (enclosed_of r)))
     (λ v. v ≡ repeats a → ⊥)
     (λ lacks h. cc)
     (λ has h. spelling-repeats w s (spelt_call (block_of r) (enclosed_of r)) a h)
@@ -74,7 +74,7 @@ block-repeats w s r (command ∷ fields) a h =
     h
   where
     behind : Verdict
-    behind = cond (is_none s.user && needs_user command) (refused UserNotAuth) (verdict_of_spelling w s (spelt_call (block_of r) (enclosed_of r)))
+    behind = cond (is_none s.user && needs_user command) (refused (plain UserNotAuth)) (verdict_of_spelling w s (spelt_call (block_of r) (enclosed_of r)))
 
 kept-repeats : (w : World) (s : Session) (r : Request) (kept : Option Answer) (a : Answer) → verdict_of_kept w s r kept ≡ repeats a → kept ≡ Some a
 kept-repeats w s r (Some answer) a h = cc

@@ -13,9 +13,11 @@ use Rattle.afp_serial.specs.declared.ask.Told.{Told}
 use Rattle.afp_serial.specs.declared.ask.Told.TheVariants as told
 use Rattle.afp_serial.specs.declared.attachment.Attachment.{Attachment}
 use Rattle.afp_serial.specs.declared.attachment.Attachment.TheVariants.{Attached, Detached}
-use Rattle.afp_serial.specs.CallRow.{Effect}
+use Rattle.afp_replies.specs.Replies.{canonical_reply}
+use Rattle.afp_requests.specs.declared.call.Call.{Call}
+use Rattle.afp_serial.specs.CallRow.{Effect, Refused}
 use Rattle.afp_serial.specs.Limits.{most_sessions, links_end, detached_time}
-use Rattle.afp_serial.specs.Rows.{effect, commits}
+use Rattle.afp_serial.specs.Rows.{effect, commits, ends_session}
 use Rattle.afp_serial.specs.Sessions.{session_at, ending, without_session}
 use Rattle.afp_serial.specs.Steps.{Verdict, repeats, refused, runs, verdict}
 use Rattle.afp_serial.specs.World.{World, Session, at_moment}
@@ -45,14 +47,17 @@ with_new_session w = record w { next_link = w.next_link + 1; sessions = w.sessio
 abbrev pub refusal_reply : Code → Told
 refusal_reply code = told.Reply code [] false
 
-abbrev pub effect_reply : Effect → Told
-effect_reply e = told.Reply code.Ok e.block e.ends
+abbrev pub refused_reply : Refused → Told
+refused_reply r = told.Reply r.code (canonical_reply r.reply) false
+
+abbrev pub effect_reply : Call → Effect → Told
+effect_reply call e = told.Reply code.Ok (canonical_reply e.reply) (ends_session call)
 
 abbrev pub told_verdict : World → Session → Verdict → Outcome → Told
 told_verdict w s (repeats answer) o = told.Reply answer.code answer.block false
-told_verdict w s (refused code) o = refusal_reply code
+told_verdict w s (refused r) o = refused_reply r
 told_verdict w s (runs call) outcome.Fault = refusal_reply code.MiscErr
-told_verdict w s (runs call) outcome.Done = effect_reply (effect w s call)
+told_verdict w s (runs call) outcome.Done = effect_reply call (effect w s call)
 
 abbrev pub after_verdict : World → Session → Verdict → Outcome → World
 after_verdict w s (repeats answer) o = w
@@ -69,14 +74,14 @@ after_call w None r o = w
 after_call w (Some s) r o = after_verdict w s (verdict w s r) o
 
 -- A fault comes only where the call would have its effect, and its row commits or settles: so it hides no refusal.
-abbrev pub may_fault : Verdict → Bool
-may_fault (repeats answer) = false
-may_fault (refused code) = false
-may_fault (runs call) = commits call
+abbrev pub may_fault : World → Session → Verdict → Bool
+may_fault w s (repeats answer) = false
+may_fault w s (refused code) = false
+may_fault w s (runs call) = commits w s call
 
 abbrev pub is_fault_legal : World → Option Session → Request → Bool
 is_fault_legal w None r = false
-is_fault_legal w (Some s) r = may_fault (verdict w s r)
+is_fault_legal w (Some s) r = may_fault w s (verdict w s r)
 
 -- Pulse
 

@@ -100,7 +100,7 @@ pub record FailsInPlace (w : World) (e : Entry) : Type 0 where
   pub attached : session_at w e.link.0 ≡ Some session
   pub call : Call
   pub runs : ComesTo (at_moment w e.at) session (request id write offset payload) call
-  pub may : commits call ≡ true
+  pub may : commits (at_moment w e.at) session call ≡ true
   pub answered : answer w e ≡ told.Reply MiscErr [] false
   pub left : after w e ≡ at_moment w e.at
 

@@ -1,37 +1,40 @@
--- The refusal and the effect of a call, each under the call's name; here they are only dispatched.
-use Rattle.std.specs.Prelude.{Bool, false, true, List, [], ◌∷◌, Option}
-use Rattle.afp_base.specs.declared.code.Code.{Code}
+-- The row of a call, each under the call's name; here they are only dispatched.
+use Rattle.std.specs.Prelude.{ℕ, Bool, true, false, List, [], ◌∷◌, Option, is_some}
 use Rattle.afp_base.specs.declared.code.Code.TheVariants.{CallNotSupported}
 use Rattle.afp_requests.specs.declared.call.Call.{Call}
 use Rattle.afp_requests.specs.declared.call.Call.TheVariants.{CloseVol, Login, Logout, OpenVol}
 use Rattle.afp_base.specs.Choice.{first_holding}
-use Rattle.afp_serial.specs.CallRow.{Refusal, Effect, silently}
-use Rattle.afp_serial.specs.CloseVol.{close_vol_refusals, close_vol_effect}
-use Rattle.afp_serial.specs.Login.{login_refusals, login_effect}
-use Rattle.afp_serial.specs.Logout.{logout_refusals, logout_effect}
-use Rattle.afp_serial.specs.OpenVol.{open_vol_refusals, open_vol_effect}
+use Rattle.afp_serial.specs.CallRow.{Effect, Refused, Row, commits_nothing, plain, silently}
+use Rattle.afp_serial.specs.CloseVol.{close_vol_row}
+use Rattle.afp_serial.specs.Login.{login_row}
+use Rattle.afp_serial.specs.Logout.{logout_row}
+use Rattle.afp_serial.specs.OpenVol.{open_vol_row}
 use Rattle.afp_serial.specs.World.{World, Session}
 
--- the refusals of a call's row, in order; a call that is spelt and has no row yet is not supported
-abbrev pub refusals : World → Session → Call → List Refusal
-refusals w s (CloseVol volume) = close_vol_refusals s volume.0
-refusals w s (Login version uam tail) = login_refusals s version uam
-refusals w s Logout = logout_refusals
-refusals w s (OpenVol bits name) = open_vol_refusals w bits name
-refusals w s call = (true, CallNotSupported) ∷ []
+-- a call that is spelt and has no row yet is not supported
+abbrev pub unsupported_row : Row
+unsupported_row = record { refusals = λ w s. (true, plain CallNotSupported) ∷ []; effect = λ w s. silently w; committed = commits_nothing }
 
--- the code of the first condition that holds
-unfoldable pub refusal : World → Session → Call → Option Code
-refusal w s call = first_holding (refusals w s call)
+unfoldable pub row : Call → Row
+row (CloseVol volume) = close_vol_row volume.0
+row (Login version uam tail) = login_row version uam
+row Logout = logout_row
+row (OpenVol bits name) = open_vol_row bits name
+row call = unsupported_row
+
+-- what is told by the first condition that holds
+abbrev pub refusal : World → Session → Call → Option Refused
+refusal w s call = first_holding ((row call).refusals w s)
 
 -- what a call that is not refused does
-unfoldable pub effect : World → Session → Call → Effect
-effect w s (CloseVol volume) = close_vol_effect w s volume.0
-effect w s (Login version uam tail) = login_effect w s
-effect w s Logout = logout_effect w s
-effect w s (OpenVol bits name) = open_vol_effect w s bits name
-effect w s call = silently w
+abbrev pub effect : World → Session → Call → Effect
+effect w s call = (row call).effect w s
 
 -- whether the row of a call commits or settles, so that it may meet a fault; no row does yet
-unfoldable pub commits : Call → Bool
-commits call = false
+abbrev pub commits : World → Session → Call → Bool
+commits w s call = is_some ((row call).committed w s)
+
+-- the one call with which a session ends
+abbrev pub ends_session : Call → Bool
+ends_session Logout = true
+ends_session call = false

@@ -4,11 +4,11 @@
 use Rattle.std.specs.Prelude.{ℕ, ◌==◌, Bool, not, ◌&&◌, if◌then◌else◌, List, [], ◌∷◌, take, drop, Option, None, Some, is_none}
 use Rattle.std.specs.List.{list_any}
 use Rattle.afp_base.specs.Cached.{Request, Answer, cached_answer}
-use Rattle.afp_base.specs.declared.code.Code.{Code}
 use Rattle.afp_base.specs.declared.code.Code.TheVariants.{ParamErr, CallNotSupported, UserNotAuth}
 use Rattle.afp_requests.specs.Spelt.{is_command, spelt_call}
 use Rattle.afp_requests.specs.declared.call.Call.{Call}
 use Rattle.afp_requests.specs.declared.commands.TheConstants.{GET_SRVR_INFO, LOGIN, LOGIN_EXT, LOGOUT}
+use Rattle.afp_serial.specs.CallRow.{Refused, plain}
 use Rattle.afp_serial.specs.Rows.{refusal}
 use Rattle.afp_serial.specs.World.{World, Session}
 
@@ -30,29 +30,29 @@ needs_user command = not (list_any (λ other. other == command) commands_without
 -- What a call comes to: the answer that is kept for it, a refusal, or its effect.
 pub data Verdict : Type 0 where
   repeats : Answer → Verdict
-  refused : Code → Verdict
+  refused : Refused → Verdict
   runs : Call → Verdict
 
 -- last, the refusals of the call's row
-abbrev pub verdict_of_row : Call → Option Code → Verdict
-verdict_of_row call (Some code) = refused code
+abbrev pub verdict_of_row : Call → Option Refused → Verdict
+verdict_of_row call (Some told) = refused told
 verdict_of_row call None = runs call
 
 -- before them, whether block and enclosed bytes spell a call
 abbrev pub verdict_of_spelling : World → Session → Option Call → Verdict
-verdict_of_spelling w s None = refused ParamErr
+verdict_of_spelling w s None = refused (plain ParamErr)
 verdict_of_spelling w s (Some call) = verdict_of_row call (refusal w s call)
 
 -- before that, whether the command is one, and whether it may come without a user
 abbrev pub verdict_of_command : World → Session → Request → ℕ → Verdict
 verdict_of_command w s r command =
-    if not (is_command command) then refused CallNotSupported
-    else if is_none s.user && needs_user command then refused UserNotAuth
+    if not (is_command command) then refused (plain CallNotSupported)
+    else if is_none s.user && needs_user command then refused (plain UserNotAuth)
     else verdict_of_spelling w s (spelt_call (block_of r) (enclosed_of r))
 
 -- before that, whether there is a command
 abbrev pub verdict_of_block : World → Session → Request → List ℕ → Verdict
-verdict_of_block w s r [] = refused ParamErr
+verdict_of_block w s r [] = refused (plain ParamErr)
 verdict_of_block w s r (command ∷ fields) = verdict_of_command w s r command
 
 -- first, whether an answer is kept for an equal request

@@ -4,20 +4,19 @@ use Rattle.afp_serial.specs.World.{World}
 use Rattle.afp_serial.specs.declared.ask.Told.TheVariants.{Reply}
 use Rattle.afp_requests.specs.declared.call.Call.TheVariants.{CloseVol}
 use Rattle.afp_core.specs.SessionList.{replaced, session_of}
-use Rattle.afp_core.specs.Turn.{dated}
 use Rattle.afp_core.proofs.RowLemmas.{is_refused, close_vol-not_open, close_vol-runs, opens-bare, locks-bare}
 use Rattle.afp_core.proofs.state.State.close_vol.Goals as goal
 
 pub returns-then-not-has_volume : goal.returns-then-not-has_volume
-returns-then-not-has_volume c = λ moment s at.
+returns-then-not-has_volume c = λ s at.
     let there = ap (λ (w : World). session_of w.sessions c.args.session.0) c.self.view_is ∙ at in
-    is_refused c.args.self.now _ moment s (CloseVol c.args.volume) ParamErr _
-    (close_vol-not_open (dated c.args.self.now moment) s c.args.volume (sym (c.has_volume.ensures s there) ∙ c.if-not-has_volume.true)) c.refused.ensures refl
+    is_refused c.args.self.now _ s (CloseVol c.args.volume) ParamErr _
+    (close_vol-not_open c.args.self.now s c.args.volume (sym (c.has_volume.ensures s there) ∙ c.if-not-has_volume.true)) c.refused.ensures refl
 
 pub returns : goal.returns
-returns c = λ moment s at.
+returns c = λ s at.
     let there = ap (λ (w : World). session_of w.sessions c.args.session.0) c.self.view_is ∙ at in
-    close_vol-runs c.args.self.now _ moment s c.args.volume _ c.close_volume.new.self (sym (c.has_volume.ensures s there) ∙ c.if-not-has_volume.false)
+    close_vol-runs c.args.self.now _ s c.args.volume _ c.close_volume.new.self (sym (c.has_volume.ensures s there) ∙ c.if-not-has_volume.false)
     (opens-bare c.args.self.now _ _ _ _ _ _ c.self.view_is) (locks-bare c.args.self.now _ _ _ _ _ _ c.self.view_is)
     (c.done.ensures ∙ ap (λ (b : List ℕ). Reply Ok b false) c.new.ensures) (ap (λ (w : World). record w { sessions = c.close_volume.new.self }) c.self.view_is)
     (c.close_volume.ensures s there ∙ ap (λ (w : World). replaced w.sessions (record s { volumes = filter (λ v. not (v == c.args.volume.0)) s.volumes })) c.self.view_is)
