@@ -1,9 +1,11 @@
 pub mod Call
+pub mod Commands
 pub mod Desktop
 pub mod Directory
 pub mod File
 pub mod Fork
 pub mod Group
+pub mod Kinds
 pub mod Laws
 pub mod Reading
 pub mod Session

@@ -5,7 +5,7 @@ use Rattle.byteorder.specs.Endian.{big_number, big_bytes}
 use Rattle.afp_base.specs.declared.ids.ForkRef.{ForkRef}
 use Rattle.afp_base.specs.declared.ids.NodeId.{NodeId}
 use Rattle.afp_base.specs.declared.ids.VolumeId.{VolumeId}
-use Rattle.afp_names.specs.declared.path.TheConstants.{LONG_NAMES}
+use Rattle.afp_requests.specs.Kinds.{long_names}
 use Rattle.afp_names.specs.Path.{PathValue, IsPath, SpellsPath, canonical_path}
 
 -- The sorts of fields: a byte of this value; a pad byte; a pad byte that a block may end before; a pad byte where the place is odd; an unsigned number in so many bytes; the same, from a least to a greatest; the same, as a count of what stands further on; a number that is there where a condition holds; signed numbers; so many bytes; a count in so many bytes, and the bytes; a path; all that remains.
@@ -122,10 +122,10 @@ pub record IsCounted (n : ℕ) (text bytes : List ℕ) : Type 0 where
 
 -- the size of the hint and of the count before a path's bytes, by its type (AFP Reference, "Pathnames")
 abbrev pub hint_size : ℕ → ℕ
-hint_size kind = if kind == LONG_NAMES then 0 else 4
+hint_size kind = if kind == long_names then 0 else 4
 
 abbrev pub count_size : ℕ → ℕ
-count_size kind = if kind == LONG_NAMES then 1 else 2
+count_size kind = if kind == long_names then 1 else 2
 
 -- the bytes are a path's type, for UTF-8 names a hint of 4 bytes of any value, a count of 1 byte for long names and of 2 bytes else, and as many bytes, which spell the path
 pub record SpellsPathname (p : PathValue) (bytes : List ℕ) : Type 0 where

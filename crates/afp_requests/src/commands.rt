@@ -1,4 +1,11 @@
 //! The numbers of the commands (AFP Reference, "AFP Commands").
+ghost use Rattle.std.specs.Prelude.{◌≡◌, [], ◌∷◌, map};
+ghost use Rattle.afp_requests.specs.Session.{session_readers};
+ghost use Rattle.afp_requests.specs.Volume.{volume_readers};
+ghost use Rattle.afp_requests.specs.Directory.{directory_readers};
+ghost use Rattle.afp_requests.specs.File.{file_readers};
+ghost use Rattle.afp_requests.specs.Fork.{fork_readers};
+ghost use Rattle.afp_requests.specs.Desktop.{desktop_readers};
 
 pub const BYTE_RANGE_LOCK: u8 = 1;
 
@@ -113,3 +120,13 @@ pub const ENUMERATE_EXT: u8 = 66;
 pub const ENUMERATE_EXT2: u8 = 68;
 
 pub const ADD_ICON: u8 = 192;
+
+/// Each command has the number that begins its requests.
+pub fn commands_begin_requests()
+    ensures session { LOGIN ∷ LOGIN_EXT ∷ LOGOUT ∷ GET_SESSION_TOKEN ∷ DISCONNECT_OLD_SESSION ∷ GET_SRVR_INFO ∷ GET_SRVR_PARMS ∷ GET_SRVR_MSG ∷ GET_USER_INFO ∷ MAP_ID ∷ MAP_NAME ∷ [] ≡ map (λ r. r.number) session_readers }
+    ensures volume { OPEN_VOL ∷ CLOSE_VOL ∷ GET_VOL_PARMS ∷ SET_VOL_PARMS ∷ FLUSH ∷ [] ≡ map (λ r. r.number) volume_readers }
+    ensures directory { CREATE_DIR ∷ OPEN_DIR ∷ CLOSE_DIR ∷ ENUMERATE ∷ ENUMERATE_EXT ∷ ENUMERATE_EXT2 ∷ SET_DIR_PARMS ∷ GET_FILE_DIR_PARMS ∷ SET_FILE_DIR_PARMS ∷ DELETE ∷ RENAME ∷ MOVE_AND_RENAME ∷ [] ≡ map (λ r. r.number) directory_readers }
+    ensures file { CREATE_FILE ∷ COPY_FILE ∷ SET_FILE_PARMS ∷ EXCHANGE_FILES ∷ CREATE_ID ∷ DELETE_ID ∷ RESOLVE_ID ∷ [] ≡ map (λ r. r.number) file_readers }
+    ensures fork { OPEN_FORK ∷ CLOSE_FORK ∷ FLUSH_FORK ∷ GET_FORK_PARMS ∷ SET_FORK_PARMS ∷ READ ∷ READ_EXT ∷ WRITE ∷ WRITE_EXT ∷ BYTE_RANGE_LOCK ∷ BYTE_RANGE_LOCK_EXT ∷ [] ≡ map (λ r. r.number) fork_readers }
+    ensures desktop { OPEN_DT ∷ CLOSE_DT ∷ ADD_ICON ∷ GET_ICON ∷ GET_ICON_INFO ∷ ADD_APPL ∷ REMOVE_APPL ∷ GET_APPL ∷ ADD_COMMENT ∷ REMOVE_COMMENT ∷ GET_COMMENT ∷ [] ≡ map (λ r. r.number) desktop_readers }
+{}
