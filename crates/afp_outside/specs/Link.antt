@@ -31,7 +31,7 @@ pub record LinkState : Type 0 where
   pub now : ℕ
   pub heard : ℕ
 
--- A read that gave the n next bytes, which begin the room.
+-- A read that gave the n next bytes, which begin the room. Its clock may fail, so faults of reading may be counted beside it.
 pub record ReadsPiece (old : LinkState) (room : List ℕ) (n : ℕ) (new : LinkState) : Type 0 where
   pub least : 1 ≤ n
   pub most : n ≤ length room
@@ -40,22 +40,22 @@ pub record ReadsPiece (old : LinkState) (room : List ℕ) (n : ℕ) (new : LinkS
   pub written : new.written ≡ old.written
   pub ended : new.ended ≡ old.ended
   pub read_faults : old.read_faults ≤ new.read_faults
-  pub write_faults : old.write_faults ≤ new.write_faults
+  pub write_faults : new.write_faults ≡ old.write_faults
   pub quiets : new.quiets ≡ old.quiets
   pub heard : new.heard ≡ new.now
 
--- A read in whose time no byte came.
+-- A read in whose time no byte came. Its clock may fail too.
 pub record ReadsQuiet (old new : LinkState) : Type 0 where
   pub events : new.events ≡ option_map (λ events. events ++ quiet old.written new.now ∷ []) old.events
   pub coming : new.coming ≡ old.coming
   pub written : new.written ≡ old.written
   pub ended : new.ended ≡ old.ended
   pub read_faults : old.read_faults ≤ new.read_faults
-  pub write_faults : old.write_faults ≤ new.write_faults
+  pub write_faults : new.write_faults ≡ old.write_faults
   pub quiets : Counts 1 old.quiets new.quiets
   pub heard : new.heard ≡ old.heard
 
--- A read that found the end: no byte is left.
+-- A read that found the end: no byte is left. Its clock may fail too.
 pub record ReadsEnd (old new : LinkState) : Type 0 where
   pub events : new.events ≡ old.events
   pub nothing_left : IfSome old.coming (λ coming. coming ≡ [])
@@ -63,18 +63,18 @@ pub record ReadsEnd (old new : LinkState) : Type 0 where
   pub written : new.written ≡ old.written
   pub ended : new.ended ≡ true
   pub read_faults : old.read_faults ≤ new.read_faults
-  pub write_faults : old.write_faults ≤ new.write_faults
+  pub write_faults : new.write_faults ≡ old.write_faults
   pub quiets : new.quiets ≡ old.quiets
   pub heard : new.heard ≡ old.heard
 
--- A read that failed: it took nothing, and its fault is counted.
+-- A read that failed: it took nothing, and its fault is counted, with one of its clock where that failed too.
 pub record FailsToRead (old new : LinkState) : Type 0 where
   pub events : new.events ≡ old.events
   pub coming : new.coming ≡ old.coming
   pub written : new.written ≡ old.written
   pub ended : new.ended ≡ old.ended
   pub read_faults : Rises 1 old.read_faults new.read_faults
-  pub write_faults : old.write_faults ≤ new.write_faults
+  pub write_faults : new.write_faults ≡ old.write_faults
   pub quiets : new.quiets ≡ old.quiets
   pub heard : new.heard ≡ old.heard
 
@@ -85,7 +85,7 @@ Reads old room Quiet new = ReadsQuiet old new
 Reads old room End new = ReadsEnd old new
 Reads old room Failed new = FailsToRead old new
 
--- A write that took the first n of the bytes offered.
+-- A write that took the first n of the bytes offered, and counted no fault.
 pub record WritesPiece (old : LinkState) (offered : List ℕ) (n : ℕ) (new : LinkState) : Type 0 where
   pub least : 1 ≤ n
   pub most : n ≤ length offered
@@ -93,20 +93,20 @@ pub record WritesPiece (old : LinkState) (offered : List ℕ) (n : ℕ) (new : L
   pub coming : new.coming ≡ old.coming
   pub written : new.written ≡ option_map (λ written. written ++ take n offered) old.written
   pub ended : new.ended ≡ old.ended
-  pub read_faults : old.read_faults ≤ new.read_faults
-  pub write_faults : old.write_faults ≤ new.write_faults
+  pub read_faults : new.read_faults ≡ old.read_faults
+  pub write_faults : new.write_faults ≡ old.write_faults
   pub quiets : new.quiets ≡ old.quiets
   pub now : new.now ≡ old.now
   pub heard : new.heard ≡ old.heard
 
--- A write that failed: it wrote nothing, and its fault is counted.
+-- A write that failed: it wrote nothing, and its fault is counted, once.
 pub record FailsToWrite (old new : LinkState) : Type 0 where
   pub events : new.events ≡ old.events
   pub coming : new.coming ≡ old.coming
   pub written : new.written ≡ old.written
   pub ended : new.ended ≡ old.ended
-  pub read_faults : old.read_faults ≤ new.read_faults
-  pub write_faults : Rises 1 old.write_faults new.write_faults
+  pub read_faults : new.read_faults ≡ old.read_faults
+  pub write_faults : Counts 1 old.write_faults new.write_faults
   pub quiets : new.quiets ≡ old.quiets
   pub now : new.now ≡ old.now
   pub heard : new.heard ≡ old.heard

@@ -1,6 +1,6 @@
 -- A door through which links come, and what its calls do to it (this profile).
-use Rattle.std.specs.Prelude.{◌≡◌, ℕ, ◌+◌, ◌≤◌, Bool, true, List, [], ◌∷◌, ◌++◌}
-use Rattle.afp_base.specs.Counts.{Rises}
+use Rattle.std.specs.Prelude.{◌≡◌, ℕ, ◌+◌, Bool, true, List, [], ◌∷◌, ◌++◌}
+use Rattle.afp_base.specs.Counts.{Counts}
 use Rattle.afp_outside.specs.Link.{LinkState, IsFresh}
 use Rattle.afp_outside.specs.declared.listener.Accepted.{Accepted}
 use Rattle.afp_outside.specs.declared.listener.Accepted.TheVariants.{Link, Closed, Failed}
@@ -13,27 +13,27 @@ pub record DoorState (L : Type 0) : Type 0 where
   pub closed : Bool
   pub faults : ℕ
 
--- A fresh link was handed out.
+-- A fresh link was handed out, and no fault was counted.
 pub record HandsOut {L : Type 0} (state : L → LinkState) (old : DoorState L) (link : L) (new : DoorState L) : Type 0 where
   pub fresh : IsFresh (state link)
   pub handed : new.handed ≡ old.handed + 1
   pub back : new.back ≡ old.back
   pub closed : new.closed ≡ old.closed
-  pub faults : old.faults ≤ new.faults
+  pub faults : new.faults ≡ old.faults
 
--- The door is closed: no link comes any more.
+-- The door is closed: no link comes any more, and no fault was counted.
 pub record Closes {L : Type 0} (old new : DoorState L) : Type 0 where
   pub handed : new.handed ≡ old.handed
   pub back : new.back ≡ old.back
   pub closed : new.closed ≡ true
-  pub faults : old.faults ≤ new.faults
+  pub faults : new.faults ≡ old.faults
 
--- No link was handed out, and the fault is counted.
+-- No link was handed out, and the fault is counted, once.
 pub record FailsToAccept {L : Type 0} (old new : DoorState L) : Type 0 where
   pub handed : new.handed ≡ old.handed
   pub back : new.back ≡ old.back
   pub closed : new.closed ≡ old.closed
-  pub faults : Rises 1 old.faults new.faults
+  pub faults : Counts 1 old.faults new.faults
 
 -- An accept by its answer; `state` is what a link of this door is seen as.
 abbrev pub Accepts : {L : Type 0} → (L → LinkState) → DoorState L → Accepted L → DoorState L → Type 0
