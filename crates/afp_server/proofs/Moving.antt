@@ -63,8 +63,8 @@ moves-write a b offered n w = record {
   coming = sym w.coming ∙ left-none b.coming;
   written = w.written;
   quiets = (omega (arith, w.quiets), omega (arith, w.quiets), omega (arith, w.quiets));
-  read_faults = w.read_faults;
-  write_faults = w.write_faults;
+  read_faults = omega (arith, w.read_faults);
+  write_faults = omega (arith, w.write_faults);
 }
 
 pub cut_at : (xs : List ℕ) (n : ℕ) → n ≤ length xs → xs ≡ take n xs ++ take (length xs - n) (drop n xs)

@@ -50,7 +50,7 @@ moves-read a b room n r = record {
   written = r.written ∙ added-none a.written;
   quiets = (omega (arith, r.quiets), omega (arith, r.quiets), omega (arith, r.quiets));
   read_faults = r.read_faults;
-  write_faults = r.write_faults;
+  write_faults = omega (arith, r.write_faults);
 }
 
 pub moves-quiet : (a b : LinkState) → ReadsQuiet a b → Moves a (quiet a.written b.now ∷ []) [] b
@@ -60,7 +60,7 @@ moves-quiet a b r = record {
   written = r.written ∙ added-none a.written;
   quiets = r.quiets;
   read_faults = r.read_faults;
-  write_faults = r.write_faults;
+  write_faults = omega (arith, r.write_faults);
 }
 
 pub moves-end : (a b : LinkState) → ReadsEnd a b → Moves a [] [] b
@@ -70,7 +70,7 @@ moves-end a b r = record {
   written = r.written ∙ added-none a.written;
   quiets = (omega (arith, r.quiets), omega (arith, r.quiets), omega (arith, r.quiets));
   read_faults = r.read_faults;
-  write_faults = r.write_faults;
+  write_faults = omega (arith, r.write_faults);
 }
 
 pub moves-fault : (a b : LinkState) → FailsToRead a b → Moves a [] [] b
@@ -80,7 +80,7 @@ moves-fault a b r = record {
   written = r.written ∙ added-none a.written;
   quiets = (omega (arith, r.quiets), omega (arith, r.quiets), omega (arith, r.quiets));
   read_faults = r.read_faults.0;
-  write_faults = r.write_faults;
+  write_faults = omega (arith, r.write_faults);
 }
 
 -- a move without events or bytes adds none
