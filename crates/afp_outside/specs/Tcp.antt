@@ -1,5 +1,5 @@
 -- Links and doors over TCP, which tell no bytes (this profile).
-use Rattle.std.specs.Prelude.{◌≡◌, ◌≢◌, ℕ, ◌-◌, Option, Some, None, option_map, min, zero, suc}
+use Rattle.std.specs.Prelude.{◌≡◌, ◌≢◌, ◌⊎◌, ℕ, ◌-◌, ℤ, pos, Option, Some, None, option_map, min, zero, suc}
 use Rattle.afp_outside.specs.Link.{LinkState}
 use Rattle.afp_outside.specs.Listener.{DoorState}
 use Rattle.afp_outside.specs.declared.listener.Accepted.{Accepted}
@@ -8,6 +8,14 @@ use Rattle.afp_outside.specs.declared.listener.Accepted.TheVariants.{Link, Close
 -- the moment of a Unix time in seconds: that of 2000-01-01 is 946,684,800 (AFP Reference, dates)
 abbrev pub moment_of_unix : ℕ → ℕ
 moment_of_unix seconds = min (seconds - 946684800) 2147483647
+
+-- The number of an accept's error is one of a socket alone: EINTR, EPROTO, ECONNABORTED (Linux, errno.h and accept(2)).
+abbrev pub IsOneSocket : ℤ → Type 0
+IsOneSocket number = (number ≡ pos 4) ⊎ (number ≡ pos 71) ⊎ (number ≡ pos 103)
+
+-- The number of an error is want of descriptors or of memory in the system: ENOMEM, ENFILE, EMFILE, ENOBUFS (Linux, errno.h).
+abbrev pub IsWant : ℤ → Type 0
+IsWant number = (number ≡ pos 12) ⊎ (number ≡ pos 23) ⊎ (number ≡ pos 24) ⊎ (number ≡ pos 105)
 
 -- A door over TCP, and how many links it hands out before it is closed: no end to them, where none
 -- is told.

@@ -5,13 +5,25 @@ ghost use Rattle.afp_outside.specs.Listener.{Accepts, TakesBack};
 ghost use Rattle.afp_outside.specs.Tcp.{Limits, limit_of};
 
 use crate::listener::{Accepted, Listener};
+use crate::remedy::{is_one_socket, is_want};
 use crate::tcp_wire::TcpWire;
 use ghost_log::Log;
 use std::marker::Model;
 use std::net::{Ipv4Addr, Net, TcpListener, TcpStream};
-use std::time::Clock;
+use std::thread;
+use std::time::{Clock, Duration};
+
+/// How many milliseconds an accept waits where the system has no descriptor or no memory.
+const PAUSE_MILLISECONDS: u64 = 100;
+
+/// How often one accept waits so, before it fails: for a minute.
+const MOST_PAUSES: u32 = 600;
 
 /// A door for links over TCP. It counts its errors.
+///
+/// An accept fails where the port could not be opened, where the system has had no descriptor or no memory
+/// for a minute, and at an error that nothing heals. A link that is handed back is shut for writing, and
+/// what its peer still sends is read and dropped within bounds (`TcpWire::shut`) before it is closed.
 #[derive(Drop)]
 pub struct TcpDoor<R> {
     rt: R,
@@ -71,11 +83,40 @@ impl<R: Net<Listener = TcpListener, Stream = TcpStream>> TcpDoor<R> {
 }
 
 impl<R: Clock + Clone + Drop> TcpDoor<R> {
+    /// A link over a socket that was accepted, or `None` where its options or its clock fail.
+    fn wire_over(&self, stream: TcpStream) -> Option<TcpWire<R>>
+        ensures { IfSome result IsFresh }
+    {
+        TcpWire::new(stream, self.rt.clone().ok()?).ok()
+    }
+
+    /// The next link, or `None` where the door fails.
+    ///
+    /// A socket whose options or clock fail is dropped. An error of one socket alone is tried again at once,
+    /// want of descriptors or of memory after a pause.
     fn next_wire(&self) -> Option<TcpWire<R>>
         ensures { IfSome result IsFresh }
     {
-        let (stream, _) = self.listener.as_ref()?.accept().ok()?;
-        TcpWire::new(stream, self.rt.clone().ok()?).ok()
+        let listener = self.listener.as_ref()?;
+        let mut pauses = 0;
+        for _ in 0..u64::MAX {
+            match listener.accept() {
+                Ok((stream, _)) => {
+                    if let Some(wire) = self.wire_over(stream) {
+                        return Some(wire);
+                    }
+                }
+                Err(error) => match error.raw_os_error() {
+                    Some(number) if is_want(number) && pauses < MOST_PAUSES => {
+                        pauses += 1;
+                        thread::sleep(&self.rt, Duration::from_millis(PAUSE_MILLISECONDS));
+                    }
+                    Some(number) if !is_one_socket(number) => return None,
+                    _ => {}
+                },
+            }
+        }
+        None
     }
 }
 
@@ -110,5 +151,7 @@ impl<R: Clock + Clone + Drop> Listener for TcpDoor<R> {
         ensures left { self.new.left ≡ self.old.left }
     {
         self.back = self.back.and(&link);
+        let mut link = link;
+        link.shut();
     }
 }

@@ -1,24 +1,42 @@
 //! A link over TCP.
-ghost use Rattle.std.specs.Prelude.{IfOk};
-ghost use Rattle.afp_outside.specs.Link.{IsFresh};
+ghost use Rattle.std.specs.Prelude.{◌≡◌, ◌≤◌, ◌<◌, length, max, IfOk, IfSome};
+ghost use Rattle.afp_outside.specs.Link.{IsFresh, Reads};
 
 use crate::link::{Heard, Link, Wrote};
-use crate::system_clock::moment_now;
+use crate::steady_clock::SteadyClock;
 use afp_base::Moment;
 use std::io;
 use std::io::{ErrorKind, Read, Write};
 use std::marker::Model;
-use std::net::TcpStream;
+use std::net::{Shutdown, TcpStream};
 use std::time::{Clock, Duration};
+
+/// How many seconds a read waits, and each try of a write. A read that waits longer is a quiet.
+const WAIT_SECONDS: u64 = 1;
+
+/// How often a write is tried that takes no byte, before it has failed: for a minute.
+const WRITE_TRIES: u32 = 60;
+
+/// How many seconds a link that was handed back is read at most before it is closed. The last read may
+/// wait for `WAIT_SECONDS` more.
+const CLOSING_SECONDS: u64 = 5;
+
+/// How many bytes of a link that was handed back are dropped before it is closed: with those of one read
+/// more at most.
+const CLOSING_BYTES: usize = 16 * 1024 * 1024;
+
+/// How many bytes are dropped at once.
+const CLOSING_ROOM: usize = 4096;
 
 /// A link over TCP. It counts its errors and tells no bytes.
 ///
-/// A read that waits longer than a second is a quiet. The moments are those of the clock; where the
-/// clock fails, the last moment stays and a fault of reading is counted.
+/// A read that waits longer than a second is a quiet. A write that takes no byte in 60 seconds has failed.
+/// The moments are those of a clock that the wall clock sets once, where the link is made; they never go
+/// back. Where the clock fails, the last moment stays and a fault of reading is counted.
 #[derive(Drop)]
 pub struct TcpWire<C> {
     stream: TcpStream,
-    clock: C,
+    clock: SteadyClock<C>,
     moment: Moment,
     heard: Moment,
     ended: bool,
@@ -52,10 +70,10 @@ impl<C: Clock + Drop> TcpWire<C> {
         ensures { IfOk result IsFresh }
     {
         stream.set_nodelay(true)?;
-        stream.set_read_timeout(Some(Duration::from_secs(1)))?;
-        let Some(made) = moment_now(&clock) else {
-            return Err(io::Error::from(ErrorKind::Other));
-        };
+        stream.set_read_timeout(Some(Duration::from_secs(WAIT_SECONDS)))?;
+        stream.set_write_timeout(Some(Duration::from_secs(WAIT_SECONDS)))?;
+        let clock = SteadyClock::new(clock)?;
+        let made = clock.set_at();
         Ok(TcpWire {
             stream,
             clock,
@@ -69,13 +87,93 @@ impl<C: Clock + Drop> TcpWire<C> {
     }
 }
 
+impl<C: Clock> TcpWire<C> {
+    /// Shuts the writing side, and then reads and drops what comes, so that the peer gets what was written.
+    /// It returns where the peer ends or the link fails, after `CLOSING_SECONDS` (and the wait of a last
+    /// read), or behind `CLOSING_BYTES`. It counts nothing.
+    pub(crate) fn shut(&mut self)
+        ensures { self.new ≡ self.old }
+    {
+        if self.stream.shutdown(Shutdown::Write).is_ok() {
+            drop_what_comes(&mut self.stream, &self.clock);
+        }
+    }
+}
+
+/// Reads and drops what comes, within the bounds of a link that is closed.
+fn drop_what_comes<C: Clock>(stream: &mut TcpStream, clock: &SteadyClock<C>) {
+    let Some(begun) = clock.gone() else {
+        return;
+    };
+    let mut left = CLOSING_BYTES;
+    for _ in 0..u64::MAX {
+        let Some(dropped) = drop_some(stream) else {
+            return;
+        };
+        left = left.saturating_sub(dropped);
+        if left == 0 || !is_closing_time(clock, begun) {
+            return;
+        }
+    }
+}
+
+/// Whether a link that began to be closed so long after its clock was set is read on.
+fn is_closing_time<C: Clock>(clock: &SteadyClock<C>, begun: Duration) -> bool {
+    match clock.gone() {
+        Some(gone) => gone.saturating_sub(begun).as_secs() < CLOSING_SECONDS,
+        None => false,
+    }
+}
+
+/// Reads bytes and drops them: how many, 0 where none came in the time that a read waits. `None`: none is
+/// left, or the read failed.
+fn drop_some(stream: &mut TcpStream) -> Option<usize> {
+    let mut room = [0; CLOSING_ROOM];
+    match stream.read(&mut room) {
+        Ok(n) if n > 0 => Some(n),
+        Err(error) if has_only_waited(&error) => Some(0),
+        _ => None,
+    }
+}
+
+/// Writes the first bytes of a piece, as many as go out at once. `None`: none went out in all tries, or the
+/// write failed.
+fn write_some(stream: &mut TcpStream, piece: &[u8]) -> Option<usize>
+    ensures least { IfSome result (λ n. 1 ≤ n) }
+    ensures most { IfSome result (λ n. n ≤ length piece.now) }
+{
+    for _ in 0..WRITE_TRIES {
+        match stream.write(piece) {
+            Ok(n) if n > 0 => return Some(n),
+            Err(error) if has_only_waited(&error) => {}
+            _ => return None,
+        }
+    }
+    None
+}
+
+/// The later one of two moments.
+fn later(one: Moment, other: Moment) -> Moment
+    ensures { result ≡ max one other }
+{
+    if one.seconds() < other.seconds() {
+        other
+    } else {
+        one
+    }
+}
+
 impl<C: Clock> Link for TcpWire<C> {
     ghost link_state = { λ link. link };
 
-    fn read(&mut self, room: &mut [u8]) -> Heard {
+    fn read(&mut self, room: &mut [u8]) -> Heard
+        requires { 0 < length room.old }
+        ensures reads { Reads self.old room.new result self.new }
+        ensures steady { self.old.now ≤ self.new.now }
+    {
         let outcome = self.stream.read(room);
-        match moment_now(&self.clock) {
-            Some(moment) => self.moment = moment,
+        match self.clock.moment() {
+            Some(moment) => self.moment = later(self.moment, moment),
             None => self.read_faults = self.read_faults.saturating_add(1),
         }
         match outcome {
@@ -87,7 +185,7 @@ impl<C: Clock> Link for TcpWire<C> {
                 self.heard = self.moment;
                 Heard::Got(n)
             }
-            Err(error) if is_quiet(&error) => {
+            Err(error) if has_only_waited(&error) => {
                 self.quiets = self.quiets.saturating_add(1);
                 Heard::Quiet
             }
@@ -99,9 +197,9 @@ impl<C: Clock> Link for TcpWire<C> {
     }
 
     fn write(&mut self, piece: &[u8]) -> Wrote {
-        match self.stream.write(piece) {
-            Ok(n) if n > 0 => Wrote::Took(n),
-            _ => {
+        match write_some(&mut self.stream, piece) {
+            Some(n) => Wrote::Took(n),
+            None => {
                 self.write_faults = self.write_faults.saturating_add(1);
                 Wrote::Failed
             }
@@ -117,8 +215,8 @@ impl<C: Clock> Link for TcpWire<C> {
     }
 }
 
-/// Whether a read only waited, and nothing failed.
-fn is_quiet(error: &io::Error) -> bool {
+/// Whether a read or a write only waited, and nothing failed.
+fn has_only_waited(error: &io::Error) -> bool {
     matches!(
         error.kind(),
         ErrorKind::WouldBlock | ErrorKind::TimedOut | ErrorKind::Interrupted
