@@ -1,13 +1,12 @@
 -- Laws of whole runs: that their frames follow the script, and what is served where nothing is in the way (this profile).
-use Rattle.std.specs.Prelude.{◌≡◌, ◌⊎◌, ℕ, ◌+◌, ◌-◌, ◌<◌, List, [], ◌∷◌, ◌++◌, length, Option, Some, None, option_map}
+use Rattle.std.specs.Prelude.{◌≡◌, ◌⊎◌, ℕ, ◌+◌, ◌-◌, ◌<◌, List, [], ◌++◌, length, Option, Some, None, option_map}
 use Rattle.afp_base.specs.Counts.{last_count}
 use Rattle.afp_base.specs.declared.ids.LinkNumber.{LinkNumber}
 use Rattle.afp_outside.specs.Link.{LinkState}
 use Rattle.afp_serial.specs.Went.{Step}
 use Rattle.dsi_frame.specs.Frame.{Frame}
-use Rattle.dsi_frame.specs.Stream.{Spelled}
 use Rattle.dsi_frame.specs.declared.frame.Reason.{Reason}
-use Rattle.afp_server.specs.LinkRun.{IsServed}
+use Rattle.afp_server.specs.LinkRun.{Fills, IsServed}
 use Rattle.afp_server.specs.Replies.{plain, spelling_of}
 use Rattle.afp_server.specs.Script.{Script}
 use Rattle.afp_server.specs.Trace.{Happening, frames_in, replies_in, frame_steps_in, Standing, Cause, closed, displaced, bad, silent, Follows}
@@ -39,27 +38,30 @@ pub record IsScripted (block : List ℕ) (stage : Stage) (trace : List Happening
 abbrev pub FollowsScript : Type 0
 FollowsScript = (block : List ℕ) (a b : Standing) (trace : List Happening) (cause : Option Cause) → Follows block a trace b cause → IsScripted block a.stage trace b.stage cause
 
--- some of the steps, in their order
-abbrev pub Within : List Step → List Step → Type 0
-Within [] steps = Unit {0}
-Within (s ∷ some) steps = (before : List Step) × (behind : List Step) × (steps ≡ before ++ s ∷ behind) × Within some behind
-
--- The first of the frames are a script, with some of the steps, in order.
+-- The first of the frames are a script, with just these steps.
 pub record BeginsScript (block : List ℕ) (frames : List Frame) (steps : List Step) (end : Option FrameEnd) (replies : List Frame) : Type 0 where
   pub done : List Frame
   pub others : List Frame
   pub split : frames ≡ done ++ others
-  pub asked : List Step
-  pub some : Within asked steps
   pub after : Stage
-  pub script : Script block stages.Fresh done asked replies after end
+  pub script : Script block stages.Fresh done steps replies after end
 
--- All of the frames are.
-pub record IsWholeScript (block : List ℕ) (frames : List Frame) (steps : List Step) (replies : List Frame) : Type 0 where
-  pub asked : List Step
-  pub some : Within asked steps
+-- The link goes on behind all of the frames, with the first of these steps.
+pub record GoesBehind (block : List ℕ) (frames : List Frame) (steps : List Step) : Type 0 where
+  pub first : List Step
+  pub later : List Step
+  pub split : steps ≡ first ++ later
+  pub replies : List Frame
   pub after : Stage
-  pub script : Script block stages.Fresh frames asked replies after None
+  pub script : Script block stages.Fresh frames first replies after None
+
+-- Whole good frames are coming, with what these steps were told: up to the last byte, or to a frame that ends the link. None of them
+-- ends it as a bad one.
+pub record BringsGood (block bytes : List ℕ) (frames : List Frame) (steps : List Step) : Type 0 where
+  pub behind : List ℕ
+  pub fills : Fills bytes frames behind
+  pub last : (behind ≡ []) ⊎ (GoesBehind block frames steps → ⊥)
+  pub none_bad : (reason : Reason) (replies : List Frame) → BeginsScript block frames steps (Some (ends.Bad reason)) replies → ⊥
 
 -- No count of faults rose, and none of the counts stands at its last number.
 pub record RunsStill (old new : LinkState) : Type 0 where
@@ -69,7 +71,7 @@ pub record RunsStill (old new : LinkState) : Type 0 where
   pub writes_count : old.write_faults < last_count
   pub quiets_count : new.quiets < last_count
 
--- no silence, and no other link that took the session
+-- no silence, no other link that took the session, and no server that is about to stop
 abbrev pub IsUnhindered : LinkEnd → Type 0
 IsUnhindered (links.Silent last now) = ⊥
 IsUnhindered links.Displaced = ⊥
@@ -77,7 +79,7 @@ IsUnhindered links.Closed = Unit {0}
 IsUnhindered links.Ended = Unit {0}
 IsUnhindered (links.Cut at) = Unit {0}
 IsUnhindered (links.Bad b) = Unit {0}
-IsUnhindered links.Drained = Unit {0}
+IsUnhindered links.Drained = ⊥
 IsUnhindered links.ReadFault = Unit {0}
 IsUnhindered links.WriteFault = Unit {0}
 IsUnhindered links.Spent = Unit {0}
@@ -87,17 +89,18 @@ IsUnhindered links.Memory = Unit {0}
 abbrev pub Wrote : LinkState → List Frame → LinkState → Type 0
 Wrote old replies new = new.written ≡ option_map (λ before. before ++ spelling_of replies) old.written
 
--- What comes of good frames: all of them are handled and replied to, or those up to the one that closes the link; or there was no memory.
+-- What comes of good frames, with the steps that they asked: all of them are handled and replied to, or those up to the one that
+-- closes the link; or there was no memory.
 abbrev pub ServesAll : List ℕ → List Frame → LinkState → LinkEnd → LinkState → List Step → Type 0
 ServesAll block frames old answer new steps =
     (answer ≡ links.Memory)
     ⊎ ((replies : List Frame) × (answer ≡ links.Closed) × BeginsScript block frames steps (Some ends.Closed) replies × Wrote old replies new)
-    ⊎ ((replies : List Frame) × (answer ≡ links.Ended) × IsWholeScript block frames steps replies × Wrote old replies new)
+    ⊎ ((replies : List Frame) × (after : Stage) × (answer ≡ links.Ended) × Script block stages.Fresh frames steps replies after None × Wrote old replies new)
 
--- The law: whole good frames are coming, none of which ends the link as a bad one with what its asks are told; the run is still and
--- unhindered, and the bytes and quiets are below the limit. Then all of them are served.
+-- The law: whole good frames are coming, with what the run's own frames were told, up to the last byte or to one that ends the link;
+-- the run is still and unhindered, and the bytes and quiets are below the limit. Then all of them are served.
 abbrev pub IsComplete : Type 0
 IsComplete = (block bytes : List ℕ) (frames : List Frame) (turns : ℕ) (old new : LinkState) (answer : LinkEnd) (steps : List Step)
-    → IsServed block turns old answer new steps → old.coming ≡ Some bytes → Spelled bytes frames
-    → ((reason : Reason) (replies : List Frame) → BeginsScript block frames steps (Some (ends.Bad reason)) replies → ⊥)
-    → RunsStill old new → IsUnhindered answer → length bytes + (new.quiets - old.quiets) < turns → ServesAll block frames old answer new steps
+    → (served : IsServed block turns old answer new steps) → old.coming ≡ Some bytes → BringsGood block bytes frames (frame_steps_in served.comes.trace)
+    → RunsStill old new → IsUnhindered answer → length bytes + (new.quiets - old.quiets) < turns
+    → ServesAll block frames old answer new (frame_steps_in served.comes.trace)

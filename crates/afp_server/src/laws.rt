@@ -8,8 +8,9 @@ pub fn what_happens_follows_the_script()
     ensures { FollowsScript }
 {}
 
-/// Where only whole good frames are coming, nothing fails or hinders the run and the limit is not reached, each
-/// request has its reply, up to the one that closes the link; or there was no memory.
+/// Where whole good frames are coming, up to the last byte or to a frame that ends the link, nothing fails or hinders
+/// the run and the limit is not reached, each request has its reply, up to the one that closes the link; or there was
+/// no memory. What stands behind a frame that ends the link does not matter.
 pub fn each_request_has_its_reply()
     ensures { IsComplete }
 {
