@@ -1,16 +1,78 @@
 //! Gates that calls go through.
+ghost use Rattle.std.specs.Prelude.{◌≡◌, Some};
+ghost use Rattle.afp_outside.specs.Gate.{none_passed, in_by, out_by};
 
 use afp_base::LinkNumber;
+use ghost_log::Log;
+use std::marker::Model;
 
-/// Goes before and after each call of a link, so that a test can hold one back.
+/// Goes before and after each call of a link, so that a test can hold one back. It cannot fail.
 ///
-/// It cannot fail, and contracts know nothing of it: what a caller ensures holds where it returns.
+/// Nothing can be said of what it keeps itself. So whoever calls keeps a log, which only the gate makes and makes longer: it tells
+/// contracts which calls went in and came out.
 pub trait Gate {
+    ghost use Rattle.std.specs.Prelude.{◌≡◌, Some};
+    ghost use Rattle.afp_outside.specs.Gate.{Passed, none_passed, in_by, out_by};
+
+    /// What went through.
+    type Log: Drop;
+
+    ghost passed: { Self.Log → Passed };
+
+    /// A log at its beginning.
+    fn log(&self) -> Self::Log
+        ensures { passed result ≡ none_passed };
+
     /// Before the call of a link.
-    fn before(&self, link: LinkNumber);
+    fn before(&self, link: LinkNumber, log: &mut Self::Log)
+        ensures { passed log.new ≡ in_by (passed log.old) (Some link) };
 
     /// After the call of a link, once its reply was written.
-    fn after(&self, link: LinkNumber);
+    fn after(&self, link: LinkNumber, log: &mut Self::Log)
+        ensures { passed log.new ≡ out_by (passed log.old) (Some link) };
+}
+
+/// A log that any gate may use. Only proofs read it, and it takes no memory.
+///
+/// Contracts see the links whose calls went in, and those whose calls came out.
+#[derive(Drop)]
+pub struct GateLog {
+    went_in: Log<LinkNumber>,
+    came_out: Log<LinkNumber>,
+}
+
+impl Model for GateLog {
+    ghost use Rattle.afp_outside.specs.Gate.{Passed};
+
+    ghost Value = { Passed };
+
+    ghost view = { λ l. record { went_in = l.went_in.items; came_out = l.came_out.items } };
+}
+
+impl GateLog {
+    /// A log at its beginning.
+    pub fn new() -> GateLog
+        ensures { result ≡ none_passed }
+    {
+        GateLog {
+            went_in: Log::new(),
+            came_out: Log::new(),
+        }
+    }
+
+    /// Notes that a call of a link went in.
+    pub fn go_in(&mut self, link: LinkNumber)
+        ensures { self.new ≡ in_by self.old (Some link) }
+    {
+        self.went_in = self.went_in.and(&link);
+    }
+
+    /// Notes that a call of a link came out.
+    pub fn come_out(&mut self, link: LinkNumber)
+        ensures { self.new ≡ out_by self.old (Some link) }
+    {
+        self.came_out = self.came_out.and(&link);
+    }
 }
 
 /// A gate that does nothing.
@@ -18,7 +80,19 @@ pub trait Gate {
 pub struct OpenGate;
 
 impl Gate for OpenGate {
-    fn before(&self, _link: LinkNumber) {}
+    type Log = GateLog;
 
-    fn after(&self, _link: LinkNumber) {}
+    ghost passed = { λ l. l };
+
+    fn log(&self) -> GateLog {
+        GateLog::new()
+    }
+
+    fn before(&self, link: LinkNumber, log: &mut GateLog) {
+        log.go_in(link);
+    }
+
+    fn after(&self, link: LinkNumber, log: &mut GateLog) {
+        log.come_out(link);
+    }
 }

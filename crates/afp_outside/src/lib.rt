@@ -25,7 +25,7 @@ mod tcp_wire;
 mod tests;
 
 pub use clock::Clock;
-pub use gate::{Gate, OpenGate};
+pub use gate::{Gate, GateLog, OpenGate};
 pub use link::{Heard, Link, Wrote};
 pub use listener::{Accepted, Listener};
 pub use sink::Sink;

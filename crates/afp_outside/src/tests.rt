@@ -190,8 +190,9 @@ fn clocks_tell_their_moment(rt: HostRuntime) {
 
 // Goes through a gate, for a link.
 fn passes<G: Gate>(gate: &G, link: LinkNumber) -> LinkNumber {
-    gate.before(link);
-    gate.after(link);
+    let mut log = gate.log();
+    gate.before(link, &mut log);
+    gate.after(link, &mut log);
     link
 }
 
