@@ -1,6 +1,9 @@
 -- One frame of a link, by what the session machine did with it.
 use Rattle.std.proofs.Common.{◌≡◌, ℕ, ◌+◌, ◌<◌, List, ◌++◌, length, sym, ap, ◌∙◌, subst, arith, length-append}
-use Rattle.std.specs.Prelude.{Some, None}
+use Rattle.std.specs.Prelude.{Option, Some, None}
+use Rattle.std.specs.Option.{option_to_list}
+use Rattle.afp_base.specs.declared.ids.LinkNumber.{LinkNumber}
+use Rattle.afp_outside.specs.Gate.{Passed, in_by, out_by}
 use Rattle.afp_outside.specs.Link.{LinkState}
 use Rattle.afp_serial.specs.Shown.{Shown}
 use Rattle.dsi_frame.specs.Buffered.{Buffered}
@@ -8,6 +11,7 @@ use Rattle.dsi_frame.specs.Frame.{Frame, IsSpelling, frame_of, header_of}
 use Rattle.dsi_frame.specs.Stream.{Begins}
 use Rattle.dsi_frame.specs.declared.frame.Header.{Header}
 use Rattle.afp_server.specs.Did.{Did}
+use Rattle.afp_server.specs.Passing.{calls_in, call_link}
 use Rattle.afp_server.specs.Replies.{listed, spelling_of}
 use Rattle.afp_server.specs.Script.{Does}
 use Rattle.afp_server.specs.Sending.{Sends, SendsPart}
@@ -17,6 +21,7 @@ use Rattle.afp_server.specs.declared.serve.LinkEnd.{LinkEnd}
 use Rattle.afp_server.specs.declared.serve.LinkEnd.TheVariants as links
 use Rattle.afp_server.specs.declared.stage.FrameEnd.{FrameEnd}
 use Rattle.afp_server.specs.declared.stage.Stage.{Stage}
+use Rattle.afp_server.proofs.Passing.{does-calls}
 use Rattle.afp_server.proofs.Serving.{HandlesNext, so_far-handles, ends-frame, ends-unwritten, some_lost-replied}
 
 -- the frame at the front
@@ -28,35 +33,41 @@ pub spelling_takes : (first : List ℕ) (f : Frame) → IsSpelling first f → 0
 spelling_takes first f s = omega (arith, ap length s.whole)
 
 -- The machine did this with the frame at the front.
-pub record Next (start : Start) (cost : ℕ) (held : Buffered) (link : LinkState) (old : SessionState) (before : Shown) (f : Frame) (did : Did) (new : SessionState) (after : Shown) : Type 0 where
-  pub so_far : SoFar start (point held old.stage link before) cost
+pub record Next (start : Start) (cost : ℕ) (held : Buffered) (link : LinkState) (old : SessionState) (before : Shown) (f : Frame) (did : Did) (new : SessionState) (after : Shown) (passed : Passed) : Type 0 where
+  pub so_far : SoFar start (point held old.stage link before passed) cost
   pub begins : Begins held.rest f
   pub does : Does start.block link.now old.stage f did
   pub acts : Acts old before did new after
 
-pub next : (start : Start) (cost : ℕ) (held : Buffered) (link : LinkState) (old new : SessionState) (before after : Shown) (f g : Frame) (did : Did) (now : ℕ) → start.block ≡ old.block
-    → SoFar start (point held old.stage link before) cost → Begins held.rest f → g ≡ f → now ≡ link.now → Does old.block now old.stage g did → Acts old before did new after
-    → Next start cost held link old before f did new after
-next start cost held link old new before after f g did now block s begins same moment does acts = record {
+pub next : (start : Start) (cost : ℕ) (held : Buffered) (link : LinkState) (old new : SessionState) (before after : Shown) (f g : Frame) (did : Did) (now : ℕ) (passed : Passed) → start.block ≡ old.block
+    → SoFar start (point held old.stage link before passed) cost → Begins held.rest f → g ≡ f → now ≡ link.now → Does old.block now old.stage g did → Acts old before did new after
+    → Next start cost held link old before f did new after passed
+next start cost held link old new before after f g did now passed block s begins same moment does acts = record {
   so_far = s;
   begins = begins;
   does = subst (λ (b : List ℕ). Does b link.now old.stage f did) (sym block) (subst (λ (n : ℕ). Does old.block n old.stage f did) moment (subst (λ (x : Frame). Does old.block now old.stage x did) same does));
   acts = acts;
 }
 
-handles : (start : Start) (cost : ℕ) (held : Buffered) (link : LinkState) (old new : SessionState) (before after : Shown) (f : Frame) (did : Did)
-    → (n : Next start cost held link old before f did new after) → HandlesNext start (point held old.stage link before) cost f did n.begins.first n.begins.more after
-handles start cost held link old new before after f did n =
+handles : (start : Start) (cost : ℕ) (held : Buffered) (link : LinkState) (old new : SessionState) (before after : Shown) (f : Frame) (did : Did) (passed : Passed)
+    → (n : Next start cost held link old before f did new after passed) → HandlesNext start (point held old.stage link before passed) cost f did n.begins.first n.begins.more after
+handles start cost held link old new before after f did passed n =
     record { so_far = n.so_far; spelling = n.begins.spelling; whole = n.begins.whole; does = n.does; went = n.acts.went }
 
+-- the steps of the frame have the call that it is
+next-calls : (start : Start) (cost : ℕ) (held : Buffered) (link : LinkState) (old new : SessionState) (before after : Shown) (f : Frame) (did : Did) (passed : Passed) (called : Option LinkNumber)
+    → Next start cost held link old before f did new after passed → called ≡ call_link f.reply old.stage f.command → calls_in did.steps ≡ option_to_list called
+next-calls start cost held link old new before after f did passed called n is = does-calls start.block link.now old.stage f did n.does ∙ ap (λ (o : Option LinkNumber). option_to_list o) (sym is)
+
 -- the link goes on
-pub frame-goes_on : (start : Start) (cost : ℕ) (held then_held : Buffered) (link then_link : LinkState) (old new : SessionState) (before after : Shown) (f : Frame) (did : Did) (reply : List ℕ)
-    → (n : Next start cost held link old before f did new after) → reply ≡ new.reply → Sends link reply then_link → did.end ≡ None
+pub frame-goes_on : (start : Start) (cost : ℕ) (held then_held : Buffered) (link then_link : LinkState) (old new : SessionState) (before after : Shown) (f : Frame) (did : Did) (reply : List ℕ) (passed mid then_passed : Passed) (called : Option LinkNumber)
+    → (n : Next start cost held link old before f did new after passed) → called ≡ call_link f.reply old.stage f.command → mid ≡ in_by passed called → then_passed ≡ out_by mid called → reply ≡ new.reply → Sends link reply then_link → did.end ≡ None
     → ((g : Frame) (first more : List ℕ) → IsSpelling first g → held.rest ≡ first ++ more → then_held ≡ record { place = held.place + length first; rest = more })
-    → SoFar start (point then_held new.stage then_link after) cost
-frame-goes_on start cost held then_held link then_link old new before after f did reply n is sent goes_on advanced =
-    subst (λ (stage : Stage). SoFar start (point then_held stage then_link after) cost) (sym (ap (λ (s : SessionState). s.stage) n.acts.state))
-    (so_far-handles start (point held old.stage link before) cost f did n.begins.first n.begins.more after then_link then_held (handles start cost held link old new before after f did n)
+    → SoFar start (point then_held new.stage then_link after then_passed) cost
+frame-goes_on start cost held then_held link then_link old new before after f did reply passed mid then_passed called n call goes_in comes_out is sent goes_on advanced =
+    subst (λ (stage : Stage). SoFar start (point then_held stage then_link after then_passed) cost) (sym (ap (λ (s : SessionState). s.stage) n.acts.state))
+    (so_far-handles start (point held old.stage link before passed) cost f did n.begins.first n.begins.more after then_link then_held mid then_passed called (handles start cost held link old new before after f did passed n)
+    (record { goes_in = goes_in; comes_out = comes_out; calls = next-calls start cost held link old new before after f did passed called n call })
     (subst (λ (b : List ℕ). Sends link b then_link) (is ∙ ap (λ (s : SessionState). s.reply) n.acts.state) sent) goes_on (advanced f n.begins.first n.begins.more n.begins.spelling n.begins.whole))
 
 pub frame-less : (held then_held : Buffered) (f : Frame) → (b : Begins held.rest f)
@@ -67,20 +78,22 @@ frame-less held then_held f b advanced =
     omega (arith, ap (λ (d : Buffered). length d.rest) is, ap length b.whole, length-append b.first b.more, spelling_takes b.first f b.spelling)
 
 -- the frame ends it
-pub frame-ends : (start : Start) (cost : ℕ) (held : Buffered) (link then_link : LinkState) (old new : SessionState) (before after : Shown) (f : Frame) (did : Did) (reply : List ℕ) (end : FrameEnd) (place : ℕ) (answer : LinkEnd)
-    → (n : Next start cost held link old before f did new after) → reply ≡ new.reply → Sends link reply then_link → did.end ≡ Some end → place ≡ held.place → answer ≡ end_of_frame end place
-    → Ended start answer new.stage then_link after
-frame-ends start cost held link then_link old new before after f did reply end place answer n is sent ends at as_frame =
-    subst (λ (a : LinkEnd). Ended start a new.stage then_link after) (sym (as_frame ∙ ap (λ (k : ℕ). end_of_frame end k) at))
-    (subst (λ (stage : Stage). Ended start (end_of_frame end held.place) stage then_link after) (sym (ap (λ (s : SessionState). s.stage) n.acts.state))
-    (ends-frame start (point held old.stage link before) cost f did n.begins.first n.begins.more after then_link end (handles start cost held link old new before after f did n)
+pub frame-ends : (start : Start) (cost : ℕ) (held : Buffered) (link then_link : LinkState) (old new : SessionState) (before after : Shown) (f : Frame) (did : Did) (reply : List ℕ) (end : FrameEnd) (place : ℕ) (answer : LinkEnd) (passed mid then_passed : Passed) (called : Option LinkNumber)
+    → (n : Next start cost held link old before f did new after passed) → called ≡ call_link f.reply old.stage f.command → mid ≡ in_by passed called → then_passed ≡ out_by mid called → reply ≡ new.reply → Sends link reply then_link → did.end ≡ Some end → place ≡ held.place → answer ≡ end_of_frame end place
+    → Ended start answer new.stage then_link after then_passed
+frame-ends start cost held link then_link old new before after f did reply end place answer passed mid then_passed called n call goes_in comes_out is sent ends at as_frame =
+    subst (λ (a : LinkEnd). Ended start a new.stage then_link after then_passed) (sym (as_frame ∙ ap (λ (k : ℕ). end_of_frame end k) at))
+    (subst (λ (stage : Stage). Ended start (end_of_frame end held.place) stage then_link after then_passed) (sym (ap (λ (s : SessionState). s.stage) n.acts.state))
+    (ends-frame start (point held old.stage link before passed) cost f did n.begins.first n.begins.more after then_link end mid then_passed called (handles start cost held link old new before after f did passed n)
+    (record { goes_in = goes_in; comes_out = comes_out; calls = next-calls start cost held link old new before after f did passed called n call })
     (subst (λ (b : List ℕ). Sends link b then_link) (is ∙ ap (λ (s : SessionState). s.reply) n.acts.state) sent) ends))
 
 -- its reply could not be written
-pub frame-unwritten : (start : Start) (cost : ℕ) (held : Buffered) (link then_link : LinkState) (old new : SessionState) (before after : Shown) (f : Frame) (did : Did) (reply : List ℕ)
-    → (n : Next start cost held link old before f did new after) → reply ≡ new.reply → SendsPart link reply then_link → Ended start links.WriteFault new.stage then_link after
-frame-unwritten start cost held link then_link old new before after f did reply n is sent =
+pub frame-unwritten : (start : Start) (cost : ℕ) (held : Buffered) (link then_link : LinkState) (old new : SessionState) (before after : Shown) (f : Frame) (did : Did) (reply : List ℕ) (passed mid : Passed) (called : Option LinkNumber)
+    → (n : Next start cost held link old before f did new after passed) → called ≡ call_link f.reply old.stage f.command → mid ≡ in_by passed called → reply ≡ new.reply → SendsPart link reply then_link → Ended start links.WriteFault new.stage then_link after mid
+frame-unwritten start cost held link then_link old new before after f did reply passed mid called n call goes_in is sent =
     let part : SendsPart link (spelling_of (listed did.reply)) then_link = subst (λ (b : List ℕ). SendsPart link b then_link) (is ∙ ap (λ (s : SessionState). s.reply) n.acts.state) sent in
     let some = some_lost-replied did.reply part.part part.lost part.some_lost part.cut in
-    subst (λ (stage : Stage). Ended start links.WriteFault stage then_link after) (sym (ap (λ (s : SessionState). s.stage) n.acts.state))
-    (ends-unwritten start (point held old.stage link before) cost f did n.begins.first n.begins.more after then_link some.0 (handles start cost held link old new before after f did n) some.1 part)
+    subst (λ (stage : Stage). Ended start links.WriteFault stage then_link after mid) (sym (ap (λ (s : SessionState). s.stage) n.acts.state))
+    (ends-unwritten start (point held old.stage link before passed) cost f did n.begins.first n.begins.more after then_link some.0 mid called (handles start cost held link old new before after f did passed n)
+    goes_in (next-calls start cost held link old new before after f did passed called n call) some.1 part)

@@ -1,5 +1,6 @@
 pub mod Buffers
 pub mod Moving
+pub mod Passing
 pub mod Rows
 pub mod Traces
 pub mod Serving

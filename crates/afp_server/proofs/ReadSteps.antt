@@ -2,6 +2,7 @@
 use Rattle.std.proofs.Common.{◌≡◌, ◌⊎◌, ℕ, ◌+◌, ◌<◌, ◌≤◌, List, [], ◌∷◌, ◌++◌, length, take, refl, sym, ap, ◌∙◌, subst, inl, inr, append-nil, length-append, arith}
 use Rattle.std.proofs.lemmas.List.{length-take}
 use Rattle.std.specs.Prelude.{Option, Some, None, option_map}
+use Rattle.afp_outside.specs.Gate.{Passed}
 use Rattle.afp_outside.specs.Link.{Event, piece, quiet, LinkState, ReadsPiece, ReadsQuiet, ReadsEnd, FailsToRead}
 use Rattle.afp_serial.specs.Shown.{Shown}
 use Rattle.afp_serial.specs.Went.{Step, Went}
@@ -10,6 +11,7 @@ use Rattle.dsi_frame.specs.Buffered.{Buffered, buffer_length}
 use Rattle.dsi_frame.specs.Frame.{Frame}
 use Rattle.dsi_frame.specs.Stream.{IsUnfinished, Framed}
 use Rattle.afp_server.specs.LinkRun.{Moves, Fills, MayRead, EachMayRead, EndsBy, GoesOn, came_in, cost_of, size_of, written_before, read_limit}
+use Rattle.afp_server.specs.Passing.{all_passed}
 use Rattle.afp_server.specs.Replies.{spelling_of}
 use Rattle.afp_server.specs.Serving.{Start, Point, point, SoFar, Ended, RestsLink}
 use Rattle.afp_server.specs.SessionState.{SessionState}
@@ -19,6 +21,7 @@ use Rattle.afp_server.specs.declared.serve.LinkEnd.TheVariants as links
 use Rattle.afp_server.specs.declared.stage.Stage.{Stage}
 use Rattle.afp_server.specs.declared.stage.Stage.TheVariants as stages
 use Rattle.afp_server.proofs.Moving.{moves-join, added-none, left-none, cost_of-append}
+use Rattle.afp_server.proofs.Passing.{passed-more, rests-calls, through-all}
 use Rattle.afp_server.proofs.Serving.{moves-events}
 use Rattle.afp_server.proofs.Traces.{events_in-append, frames_in-append, replies_in-append, steps_in-append, came_in-append, follows-snoc, each-snoc, fills-later}
 
@@ -100,7 +103,7 @@ grows a b c trace h unreplied one two =
 
 -- a read gave bytes, which stand behind the rest
 pub so_far-came : (start : Start) (p : Point) (cost n : ℕ) (end : LinkState) (held : Buffered) (room : List ℕ) → Waits start p cost → ReadsPiece p.link room n end
-    → held.rest ≡ p.held.rest ++ take n room → held.place ≡ p.held.place → n ≤ read_limit → length p.held.rest + n ≤ buffer_length → SoFar start (point held p.stage end p.shown) (cost + n)
+    → held.rest ≡ p.held.rest ++ take n room → held.place ≡ p.held.place → n ≤ read_limit → length p.held.rest + n ≤ buffer_length → SoFar start (point held p.stage end p.shown p.passed) (cost + n)
 so_far-came start p cost n end held room w r rest place most fits =
     let s = w.so_far in
     let bytes : List ℕ = take n room in
@@ -124,6 +127,7 @@ so_far-came start p cost n end held room w r rest place most fits =
       place = omega (arith, s.place, place, size, ap length rest, length-append p.held.rest bytes, ap length more, length-append (came_in s.trace) bytes);
       costs = omega (arith, s.costs, size, ap cost_of (events_in-append s.trace (h ∷ [])), cost_of-append (events_in s.trace) (events_in (h ∷ [])), ap length (append-nil bytes));
       went = subst (λ (ss : List Step). Went start.shown ss p.shown) (sym steps) s.went;
+      through = s.through ∙ ap all_passed (sym steps);
     }
 
 -- A read was quiet, and these steps were asked in it.
@@ -172,9 +176,16 @@ rests-went start p cost end steps stage shown why r =
     let more : steps_in (quietly s.trace p.link end steps) ≡ steps_in s.trace ++ steps = steps_in-append s.trace (rested p.link.written end.now steps ∷ []) ∙ ap (λ (ss : List Step). steps_in s.trace ++ ss) (append-nil steps) in
     subst (λ (ss : List Step). Went start.shown ss shown) (sym more) (went-join start.shown p.shown shown (steps_in s.trace) steps s.went r.went)
 
+rests-through : (start : Start) (p : Point) (cost : ℕ) (end : LinkState) (steps : List Step) (stage : Stage) (shown : Shown) (why : Option Cause) → (r : RestsHere start p cost end steps stage shown why)
+    → p.passed ≡ all_passed (steps_in (quietly r.waits.so_far.trace p.link end steps))
+rests-through start p cost end steps stage shown why r =
+    let s = r.waits.so_far in
+    let more : steps_in (quietly s.trace p.link end steps) ≡ steps_in s.trace ++ steps = steps_in-append s.trace (rested p.link.written end.now steps ∷ []) ∙ ap (λ (ss : List Step). steps_in s.trace ++ ss) (append-nil steps) in
+    passed-more p.passed (steps_in s.trace) steps s.through (rests-calls end.heard end.now p.stage steps stage why r.rests) ∙ ap all_passed (sym more)
+
 -- the link goes on behind a quiet
 pub so_far-rests : (start : Start) (p : Point) (cost : ℕ) (end : LinkState) (steps : List Step) (stage : Stage) (shown : Shown) → RestsHere start p cost end steps stage shown None
-    → SoFar start (point p.held stage end shown) (cost + 1)
+    → SoFar start (point p.held stage end shown p.passed) (cost + 1)
 so_far-rests start p cost end steps stage shown r =
     let s = r.waits.so_far in
     let h : Happening = rested p.link.written end.now steps in
@@ -188,12 +199,13 @@ so_far-rests start p cost end steps stage shown r =
       place = omega (arith, s.place, ap length (rests-came s.trace p.link end steps));
       costs = omega (arith, s.costs, ap cost_of (events_in-append s.trace (h ∷ [])), cost_of-append (events_in s.trace) (events_in (h ∷ [])));
       went = rests-went start p cost end steps stage shown None r;
+      through = rests-through start p cost end steps stage shown None r;
     }
 
 -- a quiet ends the link
 ends-rests : (start : Start) (p : Point) (cost : ℕ) (end : LinkState) (steps : List Step) (stage : Stage) (shown : Shown) (why : Cause) (answer : LinkEnd) → (r : RestsHere start p cost end steps stage shown (Some why))
     → EndsBy start.turns start.link (quietly r.waits.so_far.trace p.link end steps) (standing stage end) (Some why) (spelling_of (replies_in (quietly r.waits.so_far.trace p.link end steps))) answer end
-    → Ended start answer stage end shown
+    → Ended start answer stage end shown p.passed
 ends-rests start p cost end steps stage shown why answer r by = record {
   asked = steps_in (quietly r.waits.so_far.trace p.link end steps);
   comes = record {
@@ -210,16 +222,17 @@ ends-rests start p cost end steps stage shown why answer r by = record {
     steps = refl;
   };
   went = rests-went start p cost end steps stage shown (Some why) r;
+  through = through-all answer p.passed (steps_in (quietly r.waits.so_far.trace p.link end steps)) (rests-through start p cost end steps stage shown (Some why) r);
 }
 
 pub ends-silent : (start : Start) (p : Point) (cost : ℕ) (end : LinkState) (steps : List Step) (stage : Stage) (shown : Shown) → RestsHere start p cost end steps stage shown (Some silent)
-    → Ended start (links.Silent end.heard end.now) stage end shown
+    → Ended start (links.Silent end.heard end.now) stage end shown p.passed
 ends-silent start p cost end steps stage shown r =
     ends-rests start p cost end steps stage shown silent (links.Silent end.heard end.now) r
     (record { why = refl; heard = refl; read = refl; answered = record { left = p.held.rest; fills = rests-fills start p cost end steps stage shown (Some silent) r; sent = refl } }, record { ended = r.reads.ended ∙ r.waits.so_far.ended; now = refl })
 
 pub ends-displaced : (start : Start) (p : Point) (cost : ℕ) (end : LinkState) (steps : List Step) (stage : Stage) (shown : Shown) → RestsHere start p cost end steps stage shown (Some displaced)
-    → Ended start links.Displaced stage end shown
+    → Ended start links.Displaced stage end shown p.passed
 ends-displaced start p cost end steps stage shown r =
     ends-rests start p cost end steps stage shown displaced links.Displaced r
     (record { why = refl; answered = record { left = p.held.rest; fills = rests-fills start p cost end steps stage shown (Some displaced) r; sent = refl } }, record { ended = r.reads.ended ∙ r.waits.so_far.ended; now = refl })
@@ -229,7 +242,7 @@ goes_on : (start : Start) (p : Point) (cost : ℕ) → (s : SoFar start p cost) 
 goes_on start p cost s unfinished = record { why = refl; framed = framed start p cost s unfinished; sent = refl }
 
 ends-here : (start : Start) (p : Point) (cost : ℕ) (end : LinkState) (answer : LinkEnd) → (s : SoFar start p cost) → Moves p.link [] [] end → p.link.heard ≡ end.heard
-    → EndsBy start.turns start.link s.trace (standing p.stage p.link) None (spelling_of (replies_in s.trace)) answer end → Ended start answer p.stage end p.shown
+    → EndsBy start.turns start.link s.trace (standing p.stage p.link) None (spelling_of (replies_in s.trace)) answer end → Ended start answer p.stage end p.shown p.passed
 ends-here start p cost end answer s still heard by = record {
   asked = steps_in s.trace;
   comes = record {
@@ -246,9 +259,10 @@ ends-here start p cost end answer s still heard by = record {
     steps = refl;
   };
   went = s.went;
+  through = through-all answer p.passed (steps_in s.trace) s.through;
 }
 
-pub ends-whole : (start : Start) (p : Point) (cost : ℕ) (end : LinkState) → Waits start p cost → ReadsEnd p.link end → p.held.rest ≡ [] → Ended start links.Ended p.stage end p.shown
+pub ends-whole : (start : Start) (p : Point) (cost : ℕ) (end : LinkState) → Waits start p cost → ReadsEnd p.link end → p.held.rest ≡ [] → Ended start links.Ended p.stage end p.shown p.passed
 ends-whole start p cost end w r empty =
     let s = w.so_far in
     ends-here start p cost end links.Ended s (moves-end p.link end r) (sym r.heard) record {
@@ -258,7 +272,7 @@ ends-whole start p cost end w r empty =
       below = omega (arith, w.below, s.costs);
     }
 
-pub ends-cut : (start : Start) (p : Point) (cost : ℕ) (end : LinkState) → Waits start p cost → ReadsEnd p.link end → 0 < length p.held.rest → Ended start (links.Cut p.held.place) p.stage end p.shown
+pub ends-cut : (start : Start) (p : Point) (cost : ℕ) (end : LinkState) → Waits start p cost → ReadsEnd p.link end → 0 < length p.held.rest → Ended start (links.Cut p.held.place) p.stage end p.shown p.passed
 ends-cut start p cost end w r some =
     let s = w.so_far in
     ends-here start p cost end (links.Cut p.held.place) s (moves-end p.link end r) (sym r.heard) record {
@@ -277,13 +291,13 @@ none_or_some (x ∷ xs) = inr (omega arith)
 
 -- the peer writes no more
 pub ends-reads : (start : Start) (p : Point) (cost : ℕ) (end : LinkState) (answer : LinkEnd) → Waits start p cost → ReadsEnd p.link end
-    → (p.held.rest ≡ [] → answer ≡ links.Ended) → (0 < length p.held.rest → answer ≡ links.Cut p.held.place) → Ended start answer p.stage end p.shown
+    → (p.held.rest ≡ [] → answer ≡ links.Ended) → (0 < length p.held.rest → answer ≡ links.Cut p.held.place) → Ended start answer p.stage end p.shown p.passed
 ends-reads start p cost end answer w r whole cut = elim (none_or_some p.held.rest) [
-  | inl empty ↦ subst (λ (a : LinkEnd). Ended start a p.stage end p.shown) (sym (whole empty)) (ends-whole start p cost end w r empty)
-  | inr some ↦ subst (λ (a : LinkEnd). Ended start a p.stage end p.shown) (sym (cut some)) (ends-cut start p cost end w r some)
+  | inl empty ↦ subst (λ (a : LinkEnd). Ended start a p.stage end p.shown p.passed) (sym (whole empty)) (ends-whole start p cost end w r empty)
+  | inr some ↦ subst (λ (a : LinkEnd). Ended start a p.stage end p.shown p.passed) (sym (cut some)) (ends-cut start p cost end w r some)
 ]
 
-pub ends-unread : (start : Start) (p : Point) (cost : ℕ) (end : LinkState) → Waits start p cost → FailsToRead p.link end → Ended start links.ReadFault p.stage end p.shown
+pub ends-unread : (start : Start) (p : Point) (cost : ℕ) (end : LinkState) → Waits start p cost → FailsToRead p.link end → Ended start links.ReadFault p.stage end p.shown p.passed
 ends-unread start p cost end w r =
     let s = w.so_far in
     ends-here start p cost end links.ReadFault s (moves-fault p.link end r) (sym r.heard) (
@@ -296,7 +310,7 @@ ends-unread start p cost end w r =
       r.ended ∙ s.ended,
     )
 
-pub ends-spent : (start : Start) (p : Point) (cost : ℕ) → SoFar start p cost → IsUnfinished p.held.rest → start.turns ≤ cost → Ended start links.Spent p.stage p.link p.shown
+pub ends-spent : (start : Start) (p : Point) (cost : ℕ) → SoFar start p cost → IsUnfinished p.held.rest → start.turns ≤ cost → Ended start links.Spent p.stage p.link p.shown p.passed
 ends-spent start p cost s unfinished reached = record {
   asked = steps_in s.trace;
   comes = record {
@@ -313,21 +327,22 @@ ends-spent start p cost s unfinished reached = record {
     steps = refl;
   };
   went = s.went;
+  through = through-all links.Spent p.passed (steps_in s.trace) s.through;
 }
 
 -- a quiet, by what the session machine answered
-pub link-rests : (start : Start) (held : Buffered) (mid end : LinkState) (old new : SessionState) (before after : Shown) (cost : ℕ) → Waits start (point held old.stage mid before) cost → length held.rest ≤ buffer_length
-    → ReadsQuiet mid end → RestsLink end old before None new after → SoFar start (point held new.stage end after) (cost + 1)
-link-rests start held mid end old new before after cost w few r rests =
-    so_far-rests start (point held old.stage mid before) cost end rests.steps new.stage after (record { waits = w; few = few; reads = r; rests = rests.rests; went = rests.went })
+pub link-rests : (start : Start) (held : Buffered) (mid end : LinkState) (old new : SessionState) (before after : Shown) (passed : Passed) (cost : ℕ) → Waits start (point held old.stage mid before passed) cost → length held.rest ≤ buffer_length
+    → ReadsQuiet mid end → RestsLink end old before None new after → SoFar start (point held new.stage end after passed) (cost + 1)
+link-rests start held mid end old new before after passed cost w few r rests =
+    so_far-rests start (point held old.stage mid before passed) cost end rests.steps new.stage after (record { waits = w; few = few; reads = r; rests = rests.rests; went = rests.went })
 
-pub link-ends : (start : Start) (held : Buffered) (mid end : LinkState) (old new : SessionState) (before after : Shown) (cost : ℕ) (answer : LinkEnd) → Waits start (point held old.stage mid before) cost → length held.rest ≤ buffer_length
-    → ReadsQuiet mid end → RestsLink end old before (Some answer) new after → Ended start answer new.stage end after
-link-ends start held mid end old new before after cost answer w few r rests = elim rests [
+pub link-ends : (start : Start) (held : Buffered) (mid end : LinkState) (old new : SessionState) (before after : Shown) (passed : Passed) (cost : ℕ) (answer : LinkEnd) → Waits start (point held old.stage mid before passed) cost → length held.rest ≤ buffer_length
+    → ReadsQuiet mid end → RestsLink end old before (Some answer) new after → Ended start answer new.stage end after passed
+link-ends start held mid end old new before after passed cost answer w few r rests = elim rests [
   | inl s ↦
-      subst (λ (a : LinkEnd). Ended start a new.stage end after) (sym s.1)
-      (ends-silent start (point held old.stage mid before) cost end s.0.steps new.stage after (record { waits = w; few = few; reads = r; rests = s.0.rests; went = s.0.went }))
+      subst (λ (a : LinkEnd). Ended start a new.stage end after passed) (sym s.1)
+      (ends-silent start (point held old.stage mid before passed) cost end s.0.steps new.stage after (record { waits = w; few = few; reads = r; rests = s.0.rests; went = s.0.went }))
   | inr d ↦
-      subst (λ (a : LinkEnd). Ended start a new.stage end after) (sym d.1)
-      (ends-displaced start (point held old.stage mid before) cost end d.0.steps new.stage after (record { waits = w; few = few; reads = r; rests = d.0.rests; went = d.0.went }))
+      subst (λ (a : LinkEnd). Ended start a new.stage end after passed) (sym d.1)
+      (ends-displaced start (point held old.stage mid before passed) cost end d.0.steps new.stage after (record { waits = w; few = few; reads = r; rests = d.0.rests; went = d.0.went }))
 ]

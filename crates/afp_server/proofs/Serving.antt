@@ -1,7 +1,9 @@
 -- How far a link has come, from one step to the next.
 use Rattle.std.proofs.Common.{◌≡◌, ℕ, ◌+◌, ◌<◌, false, true, List, [], ◌∷◌, ◌++◌, length, refl, sym, ap, ◌∙◌, subst, inl, inr, append-nil, length-append, arith}
 use Rattle.std.specs.Prelude.{Option, Some, None, option_map}
+use Rattle.std.specs.Option.{option_to_list}
 use Rattle.afp_base.specs.declared.ids.LinkNumber.{LinkNumber}
+use Rattle.afp_outside.specs.Gate.{Passed, none_passed, in_by}
 use Rattle.afp_outside.specs.Link.{Event, taken, LinkState}
 use Rattle.afp_serial.specs.Shown.{Shown}
 use Rattle.afp_serial.specs.Went.{Step, Went}
@@ -12,6 +14,7 @@ use Rattle.dsi_frame.specs.Stream.{Begins}
 use Rattle.dsi_frame.specs.declared.frame.BadFrame.{BadFrame}
 use Rattle.afp_server.specs.Did.{Did}
 use Rattle.afp_server.specs.LinkRun.{Moves, Fills, EachMayRead, EndsBy, IsAnswered, came_in, cost_of, carries_call}
+use Rattle.afp_server.specs.Passing.{calls_in, all_passed, GoThrough}
 use Rattle.afp_server.specs.Replies.{listed, spelling_of}
 use Rattle.afp_server.specs.Script.{Does}
 use Rattle.afp_server.specs.Sending.{Sends, SendsPart}
@@ -23,9 +26,10 @@ use Rattle.afp_server.specs.declared.stage.FrameEnd.TheVariants as ends
 use Rattle.afp_server.specs.declared.stage.Stage.{Stage}
 use Rattle.afp_server.specs.declared.stage.Stage.TheVariants as stages
 use Rattle.afp_server.proofs.Moving.{moves-none, moves-join}
+use Rattle.afp_server.proofs.Passing.{PassesFrame, passed-frame, through-all, through-unwritten}
 use Rattle.afp_server.proofs.Traces.{frames_in-append, steps-one, events-one, sent-one, follows-snoc, each-snoc, fills-none, fills-one}
 
-pub so_far-none : (start : Start) → SoFar start (point (record { place = 0; rest = [] }) stages.Fresh start.link start.shown) 0
+pub so_far-none : (start : Start) → SoFar start (point (record { place = 0; rest = [] }) stages.Fresh start.link start.shown none_passed) 0
 so_far-none start = record {
   trace = [];
   follows = (refl, refl);
@@ -36,6 +40,7 @@ so_far-none start = record {
   place = refl;
   costs = refl;
   went = went-none start.shown;
+  through = refl;
 }
 
 -- A frame was handled behind what had happened: it took its first bytes from what was left.
@@ -96,13 +101,18 @@ handles-went start p cost f did first more shown h =
     subst (λ (ss : List Step). Went start.shown ss shown) (sym (steps-one h.so_far.trace f did))
     (went-join start.shown p.shown shown (steps_in h.so_far.trace) did.steps h.so_far.went h.went)
 
+pub handles-through : (start : Start) (p : Point) (cost : ℕ) (f : Frame) (did : Did) (first more : List ℕ) (shown : Shown) (mid passed : Passed) (called : Option LinkNumber)
+    → (h : HandlesNext start p cost f did first more shown) → PassesFrame p.passed mid passed called did → passed ≡ all_passed (steps_in (longer h.so_far.trace f did))
+handles-through start p cost f did first more shown mid passed called h g =
+    passed-frame p.passed mid passed called did (steps_in h.so_far.trace) h.so_far.through g ∙ ap all_passed (sym (steps-one h.so_far.trace f did))
+
 -- the link goes on behind a frame
-pub so_far-handles : (start : Start) (p : Point) (cost : ℕ) (f : Frame) (did : Did) (first more : List ℕ) (shown : Shown) (link : LinkState) (held : Buffered)
-    → HandlesNext start p cost f did first more shown → Sends p.link (spelling_of (listed did.reply)) link → did.end ≡ None
+pub so_far-handles : (start : Start) (p : Point) (cost : ℕ) (f : Frame) (did : Did) (first more : List ℕ) (shown : Shown) (link : LinkState) (held : Buffered) (mid passed : Passed) (called : Option LinkNumber)
+    → HandlesNext start p cost f did first more shown → PassesFrame p.passed mid passed called did → Sends p.link (spelling_of (listed did.reply)) link → did.end ≡ None
     → held ≡ record { place = p.held.place + length first; rest = more }
-    → SoFar start (point held did.stage link shown) cost
-so_far-handles start p cost f did first more shown link held h s goes_on is =
-    subst (λ (d : Buffered). SoFar start (point d did.stage link shown) cost) (sym is) record {
+    → SoFar start (point held did.stage link shown passed) cost
+so_far-handles start p cost f did first more shown link held mid passed called h g s goes_on is =
+    subst (λ (d : Buffered). SoFar start (point d did.stage link shown passed) cost) (sym is) record {
       trace = longer h.so_far.trace f did;
       follows = handles-follows start p cost f did first more shown link None h s.now s.heard (sym (ap (λ (e : Option FrameEnd). option_map cause_of e) goes_on));
       moves = handles-moves start p cost f did first more shown link h s;
@@ -112,6 +122,7 @@ so_far-handles start p cost f did first more shown link held h s goes_on is =
       place = omega (arith, h.so_far.place, ap length h.whole, length-append first more, ap length (handles-came h.so_far.trace f did));
       costs = h.so_far.costs ∙ sym (ap cost_of (events-one h.so_far.trace f did));
       went = handles-went start p cost f did first more shown h;
+      through = handles-through start p cost f did first more shown mid passed called h g;
     }
 
 pub handles-answered : (start : Start) (p : Point) (cost : ℕ) (f : Frame) (did : Did) (first more : List ℕ) (shown : Shown)
@@ -119,11 +130,11 @@ pub handles-answered : (start : Start) (p : Point) (cost : ℕ) (f : Frame) (did
 handles-answered start p cost f did first more shown h = record { left = more; fills = handles-fills start p cost f did first more shown h; sent = refl }
 
 -- a frame ends the link
-pub ended-frame : (start : Start) (p : Point) (cost : ℕ) (f : Frame) (did : Did) (first more : List ℕ) (shown : Shown) (link : LinkState) (end : FrameEnd)
-    → (h : HandlesNext start p cost f did first more shown) → Sends p.link (spelling_of (listed did.reply)) link → did.end ≡ Some end
+pub ended-frame : (start : Start) (p : Point) (cost : ℕ) (f : Frame) (did : Did) (first more : List ℕ) (shown : Shown) (link : LinkState) (end : FrameEnd) (mid passed : Passed) (called : Option LinkNumber)
+    → (h : HandlesNext start p cost f did first more shown) → PassesFrame p.passed mid passed called did → Sends p.link (spelling_of (listed did.reply)) link → did.end ≡ Some end
     → EndsBy start.turns start.link (longer h.so_far.trace f did) (standing did.stage link) (Some (cause_of end)) (spelling_of (replies_in (longer h.so_far.trace f did))) (end_of_frame end p.held.place) link
-    → Ended start (end_of_frame end p.held.place) did.stage link shown
-ended-frame start p cost f did first more shown link end h s is by = record {
+    → Ended start (end_of_frame end p.held.place) did.stage link shown passed
+ended-frame start p cost f did first more shown link end mid passed called h g s is by = record {
   asked = steps_in (longer h.so_far.trace f did);
   comes = record {
     trace = longer h.so_far.trace f did;
@@ -139,19 +150,20 @@ ended-frame start p cost f did first more shown link end h s is by = record {
     steps = refl;
   };
   went = handles-went start p cost f did first more shown h;
+  through = through-all (end_of_frame end p.held.place) passed (steps_in (longer h.so_far.trace f did)) (handles-through start p cost f did first more shown mid passed called h g);
 }
 
-pub ends-frame : (start : Start) (p : Point) (cost : ℕ) (f : Frame) (did : Did) (first more : List ℕ) (shown : Shown) (link : LinkState) (end : FrameEnd)
-    → (h : HandlesNext start p cost f did first more shown) → Sends p.link (spelling_of (listed did.reply)) link → did.end ≡ Some end
-    → Ended start (end_of_frame end p.held.place) did.stage link shown
-ends-frame start p cost f did first more shown link ends.Closed h s is =
-    ended-frame start p cost f did first more shown link ends.Closed h s is
+pub ends-frame : (start : Start) (p : Point) (cost : ℕ) (f : Frame) (did : Did) (first more : List ℕ) (shown : Shown) (link : LinkState) (end : FrameEnd) (mid passed : Passed) (called : Option LinkNumber)
+    → (h : HandlesNext start p cost f did first more shown) → PassesFrame p.passed mid passed called did → Sends p.link (spelling_of (listed did.reply)) link → did.end ≡ Some end
+    → Ended start (end_of_frame end p.held.place) did.stage link shown passed
+ends-frame start p cost f did first more shown link ends.Closed mid passed called h g s is =
+    ended-frame start p cost f did first more shown link ends.Closed mid passed called h g s is
     (record { why = refl; answered = handles-answered start p cost f did first more shown h }, record { ended = s.ended ∙ h.so_far.ended; now = refl })
-ends-frame start p cost f did first more shown link ends.Displaced h s is =
-    ended-frame start p cost f did first more shown link ends.Displaced h s is
+ends-frame start p cost f did first more shown link ends.Displaced mid passed called h g s is =
+    ended-frame start p cost f did first more shown link ends.Displaced mid passed called h g s is
     (record { why = refl; answered = handles-answered start p cost f did first more shown h }, record { ended = s.ended ∙ h.so_far.ended; now = refl })
-ends-frame start p cost f did first more shown link (ends.Bad reason) h s is =
-    ended-frame start p cost f did first more shown link (ends.Bad reason) h s is (
+ends-frame start p cost f did first more shown link (ends.Bad reason) mid passed called h g s is =
+    ended-frame start p cost f did first more shown link (ends.Bad reason) mid passed called h g s is (
       inr record {
         why = refl;
         before = frames_in h.so_far.trace;
@@ -167,10 +179,10 @@ ends-frame start p cost f did first more shown link (ends.Bad reason) h s is =
     )
 
 -- its reply could not be written whole
-pub ends-unwritten : (start : Start) (p : Point) (cost : ℕ) (f : Frame) (did : Did) (first more : List ℕ) (shown : Shown) (link : LinkState) (reply : Frame)
-    → (h : HandlesNext start p cost f did first more shown) → did.reply ≡ Some reply → SendsPart p.link (spelling_of (listed did.reply)) link
-    → Ended start links.WriteFault did.stage link shown
-ends-unwritten start p cost f did first more shown link reply h is s = record {
+pub ends-unwritten : (start : Start) (p : Point) (cost : ℕ) (f : Frame) (did : Did) (first more : List ℕ) (shown : Shown) (link : LinkState) (reply : Frame) (mid : Passed) (called : Option LinkNumber)
+    → (h : HandlesNext start p cost f did first more shown) → mid ≡ in_by p.passed called → calls_in did.steps ≡ option_to_list called → did.reply ≡ Some reply → SendsPart p.link (spelling_of (listed did.reply)) link
+    → Ended start links.WriteFault did.stage link shown mid
+ends-unwritten start p cost f did first more shown link reply mid called h goes_in calls is s = record {
   asked = steps_in (longer h.so_far.trace f did);
   comes = record {
     trace = longer h.so_far.trace f did;
@@ -207,6 +219,8 @@ ends-unwritten start p cost f did first more shown link reply h is s = record {
     steps = refl;
   };
   went = handles-went start p cost f did first more shown h;
+  through = subst (λ (ss : List Step). GoThrough links.WriteFault ss mid) (sym (steps-one h.so_far.trace f did))
+      (through-unwritten p.passed mid called did (steps_in h.so_far.trace) h.so_far.through goes_in calls);
 }
 
 pub some_lost-replied : (o : Option Frame) (part lost : List ℕ) → 0 < length lost → part ++ lost ≡ spelling_of (listed o) → (f : Frame) × (o ≡ Some f)
@@ -214,10 +228,10 @@ some_lost-replied (Some f) part lost some cut = (f, refl)
 some_lost-replied None part lost some cut = absurd (omega (arith, ap length cut, length-append part lost))
 
 -- there was no memory for a copy of a call
-pub ends-uncopied : (start : Start) (p : Point) (cost : ℕ) (f : Frame) (link : LinkNumber) (stage : Stage) (shown : Shown) → SoFar start p cost → Begins p.held.rest f
-    → f.reply ≡ false → carries_call f.command ≡ true → p.stage ≡ stages.Open link → stage ≡ p.stage → shown ≡ p.shown → Ended start links.Memory stage p.link shown
-ends-uncopied start p cost f link stage shown s begins request call in_session same unasked =
-    subst (λ (b : Shown). Ended start links.Memory stage p.link b) (sym unasked) (subst (λ (x : Stage). Ended start links.Memory x p.link p.shown) (sym same) record {
+pub ends-uncopied : (start : Start) (p : Point) (cost : ℕ) (f : Frame) (link : LinkNumber) (stage : Stage) (shown : Shown) (passed : Passed) → SoFar start p cost → Begins p.held.rest f
+    → f.reply ≡ false → carries_call f.command ≡ true → p.stage ≡ stages.Open link → stage ≡ p.stage → shown ≡ p.shown → passed ≡ p.passed → Ended start links.Memory stage p.link shown passed
+ends-uncopied start p cost f link stage shown passed s begins request call in_session same unasked unpassed =
+    subst (λ (b : Shown). Ended start links.Memory stage p.link b passed) (sym unasked) (subst (λ (x : Stage). Ended start links.Memory x p.link p.shown passed) (sym same) record {
       asked = steps_in s.trace;
       comes = record {
         trace = s.trace;
@@ -233,10 +247,11 @@ ends-uncopied start p cost f link stage shown s begins request call in_session s
         steps = refl;
       };
       went = s.went;
+      through = through-all links.Memory passed (steps_in s.trace) (unpassed ∙ s.through);
     })
 
 -- a bad header ends the link
-pub ends-header : (start : Start) (p : Point) (cost : ℕ) (b : BadFrame) → SoFar start p cost → b.at ≡ p.held.place → IsBadHeader p.held.rest b.reason → Ended start (links.Bad b) p.stage p.link p.shown
+pub ends-header : (start : Start) (p : Point) (cost : ℕ) (b : BadFrame) → SoFar start p cost → b.at ≡ p.held.place → IsBadHeader p.held.rest b.reason → Ended start (links.Bad b) p.stage p.link p.shown p.passed
 ends-header start p cost b s at header = record {
   asked = steps_in s.trace;
   comes = record {
@@ -267,4 +282,5 @@ ends-header start p cost b s at header = record {
     steps = refl;
   };
   went = s.went;
+  through = through-all (links.Bad b) p.passed (steps_in s.trace) s.through;
 }

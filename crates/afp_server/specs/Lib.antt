@@ -5,6 +5,7 @@ pub mod Did
 pub mod GetStatus
 pub mod LinkRun
 pub mod OpenSession
+pub mod Passing
 pub mod Replies
 pub mod Script
 pub mod SessionState

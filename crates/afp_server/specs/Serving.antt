@@ -1,11 +1,13 @@
 -- How far a link has come, between its beginning and its end (this profile).
 use Rattle.std.specs.Prelude.{◌≡◌, ◌⊎◌, ℕ, ◌+◌, ◌<◌, List, [], length, Option, Some, None}
+use Rattle.afp_outside.specs.Gate.{Passed}
 use Rattle.afp_outside.specs.Link.{LinkState}
 use Rattle.afp_serial.specs.Shown.{Shown}
 use Rattle.afp_serial.specs.Went.{Step, Went}
 use Rattle.dsi_frame.specs.Buffered.{Buffered, buffer_length}
 use Rattle.dsi_frame.specs.Stream.{IsUnfinished}
 use Rattle.afp_server.specs.LinkRun.{Moves, Fills, EachMayRead, ComesTo, came_in, cost_of}
+use Rattle.afp_server.specs.Passing.{all_passed, GoThrough}
 use Rattle.afp_server.specs.Replies.{spelling_of}
 use Rattle.afp_server.specs.Trace.{Happening, events_in, frames_in, replies_in, steps_in, standing, Follows}
 use Rattle.afp_server.specs.SessionState.{SessionState, RestsBy}
@@ -24,15 +26,16 @@ pub record Start : Type 0 where
   pub link : LinkState
   pub shown : Shown
 
--- Where it stands: what is buffered, how far it has come, its state and what its teller shows.
+-- Where it stands: what is buffered, how far it has come, its state, what its teller shows, and what went through the gate.
 pub record Point : Type 0 where
   pub held : Buffered
   pub stage : Stage
   pub link : LinkState
   pub shown : Shown
+  pub passed : Passed
 
-abbrev pub point : Buffered → Stage → LinkState → Shown → Point
-point held stage link shown = record { held = held; stage = stage; link = link; shown = shown }
+abbrev pub point : Buffered → Stage → LinkState → Shown → Passed → Point
+point held stage link shown passed = record { held = held; stage = stage; link = link; shown = shown; passed = passed }
 
 -- All that happened is handled and replied to, and the deframer holds what is left.
 pub record SoFar (start : Start) (p : Point) (cost : ℕ) : Type 0 where
@@ -45,22 +48,24 @@ pub record SoFar (start : Start) (p : Point) (cost : ℕ) : Type 0 where
   pub place : p.held.place + length p.held.rest ≡ length (came_in trace)
   pub costs : cost ≡ cost_of (events_in trace)
   pub went : Went start.shown (steps_in trace) p.shown
+  pub through : p.passed ≡ all_passed (steps_in trace)
 
 -- The link has ended: this is its run, before what is asked at its end.
-pub record Ended (start : Start) (answer : LinkEnd) (stage : Stage) (link : LinkState) (shown : Shown) : Type 0 where
+pub record Ended (start : Start) (answer : LinkEnd) (stage : Stage) (link : LinkState) (shown : Shown) (passed : Passed) : Type 0 where
   pub asked : List Step
   pub comes : ComesTo start.block start.turns start.link answer stage link asked
   pub went : Went start.shown asked shown
+  pub through : GoThrough answer asked passed
 
 -- A frame was handled: from wherever the link had come, it goes on or ends.
 abbrev pub ServesFrame : Start → ℕ → Option LinkEnd → Point → Type 0
 ServesFrame start cost None p = SoFar start p cost
-ServesFrame start cost (Some end) p = Ended start end p.stage p.link p.shown
+ServesFrame start cost (Some end) p = Ended start end p.stage p.link p.shown p.passed
 
 -- All frames that came were handled: less than a frame is left, and there is room for more.
 abbrev pub ServesFrames : Start → ℕ → Option LinkEnd → Point → Type 0
 ServesFrames start cost None p = SoFar start p cost × IsUnfinished p.held.rest × (length p.held.rest < buffer_length)
-ServesFrames start cost (Some end) p = Ended start end p.stage p.link p.shown
+ServesFrames start cost (Some end) p = Ended start end p.stage p.link p.shown p.passed
 
 -- why a link ends, by the frame that ends it, which begins at this place
 abbrev pub end_of_frame : FrameEnd → ℕ → LinkEnd

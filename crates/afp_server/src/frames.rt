@@ -1,5 +1,6 @@
 //! Serving the whole frames that are buffered.
 ghost use Rattle.std.specs.Prelude.{◌≡◌, ◌≢◌, ◌<◌, ℕ, length, IfNone};
+ghost use Rattle.afp_outside.specs.Gate.{out_by};
 ghost use Rattle.dsi_frame.specs.Frame.{Frame, header_of};
 ghost use Rattle.dsi_frame.specs.Stream.{Begins};
 ghost use Rattle.afp_server.specs.Serving.{Start, SoFar, ServesFrame, ServesFrames, point, end_of_frame};
@@ -8,6 +9,7 @@ use crate::send::send_all;
 use crate::serve::LinkEnd;
 use crate::session::Session;
 use crate::stage::{FrameEnd, Stage};
+use afp_base::LinkNumber;
 use afp_outside::{Gate, Link};
 use afp_serial::Teller;
 use dsi_frame::{BadFrame, Deframer, Head, Header};
@@ -19,21 +21,24 @@ pub fn serve_frames<L: Link, T: Teller, G: Gate>(
     link: &mut L,
     teller: &mut T,
     gate: &G,
+    log: &mut G::Log,
 ) -> Option<LinkEnd>
     requires { session.old.stage ≢ Stage.Closing }
     ensures fixed { T.fixed teller.new ≡ T.fixed teller.old }
     ensures block { session.new.block ≡ session.old.block }
     ensures live { IfNone result (session.new.stage ≢ Stage.Closing) }
     ensures serves { (start : Start) (cost : ℕ) → start.block ≡ session.old.block
-        → SoFar start (point deframer.old session.old.stage (L.link_state link.old) (T.shown teller.old)) cost
-        → ServesFrames start cost result (point deframer.new session.new.stage (L.link_state link.new) (T.shown teller.new)) }
+        → SoFar start (point deframer.old session.old.stage (L.link_state link.old) (T.shown teller.old) (G.passed log.old)) cost
+        → ServesFrames start cost result (point deframer.new session.new.stage (L.link_state link.new) (T.shown teller.new) (G.passed log.new)) }
 {
     loop {
         match deframer.head() {
             Head::NotYet => return None,
             Head::Bad(bad) => return Some(LinkEnd::Bad(bad)),
             Head::Whole(header) => {
-                if let Some(end) = serve_frame(&header, deframer, session, link, teller, gate) {
+                if let Some(end) = serve_frame(
+                    &header, deframer, session, link, teller, gate, log,
+                ) {
                     return Some(end);
                 }
             }
@@ -41,7 +46,7 @@ pub fn serve_frames<L: Link, T: Teller, G: Gate>(
     }
 }
 
-/// Serves the whole frame at the front, and writes its reply; a call has gone through the gate only then.
+/// Serves the whole frame at the front, and writes its reply; a call comes out of the gate only then.
 fn serve_frame<L: Link, T: Teller, G: Gate>(
     header: &Header,
     deframer: &mut Deframer,
@@ -49,6 +54,7 @@ fn serve_frame<L: Link, T: Teller, G: Gate>(
     link: &mut L,
     teller: &mut T,
     gate: &G,
+    log: &mut G::Log,
 ) -> Option<LinkEnd>
     requires whole { (f : Frame) × Begins deframer.old.rest f × (header.now ≡ header_of f) }
     requires live { session.old.stage ≢ Stage.Closing }
@@ -57,25 +63,33 @@ fn serve_frame<L: Link, T: Teller, G: Gate>(
     ensures live { IfNone result (session.new.stage ≢ Stage.Closing) }
     ensures less { IfNone result (length deframer.new.rest < length deframer.old.rest) }
     ensures serves { (start : Start) (cost : ℕ) → start.block ≡ session.old.block
-        → SoFar start (point deframer.old session.old.stage (L.link_state link.old) (T.shown teller.old)) cost
-        → ServesFrame start cost result (point deframer.new session.new.stage (L.link_state link.new) (T.shown teller.new)) }
+        → SoFar start (point deframer.old session.old.stage (L.link_state link.old) (T.shown teller.old) (G.passed log.old)) cost
+        → ServesFrame start cost result (point deframer.new session.new.stage (L.link_state link.new) (T.shown teller.new) (G.passed log.new)) }
 {
     let called = session.called_link(header);
-    let Ok(end) = session.handle(header, deframer.payload(), link.now(), teller, gate) else {
+    let Ok(end) = session.handle(header, deframer.payload(), link.now(), teller, gate, log) else {
         return Some(LinkEnd::Memory);
     };
     if !send_all(link, session.reply()) {
         return Some(LinkEnd::WriteFault);
     }
-    if let Some(number) = called {
-        gate.after(number);
-    }
+    come_out(gate, called, log);
     match end {
         None => {
             deframer.advance();
             None
         }
         Some(end) => Some(link_end(end, deframer.place())),
+    }
+}
+
+/// The call of a link comes out of the gate, where one went in.
+fn come_out<G: Gate>(gate: &G, called: Option<LinkNumber>, log: &mut G::Log)
+    ensures { G.passed log.new ≡ out_by (G.passed log.old) called }
+{
+    match called {
+        Some(number) => gate.after(number, log),
+        None => {}
     }
 }
 

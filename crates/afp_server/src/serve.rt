@@ -1,9 +1,11 @@
 //! Serving one link.
-ghost use Rattle.std.specs.Prelude.{◌≡◌, ◌≢◌, ◌+◌, ◌<◌, ◌^◌, List, [], length, false, IfOk, IfNone};
+ghost use Rattle.std.specs.Prelude.{◌≡◌, ◌≢◌, ◌⊎◌, ◌+◌, ◌<◌, ◌^◌, List, [], length, false, IfOk, IfNone};
 ghost use Rattle.dsi_frame.specs.Buffered.{buffer_length};
 ghost use Rattle.afp_serial.specs.StatusBlock.{status_block};
 ghost use Rattle.afp_serial.specs.Went.{Step, Went};
 ghost use Rattle.afp_server.specs.LinkRun.{IsRun, IsServed};
+ghost use Rattle.afp_outside.specs.Gate.{none_passed};
+ghost use Rattle.afp_server.specs.Passing.{Passes};
 ghost use Rattle.afp_server.specs.Reading.{ReadsMore, TakesAtMost};
 ghost use Rattle.afp_server.specs.Serving.{Ended, RestsLink};
 
@@ -92,13 +94,22 @@ impl LinkRoom {
         requires turns { turns < 2 ^ 63 }
         ensures fixed { T.fixed teller.new ≡ T.fixed teller.old }
         ensures serves { (steps : List Step) × IsServed self turns (L.link_state link.old) result (L.link_state link.new) steps
-            × Went (T.shown teller.old) steps (T.shown teller.new) }
+            × Went (T.shown teller.old) steps (T.shown teller.new) × Passes G.passed result steps }
     {
         let LinkRoom {
             mut deframer,
             mut session,
         } = self;
-        let end = serve_session(&mut deframer, &mut session, link, teller, gate, turns);
+        let mut log = gate.log();
+        let end = serve_session(
+            &mut deframer,
+            &mut session,
+            link,
+            teller,
+            gate,
+            &mut log,
+            turns,
+        );
         session.lose(link.now(), teller);
         end
     }
@@ -117,7 +128,7 @@ pub fn serve_link<L: Link, T: Teller, G: Gate>(
     requires turns { turns < 2 ^ 63 }
     ensures fixed { T.fixed teller.new ≡ T.fixed teller.old }
     ensures runs { (steps : List Step) × IsRun house.now turns (L.link_state link.old) result (L.link_state link.new) steps
-        × Went (T.shown teller.old) steps (T.shown teller.new) }
+        × Went (T.shown teller.old) steps (T.shown teller.new) × ((steps ≡ []) ⊎ Passes G.passed result steps) }
 {
     match LinkRoom::new(alloc, house) {
         Ok(room) => room.serve(link, teller, gate, turns),
@@ -162,19 +173,21 @@ fn serve_session<L: Link, T: Teller, G: Gate>(
     link: &mut L,
     teller: &mut T,
     gate: &G,
+    log: &mut G::Log,
     turns: u64,
 ) -> LinkEnd
+    requires nothing { G.passed log.old ≡ none_passed }
     requires empty { deframer.old ≡ record { place = 0; rest = [] } }
     requires fresh { session.old.stage ≡ Stage.Fresh }
     requires turns { turns < 2 ^ 63 }
     ensures fixed { T.fixed teller.new ≡ T.fixed teller.old }
     ensures serves { Ended (record { block = session.old.block; turns = turns; link = L.link_state link.old; shown = T.shown teller.old })
-        result session.new.stage (L.link_state link.new) (T.shown teller.new) }
+        result session.new.stage (L.link_state link.new) (T.shown teller.new) (G.passed log.new) }
 {
     let mut room = [0u8; READ_SIZE];
     let mut cost: u64 = 0;
     loop {
-        if let Some(end) = serve_frames(deframer, session, link, teller, gate) {
+        if let Some(end) = serve_frames(deframer, session, link, teller, gate, log) {
             return end;
         }
         if cost >= turns {

@@ -1,6 +1,7 @@
 //! The session machine of a link: it takes frames, asks a teller, and holds the reply. It knows no bytes on a
 //! link.
-ghost use Rattle.std.specs.Prelude.{◌≡◌, ◌≢◌, ◌<◌, ◌≤◌, [], ◌∷◌, length, Option, IsTrue, IfOk, IfNone, MatchBool};
+ghost use Rattle.std.specs.Prelude.{◌≡◌, ◌≢◌, ◌<◌, ◌≤◌, [], ◌∷◌, length, Option, Some, IsTrue, IfOk, IfNone, MatchBool};
+ghost use Rattle.afp_outside.specs.Gate.{in_by};
 ghost use Rattle.afp_serial.specs.StatusBlock.{status_block};
 ghost use Rattle.afp_serial.specs.Went.{Went, step};
 ghost use Rattle.afp_serial.specs.declared.ask.Told.{Told};
@@ -11,7 +12,9 @@ ghost use Rattle.dsi_frame.specs.Frame.{canonical_frame, frame_of};
 ghost use Rattle.afp_server.specs.Calls.{Calls};
 ghost use Rattle.afp_server.specs.CloseSession.{ClosesSession};
 ghost use Rattle.afp_server.specs.Did.{Did};
+ghost use Rattle.afp_server.specs.LinkRun.{carries_call};
 ghost use Rattle.afp_server.specs.OpenSession.{OpensSession};
+ghost use Rattle.afp_server.specs.Passing.{PassesIn, call_link, if_call};
 ghost use Rattle.afp_serial.specs.Shown.{fits_frame};
 ghost use Rattle.afp_server.specs.OpenSession.{OpenTold};
 ghost use Rattle.afp_server.specs.Replies.{reply_to};
@@ -71,6 +74,21 @@ fn reply_end(command: DsiCommand) -> Option<FrameEnd>
     }
 }
 
+/// The link, where a request on its session carries a call.
+fn called_by(command: DsiCommand, link: LinkNumber) -> Option<LinkNumber>
+    ensures { result ≡ if_call (carries_call command) link }
+{
+    match command {
+        DsiCommand::Command => Some(link),
+        DsiCommand::Write => Some(link),
+        DsiCommand::GetStatus
+        | DsiCommand::OpenSession
+        | DsiCommand::Tickle
+        | DsiCommand::CloseSession
+        | DsiCommand::Attention => None,
+    }
+}
+
 impl Session {
     /// No session yet. All memory that replies need is taken here.
     pub fn new(alloc: Global, house: &House) -> Result<Session, OutOfMemory>
@@ -114,13 +132,17 @@ impl Session {
         self.buffer.as_slice()
     }
 
-    /// The link of the session that a request is a call on.
-    pub fn called_link(&self, header: &Header) -> Option<LinkNumber> {
-        match (self.stage, header.command) {
-            (Stage::Open(link), DsiCommand::Command | DsiCommand::Write) if !header.reply => {
-                Some(link)
-            }
-            _ => None,
+    /// The link of the session that a frame is a call on: a request that carries a call, on an open session.
+    pub fn called_link(&self, header: &Header) -> Option<LinkNumber>
+        ensures { result ≡ call_link header.now.reply self.now.stage header.now.command }
+    {
+        if header.reply {
+            return None;
+        }
+        match self.stage {
+            Stage::Fresh => None,
+            Stage::Open(link) => called_by(header.command, link),
+            Stage::Closing => None,
         }
     }
 
@@ -134,10 +156,12 @@ impl Session {
         now: Moment,
         teller: &mut T,
         gate: &G,
+        log: &mut G::Log,
     ) -> Result<Option<FrameEnd>, OutOfMemory>
         requires { self.old.stage ≢ Stage.Closing }
         ensures fixed { T.fixed teller.new ≡ T.fixed teller.old }
         ensures handles { Handles now (frame_of header.now payload.now) self.old (T.shown teller.old) result self.new (T.shown teller.new) }
+        ensures passes { PassesIn (call_link header.now.reply self.old.stage header.now.command) result (G.passed log.old) (G.passed log.new) }
         ensures live { IfOk result (λ end. IfNone end (self.new.stage ≢ Stage.Closing)) }
     {
         self.size = 0;
@@ -145,7 +169,7 @@ impl Session {
             return Ok(reply_end(header.command));
         }
         match self.stage {
-            Stage::Open(link) => self.handle_open(link, header, payload, now, teller, gate),
+            Stage::Open(link) => { self.handle_open(link, header, payload, now, teller, gate, log) }
             _ => Ok(self.handle_fresh(header, payload, now, teller)),
         }
     }
@@ -188,11 +212,13 @@ impl Session {
         now: Moment,
         teller: &mut T,
         gate: &G,
+        log: &mut G::Log,
     ) -> Result<Option<FrameEnd>, OutOfMemory>
         requires session { self.old.stage ≡ Stage.Open link }
         requires no_reply { self.old.reply ≡ [] }
         ensures fixed { T.fixed teller.new ≡ T.fixed teller.old }
         ensures handles { HandlesOpen now link header.now.command (frame_of header.now payload.now) self.old (T.shown teller.old) result self.new (T.shown teller.new) }
+        ensures passes { PassesIn (if_call (carries_call header.now.command) link) result (G.passed log.old) (G.passed log.new) }
         ensures live { IfOk result (λ end. IfNone end (self.new.stage ≢ Stage.Closing)) }
     {
         match header.command {
@@ -200,13 +226,11 @@ impl Session {
             DsiCommand::OpenSession => Ok(Some(FrameEnd::Bad(Reason::Phase))),
             DsiCommand::Command => {
                 let ask = self.call_of(header, false, 0, payload)?;
-                gate.before(link);
-                Ok(self.call(link, header, ask, now, teller))
+                Ok(self.call(link, header, ask, now, teller, gate, log))
             }
             DsiCommand::Write => {
                 let ask = self.call_of(header, true, header.word, payload)?;
-                gate.before(link);
-                Ok(self.call(link, header, ask, now, teller))
+                Ok(self.call(link, header, ask, now, teller, gate, log))
             }
             DsiCommand::Tickle => Ok(None),
             DsiCommand::CloseSession => Ok(self.close_session(link, now, teller)),
@@ -302,14 +326,16 @@ impl Session {
         })
     }
 
-    /// DSICommand and DSIWrite on an open session: the call is asked at its link.
-    fn call<T: Teller>(
+    /// DSICommand and DSIWrite on an open session: the call goes in through the gate, and is asked at its link.
+    fn call<T: Teller, G: Gate>(
         &mut self,
         link: LinkNumber,
         request: &Header,
         ask: Ask,
         now: Moment,
         teller: &mut T,
+        gate: &G,
+        log: &mut G::Log,
     ) -> Option<FrameEnd>
         requires session { self.old.stage ≡ Stage.Open link }
         requires no_reply { self.old.reply ≡ [] }
@@ -317,8 +343,10 @@ impl Session {
         ensures fixed { T.fixed teller.new ≡ T.fixed teller.old }
         ensures calls { (did : Did) × Calls now link (frame_of request.now []) ask did
             × Acts self.old (T.shown teller.old) did self.new (T.shown teller.new) × (result ≡ did.end) }
+        ensures passes { G.passed log.new ≡ in_by (G.passed log.old) (Some link) }
         ensures live { IfNone result (self.new.stage ≢ Stage.Closing) }
     {
+        gate.before(link, log);
         let told = teller.ask(now, link, ask);
         self.called(request, told)
     }

@@ -12,7 +12,7 @@ use crate::reply::MOST_REPLY;
 use crate::session::Session;
 use crate::stage::{FrameEnd, Stage};
 use afp_base::{Bytes, Moment, OutOfMemory};
-use afp_outside::OpenGate;
+use afp_outside::{Gate, OpenGate};
 use afp_serial::{House, Teller};
 use dsi_frame::{BadFrame, Deframer, Head, Header};
 use std::alloc::Global;
@@ -222,7 +222,8 @@ fn answer<T: Teller>(
     if let Err(fault) = out.extend(session.room()) {
         return Err(fault);
     }
-    match session.handle(header, payload, now, teller, &OpenGate) {
+    let mut log = OpenGate.log();
+    match session.handle(header, payload, now, teller, &OpenGate, &mut log) {
         Ok(end) => {
             end_with_reply(out, session);
             Ok(end)

@@ -9,8 +9,8 @@ invariant-loop-bad g l = record {
   block : l.session.block ≡ l.initial.session.block;
   live : l.session.stage ≢ stages.Closing;
   serves : (start : Start) (cost : ℕ) → start.block ≡ l.initial.session.block
-      → SoFar start (point l.initial.deframer l.initial.session.stage (g.L.Link.link_state l.initial.link) (g.T.Teller.shown l.initial.teller)) cost
-      → SoFar start (point l.deframer l.session.stage (g.L.Link.link_state l.link) (g.T.Teller.shown l.teller)) cost;
+      → SoFar start (point l.initial.deframer l.initial.session.stage (g.L.Link.link_state l.initial.link) (g.T.Teller.shown l.initial.teller) (g.G.Gate.passed l.initial.log)) cost
+      → SoFar start (point l.deframer l.session.stage (g.L.Link.link_state l.link) (g.T.Teller.shown l.teller) (g.G.Gate.passed l.log)) cost;
 }
 
 abbrev pub decreases-loop-bad : goal.decreases-loop-bad

@@ -1,5 +1,6 @@
-use Rattle.std.proofs.Common.{arith, ◌+◌, [], length, refl, sym, ◌∙◌, ap, subst}
+use Rattle.std.proofs.Common.{arith, ◌+◌, length, refl, sym, ◌∙◌, ap, subst}
 use Rattle.std.specs.Prelude.{None}
+use Rattle.afp_outside.specs.Gate.{Passed, none_passed}
 use Rattle.dsi_frame.specs.Buffered.{Buffered}
 use Rattle.afp_server.specs.Serving.{Start, Point, point, SoFar, ServesFrames}
 use Rattle.afp_server.specs.declared.serve.LinkEnd.TheVariants as links
@@ -12,13 +13,15 @@ use Rattle.afp_server.proofs.serve.serve_session.Goals as goal
 pub loop-end-init : goal.loop-end-init
 loop-end-init g c =
     let start : Start = record { block = c.args.session.now.block; turns = c.args.turns; link = g.L.Link.link_state c.args.link.now; shown = g.T.Teller.shown c.args.teller.now } in
-    let first : Point = point (record { place = 0; rest = [] }) stages.Fresh start.link start.shown in
-    let at_held : SoFar start (point c.args.deframer.now stages.Fresh start.link start.shown) 0 = subst (λ (d : Buffered). SoFar start (point d stages.Fresh start.link start.shown) 0) (sym c.requires.empty) (so_far-none start) in
+    let at_held : SoFar start (point c.args.deframer.now stages.Fresh start.link start.shown none_passed) 0 =
+    subst (λ (d : Buffered). SoFar start (point d stages.Fresh start.link start.shown none_passed) 0) (sym c.requires.empty) (so_far-none start) in
+    let at_stage : SoFar start (point c.args.deframer.now c.args.session.now.stage start.link start.shown none_passed) 0 =
+    subst (λ (stage : Stage). SoFar start (point c.args.deframer.now stage start.link start.shown none_passed) 0) (sym c.requires.fresh) at_held in
     record {
       fixed = refl;
       block = refl;
       live = λ e. let both = c.requires.fresh in absurd (cc (both, e));
-      so_far = subst (λ (stage : Stage). SoFar start (point c.args.deframer.now stage start.link start.shown) 0) (sym c.requires.fresh) at_held;
+      so_far = subst (λ (p : Passed). SoFar start (point c.args.deframer.now c.args.session.now.stage start.link start.shown p) 0) (sym c.requires.nothing) at_stage;
     }
 
 pub returns-in-Some-clause-serves : goal.returns-in-Some-clause-serves
@@ -29,21 +32,21 @@ returns-in-Some-clause-serves g c =
 pub returns-then-cost-turns-clause-serves : goal.returns-then-cost-turns-clause-serves
 returns-then-cost-turns-clause-serves g c =
     let start : Start = record { block = c.args.session.now.block; turns = c.args.turns; link = g.L.Link.link_state c.args.link.now; shown = g.T.Teller.shown c.args.teller.now } in
-    let here : Point = point c.serve_frames.new.deframer c.serve_frames.new.session.stage (g.L.Link.link_state c.serve_frames.new.link) (g.T.Teller.shown c.serve_frames.new.teller) in
+    let here : Point = point c.serve_frames.new.deframer c.serve_frames.new.session.stage (g.L.Link.link_state c.serve_frames.new.link) (g.T.Teller.shown c.serve_frames.new.teller) (g.G.Gate.passed c.serve_frames.new.log) in
     let served : ServesFrames start c.loop-end.cost None here = c.in_default.ensures.serves start c.loop-end.cost (sym c.loop-end.invariant.block) c.loop-end.invariant.so_far in
     ends-spent start here c.loop-end.cost served.0 served.1 c.if-cost-turns.true
 
 pub read_more-requires-clause-free : goal.read_more-requires-clause-free
 read_more-requires-clause-free g c =
     let start : Start = record { block = c.args.session.now.block; turns = c.args.turns; link = g.L.Link.link_state c.args.link.now; shown = g.T.Teller.shown c.args.teller.now } in
-    let here : Point = point c.serve_frames.new.deframer c.serve_frames.new.session.stage (g.L.Link.link_state c.serve_frames.new.link) (g.T.Teller.shown c.serve_frames.new.teller) in
+    let here : Point = point c.serve_frames.new.deframer c.serve_frames.new.session.stage (g.L.Link.link_state c.serve_frames.new.link) (g.T.Teller.shown c.serve_frames.new.teller) (g.G.Gate.passed c.serve_frames.new.log) in
     let served : ServesFrames start c.loop-end.cost None here = c.in_default.ensures.serves start c.loop-end.cost (sym c.loop-end.invariant.block) c.loop-end.invariant.so_far in
     served.2
 
 pub read_more-requires-clause-fits : goal.read_more-requires-clause-fits
 read_more-requires-clause-fits g c =
     let start : Start = record { block = c.args.session.now.block; turns = c.args.turns; link = g.L.Link.link_state c.args.link.now; shown = g.T.Teller.shown c.args.teller.now } in
-    let here : Point = point c.serve_frames.new.deframer c.serve_frames.new.session.stage (g.L.Link.link_state c.serve_frames.new.link) (g.T.Teller.shown c.serve_frames.new.teller) in
+    let here : Point = point c.serve_frames.new.deframer c.serve_frames.new.session.stage (g.L.Link.link_state c.serve_frames.new.link) (g.T.Teller.shown c.serve_frames.new.teller) (g.G.Gate.passed c.serve_frames.new.log) in
     let served : ServesFrames start c.loop-end.cost None here = c.in_default.ensures.serves start c.loop-end.cost (sym c.loop-end.invariant.block) c.loop-end.invariant.so_far in
     let s : SoFar start here c.loop-end.cost = served.0 in
     omega (arith, s.place, s.costs, c.if-cost-turns.false, c.requires.turns)
@@ -51,7 +54,7 @@ read_more-requires-clause-fits g c =
 pub loop-end-preserved-in-Got : goal.loop-end-preserved-in-Got
 loop-end-preserved-in-Got g c =
     let start : Start = record { block = c.args.session.now.block; turns = c.args.turns; link = g.L.Link.link_state c.args.link.now; shown = g.T.Teller.shown c.args.teller.now } in
-    let here : Point = point c.serve_frames.new.deframer c.serve_frames.new.session.stage (g.L.Link.link_state c.serve_frames.new.link) (g.T.Teller.shown c.serve_frames.new.teller) in
+    let here : Point = point c.serve_frames.new.deframer c.serve_frames.new.session.stage (g.L.Link.link_state c.serve_frames.new.link) (g.T.Teller.shown c.serve_frames.new.teller) (g.G.Gate.passed c.serve_frames.new.log) in
     let served : ServesFrames start c.loop-end.cost None here = c.in_default.ensures.serves start c.loop-end.cost (sym c.loop-end.invariant.block) c.loop-end.invariant.so_far in
     let waits : Waits start here c.loop-end.cost = record { so_far = served.0; unfinished = served.1; below = c.if-cost-turns.false } in
     let end = g.L.Link.link_state c.read_more.new.link in
@@ -65,17 +68,17 @@ loop-end-preserved-in-Got g c =
 pub returns-in-Some-rest-clause-serves : goal.returns-in-Some-rest-clause-serves
 returns-in-Some-rest-clause-serves g c =
     let start : Start = record { block = c.args.session.now.block; turns = c.args.turns; link = g.L.Link.link_state c.args.link.now; shown = g.T.Teller.shown c.args.teller.now } in
-    let here : Point = point c.serve_frames.new.deframer c.serve_frames.new.session.stage (g.L.Link.link_state c.serve_frames.new.link) (g.T.Teller.shown c.serve_frames.new.teller) in
+    let here : Point = point c.serve_frames.new.deframer c.serve_frames.new.session.stage (g.L.Link.link_state c.serve_frames.new.link) (g.T.Teller.shown c.serve_frames.new.teller) (g.G.Gate.passed c.serve_frames.new.log) in
     let served : ServesFrames start c.loop-end.cost None here = c.in_default.ensures.serves start c.loop-end.cost (sym c.loop-end.invariant.block) c.loop-end.invariant.so_far in
     let waits : Waits start here c.loop-end.cost = record { so_far = served.0; unfinished = served.1; below = c.if-cost-turns.false } in
     let end = g.L.Link.link_state c.read_more.new.link in
-    link-ends start c.serve_frames.new.deframer (g.L.Link.link_state c.serve_frames.new.link) end c.serve_frames.new.session c.rest.new.session (g.T.Teller.shown c.serve_frames.new.teller) (g.T.Teller.shown c.rest.new.teller) c.loop-end.cost c.in-Some-rest.end
+    link-ends start c.serve_frames.new.deframer (g.L.Link.link_state c.serve_frames.new.link) end c.serve_frames.new.session c.rest.new.session (g.T.Teller.shown c.serve_frames.new.teller) (g.T.Teller.shown c.rest.new.teller) (g.G.Gate.passed c.serve_frames.new.log) c.loop-end.cost c.in-Some-rest.end
     waits (omega (arith, served.2)) c.in-Quiet.ensures.reads.0 c.in-Some-rest.ensures.rests
 
 pub loop-end-preserved : goal.loop-end-preserved
 loop-end-preserved g c =
     let start : Start = record { block = c.args.session.now.block; turns = c.args.turns; link = g.L.Link.link_state c.args.link.now; shown = g.T.Teller.shown c.args.teller.now } in
-    let here : Point = point c.serve_frames.new.deframer c.serve_frames.new.session.stage (g.L.Link.link_state c.serve_frames.new.link) (g.T.Teller.shown c.serve_frames.new.teller) in
+    let here : Point = point c.serve_frames.new.deframer c.serve_frames.new.session.stage (g.L.Link.link_state c.serve_frames.new.link) (g.T.Teller.shown c.serve_frames.new.teller) (g.G.Gate.passed c.serve_frames.new.log) in
     let served : ServesFrames start c.loop-end.cost None here = c.in_default.ensures.serves start c.loop-end.cost (sym c.loop-end.invariant.block) c.loop-end.invariant.so_far in
     let waits : Waits start here c.loop-end.cost = record { so_far = served.0; unfinished = served.1; below = c.if-cost-turns.false } in
     let end = g.L.Link.link_state c.read_more.new.link in
@@ -84,15 +87,15 @@ loop-end-preserved g c =
       fixed = c.rest.ensures.fixed ∙ c.serve_frames.ensures.fixed ∙ c.loop-end.invariant.fixed;
       block = c.in_default-rest.ensures.rests.block ∙ c.serve_frames.ensures.block ∙ c.loop-end.invariant.block;
       live = c.in_default-rest.ensures.live;
-      so_far = subst (λ (d : Buffered). SoFar start (point d c.rest.new.session.stage end after) (c.loop-end.cost + 1)) (sym reads.1)
-          (link-rests start c.serve_frames.new.deframer (g.L.Link.link_state c.serve_frames.new.link) end c.serve_frames.new.session c.rest.new.session (g.T.Teller.shown c.serve_frames.new.teller) after c.loop-end.cost
+      so_far = subst (λ (d : Buffered). SoFar start (point d c.rest.new.session.stage end after (g.G.Gate.passed c.serve_frames.new.log)) (c.loop-end.cost + 1)) (sym reads.1)
+          (link-rests start c.serve_frames.new.deframer (g.L.Link.link_state c.serve_frames.new.link) end c.serve_frames.new.session c.rest.new.session (g.T.Teller.shown c.serve_frames.new.teller) after (g.G.Gate.passed c.serve_frames.new.log) c.loop-end.cost
           waits (omega (arith, served.2)) reads.0 c.in_default-rest.ensures.rests);
     }
 
 pub returns-in-End-clause-serves : goal.returns-in-End-clause-serves
 returns-in-End-clause-serves g c =
     let start : Start = record { block = c.args.session.now.block; turns = c.args.turns; link = g.L.Link.link_state c.args.link.now; shown = g.T.Teller.shown c.args.teller.now } in
-    let here : Point = point c.serve_frames.new.deframer c.serve_frames.new.session.stage (g.L.Link.link_state c.serve_frames.new.link) (g.T.Teller.shown c.serve_frames.new.teller) in
+    let here : Point = point c.serve_frames.new.deframer c.serve_frames.new.session.stage (g.L.Link.link_state c.serve_frames.new.link) (g.T.Teller.shown c.serve_frames.new.teller) (g.G.Gate.passed c.serve_frames.new.log) in
     let served : ServesFrames start c.loop-end.cost None here = c.in_default.ensures.serves start c.loop-end.cost (sym c.loop-end.invariant.block) c.loop-end.invariant.so_far in
     let waits : Waits start here c.loop-end.cost = record { so_far = served.0; unfinished = served.1; below = c.if-cost-turns.false } in
     let end = g.L.Link.link_state c.read_more.new.link in
@@ -105,7 +108,7 @@ returns-in-End-clause-serves g c =
 pub returns-in-Failed-clause-serves : goal.returns-in-Failed-clause-serves
 returns-in-Failed-clause-serves g c =
     let start : Start = record { block = c.args.session.now.block; turns = c.args.turns; link = g.L.Link.link_state c.args.link.now; shown = g.T.Teller.shown c.args.teller.now } in
-    let here : Point = point c.serve_frames.new.deframer c.serve_frames.new.session.stage (g.L.Link.link_state c.serve_frames.new.link) (g.T.Teller.shown c.serve_frames.new.teller) in
+    let here : Point = point c.serve_frames.new.deframer c.serve_frames.new.session.stage (g.L.Link.link_state c.serve_frames.new.link) (g.T.Teller.shown c.serve_frames.new.teller) (g.G.Gate.passed c.serve_frames.new.log) in
     let served : ServesFrames start c.loop-end.cost None here = c.in_default.ensures.serves start c.loop-end.cost (sym c.loop-end.invariant.block) c.loop-end.invariant.so_far in
     let waits : Waits start here c.loop-end.cost = record { so_far = served.0; unfinished = served.1; below = c.if-cost-turns.false } in
     let end = g.L.Link.link_state c.read_more.new.link in

@@ -9,7 +9,7 @@ invariant-loop-end g l = record {
   block : l.session.block ≡ l.initial.session.block;
   live : l.session.stage ≢ stages.Closing;
   so_far : SoFar (record { block = l.initial.session.block; turns = l.turns; link = g.L.Link.link_state l.initial.link; shown = g.T.Teller.shown l.initial.teller })
-      (point l.deframer l.session.stage (g.L.Link.link_state l.link) (g.T.Teller.shown l.teller)) l.cost;
+      (point l.deframer l.session.stage (g.L.Link.link_state l.link) (g.T.Teller.shown l.teller) (g.G.Gate.passed l.log)) l.cost;
 }
 
 abbrev pub decreases-loop-end : goal.decreases-loop-end

@@ -1,6 +1,7 @@
 use Rattle.std.proofs.Common.{ℕ, List, ◌++◌, refl, subst}
 use Rattle.afp_serial.proofs.Grows.{went-join}
 use Rattle.afp_server.specs.LinkRun.{ComesTo, Parts}
+use Rattle.afp_server.proofs.Passing.{through-more, parts-calls}
 use Rattle.afp_server.proofs.serve.LinkRoom.serve.Goals as goal
 
 pub returns-clause-serves : goal.returns-clause-serves
@@ -18,4 +19,5 @@ returns-clause-serves g c =
         all = refl;
       },
       went-join _ _ _ e.asked p.steps e.went p.went,
+      record { log = c.serve_session-end.new.log; through = through-more c.serve_session-end.result _ e.asked p.steps e.through (parts-calls _ _ p.steps p.parts) },
     )

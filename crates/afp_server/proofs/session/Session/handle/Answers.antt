@@ -1,8 +1,10 @@
-use Rattle.std.proofs.Common.{[], refl, ap}
+use Rattle.std.proofs.Common.{Bool, [], refl, ap, ◌∙◌}
 use Rattle.std.specs.Prelude.{None}
 use Rattle.dsi_frame.specs.Frame.{Frame, frame_of}
 use Rattle.afp_server.specs.Did.{Did}
+use Rattle.afp_server.specs.Passing.{call_link}
 use Rattle.afp_server.specs.SessionState.{SessionState}
+use Rattle.afp_server.proofs.Passing.{not_called, unpassed}
 use Rattle.afp_server.proofs.Rows.{acts-still, does-reply}
 use Rattle.afp_server.proofs.session.Session.handle.Goals as goal
 
@@ -15,3 +17,12 @@ returns-then-header-clause-handles g c =
       acts-still c.args.self.now _ (g.T.Teller.shown c.args.teller.now) did (ap (λ (s : SessionState). s.block) c.self.view_is) (ap (λ (s : SessionState). s.stage) c.self.view_is) refl refl refl,
       refl,
     )
+
+pub returns-then-header-clause-passes : goal.returns-then-header-clause-passes
+returns-then-header-clause-passes g c =
+    unpassed (g.G.Gate.passed c.args.log.now) _ (ap (λ (reply : Bool). call_link reply c.args.self.now.stage c.args.header.now.command) c.if-header.true)
+
+pub returns-in_default-clause-passes : goal.returns-in_default-clause-passes
+returns-in_default-clause-passes g c =
+    unpassed (g.G.Gate.passed c.args.log.now) _
+    (not_called c.args.header.now.reply c.args.self.now.stage c.args.header.now.command (λ link e. c.in_default.not-Open link (ap (λ (s : SessionState). s.stage) c.self.view_is ∙ e)))
