@@ -104,14 +104,14 @@ good_icon_info r b h =
     })
 
 -- a part of a layout holds a value, and holds its own bytes again
-record Holds {X : Type 0} (part : (X → Layout) → Layout) (bytes_of : X → List ℕ) (Fits : X → Type 0) (next : X → Layout) (r : Reply) : Type 0 where
-  value : X
-  fits : Fits value
-  rest : List ℕ
-  behind : Has (next value) r rest
-  again : (more : List ℕ) → Has (next value) r more → Has (part next) r (bytes_of value ++ more)
+pub record Holds {X : Type 0} (part : (X → Layout) → Layout) (bytes_of : X → List ℕ) (Fits : X → Type 0) (next : X → Layout) (r : Reply) : Type 0 where
+  pub value : X
+  pub fits : Fits value
+  pub rest : List ℕ
+  pub behind : Has (next value) r rest
+  pub again : (more : List ℕ) → Has (next value) r more → Has (part next) r (bytes_of value ++ more)
 
-holds_optional : (asked : Bool) (next : Option ℕ → Layout) (r : Reply) (b : List ℕ) → Has (optional asked next) r b → Holds (optional asked) bytes.optional (FitsOptional asked) next r
+pub holds_optional : (asked : Bool) (next : Option ℕ → Layout) (r : Reply) (b : List ℕ) → Has (optional asked next) r b → Holds (optional asked) bytes.optional (FitsOptional asked) next r
 unfolding optional
 holds_optional true next r b h = record {
   value = Some h.value;
@@ -122,7 +122,7 @@ holds_optional true next r b h = record {
 }
 holds_optional false next r b h = record { value = None; fits = tt; rest = b; behind = h; again = λ more k. k }
 
-holds_text : (wide asked : Bool) (next : Option (List ℕ) → Layout) (r : Reply) (b : List ℕ) → Has (optional_text wide asked next) r b
+pub holds_text : (wide asked : Bool) (next : Option (List ℕ) → Layout) (r : Reply) (b : List ℕ) → Has (optional_text wide asked next) r b
     → Holds (optional_text wide asked) (message_bytes wide) (FitsText wide asked) next r
 unfolding optional_text
 holds_text wide true next r b h = record {
@@ -158,13 +158,13 @@ good_message bits r b h =
 -- ---- volumes and entries
 
 -- so many of a list behind others
-record Row {X : Type 0} (part : List X → (List X → Layout) → Layout) (bytes_of : X → List ℕ) (Fits : X → Type 0) (count : ℕ) (before : List X) (next : List X → Layout) (r : Reply) : Type 0 where
-  all : List X
-  size : length all ≡ count
-  fit : AllByRecursion Fits all
-  rest : List ℕ
-  behind : Has (next (before ++ all)) r rest
-  again : (more : List ℕ) → Has (next (before ++ all)) r more → Has (part before next) r (concat (map bytes_of all) ++ more)
+pub record Row {X : Type 0} (part : List X → (List X → Layout) → Layout) (bytes_of : X → List ℕ) (Fits : X → Type 0) (count : ℕ) (before : List X) (next : List X → Layout) (r : Reply) : Type 0 where
+  pub all : List X
+  pub size : length all ≡ count
+  pub fit : AllByRecursion Fits all
+  pub rest : List ℕ
+  pub behind : Has (next (before ++ all)) r rest
+  pub again : (more : List ℕ) → Has (next (before ++ all)) r more → Has (part before next) r (concat (map bytes_of all) ++ more)
 
 pub with_more : {X : Type 0} (before : List X) (x : X) (all : List X) → (before ++ (x ∷ [])) ++ all ≡ before ++ (x ∷ all)
 with_more before x all = append_assoc before (x ∷ []) all
@@ -190,7 +190,7 @@ pub volumes_suc : (more : ℕ) (before : List VolumeEntry) (next : List VolumeEn
 unfolding volumes
 volumes_suc more before next = refl
 
-row_of_volumes : (count : ℕ) (before : List VolumeEntry) (next : List VolumeEntry → Layout) (r : Reply) (b : List ℕ) → Has (volumes count before next) r b
+pub row_of_volumes : (count : ℕ) (before : List VolumeEntry) (next : List VolumeEntry → Layout) (r : Reply) (b : List ℕ) → Has (volumes count before next) r b
     → Row (volumes count) volume_bytes FitsVolume count before next r
 row_of_volumes zero before next r b h = row_none (volumes 0) volume_bytes FitsVolume before next r b (volumes_zero before next) h
 row_of_volumes (suc count) before next r b h =
@@ -230,7 +230,7 @@ entries_suc wide fb db more before next = refl
 pub entry_spelt : (wide : Bool) (fb db : ℕ) (e : ListEntry) → FitsEntry wide fb db e → Spells (Entry wide fb db) e (entry_bytes wide fb db e)
 entry_spelt wide fb db e f = record { fits = f; pads = replicate (pad_count wide) 0; pads_are = length-replicate (pad_count wide) 0; bytes_are = refl }
 
-row_of_entries : (wide : Bool) (fb db count : ℕ) (before : List ListEntry) (next : List ListEntry → Layout) (r : Reply) (b : List ℕ) → Has (entries wide fb db count before next) r b
+pub row_of_entries : (wide : Bool) (fb db count : ℕ) (before : List ListEntry) (next : List ListEntry → Layout) (r : Reply) (b : List ℕ) → Has (entries wide fb db count before next) r b
     → Row (entries wide fb db count) (entry_bytes wide fb db) (FitsEntry wide fb db) count before next r
 row_of_entries wide fb db zero before next r b h =
     row_none (entries wide fb db 0) (entry_bytes wide fb db) (FitsEntry wide fb db) before next r b (entries_zero wide fb db before next) h

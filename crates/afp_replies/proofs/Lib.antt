@@ -5,5 +5,6 @@ pub mod Steps
 pub mod Entries
 pub mod Again
 pub mod Showing
+pub mod Asking
 pub mod Unique
 pub mod Evenness

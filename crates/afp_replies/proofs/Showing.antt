@@ -1,9 +1,11 @@
--- What fits is shown: by the bytes that are written, as the reply to some request.
-use Rattle.std.proofs.Common.{◌≡◌, ℕ, ◌^◌, ◌<◌, ◌≤◌, Bool, true, false, List, [], ◌∷◌, ◌++◌, length, map, Option, Some, None, refl, sym, ap, ◌∙◌, subst, arith, append_assoc, w32}
+-- What fits is shown by the bytes that are written: to the requests that ask for it, and so to some request.
+use Rattle.std.proofs.Common.{◌≡◌, ℕ, ◌^◌, ◌<◌, ◌≤◌, Bool, true, false, List, [], ◌∷◌, ◌++◌, length, map, Option, Some, None, ℤ, inl, inr, refl, sym, ap, ◌∙◌, subst, arith, append_assoc, w32}
 use Rattle.std.proofs.lemmas.List.{append-nil}
 use Rattle.std.specs.List.{concat, AllByRecursion}
 use Rattle.std.specs.Int.{cast_signed, cast_unsigned}
+use Rattle.afp_base.specs.declared.code.Code.{Code}
 use Rattle.afp_base.specs.declared.code.Code.TheVariants as codes
+use Rattle.afp_base.specs.declared.ids.ForkRef.{ForkRef}
 use Rattle.afp_bitmap.specs.declared.params.Values.{Values}
 use Rattle.afp_bitmap.specs.declared.params.Values.TheVariants as kinds
 use Rattle.afp_bitmap.specs.Bits.{IsWithin, mask_of, is_asked}
@@ -18,13 +20,14 @@ use Rattle.afp_replies.specs.declared.volumes.VolumeEntry.{VolumeEntry}
 use Rattle.afp_replies.specs.Bytes as bytes
 use Rattle.afp_replies.specs.Bytes.{width, counted, flag_of}
 use Rattle.afp_replies.specs.Entry.{is_dir, bits_for, kind_for, entry_bytes, FitsEntry}
-use Rattle.afp_replies.specs.Words.{Number, Asked, Raw, Pad, Counted, Flag, Entry}
+use Rattle.afp_replies.specs.Words.{Number, Exactly, Asked, Raw, Pad, Counted, Flag, Entry}
 use Rattle.afp_replies.specs.Layout.{Layout, Is, Then, Has}
 use Rattle.afp_replies.specs.Layouts as layouts
 use Rattle.afp_replies.specs.Layouts.{optional, optional_text, volumes, volume, entries}
-use Rattle.afp_replies.specs.Commands.{rows, shape_in, shape_of, layout_of}
+use Rattle.afp_replies.specs.Commands.{rows, shape_in, shape_of, layout_of, denied, ended, reply_layout}
 use Rattle.afp_replies.specs.Fitting.{FitsReply, FitsOptional, FitsText, FitsVolume, FitsList}
-use Rattle.afp_replies.specs.Replies.{IsShown, layout_for, volume_bytes, message_bytes}
+use Rattle.afp_replies.specs.Replies.{IsShown, Shows, canonical_reply, layout_for, volume_bytes, message_bytes}
+use Rattle.afp_replies.specs.Requested.{FitsRequest, IsAsked, IsDenied, IsEnded, IsTold, list_shape}
 use Rattle.afp_replies.specs.Writing.{CanWrite, FitsMessage}
 use Rattle.afp_replies.proofs.NumberLemmas.{date_again, date_lt}
 use Rattle.afp_replies.proofs.Again.{put_front, has_params, node_layout, node_within, with_more, volumes_zero, volumes_suc, entries_zero, entries_suc, entry_spelt, good_reply}
@@ -32,15 +35,6 @@ use Rattle.afp_replies.proofs.Again.{put_front, has_params, node_layout, node_wi
 -- a request with this command, which asked these bits
 abbrev request : ℕ → ℕ → ℕ → ReplyKind
 request command bits dir_bits = record { command = command; bits = bits; dir_bits = dir_bits }
-
-shown_by : (command bits dir_bits : ℕ) (shape : Shape) (r : Reply) (b : List ℕ) → shape_of command ≡ shape → Has (layout_of shape (request command bits dir_bits)) r b → IsShown r
-unfolding layout_for
-shown_by command bits dir_bits shape r b e h = record {
-  kind = request command bits dir_bits;
-  code = codes.Ok;
-  bytes = b;
-  shows = subst (λ (s : Shape). Has (layout_of s (request command bits dir_bits)) r b) (sym e) h;
-}
 
 -- the commands that are used here
 command_1 : shape_of 1 ≡ shapes.Start
@@ -181,6 +175,13 @@ shown_entries wide fb db (e ∷ all) before next r more f h =
 
 -- ---- replies
 
+-- at the shape, and at the bits, that the request has
+at_shape : (shape want : Shape) (kind : ReplyKind) (r : Reply) (b : List ℕ) → shape ≡ want → Has (layout_of want kind) r b → Has (layout_of shape kind) r b
+at_shape shape want kind r b e h = subst (λ (s : Shape). Has (layout_of s kind) r b) (sym e) h
+
+at_bits : (layout : ℕ → Layout) (bits asked : ℕ) (r : Reply) (b : List ℕ) → bits ≡ asked → Has (layout bits) r b → Has (layout asked) r b
+at_bits layout bits asked r b e h = subst (λ (x : ℕ). Has (layout x) r b) e h
+
 has_list : (wide : Bool) (fb db : ℕ) (all : List ListEntry) → FitsList wide fb db all
     → Has (layouts.list wide fb db) (replies.List wide fb db all)
     (bytes.u16 fb ++ (bytes.u16 db ++ (bytes.u16 (length all) ++ (concat (map (entry_bytes wide fb db) all) ++ []))))
@@ -189,9 +190,160 @@ has_list wide fb db all f =
     (put_front (Number 2) _ (length all) (bytes.u16 (length all)) _ (f.few, refl)
     (shown_entries wide fb db all [] (λ rows. Is (replies.List wide fb db rows)) (replies.List wide fb db all) [] f.each (refl, refl))))
 
-shown_list : (wide : Bool) (fb db : ℕ) (all : List ListEntry) → FitsList wide fb db all → IsShown (replies.List wide fb db all)
-shown_list true fb db all f = shown_by 66 fb db shapes.WideList (replies.List true fb db all) _ command_66 (has_list true fb db all f)
-shown_list false fb db all f = shown_by 9 fb db shapes.NarrowList (replies.List false fb db all) _ command_9 (has_list false fb db all f)
+list_bytes : (wide : Bool) (fb db : ℕ) (all : List ListEntry)
+    → bytes.u16 fb ++ (bytes.u16 db ++ (bytes.u16 (length all) ++ (concat (map (entry_bytes wide fb db) all) ++ []))) ≡ canonical_reply (replies.List wide fb db all)
+list_bytes wide fb db all = ap (λ (x : List ℕ). bytes.u16 fb ++ (bytes.u16 db ++ (bytes.u16 (length all) ++ x))) (append-nil (concat (map (entry_bytes wide fb db) all)))
+
+list_layout : (wide : Bool) (fb db : ℕ) (kind : ReplyKind) → fb ≡ kind.bits → db ≡ kind.dir_bits → layouts.list wide fb db ≡ layout_of (list_shape wide) kind
+list_layout true fb db kind e d = ap (λ (x : ℕ). layouts.list true x db) e ∙ ap (λ (x : ℕ). layouts.list true kind.bits x) d
+list_layout false fb db kind e d = ap (λ (x : ℕ). layouts.list false x db) e ∙ ap (λ (x : ℕ). layouts.list false kind.bits x) d
+
+has_list_of : (wide : Bool) (fb db : ℕ) (all : List ListEntry) (shape : Shape) (kind : ReplyKind) → FitsList wide fb db all → IsAsked shape kind (replies.List wide fb db all)
+    → Has (layout_of shape kind) (replies.List wide fb db all) (canonical_reply (replies.List wide fb db all))
+has_list_of wide fb db all shape kind f is =
+    at_shape shape (list_shape wide) kind _ _ is.0
+    (subst (λ (l : Layout). Has l (replies.List wide fb db all) (canonical_reply (replies.List wide fb db all))) (list_layout wide fb db kind is.1 is.2)
+    (subst (Has (layouts.list wide fb db) (replies.List wide fb db all)) (list_bytes wide fb db all) (has_list wide fb db all f)))
+
+has_name : (wide : Bool) (name : List ℕ) → length name < 256 ^ width wide → Has (layouts.name wide) (replies.MappedName wide name) (counted (width wide) name ++ [])
+has_name wide name f = put_front (Counted (width wide)) _ name (counted (width wide) name) [] (f, refl) (refl, refl)
+
+has_block : (kind bits : ℕ) (v : Values) → IsWithin (mask_of kind) bits → IsAnswer kind bits v → Has (layouts.params kind bits) (replies.Params bits v) (bytes.u16 bits ++ (params bits v ++ []))
+has_block kind bits v w a = put_front (Asked (mask_of kind) bits) _ tt (bytes.u16 bits) _ (w, refl) (has_params kind bits (λ x. replies.Params bits x) v a)
+
+has_block_of : (bits : ℕ) (v : Values) (shape : Shape) (kind : ReplyKind) → FitsReply (replies.Params bits v) → IsAsked shape kind (replies.Params bits v)
+    → Has (layout_of shape kind) (replies.Params bits v) (canonical_reply (replies.Params bits v))
+has_block_of bits (kinds.Volume v) shape kind f is =
+    at_shape shape shapes.VolumeParams kind _ _ is.0 (at_bits (layouts.params 0) bits kind.bits _ _ is.1 (has_block 0 bits (kinds.Volume v) f.1.within f.1.answer))
+has_block_of bits (kinds.File v) shape kind f is =
+    at_shape shape shapes.FileParams kind _ _ is.0 (at_bits (layouts.params 1) bits kind.bits _ _ is.1 (has_block 1 bits (kinds.File v) f.1.within f.1.answer))
+has_block_of bits (kinds.Dir v) shape kind f is = let le : 2 ≤ 1 = f.0 in absurd (omega arith)
+
+has_server_params : (time : ℤ) (all : List VolumeEntry) → FitsReply (replies.ServerParams time all)
+    → Has layouts.server_params (replies.ServerParams time all) (canonical_reply (replies.ServerParams time all))
+has_server_params time all f =
+    let t : ℕ = cast_unsigned w32 time in
+    let back : cast_signed w32 t ≡ time = date_again time f.0 in
+    let small : t < 256 ^ 4 = (let lt : t < 2 ^ 32 = date_lt time f.0 in omega arith) in
+    subst (λ (x : List ℕ). Has layouts.server_params (replies.ServerParams time all) (bytes.u32 t ++ (bytes.u8 (length all) ++ x))) (append-nil (concat (map volume_bytes all)))
+    (put_front (Number 4) _ t (bytes.u32 t) _ (small, refl) (put_front (Number 1) _ (length all) (bytes.u8 (length all)) _ (f.1, refl)
+    (shown_volumes all [] (λ x. Is (replies.ServerParams (cast_signed w32 t) x)) (replies.ServerParams time all) [] f.2 (ap (λ z. replies.ServerParams z all) (sym back), refl))))
+
+has_file_dir_params : (fb db : ℕ) (v : Values) → FitsReply (replies.FileDirParams fb db v)
+    → Has (layouts.file_dir_params fb db) (replies.FileDirParams fb db v) (canonical_reply (replies.FileDirParams fb db v))
+has_file_dir_params fb db v f =
+    let dir : Bool = is_dir v in
+    put_front (Asked _ fb) _ tt (bytes.u16 fb) _ (f.0, refl) (put_front (Asked _ db) _ tt (bytes.u16 db) _ (f.1, refl)
+    (put_front Flag _ dir (flag_of dir ∷ []) _ refl (put_front Pad _ tt bytes.pad _ refl
+    (subst (λ (l : Layout). Has l (replies.FileDirParams fb db v) (params (bits_for dir fb db) v ++ [])) (sym (node_layout dir fb db))
+    (has_params (kind_for dir) (bits_for dir fb db) (λ x. replies.FileDirParams fb db x) v f.2)))))
+
+has_user_info : (bits : ℕ) (id group : Option ℕ) → FitsReply (replies.UserInfo bits id group)
+    → Has (layouts.user_info bits) (replies.UserInfo bits id group) (canonical_reply (replies.UserInfo bits id group))
+has_user_info bits id group f =
+    put_front (Asked _ bits) _ tt (bytes.u16 bits) _ (f.0, refl)
+    (shown_optional (is_asked bits 0) (λ x. optional (is_asked bits 1) (λ y. Is (replies.UserInfo bits x y))) (replies.UserInfo bits id group) id _ f.1
+    (shown_optional (is_asked bits 1) (λ y. Is (replies.UserInfo bits id y)) (replies.UserInfo bits id group) group [] f.2 (refl, refl)))
+
+has_message : (kind bits : ℕ) (text : Option (List ℕ)) → FitsReply (replies.Message kind bits text)
+    → Has (layouts.message bits) (replies.Message kind bits text) (canonical_reply (replies.Message kind bits text))
+has_message kind bits text f =
+    put_front (Number 2) _ kind (bytes.u16 kind) _ (f.0, refl) (put_front (Asked _ bits) _ tt (bytes.u16 bits) _ (f.1, refl)
+    (shown_text (is_asked bits 1) (is_asked bits 0) (λ x. Is (replies.Message kind bits x)) (replies.Message kind bits text) text [] f.2 (refl, refl)))
+
+has_opened : (bits : ℕ) (reference : ForkRef) (v : Values) → FitsReply (replies.Opened bits reference v)
+    → Has (layouts.opened bits) (replies.Opened bits reference v) (canonical_reply (replies.Opened bits reference v))
+has_opened bits reference v f =
+    put_front (Asked _ bits) _ tt (bytes.u16 bits) _ (f.1.within, refl) (put_front (Number 2) _ reference.0 (bytes.u16 reference.0) _ (f.0, refl)
+    (has_params 1 bits (λ x. replies.Opened bits (record { 0 = reference.0 }) x) v f.1.answer))
+
+has_appl : (bits tag : ℕ) (v : Values) → FitsReply (replies.Appl bits tag v) → Has (layouts.appl bits) (replies.Appl bits tag v) (canonical_reply (replies.Appl bits tag v))
+has_appl bits tag v f =
+    put_front (Asked _ bits) _ tt (bytes.u16 bits) _ (f.1.within, refl) (put_front (Number 4) _ tag (bytes.u32 tag) _ (f.0, refl)
+    (has_params 1 bits (λ x. replies.Appl bits tag x) v f.1.answer))
+
+has_icon_info : (tag : ℕ) (kind : List ℕ) (icon_kind size : ℕ) → FitsReply (replies.IconInfo tag kind icon_kind size)
+    → Has layouts.icon_info (replies.IconInfo tag kind icon_kind size) (canonical_reply (replies.IconInfo tag kind icon_kind size))
+has_icon_info tag kind icon_kind size f =
+    put_front (Number 4) _ tag (bytes.u32 tag) _ (f.0, refl) (put_front (Raw 4) _ kind kind _ (f.1, refl) (put_front (Number 1) _ icon_kind (bytes.u8 icon_kind) _ (f.2, refl)
+    (put_front Pad _ tt bytes.pad _ refl (put_front (Number 2) _ size (bytes.u16 size) [] (f.3, refl) (refl, refl)))))
+
+has_piece : (piece : List ℕ) (b : List ℕ) → b ≡ piece → Has layouts.piece (replies.Piece piece) b
+has_piece piece b e = ap (λ (x : List ℕ). replies.Piece x) (sym e)
+
+has_piece_of : (piece : List ℕ) (shape : Shape) (kind : ReplyKind) → IsAsked shape kind (replies.Piece piece)
+    → Has (layout_of shape kind) (replies.Piece piece) (canonical_reply (replies.Piece piece))
+has_piece_of piece shape kind (inl e) = at_shape shape shapes.Data kind _ _ e (has_piece piece _ (append-nil piece))
+has_piece_of piece shape kind (inr e) = at_shape shape shapes.Icon kind _ _ e (has_piece piece _ (append-nil piece))
+
+-- what fits, and is asked for, is shown
+has_fields : (r : Reply) (shape : Shape) (kind : ReplyKind) → FitsReply r → IsAsked shape kind r → Has (layout_of shape kind) r (canonical_reply r)
+has_fields replies.Empty shape kind f is = at_shape shape shapes.Empty kind _ _ is (refl, refl)
+has_fields (replies.Start x) shape kind f is = at_shape shape shapes.Start kind _ _ is (put_front (Number 4) _ x (bytes.u32 x) [] (f, refl) (refl, refl))
+has_fields (replies.StartExt x) shape kind f is = at_shape shape shapes.StartExt kind _ _ is (put_front (Number 8) _ x (bytes.u64 x) [] (f, refl) (refl, refl))
+has_fields (replies.End x) shape kind f is = at_shape shape shapes.End kind _ _ is (put_front (Number 4) _ x (bytes.u32 x) [] (f, refl) (refl, refl))
+has_fields (replies.EndExt x) shape kind f is = at_shape shape shapes.EndExt kind _ _ is (put_front (Number 8) _ x (bytes.u64 x) [] (f, refl) (refl, refl))
+has_fields (replies.Node id) shape kind f is = at_shape shape shapes.Node kind _ _ is (put_front (Number 4) _ id.0 (bytes.u32 id.0) [] (f, refl) (refl, refl))
+has_fields (replies.List wide fb db all) shape kind f is = has_list_of wide fb db all shape kind f is
+has_fields (replies.Params bits v) shape kind f is = has_block_of bits v shape kind f is
+has_fields (replies.Status block) shape kind f is = at_shape shape shapes.Status kind _ _ is (ap (λ (x : List ℕ). replies.Status x) (sym (append-nil block)))
+has_fields (replies.ServerParams time all) shape kind f is = at_shape shape shapes.ServerParams kind _ _ is (has_server_params time all f)
+has_fields (replies.MappedName wide name) shape kind f is =
+    at_shape shape shapes.MappedName kind _ _ is.0
+    (subst (λ (o : Option Bool). Has (layouts.mapped o) (replies.MappedName wide name) (counted (width wide) name ++ [])) (sym is.1) (has_name wide name f))
+has_fields (replies.MappedId x) shape kind f is = at_shape shape shapes.MappedId kind _ _ is (put_front (Number 4) _ x (bytes.u32 x) [] (f, refl) (refl, refl))
+has_fields (replies.Opened bits reference v) shape kind f is =
+    at_shape shape shapes.Opened kind _ _ is.0 (at_bits layouts.opened bits kind.bits _ _ is.1 (has_opened bits reference v f))
+has_fields (replies.Piece piece) shape kind f is = has_piece_of piece shape kind is
+has_fields (replies.FileDirParams fb db v) shape kind f is =
+    at_shape shape shapes.FileDirParams kind _ _ is.0
+    (at_bits (λ (x : ℕ). layouts.file_dir_params kind.bits x) db kind.dir_bits _ _ is.2
+    (at_bits (λ (x : ℕ). layouts.file_dir_params x db) fb kind.bits _ _ is.1 (has_file_dir_params fb db v f)))
+has_fields (replies.UserInfo bits id group) shape kind f is =
+    at_shape shape shapes.UserInfo kind _ _ is.0 (at_bits layouts.user_info bits kind.bits _ _ is.1 (has_user_info bits id group f))
+has_fields (replies.Message k bits text) shape kind f is =
+    at_shape shape shapes.Message kind _ _ is.0 (at_bits layouts.message bits kind.bits _ _ is.1 (has_message k bits text f))
+has_fields (replies.Desk x) shape kind f is = at_shape shape shapes.Desk kind _ _ is (put_front (Number 2) _ x (bytes.u16 x) [] (f, refl) (refl, refl))
+has_fields (replies.IconInfo tag k icon_kind size) shape kind f is = at_shape shape shapes.IconInfo kind _ _ is (has_icon_info tag k icon_kind size f)
+has_fields (replies.Appl bits tag v) shape kind f is = at_shape shape shapes.Appl kind _ _ is.0 (at_bits layouts.appl bits kind.bits _ _ is.1 (has_appl bits tag v f))
+has_fields (replies.Comment x) shape kind f is = at_shape shape shapes.Comment kind _ _ is (put_front (Counted 1) _ x (counted 1 x) [] (f, refl) (refl, refl))
+has_fields (replies.Token x) shape kind f is = at_shape shape shapes.Token kind _ _ is (put_front (Counted 4) _ x (counted 4 x) [] (f, refl) (refl, refl))
+
+-- ---- refusals
+
+has_nothing : (r : Reply) → r ≡ replies.Empty → Has layouts.empty r (canonical_reply r)
+has_nothing r e = subst (λ (s : Reply). Has layouts.empty s (canonical_reply s)) (sym e) (refl, refl)
+
+has_denied : (bits : ℕ) (v : Values) → FitsReply (replies.Opened bits (record { 0 = 0 }) v)
+    → Has (layouts.denied bits) (replies.Opened bits (record { 0 = 0 }) v) (canonical_reply (replies.Opened bits (record { 0 = 0 }) v))
+has_denied bits v f =
+    put_front (Asked _ bits) _ tt (bytes.u16 bits) _ (f.1.within, refl) (put_front (Exactly 2 0) _ tt (bytes.u16 0) _ refl
+    (has_params 1 bits (λ x. replies.Opened bits (record { 0 = 0 }) x) v f.1.answer))
+
+has_denial : (r : Reply) (shape : Shape) (kind : ReplyKind) → FitsReply r → IsDenied shape kind r → Has (denied shape kind) r (canonical_reply r)
+has_denial r shapes.Opened kind f is =
+    let s : Reply = replies.Opened kind.bits (record { 0 = 0 }) is.0 in
+    subst (λ (x : Reply). Has (layouts.denied kind.bits) x (canonical_reply x)) (sym is.1) (has_denied kind.bits is.0 (subst FitsReply is.1 f))
+has_denial r shape kind f is = has_nothing r is
+
+has_end : (r : Reply) (shape : Shape) → IsEnded shape r → Has (ended shape) r (canonical_reply r)
+has_end r shapes.Data is = subst (λ (x : Reply). Has layouts.piece x (canonical_reply x)) (sym is.1) (has_piece is.0 _ (append-nil is.0))
+has_end r shape is = has_nothing r is
+
+has_told : (r : Reply) (shape : Shape) (code : Code) (kind : ReplyKind) → FitsReply r → IsTold shape code kind r → Has (reply_layout shape code kind) r (canonical_reply r)
+has_told r shape codes.Ok kind f is = has_fields r shape kind f is
+has_told r shape codes.DenyConflict kind f is = has_denial r shape kind f is
+has_told r shape codes.EOFErr kind f is = has_end r shape is
+has_told r shape code kind f is = has_nothing r is
+
+pub what_fits_a_request : (r : Reply) (kind : ReplyKind) (code : Code) → FitsRequest kind code r → Shows r kind code (canonical_reply r)
+unfolding layout_for
+what_fits_a_request r kind code h = has_told r (shape_of kind.command) code kind h.fits h.told
+
+-- ---- some request for each reply that fits
+
+shown_by : (r : Reply) (kind : ReplyKind) → FitsReply r → IsAsked (shape_of kind.command) kind r → IsShown r
+shown_by r kind f is = record { kind = kind; code = codes.Ok; bytes = canonical_reply r; shows = what_fits_a_request r kind codes.Ok (record { fits = f; told = is }) }
 
 is_wide_3 : layouts.is_wide 3 ≡ Some true
 unfolding layouts.is_wide
@@ -201,78 +353,42 @@ is_wide_1 : layouts.is_wide 1 ≡ Some false
 unfolding layouts.is_wide
 is_wide_1 = refl
 
-has_name : (wide : Bool) (name : List ℕ) → length name < 256 ^ width wide → Has (layouts.name wide) (replies.MappedName wide name) (counted (width wide) name ++ [])
-has_name wide name f = put_front (Counted (width wide)) _ name (counted (width wide) name) [] (f, refl) (refl, refl)
+shown_list : (wide : Bool) (fb db : ℕ) (all : List ListEntry) → FitsList wide fb db all → IsShown (replies.List wide fb db all)
+shown_list true fb db all f = shown_by (replies.List true fb db all) (request 66 fb db) f (command_66, refl, refl)
+shown_list false fb db all f = shown_by (replies.List false fb db all) (request 9 fb db) f (command_9, refl, refl)
 
 shown_name : (wide : Bool) (name : List ℕ) → length name < 256 ^ width wide → IsShown (replies.MappedName wide name)
-shown_name true name f =
-    shown_by 21 3 0 shapes.MappedName (replies.MappedName true name) (counted 2 name ++ []) command_21
-    (subst (λ (o : Option Bool). Has (layouts.mapped o) (replies.MappedName true name) (counted 2 name ++ [])) (sym is_wide_3) (has_name true name f))
-shown_name false name f =
-    shown_by 21 1 0 shapes.MappedName (replies.MappedName false name) (counted 1 name ++ []) command_21
-    (subst (λ (o : Option Bool). Has (layouts.mapped o) (replies.MappedName false name) (counted 1 name ++ [])) (sym is_wide_1) (has_name false name f))
-
-has_block : (kind bits : ℕ) (v : Values) → IsWithin (mask_of kind) bits → IsAnswer kind bits v → Has (layouts.params kind bits) (replies.Params bits v) (bytes.u16 bits ++ (params bits v ++ []))
-has_block kind bits v w a = put_front (Asked (mask_of kind) bits) _ tt (bytes.u16 bits) _ (w, refl) (has_params kind bits (λ x. replies.Params bits x) v a)
+shown_name true name f = shown_by (replies.MappedName true name) (request 21 3 0) f (command_21, is_wide_3)
+shown_name false name f = shown_by (replies.MappedName false name) (request 21 1 0) f (command_21, is_wide_1)
 
 shown_params : (bits : ℕ) (v : Values) → FitsReply (replies.Params bits v) → IsShown (replies.Params bits v)
-shown_params bits (kinds.Volume v) f =
-    shown_by 17 bits 0 shapes.VolumeParams (replies.Params bits (kinds.Volume v)) _ command_17 (has_block 0 bits (kinds.Volume v) f.1.within f.1.answer)
-shown_params bits (kinds.File v) f =
-    shown_by 14 bits 0 shapes.FileParams (replies.Params bits (kinds.File v)) _ command_14 (has_block 1 bits (kinds.File v) f.1.within f.1.answer)
+shown_params bits (kinds.Volume v) f = shown_by (replies.Params bits (kinds.Volume v)) (request 17 bits 0) f (command_17, refl)
+shown_params bits (kinds.File v) f = shown_by (replies.Params bits (kinds.File v)) (request 14 bits 0) f (command_14, refl)
 shown_params bits (kinds.Dir v) f = let le : 2 ≤ 1 = f.0 in absurd (omega arith)
 
 pub what_fits : (r : Reply) → FitsReply r → IsShown r
-what_fits replies.Empty f = shown_by 2 0 0 shapes.Empty replies.Empty [] command_2 (refl, refl)
-what_fits (replies.Start x) f = shown_by 1 0 0 shapes.Start (replies.Start x) _ command_1 (put_front (Number 4) _ x (bytes.u32 x) [] (f, refl) (refl, refl))
-what_fits (replies.StartExt x) f = shown_by 59 0 0 shapes.StartExt (replies.StartExt x) _ command_59 (put_front (Number 8) _ x (bytes.u64 x) [] (f, refl) (refl, refl))
-what_fits (replies.End x) f = shown_by 33 0 0 shapes.End (replies.End x) _ command_33 (put_front (Number 4) _ x (bytes.u32 x) [] (f, refl) (refl, refl))
-what_fits (replies.EndExt x) f = shown_by 61 0 0 shapes.EndExt (replies.EndExt x) _ command_61 (put_front (Number 8) _ x (bytes.u64 x) [] (f, refl) (refl, refl))
-what_fits (replies.Node id) f = shown_by 6 0 0 shapes.Node (replies.Node id) _ command_6 (put_front (Number 4) _ id.0 (bytes.u32 id.0) [] (f, refl) (refl, refl))
+what_fits replies.Empty f = shown_by replies.Empty (request 2 0 0) f command_2
+what_fits (replies.Start x) f = shown_by (replies.Start x) (request 1 0 0) f command_1
+what_fits (replies.StartExt x) f = shown_by (replies.StartExt x) (request 59 0 0) f command_59
+what_fits (replies.End x) f = shown_by (replies.End x) (request 33 0 0) f command_33
+what_fits (replies.EndExt x) f = shown_by (replies.EndExt x) (request 61 0 0) f command_61
+what_fits (replies.Node id) f = shown_by (replies.Node id) (request 6 0 0) f command_6
 what_fits (replies.List wide fb db all) f = shown_list wide fb db all f
 what_fits (replies.Params bits v) f = shown_params bits v f
-what_fits (replies.Status block) f = shown_by 15 0 0 shapes.Status (replies.Status block) block command_15 refl
-what_fits (replies.ServerParams time all) f =
-    let t : ℕ = cast_unsigned w32 time in
-    let back : cast_signed w32 t ≡ time = date_again time f.0 in
-    let small : t < 256 ^ 4 = (let lt : t < 2 ^ 32 = date_lt time f.0 in omega arith) in
-    shown_by 16 0 0 shapes.ServerParams (replies.ServerParams time all) _ command_16
-    (put_front (Number 4) _ t (bytes.u32 t) _ (small, refl) (put_front (Number 1) _ (length all) (bytes.u8 (length all)) _ (f.1, refl)
-    (shown_volumes all [] (λ x. Is (replies.ServerParams (cast_signed w32 t) x)) (replies.ServerParams time all) [] f.2 (ap (λ z. replies.ServerParams z all) (sym back), refl))))
+what_fits (replies.Status block) f = shown_by (replies.Status block) (request 15 0 0) f command_15
+what_fits (replies.ServerParams time all) f = shown_by (replies.ServerParams time all) (request 16 0 0) f command_16
 what_fits (replies.MappedName wide name) f = shown_name wide name f
-what_fits (replies.MappedId x) f = shown_by 22 0 0 shapes.MappedId (replies.MappedId x) _ command_22 (put_front (Number 4) _ x (bytes.u32 x) [] (f, refl) (refl, refl))
-what_fits (replies.Opened bits reference v) f =
-    shown_by 26 bits 0 shapes.Opened (replies.Opened bits reference v) _ command_26
-    (put_front (Asked _ bits) _ tt (bytes.u16 bits) _ (f.1.within, refl) (put_front (Number 2) _ reference.0 (bytes.u16 reference.0) _ (f.0, refl)
-    (has_params 1 bits (λ x. replies.Opened bits (record { 0 = reference.0 }) x) v f.1.answer)))
-what_fits (replies.Piece piece) f = shown_by 27 0 0 shapes.Data (replies.Piece piece) piece command_27 refl
-what_fits (replies.FileDirParams fb db v) f =
-    let dir : Bool = is_dir v in
-    shown_by 34 fb db shapes.FileDirParams (replies.FileDirParams fb db v) _ command_34
-    (put_front (Asked _ fb) _ tt (bytes.u16 fb) _ (f.0, refl) (put_front (Asked _ db) _ tt (bytes.u16 db) _ (f.1, refl)
-    (put_front Flag _ dir (flag_of dir ∷ []) _ refl (put_front Pad _ tt bytes.pad _ refl
-    (subst (λ (l : Layout). Has l (replies.FileDirParams fb db v) (params (bits_for dir fb db) v ++ [])) (sym (node_layout dir fb db))
-    (has_params (kind_for dir) (bits_for dir fb db) (λ x. replies.FileDirParams fb db x) v f.2))))))
-what_fits (replies.UserInfo bits id group) f =
-    shown_by 37 bits 0 shapes.UserInfo (replies.UserInfo bits id group) _ command_37
-    (put_front (Asked _ bits) _ tt (bytes.u16 bits) _ (f.0, refl)
-    (shown_optional (is_asked bits 0) (λ x. optional (is_asked bits 1) (λ y. Is (replies.UserInfo bits x y))) (replies.UserInfo bits id group) id _ f.1
-    (shown_optional (is_asked bits 1) (λ y. Is (replies.UserInfo bits id y)) (replies.UserInfo bits id group) group [] f.2 (refl, refl))))
-what_fits (replies.Message kind bits text) f =
-    shown_by 38 bits 0 shapes.Message (replies.Message kind bits text) _ command_38
-    (put_front (Number 2) _ kind (bytes.u16 kind) _ (f.0, refl) (put_front (Asked _ bits) _ tt (bytes.u16 bits) _ (f.1, refl)
-    (shown_text (is_asked bits 1) (is_asked bits 0) (λ x. Is (replies.Message kind bits x)) (replies.Message kind bits text) text [] f.2 (refl, refl))))
-what_fits (replies.Desk x) f = shown_by 48 0 0 shapes.Desk (replies.Desk x) _ command_48 (put_front (Number 2) _ x (bytes.u16 x) [] (f, refl) (refl, refl))
-what_fits (replies.IconInfo tag kind icon_kind size) f =
-    shown_by 52 0 0 shapes.IconInfo (replies.IconInfo tag kind icon_kind size) _ command_52
-    (put_front (Number 4) _ tag (bytes.u32 tag) _ (f.0, refl) (put_front (Raw 4) _ kind kind _ (f.1, refl) (put_front (Number 1) _ icon_kind (bytes.u8 icon_kind) _ (f.2, refl)
-    (put_front Pad _ tt bytes.pad _ refl (put_front (Number 2) _ size (bytes.u16 size) [] (f.3, refl) (refl, refl))))))
-what_fits (replies.Appl bits tag v) f =
-    shown_by 55 bits 0 shapes.Appl (replies.Appl bits tag v) _ command_55
-    (put_front (Asked _ bits) _ tt (bytes.u16 bits) _ (f.1.within, refl) (put_front (Number 4) _ tag (bytes.u32 tag) _ (f.0, refl)
-    (has_params 1 bits (λ x. replies.Appl bits tag x) v f.1.answer)))
-what_fits (replies.Comment x) f = shown_by 58 0 0 shapes.Comment (replies.Comment x) _ command_58 (put_front (Counted 1) _ x (counted 1 x) [] (f, refl) (refl, refl))
-what_fits (replies.Token x) f = shown_by 64 0 0 shapes.Token (replies.Token x) _ command_64 (put_front (Counted 4) _ x (counted 4 x) [] (f, refl) (refl, refl))
+what_fits (replies.MappedId x) f = shown_by (replies.MappedId x) (request 22 0 0) f command_22
+what_fits (replies.Opened bits reference v) f = shown_by (replies.Opened bits reference v) (request 26 bits 0) f (command_26, refl)
+what_fits (replies.Piece piece) f = shown_by (replies.Piece piece) (request 27 0 0) f (inl command_27)
+what_fits (replies.FileDirParams fb db v) f = shown_by (replies.FileDirParams fb db v) (request 34 fb db) f (command_34, refl, refl)
+what_fits (replies.UserInfo bits id group) f = shown_by (replies.UserInfo bits id group) (request 37 bits 0) f (command_37, refl)
+what_fits (replies.Message kind bits text) f = shown_by (replies.Message kind bits text) (request 38 bits 0) f (command_38, refl)
+what_fits (replies.Desk x) f = shown_by (replies.Desk x) (request 48 0 0) f command_48
+what_fits (replies.IconInfo tag kind icon_kind size) f = shown_by (replies.IconInfo tag kind icon_kind size) (request 52 0 0) f command_52
+what_fits (replies.Appl bits tag v) f = shown_by (replies.Appl bits tag v) (request 55 bits 0) f (command_55, refl)
+what_fits (replies.Comment x) f = shown_by (replies.Comment x) (request 58 0 0) f command_58
+what_fits (replies.Token x) f = shown_by (replies.Token x) (request 64 0 0) f command_64
 
 -- ---- the other way, and for the writer
 

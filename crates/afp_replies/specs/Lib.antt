@@ -6,5 +6,6 @@ pub mod Layouts
 pub mod Commands
 pub mod Replies
 pub mod Fitting
+pub mod Requested
 pub mod Reading
 pub mod Writing

@@ -7,6 +7,7 @@ ghost use Rattle.afp_replies.specs.declared.reply.ReplyKind.{ReplyKind};
 ghost use Rattle.afp_replies.specs.Entry.{entry_bytes, FitsEntry};
 ghost use Rattle.afp_replies.specs.Fitting.{FitsReply};
 ghost use Rattle.afp_replies.specs.Replies.{Shows, IsShown, canonical_reply};
+ghost use Rattle.afp_replies.specs.Requested.{FitsRequest};
 
 use afp_bitmap::one_block_for_each;
 
@@ -33,4 +34,11 @@ pub fn entries_are_even()
 /// can be counted, and whose values are those that their bits ask for.
 pub fn what_fits_is_shown()
     ensures { (r : Reply) → IsShown r ↔ FitsReply r }
+{}
+
+/// Just those replies are shown to a request of this kind, with this code, that fit and have the fields
+/// that the request asks for: by the bytes that are written.
+pub fn what_fits_a_request_is_shown_to_it()
+    ensures shown { (r : Reply) (kind : ReplyKind) (code : Code) → FitsRequest kind code r → Shows r kind code (canonical_reply r) }
+    ensures only { (r : Reply) (kind : ReplyKind) (code : Code) (bytes : List ℕ) → Shows r kind code bytes → FitsRequest kind code r }
 {}

@@ -15,7 +15,8 @@ mod write;
 
 pub use answer::read_reply;
 pub use laws::{
-    entries_are_even, one_reply_for_each, what_fits_is_shown, what_is_written_is_shown,
+    entries_are_even, one_reply_for_each, what_fits_a_request_is_shown_to_it, what_fits_is_shown,
+    what_is_written_is_shown,
 };
 pub use list::{ListEntry, ListRows};
 pub use reply::{Reply, ReplyFault, ReplyKind};
