@@ -5,11 +5,10 @@ use Rattle.std.specs.Fmt.{digits, digits_onto, digit_glyph}
 use Rattle.std.proofs.lemmas.Bool.{ne_eqb, eq-eqb, and_parts, leb-true, ltb-true}
 use Rattle.std.proofs.lemmas.List.{length-take-le, length-take, length-drop, length-map, length-append, take_min, append_assoc, drop_more}
 use Rattle.std.proofs.lemmas.List.Sums.{suffix_len_is, suffix_len-le-length}
-use Rattle.afp_names.specs.LongName.{shown_byte, is_long_name, is_extension, extension_of, stem_of, ending_of, shortened, long_name_of}
+use Rattle.afp_names.specs.LongName.{shown_byte, is_long_name, is_extension, extension_of, stem_of, ending_of, shortened, long_name_of, longest_long_name}
 use Rattle.afp_names.specs.MacRoman.{mac_roman_byte}
 use Rattle.unicode_normalization.specs.Forms.{nfc}
 use Rattle.std.specs.Char.{is_ascii_alphanumeric}
-use Rattle.afp_names.specs.declared.long_names.TheConstants.{LONGEST_LONG_NAME}
 
 -- no place from n on is a `.`
 abbrev pub NoDotFrom : List ℕ → ℕ → Type 0
@@ -100,24 +99,24 @@ length-ending_of text id small =
     let whole = length-append (35 ∷ digits 16 true id) (map shown_byte (extension_of text)) in
     omega (arith, digits', end, short, whole)
 
-pub length-shortened : (text : List ℕ) (id : ℕ) → id < 2 ^ 32 → length (shortened text id) ≤ LONGEST_LONG_NAME
+pub length-shortened : (text : List ℕ) (id : ℕ) → id < 2 ^ 32 → length (shortened text id) ≤ longest_long_name
 unfolding shortened
 length-shortened text id small =
     let end = length-ending_of text id small in
-    let front = length-map (take (LONGEST_LONG_NAME - length (ending_of text id)) (stem_of text)) shown_byte in
-    let cut = length-take (LONGEST_LONG_NAME - length (ending_of text id)) (stem_of text) in
-    let whole = length-append (map shown_byte (take (LONGEST_LONG_NAME - length (ending_of text id)) (stem_of text))) (ending_of text id) in
+    let front = length-map (take (longest_long_name - length (ending_of text id)) (stem_of text)) shown_byte in
+    let cut = length-take (longest_long_name - length (ending_of text id)) (stem_of text) in
+    let whole = length-append (map shown_byte (take (longest_long_name - length (ending_of text id)) (stem_of text))) (ending_of text id) in
     omega (arith, end, front, cut, whole)
 
-length-long_by : (t : Bool) (text : List ℕ) (id : ℕ) → is_long_name text ≡ t → id < 2 ^ 32 → length (if is_long_name text then map shown_byte text else shortened text id) ≤ LONGEST_LONG_NAME
+length-long_by : (t : Bool) (text : List ℕ) (id : ℕ) → is_long_name text ≡ t → id < 2 ^ 32 → length (if is_long_name text then map shown_byte text else shortened text id) ≤ longest_long_name
 unfolding is_long_name
 length-long_by true text id e small =
-    let short : length text ≤ LONGEST_LONG_NAME = leb-true _ _ (and_parts (nat_le (length text) LONGEST_LONG_NAME) (list_all (λ c. is_some (mac_roman_byte c)) text) e).0 in
+    let short : length text ≤ longest_long_name = leb-true _ _ (and_parts (nat_le (length text) longest_long_name) (list_all (λ c. is_some (mac_roman_byte c)) text) e).0 in
     let same = length-map text shown_byte in
     rw e (omega (arith, short, same))
 length-long_by false text id e small = rw e (length-shortened text id small)
 
-pub length-long_name_of : (name : List ℕ) (id : ℕ) → id < 2 ^ 32 → length (long_name_of name id) ≤ LONGEST_LONG_NAME
+pub length-long_name_of : (name : List ℕ) (id : ℕ) → id < 2 ^ 32 → length (long_name_of name id) ≤ longest_long_name
 unfolding long_name_of
 length-long_name_of name id small = length-long_by (is_long_name (nfc (chars name))) (nfc (chars name)) id refl small
 
@@ -126,8 +125,8 @@ pub ending_of-parts : (text : List ℕ) (id : ℕ) (a b d e out : List ℕ) → 
 unfolding ending_of
 ending_of-parts text id a b d e out ea ed eb ee eo = rw (eo, eb, ea, ed, ee) refl
 
-pub shortened-parts : (text : List ℕ) (id n : ℕ) (ext ending stem long put out : List ℕ) → ext ≡ extension_of text → ending ≡ ending_of text id → stem ≡ take (length text - length ext) text → n ≡ min (LONGEST_LONG_NAME - length ending) (length stem) → put ≡ long ++ map shown_byte (take n stem) → out ≡ put ++ ending → out ≡ long ++ shortened text id
+pub shortened-parts : (text : List ℕ) (id n : ℕ) (ext ending stem long put out : List ℕ) → ext ≡ extension_of text → ending ≡ ending_of text id → stem ≡ take (length text - length ext) text → n ≡ min (longest_long_name - length ending) (length stem) → put ≡ long ++ map shown_byte (take n stem) → out ≡ put ++ ending → out ≡ long ++ shortened text id
 unfolding shortened stem_of
 shortened-parts text id n ext ending stem long put out eext eend estem en eput eout =
-    let cut : take n stem ≡ take (LONGEST_LONG_NAME - length (ending_of text id)) (take (length text - length (extension_of text)) text) = rw (en, take_min (LONGEST_LONG_NAME - length ending) stem, estem, eext, eend) refl in
+    let cut : take n stem ≡ take (longest_long_name - length (ending_of text id)) (take (length text - length (extension_of text)) text) = rw (en, take_min (longest_long_name - length ending) stem, estem, eext, eend) refl in
     rw (eout, eput, cut, eend) (append_assoc long _ _)

@@ -5,13 +5,12 @@ use Rattle.std.proofs.lemmas.List.{append-nil, append_assoc, take_more, length-a
 use Rattle.std.proofs.lemmas.List.Elements.{All-from_get_or}
 use Rattle.std.proofs.lemmas.List.Folds.{list_any_none, list_any-append}
 use Rattle.std.proofs.lemmas.Str.{inside_one, length-encode, len_utf8_bounds}
-use Rattle.afp_names.specs.declared.long_names.TheConstants.{LONGEST_LONG_NAME}
-use Rattle.afp_names.specs.declared.name.TheConstants.{LONGEST_NAME}
 use Rattle.std.proofs.lemmas.Bool.{and_parts, not-true, eqb-true, ltb-false, ltb-true, leb-true, lt-ltb, le-ltb, eq-eqb, ne_eqb, eqb-false, both_ways}
 use Rattle.std.proofs.lemmas.List.Quantifiers.{position-Some}
 use Rattle.std.proofs.lemmas.List.Sums.{position_or_len_is}
-use Rattle.afp_names.specs.declared.mac_roman.TheConstants.{MAC_ROMAN}
-use Rattle.afp_names.specs.MacRoman.{mac_roman_char, mac_roman_byte, mac_roman_text}
+use Rattle.afp_names.specs.Name.{longest_name}
+use Rattle.afp_names.specs.LongName.{longest_long_name}
+use Rattle.afp_names.specs.MacRoman.{mac_roman_char, mac_roman_byte, mac_roman_text, upper_characters}
 
 -- the table's two readings, over any table
 abbrev pub char_in : List ℕ → ℕ → ℕ
@@ -79,13 +78,13 @@ char_in-byte table c b h = char_in-byte_by (nat_lt c 128) table c b refl h
 
 -- a byte is written as the character that it is read as
 pub mac_roman_byte-char : (b : ℕ) → b < 256 → mac_roman_byte (mac_roman_char b) ≡ Some b
-unfolding mac_roman_byte mac_roman_char
-mac_roman_byte-char b small = byte_in-char MAC_ROMAN b refl refl refl small
+unfolding mac_roman_byte mac_roman_char upper_characters
+mac_roman_byte-char b small = byte_in-char upper_characters b refl refl refl small
 
 -- a character is read from the byte that it is written as
 pub mac_roman_char-byte : (c b : ℕ) → mac_roman_byte c ≡ Some b → mac_roman_char b ≡ c
-unfolding mac_roman_byte mac_roman_char
-mac_roman_char-byte c b h = char_in-byte MAC_ROMAN c b h
+unfolding mac_roman_byte mac_roman_char upper_characters
+mac_roman_char-byte c b h = char_in-byte upper_characters c b h
 
 pub if_byte-char : (o : Option ℕ) (c : ℕ) → o ≡ mac_roman_byte c → IfSome o (λ byte. mac_roman_char byte ≡ c)
 if_byte-char None c e = tt
@@ -136,7 +135,7 @@ mac_roman_text-no_zero (b ∷ bytes) small none =
     or_false false y h = (refl, h)
 
 -- what a name's type keeps, of the text of 1 to 31 bytes of the character set
-pub mac_roman_text-name : (bytes : List ℕ) → ((k : ℕ) → get_or bytes k 0 < 256) → 0 < length bytes → length bytes ≤ LONGEST_LONG_NAME → list_any (λ byte. byte == 0) bytes ≡ false → (0 < length (mac_roman_text bytes)) × (length (mac_roman_text bytes) ≤ LONGEST_NAME) × (list_any (λ byte. byte == 0) (mac_roman_text bytes) ≡ false)
+pub mac_roman_text-name : (bytes : List ℕ) → ((k : ℕ) → get_or bytes k 0 < 256) → 0 < length bytes → length bytes ≤ longest_long_name → list_any (λ byte. byte == 0) bytes ≡ false → (0 < length (mac_roman_text bytes)) × (length (mac_roman_text bytes) ≤ longest_name) × (list_any (λ byte. byte == 0) (mac_roman_text bytes) ≡ false)
 mac_roman_text-name bytes small some short none =
     let len = mac_roman_text-length bytes in
     (omega (arith, len.0), omega (arith, len.1), mac_roman_text-no_zero bytes small none)

@@ -9,29 +9,28 @@ use Rattle.std.proofs.lemmas.List.Folds.{list_any_at, list_any_none}
 use Rattle.std.proofs.lemmas.Str.{chars_from_encodes, is_utf8-from_IsUtf8, IsUtf8-from_is_utf8}
 use Rattle.unicode_normalization.specs.Forms.{nfd}
 use Rattle.caseless.specs.Caseless.{default_case_fold}
-use Rattle.afp_names.specs.declared.name.TheConstants.{LONGEST_NAME}
 use Rattle.afp_names.specs.declared.name.NameFault.TheVariants.{Empty, TooLong, HasNul, NotUtf8}
-use Rattle.afp_names.specs.Name.{name_fault, IsName, name_key}
+use Rattle.afp_names.specs.Name.{name_fault, IsName, name_key, longest_name}
 
 pub name_fault-empty : (bs : List ℕ) → (length bs == 0) ≡ true → name_fault bs ≡ Some Empty
 unfolding name_fault
 name_fault-empty bs e = rw e refl
 
-pub name_fault-long : (bs : List ℕ) → (length bs == 0) ≡ false → LONGEST_NAME < length bs → name_fault bs ≡ Some TooLong
+pub name_fault-long : (bs : List ℕ) → (length bs == 0) ≡ false → longest_name < length bs → name_fault bs ≡ Some TooLong
 unfolding name_fault
-name_fault-long bs some long = let over : nat_lt LONGEST_NAME (length bs) ≡ true = grind (arith, nat_tests) in rw (some, over) refl
+name_fault-long bs some long = let over : nat_lt longest_name (length bs) ≡ true = grind (arith, nat_tests) in rw (some, over) refl
 
-pub name_fault-zero : (bs : List ℕ) → (length bs == 0) ≡ false → length bs ≤ LONGEST_NAME → list_any (λ byte. byte == 0) bs ≡ true → name_fault bs ≡ Some HasNul
+pub name_fault-zero : (bs : List ℕ) → (length bs == 0) ≡ false → length bs ≤ longest_name → list_any (λ byte. byte == 0) bs ≡ true → name_fault bs ≡ Some HasNul
 unfolding name_fault
-name_fault-zero bs some short zero = let within : nat_lt LONGEST_NAME (length bs) ≡ false = grind (arith, nat_tests) in rw (some, within, zero) refl
+name_fault-zero bs some short zero = let within : nat_lt longest_name (length bs) ≡ false = grind (arith, nat_tests) in rw (some, within, zero) refl
 
-pub name_fault-text : (bs : List ℕ) → (length bs == 0) ≡ false → length bs ≤ LONGEST_NAME → list_any (λ byte. byte == 0) bs ≡ false → is_utf8 bs ≡ false → name_fault bs ≡ Some NotUtf8
+pub name_fault-text : (bs : List ℕ) → (length bs == 0) ≡ false → length bs ≤ longest_name → list_any (λ byte. byte == 0) bs ≡ false → is_utf8 bs ≡ false → name_fault bs ≡ Some NotUtf8
 unfolding name_fault
-name_fault-text bs some short no_zero text = let within : nat_lt LONGEST_NAME (length bs) ≡ false = grind (arith, nat_tests) in rw (some, within, no_zero, text) refl
+name_fault-text bs some short no_zero text = let within : nat_lt longest_name (length bs) ≡ false = grind (arith, nat_tests) in rw (some, within, no_zero, text) refl
 
-pub name_fault-none : (bs : List ℕ) → (length bs == 0) ≡ false → length bs ≤ LONGEST_NAME → list_any (λ byte. byte == 0) bs ≡ false → is_utf8 bs ≡ true → name_fault bs ≡ None
+pub name_fault-none : (bs : List ℕ) → (length bs == 0) ≡ false → length bs ≤ longest_name → list_any (λ byte. byte == 0) bs ≡ false → is_utf8 bs ≡ true → name_fault bs ≡ None
 unfolding name_fault
-name_fault-none bs some short no_zero text = let within : nat_lt LONGEST_NAME (length bs) ≡ false = grind (arith, nat_tests) in rw (some, within, no_zero, text) refl
+name_fault-none bs some short no_zero text = let within : nat_lt longest_name (length bs) ≡ false = grind (arith, nat_tests) in rw (some, within, no_zero, text) refl
 
 false_from : (b : Bool) → (b ≡ true → ⊥) → b ≡ false
 false_from true h = absurd (h refl)
@@ -48,14 +47,14 @@ name_key-steps n d f k du fu de fe ke =
     rw (dc, fc) ke
 
 -- the parts of a name that its type keeps
-pub name_fault-parts : (bs : List ℕ) → name_fault bs ≡ None → (0 < length bs) × (length bs ≤ LONGEST_NAME) × (list_any (λ byte. byte == 0) bs ≡ false)
+pub name_fault-parts : (bs : List ℕ) → name_fault bs ≡ None → (0 < length bs) × (length bs ≤ longest_name) × (list_any (λ byte. byte == 0) bs ≡ false)
 unfolding name_fault
-name_fault-parts bs h = parts (length bs == 0) (nat_lt LONGEST_NAME (length bs)) (list_any (λ byte. byte == 0) bs) refl refl refl h
+name_fault-parts bs h = parts (length bs == 0) (nat_lt longest_name (length bs)) (list_any (λ byte. byte == 0) bs) refl refl refl h
   where
-    parts : (e l z : Bool) → (length bs == 0) ≡ e → nat_lt LONGEST_NAME (length bs) ≡ l → list_any (λ byte. byte == 0) bs ≡ z → name_fault bs ≡ None → (0 < length bs) × (length bs ≤ LONGEST_NAME) × (list_any (λ byte. byte == 0) bs ≡ false)
+    parts : (e l z : Bool) → (length bs == 0) ≡ e → nat_lt longest_name (length bs) ≡ l → list_any (λ byte. byte == 0) bs ≡ z → name_fault bs ≡ None → (0 < length bs) × (length bs ≤ longest_name) × (list_any (λ byte. byte == 0) bs ≡ false)
     parts true l z ee le ze h = absurd (let k = sym (name_fault-empty bs ee) ∙ h in cc)
-    parts false true z ee le ze h = absurd (let long : LONGEST_NAME < length bs = grind (arith, nat_tests) in let k = sym (name_fault-long bs ee long) ∙ h in cc)
-    parts false false true ee le ze h = absurd (let short : length bs ≤ LONGEST_NAME = grind (arith, nat_tests) in let k = sym (name_fault-zero bs ee short ze) ∙ h in cc)
+    parts false true z ee le ze h = absurd (let long : longest_name < length bs = grind (arith, nat_tests) in let k = sym (name_fault-long bs ee long) ∙ h in cc)
+    parts false false true ee le ze h = absurd (let short : length bs ≤ longest_name = grind (arith, nat_tests) in let k = sym (name_fault-zero bs ee short ze) ∙ h in cc)
     parts false false false ee le ze h = (grind (arith, nat_tests), grind (arith, nat_tests), ze)
 
 pub IsName-from_none : (bs : List ℕ) → name_fault bs ≡ None → IsUtf8 bs → IsName bs
@@ -77,5 +76,5 @@ name_fault-IsName bs = (
   λ name. name_fault-none bs (ne_eqb (length bs) 0 (λ z. omega (arith, name.not_empty))) name.short (list_any_none (λ byte. byte == 0) bs (All-weaker (λ byte. byte ≡ 0 → ⊥) (λ byte. (byte == 0) ≡ false) (λ byte h. ne_eqb byte 0 h) bs name.no_zero)) (is_utf8-from_IsUtf8 bs name.utf8),
 )
 
-pub name_fault-none_from : (bs : List ℕ) → (0 < length bs) × (length bs ≤ LONGEST_NAME) × (list_any (λ byte. byte == 0) bs ≡ false) → IsUtf8 bs → name_fault bs ≡ None
+pub name_fault-none_from : (bs : List ℕ) → (0 < length bs) × (length bs ≤ longest_name) × (list_any (λ byte. byte == 0) bs ≡ false) → IsUtf8 bs → name_fault bs ≡ None
 name_fault-none_from bs parts text = name_fault-none bs (ne_eqb (length bs) 0 (λ z. omega (arith, parts.0))) parts.1 parts.2 (is_utf8-from_IsUtf8 bs text)

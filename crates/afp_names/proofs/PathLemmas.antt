@@ -4,9 +4,9 @@ use Rattle.std.specs.List.{list_any, position_or_len}
 use Rattle.std.proofs.lemmas.Bool.{ne_eqb, eq-eqb}
 use Rattle.std.proofs.lemmas.List.{append_assoc, append-nil, drop-drop, drop_all, take_all, length-drop}
 use Rattle.std.proofs.lemmas.List.Sums.{position_or_len_is, prefix_len-le-length}
+use Rattle.afp_names.specs.LongName.{longest_long_name}
 use Rattle.afp_names.specs.declared.path.Step.{Step}
 use Rattle.afp_names.specs.declared.path.Step.TheVariants.{Up, Down}
-use Rattle.afp_names.specs.declared.long_names.TheConstants.{LONGEST_LONG_NAME}
 use Rattle.afp_names.specs.declared.name.NameFault.{NameFault}
 use Rattle.afp_names.specs.declared.name.NameFault.TheVariants.{Memory}
 use Rattle.afp_names.specs.Name.{name_fault}
@@ -231,7 +231,7 @@ pub is_element-utf8 : (kind : ℕ) (bytes : List ℕ) → (kind ≡ 2 → ⊥) �
 unfolding is_element
 is_element-utf8 kind bytes other = rw (ne_eqb kind 2 other) refl
 
-pub is_element-long : (kind : ℕ) (bytes : List ℕ) → kind ≡ 2 → is_element kind bytes ≡ nat_le (length bytes) LONGEST_LONG_NAME
+pub is_element-long : (kind : ℕ) (bytes : List ℕ) → kind ≡ 2 → is_element kind bytes ≡ nat_le (length bytes) longest_long_name
 unfolding is_element
 is_element-long kind bytes long = rw long refl
 

@@ -5,13 +5,11 @@ use Rattle.std.proofs.lemmas.Bool.{ne_eqb, eqb-true, both_ways, and_from, ltb-fa
 use Rattle.std.proofs.lemmas.List.{length-append}
 use Rattle.std.proofs.lemmas.Str.{chars-encodes}
 use lib.Utf8.{scalar, scalars, low_scalar}
-use Rattle.afp_names.specs.declared.mac_roman.TheConstants.{MAC_ROMAN}
-use Rattle.afp_names.specs.declared.path.TheConstants.{LONGEST_PATH, LONGEST_LONG_PATH}
 use Rattle.afp_names.specs.declared.path.Step.{Step}
 use Rattle.afp_names.specs.declared.path.Step.TheVariants.{Up, Down}
-use Rattle.afp_names.specs.MacRoman.{mac_roman_char}
+use Rattle.afp_names.specs.MacRoman.{mac_roman_char, upper_characters}
 use Rattle.afp_names.specs.LongName.{shown_byte}
-use Rattle.afp_names.specs.Path.{Run, ZeroRun, ElementRun, onto_runs, runs, run_steps, is_bad_run, is_element, element_name, element_of, has_bad_element, path_fault, path_steps, IsPath, steps_bytes, canonical_path, longest_path}
+use Rattle.afp_names.specs.Path.{Run, ZeroRun, ElementRun, onto_runs, runs, run_steps, is_bad_run, is_element, element_name, element_of, has_bad_element, path_fault, path_steps, IsPath, steps_bytes, canonical_path, longest_path, longest_utf8_path, longest_long_path}
 use Rattle.afp_names.proofs.MacRomanLemmas.{passes_at, mac_roman_byte-char}
 use Rattle.afp_names.proofs.PathLemmas.{BeginsNoZeroRun, BeginsNoElement, onto-zero, byte_onto, path_steps-nil, has_bad-nil}
 
@@ -86,9 +84,9 @@ size_of-runs (b ∷ bytes) = omega (arith, size_of-onto b (runs bytes), size_of-
 
 -- an element that was read is spelt by the same bytes
 scalar_by : (t : Bool) (b : ℕ) → nat_lt b 128 ≡ t → b < 256 → scalar (mac_roman_char b) ≡ true
-unfolding mac_roman_char
+unfolding mac_roman_char upper_characters
 scalar_by true b e small = rw e (low_scalar b (let low = ltb-true b 128 e in omega arith))
-scalar_by false b e small = rw e (passes_at scalar MAC_ROMAN (b - 128) refl (let low = ltb-false b 128 e in omega arith))
+scalar_by false b e small = rw e (passes_at scalar upper_characters (b - 128) refl (let low = ltb-false b 128 e in omega arith))
 
 scalars_of : (bytes : List ℕ) → AllBytes bytes → scalars (map mac_roman_char bytes) ≡ true
 scalars_of [] small = refl
@@ -256,11 +254,11 @@ runs_size kind (ElementRun bytes ∷ rest) h =
     let more = (runs_size kind rest h.2).1 h.1 (Some (Down name)) in
     (λ before. omega (arith, down_size kind before name (flat_map (run_steps kind) rest), same, more), λ clear. absurd clear)
 
-longest_by : (t : Bool) (kind n : ℕ) → (kind == 2) ≡ t → n ≤ LONGEST_PATH → (kind ≡ 2 → n ≤ LONGEST_LONG_PATH) → n ≤ longest_path kind
+longest_by : (t : Bool) (kind n : ℕ) → (kind == 2) ≡ t → n ≤ longest_utf8_path → (kind ≡ 2 → n ≤ longest_long_path) → n ≤ longest_path kind
 longest_by true kind n e fits long = rw e (long (eqb-true kind 2 e))
 longest_by false kind n e fits long = rw e fits
 
-pub within_longest : (kind n : ℕ) → n ≤ LONGEST_PATH → (kind ≡ 2 → n ≤ LONGEST_LONG_PATH) → n ≤ longest_path kind
+pub within_longest : (kind n : ℕ) → n ≤ longest_utf8_path → (kind ≡ 2 → n ≤ longest_long_path) → n ≤ longest_path kind
 within_longest kind n fits long = longest_by (kind == 2) kind n refl fits long
 
 -- the canonical spelling of a path that is read is no longer than the bytes that it is read from

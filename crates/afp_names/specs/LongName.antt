@@ -4,8 +4,14 @@ use Rattle.std.specs.List.{list_all, before_last, after_last}
 use Rattle.std.specs.Char.{is_ascii_alphanumeric}
 use Rattle.std.specs.Fmt.{digits}
 use Rattle.unicode_normalization.specs.Forms.{nfc}
-use Rattle.afp_names.specs.declared.long_names.TheConstants.{LONGEST_LONG_NAME, LONGEST_EXTENSION}
 use Rattle.afp_names.specs.MacRoman.{mac_roman_byte}
+
+-- the most bytes of a long name (AFP Reference, "Long names"), and the most characters of an extension (this profile)
+abbrev pub longest_long_name : ℕ
+longest_long_name = 31
+
+abbrev pub longest_extension : ℕ
+longest_extension = 4
 
 -- `#`, `.` and `?`, as characters and as bytes
 abbrev pub number_sign : ℕ
@@ -23,11 +29,11 @@ shown_byte c = unwrap_or (mac_roman_byte c) question_mark
 
 -- whether a text is a long name as it stands
 unfoldable pub is_long_name : List ℕ → Bool
-is_long_name text = nat_le (length text) LONGEST_LONG_NAME && list_all (λ c. is_some (mac_roman_byte c)) text
+is_long_name text = nat_le (length text) longest_long_name && list_all (λ c. is_some (mac_roman_byte c)) text
 
 -- 1 to 4 ASCII letters or digits
 unfoldable pub is_extension : List ℕ → Bool
-is_extension behind = nat_lt 0 (length behind) && (nat_le (length behind) LONGEST_EXTENSION && list_all is_ascii_alphanumeric behind)
+is_extension behind = nat_lt 0 (length behind) && (nat_le (length behind) longest_extension && list_all is_ascii_alphanumeric behind)
 
 -- the last `.` and what stands behind it, where that is an extension and something stands before the `.`; else nothing
 unfoldable pub extension_of : List ℕ → List ℕ
@@ -46,7 +52,7 @@ ending_of text id = (number_sign ∷ digits 16 true id) ++ map shown_byte (exten
 
 -- the stem, cut so that the whole has at most 31 bytes, and the ending
 unfoldable pub shortened : List ℕ → ℕ → List ℕ
-shortened text id = map shown_byte (take (LONGEST_LONG_NAME - length (ending_of text id)) (stem_of text)) ++ ending_of text id
+shortened text id = map shown_byte (take (longest_long_name - length (ending_of text id)) (stem_of text)) ++ ending_of text id
 
 -- the name in form C where that is a long name as it stands, else its shortened name
 unfoldable pub long_name_of : List ℕ → ℕ → List ℕ

@@ -1,8 +1,6 @@
 -- Paths (AFP Reference, "Pathnames"; the edges of reading are this profile's).
 use Rattle.std.specs.Prelude.{ℕ, zero, suc, ◌≡◌, ◌≤◌, ◌-◌, ◌==◌, ◌||◌, Bool, false, not, List, [], ◌∷◌, ◌++◌, length, map, flat_map, replicate, Option, Some, None, is_none, nat_le, if◌then◌else◌, chars}
 use Rattle.std.specs.List.{list_any}
-use Rattle.afp_names.specs.declared.long_names.TheConstants.{LONGEST_LONG_NAME}
-use Rattle.afp_names.specs.declared.path.TheConstants.{LONG_NAMES, UTF8_NAMES, LONGEST_PATH, LONGEST_LONG_PATH}
 use Rattle.afp_names.specs.declared.path.PathFault.{PathFault}
 use Rattle.afp_names.specs.declared.path.PathFault.TheVariants.{Kind, Element}
 use Rattle.afp_names.specs.declared.path.Step.{Step}
@@ -10,7 +8,14 @@ use Rattle.afp_names.specs.declared.path.Step.TheVariants.{Up, Down}
 use Rattle.afp_base.specs.Choice.{first_holding}
 use Rattle.afp_names.specs.Name.{name_fault}
 use Rattle.afp_names.specs.MacRoman.{mac_roman_text}
-use Rattle.afp_names.specs.LongName.{shown_byte}
+use Rattle.afp_names.specs.LongName.{longest_long_name, shown_byte}
+
+-- the kinds of paths: of long names, and of names in UTF-8 (AFP Reference, "Pathnames")
+abbrev pub long_names : ℕ
+long_names = 2
+
+abbrev pub utf8_names : ℕ
+utf8_names = 3
 
 -- how a path's names are spelt, and its steps
 pub record PathValue : Type 0 where
@@ -36,11 +41,11 @@ runs (b ∷ bytes) = onto_runs b (runs bytes)
 
 -- whether an element spells a name: in kind 2 at most 31 bytes of the long names' character set, in kind 3 a name
 unfoldable pub is_element : ℕ → List ℕ → Bool
-is_element kind bytes = if kind == LONG_NAMES then nat_le (length bytes) LONGEST_LONG_NAME else is_none (name_fault bytes)
+is_element kind bytes = if kind == long_names then nat_le (length bytes) longest_long_name else is_none (name_fault bytes)
 
 -- the name that an element spells
 unfoldable pub element_name : ℕ → List ℕ → List ℕ
-element_name kind bytes = if kind == LONG_NAMES then mac_roman_text bytes else bytes
+element_name kind bytes = if kind == long_names then mac_roman_text bytes else bytes
 
 -- whether a run is an element that spells no name
 abbrev pub is_bad_run : ℕ → Run → Bool
@@ -59,7 +64,7 @@ run_steps kind (ElementRun bytes) = Down (element_name kind bytes) ∷ []
 -- why bytes are no path of that kind: the first of these rows that holds
 unfoldable pub path_fault : ℕ → List ℕ → Option PathFault
 path_fault kind bytes = first_holding (
-    (not (kind == LONG_NAMES || kind == UTF8_NAMES), Kind)
+    (not (kind == long_names || kind == utf8_names), Kind)
     ∷ (has_bad_element kind bytes, Element)
     ∷ [])
 
@@ -74,7 +79,7 @@ pub record SpellsPath (bytes : List ℕ) (path : PathValue) : Type 0 where
 
 -- the element by which a step down to a name is spelt
 unfoldable pub element_of : ℕ → List ℕ → List ℕ
-element_of kind name = if kind == LONG_NAMES then map shown_byte (chars name) else name
+element_of kind name = if kind == long_names then map shown_byte (chars name) else name
 
 -- the bytes of a step behind the step before it: a zero byte parts two names, and k steps up have k + 1 zero bytes
 abbrev pub step_bytes : ℕ → Option Step → Step → List ℕ
@@ -94,9 +99,15 @@ steps_bytes kind before (step ∷ steps) = step_bytes kind before step ++ steps_
 unfoldable pub canonical_path : PathValue → List ℕ
 canonical_path path = steps_bytes path.kind None path.steps
 
--- the most bytes of a path of that kind, since its length is sent in one byte, or in two
+-- the most bytes of a path, since its length is sent in one byte where it is of long names, and else in two
+abbrev pub longest_long_path : ℕ
+longest_long_path = 255
+
+abbrev pub longest_utf8_path : ℕ
+longest_utf8_path = 65535
+
 abbrev pub longest_path : ℕ → ℕ
-longest_path kind = if kind == LONG_NAMES then LONGEST_LONG_PATH else LONGEST_PATH
+longest_path kind = if kind == long_names then longest_long_path else longest_utf8_path
 
 -- a path: its canonical spelling may be sent, and is read as it again
 pub record IsPath (path : PathValue) : Type 0 where

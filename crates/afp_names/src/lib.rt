@@ -10,4 +10,7 @@ mod tests;
 
 pub use long_names::{LONGEST_EXTENSION, LONGEST_LONG_NAME, long_name};
 pub use name::{LONGEST_NAME, Name, NameFault};
-pub use path::{LONG_NAMES, LONGEST_LONG_PATH, LONGEST_PATH, Path, PathFault, Step, UTF8_NAMES};
+pub use path::{
+    LONG_NAMES, LONGEST_LONG_PATH, LONGEST_PATH, Path, PathFault, Step, UTF8_NAMES,
+    longest_paths_are_as_sent,
+};

@@ -5,7 +5,7 @@ ghost use Rattle.std.specs.Char.{is_ascii_alphanumeric};
 ghost use Rattle.std.specs.Fmt.{digits};
 ghost use Rattle.unicode_normalization.specs.Forms.{nfc};
 ghost use Rattle.afp_names.specs.MacRoman.{mac_roman_byte};
-ghost use Rattle.afp_names.specs.LongName.{full_stop, shown_byte, is_long_name, is_extension, extension_of, stem_of, ending_of, shortened, long_name_of};
+ghost use Rattle.afp_names.specs.LongName.{longest_long_name, full_stop, shown_byte, is_long_name, is_extension, extension_of, stem_of, ending_of, shortened, long_name_of};
 
 use crate::mac_roman::byte_of;
 use crate::name::Name;
@@ -27,7 +27,7 @@ pub const LONGEST_EXTENSION: usize = 4;
 /// the name's extension, with `?` for each character that the character set lacks.
 pub fn long_name(alloc: Global, name: &Name, id: NodeId) -> Result<Bytes, OutOfMemory>
     ensures name { IfOk result (λ long. long ≡ long_name_of name.now id.0) }
-    ensures short { IfOk result (λ long. length long ≤ LONGEST_LONG_NAME) }
+    ensures short { IfOk result (λ long. length long ≤ longest_long_name) }
 {
     let text = composed(alloc, name)?;
     let mut long = Bytes::new(alloc);
@@ -111,7 +111,7 @@ fn put_shortened(
 /// What follows the stem: `#`, the id, and the extension.
 fn ending(alloc: Global, text: &[char], id: NodeId) -> Result<Bytes, OutOfMemory>
     ensures bytes { IfOk result (λ ending. ending ≡ ending_of text.now id.0) }
-    ensures short { IfOk result (λ ending. length ending ≤ LONGEST_LONG_NAME) }
+    ensures short { IfOk result (λ ending. length ending ≤ longest_long_name) }
 {
     let mut ending = Bytes::new(alloc);
     ending.extend(b"#")?;

@@ -1,8 +1,9 @@
 //! Names, and the keys by which names are told apart.
 ghost use Rattle.std.specs.Prelude.{◌≡◌, ◌≢◌, ◌↔◌, ◌⊎◌, ℕ, List, None, Some, ◌==◌, ◌<◌, ◌≤◌, nat_lt, false, length, IfOk, IfErr, OnOk, MatchOption, MatchResult};
 ghost use Rattle.std.specs.List.{list_any};
+ghost use Rattle.afp_names.specs.LongName.{longest_long_name};
 ghost use Rattle.afp_names.specs.MacRoman.{mac_roman_text};
-ghost use Rattle.afp_names.specs.Name.{name_fault, IsName, name_key};
+ghost use Rattle.afp_names.specs.Name.{longest_name, name_fault, IsName, name_key};
 
 use crate::long_names::LONGEST_LONG_NAME;
 use crate::mac_roman::mac_roman_text;
@@ -66,7 +67,7 @@ impl Name {
     /// The name that bytes of a long name spell.
     pub(crate) fn from_mac_roman(alloc: Global, bytes: &[u8]) -> Result<Name, OutOfMemory>
         requires not_empty { 0 < length bytes.now }
-        requires short { length bytes.now ≤ LONGEST_LONG_NAME }
+        requires short { length bytes.now ≤ longest_long_name }
         requires no_zero { list_any (λ byte. byte == 0) bytes.now ≡ false }
         ensures { IfOk result (λ name. name ≡ mac_roman_text bytes.now) }
     {
@@ -128,7 +129,7 @@ fn text_of(bytes: &[u8]) -> Result<&str, NameFault>
 }
 
 fn is_too_long(bytes: &[u8]) -> bool
-    ensures { result ≡ nat_lt LONGEST_NAME (length bytes.now) }
+    ensures { result ≡ nat_lt longest_name (length bytes.now) }
 {
     bytes.len() > LONGEST_NAME
 }

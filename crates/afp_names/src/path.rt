@@ -1,7 +1,8 @@
 //! Paths: steps up and down from a directory.
 ghost use Rattle.std.specs.Prelude.{◌≡◌, ◌≢◌, ◌||◌, ◌<◌, ◌≤◌, ◌⊎◌, ◌++◌, ◌==◌, nat_le, not, true, false, Some, None, [], ◌∷◌, replicate, length, slice_get, IfOk, IfErr, OnOk};
 ghost use Rattle.std.specs.List.{list_any, position_or_len};
-ghost use Rattle.afp_names.specs.Path.{PathValue, IsPath, SpellsPath, canonical_path, path_fault, path_steps, has_bad_element, is_element, element_name};
+ghost use Rattle.afp_names.specs.LongName.{longest_long_name};
+ghost use Rattle.afp_names.specs.Path.{long_names, utf8_names, longest_long_path, longest_utf8_path, PathValue, IsPath, SpellsPath, canonical_path, path_fault, path_steps, has_bad_element, is_element, element_name};
 
 use crate::long_names::LONGEST_LONG_NAME;
 use crate::name::{Name, NameFault};
@@ -20,6 +21,12 @@ pub const LONGEST_PATH: usize = 65_535;
 
 /// The most bytes of a path of kind [`LONG_NAMES`].
 pub const LONGEST_LONG_PATH: usize = 255;
+
+/// [`LONGEST_PATH`] and [`LONGEST_LONG_PATH`] are the most bytes that contracts speak of.
+pub fn longest_paths_are_as_sent()
+    ensures utf8 { LONGEST_PATH ≡ longest_utf8_path }
+    ensures long { LONGEST_LONG_PATH ≡ longest_long_path }
+{}
 
 /// A step of a path: to the parent, or to the child of that name.
 #[derive(Debug, Drop)]
@@ -56,7 +63,8 @@ pub struct Path {
 }
 
 impl Model for Path {
-    ghost use Rattle.afp_names.specs.Path.{PathValue, IsPath};
+    ghost use Rattle.afp_names.specs.LongName.{longest_long_name};
+    ghost use Rattle.afp_names.specs.Path.{long_names, utf8_names, longest_long_path, longest_utf8_path, PathValue, IsPath};
 
     ghost Value = { PathValue };
 
@@ -69,8 +77,8 @@ impl Path {
     /// The path that these bytes spell. Each run of bytes other than 0 is a step down to the name
     /// that it spells, and each run of k zero bytes is k - 1 steps up, wherever it stands.
     pub fn read(alloc: Global, kind: u8, bytes: &[u8]) -> Result<Path, PathFault>
-        requires fits { length bytes.now ≤ LONGEST_PATH }
-        requires long { kind ≡ LONG_NAMES → length bytes.now ≤ LONGEST_LONG_PATH }
+        requires fits { length bytes.now ≤ longest_utf8_path }
+        requires long { kind ≡ long_names → length bytes.now ≤ longest_long_path }
         ensures kind { IfOk result (λ path. path.kind ≡ kind) }
         ensures path { IfOk result (λ path. SpellsPath bytes.now path) }
         ensures fault { IfErr result (λ fault. (fault ≡ PathFault.Memory) ⊎ (path_fault kind bytes.now ≡ Some fault)) }
@@ -113,7 +121,7 @@ impl Path {
 }
 
 fn is_kind(kind: u8) -> bool
-    ensures { result ≡ (kind == LONG_NAMES || kind == UTF8_NAMES) }
+    ensures { result ≡ (kind == long_names || kind == utf8_names) }
 {
     kind == LONG_NAMES || kind == UTF8_NAMES
 }
@@ -209,7 +217,7 @@ fn read_element(alloc: Global, kind: u8, element: &[u8]) -> Result<Name, PathFau
 }
 
 fn fits_long_name(element: &[u8]) -> bool
-    ensures { result ≡ nat_le (length element.now) LONGEST_LONG_NAME }
+    ensures { result ≡ nat_le (length element.now) longest_long_name }
 {
     element.len() <= LONGEST_LONG_NAME
 }
