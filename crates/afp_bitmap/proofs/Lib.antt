@@ -16,3 +16,4 @@ pub mod Blocks
 pub mod Judgements
 pub mod ByKind
 pub mod Patches
+pub mod Offsets

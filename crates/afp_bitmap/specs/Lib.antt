@@ -2,6 +2,7 @@ pub mod Bits
 pub mod Field
 pub mod Table
 pub mod Params
+pub mod Offsets
 pub mod Reading
 pub mod Read
 pub mod Writing

@@ -18,7 +18,7 @@ mod write;
 pub use bits::{DirBits, FileBits, VolumeBits};
 pub use directory::DirValues;
 pub use file::FileValues;
-pub use laws::one_block_for_each;
+pub use laws::{names_stand_at_their_offsets, one_block_for_each};
 pub use params::{ParamFault, Values, put_params, read_params};
 pub use volume::VolumeValues;
 
