@@ -18,7 +18,7 @@ use std::alloc::Global;
 
 /// What is told of a directory, in the order of the bits (AFP Reference, "Directory Bitmap"). A field that
 /// was not asked is zero or empty.
-#[derive(Debug, Drop)]
+#[derive(Drop)]
 pub struct DirValues {
     /// The attribute bits.
     pub attributes: u16,

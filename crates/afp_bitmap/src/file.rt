@@ -18,7 +18,7 @@ use std::alloc::Global;
 
 /// What is told of a file, in the order of the bits (AFP Reference, "File Bitmap"). A field that
 /// was not asked is zero or empty.
-#[derive(Debug, Drop)]
+#[derive(Drop)]
 pub struct FileValues {
     /// The attribute bits.
     pub attributes: u16,

@@ -15,7 +15,7 @@ use afp_base::{Bytes, OutOfMemory};
 use std::alloc::Global;
 
 /// What is told of a volume, a file or a directory.
-#[derive(Debug, Drop)]
+#[derive(Drop)]
 pub enum Values {
     Volume(VolumeValues),
     File(FileValues),

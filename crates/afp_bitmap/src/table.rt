@@ -4,7 +4,7 @@ ghost use Rattle.afp_bitmap.specs.Bits.{is_asked};
 ghost use Rattle.afp_bitmap.specs.Reading.{size_of, asked_size};
 
 /// How a field stands in the fixed part.
-#[derive(Clone, Copy, Debug)]
+#[derive(Clone, Copy)]
 pub(crate) enum Shape {
     /// So many bytes with its value.
     Plain(usize),
@@ -28,7 +28,7 @@ impl Shape {
 }
 
 /// A bit, and the shape of the field that it asks for.
-#[derive(Clone, Copy, Debug)]
+#[derive(Clone, Copy)]
 pub(crate) struct Slot(pub(crate) u32, pub(crate) Shape);
 
 /// The bit is set.
