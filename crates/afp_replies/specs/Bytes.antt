@@ -1,7 +1,7 @@
 -- The bytes of fields, as they are written (AFP Reference, "AFP Calls"). All numbers are big-endian.
 use Rattle.std.specs.Prelude.{ℕ, Bool, true, false, List, [], ◌∷◌, ◌++◌, length, Option, Some, None}
 use Rattle.byteorder.specs.Endian.{big_bytes}
-use Rattle.afp_replies.specs.declared.fields.TheConstants.{DIRECTORY}
+use Rattle.afp_replies.specs.Numbers.{directory_flag}
 
 -- a number of 1, 2, 4 and 8 bytes
 abbrev pub u8 : ℕ → List ℕ
@@ -31,7 +31,7 @@ counted n text = big_bytes n (length text) ++ text
 
 -- the flag of a directory, and that of a file (AFP Reference, FPGetFileDirParms)
 abbrev pub flag_of : Bool → ℕ
-flag_of true = DIRECTORY
+flag_of true = directory_flag
 flag_of false = 0
 
 -- how many bytes a count or a length has: 1 where it is narrow, 2 where it is wide

@@ -4,8 +4,8 @@ use Rattle.afp_base.specs.declared.code.Code.{Code}
 use Rattle.afp_base.specs.declared.code.Code.TheVariants as codes
 use Rattle.afp_replies.specs.declared.commands.Shape.{Shape}
 use Rattle.afp_replies.specs.declared.commands.Shape.TheVariants.{Unlisted, Empty, Start, StartExt, End, EndExt, Node, NarrowList, WideList, FileParams, VolumeParams, FileDirParams, Status, ServerParams, MappedName, MappedId, Opened, Data, Icon, IconInfo, UserInfo, Message, Desk, Appl, Comment, Token}
-use Rattle.afp_replies.specs.declared.fields.TheConstants.{VOLUME, FILE}
 use Rattle.afp_replies.specs.declared.reply.ReplyKind.{ReplyKind}
+use Rattle.afp_replies.specs.Numbers.{volume_kind, file_kind}
 use Rattle.afp_replies.specs.Layout.{Layout, Never}
 use Rattle.afp_replies.specs.Layouts as layouts
 
@@ -94,8 +94,8 @@ layout_of EndExt kind = layouts.end_ext
 layout_of Node kind = layouts.node
 layout_of NarrowList kind = layouts.list false kind.bits kind.dir_bits
 layout_of WideList kind = layouts.list true kind.bits kind.dir_bits
-layout_of FileParams kind = layouts.params FILE kind.bits
-layout_of VolumeParams kind = layouts.params VOLUME kind.bits
+layout_of FileParams kind = layouts.params file_kind kind.bits
+layout_of VolumeParams kind = layouts.params volume_kind kind.bits
 layout_of FileDirParams kind = layouts.file_dir_params kind.bits kind.dir_bits
 layout_of Status kind = layouts.status
 layout_of ServerParams kind = layouts.server_params

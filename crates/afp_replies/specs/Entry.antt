@@ -4,8 +4,8 @@ use Rattle.byteorder.specs.Endian.{big_bytes, big_number}
 use Rattle.afp_bitmap.specs.declared.params.Values.{Values}
 use Rattle.afp_bitmap.specs.declared.params.Values.TheVariants.{Dir, File, Volume}
 use Rattle.afp_bitmap.specs.Params.{params, IsAnswer, IsBadAt}
-use Rattle.afp_replies.specs.declared.fields.TheConstants.{FILE, DIR}
 use Rattle.afp_replies.specs.declared.list.ListEntry.{ListEntry}
+use Rattle.afp_replies.specs.Numbers.{file_kind, dir_kind}
 use Rattle.afp_replies.specs.Bytes.{flag_of, width}
 
 -- whether values are a directory's
@@ -21,8 +21,8 @@ bits_for false file_bits dir_bits = file_bits
 
 -- the kind of parameters of a directory or of a file
 abbrev pub kind_for : Bool → ℕ
-kind_for true = DIR
-kind_for false = FILE
+kind_for true = dir_kind
+kind_for false = file_kind
 
 -- values of a file or of a directory that these bits ask for (this profile)
 abbrev pub IsNode : ℕ → ℕ → Values → Type 0

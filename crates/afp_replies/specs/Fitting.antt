@@ -6,12 +6,12 @@ use Rattle.afp_bitmap.specs.declared.params.Values.{Values}
 use Rattle.afp_bitmap.specs.Bits.{IsWithin, mask_of, file_mask, dir_mask, is_asked}
 use Rattle.afp_bitmap.specs.Params.{IsAnswer}
 use Rattle.afp_bitmap.specs.Table.{kind_of}
-use Rattle.afp_replies.specs.declared.fields.TheConstants.{FILE, USER_INFO_MASK, USER_ID_BIT, GROUP_ID_BIT, MESSAGE_MASK, MESSAGE_BIT, UTF8_BIT}
 use Rattle.afp_replies.specs.declared.list.ListEntry.{ListEntry}
 use Rattle.afp_replies.specs.declared.volumes.VolumeEntry.{VolumeEntry}
 use Rattle.afp_replies.specs.declared.reply.Reply.{Reply}
 use Rattle.afp_replies.specs.declared.reply.Reply.TheVariants.{Empty, Start, StartExt, End, EndExt, Node, Params, Status, ServerParams, MappedName, MappedId, Opened, Piece, FileDirParams, UserInfo, Message, Desk, IconInfo, Appl, Comment, Token}
 use Rattle.afp_replies.specs.declared.reply.Reply.TheVariants as replies
+use Rattle.afp_replies.specs.Numbers.{file_kind, user_info_mask, user_id_bit, group_id_bit, message_mask, message_bit, utf8_bit}
 use Rattle.afp_replies.specs.Bytes.{width}
 use Rattle.afp_replies.specs.Entry.{IsNode, FitsEntry}
 
@@ -54,18 +54,18 @@ FitsReply (End end) = end < 256 ^ 4
 FitsReply (EndExt end) = end < 256 ^ 8
 FitsReply (Node id) = id.0 < 256 ^ 4
 FitsReply (replies.List wide file_bits dir_bits rows) = FitsList wide file_bits dir_bits rows
-FitsReply (Params bits values) = (kind_of values ≤ FILE) × FitsValues (kind_of values) bits values
+FitsReply (Params bits values) = (kind_of values ≤ file_kind) × FitsValues (kind_of values) bits values
 FitsReply (Status block) = Unit {0}
 FitsReply (ServerParams time volumes) = FitsSigned w32 time × (length volumes < 256 ^ 1) × AllByRecursion FitsVolume volumes
 FitsReply (MappedName wide name) = length name < 256 ^ width wide
 FitsReply (MappedId id) = id < 256 ^ 4
-FitsReply (Opened bits reference values) = (reference.0 < 256 ^ 2) × FitsValues FILE bits values
+FitsReply (Opened bits reference values) = (reference.0 < 256 ^ 2) × FitsValues file_kind bits values
 FitsReply (Piece piece) = Unit {0}
 FitsReply (FileDirParams file_bits dir_bits values) = IsWithin file_mask file_bits × IsWithin dir_mask dir_bits × IsNode file_bits dir_bits values
-FitsReply (UserInfo bits id group) = IsWithin USER_INFO_MASK bits × FitsOptional (is_asked bits USER_ID_BIT) id × FitsOptional (is_asked bits GROUP_ID_BIT) group
-FitsReply (Message kind bits message) = (kind < 256 ^ 2) × IsWithin MESSAGE_MASK bits × FitsText (is_asked bits UTF8_BIT) (is_asked bits MESSAGE_BIT) message
+FitsReply (UserInfo bits id group) = IsWithin user_info_mask bits × FitsOptional (is_asked bits user_id_bit) id × FitsOptional (is_asked bits group_id_bit) group
+FitsReply (Message kind bits message) = (kind < 256 ^ 2) × IsWithin message_mask bits × FitsText (is_asked bits utf8_bit) (is_asked bits message_bit) message
 FitsReply (Desk dt) = dt < 256 ^ 2
 FitsReply (IconInfo tag kind icon_kind size) = (tag < 256 ^ 4) × (length kind ≡ 4) × (icon_kind < 256 ^ 1) × (size < 256 ^ 2)
-FitsReply (Appl bits tag values) = (tag < 256 ^ 4) × FitsValues FILE bits values
+FitsReply (Appl bits tag values) = (tag < 256 ^ 4) × FitsValues file_kind bits values
 FitsReply (Comment comment) = length comment < 256 ^ 1
 FitsReply (Token token) = length token < 256 ^ 4

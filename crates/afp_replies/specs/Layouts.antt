@@ -2,11 +2,10 @@
 use Rattle.std.specs.Prelude.{ℕ, zero, suc, Bool, true, false, ◌==◌, ◌||◌, List, [], ◌∷◌, ◌++◌, Option, Some, None, if◌then◌else◌}
 use Rattle.std.specs.Int.{w32, cast_signed}
 use Rattle.afp_bitmap.specs.Bits.{file_mask, dir_mask, mask_of, is_asked}
-use Rattle.afp_replies.specs.declared.commands.TheConstants.{USER_ID_TO_NAME, GROUP_ID_TO_NAME, USER_ID_TO_UTF8_NAME, GROUP_ID_TO_UTF8_NAME}
-use Rattle.afp_replies.specs.declared.fields.TheConstants.{FILE, DIR, USER_INFO_MASK, USER_ID_BIT, GROUP_ID_BIT, MESSAGE_MASK, MESSAGE_BIT, UTF8_BIT}
 use Rattle.afp_replies.specs.declared.list.ListEntry.{ListEntry}
 use Rattle.afp_replies.specs.declared.volumes.VolumeEntry.{VolumeEntry}
 use Rattle.afp_replies.specs.declared.reply.Reply.TheVariants as replies
+use Rattle.afp_replies.specs.Numbers.{file_kind, dir_kind, user_info_mask, user_id_bit, group_id_bit, message_mask, message_bit, utf8_bit, user_id_to_name, group_id_to_name, user_id_to_utf8_name, group_id_to_utf8_name}
 use Rattle.afp_replies.specs.Bytes.{width}
 use Rattle.afp_replies.specs.Words.{Number, Exactly, Asked, Raw, Pad, Counted, Flag, Entry}
 use Rattle.afp_replies.specs.Layout.{Layout, Is, Never, Then, Remaining, Params}
@@ -91,8 +90,8 @@ comment = str (λ comment. Is (replies.Comment comment))
 -- whether the name that a function of FPMapID answers has a wide count: those of the two UTF-8 functions have; no other number is a function (AFP Reference, FPMapID)
 unfoldable pub is_wide : ℕ → Option Bool
 is_wide function =
-    if function == USER_ID_TO_NAME || function == GROUP_ID_TO_NAME then Some false
-    else (if function == USER_ID_TO_UTF8_NAME || function == GROUP_ID_TO_UTF8_NAME then Some true else None)
+    if function == user_id_to_name || function == group_id_to_name then Some false
+    else (if function == user_id_to_utf8_name || function == group_id_to_utf8_name then Some true else None)
 
 -- a name with its count in 1 byte or in 2
 abbrev pub name : Bool → Layout
@@ -113,7 +112,7 @@ icon_info = u32 (λ tag. raw4 (λ kind. u8 (λ icon_kind. pad (u16 (λ size. Is 
 -- AFP Reference, FPGetUserInfo: bits 2, user id 4 where bit 0 asks for it, group id 4 where bit 1 does
 abbrev pub user_info : ℕ → Layout
 user_info bits =
-    asked USER_INFO_MASK bits (optional (is_asked bits USER_ID_BIT) (λ id. optional (is_asked bits GROUP_ID_BIT) (λ group. Is (replies.UserInfo bits id group))))
+    asked user_info_mask bits (optional (is_asked bits user_id_bit) (λ id. optional (is_asked bits group_id_bit) (λ group. Is (replies.UserInfo bits id group))))
 
 -- a text with its count in 1 byte or in 2, where it is asked
 unfoldable pub optional_text : Bool → Bool → (Option (List ℕ) → Layout) → Layout
@@ -123,7 +122,7 @@ optional_text wide false next = next None
 -- AFP Reference, FPGetSrvrMsg: type 2, bits 2, and the message where its bit asks for it, with its count in 2 bytes where the UTF-8 bit is set, else in one
 abbrev pub message : ℕ → Layout
 message bits =
-    u16 (λ kind. asked MESSAGE_MASK bits (optional_text (is_asked bits UTF8_BIT) (is_asked bits MESSAGE_BIT) (λ text. Is (replies.Message kind bits text))))
+    u16 (λ kind. asked message_mask bits (optional_text (is_asked bits utf8_bit) (is_asked bits message_bit) (λ text. Is (replies.Message kind bits text))))
 
 -- a volume: flags 1, and its name, with its count in a byte
 abbrev pub volume : (VolumeEntry → Layout) → Layout
@@ -144,16 +143,16 @@ params kind bits = asked (mask_of kind) bits (Params kind bits (λ values. repli
 
 -- AFP Reference, FPOpenFork: bits 2, ref 2, params
 abbrev pub opened : ℕ → Layout
-opened bits = asked file_mask bits (u16 (λ reference. Params FILE bits (λ values. replies.Opened bits (record { 0 = reference }) values)))
+opened bits = asked file_mask bits (u16 (λ reference. Params file_kind bits (λ values. replies.Opened bits (record { 0 = reference }) values)))
 
 -- AFP Reference, FPOpenFork, where a deny mode forbids it: the same with reference 0
 abbrev pub denied : ℕ → Layout
-denied bits = asked file_mask bits (Then (Exactly 2 0) (λ _. Params FILE bits (λ values. replies.Opened bits (record { 0 = 0 }) values)))
+denied bits = asked file_mask bits (Then (Exactly 2 0) (λ _. Params file_kind bits (λ values. replies.Opened bits (record { 0 = 0 }) values)))
 
 -- the parameters of a directory or a file
 unfoldable pub node_params : Bool → ℕ → ℕ → Layout
-node_params true file_bits dir_bits = Params DIR dir_bits (λ values. replies.FileDirParams file_bits dir_bits values)
-node_params false file_bits dir_bits = Params FILE file_bits (λ values. replies.FileDirParams file_bits dir_bits values)
+node_params true file_bits dir_bits = Params dir_kind dir_bits (λ values. replies.FileDirParams file_bits dir_bits values)
+node_params false file_bits dir_bits = Params file_kind file_bits (λ values. replies.FileDirParams file_bits dir_bits values)
 
 -- AFP Reference, FPGetFileDirParms: file bits 2, dir bits 2, flag 1, pad 1, params
 abbrev pub file_dir_params : ℕ → ℕ → Layout
@@ -162,7 +161,7 @@ file_dir_params file_bits dir_bits =
 
 -- AFP Reference, FPGetAPPL: bits 2, tag 4, params
 abbrev pub appl : ℕ → Layout
-appl bits = asked file_mask bits (u32 (λ tag. Params FILE bits (λ values. replies.Appl bits tag values)))
+appl bits = asked file_mask bits (u32 (λ tag. Params file_kind bits (λ values. replies.Appl bits tag values)))
 
 -- so many entries behind these
 unfoldable pub entries : Bool → ℕ → ℕ → ℕ → List ListEntry → (List ListEntry → Layout) → Layout

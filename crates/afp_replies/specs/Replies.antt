@@ -5,7 +5,6 @@ use Rattle.std.specs.List.{concat}
 use Rattle.afp_base.specs.declared.code.Code.{Code}
 use Rattle.afp_bitmap.specs.Bits.{is_asked}
 use Rattle.afp_bitmap.specs.Params.{params}
-use Rattle.afp_replies.specs.declared.fields.TheConstants.{UTF8_BIT}
 use Rattle.afp_replies.specs.declared.volumes.VolumeEntry.{VolumeEntry}
 use Rattle.afp_replies.specs.declared.reply.Reply.{Reply}
 use Rattle.afp_replies.specs.declared.reply.Reply.TheVariants.{Empty, Start, StartExt, End, EndExt, Node, Params, Status, ServerParams, MappedName, MappedId, Opened, Piece, FileDirParams, UserInfo, Message, Desk, IconInfo, Appl, Comment, Token}
@@ -13,6 +12,7 @@ use Rattle.afp_replies.specs.declared.reply.Reply.TheVariants as replies
 use Rattle.afp_replies.specs.declared.reply.ReplyFault.{ReplyFault}
 use Rattle.afp_replies.specs.declared.reply.ReplyFault.TheVariants as faults
 use Rattle.afp_replies.specs.declared.reply.ReplyKind.{ReplyKind}
+use Rattle.afp_replies.specs.Numbers.{utf8_bit}
 use Rattle.afp_replies.specs.Bytes.{u8, u16, u32, u64, optional, pad, counted, flag_of, width}
 use Rattle.afp_replies.specs.Entry.{is_dir, node_params, entry_bytes}
 use Rattle.afp_replies.specs.Layout.{Layout, Has, StopsAt}
@@ -71,7 +71,7 @@ fields (Piece piece) = piece ∷ []
 fields (FileDirParams file_bits dir_bits values) =
     u16 file_bits ∷ u16 dir_bits ∷ (flag_of (is_dir values) ∷ []) ∷ pad ∷ node_params file_bits dir_bits values ∷ []
 fields (UserInfo bits id group) = u16 bits ∷ optional id ∷ optional group ∷ []
-fields (Message kind bits message) = u16 kind ∷ u16 bits ∷ message_bytes (is_asked bits UTF8_BIT) message ∷ []
+fields (Message kind bits message) = u16 kind ∷ u16 bits ∷ message_bytes (is_asked bits utf8_bit) message ∷ []
 fields (Desk dt) = u16 dt ∷ []
 fields (IconInfo tag kind icon_kind size) = u32 tag ∷ kind ∷ u8 icon_kind ∷ pad ∷ u16 size ∷ []
 fields (Appl bits tag values) = u16 bits ∷ u32 tag ∷ params bits values ∷ []

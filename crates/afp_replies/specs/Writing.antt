@@ -5,10 +5,10 @@ use Rattle.afp_bitmap.specs.declared.params.Values.{Values}
 use Rattle.afp_bitmap.specs.Bits.{IsWithin, mask_of, is_asked}
 use Rattle.afp_bitmap.specs.Params.{Fits}
 use Rattle.afp_bitmap.specs.Table.{kind_of}
-use Rattle.afp_replies.specs.declared.fields.TheConstants.{FILE, UTF8_BIT}
 use Rattle.afp_replies.specs.declared.reply.Reply.{Reply}
 use Rattle.afp_replies.specs.declared.reply.Reply.TheVariants.{Params, ServerParams, MappedName, Opened, FileDirParams, Message, Appl, Comment, Token}
 use Rattle.afp_replies.specs.declared.reply.Reply.TheVariants as replies
+use Rattle.afp_replies.specs.Numbers.{file_kind, utf8_bit}
 use Rattle.afp_replies.specs.Bytes.{width}
 use Rattle.afp_replies.specs.Entry.{is_dir, bits_for, kind_for}
 use Rattle.afp_replies.specs.Fitting.{FitsVolume, FitsList}
@@ -33,10 +33,10 @@ CanWrite (replies.List wide file_bits dir_bits rows) = FitsList wide file_bits d
 CanWrite (Params bits values) = FitsParams (kind_of values) bits values
 CanWrite (ServerParams time volumes) = (length volumes < 256 ^ 1) × AllByRecursion FitsVolume volumes
 CanWrite (MappedName wide name) = length name < 256 ^ width wide
-CanWrite (Opened bits reference values) = FitsParams FILE bits values
+CanWrite (Opened bits reference values) = FitsParams file_kind bits values
 CanWrite (FileDirParams file_bits dir_bits values) = FitsNode file_bits dir_bits values
-CanWrite (Message kind bits message) = FitsMessage (is_asked bits UTF8_BIT) message
-CanWrite (Appl bits tag values) = FitsParams FILE bits values
+CanWrite (Message kind bits message) = FitsMessage (is_asked bits utf8_bit) message
+CanWrite (Appl bits tag values) = FitsParams file_kind bits values
 CanWrite (Comment comment) = length comment < 256 ^ 1
 CanWrite (Token token) = length token < 256 ^ 4
 CanWrite r = Unit {0}
