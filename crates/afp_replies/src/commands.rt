@@ -127,7 +127,7 @@ pub(crate) const USER_ID_TO_UTF8_NAME: u16 = 3;
 pub(crate) const GROUP_ID_TO_UTF8_NAME: u16 = 4;
 
 /// The shapes of replies.
-#[derive(Clone, Copy, Debug, PartialEq, Eq)]
+#[derive(Clone, Copy)]
 pub(crate) enum Shape {
     /// No command has it.
     Unlisted,
@@ -160,7 +160,7 @@ pub(crate) enum Shape {
 }
 
 /// A command, and the shape of its reply.
-#[derive(Clone, Copy, Debug)]
+#[derive(Clone, Copy)]
 struct Row(u8, Shape);
 
 const ROWS: [Row; 57] = [

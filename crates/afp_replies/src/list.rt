@@ -7,13 +7,13 @@ use std::alloc::Global;
 use std::marker::Model;
 
 /// A file or a directory in a list (AFP Reference, "FPEnumerate").
-#[derive(Debug, Drop)]
+#[derive(Drop)]
 pub struct ListEntry {
     pub values: Values,
 }
 
 /// The entries of a list, in order. Contracts see them as a list.
-#[derive(Debug, Drop)]
+#[derive(Drop)]
 pub struct ListRows(Vec<ListEntry>);
 
 impl Model for ListRows {

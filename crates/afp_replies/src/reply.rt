@@ -5,7 +5,7 @@ use afp_base::{Bytes, ForkRef, NodeId, OutOfMemory};
 use afp_bitmap::Values;
 
 /// The reply to a request (AFP Reference, "AFP Calls").
-#[derive(Debug, Drop)]
+#[derive(Drop)]
 pub enum Reply {
     /// No bytes: many calls answer so, and every refusal but two.
     Empty,

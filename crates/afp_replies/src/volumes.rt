@@ -6,7 +6,7 @@ use std::alloc::Global;
 use std::marker::Model;
 
 /// A volume of a server (AFP Reference, "FPGetSrvrParms").
-#[derive(Debug, Drop)]
+#[derive(Drop)]
 pub struct VolumeEntry {
     /// Whether it has a password, and whether it has configuration information; 0 from this server.
     pub flags: u8,
@@ -15,7 +15,7 @@ pub struct VolumeEntry {
 }
 
 /// The volumes of a server, in order. Contracts see them as a list.
-#[derive(Debug, Drop)]
+#[derive(Drop)]
 pub struct VolumeList(Vec<VolumeEntry>);
 
 impl Model for VolumeList {
