@@ -7,7 +7,13 @@ use Rattle.std.proofs.lemmas.List.{length-take-le, length-take, length-drop, len
 use Rattle.std.proofs.lemmas.List.Sums.{suffix_len_is, suffix_len-le-length}
 use Rattle.afp_names.specs.LongName.{shown_byte, is_long_name, is_extension, extension_of, stem_of, ending_of, shortened, long_name_of, longest_long_name}
 use Rattle.afp_names.specs.MacRoman.{mac_roman_byte}
-use Rattle.unicode_normalization.specs.Forms.{nfc}
+use Rattle.unicode_normalization.specs.Forms.{nfc, Nfc}
+use Rattle.unicode_normalization.proofs.FormsLemmas.{normalize-ascii}
+use Rattle.std.specs.Str.{IsAscii}
+use Rattle.std.proofs.lemmas.Bool.{lt-ltb}
+use Rattle.std.proofs.lemmas.Bool.Decides.{nat_tests}
+use Rattle.std.proofs.lemmas.List.Elements.{All-from_get_or}
+use Rattle.std.proofs.lemmas.Str.{chars-IsAscii}
 use Rattle.std.specs.Char.{is_ascii_alphanumeric}
 
 -- no place from n on is a `.`
@@ -130,3 +136,33 @@ unfolding shortened stem_of
 shortened-parts text id n ext ending stem long put out eext eend estem en eput eout =
     let cut : take n stem ≡ take (longest_long_name - length (ending_of text id)) (take (length text - length (extension_of text)) text) = rw (en, take_min (longest_long_name - length ending) stem, estem, eext, eend) refl in
     rw (eout, eput, cut, eend) (append_assoc long _ _)
+
+-- a short ASCII name is its own long name
+shown_byte-ascii : (c : ℕ) → c < 128 → shown_byte c ≡ c
+unfolding shown_byte mac_roman_byte
+shown_byte-ascii c small = let e : nat_lt c 128 ≡ true = lt-ltb c 128 small in rw e refl
+
+has_byte-ascii : (c : ℕ) → c < 128 → is_some (mac_roman_byte c) ≡ true
+unfolding mac_roman_byte
+has_byte-ascii c small = let e : nat_lt c 128 ≡ true = lt-ltb c 128 small in rw e refl
+
+shown-ascii : (cs : List ℕ) → IsAscii cs → map shown_byte cs ≡ cs
+shown-ascii [] all = refl
+shown-ascii (c ∷ cs) all = ap (λ (b : ℕ). b ∷ map shown_byte cs) (shown_byte-ascii c (all 0)) ∙ ap (λ (bs : List ℕ). c ∷ bs) (shown-ascii cs (λ i. all (suc i)))
+
+have_bytes-ascii : (cs : List ℕ) → IsAscii cs → list_all (λ c. is_some (mac_roman_byte c)) cs ≡ true
+have_bytes-ascii [] all = refl
+have_bytes-ascii (c ∷ cs) all = rw (has_byte-ascii c (all 0), have_bytes-ascii cs (λ i. all (suc i))) refl
+
+is_long_name-ascii : (cs : List ℕ) → IsAscii cs → length cs ≤ longest_long_name → is_long_name cs ≡ true
+unfolding is_long_name
+is_long_name-ascii cs all short =
+    let few : nat_le (length cs) longest_long_name ≡ true = grind (arith, nat_tests) in
+    rw (few, have_bytes-ascii cs all) refl
+
+pub ascii_long_name : (name : List ℕ) (id : ℕ) → IsAscii name → length name ≤ longest_long_name → long_name_of name id ≡ name
+unfolding long_name_of
+ascii_long_name name id all short =
+    let text : nfc (chars name) ≡ name = ap nfc (chars-IsAscii name all) ∙ normalize-ascii Nfc name (All-from_get_or (λ c. c < 128) name 0 (λ i _. all i)) in
+    let long : is_long_name name ≡ true = is_long_name-ascii name all short in
+    ap (λ (t : List ℕ). if is_long_name t then map shown_byte t else shortened t id) text ∙ rw long (shown-ascii name all)

@@ -1,5 +1,5 @@
 -- Names of files and directories (AFP Reference, "Catalog node names"; the limit and the faults are this profile's).
-use Rattle.std.specs.Prelude.{ℕ, ◌≢◌, ◌<◌, ◌≤◌, ◌==◌, Bool, not, List, [], ◌∷◌, length, All, Option, Some, None, nat_lt, if◌then◌else◌, chars, encode_utf8_all, IsUtf8}
+use Rattle.std.specs.Prelude.{ℕ, ◌≢◌, ◌<◌, ◌≤◌, ◌==◌, not, List, [], ◌∷◌, length, All, Option, nat_lt, chars, encode_utf8_all, IsUtf8}
 use Rattle.std.specs.List.{list_any}
 use Rattle.std.specs.Str.{is_utf8}
 use Rattle.unicode_normalization.specs.Forms.{nfd}

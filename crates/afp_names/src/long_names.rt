@@ -3,6 +3,7 @@ ghost use Rattle.std.specs.Prelude.{◌≡◌, ◌≤◌, ◌-◌, ◌&&◌, nat
 ghost use Rattle.std.specs.List.{list_all, suffix_len};
 ghost use Rattle.std.specs.Char.{is_ascii_alphanumeric};
 ghost use Rattle.std.specs.Fmt.{digits};
+ghost use Rattle.std.specs.Str.{IsAscii};
 ghost use Rattle.unicode_normalization.specs.Forms.{nfc};
 ghost use Rattle.afp_names.specs.MacRoman.{mac_roman_byte};
 ghost use Rattle.afp_names.specs.LongName.{longest_long_name, full_stop, shown_byte, is_long_name, is_extension, extension_of, stem_of, ending_of, shortened, long_name_of};
@@ -25,7 +26,36 @@ pub const LONGEST_EXTENSION: usize = 4;
 /// It is the name in Unicode's form C where the character set has each of its characters and it
 /// has at most [`LONGEST_LONG_NAME`]. Else it is a stem, `#`, the id in upper-case hexadecimal, and
 /// the name's extension, with `?` for each character that the character set lacks.
+#[tactic(auto, using(crate::proofs::LongNameLemmas::ascii_long_name))]
 pub fn long_name(alloc: Global, name: &Name, id: NodeId) -> Result<Bytes, OutOfMemory>
+    ensures name { IfOk result (λ long. long ≡ long_name_of name.now id.0) }
+    ensures short { IfOk result (λ long. length long ≤ longest_long_name) }
+{
+    let text = name.as_str();
+    if is_ascii_long_name(text) {
+        return copied(alloc, text.as_bytes());
+    }
+    composed_long_name(alloc, name, id)
+}
+
+/// Whether the text is a long name as it stands, and ASCII: its bytes are then those of the long name.
+fn is_ascii_long_name(text: &str) -> bool
+    ensures ascii { result ≡ true → IsAscii text.now }
+    ensures short { result ≡ true → length text.now ≤ longest_long_name }
+{
+    text.len() <= LONGEST_LONG_NAME && text.is_ascii()
+}
+
+fn copied(alloc: Global, bytes: &[u8]) -> Result<Bytes, OutOfMemory>
+    ensures { IfOk result (λ copy. copy ≡ bytes.now) }
+{
+    let mut copy = Bytes::new(alloc);
+    copy.extend(bytes)?;
+    Ok(copy)
+}
+
+/// The long name, by the characters of the name in form C.
+fn composed_long_name(alloc: Global, name: &Name, id: NodeId) -> Result<Bytes, OutOfMemory>
     ensures name { IfOk result (λ long. long ≡ long_name_of name.now id.0) }
     ensures short { IfOk result (λ long. length long ≤ longest_long_name) }
 {

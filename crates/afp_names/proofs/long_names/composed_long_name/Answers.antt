@@ -1,7 +1,7 @@
 use Rattle.std.proofs.Common.{◌≡◌, ◌∙◌, refl, arith}
 use Rattle.afp_names.specs.LongName.{long_name_of}
 use Rattle.afp_names.proofs.LongNameLemmas.{length-long_name_of}
-use Rattle.afp_names.proofs.long_names.long_name.Goals as goal
+use Rattle.afp_names.proofs.long_names.composed_long_name.Goals as goal
 
 pub returns-clause-name : goal.returns-clause-name
 unfolding long_name_of
