@@ -1,5 +1,5 @@
 -- What some bytes show to a request has the fields that the request asks for.
-use Rattle.std.proofs.Common.{◌≡◌, ℕ, ◌≤◌, Bool, true, false, List, [], Option, Some, None, inl, inr, refl, sym, ap, ◌∙◌, subst, arith, w32}
+use Rattle.std.proofs.Common.{◌≡◌, ℕ, Bool, true, false, not, List, [], Option, Some, None, inl, inr, refl, sym, subst, arith, w32}
 use Rattle.std.specs.Int.{cast_signed}
 use Rattle.afp_base.specs.declared.code.Code.{Code}
 use Rattle.afp_base.specs.declared.code.Code.TheVariants as codes
@@ -18,8 +18,8 @@ use Rattle.afp_replies.specs.Layout.{Layout, Is, Has}
 use Rattle.afp_replies.specs.Layouts as layouts
 use Rattle.afp_replies.specs.Layouts.{optional, mapped}
 use Rattle.afp_replies.specs.Commands.{shape_of, layout_of, denied, ended, reply_layout}
-use Rattle.afp_replies.specs.Replies.{Shows, canonical_reply, layout_for}
-use Rattle.afp_replies.specs.Requested.{FitsRequest, IsAsked, IsDenied, IsEnded, IsTold, list_shape, values_shape}
+use Rattle.afp_replies.specs.Replies.{Shows, layout_for}
+use Rattle.afp_replies.specs.Requested.{FitsRequest, IsAsked, IsDenied, IsEnded, IsTold, is_data, is_opened, list_shape, tells_nothing, values_shape}
 use Rattle.afp_replies.proofs.Again.{holds_optional, holds_text, row_of_volumes, row_of_entries, node_layout, good_reply}
 
 asked_list : (wide : Bool) (kind : ReplyKind) (r : Reply) (b : List ℕ) → Has (layouts.list wide kind.bits kind.dir_bits) r b → IsAsked (list_shape wide) kind r
@@ -117,3 +117,22 @@ told shape code kind r b h = h.0
 pub what_is_shown_to_a_request : (r : Reply) (kind : ReplyKind) (code : Code) (b : List ℕ) → Shows r kind code b → FitsRequest kind code r
 unfolding layout_for
 what_is_shown_to_a_request r kind code b h = record { fits = (good_reply (shape_of kind.command) code kind r b h).fits; told = told (shape_of kind.command) code kind r b h }
+
+-- ---- refusals that tell nothing
+
+nothing_denied : (shape : Shape) (kind : ReplyKind) → not (is_opened shape) ≡ true → IsDenied shape kind replies.Empty
+nothing_denied shapes.Opened kind e = absurd (cc)
+nothing_denied shape kind e = refl
+
+nothing_ended : (shape : Shape) → not (is_data shape) ≡ true → IsEnded shape replies.Empty
+nothing_ended shapes.Data e = absurd (cc)
+nothing_ended shape e = refl
+
+nothing_told : (shape : Shape) (code : Code) (kind : ReplyKind) → tells_nothing shape code ≡ true → IsTold shape code kind replies.Empty
+nothing_told shape codes.Ok kind e = absurd (cc)
+nothing_told shape codes.DenyConflict kind e = nothing_denied shape kind e
+nothing_told shape codes.EOFErr kind e = nothing_ended shape e
+nothing_told shape code kind e = refl
+
+pub nothing_fits : (kind : ReplyKind) (code : Code) → tells_nothing (shape_of kind.command) code ≡ true → FitsRequest kind code replies.Empty
+nothing_fits kind code e = record { fits = tt; told = nothing_told (shape_of kind.command) code kind e }

@@ -1,5 +1,5 @@
 -- Which reply a request of a kind has, in the terms of its fields (AFP Reference, "AFP Calls").
-use Rattle.std.specs.Prelude.{◌≡◌, ◌⊎◌, ℕ, Bool, true, false, List, Some}
+use Rattle.std.specs.Prelude.{◌≡◌, ◌⊎◌, ℕ, Bool, true, false, not, List, Some}
 use Rattle.afp_base.specs.declared.code.Code.{Code}
 use Rattle.afp_base.specs.declared.code.Code.TheVariants as codes
 use Rattle.afp_bitmap.specs.declared.params.Values.{Values}
@@ -71,3 +71,19 @@ IsTold shape code kind r = r ≡ Empty
 pub record FitsRequest (kind : ReplyKind) (code : Code) (r : Reply) : Type 0 where
   pub fits : FitsReply r
   pub told : IsTold (shape_of kind.command) code kind r
+
+-- the shapes of FPOpenFork's reply, and of FPRead's and FPReadExt's
+abbrev pub is_opened : Shape → Bool
+is_opened shapes.Opened = true
+is_opened shape = false
+
+abbrev pub is_data : Shape → Bool
+is_data shapes.Data = true
+is_data shape = false
+
+-- whether a refusal with this code tells nothing to a request whose reply has this shape
+abbrev pub tells_nothing : Shape → Code → Bool
+tells_nothing shape codes.Ok = false
+tells_nothing shape codes.DenyConflict = not (is_opened shape)
+tells_nothing shape codes.EOFErr = not (is_data shape)
+tells_nothing shape code = true

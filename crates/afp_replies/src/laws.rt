@@ -1,13 +1,14 @@
 //! What holds of replies without any call.
-ghost use Rattle.std.specs.Prelude.{◌≡◌, ◌↔◌, ◌<◌, ◌%◌, ℕ, Bool, List, length, slice_index};
+ghost use Rattle.std.specs.Prelude.{◌≡◌, ◌↔◌, ◌<◌, ◌%◌, ℕ, Bool, true, List, length, slice_index};
 ghost use Rattle.afp_base.specs.declared.code.Code.{Code};
 ghost use Rattle.afp_replies.specs.declared.list.ListEntry.{ListEntry};
 ghost use Rattle.afp_replies.specs.declared.reply.Reply.{Reply};
 ghost use Rattle.afp_replies.specs.declared.reply.ReplyKind.{ReplyKind};
+ghost use Rattle.afp_replies.specs.Commands.{shape_of};
 ghost use Rattle.afp_replies.specs.Entry.{entry_bytes, FitsEntry};
 ghost use Rattle.afp_replies.specs.Fitting.{FitsReply};
 ghost use Rattle.afp_replies.specs.Replies.{Shows, IsShown, canonical_reply};
-ghost use Rattle.afp_replies.specs.Requested.{FitsRequest};
+ghost use Rattle.afp_replies.specs.Requested.{FitsRequest, tells_nothing};
 
 use afp_bitmap::one_block_for_each;
 
@@ -41,4 +42,7 @@ pub fn what_fits_is_shown()
 pub fn what_fits_a_request_is_shown_to_it()
     ensures shown { (r : Reply) (kind : ReplyKind) (code : Code) → FitsRequest kind code r → Shows r kind code (canonical_reply r) }
     ensures only { (r : Reply) (kind : ReplyKind) (code : Code) (bytes : List ℕ) → Shows r kind code bytes → FitsRequest kind code r }
+
+    // A refusal that tells nothing.
+    ensures nothing { (kind : ReplyKind) (code : Code) → tells_nothing (shape_of kind.command) code ≡ true → FitsRequest kind code Reply.Empty }
 {}

@@ -8,12 +8,13 @@ ghost use Rattle.afp_bitmap.specs.Params.{params};
 ghost use Rattle.afp_bitmap.specs.Table.{kind_of};
 ghost use Rattle.afp_replies.specs.Bytes.{u8, u16, u32, optional, pad, counted, flag_of, width};
 ghost use Rattle.afp_replies.specs.Entry.{is_dir, bits_for, pad_count, node_params, entry_bytes, FitsEntry};
+ghost use Rattle.afp_replies.specs.Numbers.{file_kind, utf8_bit};
 ghost use Rattle.afp_replies.specs.Replies.{volume_bytes, message_bytes, canonical_reply, IsShown};
 ghost use Rattle.afp_replies.specs.Fitting.{FitsVolume, FitsList};
 ghost use Rattle.afp_replies.specs.Writing.{FitsParams, FitsNode, FitsMessage, CanWrite};
 
 use crate::fields::{
-    DIRECTORY, FILE, UTF8_BIT, head_size, is_asked, put_text, put_u8, put_u16, put_u32, put_u64,
+    DIRECTORY, UTF8_BIT, head_size, is_asked, put_text, put_u8, put_u16, put_u32, put_u64,
 };
 use crate::list::ListEntry;
 use crate::reply::Reply;
@@ -70,8 +71,8 @@ fn put_message(
     message: &Option<Bytes>,
     out: &mut Bytes,
 ) -> Result<(), OutOfMemory>
-    requires { FitsMessage (is_asked bits UTF8_BIT) message.now }
-    ensures { OnOk result (out.new ≡ out.old ++ concat (u16 kind ∷ u16 bits ∷ message_bytes (is_asked bits UTF8_BIT) message.now ∷ [])) }
+    requires { FitsMessage (is_asked bits utf8_bit) message.now }
+    ensures { OnOk result (out.new ≡ out.old ++ concat (u16 kind ∷ u16 bits ∷ message_bytes (is_asked bits utf8_bit) message.now ∷ [])) }
 {
     put_u16(kind, out)?;
     put_u16(bits, out)?;
@@ -138,7 +139,7 @@ fn put_opened(
     values: &Values,
     out: &mut Bytes,
 ) -> Result<(), OutOfMemory>
-    requires { FitsParams FILE bits values.now }
+    requires { FitsParams file_kind bits values.now }
     ensures { OnOk result (out.new ≡ out.old ++ concat (u16 bits ∷ u16 reference ∷ params bits values.now ∷ [])) }
 {
     put_u16(bits, out)?;
@@ -154,7 +155,7 @@ fn put_appl(
     values: &Values,
     out: &mut Bytes,
 ) -> Result<(), OutOfMemory>
-    requires { FitsParams FILE bits values.now }
+    requires { FitsParams file_kind bits values.now }
     ensures { OnOk result (out.new ≡ out.old ++ concat (u16 bits ∷ u32 tag ∷ params bits values.now ∷ [])) }
 {
     put_u16(bits, out)?;
