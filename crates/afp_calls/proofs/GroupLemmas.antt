@@ -1,5 +1,5 @@
 -- One of the groups of requests answers for all.
-use Rattle.std.proofs.Common.{◌≡◌, ◌≢◌, ℕ, ℤ, ◌==◌, ◌||◌, Bool, true, false, List, [], ◌∷◌, ◌++◌, Option, Result, Ok, Err, refl, sym, ap, ◌∙◌}
+use Rattle.std.proofs.Common.{◌≡◌, ℕ, ℤ, ◌==◌, ◌||◌, Bool, true, false, List, [], ◌∷◌, ◌++◌, length, Option, Result, Ok, Err, refl, sym, ap, ◌∙◌}
 use Rattle.afp_base.specs.declared.ids.ForkRef.{ForkRef}
 use Rattle.afp_requests.specs.declared.call.Call.{Call}
 use Rattle.afp_requests.specs.declared.call.Call.TheVariants.{Write, WriteExt, AddIcon}
@@ -7,7 +7,6 @@ use Rattle.afp_requests.specs.Call.{layout_of, canonical_call, canonical_piece}
 use Rattle.afp_requests.specs.declared.call.ReadFault.{ReadFault}
 use Rattle.afp_requests.specs.declared.call.ReadFault.TheVariants as faults
 use Rattle.afp_requests.specs.Reading.{Reader, has_reader, read_by}
-use Rattle.afp_requests.specs.Group.{Group, Session, Volume, Directory, File, Fork, Desktop}
 use Rattle.afp_fields.specs.Input.{Input, bytes_left}
 use Rattle.afp_fields.specs.Taking.{GivesBy}
 use Rattle.afp_fields.specs.Putting.{PutTogether, put_on}
@@ -58,15 +57,6 @@ later_knows rs ss n f (Err faults.Param) none h = let found = later_found rs ss 
 later_knows rs ss n f (Err faults.NotSupported) none h = let found = later_found rs ss n f.place f.enclosed (bytes_left f) none in found.0 ∙ h
 later_knows rs ss n f (Err faults.Memory) none h = tt
 
--- each request is of a group
-pub some_group : (g : Group) → g ≢ Session → g ≢ Volume → g ≢ Directory → g ≢ File → g ≢ Fork → g ≢ Desktop → ⊥
-some_group Session a b c d e f = a refl
-some_group Volume a b c d e f = b refl
-some_group Directory a b c d e f = c refl
-some_group File a b c d e f = d refl
-some_group Fork a b c d e f = e refl
-some_group Desktop a b c d e f = f refl
-
 -- no piece comes with the other requests
 pub no_piece : (call : Call) → ((flag : ℕ) (reference : ForkRef) (offset : ℤ) (count : ℕ) (piece : List ℕ) → call ≡ Write flag reference offset count piece → ⊥)
     → ((flag : ℕ) (reference : ForkRef) (offset count : ℤ) (piece : List ℕ) → call ≡ WriteExt flag reference offset count piece → ⊥)
@@ -77,9 +67,7 @@ no_piece (WriteExt flag reference offset count piece) a b c = absurd (b flag ref
 no_piece (AddIcon dt creator kind icon_kind tag size piece) a b c = absurd (c dt creator kind icon_kind tag size piece refl)
 no_piece call a b c = refl
 
--- what is put into nothing is the canonical block, and is appended
-pub put_behind : PutTogether → (c : Call) (none fields block piece new : List ℕ) → none ≡ [] → put_on (layout_of c).fields none ≡ fields → piece ≡ fields → new ≡ block ++ piece → new ≡ block ++ canonical_call c
+-- the block that is put is the canonical one
+pub block_is : PutTogether → (c : Call) (block new : List ℕ) → put_on (length block) (layout_of c).fields block ≡ new → new ≡ block ++ canonical_call c
 unfolding canonical_call
-put_behind law c none fields block piece new empty put lent appended =
-    let whole : put_on (layout_of c).fields [] ≡ fields = rw empty at put in
-    appended ∙ ap (λ (l : List ℕ). block ++ l) (lent ∙ sym whole ∙ law (layout_of c).fields [])
+block_is law c block new put = sym put ∙ law (layout_of c).fields block

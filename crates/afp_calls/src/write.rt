@@ -1,7 +1,7 @@
 //! Writes requests.
 ghost use Rattle.std.specs.Prelude.{◌≡◌, ◌++◌, OnOk, OnErr};
-ghost use Rattle.afp_requests.specs.Call.{Spells, IsSpellable, layout_of, canonical_call, canonical_data, canonical_piece};
-ghost use Rattle.afp_fields.specs.Putting.{PutsAll};
+ghost use Rattle.afp_requests.specs.Call.{Spells, IsSpellable, IsTypedCall, layout_of, canonical_call, canonical_data, canonical_piece};
+ghost use Rattle.afp_fields.specs.Putting.{PutsAll, Keeps};
 
 use afp_base::{Bytes, OutOfMemory};
 use afp_desktop_calls::write_desktop_call;
@@ -30,25 +30,41 @@ pub fn write_call(
     ensures enclosed_stays { OnErr result (enclosed.new ≡ enclosed.old) }
     ensures spelt { OnOk result (Spells call.now (canonical_call call.now) (canonical_data call.now)) }
 {
-    fields_are_put_together();
     what_is_written_is_read_again();
-    let mut fields = Bytes::new(alloc);
-    put_call(alloc, &mut fields, call)?;
-    let before = enclosed.as_slice().len();
-    enclosed.extend(piece_of(call))?;
-    match block.extend(fields.as_slice()) {
+    let before = block.as_slice().len();
+    put_block(alloc, call, block)?;
+    match enclosed.extend(piece_of(call)) {
         Ok(()) => Ok(()),
         Err(error) => {
-            enclosed.truncate(before);
+            block.truncate(before);
             Err(error)
         }
     }
 }
 
-/// Appends the canonical block of a request.
+/// Appends the canonical block of a request. An error changes nothing.
+fn put_block(alloc: Global, call: &Call, block: &mut Bytes) -> Result<(), OutOfMemory>
+    requires { IsSpellable call.now }
+    ensures typed { OnOk result (IsTypedCall call.now) }
+    ensures put { OnOk result (block.new ≡ block.old ++ canonical_call call.now) }
+    ensures err { OnErr result (block.new ≡ block.old) }
+{
+    fields_are_put_together();
+    let start = block.as_slice().len();
+    match put_call(alloc, block, call) {
+        Ok(()) => Ok(()),
+        Err(error) => {
+            block.truncate(start);
+            Err(error)
+        }
+    }
+}
+
+/// Appends the canonical block of a request. An error may leave some of it.
 fn put_call(alloc: Global, out: &mut Bytes, call: &Call) -> Result<(), OutOfMemory>
     requires { IsSpellable call.now }
-    ensures { OnOk result (PutsAll (layout_of call.now).fields out.old out.new) }
+    ensures put { OnOk result (PutsAll (layout_of call.now).fields out.old out.new) }
+    ensures err { OnErr result (Keeps out.old out.new) }
 {
     match write_session_call(out, call) {
         Some(written) => return written,

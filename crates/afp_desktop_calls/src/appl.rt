@@ -1,9 +1,9 @@
 //! The requests about APPL mappings (AFP Reference, "Desktop Database Commands").
 
-ghost use Rattle.std.specs.Prelude.{OnOk};
+ghost use Rattle.std.specs.Prelude.{OnOk, OnErr};
 ghost use Rattle.afp_requests.specs.Desktop.{add_appl, add_appl_reader, remove_appl, remove_appl_reader, get_appl, get_appl_reader};
 ghost use Rattle.afp_fields.specs.Taking.{Gives};
-ghost use Rattle.afp_fields.specs.Putting.{PutsAll};
+ghost use Rattle.afp_fields.specs.Putting.{PutsAll, Keeps};
 
 use afp_base::{Bytes, NodeId, OutOfMemory};
 use afp_fields::{Fields, put_bytes, put_command, put_pad, put_path, put_u16, put_u32};
@@ -42,8 +42,9 @@ pub(crate) fn write_add_appl(
     tag: u32,
     path: &Path,
 ) -> Result<(), OutOfMemory>
-    ensures { OnOk result
+    ensures put { OnOk result
         (PutsAll (add_appl dt dir creator.now tag path.now).fields out.old out.new) }
+    ensures err { OnErr result (Keeps out.old out.new) }
 {
     put_command(out, ADD_APPL)?;
     put_pad(out)?;
@@ -81,8 +82,9 @@ pub(crate) fn write_remove_appl(
     creator: &[u8; 4],
     path: &Path,
 ) -> Result<(), OutOfMemory>
-    ensures { OnOk result
+    ensures put { OnOk result
         (PutsAll (remove_appl dt dir creator.now path.now).fields out.old out.new) }
+    ensures err { OnErr result (Keeps out.old out.new) }
 {
     put_command(out, REMOVE_APPL)?;
     put_pad(out)?;
@@ -118,7 +120,8 @@ pub(crate) fn write_get_appl(
     index: u16,
     bits: u16,
 ) -> Result<(), OutOfMemory>
-    ensures { OnOk result (PutsAll (get_appl dt creator.now index bits).fields out.old out.new) }
+    ensures put { OnOk result (PutsAll (get_appl dt creator.now index bits).fields out.old out.new) }
+    ensures err { OnErr result (Keeps out.old out.new) }
 {
     put_command(out, GET_APPL)?;
     put_pad(out)?;

@@ -1,9 +1,9 @@
 //! The requests about comments (AFP Reference, "Desktop Database Commands").
 
-ghost use Rattle.std.specs.Prelude.{◌<◌, length, OnOk};
+ghost use Rattle.std.specs.Prelude.{◌<◌, length, OnOk, OnErr};
 ghost use Rattle.afp_requests.specs.Desktop.{add_comment, add_comment_reader, remove_comment, remove_comment_reader, get_comment, get_comment_reader};
 ghost use Rattle.afp_fields.specs.Taking.{Gives};
-ghost use Rattle.afp_fields.specs.Putting.{PutsAll};
+ghost use Rattle.afp_fields.specs.Putting.{PutsAll, Keeps};
 
 use afp_base::{Bytes, NodeId, OutOfMemory};
 use afp_fields::{Fields, put_command, put_even, put_pad, put_path, put_str, put_u16, put_u32};
@@ -41,15 +41,17 @@ pub(crate) fn write_add_comment(
     comment: &Bytes,
 ) -> Result<(), OutOfMemory>
     requires { length comment.now < 256 }
-    ensures { OnOk result
+    ensures put { OnOk result
         (PutsAll (add_comment dt dir path.now comment.now).fields out.old out.new) }
+    ensures err { OnErr result (Keeps out.old out.new) }
 {
+    let start = out.as_slice().len();
     put_command(out, ADD_COMMENT)?;
     put_pad(out)?;
     put_u16(out, dt)?;
     put_u32(out, dir.0)?;
     put_path(alloc, out, path)?;
-    put_even(out)?;
+    put_even(out, start)?;
     put_str(out, comment.as_slice())
 }
 
@@ -73,7 +75,8 @@ pub(crate) fn write_remove_comment(
     dir: NodeId,
     path: &Path,
 ) -> Result<(), OutOfMemory>
-    ensures { OnOk result (PutsAll (remove_comment dt dir path.now).fields out.old out.new) }
+    ensures put { OnOk result (PutsAll (remove_comment dt dir path.now).fields out.old out.new) }
+    ensures err { OnErr result (Keeps out.old out.new) }
 {
     put_command(out, REMOVE_COMMENT)?;
     put_pad(out)?;
@@ -102,7 +105,8 @@ pub(crate) fn write_get_comment(
     dir: NodeId,
     path: &Path,
 ) -> Result<(), OutOfMemory>
-    ensures { OnOk result (PutsAll (get_comment dt dir path.now).fields out.old out.new) }
+    ensures put { OnOk result (PutsAll (get_comment dt dir path.now).fields out.old out.new) }
+    ensures err { OnErr result (Keeps out.old out.new) }
 {
     put_command(out, GET_COMMENT)?;
     put_pad(out)?;

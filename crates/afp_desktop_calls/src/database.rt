@@ -1,9 +1,9 @@
 //! The requests about the desktop database (AFP Reference, "Desktop Database Commands").
 
-ghost use Rattle.std.specs.Prelude.{OnOk};
+ghost use Rattle.std.specs.Prelude.{OnOk, OnErr};
 ghost use Rattle.afp_requests.specs.Desktop.{open_dt, open_dt_reader, close_dt, close_dt_reader};
 ghost use Rattle.afp_fields.specs.Taking.{Gives};
-ghost use Rattle.afp_fields.specs.Putting.{PutsAll};
+ghost use Rattle.afp_fields.specs.Putting.{PutsAll, Keeps};
 
 use afp_base::{Bytes, OutOfMemory, VolumeId};
 use afp_fields::{Fields, put_command, put_pad, put_u16};
@@ -22,7 +22,8 @@ pub(crate) fn read_open_dt(fields: &mut Fields<'_>) -> Result<Call, ReadFault>
 
 /// FPOpenDT.
 pub(crate) fn write_open_dt(out: &mut Bytes, volume: VolumeId) -> Result<(), OutOfMemory>
-    ensures { OnOk result (PutsAll (open_dt volume).fields out.old out.new) }
+    ensures put { OnOk result (PutsAll (open_dt volume).fields out.old out.new) }
+    ensures err { OnErr result (Keeps out.old out.new) }
 {
     put_command(out, OPEN_DT)?;
     put_pad(out)?;
@@ -41,7 +42,8 @@ pub(crate) fn read_close_dt(fields: &mut Fields<'_>) -> Result<Call, ReadFault>
 
 /// FPCloseDT.
 pub(crate) fn write_close_dt(out: &mut Bytes, dt: u16) -> Result<(), OutOfMemory>
-    ensures { OnOk result (PutsAll (close_dt dt).fields out.old out.new) }
+    ensures put { OnOk result (PutsAll (close_dt dt).fields out.old out.new) }
+    ensures err { OnErr result (Keeps out.old out.new) }
 {
     put_command(out, CLOSE_DT)?;
     put_pad(out)?;

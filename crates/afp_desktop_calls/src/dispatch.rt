@@ -76,7 +76,8 @@ pub fn read_desktop_call(
     }
 }
 
-/// Appends the canonical block of a request; `None` where it is none of these.
+/// Appends the canonical block of a request; `None` where it is none of these. An error keeps what
+/// stood there, and may leave some of the block behind it.
 pub fn write_desktop_call(
     alloc: Global,
     out: &mut Bytes,

@@ -1,9 +1,9 @@
 //! The requests about icons (AFP Reference, "Desktop Database Commands").
 
-ghost use Rattle.std.specs.Prelude.{◌<◌, length, OnOk, []};
+ghost use Rattle.std.specs.Prelude.{◌<◌, length, OnOk, OnErr, []};
 ghost use Rattle.afp_requests.specs.Desktop.{add_icon, add_icon_reader, get_icon, get_icon_reader, get_icon_info, get_icon_info_reader};
 ghost use Rattle.afp_fields.specs.Taking.{Gives};
-ghost use Rattle.afp_fields.specs.Putting.{PutsAll};
+ghost use Rattle.afp_fields.specs.Putting.{PutsAll, Keeps};
 
 use afp_base::{Bytes, OutOfMemory};
 use afp_fields::{Fields, put_bytes, put_command, put_pad, put_u8, put_u16, put_u32};
@@ -45,8 +45,9 @@ pub(crate) fn write_add_icon(
     tag: u32,
     size: u16,
 ) -> Result<(), OutOfMemory>
-    ensures { OnOk result
+    ensures put { OnOk result
         (PutsAll (add_icon dt creator.now kind.now icon_kind tag size []).fields out.old out.new) }
+    ensures err { OnErr result (Keeps out.old out.new) }
 {
     put_command(out, ADD_ICON)?;
     put_pad(out)?;
@@ -89,8 +90,9 @@ pub(crate) fn write_get_icon(
     icon_kind: u8,
     length: u16,
 ) -> Result<(), OutOfMemory>
-    ensures { OnOk result
+    ensures put { OnOk result
         (PutsAll (get_icon dt creator.now kind.now icon_kind length).fields out.old out.new) }
+    ensures err { OnErr result (Keeps out.old out.new) }
 {
     put_command(out, GET_ICON)?;
     put_pad(out)?;
@@ -121,7 +123,8 @@ pub(crate) fn write_get_icon_info(
     creator: &[u8; 4],
     index: u16,
 ) -> Result<(), OutOfMemory>
-    ensures { OnOk result (PutsAll (get_icon_info dt creator.now index).fields out.old out.new) }
+    ensures put { OnOk result (PutsAll (get_icon_info dt creator.now index).fields out.old out.new) }
+    ensures err { OnErr result (Keeps out.old out.new) }
 {
     put_command(out, GET_ICON_INFO)?;
     put_pad(out)?;

@@ -1,9 +1,9 @@
 //! The requests about directories (AFP Reference, "Directory Commands").
 
-ghost use Rattle.std.specs.Prelude.{OnOk};
+ghost use Rattle.std.specs.Prelude.{OnOk, OnErr};
 ghost use Rattle.afp_requests.specs.Directory.{create_dir, create_dir_reader, open_dir, open_dir_reader, close_dir, close_dir_reader};
 ghost use Rattle.afp_fields.specs.Taking.{Gives};
-ghost use Rattle.afp_fields.specs.Putting.{PutsAll};
+ghost use Rattle.afp_fields.specs.Putting.{PutsAll, Keeps};
 
 use afp_base::{Bytes, NodeId, OutOfMemory, VolumeId};
 use afp_fields::{Fields, put_command, put_pad, put_path, put_u16, put_u32};
@@ -32,7 +32,8 @@ pub(crate) fn write_create_dir(
     dir: NodeId,
     path: &Path,
 ) -> Result<(), OutOfMemory>
-    ensures { OnOk result (PutsAll (create_dir volume dir path.now).fields out.old out.new) }
+    ensures put { OnOk result (PutsAll (create_dir volume dir path.now).fields out.old out.new) }
+    ensures err { OnErr result (Keeps out.old out.new) }
 {
     put_command(out, CREATE_DIR)?;
     put_pad(out)?;
@@ -61,7 +62,8 @@ pub(crate) fn write_open_dir(
     dir: NodeId,
     path: &Path,
 ) -> Result<(), OutOfMemory>
-    ensures { OnOk result (PutsAll (open_dir volume dir path.now).fields out.old out.new) }
+    ensures put { OnOk result (PutsAll (open_dir volume dir path.now).fields out.old out.new) }
+    ensures err { OnErr result (Keeps out.old out.new) }
 {
     put_command(out, OPEN_DIR)?;
     put_pad(out)?;
@@ -87,7 +89,8 @@ pub(crate) fn write_close_dir(
     volume: VolumeId,
     dir: NodeId,
 ) -> Result<(), OutOfMemory>
-    ensures { OnOk result (PutsAll (close_dir volume dir).fields out.old out.new) }
+    ensures put { OnOk result (PutsAll (close_dir volume dir).fields out.old out.new) }
+    ensures err { OnErr result (Keeps out.old out.new) }
 {
     put_command(out, CLOSE_DIR)?;
     put_pad(out)?;

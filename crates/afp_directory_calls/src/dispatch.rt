@@ -81,7 +81,8 @@ pub fn read_directory_call(
     }
 }
 
-/// Appends the canonical block of a request; `None` where it is none of these.
+/// Appends the canonical block of a request; `None` where it is none of these. An error keeps what
+/// stood there, and may leave some of the block behind it.
 pub fn write_directory_call(
     alloc: Global,
     out: &mut Bytes,

@@ -1,9 +1,9 @@
 //! The requests about what a directory holds (AFP Reference, "Directory Commands").
 
-ghost use Rattle.std.specs.Prelude.{OnOk};
+ghost use Rattle.std.specs.Prelude.{OnOk, OnErr};
 ghost use Rattle.afp_requests.specs.Directory.{enumerate, enumerate_reader, enumerate_ext, enumerate_ext_reader, enumerate_ext2, enumerate_ext2_reader};
 ghost use Rattle.afp_fields.specs.Taking.{Gives};
-ghost use Rattle.afp_fields.specs.Putting.{PutsAll};
+ghost use Rattle.afp_fields.specs.Putting.{PutsAll, Keeps};
 
 use afp_base::{Bytes, NodeId, OutOfMemory, VolumeId};
 use afp_fields::{Fields, put_command, put_pad, put_path, put_u16, put_u32};
@@ -51,9 +51,10 @@ pub(crate) fn write_enumerate(
     size: u16,
     path: &Path,
 ) -> Result<(), OutOfMemory>
-    ensures { OnOk result
+    ensures put { OnOk result
         (PutsAll (enumerate volume dir file_bits dir_bits count start size path.now).fields
         out.old out.new) }
+    ensures err { OnErr result (Keeps out.old out.new) }
 {
     put_command(out, ENUMERATE)?;
     put_pad(out)?;
@@ -106,9 +107,10 @@ pub(crate) fn write_enumerate_ext(
     size: u16,
     path: &Path,
 ) -> Result<(), OutOfMemory>
-    ensures { OnOk result
+    ensures put { OnOk result
         (PutsAll (enumerate_ext volume dir file_bits dir_bits count start size path.now).fields
         out.old out.new) }
+    ensures err { OnErr result (Keeps out.old out.new) }
 {
     put_command(out, ENUMERATE_EXT)?;
     put_pad(out)?;
@@ -161,9 +163,10 @@ pub(crate) fn write_enumerate_ext2(
     size: u32,
     path: &Path,
 ) -> Result<(), OutOfMemory>
-    ensures { OnOk result
+    ensures put { OnOk result
         (PutsAll (enumerate_ext2 volume dir file_bits dir_bits count start size path.now).fields
         out.old out.new) }
+    ensures err { OnErr result (Keeps out.old out.new) }
 {
     put_command(out, ENUMERATE_EXT2)?;
     put_pad(out)?;

@@ -1,9 +1,9 @@
 //! The requests about parameters of directories and files (AFP Reference, "Combined Directory-File Commands").
 
-ghost use Rattle.std.specs.Prelude.{OnOk};
+ghost use Rattle.std.specs.Prelude.{OnOk, OnErr};
 ghost use Rattle.afp_requests.specs.Directory.{set_dir_parms, set_dir_parms_reader, get_file_dir_parms, get_file_dir_parms_reader, set_file_dir_parms, set_file_dir_parms_reader};
 ghost use Rattle.afp_fields.specs.Taking.{Gives};
-ghost use Rattle.afp_fields.specs.Putting.{PutsAll};
+ghost use Rattle.afp_fields.specs.Putting.{PutsAll, Keeps};
 
 use afp_base::{Bytes, NodeId, OutOfMemory, VolumeId};
 use afp_fields::{Fields, put_bytes, put_command, put_even, put_pad, put_path, put_u16, put_u32};
@@ -43,16 +43,18 @@ pub(crate) fn write_set_dir_parms(
     path: &Path,
     tail: &Bytes,
 ) -> Result<(), OutOfMemory>
-    ensures { OnOk result
+    ensures put { OnOk result
         (PutsAll (set_dir_parms volume dir bits path.now tail.now).fields out.old out.new) }
+    ensures err { OnErr result (Keeps out.old out.new) }
 {
+    let start = out.as_slice().len();
     put_command(out, SET_DIR_PARMS)?;
     put_pad(out)?;
     put_u16(out, volume.0)?;
     put_u32(out, dir.0)?;
     put_u16(out, bits)?;
     put_path(alloc, out, path)?;
-    put_even(out)?;
+    put_even(out, start)?;
     put_bytes(out, tail.as_slice())
 }
 
@@ -89,9 +91,10 @@ pub(crate) fn write_get_file_dir_parms(
     dir_bits: u16,
     path: &Path,
 ) -> Result<(), OutOfMemory>
-    ensures { OnOk result
+    ensures put { OnOk result
         (PutsAll (get_file_dir_parms volume dir file_bits dir_bits path.now).fields
         out.old out.new) }
+    ensures err { OnErr result (Keeps out.old out.new) }
 {
     put_command(out, GET_FILE_DIR_PARMS)?;
     put_pad(out)?;
@@ -136,15 +139,17 @@ pub(crate) fn write_set_file_dir_parms(
     path: &Path,
     tail: &Bytes,
 ) -> Result<(), OutOfMemory>
-    ensures { OnOk result
+    ensures put { OnOk result
         (PutsAll (set_file_dir_parms volume dir bits path.now tail.now).fields out.old out.new) }
+    ensures err { OnErr result (Keeps out.old out.new) }
 {
+    let start = out.as_slice().len();
     put_command(out, SET_FILE_DIR_PARMS)?;
     put_pad(out)?;
     put_u16(out, volume.0)?;
     put_u32(out, dir.0)?;
     put_u16(out, bits)?;
     put_path(alloc, out, path)?;
-    put_even(out)?;
+    put_even(out, start)?;
     put_bytes(out, tail.as_slice())
 }

@@ -1,9 +1,9 @@
 //! The requests about where directories and files stand (AFP Reference, "Combined Directory-File Commands").
 
-ghost use Rattle.std.specs.Prelude.{OnOk};
+ghost use Rattle.std.specs.Prelude.{OnOk, OnErr};
 ghost use Rattle.afp_requests.specs.Directory.{delete, delete_reader, rename, rename_reader, move_and_rename, move_and_rename_reader};
 ghost use Rattle.afp_fields.specs.Taking.{Gives};
-ghost use Rattle.afp_fields.specs.Putting.{PutsAll};
+ghost use Rattle.afp_fields.specs.Putting.{PutsAll, Keeps};
 
 use afp_base::{Bytes, NodeId, OutOfMemory, VolumeId};
 use afp_fields::{Fields, put_command, put_pad, put_path, put_u16, put_u32};
@@ -32,7 +32,8 @@ pub(crate) fn write_delete(
     dir: NodeId,
     path: &Path,
 ) -> Result<(), OutOfMemory>
-    ensures { OnOk result (PutsAll (delete volume dir path.now).fields out.old out.new) }
+    ensures put { OnOk result (PutsAll (delete volume dir path.now).fields out.old out.new) }
+    ensures err { OnErr result (Keeps out.old out.new) }
 {
     put_command(out, DELETE)?;
     put_pad(out)?;
@@ -68,8 +69,9 @@ pub(crate) fn write_rename(
     path: &Path,
     new_path: &Path,
 ) -> Result<(), OutOfMemory>
-    ensures { OnOk result
+    ensures put { OnOk result
         (PutsAll (rename volume dir path.now new_path.now).fields out.old out.new) }
+    ensures err { OnErr result (Keeps out.old out.new) }
 {
     put_command(out, RENAME)?;
     put_pad(out)?;
@@ -115,9 +117,10 @@ pub(crate) fn write_move_and_rename(
     target_path: &Path,
     new_path: &Path,
 ) -> Result<(), OutOfMemory>
-    ensures { OnOk result
+    ensures put { OnOk result
         (PutsAll (move_and_rename volume dir target_dir path.now target_path.now new_path.now).fields
         out.old out.new) }
+    ensures err { OnErr result (Keeps out.old out.new) }
 {
     put_command(out, MOVE_AND_RENAME)?;
     put_pad(out)?;

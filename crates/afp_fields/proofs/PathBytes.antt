@@ -1,11 +1,8 @@
 -- The bytes of a path, step by step.
-use Rattle.std.proofs.Common.{◌≡◌, ℕ, zero, suc, ◌+◌, ◌≤◌, List, [], ◌∷◌, ◌++◌, length, drop, Option, Some, None, refl, sym, ◌∙◌, ap, arith, slice_get, replicate}
+use Rattle.std.proofs.Common.{◌≡◌, ℕ, zero, suc, ◌+◌, ◌≤◌, List, [], ◌∷◌, ◌++◌, length, drop, Option, Some, None, refl, sym, ◌∙◌, ap, arith, slice_get}
 use Rattle.std.proofs.lemmas.List.{append-nil, append_assoc, drop_all}
 use Rattle.afp_names.specs.declared.path.Step.{Step}
-use Rattle.byteorder.specs.Endian.{big_bytes}
-use Rattle.afp_requests.specs.Words.{pathname, hint_size, count_size}
-use Rattle.afp_fields.specs.Putting.{Puts}
-use Rattle.afp_names.specs.Path.{PathValue, IsPath, step_bytes, steps_bytes, canonical_path}
+use Rattle.afp_names.specs.Path.{PathValue, step_bytes, steps_bytes, canonical_path}
 
 one_more : (i : ℕ) → i + 1 ≡ suc i
 one_more i = omega arith
@@ -30,10 +27,3 @@ pub all_put : (kind : ℕ) (before : Option Step) (steps : List Step) (i : ℕ) 
 all_put kind before steps i bytes whole end so_far =
     let rest : drop i steps ≡ [] = drop_all i steps end in
     sym (append-nil bytes) ∙ (rw rest at so_far)
-
--- a path's type, its hint and count, and its bytes may be put apart
-pub path_put : (p : PathValue) (kind again : ℕ) (out one two new text : List ℕ) → IsPath p → kind ≡ p.kind → again ≡ p.kind → text ≡ canonical_path p → one ≡ out ++ (kind ∷ []) → two ≡ one ++ (replicate (hint_size again) 0 ++ big_bytes (count_size again) (length text)) → new ≡ two ++ text → Puts (pathname p) out new
-path_put p kind again out one two new text typed is same spelt a b c = record { typed = typed; bytes = whole }
-  where
-    whole : new ≡ out ++ (p.kind ∷ (replicate (hint_size p.kind) 0 ++ (big_bytes (count_size p.kind) (length (canonical_path p)) ++ canonical_path p)))
-    whole = rw (c, b, a, is, same, spelt, append_assoc, append_assoc) (ap (λ (l : List ℕ). out ++ (p.kind ∷ l)) (append_assoc (replicate (hint_size p.kind) 0) (big_bytes (count_size p.kind) (length (canonical_path p))) (canonical_path p)))

@@ -1,5 +1,5 @@
 -- How the fields of a request are put, one after the other.
-use Rattle.std.specs.Prelude.{◌≡◌, ◌≢◌, ℕ, List, [], ◌∷◌, ◌++◌, length, Option, Some, None, Result, OnOk}
+use Rattle.std.specs.Prelude.{◌≡◌, ◌≢◌, ℕ, ◌-◌, List, [], ◌∷◌, ◌++◌, length, take, Option, Some, None, Result, OnOk, OnErr}
 use Rattle.std.specs.List.{AllByRecursion}
 use Rattle.afp_base.specs.declared.bytes.OutOfMemory.{OutOfMemory}
 use Rattle.afp_requests.specs.declared.call.Call.{Call}
@@ -7,26 +7,34 @@ use Rattle.afp_requests.specs.Call.{layout_of}
 use Rattle.afp_requests.specs.Group.{Group, group_of}
 use Rattle.afp_requests.specs.Words.{Field, IsTyped, canonical, canonical_fields}
 
--- the canonical bytes of the fields behind these bytes, field by field
-abbrev pub put_on : List Field → List ℕ → List ℕ
-put_on [] bytes = bytes
-put_on (f ∷ fs) bytes = put_on fs (bytes ++ canonical f.word f.value (length bytes))
+-- the canonical bytes of the fields behind these bytes, field by field, in a block that begins at this place of the bytes
+abbrev pub put_on : ℕ → List Field → List ℕ → List ℕ
+put_on start [] bytes = bytes
+put_on start (f ∷ fs) bytes = put_on start fs (bytes ++ canonical f.word f.value (length bytes - start))
 
--- The canonical bytes of the field are appended. Its value is one of its type.
-pub record Puts (f : Field) (old new : List ℕ) : Type 0 where
+-- The canonical bytes of the field are appended, in a block that begins at this place of the bytes. Its value is one of its type.
+pub record PutsIn (start : ℕ) (f : Field) (old new : List ℕ) : Type 0 where
   pub typed : IsTyped f.word f.value
-  pub bytes : new ≡ old ++ canonical f.word f.value (length old)
+  pub bytes : new ≡ old ++ canonical f.word f.value (length old - start)
 
--- The canonical bytes of the fields are appended, and each value is one of its type.
+-- the same for a field that has the same bytes at each place
+abbrev pub Puts : Field → List ℕ → List ℕ → Type 0
+Puts f old new = PutsIn 0 f old new
+
+-- The canonical bytes of the fields are appended, as a block that begins here. Each value is one of its type.
 pub record PutsAll (fs : List Field) (old new : List ℕ) : Type 0 where
   pub typed : AllByRecursion (λ f. IsTyped f.word f.value) fs
-  pub bytes : put_on fs old ≡ new
+  pub bytes : put_on (length old) fs old ≡ new
+
+-- what stood there still stands there, in front
+abbrev pub Keeps : List ℕ → List ℕ → Type 0
+Keeps old new = take (length old) new ≡ old
 
 -- the law: what is put field by field is what the fields are together
 abbrev pub PutTogether : Type 0
-PutTogether = (fs : List Field) (bytes : List ℕ) → put_on fs bytes ≡ bytes ++ canonical_fields (length bytes) fs
+PutTogether = (fs : List Field) (bytes : List ℕ) → put_on (length bytes) fs bytes ≡ bytes ++ canonical_fields 0 fs
 
--- The request's canonical block is appended, where it is of this group; else nothing.
+-- The request is of this group, and its canonical block is appended; an error keeps what stood there, and may leave some of the block behind it. None: it is of another group, and nothing is appended.
 abbrev pub Writes : Group → Call → Option (Result (Unit {0}) OutOfMemory) → List ℕ → List ℕ → Type 0
-Writes group call (Some result) old new = OnOk result (PutsAll (layout_of call).fields old new)
-Writes group call None old new = (new ≡ old) × (group_of call ≢ group)
+Writes group call (Some result) old new = (group_of call ≡ group) × OnOk result (PutsAll (layout_of call).fields old new) × OnErr result (Keeps old new)
+Writes group call None old new = (group_of call ≢ group) × (new ≡ old)

@@ -1,7 +1,7 @@
 //! The fields of a request, one after the other.
 #![tactic(auto, using(crate::proofs::WordLemmas::words_read))]
 
-ghost use Rattle.std.specs.Prelude.{◌≡◌, ◌⊎◌, ◌≤◌, length, Ok, IfOk};
+ghost use Rattle.std.specs.Prelude.{◌≡◌, ◌⊎◌, ◌≤◌, length, Ok, IfOk, OnErr};
 ghost use Rattle.std.specs.Option.{option_copied};
 ghost use Rattle.afp_requests.specs.Words.{Literal, Pad, LastPad, Even, Number, Within, Count, Optional, Signed32, Signed64, Plain, Counted, Tail};
 ghost use Rattle.afp_fields.specs.Taking.{Takes, TakesPiece, TakesEnclosed, StandsAlone};
@@ -12,7 +12,8 @@ use byteorder::{BigEndian, ByteOrder};
 use std::alloc::Global;
 use std::marker::Model;
 
-/// Reads the fields of a block, one after the other, and what a Write frame encloses with it.
+/// Reads the fields of a block, one after the other, and what a Write frame encloses with it. An error
+/// takes nothing.
 ///
 /// Contracts see the block, the place, and what is enclosed.
 #[derive(Drop)]
@@ -49,6 +50,17 @@ impl<'a> Fields<'a> {
         }
     }
 
+    /// The same fields once more, from the same place on.
+    pub(crate) fn again(&self) -> Fields<'a>
+        ensures { result ≡ self.now }
+    {
+        Fields {
+            block: self.block,
+            place: self.place,
+            enclosed: self.enclosed,
+        }
+    }
+
     /// The next `size` bytes.
     pub(crate) fn piece(&mut self, size: usize) -> Result<&'a [u8], ReadFault>
         ensures { TakesPiece size self.old result self.new }
@@ -63,7 +75,8 @@ impl<'a> Fields<'a> {
 
     /// Passes over a pad byte.
     pub fn pad(&mut self) -> Result<(), ReadFault>
-        ensures { Takes Pad self.old result self.new }
+        ensures taken { Takes Pad self.old result self.new }
+        ensures err { OnErr result (self.new ≡ self.old) }
     {
         let _pad = self.piece(1)?;
         Ok(())
@@ -80,7 +93,8 @@ impl<'a> Fields<'a> {
 
     /// Passes over a pad byte, where the place is odd.
     pub fn even(&mut self) -> Result<(), ReadFault>
-        ensures { Takes Even self.old result self.new }
+        ensures taken { Takes Even self.old result self.new }
+        ensures err { OnErr result (self.new ≡ self.old) }
     {
         let odd = self.place % 2;
         let _pad = self.piece(odd)?;
@@ -89,18 +103,22 @@ impl<'a> Fields<'a> {
 
     /// Passes over a byte of that value.
     pub fn literal(&mut self, byte: u8) -> Result<(), ReadFault>
-        ensures { Takes (Literal byte) self.old result self.new }
+        ensures taken { Takes (Literal byte) self.old result self.new }
+        ensures err { OnErr result (self.new ≡ self.old) }
     {
-        let piece = self.piece(1)?;
+        let mut ahead = self.again();
+        let piece = ahead.piece(1)?;
         if piece[0] != byte {
             return Err(ReadFault::Param);
         }
+        *self = ahead;
         Ok(())
     }
 
     /// A byte.
     pub fn u8(&mut self) -> Result<u8, ReadFault>
-        ensures { Takes (Number 1) self.old result self.new }
+        ensures taken { Takes (Number 1) self.old result self.new }
+        ensures err { OnErr result (self.new ≡ self.old) }
     {
         let piece = self.piece(1)?;
         Ok(piece[0])
@@ -108,7 +126,8 @@ impl<'a> Fields<'a> {
 
     /// A number of 2 bytes.
     pub fn u16(&mut self) -> Result<u16, ReadFault>
-        ensures { Takes (Number 2) self.old result self.new }
+        ensures taken { Takes (Number 2) self.old result self.new }
+        ensures err { OnErr result (self.new ≡ self.old) }
     {
         let piece = self.piece(2)?;
         Ok(BigEndian::read_u16(piece))
@@ -116,7 +135,8 @@ impl<'a> Fields<'a> {
 
     /// A number of 4 bytes.
     pub fn u32(&mut self) -> Result<u32, ReadFault>
-        ensures { Takes (Number 4) self.old result self.new }
+        ensures taken { Takes (Number 4) self.old result self.new }
+        ensures err { OnErr result (self.new ≡ self.old) }
     {
         let piece = self.piece(4)?;
         Ok(BigEndian::read_u32(piece))
@@ -124,31 +144,38 @@ impl<'a> Fields<'a> {
 
     /// A byte from a least to a greatest.
     pub fn u8_within(&mut self, low: u8, high: u8) -> Result<u8, ReadFault>
-        ensures { Takes (Within 1 low high) self.old result self.new }
+        ensures taken { Takes (Within 1 low high) self.old result self.new }
+        ensures err { OnErr result (self.new ≡ self.old) }
     {
-        let piece = self.piece(1)?;
+        let mut ahead = self.again();
+        let piece = ahead.piece(1)?;
         let number = piece[0];
         if number < low || number > high {
             return Err(ReadFault::Param);
         }
+        *self = ahead;
         Ok(number)
     }
 
     /// A number of 2 bytes, from a least to a greatest.
     pub fn u16_within(&mut self, low: u16, high: u16) -> Result<u16, ReadFault>
-        ensures { Takes (Within 2 low high) self.old result self.new }
+        ensures taken { Takes (Within 2 low high) self.old result self.new }
+        ensures err { OnErr result (self.new ≡ self.old) }
     {
-        let piece = self.piece(2)?;
+        let mut ahead = self.again();
+        let piece = ahead.piece(2)?;
         let number = BigEndian::read_u16(piece);
         if number < low || number > high {
             return Err(ReadFault::Param);
         }
+        *self = ahead;
         Ok(number)
     }
 
     /// A signed number of 4 bytes.
     pub fn i32(&mut self) -> Result<i32, ReadFault>
-        ensures { Takes Signed32 self.old result self.new }
+        ensures taken { Takes Signed32 self.old result self.new }
+        ensures err { OnErr result (self.new ≡ self.old) }
     {
         let piece = self.piece(4)?;
         Ok(BigEndian::read_u32(piece).cast_signed())
@@ -156,7 +183,8 @@ impl<'a> Fields<'a> {
 
     /// A signed number of 8 bytes.
     pub fn i64(&mut self) -> Result<i64, ReadFault>
-        ensures { Takes Signed64 self.old result self.new }
+        ensures taken { Takes Signed64 self.old result self.new }
+        ensures err { OnErr result (self.new ≡ self.old) }
     {
         let piece = self.piece(8)?;
         Ok(BigEndian::read_u64(piece).cast_signed())
@@ -164,7 +192,8 @@ impl<'a> Fields<'a> {
 
     /// The next 4 bytes.
     pub fn four(&mut self) -> Result<[u8; 4], ReadFault>
-        ensures { Takes (Plain 4) self.old result self.new }
+        ensures taken { Takes (Plain 4) self.old result self.new }
+        ensures err { OnErr result (self.new ≡ self.old) }
     {
         let piece = self.piece(4)?;
         let mut bytes = [0; 4];
@@ -174,15 +203,20 @@ impl<'a> Fields<'a> {
 
     /// So many bytes.
     pub fn plain(&mut self, alloc: Global, size: u32) -> Result<Bytes, ReadFault>
-        ensures { Takes (Plain size) self.old result self.new }
+        ensures taken { Takes (Plain size) self.old result self.new }
+        ensures err { OnErr result (self.new ≡ self.old) }
     {
-        let piece = self.piece(size as usize)?;
-        Ok(owned(alloc, piece)?)
+        let mut ahead = self.again();
+        let piece = ahead.piece(size as usize)?;
+        let bytes = owned(alloc, piece)?;
+        *self = ahead;
+        Ok(bytes)
     }
 
     /// A count, in 4 bytes, of what stands further on.
     pub fn count(&mut self) -> Result<u32, ReadFault>
-        ensures { Takes (Count 4) self.old result self.new }
+        ensures taken { Takes (Count 4) self.old result self.new }
+        ensures err { OnErr result (self.new ≡ self.old) }
     {
         let piece = self.piece(4)?;
         Ok(BigEndian::read_u32(piece))
@@ -190,7 +224,8 @@ impl<'a> Fields<'a> {
 
     /// A number of 4 bytes, where it is there.
     pub fn optional(&mut self, there: bool) -> Result<Option<u32>, ReadFault>
-        ensures { Takes (Optional there 4) self.old result self.new }
+        ensures taken { Takes (Optional there 4) self.old result self.new }
+        ensures err { OnErr result (self.new ≡ self.old) }
     {
         if !there {
             return Ok(None);
@@ -201,38 +236,54 @@ impl<'a> Fields<'a> {
 
     /// The bytes behind their count of one byte.
     pub fn str(&mut self, alloc: Global) -> Result<Bytes, ReadFault>
-        ensures { Takes (Counted 1) self.old result self.new }
+        ensures taken { Takes (Counted 1) self.old result self.new }
+        ensures err { OnErr result (self.new ≡ self.old) }
     {
-        let count = self.piece(1)?[0];
-        let piece = self.piece(usize::from(count))?;
-        Ok(owned(alloc, piece)?)
+        let mut ahead = self.again();
+        let count = ahead.piece(1)?[0];
+        let piece = ahead.piece(usize::from(count))?;
+        let text = owned(alloc, piece)?;
+        *self = ahead;
+        Ok(text)
     }
 
     /// The bytes behind their count of 2 bytes.
     pub fn text(&mut self, alloc: Global) -> Result<Bytes, ReadFault>
-        ensures { Takes (Counted 2) self.old result self.new }
+        ensures taken { Takes (Counted 2) self.old result self.new }
+        ensures err { OnErr result (self.new ≡ self.old) }
     {
-        let count = BigEndian::read_u16(self.piece(2)?);
-        let piece = self.piece(usize::from(count))?;
-        Ok(owned(alloc, piece)?)
+        let mut ahead = self.again();
+        let count = BigEndian::read_u16(ahead.piece(2)?);
+        let piece = ahead.piece(usize::from(count))?;
+        let text = owned(alloc, piece)?;
+        *self = ahead;
+        Ok(text)
     }
 
     /// The bytes behind their count of 4 bytes.
     pub fn long_text(&mut self, alloc: Global) -> Result<Bytes, ReadFault>
-        ensures { Takes (Counted 4) self.old result self.new }
+        ensures taken { Takes (Counted 4) self.old result self.new }
+        ensures err { OnErr result (self.new ≡ self.old) }
     {
-        let count = BigEndian::read_u32(self.piece(4)?);
-        let piece = self.piece(count as usize)?;
-        Ok(owned(alloc, piece)?)
+        let mut ahead = self.again();
+        let count = BigEndian::read_u32(ahead.piece(4)?);
+        let piece = ahead.piece(count as usize)?;
+        let text = owned(alloc, piece)?;
+        *self = ahead;
+        Ok(text)
     }
 
     /// All that remains.
     pub fn tail(&mut self, alloc: Global) -> Result<Bytes, ReadFault>
-        ensures { Takes Tail self.old result self.new }
+        ensures taken { Takes Tail self.old result self.new }
+        ensures err { OnErr result (self.new ≡ self.old) }
     {
+        let mut ahead = self.again();
         let remaining = self.block.len() - self.place;
-        let piece = self.piece(remaining)?;
-        Ok(owned(alloc, piece)?)
+        let piece = ahead.piece(remaining)?;
+        let bytes = owned(alloc, piece)?;
+        *self = ahead;
+        Ok(bytes)
     }
 
     /// That nothing is enclosed, as in a Command frame.

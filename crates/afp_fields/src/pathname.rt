@@ -1,12 +1,12 @@
 //! Paths in requests (AFP Reference, "Pathnames").
-ghost use Rattle.std.specs.Prelude.{◌≡◌, ◌≢◌, ◌⊎◌, ◌≤◌, ◌<◌, ◌++◌, ◌^◌, [], ◌∷◌, length, map, replicate, chars, IfOk, OnOk, Option, None};
+ghost use Rattle.std.specs.Prelude.{◌≡◌, ◌≢◌, ◌⊎◌, ◌≤◌, ◌<◌, ◌++◌, ◌^◌, [], ◌∷◌, length, map, replicate, chars, IfOk, OnOk, OnErr, Option, None};
 ghost use Rattle.std.specs.Option.{option_copied};
 ghost use Rattle.byteorder.specs.Endian.{big_bytes};
 ghost use Rattle.afp_names.specs.LongName.{shown_byte};
 ghost use Rattle.afp_names.specs.Path.{IsPath, canonical_path, longest_path, step_bytes, element_of};
 ghost use Rattle.afp_requests.specs.Words.{Pathname, pathname, hint_size, count_size};
 ghost use Rattle.afp_fields.specs.Taking.{Takes, TakesText};
-ghost use Rattle.afp_fields.specs.Putting.{Puts};
+ghost use Rattle.afp_fields.specs.Putting.{Puts, Keeps};
 
 use crate::fields::Fields;
 use afp_base::{Bytes, OutOfMemory};
@@ -17,8 +17,20 @@ use byteorder::{BigEndian, ByteOrder};
 use std::alloc::Global;
 
 impl<'a> Fields<'a> {
-    /// A path: its type, a hint where the type is that of UTF-8 names, a count and its bytes.
+    /// A path: its type, a hint where the type is that of UTF-8 names, a count and its bytes. An error
+    /// takes nothing.
     pub fn path(&mut self, alloc: Global) -> Result<Path, ReadFault>
+        ensures taken { Takes Pathname self.old result self.new }
+        ensures err { OnErr result (self.new ≡ self.old) }
+    {
+        let mut ahead = self.again();
+        let path = ahead.path_on(alloc)?;
+        *self = ahead;
+        Ok(path)
+    }
+
+    /// A path. An error may take some of its bytes.
+    fn path_on(&mut self, alloc: Global) -> Result<Path, ReadFault>
         ensures { Takes Pathname self.old result self.new }
     {
         let piece = match self.piece(1) {
@@ -57,21 +69,38 @@ impl<'a> Fields<'a> {
     }
 }
 
-/// A path. Its hint is 0.
+/// A path. Its hint is 0. An error changes nothing.
 pub fn put_path(alloc: Global, out: &mut Bytes, path: &Path) -> Result<(), OutOfMemory>
-    ensures { OnOk result (Puts (pathname path.now) out.old out.new) }
+    ensures put { OnOk result (Puts (pathname path.now) out.old out.new) }
+    ensures err { OnErr result (out.new ≡ out.old) }
 {
     let text = canonical_bytes(alloc, path)?;
-    out.extend(&[path.kind()])?;
-    put_count(out, path.kind(), text.as_slice().len())?;
-    out.extend(text.as_slice())?;
-    Ok(())
+    let before = out.as_slice().len();
+    match append_path(out, path.kind(), text.as_slice()) {
+        Ok(()) => Ok(()),
+        Err(error) => {
+            out.truncate(before);
+            Err(error)
+        }
+    }
 }
 
-/// What stands between a path's type and its bytes.
+/// A path's type, its hint and count, and its bytes. An error may leave some of them.
+fn append_path(out: &mut Bytes, kind: u8, text: &[u8]) -> Result<(), OutOfMemory>
+    requires { length text.now ≤ longest_path kind }
+    ensures put { OnOk result (out.new ≡ out.old ++ (kind ∷ (replicate (hint_size kind) 0 ++ (big_bytes (count_size kind) (length text.now) ++ text.now)))) }
+    ensures err { OnErr result (Keeps out.old out.new) }
+{
+    out.extend(&[kind])?;
+    put_count(out, kind, text.len())?;
+    out.extend(text)
+}
+
+/// What stands between a path's type and its bytes. An error changes nothing.
 fn put_count(out: &mut Bytes, kind: u8, count: usize) -> Result<(), OutOfMemory>
     requires { count ≤ longest_path kind }
-    ensures { OnOk result (out.new ≡ out.old ++ (replicate (hint_size kind) 0 ++ big_bytes (count_size kind) count)) }
+    ensures put { OnOk result (out.new ≡ out.old ++ (replicate (hint_size kind) 0 ++ big_bytes (count_size kind) count)) }
+    ensures err { OnErr result (out.new ≡ out.old) }
 {
     if kind == LONG_NAMES {
         return out.extend(&[count as u8]);

@@ -1,9 +1,9 @@
 //! The requests about files (AFP Reference, "File Commands").
 
-ghost use Rattle.std.specs.Prelude.{OnOk};
+ghost use Rattle.std.specs.Prelude.{OnOk, OnErr};
 ghost use Rattle.afp_requests.specs.File.{create_file, create_file_reader, copy_file, copy_file_reader, set_file_parms, set_file_parms_reader, exchange_files, exchange_files_reader};
 ghost use Rattle.afp_fields.specs.Taking.{Gives};
-ghost use Rattle.afp_fields.specs.Putting.{PutsAll};
+ghost use Rattle.afp_fields.specs.Putting.{PutsAll, Keeps};
 
 use afp_base::{Bytes, NodeId, OutOfMemory, VolumeId};
 use afp_fields::{
@@ -40,7 +40,8 @@ pub(crate) fn write_create_file(
     dir: NodeId,
     path: &Path,
 ) -> Result<(), OutOfMemory>
-    ensures { OnOk result (PutsAll (create_file flag volume dir path.now).fields out.old out.new) }
+    ensures put { OnOk result (PutsAll (create_file flag volume dir path.now).fields out.old out.new) }
+    ensures err { OnErr result (Keeps out.old out.new) }
 {
     put_command(out, CREATE_FILE)?;
     put_u8(out, flag)?;
@@ -85,9 +86,10 @@ pub(crate) fn write_copy_file(
     target_path: &Path,
     new_path: &Path,
 ) -> Result<(), OutOfMemory>
-    ensures { OnOk result
+    ensures put { OnOk result
         (PutsAll (copy_file volume dir target_volume target_dir path.now target_path.now new_path.now).fields
         out.old out.new) }
+    ensures err { OnErr result (Keeps out.old out.new) }
 {
     put_command(out, COPY_FILE)?;
     put_pad(out)?;
@@ -131,16 +133,18 @@ pub(crate) fn write_set_file_parms(
     path: &Path,
     tail: &Bytes,
 ) -> Result<(), OutOfMemory>
-    ensures { OnOk result
+    ensures put { OnOk result
         (PutsAll (set_file_parms volume dir bits path.now tail.now).fields out.old out.new) }
+    ensures err { OnErr result (Keeps out.old out.new) }
 {
+    let start = out.as_slice().len();
     put_command(out, SET_FILE_PARMS)?;
     put_pad(out)?;
     put_u16(out, volume.0)?;
     put_u32(out, dir.0)?;
     put_u16(out, bits)?;
     put_path(alloc, out, path)?;
-    put_even(out)?;
+    put_even(out, start)?;
     put_bytes(out, tail.as_slice())
 }
 
@@ -174,9 +178,10 @@ pub(crate) fn write_exchange_files(
     path: &Path,
     second_path: &Path,
 ) -> Result<(), OutOfMemory>
-    ensures { OnOk result
+    ensures put { OnOk result
         (PutsAll (exchange_files volume dir second_dir path.now second_path.now).fields
         out.old out.new) }
+    ensures err { OnErr result (Keeps out.old out.new) }
 {
     put_command(out, EXCHANGE_FILES)?;
     put_pad(out)?;

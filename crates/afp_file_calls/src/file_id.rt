@@ -1,9 +1,9 @@
 //! The requests about ids of files (AFP Reference, "File Commands").
 
-ghost use Rattle.std.specs.Prelude.{OnOk};
+ghost use Rattle.std.specs.Prelude.{OnOk, OnErr};
 ghost use Rattle.afp_requests.specs.File.{create_id, create_id_reader, delete_id, delete_id_reader, resolve_id, resolve_id_reader};
 ghost use Rattle.afp_fields.specs.Taking.{Gives};
-ghost use Rattle.afp_fields.specs.Putting.{PutsAll};
+ghost use Rattle.afp_fields.specs.Putting.{PutsAll, Keeps};
 
 use afp_base::{Bytes, NodeId, OutOfMemory, VolumeId};
 use afp_fields::{Fields, put_command, put_pad, put_path, put_u16, put_u32};
@@ -32,7 +32,8 @@ pub(crate) fn write_create_id(
     dir: NodeId,
     path: &Path,
 ) -> Result<(), OutOfMemory>
-    ensures { OnOk result (PutsAll (create_id volume dir path.now).fields out.old out.new) }
+    ensures put { OnOk result (PutsAll (create_id volume dir path.now).fields out.old out.new) }
+    ensures err { OnErr result (Keeps out.old out.new) }
 {
     put_command(out, CREATE_ID)?;
     put_pad(out)?;
@@ -58,7 +59,8 @@ pub(crate) fn write_delete_id(
     volume: VolumeId,
     id: NodeId,
 ) -> Result<(), OutOfMemory>
-    ensures { OnOk result (PutsAll (delete_id volume id).fields out.old out.new) }
+    ensures put { OnOk result (PutsAll (delete_id volume id).fields out.old out.new) }
+    ensures err { OnErr result (Keeps out.old out.new) }
 {
     put_command(out, DELETE_ID)?;
     put_pad(out)?;
@@ -85,7 +87,8 @@ pub(crate) fn write_resolve_id(
     id: NodeId,
     bits: u16,
 ) -> Result<(), OutOfMemory>
-    ensures { OnOk result (PutsAll (resolve_id volume id bits).fields out.old out.new) }
+    ensures put { OnOk result (PutsAll (resolve_id volume id bits).fields out.old out.new) }
+    ensures err { OnErr result (Keeps out.old out.new) }
 {
     put_command(out, RESOLVE_ID)?;
     put_pad(out)?;

@@ -1,9 +1,9 @@
 //! The requests about open forks (AFP Reference, "Fork Commands").
 
-ghost use Rattle.std.specs.Prelude.{OnOk};
+ghost use Rattle.std.specs.Prelude.{OnOk, OnErr};
 ghost use Rattle.afp_requests.specs.Fork.{open_fork, open_fork_reader, close_fork, close_fork_reader, flush_fork, flush_fork_reader, get_fork_parms, get_fork_parms_reader, set_fork_parms, set_fork_parms_reader};
 ghost use Rattle.afp_fields.specs.Taking.{Gives};
-ghost use Rattle.afp_fields.specs.Putting.{PutsAll};
+ghost use Rattle.afp_fields.specs.Putting.{PutsAll, Keeps};
 
 use afp_base::{Bytes, ForkRef, NodeId, OutOfMemory, VolumeId};
 use afp_fields::{Fields, put_bytes, put_command, put_pad, put_path, put_u8, put_u16, put_u32};
@@ -44,8 +44,9 @@ pub(crate) fn write_open_fork(
     mode: u16,
     path: &Path,
 ) -> Result<(), OutOfMemory>
-    ensures { OnOk result
+    ensures put { OnOk result
         (PutsAll (open_fork flag volume dir bits mode path.now).fields out.old out.new) }
+    ensures err { OnErr result (Keeps out.old out.new) }
 {
     put_command(out, OPEN_FORK)?;
     put_u8(out, flag)?;
@@ -68,7 +69,8 @@ pub(crate) fn read_close_fork(fields: &mut Fields<'_>) -> Result<Call, ReadFault
 
 /// FPCloseFork.
 pub(crate) fn write_close_fork(out: &mut Bytes, reference: ForkRef) -> Result<(), OutOfMemory>
-    ensures { OnOk result (PutsAll (close_fork reference).fields out.old out.new) }
+    ensures put { OnOk result (PutsAll (close_fork reference).fields out.old out.new) }
+    ensures err { OnErr result (Keeps out.old out.new) }
 {
     put_command(out, CLOSE_FORK)?;
     put_pad(out)?;
@@ -87,7 +89,8 @@ pub(crate) fn read_flush_fork(fields: &mut Fields<'_>) -> Result<Call, ReadFault
 
 /// FPFlushFork.
 pub(crate) fn write_flush_fork(out: &mut Bytes, reference: ForkRef) -> Result<(), OutOfMemory>
-    ensures { OnOk result (PutsAll (flush_fork reference).fields out.old out.new) }
+    ensures put { OnOk result (PutsAll (flush_fork reference).fields out.old out.new) }
+    ensures err { OnErr result (Keeps out.old out.new) }
 {
     put_command(out, FLUSH_FORK)?;
     put_pad(out)?;
@@ -111,7 +114,8 @@ pub(crate) fn write_get_fork_parms(
     reference: ForkRef,
     bits: u16,
 ) -> Result<(), OutOfMemory>
-    ensures { OnOk result (PutsAll (get_fork_parms reference bits).fields out.old out.new) }
+    ensures put { OnOk result (PutsAll (get_fork_parms reference bits).fields out.old out.new) }
+    ensures err { OnErr result (Keeps out.old out.new) }
 {
     put_command(out, GET_FORK_PARMS)?;
     put_pad(out)?;
@@ -142,8 +146,9 @@ pub(crate) fn write_set_fork_parms(
     bits: u16,
     tail: &Bytes,
 ) -> Result<(), OutOfMemory>
-    ensures { OnOk result
+    ensures put { OnOk result
         (PutsAll (set_fork_parms reference bits tail.now).fields out.old out.new) }
+    ensures err { OnErr result (Keeps out.old out.new) }
 {
     put_command(out, SET_FORK_PARMS)?;
     put_pad(out)?;

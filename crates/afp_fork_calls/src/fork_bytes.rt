@@ -1,9 +1,9 @@
 //! The requests about the bytes of a fork (AFP Reference, "Fork Commands").
 
-ghost use Rattle.std.specs.Prelude.{◌≡◌, OnOk, []};
+ghost use Rattle.std.specs.Prelude.{◌≡◌, OnOk, OnErr, []};
 ghost use Rattle.afp_requests.specs.Fork.{read, read_reader, read_ext, read_ext_reader, write, write_reader, write_ext, write_ext_reader, piece_size};
 ghost use Rattle.afp_fields.specs.Taking.{Gives};
-ghost use Rattle.afp_fields.specs.Putting.{PutsAll};
+ghost use Rattle.afp_fields.specs.Putting.{PutsAll, Keeps};
 
 use afp_base::{Bytes, ForkRef, OutOfMemory};
 use afp_fields::{Fields, put_command, put_i32, put_i64, put_pad, put_u8, put_u16, put_u32};
@@ -40,8 +40,9 @@ pub(crate) fn write_read(
     mask: u8,
     character: u8,
 ) -> Result<(), OutOfMemory>
-    ensures { OnOk result
+    ensures put { OnOk result
         (PutsAll (read reference offset count mask character).fields out.old out.new) }
+    ensures err { OnErr result (Keeps out.old out.new) }
 {
     put_command(out, READ)?;
     put_pad(out)?;
@@ -75,7 +76,8 @@ pub(crate) fn write_read_ext(
     offset: i64,
     count: i64,
 ) -> Result<(), OutOfMemory>
-    ensures { OnOk result (PutsAll (read_ext reference offset count).fields out.old out.new) }
+    ensures put { OnOk result (PutsAll (read_ext reference offset count).fields out.old out.new) }
+    ensures err { OnErr result (Keeps out.old out.new) }
 {
     put_command(out, READ_EXT)?;
     put_pad(out)?;
@@ -110,7 +112,8 @@ pub(crate) fn write_write(
     offset: i32,
     count: u32,
 ) -> Result<(), OutOfMemory>
-    ensures { OnOk result (PutsAll (write flag reference offset count []).fields out.old out.new) }
+    ensures put { OnOk result (PutsAll (write flag reference offset count []).fields out.old out.new) }
+    ensures err { OnErr result (Keeps out.old out.new) }
 {
     put_command(out, WRITE)?;
     put_u8(out, flag)?;
@@ -145,8 +148,9 @@ pub(crate) fn write_write_ext(
     offset: i64,
     count: i64,
 ) -> Result<(), OutOfMemory>
-    ensures { OnOk result
+    ensures put { OnOk result
         (PutsAll (write_ext flag reference offset count []).fields out.old out.new) }
+    ensures err { OnErr result (Keeps out.old out.new) }
 {
     put_command(out, WRITE_EXT)?;
     put_u8(out, flag)?;

@@ -1,9 +1,9 @@
 //! The requests about byte-range locks (AFP Reference, "Fork Commands").
 
-ghost use Rattle.std.specs.Prelude.{◌<◌, length, OnOk};
+ghost use Rattle.std.specs.Prelude.{◌<◌, length, OnOk, OnErr};
 ghost use Rattle.afp_requests.specs.Fork.{byte_range_lock, byte_range_lock_reader, byte_range_lock_ext, byte_range_lock_ext_reader};
 ghost use Rattle.afp_fields.specs.Taking.{Gives};
-ghost use Rattle.afp_fields.specs.Putting.{PutsAll};
+ghost use Rattle.afp_fields.specs.Putting.{PutsAll, Keeps};
 
 use afp_base::{Bytes, ForkRef, OutOfMemory};
 use afp_fields::{Fields, put_command, put_i32, put_i64, put_u8, put_u16};
@@ -35,8 +35,9 @@ pub(crate) fn write_byte_range_lock(
     offset: i32,
     length: i32,
 ) -> Result<(), OutOfMemory>
-    ensures { OnOk result
+    ensures put { OnOk result
         (PutsAll (byte_range_lock flags reference offset length).fields out.old out.new) }
+    ensures err { OnErr result (Keeps out.old out.new) }
 {
     put_command(out, BYTE_RANGE_LOCK)?;
     put_u8(out, flags)?;
@@ -70,8 +71,9 @@ pub(crate) fn write_byte_range_lock_ext(
     offset: i64,
     length: i64,
 ) -> Result<(), OutOfMemory>
-    ensures { OnOk result
+    ensures put { OnOk result
         (PutsAll (byte_range_lock_ext flags reference offset length).fields out.old out.new) }
+    ensures err { OnErr result (Keeps out.old out.new) }
 {
     put_command(out, BYTE_RANGE_LOCK_EXT)?;
     put_u8(out, flags)?;

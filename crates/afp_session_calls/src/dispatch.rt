@@ -78,7 +78,8 @@ pub fn read_session_call(
     }
 }
 
-/// Appends the canonical block of a request; `None` where it is none of these.
+/// Appends the canonical block of a request; `None` where it is none of these. An error keeps what
+/// stood there, and may leave some of the block behind it.
 pub fn write_session_call(out: &mut Bytes, call: &Call) -> Option<Result<(), OutOfMemory>>
     requires { IsSpellable call.now }
     ensures { Writes Session call.now result out.old out.new }

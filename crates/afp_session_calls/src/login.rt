@@ -1,10 +1,10 @@
 //! The requests about logging in and out (AFP Reference, "Login Commands").
 
-ghost use Rattle.std.specs.Prelude.{◌<◌, ◌^◌, length, OnOk};
+ghost use Rattle.std.specs.Prelude.{◌≡◌, ◌<◌, ◌^◌, length, OnOk, OnErr};
 ghost use Rattle.afp_requests.specs.Words.{Counted, count_size, counted};
 ghost use Rattle.afp_requests.specs.Session.{login, login_reader, login_ext, login_ext_reader, logout, logout_reader};
 ghost use Rattle.afp_fields.specs.Taking.{Gives, Takes};
-ghost use Rattle.afp_fields.specs.Putting.{PutsAll, Puts};
+ghost use Rattle.afp_fields.specs.Putting.{PutsAll, Puts, Keeps};
 
 use afp_base::{Bytes, OutOfMemory};
 use afp_fields::{
@@ -36,7 +36,8 @@ pub(crate) fn write_login(
 ) -> Result<(), OutOfMemory>
     requires version { length version.now < 256 }
     requires uam { length uam.now < 256 }
-    ensures { OnOk result (PutsAll (login version.now uam.now tail.now).fields out.old out.new) }
+    ensures put { OnOk result (PutsAll (login version.now uam.now tail.now).fields out.old out.new) }
+    ensures err { OnErr result (Keeps out.old out.new) }
 {
     put_command(out, LOGIN)?;
     put_str(out, version.as_slice())?;
@@ -85,10 +86,12 @@ pub(crate) fn write_login_ext(
     requires uam { length uam.now < 256 }
     requires name { length name.now < 256 ^ 2 }
     requires path { length path.now < 256 ^ (count_size path_kind) }
-    ensures { OnOk result
+    ensures put { OnOk result
         (PutsAll (login_ext flags version.now uam.now name.now path_kind path.now tail.now).fields
         out.old out.new) }
+    ensures err { OnErr result (Keeps out.old out.new) }
 {
+    let start = out.as_slice().len();
     put_command(out, LOGIN_EXT)?;
     put_pad(out)?;
     put_u16(out, flags)?;
@@ -98,7 +101,7 @@ pub(crate) fn write_login_ext(
     put_text(out, name.as_slice())?;
     put_u8(out, path_kind)?;
     put_path_text(out, path_kind, path.as_slice())?;
-    put_even(out)?;
+    put_even(out, start)?;
     put_bytes(out, tail.as_slice())
 }
 
@@ -113,7 +116,8 @@ pub(crate) fn read_logout(fields: &mut Fields<'_>) -> Result<Call, ReadFault>
 
 /// FPLogout.
 pub(crate) fn write_logout(out: &mut Bytes) -> Result<(), OutOfMemory>
-    ensures { OnOk result (PutsAll logout.fields out.old out.new) }
+    ensures put { OnOk result (PutsAll logout.fields out.old out.new) }
+    ensures err { OnErr result (Keeps out.old out.new) }
 {
     put_command(out, LOGOUT)?;
     put_pad(out)
@@ -132,7 +136,8 @@ fn path_text(alloc: Global, fields: &mut Fields<'_>, kind: u8) -> Result<Bytes, 
 /// The bytes of a path of that type, behind their count.
 fn put_path_text(out: &mut Bytes, kind: u8, text: &[u8]) -> Result<(), OutOfMemory>
     requires { length text.now < 256 ^ count_size kind }
-    ensures { OnOk result (Puts (counted (count_size kind) text.now) out.old out.new) }
+    ensures put { OnOk result (Puts (counted (count_size kind) text.now) out.old out.new) }
+    ensures err { OnErr result (out.new ≡ out.old) }
 {
     if kind == LONG_NAMES {
         return put_str(out, text);

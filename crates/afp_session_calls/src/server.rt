@@ -1,9 +1,9 @@
 //! The requests about the server (AFP Reference, "Server Commands").
 
-ghost use Rattle.std.specs.Prelude.{OnOk};
+ghost use Rattle.std.specs.Prelude.{OnOk, OnErr};
 ghost use Rattle.afp_requests.specs.Session.{get_srvr_info, get_srvr_info_reader, get_srvr_parms, get_srvr_parms_reader, get_srvr_msg, get_srvr_msg_reader};
 ghost use Rattle.afp_fields.specs.Taking.{Gives};
-ghost use Rattle.afp_fields.specs.Putting.{PutsAll};
+ghost use Rattle.afp_fields.specs.Putting.{PutsAll, Keeps};
 
 use afp_base::{Bytes, OutOfMemory};
 use afp_fields::{Fields, put_command, put_pad, put_u16};
@@ -21,7 +21,8 @@ pub(crate) fn read_get_srvr_info(fields: &mut Fields<'_>) -> Result<Call, ReadFa
 
 /// FPGetSrvrInfo.
 pub(crate) fn write_get_srvr_info(out: &mut Bytes) -> Result<(), OutOfMemory>
-    ensures { OnOk result (PutsAll get_srvr_info.fields out.old out.new) }
+    ensures put { OnOk result (PutsAll get_srvr_info.fields out.old out.new) }
+    ensures err { OnErr result (Keeps out.old out.new) }
 {
     put_command(out, GET_SRVR_INFO)?;
     put_pad(out)
@@ -38,7 +39,8 @@ pub(crate) fn read_get_srvr_parms(fields: &mut Fields<'_>) -> Result<Call, ReadF
 
 /// FPGetSrvrParms.
 pub(crate) fn write_get_srvr_parms(out: &mut Bytes) -> Result<(), OutOfMemory>
-    ensures { OnOk result (PutsAll get_srvr_parms.fields out.old out.new) }
+    ensures put { OnOk result (PutsAll get_srvr_parms.fields out.old out.new) }
+    ensures err { OnErr result (Keeps out.old out.new) }
 {
     put_command(out, GET_SRVR_PARMS)?;
     put_pad(out)
@@ -57,7 +59,8 @@ pub(crate) fn read_get_srvr_msg(fields: &mut Fields<'_>) -> Result<Call, ReadFau
 
 /// FPGetSrvrMsg.
 pub(crate) fn write_get_srvr_msg(out: &mut Bytes, kind: u16, bits: u16) -> Result<(), OutOfMemory>
-    ensures { OnOk result (PutsAll (get_srvr_msg kind bits).fields out.old out.new) }
+    ensures put { OnOk result (PutsAll (get_srvr_msg kind bits).fields out.old out.new) }
+    ensures err { OnErr result (Keeps out.old out.new) }
 {
     put_command(out, GET_SRVR_MSG)?;
     put_pad(out)?;

@@ -1,9 +1,9 @@
 //! The requests about tokens of sessions (AFP Reference, "Reconnecting").
 
-ghost use Rattle.std.specs.Prelude.{◌≡◌, ◌<◌, ◌^◌, length, OnOk};
+ghost use Rattle.std.specs.Prelude.{◌≡◌, ◌<◌, ◌^◌, length, OnOk, OnErr};
 ghost use Rattle.afp_requests.specs.Session.{get_session_token, get_session_token_reader, disconnect_old_session, disconnect_old_session_reader, has_stamp};
 ghost use Rattle.afp_fields.specs.Taking.{Gives};
-ghost use Rattle.afp_fields.specs.Putting.{PutsAll};
+ghost use Rattle.afp_fields.specs.Putting.{PutsAll, Keeps};
 
 use afp_base::{Bytes, OutOfMemory};
 use afp_fields::{
@@ -38,7 +38,8 @@ pub(crate) fn write_get_session_token(
     id: &Bytes,
 ) -> Result<(), OutOfMemory>
     requires { length id.now < 256 ^ 4 }
-    ensures { OnOk result (PutsAll (get_session_token kind stamp id.now).fields out.old out.new) }
+    ensures put { OnOk result (PutsAll (get_session_token kind stamp id.now).fields out.old out.new) }
+    ensures err { OnErr result (Keeps out.old out.new) }
 {
     put_command(out, GET_SESSION_TOKEN)?;
     put_pad(out)?;
@@ -69,7 +70,8 @@ pub(crate) fn write_disconnect_old_session(
     token: &Bytes,
 ) -> Result<(), OutOfMemory>
     requires { length token.now < 256 ^ 4 }
-    ensures { OnOk result (PutsAll (disconnect_old_session kind token.now).fields out.old out.new) }
+    ensures put { OnOk result (PutsAll (disconnect_old_session kind token.now).fields out.old out.new) }
+    ensures err { OnErr result (Keeps out.old out.new) }
 {
     put_command(out, DISCONNECT_OLD_SESSION)?;
     put_pad(out)?;

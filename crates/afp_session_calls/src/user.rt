@@ -1,10 +1,10 @@
 //! The requests about users (AFP Reference, "User Commands").
 
-ghost use Rattle.std.specs.Prelude.{◌<◌, ◌^◌, length, OnOk};
+ghost use Rattle.std.specs.Prelude.{◌≡◌, ◌<◌, ◌^◌, length, OnOk, OnErr};
 ghost use Rattle.afp_requests.specs.Words.{Counted, counted};
 ghost use Rattle.afp_requests.specs.Session.{get_user_info, get_user_info_reader, map_id, map_id_reader, map_name, map_name_reader, name_count};
 ghost use Rattle.afp_fields.specs.Taking.{Gives, Takes};
-ghost use Rattle.afp_fields.specs.Putting.{PutsAll, Puts};
+ghost use Rattle.afp_fields.specs.Putting.{PutsAll, Puts, Keeps};
 
 use afp_base::{Bytes, OutOfMemory};
 use afp_fields::{Fields, put_command, put_str, put_text, put_u8, put_u16, put_u32};
@@ -31,7 +31,8 @@ pub(crate) fn write_get_user_info(
     id: u32,
     bits: u16,
 ) -> Result<(), OutOfMemory>
-    ensures { OnOk result (PutsAll (get_user_info flag id bits).fields out.old out.new) }
+    ensures put { OnOk result (PutsAll (get_user_info flag id bits).fields out.old out.new) }
+    ensures err { OnErr result (Keeps out.old out.new) }
 {
     put_command(out, GET_USER_INFO)?;
     put_u8(out, flag)?;
@@ -51,7 +52,8 @@ pub(crate) fn read_map_id(fields: &mut Fields<'_>) -> Result<Call, ReadFault>
 
 /// FPMapID.
 pub(crate) fn write_map_id(out: &mut Bytes, function: u8, id: u32) -> Result<(), OutOfMemory>
-    ensures { OnOk result (PutsAll (map_id function id).fields out.old out.new) }
+    ensures put { OnOk result (PutsAll (map_id function id).fields out.old out.new) }
+    ensures err { OnErr result (Keeps out.old out.new) }
 {
     put_command(out, MAP_ID)?;
     put_u8(out, function)?;
@@ -71,7 +73,8 @@ pub(crate) fn read_map_name(alloc: Global, fields: &mut Fields<'_>) -> Result<Ca
 /// FPMapName.
 pub(crate) fn write_map_name(out: &mut Bytes, function: u8, name: &Bytes) -> Result<(), OutOfMemory>
     requires { length name.now < 256 ^ (name_count function) }
-    ensures { OnOk result (PutsAll (map_name function name.now).fields out.old out.new) }
+    ensures put { OnOk result (PutsAll (map_name function name.now).fields out.old out.new) }
+    ensures err { OnErr result (Keeps out.old out.new) }
 {
     put_command(out, MAP_NAME)?;
     put_u8(out, function)?;
@@ -91,7 +94,8 @@ fn name_text(alloc: Global, fields: &mut Fields<'_>, function: u8) -> Result<Byt
 /// A name, behind its count, which is wider for the functions that map names in UTF-8.
 fn put_name_text(out: &mut Bytes, function: u8, text: &[u8]) -> Result<(), OutOfMemory>
     requires { length text.now < 256 ^ name_count function }
-    ensures { OnOk result (Puts (counted (name_count function) text.now) out.old out.new) }
+    ensures put { OnOk result (Puts (counted (name_count function) text.now) out.old out.new) }
+    ensures err { OnErr result (out.new ≡ out.old) }
 {
     if function <= LAST_UTF8_FUNCTION {
         return put_text(out, text);

@@ -46,7 +46,8 @@ pub fn read_volume_call(
     }
 }
 
-/// Appends the canonical block of a request; `None` where it is none of these.
+/// Appends the canonical block of a request; `None` where it is none of these. An error keeps what
+/// stood there, and may leave some of the block behind it.
 pub fn write_volume_call(out: &mut Bytes, call: &Call) -> Option<Result<(), OutOfMemory>>
     requires { IsSpellable call.now }
     ensures { Writes Volume call.now result out.old out.new }

@@ -1,9 +1,9 @@
 //! The requests about volumes (AFP Reference, "Volume Commands").
 
-ghost use Rattle.std.specs.Prelude.{◌<◌, length, OnOk};
+ghost use Rattle.std.specs.Prelude.{◌<◌, length, OnOk, OnErr};
 ghost use Rattle.afp_requests.specs.Volume.{open_vol, open_vol_reader, close_vol, close_vol_reader, get_vol_parms, get_vol_parms_reader, set_vol_parms, set_vol_parms_reader, flush, flush_reader};
 ghost use Rattle.afp_fields.specs.Taking.{Gives};
-ghost use Rattle.afp_fields.specs.Putting.{PutsAll};
+ghost use Rattle.afp_fields.specs.Putting.{PutsAll, Keeps};
 
 use afp_base::{Bytes, OutOfMemory, VolumeId};
 use afp_fields::{Fields, put_bytes, put_command, put_pad, put_str, put_u16};
@@ -25,7 +25,8 @@ pub(crate) fn read_open_vol(alloc: Global, fields: &mut Fields<'_>) -> Result<Ca
 /// FPOpenVol.
 pub(crate) fn write_open_vol(out: &mut Bytes, bits: u16, name: &Bytes) -> Result<(), OutOfMemory>
     requires { length name.now < 256 }
-    ensures { OnOk result (PutsAll (open_vol bits name.now).fields out.old out.new) }
+    ensures put { OnOk result (PutsAll (open_vol bits name.now).fields out.old out.new) }
+    ensures err { OnErr result (Keeps out.old out.new) }
 {
     put_command(out, OPEN_VOL)?;
     put_pad(out)?;
@@ -45,7 +46,8 @@ pub(crate) fn read_close_vol(fields: &mut Fields<'_>) -> Result<Call, ReadFault>
 
 /// FPCloseVol.
 pub(crate) fn write_close_vol(out: &mut Bytes, volume: VolumeId) -> Result<(), OutOfMemory>
-    ensures { OnOk result (PutsAll (close_vol volume).fields out.old out.new) }
+    ensures put { OnOk result (PutsAll (close_vol volume).fields out.old out.new) }
+    ensures err { OnErr result (Keeps out.old out.new) }
 {
     put_command(out, CLOSE_VOL)?;
     put_pad(out)?;
@@ -69,7 +71,8 @@ pub(crate) fn write_get_vol_parms(
     volume: VolumeId,
     bits: u16,
 ) -> Result<(), OutOfMemory>
-    ensures { OnOk result (PutsAll (get_vol_parms volume bits).fields out.old out.new) }
+    ensures put { OnOk result (PutsAll (get_vol_parms volume bits).fields out.old out.new) }
+    ensures err { OnErr result (Keeps out.old out.new) }
 {
     put_command(out, GET_VOL_PARMS)?;
     put_pad(out)?;
@@ -96,7 +99,8 @@ pub(crate) fn write_set_vol_parms(
     bits: u16,
     tail: &Bytes,
 ) -> Result<(), OutOfMemory>
-    ensures { OnOk result (PutsAll (set_vol_parms volume bits tail.now).fields out.old out.new) }
+    ensures put { OnOk result (PutsAll (set_vol_parms volume bits tail.now).fields out.old out.new) }
+    ensures err { OnErr result (Keeps out.old out.new) }
 {
     put_command(out, SET_VOL_PARMS)?;
     put_pad(out)?;
@@ -117,7 +121,8 @@ pub(crate) fn read_flush(fields: &mut Fields<'_>) -> Result<Call, ReadFault>
 
 /// FPFlush.
 pub(crate) fn write_flush(out: &mut Bytes, volume: VolumeId) -> Result<(), OutOfMemory>
-    ensures { OnOk result (PutsAll (flush volume).fields out.old out.new) }
+    ensures put { OnOk result (PutsAll (flush volume).fields out.old out.new) }
+    ensures err { OnErr result (Keeps out.old out.new) }
 {
     put_command(out, FLUSH)?;
     put_pad(out)?;

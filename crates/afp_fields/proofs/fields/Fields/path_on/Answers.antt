@@ -1,7 +1,7 @@
 use Rattle.std.proofs.Common.{refl, inl, inr}
 use Rattle.afp_requests.specs.Words.{Pathname}
 use Rattle.afp_fields.proofs.WordLemmas.{path_by_pieces, path_cut, path_refused, path_of_no_type, path_lacks_type, refused}
-use Rattle.afp_fields.proofs.fields.Fields.path.Goals as goal
+use Rattle.afp_fields.proofs.fields.Fields.path_on.Goals as goal
 
 pub returns-in-Err : goal.returns-in-Err
 returns-in-Err c =
