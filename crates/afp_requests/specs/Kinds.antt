@@ -21,10 +21,3 @@ login_with_time_and_id = 3
 
 abbrev pub reconn_with_time_and_id : ℕ
 reconn_with_time_and_id = 4
-
--- the types of paths: long names, and names in UTF-8 (AFP Reference, "Pathnames")
-abbrev pub long_names : ℕ
-long_names = 2
-
-abbrev pub utf8_names : ℕ
-utf8_names = 3

@@ -1,7 +1,8 @@
 -- The requests about the session: logging in and out, tokens, and what the server tells of itself and of users (AFP Reference, "Login Commands", "Server Commands", "User Commands"). Each has its fields, and beside them how they are read.
 use Rattle.std.specs.Prelude.{ℕ, List, [], ◌∷◌, Option, Bool, ◌==◌, ◌||◌, nat_le, if◌then◌else◌, length}
 use Rattle.afp_requests.specs.Commands.{login_command, login_ext_command, logout_command, get_session_token_command, disconnect_old_session_command, get_srvr_info_command, get_srvr_parms_command, get_srvr_msg_command, get_user_info_command, map_id_command, map_name_command}
-use Rattle.afp_requests.specs.Kinds.{first_function, last_function, last_utf8_function, login_without_id, login_with_time_and_id, reconn_with_time_and_id, long_names, utf8_names}
+use Rattle.afp_requests.specs.Kinds.{first_function, last_function, last_utf8_function, login_without_id, login_with_time_and_id, reconn_with_time_and_id}
+use Rattle.afp_names.specs.Path.{long_names, utf8_names}
 use Rattle.afp_requests.specs.declared.call.Call.TheVariants.{Login, LoginExt, Logout, GetSessionToken, DisconnectOldSession, GetSrvrInfo, GetSrvrParms, GetSrvrMsg, GetUserInfo, MapID, MapName}
 use Rattle.afp_requests.specs.Words.{Count, Counted, Even, LastPad, Literal, Number, Optional, Pad, Plain, Tail, Within, Layout, in_command, command, count_in, counted, even, last_pad, literal, optional, pad, plain, str, tail, u16, u16_within, u32, u8, u8_within, count_size}
 use Rattle.afp_requests.specs.Reading.{Reader, reader, Alone, Then, words}

@@ -5,8 +5,7 @@ use Rattle.byteorder.specs.Endian.{big_number, big_bytes}
 use Rattle.afp_base.specs.declared.ids.ForkRef.{ForkRef}
 use Rattle.afp_base.specs.declared.ids.NodeId.{NodeId}
 use Rattle.afp_base.specs.declared.ids.VolumeId.{VolumeId}
-use Rattle.afp_requests.specs.Kinds.{long_names}
-use Rattle.afp_names.specs.Path.{PathValue, IsPath, SpellsPath, canonical_path}
+use Rattle.afp_names.specs.Path.{long_names, PathValue, IsPath, SpellsPath, canonical_path}
 
 -- The sorts of fields: a byte of this value; a pad byte; a pad byte that a block may end before; a pad byte where the place is odd; an unsigned number in so many bytes; the same, from a least to a greatest; the same, as a count of what stands further on; a number that is there where a condition holds; signed numbers; so many bytes; a count in so many bytes, and the bytes; a path; all that remains.
 pub data Word : Type 0 where

@@ -1,8 +1,6 @@
 //! The kinds of a request that it tells by a number.
 ghost use Rattle.std.specs.Prelude.{◌≡◌};
-ghost use Rattle.afp_requests.specs.Kinds.{first_function, last_function, last_utf8_function, login_without_id, login_with_time_and_id, reconn_with_time_and_id, long_names, utf8_names};
-
-use afp_names::{LONG_NAMES, UTF8_NAMES};
+ghost use Rattle.afp_requests.specs.Kinds.{first_function, last_function, last_utf8_function, login_without_id, login_with_time_and_id, reconn_with_time_and_id};
 
 /// The functions of FPMapID and FPMapName run from the first to the last (AFP Reference, FPMapID,
 /// FPMapName).
@@ -22,7 +20,7 @@ pub const LOGIN_WITH_TIME_AND_ID: u16 = 3;
 /// The last type of FPGetSessionToken, which comes with a time stamp.
 pub const RECONN_WITH_TIME_AND_ID: u16 = 4;
 
-/// Each kind has the number of its definition, and so have the types of paths.
+/// Each kind has the number of its definition.
 pub fn kinds_are_as_defined()
     ensures first { FIRST_FUNCTION ≡ first_function }
     ensures last { LAST_FUNCTION ≡ last_function }
@@ -30,6 +28,4 @@ pub fn kinds_are_as_defined()
     ensures least_token { LOGIN_WITHOUT_ID ≡ login_without_id }
     ensures stamped_token { LOGIN_WITH_TIME_AND_ID ≡ login_with_time_and_id }
     ensures greatest_token { RECONN_WITH_TIME_AND_ID ≡ reconn_with_time_and_id }
-    ensures long_path { LONG_NAMES ≡ long_names }
-    ensures utf8_path { UTF8_NAMES ≡ utf8_names }
 {}
