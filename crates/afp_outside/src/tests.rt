@@ -2,10 +2,12 @@ ghost use Rattle.std.specs.Prelude.{IfOk};
 ghost use Rattle.afp_outside.specs.Tape.{IsFreshTape};
 
 use super::*;
+use crate::steady_clock::{SteadyClock, moment_after};
 use crate::system_clock::moment_of_unix;
 use afp_base::{Bytes, LinkNumber, Moment, OutOfMemory};
 use std::alloc::Global;
 use std::io::ErrorKind;
+use std::process::Abort;
 use std::test::Fail;
 use std::time::Duration;
 use std::{io, time};
@@ -14,152 +16,151 @@ fn moment(seconds: u32) -> Moment {
     Moment::new(seconds).unwrap_or(moment_of_unix(0))
 }
 
-fn bytes_of(alloc: Global, text: &[u8]) -> Result<Bytes, OutOfMemory> {
-    let mut bytes = Bytes::new(alloc);
-    bytes.extend(text)?;
-    Ok(bytes)
-}
-
-fn link_of(alloc: Global, text: &[u8]) -> Result<TapeLink, OutOfMemory>
+/// A link on which a text comes, by a plan of reads, writes and moments, and with these calls failing.
+fn link_of(
+    alloc: Global,
+    text: &[u8],
+    reads: &[usize],
+    writes: &[usize],
+    moments: &[Moment],
+    failing: &[u64],
+) -> Result<TapeLink, OutOfMemory>
     ensures { IfOk result IsFreshTape }
 {
-    let bytes = bytes_of(alloc, text)?;
-    let sizes = Vec::new(alloc);
+    let mut bytes = Bytes::new(alloc);
+    bytes.extend(text)?;
     TapeLink::new(
         alloc,
         moment(5),
         bytes,
-        sizes,
-        Vec::new(alloc),
-        Vec::new(alloc),
-        Vec::new(alloc),
+        reads.to_vec(alloc)?,
+        writes.to_vec(alloc)?,
+        moments.to_vec(alloc)?,
+        failing.to_vec(alloc)?,
     )
 }
 
-#[test]
-fn reads_of_a_link_in_memory_follow_its_plan(rt: HostRuntime) -> Result<(), Fail> {
-    let alloc = rt.alloc();
-    let bytes = bytes_of(alloc, b"abcdef")?;
-    let reads = vec![in alloc; 2, 0, 3]?;
-    let moments = vec![in alloc; moment(10), moment(20), moment(30)]?;
-    let failing = vec![in alloc; 1]?;
-    let mut link = TapeLink::new(
-        alloc,
-        moment(5),
-        bytes,
-        reads,
-        Vec::new(alloc),
-        moments,
-        failing,
-    )?;
-    assert_eq!(rt; link.now(), moment(5));
-    for (heard, text, now, heard_at) in [
-        (Heard::Got(2), b"ab".as_slice(), 10, 10),
-        (Heard::Failed, b"".as_slice(), 20, 10),
-        (Heard::Quiet, b"".as_slice(), 30, 10),
-        (Heard::Got(3), b"cde".as_slice(), 30, 30),
-        (Heard::Got(1), b"f".as_slice(), 30, 30),
-        (Heard::End, b"".as_slice(), 30, 30),
-    ] {
-        let mut room = [0; 16];
-        assert_eq!(rt; link.read(&mut room), heard);
-        assert!(rt; room.as_slice().starts_with(text));
-        assert_eq!(rt; link.now(), moment(now));
-        assert_eq!(rt; link.heard(), moment(heard_at));
+/// What each read in turn hears, its bytes, the moment after it, and that of the last bytes.
+fn reads() -> &'static [(Heard, &'static str, u32, u32)] {
+    &[
+        (Heard::Got(2), "ab", 10, 10),
+        (Heard::Failed, "", 20, 10),
+        (Heard::Quiet, "", 30, 10),
+        (Heard::Got(3), "cde", 30, 30),
+        (Heard::Got(1), "f", 30, 30),
+        (Heard::End, "", 30, 30),
+    ]
+}
+
+/// What each write of a text in turn did, and all that was written behind it.
+fn writes() -> &'static [(Wrote, &'static str)] {
+    &[
+        (Wrote::Took(3), "hel"),
+        (Wrote::Took(1), "helh"),
+        (Wrote::Failed, "helh"),
+        (Wrote::Took(5), "helhhello"),
+    ]
+}
+
+fn expect_reads(rt: &impl Abort, link: &mut TapeLink) {
+    for (heard, text, now, heard_at) in reads() {
+        let mut room = [0; 8];
+        assert_eq!(rt; link.read(&mut room), *heard);
+        assert!(rt; room.as_slice().starts_with(text.as_bytes()));
+        assert_eq!(rt; link.now(), moment(*now));
+        assert_eq!(rt; link.heard(), moment(*heard_at));
     }
-    Ok(())
+}
+
+fn expect_writes(rt: &impl Abort, link: &mut TapeLink) {
+    for (wrote, written) in writes() {
+        assert_eq!(rt; link.write(b"hello"), *wrote);
+        assert_eq!(rt; link.written(), written.as_bytes());
+    }
+}
+
+/// A link that is read by `reads()` and then written by `writes()`.
+fn planned_link(alloc: Global) -> Result<TapeLink, OutOfMemory> {
+    let moments = [moment(10), moment(20), moment(30)];
+    link_of(alloc, b"abcdef", &[2, 0, 3], &[3, 0], &moments, &[1, 8])
 }
 
 #[test]
-fn writes_of_a_link_in_memory_follow_its_plan(rt: HostRuntime) -> Result<(), Fail> {
-    let alloc = rt.alloc();
-    let writes = vec![in alloc; 1, 0, 3]?;
-    let failing = vec![in alloc; 1]?;
-    let mut link = TapeLink::new(
-        alloc,
-        moment(5),
-        Bytes::new(alloc),
-        Vec::new(alloc),
-        writes,
-        Vec::new(alloc),
-        failing,
-    )?;
-    for (wrote, written) in [
-        (Wrote::Took(1), b"h".as_slice()),
-        (Wrote::Failed, b"h".as_slice()),
-        (Wrote::Took(1), b"hh".as_slice()),
-        (Wrote::Took(3), b"hhhel".as_slice()),
-        (Wrote::Took(5), b"hhhelhello".as_slice()),
-    ] {
-        assert_eq!(rt; link.write(b"hello"), wrote);
-        assert_eq!(rt; link.written(), written);
-    }
+fn a_link_in_memory_follows_its_plan(rt: HostRuntime) -> Result<(), Fail> {
+    let mut link = planned_link(rt.alloc())?;
+    expect_reads(&rt, &mut link);
+    expect_writes(&rt, &mut link);
     Ok(())
 }
 
-#[test]
-fn a_sink_in_memory_follows_its_plan(rt: HostRuntime) -> Result<(), Fail> {
-    let alloc = rt.alloc();
-    let writes = vec![in alloc; 2]?;
-    let failing = vec![in alloc; 1]?;
-    let mut sink = TapeSink::new(alloc, writes, failing)?;
-    for (wrote, written) in [
-        (Wrote::Took(2), b"no".as_slice()),
-        (Wrote::Failed, b"no".as_slice()),
-        (Wrote::Took(3), b"nonot".as_slice()),
-    ] {
-        assert_eq!(rt; sink.write(b"not"), wrote);
-        assert_eq!(rt; sink.written(), written);
-    }
-    Ok(())
+/// A sink that takes 3 bytes, and then fails.
+fn planned_sink(alloc: Global) -> Result<TapeSink, OutOfMemory> {
+    TapeSink::new(alloc, [3].to_vec(alloc)?, [1].to_vec(alloc)?)
 }
 
-#[test]
-fn a_door_in_memory_hands_out_its_links_in_order(rt: HostRuntime) -> Result<(), Fail> {
-    let alloc = rt.alloc();
-    let links = vec![in alloc; link_of(alloc, b"a")?, link_of(alloc, b"b")?]?;
-    let mut door = TapeListener::new(alloc, links, vec![in alloc; 1]?)?;
-    for (told, first) in [("link", b'a'), ("failed", 0), ("link", b'b'), ("closed", 0)] {
-        match door.accept() {
-            Accepted::Link(mut link) => {
-                let mut room = [0; 1];
-                assert_eq!(rt; link.read(&mut room), Heard::Got(1));
-                assert_eq!(rt; (told, room[0]), ("link", first));
-                let _ = link.write(&room);
-                door.back(link);
-            }
-            Accepted::Failed => assert_eq!(rt; told, "failed"),
-            Accepted::Closed => assert_eq!(rt; told, "closed"),
+fn expect_report(rt: &impl Abort, sink: &mut TapeSink) {
+    assert_eq!(rt;
+        (sink.write(b"hello"), sink.write(b"lo")),
+        (Wrote::Took(3), Wrote::Failed)
+    );
+    assert_eq!(rt; sink.written(), b"hel".as_slice());
+}
+
+/// What each accept in turn tells, and the first byte of its link.
+fn accepts() -> &'static [(&'static str, u8)] {
+    &[("failed", 0), ("link", b'a'), ("closed", 0)]
+}
+
+/// A door through which a link comes, and whose first accept fails.
+fn planned_door(alloc: Global) -> Result<TapeListener, OutOfMemory> {
+    let failing = [0].to_vec(alloc)?;
+    let link = link_of(alloc, b"a", &[], &[], &[], &[])?;
+    TapeListener::new(alloc, vec![in alloc; link]?, failing)
+}
+
+/// Accepts, reads a byte of the link, and hands it back. It gives what the accept told, and the byte.
+fn accepted(door: &mut TapeListener) -> (&'static str, u8) {
+    match door.accept() {
+        Accepted::Link(mut link) => {
+            let mut room = [0; 1];
+            let _ = link.read(&mut room);
+            door.back(link);
+            ("link", room[0])
         }
+        Accepted::Failed => ("failed", 0),
+        Accepted::Closed => ("closed", 0),
     }
-    assert_eq!(rt; door.returned().len(), 2);
-    for (link, text) in door.returned().iter().zip([b"a", b"b"]) {
-        assert_eq!(rt; link.written(), text.as_slice());
+}
+
+fn expect_accepts(rt: &impl Abort, door: &mut TapeListener) {
+    for (told, first) in accepts() {
+        assert_eq!(rt; accepted(door), (*told, *first));
     }
+    assert_eq!(rt; door.returned().len(), 1);
+}
+
+#[test]
+fn doors_and_sinks_follow_their_plans(rt: HostRuntime) -> Result<(), Fail> {
+    assert!(rt; matches!(TcpDoor::closed(rt).accept(), Accepted::Closed));
+    expect_accepts(&rt, &mut planned_door(rt.alloc())?);
+    expect_report(&rt, &mut planned_sink(rt.alloc())?);
     Ok(())
 }
 
-#[test]
-fn a_door_that_is_closed_says_so(rt: HostRuntime) {
-    let mut door = TcpDoor::closed(rt);
-    assert!(rt; matches!(door.accept(), Accepted::Closed));
-}
-
-#[test]
-fn moments_of_the_clock_begin_in_2000(rt: HostRuntime) {
-    for (unix, seconds) in [
+/// Seconds since 1970, and the moment.
+fn moments() -> &'static [(u64, u32)] {
+    &[
         (0, 0),
         (946_684_799, 0),
         (946_684_801, 1),
         (1_000_000_000, 53_315_200),
         (3_094_168_447, 2_147_483_647),
         (u64::MAX, 2_147_483_647),
-    ] {
-        assert_eq!(rt; moment_of_unix(unix).seconds(), seconds);
-    }
+    ]
 }
 
-// A system's clock that stands at so many seconds since 1970, or fails.
+/// A system's clock that stands at so many seconds since 1970, or fails.
+#[derive(Drop)]
 struct Stopped(Option<u64>);
 
 impl time::Clock for Stopped {
@@ -175,17 +176,32 @@ impl time::Clock for Stopped {
     }
 }
 
-// What a clock tells, through its trait.
+/// What a clock tells, through its trait.
 fn told<C: Clock>(clock: &C) -> u32 {
     clock.now().seconds()
 }
 
+/// What a steady clock tells that is set by a stopped one.
+fn told_steadily(stopped: Option<u64>) -> Option<u32> {
+    let clock = SteadyClock::new(Stopped(stopped)).ok()?;
+    Some(clock.moment()?.seconds())
+}
+
 #[test]
-fn clocks_tell_their_moment(rt: HostRuntime) {
-    let clock = TapeClock::new(moment(100));
-    assert_eq!(rt; (told(&clock), told(&clock)), (100, 100));
-    assert_eq!(rt; told(&SystemClock::new(&Stopped(Some(946_684_801)))), 1);
+fn clocks_tell_their_moments(rt: HostRuntime) {
+    for (unix, seconds) in moments() {
+        assert_eq!(rt; moment_of_unix(*unix).seconds(), *seconds);
+        assert_eq!(rt; told(&SystemClock::new(&Stopped(Some(*unix)))), *seconds);
+        assert_eq!(rt; told_steadily(Some(*unix)), Some(*seconds));
+    }
     assert_eq!(rt; told(&SystemClock::new(&Stopped(None))), 0);
+    assert_eq!(rt; told_steadily(None), None);
+    let set = Duration::from_millis(946_684_800_900);
+    assert_eq!(rt;
+        moment_after(set, Duration::from_millis(1_100)).seconds(),
+        2
+    );
+    assert_eq!(rt; told(&TapeClock::new(moment(100))), 100);
 }
 
 // Goes through a gate, for a link.
