@@ -1,3 +1,4 @@
+pub mod Faultless
 pub mod LinksLemmas
 pub mod NineWords
 pub mod OneHouse

@@ -1,5 +1,6 @@
 -- What a whole run of the server is, and its exit status (this profile).
 use Rattle.std.specs.Prelude.{◌≡◌, ◌⊎◌, ℕ, List, [], ◌∷◌, length, Option, None, IfSome}
+use Rattle.afp_core.specs.Places.{upto}
 use Rattle.afp_core.specs.declared.counts.Counts.{Counts}
 use Rattle.afp_base.specs.Counts.{counted}
 use Rattle.afp_outside.specs.Link.{LinkState}
@@ -8,7 +9,7 @@ use Rattle.afp_outside.specs.Sink.{SinkState}
 use Rattle.afp_serial.specs.History.{opened_in}
 use Rattle.afp_serial.specs.Household.{Household, household}
 use Rattle.afp_serial.specs.HouseFault.{house_fault}
-use Rattle.afp_serial.specs.Shown.{Shown}
+use Rattle.afp_serial.specs.Shown.{Shown, IsSoundShown}
 use Rattle.afp_serial.specs.World.{fresh_world}
 use Rattle.afpd.specs.Links.{ServesUpTo}
 use Rattle.afpd.specs.Reporting.{Reports, ReportsPart, bad_words, counts_line, no_memory}
@@ -41,11 +42,15 @@ pub record AreCounts (shown : Shown) (counts : Counts) : Type 0 where
   pub sessions : counts.sessions ≡ counted (opened_in shown.start shown.history) 0
 
 -- The links of a door were served by a house, out of a history that began with it at a moment of the clock, up to so many; and they
--- ended so.
+-- ended so. The history is lawful from a sound start. Each of its entries is an ask of one of the links, and none of them met a fault,
+-- since no keeper is there that might fail.
 pub record ServesHouse {L : Type 0} (state : L → LinkState) (house : Household) (limit : ℕ) (clock : Option ℕ) (old : DoorState L) (end : DoorEnd) (new : DoorState L) (shown : Shown) : Type 0 where
   pub now : ℕ
   pub told : IfSome clock (λ moment. now ≡ moment)
   pub serves : ServesUpTo state house limit old (unasked house now) end new shown
+  pub sound : IsSoundShown shown
+  pub own : shown.mine ≡ upto (length shown.history)
+  pub faultless : shown.faults ≡ 0
 
 -- The same for the words: by the house that they ask for, up to as many links as they say.
 pub record ServesWords {L : Type 0} (state : L → LinkState) (words : List (List ℕ)) (key : List ℕ) (clock : Option ℕ) (old : DoorState L) (end : DoorEnd) (new : DoorState L) (shown : Shown) : Type 0 where

@@ -1,5 +1,5 @@
 //! Laws of whole runs: what is served where nothing is in the way. Their functions do nothing.
-ghost use Rattle.afpd.specs.Complete.{ServesGoodWords};
+ghost use Rattle.afpd.specs.Complete.{MeetsNoFault, ServesGoodWords};
 
 use afp_outside::Listener;
 
@@ -7,4 +7,9 @@ use afp_outside::Listener;
 /// memory.
 pub fn good_words_are_served<N: Listener>()
     ensures { ServesGoodWords N.Link.link_state }
+{}
+
+/// No ask of a served link met a fault: each had its outcome, or was refused.
+pub fn no_ask_meets_a_fault<N: Listener>()
+    ensures { MeetsNoFault N.Link.link_state }
 {}

@@ -1,5 +1,6 @@
 //! Serving the links that come through a door, one after the other.
 ghost use Rattle.std.specs.Prelude.{◌≡◌, false};
+ghost use Rattle.afp_serial.specs.Shown.{IsSoundShown};
 ghost use Rattle.afpd.specs.Links.{ServesNext, ServesUpTo};
 
 use afp_outside::{Accepted, Gate, Listener};
@@ -49,7 +50,7 @@ fn serve_next<N: Listener, T: Teller, G: Gate>(
     }
 }
 
-/// Serves so many links, or fewer where the door is closed, and hands each back.
+/// Serves so many links, or fewer where the door is closed, and hands each back. What the teller shows then is lawful.
 pub fn serve_links<N: Listener, T: Teller, G: Gate>(
     alloc: Global,
     house: &House,
@@ -61,6 +62,7 @@ pub fn serve_links<N: Listener, T: Teller, G: Gate>(
     requires { (N.door_state door.old).closed ≡ false }
     ensures fixed { T.fixed teller.new ≡ T.fixed teller.old }
     ensures serves { ServesUpTo N.Link.link_state house.now links (N.door_state door.old) (T.shown teller.old) result (N.door_state door.new) (T.shown teller.new) }
+    ensures sound { IsSoundShown (T.shown teller.new) }
 {
     for _ in 0..links {
         match serve_next(alloc, house, door, teller, gate) {

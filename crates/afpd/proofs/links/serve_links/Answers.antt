@@ -25,3 +25,9 @@ returns-clause-fixed g c = c.loop.invariant.fixed
 
 pub returns-clause-serves : goal.returns-clause-serves
 returns-clause-serves g c = so_far-all _ _ c.loop.counter c.args.links _ _ _ _ (omega arith) c.loop.invariant.so_far
+
+pub returns-in-Some-clause-sound : goal.returns-in-Some-clause-sound
+returns-in-Some-clause-sound g c = g.met.T.Teller.sound c.serve_next.new.teller
+
+pub returns-clause-sound : goal.returns-clause-sound
+returns-clause-sound g c = g.met.T.Teller.sound c.loop.teller
