@@ -3,6 +3,7 @@ use Rattle.std.specs.Prelude.{◌≡◌, ◌⊎◌, ℕ, List, [], ◌∷◌, le
 use Rattle.afp_core.specs.Places.{upto}
 use Rattle.afp_core.specs.declared.counts.Counts.{Counts}
 use Rattle.afp_base.specs.Counts.{counted}
+use Rattle.afp_outside.specs.Gate.{Passed}
 use Rattle.afp_outside.specs.Link.{LinkState}
 use Rattle.afp_outside.specs.Listener.{DoorState}
 use Rattle.afp_outside.specs.Sink.{SinkState}
@@ -44,33 +45,33 @@ pub record AreCounts (shown : Shown) (counts : Counts) : Type 0 where
 -- The links of a door were served by a house, out of a history that began with it at a moment of the clock, up to so many; and they
 -- ended so. The history is lawful from a sound start. Each of its entries is an ask of one of the links, and none of them met a fault,
 -- since no keeper is there that might fail.
-pub record ServesHouse {L : Type 0} (state : L → LinkState) (house : Household) (limit : ℕ) (clock : Option ℕ) (old : DoorState L) (end : DoorEnd) (new : DoorState L) (shown : Shown) : Type 0 where
+pub record ServesHouse {L P : Type 0} (state : L → LinkState) (passed : P → Passed) (house : Household) (limit : ℕ) (clock : Option ℕ) (old : DoorState L) (end : DoorEnd) (new : DoorState L) (shown : Shown) : Type 0 where
   pub now : ℕ
   pub told : IfSome clock (λ moment. now ≡ moment)
-  pub serves : ServesUpTo state house limit old (unasked house now) end new shown
+  pub serves : ServesUpTo state passed house limit old (unasked house now) end new shown
   pub sound : IsSoundShown shown
   pub own : shown.mine ≡ upto (length shown.history)
   pub faultless : shown.faults ≡ 0
 
 -- The same for the words: by the house that they ask for, up to as many links as they say.
-pub record ServesWords {L : Type 0} (state : L → LinkState) (words : List (List ℕ)) (key : List ℕ) (clock : Option ℕ) (old : DoorState L) (end : DoorEnd) (new : DoorState L) (shown : Shown) : Type 0 where
+pub record ServesWords {L P : Type 0} (state : L → LinkState) (passed : P → Passed) (words : List (List ℕ)) (key : List ℕ) (clock : Option ℕ) (old : DoorState L) (end : DoorEnd) (new : DoorState L) (shown : Shown) : Type 0 where
   pub spoken : Spoken
   pub asks : Asks words key spoken
-  pub serves : ServesHouse state (house_of spoken key) spoken.links clock old end new shown
+  pub serves : ServesHouse state passed (house_of spoken key) spoken.links clock old end new shown
 
-abbrev pub EndsHouse : {L : Type 0} → (L → LinkState) → Household → ℕ → Option ℕ → DoorState L → DoorState L → PlainEnd → Type 0
-EndsHouse state house limit clock old new plain.Refused = ⊥
-EndsHouse state house limit clock old new plain.Memory = (new ≡ old) ⊎ ((shown : Shown) × ServesHouse state house limit clock old doors.Memory new shown)
-EndsHouse state house limit clock old new (plain.DoorFailed counts) = (shown : Shown) × ServesHouse state house limit clock old doors.Failed new shown × AreCounts shown counts
-EndsHouse state house limit clock old new (plain.Served counts) = (shown : Shown) × ServesHouse state house limit clock old doors.Done new shown × AreCounts shown counts
+abbrev pub EndsHouse : {L P : Type 0} → (L → LinkState) → (P → Passed) → Household → ℕ → Option ℕ → DoorState L → DoorState L → PlainEnd → Type 0
+EndsHouse state passed house limit clock old new plain.Refused = ⊥
+EndsHouse state passed house limit clock old new plain.Memory = (new ≡ old) ⊎ ((shown : Shown) × ServesHouse state passed house limit clock old doors.Memory new shown)
+EndsHouse state passed house limit clock old new (plain.DoorFailed counts) = (shown : Shown) × ServesHouse state passed house limit clock old doors.Failed new shown × AreCounts shown counts
+EndsHouse state passed house limit clock old new (plain.Served counts) = (shown : Shown) × ServesHouse state passed house limit clock old doors.Done new shown × AreCounts shown counts
 
 -- How a run ends, by its answer: the words are refused; there was no memory, before a link came or for one that came; the door
 -- failed; or it was closed, or all links were served.
-abbrev pub EndsPlain : {L : Type 0} → (L → LinkState) → List (List ℕ) → List ℕ → Option ℕ → DoorState L → DoorState L → PlainEnd → Type 0
-EndsPlain state words key clock old new plain.Refused = IsRefused words key × (new ≡ old)
-EndsPlain state words key clock old new plain.Memory = (new ≡ old) ⊎ ((shown : Shown) × ServesWords state words key clock old doors.Memory new shown)
-EndsPlain state words key clock old new (plain.DoorFailed counts) = (shown : Shown) × ServesWords state words key clock old doors.Failed new shown × AreCounts shown counts
-EndsPlain state words key clock old new (plain.Served counts) = (shown : Shown) × ServesWords state words key clock old doors.Done new shown × AreCounts shown counts
+abbrev pub EndsPlain : {L P : Type 0} → (L → LinkState) → (P → Passed) → List (List ℕ) → List ℕ → Option ℕ → DoorState L → DoorState L → PlainEnd → Type 0
+EndsPlain state passed words key clock old new plain.Refused = IsRefused words key × (new ≡ old)
+EndsPlain state passed words key clock old new plain.Memory = (new ≡ old) ⊎ ((shown : Shown) × ServesWords state passed words key clock old doors.Memory new shown)
+EndsPlain state passed words key clock old new (plain.DoorFailed counts) = (shown : Shown) × ServesWords state passed words key clock old doors.Failed new shown × AreCounts shown counts
+EndsPlain state passed words key clock old new (plain.Served counts) = (shown : Shown) × ServesWords state passed words key clock old doors.Done new shown × AreCounts shown counts
 
 -- What is reported of such an end, and the exit status: 2 for refused words, 4 for the door and 0, or 5 where the report could not be
 -- written; 6 for want of memory, written or not.
@@ -83,7 +84,7 @@ Status (plain.Served counts) old new status =
     ((status ≡ 0) × Reports old (counts_line counts.entries counts.sessions) new) ⊎ ((status ≡ 5) × ReportsPart old (counts_line counts.entries counts.sessions) new)
 
 -- a whole run: how it ended, with what it did to the door, the report and the status
-pub record IsPlainRun {L : Type 0} (state : L → LinkState) (words : List (List ℕ)) (key : List ℕ) (clock : Option ℕ) (old new : DoorState L) (before after : SinkState) (status : ℕ) : Type 0 where
+pub record IsPlainRun {L P : Type 0} (state : L → LinkState) (passed : P → Passed) (words : List (List ℕ)) (key : List ℕ) (clock : Option ℕ) (old new : DoorState L) (before after : SinkState) (status : ℕ) : Type 0 where
   pub answer : PlainEnd
-  pub ends : EndsPlain state words key clock old new answer
+  pub ends : EndsPlain state passed words key clock old new answer
   pub reported : Status answer before after status

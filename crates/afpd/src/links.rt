@@ -32,7 +32,7 @@ fn serve_next<N: Listener, T: Teller, G: Gate>(
 ) -> Option<DoorEnd>
     requires { (N.door_state door.old).closed ≡ false }
     ensures fixed { T.fixed teller.new ≡ T.fixed teller.old }
-    ensures serves { ServesNext N.Link.link_state house.now (N.door_state door.old) (T.shown teller.old) result (N.door_state door.new) (T.shown teller.new) }
+    ensures serves { ServesNext N.Link.link_state G.passed house.now (N.door_state door.old) (T.shown teller.old) result (N.door_state door.new) (T.shown teller.new) }
 {
     match door.accept() {
         Accepted::Closed => Some(DoorEnd::Done),
@@ -61,7 +61,7 @@ pub fn serve_links<N: Listener, T: Teller, G: Gate>(
 ) -> DoorEnd
     requires { (N.door_state door.old).closed ≡ false }
     ensures fixed { T.fixed teller.new ≡ T.fixed teller.old }
-    ensures serves { ServesUpTo N.Link.link_state house.now links (N.door_state door.old) (T.shown teller.old) result (N.door_state door.new) (T.shown teller.new) }
+    ensures serves { ServesUpTo N.Link.link_state G.passed house.now links (N.door_state door.old) (T.shown teller.old) result (N.door_state door.new) (T.shown teller.new) }
     ensures sound { IsSoundShown (T.shown teller.new) }
 {
     for _ in 0..links {

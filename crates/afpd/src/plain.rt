@@ -68,7 +68,7 @@ fn serve_house<N: Listener, C: Clock, G: Gate>(
 ) -> PlainEnd
     requires open { (N.door_state door.old).closed ≡ false }
     requires one { length house.now.volumes ≡ 1 }
-    ensures { EndsHouse N.Link.link_state house.now links (C.moment_told clock.now) (N.door_state door.old) (N.door_state door.new) result }
+    ensures { EndsHouse N.Link.link_state G.passed house.now links (C.moment_told clock.now) (N.door_state door.old) (N.door_state door.new) result }
 {
     // A house of one volume has a core, but for want of memory.
     let Ok(core) = Core::new(alloc, house, clock.now()) else {
@@ -94,7 +94,7 @@ fn run<N: Listener, C: Clock, G: Gate>(
     token_key: [u8; 32],
 ) -> PlainEnd
     requires { (N.door_state door.old).closed ≡ false }
-    ensures { EndsPlain N.Link.link_state (map (λ word. string_bytes word) words.now) token_key (C.moment_told clock.now) (N.door_state door.old) (N.door_state door.new) result }
+    ensures { EndsPlain N.Link.link_state G.passed (map (λ word. string_bytes word) words.now) token_key (C.moment_told clock.now) (N.door_state door.old) (N.door_state door.new) result }
 {
     match read_words(alloc, words) {
         Ok(words) => match house_for(alloc, &words, token_key) {
@@ -162,7 +162,7 @@ pub fn afpd_plain<N: Listener, C: Clock, G: Gate, O: Sink>(
     report: &mut O,
 ) -> u8
     requires { (N.door_state door.old).closed ≡ false }
-    ensures { IsPlainRun N.Link.link_state (map (λ word. string_bytes word) words.now) token_key (C.moment_told clock.now) (N.door_state door.old) (N.door_state door.new) (O.sink_state report.old) (O.sink_state report.new) result }
+    ensures { IsPlainRun N.Link.link_state G.passed (map (λ word. string_bytes word) words.now) token_key (C.moment_told clock.now) (N.door_state door.old) (N.door_state door.new) (O.sink_state report.old) (O.sink_state report.new) result }
 {
     let end = run(alloc, words, door, clock, gate, token_key);
     report_end(end, report)

@@ -277,7 +277,7 @@ fn good_words_set_the_door(rt: HostRuntime) -> Result<(), Fail> {
         let report = "entries 0 sessions 0\n";
         expect_plain(&rt, alloc, words.as_slice(), &mut door, &[], 0, report)?;
     }
-    good_words_are_served::<TapeListener>();
+    good_words_are_served::<TapeListener, OpenGate>();
     let words = words(alloc, 7, "3")?;
     let settings = setup(alloc, words.as_slice())
         .ok()
