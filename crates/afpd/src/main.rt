@@ -1,6 +1,8 @@
 //! The file server: it serves sessions of the Apple Filing Protocol over TCP.
 #![tactic(auto)]
 
+ghost use Rattle.std.specs.Prelude.{◌≡◌, false, IfOk};
+
 pub mod laws;
 pub mod links;
 pub mod plain;
@@ -14,7 +16,6 @@ use afp_core::Counts;
 use afp_outside::{OpenGate, StdSink, SystemClock, TcpDoor};
 use plain::{PlainEnd, afpd_plain, report_end};
 use setup::setup;
-use std::alloc::Global;
 use std::io::ErrorKind;
 use std::process::ExitCode;
 use std::random::RandomSource;
@@ -30,6 +31,28 @@ fn spoken(rt: &HostRuntime) -> io::Result<Vec<String>> {
     Ok(words)
 }
 
+/// The same; none, where one of them is not UTF-8.
+fn words_of(rt: &HostRuntime) -> Result<Vec<String>, PlainEnd> {
+    match spoken(rt) {
+        Ok(words) => Ok(words),
+        Err(error) => match error.kind() {
+            ErrorKind::OutOfMemory => Err(PlainEnd::Memory),
+            _ => Ok(Vec::new(rt.alloc())),
+        },
+    }
+}
+
+/// The door that the words ask for; one that is closed, where they are others.
+fn door_of<'a>(rt: &'a HostRuntime, words: &[String]) -> Result<TcpDoor<&'a HostRuntime>, PlainEnd>
+    ensures { IfOk result (λ door. door.door.closed ≡ false) }
+{
+    match setup(rt.alloc(), words) {
+        Ok(settings) => Ok(TcpDoor::bind(rt, settings.port, settings.links)),
+        Err(WordFault::Bad) => Ok(TcpDoor::closed(rt)),
+        Err(WordFault::Memory) => Err(PlainEnd::Memory),
+    }
+}
+
 /// A key of session tokens, from the system's randomness.
 fn token_key(rt: &HostRuntime) -> io::Result<[u8; 32]> {
     let mut key = [0; 32];
@@ -37,41 +60,41 @@ fn token_key(rt: &HostRuntime) -> io::Result<[u8; 32]> {
     Ok(key)
 }
 
-fn main(rt: HostRuntime) -> ExitCode {
-    let alloc: Global = rt.alloc();
-    let mut report = StdSink::new(&rt);
-    let words = match spoken(&rt) {
-        Ok(words) => words,
-        Err(error) => match error.kind() {
-            ErrorKind::OutOfMemory => return ExitCode::from(report_end(
-                PlainEnd::Memory,
-                &mut report,
-            )),
-            _ => Vec::new(alloc),
-        },
-    };
-    let mut door = match setup(alloc, words.as_slice()) {
-        Ok(settings) => TcpDoor::bind(&rt, settings.port, settings.links),
-        Err(WordFault::Bad) => TcpDoor::closed(&rt),
-        Err(WordFault::Memory) => return ExitCode::from(report_end(PlainEnd::Memory, &mut report)),
-    };
-    let Ok(key) = token_key(&rt) else {
-        // Without a key no door is opened.
-        return ExitCode::from(report_end(
+/// Serves the links that come through a door, and gives the exit status. Without a key none is served.
+fn serve(
+    rt: &HostRuntime,
+    words: &[String],
+    door: &mut TcpDoor<&HostRuntime>,
+    report: &mut StdSink<&HostRuntime>,
+) -> u8
+    requires { door.old.door.closed ≡ false }
+{
+    let Ok(key) = token_key(rt) else {
+        return report_end(
             PlainEnd::DoorFailed(Counts {
                 entries: 0,
                 sessions: 0,
             }),
-            &mut report,
-        ));
+            report,
+        );
     };
-    ExitCode::from(afpd_plain(
-        alloc,
-        words.as_slice(),
-        &mut door,
-        &SystemClock::new(&rt),
-        &OpenGate,
-        key,
-        &mut report,
-    ))
+    let clock = SystemClock::new(rt);
+    afpd_plain(rt.alloc(), words, door, &clock, &OpenGate, key, report)
+}
+
+/// Serves what the words ask for, and gives the exit status.
+fn run(rt: &HostRuntime, report: &mut StdSink<&HostRuntime>) -> u8 {
+    let words = match words_of(rt) {
+        Ok(words) => words,
+        Err(end) => return report_end(end, report),
+    };
+    match door_of(rt, words.as_slice()) {
+        Ok(mut door) => serve(rt, words.as_slice(), &mut door, report),
+        Err(end) => report_end(end, report),
+    }
+}
+
+fn main(rt: HostRuntime) -> ExitCode {
+    let mut report = StdSink::new(&rt);
+    ExitCode::from(run(&rt, &mut report))
 }
