@@ -17,7 +17,7 @@ unchanged change x id (y ∷ ys) is others =
     let here : change_at id change y ≡ y = cond-false (y.id == id) (change y) y (ap (λ n. y.id == n) (sym is) ∙ not-equal x.id y.id e.0) in
     λ i. here i ∷ unchanged change x id ys is e.1 i
 
-nothing-gone : (x : Row) (id : ℕ) (ys : List Row) → x.id ≡ id → list_all (λ (b : Row). not (x.id == b.id)) ys ≡ true → without id ys ≡ ys
+pub nothing-gone : (x : Row) (id : ℕ) (ys : List Row) → x.id ≡ id → list_all (λ (b : Row). not (x.id == b.id)) ys ≡ true → without id ys ≡ ys
 unfolding without
 nothing-gone x id [] is others = refl
 nothing-gone x id (y ∷ ys) is others =

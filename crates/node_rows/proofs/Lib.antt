@@ -1,0 +1,6 @@
+pub mod Halving
+pub mod Sorting
+pub mod Siblings
+pub mod Keeping
+pub mod Leaving
+pub mod Asked

@@ -1,0 +1,42 @@
+use Rattle.std.proofs.Common.{◌≡◌, ◌∙◌, ap, sym, subst, List, Some}
+use Rattle.std.specs.List.{list_any}
+use Rattle.afp_volume.specs.Edits.{without}
+use Rattle.afp_volume.specs.VolumeState.{Row}
+use Rattle.node_rows.specs.Kept.{AreKept, IsPlaceOf, RowsValue, is_child_at}
+use Rattle.node_rows.specs.declared.child.Child.{Child}
+use Rattle.node_rows.proofs.Keeping.{is-place, no-place, row-there, gone-there, gone-nowhere, keeps-gone}
+use Rattle.node_rows.proofs.Leaving.{ids-apart, child-there}
+use Rattle.node_rows.proofs.rows.Rows.remove.Goals as goal
+
+pub take_child-requires-clause-one : goal.take_child-requires-clause-one
+take_child-requires-clause-one c = ids-apart c.self.inside.nodes.items c.self.inside.children.items c.self.inside.next c.self.invariant
+
+pub take_child-requires-clause-there : goal.take_child-requires-clause-there
+take_child-requires-clause-there c =
+    let rows : List Row = c.self.inside.nodes.items in
+    let place : IsPlaceOf rows c.args.id.0 (Some c.in-Some.place) = is-place rows c.as_slice.result.now c.args.id.0 c.in-Some.place c.find_node.result c.as_slice.ensures.value c.find_node.ensures c.in-Some.is in
+    ap (λ n. list_any (is_child_at n c.args.id.0) c.self.inside.children.items) c.parent_of-parent.ensures
+    ∙ child-there rows c.self.inside.children.items c.self.inside.next c.args.id.0 c.index.result.now (row-there rows c.args.id.0 c.in-Some.place c.index.result.now place c.index.ensures) c.self.invariant
+
+pub invariant_of-self : goal.invariant_of-self
+invariant_of-self c =
+    let rows : List Row = c.self.inside.nodes.items in
+    let children : List Child = c.self.inside.children.items in
+    let place : IsPlaceOf rows c.args.id.0 (Some c.in-Some.place) = is-place rows c.as_slice.result.now c.args.id.0 c.in-Some.place c.find_node.result c.as_slice.ensures.value c.find_node.ensures c.in-Some.is in
+    let gone : c.remove-node.new.self.items ≡ without c.args.id.0 rows = c.remove-node.ensures.items ∙ sym (gone-there rows c.args.id.0 c.in-Some.place c.index.result.now c.self.invariant.rising place c.index.ensures) in
+    subst (λ l. AreKept l c.take_child.new.children.items c.self.inside.next) (sym gone)
+    (subst (λ l. AreKept (without c.args.id.0 rows) l c.self.inside.next) (sym c.take_child.ensures.items) (keeps-gone c.args.id.0 rows children c.self.inside.next c.self.invariant))
+
+pub returns-in-Some-clause-rows : goal.returns-in-Some-clause-rows
+returns-in-Some-clause-rows c =
+    let rows : List Row = c.self.inside.nodes.items in
+    let place : IsPlaceOf rows c.args.id.0 (Some c.in-Some.place) = is-place rows c.as_slice.result.now c.args.id.0 c.in-Some.place c.find_node.result c.as_slice.ensures.value c.find_node.ensures c.in-Some.is in
+    c.remove-node.ensures.items ∙ sym (gone-there rows c.args.id.0 c.in-Some.place c.index.result.now c.self.invariant.rising place c.index.ensures)
+    ∙ ap (λ (v : RowsValue). without c.args.id.0 v.rows) c.self.view_is
+
+pub returns-in-None-clause-rows : goal.returns-in-None-clause-rows
+returns-in-None-clause-rows c =
+    let rows : List Row = c.self.inside.nodes.items in
+    let view : rows ≡ c.args.self.now.rows = ap (λ (v : RowsValue). v.rows) c.self.view_is in
+    sym (ap (λ l. without c.args.id.0 l) (sym view)
+    ∙ gone-nowhere rows c.args.id.0 (no-place rows c.as_slice.result.now c.args.id.0 c.find_node.result c.as_slice.ensures.value c.find_node.ensures c.in-None.is) ∙ view)

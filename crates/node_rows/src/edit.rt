@@ -1,0 +1,103 @@
+//! One node or child more, less or changed, at its place. None of these takes memory.
+ghost use Rattle.std.specs.Prelude.{◌≡◌, ◌∷◌, ◌+◌, ◌<◌, ◌≤◌, ◌==◌, true, false, not, length, slice_set, slice_index_or, vec_len, vec_capacity, position};
+ghost use Rattle.std.specs.List.{list_any, list_all, filter};
+ghost use Rattle.afp_volume.specs.Edits.{at_place};
+ghost use Rattle.afp_volume.specs.Order.{put_in, rises};
+ghost use Rattle.afp_volume.specs.SoundVolume.{are_apart, has_node, has_rising_ids};
+ghost use Rattle.afp_volume.specs.VolumeState.{Row};
+ghost use Rattle.node_rows.specs.Children.{child_order};
+ghost use Rattle.node_rows.specs.Kept.{admitted, marked, is_apart, is_other, is_child_at};
+
+use crate::child::Child;
+use crate::node::{Marks, Node};
+use crate::search::{child_place, node_place};
+use afp_base::NodeId;
+use afp_names::Name;
+
+/// Puts a node at the place of its id.
+pub(crate) fn put_node(nodes: &mut Vec<Node>, node: Node)
+    requires rising { has_rising_ids nodes.old.items ≡ true }
+    requires new { has_node nodes.old.items node.id ≡ false }
+    requires room { vec_len nodes.old < vec_capacity nodes.old }
+    ensures items { nodes.new.items ≡ admitted node nodes.old.items }
+    ensures len { vec_len nodes.new ≡ vec_len nodes.old + 1 }
+    ensures capacity { vec_capacity nodes.old ≤ vec_capacity nodes.new }
+{
+    let place = node_place(nodes.as_slice(), node.id);
+    let _ = nodes.insert(place, node);
+}
+
+/// Puts a child at the place of its parent and key.
+pub(crate) fn put_child(children: &mut Vec<Child>, child: Child)
+    requires order { rises child_order children.old.items ≡ true }
+    requires new { list_all (is_apart child) children.old.items ≡ true }
+    requires room { vec_len children.old < vec_capacity children.old }
+    ensures items { children.new.items ≡ put_in child_order child children.old.items }
+    ensures len { vec_len children.new ≡ vec_len children.old + 1 }
+    ensures capacity { vec_capacity children.old ≤ vec_capacity children.new }
+{
+    let place = child_place(children.as_slice(), child.parent, child.key.as_slice());
+    let _ = children.insert(place, child);
+}
+
+/// The place of the first child with this id.
+fn place_of_id(children: &[Child], id: NodeId) -> Option<usize>
+    ensures { result ≡ position (λ child. child.id.0 == id.0) children.now }
+{
+    children.iter().position(|child| child.id.0 == id.0)
+}
+
+/// Takes the child of this id away, which is sought among those of its parent.
+pub(crate) fn take_child(children: &mut Vec<Child>, parent: NodeId, id: NodeId)
+    requires order { rises child_order children.old.items ≡ true }
+    requires one { are_apart (λ a b. a.id.0 == b.id.0) children.old.items ≡ true }
+    requires there { list_any (is_child_at parent.0 id.0) children.old.items ≡ true }
+    ensures items { children.new.items ≡ filter (is_other id.0) children.old.items }
+    ensures len { vec_len children.new + 1 ≡ vec_len children.old }
+    ensures capacity { vec_capacity children.new ≡ vec_capacity children.old }
+{
+    let first = child_place(children.as_slice(), parent, &[]);
+    let behind = place_of_id(&children.as_slice()[first..], id).unwrap_or(0);
+    let _child = children.remove(first + behind);
+}
+
+impl Node {
+    fn set_marks(&mut self, marks: Marks)
+        ensures { self.new ≡ marked marks self.old }
+    {
+        self.attributes = marks.attributes;
+        self.created = marks.created;
+        self.modified = marks.modified;
+        self.backup = marks.backup;
+        let finder = marks.finder;
+        self.finder = finder;
+        self.filed = marks.filed;
+    }
+
+    fn put_at(&mut self, parent: NodeId, name: Name)
+        ensures { self.new ≡ at_place parent.0 name self.old }
+    {
+        self.parent = parent;
+        self.name = name;
+    }
+}
+
+/// Gives the node at a place other marks.
+pub(crate) fn set_marks(nodes: &mut Vec<Node>, place: usize, marks: Marks)
+    requires { place < vec_len nodes.old }
+    ensures items { (d : Row) → nodes.new.items ≡ slice_set nodes.old.items place (marked marks (slice_index_or nodes.old.items place d)) }
+    ensures len { vec_len nodes.new ≡ vec_len nodes.old }
+    ensures capacity { vec_capacity nodes.new ≡ vec_capacity nodes.old }
+{
+    nodes[place].set_marks(marks);
+}
+
+/// Gives the node at a place another parent and name.
+pub(crate) fn put_at(nodes: &mut Vec<Node>, place: usize, parent: NodeId, name: Name)
+    requires { place < vec_len nodes.old }
+    ensures items { (d : Row) → nodes.new.items ≡ slice_set nodes.old.items place (at_place parent.0 name (slice_index_or nodes.old.items place d)) }
+    ensures len { vec_len nodes.new ≡ vec_len nodes.old }
+    ensures capacity { vec_capacity nodes.new ≡ vec_capacity nodes.old }
+{
+    nodes[place].put_at(parent, name);
+}

@@ -1,0 +1,254 @@
+//! The nodes of a volume.
+ghost use Rattle.std.specs.Prelude.{◌≡◌, ◌+◌, ◌<◌, ◌≤◌, ◌^◌, ◌++◌, ◌∷◌, [], true, false, None, length, option_map, slice_get, min, IfOk, OnOk, OnErr, vec_len, vec_capacity};
+ghost use Rattle.std.specs.Option.{option_copied};
+ghost use Rattle.std.specs.List.{list_all};
+ghost use Rattle.afp_names.specs.Name.{name_key};
+ghost use Rattle.afp_volume.specs.Edits.{at_place, is_taken, with_changed, without};
+ghost use Rattle.afp_volume.specs.Listing.{listed};
+ghost use Rattle.afp_volume.specs.Order.{put_in, rises};
+ghost use Rattle.afp_volume.specs.SoundVolume.{are_apart, are_named_alike, has_node, has_rising_ids};
+ghost use Rattle.afp_volume.specs.VolumeState.{Row};
+ghost use Rattle.afp_volume.specs.Walk.{child_by_key, row_at};
+ghost use Rattle.node_rows.specs.Children.{child_of, child_order, children_of, node_id};
+ghost use Rattle.node_rows.specs.Kept.{admitted, is_apart, marked, next_of};
+
+use crate::child::Child;
+use crate::edit::{put_at, put_child, put_node, set_marks, take_child};
+use crate::node::{Marks, Node};
+use crate::search::{find_child, find_node, nth_child};
+use afp_base::{Bytes, NodeId, OutOfMemory};
+use afp_names::Name;
+use std::alloc::Global;
+use std::marker::Model;
+
+/// The nodes of a volume, its next node id, and room for more nodes.
+///
+/// Contracts see the definition's rows, by rising id and with no bytes in their forks; the next id; and `spare`, a number of
+/// nodes that can be added with no memory.
+#[derive(Drop)]
+pub struct Rows {
+    nodes: Vec<Node>,
+    children: Vec<Child>,
+    next: u64,
+}
+
+impl Model for Rows {
+    ghost use Rattle.std.specs.Prelude.{◌-◌, min, vec_capacity, vec_len};
+    ghost use Rattle.node_rows.specs.Kept.{AreKept, RowsValue};
+
+    ghost Value = { RowsValue };
+
+    ghost view = { λ a. record { rows = a.nodes.items; next_id = a.next; spare = min (vec_capacity a.nodes - vec_len a.nodes) (vec_capacity a.children - vec_len a.children) } };
+
+    ghost invariant = { λ a. AreKept a.nodes.items a.children.items a.next };
+}
+
+impl Rows {
+    /// The root of a volume alone.
+    pub fn new(alloc: Global, root: Node, next: u64) -> Result<Rows, OutOfMemory>
+        requires root { root.id ≡ 2 }
+        requires low { 17 ≤ next }
+        requires high { next ≤ 2 ^ 32 }
+        ensures rows { IfOk result (λ rows. rows.rows ≡ root ∷ []) }
+        ensures next { IfOk result (λ rows. rows.next_id ≡ next) }
+    {
+        let child = child_of(alloc, &root)?;
+        let mut children = Vec::new(alloc);
+        children.push(child)?;
+        let mut nodes = Vec::new(alloc);
+        nodes.push(root)?;
+        Ok(Rows {
+            nodes,
+            children,
+            next,
+        })
+    }
+
+    /// The node of an id.
+    pub fn get(&self, id: NodeId) -> Option<&Node>
+        ensures { option_copied result ≡ row_at self.now.rows id.0 }
+    {
+        match find_node(self.nodes.as_slice(), id) {
+            Some(place) => Some(&self.nodes[place]),
+            None => None,
+        }
+    }
+
+    /// The child of a directory whose name has this key.
+    pub fn child(&self, dir: NodeId, key: &[u8]) -> Option<NodeId>
+        ensures { result ≡ option_map node_id (child_by_key self.now.rows dir.0 key.now) }
+    {
+        find_child(self.children.as_slice(), dir, key)
+    }
+
+    /// The child at a place of a directory's list, which goes by the keys of names and counts from 0.
+    pub fn nth(&self, dir: NodeId, i: usize) -> Option<NodeId>
+        ensures { result ≡ option_map (λ (row : Row). node_id row.id) (slice_get (listed self.now.rows dir.0) i) }
+    {
+        nth_child(self.children.as_slice(), dir, i)
+    }
+
+    /// How many nodes there are.
+    pub fn count(&self) -> usize
+        ensures { result ≡ length self.now.rows }
+    {
+        self.nodes.len()
+    }
+
+    /// The id that the next new node draws. `None`: the last id, 4,294,967,295, was drawn.
+    pub fn next_id(&self) -> Option<NodeId>
+        ensures { result ≡ next_of self.now.next_id }
+    {
+        match u32::try_from(self.next) {
+            Ok(next) => Some(NodeId(next)),
+            Err(_) => None,
+        }
+    }
+
+    /// The nodes by rising id. No two have one parent and names with one key.
+    pub fn nodes(&self) -> &[Node]
+        ensures nodes { result.now ≡ self.now.rows }
+        ensures rising { has_rising_ids self.now.rows ≡ true }
+        ensures apart { are_apart are_named_alike self.now.rows ≡ true }
+    {
+        self.nodes.as_slice()
+    }
+
+    /// One child for each node, the root among them, by rising parent and then by key in the order of bytes.
+    pub fn children(&self) -> &[Child]
+        ensures { result.now ≡ children_of self.now.rows }
+    {
+        self.children.as_slice()
+    }
+
+    /// Makes room for one node more. An error changes nothing that contracts see.
+    pub fn reserve(&mut self) -> Result<(), OutOfMemory>
+        ensures room { OnOk result (1 ≤ self.new.spare) }
+        ensures rows { self.new.rows ≡ self.old.rows }
+        ensures next { self.new.next_id ≡ self.old.next_id }
+        ensures spare { self.old.spare ≤ self.new.spare }
+    {
+        self.nodes.reserve(1)?;
+        self.children.reserve(1)?;
+        Ok(())
+    }
+
+    /// Adds a node with the next id, which is drawn by this. It takes no memory.
+    pub fn insert(&mut self, node: Node, key: Bytes)
+        requires id { node.id ≡ self.old.next_id }
+        requires key { key ≡ name_key node.name }
+        requires free { child_by_key self.old.rows node.parent key ≡ None }
+        requires room { 1 ≤ self.old.spare }
+        ensures rows { self.new.rows ≡ self.old.rows ++ node ∷ [] }
+        ensures next { self.new.next_id ≡ self.old.next_id + 1 }
+        ensures spare { self.old.spare ≤ self.new.spare + 1 }
+    {
+        put_both(&mut self.nodes, &mut self.children, node, key);
+        self.next += 1;
+    }
+
+    /// Adds a node with an id that was drawn before and is no node's. Its parent need not be there yet. It takes no memory.
+    pub fn admit(&mut self, node: Node, key: Bytes)
+        requires drawn { node.id < self.old.next_id }
+        requires low { 17 ≤ node.id }
+        requires new { has_node self.old.rows node.id ≡ false }
+        requires key { key ≡ name_key node.name }
+        requires free { child_by_key self.old.rows node.parent key ≡ None }
+        requires room { 1 ≤ self.old.spare }
+        ensures rows { self.new.rows ≡ admitted node self.old.rows }
+        ensures next { self.new.next_id ≡ self.old.next_id }
+        ensures spare { self.old.spare ≤ self.new.spare + 1 }
+    {
+        put_both(&mut self.nodes, &mut self.children, node, key);
+    }
+
+    /// Gives the node of an id other marks, where there is one.
+    pub fn mark(&mut self, id: NodeId, marks: Marks)
+        ensures rows { self.new.rows ≡ with_changed id.0 (marked marks) self.old.rows }
+        ensures next { self.new.next_id ≡ self.old.next_id }
+        ensures spare { self.new.spare ≡ self.old.spare }
+    {
+        match find_node(self.nodes.as_slice(), id) {
+            Some(place) => set_marks(&mut self.nodes, place, marks),
+            None => {}
+        }
+    }
+
+    /// Takes the node of an id away, where there is one.
+    pub fn remove(&mut self, id: NodeId)
+        ensures rows { self.new.rows ≡ without id.0 self.old.rows }
+        ensures next { self.new.next_id ≡ self.old.next_id }
+        ensures spare { self.old.spare ≤ self.new.spare }
+    {
+        match find_node(self.nodes.as_slice(), id) {
+            Some(place) => {
+                let parent = parent_of(&self.nodes[place]);
+                take_child(&mut self.children, parent, id);
+                let _node = self.nodes.remove(place);
+            }
+            None => {}
+        }
+    }
+
+    /// Gives the node of an id another parent and name, where there is one. It takes no memory.
+    pub fn place(&mut self, id: NodeId, parent: NodeId, name: Name, key: Bytes)
+        requires key { key ≡ name_key name }
+        requires free { is_taken self.old.rows id.0 parent.0 name ≡ false }
+        ensures rows { self.new.rows ≡ with_changed id.0 (at_place parent.0 name) self.old.rows }
+        ensures next { self.new.next_id ≡ self.old.next_id }
+        ensures spare { self.old.spare ≤ self.new.spare }
+    {
+        match find_node(self.nodes.as_slice(), id) {
+            Some(place) => {
+                let old = parent_of(&self.nodes[place]);
+                take_child(&mut self.children, old, id);
+                put_child(&mut self.children, Child { parent, key, id });
+                put_at(&mut self.nodes, place, parent, name);
+            }
+            None => {}
+        }
+    }
+}
+
+fn child_of(alloc: Global, node: &Node) -> Result<Child, OutOfMemory>
+    ensures { IfOk result (λ child. child ≡ child_of node.now) }
+{
+    let key = node.name.key(alloc)?;
+    Ok(Child {
+        parent: node.parent,
+        key,
+        id: node.id,
+    })
+}
+
+fn parent_of(node: &Node) -> NodeId
+    ensures { result.0 ≡ node.now.parent }
+{
+    node.parent
+}
+
+/// Puts a node at the place of its id, and its child at that of its parent and key.
+fn put_both(nodes: &mut Vec<Node>, children: &mut Vec<Child>, node: Node, key: Bytes)
+    requires rising { has_rising_ids nodes.old.items ≡ true }
+    requires order { rises child_order children.old.items ≡ true }
+    requires new { has_node nodes.old.items node.id ≡ false }
+    requires key { key ≡ name_key node.name }
+    requires free { list_all (is_apart (child_of node)) children.old.items ≡ true }
+    requires nodes_room { vec_len nodes.old < vec_capacity nodes.old }
+    requires children_room { vec_len children.old < vec_capacity children.old }
+    ensures nodes { nodes.new.items ≡ admitted node nodes.old.items }
+    ensures children { children.new.items ≡ put_in child_order (child_of node) children.old.items }
+    ensures nodes_len { vec_len nodes.new ≡ vec_len nodes.old + 1 }
+    ensures nodes_capacity { vec_capacity nodes.old ≤ vec_capacity nodes.new }
+    ensures children_len { vec_len children.new ≡ vec_len children.old + 1 }
+    ensures children_capacity { vec_capacity children.old ≤ vec_capacity children.new }
+    ensures id { node.id < 2 ^ 32 }
+{
+    let child = Child {
+        parent: node.parent,
+        key,
+        id: node.id,
+    };
+    put_child(children, child);
+    put_node(nodes, node);
+}
