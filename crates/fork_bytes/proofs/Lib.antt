@@ -1,0 +1,9 @@
+pub mod Applies
+pub mod Blocks
+pub mod Lines
+pub mod Listed
+pub mod Places
+pub mod Plans
+pub mod Puts
+pub mod Trimmed
+pub mod Writes

@@ -1,0 +1,16 @@
+//! The bytes of a fork, kept as blocks of one size. A block of zeros is not kept, and contracts see a fork as the list of its bytes.
+#![tactic(auto)]
+
+mod apply;
+mod block;
+mod fork;
+mod plan;
+mod read;
+mod write;
+
+pub use block::{BLOCK_SIZE, Block};
+pub use fork::{Fork, LARGEST_FORK};
+pub use plan::ForkPlan;
+
+#[cfg(test)]
+mod tests;
