@@ -15,7 +15,7 @@ use Rattle.afp_serial.specs.declared.ask.Ask.TheVariants as ask
 use Rattle.afp_serial.specs.declared.ask.Outcome.{Outcome}
 use Rattle.afp_serial.specs.declared.ask.Told.{Told}
 use Rattle.afp_serial.specs.declared.ask.Told.TheVariants.{Opened, Live, Done, Displaced}
-use Rattle.afp_serial.specs.Answer.{after_at, after_call, after_verdict, answer_at, drain_moment, is_expired, is_fault_legal, is_full, may_fault_at, link_number, new_session, refusal_reply, request, told_call, told_pulse, told_verdict}
+use Rattle.afp_serial.specs.Answer.{after_at, after_call, after_verdict, answer_at, drain_moment, is_expired, committed_in, is_full, committed_at, link_number, new_session, refusal_reply, request, told_call, told_pulse, told_verdict}
 use Rattle.afp_serial.specs.Limits.{links_end, most_sessions}
 use Rattle.afp_serial.specs.CallRow.{plain}
 use Rattle.afp_serial.specs.Rows.{refusal}
@@ -49,14 +49,14 @@ full-sessions w h = or_left _ _ (le-leb most_sessions (length w.sessions) h)
 
 pub open-refused : (old : World) (link attention : ℕ) (told : Told) → is_full old ≡ true → told ≡ refusal_reply NoMoreSessions
     → RunsAsk old link (ask.Open attention) (Ok (done told)) old
-unfolding answer_at after_at may_fault_at
+unfolding answer_at after_at committed_at
 open-refused old link attention told full tells = rw full record { legal = refl; serial = tells; world = refl }
 
 pub open-runs : (old new : World) (link attention : ℕ) (drawn : LinkNumber) (sessions : List Session) (next : ℕ)
     → length old.sessions < most_sessions → old.next_link < links_end → drawn.0 ≡ old.next_link
     → new ≡ record old { next_link = next; sessions = sessions } → next ≡ old.next_link + 1 → sessions ≡ old.sessions ++ new_session drawn.0 ∷ []
     → RunsAsk old link (ask.Open attention) (Ok (done (Opened drawn))) new
-unfolding answer_at after_at may_fault_at
+unfolding answer_at after_at committed_at
 open-runs old new link attention drawn sessions next few left number is counts adds =
     let room : is_full old ≡ false = or_neither _ _ (lt-leb most_sessions (length old.sessions) few) (lt-leb links_end old.next_link left) in
     rw room record {
@@ -78,7 +78,7 @@ pulse-displaced w link h = rw (ne_eqb link 0 h) refl
 pub pulse-runs : (old new : World) (link : ℕ) (told : Told) (sessions : List Session) → [] ≡ old.opens → [] ≡ old.locks
     → told ≡ told_pulse old link (session_at old link) → new ≡ record old { sessions = sessions } → sessions ≡ filter (λ s. not (is_expired old.latest s.place)) old.sessions
     → RunsAsk old link ask.Pulse (Ok (done told)) new
-unfolding answer_at after_at may_fault_at
+unfolding answer_at after_at committed_at
 pulse-runs old new link told sessions o l tells is set = record {
   legal = refl;
   serial = tells;
@@ -90,7 +90,7 @@ pulse-runs old new link told sessions o l tells is set = record {
 -- Bye and Lost
 pub part-runs : (old new : World) (link n : ℕ) (sessions : List Session) → IsAt old.sessions link n → [] ≡ old.opens → [] ≡ old.locks
     → new ≡ record old { sessions = sessions } → sessions ≡ filter (λ s. not (s.number == n)) old.sessions → RunsPart old link Done new
-unfolding answer_at after_at may_fault_at
+unfolding answer_at after_at committed_at
 part-runs old new link n sessions at o l is set =
     let world : new ≡ without_session old at.session.number =
     is ∙ ap (λ (x : List Session). record old { sessions = x }) set ∙ sym (ap (without_session old) at.same ∙ without_session-bare old n o l) in
@@ -100,7 +100,7 @@ part-runs old new link n sessions at o l is set =
     }
 
 pub part-displaced : (old : World) (link : ℕ) → session_at old link ≡ None → RunsPart old link Displaced old
-unfolding answer_at after_at may_fault_at
+unfolding answer_at after_at committed_at
 part-displaced old link none = record {
   bye = rw none record { legal = refl; serial = refl; world = refl };
   lost = rw none record { legal = refl; serial = refl; world = refl };
@@ -117,7 +117,7 @@ drain-kept moment (Some m) h = refl
 
 pub drain-runs : (old new : World) (link : ℕ) (drain : Option ℕ) → new ≡ record old { drain = drain } → drain_moment old.latest old.drain ≡ drain
     → RunsAsk old link ask.Drain (Ok (done Done)) new
-unfolding answer_at after_at may_fault_at
+unfolding answer_at after_at committed_at
 drain-runs old new link drain is first = record {
   legal = refl;
   serial = refl;
@@ -134,7 +134,7 @@ found-verdict : (w new : World) (link n : ℕ) (q : Request) (r : Told × Outcom
     → verdict_of_block w at.session q (block_of q) ≡ v → RunsVerdict w at.session v r new → RunsCall w link q (Ok r) new
 found-verdict w new link n q r v at comes runs =
     let e : verdict w at.session q ≡ v = uncached w at.session q at.uncached ∙ comes in
-    subst (λ (o : Option Session). Comes (told_call w o q r.1) (after_call w o q r.1) (is_fault_legal w o q) r.1 r.0 new) (sym at.linked)
+    subst (λ (o : Option Session). Comes (told_call w o q r.1) (after_call w o q r.1) (committed_in w o q) r.1 r.0 new) (sym at.linked)
     (subst (λ (x : Verdict). RunsVerdict w at.session x r new) (sym e) runs)
 
 pub call-runs : (old new : World) (link n : ℕ) (q : Request) (call : Call) (result : Result (Told × Outcome) OutOfMemory) (has_user : Bool) → IsAt old.sessions link n
@@ -152,10 +152,8 @@ call-refused old new link n q code told has_user at user spelled tells same =
     found-verdict old new link n q (done told) (refused (plain code)) at
     (spelled old at.session (sym (user at.session at.numbered))) record { legal = refl; serial = tells; world = same }
 
-pub call-at : (old new : World) (link id : ℕ) (write : Bool) (offset : ℕ) (payload given : List ℕ) (asked : Ask) (result : Result (Told × Outcome) OutOfMemory)
-    → asked ≡ ask.Call id write offset payload → given ≡ payload → RunsCall old link (request id write offset given) result new → RunsAsk old link asked result new
-unfolding answer_at after_at may_fault_at
-call-at old new link id write offset payload given asked (Ok r) is same runs =
-    subst (λ (a : Ask). RunsAsk old link a (Ok r) new) (sym is)
-    (subst (λ (p : List ℕ). RunsCall old link (request id write offset p) (Ok r) new) same runs)
-call-at old new link id write offset payload given asked (Err e) is same runs = (ap takes_memory is, runs)
+pub call-at : (old new : World) (link id : ℕ) (write : Bool) (offset : ℕ) (payload : List ℕ) (asked : Ask) (result : Result (Told × Outcome) OutOfMemory)
+    → asked ≡ ask.Call id write offset payload → RunsCall old link (request id write offset payload) result new → RunsAsk old link asked result new
+unfolding answer_at after_at committed_at
+call-at old new link id write offset payload asked (Ok r) is runs = subst (λ (a : Ask). RunsAsk old link a (Ok r) new) (sym is) runs
+call-at old new link id write offset payload asked (Err e) is runs = (ap takes_memory is, runs)

@@ -15,15 +15,16 @@ use Rattle.afp_serial.specs.Household.{Household}
 use Rattle.afp_serial.specs.Login.{guest_id}
 use Rattle.afp_serial.specs.OpenVol.{volume_id_bit, volume_named, with_volume}
 use Rattle.byteorder.specs.Endian.{big_bytes}
-use Rattle.afp_serial.proofs.OpenVolBytes.{open-vol-bytes}
+use Rattle.afp_serial.proofs.OpenVolReply.{open-vol-bytes}
 use Rattle.afp_serial.specs.CallRow.{plain}
 use Rattle.afp_serial.specs.Rows.{row, refusal, effect}
 use Rattle.afp_serial.specs.Sessions.{closing, has_opened, has_session, is_open, without_session}
 use Rattle.afp_serial.specs.StatusBlock.{no_user, versions}
 use Rattle.afp_serial.specs.Steps.{verdict_of_row}
 use Rattle.afp_serial.specs.World.{World, Session, OpenFork}
+use Rattle.afp_volume.specs.VolumeState.{VolumeState}
 use Rattle.afp_core.specs.SessionList.{replaced}
-use Rattle.afp_core.specs.Standing.{quiet_world}
+use Rattle.afp_core.specs.ServerState.{bare_world}
 use Rattle.afp_core.specs.Turn.{RunsVerdict, done}
 
 -- what a row tells, and the world that it leaves
@@ -31,11 +32,11 @@ abbrev pub IsRowOf : World → Session → Call → Told → World → Type 0
 IsRowOf w s call told next = RunsVerdict w s (verdict_of_row call (refusal w s call)) (done told) next
 
 -- the parts of a world in memory
-pub opens-bare : (w : World) (house : Household) (made latest : ℕ) (drain : Option ℕ) (next : ℕ) (sessions : List Session) → quiet_world house made latest drain next sessions ≡ w → [] ≡ w.opens
-opens-bare w house made latest drain next sessions is = ap (λ (o : World). o.opens) is
+pub opens-bare : (w : World) (house : Household) (latest : ℕ) (drain : Option ℕ) (next : ℕ) (sessions : List Session) (volumes : List VolumeState) → bare_world house latest drain next sessions volumes ≡ w → [] ≡ w.opens
+opens-bare w house latest drain next sessions volumes is = ap (λ (o : World). o.opens) is
 
-pub locks-bare : (w : World) (house : Household) (made latest : ℕ) (drain : Option ℕ) (next : ℕ) (sessions : List Session) → quiet_world house made latest drain next sessions ≡ w → [] ≡ w.locks
-locks-bare w house made latest drain next sessions is = ap (λ (o : World). o.locks) is
+pub locks-bare : (w : World) (house : Household) (latest : ℕ) (drain : Option ℕ) (next : ℕ) (sessions : List Session) (volumes : List VolumeState) → bare_world house latest drain next sessions volumes ≡ w → [] ≡ w.locks
+locks-bare w house latest drain next sessions volumes is = ap (λ (o : World). o.locks) is
 
 -- a call that is refused
 pub is_refused : (old new : World) (s : Session) (call : Call) (code : Code) (told : Told) → refusal old s call ≡ Some (plain code)

@@ -15,7 +15,8 @@ spelled-write has_user true id offset payload block enclosed result is front bac
 spelled-write has_user false id offset payload block enclosed result is front back judged = cc
 
 -- any other
-pub spelled-plain : (has_user write : Bool) (id offset : ℕ) (payload : List ℕ) (result : Result Call Stop) → write ≡ false
-    → IsJudged has_user payload None result → IsSpelled has_user (request id write offset payload) result
-spelled-plain has_user false id offset payload result is judged = λ w s user. judged w s (request id false offset payload) user refl refl
-spelled-plain has_user true id offset payload result is judged = cc
+pub spelled-plain : (has_user write : Bool) (id offset : ℕ) (payload block : List ℕ) (result : Result Call Stop) → write ≡ false → block ≡ payload
+    → IsJudged has_user block None result → IsSpelled has_user (request id write offset payload) result
+spelled-plain has_user false id offset payload block result is same judged = λ w s user.
+    subst (λ (b : List ℕ). ComesTo w s (request id false offset payload) b result) same (judged w s (request id false offset payload) user (sym same) refl)
+spelled-plain has_user true id offset payload block result is same judged = cc

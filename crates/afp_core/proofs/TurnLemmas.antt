@@ -1,8 +1,10 @@
 -- Turns, and the histories that a core stands for.
-use Rattle.std.proofs.Common.{◌≡◌, ◌∙◌, ap, sym, refl, ℕ, ◌==◌, ◌+◌, Bool, true, false, ◌&&◌, cond, List, [], ◌∷◌, ◌++◌, length, count_by, nat_lt, arith, length-append, Option, Some, None}
+use Rattle.std.proofs.Common.{◌≡◌, ◌∙◌, ap, sym, refl, subst, ℕ, zero, suc, ◌==◌, ◌+◌, Bool, true, false, ◌&&◌, cond, List, [], ◌∷◌, ◌++◌, length, count_by, nat_lt, arith, length-append, Option, Some, None}
 use Rattle.std.specs.List.{list_all}
-use Rattle.std.proofs.lemmas.Bool.{and_parts, ltb-true, ne_eqb, true≢false}
-use Rattle.std.proofs.lemmas.List.Sums.{sum_by-append}
+use Rattle.std.specs.Prelude.{Ok, sum}
+use Rattle.std.proofs.lemmas.Bool.{and_from, and_parts, ltb-true, ne_eqb, true≢false}
+use Rattle.std.proofs.lemmas.List.Sums.{sum_by-append, sum_by-cons}
+use Rattle.afp_base.specs.Counts.{Rises, counted}
 use Rattle.afp_base.specs.Cached.{Request}
 use Rattle.afp_base.specs.declared.ids.LinkNumber.{LinkNumber}
 use Rattle.afp_serial.specs.declared.ask.Ask.{Ask}
@@ -12,17 +14,20 @@ use Rattle.afp_serial.specs.declared.ask.Outcome.{Outcome}
 use Rattle.afp_serial.specs.declared.ask.Outcome.TheVariants as outcome
 use Rattle.afp_serial.specs.declared.ask.Told.{Told}
 use Rattle.afp_serial.specs.declared.ask.Told.TheVariants.{Opened, Reply, Live, Done, Displaced, Memory}
-use Rattle.afp_serial.specs.Answer.{after, answer, answer_at, is_full, is_legal, link_number, refusal_reply, told_call, told_parting, told_pulse, told_verdict}
+use Rattle.afp_serial.specs.Answer.{after, answer, answer_at, committed_at, committed_of, is_full, is_legal, is_legal_outcome, link_number, refusal_reply, told_call, told_parting, told_pulse, told_verdict}
 use Rattle.afp_base.specs.declared.code.Code.TheVariants.{NoMoreSessions}
-use Rattle.afp_serial.specs.History.{answers, entry, is_lawful, is_opened, opened_in, stand}
+use Rattle.afp_serial.specs.History.{answers, entry, fault_of, faults_in, is_lawful, is_opened, opened_in, stand}
+use Rattle.afp_serial.specs.Ranges.{is_typed_entry}
 use Rattle.afp_serial.specs.Sessions.{has_session, session_at}
 use Rattle.afp_serial.specs.Sound.{IsSound, has_apart_sessions, is_link_below}
 use Rattle.afp_serial.specs.Steps.{Verdict, refused, repeats, runs, verdict}
-use Rattle.afp_serial.specs.World.{World, Session}
+use Rattle.afp_serial.specs.World.{World, Session, at_moment}
 use Rattle.afp_serial.proofs.Grows.{lawful-snoc, stand-append}
+use Rattle.afp_core.proofs.Faultless.{is_faultless, none_fails}
 use Rattle.afp_core.specs.Counted.{IsCounted}
-use Rattle.afp_core.specs.Standing.{Standing}
-use Rattle.afp_core.specs.Turn.{IsNextFree, TakesTurn, Turned}
+use Rattle.afp_core.specs.KeeperFaults.{KeepersRise, SureStand, failed_keeper}
+use Rattle.afp_core.specs.ServerState.{ServerState}
+use Rattle.afp_core.specs.Turn.{IsNextFree, RunsAsk, TakesTurn, Turned}
 
 -- the next link number is no session's
 below-fresh : (xs : List Session) (n : ℕ) → list_all (λ s. nat_lt s.number n && is_link_below n s.place) xs ≡ true → has_session xs n ≡ false
@@ -85,7 +90,7 @@ pub answer-told : (w : World) (e : Entry) (told : Told) → told ≡ answer w e 
 answer-told w e told is none = true≢false (ap is_memory (sym none) ∙ ap is_memory is ∙ answer_at-told _ _ _ _)
 
 -- a step, as a turn by what it is told
-pub turned-takes : (c d : Standing) (now : ℕ) (link : LinkNumber) (asked : Ask) (told : Told) (o : Outcome) → Turned c (entry now link asked o) told d → TakesTurn c now link asked told d
+pub turned-takes : (c d : ServerState) (now : ℕ) (link : LinkNumber) (asked : Ask) (told : Told) (o : Outcome) → Turned c (entry now link asked o) told d → TakesTurn c now link asked told d
 turned-takes c d now link asked (Opened l) o t = (o, t)
 turned-takes c d now link asked (Reply code block ends) o t = (o, t)
 turned-takes c d now link asked (Live drain) o t = (o, t)
@@ -94,7 +99,7 @@ turned-takes c d now link asked Displaced o t = (o, t)
 turned-takes c d now link asked Memory o t = absurd (answer-told c.world (entry now link asked o) Memory t.serial refl)
 
 -- a turn at the end of a history that the core stands for
-module _ (start : World) (h : List Entry) (c d : Standing) (e : Entry) (told : Told) (stands : c.world ≡ stand start h) (t : Turned c e told d) where
+module _ (start : World) (h : List Entry) (c d : ServerState) (e : Entry) (told : Told) (stands : c.world ≡ stand start h) (t : Turned c e told d) where
   pub turn-stands : d.world ≡ stand start (h ++ e ∷ [])
   turn-stands = t.world ∙ ap (λ (w : World). after w e) stands ∙ sym (stand-append start h (e ∷ []))
 
@@ -112,7 +117,7 @@ answers-append w (x ∷ xs) e = ap (λ (l : List Told). answer w x ∷ l) (answe
 opened-append : (w : World) (h : List Entry) (e : Entry) → opened_in w (h ++ e ∷ []) ≡ opened_in w h + count_by is_opened (answer (stand w h) e ∷ [])
 opened-append w h e = ap (count_by is_opened) (answers-append w h e) ∙ sum_by-append (λ t. cond (is_opened t) 1 0) (answers w h) (answer (stand w h) e ∷ [])
 
-pub turn-counted : (start c d : Standing) (h : List Entry) (e : Entry) (told : Told) → c.world ≡ stand start.world h → Turned c e told d → IsCounted start h c → IsCounted start (h ++ e ∷ []) d
+pub turn-counted : (start c d : ServerState) (h : List Entry) (e : Entry) (told : Told) → c.world ≡ stand start.world h → Turned c e told d → IsCounted start h c → IsCounted start (h ++ e ∷ []) d
 turn-counted start c d h e told stands t counts =
     let longer : length (h ++ e ∷ []) ≡ length h + 1 = length-append h (e ∷ []) in
     let more : opened_in start.world (h ++ e ∷ []) ≡ opened_in start.world h + count_by is_opened (told ∷ []) =
@@ -121,3 +126,86 @@ turn-counted start c d h e told stands t counts =
       entries = omega (arith, longer, t.entries, counts.entries);
       opened = omega (arith, more, t.opened, counts.opened);
     }
+
+-- an ask whose numbers are in their ranges, with an outcome that may come, is a legal entry
+pub legal-entry : (w : World) (now : ℕ) (link : LinkNumber) (asked : Ask) (o : Outcome) → is_typed_entry (entry now link asked o) ≡ true
+    → is_legal_outcome (committed_at (at_moment w now) link.0 asked) o ≡ true → is_legal w (entry now link asked o) ≡ true
+legal-entry w now link asked o typed may = and_from (is_typed_entry (entry now link asked o)) (is_legal_outcome (committed_at (at_moment w now) link.0 asked) o) typed may
+
+-- what opens no session
+pub not-opened : (told : Told) → ((link : LinkNumber) → told ≡ Opened link → ⊥) → count_by is_opened (told ∷ []) ≡ 0
+not-opened (Opened link) other = absurd (other link refl)
+not-opened (Reply code block ends) other = refl
+not-opened (Live drain) other = refl
+not-opened Done other = refl
+not-opened Displaced other = refl
+not-opened Memory other = refl
+
+-- the outcome of an ask, as an entry of a server without keepers
+pub turned : (c d : ServerState) (now : ℕ) (link : LinkNumber) (asked : Ask) (told : Told) (o : Outcome)
+    → is_typed_entry (entry now link asked o) ≡ true
+    → RunsAsk (at_moment c.world now) link.0 asked (Ok (told, o)) d.world
+    → d.entries ≡ counted 1 c.entries
+    → d.opened ≡ counted (count_by is_opened (told ∷ [])) c.opened
+    → c.faults ≡ [] → d.faults ≡ [] → c.sure ≡ [] → d.sure ≡ []
+    → Turned c (entry now link asked o) told d
+turned c d now link asked told o typed comes entries opened cf df cs ds =
+    let done : o ≡ outcome.Done = is_faultless (at_moment c.world now) link.0 asked o comes.legal in
+    record {
+      faultless = done;
+      legal = and_from (is_typed_entry (entry now link asked o)) (is_legal_outcome (committed_at (at_moment c.world now) link.0 asked) o) typed comes.legal;
+      serial = comes.serial;
+      world = comes.world;
+      entries = entries;
+      opened = opened;
+      keepers = subst (λ (i : Option ℕ). KeepersRise i c.faults d.faults) (sym (none_fails (committed_at (at_moment c.world now) link.0 asked) o done))
+          (subst (λ (xs : List ℕ). KeepersRise None xs d.faults) (sym cf) (subst (λ (xs : List ℕ). KeepersRise None [] xs) (sym df) tt));
+      sure = ds ∙ sym cs;
+      stand = subst (λ (xs : List Bool). SureStand xs c.faults d.faults) (sym cs) tt;
+    }
+
+-- the sum of the keepers' counts
+fault_count : Option ℕ → ℕ
+fault_count None = 0
+fault_count (Some index) = 1
+
+sums-rise : (index : Option ℕ) (olds news : List ℕ) → KeepersRise index olds news → Rises (fault_count index) (sum olds) (sum news)
+unfolding fault_count
+sums-rise None [] [] k = (omega arith, omega arith)
+sums-rise (Some index) [] [] k = absurd k
+sums-rise None [] (b ∷ news) k = absurd k
+sums-rise (Some index) [] (b ∷ news) k = absurd k
+sums-rise None (a ∷ olds) [] k = absurd k
+sums-rise (Some zero) (a ∷ olds) [] k = absurd k
+sums-rise (Some (suc index)) (a ∷ olds) [] k = absurd k
+sums-rise None (a ∷ olds) (b ∷ news) k = let rest = sums-rise None olds news k.1 in (omega (arith, sum_by-cons (λ (n : ℕ). n) a olds, sum_by-cons (λ (n : ℕ). n) b news, k.0.0, rest.0), omega (arith, sum_by-cons (λ (n : ℕ). n) a olds, sum_by-cons (λ (n : ℕ). n) b news, k.0.0, rest.0))
+sums-rise (Some zero) (a ∷ olds) (b ∷ news) k = let rest = sums-rise None olds news k.1 in (omega (arith, sum_by-cons (λ (n : ℕ). n) a olds, sum_by-cons (λ (n : ℕ). n) b news, k.0.0, k.0.1, rest.0), omega (arith, sum_by-cons (λ (n : ℕ). n) a olds, sum_by-cons (λ (n : ℕ). n) b news, k.0.0, k.0.1, rest.0))
+sums-rise (Some (suc index)) (a ∷ olds) (b ∷ news) k = let rest = sums-rise (Some index) olds news k.1 in (omega (arith, sum_by-cons (λ (n : ℕ). n) a olds, sum_by-cons (λ (n : ℕ). n) b news, k.0.0, rest.0), omega (arith, sum_by-cons (λ (n : ℕ). n) a olds, sum_by-cons (λ (n : ℕ). n) b news, k.0.0, rest.0, rest.1))
+
+-- a fault of an entry that is legal raises the sum
+fault-counted : (index : Option ℕ) (o : Outcome) → is_legal_outcome index o ≡ true → fault_count (failed_keeper index o) ≡ fault_of o
+unfolding fault_count
+fault-counted index outcome.Done legal = refl
+fault-counted (Some index) outcome.Fault legal = refl
+fault-counted None outcome.Fault legal = cc
+
+pub turn-faults : (c d : ServerState) (e : Entry) (told : Told) → Turned c e told d → Rises (faults_in ([] ++ e ∷ [])) (sum c.faults) (sum d.faults)
+turn-faults c d e told t =
+    let legal = (and_parts (is_typed_entry e) (is_legal_outcome (committed_of c.world e) e.outcome) t.legal).1 in
+    subst (λ (n : ℕ). Rises n (sum c.faults) (sum d.faults)) (fault-counted (committed_of c.world e) e.outcome legal ∙ one (fault_of e.outcome))
+    (sums-rise (failed_keeper (committed_of c.world e) e.outcome) c.faults d.faults t.keepers)
+  where
+    one : (n : ℕ) → n ≡ n + 0
+    one n = omega arith
+
+-- no keeper comes
+no-keepers : (index : Option ℕ) (news : List ℕ) → KeepersRise index [] news → news ≡ []
+no-keepers None [] k = refl
+no-keepers (Some index) [] k = absurd k
+no-keepers None (b ∷ news) k = absurd k
+no-keepers (Some index) (b ∷ news) k = absurd k
+
+pub turn-unkept : (c d : ServerState) (e : Entry) (told : Told) → Turned c e told d → c.faults ≡ [] → d.faults ≡ []
+turn-unkept c d e told t none =
+    let index = failed_keeper (committed_of c.world e) e.outcome in
+    no-keepers index d.faults (subst (λ (olds : List ℕ). KeepersRise index olds d.faults) none t.keepers)

@@ -1,6 +1,8 @@
+pub mod Requests
 pub mod SessionList
 pub mod Spelling
-pub mod Standing
+pub mod ServerState
+pub mod KeeperFaults
 pub mod Turn
 pub mod Counted
 pub mod Places

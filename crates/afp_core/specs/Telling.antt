@@ -1,23 +1,23 @@
 -- What a teller that stores its history shows (this profile).
-use Rattle.std.specs.Prelude.{List, length}
+use Rattle.std.specs.Prelude.{List, length, sum}
 use Rattle.afp_serial.specs.Shown.{Shown}
 use Rattle.afp_serial.specs.declared.ask.Entry.{Entry}
 use Rattle.afp_core.specs.Places.{upto}
-use Rattle.afp_core.specs.Standing.{Standing}
+use Rattle.afp_core.specs.ServerState.{ServerState}
 use Rattle.afp_core.specs.declared.list_teller.ListTeller.{ListTeller}
 
 -- the core as it was at the start
-abbrev pub start_of : ListTeller → Standing
+abbrev pub start_of : ListTeller → ServerState
 start_of t = t.start.value
 
 -- the core as it is
-abbrev pub core_of : ListTeller → Standing
+abbrev pub core_of : ListTeller → ServerState
 core_of t = t.core
 
 -- every entry, in order
 abbrev pub history_of : ListTeller → List Entry
 history_of t = t.entries.items
 
--- every entry of the history is an ask of this teller; no keeper is there yet that might fail
+-- every entry of the history is an ask of this teller; its count of faults is the sum of the keepers' counts
 abbrev pub shown_of : ListTeller → Shown
-shown_of t = record { start = (start_of t).world; history = history_of t; mine = upto (length (history_of t)); faults = 0 }
+shown_of t = record { start = (start_of t).world; history = history_of t; mine = upto (length (history_of t)); faults = sum (core_of t).faults }

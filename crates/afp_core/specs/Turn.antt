@@ -1,13 +1,14 @@
 -- One turn (this profile).
-use Rattle.std.specs.Prelude.{◌≡◌, ℕ, Bool, true, false, [], ◌∷◌, count_by, Some, Result, Ok, Err}
+use Rattle.std.specs.Prelude.{◌≡◌, ℕ, Bool, true, false, [], ◌∷◌, count_by, Option, Some, Result, Ok, Err}
 use Rattle.afp_base.specs.Cached.{Request}
 use Rattle.afp_base.specs.Counts.{counted}
 use Rattle.afp_base.specs.declared.bytes.OutOfMemory.{OutOfMemory}
 use Rattle.afp_base.specs.declared.ids.LinkNumber.{LinkNumber}
 use Rattle.afp_requests.specs.declared.call.Call.{Call}
+use Rattle.afp_core.specs.KeeperFaults.{KeepersRise, SureStand, failed_keeper}
 use Rattle.afp_core.specs.SessionList.{session_of}
-use Rattle.afp_core.specs.Standing.{Standing}
-use Rattle.afp_serial.specs.Answer.{answer, answer_at, after, after_at, after_call, after_verdict, is_fault_legal, is_legal, is_legal_outcome, may_fault, may_fault_at, told_call, told_verdict}
+use Rattle.afp_core.specs.ServerState.{ServerState}
+use Rattle.afp_serial.specs.Answer.{answer, answer_at, after, after_at, after_call, after_verdict, committed_at, committed_by, committed_in, committed_of, is_legal, is_legal_outcome, told_call, told_verdict}
 use Rattle.afp_serial.specs.History.{entry, is_opened}
 use Rattle.afp_serial.specs.Rows.{refusal}
 use Rattle.afp_serial.specs.Sessions.{has_session, session_at}
@@ -34,9 +35,9 @@ takes_memory ask.Bye = false
 takes_memory ask.Lost = false
 takes_memory ask.Drain = false
 
--- an outcome that may come, with what is told then, and the next world
-pub record Comes (want : Told) (after : World) (may : Bool) (o : Outcome) (told : Told) (next : World) : Type 0 where
-  pub legal : is_legal_outcome may o ≡ true
+-- an outcome that may come where this keeper or none is committed to, with what is told then, and the next world
+pub record Comes (want : Told) (after : World) (index : Option ℕ) (o : Outcome) (told : Told) (next : World) : Type 0 where
+  pub legal : is_legal_outcome index o ≡ true
   pub serial : told ≡ want
   pub world : next ≡ after
 
@@ -44,7 +45,7 @@ pub record Comes (want : Told) (after : World) (may : Bool) (o : Outcome) (told 
 
 -- a call of a session that comes to this verdict
 abbrev pub RunsVerdict : World → Session → Verdict → Told × Outcome → World → Type 0
-RunsVerdict w s v r new = Comes (told_verdict w s v r.1) (after_verdict w s v r.1) (may_fault w s v) r.1 r.0 new
+RunsVerdict w s v r new = Comes (told_verdict w s v r.1) (after_verdict w s v r.1) (committed_by w s v) r.1 r.0 new
 
 -- A call of a session comes to its row: what it is told with its outcome, and the world after, are the row's. Or there is no memory,
 -- and nothing changes.
@@ -56,12 +57,12 @@ RunsRow w number call (Err e) new = new ≡ w
 -- the same of a call on a link
 abbrev pub RunsCall : World → ℕ → Request → Result (Told × Outcome) OutOfMemory → World → Type 0
 RunsCall w link q (Ok r) new =
-    Comes (told_call w (session_at w link) q r.1) (after_call w (session_at w link) q r.1) (is_fault_legal w (session_at w link) q) r.1 r.0 new
+    Comes (told_call w (session_at w link) q r.1) (after_call w (session_at w link) q r.1) (committed_in w (session_at w link) q) r.1 r.0 new
 RunsCall w link q (Err e) new = new ≡ w
 
 -- the same of an ask
 abbrev pub RunsAsk : World → ℕ → Ask → Result (Told × Outcome) OutOfMemory → World → Type 0
-RunsAsk w link ask (Ok r) new = Comes (answer_at w link ask r.1) (after_at w link ask r.1) (may_fault_at w link ask) r.1 r.0 new
+RunsAsk w link ask (Ok r) new = Comes (answer_at w link ask r.1) (after_at w link ask r.1) (committed_at w link ask) r.1 r.0 new
 RunsAsk w link ask (Err e) new = (takes_memory ask ≡ true) × (new ≡ w)
 
 abbrev pub done : Told → Told × Outcome
@@ -82,25 +83,29 @@ abbrev pub Runs : World → ℕ → LinkNumber → Ask → Result (Told × Outco
 Runs old now link ask (Ok r) new = RunsAsk (at_moment old now) link.0 ask (Ok r) new
 Runs old now link ask (Err e) new = (takes_memory ask ≡ true) × (new ≡ old)
 
--- An entry that is legal, with its serial answer, and the world after it; the counts go on.
-pub record Turned (c : Standing) (e : Entry) (answered : Told) (d : Standing) : Type 0 where
+-- An entry that is legal, with its serial answer, and the world after it. The counts go on, and a fault is one that its keeper counted.
+-- No row commits yet, so there is none.
+pub record Turned (c : ServerState) (e : Entry) (answered : Told) (d : ServerState) : Type 0 where
   pub faultless : e.outcome ≡ outcome.Done
   pub legal : is_legal c.world e ≡ true
   pub serial : answered ≡ answer c.world e
   pub world : d.world ≡ after c.world e
   pub entries : d.entries ≡ counted 1 c.entries
   pub opened : d.opened ≡ counted (count_by is_opened (answered ∷ [])) c.opened
+  pub keepers : KeepersRise (failed_keeper (committed_of c.world e) e.outcome) c.faults d.faults
+  pub sure : d.sure ≡ c.sure
+  pub stand : SureStand c.sure c.faults d.faults
 
 -- There is no memory: the ask is no entry, and nothing changes.
-pub record Refrains (c : Standing) (ask : Ask) (d : Standing) : Type 0 where
+pub record Refrains (c : ServerState) (ask : Ask) (d : ServerState) : Type 0 where
   pub may : takes_memory ask ≡ true
   pub same : d ≡ c
 
-abbrev pub BecomesEntry : Standing → ℕ → LinkNumber → Ask → Told → Standing → Type 0
+abbrev pub BecomesEntry : ServerState → ℕ → LinkNumber → Ask → Told → ServerState → Type 0
 BecomesEntry c now link ask told d = (o : Outcome) × Turned c (entry now link ask o) told d
 
 -- One turn, by what it is told.
-abbrev pub TakesTurn : Standing → ℕ → LinkNumber → Ask → Told → Standing → Type 0
+abbrev pub TakesTurn : ServerState → ℕ → LinkNumber → Ask → Told → ServerState → Type 0
 TakesTurn c now link ask (Opened l) d = BecomesEntry c now link ask (Opened l) d
 TakesTurn c now link ask (Reply code block ends) d = BecomesEntry c now link ask (Reply code block ends) d
 TakesTurn c now link ask (Live drain) d = BecomesEntry c now link ask (Live drain) d
@@ -109,6 +114,6 @@ TakesTurn c now link ask Displaced d = BecomesEntry c now link ask Displaced d
 TakesTurn c now link ask Memory d = Refrains c ask d
 
 -- the same with its outcome
-abbrev pub TakesStep : Standing → ℕ → LinkNumber → Ask → Result (Told × Outcome) OutOfMemory → Standing → Type 0
+abbrev pub TakesStep : ServerState → ℕ → LinkNumber → Ask → Result (Told × Outcome) OutOfMemory → ServerState → Type 0
 TakesStep c now link ask (Ok r) d = Turned c (entry now link ask r.1) r.0 d
 TakesStep c now link ask (Err e) d = Refrains c ask d

@@ -1,9 +1,9 @@
 //! A call of a session: its steps in their order, and its row.
-ghost use Rattle.std.specs.Prelude.{◌≡◌, ℕ};
-ghost use Rattle.afp_serial.specs.Answer.{request};
+ghost use Rattle.afp_core.specs.Requests.{as_request};
 ghost use Rattle.afp_core.specs.Turn.{RunsCall, RunsRow};
 
 use crate::replies::refused;
+use crate::request::Request;
 use crate::spelling::{Stop, spelled_call};
 use crate::state::State;
 use afp_base::{Code, LinkNumber, OutOfMemory, SessionNumber};
@@ -11,21 +11,19 @@ use afp_calls::Call;
 use afp_serial::{Outcome, Told};
 
 impl State {
-    /// Answers a call on a link.
+    /// Answers a request on a link, and keeps what it was told where that is to be kept.
     pub(crate) fn call(
         &mut self,
         link: LinkNumber,
-        write: bool,
-        offset: u32,
-        payload: &[u8],
+        request: Request,
     ) -> Result<(Told, Outcome), OutOfMemory>
-        ensures { (id : ℕ) → RunsCall self.old link.0 (request id write offset payload.now) result self.new }
+        ensures { RunsCall self.old link.0 (as_request request) result self.new }
     {
         let Some(session) = self.sessions.at(link) else {
             return Ok((Told::Displaced, Outcome::Done));
         };
         let has_user = self.sessions.has_user(session);
-        match spelled_call(self.alloc, has_user, write, offset, payload) {
+        match spelled_call(self.alloc, has_user, &request) {
             Ok(call) => self.run(session, call),
             Err(Stop::Refused(code)) => Ok((refused(self.alloc, code), Outcome::Done)),
             Err(Stop::Memory) => Err(OutOfMemory),
@@ -46,7 +44,10 @@ impl State {
         match call {
             Call::CloseVol { volume } => Ok((self.close_vol(session, *volume), Outcome::Done)),
             Call::Login { version, uam, tail } => {
-                Ok((self.login(session, version.as_slice(), uam.as_slice(), tail.as_slice()), Outcome::Done))
+                Ok((
+                    self.login(session, version.as_slice(), uam.as_slice(), tail.as_slice()),
+                    Outcome::Done,
+                ))
             }
             Call::Logout => Ok((self.logout(session), Outcome::Done)),
             Call::OpenVol { bits, name } => self.open_vol(session, *bits, name.as_slice()),
@@ -102,7 +103,10 @@ impl State {
             | Call::DisconnectOldSession { .. }
             | Call::EnumerateExt { .. }
             | Call::EnumerateExt2 { .. }
-            | Call::AddIcon { .. } => Ok((refused(self.alloc, Code::CallNotSupported), Outcome::Done)),
+            | Call::AddIcon { .. } => Ok((
+                refused(self.alloc, Code::CallNotSupported),
+                Outcome::Done,
+            )),
         }
     }
 }

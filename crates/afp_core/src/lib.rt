@@ -12,6 +12,7 @@ mod moments;
 mod open_vol;
 mod open_volumes;
 mod replies;
+mod request;
 mod sessions;
 mod spelling;
 mod state;

@@ -1,5 +1,5 @@
 //! A teller that stores its history.
-ghost use Rattle.std.specs.Prelude.{◌≡◌, true};
+ghost use Rattle.std.specs.Prelude.{◌≡◌, [], true};
 ghost use Rattle.afp_serial.specs.History.{is_lawful, stand};
 ghost use Rattle.afp_serial.specs.Sound.{IsSound};
 ghost use Rattle.afp_core.specs.Counted.{IsCounted};
@@ -20,10 +20,10 @@ pub struct ListTeller {
     pub ghost lawful: { is_lawful start.value.world entries.items ≡ true },
     pub ghost stands: { core.world ≡ stand start.value.world entries.items },
     pub ghost counted: { IsCounted start.value entries.items core },
+    pub ghost unkept: { core.faults ≡ [] },
 }
 
 impl ListTeller {
-    ghost use Rattle.std.specs.Prelude.{[]};
     ghost use Rattle.afp_core.specs.Telling.{start_of, core_of, history_of};
 
     /// A teller that begins at the core's world, with no history.
@@ -46,11 +46,13 @@ impl ListTeller {
         self.entries.as_slice()
     }
 
-    /// The core. Its world is what the history makes of the world at the start, and its counts went on by the history.
+    /// The core. Its world is what the history makes of the world at the start, and its counts went on by the history. No volume has a
+    /// keeper yet.
     pub fn core(&self) -> &Core
         ensures value { result.now ≡ core_of self.now }
         ensures stands { result.now.world ≡ stand (start_of self.now).world (history_of self.now) }
         ensures counted { IsCounted (start_of self.now) (history_of self.now) result.now }
+        ensures unkept { result.now.faults ≡ [] }
     {
         &self.core
     }
@@ -58,6 +60,7 @@ impl ListTeller {
 
 impl Teller for ListTeller {
     ghost use Rattle.std.specs.Prelude.{length};
+    ghost use Rattle.afp_serial.proofs.StaysSound.{stand-sound};
     ghost use Rattle.afp_core.specs.Places.{upto-within};
     ghost use Rattle.afp_core.specs.Telling.{start_of, shown_of};
 
@@ -68,7 +71,12 @@ impl Teller for ListTeller {
 
     ghost shown = { λ t. shown_of t };
 
-    ghost sound = { λ t. record { start = t.sound; lawful = t.lawful; within = upto-within (length t.entries.items) } };
+    ghost sound = { λ t. record {
+      start = t.sound;
+      lawful = t.lawful;
+      stands = stand-sound t.start.value.world t.entries.items t.sound t.lawful;
+      within = upto-within (length t.entries.items);
+    } };
 
     fn ask(&mut self, now: Moment, link: LinkNumber, ask: Ask) -> Told {
         if self.entries.reserve(1).is_err() {

@@ -1,10 +1,11 @@
 //! The steps by which a request is decided before its call's row.
-ghost use Rattle.std.specs.Prelude.{◌≡◌, ℕ, Bool, false, ◌&&◌, not};
+ghost use Rattle.std.specs.Prelude.{◌≡◌, false, ◌&&◌, not};
 ghost use Rattle.std.specs.Option.{option_copied};
-ghost use Rattle.afp_serial.specs.Answer.{request};
 ghost use Rattle.afp_serial.specs.Steps.{needs_user};
+ghost use Rattle.afp_core.specs.Requests.{as_request};
 ghost use Rattle.afp_core.specs.Spelling.{IsJudged, IsSpelled};
 
+use crate::request::Request;
 use afp_base::Code;
 use afp_calls::commands::{GET_SRVR_INFO, LOGIN, LOGIN_EXT, LOGOUT};
 use afp_calls::{Call, ReadFault, is_command, read_call};
@@ -21,17 +22,12 @@ pub enum Stop {
 }
 
 /// The call that a request of a session spells; `has_user`: somebody has logged in to the session.
-pub fn spelled_call(
-    alloc: Global,
-    has_user: bool,
-    write: bool,
-    offset: u32,
-    payload: &[u8],
-) -> Result<Call, Stop>
-    ensures { (id : ℕ) → IsSpelled has_user (request id write offset payload.now) result }
+pub fn spelled_call(alloc: Global, has_user: bool, request: &Request) -> Result<Call, Stop>
+    ensures { IsSpelled has_user (as_request request.now) result }
 {
-    if write {
-        let (block, data) = payload.split_at((offset as usize).min(payload.len()));
+    let payload = request.payload.as_slice();
+    if request.write {
+        let (block, data) = payload.split_at((request.offset as usize).min(payload.len()));
         judged_call(alloc, has_user, block, Some(data))
     } else {
         judged_call(alloc, has_user, payload, None)

@@ -9,6 +9,7 @@ ghost use Rattle.afp_core.specs.Turn.{IsNextFree, Runs, RunsAsk, RunsOpen, RunsP
 use crate::link_numbers::LinkNumbers;
 use crate::moments::later;
 use crate::replies::refused;
+use crate::request::Request;
 use crate::sessions::Sessions;
 use afp_base::{Code, LinkNumber, Moment, OutOfMemory};
 use afp_serial::{Ask, House, Outcome, Told};
@@ -33,12 +34,12 @@ pub struct State {
 }
 
 impl Model for State {
-    ghost use Rattle.afp_serial.specs.World.{World};
-    ghost use Rattle.afp_core.specs.Standing.{quiet_world};
+    ghost use Rattle.afp_serial.specs.World.{World, fresh_volumes};
+    ghost use Rattle.afp_core.specs.ServerState.{bare_world};
 
     ghost Value = { World };
 
-    ghost view = { λ a. quiet_world a.house a.made a.latest a.drain a.links a.sessions };
+    ghost view = { λ a. bare_world a.house a.latest a.drain a.links a.sessions (fresh_volumes a.house a.made) };
 }
 
 impl State {
@@ -86,11 +87,19 @@ impl State {
         match ask {
             Ask::Open { .. } => Ok((self.open()?, Outcome::Done)),
             Ask::Call {
-                id: _,
+                id,
                 write,
                 offset,
                 payload,
-            } => self.call(link, write, offset, payload.as_slice()),
+            } => self.call(
+                link,
+                Request {
+                    id,
+                    write,
+                    offset,
+                    payload,
+                },
+            ),
             Ask::Pulse => Ok((self.pulse(link), Outcome::Done)),
             Ask::Bye | Ask::Lost => Ok((self.part(link), Outcome::Done)),
             Ask::Drain => Ok((self.drain(), Outcome::Done)),

@@ -1,13 +1,14 @@
 //! The core, and its turns.
-ghost use Rattle.std.specs.Prelude.{◌≡◌, ◌↔◌, ◌<◌, Err, IfOk, length};
+ghost use Rattle.std.specs.Prelude.{◌≡◌, ◌↔◌, ◌<◌, [], Err, IfOk, length};
 ghost use Rattle.afp_serial.specs.Sound.{IsSound};
-ghost use Rattle.afp_core.specs.Standing.{fresh_standing};
+ghost use Rattle.afp_serial.specs.World.{fresh_volumes};
+ghost use Rattle.afp_core.specs.ServerState.{start_server};
 ghost use Rattle.afp_core.specs.Turn.{TakesStep, TakesTurn};
 
 use crate::counts::Counts;
 use crate::state::State;
 use afp_base::{LinkNumber, Moment, OutOfMemory};
-use afp_serial::{Ask, House, Outcome, Told};
+use afp_serial::{Ask, House, Outcome, Told, entry_in_range, moment_in_range};
 use std::alloc::Global;
 use std::marker::Model;
 
@@ -22,7 +23,7 @@ pub enum CoreFault {
 
 /// The serial file server over a world in memory.
 ///
-/// Contracts see its world, which is sound, and its counts.
+/// Contracts see its world, which is sound, and its counts. Its volumes have no keepers yet.
 #[derive(Drop)]
 pub struct Core {
     state: State,
@@ -31,12 +32,13 @@ pub struct Core {
 }
 
 impl Model for Core {
-    ghost use Rattle.afp_core.specs.Standing.{Standing};
+    ghost use Rattle.std.specs.Prelude.{[]};
+    ghost use Rattle.afp_core.specs.ServerState.{ServerState};
     ghost use Rattle.afp_serial.specs.Sound.{IsSound};
 
-    ghost Value = { Standing };
+    ghost Value = { ServerState };
 
-    ghost view = { λ c. record { world = c.state; entries = c.entries; opened = c.opened } };
+    ghost view = { λ c. record { world = c.state; entries = c.entries; opened = c.opened; faults = []; sure = [] } };
 
     ghost invariant = { λ c. IsSound c.state };
 }
@@ -44,12 +46,13 @@ impl Model for Core {
 impl Core {
     /// The core of a house that nobody has used. `Count` exactly where the house has more than one volume.
     pub fn new(alloc: Global, house: &House, now: Moment) -> Result<Core, CoreFault>
-        ensures fresh { IfOk result (λ core. core ≡ fresh_standing house.now now) }
+        ensures fresh { IfOk result (λ core. core ≡ start_server house.now now (fresh_volumes house.now now) [] []) }
         ensures count { (result ≡ Err CoreFault.Count) ↔ (1 < length house.now.volumes) }
     {
         if house.volumes().len() > 1 {
             return Err(CoreFault::Count);
         }
+        moment_in_range(now);
         match house.copy(alloc) {
             Ok(house) => Ok(Core {
                 state: State::new(alloc, house, now),
@@ -61,7 +64,6 @@ impl Core {
     }
 
     /// Answers one ask, and tells its outcome too.
-    #[tactic(auto, using(crate::proofs::Faultless::is_faultless))]
     pub(crate) fn step(
         &mut self,
         now: Moment,
@@ -70,6 +72,7 @@ impl Core {
     ) -> Result<(Told, Outcome), OutOfMemory>
         ensures { TakesStep self.old now link ask result self.new }
     {
+        entry_in_range(now, link, &ask);
         let (told, outcome) = self.state.turn(now, link, ask)?;
         self.entries = self.entries.saturating_add(1);
         if let Told::Opened { .. } = told {

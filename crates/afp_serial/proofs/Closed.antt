@@ -4,12 +4,12 @@ use Rattle.std.specs.Prelude.{count_by, ◌==◌, filter}
 use Rattle.std.specs.List.{list_all, list_any}
 use Rattle.std.proofs.lemmas.Bool.{and_parts, and_from, leb-true, le-leb}
 use Rattle.afp_serial.proofs.SoundParts.{ApartSessions, sessions-parts, sessions-whole, LawfulOpens, opens-parts, opens-whole, LawfulLocks, locks-parts, locks-whole, caches-parts, caches-whole, KeptLimits, limits-parts, limits-whole, same_number, same_link, is_below, same_reference, do_clash, do_overlap, keeps_forks, keeps_locks}
-use Rattle.afp_serial.proofs.TestedLists.{all-weaker, all-both, all-filter, all-kept, any-weaker, any-filter, any-left, apart-filter, apart-weaker, count-filter, length-filter-le}
+use Rattle.afp_volume.proofs.TestedLists.{all-weaker, all-both, all-filter, all-kept, any-weaker, any-filter, any-left, apart-filter, apart-weaker, count-filter, length-filter-le}
 use Rattle.afp_serial.specs.Limits.{most_sessions, most_forks, most_locks}
 use Rattle.afp_base.specs.DenyMode.{is_one_fork}
 use Rattle.afp_base.specs.Overlap.{do_meet}
 use Rattle.afp_serial.specs.Sessions.{has_session, is_open, volume_at, closing, ending}
-use Rattle.afp_serial.specs.Sound.{IsSound, share_fork, has_volume_open, is_file_of, is_lawful_open, is_lawful_cache, serves_house, has_apart_sessions, has_lawful_locks, has_lawful_caches}
+use Rattle.afp_serial.specs.Sound.{IsSound, share_fork, has_volume_open, is_file_of, is_lawful_open, is_lawful_cache, has_typed_fields, has_apart_sessions, has_lawful_locks, has_lawful_caches}
 use Rattle.afp_serial.specs.World.{World, Session, OpenFork, Lock}
 
 -- a smaller number is within the limit too
@@ -62,23 +62,19 @@ closed-limits w stays p =
       locks = all-weaker (keeps_locks w.locks) (keeps_locks (filter (λ lock. is_open left lock.reference) w.locks)) left
           (λ o. within (count_by (λ lock. lock.reference == o.reference) (filter (λ lock. is_open left lock.reference) w.locks)) (count_by (λ lock. lock.reference == o.reference) w.locks) most_locks (count-filter (λ (lock : Lock). lock.reference == o.reference) (λ lock. is_open left lock.reference) w.locks))
           (all-filter (keeps_locks w.locks) stays w.opens p.locks);
-      each = p.each;
     }
 
 pub closing-sound : (w : World) (stays : OpenFork → Bool) → IsSound w → IsSound (closing w stays)
-unfolding serves_house has_apart_sessions has_lawful_caches
+unfolding has_apart_sessions has_lawful_caches has_typed_fields
 closing-sound w stays h = record {
   house = h.house;
-  served = h.served;
-  trees = h.trees;
-  names = h.names;
-  notes = h.notes;
+  typed = h.typed;
+  volumes = h.volumes;
   sessions = h.sessions;
   opens = opens-whole (closing w stays) (closed-opens w stays (opens-parts w h.opens));
   locks = locks-whole (closing w stays) (closed-locks w stays (locks-parts w h.locks));
   caches = h.caches;
   limits = limits-whole (closing w stays) (closed-limits w stays (limits-parts w h.limits));
-  volumes = h.volumes;
 }
 
 -- sessions
@@ -114,25 +110,21 @@ fewer-limits w stays p = record {
   sessions = within (length (filter stays w.sessions)) (length w.sessions) most_sessions (length-filter-le stays w.sessions) p.sessions;
   forks = all-filter (keeps_forks w.opens) stays w.sessions p.forks;
   locks = p.locks;
-  each = p.each;
 }
 
 pub fewer-sound : (w : World) (stays : Session → Bool) → IsSound w → list_all (λ o. has_session (filter stays w.sessions) o.session) w.opens ≡ true → IsSound (leaving w stays)
-unfolding serves_house has_lawful_locks
+unfolding has_lawful_locks has_typed_fields
 fewer-sound w stays h left =
     let apart : ApartSessions w = sessions-parts w h.sessions in
     record {
       house = h.house;
-      served = h.served;
-      trees = h.trees;
-      names = h.names;
-      notes = h.notes;
+      typed = h.typed;
+      volumes = h.volumes;
       sessions = sessions-whole (leaving w stays) (fewer-apart w stays apart);
       opens = opens-whole (leaving w stays) (fewer-opens w stays apart (opens-parts w h.opens) left);
       locks = h.locks;
       caches = caches-whole (leaving w stays) (all-filter (λ s. is_lawful_cache s.cache) stays w.sessions (caches-parts w h.caches));
       limits = limits-whole (leaving w stays) (fewer-limits w stays (limits-parts w h.limits));
-      volumes = h.volumes;
     }
 
 -- both: sessions end with their forks and locks

@@ -1,27 +1,29 @@
--- A world that nobody has used is sound.
-use Rattle.std.proofs.Common.{◌≡◌, ap, refl, ℕ, ◌≤◌, true, false, ◌&&◌, List, [], ◌∷◌, length, map, arith, None}
+-- A world at the start is sound, over sound volumes and over those that nobody has used.
+use Rattle.std.proofs.Common.{◌≡◌, ap, refl, ℕ, suc, ◌≤◌, true, false, ◌&&◌, List, [], ◌∷◌, length, map, arith, None}
 use Rattle.std.specs.Prelude.{nat_le, nat_lt, ◌==◌, Option, bytes_eq, is_none}
 use Rattle.std.specs.Cmp.Lexicographic.{pointwise}
 use Rattle.std.specs.List.{list_all, list_any}
 use Rattle.std.specs.Str.{IsAscii, is_utf8}
-use Rattle.std.proofs.lemmas.Bool.{and_from, and_parts, or_from, leb-true, le-leb, le-ltb, ne_eqb}
+use Rattle.std.proofs.lemmas.Bool.{and_from, and_parts, or_from, leb-true, le-leb, le-ltb, lt-ltb, ne_eqb}
 use Rattle.std.proofs.lemmas.Str.{IsUtf8-from_ascii, is_utf8-from_IsUtf8}
 use Rattle.std.proofs.lemmas.Str.Ascii.{IsAscii-nil, IsAscii-cons}
 use Rattle.afp_names.specs.Name.{name_fault}
-use Rattle.afp_names.specs.declared.name.NameFault.{NameFault}
 use Rattle.afp_names.specs.declared.name.TheConstants.{LONGEST_NAME}
+use Rattle.std.proofs.lemmas.List.Elements.{All-map}
 use Rattle.std.proofs.lemmas.Slice.Eq.{bytes_eq-Decides}
-use Rattle.afp_volume.specs.SoundVolume.{is_tree, has_apart_names, has_noted_nodes, is_formed_volume, keeps_limits}
+use Rattle.afp_volume.specs.SoundVolume.{IsSoundVolume}
 use Rattle.afp_volume.specs.VolumeState.{VolumeState, fresh_volume}
+use Rattle.afp_volume.proofs.Fresh.{fresh-sound as volume-sound}
 use Rattle.afp_serial.proofs.Faultless.{faultless}
-use Rattle.afp_serial.proofs.SoundParts.{ApartSessions, sessions-whole, opens-whole, locks-whole, caches-whole, limits-whole}
-use Rattle.afp_serial.proofs.TestedLists.{all-each, all-map, all-map-where, length-mapped}
+use Rattle.afp_serial.proofs.SoundParts.{ApartSessions, fields-whole, sessions-whole, opens-whole, locks-whole, caches-whole, limits-whole}
+use Rattle.afp_volume.proofs.TestedLists.{all-each, all-map-where, all-weaker}
 use Rattle.afp_serial.specs.Faultless.{IsFaultless}
 use Rattle.afp_serial.specs.Household.{Household}
 use Rattle.afp_serial.specs.HouseFault.{is_printable, is_text, is_name, house_fault}
 use Rattle.afp_serial.specs.Limits.{first_printable, last_printable, longest_volume, most_users, most_volumes}
-use Rattle.afp_serial.specs.Sound.{IsSound, serves_house}
-use Rattle.afp_serial.specs.World.{World, fresh_world}
+use Rattle.afp_serial.specs.Ranges.{are_bytes, is_byte, is_moment, is_typed_house, is_typed_volume}
+use Rattle.afp_serial.specs.Sound.{IsSound, ServesVolumes}
+use Rattle.afp_serial.specs.World.{World, fresh_volumes, fresh_world, start_world}
 
 -- printable characters are a name
 
@@ -52,66 +54,72 @@ printable-name name named =
     no-fault name (ne_eqb (length name) 0 (λ none. omega arith)) (le-ltb LONGEST_NAME (length name) (omega arith)) (printable-no-zero name f.1)
     (is_utf8-from_IsUtf8 name (IsUtf8-from_ascii name (printable-ascii name f.1)))
 
--- a volume that nobody has used
+-- the fields of a volume that nobody has used are in their ranges
 
-fresh-tree : (now : ℕ) (name : List ℕ) → is_tree (fresh_volume name now) ≡ true
-unfolding is_tree
-fresh-tree now name =
-    let same : bytes_eq name name ≡ true = (bytes_eq-Decides name name).1 refl in
-    ap (λ b. b && true) same
+bytes-printable : (text : List ℕ) → list_all is_printable text ≡ true → are_bytes text ≡ true
+bytes-printable text h =
+    all-weaker is_printable is_byte text
+    (λ c shown. let last : c ≤ last_printable = leb-true c last_printable (and_parts (nat_le first_printable c) (nat_le c last_printable) shown).1 in lt-ltb c 256 (omega arith))
+    h
 
-fresh-names : (now : ℕ) (name : List ℕ) → has_apart_names (fresh_volume name now) ≡ true
-unfolding has_apart_names
-fresh-names now name = refl
+name-bytes : (name : List ℕ) → is_name longest_volume name ≡ true → are_bytes name ≡ true
+name-bytes name named =
+    bytes-printable name
+    (and_parts (nat_le (length name) longest_volume) (list_all is_printable name) (and_parts (nat_le 1 (length name)) (is_text longest_volume name) named).1).1
 
-fresh-notes : (now : ℕ) (name : List ℕ) → has_noted_nodes (fresh_volume name now) ≡ true
-unfolding has_noted_nodes
-fresh-notes now name = refl
-
-fresh-formed : (now : ℕ) (name : List ℕ) → is_name longest_volume name ≡ true → is_formed_volume (fresh_volume name now) ≡ true
-unfolding is_formed_volume
-fresh-formed now name named = ap (λ (fault : Option NameFault). is_none fault && true && true && true && true) (printable-name name named)
-
-fresh-limits : (now : ℕ) (name : List ℕ) → keeps_limits (fresh_volume name now) ≡ true
-unfolding keeps_limits
-fresh-limits now name = refl
-
--- the world
+fresh-typed : (now : ℕ) (name : List ℕ) → is_moment now ≡ true → is_name longest_volume name ≡ true → is_typed_volume (fresh_volume name now) ≡ true
+unfolding is_typed_volume
+fresh-typed now name moment named = let bytes : are_bytes name ≡ true = name-bytes name named in rw (moment, bytes) refl
 
 same-names : (now : ℕ) (names : List (List ℕ)) → pointwise bytes_eq (map (λ v. v.name) (map (λ name. fresh_volume name now) names)) names ≡ true
 same-names now [] = refl
 same-names now (name ∷ names) = and_from (bytes_eq name name) (pointwise bytes_eq (map (λ v. v.name) (map (λ name. fresh_volume name now) names)) names) ((bytes_eq-Decides name name).1 refl) (same-names now names)
 
-fresh-served : (house : Household) (now : ℕ) → serves_house (fresh_world house now) ≡ true
-unfolding serves_house
-fresh-served house now = same-names now house.volumes
-
-pub fresh-apart : (house : Household) (now : ℕ) → ApartSessions (fresh_world house now)
-fresh-apart house now = record { numbers = refl; links = refl; below = refl }
-
-pub fresh-is-sound : (house : Household) (now : ℕ) → house_fault house ≡ None → IsSound (fresh_world house now)
-fresh-is-sound house now none =
-    let w : World = fresh_world house now in
+pub fresh-serve : (house : Household) (now : ℕ) → house_fault house ≡ None → is_moment now ≡ true → ServesVolumes house (fresh_volumes house now)
+fresh-serve house now none moment =
     let fresh : List ℕ → VolumeState = λ name. fresh_volume name now in
     let has : IsFaultless house = faultless house none in
-    let few : length w.volumes ≤ most_volumes = omega (arith, length-mapped fresh house.volumes, has.few_volumes) in
+    let named : list_all (is_name longest_volume) house.volumes ≡ true = all-each (is_name longest_volume) house.volumes has.volume_names in
+    record {
+      served = same-names now house.volumes;
+      each = All-map IsSoundVolume fresh house.volumes (λ k d within. volume-sound _ now (printable-name _ (has.volume_names k d within)));
+      typed = all-map-where (is_name longest_volume) is_typed_volume fresh house.volumes (λ name n. fresh-typed now name moment n) named;
+    }
+
+-- the world at the start
+
+pub start-apart : (house : Household) (now : ℕ) (volumes : List VolumeState) → ApartSessions (start_world house now volumes)
+start-apart house now volumes = record { numbers = refl; links = refl; below = refl }
+
+served-length : (xs : List VolumeState) (ys : List (List ℕ)) → pointwise bytes_eq (map (λ v. v.name) xs) ys ≡ true → length xs ≡ length ys
+served-length [] [] h = refl
+served-length [] (y ∷ ys) h = cc
+served-length (x ∷ xs) [] h = cc
+served-length (x ∷ xs) (y ∷ ys) h = ap suc (served-length xs ys (and_parts (bytes_eq x.name y) (pointwise bytes_eq (map (λ v. v.name) xs) ys) h).1)
+
+pub start-sound : (house : Household) (now : ℕ) (volumes : List VolumeState) → house_fault house ≡ None → is_typed_house house ≡ true → is_moment now ≡ true
+    → ServesVolumes house volumes → IsSound (start_world house now volumes)
+start-sound house now volumes none typed moment serves =
+    let w : World = start_world house now volumes in
+    let has : IsFaultless house = faultless house none in
+    let same : length volumes ≡ length house.volumes = served-length volumes house.volumes serves.served in
+    let few : length volumes ≤ most_volumes = omega (arith, same, has.few_volumes) in
     record {
       house = ap is_none none;
-      served = fresh-served house now;
-      trees = all-map is_tree fresh house.volumes (fresh-tree now);
-      names = all-map has_apart_names fresh house.volumes (fresh-names now);
-      notes = all-map has_noted_nodes fresh house.volumes (fresh-notes now);
-      sessions = sessions-whole w (fresh-apart house now);
+      typed = fields-whole w (record { latest = moment; drain = refl; house = typed });
+      volumes = serves;
+      sessions = sessions-whole w (start-apart house now volumes);
       opens = opens-whole w (record { references = refl; stand = refl; clashes = refl });
       locks = locks-whole w (record { held = refl; overlaps = refl });
       caches = caches-whole w refl;
       limits = limits-whole w (record {
         users = le-leb (length house.users) most_users has.few_users;
-        volumes = le-leb (length w.volumes) most_volumes few;
+        volumes = le-leb (length volumes) most_volumes few;
         sessions = refl;
         forks = refl;
         locks = refl;
-        each = all-map keeps_limits fresh house.volumes (fresh-limits now);
       });
-      volumes = all-map-where (is_name longest_volume) is_formed_volume fresh house.volumes (fresh-formed now) (all-each (is_name longest_volume) house.volumes has.volume_names);
     }
+
+pub fresh-sound : (house : Household) (now : ℕ) → house_fault house ≡ None → is_typed_house house ≡ true → is_moment now ≡ true → IsSound (fresh_world house now)
+fresh-sound house now none typed moment = start-sound house now (fresh_volumes house now) none typed moment (fresh-serve house now none moment)

@@ -1,12 +1,18 @@
 -- Login and Logout keep a sound world sound.
-use Rattle.std.proofs.Common.{◌≡◌, refl, ℕ, Bool, not, List, Some}
+use Rattle.std.proofs.Common.{◌≡◌, refl, ℕ, Bool, not, List, [], Some}
 use Rattle.std.specs.Prelude.{◌==◌, find}
 use Rattle.std.proofs.lemmas.Bool.{and_parts}
+use Rattle.afp_replies.specs.Commands.{rows, shape_in, shape_of}
+use Rattle.afp_replies.specs.Replies.{Shows, layout_for}
+use Rattle.afp_replies.specs.declared.reply.Reply.TheVariants.{Empty}
+use Rattle.afp_base.specs.declared.code.Code.TheVariants.{Ok}
+use Rattle.afp_requests.specs.declared.call.Call.TheVariants.{Login, Logout}
 use Rattle.afp_serial.proofs.Closed.{ending-sound, ending-apart}
 use Rattle.afp_serial.proofs.Replaced.{TakesPlace, replaced-apart, replaced-old, replaced-sound, volume-kept}
 use Rattle.afp_serial.proofs.SoundRow.{IsSoundRow}
 use Rattle.afp_serial.proofs.SoundParts.{ApartSessions, sessions-parts, opens-parts, caches-parts}
-use Rattle.afp_serial.proofs.TestedLists.{all-weaker, any-filter, find-all}
+use Rattle.afp_volume.proofs.TestedLists.{all-weaker, any-filter, find-all}
+use Rattle.afp_serial.specs.ReplyKinds.{reply_kind}
 use Rattle.afp_serial.specs.Login.{login_row, guest_id}
 use Rattle.afp_serial.specs.Logout.{logout_row}
 use Rattle.afp_serial.specs.Sessions.{volume_at, with_session}
@@ -30,22 +36,32 @@ login-keeps w s test found h =
     (and_parts (has_volume_open w.sessions o.session o.fork.volume) (is_file_of (volume_at w.volumes o.fork.volume) o.fork.node) stood).0)
     (opens-parts w h.opens).stand)
 
-pub login-sound : (version uam : List ℕ) → IsSoundRow (login_row version uam)
-login-sound version uam = record {
+login-shown : (version uam tail : List ℕ) → Shows Empty (reply_kind (Login version uam tail)) Ok []
+unfolding layout_for shape_of shape_in rows
+login-shown version uam tail = (refl, refl)
+
+pub login-sound : (version uam tail : List ℕ) → IsSoundRow (reply_kind (Login version uam tail)) (login_row version uam)
+login-sound version uam tail = record {
+  refuses = λ w s h. refl;
   sound = λ w s test found passes h. login-keeps w s test found h;
+  fits = λ w s passes h. refl;
+  shown = λ w s passes h. login-shown version uam tail;
   apart = λ w s test found a. replaced-apart w s (with_user s guest_id) a (takes w s test guest_id found);
-  fits = λ w s passes. refl;
-  refusals_fit = λ w s. refl;
   next = λ w s. refl;
   old = λ w s n h. replaced-old w (with_user s guest_id) n h;
 }
 
-pub logout-sound : IsSoundRow logout_row
+logout-shown : Shows Empty (reply_kind Logout) Ok []
+unfolding layout_for shape_of shape_in rows
+logout-shown = (refl, refl)
+
+pub logout-sound : IsSoundRow (reply_kind Logout) logout_row
 logout-sound = record {
+  refuses = λ w s h. refl;
   sound = λ w s test found passes h. ending-sound w (λ x. not (x.number == s.number)) h;
+  fits = λ w s passes h. refl;
+  shown = λ w s passes h. logout-shown;
   apart = λ w s test found a. ending-apart w (λ x. not (x.number == s.number)) a;
-  fits = λ w s passes. refl;
-  refusals_fit = λ w s. refl;
   next = λ w s. refl;
   old = λ w s n h. any-filter (λ x. x.number == n) (λ x. not (x.number == s.number)) w.sessions h;
 }

@@ -3,13 +3,13 @@ use Rattle.std.proofs.Common.{◌≡◌, ap, refl, ℕ, ◌+◌, ◌<◌, true, 
 use Rattle.std.specs.Prelude.{count_by, ◌==◌, nat_le, nat_lt}
 use Rattle.std.proofs.lemmas.Bool.{and_parts, and_from, or_parts, ltb-true, lt-ltb, leb-false, le-leb, eqb-true, ne_eqb}
 use Rattle.afp_serial.proofs.SoundParts.{ApartSessions, sessions-parts, sessions-whole, LawfulOpens, opens-parts, opens-whole, caches-parts, caches-whole, KeptLimits, limits-parts, limits-whole, same_number, same_link, is_below, keeps_forks}
-use Rattle.afp_serial.proofs.TestedLists.{all-weaker, all-snoc, any-at, any-longer, apart-snoc, count-none}
+use Rattle.afp_volume.proofs.TestedLists.{all-weaker, all-snoc, any-at, any-longer, apart-snoc, count-none}
 use Rattle.afp_serial.specs.declared.attachment.Attachment.{Attachment}
 use Rattle.afp_serial.specs.declared.attachment.Attachment.TheVariants.{Attached, Detached}
 use Rattle.afp_serial.specs.Answer.{is_full, link_number, new_session, with_new_session}
 use Rattle.afp_serial.specs.Limits.{most_sessions, most_forks, links_end}
 use Rattle.afp_serial.specs.Sessions.{has_opened, volume_at}
-use Rattle.afp_serial.specs.Sound.{IsSound, share_link, is_link_below, has_volume_open, is_file_of, is_lawful_open, is_lawful_cache, has_lawful_locks, serves_house}
+use Rattle.afp_serial.specs.Sound.{IsSound, share_link, is_link_below, has_volume_open, is_file_of, is_lawful_open, is_lawful_cache, has_lawful_locks, has_typed_fields}
 use Rattle.afp_serial.specs.World.{World, Session, OpenFork}
 
 differs : (m n : ℕ) → m < n → not (eqb m n) ≡ true
@@ -88,24 +88,20 @@ opened-limits w room a o p =
       forks = all-snoc (keeps_forks w.opens) w.sessions (new_session w.next_link) p.forks
           (ap (λ (n : ℕ). nat_le n most_forks) none);
       locks = p.locks;
-      each = p.each;
     }
 
 pub opened-sound : (w : World) → is_full w ≡ false → IsSound w → IsSound (with_new_session w)
-unfolding serves_house has_lawful_locks
+unfolding has_lawful_locks has_typed_fields
 opened-sound w room h =
     let apart : ApartSessions w = sessions-parts w h.sessions in
     let opens : LawfulOpens w = opens-parts w h.opens in
     record {
       house = h.house;
-      served = h.served;
-      trees = h.trees;
-      names = h.names;
-      notes = h.notes;
+      typed = h.typed;
+      volumes = h.volumes;
       sessions = sessions-whole (with_new_session w) (opened-apart w apart);
       opens = opens-whole (with_new_session w) (opened-opens w opens);
       locks = h.locks;
       caches = caches-whole (with_new_session w) (all-snoc (λ s. is_lawful_cache s.cache) w.sessions (new_session w.next_link) (caches-parts w h.caches) refl);
       limits = limits-whole (with_new_session w) (opened-limits w room apart opens (limits-parts w h.limits));
-      volumes = h.volumes;
     }

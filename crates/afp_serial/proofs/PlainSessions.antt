@@ -8,12 +8,12 @@ use Rattle.afp_base.specs.Cached.{Request}
 use Rattle.afp_base.specs.declared.code.Code.TheVariants as code
 use Rattle.afp_base.specs.declared.ids.LinkNumber.{LinkNumber}
 use Rattle.afp_serial.proofs.Closed.{ending-apart}
-use Rattle.afp_serial.proofs.FreshWorld.{fresh-apart}
-use Rattle.afp_serial.proofs.Keeps.{Keeps, stand-keeps}
+use Rattle.afp_serial.proofs.FreshWorld.{start-apart}
+use Rattle.afp_serial.proofs.Keeps.{Keeps, after-keeps}
 use Rattle.afp_serial.proofs.Opened.{opened-apart}
 use Rattle.afp_serial.proofs.RowsSound.{row-sound}
 use Rattle.afp_serial.proofs.SoundParts.{ApartSessions, same_link}
-use Rattle.afp_serial.proofs.TestedLists.{any-filter, apart-places, never}
+use Rattle.afp_volume.proofs.TestedLists.{any-filter, apart-places, never}
 use Rattle.afp_serial.specs.declared.ask.Ask.{Ask}
 use Rattle.afp_serial.specs.declared.ask.Ask.TheVariants as ask
 use Rattle.afp_serial.specs.declared.ask.Entry.{Entry}
@@ -27,23 +27,27 @@ use Rattle.afp_serial.specs.Laws.{LinksDiffer, CountsSessions, NeverTwice, OnlyO
 use Rattle.afp_serial.specs.Sessions.{has_session, session_at}
 use Rattle.afp_serial.specs.Sound.{share_link}
 use Rattle.afp_serial.specs.Steps.{Verdict, repeats, refused, runs, verdict}
-use Rattle.afp_serial.specs.World.{World, Session, fresh_world, at_moment}
+use Rattle.afp_serial.specs.World.{World, Session, at_moment, start_world}
 
 -- no two sessions have one link
 
 apart-keeps : Keeps ApartSessions
 apart-keeps = record {
-  moment = λ w now a. record { numbers = a.numbers; links = a.links; below = a.below };
   opens = λ w room a. opened-apart w a;
   calls = λ w s call test found passes a. (row-sound call).apart w s test found a;
   ends = ending-apart;
-  drains = λ w since a. record { numbers = a.numbers; links = a.links; below = a.below };
+  drains = λ w a. record { numbers = a.numbers; links = a.links; below = a.below };
+  stores = λ w s r told a. a;
 }
 
+stand-apart : (w : World) (h : List Entry) → ApartSessions w → ApartSessions (stand w h)
+stand-apart w [] a = a
+stand-apart w (e ∷ es) a = stand-apart (after w e) es (after-keeps apart-keeps w e (record { numbers = a.numbers; links = a.links; below = a.below }))
+
 pub links-differ : LinksDiffer
-links-differ house now h j k s t a b less at_j at_k on_a on_b same =
-    let w : World = stand (fresh_world house now) h in
-    let apart : ApartSessions w = stand-keeps apart-keeps (fresh_world house now) h (fresh-apart house now) in
+links-differ house now volumes h j k s t a b less at_j at_k on_a on_b same =
+    let w : World = stand (start_world house now volumes) h in
+    let apart : ApartSessions w = stand-apart (start_world house now volumes) h (start-apart house now volumes) in
     never (share_link s.place t.place)
     ((λ i. share_link (on_a i) (on_b i)) ∙ eq-eqb a.0 b.0 (ap (λ (l : LinkNumber). l.0) same))
     (apart-places same_link w.sessions j k s t apart.links less at_j at_k)
@@ -133,12 +137,12 @@ rise w (e ∷ es) zero (suc k) a b less at_j at_k =
 rise w (e ∷ es) (suc j) (suc k) a b less at_j at_k = rise (after w e) es j k a b (omega arith) at_j at_k
 
 pub counts-sessions : CountsSessions
-counts-sessions house now h k l is =
-    let n : l.0 ≡ 1 + opened_in (fresh_world house now) (take k h) = counts (fresh_world house now) h k l is in
+counts-sessions house now volumes h k l is =
+    let n : l.0 ≡ 1 + opened_in (start_world house now volumes) (take k h) = counts (start_world house now volumes) h k l is in
     omega arith
 
 pub never-twice : NeverTwice
-never-twice house now h j k a b less at_j at_k = rise (fresh_world house now) h j k a b less at_j at_k
+never-twice house now volumes h j k a b less at_j at_k = rise (start_world house now volumes) h j k a b less at_j at_k
 
 pub opens-new : OpensNew
 opens-new w e l opened =

@@ -4,10 +4,10 @@ use Rattle.std.specs.Prelude.{count_by, ◌==◌, nat_le, nat_lt, find}
 use Rattle.std.specs.List.{list_all, list_any}
 use Rattle.std.proofs.lemmas.Bool.{and_parts, and_from, cond_both, eqb-true}
 use Rattle.afp_serial.proofs.SoundParts.{ApartSessions, sessions-parts, sessions-whole, LawfulOpens, opens-parts, opens-whole, caches-parts, caches-whole, KeptLimits, limits-parts, limits-whole, same_number, same_link, is_below, keeps_forks}
-use Rattle.afp_serial.proofs.TestedLists.{all-both, all-put, any-map, any-weaker, apart-map, apart-weaker, find-all, length-mapped, put_by, put-found}
+use Rattle.afp_volume.proofs.TestedLists.{all-both, all-put, any-map, any-weaker, apart-map, apart-weaker, find-all, length-mapped, put_by, put-found}
 use Rattle.afp_serial.specs.Limits.{most_sessions, most_forks}
 use Rattle.afp_serial.specs.Sessions.{has_opened, has_session, volume_at, with_session}
-use Rattle.afp_serial.specs.Sound.{IsSound, share_link, is_link_below, has_volume_open, is_file_of, is_lawful_open, is_lawful_cache, has_lawful_locks, serves_house}
+use Rattle.afp_serial.specs.Sound.{IsSound, share_link, is_link_below, has_volume_open, is_file_of, is_lawful_open, is_lawful_cache, has_lawful_locks, has_typed_fields}
 use Rattle.afp_serial.specs.World.{World, Session, OpenFork}
 use Rattle.afp_volume.specs.SoundVolume.{are_apart}
 
@@ -98,23 +98,19 @@ replaced-limits w s t p takes = record {
   forks = all-put number_of (keeps_forks w.opens) t w.sessions p.forks
       (ap (λ (n : ℕ). nat_le (count_by (λ (o : OpenFork). o.session == n) w.opens) most_forks) takes.number ∙ find-all takes.test (keeps_forks w.opens) w.sessions s takes.found p.forks);
   locks = p.locks;
-  each = p.each;
 }
 
 pub replaced-sound : (w : World) (s t : Session) → IsSound w → TakesPlace w s t → is_lawful_cache t.cache ≡ true
     → list_all (λ o. has_volume_open (with_session w t).sessions o.session o.fork.volume) w.opens ≡ true
     → IsSound (with_session w t)
-unfolding serves_house has_lawful_locks
+unfolding has_lawful_locks has_typed_fields
 replaced-sound w s t h takes cache keeps = record {
   house = h.house;
-  served = h.served;
-  trees = h.trees;
-  names = h.names;
-  notes = h.notes;
+  typed = h.typed;
+  volumes = h.volumes;
   sessions = sessions-whole (with_session w t) (replaced-apart w s t (sessions-parts w h.sessions) takes);
   opens = opens-whole (with_session w t) (replaced-opens w t (opens-parts w h.opens) keeps);
   locks = h.locks;
   caches = caches-whole (with_session w t) (all-put number_of (λ x. is_lawful_cache x.cache) t w.sessions (caches-parts w h.caches) cache);
   limits = limits-whole (with_session w t) (replaced-limits w s t (limits-parts w h.limits) takes);
-  volumes = h.volumes;
 }

@@ -5,10 +5,11 @@ use Rattle.std.specs.List.{list_all}
 use Rattle.std.proofs.lemmas.Bool.{and_parts, and_from}
 use Rattle.afp_base.specs.DenyMode.{do_conflict}
 use Rattle.afp_base.specs.Overlap.{do_meet}
-use Rattle.afp_volume.specs.SoundVolume.{are_apart, keeps_limits}
+use Rattle.afp_volume.specs.SoundVolume.{are_apart}
 use Rattle.afp_serial.specs.Limits.{most_users, most_volumes, most_sessions, most_forks, most_locks}
+use Rattle.afp_serial.specs.Ranges.{is_moment, is_moment_or_none, is_typed_house}
 use Rattle.afp_serial.specs.Sessions.{is_open}
-use Rattle.afp_serial.specs.Sound.{share_link, is_link_below, has_apart_sessions, is_lawful_open, has_lawful_opens, share_fork, has_lawful_locks, is_lawful_cache, has_lawful_caches, keeps_all_limits}
+use Rattle.afp_serial.specs.Sound.{share_link, is_link_below, has_apart_sessions, is_lawful_open, has_lawful_opens, share_fork, has_lawful_locks, is_lawful_cache, has_lawful_caches, has_typed_fields, keeps_all_limits}
 use Rattle.afp_serial.specs.World.{World, Session, OpenFork, Lock}
 
 -- the tests of the elements, each under a name
@@ -103,28 +104,42 @@ pub record KeptLimits (w : World) : Type 0 where
   pub sessions : nat_le (length w.sessions) most_sessions ≡ true
   pub forks : list_all (keeps_forks w.opens) w.sessions ≡ true
   pub locks : list_all (keeps_locks w.locks) w.opens ≡ true
-  pub each : list_all keeps_limits w.volumes ≡ true
 
-six-parts : (a b c d e f : Bool) → (a && (b && (c && (d && (e && f))))) ≡ true → (a ≡ true) × (b ≡ true) × (c ≡ true) × (d ≡ true) × (e ≡ true) × (f ≡ true)
-six-parts a b c d e f h =
-    let p = and_parts a (b && (c && (d && (e && f)))) h in
-    let q = and_parts b (c && (d && (e && f))) p.1 in
-    let r = and_parts c (d && (e && f)) q.1 in
-    let s = and_parts d (e && f) r.1 in
-    let t = and_parts e f s.1 in
-    (p.0, q.0, r.0, s.0, t.0, t.1)
+five-parts : (a b c d e : Bool) → (a && (b && (c && (d && e)))) ≡ true → (a ≡ true) × (b ≡ true) × (c ≡ true) × (d ≡ true) × (e ≡ true)
+five-parts a b c d e h =
+    let p = and_parts a (b && (c && (d && e))) h in
+    let q = and_parts b (c && (d && e)) p.1 in
+    let r = and_parts c (d && e) q.1 in
+    let s = and_parts d e r.1 in
+    (p.0, q.0, r.0, s.0, s.1)
 
-six-whole : (a b c d e f : Bool) → a ≡ true → b ≡ true → c ≡ true → d ≡ true → e ≡ true → f ≡ true → (a && (b && (c && (d && (e && f))))) ≡ true
-six-whole a b c d e f p q r s t u =
-    and_from a (b && (c && (d && (e && f)))) p (and_from b (c && (d && (e && f))) q (and_from c (d && (e && f)) r (and_from d (e && f) s (and_from e f t u))))
+five-whole : (a b c d e : Bool) → a ≡ true → b ≡ true → c ≡ true → d ≡ true → e ≡ true → (a && (b && (c && (d && e)))) ≡ true
+five-whole a b c d e p q r s t = and_from a (b && (c && (d && e))) p (and_from b (c && (d && e)) q (and_from c (d && e) r (and_from d e s t)))
 
 pub limits-parts : (w : World) → keeps_all_limits w ≡ true → KeptLimits w
 unfolding keeps_all_limits
 limits-parts w h =
-    let p = six-parts (nat_le (length w.house.users) most_users) (nat_le (length w.volumes) most_volumes) (nat_le (length w.sessions) most_sessions) (list_all (keeps_forks w.opens) w.sessions) (list_all (keeps_locks w.locks) w.opens) (list_all keeps_limits w.volumes) h in
-    record { users = p.0; volumes = p.1; sessions = p.2; forks = p.3; locks = p.4; each = p.5 }
+    let p = five-parts (nat_le (length w.house.users) most_users) (nat_le (length w.volumes) most_volumes) (nat_le (length w.sessions) most_sessions) (list_all (keeps_forks w.opens) w.sessions) (list_all (keeps_locks w.locks) w.opens) h in
+    record { users = p.0; volumes = p.1; sessions = p.2; forks = p.3; locks = p.4 }
 
 pub limits-whole : (w : World) → KeptLimits w → keeps_all_limits w ≡ true
 unfolding keeps_all_limits
 limits-whole w p =
-    six-whole (nat_le (length w.house.users) most_users) (nat_le (length w.volumes) most_volumes) (nat_le (length w.sessions) most_sessions) (list_all (keeps_forks w.opens) w.sessions) (list_all (keeps_locks w.locks) w.opens) (list_all keeps_limits w.volumes) p.users p.volumes p.sessions p.forks p.locks p.each
+    five-whole (nat_le (length w.house.users) most_users) (nat_le (length w.volumes) most_volumes) (nat_le (length w.sessions) most_sessions) (list_all (keeps_forks w.opens) w.sessions) (list_all (keeps_locks w.locks) w.opens) p.users p.volumes p.sessions p.forks p.locks
+
+-- the ranges of moments and of the house
+pub record TypedFields (w : World) : Type 0 where
+  pub latest : is_moment w.latest ≡ true
+  pub drain : is_moment_or_none w.drain ≡ true
+  pub house : is_typed_house w.house ≡ true
+
+pub fields-parts : (w : World) → has_typed_fields w ≡ true → TypedFields w
+unfolding has_typed_fields
+fields-parts w h =
+    let p = and_parts (is_moment w.latest) (is_moment_or_none w.drain && is_typed_house w.house) h in
+    let q = and_parts (is_moment_or_none w.drain) (is_typed_house w.house) p.1 in
+    record { latest = p.0; drain = q.0; house = q.1 }
+
+pub fields-whole : (w : World) → TypedFields w → has_typed_fields w ≡ true
+unfolding has_typed_fields
+fields-whole w p = and_from (is_moment w.latest) (is_moment_or_none w.drain && is_typed_house w.house) p.latest (and_from (is_moment_or_none w.drain) (is_typed_house w.house) p.drain p.house)

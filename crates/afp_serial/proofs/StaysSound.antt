@@ -1,19 +1,19 @@
 -- A sound world stays sound, and what is told there is an answer to the ask and fits in a frame.
-use Rattle.std.proofs.Common.{◌≡◌, ◌∙◌, ap, sym, refl, ℕ, Bool, true, ◌&&◌, cond, List, [], ◌∷◌, length, Option, Some, None}
+use Rattle.std.proofs.Common.{◌≡◌, ◌∙◌, ap, sym, refl, ℕ, ◌≤◌, zero, suc, max, arith, Bool, true, not, ◌&&◌, cond, List, [], ◌∷◌, length, take, Option, Some, None}
 use Rattle.std.specs.Prelude.{nat_le, ◌==◌}
 use Rattle.std.specs.List.{list_all}
-use Rattle.std.proofs.lemmas.Bool.{and_parts, cond_both}
+use Rattle.std.proofs.lemmas.Bool.{and_parts, cond_both, le-leb, leb-true}
 use Rattle.afp_base.specs.Cached.{Request, Answer, Kept, is_repeat, either, cached_answer}
 use Rattle.afp_base.specs.declared.code.Code.TheVariants as code
 use Rattle.afp_volume.specs.SoundVolume.{are_apart}
 use Rattle.afp_serial.proofs.Closed.{ending-sound}
-use Rattle.afp_serial.proofs.FreshWorld.{fresh-is-sound}
-use Rattle.afp_serial.proofs.Keeps.{Keeps, after-keeps, stand-keeps}
+use Rattle.afp_serial.proofs.Keeps.{Keeps, after-keeps}
 use Rattle.afp_serial.proofs.Opened.{opened-sound}
 use Rattle.afp_serial.proofs.RowsSound.{row-sound}
-use Rattle.afp_serial.proofs.SoundParts.{caches-parts}
-use Rattle.afp_serial.proofs.ShortRefusals.{refuses_shortly, verdict-short}
-use Rattle.afp_serial.proofs.TestedLists.{find-all}
+use Rattle.afp_serial.proofs.SoundParts.{caches-parts, fields-parts, fields-whole}
+use Rattle.afp_serial.proofs.Refusals.{refuses_shortly, verdict-short}
+use Rattle.afp_serial.proofs.SoundRow.{is_ok, is_short}
+use Rattle.afp_volume.proofs.TestedLists.{find-all}
 use Rattle.afp_serial.proofs.Verdicts.{comes-to, repeats-kept}
 use Rattle.afp_serial.specs.declared.ask.Ask.{Ask}
 use Rattle.afp_serial.specs.declared.ask.Ask.TheVariants as ask
@@ -21,57 +21,103 @@ use Rattle.afp_serial.specs.declared.ask.Entry.{Entry}
 use Rattle.afp_serial.specs.declared.ask.Outcome.{Outcome}
 use Rattle.afp_serial.specs.declared.ask.Outcome.TheVariants as outcome
 use Rattle.afp_serial.specs.declared.ask.Told.TheVariants as told
-use Rattle.afp_serial.specs.Answer.{answer, after, is_legal, request, refusal_reply, link_number, is_full, told_verdict, told_call, told_pulse, told_parting, answer_at}
+use Rattle.afp_serial.specs.Answer.{answer, after, committed_of, drain_moment, is_legal, is_legal_outcome, request, refusal_reply, link_number, is_full, told_verdict, told_call, told_pulse, told_parting, answer_at}
 use Rattle.afp_serial.specs.History.{is_lawful, stand}
-use Rattle.afp_serial.specs.Household.{Household}
-use Rattle.afp_serial.specs.HouseFault.{house_fault}
 use Rattle.afp_serial.specs.Limits.{longest_block, most_kept}
+use Rattle.afp_serial.specs.Ranges.{is_moment, is_moment_or_none, is_quad, is_typed_ask, is_typed_entry}
 use Rattle.afp_serial.specs.Sessions.{stands_at, session_at}
 use Rattle.afp_serial.specs.Shown.{fits_frame, is_answer_to, is_parting_answer}
-use Rattle.afp_serial.specs.Sound.{IsSound, has_apart_sessions, has_lawful_opens, has_lawful_locks, is_lawful_cache, has_lawful_caches, keeps_all_limits, serves_house}
+use Rattle.afp_serial.specs.Sound.{IsSound, has_apart_sessions, has_lawful_opens, has_lawful_locks, is_lawful_cache, has_lawful_caches, keeps_all_limits}
 use Rattle.afp_serial.specs.Steps.{Verdict, repeats, refused, runs, verdict}
-use Rattle.afp_serial.specs.World.{World, Session, fresh_world, at_moment}
+use Rattle.afp_serial.specs.World.{World, Session, at_moment}
 
--- neither the latest moment nor the drain moment counts
-moment-sound : (w : World) (now : ℕ) → IsSound w → IsSound (record w { latest = now })
-unfolding serves_house has_apart_sessions has_lawful_opens has_lawful_locks has_lawful_caches keeps_all_limits
-moment-sound w now h = record { house = h.house; served = h.served; trees = h.trees; names = h.names; notes = h.notes; sessions = h.sessions; opens = h.opens; locks = h.locks; caches = h.caches; limits = h.limits; volumes = h.volumes }
+-- a later moment, and a drain moment, in their ranges
+is_moment-max : (m n : ℕ) → is_moment m ≡ true → is_moment n ≡ true → is_moment (max m n) ≡ true
+is_moment-max m n p q =
+    let a : m ≤ 2147483647 = leb-true m 2147483647 p in
+    let b : n ≤ 2147483647 = leb-true n 2147483647 q in
+    le-leb (max m n) 2147483647 (omega arith)
 
-drain-sound : (w : World) (since : Option ℕ) → IsSound w → IsSound (record w { drain = since })
-unfolding serves_house has_apart_sessions has_lawful_opens has_lawful_locks has_lawful_caches keeps_all_limits
-drain-sound w since h = record { house = h.house; served = h.served; trees = h.trees; names = h.names; notes = h.notes; sessions = h.sessions; opens = h.opens; locks = h.locks; caches = h.caches; limits = h.limits; volumes = h.volumes }
+pub moment-sound : (w : World) (now : ℕ) → is_moment now ≡ true → IsSound w → IsSound (at_moment w now)
+unfolding has_apart_sessions has_lawful_opens has_lawful_locks has_lawful_caches keeps_all_limits
+moment-sound w now typed h =
+    let fields = fields-parts w h.typed in
+    record {
+      house = h.house;
+      typed = fields-whole (at_moment w now) (record { latest = is_moment-max w.latest now fields.latest typed; drain = fields.drain; house = fields.house });
+      volumes = h.volumes;
+      sessions = h.sessions;
+      opens = h.opens;
+      locks = h.locks;
+      caches = h.caches;
+      limits = h.limits;
+    }
+
+drained : (moment : ℕ) (since : Option ℕ) → is_moment moment ≡ true → is_moment_or_none since ≡ true → is_moment_or_none (drain_moment moment since) ≡ true
+drained moment None p q = p
+drained moment (Some first) p q = q
+
+drain-sound : (w : World) → IsSound w → IsSound (record w { drain = drain_moment w.latest w.drain })
+unfolding has_apart_sessions has_lawful_opens has_lawful_locks has_lawful_caches keeps_all_limits
+drain-sound w h =
+    let fields = fields-parts w h.typed in
+    record {
+      house = h.house;
+      typed = fields-whole (record w { drain = drain_moment w.latest w.drain }) (record { latest = fields.latest; drain = drained w.latest w.drain fields.latest fields.drain; house = fields.house });
+      volumes = h.volumes;
+      sessions = h.sessions;
+      opens = h.opens;
+      locks = h.locks;
+      caches = h.caches;
+      limits = h.limits;
+    }
 
 pub sound-keeps : Keeps IsSound
 sound-keeps = record {
-  moment = moment-sound;
   opens = opened-sound;
   calls = λ w s call test found passes h. (row-sound call).sound w s test found passes h;
   ends = ending-sound;
   drains = drain-sound;
+  stores = λ w s r told h. h;
 }
 
+-- a legal entry's moment
+pub legal-moment : (w : World) (e : Entry) → is_legal w e ≡ true → is_moment e.at ≡ true
+unfolding is_typed_entry
+legal-moment w e legal =
+    (and_parts (is_moment e.at) (is_quad e.link.0 && is_typed_ask e.ask) (and_parts (is_typed_entry e) (is_legal_outcome (committed_of w e) e.outcome) legal).0).0
+
 pub after-sound : (w : World) (e : Entry) → IsSound w → is_legal w e ≡ true → IsSound (after w e)
-after-sound w e h legal = after-keeps sound-keeps w e h
+after-sound w e h legal = after-keeps sound-keeps w e (moment-sound w e.at (legal-moment w e legal) h)
 
-pub stand-sound : (start : World) (h : List Entry) → IsSound start → is_lawful start h ≡ true → IsSound (stand start h)
-stand-sound start h sound lawful = stand-keeps sound-keeps start h sound
+pub stood-sound : (start : World) (h : List Entry) → IsSound start → is_lawful start h ≡ true → IsSound (stand start h)
+stood-sound start [] sound lawful = sound
+stood-sound start (e ∷ es) sound lawful =
+    let both = and_parts (is_legal start e) (is_lawful (after start e) es) lawful in
+    stood-sound (after start e) es (after-sound start e sound both.0) both.1
 
-pub fresh-sound : (house : Household) (now : ℕ) → house_fault house ≡ None → IsSound (fresh_world house now)
-fresh-sound house now none = fresh-is-sound house now none
+-- at each place of a lawful history
+pub stand-sound : (start : World) (h : List Entry) → IsSound start → is_lawful start h ≡ true → (k : ℕ) → IsSound (stand start (take k h))
+stand-sound start [] sound lawful zero = sound
+stand-sound start [] sound lawful (suc k) = sound
+stand-sound start (e ∷ es) sound lawful zero = sound
+stand-sound start (e ∷ es) sound lawful (suc k) =
+    let both = and_parts (is_legal start e) (is_lawful (after start e) es) lawful in
+    stand-sound (after start e) es (after-sound start e sound both.0) both.1 k
 
 -- what is told fits in a frame
 
-abbrev is_short : Kept → Bool
-is_short kept = nat_le (length kept.answer.block) longest_block
+abbrev is_short_answer : Kept → Bool
+is_short_answer kept = nat_le (length kept.answer.block) longest_block
 
 either-fits : (a b : Option Answer) (x : Answer) → ((y : Answer) → a ≡ Some y → nat_le (length y.block) longest_block ≡ true) → ((y : Answer) → b ≡ Some y → nat_le (length y.block) longest_block ≡ true) → either a b ≡ Some x → nat_le (length x.block) longest_block ≡ true
 either-fits (Some a) b x p q h = p x h
 either-fits None b x p q h = q x h
 
-kept-fits : (cache : List Kept) (r : Request) (x : Answer) → list_all is_short cache ≡ true → cached_answer cache r ≡ Some x → nat_le (length x.block) longest_block ≡ true
+kept-fits : (cache : List Kept) (r : Request) (x : Answer) → list_all is_short_answer cache ≡ true → cached_answer cache r ≡ Some x → nat_le (length x.block) longest_block ≡ true
 kept-fits [] r x short h = absurd (cc)
 kept-fits (k ∷ ks) r x short h =
-    let e = and_parts (is_short k) (list_all is_short ks) short in
+    let e = and_parts (is_short_answer k) (list_all is_short_answer ks) short in
     either-fits (cached_answer ks r) (cond (is_repeat k.request r) (Some k.answer) None) x
     (λ y is. kept-fits ks r y e.1 is)
     (λ y. cond_both (is_repeat k.request r) (Some k.answer) None (λ o. o ≡ Some y → nat_le (length y.block) longest_block ≡ true)
@@ -79,21 +125,21 @@ kept-fits (k ∷ ks) r x short h =
     (λ other is. absurd (cc)))
     h
 
-short-cache : (cache : List Kept) → is_lawful_cache cache ≡ true → list_all is_short cache ≡ true
+short-cache : (cache : List Kept) → is_lawful_cache cache ≡ true → list_all is_short_answer cache ≡ true
 short-cache cache h =
-    let e = and_parts (nat_le (length cache) most_kept) (are_apart (λ a b. is_repeat a.request b.request) cache && list_all is_short cache) h in
-    (and_parts (are_apart (λ a b. is_repeat a.request b.request) cache) (list_all is_short cache) e.1).1
+    let e = and_parts (nat_le (length cache) most_kept) (are_apart (λ a b. is_repeat a.request b.request) cache && list_all is_short_answer cache) h in
+    (and_parts (are_apart (λ a b. is_repeat a.request b.request) cache) (list_all is_short_answer cache) e.1).1
 
-verdict-fits : (w : World) (s : Session) (r : Request) → is_lawful_cache s.cache ≡ true → (v : Verdict) (o : Outcome) → verdict w s r ≡ v → fits_frame (told_verdict w s v o) ≡ true
-verdict-fits w s r lawful (repeats answer) o is = kept-fits s.cache r answer (short-cache s.cache lawful) (repeats-kept w s r answer is)
-verdict-fits w s r lawful (refused x) o is = ap refuses_shortly (sym is) ∙ verdict-short w s r
-verdict-fits w s r lawful (runs call) outcome.Fault is = refl
-verdict-fits w s r lawful (runs call) outcome.Done is = (row-sound call).fits w s (comes-to w s r call is).passes
+verdict-fits : (w : World) (s : Session) (r : Request) → IsSound w → is_lawful_cache s.cache ≡ true → (v : Verdict) (o : Outcome) → verdict w s r ≡ v → fits_frame (told_verdict w s v o) ≡ true
+verdict-fits w s r h lawful (repeats answer) o is = kept-fits s.cache r answer (short-cache s.cache lawful) (repeats-kept w s r answer is)
+verdict-fits w s r h lawful (refused x) o is = (and_parts (is_short x.reply) (not (is_ok x.code)) (ap refuses_shortly (sym is) ∙ verdict-short w s r h)).0
+verdict-fits w s r h lawful (runs call) outcome.Fault is = refl
+verdict-fits w s r h lawful (runs call) outcome.Done is = (row-sound call).fits w s (comes-to w s r call is).passes h
 
-call-fits : (w : World) (link : ℕ) (session : Option Session) (r : Request) (o : Outcome) → list_all (λ s. is_lawful_cache s.cache) w.sessions ≡ true → session_at w link ≡ session → fits_frame (told_call w session r o) ≡ true
-call-fits w link None r o lawful is = refl
-call-fits w link (Some s) r o lawful is =
-    verdict-fits w s r (find-all (λ x. stands_at link x.place) (λ x. is_lawful_cache x.cache) w.sessions s is lawful) (verdict w s r) o refl
+call-fits : (w : World) (link : ℕ) (session : Option Session) (r : Request) (o : Outcome) → IsSound w → session_at w link ≡ session → fits_frame (told_call w session r o) ≡ true
+call-fits w link None r o h is = refl
+call-fits w link (Some s) r o h is =
+    verdict-fits w s r h (find-all (λ x. stands_at link x.place) (λ x. is_lawful_cache x.cache) w.sessions s is (caches-parts w h.caches)) (verdict w s r) o refl
 
 pulse-fits : (w : World) (link : ℕ) (session : Option Session) → fits_frame (told_pulse w link session) ≡ true
 pulse-fits w link None = cond_both (link == 0) (told.Live w.drain) told.Displaced (λ t. fits_frame t ≡ true) (λ none. refl) (λ other. refl)
@@ -103,17 +149,17 @@ parting-fits : (session : Option Session) → fits_frame (told_parting session) 
 parting-fits None = refl
 parting-fits (Some s) = refl
 
-at-fits : (w : World) (link : ℕ) (a : Ask) (o : Outcome) → list_all (λ s. is_lawful_cache s.cache) w.sessions ≡ true → fits_frame (answer_at w link a o) ≡ true
+at-fits : (w : World) (link : ℕ) (a : Ask) (o : Outcome) → IsSound w → fits_frame (answer_at w link a o) ≡ true
 unfolding answer_at
-at-fits w link (ask.Open attention) o lawful = cond_both (is_full w) (refusal_reply code.NoMoreSessions) (told.Opened (link_number w.next_link)) (λ t. fits_frame t ≡ true) (λ full. refl) (λ room. refl)
-at-fits w link (ask.Call id write offset payload) o lawful = call-fits w link (session_at w link) (request id write offset payload) o lawful refl
-at-fits w link ask.Pulse o lawful = pulse-fits w link (session_at w link)
-at-fits w link ask.Bye o lawful = parting-fits (session_at w link)
-at-fits w link ask.Lost o lawful = parting-fits (session_at w link)
-at-fits w link ask.Drain o lawful = refl
+at-fits w link (ask.Open attention) o h = cond_both (is_full w) (refusal_reply code.NoMoreSessions) (told.Opened (link_number w.next_link)) (λ t. fits_frame t ≡ true) (λ full. refl) (λ room. refl)
+at-fits w link (ask.Call id write offset payload) o h = call-fits w link (session_at w link) (request id write offset payload) o h refl
+at-fits w link ask.Pulse o h = pulse-fits w link (session_at w link)
+at-fits w link ask.Bye o h = parting-fits (session_at w link)
+at-fits w link ask.Lost o h = parting-fits (session_at w link)
+at-fits w link ask.Drain o h = refl
 
 pub answer-fits : (w : World) (e : Entry) → IsSound w → is_legal w e ≡ true → fits_frame (answer w e) ≡ true
-answer-fits w e h legal = at-fits (at_moment w e.at) e.link.0 e.ask e.outcome (caches-parts w h.caches)
+answer-fits w e h legal = at-fits (at_moment w e.at) e.link.0 e.ask e.outcome (moment-sound w e.at (legal-moment w e legal) h)
 
 -- what is told is an answer to the ask
 

@@ -1,5 +1,5 @@
 -- What a verdict says of a request.
-use Rattle.std.proofs.Common.{◌≡◌, ◌∙◌, ap, sym, refl, ℕ, not, ◌&&◌, cond, List, [], ◌∷◌, Option, Some, None}
+use Rattle.std.proofs.Common.{◌≡◌, ◌∙◌, ap, sym, refl, ℕ, Bool, true, false, not, ◌&&◌, cond, List, [], ◌∷◌, Option, Some, None}
 use Rattle.std.specs.Prelude.{is_none}
 use Rattle.std.proofs.lemmas.Bool.{cond_both, not-false}
 use Rattle.afp_base.specs.Cached.{Request, Answer, cached_answer}
@@ -87,3 +87,20 @@ repeats-kept w s r a h = kept-repeats w s r (cached_answer s.cache r) a h
 pub kept-verdict : (w : World) (s : Session) (r : Request) (a : Answer) → cached_answer s.cache r ≡ Some a → verdict w s r ≡ repeats a
 unfolding verdict
 kept-verdict w s r a h = ap (verdict_of_kept w s r) h
+
+-- a request that comes to a call runs it
+pub runs-of : (w : World) (s : Session) (r : Request) (call : Call) → ComesTo w s r call → verdict w s r ≡ runs call
+unfolding verdict
+runs-of w s r call c =
+    ap (verdict_of_kept w s r) c.new
+    ∙ ap (verdict_of_block w s r) c.block
+    ∙ chosen (is_command c.command) (is_none s.user && needs_user c.command) c.known c.user
+    ∙ ap (verdict_of_spelling w s) c.spelt
+    ∙ ap (verdict_of_row call) c.passes
+  where
+    chosen : (known lacks : Bool) → known ≡ true → lacks ≡ false
+        → cond (not known) (refused (plain CallNotSupported)) (cond lacks (refused (plain UserNotAuth)) (verdict_of_spelling w s (spelt_call (block_of r) (enclosed_of r))))
+        ≡ verdict_of_spelling w s (spelt_call (block_of r) (enclosed_of r))
+    chosen true false p q = refl
+    chosen true true p q = cc
+    chosen false lacks p q = cc

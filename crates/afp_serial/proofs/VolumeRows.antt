@@ -1,19 +1,28 @@
 -- What OpenVol and CloseVol do keeps a sound world sound.
-use Rattle.std.proofs.Common.{◌≡◌, ◌∙◌, ap, sym, refl, ℕ, Bool, true, false, not, ◌&&◌, List, [], ◌∷◌, ◌++◌, Option, Some, None}
-use Rattle.std.specs.Prelude.{◌==◌, find, filter, length, nat_le, is_none}
+use Rattle.std.proofs.Common.{◌≡◌, ◌∙◌, ap, sym, refl, subst, ℕ, ◌+◌, ◌<◌, ◌≤◌, Bool, true, false, not, ◌&&◌, List, [], ◌∷◌, ◌++◌, Option, Some, None, arith}
+use Rattle.std.specs.Prelude.{◌==◌, find, filter, length, nat_le, is_none, position, option_map, bytes_eq}
 use Rattle.std.specs.List.{list_any}
+use Rattle.std.proofs.lemmas.List.Quantifiers.{position-Some}
 use Rattle.std.proofs.lemmas.Bool.{and_parts, and_from, cond_both, eqb-true, eq-eqb}
 use Rattle.afp_serial.proofs.Closed.{closing-sound, closing-apart}
 use Rattle.afp_serial.proofs.Replaced.{TakesPlace, replaced-apart, replaced-old, replaced-sound, volume-kept}
 use Rattle.afp_base.specs.Choice.{first_holding}
 use Rattle.afp_base.specs.declared.code.Code.TheVariants.{BitmapErr, ObjectNotFound}
 use Rattle.afp_serial.specs.CallRow.{plain}
-use Rattle.afp_serial.proofs.OpenVolBytes.{open-vol-bytes}
+use Rattle.afp_base.specs.declared.code.Code.TheVariants.{Ok}
+use Rattle.afp_base.specs.declared.ids.VolumeId.{VolumeId}
+use Rattle.afp_replies.specs.Commands.{rows, shape_in, shape_of}
+use Rattle.afp_replies.specs.Replies.{Shows, canonical_reply, layout_for}
+use Rattle.afp_replies.specs.declared.reply.Reply.TheVariants.{Empty}
+use Rattle.afp_requests.specs.declared.call.Call.TheVariants.{CloseVol, OpenVol}
+use Rattle.afp_serial.proofs.Faultless.{faultless, none-fault}
+use Rattle.afp_serial.proofs.OpenVolReply.{open-vol-bytes, open-vol-shown}
 use Rattle.afp_serial.proofs.SoundRow.{IsSoundRow, is_short}
 use Rattle.afp_serial.proofs.SoundParts.{ApartSessions, sessions-parts, opens-parts, caches-parts}
-use Rattle.afp_serial.proofs.TestedLists.{contra, all-weaker, all-both, all-kept, any-longer, any-still, find-all}
+use Rattle.afp_volume.proofs.TestedLists.{contra, all-weaker, all-both, all-kept, any-longer, any-still, find-all}
 use Rattle.afp_serial.specs.CloseVol.{close_vol_effect, close_vol_row}
-use Rattle.afp_serial.specs.Limits.{longest_block}
+use Rattle.afp_serial.specs.Limits.{longest_block, most_volumes}
+use Rattle.afp_serial.specs.ReplyKinds.{reply_kind}
 use Rattle.afp_serial.specs.OpenVol.{opens_volume, open_vol_row, volume_id_bit, volume_named, with_volume}
 use Rattle.afp_serial.specs.Sessions.{has_opened, has_session, volume_at, closing, with_session}
 use Rattle.afp_serial.specs.Sound.{IsSound, has_volume_open, is_file_of, is_lawful_open, is_lawful_cache}
@@ -55,18 +64,49 @@ opens-sound w s test bits (Some v) found h =
     (and_parts (has_volume_open w.sessions o.session o.fork.volume) (is_file_of (volume_at w.volumes o.fork.volume) o.fork.node) stood).0)
     (opens-parts w h.opens).stand)
 
--- the bits and a volume's id are four bytes
-opens-fits : (w : World) (s : Session) (bits : ℕ) (volume : Option ℕ) → (bits == volume_id_bit) ≡ true → is_short (opens_volume w s bits volume).reply ≡ true
-opens-fits w s bits None same = refl
-opens-fits w s bits (Some v) same = ap (λ (block : List ℕ). nat_le (length block) longest_block) (open-vol-bytes bits v same)
+-- what is not refused: the bits ask for the id, and the volume is there
+pub record Opens (bits : ℕ) (volume : Option ℕ) : Type 0 where
+  pub asked : (bits == volume_id_bit) ≡ true
+  pub id : ℕ
+  pub named : volume ≡ Some id
 
--- a call that is not refused asks for the id
-bits-passed : (bits : ℕ) (none : Bool) → first_holding ((not (bits == volume_id_bit), plain BitmapErr) ∷ (none, plain ObjectNotFound) ∷ []) ≡ None → (bits == volume_id_bit) ≡ true
-bits-passed bits none passes = by (bits == volume_id_bit) passes
+opens-passed : (bits : ℕ) (volume : Option ℕ) → first_holding ((not (bits == volume_id_bit), plain BitmapErr) ∷ (is_none volume, plain ObjectNotFound) ∷ []) ≡ None → Opens bits volume
+opens-passed bits None passes = absurd (by (bits == volume_id_bit) passes)
   where
-    by : (b : Bool) → first_holding ((not b, plain BitmapErr) ∷ (none, plain ObjectNotFound) ∷ []) ≡ None → b ≡ true
+    by : (b : Bool) → first_holding ((not b, plain BitmapErr) ∷ (true, plain ObjectNotFound) ∷ []) ≡ None → ⊥
+    by true h = cc
+    by false h = cc
+opens-passed bits (Some id) passes = record { asked = by (bits == volume_id_bit) passes; id = id; named = refl }
+  where
+    by : (b : Bool) → first_holding ((not b, plain BitmapErr) ∷ (false, plain ObjectNotFound) ∷ []) ≡ None → b ≡ true
     by true h = refl
     by false h = cc
+
+-- the bits and a volume's id are four bytes
+opens-fits : (w : World) (s : Session) (bits : ℕ) (volume : Option ℕ) → Opens bits volume → is_short (opens_volume w s bits volume).reply ≡ true
+opens-fits w s bits volume o =
+    ap (λ (v : Option ℕ). is_short (opens_volume w s bits v).reply) o.named
+    ∙ ap (λ (block : List ℕ). nat_le (length block) longest_block) (open-vol-bytes bits o.id o.asked)
+
+-- ids are small: a house has few volumes
+named-small : (w : World) (name : List ℕ) (id : ℕ) → IsSound w → volume_named w name ≡ Some id → id < 65536
+named-small w name id h named = by (position (λ other. bytes_eq other name) w.house.volumes) refl named
+  where
+    few : length w.house.volumes ≤ most_volumes
+    few = (faultless w.house (none-fault w.house h.house)).few_volumes
+
+    by : (o : Option ℕ) → position (λ other. bytes_eq other name) w.house.volumes ≡ o → option_map (λ index. index + 1) o ≡ Some id → id < 65536
+    by None is n = cc
+    by (Some index) is n =
+        let within : index < length w.house.volumes = (position-Some (λ other. bytes_eq other name) w.house.volumes index [] is).0 in
+        let same : index + 1 ≡ id = cc in
+        omega (arith, few, within, same)
+
+opens-shown : (w : World) (s : Session) (bits : ℕ) (name : List ℕ) → IsSound w → Opens bits (volume_named w name)
+    → Shows (opens_volume w s bits (volume_named w name)).reply (reply_kind (OpenVol bits name)) Ok (canonical_reply (opens_volume w s bits (volume_named w name)).reply)
+opens-shown w s bits name h o =
+    subst (λ (v : Option ℕ). Shows (opens_volume w s bits v).reply (reply_kind (OpenVol bits name)) Ok (canonical_reply (opens_volume w s bits v).reply)) (sym o.named)
+    (open-vol-shown bits o.id name o.asked (named-small w name o.id h o.named))
 
 opens-next : (w : World) (s : Session) (bits : ℕ) (volume : Option ℕ) → (opens_volume w s bits volume).world.next_link ≡ w.next_link
 opens-next w s bits None = refl
@@ -76,12 +116,13 @@ opens-old : (w : World) (s : Session) (bits : ℕ) (volume : Option ℕ) (n : �
 opens-old w s bits None n h = h
 opens-old w s bits (Some v) n h = replaced-old w (with_volume s v) n h
 
-pub open-vol-sound : (bits : ℕ) (name : List ℕ) → IsSoundRow (open_vol_row bits name)
+pub open-vol-sound : (bits : ℕ) (name : List ℕ) → IsSoundRow (reply_kind (OpenVol bits name)) (open_vol_row bits name)
 open-vol-sound bits name = record {
+  refuses = λ w s h. refl;
   sound = λ w s test found passes h. opens-sound w s test bits (volume_named w name) found h;
+  fits = λ w s passes h. opens-fits w s bits (volume_named w name) (opens-passed bits (volume_named w name) passes);
+  shown = λ w s passes h. opens-shown w s bits name h (opens-passed bits (volume_named w name) passes);
   apart = λ w s test found a. opens-apart w s test bits (volume_named w name) found a;
-  fits = λ w s passes. opens-fits w s bits (volume_named w name) (bits-passed bits (is_none (volume_named w name)) passes);
-  refusals_fit = λ w s. refl;
   next = λ w s. opens-next w s bits (volume_named w name);
   old = λ w s n h. opens-old w s bits (volume_named w name) n h;
 }
@@ -130,12 +171,17 @@ close-vol-keeps w s test volume found h =
     (opens-parts v closed.opens).stand
     (all-kept (is_elsewhere s volume) w.opens))
 
-pub close-vol-sound : (volume : ℕ) → IsSoundRow (close_vol_row volume)
+close-vol-shown : (volume : VolumeId) → Shows Empty (reply_kind (CloseVol volume)) Ok []
+unfolding layout_for shape_of shape_in rows
+close-vol-shown volume = (refl, refl)
+
+pub close-vol-sound : (volume : VolumeId) → IsSoundRow (reply_kind (CloseVol volume)) (close_vol_row volume.0)
 close-vol-sound volume = record {
-  sound = λ w s test found passes h. close-vol-keeps w s test volume found h;
-  apart = λ w s test found a. close-vol-apart w s test volume found a;
-  fits = λ w s passes. refl;
-  refusals_fit = λ w s. refl;
+  refuses = λ w s h. refl;
+  sound = λ w s test found passes h. close-vol-keeps w s test volume.0 found h;
+  fits = λ w s passes h. refl;
+  shown = λ w s passes h. close-vol-shown volume;
+  apart = λ w s test found a. close-vol-apart w s test volume.0 found a;
   next = λ w s. refl;
-  old = λ w s n h. replaced-old w (with_volumes s (without s.volumes volume)) n h;
+  old = λ w s n h. replaced-old w (with_volumes s (without s.volumes volume.0)) n h;
 }

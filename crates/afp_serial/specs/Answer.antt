@@ -1,5 +1,5 @@
 -- The serial answer to an ask, and the world after it (this profile). In all of these the world's latest moment is already the ask's.
-use Rattle.std.specs.Prelude.{ℕ, ◌+◌, ◌==◌, nat_le, Bool, true, false, not, ◌||◌, if◌then◌else◌, List, [], ◌∷◌, ◌++◌, length, Option, None, Some}
+use Rattle.std.specs.Prelude.{ℕ, ◌+◌, ◌==◌, nat_le, Bool, true, false, not, ◌&&◌, ◌||◌, if◌then◌else◌, List, [], ◌∷◌, ◌++◌, length, Option, None, Some, is_some}
 use Rattle.afp_base.specs.Cached.{Request}
 use Rattle.afp_base.specs.declared.code.Code.{Code}
 use Rattle.afp_base.specs.declared.code.Code.TheVariants as code
@@ -17,7 +17,8 @@ use Rattle.afp_replies.specs.Replies.{canonical_reply}
 use Rattle.afp_requests.specs.declared.call.Call.{Call}
 use Rattle.afp_serial.specs.CallRow.{Effect, Refused}
 use Rattle.afp_serial.specs.Limits.{most_sessions, links_end, detached_time}
-use Rattle.afp_serial.specs.Rows.{effect, commits, ends_session}
+use Rattle.afp_serial.specs.Ranges.{is_typed_entry}
+use Rattle.afp_serial.specs.Rows.{effect, committed, ends_session}
 use Rattle.afp_serial.specs.Sessions.{session_at, ending, without_session}
 use Rattle.afp_serial.specs.Steps.{Verdict, repeats, refused, runs, verdict}
 use Rattle.afp_serial.specs.World.{World, Session, at_moment}
@@ -69,19 +70,24 @@ abbrev pub told_call : World → Option Session → Request → Outcome → Told
 told_call w None r o = told.Displaced
 told_call w (Some s) r o = told_verdict w s (verdict w s r) o
 
+-- The world with what a request of the session is told kept for it, where it is to be kept (this profile). None is kept yet.
+abbrev pub kept_in : Session → Request → Told → World → World
+kept_in s r told w = w
+
 abbrev pub after_call : World → Option Session → Request → Outcome → World
 after_call w None r o = w
-after_call w (Some s) r o = after_verdict w s (verdict w s r) o
+after_call w (Some s) r o = kept_in s r (told_verdict w s (verdict w s r) o) (after_verdict w s (verdict w s r) o)
 
--- A fault comes only where the call would have its effect, and its row commits or settles: so it hides no refusal.
-abbrev pub may_fault : World → Session → Verdict → Bool
-may_fault w s (repeats answer) = false
-may_fault w s (refused code) = false
-may_fault w s (runs call) = commits w s call
+-- The index of the volume whose keeper a call commits to or settles: that of its row, where the call would have its effect. So a
+-- fault of that keeper hides no refusal.
+abbrev pub committed_by : World → Session → Verdict → Option ℕ
+committed_by w s (repeats answer) = None
+committed_by w s (refused code) = None
+committed_by w s (runs call) = committed w s call
 
-abbrev pub is_fault_legal : World → Option Session → Request → Bool
-is_fault_legal w None r = false
-is_fault_legal w (Some s) r = may_fault w s (verdict w s r)
+abbrev pub committed_in : World → Option Session → Request → Option ℕ
+committed_in w None r = None
+committed_in w (Some s) r = committed_by w s (verdict w s r)
 
 -- Pulse
 
@@ -134,14 +140,14 @@ after_at w link ask.Bye o = after_parting w (session_at w link)
 after_at w link ask.Lost o = after_parting w (session_at w link)
 after_at w link ask.Drain o = record w { drain = drain_moment w.latest w.drain }
 
--- whether a fault may be its outcome
-unfoldable pub may_fault_at : World → ℕ → Ask → Bool
-may_fault_at w link (ask.Open attention) = false
-may_fault_at w link (ask.Call id write offset payload) = is_fault_legal w (session_at w link) (request id write offset payload)
-may_fault_at w link ask.Pulse = false
-may_fault_at w link ask.Bye = false
-may_fault_at w link ask.Lost = false
-may_fault_at w link ask.Drain = false
+-- the index of the volume whose keeper it commits to or settles, or none
+unfoldable pub committed_at : World → ℕ → Ask → Option ℕ
+committed_at w link (ask.Open attention) = None
+committed_at w link (ask.Call id write offset payload) = committed_in w (session_at w link) (request id write offset payload)
+committed_at w link ask.Pulse = None
+committed_at w link ask.Bye = None
+committed_at w link ask.Lost = None
+committed_at w link ask.Drain = None
 
 abbrev pub answer : World → Entry → Told
 answer w e = answer_at (at_moment w e.at) e.link.0 e.ask e.outcome
@@ -149,10 +155,15 @@ answer w e = answer_at (at_moment w e.at) e.link.0 e.ask e.outcome
 abbrev pub after : World → Entry → World
 after w e = after_at (at_moment w e.at) e.link.0 e.ask e.outcome
 
-abbrev pub is_legal_outcome : Bool → Outcome → Bool
-is_legal_outcome may outcome.Done = true
-is_legal_outcome may outcome.Fault = may
+-- the volume of that entry's keeper
+abbrev pub committed_of : World → Entry → Option ℕ
+committed_of w e = committed_at (at_moment w e.at) e.link.0 e.ask
 
--- An entry is legal where its outcome may come there.
+-- a fault may come where a keeper is committed to or settles
+abbrev pub is_legal_outcome : Option ℕ → Outcome → Bool
+is_legal_outcome index outcome.Done = true
+is_legal_outcome index outcome.Fault = is_some index
+
+-- An entry is legal where its moment and its ask are in their ranges, and its outcome may come there.
 abbrev pub is_legal : World → Entry → Bool
-is_legal w e = is_legal_outcome (may_fault_at (at_moment w e.at) e.link.0 e.ask) e.outcome
+is_legal w e = is_typed_entry e && is_legal_outcome (committed_of w e) e.outcome

@@ -2,14 +2,16 @@
 use Rattle.std.specs.Prelude.{◌≡◌, ◌≢◌, ◌↔◌, ◌⊎◌, ℕ, ◌+◌, ◌<◌, ◌≤◌, ◌==◌, Bool, true, false, not, ◌&&◌, List, [], ◌∷◌, ◌++◌, length, take, All, Some, None, is_none, slice_get}
 use Rattle.afp_base.specs.Cached.{Request, Answer, cached_answer}
 use Rattle.afp_base.specs.declared.code.Code.{Code}
-use Rattle.afp_base.specs.declared.code.Code.TheVariants.{MiscErr}
+use Rattle.afp_base.specs.declared.code.Code.TheVariants.{MiscErr, Ok}
 use Rattle.afp_base.specs.declared.ids.LinkNumber.{LinkNumber}
+use Rattle.afp_replies.specs.Replies.{Shows, canonical_reply}
 use Rattle.afp_requests.specs.Spelt.{is_command, spelt_call}
 use Rattle.afp_requests.specs.declared.call.Call.{Call}
+use Rattle.afp_volume.specs.VolumeState.{VolumeState}
 use Rattle.afp_serial.specs.declared.ask.Ask.{Ask}
 use Rattle.afp_serial.specs.declared.ask.Ask.TheVariants as ask
 use Rattle.afp_serial.specs.declared.ask.Entry.{Entry}
-use Rattle.afp_serial.specs.declared.ask.Outcome.TheVariants.{Fault}
+use Rattle.afp_serial.specs.declared.ask.Outcome.TheVariants.{Done, Fault}
 use Rattle.afp_serial.specs.declared.ask.Told.TheVariants as told
 use Rattle.afp_serial.specs.declared.attachment.Attachment.TheVariants.{Attached}
 use Rattle.afp_serial.specs.Answer.{answer, after, is_legal, link_number, new_session, request, swept}
@@ -17,22 +19,35 @@ use Rattle.afp_serial.specs.History.{answers, is_lawful, opened_in, stand}
 use Rattle.afp_serial.specs.Household.{Household}
 use Rattle.afp_serial.specs.HouseFault.{house_fault}
 use Rattle.afp_serial.specs.Limits.{longest_block}
-use Rattle.afp_serial.specs.Rows.{commits, refusal}
+use Rattle.afp_serial.specs.ReplyKinds.{reply_kind}
+use Rattle.afp_serial.specs.Rows.{committed, effect, ends_session, refusal}
 use Rattle.afp_serial.specs.Sessions.{has_session, session_at}
 use Rattle.afp_serial.specs.Shown.{is_answer_to}
-use Rattle.afp_serial.specs.Sound.{IsSound}
+use Rattle.afp_serial.specs.Ranges.{is_moment, is_typed_entry, is_typed_house}
+use Rattle.afp_serial.specs.Sound.{IsSound, ServesVolumes}
 use Rattle.afp_serial.specs.Steps.{block_of, enclosed_of, needs_user}
-use Rattle.afp_serial.specs.World.{World, Session, fresh_world, at_moment}
+use Rattle.afp_serial.specs.World.{World, Session, at_moment, fresh_volumes, start_world}
 
--- the law of soundness: a world that nobody has used is sound, and a legal entry keeps a sound world sound
+-- the law of soundness: a world at the start is sound over sound volumes of the house, as are those that nobody has used, and a legal entry
+-- keeps a sound world sound
 abbrev pub StartsSound : Type 0
-StartsSound = (house : Household) (now : ℕ) → house_fault house ≡ None → IsSound (fresh_world house now)
+StartsSound =
+    (house : Household) (now : ℕ) (volumes : List VolumeState)
+    → house_fault house ≡ None
+    → is_typed_house house ≡ true
+    → is_moment now ≡ true
+    → ServesVolumes house volumes
+    → IsSound (start_world house now volumes)
+
+abbrev pub FreshIsSound : Type 0
+FreshIsSound = (house : Household) (now : ℕ) → house_fault house ≡ None → is_moment now ≡ true → ServesVolumes house (fresh_volumes house now)
 
 abbrev pub KeepsSound : Type 0
 KeepsSound = (w : World) (e : Entry) → IsSound w → is_legal w e ≡ true → IsSound (after w e)
 
+-- so a lawful history is sound at each of its places
 abbrev pub StandsSound : Type 0
-StandsSound = (start : World) (h : List Entry) → IsSound start → is_lawful start h ≡ true → IsSound (stand start h)
+StandsSound = (start : World) (h : List Entry) → IsSound start → is_lawful start h ≡ true → (k : ℕ) → IsSound (stand start (take k h))
 
 -- the block of a reply fits in a frame
 abbrev pub FitsFrame : Type 0
@@ -88,8 +103,8 @@ pub record ComesTo (w : World) (s : Session) (r : Request) (call : Call) : Type 
   pub spelt : spelt_call (block_of r) (enclosed_of r) ≡ Some call
   pub passes : refusal w s call ≡ None
 
--- An entry is a call that would have its effect, and whose row commits or settles; it is told MiscErr, and nothing changes
--- but the latest moment.
+-- An entry is a call that would have its effect, and whose row commits to the keeper of a volume, or settles it; it is told MiscErr, and nothing
+-- changes but the latest moment.
 pub record FailsInPlace (w : World) (e : Entry) : Type 0 where
   pub id : ℕ
   pub write : Bool
@@ -100,7 +115,8 @@ pub record FailsInPlace (w : World) (e : Entry) : Type 0 where
   pub attached : session_at w e.link.0 ≡ Some session
   pub call : Call
   pub runs : ComesTo (at_moment w e.at) session (request id write offset payload) call
-  pub may : commits (at_moment w e.at) session call ≡ true
+  pub index : ℕ
+  pub commits : committed (at_moment w e.at) session call ≡ Some index
   pub answered : answer w e ≡ told.Reply MiscErr [] false
   pub left : after w e ≡ at_moment w e.at
 
@@ -108,30 +124,75 @@ pub record FailsInPlace (w : World) (e : Entry) : Type 0 where
 abbrev pub HidesNoRefusal : Type 0
 HidesNoRefusal = (w : World) (e : Entry) → e.outcome ≡ Fault → is_legal w e ≡ true → FailsInPlace w e
 
--- The plain laws of sessions, after any entries, legal or not, from a world that nobody has used: no two sessions have one link; the
+-- and it may come at each such call
+abbrev pub MayFail : Type 0
+MayFail =
+    (w : World) (e : Entry) (id : ℕ) (write : Bool) (offset : ℕ) (payload : List ℕ) (s : Session) (call : Call) (index : ℕ)
+    → is_typed_entry e ≡ true
+    → e.ask ≡ ask.Call id write offset payload
+    → session_at w e.link.0 ≡ Some s
+    → ComesTo (at_moment w e.at) s (request id write offset payload) call
+    → committed (at_moment w e.at) s call ≡ Some index
+    → is_legal w e ≡ true
+
+-- The answer is one that was kept for an equal request of the session.
+pub record IsKeptAnswer (w : World) (e : Entry) (block : List ℕ) (ends : Bool) : Type 0 where
+  pub id : ℕ
+  pub write : Bool
+  pub offset : ℕ
+  pub payload : List ℕ
+  pub asked : e.ask ≡ ask.Call id write offset payload
+  pub session : Session
+  pub attached : session_at w e.link.0 ≡ Some session
+  pub kept : cached_answer session.cache (request id write offset payload) ≡ Some (record { code = Ok; block = block })
+  pub ends_not : ends ≡ false
+
+-- The answer is that of a call which had its effect: its block is the row's reply, and shows it to a request of that call's kind.
+pub record IsEffectAnswer (w : World) (e : Entry) (block : List ℕ) (ends : Bool) : Type 0 where
+  pub id : ℕ
+  pub write : Bool
+  pub offset : ℕ
+  pub payload : List ℕ
+  pub asked : e.ask ≡ ask.Call id write offset payload
+  pub session : Session
+  pub attached : session_at w e.link.0 ≡ Some session
+  pub call : Call
+  pub runs : ComesTo (at_moment w e.at) session (request id write offset payload) call
+  pub done : e.outcome ≡ Done
+  pub block_is : block ≡ canonical_reply (effect (at_moment w e.at) session call).reply
+  pub shows : Shows (effect (at_moment w e.at) session call).reply (reply_kind call) Ok block
+  pub ends_is : ends ≡ ends_session call
+
+-- the law of replies: an answer Ok is a kept one, or the shown reply of a call's row; so no refusal is told Ok
+abbrev pub TellsShown : Type 0
+TellsShown =
+    (w : World) (e : Entry) (block : List ℕ) (ends : Bool) → IsSound w → is_legal w e ≡ true → answer w e ≡ told.Reply Ok block ends
+    → IsKeptAnswer w e block ends ⊎ IsEffectAnswer w e block ends
+
+-- The plain laws of sessions, after any entries, legal or not, from a world at the start over any volumes: no two sessions have one link; the
 -- n-th session that is opened has the number n, so that none is given twice; and what is opened is a new session of that number.
 abbrev pub LinksDiffer : Type 0
 LinksDiffer =
-    (house : Household) (now : ℕ) (h : List Entry) (j k : ℕ) (s t : Session) (a b : LinkNumber)
+    (house : Household) (now : ℕ) (volumes : List VolumeState) (h : List Entry) (j k : ℕ) (s t : Session) (a b : LinkNumber)
     → j < k
-    → slice_get (stand (fresh_world house now) h).sessions j ≡ Some s
-    → slice_get (stand (fresh_world house now) h).sessions k ≡ Some t
+    → slice_get (stand (start_world house now volumes) h).sessions j ≡ Some s
+    → slice_get (stand (start_world house now volumes) h).sessions k ≡ Some t
     → s.place ≡ Attached a
     → t.place ≡ Attached b
     → a ≢ b
 
 abbrev pub CountsSessions : Type 0
 CountsSessions =
-    (house : Household) (now : ℕ) (h : List Entry) (k : ℕ) (l : LinkNumber)
-    → slice_get (answers (fresh_world house now) h) k ≡ Some (told.Opened l)
-    → l.0 ≡ opened_in (fresh_world house now) (take k h) + 1
+    (house : Household) (now : ℕ) (volumes : List VolumeState) (h : List Entry) (k : ℕ) (l : LinkNumber)
+    → slice_get (answers (start_world house now volumes) h) k ≡ Some (told.Opened l)
+    → l.0 ≡ opened_in (start_world house now volumes) (take k h) + 1
 
 abbrev pub NeverTwice : Type 0
 NeverTwice =
-    (house : Household) (now : ℕ) (h : List Entry) (j k : ℕ) (a b : LinkNumber)
+    (house : Household) (now : ℕ) (volumes : List VolumeState) (h : List Entry) (j k : ℕ) (a b : LinkNumber)
     → j < k
-    → slice_get (answers (fresh_world house now) h) j ≡ Some (told.Opened a)
-    → slice_get (answers (fresh_world house now) h) k ≡ Some (told.Opened b)
+    → slice_get (answers (start_world house now volumes) h) j ≡ Some (told.Opened a)
+    → slice_get (answers (start_world house now volumes) h) k ≡ Some (told.Opened b)
     → a.0 < b.0
 
 abbrev pub OpensNew : Type 0

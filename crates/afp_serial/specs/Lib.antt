@@ -5,7 +5,9 @@ pub mod Faultless
 pub mod StatusBlock
 pub mod World
 pub mod Sessions
+pub mod Ranges
 pub mod Sound
+pub mod ReplyKinds
 pub mod CallRow
 pub mod CloseVol
 pub mod Login

@@ -1,5 +1,5 @@
 -- The row of a call, each under the call's name; here they are only dispatched.
-use Rattle.std.specs.Prelude.{ℕ, Bool, true, false, List, [], ◌∷◌, Option, is_some}
+use Rattle.std.specs.Prelude.{ℕ, Bool, true, false, List, [], ◌∷◌, Option}
 use Rattle.afp_base.specs.declared.code.Code.TheVariants.{CallNotSupported}
 use Rattle.afp_requests.specs.declared.call.Call.{Call}
 use Rattle.afp_requests.specs.declared.call.Call.TheVariants.{CloseVol, Login, Logout, OpenVol}
@@ -30,9 +30,9 @@ refusal w s call = first_holding ((row call).refusals w s)
 abbrev pub effect : World → Session → Call → Effect
 effect w s call = (row call).effect w s
 
--- whether the row of a call commits or settles, so that it may meet a fault; no row does yet
-abbrev pub commits : World → Session → Call → Bool
-commits w s call = is_some ((row call).committed w s)
+-- the index of the volume whose keeper the row of a call commits to or settles, so that it may meet a fault, or none; no row does yet
+abbrev pub committed : World → Session → Call → Option ℕ
+committed w s call = (row call).committed w s
 
 -- the one call with which a session ends
 abbrev pub ends_session : Call → Bool

@@ -1,5 +1,5 @@
 -- What a teller shows of the history that it answers from, and what an ask adds to it (this profile).
-use Rattle.std.specs.Prelude.{◌≡◌, ℕ, ◌+◌, ◌≤◌, nat_le, Bool, true, false, List, [], ◌∷◌, ◌++◌, length}
+use Rattle.std.specs.Prelude.{◌≡◌, ℕ, ◌+◌, ◌≤◌, nat_le, Bool, true, false, List, [], ◌∷◌, ◌++◌, length, take}
 use Rattle.afp_base.specs.Counts.{Rises}
 use Rattle.afp_base.specs.declared.ids.LinkNumber.{LinkNumber}
 use Rattle.afp_serial.specs.declared.ask.Ask.{Ask}
@@ -26,10 +26,11 @@ pub record Shown : Type 0 where
   pub mine : List ℕ
   pub faults : ℕ
 
--- The start is sound, the history is lawful, and the teller's own places rise and lie in it.
+-- The start is sound, the history is lawful, so that the world is sound at each of its places, and the teller's own places rise and lie in it.
 pub record IsSoundShown (a : Shown) : Type 0 where
   pub start : IsSound a.start
   pub lawful : is_lawful a.start a.history ≡ true
+  pub stands : (k : ℕ) → IsSound (stand a.start (take k a.history))
   pub within : Rising 0 a.mine (length a.history)
 
 -- Others have added entries, and this ask is none.

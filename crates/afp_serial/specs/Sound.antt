@@ -1,16 +1,18 @@
 -- What holds of the world at each place of a history (this profile).
-use Rattle.std.specs.Prelude.{◌≡◌, ℕ, ◌==◌, nat_le, nat_lt, Bool, true, false, ◌&&◌, List, length, map, count_by, Option, Some, None, is_none, bytes_eq}
+use Rattle.std.specs.Prelude.{◌≡◌, ℕ, ◌==◌, nat_le, nat_lt, Bool, true, false, ◌&&◌, List, length, map, count_by, All, Option, Some, None, is_none, bytes_eq}
 use Rattle.std.specs.Cmp.Lexicographic.{pointwise}
 use Rattle.std.specs.List.{list_all, list_any}
 use Rattle.afp_base.specs.Cached.{Kept, is_repeat}
 use Rattle.afp_base.specs.DenyMode.{is_one_fork, do_conflict}
 use Rattle.afp_base.specs.Overlap.{do_meet}
 use Rattle.afp_volume.specs.VolumeState.{VolumeState}
-use Rattle.afp_volume.specs.SoundVolume.{are_apart, has_file, is_tree, has_apart_names, has_noted_nodes, is_formed_volume, keeps_limits}
+use Rattle.afp_volume.specs.SoundVolume.{IsSoundVolume, are_apart, has_file}
 use Rattle.afp_serial.specs.declared.attachment.Attachment.{Attachment}
 use Rattle.afp_serial.specs.declared.attachment.Attachment.TheVariants.{Attached, Detached}
 use Rattle.afp_serial.specs.Limits.{most_users, most_volumes, most_sessions, most_kept, most_forks, most_locks, longest_block}
 use Rattle.afp_serial.specs.HouseFault.{house_fault}
+use Rattle.afp_serial.specs.Household.{Household}
+use Rattle.afp_serial.specs.Ranges.{is_moment, is_moment_or_none, is_typed_house, is_typed_volume}
 use Rattle.afp_serial.specs.Sessions.{has_opened, is_open, volume_at}
 use Rattle.afp_serial.specs.World.{World, Session, OpenFork}
 
@@ -70,30 +72,32 @@ is_lawful_cache cache =
 unfoldable pub has_lawful_caches : World → Bool
 has_lawful_caches w = list_all (λ s. is_lawful_cache s.cache) w.sessions
 
--- The limits of users, volumes, sessions, forks of a session, locks of a reference, and of each volume are kept.
+-- The limits of users, volumes, sessions, forks of a session, and locks of a reference are kept.
 unfoldable pub keeps_all_limits : World → Bool
 keeps_all_limits w =
     nat_le (length w.house.users) most_users
     && (nat_le (length w.volumes) most_volumes
     && (nat_le (length w.sessions) most_sessions
     && (list_all (λ s. nat_le (count_by (λ o. o.session == s.number) w.opens) most_forks) w.sessions
-    && (list_all (λ o. nat_le (count_by (λ lock. lock.reference == o.reference) w.locks) most_locks) w.opens
-    && list_all keeps_limits w.volumes))))
+    && list_all (λ o. nat_le (count_by (λ lock. lock.reference == o.reference) w.locks) most_locks) w.opens)))
 
--- The volumes are those of the house, in its order.
-unfoldable pub serves_house : World → Bool
-serves_house w = pointwise bytes_eq (map (λ v. v.name) w.volumes) w.house.volumes
+-- Moments and the house are in their ranges.
+unfoldable pub has_typed_fields : World → Bool
+has_typed_fields w = is_moment w.latest && (is_moment_or_none w.drain && is_typed_house w.house)
+
+-- The volumes are those of the house, in its order; each is sound, and its fields are in their ranges.
+pub record ServesVolumes (house : Household) (volumes : List VolumeState) : Type 0 where
+  pub served : pointwise bytes_eq (map (λ v. v.name) volumes) house.volumes ≡ true
+  pub each : All IsSoundVolume volumes
+  pub typed : list_all is_typed_volume volumes ≡ true
 
 -- What holds of a world at each place of a history.
 pub record IsSound (w : World) : Type 0 where
   pub house : is_none (house_fault w.house) ≡ true
-  pub served : serves_house w ≡ true
-  pub trees : list_all is_tree w.volumes ≡ true
-  pub names : list_all has_apart_names w.volumes ≡ true
-  pub notes : list_all has_noted_nodes w.volumes ≡ true
+  pub typed : has_typed_fields w ≡ true
+  pub volumes : ServesVolumes w.house w.volumes
   pub sessions : has_apart_sessions w ≡ true
   pub opens : has_lawful_opens w ≡ true
   pub locks : has_lawful_locks w ≡ true
   pub caches : has_lawful_caches w ≡ true
   pub limits : keeps_all_limits w ≡ true
-  pub volumes : list_all is_formed_volume w.volumes ≡ true

@@ -7,7 +7,6 @@ use Rattle.afp_base.specs.Cached.{Request, Answer, cached_answer}
 use Rattle.afp_base.specs.declared.code.Code.TheVariants.{ParamErr, CallNotSupported, UserNotAuth}
 use Rattle.afp_requests.specs.Spelt.{is_command, spelt_call}
 use Rattle.afp_requests.specs.declared.call.Call.{Call}
-use Rattle.afp_requests.specs.declared.commands.TheConstants.{GET_SRVR_INFO, LOGIN, LOGIN_EXT, LOGOUT}
 use Rattle.afp_serial.specs.CallRow.{Refused, plain}
 use Rattle.afp_serial.specs.Rows.{refusal}
 use Rattle.afp_serial.specs.World.{World, Session}
@@ -20,9 +19,9 @@ block_of r = if r.write then take r.offset r.payload else r.payload
 abbrev pub enclosed_of : Request → Option (List ℕ)
 enclosed_of r = if r.write then Some (drop r.offset r.payload) else None
 
--- the commands that ask for no user
+-- the commands that ask for no user: FPGetSrvrInfo, FPLogin, FPLogout and FPLoginExt
 abbrev pub commands_without_user : List ℕ
-commands_without_user = GET_SRVR_INFO ∷ LOGIN ∷ LOGOUT ∷ LOGIN_EXT ∷ []
+commands_without_user = 15 ∷ 18 ∷ 20 ∷ 63 ∷ []
 
 abbrev pub needs_user : ℕ → Bool
 needs_user command = not (list_any (λ other. other == command) commands_without_user)

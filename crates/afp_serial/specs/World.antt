@@ -40,9 +40,9 @@ pub record World : Type 0 where
   pub locks : List Lock
   pub volumes : List VolumeState
 
--- the world of a house that nobody has used, at a moment
-abbrev pub fresh_world : Household → ℕ → World
-fresh_world house now = record {
+-- the world at the start: of a house with the volumes that were loaded, which nobody has asked yet
+abbrev pub start_world : Household → ℕ → List VolumeState → World
+start_world house now volumes = record {
   house = house;
   latest = now;
   drain = None;
@@ -50,8 +50,16 @@ fresh_world house now = record {
   sessions = [];
   opens = [];
   locks = [];
-  volumes = map (λ name. fresh_volume name now) house.volumes;
+  volumes = volumes;
 }
+
+-- the volumes of a house that nobody has used, made at a moment
+abbrev pub fresh_volumes : Household → ℕ → List VolumeState
+fresh_volumes house now = map (λ name. fresh_volume name now) house.volumes
+
+-- the world at the start, over such volumes
+abbrev pub fresh_world : Household → ℕ → World
+fresh_world house now = start_world house now (fresh_volumes house now)
 
 -- the world at a moment, which counts as the later of this one and the world's
 abbrev pub at_moment : World → ℕ → World

@@ -1,8 +1,9 @@
 //! The house: what a file server is set up with.
-ghost use Rattle.std.specs.Prelude.{◌≡◌, ◌≢◌, ◌≤◌, length, None, Some, OnOk, IfOk, IfErr};
+ghost use Rattle.std.specs.Prelude.{◌≡◌, ◌≢◌, ◌≤◌, length, None, Some, true, OnOk, IfOk, IfErr};
 
 use crate::checks::find_fault;
 use crate::house_fault::HouseFault;
+use crate::ranges::fields_in_range;
 use crate::status::status_block;
 use crate::user::User;
 use afp_base::{Bytes, OutOfMemory};
@@ -23,21 +24,23 @@ pub struct House {
 }
 
 impl Model for House {
-    ghost use Rattle.std.specs.Prelude.{◌≡◌, None};
+    ghost use Rattle.std.specs.Prelude.{◌≡◌, None, true};
     ghost use Rattle.afp_serial.specs.Household.{Household, household};
     ghost use Rattle.afp_serial.specs.HouseFault.{house_fault};
+    ghost use Rattle.afp_serial.specs.Ranges.{is_typed_house};
 
     ghost Value = { Household };
 
     ghost view = { λ h. household h.server h.signature h.users.items h.volumes.items h.message h.token_key };
 
-    ghost invariant = { λ h. house_fault (household h.server h.signature h.users.items h.volumes.items h.message h.token_key) ≡ None };
+    ghost invariant = { λ h. (house_fault (household h.server h.signature h.users.items h.volumes.items h.message h.token_key) ≡ None) × (is_typed_house (household h.server h.signature h.users.items h.volumes.items h.message h.token_key) ≡ true) };
 }
 
 impl House {
     ghost use Rattle.afp_serial.specs.Household.{household};
     ghost use Rattle.afp_serial.specs.HouseFault.{house_fault};
     ghost use Rattle.afp_serial.specs.Faultless.{IsFaultless, NamesFirstBad};
+    ghost use Rattle.afp_serial.specs.Ranges.{is_typed_house};
     ghost use Rattle.afp_serial.specs.StatusBlock.{status_block, OffsetsFindParts};
 
     /// A house of these parts, or its first fault in the order of `HouseFault`.
@@ -68,6 +71,7 @@ impl House {
         ) {
             return Err(fault);
         }
+        fields_in_range(&signature, users.as_slice(), &token_key);
         Ok(House {
             server: bytes_of(alloc, server.as_bytes())?,
             signature,
@@ -92,6 +96,7 @@ impl House {
     pub fn copy(&self, alloc: Global) -> Result<House, OutOfMemory>
         ensures value { IfOk result (λ house. house ≡ self.now) }
         ensures faultless { house_fault self.now ≡ None }
+        ensures typed { is_typed_house self.now ≡ true }
     {
         Ok(House {
             server: self.server.copy()?,

@@ -1,10 +1,12 @@
 //! Laws of the serial answer. Each function says one, and does nothing.
 ghost use Rattle.afp_serial.specs.Laws as laws;
 
-/// A world that nobody has used is sound. A legal entry keeps a sound world sound, and so does a history of such. What is told is an
-/// answer to the ask, and a reply's block fits in a frame: it has at most 131,072 bytes.
+/// A world at the start is sound over sound volumes of its house, as are those that nobody has used. A legal entry keeps a sound world
+/// sound, so a lawful history is sound at each of its places. What is told is an answer to the ask, and a reply's block fits in a frame:
+/// it has at most 131,072 bytes.
 pub fn sound_worlds_stay_sound()
     ensures starts { laws.StartsSound }
+    ensures fresh { laws.FreshIsSound }
     ensures keeps { laws.KeepsSound }
     ensures stands { laws.StandsSound }
     ensures answers { laws.AnswersAsk }
@@ -24,13 +26,20 @@ pub fn kept_answer_is_told_again()
     ensures { laws.TellsKept }
 {}
 
-/// A fault comes only where a call would have its effect, so it hides no refusal. It is told MiscErr, and nothing changes but the
-/// latest moment.
-pub fn fault_hides_no_refusal()
-    ensures { laws.HidesNoRefusal }
+/// An answer Ok is one that was kept, or the reply of the call's row, which its block shows to a request of that kind. So no refusal is
+/// told Ok.
+pub fn what_is_told_is_shown()
+    ensures { laws.TellsShown }
 {}
 
-/// After any entries, legal or not, from a world that nobody has used: no two sessions have one link, and the n-th session that is
+/// A fault comes just where a call would have its effect and its row commits to a volume's keeper, or settles it: so it hides no refusal. It
+/// is told MiscErr, and nothing changes but the latest moment.
+pub fn fault_hides_no_refusal()
+    ensures hides { laws.HidesNoRefusal }
+    ensures may { laws.MayFail }
+{}
+
+/// After any entries, legal or not, from a world at the start: no two sessions have one link, and the n-th session that is
 /// opened has the number n, so that none is given twice. A session is there only since it was opened.
 pub fn session_numbers_are_given_once()
     ensures links { laws.LinksDiffer }

@@ -9,6 +9,7 @@ mod house;
 mod house_fault;
 pub mod laws;
 mod limits;
+mod ranges;
 mod status;
 mod teller;
 mod user;
@@ -17,6 +18,7 @@ pub use ask::{Ask, Entry, Outcome, Told};
 pub use attachment::Attachment;
 pub use house::House;
 pub use house_fault::HouseFault;
+pub use ranges::{entry_in_range, moment_in_range};
 pub use teller::Teller;
 pub use user::User;
 

@@ -1,5 +1,8 @@
-use Rattle.afp_serial.proofs.CallLaws.{hides-no-refusal}
+use Rattle.afp_serial.proofs.CallLaws.{hides-no-refusal, may-fail}
 use Rattle.afp_serial.proofs.laws.fault_hides_no_refusal.Goals as goal
 
-pub returns : goal.returns
-returns c = hides-no-refusal
+pub returns-clause-hides : goal.returns-clause-hides
+returns-clause-hides c = hides-no-refusal
+
+pub returns-clause-may : goal.returns-clause-may
+returns-clause-may c = may-fail

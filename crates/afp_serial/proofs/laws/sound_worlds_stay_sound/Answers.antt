@@ -1,9 +1,13 @@
-use Rattle.afp_serial.proofs.StaysSound.{fresh-sound, after-sound, stand-sound, answer-kind}
+use Rattle.afp_serial.proofs.FreshWorld.{fresh-serve, start-sound}
+use Rattle.afp_serial.proofs.StaysSound.{after-sound, stand-sound, answer-kind}
 use Rattle.afp_serial.proofs.CallLaws.{fits-frame}
 use Rattle.afp_serial.proofs.laws.sound_worlds_stay_sound.Goals as goal
 
 pub returns-clause-starts : goal.returns-clause-starts
-returns-clause-starts c = fresh-sound
+returns-clause-starts c = start-sound
+
+pub returns-clause-fresh : goal.returns-clause-fresh
+returns-clause-fresh c = fresh-serve
 
 pub returns-clause-keeps : goal.returns-clause-keeps
 returns-clause-keeps c = after-sound

@@ -8,10 +8,10 @@ use Rattle.afp_serial.specs.declared.ask.Ask.{Ask}
 use Rattle.afp_serial.specs.declared.ask.Entry.{Entry}
 use Rattle.afp_serial.specs.declared.ask.Outcome.{Outcome}
 use Rattle.afp_serial.proofs.Grows.{asked-adds}
-use Rattle.afp_serial.proofs.StaysSound.{answer-fits, answer-kind, stand-sound}
+use Rattle.afp_serial.proofs.StaysSound.{answer-fits, answer-kind, stood-sound}
 use Rattle.afp_core.specs.Counted.{IsCounted}
 use Rattle.afp_core.specs.Places.{upto, upto-longer}
-use Rattle.afp_core.proofs.TurnLemmas.{answer-told, turn-counted, turn-lawful, turn-stands, turn-tells}
+use Rattle.afp_core.proofs.TurnLemmas.{answer-told, turn-counted, turn-faults, turn-lawful, turn-stands, turn-tells, turn-unkept}
 use Rattle.afp_core.proofs.list_teller.ListTellerTeller.ask.Goals as goal
 
 pub invariant_of-self-in-Ok-step : goal.invariant_of-self-in-Ok-step
@@ -28,6 +28,7 @@ invariant_of-self-in-Ok-step c =
       stands = turn-stands begin.world h c.args.self.now.core c.step.new.self e c.in-Ok-step.told stands c.in-Ok-step.ensures ∙ ap (stand begin.world) (sym items);
       counted = subst (λ (l : List Entry). IsCounted begin l c.step.new.self) (sym items)
           (turn-counted begin c.args.self.now.core c.step.new.self h e c.in-Ok-step.told stands c.in-Ok-step.ensures c.args.self.now.counted);
+      unkept = turn-unkept c.args.self.now.core c.step.new.self e c.in-Ok-step.told c.in-Ok-step.ensures c.args.self.now.unkept;
     }
 
 pub returns-in-Ok-step-clause-asked : goal.returns-in-Ok-step-clause-asked
@@ -46,7 +47,7 @@ returns-in-Ok-step-clause-asked c =
       history = items ∙ ap (λ (l : List Entry). l ++ e ∷ []) none;
       mine = ap (λ (l : List Entry). upto (length l)) items ∙ upto-longer h e ∙ ap (λ (l : List Entry). upto (length h) ++ length l ∷ []) none;
       serial = turn-tells begin h c.args.self.now.core c.step.new.self e c.in-Ok-step.told c.args.self.now.stands t ∙ ap (λ (l : List Entry). answer (stand begin l) e) none;
-      faults = subst (λ (o : Outcome). Rises (fault_of o + 0) 0 0) (sym t.faultless) (omega arith, omega arith);
+      faults = turn-faults c.args.self.now.core c.step.new.self e c.in-Ok-step.told t;
     }
 
 pub returns-in-Ok-step-clause-answers : goal.returns-in-Ok-step-clause-answers
@@ -59,5 +60,5 @@ returns-in-Ok-step-clause-size c =
     let begin = c.args.self.now.start.value.world in
     let h = c.args.self.now.entries.items in
     let e : Entry = entry c.args.now c.args.link c.args.ask c.in-Ok-step.outcome in
-    let sound = subst IsSound (sym c.args.self.now.stands) (stand-sound begin h c.args.self.now.sound c.args.self.now.lawful) in
+    let sound = subst IsSound (sym c.args.self.now.stands) (stood-sound begin h c.args.self.now.sound c.args.self.now.lawful) in
     ap fits_frame c.in-Ok-step.ensures.serial ∙ answer-fits c.args.self.now.core.world e sound c.in-Ok-step.ensures.legal

@@ -1,20 +1,21 @@
 use Rattle.std.proofs.Common.{◌∙◌, ap, refl, subst}
-use Rattle.afp_serial.specs.Answer.{refusal_reply, request}
+use Rattle.afp_serial.specs.Answer.{refusal_reply}
 use Rattle.afp_serial.specs.World.{World}
+use Rattle.afp_core.specs.Requests.{as_request}
 use Rattle.afp_core.specs.SessionList.{IsAt, session_of}
 use Rattle.afp_core.proofs.AskLemmas.{call-refused, call-runs}
 use Rattle.afp_core.proofs.state.State.call.Goals as goal
 
 pub returns-in-Ok : goal.returns-in-Ok
-returns-in-Ok c = λ id.
-    call-runs c.args.self.now c.run.new.self c.args.link.0 c.in-Some.session.0 (request id c.args.write c.args.offset c.args.payload.now) c.in-Ok.call c.run.result c.has_user-has_user.result
+returns-in-Ok c =
+    call-runs c.args.self.now c.run.new.self c.args.link.0 c.in-Some.session.0 (as_request c.args.request) c.in-Ok.call c.run.result c.has_user-has_user.result
     (subst (λ (w : World). IsAt w.sessions c.args.link.0 c.in-Some.session.0) c.self.view_is c.in-Some.ensures)
     (λ s at. c.has_user-has_user.ensures s (ap (λ (w : World). session_of w.sessions c.in-Some.session.0) c.self.view_is ∙ at))
-    (c.in-Ok.ensures id) c.run.ensures
+    c.in-Ok.ensures c.run.ensures
 
 pub returns-in-Err-Refused : goal.returns-in-Err-Refused
-returns-in-Err-Refused c = λ id.
-    call-refused c.args.self.now c.args.self.now c.args.link.0 c.in-Some.session.0 (request id c.args.write c.args.offset c.args.payload.now) c.in-Err-Refused.code _ c.has_user-has_user.result
+returns-in-Err-Refused c =
+    call-refused c.args.self.now c.args.self.now c.args.link.0 c.in-Some.session.0 (as_request c.args.request) c.in-Err-Refused.code _ c.has_user-has_user.result
     (subst (λ (w : World). IsAt w.sessions c.args.link.0 c.in-Some.session.0) c.self.view_is c.in-Some.ensures)
     (λ s at. c.has_user-has_user.ensures s (ap (λ (w : World). session_of w.sessions c.in-Some.session.0) c.self.view_is ∙ at))
-    ((rw c.in-Err-Refused.field-0-is at c.in-Err-Refused.ensures) id) (c.refused.ensures ∙ ap refusal_reply c.in-Err-Refused.code-is) refl
+    (rw c.in-Err-Refused.field-0-is at c.in-Err-Refused.ensures) (c.refused.ensures ∙ ap refusal_reply c.in-Err-Refused.code-is) refl

@@ -4,7 +4,7 @@ use Rattle.afp_serial.proofs.StatusParts.{offsets_found}
 use Rattle.afp_serial.proofs.house.House.status.Goals as goal
 
 pub status_block-requires : goal.status_block-requires
-status_block-requires c = rw c.as_slice.ensures (server_fits _ c.self.invariant)
+status_block-requires c = rw c.as_slice.ensures (server_fits _ c.self.invariant.0)
 
 pub returns-clause-offsets : goal.returns-clause-offsets
 returns-clause-offsets c =

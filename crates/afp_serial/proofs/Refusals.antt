@@ -1,4 +1,4 @@
--- What a refused call is told fits in a frame.
+-- What a refused call is told fits in a frame, and is not Ok.
 use Rattle.std.proofs.Common.{◌≡◌, refl, not, true, ◌&&◌, cond, List, [], ◌∷◌, ℕ, Bool, Option, Some, None}
 use Rattle.std.specs.Prelude.{is_none}
 use Rattle.std.specs.List.{list_all}
@@ -9,41 +9,42 @@ use Rattle.afp_base.specs.declared.code.Code.TheVariants.{CallNotSupported, User
 use Rattle.afp_requests.specs.Spelt.{is_command, spelt_call}
 use Rattle.afp_requests.specs.declared.call.Call.{Call}
 use Rattle.afp_serial.proofs.RowsSound.{row-sound}
-use Rattle.afp_serial.proofs.SoundRow.{is_short}
+use Rattle.afp_serial.proofs.SoundRow.{is_refused}
 use Rattle.afp_serial.specs.CallRow.{Refusal, plain}
 use Rattle.afp_serial.specs.Rows.{row}
+use Rattle.afp_serial.specs.Sound.{IsSound}
 use Rattle.afp_serial.specs.Steps.{Verdict, repeats, refused, runs, block_of, enclosed_of, needs_user, verdict_of_row, verdict_of_spelling, verdict_of_block, verdict_of_kept, verdict}
 use Rattle.afp_serial.specs.World.{World, Session}
 
 abbrev pub refuses_shortly : Verdict → Bool
 refuses_shortly (repeats answer) = true
-refuses_shortly (refused r) = is_short r.reply
+refuses_shortly (refused r) = is_refused r
 refuses_shortly (runs call) = true
 
-first-short : (call : Call) (rows : List Refusal) → list_all (λ r. is_short r.1.reply) rows ≡ true → refuses_shortly (verdict_of_row call (first_holding rows)) ≡ true
+first-short : (call : Call) (rows : List Refusal) → list_all (λ r. is_refused r.1) rows ≡ true → refuses_shortly (verdict_of_row call (first_holding rows)) ≡ true
 first-short call [] h = refl
 first-short call (row ∷ rows) h =
-    let e = and_parts (is_short row.1.reply) (list_all (λ r. is_short r.1.reply) rows) h in
+    let e = and_parts (is_refused row.1) (list_all (λ r. is_refused r.1) rows) h in
     cond_both row.0 (Some row.1) (first_holding rows) (λ o. refuses_shortly (verdict_of_row call o) ≡ true) (λ holds. e.0) (λ other. first-short call rows e.1)
 
-spelling-short : (w : World) (s : Session) (spelt : Option Call) → refuses_shortly (verdict_of_spelling w s spelt) ≡ true
-spelling-short w s None = refl
-spelling-short w s (Some call) = first-short call ((row call).refusals w s) ((row-sound call).refusals_fit w s)
+spelling-short : (w : World) (s : Session) (spelt : Option Call) → IsSound w → refuses_shortly (verdict_of_spelling w s spelt) ≡ true
+spelling-short w s None h = refl
+spelling-short w s (Some call) h = first-short call ((row call).refusals w s) ((row-sound call).refuses w s h)
 
-block-short : (w : World) (s : Session) (r : Request) (block : List ℕ) → refuses_shortly (verdict_of_block w s r block) ≡ true
-block-short w s r [] = refl
-block-short w s r (command ∷ fields) =
+block-short : (w : World) (s : Session) (r : Request) (block : List ℕ) → IsSound w → refuses_shortly (verdict_of_block w s r block) ≡ true
+block-short w s r [] h = refl
+block-short w s r (command ∷ fields) h =
     cond_both (not (is_command command)) (refused (plain CallNotSupported)) behind (λ v. refuses_shortly v ≡ true) (λ unknown. refl)
     (λ known. cond_both (is_none s.user && needs_user command) (refused (plain UserNotAuth)) (verdict_of_spelling w s (spelt_call (block_of r) (enclosed_of r)))
-    (λ v. refuses_shortly v ≡ true) (λ lacks. refl) (λ has. spelling-short w s (spelt_call (block_of r) (enclosed_of r))))
+    (λ v. refuses_shortly v ≡ true) (λ lacks. refl) (λ has. spelling-short w s (spelt_call (block_of r) (enclosed_of r)) h))
   where
     behind : Verdict
     behind = cond (is_none s.user && needs_user command) (refused (plain UserNotAuth)) (verdict_of_spelling w s (spelt_call (block_of r) (enclosed_of r)))
 
-kept-short : (w : World) (s : Session) (r : Request) (kept : Option Answer) → refuses_shortly (verdict_of_kept w s r kept) ≡ true
-kept-short w s r (Some answer) = refl
-kept-short w s r None = block-short w s r (block_of r)
+kept-short : (w : World) (s : Session) (r : Request) (kept : Option Answer) → IsSound w → refuses_shortly (verdict_of_kept w s r kept) ≡ true
+kept-short w s r (Some answer) h = refl
+kept-short w s r None h = block-short w s r (block_of r) h
 
-pub verdict-short : (w : World) (s : Session) (r : Request) → refuses_shortly (verdict w s r) ≡ true
+pub verdict-short : (w : World) (s : Session) (r : Request) → IsSound w → refuses_shortly (verdict w s r) ≡ true
 unfolding verdict
-verdict-short w s r = kept-short w s r (cached_answer s.cache r)
+verdict-short w s r h = kept-short w s r (cached_answer s.cache r) h
