@@ -9,8 +9,8 @@ use Rattle.afp_volume.proofs.CreateFile.{find-only}
 use Rattle.afp_volume.specs.SoundVolume.{are_named_alike}
 use Rattle.afp_volume.proofs.TestedLists.{never, any-at, find-none, find-passes, none-all}
 use Rattle.afp_volume.specs.Edits.{is_below, is_taken, above, is_another, without}
-use Rattle.afp_volume.specs.SoundVolume.{are_apart, has_apart_names, IsSoundVolume}
-use Rattle.afp_volume.specs.VolumeState.{Row, VolumeState}
+use Rattle.afp_volume.specs.SoundVolume.{are_apart}
+use Rattle.afp_volume.specs.VolumeState.{Row}
 use Rattle.afp_volume.specs.Walk.{row_at, parent_at, child_by_key}
 
 or-false : (b c : Bool) → c ≡ false → (b || c) ≡ b
@@ -55,9 +55,9 @@ any-found test pick (row ∷ rows) s h passes =
     (λ here h. let same : row ≡ s = cc in or_left (test row) (list_any test rows) (ap test same ∙ passes))
     (λ other h. or_right (test row) (list_any test rows) (any-found test pick rows s h passes)) h
 
-pub taken-by-key : (v : VolumeState) (node dir : ℕ) (name : List ℕ) → IsSoundVolume v → is_taken v.rows node dir name ≡ is_another node (child_by_key v.rows dir (name_key name))
-unfolding is_taken child_by_key without has_apart_names
-taken-by-key v node dir name s = by (find pick v.rows) refl
+pub taken-by-key : (rows : List Row) (node dir : ℕ) (name : List ℕ) → are_apart are_named_alike rows ≡ true → is_taken rows node dir name ≡ is_another node (child_by_key rows dir (name_key name))
+unfolding is_taken child_by_key without
+taken-by-key rows node dir name apart = by (find pick rows) refl
   where
     pick : Row → Bool
     pick row = (row.parent == dir) && bytes_eq (name_key row.name) (name_key name)
@@ -73,17 +73,17 @@ taken-by-key v node dir name s = by (find pick v.rows) refl
         (eq-eqb a.parent b.parent (eqb-true a.parent dir e.0 ∙ sym (eqb-true b.parent dir f.0)))
         ((bytes_eq-Decides (name_key a.name) (name_key b.name)).1 ((bytes_eq-Decides (name_key a.name) (name_key name)).0 e.1 ∙ sym ((bytes_eq-Decides (name_key b.name) (name_key name)).0 f.1)))
 
-    by : (o : Option Row) → find pick v.rows ≡ o → list_any taken v.rows ≡ is_another node (option_map (λ (row : Row). row.id) o)
-    by None h = not-true-is (list_any taken v.rows) (λ some. any-at taken (λ row. not (pick row)) v.rows some (find-none pick v.rows h)
+    by : (o : Option Row) → find pick rows ≡ o → list_any taken rows ≡ is_another node (option_map (λ (row : Row). row.id) o)
+    by None h = not-true-is (list_any taken rows) (λ some. any-at taken (λ row. not (pick row)) rows some (find-none pick rows h)
         (λ row is other. never (pick row) (and_parts (not (row.id == node)) (pick row) is).1 other))
     by (Some r) h = elim (cases_Bool (r.id == node)) [
-      | inl same ↦ not-true-is (list_any taken v.rows) (λ some.
-          any-at taken (λ row. not (not (row.id == r.id)) || not (pick row)) v.rows some
-          (all-unless (λ row. not (pick row)) (λ row. not (row.id == r.id)) v.rows (find-only are_named_alike pick v.rows r alike s.names h))
+      | inl same ↦ not-true-is (list_any taken rows) (λ some.
+          any-at taken (λ row. not (not (row.id == r.id)) || not (pick row)) rows some
+          (all-unless (λ row. not (pick row)) (λ row. not (row.id == r.id)) rows (find-only are_named_alike pick rows r alike apart h))
           (λ row is only. let e = and_parts (not (row.id == node)) (pick row) is in
           elim (or_cases (not (not (row.id == r.id))) (not (pick row)) only) [
             | inl itself ↦ never (not (row.id == r.id)) (ap (λ n. not (row.id == n)) (eqb-true r.id node same) ∙ e.0) itself
             | inr fails ↦ never (pick row) e.1 fails
           ])) ∙ sym (ap not same)
-      | inr other ↦ any-found taken pick v.rows r h (and_from (not (r.id == node)) (pick r) (ap not other) (find-passes pick v.rows r h)) ∙ sym (ap not other)
+      | inr other ↦ any-found taken pick rows r h (and_from (not (r.id == node)) (pick r) (ap not other) (find-passes pick rows r h)) ∙ sym (ap not other)
     ]

@@ -5,7 +5,7 @@ use Rattle.afp_names.specs.Path.{PathValue, SpellsPath}
 use Rattle.afp_volume.specs.Order.{rises}
 use Rattle.afp_volume.specs.Listing.{row_key, children, listed, is_child, pages}
 use Rattle.afp_volume.specs.VolumeState.{Row, VolumeState, fresh_volume}
-use Rattle.afp_volume.specs.SoundVolume.{has_rising_ids, TakesRow, row_bytes, fork_bytes, most_fork_bytes, IsSoundVolume, leads_to_root, are_apart, has_node}
+use Rattle.afp_volume.specs.SoundVolume.{has_rising_ids, TakesRow, row_bytes, fork_bytes, most_fork_bytes, IsSoundVolume, leads_to_root, are_apart, are_named_alike, has_node}
 use Rattle.afp_volume.specs.Walk.{found, row_at, is_named_path, parent_at, child_by_key}
 use Rattle.afp_volume.specs.Edits.{exchanged, with_row, with_changed, without, is_below, is_taken, above, is_another}
 use Rattle.afp_volume.specs.TreeSteps.{TreeStep, is_named_call, after_steps}
@@ -61,7 +61,7 @@ abbrev pub BelowByParent : Type 0
 BelowByParent = (rows : List Row) (steps node id : ℕ) → are_apart (λ (a : Row) b. a.id == b.id) rows ≡ true → is_below rows (suc steps) node id ≡ ((id == node) || above (parent_at rows id) (is_below rows steps node))
 
 abbrev pub TakenByKey : Type 0
-TakenByKey = (v : VolumeState) (node dir : ℕ) (name : List ℕ) → IsSoundVolume v → is_taken v.rows node dir name ≡ is_another node (child_by_key v.rows dir (name_key name))
+TakenByKey = (rows : List Row) (node dir : ℕ) (name : List ℕ) → are_apart are_named_alike rows ≡ true → is_taken rows node dir name ≡ is_another node (child_by_key rows dir (name_key name))
 
 -- calls one after another, refused or not, keep a volume sound
 abbrev pub StepsKeepSound : Type 0

@@ -1,10 +1,11 @@
 -- What is asked of the children in order is what is asked of the rows.
 use Rattle.std.proofs.Common.{◌≡◌, ◌∙◌, ap, sym, refl, ℕ, ◌≤◌, ◌==◌, Bool, true, false, ◌&&◌, cond, List, [], ◌∷◌, map, Option, Some, None, arith}
-use Rattle.std.specs.Prelude.{slice_get, nat_lt, bytes_eq, option_map}
+use Rattle.std.specs.Prelude.{MatchOption, slice_get, nat_lt, bytes_eq, option_map}
 use Rattle.std.specs.List.{list_all, filter, find}
 use Rattle.std.proofs.lemmas.Bool.{and_from, cond_both, cond-true, cond-false, eqb-true, eq-eqb, le-ltb, lt-ltb}
 use Rattle.std.proofs.lemmas.Option.{slice_get-map}
 use Rattle.std.proofs.lemmas.Slice.Eq.{bytes_eq-Decides}
+use Rattle.afp_base.specs.declared.ids.NodeId.{NodeId}
 use Rattle.afp_names.specs.Name.{name_key}
 use Rattle.afp_volume.proofs.TestedLists.{all-kept, apart-map}
 use Rattle.afp_volume.specs.Listing.{children as in_directory, listed, row_key}
@@ -103,3 +104,17 @@ keeps-root nodes children root child next nodes_are children_are child_is id low
       low = low;
       high = high;
     }
+
+-- an answer, by what it is
+
+pub answered-child : (answer : Option NodeId) (found : Option ℕ) → answer ≡ option_map node_id found → MatchOption answer (found ≡ None) (λ id. found ≡ Some id.0)
+answered-child None None is = refl
+answered-child None (Some n) is = absurd (cc)
+answered-child (Some id) None is = absurd (cc)
+answered-child (Some id) (Some n) is = let same : id ≡ node_id n = cc in ap (λ (q : NodeId). Some q.0) (sym same)
+
+pub answered-nth : (answer : Option NodeId) (found : Option Row) → answer ≡ option_map (λ (row : Row). node_id row.id) found → MatchOption answer (found ≡ None) (λ id. option_map (λ (row : Row). row.id) found ≡ Some id.0)
+answered-nth None None is = refl
+answered-nth None (Some row) is = absurd (cc)
+answered-nth (Some id) None is = absurd (cc)
+answered-nth (Some id) (Some row) is = let same : id ≡ node_id row.id = cc in ap (λ (q : NodeId). Some q.0) (sym same)

@@ -2,17 +2,17 @@
 use Rattle.std.proofs.Common.{◌≡◌, ◌∙◌, ap, sym, refl, subst, ℕ, zero, suc, ◌+◌, ◌==◌, ◌≤◌, ◌<◌, Bool, true, false, not, ◌&&◌, ◌||◌, cond, List, [], ◌∷◌, ◌++◌, length, map, take, drop, inl, inr, Option, Some, None, arith}
 use Rattle.std.specs.Prelude.{slice_get, slice_index_or, slice_set, nat_lt, bytes_eq, option_map}
 use Rattle.std.specs.List.{list_all, list_any, filter, find, insert, remove}
-use Rattle.std.proofs.lemmas.Bool.{and_parts, and_from, cases_Bool, cond_both, cond-true, cond-false, ltb-true, ltb-false, lt-ltb, le-ltb, eqb-true, eqb-false}
+use Rattle.std.proofs.lemmas.Bool.{and_parts, and_from, cases_Bool, cond_both, cond-true, cond-false, ltb-true, ltb-false, lt-ltb, le-ltb, eqb-true, eqb-false, ne_eqb}
 use Rattle.std.proofs.lemmas.Option.{slice_get-get_or}
 use Rattle.afp_names.specs.Name.{name_key}
 use Rattle.afp_volume.proofs.Ordered.{put-rises, order-all}
 use Rattle.afp_volume.proofs.Orders.{gone-rises, changed-rises, rising-ids-differ}
 use Rattle.afp_volume.proofs.Places.{unchanged, nothing-gone, changed-is-set, without-is-remove}
 use Rattle.afp_volume.proofs.Rising.{keys-filter}
-use Rattle.afp_volume.proofs.TestedLists.{all-weaker, all-filter, all-map-where, any-at, none-all, find-none, find-passes}
+use Rattle.afp_volume.proofs.TestedLists.{all-weaker, all-filter, all-map-where, none-all, none-find, find-none, find-passes}
 use Rattle.afp_volume.specs.Edits.{with_changed, change_at, without, at_place, is_taken}
 use Rattle.afp_volume.specs.Order.{put_in, in_order, rises, rises_from}
-use Rattle.afp_volume.specs.SoundVolume.{are_apart, has_node, has_rising_ids, last_next_id}
+use Rattle.afp_volume.specs.SoundVolume.{are_apart, has_rising_ids, last_next_id}
 use Rattle.afp_volume.specs.VolumeState.{Row}
 use Rattle.afp_volume.specs.Walk.{row_at, child_by_key}
 use Rattle.node_rows.proofs.Sorting.{put-comm, order-filter, number_place, same-back}
@@ -267,7 +267,7 @@ id-there rows id i s place read = by rows (place.1 ∙ (at-row rows id i s place
           ap (λ t. t || list_any (λ (row : Row). row.id == id) rs) other ∙ by rs (sym (cond-false (r.id == id) (Some r) (find (λ (row : Row). row.id == id) rs) other) ∙ h)
     ]
 
-none-there : (rows : List Row) (id : ℕ) → row_at rows id ≡ None → list_all (λ (row : Row). not (row.id == id)) rows ≡ true
+pub none-there : (rows : List Row) (id : ℕ) → row_at rows id ≡ None → list_all (λ (row : Row). not (row.id == id)) rows ≡ true
 unfolding row_at
 none-there rows id none = find-none (λ (row : Row). row.id == id) rows none
 
@@ -308,15 +308,10 @@ changed-default change rows id i d rising place = changed-there change rows id i
     default (r ∷ rs) (suc i) e d within = default rs i e d (omega arith)
 
 -- no row has an id above all
-pub none-drawn : (rows : List Row) (id : ℕ) → list_all (λ (row : Row). nat_lt row.id id) rows ≡ true → has_node rows id ≡ false
-none-drawn rows id below = elim (cases_Bool (has_node rows id)) [
-  | inl there ↦ absurd (any-at (λ (row : Row). row.id == id) (λ row. nat_lt row.id id) rows there below
-      (λ row same less. let k : row.id < id = ltb-true row.id id less in let is : row.id ≡ id = eqb-true row.id id same in absurd (omega arith)))
-  | inr none ↦ none
-]
-
-pub others : (rows : List Row) (id : ℕ) → has_node rows id ≡ false → list_all (λ (row : Row). not (row.id == id)) rows ≡ true
-others rows id none = none-all (λ (row : Row). row.id == id) rows (ap not none)
+pub none-drawn : (rows : List Row) (id : ℕ) → list_all (λ (row : Row). nat_lt row.id id) rows ≡ true → row_at rows id ≡ None
+unfolding row_at
+none-drawn rows id below = none-find (λ (row : Row). row.id == id) rows (all-weaker (λ (row : Row). nat_lt row.id id) (λ row. not (row.id == id)) rows
+    (λ row less. let k : row.id < id = ltb-true row.id id less in ap not (ne_eqb row.id id (λ same. omega arith))) below)
 
 -- a free key, as it is asked of the children
 pub free-child : (rows : List Row) (children : List Child) (next : ℕ) (node : Row) (key : List ℕ) → key ≡ name_key node.name → child_by_key rows node.parent key ≡ None → AreKept rows children next → list_all (is_apart (child_of node)) children ≡ true

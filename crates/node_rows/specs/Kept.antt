@@ -1,12 +1,11 @@
 -- What is kept of a volume's nodes (AFP Reference, "Catalog node IDs"; the form is this profile's).
 use Rattle.std.specs.Prelude.{◌≡◌, ℕ, ◌≤◌, ◌<◌, nat_lt, Bool, true, not, ◌&&◌, ◌==◌, bytes_eq, List, [], ◌∷◌, length, Option, Some, None, slice_get, if◌then◌else◌}
 use Rattle.std.specs.List.{list_all}
-use Rattle.afp_base.specs.declared.ids.NodeId.{NodeId}
 use Rattle.afp_volume.specs.Order.{rises}
 use Rattle.afp_volume.specs.SoundVolume.{has_rising_ids, last_next_id}
 use Rattle.afp_volume.specs.VolumeState.{Row, first_id}
 use Rattle.afp_volume.specs.Walk.{row_at}
-use Rattle.node_rows.specs.Children.{child_order, children_of, node_id}
+use Rattle.node_rows.specs.Children.{child_order, children_of}
 use Rattle.node_rows.specs.declared.child.Child.{Child}
 use Rattle.node_rows.specs.declared.node.Marks.{Marks}
 
@@ -24,10 +23,6 @@ pub record AreKept (rows : List Row) (children : List Child) (next : ℕ) : Type
   pub below : list_all (λ row. nat_lt row.id next) rows ≡ true
   pub low : first_id ≤ next
   pub high : next ≤ last_next_id
-
--- the next id, until the last one was drawn
-abbrev pub next_of : ℕ → Option NodeId
-next_of next = if nat_lt next last_next_id then Some (node_id next) else None
 
 -- rows with one more, before the first whose id is higher
 abbrev pub admitted : Row → List Row → List Row

@@ -1,10 +1,11 @@
 //! One node or child more, less or changed, at its place. None of these takes memory.
-ghost use Rattle.std.specs.Prelude.{◌≡◌, ◌∷◌, ◌+◌, ◌<◌, ◌≤◌, ◌==◌, true, false, not, length, slice_set, slice_index_or, vec_len, vec_capacity, position};
+ghost use Rattle.std.specs.Prelude.{◌≡◌, ◌∷◌, ◌+◌, ◌<◌, ◌≤◌, ◌==◌, true, None, length, slice_set, slice_index_or, vec_len, vec_capacity, position};
 ghost use Rattle.std.specs.List.{list_any, list_all, filter};
 ghost use Rattle.afp_volume.specs.Edits.{at_place};
 ghost use Rattle.afp_volume.specs.Order.{put_in, rises};
-ghost use Rattle.afp_volume.specs.SoundVolume.{are_apart, has_node, has_rising_ids};
+ghost use Rattle.afp_volume.specs.SoundVolume.{are_apart, has_rising_ids};
 ghost use Rattle.afp_volume.specs.VolumeState.{Row};
+ghost use Rattle.afp_volume.specs.Walk.{row_at};
 ghost use Rattle.node_rows.specs.Children.{child_order};
 ghost use Rattle.node_rows.specs.Kept.{admitted, marked, is_apart, is_other, is_child_at};
 
@@ -17,7 +18,7 @@ use afp_names::Name;
 /// Puts a node at the place of its id.
 pub(crate) fn put_node(nodes: &mut Vec<Node>, node: Node)
     requires rising { has_rising_ids nodes.old.items ≡ true }
-    requires new { has_node nodes.old.items node.id ≡ false }
+    requires new { row_at nodes.old.items node.id ≡ None }
     requires room { vec_len nodes.old < vec_capacity nodes.old }
     ensures items { nodes.new.items ≡ admitted node nodes.old.items }
     ensures len { vec_len nodes.new ≡ vec_len nodes.old + 1 }

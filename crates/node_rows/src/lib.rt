@@ -10,3 +10,6 @@ mod search;
 pub use child::Child;
 pub use node::{Marks, Node};
 pub use rows::Rows;
+
+#[cfg(test)]
+mod tests;

@@ -1,16 +1,16 @@
 //! The nodes of a volume.
-ghost use Rattle.std.specs.Prelude.{◌≡◌, ◌+◌, ◌<◌, ◌≤◌, ◌^◌, ◌++◌, ◌∷◌, [], true, false, None, length, option_map, slice_get, min, IfOk, OnOk, OnErr, vec_len, vec_capacity};
+ghost use Rattle.std.specs.Prelude.{◌≡◌, ◌+◌, ◌<◌, ◌≤◌, ◌^◌, ◌++◌, ◌∷◌, [], true, false, None, Some, length, MatchOption, option_map, slice_get, min, IfOk, OnOk, OnErr, vec_len, vec_capacity};
 ghost use Rattle.std.specs.Option.{option_copied};
 ghost use Rattle.std.specs.List.{list_all};
 ghost use Rattle.afp_names.specs.Name.{name_key};
 ghost use Rattle.afp_volume.specs.Edits.{at_place, is_taken, with_changed, without};
 ghost use Rattle.afp_volume.specs.Listing.{listed};
 ghost use Rattle.afp_volume.specs.Order.{put_in, rises};
-ghost use Rattle.afp_volume.specs.SoundVolume.{are_apart, are_named_alike, has_node, has_rising_ids};
+ghost use Rattle.afp_volume.specs.SoundVolume.{are_apart, are_named_alike, has_rising_ids};
 ghost use Rattle.afp_volume.specs.VolumeState.{Row};
 ghost use Rattle.afp_volume.specs.Walk.{child_by_key, row_at};
-ghost use Rattle.node_rows.specs.Children.{child_of, child_order, children_of, node_id};
-ghost use Rattle.node_rows.specs.Kept.{admitted, is_apart, marked, next_of};
+ghost use Rattle.node_rows.specs.Children.{child_of, child_order, children_of};
+ghost use Rattle.node_rows.specs.Kept.{admitted, is_apart, marked};
 
 use crate::child::Child;
 use crate::edit::{put_at, put_child, put_node, set_marks, take_child};
@@ -76,14 +76,14 @@ impl Rows {
 
     /// The child of a directory whose name has this key.
     pub fn child(&self, dir: NodeId, key: &[u8]) -> Option<NodeId>
-        ensures { result ≡ option_map node_id (child_by_key self.now.rows dir.0 key.now) }
+        ensures { MatchOption result (child_by_key self.now.rows dir.0 key.now ≡ None) (λ id. child_by_key self.now.rows dir.0 key.now ≡ Some id.0) }
     {
         find_child(self.children.as_slice(), dir, key)
     }
 
     /// The child at a place of a directory's list, which goes by the keys of names and counts from 0.
     pub fn nth(&self, dir: NodeId, i: usize) -> Option<NodeId>
-        ensures { result ≡ option_map (λ (row : Row). node_id row.id) (slice_get (listed self.now.rows dir.0) i) }
+        ensures { MatchOption result (slice_get (listed self.now.rows dir.0) i ≡ None) (λ id. option_map (λ (row : Row). row.id) (slice_get (listed self.now.rows dir.0) i) ≡ Some id.0) }
     {
         nth_child(self.children.as_slice(), dir, i)
     }
@@ -97,7 +97,7 @@ impl Rows {
 
     /// The id that the next new node draws. `None`: the last id, 4,294,967,295, was drawn.
     pub fn next_id(&self) -> Option<NodeId>
-        ensures { result ≡ next_of self.now.next_id }
+        ensures { MatchOption result (self.now.next_id ≡ 2 ^ 32) (λ id. self.now.next_id ≡ id.0) }
     {
         match u32::try_from(self.next) {
             Ok(next) => Some(NodeId(next)),
@@ -151,7 +151,7 @@ impl Rows {
     pub fn admit(&mut self, node: Node, key: Bytes)
         requires drawn { node.id < self.old.next_id }
         requires low { 17 ≤ node.id }
-        requires new { has_node self.old.rows node.id ≡ false }
+        requires new { row_at self.old.rows node.id ≡ None }
         requires key { key ≡ name_key node.name }
         requires free { child_by_key self.old.rows node.parent key ≡ None }
         requires room { 1 ≤ self.old.spare }
@@ -231,7 +231,7 @@ fn parent_of(node: &Node) -> NodeId
 fn put_both(nodes: &mut Vec<Node>, children: &mut Vec<Child>, node: Node, key: Bytes)
     requires rising { has_rising_ids nodes.old.items ≡ true }
     requires order { rises child_order children.old.items ≡ true }
-    requires new { has_node nodes.old.items node.id ≡ false }
+    requires new { row_at nodes.old.items node.id ≡ None }
     requires key { key ≡ name_key node.name }
     requires free { list_all (is_apart (child_of node)) children.old.items ≡ true }
     requires nodes_room { vec_len nodes.old < vec_capacity nodes.old }

@@ -1,12 +1,12 @@
-use Rattle.std.proofs.Common.{◌≡◌, ◌∙◌, ap, sym, subst, ◌+◌, ◌<◌, ◌≤◌, List, [], ◌∷◌, ◌++◌, None, false, arith}
+use Rattle.std.proofs.Common.{◌≡◌, ◌∙◌, ap, sym, subst, ◌+◌, ◌<◌, ◌≤◌, List, [], ◌∷◌, ◌++◌, None, arith}
 use Rattle.std.specs.Prelude.{nat_lt}
 use Rattle.std.specs.List.{list_all}
-use Rattle.afp_volume.specs.SoundVolume.{has_node, last_next_id}
+use Rattle.afp_volume.specs.SoundVolume.{last_next_id}
 use Rattle.afp_volume.specs.VolumeState.{Row}
-use Rattle.afp_volume.specs.Walk.{child_by_key}
+use Rattle.afp_volume.specs.Walk.{child_by_key, row_at}
 use Rattle.node_rows.specs.Kept.{AreKept, RowsValue, admitted}
 use Rattle.node_rows.specs.declared.child.Child.{Child}
-use Rattle.node_rows.proofs.Keeping.{free-child, free-apart, none-drawn, others, keeps-new, admitted-last}
+use Rattle.node_rows.proofs.Keeping.{free-child, free-apart, none-drawn, none-there, keeps-new, admitted-last}
 use Rattle.node_rows.proofs.rows.Rows.insert.Goals as goal
 
 pub put_both-requires-clause-new : goal.put_both-requires-clause-new
@@ -27,12 +27,12 @@ invariant_of-self c =
     let children : List Child = c.self.inside.children.items in
     let free : child_by_key rows c.args.node.parent c.args.key ≡ None = ap (λ (v : RowsValue). child_by_key v.rows c.args.node.parent c.args.key) c.self.view_is ∙ c.requires.free in
     let next : c.self.inside.next ≡ c.args.node.id = ap (λ (v : RowsValue). v.next_id) c.self.view_is ∙ sym c.requires.id in
-    let new : has_node rows c.args.node.id ≡ false = none-drawn rows c.args.node.id (ap (λ n. list_all (λ (row : Row). nat_lt row.id n) rows) (sym next) ∙ c.self.invariant.below) in
+    let new : row_at rows c.args.node.id ≡ None = none-drawn rows c.args.node.id (ap (λ n. list_all (λ (row : Row). nat_lt row.id n) rows) (sym next) ∙ c.self.invariant.below) in
     let low : 17 ≤ c.self.inside.next = c.self.invariant.low in
     let fits : c.args.node.id < last_next_id = c.put_both.ensures.id in
     subst (λ l. AreKept l c.put_both.new.children.items (c.self.inside.next + 1)) (sym c.put_both.ensures.nodes)
     (subst (λ l. AreKept (admitted c.args.node rows) l (c.self.inside.next + 1)) (sym c.put_both.ensures.children)
-    (keeps-new c.args.node rows children c.self.inside.next (c.self.inside.next + 1) (others rows c.args.node.id new) (free-apart c.args.node rows c.args.key c.requires.key free)
+    (keeps-new c.args.node rows children c.self.inside.next (c.self.inside.next + 1) (none-there rows c.args.node.id new) (free-apart c.args.node rows c.args.key c.requires.key free)
     (omega arith) (omega arith) (omega arith) (omega arith) c.self.invariant))
 
 pub returns-clause-rows : goal.returns-clause-rows
