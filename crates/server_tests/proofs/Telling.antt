@@ -1,0 +1,53 @@
+-- A teller of tests: from a fresh world it opens at most one session.
+use Rattle.std.proofs.Common.{◌≡◌, ℕ, [], ◌∷◌, map, refl, sym, subst, append-nil, arith}
+use Rattle.std.specs.Prelude.{Option, Some, None}
+use Rattle.std.specs.Option.{option_to_list}
+use Rattle.afp_base.specs.declared.ids.LinkNumber.{LinkNumber}
+use Rattle.afp_serial.specs.declared.ask.Ask.{Ask}
+use Rattle.afp_serial.specs.declared.ask.Ask.TheVariants as asks
+use Rattle.afp_serial.specs.declared.ask.Outcome.TheVariants as outcomes
+use Rattle.afp_serial.specs.declared.ask.Told.{Told}
+use Rattle.afp_serial.specs.declared.ask.Told.TheVariants as tells
+use Rattle.afp_serial.specs.Answer.{answer_at}
+use Rattle.afp_serial.specs.History.{entry}
+use Rattle.afp_serial.specs.Shown.{Shown, Asked}
+use Rattle.afp_serial.specs.World.{fresh_world}
+
+-- what it shows, by the session that it opened
+abbrev pub shown_of : {X : Type 0} → (X → ℕ) → (X → LinkNumber) → (X → ℕ) → Option X → Shown
+shown_of at link attention opened = record {
+  start = fresh_world (record { server = 65 ∷ []; signature = []; users = []; volumes = (65 ∷ []) ∷ []; message = []; token_key = [] }) 0;
+  history = map (λ o. entry (at o) (link o) (asks.Open (attention o)) outcomes.Done) (option_to_list opened);
+  mine = map (λ o. 0) (option_to_list opened);
+  faults = 0;
+}
+
+abbrev pub link_one : LinkNumber
+link_one = record { 0 = 1 }
+
+first : {X : Type 0} (at : X → ℕ) (link : X → LinkNumber) (attention : X → ℕ) (o : X)
+    → Asked (shown_of at link attention None) (at o) (link o) (asks.Open (attention o)) (tells.Opened link_one) (shown_of at link attention (Some o))
+unfolding answer_at
+first at link attention o = record { between = []; outcome = outcomes.Done; start = refl; history = refl; mine = refl; serial = refl; faults = (omega arith, omega arith) }
+
+-- the one session is opened on link 1
+pub opens : {X : Type 0} (at : X → ℕ) (link : X → LinkNumber) (attention : X → ℕ) (o : X) (before after : Option X) (ask : Ask) (told : Told)
+    → before ≡ None → after ≡ Some o → ask ≡ asks.Open (attention o) → told ≡ tells.Opened link_one
+    → Asked (shown_of at link attention before) (at o) (link o) ask told (shown_of at link attention after)
+opens at link attention o before after ask told none some is opened =
+    subst (λ b. Asked (shown_of at link attention b) (at o) (link o) ask told (shown_of at link attention after)) (sym none)
+    (subst (λ b. Asked (shown_of at link attention None) (at o) (link o) ask told (shown_of at link attention b)) (sym some)
+    (subst (λ a. Asked (shown_of at link attention None) (at o) (link o) a told (shown_of at link attention (Some o))) (sym is)
+    (subst (λ t. Asked (shown_of at link attention None) (at o) (link o) (asks.Open (attention o)) t (shown_of at link attention (Some o))) (sym opened)
+    (first at link attention o))))
+
+still : (a : Shown) (now : ℕ) (link : LinkNumber) (ask : Ask) → Asked a now link ask tells.Memory a
+still a now link ask = record { between = []; start = refl; history = sym (append-nil a.history); mine = refl; faults = (omega arith, omega arith) }
+
+-- for every other ask there is no memory
+pub stays : {X : Type 0} (at : X → ℕ) (link : X → LinkNumber) (attention : X → ℕ) (before after : Option X) (now : ℕ) (l : LinkNumber) (ask : Ask) (told : Told)
+    → after ≡ before → told ≡ tells.Memory → Asked (shown_of at link attention before) now l ask told (shown_of at link attention after)
+stays at link attention before after now l ask told same memory =
+    subst (λ b. Asked (shown_of at link attention before) now l ask told (shown_of at link attention b)) (sym same)
+    (subst (λ t. Asked (shown_of at link attention before) now l ask t (shown_of at link attention before)) (sym memory)
+    (still (shown_of at link attention before) now l ask))
