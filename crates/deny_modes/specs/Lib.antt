@@ -1,0 +1,4 @@
+pub mod Apart
+pub mod Counters
+pub mod ForkOrder
+pub mod Opens

@@ -1,0 +1,10 @@
+//! The opens of forks, with what each may do and denies to others (AFP Reference, FPOpenFork).
+#![tactic(auto)]
+
+mod fork;
+mod opens;
+#[cfg(test)]
+mod tests;
+
+pub use fork::{ForkKey, Mode};
+pub use opens::Opens;
