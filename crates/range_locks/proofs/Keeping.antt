@@ -1,0 +1,351 @@
+-- The rows of each fork tell what the list of locks tells, after each call.
+use Rattle.std.proofs.Common.{◌≡◌, ◌∙◌, refl, sym, ap, subst, ℕ, zero, suc, ◌+◌, ◌-◌, ◌<◌, ◌≤◌, Bool, true, false, cond, not, ◌&&◌, ◌||◌, ◌==◌, if◌then◌else◌, List, [], ◌∷◌, length, filter, Option, Some, None, unwrap_or, inl, inr, arith}
+use Rattle.std.specs.Prelude.{nat_lt, nat_le, slice_index_or}
+use Rattle.std.specs.Cmp.{both_ways}
+use Rattle.std.specs.List.{list_any, insert}
+use Rattle.std.specs.List.Sorted.{IsNonDecreasingBy}
+use Rattle.std.proofs.lemmas.Bool.{cases_lt}
+use Rattle.std.proofs.lemmas.Bool.Decides.{nat_tests}
+use Rattle.std.proofs.lemmas.List.Folds.{Any-from_list_any, list_any_at, list_any-append}
+use Rattle.std.proofs.lemmas.List.Edits.{length-insert, get_or-insert_below, get_or-insert_at, get_or-insert_above}
+use Rattle.std.proofs.lemmas.List.Sorted.{IsNonDecreasingBy-insert}
+use Rattle.afp_base.specs.Choice.{first_holding}
+use Rattle.afp_base.specs.DenyMode.{Fork, is_one_fork}
+use Rattle.afp_base.specs.Overlap.{Range, do_meet, do_overlap}
+use Rattle.deny_modes.specs.Apart.{are_apart}
+use Rattle.deny_modes.proofs.Forks.{same_fork, itself, either_way}
+use Rattle.range_locks.specs.declared.fault.LockFault.{LockFault}
+use Rattle.range_locks.specs.declared.fault.LockFault.TheVariants.{Locked, Overlap, Full, Memory}
+use Rattle.range_locks.specs.declared.rows.LockRow.{LockRow}
+use Rattle.range_locks.specs.declared.rows.Seen.{Seen}
+use Rattle.range_locks.specs.Locks.{Lock, are_overlapping, is_met_by_other, is_met_by_own, count_held, most_locks, lock_refusal, with_lock, is_row, are_one_row, AreInOrder, AreIntervals}
+use Rattle.range_locks.specs.Kept.{rows_at, holder_of, IsBehind, IsBefore, IsKept}
+use Rattle.range_locks.specs.Seen.{IsSeen}
+
+-- ---- tests
+or_parts : (a b : Bool) → (a || b) ≡ false → (a ≡ false) × (b ≡ false)
+or_parts true b h = absurd (cc h)
+or_parts false b h = (refl, h)
+
+and_parts : (a b : Bool) → (a && b) ≡ true → (a ≡ true) × (b ≡ true)
+and_parts true b h = (refl, h)
+and_parts false b h = absurd (cc h)
+
+and_from : (a b : Bool) → a ≡ true → b ≡ true → (a && b) ≡ true
+and_from a b h k = λ i. h i && k i
+
+and_assoc : (a b c : Bool) → ((a && b) && c) ≡ (a && (b && c))
+and_assoc true b c = refl
+and_assoc false b c = refl
+
+not_true : (a : Bool) → not a ≡ true → a ≡ false
+not_true true h = absurd (cc h)
+not_true false h = refl
+
+or_swap : (a b c : Bool) → (a || (b || c)) ≡ (b || (a || c))
+or_swap true true c = refl
+or_swap true false c = refl
+or_swap false b c = refl
+
+and_turns : (a b : Bool) → (a && b) ≡ (b && a)
+and_turns true true = refl
+and_turns true false = refl
+and_turns false true = refl
+and_turns false false = refl
+
+one_number : (m n : ℕ) → (m == n) ≡ true → m ≡ n
+one_number m n h = grind (arith, nat_tests, h)
+
+number_itself : (m : ℕ) → (m == m) ≡ true
+number_itself m = grind (arith, nat_tests)
+
+any_gives : {A : Type 0} (r s : A → Bool) (xs : List A) → ((x : A) → r x ≡ s x) → list_any r xs ≡ list_any s xs
+any_gives r s [] same = refl
+any_gives r s (x ∷ xs) same = λ i. same x i || any_gives r s xs same i
+
+any_new : (p : Lock → Bool) (new : Lock) (ls : List Lock) → list_any p (with_lock new ls) ≡ (p new || list_any p ls)
+any_new p new [] = refl
+any_new p new (l ∷ ls) = elim (nat_lt new.reference l.reference) as (λ b. list_any p (if b then new ∷ l ∷ ls else l ∷ with_lock new ls) ≡ (p new || (p l || list_any p ls))) [
+  | true ↦ refl
+  | false ↦ ap (λ t. p l || t) (any_new p new ls) ∙ or_swap (p l) (p new) (list_any p ls)
+]
+
+any_insert : (p : LockRow → Bool) (row : LockRow) (rows : List LockRow) (i : ℕ) → list_any p (insert rows i row) ≡ (p row || list_any p rows)
+any_insert p row rows zero = refl
+any_insert p row [] (suc i) = refl
+any_insert p row (x ∷ xs) (suc i) = ap (λ t. p x || t) (any_insert p row xs i) ∙ or_swap (p x) (p row) (list_any p xs)
+
+-- ---- a test of a fork's rows is a test of its locks
+abbrev row_of : Lock → LockRow
+row_of l = record { range = l.range; reference = record { 0 = l.reference } }
+
+same_row : (a b : LockRow) → are_one_row a b ≡ true → a ≡ b
+same_row a b h =
+    let first = and_parts (a.reference.0 == b.reference.0) ((a.range.from == b.range.from) && (a.range.to == b.range.to)) h in
+    let ends = and_parts (a.range.from == b.range.from) (a.range.to == b.range.to) first.1 in
+    let reference = one_number a.reference.0 b.reference.0 first.0 in
+    let from = one_number a.range.from b.range.from ends.0 in
+    let to = one_number a.range.to b.range.to ends.1 in
+    λ i. record { range = record { from = from i; to = to i }; reference = record { 0 = reference i } }
+
+row_itself : (a : LockRow) → are_one_row a a ≡ true
+row_itself a = λ i. number_itself a.reference.0 i && (number_itself a.range.from i && number_itself a.range.to i)
+
+rows_tell : (locks : List Lock) (fork : Fork) (rows : List LockRow) (p : LockRow → Bool) → ((row : LockRow) → list_any (are_one_row row) rows ≡ list_any (λ l. is_one_fork l.fork fork && is_row row l) locks)
+    → list_any p rows ≡ list_any (λ l. is_one_fork l.fork fork && p (row_of l)) locks
+rows_tell locks fork rows p same = both_ways _ _
+    (λ h.
+        let f = Any-from_list_any p rows h in
+        let there = list_any_at (are_one_row f.1) rows f.0 f.1 f.2 (ap (are_one_row f.1) f.3 ∙ row_itself f.1) in
+        let g = Any-from_list_any (λ l. is_one_fork l.fork fork && is_row f.1 l) locks (sym (same f.1) ∙ there) in
+        let parts = and_parts (is_one_fork g.1.fork fork) (is_row f.1 g.1) g.4 in
+        list_any_at (λ l. is_one_fork l.fork fork && p (row_of l)) locks g.0 g.1 g.2
+        (ap (λ l. is_one_fork l.fork fork && p (row_of l)) g.3 ∙ and_from _ _ parts.0 (sym (ap p (same_row f.1 (row_of g.1) parts.1)) ∙ f.4)))
+    (λ h.
+        let g = Any-from_list_any (λ l. is_one_fork l.fork fork && p (row_of l)) locks h in
+        let parts = and_parts (is_one_fork g.1.fork fork) (p (row_of g.1)) g.4 in
+        let there = list_any_at (λ l. is_one_fork l.fork fork && is_row (row_of g.1) l) locks g.0 g.1 g.2 (ap (λ l. is_one_fork l.fork fork && is_row (row_of g.1) l) g.3 ∙ and_from _ _ parts.0 (row_itself (row_of g.1))) in
+        let f = Any-from_list_any (are_one_row (row_of g.1)) rows (same (row_of g.1) ∙ there) in
+        list_any_at p rows f.0 f.1 f.2 (ap p f.3 ∙ sym (ap p (same_row (row_of g.1) f.1 f.4)) ∙ parts.1))
+
+pub seen_other : {locks : List Lock} {fork : Fork} {rows : List LockRow} {r : ℕ} {range : Range} {seen : Seen} → AreIntervals locks fork rows → IsSeen rows r range seen → seen.other ≡ is_met_by_other locks fork r range
+seen_other {locks} {fork} {rows} {r} {range} i s =
+    s.other ∙ rows_tell locks fork rows (λ row. do_meet row.range range && not (row.reference.0 == r)) i.same
+    ∙ any_gives (λ l. is_one_fork l.fork fork && (do_meet l.range range && not (l.reference == r))) (λ l. do_overlap l.fork l.range fork range && not (l.reference == r)) locks (λ l. sym (and_assoc (is_one_fork l.fork fork) (do_meet l.range range) (not (l.reference == r))))
+
+pub seen_own : {locks : List Lock} {fork : Fork} {rows : List LockRow} {r : ℕ} {range : Range} {seen : Seen} → AreIntervals locks fork rows → IsSeen rows r range seen → seen.own ≡ is_met_by_own locks fork r range
+seen_own {locks} {fork} {rows} {r} {range} i s =
+    s.own ∙ rows_tell locks fork rows (λ row. do_meet row.range range && (row.reference.0 == r)) i.same
+    ∙ any_gives (λ l. is_one_fork l.fork fork && (do_meet l.range range && (l.reference == r))) (λ l. do_overlap l.fork l.range fork range && (l.reference == r)) locks (λ l. sym (and_assoc (is_one_fork l.fork fork) (do_meet l.range range) (l.reference == r)))
+
+-- ---- places by reference
+pub put_behind : (ls : List Lock) (new : Lock) (place : ℕ) → IsBehind ls new.reference place → insert ls place new ≡ with_lock new ls
+put_behind [] new zero b = refl
+put_behind [] new (suc place) b = absurd (omega (arith, b.within))
+put_behind (l ∷ ls) new zero b =
+    let h : true ≡ nat_lt new.reference l.reference = (let f = b.rest 0 l (omega arith) (omega arith) in grind (arith, nat_tests, f)) in
+    ap (λ t. if t then new ∷ l ∷ ls else l ∷ with_lock new ls) h
+put_behind (l ∷ ls) new (suc place) b =
+    let h : false ≡ nat_lt new.reference l.reference = (let f = b.front 0 l (omega arith) in grind (arith, nat_tests, f)) in
+    ap (λ rest. l ∷ rest) (put_behind ls new place (record { within = omega (arith, b.within); front = λ k d less. b.front (suc k) d (omega arith); rest = λ k d low high. b.rest (suc k) d (omega arith) (omega arith) }))
+    ∙ ap (λ t. if t then new ∷ l ∷ ls else l ∷ with_lock new ls) h
+
+count_none : (ls : List Lock) (r : ℕ) → ((k : ℕ) (d : Lock) → k < length ls → nat_le (holder_of (slice_index_or ls k d)) r ≡ false) → count_held r ls ≡ 0
+count_none [] r none = refl
+count_none (l ∷ ls) r none =
+    let other : (l.reference == r) ≡ false = (let f = none 0 l (omega arith) in grind (arith, nat_tests, f)) in
+    ap (λ b. length (if b then l ∷ filter (λ x. x.reference == r) ls else filter (λ x. x.reference == r) ls)) other ∙ count_none ls r (λ k d less. none (suc k) d (omega arith))
+
+pub count_between : (ls : List Lock) (r first last : ℕ) → IsBefore ls r first → IsBehind ls r last → first + count_held r ls ≡ last
+count_between [] r first last a b = omega (arith, a.within, b.within)
+count_between (l ∷ ls) r zero zero a b = let none = count_none (l ∷ ls) r (λ k d less. b.rest k d (omega arith) less) in omega (arith, none)
+count_between (l ∷ ls) r zero (suc last) a b =
+    let same : (l.reference == r) ≡ true = (let f = a.rest 0 l (omega arith) (omega arith) in let g = b.front 0 l (omega arith) in grind (arith, nat_tests, f, g)) in
+    let more = count_between ls r zero last (record { within = omega arith; front = λ k d less. absurd (omega arith); rest = λ k d low high. a.rest (suc k) d (omega arith) (omega arith) })
+        (record { within = omega (arith, b.within); front = λ k d less. b.front (suc k) d (omega arith); rest = λ k d low high. b.rest (suc k) d (omega arith) (omega arith) }) in
+    let here : count_held r (l ∷ ls) ≡ suc (count_held r ls) = ap (λ t. length (if t then l ∷ filter (λ x. x.reference == r) ls else filter (λ x. x.reference == r) ls)) same in
+    omega (arith, more, here)
+count_between (l ∷ ls) r (suc first) zero a b = absurd (let f = a.front 0 l (omega arith) in let g = b.rest 0 l (omega arith) (omega arith) in grind (arith, nat_tests, f, g))
+count_between (l ∷ ls) r (suc first) (suc last) a b =
+    let other : (l.reference == r) ≡ false = (let f = a.front 0 l (omega arith) in grind (arith, nat_tests, f)) in
+    let more = count_between ls r first last (record { within = omega (arith, a.within); front = λ k d less. a.front (suc k) d (omega arith); rest = λ k d low high. a.rest (suc k) d (omega arith) (omega arith) })
+        (record { within = omega (arith, b.within); front = λ k d less. b.front (suc k) d (omega arith); rest = λ k d low high. b.rest (suc k) d (omega arith) (omega arith) }) in
+    let here : count_held r (l ∷ ls) ≡ count_held r ls = ap (λ t. length (if t then l ∷ filter (λ x. x.reference == r) ls else filter (λ x. x.reference == r) ls)) other in
+    omega (arith, more, here)
+
+-- ---- a lock that is set
+apart_new : (new : Lock) (ls : List Lock) → list_any (λ l. are_overlapping l new) ls ≡ false → are_apart are_overlapping ls ≡ true → are_apart are_overlapping (with_lock new ls) ≡ true
+apart_new new [] none h = refl
+apart_new new (l ∷ ls) none h =
+    let parts = or_parts (are_overlapping l new) (list_any (λ x. are_overlapping x new) ls) none in
+    let rest = and_parts (not (list_any (are_overlapping l) ls)) (are_apart are_overlapping ls) h in
+    elim (nat_lt new.reference l.reference) as (λ b. are_apart are_overlapping (if b then new ∷ l ∷ ls else l ∷ with_lock new ls) ≡ true) [
+      | true ↦ and_from _ _ (ap not (any_gives (are_overlapping new) (λ x. are_overlapping x new) (l ∷ ls) (λ x. turns new x) ∙ none)) h
+      | false ↦ and_from _ _ (ap not (any_new (are_overlapping l) new ls ∙ (λ i. parts.0 i || not_true (list_any (are_overlapping l) ls) rest.0 i))) (apart_new new ls parts.1 rest.1)
+    ]
+  where
+    turns : (a b : Lock) → are_overlapping a b ≡ are_overlapping b a
+    turns a b = λ i. either_way a.fork b.fork i && and_turns (nat_le a.range.from b.range.to) (nat_le b.range.from a.range.to) i
+
+not_met : {locks : List Lock} {fork : Fork} {rows : List LockRow} {r : ℕ} {range : Range} {seen : Seen} → AreIntervals locks fork rows → IsSeen rows r range seen → seen.other ≡ false → seen.own ≡ false → list_any (λ row. do_meet row.range range) rows ≡ false
+not_met {rows = rows} {r = r} {range = range} i s other own = neither rows (sym s.other ∙ other) (sym s.own ∙ own)
+  where
+    neither : (rows : List LockRow) → list_any (λ row. do_meet row.range range && not (row.reference.0 == r)) rows ≡ false → list_any (λ row. do_meet row.range range && (row.reference.0 == r)) rows ≡ false → list_any (λ row. do_meet row.range range) rows ≡ false
+    neither [] a b = refl
+    neither (x ∷ xs) a b =
+        let p = or_parts (do_meet x.range range && not (x.reference.0 == r)) _ a in
+        let q = or_parts (do_meet x.range range && (x.reference.0 == r)) _ b in
+        λ i. off (do_meet x.range range) (x.reference.0 == r) p.0 q.0 i || neither xs p.1 q.1 i
+      where
+        off : (m t : Bool) → (m && not t) ≡ false → (m && t) ≡ false → m ≡ false
+        off true true a b = absurd (cc b)
+        off true false a b = absurd (cc a)
+        off false t a b = refl
+
+abbrev lt : LockRow → LockRow → Bool
+lt a b = nat_lt a.range.to b.range.from
+
+ordered_new : (rows : List LockRow) (range : Range) (reference : ℕ) (seen : Seen) (row : LockRow) → row.range ≡ range → AreInOrder rows → IsSeen rows reference range seen → range.from ≤ range.to → list_any (λ x. do_meet x.range range) rows ≡ false → AreInOrder (insert rows seen.place row)
+ordered_new rows range reference seen row range_is o s ordered none =
+    let place = seen.place in
+    let new = insert rows place row in
+    let len = length-insert rows place row s.within in
+    let low : (i : ℕ) (d : LockRow) → i < place → slice_index_or new i d ≡ slice_index_or rows i d = λ i d h. get_or-insert_below rows place row d i h s.within in
+    let here : (d : LockRow) → slice_index_or new place d ≡ row = λ d. get_or-insert_at rows place row d s.within in
+    let high : (i : ℕ) (d : LockRow) → place ≤ i → slice_index_or new (i + 1) d ≡ slice_index_or rows i d = λ i d h. get_or-insert_above rows place row d i h s.within in
+    let behind : (i : ℕ) (d : LockRow) → place ≤ i → i < length rows → nat_lt range.to (slice_index_or rows i d).range.from ≡ true = λ i d h k. apart i d h k in
+    record {
+      valid = λ i d h. elim (cases_lt i place) [
+        | inl less ↦ ap (λ (x : LockRow). nat_le x.range.from x.range.to) (low i d less) ∙ o.valid i d (omega (arith, s.within))
+        | inr other ↦ elim (cases_lt place i) [
+            | inl above ↦ up i d above (omega (arith, len)) high (λ x. nat_le x.range.from x.range.to) (o.valid (i - 1) d (omega (arith, len)))
+            | inr not_above ↦ let same : i ≡ place = omega arith in
+                ap (λ k. nat_le (slice_index_or new k d).range.from (slice_index_or new k d).range.to) same ∙ ap (λ (x : LockRow). nat_le x.range.from x.range.to) (here d) ∙ (λ j. nat_le (range_is j).from (range_is j).to)
+                ∙ (let f : nat_le range.from range.to ≡ true = grind (arith, nat_tests) in f)
+          ]
+      ];
+      rising = λ i j d less h. elim (cases_lt j place) [
+        | inl j_low ↦ (λ k. lt (low i d (omega arith) k) (low j d j_low k)) ∙ o.rising i j d less (omega (arith, s.within))
+        | inr j_not_low ↦ elim (cases_lt place j) [
+            | inl j_high ↦
+                let at_j : slice_index_or new j d ≡ slice_index_or rows (j - 1) d = one_up j d j_high high in
+                elim (cases_lt i place) [
+                  | inl i_low ↦ (λ k. lt (low i d i_low k) (at_j k)) ∙ o.rising i (j - 1) d (omega arith) (omega (arith, len))
+                  | inr i_not_low ↦ elim (cases_lt place i) [
+                      | inl i_high ↦ (λ k. lt (one_up i d i_high high k) (at_j k)) ∙ o.rising (i - 1) (j - 1) d (omega arith) (omega (arith, len))
+                      | inr i_not_high ↦
+                          let same : i ≡ place = omega arith in
+                          (λ k. lt ((ap (λ n. slice_index_or new n d) same ∙ here d) k) (at_j k)) ∙ (λ k. nat_lt (range_is k).to (slice_index_or rows (j - 1) d).range.from) ∙ behind (j - 1) d (omega arith) (omega (arith, len))
+                    ]
+                ]
+            | inr j_not_high ↦
+                let same : j ≡ place = omega arith in
+                (λ k. lt (low i d (omega arith) k) ((ap (λ n. slice_index_or new n d) same ∙ here d) k)) ∙ (λ k. nat_lt (slice_index_or rows i d).range.to (range_is k).from) ∙ s.before i d (omega arith)
+          ]
+      ];
+    }
+  where
+    one_up : (i : ℕ) (d : LockRow) → seen.place < i → ((k : ℕ) (d : LockRow) → seen.place ≤ k → slice_index_or (insert rows seen.place row) (k + 1) d ≡ slice_index_or rows k d) → slice_index_or (insert rows seen.place row) i d ≡ slice_index_or rows (i - 1) d
+    one_up i d above high = let e : i ≡ i - 1 + 1 = omega arith in ap (λ k. slice_index_or (insert rows seen.place row) k d) e ∙ high (i - 1) d (omega arith)
+
+    up : (i : ℕ) (d : LockRow) → seen.place < i → i < length rows + 1 → ((k : ℕ) (d : LockRow) → seen.place ≤ k → slice_index_or (insert rows seen.place row) (k + 1) d ≡ slice_index_or rows k d) → (p : LockRow → Bool) → p (slice_index_or rows (i - 1) d) ≡ true → p (slice_index_or (insert rows seen.place row) i d) ≡ true
+    up i d above within high p h =
+        let e : i ≡ i - 1 + 1 = omega arith in
+        ap (λ k. p (slice_index_or (insert rows seen.place row) k d)) e ∙ ap p (high (i - 1) d (omega arith)) ∙ h
+
+    apart : (i : ℕ) (d : LockRow) → seen.place ≤ i → i < length rows → nat_lt range.to (slice_index_or rows i d).range.from ≡ true
+    apart i d low within =
+        let x : LockRow = slice_index_or rows i d in
+        let not_before = s.behind i d low within in
+        let not_met = none_at rows i d within none in
+        grind (arith, nat_tests, not_before, not_met)
+      where
+        none_at : (rows : List LockRow) (i : ℕ) (d : LockRow) → i < length rows → list_any (λ x. do_meet x.range range) rows ≡ false → do_meet (slice_index_or rows i d).range range ≡ false
+        none_at [] i d h none = absurd (omega arith)
+        none_at (x ∷ xs) zero d h none = (or_parts (do_meet x.range range) _ none).0
+        none_at (x ∷ xs) (suc i) d h none = none_at xs i d (omega arith) (or_parts (do_meet x.range range) _ none).1
+
+-- what a lock is set on
+pub record Set (locks new_locks : List Lock) (forks new_forks : List (Fork × List LockRow)) (rows : List LockRow) (fork : Fork) (r : ℕ) (range : Range) (seen : Seen) : Type 0 where
+  pub was : IsKept locks forks
+  pub rows_are : rows ≡ rows_at forks fork
+  pub looked : IsSeen rows r range seen
+  pub other : seen.other ≡ false
+  pub own : seen.own ≡ false
+  pub new_rows : (q : Fork) → rows_at new_forks q ≡ (if is_one_fork fork q then insert (rows_at forks fork) seen.place (record { range = range; reference = record { 0 = r } }) else rows_at forks q)
+  pub new_list : new_locks ≡ with_lock (record { reference = r; fork = fork; range = range }) locks
+  pub new_order : IsNonDecreasingBy holder_of new_locks
+
+module _ {locks new_locks : List Lock} {forks new_forks : List (Fork × List LockRow)} {rows : List LockRow} {fork : Fork} {r : ℕ} {range : Range} {seen : Seen} (s : Set locks new_locks forks new_forks rows fork r range seen) where
+  abbrev new : Lock
+  new = record { reference = r; fork = fork; range = range }
+
+  abbrev row : LockRow
+  row = record { range = range; reference = record { 0 = r } }
+
+  looked : IsSeen (rows_at forks fork) r range seen
+  looked = subst (λ l. IsSeen l r range seen) s.rows_are s.looked
+
+  none : list_any (λ x. do_meet x.range range) (rows_at forks fork) ≡ false
+  none = not_met (s.was.intervals fork) looked s.other s.own
+
+  abbrev has : Fork → LockRow → Lock → Bool
+  has q x l = is_one_fork l.fork q && is_row x l
+
+  here : (q : Fork) → is_one_fork fork q ≡ true → AreIntervals new_locks q (insert (rows_at forks fork) seen.place row)
+  here q same = record {
+    order = ordered_new (rows_at forks fork) range r seen row refl (s.was.intervals fork).order looked looked.ordered none;
+    same = λ x. any_insert (are_one_row x) row (rows_at forks fork) seen.place
+        ∙ ap (λ b. are_one_row x row || b) ((s.was.intervals fork).same x ∙ ap (λ f. list_any (has f x) locks) (same_fork fork q same))
+        ∙ sym (ap (list_any (has q x)) s.new_list ∙ any_new (has q x) new locks ∙ ap (λ b. (b && is_row x new) || list_any (has q x) locks) same);
+  }
+
+  there : (q : Fork) → is_one_fork fork q ≡ false → AreIntervals new_locks q (rows_at forks q)
+  there q other = record {
+    order = (s.was.intervals q).order;
+    same = λ x. (s.was.intervals q).same x ∙ sym (ap (list_any (has q x)) s.new_list ∙ any_new (has q x) new locks ∙ ap (λ b. (b && is_row x new) || list_any (has q x) locks) other);
+  }
+
+  pub set_kept : IsKept new_locks new_forks
+  set_kept = record {
+    order = s.new_order;
+    apart = ap (are_apart are_overlapping) s.new_list
+        ∙ apart_new new locks (sym (rows_tell locks fork (rows_at forks fork) (λ x. do_meet x.range range) (s.was.intervals fork).same) ∙ none) s.was.apart;
+    intervals = λ q. subst (AreIntervals new_locks q) (sym (s.new_rows q))
+        (elim (is_one_fork fork q) as (λ b. is_one_fork fork q ≡ b → AreIntervals new_locks q (if b then insert (rows_at forks fork) seen.place row else rows_at forks q)) [ true ↦ λ same. here q same | false ↦ λ other. there q other ] refl);
+  }
+
+-- what was looked at
+pub record Looked (locks whole : List Lock) (forks : List (Fork × List LockRow)) (rows : List LockRow) (fork : Fork) (r : ℕ) (range : Range) (seen : Seen) : Type 0 where
+  pub was : IsKept locks forks
+  pub shown : locks ≡ whole
+  pub rows_are : rows ≡ rows_at forks fork
+  pub looked : IsSeen rows r range seen
+
+module _ {locks whole : List Lock} {forks : List (Fork × List LockRow)} {rows : List LockRow} {fork : Fork} {r : ℕ} {range : Range} {seen : Seen} (l : Looked locks whole forks rows fork r range seen) where
+  there_rows : AreIntervals locks fork rows
+  there_rows = subst (AreIntervals locks fork) (sym l.rows_are) (l.was.intervals fork)
+
+  pub other_is : (b : Bool) → seen.other ≡ b → is_met_by_other whole fork r range ≡ b
+  other_is b is = sym (seen_other there_rows l.looked ∙ ap (λ x. is_met_by_other x fork r range) l.shown) ∙ is
+
+  pub own_is : (b : Bool) → seen.own ≡ b → is_met_by_own whole fork r range ≡ b
+  own_is b is = sym (seen_own there_rows l.looked ∙ ap (λ x. is_met_by_own x fork r range) l.shown) ∙ is
+
+  pub is_locked : seen.other ≡ true → lock_refusal whole fork r range ≡ Some Locked
+  is_locked other = λ i. first_holding ((other_is true other i, Locked) ∷ (is_met_by_own whole fork r range, Overlap) ∷ (nat_le most_locks (count_held r whole), Full) ∷ [])
+
+  pub is_overlap : seen.other ≡ false → seen.own ≡ true → lock_refusal whole fork r range ≡ Some Overlap
+  is_overlap other own = λ i. first_holding ((other_is false other i, Locked) ∷ (own_is true own i, Overlap) ∷ (nat_le most_locks (count_held r whole), Full) ∷ [])
+
+  full_is : (n : ℕ) (given : List Lock) → given ≡ locks → n ≡ count_held r given → (b : Bool) → nat_le most_locks n ≡ b → nat_le most_locks (count_held r whole) ≡ b
+  full_is n given given_is n_is b is = sym (ap (nat_le most_locks) (n_is ∙ ap (count_held r) (given_is ∙ l.shown))) ∙ is
+
+  pub is_full : (n : ℕ) (given : List Lock) → seen.other ≡ false → seen.own ≡ false → given ≡ locks → n ≡ count_held r given → 1024 ≤ n → lock_refusal whole fork r range ≡ Some Full
+  is_full n given other own given_is n_is enough =
+      let is : nat_le most_locks n ≡ true = grind (arith, nat_tests) in
+      λ i. first_holding ((other_is false other i, Locked) ∷ (own_is false own i, Overlap) ∷ (full_is n given given_is n_is true is i, Full) ∷ [])
+
+  pub is_free : (n : ℕ) (given : List Lock) → seen.other ≡ false → seen.own ≡ false → given ≡ locks → n ≡ count_held r given → n < 1024 → lock_refusal whole fork r range ≡ None
+  is_free n given other own given_is n_is few =
+      let is : nat_le most_locks n ≡ false = grind (arith, nat_tests) in
+      λ i. first_holding ((other_is false other i, Locked) ∷ (own_is false own i, Overlap) ∷ (full_is n given given_is n_is false is i, Full) ∷ [])
+
+-- a lock goes into the list behind those of its reference
+pub listed : {list reserved given new : List Lock} {place : ℕ} (held : Lock) (b : Bool) → IsNonDecreasingBy holder_of list → reserved ≡ list → given ≡ reserved → IsBehind given held.reference place → b ≡ true → new ≡ (if b then insert reserved place held else reserved)
+    → (new ≡ with_lock held list) × IsNonDecreasingBy holder_of new
+listed {list} {reserved} {given} {new} {place} held b order reserved_is given_is behind b_is new_is =
+    let there : IsBehind list held.reference place = subst (λ l. IsBehind l held.reference place) (given_is ∙ reserved_is) behind in
+    let put : new ≡ insert list place held = new_is ∙ (λ i. if b_is i then insert (reserved_is i) place held else reserved_is i) in
+    (
+      put ∙ put_behind list held place there,
+      subst (IsNonDecreasingBy holder_of) (sym put) (IsNonDecreasingBy-insert holder_of list place held order there.within
+        (λ k d less. let f = there.front k d less in at_most (holder_of (slice_index_or list k d)) held.reference f)
+        (λ k d low high. let f = there.rest k d low high in above_it (holder_of (slice_index_or list k d)) held.reference f)),
+    )
+  where
+    at_most : (m n : ℕ) → nat_le m n ≡ true → m ≤ n
+    at_most m n h = grind (arith, nat_tests, h)
+
+    above_it : (m n : ℕ) → nat_le m n ≡ false → n ≤ m
+    above_it m n h = grind (arith, nat_tests, h)

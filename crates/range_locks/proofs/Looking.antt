@@ -1,0 +1,131 @@
+-- Two halvings find the rows that a range meets.
+use Rattle.std.proofs.Common.{◌≡◌, ◌∙◌, refl, sym, ap, subst, ℕ, zero, suc, ◌+◌, ◌-◌, ◌<◌, ◌≤◌, Bool, true, false, cond, not, ◌&&◌, ◌||◌, ◌==◌, if◌then◌else◌, List, [], ◌∷◌, length, inl, inr, arith}
+use Rattle.std.specs.Prelude.{nat_lt, nat_le, slice_index_or, slice_range}
+use Rattle.std.specs.Cmp.{both_ways}
+use Rattle.std.specs.List.{list_any}
+use Rattle.std.specs.List.Sorted.{IsPartitionedBy, IsPartitionPoint}
+use Rattle.std.proofs.lemmas.Bool.{cases_lt}
+use Rattle.std.proofs.lemmas.Bool.Decides.{nat_tests}
+use Rattle.std.proofs.lemmas.List.Folds.{Any-from_list_any, list_any_at}
+use Rattle.std.proofs.lemmas.List.Edits.{get_or-between, length-between}
+use Rattle.afp_base.specs.Overlap.{Range, do_meet}
+use Rattle.range_locks.specs.declared.rows.LockRow.{LockRow}
+use Rattle.range_locks.specs.declared.rows.Seen.{Seen}
+use Rattle.range_locks.specs.Locks.{AreInOrder}
+use Rattle.range_locks.specs.Seen.{IsSeen}
+
+below : (a b : ℕ) → nat_lt a b ≡ true → a < b
+below a b h = grind (arith, nat_tests, h)
+
+not_below : (a b : ℕ) → nat_lt a b ≡ false → b ≤ a
+not_below a b h = grind (arith, nat_tests, h)
+
+is_below : (a b : ℕ) → a < b → nat_lt a b ≡ true
+is_below a b h = grind (arith, nat_tests)
+
+at_most : (a b : ℕ) → nat_le a b ≡ true → a ≤ b
+at_most a b h = grind (arith, nat_tests, h)
+
+above : (a b : ℕ) → nat_le a b ≡ false → b < a
+above a b h = grind (arith, nat_tests, h)
+
+is_at_most : (a b : ℕ) → a ≤ b → nat_le a b ≡ true
+is_at_most a b h = grind (arith, nat_tests)
+
+is_above : (a b : ℕ) → b < a → nat_le a b ≡ false
+is_above a b h = grind (arith, nat_tests)
+
+-- a row of a list by its place
+abbrev row_at : List LockRow → ℕ → LockRow → LockRow
+row_at rows i d = slice_index_or rows i d
+
+module _ (rows : List LockRow) (o : AreInOrder rows) where
+  rising : (i j : ℕ) (d : LockRow) → i < j → j < length rows → (row_at rows i d).range.to < (row_at rows j d).range.from
+  rising i j d h k = below _ _ (o.rising i j d h k)
+
+  valid : (i : ℕ) (d : LockRow) → i < length rows → (row_at rows i d).range.from ≤ (row_at rows i d).range.to
+  valid i d h = at_most _ _ (o.valid i d h)
+
+  pub parted_ends : (x : ℕ) → IsPartitionedBy (λ row. nat_lt row.range.to x) rows
+  parted_ends x i j d le within passes = elim (cases_lt i j) [
+    | inl less ↦ is_below _ _ (let a = below _ _ passes in let b = rising i j d less within in let c = valid j d within in omega (arith, a, b, c))
+    | inr other ↦ let same : j ≡ i = omega arith in subst (λ k. nat_lt (row_at rows k d).range.to x ≡ true) same passes
+  ]
+
+  pub parted_starts : (x : ℕ) → IsPartitionedBy (λ row. nat_le row.range.from x) rows
+  parted_starts x i j d le within passes = elim (cases_lt i j) [
+    | inl less ↦ is_at_most _ _ (let a = at_most _ _ passes in let b = rising i j d less within in let c = valid i d (omega arith) in omega (arith, a, b, c))
+    | inr other ↦ let same : j ≡ i = omega arith in subst (λ k. nat_le (row_at rows k d).range.from x ≡ true) same passes
+  ]
+
+  module _ (range : Range) (ordered : range.from ≤ range.to) (from to : ℕ) (from_in : from ≤ length rows) (to_in : to ≤ length rows)
+      (ends : IsPartitionPoint (λ row. nat_lt row.range.to range.from ≡ true) (λ row. nat_lt row.range.to range.from ≡ false) rows from)
+      (starts : IsPartitionPoint (λ row. nat_le row.range.from range.to ≡ true) (λ row. nat_le row.range.from range.to ≡ false) rows to) where
+
+    -- the rows that end before the range begin before it too
+    pub in_turn : LockRow → from ≤ to
+    in_turn d = elim (cases_lt to from) [
+      | inl less ↦ absurd (
+          let a = below _ _ (ends.0 to d (omega arith) less) in
+          let b = above _ _ (starts.1 to d (omega arith) (omega arith)) in
+          let c = valid to d (omega arith) in omega (arith, a, b, c))
+      | inr other ↦ other
+    ]
+
+    abbrev meets : LockRow → Bool
+    meets row = do_meet row.range range
+
+    met_between : (k : ℕ) (d : LockRow) → k < length rows → meets (row_at rows k d) ≡ true → (from ≤ k) × (k < to)
+    met_between k d within met =
+        let parts = and_parts (nat_le (row_at rows k d).range.from range.to) (nat_le range.from (row_at rows k d).range.to) met in
+        (
+          elim (cases_lt k from) [ inl less ↦ absurd (let a = below _ _ (ends.0 k d (omega arith) less) in let b = at_most _ _ parts.1 in omega (arith, a, b)) | inr other ↦ other ],
+          elim (cases_lt k to) [ inl less ↦ less | inr other ↦ absurd (let a = above _ _ (starts.1 k d other within) in let b = at_most _ _ parts.0 in omega (arith, a, b)) ],
+        )
+      where
+        and_parts : (a b : Bool) → (a && b) ≡ true → (a ≡ true) × (b ≡ true)
+        and_parts true b h = (refl, h)
+        and_parts false b h = absurd (cc h)
+
+    between_meets : (k : ℕ) (d : LockRow) → from ≤ k → k < to → meets (row_at rows k d) ≡ true
+    between_meets k d low high =
+        let a = starts.0 k d (omega arith) high in
+        let b = is_at_most _ _ (not_below _ _ (ends.1 k d low (omega arith))) in
+        λ i. a i && b i
+
+    both_true : (a b : Bool) → (a && b) ≡ true → (a ≡ true) × (b ≡ true)
+    both_true true b h = (refl, h)
+    both_true false b h = absurd (cc h)
+
+    pub any_met : (p : LockRow → Bool) → list_any (λ row. meets row && p row) rows ≡ list_any p (slice_range rows from to)
+    any_met p = both_ways _ _
+        (λ h.
+            let f = Any-from_list_any (λ row. meets row && p row) rows h in
+            let both = both_true (meets f.1) (p f.1) f.4 in
+            let here : meets (row_at rows f.0 f.1) ≡ true = ap meets f.3 ∙ both.0 in
+            let place = met_between f.0 f.1 f.2 here in
+            let len = length-between rows from to to_in in
+            let there : slice_index_or (slice_range rows from to) (f.0 - from) f.1 ≡ f.1 =
+                get_or-between rows from to (f.0 - from) f.1 (omega (arith, place.0, place.1)) ∙ ap (λ k. slice_index_or rows k f.1) (omega_is f.0 place.0) ∙ f.3 in
+            list_any_at p (slice_range rows from to) (f.0 - from) f.1 (omega (arith, len, place.0, place.1)) (ap p there ∙ both.1))
+        (λ h.
+            let f = Any-from_list_any p (slice_range rows from to) h in
+            let len = length-between rows from to to_in in
+            let inside : from + f.0 < to = omega (arith, len, f.2) in
+            let there : slice_index_or rows (from + f.0) f.1 ≡ f.1 = sym (get_or-between rows from to f.0 f.1 inside) ∙ f.3 in
+            let met : meets f.1 ≡ true = sym (ap meets there) ∙ between_meets (from + f.0) f.1 (omega arith) inside in
+            list_any_at (λ row. meets row && p row) rows (from + f.0) f.1 (omega (arith, inside)) (ap (λ row. meets row && p row) there ∙ (λ i. met i && f.4 i)))
+      where
+        omega_is : (k : ℕ) → from ≤ k → from + (k - from) ≡ k
+        omega_is k h = omega arith
+
+    pub seen_is : {met : List LockRow} (r : ℕ) (other own : Bool) → met ≡ slice_range rows from to → other ≡ list_any (λ row. not (row.reference.0 == r)) met → own ≡ list_any (λ row. row.reference.0 == r) met
+        → IsSeen rows r range (record { other = other; own = own; place = from })
+    seen_is r other own met_is other_is own_is = record {
+      other = other_is ∙ ap (list_any (λ row. not (row.reference.0 == r))) met_is ∙ sym (any_met (λ row. not (row.reference.0 == r)));
+      own = own_is ∙ ap (list_any (λ row. row.reference.0 == r)) met_is ∙ sym (any_met (λ row. row.reference.0 == r));
+      ordered = ordered;
+      within = from_in;
+      before = λ i d less. ends.0 i d (omega arith) less;
+      behind = λ i d low high. ends.1 i d low high;
+    }

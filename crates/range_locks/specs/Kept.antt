@@ -1,0 +1,34 @@
+-- What is kept for the locks: a list by reference, and rows by fork (this profile).
+use Rattle.std.specs.Prelude.{◌≡◌, ℕ, ◌≤◌, ◌<◌, nat_le, nat_lt, Bool, true, false, List, [], length, slice_index_or, unwrap_or}
+use Rattle.std.specs.List.Sorted.{IsNonDecreasingBy}
+use Rattle.afp_base.specs.DenyMode.{Fork}
+use Rattle.sorted_map.specs.Entries.{at}
+use Rattle.deny_modes.specs.Apart.{are_apart}
+use Rattle.deny_modes.specs.ForkOrder.{fork_cmp}
+use Rattle.range_locks.specs.declared.rows.LockRow.{LockRow}
+use Rattle.range_locks.specs.Locks.{Lock, are_overlapping, AreIntervals}
+
+-- the rows of a fork
+abbrev pub rows_at : List (Fork × List LockRow) → Fork → List LockRow
+rows_at forks fork = unwrap_or (at fork_cmp forks fork) []
+
+abbrev pub holder_of : Lock → ℕ
+holder_of l = l.reference
+
+-- the place behind the locks of that reference and of those below it
+pub record IsBehind (locks : List Lock) (reference place : ℕ) : Type 0 where
+  pub within : place ≤ length locks
+  pub front : (k : ℕ) (d : Lock) → k < place → nat_le (holder_of (slice_index_or locks k d)) reference ≡ true
+  pub rest : (k : ℕ) (d : Lock) → place ≤ k → k < length locks → nat_le (holder_of (slice_index_or locks k d)) reference ≡ false
+
+-- the place of the first lock of that reference or of one above it
+pub record IsBefore (locks : List Lock) (reference place : ℕ) : Type 0 where
+  pub within : place ≤ length locks
+  pub front : (k : ℕ) (d : Lock) → k < place → nat_lt (holder_of (slice_index_or locks k d)) reference ≡ true
+  pub rest : (k : ℕ) (d : Lock) → place ≤ k → k < length locks → nat_lt (holder_of (slice_index_or locks k d)) reference ≡ false
+
+-- references do not fall along the list, no two locks on one fork share a byte, and each fork has its rows
+pub record IsKept (locks : List Lock) (forks : List (Fork × List LockRow)) : Type 0 where
+  pub order : IsNonDecreasingBy holder_of locks
+  pub apart : are_apart are_overlapping locks ≡ true
+  pub intervals : (fork : Fork) → AreIntervals locks fork (rows_at forks fork)

@@ -1,0 +1,3 @@
+pub mod Kept
+pub mod Locks
+pub mod Seen

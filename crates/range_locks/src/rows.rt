@@ -1,0 +1,107 @@
+//! The locks on one fork, by rising start.
+ghost use Rattle.std.specs.Prelude.{◌≡◌, ◌<◌, ◌≤◌, ◌&&◌, ◌==◌, [], length, not, OnOk, OnErr, slice_range};
+ghost use Rattle.std.specs.List.{list_any, insert, remove};
+ghost use Rattle.afp_base.specs.Overlap.{do_meet};
+ghost use Rattle.range_locks.specs.Locks.{AreInOrder};
+ghost use Rattle.range_locks.specs.Seen.{IsSeen};
+
+use crate::Range;
+use afp_base::{ForkRef, OutOfMemory};
+use std::alloc::Global;
+use std::marker::Model;
+
+/// A lock on a fork: its bytes, and the reference that holds it.
+#[derive(Clone, Copy)]
+pub struct LockRow {
+    pub range: Range,
+    pub reference: ForkRef,
+}
+
+/// Rows of a fork. Contracts see a list.
+#[derive(Drop)]
+pub(crate) struct Rows(Vec<LockRow>);
+
+impl Model for Rows {
+    ghost use Rattle.std.specs.Prelude.{List};
+    ghost use Rattle.range_locks.specs.declared.rows.LockRow.{LockRow};
+
+    ghost Value = { List LockRow };
+
+    ghost view = { λ r. r.0.items };
+}
+
+impl Rows {
+    pub(crate) fn new(alloc: Global) -> Rows
+        ensures { result ≡ [] }
+    {
+        Rows(Vec::new(alloc))
+    }
+
+    pub(crate) fn as_slice(&self) -> &[LockRow]
+        ensures { result.now ≡ self.now }
+    {
+        self.0.as_slice()
+    }
+
+    pub(crate) fn insert(&mut self, place: usize, row: LockRow) -> Result<(), OutOfMemory>
+        requires { place ≤ length self.old }
+        ensures ok { OnOk result (self.new ≡ insert self.old place row) }
+        ensures err { OnErr result (self.new ≡ self.old) }
+    {
+        self.0.insert(place, row)?;
+        Ok(())
+    }
+
+    pub(crate) fn remove(&mut self, place: usize)
+        requires { place < length self.old }
+        ensures { self.new ≡ remove self.old place }
+    {
+        let _ = self.0.remove(place);
+    }
+}
+
+/// What stands in the way of a range: another reference's lock, the reference's own, and the place where the range would go.
+#[derive(Clone, Copy)]
+pub(crate) struct Seen {
+    pub(crate) other: bool,
+    pub(crate) own: bool,
+    pub(crate) place: usize,
+}
+
+/// Looks for what a range meets. Two halvings find the rows that it meets, which stand together.
+pub(crate) fn look(rows: &[LockRow], r: ForkRef, range: &Range) -> Seen
+    requires { AreInOrder rows.now }
+    ensures { IsSeen rows.now r.0 range.now result }
+{
+    let first = range.first();
+    let last = range.last();
+    let from = rows.partition_point(|row| row.range.last() < first);
+    let to = rows.partition_point(|row| row.range.first() <= last);
+    let met = part(rows, from, to);
+    Seen {
+        other: has_other(met, r),
+        own: has_own(met, r),
+        place: from,
+    }
+}
+
+/// The rows from one place to another.
+fn part(rows: &[LockRow], from: usize, to: usize) -> &[LockRow]
+    requires low { from ≤ to }
+    requires high { to ≤ length rows.now }
+    ensures { result.now ≡ slice_range rows.now from to }
+{
+    &rows[from..to]
+}
+
+fn has_other(rows: &[LockRow], r: ForkRef) -> bool
+    ensures { result ≡ list_any (λ row. not (row.reference.0 == r.0)) rows.now }
+{
+    rows.iter().any(|row| row.reference.0 != r.0)
+}
+
+fn has_own(rows: &[LockRow], r: ForkRef) -> bool
+    ensures { result ≡ list_any (λ row. row.reference.0 == r.0) rows.now }
+{
+    rows.iter().any(|row| row.reference.0 == r.0)
+}
