@@ -1,25 +1,29 @@
 -- The rows of each fork tell what the list of locks tells, after each call.
-use Rattle.std.proofs.Common.{◌≡◌, ◌∙◌, refl, sym, ap, subst, ℕ, zero, suc, ◌+◌, ◌-◌, ◌<◌, ◌≤◌, Bool, true, false, cond, not, ◌&&◌, ◌||◌, ◌==◌, if◌then◌else◌, List, [], ◌∷◌, length, filter, Option, Some, None, unwrap_or, inl, inr, arith}
-use Rattle.std.specs.Prelude.{nat_lt, nat_le, slice_index_or}
+use Rattle.std.proofs.Common.{◌≡◌, ◌∙◌, refl, sym, ap, subst, ℕ, zero, suc, ◌+◌, ◌-◌, ◌<◌, ◌≤◌, Bool, true, false, cond, not, ◌&&◌, ◌||◌, ◌==◌, if◌then◌else◌, List, [], ◌∷◌, length, filter, map, take, drop, ◌++◌, Option, Some, None, unwrap_or, inl, inr, arith}
+use Rattle.std.specs.Prelude.{nat_lt, nat_le, slice_index_or, slice_set}
 use Rattle.std.specs.Cmp.{both_ways}
 use Rattle.std.specs.List.{list_any, insert}
 use Rattle.std.specs.List.Sorted.{IsNonDecreasingBy}
 use Rattle.std.proofs.lemmas.Bool.{cases_lt}
 use Rattle.std.proofs.lemmas.Bool.Decides.{nat_tests}
-use Rattle.std.proofs.lemmas.List.Folds.{Any-from_list_any, list_any_at, list_any-append}
-use Rattle.std.proofs.lemmas.List.Edits.{length-insert, get_or-insert_below, get_or-insert_at, get_or-insert_above}
+use Rattle.std.proofs.lemmas.List.Folds.{Any-from_list_any, list_any_at, list_any_more}
+use Rattle.std.proofs.lemmas.List.Kept.{AllPairs-filter, IsNonDecreasingBy-filter}
+use Rattle.std.proofs.lemmas.List.Edits.{length-insert, get_or-insert_below, get_or-insert_at, get_or-insert_above, map_over_more}
 use Rattle.std.proofs.lemmas.List.Sorted.{IsNonDecreasingBy-insert}
 use Rattle.afp_base.specs.Choice.{first_holding}
 use Rattle.afp_base.specs.DenyMode.{Fork, is_one_fork}
 use Rattle.afp_base.specs.Overlap.{Range, do_meet, do_overlap}
 use Rattle.deny_modes.specs.Apart.{are_apart}
-use Rattle.deny_modes.proofs.Forks.{same_fork, itself, either_way}
+use Rattle.deny_modes.proofs.Forks.{same_fork, either_way, crosses, both_cross, found_crossed}
+use Rattle.deny_modes.specs.ForkOrder.{fork_cmp}
+use Rattle.deny_modes.specs.Opens.{in_exchange}
+use Rattle.sorted_map.specs.Entries.{at, exchanged}
 use Rattle.range_locks.specs.declared.fault.LockFault.{LockFault}
 use Rattle.range_locks.specs.declared.fault.LockFault.TheVariants.{Locked, Overlap, Full, Memory}
 use Rattle.range_locks.specs.declared.rows.LockRow.{LockRow}
 use Rattle.range_locks.specs.declared.rows.Seen.{Seen}
-use Rattle.range_locks.specs.Locks.{Lock, are_overlapping, is_met_by_other, is_met_by_own, count_held, most_locks, lock_refusal, with_lock, is_row, are_one_row, AreInOrder, AreIntervals}
-use Rattle.range_locks.specs.Kept.{rows_at, holder_of, IsBehind, IsBefore, IsKept}
+use Rattle.range_locks.specs.Locks.{Lock, are_overlapping, is_met_by_other, is_met_by_own, count_held, most_locks, lock_refusal, with_lock, is_lock, has_lock, exchange_lock, exchanged_locks, is_row, are_one_row, AreInOrder, AreIntervals}
+use Rattle.range_locks.specs.Kept.{rows_at, holder_of, holds_on, IsBehind, IsBefore, IsKept}
 use Rattle.range_locks.specs.Seen.{IsSeen}
 
 -- ---- tests
@@ -95,18 +99,18 @@ rows_tell : (locks : List Lock) (fork : Fork) (rows : List LockRow) (p : LockRow
     → list_any p rows ≡ list_any (λ l. is_one_fork l.fork fork && p (row_of l)) locks
 rows_tell locks fork rows p same = both_ways _ _
     (λ h.
-        let f = Any-from_list_any p rows h in
-        let there = list_any_at (are_one_row f.1) rows f.0 f.1 f.2 (ap (are_one_row f.1) f.3 ∙ row_itself f.1) in
-        let g = Any-from_list_any (λ l. is_one_fork l.fork fork && is_row f.1 l) locks (sym (same f.1) ∙ there) in
-        let parts = and_parts (is_one_fork g.1.fork fork) (is_row f.1 g.1) g.4 in
-        list_any_at (λ l. is_one_fork l.fork fork && p (row_of l)) locks g.0 g.1 g.2
-        (ap (λ l. is_one_fork l.fork fork && p (row_of l)) g.3 ∙ and_from _ _ parts.0 (sym (ap p (same_row f.1 (row_of g.1) parts.1)) ∙ f.4)))
+    let f = Any-from_list_any p rows h in
+    let there = list_any_at (are_one_row f.1) rows f.0 f.1 f.2 (ap (are_one_row f.1) f.3 ∙ row_itself f.1) in
+    let g = Any-from_list_any (λ l. is_one_fork l.fork fork && is_row f.1 l) locks (sym (same f.1) ∙ there) in
+    let parts = and_parts (is_one_fork g.1.fork fork) (is_row f.1 g.1) g.4 in
+    list_any_at (λ l. is_one_fork l.fork fork && p (row_of l)) locks g.0 g.1 g.2
+    (ap (λ l. is_one_fork l.fork fork && p (row_of l)) g.3 ∙ and_from _ _ parts.0 (sym (ap p (same_row f.1 (row_of g.1) parts.1)) ∙ f.4)))
     (λ h.
-        let g = Any-from_list_any (λ l. is_one_fork l.fork fork && p (row_of l)) locks h in
-        let parts = and_parts (is_one_fork g.1.fork fork) (p (row_of g.1)) g.4 in
-        let there = list_any_at (λ l. is_one_fork l.fork fork && is_row (row_of g.1) l) locks g.0 g.1 g.2 (ap (λ l. is_one_fork l.fork fork && is_row (row_of g.1) l) g.3 ∙ and_from _ _ parts.0 (row_itself (row_of g.1))) in
-        let f = Any-from_list_any (are_one_row (row_of g.1)) rows (same (row_of g.1) ∙ there) in
-        list_any_at p rows f.0 f.1 f.2 (ap p f.3 ∙ sym (ap p (same_row (row_of g.1) f.1 f.4)) ∙ parts.1))
+    let g = Any-from_list_any (λ l. is_one_fork l.fork fork && p (row_of l)) locks h in
+    let parts = and_parts (is_one_fork g.1.fork fork) (p (row_of g.1)) g.4 in
+    let there = list_any_at (λ l. is_one_fork l.fork fork && is_row (row_of g.1) l) locks g.0 g.1 g.2 (ap (λ l. is_one_fork l.fork fork && is_row (row_of g.1) l) g.3 ∙ and_from _ _ parts.0 (row_itself (row_of g.1))) in
+    let f = Any-from_list_any (are_one_row (row_of g.1)) rows (same (row_of g.1) ∙ there) in
+    list_any_at p rows f.0 f.1 f.2 (ap p f.3 ∙ sym (ap p (same_row (row_of g.1) f.1 f.4)) ∙ parts.1))
 
 pub seen_other : {locks : List Lock} {fork : Fork} {rows : List LockRow} {r : ℕ} {range : Range} {seen : Seen} → AreIntervals locks fork rows → IsSeen rows r range seen → seen.other ≡ is_met_by_other locks fork r range
 seen_other {locks} {fork} {rows} {r} {range} i s =
@@ -142,14 +146,14 @@ count_between (l ∷ ls) r zero zero a b = let none = count_none (l ∷ ls) r (�
 count_between (l ∷ ls) r zero (suc last) a b =
     let same : (l.reference == r) ≡ true = (let f = a.rest 0 l (omega arith) (omega arith) in let g = b.front 0 l (omega arith) in grind (arith, nat_tests, f, g)) in
     let more = count_between ls r zero last (record { within = omega arith; front = λ k d less. absurd (omega arith); rest = λ k d low high. a.rest (suc k) d (omega arith) (omega arith) })
-        (record { within = omega (arith, b.within); front = λ k d less. b.front (suc k) d (omega arith); rest = λ k d low high. b.rest (suc k) d (omega arith) (omega arith) }) in
+    (record { within = omega (arith, b.within); front = λ k d less. b.front (suc k) d (omega arith); rest = λ k d low high. b.rest (suc k) d (omega arith) (omega arith) }) in
     let here : count_held r (l ∷ ls) ≡ suc (count_held r ls) = ap (λ t. length (if t then l ∷ filter (λ x. x.reference == r) ls else filter (λ x. x.reference == r) ls)) same in
     omega (arith, more, here)
 count_between (l ∷ ls) r (suc first) zero a b = absurd (let f = a.front 0 l (omega arith) in let g = b.rest 0 l (omega arith) (omega arith) in grind (arith, nat_tests, f, g))
 count_between (l ∷ ls) r (suc first) (suc last) a b =
     let other : (l.reference == r) ≡ false = (let f = a.front 0 l (omega arith) in grind (arith, nat_tests, f)) in
     let more = count_between ls r first last (record { within = omega (arith, a.within); front = λ k d less. a.front (suc k) d (omega arith); rest = λ k d low high. a.rest (suc k) d (omega arith) (omega arith) })
-        (record { within = omega (arith, b.within); front = λ k d less. b.front (suc k) d (omega arith); rest = λ k d low high. b.rest (suc k) d (omega arith) (omega arith) }) in
+    (record { within = omega (arith, b.within); front = λ k d less. b.front (suc k) d (omega arith); rest = λ k d low high. b.rest (suc k) d (omega arith) (omega arith) }) in
     let here : count_held r (l ∷ ls) ≡ count_held r ls = ap (λ t. length (if t then l ∷ filter (λ x. x.reference == r) ls else filter (λ x. x.reference == r) ls)) other in
     omega (arith, more, here)
 
@@ -198,30 +202,30 @@ ordered_new rows range reference seen row range_is o s ordered none =
       valid = λ i d h. elim (cases_lt i place) [
         | inl less ↦ ap (λ (x : LockRow). nat_le x.range.from x.range.to) (low i d less) ∙ o.valid i d (omega (arith, s.within))
         | inr other ↦ elim (cases_lt place i) [
-            | inl above ↦ up i d above (omega (arith, len)) high (λ x. nat_le x.range.from x.range.to) (o.valid (i - 1) d (omega (arith, len)))
-            | inr not_above ↦ let same : i ≡ place = omega arith in
-                ap (λ k. nat_le (slice_index_or new k d).range.from (slice_index_or new k d).range.to) same ∙ ap (λ (x : LockRow). nat_le x.range.from x.range.to) (here d) ∙ (λ j. nat_le (range_is j).from (range_is j).to)
-                ∙ (let f : nat_le range.from range.to ≡ true = grind (arith, nat_tests) in f)
-          ]
+          | inl above ↦ up i d above (omega (arith, len)) high (λ x. nat_le x.range.from x.range.to) (o.valid (i - 1) d (omega (arith, len)))
+          | inr not_above ↦ let same : i ≡ place = omega arith in
+              ap (λ k. nat_le (slice_index_or new k d).range.from (slice_index_or new k d).range.to) same ∙ ap (λ (x : LockRow). nat_le x.range.from x.range.to) (here d) ∙ (λ j. nat_le (range_is j).from (range_is j).to)
+              ∙ (let f : nat_le range.from range.to ≡ true = grind (arith, nat_tests) in f)
+        ]
       ];
       rising = λ i j d less h. elim (cases_lt j place) [
         | inl j_low ↦ (λ k. lt (low i d (omega arith) k) (low j d j_low k)) ∙ o.rising i j d less (omega (arith, s.within))
         | inr j_not_low ↦ elim (cases_lt place j) [
-            | inl j_high ↦
-                let at_j : slice_index_or new j d ≡ slice_index_or rows (j - 1) d = one_up j d j_high high in
-                elim (cases_lt i place) [
-                  | inl i_low ↦ (λ k. lt (low i d i_low k) (at_j k)) ∙ o.rising i (j - 1) d (omega arith) (omega (arith, len))
-                  | inr i_not_low ↦ elim (cases_lt place i) [
-                      | inl i_high ↦ (λ k. lt (one_up i d i_high high k) (at_j k)) ∙ o.rising (i - 1) (j - 1) d (omega arith) (omega (arith, len))
-                      | inr i_not_high ↦
-                          let same : i ≡ place = omega arith in
-                          (λ k. lt ((ap (λ n. slice_index_or new n d) same ∙ here d) k) (at_j k)) ∙ (λ k. nat_lt (range_is k).to (slice_index_or rows (j - 1) d).range.from) ∙ behind (j - 1) d (omega arith) (omega (arith, len))
-                    ]
+          | inl j_high ↦
+              let at_j : slice_index_or new j d ≡ slice_index_or rows (j - 1) d = one_up j d j_high high in
+              elim (cases_lt i place) [
+                | inl i_low ↦ (λ k. lt (low i d i_low k) (at_j k)) ∙ o.rising i (j - 1) d (omega arith) (omega (arith, len))
+                | inr i_not_low ↦ elim (cases_lt place i) [
+                  | inl i_high ↦ (λ k. lt (one_up i d i_high high k) (at_j k)) ∙ o.rising (i - 1) (j - 1) d (omega arith) (omega (arith, len))
+                  | inr i_not_high ↦
+                      let same : i ≡ place = omega arith in
+                      (λ k. lt ((ap (λ n. slice_index_or new n d) same ∙ here d) k) (at_j k)) ∙ (λ k. nat_lt (range_is k).to (slice_index_or rows (j - 1) d).range.from) ∙ behind (j - 1) d (omega arith) (omega (arith, len))
                 ]
-            | inr j_not_high ↦
-                let same : j ≡ place = omega arith in
-                (λ k. lt (low i d (omega arith) k) ((ap (λ n. slice_index_or new n d) same ∙ here d) k)) ∙ (λ k. nat_lt (slice_index_or rows i d).range.to (range_is k).from) ∙ s.before i d (omega arith)
-          ]
+              ]
+          | inr j_not_high ↦
+              let same : j ≡ place = omega arith in
+              (λ k. lt (low i d (omega arith) k) ((ap (λ n. slice_index_or new n d) same ∙ here d) k)) ∙ (λ k. nat_lt (slice_index_or rows i d).range.to (range_is k).from) ∙ s.before i d (omega arith)
+        ]
       ];
     }
   where
@@ -336,12 +340,11 @@ pub listed : {list reserved given new : List Lock} {place : ℕ} (held : Lock) (
     → (new ≡ with_lock held list) × IsNonDecreasingBy holder_of new
 listed {list} {reserved} {given} {new} {place} held b order reserved_is given_is behind b_is new_is =
     let there : IsBehind list held.reference place = subst (λ l. IsBehind l held.reference place) (given_is ∙ reserved_is) behind in
-    let put : new ≡ insert list place held = new_is ∙ (λ i. if b_is i then insert (reserved_is i) place held else reserved_is i) in
-    (
+    let put : new ≡ insert list place held = new_is ∙ (λ i. if b_is i then insert (reserved_is i) place held else reserved_is i) in (
       put ∙ put_behind list held place there,
       subst (IsNonDecreasingBy holder_of) (sym put) (IsNonDecreasingBy-insert holder_of list place held order there.within
-        (λ k d less. let f = there.front k d less in at_most (holder_of (slice_index_or list k d)) held.reference f)
-        (λ k d low high. let f = there.rest k d low high in above_it (holder_of (slice_index_or list k d)) held.reference f)),
+          (λ k d less. let f = there.front k d less in at_most (holder_of (slice_index_or list k d)) held.reference f)
+          (λ k d low high. let f = there.rest k d low high in above_it (holder_of (slice_index_or list k d)) held.reference f)),
     )
   where
     at_most : (m n : ℕ) → nat_le m n ≡ true → m ≤ n
@@ -349,3 +352,226 @@ listed {list} {reserved} {given} {new} {place} held b order reserved_is given_is
 
     above_it : (m n : ℕ) → nat_le m n ≡ false → n ≤ m
     above_it m n h = grind (arith, nat_tests, h)
+
+-- ---- locks that go
+any_filter : {A : Type 0} (p keep : A → Bool) (xs : List A) → list_any p (filter keep xs) ≡ list_any (λ x. p x && keep x) xs
+any_filter p keep [] = refl
+any_filter p keep (x ∷ xs) = elim (keep x) as (λ b. list_any p (if b then x ∷ filter keep xs else filter keep xs) ≡ ((p x && b) || list_any (λ y. p y && keep y) xs)) [
+  | true ↦ (λ i. on (p x) i || any_filter p keep xs i)
+  | false ↦ any_filter p keep xs ∙ ap (λ b. b || list_any (λ y. p y && keep y) xs) (sym (off (p x)))
+]
+  where
+    on : (b : Bool) → b ≡ (b && true)
+    on true = refl
+    on false = refl
+
+    off : (b : Bool) → (b && false) ≡ false
+    off true = refl
+    off false = refl
+
+none_filter : (p keep : Lock → Bool) (ls : List Lock) → list_any p ls ≡ false → list_any p (filter keep ls) ≡ false
+none_filter p keep [] h = refl
+none_filter p keep (l ∷ ls) h =
+    let parts = or_parts (p l) (list_any p ls) h in
+    elim (keep l) as (λ b. list_any p (if b then l ∷ filter keep ls else filter keep ls) ≡ false) [ true ↦ (λ i. parts.0 i || none_filter p keep ls parts.1 i) | false ↦ none_filter p keep ls parts.1 ]
+
+apart_filter : (keep : Lock → Bool) (ls : List Lock) → are_apart are_overlapping ls ≡ true → are_apart are_overlapping (filter keep ls) ≡ true
+apart_filter keep [] h = refl
+apart_filter keep (l ∷ ls) h =
+    let parts = and_parts (not (list_any (are_overlapping l) ls)) (are_apart are_overlapping ls) h in
+    elim (keep l) as (λ b. are_apart are_overlapping (if b then l ∷ filter keep ls else filter keep ls) ≡ true) [
+      | true ↦ and_from _ _ (ap not (none_filter (are_overlapping l) keep ls (not_true (list_any (are_overlapping l) ls) parts.0))) (apart_filter keep ls parts.1)
+      | false ↦ apart_filter keep ls parts.1
+    ]
+
+abbrev AllValid : List LockRow → Type 0
+AllValid rows = (i : ℕ) (d : LockRow) → i < length rows → nat_le (slice_index_or rows i d).range.from (slice_index_or rows i d).range.to ≡ true
+
+valid_more : (keep : LockRow → Bool) (x : LockRow) (xs : List LockRow) → ((d : LockRow) → 0 < length (x ∷ xs) → nat_le x.range.from x.range.to ≡ true) → AllValid (filter keep xs) → AllValid (filter keep (x ∷ xs))
+valid_more keep x xs here others = elim (keep x) as (λ b. AllValid (if b then x ∷ filter keep xs else filter keep xs)) [ true ↦ first | false ↦ others ]
+  where
+    first : AllValid (x ∷ filter keep xs)
+    first zero d h = here d (omega arith)
+    first (suc i) d h = others i d (omega arith)
+
+valid_filter : (keep : LockRow → Bool) (rows : List LockRow) → AllValid rows → AllValid (filter keep rows)
+valid_filter keep [] v = λ i d h. absurd (omega arith)
+valid_filter keep (x ∷ xs) v = valid_more keep x xs (v 0) (valid_filter keep xs (λ k e l. v (suc k) e (omega arith)))
+
+order_filter : (keep : LockRow → Bool) (rows : List LockRow) → AreInOrder rows → AreInOrder (filter keep rows)
+order_filter keep rows o = record {
+  valid = valid_filter keep rows o.valid;
+  rising = AllPairs-filter (λ a b. nat_lt a.range.to b.range.from ≡ true) keep rows o.rising;
+}
+
+-- where the list and the rows of each fork lose alike, all is kept
+pub record Lost (locks new_locks : List Lock) (forks new_forks : List (Fork × List LockRow)) (keep : Lock → Bool) (stays : Fork → LockRow → Bool) : Type 0 where
+  pub was : IsKept locks forks
+  pub new_list : new_locks ≡ filter keep locks
+  pub new_rows : (q : Fork) → rows_at new_forks q ≡ filter (stays q) (rows_at forks q)
+  pub alike : (q : Fork) (l : Lock) → is_one_fork l.fork q ≡ true → stays q (row_of l) ≡ keep l
+
+pub lost_kept : {locks new_locks : List Lock} {forks new_forks : List (Fork × List LockRow)} {keep : Lock → Bool} {stays : Fork → LockRow → Bool} → Lost locks new_locks forks new_forks keep stays → IsKept new_locks new_forks
+lost_kept {locks} {new_locks} {forks} {new_forks} {keep} {stays} l = record {
+  order = subst (IsNonDecreasingBy holder_of) (sym l.new_list) (IsNonDecreasingBy-filter holder_of keep locks l.was.order);
+  apart = ap (are_apart are_overlapping) l.new_list ∙ apart_filter keep locks l.was.apart;
+  intervals = λ q. subst (AreIntervals new_locks q) (sym (l.new_rows q)) (record {
+    order = order_filter (stays q) (rows_at forks q) (l.was.intervals q).order;
+    same = λ x.
+        any_filter (are_one_row x) (stays q) (rows_at forks q)
+        ∙ rows_tell locks q (rows_at forks q) (λ y. are_one_row x y && stays q y) (l.was.intervals q).same
+        ∙ any_gives (λ y. is_one_fork y.fork q && (is_row x y && stays q (row_of y))) (λ y. (is_one_fork y.fork q && is_row x y) && keep y) locks (λ y. regroup (is_one_fork y.fork q) (is_row x y) (stays q (row_of y)) (keep y) (l.alike q y))
+        ∙ sym (any_filter (λ y. is_one_fork y.fork q && is_row x y) keep locks)
+        ∙ sym (ap (list_any (λ y. is_one_fork y.fork q && is_row x y)) l.new_list);
+  });
+}
+  where
+    regroup : (a b c d : Bool) → (a ≡ true → c ≡ d) → (a && (b && c)) ≡ ((a && b) && d)
+    regroup true b c d same = ap (λ t. b && t) (same refl)
+    regroup false b c d same = refl
+
+-- a lock that goes
+pub lock_alike : (fork : Fork) (row : LockRow) (q : Fork) (l : Lock) → is_one_fork l.fork q ≡ true → (if is_one_fork fork q then not (are_one_row row (row_of l)) else true) ≡ not (is_lock fork row.reference.0 row.range l)
+lock_alike fork row q l on = ap (λ f. if is_one_fork fork f then not (are_one_row row (row_of l)) else true) (sym (same_fork l.fork q on)) ∙ ap (λ t. if t then not (are_one_row row (row_of l)) else true) (either_way fork l.fork)
+    ∙ elim (is_one_fork l.fork fork) as (λ t. (if t then not (are_one_row row (row_of l)) else true) ≡ not (t && ((l.reference == row.reference.0) && ((l.range.from == row.range.from) && (l.range.to == row.range.to))))) [
+      | true ↦ ap not (λ i. turn row.reference.0 l.reference i && (turn row.range.from l.range.from i && turn row.range.to l.range.to i))
+      | false ↦ refl
+    ]
+  where
+    turn : (m n : ℕ) → (m == n) ≡ (n == m)
+    turn m n = both_ways (m == n) (n == m) (λ h. let e = one_number m n h in grind (arith, nat_tests, e)) (λ h. let e = one_number n m h in grind (arith, nat_tests, e))
+
+filter_if : (b : Bool) (keep : LockRow → Bool) (rows : List LockRow) → (if b then filter keep rows else rows) ≡ filter (λ x. if b then keep x else true) rows
+filter_if true keep rows = refl
+filter_if false keep [] = refl
+filter_if false keep (x ∷ xs) = ap (λ l. x ∷ l) (filter_if false keep xs)
+
+pub taken_rows : (forks new_forks : List (Fork × List LockRow)) (fork : Fork) (keep : LockRow → Bool) → ((q : Fork) → rows_at new_forks q ≡ (if is_one_fork fork q then filter keep (rows_at forks fork) else rows_at forks q))
+    → (q : Fork) → rows_at new_forks q ≡ filter (λ x. if is_one_fork fork q then keep x else true) (rows_at forks q)
+taken_rows forks new_forks fork keep new_is q = new_is q ∙ elim (is_one_fork fork q) as (λ b. is_one_fork fork q ≡ b → (if b then filter keep (rows_at forks fork) else rows_at forks q) ≡ filter (λ x. if b then keep x else true) (rows_at forks q)) [
+  | true ↦ λ same. ap (λ f. filter keep (rows_at forks f)) (same_fork fork q same)
+  | false ↦ λ other. filter_if false keep (rows_at forks q)
+] refl
+
+-- the row is there where the lock is
+pub lock_there : {locks whole : List Lock} {fork : Fork} {rows : List LockRow} (row : LockRow) → AreIntervals locks fork rows → locks ≡ whole → list_any (are_one_row row) rows ≡ has_lock whole fork row.reference.0 row.range
+lock_there {locks} {whole} {fork} row i shown = i.same row ∙ any_gives (λ l. is_one_fork l.fork fork && is_row row l) (is_lock fork row.reference.0 row.range) locks (λ l. ap (λ t. is_one_fork l.fork fork && t) (λ j. turn row.reference.0 l.reference j && (turn row.range.from l.range.from j && turn row.range.to l.range.to j)))
+    ∙ ap (λ x. has_lock x fork row.reference.0 row.range) shown
+  where
+    turn : (m n : ℕ) → (m == n) ≡ (n == m)
+    turn m n = both_ways (m == n) (n == m) (λ h. let e = one_number m n h in grind (arith, nat_tests, e)) (λ h. let e = one_number n m h in grind (arith, nat_tests, e))
+
+-- ---- the locks of a reference go
+pub no_holder : (r : ℕ) (ls : List Lock) → count_held r ls ≡ 0 → ls ≡ filter (λ l. not (l.reference == r)) ls
+no_holder r [] h = refl
+no_holder r (l ∷ ls) h = elim (l.reference == r) as (λ b. length (if b then l ∷ filter (λ x. x.reference == r) ls else filter (λ x. x.reference == r) ls) ≡ 0 → l ∷ ls ≡ (if not b then l ∷ filter (λ x. not (x.reference == r)) ls else filter (λ x. not (x.reference == r)) ls)) [
+  | true ↦ λ h. absurd (omega (arith, h))
+  | false ↦ λ h. ap (λ rest. l ∷ rest) (no_holder r ls h)
+] h
+
+abbrev pub stays_of : ℕ → LockRow → Bool
+stays_of r x = not (x.reference.0 == r)
+
+stay_all : (r : ℕ) (rows : List LockRow) → list_any (λ x. x.reference.0 == r) rows ≡ false → rows ≡ filter (stays_of r) rows
+stay_all r [] h = refl
+stay_all r (x ∷ xs) h =
+    let parts = or_parts (x.reference.0 == r) (list_any (λ y. y.reference.0 == r) xs) h in
+    ap (λ l. x ∷ l) (stay_all r xs parts.1) ∙ ap (λ b. if not b then x ∷ filter (stays_of r) xs else filter (stays_of r) xs) (sym parts.0)
+
+stay_twice : (r : ℕ) (rows : List LockRow) → filter (stays_of r) (filter (stays_of r) rows) ≡ filter (stays_of r) rows
+stay_twice r [] = refl
+stay_twice r (x ∷ xs) = elim (x.reference.0 == r) as (λ b. x.reference.0 == r ≡ b → filter (stays_of r) (if not b then x ∷ filter (stays_of r) xs else filter (stays_of r) xs) ≡ (if not b then x ∷ filter (stays_of r) xs else filter (stays_of r) xs)) [
+  | true ↦ λ is. stay_twice r xs
+  | false ↦ λ is. ap (λ b. if not b then x ∷ filter (stays_of r) (filter (stays_of r) xs) else filter (stays_of r) (filter (stays_of r) xs)) is ∙ ap (λ l. x ∷ l) (stay_twice r xs)
+] refl
+
+pub cleared : {locks given : List Lock} {forks : List (Fork × List LockRow)} (new_forks : List (Fork × List LockRow)) (r : ℕ) → IsKept locks forks → given ≡ locks → ((q : Fork) → rows_at new_forks q ≡ (if holds_on r q given then filter (stays_of r) (rows_at forks q) else rows_at forks q)) → (q : Fork) → rows_at new_forks q ≡ filter (stays_of r) (rows_at forks q)
+cleared {locks} {given} {forks} new_forks r k given_is new_is q = new_is q ∙ elim (holds_on r q given) as (λ b. holds_on r q given ≡ b → (if b then filter (stays_of r) (rows_at forks q) else rows_at forks q) ≡ filter (stays_of r) (rows_at forks q)) [
+  | true ↦ λ is. refl
+  | false ↦ λ is. stay_all r (rows_at forks q) (rows_tell locks q (rows_at forks q) (λ x. x.reference.0 == r) (k.intervals q).same ∙ sym (ap (holds_on r q) given_is) ∙ is)
+] refl
+
+or_nothing : (b : Bool) → (b || false) ≡ b
+or_nothing true = refl
+or_nothing false = refl
+
+or_all : (b : Bool) → (b || true) ≡ true
+or_all true = refl
+or_all false = refl
+
+holds_more : (ls : List Lock) (i : ℕ) (x : Lock) (r : ℕ) (q : Fork) → i < length ls → x ≡ slice_index_or ls i x → holds_on r q (take (i + 1) ls) ≡ (holds_on r q (take i ls) || (is_one_fork x.fork q && (x.reference == r)))
+holds_more ls i x r q within read = list_any_more (λ l. is_one_fork l.fork q && (l.reference == r)) ls i x within ∙ ap (λ l. holds_on r q (take i ls) || (is_one_fork l.fork q && (l.reference == r))) (sym read)
+
+pub clear_step : (ls : List Lock) (i : ℕ) (x : Lock) (r : ℕ) (first mid new : List (Fork × List LockRow)) (fork : Fork) → i < length ls → x ≡ slice_index_or ls i x → x.reference ≡ r → fork ≡ x.fork
+    → ((q : Fork) → rows_at mid q ≡ (if holds_on r q (take i ls) then filter (stays_of r) (rows_at first q) else rows_at first q))
+    → ((q : Fork) → rows_at new q ≡ (if is_one_fork fork q then filter (stays_of r) (rows_at mid fork) else rows_at mid q))
+    → (q : Fork) → rows_at new q ≡ (if holds_on r q (take (i + 1) ls) then filter (stays_of r) (rows_at first q) else rows_at first q)
+clear_step ls i x r first mid new fork within read is_r fork_is before now_is q =
+    let mine : (x.reference == r) ≡ true = grind (arith, nat_tests, is_r) in
+    now_is q ∙ ap (λ f. if is_one_fork f q then filter (stays_of r) (rows_at mid f) else rows_at mid q) fork_is
+    ∙ elim (is_one_fork x.fork q) as (λ b. is_one_fork x.fork q ≡ b → (if b then filter (stays_of r) (rows_at mid x.fork) else rows_at mid q) ≡ (if holds_on r q (take i ls) || (b && (x.reference == r)) then filter (stays_of r) (rows_at first q) else rows_at first q)) [
+      | true ↦ λ same.
+          ap (λ f. filter (stays_of r) (rows_at mid f)) (same_fork x.fork q same) ∙ ap (filter (stays_of r)) (before q)
+          ∙ elim (holds_on r q (take i ls)) as (λ h. filter (stays_of r) (if h then filter (stays_of r) (rows_at first q) else rows_at first q) ≡ filter (stays_of r) (rows_at first q)) [ true ↦ stay_twice r (rows_at first q) | false ↦ refl ]
+          ∙ ap (λ t. if t then filter (stays_of r) (rows_at first q) else rows_at first q) (sym (ap (λ t. holds_on r q (take i ls) || t) mine ∙ or_all (holds_on r q (take i ls))))
+      | false ↦ λ other. before q ∙ ap (λ t. if t then filter (stays_of r) (rows_at first q) else rows_at first q) (sym (or_nothing (holds_on r q (take i ls))))
+    ] refl
+    ∙ ap (λ t. if t then filter (stays_of r) (rows_at first q) else rows_at first q) (sym (holds_more ls i x r q within read))
+
+pub clear_none : (ls : List Lock) (i : ℕ) (x : Lock) (r : ℕ) (first mid : List (Fork × List LockRow)) → i < length ls → x ≡ slice_index_or ls i x → (x.reference ≡ r → ⊥)
+    → ((q : Fork) → rows_at mid q ≡ (if holds_on r q (take i ls) then filter (stays_of r) (rows_at first q) else rows_at first q))
+    → (q : Fork) → rows_at mid q ≡ (if holds_on r q (take (i + 1) ls) then filter (stays_of r) (rows_at first q) else rows_at first q)
+clear_none ls i x r first mid within read not_r before q =
+    let other : (x.reference == r) ≡ false = grind (arith, nat_tests, not_r) in
+    before q ∙ ap (λ t. if t then filter (stays_of r) (rows_at first q) else rows_at first q)
+    (sym (holds_more ls i x r q within read ∙ ap (λ t. holds_on r q (take i ls) || (is_one_fork x.fork q && t)) other ∙ ap (λ t. holds_on r q (take i ls) || t) (and_none (is_one_fork x.fork q)) ∙ or_nothing (holds_on r q (take i ls))))
+  where
+    and_none : (b : Bool) → (b && false) ≡ false
+    and_none true = refl
+    and_none false = refl
+
+-- ---- two forks change places
+exchange_any : (a b q : Fork) (y : LockRow) (ls : List Lock) → list_any (λ l. is_one_fork l.fork q && is_row y l) (exchanged_locks a b ls) ≡ list_any (λ l. is_one_fork l.fork (in_exchange a b q) && is_row y l) ls
+exchange_any a b q y [] = refl
+exchange_any a b q y (l ∷ ls) = λ i. (crosses a b l.fork q i && is_row y l) || exchange_any a b q y ls i
+
+exchange_apart : (a b : Fork) (ls : List Lock) → are_apart are_overlapping (exchanged_locks a b ls) ≡ are_apart are_overlapping ls
+exchange_apart a b [] = refl
+exchange_apart a b (l ∷ ls) = λ i. not (same ls i) && exchange_apart a b ls i
+  where
+    same : (ls : List Lock) → list_any (are_overlapping (exchange_lock a b l)) (exchanged_locks a b ls) ≡ list_any (are_overlapping l) ls
+    same [] = refl
+    same (x ∷ xs) = λ i. (both_cross a b l.fork x.fork i && do_meet l.range x.range) || same xs i
+
+pub exchange_kept : {locks new_locks : List Lock} {forks new_forks : List (Fork × List LockRow)} (a b : Fork) → IsKept locks forks → new_locks ≡ exchanged_locks a b locks → IsNonDecreasingBy holder_of (exchanged_locks a b locks) → ((q : Fork) → at fork_cmp new_forks q ≡ exchanged fork_cmp (at fork_cmp forks) a b q) → IsKept new_locks new_forks
+exchange_kept {locks} {new_locks} {forks} {new_forks} a b k list_is order new_is = record {
+  order = subst (IsNonDecreasingBy holder_of) (sym list_is) order;
+  apart = ap (are_apart are_overlapping) list_is ∙ exchange_apart a b locks ∙ k.apart;
+  intervals = λ q.
+      let rows_are : rows_at new_forks q ≡ rows_at forks (in_exchange a b q) = ap (λ o. unwrap_or o []) (new_is q ∙ found_crossed (at fork_cmp forks) a b q) in
+      subst (AreIntervals new_locks q) (sym rows_are) (record {
+        order = (k.intervals (in_exchange a b q)).order;
+        same = λ y. (k.intervals (in_exchange a b q)).same y ∙ sym (ap (list_any (λ l. is_one_fork l.fork q && is_row y l)) list_is ∙ exchange_any a b q y locks);
+      });
+}
+
+pub exchange_order : (a b : Fork) (ls : List Lock) → IsNonDecreasingBy holder_of ls → IsNonDecreasingBy holder_of (exchanged_locks a b ls)
+exchange_order a b ls order = λ i j d low high.
+    let len = length_same ls in
+    let within : j < length ls = omega (arith, len, high) in
+    let e : holder_of (slice_index_or (exchanged_locks a b ls) i d) ≡ holder_of (slice_index_or ls i d) = holder_same ls i d (omega (arith, low, within)) in
+    let f : holder_of (slice_index_or (exchanged_locks a b ls) j d) ≡ holder_of (slice_index_or ls j d) = holder_same ls j d within in
+    let g : holder_of (slice_index_or ls i d) ≤ holder_of (slice_index_or ls j d) = order i j d low within in
+    omega (arith, e, f, g)
+  where
+    length_same : (ls : List Lock) → length (exchanged_locks a b ls) ≡ length ls
+    length_same [] = refl
+    length_same (l ∷ ls) = ap suc (length_same ls)
+
+    holder_same : (ls : List Lock) (i : ℕ) (d : Lock) → i < length ls → holder_of (slice_index_or (exchanged_locks a b ls) i d) ≡ holder_of (slice_index_or ls i d)
+    holder_same [] i d h = absurd (omega arith)
+    holder_same (l ∷ ls) zero d h = refl
+    holder_same (l ∷ ls) (suc i) d h = holder_same ls i d (omega arith)
+
+pub exchange_more : (a b : Fork) (first ys : List Lock) (i : ℕ) (x put : Lock) → i < length first → ys ≡ map (exchange_lock a b) (take i first) ++ drop i first → x ≡ slice_index_or ys i x → put ≡ exchange_lock a b x → slice_set ys i put ≡ map (exchange_lock a b) (take (i + 1) first) ++ drop (i + 1) first
+exchange_more a b first ys i x put within ys_is read put_is = ap (slice_set ys i) put_is ∙ map_over_more (exchange_lock a b) first ys i x within ys_is read

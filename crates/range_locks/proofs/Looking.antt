@@ -7,11 +7,12 @@ use Rattle.std.specs.List.Sorted.{IsPartitionedBy, IsPartitionPoint}
 use Rattle.std.proofs.lemmas.Bool.{cases_lt}
 use Rattle.std.proofs.lemmas.Bool.Decides.{nat_tests}
 use Rattle.std.proofs.lemmas.List.Folds.{Any-from_list_any, list_any_at}
+use Rattle.std.proofs.lemmas.List.{get_or_default}
 use Rattle.std.proofs.lemmas.List.Edits.{get_or-between, length-between}
 use Rattle.afp_base.specs.Overlap.{Range, do_meet}
 use Rattle.range_locks.specs.declared.rows.LockRow.{LockRow}
 use Rattle.range_locks.specs.declared.rows.Seen.{Seen}
-use Rattle.range_locks.specs.Locks.{AreInOrder}
+use Rattle.range_locks.specs.Locks.{AreInOrder, are_one_row}
 use Rattle.range_locks.specs.Seen.{IsSeen}
 
 below : (a b : ℕ) → nat_lt a b ≡ true → a < b
@@ -61,7 +62,6 @@ module _ (rows : List LockRow) (o : AreInOrder rows) where
   module _ (range : Range) (ordered : range.from ≤ range.to) (from to : ℕ) (from_in : from ≤ length rows) (to_in : to ≤ length rows)
       (ends : IsPartitionPoint (λ row. nat_lt row.range.to range.from ≡ true) (λ row. nat_lt row.range.to range.from ≡ false) rows from)
       (starts : IsPartitionPoint (λ row. nat_le row.range.from range.to ≡ true) (λ row. nat_le row.range.from range.to ≡ false) rows to) where
-
     -- the rows that end before the range begin before it too
     pub in_turn : LockRow → from ≤ to
     in_turn d = elim (cases_lt to from) [
@@ -77,8 +77,7 @@ module _ (rows : List LockRow) (o : AreInOrder rows) where
 
     met_between : (k : ℕ) (d : LockRow) → k < length rows → meets (row_at rows k d) ≡ true → (from ≤ k) × (k < to)
     met_between k d within met =
-        let parts = and_parts (nat_le (row_at rows k d).range.from range.to) (nat_le range.from (row_at rows k d).range.to) met in
-        (
+        let parts = and_parts (nat_le (row_at rows k d).range.from range.to) (nat_le range.from (row_at rows k d).range.to) met in (
           elim (cases_lt k from) [ inl less ↦ absurd (let a = below _ _ (ends.0 k d (omega arith) less) in let b = at_most _ _ parts.1 in omega (arith, a, b)) | inr other ↦ other ],
           elim (cases_lt k to) [ inl less ↦ less | inr other ↦ absurd (let a = above _ _ (starts.1 k d other within) in let b = at_most _ _ parts.0 in omega (arith, a, b)) ],
         )
@@ -100,21 +99,21 @@ module _ (rows : List LockRow) (o : AreInOrder rows) where
     pub any_met : (p : LockRow → Bool) → list_any (λ row. meets row && p row) rows ≡ list_any p (slice_range rows from to)
     any_met p = both_ways _ _
         (λ h.
-            let f = Any-from_list_any (λ row. meets row && p row) rows h in
-            let both = both_true (meets f.1) (p f.1) f.4 in
-            let here : meets (row_at rows f.0 f.1) ≡ true = ap meets f.3 ∙ both.0 in
-            let place = met_between f.0 f.1 f.2 here in
-            let len = length-between rows from to to_in in
-            let there : slice_index_or (slice_range rows from to) (f.0 - from) f.1 ≡ f.1 =
-                get_or-between rows from to (f.0 - from) f.1 (omega (arith, place.0, place.1)) ∙ ap (λ k. slice_index_or rows k f.1) (omega_is f.0 place.0) ∙ f.3 in
-            list_any_at p (slice_range rows from to) (f.0 - from) f.1 (omega (arith, len, place.0, place.1)) (ap p there ∙ both.1))
+        let f = Any-from_list_any (λ row. meets row && p row) rows h in
+        let both = both_true (meets f.1) (p f.1) f.4 in
+        let here : meets (row_at rows f.0 f.1) ≡ true = ap meets f.3 ∙ both.0 in
+        let place = met_between f.0 f.1 f.2 here in
+        let len = length-between rows from to to_in in
+        let there : slice_index_or (slice_range rows from to) (f.0 - from) f.1 ≡ f.1 =
+        get_or-between rows from to (f.0 - from) f.1 (omega (arith, place.0, place.1)) ∙ ap (λ k. slice_index_or rows k f.1) (omega_is f.0 place.0) ∙ f.3 in
+        list_any_at p (slice_range rows from to) (f.0 - from) f.1 (omega (arith, len, place.0, place.1)) (ap p there ∙ both.1))
         (λ h.
-            let f = Any-from_list_any p (slice_range rows from to) h in
-            let len = length-between rows from to to_in in
-            let inside : from + f.0 < to = omega (arith, len, f.2) in
-            let there : slice_index_or rows (from + f.0) f.1 ≡ f.1 = sym (get_or-between rows from to f.0 f.1 inside) ∙ f.3 in
-            let met : meets f.1 ≡ true = sym (ap meets there) ∙ between_meets (from + f.0) f.1 (omega arith) inside in
-            list_any_at (λ row. meets row && p row) rows (from + f.0) f.1 (omega (arith, inside)) (ap (λ row. meets row && p row) there ∙ (λ i. met i && f.4 i)))
+        let f = Any-from_list_any p (slice_range rows from to) h in
+        let len = length-between rows from to to_in in
+        let inside : from + f.0 < to = omega (arith, len, f.2) in
+        let there : slice_index_or rows (from + f.0) f.1 ≡ f.1 = sym (get_or-between rows from to f.0 f.1 inside) ∙ f.3 in
+        let met : meets f.1 ≡ true = sym (ap meets there) ∙ between_meets (from + f.0) f.1 (omega arith) inside in
+        list_any_at (λ row. meets row && p row) rows (from + f.0) f.1 (omega (arith, inside)) (ap (λ row. meets row && p row) there ∙ (λ i. met i && f.4 i)))
       where
         omega_is : (k : ℕ) → from ≤ k → from + (k - from) ≡ k
         omega_is k h = omega arith
@@ -129,3 +128,47 @@ module _ (rows : List LockRow) (o : AreInOrder rows) where
       before = λ i d less. ends.0 i d (omega arith) less;
       behind = λ i d low high. ends.1 i d low high;
     }
+
+-- ---- a row that is there
+module _ (rows : List LockRow) (o : AreInOrder rows) (row : LockRow) (ordered : row.range.from ≤ row.range.to) (place : ℕ) (ends : IsPartitionPoint (λ x. nat_lt x.range.to row.range.from ≡ true) (λ x. nat_lt x.range.to row.range.from ≡ false) rows place) where
+  both_parts : (a b : Bool) → (a && b) ≡ true → (a ≡ true) × (b ≡ true)
+  both_parts true b h = (refl, h)
+  both_parts false b h = absurd (cc h)
+
+  ends_same : (x : LockRow) → are_one_row row x ≡ true → (row.range.from ≡ x.range.from) × (row.range.to ≡ x.range.to)
+  ends_same x h =
+      let first = both_parts (row.reference.0 == x.reference.0) ((row.range.from == x.range.from) && (row.range.to == x.range.to)) h in
+      let both = both_parts (row.range.from == x.range.from) (row.range.to == x.range.to) first.1 in
+      (one row.range.from x.range.from both.0, one row.range.to x.range.to both.1)
+    where
+      one : (m n : ℕ) → (m == n) ≡ true → m ≡ n
+      one m n h = grind (arith, nat_tests, h)
+
+  not_before : (k : ℕ) (x : LockRow) → k < length rows → slice_index_or rows k x ≡ x → are_one_row row x ≡ true → place ≤ k
+  not_before k x within is same = elim (cases_lt k place) [
+    | inl less ↦ absurd (let e = ends_same x same in let a = below _ _ (sym (ap (λ (y : LockRow). nat_lt y.range.to row.range.from) is) ∙ ends.0 k x (omega arith) less) in omega (arith, a, e.1))
+    | inr other ↦ other
+  ]
+
+  pub row_none : (place < length rows → ⊥) → false ≡ list_any (are_one_row row) rows
+  row_none none = elim (list_any (are_one_row row) rows) as (λ b. list_any (are_one_row row) rows ≡ b → false ≡ b) [
+    | true ↦ λ is. let f = Any-from_list_any (are_one_row row) rows is in absurd (let low = not_before f.0 f.1 f.2 f.3 f.4 in none (omega (arith, low, f.2)))
+    | false ↦ λ is. refl
+  ] refl
+
+  pub row_some : (x : LockRow) → place < length rows → x ≡ slice_index_or rows place x → are_one_row row x ≡ list_any (are_one_row row) rows
+  row_some x within read = both_ways _ _
+      (λ h. list_any_at (are_one_row row) rows place x within (sym (ap (are_one_row row) read) ∙ h))
+      (λ h.
+      let f = Any-from_list_any (are_one_row row) rows h in
+      let low = not_before f.0 f.1 f.2 f.3 f.4 in
+      let here : f.0 ≡ place = elim (cases_lt place f.0) [
+        | inl less ↦ absurd (
+            let e = ends_same f.1 f.4 in
+            let a = rising rows o place f.0 f.1 less f.2 in
+            let b = not_below _ _ (ends.1 place f.1 (omega arith) within) in
+            let c : (slice_index_or rows f.0 f.1).range.from ≡ f.1.range.from = ap (λ (y : LockRow). y.range.from) f.3 in
+            omega (arith, a, b, c, e.0))
+        | inr other ↦ omega (arith, low, other)
+      ] in
+      ap (are_one_row row) (read ∙ ap (λ k. slice_index_or rows k x) (sym here) ∙ get_or_default rows f.0 x f.1 f.2 ∙ f.3) ∙ f.4)

@@ -1,7 +1,8 @@
 -- What is kept for the locks: a list by reference, and rows by fork (this profile).
-use Rattle.std.specs.Prelude.{◌≡◌, ℕ, ◌≤◌, ◌<◌, nat_le, nat_lt, Bool, true, false, List, [], length, slice_index_or, unwrap_or}
+use Rattle.std.specs.Prelude.{◌≡◌, ℕ, ◌≤◌, ◌<◌, nat_le, nat_lt, ◌==◌, ◌&&◌, Bool, true, false, List, [], length, slice_index_or, unwrap_or}
+use Rattle.std.specs.List.{list_any}
 use Rattle.std.specs.List.Sorted.{IsNonDecreasingBy}
-use Rattle.afp_base.specs.DenyMode.{Fork}
+use Rattle.afp_base.specs.DenyMode.{Fork, is_one_fork}
 use Rattle.sorted_map.specs.Entries.{at}
 use Rattle.deny_modes.specs.Apart.{are_apart}
 use Rattle.deny_modes.specs.ForkOrder.{fork_cmp}
@@ -26,6 +27,10 @@ pub record IsBefore (locks : List Lock) (reference place : ℕ) : Type 0 where
   pub within : place ≤ length locks
   pub front : (k : ℕ) (d : Lock) → k < place → nat_lt (holder_of (slice_index_or locks k d)) reference ≡ true
   pub rest : (k : ℕ) (d : Lock) → place ≤ k → k < length locks → nat_lt (holder_of (slice_index_or locks k d)) reference ≡ false
+
+-- some lock of the reference is on that fork
+abbrev pub holds_on : ℕ → Fork → List Lock → Bool
+holds_on reference fork locks = list_any (λ l. is_one_fork l.fork fork && (l.reference == reference)) locks
 
 -- references do not fall along the list, no two locks on one fork share a byte, and each fork has its rows
 pub record IsKept (locks : List Lock) (forks : List (Fork × List LockRow)) : Type 0 where

@@ -39,10 +39,10 @@ count_held reference locks = length (filter (λ l. l.reference == reference) loc
 -- the refusals of a lock, in order
 abbrev pub lock_refusal : List Lock → Fork → ℕ → Range → Option LockFault
 lock_refusal locks fork reference range = first_holding (
-  (is_met_by_other locks fork reference range, Locked)
-  ∷ (is_met_by_own locks fork reference range, Overlap)
-  ∷ (nat_le most_locks (count_held reference locks), Full)
-  ∷ [])
+    (is_met_by_other locks fork reference range, Locked)
+    ∷ (is_met_by_own locks fork reference range, Overlap)
+    ∷ (nat_le most_locks (count_held reference locks), Full)
+    ∷ [])
 
 -- the locks, which stand by rising reference and for one reference in the order in which they were set, with one more
 abbrev pub with_lock : Lock → List Lock → List Lock

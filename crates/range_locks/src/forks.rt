@@ -1,10 +1,11 @@
 //! Rows by fork.
-ghost use Rattle.std.specs.Prelude.{◌≡◌, ◌<◌, ◌≤◌, ℕ, IsSome, OnOk, OnErr, length, unwrap_or, [], if◌then◌else◌};
-ghost use Rattle.std.specs.List.{insert, remove};
+ghost use Rattle.std.specs.Prelude.{◌≡◌, ◌≤◌, ◌==◌, not, filter, IsSome, OnOk, OnErr, length, unwrap_or, [], if◌then◌else◌};
+ghost use Rattle.std.specs.List.{insert};
 ghost use Rattle.afp_base.specs.DenyMode.{Fork, is_one_fork};
 ghost use Rattle.sorted_map.specs.Entries.{at};
 ghost use Rattle.deny_modes.specs.ForkOrder.{fork_cmp};
 ghost use Rattle.range_locks.specs.Kept.{rows_at};
+ghost use Rattle.range_locks.specs.Locks.{are_one_row};
 
 use crate::rows::{LockRow, Rows};
 use afp_base::OutOfMemory;
@@ -46,16 +47,43 @@ pub(crate) fn add_row(
     Ok(())
 }
 
-/// Takes the row at a place among a fork's rows away.
-pub(crate) fn take_row(forks: &mut SortedMap<ForkKey, Rows>, alloc: Global, fork: ForkKey, place: usize)
-    requires { place < length (rows_at forks.old fork) }
-    ensures { (q : Fork) → rows_at forks.new q ≡ (if is_one_fork fork q then remove (rows_at forks.old fork) place else rows_at forks.old q) }
+/// Takes a row of a fork away, where it is.
+pub(crate) fn take_row(
+    forks: &mut SortedMap<ForkKey, Rows>,
+    alloc: Global,
+    fork: ForkKey,
+    row: LockRow,
+)
+    ensures { (q : Fork) → rows_at forks.new q ≡ (if is_one_fork fork q then filter (λ x. not (are_one_row row x)) (rows_at forks.old fork) else rows_at forks.old q) }
 {
+    if forks.get(fork).is_none() {
+        return;
+    }
     let Ok(old) = forks.insert(fork, Rows::new(alloc)) else {
         return;
     };
     let mut rows = or_none(old, alloc);
-    rows.remove(place);
+    rows.take_row(row);
+    put_rows(forks, fork, rows);
+}
+
+/// Takes the rows of a reference on a fork away.
+pub(crate) fn take_holder(
+    forks: &mut SortedMap<ForkKey, Rows>,
+    alloc: Global,
+    fork: ForkKey,
+    r: u16,
+)
+    ensures { (q : Fork) → rows_at forks.new q ≡ (if is_one_fork fork q then filter (λ x. not (x.reference.0 == r)) (rows_at forks.old fork) else rows_at forks.old q) }
+{
+    if forks.get(fork).is_none() {
+        return;
+    }
+    let Ok(old) = forks.insert(fork, Rows::new(alloc)) else {
+        return;
+    };
+    let mut rows = or_none(old, alloc);
+    rows.take_holder(r);
     put_rows(forks, fork, rows);
 }
 

@@ -4,7 +4,6 @@
 mod fault;
 mod forks;
 mod locks;
-
 mod range;
 mod rows;
 #[cfg(test)]
@@ -12,6 +11,5 @@ mod tests;
 
 pub use fault::{LockFault, NotLocked};
 pub use locks::Locks;
-
 pub use range::Range;
 pub use rows::LockRow;

@@ -1,12 +1,15 @@
 //! The locks of all references.
-ghost use Rattle.std.specs.Prelude.{◌≡◌, ◌≤◌, [], length};
+ghost use Rattle.std.specs.Prelude.{◌≡◌, ◌==◌, [], true, not, filter, if◌then◌else◌};
+ghost use Rattle.afp_base.specs.DenyMode.{Fork};
+ghost use Rattle.deny_modes.specs.Opens.{in_exchange};
 ghost use Rattle.std.specs.List.Sorted.{IsNonDecreasingBy};
-ghost use Rattle.range_locks.specs.Locks.{Lock, SetsLock, AreIntervals, AreInOrder, is_met_by_other, count_held, with_lock};
-ghost use Rattle.range_locks.specs.Kept.{IsBehind, IsBefore, holder_of};
+ghost use Rattle.deny_modes.specs.Apart.{are_apart};
+ghost use Rattle.range_locks.specs.Locks.{are_overlapping, SetsLock, TakesLock, AreIntervals, is_met_by_other, count_held, is_lock, without_holder, exchange_lock, exchanged_locks};
+ghost use Rattle.range_locks.specs.Kept.{IsBehind, IsBefore, holder_of, holds_on, rows_at};
 
-use crate::forks::{add_row, rows_of};
-use crate::rows::{look, LockRow, Rows};
-use crate::{LockFault, Range};
+use crate::forks::{add_row, rows_of, take_holder, take_row};
+use crate::rows::{LockRow, Rows, has_row, look};
+use crate::{LockFault, NotLocked, Range};
 use afp_base::ForkRef;
 use deny_modes::ForkKey;
 use sorted_map::SortedMap;
@@ -36,6 +39,31 @@ impl HeldLock {
         ensures { result ≡ self.now.reference }
     {
         self.reference
+    }
+
+    fn fork(&self) -> ForkKey
+        ensures { result ≡ self.now.fork }
+    {
+        self.fork
+    }
+
+    /// Whether it is the lock of that reference on that fork, with exactly these ends.
+    fn is(&self, fork: &ForkKey, r: u16, range: &Range) -> bool
+        ensures { result ≡ is_lock fork.now r range.now self.now }
+    {
+        self.fork == *fork
+            && (self.reference == r
+                && (self.range.first() == range.first() && self.range.last() == range.last()))
+    }
+
+    fn exchanged(&self, a: &ForkKey, b: &ForkKey) -> HeldLock
+        ensures { result ≡ exchange_lock a.now b.now self.now }
+    {
+        HeldLock {
+            reference: self.reference,
+            fork: in_exchange(a, b, &self.fork),
+            range: self.range,
+        }
     }
 }
 
@@ -71,6 +99,13 @@ impl Locks {
             forks: SortedMap::new(alloc),
             alloc,
         }
+    }
+
+    /// What is kept true: no two of the locks overlap. The call does nothing.
+    pub fn no_two_overlap(&self)
+        ensures { are_apart are_overlapping self.now ≡ true }
+    {
+        let _ = &self.list;
     }
 
     /// The locks on that fork, by rising start.
@@ -119,6 +154,89 @@ impl Locks {
         };
         let _ = self.list.insert(place, held);
         Ok(())
+    }
+
+    /// Takes a lock away: the one with exactly these ends. A refusal changes nothing.
+    pub fn unlock(&mut self, fork: &ForkKey, r: ForkRef, range: Range) -> Result<(), NotLocked>
+        ensures { TakesLock self.old fork.now r.0 range result self.new }
+    {
+        let row = LockRow {
+            range,
+            reference: r,
+        };
+        if !has_row(rows_of(&self.forks, fork), &row) {
+            return Err(NotLocked);
+        }
+        take_row(&mut self.forks, self.alloc, *fork, row);
+        drop_lock(&mut self.list, fork, r.0, range);
+        Ok(())
+    }
+
+    /// Takes the locks of that reference away.
+    pub fn forget(&mut self, r: ForkRef)
+        ensures { self.new ≡ without_holder r.0 self.old }
+    {
+        if held_by(self.list.as_slice(), r.0) == 0 {
+            return;
+        }
+        clear_rows(self.list.as_slice(), &mut self.forks, self.alloc, r.0);
+        drop_holder(&mut self.list, r.0);
+    }
+
+    /// Makes each lock on the one fork one on the other, and the other way round.
+    pub fn swap(&mut self, a: &ForkKey, b: &ForkKey)
+        ensures { self.new ≡ exchanged_locks a.now b.now self.old }
+    {
+        self.forks.exchange(*a, *b);
+        exchange_list(&mut self.list, a, b);
+    }
+}
+
+/// The fork that stands in a fork's place where `a` and `b` change places.
+fn in_exchange(a: &ForkKey, b: &ForkKey, fork: &ForkKey) -> ForkKey
+    ensures { result ≡ in_exchange a.now b.now fork.now }
+{
+    if a == fork {
+        *b
+    } else if b == fork {
+        *a
+    } else {
+        *fork
+    }
+}
+
+/// Makes each lock of the list on the one fork one on the other, and the other way round.
+fn exchange_list(list: &mut Vec<HeldLock>, a: &ForkKey, b: &ForkKey)
+    ensures { list.new.items ≡ exchanged_locks a.now b.now list.old.items }
+{
+    for place in 0..list.len() {
+        let held = list[place];
+        list[place] = held.exchanged(a, b);
+    }
+}
+
+/// Takes that lock out of the list.
+fn drop_lock(list: &mut Vec<HeldLock>, fork: &ForkKey, r: u16, range: Range)
+    ensures { list.new.items ≡ filter (λ l. not (is_lock fork.now r range l)) list.old.items }
+{
+    list.retain(|l| !l.is(fork, r, &range));
+}
+
+/// Takes the locks of a reference out of the list.
+fn drop_holder(list: &mut Vec<HeldLock>, r: u16)
+    ensures { list.new.items ≡ without_holder r list.old.items }
+{
+    list.retain(|l| l.reference() != r);
+}
+
+/// Takes the rows of a reference away, on each fork where the list has a lock of it.
+fn clear_rows(list: &[HeldLock], forks: &mut SortedMap<ForkKey, Rows>, alloc: Global, r: u16)
+    ensures { (q : Fork) → rows_at forks.new q ≡ (if holds_on r q list.now then filter (λ x. not (x.reference.0 == r)) (rows_at forks.old q) else rows_at forks.old q) }
+{
+    for held in list {
+        if held.reference() == r {
+            take_holder(forks, alloc, held.fork(), r);
+        }
     }
 }
 

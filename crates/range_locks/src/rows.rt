@@ -1,8 +1,8 @@
 //! The locks on one fork, by rising start.
-ghost use Rattle.std.specs.Prelude.{◌≡◌, ◌<◌, ◌≤◌, ◌&&◌, ◌==◌, [], length, not, OnOk, OnErr, slice_range};
-ghost use Rattle.std.specs.List.{list_any, insert, remove};
+ghost use Rattle.std.specs.Prelude.{◌≡◌, ◌<◌, ◌≤◌, ◌&&◌, ◌==◌, [], length, not, filter, OnOk, OnErr, slice_range};
+ghost use Rattle.std.specs.List.{list_any, insert};
 ghost use Rattle.afp_base.specs.Overlap.{do_meet};
-ghost use Rattle.range_locks.specs.Locks.{AreInOrder};
+ghost use Rattle.range_locks.specs.Locks.{AreInOrder, are_one_row};
 ghost use Rattle.range_locks.specs.Seen.{IsSeen};
 
 use crate::Range;
@@ -15,6 +15,17 @@ use std::marker::Model;
 pub struct LockRow {
     pub range: Range,
     pub reference: ForkRef,
+}
+
+impl LockRow {
+    /// Whether the two are one lock.
+    fn is(&self, other: &LockRow) -> bool
+        ensures { result ≡ are_one_row self.now other.now }
+    {
+        self.reference.0 == other.reference.0
+            && (self.range.first() == other.range.first()
+                && self.range.last() == other.range.last())
+    }
 }
 
 /// Rows of a fork. Contracts see a list.
@@ -52,11 +63,18 @@ impl Rows {
         Ok(())
     }
 
-    pub(crate) fn remove(&mut self, place: usize)
-        requires { place < length self.old }
-        ensures { self.new ≡ remove self.old place }
+    /// Takes that row away, where it is.
+    pub(crate) fn take_row(&mut self, row: LockRow)
+        ensures { self.new ≡ filter (λ x. not (are_one_row row x)) self.old }
     {
-        let _ = self.0.remove(place);
+        self.0.retain(|x| !row.is(x));
+    }
+
+    /// Takes the rows of a reference away.
+    pub(crate) fn take_holder(&mut self, r: u16)
+        ensures { self.new ≡ filter (λ x. not (x.reference.0 == r)) self.old }
+    {
+        self.0.retain(|x| x.reference.0 != r);
     }
 }
 
@@ -104,4 +122,18 @@ fn has_own(rows: &[LockRow], r: ForkRef) -> bool
     ensures { result ≡ list_any (λ row. row.reference.0 == r.0) rows.now }
 {
     rows.iter().any(|row| row.reference.0 == r.0)
+}
+
+/// Whether that row is there. A halving finds the one place where it may be.
+pub(crate) fn has_row(rows: &[LockRow], row: &LockRow) -> bool
+    requires { AreInOrder rows.now }
+    ensures { result ≡ list_any (are_one_row row.now) rows.now }
+{
+    let first = row.range.first();
+    let place = rows.partition_point(|x| x.range.last() < first);
+    if place < rows.len() {
+        row.is(&rows[place])
+    } else {
+        false
+    }
 }
