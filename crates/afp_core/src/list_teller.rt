@@ -24,7 +24,7 @@ pub struct ListTeller {
 }
 
 impl ListTeller {
-    ghost use Rattle.afp_core.specs.Telling.{start_of, core_of, history_of};
+    ghost use Rattle.afp_core.specs.Telling.{start_of, core_of, history_of, shown_of};
 
     /// A teller that begins at the core's world, with no history.
     pub fn new(alloc: Global, core: Core) -> ListTeller
@@ -47,12 +47,12 @@ impl ListTeller {
     }
 
     /// The core. Its world is what the history makes of the world at the start, and its counts went on by the history. No volume has a
-    /// keeper yet.
+    /// keeper yet, so none has failed.
     pub fn core(&self) -> &Core
         ensures value { result.now ≡ core_of self.now }
         ensures stands { result.now.world ≡ stand (start_of self.now).world (history_of self.now) }
         ensures counted { IsCounted (start_of self.now) (history_of self.now) result.now }
-        ensures unkept { result.now.faults ≡ [] }
+        ensures faultless { (shown_of self.now).faults ≡ 0 }
     {
         &self.core
     }

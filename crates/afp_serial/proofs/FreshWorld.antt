@@ -1,6 +1,6 @@
 -- A world at the start is sound, over sound volumes and over those that nobody has used.
-use Rattle.std.proofs.Common.{◌≡◌, ap, refl, ℕ, suc, ◌≤◌, true, false, ◌&&◌, List, [], ◌∷◌, length, map, arith, None}
-use Rattle.std.specs.Prelude.{nat_le, nat_lt, ◌==◌, Option, bytes_eq, is_none}
+use Rattle.std.proofs.Common.{◌≡◌, ap, refl, ℕ, suc, ◌≤◌, true, false, List, [], ◌∷◌, length, map, arith, None}
+use Rattle.std.specs.Prelude.{nat_le, nat_lt, ◌==◌, bytes_eq, is_none}
 use Rattle.std.specs.Cmp.Lexicographic.{pointwise}
 use Rattle.std.specs.List.{list_all, list_any}
 use Rattle.std.specs.Str.{IsAscii, is_utf8}

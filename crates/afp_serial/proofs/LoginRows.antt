@@ -10,7 +10,7 @@ use Rattle.afp_requests.specs.declared.call.Call.TheVariants.{Login, Logout}
 use Rattle.afp_serial.proofs.Closed.{ending-sound, ending-apart}
 use Rattle.afp_serial.proofs.Replaced.{TakesPlace, replaced-apart, replaced-old, replaced-sound, volume-kept}
 use Rattle.afp_serial.proofs.SoundRow.{IsSoundRow}
-use Rattle.afp_serial.proofs.SoundParts.{ApartSessions, sessions-parts, opens-parts, caches-parts}
+use Rattle.afp_serial.proofs.SoundParts.{sessions-parts, opens-parts, caches-parts}
 use Rattle.afp_volume.proofs.TestedLists.{all-weaker, any-filter, find-all}
 use Rattle.afp_serial.specs.ReplyKinds.{reply_kind}
 use Rattle.afp_serial.specs.Login.{login_row, guest_id}

@@ -1,12 +1,10 @@
 -- An answer Ok is a kept one, or is shown by its row's reply.
-use Rattle.std.proofs.Common.{◌≡◌, ◌∙◌, ap, sym, refl, subst, ℕ, Bool, true, false, not, ◌&&◌, cond, max, List, [], inl, inr, ◌⊎◌, Option, Some, None}
+use Rattle.std.proofs.Common.{◌≡◌, ◌∙◌, ap, sym, refl, subst, ℕ, Bool, true, false, not, List, [], inl, inr, ◌⊎◌, Option, Some, None}
 use Rattle.std.specs.Prelude.{◌==◌}
 use Rattle.std.proofs.lemmas.Bool.{and_parts, cond_both}
-use Rattle.afp_base.specs.Cached.{Answer, Request}
 use Rattle.afp_base.specs.declared.code.Code.{Code}
 use Rattle.afp_base.specs.declared.code.Code.TheVariants as code
 use Rattle.afp_replies.specs.Replies.{Shows, canonical_reply}
-use Rattle.afp_requests.specs.declared.call.Call.{Call}
 use Rattle.afp_serial.proofs.Refusals.{refuses_shortly, verdict-short}
 use Rattle.afp_serial.proofs.RowsSound.{row-sound}
 use Rattle.afp_serial.proofs.SoundRow.{is_ok, is_short}
@@ -19,10 +17,10 @@ use Rattle.afp_serial.specs.declared.ask.Outcome.{Outcome}
 use Rattle.afp_serial.specs.declared.ask.Outcome.TheVariants as outcome
 use Rattle.afp_serial.specs.declared.ask.Told.{Told}
 use Rattle.afp_serial.specs.declared.ask.Told.TheVariants as told
-use Rattle.afp_serial.specs.Answer.{answer, answer_at, is_full, is_legal, link_number, refusal_reply, request, told_call, told_parting, told_pulse, told_verdict}
+use Rattle.afp_serial.specs.Answer.{answer_at, is_full, link_number, refusal_reply, request, told_call, told_parting, told_pulse, told_verdict}
 use Rattle.afp_serial.specs.Laws.{IsEffectAnswer, IsKeptAnswer, TellsShown}
 use Rattle.afp_serial.specs.ReplyKinds.{reply_kind}
-use Rattle.afp_serial.specs.Rows.{effect, ends_session}
+use Rattle.afp_serial.specs.Rows.{effect}
 use Rattle.afp_serial.specs.Sessions.{session_at}
 use Rattle.afp_serial.specs.Sound.{IsSound}
 use Rattle.afp_serial.specs.Steps.{Verdict, refused, repeats, runs, verdict}

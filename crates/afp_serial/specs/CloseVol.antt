@@ -1,5 +1,5 @@
 -- FPCloseVol (AFP Reference, "FPCloseVol").
-use Rattle.std.specs.Prelude.{ℕ, ◌==◌, not, ◌&&◌, List, [], ◌∷◌, filter}
+use Rattle.std.specs.Prelude.{ℕ, ◌==◌, not, ◌&&◌, [], ◌∷◌, filter}
 use Rattle.afp_serial.specs.CallRow.{Effect, Row, commits_nothing, silently, vol}
 use Rattle.afp_serial.specs.Sessions.{with_session, closing}
 use Rattle.afp_serial.specs.World.{World, Session}

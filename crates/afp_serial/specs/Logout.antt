@@ -1,5 +1,5 @@
 -- FPLogout (AFP Reference, "FPLogout").
-use Rattle.std.specs.Prelude.{List, []}
+use Rattle.std.specs.Prelude.{[]}
 use Rattle.afp_replies.specs.declared.reply.Reply.TheVariants.{Empty}
 use Rattle.afp_serial.specs.CallRow.{Row, commits_nothing}
 use Rattle.afp_serial.specs.Sessions.{without_session}

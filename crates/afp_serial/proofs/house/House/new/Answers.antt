@@ -1,4 +1,4 @@
-use Rattle.std.proofs.Common.{◌≡◌, ◌∙◌, sym, subst, true, None, List}
+use Rattle.std.proofs.Common.{◌≡◌, sym, subst, true, None, List}
 use Rattle.std.specs.List.{list_all}
 use Rattle.std.specs.Prelude.{Some}
 use Rattle.afp_serial.specs.Household.{household}
