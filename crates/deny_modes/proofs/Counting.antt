@@ -1,6 +1,6 @@
 -- The tallies tell what the list of opens tells, after each call.
-use Rattle.std.proofs.Common.{◌≡◌, ◌∙◌, refl, sym, ap, subst, ℕ, zero, suc, ◌+◌, ◌-◌, ◌<◌, ◌≤◌, Bool, true, false, cond, not, ◌&&◌, ◌||◌, ◌==◌, if◌then◌else◌, List, [], ◌∷◌, ◌++◌, length, map, filter, take, drop, Option, Some, None, unwrap_or, All, arith}
-use Rattle.std.specs.Prelude.{nat_lt, Result, Ok, Err, OnOk, OnErr, slice_index, slice_index_or, slice_set}
+use Rattle.std.proofs.Common.{◌≡◌, ◌∙◌, refl, sym, ap, subst, ℕ, suc, ◌+◌, ◌-◌, ◌<◌, ◌≤◌, Bool, true, false, cond, not, ◌&&◌, ◌||◌, ◌==◌, if◌then◌else◌, List, [], ◌∷◌, ◌++◌, length, map, filter, take, drop, Option, Some, None, unwrap_or, arith}
+use Rattle.std.specs.Prelude.{nat_lt, Result, Ok, Err, OnOk, OnErr, slice_index_or, slice_set}
 use Rattle.std.specs.List.{list_any, AllByRecursion}
 use Rattle.std.specs.Map.{keys_of, update, remove_entry}
 use Rattle.std.specs.BTreeMap.{insert_entry, is_at}
@@ -8,10 +8,9 @@ use Rattle.std.specs.Ordering.{nat_cmp, is_eq, eq_by_cmp}
 use Rattle.std.proofs.lemmas.Bool.Decides.{nat_tests}
 use Rattle.std.proofs.lemmas.List.Edits.{map_over_more}
 use Rattle.std.proofs.lemmas.List.Elements.{All-from_recursion}
-use Rattle.std.proofs.lemmas.Map.Entries.{length-keys_of}
 use Rattle.std.proofs.lemmas.Map.Views.{length-le_from_below}
 use mathlib.Core.Bool.{false≢true}
-use Rattle.afp_base.specs.DenyMode.{Access, Fork, is_one_fork, is_clash, do_conflict}
+use Rattle.afp_base.specs.DenyMode.{Access, Fork, is_one_fork, is_clash}
 use Rattle.sorted_map.specs.Entries.{at, exchanged, with_new_value}
 use Rattle.deny_modes.specs.declared.opens.Opened.{Opened}
 use Rattle.deny_modes.specs.declared.opens.Tally.{Tally}

@@ -1,12 +1,11 @@
 -- Forks that are one, and forks that change places.
-use Rattle.std.proofs.Common.{◌≡◌, ◌∙◌, refl, sym, ap, subst, ℕ, Bool, true, false, cond, ◌&&◌, ◌==◌, if◌then◌else◌, Option, arith}
+use Rattle.std.proofs.Common.{◌≡◌, ◌∙◌, refl, sym, ap, ℕ, Bool, true, false, ◌&&◌, ◌==◌, if◌then◌else◌, Option, arith}
 use Rattle.std.specs.Bool.{beq}
 use Rattle.std.specs.Cmp.{both_ways}
 use Rattle.std.specs.Ordering.{nat_cmp, bool_cmp, ordering_then, is_eq, eq_by_cmp}
 use Rattle.std.specs.declared.cmp.Ordering.{Ordering}
 use Rattle.std.specs.declared.cmp.Ordering.TheVariants.{Less, Equal, Greater}
 use Rattle.std.proofs.lemmas.Bool.Decides.{nat_tests}
-use mathlib.Core.Bool.{false≢true}
 use Rattle.afp_base.specs.DenyMode.{Fork, is_one_fork}
 use Rattle.afp_base.proofs.DefinitionLaws.{one_fork}
 use Rattle.sorted_map.specs.Entries.{exchanged}

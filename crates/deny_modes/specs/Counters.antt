@@ -1,7 +1,6 @@
 -- What is kept for the opens: rows by reference, and a tally for each fork that is open (this profile).
 use Rattle.std.specs.Prelude.{◌≡◌, ℕ, ◌<◌, ◌≤◌, ◌+◌, ◌-◌, nat_lt, Bool, true, false, ◌&&◌, ◌||◌, if◌then◌else◌, List, [], ◌∷◌, map, slice_index, Option, Some, None, filter, length}
 use Rattle.std.specs.List.{AllByRecursion}
-use Rattle.std.specs.Ordering.{nat_cmp}
 use Rattle.std.specs.Map.{keys_of}
 use Rattle.afp_base.specs.DenyMode.{Access, Fork, is_one_fork}
 use Rattle.sorted_map.specs.Entries.{at}

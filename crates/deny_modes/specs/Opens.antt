@@ -1,5 +1,5 @@
 -- The opens of forks, and what they deny to others (AFP Reference, FPOpenFork; Inside AppleTalk, chapter 13).
-use Rattle.std.specs.Prelude.{ℕ, ◌==◌, nat_lt, Bool, not, ◌&&◌, ◌||◌, if◌then◌else◌, List, [], ◌∷◌, filter, length, map, slice_index, Option, Some, None}
+use Rattle.std.specs.Prelude.{ℕ, ◌==◌, nat_lt, Bool, not, ◌&&◌, if◌then◌else◌, List, [], ◌∷◌, filter, length, map, Option, Some, None}
 use Rattle.std.specs.List.{list_any}
 use Rattle.afp_base.specs.DenyMode.{Access, Fork, is_one_fork, do_conflict}
 

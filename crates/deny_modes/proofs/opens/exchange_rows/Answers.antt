@@ -1,4 +1,4 @@
-use Rattle.std.proofs.Common.{◌≡◌, ◌∙◌, ◌<◌, ℕ, ap, length, refl, arith}
+use Rattle.std.proofs.Common.{◌∙◌, ◌<◌, ℕ, ap, length, arith}
 use Rattle.std.specs.Prelude.{slice_index_or}
 use Rattle.std.proofs.Math.ListN.{length-set}
 use Rattle.deny_modes.specs.declared.opens.Opened.{Opened}
