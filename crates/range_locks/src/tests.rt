@@ -37,10 +37,12 @@ fn locks_of_two_references_keep_apart(rt: HostRuntime) {
 fn a_reference_has_at_most_1024_locks(rt: HostRuntime) {
     let mut locks = Locks::new(rt.alloc());
     let f = fork(17);
-    let mut from: u64 = 0;
-    while from < 2048 {
-        assert!(rt; locks.lock(&f, ForkRef(1), Range { from, to: from }) == Ok(()));
-        from += 2;
+    for k in 0..1024u64 {
+        let byte = Range {
+            from: 2 * k,
+            to: 2 * k,
+        };
+        assert!(rt; locks.lock(&f, ForkRef(1), byte) == Ok(()));
     }
     assert!(rt;
         locks.lock(
