@@ -1,5 +1,5 @@
 -- The rows of each fork tell what the list of locks tells, after each call.
-use Rattle.std.proofs.Common.{◌≡◌, ◌∙◌, refl, sym, ap, subst, ℕ, zero, suc, ◌+◌, ◌-◌, ◌<◌, ◌≤◌, Bool, true, false, cond, not, ◌&&◌, ◌||◌, ◌==◌, if◌then◌else◌, List, [], ◌∷◌, length, filter, map, take, drop, ◌++◌, Option, Some, None, unwrap_or, inl, inr, arith}
+use Rattle.std.proofs.Common.{◌≡◌, ◌∙◌, refl, sym, ap, subst, ℕ, zero, suc, ◌+◌, ◌-◌, ◌<◌, ◌≤◌, Bool, true, false, not, ◌&&◌, ◌||◌, ◌==◌, if◌then◌else◌, List, [], ◌∷◌, length, filter, map, take, drop, ◌++◌, Some, None, unwrap_or, inl, inr, arith}
 use Rattle.std.specs.Prelude.{nat_lt, nat_le, slice_index_or, slice_set}
 use Rattle.std.specs.Cmp.{both_ways}
 use Rattle.std.specs.List.{list_any, insert}
@@ -18,8 +18,7 @@ use Rattle.deny_modes.proofs.Forks.{same_fork, either_way, crosses, both_cross, 
 use Rattle.deny_modes.specs.ForkOrder.{fork_cmp}
 use Rattle.deny_modes.specs.Opens.{in_exchange}
 use Rattle.sorted_map.specs.Entries.{at, exchanged}
-use Rattle.range_locks.specs.declared.fault.LockFault.{LockFault}
-use Rattle.range_locks.specs.declared.fault.LockFault.TheVariants.{Locked, Overlap, Full, Memory}
+use Rattle.range_locks.specs.declared.fault.LockFault.TheVariants.{Locked, Overlap, Full}
 use Rattle.range_locks.specs.declared.rows.LockRow.{LockRow}
 use Rattle.range_locks.specs.declared.rows.Seen.{Seen}
 use Rattle.range_locks.specs.Locks.{Lock, are_overlapping, is_met_by_other, is_met_by_own, count_held, most_locks, lock_refusal, with_lock, is_lock, has_lock, exchange_lock, exchanged_locks, is_row, are_one_row, AreInOrder, AreIntervals}

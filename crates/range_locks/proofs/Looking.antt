@@ -1,5 +1,5 @@
 -- Two halvings find the rows that a range meets.
-use Rattle.std.proofs.Common.{◌≡◌, ◌∙◌, refl, sym, ap, subst, ℕ, zero, suc, ◌+◌, ◌-◌, ◌<◌, ◌≤◌, Bool, true, false, cond, not, ◌&&◌, ◌||◌, ◌==◌, if◌then◌else◌, List, [], ◌∷◌, length, inl, inr, arith}
+use Rattle.std.proofs.Common.{◌≡◌, ◌∙◌, refl, sym, ap, subst, ℕ, ◌+◌, ◌-◌, ◌<◌, ◌≤◌, Bool, true, false, not, ◌&&◌, ◌==◌, List, length, inl, inr, arith}
 use Rattle.std.specs.Prelude.{nat_lt, nat_le, slice_index_or, slice_range}
 use Rattle.std.specs.Cmp.{both_ways}
 use Rattle.std.specs.List.{list_any}
@@ -11,7 +11,6 @@ use Rattle.std.proofs.lemmas.List.{get_or_default}
 use Rattle.std.proofs.lemmas.List.Edits.{get_or-between, length-between}
 use Rattle.afp_base.specs.Overlap.{Range, do_meet}
 use Rattle.range_locks.specs.declared.rows.LockRow.{LockRow}
-use Rattle.range_locks.specs.declared.rows.Seen.{Seen}
 use Rattle.range_locks.specs.Locks.{AreInOrder, are_one_row}
 use Rattle.range_locks.specs.Seen.{IsSeen}
 

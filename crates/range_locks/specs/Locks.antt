@@ -3,7 +3,7 @@ use Rattle.std.specs.Prelude.{◌≡◌, ℕ, ◌==◌, ◌<◌, nat_le, nat_lt,
 use Rattle.std.specs.List.{list_any}
 use Rattle.afp_base.specs.Choice.{first_holding}
 use Rattle.afp_base.specs.DenyMode.{Fork, is_one_fork}
-use Rattle.afp_base.specs.Overlap.{Range, do_meet, do_overlap}
+use Rattle.afp_base.specs.Overlap.{Range, do_overlap}
 use Rattle.deny_modes.specs.Opens.{in_exchange}
 use Rattle.range_locks.specs.declared.fault.LockFault.{LockFault}
 use Rattle.range_locks.specs.declared.fault.LockFault.TheVariants.{Locked, Overlap, Full, Memory}

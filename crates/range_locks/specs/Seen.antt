@@ -1,5 +1,5 @@
 -- What a look among the rows of a fork finds (this profile).
-use Rattle.std.specs.Prelude.{◌≡◌, ℕ, ◌==◌, ◌≤◌, ◌<◌, nat_lt, Bool, true, false, not, ◌&&◌, List, length, slice_index_or}
+use Rattle.std.specs.Prelude.{◌≡◌, ℕ, ◌==◌, ◌≤◌, ◌<◌, nat_lt, true, false, not, ◌&&◌, List, length, slice_index_or}
 use Rattle.std.specs.List.{list_any}
 use Rattle.afp_base.specs.Overlap.{Range, do_meet}
 use Rattle.range_locks.specs.declared.rows.LockRow.{LockRow}

@@ -1,4 +1,4 @@
-use Rattle.std.proofs.Common.{arith, ap, subst, sym, ◌∙◌, ◌<◌, length}
+use Rattle.std.proofs.Common.{arith, ap, sym, ◌∙◌, ◌<◌, length}
 use Rattle.range_locks.specs.Kept.{rows_at}
 use Rattle.range_locks.proofs.Keeping.{clear_step, clear_none}
 use Rattle.range_locks.proofs.locks.clear_rows.Goals as goal

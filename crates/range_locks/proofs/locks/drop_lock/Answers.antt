@@ -1,4 +1,4 @@
-use Rattle.std.proofs.Common.{◌==◌, not, rules}
+use Rattle.std.proofs.Common.{not, rules}
 use Rattle.std.proofs.lemmas.Fn.{filter_same}
 use Rattle.range_locks.specs.Locks.{Lock, is_lock}
 use Rattle.range_locks.proofs.locks.drop_lock.Goals as goal

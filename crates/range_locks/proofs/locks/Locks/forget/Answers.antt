@@ -1,4 +1,4 @@
-use Rattle.std.proofs.Common.{◌≡◌, ◌∙◌, refl, sym, ap, arith}
+use Rattle.std.proofs.Common.{◌∙◌, refl, sym, ap}
 use Rattle.range_locks.specs.Locks.{count_held}
 use Rattle.range_locks.proofs.Keeping.{no_holder, cleared, lost_kept}
 use Rattle.range_locks.proofs.locks.Locks.forget.Goals as goal

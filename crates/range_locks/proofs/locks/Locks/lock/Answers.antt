@@ -1,7 +1,7 @@
-use Rattle.std.proofs.Common.{◌∙◌, ap, sym, arith}
+use Rattle.std.proofs.Common.{◌∙◌, ap, arith}
 use Rattle.std.specs.Prelude.{is_ok}
 use Rattle.range_locks.specs.Locks.{with_lock}
-use Rattle.range_locks.proofs.Keeping.{Looked, Set, is_locked, is_overlap, is_full, is_free, listed, set_kept}
+use Rattle.range_locks.proofs.Keeping.{is_locked, is_overlap, is_full, is_free, listed, set_kept}
 use Rattle.range_locks.proofs.locks.Locks.lock.Goals as goal
 
 pub returns-then-seen : goal.returns-then-seen

@@ -1,4 +1,4 @@
-use Rattle.std.proofs.Common.{◌==◌, not, rules, ap, ◌∙◌}
+use Rattle.std.proofs.Common.{not, rules, ap, ◌∙◌}
 use Rattle.std.proofs.lemmas.Fn.{filter_same}
 use Rattle.range_locks.specs.Locks.{are_one_row}
 use Rattle.std.specs.Prelude.{filter}
