@@ -1,0 +1,133 @@
+//! Fields with their names, as text.
+use crate::fault::CaseFault;
+use crate::words::put_word;
+use afp_bitmap::{DirValues, FileValues, Values, VolumeValues};
+use std::alloc::Global;
+
+/// A space, the name and the number, where it is not 0.
+pub fn put_number(text: &mut String, name: &str, number: i64) -> Result<(), CaseFault> {
+    if number != 0 {
+        write!(text, " {name} {number}")?;
+    }
+    Ok(())
+}
+
+/// The same of each number.
+pub fn put_numbers(text: &mut String, numbers: &[(&str, i64)]) -> Result<(), CaseFault> {
+    for (name, number) in numbers {
+        put_number(text, name, *number)?;
+    }
+    Ok(())
+}
+
+/// A space, the name and the bytes, where one is not 0.
+pub fn put_bytes(
+    alloc: Global,
+    text: &mut String,
+    name: &str,
+    bytes: &[u8],
+) -> Result<(), CaseFault> {
+    if bytes.iter().any(|byte| *byte != 0) {
+        write!(text, " {name} ")?;
+        put_word(alloc, text, bytes)?;
+    }
+    Ok(())
+}
+
+/// A number of 8 bytes; one that is too large for a text of these cases counts as the largest.
+fn wide(number: u64) -> i64 {
+    i64::try_from(number).unwrap_or(i64::MAX)
+}
+
+fn volume_text(alloc: Global, volume: &VolumeValues, text: &mut String) -> Result<(), CaseFault> {
+    text.push_str("volume")?;
+    put_numbers(
+        text,
+        &[
+            ("attributes", i64::from(volume.attributes)),
+            ("signature", i64::from(volume.signature)),
+            ("created", i64::from(volume.created)),
+            ("modified", i64::from(volume.modified)),
+            ("backup", i64::from(volume.backup)),
+            ("volume", i64::from(volume.volume)),
+        ],
+    )?;
+    put_numbers(
+        text,
+        &[
+            ("free", i64::from(volume.free)),
+            ("total", i64::from(volume.total)),
+            ("ext_free", wide(volume.ext_free)),
+            ("ext_total", wide(volume.ext_total)),
+            ("block_size", i64::from(volume.block_size)),
+        ],
+    )?;
+    put_bytes(alloc, text, "name", volume.name.as_slice())
+}
+
+fn file_text(alloc: Global, file: &FileValues, text: &mut String) -> Result<(), CaseFault> {
+    text.push_str("file")?;
+    put_numbers(
+        text,
+        &[
+            ("attributes", i64::from(file.attributes)),
+            ("parent", i64::from(file.parent)),
+            ("created", i64::from(file.created)),
+            ("modified", i64::from(file.modified)),
+            ("backup", i64::from(file.backup)),
+        ],
+    )?;
+    put_numbers(
+        text,
+        &[
+            ("id", i64::from(file.id)),
+            ("data_length", i64::from(file.data_length)),
+            ("resource_length", i64::from(file.resource_length)),
+            ("ext_data_length", wide(file.ext_data_length)),
+            ("ext_resource_length", wide(file.ext_resource_length)),
+        ],
+    )?;
+    put_bytes(alloc, text, "finder", &file.finder)?;
+    put_bytes(alloc, text, "long_name", file.long_name.as_slice())?;
+    put_bytes(alloc, text, "utf8_name", file.utf8_name.as_slice())
+}
+
+fn directory_text(
+    alloc: Global,
+    directory: &DirValues,
+    text: &mut String,
+) -> Result<(), CaseFault> {
+    text.push_str("directory")?;
+    put_numbers(
+        text,
+        &[
+            ("attributes", i64::from(directory.attributes)),
+            ("parent", i64::from(directory.parent)),
+            ("created", i64::from(directory.created)),
+            ("modified", i64::from(directory.modified)),
+            ("backup", i64::from(directory.backup)),
+        ],
+    )?;
+    put_numbers(
+        text,
+        &[
+            ("id", i64::from(directory.id)),
+            ("offspring", i64::from(directory.offspring)),
+            ("owner", i64::from(directory.owner)),
+            ("group", i64::from(directory.group)),
+            ("rights", i64::from(directory.rights)),
+        ],
+    )?;
+    put_bytes(alloc, text, "finder", &directory.finder)?;
+    put_bytes(alloc, text, "long_name", directory.long_name.as_slice())?;
+    put_bytes(alloc, text, "utf8_name", directory.utf8_name.as_slice())
+}
+
+/// What the values are of, and those that are not zero.
+pub fn values_text(alloc: Global, values: &Values, text: &mut String) -> Result<(), CaseFault> {
+    match values {
+        Values::Volume(volume) => volume_text(alloc, volume, text),
+        Values::File(file) => file_text(alloc, file, text),
+        Values::Dir(directory) => directory_text(alloc, directory, text),
+    }
+}

@@ -1,0 +1,149 @@
+//! Frames of the Data Stream Interface.
+ghost use Rattle.std.specs.Prelude.{◌≡◌, ◌≤◌, ◌<◌, ◌^◌, length, IfOk};
+
+use crate::fault::CaseFault;
+use crate::words::{bytes_of, put_word, text_of};
+use afp_base::{Bytes, OutOfMemory};
+use dsi_frame::{BadFrame, OwnedFrame, Reason, Stream, StreamEnd, header_bytes, read_stream};
+use std::alloc::Global;
+
+/// The most bytes of a stream of these cases.
+const MOST: usize = 1 << 20;
+
+/// Why a frame is bad.
+pub fn reason_of(reason: Reason) -> &'static str {
+    match reason {
+        Reason::Flags => "flags",
+        Reason::Command => "command",
+        Reason::Length => "length",
+        Reason::Offset => "offset",
+        Reason::Unexpected => "unexpected",
+        Reason::Phase => "phase",
+    }
+}
+
+/// Appends the place of a bad frame, and why it is bad.
+pub fn put_bad(text: &mut String, bad: BadFrame) -> Result<(), CaseFault> {
+    let at = bad.at;
+    let reason = reason_of(bad.reason);
+    write!(text, "bad {at} {reason}")?;
+    Ok(())
+}
+
+fn put_end(text: &mut String, end: StreamEnd) -> Result<(), CaseFault> {
+    match end {
+        StreamEnd::Rest(size) => write!(text, "rest {size}")?,
+        StreamEnd::Bad(bad) => put_bad(text, bad)?,
+    }
+    Ok(())
+}
+
+fn frame_text(alloc: Global, frame: &OwnedFrame, text: &mut String) -> Result<(), CaseFault> {
+    put_word(alloc, text, &header_bytes(&frame.header()))?;
+    text.push(' ')?;
+    put_word(alloc, text, frame.payload())?;
+    text.push_str(" | ")?;
+    Ok(())
+}
+
+fn stream_text(alloc: Global, stream: &Stream) -> Result<String, CaseFault> {
+    let mut text = String::new(alloc);
+    for frame in stream.frames.as_slice() {
+        frame_text(alloc, frame, &mut text)?;
+    }
+    put_end(&mut text, stream.end)?;
+    Ok(text)
+}
+
+/// A piece with these bytes.
+fn piece_of(alloc: Global, bytes: &[u8]) -> Result<Bytes, OutOfMemory>
+    ensures { IfOk result (λ piece. piece ≡ bytes.now) }
+{
+    let mut piece = Bytes::new(alloc);
+    piece.extend(bytes)?;
+    Ok(piece)
+}
+
+/// The frames of bytes that come in three pieces.
+fn cut_at(alloc: Global, bytes: &[u8], first: usize, second: usize) -> Result<Stream, OutOfMemory>
+    requires first { first ≤ second }
+    requires second { second ≤ length bytes.now }
+    requires few { length bytes.now < 2 ^ 32 }
+{
+    let mut pieces = Vec::new(alloc);
+    pieces.push(piece_of(alloc, &bytes[..first])?)?;
+    pieces.push(piece_of(alloc, &bytes[first..second])?)?;
+    pieces.push(piece_of(alloc, &bytes[second..])?)?;
+    read_stream(alloc, pieces.as_slice())
+}
+
+/// What is told of them.
+fn text_cut_at(
+    alloc: Global,
+    bytes: &[u8],
+    first: usize,
+    second: usize,
+) -> Result<String, CaseFault>
+    requires first { first ≤ second }
+    requires second { second ≤ length bytes.now }
+    requires few { length bytes.now < 2 ^ 32 }
+{
+    let stream = cut_at(alloc, bytes, first, second)?;
+    stream_text(alloc, &stream)
+}
+
+/// `frames BYTES`: each frame, its header with reserved bytes 0 and its payload, and how many bytes of a rest stand behind
+/// them, or why the next frame is bad.
+pub fn frames(alloc: Global, words: &[&str]) -> Result<String, CaseFault> {
+    let [bytes] = words else {
+        return Err(CaseFault::Word);
+    };
+    let bytes = bytes_of(alloc, bytes)?;
+    if bytes.len() > MOST {
+        return Err(CaseFault::Word);
+    }
+    text_cut_at(alloc, bytes.as_slice(), 0, bytes.len())
+}
+
+/// What differs from the text, where the bytes are cut at this place and at a later one.
+fn differs(
+    alloc: Global,
+    bytes: &[u8],
+    first: usize,
+    text: &str,
+) -> Result<Option<usize>, CaseFault>
+    requires first { first ≤ length bytes.now }
+    requires few { length bytes.now < 2 ^ 32 }
+{
+    for second in first..=bytes.len() {
+        if text_cut_at(alloc, bytes, first, second)?.as_str() != text {
+            return Ok(Some(second));
+        }
+    }
+    Ok(None)
+}
+
+/// The frames of the bytes, the same wherever these are cut in three.
+fn always(alloc: Global, bytes: &[u8]) -> Result<String, CaseFault>
+    requires { length bytes.now < 2 ^ 32 }
+{
+    let text = text_cut_at(alloc, bytes, 0, bytes.len())?;
+    for first in 0..=bytes.len() {
+        if let Some(second) = differs(alloc, bytes, first, text.as_str())? {
+            return Ok(format!(in alloc; "others, cut at {first} and {second}")?);
+        }
+    }
+    Ok(text)
+}
+
+/// `frames_cut BYTES`: the same, also where the bytes come in pieces, cut at any two places.
+pub fn frames_cut(alloc: Global, words: &[&str]) -> Result<String, CaseFault> {
+    let [bytes] = words else {
+        return Err(CaseFault::Word);
+    };
+    let bytes = bytes_of(alloc, bytes)?;
+    if bytes.len() > 200 {
+        return text_of(alloc, "too long to be cut at each place");
+    }
+    always(alloc, bytes.as_slice())
+}

@@ -1,0 +1,83 @@
+//! The kinds of cases.
+use crate::fault::CaseFault;
+use crate::server::{Server, ask, at, counts, history, link, new_server};
+use crate::whole::{fed, served};
+use crate::{frames, houses, names, parameters, replies, requests, sessions};
+use std::alloc::Global;
+
+/// The words that begin a case.
+pub const KINDS: [&str; 27] = [
+    "frames",
+    "frames_cut",
+    "options",
+    "pulse",
+    "ids",
+    "attention",
+    "name",
+    "path",
+    "characters",
+    "byte",
+    "parameters",
+    "values",
+    "request",
+    "fields",
+    "reply",
+    "entries",
+    "house",
+    "status",
+    "volumes",
+    "server",
+    "at",
+    "link",
+    "ask",
+    "counts",
+    "history",
+    "served",
+    "fed",
+];
+
+/// What comes of a case of the formats.
+fn format_case(alloc: Global, kind: &str, words: &[&str]) -> Result<String, CaseFault> {
+    match kind {
+        "frames" => frames::frames(alloc, words),
+        "frames_cut" => frames::frames_cut(alloc, words),
+        "options" => sessions::options(alloc, words),
+        "pulse" => sessions::pulse(alloc, words),
+        "ids" => sessions::ids(alloc, words),
+        "attention" => sessions::attention(alloc, words),
+        "name" => names::name(alloc, words),
+        "path" => names::path(alloc, words),
+        "characters" => names::characters(alloc, words),
+        "byte" => names::byte(alloc, words),
+        "parameters" => parameters::parameters(alloc, words),
+        "values" => parameters::values(alloc, words),
+        "request" => requests::request(alloc, words),
+        "fields" => requests::fields(alloc, words),
+        "reply" => replies::reply(alloc, words),
+        "entries" => replies::entries(alloc, words),
+        "house" => houses::house(alloc, words),
+        "status" => houses::status(alloc, words),
+        "volumes" => houses::volumes(alloc, words),
+        "served" => served(alloc, words),
+        "fed" => fed(alloc, words),
+        _ => Err(CaseFault::Word),
+    }
+}
+
+/// What comes of a case.
+pub fn case(
+    alloc: Global,
+    state: &mut Server,
+    kind: &str,
+    words: &[&str],
+) -> Result<String, CaseFault> {
+    match kind {
+        "server" => new_server(alloc, state, words),
+        "at" => at(alloc, state, words),
+        "link" => link(alloc, state, words),
+        "ask" => ask(alloc, state, words),
+        "counts" => counts(alloc, state, words),
+        "history" => history(alloc, state, words),
+        _ => format_case(alloc, kind, words),
+    }
+}

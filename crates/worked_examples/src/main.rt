@@ -1,0 +1,72 @@
+//! Worked examples of the protocol, tried over the crates of the server.
+//!
+//! Each line of the standard input is a case: its kind, what is given, and behind ` -> ` what is wanted. Bytes are
+//! hexadecimal digits, `-` where there are none; parts of them are joined by `+`, and `*` with a number repeats a part. A
+//! line of which something else came is printed with its number; at the end it prints how many cases there were of each
+//! kind.
+#![tactic(auto)]
+
+mod fault;
+mod fields;
+mod frames;
+mod houses;
+mod kinds;
+mod link;
+mod names;
+mod parameters;
+mod replies;
+mod requests;
+mod run;
+mod server;
+mod sessions;
+mod whole;
+mod words;
+
+use fault::CaseFault;
+use kinds::KINDS;
+use run::Run;
+use std::io;
+use std::io::{BufRead, BufReader, ErrorKind};
+
+/// The error of a program that cannot go on.
+fn error_of(fault: CaseFault) -> io::Error {
+    match fault {
+        CaseFault::Word => io::Error::from(ErrorKind::InvalidInput),
+        CaseFault::Memory => io::Error::from(ErrorKind::OutOfMemory),
+    }
+}
+
+/// Takes a line, and prints it where something else came of it.
+fn take_line(rt: &HostRuntime, run: &mut Run, number: u64, line: &str) -> io::Result<()> {
+    match run.take(rt.alloc(), line) {
+        Ok(None) => Ok(()),
+        Ok(Some(came)) => println!(rt; "line {number}: {line}\n  but came: {came}"),
+        Err(fault) => Err(error_of(fault)),
+    }
+}
+
+fn take_lines(rt: &HostRuntime, run: &mut Run) -> io::Result<()> {
+    let mut number: u64 = 0;
+    for line in BufReader::new(rt.alloc(), rt.reader())?.lines(rt.alloc()) {
+        number = number.saturating_add(1);
+        take_line(rt, run, number, line?.as_str())?;
+    }
+    Ok(())
+}
+
+fn print_counts(rt: &HostRuntime, run: &Run) -> io::Result<()> {
+    for (kind, count) in KINDS.iter().zip(run.counts().iter()) {
+        println!(rt; "{count} {kind}")?;
+    }
+    Ok(())
+}
+
+fn main(rt: HostRuntime) -> io::Result<()> {
+    match Run::new(rt.alloc()) {
+        Ok(mut run) => {
+            take_lines(&rt, &mut run)?;
+            print_counts(&rt, &run)
+        }
+        Err(fault) => Err(error_of(fault)),
+    }
+}

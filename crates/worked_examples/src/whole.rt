@@ -1,0 +1,156 @@
+//! Whole links, each to a server of its own.
+ghost use Rattle.std.specs.Prelude.{◌≡◌, ◌≤◌, ◌<◌, ◌^◌, length, IfOk};
+ghost use Rattle.afp_outside.specs.Tape.{IsFreshTape};
+
+use crate::fault::CaseFault;
+use crate::frames::put_bad;
+use crate::link::Link;
+use crate::server::{Server, fed_text, put_counts};
+use crate::words::{bytes_of, word_of};
+use afp_base::{Bytes, Moment, OutOfMemory};
+use afp_outside::{OpenGate, TapeLink};
+use afp_server::{LinkEnd, serve_link};
+use std::alloc::Global;
+
+/// The most turns that a link may be given.
+const TURNS: u64 = (1 << 63) - 1;
+
+fn coming_of(alloc: Global, bytes: &[u8]) -> Result<Bytes, OutOfMemory> {
+    let mut coming = Bytes::new(alloc);
+    coming.extend(bytes)?;
+    Ok(coming)
+}
+
+/// A link in memory through which the bytes come, in a first read of so many, and then as many as there is room for.
+fn tape_of(alloc: Global, made: Moment, bytes: &[u8], first: usize) -> Result<TapeLink, OutOfMemory>
+    ensures { IfOk result IsFreshTape }
+{
+    let reads = vec![in alloc; first]?;
+    let coming = coming_of(alloc, bytes)?;
+    TapeLink::new(
+        alloc,
+        made,
+        coming,
+        reads,
+        Vec::new(alloc),
+        Vec::new(alloc),
+        Vec::new(alloc),
+    )
+}
+
+fn put_end(text: &mut String, end: LinkEnd) -> Result<(), CaseFault> {
+    match end {
+        LinkEnd::Closed => text.push_str("closed")?,
+        LinkEnd::Ended => text.push_str("ended")?,
+        LinkEnd::Cut { at } => write!(text, "cut {at}")?,
+        LinkEnd::Bad(bad) => put_bad(text, bad)?,
+        _ => return Err(CaseFault::Word),
+    }
+    Ok(())
+}
+
+fn run_text(alloc: Global, written: &[u8], end: LinkEnd) -> Result<String, CaseFault> {
+    let mut text = word_of(alloc, written)?;
+    text.push(' ')?;
+    put_end(&mut text, end)?;
+    Ok(text)
+}
+
+fn serve(
+    alloc: Global,
+    server: &mut Server,
+    bytes: &[u8],
+    first: usize,
+) -> Result<String, CaseFault> {
+    let mut link = tape_of(alloc, server.now, bytes, first)?;
+    let end = serve_link(
+        alloc,
+        &server.house,
+        &mut link,
+        &mut server.teller,
+        &OpenGate,
+        TURNS,
+    );
+    run_text(alloc, link.written(), end)
+}
+
+fn feed(alloc: Global, server: &mut Server, bytes: &[u8], first: usize) -> Result<String, CaseFault>
+    requires { first ≤ length bytes.now }
+{
+    let mut link = Link::new(alloc, &server.house, server.now)?;
+    link.feed(&bytes[..first], server.now, &mut server.teller);
+    let end = link.feed(&bytes[first..], server.now, &mut server.teller);
+    let text = fed_text(alloc, link.written(), end);
+    link.lose(server.now, &mut server.teller);
+    text
+}
+
+/// How the bytes of a link come.
+#[derive(Clone, Copy)]
+enum Way {
+    /// A server reads them from it.
+    Read,
+    /// They are fed to a wire, and then the link is lost.
+    Fed,
+}
+
+fn go(
+    alloc: Global,
+    server: &mut Server,
+    way: Way,
+    bytes: &[u8],
+    first: usize,
+) -> Result<String, CaseFault>
+    requires { first ≤ length bytes.now }
+{
+    match way {
+        Way::Read => serve(alloc, server, bytes, first),
+        Way::Fed => feed(alloc, server, bytes, first),
+    }
+}
+
+/// What a server writes to a link of which so many bytes come first, why the link ends, and the server's counts.
+fn run(alloc: Global, way: Way, bytes: &[u8], first: usize) -> Result<String, CaseFault>
+    requires { first ≤ length bytes.now }
+{
+    let mut server = Server::new(alloc)?;
+    let mut text = go(alloc, &mut server, way, bytes, first)?;
+    text.push(' ')?;
+    put_counts(&server.teller, &mut text)?;
+    Ok(text)
+}
+
+/// The place where the bytes were cut, where something else came of them.
+fn differs(alloc: Global, way: Way, bytes: &[u8], text: &str) -> Result<Option<usize>, CaseFault> {
+    for first in 1..bytes.len() {
+        if run(alloc, way, bytes, first)?.as_str() != text {
+            return Ok(Some(first));
+        }
+    }
+    Ok(None)
+}
+
+fn at_each_place(alloc: Global, way: Way, bytes: &[u8]) -> Result<String, CaseFault> {
+    let mut text = run(alloc, way, bytes, bytes.len())?;
+    if let Some(first) = differs(alloc, way, bytes, text.as_str())? {
+        write!(text, " but not where it is cut at {first}")?;
+    }
+    Ok(text)
+}
+
+/// `served BYTES`: what a server writes to a link through which the bytes come, why the link ends, and the counts then; the
+/// same, wherever the first read ends.
+pub fn served(alloc: Global, words: &[&str]) -> Result<String, CaseFault> {
+    let [bytes] = words else {
+        return Err(CaseFault::Word);
+    };
+    at_each_place(alloc, Way::Read, bytes_of(alloc, bytes)?.as_slice())
+}
+
+/// `fed BYTES`: the same of a wire to which the bytes are fed, in two pieces that are cut at any place; then the link is lost.
+pub fn fed(alloc: Global, words: &[&str]) -> Result<String, CaseFault> {
+    let [bytes] = words else {
+        return Err(CaseFault::Word);
+    };
+    at_each_place(alloc, Way::Fed, bytes_of(alloc, bytes)?.as_slice())
+}
