@@ -13,6 +13,3 @@ pub use code::Code;
 pub use ids::{ForkRef, LinkNumber, NodeId, SessionNumber, VolumeId};
 pub use moment::Moment;
 pub use scan::{Scan, Short};
-
-#[cfg(test)]
-mod tests;

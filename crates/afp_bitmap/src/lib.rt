@@ -21,6 +21,3 @@ pub use file::FileValues;
 pub use laws::{names_stand_at_their_offsets, one_block_for_each};
 pub use params::{ParamFault, Values, put_params, read_params};
 pub use volume::VolumeValues;
-
-#[cfg(test)]
-mod tests;

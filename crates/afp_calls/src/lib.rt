@@ -8,8 +8,3 @@ mod write;
 pub use afp_requests::{Call, ReadFault, commands};
 pub use read::{is_command, read_call};
 pub use write::write_call;
-
-#[cfg(test)]
-mod tests;
-#[cfg(test)]
-mod worked;

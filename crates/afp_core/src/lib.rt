@@ -21,6 +21,3 @@ mod turn;
 pub use counts::Counts;
 pub use list_teller::ListTeller;
 pub use turn::{Core, CoreFault};
-
-#[cfg(test)]
-mod tests;

@@ -5,8 +5,6 @@ mod long_names;
 pub mod mac_roman;
 mod name;
 mod path;
-#[cfg(test)]
-mod tests;
 
 pub use long_names::{LONGEST_EXTENSION, LONGEST_LONG_NAME, long_name};
 pub use name::{LONGEST_NAME, Name, NameFault};

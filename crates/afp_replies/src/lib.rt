@@ -22,6 +22,3 @@ pub use list::{ListEntry, ListRows};
 pub use reply::{Reply, ReplyFault, ReplyKind};
 pub use volumes::{VolumeEntry, VolumeList};
 pub use write::write_reply;
-
-#[cfg(test)]
-mod tests;

@@ -21,6 +21,3 @@ pub use house_fault::HouseFault;
 pub use ranges::{entry_in_range, moment_in_range};
 pub use teller::Teller;
 pub use user::User;
-
-#[cfg(test)]
-mod tests;

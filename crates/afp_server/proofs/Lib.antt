@@ -11,4 +11,3 @@ pub mod FrameSteps
 pub mod ReadSteps
 pub mod ScriptLaws
 pub mod Completeness
-pub mod TestTeller

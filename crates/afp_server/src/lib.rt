@@ -16,10 +16,3 @@ pub use script_laws::{a_frame_is_timely, scripts_join};
 pub use serve::{LinkEnd, LinkRoom, serve_link};
 pub use stage::{FrameEnd, Rest, Stage};
 pub use wire::{Wire, WireEnd};
-
-#[cfg(test)]
-mod tests;
-#[cfg(test)]
-mod tests_teller;
-#[cfg(test)]
-mod tests_wire;

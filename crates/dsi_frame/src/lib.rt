@@ -11,6 +11,3 @@ pub use deframer::Deframer;
 pub use frame::{BadFrame, DsiCommand, Head, Header, Reason, header_bytes, write_frame};
 pub use laws::{one_frame, one_stream, read_again};
 pub use stream::{Frames, OwnedFrame, Stream, StreamEnd, read_stream};
-
-#[cfg(test)]
-mod tests;

@@ -15,6 +15,3 @@ pub use laws::{ids_count_in_rounds, one_way_to_read};
 pub use options::{BadOptions, OpenOptions, option_bytes, read_options};
 pub use phase::Phase;
 pub use pulse::{Due, Pulse};
-
-#[cfg(test)]
-mod tests;

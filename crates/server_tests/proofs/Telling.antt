@@ -1,5 +1,5 @@
 -- A teller of tests: from a fresh world it opens at most one session.
-use Rattle.std.proofs.Common.{◌≡◌, ℕ, [], ◌∷◌, map, refl, sym, subst, append-nil, arith}
+use Rattle.std.proofs.Common.{◌≡◌, ℕ, [], ◌∷◌, map, replicate, refl, sym, subst, append-nil, arith}
 use Rattle.std.specs.Prelude.{Option, Some, None}
 use Rattle.std.specs.Option.{option_to_list}
 use Rattle.afp_base.specs.declared.ids.LinkNumber.{LinkNumber}
@@ -16,7 +16,7 @@ use Rattle.afp_serial.specs.World.{fresh_world}
 -- what it shows, by the session that it opened
 abbrev pub shown_of : {X : Type 0} → (X → ℕ) → (X → LinkNumber) → (X → ℕ) → Option X → Shown
 shown_of at link attention opened = record {
-  start = fresh_world (record { server = 65 ∷ []; signature = []; users = []; volumes = (65 ∷ []) ∷ []; message = []; token_key = [] }) 0;
+  start = fresh_world (record { server = 65 ∷ []; signature = replicate 16 0; users = []; volumes = (65 ∷ []) ∷ []; message = []; token_key = replicate 32 0 }) 0;
   history = map (λ o. entry (at o) (link o) (asks.Open (attention o)) outcomes.Done) (option_to_list opened);
   mine = map (λ o. 0) (option_to_list opened);
   faults = 0;

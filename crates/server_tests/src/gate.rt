@@ -1,7 +1,7 @@
 use crate::links::{COMMAND, OPEN, TICKLE, WRITE};
 use crate::taped::{Plan, run};
 use afp_base::LinkNumber;
-use afp_outside::Gate;
+use afp_outside::{Gate, GateLog};
 use std::cell::Cell;
 use std::test::Fail;
 
@@ -19,18 +19,28 @@ fn add_one(count: &Cell<u32>) {
 }
 
 impl Gate for CountingGate {
-    fn before(&self, link: LinkNumber) {
+    type Log = GateLog;
+
+    ghost passed = { λ l. l };
+
+    fn log(&self) -> GateLog {
+        GateLog::new()
+    }
+
+    fn before(&self, link: LinkNumber, log: &mut GateLog) {
         if link.0 != 1 || self.before.get() != self.after.get() {
             add_one(&self.out_of_turn);
         }
         add_one(&self.before);
+        log.go_in(link);
     }
 
-    fn after(&self, link: LinkNumber) {
+    fn after(&self, link: LinkNumber, log: &mut GateLog) {
         add_one(&self.after);
         if link.0 != 1 || self.before.get() != self.after.get() {
             add_one(&self.out_of_turn);
         }
+        log.come_out(link);
     }
 }
 

@@ -1,6 +1,14 @@
 //! A teller that opens one session, and has no memory for anything else.
+ghost use Rattle.std.specs.List.{list_all};
+ghost use Rattle.std.specs.Option.{option_to_list};
+ghost use Rattle.std.specs.Prelude.{◌≡◌, true};
+ghost use Rattle.afp_serial.specs.History.{entry};
+ghost use Rattle.afp_serial.specs.Ranges.{is_typed_entry};
+ghost use Rattle.afp_serial.specs.declared.ask.Ask.TheVariants as asks_of;
+ghost use Rattle.afp_serial.specs.declared.ask.Outcome.TheVariants as outcomes;
+
 use afp_base::{LinkNumber, Moment};
-use afp_serial::{Ask, Teller, Told};
+use afp_serial::{Ask, Teller, Told, entry_in_range};
 
 /// A session that was opened.
 #[derive(Clone, Copy)]
@@ -17,6 +25,7 @@ pub struct OneSession {
     pub opened: Option<Opened>,
     pub asks: u32,
     pub lost: Option<(Moment, LinkNumber)>,
+    pub ghost ranges: { list_all (λ s. is_typed_entry (entry s.at s.link (asks_of.Open s.attention) outcomes.Done)) (option_to_list opened) ≡ true },
 }
 
 impl OneSession {
@@ -31,35 +40,40 @@ impl OneSession {
 }
 
 impl Teller for OneSession {
-    ghost use Rattle.std.specs.Prelude.{◌≡◌, true, [], ◌∷◌, length, map, Some, None, refl};
+    ghost use Rattle.std.specs.Prelude.{◌≡◌, ◌&&◌, true, [], ◌∷◌, length, map, replicate, Some, None, refl};
+    ghost use Rattle.std.specs.List.{list_all};
     ghost use Rattle.std.specs.Option.{option_to_list};
-    ghost use Rattle.std.proofs.Common.{lit≤};
+    ghost use Rattle.std.proofs.Common.{ap, lit≤};
     ghost use Rattle.afp_serial.specs.History.{entry, is_lawful};
     ghost use Rattle.afp_serial.specs.HouseFault.{house_fault};
     ghost use Rattle.afp_serial.specs.Shown.{Rising};
     ghost use Rattle.afp_serial.specs.World.{fresh_world};
     ghost use Rattle.afp_serial.specs.declared.ask.Ask.TheVariants as asks_of;
     ghost use Rattle.afp_serial.specs.declared.ask.Outcome.TheVariants as outcomes;
-    ghost use Rattle.afp_serial.proofs.StaysSound.{fresh-sound};
+    ghost use Rattle.afp_serial.specs.Ranges.{is_typed_entry, is_typed_house};
+    ghost use Rattle.afp_serial.proofs.FreshWorld.{fresh-sound};
+    ghost use Rattle.afp_serial.proofs.StaysSound.{stand-sound};
 
     type Fixed = ();
 
     ghost fixed = { λ t. tt };
 
     ghost shown = { λ t. record {
-      start = fresh_world (record { server = 65 ∷ []; signature = []; users = []; volumes = (65 ∷ []) ∷ []; message = []; token_key = [] }) 0;
+      start = fresh_world (record { server = 65 ∷ []; signature = replicate 16 0; users = []; volumes = (65 ∷ []) ∷ []; message = []; token_key = replicate 32 0 }) 0;
       history = map (λ s. entry s.at s.link (asks_of.Open s.attention) outcomes.Done) (option_to_list t.opened);
       mine = map (λ s. 0) (option_to_list t.opened);
       faults = 0;
     } };
 
     ghost sound = { λ t. record {
-      start = fresh-sound (record { server = 65 ∷ []; signature = []; users = []; volumes = (65 ∷ []) ∷ []; message = []; token_key = [] }) 0 (unfold house_fault in refl);
-      lawful = elim t.opened as (λ o. is_lawful (fresh_world (record { server = 65 ∷ []; signature = []; users = []; volumes = (65 ∷ []) ∷ []; message = []; token_key = [] }) 0) (map (λ s. entry s.at s.link (asks_of.Open s.attention) outcomes.Done) (option_to_list o)) ≡ true) [ None ↦ refl | Some s ↦ refl ];
+      start = fresh-sound (record { server = 65 ∷ []; signature = replicate 16 0; users = []; volumes = (65 ∷ []) ∷ []; message = []; token_key = replicate 32 0 }) 0 (unfold house_fault in refl) (unfold is_typed_house in refl) refl;
+      lawful = (elim t.opened as (λ o. list_all (λ s. is_typed_entry (entry s.at s.link (asks_of.Open s.attention) outcomes.Done)) (option_to_list o) ≡ true → is_lawful (fresh_world (record { server = 65 ∷ []; signature = replicate 16 0; users = []; volumes = (65 ∷ []) ∷ []; message = []; token_key = replicate 32 0 }) 0) (map (λ s. entry s.at s.link (asks_of.Open s.attention) outcomes.Done) (option_to_list o)) ≡ true) [ None ↦ λ r. refl | Some s ↦ λ r. ap (λ b. b && true) r ]) t.ranges;
+      stands = stand-sound (fresh_world (record { server = 65 ∷ []; signature = replicate 16 0; users = []; volumes = (65 ∷ []) ∷ []; message = []; token_key = replicate 32 0 }) 0) (map (λ s. entry s.at s.link (asks_of.Open s.attention) outcomes.Done) (option_to_list t.opened)) (fresh-sound (record { server = 65 ∷ []; signature = replicate 16 0; users = []; volumes = (65 ∷ []) ∷ []; message = []; token_key = replicate 32 0 }) 0 (unfold house_fault in refl) (unfold is_typed_house in refl) refl) ((elim t.opened as (λ o. list_all (λ s. is_typed_entry (entry s.at s.link (asks_of.Open s.attention) outcomes.Done)) (option_to_list o) ≡ true → is_lawful (fresh_world (record { server = 65 ∷ []; signature = replicate 16 0; users = []; volumes = (65 ∷ []) ∷ []; message = []; token_key = replicate 32 0 }) 0) (map (λ s. entry s.at s.link (asks_of.Open s.attention) outcomes.Done) (option_to_list o)) ≡ true) [ None ↦ λ r. refl | Some s ↦ λ r. ap (λ b. b && true) r ]) t.ranges);
       within = elim t.opened as (λ o. Rising 0 (map (λ s. 0) (option_to_list o)) (length (map (λ s. entry s.at s.link (asks_of.Open s.attention) outcomes.Done) (option_to_list o)))) [ None ↦ lit≤ tt | Some s ↦ (lit≤ tt, lit≤ tt) ];
     } };
 
     fn ask(&mut self, now: Moment, link: LinkNumber, ask: Ask) -> Told {
+        entry_in_range(now, link, &ask);
         self.asks = self.asks.saturating_add(1);
         match ask {
             Ask::Open { attention } => match self.opened {

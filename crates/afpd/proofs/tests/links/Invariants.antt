@@ -3,4 +3,4 @@ use Rattle.afp_outside.specs.Tape.{IsFreshTape}
 use Rattle.afpd.proofs.tests.links.Given as goal
 
 abbrev pub invariant-loop-hex : goal.invariant-loop-hex
-invariant-loop-hex g l = All IsFreshTape l.links.items
+invariant-loop-hex l = All IsFreshTape l.links.items
