@@ -19,3 +19,4 @@ pub mod SoundPut
 pub mod PathNames
 pub mod Orders
 pub mod Fresh
+pub mod BareRows

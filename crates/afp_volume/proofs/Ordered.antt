@@ -1,12 +1,12 @@
 -- Lists in the order of their keys.
-use Rattle.std.proofs.Common.{◌≡◌, ◌∙◌, ap, sym, refl, subst, ℕ, zero, suc, ◌+◌, ◌-◌, ◌<◌, Bool, true, false, not, List, [], ◌∷◌, ◌++◌, length, take, drop, ◌⊎◌, inl, inr, arith}
+use Rattle.std.proofs.Common.{◌≡◌, ◌∙◌, ap, sym, refl, subst, ℕ, zero, suc, ◌+◌, ◌-◌, ◌<◌, Bool, true, false, not, cond, List, [], ◌∷◌, ◌++◌, length, map, take, drop, ◌⊎◌, inl, inr, arith}
 use Rattle.std.specs.Prelude.{sum, sum_by, bytes_eq, slice_index_or}
 use Rattle.std.specs.List.{list_any, list_all, Contains}
 use Rattle.std.specs.Cmp.Lexicographic.{slice_cmp}
 use Rattle.std.specs.declared.cmp.Ordering.{Ordering}
 use Rattle.std.specs.Ordering.{nat_cmp, is_lt, is_eq, ordering_reverse}
 use Rattle.std.specs.declared.cmp.Ordering.TheVariants.{Less, Equal, Greater}
-use Rattle.std.proofs.lemmas.Bool.{and_parts, and_from, cond_both}
+use Rattle.std.proofs.lemmas.Bool.{and_parts, and_from, cond_both, cond-true, cond-false}
 use Rattle.std.proofs.lemmas.Cmp.{nat_list_cmp_total}
 use Rattle.std.proofs.lemmas.List.Sums.{sum_by-cons}
 use Rattle.std.proofs.Math.Seq.{take-add}
@@ -212,3 +212,23 @@ rising-one {A} key (x ∷ xs) (y ∷ ys) h k there back =
 
     itself-y : {z : A} → stands_before (key y) (key z) ≡ true → y ≡ z → ⊥
     itself-y {z} before same = before-one-way (key y) (key y) (ap (λ q. stands_before (key y) (key q)) same ∙ before) (ap (λ q. stands_before (key y) (key q)) same ∙ before)
+
+-- what is mapped, by keys in one order with those before
+
+put-map : {A B : Type 0} (f : A → B) (key : A → List ℕ) (other : B → List ℕ) (q : A → Bool) (x : A) (l : List A) → ((a b : A) → q a ≡ true → q b ≡ true → stands_before (other (f a)) (other (f b)) ≡ stands_before (key a) (key b))
+    → q x ≡ true → list_all q l ≡ true → put_in other (f x) (map f l) ≡ map f (put_in key x l)
+put-map f key other q x [] same here h = refl
+put-map f key other q x (y ∷ ys) same here h =
+    let e = and_parts (q y) (list_all q ys) h in
+    ap (λ t. cond t (f x ∷ f y ∷ map f ys) (f y ∷ put_in other (f x) (map f ys))) (same x y here e.0)
+    ∙ ap (λ l. cond (stands_before (key x) (key y)) (f x ∷ f y ∷ map f ys) (f y ∷ l)) (put-map f key other q x ys same here e.1)
+    ∙ cond_both (stands_before (key x) (key y)) (x ∷ y ∷ ys) (y ∷ put_in key x ys) (λ l. cond (stands_before (key x) (key y)) (f x ∷ f y ∷ map f ys) (f y ∷ map f (put_in key x ys)) ≡ map f l)
+    (λ first. cond-true (stands_before (key x) (key y)) (f x ∷ f y ∷ map f ys) (f y ∷ map f (put_in key x ys)) first)
+    (λ later. cond-false (stands_before (key x) (key y)) (f x ∷ f y ∷ map f ys) (f y ∷ map f (put_in key x ys)) later)
+
+pub order-map : {A B : Type 0} (f : A → B) (key : A → List ℕ) (other : B → List ℕ) (q : A → Bool) (xs : List A) → ((a b : A) → q a ≡ true → q b ≡ true → stands_before (other (f a)) (other (f b)) ≡ stands_before (key a) (key b))
+    → list_all q xs ≡ true → in_order other (map f xs) ≡ map f (in_order key xs)
+order-map f key other q [] same h = refl
+order-map f key other q (x ∷ xs) same h =
+    let e = and_parts (q x) (list_all q xs) h in
+    ap (λ l. put_in other (f x) l) (order-map f key other q xs same e.1) ∙ put-map f key other q x (in_order key xs) same e.0 (order-all key q xs e.1)

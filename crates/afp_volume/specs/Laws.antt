@@ -1,13 +1,13 @@
 -- The laws of a volume, in the subject's own words (this profile).
-use Rattle.std.specs.Prelude.{◌+◌, slice_get, slice_set, Ok, ◌≡◌, ◌↔◌, ℕ, suc, ◌||◌, ◌<◌, ◌≤◌, ◌==◌, sum, take, if◌then◌else◌, Bool, true, false, List, length, Some, None}
+use Rattle.std.specs.Prelude.{map, option_map, ◌+◌, slice_get, slice_set, Ok, ◌≡◌, ◌↔◌, ℕ, suc, ◌||◌, ◌<◌, ◌≤◌, ◌==◌, sum, take, if◌then◌else◌, Bool, true, false, List, length, Some, None}
 use Rattle.std.specs.List.{remove, count_by, Contains, list_all}
 use Rattle.afp_names.specs.Path.{PathValue, SpellsPath}
 use Rattle.afp_volume.specs.Order.{rises}
 use Rattle.afp_volume.specs.Listing.{row_key, children, listed, is_child, pages}
 use Rattle.afp_volume.specs.VolumeState.{Row, VolumeState, fresh_volume}
 use Rattle.afp_volume.specs.SoundVolume.{has_rising_ids, TakesRow, row_bytes, fork_bytes, most_fork_bytes, IsSoundVolume, leads_to_root, are_apart, are_named_alike, has_node}
-use Rattle.afp_volume.specs.Walk.{found, row_at, is_named_path, parent_at, child_by_key}
-use Rattle.afp_volume.specs.Edits.{exchanged, with_row, with_changed, without, is_below, is_taken, above, is_another}
+use Rattle.afp_volume.specs.Walk.{found, row_at, is_named_path, parent_at, child_by_key, child_by_long_name}
+use Rattle.afp_volume.specs.Edits.{bare, exchanged, with_row, with_changed, without, is_below, is_taken, above, is_another}
 use Rattle.afp_volume.specs.TreeSteps.{TreeStep, is_named_call, after_steps}
 use Rattle.afp_names.specs.Name.{name_fault, name_key}
 use Rattle.afp_volume.specs.TreeCalls.{Opened, create_dir_refusal, create_dir_effect, create_file_refusal, create_file_effect, delete_refusal, delete_effect, rename_refusal, rename_effect, move_refusal, move_effect, attributes_effect}
@@ -106,3 +106,34 @@ Utf8PathsAreNamed = (bytes : List ℕ) (path : PathValue) → SpellsPath bytes p
 -- two files may change forks and modified dates
 abbrev pub ExchangeKeepsSound : Type 0
 ExchangeKeepsSound = (v : VolumeState) (a b : ℕ) (s t : Row) → (a == b) ≡ false → row_at v.rows a ≡ Some s → row_at v.rows b ≡ Some t → s.dir ≡ false → t.dir ≡ false → IsSoundVolume v → IsSoundVolume (exchanged a b s t v)
+
+-- What is asked of places, ids, kinds, names and attributes is the same of rows with no bytes in their forks.
+abbrev pub FindsBare : Type 0
+FindsBare = (rows : List Row) (id : ℕ) → row_at (map bare rows) id ≡ option_map bare (row_at rows id)
+
+abbrev pub ParentsBare : Type 0
+ParentsBare = (rows : List Row) (id : ℕ) → parent_at (map bare rows) id ≡ parent_at rows id
+
+abbrev pub KeysBare : Type 0
+KeysBare = (rows : List Row) (dir : ℕ) (key : List ℕ) → child_by_key (map bare rows) dir key ≡ child_by_key rows dir key
+
+abbrev pub LongNamesBare : Type 0
+LongNamesBare = (rows : List Row) (dir : ℕ) (element : List ℕ) → child_by_long_name (map bare rows) dir element ≡ child_by_long_name rows dir element
+
+abbrev pub WalksBare : Type 0
+WalksBare = (rows : List Row) (dir : ℕ) (path : PathValue) → found (map bare rows) dir path ≡ found rows dir path
+
+abbrev pub ListsBare : Type 0
+ListsBare = (rows : List Row) (dir : ℕ) → listed (map bare rows) dir ≡ map bare (listed rows dir)
+
+abbrev pub TakenBare : Type 0
+TakenBare = (rows : List Row) (node dir : ℕ) (name : List ℕ) → is_taken (map bare rows) node dir name ≡ is_taken rows node dir name
+
+abbrev pub BelowBare : Type 0
+BelowBare = (rows : List Row) (steps node id : ℕ) → is_below (map bare rows) steps node id ≡ is_below rows steps node id
+
+abbrev pub ChangesBare : Type 0
+ChangesBare = (change : Row → Row) (id : ℕ) (rows : List Row) → ((row : Row) → bare (change row) ≡ change (bare row)) → map bare (with_changed id change rows) ≡ with_changed id change (map bare rows)
+
+abbrev pub GoneBare : Type 0
+GoneBare = (id : ℕ) (rows : List Row) → map bare (without id rows) ≡ without id (map bare rows)

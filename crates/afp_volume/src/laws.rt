@@ -63,3 +63,17 @@ pub fn rows_stay_in_order()
 pub fn utf8_paths_are_named()
     ensures { laws.Utf8PathsAreNamed }
 {}
+
+/// What is asked of a tree is the same of rows with no bytes in their forks, and edits of the tree go beside the bytes.
+pub fn forks_do_not_matter()
+    ensures found { laws.FindsBare }
+    ensures parents { laws.ParentsBare }
+    ensures keys { laws.KeysBare }
+    ensures long_names { laws.LongNamesBare }
+    ensures walks { laws.WalksBare }
+    ensures lists { laws.ListsBare }
+    ensures taken { laws.TakenBare }
+    ensures below { laws.BelowBare }
+    ensures changed { laws.ChangesBare }
+    ensures gone { laws.GoneBare }
+{}

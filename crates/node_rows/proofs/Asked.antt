@@ -7,6 +7,7 @@ use Rattle.std.proofs.lemmas.Option.{slice_get-map}
 use Rattle.std.proofs.lemmas.Slice.Eq.{bytes_eq-Decides}
 use Rattle.afp_base.specs.declared.ids.NodeId.{NodeId}
 use Rattle.afp_names.specs.Name.{name_key}
+use Rattle.afp_volume.proofs.Ordered.{order-map}
 use Rattle.afp_volume.proofs.TestedLists.{all-kept, apart-map}
 use Rattle.afp_volume.specs.Listing.{children as in_directory, listed, row_key}
 use Rattle.afp_volume.specs.Order.{stands_before, in_order, rises}
@@ -14,7 +15,7 @@ use Rattle.afp_volume.specs.SoundVolume.{are_apart, are_named_alike, has_rising_
 use Rattle.afp_volume.specs.VolumeState.{Row}
 use Rattle.afp_volume.specs.Walk.{child_by_key}
 use Rattle.node_rows.proofs.Siblings.{is_of}
-use Rattle.node_rows.proofs.Sorting.{order-find, order-filter, order-differs, order-map}
+use Rattle.node_rows.proofs.Sorting.{order-find, order-filter, order-differs}
 use Rattle.node_rows.specs.Children.{child_of, child_order, children_of, node_id}
 use Rattle.node_rows.specs.Kept.{AreKept}
 use Rattle.node_rows.specs.declared.child.Child.{Child}

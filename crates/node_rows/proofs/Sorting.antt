@@ -1,11 +1,11 @@
 -- Lists in the order of their keys: one element more, elements less, and what is found.
-use Rattle.std.proofs.Common.{◌≡◌, ◌∙◌, ap, sym, refl, ℕ, suc, ◌+◌, ◌==◌, ◌≤◌, ◌<◌, Bool, true, false, not, ◌||◌, cond, List, [], ◌∷◌, ◌++◌, length, map, take, drop, inl, inr, Option, Some, None, arith}
+use Rattle.std.proofs.Common.{◌≡◌, ◌∙◌, ap, sym, refl, ℕ, suc, ◌+◌, ◌==◌, ◌≤◌, ◌<◌, Bool, true, false, not, ◌||◌, cond, List, [], ◌∷◌, ◌++◌, length, take, drop, inl, inr, Option, Some, None, arith}
 use Rattle.std.specs.Prelude.{slice_get, slice_index_or, nat_lt, bytes_eq}
 use Rattle.std.proofs.lemmas.Option.{slice_get_past, slice_get_read}
 use Rattle.std.specs.List.{list_all, list_any, filter, find, insert, position_or_len}
 use Rattle.std.proofs.lemmas.Bool.{and_parts, and_from, cases_Bool, cond_both, cond-true, cond-false, ltb-true, ltb-false, ne_eqb}
 use Rattle.std.proofs.lemmas.Slice.Eq.{bytes_eq-Decides}
-use Rattle.afp_volume.proofs.Ordered.{before-trans, before-other, before-one-way, order-all}
+use Rattle.afp_volume.proofs.Ordered.{before-trans, before-other, before-one-way}
 use Rattle.afp_volume.proofs.Rising.{above-all}
 use Rattle.afp_volume.proofs.TestedLists.{all-weaker, all-filter, none-find}
 use Rattle.afp_volume.specs.Order.{stands_before, put_in, in_order, rises, rises_from}
@@ -295,23 +295,3 @@ order-differs key (x ∷ xs) h =
     and_from (not (list_any (λ b. bytes_eq (key x) (key b)) xs)) (are_apart (λ a b. bytes_eq (key a) (key b)) xs)
     (all-none (λ b. bytes_eq (key x) (key b)) xs (order-all-back key (λ y. not (bytes_eq (key x) (key y))) xs r.1))
     (order-differs key xs r.0)
-
--- what is mapped, by keys in one order with those before
-
-put-map : {A B : Type 0} (f : A → B) (key : A → List ℕ) (other : B → List ℕ) (q : A → Bool) (x : A) (l : List A) → ((a b : A) → q a ≡ true → q b ≡ true → stands_before (other (f a)) (other (f b)) ≡ stands_before (key a) (key b))
-    → q x ≡ true → list_all q l ≡ true → put_in other (f x) (map f l) ≡ map f (put_in key x l)
-put-map f key other q x [] same here h = refl
-put-map f key other q x (y ∷ ys) same here h =
-    let e = and_parts (q y) (list_all q ys) h in
-    ap (λ t. cond t (f x ∷ f y ∷ map f ys) (f y ∷ put_in other (f x) (map f ys))) (same x y here e.0)
-    ∙ ap (λ l. cond (stands_before (key x) (key y)) (f x ∷ f y ∷ map f ys) (f y ∷ l)) (put-map f key other q x ys same here e.1)
-    ∙ cond_both (stands_before (key x) (key y)) (x ∷ y ∷ ys) (y ∷ put_in key x ys) (λ l. cond (stands_before (key x) (key y)) (f x ∷ f y ∷ map f ys) (f y ∷ map f (put_in key x ys)) ≡ map f l)
-    (λ first. cond-true (stands_before (key x) (key y)) (f x ∷ f y ∷ map f ys) (f y ∷ map f (put_in key x ys)) first)
-    (λ later. cond-false (stands_before (key x) (key y)) (f x ∷ f y ∷ map f ys) (f y ∷ map f (put_in key x ys)) later)
-
-pub order-map : {A B : Type 0} (f : A → B) (key : A → List ℕ) (other : B → List ℕ) (q : A → Bool) (xs : List A) → ((a b : A) → q a ≡ true → q b ≡ true → stands_before (other (f a)) (other (f b)) ≡ stands_before (key a) (key b))
-    → list_all q xs ≡ true → in_order other (map f xs) ≡ map f (in_order key xs)
-order-map f key other q [] same h = refl
-order-map f key other q (x ∷ xs) same h =
-    let e = and_parts (q x) (list_all q xs) h in
-    ap (λ l. put_in other (f x) l) (order-map f key other q xs same e.1) ∙ put-map f key other q x (in_order key xs) same e.0 (order-all key q xs e.1)
