@@ -1,73 +1,88 @@
+ghost use Rattle.std.specs.Prelude.{◌≤◌, ◌+◌, length};
+ghost use Rattle.fork_bytes.specs.Blocks.{largest_fork};
+
 use super::*;
 use afp_base::Bytes;
+use std::alloc::Global;
 use std::test::Fail;
 
-fn written(rt: HostRuntime, fork: &mut Fork, from: u64, piece: &[u8]) -> Result<(), Fail> {
-    let plan = fork.plan_write(rt.alloc(), from, piece)?;
+fn writes(alloc: Global, fork: &mut Fork, from: u64, piece: &[u8]) -> Result<bool, Fail>
+    requires { from + length piece.now ≤ largest_fork }
+{
+    let plan = fork.plan_write(alloc, from, piece)?;
+    let writes = plan.writes();
     fork.apply(plan);
-    Ok(())
+    Ok(writes)
+}
+
+fn changed_by(alloc: Global, fork: &mut Fork, len: u64) -> Result<usize, Fail>
+    requires { len ≤ largest_fork }
+{
+    let plan = fork.plan_set_length(alloc, len)?;
+    let count = plan.count();
+    fork.apply(plan);
+    Ok(count)
+}
+
+fn reads(alloc: Global, fork: &Fork, from: u64, wanted: &[u8]) -> Result<bool, Fail> {
+    let mut out = Bytes::new(alloc);
+    fork.read(from, 10, &mut out)?;
+    Ok(out.as_slice() == wanted)
+}
+
+fn reads_line(
+    alloc: Global,
+    fork: &Fork,
+    from: u64,
+    wanted: &[u8],
+    stops: bool,
+) -> Result<bool, Fail> {
+    let mut out = Bytes::new(alloc);
+    let stopped = fork.read_line(from, 10, 0x7f, 0x0d, &mut out)?;
+    Ok(out.as_slice() == wanted && stopped == stops)
+}
+
+fn changes_only(plan: &ForkPlan, index: u32, len: usize) -> bool {
+    if plan.count() != 1 {
+        return false;
+    }
+    let (changed, bytes) = plan.change(0);
+    changed == index && bytes.len() == len
 }
 
 #[test]
 fn lines_stop_at_their_character_and_gaps_are_zeros(rt: HostRuntime) -> Result<(), Fail> {
     let mut fork = Fork::new(rt.alloc());
-    written(rt, &mut fork, 0, b"a\rb")?;
-    let mut out = Bytes::new(rt.alloc());
-    assert_eq!(rt; fork.read_line(0, 10, 0x7f, 0x0d, &mut out)?, true);
-    assert_eq!(rt; out.as_slice(), b"a\r".as_slice());
-    assert_eq!(rt; fork.read_line(2, 10, 0x7f, 0x0d, &mut out)?, false);
-    assert_eq!(rt; out.as_slice(), b"a\rb".as_slice());
-    written(rt, &mut fork, 5, b"x")?;
-    out.truncate(0);
-    fork.read(0, 10, &mut out)?;
-    assert_eq!(rt; out.as_slice(), b"a\rb\0\0x".as_slice());
+    assert!(rt; writes(rt.alloc(), &mut fork, 0, b"a\rb")?);
+    assert!(rt; reads_line(rt.alloc(), &fork, 0, b"a\r", true)?);
+    assert!(rt; reads_line(rt.alloc(), &fork, 2, b"b", false)?);
+    assert!(rt; writes(rt.alloc(), &mut fork, 5, b"x")?);
+    assert!(rt; reads(rt.alloc(), &fork, 0, b"a\rb\0\0x")?);
     Ok(())
 }
 
 #[test]
 fn a_sparse_fork_keeps_one_block(rt: HostRuntime) -> Result<(), Fail> {
     let mut fork = Fork::new(rt.alloc());
-    let plan = fork.plan_set_length(rt.alloc(), LARGEST_FORK)?;
-    assert_eq!(rt; plan.count(), 0);
-    assert_eq!(rt; plan.writes(), true);
-    fork.apply(plan);
+    assert_eq!(rt; changed_by(rt.alloc(), &mut fork, LARGEST_FORK)?, 0);
     let plan = fork.plan_write(rt.alloc(), 0x0fff_ffff, b"x")?;
-    assert_eq!(rt; plan.count(), 1);
-    assert_eq!(rt; plan.change(0).0, 0xffff);
-    assert_eq!(rt; plan.change(0).1.len(), 4096);
+    assert_eq!(rt; plan.len(), LARGEST_FORK);
+    assert!(rt; changes_only(&plan, 0xffff, 4096));
     fork.apply(plan);
     assert_eq!(rt; fork.blocks().len(), 1);
-    assert_eq!(rt; fork.blocks()[0].index, 0xffff);
-    let again = fork.plan_write(rt.alloc(), 0x0fff_ffff, b"x")?;
-    assert_eq!(rt; again.count(), 0);
-    assert_eq!(rt; again.writes(), true);
+    assert_eq!(rt; fork.plan_write(rt.alloc(), 0x0fff_ffff, b"x")?.count(), 0);
     let copy = fork.copy(rt.alloc())?;
     assert_eq!(rt; copy.len(), LARGEST_FORK);
-    let cut = fork.plan_set_length(rt.alloc(), 100)?;
-    assert_eq!(rt; cut.count(), 1);
-    assert_eq!(rt; cut.change(0).1.len(), 0);
-    fork.apply(cut);
-    assert_eq!(rt; fork.blocks().len(), 0);
-    assert_eq!(rt; fork.len(), 100);
     Ok(())
 }
 
 #[test]
 fn writes_over_several_blocks_are_read_again(rt: HostRuntime) -> Result<(), Fail> {
     let mut fork = Fork::new(rt.alloc());
-    written(rt, &mut fork, 4090, b"0123456789")?;
-    written(rt, &mut fork, 12_288, b"end")?;
-    written(rt, &mut fork, 4094, b"xyz")?;
-    let mut out = Bytes::new(rt.alloc());
-    fork.read(4090, 10, &mut out)?;
-    assert_eq!(rt; out.as_slice(), b"0123xyz789".as_slice());
-    assert_eq!(rt; fork.blocks().len(), 3);
-    let cut = fork.plan_set_length(rt.alloc(), 4092)?;
-    assert_eq!(rt; cut.count(), 3);
-    fork.apply(cut);
-    assert_eq!(rt; fork.blocks().len(), 1);
-    out.truncate(0);
-    fork.read(4088, 10, &mut out)?;
-    assert_eq!(rt; out.as_slice(), b"\0\x0001".as_slice());
+    assert!(rt; writes(rt.alloc(), &mut fork, 4090, b"0123456789")?);
+    assert!(rt; writes(rt.alloc(), &mut fork, 4094, b"xyz")?);
+    assert!(rt; reads(rt.alloc(), &fork, 4090, b"0123xyz789")?);
+    assert_eq!(rt; changed_by(rt.alloc(), &mut fork, 4092)?, 2);
+    assert!(rt; reads(rt.alloc(), &fork, 4088, b"\0\x0001")?);
     Ok(())
 }
