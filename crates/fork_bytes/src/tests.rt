@@ -50,6 +50,18 @@ fn changes_only(plan: &ForkPlan, index: u32, len: usize) -> bool {
     changed == index && bytes.len() == len
 }
 
+fn writes_the_last(alloc: Global, fork: &mut Fork) -> Result<bool, Fail> {
+    let plan = fork.plan_write(alloc, 0x0fff_ffff, b"x")?;
+    let only = changes_only(&plan, 0xffff, 4096) && plan.len() == LARGEST_FORK;
+    fork.apply(plan);
+    Ok(only)
+}
+
+fn changed_by_the_last(alloc: Global, fork: &Fork) -> Result<usize, Fail> {
+    let plan = fork.plan_write(alloc, 0x0fff_ffff, b"x")?;
+    Ok(plan.count())
+}
+
 #[test]
 fn lines_stop_at_their_character_and_gaps_are_zeros(rt: HostRuntime) -> Result<(), Fail> {
     let mut fork = Fork::new(rt.alloc());
@@ -65,12 +77,9 @@ fn lines_stop_at_their_character_and_gaps_are_zeros(rt: HostRuntime) -> Result<(
 fn a_sparse_fork_keeps_one_block(rt: HostRuntime) -> Result<(), Fail> {
     let mut fork = Fork::new(rt.alloc());
     assert_eq!(rt; changed_by(rt.alloc(), &mut fork, LARGEST_FORK)?, 0);
-    let plan = fork.plan_write(rt.alloc(), 0x0fff_ffff, b"x")?;
-    assert_eq!(rt; plan.len(), LARGEST_FORK);
-    assert!(rt; changes_only(&plan, 0xffff, 4096));
-    fork.apply(plan);
+    assert!(rt; writes_the_last(rt.alloc(), &mut fork)?);
     assert_eq!(rt; fork.blocks().len(), 1);
-    assert_eq!(rt; fork.plan_write(rt.alloc(), 0x0fff_ffff, b"x")?.count(), 0);
+    assert_eq!(rt; changed_by_the_last(rt.alloc(), &fork)?, 0);
     let copy = fork.copy(rt.alloc())?;
     assert_eq!(rt; copy.len(), LARGEST_FORK);
     Ok(())
