@@ -3,7 +3,7 @@ use Rattle.std.proofs.Common.{◌≡◌, ◌≢◌, ◌∙◌, ◌==◌, refl, s
 use Rattle.std.proofs.lemmas.Bool.{cond-true, cond-false, eq-eqb, ne_eqb}
 use Rattle.std.proofs.Math.Seq.{take-append-add, drop-append_seam}
 use Rattle.afp_base.specs.ForkBytes.{taken}
-use Rattle.fork_bytes.specs.Line.{Line, in_front, line_of}
+use Rattle.fork_bytes.specs.Line.{Line, with_first, line_of}
 use Rattle.fork_bytes.proofs.Writes.{taken-join}
 
 -- no byte of these is the character
@@ -11,17 +11,17 @@ pub passes : (mask end : ℕ) (xs ys : List ℕ) → ((k : ℕ) → k < length x
     → line_of mask end (xs ++ ys) ≡ record { bytes = xs ++ (line_of mask end ys).bytes; stopped = (line_of mask end ys).stopped }
 passes mask end [] ys none = refl
 passes mask end (x ∷ xs) ys none =
-    cond-false (bit_and x mask == end) (record { bytes = x ∷ []; stopped = true }) (in_front x (line_of mask end (xs ++ ys))) (ne_eqb (bit_and x mask) end (none 0 (omega arith)))
-    ∙ ap (in_front x) (passes mask end xs ys (λ k within. none (suc k) (omega arith)))
+    cond-false (bit_and x mask == end) (record { bytes = x ∷ []; stopped = true }) (with_first x (line_of mask end (xs ++ ys))) (ne_eqb (bit_and x mask) end (none 0 (omega arith)))
+    ∙ ap (with_first x) (passes mask end xs ys (λ k within. none (suc k) (omega arith)))
 
 -- the first that is, is the last of the line
 pub stops : (mask end : ℕ) (xs ys : List ℕ) (k : ℕ) → k < length xs → bit_and (get_or xs k 0) mask ≡ end → ((j : ℕ) → j < k → bit_and (get_or xs j 0) mask ≢ end)
     → line_of mask end (xs ++ ys) ≡ record { bytes = take (suc k) xs; stopped = true }
 stops mask end [] ys k within is before = absurd (omega arith)
-stops mask end (x ∷ xs) ys zero within is before = cond-true (bit_and x mask == end) (record { bytes = x ∷ []; stopped = true }) (in_front x (line_of mask end (xs ++ ys))) (eq-eqb (bit_and x mask) end is)
+stops mask end (x ∷ xs) ys zero within is before = cond-true (bit_and x mask == end) (record { bytes = x ∷ []; stopped = true }) (with_first x (line_of mask end (xs ++ ys))) (eq-eqb (bit_and x mask) end is)
 stops mask end (x ∷ xs) ys (suc k) within is before =
-    cond-false (bit_and x mask == end) (record { bytes = x ∷ []; stopped = true }) (in_front x (line_of mask end (xs ++ ys))) (ne_eqb (bit_and x mask) end (before 0 (omega arith)))
-    ∙ ap (in_front x) (stops mask end xs ys k (omega arith) is (λ j below. before (suc j) (omega arith)))
+    cond-false (bit_and x mask == end) (record { bytes = x ∷ []; stopped = true }) (with_first x (line_of mask end (xs ++ ys))) (ne_eqb (bit_and x mask) end (before 0 (omega arith)))
+    ∙ ap (with_first x) (stops mask end xs ys k (omega arith) is (λ j below. before (suc j) (omega arith)))
 
 -- what was read has no such byte
 abbrev pub NoneIn : ℕ → ℕ → List ℕ → Type 0

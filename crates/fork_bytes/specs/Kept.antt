@@ -24,6 +24,7 @@ each_of (suc n) byte = byte 0 ∷ each_of n (λ k. byte (suc k))
 abbrev pub bytes_of : ℕ → List Block → List ℕ
 bytes_of len blocks = each_of len (byte_at blocks)
 
+-- there are no bytes
 abbrev pub is_empty : List ℕ → Bool
 is_empty [] = true
 is_empty (b ∷ bs) = false
@@ -47,6 +48,8 @@ pub record IsKept (len : ℕ) (blocks : List Block) (capacity : ℕ) : Type 0 wh
   pub rising : are_rising blocks ≡ true
   pub kept : list_all (is_kept len) blocks ≡ true
   pub room : room_of (length blocks) ≤ capacity
+
+-- From here on: what the code does with the blocks, for private contracts.
 
 -- how many of the blocks have an index below one
 abbrev pub IsPlace : List Block → ℕ → ℕ → Type 0

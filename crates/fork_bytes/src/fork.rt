@@ -1,6 +1,6 @@
 //! A fork.
 ghost use Rattle.std.specs.Prelude.{◌≡◌, ◌≢◌, ◌≤◌, ◌<◌, ◌+◌, ◌^◌, true, false, [], length, slice_index_or, vec_capacity, IfOk};
-ghost use Rattle.fork_bytes.specs.Blocks.{block_at, blocks_of};
+ghost use Rattle.fork_bytes.specs.Blocks.{block_at, blocks_of, largest_fork};
 ghost use Rattle.fork_bytes.specs.Kept.{are_rising, IsPlace, room_of};
 
 use crate::block::Block;
@@ -29,6 +29,11 @@ impl Model for Fork {
     ghost invariant = { λ a. IsKept a.len a.blocks.items (vec_capacity a.blocks) };
 }
 
+/// The most bytes of a fork are as the definitions have it. The call does nothing.
+pub fn largest_fork_is_as_defined()
+    ensures { LARGEST_FORK ≡ largest_fork }
+{}
+
 impl Fork {
     /// A fork of no bytes. It takes no memory.
     pub fn new(alloc: Global) -> Fork
@@ -54,7 +59,7 @@ impl Fork {
         self.blocks.as_slice()
     }
 
-    /// The same bytes once more.
+    /// The same bytes once more. The one error is want of memory.
     pub fn copy(&self, alloc: Global) -> Result<Fork, OutOfMemory>
         ensures { IfOk result (λ f. f ≡ self.now) }
     {

@@ -9,7 +9,7 @@ mod read;
 mod write;
 
 pub use block::{BLOCK_SIZE, Block};
-pub use fork::{Fork, LARGEST_FORK};
+pub use fork::{Fork, LARGEST_FORK, largest_fork_is_as_defined};
 pub use plan::ForkPlan;
 
 #[cfg(test)]

@@ -21,7 +21,8 @@ struct Changes {
 }
 
 impl Fork {
-    /// The plan of a write of `piece` at `from`; a gap before it is filled with zeros, and a piece of no bytes changes nothing.
+    /// The plan of a write of `piece` at `from`; a gap before it is filled with zeros, and a piece of no bytes changes nothing. The one error is want
+    /// of memory.
     pub fn plan_write(
         &self,
         alloc: Global,
@@ -41,7 +42,7 @@ impl Fork {
         self.planned(alloc, self.len.max(end), changes, true)
     }
 
-    /// The plan of a new length: bytes behind it go, and new bytes are zeros.
+    /// The plan of a new length: bytes behind it go, and new bytes are zeros. The one error is want of memory.
     pub fn plan_set_length(&self, alloc: Global, len: u64) -> Result<ForkPlan, OutOfMemory>
         requires { len ≤ largest_fork }
         ensures plan { IfOk result (λ p. IsPlan self.now (resized self.now len) p) }
