@@ -1,0 +1,6 @@
+use Rattle.std.proofs.Common.{◌≡◌, ◌++◌, length, map, take, drop}
+use Rattle.fork_table.specs.ForkTable.{exchange_row}
+use Rattle.fork_table.proofs.rows.exchange_rows.Given as goal
+
+abbrev pub invariant-loop-place : goal.invariant-loop-place
+invariant-loop-place l = (l.rows ≡ map (exchange_row l.a l.b) (take l.place l.initial.rows) ++ drop l.place l.initial.rows) × (l.place-end ≡ length l.initial.rows) × (length l.rows ≡ length l.initial.rows)

@@ -1,0 +1,2 @@
+pub mod ForkTable
+pub mod Kept

@@ -1,0 +1,11 @@
+//! The open forks of all sessions, with their deny modes and locks (AFP Reference, FPOpenFork, FPCloseFork).
+#![tactic(auto)]
+
+mod open_fork;
+mod rows;
+mod table;
+#[cfg(test)]
+mod tests;
+
+pub use open_fork::{OpenFault, OpenFork};
+pub use table::ForkTable;

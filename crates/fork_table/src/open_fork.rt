@@ -1,0 +1,20 @@
+//! An open fork, and why a fork is not opened.
+
+use afp_base::SessionNumber;
+use deny_modes::{ForkKey, Mode};
+
+/// An open fork: the session that opened it, the fork, and what the open may do and denies to others.
+#[derive(Clone, Copy)]
+pub struct OpenFork {
+    pub session: SessionNumber,
+    pub fork: ForkKey,
+    pub mode: Mode,
+}
+
+/// Why a fork is not opened: it would conflict with another open, the session has 256 forks open, or there is no memory.
+#[derive(Clone, Copy, PartialEq, Eq)]
+pub enum OpenFault {
+    Deny,
+    TooMany,
+    Memory,
+}
