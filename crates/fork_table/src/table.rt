@@ -92,6 +92,13 @@ impl ForkTable {
         Ok(ForkRef(r))
     }
 
+    /// How many references are open.
+    pub fn count(&self) -> usize
+        ensures { result ≡ length self.now.opens }
+    {
+        self.rows.entries().len()
+    }
+
     /// The open fork of that reference, where it is that session's.
     pub fn get(&self, s: SessionNumber, r: ForkRef) -> Option<&OpenFork>
         ensures { option_copied result ≡ own_open s.0 (at nat_cmp self.now.opens r.0) }

