@@ -69,6 +69,14 @@ fn a_session_has_at_most_256_references(rt: HostRuntime) {
     assert!(rt; table.get(SessionNumber(2), ForkRef(257)).is_some());
 }
 
+/// Whether the data fork of that node is the one open fork of the volume.
+fn lists_only(table: &ForkTable, node: u32) -> bool {
+    match table.opened(VolumeId(1)) {
+        Ok(found) => found.len() == 1 && found[0].0 == NodeId(node) && !found[0].1,
+        Err(_) => false,
+    }
+}
+
 #[test]
 fn sessions_deny_each_other(rt: HostRuntime) {
     let mut table = ForkTable::new(rt.alloc());
@@ -79,6 +87,7 @@ fn sessions_deny_each_other(rt: HostRuntime) {
     assert!(rt; refuses(&mut table, 2, f, 2, OpenFault::Deny));
     table.swap(&f, &g);
     table.close_volume(SessionNumber(2), VolumeId(1));
+    assert!(rt; lists_only(&table, 18));
     assert!(rt; !table.busy(&f) && table.busy(&g));
     table.close_volume(SessionNumber(1), VolumeId(1));
     assert!(rt; open(&mut table, 2, g, 2) == Some(ForkRef(1)));
