@@ -10,7 +10,13 @@ use Rattle.afp_volume.specs.Walk.{found, row_at, is_named_path, parent_at, child
 use Rattle.afp_volume.specs.Edits.{bare, exchanged, with_row, with_changed, without, is_below, is_taken, above, is_another}
 use Rattle.afp_volume.specs.TreeSteps.{TreeStep, is_named_call, after_steps}
 use Rattle.afp_names.specs.Name.{name_fault, name_key}
-use Rattle.afp_volume.specs.TreeCalls.{Opened, create_dir_refusal, create_dir_effect, create_file_refusal, create_file_effect, delete_refusal, delete_effect, rename_refusal, rename_effect, move_refusal, move_effect, attributes_effect}
+use Rattle.afp_volume.specs.Calls.{Opened}
+use Rattle.afp_volume.specs.CreateDir.{create_dir_refusal, create_dir_effect}
+use Rattle.afp_volume.specs.CreateFile.{create_file_refusal, create_file_effect}
+use Rattle.afp_volume.specs.Delete.{delete_refusal, delete_effect}
+use Rattle.afp_volume.specs.Rename.{rename_refusal, rename_effect}
+use Rattle.afp_volume.specs.MoveAndRename.{move_refusal, move_effect}
+use Rattle.afp_volume.specs.SetFileDirParms.{attributes_effect}
 
 -- no way to the root is longer than there are rows, so the bound of soundness takes none away
 abbrev pub NeedsNoMore : Type 0

@@ -3,7 +3,13 @@ pub mod Order
 pub mod SoundVolume
 pub mod Walk
 pub mod Edits
-pub mod TreeCalls
+pub mod Calls
+pub mod CreateDir
+pub mod CreateFile
+pub mod Delete
+pub mod Rename
+pub mod MoveAndRename
+pub mod SetFileDirParms
 pub mod Laws
 pub mod Listing
 pub mod TreeSteps
