@@ -5,6 +5,7 @@ pub mod NamesApart
 pub mod Notes
 pub mod Formed
 pub mod SoundEdits
+pub mod SoundSet
 pub mod Refusals
 pub mod Walks
 pub mod CallsSound

@@ -1,11 +1,8 @@
 -- Each edit of a volume keeps it sound.
 use Rattle.std.proofs.Common.{◌==◌, ◌≡◌, ◌∙◌, ap, sym, refl, ℕ, ◌+◌, ◌≤◌, ◌<◌, arith, Bool, true, false, not, ◌&&◌, cond, List, [], ◌∷◌, length, map, Some, None, subst}
 use Rattle.std.specs.List.{list_any, list_all, find}
-use Rattle.std.specs.Prelude.{is_none, bit_and, bit_or, nat_le}
-use Rattle.std.specs.Int.{bit_not, w16}
-use Rattle.std.proofs.lemmas.Bool.{and_parts, and_from, cond_both, cond-true, cond-false, eqb-true, eq-eqb, both_ways}
-use Rattle.std.proofs.lemmas.Nat.{and_assoc, and_comm}
-use Rattle.std.specs.Int.Bits.{and_self}
+use Rattle.std.specs.Prelude.{is_none, bit_and}
+use Rattle.std.proofs.lemmas.Bool.{and_parts, and_from, cond_both, cond-true, cond-false, eqb-true, both_ways}
 use Rattle.afp_names.specs.Name.{name_key, name_fault}
 use Rattle.afp_volume.proofs.Formed.{FormedParts, LimitParts, formed-parts, formed-whole, formed-new, new-formed, formed-mapped, formed-without, limit-parts, limit-whole, limits-new, limits-mapped, limits-without}
 use Rattle.afp_volume.proofs.NamesApart.{names-new, names-without, names-mapped, names-moved}
@@ -15,7 +12,6 @@ use Rattle.afp_volume.proofs.TestedLists.{none-all, not-equal}
 use Rattle.afp_volume.proofs.Trees.{TreeParts, KeepsPlace, KeepsTree, keeps-tree, tree-parts, tree-whole, tree-new, tree-without, tree-mapped, tree-moved, keeps-at}
 use Rattle.afp_volume.specs.Edits.{is_taken, is_below, has_children, with_changed, change_at, at_place, modified_at, changed_at, children_changed, with_row, with_new, new_row, without_node, with_moved, named, renamed}
 use Rattle.afp_volume.specs.SoundVolume.{fork_bytes, row_bytes, most_fork_bytes, are_apart, IsSoundVolume, is_tree, has_apart_names, has_noted_nodes, keeps_limits, is_formed_volume, is_in_order, is_formed, is_named, most_nodes, last_next_id, file_attributes, dir_attributes}
-use Rattle.afp_volume.specs.SetFileDirParms.{with_attributes, settable}
 use Rattle.afp_volume.specs.VolumeState.{Row, VolumeState, root_id}
 use Rattle.afp_volume.specs.Walk.{has_directory, child_by_key, row_at}
 
@@ -63,40 +59,6 @@ date-keeps now = record {
 
 pub sound-children : (v : VolumeState) (now dir : ℕ) → IsSoundVolume v → IsSoundVolume (children_changed now dir v)
 sound-children v now dir s = sound-at v dir (modified_at now) (date-keeps now) s
-
--- attributes
-masked : (mask word : ℕ) → bit_and (bit_and mask word) mask ≡ bit_and mask word
-masked mask word = ap (λ n. bit_and n mask) (and_comm mask word) ∙ and_assoc mask word mask ∙ ap (λ n. bit_and word n) (and_self mask) ∙ and_comm word mask
-
-pub attributes-keep : (word : ℕ) → KeepsRow (with_attributes word)
-unfolding with_attributes
-attributes-keep word = record {
-  place = record { id = λ row. refl; parent = λ row. refl; dir = λ row. refl; name = λ row. refl };
-  formed = formed;
-  bytes = λ row. refl;
-}
-  where
-    asked : Row → ℕ
-    asked row = cond (nat_le 0x8000 word) (bit_or row.attributes word) (bit_and row.attributes (bit_not w16 word))
-
-    rest : Row → Bool
-    rest row = (length row.data_fork == 0) && ((length row.resource_fork == 0) && not row.filed)
-
-    parts : (dir : Bool) (row : Row) (set old : ℕ)
-        → (is_named row && cond dir ((bit_and old dir_attributes == old) && rest row) (bit_and old file_attributes == old)) ≡ true
-        → (is_named row && cond dir ((bit_and (bit_and (settable dir) set) dir_attributes == bit_and (settable dir) set) && rest row) (bit_and (bit_and (settable dir) set) file_attributes == bit_and (settable dir) set)) ≡ true
-    parts true row set old h =
-        let e = and_parts (is_named row) ((bit_and old dir_attributes == old) && rest row) h in
-        and_from (is_named row) _ e.0 (and_from (bit_and (bit_and dir_attributes set) dir_attributes == bit_and dir_attributes set) (rest row)
-        (eq-eqb (bit_and (bit_and dir_attributes set) dir_attributes) (bit_and dir_attributes set) (masked dir_attributes set))
-        (and_parts (bit_and old dir_attributes == old) (rest row) e.1).1)
-    parts false row set old h =
-        let e = and_parts (is_named row) (bit_and old file_attributes == old) h in
-        and_from (is_named row) _ e.0
-        (eq-eqb (bit_and (bit_and file_attributes set) file_attributes) (bit_and file_attributes set) (masked file_attributes set))
-
-    formed : (row : Row) → is_formed row ≡ true → is_formed (with_attributes word row) ≡ true
-    formed row h = parts row.dir row (asked row) row.attributes h
 
 -- one row more
 pub record IsNewRow (v : VolumeState) (row : Row) : Type 0 where

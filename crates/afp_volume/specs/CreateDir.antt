@@ -19,3 +19,7 @@ create_dir_refusal v dir path = behind (new_place v.rows dir path) (λ place. fi
 -- the volume with the new directory
 unfoldable pub create_dir_effect : VolumeState → ℕ → ℕ → PathValue → VolumeState
 create_dir_effect v now dir path = done_at (new_place v.rows dir path) v (created true now v)
+
+-- the id that is told: that of the new directory
+unfoldable pub create_dir_id : VolumeState → ℕ
+create_dir_id v = v.next_id

@@ -16,7 +16,8 @@ use Rattle.afp_volume.specs.CreateFile.{create_file_refusal, create_file_effect}
 use Rattle.afp_volume.specs.Delete.{delete_refusal, delete_effect}
 use Rattle.afp_volume.specs.Rename.{rename_refusal, rename_effect}
 use Rattle.afp_volume.specs.MoveAndRename.{move_refusal, move_effect}
-use Rattle.afp_volume.specs.SetFileDirParms.{attributes_effect}
+use Rattle.afp_volume.specs.SetFileDirParms.{Settings, has_sized_finder, with_node_set, set_file_parms_refusal, set_dir_parms_refusal, set_file_dir_parms_refusal, set_parms_effect}
+use Rattle.afp_volume.specs.SetVolParms.{set_vol_parms_effect}
 
 -- no way to the root is longer than there are rows, so the bound of soundness takes none away
 abbrev pub NeedsNoMore : Type 0
@@ -43,8 +44,21 @@ RenameKeepsSound = (v : VolumeState) (now dir : ℕ) (path new : PathValue) → 
 abbrev pub MoveKeepsSound : Type 0
 MoveKeepsSound = (v : VolumeState) (now dir : ℕ) (path : PathValue) (to_dir : ℕ) (to_path new : PathValue) → is_named_path new ≡ true → move_refusal v dir path to_dir to_path new ≡ None → IsSoundVolume v → IsSoundVolume (move_effect v now dir path to_dir to_path new)
 
-abbrev pub AttributesKeepSound : Type 0
-AttributesKeepSound = (v : VolumeState) (now dir : ℕ) (path : PathValue) (word : ℕ) → IsSoundVolume v → IsSoundVolume (attributes_effect v now dir path word)
+-- whatever is set of a node, if Finder info has its size
+abbrev pub SettingsKeepSound : Type 0
+SettingsKeepSound = (v : VolumeState) (now id : ℕ) (s : Settings) → has_sized_finder s ≡ true → IsSoundVolume v → IsSoundVolume (with_node_set now id s v)
+
+abbrev pub SetFileParmsKeepsSound : Type 0
+SetFileParmsKeepsSound = (v : VolumeState) (now dir bits : ℕ) (path : PathValue) (tail : List ℕ) → set_file_parms_refusal v dir bits path tail ≡ None → IsSoundVolume v → IsSoundVolume (set_parms_effect v now dir bits path tail)
+
+abbrev pub SetDirParmsKeepsSound : Type 0
+SetDirParmsKeepsSound = (v : VolumeState) (now dir bits : ℕ) (path : PathValue) (tail : List ℕ) → set_dir_parms_refusal v dir bits path tail ≡ None → IsSoundVolume v → IsSoundVolume (set_parms_effect v now dir bits path tail)
+
+abbrev pub SetFileDirParmsKeepsSound : Type 0
+SetFileDirParmsKeepsSound = (v : VolumeState) (now dir bits : ℕ) (path : PathValue) (tail : List ℕ) → set_file_dir_parms_refusal v dir bits path tail ≡ None → IsSoundVolume v → IsSoundVolume (set_parms_effect v now dir bits path tail)
+
+abbrev pub SetVolParmsKeepsSound : Type 0
+SetVolParmsKeepsSound = (v : VolumeState) (now : ℕ) (tail : List ℕ) → IsSoundVolume v → IsSoundVolume (set_vol_parms_effect v now tail)
 
 -- a list in order has each child of the directory just once, and nothing else; in a sound volume its keys rise
 abbrev pub ListsChildrenOnce : Type 0

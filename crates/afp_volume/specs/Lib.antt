@@ -9,7 +9,14 @@ pub mod CreateFile
 pub mod Delete
 pub mod Rename
 pub mod MoveAndRename
+pub mod Parms
 pub mod SetFileDirParms
+pub mod SetVolParms
+pub mod GetVolParms
+pub mod OpenDir
+pub mod NodeValues
+pub mod GetFileDirParms
+pub mod Enumerate
 pub mod Laws
 pub mod Listing
 pub mod TreeSteps

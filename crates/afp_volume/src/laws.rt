@@ -18,7 +18,11 @@ pub fn calls_keep_volumes_sound()
     ensures delete { laws.DeleteKeepsSound }
     ensures rename { laws.RenameKeepsSound }
     ensures moved { laws.MoveKeepsSound }
-    ensures attributes { laws.AttributesKeepSound }
+    ensures settings { laws.SettingsKeepSound }
+    ensures set_file { laws.SetFileParmsKeepsSound }
+    ensures set_dir { laws.SetDirParmsKeepsSound }
+    ensures set_file_dir { laws.SetFileDirParmsKeepsSound }
+    ensures set_volume { laws.SetVolParmsKeepsSound }
 {}
 
 /// The list of a directory has each child just once, by the order of the keys, and no other list does. Pages from start 1, each from
