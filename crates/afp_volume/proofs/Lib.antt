@@ -12,6 +12,7 @@ pub mod CallsSound
 pub mod CreateFile
 pub mod Ordered
 pub mod Listings
+pub mod ListReplies
 pub mod ByIndex
 pub mod Later
 pub mod Rising

@@ -18,7 +18,7 @@ not-false true h = absurd (cc)
 not-false false h = refl
 
 -- an id is in a filtered list once or not at all
-count-once : (rows : List Row) (keep : Row → Bool) (id : ℕ) → are_apart (λ (a : Row) b. a.id == b.id) rows ≡ true
+pub count-once : (rows : List Row) (keep : Row → Bool) (id : ℕ) → are_apart (λ (a : Row) b. a.id == b.id) rows ≡ true
     → count_by (λ (row : Row). row.id == id) (filter keep rows) ≡ cond (list_any (λ row. (row.id == id) && keep row) rows) 1 0
 count-once [] keep id apart = refl
 count-once (row ∷ rows) keep id apart =

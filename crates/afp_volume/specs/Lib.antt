@@ -17,6 +17,7 @@ pub mod OpenDir
 pub mod NodeValues
 pub mod GetFileDirParms
 pub mod Enumerate
+pub mod ListLaws
 pub mod Laws
 pub mod Listing
 pub mod TreeSteps

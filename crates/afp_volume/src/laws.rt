@@ -1,5 +1,6 @@
 //! Laws of a volume. Each function says one, and does nothing.
 ghost use Rattle.afp_volume.specs.Laws as laws;
+ghost use Rattle.afp_volume.specs.ListLaws as list_laws;
 
 /// No way to the root is longer than there are rows.
 pub fn ways_are_short()
@@ -32,6 +33,22 @@ pub fn lists_have_each_child_once()
     ensures by_key { laws.ListsByKey }
     ensures no_other { laws.ListsNoOther }
     ensures pages { laws.PagesAreList }
+{}
+
+/// What a list counts has each child of a kind that is asked just once, by the order of the keys. The entries of a reply are as many of
+/// these as are asked and fit, from the start on; where the list is not refused there is one at least. Replies from start 1, each from
+/// behind the one before it, are the first that are counted, and all once nothing is behind them.
+pub fn replies_list_each_child_once()
+    ensures once { list_laws.CountsChildrenOnce }
+    ensures by_key { list_laws.CountsByKey }
+    ensures page { list_laws.EntriesArePage }
+    ensures asked { list_laws.EntriesAreAsked }
+    ensures fit { list_laws.EntriesFit }
+    ensures never_empty { list_laws.ListIsNeverEmpty }
+    ensures fewer { list_laws.FewerFit }
+    ensures as_far { list_laws.EntriesGoAsFar }
+    ensures turns { list_laws.TurnsGiveFirst }
+    ensures all_turns { list_laws.TurnsGiveAll }
 {}
 
 /// What a table by id and by name's key tells: whether a node is below another, by parents; whether a place is taken, by key.
