@@ -21,7 +21,8 @@ use Rattle.afp_serial.specs.Faultless.{IsFaultless}
 use Rattle.afp_serial.specs.Household.{Household}
 use Rattle.afp_serial.specs.HouseFault.{is_printable, is_text, is_name, house_fault}
 use Rattle.afp_serial.specs.Limits.{first_printable, last_printable, longest_volume, most_users, most_volumes}
-use Rattle.afp_serial.specs.Ranges.{are_bytes, is_byte, is_moment, is_typed_house, is_typed_volume}
+use Rattle.afp_serial.specs.Ranges.{is_moment, is_typed_house}
+use Rattle.afp_volume.specs.TypedVolume.{are_bytes, is_byte, is_typed_volume}
 use Rattle.afp_serial.specs.Sound.{IsSound, ServesVolumes}
 use Rattle.afp_serial.specs.World.{World, fresh_volumes, fresh_world, start_world}
 

@@ -9,7 +9,7 @@ use Rattle.afp_serial.specs.Limits.{most_sessions, most_forks}
 use Rattle.afp_serial.specs.Sessions.{has_opened, has_session, volume_at, with_session}
 use Rattle.afp_serial.specs.Sound.{IsSound, share_link, is_link_below, has_volume_open, is_file_of, is_lawful_open, is_lawful_cache, has_lawful_locks, has_typed_fields}
 use Rattle.afp_serial.specs.World.{World, Session, OpenFork}
-use Rattle.afp_volume.specs.SoundVolume.{are_apart}
+use Rattle.afp_base.specs.Apart.{are_apart}
 
 abbrev number_of : Session → ℕ
 number_of s = s.number

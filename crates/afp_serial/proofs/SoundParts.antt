@@ -5,7 +5,7 @@ use Rattle.std.specs.List.{list_all}
 use Rattle.std.proofs.lemmas.Bool.{and_parts, and_from}
 use Rattle.afp_base.specs.DenyMode.{do_conflict}
 use Rattle.afp_base.specs.Overlap.{do_meet}
-use Rattle.afp_volume.specs.SoundVolume.{are_apart}
+use Rattle.afp_base.specs.Apart.{are_apart}
 use Rattle.afp_serial.specs.Limits.{most_users, most_volumes, most_sessions, most_forks, most_locks}
 use Rattle.afp_serial.specs.Ranges.{is_moment, is_moment_or_none, is_typed_house}
 use Rattle.afp_serial.specs.Sessions.{is_open}

@@ -5,7 +5,7 @@ use Rattle.std.specs.List.{list_all}
 use Rattle.std.proofs.lemmas.Bool.{and_parts, cond_both, le-leb, leb-true}
 use Rattle.afp_base.specs.Cached.{Request, Answer, Kept, is_repeat, either, cached_answer}
 use Rattle.afp_base.specs.declared.code.Code.TheVariants as code
-use Rattle.afp_volume.specs.SoundVolume.{are_apart}
+use Rattle.afp_base.specs.Apart.{are_apart}
 use Rattle.afp_serial.proofs.Closed.{ending-sound}
 use Rattle.afp_serial.proofs.Keeps.{Keeps, after-keeps}
 use Rattle.afp_serial.proofs.Opened.{opened-sound}

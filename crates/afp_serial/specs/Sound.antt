@@ -6,13 +6,15 @@ use Rattle.afp_base.specs.Cached.{Kept, is_repeat}
 use Rattle.afp_base.specs.DenyMode.{is_one_fork, do_conflict}
 use Rattle.afp_base.specs.Overlap.{do_meet}
 use Rattle.afp_volume.specs.VolumeState.{VolumeState}
-use Rattle.afp_volume.specs.SoundVolume.{IsSoundVolume, are_apart, has_file}
+use Rattle.afp_base.specs.Apart.{are_apart}
+use Rattle.afp_volume.specs.SoundVolume.{IsSoundVolume, has_file}
 use Rattle.afp_serial.specs.declared.attachment.Attachment.{Attachment}
 use Rattle.afp_serial.specs.declared.attachment.Attachment.TheVariants.{Attached, Detached}
 use Rattle.afp_serial.specs.Limits.{most_users, most_volumes, most_sessions, most_kept, most_forks, most_locks, longest_block}
 use Rattle.afp_serial.specs.HouseFault.{house_fault}
 use Rattle.afp_serial.specs.Household.{Household}
-use Rattle.afp_serial.specs.Ranges.{is_moment, is_moment_or_none, is_typed_house, is_typed_volume}
+use Rattle.afp_serial.specs.Ranges.{is_moment, is_moment_or_none, is_typed_house}
+use Rattle.afp_volume.specs.TypedVolume.{is_typed_volume}
 use Rattle.afp_serial.specs.Sessions.{has_opened, is_open, volume_at}
 use Rattle.afp_serial.specs.World.{World, Session, OpenFork}
 

@@ -9,7 +9,6 @@ use crate::limits::{
     MACHINE_TYPE, NO_ICON, SERVER_FLAGS, SIZE_BEFORE_NAME, SIZE_BEHIND_NAME, UAMS, VERSIONS,
 };
 use afp_base::{Bytes, OutOfMemory};
-use byteorder::{BigEndian, ByteOrder};
 use std::alloc::Global;
 use std::marker::Model;
 
@@ -33,28 +32,12 @@ impl Model for Offsets {
     ghost view = { λ o. record { machine_type = o.machine_type; versions = o.versions; uams = o.uams; signature = o.signature; addresses = o.addresses; directories = o.directories; utf8_name = o.utf8_name } };
 }
 
-/// Appends one byte.
-fn put_byte(block: &mut Bytes, byte: u8) -> Result<(), OutOfMemory>
-    ensures { OnOk result (block.new ≡ block.old ++ byte ∷ []) }
-{
-    block.extend(&[byte])
-}
-
-/// Appends a number in two bytes.
-fn put_number(block: &mut Bytes, number: u16) -> Result<(), OutOfMemory>
-    ensures { OnOk result (block.new ≡ block.old ++ big_bytes 2 number) }
-{
-    let mut bytes = [0; 2];
-    BigEndian::write_u16(&mut bytes, number);
-    block.extend(&bytes)
-}
-
 /// Appends numbers in two bytes each.
 fn put_numbers(block: &mut Bytes, numbers: &[u16]) -> Result<(), OutOfMemory>
     ensures { OnOk result (block.new ≡ block.old ++ flat_map (big_bytes 2) numbers.now) }
 {
     for number in numbers {
-        put_number(block, *number)?;
+        block.push_u16(*number)?;
     }
     Ok(())
 }
@@ -64,7 +47,7 @@ fn put_counted(block: &mut Bytes, text: &[u8]) -> Result<(), OutOfMemory>
     requires { length text.now < 256 }
     ensures { OnOk result (block.new ≡ block.old ++ counted text.now) }
 {
-    put_byte(block, text.len() as u8)?;
+    block.push_u8(text.len() as u8)?;
     block.extend(text)
 }
 
@@ -73,7 +56,7 @@ fn put_long_counted(block: &mut Bytes, text: &[u8]) -> Result<(), OutOfMemory>
     requires { length text.now < 2 ^ 16 }
     ensures { OnOk result (block.new ≡ block.old ++ long_counted text.now) }
 {
-    put_number(block, text.len() as u16)?;
+    block.push_u16(text.len() as u16)?;
     block.extend(text)
 }
 
@@ -83,7 +66,7 @@ fn put_counted_words(block: &mut Bytes, words: &[&str]) -> Result<(), OutOfMemor
     requires short { All (λ word. length word.now < 256) words.now }
     ensures { OnOk result (block.new ≡ block.old ++ counted_words (map (λ word. word.now) words.now)) }
 {
-    put_byte(block, words.len() as u8)?;
+    block.push_u8(words.len() as u8)?;
     for word in words {
         put_counted(block, word.as_bytes())?;
     }
@@ -114,7 +97,7 @@ fn put_padded_name(block: &mut Bytes, name: &[u8]) -> Result<(), OutOfMemory>
 {
     put_counted(block, name)?;
     if name.len() % 2 == 0 {
-        put_byte(block, 0)?;
+        block.push_u8(0)?;
     }
     Ok(())
 }

@@ -1,6 +1,7 @@
 pub mod VolumeState
 pub mod Order
 pub mod SoundVolume
+pub mod TypedVolume
 pub mod Walk
 pub mod Edits
 pub mod Calls
