@@ -1,7 +1,7 @@
 //! The requests about APPL mappings (AFP Reference, "Desktop Database Commands").
 
 ghost use Rattle.std.specs.Prelude.{OnOk, OnErr};
-ghost use Rattle.afp_requests.specs.Desktop.{add_appl, add_appl_reader, remove_appl, remove_appl_reader, get_appl, get_appl_reader};
+ghost use Rattle.afp_requests.specs.Appl.{add_appl, add_appl_reader, remove_appl, remove_appl_reader, get_appl, get_appl_reader};
 ghost use Rattle.afp_fields.specs.Taking.{Gives};
 ghost use Rattle.afp_fields.specs.Putting.{PutsAll, Keeps};
 

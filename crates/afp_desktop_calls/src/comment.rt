@@ -1,7 +1,7 @@
 //! The requests about comments (AFP Reference, "Desktop Database Commands").
 
 ghost use Rattle.std.specs.Prelude.{◌<◌, length, OnOk, OnErr};
-ghost use Rattle.afp_requests.specs.Desktop.{add_comment, add_comment_reader, remove_comment, remove_comment_reader, get_comment, get_comment_reader};
+ghost use Rattle.afp_requests.specs.Comment.{add_comment, add_comment_reader, remove_comment, remove_comment_reader, get_comment, get_comment_reader};
 ghost use Rattle.afp_fields.specs.Taking.{Gives};
 ghost use Rattle.afp_fields.specs.Putting.{PutsAll, Keeps};
 

@@ -1,7 +1,7 @@
 //! The requests about the desktop database (AFP Reference, "Desktop Database Commands").
 
 ghost use Rattle.std.specs.Prelude.{OnOk, OnErr};
-ghost use Rattle.afp_requests.specs.Desktop.{open_dt, open_dt_reader, close_dt, close_dt_reader};
+ghost use Rattle.afp_requests.specs.Database.{open_dt, open_dt_reader, close_dt, close_dt_reader};
 ghost use Rattle.afp_fields.specs.Taking.{Gives};
 ghost use Rattle.afp_fields.specs.Putting.{PutsAll, Keeps};
 

@@ -3,7 +3,7 @@ ghost use Rattle.std.specs.Prelude.{◌≡◌};
 ghost use Rattle.afp_requests.specs.Call.{IsSpellable};
 ghost use Rattle.afp_requests.specs.Group.{Desktop};
 ghost use Rattle.afp_requests.specs.Reading.{has_reader};
-ghost use Rattle.afp_requests.specs.Desktop.{desktop_readers};
+ghost use Rattle.afp_requests.specs.Readers.{desktop_readers};
 ghost use Rattle.afp_fields.specs.Taking.{GivesBy};
 ghost use Rattle.afp_fields.specs.Putting.{Writes};
 

@@ -1,7 +1,7 @@
 //! The requests about where directories and files stand (AFP Reference, "Combined Directory-File Commands").
 
 ghost use Rattle.std.specs.Prelude.{OnOk, OnErr};
-ghost use Rattle.afp_requests.specs.Directory.{delete, delete_reader, rename, rename_reader, move_and_rename, move_and_rename_reader};
+ghost use Rattle.afp_requests.specs.Place.{delete, delete_reader, rename, rename_reader, move_and_rename, move_and_rename_reader};
 ghost use Rattle.afp_fields.specs.Taking.{Gives};
 ghost use Rattle.afp_fields.specs.Putting.{PutsAll, Keeps};
 

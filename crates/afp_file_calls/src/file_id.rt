@@ -1,7 +1,7 @@
 //! The requests about ids of files (AFP Reference, "File Commands").
 
 ghost use Rattle.std.specs.Prelude.{OnOk, OnErr};
-ghost use Rattle.afp_requests.specs.File.{create_id, create_id_reader, delete_id, delete_id_reader, resolve_id, resolve_id_reader};
+ghost use Rattle.afp_requests.specs.FileId.{create_id, create_id_reader, delete_id, delete_id_reader, resolve_id, resolve_id_reader};
 ghost use Rattle.afp_fields.specs.Taking.{Gives};
 ghost use Rattle.afp_fields.specs.Putting.{PutsAll, Keeps};
 

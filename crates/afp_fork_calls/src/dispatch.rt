@@ -3,7 +3,7 @@ ghost use Rattle.std.specs.Prelude.{◌≡◌};
 ghost use Rattle.afp_requests.specs.Call.{IsSpellable};
 ghost use Rattle.afp_requests.specs.Group.{Fork};
 ghost use Rattle.afp_requests.specs.Reading.{has_reader};
-ghost use Rattle.afp_requests.specs.Fork.{fork_readers};
+ghost use Rattle.afp_requests.specs.Readers.{fork_readers};
 ghost use Rattle.afp_fields.specs.Taking.{GivesBy};
 ghost use Rattle.afp_fields.specs.Putting.{Writes};
 

@@ -4,12 +4,30 @@ use Rattle.std.specs.List.{AllByRecursion}
 use Rattle.afp_requests.specs.declared.call.Call.{Call}
 use Rattle.afp_requests.specs.declared.call.Call.TheVariants.{ByteRangeLock, CloseVol, CloseDir, CloseFork, CopyFile, CreateDir, CreateFile, Delete, Enumerate, Flush, FlushFork, GetForkParms, GetSrvrInfo, GetSrvrParms, GetVolParms, Login, Logout, MapID, MapName, MoveAndRename, OpenVol, OpenDir, OpenFork, Read, Rename, SetDirParms, SetFileParms, SetForkParms, SetVolParms, Write, GetFileDirParms, SetFileDirParms, GetUserInfo, GetSrvrMsg, CreateID, DeleteID, ResolveID, ExchangeFiles, OpenDT, CloseDT, GetIcon, GetIconInfo, AddAPPL, RemoveAPPL, GetAPPL, AddComment, RemoveComment, GetComment, ByteRangeLockExt, ReadExt, WriteExt, LoginExt, GetSessionToken, DisconnectOldSession, EnumerateExt, EnumerateExt2, AddIcon}
 use Rattle.afp_requests.specs.Call.{Spells, layout_of, IsTypedCall, IsSpellable, canonical_call, canonical_data}
-use Rattle.afp_requests.specs.Session.{session_readers, login_reader, login_ext_reader, logout_reader, get_session_token_reader, disconnect_old_session_reader, get_srvr_info_reader, get_srvr_parms_reader, get_srvr_msg_reader, get_user_info_reader, map_id_reader, map_name_reader}
-use Rattle.afp_requests.specs.Volume.{volume_readers, open_vol_reader, close_vol_reader, get_vol_parms_reader, set_vol_parms_reader, flush_reader}
-use Rattle.afp_requests.specs.Directory.{directory_readers, create_dir_reader, open_dir_reader, close_dir_reader, enumerate_reader, enumerate_ext_reader, enumerate_ext2_reader, set_dir_parms_reader, get_file_dir_parms_reader, set_file_dir_parms_reader, delete_reader, rename_reader, move_and_rename_reader}
-use Rattle.afp_requests.specs.File.{file_readers, create_file_reader, copy_file_reader, set_file_parms_reader, exchange_files_reader, create_id_reader, delete_id_reader, resolve_id_reader}
-use Rattle.afp_requests.specs.Fork.{fork_readers, open_fork_reader, close_fork_reader, flush_fork_reader, get_fork_parms_reader, set_fork_parms_reader, read_reader, read_ext_reader, write_reader, write_ext_reader, byte_range_lock_reader, byte_range_lock_ext_reader}
-use Rattle.afp_requests.specs.Desktop.{desktop_readers, open_dt_reader, close_dt_reader, add_icon_reader, get_icon_reader, get_icon_info_reader, add_appl_reader, remove_appl_reader, get_appl_reader, add_comment_reader, remove_comment_reader, get_comment_reader}
+use Rattle.afp_requests.specs.Readers.{session_readers}
+use Rattle.afp_requests.specs.Login.{login_reader, login_ext_reader, logout_reader}
+use Rattle.afp_requests.specs.Token.{get_session_token_reader, disconnect_old_session_reader}
+use Rattle.afp_requests.specs.Server.{get_srvr_info_reader, get_srvr_parms_reader, get_srvr_msg_reader}
+use Rattle.afp_requests.specs.User.{get_user_info_reader, map_id_reader, map_name_reader}
+use Rattle.afp_requests.specs.Readers.{volume_readers}
+use Rattle.afp_requests.specs.Volume.{open_vol_reader, close_vol_reader, get_vol_parms_reader, set_vol_parms_reader, flush_reader}
+use Rattle.afp_requests.specs.Readers.{directory_readers}
+use Rattle.afp_requests.specs.Directory.{create_dir_reader, open_dir_reader, close_dir_reader}
+use Rattle.afp_requests.specs.Enumerate.{enumerate_reader, enumerate_ext_reader, enumerate_ext2_reader}
+use Rattle.afp_requests.specs.Parameters.{set_dir_parms_reader, get_file_dir_parms_reader, set_file_dir_parms_reader}
+use Rattle.afp_requests.specs.Place.{delete_reader, rename_reader, move_and_rename_reader}
+use Rattle.afp_requests.specs.Readers.{file_readers}
+use Rattle.afp_requests.specs.File.{create_file_reader, copy_file_reader, set_file_parms_reader, exchange_files_reader}
+use Rattle.afp_requests.specs.FileId.{create_id_reader, delete_id_reader, resolve_id_reader}
+use Rattle.afp_requests.specs.Readers.{fork_readers}
+use Rattle.afp_requests.specs.Fork.{open_fork_reader, close_fork_reader, flush_fork_reader, get_fork_parms_reader, set_fork_parms_reader}
+use Rattle.afp_requests.specs.ForkBytes.{read_reader, read_ext_reader, write_reader, write_ext_reader}
+use Rattle.afp_requests.specs.Lock.{byte_range_lock_reader, byte_range_lock_ext_reader}
+use Rattle.afp_requests.specs.Readers.{desktop_readers}
+use Rattle.afp_requests.specs.Database.{open_dt_reader, close_dt_reader}
+use Rattle.afp_requests.specs.Icon.{add_icon_reader, get_icon_reader, get_icon_info_reader}
+use Rattle.afp_requests.specs.Appl.{add_appl_reader, remove_appl_reader, get_appl_reader}
+use Rattle.afp_requests.specs.Comment.{add_comment_reader, remove_comment_reader, get_comment_reader}
 use Rattle.afp_requests.specs.Spelt.{readers, spelt_call}
 use Rattle.afp_requests.proofs.ReaderLemmas.{IsSound, both_sound, reader_read, tail_last, canonical_begins, canonical_encloses}
 use Rattle.afp_requests.proofs.SessionSound.{session_sound}

@@ -1,7 +1,7 @@
 -- Each request about the desktop database has the fields that its reader reads.
 use Rattle.std.proofs.Common.{refl}
 use Rattle.std.specs.List.{AllByRecursion}
-use Rattle.afp_requests.specs.Desktop.{desktop_readers}
+use Rattle.afp_requests.specs.Readers.{desktop_readers}
 use Rattle.afp_requests.proofs.ReaderLemmas.{IsSound}
 
 pub desktop_sound : AllByRecursion IsSound desktop_readers

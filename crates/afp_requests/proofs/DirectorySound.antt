@@ -1,7 +1,7 @@
 -- Each request about directories, and on files and directories alike has the fields that its reader reads.
 use Rattle.std.proofs.Common.{refl}
 use Rattle.std.specs.List.{AllByRecursion}
-use Rattle.afp_requests.specs.Directory.{directory_readers}
+use Rattle.afp_requests.specs.Readers.{directory_readers}
 use Rattle.afp_requests.proofs.ReaderLemmas.{IsSound}
 
 pub directory_sound : AllByRecursion IsSound directory_readers

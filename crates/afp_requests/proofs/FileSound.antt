@@ -1,7 +1,7 @@
 -- Each request about files has the fields that its reader reads.
 use Rattle.std.proofs.Common.{refl}
 use Rattle.std.specs.List.{AllByRecursion}
-use Rattle.afp_requests.specs.File.{file_readers}
+use Rattle.afp_requests.specs.Readers.{file_readers}
 use Rattle.afp_requests.proofs.ReaderLemmas.{IsSound}
 
 pub file_sound : AllByRecursion IsSound file_readers

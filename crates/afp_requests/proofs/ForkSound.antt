@@ -1,7 +1,7 @@
 -- Each request about open forks has the fields that its reader reads.
 use Rattle.std.proofs.Common.{refl}
 use Rattle.std.specs.List.{AllByRecursion}
-use Rattle.afp_requests.specs.Fork.{fork_readers}
+use Rattle.afp_requests.specs.Readers.{fork_readers}
 use Rattle.afp_requests.proofs.ReaderLemmas.{IsSound}
 
 pub fork_sound : AllByRecursion IsSound fork_readers

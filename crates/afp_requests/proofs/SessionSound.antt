@@ -2,7 +2,8 @@
 use Rattle.std.proofs.Common.{◌≡◌, ℕ, List, [], ◌∷◌, length, Option, refl, sym, ◌∙◌, ap}
 use Rattle.std.specs.List.{AllByRecursion}
 use Rattle.afp_requests.specs.Words.{BeginsWith, in_command, command, pad, u16_within, count_in, optional, plain}
-use Rattle.afp_requests.specs.Session.{session_readers, get_session_token_reader, has_stamp}
+use Rattle.afp_requests.specs.Readers.{session_readers}
+use Rattle.afp_requests.specs.Token.{get_session_token_reader, has_stamp}
 use Rattle.afp_requests.specs.Commands.{get_session_token_command}
 use Rattle.afp_requests.specs.Kinds.{login_without_id, reconn_with_time_and_id}
 use Rattle.afp_requests.proofs.ReaderLemmas.{IsSound}

@@ -1,7 +1,7 @@
 -- Each request about volumes has the fields that its reader reads.
 use Rattle.std.proofs.Common.{refl}
 use Rattle.std.specs.List.{AllByRecursion}
-use Rattle.afp_requests.specs.Volume.{volume_readers}
+use Rattle.afp_requests.specs.Readers.{volume_readers}
 use Rattle.afp_requests.proofs.ReaderLemmas.{IsSound}
 
 pub volume_sound : AllByRecursion IsSound volume_readers

@@ -4,12 +4,24 @@ use Rattle.std.specs.List.{AllByRecursion}
 use Rattle.afp_requests.specs.declared.call.Call.{Call}
 use Rattle.afp_requests.specs.declared.call.Call.TheVariants.{ByteRangeLock, CloseVol, CloseDir, CloseFork, CopyFile, CreateDir, CreateFile, Delete, Enumerate, Flush, FlushFork, GetForkParms, GetSrvrInfo, GetSrvrParms, GetVolParms, Login, Logout, MapID, MapName, MoveAndRename, OpenVol, OpenDir, OpenFork, Read, Rename, SetDirParms, SetFileParms, SetForkParms, SetVolParms, Write, GetFileDirParms, SetFileDirParms, GetUserInfo, GetSrvrMsg, CreateID, DeleteID, ResolveID, ExchangeFiles, OpenDT, CloseDT, GetIcon, GetIconInfo, AddAPPL, RemoveAPPL, GetAPPL, AddComment, RemoveComment, GetComment, ByteRangeLockExt, ReadExt, WriteExt, LoginExt, GetSessionToken, DisconnectOldSession, EnumerateExt, EnumerateExt2, AddIcon}
 use Rattle.afp_requests.specs.Words.{Layout, BeginsWith, IsTyped, CanSpell, IsEnclosed, CanEnclose, canonical_fields, canonical_enclosed, enclosed_bytes}
-use Rattle.afp_requests.specs.Session.{login, login_ext, logout, get_session_token, disconnect_old_session, get_srvr_info, get_srvr_parms, get_srvr_msg, get_user_info, map_id, map_name}
+use Rattle.afp_requests.specs.Login.{login, login_ext, logout}
+use Rattle.afp_requests.specs.Token.{get_session_token, disconnect_old_session}
+use Rattle.afp_requests.specs.Server.{get_srvr_info, get_srvr_parms, get_srvr_msg}
+use Rattle.afp_requests.specs.User.{get_user_info, map_id, map_name}
 use Rattle.afp_requests.specs.Volume.{open_vol, close_vol, get_vol_parms, set_vol_parms, flush}
-use Rattle.afp_requests.specs.Directory.{create_dir, open_dir, close_dir, enumerate, enumerate_ext, enumerate_ext2, set_dir_parms, get_file_dir_parms, set_file_dir_parms, delete, rename, move_and_rename}
-use Rattle.afp_requests.specs.File.{create_file, copy_file, set_file_parms, exchange_files, create_id, delete_id, resolve_id}
-use Rattle.afp_requests.specs.Fork.{open_fork, close_fork, flush_fork, get_fork_parms, set_fork_parms, read, read_ext, write, write_ext, byte_range_lock, byte_range_lock_ext}
-use Rattle.afp_requests.specs.Desktop.{open_dt, close_dt, add_icon, get_icon, get_icon_info, add_appl, remove_appl, get_appl, add_comment, remove_comment, get_comment}
+use Rattle.afp_requests.specs.Directory.{create_dir, open_dir, close_dir}
+use Rattle.afp_requests.specs.Enumerate.{enumerate, enumerate_ext, enumerate_ext2}
+use Rattle.afp_requests.specs.Parameters.{set_dir_parms, get_file_dir_parms, set_file_dir_parms}
+use Rattle.afp_requests.specs.Place.{delete, rename, move_and_rename}
+use Rattle.afp_requests.specs.File.{create_file, copy_file, set_file_parms, exchange_files}
+use Rattle.afp_requests.specs.FileId.{create_id, delete_id, resolve_id}
+use Rattle.afp_requests.specs.Fork.{open_fork, close_fork, flush_fork, get_fork_parms, set_fork_parms}
+use Rattle.afp_requests.specs.ForkBytes.{read, read_ext, write, write_ext}
+use Rattle.afp_requests.specs.Lock.{byte_range_lock, byte_range_lock_ext}
+use Rattle.afp_requests.specs.Database.{open_dt, close_dt}
+use Rattle.afp_requests.specs.Icon.{add_icon, get_icon, get_icon_info}
+use Rattle.afp_requests.specs.Appl.{add_appl, remove_appl, get_appl}
+use Rattle.afp_requests.specs.Comment.{add_comment, remove_comment, get_comment}
 
 -- each request's fields, and what comes with them
 abbrev pub layout_of : Call → Layout

@@ -3,8 +3,8 @@ use Rattle.std.specs.Prelude.{ℕ, List, [], ◌∷◌}
 use Rattle.afp_base.specs.declared.ids.VolumeId.{VolumeId}
 use Rattle.afp_base.specs.declared.ids.NodeId.{NodeId}
 use Rattle.afp_names.specs.Path.{PathValue}
-use Rattle.afp_requests.specs.Commands.{create_file_command, copy_file_command, set_file_parms_command, exchange_files_command, create_id_command, delete_id_command, resolve_id_command}
-use Rattle.afp_requests.specs.declared.call.Call.TheVariants.{CreateFile, CopyFile, SetFileParms, ExchangeFiles, CreateID, DeleteID, ResolveID}
+use Rattle.afp_requests.specs.Commands.{create_file_command, copy_file_command, set_file_parms_command, exchange_files_command}
+use Rattle.afp_requests.specs.declared.call.Call.TheVariants.{CreateFile, CopyFile, SetFileParms, ExchangeFiles}
 use Rattle.afp_requests.specs.Words.{Even, Number, Pad, Pathname, Tail, Layout, in_command, command, even, node_id, pad, pathname, tail, u16, u8, volume_id}
 use Rattle.afp_requests.specs.Reading.{Reader, reader, Alone}
 
@@ -35,28 +35,3 @@ exchange_files volume dir second_dir path second_path = in_command (command exch
 
 abbrev pub exchange_files_reader : Reader
 exchange_files_reader = reader exchange_files_command (Pad ∷ Number 2 ∷ Number 4 ∷ Number 4 ∷ Pathname ∷ Pathname ∷ []) (λ _ volume dir second_dir path second_path. Alone (ExchangeFiles (record { 0 = volume }) (record { 0 = dir }) (record { 0 = second_dir }) path second_path))
-
--- AFP Reference, FPCreateID
-abbrev pub create_id : VolumeId → NodeId → PathValue → Layout
-create_id volume dir path = in_command (command create_id_command ∷ pad ∷ volume_id volume ∷ node_id dir ∷ pathname path ∷ [])
-
-abbrev pub create_id_reader : Reader
-create_id_reader = reader create_id_command (Pad ∷ Number 2 ∷ Number 4 ∷ Pathname ∷ []) (λ _ volume dir path. Alone (CreateID (record { 0 = volume }) (record { 0 = dir }) path))
-
--- AFP Reference, FPDeleteID
-abbrev pub delete_id : VolumeId → NodeId → Layout
-delete_id volume id = in_command (command delete_id_command ∷ pad ∷ volume_id volume ∷ node_id id ∷ [])
-
-abbrev pub delete_id_reader : Reader
-delete_id_reader = reader delete_id_command (Pad ∷ Number 2 ∷ Number 4 ∷ []) (λ _ volume id. Alone (DeleteID (record { 0 = volume }) (record { 0 = id })))
-
--- AFP Reference, FPResolveID
-abbrev pub resolve_id : VolumeId → NodeId → ℕ → Layout
-resolve_id volume id bits = in_command (command resolve_id_command ∷ pad ∷ volume_id volume ∷ node_id id ∷ u16 bits ∷ [])
-
-abbrev pub resolve_id_reader : Reader
-resolve_id_reader = reader resolve_id_command (Pad ∷ Number 2 ∷ Number 4 ∷ Number 2 ∷ []) (λ _ volume id bits. Alone (ResolveID (record { 0 = volume }) (record { 0 = id }) bits))
-
--- the requests about files
-abbrev pub file_readers : List Reader
-file_readers = create_file_reader ∷ copy_file_reader ∷ set_file_parms_reader ∷ exchange_files_reader ∷ create_id_reader ∷ delete_id_reader ∷ resolve_id_reader ∷ []

@@ -2,12 +2,12 @@
 use Rattle.std.specs.Prelude.{ℕ, Bool, List, [], ◌∷◌, ◌++◌, Option, None}
 use Rattle.afp_requests.specs.declared.call.Call.{Call}
 use Rattle.afp_requests.specs.Reading.{Reader, has_reader, read_by}
-use Rattle.afp_requests.specs.Session.{session_readers}
-use Rattle.afp_requests.specs.Volume.{volume_readers}
-use Rattle.afp_requests.specs.Directory.{directory_readers}
-use Rattle.afp_requests.specs.File.{file_readers}
-use Rattle.afp_requests.specs.Fork.{fork_readers}
-use Rattle.afp_requests.specs.Desktop.{desktop_readers}
+use Rattle.afp_requests.specs.Readers.{session_readers}
+use Rattle.afp_requests.specs.Readers.{volume_readers}
+use Rattle.afp_requests.specs.Readers.{directory_readers}
+use Rattle.afp_requests.specs.Readers.{file_readers}
+use Rattle.afp_requests.specs.Readers.{fork_readers}
+use Rattle.afp_requests.specs.Readers.{desktop_readers}
 
 -- every request
 abbrev pub readers : List Reader

@@ -40,7 +40,3 @@ flush volume = in_command (command flush_command ∷ pad ∷ volume_id volume �
 
 abbrev pub flush_reader : Reader
 flush_reader = reader flush_command (Pad ∷ Number 2 ∷ []) (λ _ volume. Alone (Flush (record { 0 = volume })))
-
--- the requests about volumes
-abbrev pub volume_readers : List Reader
-volume_readers = open_vol_reader ∷ close_vol_reader ∷ get_vol_parms_reader ∷ set_vol_parms_reader ∷ flush_reader ∷ []

@@ -1,11 +1,11 @@
 //! The numbers of the commands (AFP Reference, "AFP Commands").
 ghost use Rattle.std.specs.Prelude.{◌≡◌, [], ◌∷◌, map};
-ghost use Rattle.afp_requests.specs.Session.{session_readers};
-ghost use Rattle.afp_requests.specs.Volume.{volume_readers};
-ghost use Rattle.afp_requests.specs.Directory.{directory_readers};
-ghost use Rattle.afp_requests.specs.File.{file_readers};
-ghost use Rattle.afp_requests.specs.Fork.{fork_readers};
-ghost use Rattle.afp_requests.specs.Desktop.{desktop_readers};
+ghost use Rattle.afp_requests.specs.Readers.{session_readers};
+ghost use Rattle.afp_requests.specs.Readers.{volume_readers};
+ghost use Rattle.afp_requests.specs.Readers.{directory_readers};
+ghost use Rattle.afp_requests.specs.Readers.{file_readers};
+ghost use Rattle.afp_requests.specs.Readers.{fork_readers};
+ghost use Rattle.afp_requests.specs.Readers.{desktop_readers};
 
 pub const BYTE_RANGE_LOCK: u8 = 1;
 

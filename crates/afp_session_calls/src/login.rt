@@ -2,7 +2,7 @@
 
 ghost use Rattle.std.specs.Prelude.{◌≡◌, ◌<◌, ◌^◌, length, OnOk, OnErr};
 ghost use Rattle.afp_requests.specs.Words.{Counted, count_size, counted};
-ghost use Rattle.afp_requests.specs.Session.{login, login_reader, login_ext, login_ext_reader, logout, logout_reader};
+ghost use Rattle.afp_requests.specs.Login.{login, login_reader, login_ext, login_ext_reader, logout, logout_reader};
 ghost use Rattle.afp_fields.specs.Taking.{Gives, Takes};
 ghost use Rattle.afp_fields.specs.Putting.{PutsAll, Puts, Keeps};
 

@@ -1,7 +1,7 @@
 //! The requests about the server (AFP Reference, "Server Commands").
 
 ghost use Rattle.std.specs.Prelude.{OnOk, OnErr};
-ghost use Rattle.afp_requests.specs.Session.{get_srvr_info, get_srvr_info_reader, get_srvr_parms, get_srvr_parms_reader, get_srvr_msg, get_srvr_msg_reader};
+ghost use Rattle.afp_requests.specs.Server.{get_srvr_info, get_srvr_info_reader, get_srvr_parms, get_srvr_parms_reader, get_srvr_msg, get_srvr_msg_reader};
 ghost use Rattle.afp_fields.specs.Taking.{Gives};
 ghost use Rattle.afp_fields.specs.Putting.{PutsAll, Keeps};
 
