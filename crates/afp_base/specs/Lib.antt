@@ -1,3 +1,4 @@
+pub mod Apart
 pub mod Cached
 pub mod Choice
 pub mod Code

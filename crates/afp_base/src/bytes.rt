@@ -1,6 +1,8 @@
 //! Bytes that are owned.
 ghost use Rattle.std.specs.Prelude.{◌≡◌, ◌≤◌, ◌+◌, ◌++◌, [], length, take, drop, IfOk, OnOk, OnErr};
+ghost use Rattle.byteorder.specs.Endian.{big_bytes};
 
+use byteorder::{BigEndian, ByteOrder};
 use std::alloc::{AllocError, AllocFailed, Global};
 use std::marker::Model;
 
@@ -40,6 +42,15 @@ impl Bytes {
         Bytes(Vec::new(alloc))
     }
 
+    /// A copy of these bytes.
+    pub fn of(alloc: Global, piece: &[u8]) -> Result<Bytes, OutOfMemory>
+        ensures { IfOk result (λ bytes. bytes ≡ piece.now) }
+    {
+        let mut bytes = Bytes::new(alloc);
+        bytes.extend(piece)?;
+        Ok(bytes)
+    }
+
     /// Appends a piece. An error changes nothing.
     pub fn extend(&mut self, piece: &[u8]) -> Result<(), OutOfMemory>
         ensures ok { OnOk result (self.new ≡ self.old ++ piece.now) }
@@ -47,6 +58,44 @@ impl Bytes {
     {
         self.0.extend_from_slice(piece)?;
         Ok(())
+    }
+
+    /// Appends a number of 1 byte. An error changes nothing.
+    pub fn push_u8(&mut self, number: u8) -> Result<(), OutOfMemory>
+        ensures ok { OnOk result (self.new ≡ self.old ++ big_bytes 1 number) }
+        ensures err { OnErr result (self.new ≡ self.old) }
+    {
+        self.extend(&[number])
+    }
+
+    /// Appends a number of 2 bytes, big-endian. An error changes nothing.
+    pub fn push_u16(&mut self, number: u16) -> Result<(), OutOfMemory>
+        ensures ok { OnOk result (self.new ≡ self.old ++ big_bytes 2 number) }
+        ensures err { OnErr result (self.new ≡ self.old) }
+    {
+        let mut bytes = [0; 2];
+        BigEndian::write_u16(&mut bytes, number);
+        self.extend(&bytes)
+    }
+
+    /// Appends a number of 4 bytes, big-endian. An error changes nothing.
+    pub fn push_u32(&mut self, number: u32) -> Result<(), OutOfMemory>
+        ensures ok { OnOk result (self.new ≡ self.old ++ big_bytes 4 number) }
+        ensures err { OnErr result (self.new ≡ self.old) }
+    {
+        let mut bytes = [0; 4];
+        BigEndian::write_u32(&mut bytes, number);
+        self.extend(&bytes)
+    }
+
+    /// Appends a number of 8 bytes, big-endian. An error changes nothing.
+    pub fn push_u64(&mut self, number: u64) -> Result<(), OutOfMemory>
+        ensures ok { OnOk result (self.new ≡ self.old ++ big_bytes 8 number) }
+        ensures err { OnErr result (self.new ≡ self.old) }
+    {
+        let mut bytes = [0; 8];
+        BigEndian::write_u64(&mut bytes, number);
+        self.extend(&bytes)
     }
 
     /// Puts a piece in place of the bytes from `at`, as many as it has.

@@ -11,7 +11,7 @@ ghost use Rattle.afp_bitmap.specs.Writing.{row_of};
 use crate::judge::judge;
 use crate::params::ParamFault;
 use crate::table::{Shape, Slot};
-use crate::take::{Fields, owned};
+use crate::take::Fields;
 use crate::write::{Field, Row, finder_bytes, put_rows};
 use afp_base::{Bytes, OutOfMemory};
 use std::alloc::Global;
@@ -92,11 +92,11 @@ fn rows_of(values: &FileValues) -> [Row<'_>; 13]
 pub(crate) fn put_file(
     bits: u16,
     values: &FileValues,
-    block: &mut Vec<u8>,
+    block: &mut Bytes,
 ) -> Result<(), OutOfMemory>
-    requires empty { block.old.items ≡ [] }
+    requires empty { block.old ≡ [] }
     requires names { AllByRecursion IsCountable (asked_of bits (file_rows values.now)) }
-    ensures { OnOk result (block.new.items ≡ concat (parts (asked_of bits (file_rows values.now)))) }
+    ensures { OnOk result (block.new ≡ concat (parts (asked_of bits (file_rows values.now)))) }
 {
     let rows = rows_of(values);
     put_rows(bits, &rows, block)
@@ -108,8 +108,8 @@ pub(crate) fn read_file(alloc: Global, bits: u16, bytes: &[u8]) -> Result<FileVa
     ensures { Gives (λ v. v) result (file_at bits bytes.now) }
 {
     let names = judge(bits, &TABLE, bytes)?;
-    let long_name = owned(alloc, names.long)?;
-    let utf8_name = owned(alloc, names.utf8)?;
+    let long_name = Bytes::of(alloc, names.long)?;
+    let utf8_name = Bytes::of(alloc, names.utf8)?;
     let mut fields = Fields { bits, rest: bytes };
     let attributes = fields.short(0);
     let parent = fields.long(1);

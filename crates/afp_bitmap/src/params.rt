@@ -39,10 +39,10 @@ impl From<OutOfMemory> for ParamFault {
 }
 
 /// Writes the block of the asked values.
-fn put(bits: u16, values: &Values, block: &mut Vec<u8>) -> Result<(), OutOfMemory>
-    requires empty { block.old.items ≡ [] }
+fn put(bits: u16, values: &Values, block: &mut Bytes) -> Result<(), OutOfMemory>
+    requires empty { block.old ≡ [] }
     requires fits { Fits bits values.now }
-    ensures { OnOk result (block.new.items ≡ params bits values.now) }
+    ensures { OnOk result (block.new ≡ params bits values.now) }
 {
     match values {
         Values::Volume(volume) => put_volume(bits, volume, block),
@@ -64,9 +64,9 @@ pub fn put_params(
     ensures ok { OnOk result (out.new ≡ out.old ++ params bits values.now) }
     ensures err { OnErr result (out.new ≡ out.old) }
 {
-    let mut block = Vec::new(alloc);
+    let mut block = Bytes::new(alloc);
     put(bits, values, &mut block)?;
-    out.extend(&block)
+    out.extend(block.as_slice())
 }
 
 /// The values in the bytes, by kind.

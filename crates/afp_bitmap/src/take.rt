@@ -6,9 +6,8 @@ ghost use Rattle.afp_bitmap.specs.Reading.{finder_of};
 ghost use Rattle.afp_bitmap.specs.Taking.{Took, taken};
 
 use crate::table::is_asked;
-use afp_base::{Bytes, OutOfMemory};
+
 use byteorder::{BigEndian, ByteOrder};
-use std::alloc::Global;
 
 /// Takes field by field from a block, by rising bit. A field that was not asked, or that is not
 /// there, is zero and takes no byte.
@@ -102,13 +101,4 @@ impl<'a> Fields<'a> {
         }
         finder
     }
-}
-
-/// Bytes of one's own.
-pub(crate) fn owned(alloc: Global, bytes: &[u8]) -> Result<Bytes, OutOfMemory>
-    ensures { IfOk result (λ b. b ≡ bytes.now) }
-{
-    let mut copy = Bytes::new(alloc);
-    copy.extend(bytes)?;
-    Ok(copy)
 }

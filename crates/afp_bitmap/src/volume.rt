@@ -11,7 +11,7 @@ ghost use Rattle.afp_bitmap.specs.Writing.{row_of};
 use crate::judge::judge;
 use crate::params::ParamFault;
 use crate::table::{Shape, Slot};
-use crate::take::{Fields, owned};
+use crate::take::Fields;
 use crate::write::{Field, Row, put_rows};
 use afp_base::{Bytes, OutOfMemory};
 use std::alloc::Global;
@@ -87,11 +87,11 @@ fn rows_of(values: &VolumeValues) -> [Row<'_>; 12]
 pub(crate) fn put_volume(
     bits: u16,
     values: &VolumeValues,
-    block: &mut Vec<u8>,
+    block: &mut Bytes,
 ) -> Result<(), OutOfMemory>
-    requires empty { block.old.items ≡ [] }
+    requires empty { block.old ≡ [] }
     requires names { AllByRecursion IsCountable (asked_of bits (volume_rows values.now)) }
-    ensures { OnOk result (block.new.items ≡ concat (parts (asked_of bits (volume_rows values.now)))) }
+    ensures { OnOk result (block.new ≡ concat (parts (asked_of bits (volume_rows values.now)))) }
 {
     let rows = rows_of(values);
     put_rows(bits, &rows, block)
@@ -107,7 +107,7 @@ pub(crate) fn read_volume(
     ensures { Gives (λ v. v) result (volume_at bits bytes.now) }
 {
     let names = judge(bits, &TABLE, bytes)?;
-    let name = owned(alloc, names.long)?;
+    let name = Bytes::of(alloc, names.long)?;
     let mut fields = Fields { bits, rest: bytes };
     let attributes = fields.short(0);
     let signature = fields.short(1);

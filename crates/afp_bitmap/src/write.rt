@@ -1,5 +1,5 @@
 //! Fields into a block.
-ghost use Rattle.std.specs.Prelude.{◌≡◌, ◌+◌, ◌≤◌, ◌<◌, ◌^◌, ◌++◌, [], length, map, true, false, OnOk, IfOk, None, vec_len};
+ghost use Rattle.std.specs.Prelude.{◌≡◌, ◌+◌, ◌≤◌, ◌<◌, ◌^◌, ◌++◌, [], length, map, true, false, OnOk, IfOk, None};
 ghost use Rattle.std.specs.List.{concat, AllByRecursion};
 ghost use Rattle.byteorder.specs.Endian.{big_bytes};
 ghost use Rattle.afp_bitmap.specs.Bits.{is_asked};
@@ -8,7 +8,7 @@ ghost use Rattle.afp_bitmap.specs.Params.{asked_of, parts, size_of_fixed_part};
 ghost use Rattle.afp_bitmap.specs.Writing.{field_of, row_of, spot_of, spots_of, noted, all_noted, no_spots, padded, patched, with_long_name, with_utf8_name, CanName, Formed, IsSized};
 
 use crate::table::is_asked;
-use afp_base::OutOfMemory;
+use afp_base::{Bytes, OutOfMemory};
 use byteorder::{BigEndian, ByteOrder};
 
 /// A field on its way into a block.
@@ -51,52 +51,18 @@ pub(crate) fn finder_bytes(info: &[u8; 32]) -> &[u8]
 
 const ZEROS: [u8; 6] = [0; 6];
 
-fn put_short(number: u16, block: &mut Vec<u8>) -> Result<(), OutOfMemory>
-    ensures { OnOk result (block.new.items ≡ block.old.items ++ big_bytes 2 number) }
-{
-    let mut bytes = [0; 2];
-    BigEndian::write_u16(&mut bytes, number);
-    block.extend_from_slice(&bytes)?;
-    Ok(())
-}
-
-fn put_long(number: u32, block: &mut Vec<u8>) -> Result<(), OutOfMemory>
-    ensures { OnOk result (block.new.items ≡ block.old.items ++ big_bytes 4 number) }
-{
-    let mut bytes = [0; 4];
-    BigEndian::write_u32(&mut bytes, number);
-    block.extend_from_slice(&bytes)?;
-    Ok(())
-}
-
-fn put_wide(number: u64, block: &mut Vec<u8>) -> Result<(), OutOfMemory>
-    ensures { OnOk result (block.new.items ≡ block.old.items ++ big_bytes 8 number) }
-{
-    let mut bytes = [0; 8];
-    BigEndian::write_u64(&mut bytes, number);
-    block.extend_from_slice(&bytes)?;
-    Ok(())
-}
-
-fn put_bytes(bytes: &[u8], block: &mut Vec<u8>) -> Result<(), OutOfMemory>
-    ensures { OnOk result (block.new.items ≡ block.old.items ++ bytes.now) }
-{
-    block.extend_from_slice(bytes)?;
-    Ok(())
-}
-
 /// Appends a field of the fixed part, with 0 where the place of a name is to stand.
-fn put_fixed(field: &Field<'_>, block: &mut Vec<u8>) -> Result<(), OutOfMemory>
-    ensures { OnOk result (block.new.items ≡ block.old.items ++ fixed_bytes 0 (field_of field.now)) }
+fn put_fixed(field: &Field<'_>, block: &mut Bytes) -> Result<(), OutOfMemory>
+    ensures { OnOk result (block.new ≡ block.old ++ fixed_bytes 0 (field_of field.now)) }
 {
     match field {
-        Field::Short(number) => put_short(*number, block),
-        Field::Long(number) => put_long(*number, block),
-        Field::Wide(number) => put_wide(*number, block),
-        Field::Date(seconds) => put_long(seconds.cast_unsigned(), block),
-        Field::Finder(info) => put_bytes(info, block),
-        Field::LongName(_) => put_bytes(&ZEROS[..2], block),
-        Field::Utf8Name(_) => put_bytes(&ZEROS, block),
+        Field::Short(number) => block.push_u16(*number),
+        Field::Long(number) => block.push_u32(*number),
+        Field::Wide(number) => block.push_u64(*number),
+        Field::Date(seconds) => block.push_u32(seconds.cast_unsigned()),
+        Field::Finder(info) => block.extend(info),
+        Field::LongName(_) => block.extend(&ZEROS[..2]),
+        Field::Utf8Name(_) => block.extend(&ZEROS),
     }
 }
 
@@ -122,19 +88,19 @@ fn put_row<'a>(
     bits: u16,
     row: &Row<'a>,
     spots: Spots<'a>,
-    block: &mut Vec<u8>,
+    block: &mut Bytes,
 ) -> Result<Spots<'a>, OutOfMemory>
     ensures spots { is_asked bits row.now.0 ≡ true
-        → IfOk result (λ next. spots_of next ≡ noted (length block.old.items) (field_of row.now.1) (spots_of spots.entry)) }
+        → IfOk result (λ next. spots_of next ≡ noted (length block.old) (field_of row.now.1) (spots_of spots.entry)) }
     ensures bytes { is_asked bits row.now.0 ≡ true
-        → OnOk result (block.new.items ≡ block.old.items ++ fixed_bytes 0 (field_of row.now.1)) }
+        → OnOk result (block.new ≡ block.old ++ fixed_bytes 0 (field_of row.now.1)) }
     ensures same_spots { is_asked bits row.now.0 ≡ false → IfOk result (λ next. spots_of next ≡ spots_of spots.entry) }
-    ensures same_bytes { is_asked bits row.now.0 ≡ false → OnOk result (block.new.items ≡ block.old.items) }
+    ensures same_bytes { is_asked bits row.now.0 ≡ false → OnOk result (block.new ≡ block.old) }
 {
     if !is_asked(bits, row.0) {
         return Ok(spots);
     }
-    let spots = noted(spots, block.len(), &row.1);
+    let spots = noted(spots, block.as_slice().len(), &row.1);
     put_fixed(&row.1, block)?;
     Ok(spots)
 }
@@ -143,11 +109,11 @@ fn put_row<'a>(
 fn put_fixed_part<'a>(
     bits: u16,
     rows: &[Row<'a>],
-    block: &mut Vec<u8>,
+    block: &mut Bytes,
 ) -> Result<Spots<'a>, OutOfMemory>
-    requires { block.old.items ≡ [] }
+    requires { block.old ≡ [] }
     ensures spots { IfOk result (λ spots. spots_of spots ≡ all_noted 0 (asked_of bits (map row_of rows.now)) no_spots) }
-    ensures bytes { OnOk result (block.new.items ≡ concat (map (fixed_bytes 0) (asked_of bits (map row_of rows.now)))) }
+    ensures bytes { OnOk result (block.new ≡ concat (map (fixed_bytes 0) (asked_of bits (map row_of rows.now)))) }
 {
     let mut spots = Spots {
         long_name: None,
@@ -160,42 +126,44 @@ fn put_fixed_part<'a>(
 }
 
 /// Writes a number over the 2 bytes at `at`.
-fn patch(at: usize, number: u16, block: &mut Vec<u8>)
-    requires { at + 2 ≤ vec_len block.old }
-    ensures { block.new.items ≡ patched at number block.old.items }
+fn patch(at: usize, number: u16, block: &mut Bytes)
+    requires { at + 2 ≤ length block.old }
+    ensures { block.new ≡ patched at number block.old }
 {
-    BigEndian::write_u16(&mut block[at..], number);
+    let mut bytes = [0; 2];
+    BigEndian::write_u16(&mut bytes, number);
+    block.put(at, &bytes);
 }
 
 /// Appends a name, and a zero where it is odd in length.
-fn put_padded(head: &[u8], name: &[u8], block: &mut Vec<u8>) -> Result<(), OutOfMemory>
+fn put_padded(head: &[u8], name: &[u8], block: &mut Bytes) -> Result<(), OutOfMemory>
     requires { length head.now + length name.now < 2 ^ 64 }
-    ensures { OnOk result (block.new.items ≡ block.old.items ++ padded (head.now ++ name.now)) }
+    ensures { OnOk result (block.new ≡ block.old ++ padded (head.now ++ name.now)) }
 {
-    put_bytes(head, block)?;
-    put_bytes(name, block)?;
+    block.extend(head)?;
+    block.extend(name)?;
     if (head.len() + name.len()) % 2 == 1 {
-        put_bytes(&[0], block)?;
+        block.push_u8(0)?;
     }
     Ok(())
 }
 
 /// Writes the place of a name, and appends its head, its bytes and its pad.
-fn put_name(spot: Spot<'_>, head: &[u8], block: &mut Vec<u8>) -> Result<(), OutOfMemory>
-    requires inside { spot.at + 2 ≤ length block.old.items }
-    requires small { length block.old.items < 65536 }
+fn put_name(spot: Spot<'_>, head: &[u8], block: &mut Bytes) -> Result<(), OutOfMemory>
+    requires inside { spot.at + 2 ≤ length block.old }
+    requires small { length block.old < 65536 }
     requires fits { length head.now + length spot.name.now < 2 ^ 64 }
-    ensures { OnOk result (block.new.items
-        ≡ patched spot.entry.at (length block.old.items) block.old.items ++ padded (head.now ++ spot.entry.name.now)) }
+    ensures { OnOk result (block.new
+        ≡ patched spot.entry.at (length block.old) block.old ++ padded (head.now ++ spot.entry.name.now)) }
 {
-    patch(spot.at, block.len() as u16, block);
+    patch(spot.at, block.as_slice().len() as u16, block);
     put_padded(head, spot.name, block)
 }
 
 /// Appends the long name, where there is one, and writes its place.
-fn put_long_name(spot: Option<Spot<'_>>, block: &mut Vec<u8>) -> Result<(), OutOfMemory>
-    requires { CanName 256 (spot_of spot) block.old.items }
-    ensures { OnOk result (block.new.items ≡ with_long_name (spot_of spot.entry) block.old.items) }
+fn put_long_name(spot: Option<Spot<'_>>, block: &mut Bytes) -> Result<(), OutOfMemory>
+    requires { CanName 256 (spot_of spot) block.old }
+    ensures { OnOk result (block.new ≡ with_long_name (spot_of spot.entry) block.old) }
 {
     match spot {
         None => Ok(()),
@@ -207,9 +175,9 @@ fn put_long_name(spot: Option<Spot<'_>>, block: &mut Vec<u8>) -> Result<(), OutO
 }
 
 /// Appends the UTF-8 name, where there is one, and writes its place.
-fn put_utf8_name(spot: Option<Spot<'_>>, block: &mut Vec<u8>) -> Result<(), OutOfMemory>
-    requires { CanName 65536 (spot_of spot) block.old.items }
-    ensures { OnOk result (block.new.items ≡ with_utf8_name (spot_of spot.entry) block.old.items) }
+fn put_utf8_name(spot: Option<Spot<'_>>, block: &mut Bytes) -> Result<(), OutOfMemory>
+    requires { CanName 65536 (spot_of spot) block.old }
+    ensures { OnOk result (block.new ≡ with_utf8_name (spot_of spot.entry) block.old) }
 {
     match spot {
         None => Ok(()),
@@ -222,13 +190,13 @@ fn put_utf8_name(spot: Option<Spot<'_>>, block: &mut Vec<u8>) -> Result<(), OutO
 }
 
 /// Writes the block of the asked fields.
-pub(crate) fn put_rows(bits: u16, rows: &[Row<'_>], block: &mut Vec<u8>) -> Result<(), OutOfMemory>
-    requires empty { block.old.items ≡ [] }
+pub(crate) fn put_rows(bits: u16, rows: &[Row<'_>], block: &mut Bytes) -> Result<(), OutOfMemory>
+    requires empty { block.old ≡ [] }
     requires formed { Formed (asked_of bits (map row_of rows.now)) }
     requires small { size_of_fixed_part (asked_of bits (map row_of rows.now)) < 65000 }
     requires names { AllByRecursion IsCountable (asked_of bits (map row_of rows.now)) }
     requires sized { AllByRecursion IsSized (asked_of bits (map row_of rows.now)) }
-    ensures { OnOk result (block.new.items ≡ concat (parts (asked_of bits (map row_of rows.now)))) }
+    ensures { OnOk result (block.new ≡ concat (parts (asked_of bits (map row_of rows.now)))) }
 {
     let spots = put_fixed_part(bits, rows, block)?;
     put_long_name(spots.long_name, block)?;

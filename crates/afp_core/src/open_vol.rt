@@ -60,7 +60,7 @@ fn volume_block(alloc: Global, bits: u16, volume: VolumeId) -> Result<Bytes, Out
     ensures { IfOk result (λ block. block ≡ big_bytes 2 bits ++ big_bytes 2 volume.0) }
 {
     let mut block = Bytes::new(alloc);
-    block.extend(&bits.to_be_bytes())?;
-    block.extend(&volume.0.to_be_bytes())?;
+    block.push_u16(bits)?;
+    block.push_u16(volume.0)?;
     Ok(block)
 }

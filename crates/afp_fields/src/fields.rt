@@ -208,7 +208,7 @@ impl<'a> Fields<'a> {
     {
         let mut ahead = self.again();
         let piece = ahead.piece(size as usize)?;
-        let bytes = owned(alloc, piece)?;
+        let bytes = Bytes::of(alloc, piece)?;
         *self = ahead;
         Ok(bytes)
     }
@@ -242,7 +242,7 @@ impl<'a> Fields<'a> {
         let mut ahead = self.again();
         let count = ahead.piece(1)?[0];
         let piece = ahead.piece(usize::from(count))?;
-        let text = owned(alloc, piece)?;
+        let text = Bytes::of(alloc, piece)?;
         *self = ahead;
         Ok(text)
     }
@@ -255,7 +255,7 @@ impl<'a> Fields<'a> {
         let mut ahead = self.again();
         let count = BigEndian::read_u16(ahead.piece(2)?);
         let piece = ahead.piece(usize::from(count))?;
-        let text = owned(alloc, piece)?;
+        let text = Bytes::of(alloc, piece)?;
         *self = ahead;
         Ok(text)
     }
@@ -268,7 +268,7 @@ impl<'a> Fields<'a> {
         let mut ahead = self.again();
         let count = BigEndian::read_u32(ahead.piece(4)?);
         let piece = ahead.piece(count as usize)?;
-        let text = owned(alloc, piece)?;
+        let text = Bytes::of(alloc, piece)?;
         *self = ahead;
         Ok(text)
     }
@@ -281,7 +281,7 @@ impl<'a> Fields<'a> {
         let mut ahead = self.again();
         let remaining = self.block.len() - self.place;
         let piece = ahead.piece(remaining)?;
-        let bytes = owned(alloc, piece)?;
+        let bytes = Bytes::of(alloc, piece)?;
         *self = ahead;
         Ok(bytes)
     }
@@ -307,15 +307,6 @@ impl<'a> Fields<'a> {
         if (piece.len() as u64) < size {
             return Err(ReadFault::Param);
         }
-        Ok(owned(alloc, &piece[..size as usize])?)
+        Ok(Bytes::of(alloc, &piece[..size as usize])?)
     }
-}
-
-/// Bytes of one's own.
-fn owned(alloc: Global, bytes: &[u8]) -> Result<Bytes, OutOfMemory>
-    ensures { IfOk result (λ b. b ≡ bytes.now) }
-{
-    let mut copy = Bytes::new(alloc);
-    copy.extend(bytes)?;
-    Ok(copy)
 }

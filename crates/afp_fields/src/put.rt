@@ -11,7 +11,7 @@ pub fn put_command(out: &mut Bytes, number: u8) -> Result<(), OutOfMemory>
     ensures put { OnOk result (Puts (command number) out.old out.new) }
     ensures err { OnErr result (out.new ≡ out.old) }
 {
-    out.extend(&[number])
+    out.push_u8(number)
 }
 
 /// A byte that each request of a sort has.
@@ -48,7 +48,7 @@ pub fn put_u8(out: &mut Bytes, number: u8) -> Result<(), OutOfMemory>
     ensures put { OnOk result (Puts (u8 number) out.old out.new) }
     ensures err { OnErr result (out.new ≡ out.old) }
 {
-    out.extend(&[number])
+    out.push_u8(number)
 }
 
 /// A number of 2 bytes.
@@ -56,9 +56,7 @@ pub fn put_u16(out: &mut Bytes, number: u16) -> Result<(), OutOfMemory>
     ensures put { OnOk result (Puts (u16 number) out.old out.new) }
     ensures err { OnErr result (out.new ≡ out.old) }
 {
-    let mut bytes = [0; 2];
-    BigEndian::write_u16(&mut bytes, number);
-    out.extend(&bytes)
+    out.push_u16(number)
 }
 
 /// A number of 4 bytes.
@@ -66,9 +64,7 @@ pub fn put_u32(out: &mut Bytes, number: u32) -> Result<(), OutOfMemory>
     ensures put { OnOk result (Puts (u32 number) out.old out.new) }
     ensures err { OnErr result (out.new ≡ out.old) }
 {
-    let mut bytes = [0; 4];
-    BigEndian::write_u32(&mut bytes, number);
-    out.extend(&bytes)
+    out.push_u32(number)
 }
 
 /// A count, in 4 bytes, of what stands further on.
@@ -77,9 +73,7 @@ pub fn put_count(out: &mut Bytes, size: usize) -> Result<(), OutOfMemory>
     ensures put { OnOk result (Puts (count_in 4 size) out.old out.new) }
     ensures err { OnErr result (out.new ≡ out.old) }
 {
-    let mut bytes = [0; 4];
-    BigEndian::write_u32(&mut bytes, size as u32);
-    out.extend(&bytes)
+    out.push_u32(size as u32)
 }
 
 /// A number of 4 bytes, where it is there.
@@ -99,9 +93,7 @@ pub fn put_i32(out: &mut Bytes, number: i32) -> Result<(), OutOfMemory>
     ensures put { OnOk result (Puts (i32 number) out.old out.new) }
     ensures err { OnErr result (out.new ≡ out.old) }
 {
-    let mut bytes = [0; 4];
-    BigEndian::write_u32(&mut bytes, number.cast_unsigned());
-    out.extend(&bytes)
+    out.push_u32(number.cast_unsigned())
 }
 
 /// A signed number of 8 bytes.
@@ -109,9 +101,7 @@ pub fn put_i64(out: &mut Bytes, number: i64) -> Result<(), OutOfMemory>
     ensures put { OnOk result (Puts (i64 number) out.old out.new) }
     ensures err { OnErr result (out.new ≡ out.old) }
 {
-    let mut bytes = [0; 8];
-    BigEndian::write_u64(&mut bytes, number.cast_unsigned());
-    out.extend(&bytes)
+    out.push_u64(number.cast_unsigned())
 }
 
 /// Bytes behind their count of one byte.

@@ -7,7 +7,7 @@ ghost use Rattle.afp_replies.specs.Layouts.{optional, optional_text};
 ghost use Rattle.afp_replies.specs.Reading.{Rest, Takes, Reads, Front, Ends, IsBytes, TakesParams, TakesEntryBytes, entry_result};
 ghost use Rattle.afp_replies.specs.Words.{Number, Exactly, Asked, Raw, Pad, Counted, Flag, Entry};
 
-use crate::fields::{DIR, DIRECTORY, FILE, head_size, owned, width};
+use crate::fields::{DIR, DIRECTORY, FILE, head_size, width};
 use crate::list::ListEntry;
 use crate::reply::ReplyFault;
 use afp_base::{Bytes, OutOfMemory};
@@ -146,7 +146,7 @@ impl<'a> Cursor<'a> {
             return Err(ReplyFault::Bad { at });
         }
         let text = self.front(count)?;
-        Ok(owned(alloc, text)?)
+        Ok(Bytes::of(alloc, text)?)
     }
 
     /// A text with its count in 1 byte before it, or in 2 where it is wide.
@@ -254,7 +254,7 @@ impl<'a> Cursor<'a> {
     pub(crate) fn remaining(self, alloc: Global) -> Result<Bytes, OutOfMemory>
         ensures { IfOk result (λ b. b ≡ self.entry.bytes) }
     {
-        owned(alloc, self.bytes)
+        Bytes::of(alloc, self.bytes)
     }
 
     /// The end of the bytes.

@@ -1,12 +1,10 @@
 //! Numbers and bytes of fields.
-ghost use Rattle.std.specs.Prelude.{◌≡◌, ◌≤◌, ◌<◌, ◌^◌, ◌++◌, length, OnOk, IfOk};
+ghost use Rattle.std.specs.Prelude.{◌≡◌, ◌≤◌, ◌<◌, ◌^◌, ◌++◌, length, OnOk};
 ghost use Rattle.afp_bitmap.specs.Bits.{is_asked};
 ghost use Rattle.afp_replies.specs.Entry.{head_size};
-ghost use Rattle.afp_replies.specs.Bytes.{u8, u16, u32, u64, counted, width};
+ghost use Rattle.afp_replies.specs.Bytes.{counted, width};
 
 use afp_base::{Bytes, OutOfMemory};
-use byteorder::{BigEndian, ByteOrder};
-use std::alloc::Global;
 
 /// The flag of a directory (AFP Reference, "FPGetFileDirParms"). That of a file is 0.
 pub(crate) const DIRECTORY: u8 = 0x80;
@@ -57,58 +55,15 @@ pub(crate) fn head_size(wide: bool) -> usize
     if wide { 4 } else { 2 }
 }
 
-/// Bytes of one's own.
-pub(crate) fn owned(alloc: Global, bytes: &[u8]) -> Result<Bytes, OutOfMemory>
-    ensures { IfOk result (λ b. b ≡ bytes.now) }
-{
-    let mut copy = Bytes::new(alloc);
-    copy.extend(bytes)?;
-    Ok(copy)
-}
-
-/// Appends a number of 1 byte.
-pub(crate) fn put_u8(number: u8, out: &mut Bytes) -> Result<(), OutOfMemory>
-    ensures { OnOk result (out.new ≡ out.old ++ u8 number) }
-{
-    out.extend(&[number])
-}
-
-/// Appends a number of 2 bytes.
-pub(crate) fn put_u16(number: u16, out: &mut Bytes) -> Result<(), OutOfMemory>
-    ensures { OnOk result (out.new ≡ out.old ++ u16 number) }
-{
-    let mut bytes = [0; 2];
-    BigEndian::write_u16(&mut bytes, number);
-    out.extend(&bytes)
-}
-
-/// Appends a number of 4 bytes.
-pub(crate) fn put_u32(number: u32, out: &mut Bytes) -> Result<(), OutOfMemory>
-    ensures { OnOk result (out.new ≡ out.old ++ u32 number) }
-{
-    let mut bytes = [0; 4];
-    BigEndian::write_u32(&mut bytes, number);
-    out.extend(&bytes)
-}
-
-/// Appends a number of 8 bytes.
-pub(crate) fn put_u64(number: u64, out: &mut Bytes) -> Result<(), OutOfMemory>
-    ensures { OnOk result (out.new ≡ out.old ++ u64 number) }
-{
-    let mut bytes = [0; 8];
-    BigEndian::write_u64(&mut bytes, number);
-    out.extend(&bytes)
-}
-
 /// Appends a text with its count in 1 byte, or in 2 where it is wide.
 pub(crate) fn put_text(wide: bool, text: &[u8], out: &mut Bytes) -> Result<(), OutOfMemory>
     requires { length text.now < 256 ^ width wide }
     ensures { OnOk result (out.new ≡ out.old ++ counted (width wide) text.now) }
 {
     if wide {
-        put_u16(text.len() as u16, out)?;
+        out.push_u16(text.len() as u16)?;
     } else {
-        put_u8(text.len() as u8, out)?;
+        out.push_u8(text.len() as u8)?;
     }
     out.extend(text)
 }

@@ -13,9 +13,7 @@ ghost use Rattle.afp_replies.specs.Replies.{volume_bytes, message_bytes, canonic
 ghost use Rattle.afp_replies.specs.Fitting.{FitsVolume, FitsList};
 ghost use Rattle.afp_replies.specs.Writing.{FitsParams, FitsNode, FitsMessage, CanWrite};
 
-use crate::fields::{
-    DIRECTORY, UTF8_BIT, head_size, is_asked, put_text, put_u8, put_u16, put_u32, put_u64,
-};
+use crate::fields::{DIRECTORY, UTF8_BIT, head_size, is_asked, put_text};
 use crate::list::ListEntry;
 use crate::reply::Reply;
 use crate::volumes::VolumeEntry;
@@ -29,7 +27,7 @@ fn put_optional(number: &Option<u32>, out: &mut Bytes) -> Result<(), OutOfMemory
 {
     match number {
         None => Ok(()),
-        Some(number) => put_u32(*number, out),
+        Some(number) => out.push_u32(*number),
     }
 }
 
@@ -43,11 +41,11 @@ fn put_icon_info(
 ) -> Result<(), OutOfMemory>
     ensures { OnOk result (out.new ≡ out.old ++ concat (u32 tag ∷ kind.now ∷ u8 icon_kind ∷ pad ∷ u16 size ∷ [])) }
 {
-    put_u32(tag, out)?;
+    out.push_u32(tag)?;
     out.extend(kind)?;
-    put_u8(icon_kind, out)?;
-    put_u8(0, out)?;
-    put_u16(size, out)
+    out.push_u8(icon_kind)?;
+    out.push_u8(0)?;
+    out.push_u16(size)
 }
 
 /// FPGetUserInfo.
@@ -59,7 +57,7 @@ fn put_user_info(
 ) -> Result<(), OutOfMemory>
     ensures { OnOk result (out.new ≡ out.old ++ concat (u16 bits ∷ optional id.now ∷ optional group.now ∷ [])) }
 {
-    put_u16(bits, out)?;
+    out.push_u16(bits)?;
     put_optional(id, out)?;
     put_optional(group, out)
 }
@@ -74,8 +72,8 @@ fn put_message(
     requires { FitsMessage (is_asked bits utf8_bit) message.now }
     ensures { OnOk result (out.new ≡ out.old ++ concat (u16 kind ∷ u16 bits ∷ message_bytes (is_asked bits utf8_bit) message.now ∷ [])) }
 {
-    put_u16(kind, out)?;
-    put_u16(bits, out)?;
+    out.push_u16(kind)?;
+    out.push_u16(bits)?;
     match message {
         None => Ok(()),
         Some(text) => put_text(is_asked(bits, UTF8_BIT), text.as_slice(), out),
@@ -87,7 +85,7 @@ fn put_token(token: &[u8], out: &mut Bytes) -> Result<(), OutOfMemory>
     requires { length token.now < 256 ^ 4 }
     ensures { OnOk result (out.new ≡ out.old ++ counted 4 token.now) }
 {
-    put_u32(token.len() as u32, out)?;
+    out.push_u32(token.len() as u32)?;
     out.extend(token)
 }
 
@@ -96,7 +94,7 @@ fn put_volume(volume: &VolumeEntry, out: &mut Bytes) -> Result<(), OutOfMemory>
     requires { FitsVolume volume.now }
     ensures { OnOk result (out.new ≡ out.old ++ volume_bytes volume.now) }
 {
-    put_u8(volume.flags, out)?;
+    out.push_u8(volume.flags)?;
     put_text(false, volume.name.as_slice(), out)
 }
 
@@ -117,8 +115,8 @@ fn put_server_params(time: i32, volumes: &[VolumeEntry], out: &mut Bytes) -> Res
     requires fits { AllByRecursion FitsVolume volumes.now }
     ensures { OnOk result (out.new ≡ out.old ++ concat (u32 (cast_unsigned w32 time) ∷ u8 (length volumes.now) ∷ map volume_bytes volumes.now)) }
 {
-    put_u32(time.cast_unsigned(), out)?;
-    put_u8(volumes.len() as u8, out)?;
+    out.push_u32(time.cast_unsigned())?;
+    out.push_u8(volumes.len() as u8)?;
     put_volumes(volumes, out)
 }
 
@@ -127,7 +125,7 @@ fn put_block(alloc: Global, bits: u16, values: &Values, out: &mut Bytes) -> Resu
     requires { FitsParams (kind_of values.now) bits values.now }
     ensures { OnOk result (out.new ≡ out.old ++ concat (u16 bits ∷ params bits values.now ∷ [])) }
 {
-    put_u16(bits, out)?;
+    out.push_u16(bits)?;
     put_params(alloc, bits, values, out)
 }
 
@@ -142,8 +140,8 @@ fn put_opened(
     requires { FitsParams file_kind bits values.now }
     ensures { OnOk result (out.new ≡ out.old ++ concat (u16 bits ∷ u16 reference ∷ params bits values.now ∷ [])) }
 {
-    put_u16(bits, out)?;
-    put_u16(reference, out)?;
+    out.push_u16(bits)?;
+    out.push_u16(reference)?;
     put_params(alloc, bits, values, out)
 }
 
@@ -158,8 +156,8 @@ fn put_appl(
     requires { FitsParams file_kind bits values.now }
     ensures { OnOk result (out.new ≡ out.old ++ concat (u16 bits ∷ u32 tag ∷ params bits values.now ∷ [])) }
 {
-    put_u16(bits, out)?;
-    put_u32(tag, out)?;
+    out.push_u16(bits)?;
+    out.push_u32(tag)?;
     put_params(alloc, bits, values, out)
 }
 
@@ -200,10 +198,10 @@ fn put_file_dir_params(
     ensures { OnOk result (out.new ≡ out.old ++ concat (u16 file_bits ∷ u16 dir_bits ∷ (flag_of (is_dir values.now) ∷ []) ∷ pad ∷ node_params file_bits dir_bits values.now ∷ [])) }
 {
     let dir = is_dir(values);
-    put_u16(file_bits, out)?;
-    put_u16(dir_bits, out)?;
-    put_u8(flag_of(dir), out)?;
-    put_u8(0, out)?;
+    out.push_u16(file_bits)?;
+    out.push_u16(dir_bits)?;
+    out.push_u8(flag_of(dir))?;
+    out.push_u8(0)?;
     put_params(alloc, bits_for(dir, file_bits, dir_bits), values, out)
 }
 
@@ -213,9 +211,9 @@ fn put_length(wide: bool, length: usize, out: &mut Bytes) -> Result<(), OutOfMem
     ensures { OnOk result (out.new ≡ out.old ++ big_bytes (width wide) length) }
 {
     if wide {
-        put_u16(length as u16, out)
+        out.push_u16(length as u16)
     } else {
-        put_u8(length as u8, out)
+        out.push_u8(length as u8)
     }
 }
 
@@ -223,7 +221,7 @@ fn put_length(wide: bool, length: usize, out: &mut Bytes) -> Result<(), OutOfMem
 fn put_pad(wide: bool, out: &mut Bytes) -> Result<(), OutOfMemory>
     ensures { OnOk result (out.new ≡ out.old ++ replicate (pad_count wide) 0) }
 {
-    if wide { put_u8(0, out) } else { Ok(()) }
+    if wide { out.push_u8(0) } else { Ok(()) }
 }
 
 /// An entry of a list. Its parameters come first, apart, so that their size is known.
@@ -245,7 +243,7 @@ fn put_entry(
     let bits = bits_for(dir, file_bits, dir_bits);
     put_params(alloc, bits, &entry.values, &mut block)?;
     put_length(wide, head_size(wide) + block.as_slice().len(), out)?;
-    put_u8(flag_of(dir), out)?;
+    out.push_u8(flag_of(dir))?;
     put_pad(wide, out)?;
     out.extend(block.as_slice())
 }
@@ -282,9 +280,9 @@ fn put_list(
     requires { FitsList wide file_bits dir_bits rows.now }
     ensures { OnOk result (out.new ≡ out.old ++ concat (u16 file_bits ∷ u16 dir_bits ∷ u16 (length rows.now) ∷ map (entry_bytes wide file_bits dir_bits) rows.now)) }
 {
-    put_u16(file_bits, out)?;
-    put_u16(dir_bits, out)?;
-    put_u16(rows.len() as u16, out)?;
+    out.push_u16(file_bits)?;
+    out.push_u16(dir_bits)?;
+    out.push_u16(rows.len() as u16)?;
     put_entries(alloc, wide, file_bits, dir_bits, rows, out)
 }
 
@@ -295,11 +293,11 @@ fn put_reply(alloc: Global, reply: &Reply, out: &mut Bytes) -> Result<(), OutOfM
 {
     match reply {
         Reply::Empty => Ok(()),
-        Reply::Start { start } => put_u32(*start, out),
-        Reply::StartExt { start } => put_u64(*start, out),
-        Reply::End { end } => put_u32(*end, out),
-        Reply::EndExt { end } => put_u64(*end, out),
-        Reply::Node { id } => put_u32(id.0, out),
+        Reply::Start { start } => out.push_u32(*start),
+        Reply::StartExt { start } => out.push_u64(*start),
+        Reply::End { end } => out.push_u32(*end),
+        Reply::EndExt { end } => out.push_u64(*end),
+        Reply::Node { id } => out.push_u32(id.0),
         Reply::List {
             wide,
             file_bits,
@@ -310,7 +308,7 @@ fn put_reply(alloc: Global, reply: &Reply, out: &mut Bytes) -> Result<(), OutOfM
         Reply::Status { block } => out.extend(block.as_slice()),
         Reply::ServerParams { time, volumes } => put_server_params(*time, volumes.as_slice(), out),
         Reply::MappedName { wide, name } => put_text(*wide, name.as_slice(), out),
-        Reply::MappedId { id } => put_u32(*id, out),
+        Reply::MappedId { id } => out.push_u32(*id),
         Reply::Opened {
             bits,
             reference,
@@ -328,7 +326,7 @@ fn put_reply(alloc: Global, reply: &Reply, out: &mut Bytes) -> Result<(), OutOfM
             bits,
             message,
         } => put_message(*kind, *bits, message, out),
-        Reply::Desk { dt } => put_u16(*dt, out),
+        Reply::Desk { dt } => out.push_u16(*dt),
         Reply::IconInfo {
             tag,
             kind,

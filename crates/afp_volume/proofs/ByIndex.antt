@@ -9,7 +9,7 @@ use Rattle.afp_volume.proofs.CreateFile.{find-only}
 use Rattle.afp_volume.specs.SoundVolume.{are_named_alike}
 use Rattle.afp_volume.proofs.TestedLists.{never, any-at, find-none, find-passes, none-all}
 use Rattle.afp_volume.specs.Edits.{is_below, is_taken, above, is_another, without}
-use Rattle.afp_volume.specs.SoundVolume.{are_apart}
+use Rattle.afp_base.specs.Apart.{are_apart}
 use Rattle.afp_volume.specs.VolumeState.{Row}
 use Rattle.afp_volume.specs.Walk.{row_at, parent_at, child_by_key}
 

@@ -10,7 +10,8 @@ use Rattle.afp_volume.proofs.TestedLists.{all-kept, all-filter, all-weaker, none
 use Rattle.afp_volume.proofs.Trees.{tree-parts}
 use Rattle.afp_volume.specs.Listing.{row_key, children, listed, is_child, pages}
 use Rattle.afp_volume.specs.Order.{rises, in_order}
-use Rattle.afp_volume.specs.SoundVolume.{are_apart, are_named_alike, has_apart_names, IsSoundVolume}
+use Rattle.afp_base.specs.Apart.{are_apart}
+use Rattle.afp_volume.specs.SoundVolume.{are_named_alike, has_apart_names, IsSoundVolume}
 use Rattle.afp_volume.specs.VolumeState.{Row, VolumeState}
 
 not-false : (b : Bool) → not b ≡ true → b ≡ false

@@ -8,7 +8,8 @@ use Rattle.afp_names.specs.Name.{name_key}
 use Rattle.afp_volume.proofs.TestedLists.{contra, never, apart-filter, apart-map, apart-weaker, apart-snoc, none-all, find-none}
 use Rattle.afp_volume.proofs.Trees.{KeepsPlace}
 use Rattle.afp_volume.specs.Edits.{is_taken, without, with_changed, change_at, at_place, with_row, without_node, with_moved}
-use Rattle.afp_volume.specs.SoundVolume.{are_apart, are_named_alike, has_apart_names}
+use Rattle.afp_base.specs.Apart.{are_apart}
+use Rattle.afp_volume.specs.SoundVolume.{are_named_alike, has_apart_names}
 use Rattle.afp_volume.specs.VolumeState.{Row, VolumeState}
 use Rattle.afp_volume.specs.Walk.{child_by_key}
 

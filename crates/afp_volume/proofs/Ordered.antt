@@ -15,7 +15,7 @@ use Rattle.std.proofs.lemmas.Map.Text.{is_eq-slice_cmp}
 use Rattle.afp_volume.proofs.TestedLists.{all-weaker, none-all}
 use Rattle.afp_volume.specs.Listing.{pages}
 use Rattle.afp_volume.specs.Order.{stands_before, put_in, in_order, rises}
-use Rattle.afp_volume.specs.SoundVolume.{are_apart}
+use Rattle.afp_base.specs.Apart.{are_apart}
 
 -- the order of keys
 

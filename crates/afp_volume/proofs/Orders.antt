@@ -7,7 +7,8 @@ use Rattle.afp_volume.proofs.TestedLists.{all-weaker}
 use Rattle.afp_volume.proofs.Trees.{TreeParts, drawn}
 use Rattle.afp_volume.specs.Edits.{with_row, with_changed, change_at, without, without_node}
 use Rattle.afp_volume.specs.Order.{rises, rises_from}
-use Rattle.afp_volume.specs.SoundVolume.{are_apart, has_rising_ids, is_in_order, icon_key, appl_key, is_in_place}
+use Rattle.afp_base.specs.Apart.{are_apart}
+use Rattle.afp_volume.specs.SoundVolume.{has_rising_ids, is_in_order, icon_key, appl_key, is_in_place}
 use Rattle.afp_volume.specs.VolumeState.{Row, Comment, Appl, VolumeState, root_id, first_id}
 
 pub record OrderParts (v : VolumeState) : Type 0 where

@@ -5,7 +5,7 @@ use Rattle.std.specs.List.{list_any, list_all, remove}
 use Rattle.std.proofs.lemmas.Bool.{and_parts, cond-true, cond-false, eq-eqb}
 use Rattle.afp_volume.proofs.TestedLists.{none-all, not-equal}
 use Rattle.afp_volume.specs.Edits.{with_changed, change_at, without}
-use Rattle.afp_volume.specs.SoundVolume.{are_apart}
+use Rattle.afp_base.specs.Apart.{are_apart}
 use Rattle.afp_volume.specs.VolumeState.{Row}
 
 -- the place of a row

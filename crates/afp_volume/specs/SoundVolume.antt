@@ -1,14 +1,10 @@
 -- What holds of every volume (this profile, after the AFP Reference's "Catalog node IDs" and "Desktop database").
 use Rattle.std.specs.Prelude.{◌≡◌, ℕ, zero, suc, ◌^◌, ◌+◌, ◌==◌, nat_le, nat_lt, Bool, true, not, ◌&&◌, ◌||◌, if◌then◌else◌, List, [], ◌∷◌, ◌++◌, length, sum_by, bit_and, bytes_eq, is_none}
 use Rattle.std.specs.List.{list_all, list_any}
+use Rattle.afp_base.specs.Apart.{are_apart}
 use Rattle.afp_names.specs.Name.{name_fault, name_key}
 use Rattle.afp_volume.specs.Order.{rises, rises_from}
 use Rattle.afp_volume.specs.VolumeState.{Row, Comment, Icon, Appl, VolumeState, finder_size, root_id, root_parent, first_id}
-
--- no two elements are alike
-abbrev pub are_apart : {A : Type 0} → (A → A → Bool) → List A → Bool
-are_apart alike [] = true
-are_apart alike (x ∷ xs) = not (list_any (alike x) xs) && are_apart alike xs
 
 -- whether some row has this id
 abbrev pub has_node : List Row → ℕ → Bool

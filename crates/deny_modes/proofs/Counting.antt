@@ -14,7 +14,7 @@ use Rattle.afp_base.specs.DenyMode.{Access, Fork, is_one_fork, is_clash}
 use Rattle.sorted_map.specs.Entries.{at, exchanged, with_new_value}
 use Rattle.deny_modes.specs.declared.opens.Opened.{Opened}
 use Rattle.deny_modes.specs.declared.opens.Tally.{Tally}
-use Rattle.deny_modes.specs.Apart.{are_apart}
+use Rattle.afp_base.specs.Apart.{are_apart}
 use Rattle.deny_modes.specs.ForkOrder.{fork_cmp}
 use Rattle.deny_modes.specs.Opens.{Open, has_reference, has_conflict, is_fork_open, with_open, without_reference, in_exchange, exchange_open, exchanged_opens, count_of, counts_of, are_in_conflict}
 use Rattle.deny_modes.specs.Counters.{open_of, opens_of, tally_of, IsCounted, clash_with, bit, tally_with, tally_without, no_tally, CanCount, HasOpen, exchange_row}

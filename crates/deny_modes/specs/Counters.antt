@@ -6,7 +6,7 @@ use Rattle.afp_base.specs.DenyMode.{Access, Fork, is_one_fork}
 use Rattle.sorted_map.specs.Entries.{at}
 use Rattle.deny_modes.specs.declared.opens.Opened.{Opened}
 use Rattle.deny_modes.specs.declared.opens.Tally.{Tally}
-use Rattle.deny_modes.specs.Apart.{are_apart}
+use Rattle.afp_base.specs.Apart.{are_apart}
 use Rattle.deny_modes.specs.ForkOrder.{fork_cmp}
 use Rattle.deny_modes.specs.Opens.{Open, counts_of, in_exchange, is_fork_open, are_in_conflict}
 

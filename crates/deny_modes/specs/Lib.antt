@@ -1,4 +1,3 @@
-pub mod Apart
 pub mod Counters
 pub mod ForkOrder
 pub mod Opens

@@ -1,7 +1,7 @@
 //! The opens of all sessions.
 ghost use Rattle.std.specs.Prelude.{◌≡◌, [], false, true, not, OnOk, OnErr, option_copied, unwrap_or, map};
 ghost use Rattle.sorted_map.specs.Entries.{at};
-ghost use Rattle.deny_modes.specs.Apart.{are_apart};
+ghost use Rattle.afp_base.specs.Apart.{are_apart};
 ghost use Rattle.deny_modes.specs.ForkOrder.{fork_cmp};
 ghost use Rattle.deny_modes.specs.Opens.{has_reference, has_conflict, with_open, without_reference, exchanged_opens, counters_of, in_exchange, are_in_conflict};
 ghost use Rattle.deny_modes.specs.Counters.{clash_with, tally_with, tally_without, no_tally, exchange_row, CanCount, HasOpen};

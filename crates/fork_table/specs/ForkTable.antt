@@ -10,7 +10,7 @@ use Rattle.afp_base.specs.declared.ids.NodeId.{NodeId}
 use Rattle.afp_base.specs.declared.ids.SessionNumber.{SessionNumber}
 use Rattle.afp_base.specs.Choice.{first_holding}
 use Rattle.afp_base.specs.DenyMode.{Access, Fork, is_one_fork}
-use Rattle.deny_modes.specs.Apart.{are_apart}
+use Rattle.afp_base.specs.Apart.{are_apart}
 use Rattle.deny_modes.specs.Opens.{Open, has_conflict, are_in_conflict, in_exchange}
 use Rattle.range_locks.specs.Locks.{Lock, are_overlapping}
 use Rattle.fork_table.specs.declared.open_fork.OpenFork.{OpenFork}

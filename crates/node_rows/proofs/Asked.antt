@@ -11,7 +11,8 @@ use Rattle.afp_volume.proofs.Ordered.{order-map}
 use Rattle.afp_volume.proofs.TestedLists.{all-kept, apart-map}
 use Rattle.afp_volume.specs.Listing.{children as in_directory, listed, row_key}
 use Rattle.afp_volume.specs.Order.{stands_before, in_order, rises}
-use Rattle.afp_volume.specs.SoundVolume.{are_apart, are_named_alike, has_rising_ids, last_next_id}
+use Rattle.afp_base.specs.Apart.{are_apart}
+use Rattle.afp_volume.specs.SoundVolume.{are_named_alike, has_rising_ids, last_next_id}
 use Rattle.afp_volume.specs.VolumeState.{Row}
 use Rattle.afp_volume.specs.Walk.{child_by_key}
 use Rattle.node_rows.proofs.Siblings.{is_of}

@@ -12,7 +12,8 @@ use Rattle.afp_volume.proofs.Rising.{keys-filter}
 use Rattle.afp_volume.proofs.TestedLists.{all-weaker, all-filter, all-map-where, none-all, none-find, find-none, find-passes}
 use Rattle.afp_volume.specs.Edits.{with_changed, change_at, without, at_place, is_taken}
 use Rattle.afp_volume.specs.Order.{put_in, in_order, rises, rises_from}
-use Rattle.afp_volume.specs.SoundVolume.{are_apart, has_rising_ids, last_next_id}
+use Rattle.afp_base.specs.Apart.{are_apart}
+use Rattle.afp_volume.specs.SoundVolume.{has_rising_ids, last_next_id}
 use Rattle.afp_volume.specs.VolumeState.{Row}
 use Rattle.afp_volume.specs.Walk.{row_at, child_by_key}
 use Rattle.node_rows.proofs.Sorting.{put-comm, order-filter, number_place, same-back}

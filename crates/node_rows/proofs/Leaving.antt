@@ -8,7 +8,7 @@ use Rattle.afp_volume.proofs.Ordered.{order-all}
 use Rattle.afp_volume.proofs.Orders.{rising-ids-differ}
 use Rattle.afp_volume.proofs.TestedLists.{all-weaker, any-at, any-map, any-weaker, none-all, apart-map}
 use Rattle.afp_volume.specs.Order.{stands_before, put_in, in_order}
-use Rattle.afp_volume.specs.SoundVolume.{are_apart}
+use Rattle.afp_base.specs.Apart.{are_apart}
 use Rattle.afp_volume.specs.VolumeState.{Row}
 use Rattle.afp_volume.specs.Walk.{row_at}
 use Rattle.node_rows.proofs.Siblings.{parent-before}

@@ -3,7 +3,8 @@ ghost use Rattle.std.specs.Prelude.{◌≡◌, ◌∷◌, ◌+◌, ◌<◌, ◌�
 ghost use Rattle.std.specs.List.{list_any, list_all, filter};
 ghost use Rattle.afp_volume.specs.Edits.{at_place};
 ghost use Rattle.afp_volume.specs.Order.{put_in, rises};
-ghost use Rattle.afp_volume.specs.SoundVolume.{are_apart, has_rising_ids};
+ghost use Rattle.afp_base.specs.Apart.{are_apart};
+ghost use Rattle.afp_volume.specs.SoundVolume.{has_rising_ids};
 ghost use Rattle.afp_volume.specs.VolumeState.{Row};
 ghost use Rattle.afp_volume.specs.Walk.{row_at};
 ghost use Rattle.node_rows.specs.Children.{child_order};

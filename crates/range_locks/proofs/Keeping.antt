@@ -13,7 +13,7 @@ use Rattle.std.proofs.lemmas.List.Sorted.{IsNonDecreasingBy-insert}
 use Rattle.afp_base.specs.Choice.{first_holding}
 use Rattle.afp_base.specs.DenyMode.{Fork, is_one_fork}
 use Rattle.afp_base.specs.Overlap.{Range, do_meet, do_overlap}
-use Rattle.deny_modes.specs.Apart.{are_apart}
+use Rattle.afp_base.specs.Apart.{are_apart}
 use Rattle.deny_modes.proofs.Forks.{same_fork, either_way, crosses, both_cross, found_crossed}
 use Rattle.deny_modes.specs.ForkOrder.{fork_cmp}
 use Rattle.deny_modes.specs.Opens.{in_exchange}

@@ -3,7 +3,7 @@ ghost use Rattle.std.specs.Prelude.{◌≡◌, ◌==◌, [], true, not, filter, 
 ghost use Rattle.afp_base.specs.DenyMode.{Fork};
 ghost use Rattle.deny_modes.specs.Opens.{in_exchange};
 ghost use Rattle.std.specs.List.Sorted.{IsNonDecreasingBy};
-ghost use Rattle.deny_modes.specs.Apart.{are_apart};
+ghost use Rattle.afp_base.specs.Apart.{are_apart};
 ghost use Rattle.range_locks.specs.Locks.{are_overlapping, SetsLock, TakesLock, AreIntervals, is_met_by_other, count_held, is_lock, without_holder, exchange_lock, exchanged_locks};
 ghost use Rattle.range_locks.specs.Kept.{IsBehind, IsBefore, holder_of, holds_on, rows_at};
 

@@ -9,5 +9,5 @@ use Rattle.afp_bitmap.proofs.write.put_fixed_part.Given as goal
 -- with the rows to come the fixed part is whole, and all names are noted
 abbrev pub invariant-loop-row : goal.invariant-loop-row
 invariant-loop-row l =
-    Goes l.bits (map row_of (drop l.row-index l.rows)) l.block.items (spots_of l.spots) (concat (map (fixed_bytes 0) (asked_of l.bits (map row_of l.rows))))
+    Goes l.bits (map row_of (drop l.row-index l.rows)) l.block (spots_of l.spots) (concat (map (fixed_bytes 0) (asked_of l.bits (map row_of l.rows))))
     (all_noted 0 (asked_of l.bits (map row_of l.rows)) no_spots)

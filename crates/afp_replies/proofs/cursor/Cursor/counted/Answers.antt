@@ -16,4 +16,4 @@ returns-then-self-count c = (
 )
 
 pub returns : goal.returns
-returns c = text_took _ _ _ _ _ _ _ _ c.read_uint-count.ensures c.in_ok-head.ensures c.in_ok-text.ensures c.in_ok-owned.ensures
+returns c = text_took _ _ _ _ _ _ _ _ c.read_uint-count.ensures c.in_ok-head.ensures c.in_ok-text.ensures c.in_ok-of.ensures
