@@ -19,6 +19,7 @@ pub mod Rising
 pub mod Places
 pub mod SoundPut
 pub mod PathNames
+pub mod LongPathNames
 pub mod Orders
 pub mod Fresh
 pub mod BareRows

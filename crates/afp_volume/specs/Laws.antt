@@ -7,6 +7,7 @@ use Rattle.afp_volume.specs.Listing.{row_key, children, listed, is_child, pages}
 use Rattle.afp_volume.specs.VolumeState.{Row, VolumeState, fresh_volume}
 use Rattle.afp_base.specs.Apart.{are_apart}
 use Rattle.afp_volume.specs.SoundVolume.{has_rising_ids, TakesRow, row_bytes, fork_bytes, most_fork_bytes, IsSoundVolume, leads_to_root, are_named_alike, has_node}
+use Rattle.afp_volume.specs.TypedVolume.{are_bytes}
 use Rattle.afp_volume.specs.Walk.{found, row_at, is_named_path, parent_at, child_by_key, child_by_long_name}
 use Rattle.afp_volume.specs.Edits.{bare, exchanged, with_row, with_changed, without, is_below, is_taken, above, is_another}
 use Rattle.afp_volume.specs.TreeSteps.{TreeStep, is_named_call, after_steps}
@@ -123,6 +124,10 @@ ChangedRises = (rows : List Row) (id : ℕ) (change : Row → Row) → ((row : R
 -- a path that bytes spell in UTF-8 goes down to names alone
 abbrev pub Utf8PathsAreNamed : Type 0
 Utf8PathsAreNamed = (bytes : List ℕ) (path : PathValue) → SpellsPath bytes path → (path.kind == 2) ≡ false → is_named_path path ≡ true
+
+-- so does any path that bytes spell
+abbrev pub PathsAreNamed : Type 0
+PathsAreNamed = (bytes : List ℕ) (path : PathValue) → are_bytes bytes ≡ true → SpellsPath bytes path → is_named_path path ≡ true
 
 -- two files may change forks and modified dates
 abbrev pub ExchangeKeepsSound : Type 0

@@ -85,6 +85,11 @@ pub fn utf8_paths_are_named()
     ensures { laws.Utf8PathsAreNamed }
 {}
 
+/// A path that bytes spell, in UTF-8 or by long names, goes down to names alone.
+pub fn paths_are_named()
+    ensures { laws.PathsAreNamed }
+{}
+
 /// What is asked of a tree is the same of rows with no bytes in their forks, and edits of the tree go beside the bytes.
 pub fn forks_do_not_matter()
     ensures found { laws.FindsBare }
