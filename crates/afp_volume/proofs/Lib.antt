@@ -20,6 +20,10 @@ pub mod Places
 pub mod SoundPut
 pub mod PathNames
 pub mod LongPathNames
+pub mod NameBytes
+pub mod TypedEdits
+pub mod TypedCalls
+pub mod TypedSteps
 pub mod Orders
 pub mod Fresh
 pub mod BareRows

@@ -1,5 +1,5 @@
 -- The laws of a volume, in the subject's own words (this profile).
-use Rattle.std.specs.Prelude.{map, option_map, ◌+◌, slice_get, slice_set, Ok, ◌≡◌, ◌↔◌, ℕ, suc, ◌||◌, ◌<◌, ◌≤◌, ◌==◌, sum, take, if◌then◌else◌, Bool, true, false, List, length, Some, None}
+use Rattle.std.specs.Prelude.{map, option_map, ◌+◌, slice_get, slice_set, Ok, ◌≡◌, ◌↔◌, ℕ, pos, suc, ◌||◌, ◌<◌, ◌≤◌, ◌==◌, sum, take, if◌then◌else◌, Bool, true, false, List, length, Some, None}
 use Rattle.std.specs.List.{remove, count_by, Contains, list_all}
 use Rattle.afp_names.specs.Path.{PathValue, SpellsPath}
 use Rattle.afp_volume.specs.Order.{rises}
@@ -7,10 +7,10 @@ use Rattle.afp_volume.specs.Listing.{row_key, children, listed, is_child, pages}
 use Rattle.afp_volume.specs.VolumeState.{Row, VolumeState, fresh_volume}
 use Rattle.afp_base.specs.Apart.{are_apart}
 use Rattle.afp_volume.specs.SoundVolume.{has_rising_ids, TakesRow, row_bytes, fork_bytes, most_fork_bytes, IsSoundVolume, leads_to_root, are_named_alike, has_node}
-use Rattle.afp_volume.specs.TypedVolume.{are_bytes}
+use Rattle.afp_volume.specs.TypedVolume.{are_bytes, is_date, is_typed_row, is_typed_volume}
 use Rattle.afp_volume.specs.Walk.{found, row_at, is_named_path, parent_at, child_by_key, child_by_long_name}
 use Rattle.afp_volume.specs.Edits.{bare, exchanged, with_row, with_changed, without, is_below, is_taken, above, is_another}
-use Rattle.afp_volume.specs.TreeSteps.{TreeStep, is_named_call, after_steps}
+use Rattle.afp_volume.specs.TreeSteps.{TreeStep, tree_refusal, tree_effect, is_named_call, is_typed_step, after_steps}
 use Rattle.afp_names.specs.Name.{name_fault, name_key}
 use Rattle.afp_volume.specs.Calls.{Opened}
 use Rattle.afp_volume.specs.CreateDir.{create_dir_refusal, create_dir_effect}
@@ -88,6 +88,20 @@ TakenByKey = (rows : List Row) (node dir : ℕ) (name : List ℕ) → are_apart 
 -- calls one after another, refused or not, keep a volume sound
 abbrev pub StepsKeepSound : Type 0
 StepsKeepSound = (v : VolumeState) (steps : List TreeStep) → list_all (λ (step : TreeStep). is_named_call step.call) steps ≡ true → IsSoundVolume v → IsSoundVolume (after_steps v steps)
+
+-- each call that is not refused keeps the numbers of a sound volume in their ranges, and so do calls one after another
+abbrev pub CallsKeepTyped : Type 0
+CallsKeepTyped = (v : VolumeState) (step : TreeStep) → is_typed_step step ≡ true → is_named_call step.call ≡ true → tree_refusal v step.opens step.call ≡ None → IsSoundVolume v → is_typed_volume v ≡ true → is_typed_volume (tree_effect v step.now step.call) ≡ true
+
+abbrev pub StepsKeepTyped : Type 0
+StepsKeepTyped = (v : VolumeState) (steps : List TreeStep) → list_all is_typed_step steps ≡ true → list_all (λ (step : TreeStep). is_named_call step.call) steps ≡ true → IsSoundVolume v → is_typed_volume v ≡ true → is_typed_volume (after_steps v steps) ≡ true
+
+-- a volume that nobody has used, and one with another row in the place of one, have their numbers in their ranges
+abbrev pub FreshIsTyped : Type 0
+FreshIsTyped = (name : List ℕ) (now : ℕ) → name_fault name ≡ None → is_date (pos now) ≡ true → is_typed_volume (fresh_volume name now) ≡ true
+
+abbrev pub PutKeepsTyped : Type 0
+PutKeepsTyped = (v : VolumeState) (id : ℕ) (t : Row) → is_typed_row t ≡ true → is_typed_volume v ≡ true → is_typed_volume (record v { rows = with_changed id (λ row. t) v.rows }) ≡ true
 
 -- an id that was drawn and is no node's is never a node's again
 abbrev pub NeverDrawnAgain : Type 0

@@ -63,6 +63,14 @@ pub fn calls_keep_volumes_sound_for_ever()
     ensures once { laws.NeverDrawnAgain }
 {}
 
+/// The numbers of a volume stay in the ranges of their fields, whatever calls come whose numbers are in theirs.
+pub fn numbers_stay_in_their_ranges()
+    ensures call { laws.CallsKeepTyped }
+    ensures calls { laws.StepsKeepTyped }
+    ensures fresh { laws.FreshIsTyped }
+    ensures put { laws.PutKeepsTyped }
+{}
+
 /// Where a walk leads there is a node. Another row may take the place of one. What is done by id is done at the place of that row.
 pub fn rows_are_changed_in_place()
     ensures walks { laws.WalksEndAtNodes }
