@@ -13,6 +13,7 @@ pub mod CreateFile
 pub mod Ordered
 pub mod Listings
 pub mod ListReplies
+pub mod ToldValues
 pub mod ByIndex
 pub mod Later
 pub mod Rising

@@ -19,6 +19,7 @@ pub mod NodeValues
 pub mod GetFileDirParms
 pub mod Enumerate
 pub mod ListLaws
+pub mod ValueLaws
 pub mod Laws
 pub mod Listing
 pub mod TreeSteps

@@ -1,6 +1,7 @@
 //! Laws of a volume. Each function says one, and does nothing.
 ghost use Rattle.afp_volume.specs.Laws as laws;
 ghost use Rattle.afp_volume.specs.ListLaws as list_laws;
+ghost use Rattle.afp_volume.specs.ValueLaws as value_laws;
 
 /// No way to the root is longer than there are rows.
 pub fn ways_are_short()
@@ -49,6 +50,15 @@ pub fn replies_list_each_child_once()
     ensures as_far { list_laws.EntriesGoAsFar }
     ensures turns { list_laws.TurnsGiveFirst }
     ensures all_turns { list_laws.TurnsGiveAll }
+{}
+
+/// What is told of a volume and of a node are values that the bits ask for, each one of its type: so there is a block of them. Where a call
+/// that tells is not refused, it tells something.
+pub fn values_are_those_asked_for()
+    ensures volume { value_laws.VolumeIsTold }
+    ensures node { value_laws.NodeIsTold }
+    ensures found { value_laws.FoundIsTold }
+    ensures directory { value_laws.DirIsTold }
 {}
 
 /// What a table by id and by name's key tells: whether a node is below another, by parents; whether a place is taken, by key.
