@@ -106,7 +106,7 @@ gone-bare id (row ∷ rows) =
     (λ kept. ap (λ l. bare row ∷ l) (gone-bare id rows) ∙ sym (cond-true (keep row) (bare row ∷ filter keep (map bare rows)) (filter keep (map bare rows)) kept))
     (λ gone. gone-bare id rows ∙ sym (cond-false (keep row) (bare row ∷ filter keep (map bare rows)) (filter keep (map bare rows)) gone))
 
-filter-bare : (dir : ℕ) (rows : List Row) → filter (λ (row : Row). row.parent == dir) (map bare rows) ≡ map bare (filter (λ (row : Row). row.parent == dir) rows)
+pub filter-bare : (dir : ℕ) (rows : List Row) → filter (λ (row : Row). row.parent == dir) (map bare rows) ≡ map bare (filter (λ (row : Row). row.parent == dir) rows)
 filter-bare dir [] = refl
 filter-bare dir (row ∷ rows) =
     let keep : Row → Bool = λ (r : Row). r.parent == dir in

@@ -28,3 +28,4 @@ pub mod TypedSteps
 pub mod Orders
 pub mod Fresh
 pub mod BareRows
+pub mod Counted

@@ -115,20 +115,20 @@ pages-are list (count ∷ counts) start k is =
 
 -- elements
 
-is-here : {A : Type 0} (x : A) (xs : List A) → Contains (x ∷ xs) x
+pub is-here : {A : Type 0} (x : A) (xs : List A) → Contains (x ∷ xs) x
 is-here x xs = (0, omega arith, refl)
 
-is-later : {A : Type 0} (x y : A) (xs : List A) → Contains xs y → Contains (x ∷ xs) y
+pub is-later : {A : Type 0} (x y : A) (xs : List A) → Contains xs y → Contains (x ∷ xs) y
 is-later x y xs c = (suc c.0, let h : c.0 < length xs = c.1 in omega arith, c.2)
 
-contains-cases : {A : Type 0} (x y : A) (xs : List A) → Contains (x ∷ xs) y → (x ≡ y) ⊎ Contains xs y
+pub contains-cases : {A : Type 0} (x y : A) (xs : List A) → Contains (x ∷ xs) y → (x ≡ y) ⊎ Contains xs y
 contains-cases x y xs c = go c.0 c.1 c.2
   where
     go : (k : ℕ) → k < length (x ∷ xs) → slice_index_or (x ∷ xs) k y ≡ y → (x ≡ y) ⊎ Contains xs y
     go zero within is = inl is
     go (suc k) within is = inr (k, omega arith, is)
 
-all-at : {A : Type 0} (p : A → Bool) (xs : List A) (y : A) → list_all p xs ≡ true → Contains xs y → p y ≡ true
+pub all-at : {A : Type 0} (p : A → Bool) (xs : List A) (y : A) → list_all p xs ≡ true → Contains xs y → p y ≡ true
 all-at p [] y h c = let k : c.0 < 0 = c.1 in absurd (omega arith)
 all-at p (x ∷ xs) y h c =
     let e = and_parts (p x) (list_all p xs) h in

@@ -1,5 +1,5 @@
 -- FPEnumerate, FPEnumerateExt and FPEnumerateExt2 (AFP Reference, under these names; the order of entries and of refusals is this profile's).
-use Rattle.std.specs.Prelude.{ℕ, zero, suc, ◌+◌, ◌-◌, ◌==◌, ◌&&◌, Bool, not, List, [], ◌∷◌, length, take, drop, map, min, sum_by, Option, nat_le, nat_lt, if◌then◌else◌}
+use Rattle.std.specs.Prelude.{ℕ, zero, suc, ◌+◌, ◌-◌, ◌==◌, ◌&&◌, Bool, true, false, not, List, [], ◌∷◌, length, take, drop, map, min, sum_by, Option, nat_le, nat_lt, if◌then◌else◌}
 use Rattle.std.specs.List.{filter, list_all}
 use Rattle.afp_base.specs.Choice.{first_holding}
 use Rattle.afp_base.specs.declared.code.Code.{Code}
@@ -24,6 +24,13 @@ pub record ListAsked : Type 0 where
   pub count : ℕ
   pub start : ℕ
   pub size : ℕ
+
+-- what FPEnumerate asks, and what FPEnumerateExt and FPEnumerateExt2 ask
+abbrev pub asked_narrow : ℕ → ℕ → ℕ → ℕ → ℕ → ListAsked
+asked_narrow file_bits dir_bits count start size = record { wide = false; file_bits = file_bits; dir_bits = dir_bits; count = count; start = start; size = size }
+
+abbrev pub asked_wide : ℕ → ℕ → ℕ → ℕ → ℕ → ListAsked
+asked_wide file_bits dir_bits count start size = record { wide = true; file_bits = file_bits; dir_bits = dir_bits; count = count; start = start; size = size }
 
 -- whether a node counts: a kind of which nothing is asked does not
 abbrev pub is_counted : ListAsked → Row → Bool

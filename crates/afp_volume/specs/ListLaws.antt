@@ -1,12 +1,13 @@
 -- The laws of lists of a directory's children, in the subject's own words (this profile).
-use Rattle.std.specs.Prelude.{◌≡◌, ℕ, ◌+◌, ◌≤◌, ◌<◌, ◌==◌, ◌||◌, ◌&&◌, not, Bool, true, List, [], ◌∷◌, ◌++◌, length, take, None, Ok, if◌then◌else◌}
-use Rattle.std.specs.List.{count_by, list_any}
+use Rattle.std.specs.Prelude.{◌≡◌, ℕ, ◌+◌, ◌≤◌, ◌<◌, ◌==◌, ◌||◌, ◌&&◌, not, Bool, true, false, List, [], ◌∷◌, ◌++◌, length, map, take, Some, None, Ok, if◌then◌else◌}
+use Rattle.std.specs.List.{Contains, count_by, list_any}
 use Rattle.afp_names.specs.Path.{PathValue}
+use Rattle.afp_volume.specs.Edits.{bare}
 use Rattle.afp_volume.specs.Order.{rises}
-use Rattle.afp_volume.specs.Listing.{row_key, children, page}
+use Rattle.afp_volume.specs.Listing.{row_key, children, listed, page}
 use Rattle.afp_volume.specs.VolumeState.{Row, VolumeState}
 use Rattle.afp_volume.specs.SoundVolume.{IsSoundVolume}
-use Rattle.afp_volume.specs.Walk.{found}
+use Rattle.afp_volume.specs.Walk.{found, row_at}
 use Rattle.afp_volume.specs.Calls.{Opened}
 use Rattle.afp_volume.specs.Enumerate.{ListAsked, is_counted, counted, fits_reply, from_start, entries, enumerate_refusal, enumerate_values}
 
@@ -69,3 +70,18 @@ TurnsGiveFirst = (rows : List Row) (asked : ListAsked) (dir : ℕ) (turns : List
 
 abbrev pub TurnsGiveAll : Type 0
 TurnsGiveAll = (rows : List Row) (asked : ListAsked) (dir : ℕ) (turns : List PageAsked) → length (counted rows asked dir) < 1 + length (entries_in_turn rows asked dir 1 turns) → entries_in_turn rows asked dir 1 turns ≡ counted rows asked dir
+
+-- where something is asked of files and of directories every child counts
+abbrev pub CountsAll : Type 0
+CountsAll = (rows : List Row) (asked : ListAsked) (dir : ℕ) → (asked.file_bits == 0) ≡ false → (asked.dir_bits == 0) ≡ false → counted rows asked dir ≡ listed rows dir
+
+-- what is listed is there, by its id
+abbrev pub ListedIsThere : Type 0
+ListedIsThere = (v : VolumeState) (dir : ℕ) (row : Row) → IsSoundVolume v → Contains (listed v.rows dir) row → row_at v.rows row.id ≡ Some row
+
+-- what counts, and how many children there are, are the same of rows with no bytes in their forks
+abbrev pub CountsBare : Type 0
+CountsBare = (rows : List Row) (asked : ListAsked) (dir : ℕ) → counted (map bare rows) asked dir ≡ map bare (counted rows asked dir)
+
+abbrev pub OffspringBare : Type 0
+OffspringBare = (rows : List Row) (dir : ℕ) → length (children (map bare rows) dir) ≡ length (children rows dir)

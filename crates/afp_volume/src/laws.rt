@@ -52,6 +52,14 @@ pub fn replies_list_each_child_once()
     ensures all_turns { list_laws.TurnsGiveAll }
 {}
 
+/// Where something is asked of both kinds every child counts. What is listed is there, by its id. Bytes in forks do not matter.
+pub fn what_counts_is_listed()
+    ensures all { list_laws.CountsAll }
+    ensures there { list_laws.ListedIsThere }
+    ensures bare { list_laws.CountsBare }
+    ensures offspring { list_laws.OffspringBare }
+{}
+
 /// What is told of a volume and of a node are values that the bits ask for, each one of its type: so there is a block of them. Where a call
 /// that tells is not refused, it tells something.
 pub fn values_are_those_asked_for()

@@ -1,0 +1,72 @@
+-- What is counted, beside what is listed.
+use Rattle.std.proofs.Common.{◌==◌, ◌≡◌, ◌∙◌, ap, refl, ℕ, ◌<◌, Bool, true, false, not, cond, List, [], ◌∷◌, length, map, Some, inl, inr, subst, arith}
+use Rattle.std.specs.List.{Contains, filter, find, list_any}
+use Rattle.std.proofs.lemmas.Bool.{and_parts, cond_both, cond-true, cond-false, not-true, eq-eqb}
+use Rattle.std.proofs.lemmas.List.{length-map}
+use Rattle.afp_volume.proofs.BareRows.{filter-bare, lists-bare}
+use Rattle.afp_volume.proofs.Ordered.{is-here, is-later, contains-cases, all-at, order-contains}
+use Rattle.afp_volume.proofs.TestedLists.{none-all}
+use Rattle.afp_volume.proofs.Trees.{tree-parts}
+use Rattle.afp_volume.specs.Edits.{bare}
+use Rattle.afp_volume.specs.Enumerate.{ListAsked, is_counted, counted}
+use Rattle.afp_volume.specs.Listing.{row_key, children, listed}
+use Rattle.afp_base.specs.Apart.{are_apart}
+use Rattle.afp_volume.specs.SoundVolume.{IsSoundVolume}
+use Rattle.afp_volume.specs.VolumeState.{Row, VolumeState}
+use Rattle.afp_volume.specs.Walk.{row_at}
+
+filter-all : {A : Type 0} (keep : A → Bool) (xs : List A) → ((x : A) → keep x ≡ true) → filter keep xs ≡ xs
+filter-all keep [] each = refl
+filter-all keep (x ∷ xs) each = cond-true (keep x) (x ∷ filter keep xs) (filter keep xs) (each x) ∙ ap (λ l. x ∷ l) (filter-all keep xs each)
+
+pub counts-all : (rows : List Row) (asked : ListAsked) (dir : ℕ) → (asked.file_bits == 0) ≡ false → (asked.dir_bits == 0) ≡ false → counted rows asked dir ≡ listed rows dir
+unfolding counted
+counts-all rows asked dir files dirs = filter-all (is_counted asked) (listed rows dir) (λ row. by row.dir)
+  where
+    by : (d : Bool) → not (cond d asked.dir_bits asked.file_bits == 0) ≡ true
+    by true = ap not dirs
+    by false = ap not files
+
+filter-contains : {A : Type 0} (keep : A → Bool) (xs : List A) (z : A) → Contains (filter keep xs) z → Contains xs z
+filter-contains keep [] z c = c
+filter-contains keep (x ∷ xs) z c =
+    cond_both (keep x) (x ∷ filter keep xs) (filter keep xs) (λ l. Contains l z → Contains (x ∷ xs) z)
+    (λ kept c. elim (contains-cases x z (filter keep xs) c) [
+      | inl same ↦ subst (λ q. Contains (x ∷ xs) q) same (is-here x xs)
+      | inr later ↦ is-later x z xs (filter-contains keep xs z later)
+    ])
+    (λ gone c. is-later x z xs (filter-contains keep xs z c)) c
+
+find-contained : (rows : List Row) (z : Row) → are_apart (λ (a : Row) b. a.id == b.id) rows ≡ true → Contains rows z → find (λ (row : Row). row.id == z.id) rows ≡ Some z
+find-contained [] z apart c = let k : c.0 < 0 = c.1 in absurd (omega arith)
+find-contained (x ∷ xs) z apart c =
+    let e = and_parts (not (list_any (λ (b : Row). x.id == b.id) xs)) (are_apart (λ (a : Row) b. a.id == b.id) xs) apart in
+    elim (contains-cases x z xs c) [
+      | inl same ↦ cond-true (x.id == z.id) (Some x) (find (λ (row : Row). row.id == z.id) xs) (eq-eqb x.id z.id (ap (λ (r : Row). r.id) same)) ∙ ap Some same
+      | inr later ↦
+          let other : (x.id == z.id) ≡ false = not-true (x.id == z.id) (all-at (λ (b : Row). not (x.id == b.id)) xs z (none-all (λ (b : Row). x.id == b.id) xs e.0) later) in
+          cond-false (x.id == z.id) (Some x) (find (λ (row : Row). row.id == z.id) xs) other ∙ find-contained xs z e.1 later
+    ]
+
+pub listed-is-there : (v : VolumeState) (dir : ℕ) (row : Row) → IsSoundVolume v → Contains (listed v.rows dir) row → row_at v.rows row.id ≡ Some row
+unfolding listed children row_at
+listed-is-there v dir row s c =
+    find-contained v.rows row (tree-parts v s.tree).apart
+    (filter-contains (λ (r : Row). r.parent == dir) v.rows row (order-contains row_key row (filter (λ (r : Row). r.parent == dir) v.rows) c))
+
+kept-bare : (asked : ListAsked) (rows : List Row) → filter (is_counted asked) (map bare rows) ≡ map bare (filter (is_counted asked) rows)
+kept-bare asked [] = refl
+kept-bare asked (row ∷ rows) =
+    let keep : Row → Bool = is_counted asked in
+    ap (λ l. cond (keep row) (bare row ∷ l) l) (kept-bare asked rows)
+    ∙ cond_both (keep row) (row ∷ filter keep rows) (filter keep rows) (λ l. cond (keep row) (bare row ∷ map bare (filter keep rows)) (map bare (filter keep rows)) ≡ map bare l)
+    (λ kept. cond-true (keep row) (bare row ∷ map bare (filter keep rows)) (map bare (filter keep rows)) kept)
+    (λ gone. cond-false (keep row) (bare row ∷ map bare (filter keep rows)) (map bare (filter keep rows)) gone)
+
+pub counts-bare : (rows : List Row) (asked : ListAsked) (dir : ℕ) → counted (map bare rows) asked dir ≡ map bare (counted rows asked dir)
+unfolding counted
+counts-bare rows asked dir = ap (λ l. filter (is_counted asked) l) (lists-bare rows dir) ∙ kept-bare asked (listed rows dir)
+
+pub offspring-bare : (rows : List Row) (dir : ℕ) → length (children (map bare rows) dir) ≡ length (children rows dir)
+unfolding children
+offspring-bare rows dir = ap length (filter-bare dir rows) ∙ length-map (filter (λ (row : Row). row.parent == dir) rows) bare
