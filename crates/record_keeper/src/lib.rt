@@ -1,0 +1,8 @@
+//! Keepers of records: a map from keys in byte order to values, changed by commits that are made whole or not at all.
+#![tactic(auto)]
+
+mod keeper;
+mod record;
+
+pub use keeper::{Keeper, KeeperFault};
+pub use record::{Change, Record, RecordKey};
