@@ -62,3 +62,32 @@ pub trait Keeper: Drop {
         ensures cause { HasCause (sure self.old) (faults self.old) (faults self.new) result }
         ensures sure { sure self.new ≡ sure self.old };
 }
+
+/// A keeper in a box keeps, counts and answers as the keeper inside does. So keepers of several kinds stand in one list.
+impl Keeper for Box<dyn Keeper + Send> {
+    ghost records = { λ b. (Keeper-box b).records b.value };
+
+    ghost faults = { λ b. (Keeper-box b).faults b.value };
+
+    ghost sure = { λ b. (Keeper-box b).sure b.value };
+
+    fn read(&mut self, alloc: Global, key: &RecordKey) -> Result<Option<Bytes>, KeeperFault> {
+        (**self).read(alloc, key)
+    }
+
+    fn next_key(
+        &mut self,
+        alloc: Global,
+        after: Option<&RecordKey>,
+    ) -> Result<Option<RecordKey>, KeeperFault> {
+        (**self).next_key(alloc, after)
+    }
+
+    fn commit(&mut self, alloc: Global, changes: &[Change]) -> Result<(), KeeperFault> {
+        (**self).commit(alloc, changes)
+    }
+
+    fn settle(&mut self) -> Result<(), KeeperFault> {
+        (**self).settle()
+    }
+}
