@@ -1,2 +1,4 @@
 pub mod Records
 pub mod Causes
+pub mod Rows
+pub mod Planned

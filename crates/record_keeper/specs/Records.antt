@@ -11,6 +11,11 @@ use Rattle.record_keeper.specs.declared.record.Change.TheVariants.{Put, Remove}
 abbrev pub Records : Type 0
 Records = FinMap (slice_cmp nat_cmp) (List ℕ)
 
+-- the key that a change is of
+abbrev pub key_of : Change → List ℕ
+key_of (Put key value) = key
+key_of (Remove key) = key
+
 -- the records after one change
 abbrev pub changed_by : Change → Records → Records
 changed_by (Put key value) kept = insert kept key value

@@ -2,7 +2,11 @@
 #![tactic(auto)]
 
 mod keeper;
+mod memory;
+mod planned;
 mod record;
+mod rows;
 
 pub use keeper::{Keeper, KeeperFault};
+pub use memory::MemoryKeeper;
 pub use record::{Change, Record, RecordKey};
