@@ -4,9 +4,11 @@
 mod keeper;
 mod memory;
 mod planned;
+mod reading;
 mod record;
 mod rows;
 
 pub use keeper::{Keeper, KeeperFault};
 pub use memory::MemoryKeeper;
+pub use reading::{ReadFault, read_all};
 pub use record::{Change, Record, RecordKey};

@@ -64,7 +64,7 @@ impl Keeper for MemoryKeeper {
     ghost sure = { λ k. never_fails k.planned };
 
     /// It fails exactly where its number is planned, as each call does.
-    fn read(&mut self, alloc: Global, key: &RecordKey) -> Result<Option<Bytes>, KeeperFault>
+    fn read(&mut self, _alloc: Global, key: &RecordKey) -> Result<Option<Bytes>, KeeperFault>
         ensures value { IfOk result (λ value. value ≡ map.get self.new.records key.now) }
         ensures records { self.new.records ≡ self.old.records }
         ensures cause { HasCause (never_fails self.old.planned) self.old.planned.faults self.new.planned.faults result }
@@ -86,7 +86,7 @@ impl Keeper for MemoryKeeper {
 
     fn next_key(
         &mut self,
-        alloc: Global,
+        _alloc: Global,
         after: Option<&RecordKey>,
     ) -> Result<Option<RecordKey>, KeeperFault>
         ensures key { IfOk result (λ key. IsNextKey self.new.records (option_copied after.entry) key) }
