@@ -133,7 +133,8 @@ impl Keeper for MemoryKeeper {
         ensures memory { IsErrOf result KeeperFault.Memory → ⊥ }
         ensures counted { self.new.planned ≡ after_call self.old.planned }
     {
-        if self.planned.fails() {
+        let fails = self.planned.fails();
+        if fails {
             return Err(KeeperFault::Failed);
         }
         Ok(())
