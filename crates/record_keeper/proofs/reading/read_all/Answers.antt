@@ -1,7 +1,7 @@
 use Rattle.std.proofs.Common.{◌≡◌, subst, sym, ap, refl, length, List, arith}
 use Rattle.std.specs.Prelude.{Some, None, IfSome}
 use Rattle.record_keeper.specs.declared.record.Record.{Record}
-use Rattle.record_keeper.specs.Reading.{IsFront, Rises, last_key}
+use Rattle.record_keeper.specs.Reading.{IsFront, Rises, last_key, most_records}
 use Rattle.record_keeper.specs.Records.{IsNextKey}
 use Rattle.record_keeper.proofs.InOrder.{all_read, behind_most, still_told, nothing_read, same_made}
 use Rattle.record_keeper.proofs.reading.read_all.Goals as goal
@@ -28,7 +28,7 @@ pub returns-in-Ok-Some-clause-fault : goal.returns-in-Ok-Some-clause-fault
 returns-in-Ok-Some-clause-fault g c =
     let new = g.K.Keeper.records c.key_behind.new.keeper in
     let read : List Record = c.loop.read.items in
-    let many : length read ≡ 480000 = omega arith in
-    behind_most new read c.in-Ok-Some.key 480000 many c.loop.invariant.rises
+    let many : length read ≡ most_records = omega arith in
+    behind_most new read c.in-Ok-Some.key most_records many c.loop.invariant.rises
     (still_told (g.K.Keeper.records c.loop.keeper) new (λ kept. IsFront kept read) c.in-Ok-Some.ensures.records c.loop.invariant.front)
     (subst (λ (rs : List Record). IfSome new (λ kept. IsNextKey kept (last_key rs) (Some c.in-Ok-Some.key))) c.deref.ensures.value (rw c.in-Ok-Some.field-0-is at c.in-Ok-Some.ensures.next))
