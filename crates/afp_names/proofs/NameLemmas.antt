@@ -1,13 +1,16 @@
 -- What decides that bytes are a name, and how a key is made step by step.
-use Rattle.std.proofs.Common.{◌≡◌, ℕ, ◌<◌, ◌≤◌, ◌==◌, ◌↔◌, Bool, true, false, nat_lt, List, length, get_or, Some, None, IsUtf8, chars, encode_utf8_all, refl, sym, ◌∙◌, arith}
+use Rattle.std.proofs.Common.{◌≡◌, ℕ, ◌<◌, ◌≤◌, ◌==◌, ◌↔◌, Bool, true, false, nat_lt, List, length, map, All, get_or, Some, None, IsUtf8, chars, encode_utf8_all, refl, sym, ap, ◌∙◌, arith}
 use Rattle.std.specs.List.{list_any}
-use Rattle.std.specs.Str.{is_utf8}
+use Rattle.std.specs.Str.{IsAscii, is_utf8}
 use Rattle.std.proofs.lemmas.Bool.{both_ways, eq-eqb, ne_eqb}
 use Rattle.std.proofs.lemmas.Bool.Decides.{nat_tests}
 use Rattle.std.proofs.lemmas.List.Elements.{All-from_get_or, All-weaker}
 use Rattle.std.proofs.lemmas.List.Folds.{list_any_at, list_any_none}
-use Rattle.std.proofs.lemmas.Str.{chars_from_encodes, is_utf8-from_IsUtf8, IsUtf8-from_is_utf8}
+use Rattle.std.proofs.lemmas.Str.Ascii.{All-from_ascii, IsAscii-map, encodes-IsAscii, lowercase_ascii}
+use Rattle.std.specs.Char.{to_ascii_lowercase}
+use Rattle.std.proofs.lemmas.Str.{chars-IsAscii, chars_from_encodes, is_utf8-from_IsUtf8, IsUtf8-from_is_utf8}
 use Rattle.unicode_normalization.specs.Forms.{nfd}
+use Rattle.caseless.proofs.CaselessLemmas.{canonical_key-ascii, default_case_fold-ascii}
 use Rattle.caseless.specs.Caseless.{default_case_fold}
 use Rattle.afp_names.specs.declared.name.NameFault.TheVariants.{Empty, TooLong, HasNul, NotUtf8}
 use Rattle.afp_names.specs.Name.{name_fault, IsName, name_key, longest_name}
@@ -78,3 +81,11 @@ name_fault-IsName bs = (
 
 pub name_fault-none_from : (bs : List ℕ) → (0 < length bs) × (length bs ≤ longest_name) × (list_any (λ byte. byte == 0) bs ≡ false) → IsUtf8 bs → name_fault bs ≡ None
 name_fault-none_from bs parts text = name_fault-none bs (ne_eqb (length bs) 0 (λ z. omega (arith, parts.0))) parts.1 parts.2 (is_utf8-from_IsUtf8 bs text)
+
+-- the key of a name of ASCII characters alone
+pub ascii_name_key : (n : List ℕ) → IsAscii n → name_key n ≡ map to_ascii_lowercase n
+ascii_name_key n ascii =
+    let all : All (λ c. c < 128) n = All-from_ascii n ascii in
+    ap (λ l. encode_utf8_all (nfd (default_case_fold (nfd l)))) (chars-IsAscii n ascii)
+    ∙ ap encode_utf8_all (canonical_key-ascii n all ∙ default_case_fold-ascii n all)
+    ∙ encodes-IsAscii (map to_ascii_lowercase n) (IsAscii-map to_ascii_lowercase n lowercase_ascii ascii)

@@ -1,5 +1,7 @@
 //! Names, and the keys by which names are told apart.
-ghost use Rattle.std.specs.Prelude.{◌≡◌, ◌≢◌, ◌↔◌, ◌⊎◌, ℕ, List, None, Some, ◌==◌, ◌<◌, ◌≤◌, nat_lt, false, length, IfOk, IfErr, OnOk, MatchOption, MatchResult};
+ghost use Rattle.std.specs.Prelude.{◌≡◌, ◌≢◌, ◌↔◌, ◌⊎◌, ℕ, List, None, Some, ◌==◌, ◌<◌, ◌≤◌, nat_lt, false, length, map, take, IfOk, IfErr, IfSome, OnOk, IfNone, MatchOption, MatchResult};
+ghost use Rattle.std.specs.Char.{to_ascii_lowercase};
+ghost use Rattle.std.specs.Str.{IsAscii, IsNotAscii};
 ghost use Rattle.std.specs.List.{list_any};
 ghost use Rattle.afp_names.specs.LongName.{longest_long_name};
 ghost use Rattle.afp_names.specs.MacRoman.{mac_roman_text};
@@ -105,6 +107,34 @@ impl Name {
         bytes.extend(key.as_bytes())?;
         Ok(bytes)
     }
+
+    /// Puts the key of a name of ASCII characters alone to the front of `room`, and answers its length. `None`: the
+    /// name has another character, and `room` stays. It takes no memory.
+    #[tactic(auto, using(crate::proofs::NameLemmas::ascii_name_key))]
+    pub fn ascii_key(&self, room: &mut [u8]) -> Option<usize>
+        requires { longest_name ≤ length room.old }
+        ensures ascii { MatchOption result (IsNotAscii self.now) (λ len. IsAscii self.now) }
+        ensures key { IfSome result (λ len. take len room.new ≡ name_key self.now) }
+        ensures len { IfSome result (λ len. len ≤ longest_name) }
+        ensures stays { IfNone result (room.new ≡ room.old) }
+    {
+        let text = self.as_str();
+        if !text.is_ascii() {
+            return None;
+        }
+        put_small(room, text.as_bytes());
+        Some(text.len())
+    }
+}
+
+/// Puts bytes to the front of `room`, with the letters of ASCII made small.
+fn put_small(room: &mut [u8], bytes: &[u8])
+    requires { length bytes.now ≤ length room.old }
+    ensures { take (length bytes.now) room.new ≡ map to_ascii_lowercase bytes.now }
+{
+    let front = &mut room[..bytes.len()];
+    front.copy_from_slice(bytes);
+    front.make_ascii_lowercase();
 }
 
 /// The text of a name, or why the bytes are none.
