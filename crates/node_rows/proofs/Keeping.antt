@@ -256,6 +256,9 @@ gone-there rows id i s rising place read =
 pub row-there : (rows : List Row) (id i : ℕ) (s : Row) → IsPlaceOf rows id (Some i) → s ≡ slice_index_or rows i s → row_at rows id ≡ Some s
 row-there rows id i s place read = place.1 ∙ (at-row rows id i s place read).0
 
+pub same-id : (rows : List Row) (id i : ℕ) (s : Row) → IsPlaceOf rows id (Some i) → s ≡ slice_index_or rows i s → s.id ≡ id
+same-id rows id i s place read = (at-row rows id i s place read).1
+
 pub id-there : (rows : List Row) (id i : ℕ) (s : Row) → IsPlaceOf rows id (Some i) → s ≡ slice_index_or rows i s → list_any (λ (row : Row). row.id == id) rows ≡ true
 unfolding row_at
 id-there rows id i s place read = by rows (place.1 ∙ (at-row rows id i s place read).0)

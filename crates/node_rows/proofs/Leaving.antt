@@ -1,20 +1,21 @@
 -- The child of a node is found among its parent's, and taken away at its place.
 use Rattle.std.proofs.Common.{◌≡◌, ◌∙◌, ap, sym, refl, subst, ℕ, suc, ◌+◌, ◌==◌, ◌<◌, Bool, true, false, not, ◌&&◌, ◌||◌, cond, List, [], ◌∷◌, ◌++◌, length, map, take, drop, inl, inr, Option, Some, None, arith}
-use Rattle.std.specs.Prelude.{nat_lt, position, unwrap_or}
+use Rattle.std.specs.Prelude.{bytes_eq, nat_lt, position, unwrap_or}
+use Rattle.std.proofs.lemmas.Slice.Eq.{bytes_eq-Decides}
 use Rattle.std.proofs.lemmas.List.{length-drop}
 use Rattle.std.specs.List.{list_all, list_any, filter, find, remove, position_or_len}
 use Rattle.std.proofs.lemmas.Bool.{and_parts, and_from, cases_Bool, cond_both, cond-true, cond-false, or_right, lt-ltb, eqb-true, eq-eqb, ltb-true, ne_eqb}
 use Rattle.afp_volume.proofs.Ordered.{order-all}
 use Rattle.afp_volume.proofs.Orders.{rising-ids-differ}
 use Rattle.afp_volume.proofs.TestedLists.{all-weaker, any-at, any-map, any-weaker, none-all, apart-map}
-use Rattle.afp_volume.specs.Order.{stands_before, put_in, in_order}
+use Rattle.afp_volume.specs.Order.{stands_before, put_in, in_order, rises}
 use Rattle.afp_base.specs.Apart.{are_apart}
 use Rattle.afp_volume.specs.VolumeState.{Row}
 use Rattle.afp_volume.specs.Walk.{row_at}
 use Rattle.node_rows.proofs.Siblings.{parent-before}
-use Rattle.node_rows.proofs.Sorting.{key_place, order-all-back}
+use Rattle.node_rows.proofs.Sorting.{before-differs, key_place, order-all-back}
 use Rattle.node_rows.specs.Children.{child_of, child_order}
-use Rattle.node_rows.specs.Kept.{AreKept, is_other, is_child_at}
+use Rattle.node_rows.specs.Kept.{AreKept, is_child, is_child_at, is_other}
 use Rattle.node_rows.specs.declared.child.Child.{Child}
 
 flip : (t : Bool) → not t ≡ true → t ≡ false
@@ -68,23 +69,26 @@ ids-apart rows children next k =
     ∙ order-apart child_order (λ (a : Child) b. a.id.0 == b.id.0) (map child_of rows) (λ a b same. eq-eqb b.id.0 a.id.0 (sym (eqb-true a.id.0 b.id.0 same)))
     (apart-map (λ (a : Child) b. a.id.0 == b.id.0) child_of rows ∙ rising-ids-differ rows k.rising)
 
-pub child-there : (rows : List Row) (children : List Child) (next id : ℕ) (s : Row) → row_at rows id ≡ Some s → AreKept rows children next → list_any (is_child_at s.parent id) children ≡ true
+own : (row : Row) → is_child row (child_of row) ≡ true
+own row = and_from (is_child_at row.parent row.id (child_of row)) (bytes_eq (child_order (child_of row)) (child_order (child_of row)))
+    (and_from (row.parent == row.parent) (row.id == row.id) (eq-eqb row.parent row.parent refl) (eq-eqb row.id row.id refl)) ((bytes_eq-Decides (child_order (child_of row)) (child_order (child_of row))).1 refl)
+
+pub child-there : (rows : List Row) (children : List Child) (next id : ℕ) (s : Row) → row_at rows id ≡ Some s → AreKept rows children next → list_any (is_child s) children ≡ true
 unfolding row_at
 child-there rows children next id s at_id k =
-    ap (λ l. list_any (is_child_at s.parent id) l) k.sorted
-    ∙ order-any child_order (is_child_at s.parent id) (map child_of rows) (any-map (is_child_at s.parent id) child_of rows ∙ found rows at_id)
+    ap (λ l. list_any (is_child s) l) k.sorted
+    ∙ order-any child_order (is_child s) (map child_of rows) (any-map (is_child s) child_of rows ∙ found rows at_id)
   where
-    found : (rows : List Row) → find (λ (row : Row). row.id == id) rows ≡ Some s → list_any (λ (row : Row). (row.parent == s.parent) && (row.id == id)) rows ≡ true
+    found : (rows : List Row) → find (λ (row : Row). row.id == id) rows ≡ Some s → list_any (λ (row : Row). is_child s (child_of row)) rows ≡ true
     found [] h = absurd (cc)
     found (r ∷ rs) h = elim (cases_Bool (r.id == id)) [
       | inl here ↦
           let first : cond (r.id == id) (Some r) (find (λ (row : Row). row.id == id) rs) ≡ Some r = cond-true (r.id == id) (Some r) (find (λ (row : Row). row.id == id) rs) here in
           let same : r ≡ s = cc (sym first ∙ h) in
-          let parent : r.parent ≡ s.parent = ap (λ (q : Row). q.parent) same in
-          ap (λ t. t || list_any (λ (row : Row). (row.parent == s.parent) && (row.id == id)) rs) (and_from (r.parent == s.parent) (r.id == id) (eq-eqb r.parent s.parent parent) here)
+          ap (λ t. t || list_any (λ (row : Row). is_child s (child_of row)) rs) (ap (λ (q : Row). is_child s (child_of q)) same ∙ own s)
       | inr other ↦
           let first : cond (r.id == id) (Some r) (find (λ (row : Row). row.id == id) rs) ≡ find (λ (row : Row). row.id == id) rs = cond-false (r.id == id) (Some r) (find (λ (row : Row). row.id == id) rs) other in
-          or_right ((r.parent == s.parent) && (r.id == id)) (list_any (λ (row : Row). (row.parent == s.parent) && (row.id == id)) rs) (found rs (sym first ∙ h))
+          or_right (is_child s (child_of r)) (list_any (λ (row : Row). is_child s (child_of row)) rs) (found rs (sym first ∙ h))
     ]
 
 -- the place at which it goes
@@ -189,3 +193,55 @@ found-behind dir id cs rest first behind answer is rest_is answer_is behind_is a
     let found : position (has_id id) (drop first cs) ≡ Some p = cond-true (nat_lt p (length (drop first cs))) (Some p) None (lt-ltb p (length (drop first cs)) inside) in
     let same : behind ≡ p = behind_is ∙ ap (λ o. unwrap_or o 0) (answer_is ∙ ap (λ l. position (has_id id) l) rest_is ∙ found) in
     subst (λ b. (first + b < length cs) × (filter (is_other id) cs ≡ remove cs (first + b))) (sym same) whole
+
+-- by its parent and key
+
+pub among : (row : Row) (cs : List Child) → list_any (is_child row) cs ≡ true → list_any (is_child_at row.parent row.id) cs ≡ true
+among row cs there = any-weaker (is_child row) (is_child_at row.parent row.id) cs (λ d both. (and_parts (is_child_at row.parent row.id d) (bytes_eq (child_order d) (child_order (child_of row))) both).0) there
+
+pub gone-by-key : (row : Row) (cs : List Child) → rises child_order cs ≡ true → are_apart (λ (a : Child) b. a.id.0 == b.id.0) cs ≡ true → list_any (is_child row) cs ≡ true
+    → (key_place child_order (child_order (child_of row)) cs < length cs) × (filter (is_other row.id) cs ≡ remove cs (key_place child_order (child_order (child_of row)) cs))
+gone-by-key row [] h apart there = absurd (cc)
+gone-by-key row (c ∷ cs) h apart there =
+    let k : List ℕ = child_order (child_of row) in
+    let r = and_parts (list_all (λ y. stands_before (child_order c) (child_order y)) cs) (rises child_order cs) h in
+    let e = and_parts (not (list_any (λ (b : Child). c.id.0 == b.id.0) cs)) (are_apart (λ (a : Child) b. a.id.0 == b.id.0) cs) apart in
+    elim (cases_Bool (stands_before (child_order c) k)) [
+      | inl before ↦
+          let later : list_any (is_child row) cs ≡ true = ap (λ t. t || list_any (is_child row) cs) (sym (passed before)) ∙ there in
+          let other : has_id row.id c ≡ false = apart-from row.parent row.id c cs (among row cs later) e.0 in
+          let rest = gone-by-key row cs r.1 e.1 later in
+          let n : ℕ = key_place child_order k cs in
+          let place : key_place child_order k (c ∷ cs) ≡ 1 + n = cond-true (not (not (stands_before (child_order c) k))) (1 + n) 0 (ap (λ t. not (not t)) before) in
+          let within : n < length cs = rest.0 in (
+            omega arith,
+            cond-true (not (has_id row.id c)) (c ∷ filter (is_other row.id) cs) (filter (is_other row.id) cs) (ap not other) ∙ ap (λ l. c ∷ l) rest.1 ∙ sym (further c cs n) ∙ ap (λ m. remove (c ∷ cs) m) (sym place),
+          )
+      | inr after ↦
+          let place : key_place child_order k (c ∷ cs) ≡ 0 = cond-false (not (not (stands_before (child_order c) k))) (1 + key_place child_order k cs) 0 (ap (λ t. not (not t)) after) in
+          let here : has_id row.id c ≡ true = right (c.parent.0 == row.parent) (c.id.0 == row.id) (and_parts (is_child_at row.parent row.id c) (bytes_eq (child_order c) k) (first r.0 after)).0 in
+          let whole = gone-first row.id (c ∷ cs) apart (ap (λ t. t || list_any (has_id row.id) cs) here) in
+          let at_first : position_or_len (has_id row.id) (c ∷ cs) ≡ 0 = cond-false (not (has_id row.id c)) (1 + position_or_len (has_id row.id) cs) 0 (ap not here) in (
+            omega arith,
+            whole.1 ∙ ap (λ m. remove (c ∷ cs) m) (at_first ∙ sym place),
+          )
+    ]
+  where
+    passed : stands_before (child_order c) (child_order (child_of row)) ≡ true → is_child row c ≡ false
+    passed before = elim (cases_Bool (is_child row c)) [
+      | inl is ↦ absurd (cc (ap not (right (is_child_at row.parent row.id c) (bytes_eq (child_order c) (child_order (child_of row))) is), before-differs (child_order c) (child_order (child_of row)) before))
+      | inr isnt ↦ isnt
+    ]
+
+    first : list_all (λ y. stands_before (child_order c) (child_order y)) cs ≡ true → stands_before (child_order c) (child_order (child_of row)) ≡ false → is_child row c ≡ true
+    first all after = elim (cases_Bool (is_child row c)) [
+      | inl is ↦ is
+      | inr isnt ↦ absurd (any-at (is_child row) (λ y. stands_before (child_order c) (child_order y)) cs (ap (λ t. t || list_any (is_child row) cs) (sym isnt) ∙ there) all (λ y is above.
+          cc (sym after ∙ ap (λ q. stands_before (child_order c) q) (sym ((bytes_eq-Decides (child_order y) (child_order (child_of row))).0 (right (is_child_at row.parent row.id y) (bytes_eq (child_order y) (child_order (child_of row))) is))) ∙ above)))
+    ]
+
+-- the same, as it is sought: at the place of a key that is the node's
+pub found-by-key : (row : Row) (cs : List Child) (k : List ℕ) (place : ℕ) → place ≡ key_place child_order k cs → k ≡ child_order (child_of row) → rises child_order cs ≡ true → are_apart (λ (a : Child) b. a.id.0 == b.id.0) cs ≡ true
+    → list_any (is_child row) cs ≡ true → (place < length cs) × (filter (is_other row.id) cs ≡ remove cs place)
+found-by-key row cs k place is key h apart there =
+    subst (λ n. (n < length cs) × (filter (is_other row.id) cs ≡ remove cs n)) (sym (is ∙ ap (λ l. key_place child_order l cs) key)) (gone-by-key row cs h apart there)

@@ -5,7 +5,7 @@ use Rattle.afp_volume.specs.Order.{rises}
 use Rattle.afp_volume.specs.SoundVolume.{has_rising_ids, last_next_id}
 use Rattle.afp_volume.specs.VolumeState.{Row, first_id}
 use Rattle.afp_volume.specs.Walk.{row_at}
-use Rattle.node_rows.specs.Children.{child_order, children_of}
+use Rattle.node_rows.specs.Children.{child_of, child_order, children_of}
 use Rattle.node_rows.specs.declared.child.Child.{Child}
 use Rattle.node_rows.specs.declared.node.Marks.{Marks}
 
@@ -48,6 +48,10 @@ IsPlaceOf rows id (Some i) = (i < length rows) × (row_at rows id ≡ slice_get 
 -- whether a child has this parent and id
 abbrev pub is_child_at : ℕ → ℕ → Child → Bool
 is_child_at parent id child = (child.parent.0 == parent) && (child.id.0 == id)
+
+-- whether a child is this node's
+abbrev pub is_child : Row → Child → Bool
+is_child row child = is_child_at row.parent row.id child && bytes_eq (child_order child) (child_order (child_of row))
 
 -- whether a child has another id
 abbrev pub is_other : ℕ → Child → Bool

@@ -1,5 +1,5 @@
 //! One node or child more, less or changed, at its place. None of these takes memory.
-ghost use Rattle.std.specs.Prelude.{◌≡◌, ◌∷◌, ◌+◌, ◌<◌, ◌≤◌, ◌==◌, true, None, length, slice_set, slice_index_or, vec_len, vec_capacity, position};
+ghost use Rattle.std.specs.Prelude.{◌≡◌, ◌∷◌, ◌+◌, ◌<◌, ◌≤◌, ◌==◌, true, None, length, slice_set, slice_index_or, vec_len, vec_capacity};
 ghost use Rattle.std.specs.List.{list_any, list_all, filter};
 ghost use Rattle.afp_volume.specs.Edits.{at_place};
 ghost use Rattle.afp_volume.specs.Order.{put_in, rises};
@@ -8,11 +8,11 @@ ghost use Rattle.afp_volume.specs.SoundVolume.{has_rising_ids};
 ghost use Rattle.afp_volume.specs.VolumeState.{Row};
 ghost use Rattle.afp_volume.specs.Walk.{row_at};
 ghost use Rattle.node_rows.specs.Children.{child_order};
-ghost use Rattle.node_rows.specs.Kept.{admitted, marked, is_apart, is_other, is_child_at};
+ghost use Rattle.node_rows.specs.Kept.{admitted, marked, is_apart, is_child, is_other};
 
 use crate::child::Child;
 use crate::node::{Marks, Node};
-use crate::search::{child_place, node_place};
+use crate::search::{child_place, node_place, place_of};
 use afp_base::NodeId;
 use afp_names::Name;
 
@@ -42,25 +42,17 @@ pub(crate) fn put_child(children: &mut Vec<Child>, child: Child)
     let _ = children.insert(place, child);
 }
 
-/// The place of the first child with this id.
-fn place_of_id(children: &[Child], id: NodeId) -> Option<usize>
-    ensures { result ≡ position (λ child. child.id.0 == id.0) children.now }
-{
-    children.iter().position(|child| child.id.0 == id.0)
-}
-
-/// Takes the child of this id away, which is sought among those of its parent.
-pub(crate) fn take_child(children: &mut Vec<Child>, parent: NodeId, id: NodeId)
+/// Takes the child of this node away.
+pub(crate) fn take_child(children: &mut Vec<Child>, node: &Node)
     requires order { rises child_order children.old.items ≡ true }
     requires one { are_apart (λ a b. a.id.0 == b.id.0) children.old.items ≡ true }
-    requires there { list_any (is_child_at parent.0 id.0) children.old.items ≡ true }
-    ensures items { children.new.items ≡ filter (is_other id.0) children.old.items }
+    requires there { list_any (is_child node.now) children.old.items ≡ true }
+    ensures items { children.new.items ≡ filter (is_other node.now.id) children.old.items }
     ensures len { vec_len children.new + 1 ≡ vec_len children.old }
     ensures capacity { vec_capacity children.new ≡ vec_capacity children.old }
 {
-    let first = child_place(children.as_slice(), parent, &[]);
-    let behind = place_of_id(&children.as_slice()[first..], id).unwrap_or(0);
-    let _child = children.remove(first + behind);
+    let place = place_of(children.as_slice(), node);
+    let _child = children.remove(place);
 }
 
 impl Node {

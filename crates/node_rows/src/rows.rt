@@ -183,8 +183,7 @@ impl Rows {
     {
         match find_node(self.nodes.as_slice(), id) {
             Some(place) => {
-                let parent = parent_of(&self.nodes[place]);
-                take_child(&mut self.children, parent, id);
+                take_child(&mut self.children, &self.nodes[place]);
                 let _node = self.nodes.remove(place);
             }
             None => {}
@@ -201,8 +200,8 @@ impl Rows {
     {
         match find_node(self.nodes.as_slice(), id) {
             Some(place) => {
-                let old = parent_of(&self.nodes[place]);
-                take_child(&mut self.children, old, id);
+                let node = &self.nodes[place];
+                take_child(&mut self.children, node);
                 put_child(&mut self.children, Child { parent, key, id });
                 put_at(&mut self.nodes, place, parent, name);
             }
@@ -220,12 +219,6 @@ fn child_of(alloc: Global, node: &Node) -> Result<Child, OutOfMemory>
         key,
         id: node.id,
     })
-}
-
-fn parent_of(node: &Node) -> NodeId
-    ensures { result.0 ≡ node.now.parent }
-{
-    node.parent
 }
 
 /// Puts a node at the place of its id, and its child at that of its parent and key.

@@ -1,14 +1,16 @@
 //! Places in sorted lists, found by halving.
-ghost use Rattle.std.specs.Prelude.{◌≡◌, ◌∷◌, ◌≤◌, true, not, nat_lt, length, option_map, slice_get, bytes_eq, ◌==◌};
-ghost use Rattle.std.specs.List.{position_or_len, find, filter};
+ghost use Rattle.std.specs.Prelude.{◌≡◌, ◌∷◌, ◌≤◌, ◌<◌, true, not, nat_lt, length, option_map, slice_get, bytes_eq, position, ◌==◌};
+ghost use Rattle.std.specs.List.{position_or_len, find, filter, list_any, remove};
 ghost use Rattle.afp_volume.specs.Order.{stands_before, rises};
+ghost use Rattle.afp_base.specs.Apart.{are_apart};
 ghost use Rattle.afp_volume.specs.SoundVolume.{has_rising_ids};
 ghost use Rattle.node_rows.specs.Children.{child_order};
-ghost use Rattle.node_rows.specs.Kept.{IsPlaceOf};
+ghost use Rattle.node_rows.specs.Kept.{IsPlaceOf, is_child, is_child_at, is_other};
 
 use crate::child::Child;
 use crate::node::Node;
 use afp_base::NodeId;
+use afp_names::LONGEST_NAME;
 use std::cmp::Ordering;
 
 /// The place of the first node whose id is not below this one.
@@ -97,4 +99,39 @@ pub(crate) fn nth_child(children: &[Child], parent: NodeId, i: usize) -> Option<
         return None;
     }
     Some(child.id)
+}
+
+/// The place of this node's child. It takes no memory: it is found by halving where the name is of ASCII characters alone, and
+/// else among the children of the directory.
+pub(crate) fn place_of(children: &[Child], node: &Node) -> usize
+    requires order { rises child_order children.now ≡ true }
+    requires one { are_apart (λ a b. a.id.0 == b.id.0) children.now ≡ true }
+    requires there { list_any (is_child node.now) children.now ≡ true }
+    ensures within { result < length children.now }
+    ensures others { filter (is_other node.now.id) children.now ≡ remove children.now result }
+{
+    let mut room = [0; LONGEST_NAME];
+    match node.name.ascii_key(&mut room) {
+        Some(len) => child_place(children, node.parent, &room[..len]),
+        None => place_among(children, node.parent, node.id),
+    }
+}
+
+/// The place of the child of this id, among those of its parent.
+fn place_among(children: &[Child], parent: NodeId, id: NodeId) -> usize
+    requires one { are_apart (λ a b. a.id.0 == b.id.0) children.now ≡ true }
+    requires order { rises child_order children.now ≡ true }
+    requires there { list_any (is_child_at parent.0 id.0) children.now ≡ true }
+    ensures within { result < length children.now }
+    ensures others { filter (is_other id.0) children.now ≡ remove children.now result }
+{
+    let first = child_place(children, parent, &[]);
+    first + place_of_id(&children[first..], id).unwrap_or(0)
+}
+
+/// The place of the first child with this id.
+fn place_of_id(children: &[Child], id: NodeId) -> Option<usize>
+    ensures { result ≡ position (λ child. child.id.0 == id.0) children.now }
+{
+    children.iter().position(|child| child.id.0 == id.0)
 }

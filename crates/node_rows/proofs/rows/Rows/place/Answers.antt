@@ -5,9 +5,9 @@ use Rattle.afp_volume.specs.Edits.{with_changed, without, at_place, is_taken}
 use Rattle.afp_volume.specs.Order.{rises, put_in}
 use Rattle.afp_volume.specs.VolumeState.{Row}
 use Rattle.node_rows.specs.Children.{child_order, node_id}
-use Rattle.node_rows.specs.Kept.{AreKept, IsPlaceOf, RowsValue, is_child_at, is_other, is_apart}
+use Rattle.node_rows.specs.Kept.{AreKept, IsPlaceOf, RowsValue, is_other, is_apart}
 use Rattle.node_rows.specs.declared.child.Child.{Child}
-use Rattle.node_rows.proofs.Keeping.{is-place, no-place, row-there, id-there, changed-default, changed-nowhere, children-without, apart-sorted, untaken-apart, keeps-placed}
+use Rattle.node_rows.proofs.Keeping.{is-place, no-place, row-there, id-there, same-id, changed-default, changed-nowhere, children-without, apart-sorted, untaken-apart, keeps-placed}
 use Rattle.node_rows.proofs.Leaving.{ids-apart, child-there}
 use Rattle.node_rows.proofs.rows.Rows.place.Goals as goal
 
@@ -18,19 +18,25 @@ pub take_child-requires-clause-there : goal.take_child-requires-clause-there
 take_child-requires-clause-there c =
     let rows : List Row = c.self.inside.nodes.items in
     let place : IsPlaceOf rows c.args.id.0 (Some c.in-Some.place) = is-place rows c.as_slice.result.now c.args.id.0 c.in-Some.place c.find_node.result c.as_slice.ensures.value c.find_node.ensures c.in-Some.is in
-    ap (λ n. list_any (is_child_at n c.args.id.0) c.self.inside.children.items) c.parent_of-old.ensures
-    ∙ child-there rows c.self.inside.children.items c.self.inside.next c.args.id.0 c.index.result.now (row-there rows c.args.id.0 c.in-Some.place c.index.result.now place c.index.ensures) c.self.invariant
+    child-there rows c.self.inside.children.items c.self.inside.next c.args.id.0 c.index-node.result.now (row-there rows c.args.id.0 c.in-Some.place c.index-node.result.now place c.index-node.ensures) c.self.invariant
 
 pub put_child-requires-clause-order : goal.put_child-requires-clause-order
 put_child-requires-clause-order c =
-    ap (λ l. rises child_order l) c.take_child.ensures.items ∙ keys-filter child_order (is_other c.args.id.0) c.self.inside.children.items c.self.invariant.order
+    let rows : List Row = c.self.inside.nodes.items in
+    let place : IsPlaceOf rows c.args.id.0 (Some c.in-Some.place) = is-place rows c.as_slice.result.now c.args.id.0 c.in-Some.place c.find_node.result c.as_slice.ensures.value c.find_node.ensures c.in-Some.is in
+    let taken : c.take_child.new.children.items ≡ filter (is_other c.args.id.0) c.self.inside.children.items =
+    c.take_child.ensures.items ∙ ap (λ n. filter (is_other n) c.self.inside.children.items) (same-id rows c.args.id.0 c.in-Some.place c.index-node.result.now place c.index-node.ensures) in
+    ap (λ l. rises child_order l) taken ∙ keys-filter child_order (is_other c.args.id.0) c.self.inside.children.items c.self.invariant.order
 
 pub put_child-requires-clause-new : goal.put_child-requires-clause-new
 put_child-requires-clause-new c =
     let rows : List Row = c.self.inside.nodes.items in
+    let place : IsPlaceOf rows c.args.id.0 (Some c.in-Some.place) = is-place rows c.as_slice.result.now c.args.id.0 c.in-Some.place c.find_node.result c.as_slice.ensures.value c.find_node.ensures c.in-Some.is in
+    let taken : c.take_child.new.children.items ≡ filter (is_other c.args.id.0) c.self.inside.children.items =
+    c.take_child.ensures.items ∙ ap (λ n. filter (is_other n) c.self.inside.children.items) (same-id rows c.args.id.0 c.in-Some.place c.index-node.result.now place c.index-node.ensures) in
     let child : Child = record { parent = c.args.parent; key = c.args.key; id = c.args.id } in
     let free : is_taken rows c.args.id.0 c.args.parent.0 c.args.name ≡ false = ap (λ (v : RowsValue). is_taken v.rows c.args.id.0 c.args.parent.0 c.args.name) c.self.view_is ∙ c.requires.free in
-    ap (λ l. list_all (is_apart child) l) (c.take_child.ensures.items ∙ children-without c.args.id.0 rows c.self.inside.children.items c.self.inside.next c.self.invariant)
+    ap (λ l. list_all (is_apart child) l) (taken ∙ children-without c.args.id.0 rows c.self.inside.children.items c.self.inside.next c.self.invariant)
     ∙ apart-sorted child (without c.args.id.0 rows) (untaken-apart rows c.args.id.0 c.args.parent.0 c.args.name child refl c.requires.key free)
 
 pub invariant_of-self : goal.invariant_of-self
@@ -41,12 +47,14 @@ invariant_of-self c =
     let place : IsPlaceOf rows c.args.id.0 (Some c.in-Some.place) = is-place rows c.as_slice.result.now c.args.id.0 c.in-Some.place c.find_node.result c.as_slice.ensures.value c.find_node.ensures c.in-Some.is in
     let free : is_taken rows c.args.id.0 c.args.parent.0 c.args.name ≡ false = ap (λ (v : RowsValue). is_taken v.rows c.args.id.0 c.args.parent.0 c.args.name) c.self.view_is ∙ c.requires.free in
     let changed : c.put_at.new.nodes.items ≡ with_changed c.args.id.0 (at_place c.args.parent.0 c.args.name) rows =
-    c.put_at.ensures.items c.index.result.now ∙ sym (changed-default (at_place c.args.parent.0 c.args.name) rows c.args.id.0 c.in-Some.place c.index.result.now c.self.invariant.rising place) in
-    let sorted : c.put_child.new.children.items ≡ put_in child_order child (filter (is_other c.args.id.0) children) = c.put_child.ensures.items ∙ ap (λ l. put_in child_order child l) c.take_child.ensures.items in
+    c.put_at.ensures.items c.index-node.result.now ∙ sym (changed-default (at_place c.args.parent.0 c.args.name) rows c.args.id.0 c.in-Some.place c.index-node.result.now c.self.invariant.rising place) in
+    let taken : c.take_child.new.children.items ≡ filter (is_other c.args.id.0) c.self.inside.children.items =
+    c.take_child.ensures.items ∙ ap (λ n. filter (is_other n) c.self.inside.children.items) (same-id rows c.args.id.0 c.in-Some.place c.index-node.result.now place c.index-node.ensures) in
+    let sorted : c.put_child.new.children.items ≡ put_in child_order child (filter (is_other c.args.id.0) children) = c.put_child.ensures.items ∙ ap (λ l. put_in child_order child l) taken in
     subst (λ l. AreKept l c.put_child.new.children.items c.self.inside.next) (sym changed)
     (subst (λ l. AreKept (with_changed c.args.id.0 (at_place c.args.parent.0 c.args.name) rows) l c.self.inside.next) (sym sorted)
     (keeps-placed c.args.id.0 c.args.parent.0 c.args.name child rows children c.self.inside.next
-    (id-there rows c.args.id.0 c.in-Some.place c.index.result.now place c.index.ensures)
+    (id-there rows c.args.id.0 c.in-Some.place c.index-node.result.now place c.index-node.ensures)
     (λ row is. λ i. record { parent = c.args.parent; key = sym c.requires.key i; id = node_id (is i) })
     (untaken-apart rows c.args.id.0 c.args.parent.0 c.args.name child refl c.requires.key free) c.self.invariant))
 
@@ -54,7 +62,7 @@ pub returns-in-Some-clause-rows : goal.returns-in-Some-clause-rows
 returns-in-Some-clause-rows c =
     let rows : List Row = c.self.inside.nodes.items in
     let place : IsPlaceOf rows c.args.id.0 (Some c.in-Some.place) = is-place rows c.as_slice.result.now c.args.id.0 c.in-Some.place c.find_node.result c.as_slice.ensures.value c.find_node.ensures c.in-Some.is in
-    c.put_at.ensures.items c.index.result.now ∙ sym (changed-default (at_place c.args.parent.0 c.args.name) rows c.args.id.0 c.in-Some.place c.index.result.now c.self.invariant.rising place)
+    c.put_at.ensures.items c.index-node.result.now ∙ sym (changed-default (at_place c.args.parent.0 c.args.name) rows c.args.id.0 c.in-Some.place c.index-node.result.now c.self.invariant.rising place)
     ∙ ap (λ (v : RowsValue). with_changed c.args.id.0 (at_place c.args.parent.0 c.args.name) v.rows) c.self.view_is
 
 pub returns-in-None-clause-rows : goal.returns-in-None-clause-rows

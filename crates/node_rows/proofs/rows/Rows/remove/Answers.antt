@@ -1,10 +1,10 @@
 use Rattle.std.proofs.Common.{◌≡◌, ◌∙◌, ap, sym, subst, List, Some}
-use Rattle.std.specs.List.{list_any}
+use Rattle.std.specs.List.{filter}
 use Rattle.afp_volume.specs.Edits.{without}
 use Rattle.afp_volume.specs.VolumeState.{Row}
-use Rattle.node_rows.specs.Kept.{AreKept, IsPlaceOf, RowsValue, is_child_at}
+use Rattle.node_rows.specs.Kept.{AreKept, IsPlaceOf, RowsValue, is_other}
 use Rattle.node_rows.specs.declared.child.Child.{Child}
-use Rattle.node_rows.proofs.Keeping.{is-place, no-place, row-there, gone-there, gone-nowhere, keeps-gone}
+use Rattle.node_rows.proofs.Keeping.{is-place, no-place, row-there, same-id, gone-there, gone-nowhere, keeps-gone}
 use Rattle.node_rows.proofs.Leaving.{ids-apart, child-there}
 use Rattle.node_rows.proofs.rows.Rows.remove.Goals as goal
 
@@ -15,17 +15,18 @@ pub take_child-requires-clause-there : goal.take_child-requires-clause-there
 take_child-requires-clause-there c =
     let rows : List Row = c.self.inside.nodes.items in
     let place : IsPlaceOf rows c.args.id.0 (Some c.in-Some.place) = is-place rows c.as_slice.result.now c.args.id.0 c.in-Some.place c.find_node.result c.as_slice.ensures.value c.find_node.ensures c.in-Some.is in
-    ap (λ n. list_any (is_child_at n c.args.id.0) c.self.inside.children.items) c.parent_of-parent.ensures
-    ∙ child-there rows c.self.inside.children.items c.self.inside.next c.args.id.0 c.index.result.now (row-there rows c.args.id.0 c.in-Some.place c.index.result.now place c.index.ensures) c.self.invariant
+    child-there rows c.self.inside.children.items c.self.inside.next c.args.id.0 c.index.result.now (row-there rows c.args.id.0 c.in-Some.place c.index.result.now place c.index.ensures) c.self.invariant
 
 pub invariant_of-self : goal.invariant_of-self
 invariant_of-self c =
     let rows : List Row = c.self.inside.nodes.items in
     let children : List Child = c.self.inside.children.items in
     let place : IsPlaceOf rows c.args.id.0 (Some c.in-Some.place) = is-place rows c.as_slice.result.now c.args.id.0 c.in-Some.place c.find_node.result c.as_slice.ensures.value c.find_node.ensures c.in-Some.is in
+    let taken : c.take_child.new.children.items ≡ filter (is_other c.args.id.0) c.self.inside.children.items =
+    c.take_child.ensures.items ∙ ap (λ n. filter (is_other n) c.self.inside.children.items) (same-id rows c.args.id.0 c.in-Some.place c.index.result.now place c.index.ensures) in
     let gone : c.remove-node.new.self.items ≡ without c.args.id.0 rows = c.remove-node.ensures.items ∙ sym (gone-there rows c.args.id.0 c.in-Some.place c.index.result.now c.self.invariant.rising place c.index.ensures) in
     subst (λ l. AreKept l c.take_child.new.children.items c.self.inside.next) (sym gone)
-    (subst (λ l. AreKept (without c.args.id.0 rows) l c.self.inside.next) (sym c.take_child.ensures.items) (keeps-gone c.args.id.0 rows children c.self.inside.next c.self.invariant))
+    (subst (λ l. AreKept (without c.args.id.0 rows) l c.self.inside.next) (sym taken) (keeps-gone c.args.id.0 rows children c.self.inside.next c.self.invariant))
 
 pub returns-in-Some-clause-rows : goal.returns-in-Some-clause-rows
 returns-in-Some-clause-rows c =
