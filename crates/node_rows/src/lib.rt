@@ -10,6 +10,3 @@ mod search;
 pub use child::Child;
 pub use node::{Marks, Node};
 pub use rows::Rows;
-
-#[cfg(test)]
-mod tests;
