@@ -7,3 +7,4 @@ pub mod Plans
 pub mod Puts
 pub mod Trimmed
 pub mod Writes
+pub mod BlocksOf

@@ -2,3 +2,4 @@ pub mod Blocks
 pub mod Kept
 pub mod Line
 pub mod Plan
+pub mod Laws

@@ -4,6 +4,7 @@
 mod apply;
 mod block;
 mod fork;
+pub mod laws;
 mod plan;
 mod read;
 mod write;
