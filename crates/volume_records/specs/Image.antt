@@ -1,0 +1,90 @@
+-- The records of a volume by rising key (this profile).
+use Rattle.std.specs.Prelude.{ℕ, Bool, true, false, List, [], ◌∷◌, ◌++◌, map, length, flat_map}
+use Rattle.std.specs.FinMap.{FinMap, entries, from_sorted}
+use Rattle.std.specs.Cmp.Lexicographic.{slice_cmp}
+use Rattle.std.specs.Ordering.{nat_cmp}
+use Rattle.fork_bytes.specs.declared.block.Block.{Block}
+use Rattle.fork_bytes.specs.Blocks.{blocks_of}
+use Rattle.afp_volume.specs.VolumeState.{Row as VolumeRow}
+use Rattle.afp_volume.specs.VolumeState.{Comment, Icon, Appl, VolumeState}
+use Rattle.volume_records.specs.declared.rows.Record.{Record}
+use Rattle.volume_records.specs.declared.rows.Head.{Head}
+use Rattle.volume_records.specs.declared.rows.Node.{Node}
+use Rattle.volume_records.specs.declared.rows.ForkBlock.{ForkBlock}
+use Rattle.volume_records.specs.declared.rows.Row.{Row}
+use Rattle.volume_records.specs.declared.rows.Row.TheVariants as row
+use Rattle.volume_records.specs.Records.{record_of}
+
+-- what the records of a volume say: its head, nodes, the blocks of its forks, comments, icons and APPL mappings
+pub record Tables : Type 0 where
+  pub head : Head
+  pub nodes : List Node
+  pub blocks : List ForkBlock
+  pub comments : List Comment
+  pub icons : List Icon
+  pub appls : List Appl
+
+-- a file or directory, with the lengths of its forks
+abbrev pub node_of : VolumeRow → Node
+node_of r = record {
+  id = r.id;
+  is_directory = r.dir;
+  parent = r.parent;
+  attributes = r.attributes;
+  created = r.created;
+  modified = r.modified;
+  backup = r.backup;
+  finder = r.finder;
+  is_filed = r.filed;
+  data_length = length r.data_fork;
+  resource_length = length r.resource_fork;
+  name = r.name;
+}
+
+-- a block of a node's fork
+abbrev pub block_of : ℕ → Bool → Block → ForkBlock
+block_of id is_resource block = record { node = id; is_resource = is_resource; index = block.index; bytes = block.bytes }
+
+-- the blocks of both forks, the data fork's first
+abbrev pub fork_blocks : VolumeRow → List ForkBlock
+fork_blocks r = map (block_of r.id false) (blocks_of r.data_fork) ++ map (block_of r.id true) (blocks_of r.resource_fork)
+
+-- a volume in tables, each in the order of its records' keys
+abbrev pub tables_of : VolumeState → Tables
+tables_of v = record {
+  head = record { created = v.created; modified = v.modified; backup = v.backup; next_id = v.next_id };
+  nodes = map node_of v.rows;
+  blocks = flat_map fork_blocks v.rows;
+  comments = v.comments;
+  icons = v.icons;
+  appls = v.appls;
+}
+
+-- the rows of tables, one for each record
+abbrev pub rows_of : Tables → List Row
+rows_of t =
+    row.Head t.head
+    ∷ (map (λ node. row.Node node) t.nodes
+    ++ (map (λ block. row.Block block) t.blocks
+    ++ (map (λ comment. row.Comment comment) t.comments
+    ++ (map (λ icon. row.Icon icon) t.icons
+    ++ map (λ appl. row.Appl appl) t.appls))))
+
+-- exactly the records of a volume
+abbrev pub image : VolumeState → List Record
+image v = map record_of (rows_of (tables_of v))
+
+-- records as a keeper has them: a value for each key
+abbrev pub Records : Type 0
+Records = FinMap (slice_cmp nat_cmp) (List ℕ)
+
+-- a keeper's records by rising key
+abbrev pub records_in : Records → List Record
+records_in kept = map (λ e. record { key = e.0; value = e.1 }) (entries kept)
+
+abbrev pub entries_of : List Record → List (List ℕ × List ℕ)
+entries_of records = map (λ (r : Record). (r.key, r.value)) records
+
+-- the records of a volume as a keeper has them
+abbrev pub kept_image : VolumeState → Records
+kept_image v = from_sorted (entries_of (image v))

@@ -1,0 +1,38 @@
+-- Records by rising key, in byte order; two keys always count as there (this profile).
+use Rattle.std.specs.Prelude.{◌≡◌, ℕ, Bool, bytes_eq, List, [], ◌∷◌}
+use Rattle.std.specs.List.{list_any}
+use Rattle.std.specs.Cmp.Lexicographic.{slice_cmp}
+use Rattle.std.specs.Ordering.{nat_cmp, match_ordering}
+use Rattle.std.specs.declared.cmp.Ordering.TheVariants.{Less}
+use Rattle.afp_volume.specs.VolumeState.{root_id}
+use Rattle.volume_records.specs.declared.rows.Record.{Record}
+use Rattle.volume_records.specs.Records.{head_tag, node_tag, long_bytes}
+
+abbrev pub IsBelow : List ℕ → List Record → Type 0
+IsBelow key [] = Unit {0}
+IsBelow key (r ∷ records) = (slice_cmp nat_cmp key r.key ≡ Less) × IsBelow key records
+
+-- each key is below those behind it
+abbrev pub Rises : List Record → Type 0
+Rises [] = Unit {0}
+Rises (r ∷ records) = IsBelow r.key records × Rises records
+
+-- whether a key is among those of some records
+abbrev pub has_key : List ℕ → List Record → Bool
+has_key key records = list_any (λ r. bytes_eq r.key key) records
+
+-- the keys of the volume's head and of its root
+abbrev pub head_key : List ℕ
+head_key = head_tag ∷ []
+
+abbrev pub root_key : List ℕ
+root_key = node_tag ∷ long_bytes root_id
+
+-- the records, and one of that key with an empty value where it is missing
+abbrev pub with_key : List ℕ → List Record → List Record
+with_key key [] = record { key = key; value = [] } ∷ []
+with_key key (r ∷ records) = match_ordering (slice_cmp nat_cmp key r.key) (record { key = key; value = [] } ∷ r ∷ records) (r ∷ records) (r ∷ with_key key records)
+
+-- the head and the root count as there
+abbrev pub counted : List Record → List Record
+counted records = with_key head_key (with_key root_key records)

@@ -1,0 +1,5 @@
+pub mod Records
+pub mod Shape
+pub mod Image
+pub mod KeyOrder
+pub mod FirstBad
