@@ -7,9 +7,7 @@ use Rattle.afp_volume.specs.VolumeState.{Comment, Icon, Appl, root_id, first_id}
 use Rattle.afp_volume.specs.Order.{stands_before}
 use Rattle.afp_volume.specs.SoundVolume.{has_node, has_file, leads_to_root, are_named_alike, most_nodes, most_fork_bytes, most_icons, most_appls, icon_key, appl_key}
 use Rattle.volume_records.specs.declared.rows.Record.{Record}
-use Rattle.volume_records.specs.declared.rows.Head.{Head}
 use Rattle.volume_records.specs.declared.rows.Node.{Node}
-use Rattle.volume_records.specs.declared.rows.ForkBlock.{ForkBlock}
 use Rattle.volume_records.specs.declared.rows.BadRecord.{BadRecord}
 use Rattle.volume_records.specs.declared.rows.Reason.{Reason}
 use Rattle.volume_records.specs.declared.rows.Reason.TheVariants.{Shape, Parent, Twin, Range, Limit}
@@ -17,108 +15,81 @@ use Rattle.volume_records.specs.declared.rows.Row.{Row}
 use Rattle.volume_records.specs.declared.rows.Row.TheVariants as row
 use Rattle.volume_records.specs.Shape.{bare_row, row_in}
 use Rattle.volume_records.specs.KeyOrder.{counted}
-
--- the rows of each kind among some rows
-abbrev pub as_node : Row → Option Node
-as_node (row.Node node) = Some node
-as_node _ = None
-
-abbrev pub as_icon : Row → Option Icon
-as_icon (row.Icon icon) = Some icon
-as_icon _ = None
-
-abbrev pub as_appl : Row → Option Appl
-as_appl (row.Appl appl) = Some appl
-as_appl _ = None
-
-abbrev pub as_head : Row → Option Head
-as_head (row.Head head) = Some head
-as_head _ = None
+use Rattle.volume_records.specs.Image.{Tables, tables_in}
 
 -- what the records of a volume's shape say: a record of another shape is no node
 abbrev pub rows_in : List ℕ → List Record → List Row
 rows_in name records = filter_map (row_in name) records
 
-abbrev pub nodes_in : List Row → List Node
-nodes_in rows = filter_map as_node rows
-
 -- the nodes as rows of a volume
-abbrev pub tree_in : List Row → List VolumeRow
-tree_in rows = map bare_row (nodes_in rows)
-
--- the next id, 0 where no record says it
-abbrev pub next_or_none : List Head → ℕ
-next_or_none [] = 0
-next_or_none (head ∷ heads) = head.next_id
-
-abbrev pub next_in : List Row → ℕ
-next_in rows = next_or_none (filter_map as_head rows)
+abbrev pub tree_of : Tables → List VolumeRow
+tree_of t = map bare_row t.nodes
 
 -- the length of a fork
 abbrev pub fork_length : Bool → Node → ℕ
 fork_length is_resource node = if is_resource then node.resource_length else node.data_length
 
 -- the nodes up to one, by id; the icons and the APPL mappings up to one, by key
-abbrev pub nodes_to : Node → List Row → List Node
-nodes_to node rows = filter (λ other. nat_le other.id node.id) (nodes_in rows)
+abbrev pub nodes_to : Node → Tables → List Node
+nodes_to node t = filter (λ other. nat_le other.id node.id) t.nodes
 
-abbrev pub icons_to : Icon → List Row → List Icon
-icons_to icon rows = filter (λ other. not (stands_before (icon_key icon) (icon_key other))) (filter_map as_icon rows)
+abbrev pub icons_to : Icon → Tables → List Icon
+icons_to icon t = filter (λ other. not (stands_before (icon_key icon) (icon_key other))) t.icons
 
-abbrev pub appls_to : Appl → List Row → List Appl
-appls_to appl rows = filter (λ other. not (stands_before (appl_key appl) (appl_key other))) (filter_map as_appl rows)
+abbrev pub appls_to : Appl → Tables → List Appl
+appls_to appl t = filter (λ other. not (stands_before (appl_key appl) (appl_key other))) t.appls
 
 -- Parent: a node other than the root whose parents do not lead to the root through directories; a block, comment or APPL mapping whose
 -- node is not there, and for blocks and APPL mappings is no file
-abbrev pub lacks_parent : List Row → Row → Bool
-lacks_parent rows (row.Node node) = not (node.id == root_id) && not (has_node (tree_in rows) root_id && leads_to_root (tree_in rows) (length (tree_in rows)) node.parent)
-lacks_parent rows (row.Block block) = not (has_file (tree_in rows) block.node)
-lacks_parent rows (row.Comment comment) = not (has_node (tree_in rows) comment.node)
-lacks_parent rows (row.Appl appl) = not (has_file (tree_in rows) appl.node)
-lacks_parent rows (row.Head head) = false
-lacks_parent rows (row.Icon icon) = false
+abbrev pub lacks_parent : Tables → Row → Bool
+lacks_parent t (row.Node node) = not (node.id == root_id) && not (has_node (tree_of t) root_id && leads_to_root (tree_of t) (length (tree_of t)) node.parent)
+lacks_parent t (row.Block block) = not (has_file (tree_of t) block.node)
+lacks_parent t (row.Comment comment) = not (has_node (tree_of t) comment.node)
+lacks_parent t (row.Appl appl) = not (has_file (tree_of t) appl.node)
+lacks_parent t (row.Head head) = false
+lacks_parent t (row.Icon icon) = false
 
 -- Twin: a node with the parent and name key of a node of lower id
-abbrev pub is_twin : List Row → Row → Bool
-is_twin rows (row.Node node) = list_any (λ other. nat_lt other.id node.id && are_named_alike (bare_row other) (bare_row node)) (nodes_in rows)
-is_twin rows _ = false
+abbrev pub is_twin : Tables → Row → Bool
+is_twin t (row.Node node) = list_any (λ other. nat_lt other.id node.id && are_named_alike (bare_row other) (bare_row node)) t.nodes
+is_twin t _ = false
 
 -- Range: an id below 17 that is not the root, or not below the next id; a block that reaches behind its fork's length
-abbrev pub is_outside : List Row → Row → Bool
-is_outside rows (row.Node node) = not (node.id == root_id) && (nat_lt node.id first_id || nat_le (next_in rows) node.id)
-is_outside rows (row.Block block) = list_any (λ node. (node.id == block.node) && nat_lt (fork_length block.is_resource node) (block_size * block.index + length block.bytes)) (nodes_in rows)
-is_outside rows _ = false
+abbrev pub is_outside : Tables → Row → Bool
+is_outside t (row.Node node) = not (node.id == root_id) && (nat_lt node.id first_id || nat_le t.head.next_id node.id)
+is_outside t (row.Block block) = list_any (λ node. (node.id == block.node) && nat_lt (fork_length block.is_resource node) (block_size * block.index + length block.bytes)) t.nodes
+is_outside t _ = false
 
 -- Limit: the record with which the nodes, the sum of fork lengths, the icons or the APPL mappings pass their limit
-abbrev pub passes_limit : List Row → Row → Bool
-passes_limit rows (row.Node node) = nat_lt most_nodes (length (nodes_to node rows)) || nat_lt most_fork_bytes (sum_by (λ other. other.data_length + other.resource_length) (nodes_to node rows))
-passes_limit rows (row.Icon icon) = nat_lt most_icons (length (icons_to icon rows))
-passes_limit rows (row.Appl appl) = nat_lt most_appls (length (appls_to appl rows))
-passes_limit rows _ = false
+abbrev pub passes_limit : Tables → Row → Bool
+passes_limit t (row.Node node) = nat_lt most_nodes (length (nodes_to node t)) || nat_lt most_fork_bytes (sum_by (λ other. other.data_length + other.resource_length) (nodes_to node t))
+passes_limit t (row.Icon icon) = nat_lt most_icons (length (icons_to icon t))
+passes_limit t (row.Appl appl) = nat_lt most_appls (length (appls_to appl t))
+passes_limit t _ = false
 
 abbrev pub first_of : Bool → Reason → Option Reason → Option Reason
 first_of holds reason other = if holds then Some reason else other
 
 -- the first reason to refuse a record, among all records
-abbrev pub reason_of : List Row → Option Row → Option Reason
-reason_of rows None = Some Shape
-reason_of rows (Some r) =
-    first_of (lacks_parent rows r) Parent
-    (first_of (is_twin rows r) Twin
-    (first_of (is_outside rows r) Range
-    (first_of (passes_limit rows r) Limit None)))
+abbrev pub reason_of : Tables → Option Row → Option Reason
+reason_of t None = Some Shape
+reason_of t (Some r) =
+    first_of (lacks_parent t r) Parent
+    (first_of (is_twin t r) Twin
+    (first_of (is_outside t r) Range
+    (first_of (passes_limit t r) Limit None)))
 
 abbrev pub bad_or : List ℕ → Option Reason → Option BadRecord → Option BadRecord
 bad_or key None other = other
 bad_or key (Some reason) other = Some (record { key = key; reason = reason })
 
--- the first of some records that is refused, among all rows
-abbrev pub first_in : List ℕ → List Row → List Record → Option BadRecord
-first_in name rows [] = None
-first_in name rows (r ∷ records) = bad_or r.key (reason_of rows (row_in name r)) (first_in name rows records)
+-- the first of some records that is refused, by what all records say
+abbrev pub first_in : List ℕ → Tables → List Record → Option BadRecord
+first_in name t [] = None
+first_in name t (r ∷ records) = bad_or r.key (reason_of t (row_in name r)) (first_in name t records)
 
 abbrev pub first_bad : List ℕ → List Record → Option BadRecord
-first_bad name records = first_in name (rows_in name records) records
+first_bad name records = first_in name (tables_in (rows_in name records)) records
 
 -- the most records of a keeper: no image has so many
 abbrev pub most_records : ℕ

@@ -1,5 +1,6 @@
 -- The records of a volume by rising key (this profile).
-use Rattle.std.specs.Prelude.{ℕ, Bool, true, false, List, [], ◌∷◌, ◌++◌, map, length, flat_map}
+use Rattle.std.specs.Prelude.{ℕ, pos, Bool, true, false, List, [], ◌∷◌, ◌++◌, map, length, flat_map, Option, Some, None}
+use Rattle.std.specs.List.{filter_map}
 use Rattle.std.specs.FinMap.{FinMap, entries, from_sorted}
 use Rattle.std.specs.Cmp.Lexicographic.{slice_cmp}
 use Rattle.std.specs.Ordering.{nat_cmp}
@@ -69,6 +70,47 @@ rows_of t =
     ++ (map (λ comment. row.Comment comment) t.comments
     ++ (map (λ icon. row.Icon icon) t.icons
     ++ map (λ appl. row.Appl appl) t.appls))))
+
+-- the rows of each kind among some rows
+abbrev pub as_head : Row → Option Head
+as_head (row.Head head) = Some head
+as_head _ = None
+
+abbrev pub as_node : Row → Option Node
+as_node (row.Node node) = Some node
+as_node _ = None
+
+abbrev pub as_block : Row → Option ForkBlock
+as_block (row.Block block) = Some block
+as_block _ = None
+
+abbrev pub as_comment : Row → Option Comment
+as_comment (row.Comment comment) = Some comment
+as_comment _ = None
+
+abbrev pub as_icon : Row → Option Icon
+as_icon (row.Icon icon) = Some icon
+as_icon _ = None
+
+abbrev pub as_appl : Row → Option Appl
+as_appl (row.Appl appl) = Some appl
+as_appl _ = None
+
+-- the first head; where there is none, one whose next id is 0
+abbrev pub first_head : List Head → Head
+first_head [] = record { created = pos 0; modified = pos 0; backup = pos 0; next_id = 0 }
+first_head (head ∷ heads) = head
+
+-- the tables that rows make
+abbrev pub tables_in : List Row → Tables
+tables_in rows = record {
+  head = first_head (filter_map as_head rows);
+  nodes = filter_map as_node rows;
+  blocks = filter_map as_block rows;
+  comments = filter_map as_comment rows;
+  icons = filter_map as_icon rows;
+  appls = filter_map as_appl rows;
+}
 
 -- exactly the records of a volume
 abbrev pub image : VolumeState → List Record
