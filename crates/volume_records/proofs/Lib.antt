@@ -3,3 +3,8 @@ pub mod ByteOrder
 pub mod ReadBack
 pub mod Parted
 pub mod RowKinds
+pub mod MissingKeys
+pub mod TablesBack
+pub mod Whole
+pub mod Chains
+pub mod RowOrder

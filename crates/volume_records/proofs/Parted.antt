@@ -2,19 +2,15 @@
 use Rattle.std.proofs.Common.{◌≡◌, ◌∙◌, ℕ, ◌<◌, ◌≤◌, Bool, true, false, cond, List, [], ◌∷◌, ◌++◌, refl, sym, ap, arith}
 use Rattle.std.specs.Prelude.{nat_le, nat_lt, ◌&&◌, ◌||◌, ◌==◌, flat_map}
 use Rattle.std.specs.List.{list_all, list_any, filter}
+use Rattle.volume_records.proofs.Chains.{Chain}
 use Rattle.volume_records.proofs.TestParts.{left_true, right_true, cases, lt_of, le_of, lt_true, le_true, same_of, other_false, all-more}
 
-module _ {A : Type 0} (f : A → ℕ) where
-  -- each number is at most those behind it
-  abbrev pub Climbs : List A → Type 0
-  Climbs [] = Unit {0}
-  Climbs (x ∷ xs) = (list_all (λ y. nat_le (f x) (f y)) xs ≡ true) × Climbs xs
+-- each number is at most those behind it, or below them
+abbrev pub Climbs : {A : Type 0} → (A → ℕ) → List A → Type 0
+Climbs f xs = Chain (λ x y. nat_le (f x) (f y)) xs
 
-module _ {B : Type 0} (g : B → ℕ) where
-  -- each number is below those behind it
-  abbrev pub Steps : List B → Type 0
-  Steps [] = Unit {0}
-  Steps (n ∷ ns) = (list_all (λ m. nat_lt (g n) (g m)) ns ≡ true) × Steps ns
+abbrev pub Steps : {A : Type 0} → (A → ℕ) → List A → Type 0
+Steps f xs = Chain (λ x y. nat_lt (f x) (f y)) xs
 
 module _ {A B : Type 0} (f : A → ℕ) (g : B → ℕ) where
   abbrev pub part : List A → B → List A
