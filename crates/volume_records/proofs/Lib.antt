@@ -8,3 +8,5 @@ pub mod TablesBack
 pub mod Whole
 pub mod Chains
 pub mod RowOrder
+pub mod Facts
+pub mod ForkParts
