@@ -98,7 +98,7 @@ either : {P : Type 0} (a b : Bool) → (a || b) ≡ true → (a ≡ true → P) 
 either true b e f g = f refl
 either false b e f g = g e
 
-by_node : (a b : ForkBlock) → block_before a b ≡ true → nat_le a.node b.node ≡ true
+pub by_node : (a b : ForkBlock) → block_before a b ≡ true → nat_le a.node b.node ≡ true
 by_node a b e = either (nat_lt a.node b.node) ((a.node == b.node) && fork_before a b) e
     (λ l. let h : a.node < b.node = lt_of _ _ l in le_true _ _ (omega arith))
     (λ r. let h : a.node ≡ b.node = same_of _ _ (left_true (a.node == b.node) (fork_before a b) r) in le_true _ _ (omega arith))

@@ -10,3 +10,5 @@ pub mod Chains
 pub mod RowOrder
 pub mod Facts
 pub mod ForkParts
+pub mod VolumeTables
+pub mod VolumeSound

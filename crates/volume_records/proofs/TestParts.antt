@@ -1,5 +1,5 @@
 -- Tests taken apart and put together.
-use Rattle.std.proofs.Common.{◌≡◌, ◌∙◌, ℕ, ◌<◌, ◌≤◌, Bool, true, false, not, List, [], ◌∷◌, ◌++◌, map, refl, sym, ap, arith}
+use Rattle.std.proofs.Common.{◌≡◌, ◌∙◌, ℕ, ◌<◌, ◌≤◌, Bool, true, false, cond, not, List, [], ◌∷◌, ◌++◌, map, refl, sym, ap, arith}
 use Rattle.std.specs.Prelude.{nat_le, nat_lt, ◌&&◌, ◌||◌, ◌==◌, bytes_eq}
 use Rattle.std.specs.List.{list_all, list_any}
 use Rattle.std.proofs.lemmas.Slice.Eq.{bytes_eq-Decides}
@@ -132,3 +132,40 @@ any-none p (x ∷ xs) e = either_false _ _ (turn_false _ (left_true _ _ e)) (any
 pub none-any : {A : Type 0} (p : A → Bool) (xs : List A) → list_any p xs ≡ false → list_all (λ x. not (p x)) xs ≡ true
 none-any p [] e = refl
 none-any p (x ∷ xs) e = let two = neither _ _ e in both_true _ _ (not_true _ two.0) (none-any p xs two.1)
+
+-- ---- both lists of a test of two elements
+
+pub all-split : {A : Type 0} (p q : A → Bool) (xs : List A) → list_all (λ x. p x && q x) xs ≡ true → (list_all p xs ≡ true) × (list_all q xs ≡ true)
+all-split p q [] e = (refl, refl)
+all-split p q (x ∷ xs) e =
+    let here = left_true (p x && q x) (list_all (λ x. p x && q x) xs) e in
+    let rest = all-split p q xs (right_true (p x && q x) (list_all (λ x. p x && q x) xs) e) in
+    (both_true (p x) (list_all p xs) (left_true (p x) (q x) here) rest.0, both_true (q x) (list_all q xs) (right_true (p x) (q x) here) rest.1)
+
+pub always : {A : Type 0} (xs : List A) → list_all (λ x. true) xs ≡ true
+always [] = refl
+always (x ∷ xs) = always xs
+
+pub all-swap : {A B : Type 0} (q : A → B → Bool) (xs : List A) (ys : List B) → list_all (λ y. list_all (λ x. q x y) xs) ys ≡ true → list_all (λ x. list_all (λ y. q x y) ys) xs ≡ true
+all-swap q [] ys e = refl
+all-swap q (x ∷ xs) ys e =
+    let two = all-split (λ y. q x y) (λ y. list_all (λ x. q x y) xs) ys e in
+    both_true (list_all (λ y. q x y) ys) (list_all (λ x. list_all (λ y. q x y) ys) xs) two.0 (all-swap q xs ys two.1)
+
+-- ---- choices
+
+pub pick : (b x y : Bool) → (b ≡ true → x ≡ true) → (b ≡ false → y ≡ true) → (cond b x y) ≡ true
+pick true x y f g = f refl
+pick false x y f g = g refl
+
+pub then_of : (b x y : Bool) → b ≡ true → (cond b x y) ≡ true → x ≡ true
+then_of true x y e h = h
+then_of false x y e h = absurd (cc)
+
+pub else_of : (b x y : Bool) → b ≡ false → (cond b x y) ≡ true → y ≡ true
+else_of true x y e h = absurd (cc)
+else_of false x y e h = h
+
+pub and_false : (a b : Bool) → a ≡ true → (a && b) ≡ false → b ≡ false
+and_false true b e h = h
+and_false false b e h = absurd (cc)
