@@ -12,3 +12,7 @@ pub mod Facts
 pub mod ForkParts
 pub mod VolumeTables
 pub mod VolumeSound
+pub mod Counts
+pub mod SoundFacts
+pub mod ImageBlocks
+pub mod ImageWhole
