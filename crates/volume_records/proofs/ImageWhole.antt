@@ -35,10 +35,10 @@ use Rattle.volume_records.proofs.ImageBlocks.{is_whole_block, whole_blocks, one_
 
 -- ---- the tree is the same with no bytes in its forks
 
-nodes_same : (rs : List VolumeRow) (id : ℕ) → has_node (map bare_row (map node_of rs)) id ≡ has_node rs id
+pub nodes_same : (rs : List VolumeRow) (id : ℕ) → has_node (map bare_row (map node_of rs)) id ≡ has_node rs id
 nodes_same rs id = any-map (λ (r : VolumeRow). r.id == id) bare_row (map node_of rs) ∙ any-map (λ (n : Node). n.id == id) node_of rs
 
-files_same : (rs : List VolumeRow) (id : ℕ) → has_file (map bare_row (map node_of rs)) id ≡ has_file rs id
+pub files_same : (rs : List VolumeRow) (id : ℕ) → has_file (map bare_row (map node_of rs)) id ≡ has_file rs id
 files_same rs id = any-map (λ (r : VolumeRow). r.id == id && not r.dir) bare_row (map node_of rs) ∙ any-map (λ (n : Node). n.id == id && not n.is_directory) node_of rs
 
 leads_same : (rs : List VolumeRow) (steps id : ℕ) → leads_to_root (map bare_row (map node_of rs)) steps id ≡ leads_to_root rs steps id
@@ -78,7 +78,7 @@ small_fork k m h l = lt_true k 18446744073709551616 (omega (arith, h, l))
 abbrev pub is_good_row : VolumeState → VolumeRow → Bool
 is_good_row v r = (is_typed_row r && is_formed_row r) && (is_in_place v r && nat_le (length r.data_fork + length r.resource_fork) most_fork_bytes)
 
-node_formed : (v : VolumeState) (r : VolumeRow) → is_good_row v r ≡ true → is_formed_node v.name (node_of r) ≡ true
+pub node_formed : (v : VolumeState) (r : VolumeRow) → is_good_row v r ≡ true → is_formed_node v.name (node_of r) ≡ true
 node_formed v r g =
     let first = left_true (is_typed_row r && is_formed_row r) (is_in_place v r && nat_le (length r.data_fork + length r.resource_fork) most_fork_bytes) g in
     let second = right_true (is_typed_row r && is_formed_row r) (is_in_place v r && nat_le (length r.data_fork + length r.resource_fork) most_fork_bytes) g in
@@ -102,7 +102,7 @@ root_low : (id next : ℕ) → (id == root_id) ≡ true → (not (id == root_id)
 root_low id next e = ap (λ b. not b && (nat_lt id first_id || nat_le next id)) e
 
 module _ (v : VolumeState) (facts : SoundFacts v) where
-  node_placed : (r : VolumeRow) → is_in_place v r ≡ true → lacks_parent (tables_of v) (row.Node (node_of r)) ≡ false
+  pub node_placed : (r : VolumeRow) → is_in_place v r ≡ true → lacks_parent (tables_of v) (row.Node (node_of r)) ≡ false
   node_placed r place = cases (r.id == root_id)
       (λ e. ap (λ b. not b && not (has_node (map bare_row (map node_of v.rows)) root_id && leads_to_root (map bare_row (map node_of v.rows)) (length (map bare_row (map node_of v.rows))) r.parent)) e)
       (λ e.
@@ -112,7 +112,7 @@ module _ (v : VolumeState) (facts : SoundFacts v) where
         ap (λ k. leads_to_root (map bare_row (map node_of v.rows)) k r.parent) (length-map bare_row (map node_of v.rows) ∙ length-map node_of v.rows) ∙ leads_same v.rows (length v.rows) r.parent ∙ leads in
         λ i. not (e i) && not (root i && same i))
 
-  node_inside : (r : VolumeRow) → is_in_place v r ≡ true → is_outside (tables_of v) (row.Node (node_of r)) ≡ false
+  pub node_inside : (r : VolumeRow) → is_in_place v r ≡ true → is_outside (tables_of v) (row.Node (node_of r)) ≡ false
   node_inside r place = cases (r.id == root_id)
       (λ e. root_low r.id v.next_id e)
       (λ e.
@@ -121,7 +121,7 @@ module _ (v : VolumeState) (facts : SoundFacts v) where
         let high = not_below r.id v.next_id (right_true (nat_le first_id r.id) (nat_lt r.id v.next_id) range) in
         λ i. not (e i) && (low i || high i))
 
-  node_few : (r : VolumeRow) → passes_limit (tables_of v) (row.Node (node_of r)) ≡ false
+  pub node_few : (r : VolumeRow) → passes_limit (tables_of v) (row.Node (node_of r)) ≡ false
   node_few r =
       let count = lt_false most_nodes (length (nodes_to (node_of r) (tables_of v))) (let a = filter-most (λ (o : Node). nat_le o.id r.id) (map node_of v.rows) in let b = length-map node_of v.rows in let c = facts.few_rows in omega (arith, a, b, c)) in
       let sum = lt_false most_fork_bytes (sum_by (λ (o : Node). o.data_length + o.resource_length) (nodes_to (node_of r) (tables_of v)))
@@ -139,7 +139,7 @@ not_and : (a b : Bool) → b ≡ false → not (a && b) ≡ true
 not_and true b e = not_true b e
 not_and false b e = refl
 
-no_twins_apart : (ns : List Node) → Chain (λ (a : Node) b. nat_lt a.id b.id) ns → are_apart alike ns ≡ true → no_twins ns ns ≡ true
+pub no_twins_apart : (ns : List Node) → Chain (λ (a : Node) b. nat_lt a.id b.id) ns → are_apart alike ns ≡ true → no_twins ns ns ≡ true
 no_twins_apart [] c e = refl
 no_twins_apart (x ∷ xs) c e =
     let two = parts (not (list_any (alike x) xs)) (are_apart alike xs) e in
@@ -157,7 +157,7 @@ no_twins_apart (x ∷ xs) c e =
     none_of p [] h = refl
     none_of p (y ∷ ys) h = let t = neither (p y) (list_any p ys) h in both_true (not (p y)) (list_all (λ y. not (p y)) ys) (not_true (p y) t.0) (none_of p ys t.1)
 
-apart_nodes : (rs : List VolumeRow) → are_apart alike (map node_of rs) ≡ are_apart are_named_alike rs
+pub apart_nodes : (rs : List VolumeRow) → are_apart alike (map node_of rs) ≡ are_apart are_named_alike rs
 apart_nodes [] = refl
 apart_nodes (r ∷ rs) = λ i. not (any-map (alike (node_of r)) node_of rs i) && apart_nodes rs i
 
@@ -170,7 +170,7 @@ same_forks r o = not (o.id == r.id) || ((length o.data_fork == length r.data_for
 other_id : (r o : VolumeRow) → (o.id ≡ r.id → ⊥) → same_forks r o ≡ true
 other_id r o h = or_left (not (o.id == r.id)) ((length o.data_fork == length r.data_fork) && (length o.resource_fork == length r.resource_fork)) (ap not (other_false o.id r.id h))
 
-one_row : (rs : List VolumeRow) → Chain (λ (a : VolumeRow) b. nat_lt a.id b.id) rs → list_all (λ r. list_all (same_forks r) rs) rs ≡ true
+pub one_row : (rs : List VolumeRow) → Chain (λ (a : VolumeRow) b. nat_lt a.id b.id) rs → list_all (λ r. list_all (same_forks r) rs) rs ≡ true
 one_row [] c = refl
 one_row (x ∷ xs) c =
     let itself : same_forks x x ≡ true = or_right (not (x.id == x.id)) ((length x.data_fork == length x.data_fork) && (length x.resource_fork == length x.resource_fork))
@@ -184,7 +184,7 @@ one_row (x ∷ xs) c =
       (all-both (λ (r : VolumeRow). nat_lt x.id r.id) (λ r. list_all (same_forks r) xs) xs c.0 (one_row xs c.1)))
 
 -- a row is a directory, or its file is there
-each_there : (rs : List VolumeRow) → list_all (λ (r : VolumeRow). r.dir || has_file rs r.id) rs ≡ true
+pub each_there : (rs : List VolumeRow) → list_all (λ (r : VolumeRow). r.dir || has_file rs r.id) rs ≡ true
 each_there [] = refl
 each_there (x ∷ xs) =
     both_true (x.dir || has_file (x ∷ xs) x.id) (list_all (λ (r : VolumeRow). r.dir || has_file (x ∷ xs) r.id) xs)

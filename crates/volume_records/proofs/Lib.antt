@@ -16,3 +16,5 @@ pub mod Counts
 pub mod SoundFacts
 pub mod ImageBlocks
 pub mod ImageWhole
+pub mod ImageClear
+pub mod ImageLaw
