@@ -1,0 +1,136 @@
+-- Rows answer the same with the forks that are kept of them, and without.
+use Rattle.std.proofs.Common.{◌==◌, ◌≡◌, ◌∙◌, ap, sym, refl, ℕ, Bool, true, false, not, ◌&&◌, ◌||◌, cond, List, [], ◌∷◌, ◌++◌, map, length, Option, Some, None}
+use Rattle.std.specs.Prelude.{option_map, bytes_eq, bit_and}
+use Rattle.std.specs.List.{list_any, list_all, find, filter}
+use Rattle.std.proofs.lemmas.Bool.{and_parts, cond_both, cond-true, cond-false, eqb-true, eq-eqb}
+use Rattle.std.specs.Ordering.{nat_cmp}
+use Rattle.sorted_map.specs.Entries.{at}
+use Rattle.afp_volume.proofs.BareRows.{finds-bare, parents-bare, keys-bare, long-names-bare, taken-bare, below-bare}
+use Rattle.afp_volume.proofs.TestedLists.{any-at, none-all, never, length-mapped}
+use Rattle.afp_volume.proofs.Trees.{tree-parts}
+use Rattle.afp_volume.specs.Edits.{bare, is_taken, is_below, has_children, with_changed, change_at, without}
+use Rattle.afp_volume.specs.Calls.{has_attribute}
+use Rattle.afp_volume.specs.SoundVolume.{IsSoundVolume, are_apart, are_named_alike, has_apart_names}
+use Rattle.afp_volume.specs.VolumeState.{Row, VolumeState}
+use Rattle.afp_volume.specs.Walk.{row_at, parent_at, child_by_key, child_by_long_name, has_directory}
+use Rattle.volume_tree.specs.Kept.{Forks, IsShownAs, data_of, resource_of, with_forks, rows_of}
+
+or-false : (b c : Bool) → c ≡ false → (b || c) ≡ b
+or-false true c h = refl
+or-false false c h = h
+
+not-true-is : (b : Bool) → (b ≡ true → ⊥) → b ≡ false
+not-true-is true h = absurd (h refl)
+not-true-is false h = refl
+
+-- without their forks they are the same rows
+pub shown-bare : (forks : Forks) (rows : List Row) → map bare (rows_of forks rows) ≡ map bare rows
+unfolding rows_of
+shown-bare forks [] = refl
+shown-bare forks (row ∷ rows) = ap (λ l. bare row ∷ l) (shown-bare forks rows)
+
+pub length-shown : (forks : Forks) (rows : List Row) → length (rows_of forks rows) ≡ length rows
+unfolding rows_of
+length-shown forks rows = length-mapped (with_forks forks) rows
+
+pub parent-shown : (forks : Forks) (rows : List Row) (id : ℕ) → parent_at (rows_of forks rows) id ≡ parent_at rows id
+parent-shown forks rows id = sym (parents-bare (rows_of forks rows) id) ∙ ap (λ l. parent_at l id) (shown-bare forks rows) ∙ parents-bare rows id
+
+pub child-shown : (forks : Forks) (rows : List Row) (dir : ℕ) (key : List ℕ) → child_by_key (rows_of forks rows) dir key ≡ child_by_key rows dir key
+child-shown forks rows dir key = sym (keys-bare (rows_of forks rows) dir key) ∙ ap (λ l. child_by_key l dir key) (shown-bare forks rows) ∙ keys-bare rows dir key
+
+pub long-shown : (forks : Forks) (rows : List Row) (dir : ℕ) (element : List ℕ) → child_by_long_name (rows_of forks rows) dir element ≡ child_by_long_name rows dir element
+long-shown forks rows dir element = sym (long-names-bare (rows_of forks rows) dir element) ∙ ap (λ l. child_by_long_name l dir element) (shown-bare forks rows) ∙ long-names-bare rows dir element
+
+pub taken-shown : (forks : Forks) (rows : List Row) (node dir : ℕ) (name : List ℕ) → is_taken (rows_of forks rows) node dir name ≡ is_taken rows node dir name
+taken-shown forks rows node dir name = sym (taken-bare (rows_of forks rows) node dir name) ∙ ap (λ l. is_taken l node dir name) (shown-bare forks rows) ∙ taken-bare rows node dir name
+
+pub bare-found : (forks : Forks) (rows : List Row) (id : ℕ) → option_map bare (row_at (rows_of forks rows) id) ≡ option_map bare (row_at rows id)
+bare-found forks rows id = sym (finds-bare (rows_of forks rows) id) ∙ ap (λ l. row_at l id) (shown-bare forks rows) ∙ finds-bare rows id
+
+-- a test of rows that does not look at forks
+pub any-shown : (forks : Forks) (rows : List Row) (p : Row → Bool) → ((row : Row) → p (bare row) ≡ p row) → list_any p (rows_of forks rows) ≡ list_any p rows
+unfolding rows_of
+any-shown forks [] p same = refl
+any-shown forks (row ∷ rows) p same = λ i. (sym (same (with_forks forks row)) ∙ same row) i || any-shown forks rows p same i
+
+-- a node as it is kept
+pub node-shown : (forks : Forks) (rows : List Row) (id : ℕ) (row : Row) → Some row ≡ row_at rows id → bare row ≡ row → Some row ≡ option_map bare (row_at (rows_of forks rows) id)
+node-shown forks rows id row found plain = ap Some (sym plain) ∙ ap (λ o. option_map bare o) found ∙ sym (bare-found forks rows id)
+
+pub no-node-shown : (forks : Forks) (rows : List Row) (id : ℕ) → None ≡ row_at rows id → None ≡ option_map bare (row_at (rows_of forks rows) id)
+no-node-shown forks rows id found = ap (λ o. option_map bare o) found ∙ sym (bare-found forks rows id)
+
+-- where ids differ, a test of the row of an id is the test of the one that is found
+pub test-found : (rows : List Row) (id : ℕ) (p : Row → Bool) (s : Row) → are_apart (λ (a : Row) b. a.id == b.id) rows ≡ true → row_at rows id ≡ Some s → list_any (λ row. (row.id == id) && p row) rows ≡ p s
+unfolding row_at
+test-found [] id p s apart found = absurd (cc)
+test-found (row ∷ rows) id p s apart found =
+    let e = and_parts (not (list_any (λ (b : Row). row.id == b.id) rows)) (are_apart (λ (a : Row) b. a.id == b.id) rows) apart in
+    cond_both (row.id == id) (Some row) (find (λ (r : Row). r.id == id) rows)
+    (λ o. o ≡ Some s → (((row.id == id) && p row) || list_any (λ r. (r.id == id) && p r) rows) ≡ p s)
+    (λ here h. let same : row ≡ s = cc in ap (λ b. (b && p row) || list_any (λ r. (r.id == id) && p r) rows) here
+    ∙ or-false (p row) (list_any (λ r. (r.id == id) && p r) rows) (not-true-is (list_any (λ r. (r.id == id) && p r) rows) (λ some.
+    any-at (λ r. (r.id == id) && p r) (λ (b : Row). not (row.id == b.id)) rows some (none-all (λ (b : Row). row.id == b.id) rows e.0)
+    (λ r is other. never (row.id == r.id) (eq-eqb row.id r.id (eqb-true row.id id here ∙ sym (eqb-true r.id id (and_parts (r.id == id) (p r) is).0))) other)))
+    ∙ ap p same)
+    (λ other h. ap (λ b. (b && p row) || list_any (λ r. (r.id == id) && p r) rows) other ∙ test-found rows id p s e.1 h)
+    found
+
+pub test-missing : (rows : List Row) (id : ℕ) (p : Row → Bool) → row_at rows id ≡ None → list_any (λ row. (row.id == id) && p row) rows ≡ false
+unfolding row_at
+test-missing [] id p found = refl
+test-missing (row ∷ rows) id p found =
+    cond_both (row.id == id) (Some row) (find (λ (r : Row). r.id == id) rows)
+    (λ o. o ≡ None → (((row.id == id) && p row) || list_any (λ r. (r.id == id) && p r) rows) ≡ false)
+    (λ here h. absurd (cc))
+    (λ other h. ap (λ b. (b && p row) || list_any (λ r. (r.id == id) && p r) rows) other ∙ test-missing rows id p h)
+    found
+
+-- what is found among rows with their forks
+pub found-shown : (forks : Forks) (rows : List Row) (id : ℕ) (row : Row) → row_at rows id ≡ Some row → row_at (rows_of forks rows) id ≡ Some (with_forks forks row)
+unfolding row_at rows_of
+found-shown forks [] id row found = absurd (cc)
+found-shown forks (r ∷ rows) id row found =
+    cond_both (r.id == id) (Some r) (find (λ (q : Row). q.id == id) rows)
+    (λ o. o ≡ Some row → cond (r.id == id) (Some (with_forks forks r)) (find (λ (q : Row). q.id == id) (map (with_forks forks) rows)) ≡ Some (with_forks forks row))
+    (λ here h. let same : r ≡ row = cc in cond-true (r.id == id) (Some (with_forks forks r)) (find (λ (q : Row). q.id == id) (map (with_forks forks) rows)) here ∙ ap (λ q. Some (with_forks forks q)) same)
+    (λ other h. cond-false (r.id == id) (Some (with_forks forks r)) (find (λ (q : Row). q.id == id) (map (with_forks forks) rows)) other ∙ found-shown forks rows id row h)
+    found
+
+pub missing-shown : (forks : Forks) (rows : List Row) (id : ℕ) → row_at rows id ≡ None → row_at (rows_of forks rows) id ≡ None
+unfolding row_at rows_of
+missing-shown forks [] id found = refl
+missing-shown forks (r ∷ rows) id found =
+    cond_both (r.id == id) (Some r) (find (λ (q : Row). q.id == id) rows)
+    (λ o. o ≡ None → cond (r.id == id) (Some (with_forks forks r)) (find (λ (q : Row). q.id == id) (map (with_forks forks) rows)) ≡ None)
+    (λ here h. absurd (cc))
+    (λ other h. cond-false (r.id == id) (Some (with_forks forks r)) (find (λ (q : Row). q.id == id) (map (with_forks forks) rows)) other ∙ missing-shown forks rows id h)
+    found
+
+-- the ids of a sound volume differ
+pub ids-differ : (v : VolumeState) → IsSoundVolume v → are_apart (λ (a : Row) b. a.id == b.id) v.rows ≡ true
+ids-differ v s = (tree-parts v s.tree).apart
+
+-- a sound volume's names differ
+pub names-differ : (v : VolumeState) → IsSoundVolume v → are_apart are_named_alike v.rows ≡ true
+unfolding has_apart_names
+names-differ v s = s.names
+
+-- what the row of an id says of itself; the look-up as it is kept, the test as it is shown
+pub said-of : (v : VolumeState) (forks : Forks) (rows : List Row) (id : ℕ) (p : Row → Bool) (row : Row) → rows_of forks rows ≡ v.rows → IsSoundVolume v → Some row ≡ row_at rows id
+    → list_any (λ r. (r.id == id) && p r) v.rows ≡ p (with_forks forks row)
+said-of v forks rows id p row are s found = test-found v.rows id p (with_forks forks row) (ids-differ v s) (ap (λ l. row_at l id) (sym are) ∙ found-shown forks rows id row (sym found))
+
+pub said-of-none : (v : VolumeState) (forks : Forks) (rows : List Row) (id : ℕ) (p : Row → Bool) → rows_of forks rows ≡ v.rows → None ≡ row_at rows id
+    → list_any (λ r. (r.id == id) && p r) v.rows ≡ false
+said-of-none v forks rows id p are found = test-missing v.rows id p (ap (λ l. row_at l id) (sym are) ∙ missing-shown forks rows id (sym found))
+
+-- a parent that is found
+pub parent-found : (rows : List Row) (id : ℕ) (row : Row) → Some row ≡ row_at rows id → parent_at rows id ≡ Some row.parent
+unfolding parent_at
+parent-found rows id row found = ap (λ o. option_map (λ (r : Row). r.parent) o) (sym found)
+
+pub no-parent-found : (rows : List Row) (id : ℕ) → None ≡ row_at rows id → parent_at rows id ≡ None
+unfolding parent_at
+no-parent-found rows id found = ap (λ o. option_map (λ (r : Row). r.parent) o) (sym found)

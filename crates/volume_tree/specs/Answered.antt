@@ -1,0 +1,23 @@
+-- What answers say that may also be want of memory.
+use Rattle.std.specs.Prelude.{◌≡◌, ℕ, Option, Some, None, Result, Ok, Err}
+use Rattle.afp_base.specs.declared.code.Code.{Code}
+use Rattle.afp_base.specs.declared.ids.NodeId.{NodeId}
+use Rattle.volume_tree.specs.declared.resolve.PlanFault.{PlanFault}
+use Rattle.volume_tree.specs.declared.resolve.PlanFault.TheVariants as fault
+
+-- the node, or the code, is the one that is wanted; or there was no memory
+abbrev pub Answers : Result NodeId PlanFault → Result ℕ Code → Type 0
+Answers (Ok id) wanted = wanted ≡ Ok id.0
+Answers (Err (fault.Code code)) wanted = wanted ≡ Err code
+Answers (Err fault.Memory) wanted = Unit {0}
+
+-- what was planned stands where nothing is refused; else the code is the one that is refused, or there was no memory
+abbrev pub Refuses : {A : Type 0} → Result A PlanFault → Option Code → Type 0
+Refuses (Ok planned) refused = refused ≡ None
+Refuses (Err (fault.Code code)) refused = refused ≡ Some code
+Refuses (Err fault.Memory) refused = Unit {0}
+
+-- the node that was found, if one was, is the one that is wanted
+abbrev pub IsFound : Option NodeId → Option ℕ → Type 0
+IsFound None wanted = wanted ≡ None
+IsFound (Some id) wanted = wanted ≡ Some id.0

@@ -1,0 +1,68 @@
+-- What is kept of a volume's tree (this profile).
+use Rattle.std.specs.Prelude.{◌≡◌, ℕ, ◌<◌, ◌==◌, ◌&&◌, ◌||◌, Bool, true, if◌then◌else◌, List, [], ◌∷◌, length, map, Option, Some, None, is_some}
+use Rattle.std.specs.List.{list_all}
+use Rattle.std.specs.Ordering.{nat_cmp}
+use Rattle.sorted_map.specs.Entries.{at}
+use Rattle.node_rows.specs.Kept.{RowsValue}
+use Rattle.afp_volume.specs.VolumeState.{Row, VolumeState}
+use Rattle.afp_volume.specs.SoundVolume.{IsSoundVolume, fork_bytes}
+use Rattle.volume_tree.specs.declared.forks.FileForks.{FileForks}
+use Rattle.volume_tree.specs.declared.head.Dates.{Dates}
+
+-- the forks that are kept, by node id
+abbrev pub Forks : Type 0
+Forks = List (ℕ × FileForks)
+
+-- the bytes of forks; where nothing is kept there are none
+abbrev pub data_of : Option FileForks → List ℕ
+data_of None = []
+data_of (Some forks) = forks.data_fork
+
+abbrev pub resource_of : Option FileForks → List ℕ
+resource_of None = []
+resource_of (Some forks) = forks.resource_fork
+
+-- what is kept shows the same bytes as something else, and no less is kept
+pub record IsShownAs (old new : Option FileForks) : Type 0 where
+  pub data_fork : data_of new ≡ data_of old
+  pub resource_fork : resource_of new ≡ resource_of old
+  pub kept : is_some old ≡ true → is_some new ≡ true
+
+-- a row with the forks that are kept of it
+abbrev pub with_forks : Forks → Row → Row
+with_forks forks row = record row { data_fork = data_of (at nat_cmp forks row.id); resource_fork = resource_of (at nat_cmp forks row.id) }
+
+-- rows with the forks that are kept of them
+unfoldable pub rows_of : Forks → List Row → List Row
+rows_of forks rows = map (with_forks forks) rows
+
+-- the volume that is kept
+abbrev pub state_of : List ℕ → Dates → RowsValue → Forks → VolumeState
+state_of name dates rows forks = record {
+  name = name;
+  created = dates.created;
+  modified = dates.modified;
+  backup = dates.backup;
+  next_id = rows.next_id;
+  rows = rows_of forks rows.rows;
+  comments = [];
+  icons = [];
+  appls = [];
+}
+
+-- There is room for a new node where the rows have room and forks are kept for the next id already.
+abbrev pub spare_of : RowsValue → Forks → ℕ
+spare_of rows forks = if is_some (at nat_cmp forks rows.next_id) then rows.spare else 0
+
+-- whether a row is a directory's, or its forks are kept
+abbrev pub has_forks : Forks → Row → Bool
+has_forks forks row = row.dir || is_some (at nat_cmp forks row.id)
+
+-- The volume is sound; the forks of each file are kept; those of the next id have no bytes, and behind it are none; the number of bytes is kept.
+pub record IsKept (name : List ℕ) (dates : Dates) (rows : RowsValue) (forks : Forks) (used : ℕ) : Type 0 where
+  pub sound : IsSoundVolume (state_of name dates rows forks)
+  pub files : list_all (has_forks forks) rows.rows ≡ true
+  pub no_data : data_of (at nat_cmp forks rows.next_id) ≡ []
+  pub no_resource : resource_of (at nat_cmp forks rows.next_id) ≡ []
+  pub none_behind : (id : ℕ) → rows.next_id < id → at nat_cmp forks id ≡ None
+  pub bytes : used ≡ fork_bytes (rows_of forks rows.rows)

@@ -1,0 +1,17 @@
+-- A volume's tree as contracts see it (the form is this profile's).
+use Rattle.std.specs.Prelude.{ℕ, ◌==◌, ◌&&◌, Bool, not, if◌then◌else◌, List, Option, option_map}
+use Rattle.std.specs.List.{find}
+use Rattle.afp_volume.specs.VolumeState.{Row, VolumeState}
+
+-- a volume, which has no comments, icons and APPL rows here; and room for so many nodes more
+pub record TreeValue : Type 0 where
+  pub state : VolumeState
+  pub spare : ℕ
+
+-- the bytes of a fork of a row
+abbrev pub fork_of : Bool → Row → List ℕ
+fork_of resource row = if resource then row.resource_fork else row.data_fork
+
+-- a fork of the file of this id (AFP Reference, "File forks")
+unfoldable pub fork_at : List Row → ℕ → Bool → Option (List ℕ)
+fork_at rows id resource = option_map (fork_of resource) (find (λ row. (row.id == id) && not row.dir) rows)

@@ -1,0 +1,171 @@
+//! What calls ask of a volume's tree.
+ghost use Rattle.std.specs.Prelude.{◌≡◌, ◌++◌, ◌==◌, ◌&&◌, Some, chars, map, length, bytes_eq, option_map, IfOk, OnOk};
+ghost use Rattle.std.specs.List.{find};
+ghost use Rattle.afp_names.specs.LongName.{shown_byte, long_name_of};
+ghost use Rattle.afp_names.specs.Name.{name_key};
+ghost use Rattle.afp_names.specs.Path.{element_of, long_names};
+ghost use Rattle.afp_volume.specs.Edits.{has_children, is_below, is_taken};
+ghost use Rattle.afp_volume.specs.Calls.{has_attribute};
+ghost use Rattle.afp_volume.specs.Walk.{parent_at, has_directory, child_by_key, child_by_long_name};
+ghost use Rattle.volume_tree.specs.Answered.{IsFound};
+
+use crate::volume::Volume;
+use afp_base::{Bytes, NodeId, OutOfMemory};
+use afp_names::mac_roman::byte_of;
+use afp_names::{Name, long_name};
+use node_rows::Node;
+use std::alloc::Global;
+
+/// The byte of a character in a long name, or `?` where their character set has none.
+#[tactic(auto, unfolding(afp_names::specs::LongName::shown_byte))]
+fn shown_byte(character: char) -> u8
+    ensures { result ≡ shown_byte character }
+{
+    byte_of(character).unwrap_or(b'?')
+}
+
+/// The element by which a path of long names spells a name.
+#[tactic(auto, unfolding(afp_names::specs::Path::element_of))]
+fn long_element(alloc: Global, name: &Name) -> Result<Bytes, OutOfMemory>
+    ensures { IfOk result (λ element. element ≡ element_of long_names name.now) }
+{
+    let text = characters(alloc, name.as_str())?;
+    let mut element = Bytes::new(alloc);
+    put_shown(&mut element, &text)?;
+    Ok(element)
+}
+
+/// The characters of a text.
+fn characters(alloc: Global, text: &str) -> Result<Vec<char>, OutOfMemory>
+    ensures { IfOk result (λ characters. characters.items ≡ chars text.now) }
+{
+    Ok(text.chars().collect(alloc)?)
+}
+
+/// Appends the bytes of a text in the character set of long names.
+fn put_shown(element: &mut Bytes, text: &[char]) -> Result<(), OutOfMemory>
+    ensures { OnOk result (element.new ≡ element.old ++ map shown_byte text.now) }
+{
+    for character in text {
+        element.extend(&[shown_byte(*character)])?;
+    }
+    Ok(())
+}
+
+/// The first node in this directory with this long name.
+fn find_long(
+    alloc: Global,
+    nodes: &[Node],
+    dir: NodeId,
+    element: &[u8],
+) -> Result<Option<NodeId>, OutOfMemory>
+    ensures { IfOk result (λ found. IsFound found (child_by_long_name nodes.now dir.0 element.now)) }
+{
+    for node in nodes {
+        let fits = is_long(alloc, node, dir, element)?;
+        if fits {
+            return Ok(Some(node.id));
+        }
+    }
+    Ok(None)
+}
+
+/// Whether a node is in this directory and has this long name.
+fn is_long(alloc: Global, node: &Node, dir: NodeId, element: &[u8]) -> Result<bool, OutOfMemory>
+    ensures { IfOk result (λ is. is ≡ ((node.now.parent == dir.0) && bytes_eq (long_name_of node.now.name node.now.id) element.now)) }
+{
+    if node.parent.0 != dir.0 {
+        return Ok(false);
+    }
+    let long = long_name(alloc, &node.name, node.id)?;
+    Ok(long.as_slice() == element)
+}
+
+impl Volume {
+    /// The directory in which a node is.
+    pub(crate) fn parent(&self, id: NodeId) -> Option<NodeId>
+        ensures { IsFound result (parent_at self.now.state.rows id.0) }
+    {
+        match self.rows.get(id) {
+            Some(node) => Some(node.parent),
+            None => None,
+        }
+    }
+
+    /// Whether an id is a directory's.
+    pub(crate) fn is_directory(&self, id: NodeId) -> bool
+        ensures { result ≡ has_directory self.now.state.rows id.0 }
+    {
+        match self.rows.get(id) {
+            Some(node) => node.dir,
+            None => false,
+        }
+    }
+
+    /// Whether the node of an id has an attribute.
+    pub(crate) fn has(&self, bit: u16, id: NodeId) -> bool
+        ensures { result ≡ has_attribute self.now.state.rows bit id.0 }
+    {
+        match self.rows.get(id) {
+            Some(node) => node.attributes & bit != 0,
+            None => false,
+        }
+    }
+
+    /// The child of a directory whose name has this key.
+    pub(crate) fn child(&self, dir: NodeId, key: &[u8]) -> Option<NodeId>
+        ensures { IsFound result (child_by_key self.now.state.rows dir.0 key.now) }
+    {
+        self.rows.child(dir, key)
+    }
+
+    /// The child of a directory whose long name a name spells.
+    pub(crate) fn long_child(
+        &self,
+        alloc: Global,
+        dir: NodeId,
+        name: &Name,
+    ) -> Result<Option<NodeId>, OutOfMemory>
+        ensures { IfOk result (λ found. IsFound found (child_by_long_name self.now.state.rows dir.0 (element_of long_names name.now))) }
+    {
+        let element = long_element(alloc, name)?;
+        find_long(alloc, self.rows.nodes(), dir, element.as_slice())
+    }
+
+    /// Whether a directory has children.
+    pub(crate) fn has_children(&self, dir: NodeId) -> bool
+        ensures { result ≡ has_children self.now.state.rows dir.0 }
+    {
+        self.rows.nth(dir, 0).is_some()
+    }
+
+    /// Whether a node is another one, or below it.
+    pub(crate) fn is_below(&self, node: NodeId, id: NodeId) -> bool
+        ensures { result ≡ is_below self.now.state.rows (length self.now.state.rows) node.0 id.0 }
+    {
+        self.keeps_sound();
+        let mut here = id;
+        for _step in 0..self.count() {
+            if here.0 == node.0 {
+                return true;
+            }
+            match self.parent(here) {
+                Some(up) => here = up,
+                None => return false,
+            }
+        }
+        here.0 == node.0
+    }
+
+    /// Whether another node of a directory has a name with this key.
+    pub(crate) fn is_taken(&self, node: NodeId, dir: NodeId, name: &Name, key: &[u8]) -> bool
+        requires { key.now ≡ name_key name.now }
+        ensures { result ≡ is_taken self.now.state.rows node.0 dir.0 name.now }
+    {
+        self.keeps_sound();
+        match self.child(dir, key) {
+            Some(other) => other.0 != node.0,
+            None => false,
+        }
+    }
+}

@@ -1,0 +1,54 @@
+//! The forks of files, by node id.
+ghost use Rattle.std.specs.Prelude.{◌≡◌, ◌==◌, ℕ, [], true, false, None, if◌then◌else◌, is_some, option_copied, OnOk, OnErr};
+ghost use Rattle.std.specs.Ordering.{nat_cmp};
+ghost use Rattle.sorted_map.specs.Entries.{at};
+ghost use Rattle.volume_tree.specs.Kept.{IsShownAs};
+
+use afp_base::OutOfMemory;
+use fork_bytes::Fork;
+use sorted_map::SortedMap;
+use std::alloc::Global;
+
+/// The two forks of a file (AFP Reference, "File forks").
+#[derive(Drop)]
+pub(crate) struct FileForks {
+    pub data_fork: Fork,
+    pub resource_fork: Fork,
+}
+
+impl FileForks {
+    /// Forks of no bytes. It takes no memory.
+    fn new(alloc: Global) -> FileForks
+        ensures data_fork { result.data_fork ≡ [] }
+        ensures resource_fork { result.resource_fork ≡ [] }
+    {
+        FileForks {
+            data_fork: Fork::new(alloc),
+            resource_fork: Fork::new(alloc),
+        }
+    }
+}
+
+/// Keeps forks of no bytes for an id for which none are kept. An error changes nothing.
+pub(crate) fn keep(
+    forks: &mut SortedMap<u64, FileForks>,
+    alloc: Global,
+    id: u64,
+) -> Result<(), OutOfMemory>
+    ensures kept { OnOk result (is_some (at nat_cmp forks.new id) ≡ true) }
+    ensures others { (q : ℕ) → (q == id) ≡ false → at nat_cmp forks.new q ≡ at nat_cmp forks.old q }
+    ensures shown { (q : ℕ) → IsShownAs (at nat_cmp forks.old q) (at nat_cmp forks.new q) }
+{
+    if forks.get(id).is_some() {
+        return Ok(());
+    }
+    let _ = forks.insert(id, FileForks::new(alloc))?;
+    Ok(())
+}
+
+/// Forgets the forks of an id.
+pub(crate) fn forget(forks: &mut SortedMap<u64, FileForks>, id: u64)
+    ensures { (q : ℕ) → at nat_cmp forks.new q ≡ (if q == id then None else at nat_cmp forks.old q) }
+{
+    let _ = forks.remove(id);
+}

@@ -1,0 +1,184 @@
+//! A volume's tree.
+ghost use Rattle.std.specs.Prelude.{◌≡◌, ◌≤◌, ◌+◌, None, Some, pos, length, IfOk, OnOk, OnErr, option_map, option_copied};
+ghost use Rattle.afp_names.specs.Name.{name_fault};
+ghost use Rattle.afp_volume.specs.Edits.{bare, changed_at, new_row};
+ghost use Rattle.afp_volume.specs.SoundVolume.{IsSoundVolume, fork_bytes};
+ghost use Rattle.afp_volume.specs.VolumeState.{fresh_volume};
+ghost use Rattle.afp_volume.specs.Walk.{row_at};
+ghost use Rattle.volume_tree.specs.Shown.{fork_at};
+
+use crate::forks::{FileForks, keep};
+use crate::head::{Dates, NEVER, VolumeHead};
+use afp_base::{Moment, NodeId, OutOfMemory};
+use afp_names::Name;
+use afp_volume::laws::fresh_volumes_are_sound;
+use fork_bytes::Fork;
+use node_rows::{Node, Rows};
+use sorted_map::SortedMap;
+use std::alloc::Global;
+use std::marker::Model;
+
+/// The id of the root directory, and that of its parent (AFP Reference, "Directory IDs").
+pub(crate) const ROOT: NodeId = NodeId(2);
+
+pub(crate) const ROOT_PARENT: NodeId = NodeId(1);
+
+/// A volume: its name and dates, its files and directories, and their forks; and room for more nodes.
+///
+/// Contracts see the definition's volume, with no comments, icons and APPL rows, which are kept
+/// elsewhere; and `spare`, a number of nodes that can be added with no memory.
+#[derive(Drop)]
+pub struct Volume {
+    pub(crate) name: Name,
+    pub(crate) dates: Dates,
+    pub(crate) rows: Rows,
+    pub(crate) forks: SortedMap<u64, FileForks>,
+    pub(crate) used: u64,
+}
+
+impl Model for Volume {
+    ghost use Rattle.volume_tree.specs.Shown.{TreeValue};
+
+    ghost Value = { TreeValue };
+
+    ghost use Rattle.volume_tree.specs.Kept.{state_of, spare_of, IsKept};
+
+    ghost view = { λ a. record { state = state_of a.name a.dates a.rows a.forks; spare = spare_of a.rows a.forks } };
+
+    ghost invariant = { λ a. IsKept a.name a.dates a.rows a.forks a.used };
+}
+
+/// A new file or directory of no attributes (AFP Reference, "FPCreateFile", "FPCreateDir").
+pub(crate) fn new_node(dir: bool, id: NodeId, parent: NodeId, name: Name, now: Moment) -> Node
+    ensures { result ≡ new_row dir id.0 parent.0 name now }
+{
+    let date = now.seconds() as i32;
+    Node {
+        id,
+        parent,
+        dir,
+        attributes: 0,
+        created: date,
+        modified: date,
+        backup: NEVER,
+        finder: [0; 32],
+        filed: false,
+        name,
+    }
+}
+
+/// The name of this text.
+fn name_of(alloc: Global, text: &str) -> Result<Name, OutOfMemory>
+    requires { name_fault text.now ≡ None }
+    ensures { IfOk result (λ name. name ≡ text.now) }
+{
+    match Name::new(alloc, text.as_bytes()) {
+        Ok(name) => Ok(name),
+        Err(_) => Err(OutOfMemory),
+    }
+}
+
+/// The next node id of rows, 4,294,967,296 where the ids have ended.
+fn next_of(rows: &Rows) -> u64
+    ensures { result ≡ rows.now.next_id }
+{
+    match rows.next_id() {
+        Some(id) => u64::from(id.0),
+        None => 4_294_967_296,
+    }
+}
+
+impl Volume {
+    /// A volume that nobody has used, made at a moment: its root alone.
+    pub fn fresh(alloc: Global, name: &str, now: Moment) -> Result<Volume, OutOfMemory>
+        requires { name_fault name.now ≡ None }
+        ensures { IfOk result (λ volume. volume.state ≡ fresh_volume name.now now) }
+    {
+        fresh_volumes_are_sound();
+        let name = name_of(alloc, name)?;
+        let root = new_node(true, ROOT, ROOT_PARENT, name.copy(alloc)?, now);
+        let rows = Rows::new(alloc, root, 17)?;
+        Ok(Volume {
+            name,
+            dates: Dates::new(now),
+            rows,
+            forks: SortedMap::new(alloc),
+            used: 0,
+        })
+    }
+
+    /// What holds of every volume. The call does nothing.
+    pub fn keeps_sound(&self)
+        ensures { IsSoundVolume self.now.state }
+    {
+        let _ = &self.used;
+    }
+
+    /// The volume's dates and its next node id.
+    pub fn head(&self) -> VolumeHead
+        ensures created { result.created ≡ self.now.state.created }
+        ensures modified { result.modified ≡ self.now.state.modified }
+        ensures backup { result.backup ≡ self.now.state.backup }
+        ensures next_id { result.next_id ≡ self.now.state.next_id }
+    {
+        VolumeHead {
+            created: self.dates.created,
+            modified: self.dates.modified,
+            backup: self.dates.backup,
+            next_id: next_of(&self.rows),
+        }
+    }
+
+    /// The volume's name.
+    pub fn name(&self) -> &Name
+        ensures { result.now ≡ self.now.state.name }
+    {
+        &self.name
+    }
+
+    /// The node of an id, without its forks.
+    pub fn node(&self, id: NodeId) -> Option<&Node>
+        ensures { option_copied result ≡ option_map bare (row_at self.now.state.rows id.0) }
+    {
+        match self.rows.get(id) {
+            Some(node) => {
+                let _ = &node.dir;
+                Some(node)
+            }
+            None => None,
+        }
+    }
+
+    /// How many nodes there are, the root among them. It costs nothing.
+    pub fn count(&self) -> usize
+        ensures { result ≡ length self.now.state.rows }
+    {
+        self.rows.count()
+    }
+
+    /// How many bytes all forks have. It costs nothing.
+    pub fn used(&self) -> u64
+        ensures { result ≡ fork_bytes self.now.state.rows }
+    {
+        self.used
+    }
+
+    /// Makes room for one node more. An error changes nothing that contracts see.
+    pub fn reserve(&mut self, alloc: Global) -> Result<(), OutOfMemory>
+        ensures room { OnOk result (1 ≤ self.new.spare) }
+        ensures state { self.new.state ≡ self.old.state }
+        ensures spare { self.old.spare ≤ self.new.spare }
+    {
+        self.rows.reserve()?;
+        let next = next_of(&self.rows);
+        keep(&mut self.forks, alloc, next)
+    }
+
+    /// Sets the volume's modified date (AFP Reference, "Volume parameters").
+    pub fn touch(&mut self, now: Moment)
+        ensures state { self.new.state ≡ changed_at now self.old.state }
+        ensures spare { self.new.spare ≡ self.old.spare }
+    {
+        self.dates = self.dates.touched(now);
+    }
+}
