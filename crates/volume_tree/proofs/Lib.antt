@@ -3,3 +3,10 @@ pub mod LongNames
 pub mod Steps
 pub mod UpSteps
 pub mod Keeping
+pub mod Dating
+pub mod Applied
+pub mod Beside
+pub mod Deleting
+pub mod Paths
+pub mod Creating
+pub mod Placing

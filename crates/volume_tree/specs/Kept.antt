@@ -1,11 +1,14 @@
 -- What is kept of a volume's tree (this profile).
-use Rattle.std.specs.Prelude.{◌≡◌, ℕ, ◌<◌, ◌==◌, ◌&&◌, ◌||◌, Bool, true, if◌then◌else◌, List, [], ◌∷◌, length, map, Option, Some, None, is_some}
+use Rattle.std.specs.Prelude.{◌≡◌, ℕ, ◌<◌, ◌+◌, ◌==◌, ◌&&◌, ◌||◌, Bool, true, if◌then◌else◌, List, [], ◌∷◌, length, map, Option, Some, None, is_some}
 use Rattle.std.specs.List.{list_all}
 use Rattle.std.specs.Ordering.{nat_cmp}
 use Rattle.sorted_map.specs.Entries.{at}
+use Rattle.afp_base.specs.declared.ids.NodeId.{NodeId}
 use Rattle.node_rows.specs.Kept.{RowsValue}
+use Rattle.node_rows.specs.declared.node.Marks.{Marks}
 use Rattle.afp_volume.specs.VolumeState.{Row, VolumeState}
 use Rattle.afp_volume.specs.SoundVolume.{IsSoundVolume, fork_bytes}
+use Rattle.volume_tree.specs.Planned.{is_gone}
 use Rattle.volume_tree.specs.declared.forks.FileForks.{FileForks}
 use Rattle.volume_tree.specs.declared.head.Dates.{Dates}
 
@@ -66,3 +69,21 @@ pub record IsKept (name : List ℕ) (dates : Dates) (rows : RowsValue) (forks : 
   pub no_resource : resource_of (at nat_cmp forks rows.next_id) ≡ []
   pub none_behind : (id : ℕ) → rows.next_id < id → at nat_cmp forks id ≡ None
   pub bytes : used ≡ fork_bytes (rows_of forks rows.rows)
+
+-- the bytes of the forks of a node that goes
+abbrev pub bytes_of : Option NodeId → Forks → ℕ
+bytes_of None forks = 0
+bytes_of (Some gone) forks = length (data_of (at nat_cmp forks gone.0)) + length (resource_of (at nat_cmp forks gone.0))
+
+-- what is kept of a node when another one has gone
+abbrev pub at_gone : Option NodeId → ℕ → Option FileForks → Option FileForks
+at_gone gone id kept = if is_gone gone id then None else kept
+
+-- the marks of a row
+abbrev pub marks_in : Row → Marks
+marks_in row = record { attributes = row.attributes; created = row.created; modified = row.modified; backup = row.backup; finder = row.finder; filed = row.filed }
+
+-- the marks are those of a row that was found
+abbrev pub IsMarks : Option Marks → Option Row → Type 0
+IsMarks None found = found ≡ None
+IsMarks (Some marks) found = (row : Row) × (found ≡ Some row) × (marks ≡ marks_in row)

@@ -1,3 +1,4 @@
 pub mod Shown
+pub mod Planned
 pub mod Kept
 pub mod Answered

@@ -1,6 +1,8 @@
 -- A volume's tree as contracts see it (the form is this profile's).
-use Rattle.std.specs.Prelude.{ℕ, ◌==◌, ◌&&◌, Bool, not, if◌then◌else◌, List, Option, option_map}
+use Rattle.std.specs.Prelude.{ℕ, ◌==◌, ◌&&◌, Bool, not, if◌then◌else◌, List, map, Option, option_map}
 use Rattle.std.specs.List.{find}
+use Rattle.afp_base.specs.declared.ids.NodeId.{NodeId}
+use Rattle.afp_volume.specs.Calls.{Opened}
 use Rattle.afp_volume.specs.VolumeState.{Row, VolumeState}
 
 -- a volume, which has no comments, icons and APPL rows here; and room for so many nodes more
@@ -15,3 +17,7 @@ fork_of resource row = if resource then row.resource_fork else row.data_fork
 -- a fork of the file of this id (AFP Reference, "File forks")
 unfoldable pub fork_at : List Row → ℕ → Bool → Option (List ℕ)
 fork_at rows id resource = option_map (fork_of resource) (find (λ row. (row.id == id) && not row.dir) rows)
+
+-- open forks, each told by its node and whether it is the resource fork
+abbrev pub opened : List (NodeId × Bool) → List Opened
+opened opens = map (λ (open_fork : NodeId × Bool). record { node = open_fork.0.0; resource = open_fork.1 }) opens

@@ -1,20 +1,24 @@
 //! What calls ask of a volume's tree.
-ghost use Rattle.std.specs.Prelude.{◌≡◌, ◌++◌, ◌==◌, ◌&&◌, Some, chars, map, length, bytes_eq, option_map, IfOk, OnOk};
-ghost use Rattle.std.specs.List.{find};
+ghost use Rattle.std.specs.Prelude.{Bool, true, false, None, MatchOption, ◌≡◌, ◌++◌, ◌==◌, ◌&&◌, Some, chars, map, length, bytes_eq, option_map, IfOk, OnOk};
+ghost use Rattle.std.specs.List.{find, list_any};
 ghost use Rattle.afp_names.specs.LongName.{shown_byte, long_name_of};
 ghost use Rattle.afp_names.specs.Name.{name_key};
 ghost use Rattle.afp_names.specs.Path.{element_of, long_names};
 ghost use Rattle.afp_volume.specs.Edits.{has_children, is_below, is_taken};
-ghost use Rattle.afp_volume.specs.Calls.{has_attribute};
+ghost use Rattle.afp_volume.specs.Calls.{directory_of, has_attribute, has_no_ids, has_no_room, is_busy};
 ghost use Rattle.afp_volume.specs.Walk.{parent_at, has_directory, child_by_key, child_by_long_name};
 ghost use Rattle.volume_tree.specs.Answered.{IsFound};
+ghost use Rattle.volume_tree.specs.Shown.{opened};
 
-use crate::volume::Volume;
+use crate::volume::{ROOT_PARENT, Volume};
 use afp_base::{Bytes, NodeId, OutOfMemory};
 use afp_names::mac_roman::byte_of;
 use afp_names::{Name, long_name};
 use node_rows::Node;
 use std::alloc::Global;
+
+/// The most nodes of a volume (this profile).
+pub(crate) const MOST_NODES: usize = 100_000;
 
 /// The byte of a character in a long name, or `?` where their character set has none.
 #[tactic(auto, unfolding(afp_names::specs::LongName::shown_byte))]
@@ -81,7 +85,39 @@ fn is_long(alloc: Global, node: &Node, dir: NodeId, element: &[u8]) -> Result<bo
     Ok(long.as_slice() == element)
 }
 
+/// Whether a fork of a node is open.
+pub(crate) fn is_busy(opens: &[(NodeId, bool)], id: NodeId) -> bool
+    ensures { result ≡ is_busy (opened opens.now) id.0 }
+{
+    is_open(opens, id)
+}
+
+fn is_open(opens: &[(NodeId, bool)], id: NodeId) -> bool
+    ensures { result ≡ list_any (λ (open_fork : NodeId × Bool). open_fork.0.0 == id.0) opens.now }
+{
+    opens.iter().any(|open| open.0.0 == id.0)
+}
+
 impl Volume {
+    /// The id of the next new node; `None` where the ids have ended.
+    #[tactic(auto, unfolding(afp_volume::specs::Calls::has_no_ids))]
+    pub(crate) fn next(&self) -> Option<NodeId>
+        ensures { MatchOption result (has_no_ids self.now.state ≡ true) (λ id. (has_no_ids self.now.state ≡ false) × (id.0 ≡ self.now.state.next_id)) }
+    {
+        self.rows.next_id()
+    }
+
+    /// The id of the next new node; `None` where the volume is full or the ids have ended.
+    #[tactic(auto, unfolding(afp_volume::specs::Calls::has_no_room))]
+    pub(crate) fn room(&self) -> Option<NodeId>
+        ensures { MatchOption result (has_no_room self.now.state ≡ true) (λ id. (has_no_room self.now.state ≡ false) × (id.0 ≡ self.now.state.next_id)) }
+    {
+        if self.count() >= MOST_NODES {
+            return None;
+        }
+        self.next()
+    }
+
     /// The directory in which a node is.
     pub(crate) fn parent(&self, id: NodeId) -> Option<NodeId>
         ensures { IsFound result (parent_at self.now.state.rows id.0) }
@@ -89,6 +125,16 @@ impl Volume {
         match self.rows.get(id) {
             Some(node) => Some(node.parent),
             None => None,
+        }
+    }
+
+    /// The directory in which a node is; the root's parent where there is no such node.
+    pub(crate) fn directory(&self, id: NodeId) -> NodeId
+        ensures { result.0 ≡ directory_of self.now.state.rows id.0 }
+    {
+        match self.parent(id) {
+            Some(up) => up,
+            None => ROOT_PARENT,
         }
     }
 

@@ -1,12 +1,21 @@
 //! The tree of a volume: its nodes with their forks, what calls find in it, and what they do to it.
 #![tactic(auto)]
 
+mod apply;
 mod asked;
+mod create_dir;
+mod create_file;
+mod delete;
 mod forks;
 mod head;
+mod move_and_rename;
+mod places;
+mod plan;
+mod rename;
 mod resolve;
 mod volume;
 
 pub use head::VolumeHead;
+pub use plan::Plan;
 pub use resolve::PlanFault;
 pub use volume::Volume;

@@ -1,0 +1,101 @@
+-- The plans of FPCreateDir and FPCreateFile.
+use Rattle.std.proofs.Common.{◌==◌, ◌≡◌, ◌∙◌, ap, sym, subst, refl, ℕ, ◌+◌, Bool, true, false, not, ◌&&◌, List, Option, Some, None}
+use Rattle.std.specs.Prelude.{pos, Ok, IfSome, option_map, bytes_eq}
+use Rattle.std.specs.List.{list_all, find}
+use Rattle.std.proofs.lemmas.Bool.{and_parts, and_from, eqb-true, eq-eqb}
+use Rattle.std.proofs.lemmas.Slice.Eq.{bytes_eq-Decides}
+use Rattle.afp_base.specs.declared.ids.NodeId.{NodeId}
+use Rattle.afp_names.specs.Name.{name_key}
+use Rattle.afp_names.specs.Path.{PathValue}
+use Rattle.afp_volume.proofs.CreateFile.{find-only}
+use Rattle.afp_volume.proofs.TestedLists.{none-find}
+use Rattle.afp_volume.proofs.Walks.{MappedFrom, mapped-from, find-there}
+use Rattle.afp_volume.specs.Calls.{done_at, created}
+use Rattle.afp_volume.specs.CreateDir.{create_dir_effect}
+use Rattle.afp_volume.specs.CreateFile.{create_file_effect, without_replaced}
+use Rattle.afp_volume.specs.Edits.{changed_at, children_changed, without_node, with_new, new_row, without}
+use Rattle.afp_volume.specs.SoundVolume.{IsSoundVolume, has_node, has_apart_names, are_named_alike}
+use Rattle.afp_volume.specs.VolumeState.{Row, VolumeState}
+use Rattle.afp_volume.specs.Walk.{Place, new_place, child_by_key}
+use Rattle.volume_tree.specs.Answered.{IsFound, option_id}
+use Rattle.volume_tree.specs.Planned.{PlanState, IsPlan, IsNew, planned, plan_new, gone_rows}
+
+-- a plan of a new node is what creates it
+new-planned : (v : VolumeState) (now : ℕ) (dir : Bool) (id parent : NodeId) (name : List ℕ) → id.0 ≡ v.next_id → planned (plan_new now dir id parent name None) v ≡ created dir now v (record { dir = parent.0; name = name })
+unfolding planned
+new-planned v now dir id parent name id_is = ap (λ n. planned (plan_new now dir (record { 0 = n }) parent name None) v) id_is
+
+pub create-dir-planned : (v : VolumeState) (now dir : ℕ) (path : PathValue) (id parent : NodeId) (name : List ℕ) → new_place v.rows dir path ≡ Ok (record { dir = parent.0; name = name }) → id.0 ≡ v.next_id
+    → planned (plan_new now true id parent name None) v ≡ create_dir_effect v now dir path
+unfolding create_dir_effect
+create-dir-planned v now dir path id parent name place id_is = new-planned v now true id parent name id_is ∙ sym (ap (λ r. done_at r v (created true now v)) place)
+
+pub create-dir-plan : (v : VolumeState) (now dir : ℕ) (path : PathValue) (id parent : NodeId) (name : List ℕ) → new_place v.rows dir path ≡ Ok (record { dir = parent.0; name = name }) → id.0 ≡ v.next_id
+    → child_by_key v.rows parent.0 (name_key name) ≡ None → IsSoundVolume (create_dir_effect v now dir path) → IsPlan v (plan_new now true id parent name None)
+create-dir-plan v now dir path id parent name place id_is free sound = record {
+  gone = tt;
+  come = record { id = id_is; free = free; plain = refl };
+  moved = tt;
+  sound = subst IsSoundVolume (sym (create-dir-planned v now dir path id parent name place id_is)) sound;
+}
+
+-- a name is free once the one child that had its key is gone
+freed : (v : VolumeState) (dir : ℕ) (key : List ℕ) (old : ℕ) → has_apart_names v ≡ true → child_by_key v.rows dir key ≡ Some old → child_by_key (without old v.rows) dir key ≡ None
+unfolding child_by_key has_apart_names
+freed v dir key old apart h =
+    let test : Row → Bool = λ (row : Row). (row.parent == dir) && bytes_eq (name_key row.name) key in
+    let m : MappedFrom (λ (row : Row). row.id) (find test v.rows) old = mapped-from (λ (row : Row). row.id) (find test v.rows) old h in
+    let none : list_all (λ row. not (test row)) (without old v.rows) ≡ true =
+    subst (λ q. list_all (λ row. not (test row)) (without q v.rows) ≡ true) m.gives
+    (find-only are_named_alike test v.rows m.value (λ a b is_a is_b.
+    let e = and_parts (a.parent == dir) (bytes_eq (name_key a.name) key) is_a in
+    let f = and_parts (b.parent == dir) (bytes_eq (name_key b.name) key) is_b in
+    and_from (a.parent == b.parent) (bytes_eq (name_key a.name) (name_key b.name))
+    (eq-eqb a.parent b.parent (eqb-true a.parent dir e.0 ∙ sym (eqb-true b.parent dir f.0)))
+    ((bytes_eq-Decides (name_key a.name) (name_key b.name)).1 ((bytes_eq-Decides (name_key a.name) key).0 e.1 ∙ sym ((bytes_eq-Decides (name_key b.name) key).0 f.1))))
+    apart m.was) in
+    ap (option_map (λ (row : Row). row.id)) (none-find test (without old v.rows) none)
+
+-- a child that is found by key is a node
+child-there : (rows : List Row) (dir : ℕ) (key : List ℕ) (old : ℕ) → child_by_key rows dir key ≡ Some old → has_node rows old ≡ true
+unfolding child_by_key
+child-there rows dir key old h =
+    let test : Row → Bool = λ (row : Row). (row.parent == dir) && bytes_eq (name_key row.name) key in
+    let m : MappedFrom (λ (row : Row). row.id) (find test rows) old = mapped-from (λ (row : Row). row.id) (find test rows) old h in
+    subst (λ q. has_node rows q ≡ true) m.gives (find-there test rows m.value m.was)
+
+file-planned : (v : VolumeState) (now : ℕ) (id parent : NodeId) (name : List ℕ) (gone : Option NodeId) → id.0 ≡ v.next_id → planned (plan_new now false id parent name gone) v ≡ created false now (without_replaced v (option_id gone)) (record { dir = parent.0; name = name })
+unfolding planned
+file-planned v now id parent name None id_is = ap (λ n. planned (plan_new now false (record { 0 = n }) parent name None) v) id_is
+file-planned v now id parent name (Some old) id_is = ap (λ n. planned (plan_new now false (record { 0 = n }) parent name (Some old)) v) id_is
+
+pub create-file-planned : (v : VolumeState) (now dir : ℕ) (path : PathValue) (id parent : NodeId) (name : List ℕ) (gone : Option NodeId) → new_place v.rows dir path ≡ Ok (record { dir = parent.0; name = name }) → id.0 ≡ v.next_id
+    → child_by_key v.rows parent.0 (name_key name) ≡ option_id gone → planned (plan_new now false id parent name gone) v ≡ create_file_effect v now dir path
+unfolding create_file_effect
+create-file-planned v now dir path id parent name gone place id_is old =
+    file-planned v now id parent name gone id_is
+    ∙ ap (λ o. created false now (without_replaced v o) (record { dir = parent.0; name = name })) (sym old)
+    ∙ sym (ap (λ r. done_at r v (λ (at_place : Place). created false now (without_replaced v (child_by_key v.rows at_place.dir (name_key at_place.name))) at_place)) place)
+
+new-file : (v : VolumeState) (now : ℕ) (id parent : NodeId) (name : List ℕ) (gone : Option NodeId) → has_apart_names v ≡ true → id.0 ≡ v.next_id → child_by_key v.rows parent.0 (name_key name) ≡ option_id gone
+    → IsNew (gone_rows gone v.rows) v.next_id (new_row false id.0 parent.0 name now)
+new-file v now id parent name None apart id_is old = record { id = id_is; free = old; plain = refl }
+new-file v now id parent name (Some g) apart id_is old = record { id = id_is; free = freed v parent.0 (name_key name) g.0 apart old; plain = refl }
+
+gone-there : (rows : List Row) (dir : ℕ) (key : List ℕ) (gone : Option NodeId) → child_by_key rows dir key ≡ option_id gone → IfSome gone (λ (id : NodeId). has_node rows id.0 ≡ true)
+gone-there rows dir key None old = tt
+gone-there rows dir key (Some g) old = child-there rows dir key g.0 old
+
+pub create-file-plan : (v : VolumeState) (now dir : ℕ) (path : PathValue) (id parent : NodeId) (name : List ℕ) (gone : Option NodeId) → new_place v.rows dir path ≡ Ok (record { dir = parent.0; name = name }) → id.0 ≡ v.next_id
+    → child_by_key v.rows parent.0 (name_key name) ≡ option_id gone → IsSoundVolume v → IsSoundVolume (create_file_effect v now dir path) → IsPlan v (plan_new now false id parent name gone)
+create-file-plan v now dir path id parent name gone place id_is old s sound = record {
+  gone = gone-there v.rows parent.0 (name_key name) gone old;
+  come = new-file v now id parent name gone s.names id_is old;
+  moved = tt;
+  sound = subst IsSoundVolume (sym (create-file-planned v now dir path id parent name gone place id_is old)) sound;
+}
+
+-- a child, by what was answered of it
+pub child-answered : (o : Option NodeId) (wanted : Option ℕ) → IsFound o wanted → wanted ≡ option_id o
+child-answered None wanted is = is
+child-answered (Some id) wanted is = is

@@ -1,0 +1,34 @@
+-- Another modified date of a row that was found.
+use Rattle.std.proofs.Common.{◌==◌, ◌≡◌, ◌∙◌, ap, sym, refl, ℕ, Bool, true, false, cond, List, [], ◌∷◌, map, Option, Some, None}
+use Rattle.std.specs.Prelude.{pos}
+use Rattle.std.specs.List.{find}
+use Rattle.std.proofs.lemmas.Bool.{cond_both, cond-false}
+use Rattle.node_rows.specs.Kept.{marked}
+use Rattle.node_rows.specs.declared.node.Marks.{Marks}
+use Rattle.afp_volume.proofs.Orders.{rising-ids-differ}
+use Rattle.afp_volume.proofs.SoundEdits.{changed-same}
+use Rattle.afp_volume.specs.Edits.{with_changed, change_at, modified_at}
+use Rattle.afp_volume.specs.SoundVolume.{has_rising_ids}
+use Rattle.afp_volume.specs.VolumeState.{Row}
+use Rattle.afp_volume.specs.Walk.{row_at}
+use Rattle.volume_tree.specs.Kept.{IsMarks, marks_in}
+
+-- where no row has the id, nothing changes
+pub changed-missing : (rows : List Row) (id : ℕ) (change : Row → Row) → row_at rows id ≡ None → with_changed id change rows ≡ rows
+unfolding row_at with_changed
+changed-missing [] id change found = refl
+changed-missing (row ∷ rows) id change found =
+    cond_both (row.id == id) (Some row) (find (λ (r : Row). r.id == id) rows)
+    (λ o. o ≡ None → change_at id change row ∷ map (change_at id change) rows ≡ row ∷ rows)
+    (λ here h. absurd (cc))
+    (λ other h. λ i. cond-false (row.id == id) (change row) row other i ∷ changed-missing rows id change h i)
+    found
+
+-- other marks of a row that was found are a change of it
+pub marked-same : (rows : List Row) (id : ℕ) (marks : Marks) (change : Row → Row) (s : Row) → has_rising_ids rows ≡ true → row_at rows id ≡ Some s → marked marks s ≡ change s → with_changed id (marked marks) rows ≡ with_changed id change rows
+unfolding row_at with_changed
+marked-same rows id marks change s rising found same = changed-same rows id (marked marks) change s (rising-ids-differ rows rising) found same
+
+pub dated-same : (rows : List Row) (id now : ℕ) (marks new : Marks) → has_rising_ids rows ≡ true → IsMarks (Some marks) (row_at rows id) → new ≡ record marks { modified = pos now } → with_changed id (marked new) rows ≡ with_changed id (modified_at now) rows
+dated-same rows id now marks new rising found is =
+    marked-same rows id new (modified_at now) found.0 rising found.1 (ap (λ (m : Marks). marked m found.0) (is ∙ ap (λ (m : Marks). let n : Marks = record m { modified = pos now } in n) found.2))

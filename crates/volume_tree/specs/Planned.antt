@@ -1,0 +1,93 @@
+-- What a call will do to a volume (the form is this profile's).
+use Rattle.std.specs.Prelude.{◌≡◌, ℕ, pos, ◌+◌, ◌==◌, Bool, true, false, not, List, [], ◌∷◌, ◌++◌, Option, Some, None, IfSome}
+use Rattle.std.specs.List.{filter}
+use Rattle.afp_base.specs.declared.ids.NodeId.{NodeId}
+use Rattle.afp_names.specs.Name.{name_key}
+use Rattle.afp_volume.specs.VolumeState.{Row, VolumeState, Comment, Appl}
+use Rattle.afp_volume.specs.SoundVolume.{IsSoundVolume, has_node}
+use Rattle.afp_volume.specs.Walk.{child_by_key}
+use Rattle.afp_volume.specs.Edits.{bare, is_taken, with_changed, without, at_place, modified_at, new_row}
+
+-- the new place of a node
+pub record Move : Type 0 where
+  pub id : ℕ
+  pub parent : ℕ
+  pub name : List ℕ
+
+-- what a call found and will do: a node goes, one comes, one gets another place, and directories whose children change get the moment as their
+-- modified date
+pub record PlanState : Type 0 where
+  pub now : ℕ
+  pub gone : Option NodeId
+  pub come : Option Row
+  pub moved : Option Move
+  pub dated : Option NodeId
+  pub dated_too : Option NodeId
+
+-- whether a node goes
+abbrev pub is_gone : Option NodeId → ℕ → Bool
+is_gone None id = false
+is_gone (Some gone) id = id == gone.0
+
+-- rows, comments and APPL rows without the node that goes
+abbrev pub gone_rows : Option NodeId → List Row → List Row
+gone_rows None rows = rows
+gone_rows (Some gone) rows = without gone.0 rows
+
+abbrev pub gone_comments : Option NodeId → List Comment → List Comment
+gone_comments None comments = comments
+gone_comments (Some gone) comments = filter (λ (comment : Comment). not (comment.node == gone.0)) comments
+
+abbrev pub gone_appls : Option NodeId → List Appl → List Appl
+gone_appls None appls = appls
+gone_appls (Some gone) appls = filter (λ (appl : Appl). not (appl.node == gone.0)) appls
+
+-- rows with the node that comes, and the next id behind its
+abbrev pub come_rows : Option Row → List Row → List Row
+come_rows None rows = rows
+come_rows (Some row) rows = rows ++ row ∷ []
+
+abbrev pub next_after : Option Row → ℕ → ℕ
+next_after None next = next
+next_after (Some row) next = next + 1
+
+-- rows with the node at its new place
+abbrev pub moved_rows : Option Move → List Row → List Row
+moved_rows None rows = rows
+moved_rows (Some move) rows = with_changed move.id (at_place move.parent move.name) rows
+
+-- rows with another modified date of a directory
+abbrev pub dated_rows : ℕ → Option NodeId → List Row → List Row
+dated_rows now None rows = rows
+dated_rows now (Some dir) rows = with_changed dir.0 (modified_at now) rows
+
+-- a volume after what was planned
+unfoldable pub planned : PlanState → VolumeState → VolumeState
+planned p v = record v {
+  modified = pos p.now;
+  next_id = next_after p.come v.next_id;
+  rows = dated_rows p.now p.dated_too (dated_rows p.now p.dated (moved_rows p.moved (come_rows p.come (gone_rows p.gone v.rows))));
+  comments = gone_comments p.gone v.comments;
+  appls = gone_appls p.gone v.appls;
+}
+
+-- a row with the next id and no bytes, whose name is free in its directory
+pub record IsNew (rows : List Row) (next : ℕ) (row : Row) : Type 0 where
+  pub id : row.id ≡ next
+  pub free : child_by_key rows row.parent (name_key row.name) ≡ None
+  pub plain : bare row ≡ row
+
+-- a plan of this volume as it is
+pub record IsPlan (v : VolumeState) (p : PlanState) : Type 0 where
+  pub gone : IfSome p.gone (λ (id : NodeId). has_node v.rows id.0 ≡ true)
+  pub come : IfSome p.come (IsNew (gone_rows p.gone v.rows) v.next_id)
+  pub moved : IfSome p.moved (λ (move : Move). is_taken (come_rows p.come (gone_rows p.gone v.rows)) move.id move.parent move.name ≡ false)
+  pub sound : IsSoundVolume (planned p v)
+
+-- a new file or directory, in the place of a node that goes
+abbrev pub plan_new : ℕ → Bool → NodeId → NodeId → List ℕ → Option NodeId → PlanState
+plan_new now dir id parent name gone = record { now = now; gone = gone; come = Some (new_row dir id.0 parent.0 name now); moved = None; dated = Some parent; dated_too = None }
+
+-- a node's new place, and the directories whose children change
+abbrev pub plan_place : ℕ → NodeId → NodeId → List ℕ → NodeId → Option NodeId → PlanState
+plan_place now id parent name dated dated_too = record { now = now; gone = None; come = None; moved = Some (record { id = id.0; parent = parent.0; name = name }); dated = Some dated; dated_too = dated_too }

@@ -1,0 +1,83 @@
+//! FPDelete.
+ghost use Rattle.std.specs.Prelude.{◌≡◌, Ok, IfOk};
+ghost use Rattle.afp_volume.specs.Calls.{is_busy, directory_of};
+ghost use Rattle.afp_volume.specs.Delete.{delete_refusal, delete_effect};
+ghost use Rattle.afp_volume.specs.Walk.{found};
+ghost use Rattle.volume_tree.specs.Answered.{Refuses};
+ghost use Rattle.volume_tree.specs.Planned.{IsPlan, planned};
+ghost use Rattle.volume_tree.specs.Shown.{opened};
+
+use crate::asked::is_busy;
+use crate::plan::Plan;
+use crate::resolve::PlanFault;
+use crate::volume::{ROOT, Volume};
+use afp_base::{Code, Moment, NodeId};
+use afp_names::Path;
+use afp_volume::laws::{calls_keep_volumes_sound, rows_are_changed_in_place};
+use std::alloc::Global;
+
+/// The attribute of a node that may not be deleted (AFP Reference, "File attributes").
+pub(crate) const DELETE_INHIBIT: u16 = 0x0100;
+
+impl Volume {
+    /// Why FPDelete is refused, or the plan of it.
+    pub(crate) fn plan_delete(
+        &self,
+        alloc: Global,
+        now: Moment,
+        opens: &[(NodeId, bool)],
+        dir: NodeId,
+        path: &Path,
+    ) -> Result<Plan, PlanFault>
+        ensures refused { Refuses result (delete_refusal self.now.state (opened opens.now) dir.0 path.now) }
+        ensures effect { IfOk result (λ plan. planned plan self.now.state ≡ delete_effect self.now.state now dir.0 path.now) }
+        ensures plan { IfOk result (λ plan. IsPlan self.now.state plan) }
+    {
+        calls_keep_volumes_sound();
+        rows_are_changed_in_place();
+        self.keeps_sound();
+        let id = match self.deleted(alloc, opens, dir, path) {
+            Ok(id) => id,
+            Err(fault) => return Err(fault),
+        };
+        Ok(Plan {
+            now,
+            gone: Some(id),
+            come: None,
+            moved: None,
+            dated: Some(self.directory(id)),
+            dated_too: None,
+        })
+    }
+
+    /// What FPDelete deletes, or why it is refused.
+    #[tactic(auto, unfolding(afp_volume::specs::Delete::delete_refusal))]
+    fn deleted(
+        &self,
+        alloc: Global,
+        opens: &[(NodeId, bool)],
+        dir: NodeId,
+        path: &Path,
+    ) -> Result<NodeId, PlanFault>
+        ensures refused { Refuses result (delete_refusal self.now.state (opened opens.now) dir.0 path.now) }
+        ensures found { IfOk result (λ id. found self.now.state.rows dir.0 path.now ≡ Ok id.0) }
+    {
+        let id = match self.resolve(alloc, dir, path) {
+            Ok(id) => id,
+            Err(fault) => return Err(fault),
+        };
+        if id.0 == ROOT.0 {
+            return Err(PlanFault::Code(Code::AccessDenied));
+        }
+        if self.has(DELETE_INHIBIT, id) {
+            return Err(PlanFault::Code(Code::ObjectLocked));
+        }
+        if is_busy(opens, id) {
+            return Err(PlanFault::Code(Code::FileBusy));
+        }
+        if self.has_children(id) {
+            return Err(PlanFault::Code(Code::DirNotEmpty));
+        }
+        Ok(id)
+    }
+}

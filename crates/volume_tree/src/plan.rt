@@ -1,0 +1,70 @@
+//! What calls will do to a volume.
+ghost use Rattle.std.specs.Prelude.{◌≡◌};
+ghost use Rattle.afp_volume.specs.Edits.{at_place};
+
+use afp_base::{Bytes, Moment, NodeId};
+use afp_names::Name;
+use node_rows::Node;
+use std::marker::Model;
+
+/// A new node, and the key of its name.
+#[derive(Drop)]
+pub(crate) struct Comer {
+    pub node: Node,
+    pub key: Bytes,
+}
+
+impl Model for Comer {
+    ghost use Rattle.std.specs.Prelude.{◌≡◌};
+    ghost use Rattle.afp_names.specs.Name.{name_key};
+    ghost use Rattle.afp_volume.specs.VolumeState.{Row};
+
+    ghost Value = { Row };
+
+    ghost view = { λ a. a.node };
+
+    ghost invariant = { λ a. a.key ≡ name_key a.node.name };
+}
+
+/// A node's new place, and the key of its name there.
+#[derive(Drop)]
+pub(crate) struct Mover {
+    pub id: NodeId,
+    pub parent: NodeId,
+    pub name: Name,
+    pub key: Bytes,
+}
+
+impl Model for Mover {
+    ghost use Rattle.std.specs.Prelude.{◌≡◌};
+    ghost use Rattle.afp_names.specs.Name.{name_key};
+    ghost use Rattle.volume_tree.specs.Planned.{Move};
+
+    ghost Value = { Move };
+
+    ghost view = { λ a. record { id = a.id.0; parent = a.parent.0; name = a.name } };
+
+    ghost invariant = { λ a. a.key ≡ name_key a.name };
+}
+
+/// What a call will do to a volume, all that it takes memory for included.
+///
+/// Contracts see what the call found: the node that goes, the one that comes, the one that gets
+/// another place, and the directories whose children change.
+#[derive(Drop)]
+pub struct Plan {
+    pub(crate) now: Moment,
+    pub(crate) gone: Option<NodeId>,
+    pub(crate) come: Option<Comer>,
+    pub(crate) moved: Option<Mover>,
+    pub(crate) dated: Option<NodeId>,
+    pub(crate) dated_too: Option<NodeId>,
+}
+
+impl Model for Plan {
+    ghost use Rattle.volume_tree.specs.Planned.{PlanState};
+
+    ghost Value = { PlanState };
+
+    ghost view = { λ a. record { now = a.now; gone = a.gone; come = a.come; moved = a.moved; dated = a.dated; dated_too = a.dated_too } };
+}
