@@ -2,5 +2,6 @@ pub mod Gate
 pub mod Link
 pub mod Listener
 pub mod Sink
+pub mod Source
 pub mod Tape
 pub mod Tcp

@@ -5,6 +5,7 @@ use Rattle.afp_base.specs.declared.bytes.OutOfMemory.{OutOfMemory}
 use Rattle.afp_base.specs.Counts.{counted}
 use Rattle.afp_outside.specs.Link.{Event, piece, quiet, LinkState, IsFresh}
 use Rattle.afp_outside.specs.Sink.{SinkState}
+use Rattle.afp_outside.specs.Source.{SourceState}
 use Rattle.afp_outside.specs.declared.link.Heard.{Heard}
 use Rattle.afp_outside.specs.declared.link.Heard.TheVariants.{Got, Quiet, End, Failed}
 use Rattle.afp_outside.specs.declared.link.Wrote.{Wrote}
@@ -205,4 +206,42 @@ accepted_of (link ∷ links) = Link link
 pub record TapeAccepts (old : TapeDoor) (result : Accepted Tape) (new : TapeDoor) : Type 0 where
   pub answer : result ≡ (if fails old.calls then AcceptFailed else accepted_of old.coming)
   pub coming : new.coming ≡ (if fails old.calls then old.coming else drop 1 old.coming)
+  pub calls : new.calls ≡ after_call old.calls
+
+-- The bytes that reads gave, and those that they have left.
+pub record Remaining : Type 0 where
+  pub given : List ℕ
+  pub coming : List ℕ
+
+-- A source in memory, and its plan: `reads` are the most bytes that each read to come takes.
+pub record SourceTape : Type 0 where
+  pub given : List ℕ
+  pub coming : List ℕ
+  pub ended : Bool
+  pub faults : ℕ
+  pub reads : List ℕ
+  pub calls : Calls
+
+-- it tells all
+abbrev pub source_of : SourceTape → SourceState
+source_of source = record { given = Some source.given; coming = Some source.coming; ended = source.ended; faults = source.faults }
+
+-- a source in memory that was not read
+abbrev pub fresh_source : List ℕ → List ℕ → List ℕ → SourceTape
+fresh_source bytes reads failing = record { given = []; coming = bytes; ended = false; faults = 0; reads = reads; calls = record { failing = failing; made = 0 } }
+
+-- the most bytes that the next read into a room takes: 1 at least, and all that fits where the sizes have ended
+abbrev pub source_read_size : List ℕ → ℕ → ℕ
+source_read_size [] room = room
+source_read_size (size ∷ sizes) room = min (max 1 size) room
+
+-- what a read of at most so many bytes hears, of the bytes still coming
+abbrev pub source_heard : ℕ → List ℕ → Heard
+source_heard most [] = End
+source_heard most (byte ∷ bytes) = Got (min most (length (byte ∷ bytes)))
+
+-- A read follows the plan; one that fails uses up no size.
+pub record TapeSourceReads (old : SourceTape) (room : ℕ) (heard : Heard) (new : SourceTape) : Type 0 where
+  pub answer : heard ≡ (if fails old.calls then Failed else source_heard (source_read_size old.reads room) old.coming)
+  pub reads : new.reads ≡ (if fails old.calls then old.reads else drop 1 old.reads)
   pub calls : new.calls ≡ after_call old.calls

@@ -106,6 +106,31 @@ fn expect_report(rt: &impl Abort, sink: &mut TapeSink) {
     assert_eq!(rt; sink.written(), b"hel".as_slice());
 }
 
+/// What each read of a source in turn hears, and its bytes.
+fn source_reads() -> &'static [(Heard, &'static str)] {
+    &[
+        (Heard::Got(2), "ab"),
+        (Heard::Failed, ""),
+        (Heard::Got(1), "c"),
+        (Heard::End, ""),
+    ]
+}
+
+/// A source that gives two bytes, fails, and gives the rest.
+fn planned_source(alloc: Global) -> Result<TapeSource, OutOfMemory> {
+    let mut bytes = Bytes::new(alloc);
+    bytes.extend(b"abc")?;
+    TapeSource::new(bytes, [2].to_vec(alloc)?, [1].to_vec(alloc)?)
+}
+
+fn expect_source(rt: &impl Abort, source: &mut TapeSource) {
+    for (heard, text) in source_reads() {
+        let mut room = [0; 8];
+        assert_eq!(rt; source.read(&mut room), *heard);
+        assert!(rt; room.as_slice().starts_with(text.as_bytes()));
+    }
+}
+
 /// What each accept in turn tells, and the first byte of its link.
 fn accepts() -> &'static [(&'static str, u8)] {
     &[("failed", 0), ("link", b'a'), ("closed", 0)]
@@ -140,10 +165,11 @@ fn expect_accepts(rt: &impl Abort, door: &mut TapeListener) {
 }
 
 #[test]
-fn doors_and_sinks_follow_their_plans(rt: HostRuntime) -> Result<(), Fail> {
+fn doors_sources_and_sinks_follow_their_plans(rt: HostRuntime) -> Result<(), Fail> {
     assert!(rt; matches!(TcpDoor::closed(rt).accept(), Accepted::Closed));
     expect_accepts(&rt, &mut planned_door(rt.alloc())?);
     expect_report(&rt, &mut planned_sink(rt.alloc())?);
+    expect_source(&rt, &mut planned_source(rt.alloc())?);
     Ok(())
 }
 
