@@ -2,6 +2,7 @@ pub mod Buffers
 pub mod Moving
 pub mod Passing
 pub mod Rows
+pub mod Tallies
 pub mod Traces
 pub mod Serving
 pub mod Moments

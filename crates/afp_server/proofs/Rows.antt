@@ -15,8 +15,11 @@ use Rattle.dsi_frame.specs.Frame.{Frame, canonical_frame}
 use Rattle.afp_server.specs.Calls.{CallTold}
 use Rattle.afp_server.specs.Did.{Did}
 use Rattle.afp_server.specs.OpenSession.{OpenTold, option_bytes}
-use Rattle.afp_server.specs.Replies.{reply_to, listed, spelling_of}
+use Rattle.afp_server.specs.Replies.{code_word, reply_to, listed, spelling_of}
 use Rattle.afp_server.specs.Script.{ReplyDoes, FrameDoes, Does}
+use Rattle.afp_server.specs.Tally.{tallied, and_told, and_reply, replies_after, refused_after}
+use Rattle.afp_server.specs.declared.tally.Tally.{Tally}
+use Rattle.afp_server.proofs.Tallies.{tallied-none, tallied-reply}
 use Rattle.afp_server.specs.SessionState.{SessionState, Acts, CalledBy, PulseTold, RestsBy, IsCall, IsCallAnswer, IsOpenAnswer}
 use Rattle.dsi_session.specs.Pulse.{silence_limit, seconds_between}
 use Rattle.afp_server.specs.declared.stage.Rest.{Rest}
@@ -46,99 +49,111 @@ does-reply block now Closing f did live is row = absurd (live refl)
 pub went-nothing : (a : Shown) (steps : List Step) → steps ≡ [] → Went a steps a
 went-nothing a steps none = subst (λ (ss : List Step). Went a ss a) (sym none) (went-none a)
 
-pub acts-still : (old new : SessionState) (a : Shown) (did : Did) → new.block ≡ old.block → new.stage ≡ did.stage → new.reply ≡ [] → did.steps ≡ [] → did.reply ≡ None
+pub acts-still : (old new : SessionState) (a : Shown) (did : Did) → new.block ≡ old.block → new.stage ≡ did.stage → new.reply ≡ [] → new.tally ≡ old.tally → did.steps ≡ [] → did.reply ≡ None
     → Acts old a did new a
-acts-still old new a did block stage reply steps none =
+acts-still old new a did block stage reply tally steps none =
     let nothing : new.reply ≡ spelling_of (listed did.reply) = reply ∙ sym (ap (λ (r : Option Frame). spelling_of (listed r)) none) in
-    record { state = λ i. record { block = block i; stage = stage i; reply = nothing i }; went = went-nothing a did.steps steps }
+    let kept : new.tally ≡ tallied old.tally did.steps (listed did.reply) = tally ∙ tallied-none old.tally did.steps did.reply steps none in
+    record { state = λ i. record { block = block i; stage = stage i; reply = nothing i; tally = kept i }; went = went-nothing a did.steps steps }
 
 pub replied : (f : Frame) (o : Option Frame) → o ≡ Some f → canonical_frame f ≡ spelling_of (listed o)
 replied f o is = sym (append-nil (canonical_frame f)) ∙ sym (ap (λ (r : Option Frame). spelling_of (listed r)) is)
 
-pub acts-replies : (old new : SessionState) (a : Shown) (did : Did) (f : Frame) → new.block ≡ old.block → new.stage ≡ did.stage → new.reply ≡ canonical_frame f → did.steps ≡ [] → did.reply ≡ Some f
+pub acts-replies : (old new : SessionState) (a : Shown) (did : Did) (f : Frame) → new.block ≡ old.block → new.stage ≡ did.stage → new.reply ≡ canonical_frame f → new.tally ≡ and_reply f.word old.tally → did.steps ≡ [] → did.reply ≡ Some f
     → Acts old a did new a
-acts-replies old new a did f block stage reply steps some =
+acts-replies old new a did f block stage reply tally steps some =
     let bytes : new.reply ≡ spelling_of (listed did.reply) = reply ∙ replied f did.reply some in
-    record { state = λ i. record { block = block i; stage = stage i; reply = bytes i }; went = went-nothing a did.steps steps }
+    let kept : new.tally ≡ tallied old.tally did.steps (listed did.reply) = tally ∙ tallied-reply old.tally did.steps did.reply f steps some in
+    record { state = λ i. record { block = block i; stage = stage i; reply = bytes i; tally = kept i }; went = went-nothing a did.steps steps }
 
 -- some was
 
-pub acts-asks : (old new : SessionState) (a b : Shown) (did : Did) → new.block ≡ old.block → new.stage ≡ did.stage → new.reply ≡ spelling_of (listed did.reply) → Went a did.steps b
-    → Acts old a did new b
-acts-asks old new a b did block stage reply went = record { state = λ i. record { block = block i; stage = stage i; reply = reply i }; went = went }
+pub acts-asks : (old new : SessionState) (a b : Shown) (did : Did) → new.block ≡ old.block → new.stage ≡ did.stage → new.reply ≡ spelling_of (listed did.reply)
+    → new.tally ≡ tallied old.tally did.steps (listed did.reply) → Went a did.steps b → Acts old a did new b
+acts-asks old new a b did block stage reply tally went = record { state = λ i. record { block = block i; stage = stage i; reply = reply i; tally = tally i }; went = went }
 
 -- what an Open is told
 
-pub opened-session : (f : Frame) (t : Told) (link : LinkNumber) (payload : List ℕ) (new : SessionState) → t ≡ tells.Opened link → payload ≡ option_bytes → new.stage ≡ Open link
-    → new.reply ≡ canonical_frame (reply_to f code.Ok payload) → (x : Frame) × OpenTold f t (Some x) new.stage × (new.reply ≡ canonical_frame x)
-opened-session f t link payload new is same stage reply = (
+pub opened-session : (f : Frame) (t : Told) (link : LinkNumber) (payload : List ℕ) (old : Tally) (new : SessionState) → t ≡ tells.Opened link → payload ≡ option_bytes → new.stage ≡ Open link
+    → new.reply ≡ canonical_frame (reply_to f code.Ok payload) → new.tally ≡ and_reply (code_word code.Ok) old
+    → (x : Frame) × OpenTold f t (Some x) new.stage × (new.reply ≡ canonical_frame x) × (new.tally ≡ and_reply x.word (record old { answered = and_told t old.answered }))
+opened-session f t link payload old new is same stage reply tally = (
   reply_to f code.Ok option_bytes,
   subst (λ (u : Told). OpenTold f u (Some (reply_to f code.Ok option_bytes)) new.stage) (sym is) (refl, stage),
   reply ∙ ap (λ (p : List ℕ). canonical_frame (reply_to f code.Ok p)) same,
+  tally ∙ ap (λ (u : Told). and_reply (code_word code.Ok) (record old { answered = and_told u old.answered })) (sym is),
 )
 
-pub opened-refused : (f : Frame) (t : Told) (c : Code) (block payload : List ℕ) (e : Bool) (new : SessionState) → t ≡ tells.Reply c block e → payload ≡ block → new.stage ≡ Fresh
-    → new.reply ≡ canonical_frame (reply_to f c payload) → (x : Frame) × OpenTold f t (Some x) new.stage × (new.reply ≡ canonical_frame x)
-opened-refused f t c block payload e new is same stage reply = (
+pub opened-refused : (f : Frame) (t : Told) (c : Code) (block payload : List ℕ) (e : Bool) (old : Tally) (new : SessionState) → t ≡ tells.Reply c block e → payload ≡ block → new.stage ≡ Fresh
+    → new.reply ≡ canonical_frame (reply_to f c payload) → new.tally ≡ and_reply (code_word c) old
+    → (x : Frame) × OpenTold f t (Some x) new.stage × (new.reply ≡ canonical_frame x) × (new.tally ≡ and_reply x.word (record old { answered = and_told t old.answered }))
+opened-refused f t c block payload e old new is same stage reply tally = (
   reply_to f c block,
   subst (λ (u : Told). OpenTold f u (Some (reply_to f c block)) new.stage) (sym is) (refl, stage),
   reply ∙ ap (λ (p : List ℕ). canonical_frame (reply_to f c p)) same,
+  tally ∙ ap (λ (u : Told). and_reply (code_word c) (record old { answered = and_told u old.answered })) (sym is),
 )
 
-pub opened-memory : (f : Frame) (t : Told) (new : SessionState) → t ≡ tells.Memory → new.stage ≡ Fresh
-    → new.reply ≡ canonical_frame (reply_to f code.NoMemory []) → (x : Frame) × OpenTold f t (Some x) new.stage × (new.reply ≡ canonical_frame x)
-opened-memory f t new is stage reply = (
+pub opened-memory : (f : Frame) (t : Told) (old : Tally) (new : SessionState) → t ≡ tells.Memory → new.stage ≡ Fresh
+    → new.reply ≡ canonical_frame (reply_to f code.NoMemory []) → new.tally ≡ and_reply (code_word code.NoMemory) (record old { answered = false })
+    → (x : Frame) × OpenTold f t (Some x) new.stage × (new.reply ≡ canonical_frame x) × (new.tally ≡ and_reply x.word (record old { answered = and_told t old.answered }))
+opened-memory f t old new is stage reply tally = (
   reply_to f code.NoMemory [],
   subst (λ (u : Told). OpenTold f u (Some (reply_to f code.NoMemory [])) new.stage) (sym is) (refl, stage),
   reply,
+  tally ∙ ap (λ (u : Told). and_reply (code_word code.NoMemory) (record old { answered = and_told u old.answered })) (sym is),
 )
 
 -- what a call is told
 
 pub called-ends : (f : Frame) (t : Told) (c : Code) (block payload : List ℕ) (e : Bool) (old new : SessionState) → t ≡ tells.Reply c block e → e ≡ true → payload ≡ block → new.stage ≡ Closing
-    → new.reply ≡ canonical_frame (reply_to f c payload) → new.block ≡ old.block → (reply : Option Frame) × CalledBy f t reply old new (Some ends.Closed)
-called-ends f t c block payload e old new is ends_it same stage reply kept = (
+    → new.reply ≡ canonical_frame (reply_to f c payload) → new.block ≡ old.block → new.tally ≡ and_reply (code_word c) old.tally → (reply : Option Frame) × CalledBy f t reply old new (Some ends.Closed)
+called-ends f t c block payload e old new is ends_it same stage reply kept tally = (
   Some (reply_to f c block),
   record {
     called = λ link at. subst (λ (u : Told). CallTold f link u (Some (reply_to f c block)) new.stage (Some ends.Closed)) (sym (is ∙ ap (λ (b : Bool). tells.Reply c block b) ends_it)) (refl, stage, refl);
     replied = reply ∙ ap (λ (p : List ℕ). canonical_frame (reply_to f c p)) same ∙ replied (reply_to f c block) (Some (reply_to f c block)) refl;
     block = kept;
+    tally = tally ∙ ap (λ (u : Told). and_reply (code_word c) (record old.tally { answered = and_told u old.tally.answered })) (sym is);
     goes_on = tt;
   },
 )
 
 pub called-goes_on : (f : Frame) (t : Told) (c : Code) (block payload : List ℕ) (e : Bool) (old new : SessionState) → t ≡ tells.Reply c block e → e ≡ false → payload ≡ block
-    → new ≡ record { block = old.block; stage = old.stage; reply = canonical_frame (reply_to f c payload) } → (reply : Option Frame) × CalledBy f t reply old new None
+    → new ≡ record { block = old.block; stage = old.stage; reply = canonical_frame (reply_to f c payload); tally = and_reply (code_word c) old.tally } → (reply : Option Frame) × CalledBy f t reply old new None
 called-goes_on f t c block payload e old new is stays same state = (
   Some (reply_to f c block),
   record {
     called = λ link at. subst (λ (u : Told). CallTold f link u (Some (reply_to f c block)) new.stage None) (sym (is ∙ ap (λ (b : Bool). tells.Reply c block b) stays)) (refl, ap (λ (s : SessionState). s.stage) state ∙ at, refl);
     replied = ap (λ (s : SessionState). s.reply) state ∙ ap (λ (p : List ℕ). canonical_frame (reply_to f c p)) same ∙ replied (reply_to f c block) (Some (reply_to f c block)) refl;
     block = ap (λ (s : SessionState). s.block) state;
+    tally = ap (λ (s : SessionState). s.tally) state ∙ ap (λ (u : Told). and_reply (code_word c) (record old.tally { answered = and_told u old.tally.answered })) (sym is);
     goes_on = ap (λ (s : SessionState). s.stage) state;
   },
 )
 
 pub called-memory : (f : Frame) (t : Told) (old new : SessionState) → t ≡ tells.Memory
-    → new ≡ record { block = old.block; stage = old.stage; reply = canonical_frame (reply_to f code.NoMemory []) } → (reply : Option Frame) × CalledBy f t reply old new None
+    → new ≡ record { block = old.block; stage = old.stage; reply = canonical_frame (reply_to f code.NoMemory []); tally = and_reply (code_word code.NoMemory) (record old.tally { answered = false }) } → (reply : Option Frame) × CalledBy f t reply old new None
 called-memory f t old new is state = (
   Some (reply_to f code.NoMemory []),
   record {
     called = λ link at. subst (λ (u : Told). CallTold f link u (Some (reply_to f code.NoMemory [])) new.stage None) (sym is) (refl, ap (λ (s : SessionState). s.stage) state ∙ at, refl);
     replied = ap (λ (s : SessionState). s.reply) state ∙ replied (reply_to f code.NoMemory []) (Some (reply_to f code.NoMemory [])) refl;
     block = ap (λ (s : SessionState). s.block) state;
+    tally = ap (λ (s : SessionState). s.tally) state ∙ ap (λ (u : Told). and_reply (code_word code.NoMemory) (record old.tally { answered = and_told u old.tally.answered })) (sym is);
     goes_on = ap (λ (s : SessionState). s.stage) state;
   },
 )
 
 pub called-displaced : (f : Frame) (t : Told) (old new : SessionState) → t ≡ tells.Displaced → old.reply ≡ []
-    → new ≡ record { block = old.block; stage = Closing; reply = old.reply } → (reply : Option Frame) × CalledBy f t reply old new (Some ends.Displaced)
+    → new ≡ record old { stage = Closing } → (reply : Option Frame) × CalledBy f t reply old new (Some ends.Displaced)
 called-displaced f t old new is unreplied state = (
   None,
   record {
     called = λ link at. subst (λ (u : Told). CallTold f link u None new.stage (Some ends.Displaced)) (sym is) (refl, ap (λ (s : SessionState). s.stage) state, refl);
     replied = ap (λ (s : SessionState). s.reply) state ∙ unreplied;
     block = ap (λ (s : SessionState). s.block) state;
+    tally = ap (λ (s : SessionState). s.tally) state ∙ ap (λ (u : Told). record old.tally { answered = and_told u old.tally.answered }) (sym is);
     goes_on = tt;
   },
 )

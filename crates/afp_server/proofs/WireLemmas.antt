@@ -17,6 +17,9 @@ use Rattle.afp_server.specs.LinkRun.{Fills}
 use Rattle.afp_server.specs.Replies.{listed, spelling_of}
 use Rattle.afp_server.specs.Script.{Does, Script}
 use Rattle.afp_server.specs.SessionState.{SessionState}
+use Rattle.afp_server.specs.Tally.{no_tally, tallied}
+use Rattle.afp_server.proofs.Tallies.{tallied-join}
+use Rattle.afp_server.specs.declared.tally.Tally.{Tally}
 use Rattle.afp_server.specs.Wire.{FeedStart, FeedPoint, feed_point, Handled, FedSoFar, FedToEnd, FedTo, Feeds, Answers, end_of_frame}
 use Rattle.afp_server.specs.declared.stage.FrameEnd.{FrameEnd}
 use Rattle.afp_server.specs.declared.stage.FrameEnd.TheVariants as ends
@@ -29,17 +32,18 @@ use Rattle.afp_server.proofs.Traces.{spelling_of-append, fills-one, fills-later}
 
 -- nothing was handled yet
 
-pub handled-none : (start : FeedStart) → Handled start [] None (feed_point start.stage start.out start.shown)
+pub handled-none : (start : FeedStart) → Handled start [] None (feed_point start.stage no_tally start.out start.shown)
 handled-none start = record {
   steps = [];
   replies = [];
   script = (refl, refl, refl, refl);
   moments = All-nil (λ (s : Step). s.at ≡ start.now);
   sent = sym (append-nil start.out);
+  tally = refl;
   went = went-none start.shown;
 }
 
-pub fed-none : (start : FeedStart) (held : Buffered) → GivenOut start.bytes start.past held → FedSoFar start start.bytes held (feed_point start.stage start.out start.shown)
+pub fed-none : (start : FeedStart) (held : Buffered) → GivenOut start.bytes start.past held → FedSoFar start start.bytes held (feed_point start.stage no_tally start.out start.shown)
 fed-none start held given = record {
   frames = [];
   handled = handled-none start;
@@ -52,6 +56,7 @@ pub record HandlesNext (start : FeedStart) (bytes : List ℕ) (held : Buffered) 
   pub does : Does start.block start.now p.stage f did
   pub stage : q.stage ≡ did.stage
   pub sent : q.out ≡ p.out ++ spelling_of (listed did.reply)
+  pub tally : q.tally ≡ tallied p.tally did.steps (listed did.reply)
   pub went : Went p.shown did.steps q.shown
 
 pub handled-next : (start : FeedStart) (bytes : List ℕ) (held : Buffered) (p q : FeedPoint) (f : Frame) (did : Did) (h : HandlesNext start bytes held p f did q)
@@ -67,6 +72,7 @@ handled-next start bytes held p q f did h =
       moments = All-append (λ (s : Step). s.at ≡ start.now) before.steps did.steps before.moments (does-timely start.block start.now p.stage f did h.does).moments;
       sent = h.sent ∙ ap (λ (l : List ℕ). l ++ spelling_of (listed did.reply)) before.sent ∙ append_assoc start.out (spelling_of before.replies) (spelling_of (listed did.reply))
           ∙ ap (λ (l : List ℕ). start.out ++ l) (sym (spelling_of-append before.replies (listed did.reply)));
+      tally = h.tally ∙ ap (λ (t : Tally). tallied t did.steps (listed did.reply)) before.tally ∙ tallied-join no_tally before.steps did.steps before.replies (listed did.reply);
       went = went-join start.shown p.shown q.shown before.steps did.steps before.went h.went;
     }
 
@@ -130,10 +136,10 @@ fed-end start bytes held p q f begins did (ends.Bad reason) h e = inr record {
 -- what the answer to a frame says
 
 next-is : (start : FeedStart) (bytes : List ℕ) (held : Buffered) (now : ℕ) (f g : Frame) (old new : SessionState) (out sent : List ℕ) (before after : Shown) (end : Option FrameEnd)
-    → start.block ≡ old.block → start.now ≡ now → FedSoFar start bytes held (feed_point old.stage out before) → Begins held.rest f → g ≡ f
+    → start.block ≡ old.block → start.now ≡ now → FedSoFar start bytes held (feed_point old.stage old.tally out before) → Begins held.rest f → g ≡ f
     → Answers now g old out before (Ok end) new sent after
-    → (did : Did) × HandlesNext start bytes held (feed_point old.stage out before) f did (feed_point new.stage sent after) × (did.end ≡ end)
-next-is start bytes held now f g old new out sent before after end block moment s begins same (did, does, went, _, stage, replied, is) = (
+    → (did : Did) × HandlesNext start bytes held (feed_point old.stage old.tally out before) f did (feed_point new.stage new.tally sent after) × (did.end ≡ end)
+next-is start bytes held now f g old new out sent before after end block moment s begins same (did, does, went, _, stage, replied, is, tally) = (
   did,
   record {
     so_far = s;
@@ -141,26 +147,27 @@ next-is start bytes held now f g old new out sent before after end block moment 
         (subst (λ (b : List ℕ). Does b start.now old.stage g did) (sym block) (subst (λ (n : ℕ). Does old.block n old.stage g did) (sym moment) does));
     stage = stage;
     sent = replied;
+    tally = tally;
     went = went;
   },
   sym is,
 )
 
 pub next-goes_on : (start : FeedStart) (bytes : List ℕ) (held given : Buffered) (now : ℕ) (f g : Frame) (old new : SessionState) (out sent : List ℕ) (before after : Shown)
-    → start.block ≡ old.block → start.now ≡ now → FedSoFar start bytes held (feed_point old.stage out before) → (begins : Begins held.rest f) → g ≡ f
+    → start.block ≡ old.block → start.now ≡ now → FedSoFar start bytes held (feed_point old.stage old.tally out before) → (begins : Begins held.rest f) → g ≡ f
     → Answers now g old out before (Ok None) new sent after → given ≡ record { place = held.place + length begins.first; rest = begins.more }
-    → FedSoFar start bytes given (feed_point new.stage sent after)
+    → FedSoFar start bytes given (feed_point new.stage new.tally sent after)
 next-goes_on start bytes held given now f g old new out sent before after block moment s begins same a e =
     let next = next-is start bytes held now f g old new out sent before after None block moment s begins same a in
-    fed-next start bytes held given (feed_point old.stage out before) (feed_point new.stage sent after) f begins next.0 next.1 next.2 e
+    fed-next start bytes held given (feed_point old.stage old.tally out before) (feed_point new.stage new.tally sent after) f begins next.0 next.1 next.2 e
 
 pub next-ends : (start : FeedStart) (bytes : List ℕ) (held : Buffered) (now : ℕ) (f g : Frame) (old new : SessionState) (out sent : List ℕ) (before after : Shown) (end : FrameEnd) (answer : WireEnd)
-    → start.block ≡ old.block → start.now ≡ now → FedSoFar start bytes held (feed_point old.stage out before) → (begins : Begins held.rest f) → g ≡ f
-    → Answers now g old out before (Ok (Some end)) new sent after → answer ≡ end_of_frame end held.place → FedTo start bytes answer (feed_point new.stage sent after)
+    → start.block ≡ old.block → start.now ≡ now → FedSoFar start bytes held (feed_point old.stage old.tally out before) → (begins : Begins held.rest f) → g ≡ f
+    → Answers now g old out before (Ok (Some end)) new sent after → answer ≡ end_of_frame end held.place → FedTo start bytes answer (feed_point new.stage new.tally sent after)
 next-ends start bytes held now f g old new out sent before after end answer block moment s begins same a e =
     let next = next-is start bytes held now f g old new out sent before after (Some end) block moment s begins same a in
-    subst (λ (w : WireEnd). FedTo start bytes w (feed_point new.stage sent after)) (sym e)
-    (fed-end start bytes held (feed_point old.stage out before) (feed_point new.stage sent after) f begins next.0 end next.1 next.2)
+    subst (λ (w : WireEnd). FedTo start bytes w (feed_point new.stage new.tally sent after)) (sym e)
+    (fed-end start bytes held (feed_point old.stage old.tally out before) (feed_point new.stage new.tally sent after) f begins next.0 end next.1 next.2)
 
 -- a bad header stands at the front
 pub fed-header : (start : FeedStart) (bytes : List ℕ) (held : Buffered) (p : FeedPoint) (b : BadFrame) → FedSoFar start bytes held p → b.at ≡ held.place
@@ -173,9 +180,9 @@ fed-header start bytes held p b s place bad = inl record {
 
 -- there is no memory for the frame at the front
 pub fed-part : (start : FeedStart) (bytes : List ℕ) (held : Buffered) (p q : FeedPoint) → FedSoFar start bytes held p
-    → q.stage ≡ p.stage → q.out ≡ p.out → q.shown ≡ p.shown → FedTo start bytes wires.Memory q
-fed-part start bytes held p q s stage out shown =
-    let same : p ≡ q = λ i. feed_point (sym stage i) (sym out i) (sym shown i) in
+    → q.stage ≡ p.stage → q.tally ≡ p.tally → q.out ≡ p.out → q.shown ≡ p.shown → FedTo start bytes wires.Memory q
+fed-part start bytes held p q s stage tally out shown =
+    let same : p ≡ q = λ i. feed_point (sym stage i) (sym tally i) (sym out i) (sym shown i) in
     record {
       frames = s.frames;
       handled = subst (λ (x : FeedPoint). Handled start s.frames None x) same s.handled;

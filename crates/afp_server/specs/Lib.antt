@@ -13,4 +13,5 @@ pub mod Trace
 pub mod Reading
 pub mod Sending
 pub mod Serving
+pub mod Tally
 pub mod Wire

@@ -15,23 +15,26 @@ use Rattle.afp_server.specs.Replies.{listed, spelling_of}
 use Rattle.afp_server.specs.Calls.{CallTold}
 use Rattle.dsi_frame.specs.declared.frame.DsiCommand.{DsiCommand}
 use Rattle.afp_server.specs.Script.{Does, OpenDoes}
+use Rattle.afp_server.specs.Tally.{tallied, and_told, replies_after, refused_after}
 use Rattle.afp_server.specs.Trace.{Cause, displaced, silent, Rests}
 use Rattle.afp_server.specs.declared.stage.FrameEnd.{FrameEnd}
 use Rattle.afp_server.specs.declared.stage.Rest.{Rest}
 use Rattle.afp_server.specs.declared.stage.Rest.TheVariants as rests
 use Rattle.afp_server.specs.declared.stage.Stage.{Stage}
 use Rattle.afp_server.specs.declared.stage.Stage.TheVariants as stages
+use Rattle.afp_server.specs.declared.tally.Tally.{Tally}
 
--- the status block of its server, how far its link has come, and the bytes of the reply to its last frame: none, where there is
--- none
+-- the status block of its server, how far its link has come, the bytes of the reply to its last frame: none, where there is
+-- none; and the tally of its frames
 pub record SessionState : Type 0 where
   pub block : List ℕ
   pub stage : Stage
   pub reply : List ℕ
+  pub tally : Tally
 
 -- The machine did this: it asked the steps, and holds the reply.
 pub record Acts (old : SessionState) (before : Shown) (did : Did) (new : SessionState) (after : Shown) : Type 0 where
-  pub state : new ≡ record { block = old.block; stage = did.stage; reply = spelling_of (listed did.reply) }
+  pub state : new ≡ record { block = old.block; stage = did.stage; reply = spelling_of (listed did.reply); tally = tallied old.tally did.steps (listed did.reply) }
   pub went : Went before did.steps after
 
 -- A frame is handled by its row; or it is a call, and there was no memory for a copy of its payload: it was not asked.
@@ -40,14 +43,14 @@ Handles now f old before (Ok end) new after =
     (did : Did) × Does old.block now old.stage f did × Acts old before did new after × (end ≡ did.end)
 Handles now f old before (Err fault) new after =
     (link : LinkNumber) × (old.stage ≡ stages.Open link) × (f.reply ≡ false) × (carries_call f.command ≡ true)
-    × (new.stage ≡ old.stage) × (new.block ≡ old.block) × (after ≡ before)
+    × (new.stage ≡ old.stage) × (new.block ≡ old.block) × (after ≡ before) × (new.tally ≡ old.tally)
 
 -- the same of a request on an open session
 abbrev pub HandlesOpen : ℕ → LinkNumber → DsiCommand → Frame → SessionState → Shown → Result (Option FrameEnd) OutOfMemory → SessionState → Shown → Type 0
 HandlesOpen now link command f old before (Ok end) new after =
     (did : Did) × OpenDoes old.block now link command f did × Acts old before did new after × (end ≡ did.end)
 HandlesOpen now link command f old before (Err fault) new after =
-    (carries_call command ≡ true) × (new.stage ≡ old.stage) × (new.block ≡ old.block) × (after ≡ before)
+    (carries_call command ≡ true) × (new.stage ≡ old.stage) × (new.block ≡ old.block) × (after ≡ before) × (new.tally ≡ old.tally)
 
 -- what a quiet comes to, as a cause
 abbrev pub rest_cause : Rest → Option Cause
@@ -64,7 +67,7 @@ pub record RestsBy (heard now : ℕ) (old : SessionState) (before : Shown) (rest
 
 -- What a Pulse's answer does: a session that was displaced closes its link.
 abbrev pub PulseTold : Told → SessionState → Rest → SessionState → Type 0
-PulseTold tells.Displaced old rest new = (rest ≡ rests.Displaced) × (new ≡ record { block = old.block; stage = stages.Closing; reply = old.reply })
+PulseTold tells.Displaced old rest new = (rest ≡ rests.Displaced) × (new ≡ record old { stage = stages.Closing })
 PulseTold (tells.Opened link) old rest new = (rest ≡ rests.On) × (new ≡ old)
 PulseTold (tells.Reply c block ends) old rest new = (rest ≡ rests.On) × (new ≡ old)
 PulseTold (tells.Live drain) old rest new = (rest ≡ rests.On) × (new ≡ old)
@@ -82,6 +85,7 @@ pub record CalledBy (f : Frame) (told : Told) (reply : Option Frame) (old new : 
   pub called : (link : LinkNumber) → old.stage ≡ stages.Open link → CallTold f link told reply new.stage end
   pub replied : new.reply ≡ spelling_of (listed reply)
   pub block : new.block ≡ old.block
+  pub tally : new.tally ≡ record { replies = replies_after old.tally.replies (listed reply); refused = refused_after old.tally.refused (listed reply); answered = and_told told old.tally.answered }
   pub goes_on : IfNone end (new.stage ≡ old.stage)
 
 -- what a call and an Open may be told: whatever they ask

@@ -1,6 +1,7 @@
 -- What a link that is fed as bytes does (this profile).
 use Rattle.std.specs.Prelude.{◌≡◌, ◌⊎◌, ℕ, ◌+◌, List, [], ◌∷◌, ◌++◌, length, Option, Some, None, Result, Ok, Err, All}
 use Rattle.afp_base.specs.declared.bytes.OutOfMemory.{OutOfMemory}
+use Rattle.afp_base.specs.declared.ids.LinkNumber.{LinkNumber}
 use Rattle.afp_serial.specs.Shown.{Shown}
 use Rattle.afp_serial.specs.Went.{Step, Went}
 use Rattle.dsi_frame.specs.Buffered.{Buffered}
@@ -13,20 +14,29 @@ use Rattle.afp_server.specs.LinkRun.{Fills}
 use Rattle.afp_server.specs.Replies.{listed, spelling_of}
 use Rattle.afp_server.specs.Script.{Does, Script}
 use Rattle.afp_server.specs.SessionState.{SessionState}
+use Rattle.afp_server.specs.Tally.{no_tally, tallied}
 use Rattle.afp_server.specs.declared.stage.FrameEnd.{FrameEnd}
 use Rattle.afp_server.specs.declared.stage.FrameEnd.TheVariants as ends
 use Rattle.afp_server.specs.declared.stage.Stage.{Stage}
 use Rattle.afp_server.specs.declared.stage.Stage.TheVariants as stages
+use Rattle.afp_server.specs.declared.tally.Tally.{Tally}
 use Rattle.afp_server.specs.declared.wire.WireEnd.{WireEnd}
 use Rattle.afp_server.specs.declared.wire.WireEnd.TheVariants as wires
 
--- A wire: its server's status block, what it holds of the bytes fed, how far the link has come, and the end that was answered, if
--- one was.
+-- A wire: its server's status block, what it holds of the bytes fed, how far the link has come, the tally of its last feed, and the
+-- end that was answered, if one was.
 pub record WireState : Type 0 where
   pub block : List ℕ
   pub held : Buffered
   pub stage : Stage
+  pub tally : Tally
   pub end : Option WireEnd
+
+-- the link of the session that is open, if one is
+abbrev pub open_link : Stage → Option LinkNumber
+open_link stages.Fresh = None
+open_link (stages.Open link) = Some link
+open_link stages.Closing = None
 
 -- Where a piece is fed: the status block, the moment, all bytes that were fed before and the frames that were handled of them, how
 -- far the link has come, the bytes in `out`, and what the teller shows.
@@ -39,14 +49,15 @@ pub record FeedStart : Type 0 where
   pub out : List ℕ
   pub shown : Shown
 
--- Where that came to: how far the link has come, the bytes in `out`, and what the teller shows.
+-- Where that came to: how far the link has come, the tally of what was answered since, the bytes in `out`, and what the teller shows.
 pub record FeedPoint : Type 0 where
   pub stage : Stage
+  pub tally : Tally
   pub out : List ℕ
   pub shown : Shown
 
-abbrev pub feed_point : Stage → List ℕ → Shown → FeedPoint
-feed_point stage out shown = record { stage = stage; out = out; shown = shown }
+abbrev pub feed_point : Stage → Tally → List ℕ → Shown → FeedPoint
+feed_point stage tally out shown = record { stage = stage; tally = tally; out = out; shown = shown }
 
 -- The frames were handled in order, each step at that moment, and their replies stand behind what was in `out`; the last frame
 -- may end the link.
@@ -56,6 +67,7 @@ pub record Handled (start : FeedStart) (frames : List Frame) (end : Option Frame
   pub script : Script start.block start.stage frames steps replies p.stage end
   pub moments : All (λ s. s.at ≡ start.now) steps
   pub sent : p.out ≡ start.out ++ spelling_of replies
+  pub tally : p.tally ≡ tallied no_tally steps replies
   pub went : Went start.shown steps p.shown
 
 -- Of all these bytes the frames that were given out were handled, none of them ended the link, and the rest is held.
@@ -116,9 +128,9 @@ Feeds start bytes (Some end) held p = FedTo start bytes end p
 abbrev pub Answers : ℕ → Frame → SessionState → List ℕ → Shown → Result (Option FrameEnd) OutOfMemory → SessionState → List ℕ → Shown → Type 0
 Answers now f old out before (Ok end) new sent after =
     (did : Did) × Does old.block now old.stage f did × Went before did.steps after × (new.block ≡ old.block) × (new.stage ≡ did.stage)
-    × (sent ≡ out ++ spelling_of (listed did.reply)) × (end ≡ did.end)
+    × (sent ≡ out ++ spelling_of (listed did.reply)) × (end ≡ did.end) × (new.tally ≡ tallied old.tally did.steps (listed did.reply))
 Answers now f old out before (Err fault) new sent after =
-    (new.block ≡ old.block) × (new.stage ≡ old.stage) × (sent ≡ out) × (after ≡ before)
+    (new.block ≡ old.block) × (new.stage ≡ old.stage) × (sent ≡ out) × (after ≡ before) × (new.tally ≡ old.tally)
 
 -- why a wire ends, by the frame that ends it, which begins at this place
 abbrev pub end_of_frame : FrameEnd → ℕ → WireEnd

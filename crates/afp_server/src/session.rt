@@ -1,6 +1,6 @@
 //! The session machine of a link: it takes frames, asks a teller, and holds the reply. It knows no bytes on a
 //! link.
-ghost use Rattle.std.specs.Prelude.{◌≡◌, ◌≢◌, ◌<◌, ◌≤◌, [], ◌∷◌, length, Option, Some, IsTrue, IfOk, IfNone, MatchBool};
+ghost use Rattle.std.specs.Prelude.{◌≡◌, ◌≢◌, ◌<◌, ◌≤◌, [], ◌∷◌, length, Option, Some, IsTrue, IfOk, IfNone, MatchBool, false};
 ghost use Rattle.afp_outside.specs.Gate.{in_by};
 ghost use Rattle.afp_serial.specs.StatusBlock.{status_block};
 ghost use Rattle.afp_serial.specs.Went.{Went, step};
@@ -17,13 +17,16 @@ ghost use Rattle.afp_server.specs.OpenSession.{OpensSession};
 ghost use Rattle.afp_server.specs.Passing.{PassesIn, call_link, if_call};
 ghost use Rattle.afp_serial.specs.Shown.{fits_frame};
 ghost use Rattle.afp_server.specs.OpenSession.{OpenTold};
-ghost use Rattle.afp_server.specs.Replies.{reply_to};
+ghost use Rattle.afp_server.specs.Replies.{code_word, reply_to};
 ghost use Rattle.afp_server.specs.Script.{FreshDoes, ReplyDoes};
 ghost use Rattle.afp_server.specs.SessionState.{Acts, Handles, HandlesOpen, CalledBy, RestsBy, PartsBy, PulseTold, IsCall, IsCallAnswer, IsOpenAnswer};
+ghost use Rattle.afp_server.specs.Tally.{no_tally, and_reply, and_told};
+ghost use Rattle.afp_server.specs.Wire.{open_link};
 ghost use Rattle.dsi_frame.specs.Frame.{Frame};
 
 use crate::reply::{MOST_REPLY, put_reply};
 use crate::stage::{FrameEnd, Rest, Stage};
+use crate::tally::Tally;
 use afp_base::{Bytes, Code, LinkNumber, Moment, OutOfMemory};
 use afp_outside::Gate;
 use afp_serial::{Ask, House, Teller, Told};
@@ -37,8 +40,8 @@ const NO_LINK: LinkNumber = LinkNumber(0);
 
 /// A link's session, or that it has none yet; and room for one reply.
 ///
-/// Contracts see the status block of its server, how far the link has come, and the bytes of the reply to the
-/// last frame.
+/// Contracts see the status block of its server, how far the link has come, the bytes of the reply to the last
+/// frame, and the tally of its frames.
 #[derive(Drop)]
 pub struct Session {
     alloc: Global,
@@ -46,6 +49,7 @@ pub struct Session {
     stage: Stage,
     buffer: Vec<u8>,
     size: usize,
+    tally: Tally,
 }
 
 impl Model for Session {
@@ -54,7 +58,7 @@ impl Model for Session {
 
     ghost Value = { SessionState };
 
-    ghost view = { λ s. record { block = s.status; stage = s.stage; reply = take s.size s.buffer.items } };
+    ghost view = { λ s. record { block = s.status; stage = s.stage; reply = take s.size s.buffer.items; tally = s.tally } };
 
     ghost invariant = { λ s. (length s.status ≤ 131072) × (length s.buffer.items ≡ 131088) × (s.size ≤ 131088) };
 }
@@ -92,7 +96,7 @@ fn called_by(command: DsiCommand, link: LinkNumber) -> Option<LinkNumber>
 impl Session {
     /// No session yet. All memory that replies need is taken here.
     pub fn new(alloc: Global, house: &House) -> Result<Session, OutOfMemory>
-        ensures { IfOk result (λ s. s ≡ record { block = status_block house.now; stage = Stage.Fresh; reply = [] }) }
+        ensures { IfOk result (λ s. s ≡ record { block = status_block house.now; stage = Stage.Fresh; reply = []; tally = no_tally }) }
     {
         Ok(Session {
             alloc,
@@ -100,7 +104,47 @@ impl Session {
             stage: Stage::Fresh,
             buffer: vec![in alloc; 0u8; MOST_REPLY]?,
             size: 0,
+            tally: Tally::new(),
         })
+    }
+
+    /// Begins to count anew.
+    pub fn begin_tally(&mut self)
+        ensures { self.new ≡ record self.old { tally = no_tally } }
+    {
+        self.tally = Tally::new();
+    }
+
+    /// What it has counted of its frames.
+    pub fn tally(&self) -> Tally
+        ensures { result ≡ self.now.tally }
+    {
+        self.tally
+    }
+
+    /// Notes what an ask was told.
+    fn note(&mut self, told: &Told)
+        ensures { self.new ≡ record self.old { tally = record self.old.tally { answered = and_told told.now self.old.tally.answered } } }
+    {
+        self.tally = self.tally.and_told(told);
+    }
+
+    /// Notes that an ask was told Memory.
+    fn note_memory(&mut self)
+        ensures { self.new ≡ record self.old { tally = record self.old.tally { answered = false } } }
+    {
+        self.tally = self.tally.and_memory();
+    }
+
+    /// The link of the session that is open, if one is.
+    pub fn open_link(&self) -> Option<LinkNumber>
+        ensures { result ≡ open_link self.now.stage }
+    {
+        match self.stage {
+            Stage::Open(link) => Some(link),
+            Stage::Fresh => None,
+            Stage::Closing => None,
+        }
     }
 
     /// How far the link has come.
@@ -241,7 +285,7 @@ impl Session {
     /// DSIGetStatus: the reply is the status block.
     fn get_status(&mut self, request: &Header) -> Option<FrameEnd>
         ensures is { result ≡ None }
-        ensures reply { self.new ≡ record self.old { reply = canonical_frame (reply_to (frame_of request.now []) Code.Ok self.old.block) } }
+        ensures reply { self.new ≡ record self.old { reply = canonical_frame (reply_to (frame_of request.now []) Code.Ok self.old.block); tally = and_reply (code_word Code.Ok) self.old.tally } }
     {
         self.size = put_reply(
             self.buffer.as_mut_slice(),
@@ -249,6 +293,7 @@ impl Session {
             Code::Ok,
             self.status.as_slice(),
         );
+        self.tally = self.tally.and_reply(Code::Ok);
         None
     }
 
@@ -269,7 +314,8 @@ impl Session {
     {
         match read_options(payload) {
             Ok(options) => {
-                teller.ask(now, NO_LINK, Ask::Pulse);
+                let pulsed = teller.ask(now, NO_LINK, Ask::Pulse);
+                self.note(&pulsed);
                 let told = teller.ask(now, NO_LINK, open_of(options));
                 self.opened(request, told);
             }
@@ -283,7 +329,8 @@ impl Session {
         requires fresh { self.old.stage ≡ Stage.Fresh }
         requires told { IsOpenAnswer told }
         requires size { IsTrue (fits_frame told) }
-        ensures opened { (reply : Frame) × OpenTold (frame_of request.now []) told (Some reply) self.new.stage × (self.new.reply ≡ canonical_frame reply) }
+        ensures opened { (reply : Frame) × OpenTold (frame_of request.now []) told (Some reply) self.new.stage × (self.new.reply ≡ canonical_frame reply)
+            × (self.new.tally ≡ and_reply reply.word (record self.old.tally { answered = and_told told self.old.tally.answered })) }
         ensures block { self.new.block ≡ self.old.block }
         ensures live { self.new.stage ≢ Stage.Closing }
     {
@@ -293,7 +340,10 @@ impl Session {
                 self.answer(request, Code::Ok, &option_bytes());
             }
             Told::Reply { code, block, .. } => self.answer(request, code, block.as_slice()),
-            Told::Memory => self.answer(request, Code::NoMemory, &[]),
+            Told::Memory => {
+                self.note_memory();
+                self.answer(request, Code::NoMemory, &[]);
+            }
             Told::Live { .. } | Told::Done | Told::Displaced => {}
         }
     }
@@ -301,9 +351,10 @@ impl Session {
     /// A reply with this code and payload.
     fn answer(&mut self, request: &Header, code: Code, payload: &[u8])
         requires { length payload.now ≤ 131072 }
-        ensures { self.new ≡ record self.old { reply = canonical_frame (reply_to (frame_of request.now []) code payload.now) } }
+        ensures { self.new ≡ record self.old { reply = canonical_frame (reply_to (frame_of request.now []) code payload.now); tally = and_reply (code_word code) self.old.tally } }
     {
         self.size = put_reply(self.buffer.as_mut_slice(), request, code, payload);
+        self.tally = self.tally.and_reply(code);
     }
 
     /// The call that a request carries: a Write has the offset of its enclosed bytes.
@@ -369,6 +420,7 @@ impl Session {
                 }
             }
             Told::Memory => {
+                self.note_memory();
                 self.answer(request, Code::NoMemory, &[]);
                 None
             }
@@ -391,7 +443,8 @@ impl Session {
         ensures is { result ≡ Some FrameEnd.Closed }
         ensures closes { (did : Did) × ClosesSession now link did × Acts self.old (T.shown teller.old) did self.new (T.shown teller.new) × (result ≡ did.end) }
     {
-        teller.ask(now, link, Ask::Bye);
+        let told = teller.ask(now, link, Ask::Bye);
+        self.note(&told);
         self.close();
         Some(FrameEnd::Closed)
     }

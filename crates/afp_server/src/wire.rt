@@ -6,12 +6,14 @@ ghost use Rattle.dsi_frame.specs.Deframe.{GivenOut};
 ghost use Rattle.dsi_frame.specs.Frame.{Frame, frame_of, header_of};
 ghost use Rattle.dsi_frame.specs.Stream.{Begins};
 ghost use Rattle.afp_server.specs.SessionState.{PartsBy};
-ghost use Rattle.afp_server.specs.Wire.{FeedStart, FedSoFar, Feeds, FeedsFrame, Answers, end_of_frame, feed_point};
+ghost use Rattle.afp_server.specs.Tally.{no_tally};
+ghost use Rattle.afp_server.specs.Wire.{FeedStart, FedSoFar, Feeds, FeedsFrame, Answers, end_of_frame, feed_point, open_link};
 
 use crate::reply::MOST_REPLY;
 use crate::session::Session;
 use crate::stage::{FrameEnd, Stage};
-use afp_base::{Bytes, Moment, OutOfMemory};
+use crate::tally::Tally;
+use afp_base::{Bytes, LinkNumber, Moment, OutOfMemory};
 use afp_outside::{Gate, OpenGate};
 use afp_serial::{House, Teller};
 use dsi_frame::{BadFrame, Deframer, Head, Header};
@@ -33,8 +35,8 @@ pub enum WireEnd {
 
 /// A link as bytes that are fed to it: the replies go into a buffer of the caller's.
 ///
-/// Contracts see the status block of its server, what it holds of the bytes fed, how far the link has come, and the
-/// end that was answered, if one was.
+/// Contracts see the status block of its server, what it holds of the bytes fed, how far the link has come, the tally
+/// of its last feed, and the end that was answered, if one was.
 #[derive(Drop)]
 pub struct Wire {
     deframer: Deframer,
@@ -47,13 +49,13 @@ impl Model for Wire {
 
     ghost Value = { WireState };
 
-    ghost view = { λ w. record { block = w.session.block; held = w.deframer; stage = w.session.stage; end = w.end } };
+    ghost view = { λ w. record { block = w.session.block; held = w.deframer; stage = w.session.stage; tally = w.session.tally; end = w.end } };
 }
 
 impl Wire {
     /// A wire at its first byte. It takes all room that it needs here, but for the copies of calls.
     pub fn new(alloc: Global, house: &House, _now: Moment) -> Result<Wire, OutOfMemory>
-        ensures { IfOk result (λ w. w ≡ record { block = status_block house.now; held = record { place = 0; rest = [] }; stage = Stage.Fresh; end = None }) }
+        ensures { IfOk result (λ w. w ≡ record { block = status_block house.now; held = record { place = 0; rest = [] }; stage = Stage.Fresh; tally = no_tally; end = None }) }
     {
         Ok(Wire {
             deframer: Deframer::new(alloc)?,
@@ -84,11 +86,12 @@ impl Wire {
         ensures again { IfSome self.old.end (λ end. (result ≡ Some end) × (self.new ≡ self.old) × (out.new ≡ out.old) × (T.shown teller.new ≡ T.shown teller.old)) }
         ensures feeds { IfNone self.old.end ((bytes : List ℕ) (past : List Frame) → GivenOut bytes past self.old.held
             → Feeds (record { block = self.old.block; now = now; bytes = bytes; past = past; stage = self.old.stage; out = out.old; shown = T.shown teller.old })
-            (bytes ++ piece.now) result self.new.held (feed_point self.new.stage out.new (T.shown teller.new))) }
+            (bytes ++ piece.now) result self.new.held (feed_point self.new.stage self.new.tally out.new (T.shown teller.new))) }
     {
         if let Some(end) = self.end {
             return Some(end);
         }
+        self.session.begin_tally();
         let end = feed_piece(
             &mut self.deframer,
             &mut self.session,
@@ -99,6 +102,21 @@ impl Wire {
         );
         self.end = end;
         end
+    }
+
+    /// The number of its link, as Opened told it: where a session is open, and was neither closed nor displaced.
+    pub fn link(&self) -> Option<LinkNumber>
+        ensures { result ≡ open_link self.now.stage }
+    {
+        self.session.open_link()
+    }
+
+    /// How many replies the last feed had, how many of them with a code other than 0, and whether each of its asks was
+    /// answered.
+    pub fn tally(&self) -> Tally
+        ensures { result ≡ self.now.tally }
+    {
+        self.session.tally()
     }
 
     /// The link was lost: an open session that goes on asks Lost.
@@ -127,8 +145,8 @@ fn feed_piece<T: Teller>(
     ensures live { IfNone result (session.new.stage ≢ Stage.Closing) }
     ensures total { deframer.new.place + length deframer.new.rest ≤ deframer.old.place + length deframer.old.rest + length piece.now }
     ensures feeds { (start : FeedStart) → start.block ≡ session.old.block → start.now ≡ now
-        → FedSoFar start start.bytes deframer.old (feed_point session.old.stage out.old (T.shown teller.old))
-        → Feeds start (start.bytes ++ piece.now) result deframer.new (feed_point session.new.stage out.new (T.shown teller.new)) }
+        → FedSoFar start start.bytes deframer.old (feed_point session.old.stage session.old.tally out.old (T.shown teller.old))
+        → Feeds start (start.bytes ++ piece.now) result deframer.new (feed_point session.new.stage session.new.tally out.new (T.shown teller.new)) }
 {
     let mut left = piece;
     loop {
@@ -158,8 +176,8 @@ fn handle_frames<T: Teller>(
     ensures room { IfNone result (length deframer.new.rest < buffer_length) }
     ensures total { deframer.new.place + length deframer.new.rest ≡ deframer.old.place + length deframer.old.rest }
     ensures feeds { (start : FeedStart) (bytes : List ℕ) → start.block ≡ session.old.block → start.now ≡ now
-        → FedSoFar start bytes deframer.old (feed_point session.old.stage out.old (T.shown teller.old))
-        → Feeds start bytes result deframer.new (feed_point session.new.stage out.new (T.shown teller.new)) }
+        → FedSoFar start bytes deframer.old (feed_point session.old.stage session.old.tally out.old (T.shown teller.old))
+        → Feeds start bytes result deframer.new (feed_point session.new.stage session.new.tally out.new (T.shown teller.new)) }
 {
     loop {
         match deframer.head() {
@@ -191,8 +209,8 @@ fn handle_frame<T: Teller>(
     ensures less { IfNone result (length deframer.new.rest < length deframer.old.rest) }
     ensures total { deframer.new.place + length deframer.new.rest ≡ deframer.old.place + length deframer.old.rest }
     ensures feeds { (start : FeedStart) (bytes : List ℕ) → start.block ≡ session.old.block → start.now ≡ now
-        → FedSoFar start bytes deframer.old (feed_point session.old.stage out.old (T.shown teller.old))
-        → FeedsFrame start bytes result deframer.new (feed_point session.new.stage out.new (T.shown teller.new)) }
+        → FedSoFar start bytes deframer.old (feed_point session.old.stage session.old.tally out.old (T.shown teller.old))
+        → FeedsFrame start bytes result deframer.new (feed_point session.new.stage session.new.tally out.new (T.shown teller.new)) }
 {
     match answer(session, header, deframer.payload(), now, teller, out) {
         Err(_) => Some(WireEnd::Memory),

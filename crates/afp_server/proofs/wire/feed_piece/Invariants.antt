@@ -10,8 +10,8 @@ invariant-loop-end g l = record {
   live : l.session.stage ≢ stages.Closing;
   total : l.deframer.place + length l.deframer.rest + length l.left ≡ l.initial.deframer.place + length l.initial.deframer.rest + length l.piece;
   feeds : (done : List ℕ) × (l.piece ≡ done ++ l.left) × ((start : FeedStart) → start.block ≡ l.initial.session.block → start.now ≡ l.now
-      → FedSoFar start start.bytes l.initial.deframer (feed_point l.initial.session.stage l.initial.out (g.T.Teller.shown l.initial.teller))
-      → FedSoFar start (start.bytes ++ done) l.deframer (feed_point l.session.stage l.out (g.T.Teller.shown l.teller)));
+      → FedSoFar start start.bytes l.initial.deframer (feed_point l.initial.session.stage l.initial.session.tally l.initial.out (g.T.Teller.shown l.initial.teller))
+      → FedSoFar start (start.bytes ++ done) l.deframer (feed_point l.session.stage l.session.tally l.out (g.T.Teller.shown l.teller)));
 }
 
 abbrev pub decreases-loop-end : goal.decreases-loop-end

@@ -10,8 +10,8 @@ invariant-loop-bad g l = record {
   live : l.session.stage ≢ stages.Closing;
   total : l.deframer.place + length l.deframer.rest ≡ l.initial.deframer.place + length l.initial.deframer.rest;
   feeds : (start : FeedStart) (bytes : List ℕ) → start.block ≡ l.initial.session.block → start.now ≡ l.now
-      → FedSoFar start bytes l.initial.deframer (feed_point l.initial.session.stage l.initial.out (g.T.Teller.shown l.initial.teller))
-      → FedSoFar start bytes l.deframer (feed_point l.session.stage l.out (g.T.Teller.shown l.teller));
+      → FedSoFar start bytes l.initial.deframer (feed_point l.initial.session.stage l.initial.session.tally l.initial.out (g.T.Teller.shown l.initial.teller))
+      → FedSoFar start bytes l.deframer (feed_point l.session.stage l.session.tally l.out (g.T.Teller.shown l.teller));
 }
 
 abbrev pub decreases-loop-bad : goal.decreases-loop-bad

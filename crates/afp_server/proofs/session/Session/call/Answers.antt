@@ -14,6 +14,6 @@ returns-clause-calls g c =
     let did : Did = record { steps = step c.args.now c.args.link c.args.ask c.ask-told.result ∷ []; reply = k.0; stage = c.called.new.self.stage; end = c.called.result } in (
       did,
       record { answer = c.ask-told.result; steps = refl; told = k.1.called c.args.link c.requires.session },
-      acts-asks c.args.self.now c.called.new.self _ _ did k.1.block refl k.1.replied (went-one _ _ c.args.now c.args.link c.args.ask c.ask-told.result c.ask-told.ensures.asked),
+      acts-asks c.args.self.now c.called.new.self _ _ did k.1.block refl k.1.replied k.1.tally (went-one _ _ c.args.now c.args.link c.args.ask c.ask-told.result c.ask-told.ensures.asked),
       refl,
     )

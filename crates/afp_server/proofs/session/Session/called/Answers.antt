@@ -1,5 +1,8 @@
 use Rattle.std.proofs.Common.{ap, ◌∙◌, []}
-use Rattle.dsi_frame.specs.Frame.{frame_of}
+use Rattle.afp_base.specs.declared.code.Code.TheVariants as code
+use Rattle.dsi_frame.specs.Frame.{canonical_frame, frame_of}
+use Rattle.afp_server.specs.Replies.{code_word, reply_to}
+use Rattle.afp_server.specs.Tally.{and_reply}
 use Rattle.afp_server.specs.SessionState.{SessionState}
 use Rattle.afp_server.proofs.Rows.{called-ends, called-goes_on, called-memory}
 use Rattle.afp_server.proofs.session.Session.called.Goals as goal
@@ -10,7 +13,8 @@ returns-then-ends c = record {
       called-ends (frame_of c.args.request.now []) c.args.told c.in-Reply.code c.in-Reply.block c.as_slice.result.now c.in-Reply.ends c.args.self.now c.close.new.self
       c.in-Reply.is c.if-ends.true c.as_slice.ensures (ap (λ (s : SessionState). s.stage) c.close.ensures)
       (ap (λ (s : SessionState). s.reply) c.close.ensures ∙ ap (λ (s : SessionState). s.reply) c.answer.ensures)
-      (ap (λ (s : SessionState). s.block) c.close.ensures ∙ ap (λ (s : SessionState). s.block) c.answer.ensures);
+      (ap (λ (s : SessionState). s.block) c.close.ensures ∙ ap (λ (s : SessionState). s.block) c.answer.ensures)
+      (ap (λ (s : SessionState). s.tally) c.close.ensures ∙ ap (λ (s : SessionState). s.tally) c.answer.ensures);
 }
 
 pub returns-in-Reply : goal.returns-in-Reply
@@ -21,4 +25,7 @@ returns-in-Reply c = record {
 }
 
 pub returns-in-Memory : goal.returns-in-Memory
-returns-in-Memory c = record { called = called-memory (frame_of c.args.request.now []) c.args.told c.args.self.now c.answer-in-Memory.new.self c.in-Memory.is c.answer-in-Memory.ensures }
+returns-in-Memory c = record {
+  called = called-memory (frame_of c.args.request.now []) c.args.told c.args.self.now c.answer-in-Memory.new.self c.in-Memory.is
+      (c.answer-in-Memory.ensures ∙ ap (λ (s : SessionState). record s { reply = canonical_frame (reply_to (frame_of c.args.request.now []) code.NoMemory []); tally = and_reply (code_word code.NoMemory) s.tally }) c.note_memory.ensures);
+}

@@ -10,10 +10,10 @@ use Rattle.afp_server.proofs.session.Session.close_session.Goals as goal
 
 pub returns-clause-closes : goal.returns-clause-closes
 returns-clause-closes g c =
-    let did : Did = closes (step c.args.now c.args.link asks.Bye c.ask.result ∷ []) in (
+    let did : Did = closes (step c.args.now c.args.link asks.Bye c.ask-told.result ∷ []) in (
       did,
-      record { answer = c.ask.result; is = refl },
-      acts-asks c.args.self.now c.close.new.self _ _ did (ap (λ (s : SessionState). s.block) c.close.ensures) (ap (λ (s : SessionState). s.stage) c.close.ensures)
-          (ap (λ (s : SessionState). s.reply) c.close.ensures ∙ c.requires.no_reply) (went-one _ _ c.args.now c.args.link asks.Bye c.ask.result c.ask.ensures.asked),
+      record { answer = c.ask-told.result; is = refl },
+      acts-asks c.args.self.now c.close.new.self _ _ did (ap (λ (s : SessionState). s.block) c.close.ensures ∙ ap (λ (s : SessionState). s.block) c.note.ensures) (ap (λ (s : SessionState). s.stage) c.close.ensures)
+          (ap (λ (s : SessionState). s.reply) c.close.ensures ∙ ap (λ (s : SessionState). s.reply) c.note.ensures ∙ c.requires.no_reply) (ap (λ (s : SessionState). s.tally) c.close.ensures ∙ ap (λ (s : SessionState). s.tally) c.note.ensures) (went-one _ _ c.args.now c.args.link asks.Bye c.ask-told.result c.ask-told.ensures.asked),
       refl,
     )

@@ -14,7 +14,7 @@ returns-then-header-clause-handles g c =
     let did : Did = record { steps = []; reply = None; stage = c.args.self.now.stage; end = c.reply_end.result } in (
       did,
       does-reply c.args.self.now.block c.args.now c.args.self.now.stage f did c.requires c.if-header.true (c.reply_end.ensures c.args.self.now.stage),
-      acts-still c.args.self.now _ (g.T.Teller.shown c.args.teller.now) did (ap (λ (s : SessionState). s.block) c.self.view_is) (ap (λ (s : SessionState). s.stage) c.self.view_is) refl refl refl,
+      acts-still c.args.self.now _ (g.T.Teller.shown c.args.teller.now) did (ap (λ (s : SessionState). s.block) c.self.view_is) (ap (λ (s : SessionState). s.stage) c.self.view_is) refl (ap (λ (s : SessionState). s.tally) c.self.view_is) refl refl,
       refl,
     )
 

@@ -21,7 +21,7 @@ returns-in-GetStatus-clause-handles g c =
       did,
       subst (λ (k : DsiCommand). FreshDoes block c.args.now k f did) (sym c.in-GetStatus.is) refl,
       acts-replies c.args.self.now c.get_status.new.self (g.T.Teller.shown c.args.teller.now) did (reply_to f code.Ok block) (ap (λ (s : SessionState). s.block) c.get_status.ensures.reply)
-          (ap (λ (s : SessionState). s.stage) c.get_status.ensures.reply ∙ c.requires.fresh) (ap (λ (s : SessionState). s.reply) c.get_status.ensures.reply) refl refl,
+          (ap (λ (s : SessionState). s.stage) c.get_status.ensures.reply ∙ c.requires.fresh) (ap (λ (s : SessionState). s.reply) c.get_status.ensures.reply) (ap (λ (s : SessionState). s.tally) c.get_status.ensures.reply) refl refl,
       c.get_status.ensures.is,
     )
 
@@ -32,7 +32,7 @@ returns-in-CloseSession-clause-handles g c =
       did,
       subst (λ (k : DsiCommand). FreshDoes c.args.self.now.block c.args.now k f did) (sym c.in-CloseSession.is) refl,
       acts-still c.args.self.now c.close.new.self (g.T.Teller.shown c.args.teller.now) did (ap (λ (s : SessionState). s.block) c.close.ensures)
-          (ap (λ (s : SessionState). s.stage) c.close.ensures) (ap (λ (s : SessionState). s.reply) c.close.ensures ∙ c.requires.no_reply) refl refl,
+          (ap (λ (s : SessionState). s.stage) c.close.ensures) (ap (λ (s : SessionState). s.reply) c.close.ensures ∙ c.requires.no_reply) (ap (λ (s : SessionState). s.tally) c.close.ensures) refl refl,
       refl,
     )
 
@@ -42,7 +42,7 @@ returns-in-Command-clause-handles g c =
     let did : Did = is_bad Phase Fresh in (
       did,
       subst (λ (k : DsiCommand). FreshDoes c.args.self.now.block c.args.now k f did) (sym c.in-Command.is) refl,
-      acts-still c.args.self.now c.args.self.now (g.T.Teller.shown c.args.teller.now) did refl c.requires.fresh c.requires.no_reply refl refl,
+      acts-still c.args.self.now c.args.self.now (g.T.Teller.shown c.args.teller.now) did refl c.requires.fresh c.requires.no_reply refl refl refl,
       refl,
     )
 
@@ -52,7 +52,7 @@ returns-in-Write-clause-handles g c =
     let did : Did = is_bad Phase Fresh in (
       did,
       subst (λ (k : DsiCommand). FreshDoes c.args.self.now.block c.args.now k f did) (sym c.in-Write.is) refl,
-      acts-still c.args.self.now c.args.self.now (g.T.Teller.shown c.args.teller.now) did refl c.requires.fresh c.requires.no_reply refl refl,
+      acts-still c.args.self.now c.args.self.now (g.T.Teller.shown c.args.teller.now) did refl c.requires.fresh c.requires.no_reply refl refl refl,
       refl,
     )
 
@@ -62,7 +62,7 @@ returns-in-Tickle-clause-handles g c =
     let did : Did = nothing Fresh in (
       did,
       subst (λ (k : DsiCommand). FreshDoes c.args.self.now.block c.args.now k f did) (sym c.in-Tickle.is) refl,
-      acts-still c.args.self.now c.args.self.now (g.T.Teller.shown c.args.teller.now) did refl c.requires.fresh c.requires.no_reply refl refl,
+      acts-still c.args.self.now c.args.self.now (g.T.Teller.shown c.args.teller.now) did refl c.requires.fresh c.requires.no_reply refl refl refl,
       refl,
     )
 
@@ -72,6 +72,6 @@ returns-in-Attention-clause-handles g c =
     let did : Did = is_bad Unexpected Fresh in (
       did,
       subst (λ (k : DsiCommand). FreshDoes c.args.self.now.block c.args.now k f did) (sym c.in-Attention.is) refl,
-      acts-still c.args.self.now c.args.self.now (g.T.Teller.shown c.args.teller.now) did refl c.requires.fresh c.requires.no_reply refl refl,
+      acts-still c.args.self.now c.args.self.now (g.T.Teller.shown c.args.teller.now) did refl c.requires.fresh c.requires.no_reply refl refl refl,
       refl,
     )

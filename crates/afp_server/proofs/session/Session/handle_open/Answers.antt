@@ -20,7 +20,7 @@ returns-in-GetStatus-clause-handles g c =
       did,
       subst (λ (k : DsiCommand). OpenDoes block c.args.now c.args.link k f did) (sym c.in-GetStatus.is) refl,
       acts-replies c.args.self.now c.get_status.new.self (g.T.Teller.shown c.args.teller.now) did (reply_to f code.Ok block) (ap (λ (s : SessionState). s.block) c.get_status.ensures.reply)
-          (ap (λ (s : SessionState). s.stage) c.get_status.ensures.reply ∙ c.requires.session) (ap (λ (s : SessionState). s.reply) c.get_status.ensures.reply) refl refl,
+          (ap (λ (s : SessionState). s.stage) c.get_status.ensures.reply ∙ c.requires.session) (ap (λ (s : SessionState). s.reply) c.get_status.ensures.reply) (ap (λ (s : SessionState). s.tally) c.get_status.ensures.reply) refl refl,
       c.get_status.ensures.is,
     )
 
@@ -30,7 +30,7 @@ returns-in-OpenSession-clause-handles g c =
     let did : Did = is_bad Phase (Open c.args.link) in (
       did,
       subst (λ (k : DsiCommand). OpenDoes c.args.self.now.block c.args.now c.args.link k f did) (sym c.in-OpenSession.is) refl,
-      acts-still c.args.self.now c.args.self.now (g.T.Teller.shown c.args.teller.now) did refl c.requires.session c.requires.no_reply refl refl,
+      acts-still c.args.self.now c.args.self.now (g.T.Teller.shown c.args.teller.now) did refl c.requires.session c.requires.no_reply refl refl refl,
       refl,
     )
 
@@ -40,7 +40,7 @@ returns-in-Tickle-clause-handles g c =
     let did : Did = nothing (Open c.args.link) in (
       did,
       subst (λ (k : DsiCommand). OpenDoes c.args.self.now.block c.args.now c.args.link k f did) (sym c.in-Tickle.is) refl,
-      acts-still c.args.self.now c.args.self.now (g.T.Teller.shown c.args.teller.now) did refl c.requires.session c.requires.no_reply refl refl,
+      acts-still c.args.self.now c.args.self.now (g.T.Teller.shown c.args.teller.now) did refl c.requires.session c.requires.no_reply refl refl refl,
       refl,
     )
 
@@ -50,6 +50,6 @@ returns-in-Attention-clause-handles g c =
     let did : Did = is_bad Unexpected (Open c.args.link) in (
       did,
       subst (λ (k : DsiCommand). OpenDoes c.args.self.now.block c.args.now c.args.link k f did) (sym c.in-Attention.is) refl,
-      acts-still c.args.self.now c.args.self.now (g.T.Teller.shown c.args.teller.now) did refl c.requires.session c.requires.no_reply refl refl,
+      acts-still c.args.self.now c.args.self.now (g.T.Teller.shown c.args.teller.now) did refl c.requires.session c.requires.no_reply refl refl refl,
       refl,
     )

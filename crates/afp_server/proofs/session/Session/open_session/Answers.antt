@@ -12,6 +12,7 @@ use Rattle.afp_server.specs.Did.{Did, replies}
 use Rattle.afp_server.specs.OpenSession.{no_link}
 use Rattle.afp_server.specs.Replies.{reply_to}
 use Rattle.afp_server.specs.SessionState.{SessionState}
+use Rattle.afp_server.specs.Tally.{and_reply, and_told}
 use Rattle.afp_server.specs.declared.stage.Stage.TheVariants.{Fresh}
 use Rattle.afp_server.proofs.Rows.{acts-asks, acts-replies, open-told, replied}
 use Rattle.afp_server.proofs.session.Session.open_session.Goals as goal
@@ -23,17 +24,19 @@ pub returns-in-Ok-clause-opens : goal.returns-in-Ok-clause-opens
 returns-in-Ok-clause-opens g c =
     let read = c.in-Ok.ensures.options in
     let o = c.opened.ensures.opened in
+    let noted = c.note.ensures in
     let asked : Ask = asks.Open (attention_of read.0) in
-    let one : List Step = step c.args.now no_link asks.Pulse c.ask.result ∷ [] in
+    let one : List Step = step c.args.now no_link asks.Pulse c.ask-pulsed.result ∷ [] in
     let two : List Step = step c.args.now no_link asked c.ask-told.result ∷ [] in
     let did : Did = record { steps = one ++ two; reply = Some o.0; stage = c.opened.new.self.stage; end = None } in
     let a = g.T.Teller.shown c.args.teller.now in
-    let m = g.T.Teller.shown c.ask.new.self in
+    let m = g.T.Teller.shown c.ask-pulsed.new.self in
     let b = g.T.Teller.shown c.ask-told.new.self in (
       did,
-      inl record { options = read.0; fit = read.1; pulsed = c.ask.result; opened = c.ask-told.result; steps = refl; answer = o.1; end = refl },
-      acts-asks c.args.self.now c.opened.new.self a b did c.opened.ensures.block refl (o.2 ∙ replied o.0 (Some o.0) refl)
-          (went-join a m b one two (went-one a m c.args.now no_link asks.Pulse c.ask.result c.ask.ensures.asked)
+      inl record { options = read.0; fit = read.1; pulsed = c.ask-pulsed.result; opened = c.ask-told.result; steps = refl; answer = o.1; end = refl },
+      acts-asks c.args.self.now c.opened.new.self a b did (c.opened.ensures.block ∙ ap (λ (s : SessionState). s.block) noted) refl (o.2 ∙ replied o.0 (Some o.0) refl)
+          (o.3 ∙ ap (λ (s : SessionState). and_reply o.0.word (record s.tally { answered = and_told c.ask-told.result s.tally.answered })) noted)
+          (went-join a m b one two (went-one a m c.args.now no_link asks.Pulse c.ask-pulsed.result c.ask-pulsed.ensures.asked)
           (went-one m b c.args.now no_link asked c.ask-told.result
           (subst (λ (q : Ask). Asked m c.args.now no_link q c.ask-told.result b) (c.open_of.ensures ∙ ap asks.Open read.2) c.ask-told.ensures.asked))),
       refl,
@@ -47,6 +50,6 @@ returns-in-Err-clause-opens g c =
       did,
       inr record { options = stops.0; at = c.in-Err.field-0.at; stops = stops.1; is = refl },
       acts-replies c.args.self.now c.answer.new.self (g.T.Teller.shown c.args.teller.now) did (reply_to f code.ParamErr [])
-          (ap (λ (s : SessionState). s.block) c.answer.ensures) (ap (λ (s : SessionState). s.stage) c.answer.ensures ∙ c.requires.fresh) (ap (λ (s : SessionState). s.reply) c.answer.ensures) refl refl,
+          (ap (λ (s : SessionState). s.block) c.answer.ensures) (ap (λ (s : SessionState). s.stage) c.answer.ensures ∙ c.requires.fresh) (ap (λ (s : SessionState). s.reply) c.answer.ensures) (ap (λ (s : SessionState). s.tally) c.answer.ensures) refl refl,
       refl,
     )

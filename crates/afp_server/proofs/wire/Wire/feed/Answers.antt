@@ -1,6 +1,7 @@
-use Rattle.std.proofs.Common.{refl}
+use Rattle.std.proofs.Common.{refl, sym, ap, subst}
 use Rattle.std.specs.Prelude.{Option, Some, None, IfNone}
-use Rattle.afp_server.specs.Wire.{FeedStart}
+use Rattle.afp_server.specs.SessionState.{SessionState}
+use Rattle.afp_server.specs.Wire.{FeedStart, FedSoFar, feed_point}
 use Rattle.afp_server.proofs.WireLemmas.{fed-none}
 use Rattle.afp_server.proofs.wire.Wire.feed.Goals as goal
 
@@ -20,4 +21,6 @@ returns-clause-feeds g c =
       out = c.args.out.now;
       shown = g.T.Teller.shown c.args.teller.now;
     } in
-    c.feed_piece-end.ensures.feeds start refl refl (fed-none start c.self.inside.deframer given)))
+    c.feed_piece-end.ensures.feeds start (sym (ap (λ (s : SessionState). s.block) c.begin_tally.ensures)) refl
+    (subst (λ (s : SessionState). FedSoFar start start.bytes c.self.inside.deframer (feed_point s.stage s.tally c.args.out.now (g.T.Teller.shown c.args.teller.now))) (sym c.begin_tally.ensures)
+    (fed-none start c.self.inside.deframer given))))
