@@ -8,7 +8,8 @@ use Rattle.fork_bytes.specs.Kept.{is_kept, is_empty}
 use Rattle.afp_volume.specs.VolumeState.{Comment, Icon, Appl, VolumeState, root_id, first_id}
 use Rattle.afp_volume.specs.VolumeState.{Row as VolumeRow}
 use Rattle.afp_volume.specs.Order.{stands_before}
-use Rattle.afp_volume.specs.SoundVolume.{IsSoundVolume, is_named, file_attributes, dir_attributes, is_in_place, are_apart, are_named_alike, has_node, has_file, is_comment, is_icon, icon_key, appl_key, fork_bytes, most_nodes, most_fork_bytes, most_icons, most_appls, last_next_id, code_size}
+use Rattle.afp_base.specs.Apart.{are_apart}
+use Rattle.afp_volume.specs.SoundVolume.{IsSoundVolume, is_named, file_attributes, dir_attributes, is_in_place, are_named_alike, has_node, has_file, is_comment, is_icon, icon_key, appl_key, fork_bytes, most_nodes, most_fork_bytes, most_icons, most_appls, last_next_id, code_size}
 use Rattle.afp_volume.specs.SoundVolume.{is_formed as is_formed_row}
 use Rattle.afp_volume.specs.TypedVolume.{is_word, is_long, is_date, are_bytes, is_typed_row, is_typed_comment, is_typed_icon, is_typed_appl, is_typed_volume}
 use Rattle.volume_records.specs.declared.rows.Node.{Node}

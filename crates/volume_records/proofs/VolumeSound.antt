@@ -7,7 +7,8 @@ use Rattle.afp_names.specs.Name.{name_fault, name_key}
 use Rattle.afp_volume.specs.VolumeState.{Comment, Icon, Appl, VolumeState, root_id, root_parent, first_id}
 use Rattle.afp_volume.specs.VolumeState.{Row as VolumeRow}
 use Rattle.afp_volume.specs.Order.{stands_before, rises, rises_from}
-use Rattle.afp_volume.specs.SoundVolume.{IsSoundVolume, is_tree, is_in_place, has_apart_names, are_named_alike, has_noted_nodes, keeps_limits, is_formed_volume, is_in_order, has_rising_ids, are_apart, has_node, has_file, leads_to_root, is_named, is_comment, is_icon, are_one_icon, are_one_appl, icon_key, appl_key, fork_bytes, most_nodes, most_fork_bytes, most_icons, most_appls, last_next_id, code_size, file_attributes, dir_attributes}
+use Rattle.afp_base.specs.Apart.{are_apart}
+use Rattle.afp_volume.specs.SoundVolume.{IsSoundVolume, is_tree, is_in_place, has_apart_names, are_named_alike, has_noted_nodes, keeps_limits, is_formed_volume, is_in_order, has_rising_ids, has_node, has_file, leads_to_root, is_named, is_comment, is_icon, are_one_icon, are_one_appl, icon_key, appl_key, fork_bytes, most_nodes, most_fork_bytes, most_icons, most_appls, last_next_id, code_size, file_attributes, dir_attributes}
 use Rattle.afp_volume.specs.SoundVolume.{is_formed as is_formed_row}
 use Rattle.afp_volume.specs.TypedVolume.{is_date, is_quad, is_typed_row, is_typed_comment, is_typed_icon, is_typed_appl}
 use Rattle.volume_records.specs.declared.rows.Node.{Node}

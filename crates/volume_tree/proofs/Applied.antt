@@ -14,7 +14,8 @@ use Rattle.afp_volume.proofs.Places.{nothing-gone}
 use Rattle.afp_volume.proofs.TestedLists.{all-weaker, all-both, all-filter, all-kept, all-snoc, any-at, none-all, find-passes}
 use Rattle.afp_volume.proofs.Trees.{drawn, tree-parts}
 use Rattle.afp_volume.specs.Edits.{bare, is_taken, with_changed, change_at, without, at_place, modified_at}
-use Rattle.afp_volume.specs.SoundVolume.{IsSoundVolume, are_apart, has_node, fork_bytes, row_bytes, is_in_place}
+use Rattle.afp_base.specs.Apart.{are_apart}
+use Rattle.afp_volume.specs.SoundVolume.{IsSoundVolume, has_node, fork_bytes, row_bytes, is_in_place}
 use Rattle.afp_volume.specs.VolumeState.{Row, VolumeState, Comment, Appl, root_id, first_id}
 use Rattle.afp_volume.specs.Walk.{row_at, child_by_key}
 use Rattle.volume_tree.proofs.Showing.{child-shown, taken-shown, found-shown, ids-differ}

@@ -10,7 +10,8 @@ use Rattle.afp_volume.proofs.TestedLists.{any-at, none-all, never, length-mapped
 use Rattle.afp_volume.proofs.Trees.{tree-parts}
 use Rattle.afp_volume.specs.Edits.{bare, is_taken, is_below, has_children, with_changed, change_at, without}
 use Rattle.afp_volume.specs.Calls.{has_attribute}
-use Rattle.afp_volume.specs.SoundVolume.{IsSoundVolume, are_apart, are_named_alike, has_apart_names}
+use Rattle.afp_base.specs.Apart.{are_apart}
+use Rattle.afp_volume.specs.SoundVolume.{IsSoundVolume, are_named_alike, has_apart_names}
 use Rattle.afp_volume.specs.VolumeState.{Row, VolumeState}
 use Rattle.afp_volume.specs.Walk.{row_at, parent_at, child_by_key, child_by_long_name, has_directory}
 use Rattle.volume_tree.specs.Kept.{Forks, IsShownAs, data_of, resource_of, with_forks, rows_of}

@@ -5,7 +5,7 @@ use Rattle.afp_volume.proofs.ByIndex.{below-by-parent}
 use Rattle.afp_volume.specs.Edits.{is_below, above}
 use Rattle.afp_volume.specs.VolumeState.{Row}
 use Rattle.afp_volume.specs.Walk.{parent_at}
-use Rattle.afp_volume.specs.SoundVolume.{are_apart}
+use Rattle.afp_base.specs.Apart.{are_apart}
 
 pub is-itself : (rows : List Row) (n node id : ℕ) → (id == node) ≡ true → is_below rows n node id ≡ true
 is-itself rows zero node id same = same
