@@ -26,12 +26,12 @@ abbrev pub without_replaced : VolumeState → Option ℕ → VolumeState
 without_replaced v None = v
 without_replaced v (Some old) = without_node old v
 
--- why it is refused
+-- why it is refused (this profile)
 unfoldable pub create_file_refusal : VolumeState → List Opened → Bool → ℕ → PathValue → Option Code
 create_file_refusal v opens hard dir path = behind (new_place v.rows dir path) (λ place.
     create_file_there v opens hard (child_by_key v.rows place.dir (name_key place.name)))
 
--- the volume with the new file, and without the old one
+-- the volume with the new file, and without the old one (AFP Reference, "FPCreateFile")
 unfoldable pub create_file_effect : VolumeState → ℕ → ℕ → PathValue → VolumeState
 create_file_effect v now dir path = done_at (new_place v.rows dir path) v (λ place.
     created false now (without_replaced v (child_by_key v.rows place.dir (name_key place.name))) place)

@@ -9,7 +9,7 @@ use Rattle.afp_volume.specs.Walk.{found}
 use Rattle.afp_volume.specs.Edits.{has_children, changed_at, children_changed, without_node}
 use Rattle.afp_volume.specs.Calls.{Opened, behind, done_at, delete_inhibit, has_attribute, is_busy, directory_of}
 
--- why it is refused
+-- why it is refused (this profile)
 unfoldable pub delete_refusal : VolumeState → List Opened → ℕ → PathValue → Option Code
 delete_refusal v opens dir path = behind (found v.rows dir path) (λ id. first_holding (
     (id == root_id, AccessDenied)
@@ -18,7 +18,7 @@ delete_refusal v opens dir path = behind (found v.rows dir path) (λ id. first_h
     ∷ (has_children v.rows id, DirNotEmpty)
     ∷ []))
 
--- the volume without the node
+-- the volume without the node (AFP Reference, "FPDelete")
 unfoldable pub delete_effect : VolumeState → ℕ → ℕ → PathValue → VolumeState
 delete_effect v now dir path = done_at (found v.rows dir path) v (λ id.
     changed_at now (children_changed now (directory_of v.rows id) (without_node id v)))

@@ -9,7 +9,7 @@ use Rattle.afp_volume.specs.VolumeState.{VolumeState}
 use Rattle.afp_volume.specs.SoundVolume.{fork_bytes, most_fork_bytes}
 use Rattle.afp_volume.specs.Parms.{is_outside, asked_or}
 
--- why it is refused
+-- why it is refused (this profile)
 unfoldable pub get_vol_parms_refusal : ℕ → Option Code
 get_vol_parms_refusal bits = first_holding ((is_outside volume_mask bits || (bits == 0), BitmapErr) ∷ [])
 
@@ -21,15 +21,15 @@ volume_attributes = 0x0044
 abbrev pub fixed_directory_ids : ℕ
 fixed_directory_ids = 2
 
--- the size of a block in bytes
+-- the size of a block in bytes (this profile)
 abbrev pub block_size : ℕ
 block_size = 4096
 
--- the bytes that forks may still take: all of the volume, less those of all forks
+-- the bytes that forks may still take: all of the volume, less those of all forks (this profile)
 unfoldable pub free_bytes : VolumeState → ℕ
 free_bytes v = most_fork_bytes - fork_bytes v.rows
 
--- what is told of a volume of this id: each value whose bit is asked, by its bit
+-- what is told of a volume of this id: each value whose bit is asked, by its bit (AFP Reference, "Volume Bitmap")
 unfoldable pub volume_values : VolumeState → ℕ → ℕ → VolumeValues
 volume_values v id bits = record {
   attributes = asked_or bits 0 0 volume_attributes;

@@ -9,7 +9,7 @@ use Rattle.afp_volume.specs.Walk.{found, one_down_or, has_directory}
 use Rattle.afp_volume.specs.Edits.{is_taken, is_below, changed_at, children_changed, with_moved}
 use Rattle.afp_volume.specs.Calls.{behind, done_at, first_or, rename_inhibit, has_attribute, directory_of, name_of}
 
--- why it is refused
+-- why it is refused (this profile)
 unfoldable pub move_refusal : VolumeState → ℕ → PathValue → ℕ → PathValue → PathValue → Option Code
 move_refusal v dir path to_dir to_path new = behind (found v.rows dir path) (λ id. first_or ((id == root_id, CantMove) ∷ [])
     (behind (found v.rows to_dir to_path) (λ target. first_or ((not (has_directory v.rows target), ObjectTypeErr) ∷ [])
@@ -19,7 +19,7 @@ move_refusal v dir path to_dir to_path new = behind (found v.rows dir path) (λ 
     ∷ (is_taken v.rows id target name, ObjectExists)
     ∷ []))))))
 
--- the volume with the node at its new place
+-- the volume with the node at its new place (AFP Reference, "FPMoveAndRename")
 unfoldable pub move_effect : VolumeState → ℕ → ℕ → PathValue → ℕ → PathValue → PathValue → VolumeState
 move_effect v now dir path to_dir to_path new = done_at (found v.rows dir path) v (λ id. done_at (found v.rows to_dir to_path) v (λ target.
     done_at (one_down_or (name_of v.rows id) new.steps) v (λ name.

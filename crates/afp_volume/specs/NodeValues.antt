@@ -11,7 +11,7 @@ use Rattle.afp_volume.specs.Calls.{Opened}
 use Rattle.afp_volume.specs.Listing.{children}
 use Rattle.afp_volume.specs.Parms.{asked_or}
 
--- whether this fork of a node is open: its resource fork or its data fork
+-- whether this fork of a node is open: its resource fork or its data fork (this profile)
 unfoldable pub is_open : List Opened → ℕ → Bool → Bool
 is_open opens id resource = list_any (λ open_fork. (open_fork.node == id) && (if resource then open_fork.resource else not open_fork.resource)) opens
 
@@ -22,12 +22,12 @@ data_fork_open = 0x0008
 abbrev pub resource_fork_open : ℕ
 resource_fork_open = 0x0010
 
--- the attributes of a file: those that are set, and whether its forks are open
+-- the attributes of a file: those that are set, and whether its forks are open (AFP Reference, "File attributes")
 unfoldable pub told_attributes : List Opened → Row → ℕ
 told_attributes opens row = bit_or row.attributes
     (bit_or (if is_open opens row.id false then data_fork_open else 0) (if is_open opens row.id true then resource_fork_open else 0))
 
--- what is told of a file: each value whose bit is asked, by its bit
+-- what is told of a file: each value whose bit is asked, by its bit (AFP Reference, "File Bitmap")
 unfoldable pub file_values : List Opened → ℕ → Row → FileValues
 file_values opens bits row = record {
   attributes = asked_or bits 0 0 (told_attributes opens row);
@@ -45,11 +45,11 @@ file_values opens bits row = record {
   ext_resource_length = asked_or bits 14 0 (length row.resource_fork);
 }
 
--- how many children are told of a directory at most
+-- how many children are told of a directory at most (AFP Reference, "Directory Bitmap": 2 bytes)
 abbrev pub most_offspring : ℕ
 most_offspring = 65535
 
--- the owner and the group of each directory, and its access rights: all rights for all
+-- the owner and the group of each directory, and its access rights: all rights for all (this profile)
 abbrev pub fixed_owner : ℕ
 fixed_owner = 500
 
@@ -59,7 +59,7 @@ fixed_group = 500
 abbrev pub all_rights : ℕ
 all_rights = 0x87070707
 
--- what is told of a directory: each value whose bit is asked, by its bit
+-- what is told of a directory: each value whose bit is asked, by its bit (AFP Reference, "Directory Bitmap")
 unfoldable pub dir_values : List Row → ℕ → Row → DirValues
 dir_values rows bits row = record {
   attributes = asked_or bits 0 0 row.attributes;
@@ -77,11 +77,11 @@ dir_values rows bits row = record {
   utf8_name = asked_or bits 13 [] row.name;
 }
 
--- the bits that are asked of a node, by its kind
+-- the bits that are asked of a node, by its kind (AFP Reference, "FPGetFileDirParms")
 abbrev pub bits_of : ℕ → ℕ → Row → ℕ
 bits_of file_bits dir_bits row = if row.dir then dir_bits else file_bits
 
--- what is told of a node of rows, by its kind's bits
+-- what is told of a node of rows, by its kind's bits (AFP Reference, "FPGetFileDirParms")
 unfoldable pub node_values : List Row → List Opened → ℕ → ℕ → Row → Values
 node_values rows opens file_bits dir_bits row =
     if row.dir then Dir (dir_values rows dir_bits row) else File (file_values opens file_bits row)

@@ -8,10 +8,10 @@ use Rattle.afp_volume.specs.VolumeState.{VolumeState}
 use Rattle.afp_volume.specs.Walk.{found, has_directory}
 use Rattle.afp_volume.specs.Calls.{behind, done_at}
 
--- why it is refused
+-- why it is refused (this profile)
 unfoldable pub open_dir_refusal : VolumeState → ℕ → PathValue → Option Code
 open_dir_refusal v dir path = behind (found v.rows dir path) (λ id. first_holding ((not (has_directory v.rows id), ObjectTypeErr) ∷ []))
 
--- the id that is told: that of the directory that was found, if one was
+-- the id that is told: that of the directory that was found, if one was (AFP Reference, "FPOpenDir")
 unfoldable pub open_dir_id : VolumeState → ℕ → PathValue → Option ℕ
 open_dir_id v dir path = done_at (found v.rows dir path) None Some

@@ -4,11 +4,11 @@ use Rattle.std.specs.Int.{w32, cast_signed}
 use Rattle.byteorder.specs.Endian.{big_number}
 use Rattle.afp_bitmap.specs.Bits.{is_asked}
 
--- whether a bit outside the mask is set
+-- whether a bit outside the mask is set (AFP Reference, "FPGetFileDirParms")
 abbrev pub is_outside : ℕ → ℕ → Bool
 is_outside mask bits = not (bit_and bits mask == bits)
 
--- a value whose bit is asked, or what stands for one that is not
+-- a value whose bit is asked, or what stands for one that is not (this profile)
 abbrev pub asked_or : {A : Type 0} → ℕ → ℕ → A → A → A
 asked_or bits bit unasked value = if is_asked bits bit then value else unasked
 

@@ -9,7 +9,7 @@ use Rattle.afp_volume.specs.Walk.{found, one_down}
 use Rattle.afp_volume.specs.Edits.{is_taken, changed_at, children_changed, renamed}
 use Rattle.afp_volume.specs.Calls.{behind, done_at, first_or, rename_inhibit, has_attribute, directory_of}
 
--- why it is refused
+-- why it is refused (this profile)
 unfoldable pub rename_refusal : VolumeState → ℕ → PathValue → PathValue → Option Code
 rename_refusal v dir path new = behind (found v.rows dir path) (λ id. first_or ((id == root_id, CantRename) ∷ [])
     (behind (one_down new.steps) (λ name. first_holding (
@@ -17,7 +17,7 @@ rename_refusal v dir path new = behind (found v.rows dir path) (λ id. first_or 
     ∷ (is_taken v.rows id (directory_of v.rows id) name, ObjectExists)
     ∷ []))))
 
--- the volume with the node's new name
+-- the volume with the node's new name (AFP Reference, "FPRename")
 unfoldable pub rename_effect : VolumeState → ℕ → ℕ → PathValue → PathValue → VolumeState
 rename_effect v now dir path new = done_at (found v.rows dir path) v (λ id. done_at (one_down new.steps) v (λ name.
     changed_at now (children_changed now (directory_of v.rows id) (renamed id name v))))

@@ -11,17 +11,17 @@ use Rattle.afp_volume.specs.Parms.{date_in}
 abbrev pub backup_date_alone : ℕ
 backup_date_alone = 0x0010
 
--- the size of a date in bytes
+-- the size of a date in bytes (AFP Reference, "Date and time")
 abbrev pub date_size : ℕ
 date_size = 4
 
--- why it is refused
+-- why it is refused (this profile)
 unfoldable pub set_vol_parms_refusal : ℕ → List ℕ → Option Code
 set_vol_parms_refusal bits tail = first_holding (
     (not (bits == backup_date_alone), BitmapErr)
     ∷ (nat_lt (length tail) date_size, ParamErr)
     ∷ [])
 
--- the volume with the backup date that the tail begins with
+-- the volume with the backup date that the tail begins with (AFP Reference, "FPSetVolParms")
 unfoldable pub set_vol_parms_effect : VolumeState → ℕ → List ℕ → VolumeState
 set_vol_parms_effect v now tail = changed_at now (record v { backup = date_in tail })
