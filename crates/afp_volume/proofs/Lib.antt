@@ -14,6 +14,7 @@ pub mod Ordered
 pub mod Listings
 pub mod ListReplies
 pub mod ToldValues
+pub mod Worked
 pub mod ByIndex
 pub mod Later
 pub mod Rising

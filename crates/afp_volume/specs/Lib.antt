@@ -20,6 +20,7 @@ pub mod GetFileDirParms
 pub mod Enumerate
 pub mod ListLaws
 pub mod ValueLaws
+pub mod WorkedExamples
 pub mod Laws
 pub mod Listing
 pub mod TreeSteps

@@ -2,6 +2,7 @@
 ghost use Rattle.afp_volume.specs.Laws as laws;
 ghost use Rattle.afp_volume.specs.ListLaws as list_laws;
 ghost use Rattle.afp_volume.specs.ValueLaws as value_laws;
+ghost use Rattle.afp_volume.specs.WorkedExamples as worked;
 
 /// No way to the root is longer than there are rows.
 pub fn ways_are_short()
@@ -128,4 +129,15 @@ pub fn forks_do_not_matter()
     ensures below { laws.BelowBare }
     ensures changed { laws.ChangesBare }
     ensures gone { laws.GoneBare }
+{}
+
+/// What is told of a volume that nobody has used, and what a tail sets, in numbers that were worked by hand.
+pub fn worked_examples_hold()
+    ensures volume { worked.FreshVolumeIsTold }
+    ensures tail { worked.TailIsRead }
+    ensures long_enough { worked.TailIsLongEnough }
+    ensures too_short { worked.TailIsTooShort }
+    ensures set { worked.AttributesAreSet }
+    ensures cleared { worked.AttributesAreCleared }
+    ensures masked { worked.AttributesAreMasked }
 {}
