@@ -1,10 +1,10 @@
 -- Lists in which each element stands in a relation to all behind it.
-use Rattle.std.proofs.Common.{◌≡◌, ◌∙◌, ℕ, zero, suc, ◌+◌, ◌<◌, ◌≤◌, Bool, true, false, cond, not, List, [], ◌∷◌, ◌++◌, map, length, refl, sym, ap, arith}
-use Rattle.std.specs.Prelude.{nat_le, nat_lt, ◌&&◌, ◌||◌, ◌==◌, fold, sum_by}
+use Rattle.std.proofs.Common.{◌≡◌, ◌∙◌, ℕ, ◌+◌, ◌<◌, ◌≤◌, Bool, true, false, cond, not, List, [], ◌∷◌, map, length, refl, sym, ap, arith}
+use Rattle.std.specs.Prelude.{nat_lt, fold, sum_by}
 use Rattle.std.specs.List.{list_all, list_any, filter}
 use Rattle.afp_volume.specs.Order.{rises, rises_from, stands_before}
 use Rattle.afp_base.specs.Apart.{are_apart}
-use Rattle.volume_records.proofs.TestParts.{left_true, right_true, both_true, cases, lt_of, lt_true, all-more, all-map, any-none, not_true}
+use Rattle.volume_records.proofs.TestParts.{left_true, right_true, both_true, lt_of, lt_true, all-more, all-map, any-none, not_true}
 
 abbrev pub Chain : {A : Type 0} → (A → A → Bool) → List A → Type 0
 Chain R [] = Unit {0}

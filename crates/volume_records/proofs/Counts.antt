@@ -1,8 +1,8 @@
 -- How many there are: numbers that rise, each among others that rise, are no more than those; records of a volume.
-use Rattle.std.proofs.Common.{◌≡◌, ◌∙◌, ℕ, zero, suc, ◌+◌, ◌*◌, ◌/◌, ◌<◌, ◌≤◌, Bool, true, false, List, [], ◌∷◌, ◌++◌, map, length, refl, sym, ap, arith, length-append}
-use Rattle.std.specs.Prelude.{nat_le, nat_lt, ◌&&◌, ◌||◌, ◌==◌, flat_map, sum_by}
+use Rattle.std.proofs.Common.{◌≡◌, ◌∙◌, ℕ, ◌+◌, ◌*◌, ◌<◌, ◌≤◌, true, List, [], ◌∷◌, length, refl, sym, ap, arith, length-append}
+use Rattle.std.specs.Prelude.{nat_le, nat_lt, ◌||◌, ◌==◌, flat_map, sum_by}
 use Rattle.std.specs.List.{list_all, list_any}
-use Rattle.volume_records.proofs.TestParts.{left_true, right_true, both_true, cases, lt_of, le_true, same_of, other_false, all-both, all-more}
+use Rattle.volume_records.proofs.TestParts.{left_true, right_true, both_true, cases, lt_of, le_true, same_of, other_false, all-more}
 use Rattle.volume_records.proofs.Chains.{Chain, sum-cons}
 
 module _ {A B : Type 0} (f : A → ℕ) (g : B → ℕ) where
@@ -30,16 +30,16 @@ module _ {A B : Type 0} (f : A → ℕ) (g : B → ℕ) where
       let behind = right_true (list_any (λ m. g m == f x) (n ∷ ns)) (list_all (λ x. list_any (λ m. g m == f x) (n ∷ ns)) xs) e in
       cases (g n == f x)
       (λ t.
-        let same : g n ≡ f x = same_of _ _ t in
-        let rest = no_more ns xs c.1 d.1 (among_rest n ns xs (all-more (λ y. nat_lt (f x) (f y)) (λ y. nat_lt (g n) (f y)) xs (λ y h. ap (λ k. nat_lt k (f y)) same ∙ h) d.0) behind) in
-        omega (arith, rest))
+      let same : g n ≡ f x = same_of _ _ t in
+      let rest = no_more ns xs c.1 d.1 (among_rest n ns xs (all-more (λ y. nat_lt (f x) (f y)) (λ y. nat_lt (g n) (f y)) xs (λ y h. ap (λ k. nat_lt k (f y)) same ∙ h) d.0) behind) in
+      omega (arith, rest))
       (λ t.
-        let there : list_any (λ m. g m == f x) ns ≡ true = ap (λ b. b || list_any (λ m. g m == f x) ns) (sym t) ∙ here in
-        let above : g n < f x = above_first n x ns c.0 there in
-        let all : list_all (λ x. list_any (λ m. g m == f x) ns) (x ∷ xs) ≡ true = both_true (list_any (λ m. g m == f x) ns) (list_all (λ x. list_any (λ m. g m == f x) ns) xs) there
-          (among_rest n ns xs (all-more (λ y. nat_lt (f x) (f y)) (λ y. nat_lt (g n) (f y)) xs (λ y h. let l : f x < f y = lt_of _ _ h in grind (arith, l, above)) d.0) behind) in
-        let rest = no_more ns (x ∷ xs) c.1 d all in
-        omega (arith, rest))
+      let there : list_any (λ m. g m == f x) ns ≡ true = ap (λ b. b || list_any (λ m. g m == f x) ns) (sym t) ∙ here in
+      let above : g n < f x = above_first n x ns c.0 there in
+      let all : list_all (λ x. list_any (λ m. g m == f x) ns) (x ∷ xs) ≡ true = both_true (list_any (λ m. g m == f x) ns) (list_all (λ x. list_any (λ m. g m == f x) ns) xs) there
+      (among_rest n ns xs (all-more (λ y. nat_lt (f x) (f y)) (λ y. nat_lt (g n) (f y)) xs (λ y h. let l : f x < f y = lt_of _ _ h in grind (arith, l, above)) d.0) behind) in
+      let rest = no_more ns (x ∷ xs) c.1 d all in
+      omega (arith, rest))
 
 -- each part of a sum is at most the sum
 pub sum_each : {A : Type 0} (f : A → ℕ) (xs : List A) (most : ℕ) → sum_by f xs ≤ most → list_all (λ x. nat_le (f x) most) xs ≡ true

@@ -1,22 +1,18 @@
 -- What is known of each table of whole tables.
-use Rattle.std.proofs.Common.{◌≡◌, ◌∙◌, ℕ, ◌<◌, ◌≤◌, Bool, true, false, not, List, [], ◌∷◌, ◌++◌, map, refl, sym, ap, Option}
-use Rattle.std.specs.Prelude.{Some, None, is_none, nat_le, nat_lt, ◌&&◌, ◌||◌, ◌==◌}
-use Rattle.std.specs.List.{list_all, list_any}
-use Rattle.std.proofs.lemmas.List.{map-append}
-use Rattle.afp_volume.specs.VolumeState.{Comment, Icon, Appl}
-use Rattle.afp_volume.specs.SoundVolume.{is_comment, is_icon}
-use Rattle.afp_volume.specs.TypedVolume.{is_long, are_bytes, is_typed_comment, is_typed_icon, is_typed_appl}
-use Rattle.volume_records.specs.declared.rows.Record.{Record}
+use Rattle.std.proofs.Common.{◌≡◌, ◌∙◌, ℕ, Bool, true, false, List, ◌++◌, map, refl, sym, ap}
+use Rattle.std.specs.Prelude.{None, is_none, nat_lt, ◌&&◌}
+use Rattle.std.specs.List.{list_all}
+use Rattle.afp_volume.specs.VolumeState.{Comment, Appl}
+use Rattle.afp_volume.specs.SoundVolume.{is_comment}
+use Rattle.afp_volume.specs.TypedVolume.{is_long, are_bytes, is_typed_comment, is_typed_appl}
 use Rattle.volume_records.specs.declared.rows.Node.{Node}
 use Rattle.volume_records.specs.declared.rows.ForkBlock.{ForkBlock}
 use Rattle.volume_records.specs.declared.rows.Reason.TheVariants.{Parent, Twin, Range, Limit}
 use Rattle.volume_records.specs.declared.rows.Row.{Row}
 use Rattle.volume_records.specs.declared.rows.Row.TheVariants as row
-use Rattle.volume_records.specs.Records.{record_of}
-use Rattle.volume_records.specs.Shape.{is_formed, is_formed_head, is_formed_node, is_formed_block, is_formed_comment, is_formed_icon, is_formed_appl}
+use Rattle.volume_records.specs.Shape.{is_formed, is_formed_node, is_formed_block, is_formed_comment, is_formed_appl}
 use Rattle.volume_records.specs.Image.{Tables, rows_of}
-use Rattle.volume_records.specs.KeyOrder.{Rises}
-use Rattle.volume_records.specs.FirstBad.{first_of, lacks_parent, is_twin, is_outside, passes_limit, reason_of}
+use Rattle.volume_records.specs.FirstBad.{first_of, lacks_parent, is_twin, is_outside, passes_limit}
 use Rattle.volume_records.proofs.TestParts.{left_true, right_true, both_true, all-ends, all-append, all-map, all-more}
 use Rattle.volume_records.proofs.ReadBack.{node_parts}
 use Rattle.volume_records.proofs.Chains.{Chain}
@@ -56,7 +52,6 @@ pub record EachKind (p : Row → Bool) (t : Tables) : Type 0 where
   pub comments : list_all (λ x. p (row.Comment x)) t.comments ≡ true
   pub icons : list_all (λ x. p (row.Icon x)) t.icons ≡ true
   pub appls : list_all (λ x. p (row.Appl x)) t.appls ≡ true
-
 
 pub each_kind : (p : Row → Bool) (t : Tables) → list_all p (rows_of t) ≡ true → EachKind p t
 each_kind p t e =

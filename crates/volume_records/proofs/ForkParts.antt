@@ -1,30 +1,25 @@
 -- The blocks of all forks, fork by fork, and the rows of a volume that tables say.
-use Rattle.std.proofs.Common.{◌≡◌, ◌∙◌, ℕ, zero, suc, ◌+◌, ◌*◌, ◌<◌, ◌≤◌, Bool, true, false, cond, not, List, [], ◌∷◌, ◌++◌, map, length, get_or, refl, sym, ap, arith, Option}
-use Rattle.std.specs.Prelude.{Some, None, nat_le, nat_lt, ◌&&◌, ◌||◌, ◌==◌, bytes_eq, flat_map}
+use Rattle.std.proofs.Common.{◌≡◌, ◌∙◌, ℕ, ◌+◌, ◌*◌, ◌<◌, Bool, true, false, not, List, [], ◌∷◌, ◌++◌, map, length, refl, sym, ap, arith}
+use Rattle.std.specs.Prelude.{nat_le, nat_lt, ◌&&◌, ◌||◌, ◌==◌, bytes_eq}
 use Rattle.std.specs.List.{list_all, list_any, filter}
 use Rattle.fork_bytes.specs.declared.block.Block.{Block}
 use Rattle.fork_bytes.specs.Blocks.{block_size, blocks_of, trimmed}
-use Rattle.fork_bytes.specs.Kept.{bytes_of, bytes_in, byte_at, each_of, are_rising, is_kept, is_empty}
+use Rattle.fork_bytes.specs.Kept.{bytes_of, are_rising, is_kept, is_empty}
 use Rattle.fork_bytes.specs.Laws.{BytesFromBlocks, BlocksFromBytes, HasItsLength, BlocksRise, BlocksAreKept, BlocksAreFew}
 use Rattle.afp_volume.specs.VolumeState.{VolumeState}
 use Rattle.afp_volume.specs.VolumeState.{Row as VolumeRow}
-use Rattle.afp_volume.specs.SoundVolume.{has_file, has_node}
-use Rattle.afp_volume.specs.TypedVolume.{is_byte, is_long, are_bytes}
+use Rattle.afp_volume.specs.TypedVolume.{is_long, are_bytes}
 use Rattle.volume_records.specs.declared.rows.Node.{Node}
 use Rattle.volume_records.specs.declared.rows.ForkBlock.{ForkBlock}
-use Rattle.volume_records.specs.declared.rows.Row.{Row}
-use Rattle.volume_records.specs.declared.rows.Row.TheVariants as row
 use Rattle.volume_records.specs.Records.{flag_byte}
-use Rattle.volume_records.specs.Shape.{bare_row, is_formed, is_formed_block}
-use Rattle.volume_records.specs.Image.{Tables, rows_of, tables_of, node_of, block_of, fork_blocks}
-use Rattle.volume_records.specs.FirstBad.{tree_of, fork_length}
-use Rattle.volume_records.proofs.TestParts.{left_true, right_true, both_true, or_left, cases, lt_of, le_of, lt_true, le_true, ge_of, same_of, same_true, turn_true, turn_false, bytes_true, all-more, all-both, all-map, any-map, any-more, none-any, parts}
+use Rattle.volume_records.specs.Shape.{is_formed_block}
+use Rattle.volume_records.specs.Image.{Tables, block_of, fork_blocks}
+use Rattle.volume_records.specs.FirstBad.{fork_length}
+use Rattle.volume_records.proofs.TestParts.{left_true, right_true, both_true, lt_of, le_true, same_of, all-more, all-map}
 use Rattle.volume_records.proofs.Chains.{Chain, chain-more, chain-filter, all-filter, filter-passes}
-use Rattle.volume_records.proofs.Parted.{Climbs, Steps, parted}
+use Rattle.volume_records.proofs.Parted.{parted}
 use Rattle.volume_records.proofs.RowKinds.{nil_behind}
 use Rattle.volume_records.proofs.RowOrder.{block_before, fork_before}
-use Rattle.volume_records.proofs.Whole.{IsWhole, is_clear}
-use Rattle.volume_records.proofs.Facts.{EachKind, each_kind, IsFree, is_free, InOrder, in_order}
 
 -- what is known of forks and their blocks
 pub record ForkLaw : Type 0 where
@@ -141,8 +136,8 @@ both_forks : (bs : List ForkBlock) → Chain fork_before bs → fork_part bs 0 +
 both_forks bs c =
     ap (λ l. fork_part bs 0 ++ l) (sym (nil_behind (fork_part bs 1)))
     ∙ parted (λ (b : ForkBlock). flag_byte b.is_resource) (λ (n : ℕ). n) (0 ∷ 1 ∷ []) bs
-      (chain-more fork_before (λ a b. nat_le (flag_byte a.is_resource) (flag_byte b.is_resource)) (λ b. true) bs (λ a b p q e. climbs_fork a b e) (always bs) c)
-      (refl, (refl, tt)) (are_forks bs)
+    (chain-more fork_before (λ a b. nat_le (flag_byte a.is_resource) (flag_byte b.is_resource)) (λ b. true) bs (λ a b p q e. climbs_fork a b e) (always bs) c)
+    (refl, (refl, tt)) (are_forks bs)
 
 -- a block of a node's fork, taken to pieces and put together again
 same_flag : (r s : Bool) → (flag_byte s == flag_byte r) ≡ true → s ≡ r
@@ -180,7 +175,7 @@ kept_pieces n r (b ∷ bs) g f =
     let within = right_true (is_formed_block b) (nat_le (block_size * b.index + length b.bytes) (fork_length b.is_resource n)) good in
     both_true (is_kept (fork_length r n) (piece_of b)) (list_all (is_kept (fork_length r n)) (map piece_of bs))
     (kept_piece (fork_length r n) b (left_true (is_formed_block b) (nat_le (block_size * b.index + length b.bytes) (fork_length b.is_resource n)) good)
-      (ap (λ s. nat_le (block_size * b.index + length b.bytes) (fork_length s n)) flag ∙ within))
+    (ap (λ s. nat_le (block_size * b.index + length b.bytes) (fork_length s n)) flag ∙ within))
     (kept_pieces n r bs (right_true (is_good_block n b) (list_all (is_good_block n) bs) g) (right_true (flag_byte r == flag_byte b.is_resource) (list_all (λ b. flag_byte r == flag_byte b.is_resource) bs) f))
 
 has_bytes : (n : Node) (b : ForkBlock) → is_good_block n b ≡ true → nat_le 1 (length b.bytes) ≡ true
@@ -196,8 +191,8 @@ one_fork law n r bs c g i =
     let good = all-filter (λ (b : ForkBlock). flag_byte r == flag_byte b.is_resource) (is_good_block n) bs g in
     let flags = filter-passes (λ (b : ForkBlock). flag_byte r == flag_byte b.is_resource) bs in
     ap (map (block_of n.id r)) (law.forth (fork_length r n) (map piece_of (fork_part bs (flag_byte r)))
-      (rising_pieces (fork_part bs (flag_byte r)) (part_chain (flag_byte r) bs c) (all-more (is_good_block n) (λ b. nat_le 1 (length b.bytes)) (fork_part bs (flag_byte r)) (has_bytes n) good))
-      (kept_pieces n r (fork_part bs (flag_byte r)) good flags))
+    (rising_pieces (fork_part bs (flag_byte r)) (part_chain (flag_byte r) bs c) (all-more (is_good_block n) (λ b. nat_le 1 (length b.bytes)) (fork_part bs (flag_byte r)) (has_bytes n) good))
+    (kept_pieces n r (fork_part bs (flag_byte r)) good flags))
     ∙ back_again n.id r (fork_part bs (flag_byte r)) (all-filter (λ (b : ForkBlock). flag_byte r == flag_byte b.is_resource) (λ b. n.id == b.node) bs i) flags
 
 pub blocks_of_node : ForkLaw → (n : Node) (blocks : List ForkBlock) → Chain block_before blocks → list_all (is_good_block n) (own blocks n.id) ≡ true → fork_blocks (row_from blocks n) ≡ own blocks n.id

@@ -1,14 +1,13 @@
 -- The blocks of a volume's forks: their shape, their order, and the forks that they tell.
-use Rattle.std.proofs.Common.{◌≡◌, ◌∙◌, ℕ, zero, suc, ◌+◌, ◌*◌, ◌/◌, ◌<◌, ◌≤◌, Bool, true, false, cond, not, List, [], ◌∷◌, ◌++◌, map, length, take, drop, refl, sym, ap, subst, arith, append_assoc, length-append}
-use Rattle.std.specs.Prelude.{nat_le, nat_lt, ◌&&◌, ◌||◌, ◌==◌, bytes_eq, flat_map}
-use Rattle.std.specs.List.{list_all, list_any, filter}
+use Rattle.std.proofs.Common.{◌≡◌, ◌∙◌, ℕ, zero, suc, ◌+◌, ◌*◌, ◌<◌, ◌≤◌, Bool, true, false, cond, not, List, [], ◌∷◌, ◌++◌, map, length, take, drop, refl, sym, ap, subst, arith, append_assoc, length-append}
+use Rattle.std.specs.Prelude.{nat_le, nat_lt, ◌&&◌, ◌==◌, bytes_eq, flat_map}
+use Rattle.std.specs.List.{list_all, filter}
 use Rattle.afp_base.specs.ForkBytes.{taken}
 use Rattle.fork_bytes.specs.declared.block.Block.{Block}
 use Rattle.fork_bytes.specs.Blocks.{block_size, block_at, block_count, before_zeros, trimmed, with_block, blocks_from, blocks_of}
 use Rattle.fork_bytes.specs.Kept.{bytes_of, are_rising, is_kept, is_empty}
 use Rattle.afp_volume.specs.VolumeState.{Row as VolumeRow}
 use Rattle.afp_volume.specs.TypedVolume.{is_byte, is_long, are_bytes}
-use Rattle.volume_records.specs.declared.rows.Node.{Node}
 use Rattle.volume_records.specs.declared.rows.ForkBlock.{ForkBlock}
 use Rattle.volume_records.specs.Records.{flag_byte}
 use Rattle.volume_records.specs.Shape.{is_formed_block}
@@ -17,7 +16,7 @@ use Rattle.volume_records.proofs.TestParts.{left_true, right_true, both_true, or
 use Rattle.volume_records.proofs.Chains.{Chain, chain-map, chain-more}
 use Rattle.volume_records.proofs.RowKinds.{nil_behind}
 use Rattle.volume_records.proofs.RowOrder.{block_before, fork_before}
-use Rattle.volume_records.proofs.ForkParts.{ForkLaw, piece_of, own, fork_part, pieces, row_from}
+use Rattle.volume_records.proofs.ForkParts.{ForkLaw, piece_of, own, fork_part, row_from}
 
 -- ---- bytes of blocks
 
@@ -97,7 +96,7 @@ chain-append R (x ∷ xs) ys c d e =
 later_index : (id : ℕ) (r : Bool) (a b : Block) → nat_lt a.index b.index ≡ true → block_before (block_of id r a) (block_of id r b) ≡ true
 later_index id r a b e = or_right (nat_lt id id) ((id == id) && fork_before (block_of id r a) (block_of id r b))
     (both_true (id == id) (fork_before (block_of id r a) (block_of id r b)) (same_true id id refl)
-      (or_right (nat_lt (flag_byte r) (flag_byte r)) ((flag_byte r == flag_byte r) && nat_lt a.index b.index) (both_true (flag_byte r == flag_byte r) (nat_lt a.index b.index) (same_true (flag_byte r) (flag_byte r) refl) e)))
+    (or_right (nat_lt (flag_byte r) (flag_byte r)) ((flag_byte r == flag_byte r) && nat_lt a.index b.index) (both_true (flag_byte r == flag_byte r) (nat_lt a.index b.index) (same_true (flag_byte r) (flag_byte r) refl) e)))
 
 always : {A : Type 0} (xs : List A) → list_all (λ x. true) xs ≡ true
 always [] = refl
@@ -119,7 +118,7 @@ pub row_chain : ForkLaw → (r : VolumeRow) → Chain block_before (fork_blocks 
 row_chain law r = chain-append block_before (map (block_of r.id false) (blocks_of r.data_fork)) (map (block_of r.id true) (blocks_of r.resource_fork)) (fork_chain law r.id false r.data_fork) (fork_chain law r.id true r.resource_fork)
     (all-map (λ x. list_all (block_before x) (map (block_of r.id true) (blocks_of r.resource_fork))) (block_of r.id false) (blocks_of r.data_fork)
     ∙ all-pass (λ a. list_all (block_before (block_of r.id false a)) (map (block_of r.id true) (blocks_of r.resource_fork)))
-      (λ a. all-map (block_before (block_of r.id false a)) (block_of r.id true) (blocks_of r.resource_fork) ∙ all-pass (λ b. block_before (block_of r.id false a) (block_of r.id true b)) (data_first r.id a) (blocks_of r.resource_fork)) (blocks_of r.data_fork))
+    (λ a. all-map (block_before (block_of r.id false a)) (block_of r.id true) (blocks_of r.resource_fork) ∙ all-pass (λ b. block_before (block_of r.id false a) (block_of r.id true b)) (data_first r.id a) (blocks_of r.resource_fork)) (blocks_of r.data_fork))
 
 -- each block of a row has its id
 pub ids_of : (r : VolumeRow) → list_all (λ (b : ForkBlock). r.id == b.node) (fork_blocks r) ≡ true
@@ -140,8 +139,8 @@ pub all_chain : ForkLaw → (rs : List VolumeRow) → Chain (λ (a : VolumeRow) 
 all_chain law [] c = tt
 all_chain law (r ∷ rs) c = chain-append block_before (fork_blocks r) (flat_map fork_blocks rs) (row_chain law r) (all_chain law rs c.1)
     (all-more (λ (b : ForkBlock). r.id == b.node) (λ b. list_all (block_before b) (flat_map fork_blocks rs)) (fork_blocks r)
-      (λ b h. let s : r.id ≡ b.node = same_of _ _ h in all-more (λ (c : ForkBlock). nat_lt r.id c.node) (block_before b) (flat_map fork_blocks rs)
-        (λ c e. or_left (nat_lt b.node c.node) ((b.node == c.node) && fork_before b c) (ap (λ k. nat_lt k c.node) (sym s) ∙ e)) (ids_above r.id rs c.0)) (ids_of r))
+    (λ b h. let s : r.id ≡ b.node = same_of _ _ h in all-more (λ (c : ForkBlock). nat_lt r.id c.node) (block_before b) (flat_map fork_blocks rs)
+    (λ c e. or_left (nat_lt b.node c.node) ((b.node == c.node) && fork_before b c) (ap (λ k. nat_lt k c.node) (sym s) ∙ e)) (ids_above r.id rs c.0)) (ids_of r))
 
 -- ---- the forks that they tell
 
@@ -176,16 +175,16 @@ own_here : (before : List ForkBlock) (r : VolumeRow) (rs : List VolumeRow) → l
 own_here before r rs low high =
     filter-append (λ (b : ForkBlock). r.id == b.node) before (fork_blocks r ++ flat_map fork_blocks rs)
     ∙ (λ i. filter-none (λ (b : ForkBlock). r.id == b.node) before (all-more (λ (b : ForkBlock). nat_lt b.node r.id) (λ b. not (r.id == b.node)) before (λ b e. differs r.id b.node (λ h. absurd (let l : b.node < r.id = lt_of _ _ e in omega arith))) low) i
-      ++ (filter-append (λ (b : ForkBlock). r.id == b.node) (fork_blocks r) (flat_map fork_blocks rs)
-        ∙ (λ j. filter-all (λ (b : ForkBlock). r.id == b.node) (fork_blocks r) (ids_of r) j
-          ++ filter-none (λ (b : ForkBlock). r.id == b.node) (flat_map fork_blocks rs) (all-more (λ (b : ForkBlock). nat_lt r.id b.node) (λ b. not (r.id == b.node)) (flat_map fork_blocks rs) (λ b e. differs r.id b.node (λ h. absurd (let l : r.id < b.node = lt_of _ _ e in omega arith))) (ids_above r.id rs high)) j)
-        ∙ nil_behind (fork_blocks r)) i)
+    ++ (filter-append (λ (b : ForkBlock). r.id == b.node) (fork_blocks r) (flat_map fork_blocks rs)
+    ∙ (λ j. filter-all (λ (b : ForkBlock). r.id == b.node) (fork_blocks r) (ids_of r) j
+    ++ filter-none (λ (b : ForkBlock). r.id == b.node) (flat_map fork_blocks rs) (all-more (λ (b : ForkBlock). nat_lt r.id b.node) (λ b. not (r.id == b.node)) (flat_map fork_blocks rs) (λ b e. differs r.id b.node (λ h. absurd (let l : r.id < b.node = lt_of _ _ e in omega arith))) (ids_above r.id rs high)) j)
+    ∙ nil_behind (fork_blocks r)) i)
 
 lower_all : (r : VolumeRow) (rs : List VolumeRow) (before : List ForkBlock) → list_all (λ (s : VolumeRow). nat_lt r.id s.id) rs ≡ true → list_all (λ (s : VolumeRow). list_all (λ (b : ForkBlock). nat_lt b.node s.id) before) rs ≡ true
     → list_all (λ (s : VolumeRow). list_all (λ (b : ForkBlock). nat_lt b.node s.id) (before ++ fork_blocks r)) rs ≡ true
 lower_all r rs before high low = all-more (λ (s : VolumeRow). nat_lt r.id s.id && list_all (λ (b : ForkBlock). nat_lt b.node s.id) before) (λ (s : VolumeRow). list_all (λ (b : ForkBlock). nat_lt b.node s.id) (before ++ fork_blocks r)) rs
     (λ s e. all-append (λ (b : ForkBlock). nat_lt b.node s.id) before (fork_blocks r) (right_true (nat_lt r.id s.id) (list_all (λ (b : ForkBlock). nat_lt b.node s.id) before) e)
-      (all-more (λ (b : ForkBlock). r.id == b.node) (λ (b : ForkBlock). nat_lt b.node s.id) (fork_blocks r) (λ b h. ap (λ k. nat_lt k s.id) (sym (same_of r.id b.node h)) ∙ left_true (nat_lt r.id s.id) (list_all (λ (b : ForkBlock). nat_lt b.node s.id) before) e) (ids_of r)))
+    (all-more (λ (b : ForkBlock). r.id == b.node) (λ (b : ForkBlock). nat_lt b.node s.id) (fork_blocks r) (λ b h. ap (λ k. nat_lt k s.id) (sym (same_of r.id b.node h)) ∙ left_true (nat_lt r.id s.id) (list_all (λ (b : ForkBlock). nat_lt b.node s.id) before) e) (ids_of r)))
     (all-both (λ (s : VolumeRow). nat_lt r.id s.id) (λ (s : VolumeRow). list_all (λ (b : ForkBlock). nat_lt b.node s.id) before) rs high low)
 
 pub owns_from : (before : List ForkBlock) (rs : List VolumeRow) → Chain (λ (a : VolumeRow) b. nat_lt a.id b.id) rs → list_all (λ (s : VolumeRow). list_all (λ (b : ForkBlock). nat_lt b.node s.id) before) rs ≡ true → Owns (before ++ flat_map fork_blocks rs) rs
@@ -193,7 +192,7 @@ owns_from before [] c low = tt
 owns_from before (r ∷ rs) c low = (
   own_here before r rs (left_true (list_all (λ (b : ForkBlock). nat_lt b.node r.id) before) (list_all (λ (s : VolumeRow). list_all (λ (b : ForkBlock). nat_lt b.node s.id) before) rs) low) c.0,
   subst (λ l. Owns l rs) (append_assoc before (fork_blocks r) (flat_map fork_blocks rs))
-    (owns_from (before ++ fork_blocks r) rs c.1 (lower_all r rs before c.0 (right_true (list_all (λ (b : ForkBlock). nat_lt b.node r.id) before) (list_all (λ (s : VolumeRow). list_all (λ (b : ForkBlock). nat_lt b.node s.id) before) rs) low))),
+      (owns_from (before ++ fork_blocks r) rs c.1 (lower_all r rs before c.0 (right_true (list_all (λ (b : ForkBlock). nat_lt b.node r.id) before) (list_all (λ (s : VolumeRow). list_all (λ (b : ForkBlock). nat_lt b.node s.id) before) rs) low))),
 )
 
 to_pieces : (id : ℕ) (r : Bool) (bs : List Block) → map piece_of (map (block_of id r) bs) ≡ bs
@@ -204,7 +203,7 @@ data_pieces : (r : VolumeRow) → map piece_of (fork_part (fork_blocks r) 0) ≡
 data_pieces r =
     ap (map piece_of) (filter-append (λ (b : ForkBlock). 0 == flag_byte b.is_resource) (map (block_of r.id false) (blocks_of r.data_fork)) (map (block_of r.id true) (blocks_of r.resource_fork))
     ∙ (λ i. filter-all (λ (b : ForkBlock). 0 == flag_byte b.is_resource) (map (block_of r.id false) (blocks_of r.data_fork)) (all-map (λ (b : ForkBlock). 0 == flag_byte b.is_resource) (block_of r.id false) (blocks_of r.data_fork) ∙ always (blocks_of r.data_fork)) i
-      ++ filter-none (λ (b : ForkBlock). 0 == flag_byte b.is_resource) (map (block_of r.id true) (blocks_of r.resource_fork)) (all-map (λ (b : ForkBlock). not (0 == flag_byte b.is_resource)) (block_of r.id true) (blocks_of r.resource_fork) ∙ always (blocks_of r.resource_fork)) i)
+    ++ filter-none (λ (b : ForkBlock). 0 == flag_byte b.is_resource) (map (block_of r.id true) (blocks_of r.resource_fork)) (all-map (λ (b : ForkBlock). not (0 == flag_byte b.is_resource)) (block_of r.id true) (blocks_of r.resource_fork) ∙ always (blocks_of r.resource_fork)) i)
     ∙ nil_behind (map (block_of r.id false) (blocks_of r.data_fork)))
     ∙ to_pieces r.id false (blocks_of r.data_fork)
 
@@ -212,7 +211,7 @@ resource_pieces : (r : VolumeRow) → map piece_of (fork_part (fork_blocks r) 1)
 resource_pieces r =
     ap (map piece_of) (filter-append (λ (b : ForkBlock). 1 == flag_byte b.is_resource) (map (block_of r.id false) (blocks_of r.data_fork)) (map (block_of r.id true) (blocks_of r.resource_fork))
     ∙ (λ i. filter-none (λ (b : ForkBlock). 1 == flag_byte b.is_resource) (map (block_of r.id false) (blocks_of r.data_fork)) (all-map (λ (b : ForkBlock). not (1 == flag_byte b.is_resource)) (block_of r.id false) (blocks_of r.data_fork) ∙ always (blocks_of r.data_fork)) i
-      ++ filter-all (λ (b : ForkBlock). 1 == flag_byte b.is_resource) (map (block_of r.id true) (blocks_of r.resource_fork)) (all-map (λ (b : ForkBlock). 1 == flag_byte b.is_resource) (block_of r.id true) (blocks_of r.resource_fork) ∙ always (blocks_of r.resource_fork)) i))
+    ++ filter-all (λ (b : ForkBlock). 1 == flag_byte b.is_resource) (map (block_of r.id true) (blocks_of r.resource_fork)) (all-map (λ (b : ForkBlock). 1 == flag_byte b.is_resource) (block_of r.id true) (blocks_of r.resource_fork) ∙ always (blocks_of r.resource_fork)) i))
     ∙ to_pieces r.id true (blocks_of r.resource_fork)
 
 row_again : ForkLaw → (blocks : List ForkBlock) (r : VolumeRow) → own blocks r.id ≡ fork_blocks r → row_from blocks (node_of r) ≡ r

@@ -1,15 +1,14 @@
 -- The tables of a sound volume are whole: its blocks, its other rows, their order and their number.
-use Rattle.std.proofs.Common.{◌≡◌, ◌∙◌, ℕ, zero, suc, ◌+◌, ◌*◌, ◌<◌, ◌≤◌, Bool, true, false, cond, not, List, [], ◌∷◌, ◌++◌, map, length, refl, sym, ap, subst, arith, length-append}
-use Rattle.std.specs.Prelude.{nat_le, nat_lt, ◌&&◌, ◌||◌, ◌==◌, bytes_eq, bit_and, flat_map, sum_by}
-use Rattle.std.specs.List.{list_all, list_any, filter}
+use Rattle.std.proofs.Common.{◌≡◌, ◌∙◌, ℕ, ◌+◌, ◌*◌, ◌≤◌, Bool, true, false, cond, not, List, [], ◌∷◌, ◌++◌, map, length, refl, sym, ap, arith, length-append}
+use Rattle.std.specs.Prelude.{nat_le, nat_lt, ◌&&◌, ◌||◌, ◌==◌, bytes_eq, bit_and, flat_map}
+use Rattle.std.specs.List.{list_all, filter}
 use Rattle.fork_bytes.specs.declared.block.Block.{Block}
 use Rattle.fork_bytes.specs.Blocks.{block_size, blocks_of, trimmed}
 use Rattle.fork_bytes.specs.Kept.{is_kept, is_empty}
-use Rattle.afp_volume.specs.VolumeState.{Comment, Icon, Appl, VolumeState, root_id, first_id}
+use Rattle.afp_volume.specs.VolumeState.{Comment, Icon, Appl, VolumeState, root_id}
 use Rattle.afp_volume.specs.VolumeState.{Row as VolumeRow}
 use Rattle.afp_volume.specs.Order.{stands_before}
-use Rattle.afp_base.specs.Apart.{are_apart}
-use Rattle.afp_volume.specs.SoundVolume.{IsSoundVolume, is_named, file_attributes, dir_attributes, is_in_place, are_named_alike, has_node, has_file, is_comment, is_icon, icon_key, appl_key, fork_bytes, most_nodes, most_fork_bytes, most_icons, most_appls, last_next_id, code_size}
+use Rattle.afp_volume.specs.SoundVolume.{IsSoundVolume, is_named, file_attributes, dir_attributes, is_in_place, has_node, has_file, is_comment, is_icon, icon_key, appl_key, most_fork_bytes, most_icons, most_appls, code_size}
 use Rattle.afp_volume.specs.SoundVolume.{is_formed as is_formed_row}
 use Rattle.afp_volume.specs.TypedVolume.{is_word, is_long, is_date, are_bytes, is_typed_row, is_typed_comment, is_typed_icon, is_typed_appl, is_typed_volume}
 use Rattle.volume_records.specs.declared.rows.Node.{Node}
@@ -17,18 +16,18 @@ use Rattle.volume_records.specs.declared.rows.ForkBlock.{ForkBlock}
 use Rattle.volume_records.specs.declared.rows.Row.{Row}
 use Rattle.volume_records.specs.declared.rows.Row.TheVariants as row
 use Rattle.volume_records.specs.Records.{record_of}
-use Rattle.volume_records.specs.Shape.{bare_row, is_formed, is_formed_head, is_formed_node, is_formed_block, is_formed_comment, is_formed_icon, is_formed_appl}
+use Rattle.volume_records.specs.Shape.{is_formed, is_formed_node, is_formed_block, is_formed_comment, is_formed_appl}
 use Rattle.volume_records.specs.Image.{Tables, rows_of, tables_of, node_of, block_of, fork_blocks}
 use Rattle.volume_records.specs.KeyOrder.{Rises}
-use Rattle.volume_records.specs.FirstBad.{tree_of, fork_length, nodes_to, icons_to, appls_to, lacks_parent, is_twin, is_outside, passes_limit, most_records}
-use Rattle.volume_records.proofs.TestParts.{left_true, right_true, both_true, or_left, or_right, cases, lt_of, le_of, lt_true, le_true, lt_false, same_of, turn_true, turn_false, not_true, neither, all-more, all-both, all-map, all-append, any-map, any-none, always, parts}
-use Rattle.volume_records.proofs.Chains.{Chain, chain-map, filter-most}
+use Rattle.volume_records.specs.FirstBad.{fork_length, is_outside, most_records}
+use Rattle.volume_records.proofs.TestParts.{left_true, right_true, both_true, cases, le_of, lt_false, same_of, all-more, all-both, all-map, all-append, any-map, any-none, always}
+use Rattle.volume_records.proofs.Chains.{chain-map, filter-most}
 use Rattle.volume_records.proofs.Counts.{no_more, sum_each, length-flat}
-use Rattle.volume_records.proofs.RowKinds.{tag_of, behind_head}
+use Rattle.volume_records.proofs.RowKinds.{tag_of}
 use Rattle.volume_records.proofs.RowOrder.{rows_both, nodes_up, comments_up, icons_up, appls_up, blocks_up, is_fit_block, is_fit_appl}
 use Rattle.volume_records.proofs.Whole.{IsWhole, is_clear}
-use Rattle.volume_records.proofs.Facts.{EachKind, all_kinds, IsFree, free_clear, fit_block, fit_appl}
-use Rattle.volume_records.proofs.ForkParts.{ForkLaw, volume_of, row_from}
+use Rattle.volume_records.proofs.Facts.{EachKind, all_kinds, free_clear, fit_block, fit_appl}
+use Rattle.volume_records.proofs.ForkParts.{ForkLaw, volume_of}
 use Rattle.volume_records.proofs.VolumeTables.{reaches_past}
 use Rattle.volume_records.proofs.VolumeSound.{length-map, alike, no_twins}
 use Rattle.volume_records.proofs.ReadBack.{node_parts}
@@ -42,8 +41,8 @@ pub known_rows : (v : VolumeState) → SoundFacts v → TypedFacts v → list_al
 known_rows v s t =
     all-both (is_good_row v) (λ r. list_all (same_forks r) v.rows && (r.dir || has_file v.rows r.id)) v.rows
     (all-both (λ r. is_typed_row r && is_formed_row r) (λ r. is_in_place v r && nat_le (length r.data_fork + length r.resource_fork) most_fork_bytes) v.rows
-      (all-both is_typed_row is_formed_row v.rows t.rows s.formed)
-      (all-both (is_in_place v) (λ r. nat_le (length r.data_fork + length r.resource_fork) most_fork_bytes) v.rows s.places (sum_each (λ (r : VolumeRow). length r.data_fork + length r.resource_fork) v.rows most_fork_bytes s.few_bytes)))
+    (all-both is_typed_row is_formed_row v.rows t.rows s.formed)
+    (all-both (is_in_place v) (λ r. nat_le (length r.data_fork + length r.resource_fork) most_fork_bytes) v.rows s.places (sum_each (λ (r : VolumeRow). length r.data_fork + length r.resource_fork) v.rows most_fork_bytes s.few_bytes)))
     (all-both (λ r. list_all (same_forks r) v.rows) (λ r. r.dir || has_file v.rows r.id) v.rows (one_row v.rows s.ids) (each_there v.rows))
 
 -- ---- the blocks of a row
@@ -102,13 +101,13 @@ module _ (v : VolumeState) where
   block_inside : (r : VolumeRow) (f : Bool) (b : Block) → list_all (same_forks r) v.rows ≡ true → 4096 * b.index + length b.bytes ≤ length (fork_of f r) → is_outside (tables_of v) (row.Block (block_of r.id f b)) ≡ false
   block_inside r f b s w = any-map (λ (n : Node). (n.id == r.id) && reaches_past n (block_of r.id f b)) node_of v.rows
       ∙ any-none (λ (o : VolumeRow). (o.id == r.id) && reaches_past (node_of o) (block_of r.id f b)) v.rows
-        (all-more (same_forks r) (λ (o : VolumeRow). not ((o.id == r.id) && reaches_past (node_of o) (block_of r.id f b))) v.rows
-          (λ o e. cases (o.id == r.id)
-            (λ i.
-              let len = long_as f r o e i in
-              let past : reaches_past (node_of o) (block_of r.id f b) ≡ false = lt_false (fork_length f (node_of o)) (block_size * b.index + length b.bytes) (omega (arith, len, w)) in
-              λ k. not (i k && past k))
-            (λ i. ap (λ t. not (t && reaches_past (node_of o) (block_of r.id f b))) i)) s)
+      (all-more (same_forks r) (λ (o : VolumeRow). not ((o.id == r.id) && reaches_past (node_of o) (block_of r.id f b))) v.rows
+      (λ o e. cases (o.id == r.id)
+      (λ i.
+      let len = long_as f r o e i in
+      let past : reaches_past (node_of o) (block_of r.id f b) ≡ false = lt_false (fork_length f (node_of o)) (block_size * b.index + length b.bytes) (omega (arith, len, w)) in
+      λ k. not (i k && past k))
+      (λ i. ap (λ t. not (t && reaches_past (node_of o) (block_of r.id f b))) i)) s)
 
   one_fine : (r : VolumeRow) (f : Bool) (b : Block) → is_known_row v r ≡ true → r.dir ≡ false → is_whole_block (length (fork_of f r)) b ≡ true → is_fine_block (tables_of v) (block_of r.id f b) ≡ true
   one_fine r f b k d w =
@@ -137,10 +136,10 @@ module _ (v : VolumeState) where
   pub row_fine : ForkLaw → (r : VolumeRow) → is_known_row v r ≡ true → list_all (is_fine_block (tables_of v)) (fork_blocks r) ≡ true
   row_fine law r k = cases r.dir
       (λ d.
-        let good = left_true (is_good_row v r) (list_all (same_forks r) v.rows && (r.dir || has_file v.rows r.id)) k in
-        let formed = right_true (is_typed_row r) (is_formed_row r) (left_true (is_typed_row r && is_formed_row r) (is_in_place v r && nat_le (length r.data_fork + length r.resource_fork) most_fork_bytes) good) in
-        let none = no_bytes r d formed in
-        ap (list_all (is_fine_block (tables_of v))) (λ i. map (block_of r.id false) (blocks_of (none.0 i)) ++ map (block_of r.id true) (blocks_of (none.1 i))))
+      let good = left_true (is_good_row v r) (list_all (same_forks r) v.rows && (r.dir || has_file v.rows r.id)) k in
+      let formed = right_true (is_typed_row r) (is_formed_row r) (left_true (is_typed_row r && is_formed_row r) (is_in_place v r && nat_le (length r.data_fork + length r.resource_fork) most_fork_bytes) good) in
+      let none = no_bytes r d formed in
+      ap (list_all (is_fine_block (tables_of v))) (λ i. map (block_of r.id false) (blocks_of (none.0 i)) ++ map (block_of r.id true) (blocks_of (none.1 i))))
       (λ d. all-append (is_fine_block (tables_of v)) (map (block_of r.id false) (blocks_of r.data_fork)) (map (block_of r.id true) (blocks_of r.resource_fork)) (fork_fine law r false k d) (fork_fine law r true k d))
 
   pub all_fine : ForkLaw → (rs : List VolumeRow) → list_all (is_known_row v) rs ≡ true → list_all (is_fine_block (tables_of v)) (flat_map fork_blocks rs) ≡ true
@@ -173,7 +172,7 @@ rows_formed v s t law =
     record {
       head = λ i. (t.created i && (t.modified i && t.backup i)) && s.next i;
       nodes = all-map (is_formed_node v.name) node_of v.rows
-        ∙ all-more (is_known_row v) (λ r. is_formed_node v.name (node_of r)) v.rows (λ r e. node_formed v r (left_true (is_good_row v r) (list_all (same_forks r) v.rows && (r.dir || has_file v.rows r.id)) e)) known;
+          ∙ all-more (is_known_row v) (λ r. is_formed_node v.name (node_of r)) v.rows (λ r e. node_formed v r (left_true (is_good_row v r) (list_all (same_forks r) v.rows && (r.dir || has_file v.rows r.id)) e)) known;
       blocks = all-more (is_fine_block (tables_of v)) is_formed_block (flat_map fork_blocks v.rows) (λ b e. left_true (is_formed_block b) (is_clear (tables_of v) (row.Block b)) e) fine;
       comments = all-both is_typed_comment is_comment v.comments t.comments s.texts;
       icons = all-both is_typed_icon is_icon v.icons t.icons s.icons;
@@ -188,16 +187,16 @@ rows_clear v s t law =
     record {
       head = refl;
       nodes = all-map (λ n. is_clear (tables_of v) (row.Node n)) node_of v.rows
-        ∙ all-more (λ r. is_good_row v r && list_all (λ (o : Node). not (nat_lt o.id r.id && alike o (node_of r))) (map node_of v.rows)) (λ r. is_clear (tables_of v) (row.Node (node_of r))) v.rows (node_free v s)
+          ∙ all-more (λ r. is_good_row v r && list_all (λ (o : Node). not (nat_lt o.id r.id && alike o (node_of r))) (map node_of v.rows)) (λ r. is_clear (tables_of v) (row.Node (node_of r))) v.rows (node_free v s)
           (all-both (is_good_row v) (λ r. list_all (λ (o : Node). not (nat_lt o.id r.id && alike o (node_of r))) (map node_of v.rows)) v.rows
-            (all-more (is_known_row v) (is_good_row v) v.rows (λ r e. left_true (is_good_row v r) (list_all (same_forks r) v.rows && (r.dir || has_file v.rows r.id)) e) known) twins);
+          (all-more (is_known_row v) (is_good_row v) v.rows (λ r e. left_true (is_good_row v r) (list_all (same_forks r) v.rows && (r.dir || has_file v.rows r.id)) e) known) twins);
       blocks = all-more (is_fine_block (tables_of v)) (λ b. is_clear (tables_of v) (row.Block b)) (flat_map fork_blocks v.rows) (λ b e. right_true (is_formed_block b) (is_clear (tables_of v) (row.Block b)) e) fine;
       comments = all-more (λ (c : Comment). has_node v.rows c.node) (λ c. is_clear (tables_of v) (row.Comment c)) v.comments
-        (λ c e. free_clear (tables_of v) (row.Comment c) (record { placed = ap not (nodes_same v.rows c.node ∙ e); lone = refl; inside = refl; few = refl })) s.commented;
+          (λ c e. free_clear (tables_of v) (row.Comment c) (record { placed = ap not (nodes_same v.rows c.node ∙ e); lone = refl; inside = refl; few = refl })) s.commented;
       icons = all-more (λ x. true) (λ c. is_clear (tables_of v) (row.Icon c)) v.icons
-        (λ c e. free_clear (tables_of v) (row.Icon c) (record { placed = refl; lone = refl; inside = refl; few = few_to (λ (o : Icon). not (stands_before (icon_key c) (icon_key o))) v.icons most_icons s.few_icons })) (always v.icons);
+          (λ c e. free_clear (tables_of v) (row.Icon c) (record { placed = refl; lone = refl; inside = refl; few = few_to (λ (o : Icon). not (stands_before (icon_key c) (icon_key o))) v.icons most_icons s.few_icons })) (always v.icons);
       appls = all-more (λ (a : Appl). has_file v.rows a.node) (λ c. is_clear (tables_of v) (row.Appl c)) v.appls
-        (λ c e. free_clear (tables_of v) (row.Appl c) (record { placed = ap not (files_same v.rows c.node ∙ e); lone = refl; inside = refl; few = few_to (λ (o : Appl). not (stands_before (appl_key c) (appl_key o))) v.appls most_appls s.few_appls })) s.filed;
+          (λ c e. free_clear (tables_of v) (row.Appl c) (record { placed = ap not (files_same v.rows c.node ∙ e); lone = refl; inside = refl; few = few_to (λ (o : Appl). not (stands_before (appl_key c) (appl_key o))) v.appls most_appls s.few_appls })) s.filed;
     }
 
 -- ---- their order
@@ -220,14 +219,14 @@ rows_rise t n b c i a =
     let four = rows_both 4 icons appls (tags_at_most (λ x. row.Icon x) 4 (λ x. refl) t.icons) (tags_over (λ x. row.Appl x) 4 (λ x. refl) t.appls) i a in
     let three = rows_both 3 comments (icons ++ appls) (tags_at_most (λ x. row.Comment x) 3 (λ x. refl) t.comments) (over 3 icons appls (tags_over (λ x. row.Icon x) 3 (λ x. refl) t.icons) (tags_over (λ x. row.Appl x) 3 (λ x. refl) t.appls)) c four in
     let two = rows_both 2 blocks (comments ++ (icons ++ appls)) (tags_at_most (λ x. row.Block x) 2 (λ x. refl) t.blocks)
-      (over 2 comments (icons ++ appls) (tags_over (λ x. row.Comment x) 2 (λ x. refl) t.comments) (over 2 icons appls (tags_over (λ x. row.Icon x) 2 (λ x. refl) t.icons) (tags_over (λ x. row.Appl x) 2 (λ x. refl) t.appls))) b three in
+    (over 2 comments (icons ++ appls) (tags_over (λ x. row.Comment x) 2 (λ x. refl) t.comments) (over 2 icons appls (tags_over (λ x. row.Icon x) 2 (λ x. refl) t.icons) (tags_over (λ x. row.Appl x) 2 (λ x. refl) t.appls))) b three in
     let one = rows_both 1 nodes (blocks ++ (comments ++ (icons ++ appls))) (tags_at_most (λ x. row.Node x) 1 (λ x. refl) t.nodes)
-      (over 1 blocks (comments ++ (icons ++ appls)) (tags_over (λ x. row.Block x) 1 (λ x. refl) t.blocks)
-        (over 1 comments (icons ++ appls) (tags_over (λ x. row.Comment x) 1 (λ x. refl) t.comments) (over 1 icons appls (tags_over (λ x. row.Icon x) 1 (λ x. refl) t.icons) (tags_over (λ x. row.Appl x) 1 (λ x. refl) t.appls)))) n two in
+    (over 1 blocks (comments ++ (icons ++ appls)) (tags_over (λ x. row.Block x) 1 (λ x. refl) t.blocks)
+    (over 1 comments (icons ++ appls) (tags_over (λ x. row.Comment x) 1 (λ x. refl) t.comments) (over 1 icons appls (tags_over (λ x. row.Icon x) 1 (λ x. refl) t.icons) (tags_over (λ x. row.Appl x) 1 (λ x. refl) t.appls)))) n two in
     rows_both 0 (row.Head t.head ∷ []) (nodes ++ (blocks ++ (comments ++ (icons ++ appls)))) refl
     (over 0 nodes (blocks ++ (comments ++ (icons ++ appls))) (tags_over (λ x. row.Node x) 0 (λ x. refl) t.nodes)
-      (over 0 blocks (comments ++ (icons ++ appls)) (tags_over (λ x. row.Block x) 0 (λ x. refl) t.blocks)
-        (over 0 comments (icons ++ appls) (tags_over (λ x. row.Comment x) 0 (λ x. refl) t.comments) (over 0 icons appls (tags_over (λ x. row.Icon x) 0 (λ x. refl) t.icons) (tags_over (λ x. row.Appl x) 0 (λ x. refl) t.appls)))))
+    (over 0 blocks (comments ++ (icons ++ appls)) (tags_over (λ x. row.Block x) 0 (λ x. refl) t.blocks)
+    (over 0 comments (icons ++ appls) (tags_over (λ x. row.Comment x) 0 (λ x. refl) t.comments) (over 0 icons appls (tags_over (λ x. row.Icon x) 0 (λ x. refl) t.icons) (tags_over (λ x. row.Appl x) 0 (λ x. refl) t.appls)))))
     (tt, tt) one
 
 pub image_whole : ForkLaw → (v : VolumeState) → IsSoundVolume v → is_typed_volume v ≡ true → IsWhole v.name (tables_of v)
@@ -239,11 +238,11 @@ image_whole law v sound typed =
       formed = all_kinds (is_formed v.name) (tables_of v) formed;
       clear = all_kinds (is_clear (tables_of v)) (tables_of v) (rows_clear v s t law);
       rises = rows_rise (tables_of v)
-        (nodes_up (map node_of v.rows) (all-more (is_formed_node v.name) (λ n. is_long n.id) (map node_of v.rows) (λ n f. (node_parts v.name n f).id) formed.nodes) (chain-map (λ (a : Node) b. nat_lt a.id b.id) node_of v.rows s.ids))
-        (blocks_up (flat_map fork_blocks v.rows) (all-more is_formed_block is_fit_block (flat_map fork_blocks v.rows) fit_block formed.blocks) (all_chain law v.rows s.ids))
-        (comments_up v.comments (all-more is_formed_comment (λ c. is_long c.node) v.comments (λ c f. left_true (is_long c.node) (are_bytes c.text) (left_true (is_typed_comment c) (is_comment c) f)) formed.comments) s.comment_order)
-        (icons_up v.icons s.icon_order)
-        (appls_up v.appls (all-more is_formed_appl is_fit_appl v.appls fit_appl formed.appls) s.appl_order);
+          (nodes_up (map node_of v.rows) (all-more (is_formed_node v.name) (λ n. is_long n.id) (map node_of v.rows) (λ n f. (node_parts v.name n f).id) formed.nodes) (chain-map (λ (a : Node) b. nat_lt a.id b.id) node_of v.rows s.ids))
+          (blocks_up (flat_map fork_blocks v.rows) (all-more is_formed_block is_fit_block (flat_map fork_blocks v.rows) fit_block formed.blocks) (all_chain law v.rows s.ids))
+          (comments_up v.comments (all-more is_formed_comment (λ c. is_long c.node) v.comments (λ c f. left_true (is_long c.node) (are_bytes c.text) (left_true (is_typed_comment c) (is_comment c) f)) formed.comments) s.comment_order)
+          (icons_up v.icons s.icon_order)
+          (appls_up v.appls (all-more is_formed_appl is_fit_appl v.appls fit_appl formed.appls) s.appl_order);
       root = nodes_same v.rows root_id ∙ s.root;
     }
 

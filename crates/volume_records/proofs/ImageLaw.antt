@@ -1,6 +1,6 @@
 -- Records are good exactly where they are those of a volume, and of one alone.
-use Rattle.std.proofs.Common.{◌≡◌, ◌∙◌, ℕ, zero, suc, ◌<◌, arith, Bool, true, false, cond, List, [], ◌∷◌, map, length, drop, refl, sym, ap, subst, Option}
-use Rattle.std.specs.Prelude.{Some, None, T, nat_lt, ◌&&◌}
+use Rattle.std.proofs.Common.{◌≡◌, ◌∙◌, ℕ, zero, suc, ◌<◌, arith, Bool, true, false, cond, List, [], ◌∷◌, map, length, drop, refl, sym, ap, subst}
+use Rattle.std.specs.Prelude.{None, T, nat_lt, ◌&&◌}
 use Rattle.std.specs.FinMap.{entries, entries_sorted, entries-from_sorted, same_entries_map}
 use Rattle.std.specs.FinMap.Entries.{is_sorted, below_all}
 use Rattle.std.specs.Cmp.Lexicographic.{slice_cmp}
@@ -9,7 +9,6 @@ use Rattle.std.specs.declared.cmp.Ordering.{Ordering}
 use Rattle.std.specs.declared.cmp.Ordering.TheVariants.{Less, Equal, Greater}
 use Rattle.afp_volume.specs.VolumeState.{VolumeState}
 use Rattle.volume_records.specs.declared.rows.Record.{Record}
-use Rattle.volume_records.specs.declared.rows.BadRecord.{BadRecord}
 use Rattle.volume_records.specs.Records.{record_of}
 use Rattle.volume_records.specs.Image.{Tables, Records, rows_of, tables_of, tables_in, image, kept_image, records_in, entries_of}
 use Rattle.volume_records.specs.KeyOrder.{IsBelow, Rises, counted}
@@ -51,11 +50,13 @@ module _ (law : ForkLaw) where
   good_images name (r ∷ records) s n e =
       let good = few_only name r records (nat_lt most_records (length (r ∷ records))) e refl in
       let made = counted_made name (r ∷ records) s good in
-      let t : Tables = tables_in (rows_in name (counted (r ∷ records))) in
-      (volume_of name (tables_in (rows_in name (counted (r ∷ records)))), record {
-        volume = whole_volume name (tables_in (rows_in name (counted (r ∷ records)))) made.0;
-        image = ap (λ (u : Tables). map record_of (rows_of u)) (tables_again law name (tables_in (rows_in name (counted (r ∷ records)))) made.0) ∙ made.1;
-      })
+      let t : Tables = tables_in (rows_in name (counted (r ∷ records))) in (
+        volume_of name (tables_in (rows_in name (counted (r ∷ records)))),
+        record {
+          volume = whole_volume name (tables_in (rows_in name (counted (r ∷ records)))) made.0;
+          image = ap (λ (u : Tables). map record_of (rows_of u)) (tables_again law name (tables_in (rows_in name (counted (r ∷ records)))) made.0) ∙ made.1;
+        },
+      )
 
   pub images_differ : (name : List ℕ) (v w : VolumeState) → IsVolume name v → IsVolume name w → image v ≡ image w → v ≡ w
   images_differ name v w i j e =

@@ -1,38 +1,22 @@
 -- The tables of a sound volume are whole.
-use Rattle.std.proofs.Common.{◌≡◌, ◌∙◌, ℕ, zero, suc, ◌+◌, ◌*◌, ◌<◌, ◌≤◌, Bool, true, false, cond, not, List, [], ◌∷◌, ◌++◌, map, length, refl, sym, ap, subst, arith, length-append}
-use Rattle.std.specs.Prelude.{nat_le, nat_lt, ◌&&◌, ◌||◌, ◌==◌, bytes_eq, bit_and, flat_map, sum_by}
-use Rattle.std.specs.List.{list_all, list_any, filter}
-use Rattle.fork_bytes.specs.declared.block.Block.{Block}
-use Rattle.fork_bytes.specs.Blocks.{block_size, blocks_of, trimmed}
-use Rattle.fork_bytes.specs.Kept.{is_kept, is_empty}
-use Rattle.afp_volume.specs.VolumeState.{Comment, Icon, Appl, VolumeState, root_id, root_parent, first_id}
+use Rattle.std.proofs.Common.{◌≡◌, ◌∙◌, ℕ, zero, suc, ◌+◌, ◌<◌, ◌≤◌, Bool, true, false, cond, not, List, [], ◌∷◌, map, length, refl, sym, ap, arith}
+use Rattle.std.specs.Prelude.{nat_le, nat_lt, ◌&&◌, ◌||◌, ◌==◌, bytes_eq, bit_and, sum_by}
+use Rattle.std.specs.List.{list_all, list_any}
+use Rattle.afp_volume.specs.VolumeState.{VolumeState, root_id, root_parent, first_id}
 use Rattle.afp_volume.specs.VolumeState.{Row as VolumeRow}
-use Rattle.afp_volume.specs.Order.{stands_before}
 use Rattle.afp_base.specs.Apart.{are_apart}
-use Rattle.afp_volume.specs.SoundVolume.{IsSoundVolume, is_in_place, are_named_alike, has_node, has_file, leads_to_root, is_named, is_comment, is_icon, icon_key, appl_key, fork_bytes, most_nodes, most_fork_bytes, most_icons, most_appls, code_size, file_attributes, dir_attributes}
+use Rattle.afp_volume.specs.SoundVolume.{is_in_place, are_named_alike, has_node, has_file, leads_to_root, is_named, most_nodes, most_fork_bytes, file_attributes, dir_attributes}
 use Rattle.afp_volume.specs.SoundVolume.{is_formed as is_formed_row}
-use Rattle.afp_volume.specs.TypedVolume.{is_word, is_long, is_date, is_quad, are_bytes, is_typed_row, is_typed_comment, is_typed_icon, is_typed_appl, is_typed_volume}
+use Rattle.afp_volume.specs.TypedVolume.{is_word, is_long, is_date, is_quad, are_bytes, is_typed_row}
 use Rattle.volume_records.specs.declared.rows.Node.{Node}
-use Rattle.volume_records.specs.declared.rows.ForkBlock.{ForkBlock}
-use Rattle.volume_records.specs.declared.rows.Row.{Row}
 use Rattle.volume_records.specs.declared.rows.Row.TheVariants as row
-use Rattle.volume_records.specs.Records.{record_of}
-use Rattle.volume_records.specs.Shape.{bare_row, is_formed, is_formed_node, is_formed_block, is_formed_comment, is_formed_icon, is_formed_appl, has_fit_forks, is_root_or_other}
-use Rattle.volume_records.specs.Image.{Tables, rows_of, tables_of, node_of, block_of, fork_blocks}
-use Rattle.volume_records.specs.KeyOrder.{Rises}
-use Rattle.volume_records.specs.FirstBad.{tree_of, fork_length, nodes_to, icons_to, appls_to, lacks_parent, is_twin, is_outside, passes_limit, most_records}
-use Rattle.volume_records.proofs.TestParts.{left_true, right_true, both_true, or_left, or_right, cases, lt_of, le_of, lt_true, le_true, lt_false, ge_of, same_of, same_true, other_false, turn_true, turn_false, not_true, either_false, neither, all-more, all-both, all-map, all-append, any-map, any-same, any-none, any-more, pick, then_of, else_of, parts}
-use Rattle.volume_records.proofs.Chains.{Chain, chain-map, filter-most, sum-filter, sum-map}
-use Rattle.volume_records.proofs.Counts.{no_more, sum_each, length-flat}
-use Rattle.volume_records.proofs.RowKinds.{tag_of, behind_head}
-use Rattle.volume_records.proofs.RowOrder.{rows_both, nodes_up, comments_up, icons_up, appls_up, blocks_up, is_fit_block, is_fit_appl}
-use Rattle.volume_records.proofs.Whole.{IsWhole, is_clear}
-use Rattle.volume_records.proofs.Facts.{EachKind, all_kinds, IsFree, free_clear, fit_block, fit_appl}
-use Rattle.volume_records.proofs.ForkParts.{ForkLaw, volume_of, row_from}
-use Rattle.volume_records.proofs.VolumeTables.{reaches_past}
+use Rattle.volume_records.specs.Shape.{bare_row, is_formed_node, is_root_or_other}
+use Rattle.volume_records.specs.Image.{tables_of, node_of}
+use Rattle.volume_records.specs.FirstBad.{nodes_to, lacks_parent, is_outside, passes_limit}
+use Rattle.volume_records.proofs.TestParts.{left_true, right_true, both_true, or_left, or_right, cases, lt_of, le_of, lt_true, lt_false, same_true, other_false, turn_false, not_true, either_false, neither, all-more, all-both, any-map, any-same, pick, then_of, else_of, parts}
+use Rattle.volume_records.proofs.Chains.{Chain, filter-most, sum-filter, sum-map}
 use Rattle.volume_records.proofs.VolumeSound.{length-map, alike, no_twins}
-use Rattle.volume_records.proofs.SoundFacts.{SoundFacts, sound_facts, TypedFacts, typed_facts}
-use Rattle.volume_records.proofs.ImageBlocks.{is_whole_block, whole_blocks, one_formed, all_chain, all-pass, owns_from, rows_again, few_of_row}
+use Rattle.volume_records.proofs.SoundFacts.{SoundFacts}
 
 -- ---- the tree is the same with no bytes in its forks
 
@@ -48,7 +32,7 @@ leads_same rs (suc steps) id = ap (λ b. (id == root_id) || b)
     (any-map (λ (r : VolumeRow). (r.id == id) && (r.dir && leads_to_root (map bare_row (map node_of rs)) steps r.parent)) bare_row (map node_of rs)
     ∙ any-map (λ (n : Node). (n.id == id) && (n.is_directory && leads_to_root (map bare_row (map node_of rs)) steps n.parent)) node_of rs
     ∙ any-same (λ (r : VolumeRow). (r.id == id) && (r.dir && leads_to_root (map bare_row (map node_of rs)) steps r.parent)) (λ (r : VolumeRow). (r.id == id) && (r.dir && leads_to_root rs steps r.parent)) rs
-      (λ r. ap (λ b. (r.id == id) && (r.dir && b)) (leads_same rs steps r.parent)))
+    (λ r. ap (λ b. (r.id == id) && (r.dir && b)) (leads_same rs steps r.parent)))
 
 -- ---- the shape of nodes
 
@@ -86,12 +70,12 @@ node_formed v r g =
     let place = left_true (is_in_place v r) (nat_le (length r.data_fork + length r.resource_fork) most_fork_bytes) second in
     let small : length r.data_fork + length r.resource_fork ≤ 268435456 = le_of _ _ (right_true (is_in_place v r) (nat_le (length r.data_fork + length r.resource_fork) most_fork_bytes) second) in
     let typed : is_typed_row (bare_row (node_of r)) ≡ true = typed_bare (is_long r.id) (is_long r.parent) (is_word r.attributes) (is_date r.created) (is_date r.modified) (is_date r.backup) (are_bytes r.finder) (are_bytes r.name) (are_bytes r.data_fork) (are_bytes r.resource_fork)
-      (left_true (is_typed_row r) (is_formed_row r) first) in
+    (left_true (is_typed_row r) (is_formed_row r) first) in
     let formed = formed_bare r.dir (is_named r) (bit_and r.attributes dir_attributes == r.attributes) (bit_and r.attributes file_attributes == r.attributes) r.filed (length r.data_fork == 0) (length r.resource_fork == 0) (right_true (is_typed_row r) (is_formed_row r) first) in
     let data_length = small_fork (length r.data_fork) 268435456 (omega (arith, small)) (omega arith) in
     let resource_length = small_fork (length r.resource_fork) 268435456 (omega (arith, small)) (omega arith) in
     let root : is_root_or_other v.name (node_of r) ≡ true = pick (r.id == root_id) (r.dir && ((r.parent == root_parent) && bytes_eq r.name v.name)) true
-      (λ e. then_of (r.id == root_id) (r.dir && ((r.parent == root_parent) && bytes_eq r.name v.name)) ((nat_le first_id r.id && nat_lt r.id v.next_id) && leads_to_root v.rows (length v.rows) r.parent) e place) (λ e. refl) in
+    (λ e. then_of (r.id == root_id) (r.dir && ((r.parent == root_parent) && bytes_eq r.name v.name)) ((nat_le first_id r.id && nat_lt r.id v.next_id) && leads_to_root v.rows (length v.rows) r.parent) e place) (λ e. refl) in
     λ i. typed i && (formed.0 i && (((data_length i && resource_length i) && formed.1 i) && root i))
 
 -- ---- no rule holds of a node
@@ -107,28 +91,28 @@ module _ (v : VolumeState) (facts : SoundFacts v) where
   node_placed r place = cases (r.id == root_id)
       (λ e. ap (λ b. not b && not (has_node (map bare_row (map node_of v.rows)) root_id && leads_to_root (map bare_row (map node_of v.rows)) (length (map bare_row (map node_of v.rows))) r.parent)) e)
       (λ e.
-        let leads = right_true (nat_le first_id r.id && nat_lt r.id v.next_id) (leads_to_root v.rows (length v.rows) r.parent) (else_of (r.id == root_id) (r.dir && ((r.parent == root_parent) && bytes_eq r.name v.name)) ((nat_le first_id r.id && nat_lt r.id v.next_id) && leads_to_root v.rows (length v.rows) r.parent) e place) in
-        let root = nodes_same v.rows root_id ∙ facts.root in
-        let same : leads_to_root (map bare_row (map node_of v.rows)) (length (map bare_row (map node_of v.rows))) r.parent ≡ true =
-        ap (λ k. leads_to_root (map bare_row (map node_of v.rows)) k r.parent) (length-map bare_row (map node_of v.rows) ∙ length-map node_of v.rows) ∙ leads_same v.rows (length v.rows) r.parent ∙ leads in
-        λ i. not (e i) && not (root i && same i))
+      let leads = right_true (nat_le first_id r.id && nat_lt r.id v.next_id) (leads_to_root v.rows (length v.rows) r.parent) (else_of (r.id == root_id) (r.dir && ((r.parent == root_parent) && bytes_eq r.name v.name)) ((nat_le first_id r.id && nat_lt r.id v.next_id) && leads_to_root v.rows (length v.rows) r.parent) e place) in
+      let root = nodes_same v.rows root_id ∙ facts.root in
+      let same : leads_to_root (map bare_row (map node_of v.rows)) (length (map bare_row (map node_of v.rows))) r.parent ≡ true =
+      ap (λ k. leads_to_root (map bare_row (map node_of v.rows)) k r.parent) (length-map bare_row (map node_of v.rows) ∙ length-map node_of v.rows) ∙ leads_same v.rows (length v.rows) r.parent ∙ leads in
+      λ i. not (e i) && not (root i && same i))
 
   pub node_inside : (r : VolumeRow) → is_in_place v r ≡ true → is_outside (tables_of v) (row.Node (node_of r)) ≡ false
   node_inside r place = cases (r.id == root_id)
       (λ e. root_low r.id v.next_id e)
       (λ e.
-        let range = left_true (nat_le first_id r.id && nat_lt r.id v.next_id) (leads_to_root v.rows (length v.rows) r.parent) (else_of (r.id == root_id) (r.dir && ((r.parent == root_parent) && bytes_eq r.name v.name)) ((nat_le first_id r.id && nat_lt r.id v.next_id) && leads_to_root v.rows (length v.rows) r.parent) e place) in
-        let low = lt_false r.id first_id (le_of _ _ (left_true (nat_le first_id r.id) (nat_lt r.id v.next_id) range)) in
-        let high = not_below r.id v.next_id (right_true (nat_le first_id r.id) (nat_lt r.id v.next_id) range) in
-        λ i. not (e i) && (low i || high i))
+      let range = left_true (nat_le first_id r.id && nat_lt r.id v.next_id) (leads_to_root v.rows (length v.rows) r.parent) (else_of (r.id == root_id) (r.dir && ((r.parent == root_parent) && bytes_eq r.name v.name)) ((nat_le first_id r.id && nat_lt r.id v.next_id) && leads_to_root v.rows (length v.rows) r.parent) e place) in
+      let low = lt_false r.id first_id (le_of _ _ (left_true (nat_le first_id r.id) (nat_lt r.id v.next_id) range)) in
+      let high = not_below r.id v.next_id (right_true (nat_le first_id r.id) (nat_lt r.id v.next_id) range) in
+      λ i. not (e i) && (low i || high i))
 
   pub node_few : (r : VolumeRow) → passes_limit (tables_of v) (row.Node (node_of r)) ≡ false
   node_few r =
       let count = lt_false most_nodes (length (nodes_to (node_of r) (tables_of v))) (let a = filter-most (λ (o : Node). nat_le o.id r.id) (map node_of v.rows) in let b = length-map node_of v.rows in let c = facts.few_rows in omega (arith, a, b, c)) in
       let sum = lt_false most_fork_bytes (sum_by (λ (o : Node). o.data_length + o.resource_length) (nodes_to (node_of r) (tables_of v)))
-        (let a = sum-filter (λ (o : Node). o.data_length + o.resource_length) (λ o. nat_le o.id r.id) (map node_of v.rows) in
-          let b = sum-map (λ (o : Node). o.data_length + o.resource_length) node_of (λ (s : VolumeRow). length s.data_fork + length s.resource_fork) v.rows (λ s. refl) in
-          let c = facts.few_bytes in omega (arith, a, b, c)) in
+      (let a = sum-filter (λ (o : Node). o.data_length + o.resource_length) (λ o. nat_le o.id r.id) (map node_of v.rows) in
+      let b = sum-map (λ (o : Node). o.data_length + o.resource_length) node_of (λ (s : VolumeRow). length s.data_fork + length s.resource_fork) v.rows (λ s. refl) in
+      let c = facts.few_bytes in omega (arith, a, b, c)) in
       either_false _ _ count sum
 
 -- nodes whose names are apart have no twins
@@ -149,10 +133,10 @@ no_twins_apart (x ∷ xs) c e =
     both_true (list_all (λ (o : Node). not (nat_lt o.id x.id && alike o x)) (x ∷ xs)) (no_twins (x ∷ xs) xs)
     (both_true (not (nat_lt x.id x.id && alike x x)) (list_all (λ (o : Node). not (nat_lt o.id x.id && alike o x)) xs) itself (later_none x xs c.0))
     (all-more (λ (n : Node). not (alike x n) && list_all (λ (o : Node). not (nat_lt o.id n.id && alike o n)) xs) (λ (n : Node). list_all (λ (o : Node). not (nat_lt o.id n.id && alike o n)) (x ∷ xs)) xs
-      (λ n h. both_true (not (nat_lt x.id n.id && alike x n)) (list_all (λ (o : Node). not (nat_lt o.id n.id && alike o n)) xs)
-        (not_and (nat_lt x.id n.id) (alike x n) (turn_false (alike x n) (left_true (not (alike x n)) (list_all (λ (o : Node). not (nat_lt o.id n.id && alike o n)) xs) h)))
-        (right_true (not (alike x n)) (list_all (λ (o : Node). not (nat_lt o.id n.id && alike o n)) xs) h))
-      (all-both (λ (n : Node). not (alike x n)) (λ (n : Node). list_all (λ (o : Node). not (nat_lt o.id n.id && alike o n)) xs) xs (none_of (alike x) xs (turn_false (list_any (alike x) xs) two.0)) rest))
+    (λ n h. both_true (not (nat_lt x.id n.id && alike x n)) (list_all (λ (o : Node). not (nat_lt o.id n.id && alike o n)) xs)
+    (not_and (nat_lt x.id n.id) (alike x n) (turn_false (alike x n) (left_true (not (alike x n)) (list_all (λ (o : Node). not (nat_lt o.id n.id && alike o n)) xs) h)))
+    (right_true (not (alike x n)) (list_all (λ (o : Node). not (nat_lt o.id n.id && alike o n)) xs) h))
+    (all-both (λ (n : Node). not (alike x n)) (λ (n : Node). list_all (λ (o : Node). not (nat_lt o.id n.id && alike o n)) xs) xs (none_of (alike x) xs (turn_false (list_any (alike x) xs) two.0)) rest))
   where
     none_of : (p : Node → Bool) (ys : List Node) → list_any p ys ≡ false → list_all (λ y. not (p y)) ys ≡ true
     none_of p [] h = refl
@@ -175,14 +159,14 @@ pub one_row : (rs : List VolumeRow) → Chain (λ (a : VolumeRow) b. nat_lt a.id
 one_row [] c = refl
 one_row (x ∷ xs) c =
     let itself : same_forks x x ≡ true = or_right (not (x.id == x.id)) ((length x.data_fork == length x.data_fork) && (length x.resource_fork == length x.resource_fork))
-      (both_true (length x.data_fork == length x.data_fork) (length x.resource_fork == length x.resource_fork) (same_true (length x.data_fork) (length x.data_fork) refl) (same_true (length x.resource_fork) (length x.resource_fork) refl)) in
+    (both_true (length x.data_fork == length x.data_fork) (length x.resource_fork == length x.resource_fork) (same_true (length x.data_fork) (length x.data_fork) refl) (same_true (length x.resource_fork) (length x.resource_fork) refl)) in
     both_true (list_all (same_forks x) (x ∷ xs)) (list_all (λ r. list_all (same_forks r) (x ∷ xs)) xs)
     (both_true (same_forks x x) (list_all (same_forks x) xs) itself (all-more (λ (o : VolumeRow). nat_lt x.id o.id) (same_forks x) xs (λ o e. other_id x o (λ h. absurd (let l : x.id < o.id = lt_of _ _ e in omega arith))) c.0))
     (all-more (λ (r : VolumeRow). nat_lt x.id r.id && list_all (same_forks r) xs) (λ r. list_all (same_forks r) (x ∷ xs)) xs
-      (λ r h. both_true (same_forks r x) (list_all (same_forks r) xs)
-        (other_id r x (λ k. absurd (let l : x.id < r.id = lt_of _ _ (left_true (nat_lt x.id r.id) (list_all (same_forks r) xs) h) in omega arith)))
-        (right_true (nat_lt x.id r.id) (list_all (same_forks r) xs) h))
-      (all-both (λ (r : VolumeRow). nat_lt x.id r.id) (λ r. list_all (same_forks r) xs) xs c.0 (one_row xs c.1)))
+    (λ r h. both_true (same_forks r x) (list_all (same_forks r) xs)
+    (other_id r x (λ k. absurd (let l : x.id < r.id = lt_of _ _ (left_true (nat_lt x.id r.id) (list_all (same_forks r) xs) h) in omega arith)))
+    (right_true (nat_lt x.id r.id) (list_all (same_forks r) xs) h))
+    (all-both (λ (r : VolumeRow). nat_lt x.id r.id) (λ r. list_all (same_forks r) xs) xs c.0 (one_row xs c.1)))
 
 -- a row is a directory, or its file is there
 pub each_there : (rs : List VolumeRow) → list_all (λ (r : VolumeRow). r.dir || has_file rs r.id) rs ≡ true
@@ -190,10 +174,10 @@ each_there [] = refl
 each_there (x ∷ xs) =
     both_true (x.dir || has_file (x ∷ xs) x.id) (list_all (λ (r : VolumeRow). r.dir || has_file (x ∷ xs) r.id) xs)
     (cases x.dir (λ d. or_left x.dir (has_file (x ∷ xs) x.id) d)
-      (λ d. or_right x.dir (has_file (x ∷ xs) x.id) (or_left (x.id == x.id && not x.dir) (has_file xs x.id) (both_true (x.id == x.id) (not x.dir) (same_true x.id x.id refl) (not_true x.dir d)))))
+    (λ d. or_right x.dir (has_file (x ∷ xs) x.id) (or_left (x.id == x.id && not x.dir) (has_file xs x.id) (both_true (x.id == x.id) (not x.dir) (same_true x.id x.id refl) (not_true x.dir d)))))
     (all-more (λ (r : VolumeRow). r.dir || has_file xs r.id) (λ (r : VolumeRow). r.dir || has_file (x ∷ xs) r.id) xs
-      (λ r e. cases r.dir (λ d. or_left r.dir (has_file (x ∷ xs) r.id) d)
-        (λ d. or_right r.dir (has_file (x ∷ xs) r.id) (or_right (x.id == r.id && not x.dir) (has_file xs r.id) (ap (λ b. b || has_file xs r.id) (sym d) ∙ e)))) (each_there xs))
+    (λ r e. cases r.dir (λ d. or_left r.dir (has_file (x ∷ xs) r.id) d)
+    (λ d. or_right r.dir (has_file (x ∷ xs) r.id) (or_right (x.id == r.id && not x.dir) (has_file xs r.id) (ap (λ b. b || has_file xs r.id) (sym d) ∙ e)))) (each_there xs))
 
 -- what is known of each row with all others
 abbrev pub is_known_row : VolumeState → VolumeRow → Bool

@@ -18,3 +18,4 @@ pub mod ImageBlocks
 pub mod ImageWhole
 pub mod ImageClear
 pub mod ImageLaw
+pub mod ShapeCode

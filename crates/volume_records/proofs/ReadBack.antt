@@ -1,13 +1,13 @@
 -- What is written is read back, and what is read has just that record.
-use Rattle.std.proofs.Common.{◌≡◌, ◌∙◌, ℕ, ℤ, pos, negsuc, ◌+◌, ◌<◌, ◌≤◌, ◌^◌, Bool, true, false, cond, List, [], ◌∷◌, ◌++◌, length, take, drop, refl, sym, ap, subst, arith, Option, w16, w32, w64}
-use Rattle.std.specs.Prelude.{Some, None, nat_le, ◌&&◌, ◌==◌, bytes_eq, FitsSigned}
-use Rattle.std.specs.Int.{to_be_bytes, from_be_bytes, cast_signed, cast_unsigned}
+use Rattle.std.proofs.Common.{◌≡◌, ◌∙◌, ℕ, ℤ, pos, negsuc, ◌<◌, ◌≤◌, ◌^◌, Bool, true, false, cond, List, [], ◌∷◌, ◌++◌, length, take, drop, refl, sym, ap, arith, w16, w32, w64}
+use Rattle.std.specs.Prelude.{Some, None, nat_le, ◌&&◌, ◌==◌, FitsSigned}
+use Rattle.std.specs.Int.{from_be_bytes, cast_signed, cast_unsigned}
 use Rattle.std.proofs.lemmas.Nat.{from_be_bytes-to_be_bytes_2, from_be_bytes-to_be_bytes_4, from_be_bytes-to_be_bytes_8}
 use Rattle.std.proofs.lemmas.Int.{ints, to_z-of_z}
 use Rattle.std.proofs.Math.Seq.{take-append_seam, drop-append_seam}
 use Rattle.afp_volume.specs.VolumeState.{Comment, Icon, Appl}
 use Rattle.afp_volume.specs.SoundVolume.{is_formed as is_formed_row, is_named, is_comment, is_icon, longest_icon}
-use Rattle.afp_volume.specs.TypedVolume.{is_byte, is_word, is_long, is_quad, is_date, are_bytes, is_typed_row, is_typed_comment, is_typed_icon, is_typed_appl}
+use Rattle.afp_volume.specs.TypedVolume.{is_byte, is_word, is_long, is_quad, is_date, are_bytes, is_typed_row, is_typed_icon, is_typed_appl}
 use Rattle.volume_records.specs.declared.rows.Record.{Record}
 use Rattle.volume_records.specs.declared.rows.Head.{Head}
 use Rattle.volume_records.specs.declared.rows.Node.{Node}
@@ -15,7 +15,7 @@ use Rattle.volume_records.specs.declared.rows.ForkBlock.{ForkBlock}
 use Rattle.volume_records.specs.declared.rows.Row.{Row}
 use Rattle.volume_records.specs.declared.rows.Row.TheVariants as row
 use Rattle.volume_records.specs.Records.{record_of, head_record, node_record, block_record, comment_record, icon_record, appl_record, flag_byte, long_bytes, word_bytes, quad_bytes, date_bytes}
-use Rattle.volume_records.specs.Shape.{row_in, guess, are_same, is_formed, is_formed_head, is_formed_node, is_formed_block, is_formed_comment, is_formed_icon, is_formed_appl, bare_row, has_fit_forks, is_root_or_other, node_in}
+use Rattle.volume_records.specs.Shape.{row_in, guess, are_same, is_formed, is_formed_head, is_formed_node, is_formed_block, is_formed_comment, is_formed_icon, is_formed_appl, bare_row, has_fit_forks, node_in}
 use Rattle.volume_records.proofs.TestParts.{left_true, right_true, lt_of, le_of, same_of, bytes_same, bytes_true, both_true}
 
 pub same_records : (a b : Record) → are_same a b ≡ true → a ≡ b
@@ -173,7 +173,7 @@ unfolding icon_record
 icon_back kind icon_kind tag bits t k creator e =
     four_cells (λ creator. guess (icon_record (record { creator = creator; kind = kind; icon_kind = icon_kind; tag = tag; bits = bits })) ≡ row.Icon (record { creator = creator; kind = kind; icon_kind = icon_kind; tag = tag; bits = bits }))
     (λ a b c d. four_cells (λ kind. guess (icon_record (record { creator = a ∷ b ∷ c ∷ d ∷ []; kind = kind; icon_kind = icon_kind; tag = tag; bits = bits })) ≡ row.Icon (record { creator = a ∷ b ∷ c ∷ d ∷ []; kind = kind; icon_kind = icon_kind; tag = tag; bits = bits }))
-      (λ e f g h. let back = long_back tag t in λ i. row.Icon (record { creator = a ∷ b ∷ c ∷ d ∷ []; kind = e ∷ f ∷ g ∷ h ∷ []; icon_kind = icon_kind; tag = back i; bits = bits })) kind k)
+    (λ e f g h. let back = long_back tag t in λ i. row.Icon (record { creator = a ∷ b ∷ c ∷ d ∷ []; kind = e ∷ f ∷ g ∷ h ∷ []; icon_kind = icon_kind; tag = back i; bits = bits })) kind k)
     creator e
 
 guess_icon : (i : Icon) → is_formed_icon i ≡ true → guess (icon_record i) ≡ row.Icon i

@@ -1,13 +1,12 @@
 -- Rows by rising key are the rows of tables: the head, then the nodes, blocks, comments, icons and APPL mappings.
-use Rattle.std.proofs.Common.{◌≡◌, ◌∙◌, ℕ, ◌<◌, ◌≤◌, Bool, true, false, cond, List, [], ◌∷◌, ◌++◌, map, refl, sym, ap, subst, arith, Option, ⊎_elim, ◌⊎◌, inl, inr}
-use Rattle.std.specs.Prelude.{Some, None, nat_le, ◌&&◌, ◌||◌, ◌==◌, bytes_eq}
+use Rattle.std.proofs.Common.{◌≡◌, ◌∙◌, ℕ, ◌<◌, ◌≤◌, true, cond, List, [], ◌∷◌, ◌++◌, map, refl, sym, ap, subst, Option, ⊎_elim, ◌⊎◌, inl, inr}
+use Rattle.std.specs.Prelude.{Some, None, nat_le, ◌||◌, ◌==◌, bytes_eq}
 use Rattle.std.specs.List.{list_all, list_any, filter, filter_map, cons_option}
-use Rattle.std.specs.Cmp.{tied_itself, nat_cmp_is}
-use Rattle.std.specs.Cmp.Lexicographic.{slice_cmp, nat_list_cmp_total}
+use Rattle.std.specs.Cmp.{nat_cmp_is}
+use Rattle.std.specs.Cmp.Lexicographic.{slice_cmp}
 use Rattle.std.specs.Ordering.{nat_cmp, ordering_then}
-use Rattle.std.specs.declared.cmp.Ordering.TheVariants.{Less, Equal, Greater}
+use Rattle.std.specs.declared.cmp.Ordering.TheVariants.{Less, Greater}
 use Rattle.std.proofs.lemmas.Bool.{cases_lt}
-use Rattle.std.proofs.lemmas.List.{map-append}
 use Rattle.afp_volume.specs.VolumeState.{Comment, Icon, Appl}
 use Rattle.afp_volume.specs.SoundVolume.{icon_key}
 use Rattle.volume_records.specs.declared.rows.Record.{Record}
@@ -19,7 +18,7 @@ use Rattle.volume_records.specs.declared.rows.Row.TheVariants as row
 use Rattle.volume_records.specs.Records.{record_of, head_record, node_record, block_record, comment_record, icon_record, appl_record, long_bytes, flag_byte}
 use Rattle.volume_records.specs.KeyOrder.{IsBelow, Rises, has_key, head_key}
 use Rattle.volume_records.specs.Image.{Tables, rows_of, tables_in, first_head, as_head, as_node, as_block, as_comment, as_icon, as_appl}
-use Rattle.volume_records.proofs.TestParts.{both_true, le_true, cases, bytes_same, or_right}
+use Rattle.volume_records.proofs.TestParts.{both_true, le_true, cases}
 use Rattle.volume_records.proofs.Parted.{Climbs, parted}
 
 -- the first byte of a row's key, and what stands behind it

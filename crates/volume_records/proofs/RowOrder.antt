@@ -1,5 +1,5 @@
 -- The keys of rows of one kind stand in the order of the rows.
-use Rattle.std.proofs.Common.{◌≡◌, ◌∙◌, ℕ, ◌<◌, ◌≤◌, ◌^◌, Bool, true, false, not, List, [], ◌∷◌, ◌++◌, map, length, refl, sym, ap, subst, arith, ◌⊎◌, inl, inr, ⊎_elim}
+use Rattle.std.proofs.Common.{◌≡◌, ◌∙◌, ℕ, ◌<◌, ◌≤◌, ◌^◌, Bool, true, false, List, [], ◌∷◌, ◌++◌, map, length, refl, sym, ap, arith, inl, inr}
 use Rattle.std.specs.Prelude.{nat_le, nat_lt, ◌&&◌, ◌||◌, ◌==◌}
 use Rattle.std.specs.List.{list_all}
 use Rattle.std.specs.Cmp.{tied_itself}
@@ -7,19 +7,17 @@ use Rattle.std.specs.Cmp.Lexicographic.{slice_cmp, nat_list_cmp_total}
 use Rattle.std.specs.Ordering.{nat_cmp, is_lt}
 use Rattle.std.specs.declared.cmp.Ordering.{Ordering}
 use Rattle.std.specs.declared.cmp.Ordering.TheVariants.{Less, Equal, Greater}
-use Rattle.std.proofs.lemmas.Bool.{cases_lt}
 use Rattle.afp_volume.specs.VolumeState.{Comment, Icon, Appl}
 use Rattle.afp_volume.specs.SoundVolume.{icon_key, appl_key}
 use Rattle.afp_volume.specs.TypedVolume.{is_long}
 use Rattle.afp_volume.specs.Order.{stands_before}
-use Rattle.volume_records.specs.declared.rows.Record.{Record}
 use Rattle.volume_records.specs.declared.rows.Node.{Node}
 use Rattle.volume_records.specs.declared.rows.ForkBlock.{ForkBlock}
 use Rattle.volume_records.specs.declared.rows.Row.{Row}
 use Rattle.volume_records.specs.declared.rows.Row.TheVariants as row
 use Rattle.volume_records.specs.Records.{record_of, node_record, block_record, comment_record, icon_record, appl_record, long_bytes, flag_byte}
 use Rattle.volume_records.specs.KeyOrder.{IsBelow, Rises}
-use Rattle.volume_records.proofs.TestParts.{left_true, right_true, both_true, or_left, or_right, cases, lt_of, le_of, lt_true, le_true, same_of, same_true}
+use Rattle.volume_records.proofs.TestParts.{left_true, right_true, both_true, or_left, or_right, lt_of, le_of, lt_true, same_of, same_true}
 use Rattle.volume_records.proofs.ByteOrder.{long_less, long_of, byte_less, byte_of, front_same, turned}
 use Rattle.volume_records.proofs.Chains.{Chain}
 use Rattle.volume_records.proofs.RowKinds.{tag_of, key_rest, key_is}
@@ -97,7 +95,6 @@ comments_up = chain_up (λ n. row.Comment n) (λ a b. nat_lt a.node b.node) (λ 
 
 -- ---- icons and APPL mappings, by key
 
-
 abbrev pub icon_before : Icon → Icon → Bool
 icon_before a b = stands_before (icon_key a) (icon_key b)
 
@@ -124,7 +121,6 @@ icons_up xs c = chain_up (λ n. row.Icon n) icon_before (λ n. true) key_of_icon
 
 abbrev pub is_fit_appl : Appl → Bool
 is_fit_appl a = is_long a.node && (length a.creator == 4)
-
 
 -- two lists of one length, each with a tail: another tail that decides alike may stand there
 pub tails_for : (xs ys us vs ps qs : List ℕ) → length xs ≡ length ys → (slice_cmp nat_cmp us vs ≡ Less → slice_cmp nat_cmp ps qs ≡ Less) → slice_cmp nat_cmp (xs ++ us) (ys ++ vs) ≡ Less → slice_cmp nat_cmp (xs ++ ps) (ys ++ qs) ≡ Less
@@ -205,16 +201,16 @@ key_of_block a b p q e =
     either (nat_lt a.node b.node) ((a.node == b.node) && fork_before a b) e
     (λ l. long_less a.node b.node end_a end_b (lt_of _ _ l) (fits b.node (left_true _ (is_long b.index) q)))
     (λ r.
-      let same : a.node ≡ b.node = same_of _ _ (left_true (a.node == b.node) (fork_before a b) r) in
-      let forks = right_true (a.node == b.node) (fork_before a b) r in
-      ap (λ n. slice_cmp nat_cmp (long_bytes n ++ end_a) (long_bytes b.node ++ end_b)) same ∙ front_same (long_bytes b.node) end_a end_b
-      ∙ either (nat_lt (flag_byte a.is_resource) (flag_byte b.is_resource)) ((flag_byte a.is_resource == flag_byte b.is_resource) && nat_lt a.index b.index) forks
-      (λ l. byte_less (flag_byte a.is_resource) (flag_byte b.is_resource) (long_bytes a.index) (long_bytes b.index) (lt_of _ _ l))
-      (λ s.
-        let fork : flag_byte a.is_resource ≡ flag_byte b.is_resource = same_of _ _ (left_true (flag_byte a.is_resource == flag_byte b.is_resource) (nat_lt a.index b.index) s) in
-        let index : a.index < b.index = lt_of _ _ (right_true (flag_byte a.is_resource == flag_byte b.is_resource) (nat_lt a.index b.index) s) in
-        ap (λ n. slice_cmp nat_cmp (n ∷ long_bytes a.index) (flag_byte b.is_resource ∷ long_bytes b.index)) fork
-        ∙ front_same (flag_byte b.is_resource ∷ []) (long_bytes a.index) (long_bytes b.index) ∙ long_less a.index b.index [] [] index (fits b.index (right_true (is_long b.node) _ q))))
+    let same : a.node ≡ b.node = same_of _ _ (left_true (a.node == b.node) (fork_before a b) r) in
+    let forks = right_true (a.node == b.node) (fork_before a b) r in
+    ap (λ n. slice_cmp nat_cmp (long_bytes n ++ end_a) (long_bytes b.node ++ end_b)) same ∙ front_same (long_bytes b.node) end_a end_b
+    ∙ either (nat_lt (flag_byte a.is_resource) (flag_byte b.is_resource)) ((flag_byte a.is_resource == flag_byte b.is_resource) && nat_lt a.index b.index) forks
+    (λ l. byte_less (flag_byte a.is_resource) (flag_byte b.is_resource) (long_bytes a.index) (long_bytes b.index) (lt_of _ _ l))
+    (λ s.
+    let fork : flag_byte a.is_resource ≡ flag_byte b.is_resource = same_of _ _ (left_true (flag_byte a.is_resource == flag_byte b.is_resource) (nat_lt a.index b.index) s) in
+    let index : a.index < b.index = lt_of _ _ (right_true (flag_byte a.is_resource == flag_byte b.is_resource) (nat_lt a.index b.index) s) in
+    ap (λ n. slice_cmp nat_cmp (n ∷ long_bytes a.index) (flag_byte b.is_resource ∷ long_bytes b.index)) fork
+    ∙ front_same (flag_byte b.is_resource ∷ []) (long_bytes a.index) (long_bytes b.index) ∙ long_less a.index b.index [] [] index (fits b.index (right_true (is_long b.node) _ q))))
 
 pub blocks_in_chain : (xs : List ForkBlock) → list_all is_fit_block xs ≡ true → Rises (map record_of (map (λ n. row.Block n) xs)) → Chain block_before xs
 blocks_in_chain = in_chain (λ n. row.Block n) block_before is_fit_block block_of_key

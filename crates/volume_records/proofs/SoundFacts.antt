@@ -1,15 +1,15 @@
 -- What a sound volume's tests say, one by one.
-use Rattle.std.proofs.Common.{◌≡◌, ◌∙◌, ℕ, zero, suc, ◌+◌, ◌<◌, ◌≤◌, Bool, true, false, cond, not, List, [], ◌∷◌, ◌++◌, map, length, refl, sym, ap, arith}
-use Rattle.std.specs.Prelude.{nat_le, nat_lt, ◌&&◌, ◌||◌, ◌==◌, bytes_eq}
-use Rattle.std.specs.List.{list_all, list_any}
-use Rattle.afp_volume.specs.VolumeState.{Comment, Icon, Appl, VolumeState, root_id, first_id}
+use Rattle.std.proofs.Common.{◌≡◌, ◌≤◌, Bool, true, false, length, refl}
+use Rattle.std.specs.Prelude.{nat_le, nat_lt, ◌&&◌, ◌==◌}
+use Rattle.std.specs.List.{list_all}
+use Rattle.afp_volume.specs.VolumeState.{Comment, Appl, VolumeState, root_id, first_id}
 use Rattle.afp_volume.specs.VolumeState.{Row as VolumeRow}
 use Rattle.afp_volume.specs.Order.{rises, rises_from}
 use Rattle.afp_base.specs.Apart.{are_apart}
-use Rattle.afp_volume.specs.SoundVolume.{IsSoundVolume, is_tree, is_in_place, has_apart_names, are_named_alike, has_noted_nodes, keeps_limits, is_formed_volume, is_in_order, has_rising_ids, has_node, has_file, leads_to_root, is_comment, is_icon, are_one_icon, are_one_appl, icon_key, appl_key, fork_bytes, most_nodes, most_fork_bytes, most_icons, most_appls, last_next_id, code_size}
+use Rattle.afp_volume.specs.SoundVolume.{IsSoundVolume, is_tree, is_in_place, has_apart_names, are_named_alike, has_noted_nodes, keeps_limits, is_formed_volume, is_in_order, has_rising_ids, has_node, has_file, is_comment, is_icon, are_one_icon, are_one_appl, icon_key, appl_key, fork_bytes, most_nodes, most_fork_bytes, most_icons, most_appls, last_next_id, code_size}
 use Rattle.afp_volume.specs.SoundVolume.{is_formed as is_formed_row}
 use Rattle.afp_volume.specs.TypedVolume.{is_date, are_bytes, is_typed_row, is_typed_comment, is_typed_icon, is_typed_appl, is_typed_volume}
-use Rattle.volume_records.proofs.TestParts.{left_true, right_true, parts, le_of}
+use Rattle.volume_records.proofs.TestParts.{right_true, parts, le_of}
 use Rattle.volume_records.proofs.Chains.{Chain, from-all, rises-chain}
 use Rattle.volume_records.proofs.RowOrder.{icon_before, appl_before}
 
@@ -69,7 +69,7 @@ form_facts : (v : VolumeState) → is_formed_volume v ≡ true
 unfolding is_formed_volume
 form_facts v e =
     let all = eight (nat_le first_id v.next_id && nat_le v.next_id last_next_id) (list_all is_formed_row v.rows) (are_apart (λ (a : Comment) b. a.node == b.node) v.comments) (list_all is_comment v.comments)
-      (are_apart are_one_icon v.icons) (list_all is_icon v.icons) (are_apart are_one_appl v.appls) (list_all (λ (a : Appl). length a.creator == code_size) v.appls) e in
+    (are_apart are_one_icon v.icons) (list_all is_icon v.icons) (are_apart are_one_appl v.appls) (list_all (λ (a : Appl). length a.creator == code_size) v.appls) e in
     (all.0, all.1, all.3, all.5, all.7)
 
 order_facts : (v : VolumeState) → is_in_order v ≡ true → Chain (λ (a : VolumeRow) b. nat_lt a.id b.id) v.rows × Chain (λ (a : Comment) b. nat_lt a.node b.node) v.comments × Chain icon_before v.icons × Chain appl_before v.appls
@@ -121,6 +121,6 @@ pub typed_facts : (v : VolumeState) → is_typed_volume v ≡ true → TypedFact
 unfolding is_typed_volume
 typed_facts v e =
     let rest = right_true (are_bytes v.name)
-      (is_date v.created && (is_date v.modified && (is_date v.backup && (nat_le v.next_id 4294967296 && (list_all is_typed_row v.rows && (list_all is_typed_comment v.comments && (list_all is_typed_icon v.icons && list_all is_typed_appl v.appls))))))) e in
+    (is_date v.created && (is_date v.modified && (is_date v.backup && (nat_le v.next_id 4294967296 && (list_all is_typed_row v.rows && (list_all is_typed_comment v.comments && (list_all is_typed_icon v.icons && list_all is_typed_appl v.appls))))))) e in
     let all = eight (is_date v.created) (is_date v.modified) (is_date v.backup) (nat_le v.next_id 4294967296) (list_all is_typed_row v.rows) (list_all is_typed_comment v.comments) (list_all is_typed_icon v.icons) (list_all is_typed_appl v.appls) rest in
     record { created = all.0; modified = all.1; backup = all.2; rows = all.4; comments = all.5; icons = all.6; appls = all.7 }

@@ -1,10 +1,10 @@
 -- Tables are what their rows make.
-use Rattle.std.proofs.Common.{◌≡◌, ◌∙◌, List, [], ◌∷◌, ◌++◌, map, refl, sym, ap, Option}
+use Rattle.std.proofs.Common.{◌≡◌, ◌∙◌, List, [], ◌∷◌, ◌++◌, map, refl, ap, Option}
 use Rattle.std.specs.Prelude.{Some, None}
 use Rattle.std.specs.List.{filter_map, cons_option}
 use Rattle.volume_records.specs.declared.rows.Row.{Row}
 use Rattle.volume_records.specs.declared.rows.Row.TheVariants as row
-use Rattle.volume_records.specs.Image.{Tables, rows_of, tables_in, as_head, as_node, as_block, as_comment, as_icon, as_appl}
+use Rattle.volume_records.specs.Image.{Tables, rows_of, tables_in, as_node, as_block, as_comment, as_icon, as_appl}
 use Rattle.volume_records.proofs.RowKinds.{behind_head, nil_behind}
 
 module _ {A : Type 0} (as_one : Row → Option A) where

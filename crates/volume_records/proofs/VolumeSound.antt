@@ -1,28 +1,25 @@
 -- The volume that whole tables say is sound.
-use Rattle.std.proofs.Common.{◌≡◌, ◌∙◌, ℕ, zero, suc, ◌+◌, ◌<◌, ◌≤◌, Bool, true, false, cond, not, List, [], ◌∷◌, ◌++◌, map, length, refl, sym, ap, subst, arith}
-use Rattle.std.specs.Prelude.{nat_le, nat_lt, ◌&&◌, ◌||◌, ◌==◌, bytes_eq, is_none, bit_and, sum_by}
+use Rattle.std.proofs.Common.{◌≡◌, ◌∙◌, ℕ, zero, suc, ◌+◌, ◌<◌, ◌≤◌, Bool, true, false, cond, not, List, [], ◌∷◌, ◌++◌, map, length, refl, sym, ap, arith}
+use Rattle.std.specs.Prelude.{nat_le, nat_lt, ◌&&◌, ◌||◌, ◌==◌, bytes_eq, bit_and, sum_by}
 use Rattle.std.specs.List.{list_all, list_any, filter}
-use Rattle.fork_bytes.specs.Kept.{bytes_of}
-use Rattle.afp_names.specs.Name.{name_fault, name_key}
-use Rattle.afp_volume.specs.VolumeState.{Comment, Icon, Appl, VolumeState, root_id, root_parent, first_id}
+use Rattle.afp_volume.specs.VolumeState.{Comment, Icon, Appl, root_id, root_parent, first_id}
 use Rattle.afp_volume.specs.VolumeState.{Row as VolumeRow}
-use Rattle.afp_volume.specs.Order.{stands_before, rises, rises_from}
+use Rattle.afp_volume.specs.Order.{stands_before}
 use Rattle.afp_base.specs.Apart.{are_apart}
-use Rattle.afp_volume.specs.SoundVolume.{IsSoundVolume, is_tree, is_in_place, has_apart_names, are_named_alike, has_noted_nodes, keeps_limits, is_formed_volume, is_in_order, has_rising_ids, has_node, has_file, leads_to_root, is_named, is_comment, is_icon, are_one_icon, are_one_appl, icon_key, appl_key, fork_bytes, most_nodes, most_fork_bytes, most_icons, most_appls, last_next_id, code_size, file_attributes, dir_attributes}
+use Rattle.afp_volume.specs.SoundVolume.{IsSoundVolume, is_tree, is_in_place, has_apart_names, are_named_alike, has_noted_nodes, keeps_limits, is_formed_volume, is_in_order, has_rising_ids, has_node, has_file, leads_to_root, is_named, is_comment, is_icon, are_one_icon, are_one_appl, icon_key, appl_key, most_nodes, most_fork_bytes, most_icons, most_appls, last_next_id, code_size, file_attributes, dir_attributes}
 use Rattle.afp_volume.specs.SoundVolume.{is_formed as is_formed_row}
 use Rattle.afp_volume.specs.TypedVolume.{is_date, is_quad, is_typed_row, is_typed_comment, is_typed_icon, is_typed_appl}
 use Rattle.volume_records.specs.declared.rows.Node.{Node}
 use Rattle.volume_records.specs.declared.rows.ForkBlock.{ForkBlock}
 use Rattle.volume_records.specs.declared.rows.Row.TheVariants as row
 use Rattle.volume_records.specs.Shape.{bare_row, is_formed, is_formed_node, is_formed_comment, is_formed_icon, is_formed_appl, has_fit_forks, is_root_or_other}
-use Rattle.volume_records.specs.Image.{Tables, rows_of}
+use Rattle.volume_records.specs.Image.{Tables}
 use Rattle.volume_records.specs.FirstBad.{tree_of, nodes_to, icons_to, appls_to}
-use Rattle.volume_records.proofs.TestParts.{left_true, right_true, both_true, or_left, or_right, cases, lt_of, le_of, lt_true, le_true, lt_false, ge_of, same_of, same_true, other_false, turn_true, turn_false, not_true, neither, bytes_same, bytes_true, all-more, all-both, all-map, any-map, any-same, any-more, none-any, any-none, pick, then_of, else_of, and_false}
+use Rattle.volume_records.proofs.TestParts.{left_true, right_true, both_true, cases, lt_of, lt_true, le_true, ge_of, same_of, other_false, turn_true, turn_false, not_true, neither, bytes_same, all-more, all-both, all-map, any-map, any-same, none-any, any-none, pick, then_of, and_false}
 use Rattle.volume_records.proofs.Chains.{Chain, chain-map, chain-apart, top, filter-whole, sum-map, chain-rises, all-from}
 use Rattle.volume_records.proofs.RowOrder.{icon_before, appl_before, before_itself, before_turned}
-use Rattle.volume_records.proofs.ReadBack.{node_parts}
 use Rattle.volume_records.proofs.Whole.{IsWhole, is_clear}
-use Rattle.volume_records.proofs.Facts.{EachKind, each_kind, IsFree, is_free, InOrder, in_order}
+use Rattle.volume_records.proofs.Facts.{each_kind, IsFree, is_free, in_order}
 use Rattle.volume_records.proofs.ForkParts.{ForkLaw, pieces, row_from, volume_of}
 
 -- ---- the tree
@@ -38,7 +35,7 @@ leads_alike blocks ns zero id = refl
 leads_alike blocks ns (suc steps) id = ap (λ b. (id == root_id) || b)
     (any-map (λ (r : VolumeRow). (r.id == id) && (r.dir && leads_to_root (map (row_from blocks) ns) steps r.parent)) (row_from blocks) ns
     ∙ any-same (λ (n : Node). (n.id == id) && (n.is_directory && leads_to_root (map (row_from blocks) ns) steps n.parent)) (λ (n : Node). (n.id == id) && (n.is_directory && leads_to_root (map bare_row ns) steps n.parent)) ns
-      (λ n. ap (λ b. (n.id == id) && (n.is_directory && b)) (leads_alike blocks ns steps n.parent))
+    (λ n. ap (λ b. (n.id == id) && (n.is_directory && b)) (leads_alike blocks ns steps n.parent))
     ∙ sym (any-map (λ (r : VolumeRow). (r.id == id) && (r.dir && leads_to_root (map bare_row ns) steps r.parent)) bare_row ns))
 
 pub length-map : {A B : Type 0} (f : A → B) (xs : List A) → length (map f xs) ≡ length xs
@@ -56,14 +53,14 @@ in_place_one name t n f free =
     ((nat_le first_id n.id && nat_lt n.id t.head.next_id) && leads_to_root (map (row_from t.blocks) t.nodes) (length (map (row_from t.blocks) t.nodes)) n.parent)
     (λ e. then_of (n.id == root_id) (n.is_directory && ((n.parent == root_parent) && bytes_eq n.name name)) true e formed)
     (λ e.
-      let range = neither (nat_lt n.id first_id) (nat_le t.head.next_id n.id) (and_false (not (n.id == root_id)) (nat_lt n.id first_id || nat_le t.head.next_id n.id) (ap not e) free.inside) in
-      let low : nat_le first_id n.id ≡ true = le_true _ _ (ge_of n.id first_id range.0) in
-      let high : nat_lt n.id t.head.next_id ≡ true = not_le n.id t.head.next_id range.1 in
-      let both = not_both (n.id == root_id) (has_node (tree_of t) root_id && leads_to_root (tree_of t) (length (tree_of t)) n.parent) e free.placed in
-      let leads = right_true (has_node (tree_of t) root_id) (leads_to_root (tree_of t) (length (tree_of t)) n.parent) both in
-      let same : leads_to_root (map (row_from t.blocks) t.nodes) (length (map (row_from t.blocks) t.nodes)) n.parent ≡ true =
-      ap (λ k. leads_to_root (map (row_from t.blocks) t.nodes) k n.parent) (length-map (row_from t.blocks) t.nodes ∙ sym (length-map bare_row t.nodes)) ∙ leads_alike t.blocks t.nodes (length (map bare_row t.nodes)) n.parent ∙ leads in
-      λ i. (low i && high i) && same i)
+    let range = neither (nat_lt n.id first_id) (nat_le t.head.next_id n.id) (and_false (not (n.id == root_id)) (nat_lt n.id first_id || nat_le t.head.next_id n.id) (ap not e) free.inside) in
+    let low : nat_le first_id n.id ≡ true = le_true _ _ (ge_of n.id first_id range.0) in
+    let high : nat_lt n.id t.head.next_id ≡ true = not_le n.id t.head.next_id range.1 in
+    let both = not_both (n.id == root_id) (has_node (tree_of t) root_id && leads_to_root (tree_of t) (length (tree_of t)) n.parent) e free.placed in
+    let leads = right_true (has_node (tree_of t) root_id) (leads_to_root (tree_of t) (length (tree_of t)) n.parent) both in
+    let same : leads_to_root (map (row_from t.blocks) t.nodes) (length (map (row_from t.blocks) t.nodes)) n.parent ≡ true =
+    ap (λ k. leads_to_root (map (row_from t.blocks) t.nodes) k n.parent) (length-map (row_from t.blocks) t.nodes ∙ sym (length-map bare_row t.nodes)) ∙ leads_alike t.blocks t.nodes (length (map bare_row t.nodes)) n.parent ∙ leads in
+    λ i. (low i && high i) && same i)
   where
     not_le : (a b : ℕ) → nat_le b a ≡ false → nat_lt a b ≡ true
     not_le a b e = grind (arith, e)
@@ -81,9 +78,9 @@ tree_made name t w =
     let apart = chain-apart (λ (a : VolumeRow) b. nat_lt a.id b.id) (λ a b. a.id == b.id) lower_differ (map (row_from t.blocks) t.nodes) (chain-map (λ (a : VolumeRow) b. nat_lt a.id b.id) (row_from t.blocks) t.nodes order.nodes) in
     let root = nodes_alike t.blocks t.nodes root_id ∙ w.root in
     let places = all-map (is_in_place (volume_of name t)) (row_from t.blocks) t.nodes
-      ∙ all-more (λ n. is_formed_node name n && is_clear t (row.Node n)) (λ n. is_in_place (volume_of name t) (row_from t.blocks n)) t.nodes
-        (λ n e. in_place_one name t n (left_true (is_formed_node name n) (is_clear t (row.Node n)) e) (is_free t (row.Node n) (right_true (is_formed_node name n) (is_clear t (row.Node n)) e)))
-        (all-both (is_formed_node name) (λ n. is_clear t (row.Node n)) t.nodes formed.nodes clear.nodes) in
+    ∙ all-more (λ n. is_formed_node name n && is_clear t (row.Node n)) (λ n. is_in_place (volume_of name t) (row_from t.blocks n)) t.nodes
+    (λ n e. in_place_one name t n (left_true (is_formed_node name n) (is_clear t (row.Node n)) e) (is_free t (row.Node n) (right_true (is_formed_node name n) (is_clear t (row.Node n)) e)))
+    (all-both (is_formed_node name) (λ n. is_clear t (row.Node n)) t.nodes formed.nodes clear.nodes) in
     λ i. apart i && (root i && places i)
 
 -- ---- names
@@ -103,9 +100,9 @@ first_apart : (x : Node) (os ns : List Node) → list_all (λ (n : Node). nat_lt
 first_apart x os ns c e =
     all-more (λ (n : Node). nat_lt x.id n.id && list_all (λ (o : Node). not (nat_lt o.id n.id && alike o n)) (x ∷ os)) (λ n. not (alike x n)) ns
     (λ n h.
-      let lower = left_true (nat_lt x.id n.id) (list_all (λ (o : Node). not (nat_lt o.id n.id && alike o n)) (x ∷ os)) h in
-      let none = left_true (not (nat_lt x.id n.id && alike x n)) (list_all (λ (o : Node). not (nat_lt o.id n.id && alike o n)) os) (right_true (nat_lt x.id n.id) (list_all (λ (o : Node). not (nat_lt o.id n.id && alike o n)) (x ∷ os)) h) in
-      not_true (alike x n) (and_false (nat_lt x.id n.id) (alike x n) lower (turn_false _ none)))
+    let lower = left_true (nat_lt x.id n.id) (list_all (λ (o : Node). not (nat_lt o.id n.id && alike o n)) (x ∷ os)) h in
+    let none = left_true (not (nat_lt x.id n.id && alike x n)) (list_all (λ (o : Node). not (nat_lt o.id n.id && alike o n)) os) (right_true (nat_lt x.id n.id) (list_all (λ (o : Node). not (nat_lt o.id n.id && alike o n)) (x ∷ os)) h) in
+    not_true (alike x n) (and_false (nat_lt x.id n.id) (alike x n) lower (turn_false _ none)))
     (all-both (λ (n : Node). nat_lt x.id n.id) (λ (n : Node). list_all (λ (o : Node). not (nat_lt o.id n.id && alike o n)) (x ∷ os)) ns c e)
 
 pub apart_made : (ns : List Node) → Chain (λ (a : Node) b. nat_lt a.id b.id) ns → no_twins ns ns ≡ true → are_apart alike ns ≡ true
@@ -124,7 +121,7 @@ names_made name t w =
     let clear = each_kind (is_clear t) t w.clear in
     let order = in_order name t w in
     let twins = all-more (λ n. is_clear t (row.Node n)) (λ (n : Node). list_all (λ (o : Node). not (nat_lt o.id n.id && alike o n)) t.nodes) t.nodes
-      (λ n e. none-any (λ (o : Node). nat_lt o.id n.id && alike o n) t.nodes (is_free t (row.Node n) e).lone) clear.nodes in
+    (λ n e. none-any (λ (o : Node). nat_lt o.id n.id && alike o n) t.nodes (is_free t (row.Node n) e).lone) clear.nodes in
     apart_map (row_from t.blocks) (λ a b. refl) t.nodes ∙ apart_made t.nodes order.nodes twins
 
 -- ---- comments and APPL mappings
@@ -134,9 +131,9 @@ unfolding has_noted_nodes
 notes_made name t w =
     let clear = each_kind (is_clear t) t w.clear in
     let comments = all-more (λ c. is_clear t (row.Comment c)) (λ (c : Comment). has_node (map (row_from t.blocks) t.nodes) c.node) t.comments
-      (λ c e. nodes_alike t.blocks t.nodes c.node ∙ turn_true _ (is_free t (row.Comment c) e).placed) clear.comments in
+    (λ c e. nodes_alike t.blocks t.nodes c.node ∙ turn_true _ (is_free t (row.Comment c) e).placed) clear.comments in
     let appls = all-more (λ c. is_clear t (row.Appl c)) (λ (c : Appl). has_file (map (row_from t.blocks) t.nodes) c.node) t.appls
-      (λ c e. files_alike t.blocks t.nodes c.node ∙ turn_true _ (is_free t (row.Appl c) e).placed) clear.appls in
+    (λ c e. files_alike t.blocks t.nodes c.node ∙ turn_true _ (is_free t (row.Appl c) e).placed) clear.appls in
     λ i. comments i && appls i
 
 -- ---- limits
@@ -162,16 +159,16 @@ limits_made law name t w =
     let order = in_order name t w in
     let both = λ (n : Node) (e : is_clear t (row.Node n) ≡ true). neither (nat_lt most_nodes (length (nodes_to n t))) (nat_lt most_fork_bytes (sum_by (λ (o : Node). o.data_length + o.resource_length) (nodes_to n t))) (is_free t (row.Node n) e).few in
     let nodes = at_top (λ (a : Node) b. nat_lt a.id b.id) (λ a b. nat_le a.id b.id) below_not (λ a. le_true _ _ (let l : a.id ≤ a.id = omega arith in l)) length most_nodes refl t.nodes order.nodes
-      (all-more (λ n. is_clear t (row.Node n)) (λ n. not (nat_lt most_nodes (length (nodes_to n t)))) t.nodes (λ n e. not_true _ (both n e).0) clear.nodes) in
+    (all-more (λ n. is_clear t (row.Node n)) (λ n. not (nat_lt most_nodes (length (nodes_to n t)))) t.nodes (λ n e. not_true _ (both n e).0) clear.nodes) in
     let bytes = at_top (λ (a : Node) b. nat_lt a.id b.id) (λ a b. nat_le a.id b.id) below_not (λ a. le_true _ _ (let l : a.id ≤ a.id = omega arith in l)) (sum_by (λ (o : Node). o.data_length + o.resource_length)) most_fork_bytes refl t.nodes order.nodes
-      (all-more (λ n. is_clear t (row.Node n)) (λ n. not (nat_lt most_fork_bytes (sum_by (λ (o : Node). o.data_length + o.resource_length) (nodes_to n t)))) t.nodes (λ n e. not_true _ (both n e).1) clear.nodes) in
+    (all-more (λ n. is_clear t (row.Node n)) (λ n. not (nat_lt most_fork_bytes (sum_by (λ (o : Node). o.data_length + o.resource_length) (nodes_to n t)))) t.nodes (λ n e. not_true _ (both n e).1) clear.nodes) in
     let icons = at_top icon_before (λ o m. not (stands_before (icon_key m) (icon_key o))) (λ a b e. not_above (icon_key a) (icon_key b) e) (λ a. not_true _ (before_itself (icon_key a))) length most_icons refl t.icons order.icons
-      (all-more (λ n. is_clear t (row.Icon n)) (λ n. not (nat_lt most_icons (length (icons_to n t)))) t.icons (λ n e. not_true _ (is_free t (row.Icon n) e).few) clear.icons) in
+    (all-more (λ n. is_clear t (row.Icon n)) (λ n. not (nat_lt most_icons (length (icons_to n t)))) t.icons (λ n e. not_true _ (is_free t (row.Icon n) e).few) clear.icons) in
     let appls = at_top appl_before (λ o m. not (stands_before (appl_key m) (appl_key o))) (λ a b e. not_above (appl_key a) (appl_key b) e) (λ a. not_true _ (before_itself (appl_key a))) length most_appls refl t.appls order.appls
-      (all-more (λ n. is_clear t (row.Appl n)) (λ n. not (nat_lt most_appls (length (appls_to n t)))) t.appls (λ n e. not_true _ (is_free t (row.Appl n) e).few) clear.appls) in
+    (all-more (λ n. is_clear t (row.Appl n)) (λ n. not (nat_lt most_appls (length (appls_to n t)))) t.appls (λ n e. not_true _ (is_free t (row.Appl n) e).few) clear.appls) in
     let count = ap (λ k. nat_le k most_nodes) (length-map (row_from t.blocks) t.nodes) ∙ nodes in
     let sum = ap (λ k. nat_le k most_fork_bytes) (sum-map (λ (r : VolumeRow). length r.data_fork + length r.resource_fork) (row_from t.blocks) (λ (o : Node). o.data_length + o.resource_length) t.nodes
-      (λ n. λ i. law.size n.data_length (pieces t.blocks n.id 0) i + law.size n.resource_length (pieces t.blocks n.id 1) i)) ∙ bytes in
+    (λ n. λ i. law.size n.data_length (pieces t.blocks n.id 0) i + law.size n.resource_length (pieces t.blocks n.id 1) i)) ∙ bytes in
     λ i. count i && (sum i && (icons i && appls i))
 
 -- ---- the rest
@@ -189,28 +186,28 @@ row_formed law name blocks n f =
     let forks = left_true (has_fit_forks n) (is_root_or_other name n) (right_true (is_formed_row (bare_row n)) (has_fit_forks n && is_root_or_other name n) behind) in
     let lengths = right_true (is_quad n.data_length && is_quad n.resource_length) (cond n.is_directory ((n.data_length == 0) && (n.resource_length == 0)) true) forks in
     (λ i. is_named (bare_row n) && cond n.is_directory ((bit_and n.attributes dir_attributes == n.attributes) && ((law.size n.data_length (pieces blocks n.id 0) i == 0) && ((law.size n.resource_length (pieces blocks n.id 1) i == 0) && not n.is_filed)))
-      (bit_and n.attributes file_attributes == n.attributes))
+    (bit_and n.attributes file_attributes == n.attributes))
     ∙ fit_lengths n.is_directory (is_named (bare_row n)) (bit_and n.attributes dir_attributes == n.attributes) (bit_and n.attributes file_attributes == n.attributes) n.is_filed (n.data_length == 0) (n.resource_length == 0) formed lengths
 
 -- what is one icon, or one mapping, has one key
 icon_apart : (a b : Icon) → icon_before a b ≡ true → are_one_icon a b ≡ false
 icon_apart a b e = cases (are_one_icon a b)
     (λ h.
-      let c : a.creator ≡ b.creator = bytes_same _ _ (left_true (bytes_eq a.creator b.creator) (bytes_eq a.kind b.kind && (a.icon_kind == b.icon_kind)) h) in
-      let r = right_true (bytes_eq a.creator b.creator) (bytes_eq a.kind b.kind && (a.icon_kind == b.icon_kind)) h in
-      let k : a.kind ≡ b.kind = bytes_same _ _ (left_true (bytes_eq a.kind b.kind) (a.icon_kind == b.icon_kind) r) in
-      let i : a.icon_kind ≡ b.icon_kind = same_of _ _ (right_true (bytes_eq a.kind b.kind) (a.icon_kind == b.icon_kind) r) in
-      let same : icon_key a ≡ icon_key b = λ j. c j ++ k j ++ i j ∷ [] in
-      absurd (let x : true ≡ false = sym e ∙ ap (λ l. stands_before l (icon_key b)) same ∙ before_itself (icon_key b) in cc))
+    let c : a.creator ≡ b.creator = bytes_same _ _ (left_true (bytes_eq a.creator b.creator) (bytes_eq a.kind b.kind && (a.icon_kind == b.icon_kind)) h) in
+    let r = right_true (bytes_eq a.creator b.creator) (bytes_eq a.kind b.kind && (a.icon_kind == b.icon_kind)) h in
+    let k : a.kind ≡ b.kind = bytes_same _ _ (left_true (bytes_eq a.kind b.kind) (a.icon_kind == b.icon_kind) r) in
+    let i : a.icon_kind ≡ b.icon_kind = same_of _ _ (right_true (bytes_eq a.kind b.kind) (a.icon_kind == b.icon_kind) r) in
+    let same : icon_key a ≡ icon_key b = λ j. c j ++ k j ++ i j ∷ [] in
+    absurd (let x : true ≡ false = sym e ∙ ap (λ l. stands_before l (icon_key b)) same ∙ before_itself (icon_key b) in cc))
     (λ h. h)
 
 appl_apart : (a b : Appl) → appl_before a b ≡ true → are_one_appl a b ≡ false
 appl_apart a b e = cases (are_one_appl a b)
     (λ h.
-      let c : a.creator ≡ b.creator = bytes_same _ _ (left_true (bytes_eq a.creator b.creator) (a.node == b.node) h) in
-      let i : a.node ≡ b.node = same_of _ _ (right_true (bytes_eq a.creator b.creator) (a.node == b.node) h) in
-      let same : appl_key a ≡ appl_key b = λ j. c j ++ i j ∷ [] in
-      absurd (let x : true ≡ false = sym e ∙ ap (λ l. stands_before l (appl_key b)) same ∙ before_itself (appl_key b) in cc))
+    let c : a.creator ≡ b.creator = bytes_same _ _ (left_true (bytes_eq a.creator b.creator) (a.node == b.node) h) in
+    let i : a.node ≡ b.node = same_of _ _ (right_true (bytes_eq a.creator b.creator) (a.node == b.node) h) in
+    let same : appl_key a ≡ appl_key b = λ j. c j ++ i j ∷ [] in
+    absurd (let x : true ≡ false = sym e ∙ ap (λ l. stands_before l (appl_key b)) same ∙ before_itself (appl_key b) in cc))
     (λ h. h)
 
 comment_apart : (a b : Comment) → nat_lt a.node b.node ≡ true → (a.node == b.node) ≡ false
@@ -236,9 +233,9 @@ id_above : (t : Tables) (n : Node) → IsFree t (row.Node n) → nat_lt 0 n.id �
 id_above t n free = cases (n.id == root_id)
     (λ e. let s : n.id ≡ root_id = same_of _ _ e in lt_true _ _ (omega arith))
     (λ e.
-      let range = neither (nat_lt n.id first_id) (nat_le t.head.next_id n.id) (and_false (not (n.id == root_id)) (nat_lt n.id first_id || nat_le t.head.next_id n.id) (ap not e) free.inside) in
-      let low : first_id ≤ n.id = ge_of n.id first_id range.0 in
-      lt_true _ _ (omega arith))
+    let range = neither (nat_lt n.id first_id) (nat_le t.head.next_id n.id) (and_false (not (n.id == root_id)) (nat_lt n.id first_id || nat_le t.head.next_id n.id) (ap not e) free.inside) in
+    let low : first_id ≤ n.id = ge_of n.id first_id range.0 in
+    lt_true _ _ (omega arith))
 
 above_there : (ns : List Node) (id : ℕ) → list_all (λ (n : Node). nat_lt 0 n.id) ns ≡ true → has_node (map bare_row ns) id ≡ true → nat_lt 0 id ≡ true
 above_there [] id e h = absurd (cc)
@@ -254,7 +251,7 @@ order_made name t w =
     let low = all-more (λ n. is_clear t (row.Node n)) (λ (n : Node). nat_lt 0 n.id) t.nodes (λ n e. id_above t n (is_free t (row.Node n) e)) clear.nodes in
     let rows = all-from (λ (r : VolumeRow). r.id) 0 (map (row_from t.blocks) t.nodes) (all-map (λ (r : VolumeRow). nat_lt 0 r.id) (row_from t.blocks) t.nodes ∙ low) (chain-map (λ (a : VolumeRow) b. nat_lt a.id b.id) (row_from t.blocks) t.nodes order.nodes) in
     let comments = all-from (λ (c : Comment). c.node) 0 t.comments
-      (all-more (λ c. is_clear t (row.Comment c)) (λ (c : Comment). nat_lt 0 c.node) t.comments (λ c e. above_there t.nodes c.node low (turn_true _ (is_free t (row.Comment c) e).placed)) clear.comments) order.comments in
+    (all-more (λ c. is_clear t (row.Comment c)) (λ (c : Comment). nat_lt 0 c.node) t.comments (λ c e. above_there t.nodes c.node low (turn_true _ (is_free t (row.Comment c) e).placed)) clear.comments) order.comments in
     let icons = chain-rises icon_key t.icons order.icons in
     let appls = chain-rises appl_key t.appls order.appls in
     λ i. rows i && (comments i && (icons i && appls i))

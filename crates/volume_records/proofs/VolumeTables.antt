@@ -1,28 +1,28 @@
 -- The tables of the volume that whole tables say are those tables, and its numbers are in their ranges.
-use Rattle.std.proofs.Common.{◌≡◌, ◌∙◌, ℕ, zero, suc, ◌+◌, ◌*◌, ◌/◌, ◌%◌, ◌<◌, ◌≤◌, Bool, true, false, cond, not, List, [], ◌∷◌, ◌++◌, map, length, get_or, refl, sym, ap, subst, arith}
-use Rattle.std.specs.Prelude.{nat_le, nat_lt, ◌&&◌, ◌||◌, ◌==◌, bytes_eq, flat_map, slice_index}
-use Rattle.std.specs.List.{list_all, list_any, filter}
+use Rattle.std.proofs.Common.{◌≡◌, ◌∙◌, ℕ, zero, suc, ◌+◌, ◌*◌, ◌/◌, ◌%◌, Bool, true, false, cond, not, List, [], ◌∷◌, ◌++◌, map, length, get_or, refl, sym, ap}
+use Rattle.std.specs.Prelude.{nat_le, nat_lt, ◌&&◌, ◌||◌, ◌==◌, bytes_eq, flat_map}
+use Rattle.std.specs.List.{list_all, list_any}
 use Rattle.fork_bytes.specs.declared.block.Block.{Block}
-use Rattle.fork_bytes.specs.Blocks.{block_size, trimmed}
+use Rattle.fork_bytes.specs.Blocks.{block_size}
 use Rattle.fork_bytes.specs.Kept.{bytes_of, bytes_in, byte_at, each_of}
-use Rattle.afp_volume.specs.VolumeState.{VolumeState, root_id, root_parent, first_id}
+use Rattle.afp_volume.specs.VolumeState.{root_id, root_parent, first_id}
 use Rattle.afp_volume.specs.VolumeState.{Row as VolumeRow}
 use Rattle.afp_volume.specs.SoundVolume.{has_file, has_node, is_formed as is_formed_row, is_comment, is_icon, last_next_id}
-use Rattle.afp_volume.specs.TypedVolume.{is_byte, is_long, is_word, is_date, are_bytes, is_typed_row, is_typed_volume, is_typed_comment, is_typed_icon, is_typed_appl}
+use Rattle.afp_volume.specs.TypedVolume.{is_byte, is_long, is_date, are_bytes, is_typed_row, is_typed_volume, is_typed_comment, is_typed_icon, is_typed_appl}
 use Rattle.volume_records.specs.declared.rows.Node.{Node}
 use Rattle.volume_records.specs.declared.rows.ForkBlock.{ForkBlock}
 use Rattle.volume_records.specs.declared.rows.Row.TheVariants as row
 use Rattle.volume_records.specs.Shape.{bare_row, is_formed, is_formed_node, is_formed_block, is_formed_comment, is_formed_icon, is_formed_appl, has_fit_forks, is_root_or_other}
-use Rattle.volume_records.specs.Image.{Tables, rows_of, tables_of, node_of, block_of, fork_blocks}
+use Rattle.volume_records.specs.Image.{Tables, tables_of, node_of, fork_blocks}
 use Rattle.volume_records.specs.FirstBad.{tree_of, fork_length}
-use Rattle.volume_records.proofs.TestParts.{left_true, right_true, both_true, or_left, cases, lt_of, le_of, lt_true, le_true, ge_of, same_of, same_true, turn_true, turn_false, bytes_same, all-more, all-both, all-map, any-map, any-more, none-any, all-swap, all-split, always, and_false, then_of}
+use Rattle.volume_records.proofs.TestParts.{left_true, right_true, both_true, cases, le_true, ge_of, turn_true, turn_false, bytes_same, all-more, all-both, all-map, any-map, any-more, none-any, all-swap, always, and_false, then_of}
 use Rattle.volume_records.proofs.Chains.{Chain, chain-more, all-filter, filter-passes}
 use Rattle.volume_records.proofs.Parted.{parted}
 use Rattle.volume_records.proofs.ReadBack.{node_parts}
 use Rattle.volume_records.proofs.RowOrder.{block_before}
 use Rattle.volume_records.specs.Records.{flag_byte}
 use Rattle.volume_records.proofs.Whole.{IsWhole, is_clear}
-use Rattle.volume_records.proofs.Facts.{EachKind, each_kind, IsFree, is_free, InOrder, in_order}
+use Rattle.volume_records.proofs.Facts.{each_kind, is_free, in_order}
 use Rattle.volume_records.proofs.ForkParts.{ForkLaw, piece_of, own, fork_part, pieces, row_from, volume_of, is_good_block, blocks_of_node, by_node}
 
 -- ---- the nodes
@@ -56,19 +56,19 @@ reaches_past n b = nat_lt (fork_length b.is_resource n) (block_size * b.index + 
 all_within : (t : Tables) → list_all (λ b. is_clear t (row.Block b)) t.blocks ≡ true → list_all (λ n. list_all (λ b. not ((n.id == b.node) && reaches_past n b)) t.blocks) t.nodes ≡ true
 all_within t c = all-swap (λ (n : Node) (b : ForkBlock). not ((n.id == b.node) && reaches_past n b)) t.nodes t.blocks
     (all-more (λ b. is_clear t (row.Block b)) (λ b. list_all (λ n. not ((n.id == b.node) && reaches_past n b)) t.nodes) t.blocks
-      (λ b e. none-any (λ n. (n.id == b.node) && reaches_past n b) t.nodes (is_free t (row.Block b) e).inside) c)
+    (λ b e. none-any (λ n. (n.id == b.node) && reaches_past n b) t.nodes (is_free t (row.Block b) e).inside) c)
 
 good_one : (n : Node) (b : ForkBlock) → (is_formed_block b && not ((n.id == b.node) && reaches_past n b)) ≡ true → (n.id == b.node) ≡ true → is_good_block n b ≡ true
 good_one n b f i =
     both_true (is_formed_block b) (nat_le (block_size * b.index + length b.bytes) (fork_length b.is_resource n)) (left_true (is_formed_block b) (not ((n.id == b.node) && reaches_past n b)) f)
     (le_true _ _ (ge_of (fork_length b.is_resource n) (block_size * b.index + length b.bytes)
-      (and_false (n.id == b.node) (reaches_past n b) i (turn_false _ (right_true (is_formed_block b) (not ((n.id == b.node) && reaches_past n b)) f)))))
+    (and_false (n.id == b.node) (reaches_past n b) i (turn_false _ (right_true (is_formed_block b) (not ((n.id == b.node) && reaches_past n b)) f)))))
 
 good_own : (n : Node) (blocks : List ForkBlock) → list_all is_formed_block blocks ≡ true → list_all (λ b. not ((n.id == b.node) && reaches_past n b)) blocks ≡ true → list_all (is_good_block n) (own blocks n.id) ≡ true
 good_own n blocks f w =
     let both = all-both is_formed_block (λ b. not ((n.id == b.node) && reaches_past n b)) blocks f w in
     let mine = all-both (λ b. is_formed_block b && not ((n.id == b.node) && reaches_past n b)) (λ b. n.id == b.node) (own blocks n.id)
-      (all-filter (λ (b : ForkBlock). n.id == b.node) (λ b. is_formed_block b && not ((n.id == b.node) && reaches_past n b)) blocks both) (filter-passes (λ (b : ForkBlock). n.id == b.node) blocks) in
+    (all-filter (λ (b : ForkBlock). n.id == b.node) (λ b. is_formed_block b && not ((n.id == b.node) && reaches_past n b)) blocks both) (filter-passes (λ (b : ForkBlock). n.id == b.node) blocks) in
     all-more (λ b. (is_formed_block b && not ((n.id == b.node) && reaches_past n b)) && (n.id == b.node)) (is_good_block n) (own blocks n.id)
     (λ b e. good_one n b (left_true (is_formed_block b && not ((n.id == b.node) && reaches_past n b)) (n.id == b.node) e) (right_true (is_formed_block b && not ((n.id == b.node) && reaches_past n b)) (n.id == b.node) e)) mine
 
@@ -83,7 +83,7 @@ node_by_node law blocks c f (n ∷ ns) w = λ i.
 owned : (t : Tables) → list_all (λ b. is_clear t (row.Block b)) t.blocks ≡ true → list_all (λ (b : ForkBlock). list_any (λ (n : Node). n.id == b.node) t.nodes) t.blocks ≡ true
 owned t c = all-more (λ b. is_clear t (row.Block b)) (λ (b : ForkBlock). list_any (λ (n : Node). n.id == b.node) t.nodes) t.blocks
     (λ b e. any-more (λ n. (n.id == b.node) && not n.is_directory) (λ n. n.id == b.node) t.nodes (λ n h. left_true (n.id == b.node) (not n.is_directory) h)
-      (sym (any-map (λ (r : VolumeRow). r.id == b.node && not r.dir) bare_row t.nodes) ∙ turn_true (has_file (tree_of t) b.node) (is_free t (row.Block b) e).placed)) c
+    (sym (any-map (λ (r : VolumeRow). r.id == b.node && not r.dir) bare_row t.nodes) ∙ turn_true (has_file (tree_of t) b.node) (is_free t (row.Block b) e).placed)) c
 
 blocks_again : ForkLaw → (name : List ℕ) (t : Tables) → IsWhole name t → flat_map fork_blocks (map (row_from t.blocks) t.nodes) ≡ t.blocks
 blocks_again law name t w =
@@ -92,8 +92,8 @@ blocks_again law name t w =
     let order = in_order name t w in
     node_by_node law t.blocks order.blocks formed.blocks t.nodes (all_within t clear.blocks)
     ∙ parted (λ (b : ForkBlock). b.node) (λ (n : Node). n.id) t.nodes t.blocks
-      (chain-more block_before (λ a b. nat_le a.node b.node) (λ b. true) t.blocks (λ a b p q e. by_node a b e) (always t.blocks) order.blocks)
-      order.nodes (owned t clear.blocks)
+    (chain-more block_before (λ a b. nat_le a.node b.node) (λ b. true) t.blocks (λ a b p q e. by_node a b e) (always t.blocks) order.blocks)
+    order.nodes (owned t clear.blocks)
 
 pub tables_again : ForkLaw → (name : List ℕ) (t : Tables) → IsWhole name t → tables_of (volume_of name t) ≡ t
 tables_again law name t w = λ i. record { head = t.head; nodes = nodes_again law t.blocks t.nodes i; blocks = blocks_again law name t w i; comments = t.comments; icons = t.icons; appls = t.appls }
@@ -126,7 +126,7 @@ pieces_typed : (blocks : List ForkBlock) (id fork : ℕ) → list_all is_formed_
 pieces_typed blocks id fork f =
     all-map (λ (b : Block). are_bytes b.bytes) piece_of (fork_part (own blocks id) fork)
     ∙ all-filter (λ (b : ForkBlock). fork == flag_byte b.is_resource) (λ (b : ForkBlock). are_bytes b.bytes) (own blocks id)
-      (all-filter (λ (b : ForkBlock). id == b.node) (λ (b : ForkBlock). are_bytes b.bytes) blocks (all-more is_formed_block (λ (b : ForkBlock). are_bytes b.bytes) blocks block_typed f))
+    (all-filter (λ (b : ForkBlock). id == b.node) (λ (b : ForkBlock). are_bytes b.bytes) blocks (all-more is_formed_block (λ (b : ForkBlock). are_bytes b.bytes) blocks block_typed f))
 
 row_typed : (name : List ℕ) (blocks : List ForkBlock) → list_all is_formed_block blocks ≡ true → (n : Node) → is_formed_node name n ≡ true → is_typed_row (row_from blocks n) ≡ true
 row_typed name blocks f n g =
@@ -140,11 +140,11 @@ root_named : (name : List ℕ) (ns : List Node) → list_all (is_formed_node nam
 root_named name [] f e = absurd (cc)
 root_named name (n ∷ ns) f e = cases (n.id == root_id)
     (λ t.
-      let formed = left_true (is_formed_node name n) (list_all (is_formed_node name) ns) f in
-      let other = right_true (has_fit_forks n) (is_root_or_other name n) (right_true (is_formed_row (bare_row n)) (has_fit_forks n && is_root_or_other name n) (right_true (is_typed_row (bare_row n)) (is_formed_row (bare_row n) && (has_fit_forks n && is_root_or_other name n)) formed)) in
-      let three = then_of (n.id == root_id) (n.is_directory && ((n.parent == root_parent) && bytes_eq n.name name)) true t other in
-      let same = bytes_same n.name name (right_true (n.parent == root_parent) (bytes_eq n.name name) (right_true n.is_directory ((n.parent == root_parent) && bytes_eq n.name name) three)) in
-      ap are_bytes (sym same) ∙ (node_parts name n formed).name)
+    let formed = left_true (is_formed_node name n) (list_all (is_formed_node name) ns) f in
+    let other = right_true (has_fit_forks n) (is_root_or_other name n) (right_true (is_formed_row (bare_row n)) (has_fit_forks n && is_root_or_other name n) (right_true (is_typed_row (bare_row n)) (is_formed_row (bare_row n) && (has_fit_forks n && is_root_or_other name n)) formed)) in
+    let three = then_of (n.id == root_id) (n.is_directory && ((n.parent == root_parent) && bytes_eq n.name name)) true t other in
+    let same = bytes_same n.name name (right_true (n.parent == root_parent) (bytes_eq n.name name) (right_true n.is_directory ((n.parent == root_parent) && bytes_eq n.name name) three)) in
+    ap are_bytes (sym same) ∙ (node_parts name n formed).name)
     (λ t. root_named name ns (right_true (is_formed_node name n) (list_all (is_formed_node name) ns) f) (ap (λ b. b || has_node (map bare_row ns) root_id) (sym t) ∙ e))
 
 pub volume_typed : (name : List ℕ) (t : Tables) → IsWhole name t → is_typed_volume (volume_of name t) ≡ true

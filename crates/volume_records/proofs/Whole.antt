@@ -1,27 +1,25 @@
 -- Records of which none is bad are those of whole tables, and those of whole tables have none that is bad.
-use Rattle.std.proofs.Common.{◌≡◌, ◌∙◌, ℕ, suc, ◌<◌, ◌≤◌, ◌^◌, Bool, true, false, cond, List, [], ◌∷◌, ◌++◌, map, length, drop, refl, sym, ap, subst, arith, Option, w32}
-use Rattle.std.specs.Prelude.{Some, None, is_none, nat_lt, nat_le, ◌&&◌, ◌||◌, ◌==◌, bytes_eq}
+use Rattle.std.proofs.Common.{◌≡◌, ◌∙◌, ℕ, suc, ◌<◌, ◌≤◌, Bool, true, false, cond, List, [], ◌∷◌, ◌++◌, map, length, drop, refl, sym, ap, subst, arith, Option, w32}
+use Rattle.std.specs.Prelude.{Some, None, is_none, nat_lt, ◌||◌, ◌==◌, bytes_eq}
 use Rattle.std.specs.Int.{from_be_bytes}
-use Rattle.std.specs.List.{list_all, list_any, filter_map, cons_option}
+use Rattle.std.specs.List.{list_all, filter_map, cons_option}
 use Rattle.std.proofs.lemmas.Nat.{from_be_bytes-to_be_bytes_4}
-use Rattle.std.proofs.lemmas.List.{map-append}
 use Rattle.afp_volume.specs.VolumeState.{root_id}
 use Rattle.afp_volume.specs.SoundVolume.{has_node}
 use Rattle.volume_records.specs.declared.rows.Record.{Record}
 use Rattle.volume_records.specs.declared.rows.BadRecord.{BadRecord}
 use Rattle.volume_records.specs.declared.rows.Node.{Node}
 use Rattle.volume_records.specs.declared.rows.Reason.{Reason}
-use Rattle.volume_records.specs.declared.rows.Reason.TheVariants.{Shape}
 use Rattle.volume_records.specs.declared.rows.Row.{Row}
 use Rattle.volume_records.specs.declared.rows.Row.TheVariants as row
 use Rattle.volume_records.specs.Records.{record_of, head_record, node_record, block_record, comment_record, icon_record, appl_record, long_bytes}
-use Rattle.volume_records.specs.Shape.{row_in, is_formed, is_formed_node, bare_row}
+use Rattle.volume_records.specs.Shape.{row_in, is_formed, bare_row}
 use Rattle.volume_records.specs.Image.{Tables, rows_of, tables_in, as_node}
 use Rattle.volume_records.specs.KeyOrder.{Rises, has_key, with_key, counted, head_key, root_key}
 use Rattle.volume_records.specs.FirstBad.{rows_in, tree_of, reason_of, bad_or, first_in, first_bad, first_bad_record, most_records, too_many}
-use Rattle.volume_records.proofs.TestParts.{both_true, left_true, right_true, cases, lt_of, same_true, same_of, bytes_same, bytes_true, or_left, or_right, lt_false}
+use Rattle.volume_records.proofs.TestParts.{both_true, left_true, right_true, cases, lt_of, same_true, same_of, bytes_same, or_left, or_right, lt_false}
 use Rattle.volume_records.proofs.ReadBack.{row_is, read_back, node_parts}
-use Rattle.volume_records.proofs.RowKinds.{rows_are, behind_head}
+use Rattle.volume_records.proofs.RowKinds.{rows_are}
 use Rattle.volume_records.proofs.TablesBack.{tables_back}
 use Rattle.volume_records.proofs.MissingKeys.{AllShaped, rises_with, has_with, still_has, none_missing, empty_head, empty_root, present_same}
 
@@ -87,8 +85,8 @@ rooted : (name : List ℕ) (xs : List Row) → list_all (is_formed name) xs ≡ 
 rooted name [] f e = absurd (cc)
 rooted name (x ∷ xs) f e = cases (bytes_eq (record_of x).key root_key)
     (λ t.
-      let n = is_root name x (left_true _ _ f) t in
-      ap (λ o. has_node (map bare_row (cons_option o (filter_map as_node xs))) root_id) n.1 ∙ or_left (n.0.id == root_id) _ (same_true _ _ n.2))
+    let n = is_root name x (left_true _ _ f) t in
+    ap (λ o. has_node (map bare_row (cons_option o (filter_map as_node xs))) root_id) n.1 ∙ or_left (n.0.id == root_id) _ (same_true _ _ n.2))
     (λ t. one_more (as_node x) (filter_map as_node xs) (rooted name xs (right_true _ _ f) (ap (λ b. b || has_key root_key (map record_of xs)) (sym t) ∙ e)))
 
 pub whole_made : (name : List ℕ) (records : List Record) → Rises records → has_key head_key records ≡ true → has_key root_key records ≡ true → first_bad name records ≡ None
@@ -98,8 +96,7 @@ whole_made name records s h r e =
     let read = all_read name (tables_in (rows_in name records)) records e in
     let back = sym read.same in
     let rises : Rises (map record_of (rows_in name records)) = subst Rises back s in
-    let are = rows_are (rows_in name records) rises (subst (λ (x : List Record). has_key head_key x ≡ true) back h) in
-    (
+    let are = rows_are (rows_in name records) rises (subst (λ (x : List Record). has_key head_key x ≡ true) back h) in (
       record {
         formed = ap (list_all (is_formed name)) are ∙ read.formed;
         clear = ap (list_all (is_clear (tables_in (rows_in name records)))) are ∙ read.clear;

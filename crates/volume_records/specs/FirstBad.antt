@@ -1,9 +1,9 @@
 -- The first record that breaks a rule of a volume (this profile).
-use Rattle.std.specs.Prelude.{ℕ, ◌+◌, ◌*◌, ◌==◌, nat_le, nat_lt, Bool, true, false, not, ◌&&◌, ◌||◌, if◌then◌else◌, List, [], ◌∷◌, map, length, drop, sum_by, Option, Some, None}
+use Rattle.std.specs.Prelude.{ℕ, ◌+◌, ◌*◌, ◌==◌, nat_le, nat_lt, Bool, false, not, ◌&&◌, ◌||◌, if◌then◌else◌, List, [], ◌∷◌, map, length, drop, sum_by, Option, Some, None}
 use Rattle.std.specs.List.{list_any, filter, filter_map}
 use Rattle.fork_bytes.specs.Blocks.{block_size}
 use Rattle.afp_volume.specs.VolumeState.{Row as VolumeRow}
-use Rattle.afp_volume.specs.VolumeState.{Comment, Icon, Appl, root_id, first_id}
+use Rattle.afp_volume.specs.VolumeState.{Icon, Appl, root_id, first_id}
 use Rattle.afp_volume.specs.Order.{stands_before}
 use Rattle.afp_volume.specs.SoundVolume.{has_node, has_file, leads_to_root, are_named_alike, most_nodes, most_fork_bytes, most_icons, most_appls, icon_key, appl_key}
 use Rattle.volume_records.specs.declared.rows.Record.{Record}

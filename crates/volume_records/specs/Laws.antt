@@ -1,5 +1,5 @@
 -- The laws of a volume's records, in the subject's own words (this profile).
-use Rattle.std.specs.Prelude.{◌≡◌, ℕ, true, List, [], Option, Some, None}
+use Rattle.std.specs.Prelude.{◌≡◌, ℕ, true, List, [], Some, None}
 use Rattle.std.specs.FinMap.{entries}
 use Rattle.afp_volume.specs.VolumeState.{VolumeState}
 use Rattle.afp_volume.specs.SoundVolume.{IsSoundVolume}

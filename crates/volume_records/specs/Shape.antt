@@ -1,5 +1,5 @@
 -- Which records are of a volume's shape, and what they say (this profile).
-use Rattle.std.specs.Prelude.{ℕ, ℤ, ◌+◌, ◌==◌, nat_le, Bool, true, not, ◌&&◌, if◌then◌else◌, List, [], ◌∷◌, length, take, drop, slice_index, bytes_eq, Option, Some, None}
+use Rattle.std.specs.Prelude.{ℕ, ℤ, ◌+◌, ◌==◌, nat_le, Bool, true, ◌&&◌, if◌then◌else◌, List, [], ◌∷◌, length, take, drop, slice_index, bytes_eq, Option, Some, None}
 use Rattle.std.specs.Int.{from_be_bytes, cast_signed, w16, w32, w64}
 use Rattle.fork_bytes.specs.Blocks.{block_size, trimmed}
 use Rattle.afp_volume.specs.VolumeState.{Comment, Icon, Appl, root_id, root_parent, first_id}

@@ -2,6 +2,14 @@
 #![tactic(auto)]
 
 pub mod laws;
+mod numbers;
+mod read;
 mod rows;
+mod shape;
+mod write;
 
+pub use read::read_row;
 pub use rows::{Appl, BadRecord, Comment, ForkBlock, Head, Icon, Node, Reason, Record, Row};
+pub use write::{
+    appl_record, block_record, comment_record, head_record, icon_record, node_record, record_of,
+};

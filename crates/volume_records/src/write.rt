@@ -1,0 +1,187 @@
+//! The record of a row.
+ghost use Rattle.std.specs.Prelude.{◌≡◌, ◌∷◌, ◌++◌, [], IfOk, OnOk};
+ghost use Rattle.volume_records.specs.Records.{head_record as the_head, node_record as the_node, block_record as the_block, comment_record as the_comment, icon_record as the_icon, appl_record as the_appl, record_of as the_record, flag_byte, word_bytes, long_bytes, quad_bytes, date_bytes, version, head_tag, node_tag, block_tag, comment_tag, icon_tag, appl_tag};
+
+use crate::rows::{Appl, Comment, ForkBlock, Head, Icon, Node, Record, Row};
+use afp_base::{Bytes, OutOfMemory};
+use std::alloc::Global;
+
+/// The version of a volume's records.
+const VERSION: u16 = 1;
+
+// The first byte of a key, by what the record is of.
+const HEAD: u8 = 0;
+
+const NODE: u8 = 1;
+
+const BLOCK: u8 = 2;
+
+const COMMENT: u8 = 3;
+
+const ICON: u8 = 4;
+
+const APPL: u8 = 5;
+
+fn flag(set: bool) -> u8
+    ensures { result ≡ flag_byte set }
+{
+    if set { 1 } else { 0 }
+}
+
+/// Bytes of one's own.
+pub(crate) fn owned(alloc: Global, piece: &[u8]) -> Result<Bytes, OutOfMemory>
+    ensures { IfOk result (λ b. b ≡ piece.now) }
+{
+    let mut bytes = Bytes::new(alloc);
+    bytes.extend(piece)?;
+    Ok(bytes)
+}
+
+fn put_byte(bytes: &mut Bytes, byte: u8) -> Result<(), OutOfMemory>
+    ensures { OnOk result (bytes.new ≡ bytes.old ++ byte ∷ []) }
+{
+    bytes.extend(&[byte])
+}
+
+fn put_word(bytes: &mut Bytes, n: u16) -> Result<(), OutOfMemory>
+    ensures { OnOk result (bytes.new ≡ bytes.old ++ word_bytes n) }
+{
+    bytes.extend(&n.to_be_bytes())
+}
+
+fn put_long(bytes: &mut Bytes, n: u32) -> Result<(), OutOfMemory>
+    ensures { OnOk result (bytes.new ≡ bytes.old ++ long_bytes n) }
+{
+    bytes.extend(&n.to_be_bytes())
+}
+
+fn put_quad(bytes: &mut Bytes, n: u64) -> Result<(), OutOfMemory>
+    ensures { OnOk result (bytes.new ≡ bytes.old ++ quad_bytes n) }
+{
+    bytes.extend(&n.to_be_bytes())
+}
+
+fn put_date(bytes: &mut Bytes, date: i32) -> Result<(), OutOfMemory>
+    ensures { OnOk result (bytes.new ≡ bytes.old ++ date_bytes date) }
+{
+    put_long(bytes, date.cast_unsigned())
+}
+
+/// The record of a volume's head.
+#[tactic(auto, unfolding(crate::specs::Records::head_record))]
+pub fn head_record(alloc: Global, head: &Head) -> Result<Record, OutOfMemory>
+    ensures { IfOk result (λ r. r ≡ the_head head.now) }
+{
+    let key = owned(alloc, &[HEAD])?;
+    let mut value = Bytes::new(alloc);
+    put_word(&mut value, VERSION)?;
+    put_date(&mut value, head.created)?;
+    put_date(&mut value, head.modified)?;
+    put_date(&mut value, head.backup)?;
+    put_quad(&mut value, head.next_id)?;
+    Ok(Record { key, value })
+}
+
+/// What stands before the Finder info.
+fn front_of(alloc: Global, node: &Node) -> Result<Bytes, OutOfMemory>
+    ensures { IfOk result (λ b. b ≡ flag_byte node.now.is_directory ∷ (long_bytes node.now.parent ++ (word_bytes node.now.attributes ++ (date_bytes node.now.created ++ (date_bytes node.now.modified ++ date_bytes node.now.backup))))) }
+{
+    let mut front = owned(alloc, &[flag(node.is_directory)])?;
+    put_long(&mut front, node.parent)?;
+    put_word(&mut front, node.attributes)?;
+    put_date(&mut front, node.created)?;
+    put_date(&mut front, node.modified)?;
+    put_date(&mut front, node.backup)?;
+    Ok(front)
+}
+
+/// What stands behind it.
+fn behind_of(alloc: Global, node: &Node) -> Result<Bytes, OutOfMemory>
+    ensures { IfOk result (λ b. b ≡ flag_byte node.now.is_filed ∷ (quad_bytes node.now.data_length ++ (quad_bytes node.now.resource_length ++ node.now.name))) }
+{
+    let mut behind = owned(alloc, &[flag(node.is_filed)])?;
+    put_quad(&mut behind, node.data_length)?;
+    put_quad(&mut behind, node.resource_length)?;
+    behind.extend(node.name.as_slice())?;
+    Ok(behind)
+}
+
+/// The record of a node.
+#[tactic(auto, unfolding(crate::specs::Records::node_record))]
+pub fn node_record(alloc: Global, node: &Node) -> Result<Record, OutOfMemory>
+    ensures { IfOk result (λ r. r ≡ the_node node.now) }
+{
+    let mut key = owned(alloc, &[NODE])?;
+    put_long(&mut key, node.id)?;
+    let mut value = front_of(alloc, node)?;
+    value.extend(node.finder.as_slice())?;
+    let behind = behind_of(alloc, node)?;
+    value.extend(behind.as_slice())?;
+    Ok(Record { key, value })
+}
+
+/// The record of a block of a fork.
+#[tactic(auto, unfolding(crate::specs::Records::block_record))]
+pub fn block_record(alloc: Global, block: &ForkBlock) -> Result<Record, OutOfMemory>
+    ensures { IfOk result (λ r. r ≡ the_block block.now) }
+{
+    let mut key = owned(alloc, &[BLOCK])?;
+    put_long(&mut key, block.node)?;
+    put_byte(&mut key, flag(block.is_resource))?;
+    put_long(&mut key, block.index)?;
+    let value = block.bytes.copy()?;
+    Ok(Record { key, value })
+}
+
+/// The record of a comment.
+#[tactic(auto, unfolding(crate::specs::Records::comment_record))]
+pub fn comment_record(alloc: Global, comment: &Comment) -> Result<Record, OutOfMemory>
+    ensures { IfOk result (λ r. r ≡ the_comment comment.now) }
+{
+    let mut key = owned(alloc, &[COMMENT])?;
+    put_long(&mut key, comment.node)?;
+    let value = comment.text.copy()?;
+    Ok(Record { key, value })
+}
+
+/// The record of an icon.
+#[tactic(auto, unfolding(crate::specs::Records::icon_record))]
+pub fn icon_record(alloc: Global, icon: &Icon) -> Result<Record, OutOfMemory>
+    ensures { IfOk result (λ r. r ≡ the_icon icon.now) }
+{
+    let mut key = owned(alloc, &[ICON])?;
+    key.extend(icon.creator.as_slice())?;
+    key.extend(icon.kind.as_slice())?;
+    put_byte(&mut key, icon.icon_kind)?;
+    let mut value = Bytes::new(alloc);
+    put_long(&mut value, icon.tag)?;
+    value.extend(icon.bits.as_slice())?;
+    Ok(Record { key, value })
+}
+
+/// The record of an APPL mapping.
+#[tactic(auto, unfolding(crate::specs::Records::appl_record))]
+pub fn appl_record(alloc: Global, appl: &Appl) -> Result<Record, OutOfMemory>
+    ensures { IfOk result (λ r. r ≡ the_appl appl.now) }
+{
+    let mut key = owned(alloc, &[APPL])?;
+    key.extend(appl.creator.as_slice())?;
+    put_long(&mut key, appl.node)?;
+    let mut value = Bytes::new(alloc);
+    put_long(&mut value, appl.tag)?;
+    Ok(Record { key, value })
+}
+
+/// The record that says a row. The one error is want of memory.
+pub fn record_of(alloc: Global, row: &Row) -> Result<Record, OutOfMemory>
+    ensures { IfOk result (λ r. r ≡ the_record row.now) }
+{
+    match row {
+        Row::Head(head) => head_record(alloc, head),
+        Row::Node(node) => node_record(alloc, node),
+        Row::Block(block) => block_record(alloc, block),
+        Row::Comment(comment) => comment_record(alloc, comment),
+        Row::Icon(icon) => icon_record(alloc, icon),
+        Row::Appl(appl) => appl_record(alloc, appl),
+    }
+}
