@@ -19,3 +19,5 @@ pub mod ImageWhole
 pub mod ImageClear
 pub mod ImageLaw
 pub mod ShapeCode
+pub mod Climbing
+pub mod SeenLemmas

@@ -4,3 +4,6 @@ pub mod Image
 pub mod KeyOrder
 pub mod Laws
 pub mod FirstBad
+pub mod Climb
+pub mod Judged
+pub mod Loaded

@@ -1,13 +1,18 @@
 //! The records in which a keeper holds a volume: one for its head, one for each node, block of a fork, comment, icon and APPL mapping.
 #![tactic(auto)]
 
+mod climb;
+mod judge;
 pub mod laws;
+mod load;
 mod numbers;
 mod read;
 mod rows;
 mod shape;
+mod tree;
 mod write;
 
+pub use load::Loaded;
 pub use read::read_row;
 pub use rows::{Appl, BadRecord, Comment, ForkBlock, Head, Icon, Node, Reason, Record, Row};
 pub use write::{

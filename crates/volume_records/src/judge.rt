@@ -1,0 +1,107 @@
+//! Judging one record, by the tree of all nodes and the records before it.
+ghost use Rattle.std.specs.Prelude.{◌≡◌, ◌≤◌, ◌<◌, ◌+◌, ◌||◌, ◌&&◌, ◌==◌, ◌∷◌, [], not, bytes_eq, nat_lt, ℕ, List, length, true, None, Some, IfOk, OnOk};
+ghost use Rattle.afp_names.specs.Name.{name_fault, name_key};
+ghost use Rattle.volume_records.specs.declared.rows.Row.TheVariants as row;
+ghost use Rattle.volume_records.specs.Judged.{has_seen, Before, HasBefore, KeepsTree, IsTree, IsNamedRow, IsJudged, IsJudgedRow, is_short_row};
+
+use crate::rows::{ForkBlock, Node, Reason, Row};
+use crate::tree::{Tree, is_stray, reaches_behind};
+use afp_base::OutOfMemory;
+use afp_names::{Name, NameFault};
+use std::alloc::Global;
+use std::collections::BTreeSet;
+
+const ROOT: u32 = 2;
+const FIRST_ID: u32 = 17;
+const MOST_NODES: usize = 100_000;
+const MOST_FORK_BYTES: u64 = 268_435_456;
+const MOST_ICONS: usize = 1024;
+const MOST_APPLS: usize = 4096;
+
+/// What is known of the records before the one that is judged.
+#[derive(Drop)]
+pub(crate) struct Pass {
+    pub(crate) tree: Tree,
+    pub(crate) next: u64,
+    pub(crate) seen: BTreeSet<(u32, Vec<u8>)>,
+    pub(crate) nodes: usize,
+    pub(crate) bytes: u64,
+    pub(crate) icons: usize,
+    pub(crate) appls: usize,
+}
+
+fn copied(alloc: Global, bytes: &[u8]) -> Result<Vec<u8>, OutOfMemory>
+    ensures { IfOk result (λ copy. copy.items ≡ bytes.now) }
+{
+    let mut copy = Vec::new(alloc);
+    copy.extend_from_slice(bytes)?;
+    Ok(copy)
+}
+
+/// What a name shares with the names that count as it.
+fn key_of(alloc: Global, name: &[u8]) -> Result<Vec<u8>, OutOfMemory>
+    ensures { name_fault name.now ≡ None → IfOk result (λ key. key.items ≡ name_key name.now) }
+{
+    match Name::new(alloc, name) {
+        Ok(name) => {
+            let key = name.key(alloc)?;
+            copied(alloc, key.as_slice())
+        }
+        Err(fault) => match fault {
+            NameFault::Memory => Err(OutOfMemory),
+            NameFault::Empty => Ok(Vec::new(alloc)),
+            NameFault::TooLong => Ok(Vec::new(alloc)),
+            NameFault::HasNul => Ok(Vec::new(alloc)),
+            NameFault::NotUtf8 => Ok(Vec::new(alloc)),
+        },
+    }
+}
+
+/// Whether a name has not been seen in that directory; from now on it has.
+fn is_new(
+    alloc: Global,
+    seen: &mut BTreeSet<(u32, Vec<u8>)>,
+    parent: u32,
+    name: &[u8],
+) -> Result<bool, OutOfMemory>
+    ensures new { name_fault name.now ≡ None → IfOk result (λ new. new ≡ not (has_seen seen.old parent (name_key name.now))) }
+    ensures seen { name_fault name.now ≡ None → OnOk result ((p : ℕ) (key : List ℕ) → has_seen seen.new p key ≡ (((p == parent) && bytes_eq key (name_key name.now)) || has_seen seen.old p key)) }
+{
+    let key = key_of(alloc, name)?;
+    let Ok(new) = seen.insert((parent, key)) else {
+        return Err(OutOfMemory);
+    };
+    Ok(new)
+}
+
+/// Whether two forks more pass the limit.
+fn passes_bytes(bytes: u64, data: u64, resource: u64) -> bool
+    requires { bytes ≤ 268435456 }
+    ensures { result ≡ nat_lt 268435456 (bytes + (data + resource)) }
+{
+    data > MOST_FORK_BYTES
+        || resource > MOST_FORK_BYTES
+        || bytes + data + resource > MOST_FORK_BYTES
+}
+
+/// The first reason behind Parent to refuse a node.
+fn judge_node(alloc: Global, pass: &mut Pass, node: &Node) -> Result<Option<Reason>, OutOfMemory>
+    requires few { pass.old.bytes ≤ 268435456 }
+    ensures same { OnOk result (KeepsTree pass.old pass.new) }
+    ensures reason { name_fault node.now.name ≡ None → IfOk result (λ reason. (before : Before) → HasBefore before pass.old → IsJudged pass.old before (row.Node node.now) reason pass.new) }
+{
+    if !is_new(alloc, &mut pass.seen, node.parent, node.name.as_slice())? {
+        return Ok(Some(Reason::Twin));
+    }
+    if node.id != ROOT && (node.id < FIRST_ID || pass.next <= node.id as u64) {
+        return Ok(Some(Reason::Range));
+    }
+    if MOST_NODES <= pass.nodes
+        || passes_bytes(pass.bytes, node.data_length, node.resource_length)
+    {
+        return Ok(Some(Reason::Limit));
+    }
+    pass.nodes += 1;
+    pass.bytes += node.data_length + node.resource_length;
+    Ok(None)
+}
