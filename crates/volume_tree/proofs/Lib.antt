@@ -10,3 +10,4 @@ pub mod Deleting
 pub mod Paths
 pub mod Creating
 pub mod Placing
+pub mod FileForks

@@ -2,3 +2,4 @@ pub mod Shown
 pub mod Planned
 pub mod Kept
 pub mod Answered
+pub mod Requests

@@ -1,9 +1,9 @@
 -- A volume's tree as contracts see it (the form is this profile's).
-use Rattle.std.specs.Prelude.{ℕ, ◌==◌, ◌&&◌, Bool, not, if◌then◌else◌, List, map, Option, option_map}
-use Rattle.std.specs.List.{find}
+use Rattle.std.specs.Prelude.{ℕ, Bool, if◌then◌else◌, List, map, Option, Some, None, option_map}
 use Rattle.afp_base.specs.declared.ids.NodeId.{NodeId}
 use Rattle.afp_volume.specs.Calls.{Opened}
 use Rattle.afp_volume.specs.VolumeState.{Row, VolumeState}
+use Rattle.afp_volume.specs.Walk.{row_at}
 
 -- a volume, which has no comments, icons and APPL rows here; and room for so many nodes more
 pub record TreeValue : Type 0 where
@@ -14,9 +14,14 @@ pub record TreeValue : Type 0 where
 abbrev pub fork_of : Bool → Row → List ℕ
 fork_of resource row = if resource then row.resource_fork else row.data_fork
 
+-- a row, if it is a file's
+abbrev pub file_of : Option Row → Option Row
+file_of None = None
+file_of (Some row) = if row.dir then None else Some row
+
 -- a fork of the file of this id (AFP Reference, "File forks")
 unfoldable pub fork_at : List Row → ℕ → Bool → Option (List ℕ)
-fork_at rows id resource = option_map (fork_of resource) (find (λ row. (row.id == id) && not row.dir) rows)
+fork_at rows id resource = option_map (fork_of resource) (file_of (row_at rows id))
 
 -- open forks, each told by its node and whether it is the resource fork
 abbrev pub opened : List (NodeId × Bool) → List Opened

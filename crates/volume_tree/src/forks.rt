@@ -29,6 +29,19 @@ impl FileForks {
     }
 }
 
+impl FileForks {
+    /// The one fork or the other.
+    pub fn fork(&self, resource: bool) -> &Fork
+        ensures { result.now ≡ (if resource then self.now.resource_fork else self.now.data_fork) }
+    {
+        if resource {
+            &self.resource_fork
+        } else {
+            &self.data_fork
+        }
+    }
+}
+
 /// Keeps forks of no bytes for an id for which none are kept. An error changes nothing.
 pub(crate) fn keep(
     forks: &mut SortedMap<u64, FileForks>,

@@ -12,6 +12,7 @@ mod move_and_rename;
 mod places;
 mod plan;
 mod rename;
+mod request;
 mod resolve;
 mod volume;
 

@@ -1,11 +1,11 @@
 //! A volume's tree.
-ghost use Rattle.std.specs.Prelude.{◌≡◌, ◌≤◌, ◌+◌, None, Some, pos, length, IfOk, OnOk, OnErr, option_map, option_copied};
+ghost use Rattle.std.specs.Prelude.{◌≡◌, ◌≤◌, ◌+◌, None, Some, pos, length, is_some, IfOk, OnOk, OnErr, option_map, option_copied};
 ghost use Rattle.afp_names.specs.Name.{name_fault};
 ghost use Rattle.afp_volume.specs.Edits.{bare, changed_at, new_row};
 ghost use Rattle.afp_volume.specs.SoundVolume.{IsSoundVolume, fork_bytes};
 ghost use Rattle.afp_volume.specs.VolumeState.{fresh_volume};
 ghost use Rattle.afp_volume.specs.Walk.{row_at};
-ghost use Rattle.volume_tree.specs.Shown.{fork_at};
+ghost use Rattle.volume_tree.specs.Shown.{file_of, fork_at};
 
 use crate::forks::{FileForks, keep};
 use crate::head::{Dates, NEVER, VolumeHead};
@@ -88,6 +88,16 @@ fn next_of(rows: &Rows) -> u64
     }
 }
 
+/// Whether an id is a file's.
+fn is_file(rows: &Rows, id: NodeId) -> bool
+    ensures { result ≡ is_some (file_of (row_at rows.now.rows id.0)) }
+{
+    match rows.get(id) {
+        Some(node) => !node.dir,
+        None => false,
+    }
+}
+
 impl Volume {
     /// A volume that nobody has used, made at a moment: its root alone.
     pub fn fresh(alloc: Global, name: &str, now: Moment) -> Result<Volume, OutOfMemory>
@@ -145,6 +155,19 @@ impl Volume {
                 let _ = &node.dir;
                 Some(node)
             }
+            None => None,
+        }
+    }
+
+    /// A fork of the file of an id.
+    pub fn fork(&self, id: NodeId, resource: bool) -> Option<&Fork>
+        ensures { option_copied result ≡ fork_at self.now.state.rows id.0 resource }
+    {
+        if !is_file(&self.rows, id) {
+            return None;
+        }
+        match self.forks.get(u64::from(id.0)) {
+            Some(forks) => Some(forks.fork(resource)),
             None => None,
         }
     }

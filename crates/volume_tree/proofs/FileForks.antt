@@ -1,0 +1,64 @@
+-- The forks of files, as they are kept and as they are shown.
+use Rattle.std.proofs.Common.{◌==◌, ◌≡◌, ◌∙◌, ap, sym, refl, ℕ, Bool, true, false, not, ◌||◌, cond, List, Option, Some, None}
+use Rattle.std.specs.Prelude.{option_map, is_some, if◌then◌else◌}
+use Rattle.std.specs.List.{list_all}
+use Rattle.std.specs.Ordering.{nat_cmp}
+use Rattle.std.proofs.lemmas.Bool.{eqb-true}
+use Rattle.sorted_map.specs.Entries.{at}
+use Rattle.afp_volume.proofs.TestedLists.{find-all, find-passes}
+use Rattle.afp_volume.specs.VolumeState.{Row}
+use Rattle.afp_volume.specs.Walk.{row_at}
+use Rattle.volume_tree.proofs.Showing.{found-shown, missing-shown}
+use Rattle.volume_tree.specs.Kept.{Forks, data_of, resource_of, has_forks, with_forks, rows_of}
+use Rattle.volume_tree.specs.Shown.{file_of, fork_of, fork_at}
+use Rattle.volume_tree.specs.declared.forks.FileForks.{FileForks as Kept}
+
+-- the row of an id has that id
+pub found-id : (rows : List Row) (id : ℕ) (row : Row) → row_at rows id ≡ Some row → row.id ≡ id
+unfolding row_at
+found-id rows id row found = eqb-true row.id id (find-passes (λ (r : Row). r.id == id) rows row found)
+
+pub found-kept : (forks : Forks) (rows : List Row) (id : ℕ) (row : Row) → list_all (has_forks forks) rows ≡ true → row_at rows id ≡ Some row → has_forks forks row ≡ true
+unfolding row_at
+found-kept forks rows id row all found = find-all (λ (r : Row). r.id == id) (has_forks forks) rows row found all
+
+none-if : (g : Row → List ℕ) (dir : Bool) (row shown : Row) → is_some (if dir then None else Some row) ≡ false → None ≡ option_map g (if dir then None else Some shown)
+none-if g true row shown h = refl
+none-if g false row shown h = absurd (cc)
+
+some-if : (g : Row → List ℕ) (dir : Bool) (row shown : Row) → is_some (if dir then None else Some row) ≡ true → Some (g shown) ≡ option_map g (if dir then None else Some shown)
+some-if g true row shown h = absurd (cc)
+some-if g false row shown h = refl
+
+never-if : (dir kept : Bool) (row : Row) → is_some (if dir then None else Some row) ≡ true → (dir || kept) ≡ true → kept ≡ false → ⊥
+never-if true kept row h had none = absurd (cc)
+never-if false kept row h had none = absurd (cc)
+
+-- what is no file's has no forks
+pub no-fork : (forks : Forks) (rows : List Row) (id : ℕ) (resource : Bool) → is_some (file_of (row_at rows id)) ≡ false → None ≡ fork_at (rows_of forks rows) id resource
+unfolding fork_at
+no-fork forks rows id resource h = go (row_at rows id) refl h
+  where
+    go : (o : Option Row) → row_at rows id ≡ o → is_some (file_of o) ≡ false → None ≡ option_map (fork_of resource) (file_of (row_at (rows_of forks rows) id))
+    go None found h = sym (ap (λ o. option_map (fork_of resource) (file_of o)) (missing-shown forks rows id found))
+    go (Some row) found h = none-if (fork_of resource) row.dir row (with_forks forks row) h ∙ sym (ap (λ o. option_map (fork_of resource) (file_of o)) (found-shown forks rows id row found))
+
+-- a fork of a file is the one that is kept
+pub is-fork : (forks : Forks) (rows : List Row) (id : ℕ) (resource : Bool) (kept : Kept) → is_some (file_of (row_at rows id)) ≡ true → at nat_cmp forks id ≡ Some kept
+    → Some (if resource then kept.resource_fork else kept.data_fork) ≡ fork_at (rows_of forks rows) id resource
+unfolding fork_at
+is-fork forks rows id resource kept h at_id = go (row_at rows id) refl h
+  where
+    go : (o : Option Row) → row_at rows id ≡ o → is_some (file_of o) ≡ true → Some (if resource then kept.resource_fork else kept.data_fork) ≡ option_map (fork_of resource) (file_of (row_at (rows_of forks rows) id))
+    go None found h = absurd (cc)
+    go (Some row) found h =
+        ap (λ o. Some (if resource then resource_of o else data_of o)) (sym (ap (at nat_cmp forks) (found-id rows id row found) ∙ at_id))
+        ∙ some-if (fork_of resource) row.dir row (with_forks forks row) h ∙ sym (ap (λ o. option_map (fork_of resource) (file_of o)) (found-shown forks rows id row found))
+
+-- the forks of each file are kept
+pub always-kept : (forks : Forks) (rows : List Row) (id : ℕ) → list_all (has_forks forks) rows ≡ true → is_some (file_of (row_at rows id)) ≡ true → at nat_cmp forks id ≡ None → ⊥
+always-kept forks rows id all h none = go (row_at rows id) refl h
+  where
+    go : (o : Option Row) → row_at rows id ≡ o → is_some (file_of o) ≡ true → ⊥
+    go None found h = absurd (cc)
+    go (Some row) found h = never-if row.dir (is_some (at nat_cmp forks row.id)) row h (found-kept forks rows id row all found) (ap (λ n. is_some (at nat_cmp forks n)) (found-id rows id row found) ∙ ap is_some none)

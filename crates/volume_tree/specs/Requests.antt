@@ -1,0 +1,18 @@
+-- Which requests a volume plans, and what they are on one volume (AFP Reference, under their names).
+use Rattle.std.specs.Prelude.{ℕ, ◌==◌, Bool, not, Option, Some, None, bit_and}
+use Rattle.afp_requests.specs.declared.call.Call.{Call}
+use Rattle.afp_requests.specs.declared.call.Call.TheVariants as request
+use Rattle.afp_volume.specs.TreeSteps.{TreeCall, CreateDir, CreateFile, Delete, Rename, MoveAndRename}
+
+-- whether a create is hard: bit 7 of its flag (AFP Reference, "FPCreateFile")
+abbrev pub is_hard : ℕ → Bool
+is_hard flag = not (bit_and flag 0x80 == 0)
+
+-- the request as a call on one volume, where it is one that a volume plans
+abbrev pub tree_call : Call → Option TreeCall
+tree_call (request.CreateDir volume dir path) = Some (CreateDir dir.0 path)
+tree_call (request.CreateFile flag volume dir path) = Some (CreateFile (is_hard flag) dir.0 path)
+tree_call (request.Delete volume dir path) = Some (Delete dir.0 path)
+tree_call (request.Rename volume dir path new_path) = Some (Rename dir.0 path new_path)
+tree_call (request.MoveAndRename volume dir target_dir path target_path new_path) = Some (MoveAndRename dir.0 path target_dir.0 target_path new_path)
+tree_call call = None

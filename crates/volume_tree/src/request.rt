@@ -1,0 +1,72 @@
+//! Calls that change a volume's tree.
+ghost use Rattle.std.specs.Prelude.{◌≡◌, ◌==◌, not, bit_and, IfOk, IfSome, IsSome};
+ghost use Rattle.afp_volume.specs.TreeSteps.{tree_refusal, tree_effect};
+ghost use Rattle.volume_tree.specs.Answered.{Refuses};
+ghost use Rattle.volume_tree.specs.Planned.{IsPlan, planned};
+ghost use Rattle.volume_tree.specs.Requests.{is_hard, tree_call};
+ghost use Rattle.volume_tree.specs.Shown.{opened};
+
+use crate::plan::Plan;
+use crate::resolve::PlanFault;
+use crate::volume::Volume;
+use afp_base::{Moment, NodeId};
+use afp_requests::Call;
+use std::alloc::Global;
+
+impl Volume {
+    /// Why a call is refused, or what it will do. `opens` are the volume's open forks, each as a node and whether it is the
+    /// resource fork. Want of memory comes for no other reason.
+    pub fn plan(
+        &self,
+        alloc: Global,
+        now: Moment,
+        opens: &[(NodeId, bool)],
+        call: &Call,
+    ) -> Result<Plan, PlanFault>
+        requires { IsSome (tree_call call.now) }
+        ensures refused { IfSome (tree_call call.now) (λ call. Refuses result (tree_refusal self.now.state (opened opens.now) call)) }
+        ensures effect { IfOk result (λ plan. IfSome (tree_call call.now) (λ call. planned plan self.now.state ≡ tree_effect self.now.state now call)) }
+        ensures plan { IfOk result (λ plan. IsPlan self.now.state plan) }
+    {
+        match call {
+            Call::CreateDir { dir, path, .. } => self.plan_create_dir(alloc, now, *dir, path),
+            Call::CreateFile {
+                flag,
+                dir,
+                path,
+                ..
+            } => self.plan_create_file(alloc, now, opens, is_hard(*flag), *dir, path),
+            Call::Delete { dir, path, .. } => self.plan_delete(alloc, now, opens, *dir, path),
+            Call::Rename {
+                dir,
+                path,
+                new_path,
+                ..
+            } => self.plan_rename(alloc, now, *dir, path, new_path),
+            Call::MoveAndRename {
+                dir,
+                target_dir,
+                path,
+                target_path,
+                new_path,
+                ..
+            } => self.plan_move_and_rename(
+                alloc,
+                now,
+                *dir,
+                path,
+                *target_dir,
+                target_path,
+                new_path,
+            ),
+            _ => unreachable!(),
+        }
+    }
+}
+
+/// Whether the flag of a create says that it is hard (AFP Reference, "FPCreateFile").
+fn is_hard(flag: u8) -> bool
+    ensures { result ≡ is_hard flag }
+{
+    flag & 0x80 != 0
+}
