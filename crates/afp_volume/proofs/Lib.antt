@@ -15,6 +15,7 @@ pub mod Listings
 pub mod ListReplies
 pub mod ToldValues
 pub mod Worked
+pub mod ToldIsSet
 pub mod ByIndex
 pub mod Later
 pub mod Rising

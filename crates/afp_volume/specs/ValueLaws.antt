@@ -1,7 +1,10 @@
 -- The laws of what is told of a volume and of its nodes (this profile).
-use Rattle.std.specs.Prelude.{◌≡◌, ℕ, ◌<◌, ◌^◌, true, List, None, Some, is_some, if◌then◌else◌}
-use Rattle.afp_bitmap.specs.Params.{IsAnswer}
-use Rattle.afp_bitmap.specs.declared.params.Values.TheVariants.{Volume}
+use Rattle.std.specs.Prelude.{◌≡◌, ℕ, ℤ, ◌<◌, ◌^◌, true, false, List, ◌++◌, Option, None, Some, is_some, if◌then◌else◌}
+use Rattle.afp_bitmap.specs.Bits.{is_asked}
+use Rattle.afp_bitmap.specs.Params.{params, IsAnswer}
+use Rattle.afp_bitmap.specs.declared.file.FileValues.{FileValues}
+use Rattle.afp_bitmap.specs.declared.directory.DirValues.{DirValues}
+use Rattle.afp_bitmap.specs.declared.params.Values.TheVariants.{Volume, File, Dir}
 use Rattle.afp_names.specs.Path.{PathValue}
 use Rattle.afp_volume.specs.VolumeState.{Row, VolumeState}
 use Rattle.afp_volume.specs.SoundVolume.{IsSoundVolume}
@@ -11,6 +14,8 @@ use Rattle.afp_volume.specs.Calls.{Opened}
 use Rattle.afp_volume.specs.GetFileDirParms.{get_file_dir_parms_refusal, get_file_dir_parms_values}
 use Rattle.afp_volume.specs.GetVolParms.{volume_values}
 use Rattle.afp_volume.specs.NodeValues.{bits_of, node_values}
+use Rattle.afp_volume.specs.Parms.{is_outside}
+use Rattle.afp_volume.specs.SetFileDirParms.{Settings, is_short_tail, settings_in, settable_bits, settable_dir_bits}
 use Rattle.afp_volume.specs.OpenDir.{open_dir_refusal, open_dir_id}
 
 -- what is told of a volume, of a file (kind 1) and of a directory (kind 2) are values that the bits ask for, each one of its type
@@ -27,3 +32,26 @@ FoundIsTold = (v : VolumeState) (opens : List Opened) (file_bits dir_bits dir : 
 
 abbrev pub DirIsTold : Type 0
 DirIsTold = (v : VolumeState) (dir : ℕ) (path : PathValue) → open_dir_refusal v dir path ≡ None → (id : ℕ) × (open_dir_id v dir path ≡ Some id) × (has_directory v.rows id ≡ true)
+
+-- what is asked of these values, as settings
+abbrev pub asked_some : {A : Type 0} → ℕ → ℕ → A → Option A
+asked_some bits bit value = if is_asked bits bit then Some value else None
+
+abbrev pub settings_told : ℕ → ℕ → ℤ → ℤ → ℤ → List ℕ → Settings
+settings_told bits attributes created modified backup finder = record {
+  attributes = asked_some bits 0 attributes;
+  created = asked_some bits 2 created;
+  modified = asked_some bits 3 modified;
+  backup = asked_some bits 4 backup;
+  finder = asked_some bits 5 finder;
+}
+
+-- a set call takes what is told: for bits that may be set, the block of a node's values is a tail that is not short and sets these values,
+-- whatever follows it
+abbrev pub FileIsSetAsTold : Type 0
+FileIsSetAsTold = (bits : ℕ) (f : FileValues) (rest : List ℕ) → is_outside settable_bits bits ≡ false → IsAnswer 1 bits (File f)
+    → (is_short_tail bits (params bits (File f) ++ rest) ≡ false) × (settings_in bits (params bits (File f) ++ rest) ≡ settings_told bits f.attributes f.created f.modified f.backup f.finder)
+
+abbrev pub DirIsSetAsTold : Type 0
+DirIsSetAsTold = (bits : ℕ) (d : DirValues) (rest : List ℕ) → is_outside settable_dir_bits bits ≡ false → IsAnswer 2 bits (Dir d)
+    → (is_short_tail bits (params bits (Dir d) ++ rest) ≡ false) × (settings_in bits (params bits (Dir d) ++ rest) ≡ settings_told bits d.attributes d.created d.modified d.backup d.finder)

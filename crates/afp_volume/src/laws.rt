@@ -70,6 +70,12 @@ pub fn values_are_those_asked_for()
     ensures directory { value_laws.DirIsTold }
 {}
 
+/// A set call takes what is told: the block of a node's values, for bits that may be set, is a tail that sets these values.
+pub fn what_is_told_can_be_set()
+    ensures file { value_laws.FileIsSetAsTold }
+    ensures directory { value_laws.DirIsSetAsTold }
+{}
+
 /// What a table by id and by name's key tells: whether a node is below another, by parents; whether a place is taken, by key.
 pub fn tables_tell_the_tree()
     ensures below { laws.BelowByParent }
