@@ -18,7 +18,7 @@ use Rattle.afp_volume.specs.Order.{in_order}
 use Rattle.afp_volume.specs.VolumeState.{Row, root_parent}
 use Rattle.afp_volume.specs.Walk.{row_at, parent_at, child_by_key, child_by_long_name, child, or_else, long_names, onward, failed_down, walk_from, not_above_root, walk, found}
 
-find-map : {A B : Type 0} (f : A → B) (p : B → Bool) (xs : List A) → find p (map f xs) ≡ option_map f (find (λ x. p (f x)) xs)
+pub find-map : {A B : Type 0} (f : A → B) (p : B → Bool) (xs : List A) → find p (map f xs) ≡ option_map f (find (λ x. p (f x)) xs)
 find-map f p [] = refl
 find-map f p (x ∷ xs) =
     ap (λ o. cond (p (f x)) (Some (f x)) o) (find-map f p xs)

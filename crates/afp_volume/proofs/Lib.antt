@@ -30,4 +30,5 @@ pub mod TypedSteps
 pub mod Orders
 pub mod Fresh
 pub mod BareRows
+pub mod SeenRows
 pub mod Counted

@@ -103,6 +103,10 @@ pub fn rows_are_changed_in_place()
     ensures exchanged { laws.ExchangeKeepsSound }
     ensures changed { laws.ChangesAtPlace }
     ensures removed { laws.RemovesAtPlace }
+    ensures seen { laws.ChangesAreSeen }
+    ensures let_be { laws.ChangesLetBe }
+    ensures unseen { laws.GoneIsUnseen }
+    ensures lets_be { laws.GoneLetsBe }
 {}
 
 /// Rows in the order of their ids have ids that differ, and each edit keeps that order.

@@ -1,5 +1,6 @@
 use Rattle.afp_base.specs.declared.code.Code.TheVariants.{ObjectNotFound}
 use Rattle.afp_volume.proofs.Places.{changed-is-set, without-is-remove}
+use Rattle.afp_volume.proofs.SeenRows.{changes-seen, changes-let-be, gone-unseen, gone-lets-be}
 use Rattle.afp_volume.proofs.SoundPut.{sound-put, sound-exchanged}
 use Rattle.afp_volume.proofs.Trees.{tree-parts}
 use Rattle.afp_volume.proofs.Walks.{walk-there}
@@ -19,3 +20,15 @@ returns-clause-removed c = without-is-remove
 
 pub returns-clause-exchanged : goal.returns-clause-exchanged
 returns-clause-exchanged c = sound-exchanged
+
+pub returns-clause-seen : goal.returns-clause-seen
+returns-clause-seen c = changes-seen
+
+pub returns-clause-let_be : goal.returns-clause-let_be
+returns-clause-let_be c = changes-let-be
+
+pub returns-clause-unseen : goal.returns-clause-unseen
+returns-clause-unseen c = gone-unseen
+
+pub returns-clause-lets_be : goal.returns-clause-lets_be
+returns-clause-lets_be c = gone-lets-be
