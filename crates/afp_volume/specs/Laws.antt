@@ -103,6 +103,10 @@ FreshIsTyped = (name : List ℕ) (now : ℕ) → name_fault name ≡ None → is
 abbrev pub PutKeepsTyped : Type 0
 PutKeepsTyped = (v : VolumeState) (id : ℕ) (t : Row) → is_typed_row t ≡ true → is_typed_volume v ≡ true → is_typed_volume (record v { rows = with_changed id (λ row. t) v.rows }) ≡ true
 
+-- so has one whose two files changed forks and modified dates
+abbrev pub ExchangeKeepsTyped : Type 0
+ExchangeKeepsTyped = (v : VolumeState) (a b : ℕ) (s t : Row) → row_at v.rows a ≡ Some s → row_at v.rows b ≡ Some t → is_typed_volume v ≡ true → is_typed_volume (exchanged a b s t v) ≡ true
+
 -- an id that was drawn and is no node's is never a node's again
 abbrev pub NeverDrawnAgain : Type 0
 NeverDrawnAgain = (v : VolumeState) (steps : List TreeStep) (id : ℕ) → id < v.next_id → has_node v.rows id ≡ false → has_node (after_steps v steps).rows id ≡ false

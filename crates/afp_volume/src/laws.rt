@@ -94,6 +94,7 @@ pub fn numbers_stay_in_their_ranges()
     ensures calls { laws.StepsKeepTyped }
     ensures fresh { laws.FreshIsTyped }
     ensures put { laws.PutKeepsTyped }
+    ensures exchanged { laws.ExchangeKeepsTyped }
 {}
 
 /// Where a walk leads there is a node. Another row may take the place of one. What is done by id is done at the place of that row.

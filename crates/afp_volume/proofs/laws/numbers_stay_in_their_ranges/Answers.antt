@@ -1,4 +1,4 @@
-use Rattle.afp_volume.proofs.TypedSteps.{call-typed, steps-typed, fresh-typed, put-typed}
+use Rattle.afp_volume.proofs.TypedSteps.{call-typed, steps-typed, fresh-typed, put-typed, exchanged-typed}
 use Rattle.afp_volume.proofs.laws.numbers_stay_in_their_ranges.Goals as goal
 
 pub returns-clause-call : goal.returns-clause-call
@@ -12,3 +12,6 @@ returns-clause-fresh c = fresh-typed
 
 pub returns-clause-put : goal.returns-clause-put
 returns-clause-put c = put-typed
+
+pub returns-clause-exchanged : goal.returns-clause-exchanged
+returns-clause-exchanged c = exchanged-typed
