@@ -1,5 +1,5 @@
 -- What is counted, beside what is listed.
-use Rattle.std.proofs.Common.{◌==◌, ◌≡◌, ◌∙◌, ap, refl, ℕ, ◌<◌, Bool, true, false, not, cond, List, [], ◌∷◌, length, map, Some, inl, inr, subst, arith}
+use Rattle.std.proofs.Common.{◌==◌, ◌≡◌, ◌∙◌, ap, refl, ℕ, zero, suc, ◌-◌, ◌<◌, Bool, true, false, not, cond, List, [], ◌∷◌, length, take, drop, map, Some, inl, inr, subst, arith}
 use Rattle.std.specs.List.{Contains, filter, find, list_any}
 use Rattle.std.proofs.lemmas.Bool.{and_parts, cond_both, cond-true, cond-false, not-true, eq-eqb}
 use Rattle.std.proofs.lemmas.List.{length-map}
@@ -8,7 +8,9 @@ use Rattle.afp_volume.proofs.Ordered.{is-here, is-later, contains-cases, all-at,
 use Rattle.afp_volume.proofs.TestedLists.{none-all}
 use Rattle.afp_volume.proofs.Trees.{tree-parts}
 use Rattle.afp_volume.specs.Edits.{bare}
-use Rattle.afp_volume.specs.Enumerate.{ListAsked, is_counted, counted}
+use Rattle.afp_volume.proofs.ListReplies.{entries-are-page}
+use Rattle.afp_volume.specs.Calls.{Opened}
+use Rattle.afp_volume.specs.Enumerate.{ListAsked, is_counted, counted, entries}
 use Rattle.afp_volume.specs.Listing.{row_key, children, listed}
 use Rattle.afp_base.specs.Apart.{are_apart}
 use Rattle.afp_volume.specs.SoundVolume.{IsSoundVolume}
@@ -70,3 +72,24 @@ counts-bare rows asked dir = ap (λ l. filter (is_counted asked) l) (lists-bare 
 pub offspring-bare : (rows : List Row) (dir : ℕ) → length (children (map bare rows) dir) ≡ length (children rows dir)
 unfolding children
 offspring-bare rows dir = ap length (filter-bare dir rows) ∙ length-map (filter (λ (row : Row). row.parent == dir) rows) bare
+
+drop-contains : {A : Type 0} (n : ℕ) (xs : List A) (z : A) → Contains (drop n xs) z → Contains xs z
+drop-contains zero xs z c = c
+drop-contains (suc n) [] z c = c
+drop-contains (suc n) (x ∷ xs) z c = is-later x z xs (drop-contains n xs z c)
+
+take-contains : {A : Type 0} (n : ℕ) (xs : List A) (z : A) → Contains (take n xs) z → Contains xs z
+take-contains zero xs z c = let k : c.0 < 0 = c.1 in absurd (omega arith)
+take-contains (suc n) [] z c = c
+take-contains (suc n) (x ∷ xs) z c = elim (contains-cases x z (take n xs) c) [
+  | inl same ↦ subst (λ q. Contains (x ∷ xs) q) same (is-here x xs)
+  | inr later ↦ is-later x z xs (take-contains n xs z later)
+]
+
+pub entries-are-there : (v : VolumeState) (opens : List Opened) (asked : ListAsked) (dir : ℕ) (row : Row) → IsSoundVolume v → Contains (entries v.rows opens asked dir) row → row_at v.rows row.id ≡ Some row
+unfolding counted
+entries-are-there v opens asked dir row s c =
+    let n : ℕ = length (entries v.rows opens asked dir) in
+    let paged : Contains (take n (drop (asked.start - 1) (counted v.rows asked dir))) row = subst (λ (l : List Row). Contains l row) (entries-are-page v.rows opens asked dir) c in
+    let in_counted = drop-contains (asked.start - 1) (counted v.rows asked dir) row (take-contains n (drop (asked.start - 1) (counted v.rows asked dir)) row paged) in
+    listed-is-there v dir row s (filter-contains (is_counted asked) (listed v.rows dir) row in_counted)

@@ -79,6 +79,9 @@ CountsAll = (rows : List Row) (asked : ListAsked) (dir : ℕ) → (asked.file_bi
 abbrev pub ListedIsThere : Type 0
 ListedIsThere = (v : VolumeState) (dir : ℕ) (row : Row) → IsSoundVolume v → Contains (listed v.rows dir) row → row_at v.rows row.id ≡ Some row
 
+abbrev pub EntriesAreThere : Type 0
+EntriesAreThere = (v : VolumeState) (opens : List Opened) (asked : ListAsked) (dir : ℕ) (row : Row) → IsSoundVolume v → Contains (entries v.rows opens asked dir) row → row_at v.rows row.id ≡ Some row
+
 -- what counts, and how many children there are, are the same of rows with no bytes in their forks
 abbrev pub CountsBare : Type 0
 CountsBare = (rows : List Row) (asked : ListAsked) (dir : ℕ) → counted (map bare rows) asked dir ≡ map bare (counted rows asked dir)

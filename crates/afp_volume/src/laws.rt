@@ -57,6 +57,7 @@ pub fn replies_list_each_child_once()
 pub fn what_counts_is_listed()
     ensures all { list_laws.CountsAll }
     ensures there { list_laws.ListedIsThere }
+    ensures entries { list_laws.EntriesAreThere }
     ensures bare { list_laws.CountsBare }
     ensures offspring { list_laws.OffspringBare }
 {}

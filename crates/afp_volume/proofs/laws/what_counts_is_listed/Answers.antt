@@ -1,4 +1,4 @@
-use Rattle.afp_volume.proofs.Counted.{counts-all, listed-is-there, counts-bare, offspring-bare}
+use Rattle.afp_volume.proofs.Counted.{counts-all, listed-is-there, entries-are-there, counts-bare, offspring-bare}
 use Rattle.afp_volume.proofs.laws.what_counts_is_listed.Goals as goal
 
 pub returns-clause-all : goal.returns-clause-all
@@ -12,3 +12,6 @@ returns-clause-bare c = counts-bare
 
 pub returns-clause-offspring : goal.returns-clause-offspring
 returns-clause-offspring c = offspring-bare
+
+pub returns-clause-entries : goal.returns-clause-entries
+returns-clause-entries c = entries-are-there
