@@ -21,3 +21,4 @@ pub mod DisplacedLaws
 pub mod ShownAnswers
 pub mod CallLaws
 pub mod PlainSessions
+pub mod ListShown

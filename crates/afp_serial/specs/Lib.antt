@@ -19,4 +19,5 @@ pub mod Answer
 pub mod History
 pub mod Shown
 pub mod Went
+pub mod ListReply
 pub mod Laws

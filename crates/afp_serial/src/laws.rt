@@ -1,5 +1,6 @@
 //! Laws of the serial answer. Each function says one, and does nothing.
 ghost use Rattle.afp_serial.specs.Laws as laws;
+ghost use Rattle.afp_serial.specs.ListReply as list_reply;
 
 /// A world at the start is sound over sound volumes of its house, as are those that nobody has used. A legal entry keeps a sound world
 /// sound, so a lawful history is sound at each of its places. What is told is an answer to the ask, and a reply's block fits in a frame:
@@ -47,4 +48,11 @@ pub fn session_numbers_are_given_once()
     ensures once { laws.NeverTwice }
     ensures new { laws.OpensNew }
     ensures only { laws.OnlyOpens }
+{}
+
+/// The sizes by which a list of nodes is cut are those of its bytes. Where a list is not refused it is shown by some bytes, and has no more
+/// of them than were asked and fit in a reply.
+pub fn lists_are_shown()
+    ensures size { list_reply.ListHasItsSize }
+    ensures shown { list_reply.ListIsShown }
 {}
