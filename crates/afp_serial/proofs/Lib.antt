@@ -22,3 +22,4 @@ pub mod ShownAnswers
 pub mod CallLaws
 pub mod PlainSessions
 pub mod ListShown
+pub mod ParmsShown

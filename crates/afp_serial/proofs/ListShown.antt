@@ -72,7 +72,7 @@ list-has-its-size rows opens asked nodes =
 
 -- what is shown
 
-node-answer : (d : Bool) (a : DirValues) (b : FileValues) (file_bits dir_bits : ℕ) → IsAnswer (cond d 2 1) (cond d dir_bits file_bits) (cond d (Dir a) (File b))
+pub node-answer : (d : Bool) (a : DirValues) (b : FileValues) (file_bits dir_bits : ℕ) → IsAnswer (cond d 2 1) (cond d dir_bits file_bits) (cond d (Dir a) (File b))
     → IsAnswer (kind_for (is_dir (cond d (Dir a) (File b)))) (bits_for (is_dir (cond d (Dir a) (File b))) file_bits dir_bits) (cond d (Dir a) (File b))
 node-answer true a b file_bits dir_bits h = h
 node-answer false a b file_bits dir_bits h = h
@@ -99,7 +99,7 @@ all-fit v opens asked (row ∷ nodes) short each =
     let e = and_parts (nat_le (entry_size v.rows opens asked row) (longest_entry asked.wide)) (list_all (λ node. nat_le (entry_size v.rows opens asked node) (longest_entry asked.wide)) nodes) short in
     (each row (is-here row nodes) e.0, all-fit v opens asked nodes e.1 (λ other there fits. each other (is-later row other nodes there) fits))
 
-within : (mask bits : ℕ) → is_outside mask bits ≡ false → bit_and bits mask ≡ bits
+pub within : (mask bits : ℕ) → is_outside mask bits ≡ false → bit_and bits mask ≡ bits
 within mask bits h = eqb-true (bit_and bits mask) bits (not-false (bit_and bits mask == bits) h)
 
 pub list-is-shown : ListIsShown

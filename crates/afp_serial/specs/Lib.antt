@@ -20,4 +20,5 @@ pub mod History
 pub mod Shown
 pub mod Went
 pub mod ListReply
+pub mod ParmsReplies
 pub mod Laws

@@ -1,6 +1,7 @@
 //! Laws of the serial answer. Each function says one, and does nothing.
 ghost use Rattle.afp_serial.specs.Laws as laws;
 ghost use Rattle.afp_serial.specs.ListReply as list_reply;
+ghost use Rattle.afp_serial.specs.ParmsReplies as parms_replies;
 
 /// A world at the start is sound over sound volumes of its house, as are those that nobody has used. A legal entry keeps a sound world
 /// sound, so a lawful history is sound at each of its places. What is told is an answer to the ask, and a reply's block fits in a frame:
@@ -55,4 +56,10 @@ pub fn session_numbers_are_given_once()
 pub fn lists_are_shown()
     ensures size { list_reply.ListHasItsSize }
     ensures shown { list_reply.ListIsShown }
+{}
+
+/// What is told of a volume, and of a node that was found, is shown by some bytes.
+pub fn parameters_are_shown()
+    ensures volume { parms_replies.VolumeIsShown }
+    ensures node { parms_replies.NodeIsShown }
 {}
