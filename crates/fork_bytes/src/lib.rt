@@ -12,6 +12,3 @@ mod write;
 pub use block::{BLOCK_SIZE, Block};
 pub use fork::{Fork, LARGEST_FORK, largest_fork_is_as_defined};
 pub use plan::ForkPlan;
-
-#[cfg(test)]
-mod tests;
