@@ -4,8 +4,6 @@
 mod open_fork;
 mod rows;
 mod table;
-#[cfg(test)]
-mod tests;
 
 pub use open_fork::{OpenFault, OpenFork};
 pub use table::ForkTable;
