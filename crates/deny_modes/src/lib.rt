@@ -3,8 +3,6 @@
 
 mod fork;
 mod opens;
-#[cfg(test)]
-mod tests;
 
 pub use fork::{ForkKey, Mode};
 pub use opens::Opens;

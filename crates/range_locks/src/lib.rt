@@ -6,8 +6,6 @@ mod forks;
 mod locks;
 mod range;
 mod rows;
-#[cfg(test)]
-mod tests;
 
 pub use fault::{LockFault, NotLocked};
 pub use locks::Locks;
