@@ -1,0 +1,168 @@
+//! Prints what calls of `node_rows` take at 1,000 and at 100,000 nodes, and what a read and a write take in a fork of 1 MiB and of
+//! 256 MiB: nanoseconds of the processor a call, and the second as hundredths of the first. Without the argument `times`, which
+//! may be any word, it measures nothing.
+#![tactic(auto)]
+
+mod changes;
+mod forks;
+mod looks;
+mod shifts;
+mod volume;
+mod watch;
+
+use afp_base::OutOfMemory;
+use fork_bytes::Fork;
+use node_rows::Rows;
+use std::io::ErrorKind;
+use std::{env, io};
+use watch::print_row;
+
+fn made<T: Drop>(made: Result<T, OutOfMemory>) -> io::Result<T> {
+    match made {
+        Ok(value) => Ok(value),
+        Err(OutOfMemory) => Err(io::Error::from(ErrorKind::OutOfMemory)),
+    }
+}
+
+fn print_looks(rt: &HostRuntime, small: &Rows, large: &Rows) -> io::Result<()> {
+    print_row(
+        rt,
+        "by id, in turn",
+        looks::by_id(rt, small, false)?,
+        looks::by_id(rt, large, false)?,
+    )?;
+    print_row(
+        rt,
+        "by id, jumping",
+        looks::by_id(rt, small, true)?,
+        looks::by_id(rt, large, true)?,
+    )?;
+    print_row(
+        rt,
+        "by key, in turn",
+        looks::by_key(rt, small, false)?,
+        looks::by_key(rt, large, false)?,
+    )?;
+    print_row(
+        rt,
+        "by key, jumping",
+        looks::by_key(rt, small, true)?,
+        looks::by_key(rt, large, true)?,
+    )?;
+    print_row(
+        rt,
+        "nth, in turn",
+        looks::nth(rt, small, false)?,
+        looks::nth(rt, large, false)?,
+    )?;
+    print_row(
+        rt,
+        "nth, jumping",
+        looks::nth(rt, small, true)?,
+        looks::nth(rt, large, true)?,
+    )
+}
+
+/// Changes at the end of the vectors, where nothing is shifted.
+fn print_last(rt: &HostRuntime, small: &mut Rows, large: &mut Rows) -> io::Result<()> {
+    print_row(
+        rt,
+        "a name and its key",
+        changes::names(rt)?,
+        changes::names(rt)?,
+    )?;
+    print_row(
+        rt,
+        "create, last",
+        changes::create(rt, small, 'x')?,
+        changes::create(rt, large, 'x')?,
+    )?;
+    print_row(
+        rt,
+        "rename, last",
+        changes::rename_child(rt, small, true, 'y')?,
+        changes::rename_child(rt, large, true, 'y')?,
+    )?;
+    print_row(
+        rt,
+        "remove, last",
+        changes::remove(rt, small, true)?,
+        changes::remove(rt, large, true)?,
+    )
+}
+
+/// Changes at the front of the vectors, where all is shifted, and the shifts.
+fn print_first(rt: &HostRuntime, small: &mut Rows, large: &mut Rows) -> io::Result<()> {
+    print_row(
+        rt,
+        "create, first",
+        changes::create(rt, small, 'a')?,
+        changes::create(rt, large, 'a')?,
+    )?;
+    print_row(
+        rt,
+        "rename, first",
+        changes::rename_child(rt, small, false, '!')?,
+        changes::rename_child(rt, large, false, '!')?,
+    )?;
+    print_row(
+        rt,
+        "remove, first",
+        changes::remove(rt, small, false)?,
+        changes::remove(rt, large, false)?,
+    )
+}
+
+fn print_shifts(rt: &HostRuntime) -> io::Result<()> {
+    print_row(
+        rt,
+        "std: a child out and in, first",
+        shifts::children(rt, 1000)?,
+        shifts::children(rt, 100_000)?,
+    )?;
+    print_row(
+        rt,
+        "std: a node out and in, first",
+        shifts::nodes(rt, 1000)?,
+        shifts::nodes(rt, 100_000)?,
+    )
+}
+
+fn print_forks(rt: &HostRuntime, small: &mut Fork, large: &mut Fork) -> io::Result<()> {
+    print_row(
+        rt,
+        "fork: read 64 KiB",
+        forks::reads(rt, small)?,
+        forks::reads(rt, large)?,
+    )?;
+    print_row(
+        rt,
+        "fork: write 64 KiB",
+        forks::writes(rt, small)?,
+        forks::writes(rt, large)?,
+    )
+}
+
+fn print_rows(rt: &HostRuntime) -> io::Result<()> {
+    let mut small = made(volume::volume(rt.alloc(), 1000))?;
+    let mut large = made(volume::volume(rt.alloc(), 100_000))?;
+    print_looks(rt, &small, &large)?;
+    print_last(rt, &mut small, &mut large)?;
+    print_first(rt, &mut small, &mut large)
+}
+
+fn print_times(rt: &HostRuntime) -> io::Result<()> {
+    println!(rt; "call | small | large | hundredths")?;
+    print_rows(rt)?;
+    print_shifts(rt)?;
+    let mut small = made(forks::fork(rt.alloc(), 16))?;
+    let mut large = made(forks::fork(rt.alloc(), 4096))?;
+    print_forks(rt, &mut small, &mut large)
+}
+
+fn main(rt: HostRuntime) -> io::Result<()> {
+    if env::args(&rt)?.count() < 2 {
+        return println!(rt; "say `times` to measure");
+    }
+    print_times(&rt)
+}
