@@ -1,23 +1,29 @@
 -- What is known of each table of whole tables.
-use Rattle.std.proofs.Common.{◌≡◌, ◌∙◌, ℕ, Bool, true, false, List, ◌++◌, map, refl, sym, ap}
-use Rattle.std.specs.Prelude.{None, is_none, nat_lt, ◌&&◌}
+use Rattle.std.proofs.Common.{◌≡◌, ◌∙◌, ℕ, ◌≤◌, Bool, true, false, List, ◌++◌, map, length, refl, sym, ap, arith, Option}
+use Rattle.std.specs.Prelude.{Some, None, is_none, nat_le, nat_lt, ◌&&◌, ◌==◌, bytes_eq}
 use Rattle.std.specs.List.{list_all}
 use Rattle.afp_volume.specs.VolumeState.{Comment, Appl}
 use Rattle.afp_volume.specs.SoundVolume.{is_comment}
-use Rattle.afp_volume.specs.TypedVolume.{is_long, are_bytes, is_typed_comment, is_typed_appl}
+use Rattle.afp_volume.specs.TypedVolume.{is_typed_row, is_long, are_bytes, is_typed_comment, is_typed_appl}
 use Rattle.volume_records.specs.declared.rows.Node.{Node}
 use Rattle.volume_records.specs.declared.rows.ForkBlock.{ForkBlock}
 use Rattle.volume_records.specs.declared.rows.Reason.TheVariants.{Parent, Twin, Range, Limit}
 use Rattle.volume_records.specs.declared.rows.Row.{Row}
 use Rattle.volume_records.specs.declared.rows.Row.TheVariants as row
-use Rattle.volume_records.specs.Shape.{is_formed, is_formed_node, is_formed_block, is_formed_comment, is_formed_appl}
+use Rattle.volume_records.specs.Shape.{is_formed, is_formed_node, is_formed_block, is_formed_comment, is_formed_appl, bare_row, has_fit_forks, is_root_or_other}
+use Rattle.volume_records.specs.Records.{record_of}
+use Rattle.volume_records.specs.KeyOrder.{Rises}
 use Rattle.volume_records.specs.Image.{Tables, rows_of}
 use Rattle.volume_records.specs.FirstBad.{first_of, lacks_parent, is_twin, is_outside, passes_limit}
-use Rattle.volume_records.proofs.TestParts.{left_true, right_true, both_true, all-ends, all-append, all-map, all-more}
+use Rattle.volume_records.proofs.TestParts.{lt_true, le_of, left_true, right_true, both_true, all-ends, all-append, all-map, all-more}
 use Rattle.volume_records.proofs.ReadBack.{node_parts}
 use Rattle.volume_records.proofs.Chains.{Chain}
 use Rattle.volume_records.proofs.RowOrder.{rows_ends, nodes_in_chain, comments_in_chain, icons_in_chain, appls_in_chain, blocks_in_chain, block_before, icon_before, appl_before, is_fit_block, is_fit_appl}
 use Rattle.volume_records.proofs.Whole.{IsWhole, is_clear}
+use Rattle.volume_records.proofs.RowKinds.{behind_head}
+use Rattle.fork_bytes.specs.Blocks.{block_size, trimmed}
+use Rattle.afp_names.specs.Name.{name_fault}
+use Rattle.afp_volume.specs.SoundVolume.{is_formed as is_formed_row, is_named}
 
 -- no rule holds
 pub record IsFree (t : Tables) (x : Row) : Type 0 where
@@ -105,22 +111,50 @@ fit_appl a f =
     let typed = right_true (are_bytes a.creator) (is_long a.node && is_long a.tag) (left_true (is_typed_appl a) _ f) in
     both_true (is_long a.node) _ (left_true (is_long a.node) (is_long a.tag) typed) (right_true (is_typed_appl a) _ f)
 
-pub in_order : (name : List ℕ) (t : Tables) → IsWhole name t → InOrder t
-in_order name t w =
-    let formed = each_kind (is_formed name) t w.formed in
+-- what stands behind the head, where its rows are formed and rise
+pub order_behind : (name : List ℕ) (t : Tables) → Rises (map record_of (behind_head t)) → list_all (is_formed name) (behind_head t) ≡ true → InOrder t
+order_behind name t rises e =
+    let p : Row → Bool = is_formed name in
     let appls : List Row = map (λ x. row.Appl x) t.appls in
     let icons : List Row = map (λ x. row.Icon x) t.icons in
     let comments : List Row = map (λ x. row.Comment x) t.comments in
     let blocks : List Row = map (λ x. row.Block x) t.blocks in
     let nodes : List Row = map (λ x. row.Node x) t.nodes in
-    let one = rows_ends nodes (blocks ++ (comments ++ (icons ++ appls))) w.rises.1 in
+    let one = rows_ends nodes (blocks ++ (comments ++ (icons ++ appls))) rises in
     let two = rows_ends blocks (comments ++ (icons ++ appls)) one.1 in
     let three = rows_ends comments (icons ++ appls) two.1 in
     let four = rows_ends icons appls three.1 in
+    let f1 = all-ends (is_formed name) nodes (blocks ++ (comments ++ (icons ++ appls))) e in
+    let f2 = all-ends (is_formed name) blocks (comments ++ (icons ++ appls)) f1.1 in
+    let f3 = all-ends (is_formed name) comments (icons ++ appls) f2.1 in
+    let f4 = all-ends (is_formed name) icons appls f3.1 in
+    let fn : list_all (is_formed_node name) t.nodes ≡ true = sym (all-map (is_formed name) (λ x. row.Node x) t.nodes) ∙ f1.0 in
+    let fb : list_all is_formed_block t.blocks ≡ true = sym (all-map (is_formed name) (λ x. row.Block x) t.blocks) ∙ f2.0 in
+    let fc : list_all is_formed_comment t.comments ≡ true = sym (all-map (is_formed name) (λ x. row.Comment x) t.comments) ∙ f3.0 in
+    let fa : list_all is_formed_appl t.appls ≡ true = sym (all-map (is_formed name) (λ x. row.Appl x) t.appls) ∙ f4.1 in
     record {
-      nodes = nodes_in_chain t.nodes (all-more (is_formed_node name) (λ n. is_long n.id) t.nodes (λ n f. (node_parts name n f).id) formed.nodes) one.0;
-      blocks = blocks_in_chain t.blocks (all-more is_formed_block is_fit_block t.blocks fit_block formed.blocks) two.0;
-      comments = comments_in_chain t.comments (all-more is_formed_comment (λ c. is_long c.node) t.comments (λ c f. left_true (is_long c.node) (are_bytes c.text) (left_true (is_typed_comment c) (is_comment c) f)) formed.comments) three.0;
+      nodes = nodes_in_chain t.nodes (all-more (is_formed_node name) (λ n. is_long n.id) t.nodes (λ n f. (node_parts name n f).id) fn) one.0;
+      blocks = blocks_in_chain t.blocks (all-more is_formed_block is_fit_block t.blocks fit_block fb) two.0;
+      comments = comments_in_chain t.comments (all-more is_formed_comment (λ c. is_long c.node) t.comments (λ c f. left_true (is_long c.node) (are_bytes c.text) (left_true (is_typed_comment c) (is_comment c) f)) fc) three.0;
       icons = icons_in_chain t.icons four.0;
-      appls = appls_in_chain t.appls (all-more is_formed_appl is_fit_appl t.appls fit_appl formed.appls) four.1;
+      appls = appls_in_chain t.appls (all-more is_formed_appl is_fit_appl t.appls fit_appl fa) four.1;
     }
+
+pub in_order : (name : List ℕ) (t : Tables) → IsWhole name t → InOrder t
+in_order name t w = order_behind name t w.rises.1 (right_true (is_formed name (row.Head t.head)) (list_all (is_formed name) (behind_head t)) w.formed)
+
+-- a formed block is short, and a formed node has a name
+pub short_block : (b : ForkBlock) → is_formed_block b ≡ true → nat_lt (length b.bytes) 5000 ≡ true
+short_block b f =
+    let rest = right_true (is_long b.node && (is_long b.index && are_bytes b.bytes)) (nat_le 1 (length b.bytes) && (nat_le (length b.bytes) block_size && bytes_eq (trimmed b.bytes) b.bytes)) f in
+    let short = left_true (nat_le (length b.bytes) block_size) (bytes_eq (trimmed b.bytes) b.bytes) (right_true (nat_le 1 (length b.bytes)) (nat_le (length b.bytes) block_size && bytes_eq (trimmed b.bytes) b.bytes) rest) in
+    lt_true (length b.bytes) 5000 (let l : length b.bytes ≤ 4096 = le_of _ _ short in omega arith)
+
+none_is : {A : Type 0} (o : Option A) → is_none o ≡ true → o ≡ None
+none_is None e = refl
+none_is (Some x) e = absurd (cc)
+
+pub node_name : (name : List ℕ) (n : Node) → is_formed_node name n ≡ true → name_fault n.name ≡ None
+node_name name n f =
+    let formed = left_true (is_formed_row (bare_row n)) (has_fit_forks n && is_root_or_other name n) (right_true (is_typed_row (bare_row n)) (is_formed_row (bare_row n) && (has_fit_forks n && is_root_or_other name n)) f) in
+    none_is (name_fault n.name) (left_true (is_none (name_fault n.name)) (length n.finder == 32) (left_true (is_named (bare_row n)) _ formed))

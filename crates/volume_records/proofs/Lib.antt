@@ -21,3 +21,5 @@ pub mod ImageLaw
 pub mod ShapeCode
 pub mod Climbing
 pub mod SeenLemmas
+pub mod Passing
+pub mod Loading

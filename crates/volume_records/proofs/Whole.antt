@@ -90,7 +90,7 @@ rooted name (x ∷ xs) f e = cases (bytes_eq (record_of x).key root_key)
     (λ t. one_more (as_node x) (filter_map as_node xs) (rooted name xs (right_true _ _ f) (ap (λ b. b || has_key root_key (map record_of xs)) (sym t) ∙ e)))
 
 pub whole_made : (name : List ℕ) (records : List Record) → Rises records → has_key head_key records ≡ true → has_key root_key records ≡ true → first_bad name records ≡ None
-    → IsWhole name (tables_in (rows_in name records)) × (map record_of (rows_of (tables_in (rows_in name records))) ≡ records)
+    → IsWhole name (tables_in (rows_in name records)) × (map record_of (rows_of (tables_in (rows_in name records))) ≡ records) × (rows_of (tables_in (rows_in name records)) ≡ rows_in name records)
 whole_made name records s h r e =
     let t : Tables = tables_in (rows_in name records) in
     let read = all_read name (tables_in (rows_in name records)) records e in
@@ -104,11 +104,12 @@ whole_made name records s h r e =
         root = rooted name (rows_in name records) read.formed (subst (λ (x : List Record). has_key root_key x ≡ true) back r);
       },
       ap (map record_of) are ∙ read.same,
+      are,
     )
 
 -- where nothing is bad, nothing counted as there that is not
 pub counted_made : (name : List ℕ) (records : List Record) → Rises records → first_bad name (counted records) ≡ None
-    → IsWhole name (tables_in (rows_in name (counted records))) × (map record_of (rows_of (tables_in (rows_in name (counted records)))) ≡ records)
+    → IsWhole name (tables_in (rows_in name (counted records))) × (map record_of (rows_of (tables_in (rows_in name (counted records)))) ≡ records) × (rows_of (tables_in (rows_in name (counted records))) ≡ rows_in name (counted records))
 counted_made name records s e =
     let inner = rises_with root_key records s in
     let rises = rises_with head_key (with_key root_key records) inner in
@@ -116,7 +117,7 @@ counted_made name records s e =
     let shapes = (all_read name (tables_in (rows_in name (counted records))) (counted records) e).shaped in
     let first = none_missing name head_key (empty_head name) (with_key root_key records) shapes in
     let second = none_missing name root_key (empty_root name) records (subst (AllShaped name) first shapes) in
-    (made.0, made.1 ∙ first ∙ second)
+    (made.0, made.1 ∙ first ∙ second, made.2)
 
 -- ---- from tables
 

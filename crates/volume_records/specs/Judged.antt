@@ -148,3 +148,16 @@ pub record IsJudged (old : Pass) (before : Before) (r : Row) (reason : Option Re
 pub record IsJudgedRow (old : Pass) (before : Before) (o : Option Row) (reason : Option Reason) (new : Pass) : Type 0 where
   pub why : reason ≡ reason_here old.tree.places.items old.next before o
   pub after : reason ≡ None → HasBefore (and_row before o) new
+
+-- the next id that the first head says, or 0
+abbrev pub next_or : Option Row → ℕ → ℕ
+next_or (Some (row.Head head)) other = head.next_id
+next_or _ other = other
+
+abbrev pub next_in : List (Option Row) → ℕ
+next_in [] = 0
+next_in (o ∷ rows) = next_or o (next_in rows)
+
+-- what records say, without those that are of no shape
+unfoldable pub said_rows : List (Option Row) → List Row
+said_rows rows = filter_map (λ o. o) rows

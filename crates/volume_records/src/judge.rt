@@ -1,6 +1,7 @@
 //! Judging one record, by the tree of all nodes and the records before it.
 ghost use Rattle.std.specs.Prelude.{◌≡◌, ◌≤◌, ◌<◌, ◌+◌, ◌||◌, ◌&&◌, ◌==◌, ◌∷◌, [], not, bytes_eq, nat_lt, ℕ, List, length, true, None, Some, IfOk, OnOk};
 ghost use Rattle.afp_names.specs.Name.{name_fault, name_key};
+ghost use Rattle.afp_volume.specs.VolumeState.{Icon, Appl};
 ghost use Rattle.volume_records.specs.declared.rows.Row.TheVariants as row;
 ghost use Rattle.volume_records.specs.Judged.{has_seen, Before, HasBefore, KeepsTree, IsTree, IsNamedRow, IsJudged, IsJudgedRow, is_short_row};
 
@@ -75,13 +76,13 @@ fn is_new(
 }
 
 /// Whether two forks more pass the limit.
-fn passes_bytes(bytes: u64, data: u64, resource: u64) -> bool
+fn passes_bytes(bytes: u64, first: u64, second: u64) -> bool
     requires { bytes ≤ 268435456 }
-    ensures { result ≡ nat_lt 268435456 (bytes + (data + resource)) }
+    ensures { result ≡ nat_lt 268435456 (bytes + (first + second)) }
 {
-    data > MOST_FORK_BYTES
-        || resource > MOST_FORK_BYTES
-        || bytes + data + resource > MOST_FORK_BYTES
+    first > MOST_FORK_BYTES
+        || second > MOST_FORK_BYTES
+        || bytes + first + second > MOST_FORK_BYTES
 }
 
 /// The first reason behind Parent to refuse a node.
@@ -104,4 +105,81 @@ fn judge_node(alloc: Global, pass: &mut Pass, node: &Node) -> Result<Option<Reas
     pass.nodes += 1;
     pass.bytes += node.data_length + node.resource_length;
     Ok(None)
+}
+
+fn judge_block(pass: &Pass, block: &ForkBlock) -> Option<Reason>
+    requires tree { IsTree pass.now.tree }
+    requires short { length block.now.bytes < 5000 }
+    ensures { (before : Before) → HasBefore before pass.now → IsJudged pass.now before (row.Block block.now) result pass.now }
+{
+    if reaches_behind(&pass.tree, block) {
+        Some(Reason::Range)
+    } else {
+        None
+    }
+}
+
+fn judge_icon(pass: &mut Pass) -> Option<Reason>
+    requires few { pass.old.bytes ≤ 268435456 }
+    ensures same { KeepsTree pass.old pass.new }
+    ensures reason { (icon : Icon) (before : Before) → HasBefore before pass.old → IsJudged pass.old before (row.Icon icon) result pass.new }
+{
+    if MOST_ICONS <= pass.icons {
+        return Some(Reason::Limit);
+    }
+    pass.icons += 1;
+    None
+}
+
+fn judge_appl(pass: &mut Pass) -> Option<Reason>
+    requires few { pass.old.bytes ≤ 268435456 }
+    ensures same { KeepsTree pass.old pass.new }
+    ensures reason { (appl : Appl) (before : Before) → HasBefore before pass.old → IsJudged pass.old before (row.Appl appl) result pass.new }
+{
+    if MOST_APPLS <= pass.appls {
+        return Some(Reason::Limit);
+    }
+    pass.appls += 1;
+    None
+}
+
+/// The first reason behind Parent to refuse a row.
+fn judge_rest(alloc: Global, pass: &mut Pass, row: &Row) -> Result<Option<Reason>, OutOfMemory>
+    requires tree { IsTree pass.old.tree }
+    requires few { pass.old.bytes ≤ 268435456 }
+    requires short { is_short_row (Some row.now) ≡ true }
+    ensures same { OnOk result (KeepsTree pass.old pass.new) }
+    ensures reason { IsNamedRow (Some row.now) → IfOk result (λ reason. (before : Before) → HasBefore before pass.old → IsJudged pass.old before row.now reason pass.new) }
+{
+    match row {
+        Row::Head(_) => Ok(None),
+        Row::Node(node) => judge_node(alloc, pass, node),
+        Row::Block(block) => Ok(judge_block(pass, block)),
+        Row::Comment(_) => Ok(None),
+        Row::Icon(_) => Ok(judge_icon(pass)),
+        Row::Appl(_) => Ok(judge_appl(pass)),
+    }
+}
+
+/// The first reason to refuse a record, by what it says.
+pub(crate) fn judge_row(
+    alloc: Global,
+    pass: &mut Pass,
+    row: &Option<Row>,
+) -> Result<Option<Reason>, OutOfMemory>
+    requires tree { IsTree pass.old.tree }
+    requires few { pass.old.bytes ≤ 268435456 }
+    requires short { is_short_row row.now ≡ true }
+    ensures same { OnOk result (KeepsTree pass.old pass.new) }
+    ensures reason { IsNamedRow row.now → IfOk result (λ reason. (before : Before) → HasBefore before pass.old → IsJudgedRow pass.old before row.now reason pass.new) }
+{
+    match row {
+        None => Ok(Some(Reason::Shape)),
+        Some(row) => {
+            if is_stray(&pass.tree, row) {
+                return Ok(Some(Reason::Parent));
+            }
+            judge_rest(alloc, pass, row)
+        }
+    }
 }

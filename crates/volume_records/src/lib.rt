@@ -6,13 +6,14 @@ mod judge;
 pub mod laws;
 mod load;
 mod numbers;
+mod pass;
 mod read;
 mod rows;
 mod shape;
 mod tree;
 mod write;
 
-pub use load::Loaded;
+pub use load::{Loaded, MOST_RECORDS, load_records};
 pub use read::read_row;
 pub use rows::{Appl, BadRecord, Comment, ForkBlock, Head, Icon, Node, Reason, Record, Row};
 pub use write::{

@@ -1,0 +1,66 @@
+-- What was judged and read is the volume whose records they are, or the first bad record.
+use Rattle.std.proofs.Common.{◌≡◌, ◌∙◌, ℕ, zero, suc, ◌+◌, ◌<◌, ◌≤◌, Bool, true, false, cond, List, [], ◌∷◌, map, length, drop, get_or, refl, sym, ap, subst, arith, Option}
+use Rattle.std.specs.Prelude.{Some, None, nat_lt}
+use Rattle.std.specs.Cmp.Lexicographic.{slice_cmp}
+use Rattle.std.specs.Ordering.{nat_cmp, match_ordering}
+use Rattle.std.specs.declared.cmp.Ordering.TheVariants.{Less, Equal, Greater}
+use Rattle.std.proofs.Math.Seq.{drop-cons}
+use Rattle.afp_volume.specs.VolumeState.{VolumeState}
+use Rattle.volume_records.specs.declared.rows.Record.{Record}
+use Rattle.volume_records.specs.declared.rows.BadRecord.{BadRecord}
+use Rattle.volume_records.specs.declared.rows.Reason.TheVariants.{Limit}
+use Rattle.volume_records.specs.declared.rows.Row.{Row}
+use Rattle.volume_records.specs.Records.{record_of}
+use Rattle.volume_records.specs.Shape.{row_in}
+use Rattle.volume_records.specs.Image.{Tables, rows_of, tables_of, tables_in, image}
+use Rattle.volume_records.specs.KeyOrder.{Rises, with_key, counted, head_key, root_key}
+use Rattle.volume_records.specs.FirstBad.{rows_in, first_bad, first_bad_record, most_records, too_many}
+use Rattle.volume_records.specs.Judged.{said_rows}
+use Rattle.volume_records.specs.Laws.{HasRecords}
+use Rattle.volume_records.specs.Loaded.{IsVolumeOf}
+use Rattle.volume_records.proofs.TestParts.{lt_true, lt_false}
+use Rattle.volume_records.proofs.MissingKeys.{rises_with}
+use Rattle.volume_records.proofs.Whole.{counted_made}
+use Rattle.volume_records.proofs.ForkParts.{ForkLaw, volume_of}
+use Rattle.volume_records.proofs.VolumeTables.{tables_again}
+use Rattle.volume_records.proofs.ImageLaw.{whole_volume}
+use Rattle.volume_records.proofs.Passing.{said_all}
+
+-- where there are too many, the one behind them is refused
+pub over_many : (name : List ℕ) (records : List Record) (r : Record) → 480000 < length records → r ≡ get_or records 480000 r → first_bad_record name records ≡ Some (record { key = r.key; reason = Limit })
+over_many name [] r h e = absurd (omega arith)
+over_many name (x ∷ xs) r h e =
+    ap (λ b. cond b (too_many (drop most_records (x ∷ xs))) (first_bad name (counted (x ∷ xs)))) (lt_true most_records (length (x ∷ xs)) h)
+    ∙ ap too_many (drop-cons (x ∷ xs) 480000 r h) ∙ ap (λ (q : Record). Some (record { key = q.key; reason = Limit })) (sym e)
+
+pub judged_counted : (name : List ℕ) (records : List Record) → (records ≡ [] → ⊥) → length records ≤ 480000 → first_bad_record name records ≡ first_bad name (counted records)
+judged_counted name [] n h = absurd (n refl)
+judged_counted name (x ∷ xs) n h = ap (λ b. cond b (too_many (drop most_records (x ∷ xs))) (first_bad name (counted (x ∷ xs)))) (lt_false most_records (length (x ∷ xs)) h)
+
+pub counted_rises : (records : List Record) → Rises records → Rises (counted records)
+counted_rises records s = rises_with head_key (with_key root_key records) (rises_with root_key records s)
+
+with_length : (k : List ℕ) (rs : List Record) → length (with_key k rs) ≤ length rs + 1
+with_length k [] = omega arith
+with_length k (r ∷ rs) = let rest = with_length k rs in
+    elim (slice_cmp nat_cmp k r.key) as (λ o. length (match_ordering o (record { key = k; value = [] } ∷ r ∷ rs) (r ∷ rs) (r ∷ with_key k rs)) ≤ length (r ∷ rs) + 1) [ Less ↦ omega arith | Equal ↦ omega arith | Greater ↦ omega (arith, rest) ]
+
+pub counted_length : (records : List Record) → length (counted records) ≤ length records + 2
+counted_length records = omega (arith, with_length head_key (with_key root_key records), with_length root_key records)
+
+pub loaded_good : ForkLaw → (name : List ℕ) (records : List Record) (rows : List Row) → Rises records → (records ≡ [] → ⊥) → length records ≤ 480000 → first_bad name (counted records) ≡ None → rows ≡ rows_in name (counted records)
+    → (first_bad_record name records ≡ None) × (v : VolumeState) × IsVolumeOf name records rows v
+loaded_good law name records rows s n few good are =
+    let t : Tables = tables_in (rows_in name (counted records)) in
+    let made = counted_made name records s good in
+    let again = tables_again law name (tables_in (rows_in name (counted records))) made.0 in
+    (judged_counted name records n few ∙ good, volume_of name (tables_in (rows_in name (counted records))), record {
+      has_records = record {
+        volume = whole_volume law name (tables_in (rows_in name (counted records))) made.0;
+        image = ap (λ (u : Tables). map record_of (rows_of u)) again ∙ made.1;
+      };
+      has_rows = are ∙ sym made.2 ∙ ap rows_of (sym again);
+    })
+
+pub said_counted : (name : List ℕ) (records : List Record) (list : List Row) (rows : List (Option Row)) → list ≡ said_rows rows → rows ≡ map (row_in name) (counted records) → list ≡ rows_in name (counted records)
+said_counted name records list rows e f = e ∙ ap said_rows f ∙ said_all name (counted records)
