@@ -1,6 +1,6 @@
 -- What is kept of a volume after a plan.
 use Rattle.std.proofs.Common.{◌==◌, ◌≡◌, ◌∙◌, ap, sym, refl, subst, ℕ, zero, suc, ◌+◌, ◌≤◌, ◌<◌, ◌^◌, arith, Bool, true, false, not, ◌&&◌, ◌||◌, cond, List, [], ◌∷◌, ◌++◌, map, length, Option, Some, None, inl, inr}
-use Rattle.std.specs.Prelude.{pos, is_some, sum_by, bytes_eq, nat_le, nat_lt, if◌then◌else◌, IfSome}
+use Rattle.std.specs.Prelude.{pos, unwrap_or, is_some, sum_by, bytes_eq, nat_le, nat_lt, if◌then◌else◌, IfSome}
 use Rattle.std.specs.List.{list_any, list_all, find, filter}
 use Rattle.std.specs.Ordering.{nat_cmp}
 use Rattle.std.proofs.lemmas.Bool.{and_parts, and_from, or_right, cases_Bool, cond_both, cond-true, cond-false, eqb-true, eq-eqb, ne_eqb}
@@ -14,13 +14,14 @@ use Rattle.afp_volume.proofs.Places.{nothing-gone}
 use Rattle.afp_volume.proofs.TestedLists.{all-weaker, all-both, all-filter, all-kept, all-snoc, any-at, none-all, find-passes}
 use Rattle.afp_volume.proofs.Trees.{drawn, tree-parts}
 use Rattle.afp_volume.specs.Edits.{bare, is_taken, with_changed, change_at, without, at_place, modified_at}
+use Rattle.afp_volume.specs.SetFileDirParms.{with_settings}
 use Rattle.afp_base.specs.Apart.{are_apart}
 use Rattle.afp_volume.specs.SoundVolume.{IsSoundVolume, has_node, fork_bytes, row_bytes, is_in_place}
 use Rattle.afp_volume.specs.VolumeState.{Row, VolumeState, Comment, Appl, root_id, first_id}
 use Rattle.afp_volume.specs.Walk.{row_at, child_by_key}
 use Rattle.volume_tree.proofs.Showing.{child-shown, taken-shown, found-shown, ids-differ}
 use Rattle.volume_tree.specs.Kept.{Forks, IsKept, at_gone, bytes_of, data_of, resource_of, has_forks, with_forks, rows_of, state_of, spare_of}
-use Rattle.volume_tree.specs.Planned.{Move, PlanState, IsNew, IsPlan, planned, is_gone, gone_rows, gone_comments, gone_appls, come_rows, next_after, moved_rows, dated_rows}
+use Rattle.volume_tree.specs.Planned.{Move, SetNode, PlanState, IsNew, IsPlan, planned, is_gone, gone_rows, gone_comments, gone_appls, come_rows, next_after, moved_rows, set_rows, dated_rows}
 use Rattle.volume_tree.specs.declared.forks.FileForks.{FileForks}
 use Rattle.volume_tree.specs.declared.head.Dates.{Dates}
 
@@ -45,6 +46,11 @@ shown-dated forks now (Some dir) rows = shown-changed forks dir.0 (modified_at n
 shown-moved : (forks : Forks) (moved : Option Move) (rows : List Row) → rows_of forks (moved_rows moved rows) ≡ moved_rows moved (rows_of forks rows)
 shown-moved forks None rows = refl
 shown-moved forks (Some move) rows = shown-changed forks move.id (at_place move.parent move.name) rows (λ row. refl)
+
+shown-set : (forks : Forks) (set : Option SetNode) (rows : List Row) → rows_of forks (set_rows set rows) ≡ set_rows set (rows_of forks rows)
+unfolding with_settings
+shown-set forks None rows = refl
+shown-set forks (Some set) rows = shown-changed forks set.id (with_settings set.settings) rows (λ row. refl)
 
 shown-last : (forks : Forks) (row : Row) (rows : List Row) → with_forks forks row ≡ row → rows_of forks (rows ++ row ∷ []) ≡ rows_of forks rows ++ row ∷ []
 unfolding rows_of
@@ -104,6 +110,11 @@ all-moved : (forks : Forks) (moved : Option Move) (rows : List Row) → list_all
 all-moved forks None rows = refl
 all-moved forks (Some move) rows = all-changed (has_forks forks) move.id (at_place move.parent move.name) rows (λ row. refl)
 
+all-set : (forks : Forks) (set : Option SetNode) (rows : List Row) → list_all (has_forks forks) (set_rows set rows) ≡ list_all (has_forks forks) rows
+unfolding with_settings
+all-set forks None rows = refl
+all-set forks (Some set) rows = all-changed (has_forks forks) set.id (with_settings set.settings) rows (λ row. refl)
+
 all-come : (forks : Forks) (come : Option Row) (rows : List Row) → IfSome come (λ row. has_forks forks row ≡ true) → list_all (has_forks forks) rows ≡ true → list_all (has_forks forks) (come_rows come rows) ≡ true
 all-come forks None rows here h = h
 all-come forks (Some row) rows here h = all-snoc (has_forks forks) rows row h here
@@ -137,6 +148,11 @@ bytes-dated now (Some dir) rows = bytes-changed dir.0 (modified_at now) rows (λ
 bytes-moved : (moved : Option Move) (rows : List Row) → fork_bytes (moved_rows moved rows) ≡ fork_bytes rows
 bytes-moved None rows = refl
 bytes-moved (Some move) rows = bytes-changed move.id (at_place move.parent move.name) rows (λ row. refl)
+
+bytes-set : (set : Option SetNode) (rows : List Row) → fork_bytes (set_rows set rows) ≡ fork_bytes rows
+unfolding with_settings
+bytes-set None rows = refl
+bytes-set (Some set) rows = bytes-changed set.id (with_settings set.settings) rows (λ row. refl)
 
 bytes-come : (come : Option Row) (rows : List Row) → IfSome come (λ row. bare row ≡ row) → fork_bytes (come_rows come rows) ≡ fork_bytes rows
 bytes-come None rows plain = refl
@@ -218,9 +234,9 @@ pub record Applied (name : List ℕ) (dates new_dates : Dates) (rows new_rows : 
   pub kept : IsKept name dates rows forks used
   pub plan : IsPlan (state_of name dates rows forks) p
   pub spare : 1 ≤ spare_of rows forks
-  pub dates_are : new_dates ≡ record dates { modified = pos p.now }
+  pub dates_are : new_dates ≡ record dates { modified = pos p.now; backup = unwrap_or p.backup dates.backup }
   pub next_is : new_rows.next_id ≡ next_after p.come rows.next_id
-  pub rows_are : new_rows.rows ≡ dated_rows p.now p.dated_too (dated_rows p.now p.dated (moved_rows p.moved (come_rows p.come (gone_rows p.gone rows.rows))))
+  pub rows_are : new_rows.rows ≡ dated_rows p.now p.dated_too (dated_rows p.now p.dated (set_rows p.set (moved_rows p.moved (come_rows p.come (gone_rows p.gone rows.rows)))))
   pub forks_are : (q : ℕ) → at nat_cmp new_forks q ≡ at_gone p.gone q (at nat_cmp forks q)
   pub left_is : left + bytes_of p.gone forks ≡ used
 
@@ -247,15 +263,16 @@ module _ {name : List ℕ} {dates new_dates : Dates} {rows new_rows : RowsValue}
       ∙ ap is_some (cond-false (is_gone p.gone rows.next_id) None (at nat_cmp forks rows.next_id) (gone-drawn (state_of name dates rows forks) p.gone a.plan.gone a.kept.sound))
       ∙ (spare-kept (is_some (at nat_cmp forks rows.next_id)) rows.spare a.spare).0)
 
-  shown : rows_of new_forks new_rows.rows ≡ dated_rows p.now p.dated_too (dated_rows p.now p.dated (moved_rows p.moved (come_rows p.come (gone_rows p.gone (rows_of forks rows.rows)))))
+  shown : rows_of new_forks new_rows.rows ≡ dated_rows p.now p.dated_too (dated_rows p.now p.dated (set_rows p.set (moved_rows p.moved (come_rows p.come (gone_rows p.gone (rows_of forks rows.rows))))))
   shown =
       let came = come_rows p.come (gone_rows p.gone rows.rows) in
       ap (rows_of new_forks) a.rows_are
-      ∙ shown-dated new_forks p.now p.dated_too (dated_rows p.now p.dated (moved_rows p.moved came))
-      ∙ ap (dated_rows p.now p.dated_too) (shown-dated new_forks p.now p.dated (moved_rows p.moved came)
-      ∙ ap (dated_rows p.now p.dated) (shown-moved new_forks p.moved came
+      ∙ shown-dated new_forks p.now p.dated_too (dated_rows p.now p.dated (set_rows p.set (moved_rows p.moved came)))
+      ∙ ap (dated_rows p.now p.dated_too) (shown-dated new_forks p.now p.dated (set_rows p.set (moved_rows p.moved came))
+      ∙ ap (dated_rows p.now p.dated) (shown-set new_forks p.set (moved_rows p.moved came)
+      ∙ ap (set_rows p.set) (shown-moved new_forks p.moved came
       ∙ ap (moved_rows p.moved) (shown-come new_forks p.come (gone_rows p.gone rows.rows) (come-blanks p.come a.plan.come)
-      ∙ ap (come_rows p.come) (shown-gone forks new_forks p.gone rows.rows a.forks_are))))
+      ∙ ap (come_rows p.come) (shown-gone forks new_forks p.gone rows.rows a.forks_are)))))
 
   pub applied-state : state_of name new_dates new_rows new_forks ≡ planned p (state_of name dates rows forks)
   unfolding planned
@@ -289,7 +306,7 @@ module _ {name : List ℕ} {dates new_dates : Dates} {rows new_rows : RowsValue}
       record {
         sound = subst IsSoundVolume (sym applied-state) a.plan.sound;
         files = ap (list_all (has_forks new_forks)) a.rows_are
-            ∙ all-dated new_forks p.now p.dated_too (dated_rows p.now p.dated (moved_rows p.moved came)) ∙ all-dated new_forks p.now p.dated (moved_rows p.moved came) ∙ all-moved new_forks p.moved came
+            ∙ all-dated new_forks p.now p.dated_too (dated_rows p.now p.dated (set_rows p.set (moved_rows p.moved came))) ∙ all-dated new_forks p.now p.dated (set_rows p.set (moved_rows p.moved came)) ∙ all-set new_forks p.set (moved_rows p.moved came) ∙ all-moved new_forks p.moved came
             ∙ all-come new_forks p.come (gone_rows p.gone rows.rows) (come-kept p.come a.plan.come) (all-gone forks new_forks p.gone rows.rows a.forks_are a.kept.files);
         no_data = ap (λ q. data_of (at nat_cmp new_forks q)) a.next_is ∙ ap data_of (a.forks_are (next_after p.come rows.next_id))
             ∙ blank-gone p.gone (next_after p.come rows.next_id) (at nat_cmp forks (next_after p.come rows.next_id)) (next-data p.come);
@@ -300,8 +317,8 @@ module _ {name : List ℕ} {dates new_dates : Dates} {rows new_rows : RowsValue}
         bytes =
             let old = rows_of forks rows.rows in
             let after : fork_bytes (rows_of new_forks new_rows.rows) ≡ fork_bytes (gone_rows p.gone old) =
-            ap fork_bytes shown ∙ bytes-dated p.now p.dated_too (dated_rows p.now p.dated (moved_rows p.moved (come_rows p.come (gone_rows p.gone old))))
-            ∙ bytes-dated p.now p.dated (moved_rows p.moved (come_rows p.come (gone_rows p.gone old))) ∙ bytes-moved p.moved (come_rows p.come (gone_rows p.gone old))
+            ap fork_bytes shown ∙ bytes-dated p.now p.dated_too (dated_rows p.now p.dated (set_rows p.set (moved_rows p.moved (come_rows p.come (gone_rows p.gone old)))))
+            ∙ bytes-dated p.now p.dated (set_rows p.set (moved_rows p.moved (come_rows p.come (gone_rows p.gone old)))) ∙ bytes-set p.set (moved_rows p.moved (come_rows p.come (gone_rows p.gone old))) ∙ bytes-moved p.moved (come_rows p.come (gone_rows p.gone old))
             ∙ bytes-come p.come (gone_rows p.gone old) (come-plain p.come a.plan.come) in
             let whole : fork_bytes (gone_rows p.gone old) + bytes_of p.gone forks ≡ fork_bytes old = bytes-gone forks rows.rows p.gone (ids-differ (state_of name dates rows forks) a.kept.sound) a.plan.gone in
             let were : used ≡ fork_bytes old = a.kept.bytes in

@@ -8,10 +8,11 @@ use Rattle.node_rows.specs.declared.node.Marks.{Marks}
 use Rattle.afp_volume.proofs.Orders.{rising-ids-differ}
 use Rattle.afp_volume.proofs.SoundEdits.{changed-same}
 use Rattle.afp_volume.specs.Edits.{with_changed, change_at, modified_at}
+use Rattle.afp_volume.specs.SetFileDirParms.{Settings, with_settings}
 use Rattle.afp_volume.specs.SoundVolume.{has_rising_ids}
 use Rattle.afp_volume.specs.VolumeState.{Row}
 use Rattle.afp_volume.specs.Walk.{row_at}
-use Rattle.volume_tree.specs.Kept.{IsMarks, marks_in}
+use Rattle.volume_tree.specs.Kept.{IsMarks, IsMarksSet, marks_in}
 
 -- where no row has the id, nothing changes
 pub changed-missing : (rows : List Row) (id : ℕ) (change : Row → Row) → row_at rows id ≡ None → with_changed id change rows ≡ rows
@@ -32,3 +33,6 @@ marked-same rows id marks change s rising found same = changed-same rows id (mar
 pub dated-same : (rows : List Row) (id now : ℕ) (marks new : Marks) → has_rising_ids rows ≡ true → IsMarks (Some marks) (row_at rows id) → new ≡ record marks { modified = pos now } → with_changed id (marked new) rows ≡ with_changed id (modified_at now) rows
 dated-same rows id now marks new rising found is =
     marked-same rows id new (modified_at now) found.0 rising found.1 (ap (λ (m : Marks). marked m found.0) (is ∙ ap (λ (m : Marks). let n : Marks = record m { modified = pos now } in n) found.2))
+
+pub set-same : (rows : List Row) (id : ℕ) (settings : Settings) (marks : Marks) → has_rising_ids rows ≡ true → IsMarksSet settings (Some marks) (row_at rows id) → with_changed id (marked marks) rows ≡ with_changed id (with_settings settings) rows
+set-same rows id settings marks rising found = marked-same rows id marks (with_settings settings) found.0 rising found.1 found.2

@@ -4,9 +4,10 @@ use Rattle.std.specs.List.{list_all}
 use Rattle.std.specs.Ordering.{nat_cmp}
 use Rattle.sorted_map.specs.Entries.{at}
 use Rattle.afp_base.specs.declared.ids.NodeId.{NodeId}
-use Rattle.node_rows.specs.Kept.{RowsValue}
+use Rattle.node_rows.specs.Kept.{RowsValue, marked}
 use Rattle.node_rows.specs.declared.node.Marks.{Marks}
 use Rattle.afp_volume.specs.VolumeState.{Row, VolumeState}
+use Rattle.afp_volume.specs.SetFileDirParms.{Settings, with_settings}
 use Rattle.afp_volume.specs.SoundVolume.{IsSoundVolume, fork_bytes}
 use Rattle.volume_tree.specs.Planned.{is_gone}
 use Rattle.volume_tree.specs.declared.forks.FileForks.{FileForks}
@@ -87,3 +88,8 @@ marks_in row = record { attributes = row.attributes; created = row.created; modi
 abbrev pub IsMarks : Option Marks → Option Row → Type 0
 IsMarks None found = found ≡ None
 IsMarks (Some marks) found = (row : Row) × (found ≡ Some row) × (marks ≡ marks_in row)
+
+-- the marks are those of a row that was found, with its settings
+abbrev pub IsMarksSet : Settings → Option Marks → Option Row → Type 0
+IsMarksSet settings None found = found ≡ None
+IsMarksSet settings (Some marks) found = (row : Row) × (found ≡ Some row) × (marked marks row ≡ with_settings settings row)

@@ -1,11 +1,12 @@
 -- What a call will do to a volume (the form is this profile's).
-use Rattle.std.specs.Prelude.{◌≡◌, ℕ, pos, ◌+◌, ◌==◌, Bool, true, false, not, List, [], ◌∷◌, ◌++◌, Option, Some, None, IfSome}
+use Rattle.std.specs.Prelude.{◌≡◌, ℕ, ℤ, pos, unwrap_or, ◌+◌, ◌==◌, Bool, true, false, not, List, [], ◌∷◌, ◌++◌, Option, Some, None, IfSome}
 use Rattle.std.specs.List.{filter}
 use Rattle.afp_base.specs.declared.ids.NodeId.{NodeId}
 use Rattle.afp_names.specs.Name.{name_key}
 use Rattle.afp_volume.specs.VolumeState.{Row, VolumeState, Comment, Appl}
 use Rattle.afp_volume.specs.SoundVolume.{IsSoundVolume, has_node}
 use Rattle.afp_volume.specs.Walk.{child_by_key}
+use Rattle.afp_volume.specs.SetFileDirParms.{Settings, with_settings}
 use Rattle.afp_volume.specs.Edits.{bare, is_taken, with_changed, without, at_place, modified_at, new_row}
 
 -- the new place of a node
@@ -14,13 +15,20 @@ pub record Move : Type 0 where
   pub parent : ℕ
   pub name : List ℕ
 
--- what a call found and will do: a node goes, one comes, one gets another place, and directories whose children change get the moment as their
+-- the settings of a node
+pub record SetNode : Type 0 where
+  pub id : ℕ
+  pub settings : Settings
+
+-- what a call found and will do: a node goes, one comes, one gets another place, one is set, the volume's backup date is set, and directories whose children change get the moment as their
 -- modified date
 pub record PlanState : Type 0 where
   pub now : ℕ
   pub gone : Option NodeId
   pub come : Option Row
   pub moved : Option Move
+  pub set : Option SetNode
+  pub backup : Option ℤ
   pub dated : Option NodeId
   pub dated_too : Option NodeId
 
@@ -56,6 +64,11 @@ abbrev pub moved_rows : Option Move → List Row → List Row
 moved_rows None rows = rows
 moved_rows (Some move) rows = with_changed move.id (at_place move.parent move.name) rows
 
+-- rows with the settings of a node
+abbrev pub set_rows : Option SetNode → List Row → List Row
+set_rows None rows = rows
+set_rows (Some set) rows = with_changed set.id (with_settings set.settings) rows
+
 -- rows with another modified date of a directory
 abbrev pub dated_rows : ℕ → Option NodeId → List Row → List Row
 dated_rows now None rows = rows
@@ -65,8 +78,9 @@ dated_rows now (Some dir) rows = with_changed dir.0 (modified_at now) rows
 unfoldable pub planned : PlanState → VolumeState → VolumeState
 planned p v = record v {
   modified = pos p.now;
+  backup = unwrap_or p.backup v.backup;
   next_id = next_after p.come v.next_id;
-  rows = dated_rows p.now p.dated_too (dated_rows p.now p.dated (moved_rows p.moved (come_rows p.come (gone_rows p.gone v.rows))));
+  rows = dated_rows p.now p.dated_too (dated_rows p.now p.dated (set_rows p.set (moved_rows p.moved (come_rows p.come (gone_rows p.gone v.rows)))));
   comments = gone_comments p.gone v.comments;
   appls = gone_appls p.gone v.appls;
 }
@@ -86,8 +100,12 @@ pub record IsPlan (v : VolumeState) (p : PlanState) : Type 0 where
 
 -- a new file or directory, in the place of a node that goes
 abbrev pub plan_new : ℕ → Bool → NodeId → NodeId → List ℕ → Option NodeId → PlanState
-plan_new now dir id parent name gone = record { now = now; gone = gone; come = Some (new_row dir id.0 parent.0 name now); moved = None; dated = Some parent; dated_too = None }
+plan_new now dir id parent name gone = record { now = now; gone = gone; come = Some (new_row dir id.0 parent.0 name now); moved = None; set = None; backup = None; dated = Some parent; dated_too = None }
 
 -- a node's new place, and the directories whose children change
 abbrev pub plan_place : ℕ → NodeId → NodeId → List ℕ → NodeId → Option NodeId → PlanState
-plan_place now id parent name dated dated_too = record { now = now; gone = None; come = None; moved = Some (record { id = id.0; parent = parent.0; name = name }); dated = Some dated; dated_too = dated_too }
+plan_place now id parent name dated dated_too = record { now = now; gone = None; come = None; moved = Some (record { id = id.0; parent = parent.0; name = name }); set = None; backup = None; dated = Some dated; dated_too = dated_too }
+
+-- the settings of a node, or none
+abbrev pub plan_set : ℕ → Option SetNode → Option ℤ → PlanState
+plan_set now set backup = record { now = now; gone = None; come = None; moved = None; set = set; backup = backup; dated = None; dated_too = None }

@@ -5,11 +5,13 @@ ghost use Rattle.afp_volume.specs.Edits.{is_taken, with_changed, modified_at};
 ghost use Rattle.afp_volume.specs.VolumeState.{Row};
 ghost use Rattle.afp_volume.specs.Walk.{row_at};
 ghost use Rattle.sorted_map.specs.Entries.{at};
-ghost use Rattle.volume_tree.specs.Kept.{bytes_of, at_gone, IsMarks};
-ghost use Rattle.volume_tree.specs.Planned.{Move, IsNew, IsPlan, planned, gone_rows, come_rows, next_after, moved_rows, dated_rows};
+ghost use Rattle.volume_tree.specs.Kept.{bytes_of, at_gone, IsMarks, IsMarksSet};
+ghost use Rattle.afp_volume.specs.SetFileDirParms.{with_settings};
+ghost use Rattle.volume_tree.specs.Planned.{Move, IsNew, IsPlan, planned, gone_rows, come_rows, next_after, moved_rows, set_rows, dated_rows};
 
 use crate::forks::{FileForks, forget};
-use crate::plan::{Comer, Mover, Plan};
+use crate::plan::{Comer, Mover, Plan, Setting};
+use crate::settings::Settings;
 use crate::volume::Volume;
 use afp_base::{Moment, NodeId};
 use node_rows::{Marks, Rows};
@@ -27,6 +29,8 @@ impl Volume {
             gone,
             come,
             moved,
+            set,
+            backup,
             dated,
             dated_too,
         } = plan;
@@ -34,9 +38,10 @@ impl Volume {
         take_out(&mut self.rows, &mut self.forks, gone);
         put_in(&mut self.rows, come);
         put_elsewhere(&mut self.rows, moved);
+        put_settings(&mut self.rows, set);
         set_date(&mut self.rows, now, dated);
         set_date(&mut self.rows, now, dated_too);
-        self.dates = self.dates.touched(now);
+        self.dates = self.dates.changed(now, backup);
     }
 }
 
@@ -103,6 +108,39 @@ fn put_elsewhere(rows: &mut Rows, moved: Option<Mover>)
             rows.place(id, parent, name, key);
         }
         None => {}
+    }
+}
+
+/// Gives a node its settings.
+fn put_settings(rows: &mut Rows, set: Option<Setting>)
+    ensures rows { rows.new.rows ≡ set_rows set rows.old.rows }
+    ensures next { rows.new.next_id ≡ rows.old.next_id }
+{
+    match set {
+        Some(set) => set_node(rows, set.id, &set.settings),
+        None => {}
+    }
+}
+
+/// Gives the node of an id its settings.
+fn set_node(rows: &mut Rows, id: NodeId, settings: &Settings)
+    ensures rows { rows.new.rows ≡ with_changed id.0 (with_settings settings.now) rows.old.rows }
+    ensures next { rows.new.next_id ≡ rows.old.next_id }
+{
+    let _nodes = rows.nodes();
+    match marks_set(rows, id, settings) {
+        Some(marks) => rows.mark(id, marks),
+        None => {}
+    }
+}
+
+/// The marks of the node of an id, with its settings.
+fn marks_set(rows: &Rows, id: NodeId, settings: &Settings) -> Option<Marks>
+    ensures { IsMarksSet settings.now result (row_at rows.now.rows id.0) }
+{
+    match rows.get(id) {
+        Some(node) => Some(settings.marks(node)),
+        None => None,
     }
 }
 

@@ -43,6 +43,8 @@ pub(crate) fn plan_new(
             key,
         }),
         moved: None,
+        set: None,
+        backup: None,
         dated: Some(new.parent),
         dated_too: None,
     })

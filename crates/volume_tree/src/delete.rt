@@ -45,6 +45,8 @@ impl Volume {
             gone: Some(id),
             come: None,
             moved: None,
+            set: None,
+            backup: None,
             dated: Some(self.directory(id)),
             dated_too: None,
         })

@@ -1,5 +1,5 @@
 //! The dates of a volume, and its next node id.
-ghost use Rattle.std.specs.Prelude.{◌≡◌, pos};
+ghost use Rattle.std.specs.Prelude.{◌≡◌, pos, unwrap_or};
 ghost use Rattle.afp_volume.specs.VolumeState.{never};
 
 use afp_base::Moment;
@@ -37,6 +37,21 @@ impl Dates {
             created: self.created,
             modified: now.seconds() as i32,
             backup: self.backup,
+        }
+    }
+}
+
+impl Dates {
+    /// The dates of a volume that is changed at a moment, and whose backup date is set or stays.
+    pub fn changed(self, now: Moment, backup: Option<i32>) -> Dates
+        ensures { result ≡ record self { modified = pos now; backup = unwrap_or backup self.backup } }
+    {
+        match backup {
+            Some(backup) => Dates {
+                backup,
+                ..self.touched(now)
+            },
+            None => self.touched(now),
         }
     }
 }

@@ -14,6 +14,7 @@ mod plan;
 mod rename;
 mod request;
 mod resolve;
+mod settings;
 mod volume;
 
 pub use head::VolumeHead;

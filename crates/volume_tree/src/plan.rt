@@ -2,6 +2,7 @@
 ghost use Rattle.std.specs.Prelude.{◌≡◌};
 ghost use Rattle.afp_volume.specs.Edits.{at_place};
 
+use crate::settings::Settings;
 use afp_base::{Bytes, Moment, NodeId};
 use afp_names::Name;
 use node_rows::Node;
@@ -47,16 +48,33 @@ impl Model for Mover {
     ghost invariant = { λ a. a.key ≡ name_key a.name };
 }
 
+/// The settings of a node.
+#[derive(Drop)]
+pub(crate) struct Setting {
+    pub id: NodeId,
+    pub settings: Settings,
+}
+
+impl Model for Setting {
+    ghost use Rattle.volume_tree.specs.Planned.{SetNode};
+
+    ghost Value = { SetNode };
+
+    ghost view = { λ a. record { id = a.id.0; settings = a.settings } };
+}
+
 /// What a call will do to a volume, all that it takes memory for included.
 ///
 /// Contracts see what the call found: the node that goes, the one that comes, the one that gets
-/// another place, and the directories whose children change.
+/// another place, what is set, and the directories whose children change.
 #[derive(Drop)]
 pub struct Plan {
     pub(crate) now: Moment,
     pub(crate) gone: Option<NodeId>,
     pub(crate) come: Option<Comer>,
     pub(crate) moved: Option<Mover>,
+    pub(crate) set: Option<Setting>,
+    pub(crate) backup: Option<i32>,
     pub(crate) dated: Option<NodeId>,
     pub(crate) dated_too: Option<NodeId>,
 }
@@ -66,5 +84,5 @@ impl Model for Plan {
 
     ghost Value = { PlanState };
 
-    ghost view = { λ a. record { now = a.now; gone = a.gone; come = a.come; moved = a.moved; dated = a.dated; dated_too = a.dated_too } };
+    ghost view = { λ a. record { now = a.now; gone = a.gone; come = a.come; moved = a.moved; set = a.set; backup = a.backup; dated = a.dated; dated_too = a.dated_too } };
 }

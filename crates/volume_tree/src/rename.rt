@@ -49,6 +49,8 @@ pub(crate) fn plan_place(
             name,
             key,
         }),
+        set: None,
+        backup: None,
         dated: Some(place.dated),
         dated_too: place.dated_too,
     })

@@ -1,0 +1,11 @@
+use Rattle.std.proofs.Common.{◌∙◌, ap, sym}
+use Rattle.afp_volume.specs.SetFileDirParms.{with_settings}
+use Rattle.volume_tree.proofs.Dating.{changed-missing, set-same}
+use Rattle.volume_tree.proofs.apply.set_node.Goals as goal
+
+pub returns-in-Some-clause-rows : goal.returns-in-Some-clause-rows
+returns-in-Some-clause-rows c =
+    c.mark.ensures.rows ∙ set-same c.args.rows.now.rows c.args.id.0 c.args.settings.now c.in-Some.marks c.nodes-nodes.ensures.rising c.in-Some.ensures
+
+pub returns-in-None-clause-rows : goal.returns-in-None-clause-rows
+returns-in-None-clause-rows c = sym (changed-missing c.args.rows.now.rows c.args.id.0 (with_settings c.args.settings.now) c.in-None.ensures)

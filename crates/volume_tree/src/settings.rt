@@ -1,0 +1,128 @@
+//! What calls set of nodes.
+ghost use Rattle.std.specs.Prelude.{◌≡◌, ◌==◌, Bool, unwrap_or, option_map, nat_le, bit_and, bit_or, if◌then◌else◌};
+ghost use Rattle.std.specs.Int.{bit_not, w16};
+ghost use Rattle.afp_volume.specs.SetFileDirParms.{attributes_by, settable, with_settings};
+ghost use Rattle.node_rows.specs.Kept.{marked};
+ghost use Rattle.volume_tree.specs.Kept.{marks_in};
+
+use node_rows::{Marks, Node};
+use std::marker::Model;
+
+/// The attributes that a call may set, of files and of directories (AFP Reference, "File attributes",
+/// "Directory attributes").
+const FILE_ATTRIBUTES: u16 = 0x01e5;
+
+const DIR_ATTRIBUTES: u16 = 0x01c5;
+
+/// The bit of an attributes word that says that its others are to be set; without it they are to be
+/// cleared (AFP Reference, "File attributes").
+const SET_OR_CLEAR: u16 = 0x8000;
+
+/// What is set of a node, where it is: attributes by their word, dates, Finder info.
+///
+/// Contracts see the definition's settings.
+#[derive(Drop)]
+pub(crate) struct Settings {
+    pub attributes: Option<u16>,
+    pub created: Option<i32>,
+    pub modified: Option<i32>,
+    pub backup: Option<i32>,
+    pub finder: Option<[u8; 32]>,
+}
+
+impl Model for Settings {
+    ghost use Rattle.afp_volume.specs.SetFileDirParms.{Settings as SettingsValue};
+
+    ghost Value = { SettingsValue };
+
+    ghost view = { λ a. record { attributes = a.attributes; created = a.created; modified = a.modified; backup = a.backup; finder = a.finder } };
+}
+
+impl Settings {
+    /// The marks of a node with these settings.
+    #[tactic(auto, unfolding(afp_volume::specs::SetFileDirParms::with_settings))]
+    pub fn marks(&self, node: &Node) -> Marks
+        ensures { marked result node.now ≡ with_settings self.now node.now }
+    {
+        let marks = with_attributes(marks_of(node), node.dir, self.attributes);
+        let marks = with_created(marks, self.created);
+        let marks = with_modified(marks, self.modified);
+        let marks = with_backup(marks, self.backup);
+        with_finder(marks, self.finder)
+    }
+}
+
+/// The marks of a node.
+fn marks_of(node: &Node) -> Marks
+    ensures { result ≡ marks_in node.now }
+{
+    Marks {
+        attributes: node.attributes,
+        created: node.created,
+        modified: node.modified,
+        backup: node.backup,
+        finder: node.finder,
+        filed: node.filed,
+    }
+}
+
+fn with_attributes(marks: Marks, dir: bool, word: Option<u16>) -> Marks
+    ensures { result ≡ record marks { attributes = unwrap_or (option_map (λ word. attributes_by dir word marks.attributes) word) marks.attributes } }
+{
+    match word {
+        Some(word) => Marks {
+            attributes: attributes_by(dir, word, marks.attributes),
+            ..marks
+        },
+        None => marks,
+    }
+}
+
+/// Attributes with those of a word set or cleared, as far as a node of that kind has them.
+#[tactic(auto, unfolding(afp_volume::specs::SetFileDirParms::attributes_by))]
+fn attributes_by(dir: bool, word: u16, old: u16) -> u16
+    ensures { result ≡ attributes_by dir word old }
+{
+    let settable = if dir { DIR_ATTRIBUTES } else { FILE_ATTRIBUTES };
+    if word >= SET_OR_CLEAR {
+        settable & (old | word)
+    } else {
+        settable & (old & !word)
+    }
+}
+
+fn with_created(marks: Marks, date: Option<i32>) -> Marks
+    ensures { result ≡ record marks { created = unwrap_or date marks.created } }
+{
+    match date {
+        Some(created) => Marks { created, ..marks },
+        None => marks,
+    }
+}
+
+fn with_modified(marks: Marks, date: Option<i32>) -> Marks
+    ensures { result ≡ record marks { modified = unwrap_or date marks.modified } }
+{
+    match date {
+        Some(modified) => Marks { modified, ..marks },
+        None => marks,
+    }
+}
+
+fn with_backup(marks: Marks, date: Option<i32>) -> Marks
+    ensures { result ≡ record marks { backup = unwrap_or date marks.backup } }
+{
+    match date {
+        Some(backup) => Marks { backup, ..marks },
+        None => marks,
+    }
+}
+
+fn with_finder(marks: Marks, info: Option<[u8; 32]>) -> Marks
+    ensures { result ≡ record marks { finder = unwrap_or info marks.finder } }
+{
+    match info {
+        Some(finder) => Marks { finder, ..marks },
+        None => marks,
+    }
+}
