@@ -11,3 +11,5 @@ pub mod Paths
 pub mod Creating
 pub mod Placing
 pub mod FileForks
+pub mod Sums
+pub mod Setting

@@ -3,3 +3,4 @@ pub mod Planned
 pub mod Kept
 pub mod Answered
 pub mod Requests
+pub mod Tails

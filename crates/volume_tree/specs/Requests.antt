@@ -2,7 +2,7 @@
 use Rattle.std.specs.Prelude.{ℕ, ◌==◌, Bool, not, Option, Some, None, bit_and}
 use Rattle.afp_requests.specs.declared.call.Call.{Call}
 use Rattle.afp_requests.specs.declared.call.Call.TheVariants as request
-use Rattle.afp_volume.specs.TreeSteps.{TreeCall, CreateDir, CreateFile, Delete, Rename, MoveAndRename}
+use Rattle.afp_volume.specs.TreeSteps.{TreeCall, CreateDir, CreateFile, Delete, Rename, MoveAndRename, SetFileParms, SetDirParms, SetFileDirParms, SetVolParms}
 
 -- whether a create is hard: bit 7 of its flag (AFP Reference, "FPCreateFile")
 abbrev pub is_hard : ℕ → Bool
@@ -15,4 +15,8 @@ tree_call (request.CreateFile flag volume dir path) = Some (CreateFile (is_hard 
 tree_call (request.Delete volume dir path) = Some (Delete dir.0 path)
 tree_call (request.Rename volume dir path new_path) = Some (Rename dir.0 path new_path)
 tree_call (request.MoveAndRename volume dir target_dir path target_path new_path) = Some (MoveAndRename dir.0 path target_dir.0 target_path new_path)
+tree_call (request.SetFileParms volume dir bits path tail) = Some (SetFileParms dir.0 bits path tail)
+tree_call (request.SetDirParms volume dir bits path tail) = Some (SetDirParms dir.0 bits path tail)
+tree_call (request.SetFileDirParms volume dir bits path tail) = Some (SetFileDirParms dir.0 bits path tail)
+tree_call (request.SetVolParms volume bits tail) = Some (SetVolParms bits tail)
 tree_call call = None

@@ -6,6 +6,7 @@ ghost use Rattle.afp_names.specs.Name.{name_key};
 ghost use Rattle.afp_names.specs.Path.{element_of, long_names};
 ghost use Rattle.afp_volume.specs.Edits.{has_children, is_below, is_taken};
 ghost use Rattle.afp_volume.specs.Calls.{directory_of, has_attribute, has_no_ids, has_no_room, is_busy};
+ghost use Rattle.afp_volume.specs.SoundVolume.{has_file};
 ghost use Rattle.afp_volume.specs.Walk.{parent_at, has_directory, child_by_key, child_by_long_name};
 ghost use Rattle.volume_tree.specs.Answered.{IsFound};
 ghost use Rattle.volume_tree.specs.Shown.{opened};
@@ -144,6 +145,16 @@ impl Volume {
     {
         match self.rows.get(id) {
             Some(node) => node.dir,
+            None => false,
+        }
+    }
+
+    /// Whether an id is a file's.
+    pub(crate) fn is_file(&self, id: NodeId) -> bool
+        ensures { result ≡ has_file self.now.state.rows id.0 }
+    {
+        match self.rows.get(id) {
+            Some(node) => !node.dir,
             None => false,
         }
     }

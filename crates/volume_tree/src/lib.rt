@@ -14,7 +14,10 @@ mod plan;
 mod rename;
 mod request;
 mod resolve;
+mod set_parms;
+mod set_vol_parms;
 mod settings;
+mod tails;
 mod volume;
 
 pub use head::VolumeHead;

@@ -59,6 +59,32 @@ impl Volume {
                 target_path,
                 new_path,
             ),
+            Call::SetFileParms {
+                dir,
+                bits,
+                path,
+                tail,
+                ..
+            } => self.plan_set_file_parms(alloc, now, *dir, *bits, path, tail.as_slice()),
+            Call::SetDirParms {
+                dir,
+                bits,
+                path,
+                tail,
+                ..
+            } => self.plan_set_dir_parms(alloc, now, *dir, *bits, path, tail.as_slice()),
+            Call::SetFileDirParms {
+                dir,
+                bits,
+                path,
+                tail,
+                ..
+            } => self.plan_set_file_dir_parms(alloc, now, *dir, *bits, path, tail.as_slice()),
+            Call::SetVolParms { bits, tail, .. } => self.plan_set_vol_parms(
+                now,
+                *bits,
+                tail.as_slice(),
+            ),
             _ => unreachable!(),
         }
     }

@@ -1,0 +1,9 @@
+use Rattle.volume_tree.proofs.Setting.{backup-planned, backup-plan}
+use Rattle.volume_tree.proofs.volume.Volume.plan_set_vol_parms.Goals as goal
+
+pub returns-clause-effect : goal.returns-clause-effect
+returns-clause-effect c = backup-planned c.args.self.now.state c.args.now c.args.tail.now c.plan_backup.result c.plan_backup.ensures
+
+pub returns-clause-plan : goal.returns-clause-plan
+returns-clause-plan c =
+    backup-plan c.args.self.now.state c.args.now c.args.tail.now c.plan_backup.result c.plan_backup.ensures (c.calls_keep_volumes_sound.ensures.set_volume c.args.self.now.state c.args.now c.args.tail.now c.keeps_sound.ensures)

@@ -1,0 +1,58 @@
+//! FPSetVolParms.
+ghost use Rattle.std.specs.Prelude.{◌≡◌, ◌≤◌, length, Some, None, IfOk};
+ghost use Rattle.afp_volume.specs.Parms.{date_in};
+ghost use Rattle.afp_volume.specs.SetVolParms.{set_vol_parms_refusal, set_vol_parms_effect};
+ghost use Rattle.volume_tree.specs.Answered.{Refuses};
+ghost use Rattle.volume_tree.specs.Planned.{IsPlan, planned, plan_set};
+
+use crate::plan::Plan;
+use crate::resolve::PlanFault;
+use crate::volume::Volume;
+use afp_base::{Code, Moment};
+use afp_volume::laws::calls_keep_volumes_sound;
+use byteorder::{BigEndian, ByteOrder};
+
+/// The bits that may be set: the backup date alone (AFP Reference, "Volume Bitmap").
+const BACKUP_DATE_ALONE: u16 = 0x0010;
+
+/// The plan of a backup date, which bytes begin with.
+fn plan_backup(now: Moment, tail: &[u8]) -> Plan
+    requires { 4 ≤ length tail.now }
+    ensures { result ≡ plan_set now None (Some (date_in tail.now)) }
+{
+    Plan {
+        now,
+        gone: None,
+        come: None,
+        moved: None,
+        set: None,
+        backup: Some(BigEndian::read_u32(tail).cast_signed()),
+        dated: None,
+        dated_too: None,
+    }
+}
+
+impl Volume {
+    /// Why FPSetVolParms is refused, or the plan of it.
+    #[tactic(auto, unfolding(afp_volume::specs::SetVolParms::set_vol_parms_refusal))]
+    pub(crate) fn plan_set_vol_parms(
+        &self,
+        now: Moment,
+        bits: u16,
+        tail: &[u8],
+    ) -> Result<Plan, PlanFault>
+        ensures refused { Refuses result (set_vol_parms_refusal bits tail.now) }
+        ensures effect { IfOk result (λ plan. planned plan self.now.state ≡ set_vol_parms_effect self.now.state now tail.now) }
+        ensures plan { IfOk result (λ plan. IsPlan self.now.state plan) }
+    {
+        calls_keep_volumes_sound();
+        self.keeps_sound();
+        if bits != BACKUP_DATE_ALONE {
+            return Err(PlanFault::Code(Code::BitmapErr));
+        }
+        if tail.len() < 4 {
+            return Err(PlanFault::Code(Code::ParamErr));
+        }
+        Ok(plan_backup(now, tail))
+    }
+}

@@ -1,0 +1,129 @@
+//! What the tails of set calls hold.
+ghost use Rattle.std.specs.Prelude.{◌≡◌, ◌≤◌, ◌+◌, true, false, None, Some, take, drop, length, option_map, MatchOption, if◌then◌else◌, nat_lt};
+ghost use Rattle.byteorder.specs.Endian.{big_number};
+ghost use Rattle.afp_bitmap.specs.Bits.{is_asked};
+ghost use Rattle.afp_volume.specs.Parms.{date_in};
+ghost use Rattle.afp_volume.specs.SetFileDirParms.{asked_bytes, field_in, is_short_tail, set_fields, settings_in};
+ghost use Rattle.volume_tree.specs.Tails.{lower_bytes, size_asked};
+
+use crate::settings::Settings;
+use byteorder::{BigEndian, ByteOrder};
+
+/// Whether a bit is set.
+fn is_asked(bits: u16, bit: u32) -> bool
+    requires { nat_lt bit 16 ≡ true }
+    ensures { result ≡ is_asked bits bit }
+{
+    bits >> bit & 1 == 1
+}
+
+/// The size of a field, where it is asked.
+fn size_asked(bits: u16, bit: u32, size: usize) -> usize
+    requires { nat_lt bit 16 ≡ true }
+    ensures { result ≡ size_asked bits bit size }
+{
+    if is_asked(bits, bit) { size } else { 0 }
+}
+
+fn behind(bytes: &[u8], at: usize) -> &[u8]
+    requires { at ≤ length bytes.now }
+    ensures { result.now ≡ drop at bytes.now }
+{
+    &bytes[at..]
+}
+
+fn front(bytes: &[u8], size: usize) -> &[u8]
+    requires { size ≤ length bytes.now }
+    ensures { result.now ≡ take size bytes.now }
+{
+    &bytes[..size]
+}
+
+/// The bytes of the field of this bit and size, which begins at a place, where it is asked.
+#[tactic(auto, unfolding(afp_volume::specs::SetFileDirParms::field_in))]
+fn field(bits: u16, tail: &[u8], bit: u32, at: usize, size: usize) -> Option<&[u8]>
+    requires bit { nat_lt bit 16 ≡ true }
+    requires at { at ≡ lower_bytes bits bit }
+    requires fits { at + size_asked bits bit size ≤ length tail.now }
+    ensures { MatchOption result (field_in bits tail.now bit size ≡ None) (λ field. (field_in bits tail.now bit size ≡ Some field.now) × (length field.now ≡ size)) }
+{
+    if !is_asked(bits, bit) {
+        return None;
+    }
+    Some(front(behind(tail, at), size))
+}
+
+fn word_in(bits: u16, tail: &[u8], bit: u32, at: usize) -> Option<u16>
+    requires bit { nat_lt bit 16 ≡ true }
+    requires at { at ≡ lower_bytes bits bit }
+    requires fits { at + size_asked bits bit 2 ≤ length tail.now }
+    ensures { result ≡ option_map (big_number 2) (field_in bits tail.now bit 2) }
+{
+    match field(bits, tail, bit, at, 2) {
+        Some(field) => Some(BigEndian::read_u16(field)),
+        None => None,
+    }
+}
+
+fn date_in(bits: u16, tail: &[u8], bit: u32, at: usize) -> Option<i32>
+    requires bit { nat_lt bit 16 ≡ true }
+    requires at { at ≡ lower_bytes bits bit }
+    requires fits { at + size_asked bits bit 4 ≤ length tail.now }
+    ensures { result ≡ option_map date_in (field_in bits tail.now bit 4) }
+{
+    match field(bits, tail, bit, at, 4) {
+        Some(field) => Some(BigEndian::read_u32(field).cast_signed()),
+        None => None,
+    }
+}
+
+fn finder_in(bits: u16, tail: &[u8], bit: u32, at: usize) -> Option<[u8; 32]>
+    requires bit { nat_lt bit 16 ≡ true }
+    requires at { at ≡ lower_bytes bits bit }
+    requires fits { at + size_asked bits bit 32 ≤ length tail.now }
+    ensures { result ≡ field_in bits tail.now bit 32 }
+{
+    match field(bits, tail, bit, at, 32) {
+        Some(field) => {
+            let mut finder = [0; 32];
+            finder.copy_from_slice(field);
+            Some(finder)
+        }
+        None => None,
+    }
+}
+
+/// How many bytes the fields take that are asked (AFP Reference, "FPSetFileDirParms").
+fn bytes_asked(bits: u16) -> usize
+    ensures { result ≡ asked_bytes bits set_fields }
+{
+    let dates = size_asked(bits, 2, 4) + size_asked(bits, 3, 4) + size_asked(bits, 4, 4);
+    let rights = size_asked(bits, 10, 4) + size_asked(bits, 11, 4) + size_asked(bits, 12, 4);
+    size_asked(bits, 0, 2) + dates + size_asked(bits, 5, 32) + rights
+}
+
+/// Whether a tail has fewer bytes than the fields that are asked.
+#[tactic(auto, unfolding(afp_volume::specs::SetFileDirParms::is_short_tail))]
+pub(crate) fn is_short_tail(bits: u16, tail: &[u8]) -> bool
+    ensures { result ≡ is_short_tail bits tail.now }
+{
+    tail.len() < bytes_asked(bits)
+}
+
+/// The settings that a tail holds.
+pub(crate) fn settings_in(bits: u16, tail: &[u8]) -> Settings
+    requires { is_short_tail bits tail.now ≡ false }
+    ensures { result ≡ settings_in bits tail.now }
+{
+    let created = size_asked(bits, 0, 2);
+    let modified = created + size_asked(bits, 2, 4);
+    let backup = modified + size_asked(bits, 3, 4);
+    let finder = backup + size_asked(bits, 4, 4);
+    Settings {
+        attributes: word_in(bits, tail, 0, 0),
+        created: date_in(bits, tail, 2, created),
+        modified: date_in(bits, tail, 3, modified),
+        backup: date_in(bits, tail, 4, backup),
+        finder: finder_in(bits, tail, 5, finder),
+    }
+}
