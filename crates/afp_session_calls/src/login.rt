@@ -1,9 +1,13 @@
 //! The requests about logging in and out (AFP Reference, "Login Commands").
 
-ghost use Rattle.std.specs.Prelude.{◌≡◌, ◌<◌, ◌^◌, length, OnOk, OnErr};
-ghost use Rattle.afp_requests.specs.Words.{Counted, count_size, counted};
-ghost use Rattle.afp_requests.specs.Login.{login, login_reader, login_ext, login_ext_reader, logout, logout_reader};
-ghost use Rattle.afp_fields.specs.Taking.{Gives, Takes};
+ghost use Rattle.std.specs.Prelude.{◌≡◌, ◌<◌, ◌^◌, [], ◌∷◌, length, OnOk, OnErr};
+ghost use Rattle.afp_names.specs.Path.{long_names, utf8_names};
+ghost use Rattle.afp_requests.specs.Words.{Counted, Even, Tail, Within, count_size, counted};
+ghost use Rattle.afp_requests.specs.Reading.{Alone, words};
+ghost use Rattle.afp_requests.specs.declared.call.Call.TheVariants.{LoginExt};
+ghost use Rattle.afp_requests.specs.Session.{login, login_reader, login_ext, login_ext_reader, logout, logout_reader};
+ghost use Rattle.afp_fields.specs.Input.{read_on};
+ghost use Rattle.afp_fields.specs.Taking.{Gives, IsFound, Takes};
 ghost use Rattle.afp_fields.specs.Putting.{PutsAll, Puts, Keeps};
 
 use afp_base::{Bytes, OutOfMemory};
@@ -55,6 +59,26 @@ pub(crate) fn read_login_ext(alloc: Global, fields: &mut Fields<'_>) -> Result<C
     let uam = fields.str(alloc)?;
     fields.literal(UTF8_NAMES)?;
     let name = fields.text(alloc)?;
+    read_login_ext_path(alloc, fields, flags, LoginNames { version, uam, name })
+}
+
+/// The names of FPLoginExt before its path.
+#[derive(Drop)]
+struct LoginNames {
+    version: Bytes,
+    uam: Bytes,
+    name: Bytes,
+}
+
+/// The path of FPLoginExt, and what follows it.
+fn read_login_ext_path(
+    alloc: Global,
+    fields: &mut Fields<'_>,
+    flags: u16,
+    names: LoginNames,
+) -> Result<Call, ReadFault>
+    ensures { IsFound (read_on (words (Within 1 long_names utf8_names ∷ []) (λ path_kind. words (Counted (count_size path_kind) ∷ Even ∷ Tail ∷ []) (λ path _ rest. Alone (LoginExt flags names.version names.uam names.name path_kind path rest)))) fields.old) result }
+{
     let path_kind = fields.u8_within(LONG_NAMES, UTF8_NAMES)?;
     let path = path_text(alloc, fields, path_kind)?;
     fields.even()?;
@@ -62,9 +86,9 @@ pub(crate) fn read_login_ext(alloc: Global, fields: &mut Fields<'_>) -> Result<C
     fields.alone()?;
     Ok(Call::LoginExt {
         flags,
-        version,
-        uam,
-        name,
+        version: names.version,
+        uam: names.uam,
+        name: names.name,
         path_kind,
         path,
         tail,
