@@ -14,6 +14,8 @@ mod links;
 #[cfg(test)]
 mod one_session;
 #[cfg(test)]
+mod outside;
+#[cfg(test)]
 mod serial;
 #[cfg(test)]
 mod taped;

@@ -1,20 +1,20 @@
+//! Links, doors, sinks, clocks and gates, as the server's crates meet them.
 ghost use Rattle.std.specs.Prelude.{IfOk};
 ghost use Rattle.afp_outside.specs.Tape.{IsFreshTape};
 
-use super::*;
-use crate::steady_clock::{SteadyClock, moment_after};
-use crate::system_clock::moment_of_unix;
-use afp_base::{Bytes, LinkNumber, Moment, OutOfMemory};
+use crate::taped::{joined, moment};
+use afp_base::{LinkNumber, Moment, OutOfMemory};
+use afp_outside::{
+    Accepted, Clock, Gate, Heard, Link, Listener, OpenGate, Sink, SteadyClock, SystemClock,
+    TapeClock, TapeLink, TapeListener, TapeSink, TcpDoor, Wrote,
+};
 use std::alloc::Global;
+use std::cell::Cell;
 use std::io::ErrorKind;
 use std::process::Abort;
 use std::test::Fail;
 use std::time::Duration;
 use std::{io, time};
-
-fn moment(seconds: u32) -> Moment {
-    Moment::new(seconds).unwrap_or(moment_of_unix(0))
-}
 
 /// A link on which a text comes, by a plan of reads, writes and moments, and with these calls failing.
 fn link_of(
@@ -27,8 +27,7 @@ fn link_of(
 ) -> Result<TapeLink, OutOfMemory>
     ensures { IfOk result IsFreshTape }
 {
-    let mut bytes = Bytes::new(alloc);
-    bytes.extend(text)?;
+    let bytes = joined(alloc, &[text])?;
     TapeLink::new(
         alloc,
         moment(5),
@@ -202,31 +201,47 @@ impl time::Clock for Stopped {
     }
 }
 
+/// A system's clock that stands 0.9 seconds behind 2000-01-01 00:00 GMT, and whose time goes on by 1.1 seconds once it was read.
+#[derive(Drop)]
+struct Going {
+    millis: Cell<u64>,
+}
+
+impl time::Clock for Going {
+    fn monotonic(&self) -> io::Result<Duration> {
+        let gone = Duration::from_millis(self.millis.get());
+        self.millis.set(1_100);
+        Ok(gone)
+    }
+
+    fn since_1970(&self) -> io::Result<Duration> {
+        Ok(Duration::from_millis(946_684_800_900))
+    }
+}
+
 /// What a clock tells, through its trait.
 fn told<C: Clock>(clock: &C) -> u32 {
     clock.now().seconds()
 }
 
-/// What a steady clock tells that is set by a stopped one.
-fn told_steadily(stopped: Option<u64>) -> Option<u32> {
-    let clock = SteadyClock::new(Stopped(stopped)).ok()?;
+/// What a steady clock tells that is set by this one.
+fn told_steadily<C: time::Clock + Drop>(clock: C) -> Option<u32> {
+    let clock = SteadyClock::new(clock).ok()?;
     Some(clock.moment()?.seconds())
 }
 
 #[test]
 fn clocks_tell_their_moments(rt: HostRuntime) {
     for (unix, seconds) in moments() {
-        assert_eq!(rt; moment_of_unix(*unix).seconds(), *seconds);
         assert_eq!(rt; told(&SystemClock::new(&Stopped(Some(*unix)))), *seconds);
-        assert_eq!(rt; told_steadily(Some(*unix)), Some(*seconds));
+        assert_eq!(rt; told_steadily(Stopped(Some(*unix))), Some(*seconds));
     }
     assert_eq!(rt; told(&SystemClock::new(&Stopped(None))), 0);
-    assert_eq!(rt; told_steadily(None), None);
-    let set = Duration::from_millis(946_684_800_900);
-    assert_eq!(rt;
-        moment_after(set, Duration::from_millis(1_100)).seconds(),
-        2
-    );
+    assert_eq!(rt; told_steadily(Stopped(None)), None);
+    let going = Going {
+        millis: Cell::new(0),
+    };
+    assert_eq!(rt; told_steadily(going), Some(2));
     assert_eq!(rt; told(&TapeClock::new(moment(100))), 100);
 }
 
