@@ -49,6 +49,13 @@ abbrev pub TakesPiece : ℕ → Input → Result (Bor (List ℕ)) ReadFault → 
 TakesPiece n old (Ok x) new = (old.place ≤ length old.bytes) × (old.place + n ≤ length old.bytes) × (x.now ≡ piece_at old n) × (new ≡ behind old n)
 TakesPiece n old (Err fault) new = (old.place ≤ length old.bytes) × (length old.bytes < old.place + n) × (fault ≡ faults.Param) × (new ≡ old)
 
+-- The next n bytes are taken and copied. Param: there are fewer.
+abbrev pub TakesCopy : ℕ → Input → Result (List ℕ) ReadFault → Input → Type 0
+TakesCopy n old (Ok x) new = (old.place + n ≤ length old.bytes) × (x ≡ piece_at old n) × (new ≡ behind old n)
+TakesCopy n old (Err faults.Param) new = (old.place ≤ length old.bytes) × (length old.bytes < old.place + n) × (new ≡ old)
+TakesCopy n old (Err faults.Memory) new = new ≡ old
+TakesCopy n old (Err faults.NotSupported) new = ⊥
+
 -- A path's bytes, of that type, are taken behind the type. Param: there are fewer than their count.
 abbrev pub TakesText : ℕ → Input → Result (Bor (List ℕ)) ReadFault → Input → Type 0
 TakesText kind old (Ok x) new = (old.place + path_size kind (bytes_left old) ≤ length old.bytes) × (x.now ≡ path_text kind (bytes_left old)) × (new ≡ behind old (path_size kind (bytes_left old)))

@@ -4,7 +4,7 @@
 ghost use Rattle.std.specs.Prelude.{◌≡◌, ◌⊎◌, ◌≤◌, length, Ok, IfOk, OnErr};
 ghost use Rattle.std.specs.Option.{option_copied};
 ghost use Rattle.afp_requests.specs.Words.{Literal, Pad, LastPad, Even, Number, Within, Count, Optional, Signed32, Signed64, Plain, Counted, Tail};
-ghost use Rattle.afp_fields.specs.Taking.{Takes, TakesPiece, TakesEnclosed, StandsAlone};
+ghost use Rattle.afp_fields.specs.Taking.{Takes, TakesPiece, TakesCopy, TakesEnclosed, StandsAlone};
 
 use afp_base::{Bytes, OutOfMemory};
 use afp_requests::ReadFault;
@@ -71,6 +71,17 @@ impl<'a> Fields<'a> {
         let from = self.place;
         self.place = from + size;
         Ok(&self.block[from..from + size])
+    }
+
+    /// The next `size` bytes, as bytes of one's own.
+    fn copy(&mut self, alloc: Global, size: usize) -> Result<Bytes, ReadFault>
+        ensures { TakesCopy size self.old result self.new }
+    {
+        let mut ahead = self.again();
+        let piece = ahead.piece(size)?;
+        let bytes = owned(alloc, piece)?;
+        *self = ahead;
+        Ok(bytes)
     }
 
     /// Passes over a pad byte.
@@ -206,10 +217,7 @@ impl<'a> Fields<'a> {
         ensures taken { Takes (Plain size) self.old result self.new }
         ensures err { OnErr result (self.new ≡ self.old) }
     {
-        let mut ahead = self.again();
-        let piece = ahead.piece(size as usize)?;
-        let bytes = Bytes::of(alloc, piece)?;
-        *self = ahead;
+        let bytes = self.copy(alloc, size as usize)?;
         Ok(bytes)
     }
 
@@ -241,8 +249,7 @@ impl<'a> Fields<'a> {
     {
         let mut ahead = self.again();
         let count = ahead.piece(1)?[0];
-        let piece = ahead.piece(usize::from(count))?;
-        let text = Bytes::of(alloc, piece)?;
+        let text = ahead.copy(alloc, usize::from(count))?;
         *self = ahead;
         Ok(text)
     }
@@ -254,8 +261,7 @@ impl<'a> Fields<'a> {
     {
         let mut ahead = self.again();
         let count = BigEndian::read_u16(ahead.piece(2)?);
-        let piece = ahead.piece(usize::from(count))?;
-        let text = Bytes::of(alloc, piece)?;
+        let text = ahead.copy(alloc, usize::from(count))?;
         *self = ahead;
         Ok(text)
     }
@@ -267,8 +273,7 @@ impl<'a> Fields<'a> {
     {
         let mut ahead = self.again();
         let count = BigEndian::read_u32(ahead.piece(4)?);
-        let piece = ahead.piece(count as usize)?;
-        let text = Bytes::of(alloc, piece)?;
+        let text = ahead.copy(alloc, count as usize)?;
         *self = ahead;
         Ok(text)
     }
@@ -278,12 +283,8 @@ impl<'a> Fields<'a> {
         ensures taken { Takes Tail self.old result self.new }
         ensures err { OnErr result (self.new ≡ self.old) }
     {
-        let mut ahead = self.again();
         let remaining = self.block.len() - self.place;
-        let piece = ahead.piece(remaining)?;
-        let bytes = Bytes::of(alloc, piece)?;
-        *self = ahead;
-        Ok(bytes)
+        self.copy(alloc, remaining)
     }
 
     /// That nothing is enclosed, as in a Command frame.
@@ -307,6 +308,15 @@ impl<'a> Fields<'a> {
         if (piece.len() as u64) < size {
             return Err(ReadFault::Param);
         }
-        Ok(Bytes::of(alloc, &piece[..size as usize])?)
+        Ok(owned(alloc, &piece[..size as usize])?)
     }
+}
+
+/// Bytes of one's own.
+fn owned(alloc: Global, bytes: &[u8]) -> Result<Bytes, OutOfMemory>
+    ensures { IfOk result (λ b. b ≡ bytes.now) }
+{
+    let mut copy = Bytes::new(alloc);
+    copy.extend(bytes)?;
+    Ok(copy)
 }
