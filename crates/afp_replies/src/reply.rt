@@ -116,7 +116,7 @@ pub enum Reply {
 
 /// What a reply answers: the request's command byte, and the bits that the request asked. `bits` are
 /// those of files in a request that asks of files and directories, and for FPMapID the function.
-#[derive(Clone, Copy, Debug, PartialEq, Eq)]
+#[derive(Clone, Copy, PartialEq, Eq)]
 pub struct ReplyKind {
     pub command: u8,
     pub bits: u16,
@@ -124,7 +124,7 @@ pub struct ReplyKind {
 }
 
 /// Why bytes could not be read.
-#[derive(Clone, Copy, Debug, PartialEq, Eq)]
+#[derive(Clone, Copy, PartialEq, Eq)]
 pub enum ReplyFault {
     /// At the place `at`, in bytes from the first, they stop being such a reply.
     Bad { at: usize },
