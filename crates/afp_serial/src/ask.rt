@@ -4,7 +4,7 @@ ghost use Rattle.std.specs.Prelude.{◌≡◌, IfOk};
 use afp_base::{Bytes, Code, LinkNumber, Moment, OutOfMemory};
 
 /// What a server is asked at one moment on one link.
-#[derive(Debug, Drop)]
+#[derive(Drop)]
 pub enum Ask {
     /// A session on a new link. The attention quantum is the client's, in bytes.
     Open {
@@ -29,7 +29,7 @@ pub enum Ask {
 }
 
 /// What an ask is told.
-#[derive(Debug, Drop)]
+#[derive(Drop)]
 pub enum Told {
     /// A session was opened on this link.
     Opened {
@@ -63,7 +63,7 @@ pub enum Outcome {
 }
 
 /// An ask of the history, with its link and moment.
-#[derive(Debug, Drop)]
+#[derive(Drop)]
 pub struct Entry {
     pub link: LinkNumber,
     pub at: Moment,
