@@ -9,7 +9,7 @@ use Rattle.afp_replies.specs.declared.reply.Reply.{Reply}
 use Rattle.afp_replies.specs.declared.reply.ReplyFault.{ReplyFault}
 use Rattle.afp_replies.specs.declared.reply.ReplyFault.TheVariants.{Bad, Memory}
 use Rattle.afp_replies.specs.Entry.{IsCounted, stated}
-use Rattle.afp_replies.specs.Words.{Word, Value, Spells, FaultAt}
+use Rattle.afp_replies.specs.Words.{Word, Counted, Value, Spells, FaultAt}
 use Rattle.afp_replies.specs.Layout.{Layout, Lacks, Has, StopsAt}
 use Rattle.afp_replies.specs.Commands as commands
 
@@ -89,6 +89,11 @@ TakesParams kind bits here (Err Memory) = Unit {0}
 TakesParams kind bits here (Err (Bad at)) =
     ((within : ℕ) × IsBadAt kind bits here.bytes within × (at ≡ here.place + within))
     × ((w : Values) → IsAnswer kind bits w → here.bytes ≡ params bits w → ⊥)
+
+-- the bytes of a text with its count in so many bytes before it
+abbrev pub TakesText : ℕ → Rest → Result (Bor (List ℕ)) ReplyFault → Rest → Type 0
+TakesText size old (Ok piece) new = Took (Counted size) old piece.now new
+TakesText size old (Err e) new = Takes (Counted size) old (Err e) new
 
 -- the bytes of an entry
 abbrev pub TakesEntryBytes : Bool → Rest → Result (Bor (List ℕ)) ReplyFault → Rest → Type 0

@@ -4,10 +4,10 @@ ghost use Rattle.afp_bitmap.specs.Bits.{IsWithin, mask_of, file_mask, dir_mask};
 ghost use Rattle.afp_replies.specs.declared.reply.ReplyFault.TheVariants.{Bad};
 ghost use Rattle.afp_replies.specs.Bytes.{width};
 ghost use Rattle.afp_replies.specs.Layouts.{optional, optional_text};
-ghost use Rattle.afp_replies.specs.Reading.{Rest, Takes, Reads, Front, Ends, IsBytes, TakesParams, TakesEntryBytes, entry_result};
+ghost use Rattle.afp_replies.specs.Reading.{Rest, Takes, Reads, Front, Ends, IsBytes, TakesParams, TakesText, TakesEntryBytes, entry_result};
 ghost use Rattle.afp_replies.specs.Words.{Number, Exactly, Asked, Raw, Pad, Counted, Flag, Entry};
 
-use crate::fields::{DIR, DIRECTORY, FILE, head_size, width};
+use crate::fields::{DIR, DIRECTORY, FILE, head_size, owned, width};
 use crate::list::ListEntry;
 use crate::reply::ReplyFault;
 use afp_base::{Bytes, OutOfMemory};
@@ -133,11 +133,11 @@ impl<'a> Cursor<'a> {
         Ok(())
     }
 
-    /// A text with its count in `size` bytes before it.
-    pub(crate) fn counted(&mut self, alloc: Global, size: usize) -> Result<Bytes, ReplyFault>
+    /// The bytes of a text with its count in `size` bytes before it.
+    fn counted_piece(&mut self, size: usize) -> Result<&'a [u8], ReplyFault>
         requires some { 1 ≤ size }
         requires few { size ≤ 4 }
-        ensures { Takes (Counted size) self.old result self.new }
+        ensures { TakesText size self.old result self.new }
     {
         let at = self.place;
         let head = self.front(size)?;
@@ -146,7 +146,17 @@ impl<'a> Cursor<'a> {
             return Err(ReplyFault::Bad { at });
         }
         let text = self.front(count)?;
-        Ok(Bytes::of(alloc, text)?)
+        Ok(text)
+    }
+
+    /// A text with its count in `size` bytes before it.
+    pub(crate) fn counted(&mut self, alloc: Global, size: usize) -> Result<Bytes, ReplyFault>
+        requires some { 1 ≤ size }
+        requires few { size ≤ 4 }
+        ensures { Takes (Counted size) self.old result self.new }
+    {
+        let text = self.counted_piece(size)?;
+        Ok(owned(alloc, text)?)
     }
 
     /// A text with its count in 1 byte before it, or in 2 where it is wide.
@@ -254,7 +264,7 @@ impl<'a> Cursor<'a> {
     pub(crate) fn remaining(self, alloc: Global) -> Result<Bytes, OutOfMemory>
         ensures { IfOk result (λ b. b ≡ self.entry.bytes) }
     {
-        Bytes::of(alloc, self.bytes)
+        owned(alloc, self.bytes)
     }
 
     /// The end of the bytes.
