@@ -3,24 +3,15 @@
 
 ghost use Rattle.std.specs.Prelude.{◌≡◌, false, IfOk};
 
-pub mod laws;
-pub mod links;
-pub mod plain;
-pub mod report;
-pub mod setup;
-#[cfg(test)]
-mod tests;
-pub mod words;
-
 use afp_core::Counts;
 use afp_outside::{OpenGate, StdSink, SystemClock, TcpDoor};
-use plain::{PlainEnd, afpd_plain, report_end};
-use setup::setup;
+use plain_server::plain::{PlainEnd, afpd_plain, report_end};
+use plain_server::setup::setup;
+use plain_server::words::WordFault;
 use std::io::ErrorKind;
 use std::process::ExitCode;
 use std::random::RandomSource;
 use std::{env, io};
-use words::WordFault;
 
 /// The words behind the program's name.
 fn spoken(rt: &HostRuntime) -> io::Result<Vec<String>> {

@@ -16,6 +16,8 @@ mod one_session;
 #[cfg(test)]
 mod outside;
 #[cfg(test)]
+mod plain;
+#[cfg(test)]
 mod serial;
 #[cfg(test)]
 mod taped;

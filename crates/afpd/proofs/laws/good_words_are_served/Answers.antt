@@ -1,5 +1,0 @@
-use Rattle.afpd.proofs.PlainLaws.{serves_good_words}
-use Rattle.afpd.proofs.laws.good_words_are_served.Goals as goal
-
-pub returns : goal.returns
-returns g c = serves_good_words g.N.Link.Link.link_state g.G.Gate.passed

@@ -1,9 +1,0 @@
-use Rattle.std.proofs.Common.{◌≡◌, ap}
-use Rattle.std.specs.Prelude.{Err}
-use Rattle.afpd.specs.declared.words.WordFault.TheVariants.{Bad}
-use Rattle.afpd.proofs.setup.setup.Goals as goal
-
-pub returns-in-Err-clause-bad : goal.returns-in-Err-clause-bad
-returns-in-Err-clause-bad c = λ is.
-    let same : c.in-Err.fault ≡ Bad = cc is in
-    c.in-Err.ensures.bad (ap Err same)

@@ -1,6 +1,0 @@
--- What the words that were read say (this profile).
-use Rattle.afpd.specs.Words.{Spoken}
-use Rattle.afpd.specs.declared.words.Words.{Words}
-
-abbrev pub spoken_of : Words → Spoken
-spoken_of words = record { server = words.server.now; signature = words.signature; port = words.port; links = words.links; volume = words.volume.now }

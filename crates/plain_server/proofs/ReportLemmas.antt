@@ -1,0 +1,24 @@
+-- A report is written from step to step.
+use Rattle.std.proofs.Common.{◌≡◌, ℕ, ◌-◌, ◌≤◌, List, ◌++◌, length, take, drop, length-drop, refl, sym, ap, ◌∙◌, append_assoc, arith}
+use Rattle.std.proofs.lemmas.List.{take-append-drop, take_all}
+use Rattle.std.specs.Prelude.{Option, Some, None, option_map}
+use Rattle.afp_outside.specs.Sink.{SinkState, SinkTakes}
+use Rattle.plain_server.specs.Reporting.{Reports}
+
+added-added : (o : Option (List ℕ)) (xs ys : List ℕ) → option_map (λ before. before ++ ys) (option_map (λ before. before ++ xs) o) ≡ option_map (λ before. before ++ (xs ++ ys)) o
+added-added None xs ys = refl
+added-added (Some zs) xs ys = ap Some (append_assoc zs xs ys)
+
+cut_at : (xs : List ℕ) (n : ℕ) → n ≤ length xs → xs ≡ take n xs ++ take (length xs - n) (drop n xs)
+cut_at xs n h = sym (take-append-drop n xs) ∙ ap (λ ys. take n xs ++ ys) (sym (take_all (length xs - n) (drop n xs) (omega (arith, length-drop n xs))))
+
+pub reports-more : (a b c : SinkState) (text sent left : List ℕ) (n : ℕ) → text ≡ sent ++ left → Reports a sent b → SinkTakes b left n c
+    → (x : List ℕ) × (text ≡ x ++ take (length left - n) (drop n left)) × Reports a x c
+reports-more a b c text sent left n split so_far w = (
+  sent ++ take n left,
+  split ∙ ap (λ (rest : List ℕ). sent ++ rest) (cut_at left n w.most) ∙ sym (append_assoc sent (take n left) (take (length left - n) (drop n left))),
+  record {
+    written = w.written ∙ ap (λ o. option_map (λ before. before ++ take n left) o) so_far.written ∙ added-added a.written sent (take n left);
+    faults = omega (arith, so_far.faults, w.faults);
+  },
+)

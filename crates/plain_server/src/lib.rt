@@ -1,0 +1,9 @@
+//! The file server over one door: its words, its links one after the other, and its report.
+#![tactic(auto)]
+
+pub mod laws;
+pub mod links;
+pub mod plain;
+pub mod report;
+pub mod setup;
+pub mod words;

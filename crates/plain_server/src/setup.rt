@@ -1,0 +1,49 @@
+//! What the program makes before it serves.
+ghost use Rattle.std.specs.Prelude.{◌≡◌, map, string_bytes, IfOk, IsErrOf};
+ghost use Rattle.plain_server.specs.Words.{Spoken, IsWords};
+ghost use Rattle.plain_server.specs.Setup.{Sets};
+
+use crate::words::{WordFault, read_words};
+use afp_base::Bytes;
+use std::alloc::Global;
+
+/// Where a volume is kept.
+#[derive(Drop)]
+pub enum Place {
+    /// In memory, for as long as the program runs.
+    Memory,
+    /// In the file of this name, in UTF-8.
+    File(Bytes),
+}
+
+/// Where the volumes are kept, in order; the TCP port; how many links are served at once; and after how
+/// many the door closes.
+#[derive(Drop)]
+pub struct Settings {
+    pub places: Vec<Place>,
+    pub port: u16,
+    pub workers: u8,
+    pub links: u64,
+}
+
+/// What the words of the command line say, as far as it is no matter of the house.
+pub fn setup(alloc: Global, words: &[String]) -> Result<Settings, WordFault>
+    ensures found { IfOk result (λ settings. Sets (map (λ word. string_bytes word) words.now) settings) }
+    ensures bad { IsErrOf result WordFault.Bad → (spoken : Spoken) → IsWords (map (λ word. string_bytes word) words.now) spoken → ⊥ }
+{
+    match read_words(alloc, words) {
+        Err(fault) => Err(fault),
+        Ok(words) => {
+            let mut places = Vec::new(alloc);
+            if places.push(Place::Memory).is_err() {
+                return Err(WordFault::Memory);
+            }
+            Ok(Settings {
+                places,
+                port: words.port,
+                workers: 1,
+                links: words.links,
+            })
+        }
+    }
+}
