@@ -36,30 +36,58 @@ pub const KINDS: [&str; 27] = [
     "fed",
 ];
 
-/// What comes of a case of the formats.
-fn format_case(alloc: Global, kind: &str, words: &[&str]) -> Result<String, CaseFault> {
+/// What comes of a case of frames, or of a whole link.
+fn frame_case(alloc: Global, kind: &str, words: &[&str]) -> Result<String, CaseFault> {
     match kind {
         "frames" => frames::frames(alloc, words),
         "frames_cut" => frames::frames_cut(alloc, words),
+        "served" => served(alloc, words),
+        "fed" => fed(alloc, words),
+        _ => session_case(alloc, kind, words),
+    }
+}
+
+/// What comes of a case of sessions.
+fn session_case(alloc: Global, kind: &str, words: &[&str]) -> Result<String, CaseFault> {
+    match kind {
         "options" => sessions::options(alloc, words),
         "pulse" => sessions::pulse(alloc, words),
         "ids" => sessions::ids(alloc, words),
         "attention" => sessions::attention(alloc, words),
+        _ => name_case(alloc, kind, words),
+    }
+}
+
+/// What comes of a case of names and paths.
+fn name_case(alloc: Global, kind: &str, words: &[&str]) -> Result<String, CaseFault> {
+    match kind {
         "name" => names::name(alloc, words),
         "path" => names::path(alloc, words),
         "characters" => names::characters(alloc, words),
         "byte" => names::byte(alloc, words),
+        _ => call_case(alloc, kind, words),
+    }
+}
+
+/// What comes of a case of requests, replies and their parameters.
+fn call_case(alloc: Global, kind: &str, words: &[&str]) -> Result<String, CaseFault> {
+    match kind {
         "parameters" => parameters::parameters(alloc, words),
         "values" => parameters::values(alloc, words),
         "request" => requests::request(alloc, words),
         "fields" => requests::fields(alloc, words),
         "reply" => replies::reply(alloc, words),
         "entries" => replies::entries(alloc, words),
+        _ => house_case(alloc, kind, words),
+    }
+}
+
+/// What comes of a case of what a server is set up with.
+fn house_case(alloc: Global, kind: &str, words: &[&str]) -> Result<String, CaseFault> {
+    match kind {
         "house" => houses::house(alloc, words),
         "status" => houses::status(alloc, words),
         "volumes" => houses::volumes(alloc, words),
-        "served" => served(alloc, words),
-        "fed" => fed(alloc, words),
         _ => Err(CaseFault::Word),
     }
 }
@@ -78,6 +106,6 @@ pub fn case(
         "ask" => ask(alloc, state, words),
         "counts" => counts(alloc, state, words),
         "history" => history(alloc, state, words),
-        _ => format_case(alloc, kind, words),
+        _ => frame_case(alloc, kind, words),
     }
 }

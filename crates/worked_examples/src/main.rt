@@ -61,12 +61,15 @@ fn print_counts(rt: &HostRuntime, run: &Run) -> io::Result<()> {
     Ok(())
 }
 
+/// Takes all lines, and prints the counts.
+fn try_cases(rt: &HostRuntime, run: &mut Run) -> io::Result<()> {
+    take_lines(rt, run)?;
+    print_counts(rt, run)
+}
+
 fn main(rt: HostRuntime) -> io::Result<()> {
     match Run::new(rt.alloc()) {
-        Ok(mut run) => {
-            take_lines(&rt, &mut run)?;
-            print_counts(&rt, &run)
-        }
+        Ok(mut run) => try_cases(&rt, &mut run),
         Err(fault) => Err(error_of(fault)),
     }
 }

@@ -13,13 +13,22 @@ fn fault_of(alloc: Global, fault: ReplyFault) -> Result<String, CaseFault> {
     }
 }
 
-fn written(alloc: Global, kind: &ReplyKind, code: Code, bytes: &[u8]) -> Result<String, CaseFault> {
+fn written(alloc: Global, reply: &Reply) -> Result<String, CaseFault> {
     let mut out = Bytes::new(alloc);
-    match read_reply(alloc, kind, code, bytes) {
-        Ok(reply) => write_reply(alloc, &reply, &mut out)?,
-        Err(fault) => return fault_of(alloc, fault),
-    }
+    write_reply(alloc, reply, &mut out)?;
     word_of(alloc, out.as_slice())
+}
+
+fn written_again(
+    alloc: Global,
+    kind: &ReplyKind,
+    code: Code,
+    bytes: &[u8],
+) -> Result<String, CaseFault> {
+    match read_reply(alloc, kind, code, bytes) {
+        Ok(reply) => written(alloc, &reply),
+        Err(fault) => fault_of(alloc, fault),
+    }
 }
 
 fn kind_of(command: &str, bits: &str, dir_bits: &str) -> Result<ReplyKind, CaseFault> {
@@ -45,7 +54,7 @@ pub fn reply(alloc: Global, words: &[&str]) -> Result<String, CaseFault> {
     };
     let kind = kind_of(command, bits, dir_bits)?;
     let code = code_of(code)?;
-    written(alloc, &kind, code, bytes_of(alloc, bytes)?.as_slice())
+    written_again(alloc, &kind, code, bytes_of(alloc, bytes)?.as_slice())
 }
 
 fn entries_text(alloc: Global, rows: &[ListEntry], text: &mut String) -> Result<(), CaseFault> {

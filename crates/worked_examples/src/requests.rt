@@ -15,19 +15,18 @@ fn fault_of(fault: ReadFault) -> &'static str {
     }
 }
 
-fn read(alloc: Global, block: &[u8], enclosed: Option<&[u8]>) -> Result<String, CaseFault> {
+fn written(alloc: Global, call: &Call, enclosed: bool) -> Result<String, CaseFault> {
     let mut written = Bytes::new(alloc);
     let mut beside = Bytes::new(alloc);
+    write_call(alloc, call, &mut written, &mut beside)?;
+    both(alloc, written.as_slice(), beside.as_slice(), enclosed)
+}
+
+fn read(alloc: Global, block: &[u8], enclosed: Option<&[u8]>) -> Result<String, CaseFault> {
     match read_call(alloc, block, enclosed) {
-        Ok(call) => write_call(alloc, &call, &mut written, &mut beside)?,
-        Err(fault) => return text_of(alloc, fault_of(fault)),
+        Ok(call) => written(alloc, &call, enclosed.is_some()),
+        Err(fault) => text_of(alloc, fault_of(fault)),
     }
-    both(
-        alloc,
-        written.as_slice(),
-        beside.as_slice(),
-        enclosed.is_some(),
-    )
 }
 
 fn both(alloc: Global, block: &[u8], data: &[u8], enclosed: bool) -> Result<String, CaseFault> {

@@ -109,15 +109,30 @@ fn go(
     }
 }
 
+/// The same, and the server's counts.
+fn go_and_count(
+    alloc: Global,
+    server: &mut Server,
+    way: Way,
+    bytes: &[u8],
+    first: usize,
+) -> Result<String, CaseFault>
+    requires { first ≤ length bytes.now }
+{
+    let mut text = go(alloc, server, way, bytes, first)?;
+    text.push(' ')?;
+    put_counts(&server.teller, &mut text)?;
+    Ok(text)
+}
+
 /// What a server writes to a link of which so many bytes come first, why the link ends, and the server's counts.
 fn run(alloc: Global, way: Way, bytes: &[u8], first: usize) -> Result<String, CaseFault>
     requires { first ≤ length bytes.now }
 {
-    let mut server = Server::new(alloc)?;
-    let mut text = go(alloc, &mut server, way, bytes, first)?;
-    text.push(' ')?;
-    put_counts(&server.teller, &mut text)?;
-    Ok(text)
+    match Server::new(alloc) {
+        Ok(mut server) => go_and_count(alloc, &mut server, way, bytes, first),
+        Err(fault) => Err(fault),
+    }
 }
 
 /// The place where the bytes were cut, where something else came of them.
