@@ -79,7 +79,7 @@ impl<'a> Fields<'a> {
     {
         let mut ahead = self.again();
         let piece = ahead.piece(size)?;
-        let bytes = owned(alloc, piece)?;
+        let bytes = Bytes::of(alloc, piece)?;
         *self = ahead;
         Ok(bytes)
     }
@@ -308,15 +308,6 @@ impl<'a> Fields<'a> {
         if (piece.len() as u64) < size {
             return Err(ReadFault::Param);
         }
-        Ok(owned(alloc, &piece[..size as usize])?)
+        Ok(Bytes::of(alloc, &piece[..size as usize])?)
     }
-}
-
-/// Bytes of one's own.
-fn owned(alloc: Global, bytes: &[u8]) -> Result<Bytes, OutOfMemory>
-    ensures { IfOk result (λ b. b ≡ bytes.now) }
-{
-    let mut copy = Bytes::new(alloc);
-    copy.extend(bytes)?;
-    Ok(copy)
 }

@@ -7,7 +7,7 @@ ghost use Rattle.afp_replies.specs.Layouts.{optional, optional_text};
 ghost use Rattle.afp_replies.specs.Reading.{Rest, Takes, Reads, Front, Ends, IsBytes, TakesParams, TakesText, TakesEntryBytes, entry_result};
 ghost use Rattle.afp_replies.specs.Words.{Number, Exactly, Asked, Raw, Pad, Counted, Flag, Entry};
 
-use crate::fields::{DIR, DIRECTORY, FILE, head_size, owned, width};
+use crate::fields::{DIR, DIRECTORY, FILE, head_size, width};
 use crate::list::ListEntry;
 use crate::reply::ReplyFault;
 use afp_base::{Bytes, OutOfMemory};
@@ -156,7 +156,7 @@ impl<'a> Cursor<'a> {
         ensures { Takes (Counted size) self.old result self.new }
     {
         let text = self.counted_piece(size)?;
-        Ok(owned(alloc, text)?)
+        Ok(Bytes::of(alloc, text)?)
     }
 
     /// A text with its count in 1 byte before it, or in 2 where it is wide.
@@ -264,7 +264,7 @@ impl<'a> Cursor<'a> {
     pub(crate) fn remaining(self, alloc: Global) -> Result<Bytes, OutOfMemory>
         ensures { IfOk result (λ b. b ≡ self.entry.bytes) }
     {
-        owned(alloc, self.bytes)
+        Bytes::of(alloc, self.bytes)
     }
 
     /// The end of the bytes.

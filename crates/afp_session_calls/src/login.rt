@@ -5,7 +5,7 @@ ghost use Rattle.afp_names.specs.Path.{long_names, utf8_names};
 ghost use Rattle.afp_requests.specs.Words.{Counted, Even, Tail, Within, count_size, counted};
 ghost use Rattle.afp_requests.specs.Reading.{Alone, words};
 ghost use Rattle.afp_requests.specs.declared.call.Call.TheVariants.{LoginExt};
-ghost use Rattle.afp_requests.specs.Session.{login, login_reader, login_ext, login_ext_reader, logout, logout_reader};
+ghost use Rattle.afp_requests.specs.Login.{login, login_reader, login_ext, login_ext_reader, logout, logout_reader};
 ghost use Rattle.afp_fields.specs.Input.{read_on};
 ghost use Rattle.afp_fields.specs.Taking.{Gives, IsFound, Takes};
 ghost use Rattle.afp_fields.specs.Putting.{PutsAll, Puts, Keeps};
