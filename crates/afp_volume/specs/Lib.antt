@@ -24,3 +24,6 @@ pub mod WorkedExamples
 pub mod Laws
 pub mod Listing
 pub mod TreeSteps
+pub mod Ranges
+pub mod Desktop
+pub mod DesktopLaws
