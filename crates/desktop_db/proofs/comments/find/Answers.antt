@@ -1,0 +1,19 @@
+use Rattle.std.proofs.Common.{rules, ◌∷◌, []}
+use Rattle.std.specs.Cmp.Lexicographic.{slice_cmp}
+use Rattle.std.specs.Ordering.{nat_cmp}
+use Rattle.std.proofs.lemmas.Fn.{always_returns_same}
+use Rattle.afp_volume.specs.Desktop.{comment_key}
+use Rattle.desktop_db.proofs.Places.{searched}
+use Rattle.desktop_db.proofs.comments.find.Goals as goal
+
+pub returns-clause-found : goal.returns-clause-found
+returns-clause-found c =
+    let facts = c.binary_search_by.ensures in
+    let by_key = facts.position (λ comment. slice_cmp nat_cmp (comment_key comment) (c.args.node.0 ∷ [])) (always_returns_same _ _ _ (λ a r h called. (search rules, search rules))) in
+    (searched comment_key (c.args.node.0 ∷ []) c.args.comments.now c.binary_search_by.result c.requires facts.bound by_key).0
+
+pub returns-clause-gap : goal.returns-clause-gap
+returns-clause-gap c =
+    let facts = c.binary_search_by.ensures in
+    let by_key = facts.position (λ comment. slice_cmp nat_cmp (comment_key comment) (c.args.node.0 ∷ [])) (always_returns_same _ _ _ (λ a r h called. (search rules, search rules))) in
+    (searched comment_key (c.args.node.0 ∷ []) c.args.comments.now c.binary_search_by.result c.requires facts.bound by_key).1

@@ -1,0 +1,6 @@
+use Rattle.desktop_db.proofs.Lists.{kept-taken-comment}
+use Rattle.desktop_db.proofs.desktop.Desktop.take_comment.Goals as goal
+
+pub invariant_of-self : goal.invariant_of-self
+invariant_of-self c =
+    kept-taken-comment c.self.inside.comments.items c.take_comment.new.comments.items c.self.inside.icons.items c.self.inside.appls.items c.args.node.0 c.take_comment.ensures.items c.self.invariant

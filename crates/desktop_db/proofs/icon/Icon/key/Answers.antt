@@ -1,0 +1,7 @@
+use Rattle.std.proofs.Common.{◌∙◌, ap, sym}
+use Rattle.afp_volume.specs.SoundVolume.{icon_key}
+use Rattle.desktop_db.proofs.KeyBytes.{nine}
+use Rattle.desktop_db.proofs.icon.Icon.key.Goals as goal
+
+pub returns : goal.returns
+returns c = sym (nine c.self.inside.key c.self.invariant) ∙ ap icon_key c.self.view_is
