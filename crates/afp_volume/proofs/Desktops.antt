@@ -1,8 +1,8 @@
 -- The desktop database of a volume stays in order, formed and within its limits.
-use Rattle.std.proofs.Common.{◌≡◌, ◌∙◌, ap, sym, refl, ℕ, ◌==◌, ◌≤◌, ◌<◌, Bool, true, false, not, ◌&&◌, cond, List, [], ◌∷◌, ◌++◌, length, map, take, inl, inr, Some, None, arith}
-use Rattle.std.specs.Prelude.{bytes_eq, nat_le, nat_lt}
+use Rattle.std.proofs.Common.{◌≡◌, ◌∙◌, ap, sym, refl, ℕ, zero, suc, ◌-◌, ◌==◌, ◌≤◌, ◌<◌, Bool, true, false, not, ◌&&◌, cond, List, [], ◌∷◌, ◌++◌, length, map, take, inl, inr, Some, None, arith}
+use Rattle.std.specs.Prelude.{bytes_eq, nat_le, nat_lt, slice_get}
 use Rattle.std.specs.List.{list_all, list_any, filter}
-use Rattle.std.proofs.lemmas.Bool.{and_parts, and_from, cases_Bool, cond_both, cond-false, eqb-true, eq-eqb, leb-true, le-leb, ltb-true, lt-ltb, ne_eqb, eqb-false}
+use Rattle.std.proofs.lemmas.Bool.{and_parts, and_from, cases_Bool, cond_both, cond-true, cond-false, eqb-true, eq-eqb, leb-true, le-leb, ltb-true, lt-ltb, ne_eqb, eqb-false}
 use Rattle.std.proofs.lemmas.List.{length-take}
 use Rattle.afp_volume.proofs.Formed.{FormedParts, LimitParts, formed-parts, formed-whole, limit-parts, limit-whole}
 use Rattle.afp_volume.proofs.Keys.{before-differs, differ-back, key-same, one-before, one-same, put-few, put-key-all, put-key-rises, rises-by-key, rises-by-number, same-key, finds-put, finds-gone}
@@ -10,13 +10,13 @@ use Rattle.afp_volume.proofs.Notes.{NoteParts, note-parts, note-whole}
 use Rattle.afp_volume.proofs.Ordered.{put-all, put-rises}
 use Rattle.afp_volume.proofs.Orders.{OrderParts, order-parts, order-whole}
 use Rattle.afp_volume.proofs.Rising.{keys-filter}
-use Rattle.afp_volume.proofs.TestedLists.{all-filter, all-kept, all-weaker, any-at, length-filter-le, never}
+use Rattle.afp_volume.proofs.TestedLists.{all-filter, all-kept, all-place, all-weaker, any-at, length-filter-le, never}
 use Rattle.afp_volume.proofs.Trees.{TreeParts, tree-parts, drawn}
-use Rattle.afp_volume.specs.Desktop.{IsDesktop, comment_at, comment_key, creators_of, has_no_appl_room, has_no_icon_room, is_appl, pair_key, with_appl, with_comment, with_icon, without_appl, without_comment, without_mappings}
+use Rattle.afp_volume.specs.Desktop.{IsDesktop, at_key, comment_at, comment_key, creators_of, has_no_appl_room, has_no_icon_room, icon_at, icon_under, icons_of, is_appl, nth_icon, pair_key, with_appl, with_comment, with_icon, without_appl, without_comment, without_mappings}
 use Rattle.afp_volume.specs.DesktopLaws.{with_desktop}
 use Rattle.afp_volume.specs.Order.{stands_before, put_in, rises}
 use Rattle.afp_base.specs.Apart.{are_apart}
-use Rattle.afp_volume.specs.SoundVolume.{IsSoundVolume, appl_key, are_one_appl, are_one_icon, has_apart_names, has_file, has_node, has_noted_nodes, icon_key, is_comment, is_icon, is_in_place, is_tree, keeps_limits, longest_comment, most_appls, most_icons}
+use Rattle.afp_volume.specs.SoundVolume.{IsSoundVolume, appl_key, are_one_appl, are_one_icon, code_size, has_apart_names, has_file, has_node, has_noted_nodes, icon_key, is_comment, is_icon, is_in_place, is_tree, keeps_limits, longest_comment, longest_icon, most_appls, most_icons}
 use Rattle.afp_volume.specs.VolumeState.{Appl, Comment, Icon, VolumeState, first_id, root_id}
 
 -- icons
@@ -313,3 +313,44 @@ creators-rise ms node up formed = by (filter is ms) (keys-filter appl_key is ms 
         let f = and_parts (is_appl a) (list_all is_appl l) fl in
         let g = and_parts (is a) (list_all is l) nl in
         and_from (list_all (λ creator. stands_before a.creator creator) (map (λ (q : Appl). q.creator) l)) (rises (λ creator. creator) (map (λ (q : Appl). q.creator) l)) (behind a l f.0 g.0 f.1 g.1 e.0) (by l e.1 f.1 g.1)
+
+-- icons and their keys
+
+pub icon-parts : (creator kind bits : List ℕ) (icon_kind tag : ℕ) → length creator ≡ code_size → length kind ≡ code_size
+    → icon_under (creator ++ kind ++ icon_kind ∷ []) tag bits ≡ record { creator = creator; kind = kind; icon_kind = icon_kind; tag = tag; bits = take longest_icon bits }
+icon-parts (a ∷ b ∷ c ∷ d ∷ []) (e ∷ f ∷ g ∷ h ∷ []) bits icon_kind tag p q = refl
+icon-parts [] kind bits icon_kind tag p q = absurd (omega arith)
+icon-parts (a ∷ []) kind bits icon_kind tag p q = absurd (omega arith)
+icon-parts (a ∷ b ∷ []) kind bits icon_kind tag p q = absurd (omega arith)
+icon-parts (a ∷ b ∷ c ∷ []) kind bits icon_kind tag p q = absurd (omega arith)
+icon-parts (a ∷ b ∷ c ∷ d ∷ x ∷ l) kind bits icon_kind tag p q = absurd (omega arith)
+icon-parts (a ∷ b ∷ c ∷ d ∷ []) [] bits icon_kind tag p q = absurd (omega arith)
+icon-parts (a ∷ b ∷ c ∷ d ∷ []) (e ∷ []) bits icon_kind tag p q = absurd (omega arith)
+icon-parts (a ∷ b ∷ c ∷ d ∷ []) (e ∷ f ∷ []) bits icon_kind tag p q = absurd (omega arith)
+icon-parts (a ∷ b ∷ c ∷ d ∷ []) (e ∷ f ∷ g ∷ []) bits icon_kind tag p q = absurd (omega arith)
+icon-parts (a ∷ b ∷ c ∷ d ∷ []) (e ∷ f ∷ g ∷ h ∷ x ∷ l) bits icon_kind tag p q = absurd (omega arith)
+
+listed-found : {A : Type 0} (key : A → List ℕ) (of : A → Bool) (xs : List A) (i : ℕ) (s : A) → rises key xs ≡ true → slice_get (filter of xs) i ≡ Some s → at_key key (key s) xs ≡ Some s
+listed-found key of [] i s up listed = absurd (cc)
+listed-found {A} key of (x ∷ xs) i s up listed =
+    let e = and_parts (list_all (λ y. stands_before (key x) (key y)) xs) (rises key xs) up in
+    cond_both (of x) (x ∷ filter of xs) (filter of xs) (λ l. slice_get l i ≡ Some s → at_key key (key s) (x ∷ xs) ≡ Some s)
+    (λ kept at. first i at (λ j later. listed-found key of xs j s e.1 later) e.0)
+    (λ gone at. behind i at (listed-found key of xs i s e.1 at) e.0)
+    listed
+  where
+    behind : (j : ℕ) → slice_get (filter of xs) j ≡ Some s → at_key key (key s) xs ≡ Some s → list_all (λ y. stands_before (key x) (key y)) xs ≡ true → at_key key (key s) (x ∷ xs) ≡ Some s
+    behind j at rest all =
+        cond_both (bytes_eq (key x) (key s)) (Some x) (at_key key (key s) xs) (λ o. o ≡ Some s)
+        (λ same. absurd (never (bytes_eq (key x) (key s)) same (before-differs (key x) (key s) (all-place (λ y. stands_before (key x) (key y)) (filter of xs) j s (all-filter (λ y. stands_before (key x) (key y)) of xs all) at))))
+        (λ other. rest)
+
+    first : (j : ℕ) → slice_get (x ∷ filter of xs) j ≡ Some s → ((j : ℕ) → slice_get (filter of xs) j ≡ Some s → at_key key (key s) xs ≡ Some s) → list_all (λ y. stands_before (key x) (key y)) xs ≡ true → at_key key (key s) (x ∷ xs) ≡ Some s
+    first zero at rest all = let same : x ≡ s = cc in cond-true (bytes_eq (key x) (key s)) (Some x) (at_key key (key s) xs) (key-same (key x) (key s) (ap key same)) ∙ at
+    first (suc j) at rest all = behind j at (rest j at) all
+
+pub icon-listed : (icons : List Icon) (creator : List ℕ) (n : ℕ) (icon : Icon) → rises icon_key icons ≡ true → nth_icon creator n icons ≡ Some icon → icon_at (icon_key icon) icons ≡ Some icon
+icon-listed icons creator n icon up =
+    cond_both (n == 0) None (slice_get (icons_of creator icons) (n - 1)) (λ o. o ≡ Some icon → icon_at (icon_key icon) icons ≡ Some icon)
+    (λ none at. absurd (cc))
+    (λ some at. listed-found icon_key (λ icon. bytes_eq icon.creator creator) icons (n - 1) icon up at)

@@ -1,9 +1,9 @@
 -- The laws of a volume's desktop database, in the subject's own words (this profile).
-use Rattle.std.specs.Prelude.{◌≡◌, ℕ, ◌==◌, true, false, List, length, Some, None, take, bytes_eq, if◌then◌else◌}
-use Rattle.afp_volume.specs.Desktop.{appl_at, comment_at, creators_of, has_no_appl_room, has_no_icon_room, icon_at, is_appl, pair_key, with_appl, with_comment, with_icon, without_appl, without_comment, without_mappings, IsDesktop}
+use Rattle.std.specs.Prelude.{◌≡◌, ℕ, ◌==◌, true, false, List, [], ◌∷◌, ◌++◌, length, Some, None, take, bytes_eq, if◌then◌else◌}
+use Rattle.afp_volume.specs.Desktop.{appl_at, comment_at, creators_of, has_no_appl_room, has_no_icon_room, icon_at, icon_under, is_appl, nth_icon, pair_key, with_appl, with_comment, with_icon, without_appl, without_comment, without_mappings, IsDesktop}
 use Rattle.afp_volume.specs.Edits.{without_node}
 use Rattle.afp_volume.specs.Order.{rises}
-use Rattle.afp_volume.specs.SoundVolume.{appl_key, has_file, has_node, has_noted_nodes, icon_key, is_icon, longest_comment, IsSoundVolume}
+use Rattle.afp_volume.specs.SoundVolume.{appl_key, code_size, has_file, has_node, has_noted_nodes, icon_key, is_icon, longest_comment, longest_icon, IsSoundVolume}
 use Rattle.afp_volume.specs.VolumeState.{Appl, Comment, Icon, VolumeState}
 
 -- What was put is found under its key, what was taken is not, and what stands under other keys stays.
@@ -82,3 +82,12 @@ MappingsGoWithNode = (v : VolumeState) (node : ℕ) → (without_node node v).ap
 -- the creators of a file rise
 abbrev pub CreatorsRise : Type 0
 CreatorsRise = (comments : List Comment) (icons : List Icon) (appls : List Appl) (node : ℕ) → IsDesktop comments icons appls → rises (λ creator. creator) (creators_of node appls) ≡ true
+
+-- an icon under the bytes of a creator, a type and an icon type has these
+abbrev pub IconHasParts : Type 0
+IconHasParts = (creator kind bits : List ℕ) (icon_kind tag : ℕ) → length creator ≡ code_size → length kind ≡ code_size
+    → icon_under (creator ++ kind ++ icon_kind ∷ []) tag bits ≡ record { creator = creator; kind = kind; icon_kind = icon_kind; tag = tag; bits = take longest_icon bits }
+
+-- an icon that is listed is found under its key
+abbrev pub ListedIconIsFound : Type 0
+ListedIconIsFound = (comments : List Comment) (icons : List Icon) (appls : List Appl) (creator : List ℕ) (n : ℕ) (icon : Icon) → IsDesktop comments icons appls → nth_icon creator n icons ≡ Some icon → icon_at (icon_key icon) icons ≡ Some icon

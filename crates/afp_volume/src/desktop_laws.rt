@@ -32,6 +32,12 @@ pub fn desktops_keep_volumes_sound()
     ensures remove_comment { laws.RemoveCommentKeepsSound }
 {}
 
+/// An icon has the parts of the key that it was put under, and one that is listed is found under its key.
+pub fn icons_have_their_keys()
+    ensures parts { laws.IconHasParts }
+    ensures listed { laws.ListedIconIsFound }
+{}
+
 /// With a node go its comment and its mappings. The creators of a file rise.
 pub fn mappings_stand_by_creator()
     ensures comment_gone { laws.CommentGoesWithNode }
