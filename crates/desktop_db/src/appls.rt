@@ -24,6 +24,17 @@ fn find(appls: &[Appl], creator: &[u8; 4], node: NodeId) -> Result<usize, usize>
     appls.binary_search_by(|appl| appl.compare(creator, node))
 }
 
+/// The mapping of a creator and a file.
+pub(crate) fn find_appl<'a>(appls: &'a [Appl], creator: &[u8; 4], node: NodeId) -> Option<&'a Appl>
+    requires { rises appl_key appls.now ≡ true }
+    ensures { option_copied result ≡ appl_at creator.now node.0 appls.now }
+{
+    match find(appls, creator, node) {
+        Ok(place) => Some(&appls[place]),
+        Err(_) => None,
+    }
+}
+
 /// Puts a mapping in place of the one of its creator and file, or where it goes. An error changes nothing.
 pub(crate) fn put_appl(appls: &mut Vec<Appl>, appl: Appl) -> Result<(), DeskFault>
     requires { rises appl_key appls.old.items ≡ true }

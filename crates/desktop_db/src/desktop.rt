@@ -7,7 +7,7 @@ ghost use Rattle.afp_volume.specs.VolumeState.{Appl as Mapping, Comment as NodeC
 ghost use Rattle.desktop_db.specs.Kept.{shown_icon, shown_appl};
 
 use crate::appl::Appl;
-use crate::appls::{forget_node, nth_appl, nth_creator, put_appl, take_appl};
+use crate::appls::{find_appl, forget_node, nth_appl, nth_creator, put_appl, take_appl};
 use crate::comment::Comment;
 use crate::comments::{find_comment, put_comment, take_comment};
 use crate::fault::DeskFault;
@@ -141,6 +141,16 @@ impl Desktop {
         take_appl(&mut self.appls, creator, node)
     }
 
+    /// The tag of the mapping of a creator and a file.
+    pub fn appl(&self, creator: &[u8; 4], node: NodeId) -> Option<u32>
+        ensures { result ≡ option_map (λ (appl : Mapping). appl.tag) (database.appl_at creator.now node.0 self.now.appls) }
+    {
+        match find_appl(self.appls.as_slice(), creator, node) {
+            Some(appl) => Some(appl.tag()),
+            None => None,
+        }
+    }
+
     /// A mapping of a creator, counted from 1 in the order of files: the file and the tag (FPGetAPPL).
     pub fn nth_appl(&self, creator: &[u8; 4], i: u16) -> Option<(NodeId, u32)>
         ensures { option_map shown_appl result ≡ option_map (λ (appl : Mapping). (appl.node, appl.tag)) (database.nth_appl creator.now i self.now.appls) }
@@ -211,7 +221,7 @@ impl Desktop {
         ensures icons { self.new.icons ≡ self.old.icons }
         ensures spare { self.old.spare ≤ self.new.spare }
     {
-        let _ = take_comment(&mut self.comments, node);
+        let _had_comment = take_comment(&mut self.comments, node);
         forget_node(&mut self.appls, node);
     }
 
