@@ -24,7 +24,8 @@ use Rattle.afp_serial.specs.declared.ask.Told.TheVariants as told
 use Rattle.afp_serial.specs.Answer.{answer, after, committed_of, drain_moment, is_legal, is_legal_outcome, request, refusal_reply, link_number, is_full, told_verdict, told_call, told_pulse, told_parting, answer_at}
 use Rattle.afp_serial.specs.History.{is_lawful, stand}
 use Rattle.afp_serial.specs.Limits.{longest_block, most_kept}
-use Rattle.afp_serial.specs.Ranges.{is_moment, is_moment_or_none, is_quad, is_typed_ask, is_typed_entry}
+use Rattle.afp_serial.specs.Ranges.{is_moment, is_moment_or_none, is_typed_ask, is_typed_entry}
+use Rattle.afp_volume.specs.TypedVolume.{is_quad}
 use Rattle.afp_serial.specs.Sessions.{stands_at, session_at}
 use Rattle.afp_serial.specs.Shown.{fits_frame, is_answer_to, is_parting_answer}
 use Rattle.afp_serial.specs.Sound.{IsSound, has_apart_sessions, has_lawful_opens, has_lawful_locks, is_lawful_cache, has_lawful_caches, keeps_all_limits}

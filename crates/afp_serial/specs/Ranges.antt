@@ -1,16 +1,12 @@
 -- The ranges of numbers, as the fields of requests and of the server's setup have them (AFP Reference, "Command formats"; the setup is this profile's).
-use Rattle.std.specs.Prelude.{ℕ, ◌==◌, nat_le, nat_lt, Bool, true, ◌&&◌, length, Option, None, Some}
+use Rattle.std.specs.Prelude.{ℕ, ◌==◌, nat_le, Bool, true, ◌&&◌, length, Option, None, Some}
 use Rattle.std.specs.List.{list_all}
-use Rattle.afp_volume.specs.TypedVolume.{are_bytes, is_long, is_word}
+use Rattle.afp_volume.specs.TypedVolume.{are_bytes, is_long, is_quad, is_word}
 use Rattle.afp_serial.specs.Household.{Household}
 use Rattle.afp_serial.specs.declared.ask.Ask.{Ask}
 use Rattle.afp_serial.specs.declared.ask.Ask.TheVariants as ask
 use Rattle.afp_serial.specs.declared.ask.Entry.{Entry}
 use Rattle.afp_serial.specs.declared.user.User.{User}
-
--- numbers of eight bytes
-abbrev pub is_quad : ℕ → Bool
-is_quad n = nat_lt n 18446744073709551616
 
 -- seconds since 2000-01-01 00:00 GMT, of a moment
 abbrev pub is_moment : ℕ → Bool

@@ -3,7 +3,7 @@
 use Rattle.std.specs.Prelude.{◌≡◌, ℕ, ◌==◌, ◌-◌, nat_le, Bool, true, not, ◌&&◌, List, [], ◌∷◌, ◌++◌, length, map, take, drop, bytes_eq, slice_get, slice_index, Option, None, is_none, if◌then◌else◌}
 use Rattle.std.specs.List.{list_all, filter, find}
 use Rattle.afp_volume.specs.Order.{put_in, rises}
-use Rattle.afp_volume.specs.Ranges.{is_typed_comment, is_typed_icon, is_typed_appl}
+use Rattle.afp_volume.specs.TypedVolume.{is_typed_comment, is_typed_icon, is_typed_appl}
 use Rattle.afp_volume.specs.SoundVolume.{icon_key, appl_key, is_comment, is_icon, code_size, most_icons, most_appls, longest_comment, longest_icon}
 use Rattle.afp_volume.specs.VolumeState.{Comment, Icon, Appl}
 

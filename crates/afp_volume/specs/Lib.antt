@@ -24,6 +24,5 @@ pub mod WorkedExamples
 pub mod Laws
 pub mod Listing
 pub mod TreeSteps
-pub mod Ranges
 pub mod Desktop
 pub mod DesktopLaws

@@ -3,7 +3,7 @@ use Rattle.std.specs.Prelude.{ℕ, ℤ, pos, negsuc, nat_le, nat_lt, Bool, ◌&&
 use Rattle.std.specs.List.{list_all}
 use Rattle.afp_volume.specs.VolumeState.{Appl, Comment, Icon, Row, VolumeState}
 
--- numbers of one byte, of two, and of four
+-- numbers of one byte, of two, of four, and of eight
 abbrev pub is_byte : ℕ → Bool
 is_byte n = nat_lt n 256
 
@@ -12,6 +12,9 @@ is_word n = nat_lt n 65536
 
 abbrev pub is_long : ℕ → Bool
 is_long n = nat_lt n 4294967296
+
+abbrev pub is_quad : ℕ → Bool
+is_quad n = nat_lt n 18446744073709551616
 
 abbrev pub are_bytes : List ℕ → Bool
 are_bytes bytes = list_all is_byte bytes

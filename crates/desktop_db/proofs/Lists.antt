@@ -8,7 +8,7 @@ use Rattle.afp_volume.proofs.Ordered.{put-all}
 use Rattle.afp_volume.proofs.TestedLists.{all-filter}
 use Rattle.afp_volume.specs.Desktop.{comment_key, has_no_appl_room, has_no_icon_room, is_appl, pair_key, with_appl, with_icon, without_appl, without_comment, without_mappings}
 use Rattle.afp_volume.specs.Order.{put_in}
-use Rattle.afp_volume.specs.Ranges.{is_typed_appl, is_typed_comment, is_typed_icon}
+use Rattle.afp_volume.specs.TypedVolume.{is_typed_appl, is_typed_comment, is_typed_icon}
 use Rattle.afp_volume.specs.SoundVolume.{appl_key, icon_key, is_comment, is_icon}
 use Rattle.afp_volume.specs.VolumeState.{Appl, Comment, Icon}
 use Rattle.desktop_db.specs.Kept.{AreKept}

@@ -4,7 +4,7 @@ ghost use Rattle.std.specs.Cmp.Lexicographic.{slice_cmp};
 ghost use Rattle.std.specs.Ordering.{nat_cmp};
 ghost use Rattle.afp_volume.specs.Desktop.{is_appl, pair_key};
 ghost use Rattle.afp_volume.specs.SoundVolume.{appl_key};
-ghost use Rattle.afp_volume.specs.Ranges.{is_typed_appl};
+ghost use Rattle.afp_volume.specs.TypedVolume.{is_typed_appl};
 
 use crate::bytes::{bytes_in_range, long_in_range};
 use afp_base::NodeId;

@@ -1,6 +1,6 @@
 //! What the types say of bytes and numbers.
 ghost use Rattle.std.specs.Prelude.{◌≡◌, length, true};
-ghost use Rattle.afp_volume.specs.Ranges.{are_bytes, is_long};
+ghost use Rattle.afp_volume.specs.TypedVolume.{are_bytes, is_long};
 
 /// Bytes are in their range.
 pub(crate) fn bytes_in_range(bytes: &[u8])

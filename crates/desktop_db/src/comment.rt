@@ -4,7 +4,7 @@ ghost use Rattle.std.specs.Cmp.Lexicographic.{slice_cmp};
 ghost use Rattle.std.specs.Ordering.{nat_cmp};
 ghost use Rattle.afp_volume.specs.Desktop.{comment_key};
 ghost use Rattle.afp_volume.specs.SoundVolume.{is_comment, longest_comment};
-ghost use Rattle.afp_volume.specs.Ranges.{is_typed_comment};
+ghost use Rattle.afp_volume.specs.TypedVolume.{is_typed_comment};
 
 use crate::bytes::{bytes_in_range, long_in_range};
 use afp_base::{Bytes, NodeId};

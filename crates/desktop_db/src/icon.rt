@@ -4,7 +4,7 @@ ghost use Rattle.std.specs.Cmp.Lexicographic.{slice_cmp};
 ghost use Rattle.std.specs.Ordering.{nat_cmp};
 ghost use Rattle.afp_volume.specs.Desktop.{icon_under};
 ghost use Rattle.afp_volume.specs.SoundVolume as sound;
-ghost use Rattle.afp_volume.specs.Ranges.{is_typed_icon};
+ghost use Rattle.afp_volume.specs.TypedVolume.{is_typed_icon};
 
 use crate::bytes::{bytes_in_range, long_in_range, nine_bytes};
 use afp_base::Bytes;

@@ -2,7 +2,7 @@ use Rattle.std.proofs.Common.{◌≡◌, true, get_or, arith}
 use Rattle.std.proofs.lemmas.Bool.{lt-ltb}
 use Rattle.std.proofs.lemmas.List.Elements.{All-from_get_or}
 use Rattle.afp_volume.proofs.TestedLists.{all-each}
-use Rattle.afp_volume.specs.Ranges.{is_byte}
+use Rattle.afp_volume.specs.TypedVolume.{is_byte}
 use Rattle.desktop_db.proofs.bytes.bytes_in_range.Goals as goal
 
 pub returns : goal.returns
