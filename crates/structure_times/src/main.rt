@@ -3,10 +3,10 @@
 //! may be any word, it measures nothing.
 #![tactic(auto)]
 
+mod apart;
 mod changes;
 mod forks;
 mod looks;
-mod shifts;
 mod volume;
 mod watch;
 
@@ -91,7 +91,7 @@ fn print_last(rt: &HostRuntime, small: &mut Rows, large: &mut Rows) -> io::Resul
     )
 }
 
-/// Changes at the front of the vectors, where all is shifted, and the shifts.
+/// Changes at the front of a directory's list, where all children are shifted.
 fn print_first(rt: &HostRuntime, small: &mut Rows, large: &mut Rows) -> io::Result<()> {
     print_row(
         rt,
@@ -113,18 +113,31 @@ fn print_first(rt: &HostRuntime, small: &mut Rows, large: &mut Rows) -> io::Resu
     )
 }
 
-fn print_shifts(rt: &HostRuntime) -> io::Result<()> {
+/// What the standard library alone takes for the like.
+fn print_apart(rt: &HostRuntime) -> io::Result<()> {
     print_row(
         rt,
         "std: a child out and in, first",
-        shifts::children(rt, 1000)?,
-        shifts::children(rt, 100_000)?,
+        apart::children(rt, 1000)?,
+        apart::children(rt, 100_000)?,
     )?;
     print_row(
         rt,
         "std: a node out and in, first",
-        shifts::nodes(rt, 1000)?,
-        shifts::nodes(rt, 100_000)?,
+        apart::nodes(rt, 1000)?,
+        apart::nodes(rt, 100_000)?,
+    )?;
+    print_row(
+        rt,
+        "std: halving, jumping",
+        apart::halving(rt, 1000)?,
+        apart::halving(rt, 100_000)?,
+    )?;
+    print_row(
+        rt,
+        "std: copy 64 KiB",
+        apart::copies(rt, 16)?,
+        apart::copies(rt, 4096)?,
     )
 }
 
@@ -154,7 +167,7 @@ fn print_rows(rt: &HostRuntime) -> io::Result<()> {
 fn print_times(rt: &HostRuntime) -> io::Result<()> {
     println!(rt; "call | small | large | hundredths")?;
     print_rows(rt)?;
-    print_shifts(rt)?;
+    print_apart(rt)?;
     let mut small = made(forks::fork(rt.alloc(), 16))?;
     let mut large = made(forks::fork(rt.alloc(), 4096))?;
     print_forks(rt, &mut small, &mut large)
