@@ -1,22 +1,20 @@
 -- What was judged and read is the volume whose records they are, or the first bad record.
-use Rattle.std.proofs.Common.{◌≡◌, ◌∙◌, ℕ, zero, suc, ◌+◌, ◌<◌, ◌≤◌, Bool, true, false, cond, List, [], ◌∷◌, map, length, drop, get_or, refl, sym, ap, subst, arith, Option}
-use Rattle.std.specs.Prelude.{Some, None, nat_lt}
+use Rattle.std.proofs.Common.{◌≡◌, ◌∙◌, ℕ, ◌+◌, ◌<◌, ◌≤◌, cond, List, [], ◌∷◌, map, length, drop, get_or, refl, sym, ap, arith, Option}
+use Rattle.std.specs.Prelude.{Some, None}
 use Rattle.std.specs.Cmp.Lexicographic.{slice_cmp}
 use Rattle.std.specs.Ordering.{nat_cmp, match_ordering}
 use Rattle.std.specs.declared.cmp.Ordering.TheVariants.{Less, Equal, Greater}
 use Rattle.std.proofs.Math.Seq.{drop-cons}
 use Rattle.afp_volume.specs.VolumeState.{VolumeState}
 use Rattle.volume_records.specs.declared.rows.Record.{Record}
-use Rattle.volume_records.specs.declared.rows.BadRecord.{BadRecord}
 use Rattle.volume_records.specs.declared.rows.Reason.TheVariants.{Limit}
 use Rattle.volume_records.specs.declared.rows.Row.{Row}
 use Rattle.volume_records.specs.Records.{record_of}
 use Rattle.volume_records.specs.Shape.{row_in}
-use Rattle.volume_records.specs.Image.{Tables, rows_of, tables_of, tables_in, image}
+use Rattle.volume_records.specs.Image.{Tables, rows_of, tables_in}
 use Rattle.volume_records.specs.KeyOrder.{Rises, with_key, counted, head_key, root_key}
 use Rattle.volume_records.specs.FirstBad.{rows_in, first_bad, first_bad_record, most_records, too_many}
 use Rattle.volume_records.specs.Judged.{said_rows}
-use Rattle.volume_records.specs.Laws.{HasRecords}
 use Rattle.volume_records.specs.Loaded.{IsVolumeOf}
 use Rattle.volume_records.proofs.TestParts.{lt_true, lt_false}
 use Rattle.volume_records.proofs.MissingKeys.{rises_with}
@@ -53,14 +51,17 @@ pub loaded_good : ForkLaw → (name : List ℕ) (records : List Record) (rows : 
 loaded_good law name records rows s n few good are =
     let t : Tables = tables_in (rows_in name (counted records)) in
     let made = counted_made name records s good in
-    let again = tables_again law name (tables_in (rows_in name (counted records))) made.0 in
-    (judged_counted name records n few ∙ good, volume_of name (tables_in (rows_in name (counted records))), record {
-      has_records = record {
-        volume = whole_volume law name (tables_in (rows_in name (counted records))) made.0;
-        image = ap (λ (u : Tables). map record_of (rows_of u)) again ∙ made.1;
-      };
-      has_rows = are ∙ sym made.2 ∙ ap rows_of (sym again);
-    })
+    let again = tables_again law name (tables_in (rows_in name (counted records))) made.0 in (
+      judged_counted name records n few ∙ good,
+      volume_of name (tables_in (rows_in name (counted records))),
+      record {
+        has_records = record {
+          volume = whole_volume law name (tables_in (rows_in name (counted records))) made.0;
+          image = ap (λ (u : Tables). map record_of (rows_of u)) again ∙ made.1;
+        };
+        has_rows = are ∙ sym made.2 ∙ ap rows_of (sym again);
+      },
+    )
 
 pub said_counted : (name : List ℕ) (records : List Record) (list : List Row) (rows : List (Option Row)) → list ≡ said_rows rows → rows ≡ map (row_in name) (counted records) → list ≡ rows_in name (counted records)
 said_counted name records list rows e f = e ∙ ap said_rows f ∙ said_all name (counted records)

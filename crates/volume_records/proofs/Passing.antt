@@ -1,5 +1,5 @@
 -- The reasons of a pass by rising key are those among all records.
-use Rattle.std.proofs.Common.{◌≡◌, ◌∙◌, ℕ, zero, suc, ◌+◌, ◌*◌, ◌<◌, ◌≤◌, Bool, true, false, cond, not, List, [], ◌∷◌, ◌++◌, map, length, take, drop, get_or, refl, sym, ap, subst, arith, Option, append_assoc, length-append}
+use Rattle.std.proofs.Common.{◌≡◌, ◌∙◌, ℕ, zero, suc, ◌+◌, ◌*◌, ◌<◌, ◌≤◌, Bool, true, false, cond, not, List, [], ◌∷◌, ◌++◌, map, length, take, drop, get_or, refl, sym, ap, subst, arith, Option, length-append}
 use Rattle.std.specs.Prelude.{Some, None, nat_le, nat_lt, ◌&&◌, ◌||◌, ◌==◌, bytes_eq, sum_by}
 use Rattle.std.specs.List.{list_all, list_any, filter, filter_map, cons_option, AllByRecursion}
 use Rattle.std.specs.List.Sorted.{IsStrictlySortedBy}
@@ -9,13 +9,12 @@ use Rattle.std.specs.Ordering.{nat_cmp}
 use Rattle.std.specs.declared.cmp.Ordering.TheVariants.{Less}
 use Rattle.std.proofs.lemmas.List.{take_more, take-append-drop, get_or-map, map-append}
 use Rattle.std.proofs.Math.Seq.{drop-cons}
-use Rattle.afp_names.specs.Name.{name_fault, name_key}
+use Rattle.afp_names.specs.Name.{name_key}
 use Rattle.afp_volume.specs.VolumeState.{Icon, Appl, root_id}
 use Rattle.afp_volume.specs.VolumeState.{Row as VolumeRow}
 use Rattle.afp_volume.specs.Order.{stands_before}
 use Rattle.afp_volume.specs.SoundVolume.{has_node, has_file, leads_to_root, are_named_alike, icon_key, appl_key, most_nodes, most_fork_bytes, most_icons, most_appls}
 use Rattle.volume_records.specs.declared.rows.Record.{Record}
-use Rattle.volume_records.specs.declared.rows.Head.{Head}
 use Rattle.volume_records.specs.declared.rows.Node.{Node}
 use Rattle.volume_records.specs.declared.rows.Reason.{Reason}
 use Rattle.volume_records.specs.declared.rows.Reason.TheVariants.{Parent, Twin, Range, Limit}
@@ -23,13 +22,13 @@ use Rattle.volume_records.specs.declared.rows.Row.{Row}
 use Rattle.volume_records.specs.declared.rows.Row.TheVariants as row
 use Rattle.volume_records.specs.declared.tree.Place.{Place}
 use Rattle.volume_records.specs.Records.{record_of}
-use Rattle.volume_records.specs.Shape.{row_in, bare_row, is_formed, is_formed_node, is_formed_block, is_formed_appl, is_formed_comment}
+use Rattle.volume_records.specs.Shape.{row_in, bare_row, is_formed}
 use Rattle.volume_records.specs.Image.{Tables, tables_in, first_head, as_head, as_node, as_icon, as_appl}
 use Rattle.volume_records.specs.KeyOrder.{IsBelow, Rises}
-use Rattle.volume_records.specs.FirstBad.{rows_in, tree_of, fork_length, nodes_to, icons_to, appls_to, lacks_parent, is_twin, is_outside, passes_limit, first_of, reason_of, bad_or, first_in}
+use Rattle.volume_records.specs.FirstBad.{rows_in, fork_length, nodes_to, icons_to, appls_to, lacks_parent, is_twin, is_outside, passes_limit, first_of, reason_of, bad_or, first_in}
 use Rattle.volume_records.specs.Climb.{id_of, climbs_to_root}
 use Rattle.volume_records.specs.Judged.{place_of, said_node, places_in, is_there, is_file_there, length_of, is_stray_here, is_outside_here, Before, is_twin_here, fork_sum, is_over_here, reason_here, and_row, next_in, next_or, said_rows, is_short_row, IsNamedRow}
-use Rattle.volume_records.proofs.TestParts.{left_true, right_true, both_true, lt_of, lt_true, le_of, le_true, lt_false, same_of, same_true, other_false, bytes_same, bytes_true, cases, any-map, any-same, all-ends}
+use Rattle.volume_records.proofs.TestParts.{left_true, right_true, both_true, lt_of, le_true, lt_false, same_of, same_true, other_false, bytes_same, bytes_true, cases, any-map, any-same, all-ends}
 use Rattle.volume_records.proofs.Chains.{Chain, sum-cons}
 use Rattle.volume_records.proofs.ReadBack.{row_is}
 use Rattle.volume_records.proofs.RowKinds.{by_kind, behind_head, nil_behind}
@@ -156,7 +155,7 @@ leads_same ns zero id = refl
 leads_same ns (suc k) id = ap (λ b. (id == root_id) || b)
     (any-map (λ (r : VolumeRow). (r.id == id) && (r.dir && leads_to_root (map bare_row ns) k r.parent)) bare_row ns
     ∙ any-same (λ (n : Node). (n.id == id) && (n.is_directory && leads_to_root (map bare_row ns) k n.parent)) (λ (n : Node). (n.id == id) && (n.is_directory && climbs_to_root (map place_of ns) k n.parent)) ns
-      (λ n. ap (λ b. (n.id == id) && (n.is_directory && b)) (leads_same ns k n.parent))
+    (λ n. ap (λ b. (n.id == id) && (n.is_directory && b)) (leads_same ns k n.parent))
     ∙ sym (any-map (λ (p : Place). (p.id == id) && (p.is_directory && climbs_to_root (map place_of ns) k p.parent)) place_of ns))
 
 climbs_same : (ns : List Node) (id : ℕ) → leads_to_root (map bare_row ns) (length (map bare_row ns)) id ≡ climbs_to_root (map place_of ns) (length (map place_of ns)) id
@@ -265,6 +264,7 @@ same_reason t xs ys x e order = λ i. first_of (stray_same t x i) Parent (first_
     twin (row.Comment c) e = refl
     twin (row.Icon j) e = refl
     twin (row.Appl a) e = refl
+
     over : (x : Row) → t ≡ tables_in (xs ++ x ∷ ys) → passes_limit t x ≡ is_over_here (before_of xs) x
     over (row.Node n) e =
         let split : t.nodes ≡ filter_map as_node xs ++ n ∷ filter_map as_node ys = ap (λ (u : Tables). u.nodes) e ∙ of_both as_node xs (row.Node n ∷ ys) in
@@ -358,9 +358,9 @@ one_judged name records rows parsed s i r o reason h e f why =
     let next : next_in rows ≡ (first_head (filter_map as_head (rows_in name records))).next_id = ap next_in parsed ∙ next_said name records in
     ap (first_in name (tables_in (rows_in name records))) (drop-cons records i r h ∙ ap (λ (x : Record). x ∷ drop (suc i) records) (sym e))
     ∙ ap (λ w. bad_or r.key w (first_in name (tables_in (rows_in name records)) (drop (suc i) records)))
-      (ap (reason_of (tables_in (rows_in name records))) (sym read)
-      ∙ reason_read name records s (take i records) r (drop (suc i) records) (around records i r h e) o read
-      ∙ (λ k. reason_here (map place_of (sym nodes k)) (sym next k) (before_of (rows_in name (take i records))) o) ∙ sym why)
+    (ap (reason_of (tables_in (rows_in name records))) (sym read)
+    ∙ reason_read name records s (take i records) r (drop (suc i) records) (around records i r h e) o read
+    ∙ (λ k. reason_here (map place_of (sym nodes k)) (sym next k) (before_of (rows_in name (take i records))) o) ∙ sym why)
     ∙ ap (λ n. bad_or r.key reason (first_in name (tables_in (rows_in name records)) (drop n records))) (let n : suc i ≡ i + 1 = omega arith in n)
 
 -- the same reason with equal places and next ids

@@ -4,11 +4,10 @@ ghost use Rattle.std.specs.List.Sorted.{IsStrictlySortedBy};
 ghost use Rattle.std.specs.Ordering.{nat_cmp};
 ghost use Rattle.volume_records.specs.Climb.{place_in, stands, next_of, steps_of, climbed, through, id_of, EndsAt};
 
+use crate::limits::ROOT;
 use crate::tree::Place;
 use afp_base::OutOfMemory;
 use std::alloc::Global;
-
-const ROOT: u32 = 2;
 
 pub(crate) fn push<T: Drop>(list: &mut Vec<T>, item: T) -> Result<(), OutOfMemory>
     ensures ok { OnOk result (list.new.items ≡ list.old.items ++ item ∷ []) }

@@ -5,19 +5,13 @@ ghost use Rattle.afp_volume.specs.VolumeState.{Icon, Appl};
 ghost use Rattle.volume_records.specs.declared.rows.Row.TheVariants as row;
 ghost use Rattle.volume_records.specs.Judged.{has_seen, Before, HasBefore, KeepsTree, IsTree, IsNamedRow, IsJudged, IsJudgedRow, is_short_row};
 
+use crate::limits::{FIRST_ID, MOST_APPLS, MOST_FORK_BYTES, MOST_ICONS, MOST_NODES, ROOT};
 use crate::rows::{ForkBlock, Node, Reason, Row};
 use crate::tree::{Tree, is_stray, reaches_behind};
 use afp_base::OutOfMemory;
 use afp_names::{Name, NameFault};
 use std::alloc::Global;
 use std::collections::BTreeSet;
-
-const ROOT: u32 = 2;
-const FIRST_ID: u32 = 17;
-const MOST_NODES: usize = 100_000;
-const MOST_FORK_BYTES: u64 = 268_435_456;
-const MOST_ICONS: usize = 1024;
-const MOST_APPLS: usize = 4096;
 
 /// What is known of the records before the one that is judged.
 #[derive(Drop)]
@@ -80,9 +74,7 @@ fn passes_bytes(bytes: u64, first: u64, second: u64) -> bool
     requires { bytes ≤ 268435456 }
     ensures { result ≡ nat_lt 268435456 (bytes + (first + second)) }
 {
-    first > MOST_FORK_BYTES
-        || second > MOST_FORK_BYTES
-        || bytes + first + second > MOST_FORK_BYTES
+    first > MOST_FORK_BYTES || second > MOST_FORK_BYTES || bytes + first + second > MOST_FORK_BYTES
 }
 
 /// The first reason behind Parent to refuse a node.

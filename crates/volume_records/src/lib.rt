@@ -4,6 +4,7 @@
 mod climb;
 mod judge;
 pub mod laws;
+mod limits;
 mod load;
 mod numbers;
 mod pass;

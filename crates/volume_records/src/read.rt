@@ -2,22 +2,13 @@
 ghost use Rattle.std.specs.Prelude.{◌≡◌, ◌≤◌, length, take, drop, slice_index, IfOk, ◌&&◌};
 ghost use Rattle.volume_records.specs.Shape.{head_in, node_in, block_in, comment_in, icon_in, appl_in, guess, are_same, row_in};
 
+use crate::limits::{BLOCK, COMMENT, HEAD, ICON, NODE};
 use crate::numbers::{byte_at, date_at, four_at, long_at, quad_at, word_at};
 use crate::rows::{Appl, Comment, ForkBlock, Head, Icon, Node, Record, Row};
 use crate::shape::is_formed;
 use crate::write::{owned, record_of};
 use afp_base::OutOfMemory;
 use std::alloc::Global;
-
-const HEAD: u8 = 0;
-
-const NODE: u8 = 1;
-
-const BLOCK: u8 = 2;
-
-const COMMENT: u8 = 3;
-
-const ICON: u8 = 4;
 
 /// Where a node's value has the Finder info, and where that ends.
 const FINDER: usize = 19;

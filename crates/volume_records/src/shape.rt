@@ -5,28 +5,15 @@ ghost use Rattle.afp_volume.specs.TypedVolume.{are_bytes};
 ghost use Rattle.fork_bytes.specs.Blocks.{trimmed};
 ghost use Rattle.volume_records.specs.Shape.{is_formed as the_form, is_formed_head, is_formed_node, is_formed_block, is_formed_comment, is_formed_icon, is_formed_appl, is_root_or_other, has_fit_forks};
 
+use crate::limits::{
+    DIRECTORY_ATTRIBUTES, FILE_ATTRIBUTES, FIRST_ID, LAST_NEXT_ID, LONGEST_COMMENT, LONGEST_ICON,
+    ROOT, ROOT_PARENT,
+};
 use crate::rows::{Appl, Comment, ForkBlock, Head, Icon, Node, Row};
 use afp_base::OutOfMemory;
 use afp_names::{Name, NameFault};
+use fork_bytes::BLOCK_SIZE;
 use std::alloc::Global;
-
-const ROOT: u32 = 2;
-
-const ROOT_PARENT: u32 = 1;
-
-const FIRST_ID: u64 = 17;
-
-const LAST_NEXT_ID: u64 = 0x1_0000_0000;
-
-const FILE_ATTRIBUTES: u16 = 0x01e5;
-
-const DIRECTORY_ATTRIBUTES: u16 = 0x01c5;
-
-const BLOCK_SIZE: usize = 4096;
-
-const LONGEST_COMMENT: usize = 199;
-
-const LONGEST_ICON: usize = 65535;
 
 /// All bytes are bytes.
 fn bytes_are_bytes(bytes: &[u8])
@@ -39,7 +26,7 @@ fn is_head_formed(head: &Head) -> bool
     let _created = head.created;
     let _modified = head.modified;
     let _backup = head.backup;
-    FIRST_ID <= head.next_id && head.next_id <= LAST_NEXT_ID
+    FIRST_ID as u64 <= head.next_id && head.next_id <= LAST_NEXT_ID
 }
 
 /// Whether bytes are a name.

@@ -8,12 +8,11 @@ ghost use Rattle.volume_records.specs.Climb.{id_of, climbs_to_root};
 ghost use Rattle.volume_records.specs.Judged.{place_of, said_node, places_in, IsTree, IsTreeOf, told, is_there as is_there_by, is_file_there, is_stray_here, length_of, is_outside_here};
 
 use crate::climb::{ends_of, place_in_ids, push, stand};
+use crate::limits::ROOT;
 use crate::rows::{ForkBlock, Row};
 use afp_base::OutOfMemory;
+use fork_bytes::BLOCK_SIZE;
 use std::alloc::Global;
-
-const ROOT: u32 = 2;
-const BLOCK_SIZE: u64 = 4096;
 
 /// Where a node stands, and how long its forks are.
 #[derive(Clone, Copy)]
@@ -109,7 +108,7 @@ pub(crate) fn reaches_behind(tree: &Tree, block: &ForkBlock) -> bool
     ensures { result ≡ list_any (λ place. (place.id == block.now.node) && nat_lt (length_of block.now.is_resource place) (4096 * block.now.index + length block.now.bytes)) tree.now.places.items }
 {
     let index = block.index;
-    let end = BLOCK_SIZE * index as u64 + block.bytes.as_slice().len() as u64;
+    let end = BLOCK_SIZE as u64 * index as u64 + block.bytes.as_slice().len() as u64;
     match find(tree, block.node) {
         Some(place) => {
             if block.is_resource {

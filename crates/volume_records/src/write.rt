@@ -2,25 +2,10 @@
 ghost use Rattle.std.specs.Prelude.{◌≡◌, ◌∷◌, ◌++◌, [], IfOk, OnOk};
 ghost use Rattle.volume_records.specs.Records.{head_record as the_head, node_record as the_node, block_record as the_block, comment_record as the_comment, icon_record as the_icon, appl_record as the_appl, record_of as the_record, flag_byte, word_bytes, long_bytes, quad_bytes, date_bytes, version, head_tag, node_tag, block_tag, comment_tag, icon_tag, appl_tag};
 
+use crate::limits::{APPL, BLOCK, COMMENT, HEAD, ICON, NODE, VERSION};
 use crate::rows::{Appl, Comment, ForkBlock, Head, Icon, Node, Record, Row};
 use afp_base::{Bytes, OutOfMemory};
 use std::alloc::Global;
-
-/// The version of a volume's records.
-const VERSION: u16 = 1;
-
-// The first byte of a key, by what the record is of.
-const HEAD: u8 = 0;
-
-const NODE: u8 = 1;
-
-const BLOCK: u8 = 2;
-
-const COMMENT: u8 = 3;
-
-const ICON: u8 = 4;
-
-const APPL: u8 = 5;
 
 fn flag(set: bool) -> u8
     ensures { result ≡ flag_byte set }

@@ -1,7 +1,5 @@
-use Rattle.std.proofs.Common.{◌≡◌, ◌<◌, ◌≤◌, ℕ, List, map, length, get_or, sym, ap, ◌∙◌, subst, rules, Option}
+use Rattle.std.proofs.Common.{◌≡◌, ◌<◌, ◌≤◌, ℕ, List, map, length, sym, ap, ◌∙◌, subst, rules}
 use Rattle.std.specs.Prelude.{Some, None}
-use Rattle.volume_records.specs.declared.rows.Record.{Record}
-use Rattle.volume_records.specs.declared.rows.Row.{Row}
 use Rattle.volume_records.specs.declared.rows.Reason.TheVariants.{Limit}
 use Rattle.volume_records.specs.Shape.{row_in}
 use Rattle.volume_records.specs.KeyOrder.{Rises, counted}

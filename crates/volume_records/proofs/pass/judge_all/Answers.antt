@@ -1,14 +1,13 @@
-use Rattle.std.proofs.Common.{◌≡◌, ℕ, ◌<◌, ◌≤◌, length, arith, List, map, take, get_or, sym, ap, ◌∙◌, subst, rules}
+use Rattle.std.proofs.Common.{◌≡◌, ℕ, ◌<◌, length, List, map, take, sym, ap, ◌∙◌, subst, rules}
 use Rattle.std.specs.Prelude.{Some, None}
 use Rattle.std.specs.List.Sorted.{IsStrictlySortedBy}
 use Rattle.std.specs.Ordering.{nat_cmp}
-use Rattle.volume_records.specs.declared.rows.Row.{Row}
 use Rattle.volume_records.specs.declared.tree.Place.{Place}
 use Rattle.volume_records.specs.declared.tree.Tree.{Tree}
 use Rattle.volume_records.specs.Climb.{id_of}
 use Rattle.volume_records.specs.FirstBad.{rows_in}
-use Rattle.volume_records.specs.Judged.{Before, IsTreeOf, HasBefore, IsNamedRow, is_short_row, places_in, next_in, and_row}
-use Rattle.volume_records.proofs.Passing.{before_of, places_sorted, row_read, short_read, named_read, one_judged, why_among, pushed_before, rows_length}
+use Rattle.volume_records.specs.Judged.{Before, IsTreeOf, HasBefore, places_in, next_in}
+use Rattle.volume_records.proofs.Passing.{before_of, places_sorted, row_read, short_read, named_read, one_judged, why_among, pushed_before}
 use Rattle.volume_records.proofs.pass.judge_all.Goals as goal
 
 pub grow-requires-clause-order : goal.grow-requires-clause-order
