@@ -1,25 +1,24 @@
 -- What is kept of a volume after a plan.
-use Rattle.std.proofs.Common.{◌==◌, ◌≡◌, ◌∙◌, ap, sym, refl, subst, ℕ, zero, suc, ◌+◌, ◌≤◌, ◌<◌, ◌^◌, arith, Bool, true, false, not, ◌&&◌, ◌||◌, cond, List, [], ◌∷◌, ◌++◌, map, length, Option, Some, None, inl, inr}
-use Rattle.std.specs.Prelude.{pos, unwrap_or, is_some, sum_by, bytes_eq, nat_le, nat_lt, if◌then◌else◌, IfSome}
+use Rattle.std.proofs.Common.{◌==◌, ◌≡◌, ◌∙◌, ap, sym, refl, subst, ℕ, ◌+◌, ◌≤◌, ◌<◌, arith, Bool, true, false, not, ◌&&◌, ◌||◌, cond, List, [], ◌∷◌, ◌++◌, map, length, Option, Some, None, inl, inr}
+use Rattle.std.specs.Prelude.{pos, unwrap_or, is_some, sum_by, if◌then◌else◌, IfSome}
 use Rattle.std.specs.List.{list_any, list_all, find, filter}
 use Rattle.std.specs.Ordering.{nat_cmp}
-use Rattle.std.proofs.lemmas.Bool.{and_parts, and_from, or_right, cases_Bool, cond_both, cond-true, cond-false, eqb-true, eq-eqb, ne_eqb}
+use Rattle.std.proofs.lemmas.Bool.{and_parts, or_right, cases_Bool, cond_both, cond-true, cond-false, eqb-true, ne_eqb}
 use Rattle.std.proofs.lemmas.List.Sums.{sum_by-cons, sum_by-append}
 use Rattle.afp_base.specs.declared.ids.NodeId.{NodeId}
-use Rattle.afp_names.specs.Name.{name_key}
 use Rattle.node_rows.specs.Kept.{RowsValue}
 use Rattle.sorted_map.specs.Entries.{at}
 use Rattle.afp_volume.proofs.Formed.{formed-parts}
 use Rattle.afp_volume.proofs.Places.{nothing-gone}
-use Rattle.afp_volume.proofs.TestedLists.{all-weaker, all-both, all-filter, all-kept, all-snoc, any-at, none-all, find-passes}
+use Rattle.afp_volume.proofs.TestedLists.{all-weaker, all-both, all-filter, all-kept, all-snoc, any-at, none-all}
 use Rattle.afp_volume.proofs.Trees.{drawn, tree-parts}
-use Rattle.afp_volume.specs.Edits.{bare, is_taken, with_changed, change_at, without, at_place, modified_at}
+use Rattle.afp_volume.specs.Edits.{bare, with_changed, change_at, without, at_place, modified_at}
 use Rattle.afp_volume.specs.SetFileDirParms.{with_settings}
 use Rattle.afp_base.specs.Apart.{are_apart}
 use Rattle.afp_volume.specs.SoundVolume.{IsSoundVolume, has_node, fork_bytes, row_bytes, is_in_place}
-use Rattle.afp_volume.specs.VolumeState.{Row, VolumeState, Comment, Appl, root_id, first_id}
-use Rattle.afp_volume.specs.Walk.{row_at, child_by_key}
-use Rattle.volume_tree.proofs.Showing.{child-shown, taken-shown, found-shown, ids-differ}
+use Rattle.afp_volume.specs.VolumeState.{Row, VolumeState, root_id, first_id}
+use Rattle.afp_volume.specs.Walk.{row_at}
+use Rattle.volume_tree.proofs.Showing.{ids-differ}
 use Rattle.volume_tree.specs.Kept.{Forks, IsKept, at_gone, bytes_of, data_of, resource_of, has_forks, with_forks, rows_of, state_of, spare_of}
 use Rattle.volume_tree.specs.Planned.{Move, SetNode, PlanState, IsNew, IsPlan, planned, is_gone, gone_rows, gone_comments, gone_appls, come_rows, next_after, moved_rows, set_rows, dated_rows}
 use Rattle.volume_tree.specs.declared.forks.FileForks.{FileForks}
@@ -102,7 +101,7 @@ all-changed p id change [] same = refl
 all-changed p id change (row ∷ rows) same =
     λ i. cond_both (row.id == id) (change row) row (λ r. p r ≡ p row) (λ here. same row) (λ other. refl) i && all-changed p id change rows same i
 
-all-dated : (forks : Forks) (now : ℕ) (dir : Option NodeId) (rows : List Row) → list_all (has_forks forks) (dated_rows now dir rows) ≡ list_all (has_forks forks) rows
+pub all-dated : (forks : Forks) (now : ℕ) (dir : Option NodeId) (rows : List Row) → list_all (has_forks forks) (dated_rows now dir rows) ≡ list_all (has_forks forks) rows
 all-dated forks now None rows = refl
 all-dated forks now (Some dir) rows = all-changed (has_forks forks) dir.0 (modified_at now) rows (λ row. refl)
 

@@ -1,6 +1,6 @@
 -- The plans of FPCreateDir and FPCreateFile.
-use Rattle.std.proofs.Common.{◌==◌, ◌≡◌, ◌∙◌, ap, sym, subst, refl, ℕ, ◌+◌, Bool, true, false, not, ◌&&◌, List, Option, Some, None}
-use Rattle.std.specs.Prelude.{pos, Ok, IfSome, option_map, bytes_eq}
+use Rattle.std.proofs.Common.{◌==◌, ◌≡◌, ◌∙◌, ap, sym, subst, refl, ℕ, Bool, true, false, not, ◌&&◌, List, Option, Some, None}
+use Rattle.std.specs.Prelude.{Ok, IfSome, option_map, bytes_eq}
 use Rattle.std.specs.List.{list_all, find}
 use Rattle.std.proofs.lemmas.Bool.{and_parts, and_from, eqb-true, eq-eqb}
 use Rattle.std.proofs.lemmas.Slice.Eq.{bytes_eq-Decides}
@@ -13,12 +13,12 @@ use Rattle.afp_volume.proofs.Walks.{MappedFrom, mapped-from, find-there}
 use Rattle.afp_volume.specs.Calls.{done_at, created}
 use Rattle.afp_volume.specs.CreateDir.{create_dir_effect}
 use Rattle.afp_volume.specs.CreateFile.{create_file_effect, without_replaced}
-use Rattle.afp_volume.specs.Edits.{changed_at, children_changed, without_node, with_new, new_row, without}
+use Rattle.afp_volume.specs.Edits.{new_row, without}
 use Rattle.afp_volume.specs.SoundVolume.{IsSoundVolume, has_node, has_apart_names, are_named_alike}
 use Rattle.afp_volume.specs.VolumeState.{Row, VolumeState}
 use Rattle.afp_volume.specs.Walk.{Place, new_place, child_by_key}
 use Rattle.volume_tree.specs.Answered.{IsFound, option_id}
-use Rattle.volume_tree.specs.Planned.{PlanState, IsPlan, IsNew, planned, plan_new, gone_rows}
+use Rattle.volume_tree.specs.Planned.{IsPlan, IsNew, planned, plan_new, gone_rows}
 
 -- a plan of a new node is what creates it
 new-planned : (v : VolumeState) (now : ℕ) (dir : Bool) (id parent : NodeId) (name : List ℕ) → id.0 ≡ v.next_id → planned (plan_new now dir id parent name None) v ≡ created dir now v (record { dir = parent.0; name = name })

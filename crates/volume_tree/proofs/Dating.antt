@@ -1,5 +1,5 @@
 -- Another modified date of a row that was found.
-use Rattle.std.proofs.Common.{◌==◌, ◌≡◌, ◌∙◌, ap, sym, refl, ℕ, Bool, true, false, cond, List, [], ◌∷◌, map, Option, Some, None}
+use Rattle.std.proofs.Common.{◌==◌, ◌≡◌, ◌∙◌, ap, refl, ℕ, true, List, [], ◌∷◌, map, Some, None}
 use Rattle.std.specs.Prelude.{pos}
 use Rattle.std.specs.List.{find}
 use Rattle.std.proofs.lemmas.Bool.{cond_both, cond-false}
@@ -12,7 +12,7 @@ use Rattle.afp_volume.specs.SetFileDirParms.{Settings, with_settings}
 use Rattle.afp_volume.specs.SoundVolume.{has_rising_ids}
 use Rattle.afp_volume.specs.VolumeState.{Row}
 use Rattle.afp_volume.specs.Walk.{row_at}
-use Rattle.volume_tree.specs.Kept.{IsMarks, IsMarksSet, marks_in}
+use Rattle.volume_tree.specs.Kept.{IsMarks, IsMarksSet}
 
 -- where no row has the id, nothing changes
 pub changed-missing : (rows : List Row) (id : ℕ) (change : Row → Row) → row_at rows id ≡ None → with_changed id change rows ≡ rows

@@ -1,11 +1,11 @@
 -- The plan of FPDelete.
-use Rattle.std.proofs.Common.{◌≡◌, ◌∙◌, ap, sym, subst, refl, ℕ, true, Option, Some, None}
-use Rattle.std.specs.Prelude.{pos, Ok}
+use Rattle.std.proofs.Common.{◌≡◌, ◌∙◌, ap, sym, subst, ℕ, true, Some, None}
+use Rattle.std.specs.Prelude.{Ok}
 use Rattle.afp_base.specs.declared.ids.NodeId.{NodeId}
 use Rattle.afp_names.specs.Path.{PathValue}
 use Rattle.afp_volume.specs.Calls.{done_at, directory_of}
 use Rattle.afp_volume.specs.Delete.{delete_effect}
-use Rattle.afp_volume.specs.Edits.{changed_at, children_changed, without_node, with_changed, modified_at, without}
+use Rattle.afp_volume.specs.Edits.{changed_at, children_changed, without_node}
 use Rattle.afp_volume.specs.SoundVolume.{IsSoundVolume, has_node}
 use Rattle.afp_volume.specs.VolumeState.{VolumeState}
 use Rattle.afp_volume.specs.Walk.{found}

@@ -1,7 +1,7 @@
 -- What is kept of a volume, after each edit.
-use Rattle.std.proofs.Common.{◌==◌, ◌≡◌, ◌∙◌, ap, sym, refl, subst, ℕ, ℤ, ◌+◌, ◌≤◌, ◌<◌, Bool, true, false, not, ◌&&◌, ◌||◌, cond, List, [], ◌∷◌, ◌++◌, map, length, Option, Some, None, arith}
-use Rattle.std.specs.Prelude.{pos, option_map, bytes_eq, MatchOption, is_some, slice_get, Result, IfOk, if◌then◌else◌}
-use Rattle.std.specs.List.{list_any, list_all, find, filter}
+use Rattle.std.proofs.Common.{◌==◌, ◌≡◌, ◌∙◌, ap, sym, refl, subst, ℕ, Bool, true, false, ◌||◌, List, [], ◌∷◌, Option, Some, None, arith}
+use Rattle.std.specs.Prelude.{pos, option_map, MatchOption, is_some, slice_get, Result, IfOk, if◌then◌else◌}
+use Rattle.std.specs.List.{list_any, list_all, filter}
 use Rattle.std.specs.Ordering.{nat_cmp}
 use Rattle.afp_base.specs.declared.bytes.OutOfMemory.{OutOfMemory}
 use Rattle.afp_base.specs.declared.ids.NodeId.{NodeId}
@@ -15,11 +15,11 @@ use Rattle.afp_volume.specs.Edits.{has_children, changed_at, new_row}
 use Rattle.afp_volume.specs.Listing.{listed, children, row_key}
 use Rattle.afp_volume.specs.Order.{in_order, put_in, stands_before}
 use Rattle.afp_volume.specs.SoundVolume.{IsSoundVolume, fork_bytes}
-use Rattle.afp_volume.specs.VolumeState.{Row, VolumeState, fresh_volume, never}
+use Rattle.afp_volume.specs.VolumeState.{Row, fresh_volume, never}
 use Rattle.afp_names.specs.Name.{name_fault}
 use Rattle.volume_tree.proofs.Showing.{any-shown}
 use Rattle.volume_tree.specs.Answered.{IsFound}
-use Rattle.volume_tree.specs.Kept.{Forks, IsKept, IsShownAs, data_of, resource_of, has_forks, with_forks, rows_of, state_of, spare_of}
+use Rattle.volume_tree.specs.Kept.{Forks, IsKept, IsShownAs, data_of, resource_of, has_forks, rows_of, state_of, spare_of}
 use Rattle.volume_tree.specs.Shown.{TreeValue}
 use Rattle.volume_tree.specs.declared.head.Dates.{Dates}
 

@@ -13,3 +13,4 @@ pub mod Placing
 pub mod FileForks
 pub mod Sums
 pub mod Setting
+pub mod Writing

@@ -1,6 +1,6 @@
 -- The plans of FPRename and FPMoveAndRename.
-use Rattle.std.proofs.Common.{◌==◌, ◌≡◌, ◌∙◌, ap, sym, subst, refl, ℕ, Bool, true, false, List, [], Option, Some, None}
-use Rattle.std.specs.Prelude.{pos, Ok, Err, option_map, unwrap_or}
+use Rattle.std.proofs.Common.{◌≡◌, ◌∙◌, ap, sym, subst, refl, ℕ, true, false, List, [], Option, Some, None}
+use Rattle.std.specs.Prelude.{Ok, option_map, unwrap_or}
 use Rattle.afp_base.specs.declared.ids.NodeId.{NodeId}
 use Rattle.afp_names.specs.Path.{PathValue}
 use Rattle.afp_volume.proofs.SoundEdits.{changed-same}
@@ -13,7 +13,7 @@ use Rattle.afp_volume.specs.SoundVolume.{IsSoundVolume, has_node}
 use Rattle.afp_volume.specs.VolumeState.{Row, VolumeState}
 use Rattle.afp_volume.specs.Walk.{found, one_down, one_down_or, row_at, parent_at}
 use Rattle.volume_tree.proofs.Showing.{ids-differ}
-use Rattle.volume_tree.specs.Planned.{PlanState, IsPlan, planned, plan_place}
+use Rattle.volume_tree.specs.Planned.{IsPlan, planned, plan_place}
 
 -- another name in its directory is the same place with another name
 renamed-is : (v : VolumeState) (id : ℕ) (name : List ℕ) → IsSoundVolume v → has_node v.rows id ≡ true → with_changed id (at_place (directory_of v.rows id) name) v.rows ≡ with_changed id (named name) v.rows

@@ -1,7 +1,6 @@
 -- The plans of the set calls.
-use Rattle.std.proofs.Common.{◌≡◌, ◌∙◌, ap, sym, subst, refl, ℕ, List, Option, Some, None}
+use Rattle.std.proofs.Common.{◌≡◌, ◌∙◌, ap, sym, subst, refl, ℕ, List, Some, None}
 use Rattle.std.specs.Prelude.{Ok}
-use Rattle.afp_base.specs.declared.ids.NodeId.{NodeId}
 use Rattle.afp_names.specs.Path.{PathValue}
 use Rattle.afp_volume.specs.Calls.{done_at}
 use Rattle.afp_volume.specs.Parms.{date_in}
@@ -10,7 +9,7 @@ use Rattle.afp_volume.specs.SetVolParms.{set_vol_parms_effect}
 use Rattle.afp_volume.specs.SoundVolume.{IsSoundVolume}
 use Rattle.afp_volume.specs.VolumeState.{VolumeState}
 use Rattle.afp_volume.specs.Walk.{found}
-use Rattle.volume_tree.specs.Planned.{PlanState, SetNode, IsPlan, planned, plan_set}
+use Rattle.volume_tree.specs.Planned.{PlanState, IsPlan, planned, plan_set}
 
 set-is : (v : VolumeState) (now id : ℕ) (settings : Settings) → planned (plan_set now (Some (record { id = id; settings = settings })) None) v ≡ with_node_set now id settings v
 unfolding planned with_node_set

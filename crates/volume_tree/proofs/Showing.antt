@@ -1,20 +1,17 @@
 -- Rows answer the same with the forks that are kept of them, and without.
-use Rattle.std.proofs.Common.{◌==◌, ◌≡◌, ◌∙◌, ap, sym, refl, ℕ, Bool, true, false, not, ◌&&◌, ◌||◌, cond, List, [], ◌∷◌, ◌++◌, map, length, Option, Some, None}
-use Rattle.std.specs.Prelude.{option_map, bytes_eq, bit_and}
-use Rattle.std.specs.List.{list_any, list_all, find, filter}
+use Rattle.std.proofs.Common.{◌==◌, ◌≡◌, ◌∙◌, ap, sym, refl, ℕ, Bool, true, false, not, ◌&&◌, ◌||◌, cond, List, [], ◌∷◌, map, length, Some, None}
+use Rattle.std.specs.Prelude.{option_map}
+use Rattle.std.specs.List.{list_any, find}
 use Rattle.std.proofs.lemmas.Bool.{and_parts, cond_both, cond-true, cond-false, eqb-true, eq-eqb}
-use Rattle.std.specs.Ordering.{nat_cmp}
-use Rattle.sorted_map.specs.Entries.{at}
-use Rattle.afp_volume.proofs.BareRows.{finds-bare, parents-bare, keys-bare, long-names-bare, taken-bare, below-bare}
+use Rattle.afp_volume.proofs.BareRows.{finds-bare, parents-bare, keys-bare, long-names-bare, taken-bare}
 use Rattle.afp_volume.proofs.TestedLists.{any-at, none-all, never, length-mapped}
 use Rattle.afp_volume.proofs.Trees.{tree-parts}
-use Rattle.afp_volume.specs.Edits.{bare, is_taken, is_below, has_children, with_changed, change_at, without}
-use Rattle.afp_volume.specs.Calls.{has_attribute}
+use Rattle.afp_volume.specs.Edits.{bare, is_taken}
 use Rattle.afp_base.specs.Apart.{are_apart}
 use Rattle.afp_volume.specs.SoundVolume.{IsSoundVolume, are_named_alike, has_apart_names}
 use Rattle.afp_volume.specs.VolumeState.{Row, VolumeState}
-use Rattle.afp_volume.specs.Walk.{row_at, parent_at, child_by_key, child_by_long_name, has_directory}
-use Rattle.volume_tree.specs.Kept.{Forks, IsShownAs, data_of, resource_of, with_forks, rows_of}
+use Rattle.afp_volume.specs.Walk.{row_at, parent_at, child_by_key, child_by_long_name}
+use Rattle.volume_tree.specs.Kept.{Forks, with_forks, rows_of}
 
 or-false : (b c : Bool) → c ≡ false → (b || c) ≡ b
 or-false true c h = refl

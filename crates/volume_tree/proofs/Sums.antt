@@ -1,6 +1,6 @@
 -- The bytes of the fields that are asked.
-use Rattle.std.proofs.Common.{◌≡◌, ◌∙◌, ap, sym, refl, ℕ, ◌+◌, ◌≤◌, arith, List, [], ◌∷◌, length, take, drop, true, false, Option, Some, None}
-use Rattle.std.specs.Prelude.{sum_by, nat_lt, if◌then◌else◌}
+use Rattle.std.proofs.Common.{◌≡◌, ◌∙◌, ap, sym, refl, ℕ, ◌+◌, ◌≤◌, arith, List, [], ◌∷◌, length, take, drop, true, false, Some, None}
+use Rattle.std.specs.Prelude.{nat_lt, if◌then◌else◌}
 use Rattle.std.specs.List.{filter}
 use Rattle.std.proofs.lemmas.Bool.{ltb-false, cond-true}
 use Rattle.std.proofs.lemmas.List.Sums.{sum_by-cons}

@@ -3,4 +3,5 @@ pub mod Planned
 pub mod Kept
 pub mod Answered
 pub mod Requests
+pub mod ForkEffect
 pub mod Tails

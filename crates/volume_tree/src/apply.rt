@@ -145,7 +145,7 @@ fn marks_set(rows: &Rows, id: NodeId, settings: &Settings) -> Option<Marks>
 }
 
 /// Gives a directory the moment as its modified date.
-fn set_date(rows: &mut Rows, now: Moment, dir: Option<NodeId>)
+pub(crate) fn set_date(rows: &mut Rows, now: Moment, dir: Option<NodeId>)
     ensures rows { rows.new.rows ≡ dated_rows now dir rows.old.rows }
     ensures next { rows.new.next_id ≡ rows.old.next_id }
 {

@@ -1,11 +1,12 @@
 //! The forks of files, by node id.
-ghost use Rattle.std.specs.Prelude.{◌≡◌, ◌==◌, ℕ, [], true, false, None, if◌then◌else◌, is_some, option_copied, OnOk, OnErr};
+ghost use Rattle.std.specs.Prelude.{◌≡◌, ◌==◌, ℕ, List, [], true, false, None, if◌then◌else◌, is_some, option_copied, OnOk, OnErr};
 ghost use Rattle.std.specs.Ordering.{nat_cmp};
+ghost use Rattle.fork_bytes.specs.Plan.{IsPlan as IsForkPlan};
 ghost use Rattle.sorted_map.specs.Entries.{at};
 ghost use Rattle.volume_tree.specs.Kept.{IsShownAs};
 
 use afp_base::OutOfMemory;
-use fork_bytes::Fork;
+use fork_bytes::{Fork, ForkPlan};
 use sorted_map::SortedMap;
 use std::alloc::Global;
 
@@ -18,7 +19,7 @@ pub(crate) struct FileForks {
 
 impl FileForks {
     /// Forks of no bytes. It takes no memory.
-    fn new(alloc: Global) -> FileForks
+    pub fn new(alloc: Global) -> FileForks
         ensures data_fork { result.data_fork ≡ [] }
         ensures resource_fork { result.resource_fork ≡ [] }
     {
@@ -38,6 +39,20 @@ impl FileForks {
             &self.resource_fork
         } else {
             &self.data_fork
+        }
+    }
+}
+
+impl FileForks {
+    /// Carries out a plan of the one fork or the other. It takes no memory.
+    pub fn change(&mut self, resource: bool, plan: ForkPlan)
+        requires { (after : List ℕ) × IsForkPlan (if resource then self.old.resource_fork else self.old.data_fork) after plan }
+        ensures { (after : List ℕ) → IsForkPlan (if resource then self.old.resource_fork else self.old.data_fork) after plan → self.new ≡ (record self.old { data_fork = (if resource then self.old.data_fork else after); resource_fork = (if resource then after else self.old.resource_fork) }) }
+    {
+        if resource {
+            self.resource_fork.apply(plan);
+        } else {
+            self.data_fork.apply(plan);
         }
     }
 }

@@ -1,5 +1,5 @@
 //! The dates of a volume, and its next node id.
-ghost use Rattle.std.specs.Prelude.{◌≡◌, pos, unwrap_or};
+ghost use Rattle.std.specs.Prelude.{◌≡◌, pos, unwrap_or, if◌then◌else◌};
 ghost use Rattle.afp_volume.specs.VolumeState.{never};
 
 use afp_base::Moment;
@@ -42,6 +42,13 @@ impl Dates {
 }
 
 impl Dates {
+    /// The dates of a volume that is changed at a moment, or not at all.
+    pub fn touched_if(self, now: Moment, changed: bool) -> Dates
+        ensures { result ≡ (if changed then (record self { modified = pos now }) else self) }
+    {
+        if changed { self.touched(now) } else { self }
+    }
+
     /// The dates of a volume that is changed at a moment, and whose backup date is set or stays.
     pub fn changed(self, now: Moment, backup: Option<i32>) -> Dates
         ensures { result ≡ record self { modified = pos now; backup = unwrap_or backup self.backup } }

@@ -2,6 +2,7 @@
 #![tactic(auto)]
 
 mod apply;
+mod apply_fork;
 mod asked;
 mod create_dir;
 mod create_file;

@@ -1,4 +1,4 @@
-use Rattle.std.proofs.Common.{◌∙◌, ap, sym}
+use Rattle.std.proofs.Common.{◌∙◌, sym}
 use Rattle.afp_volume.specs.Edits.{modified_at}
 use Rattle.volume_tree.proofs.Dating.{changed-missing, dated-same}
 use Rattle.volume_tree.proofs.apply.date_node.Goals as goal

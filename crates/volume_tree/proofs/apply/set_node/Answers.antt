@@ -1,4 +1,4 @@
-use Rattle.std.proofs.Common.{◌∙◌, ap, sym}
+use Rattle.std.proofs.Common.{◌∙◌, sym}
 use Rattle.afp_volume.specs.SetFileDirParms.{with_settings}
 use Rattle.volume_tree.proofs.Dating.{changed-missing, set-same}
 use Rattle.volume_tree.proofs.apply.set_node.Goals as goal

@@ -1,4 +1,4 @@
-use Rattle.std.proofs.Common.{◌∙◌, ap, sym, Some, arith, length, ◌-◌}
+use Rattle.std.proofs.Common.{◌∙◌, ap, sym, Some, arith, ◌-◌}
 use Rattle.std.specs.Prelude.{slice_get}
 use Rattle.volume_tree.proofs.Paths.{last-down-is, last-up-is, none-last}
 use Rattle.volume_tree.proofs.places.last_name.Goals as goal

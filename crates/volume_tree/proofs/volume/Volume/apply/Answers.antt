@@ -1,4 +1,4 @@
-use Rattle.std.proofs.Common.{◌∙◌, ◌+◌, ◌-◌, ◌≤◌, ap, sym, subst, arith}
+use Rattle.std.proofs.Common.{◌∙◌, ◌-◌, ◌≤◌, ap, sym, subst, arith}
 use Rattle.volume_tree.proofs.Applied.{Applied, applied-state, applied-kept, bytes-within}
 use Rattle.volume_tree.proofs.Beside.{new-kept, free-kept}
 use Rattle.volume_tree.specs.Kept.{state_of}

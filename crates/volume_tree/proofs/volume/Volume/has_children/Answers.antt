@@ -1,4 +1,4 @@
-use Rattle.std.proofs.Common.{◌∙◌, ap, sym, ◌≡◌}
+use Rattle.std.proofs.Common.{◌∙◌, ap}
 use Rattle.afp_volume.specs.Edits.{has_children}
 use Rattle.volume_tree.proofs.Keeping.{children-are}
 use Rattle.volume_tree.specs.Shown.{TreeValue}

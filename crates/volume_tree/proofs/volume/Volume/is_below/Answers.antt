@@ -1,6 +1,5 @@
-use Rattle.std.proofs.Common.{◌≡◌, ◌∙◌, ◌-◌, ap, sym, refl, true, length, arith}
+use Rattle.std.proofs.Common.{◌∙◌, ◌-◌, sym, length, arith}
 use Rattle.std.proofs.lemmas.Bool.{ne_eqb, eq-eqb}
-use Rattle.afp_volume.specs.Edits.{is_below}
 use Rattle.volume_tree.proofs.Showing.{ids-differ}
 use Rattle.volume_tree.proofs.UpSteps.{is-itself, goes-on, stops-there, at-last}
 use Rattle.volume_tree.proofs.volume.Volume.is_below.Goals as goal

@@ -1,6 +1,5 @@
 use Rattle.std.proofs.Common.{◌∙◌, ap, sym, not}
 use Rattle.std.specs.Option.{option_copied}
-use Rattle.afp_volume.specs.SoundVolume.{IsSoundVolume}
 use Rattle.afp_volume.specs.VolumeState.{Row}
 use Rattle.volume_tree.proofs.Showing.{said-of, said-of-none}
 use Rattle.volume_tree.proofs.Keeping.{sound-is}

@@ -1,4 +1,4 @@
-use Rattle.std.proofs.Common.{◌∙◌, ap, sym, ◌≡◌}
+use Rattle.std.proofs.Common.{◌∙◌, ap, sym}
 use Rattle.afp_volume.proofs.ByIndex.{taken-by-key}
 use Rattle.afp_volume.specs.Edits.{is_another}
 use Rattle.afp_volume.specs.Walk.{child_by_key}

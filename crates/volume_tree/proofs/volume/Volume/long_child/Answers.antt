@@ -1,4 +1,4 @@
-use Rattle.std.proofs.Common.{◌∙◌, ap, sym, ◌≡◌}
+use Rattle.std.proofs.Common.{◌∙◌, ap, sym}
 use Rattle.afp_names.specs.Path.{element_of}
 use Rattle.afp_volume.specs.Walk.{child_by_long_name}
 use Rattle.volume_tree.proofs.Showing.{long-shown}

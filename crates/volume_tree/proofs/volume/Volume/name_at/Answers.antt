@@ -1,6 +1,6 @@
 use Rattle.std.proofs.Common.{◌∙◌, ap, sym}
 use Rattle.std.specs.Option.{option_copied}
-use Rattle.volume_tree.proofs.Placing.{name-found, never-missing}
+use Rattle.volume_tree.proofs.Placing.{never-missing}
 use Rattle.volume_tree.proofs.volume.Volume.name_at.Goals as goal
 
 pub unreachable-requires : goal.unreachable-requires

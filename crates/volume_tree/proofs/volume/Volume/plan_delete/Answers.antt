@@ -1,4 +1,3 @@
-use Rattle.std.proofs.Common.{◌∙◌, sym}
 use Rattle.volume_tree.specs.Shown.{opened}
 use Rattle.volume_tree.proofs.Deleting.{delete-planned, delete-plan}
 use Rattle.volume_tree.proofs.volume.Volume.plan_delete.Goals as goal

@@ -1,6 +1,5 @@
-use Rattle.std.proofs.Common.{◌≡◌, ◌∙◌, ap, sym, subst, take, Some, None, length, arith}
+use Rattle.std.proofs.Common.{◌≡◌, ◌∙◌, ap, sym, subst, take, Some, None, arith}
 use Rattle.std.proofs.lemmas.List.{length-take-le}
-use Rattle.afp_names.specs.declared.path.Step.{Step}
 use Rattle.afp_volume.specs.Walk.{child, parent_at}
 use Rattle.volume_tree.proofs.Steps.{step-in, goes-up, stops-up, goes-down, stops-down, stops-early, no-steps}
 use Rattle.volume_tree.proofs.volume.Volume.walk_steps.Goals as goal

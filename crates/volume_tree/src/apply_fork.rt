@@ -1,0 +1,98 @@
+//! Plans of forks carried out. None of these takes memory.
+ghost use Rattle.std.specs.Prelude.{◌≡◌, ◌==◌, ℕ, List, true, false, Some, None, length, is_some, if◌then◌else◌};
+ghost use Rattle.std.specs.Ordering.{nat_cmp};
+ghost use Rattle.afp_base.specs.declared.ids.NodeId.{NodeId as NodeNumber};
+ghost use Rattle.fork_bytes.specs.Plan.{IsPlan as IsForkPlan};
+ghost use Rattle.sorted_map.specs.Entries.{at};
+ghost use Rattle.volume_tree.specs.ForkEffect.{IsForkChange, IsChanged, fork_effect, kept_fork};
+
+use crate::apply::set_date;
+use crate::forks::FileForks;
+use crate::volume::Volume;
+use afp_base::{Moment, NodeId};
+use fork_bytes::ForkPlan;
+use sorted_map::SortedMap;
+use std::alloc::Global;
+
+impl Volume {
+    /// Carries out a plan of a fork of a file as it is. Where it writes a byte or changes the length, the file's and the
+    /// volume's modified dates are the moment. It takes no memory.
+    pub fn apply_fork(
+        &mut self,
+        alloc: Global,
+        now: Moment,
+        id: NodeId,
+        resource: bool,
+        plan: ForkPlan,
+    )
+        requires { IsForkChange self.old.state id.0 resource plan }
+        ensures { (change : IsForkChange self.old.state id.0 resource plan) → self.new.state ≡ fork_effect now id.0 resource change.after plan.writes self.old.state }
+    {
+        let writes = plan.writes();
+        let rest = self.used - kept_len(&self.forks, id, resource);
+        self.used = rest + plan.len();
+        change_fork(&mut self.forks, alloc, id, resource, plan);
+        set_date(&mut self.rows, now, id_if(writes, id));
+        self.dates = self.dates.touched_if(now, writes);
+    }
+}
+
+fn id_if(writes: bool, id: NodeId) -> Option<NodeId>
+    ensures { result ≡ (if writes then Some id else None) }
+{
+    if writes { Some(id) } else { None }
+}
+
+/// How many bytes a fork has that is kept.
+fn kept_len(forks: &SortedMap<u64, FileForks>, id: NodeId, resource: bool) -> u64
+    ensures { result ≡ length (kept_fork resource (at nat_cmp forks.now id.0)) }
+{
+    match forks.get(u64::from(id.0)) {
+        Some(forks) => forks.fork(resource).len(),
+        None => 0,
+    }
+}
+
+/// Carries out a plan of a fork that is kept.
+fn change_fork(
+    forks: &mut SortedMap<u64, FileForks>,
+    alloc: Global,
+    id: NodeId,
+    resource: bool,
+    plan: ForkPlan,
+)
+    requires there { is_some (at nat_cmp forks.old id.0) ≡ true }
+    requires plan { (after : List ℕ) × IsForkPlan (kept_fork resource (at nat_cmp forks.old id.0)) after plan }
+    ensures others { (q : ℕ) → (q == id.0) ≡ false → at nat_cmp forks.new q ≡ at nat_cmp forks.old q }
+    ensures changed { (after : List ℕ) → IsForkPlan (kept_fork resource (at nat_cmp forks.old id.0)) after plan → IsChanged resource after (at nat_cmp forks.old id.0) (at nat_cmp forks.new id.0) }
+{
+    let key = u64::from(id.0);
+    let mut kept = lift(forks, alloc, key);
+    kept.change(resource, plan);
+    put_back(forks, key, kept);
+}
+
+/// Takes forks that are kept, and leaves some of no bytes in their place.
+fn lift(forks: &mut SortedMap<u64, FileForks>, alloc: Global, key: u64) -> FileForks
+    requires { is_some (at nat_cmp forks.old key) ≡ true }
+    ensures forks { Some result ≡ at nat_cmp forks.old key }
+    ensures kept { is_some (at nat_cmp forks.new key) ≡ true }
+    ensures others { (q : ℕ) → (q == key) ≡ false → at nat_cmp forks.new q ≡ at nat_cmp forks.old q }
+{
+    match forks.insert(key, FileForks::new(alloc)) {
+        Ok(Some(kept)) => kept,
+        Ok(None) => unreachable!(),
+        Err(_) => unreachable!(),
+    }
+}
+
+/// Puts forks in place of others.
+fn put_back(forks: &mut SortedMap<u64, FileForks>, key: u64, kept: FileForks)
+    requires { is_some (at nat_cmp forks.old key) ≡ true }
+    ensures { (q : ℕ) → at nat_cmp forks.new q ≡ (if q == key then Some kept else at nat_cmp forks.old q) }
+{
+    match forks.insert(key, kept) {
+        Ok(_) => {}
+        Err(_) => unreachable!(),
+    }
+}
