@@ -89,11 +89,7 @@ fn rows_of(values: &FileValues) -> [Row<'_>; 13]
 }
 
 /// Writes the block of the asked values. After an error, any part of it may stand there.
-pub(crate) fn put_file(
-    bits: u16,
-    values: &FileValues,
-    block: &mut Bytes,
-) -> Result<(), OutOfMemory>
+pub(crate) fn put_file(bits: u16, values: &FileValues, block: &mut Bytes) -> Result<(), OutOfMemory>
     requires empty { block.old ≡ [] }
     requires names { AllByRecursion IsCountable (asked_of bits (file_rows values.now)) }
     ensures { OnOk result (block.new ≡ concat (parts (asked_of bits (file_rows values.now)))) }

@@ -6,7 +6,6 @@ ghost use Rattle.afp_bitmap.specs.Reading.{finder_of};
 ghost use Rattle.afp_bitmap.specs.Taking.{Took, taken};
 
 use crate::table::is_asked;
-
 use byteorder::{BigEndian, ByteOrder};
 
 /// Takes field by field from a block, by rising bit. A field that was not asked, or that is not
