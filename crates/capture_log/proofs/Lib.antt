@@ -1,0 +1,4 @@
+pub mod ConnectionLemmas
+pub mod Feeding
+pub mod Histories
+pub mod RunningLemmas

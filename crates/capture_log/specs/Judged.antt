@@ -1,0 +1,80 @@
+-- The judgement of a capture, over its lines (this profile).
+use Rattle.std.specs.Prelude.{◌≡◌, ◌≢◌, ◌⊎◌, ℕ, ◌+◌, ◌==◌, Bool, true, List, [], ◌∷◌, ◌++◌, length, drop, if◌then◌else◌, Some}
+use Rattle.afp_base.specs.Counts.{counted}
+use Rattle.dsi_frame.specs.Frame.{Frame}
+use Rattle.capture_lines.specs.Lines.{line_in}
+use Rattle.capture_lines.specs.declared.line.Line.TheVariants.{At}
+use Rattle.capture_lines.specs.declared.line.What.TheVariants.{Out}
+use Rattle.capture_log.specs.Connections.{difference, output}
+use Rattle.capture_log.specs.declared.difference.Difference.{Difference}
+use Rattle.capture_log.specs.Standing.{Standing, Leads, begins, is_bad}
+use Rattle.capture_log.specs.declared.part.Part.TheVariants as parts
+use Rattle.capture_log.specs.declared.replay_end.ReplayEnd.{ReplayEnd}
+use Rattle.capture_log.specs.declared.replay_end.ReplayEnd.TheVariants.{Same, Differs, BadCapture, ReadFault, Spent, Memory}
+
+-- how many replies have a code other than 0
+abbrev pub refused_in : List Frame → ℕ
+refused_in [] = 0
+refused_in (reply ∷ replies) = (if reply.word == 0 then 0 else 1) + refused_in replies
+
+-- A line behind good ones whose bytes differ from the output.
+pub record FindsDifference (s : Standing) (raw : List ℕ) (link : ℕ) (d : Difference) : Type 0 where
+  pub now : ℕ
+  pub bytes : List ℕ
+  pub is : line_in raw ≡ Some (At link now (Out bytes))
+  pub good : is_bad s (line_in raw) ≢ true
+  pub found : difference (s.connections link).named bytes (drop (s.connections link).named (output (s.connections link))) ≡ Some d
+
+-- what a line decides where the capture stands
+abbrev pub Decides : Standing → ℕ → List ℕ → ReplayEnd → Type 0
+Decides s number raw (BadCapture line) = (is_bad s (line_in raw) ≡ true) × (line ≡ number)
+Decides s number raw (Differs link at want got) = FindsDifference s raw link (record { at = at; want = want; got = got })
+Decides s number raw (Same links entries replies refused) = ⊥
+Decides s number raw ReadFault = ⊥
+Decides s number raw Spent = ⊥
+Decides s number raw Memory = ⊥
+
+-- the counts of a capture that is the same
+pub record AreCounts (s : Standing) (links entries replies refused : ℕ) : Type 0 where
+  pub fed : links ≡ s.links
+  pub asked : entries ≡ length s.history
+  pub replied : replies ≡ counted (length s.replies) 0
+  pub not_ok : refused ≡ counted (refused_in s.replies) 0
+
+-- the counts are those
+abbrev pub IsSame : Standing → ReplayEnd → Type 0
+IsSame s (Same links entries replies refused) = AreCounts s links entries replies refused
+IsSame s (Differs link at want got) = ⊥
+IsSame s (BadCapture line) = ⊥
+IsSame s ReadFault = ⊥
+IsSame s Spent = ⊥
+IsSame s Memory = ⊥
+
+-- what the end of a capture decides that no line has decided
+abbrev pub DecidesEnd : Standing → ℕ → ReplayEnd → Type 0
+DecidesEnd s number (BadCapture line) = (s.part ≢ parts.Nothing) × (line ≡ number)
+DecidesEnd s number (Differs link at want got) = ⊥
+DecidesEnd s number (Same links entries replies refused) = (s.part ≡ parts.Nothing) × AreCounts s links entries replies refused
+DecidesEnd s number ReadFault = ⊥
+DecidesEnd s number Spent = ⊥
+DecidesEnd s number Memory = ⊥
+
+-- Lines before it are good, and this one decides.
+pub record JudgedAt (lines : List (List ℕ)) (verdict : ReplayEnd) : Type 0 where
+  pub before : List (List ℕ)
+  pub raw : List ℕ
+  pub behind : List (List ℕ)
+  pub whole : lines ≡ before ++ raw ∷ behind
+  pub standing : Standing
+  pub leads : Leads begins before standing
+  pub decides : Decides standing (length before + 1) raw verdict
+
+-- All lines are good, and no more come.
+pub record JudgedAtEnd (lines : List (List ℕ)) (verdict : ReplayEnd) : Type 0 where
+  pub standing : Standing
+  pub leads : Leads begins lines standing
+  pub decides : DecidesEnd standing (length lines + 1) verdict
+
+-- a capture is judged by its first line that decides, or else, where no more lines come, by its end
+abbrev pub Judged : List (List ℕ) → Bool → ReplayEnd → Type 0
+Judged lines ended verdict = JudgedAt lines verdict ⊎ (JudgedAtEnd lines verdict × (ended ≡ true))

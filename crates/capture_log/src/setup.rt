@@ -1,0 +1,170 @@
+//! The house that the first lines of a capture make.
+ghost use Rattle.std.specs.Prelude.{◌≡◌, ◌≤◌, ◌<◌, ◌++◌, ◌∷◌, [], nat_lt, not, ◌||◌, length, IfOk, OnOk};
+ghost use Rattle.afp_serial.specs.HouseFault.{is_bad_user, is_bad_volume, is_name};
+ghost use Rattle.afp_serial.specs.Household.{household};
+ghost use Rattle.afp_serial.specs.Limits.{longest_server, most_users};
+ghost use Rattle.capture_log.specs.Standing.{most_volumes, no_house, user_behind};
+
+use crate::names::{has_user, has_volume, is_name};
+use afp_base::{Bytes, OutOfMemory};
+use afp_serial::{House, User};
+use std::alloc::Global;
+use std::marker::Model;
+use std::{mem, str};
+
+/// The most characters of the server's name, of a user's and of a volume's.
+const LONGEST_SERVER: usize = 31;
+
+const LONGEST_USER: usize = 31;
+
+const LONGEST_VOLUME: usize = 27;
+
+/// The most users, and the most volumes: as many as the core serves.
+const MOST_USERS: usize = 256;
+
+const MOST_VOLUMES: usize = 1;
+
+/// The id of the first user.
+const FIRST_USER: u32 = 501;
+
+/// The parts of a house, as far as lines have named them. Contracts see them as a house without a login message.
+#[derive(Drop)]
+pub struct Setup {
+    server: Bytes,
+    signature: [u8; 16],
+    users: Vec<User>,
+    volumes: Vec<Bytes>,
+    key: [u8; 32],
+}
+
+impl Model for Setup {
+    ghost use Rattle.std.specs.Prelude.{[]};
+    ghost use Rattle.afp_serial.specs.Household.{Household, household};
+
+    ghost Value = { Household };
+
+    ghost view = { λ s. household s.server s.signature s.users.items s.volumes.items [] s.key };
+}
+
+impl Setup {
+    /// No part is named.
+    pub fn new(alloc: Global) -> Setup
+        ensures { result ≡ no_house }
+    {
+        Setup {
+            server: Bytes::new(alloc),
+            signature: [0; 16],
+            users: Vec::new(alloc),
+            volumes: Vec::new(alloc),
+            key: [0; 32],
+        }
+    }
+
+    pub fn set_server(&mut self, name: &Bytes) -> Result<(), OutOfMemory>
+        ensures { OnOk result (self.new ≡ record self.old { server = name.now }) }
+    {
+        self.server = name.copy()?;
+        Ok(())
+    }
+
+    pub fn set_signature(&mut self, signature: [u8; 16])
+        ensures { self.new ≡ record self.old { signature = signature } }
+    {
+        self.signature = signature;
+    }
+
+    pub fn set_key(&mut self, key: [u8; 32])
+        ensures { self.new ≡ record self.old { token_key = key } }
+    {
+        self.key = key;
+    }
+
+    /// Whether a server of this name is refused.
+    pub fn refuses_server(&self, name: &[u8]) -> bool
+        ensures { result ≡ not (is_name longest_server name.now) }
+    {
+        !is_name(name, LONGEST_SERVER)
+    }
+
+    /// Whether there are as many users as there may be.
+    fn is_full(&self) -> bool
+        ensures { result ≡ not (nat_lt (length self.now.users) most_users) }
+    {
+        self.users.len() >= MOST_USERS
+    }
+
+    /// Whether the user of this name is a bad one behind those that are there.
+    fn is_bad_user(&self, name: &[u8], password: [u8; 8]) -> bool
+        ensures { result ≡ is_bad_user self.now.users (user_behind self.now.users name.now password) }
+    {
+        !is_name(name, LONGEST_USER) || has_user(self.users.as_slice(), name)
+    }
+
+    /// Whether a user of this name is refused.
+    pub fn refuses_user(&self, name: &[u8], password: [u8; 8]) -> bool
+        ensures { result ≡ (not (nat_lt (length self.now.users) most_users) || is_bad_user self.now.users (user_behind self.now.users name.now password)) }
+    {
+        self.is_full() || self.is_bad_user(name, password)
+    }
+
+    /// Whether there are as many volumes as there may be.
+    fn has_all_volumes(&self) -> bool
+        ensures { result ≡ not (nat_lt (length self.now.volumes) most_volumes) }
+    {
+        self.volumes.len() >= MOST_VOLUMES
+    }
+
+    /// Whether the volume of this name is a bad one behind those that are there.
+    fn is_bad_volume(&self, name: &[u8]) -> bool
+        ensures { result ≡ is_bad_volume self.now.volumes name.now }
+    {
+        !is_name(name, LONGEST_VOLUME) || has_volume(self.volumes.as_slice(), name)
+    }
+
+    /// Whether a volume of this name is refused.
+    pub fn refuses_volume(&self, name: &[u8]) -> bool
+        ensures { result ≡ (not (nat_lt (length self.now.volumes) most_volumes) || is_bad_volume self.now.volumes name.now) }
+    {
+        self.has_all_volumes() || self.is_bad_volume(name)
+    }
+
+    /// One user more.
+    pub fn add_user(&mut self, name: &Bytes, password: [u8; 8]) -> Result<(), OutOfMemory>
+        ensures { OnOk result (self.new ≡ record self.old { users = self.old.users ++ user_behind self.old.users name.now password ∷ [] }) }
+    {
+        let count = self.users.len();
+        if count >= MOST_USERS {
+            return Err(OutOfMemory);
+        }
+        let user = User {
+            id: FIRST_USER + count as u32,
+            name: name.copy()?,
+            password,
+        };
+        self.users.push(user)?;
+        Ok(())
+    }
+
+    /// One volume more.
+    pub fn add_volume(&mut self, name: &Bytes) -> Result<(), OutOfMemory>
+        ensures { OnOk result (self.new ≡ record self.old { volumes = self.old.volumes ++ name.now ∷ [] }) }
+    {
+        self.volumes.push(name.copy()?)?;
+        Ok(())
+    }
+
+    /// The house of these parts, which are no longer here.
+    pub fn house(&mut self, alloc: Global) -> Result<House, OutOfMemory>
+        ensures { IfOk result (λ house. house ≡ self.old) }
+    {
+        let Ok(server) = str::from_utf8(self.server.as_slice()) else {
+            return Err(OutOfMemory);
+        };
+        let users = mem::replace(&mut self.users, Vec::new(alloc));
+        let volumes = mem::replace(&mut self.volumes, Vec::new(alloc));
+        match House::new(alloc, server, self.signature, users, volumes, "", self.key) {
+            Ok(house) => Ok(house),
+            Err(_) => Err(OutOfMemory),
+        }
+    }
+}
