@@ -1,4 +1,6 @@
 //! Replies of the Apple Filing Protocol.
+ghost use Rattle.afp_replies.specs.Replies.{IsShown};
+
 use crate::fault::CaseFault;
 use crate::fields::values_text;
 use crate::words::{bits_of, bytes_of, text_of, word_of};
@@ -13,7 +15,9 @@ fn fault_of(alloc: Global, fault: ReplyFault) -> Result<String, CaseFault> {
     }
 }
 
-fn written(alloc: Global, reply: &Reply) -> Result<String, CaseFault> {
+fn written(alloc: Global, reply: &Reply) -> Result<String, CaseFault>
+    requires { IsShown reply.now }
+{
     let mut out = Bytes::new(alloc);
     write_reply(alloc, reply, &mut out)?;
     word_of(alloc, out.as_slice())

@@ -1,4 +1,6 @@
 //! Requests of the Apple Filing Protocol.
+ghost use Rattle.afp_requests.specs.Call.{IsSpellable};
+
 use crate::fault::CaseFault;
 use crate::fields::{put_bytes, put_numbers};
 use crate::names::steps_of;
@@ -15,7 +17,9 @@ fn fault_of(fault: ReadFault) -> &'static str {
     }
 }
 
-fn written(alloc: Global, call: &Call, enclosed: bool) -> Result<String, CaseFault> {
+fn written(alloc: Global, call: &Call, enclosed: bool) -> Result<String, CaseFault>
+    requires { IsSpellable call.now }
+{
     let mut written = Bytes::new(alloc);
     let mut beside = Bytes::new(alloc);
     write_call(alloc, call, &mut written, &mut beside)?;
