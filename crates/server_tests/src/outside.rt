@@ -3,10 +3,10 @@ ghost use Rattle.std.specs.Prelude.{IfOk};
 ghost use Rattle.afp_outside.specs.Tape.{IsFreshTape};
 
 use crate::taped::{joined, moment};
-use afp_base::{LinkNumber, Moment, OutOfMemory};
+use afp_base::{Bytes, LinkNumber, Moment, OutOfMemory};
 use afp_outside::{
-    Accepted, Clock, Gate, Heard, Link, Listener, OpenGate, Sink, SteadyClock, SystemClock,
-    TapeClock, TapeLink, TapeListener, TapeSink, TcpDoor, Wrote,
+    Accepted, Clock, Gate, Heard, Link, Listener, OpenGate, Sink, Source, SteadyClock, SystemClock,
+    TapeClock, TapeLink, TapeListener, TapeSink, TapeSource, TcpDoor, Wrote,
 };
 use std::alloc::Global;
 use std::cell::Cell;
