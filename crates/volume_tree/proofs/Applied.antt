@@ -233,9 +233,9 @@ pub record Applied (name : List ℕ) (dates new_dates : Dates) (rows new_rows : 
   pub kept : IsKept name dates rows forks used
   pub plan : IsPlan (state_of name dates rows forks) p
   pub spare : 1 ≤ spare_of rows forks
-  pub dates_are : new_dates ≡ record dates { modified = pos p.now; backup = unwrap_or p.backup dates.backup }
+  pub dates_are : new_dates ≡ record dates { modified = pos p.moment; backup = unwrap_or p.backup dates.backup }
   pub next_is : new_rows.next_id ≡ next_after p.come rows.next_id
-  pub rows_are : new_rows.rows ≡ dated_rows p.now p.dated_too (dated_rows p.now p.dated (set_rows p.set (moved_rows p.moved (come_rows p.come (gone_rows p.gone rows.rows)))))
+  pub rows_are : new_rows.rows ≡ dated_rows p.moment p.dated_too (dated_rows p.moment p.dated (set_rows p.set (moved_rows p.moved (come_rows p.come (gone_rows p.gone rows.rows)))))
   pub forks_are : (q : ℕ) → at nat_cmp new_forks q ≡ at_gone p.gone q (at nat_cmp forks q)
   pub left_is : left + bytes_of p.gone forks ≡ used
 
@@ -262,13 +262,13 @@ module _ {name : List ℕ} {dates new_dates : Dates} {rows new_rows : RowsValue}
       ∙ ap is_some (cond-false (is_gone p.gone rows.next_id) None (at nat_cmp forks rows.next_id) (gone-drawn (state_of name dates rows forks) p.gone a.plan.gone a.kept.sound))
       ∙ (spare-kept (is_some (at nat_cmp forks rows.next_id)) rows.spare a.spare).0)
 
-  shown : rows_of new_forks new_rows.rows ≡ dated_rows p.now p.dated_too (dated_rows p.now p.dated (set_rows p.set (moved_rows p.moved (come_rows p.come (gone_rows p.gone (rows_of forks rows.rows))))))
+  shown : rows_of new_forks new_rows.rows ≡ dated_rows p.moment p.dated_too (dated_rows p.moment p.dated (set_rows p.set (moved_rows p.moved (come_rows p.come (gone_rows p.gone (rows_of forks rows.rows))))))
   shown =
       let came = come_rows p.come (gone_rows p.gone rows.rows) in
       ap (rows_of new_forks) a.rows_are
-      ∙ shown-dated new_forks p.now p.dated_too (dated_rows p.now p.dated (set_rows p.set (moved_rows p.moved came)))
-      ∙ ap (dated_rows p.now p.dated_too) (shown-dated new_forks p.now p.dated (set_rows p.set (moved_rows p.moved came))
-      ∙ ap (dated_rows p.now p.dated) (shown-set new_forks p.set (moved_rows p.moved came)
+      ∙ shown-dated new_forks p.moment p.dated_too (dated_rows p.moment p.dated (set_rows p.set (moved_rows p.moved came)))
+      ∙ ap (dated_rows p.moment p.dated_too) (shown-dated new_forks p.moment p.dated (set_rows p.set (moved_rows p.moved came))
+      ∙ ap (dated_rows p.moment p.dated) (shown-set new_forks p.set (moved_rows p.moved came)
       ∙ ap (set_rows p.set) (shown-moved new_forks p.moved came
       ∙ ap (moved_rows p.moved) (shown-come new_forks p.come (gone_rows p.gone rows.rows) (come-blanks p.come a.plan.come)
       ∙ ap (come_rows p.come) (shown-gone forks new_forks p.gone rows.rows a.forks_are)))))
@@ -305,7 +305,7 @@ module _ {name : List ℕ} {dates new_dates : Dates} {rows new_rows : RowsValue}
       record {
         sound = subst IsSoundVolume (sym applied-state) a.plan.sound;
         files = ap (list_all (has_forks new_forks)) a.rows_are
-            ∙ all-dated new_forks p.now p.dated_too (dated_rows p.now p.dated (set_rows p.set (moved_rows p.moved came))) ∙ all-dated new_forks p.now p.dated (set_rows p.set (moved_rows p.moved came)) ∙ all-set new_forks p.set (moved_rows p.moved came) ∙ all-moved new_forks p.moved came
+            ∙ all-dated new_forks p.moment p.dated_too (dated_rows p.moment p.dated (set_rows p.set (moved_rows p.moved came))) ∙ all-dated new_forks p.moment p.dated (set_rows p.set (moved_rows p.moved came)) ∙ all-set new_forks p.set (moved_rows p.moved came) ∙ all-moved new_forks p.moved came
             ∙ all-come new_forks p.come (gone_rows p.gone rows.rows) (come-kept p.come a.plan.come) (all-gone forks new_forks p.gone rows.rows a.forks_are a.kept.files);
         no_data = ap (λ q. data_of (at nat_cmp new_forks q)) a.next_is ∙ ap data_of (a.forks_are (next_after p.come rows.next_id))
             ∙ blank-gone p.gone (next_after p.come rows.next_id) (at nat_cmp forks (next_after p.come rows.next_id)) (next-data p.come);
@@ -316,8 +316,8 @@ module _ {name : List ℕ} {dates new_dates : Dates} {rows new_rows : RowsValue}
         bytes =
             let old = rows_of forks rows.rows in
             let after : fork_bytes (rows_of new_forks new_rows.rows) ≡ fork_bytes (gone_rows p.gone old) =
-            ap fork_bytes shown ∙ bytes-dated p.now p.dated_too (dated_rows p.now p.dated (set_rows p.set (moved_rows p.moved (come_rows p.come (gone_rows p.gone old)))))
-            ∙ bytes-dated p.now p.dated (set_rows p.set (moved_rows p.moved (come_rows p.come (gone_rows p.gone old)))) ∙ bytes-set p.set (moved_rows p.moved (come_rows p.come (gone_rows p.gone old))) ∙ bytes-moved p.moved (come_rows p.come (gone_rows p.gone old))
+            ap fork_bytes shown ∙ bytes-dated p.moment p.dated_too (dated_rows p.moment p.dated (set_rows p.set (moved_rows p.moved (come_rows p.come (gone_rows p.gone old)))))
+            ∙ bytes-dated p.moment p.dated (set_rows p.set (moved_rows p.moved (come_rows p.come (gone_rows p.gone old)))) ∙ bytes-set p.set (moved_rows p.moved (come_rows p.come (gone_rows p.gone old))) ∙ bytes-moved p.moved (come_rows p.come (gone_rows p.gone old))
             ∙ bytes-come p.come (gone_rows p.gone old) (come-plain p.come a.plan.come) in
             let whole : fork_bytes (gone_rows p.gone old) + bytes_of p.gone forks ≡ fork_bytes old = bytes-gone forks rows.rows p.gone (ids-differ (state_of name dates rows forks) a.kept.sound) a.plan.gone in
             let were : used ≡ fork_bytes old = a.kept.bytes in

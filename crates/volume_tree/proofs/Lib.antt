@@ -14,3 +14,6 @@ pub mod FileForks
 pub mod Sums
 pub mod Setting
 pub mod Writing
+pub mod Carrying
+pub mod Touching
+pub mod Afters

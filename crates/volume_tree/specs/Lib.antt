@@ -5,3 +5,6 @@ pub mod Answered
 pub mod Requests
 pub mod ForkEffect
 pub mod Tails
+pub mod TouchedNodes
+pub mod After
+pub mod TreeLaws

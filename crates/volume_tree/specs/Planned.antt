@@ -23,7 +23,7 @@ pub record SetNode : Type 0 where
 -- what a call found and will do: a node goes, one comes, one gets another place, one is set, the volume's backup date is set, and directories whose children change get the moment as their
 -- modified date
 pub record PlanState : Type 0 where
-  pub now : ℕ
+  pub moment : ℕ
   pub gone : Option NodeId
   pub come : Option Row
   pub moved : Option Move
@@ -77,10 +77,10 @@ dated_rows now (Some dir) rows = with_changed dir.0 (modified_at now) rows
 -- a volume after what was planned
 unfoldable pub planned : PlanState → VolumeState → VolumeState
 planned p v = record v {
-  modified = pos p.now;
+  modified = pos p.moment;
   backup = unwrap_or p.backup v.backup;
   next_id = next_after p.come v.next_id;
-  rows = dated_rows p.now p.dated_too (dated_rows p.now p.dated (set_rows p.set (moved_rows p.moved (come_rows p.come (gone_rows p.gone v.rows)))));
+  rows = dated_rows p.moment p.dated_too (dated_rows p.moment p.dated (set_rows p.set (moved_rows p.moved (come_rows p.come (gone_rows p.gone v.rows)))));
   comments = gone_comments p.gone v.comments;
   appls = gone_appls p.gone v.appls;
 }
@@ -100,12 +100,12 @@ pub record IsPlan (v : VolumeState) (p : PlanState) : Type 0 where
 
 -- a new file or directory, in the place of a node that goes
 abbrev pub plan_new : ℕ → Bool → NodeId → NodeId → List ℕ → Option NodeId → PlanState
-plan_new now dir id parent name gone = record { now = now; gone = gone; come = Some (new_row dir id.0 parent.0 name now); moved = None; set = None; backup = None; dated = Some parent; dated_too = None }
+plan_new now dir id parent name gone = record { moment = now; gone = gone; come = Some (new_row dir id.0 parent.0 name now); moved = None; set = None; backup = None; dated = Some parent; dated_too = None }
 
 -- a node's new place, and the directories whose children change
 abbrev pub plan_place : ℕ → NodeId → NodeId → List ℕ → NodeId → Option NodeId → PlanState
-plan_place now id parent name dated dated_too = record { now = now; gone = None; come = None; moved = Some (record { id = id.0; parent = parent.0; name = name }); set = None; backup = None; dated = Some dated; dated_too = dated_too }
+plan_place now id parent name dated dated_too = record { moment = now; gone = None; come = None; moved = Some (record { id = id.0; parent = parent.0; name = name }); set = None; backup = None; dated = Some dated; dated_too = dated_too }
 
 -- the settings of a node, or none
 abbrev pub plan_set : ℕ → Option SetNode → Option ℤ → PlanState
-plan_set now set backup = record { now = now; gone = None; come = None; moved = None; set = set; backup = backup; dated = None; dated_too = None }
+plan_set now set backup = record { moment = now; gone = None; come = None; moved = None; set = set; backup = backup; dated = None; dated_too = None }

@@ -25,7 +25,7 @@ impl Volume {
         ensures { self.new.state ≡ planned plan self.old.state }
     {
         let Plan {
-            now,
+            moment: now,
             gone,
             come,
             moved,

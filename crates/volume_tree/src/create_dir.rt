@@ -36,7 +36,7 @@ pub(crate) fn plan_new(
 {
     let name = name.copy(alloc)?;
     Ok(Plan {
-        now,
+        moment: now,
         gone,
         come: Some(Comer {
             node: new_node(new.dir, new.id, new.parent, name, now),

@@ -41,7 +41,7 @@ impl Volume {
             Err(fault) => return Err(fault),
         };
         Ok(Plan {
-            now,
+            moment: now,
             gone: Some(id),
             come: None,
             moved: None,

@@ -1,6 +1,7 @@
 //! The tree of a volume: its nodes with their forks, what calls find in it, and what they do to it.
 #![tactic(auto)]
 
+mod after;
 mod apply;
 mod apply_fork;
 mod asked;
@@ -9,6 +10,7 @@ mod create_file;
 mod delete;
 mod forks;
 mod head;
+pub mod laws;
 mod move_and_rename;
 mod places;
 mod plan;
@@ -19,9 +21,12 @@ mod set_parms;
 mod set_vol_parms;
 mod settings;
 mod tails;
+mod touched;
 mod volume;
 
+pub use after::NodeAfter;
 pub use head::VolumeHead;
 pub use plan::Plan;
 pub use resolve::PlanFault;
+pub use touched::Touched;
 pub use volume::Volume;

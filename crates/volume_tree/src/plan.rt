@@ -69,7 +69,7 @@ impl Model for Setting {
 /// another place, what is set, and the directories whose children change.
 #[derive(Drop)]
 pub struct Plan {
-    pub(crate) now: Moment,
+    pub(crate) moment: Moment,
     pub(crate) gone: Option<NodeId>,
     pub(crate) come: Option<Comer>,
     pub(crate) moved: Option<Mover>,
@@ -84,5 +84,5 @@ impl Model for Plan {
 
     ghost Value = { PlanState };
 
-    ghost view = { λ a. record { now = a.now; gone = a.gone; come = a.come; moved = a.moved; set = a.set; backup = a.backup; dated = a.dated; dated_too = a.dated_too } };
+    ghost view = { λ a. record { moment = a.moment; gone = a.gone; come = a.come; moved = a.moved; set = a.set; backup = a.backup; dated = a.dated; dated_too = a.dated_too } };
 }

@@ -40,7 +40,7 @@ pub(crate) fn plan_place(
 {
     let name = name.copy(alloc)?;
     Ok(Plan {
-        now,
+        moment: now,
         gone: None,
         come: None,
         moved: Some(Mover {

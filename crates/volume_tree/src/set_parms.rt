@@ -33,7 +33,7 @@ pub(crate) fn plan_set(now: Moment, id: NodeId, settings: Settings) -> Plan
     ensures { result ≡ plan_set now (Some (record { id = id.0; settings = settings })) None }
 {
     Plan {
-        now,
+        moment: now,
         gone: None,
         come: None,
         moved: None,

@@ -21,7 +21,7 @@ fn plan_backup(now: Moment, tail: &[u8]) -> Plan
     ensures { result ≡ plan_set now None (Some (date_in tail.now)) }
 {
     Plan {
-        now,
+        moment: now,
         gone: None,
         come: None,
         moved: None,

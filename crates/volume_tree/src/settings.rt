@@ -3,6 +3,7 @@ ghost use Rattle.std.specs.Prelude.{◌≡◌, ◌==◌, Bool, unwrap_or, option
 ghost use Rattle.std.specs.Int.{bit_not, w16};
 ghost use Rattle.afp_volume.specs.SetFileDirParms.{attributes_by, settable, with_settings};
 ghost use Rattle.node_rows.specs.Kept.{marked};
+ghost use Rattle.volume_tree.specs.After.{marks_after};
 ghost use Rattle.volume_tree.specs.Kept.{marks_in};
 
 use node_rows::{Marks, Node};
@@ -44,7 +45,14 @@ impl Settings {
     pub fn marks(&self, node: &Node) -> Marks
         ensures { marked result node.now ≡ with_settings self.now node.now }
     {
-        let marks = with_attributes(marks_of(node), node.dir, self.attributes);
+        self.marks_after(node.dir, marks_of(node))
+    }
+
+    /// Marks with these settings, of a node of that kind.
+    pub fn marks_after(&self, dir: bool, marks: Marks) -> Marks
+        ensures { result ≡ marks_after self.now dir marks }
+    {
+        let marks = with_attributes(marks, dir, self.attributes);
         let marks = with_created(marks, self.created);
         let marks = with_modified(marks, self.modified);
         let marks = with_backup(marks, self.backup);

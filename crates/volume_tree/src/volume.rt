@@ -79,7 +79,7 @@ fn name_of(alloc: Global, text: &str) -> Result<Name, OutOfMemory>
 }
 
 /// The next node id of rows, 4,294,967,296 where the ids have ended.
-fn next_of(rows: &Rows) -> u64
+pub(crate) fn next_of(rows: &Rows) -> u64
     ensures { result ≡ rows.now.next_id }
 {
     match rows.next_id() {

@@ -1,0 +1,11 @@
+use Rattle.std.proofs.Common.{◌∙◌, ap, []}
+use Rattle.afp_volume.specs.SetFileDirParms.{with_settings}
+use Rattle.afp_volume.specs.VolumeState.{Row}
+use Rattle.node_rows.specs.declared.node.Marks.{Marks}
+use Rattle.volume_tree.proofs.after.NodeAfter.with.Goals as goal
+
+pub returns : goal.returns
+unfolding with_settings
+returns c =
+    let marked : Marks → Row = λ (m : Marks). record { id = c.self.inside.id.0; parent = c.self.inside.parent.0; dir = c.self.inside.dir; attributes = m.attributes; created = m.created; modified = m.modified; backup = m.backup; finder = m.finder; filed = m.filed; name = c.self.inside.name.now; data_fork = []; resource_fork = [] } in
+    ap marked c.marks_after.ensures ∙ ap (with_settings c.args.settings.now) c.self.view_is

@@ -1,0 +1,217 @@
+//! What a plan leaves of a volume, told before it is carried out. None of these takes memory.
+ghost use Rattle.std.specs.Prelude.{◌≡◌, option_map, option_copied};
+ghost use Rattle.afp_volume.specs.Edits.{bare, at_place, modified_at};
+ghost use Rattle.afp_volume.specs.SetFileDirParms.{with_settings};
+ghost use Rattle.afp_volume.specs.Walk.{row_at};
+ghost use Rattle.volume_tree.specs.After.{moved_row, set_row, dated_row, come_row};
+ghost use Rattle.volume_tree.specs.Planned.{is_gone, gone_rows, come_rows, planned, next_after};
+
+use crate::head::VolumeHead;
+use crate::plan::{Comer, Mover, Plan, Setting};
+use crate::settings::Settings;
+use crate::volume::{Volume, next_of};
+use afp_base::{Moment, NodeId};
+use afp_names::Name;
+use node_rows::{Marks, Node, Rows};
+use std::marker::Model;
+
+/// A node as a plan leaves it, without its forks (AFP Reference, "File and directory parameters").
+///
+/// Contracts see the definition's row, with no bytes in its forks.
+#[derive(Drop)]
+pub struct NodeAfter<'a> {
+    pub id: NodeId,
+    pub parent: NodeId,
+    pub dir: bool,
+    pub marks: Marks,
+    pub name: &'a Name,
+}
+
+impl<'a> Model for NodeAfter<'a> {
+    ghost use Rattle.std.specs.Prelude.{[]};
+    ghost use Rattle.afp_volume.specs.VolumeState.{Row};
+
+    ghost Value = { Row };
+
+    ghost view = { λ a. record { id = a.id.0; parent = a.parent.0; dir = a.dir; attributes = a.marks.attributes; created = a.marks.created; modified = a.marks.modified; backup = a.marks.backup; finder = a.marks.finder; filed = a.marks.filed; name = a.name.now; data_fork = []; resource_fork = [] } };
+}
+
+impl<'a> NodeAfter<'a> {
+    /// A node as it is.
+    fn of(node: &'a Node) -> NodeAfter<'a>
+        ensures { result ≡ node.now }
+    {
+        NodeAfter {
+            id: node.id,
+            parent: node.parent,
+            dir: node.dir,
+            marks: Marks {
+                attributes: node.attributes,
+                created: node.created,
+                modified: node.modified,
+                backup: node.backup,
+                finder: node.finder,
+                filed: node.filed,
+            },
+            name: &node.name,
+        }
+    }
+
+    fn at(self, parent: NodeId, name: &'a Name) -> NodeAfter<'a>
+        ensures { result ≡ at_place parent.0 name.now self.entry }
+    {
+        NodeAfter {
+            parent,
+            name,
+            ..self
+        }
+    }
+
+    fn with(self, settings: &Settings) -> NodeAfter<'a>
+        ensures { result ≡ with_settings settings.now self.entry }
+    {
+        NodeAfter {
+            marks: settings.marks_after(self.dir, self.marks),
+            ..self
+        }
+    }
+
+    fn modified(self, now: Moment) -> NodeAfter<'a>
+        ensures { result ≡ modified_at now self.entry }
+    {
+        let marks = Marks {
+            modified: now.seconds() as i32,
+            ..self.marks
+        };
+        NodeAfter { marks, ..self }
+    }
+
+    /// The node at its new place, where it gets one.
+    fn moved(self, moved: &'a Option<Mover>) -> NodeAfter<'a>
+        ensures { result ≡ moved_row moved.now self.entry }
+    {
+        match moved {
+            Some(moved) => {
+                if self.id.0 == moved.id.0 {
+                    self.at(moved.parent, &moved.name)
+                } else {
+                    self
+                }
+            }
+            None => self,
+        }
+    }
+
+    /// The node with its settings, where it is set.
+    fn set(self, set: &Option<Setting>) -> NodeAfter<'a>
+        ensures { result ≡ set_row set.now self.entry }
+    {
+        match set {
+            Some(set) => {
+                if self.id.0 == set.id.0 {
+                    self.with(&set.settings)
+                } else {
+                    self
+                }
+            }
+            None => self,
+        }
+    }
+
+    /// The node with the moment as its modified date, where it is this directory.
+    fn dated(self, now: Moment, dir: Option<NodeId>) -> NodeAfter<'a>
+        ensures { result ≡ dated_row now dir self.entry }
+    {
+        match dir {
+            Some(dir) => if self.id.0 == dir.0 {
+                self.modified(now)
+            } else {
+                self
+            },
+            None => self,
+        }
+    }
+}
+
+fn is_gone(gone: Option<NodeId>, id: NodeId) -> bool
+    ensures { result ≡ is_gone gone id.0 }
+{
+    match gone {
+        Some(gone) => id.0 == gone.0,
+        None => false,
+    }
+}
+
+/// The node that comes, where it has this id.
+fn coming(come: &Option<Comer>, id: NodeId) -> Option<&Node>
+    ensures { option_copied result ≡ option_map bare (come_row come.now id.0) }
+{
+    match come {
+        Some(come) => {
+            let node = &come.node;
+            if node.id.0 == id.0 { Some(node) } else { None }
+        }
+        None => None,
+    }
+}
+
+impl Volume {
+    /// The node of an id that stays, or comes, before it gets another place, settings or a date.
+    fn staying<'a>(&'a self, plan: &'a Plan, id: NodeId) -> Option<&'a Node>
+        ensures { option_copied result ≡ option_map bare (row_at (come_rows plan.now.come (gone_rows plan.now.gone self.now.state.rows)) id.0) }
+    {
+        if is_gone(plan.gone, id) {
+            return coming(&plan.come, id);
+        }
+        match self.node(id) {
+            Some(node) => Some(node),
+            None => coming(&plan.come, id),
+        }
+    }
+
+    /// The node of an id as a plan leaves it.
+    pub fn node_after<'a>(&'a self, plan: &'a Plan, id: NodeId) -> Option<NodeAfter<'a>>
+        ensures { result ≡ option_map bare (row_at (planned plan.now self.now.state).rows id.0) }
+    {
+        match self.staying(plan, id) {
+            Some(node) => Some(
+                NodeAfter::of(node)
+                    .moved(&plan.moved)
+                    .set(&plan.set)
+                    .dated(plan.moment, plan.dated)
+                    .dated(plan.moment, plan.dated_too),
+            ),
+            None => None,
+        }
+    }
+
+    /// The volume's dates and its next node id as a plan leaves them.
+    #[tactic(auto, unfolding(crate::specs::Planned::planned))]
+    pub fn head_after(&self, plan: &Plan) -> VolumeHead
+        ensures created { result.created ≡ (planned plan.now self.now.state).created }
+        ensures modified { result.modified ≡ (planned plan.now self.now.state).modified }
+        ensures backup { result.backup ≡ (planned plan.now self.now.state).backup }
+        ensures next_id { result.next_id ≡ (planned plan.now self.now.state).next_id }
+    {
+        let dates = self.dates.changed(plan.moment, plan.backup);
+        VolumeHead {
+            created: dates.created,
+            modified: dates.modified,
+            backup: dates.backup,
+            next_id: next_after(&plan.come, &self.rows),
+        }
+    }
+}
+
+/// The next id behind that of the node that comes.
+fn next_after(come: &Option<Comer>, rows: &Rows) -> u64
+    ensures { result ≡ next_after come.now rows.now.next_id }
+{
+    match come {
+        Some(_) => match rows.next_id() {
+            Some(id) => u64::from(id.0) + 1,
+            None => 4_294_967_297,
+        },
+        None => next_of(rows),
+    }
+}
