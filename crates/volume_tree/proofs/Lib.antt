@@ -17,3 +17,4 @@ pub mod Writing
 pub mod Carrying
 pub mod Touching
 pub mod Afters
+pub mod ForksAfter

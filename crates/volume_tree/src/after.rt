@@ -1,9 +1,10 @@
 //! What a plan leaves of a volume, told before it is carried out. None of these takes memory.
-ghost use Rattle.std.specs.Prelude.{◌≡◌, option_map, option_copied};
+ghost use Rattle.std.specs.Prelude.{◌≡◌, Bool, option_map, option_copied};
 ghost use Rattle.afp_volume.specs.Edits.{bare, at_place, modified_at};
 ghost use Rattle.afp_volume.specs.SetFileDirParms.{with_settings};
 ghost use Rattle.afp_volume.specs.Walk.{row_at};
 ghost use Rattle.volume_tree.specs.After.{moved_row, set_row, dated_row, come_row};
+ghost use Rattle.volume_tree.specs.Shown.{file_of, fork_at, fork_of};
 ghost use Rattle.volume_tree.specs.Planned.{is_gone, gone_rows, come_rows, planned, next_after};
 
 use crate::head::VolumeHead;
@@ -12,6 +13,7 @@ use crate::settings::Settings;
 use crate::volume::{Volume, next_of};
 use afp_base::{Moment, NodeId};
 use afp_names::Name;
+use fork_bytes::Fork;
 use node_rows::{Marks, Node, Rows};
 use std::marker::Model;
 
@@ -155,6 +157,23 @@ fn coming(come: &Option<Comer>, id: NodeId) -> Option<&Node>
     }
 }
 
+/// Either fork of the file that comes, where it has this id.
+fn coming_fork(come: &Option<Comer>, id: NodeId) -> Option<&Fork>
+    ensures { (resource : Bool) → option_copied result ≡ option_map (fork_of resource) (file_of (come_row come.now id.0)) }
+{
+    match come {
+        Some(come) => {
+            let node = &come.node;
+            if node.id.0 == id.0 && !node.dir {
+                Some(&come.fork)
+            } else {
+                None
+            }
+        }
+        None => None,
+    }
+}
+
 impl Volume {
     /// The node of an id that stays, or comes, before it gets another place, settings or a date.
     fn staying<'a>(&'a self, plan: &'a Plan, id: NodeId) -> Option<&'a Node>
@@ -182,6 +201,19 @@ impl Volume {
                     .dated(plan.moment, plan.dated_too),
             ),
             None => None,
+        }
+    }
+
+    /// A fork of the file of an id as a plan leaves it. A file that comes has forks of no bytes.
+    pub fn fork_after<'a>(&'a self, plan: &'a Plan, id: NodeId, resource: bool) -> Option<&'a Fork>
+        ensures { option_copied result ≡ fork_at (planned plan.now self.now.state).rows id.0 resource }
+    {
+        if is_gone(plan.gone, id) {
+            return coming_fork(&plan.come, id);
+        }
+        match self.node(id) {
+            Some(_) => self.fork(id, resource),
+            None => coming_fork(&plan.come, id),
         }
     }
 

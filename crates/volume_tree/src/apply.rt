@@ -84,7 +84,7 @@ fn put_in(rows: &mut Rows, come: Option<Comer>)
 {
     match come {
         Some(comer) => {
-            let Comer { node, key } = comer;
+            let Comer { node, key, fork: _ } = comer;
             rows.insert(node, key);
         }
         None => {}

@@ -12,6 +12,7 @@ use crate::volume::{Volume, new_node};
 use afp_base::{Bytes, Code, Moment, NodeId, OutOfMemory};
 use afp_names::{Name, Path};
 use afp_volume::laws::calls_keep_volumes_sound;
+use fork_bytes::Fork;
 use std::alloc::Global;
 
 /// A new node's id, the directory that it comes into, and its kind.
@@ -41,6 +42,7 @@ pub(crate) fn plan_new(
         come: Some(Comer {
             node: new_node(new.dir, new.id, new.parent, name, now),
             key,
+            fork: Fork::new(alloc),
         }),
         moved: None,
         set: None,

@@ -5,18 +5,20 @@ ghost use Rattle.afp_volume.specs.Edits.{at_place};
 use crate::settings::Settings;
 use afp_base::{Bytes, Moment, NodeId};
 use afp_names::Name;
+use fork_bytes::Fork;
 use node_rows::Node;
 use std::marker::Model;
 
-/// A new node, and the key of its name.
+/// A new node, the key of its name, and what either of its forks is at first.
 #[derive(Drop)]
 pub(crate) struct Comer {
     pub node: Node,
     pub key: Bytes,
+    pub fork: Fork,
 }
 
 impl Model for Comer {
-    ghost use Rattle.std.specs.Prelude.{◌≡◌};
+    ghost use Rattle.std.specs.Prelude.{◌≡◌, []};
     ghost use Rattle.afp_names.specs.Name.{name_key};
     ghost use Rattle.afp_volume.specs.VolumeState.{Row};
 
@@ -24,7 +26,7 @@ impl Model for Comer {
 
     ghost view = { λ a. a.node };
 
-    ghost invariant = { λ a. a.key ≡ name_key a.node.name };
+    ghost invariant = { λ a. (a.key ≡ name_key a.node.name) × (a.fork ≡ []) };
 }
 
 /// A node's new place, and the key of its name there.
