@@ -4,3 +4,4 @@ pub mod Siblings
 pub mod Keeping
 pub mod Leaving
 pub mod Asked
+pub mod SortedOnce

@@ -4,6 +4,7 @@
 mod child;
 mod edit;
 mod node;
+mod order;
 mod rows;
 mod search;
 

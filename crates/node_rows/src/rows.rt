@@ -1,5 +1,5 @@
 //! The nodes of a volume.
-ghost use Rattle.std.specs.Prelude.{◌≡◌, ◌+◌, ◌<◌, ◌≤◌, ◌^◌, ◌++◌, ◌∷◌, [], true, false, None, Some, length, MatchOption, option_map, slice_get, min, IfOk, OnOk, OnErr, vec_len, vec_capacity};
+ghost use Rattle.std.specs.Prelude.{◌≡◌, ◌+◌, ◌<◌, ◌≤◌, ◌^◌, ◌++◌, ◌∷◌, [], true, false, None, Some, length, map, nat_lt, MatchOption, option_map, slice_get, min, IfOk, OnOk, OnErr, vec_len, vec_capacity};
 ghost use Rattle.std.specs.Option.{option_copied};
 ghost use Rattle.std.specs.List.{list_all};
 ghost use Rattle.afp_names.specs.Name.{name_key};
@@ -16,6 +16,7 @@ ghost use Rattle.node_rows.specs.Kept.{admitted, is_apart, marked};
 use crate::child::Child;
 use crate::edit::{put_at, put_child, put_node, set_marks, take_child};
 use crate::node::{Marks, Node};
+use crate::order::sort;
 use crate::search::{find_child, find_node, nth_child};
 use afp_base::{Bytes, NodeId, OutOfMemory};
 use afp_names::Name;
@@ -58,6 +59,26 @@ impl Rows {
         children.push(child)?;
         let mut nodes = Vec::new(alloc);
         nodes.push(root)?;
+        Ok(Rows {
+            nodes,
+            children,
+            next,
+        })
+    }
+
+    /// Nodes that stand by rising id, below the next id, and no two of which have one parent and names with one key. It takes the
+    /// time of one sort.
+    pub fn of(alloc: Global, nodes: Vec<Node>, next: u64) -> Result<Rows, OutOfMemory>
+        requires rising { has_rising_ids nodes.items ≡ true }
+        requires below { list_all (λ (row : Row). nat_lt row.id next) nodes.items ≡ true }
+        requires apart { are_apart are_named_alike nodes.items ≡ true }
+        requires low { 17 ≤ next }
+        requires high { next ≤ 2 ^ 32 }
+        ensures rows { IfOk result (λ rows. rows.rows ≡ nodes.items) }
+        ensures next { IfOk result (λ rows. rows.next_id ≡ next) }
+    {
+        let mut children = children_of(alloc, nodes.as_slice())?;
+        sort(&mut children);
         Ok(Rows {
             nodes,
             children,
@@ -208,6 +229,18 @@ impl Rows {
             None => {}
         }
     }
+}
+
+/// The child of each node.
+fn children_of(alloc: Global, nodes: &[Node]) -> Result<Vec<Child>, OutOfMemory>
+    ensures { IfOk result (λ children. children.items ≡ map child_of nodes.now) }
+{
+    let mut children = Vec::new(alloc);
+    children.reserve(nodes.len())?;
+    for node in nodes {
+        children.push(child_of(alloc, node)?)?;
+    }
+    Ok(children)
 }
 
 fn child_of(alloc: Global, node: &Node) -> Result<Child, OutOfMemory>

@@ -1,5 +1,5 @@
 use Rattle.std.proofs.Common.{◌≡◌, ◌∙◌, ap, sym, subst, refl, List, Some, false}
-use Rattle.std.specs.List.{list_any, list_all, filter}
+use Rattle.std.specs.List.{list_all, filter}
 use Rattle.afp_volume.proofs.Rising.{keys-filter}
 use Rattle.afp_volume.specs.Edits.{with_changed, without, at_place, is_taken}
 use Rattle.afp_volume.specs.Order.{rises, put_in}
