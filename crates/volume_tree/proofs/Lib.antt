@@ -18,3 +18,4 @@ pub mod Carrying
 pub mod Touching
 pub mod Afters
 pub mod ForksAfter
+pub mod Restoring

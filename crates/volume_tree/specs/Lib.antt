@@ -8,3 +8,4 @@ pub mod Tails
 pub mod TouchedNodes
 pub mod After
 pub mod TreeLaws
+pub mod Restored
