@@ -19,3 +19,4 @@ pub mod Touching
 pub mod Afters
 pub mod ForksAfter
 pub mod Restoring
+pub mod Filling

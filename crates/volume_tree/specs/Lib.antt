@@ -9,3 +9,4 @@ pub mod TouchedNodes
 pub mod After
 pub mod TreeLaws
 pub mod Restored
+pub mod Filled

@@ -54,7 +54,7 @@ fn kept_len(forks: &SortedMap<u64, FileForks>, id: NodeId, resource: bool) -> u6
 }
 
 /// Carries out a plan of a fork that is kept.
-fn change_fork(
+pub(crate) fn change_fork(
     forks: &mut SortedMap<u64, FileForks>,
     alloc: Global,
     id: NodeId,

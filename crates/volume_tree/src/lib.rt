@@ -8,6 +8,7 @@ mod asked;
 mod create_dir;
 mod create_file;
 mod delete;
+mod fill;
 mod forks;
 mod head;
 pub mod laws;
