@@ -8,7 +8,7 @@ use Rattle.std.specs.FinMap.{slice_cmp-IsAntisymmetric, nat_cmp-IsAntisymmetric}
 use Rattle.std.specs.declared.cmp.Ordering.{Ordering}
 use Rattle.std.specs.declared.cmp.Ordering.TheVariants.{Less, Equal, Greater}
 use Rattle.std.proofs.lemmas.Slice.Eq.{bytes_eq-Decides}
-use Rattle.volume_records.specs.declared.rows.Record.{Record}
+use Rattle.record_keeper.specs.declared.record.Record.{Record}
 use Rattle.volume_records.specs.Shape.{row_in}
 use Rattle.volume_records.specs.KeyOrder.{IsBelow, Rises, has_key, with_key, head_key, root_key}
 use Rattle.volume_records.proofs.TestParts.{or_right}

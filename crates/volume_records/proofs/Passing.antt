@@ -14,7 +14,7 @@ use Rattle.afp_volume.specs.VolumeState.{Icon, Appl, root_id}
 use Rattle.afp_volume.specs.VolumeState.{Row as VolumeRow}
 use Rattle.afp_volume.specs.Order.{stands_before}
 use Rattle.afp_volume.specs.SoundVolume.{has_node, has_file, leads_to_root, are_named_alike, icon_key, appl_key, most_nodes, most_fork_bytes, most_icons, most_appls}
-use Rattle.volume_records.specs.declared.rows.Record.{Record}
+use Rattle.record_keeper.specs.declared.record.Record.{Record}
 use Rattle.volume_records.specs.declared.rows.Node.{Node}
 use Rattle.volume_records.specs.declared.rows.Reason.{Reason}
 use Rattle.volume_records.specs.declared.rows.Reason.TheVariants.{Parent, Twin, Range, Limit}

@@ -8,7 +8,7 @@ use Rattle.std.proofs.Math.Seq.{take-append_seam, drop-append_seam}
 use Rattle.afp_volume.specs.VolumeState.{Comment, Icon, Appl}
 use Rattle.afp_volume.specs.SoundVolume.{is_formed as is_formed_row, is_named, is_comment, is_icon, longest_icon}
 use Rattle.afp_volume.specs.TypedVolume.{is_byte, is_word, is_long, is_quad, is_date, are_bytes, is_typed_row, is_typed_icon, is_typed_appl}
-use Rattle.volume_records.specs.declared.rows.Record.{Record}
+use Rattle.record_keeper.specs.declared.record.Record.{Record}
 use Rattle.volume_records.specs.declared.rows.Head.{Head}
 use Rattle.volume_records.specs.declared.rows.Node.{Node}
 use Rattle.volume_records.specs.declared.rows.ForkBlock.{ForkBlock}

@@ -6,7 +6,7 @@ use Rattle.afp_volume.specs.VolumeState.{Row as VolumeRow}
 use Rattle.afp_volume.specs.VolumeState.{Icon, Appl, root_id, first_id}
 use Rattle.afp_volume.specs.Order.{stands_before}
 use Rattle.afp_volume.specs.SoundVolume.{has_node, has_file, leads_to_root, are_named_alike, most_nodes, most_fork_bytes, most_icons, most_appls, icon_key, appl_key}
-use Rattle.volume_records.specs.declared.rows.Record.{Record}
+use Rattle.record_keeper.specs.declared.record.Record.{Record}
 use Rattle.volume_records.specs.declared.rows.Node.{Node}
 use Rattle.volume_records.specs.declared.rows.BadRecord.{BadRecord}
 use Rattle.volume_records.specs.declared.rows.Reason.{Reason}

@@ -1,14 +1,13 @@
 -- The records of a volume by rising key (this profile).
 use Rattle.std.specs.Prelude.{ℕ, pos, Bool, true, false, List, [], ◌∷◌, ◌++◌, map, length, flat_map, Option, Some, None}
 use Rattle.std.specs.List.{filter_map}
-use Rattle.std.specs.FinMap.{FinMap, entries, from_sorted}
-use Rattle.std.specs.Cmp.Lexicographic.{slice_cmp}
-use Rattle.std.specs.Ordering.{nat_cmp}
+use Rattle.std.specs.FinMap.{entries, from_sorted}
 use Rattle.fork_bytes.specs.declared.block.Block.{Block}
 use Rattle.fork_bytes.specs.Blocks.{blocks_of}
 use Rattle.afp_volume.specs.VolumeState.{Row as VolumeRow}
 use Rattle.afp_volume.specs.VolumeState.{Comment, Icon, Appl, VolumeState}
-use Rattle.volume_records.specs.declared.rows.Record.{Record}
+use Rattle.record_keeper.specs.declared.record.Record.{Record}
+pub use Rattle.record_keeper.specs.Records.{Records}
 use Rattle.volume_records.specs.declared.rows.Head.{Head}
 use Rattle.volume_records.specs.declared.rows.Node.{Node}
 use Rattle.volume_records.specs.declared.rows.ForkBlock.{ForkBlock}
@@ -115,10 +114,6 @@ tables_in rows = record {
 -- exactly the records of a volume
 abbrev pub image : VolumeState → List Record
 image v = map record_of (rows_of (tables_of v))
-
--- records as a keeper has them: a value for each key
-abbrev pub Records : Type 0
-Records = FinMap (slice_cmp nat_cmp) (List ℕ)
 
 -- a keeper's records by rising key
 abbrev pub records_in : Records → List Record

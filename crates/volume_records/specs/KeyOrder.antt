@@ -3,19 +3,10 @@ use Rattle.std.specs.Prelude.{◌≡◌, ℕ, Bool, bytes_eq, List, [], ◌∷�
 use Rattle.std.specs.List.{list_any}
 use Rattle.std.specs.Cmp.Lexicographic.{slice_cmp}
 use Rattle.std.specs.Ordering.{nat_cmp, match_ordering}
-use Rattle.std.specs.declared.cmp.Ordering.TheVariants.{Less}
 use Rattle.afp_volume.specs.VolumeState.{root_id}
-use Rattle.volume_records.specs.declared.rows.Record.{Record}
+use Rattle.record_keeper.specs.declared.record.Record.{Record}
+pub use Rattle.record_keeper.specs.Reading.{IsBelow, Rises}
 use Rattle.volume_records.specs.Records.{head_tag, node_tag, long_bytes}
-
-abbrev pub IsBelow : List ℕ → List Record → Type 0
-IsBelow key [] = Unit {0}
-IsBelow key (r ∷ records) = (slice_cmp nat_cmp key r.key ≡ Less) × IsBelow key records
-
--- each key is below those behind it
-abbrev pub Rises : List Record → Type 0
-Rises [] = Unit {0}
-Rises (r ∷ records) = IsBelow r.key records × Rises records
 
 -- whether a key is among those of some records
 abbrev pub has_key : List ℕ → List Record → Bool

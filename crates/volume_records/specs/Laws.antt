@@ -4,7 +4,7 @@ use Rattle.std.specs.FinMap.{entries}
 use Rattle.afp_volume.specs.VolumeState.{VolumeState}
 use Rattle.afp_volume.specs.SoundVolume.{IsSoundVolume}
 use Rattle.afp_volume.specs.TypedVolume.{is_typed_volume}
-use Rattle.volume_records.specs.declared.rows.Record.{Record}
+use Rattle.record_keeper.specs.declared.record.Record.{Record}
 use Rattle.volume_records.specs.declared.rows.Row.{Row}
 use Rattle.volume_records.specs.Records.{record_of}
 use Rattle.volume_records.specs.Shape.{is_formed, row_in}

@@ -1,7 +1,7 @@
 -- What becomes of the records of a keeper (this profile).
 use Rattle.std.specs.Prelude.{◌≡◌, ℕ, List, Some, None}
 use Rattle.afp_volume.specs.VolumeState.{VolumeState}
-use Rattle.volume_records.specs.declared.rows.Record.{Record}
+use Rattle.record_keeper.specs.declared.record.Record.{Record}
 use Rattle.volume_records.specs.declared.rows.Row.{Row}
 use Rattle.volume_records.specs.declared.load.Loaded.{Loaded}
 use Rattle.volume_records.specs.declared.load.Loaded.TheVariants as loaded

@@ -6,7 +6,7 @@ use Rattle.afp_volume.specs.VolumeState.{Comment, Icon, Appl, root_id, root_pare
 use Rattle.afp_volume.specs.VolumeState.{Row as VolumeRow}
 use Rattle.afp_volume.specs.SoundVolume.{is_formed as is_formed_row, is_comment, is_icon, code_size, last_next_id}
 use Rattle.afp_volume.specs.TypedVolume.{is_long, is_quad, is_date, are_bytes, is_typed_row, is_typed_comment, is_typed_icon, is_typed_appl}
-use Rattle.volume_records.specs.declared.rows.Record.{Record}
+use Rattle.record_keeper.specs.declared.record.Record.{Record}
 use Rattle.volume_records.specs.declared.rows.Head.{Head}
 use Rattle.volume_records.specs.declared.rows.Node.{Node}
 use Rattle.volume_records.specs.declared.rows.ForkBlock.{ForkBlock}

@@ -8,9 +8,10 @@ ghost use Rattle.volume_records.specs.Judged.{said_rows};
 
 use crate::climb::push;
 use crate::pass::{judge_all, read_all_rows};
-use crate::rows::{BadRecord, Reason, Record, Row};
+use crate::rows::{BadRecord, Reason, Row};
 use crate::write::owned;
 use afp_base::{Bytes, OutOfMemory};
+use record_keeper::{Record, RecordKey};
 use std::alloc::Global;
 use std::cmp::Ordering;
 
@@ -31,7 +32,7 @@ fn count_in(alloc: Global, records: &mut Vec<Record>, key: &[u8]) -> Result<(), 
     ensures { OnOk result (records.new.items ≡ with_key key.now records.old.items) }
 {
     let missing = Record {
-        key: owned(alloc, key)?,
+        key: RecordKey::new(owned(alloc, key)?),
         value: Bytes::new(alloc),
     };
     for place in 0..records.len() {

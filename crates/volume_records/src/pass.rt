@@ -9,10 +9,11 @@ ghost use Rattle.volume_records.specs.Judged.{place_of, said_node, places_in, ne
 use crate::climb::push;
 use crate::judge::{Pass, judge_row};
 use crate::read::read_row;
-use crate::rows::{BadRecord, Record, Row};
+use crate::rows::{BadRecord, Row};
 use crate::tree::{Place, grow};
 use crate::write::owned;
 use afp_base::OutOfMemory;
+use record_keeper::Record;
 use std::alloc::Global;
 use std::collections::BTreeSet;
 

@@ -4,10 +4,11 @@ ghost use Rattle.volume_records.specs.Shape.{head_in, node_in, block_in, comment
 
 use crate::limits::{BLOCK, COMMENT, HEAD, ICON, NODE};
 use crate::numbers::{byte_at, date_at, four_at, long_at, quad_at, word_at};
-use crate::rows::{Appl, Comment, ForkBlock, Head, Icon, Node, Record, Row};
+use crate::rows::{Appl, Comment, ForkBlock, Head, Icon, Node, Row};
 use crate::shape::is_formed;
 use crate::write::{owned, record_of};
 use afp_base::OutOfMemory;
+use record_keeper::Record;
 use std::alloc::Global;
 
 /// Where a node's value has the Finder info, and where that ends.

@@ -2,13 +2,6 @@
 use afp_base::Bytes;
 use std::marker::Model;
 
-/// A key of a keeper and its value.
-#[derive(Drop)]
-pub struct Record {
-    pub key: Bytes,
-    pub value: Bytes,
-}
-
 /// A volume's dates, in seconds from 2000-01-01 00:00 GMT, and the next id that it draws (17 to 2^32, where the ids have ended).
 #[derive(Drop)]
 pub struct Head {

@@ -3,8 +3,9 @@ ghost use Rattle.std.specs.Prelude.{◌≡◌, ◌∷◌, ◌++◌, [], IfOk, On
 ghost use Rattle.volume_records.specs.Records.{head_record as the_head, node_record as the_node, block_record as the_block, comment_record as the_comment, icon_record as the_icon, appl_record as the_appl, record_of as the_record, flag_byte, word_bytes, long_bytes, quad_bytes, date_bytes, version, head_tag, node_tag, block_tag, comment_tag, icon_tag, appl_tag};
 
 use crate::limits::{APPL, BLOCK, COMMENT, HEAD, ICON, NODE, VERSION};
-use crate::rows::{Appl, Comment, ForkBlock, Head, Icon, Node, Record, Row};
+use crate::rows::{Appl, Comment, ForkBlock, Head, Icon, Node, Row};
 use afp_base::{Bytes, OutOfMemory};
+use record_keeper::{Record, RecordKey};
 use std::alloc::Global;
 
 fn flag(set: bool) -> u8
@@ -64,6 +65,7 @@ pub fn head_record(alloc: Global, head: &Head) -> Result<Record, OutOfMemory>
     put_date(&mut value, head.modified)?;
     put_date(&mut value, head.backup)?;
     put_quad(&mut value, head.next_id)?;
+    let key = RecordKey::new(key);
     Ok(Record { key, value })
 }
 
@@ -102,6 +104,7 @@ pub fn node_record(alloc: Global, node: &Node) -> Result<Record, OutOfMemory>
     value.extend(node.finder.as_slice())?;
     let behind = behind_of(alloc, node)?;
     value.extend(behind.as_slice())?;
+    let key = RecordKey::new(key);
     Ok(Record { key, value })
 }
 
@@ -115,6 +118,7 @@ pub fn block_record(alloc: Global, block: &ForkBlock) -> Result<Record, OutOfMem
     put_byte(&mut key, flag(block.is_resource))?;
     put_long(&mut key, block.index)?;
     let value = block.bytes.copy()?;
+    let key = RecordKey::new(key);
     Ok(Record { key, value })
 }
 
@@ -126,6 +130,7 @@ pub fn comment_record(alloc: Global, comment: &Comment) -> Result<Record, OutOfM
     let mut key = owned(alloc, &[COMMENT])?;
     put_long(&mut key, comment.node)?;
     let value = comment.text.copy()?;
+    let key = RecordKey::new(key);
     Ok(Record { key, value })
 }
 
@@ -141,6 +146,7 @@ pub fn icon_record(alloc: Global, icon: &Icon) -> Result<Record, OutOfMemory>
     let mut value = Bytes::new(alloc);
     put_long(&mut value, icon.tag)?;
     value.extend(icon.bits.as_slice())?;
+    let key = RecordKey::new(key);
     Ok(Record { key, value })
 }
 
@@ -154,6 +160,7 @@ pub fn appl_record(alloc: Global, appl: &Appl) -> Result<Record, OutOfMemory>
     put_long(&mut key, appl.node)?;
     let mut value = Bytes::new(alloc);
     put_long(&mut value, appl.tag)?;
+    let key = RecordKey::new(key);
     Ok(Record { key, value })
 }
 
