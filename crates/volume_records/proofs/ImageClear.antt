@@ -15,24 +15,21 @@ use Rattle.volume_records.specs.declared.rows.Node.{Node}
 use Rattle.volume_records.specs.declared.rows.ForkBlock.{ForkBlock}
 use Rattle.volume_records.specs.declared.rows.Row.{Row}
 use Rattle.volume_records.specs.declared.rows.Row.TheVariants as row
-use Rattle.volume_records.specs.Records.{record_of}
-use Rattle.volume_records.specs.Shape.{is_formed, is_formed_node, is_formed_block, is_formed_comment, is_formed_appl}
+use Rattle.volume_records.specs.Shape.{is_formed, is_formed_node, is_formed_block}
 use Rattle.volume_records.specs.Image.{Tables, rows_of, tables_of, node_of, block_of, fork_blocks}
-use Rattle.volume_records.specs.KeyOrder.{Rises}
 use Rattle.volume_records.specs.FirstBad.{fork_length, is_outside, most_records}
 use Rattle.volume_records.proofs.TestParts.{left_true, right_true, both_true, cases, le_of, lt_false, same_of, all-more, all-both, all-map, all-append, any-map, any-none, always}
 use Rattle.volume_records.proofs.Chains.{chain-map, filter-most}
 use Rattle.volume_records.proofs.Counts.{no_more, sum_each, length-flat}
-use Rattle.volume_records.proofs.RowKinds.{tag_of}
-use Rattle.volume_records.proofs.RowOrder.{rows_both, nodes_up, comments_up, icons_up, appls_up, blocks_up, is_fit_block, is_fit_appl}
 use Rattle.volume_records.proofs.Whole.{IsWhole, is_clear}
-use Rattle.volume_records.proofs.Facts.{EachKind, all_kinds, free_clear, fit_block, fit_appl}
+use Rattle.volume_records.proofs.Facts.{EachKind, all_kinds, free_clear}
 use Rattle.volume_records.proofs.ForkParts.{ForkLaw, volume_of}
 use Rattle.volume_records.proofs.VolumeTables.{reaches_past}
 use Rattle.volume_records.proofs.VolumeSound.{length-map, alike, no_twins}
 use Rattle.volume_records.proofs.ReadBack.{node_parts}
 use Rattle.volume_records.proofs.SoundFacts.{SoundFacts, sound_facts, TypedFacts, typed_facts}
-use Rattle.volume_records.proofs.ImageBlocks.{is_whole_block, whole_blocks, one_formed, all_chain, all-pass, owns_from, rows_again, few_of_row}
+use Rattle.volume_records.proofs.ImageBlocks.{is_whole_block, whole_blocks, one_formed, all-pass, owns_from, rows_again, few_of_row}
+use Rattle.volume_records.proofs.ImageRises.{image_rises}
 use Rattle.volume_records.proofs.ImageWhole.{is_good_row, is_known_row, same_forks, fork_of, node_formed, nodes_same, files_same, node_placed, node_inside, node_few, no_twins_apart, apart_nodes, one_row, each_there}
 
 -- ---- each row is known
@@ -199,35 +196,7 @@ rows_clear v s t law =
           (λ c e. free_clear (tables_of v) (row.Appl c) (record { placed = ap not (files_same v.rows c.node ∙ e); lone = refl; inside = refl; few = few_to (λ (o : Appl). not (stands_before (appl_key c) (appl_key o))) v.appls most_appls s.few_appls })) s.filed;
     }
 
--- ---- their order
-
-tags_at_most : {A : Type 0} (make : A → Row) (k : ℕ) → ((a : A) → nat_le (tag_of (make a)) k ≡ true) → (xs : List A) → list_all (λ x. nat_le (tag_of x) k) (map make xs) ≡ true
-tags_at_most make k h xs = all-map (λ x. nat_le (tag_of x) k) make xs ∙ all-pass (λ a. nat_le (tag_of (make a)) k) h xs
-
-tags_over : {A : Type 0} (make : A → Row) (k : ℕ) → ((a : A) → nat_lt k (tag_of (make a)) ≡ true) → (xs : List A) → list_all (λ x. nat_lt k (tag_of x)) (map make xs) ≡ true
-tags_over make k h xs = all-map (λ x. nat_lt k (tag_of x)) make xs ∙ all-pass (λ a. nat_lt k (tag_of (make a))) h xs
-
-pub rows_rise : (t : Tables) → Rises (map record_of (map (λ x. row.Node x) t.nodes)) → Rises (map record_of (map (λ x. row.Block x) t.blocks)) → Rises (map record_of (map (λ x. row.Comment x) t.comments))
-    → Rises (map record_of (map (λ x. row.Icon x) t.icons)) → Rises (map record_of (map (λ x. row.Appl x) t.appls)) → Rises (map record_of (rows_of t))
-rows_rise t n b c i a =
-    let appls : List Row = map (λ x. row.Appl x) t.appls in
-    let icons : List Row = map (λ x. row.Icon x) t.icons in
-    let comments : List Row = map (λ x. row.Comment x) t.comments in
-    let blocks : List Row = map (λ x. row.Block x) t.blocks in
-    let nodes : List Row = map (λ x. row.Node x) t.nodes in
-    let over : (k : ℕ) (xs ys : List Row) → list_all (λ x. nat_lt k (tag_of x)) xs ≡ true → list_all (λ x. nat_lt k (tag_of x)) ys ≡ true → list_all (λ x. nat_lt k (tag_of x)) (xs ++ ys) ≡ true = λ k xs ys p q. all-append (λ x. nat_lt k (tag_of x)) xs ys p q in
-    let four = rows_both 4 icons appls (tags_at_most (λ x. row.Icon x) 4 (λ x. refl) t.icons) (tags_over (λ x. row.Appl x) 4 (λ x. refl) t.appls) i a in
-    let three = rows_both 3 comments (icons ++ appls) (tags_at_most (λ x. row.Comment x) 3 (λ x. refl) t.comments) (over 3 icons appls (tags_over (λ x. row.Icon x) 3 (λ x. refl) t.icons) (tags_over (λ x. row.Appl x) 3 (λ x. refl) t.appls)) c four in
-    let two = rows_both 2 blocks (comments ++ (icons ++ appls)) (tags_at_most (λ x. row.Block x) 2 (λ x. refl) t.blocks)
-    (over 2 comments (icons ++ appls) (tags_over (λ x. row.Comment x) 2 (λ x. refl) t.comments) (over 2 icons appls (tags_over (λ x. row.Icon x) 2 (λ x. refl) t.icons) (tags_over (λ x. row.Appl x) 2 (λ x. refl) t.appls))) b three in
-    let one = rows_both 1 nodes (blocks ++ (comments ++ (icons ++ appls))) (tags_at_most (λ x. row.Node x) 1 (λ x. refl) t.nodes)
-    (over 1 blocks (comments ++ (icons ++ appls)) (tags_over (λ x. row.Block x) 1 (λ x. refl) t.blocks)
-    (over 1 comments (icons ++ appls) (tags_over (λ x. row.Comment x) 1 (λ x. refl) t.comments) (over 1 icons appls (tags_over (λ x. row.Icon x) 1 (λ x. refl) t.icons) (tags_over (λ x. row.Appl x) 1 (λ x. refl) t.appls)))) n two in
-    rows_both 0 (row.Head t.head ∷ []) (nodes ++ (blocks ++ (comments ++ (icons ++ appls)))) refl
-    (over 0 nodes (blocks ++ (comments ++ (icons ++ appls))) (tags_over (λ x. row.Node x) 0 (λ x. refl) t.nodes)
-    (over 0 blocks (comments ++ (icons ++ appls)) (tags_over (λ x. row.Block x) 0 (λ x. refl) t.blocks)
-    (over 0 comments (icons ++ appls) (tags_over (λ x. row.Comment x) 0 (λ x. refl) t.comments) (over 0 icons appls (tags_over (λ x. row.Icon x) 0 (λ x. refl) t.icons) (tags_over (λ x. row.Appl x) 0 (λ x. refl) t.appls)))))
-    (tt, tt) one
+-- ---- the whole
 
 pub image_whole : ForkLaw → (v : VolumeState) → IsSoundVolume v → is_typed_volume v ≡ true → IsWhole v.name (tables_of v)
 image_whole law v sound typed =
@@ -237,12 +206,7 @@ image_whole law v sound typed =
     record {
       formed = all_kinds (is_formed v.name) (tables_of v) formed;
       clear = all_kinds (is_clear (tables_of v)) (tables_of v) (rows_clear v s t law);
-      rises = rows_rise (tables_of v)
-          (nodes_up (map node_of v.rows) (all-more (is_formed_node v.name) (λ n. is_long n.id) (map node_of v.rows) (λ n f. (node_parts v.name n f).id) formed.nodes) (chain-map (λ (a : Node) b. nat_lt a.id b.id) node_of v.rows s.ids))
-          (blocks_up (flat_map fork_blocks v.rows) (all-more is_formed_block is_fit_block (flat_map fork_blocks v.rows) fit_block formed.blocks) (all_chain law v.rows s.ids))
-          (comments_up v.comments (all-more is_formed_comment (λ c. is_long c.node) v.comments (λ c f. left_true (is_long c.node) (are_bytes c.text) (left_true (is_typed_comment c) (is_comment c) f)) formed.comments) s.comment_order)
-          (icons_up v.icons s.icon_order)
-          (appls_up v.appls (all-more is_formed_appl is_fit_appl v.appls fit_appl formed.appls) s.appl_order);
+      rises = image_rises law v sound;
       root = nodes_same v.rows root_id ∙ s.root;
     }
 

@@ -8,6 +8,7 @@ use Rattle.std.specs.Ordering.{nat_cmp, is_lt}
 use Rattle.std.specs.declared.cmp.Ordering.{Ordering}
 use Rattle.std.specs.declared.cmp.Ordering.TheVariants.{Less, Equal, Greater}
 use Rattle.afp_volume.specs.VolumeState.{VolumeState}
+use Rattle.afp_volume.specs.SoundVolume.{IsSoundVolume}
 use Rattle.record_keeper.specs.declared.record.Record.{Record}
 use Rattle.volume_records.specs.Records.{record_of}
 use Rattle.volume_records.specs.Image.{Tables, Records, rows_of, tables_of, tables_in, image, kept_image, records_in, entries_of}
@@ -20,6 +21,7 @@ use Rattle.volume_records.proofs.ForkParts.{ForkLaw, volume_of}
 use Rattle.volume_records.proofs.VolumeTables.{tables_again, volume_typed}
 use Rattle.volume_records.proofs.VolumeSound.{volume_sound}
 use Rattle.volume_records.proofs.ImageClear.{image_whole, image_few, volume_again}
+use Rattle.volume_records.proofs.ImageRises.{image_rises}
 
 -- where there are more records than so many, one stands behind them
 none_over : (k : ℕ) (rs : List Record) → k < length rs → too_many (drop k rs) ≡ None → ⊥
@@ -31,8 +33,8 @@ module _ (law : ForkLaw) where
   whole_of : (name : List ℕ) (v : VolumeState) → IsVolume name v → IsWhole name (tables_of v)
   whole_of name v i = subst (λ n. IsWhole n (tables_of v)) i.named (image_whole law v i.sound i.typed)
 
-  pub images_rise : (name : List ℕ) (v : VolumeState) → IsVolume name v → Rises (image v)
-  images_rise name v i = (whole_of name v i).rises
+  pub images_rise : (v : VolumeState) → IsSoundVolume v → Rises (image v)
+  images_rise = image_rises law
 
   pub images_good : (name : List ℕ) (v : VolumeState) → IsVolume name v → first_bad_record name (image v) ≡ None
   images_good name v i = whole_good name (tables_of v) (whole_of name v i) (image_few law v i.sound)
@@ -111,7 +113,7 @@ back_and_there (e ∷ es) = ap (λ (x : List (List ℕ × List ℕ)). e ∷ x) (
 
 module _ (law : ForkLaw) where
   image_entries : (name : List ℕ) (v : VolumeState) → IsVolume name v → entries (kept_image v) ≡ entries_of (image v)
-  image_entries name v i = entries-from_sorted (slice_cmp nat_cmp) (entries_of (image v)) (sorted_entries (image v) (images_rise law name v i))
+  image_entries name v i = entries-from_sorted (slice_cmp nat_cmp) (entries_of (image v)) (sorted_entries (image v) (images_rise law v i.sound))
 
   image_records : (name : List ℕ) (v : VolumeState) → IsVolume name v → records_in (kept_image v) ≡ image v
   image_records name v i = ap records_by (image_entries name v i) ∙ there_and_back (image v)

@@ -15,6 +15,7 @@ pub mod VolumeSound
 pub mod Counts
 pub mod SoundFacts
 pub mod ImageBlocks
+pub mod ImageRises
 pub mod ImageWhole
 pub mod ImageClear
 pub mod ImageLaw

@@ -1,5 +1,5 @@
 -- Records by rising key, in byte order; two keys always count as there (this profile).
-use Rattle.std.specs.Prelude.{◌≡◌, ℕ, Bool, bytes_eq, List, [], ◌∷◌}
+use Rattle.std.specs.Prelude.{ℕ, Bool, bytes_eq, List, [], ◌∷◌}
 use Rattle.std.specs.List.{list_any}
 use Rattle.std.specs.Cmp.Lexicographic.{slice_cmp}
 use Rattle.std.specs.Ordering.{nat_cmp, match_ordering}

@@ -28,10 +28,11 @@ pub record IsVolume (name : List ℕ) (v : VolumeState) : Type 0 where
   pub typed : is_typed_volume v ≡ true
   pub named : v.name ≡ name
 
--- a volume's records rise by key, and none of them is bad
+-- the records of a sound volume rise by key
 abbrev pub ImagesRise : Type 0
-ImagesRise = (name : List ℕ) (v : VolumeState) → IsVolume name v → Rises (image v)
+ImagesRise = (v : VolumeState) → IsSoundVolume v → Rises (image v)
 
+-- where its numbers are in their ranges too, none of them is bad
 abbrev pub ImagesAreGood : Type 0
 ImagesAreGood = (name : List ℕ) (v : VolumeState) → IsVolume name v → first_bad_record name (image v) ≡ None
 

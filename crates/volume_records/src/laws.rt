@@ -8,8 +8,8 @@ pub fn rows_are_read_back()
     ensures theirs { laws.ReadRowsAreTheirs }
 {}
 
-/// A volume's records rise by key and none of them is bad. Records by rising key that are not empty and of which none is bad are those of a
-/// volume of that name, and of one alone.
+/// The records of a sound volume rise by key, and none of them is bad where its numbers are in their ranges. Records by rising key that are not
+/// empty and of which none is bad are those of a volume of that name, and of one alone.
 pub fn records_are_images()
     ensures rising { laws.ImagesRise }
     ensures good { laws.ImagesAreGood }
