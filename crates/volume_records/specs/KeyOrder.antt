@@ -6,18 +6,16 @@ use Rattle.std.specs.Ordering.{nat_cmp, match_ordering}
 use Rattle.afp_volume.specs.VolumeState.{root_id}
 use Rattle.record_keeper.specs.declared.record.Record.{Record}
 pub use Rattle.record_keeper.specs.Reading.{IsBelow, Rises}
-use Rattle.volume_records.specs.Records.{head_tag, node_tag, long_bytes}
+use Rattle.volume_records.specs.Records.{node_key}
+pub use Rattle.volume_records.specs.Records.{head_key}
 
 -- whether a key is among those of some records
 abbrev pub has_key : List ℕ → List Record → Bool
 has_key key records = list_any (λ r. bytes_eq r.key key) records
 
--- the keys of the volume's head and of its root
-abbrev pub head_key : List ℕ
-head_key = head_tag ∷ []
-
+-- the key of the root
 abbrev pub root_key : List ℕ
-root_key = node_tag ∷ long_bytes root_id
+root_key = node_key root_id
 
 -- the records, and one of that key with an empty value where it is missing
 abbrev pub with_key : List ℕ → List Record → List Record

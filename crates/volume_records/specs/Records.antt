@@ -50,17 +50,33 @@ date_bytes date = long_bytes (cast_unsigned w32 date)
 abbrev pub flag_byte : Bool → ℕ
 flag_byte set = if set then 1 else 0
 
+-- The keys: the head's; a node's, by its id; a block's, by its node, fork and index; a comment's, by its node; an APPL mapping's, by its creator and node.
+abbrev pub head_key : List ℕ
+head_key = head_tag ∷ []
+
+abbrev pub node_key : ℕ → List ℕ
+node_key id = node_tag ∷ long_bytes id
+
+abbrev pub block_key : ℕ → Bool → ℕ → List ℕ
+block_key node is_resource index = block_tag ∷ (long_bytes node ++ (flag_byte is_resource ∷ long_bytes index))
+
+abbrev pub comment_key : ℕ → List ℕ
+comment_key node = comment_tag ∷ long_bytes node
+
+abbrev pub appl_key : List ℕ → ℕ → List ℕ
+appl_key creator node = appl_tag ∷ (creator ++ long_bytes node)
+
 -- the volume's head: the version, the volume's dates, the next id
 unfoldable pub head_record : Head → Record
 head_record head = record {
-  key = head_tag ∷ [];
+  key = head_key;
   value = word_bytes version ++ (date_bytes head.created ++ (date_bytes head.modified ++ (date_bytes head.backup ++ quad_bytes head.next_id)));
 }
 
 -- a node: its kind (0 a file, 1 a directory), parent, attributes, dates, Finder info, whether it is filed, the lengths of its forks, its name
 unfoldable pub node_record : Node → Record
 node_record node = record {
-  key = node_tag ∷ long_bytes node.id;
+  key = node_key node.id;
   value = flag_byte node.is_directory
       ∷ (long_bytes node.parent
       ++ (word_bytes node.attributes
@@ -77,14 +93,14 @@ node_record node = record {
 -- a block of a fork (0 the data fork, 1 the resource fork): its bytes without the zeros at their end
 unfoldable pub block_record : ForkBlock → Record
 block_record block = record {
-  key = block_tag ∷ (long_bytes block.node ++ (flag_byte block.is_resource ∷ long_bytes block.index));
+  key = block_key block.node block.is_resource block.index;
   value = block.bytes;
 }
 
 -- the comment of a node
 unfoldable pub comment_record : Comment → Record
 comment_record comment = record {
-  key = comment_tag ∷ long_bytes comment.node;
+  key = comment_key comment.node;
   value = comment.text;
 }
 
@@ -98,7 +114,7 @@ icon_record icon = record {
 -- an APPL mapping of a creator and a file: its tag
 unfoldable pub appl_record : Appl → Record
 appl_record appl = record {
-  key = appl_tag ∷ (appl.creator ++ long_bytes appl.node);
+  key = appl_key appl.creator appl.node;
   value = long_bytes appl.tag;
 }
 

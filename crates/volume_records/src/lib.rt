@@ -18,5 +18,6 @@ pub use load::{Loaded, MOST_RECORDS, load_records};
 pub use read::read_row;
 pub use rows::{Appl, BadRecord, Comment, ForkBlock, Head, Icon, Node, Reason, Row};
 pub use write::{
-    appl_record, block_record, comment_record, head_record, icon_record, node_record, record_of,
+    appl_key, appl_record, block_key, block_record, comment_key, comment_record, head_record,
+    icon_record, node_key, node_record, record_of,
 };

@@ -1,6 +1,6 @@
 //! The record of a row.
 ghost use Rattle.std.specs.Prelude.{◌≡◌, ◌∷◌, ◌++◌, [], IfOk, OnOk};
-ghost use Rattle.volume_records.specs.Records.{head_record as the_head, node_record as the_node, block_record as the_block, comment_record as the_comment, icon_record as the_icon, appl_record as the_appl, record_of as the_record, flag_byte, word_bytes, long_bytes, quad_bytes, date_bytes, version, head_tag, node_tag, block_tag, comment_tag, icon_tag, appl_tag};
+ghost use Rattle.volume_records.specs.Records.{head_record as the_head, node_record as the_node, block_record as the_block, comment_record as the_comment, icon_record as the_icon, appl_record as the_appl, node_key as the_node_key, block_key as the_block_key, comment_key as the_comment_key, appl_key as the_appl_key, record_of as the_record, flag_byte, word_bytes, long_bytes, quad_bytes, date_bytes, version, head_tag, node_tag, block_tag, comment_tag, icon_tag, appl_tag};
 
 use crate::limits::{APPL, BLOCK, COMMENT, HEAD, ICON, NODE, VERSION};
 use crate::rows::{Appl, Comment, ForkBlock, Head, Icon, Node, Row};
@@ -53,6 +53,50 @@ fn put_date(bytes: &mut Bytes, date: i32) -> Result<(), OutOfMemory>
     put_long(bytes, date.cast_unsigned())
 }
 
+/// The key of a node's record.
+pub fn node_key(alloc: Global, id: u32) -> Result<RecordKey, OutOfMemory>
+    ensures { IfOk result (λ key. key ≡ the_node_key id) }
+{
+    let mut key = owned(alloc, &[NODE])?;
+    put_long(&mut key, id)?;
+    Ok(RecordKey::new(key))
+}
+
+/// The key of the record of a block of a node's fork, by its index in blocks.
+pub fn block_key(
+    alloc: Global,
+    node: u32,
+    is_resource: bool,
+    index: u32,
+) -> Result<RecordKey, OutOfMemory>
+    ensures { IfOk result (λ key. key ≡ the_block_key node is_resource index) }
+{
+    let mut key = owned(alloc, &[BLOCK])?;
+    put_long(&mut key, node)?;
+    put_byte(&mut key, flag(is_resource))?;
+    put_long(&mut key, index)?;
+    Ok(RecordKey::new(key))
+}
+
+/// The key of the record of a node's comment.
+pub fn comment_key(alloc: Global, node: u32) -> Result<RecordKey, OutOfMemory>
+    ensures { IfOk result (λ key. key ≡ the_comment_key node) }
+{
+    let mut key = owned(alloc, &[COMMENT])?;
+    put_long(&mut key, node)?;
+    Ok(RecordKey::new(key))
+}
+
+/// The key of the record of the APPL mapping of a creator and a file.
+pub fn appl_key(alloc: Global, creator: &[u8; 4], node: u32) -> Result<RecordKey, OutOfMemory>
+    ensures { IfOk result (λ key. key ≡ the_appl_key creator.now node) }
+{
+    let mut key = owned(alloc, &[APPL])?;
+    key.extend(creator.as_slice())?;
+    put_long(&mut key, node)?;
+    Ok(RecordKey::new(key))
+}
+
 /// The record of a volume's head.
 #[tactic(auto, unfolding(crate::specs::Records::head_record))]
 pub fn head_record(alloc: Global, head: &Head) -> Result<Record, OutOfMemory>
@@ -98,13 +142,11 @@ fn behind_of(alloc: Global, node: &Node) -> Result<Bytes, OutOfMemory>
 pub fn node_record(alloc: Global, node: &Node) -> Result<Record, OutOfMemory>
     ensures { IfOk result (λ r. r ≡ the_node node.now) }
 {
-    let mut key = owned(alloc, &[NODE])?;
-    put_long(&mut key, node.id)?;
+    let key = node_key(alloc, node.id)?;
     let mut value = front_of(alloc, node)?;
     value.extend(node.finder.as_slice())?;
     let behind = behind_of(alloc, node)?;
     value.extend(behind.as_slice())?;
-    let key = RecordKey::new(key);
     Ok(Record { key, value })
 }
 
@@ -113,12 +155,8 @@ pub fn node_record(alloc: Global, node: &Node) -> Result<Record, OutOfMemory>
 pub fn block_record(alloc: Global, block: &ForkBlock) -> Result<Record, OutOfMemory>
     ensures { IfOk result (λ r. r ≡ the_block block.now) }
 {
-    let mut key = owned(alloc, &[BLOCK])?;
-    put_long(&mut key, block.node)?;
-    put_byte(&mut key, flag(block.is_resource))?;
-    put_long(&mut key, block.index)?;
+    let key = block_key(alloc, block.node, block.is_resource, block.index)?;
     let value = block.bytes.copy()?;
-    let key = RecordKey::new(key);
     Ok(Record { key, value })
 }
 
@@ -127,10 +165,8 @@ pub fn block_record(alloc: Global, block: &ForkBlock) -> Result<Record, OutOfMem
 pub fn comment_record(alloc: Global, comment: &Comment) -> Result<Record, OutOfMemory>
     ensures { IfOk result (λ r. r ≡ the_comment comment.now) }
 {
-    let mut key = owned(alloc, &[COMMENT])?;
-    put_long(&mut key, comment.node)?;
+    let key = comment_key(alloc, comment.node)?;
     let value = comment.text.copy()?;
-    let key = RecordKey::new(key);
     Ok(Record { key, value })
 }
 
@@ -155,12 +191,9 @@ pub fn icon_record(alloc: Global, icon: &Icon) -> Result<Record, OutOfMemory>
 pub fn appl_record(alloc: Global, appl: &Appl) -> Result<Record, OutOfMemory>
     ensures { IfOk result (λ r. r ≡ the_appl appl.now) }
 {
-    let mut key = owned(alloc, &[APPL])?;
-    key.extend(appl.creator.as_slice())?;
-    put_long(&mut key, appl.node)?;
+    let key = appl_key(alloc, &appl.creator, appl.node)?;
     let mut value = Bytes::new(alloc);
     put_long(&mut value, appl.tag)?;
-    let key = RecordKey::new(key);
     Ok(Record { key, value })
 }
 
