@@ -88,3 +88,12 @@ impl Model for Plan {
 
     ghost view = { λ a. record { moment = a.moment; gone = a.gone; come = a.come; moved = a.moved; set = a.set; backup = a.backup; dated = a.dated; dated_too = a.dated_too } };
 }
+
+impl Plan {
+    /// The node that goes, if one does.
+    pub fn gone(&self) -> Option<NodeId>
+        ensures { result ≡ self.now.gone }
+    {
+        self.gone
+    }
+}
