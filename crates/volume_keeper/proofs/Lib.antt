@@ -1,0 +1,6 @@
+pub mod LookUps
+pub mod PlanSteps
+pub mod GoneRecords
+pub mod TouchedOrder
+pub mod KeptRecords
+pub mod Changing

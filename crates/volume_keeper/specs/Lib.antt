@@ -1,0 +1,4 @@
+pub mod Changes
+pub mod Whole
+pub mod Steps
+pub mod Laws

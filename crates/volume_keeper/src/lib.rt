@@ -1,0 +1,10 @@
+//! A volume held by a keeper of records: what a plan changes in the records.
+#![tactic(auto)]
+
+mod changes;
+mod gone;
+mod held;
+pub mod laws;
+
+pub use changes::tree_changes;
+pub use held::Held;
