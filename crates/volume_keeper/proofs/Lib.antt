@@ -4,3 +4,4 @@ pub mod GoneRecords
 pub mod TouchedOrder
 pub mod KeptRecords
 pub mod Changing
+pub mod TreePlans

@@ -1,12 +1,26 @@
 -- The laws of a volume's records in a keeper, in the subject's own words (this profile).
-use Rattle.std.specs.Prelude.{◌≡◌}
-use Rattle.afp_volume.specs.VolumeState.{VolumeState}
+use Rattle.std.specs.Prelude.{◌≡◌, List}
+use Rattle.afp_volume.specs.VolumeState.{Comment, Icon, Appl, VolumeState}
 use Rattle.afp_volume.specs.SoundVolume.{IsSoundVolume}
+use Rattle.afp_volume.specs.DesktopLaws.{with_desktop}
 use Rattle.record_keeper.specs.Records.{changed}
 use Rattle.volume_records.specs.Image.{kept_image}
-use Rattle.volume_tree.specs.Planned.{PlanState, IsPlan, planned}
+use Rattle.volume_tree.specs.Planned.{PlanState, IsPlan, planned, gone_comments, gone_appls}
 use Rattle.volume_keeper.specs.Changes.{tree_changes_of}
+use Rattle.volume_keeper.specs.Whole.{without_desktop}
 
 -- the records of a volume, with the changes of a plan of it, are those of the volume as the plan leaves it
 abbrev pub PlansChangeRecords : Type 0
 PlansChangeRecords = (v : VolumeState) (p : PlanState) → IsSoundVolume v → IsPlan v p → changed (tree_changes_of v p) (kept_image v) ≡ kept_image (planned p v)
+
+-- a plan of a volume's tree is a plan of the volume with its desktop database; what the plan leaves of that is the tree that it leaves, with what is left
+-- of the desktop database
+abbrev pub PlansOfTrees : Type 0
+PlansOfTrees = (tree : VolumeState) (comments : List Comment) (icons : List Icon) (appls : List Appl) (p : PlanState) → IsSoundVolume (with_desktop tree comments icons appls) → IsPlan tree p → IsPlan (with_desktop tree comments icons appls) p
+
+abbrev pub PlannedWhole : Type 0
+PlannedWhole = (tree : VolumeState) (comments : List Comment) (icons : List Icon) (appls : List Appl) (p : PlanState) → planned p (with_desktop tree comments icons appls) ≡ with_desktop (planned p tree) (gone_comments p.gone comments) icons (gone_appls p.gone appls)
+
+-- the tree of a sound volume is sound
+abbrev pub TreesAreSound : Type 0
+TreesAreSound = (v : VolumeState) → IsSoundVolume v → IsSoundVolume (without_desktop v)

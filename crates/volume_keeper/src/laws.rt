@@ -7,3 +7,14 @@ pub fn plans_change_records()
 {
     volume_records::laws::records_are_images();
 }
+
+/// A plan of a volume's tree is a plan of the volume with its desktop database: what stands on the node that goes, goes with it. The tree of
+/// a sound volume is sound.
+pub fn plans_of_trees_are_plans()
+    ensures plans { laws.PlansOfTrees }
+    ensures planned { laws.PlannedWhole }
+    ensures trees { laws.TreesAreSound }
+{
+    afp_volume::desktop_laws::calls_keep_desktops();
+    afp_volume::desktop_laws::desktops_keep_volumes_sound();
+}
