@@ -1,6 +1,7 @@
 -- The plans of FPRename and FPMoveAndRename.
 use Rattle.std.proofs.Common.{◌≡◌, ◌∙◌, ap, sym, subst, refl, ℕ, true, false, List, [], Option, Some, None}
-use Rattle.std.specs.Prelude.{Ok, option_map, unwrap_or}
+use Rattle.std.specs.Prelude.{Ok, option_map, unwrap_or, ◌==◌}
+use Rattle.afp_base.specs.Apart.{are_apart}
 use Rattle.afp_base.specs.declared.ids.NodeId.{NodeId}
 use Rattle.afp_names.specs.Path.{PathValue}
 use Rattle.afp_volume.proofs.SoundEdits.{changed-same}
@@ -16,14 +17,14 @@ use Rattle.volume_tree.proofs.Showing.{ids-differ}
 use Rattle.volume_tree.specs.Planned.{IsPlan, planned, plan_place}
 
 -- another name in its directory is the same place with another name
-renamed-is : (v : VolumeState) (id : ℕ) (name : List ℕ) → IsSoundVolume v → has_node v.rows id ≡ true → with_changed id (at_place (directory_of v.rows id) name) v.rows ≡ with_changed id (named name) v.rows
+renamed-is : (v : VolumeState) (id : ℕ) (name : List ℕ) → are_apart (λ (a b : Row). a.id == b.id) v.rows ≡ true → has_node v.rows id ≡ true → with_changed id (at_place (directory_of v.rows id) name) v.rows ≡ with_changed id (named name) v.rows
 unfolding with_changed row_at parent_at
 renamed-is v id name s there =
     let r = row-there v.rows id there in
     let parent : directory_of v.rows id ≡ r.0.parent = ap (λ (o : Option Row). unwrap_or (option_map (λ (row : Row). row.parent) o) 1) r.1 in
-    changed-same v.rows id (at_place (directory_of v.rows id) name) (named name) r.0 (ids-differ v s) r.1 (ap (λ p. at_place p name r.0) parent)
+    changed-same v.rows id (at_place (directory_of v.rows id) name) (named name) r.0 s r.1 (ap (λ p. at_place p name r.0) parent)
 
-pub rename-planned : (v : VolumeState) (now dir : ℕ) (path new : PathValue) (id parent : NodeId) (name : List ℕ) → IsSoundVolume v → has_node v.rows id.0 ≡ true → found v.rows dir path ≡ Ok id.0 → one_down new.steps ≡ Ok name → parent.0 ≡ directory_of v.rows id.0
+pub rename-planned : (v : VolumeState) (now dir : ℕ) (path new : PathValue) (id parent : NodeId) (name : List ℕ) → are_apart (λ (a b : Row). a.id == b.id) v.rows ≡ true → has_node v.rows id.0 ≡ true → found v.rows dir path ≡ Ok id.0 → one_down new.steps ≡ Ok name → parent.0 ≡ directory_of v.rows id.0
     → planned (plan_place now id parent name parent None) v ≡ rename_effect v now dir path new
 unfolding planned rename_effect
 rename-planned v now dir path new id parent name s there at_end name_is parent_is =
@@ -38,7 +39,7 @@ rename-plan v now dir path new id parent name s there at_end name_is parent_is f
   gone = tt;
   come = tt;
   moved = free;
-  sound = subst IsSoundVolume (sym (rename-planned v now dir path new id parent name s there at_end name_is parent_is)) sound;
+  sound = subst IsSoundVolume (sym (rename-planned v now dir path new id parent name (ids-differ v s) there at_end name_is parent_is)) sound;
 }
 
 pub move-planned : (v : VolumeState) (now dir : ℕ) (path : PathValue) (to_dir : ℕ) (to_path new : PathValue) (id target up : NodeId) (name : List ℕ) → found v.rows dir path ≡ Ok id.0 → found v.rows to_dir to_path ≡ Ok target.0

@@ -3,7 +3,8 @@ use Rattle.std.specs.Prelude.{◌≡◌, ℕ, ℤ, pos, unwrap_or, ◌+◌, ◌=
 use Rattle.std.specs.List.{filter}
 use Rattle.afp_base.specs.declared.ids.NodeId.{NodeId}
 use Rattle.afp_names.specs.Name.{name_key}
-use Rattle.afp_volume.specs.VolumeState.{Row, VolumeState, Comment, Appl}
+use Rattle.afp_volume.specs.DesktopLaws.{with_desktop}
+use Rattle.afp_volume.specs.VolumeState.{Row, VolumeState, Comment, Icon, Appl}
 use Rattle.afp_volume.specs.SoundVolume.{IsSoundVolume, has_node}
 use Rattle.afp_volume.specs.Walk.{child_by_key}
 use Rattle.afp_volume.specs.SetFileDirParms.{Settings, with_settings}
@@ -84,6 +85,11 @@ planned p v = record v {
   comments = gone_comments p.gone v.comments;
   appls = gone_appls p.gone v.appls;
 }
+
+-- what was planned is what a call does, whatever the volume's desktop database has
+abbrev pub Does : PlanState → VolumeState → (VolumeState → VolumeState) → Type 0
+Does p v does = (comments : List Comment) (icons : List Icon) (appls : List Appl)
+    → planned p (with_desktop v comments icons appls) ≡ does (with_desktop v comments icons appls)
 
 -- a row with the next id and no bytes, whose name is free in its directory
 pub record IsNew (rows : List Row) (next : ℕ) (row : Row) : Type 0 where

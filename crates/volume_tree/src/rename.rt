@@ -4,7 +4,7 @@ ghost use Rattle.afp_names.specs.Name.{name_key};
 ghost use Rattle.afp_volume.specs.Calls.{directory_of};
 ghost use Rattle.afp_volume.specs.Rename.{rename_refusal, rename_effect};
 ghost use Rattle.volume_tree.specs.Answered.{Refuses};
-ghost use Rattle.volume_tree.specs.Planned.{IsPlan, planned, plan_place};
+ghost use Rattle.volume_tree.specs.Planned.{Does, IsPlan, planned, plan_place};
 
 use crate::places::{only_name, steps_are_named};
 use crate::plan::{Mover, Plan};
@@ -69,6 +69,7 @@ impl Volume {
     ) -> Result<Plan, PlanFault>
         ensures refused { Refuses result (rename_refusal self.now.state dir.0 path.now new.now) }
         ensures effect { IfOk result (λ plan. planned plan self.now.state ≡ rename_effect self.now.state now dir.0 path.now new.now) }
+        ensures whole { IfOk result (λ plan. Does plan self.now.state (λ v. rename_effect v now dir.0 path.now new.now)) }
         ensures plan { IfOk result (λ plan. IsPlan self.now.state plan) }
     {
         calls_keep_volumes_sound();

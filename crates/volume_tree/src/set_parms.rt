@@ -5,7 +5,7 @@ ghost use Rattle.afp_volume.specs.SetFileDirParms.{settable_bits, settable_dir_b
 ghost use Rattle.afp_volume.specs.SoundVolume.{has_file};
 ghost use Rattle.afp_volume.specs.Walk.{found};
 ghost use Rattle.volume_tree.specs.Answered.{Refuses};
-ghost use Rattle.volume_tree.specs.Planned.{IsPlan, planned, plan_set};
+ghost use Rattle.volume_tree.specs.Planned.{Does, IsPlan, planned, plan_set};
 
 use crate::plan::{Plan, Setting};
 use crate::resolve::PlanFault;
@@ -58,6 +58,7 @@ impl Volume {
     ) -> Result<Plan, PlanFault>
         ensures refused { Refuses result (set_file_parms_refusal self.now.state dir.0 bits path.now tail.now) }
         ensures effect { IfOk result (λ plan. planned plan self.now.state ≡ set_parms_effect self.now.state now dir.0 bits path.now tail.now) }
+        ensures whole { IfOk result (λ plan. Does plan self.now.state (λ v. set_parms_effect v now dir.0 bits path.now tail.now)) }
         ensures plan { IfOk result (λ plan. IsPlan self.now.state plan) }
     {
         calls_keep_volumes_sound();
@@ -91,6 +92,7 @@ impl Volume {
     ) -> Result<Plan, PlanFault>
         ensures refused { Refuses result (set_dir_parms_refusal self.now.state dir.0 bits path.now tail.now) }
         ensures effect { IfOk result (λ plan. planned plan self.now.state ≡ set_parms_effect self.now.state now dir.0 bits path.now tail.now) }
+        ensures whole { IfOk result (λ plan. Does plan self.now.state (λ v. set_parms_effect v now dir.0 bits path.now tail.now)) }
         ensures plan { IfOk result (λ plan. IsPlan self.now.state plan) }
     {
         calls_keep_volumes_sound();
@@ -124,6 +126,7 @@ impl Volume {
     ) -> Result<Plan, PlanFault>
         ensures refused { Refuses result (set_file_dir_parms_refusal self.now.state dir.0 bits path.now tail.now) }
         ensures effect { IfOk result (λ plan. planned plan self.now.state ≡ set_parms_effect self.now.state now dir.0 bits path.now tail.now) }
+        ensures whole { IfOk result (λ plan. Does plan self.now.state (λ v. set_parms_effect v now dir.0 bits path.now tail.now)) }
         ensures plan { IfOk result (λ plan. IsPlan self.now.state plan) }
     {
         calls_keep_volumes_sound();

@@ -3,7 +3,7 @@ ghost use Rattle.std.specs.Prelude.{◌≡◌, ◌≤◌, length, Some, None, If
 ghost use Rattle.afp_volume.specs.Parms.{date_in};
 ghost use Rattle.afp_volume.specs.SetVolParms.{set_vol_parms_refusal, set_vol_parms_effect};
 ghost use Rattle.volume_tree.specs.Answered.{Refuses};
-ghost use Rattle.volume_tree.specs.Planned.{IsPlan, planned, plan_set};
+ghost use Rattle.volume_tree.specs.Planned.{Does, IsPlan, planned, plan_set};
 
 use crate::plan::Plan;
 use crate::resolve::PlanFault;
@@ -43,6 +43,7 @@ impl Volume {
     ) -> Result<Plan, PlanFault>
         ensures refused { Refuses result (set_vol_parms_refusal bits tail.now) }
         ensures effect { IfOk result (λ plan. planned plan self.now.state ≡ set_vol_parms_effect self.now.state now tail.now) }
+        ensures whole { IfOk result (λ plan. Does plan self.now.state (λ v. set_vol_parms_effect v now tail.now)) }
         ensures plan { IfOk result (λ plan. IsPlan self.now.state plan) }
     {
         calls_keep_volumes_sound();

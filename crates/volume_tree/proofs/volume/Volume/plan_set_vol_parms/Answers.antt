@@ -1,8 +1,12 @@
 use Rattle.volume_tree.proofs.Setting.{backup-planned, backup-plan}
 use Rattle.volume_tree.proofs.volume.Volume.plan_set_vol_parms.Goals as goal
+use Rattle.afp_volume.specs.DesktopLaws.{with_desktop}
 
 pub returns-clause-effect : goal.returns-clause-effect
 returns-clause-effect c = backup-planned c.args.self.now.state c.args.now c.args.tail.now c.plan_backup.result c.plan_backup.ensures
+
+pub returns-clause-whole : goal.returns-clause-whole
+returns-clause-whole c comments icons appls = backup-planned (with_desktop c.args.self.now.state comments icons appls) c.args.now c.args.tail.now c.plan_backup.result c.plan_backup.ensures
 
 pub returns-clause-plan : goal.returns-clause-plan
 returns-clause-plan c =
