@@ -70,7 +70,7 @@ filter-map dir (r ∷ rs) =
 one-parent : (p : ℕ) (k l : List ℕ) → stands_before (p ∷ k) (p ∷ l) ≡ stands_before k l
 one-parent p k l = let less : nat_lt p p ≡ false = le-ltb p p (omega arith) in let same : (p == p) ≡ true = eq-eqb p p refl in simp (less, same)
 
-siblings-are : (rows : List Row) (children : List Child) (next dir : ℕ) → AreKept rows children next → filter (is_of dir) children ≡ map child_of (listed rows dir)
+pub siblings-are : (rows : List Row) (children : List Child) (next dir : ℕ) → AreKept rows children next → filter (is_of dir) children ≡ map child_of (listed rows dir)
 unfolding listed in_directory
 siblings-are rows children next dir k =
     ap (λ l. filter (is_of dir) l) k.sorted

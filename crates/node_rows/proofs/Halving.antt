@@ -16,7 +16,7 @@ partition-place p (x ∷ xs) i within parts =
     sym (position_or_len_is (λ y. not (p y)) (x ∷ xs) i x within (λ k below. ap not (parts.0 k x (omega arith) below)) (λ inside. ap not (parts.1 i x (omega arith) inside)))
 
 -- an element that passes, if all do
-all-index : {A : Type 0} (p : A → Bool) (xs : List A) (j : ℕ) (d : A) → list_all p xs ≡ true → j < length xs → p (slice_index_or xs j d) ≡ true
+pub all-index : {A : Type 0} (p : A → Bool) (xs : List A) (j : ℕ) (d : A) → list_all p xs ≡ true → j < length xs → p (slice_index_or xs j d) ≡ true
 all-index p [] j d h inside = absurd (omega arith)
 all-index p (x ∷ xs) zero d h inside = (and_parts (p x) (list_all p xs) h).0
 all-index p (x ∷ xs) (suc j) d h inside = all-index p xs j d (and_parts (p x) (list_all p xs) h).1 (omega arith)

@@ -24,7 +24,7 @@ parent-before p q k = go (nat_lt p q) (p == q) refl refl k
     go false false a b k = simp (a, b)
 
 -- what stands before another has no higher parent
-parent-order : (p q : ℕ) (k l : List ℕ) → stands_before (p ∷ k) (q ∷ l) ≡ true → p ≤ q
+pub parent-order : (p q : ℕ) (k l : List ℕ) → stands_before (p ∷ k) (q ∷ l) ≡ true → p ≤ q
 parent-order p q k l h = go (nat_lt q p) refl
   where
     go : (less : Bool) → nat_lt q p ≡ less → p ≤ q
@@ -36,7 +36,7 @@ parent-order p q k l h = go (nat_lt q p) refl
         cc
     go false a = ltb-false q p a
 
-filter-none : {A : Type 0} (test : A → Bool) (l : List A) → list_all (λ x. not (test x)) l ≡ true → filter test l ≡ []
+pub filter-none : {A : Type 0} (test : A → Bool) (l : List A) → list_all (λ x. not (test x)) l ≡ true → filter test l ≡ []
 filter-none test [] h = refl
 filter-none test (x ∷ xs) h =
     let e = and_parts (not (test x)) (list_all (λ y. not (test y)) xs) h in

@@ -1,6 +1,6 @@
 -- What is kept of a volume's nodes (AFP Reference, "Catalog node IDs"; the form is this profile's).
-use Rattle.std.specs.Prelude.{◌≡◌, ℕ, ◌≤◌, ◌<◌, nat_lt, Bool, true, not, ◌&&◌, ◌==◌, bytes_eq, List, [], ◌∷◌, length, Option, Some, None, slice_get, if◌then◌else◌}
-use Rattle.std.specs.List.{list_all}
+use Rattle.std.specs.Prelude.{◌≡◌, ℕ, ◌≤◌, ◌<◌, nat_lt, Bool, true, not, ◌&&◌, ◌==◌, bytes_eq, List, [], ◌∷◌, length, ◌-◌, take, drop, Option, Some, None, slice_get, if◌then◌else◌}
+use Rattle.std.specs.List.{filter, list_all}
 use Rattle.afp_volume.specs.Order.{rises}
 use Rattle.afp_volume.specs.SoundVolume.{has_rising_ids, last_next_id}
 use Rattle.afp_volume.specs.VolumeState.{Row, first_id}
@@ -60,3 +60,9 @@ is_other id child = not (child.id.0 == id)
 -- whether a child has another parent or another key
 abbrev pub is_apart : Child → Child → Bool
 is_apart a b = not (bytes_eq (child_order a) (child_order b))
+
+-- the children of a parent stand from this place on, and end before that one
+pub record IsPart (children : List Child) (parent first behind : ℕ) : Type 0 where
+  pub order : first ≤ behind
+  pub within : behind ≤ length children
+  pub part : take (behind - first) (drop first children) ≡ filter (λ child. child.parent.0 == parent) children

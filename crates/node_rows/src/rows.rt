@@ -17,7 +17,7 @@ use crate::child::Child;
 use crate::edit::{put_at, put_child, put_node, set_marks, take_child};
 use crate::node::{Marks, Node};
 use crate::order::sort;
-use crate::search::{find_child, find_node, nth_child};
+use crate::search::{find_child, find_node, nth_child, siblings};
 use afp_base::{Bytes, NodeId, OutOfMemory};
 use afp_names::Name;
 use std::alloc::Global;
@@ -108,6 +108,13 @@ impl Rows {
         ensures { MatchOption result (slice_get (listed self.now.rows dir.0) i ≡ None) (λ id. option_map (λ (row : Row). row.id) (slice_get (listed self.now.rows dir.0) i) ≡ Some id.0) }
     {
         nth_child(self.children.as_slice(), dir, i)
+    }
+
+    /// The children of a directory in the order of its list, found by two halvings.
+    pub fn siblings(&self, dir: NodeId) -> &[Child]
+        ensures { result.now ≡ map child_of (listed self.now.rows dir.0) }
+    {
+        siblings(self.children.as_slice(), dir)
     }
 
     /// How many nodes there are.

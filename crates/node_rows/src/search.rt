@@ -5,7 +5,7 @@ ghost use Rattle.afp_volume.specs.Order.{stands_before, rises};
 ghost use Rattle.afp_base.specs.Apart.{are_apart};
 ghost use Rattle.afp_volume.specs.SoundVolume.{has_rising_ids};
 ghost use Rattle.node_rows.specs.Children.{child_order};
-ghost use Rattle.node_rows.specs.Kept.{IsPlaceOf, is_child, is_child_at, is_other};
+ghost use Rattle.node_rows.specs.Kept.{IsPart, IsPlaceOf, is_child, is_child_at, is_other};
 
 use crate::child::Child;
 use crate::node::Node;
@@ -99,6 +99,34 @@ pub(crate) fn nth_child(children: &[Child], parent: NodeId, i: usize) -> Option<
         return None;
     }
     Some(child.id)
+}
+
+/// The place of the first child whose parent is not below a number.
+fn parent_place(children: &[Child], bound: u64) -> usize
+    requires { rises child_order children.now ≡ true }
+    ensures place { result ≡ position_or_len (λ child. not (nat_lt child.parent.0 bound)) children.now }
+    ensures within { result ≤ length children.now }
+{
+    children.partition_point(|child| u64::from(child.parent.0) < bound)
+}
+
+/// The place of the first child of this parent, and the place behind the last one.
+fn sibling_places(children: &[Child], parent: NodeId) -> (usize, usize)
+    requires { rises child_order children.now ≡ true }
+    ensures { IsPart children.now parent.0 result.0 result.1 }
+{
+    let first = parent_place(children, u64::from(parent.0));
+    let behind = parent_place(children, u64::from(parent.0) + 1);
+    (first, behind)
+}
+
+/// The children of this parent, from the first to the last.
+pub(crate) fn siblings(children: &[Child], parent: NodeId) -> &[Child]
+    requires { rises child_order children.now ≡ true }
+    ensures { result.now ≡ filter (λ child. child.parent.0 == parent.0) children.now }
+{
+    let (first, behind) = sibling_places(children, parent);
+    &children[first..behind]
 }
 
 /// The place of this node's child. It takes no memory: it is found by halving where the name is of ASCII characters alone, and
