@@ -1,4 +1,5 @@
 pub mod Showing
+pub mod Siblings
 pub mod LongNames
 pub mod Steps
 pub mod UpSteps

@@ -5,6 +5,7 @@ mod after;
 mod apply;
 mod apply_fork;
 mod asked;
+mod children;
 mod create_dir;
 mod create_file;
 mod delete;

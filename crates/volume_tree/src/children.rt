@@ -1,0 +1,39 @@
+//! The children of directories, in the order of their lists.
+ghost use Rattle.std.specs.Prelude.{◌≡◌, length, map, option_copied, option_map, slice_get};
+ghost use Rattle.afp_volume.specs.Edits.{bare};
+ghost use Rattle.afp_volume.specs.Listing.{children, listed};
+ghost use Rattle.node_rows.specs.Children.{child_of};
+
+use crate::volume::Volume;
+use afp_base::NodeId;
+use node_rows::{Child, Node};
+
+impl Volume {
+    /// The children of a directory in the order of its list, each by its id and the key of its name. They are found by two
+    /// halvings.
+    pub fn siblings(&self, dir: NodeId) -> &[Child]
+        ensures { result.now ≡ map child_of (listed self.now.state.rows dir.0) }
+    {
+        self.rows.siblings(dir)
+    }
+
+    /// How many children a directory has. It costs two halvings.
+    pub fn child_count(&self, dir: NodeId) -> usize
+        ensures { result ≡ length (children self.now.state.rows dir.0) }
+    {
+        self.siblings(dir).len()
+    }
+
+    /// The child at a place of a directory's list, which counts from 0, without its forks.
+    pub fn nth_child(&self, dir: NodeId, i: usize) -> Option<&Node>
+        ensures { option_copied result ≡ option_map bare (slice_get (listed self.now.state.rows dir.0) i) }
+    {
+        self.keeps_sound();
+        let siblings = self.siblings(dir);
+        if i >= siblings.len() {
+            return None;
+        }
+        let child = &siblings[i];
+        self.node(child.id)
+    }
+}
