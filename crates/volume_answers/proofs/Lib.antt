@@ -1,0 +1,4 @@
+pub mod Fitting
+pub mod Limits
+pub mod Nodes
+pub mod NodeReplies

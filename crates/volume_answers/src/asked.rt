@@ -1,0 +1,54 @@
+//! Values whose bits are asked, and what stands for those that are not.
+ghost use Rattle.std.specs.Prelude.{◌≡◌, pos, nat_lt, replicate, true};
+ghost use Rattle.afp_bitmap.specs.Bits.{is_asked};
+ghost use Rattle.afp_volume.specs.Parms.{asked_or, is_outside};
+
+/// Whether a bit is set.
+pub(crate) fn is_asked(bits: u16, bit: u32) -> bool
+    requires { nat_lt bit 16 ≡ true }
+    ensures { result ≡ is_asked bits bit }
+{
+    bits >> bit & 1 == 1
+}
+
+pub(crate) fn short_or(bits: u16, bit: u32, value: u16) -> u16
+    requires { nat_lt bit 16 ≡ true }
+    ensures { result ≡ asked_or bits bit 0 value }
+{
+    if is_asked(bits, bit) { value } else { 0 }
+}
+
+pub(crate) fn long_or(bits: u16, bit: u32, value: u32) -> u32
+    requires { nat_lt bit 16 ≡ true }
+    ensures { result ≡ asked_or bits bit 0 value }
+{
+    if is_asked(bits, bit) { value } else { 0 }
+}
+
+pub(crate) fn wide_or(bits: u16, bit: u32, value: u64) -> u64
+    requires { nat_lt bit 16 ≡ true }
+    ensures { result ≡ asked_or bits bit 0 value }
+{
+    if is_asked(bits, bit) { value } else { 0 }
+}
+
+pub(crate) fn date_or(bits: u16, bit: u32, value: i32) -> i32
+    requires { nat_lt bit 16 ≡ true }
+    ensures { result ≡ asked_or bits bit (pos 0) value }
+{
+    if is_asked(bits, bit) { value } else { 0 }
+}
+
+pub(crate) fn finder_or(bits: u16, bit: u32, value: [u8; 32]) -> [u8; 32]
+    requires { nat_lt bit 16 ≡ true }
+    ensures { result ≡ asked_or bits bit (replicate 32 0) value }
+{
+    if is_asked(bits, bit) { value } else { [0; 32] }
+}
+
+/// Whether a bit outside the mask is set.
+pub(crate) fn is_outside(mask: u16, bits: u16) -> bool
+    ensures { result ≡ is_outside mask bits }
+{
+    bits & mask != bits
+}
