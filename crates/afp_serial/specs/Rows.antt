@@ -2,13 +2,23 @@
 use Rattle.std.specs.Prelude.{ℕ, Bool, true, false, [], ◌∷◌, Option}
 use Rattle.afp_base.specs.declared.code.Code.TheVariants.{CallNotSupported}
 use Rattle.afp_requests.specs.declared.call.Call.{Call}
-use Rattle.afp_requests.specs.declared.call.Call.TheVariants.{CloseVol, Login, Logout, OpenVol}
+use Rattle.afp_requests.specs.declared.call.Call.TheVariants.{CloseDir, CloseVol, CreateDir, CreateFile, Delete, Enumerate, EnumerateExt, EnumerateExt2, Flush, GetFileDirParms, GetVolParms, Login, Logout, MoveAndRename, OpenDir, OpenVol, Rename, SetDirParms, SetFileDirParms, SetFileParms, SetVolParms}
 use Rattle.afp_base.specs.Choice.{first_holding}
 use Rattle.afp_serial.specs.CallRow.{Effect, Refused, Row, commits_nothing, plain, silently}
 use Rattle.afp_serial.specs.CloseVol.{close_vol_row}
+use Rattle.afp_serial.specs.CreateDir.{create_dir_row}
+use Rattle.afp_serial.specs.CreateFile.{create_file_row}
+use Rattle.afp_serial.specs.Enumerate.{enumerate_row, enumerate_ext_row, enumerate_ext2_row}
+use Rattle.afp_serial.specs.Flush.{flush_row}
+use Rattle.afp_serial.specs.GetFileDirParms.{get_file_dir_parms_row}
+use Rattle.afp_serial.specs.GetVolParms.{get_vol_parms_row}
 use Rattle.afp_serial.specs.Login.{login_row}
 use Rattle.afp_serial.specs.Logout.{logout_row}
+use Rattle.afp_serial.specs.OpenDir.{close_dir_row, open_dir_row}
 use Rattle.afp_serial.specs.OpenVol.{open_vol_row}
+use Rattle.afp_serial.specs.Place.{delete_row, move_and_rename_row, rename_row}
+use Rattle.afp_serial.specs.SetFileDirParms.{set_dir_parms_row, set_file_dir_parms_row, set_file_parms_row}
+use Rattle.afp_serial.specs.SetVolParms.{set_vol_parms_row}
 use Rattle.afp_serial.specs.World.{World, Session}
 
 -- a call that is spelt and has no row yet is not supported
@@ -16,10 +26,27 @@ abbrev pub unsupported_row : Row
 unsupported_row = record { refusals = λ w s. (true, plain CallNotSupported) ∷ []; effect = λ w s. silently w; committed = commits_nothing }
 
 unfoldable pub row : Call → Row
+row (CloseDir volume dir) = close_dir_row volume.0
 row (CloseVol volume) = close_vol_row volume.0
+row (CreateDir volume dir path) = create_dir_row volume.0 dir.0 path
+row (CreateFile flag volume dir path) = create_file_row flag volume.0 dir.0 path
+row (Delete volume dir path) = delete_row volume.0 dir.0 path
+row (Enumerate volume dir file_bits dir_bits count start size path) = enumerate_row volume.0 dir.0 file_bits dir_bits count start size path
+row (EnumerateExt volume dir file_bits dir_bits count start size path) = enumerate_ext_row volume.0 dir.0 file_bits dir_bits count start size path
+row (EnumerateExt2 volume dir file_bits dir_bits count start size path) = enumerate_ext2_row volume.0 dir.0 file_bits dir_bits count start size path
+row (Flush volume) = flush_row volume.0
+row (GetFileDirParms volume dir file_bits dir_bits path) = get_file_dir_parms_row volume.0 dir.0 file_bits dir_bits path
+row (GetVolParms volume bits) = get_vol_parms_row volume.0 bits
 row (Login version uam tail) = login_row version uam
 row Logout = logout_row
+row (MoveAndRename volume dir target_dir path target_path new_path) = move_and_rename_row volume.0 dir.0 path target_dir.0 target_path new_path
+row (OpenDir volume dir path) = open_dir_row volume.0 dir.0 path
 row (OpenVol bits name) = open_vol_row bits name
+row (Rename volume dir path new_path) = rename_row volume.0 dir.0 path new_path
+row (SetDirParms volume dir bits path tail) = set_dir_parms_row volume.0 dir.0 bits path tail
+row (SetFileDirParms volume dir bits path tail) = set_file_dir_parms_row volume.0 dir.0 bits path tail
+row (SetFileParms volume dir bits path tail) = set_file_parms_row volume.0 dir.0 bits path tail
+row (SetVolParms volume bits tail) = set_vol_parms_row volume.0 bits tail
 row call = unsupported_row
 
 -- what is told by the first condition that holds
@@ -30,7 +57,7 @@ refusal w s call = first_holding ((row call).refusals w s)
 abbrev pub effect : World → Session → Call → Effect
 effect w s call = (row call).effect w s
 
--- the index of the volume whose keeper the row of a call commits to or settles, so that it may meet a fault, or none; no row does yet
+-- the index of the volume whose keeper the row of a call commits to or settles, so that it may meet a fault, or none
 abbrev pub committed : World → Session → Call → Option ℕ
 committed w s call = (row call).committed w s
 

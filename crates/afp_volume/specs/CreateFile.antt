@@ -1,5 +1,5 @@
 -- FPCreateFile (AFP Reference, "FPCreateFile"; the order of refusals is this profile's). A hard create first deletes the old file.
-use Rattle.std.specs.Prelude.{ℕ, Bool, false, not, List, [], ◌∷◌, Option, Some, None}
+use Rattle.std.specs.Prelude.{ℕ, ◌==◌, Bool, false, not, List, [], ◌∷◌, Option, Some, None, bit_and}
 use Rattle.afp_base.specs.Choice.{first_holding}
 use Rattle.afp_base.specs.declared.code.Code.{Code}
 use Rattle.afp_base.specs.declared.code.Code.TheVariants.{ObjectExists, ObjectTypeErr, DiskFull, ObjectLocked, FileBusy}
@@ -9,6 +9,10 @@ use Rattle.afp_volume.specs.VolumeState.{VolumeState}
 use Rattle.afp_volume.specs.Walk.{new_place, has_directory, child_by_key}
 use Rattle.afp_volume.specs.Edits.{without_node}
 use Rattle.afp_volume.specs.Calls.{Opened, behind, done_at, delete_inhibit, has_attribute, is_busy, has_no_ids, has_no_room, created}
+
+-- whether a create is hard: bit 7 of its flag (AFP Reference, "FPCreateFile")
+abbrev pub is_hard : ℕ → Bool
+is_hard flag = not (bit_and flag 0x80 == 0)
 
 -- what is refused of a file's new place, by the node that has its name there
 abbrev pub create_file_there : VolumeState → List Opened → Bool → Option ℕ → Option Code

@@ -1,12 +1,9 @@
 -- Which requests a volume plans, and what they are on one volume (AFP Reference, under their names).
-use Rattle.std.specs.Prelude.{ℕ, ◌==◌, Bool, not, Option, Some, None, bit_and}
+use Rattle.std.specs.Prelude.{Option, Some, None}
 use Rattle.afp_requests.specs.declared.call.Call.{Call}
 use Rattle.afp_requests.specs.declared.call.Call.TheVariants as request
+use Rattle.afp_volume.specs.CreateFile.{is_hard}
 use Rattle.afp_volume.specs.TreeSteps.{TreeCall, CreateDir, CreateFile, Delete, Rename, MoveAndRename, SetFileParms, SetDirParms, SetFileDirParms, SetVolParms}
-
--- whether a create is hard: bit 7 of its flag (AFP Reference, "FPCreateFile")
-abbrev pub is_hard : ℕ → Bool
-is_hard flag = not (bit_and flag 0x80 == 0)
 
 -- the request as a call on one volume, where it is one that a volume plans
 abbrev pub tree_call : Call → Option TreeCall

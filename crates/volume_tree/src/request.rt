@@ -1,9 +1,10 @@
 //! Calls that change a volume's tree.
 ghost use Rattle.std.specs.Prelude.{◌≡◌, ◌==◌, not, bit_and, IfOk, IfSome, IsSome};
+ghost use Rattle.afp_volume.specs.CreateFile.{is_hard};
 ghost use Rattle.afp_volume.specs.TreeSteps.{tree_refusal, tree_effect};
 ghost use Rattle.volume_tree.specs.Answered.{Refuses};
 ghost use Rattle.volume_tree.specs.Planned.{Does, IsPlan, planned};
-ghost use Rattle.volume_tree.specs.Requests.{is_hard, tree_call};
+ghost use Rattle.volume_tree.specs.Requests.{tree_call};
 ghost use Rattle.volume_tree.specs.Shown.{opened};
 
 use crate::plan::Plan;

@@ -1,0 +1,64 @@
+-- What the rows of calls on one volume share: the volume's own refusals behind the session's, its next state in the world, its open forks, and its keeper (this profile).
+use Rattle.std.specs.Prelude.{ℕ, zero, suc, ◌==◌, Bool, true, List, [], ◌∷◌, filter, map, slice_set, Option, None, Some}
+use Rattle.afp_base.specs.declared.code.Code.{Code}
+use Rattle.afp_base.specs.declared.code.Code.TheVariants.{ParamErr}
+use Rattle.afp_replies.specs.declared.reply.Reply.{Reply}
+use Rattle.afp_volume.specs.Calls.{Opened}
+use Rattle.afp_volume.specs.TreeSteps.{TreeCall, tree_refusal, tree_effect}
+use Rattle.afp_volume.specs.VolumeState.{VolumeState}
+use Rattle.afp_serial.specs.CallRow.{Effect, Refusal, Row, commits_nothing, plain, silently, vol}
+use Rattle.afp_serial.specs.Sessions.{volume_at}
+use Rattle.afp_serial.specs.World.{World, Session, OpenFork}
+
+-- a code as a refusal that tells no more, and what is refused behind it
+abbrev pub coded : Option Code → List Refusal → List Refusal
+coded None rest = rest
+coded (Some code) rest = (true, plain code) ∷ rest
+
+-- what is refused of a volume; one that is not there is none that a session has open
+abbrev pub refused_on : Option VolumeState → (VolumeState → Option Code) → Option Code
+refused_on None refuses = Some ParamErr
+refused_on (Some v) refuses = refuses v
+
+-- the refusals on a volume: the session has to have opened it, and then it is as the volume refuses
+abbrev pub on_volume : World → Session → ℕ → (VolumeState → Option Code) → List Refusal
+on_volume w s volume refuses = vol s volume ∷ coded (refused_on (volume_at w.volumes volume) refuses) []
+
+-- the open forks of a volume, of all sessions
+unfoldable pub opened_on : World → ℕ → List Opened
+opened_on w volume = map (λ (o : OpenFork). record { node = o.fork.node; resource = o.fork.resource }) (filter (λ o. o.fork.volume == volume) w.opens)
+
+-- volumes with another state of the volume of this id: ids count from 1, in house order
+abbrev pub with_state : List VolumeState → ℕ → VolumeState → List VolumeState
+with_state volumes zero v = volumes
+with_state volumes (suc index) v = slice_set volumes index v
+
+-- the world with another state of the volume of this id
+abbrev pub with_volume_state : World → ℕ → VolumeState → World
+with_volume_state w volume v = record w { volumes = with_state w.volumes volume v }
+
+-- what is done on a volume, and nothing where it is not there
+abbrev pub done_on : Option VolumeState → World → (VolumeState → Effect) → Effect
+done_on None w does = silently w
+done_on (Some v) w does = does v
+
+-- the index of the keeper of the volume of this id
+abbrev pub keeper_of : ℕ → Option ℕ
+keeper_of zero = None
+keeper_of (suc index) = Some index
+
+-- the row of a call that tells something of a volume, and changes nothing
+abbrev pub tells_of : ℕ → (World → VolumeState → Option Code) → (World → VolumeState → Reply) → Row
+tells_of volume refuses reply = record {
+  refusals = λ w s. on_volume w s volume (refuses w);
+  effect = λ w s. done_on (volume_at w.volumes volume) w (λ v. record { world = w; reply = reply w v });
+  committed = commits_nothing;
+}
+
+-- the row of a call that changes the tree of a volume, and commits that to the volume's keeper
+abbrev pub changes_tree : ℕ → TreeCall → (VolumeState → Reply) → Row
+changes_tree volume call reply = record {
+  refusals = λ w s. on_volume w s volume (λ v. tree_refusal v (opened_on w volume) call);
+  effect = λ w s. done_on (volume_at w.volumes volume) w (λ v. record { world = with_volume_state w volume (tree_effect v w.latest call); reply = reply v });
+  committed = λ w s. keeper_of volume;
+}
