@@ -27,6 +27,7 @@ pub mod NameBytes
 pub mod TypedEdits
 pub mod TypedCalls
 pub mod TypedSteps
+pub mod OpenFiles
 pub mod Orders
 pub mod Fresh
 pub mod BareRows

@@ -6,13 +6,13 @@ use Rattle.afp_volume.specs.Order.{rises}
 use Rattle.afp_volume.specs.Listing.{row_key, children, listed, is_child, pages}
 use Rattle.afp_volume.specs.VolumeState.{Row, VolumeState, fresh_volume}
 use Rattle.afp_base.specs.Apart.{are_apart}
-use Rattle.afp_volume.specs.SoundVolume.{has_rising_ids, TakesRow, row_bytes, fork_bytes, most_fork_bytes, IsSoundVolume, leads_to_root, are_named_alike, has_node}
+use Rattle.afp_volume.specs.SoundVolume.{has_rising_ids, TakesRow, row_bytes, fork_bytes, most_fork_bytes, IsSoundVolume, leads_to_root, are_named_alike, has_file, has_node}
 use Rattle.afp_volume.specs.TypedVolume.{are_bytes, is_date, is_typed_row, is_typed_volume}
 use Rattle.afp_volume.specs.Walk.{found, row_at, is_named_path, parent_at, child_by_key, child_by_long_name}
 use Rattle.afp_volume.specs.Edits.{bare, exchanged, with_row, with_changed, without, is_below, is_taken, above, is_another}
 use Rattle.afp_volume.specs.TreeSteps.{TreeStep, tree_refusal, tree_effect, is_named_call, is_typed_step, after_steps}
 use Rattle.afp_names.specs.Name.{name_fault, name_key}
-use Rattle.afp_volume.specs.Calls.{Opened}
+use Rattle.afp_volume.specs.Calls.{Opened, is_busy}
 use Rattle.afp_volume.specs.CreateDir.{create_dir_refusal, create_dir_effect}
 use Rattle.afp_volume.specs.CreateFile.{create_file_refusal, create_file_effect}
 use Rattle.afp_volume.specs.Delete.{delete_refusal, delete_effect}
@@ -95,6 +95,13 @@ CallsKeepTyped = (v : VolumeState) (step : TreeStep) → is_typed_step step ≡ 
 
 abbrev pub StepsKeepTyped : Type 0
 StepsKeepTyped = (v : VolumeState) (steps : List TreeStep) → list_all is_typed_step steps ≡ true → list_all (λ (step : TreeStep). is_named_call step.call) steps ≡ true → IsSoundVolume v → is_typed_volume v ≡ true → is_typed_volume (after_steps v steps) ≡ true
+
+-- a call lets the volume's name be; one that is not refused lets each file be of which a fork is open
+abbrev pub NameStays : Type 0
+NameStays = (v : VolumeState) (step : TreeStep) → (tree_effect v step.now step.call).name ≡ v.name
+
+abbrev pub OpenFilesStay : Type 0
+OpenFilesStay = (v : VolumeState) (step : TreeStep) (id : ℕ) → tree_refusal v step.opens step.call ≡ None → is_busy step.opens id ≡ true → has_file v.rows id ≡ true → has_file (tree_effect v step.now step.call).rows id ≡ true
 
 -- a volume that nobody has used, and one with another row in the place of one, have their numbers in their ranges
 abbrev pub FreshIsTyped : Type 0

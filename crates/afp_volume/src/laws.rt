@@ -98,6 +98,12 @@ pub fn numbers_stay_in_their_ranges()
     ensures exchanged { laws.ExchangeKeepsTyped }
 {}
 
+/// A call lets the volume's name be. One that is not refused lets each file be of which a fork is open.
+pub fn open_files_stay()
+    ensures name { laws.NameStays }
+    ensures files { laws.OpenFilesStay }
+{}
+
 /// Where a walk leads there is a node. Another row may take the place of one. What is done by id is done at the place of that row.
 pub fn rows_are_changed_in_place()
     ensures walks { laws.WalksEndAtNodes }
