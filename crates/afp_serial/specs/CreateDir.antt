@@ -1,4 +1,4 @@
--- FPCreateDir (AFP Reference, "FPCreateDir"): it tells the id of the new directory.
+-- FPCreateDir (AFP Reference, "FPCreateDir"): it tells the id of the new directory, which is the next id of the volume before.
 use Rattle.std.specs.Prelude.{ℕ}
 use Rattle.afp_base.specs.declared.ids.NodeId.{NodeId}
 use Rattle.afp_names.specs.Path.{PathValue}

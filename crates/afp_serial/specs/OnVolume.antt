@@ -1,5 +1,5 @@
 -- What the rows of calls on one volume share: the volume's own refusals behind the session's, its next state in the world, its open forks, and its keeper (this profile).
-use Rattle.std.specs.Prelude.{ℕ, zero, suc, ◌==◌, Bool, true, List, [], ◌∷◌, filter, map, slice_set, Option, None, Some}
+use Rattle.std.specs.Prelude.{ℕ, zero, suc, ◌==◌, true, List, [], ◌∷◌, filter, map, slice_set, Option, None, Some}
 use Rattle.afp_base.specs.declared.code.Code.{Code}
 use Rattle.afp_base.specs.declared.code.Code.TheVariants.{ParamErr}
 use Rattle.afp_replies.specs.declared.reply.Reply.{Reply}
@@ -15,7 +15,7 @@ abbrev pub coded : Option Code → List Refusal → List Refusal
 coded None rest = rest
 coded (Some code) rest = (true, plain code) ∷ rest
 
--- what is refused of a volume; one that is not there is none that a session has open
+-- what is refused of a volume; one that is not there counts as not opened
 abbrev pub refused_on : Option VolumeState → (VolumeState → Option Code) → Option Code
 refused_on None refuses = Some ParamErr
 refused_on (Some v) refuses = refuses v
@@ -42,7 +42,7 @@ abbrev pub done_on : Option VolumeState → World → (VolumeState → Effect) �
 done_on None w does = silently w
 done_on (Some v) w does = does v
 
--- the index of the keeper of the volume of this id
+-- the index, from 0 in house order, of the keeper of the volume of this id
 abbrev pub keeper_of : ℕ → Option ℕ
 keeper_of zero = None
 keeper_of (suc index) = Some index
@@ -55,7 +55,7 @@ tells_of volume refuses reply = record {
   committed = commits_nothing;
 }
 
--- the row of a call that changes the tree of a volume, and commits that to the volume's keeper
+-- the row of a call that changes the tree of a volume, and commits that to the volume's keeper; `reply` is of the volume as it was before the call
 abbrev pub changes_tree : ℕ → TreeCall → (VolumeState → Reply) → Row
 changes_tree volume call reply = record {
   refusals = λ w s. on_volume w s volume (λ v. tree_refusal v (opened_on w volume) call);
