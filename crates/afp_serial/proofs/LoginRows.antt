@@ -40,12 +40,12 @@ login-shown : (version uam tail : List ℕ) → Shows Empty (reply_kind (Login v
 unfolding layout_for shape_of shape_in rows
 login-shown version uam tail = (refl, refl)
 
-pub login-sound : (version uam tail : List ℕ) → IsSoundRow (reply_kind (Login version uam tail)) (login_row version uam)
+pub login-sound : (version uam tail : List ℕ) → IsSoundRow (Login version uam tail) (login_row version uam)
 login-sound version uam tail = record {
   refuses = λ w s h. refl;
-  sound = λ w s test found passes h. login-keeps w s test found h;
-  fits = λ w s passes h. refl;
-  shown = λ w s passes h. login-shown version uam tail;
+  sound = λ w s test lawful found passes h. login-keeps w s test found h;
+  fits = λ w s lawful passes h. refl;
+  shown = λ w s lawful passes h. login-shown version uam tail;
   apart = λ w s test found a. replaced-apart w s (with_user s guest_id) a (takes w s test guest_id found);
   next = λ w s. refl;
   old = λ w s n h. replaced-old w (with_user s guest_id) n h;
@@ -55,12 +55,12 @@ logout-shown : Shows Empty (reply_kind Logout) Ok []
 unfolding layout_for shape_of shape_in rows
 logout-shown = (refl, refl)
 
-pub logout-sound : IsSoundRow (reply_kind Logout) logout_row
+pub logout-sound : IsSoundRow Logout logout_row
 logout-sound = record {
   refuses = λ w s h. refl;
-  sound = λ w s test found passes h. ending-sound w (λ x. not (x.number == s.number)) h;
-  fits = λ w s passes h. refl;
-  shown = λ w s passes h. logout-shown;
+  sound = λ w s test lawful found passes h. ending-sound w (λ x. not (x.number == s.number)) h;
+  fits = λ w s lawful passes h. refl;
+  shown = λ w s lawful passes h. logout-shown;
   apart = λ w s test found a. ending-apart w (λ x. not (x.number == s.number)) a;
   next = λ w s. refl;
   old = λ w s n h. any-filter (λ x. x.number == n) (λ x. not (x.number == s.number)) w.sessions h;

@@ -9,7 +9,7 @@ use Rattle.afp_base.specs.declared.code.Code.TheVariants as code
 use Rattle.afp_base.specs.declared.ids.LinkNumber.{LinkNumber}
 use Rattle.afp_serial.proofs.Closed.{ending-apart}
 use Rattle.afp_serial.proofs.FreshWorld.{start-apart}
-use Rattle.afp_serial.proofs.Keeps.{Keeps, after-keeps}
+use Rattle.afp_serial.proofs.Keeps.{Keeps, Nothing, after-keeps, nothing-known}
 use Rattle.afp_serial.proofs.Opened.{opened-apart}
 use Rattle.afp_serial.proofs.RowsSound.{row-sound}
 use Rattle.afp_serial.proofs.SoundParts.{ApartSessions, same_link}
@@ -31,10 +31,10 @@ use Rattle.afp_serial.specs.World.{World, Session, at_moment, start_world}
 
 -- no two sessions have one link
 
-apart-keeps : Keeps ApartSessions
+apart-keeps : Keeps Nothing ApartSessions
 apart-keeps = record {
   opens = λ w room a. opened-apart w a;
-  calls = λ w s call test found passes a. (row-sound call).apart w s test found a;
+  calls = λ w s call test none found passes a. (row-sound call).apart w s test found a;
   ends = ending-apart;
   drains = λ w a. record { numbers = a.numbers; links = a.links; below = a.below };
   stores = λ w s r told a. a;
@@ -42,7 +42,7 @@ apart-keeps = record {
 
 stand-apart : (w : World) (h : List Entry) → ApartSessions w → ApartSessions (stand w h)
 stand-apart w [] a = a
-stand-apart w (e ∷ es) a = stand-apart (after w e) es (after-keeps apart-keeps w e (record { numbers = a.numbers; links = a.links; below = a.below }))
+stand-apart w (e ∷ es) a = stand-apart (after w e) es (after-keeps apart-keeps w e (nothing-known e.ask) (record { numbers = a.numbers; links = a.links; below = a.below }))
 
 pub links-differ : LinksDiffer
 links-differ house now volumes h j k s t a b less at_j at_k on_a on_b same =

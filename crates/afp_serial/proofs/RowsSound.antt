@@ -1,30 +1,48 @@
 -- What each call's row owes; here it is only dispatched.
 use Rattle.std.proofs.Common.{refl}
-use Rattle.afp_replies.specs.declared.reply.ReplyKind.{ReplyKind}
 use Rattle.afp_requests.specs.declared.call.Call.{Call}
-use Rattle.afp_requests.specs.declared.call.Call.TheVariants.{CloseVol, Login, Logout, OpenVol}
+use Rattle.afp_requests.specs.declared.call.Call.TheVariants.{CloseDir, CloseVol, CreateDir, CreateFile, Delete, Enumerate, EnumerateExt, EnumerateExt2, Flush, GetFileDirParms, GetVolParms, Login, Logout, MoveAndRename, OpenDir, OpenVol, Rename, SetDirParms, SetFileDirParms, SetFileParms, SetVolParms}
+use Rattle.afp_serial.proofs.CloseVolRow.{close-vol-sound}
 use Rattle.afp_serial.proofs.LoginRows.{login-sound, logout-sound}
+use Rattle.afp_serial.proofs.OpenVolRow.{open-vol-sound}
 use Rattle.afp_serial.proofs.SoundRow.{IsSoundRow}
-use Rattle.afp_serial.proofs.VolumeRows.{close-vol-sound, open-vol-sound}
-use Rattle.afp_serial.specs.ReplyKinds.{reply_kind}
+use Rattle.afp_serial.proofs.TellRows.{close-dir-sound, enumerate-ext-sound, enumerate-ext2-sound, enumerate-sound, flush-sound, get-file-dir-parms-sound, get-vol-parms-sound, open-dir-sound}
+use Rattle.afp_serial.proofs.TreeRows.{create-dir-sound, create-file-sound, delete-sound, move-and-rename-sound, rename-sound, set-dir-parms-sound, set-file-dir-parms-sound, set-file-parms-sound, set-vol-parms-sound}
 use Rattle.afp_serial.specs.Rows.{row, unsupported_row}
 
 -- it is always refused
-unsupported-sound : (kind : ReplyKind) → IsSoundRow kind unsupported_row
-unsupported-sound kind = record {
+unsupported-sound : (call : Call) → IsSoundRow call unsupported_row
+unsupported-sound call = record {
   refuses = λ w s h. refl;
-  sound = λ w s test found passes h. h;
-  fits = λ w s passes h. refl;
-  shown = λ w s passes h. absurd (cc);
+  sound = λ w s test lawful found passes h. h;
+  fits = λ w s lawful passes h. refl;
+  shown = λ w s lawful passes h. absurd (cc);
   apart = λ w s test found a. a;
   next = λ w s. refl;
   old = λ w s n h. h;
 }
 
-pub row-sound : (call : Call) → IsSoundRow (reply_kind call) (row call)
+pub row-sound : (call : Call) → IsSoundRow call (row call)
 unfolding row
+row-sound (CloseDir volume dir) = close-dir-sound volume dir
 row-sound (CloseVol volume) = close-vol-sound volume
+row-sound (CreateDir volume dir path) = create-dir-sound volume dir path
+row-sound (CreateFile flag volume dir path) = create-file-sound flag volume dir path
+row-sound (Delete volume dir path) = delete-sound volume dir path
+row-sound (Enumerate volume dir file_bits dir_bits count start size path) = enumerate-sound volume dir file_bits dir_bits count start size path
+row-sound (EnumerateExt volume dir file_bits dir_bits count start size path) = enumerate-ext-sound volume dir file_bits dir_bits count start size path
+row-sound (EnumerateExt2 volume dir file_bits dir_bits count start size path) = enumerate-ext2-sound volume dir file_bits dir_bits count start size path
+row-sound (Flush volume) = flush-sound volume
+row-sound (GetFileDirParms volume dir file_bits dir_bits path) = get-file-dir-parms-sound volume dir file_bits dir_bits path
+row-sound (GetVolParms volume bits) = get-vol-parms-sound volume bits
 row-sound (Login version uam tail) = login-sound version uam tail
 row-sound Logout = logout-sound
+row-sound (MoveAndRename volume dir target_dir path target_path new_path) = move-and-rename-sound volume dir target_dir path target_path new_path
+row-sound (OpenDir volume dir path) = open-dir-sound volume dir path
 row-sound (OpenVol bits name) = open-vol-sound bits name
-row-sound call = unsupported-sound (reply_kind call)
+row-sound (Rename volume dir path new_path) = rename-sound volume dir path new_path
+row-sound (SetDirParms volume dir bits path tail) = set-dir-parms-sound volume dir bits path tail
+row-sound (SetFileDirParms volume dir bits path tail) = set-file-dir-parms-sound volume dir bits path tail
+row-sound (SetFileParms volume dir bits path tail) = set-file-parms-sound volume dir bits path tail
+row-sound (SetVolParms volume bits tail) = set-vol-parms-sound volume bits tail
+row-sound call = unsupported-sound call

@@ -6,9 +6,10 @@ use Rattle.afp_base.specs.declared.code.Code.{Code}
 use Rattle.afp_base.specs.declared.code.Code.TheVariants as code
 use Rattle.afp_replies.specs.Replies.{Shows, canonical_reply}
 use Rattle.afp_serial.proofs.Refusals.{refuses_shortly, verdict-short}
+use Rattle.afp_serial.proofs.Keeps.{IsKnown}
 use Rattle.afp_serial.proofs.RowsSound.{row-sound}
 use Rattle.afp_serial.proofs.SoundRow.{is_ok, is_short}
-use Rattle.afp_serial.proofs.StaysSound.{legal-moment, moment-sound}
+use Rattle.afp_serial.proofs.StaysSound.{IsLawful, legal-lawful, legal-moment, moment-sound}
 use Rattle.afp_serial.proofs.Verdicts.{comes-to, repeats-kept}
 use Rattle.afp_serial.specs.declared.ask.Ask.{Ask}
 use Rattle.afp_serial.specs.declared.ask.Ask.TheVariants as ask
@@ -42,7 +43,11 @@ ends_in t = false
 told_ok : (t : Told) (block : List ℕ) (ends : Bool) → is_ok (code_of t) ≡ false → t ≡ told.Reply code.Ok block ends → ⊥
 told_ok t block ends other is = let e : true ≡ false = ap (λ (x : Told). is_ok (code_of x)) (sym is) ∙ other in cc
 
-module _ (w : World) (e : Entry) (block : List ℕ) (ends : Bool) (h : IsSound (at_moment w e.at)) where
+module _ (w : World) (e : Entry) (block : List ℕ) (ends : Bool) (knows : IsKnown IsLawful e.ask) (h : IsSound (at_moment w e.at)) where
+  -- of a request of the entry
+  knows-of : (id : ℕ) (write : Bool) (offset : ℕ) (payload : List ℕ) → e.ask ≡ ask.Call id write offset payload → IsKnown IsLawful (ask.Call id write offset payload)
+  knows-of id write offset payload asked = subst (IsKnown IsLawful) asked knows
+
   verdict-shown : (id : ℕ) (write : Bool) (offset : ℕ) (payload : List ℕ) (s : Session) (v : Verdict) (o : Outcome)
       → e.ask ≡ ask.Call id write offset payload → session_at w e.link.0 ≡ Some s → verdict (at_moment w e.at) s (request id write offset payload) ≡ v → e.outcome ≡ o
       → told_verdict (at_moment w e.at) s v o ≡ told.Reply code.Ok block ends → IsKeptAnswer w e block ends ⊎ IsEffectAnswer w e block ends
@@ -79,7 +84,7 @@ module _ (w : World) (e : Entry) (block : List ℕ) (ends : Bool) (h : IsSound (
         runs = runs_to;
         done = went;
         block_is = sym same;
-        shows = subst (λ (b : List ℕ). Shows (effect (at_moment w e.at) s call).reply (reply_kind call) code.Ok b) same ((row-sound call).shown (at_moment w e.at) s runs_to.passes h);
+        shows = subst (λ (b : List ℕ). Shows (effect (at_moment w e.at) s call).reply (reply_kind call) code.Ok b) same ((row-sound call).shown (at_moment w e.at) s (knows-of id write offset payload asked call runs_to.spelt) runs_to.passes h);
         ends_is = ap ends_in (sym tells);
       })
 
@@ -111,4 +116,4 @@ module _ (w : World) (e : Entry) (block : List ℕ) (ends : Bool) (h : IsSound (
   ask-shown ask.Drain o asked went tells = absurd (told_ok told.Done block ends refl tells)
 
 pub tells-shown : TellsShown
-tells-shown w e block ends sound legal tells = ask-shown w e block ends (moment-sound w e.at (legal-moment w e legal) sound) e.ask e.outcome refl refl tells
+tells-shown w e block ends sound legal tells = ask-shown w e block ends (legal-lawful w e legal) (moment-sound w e.at (legal-moment w e legal) sound) e.ask e.outcome refl refl tells

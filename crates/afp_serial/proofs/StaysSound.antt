@@ -6,8 +6,11 @@ use Rattle.std.proofs.lemmas.Bool.{and_parts, cond_both, le-leb, leb-true}
 use Rattle.afp_base.specs.Cached.{Request, Answer, Kept, is_repeat, either, cached_answer}
 use Rattle.afp_base.specs.declared.code.Code.TheVariants as code
 use Rattle.afp_base.specs.Apart.{are_apart}
+use Rattle.afp_requests.specs.Spelt.{spelt_call}
+use Rattle.afp_requests.specs.declared.call.Call.{Call}
 use Rattle.afp_serial.proofs.Closed.{ending-sound}
-use Rattle.afp_serial.proofs.Keeps.{Keeps, after-keeps}
+use Rattle.afp_serial.proofs.Keeps.{IsKnown, Keeps, after-keeps}
+use Rattle.afp_serial.proofs.LawfulCalls.{ask-lawful}
 use Rattle.afp_serial.proofs.Opened.{opened-sound}
 use Rattle.afp_serial.proofs.RowsSound.{row-sound}
 use Rattle.afp_serial.proofs.SoundParts.{caches-parts, fields-parts, fields-whole}
@@ -23,13 +26,14 @@ use Rattle.afp_serial.specs.declared.ask.Outcome.TheVariants as outcome
 use Rattle.afp_serial.specs.declared.ask.Told.TheVariants as told
 use Rattle.afp_serial.specs.Answer.{answer, after, committed_of, drain_moment, is_legal, is_legal_outcome, request, refusal_reply, link_number, is_full, told_verdict, told_call, told_pulse, told_parting, answer_at}
 use Rattle.afp_serial.specs.History.{is_lawful, stand}
+use Rattle.afp_serial.specs.LawfulCall.{is_lawful_call}
 use Rattle.afp_serial.specs.Limits.{longest_block, most_kept}
 use Rattle.afp_serial.specs.Ranges.{is_moment, is_moment_or_none, is_typed_ask, is_typed_entry}
 use Rattle.afp_volume.specs.TypedVolume.{is_quad}
 use Rattle.afp_serial.specs.Sessions.{stands_at, session_at}
 use Rattle.afp_serial.specs.Shown.{fits_frame, is_answer_to, is_parting_answer}
 use Rattle.afp_serial.specs.Sound.{IsSound, has_apart_sessions, has_lawful_opens, has_lawful_locks, is_lawful_cache, has_lawful_caches, keeps_all_limits}
-use Rattle.afp_serial.specs.Steps.{Verdict, repeats, refused, runs, verdict}
+use Rattle.afp_serial.specs.Steps.{Verdict, repeats, refused, runs, block_of, enclosed_of, verdict}
 use Rattle.afp_serial.specs.World.{World, Session, at_moment}
 
 -- a later moment, and a drain moment, in their ranges
@@ -73,10 +77,14 @@ drain-sound w h =
       limits = h.limits;
     }
 
-pub sound-keeps : Keeps IsSound
+-- what is known of the calls of a legal entry
+abbrev pub IsLawful : Call → Type 0
+IsLawful call = is_lawful_call call ≡ true
+
+pub sound-keeps : Keeps IsLawful IsSound
 sound-keeps = record {
   opens = opened-sound;
-  calls = λ w s call test found passes h. (row-sound call).sound w s test found passes h;
+  calls = λ w s call test lawful found passes h. (row-sound call).sound w s test lawful found passes h;
   ends = ending-sound;
   drains = drain-sound;
   stores = λ w s r told h. h;
@@ -88,8 +96,14 @@ unfolding is_typed_entry
 legal-moment w e legal =
     (and_parts (is_moment e.at) (is_quad e.link.0 && is_typed_ask e.ask) (and_parts (is_typed_entry e) (is_legal_outcome (committed_of w e) e.outcome) legal).0).0
 
+-- a legal entry's ask spells lawful calls alone
+pub legal-lawful : (w : World) (e : Entry) → is_legal w e ≡ true → IsKnown IsLawful e.ask
+unfolding is_typed_entry
+legal-lawful w e legal =
+    ask-lawful e.ask (and_parts (is_quad e.link.0) (is_typed_ask e.ask) (and_parts (is_moment e.at) (is_quad e.link.0 && is_typed_ask e.ask) (and_parts (is_typed_entry e) (is_legal_outcome (committed_of w e) e.outcome) legal).0).1).1
+
 pub after-sound : (w : World) (e : Entry) → IsSound w → is_legal w e ≡ true → IsSound (after w e)
-after-sound w e h legal = after-keeps sound-keeps w e (moment-sound w e.at (legal-moment w e legal) h)
+after-sound w e h legal = after-keeps sound-keeps w e (legal-lawful w e legal) (moment-sound w e.at (legal-moment w e legal) h)
 
 pub stood-sound : (start : World) (h : List Entry) → IsSound start → is_lawful start h ≡ true → IsSound (stand start h)
 stood-sound start [] sound lawful = sound
@@ -131,16 +145,16 @@ short-cache cache h =
     let e = and_parts (nat_le (length cache) most_kept) (are_apart (λ a b. is_repeat a.request b.request) cache && list_all is_short_answer cache) h in
     (and_parts (are_apart (λ a b. is_repeat a.request b.request) cache) (list_all is_short_answer cache) e.1).1
 
-verdict-fits : (w : World) (s : Session) (r : Request) → IsSound w → is_lawful_cache s.cache ≡ true → (v : Verdict) (o : Outcome) → verdict w s r ≡ v → fits_frame (told_verdict w s v o) ≡ true
-verdict-fits w s r h lawful (repeats answer) o is = kept-fits s.cache r answer (short-cache s.cache lawful) (repeats-kept w s r answer is)
-verdict-fits w s r h lawful (refused x) o is = (and_parts (is_short x.reply) (not (is_ok x.code)) (ap refuses_shortly (sym is) ∙ verdict-short w s r h)).0
-verdict-fits w s r h lawful (runs call) outcome.Fault is = refl
-verdict-fits w s r h lawful (runs call) outcome.Done is = (row-sound call).fits w s (comes-to w s r call is).passes h
+verdict-fits : (w : World) (s : Session) (r : Request) → ((call : Call) → spelt_call (block_of r) (enclosed_of r) ≡ Some call → IsLawful call) → IsSound w → is_lawful_cache s.cache ≡ true → (v : Verdict) (o : Outcome) → verdict w s r ≡ v → fits_frame (told_verdict w s v o) ≡ true
+verdict-fits w s r knows h lawful (repeats answer) o is = kept-fits s.cache r answer (short-cache s.cache lawful) (repeats-kept w s r answer is)
+verdict-fits w s r knows h lawful (refused x) o is = (and_parts (is_short x.reply) (not (is_ok x.code)) (ap refuses_shortly (sym is) ∙ verdict-short w s r h)).0
+verdict-fits w s r knows h lawful (runs call) outcome.Fault is = refl
+verdict-fits w s r knows h lawful (runs call) outcome.Done is = let c = comes-to w s r call is in (row-sound call).fits w s (knows call c.spelt) c.passes h
 
-call-fits : (w : World) (link : ℕ) (session : Option Session) (r : Request) (o : Outcome) → IsSound w → session_at w link ≡ session → fits_frame (told_call w session r o) ≡ true
-call-fits w link None r o h is = refl
-call-fits w link (Some s) r o h is =
-    verdict-fits w s r h (find-all (λ x. stands_at link x.place) (λ x. is_lawful_cache x.cache) w.sessions s is (caches-parts w h.caches)) (verdict w s r) o refl
+call-fits : (w : World) (link : ℕ) (session : Option Session) (r : Request) (o : Outcome) → ((call : Call) → spelt_call (block_of r) (enclosed_of r) ≡ Some call → IsLawful call) → IsSound w → session_at w link ≡ session → fits_frame (told_call w session r o) ≡ true
+call-fits w link None r o knows h is = refl
+call-fits w link (Some s) r o knows h is =
+    verdict-fits w s r knows h (find-all (λ x. stands_at link x.place) (λ x. is_lawful_cache x.cache) w.sessions s is (caches-parts w h.caches)) (verdict w s r) o refl
 
 pulse-fits : (w : World) (link : ℕ) (session : Option Session) → fits_frame (told_pulse w link session) ≡ true
 pulse-fits w link None = cond_both (link == 0) (told.Live w.drain) told.Displaced (λ t. fits_frame t ≡ true) (λ none. refl) (λ other. refl)
@@ -150,17 +164,17 @@ parting-fits : (session : Option Session) → fits_frame (told_parting session) 
 parting-fits None = refl
 parting-fits (Some s) = refl
 
-at-fits : (w : World) (link : ℕ) (a : Ask) (o : Outcome) → IsSound w → fits_frame (answer_at w link a o) ≡ true
+at-fits : (w : World) (link : ℕ) (a : Ask) (o : Outcome) → IsKnown IsLawful a → IsSound w → fits_frame (answer_at w link a o) ≡ true
 unfolding answer_at
-at-fits w link (ask.Open attention) o h = cond_both (is_full w) (refusal_reply code.NoMoreSessions) (told.Opened (link_number w.next_link)) (λ t. fits_frame t ≡ true) (λ full. refl) (λ room. refl)
-at-fits w link (ask.Call id write offset payload) o h = call-fits w link (session_at w link) (request id write offset payload) o h refl
-at-fits w link ask.Pulse o h = pulse-fits w link (session_at w link)
-at-fits w link ask.Bye o h = parting-fits (session_at w link)
-at-fits w link ask.Lost o h = parting-fits (session_at w link)
-at-fits w link ask.Drain o h = refl
+at-fits w link (ask.Open attention) o knows h = cond_both (is_full w) (refusal_reply code.NoMoreSessions) (told.Opened (link_number w.next_link)) (λ t. fits_frame t ≡ true) (λ full. refl) (λ room. refl)
+at-fits w link (ask.Call id write offset payload) o knows h = call-fits w link (session_at w link) (request id write offset payload) o knows h refl
+at-fits w link ask.Pulse o knows h = pulse-fits w link (session_at w link)
+at-fits w link ask.Bye o knows h = parting-fits (session_at w link)
+at-fits w link ask.Lost o knows h = parting-fits (session_at w link)
+at-fits w link ask.Drain o knows h = refl
 
 pub answer-fits : (w : World) (e : Entry) → IsSound w → is_legal w e ≡ true → fits_frame (answer w e) ≡ true
-answer-fits w e h legal = at-fits (at_moment w e.at) e.link.0 e.ask e.outcome (moment-sound w e.at (legal-moment w e legal) h)
+answer-fits w e h legal = at-fits (at_moment w e.at) e.link.0 e.ask e.outcome (legal-lawful w e legal) (moment-sound w e.at (legal-moment w e legal) h)
 
 -- what is told is an answer to the ask
 

@@ -27,6 +27,7 @@ pub mod Place
 pub mod SetFileDirParms
 pub mod Rows
 pub mod Steps
+pub mod LawfulCall
 pub mod Answer
 pub mod History
 pub mod Shown

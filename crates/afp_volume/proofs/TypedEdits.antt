@@ -174,12 +174,12 @@ any-date bytes = by (big_number 4 bytes)
         (λ low. le-leb n 2147483647 (let h = ltb-true n 2147483648 low in omega arith))
         (λ high. le-leb (4294967296 - suc n) 2147483647 (let h = ltb-false n 2147483648 high in omega arith))
 
-take-bytes : (n : ℕ) (xs : List ℕ) → are_bytes xs ≡ true → are_bytes (take n xs) ≡ true
+pub take-bytes : (n : ℕ) (xs : List ℕ) → are_bytes xs ≡ true → are_bytes (take n xs) ≡ true
 take-bytes zero xs h = refl
 take-bytes (suc n) [] h = refl
 take-bytes (suc n) (x ∷ xs) h = let e = and_parts (is_byte x) (are_bytes xs) h in and_from (is_byte x) (are_bytes (take n xs)) e.0 (take-bytes n xs e.1)
 
-drop-bytes : (n : ℕ) (xs : List ℕ) → are_bytes xs ≡ true → are_bytes (drop n xs) ≡ true
+pub drop-bytes : (n : ℕ) (xs : List ℕ) → are_bytes xs ≡ true → are_bytes (drop n xs) ≡ true
 drop-bytes zero xs h = h
 drop-bytes (suc n) [] h = refl
 drop-bytes (suc n) (x ∷ xs) h = drop-bytes n xs (and_parts (is_byte x) (are_bytes xs) h).1

@@ -1,0 +1,147 @@
+-- What the rows of calls on one volume owe, in one place.
+use Rattle.std.proofs.Common.{◌≡◌, sym, refl, subst, ℕ, Bool, true, false, not, List, [], ◌∷◌, Option, Some, None}
+use Rattle.std.specs.Prelude.{pos}
+use Rattle.std.specs.List.{list_all}
+use Rattle.std.proofs.lemmas.Bool.{and_from}
+use Rattle.afp_base.specs.Choice.{first_holding}
+use Rattle.afp_base.specs.declared.code.Code.{Code}
+use Rattle.afp_base.specs.declared.code.Code.TheVariants.{Ok, ParamErr}
+use Rattle.afp_replies.proofs.Showing.{what_fits_a_request}
+use Rattle.afp_replies.specs.Commands.{shape_of}
+use Rattle.afp_replies.specs.Replies.{Shows, canonical_reply}
+use Rattle.afp_replies.specs.Requested.{FitsRequest, IsTold}
+use Rattle.afp_replies.specs.declared.reply.Reply.{Reply}
+use Rattle.afp_requests.specs.declared.call.Call.{Call}
+use Rattle.afp_serial.proofs.SoundParts.{ApartSessions}
+use Rattle.afp_serial.proofs.SoundRow.{IsSoundRow, is_refused, is_short}
+use Rattle.afp_serial.proofs.VolumeCodes.{is_refusal, tree-refuses}
+use Rattle.afp_serial.proofs.VolumeStates.{IsServed, moment-date, served-at, state-sound}
+use Rattle.afp_serial.specs.CallRow.{Effect, Refusal, plain}
+use Rattle.afp_serial.specs.LawfulCall.{is_lawful_call}
+use Rattle.afp_serial.specs.OnVolume.{changes_tree, coded, done_on, on_volume, opened_on, refused_on, tells_of, with_volume_state}
+use Rattle.afp_serial.specs.ReplyKinds.{command_of, reply_kind}
+use Rattle.afp_serial.specs.Sessions.{has_opened, has_session, volume_at}
+use Rattle.afp_serial.specs.Sound.{IsSound}
+use Rattle.afp_serial.specs.World.{World, Session}
+use Rattle.afp_volume.proofs.Later.{effect-sound}
+use Rattle.afp_volume.proofs.OpenFiles.{call-lets-be, call-named}
+use Rattle.afp_volume.proofs.TypedSteps.{call-typed}
+use Rattle.afp_volume.specs.TreeSteps.{TreeCall, TreeStep, is_named_call, is_typed_call, tree_effect, tree_refusal}
+use Rattle.afp_volume.specs.TypedVolume.{is_date}
+use Rattle.afp_volume.specs.VolumeState.{VolumeState}
+
+-- a call's request asks for the fields of this reply
+abbrev pub Asks : Call → Reply → Type 0
+Asks call reply = IsTold (shape_of (command_of call)) Ok (reply_kind call) reply
+
+-- what is told of a call: it fits in a frame, and has what the call's request asks for
+pub record IsToldTo (call : Call) (reply : Reply) : Type 0 where
+  pub short : is_short reply ≡ true
+  pub fits : FitsRequest (reply_kind call) Ok reply
+
+pub told-shown : (call : Call) (reply : Reply) → IsToldTo call reply → Shows reply (reply_kind call) Ok (canonical_reply reply)
+told-shown call reply t = what_fits_a_request reply (reply_kind call) Ok t.fits
+
+-- refusals
+
+pub coded-refused : (o : Option Code) (rest : List Refusal) → is_refusal o ≡ true → list_all (λ r. is_refused r.1) rest ≡ true → list_all (λ r. is_refused r.1) (coded o rest) ≡ true
+coded-refused None rest h k = k
+coded-refused (Some code) rest h k = and_from (is_refused (plain code)) (list_all (λ (r : Refusal). is_refused r.1) rest) h k
+
+pub on-refused : (w : World) (s : Session) (volume : ℕ) (refuses : VolumeState → Option Code) → ((v : VolumeState) → is_refusal (refuses v) ≡ true) → list_all (λ r. is_refused r.1) (on_volume w s volume refuses) ≡ true
+on-refused w s volume refuses rightly = coded-refused (refused_on (volume_at w.volumes volume) refuses) [] (by (volume_at w.volumes volume)) refl
+  where
+    by : (o : Option VolumeState) → is_refusal (refused_on o refuses) ≡ true
+    by None = refl
+    by (Some v) = rightly v
+
+-- what is not refused: the volume is there, and refuses nothing
+pub record Passes (w : World) (volume : ℕ) (refuses : VolumeState → Option Code) : Type 0 where
+  pub state : VolumeState
+  pub there : volume_at w.volumes volume ≡ Some state
+  pub passes : refuses state ≡ None
+
+pub coded-none : (o : Option Code) (rest : List Refusal) → first_holding (coded o rest) ≡ None → (o ≡ None) × (first_holding rest ≡ None)
+coded-none None rest h = (refl, h)
+coded-none (Some code) rest h = absurd (cc)
+
+on-passes : (w : World) (s : Session) (volume : ℕ) (refuses : VolumeState → Option Code) → first_holding (on_volume w s volume refuses) ≡ None → Passes w volume refuses
+on-passes w s volume refuses passes = by (has_opened s volume) (volume_at w.volumes volume) refl passes
+  where
+    by : (b : Bool) (o : Option VolumeState) → volume_at w.volumes volume ≡ o → first_holding ((not b, plain ParamErr) ∷ coded (refused_on o refuses) []) ≡ None → Passes w volume refuses
+    by false o there h = absurd (cc)
+    by true None there h = absurd (cc)
+    by true (Some v) there h = record { state = v; there = there; passes = (coded-none (refuses v) [] h).0 }
+
+-- what holds of the world, and of each that is made of a volume, holds of what is done
+done-keeps : (P : World → Type 0) (o : Option VolumeState) (w : World) (does : VolumeState → Effect) → P w → ((v : VolumeState) → P (does v).world) → P (done_on o w does).world
+done-keeps P None w does h gives = h
+done-keeps P (Some v) w does h gives = gives v
+
+-- rows that tell
+
+pub tells-sound : (call : Call) (volume : ℕ) (refuses : World → VolumeState → Option Code) (reply : World → VolumeState → Reply)
+    → ((w : World) (v : VolumeState) → is_refusal (refuses w v) ≡ true)
+    → ((w : World) (v : VolumeState) → is_lawful_call call ≡ true → IsServed v volume → refuses w v ≡ None → IsToldTo call (reply w v))
+    → IsSoundRow call (tells_of volume refuses reply)
+tells-sound call volume refuses reply rightly tells = record {
+  refuses = λ w s h. on-refused w s volume (refuses w) (rightly w);
+  sound = λ w s test lawful found passes h. done-keeps IsSound (volume_at w.volumes volume) w (λ v. record { world = w; reply = reply w v }) h (λ v. h);
+  fits = λ w s lawful passes h. (told w s lawful passes h).short;
+  shown = λ w s lawful passes h. told-shown call (done_on (volume_at w.volumes volume) w (λ v. record { world = w; reply = reply w v })).reply (told w s lawful passes h);
+  apart = λ w s test found a. done-keeps ApartSessions (volume_at w.volumes volume) w (λ v. record { world = w; reply = reply w v }) a (λ v. a);
+  next = λ w s. done-keeps (λ x. x.next_link ≡ w.next_link) (volume_at w.volumes volume) w (λ v. record { world = w; reply = reply w v }) refl (λ v. refl);
+  old = λ w s n h. done-keeps (λ x. has_session x.sessions n ≡ true → has_session w.sessions n ≡ true) (volume_at w.volumes volume) w (λ v. record { world = w; reply = reply w v }) (λ h. h) (λ v h. h) h;
+}
+  where
+    told : (w : World) (s : Session) → is_lawful_call call ≡ true → first_holding (on_volume w s volume (refuses w)) ≡ None → IsSound w
+        → IsToldTo call (done_on (volume_at w.volumes volume) w (λ v. record { world = w; reply = reply w v })).reply
+    told w s lawful passes h =
+        let p = on-passes w s volume (refuses w) passes in
+        subst (λ o. IsToldTo call (done_on o w (λ v. record { world = w; reply = reply w v })).reply) (sym p.there) (tells w p.state lawful (served-at w volume p.state h p.there) p.passes)
+
+-- rows that change the tree
+
+abbrev step_at : World → ℕ → TreeCall → TreeStep
+step_at w volume tree = record { call = tree; now = w.latest; opens = opened_on w volume }
+
+tree-sound : (w : World) (volume : ℕ) (v : VolumeState) (tree : TreeCall) → is_named_call tree ≡ true → is_typed_call tree ≡ true → volume_at w.volumes volume ≡ Some v → tree_refusal v (opened_on w volume) tree ≡ None → IsSound w
+    → IsSound (with_volume_state w volume (tree_effect v w.latest tree))
+tree-sound w volume v tree named typed there passes h =
+    let served : IsServed v volume = served-at w volume v h there in
+    let step : TreeStep = step_at w volume tree in
+    state-sound w volume v (tree_effect v w.latest tree) h (record {
+      there = there;
+      named = call-named v step;
+      files = λ id busy. call-lets-be v step id passes busy;
+      sound = effect-sound v step named passes served.sound;
+      typed = call-typed v step (and_from (is_date (pos w.latest)) (is_typed_call tree) (moment-date w h) typed) named passes served.sound served.typed;
+    })
+
+pub changes-sound : (call : Call) (volume : ℕ) (tree : TreeCall) (reply : VolumeState → Reply)
+    → (is_lawful_call call ≡ true → (is_named_call tree ≡ true) × (is_typed_call tree ≡ true))
+    → ((w : World) (v : VolumeState) → IsServed v volume → tree_refusal v (opened_on w volume) tree ≡ None → IsToldTo call (reply v))
+    → IsSoundRow call (changes_tree volume tree reply)
+changes-sound call volume tree reply ranges tells = record {
+  refuses = λ w s h. on-refused w s volume (λ v. tree_refusal v (opened_on w volume) tree) (λ v. tree-refuses v (opened_on w volume) tree);
+  sound = λ w s test lawful found passes h. sound w s lawful passes h;
+  fits = λ w s lawful passes h. (told w s passes h).short;
+  shown = λ w s lawful passes h. told-shown call (done_on (volume_at w.volumes volume) w (does w)).reply (told w s passes h);
+  apart = λ w s test found a. done-keeps ApartSessions (volume_at w.volumes volume) w (does w) a (λ v. record { numbers = a.numbers; links = a.links; below = a.below });
+  next = λ w s. done-keeps (λ x. x.next_link ≡ w.next_link) (volume_at w.volumes volume) w (does w) refl (λ v. refl);
+  old = λ w s n h. done-keeps (λ x. has_session x.sessions n ≡ true → has_session w.sessions n ≡ true) (volume_at w.volumes volume) w (does w) (λ h. h) (λ v h. h) h;
+}
+  where
+    does : World → VolumeState → Effect
+    does w v = record { world = with_volume_state w volume (tree_effect v w.latest tree); reply = reply v }
+
+    sound : (w : World) (s : Session) → is_lawful_call call ≡ true → first_holding (on_volume w s volume (λ v. tree_refusal v (opened_on w volume) tree)) ≡ None → IsSound w → IsSound (done_on (volume_at w.volumes volume) w (does w)).world
+    sound w s lawful passes h =
+        let p = on-passes w s volume (λ v. tree_refusal v (opened_on w volume) tree) passes in
+        let r = ranges lawful in
+        subst (λ o. IsSound (done_on o w (does w)).world) (sym p.there) (tree-sound w volume p.state tree r.0 r.1 p.there p.passes h)
+
+    told : (w : World) (s : Session) → first_holding (on_volume w s volume (λ v. tree_refusal v (opened_on w volume) tree)) ≡ None → IsSound w → IsToldTo call (done_on (volume_at w.volumes volume) w (does w)).reply
+    told w s passes h =
+        let p = on-passes w s volume (λ v. tree_refusal v (opened_on w volume) tree) passes in
+        subst (λ o. IsToldTo call (done_on o w (does w)).reply) (sym p.there) (tells w p.state (served-at w volume p.state h p.there) p.passes)
