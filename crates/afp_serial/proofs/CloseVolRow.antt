@@ -11,7 +11,7 @@ use Rattle.afp_requests.specs.declared.call.Call.TheVariants.{CloseVol}
 use Rattle.afp_serial.proofs.Closed.{closing-sound, closing-apart}
 use Rattle.afp_serial.proofs.Replaced.{TakesPlace, replaced-apart, replaced-old, replaced-sound, volume-kept}
 use Rattle.afp_serial.proofs.SoundParts.{ApartSessions, sessions-parts, opens-parts, caches-parts}
-use Rattle.afp_serial.proofs.SoundRow.{IsSoundRow}
+use Rattle.afp_serial.proofs.SoundRow.{IsSoundRow, no-keeper}
 use Rattle.afp_serial.specs.CloseVol.{close_vol_effect, close_vol_row}
 use Rattle.afp_serial.specs.ReplyKinds.{reply_kind}
 use Rattle.afp_serial.specs.Sessions.{has_opened, volume_at, closing, with_session}
@@ -81,5 +81,6 @@ close-vol-sound volume = record {
   shown = λ w s lawful passes h. close-vol-shown volume;
   apart = λ w s test found a. close-vol-apart w s test volume.0 found a;
   next = λ w s. refl;
+  keeper = λ w s index passes commits. no-keeper w index commits;
   old = λ w s n h. replaced-old w (with_volumes s (without s.volumes volume.0)) n h;
 }

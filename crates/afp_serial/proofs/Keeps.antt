@@ -27,11 +27,11 @@ IsKnown known ask.Bye = Unit {0}
 IsKnown known ask.Lost = Unit {0}
 IsKnown known ask.Drain = Unit {0}
 
--- nothing may be known
-abbrev pub Nothing : Call → Type 0
-Nothing call = Unit {0}
+-- nothing is known of a call
+abbrev pub AnyCall : Call → Type 0
+AnyCall call = Unit {0}
 
-pub nothing-known : (a : Ask) → IsKnown Nothing a
+pub nothing-known : (a : Ask) → IsKnown AnyCall a
 nothing-known (ask.Open attention) = tt
 nothing-known (ask.Call id write offset payload) = λ call is. tt
 nothing-known ask.Pulse = tt

@@ -20,7 +20,7 @@ use Rattle.afp_serial.proofs.Keeps.{IsKnown}
 use Rattle.afp_serial.specs.declared.ask.Ask.{Ask}
 use Rattle.afp_serial.specs.declared.ask.Ask.TheVariants as ask
 use Rattle.afp_serial.specs.Answer.{request}
-use Rattle.afp_serial.specs.LawfulCall.{is_number, is_number_or_none, is_signed, is_lawful_value, is_lawful_field, is_lawful_piece, is_lawful_call}
+use Rattle.afp_serial.specs.LawfulCall.{are_bytes_or_none, is_number, is_number_or_none, is_signed, is_lawful_value, is_lawful_field, is_lawful_piece, is_lawful_call}
 use Rattle.afp_serial.specs.Ranges.{is_typed_ask}
 use Rattle.afp_serial.specs.Steps.{block_of, enclosed_of}
 use Rattle.afp_volume.proofs.LongPathNames.{path-named}
@@ -86,11 +86,6 @@ fields-lawful place [] bytes small h = refl
 fields-lawful place (f ∷ fs) bytes small h =
     let parts = both-bytes h.0 h.1 (ap are_bytes (sym h.2) ∙ small) in
     and_from (is_lawful_field f) (list_all is_lawful_field fs) (value-lawful f.word f.value place h.0 h.1 parts.0 h.3) (fields-lawful (place + length h.0) fs h.1 parts.1 h.4)
-
--- what comes with a block, where something does
-abbrev pub are_bytes_or_none : Option (List ℕ) → Bool
-are_bytes_or_none None = true
-are_bytes_or_none (Some bytes) = are_bytes bytes
 
 piece-lawful : (e : Enclosed) (o : Option (List ℕ)) → are_bytes_or_none o ≡ true → IsEnclosed e o → is_lawful_piece e ≡ true
 piece-lawful Nothing o small h = refl

@@ -9,7 +9,7 @@ use Rattle.afp_base.specs.declared.code.Code.TheVariants.{Ok}
 use Rattle.afp_requests.specs.declared.call.Call.TheVariants.{Login, Logout}
 use Rattle.afp_serial.proofs.Closed.{ending-sound, ending-apart}
 use Rattle.afp_serial.proofs.Replaced.{TakesPlace, replaced-apart, replaced-old, replaced-sound, volume-kept}
-use Rattle.afp_serial.proofs.SoundRow.{IsSoundRow}
+use Rattle.afp_serial.proofs.SoundRow.{IsSoundRow, no-keeper}
 use Rattle.afp_serial.proofs.SoundParts.{sessions-parts, opens-parts, caches-parts}
 use Rattle.afp_volume.proofs.TestedLists.{all-weaker, any-filter, find-all}
 use Rattle.afp_serial.specs.ReplyKinds.{reply_kind}
@@ -48,6 +48,7 @@ login-sound version uam tail = record {
   shown = λ w s lawful passes h. login-shown version uam tail;
   apart = λ w s test found a. replaced-apart w s (with_user s guest_id) a (takes w s test guest_id found);
   next = λ w s. refl;
+  keeper = λ w s index passes commits. no-keeper w index commits;
   old = λ w s n h. replaced-old w (with_user s guest_id) n h;
 }
 
@@ -63,5 +64,6 @@ logout-sound = record {
   shown = λ w s lawful passes h. logout-shown;
   apart = λ w s test found a. ending-apart w (λ x. not (x.number == s.number)) a;
   next = λ w s. refl;
+  keeper = λ w s index passes commits. no-keeper w index commits;
   old = λ w s n h. any-filter (λ x. x.number == n) (λ x. not (x.number == s.number)) w.sessions h;
 }

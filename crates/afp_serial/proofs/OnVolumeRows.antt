@@ -1,7 +1,8 @@
 -- What the rows of calls on one volume owe, in one place.
-use Rattle.std.proofs.Common.{◌≡◌, sym, refl, subst, ℕ, Bool, true, false, not, List, [], ◌∷◌, Option, Some, None}
+use Rattle.std.proofs.Common.{◌≡◌, sym, refl, subst, ℕ, zero, suc, ◌<◌, arith, Bool, true, false, not, List, [], ◌∷◌, length, Option, Some, None}
 use Rattle.std.specs.Prelude.{pos}
 use Rattle.std.specs.List.{list_all}
+use Rattle.std.proofs.lemmas.Option.{slice_get_within}
 use Rattle.std.proofs.lemmas.Bool.{and_from}
 use Rattle.afp_base.specs.Choice.{first_holding}
 use Rattle.afp_base.specs.declared.code.Code.{Code}
@@ -13,12 +14,12 @@ use Rattle.afp_replies.specs.Requested.{FitsRequest, IsTold}
 use Rattle.afp_replies.specs.declared.reply.Reply.{Reply}
 use Rattle.afp_requests.specs.declared.call.Call.{Call}
 use Rattle.afp_serial.proofs.SoundParts.{ApartSessions}
-use Rattle.afp_serial.proofs.SoundRow.{IsSoundRow, is_refused, is_short}
+use Rattle.afp_serial.proofs.SoundRow.{IsSoundRow, is_refused, is_short, no-keeper}
 use Rattle.afp_serial.proofs.VolumeCodes.{is_refusal, tree-refuses}
 use Rattle.afp_serial.proofs.VolumeStates.{IsServed, moment-date, served-at, state-sound}
 use Rattle.afp_serial.specs.CallRow.{Effect, Refusal, plain}
 use Rattle.afp_serial.specs.LawfulCall.{is_lawful_call}
-use Rattle.afp_serial.specs.OnVolume.{changes_tree, coded, done_on, on_volume, opened_on, refused_on, tells_of, with_volume_state}
+use Rattle.afp_serial.specs.OnVolume.{changes_tree, coded, done_on, keeper_of, on_volume, opened_on, refused_on, tells_of, with_volume_state}
 use Rattle.afp_serial.specs.ReplyKinds.{command_of, reply_kind}
 use Rattle.afp_serial.specs.Sessions.{has_opened, has_session, volume_at}
 use Rattle.afp_serial.specs.Sound.{IsSound}
@@ -73,6 +74,15 @@ on-passes w s volume refuses passes = by (has_opened s volume) (volume_at w.volu
     by true None there h = absurd (cc)
     by true (Some v) there h = record { state = v; there = there; passes = (coded-none (refuses v) [] h).0 }
 
+-- so the volume of its keeper is there
+pub keeper-there : (w : World) (s : Session) (volume index : ℕ) (refuses : VolumeState → Option Code) → first_holding (on_volume w s volume refuses) ≡ None → keeper_of volume ≡ Some index → index < length w.volumes
+keeper-there w s zero index refuses passes names = absurd (cc)
+keeper-there w s (suc k) index refuses passes names =
+    let p = on-passes w s (suc k) refuses passes in
+    let within : k < length w.volumes = slice_get_within w.volumes k p.state p.there in
+    let same : k ≡ index = cc in
+    omega (arith, within, same)
+
 -- what holds of the world, and of each that is made of a volume, holds of what is done
 done-keeps : (P : World → Type 0) (o : Option VolumeState) (w : World) (does : VolumeState → Effect) → P w → ((v : VolumeState) → P (does v).world) → P (done_on o w does).world
 done-keeps P None w does h gives = h
@@ -91,6 +101,7 @@ tells-sound call volume refuses reply rightly tells = record {
   shown = λ w s lawful passes h. told-shown call (done_on (volume_at w.volumes volume) w (λ v. record { world = w; reply = reply w v })).reply (told w s lawful passes h);
   apart = λ w s test found a. done-keeps ApartSessions (volume_at w.volumes volume) w (λ v. record { world = w; reply = reply w v }) a (λ v. a);
   next = λ w s. done-keeps (λ x. x.next_link ≡ w.next_link) (volume_at w.volumes volume) w (λ v. record { world = w; reply = reply w v }) refl (λ v. refl);
+  keeper = λ w s index passes commits. no-keeper w index commits;
   old = λ w s n h. done-keeps (λ x. has_session x.sessions n ≡ true → has_session w.sessions n ≡ true) (volume_at w.volumes volume) w (λ v. record { world = w; reply = reply w v }) (λ h. h) (λ v h. h) h;
 }
   where
@@ -129,6 +140,7 @@ changes-sound call volume tree reply ranges tells = record {
   shown = λ w s lawful passes h. told-shown call (done_on (volume_at w.volumes volume) w (does w)).reply (told w s passes h);
   apart = λ w s test found a. done-keeps ApartSessions (volume_at w.volumes volume) w (does w) a (λ v. record { numbers = a.numbers; links = a.links; below = a.below });
   next = λ w s. done-keeps (λ x. x.next_link ≡ w.next_link) (volume_at w.volumes volume) w (does w) refl (λ v. refl);
+  keeper = λ w s index passes commits. keeper-there w s volume index (λ v. tree_refusal v (opened_on w volume) tree) passes commits;
   old = λ w s n h. done-keeps (λ x. has_session x.sessions n ≡ true → has_session w.sessions n ≡ true) (volume_at w.volumes volume) w (does w) (λ h. h) (λ v h. h) h;
 }
   where

@@ -13,7 +13,7 @@ use Rattle.afp_requests.specs.declared.call.Call.TheVariants.{OpenVol}
 use Rattle.afp_serial.proofs.OnVolumeRows.{Asks, IsToldTo, coded-none, coded-refused, told-shown}
 use Rattle.afp_serial.proofs.Replaced.{TakesPlace, replaced-apart, replaced-old, replaced-sound, volume-kept}
 use Rattle.afp_serial.proofs.SoundParts.{ApartSessions, sessions-parts, opens-parts, caches-parts}
-use Rattle.afp_serial.proofs.SoundRow.{IsSoundRow}
+use Rattle.afp_serial.proofs.SoundRow.{IsSoundRow, no-keeper}
 use Rattle.afp_serial.proofs.ToldReplies.{volume-told-to}
 use Rattle.afp_serial.proofs.VolumeCodes.{volume-refuses}
 use Rattle.afp_serial.proofs.VolumeStates.{served-at}
@@ -98,5 +98,6 @@ open-vol-sound bits name = record {
       (opens-told w s bits name (volume_named w name) h (opens-passed w bits (volume_named w name) passes));
   apart = λ w s test found a. opens-keeps ApartSessions w s bits (volume_named w name) (state_named w (volume_named w name)) a (λ v. replaced-apart w s (with_volume s v) a (opened-way w s test v found));
   next = λ w s. opens-keeps (λ x. x.next_link ≡ w.next_link) w s bits (volume_named w name) (state_named w (volume_named w name)) refl (λ v. refl);
+  keeper = λ w s index passes commits. no-keeper w index commits;
   old = λ w s n h. opens-keeps (λ x. has_session x.sessions n ≡ true → has_session w.sessions n ≡ true) w s bits (volume_named w name) (state_named w (volume_named w name)) (λ h. h) (λ v. replaced-old w (with_volume s v) n) h;
 }

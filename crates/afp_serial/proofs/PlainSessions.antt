@@ -9,7 +9,7 @@ use Rattle.afp_base.specs.declared.code.Code.TheVariants as code
 use Rattle.afp_base.specs.declared.ids.LinkNumber.{LinkNumber}
 use Rattle.afp_serial.proofs.Closed.{ending-apart}
 use Rattle.afp_serial.proofs.FreshWorld.{start-apart}
-use Rattle.afp_serial.proofs.Keeps.{Keeps, Nothing, after-keeps, nothing-known}
+use Rattle.afp_serial.proofs.Keeps.{AnyCall, Keeps, after-keeps, nothing-known}
 use Rattle.afp_serial.proofs.Opened.{opened-apart}
 use Rattle.afp_serial.proofs.RowsSound.{row-sound}
 use Rattle.afp_serial.proofs.SoundParts.{ApartSessions, same_link}
@@ -31,7 +31,7 @@ use Rattle.afp_serial.specs.World.{World, Session, at_moment, start_world}
 
 -- no two sessions have one link
 
-apart-keeps : Keeps Nothing ApartSessions
+apart-keeps : Keeps AnyCall ApartSessions
 apart-keeps = record {
   opens = λ w room a. opened-apart w a;
   calls = λ w s call test none found passes a. (row-sound call).apart w s test found a;

@@ -5,7 +5,7 @@ use Rattle.afp_requests.specs.declared.call.Call.TheVariants.{CloseDir, CloseVol
 use Rattle.afp_serial.proofs.CloseVolRow.{close-vol-sound}
 use Rattle.afp_serial.proofs.LoginRows.{login-sound, logout-sound}
 use Rattle.afp_serial.proofs.OpenVolRow.{open-vol-sound}
-use Rattle.afp_serial.proofs.SoundRow.{IsSoundRow}
+use Rattle.afp_serial.proofs.SoundRow.{IsSoundRow, no-keeper}
 use Rattle.afp_serial.proofs.TellRows.{close-dir-sound, enumerate-ext-sound, enumerate-ext2-sound, enumerate-sound, flush-sound, get-file-dir-parms-sound, get-vol-parms-sound, open-dir-sound}
 use Rattle.afp_serial.proofs.TreeRows.{create-dir-sound, create-file-sound, delete-sound, move-and-rename-sound, rename-sound, set-dir-parms-sound, set-file-dir-parms-sound, set-file-parms-sound, set-vol-parms-sound}
 use Rattle.afp_serial.specs.Rows.{row, unsupported_row}
@@ -19,6 +19,7 @@ unsupported-sound call = record {
   shown = λ w s lawful passes h. absurd (cc);
   apart = λ w s test found a. a;
   next = λ w s. refl;
+  keeper = λ w s index passes commits. no-keeper w index commits;
   old = λ w s n h. h;
 }
 

@@ -14,8 +14,8 @@ use Rattle.afp_replies.specs.Commands.{rows, shape_in, shape_of}
 use Rattle.afp_requests.specs.Words.{u16}
 use Rattle.afp_requests.specs.declared.call.Call.TheVariants.{CloseDir, Enumerate, EnumerateExt, EnumerateExt2, Flush, GetFileDirParms, GetVolParms, OpenDir}
 use Rattle.afp_serial.proofs.LawfulCalls.{field-lawful}
-use Rattle.afp_serial.proofs.OnVolumeRows.{Asks, on-refused, tells-sound, told-shown}
-use Rattle.afp_serial.proofs.SoundRow.{IsSoundRow}
+use Rattle.afp_serial.proofs.OnVolumeRows.{Asks, keeper-there, on-refused, tells-sound, told-shown}
+use Rattle.afp_serial.proofs.SoundRow.{IsSoundRow, no-keeper}
 use Rattle.afp_serial.proofs.ToldReplies.{dir-told-to, empty-told, list-told-to, node-values-told-to, volume-told-to}
 use Rattle.afp_serial.proofs.VolumeCodes.{list-refuses, node-refuses, open-dir-refuses, volume-refuses}
 use Rattle.afp_serial.specs.Enumerate.{enumerate_ext2_row, enumerate_ext_row, enumerate_row}
@@ -40,6 +40,7 @@ close-dir-sound volume dir = record {
   shown = λ w s lawful passes h. told-shown (CloseDir volume dir) _ (empty-told (CloseDir volume dir) (close-dir-asks volume dir));
   apart = λ w s test found a. a;
   next = λ w s. refl;
+  keeper = λ w s index passes commits. no-keeper w index commits;
   old = λ w s n h. h;
 }
 
@@ -55,6 +56,7 @@ flush-sound volume = record {
   shown = λ w s lawful passes h. told-shown (Flush volume) _ (empty-told (Flush volume) (flush-asks volume));
   apart = λ w s test found a. a;
   next = λ w s. refl;
+  keeper = λ w s index passes commits. keeper-there w s volume.0 index (λ v. None) passes commits;
   old = λ w s n h. h;
 }
 

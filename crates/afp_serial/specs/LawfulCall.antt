@@ -1,5 +1,5 @@
 -- What is known of a call that bytes spell: its numbers are in the ranges of their fields, its texts are bytes, and its paths go down to names (AFP Reference, "Command formats", "Pathnames").
-use Rattle.std.specs.Prelude.{ℕ, ℤ, pos, negsuc, ◌^◌, nat_lt, Bool, true, ◌&&◌, Option, None, Some}
+use Rattle.std.specs.Prelude.{ℕ, ℤ, pos, negsuc, ◌^◌, nat_lt, Bool, true, ◌&&◌, List, Option, None, Some}
 use Rattle.std.specs.List.{list_all}
 use Rattle.afp_requests.specs.Call.{layout_of}
 use Rattle.afp_requests.specs.Words.{Word, Value, Field, Enclosed, Nothing, Piece, Literal, Pad, LastPad, Even, Number, Within, Count, Optional, Signed32, Signed64, Plain, Counted, Pathname, Tail}
@@ -44,6 +44,11 @@ is_lawful_field f = is_lawful_value f.word f.value
 abbrev pub is_lawful_piece : Enclosed → Bool
 is_lawful_piece Nothing = true
 is_lawful_piece (Piece size piece) = are_bytes piece
+
+-- the bytes that come with a block, where some do
+abbrev pub are_bytes_or_none : Option (List ℕ) → Bool
+are_bytes_or_none None = true
+are_bytes_or_none (Some bytes) = are_bytes bytes
 
 unfoldable pub is_lawful_call : Call → Bool
 is_lawful_call call = list_all is_lawful_field (layout_of call).fields && is_lawful_piece (layout_of call).enclosed

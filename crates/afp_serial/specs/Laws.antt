@@ -1,5 +1,5 @@
 -- The laws of the serial answer, in the subject's own words (this profile).
-use Rattle.std.specs.Prelude.{◌≡◌, ◌≢◌, ◌↔◌, ◌⊎◌, ℕ, ◌+◌, ◌<◌, ◌≤◌, ◌==◌, Bool, true, false, not, ◌&&◌, List, [], ◌∷◌, ◌++◌, length, take, All, Some, None, is_none, slice_get}
+use Rattle.std.specs.Prelude.{◌≡◌, ◌≢◌, ◌↔◌, ◌⊎◌, ℕ, ◌+◌, ◌<◌, ◌≤◌, ◌==◌, Bool, true, false, not, ◌&&◌, List, [], ◌∷◌, ◌++◌, length, take, All, Option, Some, None, is_none, slice_get}
 use Rattle.afp_base.specs.Cached.{Request, Answer, cached_answer}
 use Rattle.afp_base.specs.declared.code.Code.{Code}
 use Rattle.afp_base.specs.declared.code.Code.TheVariants.{MiscErr, Ok}
@@ -7,6 +7,7 @@ use Rattle.afp_base.specs.declared.ids.LinkNumber.{LinkNumber}
 use Rattle.afp_replies.specs.Replies.{Shows, canonical_reply}
 use Rattle.afp_requests.specs.Spelt.{is_command, spelt_call}
 use Rattle.afp_requests.specs.declared.call.Call.{Call}
+use Rattle.afp_volume.specs.TypedVolume.{are_bytes}
 use Rattle.afp_volume.specs.VolumeState.{VolumeState}
 use Rattle.afp_serial.specs.declared.ask.Ask.{Ask}
 use Rattle.afp_serial.specs.declared.ask.Ask.TheVariants as ask
@@ -18,6 +19,7 @@ use Rattle.afp_serial.specs.Answer.{answer, after, is_legal, link_number, new_se
 use Rattle.afp_serial.specs.History.{answers, is_lawful, opened_in, stand}
 use Rattle.afp_serial.specs.Household.{Household}
 use Rattle.afp_serial.specs.HouseFault.{house_fault}
+use Rattle.afp_serial.specs.LawfulCall.{are_bytes_or_none, is_lawful_call}
 use Rattle.afp_serial.specs.Limits.{longest_block}
 use Rattle.afp_serial.specs.ReplyKinds.{reply_kind}
 use Rattle.afp_serial.specs.Rows.{committed, effect, ends_session, refusal}
@@ -134,6 +136,14 @@ MayFail =
     → ComesTo (at_moment w e.at) s (request id write offset payload) call
     → committed (at_moment w e.at) s call ≡ Some index
     → is_legal w e ≡ true
+
+-- the law of keepers: where a call would have its effect, the volume whose keeper its row commits to or settles is there
+abbrev pub KeeperIsThere : Type 0
+KeeperIsThere = (w : World) (s : Session) (call : Call) (index : ℕ) → refusal w s call ≡ None → committed w s call ≡ Some index → index < length w.volumes
+
+-- the law of spelling: what bytes spell is a lawful call
+abbrev pub SpeltIsLawful : Type 0
+SpeltIsLawful = (block : List ℕ) (enclosed : Option (List ℕ)) (call : Call) → are_bytes block ≡ true → are_bytes_or_none enclosed ≡ true → spelt_call block enclosed ≡ Some call → is_lawful_call call ≡ true
 
 -- The answer is one that was kept for an equal request of the session.
 pub record IsKeptAnswer (w : World) (e : Entry) (block : List ℕ) (ends : Bool) : Type 0 where

@@ -35,10 +35,16 @@ pub fn what_is_told_is_shown()
 {}
 
 /// A fault comes just where a call would have its effect and its row commits to a volume's keeper, or settles it: so it hides no refusal. It
-/// is told MiscErr, and nothing changes but the latest moment.
+/// is told MiscErr, and nothing changes but the latest moment. The volume of that keeper is there.
 pub fn fault_hides_no_refusal()
     ensures hides { laws.HidesNoRefusal }
     ensures may { laws.MayFail }
+    ensures keeper { laws.KeeperIsThere }
+{}
+
+/// What bytes spell has numbers in the ranges of their fields, texts of bytes, and paths that go down to names.
+pub fn what_bytes_spell_is_lawful()
+    ensures { laws.SpeltIsLawful }
 {}
 
 /// After any entries, legal or not, from a world at the start: no two sessions have one link, and the n-th session that is
