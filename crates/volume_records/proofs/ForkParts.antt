@@ -1,20 +1,19 @@
 -- The blocks of all forks, fork by fork, and the rows of a volume that tables say.
 use Rattle.std.proofs.Common.{◌≡◌, ◌∙◌, ℕ, ◌+◌, ◌*◌, ◌<◌, Bool, true, false, not, List, [], ◌∷◌, ◌++◌, map, length, refl, sym, ap, arith}
 use Rattle.std.specs.Prelude.{nat_le, nat_lt, ◌&&◌, ◌||◌, ◌==◌, bytes_eq}
-use Rattle.std.specs.List.{list_all, list_any, filter}
+use Rattle.std.specs.List.{list_all, list_any}
 use Rattle.fork_bytes.specs.declared.block.Block.{Block}
 use Rattle.fork_bytes.specs.Blocks.{block_size, blocks_of, trimmed}
 use Rattle.fork_bytes.specs.Kept.{bytes_of, are_rising, is_kept, is_empty}
 use Rattle.fork_bytes.specs.Laws.{BytesFromBlocks, BlocksFromBytes, HasItsLength, BlocksRise, BlocksAreKept, BlocksAreFew}
-use Rattle.afp_volume.specs.VolumeState.{VolumeState}
-use Rattle.afp_volume.specs.VolumeState.{Row as VolumeRow}
 use Rattle.afp_volume.specs.TypedVolume.{is_long, are_bytes}
 use Rattle.volume_records.specs.declared.rows.Node.{Node}
 use Rattle.volume_records.specs.declared.rows.ForkBlock.{ForkBlock}
 use Rattle.volume_records.specs.Records.{flag_byte}
 use Rattle.volume_records.specs.Shape.{is_formed_block}
-use Rattle.volume_records.specs.Image.{Tables, block_of, fork_blocks}
+use Rattle.volume_records.specs.Image.{block_of, fork_blocks}
 use Rattle.volume_records.specs.FirstBad.{fork_length}
+pub use Rattle.volume_records.specs.FromTables.{piece_of, own, fork_part, pieces, row_from, volume_of}
 use Rattle.volume_records.proofs.TestParts.{left_true, right_true, both_true, lt_of, le_true, same_of, all-more, all-map}
 use Rattle.volume_records.proofs.Chains.{Chain, chain-more, chain-filter, all-filter, filter-passes}
 use Rattle.volume_records.proofs.Parted.{parted}
@@ -29,50 +28,6 @@ pub record ForkLaw : Type 0 where
   pub rising : BlocksRise
   pub kept : BlocksAreKept
   pub few : BlocksAreFew
-
-abbrev pub piece_of : ForkBlock → Block
-piece_of b = record { index = b.index; bytes = b.bytes }
-
--- the blocks of a node, and of one of its forks
-abbrev pub own : List ForkBlock → ℕ → List ForkBlock
-own blocks id = filter (λ b. id == b.node) blocks
-
-abbrev pub fork_part : List ForkBlock → ℕ → List ForkBlock
-fork_part blocks fork = filter (λ b. fork == flag_byte b.is_resource) blocks
-
-abbrev pub pieces : List ForkBlock → ℕ → ℕ → List Block
-pieces blocks id fork = map piece_of (fork_part (own blocks id) fork)
-
--- a node with the bytes of its forks
-abbrev pub row_from : List ForkBlock → Node → VolumeRow
-row_from blocks n = record {
-  id = n.id;
-  parent = n.parent;
-  dir = n.is_directory;
-  attributes = n.attributes;
-  created = n.created;
-  modified = n.modified;
-  backup = n.backup;
-  finder = n.finder;
-  filed = n.is_filed;
-  name = n.name;
-  data_fork = bytes_of n.data_length (pieces blocks n.id 0);
-  resource_fork = bytes_of n.resource_length (pieces blocks n.id 1);
-}
-
--- the volume that tables say
-abbrev pub volume_of : List ℕ → Tables → VolumeState
-volume_of name t = record {
-  name = name;
-  created = t.head.created;
-  modified = t.head.modified;
-  backup = t.head.backup;
-  next_id = t.head.next_id;
-  rows = map (row_from t.blocks) t.nodes;
-  comments = t.comments;
-  icons = t.icons;
-  appls = t.appls;
-}
 
 -- ---- a fork's blocks rise and can be kept
 

@@ -8,7 +8,8 @@ use Rattle.record_keeper.specs.declared.record.Record.{Record}
 use Rattle.volume_records.specs.declared.rows.Row.{Row}
 use Rattle.volume_records.specs.Records.{record_of}
 use Rattle.volume_records.specs.Shape.{is_formed, row_in}
-use Rattle.volume_records.specs.Image.{Records, image, kept_image, records_in}
+use Rattle.volume_records.specs.Image.{Records, image, kept_image, records_in, tables_of}
+use Rattle.volume_records.specs.FromTables.{volume_of}
 use Rattle.volume_records.specs.KeyOrder.{Rises}
 use Rattle.volume_records.specs.FirstBad.{first_bad_record}
 
@@ -63,3 +64,7 @@ GoodAreKept = (name : List ℕ) (kept : Records) → (entries kept ≡ [] → �
 
 abbrev pub KeptDiffer : Type 0
 KeptDiffer = (name : List ℕ) (v w : VolumeState) → IsVolume name v → IsVolume name w → kept_image v ≡ kept_image w → v ≡ w
+
+-- a sound volume is the one that its tables say
+abbrev pub TablesSayVolumes : Type 0
+TablesSayVolumes = (v : VolumeState) → IsSoundVolume v → volume_of v.name (tables_of v) ≡ v

@@ -1,6 +1,7 @@
 pub mod Records
 pub mod Shape
 pub mod Image
+pub mod FromTables
 pub mod KeyOrder
 pub mod Laws
 pub mod FirstBad

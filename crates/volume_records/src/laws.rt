@@ -29,3 +29,11 @@ pub fn kept_records_are_images()
     fork_bytes::laws::blocks_are_bytes();
     fork_bytes::laws::blocks_of_bytes_are_kept();
 }
+
+/// A sound volume is the one that its tables say: each fork's bytes are those of its length and its blocks.
+pub fn tables_say_volumes()
+    ensures { laws.TablesSayVolumes }
+{
+    fork_bytes::laws::blocks_are_bytes();
+    fork_bytes::laws::blocks_of_bytes_are_kept();
+}
