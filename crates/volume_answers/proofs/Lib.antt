@@ -2,3 +2,8 @@ pub mod Fitting
 pub mod Limits
 pub mod Nodes
 pub mod NodeReplies
+pub mod Fronts
+pub mod EntryBytes
+pub mod Filled
+pub mod Starting
+pub mod ListBytes

@@ -17,3 +17,7 @@ whole rows node = record node { data_fork = bytes_at rows node.id false; resourc
 pub record IsRowOf (rows : List Row) (node row : Row) : Type 0 where
   pub found : row_at rows node.id ≡ Some row
   pub shown : node ≡ bare row
+
+-- a node of these rows, given without its forks
+abbrev pub IsNode : List Row → Row → Type 0
+IsNode rows node = (row : Row) × IsRowOf rows node row

@@ -3,13 +3,18 @@
 
 mod asked;
 mod directory;
+mod entry;
 mod fields;
 mod file;
+mod list_asked;
+mod lists;
 mod names;
 mod node;
 mod parms;
 mod volume;
 
+pub use list_asked::ListAsked;
+pub use lists::list;
 pub use node::node_params;
 pub use parms::{get_file_dir_parms, get_vol_parms, open_dir};
 pub use volume::volume_params;
