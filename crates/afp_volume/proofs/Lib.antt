@@ -21,6 +21,7 @@ pub mod Later
 pub mod Rising
 pub mod Places
 pub mod SoundPut
+pub mod ForkEffects
 pub mod PathNames
 pub mod LongPathNames
 pub mod NameBytes

@@ -1,4 +1,5 @@
 //! Laws of a volume. Each function says one, and does nothing.
+ghost use Rattle.afp_volume.specs.ForkLaws as fork_laws;
 ghost use Rattle.afp_volume.specs.Laws as laws;
 ghost use Rattle.afp_volume.specs.ListLaws as list_laws;
 ghost use Rattle.afp_volume.specs.ValueLaws as value_laws;
@@ -102,6 +103,17 @@ pub fn numbers_stay_in_their_ranges()
 pub fn open_files_stay()
     ensures name { laws.NameStays }
     ensures files { laws.OpenFilesStay }
+{}
+
+/// Other bytes in the fork of a file, for which there is room, keep a volume sound and its numbers in their ranges. The file has them then, and
+/// nothing else of the tree changes.
+pub fn forks_are_given_bytes()
+    ensures sound { fork_laws.ForkKeepsSound }
+    ensures typed { fork_laws.ForkKeepsTyped }
+    ensures given { fork_laws.ForkIsGiven }
+    ensures let_be { fork_laws.ForkLetsBe }
+    ensures files { fork_laws.FilesStay }
+    ensures counted { fork_laws.ForkIsCounted }
 {}
 
 /// Where a walk leads there is a node. Another row may take the place of one. What is done by id is done at the place of that row.

@@ -6,11 +6,12 @@ use Rattle.std.specs.Ordering.{nat_cmp}
 use Rattle.std.proofs.lemmas.Bool.{eqb-true}
 use Rattle.sorted_map.specs.Entries.{at}
 use Rattle.afp_volume.proofs.TestedLists.{find-all, find-passes}
+use Rattle.afp_volume.specs.ForkEffect.{fork_of}
 use Rattle.afp_volume.specs.VolumeState.{Row}
 use Rattle.afp_volume.specs.Walk.{row_at}
 use Rattle.volume_tree.proofs.Showing.{found-shown, missing-shown}
 use Rattle.volume_tree.specs.Kept.{Forks, data_of, resource_of, has_forks, with_forks, rows_of}
-use Rattle.volume_tree.specs.Shown.{file_of, fork_of, fork_at}
+use Rattle.volume_tree.specs.Shown.{file_of, fork_at}
 use Rattle.volume_tree.specs.declared.forks.FileForks.{FileForks as Kept}
 
 -- the row of an id has that id

@@ -7,23 +7,24 @@ use Rattle.std.proofs.lemmas.Bool.{or_right, cases_Bool, cond_both, cond-true, c
 use Rattle.afp_base.specs.declared.ids.NodeId.{NodeId}
 use Rattle.node_rows.specs.Kept.{RowsValue}
 use Rattle.sorted_map.specs.Entries.{at}
-use Rattle.afp_volume.proofs.Formed.{formed-parts}
+use Rattle.afp_volume.proofs.ForkEffects.{bytes-written, written-sound}
 use Rattle.afp_volume.proofs.SoundEdits.{sound-changed, changed-same}
 use Rattle.afp_volume.proofs.SoundPut.{sound-put, put-sizes}
 use Rattle.afp_volume.proofs.TestedLists.{all-weaker, find-all}
 use Rattle.afp_volume.proofs.Trees.{tree-parts}
 use Rattle.afp_volume.proofs.Walks.{find-there}
-use Rattle.afp_volume.specs.Edits.{with_changed, change_at, modified_at, put}
+use Rattle.afp_volume.specs.Edits.{with_changed, change_at, modified_at}
+use Rattle.afp_volume.specs.ForkEffect.{fork_effect, fork_of, written}
 use Rattle.afp_volume.specs.SoundVolume.{IsSoundVolume, TakesRow, has_node, is_formed, is_named, file_attributes, dir_attributes, fork_bytes, row_bytes, most_fork_bytes}
 use Rattle.afp_volume.specs.VolumeState.{Row, VolumeState}
 use Rattle.afp_volume.specs.Walk.{row_at}
 use Rattle.volume_tree.proofs.Applied.{gone-drawn, all-dated}
 use Rattle.volume_tree.proofs.FileForks.{found-id, found-kept}
 use Rattle.volume_tree.proofs.Showing.{found-shown, missing-shown, ids-differ}
-use Rattle.volume_tree.specs.ForkEffect.{IsChanged, fork_effect, kept_fork, written}
+use Rattle.volume_tree.specs.ForkEffect.{IsChanged, kept_fork}
 use Rattle.volume_tree.specs.Kept.{Forks, IsKept, data_of, resource_of, has_forks, with_forks, rows_of, state_of}
 use Rattle.volume_tree.specs.Planned.{dated_rows}
-use Rattle.volume_tree.specs.Shown.{file_of, fork_of, fork_at}
+use Rattle.volume_tree.specs.Shown.{file_of, fork_at}
 use Rattle.volume_tree.specs.declared.head.Dates.{Dates}
 
 -- a file that is there, as it is kept
@@ -88,61 +89,6 @@ pub shown-written : (old new : Forks) (id : NodeId) (now : ℕ) (resource writes
     → rows_of new (dated_rows now (if writes then Some id else None) rows) ≡ with_changed id.0 (written now resource bytes writes) (rows_of old rows)
 shown-written old new id now resource true bytes rows others changed = rows-changed old new id.0 now resource true bytes others changed (modified_at now) rows (λ row. refl)
 shown-written old new id now resource false bytes rows others changed = ap (rows_of new) (sym (unchanged-rows id.0 rows)) ∙ rows-changed old new id.0 now resource false bytes others changed (λ row. row) rows (λ row. refl)
-
--- the row with other bytes
-
-written-formed : (now : ℕ) (resource writes : Bool) (bytes : List ℕ) (s : Row) → s.dir ≡ false → is_formed s ≡ true → is_formed (written now resource bytes writes s) ≡ true
-written-formed now resource writes bytes s file h = go s.dir file h
-  where
-    rest : Row → Bool
-    rest row = (bit_and row.attributes dir_attributes == row.attributes) && ((length row.data_fork == 0) && ((length row.resource_fork == 0) && not row.filed))
-
-    go : (dir : Bool) → dir ≡ false → (is_named s && cond dir (rest s) (bit_and s.attributes file_attributes == s.attributes)) ≡ true
-        → (is_named s && cond dir (rest (written now resource bytes writes s)) (bit_and s.attributes file_attributes == s.attributes)) ≡ true
-    go true is h = absurd (cc)
-    go false is h = h
-
-written-bytes : (now : ℕ) (resource writes : Bool) (bytes before : List ℕ) (s : Row) → fork_of resource s ≡ before → row_bytes (written now resource bytes writes s) + length before ≡ row_bytes s + length bytes
-written-bytes now true writes bytes before s is = let same : length s.resource_fork ≡ length before = ap length is in omega arith
-written-bytes now false writes bytes before s is = let same : length s.data_fork ≡ length before = ap length is in omega arith
-
-module _ (v : VolumeState) (id now : ℕ) (resource writes : Bool) (before bytes : List ℕ) (s : Row) (found : row_at v.rows id ≡ Some s) (file : s.dir ≡ false) (is : fork_of resource s ≡ before) (sound : IsSoundVolume v) where
-  t : Row
-  t = written now resource bytes writes s
-
-  put-written : with_changed id (put t) v.rows ≡ with_changed id (written now resource bytes writes) v.rows
-  unfolding with_changed row_at t
-  put-written = changed-same v.rows id (put t) (written now resource bytes writes) s (ids-differ v sound) found refl
-
-  pub bytes-written : fork_bytes (with_changed id (written now resource bytes writes) v.rows) + length before ≡ fork_bytes v.rows + length bytes
-  unfolding t
-  bytes-written =
-      let sizes : fork_bytes (with_changed id (put t) v.rows) + row_bytes s ≡ fork_bytes v.rows + row_bytes t = (put-sizes v id s t found (tree-parts v sound.tree)).0 in
-      let same : fork_bytes (with_changed id (put t) v.rows) ≡ fork_bytes (with_changed id (written now resource bytes writes) v.rows) = ap fork_bytes put-written in
-      let row : row_bytes t + length before ≡ row_bytes s + length bytes = written-bytes now resource writes bytes before s is in
-      omega arith
-
-  takes : TakesRow s t
-  unfolding t row_at
-  takes = record {
-    id = refl;
-    parent = refl;
-    dir = refl;
-    name = refl;
-    formed = written-formed now resource writes bytes s file (find-all (λ (r : Row). r.id == id) is_formed v.rows s found (formed-parts v sound.formed).rows);
-  }
-
-  pub written-sound : fork_bytes v.rows + length bytes ≤ most_fork_bytes + length before → IsSoundVolume (fork_effect now id resource bytes writes v)
-  unfolding fork_effect t
-  written-sound fits =
-      let row : row_bytes t + length before ≡ row_bytes s + length bytes = written-bytes now resource writes bytes before s is in
-      let put_sound : IsSoundVolume (record v { rows = with_changed id (put t) v.rows }) = sound-put v id s t found takes (omega arith) sound in
-      dated writes (subst (λ rows. IsSoundVolume (record v { rows = rows })) put-written put_sound)
-    where
-      dated : (w : Bool) → IsSoundVolume (record v { rows = with_changed id (written now resource bytes writes) v.rows })
-          → IsSoundVolume (record v { modified = if w then pos now else v.modified; rows = with_changed id (written now resource bytes writes) v.rows })
-      dated true h = sound-changed (record v { rows = with_changed id (written now resource bytes writes) v.rows }) now h
-      dated false h = h
 
 if-created : (w : Bool) (now : ℕ) (dates : Dates) → (if w then (record dates { modified = pos now }) else dates).created ≡ dates.created
 if-created true now dates = refl

@@ -2,6 +2,7 @@
 use Rattle.std.specs.Prelude.{ℕ, Bool, if◌then◌else◌, List, map, Option, Some, None, option_map}
 use Rattle.afp_base.specs.declared.ids.NodeId.{NodeId}
 use Rattle.afp_volume.specs.Calls.{Opened}
+use Rattle.afp_volume.specs.ForkEffect.{fork_of}
 use Rattle.afp_volume.specs.VolumeState.{Row, VolumeState}
 use Rattle.afp_volume.specs.Walk.{row_at}
 
@@ -9,10 +10,6 @@ use Rattle.afp_volume.specs.Walk.{row_at}
 pub record TreeValue : Type 0 where
   pub state : VolumeState
   pub spare : ℕ
-
--- the bytes of a fork of a row
-abbrev pub fork_of : Bool → Row → List ℕ
-fork_of resource row = if resource then row.resource_fork else row.data_fork
 
 -- a row, if it is a file's
 abbrev pub file_of : Option Row → Option Row

@@ -1,0 +1,20 @@
+use Rattle.afp_volume.proofs.ForkEffects.{files-stay, fork-counted, fork-given, fork-lets-be, fork-sound, fork-typed}
+use Rattle.afp_volume.proofs.laws.forks_are_given_bytes.Goals as goal
+
+pub returns-clause-sound : goal.returns-clause-sound
+returns-clause-sound c = fork-sound
+
+pub returns-clause-typed : goal.returns-clause-typed
+returns-clause-typed c = fork-typed
+
+pub returns-clause-given : goal.returns-clause-given
+returns-clause-given c = fork-given
+
+pub returns-clause-let_be : goal.returns-clause-let_be
+returns-clause-let_be c = fork-lets-be
+
+pub returns-clause-files : goal.returns-clause-files
+returns-clause-files c = files-stay
+
+pub returns-clause-counted : goal.returns-clause-counted
+returns-clause-counted c = fork-counted

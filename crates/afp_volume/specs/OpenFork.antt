@@ -1,0 +1,35 @@
+-- FPOpenFork on a volume (AFP Reference, "FPOpenFork"; the order of refusals is this profile's).
+use Rattle.std.specs.Prelude.{ℕ, ◌==◌, Bool, not, ◌&&◌, List, [], ◌∷◌, Option, None, bit_and}
+use Rattle.afp_base.specs.Choice.{first_holding}
+use Rattle.afp_base.specs.declared.code.Code.{Code}
+use Rattle.afp_base.specs.declared.code.Code.TheVariants.{BitmapErr, ObjectLocked, ObjectTypeErr}
+use Rattle.afp_bitmap.specs.Bits.{file_mask}
+use Rattle.afp_bitmap.specs.declared.params.Values.{Values}
+use Rattle.afp_bitmap.specs.declared.params.Values.TheVariants.{File}
+use Rattle.afp_names.specs.Path.{PathValue}
+use Rattle.afp_volume.specs.Calls.{Opened, behind, done_at, first_or, has_attribute, write_inhibit}
+use Rattle.afp_volume.specs.NodeValues.{file_values}
+use Rattle.afp_volume.specs.Parms.{is_outside}
+use Rattle.afp_volume.specs.SoundVolume.{has_file}
+use Rattle.afp_volume.specs.VolumeState.{Row, VolumeState}
+use Rattle.afp_volume.specs.Walk.{found, row_at}
+
+-- whether the resource fork is asked for: bit 7 of the flag (AFP Reference, "FPOpenFork")
+abbrev pub is_resource : ℕ → Bool
+is_resource flag = not (bit_and flag 0x80 == 0)
+
+-- why the volume refuses to open a fork to be written, or to be read alone (this profile)
+unfoldable pub open_fork_refusal : VolumeState → ℕ → Bool → ℕ → PathValue → Option Code
+open_fork_refusal v bits writes dir path = first_or ((is_outside file_mask bits, BitmapErr) ∷ [])
+    (behind (found v.rows dir path) (λ id. first_holding (
+    (not (has_file v.rows id), ObjectTypeErr)
+    ∷ (writes && has_attribute v.rows write_inhibit id, ObjectLocked)
+    ∷ [])))
+
+-- the file that was found, if one was (AFP Reference, "FPOpenFork")
+unfoldable pub open_fork_file : VolumeState → ℕ → PathValue → Option Row
+open_fork_file v dir path = done_at (found v.rows dir path) None (row_at v.rows)
+
+-- what is told of an open fork's file: each value whose bit is asked, as it is with these forks open (AFP Reference, "FPOpenFork", "FPGetForkParms")
+abbrev pub fork_values : List Opened → ℕ → Row → Values
+fork_values opens bits row = File (file_values opens bits row)
