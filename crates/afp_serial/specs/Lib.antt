@@ -10,6 +10,7 @@ pub mod Sound
 pub mod ReplyKinds
 pub mod CallRow
 pub mod OnVolume
+pub mod OnFork
 pub mod ListReply
 pub mod Login
 pub mod Logout
@@ -25,6 +26,9 @@ pub mod Enumerate
 pub mod CreateFile
 pub mod Place
 pub mod SetFileDirParms
+pub mod Fork
+pub mod ForkBytes
+pub mod Lock
 pub mod Rows
 pub mod Steps
 pub mod LawfulCall
