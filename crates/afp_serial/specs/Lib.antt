@@ -38,3 +38,4 @@ pub mod Shown
 pub mod Went
 pub mod ParmsReplies
 pub mod Laws
+pub mod ForkExamples

@@ -5,6 +5,7 @@
 mod ask;
 mod attachment;
 mod checks;
+pub mod fork_laws;
 mod house;
 mod house_fault;
 pub mod laws;
