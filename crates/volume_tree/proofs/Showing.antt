@@ -1,10 +1,11 @@
 -- Rows answer the same with the forks that are kept of them, and without.
-use Rattle.std.proofs.Common.{◌==◌, ◌≡◌, ◌∙◌, ap, sym, refl, ℕ, Bool, true, false, not, ◌&&◌, ◌||◌, cond, List, [], ◌∷◌, map, length, Some, None}
+use Rattle.std.proofs.Common.{◌==◌, ◌≡◌, ◌∙◌, ap, sym, refl, ℕ, Bool, true, false, ◌&&◌, ◌||◌, cond, List, [], ◌∷◌, map, length, Some, None}
 use Rattle.std.specs.Prelude.{option_map}
 use Rattle.std.specs.List.{list_any, find}
-use Rattle.std.proofs.lemmas.Bool.{and_parts, cond_both, cond-true, cond-false, eqb-true, eq-eqb}
+use Rattle.std.proofs.lemmas.Bool.{cond_both, cond-true, cond-false}
+use Rattle.afp_volume.proofs.SeenRows.{test-found}
 use Rattle.afp_volume.proofs.BareRows.{finds-bare, parents-bare, keys-bare, long-names-bare, taken-bare}
-use Rattle.afp_volume.proofs.TestedLists.{any-at, none-all, never, length-mapped}
+use Rattle.afp_volume.proofs.TestedLists.{length-mapped}
 use Rattle.afp_volume.proofs.Trees.{tree-parts}
 use Rattle.afp_volume.specs.Edits.{bare, is_taken}
 use Rattle.afp_base.specs.Apart.{are_apart}
@@ -12,14 +13,6 @@ use Rattle.afp_volume.specs.SoundVolume.{IsSoundVolume, are_named_alike, has_apa
 use Rattle.afp_volume.specs.VolumeState.{Row, VolumeState}
 use Rattle.afp_volume.specs.Walk.{row_at, parent_at, child_by_key, child_by_long_name}
 use Rattle.volume_tree.specs.Kept.{Forks, with_forks, rows_of}
-
-or-false : (b c : Bool) → c ≡ false → (b || c) ≡ b
-or-false true c h = refl
-or-false false c h = h
-
-not-true-is : (b : Bool) → (b ≡ true → ⊥) → b ≡ false
-not-true-is true h = absurd (h refl)
-not-true-is false h = refl
 
 -- without their forks they are the same rows
 pub shown-bare : (forks : Forks) (rows : List Row) → map bare (rows_of forks rows) ≡ map bare rows
@@ -59,22 +52,7 @@ node-shown forks rows id row found plain = ap Some (sym plain) ∙ ap (λ o. opt
 pub no-node-shown : (forks : Forks) (rows : List Row) (id : ℕ) → None ≡ row_at rows id → None ≡ option_map bare (row_at (rows_of forks rows) id)
 no-node-shown forks rows id found = ap (λ o. option_map bare o) found ∙ sym (bare-found forks rows id)
 
--- where ids differ, a test of the row of an id is the test of the one that is found
-pub test-found : (rows : List Row) (id : ℕ) (p : Row → Bool) (s : Row) → are_apart (λ (a : Row) b. a.id == b.id) rows ≡ true → row_at rows id ≡ Some s → list_any (λ row. (row.id == id) && p row) rows ≡ p s
-unfolding row_at
-test-found [] id p s apart found = absurd (cc)
-test-found (row ∷ rows) id p s apart found =
-    let e = and_parts (not (list_any (λ (b : Row). row.id == b.id) rows)) (are_apart (λ (a : Row) b. a.id == b.id) rows) apart in
-    cond_both (row.id == id) (Some row) (find (λ (r : Row). r.id == id) rows)
-    (λ o. o ≡ Some s → (((row.id == id) && p row) || list_any (λ r. (r.id == id) && p r) rows) ≡ p s)
-    (λ here h. let same : row ≡ s = cc in ap (λ b. (b && p row) || list_any (λ r. (r.id == id) && p r) rows) here
-    ∙ or-false (p row) (list_any (λ r. (r.id == id) && p r) rows) (not-true-is (list_any (λ r. (r.id == id) && p r) rows) (λ some.
-    any-at (λ r. (r.id == id) && p r) (λ (b : Row). not (row.id == b.id)) rows some (none-all (λ (b : Row). row.id == b.id) rows e.0)
-    (λ r is other. never (row.id == r.id) (eq-eqb row.id r.id (eqb-true row.id id here ∙ sym (eqb-true r.id id (and_parts (r.id == id) (p r) is).0))) other)))
-    ∙ ap p same)
-    (λ other h. ap (λ b. (b && p row) || list_any (λ r. (r.id == id) && p r) rows) other ∙ test-found rows id p s e.1 h)
-    found
-
+-- a test of the row of an id, where none is found
 pub test-missing : (rows : List Row) (id : ℕ) (p : Row → Bool) → row_at rows id ≡ None → list_any (λ row. (row.id == id) && p row) rows ≡ false
 unfolding row_at
 test-missing [] id p found = refl

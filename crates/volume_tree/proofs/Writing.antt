@@ -1,6 +1,6 @@
 -- What is kept of a volume after other bytes of a fork.
-use Rattle.std.proofs.Common.{◌==◌, ◌≡◌, ◌∙◌, ap, sym, refl, subst, ℕ, ◌+◌, ◌≤◌, ◌<◌, arith, Bool, true, false, not, ◌&&◌, ◌||◌, cond, List, [], ◌∷◌, length, Option, Some, None, inl, inr}
-use Rattle.std.specs.Prelude.{pos, is_some, option_map, bit_and, if◌then◌else◌}
+use Rattle.std.proofs.Common.{◌==◌, ◌≡◌, ◌∙◌, ap, sym, refl, subst, ℕ, ◌+◌, ◌≤◌, ◌<◌, arith, Bool, true, false, ◌||◌, List, [], ◌∷◌, length, Option, Some, None, inl, inr}
+use Rattle.std.specs.Prelude.{pos, is_some, option_map, if◌then◌else◌}
 use Rattle.std.specs.List.{list_all}
 use Rattle.std.specs.Ordering.{nat_cmp}
 use Rattle.std.proofs.lemmas.Bool.{or_right, cases_Bool, cond_both, cond-true, cond-false, eqb-true, ne_eqb}
@@ -8,19 +8,16 @@ use Rattle.afp_base.specs.declared.ids.NodeId.{NodeId}
 use Rattle.node_rows.specs.Kept.{RowsValue}
 use Rattle.sorted_map.specs.Entries.{at}
 use Rattle.afp_volume.proofs.ForkEffects.{bytes-written, written-sound}
-use Rattle.afp_volume.proofs.SoundEdits.{sound-changed, changed-same}
-use Rattle.afp_volume.proofs.SoundPut.{sound-put, put-sizes}
-use Rattle.afp_volume.proofs.TestedLists.{all-weaker, find-all}
-use Rattle.afp_volume.proofs.Trees.{tree-parts}
+use Rattle.afp_volume.proofs.TestedLists.{all-weaker}
 use Rattle.afp_volume.proofs.Walks.{find-there}
 use Rattle.afp_volume.specs.Edits.{with_changed, change_at, modified_at}
 use Rattle.afp_volume.specs.ForkEffect.{fork_effect, fork_of, written}
-use Rattle.afp_volume.specs.SoundVolume.{IsSoundVolume, TakesRow, has_node, is_formed, is_named, file_attributes, dir_attributes, fork_bytes, row_bytes, most_fork_bytes}
-use Rattle.afp_volume.specs.VolumeState.{Row, VolumeState}
+use Rattle.afp_volume.specs.SoundVolume.{IsSoundVolume, has_node, fork_bytes, most_fork_bytes}
+use Rattle.afp_volume.specs.VolumeState.{Row}
 use Rattle.afp_volume.specs.Walk.{row_at}
 use Rattle.volume_tree.proofs.Applied.{gone-drawn, all-dated}
 use Rattle.volume_tree.proofs.FileForks.{found-id, found-kept}
-use Rattle.volume_tree.proofs.Showing.{found-shown, missing-shown, ids-differ}
+use Rattle.volume_tree.proofs.Showing.{found-shown, missing-shown}
 use Rattle.volume_tree.specs.ForkEffect.{IsChanged, kept_fork}
 use Rattle.volume_tree.specs.Kept.{Forks, IsKept, data_of, resource_of, has_forks, with_forks, rows_of, state_of}
 use Rattle.volume_tree.specs.Planned.{dated_rows}
