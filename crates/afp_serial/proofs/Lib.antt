@@ -18,6 +18,9 @@ pub mod OpenVolRow
 pub mod CloseVolRow
 pub mod TellRows
 pub mod TreeRows
+pub mod OnForkRows
+pub mod ForkRows
+pub mod LawfulRows
 pub mod RowsSound
 pub mod Refusals
 pub mod Verdicts

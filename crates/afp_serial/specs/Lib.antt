@@ -39,3 +39,4 @@ pub mod Went
 pub mod ParmsReplies
 pub mod Laws
 pub mod ForkExamples
+pub mod ForkLaws

@@ -1,5 +1,6 @@
 //! Laws of the calls on open forks. Each function says one, and does nothing.
 ghost use Rattle.afp_serial.specs.ForkExamples as worked;
+ghost use Rattle.afp_serial.specs.ForkLaws as laws;
 
 /// What the calls on open forks are told, one after another, in values that were worked by hand.
 pub fn worked_forks_hold()
@@ -10,4 +11,13 @@ pub fn worked_forks_hold()
     ensures writes { worked.WritesFromEnd }
     ensures most { worked.OpensMost }
     ensures most_locks { worked.LocksMost }
+{}
+
+/// The rows of these calls keep a sound world sound, and tell what their requests ask for.
+pub fn fork_rows_are_sound()
+    ensures close_fork { laws.CloseForkIsLawful }
+    ensures flush_fork { laws.FlushForkIsLawful }
+    ensures get_fork_parms { laws.GetForkParmsIsLawful }
+    ensures read { laws.ReadIsLawful }
+    ensures read_ext { laws.ReadExtIsLawful }
 {}

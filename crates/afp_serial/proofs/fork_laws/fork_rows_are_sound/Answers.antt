@@ -1,0 +1,19 @@
+use Rattle.afp_requests.specs.declared.call.Call.TheVariants.{CloseFork, FlushFork, GetForkParms, Read, ReadExt}
+use Rattle.afp_serial.proofs.ForkRows.{close-fork-sound, flush-fork-sound, get-fork-parms-sound, read-ext-sound, read-sound}
+use Rattle.afp_serial.proofs.LawfulRows.{row-lawful}
+use Rattle.afp_serial.proofs.fork_laws.fork_rows_are_sound.Goals as goal
+
+pub returns-clause-close_fork : goal.returns-clause-close_fork
+returns-clause-close_fork c = λ reference. row-lawful (CloseFork reference) _ (close-fork-sound reference)
+
+pub returns-clause-flush_fork : goal.returns-clause-flush_fork
+returns-clause-flush_fork c = λ reference. row-lawful (FlushFork reference) _ (flush-fork-sound reference)
+
+pub returns-clause-get_fork_parms : goal.returns-clause-get_fork_parms
+returns-clause-get_fork_parms c = λ reference bits. row-lawful (GetForkParms reference bits) _ (get-fork-parms-sound reference bits)
+
+pub returns-clause-read : goal.returns-clause-read
+returns-clause-read c = λ reference offset count mask character. row-lawful (Read reference offset count mask character) _ (read-sound reference offset count mask character)
+
+pub returns-clause-read_ext : goal.returns-clause-read_ext
+returns-clause-read_ext c = λ reference offset count. row-lawful (ReadExt reference offset count) _ (read-ext-sound reference offset count)

@@ -1,0 +1,40 @@
+-- The laws of the rows of the calls on open forks (this profile).
+use Rattle.std.specs.Prelude.{◌≡◌, ◌≢◌, ℕ, ℤ, ◌<◌, ◌≤◌, true, Bool, length, find, Some, None}
+use Rattle.afp_base.specs.Choice.{first_holding}
+use Rattle.afp_base.specs.declared.code.Code.TheVariants.{Ok}
+use Rattle.afp_base.specs.declared.ids.ForkRef.{ForkRef}
+use Rattle.afp_replies.specs.Replies.{Shows, canonical_reply}
+use Rattle.afp_requests.specs.declared.call.Call.{Call}
+use Rattle.afp_requests.specs.declared.call.Call.TheVariants.{CloseFork, FlushFork, GetForkParms, Read, ReadExt}
+use Rattle.afp_serial.specs.CallRow.{Refused, Row}
+use Rattle.afp_serial.specs.Fork.{close_fork_row, flush_fork_row, get_fork_parms_row}
+use Rattle.afp_serial.specs.ForkBytes.{read_ext_row, read_row}
+use Rattle.afp_serial.specs.LawfulCall.{is_lawful_call}
+use Rattle.afp_serial.specs.Limits.{longest_block}
+use Rattle.afp_serial.specs.ReplyKinds.{reply_kind}
+use Rattle.afp_serial.specs.Sound.{IsSound}
+use Rattle.afp_serial.specs.World.{World, Session}
+
+-- The row of a call, whose fields are those that bytes give, asked by a session of a sound world: its effect keeps the world sound, its reply is shown by
+-- its bytes, which fit in a frame, and so do those of a refusal, which is never told Ok; and the volume of the keeper that it names is there.
+pub record IsLawfulRow (call : Call) (row : Row) : Type 0 where
+  pub sound : (w : World) (s : Session) (test : Session → Bool) → is_lawful_call call ≡ true → find test w.sessions ≡ Some s → first_holding (row.refusals w s) ≡ None → IsSound w → IsSound (row.effect w s).world
+  pub shown : (w : World) (s : Session) → is_lawful_call call ≡ true → first_holding (row.refusals w s) ≡ None → IsSound w → Shows (row.effect w s).reply (reply_kind call) Ok (canonical_reply (row.effect w s).reply)
+  pub fits : (w : World) (s : Session) → is_lawful_call call ≡ true → first_holding (row.refusals w s) ≡ None → IsSound w → length (canonical_reply (row.effect w s).reply) ≤ longest_block
+  pub refuses : (w : World) (s : Session) (r : Refused) → first_holding (row.refusals w s) ≡ Some r → IsSound w → (r.code ≢ Ok) × (length (canonical_reply r.reply) ≤ longest_block)
+  pub keeper : (w : World) (s : Session) (index : ℕ) → first_holding (row.refusals w s) ≡ None → row.committed w s ≡ Some index → index < length w.volumes
+
+abbrev pub CloseForkIsLawful : Type 0
+CloseForkIsLawful = (reference : ForkRef) → IsLawfulRow (CloseFork reference) (close_fork_row reference.0)
+
+abbrev pub FlushForkIsLawful : Type 0
+FlushForkIsLawful = (reference : ForkRef) → IsLawfulRow (FlushFork reference) (flush_fork_row reference.0)
+
+abbrev pub GetForkParmsIsLawful : Type 0
+GetForkParmsIsLawful = (reference : ForkRef) (bits : ℕ) → IsLawfulRow (GetForkParms reference bits) (get_fork_parms_row reference.0 bits)
+
+abbrev pub ReadIsLawful : Type 0
+ReadIsLawful = (reference : ForkRef) (offset : ℤ) (count mask character : ℕ) → IsLawfulRow (Read reference offset count mask character) (read_row reference.0 offset count mask character)
+
+abbrev pub ReadExtIsLawful : Type 0
+ReadExtIsLawful = (reference : ForkRef) (offset count : ℤ) → IsLawfulRow (ReadExt reference offset count) (read_ext_row reference.0 offset count)
