@@ -20,6 +20,7 @@ pub mod TellRows
 pub mod TreeRows
 pub mod OnForkRows
 pub mod ForkRows
+pub mod WriteRows
 pub mod LawfulRows
 pub mod RowsSound
 pub mod Refusals

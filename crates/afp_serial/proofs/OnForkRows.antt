@@ -2,7 +2,7 @@
 use Rattle.std.proofs.Common.{◌≡◌, ◌∙◌, ap, sym, refl, subst, ℕ, zero, suc, ◌<◌, arith, Bool, true, false, not, ◌&&◌, List, [], ◌∷◌, length, Option, Some, None}
 use Rattle.std.specs.Prelude.{◌==◌, find, nat_lt, option_map, slice_get}
 use Rattle.std.specs.List.{list_all}
-use Rattle.std.proofs.lemmas.Bool.{and_parts, eqb-true}
+use Rattle.std.proofs.lemmas.Bool.{and_parts, cond_both, eqb-true}
 use Rattle.std.proofs.lemmas.Option.{slice_get_within}
 use Rattle.afp_base.specs.Apart.{are_apart}
 use Rattle.afp_base.specs.Choice.{first_holding}
@@ -75,6 +75,19 @@ sound-file w s reference f h held =
       file = file-found f.volume.rows f.fork.fork.node f.file (tree-parts f.volume served.sound.tree).apart held.row (ap (λ q. is_file_of q f.fork.fork.node) (sym held.there) ∙ there);
       reference_is = eqb-true f.fork.reference reference (and_parts (f.fork.reference == reference) (f.fork.session == s.number) (find-passes (is_own s reference) w.opens f.fork held.found)).0;
     }
+
+-- refusals none of which holds
+abbrev pub NoneHolds : List Refusal → Type 0
+NoneHolds [] = Unit {0}
+NoneHolds (row ∷ rows) = (row.0 ≡ false) × NoneHolds rows
+
+pub none-refused : (rows : List Refusal) → first_holding rows ≡ None → NoneHolds rows
+none-refused [] h = tt
+none-refused (row ∷ rows) h =
+    cond_both row.0 (Some row.1) (first_holding rows) (λ o. o ≡ None → NoneHolds (row ∷ rows))
+    (λ here passes. absurd (cc))
+    (λ other passes. (other, none-refused rows passes))
+    h
 
 -- what a row on an open fork owes
 pub record OwesOnFork (call : Call) (reference : ℕ) (refuses : World → OpenFile → List Refusal) (does : World → OpenFile → Effect) (commits : World → OpenFile → Option ℕ) : Type 0 where

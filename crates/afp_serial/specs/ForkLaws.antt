@@ -1,14 +1,14 @@
 -- The laws of the rows of the calls on open forks (this profile).
-use Rattle.std.specs.Prelude.{◌≡◌, ◌≢◌, ℕ, ℤ, ◌<◌, ◌≤◌, true, Bool, length, find, Some, None}
+use Rattle.std.specs.Prelude.{◌≡◌, ◌≢◌, ℕ, ℤ, ◌<◌, ◌≤◌, true, Bool, List, length, find, Some, None}
 use Rattle.afp_base.specs.Choice.{first_holding}
 use Rattle.afp_base.specs.declared.code.Code.TheVariants.{Ok}
 use Rattle.afp_base.specs.declared.ids.ForkRef.{ForkRef}
 use Rattle.afp_replies.specs.Replies.{Shows, canonical_reply}
 use Rattle.afp_requests.specs.declared.call.Call.{Call}
-use Rattle.afp_requests.specs.declared.call.Call.TheVariants.{CloseFork, FlushFork, GetForkParms, Read, ReadExt}
+use Rattle.afp_requests.specs.declared.call.Call.TheVariants.{CloseFork, FlushFork, GetForkParms, Read, ReadExt, SetForkParms, Write, WriteExt}
 use Rattle.afp_serial.specs.CallRow.{Refused, Row}
-use Rattle.afp_serial.specs.Fork.{close_fork_row, flush_fork_row, get_fork_parms_row}
-use Rattle.afp_serial.specs.ForkBytes.{read_ext_row, read_row}
+use Rattle.afp_serial.specs.Fork.{close_fork_row, flush_fork_row, get_fork_parms_row, set_fork_parms_row}
+use Rattle.afp_serial.specs.ForkBytes.{read_ext_row, read_row, write_ext_row, write_row}
 use Rattle.afp_serial.specs.LawfulCall.{is_lawful_call}
 use Rattle.afp_serial.specs.Limits.{longest_block}
 use Rattle.afp_serial.specs.ReplyKinds.{reply_kind}
@@ -38,3 +38,12 @@ ReadIsLawful = (reference : ForkRef) (offset : ℤ) (count mask character : ℕ)
 
 abbrev pub ReadExtIsLawful : Type 0
 ReadExtIsLawful = (reference : ForkRef) (offset count : ℤ) → IsLawfulRow (ReadExt reference offset count) (read_ext_row reference.0 offset count)
+
+abbrev pub SetForkParmsIsLawful : Type 0
+SetForkParmsIsLawful = (reference : ForkRef) (bits : ℕ) (tail : List ℕ) → IsLawfulRow (SetForkParms reference bits tail) (set_fork_parms_row reference.0 bits tail)
+
+abbrev pub WriteIsLawful : Type 0
+WriteIsLawful = (flag : ℕ) (reference : ForkRef) (offset : ℤ) (count : ℕ) (piece : List ℕ) → IsLawfulRow (Write flag reference offset count piece) (write_row flag reference.0 offset count piece)
+
+abbrev pub WriteExtIsLawful : Type 0
+WriteExtIsLawful = (flag : ℕ) (reference : ForkRef) (offset count : ℤ) (piece : List ℕ) → IsLawfulRow (WriteExt flag reference offset count piece) (write_ext_row flag reference.0 offset count piece)

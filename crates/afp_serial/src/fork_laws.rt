@@ -20,4 +20,7 @@ pub fn fork_rows_are_sound()
     ensures get_fork_parms { laws.GetForkParmsIsLawful }
     ensures read { laws.ReadIsLawful }
     ensures read_ext { laws.ReadExtIsLawful }
+    ensures set_fork_parms { laws.SetForkParmsIsLawful }
+    ensures write { laws.WriteIsLawful }
+    ensures write_ext { laws.WriteExtIsLawful }
 {}

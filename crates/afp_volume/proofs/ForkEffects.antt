@@ -1,8 +1,10 @@
 -- Other bytes of a fork keep a volume sound, and its numbers in their ranges.
-use Rattle.std.proofs.Common.{◌==◌, ◌≡◌, ◌∙◌, ap, refl, subst, ℕ, ◌+◌, ◌≤◌, arith, Bool, true, false, not, ◌&&◌, ◌||◌, cond, List, [], ◌∷◌, length, Some}
+use Rattle.std.proofs.Common.{◌==◌, ◌≡◌, ◌∙◌, ap, refl, subst, ℕ, ◌+◌, ◌≤◌, arith, Bool, true, false, not, ◌&&◌, ◌||◌, cond, List, [], ◌∷◌, length, Option, Some}
 use Rattle.std.specs.Prelude.{ℤ, pos, bit_and, option_map, if◌then◌else◌}
+use Rattle.std.specs.List.{find}
 use Rattle.std.proofs.lemmas.Bool.{cond_both, ltb-false}
-use Rattle.afp_volume.proofs.Formed.{formed-parts}
+use Rattle.std.proofs.lemmas.List.Sums.{sum_by-cons}
+use Rattle.afp_volume.proofs.Formed.{formed-parts, limit-parts}
 use Rattle.afp_volume.proofs.SeenRows.{changes-seen, changes-let-be}
 use Rattle.afp_volume.proofs.SoundEdits.{sound-changed, changed-same}
 use Rattle.afp_volume.proofs.SoundPut.{sound-put, put-sizes}
@@ -12,7 +14,7 @@ use Rattle.afp_volume.proofs.TypedEdits.{TypedParts, row-parts, row-whole, typed
 use Rattle.afp_volume.specs.Edits.{change_at, put, with_changed}
 use Rattle.afp_volume.specs.ForkEffect.{fork_effect, fork_of, would_pass, written}
 use Rattle.afp_volume.specs.SoundVolume.{IsSoundVolume, TakesRow, is_formed, is_named, file_attributes, dir_attributes, fork_bytes, has_file, row_bytes, most_fork_bytes}
-use Rattle.afp_volume.specs.TypedVolume.{are_bytes, is_date, is_typed_volume}
+use Rattle.afp_volume.specs.TypedVolume.{are_bytes, is_date, is_typed_row, is_typed_volume}
 use Rattle.afp_volume.specs.VolumeState.{Row, VolumeState}
 use Rattle.afp_volume.specs.Walk.{row_at}
 
@@ -142,3 +144,40 @@ files-same id other change (row ∷ rows) ids kinds = λ i. (same-id i == other 
 pub files-stay : (v : VolumeState) (now id other : ℕ) (resource writes : Bool) (bytes : List ℕ) → has_file (fork_effect now id resource bytes writes v).rows other ≡ has_file v.rows other
 unfolding fork_effect
 files-stay v now id other resource writes bytes = files-same id other (written now resource bytes writes) v.rows (λ row. refl) (λ row. refl)
+
+-- how many bytes a fork has
+
+pub row-within : (rows : List Row) (id : ℕ) (s : Row) → row_at rows id ≡ Some s → row_bytes s ≤ fork_bytes rows
+unfolding row_at
+row-within [] id s found = absurd (cc)
+row-within (row ∷ rows) id s found =
+    let whole : fork_bytes (row ∷ rows) ≡ row_bytes row + fork_bytes rows = sum_by-cons row_bytes row rows in
+    cond_both (row.id == id) (Some row) (find (λ (r : Row). r.id == id) rows) (λ o. o ≡ Some s → row_bytes s ≤ fork_bytes (row ∷ rows))
+    (λ here h. let same : row ≡ s = cc in let one : row_bytes row ≡ row_bytes s = ap row_bytes same in omega (arith, whole, one))
+    (λ other h. let rest = row-within rows id s h in omega (arith, whole, rest))
+    found
+
+fork-within : (resource : Bool) (file : Row) → length (fork_of resource file) ≤ row_bytes file
+fork-within true file = omega arith
+fork-within false file = omega arith
+
+pub fork-few : (v : VolumeState) (id : ℕ) (resource : Bool) (file : Row) → row_at v.rows id ≡ Some file → IsSoundVolume v → length (fork_of resource file) ≤ most_fork_bytes
+fork-few v id resource file found sound =
+    let all : fork_bytes v.rows ≤ most_fork_bytes = (limit-parts v sound.limits).bytes in
+    let own = row-within v.rows id file found in
+    let one = fork-within resource file in
+    omega (arith, all, own, one)
+
+pub new-few : (v : VolumeState) (id : ℕ) (resource : Bool) (file : Row) (new : ℕ) → row_at v.rows id ≡ Some file → would_pass v (length (fork_of resource file)) new ≡ false → new ≤ most_fork_bytes
+new-few v id resource file new found room =
+    let left = room-left v (length (fork_of resource file)) new room in
+    let own = row-within v.rows id file found in
+    let one = fork-within resource file in
+    omega (arith, left, own, one)
+
+-- the bytes of a typed volume's fork are bytes
+pub fork-bytes-typed : (v : VolumeState) (id : ℕ) (resource : Bool) (file : Row) → row_at v.rows id ≡ Some file → is_typed_volume v ≡ true → are_bytes (fork_of resource file) ≡ true
+unfolding row_at
+fork-bytes-typed v id resource file found typed =
+    let r = row-parts file (find-all (λ (row : Row). row.id == id) is_typed_row v.rows file found (typed-parts v typed).rows) in
+    bytes-either resource file.resource_fork file.data_fork r.resource_fork r.data_fork

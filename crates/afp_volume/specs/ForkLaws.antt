@@ -1,7 +1,7 @@
 -- The laws of the bytes of forks on a volume (this profile).
-use Rattle.std.specs.Prelude.{◌≡◌, ℕ, pos, ◌+◌, ◌==◌, Bool, true, false, List, length, Some}
+use Rattle.std.specs.Prelude.{◌≡◌, ◌≤◌, ℕ, pos, ◌+◌, ◌==◌, Bool, true, false, List, length, Some}
 use Rattle.afp_volume.specs.ForkEffect.{fork_effect, fork_of, would_pass, written}
-use Rattle.afp_volume.specs.SoundVolume.{IsSoundVolume, fork_bytes, has_file}
+use Rattle.afp_volume.specs.SoundVolume.{IsSoundVolume, fork_bytes, has_file, most_fork_bytes}
 use Rattle.afp_volume.specs.TypedVolume.{are_bytes, is_date, is_typed_volume}
 use Rattle.afp_volume.specs.VolumeState.{Row, VolumeState}
 use Rattle.afp_volume.specs.Walk.{row_at}
@@ -28,3 +28,10 @@ FilesStay = (v : VolumeState) (now id other : ℕ) (resource writes : Bool) (byt
 abbrev pub ForkIsCounted : Type 0
 ForkIsCounted = (v : VolumeState) (now id : ℕ) (resource writes : Bool) (bytes : List ℕ) (file : Row) → row_at v.rows id ≡ Some file → file.dir ≡ false → IsSoundVolume v
     → fork_bytes (fork_effect now id resource bytes writes v).rows + length (fork_of resource file) ≡ fork_bytes v.rows + length bytes
+
+-- a fork has no more bytes than a volume may have, nor would it where there is room
+abbrev pub ForksAreFew : Type 0
+ForksAreFew = (v : VolumeState) (id : ℕ) (resource : Bool) (file : Row) → row_at v.rows id ≡ Some file → IsSoundVolume v → length (fork_of resource file) ≤ most_fork_bytes
+
+abbrev pub RoomIsFew : Type 0
+RoomIsFew = (v : VolumeState) (id : ℕ) (resource : Bool) (file : Row) (new : ℕ) → row_at v.rows id ≡ Some file → would_pass v (length (fork_of resource file)) new ≡ false → new ≤ most_fork_bytes

@@ -114,6 +114,8 @@ pub fn forks_are_given_bytes()
     ensures let_be { fork_laws.ForkLetsBe }
     ensures files { fork_laws.FilesStay }
     ensures counted { fork_laws.ForkIsCounted }
+    ensures few { fork_laws.ForksAreFew }
+    ensures room { fork_laws.RoomIsFew }
 {}
 
 /// Where a walk leads there is a node. Another row may take the place of one. What is done by id is done at the place of that row.

@@ -1,5 +1,6 @@
-use Rattle.afp_requests.specs.declared.call.Call.TheVariants.{CloseFork, FlushFork, GetForkParms, Read, ReadExt}
+use Rattle.afp_requests.specs.declared.call.Call.TheVariants.{CloseFork, FlushFork, GetForkParms, Read, ReadExt, SetForkParms, Write, WriteExt}
 use Rattle.afp_serial.proofs.ForkRows.{close-fork-sound, flush-fork-sound, get-fork-parms-sound, read-ext-sound, read-sound}
+use Rattle.afp_serial.proofs.WriteRows.{set-fork-parms-sound, write-ext-sound, write-sound}
 use Rattle.afp_serial.proofs.LawfulRows.{row-lawful}
 use Rattle.afp_serial.proofs.fork_laws.fork_rows_are_sound.Goals as goal
 
@@ -17,3 +18,12 @@ returns-clause-read c = λ reference offset count mask character. row-lawful (Re
 
 pub returns-clause-read_ext : goal.returns-clause-read_ext
 returns-clause-read_ext c = λ reference offset count. row-lawful (ReadExt reference offset count) _ (read-ext-sound reference offset count)
+
+pub returns-clause-set_fork_parms : goal.returns-clause-set_fork_parms
+returns-clause-set_fork_parms c = λ reference bits tail. row-lawful (SetForkParms reference bits tail) _ (set-fork-parms-sound reference bits tail)
+
+pub returns-clause-write : goal.returns-clause-write
+returns-clause-write c = λ flag reference offset count piece. row-lawful (Write flag reference offset count piece) _ (write-sound flag reference offset count piece)
+
+pub returns-clause-write_ext : goal.returns-clause-write_ext
+returns-clause-write_ext c = λ flag reference offset count piece. row-lawful (WriteExt flag reference offset count piece) _ (write-ext-sound flag reference offset count piece)

@@ -1,4 +1,4 @@
-use Rattle.afp_volume.proofs.ForkEffects.{files-stay, fork-counted, fork-given, fork-lets-be, fork-sound, fork-typed}
+use Rattle.afp_volume.proofs.ForkEffects.{files-stay, fork-counted, fork-few, fork-given, fork-lets-be, fork-sound, fork-typed, new-few}
 use Rattle.afp_volume.proofs.laws.forks_are_given_bytes.Goals as goal
 
 pub returns-clause-sound : goal.returns-clause-sound
@@ -18,3 +18,9 @@ returns-clause-files c = files-stay
 
 pub returns-clause-counted : goal.returns-clause-counted
 returns-clause-counted c = fork-counted
+
+pub returns-clause-few : goal.returns-clause-few
+returns-clause-few c = fork-few
+
+pub returns-clause-room : goal.returns-clause-room
+returns-clause-room c = new-few
