@@ -21,6 +21,8 @@ pub mod TreeRows
 pub mod OnForkRows
 pub mod ForkRows
 pub mod WriteRows
+pub mod PlacedLists
+pub mod LockRows
 pub mod LawfulRows
 pub mod RowsSound
 pub mod Refusals

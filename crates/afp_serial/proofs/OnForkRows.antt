@@ -25,10 +25,10 @@ use Rattle.afp_volume.proofs.Trees.{tree-parts}
 use Rattle.afp_volume.specs.VolumeState.{Row as File, VolumeState}
 use Rattle.afp_volume.specs.Walk.{row_at}
 
-abbrev is_own : Session → ℕ → OpenFork → Bool
+abbrev pub is_own : Session → ℕ → OpenFork → Bool
 is_own s reference o = (o.reference == reference) && (o.session == s.number)
 
-abbrev on_file : OpenFork → VolumeState → File → OpenFile
+abbrev pub on_file : OpenFork → VolumeState → File → OpenFile
 on_file o v file = record { fork = o; volume = v; file = file }
 
 -- an open fork of the session, with its volume and its file

@@ -1,5 +1,5 @@
 -- FPOpenFork, FPCloseFork, FPFlushFork, FPGetForkParms and FPSetForkParms (AFP Reference, under these names).
-use Rattle.std.specs.Prelude.{ℕ, zero, suc, ◌+◌, ◌-◌, ◌==◌, nat_le, nat_lt, Bool, not, if◌then◌else◌, List, [], ◌∷◌, length, min, max, count_by, bit_and, Option, None, Some}
+use Rattle.std.specs.Prelude.{ℕ, zero, suc, ◌+◌, ◌-◌, ◌==◌, nat_le, Bool, not, if◌then◌else◌, List, [], ◌∷◌, length, min, max, count_by, bit_and, Option, None, Some}
 use Rattle.std.specs.List.{list_any}
 use Rattle.afp_base.specs.DenyMode.{Access, Fork, do_conflict}
 use Rattle.afp_base.specs.ForkBytes.{resized}
@@ -16,7 +16,7 @@ use Rattle.afp_volume.specs.SetForkParms.{asks_length, has_no_length, length_in}
 use Rattle.afp_volume.specs.VolumeState.{Row as File, VolumeState}
 use Rattle.afp_serial.specs.CallRow.{Effect, Refusal, Row, commits_nothing, plain, silently, vol}
 use Rattle.afp_serial.specs.Limits.{most_forks}
-use Rattle.afp_serial.specs.OnFork.{OpenFile, bytes_of, is_locked, keeper_if, keeps_all, own_keeper, row_on_fork, with_bytes}
+use Rattle.afp_serial.specs.OnFork.{OpenFile, bytes_of, is_locked, keeper_if, keeps_all, own_keeper, placed, row_on_fork, with_bytes}
 use Rattle.afp_serial.specs.OnVolume.{coded, opened_on, refused_on}
 use Rattle.afp_serial.specs.Sessions.{closing, is_open, volume_at}
 use Rattle.afp_serial.specs.World.{World, Session, OpenFork}
@@ -51,8 +51,7 @@ lowest_free opens = free_from opens 1 (length opens)
 
 -- the open forks, which stand by rising reference, with one more
 abbrev pub with_open : OpenFork → List OpenFork → List OpenFork
-with_open new [] = new ∷ []
-with_open new (o ∷ os) = if nat_lt new.reference o.reference then new ∷ o ∷ os else o ∷ with_open new os
+with_open new opens = placed (λ (o : OpenFork). o.reference) new opens
 
 -- what a request to open a fork names: the volume, the bits of what is to be told of the file, and the access
 pub record OpenAsked : Type 0 where

@@ -5,11 +5,12 @@ use Rattle.afp_base.specs.declared.code.Code.TheVariants.{Ok}
 use Rattle.afp_base.specs.declared.ids.ForkRef.{ForkRef}
 use Rattle.afp_replies.specs.Replies.{Shows, canonical_reply}
 use Rattle.afp_requests.specs.declared.call.Call.{Call}
-use Rattle.afp_requests.specs.declared.call.Call.TheVariants.{CloseFork, FlushFork, GetForkParms, Read, ReadExt, SetForkParms, Write, WriteExt}
+use Rattle.afp_requests.specs.declared.call.Call.TheVariants.{ByteRangeLock, ByteRangeLockExt, CloseFork, FlushFork, GetForkParms, Read, ReadExt, SetForkParms, Write, WriteExt}
 use Rattle.afp_serial.specs.CallRow.{Refused, Row}
 use Rattle.afp_serial.specs.Fork.{close_fork_row, flush_fork_row, get_fork_parms_row, set_fork_parms_row}
 use Rattle.afp_serial.specs.ForkBytes.{read_ext_row, read_row, write_ext_row, write_row}
 use Rattle.afp_serial.specs.LawfulCall.{is_lawful_call}
+use Rattle.afp_serial.specs.Lock.{byte_range_lock_ext_row, byte_range_lock_row}
 use Rattle.afp_serial.specs.Limits.{longest_block}
 use Rattle.afp_serial.specs.ReplyKinds.{reply_kind}
 use Rattle.afp_serial.specs.Sound.{IsSound}
@@ -47,3 +48,9 @@ WriteIsLawful = (flag : ℕ) (reference : ForkRef) (offset : ℤ) (count : ℕ) 
 
 abbrev pub WriteExtIsLawful : Type 0
 WriteExtIsLawful = (flag : ℕ) (reference : ForkRef) (offset count : ℤ) (piece : List ℕ) → IsLawfulRow (WriteExt flag reference offset count piece) (write_ext_row flag reference.0 offset count piece)
+
+abbrev pub ByteRangeLockIsLawful : Type 0
+ByteRangeLockIsLawful = (flags : ℕ) (reference : ForkRef) (offset length : ℤ) → IsLawfulRow (ByteRangeLock flags reference offset length) (byte_range_lock_row flags reference.0 offset length)
+
+abbrev pub ByteRangeLockExtIsLawful : Type 0
+ByteRangeLockExtIsLawful = (flags : ℕ) (reference : ForkRef) (offset length : ℤ) → IsLawfulRow (ByteRangeLockExt flags reference offset length) (byte_range_lock_ext_row flags reference.0 offset length)

@@ -1,5 +1,5 @@
 -- FPByteRangeLock and FPByteRangeLockExt (AFP Reference, under these names).
-use Rattle.std.specs.Prelude.{ℕ, ℤ, pos, negsuc, zero, suc, ◌+◌, ◌==◌, nat_le, nat_lt, Bool, true, not, ◌&&◌, if◌then◌else◌, List, [], ◌∷◌, filter, count_by, bit_and, Option, None, Some}
+use Rattle.std.specs.Prelude.{ℕ, ℤ, pos, negsuc, zero, suc, ◌+◌, ◌==◌, nat_le, Bool, true, not, ◌&&◌, if◌then◌else◌, List, [], ◌∷◌, filter, count_by, bit_and, Option, None, Some}
 use Rattle.std.specs.List.{list_any}
 use Rattle.afp_base.specs.Overlap.{Range}
 use Rattle.afp_base.specs.declared.code.Code.TheVariants.{LockErr, NoMoreLocks, ParamErr, RangeNotLocked, RangeOverlap}
@@ -8,7 +8,7 @@ use Rattle.afp_replies.specs.declared.reply.Reply.TheVariants.{Start, StartExt}
 use Rattle.afp_serial.specs.CallRow.{Effect, Refusal, Row, plain, silently}
 use Rattle.afp_serial.specs.ForkBytes.{is_from_end, start_in}
 use Rattle.afp_serial.specs.Limits.{most_locks}
-use Rattle.afp_serial.specs.OnFork.{OpenFile, bytes_of, is_met_by_other, keeps_all, meets_lock, row_on_fork}
+use Rattle.afp_serial.specs.OnFork.{OpenFile, bytes_of, is_met_by_other, keeps_all, meets_lock, placed, row_on_fork}
 use Rattle.afp_serial.specs.World.{World, OpenFork, Lock}
 
 -- the last byte that a lock can cover: 2 ^ 63 - 1 (this profile)
@@ -59,8 +59,7 @@ has_lock w o range = list_any (is_lock o.reference range) w.locks
 
 -- the locks, which stand by rising reference, and those of one reference as they were set, with one more
 abbrev pub with_lock : Lock → List Lock → List Lock
-with_lock new [] = new ∷ []
-with_lock new (l ∷ ls) = if nat_lt new.reference l.reference then new ∷ l ∷ ls else l ∷ with_lock new ls
+with_lock new locks = placed (λ (lock : Lock). lock.reference) new locks
 
 -- what is refused to lock, and to unlock
 abbrev pub locking_refusals : World → OpenFork → Range → List Refusal

@@ -1,6 +1,6 @@
 -- What the rows of calls on an open fork share: the reference, which has to be the session's; the file and its bytes; whether locks of others meet
 -- them; and the world with other bytes (AFP Reference, "Fork Commands"; this profile).
-use Rattle.std.specs.Prelude.{ℕ, zero, suc, ◌+◌, ◌==◌, Bool, true, false, not, ◌&&◌, if◌then◌else◌, List, [], ◌∷◌, find, Option, None, Some, option_map}
+use Rattle.std.specs.Prelude.{ℕ, zero, suc, ◌+◌, ◌==◌, nat_lt, Bool, true, false, not, ◌&&◌, if◌then◌else◌, List, [], ◌∷◌, find, Option, None, Some, option_map}
 use Rattle.std.specs.List.{list_any}
 use Rattle.afp_base.specs.Overlap.{Range, do_meet}
 use Rattle.afp_base.specs.declared.code.Code.TheVariants.{ParamErr}
@@ -82,6 +82,11 @@ is_met_by_other w o range = list_any (λ lock. meets_lock w o range lock && not 
 abbrev pub is_locked : World → OpenFork → ℕ → ℕ → Bool
 is_locked w o from zero = false
 is_locked w o from (suc more) = is_met_by_other w o (record { from = from; to = from + more })
+
+-- a list that stands by rising numbers with one more element, behind those of its number
+abbrev pub placed : {A : Type 0} → (A → ℕ) → A → List A → List A
+placed number new [] = new ∷ []
+placed number new (x ∷ xs) = if nat_lt (number new) (number x) then new ∷ x ∷ xs else x ∷ placed number new xs
 
 -- the world in which the fork has other bytes; where none is written and their number stays, nothing changes (this profile)
 abbrev pub with_bytes : World → OpenFile → Bool → List ℕ → World

@@ -23,4 +23,6 @@ pub fn fork_rows_are_sound()
     ensures set_fork_parms { laws.SetForkParmsIsLawful }
     ensures write { laws.WriteIsLawful }
     ensures write_ext { laws.WriteExtIsLawful }
+    ensures byte_range_lock { laws.ByteRangeLockIsLawful }
+    ensures byte_range_lock_ext { laws.ByteRangeLockExtIsLawful }
 {}

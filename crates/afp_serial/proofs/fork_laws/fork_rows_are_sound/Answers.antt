@@ -1,6 +1,7 @@
-use Rattle.afp_requests.specs.declared.call.Call.TheVariants.{CloseFork, FlushFork, GetForkParms, Read, ReadExt, SetForkParms, Write, WriteExt}
+use Rattle.afp_requests.specs.declared.call.Call.TheVariants.{ByteRangeLock, ByteRangeLockExt, CloseFork, FlushFork, GetForkParms, Read, ReadExt, SetForkParms, Write, WriteExt}
 use Rattle.afp_serial.proofs.ForkRows.{close-fork-sound, flush-fork-sound, get-fork-parms-sound, read-ext-sound, read-sound}
 use Rattle.afp_serial.proofs.WriteRows.{set-fork-parms-sound, write-ext-sound, write-sound}
+use Rattle.afp_serial.proofs.LockRows.{byte-range-lock-ext-sound, byte-range-lock-sound}
 use Rattle.afp_serial.proofs.LawfulRows.{row-lawful}
 use Rattle.afp_serial.proofs.fork_laws.fork_rows_are_sound.Goals as goal
 
@@ -27,3 +28,9 @@ returns-clause-write c = λ flag reference offset count piece. row-lawful (Write
 
 pub returns-clause-write_ext : goal.returns-clause-write_ext
 returns-clause-write_ext c = λ flag reference offset count piece. row-lawful (WriteExt flag reference offset count piece) _ (write-ext-sound flag reference offset count piece)
+
+pub returns-clause-byte_range_lock : goal.returns-clause-byte_range_lock
+returns-clause-byte_range_lock c = λ flags reference offset length. row-lawful (ByteRangeLock flags reference offset length) _ (byte-range-lock-sound flags reference offset length)
+
+pub returns-clause-byte_range_lock_ext : goal.returns-clause-byte_range_lock_ext
+returns-clause-byte_range_lock_ext c = λ flags reference offset length. row-lawful (ByteRangeLockExt flags reference offset length) _ (byte-range-lock-ext-sound flags reference offset length)
