@@ -1,9 +1,6 @@
 //! Links, doors, sinks, clocks and gates, as the server's crates meet them.
-ghost use Rattle.std.specs.Prelude.{IfOk};
-ghost use Rattle.afp_outside.specs.Tape.{IsFreshTape};
-
-use crate::taped::{joined, moment};
-use afp_base::{Bytes, LinkNumber, Moment, OutOfMemory};
+use crate::taped::{Plan, link_of, moment};
+use afp_base::{Bytes, LinkNumber, OutOfMemory};
 use afp_outside::{
     Accepted, Clock, Gate, Heard, Link, Listener, OpenGate, Sink, Source, SteadyClock, SystemClock,
     TapeClock, TapeLink, TapeListener, TapeSink, TapeSource, TcpDoor, Wrote,
@@ -16,38 +13,15 @@ use std::test::Fail;
 use std::time::Duration;
 use std::{io, time};
 
-/// A link on which a text comes, by a plan of reads, writes and moments, and with these calls failing.
-fn link_of(
-    alloc: Global,
-    text: &[u8],
-    reads: &[usize],
-    writes: &[usize],
-    moments: &[Moment],
-    failing: &[u64],
-) -> Result<TapeLink, OutOfMemory>
-    ensures { IfOk result IsFreshTape }
-{
-    let bytes = joined(alloc, &[text])?;
-    TapeLink::new(
-        alloc,
-        moment(5),
-        bytes,
-        reads.to_vec(alloc)?,
-        writes.to_vec(alloc)?,
-        moments.to_vec(alloc)?,
-        failing.to_vec(alloc)?,
-    )
-}
-
 /// What each read in turn hears, its bytes, the moment after it, and that of the last bytes.
 fn reads() -> &'static [(Heard, &'static str, u32, u32)] {
     &[
-        (Heard::Got(2), "ab", 10, 10),
-        (Heard::Failed, "", 20, 10),
-        (Heard::Quiet, "", 30, 10),
-        (Heard::Got(3), "cde", 30, 30),
-        (Heard::Got(1), "f", 30, 30),
-        (Heard::End, "", 30, 30),
+        (Heard::Got(2), "ab", 110, 110),
+        (Heard::Failed, "", 120, 110),
+        (Heard::Quiet, "", 130, 110),
+        (Heard::Got(3), "cde", 130, 130),
+        (Heard::Got(1), "f", 130, 130),
+        (Heard::End, "", 130, 130),
     ]
 }
 
@@ -61,27 +35,35 @@ fn writes() -> &'static [(Wrote, &'static str)] {
     ]
 }
 
+/// Whether a link's next read hears this, with these bytes, at this moment, the last bytes at that one.
+fn hears(link: &mut TapeLink, heard: Heard, text: &str, now: u32, heard_at: u32) -> bool {
+    let mut room = [0; 8];
+    let is_heard = link.read(&mut room) == heard && room.as_slice().starts_with(text.as_bytes());
+    is_heard && link.now() == moment(now) && link.heard() == moment(heard_at)
+}
+
 fn expect_reads(rt: &impl Abort, link: &mut TapeLink) {
     for (heard, text, now, heard_at) in reads() {
-        let mut room = [0; 8];
-        assert_eq!(rt; link.read(&mut room), *heard);
-        assert!(rt; room.as_slice().starts_with(text.as_bytes()));
-        assert_eq!(rt; link.now(), moment(*now));
-        assert_eq!(rt; link.heard(), moment(*heard_at));
+        assert!(rt; hears(link, *heard, text, *now, *heard_at), "{text}");
     }
 }
 
 fn expect_writes(rt: &impl Abort, link: &mut TapeLink) {
     for (wrote, written) in writes() {
-        assert_eq!(rt; link.write(b"hello"), *wrote);
-        assert_eq!(rt; link.written(), written.as_bytes());
+        let is_wanted = link.write(b"hello") == *wrote && link.written() == written.as_bytes();
+        assert!(rt; is_wanted, "{written}");
     }
 }
 
 /// A link that is read by `reads()` and then written by `writes()`.
 fn planned_link(alloc: Global) -> Result<TapeLink, OutOfMemory> {
-    let moments = [moment(10), moment(20), moment(30)];
-    link_of(alloc, b"abcdef", &[2, 0, 3], &[3, 0], &moments, &[1, 8])
+    let plan = Plan {
+        reads: &[2, 0, 3],
+        writes: &[3, 0],
+        moments: &[110, 120, 130],
+        failing: &[1, 8],
+    };
+    link_of(alloc, &[b"abcdef"], &plan)
 }
 
 #[test]
@@ -98,11 +80,8 @@ fn planned_sink(alloc: Global) -> Result<TapeSink, OutOfMemory> {
 }
 
 fn expect_report(rt: &impl Abort, sink: &mut TapeSink) {
-    assert_eq!(rt;
-        (sink.write(b"hello"), sink.write(b"lo")),
-        (Wrote::Took(3), Wrote::Failed)
-    );
-    assert_eq!(rt; sink.written(), b"hel".as_slice());
+    let is_cut = sink.write(b"hello") == Wrote::Took(3) && sink.write(b"lo") == Wrote::Failed;
+    assert!(rt; is_cut && sink.written() == b"hel".as_slice());
 }
 
 /// What each read of a source in turn hears, and its bytes.
@@ -125,8 +104,9 @@ fn planned_source(alloc: Global) -> Result<TapeSource, OutOfMemory> {
 fn expect_source(rt: &impl Abort, source: &mut TapeSource) {
     for (heard, text) in source_reads() {
         let mut room = [0; 8];
-        assert_eq!(rt; source.read(&mut room), *heard);
-        assert!(rt; room.as_slice().starts_with(text.as_bytes()));
+        let is_wanted = source.read(&mut room) == *heard
+            && room.as_slice().starts_with(text.as_bytes());
+        assert!(rt; is_wanted, "{text}");
     }
 }
 
@@ -138,7 +118,13 @@ fn accepts() -> &'static [(&'static str, u8)] {
 /// A door through which a link comes, and whose first accept fails.
 fn planned_door(alloc: Global) -> Result<TapeListener, OutOfMemory> {
     let failing = [0].to_vec(alloc)?;
-    let link = link_of(alloc, b"a", &[], &[], &[], &[])?;
+    let plan = Plan {
+        reads: &[],
+        writes: &[],
+        moments: &[],
+        failing: &[],
+    };
+    let link = link_of(alloc, &[b"a"], &plan)?;
     TapeListener::new(alloc, vec![in alloc; link]?, failing)
 }
 
@@ -156,11 +142,17 @@ fn accepted(door: &mut TapeListener) -> (&'static str, u8) {
     }
 }
 
+/// Whether the next accept tells this, of a link that begins with this byte.
+fn is_accepted(door: &mut TapeListener, told: &str, first: u8) -> bool {
+    let (said, byte) = accepted(door);
+    said == told && byte == first
+}
+
 fn expect_accepts(rt: &impl Abort, door: &mut TapeListener) {
     for (told, first) in accepts() {
-        assert_eq!(rt; accepted(door), (*told, *first));
+        assert!(rt; is_accepted(door, told, *first), "{told}");
     }
-    assert_eq!(rt; door.returned().len(), 1);
+    assert!(rt; door.returned().len() == 1);
 }
 
 #[test]
@@ -230,19 +222,25 @@ fn told_steadily<C: time::Clock + Drop>(clock: C) -> Option<u32> {
     Some(clock.moment()?.seconds())
 }
 
+/// Whether both clocks tell these moments of a system's clock that stands so.
+fn tell(unix: Option<u64>, seconds: u32, steadily: Option<u32>) -> bool {
+    told(&SystemClock::new(&Stopped(unix))) == seconds && told_steadily(Stopped(unix)) == steadily
+}
+
+/// What a steady clock tells at first that is set by a clock whose time goes on.
+fn told_going() -> Option<u32> {
+    told_steadily(Going {
+        millis: Cell::new(0),
+    })
+}
+
 #[test]
 fn clocks_tell_their_moments(rt: HostRuntime) {
     for (unix, seconds) in moments() {
-        assert_eq!(rt; told(&SystemClock::new(&Stopped(Some(*unix)))), *seconds);
-        assert_eq!(rt; told_steadily(Stopped(Some(*unix))), Some(*seconds));
+        assert!(rt; tell(Some(*unix), *seconds, Some(*seconds)), "{unix}");
     }
-    assert_eq!(rt; told(&SystemClock::new(&Stopped(None))), 0);
-    assert_eq!(rt; told_steadily(Stopped(None)), None);
-    let going = Going {
-        millis: Cell::new(0),
-    };
-    assert_eq!(rt; told_steadily(going), Some(2));
-    assert_eq!(rt; told(&TapeClock::new(moment(100))), 100);
+    assert!(rt; tell(None, 0, None));
+    assert!(rt; told_going() == Some(2) && told(&TapeClock::new(moment(100))) == 100);
 }
 
 // Goes through a gate, for a link.

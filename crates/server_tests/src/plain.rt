@@ -232,12 +232,21 @@ fn runs(
     ends(alloc, words.as_slice(), &mut door, failing, status, report)
 }
 
+/// The accepts that fail, the status, and the report.
+fn doors() -> &'static [(&'static [u64], u8, &'static str)] {
+    &[
+        (&[9], 0, "entries 5 sessions 1\n"),
+        (&[1], 4, "entries 5 sessions 1\n"),
+        (&[0], 4, "entries 0 sessions 0\n"),
+    ]
+}
+
 #[test]
 fn a_door_may_close_or_fail(rt: HostRuntime) -> Result<(), Fail> {
     let alloc = rt.alloc();
-    assert!(rt; fails(alloc, &[9], 0, "entries 5 sessions 1\n")?);
-    assert!(rt; fails(alloc, &[1], 4, "entries 5 sessions 1\n")?);
-    assert!(rt; fails(alloc, &[0], 4, "entries 0 sessions 0\n")?);
+    for (failing, status, report) in doors() {
+        assert!(rt; fails(alloc, failing, *status, report)?);
+    }
     assert!(rt; runs(alloc, 7, "2", &[0], 5, "")?);
     Ok(())
 }
@@ -251,6 +260,18 @@ static GOOD_WORDS: [(usize, &str); 5] = [
     (7, "1000000"),
 ];
 
+/// Whether the words set one place, the port, one worker and so many links.
+fn are_set(alloc: Global) -> Result<bool, Fail> {
+    let words = words(alloc, 7, "3")?;
+    Ok(match setup(alloc, words.as_slice()) {
+        Ok(settings) => {
+            settings.places.len() == 1
+                && (settings.port, settings.workers, settings.links) == (5548, 1, 3)
+        }
+        Err(_) => false,
+    })
+}
+
 #[test]
 fn good_words_set_the_door(rt: HostRuntime) -> Result<(), Fail> {
     let alloc = rt.alloc();
@@ -261,17 +282,7 @@ fn good_words_set_the_door(rt: HostRuntime) -> Result<(), Fail> {
         );
     }
     good_words_are_served::<TapeListener, OpenGate>();
-    let words = words(alloc, 7, "3")?;
-    match setup(alloc, words.as_slice()) {
-        Ok(settings) => {
-            assert_eq!(rt; settings.places.len(), 1);
-            assert_eq!(rt;
-                (settings.port, settings.workers, settings.links),
-                (5548, 1, 3)
-            );
-        }
-        Err(_) => assert!(rt; false, "the words are good"),
-    }
+    assert!(rt; are_set(alloc)?);
     Ok(())
 }
 
@@ -312,15 +323,19 @@ fn is_refused(alloc: Global, at: usize, other: &str) -> Result<bool, Fail> {
     Ok(good && door.returned().is_empty())
 }
 
+/// Whether a run with no words ends with this status and this report, of which the writes of these numbers fail.
+fn has_no_words(alloc: Global, failing: &[u64], status: u8, report: &str) -> Result<bool, Fail> {
+    let mut door = door_of(alloc, &[], &[])?;
+    ends(alloc, &[], &mut door, failing, status, report)
+}
+
 #[test]
 fn other_words_and_houses_are_refused(rt: HostRuntime) -> Result<(), Fail> {
     let alloc = rt.alloc();
     for (at, other) in &BAD_WORDS {
         assert!(rt; is_refused(alloc, *at, other)?, "{other}");
     }
-    for (failing, status, report) in [([9].as_slice(), 2, "bad words\n"), ([0].as_slice(), 5, "")] {
-        let mut door = door_of(alloc, &[], &[])?;
-        assert!(rt; ends(alloc, &[], &mut door, failing, status, report)?);
-    }
+    assert!(rt; has_no_words(alloc, &[9], 2, "bad words\n")?);
+    assert!(rt; has_no_words(alloc, &[0], 5, "")?);
     Ok(())
 }
