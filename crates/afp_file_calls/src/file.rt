@@ -1,8 +1,12 @@
 //! The requests about files (AFP Reference, "File Commands").
 
-ghost use Rattle.std.specs.Prelude.{OnOk, OnErr};
+ghost use Rattle.std.specs.Prelude.{OnOk, OnErr, [], ◌∷◌};
 ghost use Rattle.afp_requests.specs.File.{create_file, create_file_reader, copy_file, copy_file_reader, set_file_parms, set_file_parms_reader, exchange_files, exchange_files_reader};
-ghost use Rattle.afp_fields.specs.Taking.{Gives};
+ghost use Rattle.afp_requests.specs.Reading.{Alone, words};
+ghost use Rattle.afp_requests.specs.Words.{Even, Pathname, Tail};
+ghost use Rattle.afp_requests.specs.declared.call.Call.TheVariants as calls;
+ghost use Rattle.afp_fields.specs.Input.{read_on};
+ghost use Rattle.afp_fields.specs.Taking.{Gives, IsFound};
 ghost use Rattle.afp_fields.specs.Putting.{PutsAll, Keeps};
 
 use afp_base::{Bytes, NodeId, OutOfMemory, VolumeId};
@@ -59,6 +63,23 @@ pub(crate) fn read_copy_file(alloc: Global, fields: &mut Fields<'_>) -> Result<C
     let dir = NodeId(fields.u32()?);
     let target_volume = VolumeId(fields.u16()?);
     let target_dir = NodeId(fields.u32()?);
+    copy_file_by_paths(alloc, fields, volume, dir, target_volume, target_dir)
+}
+
+/// What stands of FPCopyFile behind its volumes and directories.
+fn copy_file_by_paths(
+    alloc: Global,
+    fields: &mut Fields<'_>,
+    volume: VolumeId,
+    dir: NodeId,
+    target_volume: VolumeId,
+    target_dir: NodeId,
+) -> Result<Call, ReadFault>
+    ensures { IsFound (read_on
+        (words (Pathname ∷ Pathname ∷ Pathname ∷ []) (λ path target_path new_path. Alone
+        (calls.CopyFile volume dir target_volume target_dir path target_path new_path))) fields.old)
+        result }
+{
     let path = fields.path(alloc)?;
     let target_path = fields.path(alloc)?;
     let new_path = fields.path(alloc)?;
@@ -110,6 +131,22 @@ pub(crate) fn read_set_file_parms(alloc: Global, fields: &mut Fields<'_>) -> Res
     let volume = VolumeId(fields.u16()?);
     let dir = NodeId(fields.u32()?);
     let bits = fields.u16()?;
+    set_file_parms_behind_its_bits(alloc, fields, volume, dir, bits)
+}
+
+/// What stands of FPSetFileParms behind its bits.
+fn set_file_parms_behind_its_bits(
+    alloc: Global,
+    fields: &mut Fields<'_>,
+    volume: VolumeId,
+    dir: NodeId,
+    bits: u16,
+) -> Result<Call, ReadFault>
+    ensures { IsFound (read_on
+        (words (Pathname ∷ Even ∷ Tail ∷ []) (λ path _ rest. Alone
+        (calls.SetFileParms volume dir bits path rest))) fields.old)
+        result }
+{
     let path = fields.path(alloc)?;
     fields.even()?;
     let tail = fields.tail(alloc)?;
