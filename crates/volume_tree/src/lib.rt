@@ -25,6 +25,7 @@ mod set_vol_parms;
 mod settings;
 mod tails;
 mod touched;
+mod typed;
 mod volume;
 
 pub use after::NodeAfter;
@@ -33,4 +34,5 @@ pub use plan::Plan;
 pub use resolve::PlanFault;
 pub use restore::Loaded;
 pub use touched::Touched;
+pub use typed::requests_are_typed;
 pub use volume::Volume;

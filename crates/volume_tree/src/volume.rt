@@ -1,6 +1,7 @@
 //! A volume's tree.
-ghost use Rattle.std.specs.Prelude.{◌≡◌, ◌≤◌, ◌+◌, None, Some, pos, length, is_some, IfOk, OnOk, OnErr, option_map, option_copied};
+ghost use Rattle.std.specs.Prelude.{◌≡◌, ◌≤◌, ◌+◌, [], None, Some, pos, length, is_some, IfOk, OnOk, OnErr, option_map, option_copied};
 ghost use Rattle.afp_names.specs.Name.{name_fault};
+ghost use Rattle.afp_volume.specs.DesktopLaws.{with_desktop};
 ghost use Rattle.afp_volume.specs.Edits.{bare, changed_at, new_row};
 ghost use Rattle.afp_volume.specs.SoundVolume.{IsSoundVolume, fork_bytes};
 ghost use Rattle.afp_volume.specs.VolumeState.{fresh_volume};
@@ -120,6 +121,13 @@ impl Volume {
     /// What holds of every volume. The call does nothing.
     pub fn keeps_sound(&self)
         ensures { IsSoundVolume self.now.state }
+    {
+        let _ = &self.used;
+    }
+
+    /// The desktop database of a volume is kept elsewhere. The call does nothing.
+    pub fn has_no_desktop(&self)
+        ensures { self.now.state ≡ with_desktop self.now.state [] [] [] }
     {
         let _ = &self.used;
     }
