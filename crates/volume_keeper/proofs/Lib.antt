@@ -5,3 +5,4 @@ pub mod TouchedOrder
 pub mod KeptRecords
 pub mod Changing
 pub mod TreePlans
+pub mod WholePlans

@@ -1,6 +1,6 @@
 -- A plan of a volume's tree, and of the volume with its desktop database.
-use Rattle.std.proofs.Common.{◌≡◌, ◌∙◌, ap, sym, refl, subst, ℕ, ◌≤◌, Bool, true, ◌&&◌, List, [], ◌∷◌, Option, Some, None, arith}
-use Rattle.std.specs.Prelude.{Result, Ok, Err, IfOk, IfSome, IsSome, pos, nat_le}
+use Rattle.std.proofs.Common.{◌≡◌, ◌∙◌, ap, sym, refl, subst, ℕ, ◌≤◌, Bool, true, ◌&&◌, List, [], ◌∷◌, Option, Some, None}
+use Rattle.std.specs.Prelude.{Result, Ok, Err, IfOk, IfSome, IsSome, nat_le}
 use Rattle.std.proofs.lemmas.Bool.{and_from, le-leb}
 use Rattle.afp_base.specs.declared.ids.NodeId.{NodeId}
 use Rattle.afp_volume.specs.Calls.{Opened, has_no_ids, has_no_room}
@@ -13,9 +13,8 @@ use Rattle.afp_volume.specs.Laws.{CallsKeepTyped, StepsKeepSound}
 use Rattle.afp_volume.specs.MoveAndRename.{move_refusal}
 use Rattle.afp_volume.specs.Rename.{rename_refusal}
 use Rattle.afp_volume.specs.SetFileDirParms.{set_file_parms_refusal, set_dir_parms_refusal, set_file_dir_parms_refusal}
-use Rattle.afp_volume.specs.SetVolParms.{set_vol_parms_refusal}
 use Rattle.afp_volume.specs.SoundVolume.{IsSoundVolume, has_noted_nodes}
-use Rattle.afp_volume.specs.TreeSteps.{TreeCall, CreateDir, CreateFile, Delete, Rename, MoveAndRename, SetFileParms, SetDirParms, SetFileDirParms, SetVolParms, TreeStep, tree_refusal, tree_effect, is_named_call, is_typed_call, unless_refused}
+use Rattle.afp_volume.specs.TreeSteps.{TreeCall, CreateDir, CreateFile, Delete, Rename, MoveAndRename, SetFileParms, SetDirParms, SetFileDirParms, SetVolParms, tree_refusal, tree_effect, is_named_call, is_typed_call, unless_refused}
 use Rattle.afp_volume.specs.TypedVolume.{is_typed_volume}
 use Rattle.afp_volume.specs.VolumeState.{Appl, Comment, Icon, VolumeState}
 use Rattle.volume_tree.specs.Answered.{Refuses}
