@@ -1,5 +1,6 @@
 -- The bytes of forks keep their limits.
 use Rattle.std.proofs.Common.{◌≡◌, ◌∙◌, ◌==◌, ap, refl, ℕ, ◌+◌, ◌≤◌, ◌<◌, ◌^◌, Bool, true, false, cond, List, [], ◌∷◌, length, Option, Some, None, arith}
+use Rattle.afp_volume.specs.ForkEffect.{fork_of}
 use Rattle.std.specs.Prelude.{option_map, unwrap_or}
 use Rattle.std.specs.List.{find}
 use Rattle.std.proofs.lemmas.Bool.{cond_both}
@@ -10,7 +11,7 @@ use Rattle.afp_volume.specs.SoundVolume.{IsSoundVolume, fork_bytes, most_fork_by
 use Rattle.afp_volume.specs.VolumeState.{Row, VolumeState}
 use Rattle.afp_volume.specs.Walk.{row_at}
 use Rattle.volume_answers.specs.Told.{bytes_at, whole}
-use Rattle.volume_tree.specs.Shown.{fork_of, file_of, fork_at}
+use Rattle.volume_tree.specs.Shown.{file_of, fork_at}
 
 pub used-within : (v : VolumeState) → IsSoundVolume v → fork_bytes v.rows ≤ most_fork_bytes
 used-within v s = let limits : LimitParts v = limit-parts v s.limits in limits.bytes

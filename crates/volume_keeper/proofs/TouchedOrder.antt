@@ -1,5 +1,6 @@
 -- The nodes that a plan touches, one after the other.
 use Rattle.std.proofs.Common.{◌≡◌, ◌∙◌, ℕ, ◌<◌, Bool, true, false, cond, List, [], ◌∷◌, ◌++◌, ◌||◌, map, length, refl, sym, ap, arith}
+use Rattle.afp_volume.specs.ForkEffect.{fork_of}
 use Rattle.std.specs.Prelude.{Option, Some, None, IfSome, option_map, nat_lt, ◌==◌}
 use Rattle.std.specs.List.{filter, find, list_all, list_any}
 use Rattle.afp_base.specs.declared.ids.NodeId.{NodeId}
@@ -13,7 +14,7 @@ use Rattle.volume_records.specs.Image.{node_of}
 use Rattle.volume_tree.specs.Planned.{PlanState}
 use Rattle.volume_tree.specs.TouchedNodes.{is_touched, are_rising, IsTouched}
 use Rattle.volume_keeper.specs.Changes.{put}
-use Rattle.volume_tree.specs.Shown.{file_of, fork_at, fork_of}
+use Rattle.volume_tree.specs.Shown.{file_of, fork_at}
 use Rattle.volume_keeper.specs.Steps.{length_of, node_put, nodes_put, sized}
 use Rattle.volume_keeper.proofs.PlanSteps.{same_number}
 use Rattle.volume_keeper.proofs.GoneRecords.{HasFitForks, first_true, second_true, higher}

@@ -1,5 +1,6 @@
 -- What is kept of a volume after a block of a fork was filled.
 use Rattle.std.proofs.Common.{◌==◌, ◌≡◌, ◌∙◌, ap, sym, refl, subst, ℕ, ◌+◌, ◌*◌, ◌≤◌, arith, Bool, true, false, List, [], ◌∷◌, length}
+use Rattle.afp_volume.specs.ForkEffect.{fork_effect, written, fork_of}
 use Rattle.std.specs.Prelude.{max}
 use Rattle.std.specs.Ordering.{nat_cmp}
 use Rattle.afp_base.specs.ForkBytes.{splice, Reaches}
@@ -18,9 +19,8 @@ use Rattle.volume_tree.proofs.FileForks.{found-id}
 use Rattle.volume_tree.proofs.Showing.{found-shown, ids-differ}
 use Rattle.volume_tree.proofs.Writing.{FileThere, Written, file-there, before-within, written-kept, written-state}
 use Rattle.volume_tree.specs.Filled.{FitsFork, block_size, filled, filled_row}
-use Rattle.volume_tree.specs.ForkEffect.{IsChanged, fork_effect, kept_fork, written}
+use Rattle.volume_tree.specs.ForkEffect.{IsChanged, kept_fork}
 use Rattle.volume_tree.specs.Kept.{Forks, IsKept, rows_of, state_of, with_forks}
-use Rattle.volume_tree.specs.Shown.{fork_of}
 use Rattle.volume_tree.specs.declared.head.Dates.{Dates}
 
 same-length : Reaches → (bytes : List ℕ) (from : ℕ) (block : List ℕ) → from + length block ≤ length bytes → length (splice bytes from block) ≡ length bytes

@@ -1,5 +1,6 @@
 -- What a plan leaves of a fork.
 use Rattle.std.proofs.Common.{◌≡◌, ◌∙◌, ap, sym, refl, ℕ, ◌==◌, Bool, true, false, List, Option, Some, None}
+use Rattle.afp_volume.specs.ForkEffect.{fork_of}
 use Rattle.std.specs.Prelude.{option_map, if◌then◌else◌}
 use Rattle.afp_base.specs.declared.ids.NodeId.{NodeId}
 use Rattle.afp_volume.specs.Edits.{bare, change_at, at_place, modified_at}
@@ -9,7 +10,7 @@ use Rattle.afp_volume.specs.Walk.{row_at}
 use Rattle.volume_tree.proofs.Afters.{or_row, after-found, stays-gone, stays-here}
 use Rattle.volume_tree.specs.After.{moved_row, set_row, dated_row, after_row, come_row}
 use Rattle.volume_tree.specs.Planned.{Move, SetNode, PlanState, planned, is_gone, gone_rows, come_rows}
-use Rattle.volume_tree.specs.Shown.{file_of, fork_of, fork_at}
+use Rattle.volume_tree.specs.Shown.{file_of, fork_at}
 
 -- what a fork is told of a row stays
 

@@ -1,10 +1,11 @@
 //! What a plan leaves of a volume, told before it is carried out. None of these takes memory.
 ghost use Rattle.std.specs.Prelude.{◌≡◌, Bool, option_map, option_copied};
+ghost use Rattle.afp_volume.specs.ForkEffect.{fork_of};
 ghost use Rattle.afp_volume.specs.Edits.{bare, at_place, modified_at};
 ghost use Rattle.afp_volume.specs.SetFileDirParms.{with_settings};
 ghost use Rattle.afp_volume.specs.Walk.{row_at};
 ghost use Rattle.volume_tree.specs.After.{moved_row, set_row, dated_row, come_row};
-ghost use Rattle.volume_tree.specs.Shown.{file_of, fork_at, fork_of};
+ghost use Rattle.volume_tree.specs.Shown.{file_of, fork_at};
 ghost use Rattle.volume_tree.specs.Planned.{is_gone, gone_rows, come_rows, planned, next_after};
 
 use crate::head::VolumeHead;
