@@ -21,7 +21,8 @@ use Rattle.afp_volume.specs.SoundVolume.{IsSoundVolume, has_node}
 use Rattle.afp_volume.specs.VolumeState.{Row, VolumeState}
 use Rattle.afp_volume.specs.Walk.{found, has_directory, row_at}
 use Rattle.volume_answers.specs.Told.{IsRowOf}
-use Rattle.volume_tree.proofs.Showing.{test-found, ids-differ}
+use Rattle.afp_volume.proofs.SeenRows.{test-found}
+use Rattle.volume_tree.proofs.Showing.{ids-differ}
 
 five : (before a b c d p : List ℕ) → before ++ a ++ b ++ c ++ d ++ p ≡ before ++ (a ++ (b ++ (c ++ (d ++ p))))
 five before a b c d p =
