@@ -23,6 +23,7 @@ pub mod ForkRows
 pub mod WriteRows
 pub mod PlacedLists
 pub mod LockRows
+pub mod FreeReferences
 pub mod LawfulRows
 pub mod RowsSound
 pub mod Refusals

@@ -1,5 +1,5 @@
 -- The laws of the rows of the calls on open forks (this profile).
-use Rattle.std.specs.Prelude.{◌≡◌, ◌≢◌, ℕ, ℤ, ◌<◌, ◌≤◌, true, Bool, List, length, find, Some, None}
+use Rattle.std.specs.Prelude.{◌≡◌, ◌≢◌, ℕ, ℤ, ◌+◌, ◌*◌, ◌<◌, ◌≤◌, true, false, Bool, List, length, find, Some, None}
 use Rattle.afp_base.specs.Choice.{first_holding}
 use Rattle.afp_base.specs.declared.code.Code.TheVariants.{Ok}
 use Rattle.afp_base.specs.declared.ids.ForkRef.{ForkRef}
@@ -7,14 +7,15 @@ use Rattle.afp_replies.specs.Replies.{Shows, canonical_reply}
 use Rattle.afp_requests.specs.declared.call.Call.{Call}
 use Rattle.afp_requests.specs.declared.call.Call.TheVariants.{ByteRangeLock, ByteRangeLockExt, CloseFork, FlushFork, GetForkParms, Read, ReadExt, SetForkParms, Write, WriteExt}
 use Rattle.afp_serial.specs.CallRow.{Refused, Row}
-use Rattle.afp_serial.specs.Fork.{close_fork_row, flush_fork_row, get_fork_parms_row, set_fork_parms_row}
+use Rattle.afp_serial.specs.Fork.{close_fork_row, flush_fork_row, get_fork_parms_row, lowest_free, set_fork_parms_row}
 use Rattle.afp_serial.specs.ForkBytes.{read_ext_row, read_row, write_ext_row, write_row}
 use Rattle.afp_serial.specs.LawfulCall.{is_lawful_call}
 use Rattle.afp_serial.specs.Lock.{byte_range_lock_ext_row, byte_range_lock_row}
-use Rattle.afp_serial.specs.Limits.{longest_block}
+use Rattle.afp_serial.specs.Limits.{longest_block, most_forks, most_sessions}
 use Rattle.afp_serial.specs.ReplyKinds.{reply_kind}
+use Rattle.afp_serial.specs.Sessions.{is_open}
 use Rattle.afp_serial.specs.Sound.{IsSound}
-use Rattle.afp_serial.specs.World.{World, Session}
+use Rattle.afp_serial.specs.World.{World, Session, OpenFork}
 
 -- The row of a call, whose fields are those that bytes give, asked by a session of a sound world: its effect keeps the world sound, its reply is shown by
 -- its bytes, which fit in a frame, and so do those of a refusal, which is never told Ok; and the volume of the keeper that it names is there.
@@ -54,3 +55,17 @@ ByteRangeLockIsLawful = (flags : ℕ) (reference : ForkRef) (offset length : ℤ
 
 abbrev pub ByteRangeLockExtIsLawful : Type 0
 ByteRangeLockExtIsLawful = (flags : ℕ) (reference : ForkRef) (offset length : ℤ) → IsLawfulRow (ByteRangeLockExt flags reference offset length) (byte_range_lock_ext_row flags reference.0 offset length)
+
+-- a new reference is the lowest number from 1 that is no reference of any session
+abbrev pub ReferenceIsFree : Type 0
+ReferenceIsFree = (opens : List OpenFork) → is_open opens (lowest_free opens) ≡ false
+
+abbrev pub ReferenceIsLowest : Type 0
+ReferenceIsLowest = (opens : List OpenFork) (k : ℕ) → 1 ≤ k → k < lowest_free opens → is_open opens k ≡ true
+
+abbrev pub ReferenceCounts : Type 0
+ReferenceCounts = (opens : List OpenFork) → (1 ≤ lowest_free opens) × (lowest_free opens ≤ 1 + length opens)
+
+-- no more forks are open than all sessions may have together
+abbrev pub OpensAreFew : Type 0
+OpensAreFew = (w : World) → IsSound w → length w.opens ≤ most_sessions * most_forks

@@ -26,3 +26,11 @@ pub fn fork_rows_are_sound()
     ensures byte_range_lock { laws.ByteRangeLockIsLawful }
     ensures byte_range_lock_ext { laws.ByteRangeLockExtIsLawful }
 {}
+
+/// A new reference is the lowest number from 1 that is no reference of any session. No more forks are open than 64 sessions with 256 each have.
+pub fn references_are_lowest()
+    ensures free { laws.ReferenceIsFree }
+    ensures lowest { laws.ReferenceIsLowest }
+    ensures counts { laws.ReferenceCounts }
+    ensures few { laws.OpensAreFew }
+{}

@@ -1,5 +1,5 @@
 -- FPOpenFork on a volume (AFP Reference, "FPOpenFork"; the order of refusals is this profile's).
-use Rattle.std.specs.Prelude.{ℕ, ◌==◌, Bool, not, ◌&&◌, List, [], ◌∷◌, Option, None, bit_and}
+use Rattle.std.specs.Prelude.{ℕ, ◌==◌, Bool, not, ◌&&◌, List, [], ◌∷◌, Option, Some, None, bit_and, if◌then◌else◌}
 use Rattle.afp_base.specs.Choice.{first_holding}
 use Rattle.afp_base.specs.declared.code.Code.{Code}
 use Rattle.afp_base.specs.declared.code.Code.TheVariants.{BitmapErr, ObjectLocked, ObjectTypeErr}
@@ -26,9 +26,14 @@ open_fork_refusal v bits writes dir path = first_or ((is_outside file_mask bits,
     ∷ (writes && has_attribute v.rows write_inhibit id, ObjectLocked)
     ∷ [])))
 
+-- a row, if it is a file's
+abbrev pub file_of : Option Row → Option Row
+file_of None = None
+file_of (Some row) = if row.dir then None else Some row
+
 -- the file that was found, if one was (AFP Reference, "FPOpenFork")
 unfoldable pub open_fork_file : VolumeState → ℕ → PathValue → Option Row
-open_fork_file v dir path = done_at (found v.rows dir path) None (row_at v.rows)
+open_fork_file v dir path = done_at (found v.rows dir path) None (λ id. file_of (row_at v.rows id))
 
 -- what is told of an open fork's file: each value whose bit is asked, as it is with these forks open (AFP Reference, "FPOpenFork", "FPGetForkParms")
 abbrev pub fork_values : List Opened → ℕ → Row → Values

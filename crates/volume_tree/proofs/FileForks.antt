@@ -11,7 +11,8 @@ use Rattle.afp_volume.specs.VolumeState.{Row}
 use Rattle.afp_volume.specs.Walk.{row_at}
 use Rattle.volume_tree.proofs.Showing.{found-shown, missing-shown}
 use Rattle.volume_tree.specs.Kept.{Forks, data_of, resource_of, has_forks, with_forks, rows_of}
-use Rattle.volume_tree.specs.Shown.{file_of, fork_at}
+use Rattle.afp_volume.specs.OpenFork.{file_of}
+use Rattle.volume_tree.specs.Shown.{fork_at}
 use Rattle.volume_tree.specs.declared.forks.FileForks.{FileForks as Kept}
 
 -- the row of an id has that id

@@ -21,7 +21,8 @@ use Rattle.volume_tree.proofs.Showing.{found-shown, missing-shown}
 use Rattle.volume_tree.specs.ForkEffect.{IsChanged, kept_fork}
 use Rattle.volume_tree.specs.Kept.{Forks, IsKept, data_of, resource_of, has_forks, with_forks, rows_of, state_of}
 use Rattle.volume_tree.specs.Planned.{dated_rows}
-use Rattle.volume_tree.specs.Shown.{file_of, fork_at}
+use Rattle.afp_volume.specs.OpenFork.{file_of}
+use Rattle.volume_tree.specs.Shown.{fork_at}
 use Rattle.volume_tree.specs.declared.head.Dates.{Dates}
 
 -- a file that is there, as it is kept

@@ -3,6 +3,7 @@ use Rattle.std.specs.Prelude.{ℕ, Bool, if◌then◌else◌, List, map, Option,
 use Rattle.afp_base.specs.declared.ids.NodeId.{NodeId}
 use Rattle.afp_volume.specs.Calls.{Opened}
 use Rattle.afp_volume.specs.ForkEffect.{fork_of}
+use Rattle.afp_volume.specs.OpenFork.{file_of}
 use Rattle.afp_volume.specs.VolumeState.{Row, VolumeState}
 use Rattle.afp_volume.specs.Walk.{row_at}
 
@@ -10,11 +11,6 @@ use Rattle.afp_volume.specs.Walk.{row_at}
 pub record TreeValue : Type 0 where
   pub state : VolumeState
   pub spare : ℕ
-
--- a row, if it is a file's
-abbrev pub file_of : Option Row → Option Row
-file_of None = None
-file_of (Some row) = if row.dir then None else Some row
 
 -- a fork of the file of this id (AFP Reference, "File forks")
 unfoldable pub fork_at : List Row → ℕ → Bool → Option (List ℕ)

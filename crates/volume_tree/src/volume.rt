@@ -6,7 +6,8 @@ ghost use Rattle.afp_volume.specs.Edits.{bare, changed_at, new_row};
 ghost use Rattle.afp_volume.specs.SoundVolume.{IsSoundVolume, fork_bytes};
 ghost use Rattle.afp_volume.specs.VolumeState.{fresh_volume};
 ghost use Rattle.afp_volume.specs.Walk.{row_at};
-ghost use Rattle.volume_tree.specs.Shown.{file_of, fork_at};
+ghost use Rattle.afp_volume.specs.OpenFork.{file_of};
+ghost use Rattle.volume_tree.specs.Shown.{fork_at};
 
 use crate::forks::{FileForks, keep};
 use crate::head::{Dates, NEVER, VolumeHead};
