@@ -19,7 +19,7 @@ use Rattle.afp_serial.proofs.Closed.{within}
 use Rattle.afp_serial.proofs.LawfulCalls.{field-lawful}
 use Rattle.afp_serial.proofs.OnForkRows.{IsHeld, fork-row-sound, is_own, none-refused, sound-file}
 use Rattle.afp_serial.proofs.OnVolumeRows.{Asks, IsToldTo}
-use Rattle.afp_serial.proofs.PlacedLists.{all-placed, any-pair, apart-placed, count-placed, one_if}
+use Rattle.afp_serial.proofs.PlacedLists.{all-placed, any-pair, apart-placed, count-placed, find-any, one_if}
 use Rattle.afp_serial.proofs.SoundParts.{KeptLimits, LawfulLocks, do_overlap, keeps_locks, limits-parts, limits-whole, locks-parts, locks-whole}
 use Rattle.afp_serial.proofs.SoundRow.{IsSoundRow, is_refused}
 use Rattle.afp_serial.proofs.WriteRows.{start-small}
@@ -38,7 +38,7 @@ use Rattle.afp_volume.specs.SoundVolume.{most_fork_bytes}
 
 -- which of two comes first makes no difference
 
-fork-sym : (a b : Fork) → is_one_fork a b ≡ true → is_one_fork b a ≡ true
+pub fork-sym : (a b : Fork) → is_one_fork a b ≡ true → is_one_fork b a ≡ true
 fork-sym a b h = (one_fork b a).1 (sym ((one_fork a b).0 h))
 
 meet-sym : (a b : Range) → do_meet a b ≡ true → do_meet b a ≡ true
@@ -173,17 +173,9 @@ range-start (pos from) (negsuc (suc n)) range is = absurd (cc)
 
 -- the rows
 
-find-there : (p q : OpenFork → Bool) (xs : List OpenFork) (o : OpenFork) → find p xs ≡ Some o → q o ≡ true → list_any q xs ≡ true
-find-there p q [] o found h = absurd (cc)
-find-there p q (x ∷ xs) o found h =
-    cond_both (p x) (Some x) (find p xs) (λ r. r ≡ Some o → (q x || list_any q xs) ≡ true)
-    (λ here k. let same : x ≡ o = cc in or_left (q x) (list_any q xs) (ap q same ∙ h))
-    (λ other k. or_right (q x) (list_any q xs) (find-there p q xs o k h))
-    found
-
 -- an open fork of the session is open
 held-open : (w : World) (s : Session) (reference : ℕ) (f : OpenFile) → IsHeld w s reference f → is_open w.opens f.fork.reference ≡ true
-held-open w s reference f held = find-there (is_own s reference) (λ o. o.reference == f.fork.reference) w.opens f.fork held.found (eq-eqb f.fork.reference f.fork.reference refl)
+held-open w s reference f held = find-any (is_own s reference) (λ o. o.reference == f.fork.reference) w.opens f.fork held.found (eq-eqb f.fork.reference f.fork.reference refl)
 
 locks-sound : (w : World) (unlocks : Bool) (o : OpenFork) (reply : ℕ → Reply) (q : Option Range) → is_open w.opens o.reference ≡ true → first_holding (range_refusals unlocks w o q) ≡ None → IsSound w → IsSound (locks_range unlocks w o reply q).world
 locks-sound w unlocks o reply None there passes h = h

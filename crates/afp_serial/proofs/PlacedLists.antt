@@ -1,6 +1,6 @@
 -- Lists with one more element, in the place of its number.
-use Rattle.std.proofs.Common.{◌≡◌, ◌∙◌, ap, sym, refl, subst, ℕ, suc, ◌+◌, arith, Bool, true, false, not, ◌&&◌, ◌||◌, cond, List, [], ◌∷◌, length}
-use Rattle.std.specs.Prelude.{count_by, nat_lt}
+use Rattle.std.proofs.Common.{◌≡◌, ◌∙◌, ap, sym, refl, subst, ℕ, suc, ◌+◌, arith, Bool, true, false, not, ◌&&◌, ◌||◌, cond, List, [], ◌∷◌, length, Some}
+use Rattle.std.specs.Prelude.{count_by, find, nat_lt}
 use Rattle.std.specs.List.{list_all, list_any}
 use Rattle.std.proofs.lemmas.Bool.{and_parts, and_from, cond_both, or_left, or_right}
 use Rattle.std.proofs.lemmas.List.Sums.{sum_by-cons}
@@ -114,3 +114,12 @@ any-pair {B = B} p q r (x ∷ xs) ys h =
         or-split (old z) (list_any old zs) k
         (λ here. or_left (q z && ((p x && r x z) || list_any (λ a. p a && r a z) xs)) _ (gives z here))
         (λ later. or_right (q z && ((p x && r x z) || list_any (λ a. p a && r a z) xs)) _ (weaker old zs gives later))
+
+-- what is found is there
+pub find-any : {A : Type 0} (p q : A → Bool) (xs : List A) (a : A) → find p xs ≡ Some a → q a ≡ true → list_any q xs ≡ true
+find-any p q [] a found h = absurd (cc)
+find-any p q (x ∷ xs) a found h =
+    cond_both (p x) (Some x) (find p xs) (λ r. r ≡ Some a → (q x || list_any q xs) ≡ true)
+    (λ here k. let same : x ≡ a = cc in or_left (q x) (list_any q xs) (ap q same ∙ h))
+    (λ other k. or_right (q x) (list_any q xs) (find-any p q xs a k h))
+    found

@@ -21,6 +21,7 @@ use Rattle.afp_volume.specs.GetFileDirParms.{get_file_dir_parms_refusal}
 use Rattle.afp_volume.specs.GetVolParms.{get_vol_parms_refusal}
 use Rattle.afp_volume.specs.MoveAndRename.{move_refusal}
 use Rattle.afp_volume.specs.OpenDir.{open_dir_refusal}
+use Rattle.afp_volume.specs.OpenFork.{open_fork_refusal}
 use Rattle.afp_volume.specs.Parms.{is_outside}
 use Rattle.afp_volume.specs.Rename.{rename_refusal}
 use Rattle.afp_volume.specs.SetFileDirParms.{set_dir_parms_refusal, set_file_dir_parms_refusal, set_file_parms_refusal}
@@ -164,3 +165,7 @@ list-refuses v opens asked dir path =
         ∷ (nat_lt (length (counted v.rows asked id)) asked.start, ObjectNotFound)
         ∷ (not (fits_reply v.rows opens asked (take 1 (from_start v.rows asked id))), ParamErr)
         ∷ []
+
+pub open-fork-refuses : (v : VolumeState) (bits : ℕ) (writes : Bool) (dir : ℕ) (path : PathValue) → is_refusal (open_fork_refusal v bits writes dir path) ≡ true
+unfolding open_fork_refusal
+open-fork-refuses v bits writes dir path = or-refuses ((_, BitmapErr) ∷ []) _ refl (behind-refuses (found v.rows dir path) _ (found-fails v.rows dir path) (λ id. first-refuses ((_, ObjectTypeErr) ∷ (_, ObjectLocked) ∷ []) refl))

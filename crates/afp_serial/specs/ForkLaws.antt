@@ -3,11 +3,15 @@ use Rattle.std.specs.Prelude.{◌≡◌, ◌≢◌, ℕ, ℤ, ◌+◌, ◌*◌, 
 use Rattle.afp_base.specs.Choice.{first_holding}
 use Rattle.afp_base.specs.declared.code.Code.TheVariants.{Ok}
 use Rattle.afp_base.specs.declared.ids.ForkRef.{ForkRef}
+use Rattle.afp_base.specs.declared.ids.NodeId.{NodeId}
+use Rattle.afp_base.specs.declared.ids.VolumeId.{VolumeId}
+use Rattle.afp_names.specs.Path.{PathValue}
 use Rattle.afp_replies.specs.Replies.{Shows, canonical_reply}
 use Rattle.afp_requests.specs.declared.call.Call.{Call}
+use Rattle.afp_requests.specs.declared.call.Call.TheVariants as calls
 use Rattle.afp_requests.specs.declared.call.Call.TheVariants.{ByteRangeLock, ByteRangeLockExt, CloseFork, FlushFork, GetForkParms, Read, ReadExt, SetForkParms, Write, WriteExt}
 use Rattle.afp_serial.specs.CallRow.{Refused, Row}
-use Rattle.afp_serial.specs.Fork.{close_fork_row, flush_fork_row, get_fork_parms_row, lowest_free, set_fork_parms_row}
+use Rattle.afp_serial.specs.Fork.{close_fork_row, flush_fork_row, get_fork_parms_row, lowest_free, open_fork_row, set_fork_parms_row}
 use Rattle.afp_serial.specs.ForkBytes.{read_ext_row, read_row, write_ext_row, write_row}
 use Rattle.afp_serial.specs.LawfulCall.{is_lawful_call}
 use Rattle.afp_serial.specs.Lock.{byte_range_lock_ext_row, byte_range_lock_row}
@@ -69,3 +73,6 @@ ReferenceCounts = (opens : List OpenFork) → (1 ≤ lowest_free opens) × (lowe
 -- no more forks are open than all sessions may have together
 abbrev pub OpensAreFew : Type 0
 OpensAreFew = (w : World) → IsSound w → length w.opens ≤ most_sessions * most_forks
+
+abbrev pub OpenForkIsLawful : Type 0
+OpenForkIsLawful = (flag : ℕ) (volume : VolumeId) (dir : NodeId) (bits mode : ℕ) (path : PathValue) → IsLawfulRow (calls.OpenFork flag volume dir bits mode path) (open_fork_row flag volume.0 dir.0 bits mode path)

@@ -15,6 +15,7 @@ pub fn worked_forks_hold()
 
 /// The rows of these calls keep a sound world sound, and tell what their requests ask for.
 pub fn fork_rows_are_sound()
+    ensures open_fork { laws.OpenForkIsLawful }
     ensures close_fork { laws.CloseForkIsLawful }
     ensures flush_fork { laws.FlushForkIsLawful }
     ensures get_fork_parms { laws.GetForkParmsIsLawful }

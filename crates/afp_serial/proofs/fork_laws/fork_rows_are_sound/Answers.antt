@@ -1,7 +1,9 @@
+use Rattle.afp_requests.specs.declared.call.Call.TheVariants as calls
 use Rattle.afp_requests.specs.declared.call.Call.TheVariants.{ByteRangeLock, ByteRangeLockExt, CloseFork, FlushFork, GetForkParms, Read, ReadExt, SetForkParms, Write, WriteExt}
 use Rattle.afp_serial.proofs.ForkRows.{close-fork-sound, flush-fork-sound, get-fork-parms-sound, read-ext-sound, read-sound}
 use Rattle.afp_serial.proofs.WriteRows.{set-fork-parms-sound, write-ext-sound, write-sound}
 use Rattle.afp_serial.proofs.LockRows.{byte-range-lock-ext-sound, byte-range-lock-sound}
+use Rattle.afp_serial.proofs.OpenForkRow.{open-fork-sound}
 use Rattle.afp_serial.proofs.LawfulRows.{row-lawful}
 use Rattle.afp_serial.proofs.fork_laws.fork_rows_are_sound.Goals as goal
 
@@ -34,3 +36,6 @@ returns-clause-byte_range_lock c = λ flags reference offset length. row-lawful 
 
 pub returns-clause-byte_range_lock_ext : goal.returns-clause-byte_range_lock_ext
 returns-clause-byte_range_lock_ext c = λ flags reference offset length. row-lawful (ByteRangeLockExt flags reference offset length) _ (byte-range-lock-ext-sound flags reference offset length)
+
+pub returns-clause-open_fork : goal.returns-clause-open_fork
+returns-clause-open_fork c = λ flag volume dir bits mode path. row-lawful (calls.OpenFork flag volume dir bits mode path) _ (open-fork-sound flag volume dir bits mode path)
