@@ -1,5 +1,5 @@
 -- What the calls on open forks owe that change no fork: FPCloseFork, FPFlushFork, FPGetForkParms, FPRead and FPReadExt.
-use Rattle.std.proofs.Common.{◌==◌, ◌≡◌, ◌∙◌, ap, sym, refl, subst, ℕ, zero, suc, ℤ, pos, ◌+◌, ◌≤◌, arith, inl, Bool, true, false, cond, List, [], ◌∷◌, length, take, drop, min, Option, Some, None}
+use Rattle.std.proofs.Common.{◌==◌, ◌≡◌, sym, refl, subst, ℕ, ℤ, pos, ◌+◌, ◌≤◌, arith, inl, Bool, true, false, cond, List, [], ◌∷◌, length, drop, Option, Some, None}
 use Rattle.std.specs.Prelude.{not, nat_abs, ◌&&◌}
 use Rattle.std.proofs.lemmas.Bool.{and_from, le-leb}
 use Rattle.std.proofs.lemmas.List.{append-nil, length-take}
@@ -19,19 +19,17 @@ use Rattle.afp_requests.specs.declared.call.Call.{Call}
 use Rattle.afp_requests.specs.declared.call.Call.TheVariants.{CloseFork, FlushFork, GetForkParms, Read, ReadExt}
 use Rattle.afp_serial.proofs.Closed.{closing-sound}
 use Rattle.afp_serial.proofs.ListShown.{within}
-use Rattle.afp_serial.proofs.OnForkRows.{IsHeld, IsHeldFile, fork-row-sound, sound-file}
+use Rattle.afp_serial.proofs.OnForkRows.{fork-row-sound, sound-file}
 use Rattle.afp_serial.proofs.OnVolumeRows.{Asks, IsToldTo}
 use Rattle.afp_serial.proofs.ParamsSize.{params-size, two-parts}
 use Rattle.afp_serial.proofs.SoundRow.{IsSoundRow, is_short}
 use Rattle.afp_serial.proofs.ToldReplies.{empty-told}
 use Rattle.afp_serial.specs.CallRow.{plain}
-use Rattle.afp_serial.specs.Fork.{close_fork_row, flush_fork_row, get_fork_parms_reply, get_fork_parms_row}
+use Rattle.afp_serial.specs.Fork.{close_fork_row, flush_fork_row, get_fork_parms_row}
 use Rattle.afp_serial.specs.ForkBytes.{ReadAsked, ahead, most_read, read_bytes, read_ext_row, read_reply, read_row, reads, stop_in, up_to}
 use Rattle.afp_serial.specs.Limits.{longest_block}
 use Rattle.afp_serial.specs.OnFork.{OpenFile, bytes_of}
 use Rattle.afp_serial.specs.OnVolume.{opened_on}
-use Rattle.afp_serial.specs.Sound.{IsSound}
-use Rattle.afp_serial.specs.World.{World, Session}
 use Rattle.afp_volume.proofs.ToldValues.{node-told}
 use Rattle.afp_volume.specs.Calls.{Opened}
 use Rattle.afp_volume.specs.NodeValues.{dir_values, file_values, node_values}

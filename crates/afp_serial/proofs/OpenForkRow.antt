@@ -1,5 +1,5 @@
 -- What FPOpenFork owes.
-use Rattle.std.proofs.Common.{◌==◌, ◌≡◌, ◌∙◌, ap, sym, refl, subst, ℕ, suc, ◌+◌, ◌<◌, ◌≤◌, arith, Bool, true, false, not, ◌&&◌, ◌||◌, cond, List, [], ◌∷◌, ◌++◌, length, Option, Some, None}
+use Rattle.std.proofs.Common.{◌==◌, ◌≡◌, ◌∙◌, ap, sym, refl, subst, ℕ, suc, ◌+◌, ◌<◌, ◌≤◌, arith, Bool, true, false, not, ◌&&◌, cond, List, [], ◌∷◌, ◌++◌, length, Option, Some, None}
 use Rattle.std.specs.Prelude.{Result, Ok, Err, count_by, find, nat_le}
 use Rattle.std.specs.List.{list_all, list_any}
 use Rattle.std.proofs.lemmas.Bool.{and_parts, and_from, both_ways, eq-eqb, eqb-true, leb-false, leb-true, le-leb, or_left, or_right}
@@ -8,7 +8,7 @@ use Rattle.afp_base.specs.Choice.{first_holding}
 use Rattle.afp_base.specs.DenyMode.{Access, Fork, do_conflict, is_clash, is_denied_by, is_one_fork}
 use Rattle.afp_base.specs.Overlap.{do_meet}
 use Rattle.afp_base.specs.declared.code.Code.{Code}
-use Rattle.afp_base.specs.declared.code.Code.TheVariants.{BitmapErr, DenyConflict, ObjectLocked, ObjectTypeErr, ParamErr}
+use Rattle.afp_base.specs.declared.code.Code.TheVariants.{BitmapErr, ObjectLocked, ObjectTypeErr, ParamErr}
 use Rattle.afp_base.specs.declared.ids.NodeId.{NodeId}
 use Rattle.afp_base.specs.declared.ids.VolumeId.{VolumeId}
 use Rattle.afp_bitmap.specs.Bits.{file_mask}
@@ -19,7 +19,6 @@ use Rattle.afp_bitmap.specs.declared.params.Values.TheVariants.{File as FilePara
 use Rattle.afp_names.specs.Path.{PathValue}
 use Rattle.afp_replies.specs.Commands.{rows, shape_in, shape_of}
 use Rattle.afp_replies.specs.Replies.{canonical_reply}
-use Rattle.afp_replies.specs.declared.reply.Reply.{Reply}
 use Rattle.afp_replies.specs.declared.reply.Reply.TheVariants.{Opened}
 use Rattle.afp_requests.specs.declared.call.Call.{Call}
 use Rattle.afp_requests.specs.declared.call.Call.TheVariants as calls
@@ -27,19 +26,17 @@ use Rattle.afp_serial.proofs.ForkRows.{file-answer}
 use Rattle.afp_serial.proofs.FreeReferences.{lowest-free, lowest-within, opens-few}
 use Rattle.afp_serial.proofs.ListShown.{within}
 use Rattle.afp_serial.proofs.LockRows.{fork-sym}
-use Rattle.afp_serial.proofs.OnForkRows.{NoneHolds, none-refused}
+use Rattle.afp_serial.proofs.OnForkRows.{none-refused}
 use Rattle.afp_serial.proofs.OnVolumeRows.{Asks, IsToldTo, coded-none, coded-refused, told-shown}
 use Rattle.afp_serial.proofs.ParamsSize.{params-size}
 use Rattle.afp_serial.proofs.PlacedLists.{all-placed, any-placed, apart-placed, apart-where, count-placed, find-any, one_if, or-split}
 use Rattle.afp_serial.proofs.SoundParts.{ApartSessions, KeptLimits, LawfulLocks, LawfulOpens, do_clash, do_overlap, keeps_forks, keeps_locks, limits-parts, limits-whole, locks-parts, locks-whole, opens-parts, opens-whole, same_reference}
-use Rattle.afp_serial.proofs.SoundRow.{IsSoundRow, is_ok, is_refused, is_short, no-keeper}
-use Rattle.afp_serial.proofs.VolumeCodes.{is_refusal, open-fork-refuses}
+use Rattle.afp_serial.proofs.SoundRow.{IsSoundRow, is_refused, is_short, no-keeper}
+use Rattle.afp_serial.proofs.VolumeCodes.{open-fork-refuses}
 use Rattle.afp_serial.proofs.VolumeStates.{IsServed, served-at}
-use Rattle.afp_serial.specs.CallRow.{Refusal, Refused, plain, vol}
+use Rattle.afp_serial.specs.CallRow.{Refusal, plain}
 use Rattle.afp_serial.specs.Fork.{OpenAsked, access_of, denied_of, file_asked, fork_in, fork_ref, has_most_forks, is_denied, lowest_free, new_fork, open_fork_row, opened_reply, opens_asked, opens_fork, with_fork, with_open}
-use Rattle.afp_serial.specs.LawfulCall.{is_lawful_call}
 use Rattle.afp_serial.specs.Limits.{longest_block, most_forks, most_locks}
-use Rattle.afp_serial.specs.OnFork.{placed}
 use Rattle.afp_serial.specs.OnVolume.{coded, opened_on, refused_on}
 use Rattle.afp_serial.specs.Sessions.{has_opened, has_session, is_open, volume_at}
 use Rattle.afp_serial.specs.Sound.{IsSound, has_apart_sessions, has_lawful_caches, has_typed_fields, has_volume_open, is_file_of, is_lawful_open, share_fork}

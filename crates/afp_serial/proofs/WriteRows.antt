@@ -1,8 +1,8 @@
 -- What the calls on open forks owe that give a fork other bytes: FPWrite, FPWriteExt and FPSetForkParms.
-use Rattle.std.proofs.Common.{◌==◌, ◌≡◌, ◌∙◌, ap, sym, refl, subst, ℕ, zero, suc, ℤ, pos, negsuc, ◌+ℤ◌, ◌+◌, ◌-◌, ◌<◌, ◌≤◌, arith, Bool, true, false, not, ◌&&◌, ◌||◌, cond, List, [], ◌∷◌, ◌++◌, length, take, drop, replicate, Option, Some, None}
-use Rattle.std.specs.Prelude.{nat_abs, nat_lt}
+use Rattle.std.proofs.Common.{◌≡◌, ◌∙◌, ap, refl, ℕ, zero, suc, ℤ, pos, negsuc, ◌+ℤ◌, ◌+◌, ◌-◌, ◌≤◌, arith, Bool, true, false, List, [], ◌∷◌, ◌++◌, length, take, drop, replicate, Some, None}
+use Rattle.std.specs.Prelude.{nat_abs}
 use Rattle.std.specs.List.{list_all}
-use Rattle.std.proofs.lemmas.Bool.{and_parts, and_from, cond_both, le-leb, ltb-true, ltb-false}
+use Rattle.std.proofs.lemmas.Bool.{and_parts, and_from, le-leb, ltb-true}
 use Rattle.std.proofs.lemmas.Int.{ints}
 use Rattle.std.proofs.lemmas.List.{length-append}
 use Rattle.std.proofs.lemmas.List.Folds.{list_all-append}
@@ -24,13 +24,11 @@ use Rattle.afp_serial.proofs.OnVolumeRows.{Asks, IsToldTo}
 use Rattle.afp_serial.proofs.SoundRow.{IsSoundRow}
 use Rattle.afp_serial.proofs.ToldReplies.{empty-told}
 use Rattle.afp_serial.proofs.VolumeStates.{moment-date, state-sound}
-use Rattle.afp_serial.specs.CallRow.{Refusal, Refused}
 use Rattle.afp_serial.specs.Fork.{is_other_length, length_for, set_fork_parms_refusals, set_fork_parms_row}
 use Rattle.afp_serial.specs.ForkBytes.{WriteAsked, is_from_end, start_in, write_end, write_ext_row, write_refusals, write_row, write_start, writes, writes_some, written_bytes}
 use Rattle.afp_serial.specs.LawfulCall.{is_lawful_call, is_lawful_field, is_lawful_piece, is_signed}
 use Rattle.afp_serial.specs.Limits.{longest_block}
 use Rattle.afp_serial.specs.OnFork.{OpenFile, bytes_of, keeper_if, own_keeper, with_bytes}
-use Rattle.afp_serial.specs.OnVolume.{with_volume_state}
 use Rattle.afp_serial.specs.Sound.{IsSound}
 use Rattle.afp_serial.specs.World.{World, Session}
 use Rattle.afp_volume.proofs.ForkEffects.{files-stay, fork-bytes-typed, fork-few, fork-sound, fork-typed, new-few}
@@ -38,7 +36,7 @@ use Rattle.afp_volume.proofs.TypedEdits.{drop-bytes, take-bytes}
 use Rattle.afp_volume.specs.ForkEffect.{fork_effect, would_pass}
 use Rattle.afp_volume.specs.SoundVolume.{most_fork_bytes}
 use Rattle.afp_volume.specs.TypedVolume.{are_bytes, is_byte}
-use Rattle.afp_volume.specs.VolumeState.{Row as File, VolumeState}
+use Rattle.afp_volume.specs.VolumeState.{VolumeState}
 use Rattle.afp_volume.specs.Walk.{row_at}
 
 -- the world with other bytes

@@ -6,7 +6,7 @@ use Rattle.afp_base.specs.declared.code.Code.TheVariants.{AccessDenied, DiskFull
 use Rattle.afp_replies.specs.declared.reply.Reply.{Reply}
 use Rattle.afp_replies.specs.declared.reply.Reply.TheVariants.{End, EndExt, Piece}
 use Rattle.afp_volume.specs.ForkEffect.{would_pass}
-use Rattle.afp_serial.specs.CallRow.{Effect, Refusal, Row, plain}
+use Rattle.afp_serial.specs.CallRow.{Refusal, Row, plain}
 use Rattle.afp_serial.specs.Limits.{longest_block}
 use Rattle.afp_serial.specs.OnFork.{OpenFile, bytes_of, is_locked, keeper_if, keeps_all, row_on_fork, with_bytes}
 use Rattle.afp_serial.specs.World.{World}

@@ -1,5 +1,5 @@
 -- Worked examples of the calls on open forks: requests one after another, with what each is told (values worked by hand).
-use Rattle.std.specs.Prelude.{◌≡◌, ℕ, zero, suc, ◌+◌, ◌*◌, pos, negsuc, false, true, List, [], ◌∷◌, ◌++◌, map, length, Option, None, Some}
+use Rattle.std.specs.Prelude.{◌≡◌, ℕ, zero, suc, ◌+◌, ◌*◌, pos, negsuc, false, List, [], ◌∷◌, ◌++◌, Option, None, Some}
 use Rattle.afp_base.specs.Choice.{first_holding}
 use Rattle.afp_base.specs.DenyMode.{Fork}
 use Rattle.afp_base.specs.declared.code.Code.{Code}
