@@ -24,6 +24,7 @@ pub mod WriteRows
 pub mod PlacedLists
 pub mod LockRows
 pub mod FreeReferences
+pub mod Written
 pub mod OpenForkRow
 pub mod LawfulRows
 pub mod RowsSound

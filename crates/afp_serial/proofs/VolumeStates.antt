@@ -80,11 +80,11 @@ state-length : (volumes : List VolumeState) (volume : ℕ) (new : VolumeState) �
 state-length volumes zero new = refl
 state-length volumes (suc index) new = length-set volumes index new
 
-state-at : (volumes : List VolumeState) (volume : ℕ) (old new : VolumeState) → volume_at volumes volume ≡ Some old → volume_at (with_state volumes volume new) volume ≡ Some new
+pub state-at : (volumes : List VolumeState) (volume : ℕ) (old new : VolumeState) → volume_at volumes volume ≡ Some old → volume_at (with_state volumes volume new) volume ≡ Some new
 state-at volumes zero old new there = absurd (cc)
 state-at volumes (suc index) old new there = get-set volumes index old new there
 
-state-other : (volumes : List VolumeState) (volume other : ℕ) (new : VolumeState) → other ≢ volume → volume_at (with_state volumes volume new) other ≡ volume_at volumes other
+pub state-other : (volumes : List VolumeState) (volume other : ℕ) (new : VolumeState) → other ≢ volume → volume_at (with_state volumes volume new) other ≡ volume_at volumes other
 state-other volumes zero other new h = refl
 state-other volumes (suc index) zero new h = refl
 state-other volumes (suc index) (suc other) new h = get-other volumes index other new (λ same. h (ap suc same))

@@ -40,3 +40,4 @@ pub mod ParmsReplies
 pub mod Laws
 pub mod ForkExamples
 pub mod ForkLaws
+pub mod WriteLaws

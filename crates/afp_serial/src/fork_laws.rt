@@ -1,6 +1,9 @@
 //! Laws of the calls on open forks. Each function says one, and does nothing.
 ghost use Rattle.afp_serial.specs.ForkExamples as worked;
 ghost use Rattle.afp_serial.specs.ForkLaws as laws;
+ghost use Rattle.afp_serial.specs.WriteLaws as write_laws;
+
+use afp_base::laws::{resizing_keeps_the_front, splice_puts_between};
 
 /// What the calls on open forks are told, one after another, in values that were worked by hand.
 pub fn worked_forks_hold()
@@ -35,3 +38,16 @@ pub fn references_are_lowest()
     ensures counts { laws.ReferenceCounts }
     ensures few { laws.OpensAreFew }
 {}
+
+/// What is written through one reference is seen through each reference of the fork, of any session, and other forks stay as they are. Bytes that
+/// were written are there after any changes that miss them, and a read gives the bytes that are there.
+pub fn written_forks_are_read()
+    ensures seen { write_laws.WritesAreSeen }
+    ensures lengths { write_laws.LengthsAreSeen }
+    ensures others { write_laws.OtherForksStay }
+    ensures stay { write_laws.WrittenBytesStay }
+    ensures read { write_laws.ReadsWhatIsThere }
+{
+    splice_puts_between();
+    resizing_keeps_the_front();
+}
