@@ -25,6 +25,7 @@ pub mod PlacedLists
 pub mod LockRows
 pub mod FreeReferences
 pub mod Written
+pub mod ForkFacts
 pub mod OpenForkRow
 pub mod LawfulRows
 pub mod RowsSound

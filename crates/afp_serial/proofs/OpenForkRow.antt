@@ -70,7 +70,7 @@ file-kind v id (Some other) file row is = by other.dir refl is
     by true dir h = absurd (cc)
     by false dir h = let same : other ≡ file = cc in subst (IsFileFound v) same (record { id = id; row = row; kind = dir })
 
-found-file : (v : VolumeState) (dir : ℕ) (path : PathValue) (file : File) → open_fork_file v dir path ≡ Some file → IsFileFound v file
+pub found-file : (v : VolumeState) (dir : ℕ) (path : PathValue) (file : File) → open_fork_file v dir path ≡ Some file → IsFileFound v file
 unfolding open_fork_file
 found-file v dir path file is = by (found v.rows dir path) is
   where

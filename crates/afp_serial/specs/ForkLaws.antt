@@ -1,25 +1,33 @@
 -- The laws of the rows of the calls on open forks (this profile).
-use Rattle.std.specs.Prelude.{◌≡◌, ◌≢◌, ℕ, ℤ, ◌+◌, ◌*◌, ◌<◌, ◌≤◌, true, false, Bool, List, length, find, Some, None}
+use Rattle.std.specs.Prelude.{◌≡◌, ◌≢◌, ℕ, ℤ, ◌+◌, ◌*◌, ◌<◌, ◌≤◌, true, false, Bool, List, length, find, Some, None, ◌↔◌, pos, negsuc, suc, slice_get}
+use Rattle.std.specs.List.{Contains}
 use Rattle.afp_base.specs.Choice.{first_holding}
-use Rattle.afp_base.specs.declared.code.Code.TheVariants.{Ok}
+use Rattle.afp_base.specs.declared.code.Code.TheVariants.{DenyConflict, EOFErr, Ok}
 use Rattle.afp_base.specs.declared.ids.ForkRef.{ForkRef}
 use Rattle.afp_base.specs.declared.ids.NodeId.{NodeId}
 use Rattle.afp_base.specs.declared.ids.VolumeId.{VolumeId}
 use Rattle.afp_names.specs.Path.{PathValue}
 use Rattle.afp_replies.specs.Replies.{Shows, canonical_reply}
+use Rattle.afp_replies.specs.declared.reply.Reply.{Reply}
 use Rattle.afp_requests.specs.declared.call.Call.{Call}
 use Rattle.afp_requests.specs.declared.call.Call.TheVariants as calls
 use Rattle.afp_requests.specs.declared.call.Call.TheVariants.{ByteRangeLock, ByteRangeLockExt, CloseFork, FlushFork, GetForkParms, Read, ReadExt, SetForkParms, Write, WriteExt}
+use Rattle.afp_serial.specs.OnFork.{OpenFile}
+use Rattle.afp_base.specs.DenyMode.{Access, Conflicts, Fork}
+use Rattle.afp_base.specs.Overlap.{Covers, Range}
+use Rattle.afp_bitmap.specs.Bits.{file_mask}
+use Rattle.afp_volume.specs.VolumeState.{Row as File}
+use Rattle.afp_volume.specs.Parms.{is_outside}
 use Rattle.afp_serial.specs.CallRow.{Refused, Row}
-use Rattle.afp_serial.specs.Fork.{close_fork_row, flush_fork_row, get_fork_parms_row, lowest_free, open_fork_row, set_fork_parms_row}
-use Rattle.afp_serial.specs.ForkBytes.{read_ext_row, read_row, write_ext_row, write_row}
+use Rattle.afp_serial.specs.Fork.{close_fork_row, flush_fork_row, get_fork_parms_row, lowest_free, open_fork_row, set_fork_parms_row, file_asked, is_denied, opened_reply}
+use Rattle.afp_serial.specs.ForkBytes.{read_ext_row, read_row, write_ext_row, write_row, ReadAsked, read_reply}
 use Rattle.afp_serial.specs.LawfulCall.{is_lawful_call}
-use Rattle.afp_serial.specs.Lock.{byte_range_lock_ext_row, byte_range_lock_row}
+use Rattle.afp_serial.specs.Lock.{byte_range_lock_ext_row, byte_range_lock_row, last_byte, range_of}
 use Rattle.afp_serial.specs.Limits.{longest_block, most_forks, most_sessions}
 use Rattle.afp_serial.specs.ReplyKinds.{reply_kind}
-use Rattle.afp_serial.specs.Sessions.{is_open}
-use Rattle.afp_serial.specs.Sound.{IsSound}
-use Rattle.afp_serial.specs.World.{World, Session, OpenFork}
+use Rattle.afp_serial.specs.Sessions.{is_open, volume_at}
+use Rattle.afp_serial.specs.Sound.{IsSound, share_fork}
+use Rattle.afp_serial.specs.World.{World, Session, OpenFork, Lock}
 
 -- The row of a call, whose fields are those that bytes give, asked by a session of a sound world: its effect keeps the world sound, its reply is shown by
 -- its bytes, which fit in a frame, and so do those of a refusal, which is never told Ok; and the volume of the keeper that it names is there.
@@ -76,3 +84,41 @@ OpensAreFew = (w : World) → IsSound w → length w.opens ≤ most_sessions * m
 
 abbrev pub OpenForkIsLawful : Type 0
 OpenForkIsLawful = (flag : ℕ) (volume : VolumeId) (dir : NodeId) (bits mode : ℕ) (path : PathValue) → IsLawfulRow (calls.OpenFork flag volume dir bits mode path) (open_fork_row flag volume.0 dir.0 bits mode path)
+
+-- an open is denied just where it conflicts with one that is there, of any session
+abbrev pub DeniesConflicts : Type 0
+DeniesConflicts = (w : World) (fork : Fork) (access : Access) → (is_denied w fork access ≡ true ↔ ((o : OpenFork) × Contains w.opens o × Conflicts o.fork o.access fork access))
+
+-- in a sound world no two opens conflict, no reference is given twice, and no byte of a fork is locked twice
+abbrev pub NoTwoConflict : Type 0
+NoTwoConflict = (w : World) (j k : ℕ) (a b : OpenFork) → IsSound w → j < k → slice_get w.opens j ≡ Some a → slice_get w.opens k ≡ Some b → (a.reference ≢ b.reference) × (Conflicts a.fork a.access b.fork b.access → ⊥)
+
+abbrev pub NoByteTwice : Type 0
+NoByteTwice = (w : World) (j k byte : ℕ) (a b : Lock) → IsSound w → j < k → slice_get w.locks j ≡ Some a → slice_get w.locks k ≡ Some b → share_fork w.opens a.reference b.reference ≡ true → Covers a.range byte → Covers b.range byte → ⊥
+
+-- the bytes that a lock asks for: so many, or all up to the last one; none behind that
+abbrev pub RangesCount : Type 0
+RangesCount = (from more byte : ℕ) (r : Range) → range_of (pos from) (pos (suc more)) ≡ Some r → (Covers r byte ↔ ((from ≤ byte) × (byte ≤ from + more)))
+
+abbrev pub RangesToTop : Type 0
+RangesToTop = (from byte : ℕ) (r : Range) → range_of (pos from) (negsuc 0) ≡ Some r → (Covers r byte ↔ ((from ≤ byte) × (byte ≤ last_byte)))
+
+abbrev pub RangesEnd : Type 0
+RangesEnd = (start length : ℤ) (r : Range) → range_of start length ≡ Some r → (r.from ≤ r.to) × (r.to ≤ last_byte)
+
+-- the calls that read
+abbrev pub is_read : Call → Bool
+is_read (Read reference offset count mask character) = true
+is_read (ReadExt reference offset count) = true
+is_read call = false
+
+-- what a read at the end and a denied open are told is shown, with their codes
+abbrev pub EndIsShown : Type 0
+EndIsShown = (call : Call) (asked : ReadAsked) (f : OpenFile) → is_read call ≡ true → Shows (read_reply asked f) (reply_kind call) EOFErr (canonical_reply (read_reply asked f))
+
+abbrev pub DenialIsShown : Type 0
+DenialIsShown =
+    (w : World) (flag : ℕ) (volume : VolumeId) (dir : NodeId) (bits mode : ℕ) (path : PathValue) (resource : Bool) (access : Access) (file : File) → IsSound w → is_outside file_mask bits ≡ false
+    → file_asked (volume_at w.volumes volume.0) dir.0 path ≡ Some file
+    → let denied : Reply = opened_reply w (record { volume = volume.0; bits = bits; resource = resource; access = access }) 0 file in
+    Shows denied (reply_kind (calls.OpenFork flag volume dir bits mode path)) DenyConflict (canonical_reply denied)

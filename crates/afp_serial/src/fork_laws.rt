@@ -51,3 +51,20 @@ pub fn written_forks_are_read()
     splice_puts_between();
     resizing_keeps_the_front();
 }
+
+/// An open is denied just where it conflicts with one that is there, of any session; so in a sound world no two opens conflict, no reference is given
+/// twice, and no byte of a fork is locked twice. A lock covers the bytes that it asks for, and none behind the last one.
+pub fn forks_are_shared_by_their_rules()
+    ensures denied { laws.DeniesConflicts }
+    ensures opens { laws.NoTwoConflict }
+    ensures locks { laws.NoByteTwice }
+    ensures counted { laws.RangesCount }
+    ensures top { laws.RangesToTop }
+    ensures end { laws.RangesEnd }
+{}
+
+/// What a read at the end of a fork and a denied open are told is shown by its bytes, with their codes.
+pub fn told_refusals_are_shown()
+    ensures end { laws.EndIsShown }
+    ensures denial { laws.DenialIsShown }
+{}
