@@ -1,10 +1,10 @@
 -- What holds of open forks and locks, in plain words; and what their refusals tell is shown.
-use Rattle.std.proofs.Common.{◌==◌, ◌≡◌, ◌≢◌, ◌↔◌, ◌∙◌, ap, sym, refl, subst, ℕ, zero, suc, ℤ, pos, negsuc, ◌+◌, ◌<◌, ◌≤◌, arith, Bool, true, false, not, ◌&&◌, cond, List, [], ◌∷◌, length, Option, Some, None}
-use Rattle.std.specs.Prelude.{nat_le, slice_get, slice_index_or}
+use Rattle.std.proofs.Common.{◌≡◌, ◌↔◌, ◌∙◌, ap, sym, refl, ℕ, zero, suc, pos, negsuc, ◌+◌, ◌<◌, ◌≤◌, arith, Bool, true, false, ◌&&◌, List, [], ◌∷◌, length, Option, Some, None}
+use Rattle.std.specs.Prelude.{nat_le, slice_index_or}
 use Rattle.std.specs.List.{Contains, list_any}
 use Rattle.std.proofs.lemmas.Bool.{and_parts, and_from, cond_both, eq-eqb, le-leb, leb-true, or_left, or_right}
-use Rattle.afp_base.proofs.DefinitionLaws.{shares, tells_conflicts}
-use Rattle.afp_base.specs.DenyMode.{Access, Conflicts, Fork, do_conflict}
+use Rattle.afp_base.proofs.DefinitionLaws.{tells_conflicts}
+use Rattle.afp_base.specs.DenyMode.{do_conflict}
 use Rattle.afp_base.specs.Overlap.{Covers, Range, do_meet}
 use Rattle.afp_base.specs.declared.code.Code.TheVariants.{DenyConflict, EOFErr}
 use Rattle.afp_base.specs.declared.ids.NodeId.{NodeId}
@@ -15,9 +15,7 @@ use Rattle.afp_replies.proofs.Showing.{what_fits_a_request}
 use Rattle.afp_replies.specs.Commands.{rows, shape_in, shape_of}
 use Rattle.afp_replies.specs.Replies.{Shows, canonical_reply}
 use Rattle.afp_replies.specs.Requested.{FitsRequest}
-use Rattle.afp_replies.specs.declared.reply.Reply.{Reply}
-use Rattle.afp_replies.specs.declared.reply.Reply.TheVariants.{Opened, Piece}
-use Rattle.afp_requests.specs.declared.call.Call.{Call}
+use Rattle.afp_replies.specs.declared.reply.Reply.TheVariants.{Opened}
 use Rattle.afp_requests.specs.declared.call.Call.TheVariants as calls
 use Rattle.afp_requests.specs.declared.call.Call.TheVariants.{Read, ReadExt}
 use Rattle.afp_serial.proofs.ForkRows.{file-answer}
@@ -27,15 +25,15 @@ use Rattle.afp_serial.proofs.PlacedLists.{or-split}
 use Rattle.afp_serial.proofs.SoundParts.{do_clash, do_overlap, locks-parts, opens-parts, same_reference}
 use Rattle.afp_serial.proofs.VolumeStates.{IsServed, served-at}
 use Rattle.afp_serial.specs.Fork.{OpenAsked, file_asked, fork_ref, is_denied, opened_reply}
-use Rattle.afp_serial.specs.ForkBytes.{ReadAsked, read_bytes, read_reply}
-use Rattle.afp_serial.specs.ForkLaws.{DenialIsShown, DeniesConflicts, EndIsShown, NoByteTwice, NoTwoConflict, RangesCount, RangesEnd, RangesToTop, is_read}
-use Rattle.afp_serial.specs.Lock.{last_byte, range_of, range_to}
-use Rattle.afp_serial.specs.OnFork.{OpenFile, bytes_of}
+use Rattle.afp_serial.specs.ForkBytes.{read_bytes, read_reply}
+use Rattle.afp_serial.specs.ForkLaws.{DenialIsShown, DeniesConflicts, EndIsShown, NoByteTwice, NoTwoConflict, RangesCount, RangesEnd, RangesToTop}
+use Rattle.afp_serial.specs.Lock.{last_byte, range_to}
+use Rattle.afp_serial.specs.OnFork.{bytes_of}
 use Rattle.afp_serial.specs.OnVolume.{opened_on}
 use Rattle.afp_serial.specs.ReplyKinds.{reply_kind}
 use Rattle.afp_serial.specs.Sessions.{volume_at}
-use Rattle.afp_serial.specs.Sound.{IsSound, share_fork}
-use Rattle.afp_serial.specs.World.{World, OpenFork, Lock}
+use Rattle.afp_serial.specs.Sound.{share_fork}
+use Rattle.afp_serial.specs.World.{World, OpenFork}
 use Rattle.afp_volume.proofs.TestedLists.{apart-places, never}
 use Rattle.afp_volume.specs.OpenFork.{fork_values}
 use Rattle.afp_volume.specs.Parms.{is_outside}

@@ -1,6 +1,6 @@
 -- What is written is seen, and stays.
-use Rattle.std.proofs.Common.{◌==◌, ◌≡◌, ◌∙◌, ap, sym, refl, subst, ℕ, zero, suc, pos, ◌+◌, ◌-◌, ◌<◌, ◌≤◌, arith, inl, inr, Bool, true, false, not, ◌&&◌, ◌||◌, cond, List, [], ◌∷◌, length, take, drop, get_or, min, max, Option, Some, None}
-use Rattle.std.specs.Prelude.{find, nat_abs, nat_le, nat_lt, option_map, slice_index}
+use Rattle.std.proofs.Common.{◌==◌, ◌≡◌, ◌∙◌, ap, sym, refl, ℕ, ◌+◌, ◌<◌, ◌≤◌, arith, Bool, true, false, ◌&&◌, ◌||◌, cond, List, [], ◌∷◌, length, take, drop, max, Some}
+use Rattle.std.specs.Prelude.{nat_le, nat_lt, option_map, slice_index}
 use Rattle.std.specs.Bool.{beq}
 use Rattle.std.specs.List.{list_all}
 use Rattle.std.proofs.lemmas.Bool.{and_parts, eqb-false, eqb-true, eq-eqb, false_from_ne_true, leb-true, ltb-true}
@@ -14,10 +14,10 @@ use Rattle.afp_serial.proofs.PlacedLists.{or-split}
 use Rattle.afp_serial.proofs.VolumeStates.{state-at, state-other}
 use Rattle.afp_serial.specs.CallRow.{silently}
 use Rattle.afp_serial.specs.Fork.{is_other_length, length_for, set_fork_parms_row}
-use Rattle.afp_serial.specs.ForkBytes.{ReadAsked, WriteAsked, ahead, meets_end, most_read, read_bytes, write_end, writes, writes_some, written_bytes}
+use Rattle.afp_serial.specs.ForkBytes.{WriteAsked, ahead, meets_end, most_read, read_bytes, write_end, writes, writes_some, written_bytes}
 use Rattle.afp_serial.specs.Limits.{longest_block}
 use Rattle.afp_serial.specs.OnFork.{OpenFile, bytes_of, done_with, file_on, file_under, open_file, own_fork, with_bytes}
-use Rattle.afp_serial.specs.OnVolume.{with_state, with_volume_state}
+use Rattle.afp_serial.specs.OnVolume.{with_state}
 use Rattle.afp_serial.specs.Sessions.{volume_at}
 use Rattle.afp_serial.specs.Sound.{IsSound}
 use Rattle.afp_serial.specs.World.{World, Session, OpenFork}
