@@ -26,6 +26,7 @@ pub mod LockRows
 pub mod FreeReferences
 pub mod Written
 pub mod ForkFacts
+pub mod ForkCommits
 pub mod OpenForkRow
 pub mod LawfulRows
 pub mod RowsSound

@@ -122,3 +122,30 @@ DenialIsShown =
     → file_asked (volume_at w.volumes volume.0) dir.0 path ≡ Some file
     → let denied : Reply = opened_reply w (record { volume = volume.0; bits = bits; resource = resource; access = access }) 0 file in
     Shows denied (reply_kind (calls.OpenFork flag volume dir bits mode path)) DenyConflict (canonical_reply denied)
+
+-- a row changes no volume; a row that commits nothing changes nothing at all
+abbrev pub LeavesVolumes : Row → Type 0
+LeavesVolumes row = (w : World) (s : Session) → (row.effect w s).world.volumes ≡ w.volumes
+
+abbrev pub CommitsChanges : Row → Type 0
+CommitsChanges row = (w : World) (s : Session) → row.committed w s ≡ None → (row.effect w s).world ≡ w
+
+-- of these calls three change a volume, and commit that to its keeper where they change it
+abbrev pub ThreeChangeVolumes : Type 0
+ThreeChangeVolumes =
+    (flag reference bits n : ℕ) (offset count : ℤ) (bytes : List ℕ)
+    → CommitsChanges (set_fork_parms_row reference bits bytes)
+    × CommitsChanges (write_row flag reference offset n bytes)
+    × CommitsChanges (write_ext_row flag reference offset count bytes)
+
+abbrev pub OthersLeaveVolumes : Type 0
+OthersLeaveVolumes =
+    (flag volume dir bits mode reference n mask character : ℕ) (path : PathValue) (offset count : ℤ)
+    → LeavesVolumes (open_fork_row flag volume dir bits mode path)
+    × LeavesVolumes (close_fork_row reference)
+    × LeavesVolumes (flush_fork_row reference)
+    × LeavesVolumes (get_fork_parms_row reference bits)
+    × LeavesVolumes (read_row reference offset n mask character)
+    × LeavesVolumes (read_ext_row reference offset count)
+    × LeavesVolumes (byte_range_lock_row flag reference offset count)
+    × LeavesVolumes (byte_range_lock_ext_row flag reference offset count)

@@ -68,3 +68,10 @@ pub fn told_refusals_are_shown()
     ensures end { laws.EndIsShown }
     ensures denial { laws.DenialIsShown }
 {}
+
+/// Of the calls on open forks FPWrite, FPWriteExt and FPSetForkParms change a volume, and commit that to its keeper: where they commit nothing they
+/// change nothing. The others change no volume.
+pub fn forks_commit_what_they_change()
+    ensures three { laws.ThreeChangeVolumes }
+    ensures others { laws.OthersLeaveVolumes }
+{}
