@@ -1,5 +1,5 @@
 -- A volume's tree as contracts see it (the form is this profile's).
-use Rattle.std.specs.Prelude.{ℕ, Bool, if◌then◌else◌, List, map, Option, Some, None, option_map}
+use Rattle.std.specs.Prelude.{ℕ, Bool, List, map, Option, option_map}
 use Rattle.afp_base.specs.declared.ids.NodeId.{NodeId}
 use Rattle.afp_volume.specs.Calls.{Opened}
 use Rattle.afp_volume.specs.ForkEffect.{fork_of}
