@@ -1,8 +1,8 @@
 -- What holds of open forks and locks, in plain words; and what their refusals tell is shown.
-use Rattle.std.proofs.Common.{◌≡◌, ◌↔◌, ◌∙◌, ap, sym, refl, ℕ, zero, suc, pos, negsuc, ◌+◌, ◌<◌, ◌≤◌, arith, Bool, true, false, ◌&&◌, List, [], ◌∷◌, length, Option, Some, None}
+use Rattle.std.proofs.Common.{◌==◌, ◌≡◌, ◌↔◌, ◌∙◌, ap, sym, refl, ℕ, zero, suc, pos, negsuc, ◌+◌, ◌<◌, ◌≤◌, arith, Bool, true, false, ◌&&◌, List, [], ◌∷◌, length, Option, Some, None, min, ◌||◌, not}
 use Rattle.std.specs.Prelude.{nat_le, slice_index_or}
-use Rattle.std.specs.List.{Contains, list_any}
-use Rattle.std.proofs.lemmas.Bool.{and_parts, and_from, cond_both, eq-eqb, le-leb, leb-true, or_left, or_right}
+use Rattle.std.specs.List.{Contains, list_any, list_all}
+use Rattle.std.proofs.lemmas.Bool.{and_parts, and_from, cond_both, eq-eqb, le-leb, leb-true, or_left, or_right, both_ways, false_from_ne_true}
 use Rattle.afp_base.proofs.DefinitionLaws.{tells_conflicts}
 use Rattle.afp_base.specs.DenyMode.{do_conflict}
 use Rattle.afp_base.specs.Overlap.{Covers, Range, do_meet}
@@ -26,14 +26,14 @@ use Rattle.afp_serial.proofs.SoundParts.{do_clash, do_overlap, locks-parts, open
 use Rattle.afp_serial.proofs.VolumeStates.{IsServed, served-at}
 use Rattle.afp_serial.specs.Fork.{OpenAsked, file_asked, fork_ref, is_denied, opened_reply}
 use Rattle.afp_serial.specs.ForkBytes.{read_bytes, read_reply}
-use Rattle.afp_serial.specs.ForkLaws.{DenialIsShown, DeniesConflicts, EndIsShown, NoByteTwice, NoTwoConflict, RangesCount, RangesEnd, RangesToTop}
+use Rattle.afp_serial.specs.ForkLaws.{DenialIsShown, DeniesConflicts, EndIsShown, NoByteTwice, NoTwoConflict, RangesCount, RangesEnd, RangesToTop, MeetsNoneBehind, MeetsUpToTop, is_lock_range}
 use Rattle.afp_serial.specs.Lock.{last_byte, range_to}
-use Rattle.afp_serial.specs.OnFork.{bytes_of}
+use Rattle.afp_serial.specs.OnFork.{bytes_of, is_met_by_other, meets_lock}
 use Rattle.afp_serial.specs.OnVolume.{opened_on}
 use Rattle.afp_serial.specs.ReplyKinds.{reply_kind}
 use Rattle.afp_serial.specs.Sessions.{volume_at}
 use Rattle.afp_serial.specs.Sound.{share_fork}
-use Rattle.afp_serial.specs.World.{World, OpenFork}
+use Rattle.afp_serial.specs.World.{World, OpenFork, Lock}
 use Rattle.afp_volume.proofs.TestedLists.{apart-places, never}
 use Rattle.afp_volume.specs.OpenFork.{fork_values}
 use Rattle.afp_volume.specs.Parms.{is_outside}
@@ -137,3 +137,51 @@ denial-shown w flag volume dir bits mode path resource access file h inside is =
     by (Some v) there k =
         what_fits_a_request (opened_reply w (record { volume = volume.0; bits = bits; resource = resource; access = access }) 0 file) (reply_kind (calls.OpenFork flag volume dir bits mode path)) DenyConflict
         (denial-fits w flag volume dir bits mode path (record { volume = volume.0; bits = bits; resource = resource; access = access }) v file refl (served-at w volume.0 v h there) (found-file v dir.0 path file k) inside)
+
+-- bytes behind the last one
+
+same-leb : (a b c : ℕ) → (a ≤ b → a ≤ c) → (a ≤ c → a ≤ b) → nat_le a b ≡ nat_le a c
+same-leb a b c to from = by (nat_le a b) (nat_le a c) refl refl
+  where
+    by : (p q : Bool) → nat_le a b ≡ p → nat_le a c ≡ q → p ≡ q
+    by true true h k = refl
+    by false false h k = refl
+    by true false h k = absurd (both_ways (nat_le a c) k (le-leb a c (to (leb-true a b h))))
+    by false true h k = absurd (both_ways (nat_le a b) h (le-leb a b (from (leb-true a c k))))
+
+any-same : {A : Type 0} (q p r : A → Bool) (xs : List A) → list_all q xs ≡ true → ((x : A) → q x ≡ true → p x ≡ r x) → list_any p xs ≡ list_any r xs
+any-same q p r [] all same = refl
+any-same q p r (x ∷ xs) all same =
+    let e = and_parts (q x) (list_all q xs) all in
+    λ i. same x e.0 i || any-same q p r xs e.1 same i
+
+pub meets-up-to-top : MeetsUpToTop
+unfolding is_met_by_other
+meets-up-to-top w o from to all =
+    any-same (λ (lock : Lock). is_lock_range lock.range) (λ lock. meets_lock w o (record { from = from; to = to }) lock && not (lock.reference == o.reference)) (λ lock. meets_lock w o (record { from = from; to = min to last_byte }) lock && not (lock.reference == o.reference)) w.locks all
+    (λ lock good.
+    let e = and_parts (nat_le lock.range.from lock.range.to) (nat_le lock.range.to last_byte) good in
+    let order = leb-true lock.range.from lock.range.to e.0 in
+    let top = leb-true lock.range.to last_byte e.1 in
+    ap (λ b. (share_fork w.opens lock.reference o.reference && (b && nat_le from lock.range.to)) && not (lock.reference == o.reference))
+    (same-leb lock.range.from to (min to last_byte) (λ low. omega (arith, low, order, top)) (λ low. omega (arith, low))))
+
+pub meets-none-behind : MeetsNoneBehind
+unfolding is_met_by_other
+meets-none-behind w o r all behind =
+    any-same (λ (lock : Lock). is_lock_range lock.range) (λ lock. meets_lock w o r lock && not (lock.reference == o.reference)) (λ lock. false) w.locks all
+    (λ lock good.
+    let e = and_parts (nat_le lock.range.from lock.range.to) (nat_le lock.range.to last_byte) good in
+    let top = leb-true lock.range.to last_byte e.1 in
+    let none : nat_le r.from lock.range.to ≡ false = false_from_ne_true (nat_le r.from lock.range.to) (λ low. let is = leb-true r.from lock.range.to low in absurd (omega (arith, is, top, behind))) in
+    by (share_fork w.opens lock.reference o.reference) (nat_le lock.range.from r.to) (nat_le r.from lock.range.to) (not (lock.reference == o.reference)) none)
+    ∙ nothing w.locks
+  where
+    by : (a b c d : Bool) → c ≡ false → ((a && (b && c)) && d) ≡ false
+    by true true c d none = ap (λ x. x && d) none
+    by true false c d none = refl
+    by false b c d none = refl
+
+    nothing : (xs : List Lock) → list_any (λ (lock : Lock). false) xs ≡ false
+    nothing [] = refl
+    nothing (x ∷ xs) = nothing xs

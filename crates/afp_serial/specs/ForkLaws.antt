@@ -1,6 +1,6 @@
 -- The laws of the rows of the calls on open forks (this profile).
-use Rattle.std.specs.Prelude.{◌≡◌, ◌≢◌, ℕ, ℤ, ◌+◌, ◌*◌, ◌<◌, ◌≤◌, true, false, Bool, List, length, find, Some, None, ◌↔◌, pos, negsuc, suc, slice_get}
-use Rattle.std.specs.List.{Contains}
+use Rattle.std.specs.Prelude.{◌≡◌, ◌≢◌, ℕ, ℤ, ◌+◌, ◌*◌, ◌<◌, ◌≤◌, true, false, Bool, List, length, find, Some, None, ◌↔◌, pos, negsuc, suc, slice_get, nat_le, min, ◌&&◌}
+use Rattle.std.specs.List.{Contains, list_all}
 use Rattle.afp_base.specs.Choice.{first_holding}
 use Rattle.afp_base.specs.declared.code.Code.TheVariants.{DenyConflict, EOFErr, Ok}
 use Rattle.afp_base.specs.declared.ids.ForkRef.{ForkRef}
@@ -12,7 +12,7 @@ use Rattle.afp_replies.specs.declared.reply.Reply.{Reply}
 use Rattle.afp_requests.specs.declared.call.Call.{Call}
 use Rattle.afp_requests.specs.declared.call.Call.TheVariants as calls
 use Rattle.afp_requests.specs.declared.call.Call.TheVariants.{ByteRangeLock, ByteRangeLockExt, CloseFork, FlushFork, GetForkParms, Read, ReadExt, SetForkParms, Write, WriteExt}
-use Rattle.afp_serial.specs.OnFork.{OpenFile}
+use Rattle.afp_serial.specs.OnFork.{OpenFile, is_met_by_other}
 use Rattle.afp_base.specs.DenyMode.{Access, Conflicts, Fork}
 use Rattle.afp_base.specs.Overlap.{Covers, Range}
 use Rattle.afp_bitmap.specs.Bits.{file_mask}
@@ -149,3 +149,14 @@ OthersLeaveVolumes =
     × LeavesVolumes (read_ext_row reference offset count)
     × LeavesVolumes (byte_range_lock_row flag reference offset count)
     × LeavesVolumes (byte_range_lock_ext_row flag reference offset count)
+
+-- where each lock ends at the last byte or before, as each that was asked for does, bytes behind the last one are met by none
+abbrev pub is_lock_range : Range → Bool
+is_lock_range r = nat_le r.from r.to && nat_le r.to last_byte
+
+abbrev pub MeetsUpToTop : Type 0
+MeetsUpToTop = (w : World) (o : OpenFork) (from to : ℕ) → list_all (λ (lock : Lock). is_lock_range lock.range) w.locks ≡ true
+    → is_met_by_other w o (record { from = from; to = to }) ≡ is_met_by_other w o (record { from = from; to = min to last_byte })
+
+abbrev pub MeetsNoneBehind : Type 0
+MeetsNoneBehind = (w : World) (o : OpenFork) (r : Range) → list_all (λ (lock : Lock). is_lock_range lock.range) w.locks ≡ true → last_byte < r.from → is_met_by_other w o r ≡ false

@@ -61,6 +61,8 @@ pub fn forks_are_shared_by_their_rules()
     ensures counted { laws.RangesCount }
     ensures top { laws.RangesToTop }
     ensures end { laws.RangesEnd }
+    ensures met { laws.MeetsUpToTop }
+    ensures behind { laws.MeetsNoneBehind }
 {}
 
 /// What a read at the end of a fork and a denied open are told is shown by its bytes, with their codes.

@@ -1,4 +1,4 @@
-use Rattle.afp_serial.proofs.ForkFacts.{denies-conflicts, no-byte-twice, no-two-conflict, ranges-count, ranges-end, ranges-to-top}
+use Rattle.afp_serial.proofs.ForkFacts.{denies-conflicts, meets-none-behind, meets-up-to-top, no-byte-twice, no-two-conflict, ranges-count, ranges-end, ranges-to-top}
 use Rattle.afp_serial.proofs.fork_laws.forks_are_shared_by_their_rules.Goals as goal
 
 pub returns-clause-denied : goal.returns-clause-denied
@@ -18,3 +18,9 @@ returns-clause-top c = ranges-to-top
 
 pub returns-clause-end : goal.returns-clause-end
 returns-clause-end c = ranges-end
+
+pub returns-clause-met : goal.returns-clause-met
+returns-clause-met c = meets-up-to-top
+
+pub returns-clause-behind : goal.returns-clause-behind
+returns-clause-behind c = meets-none-behind
