@@ -59,7 +59,7 @@ fit_parts true true false attr_f filed x y d e = absurd (cc)
 fit_parts true false attr_d attr_f filed x y d e = absurd (cc)
 fit_parts false named attr_d attr_f filed x y d e = absurd (cc)
 
-fit_forks : (r : VolumeRow) → is_formed r ≡ true → HasFitForks r
+pub fit_forks : (r : VolumeRow) → is_formed r ≡ true → HasFitForks r
 fit_forks r e d =
     let two = fit_parts r.dir (is_named r) _ _ r.filed (length r.data_fork == 0) (length r.resource_fork == 0) d e in
     (no_bytes r.data_fork two.0, no_bytes r.resource_fork two.1)

@@ -6,3 +6,7 @@ pub mod KeptRecords
 pub mod Changing
 pub mod TreePlans
 pub mod WholePlans
+pub mod Loads
+pub mod Zeroed
+pub mod DesktopAgain
+pub mod Filling

@@ -7,7 +7,7 @@ use Rattle.std.specs.Cmp.Lexicographic.{slice_cmp, nat_list_cmp_total}
 use Rattle.std.specs.Ordering.{nat_cmp, is_eq, is_lt, eq_by_cmp, ordering_reverse}
 use Rattle.std.specs.declared.cmp.Ordering.{Ordering}
 use Rattle.std.specs.declared.cmp.Ordering.TheVariants.{Less, Equal, Greater}
-use Rattle.std.specs.FinMap.{find, is_sorted, get, get-insert, get-remove, get-from_sorted, from_sorted, insert, remove, same_map, IsAntisymmetric, slice_cmp-IsAntisymmetric, nat_cmp-IsAntisymmetric}
+use Rattle.std.specs.FinMap.{entries, get-entries, find, is_sorted, get, get-insert, get-remove, get-from_sorted, from_sorted, insert, remove, same_map, IsAntisymmetric, slice_cmp-IsAntisymmetric, nat_cmp-IsAntisymmetric}
 use Rattle.std.specs.FinMap.Entries.{below_all}
 use Rattle.record_keeper.specs.declared.record.Record.{Record}
 use Rattle.record_keeper.specs.declared.record.Change.{Change}
@@ -77,7 +77,7 @@ below_entries : (k : List ℕ) (rs : List Record) → IsBelow k rs → T (below_
 below_entries k [] b = tt
 below_entries k (r ∷ rs) b = both _ _ (subst (λ o. T (is_lt o)) (sym b.0) tt) (below_entries k rs b.1)
 
-sorted_entries : (rs : List Record) → Rises rs → T (is_sorted by_bytes (entries_of rs))
+pub sorted_entries : (rs : List Record) → Rises rs → T (is_sorted by_bytes (entries_of rs))
 sorted_entries [] s = tt
 sorted_entries (r ∷ rs) s = both _ _ (below_entries r.key rs s.0) (sorted_entries rs s.1)
 
@@ -189,3 +189,20 @@ left_over p (x ∷ xs) s q = elim (are_one q (key_of_row x)) as (λ b. are_one q
 
 pub after_gone : (p : Row → Bool) (xs : List Row) → Rises (map record_of xs) → (q : List ℕ) → after (map taken (filter p xs)) q (found xs q) ≡ found (filter (λ x. not (p x)) xs) q
 after_gone p xs s q = after_taken (filter p xs) q (found xs q) ∙ left_over p xs s q
+
+-- where no row has the key, none is found
+none_there : (xs : List Row) (q : List ℕ) → cond (any_at xs q) (found xs q) None ≡ found xs q
+none_there [] q = refl
+none_there (x ∷ xs) q = elim (are_one q (key_of_row x)) as (λ b. cond (b || any_at xs q) (cond b (Some (record_of x).value) (found xs q)) None ≡ cond b (Some (record_of x).value) (found xs q)) [
+  | true ↦ refl
+  | false ↦ none_there xs q
+]
+
+-- rising rows that are put where nothing is kept are all that is kept
+pub all_put : (xs : List Row) → Rises (map record_of xs) → (m : Records) → entries m ≡ [] → changed (map put xs) m ≡ from_sorted (entries_of (map record_of xs))
+all_put xs s m e = alike _ _ (λ q.
+    got_changed (map put xs) m q
+    ∙ ap (after (map put xs) q) (get-entries m q ∙ ap (find by_bytes q) e)
+    ∙ after_puts xs xs q None (each_found xs s)
+    ∙ none_there xs q
+    ∙ sym (got xs q s))

@@ -1,4 +1,6 @@
 pub mod Changes
 pub mod Whole
 pub mod Steps
+pub mod Rebuilt
+pub mod Loading
 pub mod Laws

@@ -22,7 +22,7 @@ use volume_records::{Head, Node, head_record, node_record};
 use volume_tree::{NodeAfter, Plan, Volume};
 
 /// Puts a record.
-fn put(changes: &mut Vec<Change>, kept: Record) -> Result<(), OutOfMemory>
+pub(crate) fn put(changes: &mut Vec<Change>, kept: Record) -> Result<(), OutOfMemory>
     ensures { OnOk result (changes.new.items ≡ changes.old.items ++ Put kept.key kept.value ∷ []) }
 {
     let Record { key, value } = kept;

@@ -1,12 +1,16 @@
-//! A volume held by a keeper of records: what a plan changes in the records.
+//! A volume held by a keeper of records: loaded from them, and what a plan changes in them.
 #![tactic(auto)]
 
 mod apply;
 mod changes;
+mod fresh;
 mod gone;
 mod held;
 pub mod laws;
 mod plan;
+mod loading;
+mod rebuild;
 
 pub use changes::tree_changes;
 pub use held::Held;
+pub use loading::{LoadFault, load};

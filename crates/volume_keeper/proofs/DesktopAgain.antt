@@ -1,0 +1,200 @@
+-- The desktop database of a volume, put in again one after the other.
+use Rattle.std.proofs.Common.{◌≡◌, ◌∙◌, ℕ, zero, suc, ◌≤◌, Bool, true, false, cond, not, List, [], ◌∷◌, ◌++◌, map, length, take, refl, sym, ap, arith, append_assoc}
+use Rattle.std.specs.Prelude.{nat_le, ◌&&◌, ◌==◌, bytes_eq, flat_map}
+use Rattle.std.specs.List.{filter, list_all}
+use Rattle.std.specs.Cmp.{tied_itself}
+use Rattle.std.specs.Cmp.Lexicographic.{slice_cmp, nat_list_cmp_total}
+use Rattle.std.specs.Ordering.{nat_cmp, is_lt, ordering_reverse}
+use Rattle.std.specs.declared.cmp.Ordering.{Ordering}
+use Rattle.std.specs.declared.cmp.Ordering.TheVariants.{Less, Equal, Greater}
+use Rattle.std.proofs.lemmas.Slice.Eq.{bytes_eq-Decides}
+use Rattle.afp_volume.specs.VolumeState.{Comment, Icon, Appl, VolumeState}
+use Rattle.afp_volume.specs.Order.{put_in, rises, stands_before}
+use Rattle.afp_volume.specs.SoundVolume.{appl_key, code_size, icon_key, is_comment, is_icon, longest_comment, longest_icon}
+use Rattle.afp_volume.specs.Desktop.{IsDesktop, comment_key, icon_under, with_appl, with_comment, with_icon}
+use Rattle.afp_volume.specs.DesktopLaws.{IconHasParts}
+use Rattle.volume_records.specs.declared.rows.Row.{Row}
+use Rattle.volume_records.specs.declared.rows.Row.TheVariants as row
+use Rattle.volume_records.specs.Image.{fork_blocks, node_of, rows_of, tables_of}
+use Rattle.volume_keeper.specs.Rebuilt.{appls_with, comments_with, icons_with, with_all}
+use Rattle.volume_keeper.proofs.GoneRecords.{first_true, second_true}
+use Rattle.volume_keeper.proofs.PlanSteps.{same_number}
+
+both_true : (a b : Bool) → a ≡ true → b ≡ true → (a && b) ≡ true
+both_true a b p q = ap (λ x. x && b) p ∙ q
+
+-- ---- the order of keys
+
+less_of : (o : Ordering) → is_lt o ≡ true → o ≡ Less
+less_of Less e = refl
+less_of Equal e = absurd (cc)
+less_of Greater e = absurd (cc)
+
+turned : (a b : List ℕ) → stands_before a b ≡ true → stands_before b a ≡ false
+turned a b e = ap is_lt (nat_list_cmp_total.antisymm b a ∙ ap ordering_reverse (less_of (slice_cmp nat_cmp a b) e))
+
+apart : (a b : List ℕ) → stands_before a b ≡ true → a ≡ b → ⊥
+apart a b e h = absurd (let k : true ≡ false = sym e ∙ ap (λ x. stands_before x b) h ∙ ap is_lt (tied_itself nat_list_cmp_total b) in cc k)
+
+not_equal : (a b : List ℕ) → stands_before a b ≡ true → bytes_eq a b ≡ false
+not_equal a b e = elim (bytes_eq a b) as (λ t. bytes_eq a b ≡ t → t ≡ false) [
+  | true ↦ λ t. absurd (apart a b e ((bytes_eq-Decides a b).0 t))
+  | false ↦ λ t. refl
+] refl
+
+-- ---- lists
+
+kept : {A : Type 0} (t : A → Bool) (xs : List A) → list_all t xs ≡ true → filter t xs ≡ xs
+kept t [] e = refl
+kept t (x ∷ xs) e = ap (λ b. cond b (x ∷ filter t xs) (filter t xs)) (first_true (t x) _ e) ∙ ap (λ l. x ∷ l) (kept t xs (second_true (t x) _ e))
+
+all-more : {A : Type 0} (p q : A → Bool) (xs : List A) → ((x : A) → p x ≡ true → q x ≡ true) → list_all p xs ≡ true → list_all q xs ≡ true
+all-more p q [] h e = refl
+all-more p q (x ∷ xs) h e = both_true (q x) _ (h x (first_true (p x) _ e)) (all-more p q xs h (second_true (p x) _ e))
+
+all-behind : {A : Type 0} (p : A → Bool) (xs : List A) (y : A) → list_all p xs ≡ true → p y ≡ true → list_all p (xs ++ y ∷ []) ≡ true
+all-behind p [] y e h = both_true (p y) true h refl
+all-behind p (x ∷ xs) y e h = both_true (p x) _ (first_true (p x) _ e) (all-behind p xs y (second_true (p x) _ e) h)
+
+whole : (n : ℕ) (xs : List ℕ) → length xs ≤ n → take n xs ≡ xs
+whole zero [] h = refl
+whole zero (x ∷ xs) h = absurd (omega arith)
+whole (suc n) [] h = refl
+whole (suc n) (x ∷ xs) h = ap (λ l. x ∷ l) (whole n xs (omega arith))
+
+-- ---- one list, put in by rising keys
+
+module _ {A : Type 0} (key : A → List ℕ) where
+  at_end : (x : A) (xs : List A) → list_all (λ d. stands_before (key d) (key x)) xs ≡ true → put_in key x xs ≡ xs ++ x ∷ []
+  at_end x [] e = refl
+  at_end x (y ∷ ys) e =
+      ap (λ b. cond b (x ∷ y ∷ ys) (y ∷ put_in key x ys)) (turned (key y) (key x) (first_true (stands_before (key y) (key x)) _ e))
+      ∙ ap (λ l. y ∷ l) (at_end x ys (second_true (stands_before (key y) (key x)) _ e))
+
+  without_none : (x : A) (xs : List A) → list_all (λ d. stands_before (key d) (key x)) xs ≡ true → filter (λ d. not (bytes_eq (key d) (key x))) xs ≡ xs
+  without_none x xs e = kept (λ d. not (bytes_eq (key d) (key x))) xs (all-more (λ d. stands_before (key d) (key x)) (λ d. not (bytes_eq (key d) (key x))) xs (λ d h. ap not (not_equal (key d) (key x) h)) e)
+
+  later_too : (x : A) (done xs : List A) → list_all (λ y. list_all (λ d. stands_before (key d) (key y)) done) xs ≡ true → list_all (λ y. stands_before (key x) (key y)) xs ≡ true
+      → list_all (λ y. list_all (λ d. stands_before (key d) (key y)) (done ++ x ∷ [])) xs ≡ true
+  later_too x done [] e h = refl
+  later_too x done (y ∷ ys) e h = both_true _ _
+      (all-behind (λ d. stands_before (key d) (key y)) done x (first_true (list_all (λ d. stands_before (key d) (key y)) done) _ e) (first_true (stands_before (key x) (key y)) _ h))
+      (later_too x done ys (second_true (list_all (λ d. stands_before (key d) (key y)) done) _ e) (second_true (stands_before (key x) (key y)) _ h))
+
+  module _ (put : Row → List A → List A) (make : A → Row) (good : A → Bool)
+      (step : (x : A) (done : List A) → good x ≡ true → list_all (λ d. stands_before (key d) (key x)) done ≡ true → put (make x) done ≡ done ++ x ∷ []) where
+    all_in : (done xs : List A) → list_all good xs ≡ true → rises key xs ≡ true → list_all (λ y. list_all (λ d. stands_before (key d) (key y)) done) xs ≡ true → with_all put (map make xs) done ≡ done ++ xs
+    all_in done [] g r e = sym (nil_behind done)
+      where
+        nil_behind : (xs : List A) → xs ++ [] ≡ xs
+        nil_behind [] = refl
+        nil_behind (x ∷ xs) = ap (λ l. x ∷ l) (nil_behind xs)
+    all_in done (x ∷ xs) g r e =
+        ap (with_all put (map make xs)) (step x done (first_true (good x) _ g) (first_true (list_all (λ d. stands_before (key d) (key x)) done) _ e))
+        ∙ all_in (done ++ x ∷ []) xs (second_true (good x) _ g) (second_true (list_all (λ y. stands_before (key x) (key y)) xs) _ r)
+        (later_too x done xs (second_true (list_all (λ d. stands_before (key d) (key x)) done) _ e) (first_true (list_all (λ y. stands_before (key x) (key y)) xs) _ r))
+        ∙ append_assoc done (x ∷ []) xs
+
+    none_done : (xs : List A) → list_all (λ y. list_all (λ d. stands_before (key d) (key y)) []) xs ≡ true
+    none_done [] = refl
+    none_done (x ∷ xs) = none_done xs
+
+    pub list_again : (xs : List A) → list_all good xs ≡ true → rises key xs ≡ true → with_all put (map make xs) [] ≡ xs
+    list_again xs g r = all_in [] xs g r (none_done xs)
+
+-- ---- each kind
+
+comment_in : (c : Comment) (done : List Comment) → is_comment c ≡ true → list_all (λ d. stands_before (comment_key d) (comment_key c)) done ≡ true → with_comment c.node c.text done ≡ done ++ c ∷ []
+comment_in c done g e =
+    let some : nat_le 1 (length c.text) ≡ true = first_true (nat_le 1 (length c.text)) _ g in
+    let short : nat_le (length c.text) longest_comment ≡ true = second_true (nat_le 1 (length c.text)) _ g in
+    let few : length c.text ≤ 199 = grind (arith, short) in
+    let not_empty : (length c.text == 0) ≡ false = grind (arith, some) in
+    let others : filter (λ (d : Comment). not (d.node == c.node)) done ≡ done = kept (λ (d : Comment). not (d.node == c.node)) done
+    (all-more (λ d. stands_before (comment_key d) (comment_key c)) (λ (d : Comment). not (d.node == c.node)) done (λ d h. ap not (differ d h)) e) in
+    ap (λ b. cond b (filter (λ (d : Comment). not (d.node == c.node)) done) (put_in comment_key (record { node = c.node; text = take longest_comment c.text }) (filter (λ (d : Comment). not (d.node == c.node)) done))) not_empty
+    ∙ (λ i. put_in comment_key (record { node = c.node; text = whole 199 c.text few i }) (others i))
+    ∙ at_end comment_key c done e
+  where
+    differ : (d : Comment) → stands_before (comment_key d) (comment_key c) ≡ true → (d.node == c.node) ≡ false
+    differ d h = elim (d.node == c.node) as (λ t. d.node == c.node ≡ t → t ≡ false) [
+      | true ↦ λ t. absurd (apart (comment_key d) (comment_key c) h (ap (λ (n : ℕ). n ∷ []) (same_number d.node c.node t)))
+      | false ↦ λ t. refl
+    ] refl
+
+appl_in : (a : Appl) (done : List Appl) → list_all (λ d. stands_before (appl_key d) (appl_key a)) done ≡ true → with_appl a done ≡ done ++ a ∷ []
+appl_in a done e = ap (put_in appl_key a) (without_none appl_key a done e) ∙ at_end appl_key a done e
+
+module _ (parts : IconHasParts) where
+  icon_is : (x : Icon) → is_icon x ≡ true → icon_under (icon_key x) x.tag x.bits ≡ x
+  icon_is x g =
+      let creator : length x.creator ≡ code_size = same_number (length x.creator) code_size (first_true (length x.creator == code_size) _ g) in
+      let rest = second_true (length x.creator == code_size) _ g in
+      let kind : length x.kind ≡ code_size = same_number (length x.kind) code_size (first_true (length x.kind == code_size) _ rest) in
+      let short : nat_le (length x.bits) longest_icon ≡ true = second_true (length x.kind == code_size) _ rest in
+      let few : length x.bits ≤ 65535 = grind (arith, short) in
+      parts x.creator x.kind x.bits x.icon_kind x.tag creator kind ∙ (λ i. record x { bits = whole 65535 x.bits few i })
+
+  icon_in : (x : Icon) (done : List Icon) → is_icon x ≡ true → list_all (λ d. stands_before (icon_key d) (icon_key x)) done ≡ true → with_icon (icon_under (icon_key x) x.tag x.bits) done ≡ done ++ x ∷ []
+  icon_in x done g e = ap (λ y. with_icon y done) (icon_is x g) ∙ ap (put_in icon_key x) (without_none icon_key x done e) ∙ at_end icon_key x done e
+
+-- ---- all rows
+
+with-append : {A : Type 0} (put : Row → A → A) (xs ys : List Row) (a : A) → with_all put (xs ++ ys) a ≡ with_all put ys (with_all put xs a)
+with-append put [] ys a = refl
+with-append put (x ∷ xs) ys a = with-append put xs ys (put x a)
+
+with-none : {A B : Type 0} (put : Row → A → A) (make : B → Row) → ((b : B) (a : A) → put (make b) a ≡ a) → (xs : List B) (a : A) → with_all put (map make xs) a ≡ a
+with-none put make none [] a = refl
+with-none put make none (x ∷ xs) a = ap (with_all put (map make xs)) (none x a) ∙ with-none put make none xs a
+
+always : {A : Type 0} (xs : List A) → list_all (λ x. true) xs ≡ true
+always [] = refl
+always (x ∷ xs) = always xs
+
+module _ (v : VolumeState) where
+  abbrev nodes : List Row
+  nodes = map (λ n. row.Node n) (map node_of v.rows)
+
+  abbrev blocks : List Row
+  blocks = map (λ b. row.Block b) (flat_map fork_blocks v.rows)
+
+  abbrev comments : List Row
+  comments = map (λ c. row.Comment c) v.comments
+
+  abbrev icons : List Row
+  icons = map (λ i. row.Icon i) v.icons
+
+  abbrev appls : List Row
+  appls = map (λ a. row.Appl a) v.appls
+
+  module _ {A : Type 0} (put : Row → List A → List A) (head : put (row.Head (tables_of v).head) [] ≡ []) where
+    parts_of : with_all put (rows_of (tables_of v)) [] ≡ with_all put appls (with_all put icons (with_all put comments (with_all put blocks (with_all put nodes []))))
+    parts_of =
+        ap (with_all put (nodes ++ (blocks ++ (comments ++ (icons ++ appls))))) head
+        ∙ with-append put nodes (blocks ++ (comments ++ (icons ++ appls))) []
+        ∙ with-append put blocks (comments ++ (icons ++ appls)) (with_all put nodes [])
+        ∙ with-append put comments (icons ++ appls) (with_all put blocks (with_all put nodes []))
+        ∙ with-append put icons appls (with_all put comments (with_all put blocks (with_all put nodes [])))
+
+  module _ (desktop : IsDesktop v.comments v.icons v.appls) where
+    pub comments_again : with_all comments_with (rows_of (tables_of v)) [] ≡ v.comments
+    comments_again =
+        parts_of comments_with refl
+        ∙ with-none comments_with (λ a. row.Appl a) (λ a l. refl) v.appls _
+        ∙ with-none comments_with (λ i. row.Icon i) (λ i l. refl) v.icons _
+        ∙ ap (with_all comments_with comments) (with-none comments_with (λ b. row.Block b) (λ b l. refl) (flat_map fork_blocks v.rows) _ ∙ with-none comments_with (λ n. row.Node n) (λ n l. refl) (map node_of v.rows) [])
+        ∙ list_again comment_key comments_with (λ c. row.Comment c) is_comment comment_in v.comments desktop.comments_formed desktop.comments_rise
+
+    pub icons_again : IconHasParts → with_all icons_with (rows_of (tables_of v)) [] ≡ v.icons
+    icons_again parts =
+        parts_of icons_with refl
+        ∙ with-none icons_with (λ a. row.Appl a) (λ a l. refl) v.appls _
+        ∙ ap (with_all icons_with icons) (with-none icons_with (λ c. row.Comment c) (λ c l. refl) v.comments _ ∙ with-none icons_with (λ b. row.Block b) (λ b l. refl) (flat_map fork_blocks v.rows) _ ∙ with-none icons_with (λ n. row.Node n) (λ n l. refl) (map node_of v.rows) [])
+        ∙ list_again icon_key icons_with (λ i. row.Icon i) is_icon (icon_in parts) v.icons desktop.icons_formed desktop.icons_rise
+
+    pub appls_again : with_all appls_with (rows_of (tables_of v)) [] ≡ v.appls
+    appls_again =
+        parts_of appls_with refl
+        ∙ ap (with_all appls_with appls) (with-none appls_with (λ i. row.Icon i) (λ i l. refl) v.icons _ ∙ with-none appls_with (λ c. row.Comment c) (λ c l. refl) v.comments _ ∙ with-none appls_with (λ b. row.Block b) (λ b l. refl) (flat_map fork_blocks v.rows) _ ∙ with-none appls_with (λ n. row.Node n) (λ n l. refl) (map node_of v.rows) [])
+        ∙ list_again appl_key appls_with (λ a. row.Appl a) (λ a. true) (λ a done g e. appl_in a done e) v.appls (always v.appls) desktop.appls_rise

@@ -1,0 +1,84 @@
+-- What a load answers, and what it does to the records of a keeper (this profile).
+use Rattle.std.specs.Prelude.{◌≡◌, ℕ, ◌<◌, ◌≤◌, Bool, true, List, [], Option, Some, None, IfSome, Result, Ok, Err, OnOk, IfErr}
+use Rattle.std.specs.FinMap.{entries}
+use Rattle.afp_volume.specs.VolumeState.{VolumeState, fresh_volume}
+use Rattle.record_keeper.specs.declared.record.Record.{Record}
+use Rattle.record_keeper.specs.declared.reading.ReadFault.{ReadFault}
+use Rattle.record_keeper.specs.declared.reading.ReadFault.TheVariants as read
+use Rattle.record_keeper.specs.Records.{Records}
+use Rattle.volume_records.specs.declared.rows.Reason.TheVariants.{Shape, Limit}
+use Rattle.volume_records.specs.FirstBad.{first_bad_record}
+use Rattle.volume_records.specs.Image.{image, kept_image, records_in}
+use Rattle.volume_keeper.specs.declared.loading.LoadFault.{LoadFault}
+use Rattle.volume_keeper.specs.declared.loading.LoadFault.TheVariants.{BadRecord, Failed, Memory}
+use Rattle.volume_keeper.specs.Whole.{HeldValue}
+
+-- where records are told afterwards, they were told before, and both are so
+abbrev pub FromTold : (Records → Records → Type 0) → Option Records → Records → Type 0
+FromTold P None new = ⊥
+FromTold P (Some old) new = P old new
+
+abbrev pub Becomes : (Records → Records → Type 0) → Option Records → Option Records → Type 0
+Becomes P old new = IfSome new (FromTold P old)
+
+-- a fault, as records by rising key say: the first that is bad is so refused
+abbrev pub IsFaultIn : List ℕ → List Record → LoadFault → Type 0
+IsFaultIn name records (BadRecord key reason) = first_bad_record name records ≡ Some (record { key = key; reason = reason })
+IsFaultIn name records Failed = Unit {0}
+IsFaultIn name records Memory = Unit {0}
+
+-- A volume that was loaded: none of the records was bad, and those that are kept now are its image. Where there was none it is a fresh one; else the
+-- records are as they were.
+pub record IsLoaded (name : List ℕ) (now : ℕ) (old new : Records) (v : VolumeState) : Type 0 where
+  pub good : first_bad_record name (records_in old) ≡ None
+  pub image : kept_image v ≡ new
+  pub fresh : entries old ≡ [] → v ≡ fresh_volume name now
+  pub same : (entries old ≡ [] → ⊥) → new ≡ old
+
+-- what a load does to the records
+abbrev pub IsLoad : List ℕ → ℕ → Result HeldValue LoadFault → Records → Records → Type 0
+IsLoad name now (Ok held) old new = IsLoaded name now old new held.state
+IsLoad name now (Err fault) old new = (new ≡ old) × IsFaultIn name (records_in old) fault
+
+-- the count of the keeper's faults beside a fault: it rose beside Failed alone
+abbrev pub IsCounted : ℕ → ℕ → LoadFault → Type 0
+IsCounted before now (BadRecord key reason) = now ≡ before
+IsCounted before now Failed = before < now
+IsCounted before now Memory = now ≡ before
+
+-- The count of the keeper's faults never falls. It rises beside Failed, and beside no other answer; that of a sure keeper never rises.
+pub record HasLoadCause {T : Type 0} (sure : Bool) (before now : ℕ) (result : Result T LoadFault) : Type 0 where
+  pub later : before ≤ now
+  pub answered : OnOk result (now ≡ before)
+  pub fault : IfErr result (IsCounted before now)
+  pub still : sure ≡ true → now ≡ before
+
+-- From here on for private contracts: a volume that was made of records, where some are there
+pub record IsMadeOf (name : List ℕ) (records : List Record) (v : VolumeState) : Type 0 where
+  pub good : first_bad_record name records ≡ None
+  pub image : image v ≡ records
+  pub named : v.name ≡ name
+
+-- a fault that does not come from the keeper
+abbrev pub IsNotFailed : LoadFault → Type 0
+IsNotFailed (BadRecord key reason) = Unit {0}
+IsNotFailed Failed = ⊥
+IsNotFailed Memory = Unit {0}
+
+-- a fault that says nothing of records
+abbrev pub IsNotBad : LoadFault → Type 0
+IsNotBad (BadRecord key reason) = ⊥
+IsNotBad Failed = Unit {0}
+IsNotBad Memory = Unit {0}
+
+-- what making a fresh volume does to the records
+abbrev pub IsMake : List ℕ → ℕ → Result HeldValue LoadFault → Records → Records → Type 0
+IsMake name now (Ok held) old new = entries old ≡ [] → kept_image held.state ≡ new
+IsMake name now (Err fault) old new = (new ≡ old) × IsNotBad fault
+
+-- what a keeper that was not read whole is
+abbrev pub IsReadFault : ReadFault → LoadFault → Type 0
+IsReadFault (read.TooMany key) fault = fault ≡ BadRecord key Limit
+IsReadFault (read.Inconsistent key) fault = fault ≡ BadRecord key Shape
+IsReadFault read.Failed fault = fault ≡ Failed
+IsReadFault read.Memory fault = fault ≡ Memory

@@ -1,0 +1,119 @@
+//! A volume that nobody has used, and its records.
+ghost use Rattle.std.specs.Prelude.{◌≡◌, None, map, IfOk, IfErr, true, pos, List, ℕ};
+ghost use Rattle.afp_names.specs.Name.{name_fault};
+ghost use Rattle.afp_volume.specs.VolumeState.{VolumeState, fresh_volume, new_directory, root_id, root_parent};
+ghost use Rattle.record_keeper.specs.Records.{Records, Makes, changed};
+ghost use Rattle.volume_records.specs.Image.{node_of, rows_of, tables_of};
+ghost use Rattle.volume_keeper.specs.Changes.{put as the_put};
+ghost use Rattle.volume_keeper.specs.Loading.{Becomes, HasLoadCause, IsMake};
+
+use crate::changes::put;
+use crate::held::Held;
+use crate::loading::LoadFault;
+use afp_base::{Bytes, Moment, OutOfMemory};
+use afp_volume::laws::{fresh_volumes_are_sound, numbers_stay_in_their_ranges};
+use desktop_db::Desktop;
+use record_keeper::{Change, Keeper, KeeperFault};
+use std::alloc::Global;
+use volume_records::laws::records_are_images;
+use volume_records::{Head, Node, head_record, node_record};
+use volume_tree::Volume;
+
+/// The date of what never happened (AFP Reference, "Date and time").
+const NEVER: i32 = -2_147_483_648;
+
+/// The ids of the root and of its parent, and the first of other nodes (AFP Reference, "Directory IDs").
+const ROOT: u32 = 2;
+
+const ROOT_PARENT: u32 = 1;
+
+const FIRST_ID: u64 = 17;
+
+/// The head of a volume that is made at a moment.
+fn head_of(now: Moment) -> Head
+    ensures { (name : List ℕ) → result ≡ (tables_of (fresh_volume name now)).head }
+{
+    let date = now.seconds() as i32;
+    Head {
+        created: date,
+        modified: date,
+        backup: NEVER,
+        next_id: FIRST_ID,
+    }
+}
+
+/// The root of a volume that is made at a moment.
+fn root_of(alloc: Global, name: &str, now: Moment) -> Result<Node, OutOfMemory>
+    ensures { IfOk result (λ root. root ≡ node_of (new_directory root_id root_parent name.now now)) }
+{
+    let date = now.seconds() as i32;
+    Ok(Node {
+        id: ROOT,
+        is_directory: true,
+        parent: ROOT_PARENT,
+        attributes: 0,
+        created: date,
+        modified: date,
+        backup: NEVER,
+        finder: [0; 32],
+        is_filed: false,
+        data_length: 0,
+        resource_length: 0,
+        name: Bytes::of(alloc, name.as_bytes())?,
+    })
+}
+
+/// The records of a volume that is made at a moment, to be put.
+fn fresh_changes(alloc: Global, name: &str, now: Moment) -> Result<Vec<Change>, OutOfMemory>
+    ensures { IfOk result (λ changes. changes.items ≡ map the_put (rows_of (tables_of (fresh_volume name.now now)))) }
+{
+    let mut changes = Vec::new(alloc);
+    let head = head_of(now);
+    put(&mut changes, head_record(alloc, &head)?)?;
+    let root = root_of(alloc, name, now)?;
+    put(&mut changes, node_record(alloc, &root)?)?;
+    Ok(changes)
+}
+
+/// A volume that is made at a moment, with an empty desktop database.
+fn fresh_held(alloc: Global, name: &str, now: Moment) -> Result<Held, OutOfMemory>
+    requires { name_fault name.now ≡ None }
+    ensures { IfOk result (λ held. held.state ≡ fresh_volume name.now now) }
+{
+    fresh_volumes_are_sound();
+    numbers_stay_in_their_ranges();
+    let _ = now.seconds();
+    let volume = Volume::fresh(alloc, name, now)?;
+    Ok(Held {
+        volume,
+        desktop: Desktop::new(alloc),
+    })
+}
+
+/// Makes a volume at a moment, and has the keeper hold it, by one commit.
+pub(crate) fn make_fresh<K: Keeper>(
+    alloc: Global,
+    keeper: &mut K,
+    name: &str,
+    now: Moment,
+) -> Result<Held, LoadFault>
+    requires { name_fault name.now ≡ None }
+    ensures fresh { IfOk result (λ held. held.state ≡ fresh_volume name.now now) }
+    ensures records { Becomes (IsMake name.now now result) (K.records keeper.old) (K.records keeper.new) }
+    ensures cause { HasLoadCause (K.sure keeper.old) (K.faults keeper.old) (K.faults keeper.new) result }
+    ensures sure { K.sure keeper.new ≡ K.sure keeper.old }
+{
+    fresh_volumes_are_sound();
+    records_are_images();
+    let Ok(held) = fresh_held(alloc, name, now) else {
+        return Err(LoadFault::Memory);
+    };
+    let Ok(changes) = fresh_changes(alloc, name, now) else {
+        return Err(LoadFault::Memory);
+    };
+    match keeper.commit(alloc, changes.as_slice()) {
+        Ok(()) => Ok(held),
+        Err(KeeperFault::Failed) => Err(LoadFault::Failed),
+        Err(KeeperFault::Memory) => Err(LoadFault::Memory),
+    }
+}

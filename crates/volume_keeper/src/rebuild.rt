@@ -1,0 +1,245 @@
+//! The volume that rows say.
+ghost use Rattle.std.specs.Prelude.{◌≡◌, ◌<◌, ◌++◌, ◌∷◌, [], List, length, flat_map, IfOk, OnOk};
+ghost use Rattle.afp_volume.specs.VolumeState.{VolumeState};
+ghost use Rattle.volume_records.specs.declared.rows.Row.{Row};
+ghost use Rattle.volume_records.specs.declared.rows.Row.TheVariants as row;
+ghost use Rattle.volume_records.specs.Image.{rows_of, tables_of};
+ghost use Rattle.volume_keeper.specs.Rebuilt.{FitRows, FitsRow, appls_with, comments_with, head_said, icons_with, nodes_said, with_all, with_block, with_blocks};
+ghost use Rattle.volume_keeper.specs.Whole.{IsHeld, without_desktop};
+
+use crate::held::Held;
+use afp_base::laws::splice_puts_between;
+use afp_base::{NodeId, OutOfMemory};
+use afp_names::Name;
+use afp_volume::desktop_laws::{desktops_keep_volumes_sound, icons_have_their_keys};
+use desktop_db::{Desktop, icon_key};
+use fork_bytes::laws::{blocks_are_bytes, blocks_of_bytes_are_kept};
+use node_rows::Node as TreeNode;
+use std::alloc::Global;
+use volume_records::laws::{records_are_images, tables_say_volumes};
+use volume_records::{Appl, Comment, ForkBlock, Icon, Node, Row};
+use volume_tree::{Loaded, Volume, VolumeHead};
+
+const NO_HEAD: VolumeHead = VolumeHead {
+    created: 0,
+    modified: 0,
+    backup: 0,
+    next_id: 0,
+};
+
+/// The head that a row is.
+fn head_of(row: &Row) -> VolumeHead
+    ensures { result ≡ head_said row.now }
+{
+    match row {
+        Row::Head(head) => VolumeHead {
+            created: head.created,
+            modified: head.modified,
+            backup: head.backup,
+            next_id: head.next_id,
+        },
+        Row::Node(_) => NO_HEAD,
+        Row::Block(_) => NO_HEAD,
+        Row::Comment(_) => NO_HEAD,
+        Row::Icon(_) => NO_HEAD,
+        Row::Appl(_) => NO_HEAD,
+    }
+}
+
+/// The head, which is the first of rows.
+fn head_in(rows: &[Row]) -> VolumeHead
+    requires { 0 < length rows.now }
+    ensures { (first : Row) (rest : List Row) → rows.now ≡ first ∷ rest → result ≡ head_said first }
+{
+    head_of(&rows[0])
+}
+
+/// A node with the lengths of its forks.
+fn loaded_of(alloc: Global, node: &Node) -> Result<Loaded, OutOfMemory>
+    ensures { IfOk result (λ loaded. loaded ∷ [] ≡ nodes_said (row.Node node.now)) }
+{
+    match Name::new(alloc, node.name.as_slice()) {
+        Ok(name) => Ok(Loaded {
+            node: TreeNode {
+                id: NodeId(node.id),
+                parent: NodeId(node.parent),
+                dir: node.is_directory,
+                attributes: node.attributes,
+                created: node.created,
+                modified: node.modified,
+                backup: node.backup,
+                finder: node.finder,
+                filed: node.is_filed,
+                name,
+            },
+            data_len: node.data_length,
+            resource_len: node.resource_length,
+        }),
+        Err(_) => Err(OutOfMemory),
+    }
+}
+
+fn put_loaded(alloc: Global, nodes: &mut Vec<Loaded>, row: &Row) -> Result<(), OutOfMemory>
+    ensures { OnOk result (nodes.new.items ≡ nodes.old.items ++ nodes_said row.now) }
+{
+    match row {
+        Row::Node(node) => {
+            nodes.push(loaded_of(alloc, node)?)?;
+            Ok(())
+        }
+        Row::Head(_) => Ok(()),
+        Row::Block(_) => Ok(()),
+        Row::Comment(_) => Ok(()),
+        Row::Icon(_) => Ok(()),
+        Row::Appl(_) => Ok(()),
+    }
+}
+
+/// The nodes among rows, with the lengths of their forks.
+fn all_loaded(alloc: Global, rows: &[Row]) -> Result<Vec<Loaded>, OutOfMemory>
+    ensures { IfOk result (λ nodes. nodes.items ≡ flat_map nodes_said rows.now) }
+{
+    let mut nodes = Vec::new(alloc);
+    for row in rows {
+        put_loaded(alloc, &mut nodes, row)?;
+    }
+    Ok(nodes)
+}
+
+/// Puts the block that a row is in its place.
+fn fill_block(alloc: Global, volume: &mut Volume, block: &ForkBlock) -> Result<(), OutOfMemory>
+    requires { FitsRow (row.Block block.now) volume.old.state }
+    ensures { OnOk result (volume.new.state ≡ with_block (row.Block block.now) volume.old.state) }
+{
+    volume.fill(
+        alloc,
+        NodeId(block.node),
+        block.is_resource,
+        block.index,
+        block.bytes.as_slice(),
+    )
+}
+
+fn fill_row(alloc: Global, volume: &mut Volume, row: &Row) -> Result<(), OutOfMemory>
+    requires { FitsRow row.now volume.old.state }
+    ensures { OnOk result (volume.new.state ≡ with_block row.now volume.old.state) }
+{
+    match row {
+        Row::Block(block) => fill_block(alloc, volume, block),
+        Row::Head(_) => Ok(()),
+        Row::Node(_) => Ok(()),
+        Row::Comment(_) => Ok(()),
+        Row::Icon(_) => Ok(()),
+        Row::Appl(_) => Ok(()),
+    }
+}
+
+/// Puts the blocks among rows in their places.
+fn fill_all(alloc: Global, volume: &mut Volume, rows: &[Row]) -> Result<(), OutOfMemory>
+    requires { FitRows rows.now volume.old.state }
+    ensures { OnOk result (volume.new.state ≡ with_blocks rows.now volume.old.state) }
+{
+    for i in 0..rows.len() {
+        fill_row(alloc, volume, &rows[i])?;
+    }
+    Ok(())
+}
+
+fn put_comment(desktop: &mut Desktop, comment: &Comment) -> Result<(), OutOfMemory>
+    ensures comments { OnOk result (desktop.new.comments ≡ comments_with (row.Comment comment.now) desktop.old.comments) }
+    ensures icons { desktop.new.icons ≡ desktop.old.icons }
+    ensures appls { desktop.new.appls ≡ desktop.old.appls }
+{
+    desktop.put_comment(NodeId(comment.node), comment.text.copy()?)
+}
+
+fn put_icon(desktop: &mut Desktop, icon: &Icon) -> Result<(), OutOfMemory>
+    ensures icons { OnOk result (desktop.new.icons ≡ icons_with (row.Icon icon.now) desktop.old.icons) }
+    ensures comments { desktop.new.comments ≡ desktop.old.comments }
+    ensures appls { desktop.new.appls ≡ desktop.old.appls }
+{
+    let key = icon_key(icon.creator, icon.kind, icon.icon_kind);
+    match desktop.put_icon(key, icon.tag, icon.bits.copy()?) {
+        Ok(()) => Ok(()),
+        Err(_) => Err(OutOfMemory),
+    }
+}
+
+fn put_appl(desktop: &mut Desktop, appl: &Appl) -> Result<(), OutOfMemory>
+    ensures appls { OnOk result (desktop.new.appls ≡ appls_with (row.Appl appl.now) desktop.old.appls) }
+    ensures comments { desktop.new.comments ≡ desktop.old.comments }
+    ensures icons { desktop.new.icons ≡ desktop.old.icons }
+{
+    match desktop.put_appl(appl.creator, NodeId(appl.node), appl.tag) {
+        Ok(()) => Ok(()),
+        Err(_) => Err(OutOfMemory),
+    }
+}
+
+/// Puts what a row is into the desktop database, where it belongs there.
+fn put_row(desktop: &mut Desktop, row: &Row) -> Result<(), OutOfMemory>
+    ensures comments { OnOk result (desktop.new.comments ≡ comments_with row.now desktop.old.comments) }
+    ensures icons { OnOk result (desktop.new.icons ≡ icons_with row.now desktop.old.icons) }
+    ensures appls { OnOk result (desktop.new.appls ≡ appls_with row.now desktop.old.appls) }
+{
+    match row {
+        Row::Comment(comment) => put_comment(desktop, comment),
+        Row::Icon(icon) => put_icon(desktop, icon),
+        Row::Appl(appl) => put_appl(desktop, appl),
+        Row::Head(_) => Ok(()),
+        Row::Node(_) => Ok(()),
+        Row::Block(_) => Ok(()),
+    }
+}
+
+/// Puts what rows are into the desktop database.
+fn put_all(desktop: &mut Desktop, rows: &[Row]) -> Result<(), OutOfMemory>
+    ensures comments { OnOk result (desktop.new.comments ≡ with_all comments_with rows.now desktop.old.comments) }
+    ensures icons { OnOk result (desktop.new.icons ≡ with_all icons_with rows.now desktop.old.icons) }
+    ensures appls { OnOk result (desktop.new.appls ≡ with_all appls_with rows.now desktop.old.appls) }
+{
+    for i in 0..rows.len() {
+        put_row(desktop, &rows[i])?;
+    }
+    Ok(())
+}
+
+/// The tree that rows say.
+fn tree_of(alloc: Global, rows: &[Row]) -> Result<Volume, OutOfMemory>
+    requires { (v : VolumeState) × IsHeld v × (rows.now ≡ rows_of (tables_of v)) }
+    ensures { IfOk result (λ volume. (v : VolumeState) → IsHeld v → rows.now ≡ rows_of (tables_of v) → volume.state ≡ without_desktop v) }
+{
+    tables_say_volumes();
+    blocks_are_bytes();
+    blocks_of_bytes_are_kept();
+    splice_puts_between();
+    records_are_images();
+    let head = head_in(rows);
+    let nodes = all_loaded(alloc, rows)?;
+    let mut volume = Volume::restore(alloc, head, nodes)?;
+    fill_all(alloc, &mut volume, rows)?;
+    Ok(volume)
+}
+
+/// The desktop database that rows say.
+fn desktop_of(alloc: Global, rows: &[Row]) -> Result<Desktop, OutOfMemory>
+    ensures comments { IfOk result (λ desktop. (v : VolumeState) → IsHeld v → rows.now ≡ rows_of (tables_of v) → desktop.comments ≡ v.comments) }
+    ensures icons { IfOk result (λ desktop. (v : VolumeState) → IsHeld v → rows.now ≡ rows_of (tables_of v) → desktop.icons ≡ v.icons) }
+    ensures appls { IfOk result (λ desktop. (v : VolumeState) → IsHeld v → rows.now ≡ rows_of (tables_of v) → desktop.appls ≡ v.appls) }
+{
+    desktops_keep_volumes_sound();
+    icons_have_their_keys();
+    let mut desktop = Desktop::new(alloc);
+    put_all(&mut desktop, rows)?;
+    Ok(desktop)
+}
+
+/// The volume that these rows say, with its desktop database. The one error is want of memory.
+pub(crate) fn held_of(alloc: Global, rows: Vec<Row>) -> Result<Held, OutOfMemory>
+    requires { (v : VolumeState) × IsHeld v × (rows.items ≡ rows_of (tables_of v)) }
+    ensures { IfOk result (λ held. (v : VolumeState) → IsHeld v → rows.items ≡ rows_of (tables_of v) → held.state ≡ v) }
+{
+    let volume = tree_of(alloc, rows.as_slice())?;
+    let desktop = desktop_of(alloc, rows.as_slice())?;
+    Ok(Held { volume, desktop })
+}
