@@ -1,0 +1,56 @@
+//! Loads volumes from a keeper in memory, over lines of the standard input that put its records. Behind each line it prints what
+//! came of it. A line that is empty or begins with `#` is passed over.
+#![tactic(auto)]
+
+mod line;
+mod rows;
+mod run;
+
+use afp_base::OutOfMemory;
+use line::{Line, line_of};
+use run::{Came, Run};
+use std::io;
+use std::io::ErrorKind;
+
+/// Prints a line, and what came of it; bytes in hexadecimal digits.
+fn print_came(rt: &HostRuntime, text: &str, came: &Came) -> io::Result<()> {
+    match came {
+        Came::Nothing => println!(rt; "{text} -> -"),
+        Came::Number(number) => println!(rt; "{text} -> {number}"),
+        Came::Word(word) => println!(rt; "{text} -> {word}"),
+        Came::Bytes(bytes) => {
+            let digits = hex::encode(rt.alloc(), bytes.as_slice())?;
+            println!(rt; "{text} -> {digits}")
+        }
+        Came::Bad(key, reason) => {
+            let digits = hex::encode(rt.alloc(), key.as_slice())?;
+            println!(rt; "{text} -> bad {digits} {reason}")
+        }
+    }
+}
+
+fn run_line(rt: &HostRuntime, run: &mut Run, text: &str, line: &Line<'_>) -> io::Result<()> {
+    match run.answer(rt.alloc(), line) {
+        Ok(came) => print_came(rt, text, &came),
+        Err(OutOfMemory) => Err(io::Error::from(ErrorKind::OutOfMemory)),
+    }
+}
+
+fn run_text(rt: &HostRuntime, run: &mut Run, text: &str) -> io::Result<()> {
+    if text.starts_with('#') {
+        return Ok(());
+    }
+    let words: Vec<&str> = text.split_whitespace().collect(rt.alloc())?;
+    match line_of(words.as_slice()) {
+        Some(line) => run_line(rt, run, text, &line),
+        None => Ok(()),
+    }
+}
+
+fn main(rt: HostRuntime) -> io::Result<()> {
+    let mut run = Run::new(rt.alloc());
+    for text in rt.lines(rt.alloc()) {
+        run_text(&rt, &mut run, text?.as_str())?;
+    }
+    Ok(())
+}

@@ -1,0 +1,151 @@
+//! What comes of lines.
+use crate::line::{Kind, Line};
+use crate::rows::{bytes_of, node, row_of};
+use afp_base::{Bytes, Moment, OutOfMemory};
+use afp_names::Name;
+use record_keeper::{Change, Keeper, KeeperFault, MemoryKeeper, Record, RecordKey, read_all};
+use std::alloc::Global;
+use volume_keeper::{Held, LoadFault, load};
+use volume_records::{Reason, Row, record_of};
+
+/// A keeper, whose records lines put.
+#[derive(Drop)]
+pub struct Run {
+    keeper: MemoryKeeper,
+}
+
+/// What comes of a line.
+#[derive(Drop)]
+pub enum Came {
+    Nothing,
+    Number(u64),
+    Word(&'static str),
+    Bytes(Bytes),
+    Bad(RecordKey, &'static str),
+}
+
+fn word_of(fault: KeeperFault) -> Came {
+    match fault {
+        KeeperFault::Failed => Came::Word("failed"),
+        KeeperFault::Memory => Came::Word("memory"),
+    }
+}
+
+fn reason_word(reason: Reason) -> &'static str {
+    match reason {
+        Reason::Shape => "shape",
+        Reason::Parent => "parent",
+        Reason::Twin => "twin",
+        Reason::Range => "range",
+        Reason::Limit => "limit",
+    }
+}
+
+fn put(alloc: Global, changes: &mut Vec<Change>, row: &Row) -> Result<(), OutOfMemory> {
+    let Record { key, value } = record_of(alloc, row)?;
+    changes.push(Change::Put { key, value })?;
+    Ok(())
+}
+
+/// So many directories, each in the one behind it; the last in this one.
+fn put_chain(
+    alloc: Global,
+    changes: &mut Vec<Change>,
+    count: u32,
+    last: u32,
+) -> Result<(), OutOfMemory> {
+    for i in 0..count {
+        let id = i.wrapping_add(17);
+        let parent = if i.wrapping_add(1) == count {
+            last
+        } else {
+            id.wrapping_add(1)
+        };
+        put(alloc, changes, &node(alloc, id, parent, None, "n")?)?;
+    }
+    Ok(())
+}
+
+/// The changes that a line tells.
+fn changes_of(alloc: Global, line: &Line<'_>) -> Result<Vec<Change>, OutOfMemory> {
+    let mut changes = Vec::new(alloc);
+    match line.kind {
+        Kind::Put => changes.push(Change::Put {
+            key: RecordKey::new(bytes_of(alloc, line.second)?),
+            value: bytes_of(alloc, line.text)?,
+        })?,
+        Kind::Remove => changes.push(Change::Remove {
+            key: RecordKey::new(bytes_of(alloc, line.text)?),
+        })?,
+        Kind::Chain => put_chain(alloc, &mut changes, line.numbers[0], 2)?,
+        Kind::Ring => put_chain(alloc, &mut changes, line.numbers[0], 17)?,
+        _ => put(alloc, &mut changes, &row_of(alloc, line)?)?,
+    }
+    Ok(changes)
+}
+
+/// What came of a load: how many nodes there are, or why there are none.
+fn of_load(loaded: Result<Held, LoadFault>) -> Came {
+    match loaded {
+        Ok(held) => Came::Number(held.volume.count() as u64),
+        Err(LoadFault::BadRecord { key, reason }) => Came::Bad(key, reason_word(reason)),
+        Err(LoadFault::Failed) => Came::Word("failed"),
+        Err(LoadFault::Memory) => Came::Word("memory"),
+    }
+}
+
+impl Run {
+    pub fn new(alloc: Global) -> Run {
+        Run {
+            keeper: MemoryKeeper::new(alloc, Vec::new(alloc)),
+        }
+    }
+
+    fn change(&mut self, alloc: Global, line: &Line<'_>) -> Result<Came, OutOfMemory> {
+        let changes = changes_of(alloc, line)?;
+        match self.keeper.commit(alloc, changes.as_slice()) {
+            Ok(()) => Ok(Came::Nothing),
+            Err(fault) => Ok(word_of(fault)),
+        }
+    }
+
+    fn load(&mut self, alloc: Global, line: &Line<'_>) -> Came {
+        let Some(now) = Moment::new(line.numbers[0]) else {
+            return Came::Word("no moment");
+        };
+        match Name::new(alloc, line.text.as_bytes()) {
+            Ok(_) => of_load(load(alloc, &mut self.keeper, line.text, now)),
+            Err(_) => Came::Word("no name"),
+        }
+    }
+
+    fn read(&mut self, alloc: Global, line: &Line<'_>) -> Result<Came, OutOfMemory> {
+        let key = RecordKey::new(bytes_of(alloc, line.text)?);
+        match self.keeper.read(alloc, &key) {
+            Ok(Some(value)) => Ok(Came::Bytes(value)),
+            Ok(None) => Ok(Came::Word("none")),
+            Err(fault) => Ok(word_of(fault)),
+        }
+    }
+
+    fn count(&mut self, alloc: Global) -> Came {
+        match read_all(alloc, &mut self.keeper) {
+            Ok(records) => Came::Number(records.len() as u64),
+            Err(_) => Came::Word("unread"),
+        }
+    }
+
+    /// What comes of a line.
+    pub fn answer(&mut self, alloc: Global, line: &Line<'_>) -> Result<Came, OutOfMemory> {
+        match line.kind {
+            Kind::New => {
+                *self = Run::new(alloc);
+                Ok(Came::Nothing)
+            }
+            Kind::Load => Ok(self.load(alloc, line)),
+            Kind::Read => self.read(alloc, line),
+            Kind::Count => Ok(self.count(alloc)),
+            _ => self.change(alloc, line),
+        }
+    }
+}
