@@ -1,0 +1,150 @@
+ghost use Rattle.std.specs.Prelude.{IsSome};
+ghost use Rattle.volume_tree.specs.Requests.{tree_call};
+
+use super::*;
+use afp_base::{Bytes, Code, Moment, NodeId, VolumeId};
+use afp_names::{Name, Path, UTF8_NAMES};
+use afp_requests::Call;
+use std::alloc::Global;
+use std::test::Fail;
+use volume_tree::{PlanFault, Volume};
+
+fn path(alloc: Global, name: &[u8; 1]) -> Result<Path, Fail> {
+    match Path::read(alloc, UTF8_NAMES, name) {
+        Ok(path) => Ok(path),
+        Err(_) => Err("no path")?,
+    }
+}
+
+fn no_path(alloc: Global) -> Result<Path, Fail> {
+    match Path::read(alloc, UTF8_NAMES, &[]) {
+        Ok(path) => Ok(path),
+        Err(_) => Err("no path")?,
+    }
+}
+
+/// Carries out a call that makes a file or directory.
+fn make(alloc: Global, volume: &mut Volume, now: Moment, call: &Call) -> Result<(), Fail>
+    requires { IsSome (tree_call call.now) }
+{
+    volume.reserve(alloc)?;
+    match volume.plan(alloc, now, &[], call) {
+        Ok(plan) => volume.apply(plan),
+        Err(_) => Err("no plan")?,
+    }
+    Ok(())
+}
+
+/// Makes the file `b` in the root.
+fn make_file(alloc: Global, volume: &mut Volume, now: Moment) -> Result<(), Fail> {
+    let call = Call::CreateFile {
+        flag: 0,
+        volume: VolumeId(1),
+        dir: NodeId(2),
+        path: path(alloc, b"b")?,
+    };
+    make(alloc, volume, now, &call)
+}
+
+/// Makes the directory `A` in the root.
+fn make_dir(alloc: Global, volume: &mut Volume, now: Moment) -> Result<(), Fail> {
+    let call = Call::CreateDir {
+        volume: VolumeId(1),
+        dir: NodeId(2),
+        path: path(alloc, b"A")?,
+    };
+    make(alloc, volume, now, &call)
+}
+
+/// A volume with the file `b` (17) and the directory `A` (18).
+fn volume(alloc: Global) -> Result<Volume, Fail> {
+    let Some(now) = Moment::new(100) else {
+        return Err("no moment")?;
+    };
+    let Ok(name) = Name::new(alloc, b"Share") else {
+        return Err("no name")?;
+    };
+    let mut volume = Volume::fresh(alloc, name.as_str(), now)?;
+    make_file(alloc, &mut volume, now)?;
+    make_dir(alloc, &mut volume, now)?;
+    Ok(volume)
+}
+
+fn asked(wide: bool, count: u16, start: u32, size: u32) -> ListAsked {
+    ListAsked {
+        wide,
+        file_bits: 0x0140,
+        dir_bits: 0x0140,
+        count,
+        start,
+        size,
+    }
+}
+
+/// Appends what is told of the volume and of the file, and two lists of the root.
+fn tell(
+    alloc: Global,
+    volume: &Volume,
+    root: &Path,
+    file: &Path,
+    out: &mut Bytes,
+) -> Result<(), PlanFault> {
+    get_vol_parms(alloc, volume, VolumeId(1), 0x0fff, out)?;
+    get_file_dir_parms(alloc, volume, &[], 0x0100, 0x0100, NodeId(2), file, out)?;
+    list(
+        alloc,
+        volume,
+        &[],
+        &asked(true, 16, 1, 4096),
+        NodeId(2),
+        root,
+        out,
+    )?;
+    list(
+        alloc,
+        volume,
+        &[],
+        &asked(false, 1, 1, 4096),
+        NodeId(2),
+        root,
+        out,
+    )
+}
+
+/// The replies to FPGetVolParms, FPGetFileDirParms, FPEnumerateExt2 and FPEnumerate.
+fn wanted() -> &'static [u8] {
+    &[
+        0x0f, 0xff, 0x00, 0x44, 0x00, 0x02, 0x00, 0x00, 0x00, 0x64, 0x00, 0x00, 0x00, 0x64, 0x80,
+        0x00, 0x00, 0x00, 0x00, 0x01, 0x10, 0x00, 0x00, 0x00, 0x10, 0x00, 0x00, 0x00, 0x00, 0x30,
+        0x00, 0x00, 0x00, 0x00, 0x10, 0x00, 0x00, 0x00, 0x00, 0x00, 0x00, 0x00, 0x10, 0x00, 0x00,
+        0x00, 0x00, 0x00, 0x10, 0x00, 0x05, 0x53, 0x68, 0x61, 0x72, 0x65, 0x01, 0x00, 0x01, 0x00,
+        0x00, 0x00, 0x00, 0x00, 0x00, 0x11, 0x01, 0x40, 0x01, 0x40, 0x00, 0x02, 0x00, 0x0c, 0x80,
+        0x00, 0x00, 0x06, 0x00, 0x00, 0x00, 0x12, 0x01, 0x41, 0x00, 0x0c, 0x00, 0x00, 0x00, 0x06,
+        0x00, 0x00, 0x00, 0x11, 0x01, 0x62, 0x01, 0x40, 0x01, 0x40, 0x00, 0x01, 0x0a, 0x80, 0x00,
+        0x06, 0x00, 0x00, 0x00, 0x12, 0x01, 0x41,
+    ]
+}
+
+#[test]
+fn replies_are_those_of_the_worked_rows(rt: HostRuntime) -> Result<(), Fail> {
+    let volume = volume(rt.alloc())?;
+    let mut out = Bytes::new(rt.alloc());
+    let root = no_path(rt.alloc())?;
+    let file = path(rt.alloc(), b"b")?;
+    assert!(rt; tell(rt.alloc(), &volume, &root, &file, &mut out).is_ok());
+    assert!(rt; out.as_slice() == wanted());
+    Ok(())
+}
+
+#[test]
+fn a_list_that_does_not_fit_is_refused(rt: HostRuntime) -> Result<(), Fail> {
+    let volume = volume(rt.alloc())?;
+    let root = no_path(rt.alloc())?;
+    let mut out = Bytes::new(rt.alloc());
+    let small = asked(true, 16, 1, 10);
+    let answer = list(rt.alloc(), &volume, &[], &small, NodeId(2), &root, &mut out);
+    assert!(rt; answer == Err(PlanFault::Code(Code::ParamErr)));
+    let dir = open_dir(rt.alloc(), &volume, NodeId(2), &path(rt.alloc(), b"A")?);
+    assert!(rt; dir == Ok(NodeId(18)));
+    Ok(())
+}
