@@ -1,5 +1,5 @@
 //! An entry of a list.
-ghost use Rattle.std.specs.Prelude.{◌≡◌, ◌∷◌, ◌++◌, ◌+◌, ◌≤◌, ◌<◌, ◌^◌, IfOk, OnOk, OnErr, drop, length, min, replicate, take};
+ghost use Rattle.std.specs.Prelude.{◌≡◌, ◌++◌, ◌+◌, ◌≤◌, IfOk, OnOk, OnErr, drop, length, min, replicate, take};
 ghost use Rattle.byteorder.specs.Endian.{big_bytes};
 ghost use Rattle.afp_bitmap.specs.Bits.{IsWithin, file_mask, dir_mask};
 ghost use Rattle.afp_bitmap.specs.Params.{params};

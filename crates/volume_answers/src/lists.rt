@@ -1,5 +1,5 @@
 //! FPEnumerate, FPEnumerateExt and FPEnumerateExt2.
-ghost use Rattle.std.specs.Prelude.{◌≡◌, ℕ, ◌++◌, ◌+◌, ◌<◌, ◌≤◌, ◌==◌, ◌&&◌, not, Ok, Some, true, false, IfOk, OnOk, OnErr, drop, length, take};
+ghost use Rattle.std.specs.Prelude.{◌≡◌, ℕ, ◌++◌, ◌+◌, ◌<◌, ◌≤◌, ◌==◌, ◌&&◌, not, Ok, Some, true, IfOk, OnOk, OnErr, drop, length, take};
 ghost use Rattle.byteorder.specs.Endian.{big_bytes};
 ghost use Rattle.afp_bitmap.specs.Bits.{IsWithin, file_mask, dir_mask};
 ghost use Rattle.afp_replies.specs.Replies.{canonical_reply};
@@ -7,7 +7,7 @@ ghost use Rattle.afp_serial.specs.ListReply.{list_reply};
 ghost use Rattle.afp_volume.specs.Enumerate.{is_counted, entries, enumerate_refusal, list_head};
 ghost use Rattle.afp_volume.specs.SoundVolume.{has_node};
 ghost use Rattle.afp_volume.specs.Walk.{found};
-ghost use Rattle.volume_answers.specs.Filling.{IsBehind, IsStart, bytes_of, counted_from, filled, list_refusal};
+ghost use Rattle.volume_answers.specs.Filling.{IsBehind, IsStart, bytes_of, filled, list_refusal};
 ghost use Rattle.volume_tree.specs.Answered.{Refuses};
 ghost use Rattle.volume_tree.specs.Shown.{opened};
 

@@ -1,10 +1,9 @@
 //! The parameters of a volume.
-ghost use Rattle.std.specs.Prelude.{◌≡◌, ◌++◌, ◌<◌, ◌≤◌, IfOk, OnOk, OnErr, length};
+ghost use Rattle.std.specs.Prelude.{◌≡◌, ◌++◌, ◌<◌, IfOk, OnOk, OnErr, length};
 ghost use Rattle.afp_bitmap.specs.Bits.{IsWithin, volume_mask};
 ghost use Rattle.afp_bitmap.specs.Params.{params};
 ghost use Rattle.afp_bitmap.specs.declared.params.Values.TheVariants as told;
 ghost use Rattle.afp_volume.specs.GetVolParms.{free_bytes, volume_values};
-ghost use Rattle.afp_volume.specs.SoundVolume.{most_fork_bytes};
 
 use crate::asked::{date_or, long_or, short_or, wide_or};
 use crate::names::name_or;
