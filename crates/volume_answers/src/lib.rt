@@ -11,8 +11,6 @@ mod lists;
 mod names;
 mod node;
 mod parms;
-#[cfg(test)]
-mod tests;
 mod volume;
 
 pub use list_asked::ListAsked;

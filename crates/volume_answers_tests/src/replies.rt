@@ -1,12 +1,12 @@
 ghost use Rattle.std.specs.Prelude.{IsSome};
 ghost use Rattle.volume_tree.specs.Requests.{tree_call};
 
-use super::*;
 use afp_base::{Bytes, Code, Moment, NodeId, VolumeId};
 use afp_names::{Name, Path, UTF8_NAMES};
 use afp_requests::Call;
 use std::alloc::Global;
 use std::test::Fail;
+use volume_answers::{ListAsked, get_file_dir_parms, get_vol_parms, list, open_dir};
 use volume_tree::{PlanFault, Volume};
 
 fn path(alloc: Global, name: &[u8; 1]) -> Result<Path, Fail> {
