@@ -125,26 +125,50 @@ fn wanted() -> &'static [u8] {
     ]
 }
 
-#[test]
-fn replies_are_those_of_the_worked_rows(rt: HostRuntime) -> Result<(), Fail> {
-    let volume = volume(rt.alloc())?;
-    let mut out = Bytes::new(rt.alloc());
-    let root = no_path(rt.alloc())?;
-    let file = path(rt.alloc(), b"b")?;
-    assert!(rt; tell(rt.alloc(), &volume, &root, &file, &mut out).is_ok());
-    assert!(rt; out.as_slice() == wanted());
-    Ok(())
+/// The replies, one behind the other.
+fn told(alloc: Global, volume: &Volume, root: &Path, file: &Path) -> Result<Bytes, Fail> {
+    let mut out = Bytes::new(alloc);
+    match tell(alloc, volume, root, file, &mut out) {
+        Ok(()) => Ok(out),
+        Err(_) => Err("a refusal")?,
+    }
+}
+
+/// Whether the replies are those that are wanted.
+fn tells(alloc: Global, volume: &Volume) -> Result<bool, Fail> {
+    let root = no_path(alloc)?;
+    let file = path(alloc, b"b")?;
+    let out = told(alloc, volume, &root, &file)?;
+    Ok(out.as_slice() == wanted())
+}
+
+/// Whether a list of ten bytes is refused, since no entry fits in it.
+fn refuses(alloc: Global, volume: &Volume) -> Result<bool, Fail> {
+    let root = no_path(alloc)?;
+    let mut out = Bytes::new(alloc);
+    let answer = list(
+        alloc,
+        volume,
+        &[],
+        &asked(true, 16, 1, 10),
+        NodeId(2),
+        &root,
+        &mut out,
+    );
+    Ok(answer == Err(PlanFault::Code(Code::ParamErr)))
+}
+
+/// Whether the directory is found by its name.
+fn opens(alloc: Global, volume: &Volume) -> Result<bool, Fail> {
+    let dir = path(alloc, b"A")?;
+    Ok(open_dir(alloc, volume, NodeId(2), &dir) == Ok(NodeId(18)))
 }
 
 #[test]
-fn a_list_that_does_not_fit_is_refused(rt: HostRuntime) -> Result<(), Fail> {
+fn replies_are_those_of_the_worked_rows(rt: HostRuntime) -> Result<(), Fail> {
     let volume = volume(rt.alloc())?;
-    let root = no_path(rt.alloc())?;
-    let mut out = Bytes::new(rt.alloc());
-    let small = asked(true, 16, 1, 10);
-    let answer = list(rt.alloc(), &volume, &[], &small, NodeId(2), &root, &mut out);
-    assert!(rt; answer == Err(PlanFault::Code(Code::ParamErr)));
-    let dir = open_dir(rt.alloc(), &volume, NodeId(2), &path(rt.alloc(), b"A")?);
-    assert!(rt; dir == Ok(NodeId(18)));
+    assert!(rt; tells(rt.alloc(), &volume)?);
+    assert!(rt; refuses(rt.alloc(), &volume)?);
+    assert!(rt; opens(rt.alloc(), &volume)?);
     Ok(())
 }
