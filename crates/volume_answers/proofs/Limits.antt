@@ -11,7 +11,8 @@ use Rattle.afp_volume.specs.SoundVolume.{IsSoundVolume, fork_bytes, most_fork_by
 use Rattle.afp_volume.specs.VolumeState.{Row, VolumeState}
 use Rattle.afp_volume.specs.Walk.{row_at}
 use Rattle.volume_answers.specs.Told.{bytes_at, whole}
-use Rattle.volume_tree.specs.Shown.{file_of, fork_at}
+use Rattle.afp_volume.specs.OpenFork.{file_of}
+use Rattle.volume_tree.specs.Shown.{fork_at}
 
 pub used-within : (v : VolumeState) → IsSoundVolume v → fork_bytes v.rows ≤ most_fork_bytes
 used-within v s = let limits : LimitParts v = limit-parts v s.limits in limits.bytes

@@ -27,7 +27,9 @@ use Rattle.volume_records.specs.Laws.{ImagesRise, TablesSayVolumes}
 use Rattle.volume_records.specs.Image.{block_of, fork_blocks, node_of, rows_of, tables_of}
 use Rattle.volume_records.specs.FromTables.{own, fork_part, piece_of, pieces, row_from}
 use Rattle.volume_tree.specs.Filled.{filled, filled_row, FitsFork}
-use Rattle.volume_tree.specs.Shown.{file_of, fork_at, fork_of}
+use Rattle.afp_volume.specs.OpenFork.{file_of}
+use Rattle.afp_volume.specs.ForkEffect.{fork_of}
+use Rattle.volume_tree.specs.Shown.{fork_at}
 use Rattle.volume_keeper.specs.Rebuilt.{FitRows, FitsRow, with_block, with_blocks}
 use Rattle.volume_keeper.specs.Whole.{without_desktop}
 use Rattle.volume_keeper.proofs.GoneRecords.{HasFitForks, first_true, second_true, fit_forks, ids_rise, rows_formed}

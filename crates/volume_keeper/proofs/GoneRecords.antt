@@ -16,7 +16,8 @@ use Rattle.volume_records.specs.declared.rows.Row.{Row}
 use Rattle.volume_records.specs.declared.rows.Row.TheVariants as row
 use Rattle.volume_records.specs.Records.{node_key, comment_key, appl_key, node_record, block_record, comment_record, appl_record}
 use Rattle.volume_records.specs.Image.{block_of, fork_blocks, node_of, rows_of, tables_of}
-use Rattle.volume_tree.specs.Shown.{file_of, fork_at}
+use Rattle.afp_volume.specs.OpenFork.{file_of}
+use Rattle.volume_tree.specs.Shown.{fork_at}
 use Rattle.volume_keeper.specs.Changes.{is_of, taken}
 use Rattle.volume_keeper.specs.Steps.{all_taken, appl_taken, appls_taken, block_taken, comment_taken, fork_taken, node_taken}
 use Rattle.volume_keeper.proofs.PlanSteps.{filter-append, map-append, filter-map, same_number, nodes_by, blocks_by, nodes_in, blocks_in}
