@@ -3,7 +3,7 @@ ghost use Rattle.std.specs.Prelude.{◌≡◌, ◌+◌, ◌≤◌, ◌↔◌, le
 ghost use Rattle.std.specs.Option.{option_copied};
 ghost use Rattle.record_keeper.specs.Causes.{HasCause};
 ghost use Rattle.record_keeper.specs.Reading.{GoesOn, HasReadCause, IsAll, IsFaultOf, IsFront, Rises, last_key, most_records};
-ghost use Rattle.record_keeper.specs.Records.{IsAbove, IsNextKey, Makes, same_records};
+ghost use Rattle.record_keeper.specs.Records.{IsAbove, IsNextKey, Makes, TellsOn, same_records};
 
 use crate::keeper::{Keeper, KeeperFault};
 use crate::record::{Record, RecordKey};
@@ -34,6 +34,7 @@ pub fn read_all<K: Keeper>(alloc: Global, keeper: &mut K) -> Result<Vec<Record>,
     ensures fault { IfErr result (λ fault. IfSome (K.records keeper.new) (λ kept. IsFaultOf kept fault)) }
     ensures records { Makes same_records (K.records keeper.old) (K.records keeper.new) }
     ensures cause { HasReadCause (K.sure keeper.old) (K.faults keeper.old) (K.faults keeper.new) result }
+    ensures told { TellsOn (K.faults keeper.old) (K.faults keeper.new) (K.records keeper.old) (K.records keeper.new) }
     ensures sure { K.sure keeper.new ≡ K.sure keeper.old }
 {
     let mut read = Vec::new(alloc);
@@ -65,6 +66,7 @@ fn read_next<K: Keeper>(
     ensures fault { IfErr result (λ fault. IfSome (K.records keeper.new) (λ kept. IsFaultOf kept fault)) }
     ensures records { Makes same_records (K.records keeper.old) (K.records keeper.new) }
     ensures cause { HasReadCause (K.sure keeper.old) (K.faults keeper.old) (K.faults keeper.new) result }
+    ensures told { TellsOn (K.faults keeper.old) (K.faults keeper.new) (K.records keeper.old) (K.records keeper.new) }
     ensures sure { K.sure keeper.new ≡ K.sure keeper.old }
 {
     match key_behind(alloc, keeper, read) {
@@ -94,6 +96,7 @@ fn read_at<K: Keeper>(
     ensures fault { IfErr result (λ fault. IfSome (K.records keeper.new) (λ kept. IsFaultOf kept fault)) }
     ensures records { Makes same_records (K.records keeper.old) (K.records keeper.new) }
     ensures cause { HasReadCause (K.sure keeper.old) (K.faults keeper.old) (K.faults keeper.new) result }
+    ensures told { TellsOn (K.faults keeper.old) (K.faults keeper.new) (K.records keeper.old) (K.records keeper.new) }
     ensures sure { K.sure keeper.new ≡ K.sure keeper.old }
 {
     match keeper.read(alloc, &key) {
@@ -118,6 +121,7 @@ fn key_behind<K: Keeper>(
     ensures fault { IfErr result (λ fault. IfSome (K.records keeper.new) (λ kept. IsFaultOf kept fault)) }
     ensures records { Makes same_records (K.records keeper.old) (K.records keeper.new) }
     ensures cause { HasReadCause (K.sure keeper.old) (K.faults keeper.old) (K.faults keeper.new) result }
+    ensures told { TellsOn (K.faults keeper.old) (K.faults keeper.new) (K.records keeper.old) (K.records keeper.new) }
     ensures sure { K.sure keeper.new ≡ K.sure keeper.old }
 {
     match next_behind(alloc, keeper, read) {
@@ -143,6 +147,7 @@ fn next_behind<K: Keeper>(
     ensures next { IfOk result (λ key. IfSome (K.records keeper.new) (λ kept. IsNextKey kept (last_key read.now) key)) }
     ensures records { Makes same_records (K.records keeper.old) (K.records keeper.new) }
     ensures cause { HasCause (K.sure keeper.old) (K.faults keeper.old) (K.faults keeper.new) result }
+    ensures told { TellsOn (K.faults keeper.old) (K.faults keeper.new) (K.records keeper.old) (K.records keeper.new) }
     ensures sure { K.sure keeper.new ≡ K.sure keeper.old }
 {
     match last_of(read) {

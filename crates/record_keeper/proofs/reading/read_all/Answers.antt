@@ -12,6 +12,7 @@ loop-init g c = record {
   front = subst (λ (rs : List Record). IfSome (g.K.Keeper.records c.args.keeper.now) (λ kept. IsFront kept rs)) (sym c.new-read.ensures.items) (nothing_read (g.K.Keeper.records c.args.keeper.now));
   many = ap (length {A = Record}) c.new-read.ensures.items;
   records = same_made (g.K.Keeper.records c.args.keeper.now);
+  told = λ told. told;
   count = refl;
   sure = refl;
 }
