@@ -2,7 +2,7 @@
 ghost use Rattle.std.specs.Prelude.{◌≡◌, None, map, IfOk, IfErr, true, pos, List, ℕ};
 ghost use Rattle.afp_names.specs.Name.{name_fault};
 ghost use Rattle.afp_volume.specs.VolumeState.{VolumeState, fresh_volume, new_directory, root_id, root_parent};
-ghost use Rattle.record_keeper.specs.Records.{Records, Makes, changed};
+ghost use Rattle.record_keeper.specs.Records.{Records, Makes, changed, TellsOn};
 ghost use Rattle.volume_records.specs.Image.{node_of, rows_of, tables_of};
 ghost use Rattle.volume_keeper.specs.Changes.{put as the_put};
 ghost use Rattle.volume_keeper.specs.Loading.{Becomes, HasLoadCause, IsMake};
@@ -101,6 +101,7 @@ pub(crate) fn make_fresh<K: Keeper>(
     ensures fresh { IfOk result (λ held. held.state ≡ fresh_volume name.now now) }
     ensures records { Becomes (IsMake name.now now result) (K.records keeper.old) (K.records keeper.new) }
     ensures cause { HasLoadCause (K.sure keeper.old) (K.faults keeper.old) (K.faults keeper.new) result }
+    ensures told { TellsOn (K.faults keeper.old) (K.faults keeper.new) (K.records keeper.old) (K.records keeper.new) }
     ensures sure { K.sure keeper.new ≡ K.sure keeper.old }
 {
     fresh_volumes_are_sound();

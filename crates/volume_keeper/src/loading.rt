@@ -3,7 +3,7 @@ ghost use Rattle.std.specs.Prelude.{◌≡◌, [], None, Some, IfOk, IfErr, IfSo
 ghost use Rattle.afp_names.specs.Name.{name_fault};
 ghost use Rattle.afp_volume.specs.VolumeState.{VolumeState};
 ghost use Rattle.record_keeper.specs.Reading.{IsFaultOf, Rises};
-ghost use Rattle.record_keeper.specs.Records.{Records};
+ghost use Rattle.record_keeper.specs.Records.{Records, TellsOn};
 ghost use Rattle.volume_records.specs.Image.{records_in};
 ghost use Rattle.volume_keeper.specs.Loading.{Becomes, HasLoadCause, IsFaultIn, IsLoad, IsMadeOf, IsNotFailed, IsReadFault};
 
@@ -78,6 +78,7 @@ pub fn load<K: Keeper>(
     ensures named { IfOk result (λ held. held.state.name ≡ name.now) }
     ensures records { Becomes (IsLoad name.now now result) (K.records keeper.old) (K.records keeper.new) }
     ensures cause { HasLoadCause (K.sure keeper.old) (K.faults keeper.old) (K.faults keeper.new) result }
+    ensures told { TellsOn (K.faults keeper.old) (K.faults keeper.new) (K.records keeper.old) (K.records keeper.new) }
     ensures sure { K.sure keeper.new ≡ K.sure keeper.old }
 {
     match read_all(alloc, keeper) {
