@@ -1,0 +1,3 @@
+pub mod Kept
+pub mod Changing
+pub mod Loading

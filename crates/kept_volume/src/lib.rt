@@ -1,0 +1,13 @@
+//! A volume beside the keeper of its records: what changes the volume is committed to the keeper first.
+#![tactic(auto)]
+
+mod change;
+mod kept;
+mod load;
+mod told;
+
+pub use change::ChangeFault;
+pub use kept::KeptVolume;
+pub use volume_answers::ListAsked;
+pub use volume_keeper::LoadFault;
+pub use volume_records::Reason;

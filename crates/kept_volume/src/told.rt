@@ -1,0 +1,97 @@
+//! What is asked of a volume beside its keeper.
+ghost use Rattle.std.specs.Prelude.{◌≡◌, ◌++◌, IfOk, OnOk, OnErr, Some};
+ghost use Rattle.afp_bitmap.specs.declared.params.Values.TheVariants.{Volume as VolumeOf};
+ghost use Rattle.afp_replies.specs.Replies.{canonical_reply};
+ghost use Rattle.afp_replies.specs.declared.reply.Reply.TheVariants.{Params};
+ghost use Rattle.afp_serial.specs.Enumerate.{enumerate_reply};
+ghost use Rattle.afp_serial.specs.GetFileDirParms.{get_file_dir_parms_reply};
+ghost use Rattle.afp_volume.specs.Enumerate.{enumerate_refusal};
+ghost use Rattle.afp_volume.specs.GetFileDirParms.{get_file_dir_parms_refusal, get_file_dir_parms_values};
+ghost use Rattle.afp_volume.specs.GetVolParms.{get_vol_parms_refusal, volume_values};
+ghost use Rattle.afp_volume.specs.OpenDir.{open_dir_refusal, open_dir_id};
+ghost use Rattle.volume_tree.specs.Answered.{Refuses};
+ghost use Rattle.volume_tree.specs.Shown.{opened};
+
+use crate::kept::KeptVolume;
+use afp_base::{Bytes, NodeId, VolumeId};
+use afp_names::Path;
+use afp_volume::laws::values_are_those_asked_for;
+use record_keeper::Keeper;
+use std::alloc::Global;
+use volume_answers::ListAsked;
+use volume_tree::PlanFault;
+
+impl<K: Keeper> KeptVolume<K> {
+    /// FPGetVolParms on the volume, as the one of this id: its reply's bytes, at the end of `out`. An error leaves `out`.
+    pub fn get_vol_parms(
+        &self,
+        alloc: Global,
+        id: VolumeId,
+        bits: u16,
+        out: &mut Bytes,
+    ) -> Result<(), PlanFault>
+        ensures refused { Refuses result (get_vol_parms_refusal bits) }
+        ensures ok { OnOk result (out.new ≡ out.old ++ canonical_reply (Params bits (VolumeOf (volume_values self.now.state id.0 bits)))) }
+        ensures err { OnErr result (out.new ≡ out.old) }
+    {
+        let held = &self.held;
+        volume_answers::get_vol_parms(alloc, &held.volume, id, bits, out)
+    }
+
+    /// FPOpenDir on the volume.
+    pub fn open_dir(&self, alloc: Global, dir: NodeId, path: &Path) -> Result<NodeId, PlanFault>
+        ensures refused { Refuses result (open_dir_refusal self.now.state dir.0 path.now) }
+        ensures id { IfOk result (λ id. open_dir_id self.now.state dir.0 path.now ≡ Some id.0) }
+    {
+        let held = &self.held;
+        volume_answers::open_dir(alloc, &held.volume, dir, path)
+    }
+
+    /// FPGetFileDirParms on the volume with these open forks: its reply's bytes, at the end of `out`. An error leaves `out`.
+    pub fn get_file_dir_parms(
+        &self,
+        alloc: Global,
+        opens: &[(NodeId, bool)],
+        file_bits: u16,
+        dir_bits: u16,
+        dir: NodeId,
+        path: &Path,
+        out: &mut Bytes,
+    ) -> Result<(), PlanFault>
+        ensures refused { Refuses result (get_file_dir_parms_refusal self.now.state file_bits dir_bits dir.0 path.now) }
+        ensures ok { OnOk result (out.new ≡ out.old ++ canonical_reply (get_file_dir_parms_reply file_bits dir_bits (get_file_dir_parms_values self.now.state (opened opens.now) file_bits dir_bits dir.0 path.now))) }
+        ensures err { OnErr result (out.new ≡ out.old) }
+    {
+        values_are_those_asked_for();
+        let held = &self.held;
+        held.volume.keeps_sound();
+        volume_answers::get_file_dir_parms(
+            alloc,
+            &held.volume,
+            opens,
+            file_bits,
+            dir_bits,
+            dir,
+            path,
+            out,
+        )
+    }
+
+    /// FPEnumerate, FPEnumerateExt or FPEnumerateExt2 on the volume with these open forks: its reply's bytes, at the end of `out`. An error leaves `out`.
+    pub fn list(
+        &self,
+        alloc: Global,
+        opens: &[(NodeId, bool)],
+        asked: ListAsked,
+        dir: NodeId,
+        path: &Path,
+        out: &mut Bytes,
+    ) -> Result<(), PlanFault>
+        ensures refused { Refuses result (enumerate_refusal self.now.state (opened opens.now) asked dir.0 path.now) }
+        ensures ok { OnOk result (out.new ≡ out.old ++ canonical_reply (enumerate_reply self.now.state (opened opens.now) asked dir.0 path.now)) }
+        ensures err { OnErr result (out.new ≡ out.old) }
+    {
+        let held = &self.held;
+        volume_answers::list(alloc, &held.volume, opens, &asked, dir, path, out)
+    }
+}
