@@ -1,6 +1,7 @@
 pub mod SessionLemmas
+pub mod KeeperLemmas
 pub mod RowLemmas
 pub mod SpellingLemmas
 pub mod AskLemmas
-pub mod Faultless
+pub mod LoadLemmas
 pub mod TurnLemmas

@@ -1,6 +1,6 @@
 -- Rows of calls, over worlds without open forks and locks.
-use Rattle.std.proofs.Common.{◌≡◌, ◌∙◌, ap, sym, refl, ℕ, ◌==◌, Bool, true, false, not, ◌&&◌, List, [], ◌++◌, filter, Option, Some, None, is_some}
-use Rattle.std.specs.Prelude.{bytes_eq}
+use Rattle.std.proofs.Common.{◌≡◌, ◌∙◌, ap, sym, refl, subst, ℕ, ◌==◌, Bool, true, false, not, ◌&&◌, List, [], ◌++◌, filter, Some, None, is_some}
+use Rattle.std.specs.Prelude.{bytes_eq, Ok as with_ok}
 use Rattle.std.specs.List.{list_any}
 use Rattle.afp_base.specs.declared.code.Code.{Code}
 use Rattle.afp_base.specs.declared.code.Code.TheVariants.{Ok, ParamErr, BadVersNum, BadUAM, BitmapErr, ObjectNotFound}
@@ -9,9 +9,7 @@ use Rattle.afp_requests.specs.declared.call.Call.{Call}
 use Rattle.afp_requests.specs.declared.call.Call.TheVariants.{CloseVol, Login, Logout, OpenVol}
 use Rattle.afp_serial.specs.declared.ask.Told.{Told}
 use Rattle.afp_serial.specs.declared.ask.Told.TheVariants.{Reply}
-use Rattle.afp_serial.specs.declared.ask.Outcome.TheVariants.{Done}
-use Rattle.afp_serial.specs.Answer.{after_verdict, told_verdict, refusal_reply, effect_reply}
-use Rattle.afp_serial.specs.Household.{Household}
+use Rattle.afp_serial.specs.Answer.{refusal_reply, effect_reply}
 use Rattle.afp_serial.specs.Login.{guest_id}
 use Rattle.afp_serial.specs.OpenVol.{volume_id_bit, volume_named, with_volume}
 use Rattle.byteorder.specs.Endian.{big_bytes}
@@ -22,33 +20,30 @@ use Rattle.afp_serial.specs.Sessions.{closing, has_opened, has_session, is_open,
 use Rattle.afp_serial.specs.StatusBlock.{no_user, versions}
 use Rattle.afp_serial.specs.Steps.{verdict_of_row}
 use Rattle.afp_serial.specs.World.{World, Session, OpenFork}
-use Rattle.afp_volume.specs.VolumeState.{VolumeState}
 use Rattle.afp_core.specs.SessionList.{replaced}
-use Rattle.afp_core.specs.ServerState.{bare_world}
-use Rattle.afp_core.specs.Turn.{RunsVerdict, done}
+use Rattle.afp_core.specs.ServerState.{KeptWorld, with_sessions}
+use Rattle.afp_core.specs.Turn.{RunsRow, RunsVerdict, done}
+use Rattle.afp_core.proofs.KeeperLemmas.{comes-done, comes-same}
 
 -- what a row tells, and the world that it leaves
-abbrev pub IsRowOf : World → Session → Call → Told → World → Type 0
-IsRowOf w s call told next = RunsVerdict w s (verdict_of_row call (refusal w s call)) (done told) next
-
--- the parts of a world in memory
-pub opens-bare : (w : World) (house : Household) (latest : ℕ) (drain : Option ℕ) (next : ℕ) (sessions : List Session) (volumes : List VolumeState) → bare_world house latest drain next sessions volumes ≡ w → [] ≡ w.opens
-opens-bare w house latest drain next sessions volumes is = ap (λ (o : World). o.opens) is
-
-pub locks-bare : (w : World) (house : Household) (latest : ℕ) (drain : Option ℕ) (next : ℕ) (sessions : List Session) (volumes : List VolumeState) → bare_world house latest drain next sessions volumes ≡ w → [] ≡ w.locks
-locks-bare w house latest drain next sessions volumes is = ap (λ (o : World). o.locks) is
+abbrev pub IsRowOf : KeptWorld → Session → Call → Told → KeptWorld → Type 0
+IsRowOf k s call told next = RunsVerdict k s (verdict_of_row call (refusal k.world s call)) (done told) next
 
 -- a call that is refused
-pub is_refused : (old new : World) (s : Session) (call : Call) (code : Code) (told : Told) → refusal old s call ≡ Some (plain code)
+pub is_refused : (old new : KeptWorld) (s : Session) (call : Call) (code : Code) (told : Told) → refusal old.world s call ≡ Some (plain code)
     → told ≡ refusal_reply code → new ≡ old → IsRowOf old s call told new
 is_refused old new s call code told refused tells same =
-    rw refused record { legal = refl; serial = tells; world = same }
+    rw refused (comes-same old new _ _ told tells same)
 
 -- a call that has its effect
-pub has_effect : (old new : World) (s : Session) (call : Call) (told : Told) → refusal old s call ≡ None
-    → told ≡ effect_reply call (effect old s call) → new ≡ (effect old s call).world
+pub has_effect : (old new : KeptWorld) (s : Session) (call : Call) (told : Told) (next : World) → refusal old.world s call ≡ None
+    → told ≡ effect_reply call (effect old.world s call) → new ≡ record old { world = next } → next ≡ (effect old.world s call).world
     → IsRowOf old s call told new
-has_effect old new s call told passes tells becomes = rw passes record { legal = refl; serial = tells; world = becomes }
+has_effect old new s call told next passes tells is becomes = rw passes (comes-done old new _ _ next _ told tells is becomes)
+
+-- a call by its name
+pub row-as : (old new : KeptWorld) (number : ℕ) (call of : Call) (told : Told) → call ≡ of → RunsRow old number of (with_ok (done told)) new → RunsRow old number call (with_ok (done told)) new
+row-as old new number call of told is runs = subst (λ (a : Call). RunsRow old number a (with_ok (done told)) new) (sym is) runs
 
 -- FPLogin
 module _ (w : World) (s : Session) (version uam tail : List ℕ) where
@@ -68,14 +63,14 @@ module _ (w : World) (s : Session) (version uam tail : List ℕ) where
   unfolding row
   login-passes h v u = rw (h, v, u) refl
 
-pub login-runs : (old new : World) (s : Session) (version uam tail : List ℕ) (told : Told) (sessions : List Session)
+pub login-runs : (old new : KeptWorld) (s : Session) (version uam tail : List ℕ) (told : Told) (sessions : List Session)
     → is_some s.user ≡ false → list_any (bytes_eq version) versions ≡ true → bytes_eq uam no_user ≡ true
-    → told ≡ Reply Ok [] false → new ≡ record old { sessions = sessions } → sessions ≡ replaced old.sessions (record s { user = Some guest_id })
+    → told ≡ Reply Ok [] false → new ≡ with_sessions old sessions → sessions ≡ replaced old.world.sessions (record s { user = Some guest_id })
     → IsRowOf old s (Login version uam tail) told new
 unfolding row
 login-runs old new s version uam tail told sessions h v u tells is set =
-    has_effect old new s (Login version uam tail) told (login-passes old s version uam tail h v u) tells
-    (is ∙ ap (λ (l : List Session). record old { sessions = l }) set)
+    has_effect old new s (Login version uam tail) told _ (login-passes old.world s version uam tail h v u) tells is
+    (ap (λ (l : List Session). record old.world { sessions = l }) set)
 
 -- FPLogout
 filter_none : {A : Type 0} (p : A → Bool) (xs : List A) → [] ≡ xs → filter p xs ≡ xs
@@ -93,30 +88,30 @@ without_session-bare w n o l =
     let left : List Session = filter (λ s. not (s.number == n)) w.sessions in
     closing-bare (record w { sessions = left }) (λ x. has_session left x.session) o l
 
-pub logout-runs : (old new : World) (s : Session) (told : Told) (sessions : List Session) (n : ℕ) → s.number ≡ n → [] ≡ old.opens → [] ≡ old.locks
-    → told ≡ Reply Ok [] true → new ≡ record old { sessions = sessions } → sessions ≡ filter (λ t. not (t.number == n)) old.sessions
+pub logout-runs : (old new : KeptWorld) (s : Session) (told : Told) (sessions : List Session) (n : ℕ) → s.number ≡ n → [] ≡ old.world.opens → [] ≡ old.world.locks
+    → told ≡ Reply Ok [] true → new ≡ with_sessions old sessions → sessions ≡ filter (λ t. not (t.number == n)) old.world.sessions
     → IsRowOf old s Logout told new
 unfolding row
 logout-runs old new s told sessions n number o l tells is set =
-    has_effect old new s Logout told refl tells
-    (is ∙ ap (λ (x : List Session). record old { sessions = x }) set
-    ∙ sym (ap (without_session old) number ∙ without_session-bare old n o l))
+    has_effect old new s Logout told _ refl tells is
+    (ap (λ (x : List Session). record old.world { sessions = x }) set
+    ∙ sym (ap (without_session old.world) number ∙ without_session-bare old.world n o l))
 
 -- FPCloseVol
 pub close_vol-not_open : (w : World) (s : Session) (volume : VolumeId) → has_opened s volume.0 ≡ false → refusal w s (CloseVol volume) ≡ Some (plain ParamErr)
 unfolding row
 close_vol-not_open w s volume h = rw h refl
 
-pub close_vol-runs : (old new : World) (s : Session) (volume : VolumeId) (told : Told) (sessions : List Session)
-    → has_opened s volume.0 ≡ true → [] ≡ old.opens → [] ≡ old.locks
-    → told ≡ Reply Ok [] false → new ≡ record old { sessions = sessions }
-    → sessions ≡ replaced old.sessions (record s { volumes = filter (λ v. not (v == volume.0)) s.volumes })
+pub close_vol-runs : (old new : KeptWorld) (s : Session) (volume : VolumeId) (told : Told) (sessions : List Session)
+    → has_opened s volume.0 ≡ true → [] ≡ old.world.opens → [] ≡ old.world.locks
+    → told ≡ Reply Ok [] false → new ≡ with_sessions old sessions
+    → sessions ≡ replaced old.world.sessions (record s { volumes = filter (λ v. not (v == volume.0)) s.volumes })
     → IsRowOf old s (CloseVol volume) told new
 unfolding row
 close_vol-runs old new s volume told sessions h o l tells is set =
-    has_effect old new s (CloseVol volume) told (rw h refl) tells
-    (is ∙ ap (λ (x : List Session). record old { sessions = x }) set
-    ∙ sym (closing-bare (record old { sessions = replaced old.sessions (record s { volumes = filter (λ v. not (v == volume.0)) s.volumes }) })
+    has_effect old new s (CloseVol volume) told _ (rw h refl) tells is
+    (ap (λ (x : List Session). record old.world { sessions = x }) set
+    ∙ sym (closing-bare (record old.world { sessions = replaced old.world.sessions (record s { volumes = filter (λ v. not (v == volume.0)) s.volumes }) })
     (λ x. not ((x.session == s.number) && (x.fork.volume == volume.0))) o l))
 
 -- FPOpenVol
@@ -129,12 +124,12 @@ pub open_vol-no_volume : (w : World) (s : Session) (bits : ℕ) (name : List ℕ
 unfolding row
 open_vol-no_volume w s bits name h v = rw (h, v) refl
 
-pub open_vol-runs : (old new : World) (s : Session) (bits : ℕ) (name : List ℕ) (volume : ℕ) (told : Told) (sessions : List Session)
-    → (bits == volume_id_bit) ≡ true → volume_named old name ≡ Some volume
-    → told ≡ Reply Ok (big_bytes 2 bits ++ big_bytes 2 volume) false → new ≡ record old { sessions = sessions }
-    → sessions ≡ replaced old.sessions (with_volume s volume)
+pub open_vol-runs : (old new : KeptWorld) (s : Session) (bits : ℕ) (name : List ℕ) (volume : ℕ) (told : Told) (sessions : List Session)
+    → (bits == volume_id_bit) ≡ true → volume_named old.world name ≡ Some volume
+    → told ≡ Reply Ok (big_bytes 2 bits ++ big_bytes 2 volume) false → new ≡ with_sessions old sessions
+    → sessions ≡ replaced old.world.sessions (with_volume s volume)
     → IsRowOf old s (OpenVol bits name) told new
 unfolding row
 open_vol-runs old new s bits name volume told sessions h v tells is set =
-    has_effect old new s (OpenVol bits name) told (rw (h, v) refl) (rw v (tells ∙ ap (λ (block : List ℕ). Reply Ok block false) (sym (open-vol-bytes bits volume h))))
-    (rw v (is ∙ ap (λ (x : List Session). record old { sessions = x }) set))
+    has_effect old new s (OpenVol bits name) told _ (rw (h, v) refl) (rw v (tells ∙ ap (λ (block : List ℕ). Reply Ok block false) (sym (open-vol-bytes bits volume h))))
+    is (rw v (ap (λ (x : List Session). record old.world { sessions = x }) set))

@@ -1,7 +1,7 @@
 -- Turns, and the histories that a core stands for.
 use Rattle.std.proofs.Common.{◌≡◌, ◌∙◌, ap, sym, refl, subst, ℕ, zero, suc, ◌==◌, ◌+◌, Bool, true, false, ◌&&◌, cond, List, [], ◌∷◌, ◌++◌, length, count_by, nat_lt, arith, length-append, Option, Some, None}
 use Rattle.std.specs.List.{list_all}
-use Rattle.std.specs.Prelude.{Ok, sum}
+use Rattle.std.specs.Prelude.{Ok, slice_get, sum}
 use Rattle.std.proofs.lemmas.Bool.{and_from, and_parts, ltb-true, ne_eqb, true≢false}
 use Rattle.std.proofs.lemmas.List.Sums.{sum_by-append, sum_by-cons}
 use Rattle.afp_base.specs.Counts.{Rises, counted}
@@ -23,10 +23,10 @@ use Rattle.afp_serial.specs.Sound.{IsSound, has_apart_sessions, is_link_below}
 use Rattle.afp_serial.specs.Steps.{Verdict, refused, repeats, runs, verdict}
 use Rattle.afp_serial.specs.World.{World, Session, at_moment}
 use Rattle.afp_serial.proofs.Grows.{lawful-snoc, stand-append}
-use Rattle.afp_core.proofs.Faultless.{is_faultless, none_fails}
 use Rattle.afp_core.specs.Counted.{IsCounted}
 use Rattle.afp_core.specs.KeeperFaults.{KeepersRise, SureStand, failed_keeper}
-use Rattle.afp_core.specs.ServerState.{ServerState}
+use Rattle.afp_core.specs.ServerState.{ServerState, kept_at, kept_of}
+use Rattle.afp_core.specs.Sureness.{SureKept}
 use Rattle.afp_core.specs.Turn.{IsNextFree, RunsAsk, TakesTurn, Turned}
 
 -- the next link number is no session's
@@ -141,28 +141,23 @@ not-opened Done other = refl
 not-opened Displaced other = refl
 not-opened Memory other = refl
 
--- the outcome of an ask, as an entry of a server without keepers
+-- the outcome of an ask, as an entry
 pub turned : (c d : ServerState) (now : ℕ) (link : LinkNumber) (asked : Ask) (told : Told) (o : Outcome)
     → is_typed_entry (entry now link asked o) ≡ true
-    → RunsAsk (at_moment c.world now) link.0 asked (Ok (told, o)) d.world
+    → RunsAsk (kept_at (kept_of c) now) link.0 asked (Ok (told, o)) (kept_of d)
     → d.entries ≡ counted 1 c.entries
     → d.opened ≡ counted (count_by is_opened (told ∷ [])) c.opened
-    → c.faults ≡ [] → d.faults ≡ [] → c.sure ≡ [] → d.sure ≡ []
     → Turned c (entry now link asked o) told d
-turned c d now link asked told o typed comes entries opened cf df cs ds =
-    let done : o ≡ outcome.Done = is_faultless (at_moment c.world now) link.0 asked o comes.legal in
-    record {
-      faultless = done;
-      legal = and_from (is_typed_entry (entry now link asked o)) (is_legal_outcome (committed_at (at_moment c.world now) link.0 asked) o) typed comes.legal;
-      serial = comes.serial;
-      world = comes.world;
-      entries = entries;
-      opened = opened;
-      keepers = subst (λ (i : Option ℕ). KeepersRise i c.faults d.faults) (sym (none_fails (committed_at (at_moment c.world now) link.0 asked) o done))
-          (subst (λ (xs : List ℕ). KeepersRise None xs d.faults) (sym cf) (subst (λ (xs : List ℕ). KeepersRise None [] xs) (sym df) tt));
-      sure = ds ∙ sym cs;
-      stand = subst (λ (xs : List Bool). SureStand xs c.faults d.faults) (sym cs) tt;
-    }
+turned c d now link asked told o typed comes entries opened = record {
+  legal = and_from (is_typed_entry (entry now link asked o)) (is_legal_outcome (committed_at (at_moment c.world now) link.0 asked) o) typed comes.legal;
+  serial = comes.serial;
+  world = comes.world;
+  entries = entries;
+  opened = opened;
+  keepers = comes.keepers;
+  sure = comes.sure;
+  stand = comes.stand;
+}
 
 -- the sum of the keepers' counts
 fault_count : Option ℕ → ℕ
@@ -198,14 +193,40 @@ turn-faults c d e told t =
     one : (n : ℕ) → n ≡ n + 0
     one n = omega arith
 
--- no keeper comes
-no-keepers : (index : Option ℕ) (news : List ℕ) → KeepersRise index [] news → news ≡ []
-no-keepers None [] k = refl
-no-keepers (Some index) [] k = absurd k
-no-keepers None (b ∷ news) k = absurd k
-no-keepers (Some index) (b ∷ news) k = absurd k
+-- what became of the keepers since a start
+rise-many : (index : Option ℕ) (olds news : List ℕ) → KeepersRise index olds news → length news ≡ length olds
+rise-many None [] [] k = refl
+rise-many (Some index) [] [] k = absurd k
+rise-many None [] (b ∷ news) k = absurd k
+rise-many (Some index) [] (b ∷ news) k = absurd k
+rise-many None (a ∷ olds) [] k = absurd k
+rise-many (Some zero) (a ∷ olds) [] k = absurd k
+rise-many (Some (suc index)) (a ∷ olds) [] k = absurd k
+rise-many None (a ∷ olds) (b ∷ news) k = ap suc (rise-many None olds news k.1)
+rise-many (Some zero) (a ∷ olds) (b ∷ news) k = ap suc (rise-many None olds news k.1)
+rise-many (Some (suc index)) (a ∷ olds) (b ∷ news) k = ap suc (rise-many (Some index) olds news k.1)
 
-pub turn-unkept : (c d : ServerState) (e : Entry) (told : Told) → Turned c e told d → c.faults ≡ [] → d.faults ≡ []
-turn-unkept c d e told t none =
-    let index = failed_keeper (committed_of c.world e) e.outcome in
-    no-keepers index d.faults (subst (λ (olds : List ℕ). KeepersRise index olds d.faults) none t.keepers)
+some-true : (s : Bool) → Some s ≡ Some true → s ≡ true
+some-true true h = refl
+some-true false h = cc
+
+stand-at : (sure : List Bool) (olds news : List ℕ) → length news ≡ length olds → SureStand sure olds news → (index : ℕ) → slice_get sure index ≡ Some true
+    → slice_get news index ≡ slice_get olds index
+stand-at [] olds news many stand index h = cc
+stand-at (s ∷ sure) [] [] many stand index h = refl
+stand-at (s ∷ sure) [] (b ∷ news) many stand index h = absurd (omega (arith, many))
+stand-at (s ∷ sure) (a ∷ olds) [] many stand index h = absurd (omega (arith, many))
+stand-at (s ∷ sure) (a ∷ olds) (b ∷ news) many stand zero h = ap Some (stand.0 (some-true s h))
+stand-at (s ∷ sure) (a ∷ olds) (b ∷ news) many stand (suc index) h = stand-at sure olds news (omega (arith, many)) stand.1 index h
+
+pub kept-none : (c : ServerState) → SureKept c c
+kept-none c = record { many = refl; sure = refl; stand = λ index h. refl }
+
+pub turn-kept : (start c d : ServerState) (e : Entry) (told : Told) → Turned c e told d → SureKept start c → SureKept start d
+turn-kept start c d e told t k =
+    let many : length d.faults ≡ length c.faults = rise-many (failed_keeper (committed_of c.world e) e.outcome) c.faults d.faults t.keepers in
+    record {
+      many = many ∙ k.many;
+      sure = t.sure ∙ k.sure;
+      stand = λ index h. stand-at c.sure c.faults d.faults many t.stand index (ap (λ (l : List Bool). slice_get l index) k.sure ∙ h) ∙ k.stand index h;
+    }

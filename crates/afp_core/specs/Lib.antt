@@ -3,7 +3,10 @@ pub mod SessionList
 pub mod Spelling
 pub mod ServerState
 pub mod KeeperFaults
+pub mod Loads
+pub mod Retiring
 pub mod Turn
 pub mod Counted
+pub mod Sureness
 pub mod Places
 pub mod Telling

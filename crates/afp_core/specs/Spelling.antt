@@ -1,12 +1,12 @@
 -- What a request comes to before its call's row (this profile).
-use Rattle.std.specs.Prelude.{◌≡◌, ℕ, Bool, false, List, [], ◌∷◌, Option, Result, Ok, Err, is_some}
+use Rattle.std.specs.Prelude.{◌≡◌, ℕ, Bool, List, Option, Result, Ok, Err, is_some}
 use Rattle.afp_base.specs.Cached.{Request}
 use Rattle.afp_requests.specs.declared.call.Call.{Call}
 use Rattle.afp_core.specs.declared.spelling.Stop.{Stop}
 use Rattle.afp_core.specs.declared.spelling.Stop.TheVariants.{Refused, Memory}
 use Rattle.afp_serial.specs.CallRow.{plain}
 use Rattle.afp_serial.specs.Rows.{refusal}
-use Rattle.afp_serial.specs.Steps.{block_of, enclosed_of, needs_user, refused, verdict_of_block, verdict_of_row}
+use Rattle.afp_serial.specs.Steps.{block_of, enclosed_of, refused, verdict_of_block, verdict_of_row}
 use Rattle.afp_serial.specs.World.{World, Session}
 
 -- The request comes to the row of this call, or is refused before; want of memory may take the place of each.

@@ -7,13 +7,13 @@ use Rattle.afp_base.specs.declared.ids.LinkNumber.{LinkNumber}
 use Rattle.afp_requests.specs.declared.call.Call.{Call}
 use Rattle.afp_core.specs.KeeperFaults.{KeepersRise, SureStand, failed_keeper}
 use Rattle.afp_core.specs.SessionList.{session_of}
-use Rattle.afp_core.specs.ServerState.{ServerState}
+use Rattle.afp_core.specs.ServerState.{KeptWorld, ServerState, kept_at}
 use Rattle.afp_serial.specs.Answer.{answer, answer_at, after, after_at, after_call, after_verdict, committed_at, committed_by, committed_in, committed_of, is_legal, is_legal_outcome, told_call, told_verdict}
 use Rattle.afp_serial.specs.History.{entry, is_opened}
 use Rattle.afp_serial.specs.Rows.{refusal}
 use Rattle.afp_serial.specs.Sessions.{has_session, session_at}
 use Rattle.afp_serial.specs.Steps.{Verdict, verdict_of_row}
-use Rattle.afp_serial.specs.World.{World, Session, at_moment}
+use Rattle.afp_serial.specs.World.{World, Session}
 use Rattle.afp_serial.specs.declared.ask.Ask.{Ask}
 use Rattle.afp_serial.specs.declared.ask.Ask.TheVariants as ask
 use Rattle.afp_serial.specs.declared.ask.Entry.{Entry}
@@ -35,58 +35,62 @@ takes_memory ask.Bye = false
 takes_memory ask.Lost = false
 takes_memory ask.Drain = false
 
--- an outcome that may come where this keeper or none is committed to, with what is told then, and the next world
-pub record Comes (want : Told) (after : World) (index : Option ℕ) (o : Outcome) (told : Told) (next : World) : Type 0 where
+-- An outcome that may come where this keeper or none is committed to, with what is told then, the next world, and what became of the
+-- keepers' counts: a fault is one that this keeper counted.
+pub record Comes (want : Told) (after : World) (index : Option ℕ) (o : Outcome) (told : Told) (old next : KeptWorld) : Type 0 where
   pub legal : is_legal_outcome index o ≡ true
   pub serial : told ≡ want
-  pub world : next ≡ after
+  pub world : next.world ≡ after
+  pub keepers : KeepersRise (failed_keeper index o) old.faults next.faults
+  pub stand : SureStand old.sure old.faults next.faults
+  pub sure : next.sure ≡ old.sure
 
 -- In all of these the world's latest moment is already the ask's.
 
 -- a call of a session that comes to this verdict
-abbrev pub RunsVerdict : World → Session → Verdict → Told × Outcome → World → Type 0
-RunsVerdict w s v r new = Comes (told_verdict w s v r.1) (after_verdict w s v r.1) (committed_by w s v) r.1 r.0 new
+abbrev pub RunsVerdict : KeptWorld → Session → Verdict → Told × Outcome → KeptWorld → Type 0
+RunsVerdict k s v r new = Comes (told_verdict k.world s v r.1) (after_verdict k.world s v r.1) (committed_by k.world s v) r.1 r.0 k new
 
 -- A call of a session comes to its row: what it is told with its outcome, and the world after, are the row's. Or there is no memory,
 -- and nothing changes.
-abbrev pub RunsRow : World → ℕ → Call → Result (Told × Outcome) OutOfMemory → World → Type 0
-RunsRow w number call (Ok r) new =
-    (s : Session) → session_of w.sessions number ≡ Some s → RunsVerdict w s (verdict_of_row call (refusal w s call)) r new
-RunsRow w number call (Err e) new = new ≡ w
+abbrev pub RunsRow : KeptWorld → ℕ → Call → Result (Told × Outcome) OutOfMemory → KeptWorld → Type 0
+RunsRow k number call (Ok r) new =
+    (s : Session) → session_of k.world.sessions number ≡ Some s → RunsVerdict k s (verdict_of_row call (refusal k.world s call)) r new
+RunsRow k number call (Err e) new = new ≡ k
 
 -- the same of a call on a link
-abbrev pub RunsCall : World → ℕ → Request → Result (Told × Outcome) OutOfMemory → World → Type 0
-RunsCall w link q (Ok r) new =
-    Comes (told_call w (session_at w link) q r.1) (after_call w (session_at w link) q r.1) (committed_in w (session_at w link) q) r.1 r.0 new
-RunsCall w link q (Err e) new = new ≡ w
+abbrev pub RunsCall : KeptWorld → ℕ → Request → Result (Told × Outcome) OutOfMemory → KeptWorld → Type 0
+RunsCall k link q (Ok r) new =
+    Comes (told_call k.world (session_at k.world link) q r.1) (after_call k.world (session_at k.world link) q r.1)
+    (committed_in k.world (session_at k.world link) q) r.1 r.0 k new
+RunsCall k link q (Err e) new = new ≡ k
 
 -- the same of an ask
-abbrev pub RunsAsk : World → ℕ → Ask → Result (Told × Outcome) OutOfMemory → World → Type 0
-RunsAsk w link ask (Ok r) new = Comes (answer_at w link ask r.1) (after_at w link ask r.1) (committed_at w link ask) r.1 r.0 new
-RunsAsk w link ask (Err e) new = (takes_memory ask ≡ true) × (new ≡ w)
+abbrev pub RunsAsk : KeptWorld → ℕ → Ask → Result (Told × Outcome) OutOfMemory → KeptWorld → Type 0
+RunsAsk k link ask (Ok r) new = Comes (answer_at k.world link ask r.1) (after_at k.world link ask r.1) (committed_at k.world link ask) r.1 r.0 k new
+RunsAsk k link ask (Err e) new = (takes_memory ask ≡ true) × (new ≡ k)
 
 abbrev pub done : Told → Told × Outcome
 done told = (told, outcome.Done)
 
 -- an Open
-abbrev pub RunsOpen : World → Result Told OutOfMemory → World → Type 0
-RunsOpen w (Ok told) new = (link attention : ℕ) → RunsAsk w link (ask.Open attention) (Ok (done told)) new
-RunsOpen w (Err e) new = new ≡ w
+abbrev pub RunsOpen : KeptWorld → Result Told OutOfMemory → KeptWorld → Type 0
+RunsOpen k (Ok told) new = (link attention : ℕ) → RunsAsk k link (ask.Open attention) (Ok (done told)) new
+RunsOpen k (Err e) new = new ≡ k
 
 -- a Bye or a Lost
-pub record RunsPart (w : World) (link : ℕ) (told : Told) (new : World) : Type 0 where
-  pub bye : RunsAsk w link ask.Bye (Ok (done told)) new
-  pub lost : RunsAsk w link ask.Lost (Ok (done told)) new
+pub record RunsPart (k : KeptWorld) (link : ℕ) (told : Told) (new : KeptWorld) : Type 0 where
+  pub bye : RunsAsk k link ask.Bye (Ok (done told)) new
+  pub lost : RunsAsk k link ask.Lost (Ok (done told)) new
 
 -- An ask becomes an entry, or there is no memory and nothing changes.
-abbrev pub Runs : World → ℕ → LinkNumber → Ask → Result (Told × Outcome) OutOfMemory → World → Type 0
-Runs old now link ask (Ok r) new = RunsAsk (at_moment old now) link.0 ask (Ok r) new
+abbrev pub Runs : KeptWorld → ℕ → LinkNumber → Ask → Result (Told × Outcome) OutOfMemory → KeptWorld → Type 0
+Runs old now link ask (Ok r) new = RunsAsk (kept_at old now) link.0 ask (Ok r) new
 Runs old now link ask (Err e) new = (takes_memory ask ≡ true) × (new ≡ old)
 
--- An entry that is legal, with its serial answer, and the world after it. The counts go on, and a fault is one that its keeper counted.
--- No row commits yet, so there is none.
+-- An entry that is legal, with its serial answer, and the world after it. The counts go on, and a fault is one that the keeper of the row's
+-- volume counted.
 pub record Turned (c : ServerState) (e : Entry) (answered : Told) (d : ServerState) : Type 0 where
-  pub faultless : e.outcome ≡ outcome.Done
   pub legal : is_legal c.world e ≡ true
   pub serial : answered ≡ answer c.world e
   pub world : d.world ≡ after c.world e

@@ -9,8 +9,9 @@ use crate::state::State;
 use afp_base::{Code, LinkNumber, OutOfMemory, SessionNumber};
 use afp_calls::Call;
 use afp_serial::{Outcome, Told};
+use record_keeper::Keeper;
 
-impl State {
+impl<K: Keeper> State<K> {
     /// Answers a request on a link, and keeps what it was told where that is to be kept.
     pub(crate) fn call(
         &mut self,

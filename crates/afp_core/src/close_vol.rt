@@ -7,8 +7,9 @@ use crate::replies::{done, refused};
 use crate::state::State;
 use afp_base::{Bytes, Code, SessionNumber, VolumeId};
 use afp_serial::Told;
+use record_keeper::Keeper;
 
-impl State {
+impl<K: Keeper> State<K> {
     /// Closes a volume that the session has open.
     pub(crate) fn close_vol(&mut self, session: SessionNumber, volume: VolumeId) -> Told
         ensures { RunsRow self.old session.0 (Call.CloseVol volume) (Ok (with_done result)) self.new }

@@ -3,31 +3,33 @@ ghost use Rattle.std.specs.Prelude.{◌≡◌, [], true};
 ghost use Rattle.afp_serial.specs.History.{is_lawful, stand};
 ghost use Rattle.afp_serial.specs.Sound.{IsSound};
 ghost use Rattle.afp_core.specs.Counted.{IsCounted};
+ghost use Rattle.afp_core.specs.Sureness.{SureKept};
 
 use crate::turn::Core;
 use afp_base::{LinkNumber, Moment};
 use afp_serial::{Ask, Entry, Teller, Told};
+use record_keeper::Keeper;
 use std::alloc::Global;
 use std::snapshot::Snapshot;
 
 /// A core, and every entry of its history since it came here.
 #[derive(Drop)]
-pub struct ListTeller {
-    start: Snapshot<Core>,
-    core: Core,
+pub struct ListTeller<K: Keeper> {
+    start: Snapshot<Core<K>>,
+    core: Core<K>,
     entries: Vec<Entry>,
     pub ghost sound: { IsSound start.value.world },
     pub ghost lawful: { is_lawful start.value.world entries.items ≡ true },
     pub ghost stands: { core.world ≡ stand start.value.world entries.items },
     pub ghost counted: { IsCounted start.value entries.items core },
-    pub ghost unkept: { core.faults ≡ [] },
+    pub ghost keepers: { SureKept start.value core },
 }
 
-impl ListTeller {
+impl<K: Keeper> ListTeller<K> {
     ghost use Rattle.afp_core.specs.Telling.{start_of, core_of, history_of, shown_of};
 
     /// A teller that begins at the core's world, with no history.
-    pub fn new(alloc: Global, core: Core) -> ListTeller
+    pub fn new(alloc: Global, core: Core<K>) -> ListTeller<K>
         ensures start { start_of result ≡ core }
         ensures core { core_of result ≡ core }
         ensures history { history_of result ≡ [] }
@@ -46,26 +48,26 @@ impl ListTeller {
         self.entries.as_slice()
     }
 
-    /// The core. Its world is what the history makes of the world at the start, and its counts went on by the history. No volume has a
-    /// keeper yet, so none has failed.
-    pub fn core(&self) -> &Core
+    /// The core. Its world is what the history makes of the world at the start, and its counts went on by the history. Where
+    /// all keepers are sure, none has failed since.
+    pub fn core(&self) -> &Core<K>
         ensures value { result.now ≡ core_of self.now }
         ensures stands { result.now.world ≡ stand (start_of self.now).world (history_of self.now) }
         ensures counted { IsCounted (start_of self.now) (history_of self.now) result.now }
-        ensures faultless { (shown_of self.now).faults ≡ 0 }
+        ensures keepers { SureKept (start_of self.now) result.now }
     {
         &self.core
     }
 }
 
-impl Teller for ListTeller {
+impl<K: Keeper> Teller for ListTeller<K> {
     ghost use Rattle.std.specs.Prelude.{length};
     ghost use Rattle.afp_serial.proofs.StaysSound.{stand-sound};
     ghost use Rattle.afp_core.specs.Places.{upto-within};
     ghost use Rattle.afp_core.specs.Telling.{start_of, shown_of};
 
     /// The core as it was at the start.
-    type Fixed = Core;
+    type Fixed = Core<K>;
 
     ghost fixed = { λ t. start_of t };
 

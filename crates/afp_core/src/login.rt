@@ -9,6 +9,7 @@ use crate::replies::{done, refused};
 use crate::state::State;
 use afp_base::{Bytes, Code, SessionNumber};
 use afp_serial::Told;
+use record_keeper::Keeper;
 
 /// The UAM by which anybody may log in.
 const NO_USER: &str = "No User Authent";
@@ -23,7 +24,7 @@ const VERSION_3_2: &str = "AFP3.2";
 
 const VERSION_3_1: &str = "AFP3.1";
 
-impl State {
+impl<K: Keeper> State<K> {
     /// Logs the user without a name in to a session that has no user.
     pub(crate) fn login(
         &mut self,

@@ -6,8 +6,9 @@ ghost use Rattle.afp_core.specs.Turn.{RunsRow, done as with_done};
 use crate::state::State;
 use afp_base::{Bytes, Code, SessionNumber};
 use afp_serial::Told;
+use record_keeper::Keeper;
 
-impl State {
+impl<K: Keeper> State<K> {
     /// Ends the session.
     pub(crate) fn logout(&mut self, session: SessionNumber) -> Told
         ensures { RunsRow self.old session.0 Call.Logout (Ok (with_done result)) self.new }

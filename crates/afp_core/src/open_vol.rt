@@ -9,12 +9,13 @@ use crate::replies::{done, refused};
 use crate::state::State;
 use afp_base::{Bytes, Code, OutOfMemory, SessionNumber, VolumeId};
 use afp_serial::{Outcome, Told};
+use record_keeper::Keeper;
 use std::alloc::Global;
 
 /// The volume bit that asks for the volume id.
 const VOLUME_ID_BIT: u16 = 0x0020;
 
-impl State {
+impl<K: Keeper> State<K> {
     /// Opens the volume of that name, and replies with its id.
     pub(crate) fn open_vol(
         &mut self,

@@ -2,8 +2,9 @@
 ghost use Rattle.std.specs.Prelude.{◌≡◌, ℕ, Ok};
 ghost use Rattle.afp_serial.specs.Answer.{told_pulse};
 ghost use Rattle.afp_serial.specs.Sessions.{session_at};
-ghost use Rattle.afp_serial.specs.World.{fresh_world};
+ghost use Rattle.afp_serial.specs.World.{start_world};
 ghost use Rattle.afp_serial.specs.declared.ask.Ask.{Ask};
+ghost use Rattle.afp_core.specs.ServerState.{kept_world, volumes_of};
 ghost use Rattle.afp_core.specs.Turn.{IsNextFree, Runs, RunsAsk, RunsOpen, RunsPart, done};
 
 use crate::link_numbers::LinkNumbers;
@@ -13,48 +14,49 @@ use crate::request::Request;
 use crate::sessions::Sessions;
 use afp_base::{Code, LinkNumber, Moment, OutOfMemory};
 use afp_serial::{Ask, House, Outcome, Told};
+use kept_volume::KeptVolume;
+use record_keeper::Keeper;
 use std::alloc::Global;
 use std::marker::Model;
 
 /// The most sessions.
 const MOST_SESSIONS: usize = 64;
 
-/// The state of the server.
+/// The state of the server: its volumes stand beside their keepers.
 ///
-/// Contracts see it as its world. No call changes a volume yet: its volumes are those of its house, as they were made.
+/// Contracts see it as its world, with the keepers' counts.
 #[derive(Drop)]
-pub struct State {
+pub struct State<K: Keeper> {
     pub(crate) alloc: Global,
     pub(crate) house: House,
-    pub(crate) made: Moment,
     pub(crate) latest: Moment,
     pub(crate) drain: Option<Moment>,
     pub(crate) links: LinkNumbers,
     pub(crate) sessions: Sessions,
+    pub(crate) kept: Vec<KeptVolume<K>>,
 }
 
-impl Model for State {
-    ghost use Rattle.afp_serial.specs.World.{World, fresh_volumes};
-    ghost use Rattle.afp_core.specs.ServerState.{bare_world};
+impl<K: Keeper> Model for State<K> {
+    ghost use Rattle.afp_core.specs.ServerState.{KeptWorld, bare_world, kept_world, volumes_of};
 
-    ghost Value = { World };
+    ghost Value = { KeptWorld };
 
-    ghost view = { λ a. bare_world a.house a.latest a.drain a.links a.sessions (fresh_volumes a.house a.made) };
+    ghost view = { λ a. kept_world (bare_world a.house a.latest a.drain a.links a.sessions (volumes_of a.kept.items)) a.kept.items };
 }
 
-impl State {
-    /// The state of a house that nobody has used.
-    pub fn new(alloc: Global, house: House, now: Moment) -> State
-        ensures { result ≡ fresh_world house now }
+impl<K: Keeper> State<K> {
+    /// The state of a house that nobody has asked yet, over its volumes.
+    pub fn new(alloc: Global, house: House, kept: Vec<KeptVolume<K>>, now: Moment) -> State<K>
+        ensures { result ≡ kept_world (start_world house now (volumes_of kept.items)) kept.items }
     {
         State {
             alloc,
             house,
-            made: now,
             latest: now,
             drain: None,
             links: LinkNumbers::new(),
             sessions: Sessions::new(alloc),
+            kept,
         }
     }
 
@@ -65,7 +67,7 @@ impl State {
         link: LinkNumber,
         ask: Ask,
     ) -> Result<(Told, Outcome), OutOfMemory>
-        requires { IsNextFree self.old }
+        requires { IsNextFree self.old.world }
         ensures { Runs self.old now link ask result self.new }
     {
         let before = self.latest;
@@ -81,7 +83,7 @@ impl State {
 
     /// Answers an ask at the latest moment.
     fn turn_now(&mut self, link: LinkNumber, ask: Ask) -> Result<(Told, Outcome), OutOfMemory>
-        requires { IsNextFree self.old }
+        requires { IsNextFree self.old.world }
         ensures { RunsAsk self.old link.0 ask result self.new }
     {
         match ask {
@@ -108,7 +110,7 @@ impl State {
 
     /// Opens a session on the next link.
     fn open(&mut self) -> Result<Told, OutOfMemory>
-        requires { IsNextFree self.old }
+        requires { IsNextFree self.old.world }
         ensures { RunsOpen self.old result self.new }
     {
         let Some(link) = self.links.next() else {
@@ -134,7 +136,7 @@ impl State {
 
     /// Whether the link's session lives, and since when the server is about to stop.
     fn told_pulse(&self, link: LinkNumber) -> Told
-        ensures { result ≡ told_pulse self.now link.0 (session_at self.now link.0) }
+        ensures { result ≡ told_pulse self.now.world link.0 (session_at self.now.world link.0) }
     {
         if link.0 == 0 {
             return Told::Live { drain: self.drain };

@@ -1,61 +1,65 @@
 //! The core, and its turns.
-ghost use Rattle.std.specs.Prelude.{◌≡◌, ◌↔◌, ◌<◌, [], Err, IfOk, length};
+ghost use Rattle.std.specs.Prelude.{◌≡◌, ◌≢◌, ◌↔◌, Err, IfErr, IfOk, length, option_map};
+ghost use Rattle.afp_serial.specs.Sessions.{volume_at};
 ghost use Rattle.afp_serial.specs.Sound.{IsSound};
-ghost use Rattle.afp_serial.specs.World.{fresh_volumes};
-ghost use Rattle.afp_core.specs.ServerState.{start_server};
+ghost use Rattle.afp_core.specs.Loads.{IsCoreFault, IsLoadedServer};
+ghost use Rattle.afp_core.specs.Retiring.{Retires};
 ghost use Rattle.afp_core.specs.Turn.{TakesStep, TakesTurn};
 
+use crate::core_fault::CoreFault;
 use crate::counts::Counts;
+use crate::loading::load_all;
+use crate::retired::{Retired, settle_all};
 use crate::state::State;
-use afp_base::{LinkNumber, Moment, OutOfMemory};
+use afp_base::{LinkNumber, Moment, OutOfMemory, VolumeId};
 use afp_serial::{Ask, House, Outcome, Told, entry_in_range, moment_in_range};
+use record_keeper::Keeper;
 use std::alloc::Global;
 use std::marker::Model;
 
-/// Why there is no core.
-#[derive(Clone, Copy, Debug, PartialEq, Eq)]
-pub enum CoreFault {
-    /// The house has more than one volume: several are not served yet.
-    Count,
-    /// There is no memory.
-    Memory,
-}
-
-/// The serial file server over a world in memory.
+/// The serial file server over a world in memory, whose volumes stand beside their keepers.
 ///
-/// Contracts see its world, which is sound, and its counts. Its volumes have no keepers yet.
+/// Contracts see its world, which is sound, its counts, and those of the keepers.
 #[derive(Drop)]
-pub struct Core {
-    state: State,
+pub struct Core<K: Keeper> {
+    state: State<K>,
     entries: u64,
     opened: u64,
 }
 
-impl Model for Core {
-    ghost use Rattle.std.specs.Prelude.{[]};
+impl<K: Keeper> Model for Core<K> {
     ghost use Rattle.afp_core.specs.ServerState.{ServerState};
     ghost use Rattle.afp_serial.specs.Sound.{IsSound};
 
     ghost Value = { ServerState };
 
-    ghost view = { λ c. record { world = c.state; entries = c.entries; opened = c.opened; faults = []; sure = [] } };
+    ghost view = { λ c. record { world = c.state.world; entries = c.entries; opened = c.opened; faults = c.state.faults; sure = c.state.sure } };
 
-    ghost invariant = { λ c. IsSound c.state };
+    ghost invariant = { λ c. IsSound c.state.world };
 }
 
-impl Core {
-    /// The core of a house that nobody has used. `Count` exactly where the house has more than one volume.
-    pub fn new(alloc: Global, house: &House, now: Moment) -> Result<Core, CoreFault>
-        ensures fresh { IfOk result (λ core. core ≡ start_server house.now now (fresh_volumes house.now now) [] []) }
-        ensures count { (result ≡ Err CoreFault.Count) ↔ (1 < length house.now.volumes) }
+impl<K: Keeper> Core<K> {
+    /// The core of a house over its volumes' keepers, in house order: each volume is loaded from its keeper, which makes a new one where
+    /// the keeper holds nothing. `Count` exactly where the numbers of keepers and volumes differ; else the fault of the first load that
+    /// gave no volume, `Failed` only where that keeper is not sure.
+    pub fn new(
+        alloc: Global,
+        house: &House,
+        keepers: Vec<K>,
+        now: Moment,
+    ) -> Result<Core<K>, CoreFault>
+        ensures start { IfOk result (λ core. IsLoadedServer K.records K.sure K.faults house.now now keepers.items core) }
+        ensures count { (result ≡ Err CoreFault.Count) ↔ (length keepers.items ≢ length house.now.volumes) }
+        ensures fault { IfErr result (λ fault. IsCoreFault K.records K.sure K.faults now house.now.volumes keepers.items fault) }
     {
-        if house.volumes().len() > 1 {
+        if keepers.len() != house.volumes().len() {
             return Err(CoreFault::Count);
         }
         moment_in_range(now);
+        let kept = load_all(alloc, house.volumes(), keepers, now)?;
         match house.copy(alloc) {
             Ok(house) => Ok(Core {
-                state: State::new(alloc, house, now),
+                state: State::new(alloc, house, kept, now),
                 entries: 0,
                 opened: 0,
             }),
@@ -101,5 +105,19 @@ impl Core {
             entries: self.entries,
             sessions: self.opened,
         }
+    }
+
+    /// How many nodes the volume of an id has, its root among them. `None`: there is no such volume.
+    pub fn nodes(&self, v: VolumeId) -> Option<usize>
+        ensures { result ≡ option_map (λ volume. length volume.rows) (volume_at self.now.world.volumes v.0) }
+    {
+        self.state.nodes(v)
+    }
+
+    /// Settles each keeper, in order, and lets it go. `failed` is at most the number of keepers that are not sure.
+    pub fn retire(self) -> Retired
+        ensures { Retires self.sure result }
+    {
+        settle_all(self.state.kept)
     }
 }

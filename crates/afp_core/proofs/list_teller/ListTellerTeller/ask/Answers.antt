@@ -1,21 +1,19 @@
-use Rattle.std.proofs.Common.{◌≡◌, ◌∙◌, ◌∷◌, ◌++◌, [], ap, sym, refl, subst, true, ◌+◌, List, length, append-nil, arith}
-use Rattle.afp_base.specs.Counts.{Rises}
+use Rattle.std.proofs.Common.{◌≡◌, ◌∙◌, ◌∷◌, ◌++◌, [], ap, sym, refl, subst, true, List, length, append-nil}
 use Rattle.afp_serial.specs.Answer.{answer}
-use Rattle.afp_serial.specs.History.{entry, fault_of, is_lawful, stand}
+use Rattle.afp_serial.specs.History.{entry, is_lawful, stand}
 use Rattle.afp_serial.specs.Sound.{IsSound}
 use Rattle.afp_serial.specs.Shown.{fits_frame, is_answer_to}
 use Rattle.afp_serial.specs.declared.ask.Ask.{Ask}
 use Rattle.afp_serial.specs.declared.ask.Entry.{Entry}
-use Rattle.afp_serial.specs.declared.ask.Outcome.{Outcome}
 use Rattle.afp_serial.proofs.Grows.{asked-adds}
 use Rattle.afp_serial.proofs.StaysSound.{answer-fits, answer-kind, stood-sound}
 use Rattle.afp_core.specs.Counted.{IsCounted}
 use Rattle.afp_core.specs.Places.{upto, upto-longer}
-use Rattle.afp_core.proofs.TurnLemmas.{answer-told, turn-counted, turn-faults, turn-lawful, turn-stands, turn-tells, turn-unkept}
+use Rattle.afp_core.proofs.TurnLemmas.{answer-told, turn-counted, turn-faults, turn-lawful, turn-stands, turn-tells, turn-kept}
 use Rattle.afp_core.proofs.list_teller.ListTellerTeller.ask.Goals as goal
 
 pub invariant_of-self-in-Ok-step : goal.invariant_of-self-in-Ok-step
-invariant_of-self-in-Ok-step c =
+invariant_of-self-in-Ok-step g c =
     let begin = c.args.self.now.start.value in
     let h = c.args.self.now.entries.items in
     let e : Entry = entry c.args.now c.args.link c.args.ask c.in-Ok-step.outcome in
@@ -28,11 +26,11 @@ invariant_of-self-in-Ok-step c =
       stands = turn-stands begin.world h c.args.self.now.core c.step.new.self e c.in-Ok-step.told stands c.in-Ok-step.ensures ∙ ap (stand begin.world) (sym items);
       counted = subst (λ (l : List Entry). IsCounted begin l c.step.new.self) (sym items)
           (turn-counted begin c.args.self.now.core c.step.new.self h e c.in-Ok-step.told stands c.in-Ok-step.ensures c.args.self.now.counted);
-      unkept = turn-unkept c.args.self.now.core c.step.new.self e c.in-Ok-step.told c.in-Ok-step.ensures c.args.self.now.unkept;
+      keepers = turn-kept begin c.args.self.now.core c.step.new.self e c.in-Ok-step.told c.in-Ok-step.ensures c.args.self.now.keepers;
     }
 
 pub returns-in-Ok-step-clause-asked : goal.returns-in-Ok-step-clause-asked
-returns-in-Ok-step-clause-asked c =
+returns-in-Ok-step-clause-asked g c =
     let begin = c.args.self.now.start.value.world in
     let h = c.args.self.now.entries.items in
     let e : Entry = entry c.args.now c.args.link c.args.ask c.in-Ok-step.outcome in
@@ -51,12 +49,12 @@ returns-in-Ok-step-clause-asked c =
     }
 
 pub returns-in-Ok-step-clause-answers : goal.returns-in-Ok-step-clause-answers
-returns-in-Ok-step-clause-answers c =
+returns-in-Ok-step-clause-answers g c =
     let e : Entry = entry c.args.now c.args.link c.args.ask c.in-Ok-step.outcome in
     ap (is_answer_to c.args.ask) c.in-Ok-step.ensures.serial ∙ answer-kind c.args.self.now.core.world e
 
 pub returns-in-Ok-step-clause-size : goal.returns-in-Ok-step-clause-size
-returns-in-Ok-step-clause-size c =
+returns-in-Ok-step-clause-size g c =
     let begin = c.args.self.now.start.value.world in
     let h = c.args.self.now.entries.items in
     let e : Entry = entry c.args.now c.args.link c.args.ask c.in-Ok-step.outcome in

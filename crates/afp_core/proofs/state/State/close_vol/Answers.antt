@@ -1,22 +1,22 @@
 use Rattle.std.proofs.Common.{◌∙◌, ap, sym, refl, List, ℕ, ◌==◌, filter, not, false}
 use Rattle.afp_base.specs.declared.code.Code.TheVariants.{Ok, ParamErr}
-use Rattle.afp_serial.specs.World.{World}
+use Rattle.afp_core.specs.ServerState.{KeptWorld, with_sessions}
 use Rattle.afp_serial.specs.declared.ask.Told.TheVariants.{Reply}
 use Rattle.afp_requests.specs.declared.call.Call.TheVariants.{CloseVol}
 use Rattle.afp_core.specs.SessionList.{replaced, session_of}
-use Rattle.afp_core.proofs.RowLemmas.{is_refused, close_vol-not_open, close_vol-runs, opens-bare, locks-bare}
+use Rattle.afp_core.proofs.RowLemmas.{is_refused, close_vol-not_open, close_vol-runs}
 use Rattle.afp_core.proofs.state.State.close_vol.Goals as goal
 
 pub returns-then-not-has_volume : goal.returns-then-not-has_volume
-returns-then-not-has_volume c = λ s at.
-    let there = ap (λ (w : World). session_of w.sessions c.args.session.0) c.self.view_is ∙ at in
+returns-then-not-has_volume g c = λ s at.
+    let there = ap (λ (k : KeptWorld). session_of k.world.sessions c.args.session.0) c.self.view_is ∙ at in
     is_refused c.args.self.now _ s (CloseVol c.args.volume) ParamErr _
-    (close_vol-not_open c.args.self.now s c.args.volume (sym (c.has_volume.ensures s there) ∙ c.if-not-has_volume.true)) c.refused.ensures refl
+    (close_vol-not_open c.args.self.now.world s c.args.volume (sym (c.has_volume.ensures s there) ∙ c.if-not-has_volume.true)) c.refused.ensures refl
 
 pub returns : goal.returns
-returns c = λ s at.
-    let there = ap (λ (w : World). session_of w.sessions c.args.session.0) c.self.view_is ∙ at in
+returns g c = λ s at.
+    let there = ap (λ (k : KeptWorld). session_of k.world.sessions c.args.session.0) c.self.view_is ∙ at in
     close_vol-runs c.args.self.now _ s c.args.volume _ c.close_volume.new.self (sym (c.has_volume.ensures s there) ∙ c.if-not-has_volume.false)
-    (opens-bare c.args.self.now _ _ _ _ _ _ c.self.view_is) (locks-bare c.args.self.now _ _ _ _ _ _ c.self.view_is)
-    (c.done.ensures ∙ ap (λ (b : List ℕ). Reply Ok b false) c.new.ensures) (ap (λ (w : World). record w { sessions = c.close_volume.new.self }) c.self.view_is)
-    (c.close_volume.ensures s there ∙ ap (λ (w : World). replaced w.sessions (record s { volumes = filter (λ v. not (v == c.args.volume.0)) s.volumes })) c.self.view_is)
+    (ap (λ (k : KeptWorld). k.world.opens) c.self.view_is) (ap (λ (k : KeptWorld). k.world.locks) c.self.view_is)
+    (c.done.ensures ∙ ap (λ (b : List ℕ). Reply Ok b false) c.new.ensures) (ap (λ (k : KeptWorld). with_sessions k c.close_volume.new.self) c.self.view_is)
+    (c.close_volume.ensures s there ∙ ap (λ (k : KeptWorld). replaced k.world.sessions (record s { volumes = filter (λ v. not (v == c.args.volume.0)) s.volumes })) c.self.view_is)

@@ -3,7 +3,7 @@ use Rattle.std.specs.Prelude.{bytes_eq}
 use Rattle.std.proofs.lemmas.Bool.{not-true, not-false}
 use Rattle.afp_base.specs.declared.code.Code.TheVariants.{Ok, ParamErr, BadVersNum, BadUAM}
 use Rattle.afp_serial.specs.Login.{guest_id}
-use Rattle.afp_serial.specs.World.{World}
+use Rattle.afp_core.specs.ServerState.{KeptWorld, with_sessions}
 use Rattle.afp_serial.specs.declared.ask.Told.TheVariants.{Reply}
 use Rattle.afp_requests.specs.declared.call.Call.TheVariants.{Login}
 use Rattle.afp_core.specs.SessionList.{replaced, session_of}
@@ -11,36 +11,36 @@ use Rattle.afp_core.proofs.RowLemmas.{is_refused, login-has_user, login-version,
 use Rattle.afp_core.proofs.state.State.login.Goals as goal
 
 pub returns-then-has_user : goal.returns-then-has_user
-returns-then-has_user c = λ s at.
-    let there = ap (λ (w : World). session_of w.sessions c.args.session.0) c.self.view_is ∙ at in
+returns-then-has_user g c = λ s at.
+    let there = ap (λ (k : KeptWorld). session_of k.world.sessions c.args.session.0) c.self.view_is ∙ at in
     let user = sym (c.has_user.ensures s there) ∙ c.if-has_user.true in
     is_refused c.args.self.now _ s (Login c.args.version.now c.args.uam.now c.args._tail.now) ParamErr _
-    (login-has_user c.args.self.now s c.args.version.now c.args.uam.now c.args._tail.now user) c.refused.ensures refl
+    (login-has_user c.args.self.now.world s c.args.version.now c.args.uam.now c.args._tail.now user) c.refused.ensures refl
 
 pub returns-then-not-is_version : goal.returns-then-not-is_version
-returns-then-not-is_version c = λ s at.
-    let there = ap (λ (w : World). session_of w.sessions c.args.session.0) c.self.view_is ∙ at in
+returns-then-not-is_version g c = λ s at.
+    let there = ap (λ (k : KeptWorld). session_of k.world.sessions c.args.session.0) c.self.view_is ∙ at in
     let user = sym (c.has_user.ensures s there) ∙ c.if-has_user.false in
     is_refused c.args.self.now _ s (Login c.args.version.now c.args.uam.now c.args._tail.now) BadVersNum _
-    (login-version c.args.self.now s c.args.version.now c.args.uam.now c.args._tail.now user (sym c.is_version.ensures ∙ c.if-not-is_version.true))
+    (login-version c.args.self.now.world s c.args.version.now c.args.uam.now c.args._tail.now user (sym c.is_version.ensures ∙ c.if-not-is_version.true))
     c.refused-then-not-is_version.ensures refl
 
 pub returns-then-ne : goal.returns-then-ne
-returns-then-ne c = λ s at.
-    let there = ap (λ (w : World). session_of w.sessions c.args.session.0) c.self.view_is ∙ at in
+returns-then-ne g c = λ s at.
+    let there = ap (λ (k : KeptWorld). session_of k.world.sessions c.args.session.0) c.self.view_is ∙ at in
     let user = sym (c.has_user.ensures s there) ∙ c.if-has_user.false in
     let uam = not-true _ (sym c.ne.ensures ∙ c.if-ne.true) in
     is_refused c.args.self.now _ s (Login c.args.version.now c.args.uam.now c.args._tail.now) BadUAM _
-    (login-uam c.args.self.now s c.args.version.now c.args.uam.now c.args._tail.now user (sym c.is_version.ensures ∙ c.if-not-is_version.false)
+    (login-uam c.args.self.now.world s c.args.version.now c.args.uam.now c.args._tail.now user (sym c.is_version.ensures ∙ c.if-not-is_version.false)
     (ap (bytes_eq c.args.uam.now) (sym c.as_bytes.ensures.value) ∙ uam))
     c.refused-then-ne.ensures refl
 
 pub returns : goal.returns
-returns c = λ s at.
-    let there = ap (λ (w : World). session_of w.sessions c.args.session.0) c.self.view_is ∙ at in
+returns g c = λ s at.
+    let there = ap (λ (k : KeptWorld). session_of k.world.sessions c.args.session.0) c.self.view_is ∙ at in
     let user = sym (c.has_user.ensures s there) ∙ c.if-has_user.false in
     let uam = not-false _ (sym c.ne.ensures ∙ c.if-ne.false) in
     login-runs c.args.self.now _ s c.args.version.now c.args.uam.now c.args._tail.now _ c.set_user.new.self user
     (sym c.is_version.ensures ∙ c.if-not-is_version.false) (ap (bytes_eq c.args.uam.now) (sym c.as_bytes.ensures.value) ∙ uam)
-    (c.done.ensures ∙ ap (λ (b : List ℕ). Reply Ok b false) c.new.ensures) (ap (λ (w : World). record w { sessions = c.set_user.new.self }) c.self.view_is)
-    (c.set_user.ensures s there ∙ ap (λ (w : World). replaced w.sessions (record s { user = Some guest_id })) c.self.view_is)
+    (c.done.ensures ∙ ap (λ (b : List ℕ). Reply Ok b false) c.new.ensures) (ap (λ (k : KeptWorld). with_sessions k c.set_user.new.self) c.self.view_is)
+    (c.set_user.ensures s there ∙ ap (λ (k : KeptWorld). replaced k.world.sessions (record s { user = Some guest_id })) c.self.view_is)

@@ -1,11 +1,21 @@
-use Rattle.std.proofs.Common.{◌∙◌, ap, sym, subst}
-use Rattle.afp_serial.proofs.FreshWorld.{fresh-sound}
+use Rattle.std.proofs.Common.{◌≡◌, ◌∙◌, ap, sym, subst, None, true, List, ℕ}
+use Rattle.afp_serial.proofs.FreshWorld.{start-sound}
+use Rattle.afp_serial.specs.Household.{Household}
 use Rattle.afp_serial.specs.HouseFault.{house_fault}
 use Rattle.afp_serial.specs.Ranges.{is_typed_house}
 use Rattle.afp_serial.specs.Sound.{IsSound}
+use Rattle.afp_core.specs.Loads.{LoadEach}
+use Rattle.afp_core.specs.ServerState.{KeptWorld, volumes_of}
+use Rattle.afp_core.proofs.LoadLemmas.{loaded-serve}
 use Rattle.afp_core.proofs.turn.Core.new.Goals as goal
 
 pub invariant_of-result : goal.invariant_of-result
-invariant_of-result c =
-    subst IsSound (sym c.new.ensures)
-    (fresh-sound c.in-Ok.house c.args.now (ap house_fault c.in-Ok.ensures.value ∙ c.in-Ok.ensures.faultless) (ap is_typed_house c.in-Ok.ensures.value ∙ c.in-Ok.ensures.typed) c.moment_in_range.ensures)
+invariant_of-result g c =
+    let house : Household = c.in-Ok.house in
+    let none : house_fault house ≡ None = ap house_fault c.in-Ok.ensures.value ∙ c.in-Ok.ensures.faultless in
+    let typed : is_typed_house house ≡ true = ap is_typed_house c.in-Ok.ensures.value ∙ c.in-Ok.ensures.typed in
+    let names = c.volumes-2.ensures.value ∙ ap (λ (h : Household). h.volumes) (sym c.in-Ok.ensures.value) in
+    let loads = subst (λ (l : List (List ℕ)). LoadEach g.K.Keeper.records g.K.Keeper.sure g.K.Keeper.faults c.args.now l c.args.keepers.items c.in_ok-kept.kept.items) names c.in_ok-kept.ensures.loaded in
+    subst (λ (k : KeptWorld). IsSound k.world) (sym c.new.ensures)
+    (start-sound house c.args.now (volumes_of c.in_ok-kept.kept.items) none typed c.moment_in_range.ensures
+    (loaded-serve g.K.Keeper.records g.K.Keeper.sure g.K.Keeper.faults c.args.now house c.args.keepers.items c.in_ok-kept.kept.items loads))

@@ -1,0 +1,61 @@
+-- What becomes of the keepers' counts.
+use Rattle.std.proofs.Common.{◌≡◌, ◌∙◌, ap, sym, refl, subst, ℕ, zero, suc, ◌<◌, ◌+◌, Bool, List, [], ◌∷◌, length, get_or, Option, Some, None, arith}
+use Rattle.std.specs.Prelude.{option_map, slice_get}
+use Rattle.std.proofs.Common.{add-one}
+use Rattle.std.proofs.lemmas.List.{length-map}
+use Rattle.std.proofs.lemmas.Option.{slice_get_past}
+use Rattle.afp_serial.specs.Sessions.{volume_at}
+use Rattle.afp_serial.specs.World.{World}
+use Rattle.afp_volume.specs.VolumeState.{VolumeState}
+use Rattle.kept_volume.specs.Kept.{KeptState}
+use Rattle.afp_serial.specs.declared.ask.Outcome.TheVariants as outcome
+use Rattle.afp_serial.specs.declared.ask.Told.{Told}
+use Rattle.afp_core.specs.KeeperFaults.{KeepersRise, SureStand}
+use Rattle.afp_core.specs.ServerState.{KeptWorld, volumes_of}
+use Rattle.afp_core.specs.Turn.{Comes}
+
+-- nothing
+pub rise-same : (xs : List ℕ) → KeepersRise None xs xs
+rise-same [] = tt
+rise-same (x ∷ xs) = ((omega arith, omega arith), rise-same xs)
+
+pub stand-same : (sure : List Bool) (xs : List ℕ) → SureStand sure xs xs
+stand-same [] xs = tt
+stand-same (s ∷ rest) [] = tt
+stand-same (s ∷ rest) (x ∷ xs) = ((λ e. refl), stand-same rest xs)
+
+-- an entry that meets no fault, and changes the world alone
+pub comes-done : (old new : KeptWorld) (want : Told) (after next : World) (index : Option ℕ) (told : Told) → told ≡ want → new ≡ record old { world = next } → next ≡ after
+    → Comes want after index outcome.Done told old new
+comes-done old new want after next index told tells is becomes = record {
+  legal = refl;
+  serial = tells;
+  world = ap (λ (k : KeptWorld). k.world) is ∙ becomes;
+  keepers = subst (λ (xs : List ℕ). KeepersRise None old.faults xs) (sym (ap (λ (k : KeptWorld). k.faults) is)) (rise-same old.faults);
+  stand = subst (λ (xs : List ℕ). SureStand old.sure old.faults xs) (sym (ap (λ (k : KeptWorld). k.faults) is)) (stand-same old.sure old.faults);
+  sure = ap (λ (k : KeptWorld). k.sure) is;
+}
+
+-- one that changes nothing
+pub comes-same : (old new : KeptWorld) (want : Told) (index : Option ℕ) (told : Told) → told ≡ want → new ≡ old
+    → Comes want old.world index outcome.Done told old new
+comes-same old new want index told tells is = comes-done old new want old.world old.world index told tells is refl
+
+-- the volumes beside their keepers
+pub volume-of : (kept : List KeptState) (index : ℕ) (d : KeptState) → index < length kept → slice_get (volumes_of kept) index ≡ Some (get_or kept index d).state
+volume-of [] index d within = absurd (omega (arith, within))
+volume-of (one ∷ kept) zero d within = refl
+volume-of (one ∷ kept) (suc index) d within = volume-of kept index d (omega (arith, within))
+
+pub volume_at-index : (volumes : List VolumeState) (n index : ℕ) → n ≡ index + 1 → volume_at volumes n ≡ slice_get volumes index
+volume_at-index volumes n index is = ap (volume_at volumes) (is ∙ add-one index)
+
+-- no volume has an id that is zero, or more than there are
+pub volume_at-none : (kept : List KeptState) (n : ℕ) → (n ≡ 0 → ⊥) → length kept < n → volume_at (volumes_of kept) n ≡ None
+volume_at-none kept zero some past = absurd (some refl)
+volume_at-none kept (suc index) some past = slice_get_past (volumes_of kept) index (omega (arith, length-map kept (λ (k : KeptState). k.state), past))
+
+pub node-count : (kept : List KeptState) (volumes : List VolumeState) (n index count : ℕ) (d : KeptState) → volumes_of kept ≡ volumes → n ≡ index + 1 → index < length kept
+    → count ≡ length (get_or kept index d).state.rows → Some count ≡ option_map (λ v. length v.rows) (volume_at volumes n)
+node-count kept volumes n index count d are is within counts =
+    ap Some counts ∙ sym (ap (option_map (λ (v : VolumeState). length v.rows)) (ap (λ (l : List VolumeState). volume_at l n) (sym are) ∙ volume_at-index (volumes_of kept) n index is ∙ volume-of kept index d within))

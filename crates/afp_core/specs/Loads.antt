@@ -1,0 +1,50 @@
+-- The volumes of a house, loaded from their keepers (this profile).
+use Rattle.std.specs.Prelude.{◌≡◌, ◌≢◌, ℕ, Bool, false, List, [], ◌∷◌, length, map, take, Option, Some, slice_get}
+use Rattle.afp_core.specs.ServerState.{ServerState, start_server, volumes_of}
+use Rattle.afp_core.specs.declared.core_fault.CoreFault.{CoreFault}
+use Rattle.afp_core.specs.declared.core_fault.CoreFault.TheVariants.{Count, Load, Memory}
+use Rattle.afp_serial.specs.Household.{Household}
+use Rattle.kept_volume.specs.Kept.{KeptState}
+use Rattle.kept_volume.specs.Loading.{IsLoadedVolume}
+use Rattle.kept_volume.specs.declared.load.LoadFault.{LoadFault}
+use Rattle.kept_volume.specs.declared.load.LoadFault.TheVariants as load
+use Rattle.record_keeper.specs.Records.{Records}
+
+-- the volumes are those that were loaded from the keepers, each under its name
+abbrev pub LoadEach : {K : Type 0} → (K → Option Records) → (K → Bool) → (K → ℕ) → ℕ → List (List ℕ) → List K → List KeptState → Type 0
+LoadEach records sure faults now [] [] [] = Unit {0}
+LoadEach records sure faults now (name ∷ names) (keeper ∷ keepers) (one ∷ kept) =
+    IsLoadedVolume name now (records keeper) (sure keeper) (faults keeper) one × LoadEach records sure faults now names keepers kept
+LoadEach records sure faults now names keepers kept = ⊥
+
+-- a server that nobody has asked, over the volumes that were loaded, and their keepers' counts
+pub record IsLoadedServer {K : Type 0} (records : K → Option Records) (sure : K → Bool) (faults : K → ℕ) (house : Household) (now : ℕ) (keepers : List K) (server : ServerState) : Type 0 where
+  pub kept : List KeptState
+  pub loaded : LoadEach records sure faults now house.volumes keepers kept
+  pub start : server ≡ start_server house now (volumes_of kept) (map (λ k. k.faults) kept) (map (λ k. k.sure) kept)
+
+-- why one load gave no volume, of a keeper that is sure or not; want of memory is told otherwise
+abbrev pub IsFaultOf : Bool → LoadFault → Type 0
+IsFaultOf sure (load.BadRecord key reason) = Unit {0}
+IsFaultOf sure load.Failed = sure ≡ false
+IsFaultOf sure load.Memory = ⊥
+
+-- the same of the load at an index
+abbrev pub IsFaultAt : ℕ → Bool → CoreFault → Type 0
+IsFaultAt index sure Count = ⊥
+IsFaultAt index sure (Load at_index fault) = (at_index ≡ index) × IsFaultOf sure fault
+IsFaultAt index sure Memory = Unit {0}
+
+-- the load at an index is the first that gave no volume
+pub record StopsAt {K : Type 0} (records : K → Option Records) (sure : K → Bool) (faults : K → ℕ) (now : ℕ) (names : List (List ℕ)) (keepers : List K) (index : ℕ) (fault : LoadFault) : Type 0 where
+  pub kept : List KeptState
+  pub before : LoadEach records sure faults now (take index names) (take index keepers) kept
+  pub is_sure : Bool
+  pub keeper : slice_get (map sure keepers) index ≡ Some is_sure
+  pub cause : IsFaultOf is_sure fault
+
+-- why there is no core: the numbers differ, the first load that gave no volume, or there is no memory
+abbrev pub IsCoreFault : {K : Type 0} → (K → Option Records) → (K → Bool) → (K → ℕ) → ℕ → List (List ℕ) → List K → CoreFault → Type 0
+IsCoreFault records sure faults now names keepers Count = length keepers ≢ length names
+IsCoreFault records sure faults now names keepers (Load index fault) = (length keepers ≡ length names) × StopsAt records sure faults now names keepers index fault
+IsCoreFault records sure faults now names keepers Memory = length keepers ≡ length names
