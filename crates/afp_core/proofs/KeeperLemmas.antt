@@ -1,6 +1,6 @@
 -- What becomes of the keepers' counts.
-use Rattle.std.proofs.Common.{◌≡◌, ◌∙◌, ap, sym, refl, subst, ℕ, zero, suc, ◌<◌, ◌+◌, Bool, List, [], ◌∷◌, length, get_or, Option, Some, None, arith}
-use Rattle.std.specs.Prelude.{option_map, slice_get}
+use Rattle.std.proofs.Common.{◌≡◌, ◌∙◌, ap, sym, refl, subst, ℕ, zero, suc, ◌<◌, ◌+◌, Bool, List, [], ◌∷◌, length, get_or, map, set, Option, Some, None, arith}
+use Rattle.std.specs.Prelude.{option_map, slice_get, slice_set}
 use Rattle.std.proofs.Common.{add-one}
 use Rattle.std.proofs.lemmas.List.{length-map}
 use Rattle.std.proofs.lemmas.Option.{slice_get_past}
@@ -11,7 +11,8 @@ use Rattle.kept_volume.specs.Kept.{KeptState}
 use Rattle.afp_serial.specs.declared.ask.Outcome.TheVariants as outcome
 use Rattle.afp_serial.specs.declared.ask.Told.{Told}
 use Rattle.afp_core.specs.KeeperFaults.{KeepersRise, SureStand}
-use Rattle.afp_core.specs.ServerState.{KeptWorld, volumes_of}
+use Rattle.afp_core.specs.ServerState.{KeptWorld, kept_world, volumes_of}
+use Rattle.afp_core.specs.OnOpened.{BecomesKept, IsKept, with_kept}
 use Rattle.afp_core.specs.Turn.{Comes}
 
 -- nothing
@@ -55,7 +56,36 @@ pub volume_at-none : (kept : List KeptState) (n : ℕ) → (n ≡ 0 → ⊥) →
 volume_at-none kept zero some past = absurd (some refl)
 volume_at-none kept (suc index) some past = slice_get_past (volumes_of kept) index (omega (arith, length-map kept (λ (k : KeptState). k.state), past))
 
-pub node-count : (kept : List KeptState) (volumes : List VolumeState) (n index count : ℕ) (d : KeptState) → volumes_of kept ≡ volumes → n ≡ index + 1 → index < length kept
-    → count ≡ length (get_or kept index d).state.rows → Some count ≡ option_map (λ v. length v.rows) (volume_at volumes n)
-node-count kept volumes n index count d are is within counts =
-    ap Some counts ∙ sym (ap (option_map (λ (v : VolumeState). length v.rows)) (ap (λ (l : List VolumeState). volume_at l n) (sym are) ∙ volume_at-index (volumes_of kept) n index is ∙ volume-of kept index d within))
+pub node-count : (volumes : List VolumeState) (n index count : ℕ) (v : VolumeState) → n ≡ index + 1 → slice_get volumes index ≡ Some v → count ≡ length v.rows
+    → Some count ≡ option_map (λ v. length v.rows) (volume_at volumes n)
+node-count volumes n index count v is there counts = ap Some counts ∙ sym (ap (option_map (λ (x : VolumeState). length x.rows)) (volume_at-index volumes n index is ∙ there))
+
+-- the volume at an index and its keeper came to something
+list-set : {A : Type 0} → (f : KeptState → A) (kept : List KeptState) (index : ℕ) (one : KeptState) → map f (set kept index one) ≡ slice_set (map f kept) index (f one)
+list-set f [] index one = refl
+list-set f (k ∷ kept) zero one = refl
+list-set f (k ∷ kept) (suc index) one = ap (λ l. f k ∷ l) (list-set f kept index one)
+
+list-get : {A : Type 0} → (f : KeptState → A) (kept : List KeptState) (index : ℕ) (d : KeptState) → index < length kept → slice_get (map f kept) index ≡ Some (f (get_or kept index d))
+list-get f [] index d within = absurd (omega (arith, within))
+list-get f (k ∷ kept) zero d within = refl
+list-get f (k ∷ kept) (suc index) d within = list-get f kept index d (omega (arith, within))
+
+pub becomes-kept : (w : World) (kept : List KeptState) (index : ℕ) (d one : KeptState) (becomes : KeptState → KeptState → Type 0) (k new : KeptWorld)
+    → kept_world (record w { volumes = volumes_of kept }) kept ≡ k → index < length kept → becomes (get_or kept index d) one
+    → new ≡ kept_world (record w { volumes = volumes_of (set kept index one) }) (set kept index one) → BecomesKept k index becomes new
+becomes-kept w kept index d one becomes k new is within does becomes_is = record {
+  old = get_or kept index d;
+  one = one;
+  was = subst (λ (x : KeptWorld). IsKept x index (get_or kept index d)) is record {
+    state = list-get (λ x. x.state) kept index d within;
+    faults = list-get (λ x. x.faults) kept index d within;
+    sure = list-get (λ x. x.sure) kept index d within;
+  };
+  is = does;
+  now =
+      let v = list-set (λ x. x.state) kept index one in
+      let f = list-set (λ x. x.faults) kept index one in
+      let s = list-set (λ x. x.sure) kept index one in
+      becomes_is ∙ (λ i. record { world = record w { volumes = v i }; faults = f i; sure = s i }) ∙ ap (λ (x : KeptWorld). with_kept x index one) is;
+}

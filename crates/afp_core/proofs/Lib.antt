@@ -2,6 +2,8 @@ pub mod SessionLemmas
 pub mod KeeperLemmas
 pub mod RowLemmas
 pub mod SpellingLemmas
+pub mod OnVolumeLemmas
+pub mod CallRows
 pub mod AskLemmas
 pub mod LoadLemmas
 pub mod TurnLemmas

@@ -1,9 +1,9 @@
 -- Rows of calls, over worlds without open forks and locks.
-use Rattle.std.proofs.Common.{◌≡◌, ◌∙◌, ap, sym, refl, subst, ℕ, ◌==◌, Bool, true, false, not, ◌&&◌, List, [], ◌++◌, filter, Some, None, is_some}
-use Rattle.std.specs.Prelude.{bytes_eq, Ok as with_ok}
+use Rattle.std.proofs.Common.{◌≡◌, ◌∙◌, ap, sym, refl, subst, ℕ, ◌==◌, ◌+◌, ◌<◌, zero, suc, length, arith, Bool, true, false, not, ◌&&◌, List, [], ◌∷◌, filter, Some, None, is_some}
+use Rattle.std.specs.Prelude.{slice_get, bytes_eq, Ok as with_ok}
 use Rattle.std.specs.List.{list_any}
 use Rattle.afp_base.specs.declared.code.Code.{Code}
-use Rattle.afp_base.specs.declared.code.Code.TheVariants.{Ok, ParamErr, BadVersNum, BadUAM, BitmapErr, ObjectNotFound}
+use Rattle.afp_base.specs.declared.code.Code.TheVariants.{Ok, ParamErr, BadVersNum, BadUAM, ObjectNotFound}
 use Rattle.afp_base.specs.declared.ids.VolumeId.{VolumeId}
 use Rattle.afp_requests.specs.declared.call.Call.{Call}
 use Rattle.afp_requests.specs.declared.call.Call.TheVariants.{CloseVol, Login, Logout, OpenVol}
@@ -11,19 +11,21 @@ use Rattle.afp_serial.specs.declared.ask.Told.{Told}
 use Rattle.afp_serial.specs.declared.ask.Told.TheVariants.{Reply}
 use Rattle.afp_serial.specs.Answer.{refusal_reply, effect_reply}
 use Rattle.afp_serial.specs.Login.{guest_id}
-use Rattle.afp_serial.specs.OpenVol.{volume_id_bit, volume_named, with_volume}
-use Rattle.byteorder.specs.Endian.{big_bytes}
-use Rattle.afp_serial.proofs.OpenVolReply.{open-vol-bytes}
-use Rattle.afp_serial.specs.CallRow.{plain}
+use Rattle.afp_serial.specs.OpenVol.{open_vol_reply, state_named, volume_named, with_volume}
+use Rattle.afp_replies.specs.Replies.{canonical_reply}
+use Rattle.afp_volume.specs.GetVolParms.{get_vol_parms_refusal}
+use Rattle.afp_volume.specs.VolumeState.{VolumeState}
+use Rattle.afp_serial.specs.CallRow.{Effect, plain}
 use Rattle.afp_serial.specs.Rows.{row, refusal, effect}
-use Rattle.afp_serial.specs.Sessions.{closing, has_opened, has_session, is_open, without_session}
+use Rattle.afp_serial.specs.Sessions.{volume_at, with_session, closing, has_opened, has_session, is_open, without_session}
 use Rattle.afp_serial.specs.StatusBlock.{no_user, versions}
 use Rattle.afp_serial.specs.Steps.{verdict_of_row}
 use Rattle.afp_serial.specs.World.{World, Session, OpenFork}
 use Rattle.afp_core.specs.SessionList.{replaced}
 use Rattle.afp_core.specs.ServerState.{KeptWorld, with_sessions}
+use Rattle.afp_core.specs.OnOpened.{IsNamed}
 use Rattle.afp_core.specs.Turn.{RunsRow, RunsVerdict, done}
-use Rattle.afp_core.proofs.KeeperLemmas.{comes-done, comes-same}
+use Rattle.afp_core.proofs.KeeperLemmas.{comes-done, comes-same, volume_at-index}
 
 -- what a row tells, and the world that it leaves
 abbrev pub IsRowOf : KeptWorld → Session → Call → Told → KeptWorld → Type 0
@@ -115,21 +117,40 @@ close_vol-runs old new s volume told sessions h o l tells is set =
     (λ x. not ((x.session == s.number) && (x.fork.volume == volume.0))) o l))
 
 -- FPOpenVol
-pub open_vol-bits : (w : World) (s : Session) (bits : ℕ) (name : List ℕ) → (bits == volume_id_bit) ≡ false → refusal w s (OpenVol bits name) ≡ Some (plain BitmapErr)
-unfolding row
-open_vol-bits w s bits name h = rw h refl
+module _ (w : World) (s : Session) (bits : ℕ) (name : List ℕ) where
+  pub open_vol-bits : (code : Code) → get_vol_parms_refusal bits ≡ Some code → refusal w s (OpenVol bits name) ≡ Some (plain code)
+  unfolding row
+  open_vol-bits code h = rw h refl
 
-pub open_vol-no_volume : (w : World) (s : Session) (bits : ℕ) (name : List ℕ) → (bits == volume_id_bit) ≡ true → volume_named w name ≡ None
-    → refusal w s (OpenVol bits name) ≡ Some (plain ObjectNotFound)
-unfolding row
-open_vol-no_volume w s bits name h v = rw (h, v) refl
+  pub open_vol-no_volume : get_vol_parms_refusal bits ≡ None → state_named w (volume_named w name) ≡ None → refusal w s (OpenVol bits name) ≡ Some (plain ObjectNotFound)
+  unfolding row
+  open_vol-no_volume h v = rw (h, v) refl
 
-pub open_vol-runs : (old new : KeptWorld) (s : Session) (bits : ℕ) (name : List ℕ) (volume : ℕ) (told : Told) (sessions : List Session)
-    → (bits == volume_id_bit) ≡ true → volume_named old.world name ≡ Some volume
-    → told ≡ Reply Ok (big_bytes 2 bits ++ big_bytes 2 volume) false → new ≡ with_sessions old sessions
-    → sessions ≡ replaced old.world.sessions (with_volume s volume)
+  pub open_vol-passes : (id : ℕ) (v : VolumeState) → get_vol_parms_refusal bits ≡ None → volume_named w name ≡ Some id → volume_at w.volumes id ≡ Some v → refusal w s (OpenVol bits name) ≡ None
+  unfolding row
+  open_vol-passes id v h named there = rw (h, named, there) refl
+
+  pub open_vol-does : (id : ℕ) (v : VolumeState) → volume_named w name ≡ Some id → volume_at w.volumes id ≡ Some v
+      → effect w s (OpenVol bits name) ≡ record { world = with_session w (with_volume s id); reply = open_vol_reply bits id v }
+  unfolding row
+  open_vol-does id v named there = rw (named, there) refl
+
+pub open_vol-runs : (old new : KeptWorld) (s : Session) (bits : ℕ) (name : List ℕ) (id : ℕ) (told : Told) (block : List ℕ) (sessions : List Session)
+    → get_vol_parms_refusal bits ≡ None → (named : IsNamed old.world name id)
+    → told ≡ Reply Ok block false → block ≡ canonical_reply (open_vol_reply bits id named.state) → new ≡ with_sessions old sessions
+    → sessions ≡ replaced old.world.sessions (with_volume s id)
     → IsRowOf old s (OpenVol bits name) told new
-unfolding row
-open_vol-runs old new s bits name volume told sessions h v tells is set =
-    has_effect old new s (OpenVol bits name) told _ (rw (h, v) refl) (rw v (tells ∙ ap (λ (block : List ℕ). Reply Ok block false) (sym (open-vol-bytes bits volume h))))
-    is (rw v (ap (λ (x : List Session). record old.world { sessions = x }) set))
+open_vol-runs old new s bits name id told block sessions h named tells bytes is set =
+    let w = old.world in
+    let does = open_vol-does w s bits name id named.state named.named named.there in
+    has_effect old new s (OpenVol bits name) told _ (open_vol-passes w s bits name id named.state h named.named named.there)
+    (tells ∙ ap (λ (b : List ℕ). Reply Ok b false) (bytes ∙ ap (λ (e : Effect). canonical_reply e.reply) (sym does))) is
+    (ap (λ (x : List Session). record w { sessions = x }) set ∙ ap (λ (e : Effect). e.world) (sym does))
+
+pub named-is : (w : World) (name : List ℕ) (id index : ℕ) → volume_named w name ≡ Some id → id ≡ index + 1 → index < length w.volumes → IsNamed w name id
+named-is w name id index named is within = by w.volumes index within (volume_at-index w.volumes id index is)
+  where
+    by : (volumes : List VolumeState) (i : ℕ) → i < length volumes → volume_at w.volumes id ≡ slice_get volumes i → IsNamed w name id
+    by [] i less at = absurd (omega (arith, less))
+    by (v ∷ volumes) zero less at = record { named = named; state = v; there = at }
+    by (v ∷ volumes) (suc i) less at = by volumes i (omega (arith, less)) at

@@ -7,6 +7,7 @@ pub mod Loads
 pub mod Retiring
 pub mod Turn
 pub mod Counted
+pub mod OnOpened
 pub mod Sureness
 pub mod Places
 pub mod Telling

@@ -9,6 +9,7 @@ use crate::state::State;
 use afp_base::{Code, LinkNumber, OutOfMemory, SessionNumber};
 use afp_calls::Call;
 use afp_serial::{Outcome, Told};
+use kept_volume::ListAsked;
 use record_keeper::Keeper;
 
 impl<K: Keeper> State<K> {
@@ -43,7 +44,80 @@ impl<K: Keeper> State<K> {
         ensures { RunsRow self.old session.0 call.now result self.new }
     {
         match call {
+            Call::CloseDir { volume, dir } => self.close_dir(session, *volume, *dir),
             Call::CloseVol { volume } => Ok((self.close_vol(session, *volume), Outcome::Done)),
+            Call::CreateDir { volume, .. } => self.create_dir(session, *volume, call),
+            Call::CreateFile { volume, .. } => self.change_silently(session, *volume, call),
+            Call::Delete { volume, .. } => self.change_silently(session, *volume, call),
+            Call::Enumerate {
+                volume,
+                dir,
+                file_bits,
+                dir_bits,
+                count,
+                start,
+                size,
+                path,
+            } => {
+                let asked = ListAsked {
+                    wide: false,
+                    file_bits: *file_bits,
+                    dir_bits: *dir_bits,
+                    count: *count,
+                    start: u32::from(*start),
+                    size: u32::from(*size),
+                };
+                self.enumerate(session, *volume, *dir, asked, path)
+            }
+            Call::EnumerateExt {
+                volume,
+                dir,
+                file_bits,
+                dir_bits,
+                count,
+                start,
+                size,
+                path,
+            } => {
+                let asked = ListAsked {
+                    wide: true,
+                    file_bits: *file_bits,
+                    dir_bits: *dir_bits,
+                    count: *count,
+                    start: u32::from(*start),
+                    size: u32::from(*size),
+                };
+                self.enumerate_ext(session, *volume, *dir, asked, path)
+            }
+            Call::EnumerateExt2 {
+                volume,
+                dir,
+                file_bits,
+                dir_bits,
+                count,
+                start,
+                size,
+                path,
+            } => {
+                let asked = ListAsked {
+                    wide: true,
+                    file_bits: *file_bits,
+                    dir_bits: *dir_bits,
+                    count: *count,
+                    start: *start,
+                    size: *size,
+                };
+                self.enumerate_ext2(session, *volume, *dir, asked, path)
+            }
+            Call::Flush { volume } => self.flush(session, *volume),
+            Call::GetFileDirParms {
+                volume,
+                dir,
+                file_bits,
+                dir_bits,
+                path,
+            } => self.get_file_dir_parms(session, *volume, *dir, *file_bits, *dir_bits, path),
+            Call::GetVolParms { volume, bits } => self.get_vol_parms(session, *volume, *bits),
             Call::Login { version, uam, tail } => {
                 Ok((
                     self.login(session, version.as_slice(), uam.as_slice(), tail.as_slice()),
@@ -51,35 +125,27 @@ impl<K: Keeper> State<K> {
                 ))
             }
             Call::Logout => Ok((self.logout(session), Outcome::Done)),
+            Call::MoveAndRename { volume, .. } => self.change_silently(session, *volume, call),
+            Call::OpenDir { volume, dir, path } => self.open_dir(session, *volume, *dir, path),
             Call::OpenVol { bits, name } => self.open_vol(session, *bits, name.as_slice()),
+            Call::Rename { volume, .. } => self.change_silently(session, *volume, call),
+            Call::SetDirParms { volume, .. } => self.change_silently(session, *volume, call),
+            Call::SetFileDirParms { volume, .. } => self.change_silently(session, *volume, call),
+            Call::SetFileParms { volume, .. } => self.change_silently(session, *volume, call),
+            Call::SetVolParms { volume, .. } => self.change_silently(session, *volume, call),
             Call::ByteRangeLock { .. }
-            | Call::CloseDir { .. }
             | Call::CloseFork { .. }
             | Call::CopyFile { .. }
-            | Call::CreateDir { .. }
-            | Call::CreateFile { .. }
-            | Call::Delete { .. }
-            | Call::Enumerate { .. }
-            | Call::Flush { .. }
             | Call::FlushFork { .. }
             | Call::GetForkParms { .. }
             | Call::GetSrvrInfo
             | Call::GetSrvrParms
-            | Call::GetVolParms { .. }
             | Call::MapID { .. }
             | Call::MapName { .. }
-            | Call::MoveAndRename { .. }
-            | Call::OpenDir { .. }
             | Call::OpenFork { .. }
             | Call::Read { .. }
-            | Call::Rename { .. }
-            | Call::SetDirParms { .. }
-            | Call::SetFileParms { .. }
             | Call::SetForkParms { .. }
-            | Call::SetVolParms { .. }
             | Call::Write { .. }
-            | Call::GetFileDirParms { .. }
-            | Call::SetFileDirParms { .. }
             | Call::GetUserInfo { .. }
             | Call::GetSrvrMsg { .. }
             | Call::CreateID { .. }
@@ -102,8 +168,6 @@ impl<K: Keeper> State<K> {
             | Call::LoginExt { .. }
             | Call::GetSessionToken { .. }
             | Call::DisconnectOldSession { .. }
-            | Call::EnumerateExt { .. }
-            | Call::EnumerateExt2 { .. }
             | Call::AddIcon { .. } => Ok((
                 refused(self.alloc, Code::CallNotSupported),
                 Outcome::Done,

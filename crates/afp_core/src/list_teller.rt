@@ -1,5 +1,5 @@
 //! A teller that stores its history.
-ghost use Rattle.std.specs.Prelude.{◌≡◌, [], true};
+ghost use Rattle.std.specs.Prelude.{◌≡◌, ℕ, [], take, true};
 ghost use Rattle.afp_serial.specs.History.{is_lawful, stand};
 ghost use Rattle.afp_serial.specs.Sound.{IsSound};
 ghost use Rattle.afp_core.specs.Counted.{IsCounted};
@@ -20,6 +20,7 @@ pub struct ListTeller<K: Keeper> {
     entries: Vec<Entry>,
     pub ghost sound: { IsSound start.value.world },
     pub ghost lawful: { is_lawful start.value.world entries.items ≡ true },
+    pub ghost sound_at: { (k : ℕ) → IsSound (stand start.value.world (take k entries.items)) },
     pub ghost stands: { core.world ≡ stand start.value.world entries.items },
     pub ghost counted: { IsCounted start.value entries.items core },
     pub ghost keepers: { SureKept start.value core },
@@ -62,7 +63,6 @@ impl<K: Keeper> ListTeller<K> {
 
 impl<K: Keeper> Teller for ListTeller<K> {
     ghost use Rattle.std.specs.Prelude.{length};
-    ghost use Rattle.afp_serial.proofs.StaysSound.{stand-sound};
     ghost use Rattle.afp_core.specs.Places.{upto-within};
     ghost use Rattle.afp_core.specs.Telling.{start_of, shown_of};
 
@@ -76,7 +76,7 @@ impl<K: Keeper> Teller for ListTeller<K> {
     ghost sound = { λ t. record {
       start = t.sound;
       lawful = t.lawful;
-      stands = stand-sound t.start.value.world t.entries.items t.sound t.lawful;
+      stands = t.sound_at;
       within = upto-within (length t.entries.items);
     } };
 

@@ -1,8 +1,14 @@
 //! FPOpenVol (AFP Reference, "FPOpenVol").
-ghost use Rattle.std.specs.Prelude.{◌≡◌, ◌++◌, ◌+◌, ◌<◌, ◌≤◌, IfOk, IfSome, bytes_eq, length, option_map, position};
-ghost use Rattle.byteorder.specs.Endian.{big_bytes};
+ghost use Rattle.std.specs.Prelude.{◌≡◌, ◌+◌, ◌<◌, ◌≤◌, if◌then◌else◌, IfOk, IfSome, MatchOption, None, Some, bytes_eq, length, option_map, position};
+ghost use Rattle.afp_base.specs.declared.code.Code.{Code};
+ghost use Rattle.afp_replies.specs.Replies.{canonical_reply};
 ghost use Rattle.afp_requests.specs.declared.call.Call.{Call};
 ghost use Rattle.afp_serial.specs.Limits.{most_volumes};
+ghost use Rattle.afp_serial.specs.OpenVol.{open_vol_reply, state_named, volume_named};
+ghost use Rattle.afp_serial.specs.Sessions.{volume_at};
+ghost use Rattle.afp_volume.specs.GetVolParms.{get_vol_parms_refusal};
+ghost use Rattle.afp_volume.specs.VolumeState.{VolumeState};
+ghost use Rattle.afp_core.specs.OnOpened.{IsNamed};
 ghost use Rattle.afp_core.specs.Turn.{RunsRow};
 
 use crate::replies::{done, refused};
@@ -10,13 +16,12 @@ use crate::state::State;
 use afp_base::{Bytes, Code, OutOfMemory, SessionNumber, VolumeId};
 use afp_serial::{Outcome, Told};
 use record_keeper::Keeper;
-use std::alloc::Global;
 
-/// The volume bit that asks for the volume id.
-const VOLUME_ID_BIT: u16 = 0x0020;
+/// The bits that may be asked of a volume.
+const VOLUME_BITS: u16 = 0x0fff;
 
 impl<K: Keeper> State<K> {
-    /// Opens the volume of that name, and replies with its id.
+    /// Opens the volume of that name, and tells what the bits ask of it.
     pub(crate) fn open_vol(
         &mut self,
         session: SessionNumber,
@@ -25,16 +30,54 @@ impl<K: Keeper> State<K> {
     ) -> Result<(Told, Outcome), OutOfMemory>
         ensures { RunsRow self.old session.0 (Call.OpenVol bits name.now) result self.new }
     {
-        if bits != VOLUME_ID_BIT {
+        if are_refused(bits) {
             return Ok((refused(self.alloc, Code::BitmapErr), Outcome::Done));
         }
-        let Some(volume) = volume_named(self.house.volumes(), name) else {
+        let Some(volume) = self.named(name) else {
             return Ok((refused(self.alloc, Code::ObjectNotFound), Outcome::Done));
         };
-        let block = volume_block(self.alloc, bits, volume)?;
+        let block = self.volume_block(volume, bits)?;
         self.sessions.open_volume(session, volume)?;
         Ok((done(block), Outcome::Done))
     }
+
+    /// The id of the volume with exactly that name.
+    fn named(&self, name: &[u8]) -> Option<VolumeId>
+        ensures { MatchOption result (state_named self.now.world (volume_named self.now.world name.now) ≡ None) (λ id. IsNamed self.now.world name.now id.0) }
+    {
+        let volume = volume_named(self.house.volumes(), name)?;
+        match self.index(volume) {
+            Some(_) => Some(volume),
+            None => None,
+        }
+    }
+
+    /// What the bits ask of the volume of an id.
+    fn volume_block(&self, volume: VolumeId, bits: u16) -> Result<Bytes, OutOfMemory>
+        requires { get_vol_parms_refusal bits ≡ None }
+        ensures { IfOk result (λ block. (v : VolumeState) → volume_at self.now.world.volumes volume.0 ≡ Some v → block ≡ canonical_reply (open_vol_reply bits volume.0 v)) }
+    {
+        let mut block = Bytes::new(self.alloc);
+        let Some(index) = self.index(volume) else {
+            return Ok(block);
+        };
+        match self
+            .kept_at(index)
+            .get_vol_parms(self.alloc, volume, bits, &mut block)
+        {
+            Ok(()) => Ok(block),
+            // The bits are not refused, so there was no memory.
+            Err(_) => Err(OutOfMemory),
+        }
+    }
+}
+
+/// Whether no bit is asked, or one that a volume has not (AFP Reference, "Volume Bitmap").
+#[tactic(auto, unfolding(afp_volume::specs::GetVolParms::get_vol_parms_refusal))]
+fn are_refused(bits: u16) -> bool
+    ensures { get_vol_parms_refusal bits ≡ (if result then Some Code.BitmapErr else None) }
+{
+    bits & VOLUME_BITS != bits || bits == 0
 }
 
 /// The id of the volume with exactly that name. Ids count from 1, in the house's order.
@@ -54,14 +97,4 @@ fn index_of(volumes: &[Bytes], name: &[u8]) -> Option<usize>
     ensures within { IfSome result (λ index. index < length volumes.now) }
 {
     volumes.iter().position(|other| other.as_slice() == name)
-}
-
-/// The bits and the id, two bytes each.
-fn volume_block(alloc: Global, bits: u16, volume: VolumeId) -> Result<Bytes, OutOfMemory>
-    ensures { IfOk result (λ block. block ≡ big_bytes 2 bits ++ big_bytes 2 volume.0) }
-{
-    let mut block = Bytes::new(alloc);
-    block.push_u16(bits)?;
-    block.push_u16(volume.0)?;
-    Ok(block)
 }

@@ -1,3 +1,4 @@
 pub mod Kept
 pub mod Changing
 pub mod Loading
+pub mod Asked

@@ -6,7 +6,7 @@ use Rattle.afp_serial.specs.Shown.{fits_frame, is_answer_to}
 use Rattle.afp_serial.specs.declared.ask.Ask.{Ask}
 use Rattle.afp_serial.specs.declared.ask.Entry.{Entry}
 use Rattle.afp_serial.proofs.Grows.{asked-adds}
-use Rattle.afp_serial.proofs.StaysSound.{answer-fits, answer-kind, stood-sound}
+use Rattle.afp_serial.proofs.StaysSound.{answer-fits, answer-kind, stand-sound, stood-sound}
 use Rattle.afp_core.specs.Counted.{IsCounted}
 use Rattle.afp_core.specs.Places.{upto, upto-longer}
 use Rattle.afp_core.proofs.TurnLemmas.{answer-told, turn-counted, turn-faults, turn-lawful, turn-stands, turn-tells, turn-kept}
@@ -20,9 +20,11 @@ invariant_of-self-in-Ok-step g c =
     let kept = ap (λ (a : Ask). entry c.args.now c.args.link a c.in-Ok-step.outcome) c.in-Ok.ensures in
     let items = c.push_reserved.ensures.items ∙ (λ i. c.reserve.ensures.items i ++ kept i ∷ []) in
     let stands = c.args.self.now.stands in
+    let lawful = subst (λ (l : List Entry). is_lawful begin.world l ≡ true) (sym items) (turn-lawful begin.world h c.args.self.now.core c.step.new.self e c.in-Ok-step.told stands c.in-Ok-step.ensures c.args.self.now.lawful) in
     record {
       sound = c.args.self.now.sound;
-      lawful = subst (λ (l : List Entry). is_lawful begin.world l ≡ true) (sym items) (turn-lawful begin.world h c.args.self.now.core c.step.new.self e c.in-Ok-step.told stands c.in-Ok-step.ensures c.args.self.now.lawful);
+      sound_at = stand-sound begin.world c.push_reserved.new.self.items c.args.self.now.sound lawful;
+      lawful = lawful;
       stands = turn-stands begin.world h c.args.self.now.core c.step.new.self e c.in-Ok-step.told stands c.in-Ok-step.ensures ∙ ap (stand begin.world) (sym items);
       counted = subst (λ (l : List Entry). IsCounted begin l c.step.new.self) (sym items)
           (turn-counted begin c.args.self.now.core c.step.new.self h e c.in-Ok-step.told stands c.in-Ok-step.ensures c.args.self.now.counted);

@@ -1,0 +1,50 @@
+//! The volumes by their ids.
+ghost use Rattle.std.specs.Prelude.{◌≡◌, ◌+◌, ◌<◌, None, Some, MatchOption, length, option_map, slice_get};
+ghost use Rattle.afp_serial.specs.Sessions.{volume_at};
+ghost use Rattle.afp_core.specs.OnOpened.{IsOpen};
+
+use crate::state::State;
+use afp_base::{SessionNumber, VolumeId};
+use kept_volume::KeptVolume;
+use record_keeper::Keeper;
+
+impl<K: Keeper> State<K> {
+    /// The index of the volume of an id: ids count from 1, in house order.
+    pub(crate) fn index(&self, volume: VolumeId) -> Option<usize>
+        ensures { MatchOption result (volume_at self.now.world.volumes volume.0 ≡ None) (λ index. (volume.0 ≡ index + 1) × (index < length self.now.world.volumes)) }
+    {
+        let id = volume.0 as usize;
+        if id == 0 || id > self.kept.len() {
+            return None;
+        }
+        Some(id - 1)
+    }
+
+    /// The same of a volume that the session has open.
+    pub(crate) fn opened(&self, session: SessionNumber, volume: VolumeId) -> Option<usize>
+        ensures { IsOpen self.now session.0 volume.0 result }
+    {
+        if !self.sessions.has_volume(session, volume) {
+            return None;
+        }
+        self.index(volume)
+    }
+
+    /// The volume at an index.
+    pub(crate) fn kept_at(&self, index: usize) -> &KeptVolume<K>
+        requires { index < length self.now.world.volumes }
+        ensures { slice_get self.now.world.volumes index ≡ Some result.now.state }
+    {
+        &self.kept[index]
+    }
+
+    /// How many nodes the volume of an id has, its root among them.
+    pub(crate) fn nodes(&self, v: VolumeId) -> Option<usize>
+        ensures { result ≡ option_map (λ volume. length volume.rows) (volume_at self.now.world.volumes v.0) }
+    {
+        match self.index(v) {
+            Some(index) => Some(self.kept_at(index).count()),
+            None => None,
+        }
+    }
+}

@@ -1,0 +1,73 @@
+//! FPOpenDir and FPCloseDir (AFP Reference, under these names). Directory ids are fixed: nothing is opened or closed.
+ghost use Rattle.std.specs.Prelude.{◌≡◌, IfOk};
+ghost use Rattle.afp_replies.specs.Replies.{canonical_reply};
+ghost use Rattle.afp_replies.specs.declared.reply.Reply.TheVariants.{Node};
+ghost use Rattle.afp_requests.specs.declared.call.Call.{Call};
+ghost use Rattle.afp_core.specs.OnOpened.{TellsNode};
+ghost use Rattle.afp_core.specs.Turn.{RunsRow};
+
+use crate::replies::{done, refused};
+use crate::state::State;
+use afp_base::{Bytes, Code, NodeId, OutOfMemory, SessionNumber, VolumeId};
+use afp_names::Path;
+use afp_serial::{Outcome, Told};
+use record_keeper::Keeper;
+use std::alloc::Global;
+use volume_tree::PlanFault;
+
+impl<K: Keeper> State<K> {
+    /// Tells the id of the directory that is found in a volume that the session has open.
+    pub(crate) fn open_dir(
+        &self,
+        session: SessionNumber,
+        volume: VolumeId,
+        dir: NodeId,
+        path: &Path,
+    ) -> Result<(Told, Outcome), OutOfMemory>
+        ensures { RunsRow self.now session.0 (Call.OpenDir volume dir path.now) result self.now }
+    {
+        let Some(index) = self.opened(session, volume) else {
+            return Ok((refused(self.alloc, Code::ParamErr), Outcome::Done));
+        };
+        let answer = self.kept_at(index).open_dir(self.alloc, dir, path);
+        told_node(self.alloc, answer)
+    }
+
+    /// Nothing, where the session has the volume open.
+    pub(crate) fn close_dir(
+        &self,
+        session: SessionNumber,
+        volume: VolumeId,
+        _dir: NodeId,
+    ) -> Result<(Told, Outcome), OutOfMemory>
+        ensures { RunsRow self.now session.0 (Call.CloseDir volume _dir) result self.now }
+    {
+        if !self.sessions.has_volume(session, volume) {
+            return Ok((refused(self.alloc, Code::ParamErr), Outcome::Done));
+        }
+        Ok((done(Bytes::new(self.alloc)), Outcome::Done))
+    }
+}
+
+/// What is told of a node that was found, or of why none was.
+fn told_node(
+    alloc: Global,
+    answer: Result<NodeId, PlanFault>,
+) -> Result<(Told, Outcome), OutOfMemory>
+    ensures { TellsNode answer result }
+{
+    match answer {
+        Ok(id) => Ok((done(node_block(alloc, id)?), Outcome::Done)),
+        Err(PlanFault::Code(code)) => Ok((refused(alloc, code), Outcome::Done)),
+        Err(PlanFault::Memory) => Err(OutOfMemory),
+    }
+}
+
+/// The bytes of a node's id.
+pub(crate) fn node_block(alloc: Global, id: NodeId) -> Result<Bytes, OutOfMemory>
+    ensures { IfOk result (λ block. block ≡ canonical_reply (Node id)) }
+{
+    let mut block = Bytes::new(alloc);
+    block.push_u32(id.0)?;
+    Ok(block)
+}
