@@ -59,6 +59,13 @@ impl<K: Keeper> ListTeller<K> {
     {
         &self.core
     }
+
+    /// The core, without its history.
+    pub fn into_core(self) -> Core<K>
+        ensures { result ≡ core_of self }
+    {
+        self.core
+    }
 }
 
 impl<K: Keeper> Teller for ListTeller<K> {

@@ -1,4 +1,5 @@
 pub mod Faultless
+pub mod HouseEnds
 pub mod LinksLemmas
 pub mod NineWords
 pub mod OneHouse

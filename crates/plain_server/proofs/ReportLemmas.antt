@@ -1,9 +1,9 @@
 -- A report is written from step to step.
-use Rattle.std.proofs.Common.{◌≡◌, ℕ, ◌-◌, ◌≤◌, List, ◌++◌, length, take, drop, length-drop, refl, sym, ap, ◌∙◌, append_assoc, arith}
+use Rattle.std.proofs.Common.{◌≡◌, ℕ, ◌-◌, ◌≤◌, List, ◌++◌, length, take, drop, length-drop, length-append, Bool, true, false, refl, sym, ap, ◌∙◌, append_assoc, arith}
 use Rattle.std.proofs.lemmas.List.{take-append-drop, take_all}
 use Rattle.std.specs.Prelude.{Option, Some, None, option_map}
 use Rattle.afp_outside.specs.Sink.{SinkState, SinkTakes}
-use Rattle.plain_server.specs.Reporting.{Reports}
+use Rattle.plain_server.specs.Reporting.{Reports, ReportsAll}
 
 added-added : (o : Option (List ℕ)) (xs ys : List ℕ) → option_map (λ before. before ++ ys) (option_map (λ before. before ++ xs) o) ≡ option_map (λ before. before ++ (xs ++ ys)) o
 added-added None xs ys = refl
@@ -22,3 +22,29 @@ reports-more a b c text sent left n split so_far w = (
     faults = omega (arith, so_far.faults, w.faults);
   },
 )
+
+-- a report in two parts
+pub reports-both : (a b c : SinkState) (x y : List ℕ) (all : Bool) → ReportsAll a x true b → ReportsAll b y all c → ReportsAll a (x ++ y) all c
+reports-both a b c x y true s t = record {
+  written = t.written ∙ ap (λ o. option_map (λ before. before ++ y) o) s.written ∙ added-added a.written x y;
+  faults = omega (arith, s.faults, t.faults);
+}
+reports-both a b c x y false s t = record {
+  part = x ++ t.part;
+  lost = t.lost;
+  some_lost = t.some_lost;
+  cut = append_assoc x t.part t.lost ∙ ap (λ (l : List ℕ). x ++ l) t.cut;
+  written = t.written ∙ ap (λ o. option_map (λ before. before ++ t.part) o) s.written ∙ added-added a.written x t.part;
+  fault = (omega (arith, s.faults, t.fault.0), omega (arith, s.faults, t.fault.0, t.fault.1));
+}
+
+-- a report that was cut in its first part
+pub reports-cut : (a b : SinkState) (x y : List ℕ) → ReportsAll a x false b → ReportsAll a (x ++ y) false b
+reports-cut a b x y p = record {
+  part = p.part;
+  lost = p.lost ++ y;
+  some_lost = omega (arith, p.some_lost, length-append p.lost y);
+  cut = sym (append_assoc p.part p.lost y) ∙ ap (λ (l : List ℕ). l ++ y) p.cut;
+  written = p.written;
+  fault = p.fault;
+}

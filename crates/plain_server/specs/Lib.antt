@@ -1,3 +1,4 @@
+pub mod Keeping
 pub mod Complete
 pub mod Links
 pub mod Plain

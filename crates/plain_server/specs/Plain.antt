@@ -1,5 +1,13 @@
 -- What a whole run of the server is, and its exit status (this profile).
-use Rattle.std.specs.Prelude.{◌≡◌, ◌⊎◌, ℕ, List, [], ◌∷◌, length, Option, None, IfSome}
+use Rattle.std.specs.Prelude.{◌≡◌, ◌⊎◌, ℕ, true, List, [], ◌∷◌, length, map, Option, None, IfSome, string_bytes, sum}
+use Rattle.std.specs.List.{list_all}
+use Rattle.hex.specs.Hex.{encode_lower}
+use Rattle.kept_volume.specs.Kept.{KeptState}
+use Rattle.kept_volume.specs.declared.load.LoadFault.{LoadFault}
+use Rattle.kept_volume.specs.declared.load.LoadFault.TheVariants as load
+use Rattle.afp_core.specs.Loads.{LoadEach, StopsAt}
+use Rattle.afp_core.specs.ServerState.{ServerState, volumes_of}
+use Rattle.afp_core.specs.Sureness.{SureKept}
 use Rattle.afp_core.specs.Places.{upto}
 use Rattle.afp_core.specs.declared.counts.Counts.{Counts}
 use Rattle.afp_base.specs.Counts.{counted}
@@ -11,9 +19,10 @@ use Rattle.afp_serial.specs.History.{opened_in}
 use Rattle.afp_serial.specs.Household.{Household, household}
 use Rattle.afp_serial.specs.HouseFault.{house_fault}
 use Rattle.afp_serial.specs.Shown.{Shown, IsSoundShown}
-use Rattle.afp_serial.specs.World.{fresh_world}
+use Rattle.afp_serial.specs.World.{start_world}
+use Rattle.plain_server.specs.Keeping.{Keeping}
 use Rattle.plain_server.specs.Links.{ServesUpTo}
-use Rattle.plain_server.specs.Reporting.{Reports, ReportsPart, bad_words, counts_line, no_memory}
+use Rattle.plain_server.specs.Reporting.{Reports, ReportsPart, bad_line, bad_words, counts_line, fault_line, no_memory}
 use Rattle.plain_server.specs.Words.{Spoken, IsWords}
 use Rattle.plain_server.specs.declared.links.DoorEnd.{DoorEnd}
 use Rattle.plain_server.specs.declared.links.DoorEnd.TheVariants as doors
@@ -29,62 +38,122 @@ pub record Asks (words : List (List ℕ)) (key : List ℕ) (spoken : Spoken) : T
   pub words_are : IsWords words spoken
   pub house_is : house_fault (house_of spoken key) ≡ None
 
--- the words are others, or the house that they ask for is refused
-abbrev pub IsRefused : List (List ℕ) → List ℕ → Type 0
-IsRefused words key = (spoken : Spoken) → Asks words key spoken → ⊥
+-- the words are others, or the house that they ask for is refused, or the number of keepers is not that of its volumes
+abbrev pub IsRefused : List (List ℕ) → List ℕ → ℕ → Type 0
+IsRefused words key many = (spoken : Spoken) → Asks words key spoken → many ≡ length (house_of spoken key).volumes → ⊥
 
--- what a server shows that nobody has asked yet, over a house that nobody has used, at a moment
-abbrev pub unasked : Household → ℕ → Shown
-unasked house now = record { start = fresh_world house now; history = []; mine = []; faults = 0 }
+-- what a server shows that nobody has asked yet, over a house and the volumes that were loaded at a moment
+abbrev pub unasked : Household → ℕ → List KeptState → Shown
+unasked house now kept = record { start = start_world house now (volumes_of kept); history = []; mine = []; faults = sum (map (λ k. k.faults) kept) }
+
+-- what a teller over a core shows that nobody has asked yet
+abbrev pub shown_at : ServerState → Shown
+shown_at core = record { start = core.world; history = []; mine = []; faults = sum core.faults }
 
 -- the counts of a history: its entries, and how many of them opened a session, each up to the last number of a count
 pub record AreCounts (shown : Shown) (counts : Counts) : Type 0 where
   pub entries : counts.entries ≡ counted (length shown.history) 0
   pub sessions : counts.sessions ≡ counted (opened_in shown.start shown.history) 0
 
--- The links of a door were served by a house, out of a history that began with it at a moment of the clock, up to so many; and they
--- ended so. The history is lawful from a sound start. Each of its entries is an ask of one of the links, and none of them met a fault,
--- since no keeper is there that might fail.
-pub record ServesHouse {L P : Type 0} (state : L → LinkState) (passed : P → Passed) (house : Household) (limit : ℕ) (clock : Option ℕ) (old : DoorState L) (end : DoorEnd) (new : DoorState L) (shown : Shown) : Type 0 where
+-- The volumes of a house were loaded from their keepers at a moment of the clock, and the links of a door were served, out of a history that
+-- began with them, up to so many; and they ended so. The history is lawful from a sound start. Each of its entries is an ask of one of the links,
+-- and where all keepers are sure, none has failed.
+pub record ServesHouse {L P K : Type 0} (state : L → LinkState) (passed : P → Passed) (kept_by : Keeping K) (house : Household) (keepers : List K) (limit : ℕ) (clock : Option ℕ) (old : DoorState L) (end : DoorEnd) (new : DoorState L) (shown : Shown) : Type 0 where
   pub now : ℕ
   pub told : IfSome clock (λ moment. now ≡ moment)
-  pub serves : ServesUpTo state passed house limit old (unasked house now) end new shown
+  pub kept : List KeptState
+  pub loaded : LoadEach kept_by.records kept_by.sure kept_by.faults now house.volumes keepers kept
+  pub serves : ServesUpTo state passed house limit old (unasked house now kept) end new shown
   pub sound : IsSoundShown shown
   pub own : shown.mine ≡ upto (length shown.history)
-  pub faultless : shown.faults ≡ 0
+  pub faultless : list_all kept_by.sure keepers ≡ true → shown.faults ≡ (unasked house now kept).faults
+
+-- The load of the volume at an index was the first that gave none.
+pub record FailsToLoad {K : Type 0} (kept_by : Keeping K) (house : Household) (keepers : List K) (clock : Option ℕ) (index : ℕ) (fault : LoadFault) : Type 0 where
+  pub now : ℕ
+  pub told : IfSome clock (λ moment. now ≡ moment)
+  pub stops : StopsAt kept_by.records kept_by.sure kept_by.faults now house.volumes keepers index fault
 
 -- The same for the words: by the house that they ask for, up to as many links as they say.
-pub record ServesWords {L P : Type 0} (state : L → LinkState) (passed : P → Passed) (words : List (List ℕ)) (key : List ℕ) (clock : Option ℕ) (old : DoorState L) (end : DoorEnd) (new : DoorState L) (shown : Shown) : Type 0 where
+pub record ServesWords {L P K : Type 0} (state : L → LinkState) (passed : P → Passed) (kept_by : Keeping K) (words : List (List ℕ)) (keepers : List K) (key : List ℕ) (clock : Option ℕ) (old : DoorState L) (end : DoorEnd) (new : DoorState L) (shown : Shown) : Type 0 where
   pub spoken : Spoken
   pub asks : Asks words key spoken
-  pub serves : ServesHouse state passed (house_of spoken key) spoken.links clock old end new shown
+  pub serves : ServesHouse state passed kept_by (house_of spoken key) keepers spoken.links clock old end new shown
 
-abbrev pub EndsHouse : {L P : Type 0} → (L → LinkState) → (P → Passed) → Household → ℕ → Option ℕ → DoorState L → DoorState L → PlainEnd → Type 0
-EndsHouse state passed house limit clock old new plain.Refused = ⊥
-EndsHouse state passed house limit clock old new plain.Memory = (new ≡ old) ⊎ ((shown : Shown) × ServesHouse state passed house limit clock old doors.Memory new shown)
-EndsHouse state passed house limit clock old new (plain.DoorFailed counts) = (shown : Shown) × ServesHouse state passed house limit clock old doors.Failed new shown × AreCounts shown counts
-EndsHouse state passed house limit clock old new (plain.Served counts) = (shown : Shown) × ServesHouse state passed house limit clock old doors.Done new shown × AreCounts shown counts
+pub record WordsFailToLoad {K : Type 0} (kept_by : Keeping K) (words : List (List ℕ)) (keepers : List K) (key : List ℕ) (clock : Option ℕ) (index : ℕ) (fault : LoadFault) : Type 0 where
+  pub spoken : Spoken
+  pub asks : Asks words key spoken
+  pub fails : FailsToLoad kept_by (house_of spoken key) keepers clock index fault
 
--- How a run ends, by its answer: the words are refused; there was no memory, before a link came or for one that came; the door
--- failed; or it was closed, or all links were served.
-abbrev pub EndsPlain : {L P : Type 0} → (L → LinkState) → (P → Passed) → List (List ℕ) → List ℕ → Option ℕ → DoorState L → DoorState L → PlainEnd → Type 0
-EndsPlain state passed words key clock old new plain.Refused = IsRefused words key × (new ≡ old)
-EndsPlain state passed words key clock old new plain.Memory = (new ≡ old) ⊎ ((shown : Shown) × ServesWords state passed words key clock old doors.Memory new shown)
-EndsPlain state passed words key clock old new (plain.DoorFailed counts) = (shown : Shown) × ServesWords state passed words key clock old doors.Failed new shown × AreCounts shown counts
-EndsPlain state passed words key clock old new (plain.Served counts) = (shown : Shown) × ServesWords state passed words key clock old doors.Done new shown × AreCounts shown counts
+-- The links of a door were served by a core, which nobody had asked before, as it says.
+pub record ServesCore {L P : Type 0} (state : L → LinkState) (passed : P → Passed) (house : Household) (core : ServerState) (limit : ℕ) (old : DoorState L) (end : DoorEnd) (new : DoorState L) (shown : Shown) : Type 0 where
+  pub serves : ServesUpTo state passed house limit old (shown_at core) end new shown
+  pub sound : IsSoundShown shown
+  pub own : shown.mine ≡ upto (length shown.history)
+  pub keeps : (done : ServerState) × SureKept core done × (shown.faults ≡ sum done.faults)
 
--- What is reported of such an end, and the exit status: 2 for refused words, 4 for the door and 0, or 5 where the report could not be
--- written; 6 for want of memory, written or not.
+-- its counts went on by the history
+pub record CoreCounts (core : ServerState) (shown : Shown) (counts : Counts) : Type 0 where
+  pub entries : counts.entries ≡ counted (length shown.history) core.entries
+  pub sessions : counts.sessions ≡ counted (opened_in shown.start shown.history) core.opened
+
+abbrev pub EndsCore : {L P : Type 0} → (L → LinkState) → (P → Passed) → Household → ServerState → ℕ → DoorState L → DoorState L → PlainEnd → Type 0
+EndsCore state passed house core limit old new plain.Memory = (shown : Shown) × ServesCore state passed house core limit old doors.Memory new shown
+EndsCore state passed house core limit old new (plain.DoorFailed counts) = (shown : Shown) × ServesCore state passed house core limit old doors.Failed new shown × CoreCounts core shown counts
+EndsCore state passed house core limit old new (plain.Served counts) = (shown : Shown) × ServesCore state passed house core limit old doors.Done new shown × CoreCounts core shown counts
+EndsCore state passed house core limit old new plain.Refused = ⊥
+EndsCore state passed house core limit old new (plain.BadRecord index hex reason) = ⊥
+EndsCore state passed house core limit old new (plain.LoadFailed index) = ⊥
+
+-- how a run ends, by why a load gave no volume
+abbrev pub EndsLoad : ℕ → LoadFault → PlainEnd → Type 0
+EndsLoad index fault plain.Memory = Unit {0}
+EndsLoad index fault (plain.BadRecord at_index hex reason) = (at_index ≡ index) × ((key : List ℕ) × (string_bytes hex ≡ encode_lower key) × (fault ≡ load.BadRecord key reason))
+EndsLoad index fault (plain.LoadFailed at_index) = (at_index ≡ index) × (fault ≡ load.Failed)
+EndsLoad index fault plain.Refused = ⊥
+EndsLoad index fault (plain.DoorFailed counts) = ⊥
+EndsLoad index fault (plain.Served counts) = ⊥
+
+abbrev pub EndsHouse : {L P K : Type 0} → (L → LinkState) → (P → Passed) → Keeping K → Household → List K → ℕ → Option ℕ → DoorState L → DoorState L → PlainEnd → Type 0
+EndsHouse state passed kept_by house keepers limit clock old new plain.Refused = (length keepers ≡ length house.volumes → ⊥) × (new ≡ old)
+EndsHouse state passed kept_by house keepers limit clock old new plain.Memory = (new ≡ old) ⊎ ((shown : Shown) × ServesHouse state passed kept_by house keepers limit clock old doors.Memory new shown)
+EndsHouse state passed kept_by house keepers limit clock old new (plain.BadRecord index hex reason) =
+    (new ≡ old) × ((key : List ℕ) × (string_bytes hex ≡ encode_lower key) × FailsToLoad kept_by house keepers clock index (load.BadRecord key reason))
+EndsHouse state passed kept_by house keepers limit clock old new (plain.LoadFailed index) = (new ≡ old) × FailsToLoad kept_by house keepers clock index load.Failed
+EndsHouse state passed kept_by house keepers limit clock old new (plain.DoorFailed counts) =
+    (shown : Shown) × ServesHouse state passed kept_by house keepers limit clock old doors.Failed new shown × AreCounts shown counts
+EndsHouse state passed kept_by house keepers limit clock old new (plain.Served counts) =
+    (shown : Shown) × ServesHouse state passed kept_by house keepers limit clock old doors.Done new shown × AreCounts shown counts
+
+-- How a run ends, by its answer: the words or the number of keepers are refused; there was no memory, before a link came or for one that came;
+-- the first load that gave no volume; the door failed; or it was closed, or all links were served.
+abbrev pub EndsPlain : {L P K : Type 0} → (L → LinkState) → (P → Passed) → Keeping K → List (List ℕ) → List K → List ℕ → Option ℕ → DoorState L → DoorState L → PlainEnd → Type 0
+EndsPlain state passed kept_by words keepers key clock old new plain.Refused = IsRefused words key (length keepers) × (new ≡ old)
+EndsPlain state passed kept_by words keepers key clock old new plain.Memory = (new ≡ old) ⊎ ((shown : Shown) × ServesWords state passed kept_by words keepers key clock old doors.Memory new shown)
+EndsPlain state passed kept_by words keepers key clock old new (plain.BadRecord index hex reason) =
+    (new ≡ old) × ((key_of : List ℕ) × (string_bytes hex ≡ encode_lower key_of) × WordsFailToLoad kept_by words keepers key clock index (load.BadRecord key_of reason))
+EndsPlain state passed kept_by words keepers key clock old new (plain.LoadFailed index) = (new ≡ old) × WordsFailToLoad kept_by words keepers key clock index load.Failed
+EndsPlain state passed kept_by words keepers key clock old new (plain.DoorFailed counts) =
+    (shown : Shown) × ServesWords state passed kept_by words keepers key clock old doors.Failed new shown × AreCounts shown counts
+EndsPlain state passed kept_by words keepers key clock old new (plain.Served counts) =
+    (shown : Shown) × ServesWords state passed kept_by words keepers key clock old doors.Done new shown × AreCounts shown counts
+
+-- the text was reported, with this status; or it could not be, with status 5
+abbrev pub TellsStatus : ℕ → List ℕ → SinkState → SinkState → ℕ → Type 0
+TellsStatus good text old new status = ((status ≡ good) × Reports old text new) ⊎ ((status ≡ 5) × ReportsPart old text new)
+
+-- What is reported of such an end, and the exit status: 2 for refused words, 3 for a load that gave no volume, 4 for the door and 0, or 5 where
+-- the report could not be written; 6 for want of memory, written or not.
 abbrev pub Status : PlainEnd → SinkState → SinkState → ℕ → Type 0
-Status plain.Refused old new status = ((status ≡ 2) × Reports old bad_words new) ⊎ ((status ≡ 5) × ReportsPart old bad_words new)
+Status plain.Refused old new status = TellsStatus 2 bad_words old new status
 Status plain.Memory old new status = (status ≡ 6) × (Reports old no_memory new ⊎ ReportsPart old no_memory new)
-Status (plain.DoorFailed counts) old new status =
-    ((status ≡ 4) × Reports old (counts_line counts.entries counts.sessions) new) ⊎ ((status ≡ 5) × ReportsPart old (counts_line counts.entries counts.sessions) new)
-Status (plain.Served counts) old new status =
-    ((status ≡ 0) × Reports old (counts_line counts.entries counts.sessions) new) ⊎ ((status ≡ 5) × ReportsPart old (counts_line counts.entries counts.sessions) new)
+Status (plain.BadRecord index hex reason) old new status = TellsStatus 3 (bad_line index (string_bytes hex) reason) old new status
+Status (plain.LoadFailed index) old new status = TellsStatus 3 (fault_line index) old new status
+Status (plain.DoorFailed counts) old new status = TellsStatus 4 (counts_line counts.entries counts.sessions) old new status
+Status (plain.Served counts) old new status = TellsStatus 0 (counts_line counts.entries counts.sessions) old new status
 
 -- a whole run: how it ended, with what it did to the door, the report and the status
-pub record IsPlainRun {L P : Type 0} (state : L → LinkState) (passed : P → Passed) (words : List (List ℕ)) (key : List ℕ) (clock : Option ℕ) (old new : DoorState L) (before after : SinkState) (status : ℕ) : Type 0 where
+pub record IsPlainRun {L P K : Type 0} (state : L → LinkState) (passed : P → Passed) (kept_by : Keeping K) (words : List (List ℕ)) (keepers : List K) (key : List ℕ) (clock : Option ℕ) (old new : DoorState L) (before after : SinkState) (status : ℕ) : Type 0 where
   pub answer : PlainEnd
-  pub ends : EndsPlain state passed words key clock old new answer
+  pub ends : EndsPlain state passed kept_by words keepers key clock old new answer
   pub reported : Status answer before after status

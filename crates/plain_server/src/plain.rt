@@ -1,26 +1,38 @@
 //! The whole server: it reads its words, serves the links that come through its door, and reports.
 ghost use Rattle.std.specs.Prelude.{◌≡◌, ◌≢◌, ◌∷◌, [], length, Some, false, map, string_bytes, IfOk, IfErr, None};
 ghost use Rattle.afp_serial.specs.HouseFault.{house_fault};
-ghost use Rattle.plain_server.specs.Links.{ServesUpTo};
 ghost use Rattle.plain_server.specs.Spoken.{spoken_of};
-ghost use Rattle.plain_server.specs.Plain.{house_of, EndsPlain, EndsHouse, Status, IsPlainRun};
+ghost use Rattle.plain_server.specs.Keeping.{keeping};
+ghost use Rattle.plain_server.specs.Plain.{house_of, EndsCore, EndsLoad, EndsPlain, EndsHouse, Status, IsPlainRun};
 
 use crate::links::{DoorEnd, serve_links};
-use crate::report::{report_all, report_counts};
+use crate::report::{report_all, report_bad, report_counts, report_fault};
 use crate::words::{WordFault, Words, read_words};
 use afp_base::{Bytes, OutOfMemory};
-use afp_core::{Core, Counts, ListTeller};
+use afp_core::{Core, CoreFault, Counts, ListTeller};
 use afp_outside::{Clock, Gate, Listener, Sink};
 use afp_serial::{House, HouseFault};
+use kept_volume::{LoadFault, Reason};
+use record_keeper::Keeper;
 use std::alloc::Global;
 
 /// How a run of the server ends.
-#[derive(Clone, Copy)]
+#[derive(Drop)]
 pub enum PlainEnd {
-    /// The words are others, or the house that they ask for is refused.
+    /// The words are others, or the house that they ask for is refused, or the number of keepers is not that of its volumes.
     Refused,
     /// There was no memory.
     Memory,
+    /// The keeper of the volume at this index, from 0, holds a record that no volume of that name has: its key in hexadecimal, and why.
+    BadRecord {
+        index: usize,
+        key: String,
+        reason: Reason,
+    },
+    /// The keeper of the volume at this index, from 0, failed while its volume was loaded.
+    LoadFailed {
+        index: usize,
+    },
     /// The door failed.
     DoorFailed(Counts),
     /// As many links as the words say were served, or the door is closed.
@@ -57,26 +69,23 @@ fn house_for(alloc: Global, words: &Words<'_>, token_key: [u8; 32]) -> Result<Ho
     )
 }
 
-/// Serves a house of one volume, up to so many links.
-fn serve_house<N: Listener, C: Clock, G: Gate>(
+/// Serves a house whose volumes were loaded, up to so many links, and settles its keepers.
+fn serve_core<K: Keeper, N: Listener, G: Gate>(
     alloc: Global,
     house: &House,
+    core: Core<K>,
     links: u64,
     door: &mut N,
-    clock: &C,
     gate: &G,
 ) -> PlainEnd
-    requires open { (N.door_state door.old).closed ≡ false }
-    requires one { length house.now.volumes ≡ 1 }
-    ensures { EndsHouse N.Link.link_state G.passed house.now links (C.moment_told clock.now) (N.door_state door.old) (N.door_state door.new) result }
+    requires { (N.door_state door.old).closed ≡ false }
+    ensures { EndsCore N.Link.link_state G.passed house.now core links (N.door_state door.old) (N.door_state door.new) result }
 {
-    // A house of one volume has a core, but for want of memory.
-    let Ok(core) = Core::new(alloc, house, clock.now()) else {
-        return PlainEnd::Memory;
-    };
     let mut teller = ListTeller::new(alloc, core);
     let end = serve_links(alloc, house, door, &mut teller, gate, links);
     let counts = teller.core().counts();
+    // A settle that fails has no place in the report.
+    let _retired = teller.into_core().retire();
     match end {
         DoorEnd::Done => PlainEnd::Served(counts),
         DoorEnd::Failed => PlainEnd::DoorFailed(counts),
@@ -84,21 +93,57 @@ fn serve_house<N: Listener, C: Clock, G: Gate>(
     }
 }
 
+/// How a run ends whose volumes could not be loaded.
+fn load_end(alloc: Global, index: usize, fault: LoadFault) -> PlainEnd
+    ensures { EndsLoad index fault result }
+{
+    match fault {
+        LoadFault::BadRecord { key, reason } => match hex::encode(alloc, key.as_slice()) {
+            Ok(key) => PlainEnd::BadRecord { index, key, reason },
+            Err(_) => PlainEnd::Memory,
+        },
+        LoadFault::Failed => PlainEnd::LoadFailed { index },
+        LoadFault::Memory => PlainEnd::Memory,
+    }
+}
+
+/// Serves a house, whose volumes are loaded from these keepers, up to so many links.
+fn serve_house<K: Keeper, N: Listener, C: Clock, G: Gate>(
+    alloc: Global,
+    house: &House,
+    keepers: Vec<K>,
+    links: u64,
+    door: &mut N,
+    clock: &C,
+    gate: &G,
+) -> PlainEnd
+    requires { (N.door_state door.old).closed ≡ false }
+    ensures { EndsHouse N.Link.link_state G.passed (keeping K.records K.sure K.faults) house.now keepers.items links (C.moment_told clock.now) (N.door_state door.old) (N.door_state door.new) result }
+{
+    match Core::new(alloc, house, keepers, clock.now()) {
+        Ok(core) => serve_core(alloc, house, core, links, door, gate),
+        Err(CoreFault::Count) => PlainEnd::Refused,
+        Err(CoreFault::Load { index, fault }) => load_end(alloc, index, fault),
+        Err(CoreFault::Memory) => PlainEnd::Memory,
+    }
+}
+
 /// The run, without its report.
-fn run<N: Listener, C: Clock, G: Gate>(
+fn run<K: Keeper, N: Listener, C: Clock, G: Gate>(
     alloc: Global,
     words: &[String],
+    keepers: Vec<K>,
     door: &mut N,
     clock: &C,
     gate: &G,
     token_key: [u8; 32],
 ) -> PlainEnd
     requires { (N.door_state door.old).closed ≡ false }
-    ensures { EndsPlain N.Link.link_state G.passed (map (λ word. string_bytes word) words.now) token_key (C.moment_told clock.now) (N.door_state door.old) (N.door_state door.new) result }
+    ensures { EndsPlain N.Link.link_state G.passed (keeping K.records K.sure K.faults) (map (λ word. string_bytes word) words.now) keepers.items token_key (C.moment_told clock.now) (N.door_state door.old) (N.door_state door.new) result }
 {
     match read_words(alloc, words) {
         Ok(words) => match house_for(alloc, &words, token_key) {
-            Ok(house) => serve_house(alloc, &house, words.links, door, clock, gate),
+            Ok(house) => serve_house(alloc, &house, keepers, words.links, door, clock, gate),
             Err(fault) => match fault {
                 HouseFault::Memory => PlainEnd::Memory,
                 _ => PlainEnd::Refused,
@@ -130,6 +175,14 @@ pub fn report_end<O: Sink>(end: PlainEnd, report: &mut O) -> u8
                 5
             }
         }
+        PlainEnd::BadRecord { index, key, reason } => {
+            if report_bad(report, index, key.as_str().as_bytes(), reason) {
+                3
+            } else {
+                5
+            }
+        }
+        PlainEnd::LoadFailed { index } => { if report_fault(report, index) { 3 } else { 5 } }
         PlainEnd::Refused => {
             if report_all(report, b"bad words\n") {
                 2
@@ -144,17 +197,11 @@ pub fn report_end<O: Sink>(end: PlainEnd, report: &mut O) -> u8
     }
 }
 
-/// The whole server over one door: it serves its links one after the other out of one history, hands each
-/// back, and gives the exit status.
-///
-/// The words are `--server NAME --signature HEX --port N --links N VOLUME=memory`. The status is 2 where
-/// the words are others or the house is refused, with the report `bad words`; 6 for want of memory before a link
-/// was read, with the report `no memory`; 4 where the door failed; 0 where as many links as the words say were
-/// served, or the door is closed; both with the report `entries N sessions M`; and 5 where the report could not
-/// be written.
-pub fn afpd_plain<N: Listener, C: Clock, G: Gate, O: Sink>(
+/// The same over keepers of one kind.
+fn serve_all<K: Keeper, N: Listener, C: Clock, G: Gate, O: Sink>(
     alloc: Global,
     words: &[String],
+    keepers: Vec<K>,
     door: &mut N,
     clock: &C,
     gate: &G,
@@ -162,8 +209,33 @@ pub fn afpd_plain<N: Listener, C: Clock, G: Gate, O: Sink>(
     report: &mut O,
 ) -> u8
     requires { (N.door_state door.old).closed ≡ false }
-    ensures { IsPlainRun N.Link.link_state G.passed (map (λ word. string_bytes word) words.now) token_key (C.moment_told clock.now) (N.door_state door.old) (N.door_state door.new) (O.sink_state report.old) (O.sink_state report.new) result }
+    ensures { IsPlainRun N.Link.link_state G.passed (keeping K.records K.sure K.faults) (map (λ word. string_bytes word) words.now) keepers.items token_key (C.moment_told clock.now) (N.door_state door.old) (N.door_state door.new) (O.sink_state report.old) (O.sink_state report.new) result }
 {
-    let end = run(alloc, words, door, clock, gate, token_key);
+    let end = run(alloc, words, keepers, door, clock, gate, token_key);
     report_end(end, report)
+}
+
+/// The whole server over one door: it loads the volumes from their keepers, in the order of the words, serves the links one after the other out
+/// of one history, hands each back, settles the keepers, and gives the exit status.
+///
+/// The words are `--server NAME --signature HEX --port N --links N VOLUME=memory`. The status is 2 where
+/// the words are others, the house is refused, or the number of keepers is not that of the volumes, with the report `bad words`; 3 where a load gave no
+/// volume, with the report `load I bad KEY REASON` or `load I fault`, I from 1 and KEY in hexadecimal; 6 for want of memory before a link
+/// was read, with the report `no memory`; 4 where the door failed; 0 where as many links as the words say were
+/// served, or the door is closed; both with the report `entries N sessions M`; and 5 where the report could not
+/// be written.
+pub fn afpd_plain<N: Listener, C: Clock, G: Gate, O: Sink>(
+    alloc: Global,
+    words: &[String],
+    keepers: Vec<Box<dyn Keeper + Send>>,
+    door: &mut N,
+    clock: &C,
+    gate: &G,
+    token_key: [u8; 32],
+    report: &mut O,
+) -> u8
+    requires { (N.door_state door.old).closed ≡ false }
+    ensures { IsPlainRun N.Link.link_state G.passed (keeping records sure faults) (map (λ word. string_bytes word) words.now) keepers.items token_key (C.moment_told clock.now) (N.door_state door.old) (N.door_state door.new) (O.sink_state report.old) (O.sink_state report.new) result }
+{
+    serve_all(alloc, words, keepers, door, clock, gate, token_key, report)
 }

@@ -1,10 +1,11 @@
 //! Writing whole reports.
 ghost use Rattle.std.specs.Prelude.{◌≡◌, ◌+◌, ◌≤◌, ◌++◌, length, drop};
 ghost use Rattle.std.specs.Fmt.{decimal};
-ghost use Rattle.plain_server.specs.Reporting.{ReportsAll, counts_line};
+ghost use Rattle.plain_server.specs.Reporting.{ReportsAll, bad_line, counts_line, fault_line, load_text, reason_text};
 
 use afp_outside::{Sink, Wrote};
 use itoa::write_digits;
+use kept_volume::Reason;
 
 /// Writes the whole text, in as many writes as the sink takes. `false`: a write failed, and what was
 /// written is a first part of it.
@@ -67,4 +68,54 @@ pub fn report_counts<O: Sink>(report: &mut O, entries: u64, sessions: u64) -> bo
     let mut line = [0; LINE];
     let start = put_counts(&mut line, entries, sessions);
     report_all(report, &line[start..])
+}
+
+/// The words that say why a record is refused.
+fn reason_text(reason: Reason) -> &'static [u8]
+    ensures { result.now ≡ reason_text reason }
+{
+    match reason {
+        Reason::Shape => b" shape\n",
+        Reason::Parent => b" parent\n",
+        Reason::Twin => b" twin\n",
+        Reason::Range => b" range\n",
+        Reason::Limit => b" limit\n",
+    }
+}
+
+/// Writes which volume could not be loaded, by its index from 0. `false`: a write failed.
+fn report_load<O: Sink>(report: &mut O, index: usize) -> bool
+    ensures { ReportsAll (O.sink_state report.old) (load_text index) result (O.sink_state report.new) }
+{
+    let mut line = [0; LINE];
+    let end = line.len();
+    let start = put_number_before(&mut line, end, (index as u64).saturating_add(1));
+    let start = put_before(&mut line, start, b"load ");
+    report_all(report, &line[start..])
+}
+
+/// Writes that the keeper of a volume failed while it was loaded. `false`: a write failed.
+pub fn report_fault<O: Sink>(report: &mut O, index: usize) -> bool
+    ensures { ReportsAll (O.sink_state report.old) (fault_line index) result (O.sink_state report.new) }
+{
+    if !report_load(report, index) {
+        return false;
+    }
+    report_all(report, b" fault\n")
+}
+
+/// Writes which record no volume has, by its key in hexadecimal, and why. `false`: a write failed.
+pub fn report_bad<O: Sink>(report: &mut O, index: usize, key: &[u8], reason: Reason) -> bool
+    ensures { ReportsAll (O.sink_state report.old) (bad_line index key.now reason) result (O.sink_state report.new) }
+{
+    if !report_load(report, index) {
+        return false;
+    }
+    if !report_all(report, b" bad ") {
+        return false;
+    }
+    if !report_all(report, key) {
+        return false;
+    }
+    report_all(report, reason_text(reason))
 }
