@@ -3,11 +3,14 @@
 
 ghost use Rattle.std.specs.Prelude.{◌≡◌, false, IfOk};
 
+use afp_base::OutOfMemory;
 use afp_core::Counts;
 use afp_outside::{OpenGate, StdSink, SystemClock, TcpDoor};
 use plain_server::plain::{PlainEnd, afpd_plain, report_end};
 use plain_server::setup::setup;
 use plain_server::words::WordFault;
+use record_keeper::{Keeper, MemoryKeeper};
+use std::alloc::Global;
 use std::io::ErrorKind;
 use std::process::ExitCode;
 use std::random::RandomSource;
@@ -44,6 +47,26 @@ fn door_of<'a>(rt: &'a HostRuntime, words: &[String]) -> Result<TcpDoor<&'a Host
     }
 }
 
+/// One new keeper in memory, which never fails, for each volume that the words name; none, where they are others.
+fn keepers_of(
+    rt: &HostRuntime,
+    words: &[String],
+) -> Result<Vec<Box<dyn Keeper + Send>>, OutOfMemory> {
+    let mut keepers = Vec::new(rt.alloc());
+    if let Ok(settings) = setup(rt.alloc(), words) {
+        for _ in 0..settings.places.len() {
+            keepers.push(memory_keeper(rt.alloc())?)?;
+        }
+    }
+    Ok(keepers)
+}
+
+/// A new keeper in memory, in a box.
+fn memory_keeper(alloc: Global) -> Result<Box<dyn Keeper + Send>, OutOfMemory> {
+    let keeper = Box::new(alloc, MemoryKeeper::new(alloc, Vec::new(alloc)))?;
+    Ok(keeper)
+}
+
 /// A key of session tokens, from the system's randomness.
 fn token_key(rt: &HostRuntime) -> io::Result<[u8; 32]> {
     let mut key = [0; 32];
@@ -69,8 +92,20 @@ fn serve(
             report,
         );
     };
+    let Ok(keepers) = keepers_of(rt, words) else {
+        return report_end(PlainEnd::Memory, report);
+    };
     let clock = SystemClock::new(rt);
-    afpd_plain(rt.alloc(), words, door, &clock, &OpenGate, key, report)
+    afpd_plain(
+        rt.alloc(),
+        words,
+        keepers,
+        door,
+        &clock,
+        &OpenGate,
+        key,
+        report,
+    )
 }
 
 /// Serves what the words ask for, and gives the exit status.

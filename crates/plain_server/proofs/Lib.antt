@@ -1,8 +1,9 @@
 pub mod Faultless
 pub mod HouseEnds
 pub mod LinksLemmas
-pub mod NineWords
+pub mod EightWords
 pub mod OneHouse
 pub mod PlainLaws
 pub mod Ports
+pub mod VolumeWords
 pub mod ReportLemmas

@@ -1,5 +1,5 @@
 -- What a whole run of the server is, and its exit status (this profile).
-use Rattle.std.specs.Prelude.{◌≡◌, ◌⊎◌, ℕ, true, List, [], ◌∷◌, length, map, Option, None, IfSome, string_bytes, sum}
+use Rattle.std.specs.Prelude.{◌≡◌, ◌⊎◌, ℕ, true, List, [], length, map, Option, None, IfSome, string_bytes, sum}
 use Rattle.std.specs.List.{list_all}
 use Rattle.hex.specs.Hex.{encode_lower}
 use Rattle.kept_volume.specs.Kept.{KeptState}
@@ -29,9 +29,9 @@ use Rattle.plain_server.specs.declared.links.DoorEnd.TheVariants as doors
 use Rattle.plain_server.specs.declared.plain.PlainEnd.{PlainEnd}
 use Rattle.plain_server.specs.declared.plain.PlainEnd.TheVariants as plain
 
--- the house that the words ask for: no users, the one volume, no message, and this key of session tokens
+-- the house that the words ask for: no users, the volumes, no message, and this key of session tokens
 abbrev pub house_of : Spoken → List ℕ → Household
-house_of s key = household s.server s.signature [] (s.volume ∷ []) [] key
+house_of s key = household s.server s.signature [] s.volumes [] key
 
 -- the words ask for a house that is taken
 pub record Asks (words : List (List ℕ)) (key : List ℕ) (spoken : Spoken) : Type 0 where

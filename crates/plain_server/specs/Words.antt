@@ -1,21 +1,34 @@
 -- The words of the server's command line (this profile).
-use Rattle.std.specs.Prelude.{◌≡◌, ◌==◌, ℕ, ◌<◌, ◌≤◌, ◌^◌, List, [], ◌∷◌, ◌++◌, codes, false, Ok}
+use Rattle.std.specs.Prelude.{◌≡◌, ◌==◌, ℕ, ◌-◌, ◌<◌, ◌≤◌, ◌^◌, Bool, not, ◌&&◌, List, [], ◌∷◌, ◌++◌, length, take, drop, bytes_eq, codes, false, Ok}
 use Rattle.std.specs.List.{list_any}
 use Rattle.std.specs.Fmt.{decimal}
 use Rattle.hex.specs.Hex.{decode_sized}
 
--- what they say: the server's name, its signature, its TCP port, how many links it serves, and the volume's name
+-- what they say: the server's name, its signature, its TCP port, how many links it serves, and the volumes' names
 pub record Spoken : Type 0 where
   pub server : List ℕ
   pub signature : List ℕ
   pub port : ℕ
   pub links : ℕ
-  pub volume : List ℕ
+  pub volumes : List (List ℕ)
 
 -- a volume that is kept in memory: its name, and the place behind the first =
 pub record IsMemoryVolume (word name : List ℕ) : Type 0 where
   pub whole : word ≡ name ++ codes "=memory"
   pub no_equals : list_any (λ byte. byte == 61) name ≡ false
+
+-- the name in front of the place of a volume, and whether the word is a volume that is kept in memory
+abbrev pub name_in : List ℕ → List ℕ
+name_in word = take (length word - 7) word
+
+abbrev pub is_memory_volume : List ℕ → Bool
+is_memory_volume word = bytes_eq (drop (length word - 7) word) (codes "=memory") && not (list_any (λ byte. byte == 61) (name_in word))
+
+-- each word is a volume that is kept in memory, of this name
+abbrev pub AreMemoryVolumes : List (List ℕ) → List (List ℕ) → Type 0
+AreMemoryVolumes [] [] = Unit {0}
+AreMemoryVolumes (word ∷ words) (name ∷ names) = IsMemoryVolume word name × AreMemoryVolumes words names
+AreMemoryVolumes words names = ⊥
 
 -- the most links that may be asked for
 abbrev pub most_links : ℕ
@@ -27,15 +40,16 @@ pub record IsNumberOfLinks (word : List ℕ) (links : ℕ) : Type 0 where
   pub least : 1 ≤ links
   pub most : links ≤ most_links
 
--- The nine words in their order: the name of the server, 32 hexadecimal digits of the signature, the
--- port and the number of links in decimal, and a volume in memory.
+-- The words in their order: the name of the server, 32 hexadecimal digits of the signature, the
+-- port and the number of links in decimal, and volumes in memory, one at least.
 pub record IsWords (words : List (List ℕ)) (spoken : Spoken) : Type 0 where
   pub hex : List ℕ
   pub links : List ℕ
-  pub place : List ℕ
+  pub places : List (List ℕ)
   pub whole : words ≡ codes "--server" ∷ spoken.server ∷ codes "--signature" ∷ hex ∷ codes "--port" ∷ decimal spoken.port
-      ∷ codes "--links" ∷ links ∷ place ∷ []
+      ∷ codes "--links" ∷ links ∷ places
   pub signature : decode_sized hex 16 ≡ Ok spoken.signature
   pub port : spoken.port < 2 ^ 16
   pub links_are : IsNumberOfLinks links spoken.links
-  pub volume : IsMemoryVolume place spoken.volume
+  pub some : 1 ≤ length places
+  pub volumes : AreMemoryVolumes places spoken.volumes

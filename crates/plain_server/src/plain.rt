@@ -2,12 +2,13 @@
 ghost use Rattle.std.specs.Prelude.{◌≡◌, ◌≢◌, ◌∷◌, [], length, Some, false, map, string_bytes, IfOk, IfErr, None};
 ghost use Rattle.afp_serial.specs.HouseFault.{house_fault};
 ghost use Rattle.plain_server.specs.Spoken.{spoken_of};
+ghost use Rattle.plain_server.specs.Words.{name_in};
 ghost use Rattle.plain_server.specs.Keeping.{keeping};
 ghost use Rattle.plain_server.specs.Plain.{house_of, EndsCore, EndsLoad, EndsPlain, EndsHouse, Status, IsPlainRun};
 
 use crate::links::{DoorEnd, serve_links};
 use crate::report::{report_all, report_bad, report_counts, report_fault};
-use crate::words::{WordFault, Words, read_words};
+use crate::words::{WordFault, Words, name_of, read_words};
 use afp_base::{Bytes, OutOfMemory};
 use afp_core::{Core, CoreFault, Counts, ListTeller};
 use afp_outside::{Clock, Gate, Listener, Sink};
@@ -39,14 +40,23 @@ pub enum PlainEnd {
     Served(Counts),
 }
 
-/// The names of the one volume.
-fn one_volume(alloc: Global, name: &[u8]) -> Result<Vec<Bytes>, OutOfMemory>
-    ensures { IfOk result (λ volumes. volumes.items ≡ name.now ∷ []) }
+/// The name of a volume, owned.
+fn volume_name(alloc: Global, place: &String) -> Result<Bytes, OutOfMemory>
+    ensures { IfOk result (λ name. name ≡ name_in (string_bytes place.now)) }
 {
-    let mut volume = Bytes::new(alloc);
-    volume.extend(name)?;
+    let mut name = Bytes::new(alloc);
+    name.extend(name_of(place.as_bytes()))?;
+    Ok(name)
+}
+
+/// The names of the volumes.
+fn volume_names(alloc: Global, places: &[String]) -> Result<Vec<Bytes>, OutOfMemory>
+    ensures { IfOk result (λ volumes. volumes.items ≡ map (λ place. name_in (string_bytes place)) places.now) }
+{
     let mut volumes = Vec::new(alloc);
-    volumes.push(volume)?;
+    for place in places {
+        volumes.push(volume_name(alloc, place)?)?;
+    }
     Ok(volumes)
 }
 
@@ -56,7 +66,7 @@ fn house_for(alloc: Global, words: &Words<'_>, token_key: [u8; 32]) -> Result<Ho
     ensures sound { IfOk result (λ house. house_fault (house_of (spoken_of words.now) token_key) ≡ None) }
     ensures fault { IfErr result (λ fault. fault ≢ HouseFault.Memory → house_fault (house_of (spoken_of words.now) token_key) ≡ Some fault) }
 {
-    let volumes = one_volume(alloc, words.volume)?;
+    let volumes = volume_names(alloc, words.places)?;
     let users = Vec::new(alloc);
     House::new(
         alloc,
@@ -218,7 +228,7 @@ fn serve_all<K: Keeper, N: Listener, C: Clock, G: Gate, O: Sink>(
 /// The whole server over one door: it loads the volumes from their keepers, in the order of the words, serves the links one after the other out
 /// of one history, hands each back, settles the keepers, and gives the exit status.
 ///
-/// The words are `--server NAME --signature HEX --port N --links N VOLUME=memory`. The status is 2 where
+/// The words are `--server NAME --signature HEX --port N --links N VOLUME=memory ..`, with 1 to 8 volumes. The status is 2 where
 /// the words are others, the house is refused, or the number of keepers is not that of the volumes, with the report `bad words`; 3 where a load gave no
 /// volume, with the report `load I bad KEY REASON` or `load I fault`, I from 1 and KEY in hexadecimal; 6 for want of memory before a link
 /// was read, with the report `no memory`; 4 where the door failed; 0 where as many links as the words say were

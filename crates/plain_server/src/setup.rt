@@ -4,7 +4,7 @@ ghost use Rattle.plain_server.specs.Words.{Spoken, IsWords};
 ghost use Rattle.plain_server.specs.Setup.{Sets};
 
 use crate::words::{WordFault, read_words};
-use afp_base::Bytes;
+use afp_base::{Bytes, OutOfMemory};
 use std::alloc::Global;
 
 /// Where a volume is kept.
@@ -34,10 +34,9 @@ pub fn setup(alloc: Global, words: &[String]) -> Result<Settings, WordFault>
     match read_words(alloc, words) {
         Err(fault) => Err(fault),
         Ok(words) => {
-            let mut places = Vec::new(alloc);
-            if places.push(Place::Memory).is_err() {
+            let Ok(places) = places_of(alloc, words.places) else {
                 return Err(WordFault::Memory);
-            }
+            };
             Ok(Settings {
                 places,
                 port: words.port,
@@ -46,4 +45,15 @@ pub fn setup(alloc: Global, words: &[String]) -> Result<Settings, WordFault>
             })
         }
     }
+}
+
+/// Where the volumes are kept: each in memory.
+fn places_of(alloc: Global, volumes: &[String]) -> Result<Vec<Place>, OutOfMemory>
+    ensures { IfOk result (λ places. places.items ≡ map (λ volume. Place.Memory) volumes.now) }
+{
+    let mut places = Vec::new(alloc);
+    for _ in volumes {
+        places.push(Place::Memory)?;
+    }
+    Ok(places)
 }

@@ -1,10 +1,10 @@
 //! The words of the command line.
-ghost use Rattle.std.specs.Prelude.{◌≡◌, ◌↔◌, ◌==◌, ◌<◌, ◌^◌, ◌++◌, ◌∷◌, [], ℕ, List, map, codes, string_bytes, Ok, IfOk, IfSome, IfNone, IsTrue, IsErrOf};
+ghost use Rattle.std.specs.Prelude.{◌≡◌, ◌↔◌, ◌==◌, ◌<◌, ◌≤◌, ◌^◌, ℕ, length, drop, map, codes, string_bytes, Ok, IfOk, IsTrue, IsErrOf};
 ghost use Rattle.std.specs.Fmt.{decimal};
-ghost use Rattle.std.specs.List.{list_any};
+ghost use Rattle.std.specs.List.{list_all, list_any};
 ghost use Rattle.std.specs.Result.{result_ok};
 ghost use Rattle.hex.specs.Hex.{decode_sized};
-ghost use Rattle.plain_server.specs.Words.{Spoken, IsWords, IsMemoryVolume, IsNumberOfLinks};
+ghost use Rattle.plain_server.specs.Words.{Spoken, IsWords, IsNumberOfLinks, is_memory_volume, name_in};
 ghost use Rattle.plain_server.specs.Spoken.{spoken_of};
 
 use std::alloc::{AllocError, Global};
@@ -19,14 +19,14 @@ pub enum WordFault {
 }
 
 /// What the words say: the server's name, its signature of 16 bytes, its TCP port, how many links it
-/// serves, and the name of its volume, which is kept in memory.
+/// serves, and its volumes, as words of their own.
 #[derive(Drop)]
 pub struct Words<'a> {
     pub server: &'a str,
     pub signature: [u8; 16],
     pub port: u16,
     pub links: u64,
-    pub volume: &'a [u8],
+    pub places: &'a [String],
 }
 
 /// The signature that 32 hexadecimal digits spell.
@@ -91,20 +91,26 @@ fn has_equals(text: &[u8]) -> bool
     text.iter().any(|byte| *byte == b'=')
 }
 
-/// The name of a volume that is kept in memory.
-fn volume_of(text: &[u8]) -> Option<&[u8]>
-    ensures found { IfSome result (λ name. IsMemoryVolume text.now name.now) }
-    ensures none { IfNone result ((name : List ℕ) → IsMemoryVolume text.now name → ⊥) }
+/// The name in front of the place of a volume.
+pub fn name_of(word: &[u8]) -> &[u8]
+    ensures { result.now ≡ name_in word.now }
 {
-    if text.len() < MEMORY.len() {
-        return None;
-    }
-    let (name, place) = text.split_at(text.len() - MEMORY.len());
-    if place == MEMORY && !has_equals(name) {
-        Some(name)
-    } else {
-        None
-    }
+    &word[..word.len().saturating_sub(MEMORY.len())]
+}
+
+/// Whether the word is a volume that is kept in memory.
+fn is_volume(word: &[u8]) -> bool
+    ensures { result ≡ is_memory_volume word.now }
+{
+    let (name, place) = word.split_at(word.len().saturating_sub(MEMORY.len()));
+    place == MEMORY && !has_equals(name)
+}
+
+/// The same of each word.
+fn are_volumes(words: &[String]) -> bool
+    ensures { result ≡ list_all (λ word. is_memory_volume (string_bytes word)) words.now }
+{
+    words.iter().all(|word| is_volume(word.as_bytes()))
 }
 
 /// Whether the four words that name what stands behind them are there.
@@ -114,12 +120,20 @@ fn are_names(server: &str, signature: &str, port: &str, links: &str) -> bool
     server == "--server" && signature == "--signature" && port == "--port" && links == "--links"
 }
 
+/// The words behind the first eight.
+fn volume_words(words: &[String]) -> &[String]
+    requires { 8 ≤ length words.now }
+    ensures { result.now ≡ drop 8 words.now }
+{
+    &words[8..]
+}
+
 /// What the words say.
 pub fn read_words<'a>(alloc: Global, words: &'a [String]) -> Result<Words<'a>, WordFault>
     ensures found { IfOk result (λ w. IsWords (map (λ word. string_bytes word) words.now) (spoken_of w)) }
     ensures bad { IsErrOf result WordFault.Bad → (spoken : Spoken) → IsWords (map (λ word. string_bytes word) words.now) spoken → ⊥ }
 {
-    if words.len() != 9 {
+    if words.len() < 9 {
         return Err(WordFault::Bad);
     }
     let named = are_names(
@@ -136,14 +150,15 @@ pub fn read_words<'a>(alloc: Global, words: &'a [String]) -> Result<Words<'a>, W
     };
     let port = port_of(alloc, words[5].as_str())?;
     let links = links_of(alloc, words[7].as_str())?;
-    let Some(volume) = volume_of(words[8].as_bytes()) else {
+    let places = volume_words(words);
+    if !are_volumes(places) {
         return Err(WordFault::Bad);
-    };
+    }
     Ok(Words {
         server: words[1].as_str(),
         signature,
         port,
         links,
-        volume,
+        places,
     })
 }

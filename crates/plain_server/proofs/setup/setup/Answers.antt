@@ -1,4 +1,8 @@
-use Rattle.std.proofs.Common.{◌≡◌, ap}
+use Rattle.std.proofs.Common.{◌≡◌, ◌∙◌, ap, sym, refl, List, ℕ, String, Global, string_bytes}
+use Rattle.std.proofs.lemmas.Simd.{map-map}
+use Rattle.plain_server.specs.Spoken.{spoken_of}
+use Rattle.plain_server.specs.Words.{name_in}
+use Rattle.plain_server.specs.declared.setup.Place.TheVariants.{Memory}
 use Rattle.std.specs.Prelude.{Err}
 use Rattle.plain_server.specs.declared.words.WordFault.TheVariants.{Bad}
 use Rattle.plain_server.proofs.setup.setup.Goals as goal
@@ -7,3 +11,15 @@ pub returns-in-Err-clause-bad : goal.returns-in-Err-clause-bad
 returns-in-Err-clause-bad c = λ is.
     let same : c.in-Err.fault ≡ Bad = cc is in
     c.in-Err.ensures.bad (ap Err same)
+
+pub returns-in-Ok-places_of-clause-found : goal.returns-in-Ok-places_of-clause-found
+returns-in-Ok-places_of-clause-found c =
+    let spoken = spoken_of c.in-Ok.words in
+    record {
+      spoken = spoken;
+      words_are = c.in-Ok.ensures.found;
+      places = c.in-Ok-places_of.ensures ∙ sym (map-map (λ (name : List ℕ). Memory) (λ (word : String Global). name_in (string_bytes word)) c.in-Ok.words.places.now);
+      port = refl;
+      workers = refl;
+      links = refl;
+    }
