@@ -3,14 +3,12 @@
 
 ghost use Rattle.std.specs.Prelude.{◌≡◌, false, IfOk};
 
-use afp_base::OutOfMemory;
 use afp_core::Counts;
 use afp_outside::{OpenGate, StdSink, SystemClock, TcpDoor};
 use plain_server::plain::{PlainEnd, afpd_plain, report_end};
 use plain_server::setup::setup;
 use plain_server::words::WordFault;
 use record_keeper::{Keeper, MemoryKeeper};
-use std::alloc::Global;
 use std::io::ErrorKind;
 use std::process::ExitCode;
 use std::random::RandomSource;
@@ -47,24 +45,12 @@ fn door_of<'a>(rt: &'a HostRuntime, words: &[String]) -> Result<TcpDoor<&'a Host
     }
 }
 
-/// One new keeper in memory, which never fails, for each volume that the words name; none, where they are others.
-fn keepers_of(
-    rt: &HostRuntime,
-    words: &[String],
-) -> Result<Vec<Box<dyn Keeper + Send>>, OutOfMemory> {
-    let mut keepers = Vec::new(rt.alloc());
-    if let Ok(settings) = setup(rt.alloc(), words) {
-        for _ in 0..settings.places.len() {
-            keepers.push(memory_keeper(rt.alloc())?)?;
-        }
+/// How many volumes the words name; none, where they are others or there was no memory.
+fn volumes_of(rt: &HostRuntime, words: &[String]) -> usize {
+    match setup(rt.alloc(), words) {
+        Ok(settings) => settings.places.len(),
+        Err(_) => 0,
     }
-    Ok(keepers)
-}
-
-/// A new keeper in memory, in a box.
-fn memory_keeper(alloc: Global) -> Result<Box<dyn Keeper + Send>, OutOfMemory> {
-    let keeper = Box::new(alloc, MemoryKeeper::new(alloc, Vec::new(alloc)))?;
-    Ok(keeper)
 }
 
 /// A key of session tokens, from the system's randomness.
@@ -92,9 +78,29 @@ fn serve(
             report,
         );
     };
-    let Ok(keepers) = keepers_of(rt, words) else {
-        return report_end(PlainEnd::Memory, report);
-    };
+    serve_kept(rt, words, door, key, report)
+}
+
+/// The same with this key, over one new keeper in memory for each volume.
+fn serve_kept(
+    rt: &HostRuntime,
+    words: &[String],
+    door: &mut TcpDoor<&HostRuntime>,
+    key: [u8; 32],
+    report: &mut StdSink<&HostRuntime>,
+) -> u8
+    requires { door.old.door.closed ≡ false }
+{
+    let mut keepers: Vec<Box<dyn Keeper + Send>> = Vec::new(rt.alloc());
+    for _ in 0..volumes_of(rt, words) {
+        let inner = MemoryKeeper::new(rt.alloc(), Vec::new(rt.alloc()));
+        let Ok(keeper) = Box::new(rt.alloc(), inner) else {
+            return report_end(PlainEnd::Memory, report);
+        };
+        if keepers.push(keeper).is_err() {
+            return report_end(PlainEnd::Memory, report);
+        }
+    }
     let clock = SystemClock::new(rt);
     afpd_plain(
         rt.alloc(),
