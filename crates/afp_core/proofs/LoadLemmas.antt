@@ -1,12 +1,13 @@
 -- Loads of volumes, one after the other.
-use Rattle.std.proofs.Common.{◌≡◌, ◌∙◌, ap, sym, refl, subst, ℕ, zero, suc, ◌<◌, ◌≤◌, Bool, true, List, [], ◌∷◌, length, map, take, drop, get_or, Option, Some, arith}
+use Rattle.std.proofs.Common.{◌≡◌, ◌∙◌, ap, sym, refl, subst, ℕ, zero, suc, ◌+◌, ◌<◌, ◌≤◌, Bool, true, List, [], ◌∷◌, ◌++◌, length, length-append, map, take, drop, get_or, Option, Some, arith}
 use Rattle.std.specs.Prelude.{All, bytes_eq, option_map, slice_get}
 use Rattle.std.specs.Cmp.Lexicographic.{pointwise}
 use Rattle.std.specs.List.{list_all}
-use Rattle.std.proofs.lemmas.List.{length-map}
+use Rattle.std.proofs.lemmas.List.{length-map, take_more}
 use Rattle.std.proofs.lemmas.Bool.{and_from, leb-true}
 use Rattle.std.proofs.lemmas.List.Elements.{All-cons}
-use Rattle.std.proofs.lemmas.Option.{slice_get-map}
+use Rattle.std.proofs.lemmas.Option.{get_or_from_slice_get, slice_get-map, slice_get_within}
+use Rattle.kept_volume.specs.Loading.{IsLoadedVolume}
 use Rattle.std.proofs.lemmas.Slice.Eq.{bytes_eq-Decides}
 use Rattle.afp_volume.specs.SoundVolume.{IsSoundVolume}
 use Rattle.afp_volume.specs.TypedVolume.{is_typed_volume}
@@ -33,6 +34,17 @@ first-left (x ∷ xs) ys (suc i) d is some = first-left xs ys i d is some
 pub few-volumes : (w : World) (kept : List KeptState) → IsSound w → volumes_of kept ≡ w.volumes → length kept ≤ most_volumes
 few-volumes w kept sound is =
     omega (arith, sym (length-map kept (λ (k : KeptState). k.state)) ∙ ap length is, leb-true (length w.volumes) most_volumes (limits-parts w sound.limits).volumes)
+
+-- what is left behind the first
+drop-next : {K : Type 0} → (i : ℕ) (xs : List K) → drop 1 (drop i xs) ≡ drop (suc i) xs
+drop-next zero xs = refl
+drop-next (suc i) [] = refl
+drop-next (suc i) (x ∷ xs) = drop-next i xs
+
+pub rest-next : {K : Type 0} → (keepers left next : List K) (kept new : List KeptState) (one : KeptState) → left ≡ drop (length kept) keepers → next ≡ drop 1 left → new ≡ kept ++ one ∷ [] → next ≡ drop (length new) keepers
+rest-next keepers left next kept new one rest is becomes =
+    let many : length new ≡ suc (length kept) = omega (arith, ap length becomes, length-append kept (one ∷ [])) in
+    is ∙ ap (drop 1) rest ∙ drop-next (length kept) keepers ∙ ap (λ (n : ℕ). drop n keepers) (sym many)
 
 module _ {K : Type 0} (records : K → Option Records) (sure : K → Bool) (faults : K → ℕ) (now : ℕ) where
   -- the volumes that were loaded are those of the house
@@ -72,6 +84,33 @@ module _ {K : Type 0} (records : K → Option Records) (sure : K → Bool) (faul
     each = loaded-sound house.volumes keepers kept loads;
     typed = loaded-typed house.volumes keepers kept loads;
   }
+
+  -- one volume more
+  load-snoc : (names : List (List ℕ)) (keepers : List K) (kept : List KeptState) (name : List ℕ) (keeper : K) (one : KeptState) → LoadEach records sure faults now names keepers kept
+      → IsLoadedVolume name now (records keeper) (sure keeper) (faults keeper) one → LoadEach records sure faults now (names ++ name ∷ []) (keepers ++ keeper ∷ []) (kept ++ one ∷ [])
+  load-snoc [] [] [] name keeper one before loaded = (loaded, tt)
+  load-snoc [] [] (x ∷ kept) name keeper one before loaded = absurd before
+  load-snoc [] (k ∷ keepers) kept name keeper one before loaded = absurd before
+  load-snoc (n ∷ names) [] kept name keeper one before loaded = absurd before
+  load-snoc (n ∷ names) (k ∷ keepers) [] name keeper one before loaded = absurd before
+  load-snoc (n ∷ names) (k ∷ keepers) (x ∷ kept) name keeper one before loaded = (before.0, load-snoc names keepers kept name keeper one before.1 loaded)
+
+  pub load-next : (names : List (List ℕ)) (keepers left : List K) (kept new : List KeptState) (name : List ℕ) (keeper d : K) (one : KeptState) → length keepers ≡ length names
+      → LoadEach records sure faults now (take (length kept) names) (take (length kept) keepers) kept → left ≡ drop (length kept) keepers → 0 < length left
+      → name ≡ get_or names (length kept) name → keeper ≡ get_or left 0 d → IsLoadedVolume name now (records keeper) (sure keeper) (faults keeper) one → new ≡ kept ++ one ∷ []
+      → LoadEach records sure faults now (take (length new) names) (take (length new) keepers) new
+  load-next names keepers left kept new name keeper d one same before rest some is_name is_keeper loaded becomes =
+      let i = length kept in
+      let there : slice_get keepers i ≡ Some keeper = first-left keepers left i d rest some ∙ ap Some (sym is_keeper) in
+      let within : i < length keepers = slice_get_within keepers i keeper there in
+      let at_keeper : get_or keepers i keeper ≡ keeper = get_or_from_slice_get keepers i keeper keeper there in
+      let many : length new ≡ i + 1 = ap length becomes ∙ length-append kept (one ∷ []) in
+      let front : take (length new) names ≡ take i names ++ name ∷ [] = ap (λ (n : ℕ). take n names) many ∙ take_more names i name (omega (arith, within, same)) ∙ ap (λ (x : List ℕ). take i names ++ x ∷ []) (sym is_name) in
+      let ahead : take (length new) keepers ≡ take i keepers ++ keeper ∷ [] = ap (λ (n : ℕ). take n keepers) many ∙ take_more keepers i keeper within ∙ ap (λ (x : K). take i keepers ++ x ∷ []) at_keeper in
+      subst (λ (l : List KeptState). LoadEach records sure faults now (take (length new) names) (take (length new) keepers) l) (sym becomes)
+      (subst (λ (l : List (List ℕ)). LoadEach records sure faults now l (take (length new) keepers) (kept ++ one ∷ [])) (sym front)
+      (subst (λ (l : List K). LoadEach records sure faults now (take i names ++ name ∷ []) l (kept ++ one ∷ [])) (sym ahead)
+      (load-snoc (take i names) (take i keepers) kept name keeper one before loaded)))
 
   -- a load that gave no volume, behind those that did
   pub load-stops : (i : ℕ) (names : List (List ℕ)) (keepers : List K) (kept : List KeptState) (keeper : K) (fault : CoreFault)

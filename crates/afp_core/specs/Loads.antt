@@ -6,8 +6,8 @@ use Rattle.afp_core.specs.declared.core_fault.CoreFault.TheVariants.{Count, Load
 use Rattle.afp_serial.specs.Household.{Household}
 use Rattle.kept_volume.specs.Kept.{KeptState}
 use Rattle.kept_volume.specs.Loading.{IsLoadedVolume}
-use Rattle.kept_volume.specs.declared.load.LoadFault.{LoadFault}
-use Rattle.kept_volume.specs.declared.load.LoadFault.TheVariants as load
+use Rattle.volume_keeper.specs.declared.loading.LoadFault.{LoadFault}
+use Rattle.volume_keeper.specs.declared.loading.LoadFault.TheVariants as load
 use Rattle.record_keeper.specs.Records.{Records}
 
 -- the volumes are those that were loaded from the keepers, each under its name

@@ -4,7 +4,6 @@ ghost use Rattle.afp_requests.specs.declared.call.Call.{Call};
 ghost use Rattle.afp_serial.specs.Enumerate.{lists};
 ghost use Rattle.afp_serial.specs.Rows.{ends_session, row};
 ghost use Rattle.afp_core.specs.Turn.{RunsRow};
-ghost use Rattle.kept_volume.specs.Asked.{asked_of};
 
 use crate::replies::{refused, told_of};
 use crate::state::State;
@@ -69,7 +68,7 @@ impl<K: Keeper> State<K> {
         asked: ListAsked,
         path: &Path,
     ) -> Result<(Told, Outcome), OutOfMemory>
-        ensures { (call : Call) → row call ≡ lists volume.0 (asked_of asked) dir.0 path.now → ends_session call ≡ false → RunsRow self.now session.0 call result self.now }
+        ensures { (call : Call) → row call ≡ lists volume.0 asked dir.0 path.now → ends_session call ≡ false → RunsRow self.now session.0 call result self.now }
     {
         let Some(index) = self.opened(session, volume) else {
             return Ok((refused(self.alloc, Code::ParamErr), Outcome::Done));

@@ -1,10 +1,10 @@
 //! The volumes of a house, from their keepers.
-ghost use Rattle.std.specs.Prelude.{◌≡◌, IfOk, IfErr, length};
+ghost use Rattle.std.specs.Prelude.{◌≡◌, ◌++◌, ◌∷◌, [], IfOk, IfErr, OnOk, length};
 ghost use Rattle.kept_volume.specs.Loading.{IsLoadedVolume};
 ghost use Rattle.afp_core.specs.Loads.{IsCoreFault, IsFaultAt, LoadEach};
 
 use crate::core_fault::CoreFault;
-use afp_base::{Bytes, Moment};
+use afp_base::{Bytes, Moment, OutOfMemory};
 use afp_names::Name;
 use kept_volume::{KeptVolume, LoadFault};
 use record_keeper::Keeper;
@@ -28,7 +28,7 @@ pub(crate) fn load_all<K: Keeper>(
         let keeper = keepers.remove(0);
         match load_one(alloc, &names[index], keeper, now, index) {
             Ok(one) => {
-                if kept.push(one).is_err() {
+                if push_kept(&mut kept, one).is_err() {
                     return Err(CoreFault::Memory);
                 }
             }
@@ -36,6 +36,17 @@ pub(crate) fn load_all<K: Keeper>(
         }
     }
     Ok(kept)
+}
+
+/// Puts a volume behind the others; without memory it is let go.
+fn push_kept<K: Keeper>(
+    kept: &mut Vec<KeptVolume<K>>,
+    one: KeptVolume<K>,
+) -> Result<(), OutOfMemory>
+    ensures { OnOk result (kept.new.items ≡ kept.old.items ++ one ∷ []) }
+{
+    kept.push(one)?;
+    Ok(())
 }
 
 /// Loads the volume of a name from its keeper; `index` is told in an error.

@@ -1,5 +1,5 @@
 //! Settling all keepers at the end.
-ghost use Rattle.std.specs.Prelude.{◌≤◌, length, map};
+ghost use Rattle.std.specs.Prelude.{◌≡◌, ◌≤◌, IsErrOf, false, length, map};
 ghost use Rattle.afp_serial.specs.Limits.{most_volumes};
 ghost use Rattle.afp_core.specs.Retiring.{Retires};
 
@@ -14,6 +14,14 @@ pub struct Retired {
     pub memory: u8,
 }
 
+/// Settles the keeper of a volume, and lets both go.
+fn settle_one<K: Keeper>(kept: KeptVolume<K>) -> Result<(), KeeperFault>
+    ensures { IsErrOf result KeeperFault.Failed → kept.sure ≡ false }
+{
+    let mut kept = kept;
+    kept.settle()
+}
+
 /// Settles each keeper, in order, and lets it go.
 pub(crate) fn settle_all<K: Keeper>(kept: Vec<KeptVolume<K>>) -> Retired
     requires { length kept.items ≤ most_volumes }
@@ -26,9 +34,8 @@ pub(crate) fn settle_all<K: Keeper>(kept: Vec<KeptVolume<K>>) -> Retired
         memory: 0,
     };
     while !kept.is_empty() {
-        let mut one = kept.remove(0);
         retired.volumes += 1;
-        match one.settle() {
+        match settle_one(kept.remove(0)) {
             Ok(()) => {}
             Err(KeeperFault::Failed) => retired.failed += 1,
             Err(KeeperFault::Memory) => retired.memory += 1,

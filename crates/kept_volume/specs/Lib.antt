@@ -1,4 +1,3 @@
 pub mod Kept
 pub mod Changing
 pub mod Loading
-pub mod Asked

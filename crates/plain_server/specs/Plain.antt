@@ -3,8 +3,8 @@ use Rattle.std.specs.Prelude.{◌≡◌, ◌⊎◌, ℕ, true, List, [], length,
 use Rattle.std.specs.List.{list_all}
 use Rattle.hex.specs.Hex.{encode_lower}
 use Rattle.kept_volume.specs.Kept.{KeptState}
-use Rattle.kept_volume.specs.declared.load.LoadFault.{LoadFault}
-use Rattle.kept_volume.specs.declared.load.LoadFault.TheVariants as load
+use Rattle.volume_keeper.specs.declared.loading.LoadFault.{LoadFault}
+use Rattle.volume_keeper.specs.declared.loading.LoadFault.TheVariants as load
 use Rattle.afp_core.specs.Loads.{LoadEach, StopsAt}
 use Rattle.afp_core.specs.ServerState.{ServerState, volumes_of}
 use Rattle.afp_core.specs.Sureness.{SureKept}

@@ -3,8 +3,8 @@ use Rattle.std.specs.Prelude.{◌≡◌, ◌≤◌, ◌<◌, ℕ, Bool, true, fa
 use Rattle.std.specs.Fmt.{decimal}
 use Rattle.afp_base.specs.Counts.{Rises, counted}
 use Rattle.afp_outside.specs.Sink.{SinkState}
-use Rattle.kept_volume.specs.declared.load.Reason.{Reason}
-use Rattle.kept_volume.specs.declared.load.Reason.TheVariants.{Shape, Parent, Twin, Range, Limit}
+use Rattle.volume_records.specs.declared.rows.Reason.{Reason}
+use Rattle.volume_records.specs.declared.rows.Reason.TheVariants.{Shape, Parent, Twin, Range, Limit}
 
 abbrev pub bad_words : List ℕ
 bad_words = codes "bad words\n"

@@ -1,6 +1,6 @@
-use Rattle.std.proofs.Common.{rules, ◌≡◌, ◌<◌, ℕ, length, subst}
+use Rattle.std.proofs.Common.{rules, ◌≡◌, ◌<◌, ◌++◌, ◌∷◌, [], ℕ, get_or, length, subst}
 use Rattle.afp_core.specs.Loads.{IsFaultAt}
-use Rattle.afp_core.proofs.LoadLemmas.{load-stops-first}
+use Rattle.afp_core.proofs.LoadLemmas.{load-next, load-stops-first, rest-next}
 use Rattle.afp_core.proofs.loading.load_all.Goals as goal
 
 pub returns-in-Err-clause-fault : goal.returns-in-Err-clause-fault
@@ -11,3 +11,16 @@ returns-in-Err-clause-fault g c =
     c.remove-keeper.result c.remove-keeper.result c.in-Err.fault
     c.loop-alloc.invariant.same c.loop-alloc.invariant.loaded c.loop-alloc.invariant.rest some c.remove-keeper.ensures.value
     (subst (λ (n : ℕ). IsFaultAt n (g.K.Keeper.sure c.remove-keeper.result) c.in-Err.fault) index c.in-Err.ensures.fault)
+
+pub loop-alloc-preserved : goal.loop-alloc-preserved
+loop-alloc-preserved g c =
+    let some : 0 < length c.loop-alloc.keepers.items = search rules in
+    let index : c.len-index.result ≡ length c.loop-alloc.kept.items = search rules in
+    let becomes : c.push_kept.new.kept.items ≡ c.loop-alloc.kept.items ++ c.in-Ok.one ∷ [] = search rules in
+    record {
+      same = c.loop-alloc.invariant.same;
+      rest = rest-next c.args.keepers.items c.loop-alloc.keepers.items c.remove-keeper.new.self.items c.loop-alloc.kept.items c.push_kept.new.kept.items c.in-Ok.one c.loop-alloc.invariant.rest c.remove-keeper.ensures.items becomes;
+      loaded = load-next g.K.Keeper.records g.K.Keeper.sure g.K.Keeper.faults c.args.now c.args.names.now c.args.keepers.items c.loop-alloc.keepers.items c.loop-alloc.kept.items c.push_kept.new.kept.items
+          c.index-names-index.result c.remove-keeper.result c.remove-keeper.result c.in-Ok.one c.loop-alloc.invariant.same c.loop-alloc.invariant.loaded c.loop-alloc.invariant.rest some
+          (subst (λ (n : ℕ). c.index-names-index.result ≡ get_or c.args.names.now n c.index-names-index.result) index c.index-names-index.is) c.remove-keeper.ensures.value c.in-Ok.ensures.loaded becomes;
+    }

@@ -5,7 +5,6 @@ use Rattle.afp_volume.specs.Enumerate.{enumerate_refusal}
 use Rattle.afp_core.specs.OnOpened.{IsOpen}
 use Rattle.afp_core.specs.ServerState.{KeptWorld}
 use Rattle.afp_core.proofs.OnVolumeLemmas.{none-opened, tells-runs, tells-unopened}
-use Rattle.kept_volume.specs.Asked.{asked_of}
 use Rattle.afp_core.proofs.state.State.list.Goals as goal
 
 pub returns-in_default : goal.returns-in_default
@@ -17,7 +16,7 @@ pub returns : goal.returns
 returns g c = λ call is goes.
     let answer = c.list-answer in
     let v = c.kept_at.result.now.state in
-    let asked = asked_of c.args.asked in
+    let asked = c.args.asked in
     let none = none-opened c.args.self.now.world c.args.volume.0 (ap (λ (k : KeptWorld). k.world.opens) c.self.view_is) in
     tells-runs c.args.self.now c.args.session.0 call c.args.volume.0 _ _ record { row_is = is; goes_on = goes } c.in-Some.index v _ _ answer.result c.new-block.result answer.new.out
     c.told_of.result c.in-Some.ensures c.kept_at.ensures
