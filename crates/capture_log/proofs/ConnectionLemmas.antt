@@ -1,11 +1,10 @@
 -- What a connection holds, from one call to the next.
-use Rattle.std.proofs.Common.{◌≡◌, ◌≢◌, ℕ, ◌+◌, ◌≤◌, Bool, true, false, List, [], ◌∷◌, ◌++◌, length, drop, sum, refl, sym, ap, ◌∙◌, subst, length-append, arith}
+use Rattle.std.proofs.Common.{◌≡◌, ◌≢◌, ℕ, ◌+◌, ◌≤◌, Bool, true, false, List, [], ◌∷◌, ◌++◌, length, drop, refl, sym, ap, ◌∙◌, subst, length-append, arith}
 use Rattle.std.proofs.lemmas.List.{drop-append-le, drop-drop, length-drop}
 use Rattle.std.specs.Prelude.{◌==◌, if◌then◌else◌, Option, Some, None, Result, Ok, Err, OnOk}
 use Rattle.afp_base.specs.declared.bytes.OutOfMemory.{OutOfMemory}
 use Rattle.afp_base.specs.declared.ids.LinkNumber.{LinkNumber}
-use Rattle.afp_core.specs.Telling.{start_of, shown_of}
-use Rattle.afp_core.specs.declared.list_teller.ListTeller.{ListTeller}
+use Rattle.afp_serial.specs.Shown.{Shown}
 use Rattle.afp_serial.specs.Shown.{Asked}
 use Rattle.afp_serial.specs.Went.{step}
 use Rattle.afp_serial.specs.declared.ask.Ask.{Ask}
@@ -27,6 +26,7 @@ use Rattle.capture_log.specs.declared.difference.Difference.{Difference}
 use Rattle.capture_log.specs.Moves.{Extends, FeedsConnection, RestsConnection, LosesConnection, Compares, wire_or}
 use Rattle.capture_log.specs.Standing.{after_quiet, after_loss}
 use Rattle.capture_log.specs.States.{ConnectionState, IsConnection, IsLive, IsWire, FeedsWire, GoesOn}
+use Rattle.capture_log.proofs.Alone.{IsAlone}
 use Rattle.capture_log.proofs.Histories.{Asks, asks}
 
 -- the wire that bytes are fed to
@@ -61,7 +61,7 @@ drop-more : (n : ℕ) (xs ys : List ℕ) → n ≤ length xs → drop n xs ++ ys
 drop-more n xs ys h = sym (drop-append-le n xs ys h)
 
 -- Bytes were fed to the wire that is there, or to a new one.
-pub fed_connection : (block : List ℕ) (now : ℕ) (piece : List ℕ) (c d : ConnectionState) (s : Connection) (t u : ListTeller) (w v : WireState) (tally : Tally) (out sent : List ℕ) (over : Bool) (fed : ℕ)
+pub fed_connection : (block : List ℕ) (now : ℕ) (piece : List ℕ) (c d : ConnectionState) (s : Connection) (t u : Shown) (w v : WireState) (tally : Tally) (out sent : List ℕ) (over : Bool) (fed : ℕ)
     → IsConnection block c s → Ready block w c.fed s → FeedsWire now s.fed s.past piece w out t over v sent u → GoesOn over v → v.block ≡ w.block
     → v.held.place + length v.held.rest ≤ fed → tally ≡ v.tally → c.out ≡ out
     → d ≡ record { wire = Some v; fed = fed; used = true; over = over; lost = c.lost; out = sent; place = c.place; named = c.named }
@@ -115,12 +115,10 @@ told-true told.Done other = refl
 told-true told.Displaced other = refl
 told-true told.Memory other = absurd (other refl)
 
-pub one : (t u : ListTeller) (now : ℕ) (link : LinkNumber) (ask : Ask) (a : Told) → Asked (shown_of t) now link ask a (shown_of u) → start_of u ≡ start_of t → a ≢ told.Memory
+pub one : (t u : Shown) (now : ℕ) (link : LinkNumber) (ask : Ask) (a : Told) → Asked t now link ask a u → IsAlone t → IsAlone u → u.start ≡ t.start → a ≢ told.Memory
     → Extends t (step now link ask a ∷ []) u
-one t u now link ask a asked fixed other =
-    let none : sum u.core.faults ≡ 0 = ap sum u.unkept in
-    let x : Asks (shown_of t) (step now link ask a ∷ []) (shown_of u) =
-    asks (shown_of t) (shown_of u) (step now link ask a ∷ []) refl refl none (went-one (shown_of t) (shown_of u) now link ask a asked) (told-true a other) in
+one t u now link ask a asked alone still fixed other =
+    let x : Asks t (step now link ask a ∷ []) u = asks t u (step now link ask a ∷ []) alone.mine still.mine still.faults (went-one t u now link ask a asked) (told-true a other) in
     record { start = fixed; history = x.history; served = x.served }
 
 -- the link that is open
@@ -182,17 +180,17 @@ differs block wanted c d s found is e = same_difference block wanted c s is ∙ 
 
 -- a quiet came, or a loss
 
-pub rested : (now : ℕ) (link : LinkNumber) (a : Told) (c d : ConnectionState) (t u : ListTeller) (o : Option LinkNumber) (r : Result (Unit {0}) OutOfMemory)
-    → ((block : List ℕ) (s : Connection) → IsConnection block c s → o ≡ open_link s.stage) → o ≡ Some link → Asked (shown_of t) now link asks_of.Pulse a (shown_of u) → start_of u ≡ start_of t
+pub rested : (now : ℕ) (link : LinkNumber) (a : Told) (c d : ConnectionState) (t u : Shown) (o : Option LinkNumber) (r : Result (Unit {0}) OutOfMemory)
+    → ((block : List ℕ) (s : Connection) → IsConnection block c s → o ≡ open_link s.stage) → o ≡ Some link → Asked t now link asks_of.Pulse a u → IsAlone t → IsAlone u → u.start ≡ t.start
     → OnOk r (a ≢ told.Memory) → OnOk r ((block : List ℕ) (s : Connection) → IsConnection block c s → IsConnection block d (after_quiet a s))
     → OnOk r ((block : List ℕ) (s : Connection) → IsConnection block c s → RestsConnection (open_link s.stage) block now s t d u)
-rested now link a c d t u o (Ok x) opens there asked fixed other kept = λ block s is.
-    subst (λ (l : Option LinkNumber). RestsConnection l block now s t d u) (sym there ∙ opens block s is) (a, one t u now link asks_of.Pulse a asked fixed other, kept block s is)
-rested now link a c d t u o (Err e) opens there asked fixed other kept = tt
+rested now link a c d t u o (Ok x) opens there asked alone still fixed other kept = λ block s is.
+    subst (λ (l : Option LinkNumber). RestsConnection l block now s t d u) (sym there ∙ opens block s is) (a, one t u now link asks_of.Pulse a asked alone still fixed other, kept block s is)
+rested now link a c d t u o (Err e) opens there asked alone still fixed other kept = tt
 
-pub ended : (now : ℕ) (link : LinkNumber) (a : Told) (c d : ConnectionState) (t u : ListTeller) (o : Option LinkNumber)
-    → ((block : List ℕ) (s : Connection) → IsConnection block c s → o ≡ open_link s.stage) → o ≡ Some link → Asked (shown_of t) now link asks_of.Lost a (shown_of u) → start_of u ≡ start_of t
+pub ended : (now : ℕ) (link : LinkNumber) (a : Told) (c d : ConnectionState) (t u : Shown) (o : Option LinkNumber)
+    → ((block : List ℕ) (s : Connection) → IsConnection block c s → o ≡ open_link s.stage) → o ≡ Some link → Asked t now link asks_of.Lost a u → IsAlone t → IsAlone u → u.start ≡ t.start
     → a ≢ told.Memory → ((block : List ℕ) (s : Connection) → IsConnection block c s → IsConnection block d (after_loss s))
     → (block : List ℕ) (s : Connection) → IsConnection block c s → LosesConnection (open_link s.stage) block now s t d u
-ended now link a c d t u o opens there asked fixed other kept block s is =
-    subst (λ (l : Option LinkNumber). LosesConnection l block now s t d u) (sym there ∙ opens block s is) (a, one t u now link asks_of.Lost a asked fixed other, kept block s is)
+ended now link a c d t u o opens there asked alone still fixed other kept block s is =
+    subst (λ (l : Option LinkNumber). LosesConnection l block now s t d u) (sym there ∙ opens block s is) (a, one t u now link asks_of.Lost a asked alone still fixed other, kept block s is)

@@ -1,4 +1,10 @@
 pub mod ConnectionLemmas
+pub mod Alone
 pub mod Feeding
+pub mod GatheringLemmas
 pub mod Histories
+pub mod LineLemmas
+pub mod SoFar
 pub mod RunningLemmas
+pub mod TakingLemmas
+pub mod NewKeepers

@@ -5,9 +5,7 @@ use Rattle.std.proofs.lemmas.List.{take-append-le, take_all}
 use Rattle.std.specs.Prelude.{◌==◌, Option, Some, None, slice_get, slice_set, if◌then◌else◌, Result, Ok, Err, IfOk, OnOk}
 use Rattle.std.proofs.lemmas.Option.{slice_get-get_or}
 use Rattle.std.proofs.Math.ListN.{length-set}
-use Rattle.afp_core.specs.ServerState.{ServerState}
-use Rattle.afp_core.specs.Telling.{start_of, history_of}
-use Rattle.afp_core.specs.declared.list_teller.ListTeller.{ListTeller}
+use Rattle.afp_serial.specs.Shown.{Shown}
 use Rattle.afp_serial.specs.History.{stand}
 use Rattle.afp_serial.specs.World.{World, fresh_world}
 use Rattle.afp_serial.specs.StatusBlock.{status_block}
@@ -79,18 +77,18 @@ set-connections block slots i d p conns each is k c e = elim (get-set slots i k 
 
 -- what the teller answers is what the serial server does
 
-pub served-there : (t u : ListTeller) (s : Standing) (first now : ℕ) (steps : List Step) → IsTeller t s first → s.start ≡ Some first → Extends t steps u → AreServed (world_at s now) steps
+pub served-there : (t u : Shown) (s : Standing) (first now : ℕ) (steps : List Step) → IsTeller t s first → s.start ≡ Some first → Extends t steps u → AreServed (world_at s now) steps
 served-there t u s first now steps is started x =
-    let world : stand (start_of t).world (history_of t) ≡ world_at s now =
-    ap (λ (w : World). stand w (history_of t)) is.start ∙ ap (λ (h : List Entry). stand (fresh_world s.house first) h) is.history
+    let world : stand t.start (t.history) ≡ world_at s now =
+    ap (λ (w : World). stand w (t.history)) is.start ∙ ap (λ (h : List Entry). stand (fresh_world s.house first) h) is.history
     ∙ ap (λ (o : Option ℕ). stand (fresh_world s.house (start_at o now)) s.history) (sym started) in
     subst (λ (w : World). AreServed w steps) world x.served
 
-pub told-there : (t u : ListTeller) (s : Standing) (first : ℕ) (steps : List Step) → IsTeller t s first → Extends t steps u → history_of u ≡ s.history ++ entries_of steps
+pub told-there : (t u : Shown) (s : Standing) (first : ℕ) (steps : List Step) → IsTeller t s first → Extends t steps u → u.history ≡ s.history ++ entries_of steps
 told-there t u s first steps is x = x.history ∙ ap (λ (h : List Entry). h ++ entries_of steps) is.history
 
-pub started-there : (t u : ListTeller) (s : Standing) (first : ℕ) (steps : List Step) → IsTeller t s first → Extends t steps u → (start_of u).world ≡ fresh_world s.house first
-started-there t u s first steps is x = ap (λ (c : ServerState). c.world) x.start ∙ is.start
+pub started-there : (t u : Shown) (s : Standing) (first : ℕ) (steps : List Step) → IsTeller t s first → Extends t steps u → u.start ≡ fresh_world s.house first
+started-there t u s first steps is x = x.start ∙ is.start
 
 -- counts of replies
 
@@ -151,7 +149,7 @@ passed-over r s first now index piece over is within told on =
     record { after = s; happens = subst (λ (b : Bool). FeedsUnless b s (suc index) now piece s) (sym ends) refl; is = is; start = refl }
 
 -- the others are handled
-pub came-there : (r new : RunningState) (s : Standing) (first now index : ℕ) (piece : List ℕ) (tally : Tally) (over used : Bool) (slots : List ConnectionState) (u : ListTeller)
+pub came-there : (r new : RunningState) (s : Standing) (first now index : ℕ) (piece : List ℕ) (tally : Tally) (over used : Bool) (slots : List ConnectionState) (u : Shown)
     → IsRunning r s first → s.start ≡ Some first
     → ((c : ConnectionState) → slice_get r.connections index ≡ Some c → over ≡ c.over) → over ≡ false
     → ((c : ConnectionState) → slice_get r.connections index ≡ Some c → used ≡ c.used)
@@ -218,8 +216,8 @@ came-there r new s first now index piece tally over used slots u is started told
 
 -- a quiet, a loss, and bytes that are compared
 
-placed : (r : RunningState) (s : Standing) (first index : ℕ) (c d : ConnectionState) (p : Connection) (u : ListTeller) (slots : List ConnectionState) (steps : List Step)
-    → IsRunning r s first → slots ≡ slice_set r.connections index d → IsConnection (status_block s.house) d p → (start_of u).world ≡ fresh_world s.house first → history_of u ≡ s.history ++ entries_of steps
+placed : (r : RunningState) (s : Standing) (first index : ℕ) (c d : ConnectionState) (p : Connection) (u : Shown) (slots : List ConnectionState) (steps : List Step)
+    → IsRunning r s first → slots ≡ slice_set r.connections index d → IsConnection (status_block s.house) d p → u.start ≡ fresh_world s.house first → u.history ≡ s.history ++ entries_of steps
     → IsRunning (record r { teller = u; connections = slots }) (record s { connections = put (suc index) p s.connections; history = s.history ++ entries_of steps }) first
 placed r s first index c d p u slots steps is set held start history = record {
   house = is.house;
@@ -233,12 +231,12 @@ placed r s first index c d p u slots steps is set held start history = record {
 }
 
 -- the same, where nothing was asked
-placed_still : (r : RunningState) (s : Standing) (first index : ℕ) (d : ConnectionState) (p : Connection) (u : ListTeller) (slots : List ConnectionState)
+placed_still : (r : RunningState) (s : Standing) (first index : ℕ) (d : ConnectionState) (p : Connection) (u : Shown) (slots : List ConnectionState)
     → IsRunning r s first → slots ≡ slice_set r.connections index d → IsConnection (status_block s.house) d p → u ≡ r.teller
     → IsRunning (record r { teller = u; connections = slots }) (record s { connections = put (suc index) p s.connections }) first
 placed_still r s first index d p u slots is set held still = record {
   house = is.house;
-  teller = subst (λ (t : ListTeller). IsTeller t (record s { connections = put (suc index) p s.connections }) first) (sym still) (record { start = is.teller.start; history = is.teller.history });
+  teller = subst (λ (t : Shown). IsTeller t (record s { connections = put (suc index) p s.connections }) first) (sym still) (record { start = is.teller.start; history = is.teller.history });
   links = is.links;
   replies = is.replies;
   refused = is.refused;
@@ -254,7 +252,7 @@ same_place link conns k = elim (eqb_tells k link) [
   | inr t ↦ put-other link k (conns link) conns t.1
 ]
 
-unchanged : (r : RunningState) (s : Standing) (first index : ℕ) (d : ConnectionState) (u : ListTeller) (slots : List ConnectionState)
+unchanged : (r : RunningState) (s : Standing) (first index : ℕ) (d : ConnectionState) (u : Shown) (slots : List ConnectionState)
     → IsRunning r s first → slots ≡ slice_set r.connections index d → IsConnection (status_block s.house) d (s.connections (suc index)) → u ≡ r.teller
     → IsRunning (record r { teller = u; connections = slots }) s first
 unchanged r s first index d u slots is set held still =
@@ -269,7 +267,7 @@ unchanged r s first index d u slots is set held still =
       connections = λ k x at. subst (λ (p : Connection). IsConnection (status_block s.house) x p) (same_place (suc index) s.connections (suc k)) (it.connections k x at);
     }
 
-quiet_by : (r : RunningState) (s : Standing) (first now index : ℕ) (d : ConnectionState) (u : ListTeller) (slots : List ConnectionState) (o : Option LinkNumber)
+quiet_by : (r : RunningState) (s : Standing) (first now index : ℕ) (d : ConnectionState) (u : Shown) (slots : List ConnectionState) (o : Option LinkNumber)
     → IsRunning r s first → s.start ≡ Some first → slots ≡ slice_set r.connections index d → o ≡ open_link (s.connections (suc index)).stage
     → RestsConnection o (status_block s.house) now (s.connections (suc index)) r.teller d u
     → (after : Standing) × PulsesIf o s (suc index) now after × IsRunning (record r { teller = u; connections = slots }) after first × (after.start ≡ s.start)
@@ -283,14 +281,14 @@ quiet_by r s first now index d u slots (Some link) is started set opens rests =
       refl,
     )
 
-pub quiet-there : (r new : RunningState) (s : Standing) (first now index : ℕ) (u : ListTeller) (slots : List ConnectionState)
+pub quiet-there : (r new : RunningState) (s : Standing) (first now index : ℕ) (u : Shown) (slots : List ConnectionState)
     → IsRunning r s first → s.start ≡ Some first → RestsAt now r.connections index r.teller slots u → new ≡ record r { teller = u; connections = slots } → Happened s (suc index) now Quiet first new
 quiet-there r new s first now index u slots is started at same =
     let peer : Connection = s.connections (suc index) in
     let q = quiet_by r s first now index at.then_is u slots (open_link peer.stage) is started at.set refl (at.rests (status_block s.house) peer (is.connections index at.old at.there)) in
     record { after = q.0; happens = q.1; is = subst (λ (x : RunningState). IsRunning x q.0 first) (sym same) q.2; start = q.3 }
 
-loss_by : (r : RunningState) (s : Standing) (first now index : ℕ) (d : ConnectionState) (u : ListTeller) (slots : List ConnectionState) (o : Option LinkNumber)
+loss_by : (r : RunningState) (s : Standing) (first now index : ℕ) (d : ConnectionState) (u : Shown) (slots : List ConnectionState) (o : Option LinkNumber)
     → IsRunning r s first → s.start ≡ Some first → slots ≡ slice_set r.connections index d
     → LosesConnection o (status_block s.house) now (s.connections (suc index)) r.teller d u
     → (after : Standing) × LosesIf o s (suc index) now after × IsRunning (record r { teller = u; connections = slots }) after first × (after.start ≡ s.start)
@@ -306,7 +304,7 @@ loss_by r s first now index d u slots (Some link) is started set loses =
       refl,
     )
 
-pub loss-there : (r new : RunningState) (s : Standing) (first now index : ℕ) (u : ListTeller) (slots : List ConnectionState)
+pub loss-there : (r new : RunningState) (s : Standing) (first now index : ℕ) (u : Shown) (slots : List ConnectionState)
     → IsRunning r s first → s.start ≡ Some first → LosesAt now r.connections index r.teller slots u → new ≡ record r { teller = u; connections = slots } → Happened s (suc index) now Lost first new
 loss-there r new s first now index u slots is started at same =
     let peer : Connection = s.connections (suc index) in

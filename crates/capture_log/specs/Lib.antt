@@ -1,4 +1,5 @@
 pub mod Connections
+pub mod Gathering
 pub mod Judged
 pub mod Moves
 pub mod Reading
@@ -6,3 +7,5 @@ pub mod Running
 pub mod Slots
 pub mod Standing
 pub mod States
+pub mod Taking
+pub mod Tellers

@@ -1,8 +1,7 @@
 -- What the calls on a connection do (this profile).
 use Rattle.std.specs.Prelude.{◌≡◌, ℕ, ◌+◌, Bool, List, [], ◌∷◌, ◌++◌, length, drop, Option, Some, None}
 use Rattle.afp_base.specs.declared.ids.LinkNumber.{LinkNumber}
-use Rattle.afp_core.specs.Telling.{start_of, history_of}
-use Rattle.afp_core.specs.declared.list_teller.ListTeller.{ListTeller}
+use Rattle.afp_serial.specs.Shown.{Shown}
 use Rattle.afp_serial.specs.History.{stand}
 use Rattle.afp_serial.specs.Went.{Step, step}
 use Rattle.afp_serial.specs.declared.ask.Ask.TheVariants as asks
@@ -19,10 +18,10 @@ use Rattle.capture_log.specs.Standing.{after_quiet, after_loss}
 use Rattle.capture_log.specs.States.{ConnectionState, IsConnection}
 
 -- The teller answered these steps, and nobody else asked.
-pub record Extends (t : ListTeller) (steps : List Step) (u : ListTeller) : Type 0 where
-  pub start : start_of u ≡ start_of t
-  pub history : history_of u ≡ history_of t ++ entries_of steps
-  pub served : AreServed (stand (start_of t).world (history_of t)) steps
+pub record Extends (t : Shown) (steps : List Step) (u : Shown) : Type 0 where
+  pub start : u.start ≡ t.start
+  pub history : u.history ≡ t.history ++ entries_of steps
+  pub served : AreServed (stand t.start (t.history)) steps
 
 -- a wire at its first byte
 abbrev pub fresh_wire : List ℕ → WireState
@@ -34,7 +33,7 @@ wire_or block None = fresh_wire block
 wire_or block (Some w) = w
 
 -- Bytes were fed to a connection.
-pub record FeedsConnection (block : List ℕ) (now : ℕ) (piece : List ℕ) (s : Connection) (t : ListTeller) (tally : Tally) (c : ConnectionState) (u : ListTeller) : Type 0 where
+pub record FeedsConnection (block : List ℕ) (now : ℕ) (piece : List ℕ) (s : Connection) (t : Shown) (tally : Tally) (c : ConnectionState) (u : Shown) : Type 0 where
   pub frames : List Frame
   pub steps : List Step
   pub replies : List Frame
@@ -46,12 +45,12 @@ pub record FeedsConnection (block : List ℕ) (now : ℕ) (piece : List ℕ) (s 
   pub is : IsConnection block c (came s piece frames replies after over)
 
 -- A quiet came.
-abbrev pub RestsConnection : Option LinkNumber → List ℕ → ℕ → Connection → ListTeller → ConnectionState → ListTeller → Type 0
+abbrev pub RestsConnection : Option LinkNumber → List ℕ → ℕ → Connection → Shown → ConnectionState → Shown → Type 0
 RestsConnection None block now s t c u = (u ≡ t) × IsConnection block c s
 RestsConnection (Some link) block now s t c u = (answer : Told) × Extends t (step now link asks.Pulse answer ∷ []) u × IsConnection block c (after_quiet answer s)
 
 -- The connection was lost.
-abbrev pub LosesConnection : Option LinkNumber → List ℕ → ℕ → Connection → ListTeller → ConnectionState → ListTeller → Type 0
+abbrev pub LosesConnection : Option LinkNumber → List ℕ → ℕ → Connection → Shown → ConnectionState → Shown → Type 0
 LosesConnection None block now s t c u = (u ≡ t) × IsConnection block c (after_loss s)
 LosesConnection (Some link) block now s t c u = (answer : Told) × Extends t (step now link asks.Lost answer ∷ []) u × IsConnection block c (after_loss s)
 

@@ -1,6 +1,7 @@
 -- What the calls on a server that is replayed on do (this profile).
-use Rattle.std.specs.Prelude.{◌≡◌, ℕ, List, [], length, slice_get, Option, Some, None}
-use Rattle.afp_core.specs.Telling.{start_of, history_of}
+use Rattle.record_keeper.specs.Planned.{MemoryState, never_fails}
+use Rattle.std.specs.FinMap as map
+use Rattle.std.specs.Prelude.{◌≡◌, ℕ, true, List, [], ◌∷◌, length, slice_get, Option, Some, None}
 use Rattle.afp_serial.specs.Household.{Household}
 use Rattle.afp_serial.specs.World.{fresh_world}
 use Rattle.capture_lines.specs.declared.line.What.{What}
@@ -15,11 +16,21 @@ use Rattle.std.specs.Prelude.{drop}
 abbrev pub AreUnused : List ConnectionState → Type 0
 AreUnused connections = (k : ℕ) (c : ConnectionState) → slice_get connections k ≡ Some c → c ≡ unused_state
 
+-- a keeper in memory that holds nothing and never fails
+pub record IsNew (k : MemoryState) : Type 0 where
+  pub empty : k.records ≡ map.empty
+  pub sure : never_fails k.planned ≡ true
+  pub faultless : k.planned.faults ≡ 0
+
+abbrev pub AreNew : List MemoryState → Type 0
+AreNew [] = Unit {0}
+AreNew (k ∷ keepers) = IsNew k × AreNew keepers
+
 -- a server of this house that nobody has asked, from a moment on
 pub record IsFreshRunning (house : Household) (now : ℕ) (r : RunningState) : Type 0 where
   pub serves : r.house ≡ house
-  pub start : (start_of r.teller).world ≡ fresh_world house now
-  pub history : history_of r.teller ≡ []
+  pub start : r.teller.start ≡ fresh_world house now
+  pub history : r.teller.history ≡ []
   pub size : length r.connections ≡ 1000
   pub connections : AreUnused r.connections
   pub links : r.links ≡ 0

@@ -1,6 +1,6 @@
 -- What the calls on a connection at a place do (this profile).
 use Rattle.std.specs.Prelude.{◌≡◌, ℕ, false, List, Option, Some, slice_get, slice_set}
-use Rattle.afp_core.specs.declared.list_teller.ListTeller.{ListTeller}
+use Rattle.afp_serial.specs.Shown.{Shown}
 use Rattle.afp_server.specs.Wire.{open_link}
 use Rattle.afp_server.specs.declared.tally.Tally.{Tally}
 use Rattle.capture_log.specs.Connections.{Connection}
@@ -15,21 +15,21 @@ pub record IsFit (block : List ℕ) (c : ConnectionState) : Type 0 where
   pub takes : c.over ≡ false
   pub there : c.lost ≡ false
 
-pub record FeedsAt (block : List ℕ) (now : ℕ) (piece : List ℕ) (slots : List ConnectionState) (index : ℕ) (t : ListTeller) (tally : Tally) (new : List ConnectionState) (u : ListTeller) : Type 0 where
+pub record FeedsAt (block : List ℕ) (now : ℕ) (piece : List ℕ) (slots : List ConnectionState) (index : ℕ) (t : Shown) (tally : Tally) (new : List ConnectionState) (u : Shown) : Type 0 where
   pub old : ConnectionState
   pub then_is : ConnectionState
   pub there : slice_get slots index ≡ Some old
   pub set : new ≡ slice_set slots index then_is
   pub feeds : (s : Connection) → IsConnection block old s → FeedsConnection block now piece s t tally then_is u
 
-pub record RestsAt (now : ℕ) (slots : List ConnectionState) (index : ℕ) (t : ListTeller) (new : List ConnectionState) (u : ListTeller) : Type 0 where
+pub record RestsAt (now : ℕ) (slots : List ConnectionState) (index : ℕ) (t : Shown) (new : List ConnectionState) (u : Shown) : Type 0 where
   pub old : ConnectionState
   pub then_is : ConnectionState
   pub there : slice_get slots index ≡ Some old
   pub set : new ≡ slice_set slots index then_is
   pub rests : (block : List ℕ) (s : Connection) → IsConnection block old s → RestsConnection (open_link s.stage) block now s t then_is u
 
-pub record LosesAt (now : ℕ) (slots : List ConnectionState) (index : ℕ) (t : ListTeller) (new : List ConnectionState) (u : ListTeller) : Type 0 where
+pub record LosesAt (now : ℕ) (slots : List ConnectionState) (index : ℕ) (t : Shown) (new : List ConnectionState) (u : Shown) : Type 0 where
   pub old : ConnectionState
   pub then_is : ConnectionState
   pub there : slice_get slots index ≡ Some old

@@ -5,6 +5,7 @@ use Rattle.afp_base.specs.declared.ids.LinkNumber.{LinkNumber}
 use Rattle.afp_serial.specs.History.{stand}
 use Rattle.afp_serial.specs.Household.{Household, household}
 use Rattle.afp_serial.specs.HouseFault.{is_name, is_bad_user, is_bad_volume}
+use Rattle.afp_serial.specs.Limits.{most_volumes}
 use Rattle.afp_serial.specs.Limits.{longest_server, most_users, first_user_id}
 use Rattle.afp_serial.specs.StatusBlock.{status_block}
 use Rattle.afp_serial.specs.Went.{Step, step}
@@ -50,10 +51,6 @@ no_house = household [] (zeros 16) [] [] [] (zeros 32)
 -- before the first line
 abbrev pub begins : Standing
 begins = record { part = parts.Title; house = no_house; start = None; connections = λ k. unused; links = 0; history = []; replies = [] }
-
--- the most volumes: as many as the core serves
-abbrev pub most_volumes : ℕ
-most_volumes = 1
 
 -- which line may come in each part, and the part that follows it
 abbrev pub part_after : Part → Line → Option Part

@@ -1,8 +1,7 @@
 -- What the parts of a replay hold, and where a capture stands by them (this profile).
 use Rattle.std.specs.Prelude.{◌≡◌, ◌≢◌, ℕ, ◌+◌, ◌≤◌, Bool, true, false, List, [], ◌++◌, suc, length, drop, Option, Some, None, All, slice_get}
 use Rattle.afp_base.specs.Counts.{counted}
-use Rattle.afp_core.specs.Telling.{start_of, history_of}
-use Rattle.afp_core.specs.declared.list_teller.ListTeller.{ListTeller}
+use Rattle.afp_serial.specs.Shown.{Shown}
 use Rattle.afp_serial.specs.History.{stand}
 use Rattle.afp_serial.specs.Household.{Household}
 use Rattle.afp_serial.specs.StatusBlock.{status_block}
@@ -20,7 +19,6 @@ use Rattle.afp_server.specs.declared.wire.WireEnd.{WireEnd}
 use Rattle.capture_log.specs.Connections.{Connection, FramesEnd, output, entries_of, AreServed}
 use Rattle.capture_log.specs.Judged.{refused_in}
 use Rattle.capture_log.specs.Standing.{Standing}
-use Rattle.capture_log.specs.declared.part.Part.{Part}
 
 -- A connection: the wire that its bytes are fed to, and a bound of how many those were; whether it was used, takes no more bytes and was
 -- lost; its output, but perhaps some first part that was compared, the place in that from which on it was not, and how many bytes of all
@@ -81,16 +79,16 @@ pub record IsConnection (block : List ℕ) (c : ConnectionState) (s : Connection
 -- there were, and refusals among them.
 pub record RunningState : Type 0 where
   pub house : Household
-  pub teller : ListTeller
+  pub teller : Shown
   pub connections : List ConnectionState
   pub links : ℕ
   pub replies : ℕ
   pub refused : ℕ
 
 -- The teller's history began with this house at a moment, and is the capture's.
-pub record IsTeller (t : ListTeller) (s : Standing) (first : ℕ) : Type 0 where
-  pub start : (start_of t).world ≡ fresh_world s.house first
-  pub history : history_of t ≡ s.history
+pub record IsTeller (t : Shown) (s : Standing) (first : ℕ) : Type 0 where
+  pub start : t.start ≡ fresh_world s.house first
+  pub history : t.history ≡ s.history
 
 -- what is held is where the capture stands, which begins at this moment
 pub record IsRunning (r : RunningState) (s : Standing) (first : ℕ) : Type 0 where
@@ -103,7 +101,7 @@ pub record IsRunning (r : RunningState) (s : Standing) (first : ℕ) : Type 0 wh
   pub connections : (k : ℕ) (c : ConnectionState) → slice_get r.connections k ≡ Some c → IsConnection (status_block s.house) c (s.connections (suc k))
 
 -- Bytes were fed to a wire: these frames of all its bytes were handled, by these steps, which the teller answered.
-pub record FeedsWire (now : ℕ) (bytes : List ℕ) (past : List Frame) (piece : List ℕ) (old : WireState) (out : List ℕ) (t : ListTeller) (over : Bool) (new : WireState) (sent : List ℕ) (u : ListTeller) : Type 0 where
+pub record FeedsWire (now : ℕ) (bytes : List ℕ) (past : List Frame) (piece : List ℕ) (old : WireState) (out : List ℕ) (t : Shown) (over : Bool) (new : WireState) (sent : List ℕ) (u : Shown) : Type 0 where
   pub frames : List Frame
   pub steps : List Step
   pub replies : List Frame
@@ -114,9 +112,9 @@ pub record FeedsWire (now : ℕ) (bytes : List ℕ) (past : List Frame) (piece :
   pub given : over ≡ false → GivenOut (bytes ++ piece) (past ++ frames) new.held
   pub sent_is : sent ≡ out ++ spelling_of replies
   pub tally : new.tally ≡ tallied no_tally steps replies
-  pub start : start_of u ≡ start_of t
-  pub history : history_of u ≡ history_of t ++ entries_of steps
-  pub served : AreServed (stand (start_of t).world (history_of t)) steps
+  pub start : u.start ≡ t.start
+  pub history : u.history ≡ t.history ++ entries_of steps
+  pub served : AreServed (stand t.start (t.history)) steps
 
 -- whether a wire takes no more bytes
 abbrev pub is_end : Option WireEnd → Bool
@@ -126,9 +124,3 @@ is_end (Some end) = true
 -- what a wire is where it takes more bytes
 abbrev pub GoesOn : Bool → WireState → Type 0
 GoesOn over w = over ≡ false → (w.end ≡ None) × (w.stage ≢ Closing)
-
--- A capture, as far as it was taken: what may come next, the house that its lines make, and the server, once something happened.
-pub record CaptureState : Type 0 where
-  pub part : Part
-  pub house : Household
-  pub running : Option RunningState

@@ -1,8 +1,10 @@
 //! One connection of a capture.
 ghost use Rattle.std.specs.Prelude.{◌≡◌, ◌≢◌, ◌+◌, ◌^◌, ◌<◌, ◌≤◌, List, ℕ, true, false, None, Some, IfOk, OnOk, length, drop};
+ghost use Rattle.afp_core.specs.Telling.{start_of, shown_of};
 ghost use Rattle.afp_serial.specs.StatusBlock.{status_block};
 ghost use Rattle.afp_serial.specs.declared.ask.Told.{Told};
 ghost use Rattle.capture_log.specs.Moves.{wire_or};
+ghost use Rattle.capture_log.specs.Tellers.{NeverFails};
 ghost use Rattle.capture_log.specs.Standing.{after_quiet, after_loss};
 ghost use Rattle.afp_server.specs.declared.stage.Stage.{Stage};
 ghost use Rattle.dsi_frame.specs.Deframe.{GivenOut};
@@ -14,6 +16,7 @@ use afp_base::{Bytes, LinkNumber, Moment, OutOfMemory};
 use afp_core::ListTeller;
 use afp_serial::{Ask, House, Teller, Told};
 use afp_server::{Tally, Wire, WireEnd};
+use record_keeper::MemoryKeeper;
 use std::alloc::Global;
 use std::marker::Model;
 
@@ -65,14 +68,16 @@ fn feed_wire(
     wire: &mut Wire,
     piece: &[u8],
     now: Moment,
-    teller: &mut ListTeller,
+    teller: &mut ListTeller<MemoryKeeper>,
     out: &mut Bytes,
 ) -> Result<bool, OutOfMemory>
     requires goes_on { wire.old.end ≡ None }
     requires live { wire.old.stage ≢ Stage.Closing }
+    requires sure { NeverFails (start_of teller.old) }
     requires total { wire.old.held.place + length wire.old.held.rest + length piece.now < 2 ^ 64 }
     ensures fed { IfOk result (λ over. (bytes : List ℕ) (past : List Frame) → GivenOut bytes past wire.old.held
-        → FeedsWire now bytes past piece.now wire.old out.old teller.old over wire.new out.new teller.new) }
+        → FeedsWire now bytes past piece.now wire.old out.old (shown_of teller.old) over wire.new out.new (shown_of teller.new)) }
+    ensures fixed { start_of teller.new ≡ start_of teller.old }
     ensures goes_on { IfOk result (λ over. GoesOn over wire.new) }
     ensures block { wire.new.block ≡ wire.old.block }
     ensures total { wire.new.held.place + length wire.new.held.rest ≤ wire.old.held.place + length wire.old.held.rest + length piece.now }
@@ -149,13 +154,15 @@ impl Connection {
         house: &House,
         piece: &[u8],
         now: Moment,
-        teller: &mut ListTeller,
+        teller: &mut ListTeller<MemoryKeeper>,
     ) -> Result<Tally, OutOfMemory>
         requires is { (s : Peer) × IsConnection (status_block house.now) self.old s }
         requires takes { self.old.over ≡ false }
         requires there { self.old.lost ≡ false }
-        ensures { IfOk result (λ tally. (s : Peer) → IsConnection (status_block house.now) self.old s
-            → FeedsConnection (status_block house.now) now piece.now s teller.old tally self.new teller.new) }
+        requires sure { NeverFails (start_of teller.old) }
+        ensures fixed { start_of teller.new ≡ start_of teller.old }
+        ensures fed { IfOk result (λ tally. (s : Peer) → IsConnection (status_block house.now) self.old s
+            → FeedsConnection (status_block house.now) now piece.now s (shown_of teller.old) tally self.new (shown_of teller.new)) }
     {
         let Some(fed) = self.fed.checked_add(piece.len() as u64) else {
             return Err(OutOfMemory);
@@ -204,9 +211,15 @@ impl Connection {
     }
 
     /// A quiet.
-    pub fn rest(&mut self, now: Moment, teller: &mut ListTeller) -> Result<(), OutOfMemory>
-        ensures { OnOk result ((block : List ℕ) (s : Peer) → IsConnection block self.old s
-            → RestsConnection (open_link s.stage) block now s teller.old self.new teller.new) }
+    pub fn rest(
+        &mut self,
+        now: Moment,
+        teller: &mut ListTeller<MemoryKeeper>,
+    ) -> Result<(), OutOfMemory>
+        requires sure { NeverFails (start_of teller.old) }
+        ensures fixed { start_of teller.new ≡ start_of teller.old }
+        ensures rests { OnOk result ((block : List ℕ) (s : Peer) → IsConnection block self.old s
+            → RestsConnection (open_link s.stage) block now s (shown_of teller.old) self.new (shown_of teller.new)) }
     {
         match self.link() {
             Some(link) => {
@@ -226,9 +239,15 @@ impl Connection {
     }
 
     /// A loss.
-    pub fn lose(&mut self, now: Moment, teller: &mut ListTeller) -> Result<(), OutOfMemory>
-        ensures { OnOk result ((block : List ℕ) (s : Peer) → IsConnection block self.old s
-            → LosesConnection (open_link s.stage) block now s teller.old self.new teller.new) }
+    pub fn lose(
+        &mut self,
+        now: Moment,
+        teller: &mut ListTeller<MemoryKeeper>,
+    ) -> Result<(), OutOfMemory>
+        requires sure { NeverFails (start_of teller.old) }
+        ensures fixed { start_of teller.new ≡ start_of teller.old }
+        ensures loses { OnOk result ((block : List ℕ) (s : Peer) → IsConnection block self.old s
+            → LosesConnection (open_link s.stage) block now s (shown_of teller.old) self.new (shown_of teller.new)) }
     {
         match self.link() {
             Some(link) => {

@@ -1,7 +1,7 @@
 //! The server that a capture is replayed on, and its connections.
 ghost use Rattle.std.specs.Prelude.{◌≡◌, ◌<◌, ◌≤◌, ℕ, suc, false, Some, IfOk, OnOk, length};
 ghost use Rattle.capture_lines.specs.declared.line.What.{What};
-ghost use Rattle.capture_log.specs.Running.{AreUnused, Happened, HappensBy};
+ghost use Rattle.capture_log.specs.Running.{AreNew, AreUnused, Happened, HappensBy};
 ghost use Rattle.capture_log.specs.Standing.{Standing, is_refused_on};
 
 use crate::connection::Connection;
@@ -13,6 +13,7 @@ use afp_core::{Core, ListTeller};
 use afp_serial::House;
 use afp_server::Tally;
 use capture_lines::What;
+use record_keeper::MemoryKeeper;
 use std::alloc::Global;
 use std::marker::Model;
 
@@ -21,7 +22,7 @@ use std::marker::Model;
 pub struct Running {
     alloc: Global,
     house: House,
-    teller: ListTeller,
+    teller: ListTeller<MemoryKeeper>,
     connections: Vec<Connection>,
     links: u64,
     replies: u64,
@@ -29,18 +30,22 @@ pub struct Running {
 }
 
 impl Model for Running {
+    ghost use Rattle.afp_core.specs.Telling.{start_of, shown_of};
     ghost use Rattle.capture_log.specs.States.{RunningState};
+    ghost use Rattle.capture_log.specs.Tellers.{NeverFails};
 
     ghost Value = { RunningState };
 
     ghost view = { λ r. record {
       house = r.house;
-      teller = r.teller;
+      teller = shown_of r.teller;
       connections = r.connections.items;
       links = r.links;
       replies = r.replies;
       refused = r.refused;
     } };
+
+    ghost invariant = { λ r. NeverFails (start_of r.teller) };
 }
 
 /// As many connections as there may be.
@@ -58,6 +63,18 @@ fn no_connections(alloc: Global) -> Result<Vec<Connection>, OutOfMemory>
     Ok(connections)
 }
 
+/// So many keepers in memory that hold nothing and never fail.
+fn new_keepers(alloc: Global, count: usize) -> Result<Vec<MemoryKeeper>, OutOfMemory>
+    ensures count { IfOk result (λ keepers. length keepers.items ≡ count) }
+    ensures empty { IfOk result (λ keepers. AreNew keepers.items) }
+{
+    let mut keepers = Vec::new(alloc);
+    while keepers.len() < count {
+        keepers.push(MemoryKeeper::new(alloc, Vec::new(alloc)))?;
+    }
+    Ok(keepers)
+}
+
 impl Running {
     ghost use Rattle.std.specs.Prelude.{if◌then◌else◌};
     ghost use Rattle.capture_log.specs.Running.{IsFreshRunning};
@@ -67,7 +84,8 @@ impl Running {
     pub fn new(alloc: Global, house: House, now: Moment) -> Result<Running, OutOfMemory>
         ensures { IfOk result (λ running. IsFreshRunning house now running) }
     {
-        let Ok(core) = Core::new(alloc, &house, now) else {
+        let keepers = new_keepers(alloc, house.volumes().len())?;
+        let Ok(core) = Core::new(alloc, &house, keepers, now) else {
             return Err(OutOfMemory);
         };
         let connections = no_connections(alloc)?;

@@ -3,11 +3,14 @@ ghost use Rattle.std.specs.Prelude.{◌≡◌, ◌≤◌, ◌<◌, ◌++◌, ◌
 ghost use Rattle.afp_serial.specs.HouseFault.{is_bad_user, is_bad_volume, is_name};
 ghost use Rattle.afp_serial.specs.Household.{household};
 ghost use Rattle.afp_serial.specs.Limits.{longest_server, most_users};
-ghost use Rattle.capture_log.specs.Standing.{most_volumes, no_house, user_behind};
+ghost use Rattle.afp_serial.specs.Limits.{most_volumes};
+ghost use Rattle.capture_log.specs.Standing.{no_house, user_behind};
+ghost use Rattle.capture_log.specs.Taking.{house_with, refused_by};
 
 use crate::names::{has_user, has_volume, is_name};
 use afp_base::{Bytes, OutOfMemory};
 use afp_serial::{House, User};
+use capture_lines::Line;
 use std::alloc::Global;
 use std::marker::Model;
 use std::{mem, str};
@@ -19,10 +22,10 @@ const LONGEST_USER: usize = 31;
 
 const LONGEST_VOLUME: usize = 27;
 
-/// The most users, and the most volumes: as many as the core serves.
+/// The most users, and the most volumes.
 const MOST_USERS: usize = 256;
 
-const MOST_VOLUMES: usize = 1;
+const MOST_VOLUMES: usize = 8;
 
 /// The id of the first user.
 const FIRST_USER: u32 = 501;
@@ -151,6 +154,38 @@ impl Setup {
     {
         self.volumes.push(name.copy()?)?;
         Ok(())
+    }
+
+    /// Whether the line is one that it refuses.
+    pub fn refuses(&self, line: &Line) -> bool
+        ensures { result ≡ refused_by self.now line.now }
+    {
+        match line {
+            Line::Server(name) => self.refuses_server(name.as_slice()),
+            Line::User { name, password } => self.refuses_user(name.as_slice(), *password),
+            Line::Volume(name) => self.refuses_volume(name.as_slice()),
+            Line::Title | Line::Signature(_) | Line::Key(_) | Line::At { .. } | Line::End => false,
+        }
+    }
+
+    /// Takes what a line says of the house.
+    pub fn take(&mut self, line: &Line) -> Result<(), OutOfMemory>
+        ensures { OnOk result (self.new ≡ house_with self.old line.now) }
+    {
+        match line {
+            Line::Server(name) => self.set_server(name),
+            Line::Signature(bytes) => {
+                self.set_signature(*bytes);
+                Ok(())
+            }
+            Line::User { name, password } => self.add_user(name, *password),
+            Line::Volume(name) => self.add_volume(name),
+            Line::Key(bytes) => {
+                self.set_key(*bytes);
+                Ok(())
+            }
+            Line::Title | Line::At { .. } | Line::End => Ok(()),
+        }
     }
 
     /// The house of these parts, which are no longer here.

@@ -1,7 +1,9 @@
 //! Connections by their places.
 ghost use Rattle.std.specs.Prelude.{◌≡◌, ◌<◌, ℕ, Some, false, length, slice_get, IfOk, OnOk};
+ghost use Rattle.afp_core.specs.Telling.{start_of, shown_of};
 ghost use Rattle.afp_serial.specs.StatusBlock.{status_block};
 ghost use Rattle.capture_log.specs.Slots.{FeedsAt, RestsAt, LosesAt, ComparesAt, IsFit};
+ghost use Rattle.capture_log.specs.Tellers.{NeverFails};
 ghost use Rattle.capture_log.specs.States.{ConnectionState};
 
 use crate::connection::Connection;
@@ -10,6 +12,7 @@ use afp_base::{Moment, OutOfMemory};
 use afp_core::ListTeller;
 use afp_serial::House;
 use afp_server::Tally;
+use record_keeper::MemoryKeeper;
 use std::alloc::Global;
 
 /// Whether the connection at a place takes no more bytes.
@@ -50,11 +53,13 @@ pub fn feed_at(
     house: &House,
     piece: &[u8],
     now: Moment,
-    teller: &mut ListTeller,
+    teller: &mut ListTeller<MemoryKeeper>,
 ) -> Result<Tally, OutOfMemory>
     requires within { index < length slots.old }
     requires fit { (c : ConnectionState) → slice_get slots.old index ≡ Some c → IsFit (status_block house.now) c }
-    ensures { IfOk result (λ tally. FeedsAt (status_block house.now) now piece.now slots.old index teller.old tally slots.new teller.new) }
+    requires sure { NeverFails (start_of teller.old) }
+    ensures fixed { start_of teller.new ≡ start_of teller.old }
+    ensures feeds { IfOk result (λ tally. FeedsAt (status_block house.now) now piece.now slots.old index (shown_of teller.old) tally slots.new (shown_of teller.new)) }
 {
     slots[index].feed(alloc, house, piece, now, teller)
 }
@@ -64,10 +69,12 @@ pub fn rest_at(
     slots: &mut [Connection],
     index: usize,
     now: Moment,
-    teller: &mut ListTeller,
+    teller: &mut ListTeller<MemoryKeeper>,
 ) -> Result<(), OutOfMemory>
-    requires { index < length slots.old }
-    ensures { OnOk result (RestsAt now slots.old index teller.old slots.new teller.new) }
+    requires within { index < length slots.old }
+    requires sure { NeverFails (start_of teller.old) }
+    ensures fixed { start_of teller.new ≡ start_of teller.old }
+    ensures rests { OnOk result (RestsAt now slots.old index (shown_of teller.old) slots.new (shown_of teller.new)) }
 {
     slots[index].rest(now, teller)
 }
@@ -77,10 +84,12 @@ pub fn lose_at(
     slots: &mut [Connection],
     index: usize,
     now: Moment,
-    teller: &mut ListTeller,
+    teller: &mut ListTeller<MemoryKeeper>,
 ) -> Result<(), OutOfMemory>
-    requires { index < length slots.old }
-    ensures { OnOk result (LosesAt now slots.old index teller.old slots.new teller.new) }
+    requires within { index < length slots.old }
+    requires sure { NeverFails (start_of teller.old) }
+    ensures fixed { start_of teller.new ≡ start_of teller.old }
+    ensures loses { OnOk result (LosesAt now slots.old index (shown_of teller.old) slots.new (shown_of teller.new)) }
 {
     slots[index].lose(now, teller)
 }

@@ -6,6 +6,7 @@ use afp_outside::{OpenGate, TapeClock, TapeLink, TapeListener, TapeSink};
 use plain_server::laws::good_words_are_served;
 use plain_server::plain::afpd_plain;
 use plain_server::setup::setup;
+use record_keeper::{Keeper, MemoryKeeper};
 use std::alloc::Global;
 use std::test::Fail;
 
@@ -64,10 +65,11 @@ static REFUSED_CALLS: [(&str, &str, &[usize]); 7] = [
         "01040000000000000000000c0000000000040001fc000204000000200102000100000000000000000000000001020002ffffec66000000000000000001020003000000000000000400000000002000010102000400000000000000000000000001020005ffffec650000000000000000",
         &[],
     ),
-    // The server's parameters before a login; a call that is misspelt, and two that have no row yet.
+    // The server's parameters before a login; a call that is misspelt, one on a volume that is not open, and one that has no
+    // row yet.
     (
         "00040000000000000000000600000000010400000400000200010000000000000002000000001000000200020000000000000018000000001206414650332e330f4e6f20557365722041757468656e740002000300000000000000030000000011000000020004000000000000000600000000110000010fff000600050000000c0000000d0000000021000001000000000000000178",
-        "01040000000000000000000c0000000000040001fc0002040000002001020001ffffec6100000000000000000102000200000000000000000000000001020003ffffec65000000000000000001020004ffffec60000000000000000001060005ffffec600000000000000000",
+        "01040000000000000000000c0000000000040001fc0002040000002001020001ffffec6100000000000000000102000200000000000000000000000001020003ffffec65000000000000000001020004ffffec65000000000000000001060005ffffec600000000000000000",
         &[],
     ),
     // A session that is closed by its client.
@@ -132,7 +134,48 @@ fn link(alloc: Global, hex: &str, reads: &[usize]) -> Result<TapeLink, Fail>
     Ok(link)
 }
 
-/// Whether the whole server, over a door, ends with this status and this report.
+/// So many keepers in memory that hold nothing, whose calls of these numbers fail.
+fn keepers(
+    alloc: Global,
+    count: usize,
+    failing: &[u64],
+) -> Result<Vec<Box<dyn Keeper + Send>>, Fail> {
+    let mut keepers: Vec<Box<dyn Keeper + Send>> = Vec::new(alloc);
+    for _ in 0..count {
+        let keeper = MemoryKeeper::new(alloc, failing.to_vec(alloc)?);
+        keepers.push(Box::new(alloc, keeper)?)?;
+    }
+    Ok(keepers)
+}
+
+/// Whether the whole server, over a door and these keepers, ends with this status and this report.
+fn ends_over(
+    alloc: Global,
+    words: &[String],
+    keepers: Vec<Box<dyn Keeper + Send>>,
+    door: &mut TapeListener,
+    report_fails: &[u64],
+    status: u8,
+    text: &str,
+) -> Result<bool, Fail>
+    requires { door.old.closed ≡ false }
+{
+    let clock = TapeClock::new(moment()?);
+    let mut report = TapeSink::new(alloc, Vec::new(alloc), report_fails.to_vec(alloc)?)?;
+    let told = afpd_plain(
+        alloc,
+        words,
+        keepers,
+        door,
+        &clock,
+        &OpenGate,
+        [0; 32],
+        &mut report,
+    );
+    Ok(told == status && report.written() == text.as_bytes())
+}
+
+/// The same over one keeper, which never fails.
 fn ends(
     alloc: Global,
     words: &[String],
@@ -143,10 +186,15 @@ fn ends(
 ) -> Result<bool, Fail>
     requires { door.old.closed ≡ false }
 {
-    let clock = TapeClock::new(moment()?);
-    let mut report = TapeSink::new(alloc, Vec::new(alloc), report_fails.to_vec(alloc)?)?;
-    let told = afpd_plain(alloc, words, door, &clock, &OpenGate, [0; 32], &mut report);
-    Ok(told == status && report.written() == text.as_bytes())
+    ends_over(
+        alloc,
+        words,
+        keepers(alloc, 1, &[])?,
+        door,
+        report_fails,
+        status,
+        text,
+    )
 }
 
 /// Links on which bytes come that hexadecimal digits spell, each in reads of some sizes.
@@ -281,7 +329,7 @@ fn good_words_set_the_door(rt: HostRuntime) -> Result<(), Fail> {
             "{other}"
         );
     }
-    good_words_are_served::<TapeListener, OpenGate>();
+    good_words_are_served::<TapeListener, OpenGate, MemoryKeeper>();
     assert!(rt; are_set(alloc)?);
     Ok(())
 }
@@ -337,5 +385,46 @@ fn other_words_and_houses_are_refused(rt: HostRuntime) -> Result<(), Fail> {
     }
     assert!(rt; has_no_words(alloc, &[9], 2, "bad words\n")?);
     assert!(rt; has_no_words(alloc, &[0], 5, "")?);
+    Ok(())
+}
+
+/// The keepers of a run over no link, their calls that fail, the status, and the report: their number is not that of the
+/// volumes, or a load fails.
+fn loads() -> &'static [(usize, &'static [u64], u8, &'static str)] {
+    &[
+        (0, &[], 2, "bad words\n"),
+        (2, &[], 2, "bad words\n"),
+        (1, &[0], 3, "load 1 fault\n"),
+        (1, &[], 0, "entries 0 sessions 0\n"),
+    ]
+}
+
+/// Whether a run over no link and so many keepers ends with this status and this report.
+fn is_loaded(
+    alloc: Global,
+    count: usize,
+    failing: &[u64],
+    status: u8,
+    report: &str,
+) -> Result<bool, Fail> {
+    let words = words(alloc, 7, "1")?;
+    let mut door = door_of(alloc, &[], &[])?;
+    let keepers = keepers(alloc, count, failing)?;
+    ends_over(
+        alloc,
+        words.as_slice(),
+        keepers,
+        &mut door,
+        &[],
+        status,
+        report,
+    )
+}
+
+#[test]
+fn volumes_are_loaded_from_their_keepers(rt: HostRuntime) -> Result<(), Fail> {
+    for (count, failing, status, report) in loads() {
+        assert!(rt; is_loaded(rt.alloc(), *count, failing, *status, report)?);
+    }
     Ok(())
 }

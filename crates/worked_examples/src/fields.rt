@@ -20,6 +20,11 @@ pub fn put_numbers(text: &mut String, numbers: &[(&str, i64)]) -> Result<(), Cas
     Ok(())
 }
 
+/// Whether one of the bytes is not 0.
+fn is_some(bytes: &[u8]) -> bool {
+    bytes.iter().any(|byte| *byte != 0)
+}
+
 /// A space, the name and the bytes, where one is not 0.
 pub fn put_bytes(
     alloc: Global,
@@ -27,7 +32,7 @@ pub fn put_bytes(
     name: &str,
     bytes: &[u8],
 ) -> Result<(), CaseFault> {
-    if bytes.iter().any(|byte| *byte != 0) {
+    if is_some(bytes) {
         write!(text, " {name} ")?;
         put_word(alloc, text, bytes)?;
     }
@@ -65,8 +70,20 @@ fn volume_text(alloc: Global, volume: &VolumeValues, text: &mut String) -> Resul
     put_bytes(alloc, text, "name", volume.name.as_slice())
 }
 
-fn file_text(alloc: Global, file: &FileValues, text: &mut String) -> Result<(), CaseFault> {
-    text.push_str("file")?;
+/// The fields that files and directories share, but for their numbers.
+fn put_texts(
+    alloc: Global,
+    text: &mut String,
+    finder: &[u8],
+    long_name: &[u8],
+    utf8_name: &[u8],
+) -> Result<(), CaseFault> {
+    put_bytes(alloc, text, "finder", finder)?;
+    put_bytes(alloc, text, "long_name", long_name)?;
+    put_bytes(alloc, text, "utf8_name", utf8_name)
+}
+
+fn put_file_numbers(file: &FileValues, text: &mut String) -> Result<(), CaseFault> {
     put_numbers(
         text,
         &[
@@ -75,29 +92,28 @@ fn file_text(alloc: Global, file: &FileValues, text: &mut String) -> Result<(), 
             ("created", i64::from(file.created)),
             ("modified", i64::from(file.modified)),
             ("backup", i64::from(file.backup)),
-        ],
-    )?;
-    put_numbers(
-        text,
-        &[
             ("id", i64::from(file.id)),
             ("data_length", i64::from(file.data_length)),
             ("resource_length", i64::from(file.resource_length)),
             ("ext_data_length", wide(file.ext_data_length)),
             ("ext_resource_length", wide(file.ext_resource_length)),
         ],
-    )?;
-    put_bytes(alloc, text, "finder", &file.finder)?;
-    put_bytes(alloc, text, "long_name", file.long_name.as_slice())?;
-    put_bytes(alloc, text, "utf8_name", file.utf8_name.as_slice())
+    )
 }
 
-fn directory_text(
-    alloc: Global,
-    directory: &DirValues,
-    text: &mut String,
-) -> Result<(), CaseFault> {
-    text.push_str("directory")?;
+fn file_text(alloc: Global, file: &FileValues, text: &mut String) -> Result<(), CaseFault> {
+    text.push_str("file")?;
+    put_file_numbers(file, text)?;
+    put_texts(
+        alloc,
+        text,
+        &file.finder,
+        file.long_name.as_slice(),
+        file.utf8_name.as_slice(),
+    )
+}
+
+fn put_directory_numbers(directory: &DirValues, text: &mut String) -> Result<(), CaseFault> {
     put_numbers(
         text,
         &[
@@ -106,21 +122,29 @@ fn directory_text(
             ("created", i64::from(directory.created)),
             ("modified", i64::from(directory.modified)),
             ("backup", i64::from(directory.backup)),
-        ],
-    )?;
-    put_numbers(
-        text,
-        &[
             ("id", i64::from(directory.id)),
             ("offspring", i64::from(directory.offspring)),
             ("owner", i64::from(directory.owner)),
             ("group", i64::from(directory.group)),
             ("rights", i64::from(directory.rights)),
         ],
-    )?;
-    put_bytes(alloc, text, "finder", &directory.finder)?;
-    put_bytes(alloc, text, "long_name", directory.long_name.as_slice())?;
-    put_bytes(alloc, text, "utf8_name", directory.utf8_name.as_slice())
+    )
+}
+
+fn directory_text(
+    alloc: Global,
+    directory: &DirValues,
+    text: &mut String,
+) -> Result<(), CaseFault> {
+    text.push_str("directory")?;
+    put_directory_numbers(directory, text)?;
+    put_texts(
+        alloc,
+        text,
+        &directory.finder,
+        directory.long_name.as_slice(),
+        directory.utf8_name.as_slice(),
+    )
 }
 
 /// What the values are of, and those that are not zero.

@@ -4,6 +4,7 @@ use crate::words::{bytes_of, owned, text_of, word_of};
 use afp_base::{Bytes, Moment};
 use afp_core::{Core, CoreFault};
 use afp_serial::{House, HouseFault, User};
+use record_keeper::MemoryKeeper;
 use std::alloc::Global;
 
 /// The server's signature.
@@ -124,22 +125,36 @@ pub fn status(alloc: Global, words: &[&str]) -> Result<String, CaseFault> {
     word_of(alloc, house.status(alloc)?.as_slice())
 }
 
-fn core_of(house: &House, alloc: Global, now: Moment) -> Result<&'static str, CaseFault> {
-    match Core::new(alloc, house, now) {
+/// So many keepers in memory that hold nothing and never fail.
+pub fn keepers_of(alloc: Global, count: usize) -> Result<Vec<MemoryKeeper>, CaseFault> {
+    let mut keepers = Vec::new(alloc);
+    for _ in 0..count {
+        keepers.push(MemoryKeeper::new(alloc, Vec::new(alloc)))?;
+    }
+    Ok(keepers)
+}
+
+fn core_of(
+    house: &House,
+    alloc: Global,
+    keepers: Vec<MemoryKeeper>,
+    now: Moment,
+) -> Result<&'static str, CaseFault> {
+    match Core::new(alloc, house, keepers, now) {
         Ok(_) => Ok("served"),
-        Err(CoreFault::Count) => Ok("too many"),
+        Err(CoreFault::Count) => Ok("other count"),
+        Err(CoreFault::Load { .. }) => Ok("not loaded"),
         Err(CoreFault::Memory) => Err(CaseFault::Memory),
     }
 }
 
-/// `volumes NAME,..`: whether one server has them.
+/// `volumes NAME,.. COUNT`: whether a server has them over so many keepers.
 pub fn volumes(alloc: Global, words: &[&str]) -> Result<String, CaseFault> {
-    let [volumes] = words else {
+    let [volumes, count] = words else {
         return Err(CaseFault::Word);
     };
     let house = server_of(alloc, b"Mac", volumes)?;
-    text_of(
-        alloc,
-        core_of(&house, alloc, crate::words::moment_of("100")?)?,
-    )
+    let keepers = keepers_of(alloc, count.parse::<usize>()?)?;
+    let now = crate::words::moment_of("100")?;
+    text_of(alloc, core_of(&house, alloc, keepers, now)?)
 }

@@ -1,12 +1,12 @@
 //! The kinds of cases.
 use crate::fault::CaseFault;
-use crate::server::{Server, ask, at, counts, history, link, new_server};
-use crate::whole::{fed, served};
+use crate::server::{Server, ask, at, counts, new_server};
+use crate::whole::served;
 use crate::{frames, houses, names, parameters, replies, requests, sessions};
 use std::alloc::Global;
 
 /// The words that begin a case.
-pub const KINDS: [&str; 27] = [
+pub const KINDS: [&str; 24] = [
     "frames",
     "frames_cut",
     "options",
@@ -28,12 +28,9 @@ pub const KINDS: [&str; 27] = [
     "volumes",
     "server",
     "at",
-    "link",
     "ask",
     "counts",
-    "history",
     "served",
-    "fed",
 ];
 
 /// What comes of a case of frames, or of a whole link.
@@ -42,7 +39,6 @@ fn frame_case(alloc: Global, kind: &str, words: &[&str]) -> Result<String, CaseF
         "frames" => frames::frames(alloc, words),
         "frames_cut" => frames::frames_cut(alloc, words),
         "served" => served(alloc, words),
-        "fed" => fed(alloc, words),
         _ => session_case(alloc, kind, words),
     }
 }
@@ -102,10 +98,8 @@ pub fn case(
     match kind {
         "server" => new_server(alloc, state, words),
         "at" => at(alloc, state, words),
-        "link" => link(alloc, state, words),
         "ask" => ask(alloc, state, words),
         "counts" => counts(alloc, state, words),
-        "history" => history(alloc, state, words),
         _ => frame_case(alloc, kind, words),
     }
 }

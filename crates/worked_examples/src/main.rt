@@ -11,7 +11,6 @@ mod fields;
 mod frames;
 mod houses;
 mod kinds;
-mod link;
 mod names;
 mod parameters;
 mod replies;

@@ -4,8 +4,7 @@ ghost use Rattle.afp_outside.specs.Tape.{IsFreshTape};
 
 use crate::fault::CaseFault;
 use crate::frames::put_bad;
-use crate::link::Link;
-use crate::server::{Server, fed_text, put_counts};
+use crate::server::{Server, put_counts};
 use crate::words::{bytes_of, word_of};
 use afp_base::{Bytes, Moment, OutOfMemory};
 use afp_outside::{OpenGate, TapeLink};
@@ -74,80 +73,44 @@ fn serve(
     run_text(alloc, link.written(), end)
 }
 
-fn feed(alloc: Global, server: &mut Server, bytes: &[u8], first: usize) -> Result<String, CaseFault>
-    requires { first ≤ length bytes.now }
-{
-    let mut link = Link::new(alloc, &server.house, server.now)?;
-    link.feed(&bytes[..first], server.now, &mut server.teller);
-    let end = link.feed(&bytes[first..], server.now, &mut server.teller);
-    let text = fed_text(alloc, link.written(), end);
-    link.lose(server.now, &mut server.teller);
-    text
-}
-
-/// How the bytes of a link come.
-#[derive(Clone, Copy)]
-enum Way {
-    /// A server reads them from it.
-    Read,
-    /// They are fed to a wire, and then the link is lost.
-    Fed,
-}
-
-fn go(
-    alloc: Global,
-    server: &mut Server,
-    way: Way,
-    bytes: &[u8],
-    first: usize,
-) -> Result<String, CaseFault>
-    requires { first ≤ length bytes.now }
-{
-    match way {
-        Way::Read => serve(alloc, server, bytes, first),
-        Way::Fed => feed(alloc, server, bytes, first),
-    }
-}
-
 /// The same, and the server's counts.
 fn go_and_count(
     alloc: Global,
     server: &mut Server,
-    way: Way,
     bytes: &[u8],
     first: usize,
 ) -> Result<String, CaseFault>
     requires { first ≤ length bytes.now }
 {
-    let mut text = go(alloc, server, way, bytes, first)?;
+    let mut text = serve(alloc, server, bytes, first)?;
     text.push(' ')?;
     put_counts(&server.teller, &mut text)?;
     Ok(text)
 }
 
 /// What a server writes to a link of which so many bytes come first, why the link ends, and the server's counts.
-fn run(alloc: Global, way: Way, bytes: &[u8], first: usize) -> Result<String, CaseFault>
+fn run(alloc: Global, bytes: &[u8], first: usize) -> Result<String, CaseFault>
     requires { first ≤ length bytes.now }
 {
     match Server::new(alloc) {
-        Ok(mut server) => go_and_count(alloc, &mut server, way, bytes, first),
+        Ok(mut server) => go_and_count(alloc, &mut server, bytes, first),
         Err(fault) => Err(fault),
     }
 }
 
 /// The place where the bytes were cut, where something else came of them.
-fn differs(alloc: Global, way: Way, bytes: &[u8], text: &str) -> Result<Option<usize>, CaseFault> {
+fn differs(alloc: Global, bytes: &[u8], text: &str) -> Result<Option<usize>, CaseFault> {
     for first in 1..bytes.len() {
-        if run(alloc, way, bytes, first)?.as_str() != text {
+        if run(alloc, bytes, first)?.as_str() != text {
             return Ok(Some(first));
         }
     }
     Ok(None)
 }
 
-fn at_each_place(alloc: Global, way: Way, bytes: &[u8]) -> Result<String, CaseFault> {
-    let mut text = run(alloc, way, bytes, bytes.len())?;
-    if let Some(first) = differs(alloc, way, bytes, text.as_str())? {
+fn at_each_place(alloc: Global, bytes: &[u8]) -> Result<String, CaseFault> {
+    let mut text = run(alloc, bytes, bytes.len())?;
+    if let Some(first) = differs(alloc, bytes, text.as_str())? {
         write!(text, " but not where it is cut at {first}")?;
     }
     Ok(text)
@@ -159,13 +122,5 @@ pub fn served(alloc: Global, words: &[&str]) -> Result<String, CaseFault> {
     let [bytes] = words else {
         return Err(CaseFault::Word);
     };
-    at_each_place(alloc, Way::Read, bytes_of(alloc, bytes)?.as_slice())
-}
-
-/// `fed BYTES`: the same of a wire to which the bytes are fed, in two pieces that are cut at any place; then the link is lost.
-pub fn fed(alloc: Global, words: &[&str]) -> Result<String, CaseFault> {
-    let [bytes] = words else {
-        return Err(CaseFault::Word);
-    };
-    at_each_place(alloc, Way::Fed, bytes_of(alloc, bytes)?.as_slice())
+    at_each_place(alloc, bytes_of(alloc, bytes)?.as_slice())
 }

@@ -13,8 +13,8 @@ feed-requires-clause-takes c = (c.requires.fit _ (slice_get-get_or c.args.slots.
 pub feed-requires-clause-there : goal.feed-requires-clause-there
 feed-requires-clause-there c = (c.requires.fit _ (slice_get-get_or c.args.slots.now c.args.index c.index-slots-index.result c.requires.within)).there
 
-pub returns : goal.returns
-returns c =
+pub returns-clause-feeds : goal.returns-clause-feeds
+returns-clause-feeds c =
     ok_with c.feed.result _ _
     (λ tally h. record { old = _; then_is = c.feed.new.self; there = slice_get-get_or c.args.slots.now c.args.index c.index-slots-index.result c.requires.within; set = refl; feeds = h })
-    c.feed.ensures
+    c.feed.ensures.fed

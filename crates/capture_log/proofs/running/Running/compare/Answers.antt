@@ -1,4 +1,5 @@
 use Rattle.std.proofs.Common.{List, length, arith, ap, ◌∙◌, subst}
+use Rattle.afp_core.specs.Telling.{shown_of}
 use Rattle.capture_log.specs.States.{ConnectionState, RunningState}
 use Rattle.capture_log.specs.Slots.{ComparesAt}
 use Rattle.capture_log.proofs.RunningLemmas.{lent_back, ok_with, compare-there}
@@ -13,6 +14,6 @@ returns c =
     compare-there c.args.self.now _ s first now c.args.index c.args.wanted.now found slots is started
     (subst (λ (x : RunningState). ComparesAt c.args.wanted.now x.connections c.args.index found slots) c.self.view_is
     (subst (λ (l : List ConnectionState). ComparesAt c.args.wanted.now l c.args.index found slots) c.as_mut_slice.ensures.value at))
-    (ap (λ (l : List ConnectionState). record { house = c.self.inside.house; teller = c.self.inside.teller; connections = l; links = c.self.inside.links; replies = c.self.inside.replies; refused = c.self.inside.refused }) back
+    (ap (λ (l : List ConnectionState). record { house = c.self.inside.house; teller = shown_of c.self.inside.teller; connections = l; links = c.self.inside.links; replies = c.self.inside.replies; refused = c.self.inside.refused }) back
     ∙ ap (λ (x : RunningState). record x { connections = slots }) c.self.view_is))
     c.compare_at.ensures

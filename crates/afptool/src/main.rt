@@ -1,0 +1,50 @@
+//! The tool: it replays captures, and checks streams of frames, from the standard input.
+#![tactic(auto)]
+
+use afp_outside::{StdSink, StdSource};
+use plain_tool::afptool_plain;
+use std::io::ErrorKind;
+use std::process::ExitCode;
+use std::{env, io};
+
+/// The most bytes that are read: more than can come.
+const TURNS: u64 = (1 << 63) - 1;
+
+/// The exit status for want of memory.
+const NO_MEMORY: u8 = 6;
+
+/// The words behind the program's name.
+fn spoken(rt: &HostRuntime) -> io::Result<Vec<String>> {
+    let mut words = Vec::new(rt.alloc());
+    for word in env::args(rt)?.skip(1) {
+        words.push(word)?;
+    }
+    Ok(words)
+}
+
+/// The same; none, where one of them is not UTF-8, and the exit status, where there was no memory for them.
+fn words_of(rt: &HostRuntime) -> Result<Vec<String>, u8> {
+    match spoken(rt) {
+        Ok(words) => Ok(words),
+        Err(error) => match error.kind() {
+            ErrorKind::OutOfMemory => Err(NO_MEMORY),
+            _ => Ok(Vec::new(rt.alloc())),
+        },
+    }
+}
+
+/// Does what the words ask, and gives the exit status.
+fn run(rt: &HostRuntime) -> u8 {
+    match words_of(rt) {
+        Ok(words) => {
+            let mut source = StdSource::new(rt.reader());
+            let mut out = StdSink::new(rt);
+            afptool_plain(rt.alloc(), words.as_slice(), &mut source, &mut out, TURNS)
+        }
+        Err(status) => status,
+    }
+}
+
+fn main(rt: HostRuntime) -> ExitCode {
+    ExitCode::from(run(&rt))
+}

@@ -1,0 +1,221 @@
+//! A capture, as far as its lines were taken.
+ghost use Rattle.std.specs.Prelude.{◌≡◌, ◌<◌, ◌+◌, ℕ, suc, length, None, IfOk, option_map};
+ghost use Rattle.capture_lines.specs.declared.line.Line.{Line};
+ghost use Rattle.capture_log.specs.Judged.{DecidesEnd};
+ghost use Rattle.capture_log.specs.Standing.{Standing, is_refused_on, no_house};
+ghost use Rattle.capture_log.specs.Taking.{IsCapture, IsLink, IsLinked, IsServer, RunsFrom, Acts, TakesLine, Takes};
+ghost use Rattle.capture_log.specs.States.{IsRunning};
+ghost use Rattle.capture_log.specs.declared.part.Part.{Part};
+ghost use Rattle.capture_log.specs.declared.replay_end.ReplayEnd.{ReplayEnd};
+
+use crate::difference::Difference;
+use crate::part::{Part, part_after};
+use crate::replay_end::ReplayEnd;
+use crate::running::Running;
+use crate::setup::Setup;
+use afp_base::{Moment, OutOfMemory};
+use capture_lines::{Line, What, read_line};
+use std::alloc::Global;
+use std::marker::Model;
+
+/// What may come next, the house that the lines make, the server, once something happened, and how many lines there were.
+#[derive(Drop)]
+pub struct Capture {
+    alloc: Global,
+    part: Part,
+    setup: Setup,
+    running: Option<Running>,
+    number: u64,
+}
+
+impl Model for Capture {
+    ghost use Rattle.capture_log.specs.Taking.{CaptureState};
+
+    ghost Value = { CaptureState };
+
+    ghost view = { λ c. record { part = c.part; house = c.setup; running = c.running; number = c.number } };
+}
+
+/// The server that is there, or one that begins now.
+fn running_from(
+    alloc: Global,
+    there: Option<Running>,
+    setup: &mut Setup,
+    now: Moment,
+) -> Result<Running, OutOfMemory>
+    ensures { IfOk result (λ r. (s : Standing) → IsServer there setup.old s → RunsFrom s now r) }
+{
+    match there {
+        Some(running) => Ok(running),
+        None => Running::new(alloc, setup.house(alloc)?, now),
+    }
+}
+
+/// Whether bytes come on a connection that was lost.
+fn is_refused_on(running: &Running, index: usize, what: &What) -> bool
+    requires { index < length running.now.connections }
+    ensures { (s : Standing) (first : ℕ) → IsRunning running.now s first → result ≡ is_refused_on (s.connections (suc index)) what.now }
+{
+    match what {
+        What::In(_) => running.is_lost(index),
+        What::Quiet | What::Lost | What::Out(_) => false,
+    }
+}
+
+/// What a byte that differs decides.
+fn verdict_on(link: u32, found: Option<Difference>) -> Option<ReplayEnd>
+    ensures { result ≡ option_map (λ d. ReplayEnd.Differs link d.at d.want d.got) found }
+{
+    match found {
+        None => None,
+        Some(difference) => Some(ReplayEnd::Differs {
+            link: u64::from(link),
+            at: difference.at,
+            want: difference.want,
+            got: difference.got,
+        }),
+    }
+}
+
+/// What happens on the connection of a number, and what it decides, if it does.
+fn act(
+    running: &mut Running,
+    link: u32,
+    now: Moment,
+    what: &What,
+    number: u64,
+) -> Result<Option<ReplayEnd>, OutOfMemory>
+    requires link { IsLink link }
+    requires is { (s : Standing) × RunsFrom s now running.old }
+    ensures { IfOk result (λ verdict. (s : Standing) → RunsFrom s now running.old → s.part ≡ Part.Events → Acts s number link now what.now verdict running.new) }
+{
+    let index = (link - 1) as usize;
+    if is_refused_on(running, index, what) {
+        return Ok(Some(ReplayEnd::BadCapture { line: number }));
+    }
+    let found = running.happen(index, now, what)?;
+    Ok(verdict_on(link, found))
+}
+
+impl Capture {
+    ghost use Rattle.std.specs.Prelude.{false, Some, OnOk};
+    ghost use Rattle.capture_log.specs.Judged.{IsSame};
+    ghost use Rattle.capture_log.specs.Standing.{part_after};
+    ghost use Rattle.capture_log.specs.Taking.{is_event};
+
+    /// No line was taken.
+    pub fn new(alloc: Global) -> Capture
+        ensures { result ≡ record { part = Part.Title; house = no_house; running = None; number = 0 } }
+    {
+        Capture {
+            alloc,
+            part: Part::Title,
+            setup: Setup::new(alloc),
+            running: None,
+            number: 0,
+        }
+    }
+
+    /// The number of the next line.
+    pub fn next_number(&self) -> Result<u64, OutOfMemory>
+        ensures { IfOk result (λ number. number ≡ self.now.number + 1) }
+    {
+        match self.number.checked_add(1) {
+            Some(number) => Ok(number),
+            None => Err(OutOfMemory),
+        }
+    }
+
+    /// A line of the house, or the end, that may come here.
+    fn take_part(
+        &mut self,
+        part: Part,
+        line: &Line,
+        number: u64,
+    ) -> Result<Option<ReplayEnd>, OutOfMemory>
+        requires may { part_after self.old.part line.now ≡ Some part }
+        requires other { is_event line.now ≡ false }
+        ensures { IfOk result (λ verdict. (s : Standing) → IsCapture self.old s → TakesLine s number line.now verdict self.new) }
+    {
+        if self.setup.refuses(line) {
+            return Ok(Some(ReplayEnd::BadCapture { line: number }));
+        }
+        self.setup.take(line)?;
+        self.part = part;
+        Ok(None)
+    }
+
+    /// What happened on a connection.
+    fn take_event(
+        &mut self,
+        link: u32,
+        now: Moment,
+        what: &What,
+        number: u64,
+    ) -> Result<Option<ReplayEnd>, OutOfMemory>
+        requires link { IsLink link }
+        requires is { (s : Standing) × IsCapture self.old s }
+        requires may { self.old.part ≡ Part.Events }
+        ensures { IfOk result (λ verdict. (s : Standing) → IsCapture self.old s → TakesLine s number (Line.At link now what.now) verdict self.new) }
+    {
+        let mut running = running_from(self.alloc, self.running.take(), &mut self.setup, now)?;
+        let verdict = act(&mut running, link, now, what, number);
+        self.running = Some(running);
+        verdict
+    }
+
+    /// A line of a good form.
+    fn take_line(&mut self, line: &Line, number: u64) -> Result<Option<ReplayEnd>, OutOfMemory>
+        requires linked { IsLinked line.now }
+        requires is { (s : Standing) × IsCapture self.old s }
+        ensures { IfOk result (λ verdict. (s : Standing) → IsCapture self.old s → TakesLine s number line.now verdict self.new) }
+    {
+        let Some(part) = part_after(self.part, line) else {
+            return Ok(Some(ReplayEnd::BadCapture { line: number }));
+        };
+        match line {
+            Line::At { link, moment, what } => self.take_event(*link, *moment, what, number),
+            _ => self.take_part(part, line, number),
+        }
+    }
+
+    /// Takes the next line, which stands without its newline, and says what it decides, if it does.
+    pub fn take(&mut self, raw: &[u8]) -> Result<Option<ReplayEnd>, OutOfMemory>
+        requires { (s : Standing) × IsCapture self.old s }
+        ensures { IfOk result (λ verdict. (s : Standing) → IsCapture self.old s → Takes s (self.old.number + 1) raw.now verdict self.new) }
+    {
+        let number = self.next_number()?;
+        let Some(line) = read_line(self.alloc, raw)? else {
+            return Ok(Some(ReplayEnd::BadCapture { line: number }));
+        };
+        let verdict = self.take_line(&line, number)?;
+        self.number = number;
+        Ok(verdict)
+    }
+
+    /// The counts, where all is the same.
+    fn same(&self) -> ReplayEnd
+        ensures { (s : Standing) → IsCapture self.now s → IsSame s result }
+    {
+        match &self.running {
+            Some(running) => running.same(),
+            None => ReplayEnd::Same {
+                links: 0,
+                entries: 0,
+                replies: 0,
+                refused: 0,
+            },
+        }
+    }
+
+    /// What the end of the capture decides.
+    pub fn end(&self) -> Result<ReplayEnd, OutOfMemory>
+        ensures { IfOk result (λ verdict. (s : Standing) → IsCapture self.now s → DecidesEnd s (self.now.number + 1) verdict) }
+    {
+        let line = self.next_number()?;
+        match self.part {
+            Part::Nothing => Ok(self.same()),
+            _ => Ok(ReplayEnd::BadCapture { line }),
+        }
+    }
+}

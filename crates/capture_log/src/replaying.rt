@@ -1,0 +1,55 @@
+//! Replaying a capture that is read from a source.
+ghost use Rattle.std.specs.Prelude.{◌≡◌, ◌<◌, ◌^◌, false, []};
+ghost use Rattle.capture_log.specs.Gathering.{Holds};
+ghost use Rattle.capture_log.specs.Reading.{Replays};
+
+use crate::reader::Reader;
+use crate::replay_end::ReplayEnd;
+use afp_outside::{Heard, Source};
+use std::alloc::Global;
+
+/// The bytes of a read at most.
+const ROOM: usize = 4096;
+
+/// Reads until a line decides, or the source ends.
+fn read_all<S: Source>(reader: &mut Reader, source: &mut S, turns: u64) -> ReplayEnd
+    requires turns { turns < 2 ^ 63 }
+    requires fresh { (S.source_state source.old).ended ≡ false }
+    requires new { Holds reader.old [] }
+    ensures { Replays turns (S.source_state source.old) result (S.source_state source.new) }
+{
+    let mut room = [0; ROOM];
+    let mut taken: u64 = 0;
+    while taken < turns {
+        match source.read(&mut room) {
+            Heard::Got(n) => {
+                taken += n as u64;
+                match reader.feed(&room[..n]) {
+                    Ok(None) => {}
+                    Ok(Some(end)) => return end,
+                    Err(_) => return ReplayEnd::Memory,
+                }
+            }
+            Heard::End => {
+                let Ok(end) = reader.finish() else {
+                    return ReplayEnd::Memory;
+                };
+                return end;
+            }
+            Heard::Failed => return ReplayEnd::ReadFault,
+            Heard::Quiet => return ReplayEnd::ReadFault,
+        }
+    }
+    ReplayEnd::Spent
+}
+
+/// Replays the capture that the source gives, on a server that nobody has used, until a line decides or the source ends. It reads
+/// again only where fewer than `turns` bytes were taken. It holds one line at most, and the server.
+pub fn replay<S: Source>(alloc: Global, source: &mut S, turns: u64) -> ReplayEnd
+    requires turns { turns < 2 ^ 63 }
+    requires fresh { (S.source_state source.old).ended ≡ false }
+    ensures { Replays turns (S.source_state source.old) result (S.source_state source.new) }
+{
+    let mut reader = Reader::new(alloc);
+    read_all(&mut reader, source, turns)
+}

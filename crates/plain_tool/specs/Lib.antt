@@ -1,0 +1,4 @@
+pub mod Checking
+pub mod Lines
+pub mod Telling
+pub mod Tool

@@ -1,0 +1,10 @@
+//! The tool: it replays captures, and checks streams of frames.
+#![tactic(auto)]
+
+mod checking;
+mod lines;
+mod replays;
+mod tool;
+mod words;
+
+pub use tool::afptool_plain;
