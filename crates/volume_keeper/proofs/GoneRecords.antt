@@ -151,7 +151,7 @@ appls_are_taken id (a ∷ xs) = elim (a.node == id) as (λ b. a.node == id ≡ b
       | false ↦ λ e. appls_are_taken id xs
     ] refl
 
-nil_behind : {A : Type 0} (xs : List A) → xs ++ [] ≡ xs
+pub nil_behind : {A : Type 0} (xs : List A) → xs ++ [] ≡ xs
 nil_behind [] = refl
 nil_behind (x ∷ xs) = ap (λ l. x ∷ l) (nil_behind xs)
 
@@ -201,7 +201,7 @@ own_rows id v =
     filter-append own (nodes_in v.rows) (blocks_in v.rows ++ (comments ++ (icons ++ appls))) ∙ (λ i. nodes_by own (λ n. n == id) (λ n. refl) (λ b. refl) v.rows i ++ two i)
 
 -- what is found by a number has it
-found_is : {A : Type 0} (f : A → ℕ) (n : ℕ) (xs : List A) → IfSome (find (λ x. f x == n) xs) (λ x. f x ≡ n)
+pub found_is : {A : Type 0} (f : A → ℕ) (n : ℕ) (xs : List A) → IfSome (find (λ x. f x == n) xs) (λ x. f x ≡ n)
 found_is f n xs = of_found (find (λ x. f x == n) xs) (λ y e. found_number f n xs y e)
   where
     of_found : {A : Type 0} {P : A → Type 0} (o : Option A) → ((y : A) → o ≡ Some y → P y) → IfSome o P

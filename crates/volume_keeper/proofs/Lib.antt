@@ -10,3 +10,6 @@ pub mod Loads
 pub mod Zeroed
 pub mod DesktopAgain
 pub mod Filling
+pub mod RecordSteps
+pub mod ForkSteps
+pub mod ForkTold

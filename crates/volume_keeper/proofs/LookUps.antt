@@ -40,7 +40,7 @@ equal_of Less e = absurd (cc)
 equal_of Equal e = refl
 equal_of Greater e = absurd (cc)
 
-one_of : (q k : List ℕ) → are_one q k ≡ true → q ≡ k
+pub one_of : (q k : List ℕ) → are_one q k ≡ true → q ≡ k
 one_of q k e = one_key q k (equal_of (by_bytes q k) e)
 
 pub itself : (k : List ℕ) → are_one k k ≡ true

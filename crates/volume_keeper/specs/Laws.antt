@@ -1,12 +1,15 @@
 -- The laws of a volume's records in a keeper, in the subject's own words (this profile).
-use Rattle.std.specs.Prelude.{◌≡◌, List}
-use Rattle.afp_volume.specs.VolumeState.{Comment, Icon, Appl, VolumeState}
+use Rattle.std.specs.Prelude.{◌≡◌, ℕ, Bool, false, List, length, Some}
+use Rattle.afp_volume.specs.ForkEffect.{fork_effect, fork_of, would_pass}
+use Rattle.afp_volume.specs.VolumeState.{Comment, Icon, Appl, Row, VolumeState}
+use Rattle.afp_volume.specs.Walk.{row_at}
 use Rattle.afp_volume.specs.SoundVolume.{IsSoundVolume}
 use Rattle.afp_volume.specs.DesktopLaws.{with_desktop}
 use Rattle.record_keeper.specs.Records.{changed}
 use Rattle.volume_records.specs.Image.{kept_image}
 use Rattle.volume_tree.specs.Planned.{PlanState, IsPlan, planned, gone_comments, gone_appls}
 use Rattle.volume_keeper.specs.Changes.{tree_changes_of}
+use Rattle.volume_keeper.specs.ForkChanges.{fork_changes_of}
 use Rattle.volume_keeper.specs.Whole.{without_desktop}
 
 -- the records of a volume, with the changes of a plan of it, are those of the volume as the plan leaves it
@@ -24,3 +27,8 @@ PlannedWhole = (tree : VolumeState) (comments : List Comment) (icons : List Icon
 -- the tree of a sound volume is sound
 abbrev pub TreesAreSound : Type 0
 TreesAreSound = (v : VolumeState) → IsSoundVolume v → IsSoundVolume (without_desktop v)
+
+-- the records of a volume, with the changes of other bytes in a fork of a file, for which there is room, are those of the volume with these bytes
+abbrev pub ForksChangeRecords : Type 0
+ForksChangeRecords = (v : VolumeState) (now id : ℕ) (resource writes : Bool) (after : List ℕ) (file : Row) → row_at v.rows id ≡ Some file → file.dir ≡ false → would_pass v (length (fork_of resource file)) (length after) ≡ false → IsSoundVolume v
+    → changed (fork_changes_of v now id resource after writes) (kept_image v) ≡ kept_image (fork_effect now id resource after writes v)

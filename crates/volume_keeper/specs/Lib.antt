@@ -3,4 +3,5 @@ pub mod Whole
 pub mod Steps
 pub mod Rebuilt
 pub mod Loading
+pub mod ForkChanges
 pub mod Laws

@@ -4,6 +4,7 @@
 mod apply;
 mod changes;
 mod fresh;
+mod fork_change;
 mod gone;
 mod held;
 pub mod laws;
@@ -12,5 +13,6 @@ mod loading;
 mod rebuild;
 
 pub use changes::tree_changes;
+pub use fork_change::fork_changes;
 pub use held::Held;
 pub use loading::{LoadFault, load};
