@@ -106,7 +106,7 @@ drop_past (suc n) (b ∷ bytes) h = drop_past n bytes (omega arith)
 past : (bytes : List ℕ) (k : ℕ) → block_count (length bytes) ≤ k → block_at bytes k ≡ []
 past bytes k h = ap (λ l. trimmed (take 4096 l)) (drop_past (4096 * k) bytes (omega (arith, h)))
 
-longer : (bytes : List ℕ) (index n m : ℕ) → n ≤ m → block_count (length bytes) ≤ index + n → blocks_from bytes index m ≡ blocks_from bytes index n
+pub longer : (bytes : List ℕ) (index n m : ℕ) → n ≤ m → block_count (length bytes) ≤ index + n → blocks_from bytes index m ≡ blocks_from bytes index n
 longer bytes index zero zero h e = refl
 longer bytes index zero (suc m) h e =
     ap (λ l. with_block index l (blocks_from bytes (index + 1) m)) (past bytes index (omega (arith, e)))

@@ -13,3 +13,4 @@ pub mod Filling
 pub mod RecordSteps
 pub mod ForkSteps
 pub mod ForkTold
+pub mod ForkTyped

@@ -2,6 +2,7 @@
 #![tactic(auto)]
 
 mod apply;
+mod apply_fork;
 mod changes;
 mod fresh;
 mod fork_change;
