@@ -5,6 +5,7 @@ use Rattle.std.specs.List.{find}
 use Rattle.afp_volume.specs.DesktopLaws.{with_desktop}
 use Rattle.afp_volume.specs.Edits.{bare}
 use Rattle.afp_volume.specs.ForkEffect.{fork_effect, fork_of, would_pass, written}
+use Rattle.afp_volume.specs.OpenFork.{file_of}
 use Rattle.afp_volume.specs.SoundVolume.{fork_bytes, most_fork_bytes}
 use Rattle.afp_volume.specs.VolumeState.{Row as VolumeRow}
 use Rattle.afp_volume.specs.VolumeState.{Comment, Icon, Appl, VolumeState}
@@ -14,7 +15,7 @@ use Rattle.fork_bytes.specs.Plan.{PlanState, IsPlan, changes_of}
 use Rattle.record_keeper.specs.declared.record.Change.{Change}
 use Rattle.volume_records.specs.declared.rows.Row.TheVariants as row
 use Rattle.volume_records.specs.Image.{node_of, tables_of}
-use Rattle.volume_tree.specs.Shown.{file_of, fork_at}
+use Rattle.volume_tree.specs.Shown.{fork_at}
 use Rattle.volume_keeper.specs.ForkChanges.{block_change, dated_head, dated_node, file_changes, fork_changes_of, node_changes, put_where_other}
 use Rattle.volume_keeper.specs.Steps.{length_of}
 use Rattle.volume_keeper.proofs.GoneRecords.{found_is}
