@@ -1,2 +1,5 @@
 mod Telling
 mod Loads
+mod Files
+mod GivenForks
+mod Lines

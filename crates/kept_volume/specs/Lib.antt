@@ -1,3 +1,5 @@
 pub mod Kept
 pub mod Changing
 pub mod Loading
+pub mod ForkChanging
+pub mod LineLaws

@@ -2,7 +2,10 @@
 #![tactic(auto)]
 
 mod change;
+mod fork_writes;
+mod forks;
 mod kept;
+pub mod laws;
 mod load;
 mod told;
 
