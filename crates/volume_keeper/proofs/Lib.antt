@@ -6,6 +6,11 @@ pub mod KeptRecords
 pub mod Changing
 pub mod TreePlans
 pub mod WholePlans
+pub mod RecordSteps
+pub mod ExactChanges
+pub mod ForkSteps
+pub mod ForkTold
+pub mod ForkTyped
 pub mod Loads
 pub mod Zeroed
 pub mod DesktopAgain

@@ -71,7 +71,7 @@ turned-same key (Some value) = ap (λ b. cond b [] (Put key value ∷ [])) (same
 
 -- ---- look-ups
 
-abbrev seen : List Record → List ℕ → Option (List ℕ)
+abbrev pub seen : List Record → List ℕ → Option (List ℕ)
 seen [] q = None
 seen (r ∷ rs) q = cond (are_one q r.key) (Some r.value) (seen rs q)
 
@@ -79,10 +79,10 @@ find_seen : (rs : List Record) (q : List ℕ) → find by_bytes q (entries_of rs
 find_seen [] q = refl
 find_seen (r ∷ rs) q = ap (cond (are_one q r.key) (Some r.value)) (find_seen rs q)
 
-got_seen : (rs : List Record) (q : List ℕ) → Rises rs → get (from_sorted {R = by_bytes} (entries_of rs)) q ≡ seen rs q
+pub got_seen : (rs : List Record) (q : List ℕ) → Rises rs → get (from_sorted {R = by_bytes} (entries_of rs)) q ≡ seen rs q
 got_seen rs q s = get-from_sorted by_bytes (entries_of rs) q (sorted_entries rs s) ∙ find_seen rs q
 
-none_seen : (k : List ℕ) (rs : List Record) → IsBelow k rs → seen rs k ≡ None
+pub none_seen : (k : List ℕ) (rs : List Record) → IsBelow k rs → seen rs k ≡ None
 none_seen k [] b = refl
 none_seen k (r ∷ rs) b = ap (λ o. cond (is_eq o) (Some r.value) (seen rs k)) b.0 ∙ none_seen k rs b.1
 

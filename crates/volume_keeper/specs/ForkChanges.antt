@@ -1,6 +1,7 @@
 -- What other bytes of a fork change in the records of a volume (this profile).
 use Rattle.std.specs.Prelude.{ℕ, ℤ, pos, nat_eq, Bool, if◌then◌else◌, List, [], ◌∷◌, ◌++◌, map, Option, Some, None}
 use Rattle.std.specs.Cmp.Lexicographic.{pointwise}
+use Rattle.std.specs.List.{list_any}
 use Rattle.fork_bytes.specs.declared.block.Block.{Block}
 use Rattle.fork_bytes.specs.Kept.{is_empty}
 use Rattle.fork_bytes.specs.Plan.{changes_of}
@@ -10,6 +11,7 @@ use Rattle.afp_volume.specs.VolumeState.{VolumeState}
 use Rattle.afp_volume.specs.Walk.{row_at}
 use Rattle.record_keeper.specs.declared.record.Change.{Change}
 use Rattle.record_keeper.specs.declared.record.Change.TheVariants.{Put, Remove}
+use Rattle.record_keeper.specs.Records.{key_of}
 use Rattle.volume_records.specs.declared.rows.Head.{Head}
 use Rattle.volume_records.specs.declared.rows.Node.{Node}
 use Rattle.volume_records.specs.declared.rows.Row.{Row}
@@ -39,6 +41,10 @@ unfoldable pub fork_changes_of : VolumeState → ℕ → ℕ → Bool → List �
 fork_changes_of v now id resource after writes =
     put_where_other (row.Head (tables_of v).head) (row.Head (tables_of (fork_effect now id resource after writes v)).head)
     ++ file_changes now resource after writes (row_at v.rows id)
+
+-- whether a key is named by changes
+abbrev pub names : List ℕ → List Change → Bool
+names key changes = list_any (λ change. pointwise nat_eq key (key_of change)) changes
 
 -- From here on for private contracts: a node with another modified date, whose forks have so many bytes
 abbrev pub dated_node : VolumeRow → ℤ → ℕ → ℕ → Node

@@ -1,16 +1,25 @@
 -- The laws of a volume's records in a keeper, in the subject's own words (this profile).
-use Rattle.std.specs.Prelude.{◌≡◌, ℕ, Bool, false, List, length, Some}
+use Rattle.std.specs.Prelude.{◌≡◌, ◌≢◌, ℕ, Bool, true, false, List, length, Some}
+use Rattle.std.specs.FinMap.{get}
 use Rattle.afp_volume.specs.ForkEffect.{fork_effect, fork_of, would_pass}
+use Rattle.afp_volume.specs.Order.{rises}
 use Rattle.afp_volume.specs.VolumeState.{Comment, Icon, Appl, Row, VolumeState}
 use Rattle.afp_volume.specs.Walk.{row_at}
 use Rattle.afp_volume.specs.SoundVolume.{IsSoundVolume}
 use Rattle.afp_volume.specs.DesktopLaws.{with_desktop}
-use Rattle.record_keeper.specs.Records.{changed}
+use Rattle.record_keeper.specs.declared.record.Change.{Change}
+use Rattle.record_keeper.specs.Records.{Records, changed, key_of}
 use Rattle.volume_records.specs.Image.{kept_image}
 use Rattle.volume_tree.specs.Planned.{PlanState, IsPlan, planned, gone_comments, gone_appls}
 use Rattle.volume_keeper.specs.Changes.{tree_changes_of}
-use Rattle.volume_keeper.specs.ForkChanges.{fork_changes_of}
+use Rattle.volume_keeper.specs.ForkChanges.{fork_changes_of, names}
 use Rattle.volume_keeper.specs.Whole.{without_desktop}
+
+-- changes of exactly what differs between two maps of records, each key once, in the order of its bytes
+pub record IsExact (changes : List Change) (before after : Records) : Type 0 where
+  pub named : (key : List ℕ) → names key changes ≡ true → get before key ≢ get after key
+  pub others : (key : List ℕ) → names key changes ≡ false → get before key ≡ get after key
+  pub rising : rises key_of changes ≡ true
 
 -- the records of a volume, with the changes of a plan of it, are those of the volume as the plan leaves it
 abbrev pub PlansChangeRecords : Type 0
@@ -32,3 +41,8 @@ TreesAreSound = (v : VolumeState) → IsSoundVolume v → IsSoundVolume (without
 abbrev pub ForksChangeRecords : Type 0
 ForksChangeRecords = (v : VolumeState) (now id : ℕ) (resource writes : Bool) (after : List ℕ) (file : Row) → row_at v.rows id ≡ Some file → file.dir ≡ false → would_pass v (length (fork_of resource file)) (length after) ≡ false → IsSoundVolume v
     → changed (fork_changes_of v now id resource after writes) (kept_image v) ≡ kept_image (fork_effect now id resource after writes v)
+
+-- these changes name exactly the keys whose values differ before and afterwards, each once, in the order of their bytes
+abbrev pub ForkChangesAreExact : Type 0
+ForkChangesAreExact = (v : VolumeState) (now id : ℕ) (resource writes : Bool) (after : List ℕ) (file : Row) → row_at v.rows id ≡ Some file → file.dir ≡ false → would_pass v (length (fork_of resource file)) (length after) ≡ false → IsSoundVolume v
+    → IsExact (fork_changes_of v now id resource after writes) (kept_image v) (kept_image (fork_effect now id resource after writes v))

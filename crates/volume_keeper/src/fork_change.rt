@@ -13,6 +13,7 @@ ghost use Rattle.volume_records.specs.Records.{record_of};
 ghost use Rattle.volume_tree.specs.ForkEffect.{IsForkChange};
 ghost use Rattle.volume_tree.specs.Shown.{fork_at};
 ghost use Rattle.volume_keeper.specs.ForkChanges.{block_change, dated_head, dated_node, fork_changes_of, node_changes, put_where_other};
+ghost use Rattle.volume_keeper.specs.Laws.{IsExact};
 ghost use Rattle.volume_keeper.specs.Steps.{length_of};
 
 use crate::gone::push;
@@ -202,7 +203,8 @@ fn change_blocks(
 }
 
 /// What a plan of a fork of a file of the held volume as it is changes in its records: the head's and the file's, and those of the blocks that
-/// differ. With these changes, made at once, the records of the volume are those of the volume that the plan leaves. The one error is want of memory.
+/// differ. With these changes, made at once, the records of the volume are those of the volume that the plan leaves. They name exactly the keys whose values
+/// differ, each once, in byte order. The one error is want of memory.
 #[tactic(auto, unfolding(crate::specs::ForkChanges::fork_changes_of))]
 pub fn fork_changes(
     alloc: Global,
@@ -215,6 +217,7 @@ pub fn fork_changes(
     requires { IsForkChange held.now.state id.0 resource plan.now }
     ensures changes { (change : IsForkChange held.now.state id.0 resource plan.now) → IfOk result (λ changes. changes.items ≡ fork_changes_of held.now.state now id.0 resource change.after plan.now.writes) }
     ensures image { (change : IsForkChange held.now.state id.0 resource plan.now) → IfOk result (λ changes. changed changes.items (kept_image held.now.state) ≡ kept_image (fork_effect now id.0 resource change.after plan.now.writes held.now.state)) }
+    ensures exact { (change : IsForkChange held.now.state id.0 resource plan.now) → IfOk result (λ changes. IsExact changes.items (kept_image held.now.state) (kept_image (fork_effect now id.0 resource change.after plan.now.writes held.now.state))) }
 {
     forks_change_records();
     held.keeps_sound();

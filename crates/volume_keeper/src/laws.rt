@@ -19,9 +19,11 @@ pub fn plans_of_trees_are_plans()
     afp_volume::desktop_laws::desktops_keep_volumes_sound();
 }
 
-/// The changes of other bytes in a fork of a file make the records of the volume before them those of the volume after them.
+/// The changes of other bytes in a fork of a file make the records of the volume before them those of the volume after them. They name exactly the
+/// keys whose values differ, each once, in byte order.
 pub fn forks_change_records()
-    ensures { laws.ForksChangeRecords }
+    ensures image { laws.ForksChangeRecords }
+    ensures exact { laws.ForkChangesAreExact }
 {
     afp_volume::laws::forks_are_given_bytes();
     volume_records::laws::records_are_images();

@@ -2,7 +2,7 @@ use Rattle.std.proofs.Common.{rules, ◌≡◌, ◌∙◌, ◌+◌, ◌≤◌, �
 use Rattle.std.specs.Prelude.{Some, option_map}
 use Rattle.afp_volume.specs.DesktopLaws.{with_desktop}
 use Rattle.afp_volume.specs.Edits.{bare}
-use Rattle.afp_volume.specs.ForkEffect.{fork_of}
+use Rattle.afp_volume.specs.ForkEffect.{fork_effect, fork_of}
 use Rattle.afp_volume.specs.SoundVolume.{fork_bytes, most_fork_bytes}
 use Rattle.afp_volume.specs.VolumeState.{VolumeState}
 use Rattle.afp_volume.specs.Walk.{row_at}
@@ -12,6 +12,7 @@ use Rattle.volume_records.specs.declared.rows.Row.TheVariants as row
 use Rattle.volume_records.specs.Image.{kept_image, tables_of}
 use Rattle.volume_tree.specs.Shown.{fork_at}
 use Rattle.volume_keeper.specs.ForkChanges.{block_change, dated_head, fork_changes_of, node_changes, put_where_other}
+use Rattle.volume_keeper.specs.Laws.{IsExact}
 use Rattle.volume_keeper.specs.Steps.{length_of}
 use Rattle.volume_keeper.proofs.ForkTold.{FileAt, all_told, file_at, has_room}
 use Rattle.volume_keeper.proofs.fork_change.fork_changes.Goals as goal
@@ -38,5 +39,14 @@ returns-clause-image c = λ change.
     let file : FileAt v c.args.id.0 c.args.resource change.before = file_at v c.args.id.0 c.args.resource change.before change.there in
     let fits : fork_bytes v.rows + length change.after ≤ most_fork_bytes + length (fork_of c.args.resource file.file) = subst (λ l. fork_bytes v.rows + length change.after ≤ most_fork_bytes + length l) (sym file.bytes) change.fits in
     ap (λ (l : List Change). changed l (kept_image v)) (returns-clause-changes c change)
-    ∙ c.forks_change_records.ensures v c.args.now c.args.id.0 c.args.resource c.args.plan.now.writes change.after file.file file.found file.is_file
+    ∙ c.forks_change_records.ensures.image v c.args.now c.args.id.0 c.args.resource c.args.plan.now.writes change.after file.file file.found file.is_file
     (has_room v (length (fork_of c.args.resource file.file)) (length change.after) fits) c.keeps_sound.ensures.sound
+
+pub returns-clause-exact : goal.returns-clause-exact
+returns-clause-exact c = λ change.
+    let v = c.args.held.now.state in
+    let file : FileAt v c.args.id.0 c.args.resource change.before = file_at v c.args.id.0 c.args.resource change.before change.there in
+    let fits : fork_bytes v.rows + length change.after ≤ most_fork_bytes + length (fork_of c.args.resource file.file) = subst (λ l. fork_bytes v.rows + length change.after ≤ most_fork_bytes + length l) (sym file.bytes) change.fits in
+    subst (λ (l : List Change). IsExact l (kept_image v) (kept_image (fork_effect c.args.now c.args.id.0 c.args.resource change.after c.args.plan.now.writes v))) (sym (returns-clause-changes c change))
+    (c.forks_change_records.ensures.exact v c.args.now c.args.id.0 c.args.resource c.args.plan.now.writes change.after file.file file.found file.is_file
+    (has_room v (length (fork_of c.args.resource file.file)) (length change.after) fits) c.keeps_sound.ensures.sound)
