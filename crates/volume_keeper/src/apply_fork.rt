@@ -2,7 +2,7 @@
 ghost use Rattle.std.specs.Prelude.{◌≡◌, true};
 ghost use Rattle.std.specs.List.{list_all};
 ghost use Rattle.afp_volume.specs.ForkEffect.{fork_effect};
-ghost use Rattle.afp_volume.specs.TypedVolume.{are_bytes, is_date};
+ghost use Rattle.afp_volume.specs.TypedVolume.{are_bytes};
 ghost use Rattle.fork_bytes.specs.declared.block.Block.{Block as BlockValue};
 ghost use Rattle.volume_tree.specs.ForkEffect.{IsForkChange};
 
