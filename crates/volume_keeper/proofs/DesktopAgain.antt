@@ -36,7 +36,7 @@ turned a b e = ap is_lt (nat_list_cmp_total.antisymm b a ∙ ap ordering_reverse
 apart : (a b : List ℕ) → stands_before a b ≡ true → a ≡ b → ⊥
 apart a b e h = absurd (let k : true ≡ false = sym e ∙ ap (λ x. stands_before x b) h ∙ ap is_lt (tied_itself nat_list_cmp_total b) in cc k)
 
-not_equal : (a b : List ℕ) → stands_before a b ≡ true → bytes_eq a b ≡ false
+pub not_equal : (a b : List ℕ) → stands_before a b ≡ true → bytes_eq a b ≡ false
 not_equal a b e = elim (bytes_eq a b) as (λ t. bytes_eq a b ≡ t → t ≡ false) [
   | true ↦ λ t. absurd (apart a b e ((bytes_eq-Decides a b).0 t))
   | false ↦ λ t. refl

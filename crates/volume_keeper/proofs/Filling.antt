@@ -345,11 +345,11 @@ none_done : (bs : List ForkBlock) → list_all (free_of []) bs ≡ true
 none_done [] = refl
 none_done (b ∷ bs) = none_done bs
 
-below_front : (k : List ℕ) (xs ys : List Row) → IsBelow k (map record_of (xs ++ ys)) → IsBelow k (map record_of xs)
+pub below_front : (k : List ℕ) (xs ys : List Row) → IsBelow k (map record_of (xs ++ ys)) → IsBelow k (map record_of xs)
 below_front k [] ys b = tt
 below_front k (x ∷ xs) ys b = (b.0, below_front k xs ys b.1)
 
-rises_parts : (xs ys : List Row) → Rises (map record_of (xs ++ ys)) → Rises (map record_of xs) × Rises (map record_of ys)
+pub rises_parts : (xs ys : List Row) → Rises (map record_of (xs ++ ys)) → Rises (map record_of xs) × Rises (map record_of ys)
 rises_parts [] ys s = (tt, s)
 rises_parts (x ∷ xs) ys s = let rest = rises_parts xs ys s.1 in ((below_front (record_of x).key xs ys s.0, rest.0), rest.1)
 

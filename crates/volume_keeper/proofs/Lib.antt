@@ -19,3 +19,4 @@ pub mod RecordSteps
 pub mod ForkSteps
 pub mod ForkTold
 pub mod ForkTyped
+pub mod KeysOnce

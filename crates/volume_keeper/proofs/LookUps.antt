@@ -98,7 +98,7 @@ any_below : (k : List ℕ) (xs : List Row) → IsBelow k (map record_of xs) → 
 any_below k [] b = refl
 any_below k (x ∷ xs) b = ap (λ o. is_eq o || any_at xs k) b.0 ∙ any_below k xs b.1
 
-below_filter : (k : List ℕ) (p : Row → Bool) (xs : List Row) → IsBelow k (map record_of xs) → IsBelow k (map record_of (filter p xs))
+pub below_filter : (k : List ℕ) (p : Row → Bool) (xs : List Row) → IsBelow k (map record_of xs) → IsBelow k (map record_of (filter p xs))
 below_filter k p [] b = tt
 below_filter k p (x ∷ xs) b = elim (p x) as (λ t. IsBelow k (map record_of (cond t (x ∷ filter p xs) (filter p xs)))) [
   | true ↦ (b.0, below_filter k p xs b.1)
@@ -168,7 +168,7 @@ after_taken (x ∷ xs) q o = after_taken xs q (cond (are_one q (key_of_row x)) N
     joined false false o = refl
 
 -- some rows among rising ones are taken away: the others are left
-left_over : (p : Row → Bool) (xs : List Row) → Rises (map record_of xs) → (q : List ℕ) → cond (any_at (filter p xs) q) None (found xs q) ≡ found (filter (λ x. not (p x)) xs) q
+pub left_over : (p : Row → Bool) (xs : List Row) → Rises (map record_of xs) → (q : List ℕ) → cond (any_at (filter p xs) q) None (found xs q) ≡ found (filter (λ x. not (p x)) xs) q
 left_over p [] s q = refl
 left_over p (x ∷ xs) s q = elim (are_one q (key_of_row x)) as (λ b. are_one q (key_of_row x) ≡ b
     → cond (any_at (cond (p x) (x ∷ filter p xs) (filter p xs)) q) None (cond b (Some (record_of x).value) (found xs q)) ≡ found (cond (not (p x)) (x ∷ filter (λ x. not (p x)) xs) (filter (λ x. not (p x)) xs)) q) [

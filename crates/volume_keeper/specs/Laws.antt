@@ -1,5 +1,5 @@
 -- The laws of a volume's records in a keeper, in the subject's own words (this profile).
-use Rattle.std.specs.Prelude.{◌≡◌, ◌≢◌, ℕ, Bool, true, false, List, length, Some}
+use Rattle.std.specs.Prelude.{◌≡◌, ◌≢◌, ℕ, Bool, true, false, List, length, Some, bytes_eq}
 use Rattle.std.specs.FinMap.{get}
 use Rattle.afp_volume.specs.ForkEffect.{fork_effect, fork_of, would_pass}
 use Rattle.afp_volume.specs.Order.{rises}
@@ -9,6 +9,7 @@ use Rattle.afp_volume.specs.SoundVolume.{IsSoundVolume}
 use Rattle.afp_volume.specs.DesktopLaws.{with_desktop}
 use Rattle.record_keeper.specs.declared.record.Change.{Change}
 use Rattle.record_keeper.specs.Records.{Records, changed, key_of}
+use Rattle.afp_base.specs.Apart.{are_apart}
 use Rattle.volume_records.specs.Image.{kept_image}
 use Rattle.volume_tree.specs.Planned.{PlanState, IsPlan, planned, gone_comments, gone_appls}
 use Rattle.volume_keeper.specs.Changes.{tree_changes_of}
@@ -24,6 +25,14 @@ pub record IsExact (changes : List Change) (before after : Records) : Type 0 whe
 -- the records of a volume, with the changes of a plan of it, are those of the volume as the plan leaves it
 abbrev pub PlansChangeRecords : Type 0
 PlansChangeRecords = (v : VolumeState) (p : PlanState) → IsSoundVolume v → IsPlan v p → changed (tree_changes_of v p) (kept_image v) ≡ kept_image (planned p v)
+
+-- two changes of one key
+abbrev pub are_of_one_key : Change → Change → Bool
+are_of_one_key a b = bytes_eq (key_of a) (key_of b)
+
+-- a plan changes each key once
+abbrev pub PlansChangeKeysOnce : Type 0
+PlansChangeKeysOnce = (v : VolumeState) (p : PlanState) → IsSoundVolume v → IsPlan v p → are_apart are_of_one_key (tree_changes_of v p) ≡ true
 
 -- a plan of a volume's tree is a plan of the volume with its desktop database; what the plan leaves of that is the tree that it leaves, with what is left
 -- of the desktop database

@@ -1,5 +1,6 @@
 use Rattle.volume_keeper.proofs.laws.plans_change_records.Goals as goal
 use Rattle.volume_keeper.proofs.Changing.{records_changed}
+use Rattle.volume_keeper.proofs.KeysOnce.{keys_once}
 
 pub returns : goal.returns
-returns c = records_changed c.records_are_images.ensures.rising
+returns c = record { records = records_changed c.records_are_images.ensures.rising; once = keys_once c.records_are_images.ensures.rising }
