@@ -15,8 +15,4 @@ pub mod Loads
 pub mod Zeroed
 pub mod DesktopAgain
 pub mod Filling
-pub mod RecordSteps
-pub mod ForkSteps
-pub mod ForkTold
-pub mod ForkTyped
 pub mod KeysOnce
