@@ -4,13 +4,13 @@
 mod apply;
 mod apply_fork;
 mod changes;
-mod fresh;
 mod fork_change;
+mod fresh;
 mod gone;
 mod held;
 pub mod laws;
-mod plan;
 mod loading;
+mod plan;
 mod rebuild;
 
 pub use changes::tree_changes;
