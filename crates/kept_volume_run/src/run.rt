@@ -1,0 +1,140 @@
+//! What comes of lines.
+ghost use Rattle.std.specs.Prelude.{IsSome};
+ghost use Rattle.volume_tree.specs.Requests.{tree_call};
+
+use afp_base::{Moment, NodeId, OutOfMemory, VolumeId};
+use afp_names::{LONGEST_PATH, Name, Path, UTF8_NAMES};
+use afp_requests::Call;
+use kept_volume::{ChangeFault, KeptVolume};
+use record_keeper::{KeeperFault, MemoryKeeper};
+use std::alloc::Global;
+use volume_tree::PlanFault;
+
+/// A volume beside its keeper, and the moment of all calls.
+#[derive(Drop)]
+pub struct Run {
+    kept: KeptVolume<MemoryKeeper>,
+    now: Moment,
+}
+
+/// What comes of a line: a number, or a word.
+#[derive(Clone, Copy)]
+pub enum Came {
+    Number(u64),
+    Code(i32),
+    Word(&'static str),
+}
+
+/// The path that a word is, in UTF-8.
+fn path_of(alloc: Global, text: &str) -> Option<Path> {
+    if text.len() > LONGEST_PATH {
+        return None;
+    }
+    match Path::read(alloc, UTF8_NAMES, text.as_bytes()) {
+        Ok(path) => Some(path),
+        Err(_) => None,
+    }
+}
+
+impl Run {
+    /// The volume "Share" of a new keeper in memory whose call of this number fails, from 0, loaded at 100.
+    pub fn new(alloc: Global, failing: u64) -> Result<Option<Run>, OutOfMemory> {
+        let Some(now) = Moment::new(100) else {
+            return Ok(None);
+        };
+        let Ok(name) = Name::new(alloc, b"Share") else {
+            return Err(OutOfMemory);
+        };
+        let mut calls = Vec::new(alloc);
+        if calls.push(failing).is_err() {
+            return Err(OutOfMemory);
+        }
+        match KeptVolume::load(alloc, MemoryKeeper::new(alloc, calls), name.as_str(), now) {
+            Ok(kept) => Ok(Some(Run { kept, now })),
+            Err(_) => Ok(None),
+        }
+    }
+
+    /// What comes of a call that changes the volume, with no fork open.
+    fn change(&mut self, alloc: Global, call: &Call) -> Came
+        requires { IsSome (tree_call call.now) }
+    {
+        match self.kept.change(alloc, self.now, &[], call) {
+            Ok(()) => Came::Word("ok"),
+            Err(ChangeFault::Refused(code)) => Came::Code(code.number()),
+            Err(ChangeFault::Failed) => Came::Word("failed"),
+            Err(ChangeFault::Memory) => Came::Word("no memory"),
+        }
+    }
+
+    /// FPCreateDir.
+    pub fn create_dir(&mut self, alloc: Global, dir: NodeId, text: &str) -> Came {
+        let Some(path) = path_of(alloc, text) else {
+            return Came::Word("no path");
+        };
+        let call = Call::CreateDir {
+            volume: VolumeId(1),
+            dir,
+            path,
+        };
+        self.change(alloc, &call)
+    }
+
+    /// FPCreateFile, soft.
+    pub fn create_file(&mut self, alloc: Global, dir: NodeId, text: &str) -> Came {
+        let Some(path) = path_of(alloc, text) else {
+            return Came::Word("no path");
+        };
+        let call = Call::CreateFile {
+            flag: 0,
+            volume: VolumeId(1),
+            dir,
+            path,
+        };
+        self.change(alloc, &call)
+    }
+
+    /// FPDelete.
+    pub fn delete(&mut self, alloc: Global, dir: NodeId, text: &str) -> Came {
+        let Some(path) = path_of(alloc, text) else {
+            return Came::Word("no path");
+        };
+        let call = Call::Delete {
+            volume: VolumeId(1),
+            dir,
+            path,
+        };
+        self.change(alloc, &call)
+    }
+
+    /// How many nodes there are.
+    pub fn count(&self) -> Came {
+        Came::Number(self.kept.count() as u64)
+    }
+
+    /// The id that the next new node draws.
+    pub fn next(&self) -> Came {
+        Came::Number(self.kept.next_id())
+    }
+
+    /// The id of the directory to which a path leads.
+    pub fn open_dir(&self, alloc: Global, dir: NodeId, text: &str) -> Came {
+        let Some(path) = path_of(alloc, text) else {
+            return Came::Word("no path");
+        };
+        match self.kept.open_dir(alloc, dir, &path) {
+            Ok(id) => Came::Number(u64::from(id.0)),
+            Err(PlanFault::Code(code)) => Came::Code(code.number()),
+            Err(PlanFault::Memory) => Came::Word("no memory"),
+        }
+    }
+
+    /// The keeper settles.
+    pub fn settle(&mut self) -> Came {
+        match self.kept.settle() {
+            Ok(()) => Came::Word("ok"),
+            Err(KeeperFault::Failed) => Came::Word("failed"),
+            Err(KeeperFault::Memory) => Came::Word("no memory"),
+        }
+    }
+}
