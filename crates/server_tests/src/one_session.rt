@@ -1,9 +1,11 @@
 //! A teller that opens one session, and has no memory for anything else.
 ghost use Rattle.std.specs.List.{list_all};
 ghost use Rattle.std.specs.Option.{option_to_list};
-ghost use Rattle.std.specs.Prelude.{◌≡◌, true};
-ghost use Rattle.afp_serial.specs.History.{entry};
+ghost use Rattle.std.specs.Prelude.{◌≡◌, ℕ, [], ◌∷◌, map, replicate, take, true};
+ghost use Rattle.afp_serial.specs.History.{entry, stand};
 ghost use Rattle.afp_serial.specs.Ranges.{is_typed_entry};
+ghost use Rattle.afp_serial.specs.Sound.{IsSound};
+ghost use Rattle.afp_serial.specs.World.{fresh_world};
 ghost use Rattle.afp_serial.specs.declared.ask.Ask.TheVariants as asks_of;
 ghost use Rattle.afp_serial.specs.declared.ask.Outcome.TheVariants as outcomes;
 
@@ -26,6 +28,7 @@ pub struct OneSession {
     pub asks: u32,
     pub lost: Option<(Moment, LinkNumber)>,
     pub ghost ranges: { list_all (λ s. is_typed_entry (entry s.at s.link (asks_of.Open s.attention) outcomes.Done)) (option_to_list opened) ≡ true },
+    pub ghost sound_at: { (k : ℕ) → IsSound (stand (fresh_world (record { server = 65 ∷ []; signature = replicate 16 0; users = []; volumes = (65 ∷ []) ∷ []; message = []; token_key = replicate 32 0 }) 0) (take k (map (λ s. entry s.at s.link (asks_of.Open s.attention) outcomes.Done) (option_to_list opened)))) },
 }
 
 impl OneSession {
@@ -52,7 +55,6 @@ impl Teller for OneSession {
     ghost use Rattle.afp_serial.specs.declared.ask.Outcome.TheVariants as outcomes;
     ghost use Rattle.afp_serial.specs.Ranges.{is_typed_entry, is_typed_house};
     ghost use Rattle.afp_serial.proofs.FreshWorld.{fresh-sound};
-    ghost use Rattle.afp_serial.proofs.StaysSound.{stand-sound};
 
     type Fixed = ();
 
@@ -68,7 +70,7 @@ impl Teller for OneSession {
     ghost sound = { λ t. record {
       start = fresh-sound (record { server = 65 ∷ []; signature = replicate 16 0; users = []; volumes = (65 ∷ []) ∷ []; message = []; token_key = replicate 32 0 }) 0 (unfold house_fault in refl) (unfold is_typed_house in refl) refl;
       lawful = (elim t.opened as (λ o. list_all (λ s. is_typed_entry (entry s.at s.link (asks_of.Open s.attention) outcomes.Done)) (option_to_list o) ≡ true → is_lawful (fresh_world (record { server = 65 ∷ []; signature = replicate 16 0; users = []; volumes = (65 ∷ []) ∷ []; message = []; token_key = replicate 32 0 }) 0) (map (λ s. entry s.at s.link (asks_of.Open s.attention) outcomes.Done) (option_to_list o)) ≡ true) [ None ↦ λ r. refl | Some s ↦ λ r. ap (λ b. b && true) r ]) t.ranges;
-      stands = stand-sound (fresh_world (record { server = 65 ∷ []; signature = replicate 16 0; users = []; volumes = (65 ∷ []) ∷ []; message = []; token_key = replicate 32 0 }) 0) (map (λ s. entry s.at s.link (asks_of.Open s.attention) outcomes.Done) (option_to_list t.opened)) (fresh-sound (record { server = 65 ∷ []; signature = replicate 16 0; users = []; volumes = (65 ∷ []) ∷ []; message = []; token_key = replicate 32 0 }) 0 (unfold house_fault in refl) (unfold is_typed_house in refl) refl) ((elim t.opened as (λ o. list_all (λ s. is_typed_entry (entry s.at s.link (asks_of.Open s.attention) outcomes.Done)) (option_to_list o) ≡ true → is_lawful (fresh_world (record { server = 65 ∷ []; signature = replicate 16 0; users = []; volumes = (65 ∷ []) ∷ []; message = []; token_key = replicate 32 0 }) 0) (map (λ s. entry s.at s.link (asks_of.Open s.attention) outcomes.Done) (option_to_list o)) ≡ true) [ None ↦ λ r. refl | Some s ↦ λ r. ap (λ b. b && true) r ]) t.ranges);
+      stands = t.sound_at;
       within = elim t.opened as (λ o. Rising 0 (map (λ s. 0) (option_to_list o)) (length (map (λ s. entry s.at s.link (asks_of.Open s.attention) outcomes.Done) (option_to_list o)))) [ None ↦ lit≤ tt | Some s ↦ (lit≤ tt, lit≤ tt) ];
     } };
 

@@ -134,25 +134,13 @@ fn link(alloc: Global, hex: &str, reads: &[usize]) -> Result<TapeLink, Fail>
     Ok(link)
 }
 
-/// So many keepers in memory that hold nothing, whose calls of these numbers fail.
-fn keepers(
-    alloc: Global,
-    count: usize,
-    failing: &[u64],
-) -> Result<Vec<Box<dyn Keeper + Send>>, Fail> {
-    let mut keepers: Vec<Box<dyn Keeper + Send>> = Vec::new(alloc);
-    for _ in 0..count {
-        let keeper = MemoryKeeper::new(alloc, failing.to_vec(alloc)?);
-        keepers.push(Box::new(alloc, keeper)?)?;
-    }
-    Ok(keepers)
-}
-
-/// Whether the whole server, over a door and these keepers, ends with this status and this report.
+/// Whether the whole server, over a door and so many keepers in memory that hold nothing and whose calls of these numbers
+/// fail, ends with this status and this report.
 fn ends_over(
     alloc: Global,
     words: &[String],
-    keepers: Vec<Box<dyn Keeper + Send>>,
+    count: usize,
+    failing: &[u64],
     door: &mut TapeListener,
     report_fails: &[u64],
     status: u8,
@@ -160,6 +148,11 @@ fn ends_over(
 ) -> Result<bool, Fail>
     requires { door.old.closed ≡ false }
 {
+    let mut keepers: Vec<Box<dyn Keeper + Send>> = Vec::new(alloc);
+    for _ in 0..count {
+        let keeper = MemoryKeeper::new(alloc, failing.to_vec(alloc)?);
+        keepers.push(Box::new(alloc, keeper)?)?;
+    }
     let clock = TapeClock::new(moment()?);
     let mut report = TapeSink::new(alloc, Vec::new(alloc), report_fails.to_vec(alloc)?)?;
     let told = afpd_plain(
@@ -186,15 +179,7 @@ fn ends(
 ) -> Result<bool, Fail>
     requires { door.old.closed ≡ false }
 {
-    ends_over(
-        alloc,
-        words,
-        keepers(alloc, 1, &[])?,
-        door,
-        report_fails,
-        status,
-        text,
-    )
+    ends_over(alloc, words, 1, &[], door, report_fails, status, text)
 }
 
 /// Links on which bytes come that hexadecimal digits spell, each in reads of some sizes.
@@ -409,11 +394,11 @@ fn is_loaded(
 ) -> Result<bool, Fail> {
     let words = words(alloc, 7, "1")?;
     let mut door = door_of(alloc, &[], &[])?;
-    let keepers = keepers(alloc, count, failing)?;
     ends_over(
         alloc,
         words.as_slice(),
-        keepers,
+        count,
+        failing,
         &mut door,
         &[],
         status,
