@@ -1,13 +1,12 @@
 -- Loads of volumes, one after the other.
 use Rattle.std.proofs.Common.{◌≡◌, ◌∙◌, ap, sym, refl, subst, ℕ, zero, suc, ◌+◌, ◌<◌, ◌≤◌, Bool, true, List, [], ◌∷◌, ◌++◌, length, length-append, map, take, drop, get_or, Option, Some, arith}
-use Rattle.std.specs.Prelude.{All, bytes_eq, option_map, slice_get}
+use Rattle.std.specs.Prelude.{All, bytes_eq, slice_get}
 use Rattle.std.specs.Cmp.Lexicographic.{pointwise}
 use Rattle.std.specs.List.{list_all}
 use Rattle.std.proofs.lemmas.List.{length-map, take_more}
 use Rattle.std.proofs.lemmas.Bool.{and_from, leb-true}
 use Rattle.std.proofs.lemmas.List.Elements.{All-cons}
-use Rattle.std.proofs.lemmas.Option.{get_or_from_slice_get, slice_get-map, slice_get_within}
-use Rattle.kept_volume.specs.Loading.{IsLoadedVolume}
+use Rattle.std.proofs.lemmas.Option.{get_or_from_slice_get, slice_get-get_or, slice_get_within}
 use Rattle.std.proofs.lemmas.Slice.Eq.{bytes_eq-Decides}
 use Rattle.afp_volume.specs.SoundVolume.{IsSoundVolume}
 use Rattle.afp_volume.specs.TypedVolume.{is_typed_volume}
@@ -17,7 +16,7 @@ use Rattle.afp_serial.specs.Limits.{most_volumes}
 use Rattle.afp_serial.specs.Sound.{IsSound, ServesVolumes}
 use Rattle.afp_serial.specs.World.{World}
 use Rattle.afp_core.specs.ServerState.{volumes_of}
-use Rattle.afp_core.specs.Loads.{IsCoreFault, IsFaultAt, LoadEach}
+use Rattle.afp_core.specs.Loads.{IsCoreFault, IsFaultAt, LoadEach, LoadsOne}
 use Rattle.afp_core.specs.declared.core_fault.CoreFault.{CoreFault}
 use Rattle.afp_core.specs.declared.core_fault.CoreFault.TheVariants.{Count, Load, Memory}
 use Rattle.kept_volume.specs.Kept.{KeptState}
@@ -57,7 +56,7 @@ module _ {K : Type 0} (records : K → Option Records) (sure : K → Bool) (faul
   loaded-names (name ∷ names) (keeper ∷ keepers) [] loads = absurd loads
   loaded-names (name ∷ names) (keeper ∷ keepers) (one ∷ kept) loads =
       and_from (bytes_eq one.state.name name) (pointwise bytes_eq (map (λ v. v.name) (volumes_of kept)) names)
-      ((bytes_eq-Decides one.state.name name).1 loads.0.name_is) (loaded-names names keepers kept loads.1)
+      ((bytes_eq-Decides one.state.name name).1 loads.0.0.name_is) (loaded-names names keepers kept loads.1)
 
   loaded-sound : (names : List (List ℕ)) (keepers : List K) (kept : List KeptState) → LoadEach records sure faults now names keepers kept → All IsSoundVolume (volumes_of kept)
   loaded-sound [] [] [] loads = λ k d within. absurd (omega (arith, within))
@@ -66,7 +65,7 @@ module _ {K : Type 0} (records : K → Option Records) (sure : K → Bool) (faul
   loaded-sound (name ∷ names) [] kept loads = absurd loads
   loaded-sound (name ∷ names) (keeper ∷ keepers) [] loads = absurd loads
   loaded-sound (name ∷ names) (keeper ∷ keepers) (one ∷ kept) loads =
-      All-cons IsSoundVolume one.state (volumes_of kept) loads.0.sound (loaded-sound names keepers kept loads.1)
+      All-cons IsSoundVolume one.state (volumes_of kept) loads.0.0.sound (loaded-sound names keepers kept loads.1)
 
   loaded-typed : (names : List (List ℕ)) (keepers : List K) (kept : List KeptState) → LoadEach records sure faults now names keepers kept
       → list_all is_typed_volume (volumes_of kept) ≡ true
@@ -76,7 +75,7 @@ module _ {K : Type 0} (records : K → Option Records) (sure : K → Bool) (faul
   loaded-typed (name ∷ names) [] kept loads = absurd loads
   loaded-typed (name ∷ names) (keeper ∷ keepers) [] loads = absurd loads
   loaded-typed (name ∷ names) (keeper ∷ keepers) (one ∷ kept) loads =
-      and_from (is_typed_volume one.state) (list_all is_typed_volume (volumes_of kept)) loads.0.typed (loaded-typed names keepers kept loads.1)
+      and_from (is_typed_volume one.state) (list_all is_typed_volume (volumes_of kept)) loads.0.0.typed (loaded-typed names keepers kept loads.1)
 
   pub loaded-serve : (house : Household) (keepers : List K) (kept : List KeptState) → LoadEach records sure faults now house.volumes keepers kept → ServesVolumes house (volumes_of kept)
   loaded-serve house keepers kept loads = record {
@@ -87,7 +86,7 @@ module _ {K : Type 0} (records : K → Option Records) (sure : K → Bool) (faul
 
   -- one volume more
   load-snoc : (names : List (List ℕ)) (keepers : List K) (kept : List KeptState) (name : List ℕ) (keeper : K) (one : KeptState) → LoadEach records sure faults now names keepers kept
-      → IsLoadedVolume name now (records keeper) (sure keeper) (faults keeper) one → LoadEach records sure faults now (names ++ name ∷ []) (keepers ++ keeper ∷ []) (kept ++ one ∷ [])
+      → LoadsOne name now (records keeper) (sure keeper) (faults keeper) one → LoadEach records sure faults now (names ++ name ∷ []) (keepers ++ keeper ∷ []) (kept ++ one ∷ [])
   load-snoc [] [] [] name keeper one before loaded = (loaded, tt)
   load-snoc [] [] (x ∷ kept) name keeper one before loaded = absurd before
   load-snoc [] (k ∷ keepers) kept name keeper one before loaded = absurd before
@@ -97,7 +96,7 @@ module _ {K : Type 0} (records : K → Option Records) (sure : K → Bool) (faul
 
   pub load-next : (names : List (List ℕ)) (keepers left : List K) (kept new : List KeptState) (name : List ℕ) (keeper d : K) (one : KeptState) → length keepers ≡ length names
       → LoadEach records sure faults now (take (length kept) names) (take (length kept) keepers) kept → left ≡ drop (length kept) keepers → 0 < length left
-      → name ≡ get_or names (length kept) name → keeper ≡ get_or left 0 d → IsLoadedVolume name now (records keeper) (sure keeper) (faults keeper) one → new ≡ kept ++ one ∷ []
+      → name ≡ get_or names (length kept) name → keeper ≡ get_or left 0 d → LoadsOne name now (records keeper) (sure keeper) (faults keeper) one → new ≡ kept ++ one ∷ []
       → LoadEach records sure faults now (take (length new) names) (take (length new) keepers) new
   load-next names keepers left kept new name keeper d one same before rest some is_name is_keeper loaded becomes =
       let i = length kept in
@@ -113,25 +112,30 @@ module _ {K : Type 0} (records : K → Option Records) (sure : K → Bool) (faul
       (load-snoc (take i names) (take i keepers) kept name keeper one before loaded)))
 
   -- a load that gave no volume, behind those that did
-  pub load-stops : (i : ℕ) (names : List (List ℕ)) (keepers : List K) (kept : List KeptState) (keeper : K) (fault : CoreFault)
-      → length keepers ≡ length names → LoadEach records sure faults now (take i names) (take i keepers) kept → slice_get keepers i ≡ Some keeper → IsFaultAt i (sure keeper) fault
-      → IsCoreFault records sure faults now names keepers fault
-  load-stops i names keepers kept keeper Count same before is cause = absurd cause
-  load-stops i names keepers kept keeper (Load at_index fault) same before is cause = (
+  load-stops : (i : ℕ) (names : List (List ℕ)) (keepers : List K) (kept : List KeptState) (name : List ℕ) (keeper : K) (fault : CoreFault)
+      → length keepers ≡ length names → LoadEach records sure faults now (take i names) (take i keepers) kept → slice_get names i ≡ Some name → slice_get keepers i ≡ Some keeper
+      → IsFaultAt i name (records keeper) (sure keeper) fault → IsCoreFault records sure faults now names keepers fault
+  load-stops i names keepers kept name keeper Count same before called is cause = absurd cause
+  load-stops i names keepers kept name keeper (Load at_index fault) same before called is cause = (
     same,
     record {
       kept = kept;
       before = subst (λ (n : ℕ). LoadEach records sure faults now (take n names) (take n keepers) kept) (sym cause.0) before;
-      is_sure = sure keeper;
-      keeper = ap (slice_get (map sure keepers)) cause.0 ∙ slice_get-map sure keepers i ∙ ap (option_map sure) is;
+      name = name;
+      named = ap (slice_get names) cause.0 ∙ called;
+      keeper = keeper;
+      kept_by = ap (slice_get keepers) cause.0 ∙ is;
       cause = cause.1;
     },
   )
-  load-stops i names keepers kept keeper Memory same before is cause = same
+  load-stops i names keepers kept name keeper Memory same before called is cause = same
 
   -- the same of the first that is left
-  pub load-stops-first : (i : ℕ) (names : List (List ℕ)) (keepers left : List K) (kept : List KeptState) (keeper d : K) (fault : CoreFault)
-      → length keepers ≡ length names → LoadEach records sure faults now (take i names) (take i keepers) kept → left ≡ drop i keepers → 0 < length left → keeper ≡ get_or left 0 d
-      → IsFaultAt i (sure keeper) fault → IsCoreFault records sure faults now names keepers fault
-  load-stops-first i names keepers left kept keeper d fault same before rest some first cause =
-      load-stops i names keepers kept keeper fault same before (first-left keepers left i d rest some ∙ ap Some (sym first)) cause
+  pub load-stops-first : (i : ℕ) (names : List (List ℕ)) (keepers left : List K) (kept : List KeptState) (name : List ℕ) (keeper d : K) (fault : CoreFault)
+      → length keepers ≡ length names → LoadEach records sure faults now (take i names) (take i keepers) kept → left ≡ drop i keepers → 0 < length left
+      → name ≡ get_or names i name → keeper ≡ get_or left 0 d → IsFaultAt i name (records keeper) (sure keeper) fault → IsCoreFault records sure faults now names keepers fault
+  load-stops-first i names keepers left kept name keeper d fault same before rest some is_name is_keeper cause =
+      let there : slice_get keepers i ≡ Some keeper = first-left keepers left i d rest some ∙ ap Some (sym is_keeper) in
+      let within : i < length keepers = slice_get_within keepers i keeper there in
+      let named : slice_get names i ≡ Some name = slice_get-get_or names i name (omega (arith, within, same)) ∙ ap Some (sym is_name) in
+      load-stops i names keepers kept name keeper fault same before named there cause

@@ -1,6 +1,7 @@
 //! The volumes of a house, from their keepers.
-ghost use Rattle.std.specs.Prelude.{◌≡◌, ◌++◌, ◌∷◌, [], IfOk, IfErr, OnOk, length};
-ghost use Rattle.kept_volume.specs.Loading.{IsLoadedVolume};
+ghost use Rattle.std.specs.Prelude.{◌≡◌, ◌++◌, ◌∷◌, [], IfOk, IfErr, IfSome, OnOk, length};
+ghost use Rattle.kept_volume.specs.Loading.{IsLoadedFrom, IsLoadedVolume};
+ghost use Rattle.record_keeper.specs.Records.{Records};
 ghost use Rattle.afp_core.specs.Loads.{IsCoreFault, IsFaultAt, LoadEach};
 
 use crate::core_fault::CoreFault;
@@ -58,7 +59,8 @@ fn load_one<K: Keeper>(
     index: usize,
 ) -> Result<KeptVolume<K>, CoreFault>
     ensures loaded { IfOk result (λ kept. IsLoadedVolume name.now now (K.records keeper) (K.sure keeper) (K.faults keeper) kept) }
-    ensures fault { IfErr result (λ fault. IsFaultAt index (K.sure keeper) fault) }
+    ensures from { IfOk result (λ kept. IfSome (K.records keeper) (λ (held : Records). IsLoadedFrom name.now held kept.state)) }
+    ensures fault { IfErr result (λ fault. IsFaultAt index name.now (K.records keeper) (K.sure keeper) fault) }
 {
     // The names of a house's volumes are names, so there was no memory.
     let Ok(name) = Name::new(alloc, name.as_slice()) else {

@@ -39,9 +39,9 @@ impl<K: Keeper> Model for Core<K> {
 }
 
 impl<K: Keeper> Core<K> {
-    /// The core of a house over its volumes' keepers, in house order: each volume is loaded from its keeper, which makes a new one where
-    /// the keeper holds nothing. `Count` exactly where the numbers of keepers and volumes differ; else the fault of the first load that
-    /// gave no volume, `Failed` only where that keeper is not sure.
+    /// The core of a house over its volumes' keepers, in house order: each volume is the one that its keeper's records say, and a new one
+    /// where the keeper holds nothing. `Count` exactly where the numbers of keepers and volumes differ; else the fault of the first load
+    /// that gave no volume: `BadRecord` has the first bad record of that keeper, `Failed` comes only where that keeper is not sure.
     pub fn new(
         alloc: Global,
         house: &House,

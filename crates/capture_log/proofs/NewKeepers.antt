@@ -26,7 +26,7 @@ new-volumes now [] (k ∷ keepers) kept loaded new = absurd loaded
 new-volumes now (name ∷ names) [] kept loaded new = absurd loaded
 new-volumes now (name ∷ names) (k ∷ keepers) [] loaded new = absurd loaded
 new-volumes now (name ∷ names) (k ∷ keepers) (one ∷ kept) loaded new =
-    let first : one.state ≡ fresh_volume name now = loaded.0.fresh new.0.empty in
+    let first : one.state ≡ fresh_volume name now = loaded.0.0.fresh new.0.empty in
     let rest : volumes_of kept ≡ mapped (λ n. fresh_volume n now) names = new-volumes now names keepers kept loaded.1 new.1 in
     ap (λ (v : VolumeState). v ∷ volumes_of kept) first ∙ ap (λ (l : List VolumeState). fresh_volume name now ∷ l) rest
 
@@ -37,7 +37,7 @@ all-sure now [] [] (one ∷ kept) loaded new index h = absurd loaded
 all-sure now [] (k ∷ keepers) kept loaded new index h = absurd loaded
 all-sure now (name ∷ names) [] kept loaded new index h = absurd loaded
 all-sure now (name ∷ names) (k ∷ keepers) [] loaded new index h = absurd loaded
-all-sure now (name ∷ names) (k ∷ keepers) (one ∷ kept) loaded new zero h = ap Some (loaded.0.sure_is ∙ new.0.sure)
+all-sure now (name ∷ names) (k ∷ keepers) (one ∷ kept) loaded new zero h = ap Some (loaded.0.0.sure_is ∙ new.0.sure)
 all-sure now (name ∷ names) (k ∷ keepers) (one ∷ kept) loaded new (suc index) h = all-sure now names keepers kept loaded.1 new.1 index (omega (arith, h))
 
 faultless : (now : ℕ) (names : List (List ℕ)) (keepers : List MemoryState) (kept : List KeptState) → Loaded now names keepers kept → AreNew keepers
@@ -47,7 +47,7 @@ faultless now [] [] (one ∷ kept) loaded new index count h = absurd loaded
 faultless now [] (k ∷ keepers) kept loaded new index count h = absurd loaded
 faultless now (name ∷ names) [] kept loaded new index count h = absurd loaded
 faultless now (name ∷ names) (k ∷ keepers) [] loaded new index count h = absurd loaded
-faultless now (name ∷ names) (k ∷ keepers) (one ∷ kept) loaded new zero count h = let same : one.faults ≡ count = cc h in sym same ∙ loaded.0.faults_are ∙ new.0.faultless
+faultless now (name ∷ names) (k ∷ keepers) (one ∷ kept) loaded new zero count h = let same : one.faults ≡ count = cc h in sym same ∙ loaded.0.0.faults_are ∙ new.0.faultless
 faultless now (name ∷ names) (k ∷ keepers) (one ∷ kept) loaded new (suc index) count h = faultless now names keepers kept loaded.1 new.1 index count h
 
 -- a server over them

@@ -56,7 +56,7 @@ module _ {K : Type 0} (kept_by : Keeping K) (now : ℕ) where
   all-kept (name ∷ names) (keeper ∷ keepers) [] loads all = absurd loads
   all-kept (name ∷ names) (keeper ∷ keepers) (one ∷ kept) loads all =
       let both = and_parts (kept_by.sure keeper) (list_all kept_by.sure keepers) all in
-      and_from one.sure (list_all (λ b. b) (map (λ k. k.sure) kept)) (loads.0.sure_is ∙ both.0) (all-kept names keepers kept loads.1 both.1)
+      and_from one.sure (list_all (λ b. b) (map (λ k. k.sure) kept)) (loads.0.0.sure_is ∙ both.0) (all-kept names keepers kept loads.1 both.1)
 
 -- where all keepers are sure, their counts stand
 stands : {K : Type 0} → (kept_by : Keeping K) (house : Household) (now : ℕ) (keepers : List K) (core done : ServerState)
