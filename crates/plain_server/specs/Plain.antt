@@ -68,7 +68,7 @@ pub record ServesHouse {L P K : Type 0} (state : L → LinkState) (passed : P �
   pub own : shown.mine ≡ upto (length shown.history)
   pub faultless : list_all kept_by.sure keepers ≡ true → shown.faults ≡ (unasked house now kept).faults
 
--- The load of the volume at an index was the first that gave none.
+-- The load of the volume at an index was the first that gave none. A bad record is the first of those of its keeper, where they are told.
 pub record FailsToLoad {K : Type 0} (kept_by : Keeping K) (house : Household) (keepers : List K) (clock : Option ℕ) (index : ℕ) (fault : LoadFault) : Type 0 where
   pub now : ℕ
   pub told : IfSome clock (λ moment. now ≡ moment)

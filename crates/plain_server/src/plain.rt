@@ -24,7 +24,7 @@ pub enum PlainEnd {
     Refused,
     /// There was no memory.
     Memory,
-    /// The keeper of the volume at this index, from 0, holds a record that no volume of that name has: its key in hexadecimal, and why.
+    /// The first record that no volume of that name has, of the keeper of the volume at this index, from 0: its key in hexadecimal, and why.
     BadRecord {
         index: usize,
         key: String,
