@@ -26,7 +26,7 @@ pub fn report_all<O: Sink>(report: &mut O, text: &[u8]) -> bool
 const LINE: usize = 64;
 
 /// Puts a text in front of the place `end`, and gives the place where it begins.
-fn put_before(line: &mut [u8], end: usize, text: &[u8]) -> usize
+pub fn put_before(line: &mut [u8], end: usize, text: &[u8]) -> usize
     requires { (length text.now ≤ end) × (end ≤ length line.old) }
     ensures start { result + length text.now ≡ end }
     ensures length { length line.new ≡ length line.old }
@@ -38,7 +38,7 @@ fn put_before(line: &mut [u8], end: usize, text: &[u8]) -> usize
 }
 
 /// Puts a number in decimal in front of the place `end`, and gives the place where it begins.
-fn put_number_before(line: &mut [u8], end: usize, number: u64) -> usize
+pub fn put_number_before(line: &mut [u8], end: usize, number: u64) -> usize
     requires { (20 ≤ end) × (end ≤ length line.old) }
     ensures start { (result ≤ end) × (end ≤ result + 20) }
     ensures length { length line.new ≡ length line.old }
