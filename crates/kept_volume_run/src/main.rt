@@ -3,6 +3,7 @@
 #![tactic(auto)]
 
 mod run;
+mod spent;
 
 use afp_base::{NodeId, OutOfMemory};
 use run::{Came, Run};
@@ -51,9 +52,14 @@ fn print_came(rt: &HostRuntime, line: &str, came: Came) -> io::Result<()> {
     }
 }
 
-/// Another volume, of a keeper whose call of this number fails.
-fn renew(rt: &HostRuntime, run: &mut Option<Run>, line: &str, failing: u32) -> io::Result<()> {
-    match Run::new(rt.alloc(), u64::from(failing)) {
+/// Another volume, where it was loaded.
+fn renew(
+    rt: &HostRuntime,
+    run: &mut Option<Run>,
+    line: &str,
+    loaded: Result<Option<Run>, OutOfMemory>,
+) -> io::Result<()> {
+    match loaded {
         Ok(new) => {
             let word = if new.is_some() { "ok" } else { "failed" };
             *run = new;
@@ -69,7 +75,11 @@ fn run_text(rt: &HostRuntime, run: &mut Option<Run>, line: &str) -> io::Result<(
     }
     let words: Vec<&str> = line.split_whitespace().collect(rt.alloc())?;
     if word_at(words.as_slice(), 0) == "new" {
-        return renew(rt, run, line, number_at(words.as_slice(), 1));
+        let failing = number_at(words.as_slice(), 1);
+        return renew(rt, run, line, Run::new(rt.alloc(), u64::from(failing)));
+    }
+    if word_at(words.as_slice(), 0) == "spent" {
+        return renew(rt, run, line, Run::spent(rt.alloc()));
     }
     match run {
         Some(run) => print_came(rt, line, came(rt.alloc(), run, words.as_slice())),

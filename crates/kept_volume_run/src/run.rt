@@ -2,6 +2,7 @@
 ghost use Rattle.std.specs.Prelude.{IsSome};
 ghost use Rattle.volume_tree.specs.Requests.{tree_call};
 
+use crate::spent::spent_keeper;
 use afp_base::{Moment, NodeId, OutOfMemory, VolumeId};
 use afp_names::{LONGEST_PATH, Name, Path, UTF8_NAMES};
 use afp_requests::Call;
@@ -37,22 +38,33 @@ fn path_of(alloc: Global, text: &str) -> Option<Path> {
 }
 
 impl Run {
-    /// The volume "Share" of a new keeper in memory whose call of this number fails, from 0, loaded at 100.
-    pub fn new(alloc: Global, failing: u64) -> Result<Option<Run>, OutOfMemory> {
+    /// The volume "Share" of a keeper, loaded at 100.
+    fn load(alloc: Global, keeper: MemoryKeeper) -> Result<Option<Run>, OutOfMemory> {
         let Some(now) = Moment::new(100) else {
             return Ok(None);
         };
         let Ok(name) = Name::new(alloc, b"Share") else {
             return Err(OutOfMemory);
         };
+        match KeptVolume::load(alloc, keeper, name.as_str(), now) {
+            Ok(kept) => Ok(Some(Run { kept, now })),
+            Err(_) => Ok(None),
+        }
+    }
+
+    /// The volume of a new keeper in memory whose call of this number fails, from 0.
+    pub fn new(alloc: Global, failing: u64) -> Result<Option<Run>, OutOfMemory> {
         let mut calls = Vec::new(alloc);
         if calls.push(failing).is_err() {
             return Err(OutOfMemory);
         }
-        match KeptVolume::load(alloc, MemoryKeeper::new(alloc, calls), name.as_str(), now) {
-            Ok(kept) => Ok(Some(Run { kept, now })),
-            Err(_) => Ok(None),
-        }
+        Run::load(alloc, MemoryKeeper::new(alloc, calls))
+    }
+
+    /// The volume of a keeper that holds one whose last id was given out.
+    pub fn spent(alloc: Global) -> Result<Option<Run>, OutOfMemory> {
+        let keeper = spent_keeper(alloc, "Share")?;
+        Run::load(alloc, keeper)
     }
 
     /// What comes of a call that changes the volume, with no fork open.
