@@ -1,5 +1,5 @@
 //! A cursor over bytes.
-ghost use Rattle.std.specs.Prelude.{◌≡◌};
+ghost use Rattle.std.specs.Prelude.{◌≡◌, ◌+◌, ◌≤◌, length};
 ghost use Rattle.afp_base.specs.Cursor.{Cursor};
 
 use byteorder::{BigEndian, ByteOrder};
@@ -40,6 +40,39 @@ impl<'a> Scan<'a> {
         ensures { result ≡ record { bytes = bytes.now; place = 0 } }
     {
         Scan { bytes, place: 0 }
+    }
+
+    /// A cursor at a place of the bytes.
+    pub fn at(bytes: &'a [u8], place: usize) -> Scan<'a>
+        requires { place ≤ length bytes.now }
+        ensures { result ≡ record { bytes = bytes.now; place = place } }
+    {
+        Scan { bytes, place }
+    }
+
+    /// The same cursor once more, at the same place.
+    pub fn again(&self) -> Scan<'a>
+        ensures { result ≡ self.now }
+    {
+        Scan {
+            bytes: self.bytes,
+            place: self.place,
+        }
+    }
+
+    /// The place of the next byte, in bytes from the first.
+    pub fn place(&self) -> usize
+        ensures place { result ≡ self.now.place }
+        ensures inside { self.now.place ≤ length self.now.bytes }
+    {
+        self.place
+    }
+
+    /// How many bytes remain.
+    pub fn remaining(&self) -> usize
+        ensures { self.now.place + result ≡ length self.now.bytes }
+    {
+        self.bytes.len() - self.place
     }
 
     /// The next byte.

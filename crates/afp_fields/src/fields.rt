@@ -6,7 +6,7 @@ ghost use Rattle.std.specs.Option.{option_copied};
 ghost use Rattle.afp_requests.specs.Words.{Literal, Pad, LastPad, Even, Number, Within, Count, Optional, Signed32, Signed64, Plain, Counted, Tail};
 ghost use Rattle.afp_fields.specs.Taking.{Takes, TakesPiece, TakesCopy, TakesEnclosed, StandsAlone};
 
-use afp_base::{Bytes, OutOfMemory};
+use afp_base::{Bytes, OutOfMemory, Scan};
 use afp_requests::ReadFault;
 use byteorder::{BigEndian, ByteOrder};
 use std::alloc::Global;
@@ -18,8 +18,7 @@ use std::marker::Model;
 /// Contracts see the block, the place, and what is enclosed.
 #[derive(Drop)]
 pub struct Fields<'a> {
-    block: &'a [u8],
-    place: usize,
+    scan: Scan<'a>,
     enclosed: Option<&'a [u8]>,
 }
 
@@ -30,9 +29,9 @@ impl<'a> Model for Fields<'a> {
 
     ghost Value = { Input };
 
-    ghost view = { λ f. record { bytes = f.block.now; place = f.place; enclosed = option_copied f.enclosed } };
+    ghost view = { λ f. record { bytes = f.scan.bytes; place = f.scan.place; enclosed = option_copied f.enclosed } };
 
-    ghost invariant = { λ f. f.place ≤ length f.block.now };
+    ghost invariant = { λ f. f.scan.place ≤ length f.scan.bytes };
 }
 
 impl<'a> Fields<'a> {
@@ -44,8 +43,7 @@ impl<'a> Fields<'a> {
         ensures { result ≡ record { bytes = block.now; place = place; enclosed = option_copied enclosed.entry } }
     {
         Fields {
-            block,
-            place,
+            scan: Scan::at(block, place),
             enclosed,
         }
     }
@@ -55,8 +53,7 @@ impl<'a> Fields<'a> {
         ensures { result ≡ self.now }
     {
         Fields {
-            block: self.block,
-            place: self.place,
+            scan: self.scan.again(),
             enclosed: self.enclosed,
         }
     }
@@ -65,12 +62,10 @@ impl<'a> Fields<'a> {
     pub(crate) fn piece(&mut self, size: usize) -> Result<&'a [u8], ReadFault>
         ensures { TakesPiece size self.old result self.new }
     {
-        if self.block.len() - self.place < size {
-            return Err(ReadFault::Param);
+        match self.scan.bytes(size) {
+            Ok(piece) => Ok(piece),
+            Err(_) => Err(ReadFault::Param),
         }
-        let from = self.place;
-        self.place = from + size;
-        Ok(&self.block[from..from + size])
     }
 
     /// The next `size` bytes, as bytes of one's own.
@@ -97,8 +92,9 @@ impl<'a> Fields<'a> {
     pub fn last_pad(&mut self)
         ensures { Takes LastPad self.old (Ok tt) self.new }
     {
-        if self.place < self.block.len() {
-            self.place += 1;
+        match self.scan.bytes(1) {
+            Ok(_) => {}
+            Err(_) => {}
         }
     }
 
@@ -107,7 +103,7 @@ impl<'a> Fields<'a> {
         ensures taken { Takes Even self.old result self.new }
         ensures err { OnErr result (self.new ≡ self.old) }
     {
-        let odd = self.place % 2;
+        let odd = self.scan.place() % 2;
         let _pad = self.piece(odd)?;
         Ok(())
     }
@@ -283,7 +279,7 @@ impl<'a> Fields<'a> {
         ensures taken { Takes Tail self.old result self.new }
         ensures err { OnErr result (self.new ≡ self.old) }
     {
-        let remaining = self.block.len() - self.place;
+        let remaining = self.scan.remaining();
         self.copy(alloc, remaining)
     }
 
