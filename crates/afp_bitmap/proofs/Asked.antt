@@ -7,7 +7,7 @@ use Rattle.afp_bitmap.specs.declared.table.Slot.{Slot}
 use Rattle.afp_bitmap.specs.Bits.{is_asked}
 use Rattle.afp_bitmap.specs.Field.{Field, Number, Date, Finder, LongName, Utf8Name, fixed_size}
 use Rattle.afp_bitmap.specs.Params.{asked_of, size_of_fixed_part}
-use Rattle.afp_bitmap.specs.Reading.{size_of, asked_size}
+use Rattle.afp_bitmap.specs.lemma.Reading.{size_of, asked_size}
 use Rattle.afp_bitmap.specs.Table.{Row}
 
 pub asked_none : (bits : ℕ) → asked_of bits [] ≡ []

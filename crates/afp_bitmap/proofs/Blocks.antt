@@ -9,7 +9,7 @@ use Rattle.afp_bitmap.specs.declared.table.Shape.{Shape}
 use Rattle.afp_bitmap.specs.declared.table.Slot.{Slot}
 use Rattle.afp_bitmap.specs.Field.{Field, IsCountable, IsTyped}
 use Rattle.afp_bitmap.specs.Params.{asked_of, asked, parts, size_of_fixed_part, RowFits, Fits, IsAnswer}
-use Rattle.afp_bitmap.specs.Reading.{Walk, asked_size, start, leads_to}
+use Rattle.afp_bitmap.specs.lemma.Reading.{Walk, asked_size, start, leads_to}
 use Rattle.afp_bitmap.specs.Table.{rows, kind_of}
 use Rattle.afp_bitmap.proofs.Asked.{shape_of, slot_of, asked_size_is}
 use Rattle.afp_bitmap.proofs.Asks.{same_shapes, sizes_are, typed_asked, long_countable, utf8_countable}

@@ -13,8 +13,8 @@ use Rattle.afp_bitmap.specs.declared.params.ParamFault.{ParamFault}
 use Rattle.afp_bitmap.specs.declared.params.ParamFault.TheVariants as faults
 use Rattle.afp_bitmap.specs.Field.{Field, Number, Date, Finder, LongName, Utf8Name}
 use Rattle.afp_bitmap.specs.Params.{params, IsAnswer, IsBadAt, IfBad}
-use Rattle.afp_bitmap.specs.Read.{volume_at, file_at, dir_at, reading}
-use Rattle.afp_bitmap.specs.Reading.{◌>>=◌, Gives, judged, volume_from, file_from, dir_from}
+use Rattle.afp_bitmap.specs.lemma.Read.{volume_at, file_at, dir_at, reading}
+use Rattle.afp_bitmap.specs.lemma.Reading.{◌>>=◌, Gives, judged, volume_from, file_from, dir_from}
 use Rattle.afp_bitmap.specs.Table.{Row, volume_rows, file_rows, dir_rows, rows, kind_of}
 use Rattle.afp_bitmap.proofs.Asked.{slot_of}
 use Rattle.afp_bitmap.proofs.Blocks.{Kind}

@@ -8,7 +8,7 @@ use Rattle.byteorder.specs.Endian.{big_number, big_bytes}
 use Rattle.afp_bitmap.specs.declared.table.Shape.{Shape}
 use Rattle.afp_bitmap.specs.declared.table.Shape.TheVariants as shapes
 use Rattle.afp_bitmap.specs.Field.{Field, Number, Date, Finder, LongName, Utf8Name, fixed_size, IsCountable, IsTyped}
-use Rattle.afp_bitmap.specs.Reading.{Walk, may_stand, behind_field}
+use Rattle.afp_bitmap.specs.lemma.Reading.{Walk, may_stand, behind_field}
 use Rattle.afp_bitmap.proofs.Asked.{shape_of}
 use Rattle.afp_bitmap.proofs.Filled.{fixed_length}
 use Rattle.afp_bitmap.proofs.Fixed.{walk, passed, walk_step, walk_passed, Claimed, Valid, behind_rest, plain_keeps_long, plain_keeps_utf8, long_sets_long, long_keeps_utf8, utf8_keeps_long, utf8_sets_utf8, utf8_is, front_number}

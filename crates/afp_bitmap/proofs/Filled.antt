@@ -9,7 +9,7 @@ use Rattle.byteorder.specs.Endian.{big_number, big_bytes}
 use Rattle.afp_bitmap.specs.Bits.{is_asked}
 use Rattle.afp_bitmap.specs.Field.{Field, Number, Date, Finder, LongName, Utf8Name, fixed_size, blank, IsCountable, IsTyped}
 use Rattle.afp_bitmap.specs.Params.{asked_of, RowFits}
-use Rattle.afp_bitmap.specs.Reading.{piece, behind, finder_of}
+use Rattle.afp_bitmap.specs.lemma.Reading.{piece, behind, finder_of}
 use Rattle.afp_bitmap.specs.Table.{Row}
 use Rattle.afp_bitmap.proofs.Asked.{asked_none, asked_yes, asked_no}
 use Rattle.afp_bitmap.proofs.Formed.{NoNames, Late, Formed, fields, late_asked, no_names_asked}

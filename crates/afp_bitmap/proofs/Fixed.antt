@@ -13,7 +13,7 @@ use Rattle.afp_bitmap.specs.declared.table.Shape.TheVariants as shapes
 use Rattle.afp_bitmap.specs.Bits.{is_asked}
 use Rattle.afp_bitmap.specs.Field.{Field, Number, Date, Finder, LongName, Utf8Name, fixed_size, IsTyped}
 use Rattle.afp_bitmap.specs.Params.{asked_of}
-use Rattle.afp_bitmap.specs.Reading.{◌>>=◌, Walk, may_stand, stands, behind_field, step, walked, size_of, finder_of}
+use Rattle.afp_bitmap.specs.lemma.Reading.{◌>>=◌, Walk, may_stand, stands, behind_field, step, walked, size_of, finder_of}
 use Rattle.afp_bitmap.specs.Table.{Row}
 use Rattle.afp_bitmap.proofs.Asked.{shape_of, slot_of, size_of-shape, asked_none, asked_yes, asked_no}
 use Rattle.afp_bitmap.proofs.Filled.{cut, past, cut_whole, past_whole, refill, filled, fixed_length}

@@ -6,7 +6,7 @@ use Rattle.afp_bitmap.specs.Bits.{is_asked}
 use Rattle.afp_bitmap.specs.Field.{Field, Number, Date, Finder, LongName, Utf8Name, long_name_bytes, pad_of}
 use Rattle.afp_bitmap.specs.Params.{asked_of, name_size}
 use Rattle.afp_bitmap.specs.Table.{Row}
-pub use Rattle.afp_bitmap.specs.Writing.{by_name, NoNames, Late, Formed}
+pub use Rattle.afp_bitmap.specs.lemma.Writing.{by_name, NoNames, Late, Formed}
 use Rattle.afp_bitmap.proofs.Asked.{asked_none, asked_yes, asked_no}
 
 pub by_name_to : (f : Field) {P L U Q : Type 0} → (P → Q) → (L → Q) → (U → Q) → by_name f P L U → Q

@@ -7,7 +7,7 @@ use Rattle.afp_bitmap.specs.declared.table.Shape.{Shape}
 use Rattle.afp_bitmap.specs.declared.table.Slot.{Slot}
 use Rattle.afp_bitmap.specs.Field.{Field}
 use Rattle.afp_bitmap.specs.Params.{asked, parts, params, IsAnswer, BreaksAt, EndsAt, IsBadAt}
-use Rattle.afp_bitmap.specs.Reading.{◌>>=◌, Walk, may_stand, start, walked, names_at, judged}
+use Rattle.afp_bitmap.specs.lemma.Reading.{◌>>=◌, Walk, may_stand, start, walked, names_at, judged}
 use Rattle.afp_bitmap.specs.Table.{rows}
 use Rattle.afp_bitmap.proofs.Asked.{shape_of}
 use Rattle.afp_bitmap.proofs.Asks.{fixed_total, typed_take, long_filled, utf8_filled, if_text, text_none, none_is, filled_take, named_formed}

@@ -17,3 +17,4 @@ pub mod Judgements
 pub mod ByKind
 pub mod Patches
 pub mod Offsets
+pub mod InPlace

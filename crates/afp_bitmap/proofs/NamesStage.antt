@@ -5,7 +5,7 @@ use Rattle.std.proofs.lemmas.Bool.{cases_Bool, cases_lt, and_parts, and_from, le
 use Rattle.std.proofs.lemmas.List.{take_at, drop_at, take-append-drop, length-take-le, length-append, length-drop, length-replicate, append_assoc, append-nil, drop-drop}
 use Rattle.byteorder.specs.Endian.{big_number, big_bytes}
 use Rattle.afp_bitmap.specs.Field.{long_name_bytes, utf8_name_bytes}
-use Rattle.afp_bitmap.specs.Reading.{◌>>=◌, Spot, zero_at, pad_at, leads_to, long_name_at, utf8_text_at, utf8_name_at}
+use Rattle.afp_bitmap.specs.lemma.Reading.{◌>>=◌, Spot, zero_at, pad_at, leads_to, long_name_at, utf8_text_at, utf8_name_at}
 use Rattle.afp_bitmap.proofs.Fixed.{front_number, front_is, zeros_are}
 use Rattle.afp_bitmap.proofs.Numbers.{IsBytes, IsBytes-drop, big_number-lt, length-big_bytes}
 use Rattle.afp_bitmap.proofs.Parts.{opt}

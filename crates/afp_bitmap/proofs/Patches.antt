@@ -10,7 +10,7 @@ use Rattle.afp_bitmap.specs.Bits.{is_asked}
 use Rattle.afp_bitmap.specs.Field.{Field, Number, Date, Finder, LongName, Utf8Name, fixed_size, fixed_bytes, long_name_bytes, utf8_name_bytes, pad_of, IsCountable}
 use Rattle.afp_bitmap.specs.Params.{asked_of, parts, size_of_fixed_part}
 use Rattle.afp_bitmap.specs.Table.{Row}
-use Rattle.afp_bitmap.specs.Writing.{Spot, Spots, no_spots, noted, all_noted, padded, patched, CanName, with_long_name, with_utf8_name, IsSized}
+use Rattle.afp_bitmap.specs.lemma.Writing.{Spot, Spots, no_spots, noted, all_noted, padded, patched, CanName, with_long_name, with_utf8_name, IsSized}
 use Rattle.afp_bitmap.proofs.Asked.{asked_none, asked_yes, asked_no}
 use Rattle.afp_bitmap.proofs.Formed.{NoNames, Late, Formed, late_formed}
 use Rattle.afp_bitmap.proofs.Loops.{concat-append, noted_none, noted_more}

@@ -13,9 +13,9 @@ use Rattle.afp_bitmap.specs.declared.table.Slot.{Slot}
 use Rattle.afp_bitmap.specs.Bits.{is_asked}
 use Rattle.afp_bitmap.specs.Field.{blank, IsCountable}
 use Rattle.afp_bitmap.specs.Params.{asked_of, size_of_fixed_part, RowFits, Fits}
-use Rattle.afp_bitmap.specs.Reading.{asked_size}
+use Rattle.afp_bitmap.specs.lemma.Reading.{asked_size}
 use Rattle.afp_bitmap.specs.Table.{Row, volume_rows, file_rows, dir_rows, rows}
-use Rattle.afp_bitmap.specs.Writing.{IsSized}
+use Rattle.afp_bitmap.specs.lemma.Writing.{IsSized}
 use Rattle.afp_bitmap.proofs.Asked.{slot_of, whole_size, asked_size_le, asked_size_is, asked_none, asked_yes, asked_no}
 use Rattle.afp_bitmap.proofs.Formed.{Formed, fields}
 use Rattle.afp_bitmap.proofs.Patches.{sized_asked}

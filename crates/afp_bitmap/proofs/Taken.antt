@@ -3,8 +3,8 @@ use Rattle.std.proofs.Common.{◌≡◌, ℕ, ℤ, List, w32}
 use Rattle.std.specs.Int.{cast_signed}
 use Rattle.byteorder.specs.Endian.{big_number}
 use Rattle.afp_bitmap.specs.declared.take.Fields.{Fields}
-use Rattle.afp_bitmap.specs.Reading.{finder_of, volume_from, file_from, dir_from}
-use Rattle.afp_bitmap.specs.Taking.{taken, Took}
+use Rattle.afp_bitmap.specs.lemma.Reading.{finder_of, volume_from, file_from, dir_from}
+use Rattle.afp_bitmap.specs.lemma.Taking.{taken, Took}
 
 pub volume_taken : (s0 s1 s2 s3 s4 s5 s6 s7 s8 s9 s10 s11 s12 : Fields) (name : List ℕ)
     (v_attributes v_signature v_volume v_free v_total v_ext_free v_ext_total v_block_size : ℕ)

@@ -3,7 +3,7 @@ use Rattle.std.proofs.Common.{◌≡◌, ℕ, List, [], ◌∷◌, Result, Ok, E
 use Rattle.afp_bitmap.specs.declared.params.ParamFault.{ParamFault}
 use Rattle.afp_bitmap.specs.declared.params.ParamFault.TheVariants as faults
 use Rattle.afp_bitmap.specs.declared.table.Slot.{Slot}
-use Rattle.afp_bitmap.specs.Reading.{◌>>=◌, Fails, Walk, step, walked}
+use Rattle.afp_bitmap.specs.lemma.Reading.{◌>>=◌, Fails, Walk, step, walked}
 
 -- a step that failed is where all fails
 pub bind_fails : {A B : Type 0} (e : ParamFault) (r : Result A ℕ) (f : A → Result B ℕ) → Fails e r → Fails e (r >>= f)

@@ -3,7 +3,4 @@ pub mod Field
 pub mod Table
 pub mod Params
 pub mod Offsets
-pub mod Reading
-pub mod Read
-pub mod Writing
-pub mod Taking
+pub mod lemma

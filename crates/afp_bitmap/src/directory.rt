@@ -1,12 +1,12 @@
 //! The parameters of a directory.
-ghost use Rattle.std.specs.Prelude.{◌≡◌, [], length, map, OnOk};
+ghost use Rattle.std.specs.Prelude.{◌≡◌, ◌++◌, length, map, OnOk, OnErr};
 ghost use Rattle.std.specs.List.{concat, AllByRecursion};
 ghost use Rattle.afp_bitmap.specs.Field.{IsCountable};
 ghost use Rattle.afp_bitmap.specs.Params.{asked_of, parts};
-ghost use Rattle.afp_bitmap.specs.Read.{dir_at};
-ghost use Rattle.afp_bitmap.specs.Reading.{Gives};
+ghost use Rattle.afp_bitmap.specs.lemma.Read.{dir_at};
+ghost use Rattle.afp_bitmap.specs.lemma.Reading.{Gives};
 ghost use Rattle.afp_bitmap.specs.Table.{dir_rows};
-ghost use Rattle.afp_bitmap.specs.Writing.{row_of};
+ghost use Rattle.afp_bitmap.specs.lemma.Writing.{row_of, Keeps};
 
 use crate::judge::judge;
 use crate::params::ParamFault;
@@ -88,18 +88,18 @@ fn rows_of(values: &DirValues) -> [Row<'_>; 13]
     ]
 }
 
-/// Writes the block of the asked values. After an error, any part of it may stand there.
-pub(crate) fn put_dir(bits: u16, values: &DirValues, block: &mut Bytes) -> Result<(), OutOfMemory>
-    requires empty { block.old ≡ [] }
-    requires names { AllByRecursion IsCountable (asked_of bits (dir_rows values.now)) }
-    ensures { OnOk result (block.new ≡ concat (parts (asked_of bits (dir_rows values.now)))) }
+/// Appends the block of the asked values. After an error, any part of it may stand there.
+pub(crate) fn put_dir(bits: u16, values: &DirValues, out: &mut Bytes) -> Result<(), OutOfMemory>
+    requires { AllByRecursion IsCountable (asked_of bits (dir_rows values.now)) }
+    ensures ok { OnOk result (out.new ≡ out.old ++ concat (parts (asked_of bits (dir_rows values.now)))) }
+    ensures err { OnErr result (Keeps out.old out.new) }
 {
     let rows = rows_of(values);
-    put_rows(bits, &rows, block)
+    put_rows(bits, &rows, out)
 }
 
 /// The values of a block.
-#[tactic(auto, unfolding(crate::specs::Read::dir_at, crate::specs::Reading::dir_from))]
+#[tactic(auto, unfolding(crate::specs::lemma::Read::dir_at, crate::specs::lemma::Reading::dir_from))]
 pub(crate) fn read_dir(alloc: Global, bits: u16, bytes: &[u8]) -> Result<DirValues, ParamFault>
     ensures { Gives (λ v. v) result (dir_at bits bytes.now) }
 {

@@ -1,6 +1,6 @@
 //! Whether bytes are a block, and the first place where they are none.
 ghost use Rattle.std.specs.Prelude.{◌≡◌, ◌+◌, ◌<◌, ◌^◌, length, IfOk, true};
-ghost use Rattle.afp_bitmap.specs.Reading.{Gives, asked_size, start, walk_of, names_of, may_stand, stands, behind_field, step, walked, judged};
+ghost use Rattle.afp_bitmap.specs.lemma.Reading.{Gives, asked_size, start, walk_of, names_of, may_stand, stands, behind_field, step, walked, judged};
 
 use crate::names::{Names, names_at};
 use crate::params::ParamFault;
@@ -21,7 +21,7 @@ pub(crate) struct Walked<'a> {
 
 /// Whether a UTF-8 name may stand at a place, where the names begin at `first`: just there, or
 /// behind some long name and its pad.
-#[tactic(auto, unfolding(crate::specs::Reading::may_stand))]
+#[tactic(auto, unfolding(crate::specs::lemma::Reading::may_stand))]
 fn may_stand(first: usize, long_name: bool, place: usize) -> bool
     requires { first < 2 ^ 16 }
     ensures { result ≡ may_stand first long_name place }
@@ -34,7 +34,7 @@ fn may_stand(first: usize, long_name: bool, place: usize) -> bool
 }
 
 /// Whether the bytes at the walk's place are a field of that shape.
-#[tactic(auto, unfolding(crate::specs::Reading::stands))]
+#[tactic(auto, unfolding(crate::specs::lemma::Reading::stands))]
 fn stands(first: usize, shape: Shape, walk: &Walked<'_>) -> bool
     requires { first < 2 ^ 16 }
     ensures { result ≡ stands first shape (walk_of walk.now) }
@@ -54,7 +54,7 @@ fn stands(first: usize, shape: Shape, walk: &Walked<'_>) -> bool
 }
 
 /// Goes behind a field of that shape.
-#[tactic(auto, unfolding(crate::specs::Reading::behind_field, crate::specs::Reading::stands))]
+#[tactic(auto, unfolding(crate::specs::lemma::Reading::behind_field, crate::specs::lemma::Reading::stands))]
 fn behind_field<'a>(first: usize, shape: Shape, walk: &Walked<'a>) -> Walked<'a>
     requires small { first < 2 ^ 16 }
     requires whole { stands first shape (walk_of walk.now) ≡ true }
@@ -88,7 +88,7 @@ fn behind_field<'a>(first: usize, shape: Shape, walk: &Walked<'a>) -> Walked<'a>
 }
 
 /// Goes over one field, where it is asked.
-#[tactic(auto, unfolding(crate::specs::Reading::step))]
+#[tactic(auto, unfolding(crate::specs::lemma::Reading::step))]
 fn step<'a>(bits: u16, first: usize, slot: Slot, walk: Walked<'a>) -> Result<Walked<'a>, ParamFault>
     requires small { first < 2 ^ 16 }
     requires within { walk.place + length walk.rest.now < 2 ^ 64 }
@@ -124,7 +124,7 @@ fn walk<'a>(bits: u16, table: &[Slot], bytes: &'a [u8]) -> Result<Walked<'a>, Pa
 }
 
 /// The names of a block for these bits, where the bytes are one from the first to the last.
-#[tactic(auto, unfolding(crate::specs::Reading::judged))]
+#[tactic(auto, unfolding(crate::specs::lemma::Reading::judged))]
 pub(crate) fn judge<'a>(bits: u16, table: &[Slot], bytes: &'a [u8]) -> Result<Names<'a>, ParamFault>
     requires { asked_size bits table.now < 2 ^ 16 }
     ensures { Gives names_of result (judged bits table.now bytes.now) }

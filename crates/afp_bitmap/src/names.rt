@@ -1,6 +1,6 @@
 //! The names behind the fixed part.
 ghost use Rattle.std.specs.Prelude.{◌≡◌, ◌+◌, ◌<◌, ◌^◌, length, IfOk, true};
-ghost use Rattle.afp_bitmap.specs.Reading.{Gives, Spot, spot_of, walk_of, names_of, name_of, zero_at, pad_at, leads_to, long_name_at, utf8_name_at, long_name_of, utf8_name_of, names_at};
+ghost use Rattle.afp_bitmap.specs.lemma.Reading.{Gives, Spot, spot_of, walk_of, names_of, name_of, zero_at, pad_at, leads_to, long_name_at, utf8_name_at, long_name_of, utf8_name_of, names_at};
 
 use crate::judge::Walked;
 use crate::params::ParamFault;
@@ -28,7 +28,7 @@ struct Named<'a> {
 }
 
 /// Goes behind the pad of a name of `size` bytes that ends at this spot.
-#[tactic(auto, unfolding(crate::specs::Reading::pad_at, crate::specs::Reading::zero_at))]
+#[tactic(auto, unfolding(crate::specs::lemma::Reading::pad_at, crate::specs::lemma::Reading::zero_at))]
 fn pad_at(size: usize, spot: Spot<'_>) -> Result<Spot<'_>, ParamFault>
     requires { spot.place + length spot.rest.now < 2 ^ 64 }
     ensures value { Gives spot_of result (pad_at size (spot_of spot.entry)) }
@@ -47,7 +47,7 @@ fn pad_at(size: usize, spot: Spot<'_>) -> Result<Spot<'_>, ParamFault>
 }
 
 /// Whether a long name of `count` bytes and its pad end where the UTF-8 name is to stand.
-#[tactic(auto, unfolding(crate::specs::Reading::leads_to))]
+#[tactic(auto, unfolding(crate::specs::lemma::Reading::leads_to))]
 fn leads_to(place: usize, count: usize, next: Option<usize>) -> bool
     requires { place + count + 2 < 2 ^ 64 }
     ensures { result ≡ leads_to place count next }
@@ -58,7 +58,7 @@ fn leads_to(place: usize, count: usize, next: Option<usize>) -> bool
     }
 }
 
-#[tactic(auto, unfolding(crate::specs::Reading::long_name_at))]
+#[tactic(auto, unfolding(crate::specs::lemma::Reading::long_name_at))]
 fn long_name_at<'a>(
     next: Option<usize>,
     place: usize,
@@ -84,7 +84,7 @@ fn long_name_at<'a>(
     }
 }
 
-#[tactic(auto, unfolding(crate::specs::Reading::utf8_name_at, crate::specs::Reading::utf8_text_at))]
+#[tactic(auto, unfolding(crate::specs::lemma::Reading::utf8_name_at, crate::specs::lemma::Reading::utf8_text_at))]
 fn utf8_name_at(spot: Spot<'_>) -> Result<Named<'_>, ParamFault>
     requires { spot.place + length spot.rest.now < 2 ^ 64 }
     ensures { Gives name_of result (utf8_name_at (spot_of spot.entry)) }
@@ -137,7 +137,7 @@ fn utf8_name_of(next: Option<usize>, spot: Spot<'_>) -> Result<Named<'_>, ParamF
 }
 
 /// The asked names, which end where the bytes end.
-#[tactic(auto, unfolding(crate::specs::Reading::names_at))]
+#[tactic(auto, unfolding(crate::specs::lemma::Reading::names_at))]
 pub(crate) fn names_at(walk: Walked<'_>) -> Result<Names<'_>, ParamFault>
     requires { walk.place + length walk.rest.now + 2 < 2 ^ 64 }
     ensures { Gives names_of result (names_at (walk_of walk.entry)) }

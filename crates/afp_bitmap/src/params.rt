@@ -1,12 +1,13 @@
 //! Blocks of parameters of all kinds.
-ghost use Rattle.std.specs.Prelude.{◌≡◌, ◌≤◌, ◌<◌, ◌^◌, ◌++◌, [], ℕ, OnOk, OnErr, IfOk, MatchResult};
+ghost use Rattle.std.specs.Prelude.{◌≡◌, ◌≤◌, ◌<◌, ◌^◌, ◌++◌, ℕ, OnOk, OnErr, IfOk, MatchResult};
 ghost use Rattle.afp_bitmap.specs.declared.params.ParamFault.TheVariants.{Memory};
 ghost use Rattle.afp_bitmap.specs.declared.params.Values.{Values};
 ghost use Rattle.afp_bitmap.specs.Bits.{IsWithin, mask_of};
 ghost use Rattle.afp_bitmap.specs.Params.{params, Fits, IsAnswer, IsBadAt, IfBad};
 ghost use Rattle.afp_bitmap.specs.Table.{kind_of};
-ghost use Rattle.afp_bitmap.specs.Read.{reading};
-ghost use Rattle.afp_bitmap.specs.Reading.{Gives};
+ghost use Rattle.afp_bitmap.specs.lemma.Read.{reading};
+ghost use Rattle.afp_bitmap.specs.lemma.Reading.{Gives};
+ghost use Rattle.afp_bitmap.specs.lemma.Writing.{Keeps};
 
 use crate::directory::{DirValues, put_dir, read_dir};
 use crate::file::{FileValues, put_file, read_file};
@@ -38,35 +39,35 @@ impl From<OutOfMemory> for ParamFault {
     }
 }
 
-/// Writes the block of the asked values.
-fn put(bits: u16, values: &Values, block: &mut Bytes) -> Result<(), OutOfMemory>
-    requires empty { block.old ≡ [] }
-    requires fits { Fits bits values.now }
-    ensures { OnOk result (block.new ≡ params bits values.now) }
+/// Appends the block of the asked values. After an error, any part of it may stand there.
+fn put(bits: u16, values: &Values, out: &mut Bytes) -> Result<(), OutOfMemory>
+    requires { Fits bits values.now }
+    ensures ok { OnOk result (out.new ≡ out.old ++ params bits values.now) }
+    ensures err { OnErr result (Keeps out.old out.new) }
 {
     match values {
-        Values::Volume(volume) => put_volume(bits, volume, block),
-        Values::File(file) => put_file(bits, file, block),
-        Values::Dir(dir) => put_dir(bits, dir, block),
+        Values::Volume(volume) => put_volume(bits, volume, out),
+        Values::File(file) => put_file(bits, file, out),
+        Values::Dir(dir) => put_dir(bits, dir, out),
     }
 }
 
 /// Appends the block of the asked values: the fixed part by rising bit, then the names (AFP
 /// Reference, "FPGetFileDirParms"). All numbers are big-endian. An error changes nothing.
-pub fn put_params(
-    alloc: Global,
-    bits: u16,
-    values: &Values,
-    out: &mut Bytes,
-) -> Result<(), OutOfMemory>
+pub fn put_params(bits: u16, values: &Values, out: &mut Bytes) -> Result<(), OutOfMemory>
     requires bits { IsWithin (mask_of (kind_of values.now)) bits }
     requires fits { Fits bits values.now }
     ensures ok { OnOk result (out.new ≡ out.old ++ params bits values.now) }
     ensures err { OnErr result (out.new ≡ out.old) }
 {
-    let mut block = Bytes::new(alloc);
-    put(bits, values, &mut block)?;
-    out.extend(block.as_slice())
+    let start = out.as_slice().len();
+    match put(bits, values, out) {
+        Ok(()) => Ok(()),
+        Err(error) => {
+            out.truncate(start);
+            Err(error)
+        }
+    }
 }
 
 /// The values in the bytes, by kind.

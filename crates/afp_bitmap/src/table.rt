@@ -1,7 +1,7 @@
 //! The shape of each field, by its bit.
 ghost use Rattle.std.specs.Prelude.{◌≡◌, ◌<◌, ◌^◌, length};
 ghost use Rattle.afp_bitmap.specs.Bits.{is_asked};
-ghost use Rattle.afp_bitmap.specs.Reading.{size_of, asked_size};
+ghost use Rattle.afp_bitmap.specs.lemma.Reading.{size_of, asked_size};
 
 /// How a field stands in the fixed part.
 #[derive(Clone, Copy)]

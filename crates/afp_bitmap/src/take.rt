@@ -2,8 +2,8 @@
 ghost use Rattle.std.specs.Prelude.{◌≡◌, ◌≢◌, [], length, IfOk};
 ghost use Rattle.std.specs.Int.{w32, cast_signed};
 ghost use Rattle.byteorder.specs.Endian.{big_number};
-ghost use Rattle.afp_bitmap.specs.Reading.{finder_of};
-ghost use Rattle.afp_bitmap.specs.Taking.{Took, taken};
+ghost use Rattle.afp_bitmap.specs.lemma.Reading.{finder_of};
+ghost use Rattle.afp_bitmap.specs.lemma.Taking.{Took, taken};
 
 use crate::table::is_asked;
 use byteorder::{BigEndian, ByteOrder};
@@ -18,7 +18,7 @@ pub(crate) struct Fields<'a> {
 
 impl<'a> Fields<'a> {
     /// The `size` bytes of a field.
-    #[tactic(auto, unfolding(crate::specs::Reading::piece, crate::specs::Reading::behind))]
+    #[tactic(auto, unfolding(crate::specs::lemma::Reading::piece, crate::specs::lemma::Reading::behind))]
     fn piece(&mut self, bit: u32, size: usize) -> &'a [u8]
         ensures value { result.now ≡ taken self.old bit size }
         ensures whole { length result.now ≢ size → result.now ≡ [] }
@@ -88,7 +88,7 @@ impl<'a> Fields<'a> {
     }
 
     /// The bytes for the Finder.
-    #[tactic(auto, unfolding(crate::specs::Reading::finder_of))]
+    #[tactic(auto, unfolding(crate::specs::lemma::Reading::finder_of))]
     pub(crate) fn finder(&mut self, bit: u32) -> [u8; 32]
         ensures value { result ≡ finder_of (taken self.old bit 32) }
         ensures took { Took self.old bit 32 self.new }

@@ -1,12 +1,12 @@
 //! The parameters of a volume.
-ghost use Rattle.std.specs.Prelude.{◌≡◌, [], map, OnOk};
+ghost use Rattle.std.specs.Prelude.{◌≡◌, ◌++◌, map, OnOk, OnErr};
 ghost use Rattle.std.specs.List.{concat, AllByRecursion};
 ghost use Rattle.afp_bitmap.specs.Field.{IsCountable};
 ghost use Rattle.afp_bitmap.specs.Params.{asked_of, parts};
-ghost use Rattle.afp_bitmap.specs.Read.{volume_at};
-ghost use Rattle.afp_bitmap.specs.Reading.{Gives};
+ghost use Rattle.afp_bitmap.specs.lemma.Read.{volume_at};
+ghost use Rattle.afp_bitmap.specs.lemma.Reading.{Gives};
 ghost use Rattle.afp_bitmap.specs.Table.{volume_rows};
-ghost use Rattle.afp_bitmap.specs.Writing.{row_of};
+ghost use Rattle.afp_bitmap.specs.lemma.Writing.{row_of, Keeps};
 
 use crate::judge::judge;
 use crate::params::ParamFault;
@@ -83,22 +83,22 @@ fn rows_of(values: &VolumeValues) -> [Row<'_>; 12]
     ]
 }
 
-/// Writes the block of the asked values. After an error, any part of it may stand there.
+/// Appends the block of the asked values. After an error, any part of it may stand there.
 pub(crate) fn put_volume(
     bits: u16,
     values: &VolumeValues,
-    block: &mut Bytes,
+    out: &mut Bytes,
 ) -> Result<(), OutOfMemory>
-    requires empty { block.old ≡ [] }
-    requires names { AllByRecursion IsCountable (asked_of bits (volume_rows values.now)) }
-    ensures { OnOk result (block.new ≡ concat (parts (asked_of bits (volume_rows values.now)))) }
+    requires { AllByRecursion IsCountable (asked_of bits (volume_rows values.now)) }
+    ensures ok { OnOk result (out.new ≡ out.old ++ concat (parts (asked_of bits (volume_rows values.now)))) }
+    ensures err { OnErr result (Keeps out.old out.new) }
 {
     let rows = rows_of(values);
-    put_rows(bits, &rows, block)
+    put_rows(bits, &rows, out)
 }
 
 /// The values of a block.
-#[tactic(auto, unfolding(crate::specs::Read::volume_at, crate::specs::Reading::volume_from))]
+#[tactic(auto, unfolding(crate::specs::lemma::Read::volume_at, crate::specs::lemma::Reading::volume_from))]
 pub(crate) fn read_volume(
     alloc: Global,
     bits: u16,

@@ -1,11 +1,11 @@
 //! Fields into a block.
-ghost use Rattle.std.specs.Prelude.{◌≡◌, ◌+◌, ◌≤◌, ◌<◌, ◌^◌, ◌++◌, [], length, map, true, false, OnOk, IfOk, None};
+ghost use Rattle.std.specs.Prelude.{◌≡◌, ◌+◌, ◌-◌, ◌≤◌, ◌<◌, ◌^◌, ◌++◌, drop, length, map, take, true, false, OnOk, OnErr, IfOk, None};
 ghost use Rattle.std.specs.List.{concat, AllByRecursion};
 ghost use Rattle.byteorder.specs.Endian.{big_bytes};
 ghost use Rattle.afp_bitmap.specs.Bits.{is_asked};
 ghost use Rattle.afp_bitmap.specs.Field.{fixed_bytes, IsCountable};
 ghost use Rattle.afp_bitmap.specs.Params.{asked_of, parts, size_of_fixed_part};
-ghost use Rattle.afp_bitmap.specs.Writing.{field_of, row_of, spot_of, spots_of, noted, all_noted, no_spots, padded, patched, with_long_name, with_utf8_name, CanName, Formed, IsSized};
+ghost use Rattle.afp_bitmap.specs.lemma.Writing.{field_of, row_of, spot_of, spots_of, noted, all_noted, no_spots, padded, patched, with_long_name, with_utf8_name, CanName, Formed, IsSized, Keeps};
 
 use crate::table::is_asked;
 use afp_base::{Bytes, OutOfMemory};
@@ -27,7 +27,7 @@ pub(crate) enum Field<'a> {
 #[derive(Drop)]
 pub(crate) struct Row<'a>(pub(crate) u32, pub(crate) Field<'a>);
 
-/// A name, and where in the block its own place is still to be written.
+/// A name, and where in its block its own place is still to be written.
 #[derive(Drop)]
 struct Spot<'a> {
     at: usize,
@@ -51,18 +51,19 @@ pub(crate) fn finder_bytes(info: &[u8; 32]) -> &[u8]
 
 const ZEROS: [u8; 6] = [0; 6];
 
-/// Appends a field of the fixed part, with 0 where the place of a name is to stand.
-fn put_fixed(field: &Field<'_>, block: &mut Bytes) -> Result<(), OutOfMemory>
-    ensures { OnOk result (block.new ≡ block.old ++ fixed_bytes 0 (field_of field.now)) }
+/// Appends a field of the fixed part, with 0 where the place of a name is to stand. An error changes nothing.
+fn put_fixed(field: &Field<'_>, out: &mut Bytes) -> Result<(), OutOfMemory>
+    ensures ok { OnOk result (out.new ≡ out.old ++ fixed_bytes 0 (field_of field.now)) }
+    ensures err { OnErr result (out.new ≡ out.old) }
 {
     match field {
-        Field::Short(number) => block.push_u16(*number),
-        Field::Long(number) => block.push_u32(*number),
-        Field::Wide(number) => block.push_u64(*number),
-        Field::Date(seconds) => block.push_u32(seconds.cast_unsigned()),
-        Field::Finder(info) => block.extend(info),
-        Field::LongName(_) => block.extend(&ZEROS[..2]),
-        Field::Utf8Name(_) => block.extend(&ZEROS),
+        Field::Short(number) => out.push_u16(*number),
+        Field::Long(number) => out.push_u32(*number),
+        Field::Wide(number) => out.push_u64(*number),
+        Field::Date(seconds) => out.push_u32(seconds.cast_unsigned()),
+        Field::Finder(info) => out.extend(info),
+        Field::LongName(_) => out.extend(&ZEROS[..2]),
+        Field::Utf8Name(_) => out.extend(&ZEROS),
     }
 }
 
@@ -83,123 +84,134 @@ fn noted<'a>(spots: Spots<'a>, at: usize, field: &Field<'a>) -> Spots<'a>
     }
 }
 
-/// Appends one field of the fixed part, where it is asked.
+/// Appends one field of the fixed part of the block that begins at `base`, where it is asked.
 fn put_row<'a>(
     bits: u16,
     row: &Row<'a>,
     spots: Spots<'a>,
-    block: &mut Bytes,
+    base: usize,
+    out: &mut Bytes,
 ) -> Result<Spots<'a>, OutOfMemory>
+    requires { base ≤ length out.old }
     ensures spots { is_asked bits row.now.0 ≡ true
-        → IfOk result (λ next. spots_of next ≡ noted (length block.old) (field_of row.now.1) (spots_of spots.entry)) }
+        → IfOk result (λ next. spots_of next ≡ noted (length out.old - base) (field_of row.now.1) (spots_of spots.entry)) }
     ensures bytes { is_asked bits row.now.0 ≡ true
-        → OnOk result (block.new ≡ block.old ++ fixed_bytes 0 (field_of row.now.1)) }
+        → OnOk result (out.new ≡ out.old ++ fixed_bytes 0 (field_of row.now.1)) }
     ensures same_spots { is_asked bits row.now.0 ≡ false → IfOk result (λ next. spots_of next ≡ spots_of spots.entry) }
-    ensures same_bytes { is_asked bits row.now.0 ≡ false → OnOk result (block.new ≡ block.old) }
+    ensures same_bytes { is_asked bits row.now.0 ≡ false → OnOk result (out.new ≡ out.old) }
+    ensures err { OnErr result (out.new ≡ out.old) }
 {
     if !is_asked(bits, row.0) {
         return Ok(spots);
     }
-    let spots = noted(spots, block.as_slice().len(), &row.1);
-    put_fixed(&row.1, block)?;
+    let spots = noted(spots, out.as_slice().len() - base, &row.1);
+    put_fixed(&row.1, out)?;
     Ok(spots)
 }
 
-/// Appends the asked fields, with 0 in place of the places, and tells where these are to stand.
+/// Appends the asked fields, with 0 in place of the places, and tells where in the block these are to stand.
 fn put_fixed_part<'a>(
     bits: u16,
     rows: &[Row<'a>],
-    block: &mut Bytes,
+    out: &mut Bytes,
 ) -> Result<Spots<'a>, OutOfMemory>
-    requires { block.old ≡ [] }
     ensures spots { IfOk result (λ spots. spots_of spots ≡ all_noted 0 (asked_of bits (map row_of rows.now)) no_spots) }
-    ensures bytes { OnOk result (block.new ≡ concat (map (fixed_bytes 0) (asked_of bits (map row_of rows.now)))) }
+    ensures bytes { OnOk result (out.new ≡ out.old ++ concat (map (fixed_bytes 0) (asked_of bits (map row_of rows.now)))) }
+    ensures err { OnErr result (Keeps out.old out.new) }
 {
+    let base = out.as_slice().len();
     let mut spots = Spots {
         long_name: None,
         utf8_name: None,
     };
     for row in rows {
-        spots = put_row(bits, row, spots, block)?;
+        spots = put_row(bits, row, spots, base, out)?;
     }
     Ok(spots)
 }
 
 /// Writes a number over the 2 bytes at `at`.
-fn patch(at: usize, number: u16, block: &mut Bytes)
-    requires { at + 2 ≤ length block.old }
-    ensures { block.new ≡ patched at number block.old }
+fn patch(at: usize, number: u16, out: &mut Bytes)
+    requires { at + 2 ≤ length out.old }
+    ensures { out.new ≡ patched at number out.old }
 {
     let mut bytes = [0; 2];
     BigEndian::write_u16(&mut bytes, number);
-    block.put(at, &bytes);
+    out.put(at, &bytes);
 }
 
 /// Appends a name, and a zero where it is odd in length.
-fn put_padded(head: &[u8], name: &[u8], block: &mut Bytes) -> Result<(), OutOfMemory>
+fn put_padded(head: &[u8], name: &[u8], out: &mut Bytes) -> Result<(), OutOfMemory>
     requires { length head.now + length name.now < 2 ^ 64 }
-    ensures { OnOk result (block.new ≡ block.old ++ padded (head.now ++ name.now)) }
+    ensures ok { OnOk result (out.new ≡ out.old ++ padded (head.now ++ name.now)) }
+    ensures err { OnErr result (Keeps out.old out.new) }
 {
-    block.extend(head)?;
-    block.extend(name)?;
+    out.extend(head)?;
+    out.extend(name)?;
     if (head.len() + name.len()) % 2 == 1 {
-        block.push_u8(0)?;
+        out.push_u8(0)?;
     }
     Ok(())
 }
 
-/// Writes the place of a name, and appends its head, its bytes and its pad.
-fn put_name(spot: Spot<'_>, head: &[u8], block: &mut Bytes) -> Result<(), OutOfMemory>
-    requires inside { spot.at + 2 ≤ length block.old }
-    requires small { length block.old < 65536 }
+/// Writes the place of a name, and appends its head, its bytes and its pad. The block begins at `base`.
+fn put_name(spot: Spot<'_>, head: &[u8], base: usize, out: &mut Bytes) -> Result<(), OutOfMemory>
+    requires inside { base + spot.at + 2 ≤ length out.old }
+    requires small { length out.old < base + 65536 }
     requires fits { length head.now + length spot.name.now < 2 ^ 64 }
-    ensures { OnOk result (block.new
-        ≡ patched spot.entry.at (length block.old) block.old ++ padded (head.now ++ spot.entry.name.now)) }
+    ensures ok { OnOk result (out.new ≡ take base out.old
+        ++ (patched spot.entry.at (length out.old - base) (drop base out.old) ++ padded (head.now ++ spot.entry.name.now))) }
+    ensures err { OnErr result (take base out.new ≡ take base out.old) }
 {
-    patch(spot.at, block.as_slice().len() as u16, block);
-    put_padded(head, spot.name, block)
+    let place = out.as_slice().len() - base;
+    patch(base + spot.at, place as u16, out);
+    put_padded(head, spot.name, out)
 }
 
-/// Appends the long name, where there is one, and writes its place.
-fn put_long_name(spot: Option<Spot<'_>>, block: &mut Bytes) -> Result<(), OutOfMemory>
-    requires { CanName 256 (spot_of spot) block.old }
-    ensures { OnOk result (block.new ≡ with_long_name (spot_of spot.entry) block.old) }
+/// Appends the long name, where there is one, and writes its place. The block begins at `base`.
+fn put_long_name(spot: Option<Spot<'_>>, base: usize, out: &mut Bytes) -> Result<(), OutOfMemory>
+    requires begun { base ≤ length out.old }
+    requires can { CanName 256 (spot_of spot) (drop base out.old) }
+    ensures ok { OnOk result (out.new ≡ take base out.old ++ with_long_name (spot_of spot.entry) (drop base out.old)) }
+    ensures err { OnErr result (take base out.new ≡ take base out.old) }
 {
     match spot {
         None => Ok(()),
         Some(spot) => {
             let head = [spot.name.len() as u8];
-            put_name(spot, &head, block)
+            put_name(spot, &head, base, out)
         }
     }
 }
 
-/// Appends the UTF-8 name, where there is one, and writes its place.
-fn put_utf8_name(spot: Option<Spot<'_>>, block: &mut Bytes) -> Result<(), OutOfMemory>
-    requires { CanName 65536 (spot_of spot) block.old }
-    ensures { OnOk result (block.new ≡ with_utf8_name (spot_of spot.entry) block.old) }
+/// Appends the UTF-8 name, where there is one, and writes its place. The block begins at `base`.
+fn put_utf8_name(spot: Option<Spot<'_>>, base: usize, out: &mut Bytes) -> Result<(), OutOfMemory>
+    requires begun { base ≤ length out.old }
+    requires can { CanName 65536 (spot_of spot) (drop base out.old) }
+    ensures ok { OnOk result (out.new ≡ take base out.old ++ with_utf8_name (spot_of spot.entry) (drop base out.old)) }
+    ensures err { OnErr result (take base out.new ≡ take base out.old) }
 {
     match spot {
         None => Ok(()),
         Some(spot) => {
             let mut head = [0; 6];
             BigEndian::write_u16(&mut head[4..], spot.name.len() as u16);
-            put_name(spot, &head, block)
+            put_name(spot, &head, base, out)
         }
     }
 }
 
-/// Writes the block of the asked fields.
-pub(crate) fn put_rows(bits: u16, rows: &[Row<'_>], block: &mut Bytes) -> Result<(), OutOfMemory>
-    requires empty { block.old ≡ [] }
+/// Appends the block of the asked fields. After an error, any part of it may stand there.
+pub(crate) fn put_rows(bits: u16, rows: &[Row<'_>], out: &mut Bytes) -> Result<(), OutOfMemory>
     requires formed { Formed (asked_of bits (map row_of rows.now)) }
     requires small { size_of_fixed_part (asked_of bits (map row_of rows.now)) < 65000 }
     requires names { AllByRecursion IsCountable (asked_of bits (map row_of rows.now)) }
     requires sized { AllByRecursion IsSized (asked_of bits (map row_of rows.now)) }
-    ensures { OnOk result (block.new ≡ concat (parts (asked_of bits (map row_of rows.now)))) }
+    ensures ok { OnOk result (out.new ≡ out.old ++ concat (parts (asked_of bits (map row_of rows.now)))) }
+    ensures err { OnErr result (Keeps out.old out.new) }
 {
-    let spots = put_fixed_part(bits, rows, block)?;
-    put_long_name(spots.long_name, block)?;
-    put_utf8_name(spots.utf8_name, block)?;
-    Ok(())
+    let base = out.as_slice().len();
+    let spots = put_fixed_part(bits, rows, out)?;
+    put_long_name(spots.long_name, base, out)?;
+    put_utf8_name(spots.utf8_name, base, out)
 }

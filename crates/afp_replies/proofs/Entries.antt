@@ -14,7 +14,7 @@ use Rattle.afp_replies.specs.declared.reply.ReplyFault.TheVariants.{Bad, Memory}
 use Rattle.afp_replies.specs.Bytes.{flag_of, width}
 use Rattle.afp_replies.specs.Entry.{is_dir, bits_for, kind_for, node_params, pad_count, head_size, IsEntry, IsCounted, stated, length_unfit, flag_unfit, params_unfit}
 use Rattle.afp_replies.specs.Words.{Entry}
-use Rattle.afp_replies.specs.Reading.{Rest, Took, Takes, FrontIs, TakesParams, entry_result}
+use Rattle.afp_replies.specs.lemma.Reading.{Rest, Took, Takes, FrontIs, TakesParams, entry_result}
 use Rattle.afp_replies.proofs.Spellings.{same_piece, same_rest, piece_size, piece_split}
 use Rattle.afp_replies.proofs.NumberLemmas.{number_again, length-big_bytes, bytes_again, big_number-lt, IsBytes, IsBytes-take}
 

@@ -4,7 +4,7 @@ use Rattle.std.proofs.lemmas.Bool.{eq-eqb, ne_eqb}
 use Rattle.afp_replies.specs.declared.commands.Shape.TheVariants.{Unlisted}
 use Rattle.afp_replies.specs.declared.commands.Row.{Row}
 use Rattle.afp_replies.specs.Commands.{shape_in}
-use Rattle.afp_replies.specs.Reading.{row_of}
+use Rattle.afp_replies.specs.lemma.Reading.{row_of}
 
 pub in_this_row : (row : Row) (rows : List Row) (command : ℕ) → row.0 ≡ command → shape_in (map row_of (row ∷ rows)) command ≡ row.1
 unfolding shape_in

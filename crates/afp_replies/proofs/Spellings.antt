@@ -8,7 +8,7 @@ use Rattle.afp_replies.specs.declared.reply.ReplyFault.TheVariants.{Bad, Memory}
 use Rattle.afp_replies.specs.Bytes.{counted}
 use Rattle.afp_replies.specs.Words.{Number, Exactly, Asked, Raw, Counted}
 use Rattle.afp_replies.specs.Layout.{Lacks}
-use Rattle.afp_replies.specs.Reading.{Rest, Took, Takes, Front, FrontIs, IsBytes}
+use Rattle.afp_replies.specs.lemma.Reading.{Rest, Took, Takes, Front, FrontIs, IsBytes}
 use Rattle.afp_replies.proofs.NumberLemmas.{bytes_again, number_again, length-big_bytes, big_number-lt, IsBytes-take}
 
 -- the front and the rest of a list that is split

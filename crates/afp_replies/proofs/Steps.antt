@@ -5,7 +5,7 @@ use Rattle.afp_replies.specs.declared.reply.ReplyFault.{ReplyFault}
 use Rattle.afp_replies.specs.declared.reply.ReplyFault.TheVariants.{Bad, Memory}
 use Rattle.afp_replies.specs.Words.{Word, Number, Counted, Entry, Value}
 use Rattle.afp_replies.specs.Layout.{Layout, Is, Never, Then, Remaining, Params, Has, StopsAt}
-use Rattle.afp_replies.specs.Reading.{Rest, Took, IsRead, Takes, Reads, Ends, TakesParams}
+use Rattle.afp_replies.specs.lemma.Reading.{Rest, Took, IsRead, Takes, Reads, Ends, TakesParams}
 use Rattle.afp_bitmap.specs.declared.params.Values.{Values}
 use Rattle.afp_replies.specs.declared.list.ListEntry.{ListEntry}
 use Rattle.afp_replies.specs.Layouts.{optional, optional_text, volume, volumes, entries}

@@ -8,5 +8,4 @@ pub mod Commands
 pub mod Replies
 pub mod Fitting
 pub mod Requested
-pub mod Reading
-pub mod Writing
+pub mod lemma

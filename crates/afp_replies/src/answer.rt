@@ -3,7 +3,7 @@ ghost use Rattle.std.specs.Prelude.{◌≡◌, IfOk, MatchResult};
 ghost use Rattle.afp_replies.specs.declared.reply.Reply.{Reply};
 ghost use Rattle.afp_replies.specs.declared.reply.ReplyFault.TheVariants.{Memory};
 ghost use Rattle.afp_replies.specs.Commands.{layout_of, denied, ended};
-ghost use Rattle.afp_replies.specs.Reading.{IsRead};
+ghost use Rattle.afp_replies.specs.lemma.Reading.{IsRead};
 ghost use Rattle.afp_replies.specs.Replies.{layout_for, Shows, IsBadAt, IfBad};
 
 use crate::commands::{Shape, shape_of};

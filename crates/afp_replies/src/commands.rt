@@ -1,7 +1,7 @@
 //! The commands, and the shapes of their replies.
 ghost use Rattle.std.specs.Prelude.{◌≡◌, map};
 ghost use Rattle.afp_replies.specs.Commands.{shape_in, shape_of};
-ghost use Rattle.afp_replies.specs.Reading.{row_of};
+ghost use Rattle.afp_replies.specs.lemma.Reading.{row_of};
 
 const BYTE_RANGE_LOCK: u8 = 1;
 

@@ -4,7 +4,7 @@ ghost use Rattle.afp_bitmap.specs.Bits.{IsWithin, mask_of, file_mask, dir_mask};
 ghost use Rattle.afp_replies.specs.declared.reply.ReplyFault.TheVariants.{Bad};
 ghost use Rattle.afp_replies.specs.Bytes.{width};
 ghost use Rattle.afp_replies.specs.Layouts.{optional, optional_text};
-ghost use Rattle.afp_replies.specs.Reading.{Rest, Takes, Reads, Front, Ends, IsBytes, TakesParams, TakesText, TakesEntryBytes, entry_result};
+ghost use Rattle.afp_replies.specs.lemma.Reading.{Rest, Takes, Reads, Front, Ends, IsBytes, TakesParams, TakesText, TakesEntryBytes, entry_result};
 ghost use Rattle.afp_replies.specs.Words.{Number, Exactly, Asked, Raw, Pad, Counted, Flag, Entry};
 
 use crate::fields::{DIR, DIRECTORY, FILE, head_size, width};
@@ -27,7 +27,7 @@ pub(crate) struct Cursor<'a> {
 
 impl<'a> Model for Cursor<'a> {
     ghost use Rattle.std.specs.Prelude.{◌+◌, ◌<◌, ◌^◌, length};
-    ghost use Rattle.afp_replies.specs.Reading.{Rest, IsBytes};
+    ghost use Rattle.afp_replies.specs.lemma.Reading.{Rest, IsBytes};
 
     ghost Value = { Rest };
 
@@ -37,7 +37,7 @@ impl<'a> Model for Cursor<'a> {
 }
 
 impl<'a> Cursor<'a> {
-    ghost use Rattle.afp_replies.specs.Reading.{Rest, Takes, Front, Ends, IsBytes};
+    ghost use Rattle.afp_replies.specs.lemma.Reading.{Rest, Takes, Front, Ends, IsBytes};
 
     /// A cursor at the first byte.
     pub(crate) fn new(bytes: &'a [u8]) -> Cursor<'a>

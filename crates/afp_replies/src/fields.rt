@@ -1,8 +1,9 @@
 //! Numbers and bytes of fields.
-ghost use Rattle.std.specs.Prelude.{◌≡◌, ◌≤◌, ◌<◌, ◌^◌, ◌++◌, length, OnOk};
+ghost use Rattle.std.specs.Prelude.{◌≡◌, ◌≤◌, ◌<◌, ◌^◌, ◌++◌, length, OnOk, OnErr};
 ghost use Rattle.afp_bitmap.specs.Bits.{is_asked};
 ghost use Rattle.afp_replies.specs.Entry.{head_size};
 ghost use Rattle.afp_replies.specs.Bytes.{counted, width};
+ghost use Rattle.afp_replies.specs.lemma.Writing.{Keeps};
 
 use afp_base::{Bytes, OutOfMemory};
 
@@ -58,7 +59,8 @@ pub(crate) fn head_size(wide: bool) -> usize
 /// Appends a text with its count in 1 byte, or in 2 where it is wide.
 pub(crate) fn put_text(wide: bool, text: &[u8], out: &mut Bytes) -> Result<(), OutOfMemory>
     requires { length text.now < 256 ^ width wide }
-    ensures { OnOk result (out.new ≡ out.old ++ counted (width wide) text.now) }
+    ensures ok { OnOk result (out.new ≡ out.old ++ counted (width wide) text.now) }
+    ensures err { OnErr result (Keeps out.old out.new) }
 {
     if wide {
         out.push_u16(text.len() as u16)?;

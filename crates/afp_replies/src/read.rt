@@ -2,7 +2,7 @@
 ghost use Rattle.std.specs.Prelude.{◌≡◌, ◌≤◌, []};
 ghost use Rattle.afp_bitmap.specs.Bits.{IsWithin, mask_of, file_mask, dir_mask};
 ghost use Rattle.afp_replies.specs.Layouts as layouts;
-ghost use Rattle.afp_replies.specs.Reading.{IsRead, Reads};
+ghost use Rattle.afp_replies.specs.lemma.Reading.{IsRead, Reads};
 
 use crate::commands::{
     GROUP_ID_TO_NAME, GROUP_ID_TO_UTF8_NAME, USER_ID_TO_NAME, USER_ID_TO_UTF8_NAME,

@@ -1,6 +1,6 @@
 //! Replies, written field by field.
 ghost use Rattle.std.specs.Int.{w32, cast_unsigned};
-ghost use Rattle.std.specs.Prelude.{◌≡◌, ◌∷◌, ◌++◌, ◌<◌, ◌^◌, [], length, map, replicate, OnOk, OnErr};
+ghost use Rattle.std.specs.Prelude.{◌≡◌, ◌∷◌, ◌++◌, ◌<◌, ◌^◌, ◌+◌, ◌≤◌, [], drop, length, map, replicate, take, OnOk, OnErr};
 ghost use Rattle.std.specs.List.{concat, AllByRecursion};
 ghost use Rattle.byteorder.specs.Endian.{big_bytes};
 ghost use Rattle.afp_bitmap.specs.Bits.{IsWithin, file_mask, dir_mask, is_asked};
@@ -11,19 +11,20 @@ ghost use Rattle.afp_replies.specs.Entry.{is_dir, bits_for, pad_count, node_para
 ghost use Rattle.afp_replies.specs.Numbers.{file_kind, utf8_bit};
 ghost use Rattle.afp_replies.specs.Replies.{volume_bytes, message_bytes, canonical_reply, IsShown};
 ghost use Rattle.afp_replies.specs.Fitting.{FitsVolume, FitsList};
-ghost use Rattle.afp_replies.specs.Writing.{FitsParams, FitsNode, FitsMessage, CanWrite};
+ghost use Rattle.afp_replies.specs.lemma.Writing.{Keeps, FitsParams, FitsNode, FitsMessage, CanWrite};
 
-use crate::fields::{DIRECTORY, UTF8_BIT, head_size, is_asked, put_text};
+use crate::fields::{DIRECTORY, UTF8_BIT, is_asked, put_text};
 use crate::list::ListEntry;
 use crate::reply::Reply;
 use crate::volumes::VolumeEntry;
 use afp_base::{Bytes, OutOfMemory};
 use afp_bitmap::{Values, put_params};
-use std::alloc::Global;
+use byteorder::{BigEndian, ByteOrder};
 
 /// Appends a number of 4 bytes, where there is one.
 fn put_optional(number: &Option<u32>, out: &mut Bytes) -> Result<(), OutOfMemory>
-    ensures { OnOk result (out.new ≡ out.old ++ optional number.now) }
+    ensures ok { OnOk result (out.new ≡ out.old ++ optional number.now) }
+    ensures err { OnErr result (Keeps out.old out.new) }
 {
     match number {
         None => Ok(()),
@@ -39,7 +40,8 @@ fn put_icon_info(
     size: u16,
     out: &mut Bytes,
 ) -> Result<(), OutOfMemory>
-    ensures { OnOk result (out.new ≡ out.old ++ concat (u32 tag ∷ kind.now ∷ u8 icon_kind ∷ pad ∷ u16 size ∷ [])) }
+    ensures ok { OnOk result (out.new ≡ out.old ++ concat (u32 tag ∷ kind.now ∷ u8 icon_kind ∷ pad ∷ u16 size ∷ [])) }
+    ensures err { OnErr result (Keeps out.old out.new) }
 {
     out.push_u32(tag)?;
     out.extend(kind)?;
@@ -55,7 +57,8 @@ fn put_user_info(
     group: &Option<u32>,
     out: &mut Bytes,
 ) -> Result<(), OutOfMemory>
-    ensures { OnOk result (out.new ≡ out.old ++ concat (u16 bits ∷ optional id.now ∷ optional group.now ∷ [])) }
+    ensures ok { OnOk result (out.new ≡ out.old ++ concat (u16 bits ∷ optional id.now ∷ optional group.now ∷ [])) }
+    ensures err { OnErr result (Keeps out.old out.new) }
 {
     out.push_u16(bits)?;
     put_optional(id, out)?;
@@ -70,7 +73,8 @@ fn put_message(
     out: &mut Bytes,
 ) -> Result<(), OutOfMemory>
     requires { FitsMessage (is_asked bits utf8_bit) message.now }
-    ensures { OnOk result (out.new ≡ out.old ++ concat (u16 kind ∷ u16 bits ∷ message_bytes (is_asked bits utf8_bit) message.now ∷ [])) }
+    ensures ok { OnOk result (out.new ≡ out.old ++ concat (u16 kind ∷ u16 bits ∷ message_bytes (is_asked bits utf8_bit) message.now ∷ [])) }
+    ensures err { OnErr result (Keeps out.old out.new) }
 {
     out.push_u16(kind)?;
     out.push_u16(bits)?;
@@ -83,7 +87,8 @@ fn put_message(
 /// FPGetSessionToken.
 fn put_token(token: &[u8], out: &mut Bytes) -> Result<(), OutOfMemory>
     requires { length token.now < 256 ^ 4 }
-    ensures { OnOk result (out.new ≡ out.old ++ counted 4 token.now) }
+    ensures ok { OnOk result (out.new ≡ out.old ++ counted 4 token.now) }
+    ensures err { OnErr result (Keeps out.old out.new) }
 {
     out.push_u32(token.len() as u32)?;
     out.extend(token)
@@ -92,7 +97,8 @@ fn put_token(token: &[u8], out: &mut Bytes) -> Result<(), OutOfMemory>
 /// A volume of FPGetSrvrParms.
 fn put_volume(volume: &VolumeEntry, out: &mut Bytes) -> Result<(), OutOfMemory>
     requires { FitsVolume volume.now }
-    ensures { OnOk result (out.new ≡ out.old ++ volume_bytes volume.now) }
+    ensures ok { OnOk result (out.new ≡ out.old ++ volume_bytes volume.now) }
+    ensures err { OnErr result (Keeps out.old out.new) }
 {
     out.push_u8(volume.flags)?;
     put_text(false, volume.name.as_slice(), out)
@@ -101,7 +107,8 @@ fn put_volume(volume: &VolumeEntry, out: &mut Bytes) -> Result<(), OutOfMemory>
 /// The volumes of FPGetSrvrParms.
 fn put_volumes(volumes: &[VolumeEntry], out: &mut Bytes) -> Result<(), OutOfMemory>
     requires { AllByRecursion FitsVolume volumes.now }
-    ensures { OnOk result (out.new ≡ out.old ++ concat (map volume_bytes volumes.now)) }
+    ensures ok { OnOk result (out.new ≡ out.old ++ concat (map volume_bytes volumes.now)) }
+    ensures err { OnErr result (Keeps out.old out.new) }
 {
     for volume in volumes {
         put_volume(volume, out)?;
@@ -113,7 +120,8 @@ fn put_volumes(volumes: &[VolumeEntry], out: &mut Bytes) -> Result<(), OutOfMemo
 fn put_server_params(time: i32, volumes: &[VolumeEntry], out: &mut Bytes) -> Result<(), OutOfMemory>
     requires few { length volumes.now < 256 ^ 1 }
     requires fits { AllByRecursion FitsVolume volumes.now }
-    ensures { OnOk result (out.new ≡ out.old ++ concat (u32 (cast_unsigned w32 time) ∷ u8 (length volumes.now) ∷ map volume_bytes volumes.now)) }
+    ensures ok { OnOk result (out.new ≡ out.old ++ concat (u32 (cast_unsigned w32 time) ∷ u8 (length volumes.now) ∷ map volume_bytes volumes.now)) }
+    ensures err { OnErr result (Keeps out.old out.new) }
 {
     out.push_u32(time.cast_unsigned())?;
     out.push_u8(volumes.len() as u8)?;
@@ -121,44 +129,40 @@ fn put_server_params(time: i32, volumes: &[VolumeEntry], out: &mut Bytes) -> Res
 }
 
 /// FPGetVolParms, FPOpenVol, FPGetForkParms, FPResolveID.
-fn put_block(alloc: Global, bits: u16, values: &Values, out: &mut Bytes) -> Result<(), OutOfMemory>
+fn put_block(bits: u16, values: &Values, out: &mut Bytes) -> Result<(), OutOfMemory>
     requires { FitsParams (kind_of values.now) bits values.now }
-    ensures { OnOk result (out.new ≡ out.old ++ concat (u16 bits ∷ params bits values.now ∷ [])) }
+    ensures ok { OnOk result (out.new ≡ out.old ++ concat (u16 bits ∷ params bits values.now ∷ [])) }
+    ensures err { OnErr result (Keeps out.old out.new) }
 {
     out.push_u16(bits)?;
-    put_params(alloc, bits, values, out)
+    put_params(bits, values, out)
 }
 
 /// FPOpenFork.
 fn put_opened(
-    alloc: Global,
     bits: u16,
     reference: u16,
     values: &Values,
     out: &mut Bytes,
 ) -> Result<(), OutOfMemory>
     requires { FitsParams file_kind bits values.now }
-    ensures { OnOk result (out.new ≡ out.old ++ concat (u16 bits ∷ u16 reference ∷ params bits values.now ∷ [])) }
+    ensures ok { OnOk result (out.new ≡ out.old ++ concat (u16 bits ∷ u16 reference ∷ params bits values.now ∷ [])) }
+    ensures err { OnErr result (Keeps out.old out.new) }
 {
     out.push_u16(bits)?;
     out.push_u16(reference)?;
-    put_params(alloc, bits, values, out)
+    put_params(bits, values, out)
 }
 
 /// FPGetAPPL.
-fn put_appl(
-    alloc: Global,
-    bits: u16,
-    tag: u32,
-    values: &Values,
-    out: &mut Bytes,
-) -> Result<(), OutOfMemory>
+fn put_appl(bits: u16, tag: u32, values: &Values, out: &mut Bytes) -> Result<(), OutOfMemory>
     requires { FitsParams file_kind bits values.now }
-    ensures { OnOk result (out.new ≡ out.old ++ concat (u16 bits ∷ u32 tag ∷ params bits values.now ∷ [])) }
+    ensures ok { OnOk result (out.new ≡ out.old ++ concat (u16 bits ∷ u32 tag ∷ params bits values.now ∷ [])) }
+    ensures err { OnErr result (Keeps out.old out.new) }
 {
     out.push_u16(bits)?;
     out.push_u32(tag)?;
-    put_params(alloc, bits, values, out)
+    put_params(bits, values, out)
 }
 
 /// Whether the values are a directory's.
@@ -188,45 +192,60 @@ fn bits_for(dir: bool, file_bits: u16, dir_bits: u16) -> u16
 
 /// FPGetFileDirParms.
 fn put_file_dir_params(
-    alloc: Global,
     file_bits: u16,
     dir_bits: u16,
     values: &Values,
     out: &mut Bytes,
 ) -> Result<(), OutOfMemory>
     requires { FitsNode file_bits dir_bits values.now }
-    ensures { OnOk result (out.new ≡ out.old ++ concat (u16 file_bits ∷ u16 dir_bits ∷ (flag_of (is_dir values.now) ∷ []) ∷ pad ∷ node_params file_bits dir_bits values.now ∷ [])) }
+    ensures ok { OnOk result (out.new ≡ out.old ++ concat (u16 file_bits ∷ u16 dir_bits ∷ (flag_of (is_dir values.now) ∷ []) ∷ pad ∷ node_params file_bits dir_bits values.now ∷ [])) }
+    ensures err { OnErr result (Keeps out.old out.new) }
 {
     let dir = is_dir(values);
     out.push_u16(file_bits)?;
     out.push_u16(dir_bits)?;
     out.push_u8(flag_of(dir))?;
     out.push_u8(0)?;
-    put_params(alloc, bits_for(dir, file_bits, dir_bits), values, out)
+    put_params(bits_for(dir, file_bits, dir_bits), values, out)
 }
 
-/// The length of an entry, narrow or wide.
-fn put_length(wide: bool, length: usize, out: &mut Bytes) -> Result<(), OutOfMemory>
-    requires { length < 256 ^ width wide }
-    ensures { OnOk result (out.new ≡ out.old ++ big_bytes (width wide) length) }
+/// Zeros where the length of an entry is to stand, narrow or wide.
+fn put_place(wide: bool, out: &mut Bytes) -> Result<(), OutOfMemory>
+    ensures ok { OnOk result (out.new ≡ out.old ++ replicate (width wide) 0) }
+    ensures err { OnErr result (out.new ≡ out.old) }
 {
     if wide {
-        out.push_u16(length as u16)
+        out.push_u16(0)
     } else {
-        out.push_u8(length as u8)
+        out.push_u8(0)
+    }
+}
+
+/// Writes the length of an entry at its place.
+fn put_length(wide: bool, at: usize, size: usize, out: &mut Bytes)
+    requires inside { at + width wide ≤ length out.old }
+    requires fits { size < 256 ^ width wide }
+    ensures { out.new ≡ take at out.old ++ big_bytes (width wide) size ++ drop (at + width wide) out.old }
+{
+    if wide {
+        let mut bytes = [0; 2];
+        BigEndian::write_u16(&mut bytes, size as u16);
+        out.put(at, &bytes);
+    } else {
+        out.put(at, &[size as u8]);
     }
 }
 
 /// The pad behind the flag of an entry, in a wide list.
 fn put_pad(wide: bool, out: &mut Bytes) -> Result<(), OutOfMemory>
-    ensures { OnOk result (out.new ≡ out.old ++ replicate (pad_count wide) 0) }
+    ensures ok { OnOk result (out.new ≡ out.old ++ replicate (pad_count wide) 0) }
+    ensures err { OnErr result (out.new ≡ out.old) }
 {
     if wide { out.push_u8(0) } else { Ok(()) }
 }
 
-/// An entry of a list. Its parameters come first, apart, so that their size is known.
-fn put_entry(
-    alloc: Global,
+/// An entry without its length: zeros in place of that, the flag, a pad and the parameters.
+fn put_body(
     wide: bool,
     file_bits: u16,
     dir_bits: u16,
@@ -236,21 +255,40 @@ fn put_entry(
     requires file { IsWithin file_mask file_bits }
     requires dir { IsWithin dir_mask dir_bits }
     requires fits { FitsEntry wide file_bits dir_bits entry.now }
-    ensures { OnOk result (out.new ≡ out.old ++ entry_bytes wide file_bits dir_bits entry.now) }
+    ensures ok { OnOk result (out.new ≡ out.old ++ replicate (width wide) 0
+        ++ (flag_of (is_dir entry.now.values) ∷ []) ++ replicate (pad_count wide) 0 ++ node_params file_bits dir_bits entry.now.values) }
+    ensures err { OnErr result (Keeps out.old out.new) }
 {
     let dir = is_dir(&entry.values);
-    let mut block = Bytes::new(alloc);
-    let bits = bits_for(dir, file_bits, dir_bits);
-    put_params(alloc, bits, &entry.values, &mut block)?;
-    put_length(wide, head_size(wide) + block.as_slice().len(), out)?;
+    put_place(wide, out)?;
     out.push_u8(flag_of(dir))?;
     put_pad(wide, out)?;
-    out.extend(block.as_slice())
+    put_params(bits_for(dir, file_bits, dir_bits), &entry.values, out)
+}
+
+/// An entry of a list. Its length is written when its parameters stand there.
+fn put_entry(
+    wide: bool,
+    file_bits: u16,
+    dir_bits: u16,
+    entry: &ListEntry,
+    out: &mut Bytes,
+) -> Result<(), OutOfMemory>
+    requires file { IsWithin file_mask file_bits }
+    requires dir { IsWithin dir_mask dir_bits }
+    requires fits { FitsEntry wide file_bits dir_bits entry.now }
+    ensures ok { OnOk result (out.new ≡ out.old ++ entry_bytes wide file_bits dir_bits entry.now) }
+    ensures err { OnErr result (Keeps out.old out.new) }
+{
+    let start = out.as_slice().len();
+    put_body(wide, file_bits, dir_bits, entry, out)?;
+    let size = out.as_slice().len() - start;
+    put_length(wide, start, size, out);
+    Ok(())
 }
 
 /// The entries of a list.
 fn put_entries(
-    alloc: Global,
     wide: bool,
     file_bits: u16,
     dir_bits: u16,
@@ -260,17 +298,17 @@ fn put_entries(
     requires file { IsWithin file_mask file_bits }
     requires dir { IsWithin dir_mask dir_bits }
     requires fits { AllByRecursion (FitsEntry wide file_bits dir_bits) rows.now }
-    ensures { OnOk result (out.new ≡ out.old ++ concat (map (entry_bytes wide file_bits dir_bits) rows.now)) }
+    ensures ok { OnOk result (out.new ≡ out.old ++ concat (map (entry_bytes wide file_bits dir_bits) rows.now)) }
+    ensures err { OnErr result (Keeps out.old out.new) }
 {
     for entry in rows {
-        put_entry(alloc, wide, file_bits, dir_bits, entry, out)?;
+        put_entry(wide, file_bits, dir_bits, entry, out)?;
     }
     Ok(())
 }
 
 /// FPEnumerate, and with wide lengths FPEnumerateExt and FPEnumerateExt2.
 fn put_list(
-    alloc: Global,
     wide: bool,
     file_bits: u16,
     dir_bits: u16,
@@ -278,18 +316,20 @@ fn put_list(
     out: &mut Bytes,
 ) -> Result<(), OutOfMemory>
     requires { FitsList wide file_bits dir_bits rows.now }
-    ensures { OnOk result (out.new ≡ out.old ++ concat (u16 file_bits ∷ u16 dir_bits ∷ u16 (length rows.now) ∷ map (entry_bytes wide file_bits dir_bits) rows.now)) }
+    ensures ok { OnOk result (out.new ≡ out.old ++ concat (u16 file_bits ∷ u16 dir_bits ∷ u16 (length rows.now) ∷ map (entry_bytes wide file_bits dir_bits) rows.now)) }
+    ensures err { OnErr result (Keeps out.old out.new) }
 {
     out.push_u16(file_bits)?;
     out.push_u16(dir_bits)?;
     out.push_u16(rows.len() as u16)?;
-    put_entries(alloc, wide, file_bits, dir_bits, rows, out)
+    put_entries(wide, file_bits, dir_bits, rows, out)
 }
 
-/// Appends the fields of a reply.
-fn put_reply(alloc: Global, reply: &Reply, out: &mut Bytes) -> Result<(), OutOfMemory>
+/// Appends the fields of a reply. After an error, any part of them may stand there.
+fn put_reply(reply: &Reply, out: &mut Bytes) -> Result<(), OutOfMemory>
     requires { CanWrite reply.now }
-    ensures { OnOk result (out.new ≡ out.old ++ canonical_reply reply.now) }
+    ensures ok { OnOk result (out.new ≡ out.old ++ canonical_reply reply.now) }
+    ensures err { OnErr result (Keeps out.old out.new) }
 {
     match reply {
         Reply::Empty => Ok(()),
@@ -303,8 +343,8 @@ fn put_reply(alloc: Global, reply: &Reply, out: &mut Bytes) -> Result<(), OutOfM
             file_bits,
             dir_bits,
             rows,
-        } => put_list(alloc, *wide, *file_bits, *dir_bits, rows.as_slice(), out),
-        Reply::Params { bits, values } => put_block(alloc, *bits, values, out),
+        } => put_list(*wide, *file_bits, *dir_bits, rows.as_slice(), out),
+        Reply::Params { bits, values } => put_block(*bits, values, out),
         Reply::Status { block } => out.extend(block.as_slice()),
         Reply::ServerParams { time, volumes } => put_server_params(*time, volumes.as_slice(), out),
         Reply::MappedName { wide, name } => put_text(*wide, name.as_slice(), out),
@@ -313,13 +353,13 @@ fn put_reply(alloc: Global, reply: &Reply, out: &mut Bytes) -> Result<(), OutOfM
             bits,
             reference,
             values,
-        } => put_opened(alloc, *bits, reference.0, values, out),
+        } => put_opened(*bits, reference.0, values, out),
         Reply::Piece { piece } => out.extend(piece.as_slice()),
         Reply::FileDirParams {
             file_bits,
             dir_bits,
             values,
-        } => put_file_dir_params(alloc, *file_bits, *dir_bits, values, out),
+        } => put_file_dir_params(*file_bits, *dir_bits, values, out),
         Reply::UserInfo { bits, id, group } => put_user_info(*bits, id, group, out),
         Reply::Message {
             kind,
@@ -333,7 +373,7 @@ fn put_reply(alloc: Global, reply: &Reply, out: &mut Bytes) -> Result<(), OutOfM
             icon_kind,
             size,
         } => put_icon_info(*tag, kind, *icon_kind, *size, out),
-        Reply::Appl { bits, tag, values } => put_appl(alloc, *bits, *tag, values, out),
+        Reply::Appl { bits, tag, values } => put_appl(*bits, *tag, values, out),
         Reply::Comment { comment } => put_text(false, comment.as_slice(), out),
         Reply::Token { token } => put_token(token.as_slice(), out),
     }
@@ -341,14 +381,19 @@ fn put_reply(alloc: Global, reply: &Reply, out: &mut Bytes) -> Result<(), OutOfM
 
 /// Appends the bytes of a reply (AFP Reference, "AFP Calls"). All numbers are big-endian, and pads are
 /// 0. An error changes nothing.
-pub fn write_reply(alloc: Global, reply: &Reply, out: &mut Bytes) -> Result<(), OutOfMemory>
+pub fn write_reply(reply: &Reply, out: &mut Bytes) -> Result<(), OutOfMemory>
     // Some bytes are the reply to some request: counts can hold its texts and lists, and its values
     // are those that its bits ask for.
     requires { IsShown reply.now }
     ensures ok { OnOk result (out.new ≡ out.old ++ canonical_reply reply.now) }
     ensures err { OnErr result (out.new ≡ out.old) }
 {
-    let mut block = Bytes::new(alloc);
-    put_reply(alloc, reply, &mut block)?;
-    out.extend(block.as_slice())
+    let start = out.as_slice().len();
+    match put_reply(reply, out) {
+        Ok(()) => Ok(()),
+        Err(error) => {
+            out.truncate(start);
+            Err(error)
+        }
+    }
 }

@@ -4,7 +4,7 @@ use Rattle.std.proofs.lemmas.Result.{err_from_is_err_and}
 use Rattle.afp_bitmap.proofs.Tables.{file_small}
 use Rattle.afp_bitmap.proofs.Taken.{file_taken}
 use Rattle.afp_bitmap.proofs.Walks.{bind_fails, bind_ok}
-use Rattle.afp_bitmap.specs.Read.{file_at}
+use Rattle.afp_bitmap.specs.lemma.Read.{file_at}
 use Rattle.afp_bitmap.proofs.file.read_file.Goals as goal
 
 pub judge-requires : goal.judge-requires

@@ -1,5 +1,5 @@
 use Rattle.std.proofs.Common.{◌≡◌, ◌+◌, drop, length}
-use Rattle.afp_bitmap.specs.Reading.{walked, walk_of, start}
+use Rattle.afp_bitmap.specs.lemma.Reading.{walked, walk_of, start}
 use Rattle.afp_bitmap.proofs.judge.walk.Given as goal
 
 -- going on from here gives what the whole walk gives

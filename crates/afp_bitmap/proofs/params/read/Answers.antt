@@ -1,7 +1,7 @@
 use Rattle.std.proofs.Common.{◌≡◌, arith}
 use Rattle.std.proofs.lemmas.Result.{err_from_is_err_and}
 use Rattle.afp_bitmap.proofs.Walks.{bind_fails, bind_ok}
-use Rattle.afp_bitmap.specs.Read.{reading}
+use Rattle.afp_bitmap.specs.lemma.Read.{reading}
 use Rattle.afp_bitmap.proofs.params.read.Goals as goal
 
 pub returns-in_err-read_volume-in-0 : goal.returns-in_err-read_volume-in-0

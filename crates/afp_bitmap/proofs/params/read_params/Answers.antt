@@ -1,5 +1,5 @@
 use Rattle.std.proofs.Common.{arith}
-use Rattle.afp_bitmap.specs.Read.{reading}
+use Rattle.afp_bitmap.specs.lemma.Read.{reading}
 use Rattle.afp_bitmap.proofs.ByKind.{reading_is, reading_again, is_found, is_bad, is_only}
 use Rattle.afp_bitmap.proofs.params.read_params.Goals as goal
 

@@ -1,5 +1,5 @@
 use Rattle.std.proofs.Common.{◌≡◌, ◌+◌, drop}
-use Rattle.afp_bitmap.specs.Reading.{asked_size}
+use Rattle.afp_bitmap.specs.lemma.Reading.{asked_size}
 use Rattle.afp_bitmap.proofs.table.fixed_size.Given as goal
 
 -- the size so far, and that of the rows to come

@@ -9,7 +9,7 @@ pub put_rows-requires-clause-small : goal.put_rows-requires-clause-small
 put_rows-requires-clause-small c = rw c.rows_of-rows.ensures (volume_fixed c.args.bits c.args.values.now)
 
 pub put_rows-requires-clause-names : goal.put_rows-requires-clause-names
-put_rows-requires-clause-names c = rw c.rows_of-rows.ensures c.requires.names
+put_rows-requires-clause-names c = rw c.rows_of-rows.ensures c.requires
 
 pub put_rows-requires-clause-sized : goal.put_rows-requires-clause-sized
 put_rows-requires-clause-sized c = rw c.rows_of-rows.ensures (volume_sized c.args.bits c.args.values.now)

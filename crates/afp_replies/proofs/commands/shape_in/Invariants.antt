@@ -1,6 +1,6 @@
 use Rattle.std.proofs.Common.{◌≡◌, drop, map}
 use Rattle.afp_replies.specs.Commands.{shape_in}
-use Rattle.afp_replies.specs.Reading.{row_of}
+use Rattle.afp_replies.specs.lemma.Reading.{row_of}
 use Rattle.afp_replies.proofs.commands.shape_in.Given as goal
 
 -- going on from here gives what all rows give

@@ -4,7 +4,7 @@ use Rattle.afp_replies.specs.declared.reply.Reply.{Reply}
 use Rattle.afp_replies.specs.declared.reply.ReplyFault.{ReplyFault}
 use Rattle.afp_replies.specs.Layout.{Layout}
 use Rattle.afp_replies.specs.Layouts.{entries}
-use Rattle.afp_replies.specs.Reading.{IsRead}
+use Rattle.afp_replies.specs.lemma.Reading.{IsRead}
 use Rattle.afp_replies.proofs.read.read_entries.Given as goal
 
 -- whoever goes on from here with the entries to come goes on from the first

@@ -4,7 +4,7 @@ use Rattle.afp_replies.specs.declared.reply.ReplyFault.{ReplyFault}
 use Rattle.afp_replies.specs.declared.volumes.VolumeEntry.{VolumeEntry}
 use Rattle.afp_replies.specs.Layout.{Layout}
 use Rattle.afp_replies.specs.Layouts.{volumes}
-use Rattle.afp_replies.specs.Reading.{IsRead}
+use Rattle.afp_replies.specs.lemma.Reading.{IsRead}
 use Rattle.afp_replies.proofs.read.read_volumes.Given as goal
 
 -- whoever goes on from here with the volumes to come goes on from the first

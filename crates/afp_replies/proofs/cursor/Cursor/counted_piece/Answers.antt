@@ -1,6 +1,6 @@
 use Rattle.std.proofs.Common.{ap, refl}
 use Rattle.std.proofs.lemmas.Result.{err_from_is_err_and}
-use Rattle.afp_replies.specs.Reading.{Rest}
+use Rattle.afp_replies.specs.lemma.Reading.{Rest}
 use Rattle.afp_replies.proofs.Spellings.{text_took, text_cut, counted_stops}
 use Rattle.afp_replies.proofs.cursor.Cursor.counted_piece.Goals as goal
 

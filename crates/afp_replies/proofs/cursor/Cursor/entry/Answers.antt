@@ -1,5 +1,5 @@
 use Rattle.std.proofs.Common.{true, false, ap}
-use Rattle.afp_replies.specs.Reading.{Rest}
+use Rattle.afp_replies.specs.lemma.Reading.{Rest}
 use Rattle.afp_replies.proofs.Entries.{entry_here}
 use Rattle.afp_replies.proofs.cursor.Cursor.entry.Goals as goal
 

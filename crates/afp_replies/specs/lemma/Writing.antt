@@ -1,5 +1,5 @@
 -- What a reply is like that can be written, for the proofs of the code; no public contract cites it.
-use Rattle.std.specs.Prelude.{◌≡◌, ℕ, ◌^◌, ◌<◌, Bool, List, length, Option, Some, None}
+use Rattle.std.specs.Prelude.{◌≡◌, ℕ, ◌^◌, ◌<◌, Bool, List, length, take, Option, Some, None}
 use Rattle.std.specs.List.{AllByRecursion}
 use Rattle.afp_bitmap.specs.declared.params.Values.{Values}
 use Rattle.afp_bitmap.specs.Bits.{IsWithin, mask_of, is_asked}
@@ -12,6 +12,10 @@ use Rattle.afp_replies.specs.Numbers.{file_kind, utf8_bit}
 use Rattle.afp_replies.specs.Bytes.{width}
 use Rattle.afp_replies.specs.Entry.{is_dir, bits_for, kind_for}
 use Rattle.afp_replies.specs.Fitting.{FitsVolume, FitsList}
+
+-- what stood there still stands there, in front
+abbrev pub Keeps : List ℕ → List ℕ → Type 0
+Keeps old new = take (length old) new ≡ old
 
 -- the parameters of a kind that the bits ask for
 pub record FitsParams (kind bits : ℕ) (v : Values) : Type 0 where

@@ -1,7 +1,7 @@
 -- How the code takes a field, for its proofs; no public contract cites it.
 use Rattle.std.specs.Prelude.{◌≡◌, ℕ, List}
 use Rattle.afp_bitmap.specs.declared.take.Fields.{Fields}
-use Rattle.afp_bitmap.specs.Reading.{piece, behind}
+use Rattle.afp_bitmap.specs.lemma.Reading.{piece, behind}
 
 -- the bytes that are taken
 abbrev pub taken : Fields → ℕ → ℕ → List ℕ

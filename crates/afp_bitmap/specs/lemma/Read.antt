@@ -8,7 +8,7 @@ use Rattle.afp_bitmap.specs.declared.directory.DirValues.{DirValues}
 use Rattle.afp_bitmap.specs.declared.volume.TheConstants as volume
 use Rattle.afp_bitmap.specs.declared.file.TheConstants as file
 use Rattle.afp_bitmap.specs.declared.directory.TheConstants as directory
-use Rattle.afp_bitmap.specs.Reading.{◌>>=◌, judged, volume_from, file_from, dir_from}
+use Rattle.afp_bitmap.specs.lemma.Reading.{◌>>=◌, judged, volume_from, file_from, dir_from}
 
 -- the values of a block, by kind
 unfoldable pub volume_at : ℕ → List ℕ → Result VolumeValues ℕ

@@ -79,6 +79,10 @@ unfoldable pub all_noted : ℕ → List Field → Spots → Spots
 all_noted at [] s = s
 all_noted at (f ∷ fs) s = all_noted (at + length (fixed_bytes 0 f)) fs (noted at f s)
 
+-- what stood there still stands there, in front
+abbrev pub Keeps : List ℕ → List ℕ → Type 0
+Keeps old new = take (length old) new ≡ old
+
 -- the bytes and their pad
 abbrev pub padded : List ℕ → List ℕ
 padded bytes = bytes ++ pad_of bytes
