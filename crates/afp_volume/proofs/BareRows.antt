@@ -7,7 +7,7 @@ use Rattle.afp_base.specs.declared.code.Code.{Code}
 use Rattle.afp_base.specs.declared.code.Code.TheVariants.{ObjectNotFound, DirNotFound}
 use Rattle.afp_names.specs.Name.{name_key}
 use Rattle.afp_names.specs.LongName.{long_name_of}
-use Rattle.afp_names.specs.Path.{PathValue, element_of}
+use Rattle.afp_names.specs.Path.{long_names, PathValue, element_of}
 use Rattle.afp_names.specs.declared.path.Step.{Step}
 use Rattle.afp_names.specs.declared.path.Step.TheVariants.{Up, Down}
 use Rattle.afp_volume.proofs.Ordered.{order-map}
@@ -16,7 +16,7 @@ use Rattle.afp_volume.specs.Edits.{bare, is_taken, is_below, with_changed, chang
 use Rattle.afp_volume.specs.Listing.{children, listed, row_key}
 use Rattle.afp_volume.specs.Order.{in_order}
 use Rattle.afp_volume.specs.VolumeState.{Row, root_parent}
-use Rattle.afp_volume.specs.Walk.{row_at, parent_at, child_by_key, child_by_long_name, child, or_else, long_names, onward, failed_down, walk_from, not_above_root, walk, found}
+use Rattle.afp_volume.specs.Walk.{row_at, parent_at, child_by_key, child_by_long_name, child, or_else, onward, failed_down, walk_from, not_above_root, walk, found}
 
 pub find-map : {A B : Type 0} (f : A → B) (p : B → Bool) (xs : List A) → find p (map f xs) ≡ option_map f (find (λ x. p (f x)) xs)
 find-map f p [] = refl

@@ -1,9 +1,9 @@
 -- The entries of lists: which they are, and that several replies give all.
-use Rattle.std.proofs.Common.{◌==◌, ◌≡◌, ◌∙◌, ap, sym, refl, ℕ, zero, suc, ◌+◌, ◌-◌, ◌≤◌, ◌<◌, arith, Bool, true, false, not, ◌&&◌, ◌||◌, cond, List, [], ◌∷◌, ◌++◌, length, take, drop, map, Option, None, inl, inr, subst}
+use Rattle.std.proofs.Common.{◌==◌, ◌≡◌, ◌∙◌, ap, sym, refl, ℕ, zero, suc, ◌+◌, ◌-◌, ◌≤◌, ◌<◌, arith, Bool, true, false, not, ◌&&◌, ◌||◌, cond, List, [], ◌∷◌, ◌++◌, length, take, drop, Option, None, inl, inr, subst}
 use Rattle.std.specs.Prelude.{Result, Ok, Err, min, nat_le, nat_lt, sum_by}
 use Rattle.std.specs.List.{count_by, filter, list_all}
 use Rattle.std.proofs.lemmas.Bool.{and_parts, and_from, cond_both, cases_Bool, both_ways, or_cases, eqb-true, eqb-false, le-leb, leb-true, ltb-true, ltb-false, not-true}
-use Rattle.std.proofs.lemmas.List.{length-append, length-drop, length-take, length-map, take_min, drop-drop}
+use Rattle.std.proofs.lemmas.List.{length-append, length-drop, length-take, take_min, drop-drop}
 use Rattle.std.proofs.lemmas.List.Sums.{sum_by-cons, sum_by-take-le}
 use Rattle.std.proofs.Math.Seq.{take-add, take-length}
 use Rattle.afp_base.specs.declared.code.Code.{Code}
@@ -16,11 +16,10 @@ use Rattle.afp_volume.proofs.Ordered.{order-count}
 use Rattle.afp_volume.proofs.Refusals.{none-holds, none-first}
 use Rattle.afp_volume.proofs.TestedLists.{all-filter, apart-filter}
 use Rattle.afp_volume.proofs.Trees.{tree-parts}
-use Rattle.afp_volume.specs.Calls.{Opened, behind, done_at}
-use Rattle.afp_volume.specs.Enumerate.{ListAsked, is_counted, counted, list_head, longest_entry, longest_reply, entry_size, fits_reply, longest_front, from_start, entries, enumerate_refusal, enumerate_values}
+use Rattle.afp_volume.specs.Calls.{Opened, behind}
+use Rattle.afp_volume.specs.Enumerate.{ListAsked, is_counted, counted, list_head, longest_entry, longest_reply, entry_size, fits_reply, longest_front, from_start, entries, enumerate_refusal}
 use Rattle.afp_volume.specs.Listing.{row_key, children, listed, page}
 use Rattle.afp_volume.specs.ListLaws.{is_counted_child, PageAsked, asked_from, entries_in_turn}
-use Rattle.afp_volume.specs.NodeValues.{node_values}
 use Rattle.afp_volume.specs.Order.{rises, stands_before, in_order}
 use Rattle.afp_volume.specs.Parms.{is_outside}
 use Rattle.afp_volume.specs.SoundVolume.{IsSoundVolume}
@@ -238,12 +237,12 @@ finds v opens asked dir path code passes is =
     let first = none-first ((is_outside file_mask asked.file_bits, BitmapErr) ∷ (is_outside dir_mask asked.dir_bits, BitmapErr) ∷ ((asked.file_bits == 0) && (asked.dir_bits == 0), BitmapErr) ∷ []) _ passes in
     behind-err (found v.rows dir path) _ code first.1 is
 
-pub never-empty : (v : VolumeState) (opens : List Opened) (asked : ListAsked) (dir : ℕ) (path : PathValue) → enumerate_refusal v opens asked dir path ≡ None → 0 < length (enumerate_values v opens asked dir path)
-unfolding enumerate_values
+pub never-empty : (v : VolumeState) (opens : List Opened) (asked : ListAsked) (dir : ℕ) (path : PathValue) → enumerate_refusal v opens asked dir path ≡ None
+    → (id : ℕ) × (found v.rows dir path ≡ Ok id) × (0 < length (entries v.rows opens asked id))
 never-empty v opens asked dir path passes = by (found v.rows dir path) refl
   where
-    by : (r : Result ℕ Code) → found v.rows dir path ≡ r → 0 < length (done_at r [] (λ id. map (node_values v.rows opens asked.file_bits asked.dir_bits) (entries v.rows opens asked id)))
-    by (Ok id) is = subst (λ n. 0 < n) (sym (length-map (entries v.rows opens asked id) (node_values v.rows opens asked.file_bits asked.dir_bits))) (one-there v opens asked dir id path passes is)
+    by : (r : Result ℕ Code) → found v.rows dir path ≡ r → (id : ℕ) × (found v.rows dir path ≡ Ok id) × (0 < length (entries v.rows opens asked id))
+    by (Ok id) is = (id, is, one-there v opens asked dir id path passes is)
     by (Err code) is = absurd (finds v opens asked dir path code passes is)
 
 -- replies in turn

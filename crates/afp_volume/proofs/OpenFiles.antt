@@ -12,14 +12,14 @@ use Rattle.afp_volume.specs.Calls.{Opened, done_at, created, delete_inhibit, dir
 use Rattle.afp_volume.specs.CreateDir.{create_dir_effect}
 use Rattle.afp_volume.specs.CreateFile.{create_file_there, without_replaced, create_file_refusal, create_file_effect}
 use Rattle.afp_volume.specs.Delete.{delete_refusal, delete_effect}
-use Rattle.afp_volume.specs.Edits.{at_place, change_at, changed_at, children_changed, has_children, modified_at, named, new_row, renamed, with_changed, with_moved, with_new, with_row, without, without_node}
+use Rattle.afp_volume.specs.Edits.{at_place, change_at, changed_at, children_changed, has_children, modified_at, named, renamed, with_changed, with_moved, with_new, with_row, without, without_node}
 use Rattle.afp_volume.specs.MoveAndRename.{move_effect}
 use Rattle.afp_volume.specs.Rename.{rename_effect}
 use Rattle.afp_volume.specs.SetFileDirParms.{settings_in, with_node_set, with_settings, set_parms_effect}
 use Rattle.afp_volume.specs.SetVolParms.{set_vol_parms_effect}
 use Rattle.afp_volume.specs.SoundVolume.{has_file}
 use Rattle.afp_volume.specs.TreeSteps.{TreeCall, CreateDir, CreateFile, Delete, Rename, MoveAndRename, SetFileParms, SetDirParms, SetFileDirParms, SetVolParms, TreeStep, tree_refusal, tree_effect}
-use Rattle.afp_volume.specs.VolumeState.{Row, VolumeState, root_id}
+use Rattle.afp_volume.specs.VolumeState.{Row, VolumeState, root_id, new_row}
 use Rattle.afp_volume.specs.Walk.{Place, child_by_key, found, has_directory, new_place, one_down, one_down_or}
 
 -- this file stays

@@ -8,12 +8,12 @@ use Rattle.std.proofs.lemmas.Nat.{and_le_l}
 use Rattle.byteorder.specs.Endian.{big_number}
 use Rattle.afp_bitmap.specs.Bits.{is_asked}
 use Rattle.afp_volume.proofs.TestedLists.{all-filter, all-snoc, all-map-where, any-at}
-use Rattle.afp_volume.specs.Edits.{with_changed, change_at, at_place, modified_at, changed_at, children_changed, with_new, new_row, without, without_node, with_moved, named, renamed}
+use Rattle.afp_volume.specs.Edits.{with_changed, change_at, at_place, modified_at, changed_at, children_changed, with_new, without, without_node, with_moved, named, renamed}
 use Rattle.afp_volume.specs.Parms.{date_in}
 use Rattle.afp_volume.specs.SetFileDirParms.{Settings, set_fields, asked_bytes, field_in, settings_in, attributes_by, with_settings, with_node_set}
 use Rattle.afp_volume.specs.SoundVolume.{file_attributes, dir_attributes, last_next_id}
 use Rattle.afp_volume.specs.TypedVolume.{is_byte, is_word, is_long, are_bytes, is_date, is_typed_row, is_typed_comment, is_typed_icon, is_typed_appl, is_typed_volume}
-use Rattle.afp_volume.specs.VolumeState.{Row, Comment, Appl, VolumeState}
+use Rattle.afp_volume.specs.VolumeState.{Row, Comment, Appl, VolumeState, new_row}
 use Rattle.afp_volume.specs.Walk.{has_directory}
 
 -- a row's numbers, each apart

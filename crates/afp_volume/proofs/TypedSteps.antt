@@ -13,7 +13,7 @@ use Rattle.afp_volume.specs.Edits.{with_changed, put, with_forks_of, exchanged}
 use Rattle.afp_volume.specs.SoundVolume.{IsSoundVolume}
 use Rattle.afp_volume.specs.TreeSteps.{TreeCall, CreateDir, CreateFile, Delete, Rename, MoveAndRename, SetFileParms, SetDirParms, SetFileDirParms, SetVolParms, TreeStep, tree_refusal, tree_effect, is_named_call, is_typed_call, is_typed_step, unless_refused, after_step, after_steps}
 use Rattle.afp_volume.specs.TypedVolume.{is_date, is_typed_row, is_typed_volume}
-use Rattle.afp_volume.specs.VolumeState.{Row, VolumeState, fresh_volume, new_directory, root_id, root_parent}
+use Rattle.afp_volume.specs.VolumeState.{Row, VolumeState, fresh_volume, new_row, root_id, root_parent}
 use Rattle.afp_volume.specs.Walk.{row_at, is_named_path}
 
 pub call-typed : (v : VolumeState) (step : TreeStep) → is_typed_step step ≡ true → is_named_call step.call ≡ true → tree_refusal v step.opens step.call ≡ None → IsSoundVolume v → is_typed_volume v ≡ true → is_typed_volume (tree_effect v step.now step.call) ≡ true
@@ -52,7 +52,7 @@ steps-typed v (step ∷ steps) typed named s h =
 
 pub fresh-typed : (name : List ℕ) (now : ℕ) → name_fault name ≡ None → is_date (pos now) ≡ true → is_typed_volume (fresh_volume name now) ≡ true
 fresh-typed name now good moment =
-    let root : Row = new_directory root_id root_parent name now in
+    let root : Row = new_row true root_id root_parent name now in
     let bytes = name-bytes name good in
     typed-whole (fresh_volume name now) (record {
       name = bytes;

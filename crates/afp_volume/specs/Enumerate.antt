@@ -1,16 +1,15 @@
 -- FPEnumerate, FPEnumerateExt and FPEnumerateExt2 (AFP Reference, under these names; the order of entries and of refusals is this profile's).
-use Rattle.std.specs.Prelude.{ℕ, zero, suc, ◌+◌, ◌-◌, ◌==◌, ◌&&◌, Bool, true, false, not, List, [], ◌∷◌, length, take, drop, map, min, sum_by, Option, nat_le, nat_lt, if◌then◌else◌}
+use Rattle.std.specs.Prelude.{ℕ, zero, suc, ◌+◌, ◌-◌, ◌==◌, ◌&&◌, Bool, true, false, not, List, [], ◌∷◌, length, take, drop, min, sum_by, Option, nat_le, nat_lt, if◌then◌else◌}
 use Rattle.std.specs.List.{filter, list_all}
 use Rattle.afp_base.specs.Choice.{first_holding}
 use Rattle.afp_base.specs.declared.code.Code.{Code}
 use Rattle.afp_base.specs.declared.code.Code.TheVariants.{BitmapErr, ObjectNotFound, ObjectTypeErr, ParamErr}
 use Rattle.afp_bitmap.specs.Bits.{file_mask, dir_mask}
 use Rattle.afp_bitmap.specs.Params.{params}
-use Rattle.afp_bitmap.specs.declared.params.Values.{Values}
 use Rattle.afp_names.specs.Path.{PathValue}
 use Rattle.afp_volume.specs.VolumeState.{Row, VolumeState}
 use Rattle.afp_volume.specs.Walk.{found, has_directory}
-use Rattle.afp_volume.specs.Calls.{Opened, behind, done_at, first_or}
+use Rattle.afp_volume.specs.Calls.{Opened, behind, first_or}
 use Rattle.afp_volume.specs.Listing.{listed}
 use Rattle.afp_volume.specs.Parms.{is_outside}
 use Rattle.afp_volume.specs.NodeValues.{bits_of, node_values}
@@ -96,8 +95,3 @@ enumerate_refusal v opens asked dir path = first_or (
     ∷ (nat_lt (length (counted v.rows asked id)) asked.start, ObjectNotFound)
     ∷ (not (fits_reply v.rows opens asked (take 1 (from_start v.rows asked id))), ParamErr)
     ∷ [])))
-
--- what is told of each entry, in order (AFP Reference, "FPEnumerate")
-unfoldable pub enumerate_values : VolumeState → List Opened → ListAsked → ℕ → PathValue → List Values
-enumerate_values v opens asked dir path = done_at (found v.rows dir path) [] (λ id.
-    map (node_values v.rows opens asked.file_bits asked.dir_bits) (entries v.rows opens asked id))

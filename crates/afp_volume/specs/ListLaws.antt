@@ -9,7 +9,7 @@ use Rattle.afp_volume.specs.VolumeState.{Row, VolumeState}
 use Rattle.afp_volume.specs.SoundVolume.{IsSoundVolume}
 use Rattle.afp_volume.specs.Walk.{found, row_at}
 use Rattle.afp_volume.specs.Calls.{Opened}
-use Rattle.afp_volume.specs.Enumerate.{ListAsked, is_counted, counted, fits_reply, from_start, entries, enumerate_refusal, enumerate_values}
+use Rattle.afp_volume.specs.Enumerate.{ListAsked, is_counted, counted, fits_reply, from_start, entries, enumerate_refusal}
 
 -- whether a directory has a child of this id that counts
 unfoldable pub is_counted_child : List Row → ListAsked → ℕ → ℕ → Bool
@@ -29,12 +29,13 @@ EntriesArePage = (rows : List Row) (opens : List Opened) (asked : ListAsked) (di
 abbrev pub EntriesAreAsked : Type 0
 EntriesAreAsked = (rows : List Row) (opens : List Opened) (asked : ListAsked) (dir : ℕ) → length (entries rows opens asked dir) ≤ asked.count
 
--- where a list is not refused its entries fit, and there is one at least
+-- where a list is not refused its entries fit; and its directory is found, with one entry at least
 abbrev pub EntriesFit : Type 0
 EntriesFit = (v : VolumeState) (opens : List Opened) (asked : ListAsked) (dir id : ℕ) (path : PathValue) → enumerate_refusal v opens asked dir path ≡ None → found v.rows dir path ≡ Ok id → fits_reply v.rows opens asked (entries v.rows opens asked id) ≡ true
 
 abbrev pub ListIsNeverEmpty : Type 0
-ListIsNeverEmpty = (v : VolumeState) (opens : List Opened) (asked : ListAsked) (dir : ℕ) (path : PathValue) → enumerate_refusal v opens asked dir path ≡ None → 0 < length (enumerate_values v opens asked dir path)
+ListIsNeverEmpty = (v : VolumeState) (opens : List Opened) (asked : ListAsked) (dir : ℕ) (path : PathValue) → enumerate_refusal v opens asked dir path ≡ None
+    → (id : ℕ) × (found v.rows dir path ≡ Ok id) × (0 < length (entries v.rows opens asked id))
 
 -- what fits a reply fits it with fewer entries too
 abbrev pub FewerFit : Type 0

@@ -9,7 +9,7 @@ use Rattle.afp_volume.specs.Order.{stands_before, rises}
 use Rattle.node_rows.proofs.Halving.{all-index}
 use Rattle.node_rows.proofs.Siblings.{is_of, parent-order, filter-none}
 use Rattle.node_rows.specs.Children.{child_order}
-use Rattle.node_rows.specs.Kept.{IsPart}
+use Rattle.node_rows.specs.lemma.Places.{IsPart}
 use Rattle.node_rows.specs.declared.child.Child.{Child}
 
 -- what a halving by parents asks of children in order

@@ -8,7 +8,8 @@ ghost use Rattle.afp_volume.specs.SoundVolume.{has_rising_ids};
 ghost use Rattle.afp_volume.specs.VolumeState.{Row};
 ghost use Rattle.afp_volume.specs.Walk.{row_at};
 ghost use Rattle.node_rows.specs.Children.{child_order};
-ghost use Rattle.node_rows.specs.Kept.{admitted, marked, is_apart, is_child, is_other};
+ghost use Rattle.node_rows.specs.Kept.{admitted, marked};
+ghost use Rattle.node_rows.specs.lemma.Places.{is_apart, is_child, is_other};
 
 use crate::child::Child;
 use crate::node::{Marks, Node};

@@ -11,7 +11,8 @@ ghost use Rattle.afp_volume.specs.SoundVolume.{are_named_alike, has_rising_ids};
 ghost use Rattle.afp_volume.specs.VolumeState.{Row};
 ghost use Rattle.afp_volume.specs.Walk.{child_by_key, row_at};
 ghost use Rattle.node_rows.specs.Children.{child_of, child_order, children_of};
-ghost use Rattle.node_rows.specs.Kept.{admitted, is_apart, marked};
+ghost use Rattle.node_rows.specs.Kept.{admitted, marked};
+ghost use Rattle.node_rows.specs.lemma.Places.{is_apart};
 
 use crate::child::Child;
 use crate::edit::{put_at, put_child, put_node, set_marks, take_child};

@@ -1,7 +1,7 @@
 //! A volume that nobody has used, and its records.
 ghost use Rattle.std.specs.Prelude.{◌≡◌, None, map, IfOk, IfErr, true, pos, List, ℕ};
 ghost use Rattle.afp_names.specs.Name.{name_fault};
-ghost use Rattle.afp_volume.specs.VolumeState.{VolumeState, fresh_volume, new_directory, root_id, root_parent};
+ghost use Rattle.afp_volume.specs.VolumeState.{VolumeState, fresh_volume, new_row, root_id, root_parent};
 ghost use Rattle.record_keeper.specs.Records.{Records, Makes, changed, TellsOn};
 ghost use Rattle.volume_records.specs.Image.{node_of, rows_of, tables_of};
 ghost use Rattle.volume_keeper.specs.Changes.{put as the_put};
@@ -44,7 +44,7 @@ fn head_of(now: Moment) -> Head
 
 /// The root of a volume that is made at a moment.
 fn root_of(alloc: Global, name: &str, now: Moment) -> Result<Node, OutOfMemory>
-    ensures { IfOk result (λ root. root ≡ node_of (new_directory root_id root_parent name.now now)) }
+    ensures { IfOk result (λ root. root ≡ node_of (new_row true root_id root_parent name.now now)) }
 {
     let date = now.seconds() as i32;
     Ok(Node {

@@ -13,9 +13,9 @@ use Rattle.afp_volume.proofs.Walks.{MappedFrom, mapped-from, find-there}
 use Rattle.afp_volume.specs.Calls.{done_at, created}
 use Rattle.afp_volume.specs.CreateDir.{create_dir_effect}
 use Rattle.afp_volume.specs.CreateFile.{create_file_effect, without_replaced}
-use Rattle.afp_volume.specs.Edits.{new_row, without}
+use Rattle.afp_volume.specs.Edits.{without}
 use Rattle.afp_volume.specs.SoundVolume.{IsSoundVolume, has_node, has_apart_names, are_named_alike}
-use Rattle.afp_volume.specs.VolumeState.{Row, VolumeState}
+use Rattle.afp_volume.specs.VolumeState.{Row, VolumeState, new_row}
 use Rattle.afp_volume.specs.Walk.{Place, new_place, child_by_key}
 use Rattle.volume_tree.specs.Answered.{IsFound, option_id}
 use Rattle.volume_tree.specs.Planned.{IsPlan, IsNew, planned, plan_new, gone_rows}

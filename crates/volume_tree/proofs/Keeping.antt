@@ -11,11 +11,11 @@ use Rattle.afp_volume.proofs.Fresh.{fresh-sound}
 use Rattle.afp_volume.proofs.SoundEdits.{sound-changed}
 use Rattle.afp_volume.proofs.TestedLists.{all-weaker}
 use Rattle.std.proofs.lemmas.Bool.{ne_eqb}
-use Rattle.afp_volume.specs.Edits.{has_children, changed_at, new_row}
+use Rattle.afp_volume.specs.Edits.{has_children, changed_at}
 use Rattle.afp_volume.specs.Listing.{listed, children, row_key}
 use Rattle.afp_volume.specs.Order.{in_order, put_in, stands_before}
 use Rattle.afp_volume.specs.SoundVolume.{IsSoundVolume, fork_bytes}
-use Rattle.afp_volume.specs.VolumeState.{Row, fresh_volume, never}
+use Rattle.afp_volume.specs.VolumeState.{Row, fresh_volume, never, new_row}
 use Rattle.afp_names.specs.Name.{name_fault}
 use Rattle.volume_tree.proofs.Showing.{any-shown}
 use Rattle.volume_tree.specs.Answered.{IsFound}

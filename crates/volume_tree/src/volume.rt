@@ -2,9 +2,9 @@
 ghost use Rattle.std.specs.Prelude.{◌≡◌, ◌≤◌, ◌+◌, [], None, Some, pos, length, is_some, IfOk, OnOk, OnErr, option_map, option_copied};
 ghost use Rattle.afp_names.specs.Name.{name_fault};
 ghost use Rattle.afp_volume.specs.DesktopLaws.{with_desktop};
-ghost use Rattle.afp_volume.specs.Edits.{bare, changed_at, new_row};
+ghost use Rattle.afp_volume.specs.Edits.{bare, changed_at};
 ghost use Rattle.afp_volume.specs.SoundVolume.{IsSoundVolume, fork_bytes};
-ghost use Rattle.afp_volume.specs.VolumeState.{fresh_volume};
+ghost use Rattle.afp_volume.specs.VolumeState.{fresh_volume, new_row};
 ghost use Rattle.afp_volume.specs.Walk.{row_at};
 ghost use Rattle.afp_volume.specs.OpenFork.{file_of};
 ghost use Rattle.volume_tree.specs.Shown.{fork_at};

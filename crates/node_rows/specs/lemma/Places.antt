@@ -1,0 +1,34 @@
+-- Places of rows and of children, as the search finds them.
+use Rattle.std.specs.Prelude.{◌≡◌, ℕ, ◌≤◌, ◌<◌, Bool, not, ◌&&◌, ◌==◌, bytes_eq, List, length, ◌-◌, take, drop, Option, Some, None, slice_get}
+use Rattle.std.specs.List.{filter}
+use Rattle.afp_volume.specs.VolumeState.{Row}
+use Rattle.afp_volume.specs.Walk.{row_at}
+use Rattle.node_rows.specs.Children.{child_of, child_order}
+use Rattle.node_rows.specs.declared.child.Child.{Child}
+
+-- the place of the row of this id, if there is one
+abbrev pub IsPlaceOf : List Row → ℕ → Option ℕ → Type 0
+IsPlaceOf rows id None = row_at rows id ≡ None
+IsPlaceOf rows id (Some i) = (i < length rows) × (row_at rows id ≡ slice_get rows i)
+
+-- whether a child has this parent and id
+abbrev pub is_child_at : ℕ → ℕ → Child → Bool
+is_child_at parent id child = (child.parent.0 == parent) && (child.id.0 == id)
+
+-- whether a child is this node's
+abbrev pub is_child : Row → Child → Bool
+is_child row child = is_child_at row.parent row.id child && bytes_eq (child_order child) (child_order (child_of row))
+
+-- whether a child has another id
+abbrev pub is_other : ℕ → Child → Bool
+is_other id child = not (child.id.0 == id)
+
+-- whether a child has another parent or another key
+abbrev pub is_apart : Child → Child → Bool
+is_apart a b = not (bytes_eq (child_order a) (child_order b))
+
+-- the children of a parent stand from this place on, and end before that one
+pub record IsPart (children : List Child) (parent first behind : ℕ) : Type 0 where
+  pub order : first ≤ behind
+  pub within : behind ≤ length children
+  pub part : take (behind - first) (drop first children) ≡ filter (λ child. child.parent.0 == parent) children
