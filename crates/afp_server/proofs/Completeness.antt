@@ -190,8 +190,8 @@ end_of cause c last after end is s = subst (λ (x : Option Cause). ScriptEnds x 
 none_of : (cause : Option Cause) (last after : Stage) (end : Option FrameEnd) → cause ≡ None → ScriptEnds cause last after end → end ≡ None
 none_of cause last after end is s = let t : ScriptEnds None last after end = subst (λ (x : Option Cause). ScriptEnds x last after end) is s in t.1
 
-wrote-replies : (old new : LinkState) (wrote : List ℕ) (events : List Event) (replies : List Frame) → Moves old events wrote new → wrote ≡ spelling_of replies → Wrote old replies new
-wrote-replies old new wrote events replies moves sent = moves.written ∙ ap (λ (w : List ℕ). option_map (λ before. before ++ w) old.written) sent
+wrote-replies : (old new : LinkState) (wrote : List ℕ) (events : List Event) (failed : ℕ) (replies : List Frame) → Moves old events wrote failed new → wrote ≡ spelling_of replies → Wrote old replies new
+wrote-replies old new wrote events failed replies moves sent = moves.written ∙ ap (λ (w : List ℕ). option_map (λ before. before ++ w) old.written) sent
 
 -- where all bytes were taken, and less than a frame is left behind the frames handled, the link went on behind the others
 past_run : StreamLaws → (block bytes : List ℕ) (frames : List Frame) (turns : ℕ) (old : LinkState) (answer : LinkEnd) (new : LinkState) (steps : List Step) → (r : Run block bytes frames turns old answer new steps)
@@ -230,7 +230,7 @@ by_answer laws block bytes frames turns old links.Closed new steps r e still fre
       replies_in c.trace,
       refl,
       begins_run laws block bytes frames turns old links.Closed new steps r (Some ends.Closed) e.0.answered.left e.0.answered.fills (end_of c.cause closed c.last.stage sc.after sc.end e.0.why sc.ends).1,
-      wrote-replies old new c.wrote (events_in c.trace) (replies_in c.trace) c.moves e.0.answered.sent,
+      wrote-replies old new c.wrote (events_in c.trace) 0 (replies_in c.trace) c.moves e.0.answered.sent,
     ))
 by_answer laws block bytes frames turns old links.Ended new steps r e still free below =
     let c = r.served.comes in
@@ -247,7 +247,7 @@ by_answer laws block bytes frames turns old links.Ended new steps r e still free
             refl,
             subst (λ (fs : List Frame). Script block stages.Fresh fs (frame_steps_in c.trace) (replies_in c.trace) sc.after None) same.0
                 (subst (λ (x : Option FrameEnd). Script block stages.Fresh (frames_in c.trace) (frame_steps_in c.trace) (replies_in c.trace) sc.after x) (none_of c.cause c.last.stage sc.after sc.end e.goes_on.why sc.ends) sc.script),
-            wrote-replies old new c.wrote (events_in c.trace) (replies_in c.trace) c.moves e.goes_on.sent,
+            wrote-replies old new c.wrote (events_in c.trace) 0 (replies_in c.trace) c.moves e.goes_on.sent,
           ))
       | inr stops ↦
           absurd (stops (past_run laws block bytes frames turns old links.Ended new steps r framed.filled [] framed.spelled (all ∙ framed.whole) framed.unfinished.no_frame e.goes_on.why))
@@ -279,7 +279,7 @@ by_answer laws block bytes frames turns old (links.Silent last now) new steps r 
 by_answer laws block bytes frames turns old links.Displaced new steps r e still free below = absurd free
 by_answer laws block bytes frames turns old links.Drained new steps r e still free below = absurd e
 by_answer laws block bytes frames turns old links.ReadFault new steps r e still free below = absurd (omega (arith, e.0.fault, still.read_faults, still.reads_count))
-by_answer laws block bytes frames turns old links.WriteFault new steps r e still free below = absurd (omega (arith, e.0.fault, still.write_faults, still.writes_count))
+by_answer laws block bytes frames turns old links.WriteFault new steps r e still free below = absurd (omega (arith, r.served.comes.moves.write_faults, still.write_faults, still.writes_count))
 by_answer laws block bytes frames turns old links.Spent new steps r e still free below =
     let split = split_run block bytes frames turns old links.Spent new steps r in
     absurd (omega (arith, e.0.reached, r.served.comes.moves.quiets, still.quiets_count, ap length split.1, length-append (came_in r.served.comes.trace) split.0))

@@ -14,9 +14,9 @@ use Rattle.afp_server.specs.Did.{Did}
 use Rattle.afp_server.specs.Passing.{calls_in, call_link}
 use Rattle.afp_server.specs.Replies.{listed, spelling_of}
 use Rattle.afp_server.specs.Script.{Does}
-use Rattle.afp_server.specs.Sending.{Sends, SendsPart}
-use Rattle.afp_server.specs.Serving.{Start, point, SoFar, Ended, end_of_frame}
-use Rattle.afp_server.specs.SessionState.{SessionState, Acts}
+use Rattle.afp_server.specs.lemma.Sending.{Sends, SendsPart}
+use Rattle.afp_server.specs.lemma.Serving.{Start, point, SoFar, Ended, end_of_frame}
+use Rattle.afp_server.specs.lemma.SessionState.{SessionState, Acts}
 use Rattle.afp_server.specs.declared.serve.LinkEnd.{LinkEnd}
 use Rattle.afp_server.specs.declared.serve.LinkEnd.TheVariants as links
 use Rattle.afp_server.specs.declared.stage.FrameEnd.{FrameEnd}
@@ -61,14 +61,14 @@ next-calls start cost held link old new before after f did passed called n is = 
 
 -- the link goes on
 pub frame-goes_on : (start : Start) (cost : ℕ) (held then_held : Buffered) (link then_link : LinkState) (old new : SessionState) (before after : Shown) (f : Frame) (did : Did) (reply : List ℕ) (passed mid then_passed : Passed) (called : Option LinkNumber)
-    → (n : Next start cost held link old before f did new after passed) → called ≡ call_link f.reply old.stage f.command → mid ≡ in_by passed called → then_passed ≡ out_by mid called → reply ≡ new.reply → Sends link reply then_link → did.end ≡ None
+    → (n : Next start cost held link old before f did new after passed) → called ≡ call_link f.reply old.stage f.command → mid ≡ in_by passed called → then_passed ≡ out_by mid called → reply ≡ new.reply → Sends link reply 0 then_link → did.end ≡ None
     → ((g : Frame) (first more : List ℕ) → IsSpelling first g → held.rest ≡ first ++ more → then_held ≡ record { place = held.place + length first; rest = more })
     → SoFar start (point then_held new.stage then_link after then_passed) cost
 frame-goes_on start cost held then_held link then_link old new before after f did reply passed mid then_passed called n call goes_in comes_out is sent goes_on advanced =
     subst (λ (stage : Stage). SoFar start (point then_held stage then_link after then_passed) cost) (sym (ap (λ (s : SessionState). s.stage) n.acts.state))
     (so_far-handles start (point held old.stage link before passed) cost f did n.begins.first n.begins.more after then_link then_held mid then_passed called (handles start cost held link old new before after f did passed n)
     (record { goes_in = goes_in; comes_out = comes_out; calls = next-calls start cost held link old new before after f did passed called n call })
-    (subst (λ (b : List ℕ). Sends link b then_link) (is ∙ ap (λ (s : SessionState). s.reply) n.acts.state) sent) goes_on (advanced f n.begins.first n.begins.more n.begins.spelling n.begins.whole))
+    (subst (λ (b : List ℕ). Sends link b 0 then_link) (is ∙ ap (λ (s : SessionState). s.reply) n.acts.state) sent) goes_on (advanced f n.begins.first n.begins.more n.begins.spelling n.begins.whole))
 
 pub frame-less : (held then_held : Buffered) (f : Frame) → (b : Begins held.rest f)
     → ((g : Frame) (first more : List ℕ) → IsSpelling first g → held.rest ≡ first ++ more → then_held ≡ record { place = held.place + length first; rest = more })
@@ -79,14 +79,14 @@ frame-less held then_held f b advanced =
 
 -- the frame ends it
 pub frame-ends : (start : Start) (cost : ℕ) (held : Buffered) (link then_link : LinkState) (old new : SessionState) (before after : Shown) (f : Frame) (did : Did) (reply : List ℕ) (end : FrameEnd) (place : ℕ) (answer : LinkEnd) (passed mid then_passed : Passed) (called : Option LinkNumber)
-    → (n : Next start cost held link old before f did new after passed) → called ≡ call_link f.reply old.stage f.command → mid ≡ in_by passed called → then_passed ≡ out_by mid called → reply ≡ new.reply → Sends link reply then_link → did.end ≡ Some end → place ≡ held.place → answer ≡ end_of_frame end place
+    → (n : Next start cost held link old before f did new after passed) → called ≡ call_link f.reply old.stage f.command → mid ≡ in_by passed called → then_passed ≡ out_by mid called → reply ≡ new.reply → Sends link reply 0 then_link → did.end ≡ Some end → place ≡ held.place → answer ≡ end_of_frame end place
     → Ended start answer new.stage then_link after then_passed
 frame-ends start cost held link then_link old new before after f did reply end place answer passed mid then_passed called n call goes_in comes_out is sent ends at as_frame =
     subst (λ (a : LinkEnd). Ended start a new.stage then_link after then_passed) (sym (as_frame ∙ ap (λ (k : ℕ). end_of_frame end k) at))
     (subst (λ (stage : Stage). Ended start (end_of_frame end held.place) stage then_link after then_passed) (sym (ap (λ (s : SessionState). s.stage) n.acts.state))
     (ends-frame start (point held old.stage link before passed) cost f did n.begins.first n.begins.more after then_link end mid then_passed called (handles start cost held link old new before after f did passed n)
     (record { goes_in = goes_in; comes_out = comes_out; calls = next-calls start cost held link old new before after f did passed called n call })
-    (subst (λ (b : List ℕ). Sends link b then_link) (is ∙ ap (λ (s : SessionState). s.reply) n.acts.state) sent) ends))
+    (subst (λ (b : List ℕ). Sends link b 0 then_link) (is ∙ ap (λ (s : SessionState). s.reply) n.acts.state) sent) ends))
 
 -- its reply could not be written
 pub frame-unwritten : (start : Start) (cost : ℕ) (held : Buffered) (link then_link : LinkState) (old new : SessionState) (before after : Shown) (f : Frame) (did : Did) (reply : List ℕ) (passed mid : Passed) (called : Option LinkNumber)

@@ -1,10 +1,10 @@
 -- A link moves on from step to step.
-use Rattle.std.proofs.Common.{◌≡◌, ℕ, ◌+◌, ◌≤◌, List, [], ◌∷◌, ◌++◌, length, refl, sym, ap, ◌∙◌, append_assoc, append-nil, length-append, take, drop, ◌-◌, length-drop, arith}
+use Rattle.std.proofs.Common.{◌≡◌, ℕ, ◌+◌, ◌≤◌, ◌<◌, ◌==◌, false, rules, List, [], ◌∷◌, ◌++◌, length, refl, sym, ap, subst, ◌∙◌, append_assoc, append-nil, length-append, take, drop, ◌-◌, length-drop, arith}
 use Rattle.std.proofs.lemmas.List.{take-append-drop, take_all}
 use Rattle.std.specs.Prelude.{Option, Some, None, option_map}
-use Rattle.afp_outside.specs.Link.{Event, piece, quiet, taken, LinkState, WritesPiece}
+use Rattle.afp_outside.specs.Link.{Event, piece, quiet, taken, LinkState, WritesPiece, FailsToWrite}
 use Rattle.afp_server.specs.LinkRun.{quiets_in, cost_of, Moves}
-use Rattle.afp_server.specs.Sending.{Sends}
+use Rattle.afp_server.specs.lemma.Sending.{Sends}
 
 pub added-none : {X : Type 0} (o : Option (List X)) → o ≡ option_map (λ before. before ++ []) o
 added-none None = refl
@@ -35,53 +35,74 @@ quiets_in-append (quiet written now ∷ es) fs = omega (arith, quiets_in-append 
 pub cost_of-append : (es fs : List Event) → cost_of (es ++ fs) ≡ cost_of es + cost_of fs
 cost_of-append es fs = omega (arith, quiets_in-append es fs, ap length (taken-append es fs), length-append (taken es) (taken fs))
 
-pub moves-none : (a : LinkState) → Moves a [] [] a
+pub moves-none : (a : LinkState) → Moves a [] [] 0 a
 moves-none a = record {
   told = added-none a.events;
   coming = left-none a.coming;
   written = added-none a.written;
   quiets = (omega arith, omega arith, omega arith);
   read_faults = omega arith;
-  write_faults = omega arith;
+  write_faults = (omega arith, omega arith, omega arith);
 }
 
-pub moves-join : (a b c : LinkState) (es fs : List Event) (wrote more : List ℕ) → Moves a es wrote b → Moves b fs more c → Moves a (es ++ fs) (wrote ++ more) c
-moves-join a b c es fs wrote more one two = record {
+pub moves-join : (a b c : LinkState) (es fs : List Event) (wrote more : List ℕ) (failed : ℕ) → Moves a es wrote 0 b → Moves b fs more failed c → Moves a (es ++ fs) (wrote ++ more) failed c
+moves-join a b c es fs wrote more failed one two = record {
   told = two.told ∙ ap (λ o. option_map (λ before. before ++ fs) o) one.told ∙ added-added a.events es fs;
   coming = one.coming ∙ ap (λ o. option_map (λ left. taken es ++ left) o) two.coming ∙ left-left c.coming (taken es) (taken fs)
       ∙ ap (λ bytes. option_map (λ left. bytes ++ left) c.coming) (sym (taken-append es fs));
   written = two.written ∙ ap (λ o. option_map (λ before. before ++ more) o) one.written ∙ added-added a.written wrote more;
   quiets = (omega arith, omega (arith, quiets_in-append es fs), omega (arith, quiets_in-append es fs));
   read_faults = omega arith;
-  write_faults = omega arith;
+  write_faults = (omega arith, omega arith, omega arith);
 }
 
 -- what a write does is a move
-pub moves-write : (a b : LinkState) (offered : List ℕ) (n : ℕ) → WritesPiece a offered n b → Moves a [] (take n offered) b
+pub moves-write : (a b : LinkState) (offered : List ℕ) (n : ℕ) → WritesPiece a offered n b → Moves a [] (take n offered) 0 b
 moves-write a b offered n w = record {
   told = w.events ∙ added-none a.events;
   coming = sym w.coming ∙ left-none b.coming;
   written = w.written;
   quiets = (omega (arith, w.quiets), omega (arith, w.quiets), omega (arith, w.quiets));
   read_faults = omega (arith, w.read_faults);
-  write_faults = omega (arith, w.write_faults);
+  write_faults = (omega (arith, w.write_faults), omega (arith, w.write_faults), omega (arith, w.write_faults));
+}
+
+-- a write that failed wrote nothing, and is counted
+pub moves-unwritten : (a b : LinkState) → FailsToWrite a b → Moves a [] [] 1 b
+moves-unwritten a b w = record {
+  told = w.events ∙ added-none a.events;
+  coming = sym w.coming ∙ left-none b.coming;
+  written = w.written ∙ added-none a.written;
+  quiets = (omega (arith, w.quiets), omega (arith, w.quiets), omega (arith, w.quiets));
+  read_faults = omega (arith, w.read_faults);
+  write_faults = w.write_faults;
 }
 
 pub cut_at : (xs : List ℕ) (n : ℕ) → n ≤ length xs → xs ≡ take n xs ++ take (length xs - n) (drop n xs)
 cut_at xs n h = sym (take-append-drop n xs) ∙ ap (λ ys. take n xs ++ ys) (sym (take_all (length xs - n) (drop n xs) (omega (arith, length-drop n xs))))
 
-pub sends-join : (a b c : LinkState) (sent more : List ℕ) → Sends a sent b → Sends b more c → Sends a (sent ++ more) c
-sends-join a b c sent more one two = record {
-  moves = moves-join a b c [] [] sent more one.moves two.moves;
+pub sends-join : (a b c : LinkState) (sent more : List ℕ) (failed : ℕ) → Sends a sent 0 b → Sends b more failed c → Sends a (sent ++ more) failed c
+sends-join a b c sent more failed one two = record {
+  moves = moves-join a b c [] [] sent more failed one.moves two.moves;
   ended = two.ended ∙ one.ended;
   now = two.now ∙ one.now;
   heard = two.heard ∙ one.heard;
 }
 
-pub sends-more : (a b c : LinkState) (offered sent left : List ℕ) (n : ℕ) → offered ≡ sent ++ left → Sends a sent b → WritesPiece b left n c
-    → (x : List ℕ) × (offered ≡ x ++ take (length left - n) (drop n left)) × Sends a x c
+pub sends-more : (a b c : LinkState) (offered sent left : List ℕ) (n : ℕ) → offered ≡ sent ++ left → Sends a sent 0 b → WritesPiece b left n c
+    → (x : List ℕ) × (offered ≡ x ++ take (length left - n) (drop n left)) × Sends a x 0 c
 sends-more a b c offered sent left n split so_far w = (
   sent ++ take n left,
   split ∙ ap (λ rest. sent ++ rest) (cut_at left n w.most) ∙ sym (append_assoc sent (take n left) (take (length left - n) (drop n left))),
-  sends-join a b c sent (take n left) so_far (record { moves = moves-write b c left n w; ended = w.ended; now = w.now; heard = w.heard }),
+  sends-join a b c sent (take n left) 0 so_far (record { moves = moves-write b c left n w; ended = w.ended; now = w.now; heard = w.heard }),
 )
+
+-- a write failed behind the bytes that were sent
+pub sends-failed : (a b c : LinkState) (sent : List ℕ) → Sends a sent 0 b → FailsToWrite b c → Sends a sent 1 c
+sends-failed a b c sent so_far w =
+    subst (λ (x : List ℕ). Sends a x 1 c) (append-nil sent)
+    (sends-join a b c sent [] 1 so_far (record { moves = moves-unwritten b c w; ended = w.ended; now = w.now; heard = w.heard }))
+
+pub some_left : (xs : List ℕ) → false ≡ (length xs == 0) → 0 < length xs
+some_left (x ∷ xs) h = omega arith
+some_left [] h = search rules

@@ -10,11 +10,11 @@ use Rattle.afp_serial.proofs.Grows.{went-join}
 use Rattle.dsi_frame.specs.Buffered.{Buffered, buffer_length}
 use Rattle.dsi_frame.specs.Frame.{Frame}
 use Rattle.dsi_frame.specs.Stream.{IsUnfinished, Framed}
-use Rattle.afp_server.specs.LinkRun.{Moves, Fills, MayRead, EachMayRead, EndsBy, GoesOn, came_in, cost_of, size_of, written_before, read_limit}
+use Rattle.afp_server.specs.LinkRun.{Moves, Fills, MayRead, EachMayRead, EndsBy, failed_writes, GoesOn, came_in, cost_of, size_of, written_before, read_limit}
 use Rattle.afp_server.specs.Passing.{all_passed}
 use Rattle.afp_server.specs.Replies.{spelling_of}
-use Rattle.afp_server.specs.Serving.{Start, Point, point, SoFar, Ended, RestsLink}
-use Rattle.afp_server.specs.SessionState.{SessionState}
+use Rattle.afp_server.specs.lemma.Serving.{Start, Point, point, SoFar, Ended, RestsLink}
+use Rattle.afp_server.specs.lemma.SessionState.{SessionState}
 use Rattle.afp_server.specs.Trace.{Happening, came, rested, events_in, frames_in, replies_in, steps_in, standing, Cause, displaced, silent, Rests, Follows}
 use Rattle.afp_server.specs.declared.serve.LinkEnd.{LinkEnd}
 use Rattle.afp_server.specs.declared.serve.LinkEnd.TheVariants as links
@@ -46,60 +46,60 @@ may_read start p cost event w before size room = record {
 }
 
 -- what a read that gave bytes, or none, does is a move
-pub moves-read : (a b : LinkState) (room : List ℕ) (n : ℕ) → ReadsPiece a room n b → Moves a (piece a.written b.now (take n room) ∷ []) [] b
+pub moves-read : (a b : LinkState) (room : List ℕ) (n : ℕ) → ReadsPiece a room n b → Moves a (piece a.written b.now (take n room) ∷ []) [] 0 b
 moves-read a b room n r = record {
   told = r.events;
   coming = r.coming ∙ ap (λ (bytes : List ℕ). option_map (λ left. bytes ++ left) b.coming) (sym (append-nil (take n room)));
   written = r.written ∙ added-none a.written;
   quiets = (omega (arith, r.quiets), omega (arith, r.quiets), omega (arith, r.quiets));
   read_faults = r.read_faults;
-  write_faults = omega (arith, r.write_faults);
+  write_faults = (omega (arith, r.write_faults), omega (arith, r.write_faults), omega (arith, r.write_faults));
 }
 
-pub moves-quiet : (a b : LinkState) → ReadsQuiet a b → Moves a (quiet a.written b.now ∷ []) [] b
+pub moves-quiet : (a b : LinkState) → ReadsQuiet a b → Moves a (quiet a.written b.now ∷ []) [] 0 b
 moves-quiet a b r = record {
   told = r.events;
   coming = sym r.coming ∙ left-none b.coming;
   written = r.written ∙ added-none a.written;
   quiets = r.quiets;
   read_faults = r.read_faults;
-  write_faults = omega (arith, r.write_faults);
+  write_faults = (omega (arith, r.write_faults), omega (arith, r.write_faults), omega (arith, r.write_faults));
 }
 
-pub moves-end : (a b : LinkState) → ReadsEnd a b → Moves a [] [] b
+pub moves-end : (a b : LinkState) → ReadsEnd a b → Moves a [] [] 0 b
 moves-end a b r = record {
   told = r.events ∙ added-none a.events;
   coming = sym r.coming ∙ left-none b.coming;
   written = r.written ∙ added-none a.written;
   quiets = (omega (arith, r.quiets), omega (arith, r.quiets), omega (arith, r.quiets));
   read_faults = r.read_faults;
-  write_faults = omega (arith, r.write_faults);
+  write_faults = (omega (arith, r.write_faults), omega (arith, r.write_faults), omega (arith, r.write_faults));
 }
 
-pub moves-fault : (a b : LinkState) → FailsToRead a b → Moves a [] [] b
+pub moves-fault : (a b : LinkState) → FailsToRead a b → Moves a [] [] 0 b
 moves-fault a b r = record {
   told = r.events ∙ added-none a.events;
   coming = sym r.coming ∙ left-none b.coming;
   written = r.written ∙ added-none a.written;
   quiets = (omega (arith, r.quiets), omega (arith, r.quiets), omega (arith, r.quiets));
   read_faults = r.read_faults.0;
-  write_faults = omega (arith, r.write_faults);
+  write_faults = (omega (arith, r.write_faults), omega (arith, r.write_faults), omega (arith, r.write_faults));
 }
 
 -- a move without events or bytes adds none
-pub moves-still : (a b c : LinkState) (events : List Event) (wrote : List ℕ) → Moves a events wrote b → Moves b [] [] c → Moves a events wrote c
-moves-still a b c events wrote one two =
-    subst (λ (es : List Event). Moves a es wrote c) (append-nil events)
-    (subst (λ (w : List ℕ). Moves a (events ++ []) w c) (append-nil wrote) (moves-join a b c events [] wrote [] one two))
+pub moves-still : (a b c : LinkState) (events : List Event) (wrote : List ℕ) (failed : ℕ) → Moves a events wrote 0 b → Moves b [] [] failed c → Moves a events wrote failed c
+moves-still a b c events wrote failed one two =
+    subst (λ (es : List Event). Moves a es wrote failed c) (append-nil events)
+    (subst (λ (w : List ℕ). Moves a (events ++ []) w failed c) (append-nil wrote) (moves-join a b c events [] wrote [] failed one two))
 
 -- a read makes the events longer, and writes nothing
-grows : (a b c : LinkState) (trace : List Happening) (h : Happening) → replies_in (h ∷ []) ≡ [] → Moves a (events_in trace) (spelling_of (replies_in trace)) b → Moves b (events_in (h ∷ [])) [] c
-    → Moves a (events_in (trace ++ h ∷ [])) (spelling_of (replies_in (trace ++ h ∷ []))) c
+grows : (a b c : LinkState) (trace : List Happening) (h : Happening) → replies_in (h ∷ []) ≡ [] → Moves a (events_in trace) (spelling_of (replies_in trace)) 0 b → Moves b (events_in (h ∷ [])) [] 0 c
+    → Moves a (events_in (trace ++ h ∷ [])) (spelling_of (replies_in (trace ++ h ∷ []))) 0 c
 grows a b c trace h unreplied one two =
-    moves-events a c (events_in trace ++ events_in (h ∷ [])) (events_in (trace ++ h ∷ [])) (spelling_of (replies_in trace) ++ []) (spelling_of (replies_in (trace ++ h ∷ [])))
+    moves-events a c 0 (events_in trace ++ events_in (h ∷ [])) (events_in (trace ++ h ∷ [])) (spelling_of (replies_in trace) ++ []) (spelling_of (replies_in (trace ++ h ∷ [])))
     (sym (events_in-append trace (h ∷ [])))
     (append-nil (spelling_of (replies_in trace)) ∙ ap spelling_of (sym (replies_in-append trace (h ∷ []) ∙ ap (λ (fs : List Frame). replies_in trace ++ fs) unreplied ∙ append-nil (replies_in trace))))
-    (moves-join a b c (events_in trace) (events_in (h ∷ [])) (spelling_of (replies_in trace)) [] one two)
+    (moves-join a b c (events_in trace) (events_in (h ∷ [])) (spelling_of (replies_in trace)) [] 0 one two)
 
 -- a read gave bytes, which stand behind the rest
 pub so_far-came : (start : Start) (p : Point) (cost n : ℕ) (end : LinkState) (held : Buffered) (room : List ℕ) → Waits start p cost → ReadsPiece p.link room n end
@@ -148,7 +148,7 @@ rests-follows start p cost end steps stage shown why r =
     (refl, r.reads.heard, subst (λ (heard : ℕ). Rests heard end.now p.stage steps stage why) r.reads.heard r.rests)
 
 rests-moves : (start : Start) (p : Point) (cost : ℕ) (end : LinkState) (steps : List Step) (stage : Stage) (shown : Shown) (why : Option Cause) → (r : RestsHere start p cost end steps stage shown why)
-    → Moves start.link (events_in (quietly r.waits.so_far.trace p.link end steps)) (spelling_of (replies_in (quietly r.waits.so_far.trace p.link end steps))) end
+    → Moves start.link (events_in (quietly r.waits.so_far.trace p.link end steps)) (spelling_of (replies_in (quietly r.waits.so_far.trace p.link end steps))) 0 end
 rests-moves start p cost end steps stage shown why r =
     grows start.link p.link end r.waits.so_far.trace (rested p.link.written end.now steps) refl r.waits.so_far.moves (moves-quiet p.link end r.reads)
 
@@ -203,10 +203,10 @@ so_far-rests start p cost end steps stage shown r =
     }
 
 -- a quiet ends the link
-ends-rests : (start : Start) (p : Point) (cost : ℕ) (end : LinkState) (steps : List Step) (stage : Stage) (shown : Shown) (why : Cause) (answer : LinkEnd) → (r : RestsHere start p cost end steps stage shown (Some why))
+ends-rests : (start : Start) (p : Point) (cost : ℕ) (end : LinkState) (steps : List Step) (stage : Stage) (shown : Shown) (why : Cause) (answer : LinkEnd) → failed_writes answer ≡ 0 → (r : RestsHere start p cost end steps stage shown (Some why))
     → EndsBy start.turns start.link (quietly r.waits.so_far.trace p.link end steps) (standing stage end) (Some why) (spelling_of (replies_in (quietly r.waits.so_far.trace p.link end steps))) answer end
     → Ended start answer stage end shown p.passed
-ends-rests start p cost end steps stage shown why answer r by = record {
+ends-rests start p cost end steps stage shown why answer none r by = record {
   asked = steps_in (quietly r.waits.so_far.trace p.link end steps);
   comes = record {
     trace = quietly r.waits.so_far.trace p.link end steps;
@@ -216,7 +216,9 @@ ends-rests start p cost end steps stage shown why answer r by = record {
     follows = rests-follows start p cost end steps stage shown (Some why) r;
     stands = refl;
     heard = refl;
-    moves = rests-moves start p cost end steps stage shown (Some why) r;
+    moves =
+        subst (λ (n : ℕ). Moves start.link (events_in (quietly r.waits.so_far.trace p.link end steps)) (spelling_of (replies_in (quietly r.waits.so_far.trace p.link end steps))) n end) (sym none)
+        (rests-moves start p cost end steps stage shown (Some why) r);
     reads = rests-reads start p cost end steps stage shown (Some why) r;
     ends = by;
     steps = refl;
@@ -228,20 +230,20 @@ ends-rests start p cost end steps stage shown why answer r by = record {
 pub ends-silent : (start : Start) (p : Point) (cost : ℕ) (end : LinkState) (steps : List Step) (stage : Stage) (shown : Shown) → RestsHere start p cost end steps stage shown (Some silent)
     → Ended start (links.Silent end.heard end.now) stage end shown p.passed
 ends-silent start p cost end steps stage shown r =
-    ends-rests start p cost end steps stage shown silent (links.Silent end.heard end.now) r
+    ends-rests start p cost end steps stage shown silent (links.Silent end.heard end.now) refl r
     (record { why = refl; heard = refl; read = refl; answered = record { left = p.held.rest; fills = rests-fills start p cost end steps stage shown (Some silent) r; sent = refl } }, record { ended = r.reads.ended ∙ r.waits.so_far.ended; now = refl })
 
 pub ends-displaced : (start : Start) (p : Point) (cost : ℕ) (end : LinkState) (steps : List Step) (stage : Stage) (shown : Shown) → RestsHere start p cost end steps stage shown (Some displaced)
     → Ended start links.Displaced stage end shown p.passed
 ends-displaced start p cost end steps stage shown r =
-    ends-rests start p cost end steps stage shown displaced links.Displaced r
+    ends-rests start p cost end steps stage shown displaced links.Displaced refl r
     (record { why = refl; answered = record { left = p.held.rest; fills = rests-fills start p cost end steps stage shown (Some displaced) r; sent = refl } }, record { ended = r.reads.ended ∙ r.waits.so_far.ended; now = refl })
 
 -- the link would go on, and ends for another reason
 goes_on : (start : Start) (p : Point) (cost : ℕ) → (s : SoFar start p cost) → IsUnfinished p.held.rest → GoesOn s.trace None (spelling_of (replies_in s.trace)) p.held.rest
 goes_on start p cost s unfinished = record { why = refl; framed = framed start p cost s unfinished; sent = refl }
 
-ends-here : (start : Start) (p : Point) (cost : ℕ) (end : LinkState) (answer : LinkEnd) → (s : SoFar start p cost) → Moves p.link [] [] end → p.link.heard ≡ end.heard
+ends-here : (start : Start) (p : Point) (cost : ℕ) (end : LinkState) (answer : LinkEnd) → (s : SoFar start p cost) → Moves p.link [] [] (failed_writes answer) end → p.link.heard ≡ end.heard
     → EndsBy start.turns start.link s.trace (standing p.stage p.link) None (spelling_of (replies_in s.trace)) answer end → Ended start answer p.stage end p.shown p.passed
 ends-here start p cost end answer s still heard by = record {
   asked = steps_in s.trace;
@@ -253,7 +255,7 @@ ends-here start p cost end answer s still heard by = record {
     follows = s.follows;
     stands = refl;
     heard = heard;
-    moves = moves-still start.link p.link end (events_in s.trace) (spelling_of (replies_in s.trace)) s.moves still;
+    moves = moves-still start.link p.link end (events_in s.trace) (spelling_of (replies_in s.trace)) (failed_writes answer) s.moves still;
     reads = s.reads;
     ends = by;
     steps = refl;

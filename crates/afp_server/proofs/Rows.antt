@@ -17,10 +17,10 @@ use Rattle.afp_server.specs.Did.{Did}
 use Rattle.afp_server.specs.OpenSession.{OpenTold, option_bytes}
 use Rattle.afp_server.specs.Replies.{code_word, reply_to, listed, spelling_of}
 use Rattle.afp_server.specs.Script.{ReplyDoes, FrameDoes, Does}
-use Rattle.afp_server.specs.Tally.{tallied, and_told, and_reply, replies_after, refused_after}
+use Rattle.afp_server.specs.Tally.{tallied, and_told, and_reply}
 use Rattle.afp_server.specs.declared.tally.Tally.{Tally}
 use Rattle.afp_server.proofs.Tallies.{tallied-none, tallied-reply}
-use Rattle.afp_server.specs.SessionState.{SessionState, Acts, CalledBy, PulseTold, RestsBy, IsCall, IsCallAnswer, IsOpenAnswer}
+use Rattle.afp_server.specs.lemma.SessionState.{SessionState, Acts, CalledBy, PulseTold, RestsBy, IsCall, IsCallAnswer, IsOpenAnswer}
 use Rattle.dsi_session.specs.Pulse.{silence_limit, seconds_between}
 use Rattle.afp_server.specs.declared.stage.Rest.{Rest}
 use Rattle.afp_server.specs.declared.stage.Rest.TheVariants as rests

@@ -13,12 +13,12 @@ use Rattle.dsi_frame.specs.Frame.{Frame, IsSpelling, IsBadHeader}
 use Rattle.dsi_frame.specs.Stream.{Begins}
 use Rattle.dsi_frame.specs.declared.frame.BadFrame.{BadFrame}
 use Rattle.afp_server.specs.Did.{Did}
-use Rattle.afp_server.specs.LinkRun.{Moves, Fills, EachMayRead, EndsBy, IsAnswered, came_in, cost_of, carries_call}
+use Rattle.afp_server.specs.LinkRun.{Moves, Fills, EachMayRead, EndsBy, failed_writes, IsAnswered, came_in, cost_of, carries_call}
 use Rattle.afp_server.specs.Passing.{calls_in, all_passed, GoThrough}
 use Rattle.afp_server.specs.Replies.{listed, spelling_of}
 use Rattle.afp_server.specs.Script.{Does}
-use Rattle.afp_server.specs.Sending.{Sends, SendsPart}
-use Rattle.afp_server.specs.Serving.{Start, Point, point, SoFar, Ended, end_of_frame}
+use Rattle.afp_server.specs.lemma.Sending.{Sends, SendsPart}
+use Rattle.afp_server.specs.lemma.Serving.{Start, Point, point, SoFar, Ended, end_of_frame}
 use Rattle.afp_server.specs.Trace.{Happening, handled, events_in, frames_in, replies_in, steps_in, standing, Cause, cause_of, Follows}
 use Rattle.afp_server.specs.declared.serve.LinkEnd.TheVariants as links
 use Rattle.afp_server.specs.declared.stage.FrameEnd.{FrameEnd}
@@ -52,12 +52,12 @@ pub record HandlesNext (start : Start) (p : Point) (cost : ℕ) (f : Frame) (did
   pub went : Went p.shown did.steps shown
 
 -- a move that ends in the same events
-pub moves-events : (a b : LinkState) (es fs : List Event) (w v : List ℕ) → es ≡ fs → w ≡ v → Moves a es w b → Moves a fs v b
-moves-events a b es fs w v same sent m = subst (λ (e : List Event). Moves a e v b) same (subst (λ (x : List ℕ). Moves a es x b) sent m)
+pub moves-events : (a b : LinkState) (failed : ℕ) (es fs : List Event) (w v : List ℕ) → es ≡ fs → w ≡ v → Moves a es w failed b → Moves a fs v failed b
+moves-events a b failed es fs w v same sent m = subst (λ (e : List Event). Moves a e v failed b) same (subst (λ (x : List ℕ). Moves a es x failed b) sent m)
 
 -- bytes were written
-pub moves-sends : (a b c : LinkState) (es : List Event) (w v : List ℕ) → Moves a es w b → Moves b [] v c → Moves a es (w ++ v) c
-moves-sends a b c es w v one two = subst (λ (e : List Event). Moves a e (w ++ v) c) (append-nil es) (moves-join a b c es [] w v one two)
+pub moves-sends : (a b c : LinkState) (failed : ℕ) (es : List Event) (w v : List ℕ) → Moves a es w 0 b → Moves b [] v failed c → Moves a es (w ++ v) failed c
+moves-sends a b c failed es w v one two = subst (λ (e : List Event). Moves a e (w ++ v) failed c) (append-nil es) (moves-join a b c es [] w v failed one two)
 
 -- the trace with one frame more
 abbrev pub longer : List Happening → Frame → Did → List Happening
@@ -71,12 +71,12 @@ handles-follows start p cost f did first more shown link why h now heard is =
     (h.does, (λ i. record { stage = did.stage; now = now i; heard = heard i }), is)
 
 pub handles-moves : (start : Start) (p : Point) (cost : ℕ) (f : Frame) (did : Did) (first more : List ℕ) (shown : Shown) (link : LinkState)
-    → (h : HandlesNext start p cost f did first more shown) → Sends p.link (spelling_of (listed did.reply)) link
-    → Moves start.link (events_in (longer h.so_far.trace f did)) (spelling_of (replies_in (longer h.so_far.trace f did))) link
+    → (h : HandlesNext start p cost f did first more shown) → Sends p.link (spelling_of (listed did.reply)) 0 link
+    → Moves start.link (events_in (longer h.so_far.trace f did)) (spelling_of (replies_in (longer h.so_far.trace f did))) 0 link
 handles-moves start p cost f did first more shown link h s =
-    moves-events start.link link (events_in h.so_far.trace) (events_in (longer h.so_far.trace f did)) (spelling_of (replies_in h.so_far.trace) ++ spelling_of (listed did.reply)) (spelling_of (replies_in (longer h.so_far.trace f did)))
+    moves-events start.link link 0 (events_in h.so_far.trace) (events_in (longer h.so_far.trace f did)) (spelling_of (replies_in h.so_far.trace) ++ spelling_of (listed did.reply)) (spelling_of (replies_in (longer h.so_far.trace f did)))
     (sym (events-one h.so_far.trace f did)) (sym (sent-one h.so_far.trace f did))
-    (moves-sends start.link p.link link (events_in h.so_far.trace) (spelling_of (replies_in h.so_far.trace)) (spelling_of (listed did.reply)) h.so_far.moves s.moves)
+    (moves-sends start.link p.link link 0 (events_in h.so_far.trace) (spelling_of (replies_in h.so_far.trace)) (spelling_of (listed did.reply)) h.so_far.moves s.moves)
 
 pub handles-reads : (start : Start) (p : Point) (cost : ℕ) (f : Frame) (did : Did) (first more : List ℕ) (shown : Shown)
     → (h : HandlesNext start p cost f did first more shown) → EachMayRead start.turns start.link.written [] (longer h.so_far.trace f did)
@@ -108,7 +108,7 @@ handles-through start p cost f did first more shown mid passed called h g =
 
 -- the link goes on behind a frame
 pub so_far-handles : (start : Start) (p : Point) (cost : ℕ) (f : Frame) (did : Did) (first more : List ℕ) (shown : Shown) (link : LinkState) (held : Buffered) (mid passed : Passed) (called : Option LinkNumber)
-    → HandlesNext start p cost f did first more shown → PassesFrame p.passed mid passed called did → Sends p.link (spelling_of (listed did.reply)) link → did.end ≡ None
+    → HandlesNext start p cost f did first more shown → PassesFrame p.passed mid passed called did → Sends p.link (spelling_of (listed did.reply)) 0 link → did.end ≡ None
     → held ≡ record { place = p.held.place + length first; rest = more }
     → SoFar start (point held did.stage link shown passed) cost
 so_far-handles start p cost f did first more shown link held mid passed called h g s goes_on is =
@@ -129,9 +129,14 @@ pub handles-answered : (start : Start) (p : Point) (cost : ℕ) (f : Frame) (did
     → (h : HandlesNext start p cost f did first more shown) → IsAnswered (longer h.so_far.trace f did) (spelling_of (replies_in (longer h.so_far.trace f did)))
 handles-answered start p cost f did first more shown h = record { left = more; fills = handles-fills start p cost f did first more shown h; sent = refl }
 
+frame_writes : (end : FrameEnd) (place : ℕ) → failed_writes (end_of_frame end place) ≡ 0
+frame_writes ends.Closed place = refl
+frame_writes ends.Displaced place = refl
+frame_writes (ends.Bad reason) place = refl
+
 -- a frame ends the link
 pub ended-frame : (start : Start) (p : Point) (cost : ℕ) (f : Frame) (did : Did) (first more : List ℕ) (shown : Shown) (link : LinkState) (end : FrameEnd) (mid passed : Passed) (called : Option LinkNumber)
-    → (h : HandlesNext start p cost f did first more shown) → PassesFrame p.passed mid passed called did → Sends p.link (spelling_of (listed did.reply)) link → did.end ≡ Some end
+    → (h : HandlesNext start p cost f did first more shown) → PassesFrame p.passed mid passed called did → Sends p.link (spelling_of (listed did.reply)) 0 link → did.end ≡ Some end
     → EndsBy start.turns start.link (longer h.so_far.trace f did) (standing did.stage link) (Some (cause_of end)) (spelling_of (replies_in (longer h.so_far.trace f did))) (end_of_frame end p.held.place) link
     → Ended start (end_of_frame end p.held.place) did.stage link shown passed
 ended-frame start p cost f did first more shown link end mid passed called h g s is by = record {
@@ -144,7 +149,9 @@ ended-frame start p cost f did first more shown link end mid passed called h g s
     follows = handles-follows start p cost f did first more shown link (Some (cause_of end)) h s.now s.heard (sym (ap (λ (e : Option FrameEnd). option_map cause_of e) is));
     stands = refl;
     heard = refl;
-    moves = handles-moves start p cost f did first more shown link h s;
+    moves =
+        subst (λ (n : ℕ). Moves start.link (events_in (longer h.so_far.trace f did)) (spelling_of (replies_in (longer h.so_far.trace f did))) n link) (sym (frame_writes end p.held.place))
+        (handles-moves start p cost f did first more shown link h s);
     reads = handles-reads start p cost f did first more shown h;
     ends = by;
     steps = refl;
@@ -154,7 +161,7 @@ ended-frame start p cost f did first more shown link end mid passed called h g s
 }
 
 pub ends-frame : (start : Start) (p : Point) (cost : ℕ) (f : Frame) (did : Did) (first more : List ℕ) (shown : Shown) (link : LinkState) (end : FrameEnd) (mid passed : Passed) (called : Option LinkNumber)
-    → (h : HandlesNext start p cost f did first more shown) → PassesFrame p.passed mid passed called did → Sends p.link (spelling_of (listed did.reply)) link → did.end ≡ Some end
+    → (h : HandlesNext start p cost f did first more shown) → PassesFrame p.passed mid passed called did → Sends p.link (spelling_of (listed did.reply)) 0 link → did.end ≡ Some end
     → Ended start (end_of_frame end p.held.place) did.stage link shown passed
 ends-frame start p cost f did first more shown link ends.Closed mid passed called h g s is =
     ended-frame start p cost f did first more shown link ends.Closed mid passed called h g s is
@@ -193,9 +200,9 @@ ends-unwritten start p cost f did first more shown link reply mid called h goes_
     stands = refl;
     heard = refl;
     moves =
-        moves-events start.link link (events_in h.so_far.trace) (events_in (longer h.so_far.trace f did)) (spelling_of (replies_in h.so_far.trace) ++ s.part) (spelling_of (replies_in h.so_far.trace) ++ s.part)
+        moves-events start.link link 1 (events_in h.so_far.trace) (events_in (longer h.so_far.trace f did)) (spelling_of (replies_in h.so_far.trace) ++ s.part) (spelling_of (replies_in h.so_far.trace) ++ s.part)
         (sym (events-one h.so_far.trace f did)) refl
-        (moves-sends start.link p.link link (events_in h.so_far.trace) (spelling_of (replies_in h.so_far.trace)) s.part h.so_far.moves s.sends.moves);
+        (moves-sends start.link p.link link 1 (events_in h.so_far.trace) (spelling_of (replies_in h.so_far.trace)) s.part h.so_far.moves s.sends.moves);
     reads = handles-reads start p cost f did first more shown h;
     ends = (
       record {
@@ -212,7 +219,6 @@ ends-unwritten start p cost f did first more shown link reply mid called h goes_
         some_lost = s.some_lost;
         cut = s.cut ∙ ap (λ (o : Option Frame). spelling_of (listed o)) is;
         sent = refl;
-        fault = (omega (arith, h.so_far.moves.write_faults, s.fault), omega (arith, h.so_far.moves.write_faults, s.fault));
       },
       record { ended = s.sends.ended ∙ h.so_far.ended; now = refl },
     );

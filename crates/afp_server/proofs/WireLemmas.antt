@@ -16,11 +16,12 @@ use Rattle.afp_server.specs.Did.{Did}
 use Rattle.afp_server.specs.LinkRun.{Fills}
 use Rattle.afp_server.specs.Replies.{listed, spelling_of}
 use Rattle.afp_server.specs.Script.{Does, Script}
-use Rattle.afp_server.specs.SessionState.{SessionState}
+use Rattle.afp_server.specs.lemma.SessionState.{SessionState}
 use Rattle.afp_server.specs.Tally.{no_tally, tallied}
 use Rattle.afp_server.proofs.Tallies.{tallied-join}
 use Rattle.afp_server.specs.declared.tally.Tally.{Tally}
-use Rattle.afp_server.specs.Wire.{FeedStart, FeedPoint, feed_point, Handled, FedSoFar, FedToEnd, FedTo, Feeds, Answers, end_of_frame}
+use Rattle.afp_server.specs.Wire.{FeedStart, FeedPoint, feed_point, Handled, FedSoFar, FedToEnd, FedTo, Feeds}
+use Rattle.afp_server.specs.lemma.Feeding.{Answers, end_of_frame}
 use Rattle.afp_server.specs.declared.stage.FrameEnd.{FrameEnd}
 use Rattle.afp_server.specs.declared.stage.FrameEnd.TheVariants as ends
 use Rattle.afp_server.specs.declared.stage.Stage.{Stage}

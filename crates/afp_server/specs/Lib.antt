@@ -8,10 +8,7 @@ pub mod OpenSession
 pub mod Passing
 pub mod Replies
 pub mod Script
-pub mod SessionState
 pub mod Trace
-pub mod Reading
-pub mod Sending
-pub mod Serving
 pub mod Tally
 pub mod Wire
+pub mod lemma

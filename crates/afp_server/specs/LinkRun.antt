@@ -32,14 +32,15 @@ quiets_in (quiet written now ∷ events) = 1 + quiets_in events
 abbrev pub cost_of : List Event → ℕ
 cost_of events = length (taken events) + quiets_in events
 
--- A link moved on: its reads gave these events, these bytes were written, and no count fell.
-pub record Moves (old : LinkState) (events : List Event) (wrote : List ℕ) (new : LinkState) : Type 0 where
+-- A link moved on: its reads gave these events, these bytes were written, and so many writes failed. Faults of reading may be counted
+-- beside reads that do not fail, since a read's clock may fail.
+pub record Moves (old : LinkState) (events : List Event) (wrote : List ℕ) (failed : ℕ) (new : LinkState) : Type 0 where
   pub told : new.events ≡ option_map (λ before. before ++ events) old.events
   pub coming : old.coming ≡ option_map (λ left. taken events ++ left) new.coming
   pub written : new.written ≡ option_map (λ before. before ++ wrote) old.written
   pub quiets : Counts (quiets_in events) old.quiets new.quiets
   pub read_faults : old.read_faults ≤ new.read_faults
-  pub write_faults : old.write_faults ≤ new.write_faults
+  pub write_faults : Counts failed old.write_faults new.write_faults
 
 -- The bytes begin with these frames, one after another, and this is left behind them.
 pub record Fills (bytes : List ℕ) (frames : List Frame) (left : List ℕ) : Type 0 where
@@ -157,9 +158,8 @@ pub record EndsUnread (turns : ℕ) (trace : List Happening) (cause : Option Cau
   pub below : cost_of (events_in trace) < turns
   pub fault : Rises 1 old.read_faults new.read_faults
 
--- The last reply could not be written whole, and the fault is counted: what was written is the replies before it, and a first
--- part of it.
-pub record EndsUnwritten (trace : List Happening) (wrote : List ℕ) (old new : LinkState) : Type 0 where
+-- The last reply could not be written whole: what was written is the replies before it, and a first part of it.
+pub record EndsUnwritten (trace : List Happening) (wrote : List ℕ) : Type 0 where
   pub before : List Happening
   pub last : Frame
   pub did : Did
@@ -173,7 +173,6 @@ pub record EndsUnwritten (trace : List Happening) (wrote : List ℕ) (old new : 
   pub some_lost : 0 < length lost
   pub cut : part ++ lost ≡ spelling_of (reply ∷ [])
   pub sent : wrote ≡ spelling_of (replies_in before) ++ part
-  pub fault : Rises 1 old.write_faults new.write_faults
 
 -- The link would read again, and the cost so far has reached the limit.
 pub record EndsSpent (turns : ℕ) (trace : List Happening) (cause : Option Cause) (wrote : List ℕ) : Type 0 where
@@ -219,9 +218,23 @@ EndsBy turns old trace last cause wrote (ends.Silent heard now) new = EndsSilent
 EndsBy turns old trace last cause wrote ends.Displaced new = EndsDisplaced trace cause wrote × StaysAt old last new
 EndsBy turns old trace last cause wrote ends.Drained new = ⊥
 EndsBy turns old trace last cause wrote ends.ReadFault new = EndsUnread turns trace cause wrote old new × (new.ended ≡ old.ended)
-EndsBy turns old trace last cause wrote ends.WriteFault new = EndsUnwritten trace wrote old new × StaysAt old last new
+EndsBy turns old trace last cause wrote ends.WriteFault new = EndsUnwritten trace wrote × StaysAt old last new
 EndsBy turns old trace last cause wrote ends.Spent new = EndsSpent turns trace cause wrote × StaysAt old last new
 EndsBy turns old trace last cause wrote ends.Memory new = EndsUncopied trace cause wrote last.stage × StaysAt old last new
+
+-- how many writes failed: one where the link ended so, and else none
+abbrev pub failed_writes : LinkEnd → ℕ
+failed_writes ends.Closed = 0
+failed_writes ends.Ended = 0
+failed_writes (ends.Cut at) = 0
+failed_writes (ends.Bad b) = 0
+failed_writes (ends.Silent heard now) = 0
+failed_writes ends.Displaced = 0
+failed_writes ends.Drained = 0
+failed_writes ends.ReadFault = 0
+failed_writes ends.WriteFault = 1
+failed_writes ends.Spent = 0
+failed_writes ends.Memory = 0
 
 -- Where the session is still open at the end, the link tells that it was lost, whatever that is told.
 abbrev pub Parts : Stage → ℕ → List Step → Type 0
@@ -239,7 +252,7 @@ pub record ComesTo (block : List ℕ) (turns : ℕ) (old : LinkState) (answer : 
   pub follows : Follows block (standing stages.Fresh old) trace last cause
   pub stands : last.stage ≡ stage
   pub heard : last.heard ≡ new.heard
-  pub moves : Moves old (events_in trace) wrote new
+  pub moves : Moves old (events_in trace) wrote (failed_writes answer) new
   pub reads : EachMayRead turns old.written [] trace
   pub ends : EndsBy turns old trace last cause wrote answer new
   pub steps : asked ≡ steps_in trace

@@ -1,6 +1,5 @@
 -- What a link that is fed as bytes does (this profile).
-use Rattle.std.specs.Prelude.{◌≡◌, ◌⊎◌, ℕ, ◌+◌, List, [], ◌∷◌, ◌++◌, length, Option, Some, None, Result, Ok, Err, All}
-use Rattle.afp_base.specs.declared.bytes.OutOfMemory.{OutOfMemory}
+use Rattle.std.specs.Prelude.{◌≡◌, ◌⊎◌, ℕ, ◌+◌, List, [], ◌∷◌, ◌++◌, length, Option, Some, None, All}
 use Rattle.afp_base.specs.declared.ids.LinkNumber.{LinkNumber}
 use Rattle.afp_serial.specs.Shown.{Shown}
 use Rattle.afp_serial.specs.Went.{Step, Went}
@@ -9,11 +8,9 @@ use Rattle.dsi_frame.specs.Deframe.{GivenOut}
 use Rattle.dsi_frame.specs.Frame.{Frame}
 use Rattle.dsi_frame.specs.Stream.{Begins, IsUnfinished, Stopped}
 use Rattle.dsi_frame.specs.declared.frame.BadFrame.{BadFrame}
-use Rattle.afp_server.specs.Did.{Did}
-use Rattle.afp_server.specs.LinkRun.{Fills}
-use Rattle.afp_server.specs.Replies.{listed, spelling_of}
-use Rattle.afp_server.specs.Script.{Does, Script}
-use Rattle.afp_server.specs.SessionState.{SessionState}
+use Rattle.afp_server.specs.LinkRun.{Fills, Parts}
+use Rattle.afp_server.specs.Replies.{spelling_of}
+use Rattle.afp_server.specs.Script.{Script}
 use Rattle.afp_server.specs.Tally.{no_tally, tallied}
 use Rattle.afp_server.specs.declared.stage.FrameEnd.{FrameEnd}
 use Rattle.afp_server.specs.declared.stage.FrameEnd.TheVariants as ends
@@ -114,26 +111,13 @@ FedTo start bytes wires.Displaced p = FedToEnd start bytes ends.Displaced p
 FedTo start bytes (wires.Bad b) p = FedToHeader start bytes b p ⊎ FedToFrame start bytes b p
 FedTo start bytes wires.Memory p = FedInPart start bytes p
 
--- The frame at the front was handled: the link goes on, or ends.
-abbrev pub FeedsFrame : FeedStart → List ℕ → Option WireEnd → Buffered → FeedPoint → Type 0
-FeedsFrame start bytes None held p = FedSoFar start bytes held p
-FeedsFrame start bytes (Some end) held p = FedTo start bytes end p
-
 -- All whole frames of these bytes were handled, and less than a frame is left; or the link ended.
 abbrev pub Feeds : FeedStart → List ℕ → Option WireEnd → Buffered → FeedPoint → Type 0
 Feeds start bytes None held p = FedSoFar start bytes held p × IsUnfinished held.rest
 Feeds start bytes (Some end) held p = FedTo start bytes end p
 
--- A frame is handled by its row, and its reply stands behind what was in `out`; or there was no memory, and nothing happened.
-abbrev pub Answers : ℕ → Frame → SessionState → List ℕ → Shown → Result (Option FrameEnd) OutOfMemory → SessionState → List ℕ → Shown → Type 0
-Answers now f old out before (Ok end) new sent after =
-    (did : Did) × Does old.block now old.stage f did × Went before did.steps after × (new.block ≡ old.block) × (new.stage ≡ did.stage)
-    × (sent ≡ out ++ spelling_of (listed did.reply)) × (end ≡ did.end) × (new.tally ≡ tallied old.tally did.steps (listed did.reply))
-Answers now f old out before (Err fault) new sent after =
-    (new.block ≡ old.block) × (new.stage ≡ old.stage) × (sent ≡ out) × (after ≡ before) × (new.tally ≡ old.tally)
-
--- why a wire ends, by the frame that ends it, which begins at this place
-abbrev pub end_of_frame : FrameEnd → ℕ → WireEnd
-end_of_frame ends.Closed at = wires.Closed
-end_of_frame ends.Displaced at = wires.Displaced
-end_of_frame (ends.Bad reason) at = wires.Bad (record { at = at; reason = reason })
+-- The end of a link, with what was asked at it.
+pub record PartsBy (stage : Stage) (now : ℕ) (before after : Shown) : Type 0 where
+  pub steps : List Step
+  pub parts : Parts stage now steps
+  pub went : Went before steps after

@@ -3,7 +3,7 @@ ghost use Rattle.std.specs.Prelude.{◌≡◌, ◌≢◌, ◌<◌, ℕ, length, 
 ghost use Rattle.afp_outside.specs.Gate.{out_by};
 ghost use Rattle.dsi_frame.specs.Frame.{Frame, header_of};
 ghost use Rattle.dsi_frame.specs.Stream.{Begins};
-ghost use Rattle.afp_server.specs.Serving.{Start, SoFar, ServesFrame, ServesFrames, point, end_of_frame};
+ghost use Rattle.afp_server.specs.lemma.Serving.{Start, SoFar, ServesFrame, ServesFrames, point, end_of_frame};
 
 use crate::send::send_all;
 use crate::serve::LinkEnd;

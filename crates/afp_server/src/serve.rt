@@ -6,8 +6,8 @@ ghost use Rattle.afp_serial.specs.Went.{Step, Went};
 ghost use Rattle.afp_server.specs.LinkRun.{IsRun, IsServed};
 ghost use Rattle.afp_outside.specs.Gate.{none_passed};
 ghost use Rattle.afp_server.specs.Passing.{Passes};
-ghost use Rattle.afp_server.specs.Reading.{ReadsMore, TakesAtMost};
-ghost use Rattle.afp_server.specs.Serving.{Ended, RestsLink};
+ghost use Rattle.afp_server.specs.lemma.Reading.{ReadsMore, TakesAtMost};
+ghost use Rattle.afp_server.specs.lemma.Serving.{Ended, RestsLink};
 
 use crate::frames::serve_frames;
 use crate::session::Session;

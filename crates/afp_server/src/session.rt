@@ -19,7 +19,8 @@ ghost use Rattle.afp_serial.specs.Shown.{fits_frame};
 ghost use Rattle.afp_server.specs.OpenSession.{OpenTold};
 ghost use Rattle.afp_server.specs.Replies.{code_word, reply_to};
 ghost use Rattle.afp_server.specs.Script.{FreshDoes, ReplyDoes};
-ghost use Rattle.afp_server.specs.SessionState.{Acts, Handles, HandlesOpen, CalledBy, RestsBy, PartsBy, PulseTold, IsCall, IsCallAnswer, IsOpenAnswer};
+ghost use Rattle.afp_server.specs.lemma.SessionState.{Acts, Handles, HandlesOpen, CalledBy, RestsBy, PulseTold, IsCall, IsCallAnswer, IsOpenAnswer};
+ghost use Rattle.afp_server.specs.Wire.{PartsBy};
 ghost use Rattle.afp_server.specs.Tally.{no_tally, and_reply, and_told};
 ghost use Rattle.afp_server.specs.Wire.{open_link};
 ghost use Rattle.dsi_frame.specs.Frame.{Frame};
@@ -54,7 +55,7 @@ pub struct Session {
 
 impl Model for Session {
     ghost use Rattle.std.specs.Prelude.{◌≡◌, ◌≤◌, length, take};
-    ghost use Rattle.afp_server.specs.SessionState.{SessionState};
+    ghost use Rattle.afp_server.specs.lemma.SessionState.{SessionState};
 
     ghost Value = { SessionState };
 

@@ -5,9 +5,10 @@ ghost use Rattle.dsi_frame.specs.Buffered.{buffer_length};
 ghost use Rattle.dsi_frame.specs.Deframe.{GivenOut};
 ghost use Rattle.dsi_frame.specs.Frame.{Frame, frame_of, header_of};
 ghost use Rattle.dsi_frame.specs.Stream.{Begins};
-ghost use Rattle.afp_server.specs.SessionState.{PartsBy};
+ghost use Rattle.afp_server.specs.Wire.{PartsBy};
 ghost use Rattle.afp_server.specs.Tally.{no_tally};
-ghost use Rattle.afp_server.specs.Wire.{FeedStart, FedSoFar, Feeds, FeedsFrame, Answers, end_of_frame, feed_point, open_link};
+ghost use Rattle.afp_server.specs.Wire.{FeedStart, FedSoFar, Feeds, feed_point, open_link};
+ghost use Rattle.afp_server.specs.lemma.Feeding.{FeedsFrame, Answers, end_of_frame};
 
 use crate::reply::MOST_REPLY;
 use crate::session::Session;

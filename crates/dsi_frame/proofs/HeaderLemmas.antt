@@ -7,7 +7,8 @@ use Rattle.dsi_frame.specs.declared.frame.DsiCommand.TheVariants as commands
 use Rattle.dsi_frame.specs.declared.frame.Reason.{Reason}
 use Rattle.dsi_frame.specs.declared.frame.Reason.TheVariants as reasons
 use Rattle.dsi_frame.specs.declared.frame.Header.{Header}
-use Rattle.dsi_frame.specs.Frame.{IsGoodHeader, WordFits, header_fault, first_found, flags_byte, flags_in, command_number, command_in, id_in, word_in, length_in, is_listed, payload_limit}
+use Rattle.dsi_frame.specs.Frame.{WordFits, header_fault, first_found, flags_byte, flags_in, command_number, command_in, word_in, length_in, is_listed, payload_limit}
+use Rattle.dsi_frame.specs.lemma.GoodHeader.{IsGoodHeader, id_in}
 
 -- the fault that four fields of a header show
 abbrev pub fault_of : ℕ → ℕ → ℕ → ℕ → Option Reason

@@ -1,8 +1,7 @@
 -- What a deframer holds, and what it says of it.
-use Rattle.std.specs.Prelude.{◌≡◌, ℕ, List, ◌++◌, length, Option, None, Some}
+use Rattle.std.specs.Prelude.{◌≡◌, ℕ, List, ◌++◌, length}
 use Rattle.dsi_frame.specs.declared.frame.Head.{Head}
 use Rattle.dsi_frame.specs.declared.frame.Head.TheVariants as heads
-use Rattle.dsi_frame.specs.declared.frame.BadFrame.{BadFrame}
 use Rattle.dsi_frame.specs.declared.stream.StreamEnd.{StreamEnd}
 use Rattle.dsi_frame.specs.declared.stream.StreamEnd.TheVariants as ends
 use Rattle.dsi_frame.specs.Frame.{Frame, IsBadHeader, header_of}
@@ -28,8 +27,3 @@ pub record GivenOut (bytes : List ℕ) (frames : List Frame) (b : Buffered) : Ty
   pub spelled : Spelled filled frames
   pub whole : bytes ≡ filled ++ b.rest
   pub place : b.place ≡ length filled
-
--- the frames of the stream so far were given out, or they end at a bad header
-abbrev pub GivenOutTo : List ℕ → List Frame → Buffered → Option BadFrame → Type 0
-GivenOutTo bytes frames b None = GivenOut bytes frames b
-GivenOutTo bytes frames b (Some bad) = Stopped bytes frames bad.at bad.reason

@@ -1,5 +1,4 @@
--- Frames of the Data Stream Interface, and their bytes (AFP over TCP, "DSI header"). All numbers are
--- big-endian.
+-- Frames of the Data Stream Interface, and their bytes (AFP over TCP, "DSI header"). All numbers are big-endian.
 use Rattle.std.specs.Prelude.{◌≡◌, ◌==◌, ◌&&◌, ℕ, ◌^◌, ◌<◌, ◌≤◌, Bool, false, nat_lt, not, if◌then◌else◌, List, [], ◌∷◌, ◌++◌, length, drop, slice_index, Option, Some, None}
 use Rattle.std.specs.List.{list_any}
 use Rattle.byteorder.specs.Endian.{big_number, big_bytes}
@@ -85,9 +84,6 @@ flags_in bytes = slice_index bytes 0
 abbrev pub command_in : List ℕ → ℕ
 command_in bytes = slice_index bytes 1
 
-abbrev pub id_in : List ℕ → ℕ
-id_in bytes = big_number 2 (drop 2 bytes)
-
 abbrev pub word_in : List ℕ → ℕ
 word_in bytes = big_number 4 (drop 4 bytes)
 
@@ -133,16 +129,6 @@ header_of f = record { reply = f.reply; command = f.command; id = f.id; word = f
 abbrev pub canonical_header : Header → List ℕ
 canonical_header h = (flags_byte h.reply ∷ command_number h.command ∷ []) ++ big_bytes 2 h.id ++ big_bytes 4 h.word
     ++ big_bytes 4 h.length ++ (0 ∷ 0 ∷ 0 ∷ 0 ∷ [])
-
--- the bytes begin with this header, and it is good
-pub record IsGoodHeader (bytes : List ℕ) (h : Header) : Type 0 where
-  pub flags : flags_in bytes ≡ flags_byte h.reply
-  pub command : command_in bytes ≡ command_number h.command
-  pub id : id_in bytes ≡ h.id
-  pub word : word_in bytes ≡ h.word
-  pub size : length_in bytes ≡ h.length
-  pub limit : h.length ≤ payload_limit
-  pub offset : WordFits h.reply h.command h.word h.length
 
 -- each is below 256
 abbrev pub IsBytes : List ℕ → Type 0

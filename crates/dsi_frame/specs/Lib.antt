@@ -2,3 +2,4 @@ pub mod Buffered
 pub mod Deframe
 pub mod Frame
 pub mod Stream
+pub mod lemma

@@ -1,7 +1,8 @@
 //! Headers of frames, and the writing of frames.
 ghost use Rattle.std.specs.Prelude.{◌≡◌, ◌+◌, ◌≤◌, ◌++◌, false, length, drop, IfOk, IfErr, OnOk, OnErr, MatchOption};
 ghost use Rattle.byteorder.specs.Endian.{big_number};
-ghost use Rattle.dsi_frame.specs.Frame.{frame_of, canonical_frame, canonical_header, header_fault, command_number, is_listed, payload_limit, header_length, IsGoodHeader, WordFits};
+ghost use Rattle.dsi_frame.specs.Frame.{frame_of, canonical_frame, canonical_header, header_fault, command_number, is_listed, payload_limit, header_length, WordFits};
+ghost use Rattle.dsi_frame.specs.lemma.GoodHeader.{IsGoodHeader};
 
 use afp_base::{Bytes, OutOfMemory};
 use byteorder::{BigEndian, ByteOrder};

@@ -1,7 +1,8 @@
 //! The frames of a whole stream.
 ghost use Rattle.std.specs.Prelude.{◌≡◌, ◌+◌, ◌<◌, ◌^◌, ◌++◌, ◌∷◌, [], List, ℕ, length, flat_map, IfOk, OnOk, OnErr, IfNone};
 ghost use Rattle.dsi_frame.specs.Buffered.{buffer_length};
-ghost use Rattle.dsi_frame.specs.Deframe.{GivenOut, GivenOutTo, IsStream};
+ghost use Rattle.dsi_frame.specs.Deframe.{GivenOut, IsStream};
+ghost use Rattle.dsi_frame.specs.lemma.GivenOut.{GivenOutTo};
 ghost use Rattle.dsi_frame.specs.Frame.{frame_of};
 ghost use Rattle.dsi_frame.specs.Stream.{IsUnfinished};
 

@@ -5,7 +5,7 @@ use Rattle.afp_outside.specs.Gate.{in_by}
 use Rattle.dsi_frame.specs.Frame.{frame_of}
 use Rattle.dsi_frame.specs.declared.frame.Header.{Header}
 use Rattle.afp_server.specs.LinkRun.{carries_call}
-use Rattle.afp_server.specs.Serving.{point}
+use Rattle.afp_server.specs.lemma.Serving.{point}
 use Rattle.afp_server.proofs.FrameSteps.{frame_is, next, frame-goes_on, frame-less, frame-ends, frame-unwritten}
 use Rattle.afp_server.proofs.Passing.{called-is}
 use Rattle.afp_server.proofs.Serving.{ends-uncopied}

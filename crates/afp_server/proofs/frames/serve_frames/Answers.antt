@@ -1,5 +1,5 @@
 use Rattle.std.proofs.Common.{sym, ◌∙◌}
-use Rattle.afp_server.specs.Serving.{point}
+use Rattle.afp_server.specs.lemma.Serving.{point}
 use Rattle.afp_server.proofs.Serving.{ends-header}
 use Rattle.afp_server.proofs.frames.serve_frames.Goals as goal
 

@@ -1,5 +1,5 @@
 use Rattle.std.proofs.Common.{◌≡◌, ◌≢◌, ℕ, length}
-use Rattle.afp_server.specs.Serving.{Start, SoFar, point}
+use Rattle.afp_server.specs.lemma.Serving.{Start, SoFar, point}
 use Rattle.afp_server.specs.declared.stage.Stage.TheVariants as stages
 use Rattle.afp_server.proofs.frames.serve_frames.Given as goal
 

@@ -2,7 +2,7 @@ use Rattle.std.proofs.Common.{arith, ◌+◌, length, refl, sym, ◌∙◌, ap, 
 use Rattle.std.specs.Prelude.{None}
 use Rattle.afp_outside.specs.Gate.{Passed, none_passed}
 use Rattle.dsi_frame.specs.Buffered.{Buffered}
-use Rattle.afp_server.specs.Serving.{Start, Point, point, SoFar, ServesFrames}
+use Rattle.afp_server.specs.lemma.Serving.{Start, Point, point, SoFar, ServesFrames}
 use Rattle.afp_server.specs.declared.serve.LinkEnd.TheVariants as links
 use Rattle.afp_server.specs.declared.stage.Stage.{Stage}
 use Rattle.afp_server.specs.declared.stage.Stage.TheVariants as stages

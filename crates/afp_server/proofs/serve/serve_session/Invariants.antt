@@ -1,5 +1,5 @@
 use Rattle.std.proofs.Common.{◌≡◌, ◌≢◌, ◌-◌}
-use Rattle.afp_server.specs.Serving.{SoFar, point}
+use Rattle.afp_server.specs.lemma.Serving.{SoFar, point}
 use Rattle.afp_server.specs.declared.stage.Stage.TheVariants as stages
 use Rattle.afp_server.proofs.serve.serve_session.Given as goal
 

@@ -3,7 +3,7 @@ use Rattle.afp_serial.specs.declared.ask.Ask.TheVariants as asks
 use Rattle.afp_serial.specs.Shown.{Shown}
 use Rattle.afp_serial.specs.Went.{step}
 use Rattle.afp_serial.proofs.Grows.{went-one, went-none}
-use Rattle.afp_server.specs.SessionState.{PartsBy}
+use Rattle.afp_server.specs.Wire.{PartsBy}
 use Rattle.afp_server.specs.declared.stage.Stage.{Stage}
 use Rattle.afp_server.proofs.session.ask_lost.Goals as goal
 

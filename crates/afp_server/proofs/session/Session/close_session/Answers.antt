@@ -4,7 +4,7 @@ use Rattle.afp_serial.specs.Went.{step}
 use Rattle.afp_serial.proofs.Grows.{went-one}
 use Rattle.afp_server.specs.CloseSession.{closes}
 use Rattle.afp_server.specs.Did.{Did}
-use Rattle.afp_server.specs.SessionState.{SessionState}
+use Rattle.afp_server.specs.lemma.SessionState.{SessionState}
 use Rattle.afp_server.proofs.Rows.{acts-asks}
 use Rattle.afp_server.proofs.session.Session.close_session.Goals as goal
 

@@ -3,7 +3,7 @@ use Rattle.std.specs.Prelude.{None}
 use Rattle.dsi_frame.specs.Frame.{Frame, frame_of}
 use Rattle.afp_server.specs.Did.{Did}
 use Rattle.afp_server.specs.Passing.{call_link}
-use Rattle.afp_server.specs.SessionState.{SessionState}
+use Rattle.afp_server.specs.lemma.SessionState.{SessionState}
 use Rattle.afp_server.proofs.Passing.{not_called, unpassed}
 use Rattle.afp_server.proofs.Rows.{acts-still, does-reply}
 use Rattle.afp_server.proofs.session.Session.handle.Goals as goal

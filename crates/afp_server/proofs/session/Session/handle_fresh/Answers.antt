@@ -8,7 +8,7 @@ use Rattle.afp_server.specs.Did.{Did, nothing, is_bad}
 use Rattle.afp_server.specs.GetStatus.{gets_status}
 use Rattle.afp_server.specs.Replies.{reply_to}
 use Rattle.afp_server.specs.Script.{FreshDoes}
-use Rattle.afp_server.specs.SessionState.{SessionState}
+use Rattle.afp_server.specs.lemma.SessionState.{SessionState}
 use Rattle.afp_server.specs.declared.stage.Stage.TheVariants.{Fresh}
 use Rattle.afp_server.proofs.Rows.{acts-still, acts-replies}
 use Rattle.afp_server.proofs.session.Session.handle_fresh.Goals as goal

@@ -11,7 +11,7 @@ use Rattle.dsi_session.specs.Options.{attention_of}
 use Rattle.afp_server.specs.Did.{Did, replies}
 use Rattle.afp_server.specs.OpenSession.{no_link}
 use Rattle.afp_server.specs.Replies.{reply_to}
-use Rattle.afp_server.specs.SessionState.{SessionState}
+use Rattle.afp_server.specs.lemma.SessionState.{SessionState}
 use Rattle.afp_server.specs.Tally.{and_reply, and_told}
 use Rattle.afp_server.specs.declared.stage.Stage.TheVariants.{Fresh}
 use Rattle.afp_server.proofs.Rows.{acts-asks, acts-replies, open-told, replied}

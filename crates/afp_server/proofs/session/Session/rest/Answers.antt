@@ -1,5 +1,5 @@
 use Rattle.std.proofs.Common.{sym, ap, ◌∙◌}
-use Rattle.afp_server.specs.SessionState.{SessionState}
+use Rattle.afp_server.specs.lemma.SessionState.{SessionState}
 use Rattle.afp_server.proofs.Rows.{rests-silent, rests-fresh, rests-pulse, pulse-live, true_part, false_part}
 use Rattle.afp_server.proofs.session.Session.rest.Goals as goal
 

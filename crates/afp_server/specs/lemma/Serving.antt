@@ -10,7 +10,7 @@ use Rattle.afp_server.specs.LinkRun.{Moves, Fills, EachMayRead, ComesTo, came_in
 use Rattle.afp_server.specs.Passing.{all_passed, GoThrough}
 use Rattle.afp_server.specs.Replies.{spelling_of}
 use Rattle.afp_server.specs.Trace.{Happening, events_in, frames_in, replies_in, steps_in, standing, Follows}
-use Rattle.afp_server.specs.SessionState.{SessionState, RestsBy}
+use Rattle.afp_server.specs.lemma.SessionState.{SessionState, RestsBy}
 use Rattle.afp_server.specs.declared.serve.LinkEnd.{LinkEnd}
 use Rattle.afp_server.specs.declared.serve.LinkEnd.TheVariants as links
 use Rattle.afp_server.specs.declared.stage.FrameEnd.{FrameEnd}
@@ -41,7 +41,7 @@ point held stage link shown passed = record { held = held; stage = stage; link =
 pub record SoFar (start : Start) (p : Point) (cost : ℕ) : Type 0 where
   pub trace : List Happening
   pub follows : Follows start.block (standing stages.Fresh start.link) trace (standing p.stage p.link) None
-  pub moves : Moves start.link (events_in trace) (spelling_of (replies_in trace)) p.link
+  pub moves : Moves start.link (events_in trace) (spelling_of (replies_in trace)) 0 p.link
   pub ended : p.link.ended ≡ start.link.ended
   pub reads : EachMayRead start.turns start.link.written [] trace
   pub fills : Fills (came_in trace) (frames_in trace) p.held.rest

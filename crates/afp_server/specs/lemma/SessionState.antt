@@ -10,7 +10,7 @@ use Rattle.afp_serial.specs.Shown.{Shown, is_answer_to}
 use Rattle.afp_serial.specs.Went.{Step, Went}
 use Rattle.dsi_frame.specs.Frame.{Frame}
 use Rattle.afp_server.specs.Did.{Did}
-use Rattle.afp_server.specs.LinkRun.{Parts, carries_call}
+use Rattle.afp_server.specs.LinkRun.{carries_call}
 use Rattle.afp_server.specs.Replies.{listed, spelling_of}
 use Rattle.afp_server.specs.Calls.{CallTold}
 use Rattle.dsi_frame.specs.declared.frame.DsiCommand.{DsiCommand}
@@ -73,12 +73,6 @@ PulseTold (tells.Reply c block ends) old rest new = (rest ≡ rests.On) × (new 
 PulseTold (tells.Live drain) old rest new = (rest ≡ rests.On) × (new ≡ old)
 PulseTold tells.Done old rest new = (rest ≡ rests.On) × (new ≡ old)
 PulseTold tells.Memory old rest new = (rest ≡ rests.On) × (new ≡ old)
-
--- The end of a link, with what was asked at it.
-pub record PartsBy (stage : Stage) (now : ℕ) (before after : Shown) : Type 0 where
-  pub steps : List Step
-  pub parts : Parts stage now steps
-  pub went : Went before steps after
 
 -- A call was replied to, or not, and the link goes on or ends, by what it was told.
 pub record CalledBy (f : Frame) (told : Told) (reply : Option Frame) (old new : SessionState) (end : Option FrameEnd) : Type 0 where

@@ -1,26 +1,24 @@
 -- What it is to write a whole piece to a link (this profile).
 use Rattle.std.specs.Prelude.{◌≡◌, ℕ, ◌<◌, Bool, true, false, List, [], ◌++◌, length}
-use Rattle.afp_base.specs.Counts.{Rises}
 use Rattle.afp_outside.specs.Link.{LinkState}
 use Rattle.afp_server.specs.LinkRun.{Moves}
 
--- Nothing was read, and the moments and whether the link ended stay: these bytes were written.
-pub record Sends (old : LinkState) (wrote : List ℕ) (new : LinkState) : Type 0 where
-  pub moves : Moves old [] wrote new
+-- Nothing was read, and the moments and whether the link ended stay: these bytes were written, and so many writes failed.
+pub record Sends (old : LinkState) (wrote : List ℕ) (failed : ℕ) (new : LinkState) : Type 0 where
+  pub moves : Moves old [] wrote failed new
   pub ended : new.ended ≡ old.ended
   pub now : new.now ≡ old.now
   pub heard : new.heard ≡ old.heard
 
--- A write failed behind a first part of the piece, and its fault is counted.
+-- One write failed, behind a first part of the piece, and its fault is counted.
 pub record SendsPart (old : LinkState) (offered : List ℕ) (new : LinkState) : Type 0 where
   pub part : List ℕ
   pub lost : List ℕ
   pub some_lost : 0 < length lost
   pub cut : part ++ lost ≡ offered
-  pub sends : Sends old part new
-  pub fault : Rises 1 old.write_faults new.write_faults
+  pub sends : Sends old part 1 new
 
 -- by the answer: whether all was written
 abbrev pub SendsAll : LinkState → List ℕ → Bool → LinkState → Type 0
-SendsAll old offered true new = Sends old offered new
+SendsAll old offered true new = Sends old offered 0 new
 SendsAll old offered false new = SendsPart old offered new

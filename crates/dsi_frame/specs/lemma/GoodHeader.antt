@@ -1,0 +1,18 @@
+-- A header that is read.
+use Rattle.std.specs.Prelude.{◌≡◌, ℕ, ◌≤◌, List, drop}
+use Rattle.byteorder.specs.Endian.{big_number}
+use Rattle.dsi_frame.specs.declared.frame.Header.{Header}
+use Rattle.dsi_frame.specs.Frame.{payload_limit, command_number, flags_byte, WordFits, flags_in, command_in, word_in, length_in}
+
+abbrev pub id_in : List ℕ → ℕ
+id_in bytes = big_number 2 (drop 2 bytes)
+
+-- the bytes begin with this header, and it is good
+pub record IsGoodHeader (bytes : List ℕ) (h : Header) : Type 0 where
+  pub flags : flags_in bytes ≡ flags_byte h.reply
+  pub command : command_in bytes ≡ command_number h.command
+  pub id : id_in bytes ≡ h.id
+  pub word : word_in bytes ≡ h.word
+  pub size : length_in bytes ≡ h.length
+  pub limit : h.length ≤ payload_limit
+  pub offset : WordFits h.reply h.command h.word h.length
