@@ -25,7 +25,7 @@ fits-frame w e code block ends sound legal is = leb-true (length block) longest_
 
 -- a call of an attached session, by its verdict
 
-told-by : (w : World) (e : Entry) (id : ℕ) (write : Bool) (offset : ℕ) (payload : List ℕ) (s : Session) (v : Verdict) (o : Outcome) → e.ask ≡ ask.Call id write offset payload → session_at w e.link.0 ≡ Some s → verdict (at_moment w e.at) s (request id write offset payload) ≡ v → e.outcome ≡ o → answer w e ≡ told_verdict (at_moment w e.at) s v o
+pub told-by : (w : World) (e : Entry) (id : ℕ) (write : Bool) (offset : ℕ) (payload : List ℕ) (s : Session) (v : Verdict) (o : Outcome) → e.ask ≡ ask.Call id write offset payload → session_at w e.link.0 ≡ Some s → verdict (at_moment w e.at) s (request id write offset payload) ≡ v → e.outcome ≡ o → answer w e ≡ told_verdict (at_moment w e.at) s v o
 unfolding answer_at
 told-by w e id write offset payload s v o asked attached is went =
     (λ i. answer_at (at_moment w e.at) e.link.0 (asked i) (went i))

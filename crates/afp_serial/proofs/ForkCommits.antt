@@ -3,7 +3,7 @@ use Rattle.std.proofs.Common.{◌≡◌, refl, ℕ, zero, suc, pos, Bool, true, 
 use Rattle.std.specs.Prelude.{◌==◌}
 use Rattle.afp_replies.specs.declared.reply.Reply.{Reply}
 use Rattle.afp_replies.specs.declared.reply.Reply.TheVariants.{End, EndExt, Start, StartExt}
-use Rattle.afp_serial.specs.CallRow.{Effect, silently}
+use Rattle.afp_serial.specs.CallRow.{Effect, with_empty_reply}
 use Rattle.afp_serial.specs.Fork.{OpenAsked, access_of, file_asked, get_fork_parms_reply, is_other_length, length_for, opens_fork}
 use Rattle.afp_serial.specs.ForkBytes.{ReadAsked, WriteAsked, is_from_end, read_reply, write_end, writes, writes_some, written_bytes}
 use Rattle.afp_serial.specs.ForkLaws.{CommitsChanges, OthersLeaveVolumes, ThreeChangeVolumes}
@@ -37,18 +37,18 @@ writes-same reference asked reply w s none = done-same w (open_file w s referenc
 
 pub three-change : ThreeChangeVolumes
 three-change flag reference bits n offset count bytes = (
-  λ w s none. done-same w (open_file w s reference) (λ f. is_other_length bits bytes f) (λ f. resized (bytes_of f) (length_for bits bytes f)) (λ f. (silently w).reply) none,
+  λ w s none. done-same w (open_file w s reference) (λ f. is_other_length bits bytes f) (λ f. resized (bytes_of f) (length_for bits bytes f)) (λ f. (with_empty_reply w).reply) none,
   writes-same reference (record { from_end = is_from_end flag; offset = offset; count = pos n; piece = bytes }) (λ end. End end),
   writes-same reference (record { from_end = is_from_end flag; offset = offset; count = count; piece = bytes }) (λ end. EndExt end),
 )
 
 -- the others
 
-done-volumes : (w : World) (q : Option OpenFile) (does : OpenFile → Effect) → ((f : OpenFile) → (does f).world.volumes ≡ w.volumes) → (done_with q w does).world.volumes ≡ w.volumes
+pub done-volumes : (w : World) (q : Option OpenFile) (does : OpenFile → Effect) → ((f : OpenFile) → (does f).world.volumes ≡ w.volumes) → (done_with q w does).world.volumes ≡ w.volumes
 done-volumes w None does same = refl
 done-volumes w (Some f) does same = same f
 
-opened-volumes : (w : World) (s : Session) (asked : OpenAsked) (q : Option File) → (opens_fork w s asked q).world.volumes ≡ w.volumes
+pub opened-volumes : (w : World) (s : Session) (asked : OpenAsked) (q : Option File) → (opens_fork w s asked q).world.volumes ≡ w.volumes
 opened-volumes w s asked None = refl
 opened-volumes w s asked (Some file) = refl
 
@@ -57,17 +57,17 @@ locked-volumes w unlocks o reply None = refl
 locked-volumes w true o reply (Some range) = refl
 locked-volumes w false o reply (Some range) = refl
 
-all-locks : (reference : ℕ) (asked : LockAsked) (reply : ℕ → Reply) (w : World) (s : Session) → (done_with (open_file w s reference) w (λ f. locks_range asked.unlocks w f.fork reply (range_asked f asked))).world.volumes ≡ w.volumes
+pub all-locks : (reference : ℕ) (asked : LockAsked) (reply : ℕ → Reply) (w : World) (s : Session) → (done_with (open_file w s reference) w (λ f. locks_range asked.unlocks w f.fork reply (range_asked f asked))).world.volumes ≡ w.volumes
 all-locks reference asked reply w s = done-volumes w (open_file w s reference) _ (λ f. locked-volumes w asked.unlocks f.fork reply (range_asked f asked))
 
-all-reads : (reference : ℕ) (asked : ReadAsked) (w : World) (s : Session) → (done_with (open_file w s reference) w (λ f. record { world = w; reply = read_reply asked f })).world.volumes ≡ w.volumes
+pub all-reads : (reference : ℕ) (asked : ReadAsked) (w : World) (s : Session) → (done_with (open_file w s reference) w (λ f. record { world = w; reply = read_reply asked f })).world.volumes ≡ w.volumes
 all-reads reference asked w s = done-volumes w (open_file w s reference) _ (λ f. refl)
 
 pub others-leave : OthersLeaveVolumes
 others-leave flag volume dir bits mode reference n mask character path offset count = (
   λ w s. opened-volumes w s (record { volume = volume; bits = bits; resource = is_resource flag; access = access_of mode }) (file_asked (volume_at w.volumes volume) dir path),
-  λ w s. done-volumes w (open_file w s reference) (λ f. silently (closing w (λ o. not (o.reference == reference)))) (λ f. refl),
-  λ w s. done-volumes w (open_file w s reference) (λ f. silently w) (λ f. refl),
+  λ w s. done-volumes w (open_file w s reference) (λ f. with_empty_reply (closing w (λ o. not (o.reference == reference)))) (λ f. refl),
+  λ w s. done-volumes w (open_file w s reference) (λ f. with_empty_reply w) (λ f. refl),
   λ w s. done-volumes w (open_file w s reference) (λ f. record { world = w; reply = get_fork_parms_reply bits w f }) (λ f. refl),
   λ w s. all-reads reference (record { offset = offset; count = pos n; mask = mask; character = character }) w s,
   λ w s. all-reads reference (record { offset = offset; count = count; mask = 0; character = 0 }) w s,

@@ -48,7 +48,7 @@ any-some p (x ∷ xs) h =
     (λ here. (x, (0, omega arith, refl), here))
     (λ later. let r = any-some p xs later in (r.0, (suc r.1.0, omega (arith, r.1.1), r.1.2), r.2))
 
-some-any : {A : Type 0} (p : A → Bool) (xs : List A) (x : A) (k : ℕ) → k < length xs → slice_index_or xs k x ≡ x → p x ≡ true → list_any p xs ≡ true
+pub some-any : {A : Type 0} (p : A → Bool) (xs : List A) (x : A) (k : ℕ) → k < length xs → slice_index_or xs k x ≡ x → p x ≡ true → list_any p xs ≡ true
 some-any p [] x k within is h = absurd (omega (arith, within))
 some-any p (y ∷ ys) x zero within is h = or_left (p y) (list_any p ys) (ap p is ∙ h)
 some-any p (y ∷ ys) x (suc k) within is h = or_right (p y) (list_any p ys) (some-any p ys x k (omega (arith, within)) is h)

@@ -1,10 +1,10 @@
 -- What the calls on open forks owe that change no fork: FPCloseFork, FPFlushFork, FPGetForkParms, FPRead and FPReadExt.
 use Rattle.std.proofs.Common.{◌==◌, ◌≡◌, sym, refl, subst, ℕ, ℤ, pos, ◌+◌, ◌≤◌, arith, inl, Bool, true, false, cond, List, [], ◌∷◌, length, drop, Option, Some, None}
-use Rattle.std.specs.Prelude.{not, nat_abs, ◌&&◌}
-use Rattle.std.proofs.lemmas.Bool.{and_from, le-leb}
+use Rattle.std.specs.Prelude.{not, nat_abs}
+use Rattle.std.proofs.lemmas.Bool.{le-leb}
 use Rattle.std.proofs.lemmas.List.{append-nil, length-take}
 use Rattle.afp_base.specs.Choice.{first_holding}
-use Rattle.afp_base.specs.declared.code.Code.TheVariants.{BitmapErr}
+use Rattle.afp_base.specs.declared.code.Code.TheVariants.{AccessDenied, BitmapErr, EOFErr, LockErr, ParamErr}
 use Rattle.afp_base.specs.declared.ids.ForkRef.{ForkRef}
 use Rattle.afp_bitmap.specs.Bits.{file_mask}
 use Rattle.afp_bitmap.specs.Params.{params, IsAnswer}
@@ -14,6 +14,7 @@ use Rattle.afp_bitmap.specs.declared.params.Values.TheVariants.{Dir, File as Fil
 use Rattle.afp_replies.specs.Bytes.{u16}
 use Rattle.afp_replies.specs.Commands.{rows, shape_in, shape_of}
 use Rattle.afp_replies.specs.Replies.{canonical_reply}
+use Rattle.afp_replies.specs.Requested.{IsTold}
 use Rattle.afp_replies.specs.declared.reply.Reply.TheVariants.{Empty, Params, Piece}
 use Rattle.afp_requests.specs.declared.call.Call.{Call}
 use Rattle.afp_requests.specs.declared.call.Call.TheVariants.{CloseFork, FlushFork, GetForkParms, Read, ReadExt}
@@ -22,14 +23,15 @@ use Rattle.afp_serial.proofs.ListShown.{within}
 use Rattle.afp_serial.proofs.OnForkRows.{fork-row-sound, sound-file}
 use Rattle.afp_serial.proofs.OnVolumeRows.{Asks, IsToldTo}
 use Rattle.afp_serial.proofs.ParamsSize.{params-size, two-parts}
-use Rattle.afp_serial.proofs.SoundRow.{IsSoundRow, is_short}
+use Rattle.afp_serial.proofs.SoundRow.{IsRefusedTo, IsSoundRow, first-told, is_short, silent-refuses, silent-told}
 use Rattle.afp_serial.proofs.ToldReplies.{empty-told}
 use Rattle.afp_serial.specs.CallRow.{plain}
 use Rattle.afp_serial.specs.Fork.{close_fork_row, flush_fork_row, get_fork_parms_row}
-use Rattle.afp_serial.specs.ForkBytes.{ReadAsked, ahead, most_read, read_bytes, read_ext_row, read_reply, read_row, reads, stop_in, up_to}
+use Rattle.afp_serial.specs.ForkBytes.{ReadAsked, ahead, most_read, read_bytes, read_ext_row, read_refusals, read_reply, read_row, reads, stop_in, up_to}
 use Rattle.afp_serial.specs.Limits.{longest_block}
 use Rattle.afp_serial.specs.OnFork.{OpenFile, bytes_of}
 use Rattle.afp_serial.specs.OnVolume.{opened_on}
+use Rattle.afp_serial.specs.ReplyKinds.{command_of, reply_kind}
 use Rattle.afp_volume.proofs.ToldValues.{node-told}
 use Rattle.afp_volume.specs.Calls.{Opened}
 use Rattle.afp_volume.specs.NodeValues.{dir_values, file_values, node_values}
@@ -48,7 +50,7 @@ close-fork-asks reference = refl
 
 pub close-fork-sound : (reference : ForkRef) → IsSoundRow (CloseFork reference) (close_fork_row reference.0)
 close-fork-sound reference = fork-row-sound (CloseFork reference) reference.0 _ _ _ (record {
-  refused = λ w f. refl;
+  refused = λ w f r is. silent-refuses (CloseFork reference) [] r is refl;
   sound = λ w s f lawful held passes h. closing-sound w (λ o. not (o.reference == reference.0)) h;
   told = λ w s f lawful held passes h. empty-told (CloseFork reference) (close-fork-asks reference);
   sessions = λ w f. refl;
@@ -64,7 +66,7 @@ flush-fork-asks reference = refl
 
 pub flush-fork-sound : (reference : ForkRef) → IsSoundRow (FlushFork reference) (flush_fork_row reference.0)
 flush-fork-sound reference = fork-row-sound (FlushFork reference) reference.0 _ _ _ (record {
-  refused = λ w f. refl;
+  refused = λ w f r is. silent-refuses (FlushFork reference) [] r is refl;
   sound = λ w s f lawful held passes h. h;
   told = λ w s f lawful held passes h. empty-told (FlushFork reference) (flush-fork-asks reference);
   sessions = λ w f. refl;
@@ -96,7 +98,7 @@ get-fork-parms-asks reference bits values = (refl, refl)
 
 pub get-fork-parms-sound : (reference : ForkRef) (bits : ℕ) → IsSoundRow (GetForkParms reference bits) (get_fork_parms_row reference.0 bits)
 get-fork-parms-sound reference bits = fork-row-sound (GetForkParms reference bits) reference.0 _ _ _ (record {
-  refused = λ w f. refl;
+  refused = λ w f r is. silent-refuses (GetForkParms reference bits) ((is_outside file_mask bits, plain BitmapErr) ∷ []) r is refl;
   sound = λ w s f lawful held passes h. h;
   told = λ w s f lawful held passes h.
       let its = sound-file w s reference.0 f h held in
@@ -130,9 +132,15 @@ piece-short asked f =
     le-leb (length (canonical_reply (read_reply asked f))) longest_block
     (subst (λ (l : List ℕ). length l ≤ longest_block) (sym (append-nil (read_bytes (bytes_of f) asked))) (read-short (bytes_of f) asked))
 
-reads-sound : (call : Call) (reference : ℕ) (asked : ReadAsked) → ((piece : List ℕ) → Asks call (Piece piece)) → IsSoundRow call (reads reference asked)
-reads-sound call reference asked asks = fork-row-sound call reference _ _ _ (record {
-  refused = λ w f. and_from (is_short (read_reply asked f) && true) true (and_from (is_short (read_reply asked f)) true (piece-short asked f) refl) refl;
+-- at the end of the fork it is told what it read
+abbrev Ends : Call → Type 0
+Ends call = (piece : List ℕ) → IsTold (shape_of (command_of call)) EOFErr (reply_kind call) (Piece piece)
+
+reads-sound : (call : Call) (reference : ℕ) (asked : ReadAsked) → ((piece : List ℕ) → Asks call (Piece piece)) → Ends call → IsSoundRow call (reads reference asked)
+reads-sound call reference asked asks ends = fork-row-sound call reference _ _ _ (record {
+  refused = λ w f r is.
+      let at_end : IsRefusedTo call (record { code = EOFErr; reply = read_reply asked f }) = record { code = refl; short = piece-short asked f; fits = record { fits = tt; told = ends (read_bytes (bytes_of f) asked) } } in
+      first-told call (read_refusals asked w f) r is (silent-told call (plain ParamErr) refl, (silent-told call (plain AccessDenied) refl, (silent-told call (plain LockErr) refl, (at_end, tt))));
   sound = λ w s f lawful held passes h. h;
   told = λ w s f lawful held passes h. record { short = piece-short asked f; fits = record { fits = tt; told = asks (read_bytes (bytes_of f) asked) } };
   sessions = λ w f. refl;
@@ -144,14 +152,22 @@ read-asks : (reference : ForkRef) (offset : ℤ) (count mask character : ℕ) (p
 unfolding shape_of shape_in rows
 read-asks reference offset count mask character piece = inl refl
 
+read-ends : (reference : ForkRef) (offset : ℤ) (count mask character : ℕ) → Ends (Read reference offset count mask character)
+unfolding shape_of shape_in rows
+read-ends reference offset count mask character piece = (piece, refl)
+
 pub read-sound : (reference : ForkRef) (offset : ℤ) (count mask character : ℕ) → IsSoundRow (Read reference offset count mask character) (read_row reference.0 offset count mask character)
 read-sound reference offset count mask character =
-    reads-sound (Read reference offset count mask character) reference.0 (record { offset = offset; count = pos count; mask = mask; character = character }) (read-asks reference offset count mask character)
+    reads-sound (Read reference offset count mask character) reference.0 (record { offset = offset; count = pos count; mask = mask; character = character }) (read-asks reference offset count mask character) (read-ends reference offset count mask character)
 
 read-ext-asks : (reference : ForkRef) (offset count : ℤ) (piece : List ℕ) → Asks (ReadExt reference offset count) (Piece piece)
 unfolding shape_of shape_in rows
 read-ext-asks reference offset count piece = inl refl
 
+read-ext-ends : (reference : ForkRef) (offset count : ℤ) → Ends (ReadExt reference offset count)
+unfolding shape_of shape_in rows
+read-ext-ends reference offset count piece = (piece, refl)
+
 pub read-ext-sound : (reference : ForkRef) (offset count : ℤ) → IsSoundRow (ReadExt reference offset count) (read_ext_row reference.0 offset count)
 read-ext-sound reference offset count =
-    reads-sound (ReadExt reference offset count) reference.0 (record { offset = offset; count = count; mask = 0; character = 0 }) (read-ext-asks reference offset count)
+    reads-sound (ReadExt reference offset count) reference.0 (record { offset = offset; count = count; mask = 0; character = 0 }) (read-ext-asks reference offset count) (read-ext-ends reference offset count)

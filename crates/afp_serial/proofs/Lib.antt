@@ -30,6 +30,7 @@ pub mod ForkCommits
 pub mod OpenForkRow
 pub mod LawfulRows
 pub mod RowsSound
+pub mod RefusalsShown
 pub mod Refusals
 pub mod Verdicts
 pub mod Keeps
@@ -38,7 +39,11 @@ pub mod FreshWorld
 pub mod StaysSound
 pub mod DisplacedLaws
 pub mod ShownAnswers
+pub mod RefusedAnswers
 pub mod CallLaws
+pub mod OpenForkBytes
+pub mod ForkChanges
+pub mod ForksInHistories
 pub mod PlainSessions
 pub mod ListShown
 pub mod ParmsShown

@@ -6,12 +6,13 @@ use Rattle.std.proofs.lemmas.Bool.{and_parts, cond_both, eqb-true}
 use Rattle.std.proofs.lemmas.Option.{slice_get_within}
 use Rattle.afp_base.specs.Apart.{are_apart}
 use Rattle.afp_base.specs.Choice.{first_holding}
+use Rattle.afp_base.specs.declared.code.Code.TheVariants.{ParamErr}
 use Rattle.afp_requests.specs.declared.call.Call.{Call}
 use Rattle.afp_serial.proofs.OnVolumeRows.{IsToldTo, told-shown}
 use Rattle.afp_serial.proofs.SoundParts.{ApartSessions, is_below, opens-parts, same_link, same_number}
-use Rattle.afp_serial.proofs.SoundRow.{IsSoundRow, is_refused}
+use Rattle.afp_serial.proofs.SoundRow.{IsRefusedTo, IsSoundRow, silent-refuses}
 use Rattle.afp_serial.proofs.VolumeStates.{IsServed, served-at}
-use Rattle.afp_serial.specs.CallRow.{Effect, Refusal}
+use Rattle.afp_serial.specs.CallRow.{Effect, Refusal, Refused, plain}
 use Rattle.afp_serial.specs.LawfulCall.{is_lawful_call}
 use Rattle.afp_serial.specs.OnFork.{OpenFile, committed_with, done_with, file_on, file_under, on_fork, open_file, own_fork, own_keeper, row_on_fork}
 use Rattle.afp_serial.specs.OnVolume.{keeper_of}
@@ -90,7 +91,7 @@ none-refused (row ∷ rows) h =
 
 -- what a row on an open fork owes
 pub record OwesOnFork (call : Call) (reference : ℕ) (refuses : World → OpenFile → List Refusal) (does : World → OpenFile → Effect) (commits : World → OpenFile → Option ℕ) : Type 0 where
-  pub refused : (w : World) (f : OpenFile) → list_all (λ (r : Refusal). is_refused r.1) (refuses w f) ≡ true
+  pub refused : (w : World) (f : OpenFile) (r : Refused) → first_holding (refuses w f) ≡ Some r → IsRefusedTo call r
   pub sound : (w : World) (s : Session) (f : OpenFile) → is_lawful_call call ≡ true → IsHeld w s reference f → first_holding (refuses w f) ≡ None → IsSound w → IsSound (does w f).world
   pub told : (w : World) (s : Session) (f : OpenFile) → is_lawful_call call ≡ true → IsHeld w s reference f → first_holding (refuses w f) ≡ None → IsSound w → IsToldTo call (does w f).reply
   pub sessions : (w : World) (f : OpenFile) → (does w f).world.sessions ≡ w.sessions
@@ -116,7 +117,7 @@ same-apart w v sessions next a = record {
 pub fork-row-sound : (call : Call) (reference : ℕ) (refuses : World → OpenFile → List Refusal) (does : World → OpenFile → Effect) (commits : World → OpenFile → Option ℕ) → OwesOnFork call reference refuses does commits
     → IsSoundRow call (row_on_fork reference refuses does commits)
 fork-row-sound call reference refuses does commits owes = record {
-  refuses = λ w s h. refused w (open_file w s reference);
+  refuses = λ w s r is h. refused w (open_file w s reference) r is;
   sound = λ w s test lawful found passes h. sound w s lawful h (open_file w s reference) refl passes;
   fits = λ w s lawful passes h. (told w s lawful h (open_file w s reference) refl passes).short;
   shown = λ w s lawful passes h. told-shown call (done_with (open_file w s reference) w (does w)).reply (told w s lawful h (open_file w s reference) refl passes);
@@ -126,9 +127,9 @@ fork-row-sound call reference refuses does commits owes = record {
   old = λ w s n h. ap (λ list. has_session list n) (sym (sessions w (open_file w s reference))) ∙ h;
 }
   where
-    refused : (w : World) (q : Option OpenFile) → list_all (λ (r : Refusal). is_refused r.1) (on_fork q (refuses w)) ≡ true
-    refused w None = refl
-    refused w (Some f) = owes.refused w f
+    refused : (w : World) (q : Option OpenFile) (r : Refused) → first_holding (on_fork q (refuses w)) ≡ Some r → IsRefusedTo call r
+    refused w None r is = silent-refuses call ((true, plain ParamErr) ∷ []) r is refl
+    refused w (Some f) r is = owes.refused w f r is
 
     sound : (w : World) (s : Session) → is_lawful_call call ≡ true → IsSound w → (q : Option OpenFile) → open_file w s reference ≡ q → first_holding (on_fork q (refuses w)) ≡ None → IsSound (done_with q w (does w)).world
     sound w s lawful h None is passes = h

@@ -14,12 +14,12 @@ use Rattle.afp_replies.specs.Requested.{FitsRequest, IsTold}
 use Rattle.afp_replies.specs.declared.reply.Reply.{Reply}
 use Rattle.afp_requests.specs.declared.call.Call.{Call}
 use Rattle.afp_serial.proofs.SoundParts.{ApartSessions}
-use Rattle.afp_serial.proofs.SoundRow.{IsSoundRow, is_refused, is_short, no-keeper}
+use Rattle.afp_serial.proofs.SoundRow.{IsSoundRow, is_refused, is_short, no-keeper, silent-refuses}
 use Rattle.afp_serial.proofs.VolumeCodes.{is_refusal, tree-refuses}
 use Rattle.afp_serial.proofs.VolumeStates.{IsServed, moment-date, served-at, state-sound}
 use Rattle.afp_serial.specs.CallRow.{Effect, Refusal, plain}
 use Rattle.afp_serial.specs.LawfulCall.{is_lawful_call}
-use Rattle.afp_serial.specs.OnVolume.{changes_tree, coded, done_on, keeper_of, on_volume, opened_on, refused_on, tells_of, with_volume_state}
+use Rattle.afp_serial.specs.OnVolume.{changes_tree, refused_before, done_on, keeper_of, on_volume, opened_on, refused_on, tells_of, with_volume_state}
 use Rattle.afp_serial.specs.ReplyKinds.{command_of, reply_kind}
 use Rattle.afp_serial.specs.Sessions.{has_opened, has_session, volume_at}
 use Rattle.afp_serial.specs.Sound.{IsSound}
@@ -45,12 +45,12 @@ told-shown call reply t = what_fits_a_request reply (reply_kind call) Ok t.fits
 
 -- refusals
 
-pub coded-refused : (o : Option Code) (rest : List Refusal) → is_refusal o ≡ true → list_all (λ r. is_refused r.1) rest ≡ true → list_all (λ r. is_refused r.1) (coded o rest) ≡ true
-coded-refused None rest h k = k
-coded-refused (Some code) rest h k = and_from (is_refused (plain code)) (list_all (λ (r : Refusal). is_refused r.1) rest) h k
+pub refused_before-refused : (o : Option Code) (rest : List Refusal) → is_refusal o ≡ true → list_all (λ r. is_refused r.1) rest ≡ true → list_all (λ r. is_refused r.1) (refused_before o rest) ≡ true
+refused_before-refused None rest h k = k
+refused_before-refused (Some code) rest h k = and_from (is_refused (plain code)) (list_all (λ (r : Refusal). is_refused r.1) rest) h k
 
 pub on-refused : (w : World) (s : Session) (volume : ℕ) (refuses : VolumeState → Option Code) → ((v : VolumeState) → is_refusal (refuses v) ≡ true) → list_all (λ r. is_refused r.1) (on_volume w s volume refuses) ≡ true
-on-refused w s volume refuses rightly = coded-refused (refused_on (volume_at w.volumes volume) refuses) [] (by (volume_at w.volumes volume)) refl
+on-refused w s volume refuses rightly = refused_before-refused (refused_on (volume_at w.volumes volume) refuses) [] (by (volume_at w.volumes volume)) refl
   where
     by : (o : Option VolumeState) → is_refusal (refused_on o refuses) ≡ true
     by None = refl
@@ -62,17 +62,17 @@ pub record Passes (w : World) (volume : ℕ) (refuses : VolumeState → Option C
   pub there : volume_at w.volumes volume ≡ Some state
   pub passes : refuses state ≡ None
 
-pub coded-none : (o : Option Code) (rest : List Refusal) → first_holding (coded o rest) ≡ None → (o ≡ None) × (first_holding rest ≡ None)
-coded-none None rest h = (refl, h)
-coded-none (Some code) rest h = absurd (cc)
+pub refused_before-none : (o : Option Code) (rest : List Refusal) → first_holding (refused_before o rest) ≡ None → (o ≡ None) × (first_holding rest ≡ None)
+refused_before-none None rest h = (refl, h)
+refused_before-none (Some code) rest h = absurd (cc)
 
-on-passes : (w : World) (s : Session) (volume : ℕ) (refuses : VolumeState → Option Code) → first_holding (on_volume w s volume refuses) ≡ None → Passes w volume refuses
+pub on-passes : (w : World) (s : Session) (volume : ℕ) (refuses : VolumeState → Option Code) → first_holding (on_volume w s volume refuses) ≡ None → Passes w volume refuses
 on-passes w s volume refuses passes = by (has_opened s volume) (volume_at w.volumes volume) refl passes
   where
-    by : (b : Bool) (o : Option VolumeState) → volume_at w.volumes volume ≡ o → first_holding ((not b, plain ParamErr) ∷ coded (refused_on o refuses) []) ≡ None → Passes w volume refuses
+    by : (b : Bool) (o : Option VolumeState) → volume_at w.volumes volume ≡ o → first_holding ((not b, plain ParamErr) ∷ refused_before (refused_on o refuses) []) ≡ None → Passes w volume refuses
     by false o there h = absurd (cc)
     by true None there h = absurd (cc)
-    by true (Some v) there h = record { state = v; there = there; passes = (coded-none (refuses v) [] h).0 }
+    by true (Some v) there h = record { state = v; there = there; passes = (refused_before-none (refuses v) [] h).0 }
 
 -- so the volume of its keeper is there
 pub keeper-there : (w : World) (s : Session) (volume index : ℕ) (refuses : VolumeState → Option Code) → first_holding (on_volume w s volume refuses) ≡ None → keeper_of volume ≡ Some index → index < length w.volumes
@@ -84,7 +84,7 @@ keeper-there w s (suc k) index refuses passes names =
     omega (arith, within, same)
 
 -- what holds of the world, and of each that is made of a volume, holds of what is done
-done-keeps : (P : World → Type 0) (o : Option VolumeState) (w : World) (does : VolumeState → Effect) → P w → ((v : VolumeState) → P (does v).world) → P (done_on o w does).world
+pub done-keeps : (P : World → Type 0) (o : Option VolumeState) (w : World) (does : VolumeState → Effect) → P w → ((v : VolumeState) → P (does v).world) → P (done_on o w does).world
 done-keeps P None w does h gives = h
 done-keeps P (Some v) w does h gives = gives v
 
@@ -95,7 +95,7 @@ pub tells-sound : (call : Call) (volume : ℕ) (refuses : World → VolumeState 
     → ((w : World) (v : VolumeState) → is_lawful_call call ≡ true → IsServed v volume → refuses w v ≡ None → IsToldTo call (reply w v))
     → IsSoundRow call (tells_of volume refuses reply)
 tells-sound call volume refuses reply rightly tells = record {
-  refuses = λ w s h. on-refused w s volume (refuses w) (rightly w);
+  refuses = λ w s r is h. silent-refuses call (on_volume w s volume (refuses w)) r is (on-refused w s volume (refuses w) (rightly w));
   sound = λ w s test lawful found passes h. done-keeps IsSound (volume_at w.volumes volume) w (λ v. record { world = w; reply = reply w v }) h (λ v. h);
   fits = λ w s lawful passes h. (told w s lawful passes h).short;
   shown = λ w s lawful passes h. told-shown call (done_on (volume_at w.volumes volume) w (λ v. record { world = w; reply = reply w v })).reply (told w s lawful passes h);
@@ -134,7 +134,7 @@ pub changes-sound : (call : Call) (volume : ℕ) (tree : TreeCall) (reply : Volu
     → ((w : World) (v : VolumeState) → IsServed v volume → tree_refusal v (opened_on w volume) tree ≡ None → IsToldTo call (reply v))
     → IsSoundRow call (changes_tree volume tree reply)
 changes-sound call volume tree reply ranges tells = record {
-  refuses = λ w s h. on-refused w s volume (λ v. tree_refusal v (opened_on w volume) tree) (λ v. tree-refuses v (opened_on w volume) tree);
+  refuses = λ w s r is h. silent-refuses call (on_volume w s volume (λ v. tree_refusal v (opened_on w volume) tree)) r is (on-refused w s volume (λ v. tree_refusal v (opened_on w volume) tree) (λ v. tree-refuses v (opened_on w volume) tree));
   sound = λ w s test lawful found passes h. sound w s lawful passes h;
   fits = λ w s lawful passes h. (told w s passes h).short;
   shown = λ w s lawful passes h. told-shown call (done_on (volume_at w.volumes volume) w (does w)).reply (told w s passes h);

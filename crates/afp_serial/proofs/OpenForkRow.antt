@@ -8,7 +8,7 @@ use Rattle.afp_base.specs.Choice.{first_holding}
 use Rattle.afp_base.specs.DenyMode.{Access, Fork, do_conflict, is_clash, is_denied_by, is_one_fork}
 use Rattle.afp_base.specs.Overlap.{do_meet}
 use Rattle.afp_base.specs.declared.code.Code.{Code}
-use Rattle.afp_base.specs.declared.code.Code.TheVariants.{BitmapErr, ObjectLocked, ObjectTypeErr, ParamErr}
+use Rattle.afp_base.specs.declared.code.Code.TheVariants.{BitmapErr, DenyConflict, ObjectLocked, ObjectTypeErr, ParamErr, TooManyFilesOpen}
 use Rattle.afp_base.specs.declared.ids.NodeId.{NodeId}
 use Rattle.afp_base.specs.declared.ids.VolumeId.{VolumeId}
 use Rattle.afp_bitmap.specs.Bits.{file_mask}
@@ -19,6 +19,7 @@ use Rattle.afp_bitmap.specs.declared.params.Values.TheVariants.{File as FilePara
 use Rattle.afp_names.specs.Path.{PathValue}
 use Rattle.afp_replies.specs.Commands.{rows, shape_in, shape_of}
 use Rattle.afp_replies.specs.Replies.{canonical_reply}
+use Rattle.afp_replies.specs.Requested.{IsTold}
 use Rattle.afp_replies.specs.declared.reply.Reply.TheVariants.{Opened}
 use Rattle.afp_requests.specs.declared.call.Call.{Call}
 use Rattle.afp_requests.specs.declared.call.Call.TheVariants as calls
@@ -27,17 +28,18 @@ use Rattle.afp_serial.proofs.FreeReferences.{lowest-free, lowest-within, opens-f
 use Rattle.afp_serial.proofs.ListShown.{within}
 use Rattle.afp_serial.proofs.LockRows.{fork-sym}
 use Rattle.afp_serial.proofs.OnForkRows.{none-refused}
-use Rattle.afp_serial.proofs.OnVolumeRows.{Asks, IsToldTo, coded-none, coded-refused, told-shown}
+use Rattle.afp_serial.proofs.OnVolumeRows.{Asks, IsToldTo, refused_before-none, told-shown}
 use Rattle.afp_serial.proofs.ParamsSize.{params-size}
 use Rattle.afp_serial.proofs.PlacedLists.{all-placed, any-placed, apart-placed, apart-where, count-placed, find-any, one_if, or-split}
 use Rattle.afp_serial.proofs.SoundParts.{ApartSessions, KeptLimits, LawfulLocks, LawfulOpens, do_clash, do_overlap, keeps_forks, keeps_locks, limits-parts, limits-whole, locks-parts, locks-whole, opens-parts, opens-whole, same_reference}
-use Rattle.afp_serial.proofs.SoundRow.{IsSoundRow, is_refused, is_short, no-keeper}
-use Rattle.afp_serial.proofs.VolumeCodes.{open-fork-refuses}
+use Rattle.afp_serial.proofs.SoundRow.{IsRefusedTo, IsSoundRow, behind-first, first-told, is_short, no-keeper, silent-refuses, silent-told}
+use Rattle.afp_serial.proofs.VolumeCodes.{is_refusal, open-fork-refuses}
 use Rattle.afp_serial.proofs.VolumeStates.{IsServed, served-at}
-use Rattle.afp_serial.specs.CallRow.{Refusal, plain}
+use Rattle.afp_serial.specs.CallRow.{Refused, plain}
 use Rattle.afp_serial.specs.Fork.{OpenAsked, access_of, denied_of, file_asked, fork_in, fork_ref, has_most_forks, is_denied, lowest_free, new_fork, open_fork_row, opened_reply, opens_asked, opens_fork, with_fork, with_open}
 use Rattle.afp_serial.specs.Limits.{longest_block, most_forks, most_locks}
-use Rattle.afp_serial.specs.OnVolume.{coded, opened_on, refused_on}
+use Rattle.afp_serial.specs.OnVolume.{refused_before, opened_on, refused_on}
+use Rattle.afp_serial.specs.ReplyKinds.{command_of, reply_kind}
 use Rattle.afp_serial.specs.Sessions.{has_opened, has_session, is_open, volume_at}
 use Rattle.afp_serial.specs.Sound.{IsSound, has_apart_sessions, has_lawful_caches, has_typed_fields, has_volume_open, is_file_of, is_lawful_open, share_fork}
 use Rattle.afp_serial.specs.World.{World, Session, OpenFork, Lock}
@@ -134,11 +136,11 @@ opens-passed w s asked dir path h passes = by (has_opened s asked.volume) (volum
         record { opened = opened; state = v; there = there; file = found.file; is = found.is; inside = found.inside; agrees = none.0; room = none.1.0 }
 
     by : (b : Bool) (q : Option VolumeState) → has_opened s asked.volume ≡ b → volume_at w.volumes asked.volume ≡ q
-        → first_holding ((not b, plain ParamErr) ∷ coded (refused_on q (λ v. open_fork_refusal v asked.bits asked.access.write dir path)) (denied_of w s asked (file_asked q dir path))) ≡ None → Opens w s asked dir path
+        → first_holding ((not b, plain ParamErr) ∷ refused_before (refused_on q (λ v. open_fork_refusal v asked.bits asked.access.write dir path)) (denied_of w s asked (file_asked q dir path))) ≡ None → Opens w s asked dir path
     by false q opened there k = absurd (cc)
     by true None opened there k = absurd (cc)
     by true (Some v) opened there k =
-        let e = coded-none (open_fork_refusal v asked.bits asked.access.write dir path) (denied_of w s asked (open_fork_file v dir path)) k in
+        let e = refused_before-none (open_fork_refusal v asked.bits asked.access.write dir path) (denied_of w s asked (open_fork_file v dir path)) k in
         told-of v opened there (volume-opens v asked.bits asked.access.write dir path (served-at w asked.volume v h there).sound e.0) e.1
 
 -- the new fork among the open ones
@@ -287,19 +289,42 @@ opened-told call w asked reference v file asks served f inside small = record {
 
 -- the row
 
-denied-refused : (w : World) (s : Session) (asked : OpenAsked) (v : VolumeState) (q : Option File) → IsServed v asked.volume → ((file : File) → q ≡ Some file → IsFileFound v file) → list_all (λ (r : Refusal). is_refused r.1) (denied_of w s asked q) ≡ true
-denied-refused w s asked v None served f = refl
-denied-refused w s asked v (Some file) served f =
-    and_from (is_short (opened_reply w asked 0 file) && true) true (and_from (is_short (opened_reply w asked 0 file)) true (reply-short w asked 0 v file served (f file refl)) refl) refl
+-- a denial tells of the file
+abbrev Denies : Call → ℕ → Type 0
+Denies call bits = (values : Values) → IsTold (shape_of (command_of call)) DenyConflict (reply_kind call) (Opened bits (fork_ref 0) values)
 
-open-refused : (w : World) (s : Session) (asked : OpenAsked) (dir : ℕ) (path : PathValue) → IsSound w → list_all (λ (r : Refusal). is_refused r.1) ((opens_asked asked dir path).refusals w s) ≡ true
-open-refused w s asked dir path h = by (volume_at w.volumes asked.volume) refl
+denial-told : (call : Call) (w : World) (asked : OpenAsked) (v : VolumeState) (file : File) → Denies call asked.bits → IsServed v asked.volume → IsFileFound v file → is_outside file_mask asked.bits ≡ false → IsRefusedTo call (record { code = DenyConflict; reply = opened_reply w asked 0 file })
+unfolding opened_reply
+denial-told call w asked v file denies served f inside = record {
+  code = refl;
+  short = reply-short w asked 0 v file served f;
+  fits = record {
+    fits = (omega arith, record { within = within file_mask asked.bits inside; answer = file-answer v (opened_on w asked.volume) asked.bits f.id file f.row f.kind served.sound served.typed });
+    told = denies (fork_values (opened_on w asked.volume) asked.bits file);
+  };
+}
+
+open-refused : (call : Call) (asked : OpenAsked) (dir : ℕ) (path : PathValue) (w : World) (s : Session) (r : Refused) → Denies call asked.bits → IsSound w → first_holding ((opens_asked asked dir path).refusals w s) ≡ Some r → IsRefusedTo call r
+open-refused call asked dir path w s r denies h is = by (volume_at w.volumes asked.volume) refl is
   where
-    by : (q : Option VolumeState) → volume_at w.volumes asked.volume ≡ q → list_all (λ (r : Refusal). is_refused r.1) (coded (refused_on q (λ v. open_fork_refusal v asked.bits asked.access.write dir path)) (denied_of w s asked (file_asked q dir path))) ≡ true
-    by None there = refl
-    by (Some v) there =
-        coded-refused (open_fork_refusal v asked.bits asked.access.write dir path) (denied_of w s asked (open_fork_file v dir path)) (open-fork-refuses v asked.bits asked.access.write dir path)
-        (denied-refused w s asked v (open_fork_file v dir path) (served-at w asked.volume v h there) (λ file is. found-file v dir path file is))
+    refuses : VolumeState → Option Code
+    refuses v = open_fork_refusal v asked.bits asked.access.write dir path
+
+    -- a volume that does not refuse has the file
+    told-of : (v : VolumeState) → IsServed v asked.volume → VolumeOpens v asked.bits dir path → first_holding (denied_of w s asked (open_fork_file v dir path)) ≡ Some r → IsRefusedTo call r
+    told-of v served o k =
+        first-told call (denied_of w s asked (Some o.file)) r (ap (λ q. first_holding (denied_of w s asked q)) (sym o.is) ∙ k)
+        (denial-told call w asked v o.file denies served (found-file v dir path o.file o.is) o.inside, (silent-told call (plain TooManyFilesOpen) refl, tt))
+
+    of-volume : (v : VolumeState) → IsServed v asked.volume → (q : Option Code) → refuses v ≡ q → is_refusal q ≡ true → first_holding (refused_before q (denied_of w s asked (open_fork_file v dir path))) ≡ Some r → IsRefusedTo call r
+    of-volume v served None passes silent k = told-of v served (volume-opens v asked.bits asked.access.write dir path served.sound passes) k
+    of-volume v served (Some code) passes silent k = let same : plain code ≡ r = cc in subst (IsRefusedTo call) same (silent-told call (plain code) silent)
+
+    by : (q : Option VolumeState) → volume_at w.volumes asked.volume ≡ q → first_holding ((not (has_opened s asked.volume), plain ParamErr) ∷ refused_before (refused_on q refuses) (denied_of w s asked (file_asked q dir path))) ≡ Some r → IsRefusedTo call r
+    by None there k = silent-refuses call ((not (has_opened s asked.volume), plain ParamErr) ∷ (true, plain ParamErr) ∷ []) r k refl
+    by (Some v) there k =
+        behind-first call (not (has_opened s asked.volume), plain ParamErr) (refused_before (refuses v) (denied_of w s asked (open_fork_file v dir path))) r (silent-told call (plain ParamErr) refl)
+        (of-volume v (served-at w asked.volume v h there) (refuses v) refl (open-fork-refuses v asked.bits asked.access.write dir path)) k
 
 -- the file that is asked for
 asked-is : (w : World) (s : Session) (asked : OpenAsked) (dir : ℕ) (path : PathValue) → (o : Opens w s asked dir path) → file_asked (volume_at w.volumes asked.volume) dir path ≡ Some o.file
@@ -323,9 +348,9 @@ old-after : (w : World) (s : Session) (asked : OpenAsked) (q : Option File) (n :
 old-after w s asked None n h = h
 old-after w s asked (Some file) n h = h
 
-opens-sound : (call : Call) (asked : OpenAsked) (dir : ℕ) (path : PathValue) → ((r : ℕ) (values : FileValues) → Asks call (Opened asked.bits (fork_ref r) (FileParams values))) → IsSoundRow call (opens_asked asked dir path)
-opens-sound call asked dir path asks = record {
-  refuses = λ w s h. open-refused w s asked dir path h;
+opens-sound : (call : Call) (asked : OpenAsked) (dir : ℕ) (path : PathValue) → ((r : ℕ) (values : FileValues) → Asks call (Opened asked.bits (fork_ref r) (FileParams values))) → Denies call asked.bits → IsSoundRow call (opens_asked asked dir path)
+opens-sound call asked dir path asks denies = record {
+  refuses = λ w s r is h. open-refused call asked dir path w s r denies h is;
   sound = λ w s test lawful found passes h.
       let o = opens-passed w s asked dir path h passes in
       subst (λ q. IsSound (opens_fork w s asked q).world) (sym (asked-is w s asked dir path o)) (new-sound w s asked o.file (lawful-new w s test asked dir path found h o) o.agrees o.room h);
@@ -349,6 +374,11 @@ open-fork-asks : (flag : ℕ) (volume : VolumeId) (dir : NodeId) (bits mode : �
 unfolding shape_of shape_in rows
 open-fork-asks flag volume dir bits mode path r values = (refl, refl)
 
+open-fork-denies : (flag : ℕ) (volume : VolumeId) (dir : NodeId) (bits mode : ℕ) (path : PathValue) → Denies (calls.OpenFork flag volume dir bits mode path) bits
+unfolding shape_of shape_in rows
+open-fork-denies flag volume dir bits mode path values = (values, refl)
+
 pub open-fork-sound : (flag : ℕ) (volume : VolumeId) (dir : NodeId) (bits mode : ℕ) (path : PathValue) → IsSoundRow (calls.OpenFork flag volume dir bits mode path) (open_fork_row flag volume.0 dir.0 bits mode path)
 open-fork-sound flag volume dir bits mode path =
     opens-sound (calls.OpenFork flag volume dir bits mode path) (record { volume = volume.0; bits = bits; resource = is_resource flag; access = access_of mode }) dir.0 path (open-fork-asks flag volume dir bits mode path)
+    (open-fork-denies flag volume dir bits mode path)

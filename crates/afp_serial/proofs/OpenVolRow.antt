@@ -10,15 +10,15 @@ use Rattle.afp_bitmap.specs.declared.volume.VolumeValues.{VolumeValues}
 use Rattle.afp_replies.specs.declared.reply.Reply.TheVariants.{Params}
 use Rattle.afp_replies.specs.Commands.{rows, shape_in, shape_of}
 use Rattle.afp_requests.specs.declared.call.Call.TheVariants.{OpenVol}
-use Rattle.afp_serial.proofs.OnVolumeRows.{Asks, IsToldTo, coded-none, coded-refused, told-shown}
+use Rattle.afp_serial.proofs.OnVolumeRows.{Asks, IsToldTo, refused_before-none, refused_before-refused, told-shown}
 use Rattle.afp_serial.proofs.Replaced.{TakesPlace, replaced-apart, replaced-old, replaced-sound, volume-kept}
 use Rattle.afp_serial.proofs.SoundParts.{ApartSessions, sessions-parts, opens-parts, caches-parts}
-use Rattle.afp_serial.proofs.SoundRow.{IsSoundRow, no-keeper}
+use Rattle.afp_serial.proofs.SoundRow.{IsSoundRow, no-keeper, silent-refuses}
 use Rattle.afp_serial.proofs.ToldReplies.{volume-told-to}
 use Rattle.afp_serial.proofs.VolumeCodes.{volume-refuses}
 use Rattle.afp_serial.proofs.VolumeStates.{served-at}
 use Rattle.afp_serial.specs.CallRow.{plain}
-use Rattle.afp_serial.specs.OnVolume.{coded}
+use Rattle.afp_serial.specs.OnVolume.{refused_before}
 use Rattle.afp_serial.specs.OpenVol.{open_vol_row, opens_volume, state_named, volume_named, with_volume}
 use Rattle.afp_serial.specs.Sessions.{has_opened, has_session, volume_at, with_session}
 use Rattle.afp_serial.specs.Sound.{IsSound, has_volume_open, is_file_of, is_lawful_open, is_lawful_cache}
@@ -53,7 +53,7 @@ with-volume-sound w s test v found h =
     (opens-parts w h.opens).stand)
 
 -- what holds of the world, and of it with a volume open in the session, holds of what is done
-opens-keeps : (P : World → Type 0) (w : World) (s : Session) (bits : ℕ) (volume : Option ℕ) (state : Option VolumeState) → P w → ((v : ℕ) → P (with_session w (with_volume s v))) → P (opens_volume w s bits volume state).world
+pub opens-keeps : (P : World → Type 0) (w : World) (s : Session) (bits : ℕ) (volume : Option ℕ) (state : Option VolumeState) → P w → ((v : ℕ) → P (with_session w (with_volume s v))) → P (opens_volume w s bits volume state).world
 opens-keeps P w s bits None state h gives = h
 opens-keeps P w s bits (Some v) None h gives = h
 opens-keeps P w s bits (Some v) (Some q) h gives = gives v
@@ -66,9 +66,9 @@ record Opens (w : World) (bits : ℕ) (volume : Option ℕ) : Type 0 where
   state : VolumeState
   there : volume_at w.volumes id ≡ Some state
 
-opens-passed : (w : World) (bits : ℕ) (volume : Option ℕ) → first_holding (coded (get_vol_parms_refusal bits) ((is_none (state_named w volume), plain ObjectNotFound) ∷ [])) ≡ None → Opens w bits volume
+opens-passed : (w : World) (bits : ℕ) (volume : Option ℕ) → first_holding (refused_before (get_vol_parms_refusal bits) ((is_none (state_named w volume), plain ObjectNotFound) ∷ [])) ≡ None → Opens w bits volume
 opens-passed w bits volume passes =
-    let both = coded-none (get_vol_parms_refusal bits) ((is_none (state_named w volume), plain ObjectNotFound) ∷ []) passes in
+    let both = refused_before-none (get_vol_parms_refusal bits) ((is_none (state_named w volume), plain ObjectNotFound) ∷ []) passes in
     by volume refl both.0 both.1
   where
     by-state : (id : ℕ) (o : Option VolumeState) → volume_at w.volumes id ≡ o → get_vol_parms_refusal bits ≡ None → first_holding ((is_none o, plain ObjectNotFound) ∷ []) ≡ None → Opens w bits (Some id)
@@ -91,7 +91,7 @@ opens-told w s bits name volume h o =
 
 pub open-vol-sound : (bits : ℕ) (name : List ℕ) → IsSoundRow (OpenVol bits name) (open_vol_row bits name)
 open-vol-sound bits name = record {
-  refuses = λ w s h. coded-refused (get_vol_parms_refusal bits) ((is_none (state_named w (volume_named w name)), plain ObjectNotFound) ∷ []) (volume-refuses bits) refl;
+  refuses = λ w s r is h. silent-refuses (OpenVol bits name) ((open_vol_row bits name).refusals w s) r is (refused_before-refused (get_vol_parms_refusal bits) ((is_none (state_named w (volume_named w name)), plain ObjectNotFound) ∷ []) (volume-refuses bits) refl);
   sound = λ w s test lawful found passes h. opens-keeps IsSound w s bits (volume_named w name) (state_named w (volume_named w name)) h (λ v. with-volume-sound w s test v found h);
   fits = λ w s lawful passes h. (opens-told w s bits name (volume_named w name) h (opens-passed w bits (volume_named w name) passes)).short;
   shown = λ w s lawful passes h. told-shown (OpenVol bits name) (opens_volume w s bits (volume_named w name) (state_named w (volume_named w name))).reply

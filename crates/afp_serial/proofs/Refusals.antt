@@ -1,35 +1,31 @@
 -- What a refused call is told fits in a frame, and is not Ok.
-use Rattle.std.proofs.Common.{◌≡◌, refl, not, true, ◌&&◌, cond, List, [], ◌∷◌, ℕ, Bool, Option, Some, None}
+use Rattle.std.proofs.Common.{◌≡◌, ap, refl, not, true, ◌&&◌, cond, List, [], ◌∷◌, ℕ, Bool, Option, Some, None}
 use Rattle.std.specs.Prelude.{is_none}
-use Rattle.std.specs.List.{list_all}
-use Rattle.std.proofs.lemmas.Bool.{and_parts, cond_both}
+use Rattle.std.proofs.lemmas.Bool.{and_from, cond_both}
 use Rattle.afp_base.specs.Cached.{Request, Answer, cached_answer}
-use Rattle.afp_base.specs.Choice.{first_holding}
 use Rattle.afp_base.specs.declared.code.Code.TheVariants.{CallNotSupported, UserNotAuth}
 use Rattle.afp_requests.specs.Spelt.{is_command, spelt_call}
 use Rattle.afp_requests.specs.declared.call.Call.{Call}
 use Rattle.afp_serial.proofs.RowsSound.{row-sound}
-use Rattle.afp_serial.proofs.SoundRow.{is_refused}
-use Rattle.afp_serial.specs.CallRow.{Refusal, plain}
-use Rattle.afp_serial.specs.Rows.{row}
+use Rattle.afp_serial.proofs.SoundRow.{IsRefusedTo, is_ok, is_short}
+use Rattle.afp_serial.specs.CallRow.{Refused, plain}
+use Rattle.afp_serial.specs.Rows.{refusal}
 use Rattle.afp_serial.specs.Sound.{IsSound}
 use Rattle.afp_serial.specs.Steps.{Verdict, repeats, refused, runs, block_of, enclosed_of, needs_user, verdict_of_row, verdict_of_spelling, verdict_of_block, verdict_of_kept, verdict}
 use Rattle.afp_serial.specs.World.{World, Session}
 
 abbrev pub refuses_shortly : Verdict → Bool
 refuses_shortly (repeats answer) = true
-refuses_shortly (refused r) = is_refused r
+refuses_shortly (refused r) = is_short r.reply && not (is_ok r.code)
 refuses_shortly (runs call) = true
 
-first-short : (call : Call) (rows : List Refusal) → list_all (λ r. is_refused r.1) rows ≡ true → refuses_shortly (verdict_of_row call (first_holding rows)) ≡ true
-first-short call [] h = refl
-first-short call (row ∷ rows) h =
-    let e = and_parts (is_refused row.1) (list_all (λ r. is_refused r.1) rows) h in
-    cond_both row.0 (Some row.1) (first_holding rows) (λ o. refuses_shortly (verdict_of_row call o) ≡ true) (λ holds. e.0) (λ other. first-short call rows e.1)
+row-short : (call : Call) (q : Option Refused) → ((r : Refused) → q ≡ Some r → IsRefusedTo call r) → refuses_shortly (verdict_of_row call q) ≡ true
+row-short call None told = refl
+row-short call (Some r) told = let t = told r refl in and_from (is_short r.reply) (not (is_ok r.code)) t.short (ap not t.code)
 
 spelling-short : (w : World) (s : Session) (spelt : Option Call) → IsSound w → refuses_shortly (verdict_of_spelling w s spelt) ≡ true
 spelling-short w s None h = refl
-spelling-short w s (Some call) h = first-short call ((row call).refusals w s) ((row-sound call).refuses w s h)
+spelling-short w s (Some call) h = row-short call (refusal w s call) (λ r is. (row-sound call).refuses w s r is h)
 
 block-short : (w : World) (s : Session) (r : Request) (block : List ℕ) → IsSound w → refuses_shortly (verdict_of_block w s r block) ≡ true
 block-short w s r [] h = refl

@@ -1,19 +1,23 @@
 -- What each call's row owes; here it is only dispatched.
 use Rattle.std.proofs.Common.{refl}
 use Rattle.afp_requests.specs.declared.call.Call.{Call}
-use Rattle.afp_requests.specs.declared.call.Call.TheVariants.{CloseDir, CloseVol, CreateDir, CreateFile, Delete, Enumerate, EnumerateExt, EnumerateExt2, Flush, GetFileDirParms, GetVolParms, Login, Logout, MoveAndRename, OpenDir, OpenVol, Rename, SetDirParms, SetFileDirParms, SetFileParms, SetVolParms}
+use Rattle.afp_requests.specs.declared.call.Call.TheVariants.{ByteRangeLock, ByteRangeLockExt, CloseDir, CloseFork, CloseVol, CreateDir, CreateFile, Delete, Enumerate, EnumerateExt, EnumerateExt2, Flush, FlushFork, GetFileDirParms, GetForkParms, GetVolParms, Login, Logout, MoveAndRename, OpenDir, OpenFork, OpenVol, Read, ReadExt, Rename, SetDirParms, SetFileDirParms, SetFileParms, SetForkParms, SetVolParms, Write, WriteExt}
 use Rattle.afp_serial.proofs.CloseVolRow.{close-vol-sound}
+use Rattle.afp_serial.proofs.ForkRows.{close-fork-sound, flush-fork-sound, get-fork-parms-sound, read-ext-sound, read-sound}
+use Rattle.afp_serial.proofs.LockRows.{byte-range-lock-ext-sound, byte-range-lock-sound}
 use Rattle.afp_serial.proofs.LoginRows.{login-sound, logout-sound}
+use Rattle.afp_serial.proofs.OpenForkRow.{open-fork-sound}
 use Rattle.afp_serial.proofs.OpenVolRow.{open-vol-sound}
-use Rattle.afp_serial.proofs.SoundRow.{IsSoundRow, no-keeper}
+use Rattle.afp_serial.proofs.SoundRow.{IsSoundRow, no-keeper, silent-refuses}
 use Rattle.afp_serial.proofs.TellRows.{close-dir-sound, enumerate-ext-sound, enumerate-ext2-sound, enumerate-sound, flush-sound, get-file-dir-parms-sound, get-vol-parms-sound, open-dir-sound}
 use Rattle.afp_serial.proofs.TreeRows.{create-dir-sound, create-file-sound, delete-sound, move-and-rename-sound, rename-sound, set-dir-parms-sound, set-file-dir-parms-sound, set-file-parms-sound, set-vol-parms-sound}
+use Rattle.afp_serial.proofs.WriteRows.{set-fork-parms-sound, write-ext-sound, write-sound}
 use Rattle.afp_serial.specs.Rows.{row, unsupported_row}
 
 -- it is always refused
 unsupported-sound : (call : Call) → IsSoundRow call unsupported_row
 unsupported-sound call = record {
-  refuses = λ w s h. refl;
+  refuses = λ w s r is h. silent-refuses call (unsupported_row.refusals w s) r is refl;
   sound = λ w s test lawful found passes h. h;
   fits = λ w s lawful passes h. refl;
   shown = λ w s lawful passes h. absurd (cc);
@@ -25,7 +29,10 @@ unsupported-sound call = record {
 
 pub row-sound : (call : Call) → IsSoundRow call (row call)
 unfolding row
+row-sound (ByteRangeLock flags reference offset length) = byte-range-lock-sound flags reference offset length
+row-sound (ByteRangeLockExt flags reference offset length) = byte-range-lock-ext-sound flags reference offset length
 row-sound (CloseDir volume dir) = close-dir-sound volume dir
+row-sound (CloseFork reference) = close-fork-sound reference
 row-sound (CloseVol volume) = close-vol-sound volume
 row-sound (CreateDir volume dir path) = create-dir-sound volume dir path
 row-sound (CreateFile flag volume dir path) = create-file-sound flag volume dir path
@@ -34,16 +41,24 @@ row-sound (Enumerate volume dir file_bits dir_bits count start size path) = enum
 row-sound (EnumerateExt volume dir file_bits dir_bits count start size path) = enumerate-ext-sound volume dir file_bits dir_bits count start size path
 row-sound (EnumerateExt2 volume dir file_bits dir_bits count start size path) = enumerate-ext2-sound volume dir file_bits dir_bits count start size path
 row-sound (Flush volume) = flush-sound volume
+row-sound (FlushFork reference) = flush-fork-sound reference
 row-sound (GetFileDirParms volume dir file_bits dir_bits path) = get-file-dir-parms-sound volume dir file_bits dir_bits path
+row-sound (GetForkParms reference bits) = get-fork-parms-sound reference bits
 row-sound (GetVolParms volume bits) = get-vol-parms-sound volume bits
 row-sound (Login version uam tail) = login-sound version uam tail
 row-sound Logout = logout-sound
 row-sound (MoveAndRename volume dir target_dir path target_path new_path) = move-and-rename-sound volume dir target_dir path target_path new_path
 row-sound (OpenDir volume dir path) = open-dir-sound volume dir path
+row-sound (OpenFork flag volume dir bits mode path) = open-fork-sound flag volume dir bits mode path
 row-sound (OpenVol bits name) = open-vol-sound bits name
+row-sound (Read reference offset count mask character) = read-sound reference offset count mask character
+row-sound (ReadExt reference offset count) = read-ext-sound reference offset count
 row-sound (Rename volume dir path new_path) = rename-sound volume dir path new_path
 row-sound (SetDirParms volume dir bits path tail) = set-dir-parms-sound volume dir bits path tail
 row-sound (SetFileDirParms volume dir bits path tail) = set-file-dir-parms-sound volume dir bits path tail
 row-sound (SetFileParms volume dir bits path tail) = set-file-parms-sound volume dir bits path tail
+row-sound (SetForkParms reference bits tail) = set-fork-parms-sound reference bits tail
 row-sound (SetVolParms volume bits tail) = set-vol-parms-sound volume bits tail
+row-sound (Write flag reference offset count piece) = write-sound flag reference offset count piece
+row-sound (WriteExt flag reference offset count piece) = write-ext-sound flag reference offset count piece
 row-sound call = unsupported-sound call

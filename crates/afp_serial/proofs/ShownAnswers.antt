@@ -28,15 +28,15 @@ use Rattle.afp_serial.specs.Steps.{Verdict, refused, repeats, runs, verdict}
 use Rattle.afp_serial.specs.World.{World, Session, at_moment}
 
 -- a reply's parts
-abbrev code_of : Told → Code
+abbrev pub code_of : Told → Code
 code_of (told.Reply c block ends) = c
 code_of t = code.MiscErr
 
-abbrev block_in : Told → List ℕ
+abbrev pub block_in : Told → List ℕ
 block_in (told.Reply c block ends) = block
 block_in t = []
 
-abbrev ends_in : Told → Bool
+abbrev pub ends_in : Told → Bool
 ends_in (told.Reply c block ends) = ends
 ends_in t = false
 
@@ -50,7 +50,7 @@ module _ (w : World) (e : Entry) (block : List ℕ) (ends : Bool) (knows : IsKno
 
   verdict-shown : (id : ℕ) (write : Bool) (offset : ℕ) (payload : List ℕ) (s : Session) (v : Verdict) (o : Outcome)
       → e.ask ≡ ask.Call id write offset payload → session_at w e.link.0 ≡ Some s → verdict (at_moment w e.at) s (request id write offset payload) ≡ v → e.outcome ≡ o
-      → told_verdict (at_moment w e.at) s v o ≡ told.Reply code.Ok block ends → IsKeptAnswer w e block ends ⊎ IsEffectAnswer w e block ends
+      → told_verdict (at_moment w e.at) s v o ≡ told.Reply code.Ok block ends → IsKeptAnswer w e code.Ok block ends ⊎ IsEffectAnswer w e block ends
   verdict-shown id write offset payload s (repeats a) o asked attached is went tells = inl (record {
     id = id;
     write = write;
@@ -90,7 +90,7 @@ module _ (w : World) (e : Entry) (block : List ℕ) (ends : Bool) (knows : IsKno
 
   call-shown : (id : ℕ) (write : Bool) (offset : ℕ) (payload : List ℕ) (session : Option Session) (o : Outcome)
       → e.ask ≡ ask.Call id write offset payload → session_at w e.link.0 ≡ session → e.outcome ≡ o
-      → told_call (at_moment w e.at) session (request id write offset payload) o ≡ told.Reply code.Ok block ends → IsKeptAnswer w e block ends ⊎ IsEffectAnswer w e block ends
+      → told_call (at_moment w e.at) session (request id write offset payload) o ≡ told.Reply code.Ok block ends → IsKeptAnswer w e code.Ok block ends ⊎ IsEffectAnswer w e block ends
   call-shown id write offset payload None o asked at went tells = absurd (told_ok told.Displaced block ends refl tells)
   call-shown id write offset payload (Some s) o asked at went tells =
       verdict-shown id write offset payload s (verdict (at_moment w e.at) s (request id write offset payload)) o asked at refl went tells
@@ -104,7 +104,7 @@ module _ (w : World) (e : Entry) (block : List ℕ) (ends : Bool) (knows : IsKno
   parting-not (Some s) = refl
 
   ask-shown : (a : Ask) (o : Outcome) → e.ask ≡ a → e.outcome ≡ o → answer_at (at_moment w e.at) e.link.0 a o ≡ told.Reply code.Ok block ends
-      → IsKeptAnswer w e block ends ⊎ IsEffectAnswer w e block ends
+      → IsKeptAnswer w e code.Ok block ends ⊎ IsEffectAnswer w e block ends
   unfolding answer_at
   ask-shown (ask.Open attention) o asked went tells =
       absurd (told_ok (answer_at (at_moment w e.at) e.link.0 (ask.Open attention) o) block ends

@@ -1,18 +1,23 @@
 -- What the row of a call owes to the laws.
-use Rattle.std.proofs.Common.{◌≡◌, ℕ, ◌<◌, Bool, true, false, not, ◌&&◌, length, Some, None}
+use Rattle.std.proofs.Common.{◌≡◌, ap, sym, refl, subst, ℕ, ◌<◌, Bool, true, false, ◌&&◌, List, [], ◌∷◌, length, Some, None}
 use Rattle.std.specs.Prelude.{find, nat_le}
 use Rattle.std.specs.List.{list_all}
+use Rattle.std.proofs.lemmas.Bool.{and_parts, cond_both}
 use Rattle.afp_base.specs.Choice.{first_holding}
 use Rattle.afp_base.specs.declared.code.Code.{Code}
-use Rattle.afp_base.specs.declared.code.Code.TheVariants.{Ok}
-use Rattle.afp_replies.specs.declared.reply.Reply.{Reply}
+use Rattle.afp_base.specs.declared.code.Code.TheVariants.{DenyConflict, EOFErr, Ok}
+use Rattle.afp_replies.proofs.Asking.{nothing_fits}
+use Rattle.afp_replies.specs.Commands.{shape_of}
 use Rattle.afp_replies.specs.Replies.{Shows, canonical_reply}
+use Rattle.afp_replies.specs.Requested.{FitsRequest, tells_nothing}
+use Rattle.afp_replies.specs.declared.reply.Reply.{Reply}
+use Rattle.afp_replies.specs.declared.reply.Reply.TheVariants.{Empty}
 use Rattle.afp_requests.specs.declared.call.Call.{Call}
 use Rattle.afp_serial.proofs.SoundParts.{ApartSessions}
-use Rattle.afp_serial.specs.CallRow.{Refused, Row}
+use Rattle.afp_serial.specs.CallRow.{Refusal, Refused, Row}
 use Rattle.afp_serial.specs.LawfulCall.{is_lawful_call}
 use Rattle.afp_serial.specs.Limits.{longest_block}
-use Rattle.afp_serial.specs.ReplyKinds.{reply_kind}
+use Rattle.afp_serial.specs.ReplyKinds.{command_of, reply_kind}
 use Rattle.afp_serial.specs.Sessions.{has_session}
 use Rattle.afp_serial.specs.Sound.{IsSound}
 use Rattle.afp_serial.specs.World.{World, Session}
@@ -25,15 +30,85 @@ abbrev pub is_ok : Code → Bool
 is_ok Ok = true
 is_ok code = false
 
--- what is told by a refusal fits in a frame, and its code is not Ok
-abbrev pub is_refused : Refused → Bool
-is_refused r = is_short r.reply && not (is_ok r.code)
+-- the codes under which no request is told more
+abbrev pub is_silent : Code → Bool
+is_silent Ok = false
+is_silent DenyConflict = false
+is_silent EOFErr = false
+is_silent code = true
 
--- What the row of a call owes in a sound world. Its refusals fit in a frame, and none is told Ok. Where it is not refused, and its fields are those
+abbrev pub is_nothing : Reply → Bool
+is_nothing Empty = true
+is_nothing reply = false
+
+-- a refusal tells no more than such a code
+abbrev pub is_refused : Refused → Bool
+is_refused r = is_nothing r.reply && is_silent r.code
+
+-- What a request of a call is told by a refusal: its code is not Ok, and the reply fits in a frame and can be told under that code.
+pub record IsRefusedTo (call : Call) (r : Refused) : Type 0 where
+  pub code : is_ok r.code ≡ false
+  pub short : is_short r.reply ≡ true
+  pub fits : FitsRequest (reply_kind call) r.code r.reply
+
+nothing-is : (reply : Reply) → is_nothing reply ≡ true → reply ≡ Empty
+nothing-is Empty h = refl
+nothing-is reply h = absurd (cc)
+
+silent-not-ok : (code : Code) → is_silent code ≡ true → is_ok code ≡ false
+silent-not-ok Ok h = absurd (cc)
+silent-not-ok code h = refl
+
+pub silent-nothing : (command : ℕ) (code : Code) → is_silent code ≡ true → tells_nothing (shape_of command) code ≡ true
+silent-nothing command Ok h = absurd (cc)
+silent-nothing command DenyConflict h = absurd (cc)
+silent-nothing command EOFErr h = absurd (cc)
+silent-nothing command code h = refl
+
+-- the parts of such a refusal
+pub silent-parts : (r : Refused) → is_refused r ≡ true → (r.reply ≡ Empty) × (is_silent r.code ≡ true)
+silent-parts r h = let e = and_parts (is_nothing r.reply) (is_silent r.code) h in (nothing-is r.reply e.0, e.1)
+
+pub silent-told : (call : Call) (r : Refused) → is_refused r ≡ true → IsRefusedTo call r
+silent-told call r h =
+    let e = silent-parts r h in
+    record {
+      code = silent-not-ok r.code e.1;
+      short = ap is_short e.0;
+      fits = subst (FitsRequest (reply_kind call) r.code) (sym e.0) (nothing_fits (reply_kind call) r.code (silent-nothing (command_of call) r.code e.1));
+    }
+
+-- the first of some refusals that holds, or one behind it
+pub behind-first : (call : Call) (row : Refusal) (rows : List Refusal) (r : Refused) → IsRefusedTo call row.1 → (first_holding rows ≡ Some r → IsRefusedTo call r) → first_holding (row ∷ rows) ≡ Some r → IsRefusedTo call r
+behind-first call row rows r told rest is =
+    cond_both row.0 (Some row.1) (first_holding rows) (λ o. o ≡ Some r → IsRefusedTo call r)
+    (λ here h. let same : row.1 ≡ r = cc in subst (IsRefusedTo call) same told)
+    (λ other h. rest h)
+    is
+
+-- each of some refusals can be told
+abbrev pub AreRefusedTo : Call → List Refusal → Type 0
+AreRefusedTo call [] = Unit {0}
+AreRefusedTo call (row ∷ rows) = IsRefusedTo call row.1 × AreRefusedTo call rows
+
+pub first-told : (call : Call) (rows : List Refusal) (r : Refused) → first_holding rows ≡ Some r → AreRefusedTo call rows → IsRefusedTo call r
+first-told call [] r is all = absurd (cc)
+first-told call (row ∷ rows) r is all = behind-first call row rows r all.0 (λ h. first-told call rows r h all.1) is
+
+silent-all : (call : Call) (rows : List Refusal) → list_all (λ (row : Refusal). is_refused row.1) rows ≡ true → AreRefusedTo call rows
+silent-all call [] all = tt
+silent-all call (row ∷ rows) all =
+    let e = and_parts (is_refused row.1) (list_all (λ (x : Refusal). is_refused x.1) rows) all in
+    (silent-told call row.1 e.0, silent-all call rows e.1)
+
+pub silent-refuses : (call : Call) (rows : List Refusal) (r : Refused) → first_holding rows ≡ Some r → list_all (λ (row : Refusal). is_refused row.1) rows ≡ true → IsRefusedTo call r
+silent-refuses call rows r is all = first-told call rows r is (silent-all call rows all)
+
+-- What the row of a call owes in a sound world. What it is refused with can be told to its requests, and is never told Ok. Where it is not refused, and its fields are those
 -- that bytes give, its effect keeps the world sound; its reply fits in a frame, and is shown by its bytes. In any world its effect keeps sessions
 -- apart, draws no link number, and makes no session; and the volume of the keeper that it names is there.
 pub record IsSoundRow (call : Call) (row : Row) : Type 0 where
-  pub refuses : (w : World) (s : Session) → IsSound w → list_all (λ r. is_refused r.1) (row.refusals w s) ≡ true
+  pub refuses : (w : World) (s : Session) (r : Refused) → first_holding (row.refusals w s) ≡ Some r → IsSound w → IsRefusedTo call r
   pub sound : (w : World) (s : Session) (test : Session → Bool) → is_lawful_call call ≡ true → find test w.sessions ≡ Some s → first_holding (row.refusals w s) ≡ None → IsSound w → IsSound (row.effect w s).world
   pub fits : (w : World) (s : Session) → is_lawful_call call ≡ true → first_holding (row.refusals w s) ≡ None → IsSound w → is_short (row.effect w s).reply ≡ true
   pub shown : (w : World) (s : Session) → is_lawful_call call ≡ true → first_holding (row.refusals w s) ≡ None → IsSound w → Shows (row.effect w s).reply (reply_kind call) Ok (canonical_reply (row.effect w s).reply)

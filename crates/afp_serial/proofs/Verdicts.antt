@@ -1,11 +1,12 @@
 -- What a verdict says of a request.
-use Rattle.std.proofs.Common.{◌≡◌, ◌∙◌, ap, sym, refl, ℕ, Bool, true, false, not, ◌&&◌, cond, List, [], ◌∷◌, Option, Some, None}
+use Rattle.std.proofs.Common.{◌≡◌, ◌∙◌, ap, sym, refl, inl, inr, ◌⊎◌, ℕ, Bool, true, false, not, ◌&&◌, cond, List, [], ◌∷◌, Option, Some, None}
 use Rattle.std.specs.Prelude.{is_none}
 use Rattle.std.proofs.lemmas.Bool.{cond_both, not-false}
 use Rattle.afp_base.specs.Cached.{Request, Answer, cached_answer}
-use Rattle.afp_base.specs.declared.code.Code.TheVariants.{CallNotSupported, UserNotAuth}
+use Rattle.afp_base.specs.declared.code.Code.TheVariants.{CallNotSupported, ParamErr, UserNotAuth}
 use Rattle.afp_requests.specs.Spelt.{is_command, spelt_call}
 use Rattle.afp_requests.specs.declared.call.Call.{Call}
+use Rattle.afp_serial.proofs.SoundRow.{is_refused}
 use Rattle.afp_serial.specs.Laws.{ComesTo}
 use Rattle.afp_serial.specs.CallRow.{Refused, plain}
 use Rattle.afp_serial.specs.Rows.{refusal}
@@ -104,3 +105,37 @@ runs-of w s r call c =
     chosen true false p q = refl
     chosen true true p q = cc
     chosen false lacks p q = cc
+
+-- what is refused is refused by the row of the call that is spelt, or before that, where it is told nothing
+
+abbrev pub Refuses : World → Session → Option Call → Refused → Type 0
+Refuses w s spelt x = ((call : Call) × (spelt ≡ Some call) × (refusal w s call ≡ Some x)) ⊎ (is_refused x ≡ true)
+
+row-refused : (c : Call) (q : Option Refused) (x : Refused) → verdict_of_row c q ≡ refused x → q ≡ Some x
+row-refused c (Some y) x h = let same : y ≡ x = cc in ap Some same
+row-refused c None x h = absurd (cc)
+
+plain-refused : (w : World) (s : Session) (spelt : Option Call) (y x : Refused) → is_refused y ≡ true → refused y ≡ refused x → Refuses w s spelt x
+plain-refused w s spelt y x silent h = let same : y ≡ x = cc in inr (ap is_refused (sym same) ∙ silent)
+
+spelling-refused : (w : World) (s : Session) (spelt : Option Call) (x : Refused) → verdict_of_spelling w s spelt ≡ refused x → Refuses w s spelt x
+spelling-refused w s None x h = plain-refused w s None (plain ParamErr) x refl h
+spelling-refused w s (Some c) x h = inl (c, refl, row-refused c (refusal w s c) x h)
+
+block-refused : (w : World) (s : Session) (r : Request) (block : List ℕ) (x : Refused) → verdict_of_block w s r block ≡ refused x → Refuses w s (spelt_call (block_of r) (enclosed_of r)) x
+block-refused w s r [] x h = plain-refused w s (spelt_call (block_of r) (enclosed_of r)) (plain ParamErr) x refl h
+block-refused w s r (command ∷ fields) x h = by (is_command command) (is_none s.user && needs_user command) h
+  where
+    by : (known lacks : Bool) → cond (not known) (refused (plain CallNotSupported)) (cond lacks (refused (plain UserNotAuth)) (verdict_of_spelling w s (spelt_call (block_of r) (enclosed_of r)))) ≡ refused x
+        → Refuses w s (spelt_call (block_of r) (enclosed_of r)) x
+    by false lacks k = plain-refused w s (spelt_call (block_of r) (enclosed_of r)) (plain CallNotSupported) x refl k
+    by true true k = plain-refused w s (spelt_call (block_of r) (enclosed_of r)) (plain UserNotAuth) x refl k
+    by true false k = spelling-refused w s (spelt_call (block_of r) (enclosed_of r)) x k
+
+kept-refused : (w : World) (s : Session) (r : Request) (kept : Option Answer) (x : Refused) → verdict_of_kept w s r kept ≡ refused x → Refuses w s (spelt_call (block_of r) (enclosed_of r)) x
+kept-refused w s r (Some answer) x h = absurd (cc)
+kept-refused w s r None x h = block-refused w s r (block_of r) x h
+
+pub refused-by : (w : World) (s : Session) (r : Request) (x : Refused) → verdict w s r ≡ refused x → Refuses w s (spelt_call (block_of r) (enclosed_of r)) x
+unfolding verdict
+refused-by w s r x h = kept-refused w s r (cached_answer s.cache r) x h

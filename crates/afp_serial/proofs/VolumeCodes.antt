@@ -1,4 +1,4 @@
--- No refusal of a call on one volume is the code Ok.
+-- Each refusal of a call on one volume has a code under which no more is told.
 use Rattle.std.proofs.Common.{◌==◌, ◌≡◌, refl, ℕ, Bool, true, not, ◌&&◌, List, [], ◌∷◌, length, take, Option, Some, None}
 use Rattle.std.specs.Prelude.{Result, Ok, Err, nat_lt}
 use Rattle.std.specs.List.{list_all}
@@ -11,7 +11,7 @@ use Rattle.afp_names.specs.Name.{name_key}
 use Rattle.afp_names.specs.Path.{PathValue}
 use Rattle.afp_names.specs.declared.path.Step.{Step}
 use Rattle.afp_names.specs.declared.path.Step.TheVariants.{Down, Up}
-use Rattle.afp_serial.proofs.SoundRow.{is_ok}
+use Rattle.afp_serial.proofs.SoundRow.{is_silent}
 use Rattle.afp_volume.specs.Calls.{Opened, behind, first_or}
 use Rattle.afp_volume.specs.CreateDir.{create_dir_refusal}
 use Rattle.afp_volume.specs.CreateFile.{create_file_refusal, create_file_there}
@@ -30,32 +30,32 @@ use Rattle.afp_volume.specs.TreeSteps.{TreeCall, CreateDir, CreateFile, Delete, 
 use Rattle.afp_volume.specs.VolumeState.{Row, VolumeState, root_parent}
 use Rattle.afp_volume.specs.Walk.{before_down, child, child_by_key, failed_down, found, has_directory, is_start, named_in, new_place, not_above_root, one_down, one_down_or, onward, parent_at, place_behind, walk, walk_from}
 
--- a code that is not Ok, or none
+-- such a code, or none
 abbrev pub is_refusal : Option Code → Bool
 is_refusal None = true
-is_refusal (Some code) = not (is_ok code)
+is_refusal (Some code) = is_silent code
 
--- a result that fails with no Ok
+-- a result that fails with such a code
 abbrev pub fails_rightly : {A : Type 0} → Result A Code → Bool
 fails_rightly (Ok a) = true
-fails_rightly (Err code) = not (is_ok code)
+fails_rightly (Err code) = is_silent code
 
--- conditions under none of which the code is Ok
+-- conditions with such codes
 abbrev pub are_refusals : List (Bool × Code) → Bool
-are_refusals rows = list_all (λ row. not (is_ok row.1)) rows
+are_refusals rows = list_all (λ row. is_silent row.1) rows
 
 -- lists of conditions, and what stands behind walks
 
 first-refuses : (rows : List (Bool × Code)) → are_refusals rows ≡ true → is_refusal (first_holding rows) ≡ true
 first-refuses [] h = refl
 first-refuses (row ∷ rows) h =
-    let e = and_parts (not (is_ok row.1)) (are_refusals rows) h in
+    let e = and_parts (is_silent row.1) (are_refusals rows) h in
     cond_both row.0 (Some row.1) (first_holding rows) (λ o. is_refusal o ≡ true) (λ holds. e.0) (λ other. first-refuses rows e.1)
 
 or-refuses : (rows : List (Bool × Code)) (rest : Option Code) → are_refusals rows ≡ true → is_refusal rest ≡ true → is_refusal (first_or rows rest) ≡ true
 or-refuses [] rest h k = k
 or-refuses (row ∷ rows) rest h k =
-    let e = and_parts (not (is_ok row.1)) (are_refusals rows) h in
+    let e = and_parts (is_silent row.1) (are_refusals rows) h in
     cond_both row.0 (Some row.1) (first_or rows rest) (λ o. is_refusal o ≡ true) (λ holds. e.0) (λ other. or-refuses rows rest e.1 k)
 
 behind-refuses : {A : Type 0} (r : Result A Code) (refused : A → Option Code) → fails_rightly r ≡ true → ((a : A) → is_refusal (refused a) ≡ true) → is_refusal (behind r refused) ≡ true
@@ -64,15 +64,15 @@ behind-refuses (Err code) refused h gives = h
 
 -- walks
 
-onward-fails : (o : Option ℕ) (code : Code) (rest : ℕ → Result ℕ Code) → not (is_ok code) ≡ true → ((id : ℕ) → fails_rightly (rest id) ≡ true) → fails_rightly (onward o code rest) ≡ true
+onward-fails : (o : Option ℕ) (code : Code) (rest : ℕ → Result ℕ Code) → is_silent code ≡ true → ((id : ℕ) → fails_rightly (rest id) ≡ true) → fails_rightly (onward o code rest) ≡ true
 onward-fails None code rest h gives = h
 onward-fails (Some id) code rest h gives = gives id
 
-missing-down : (missing : Code) (steps : List Step) → not (is_ok missing) ≡ true → not (is_ok (failed_down missing steps)) ≡ true
+missing-down : (missing : Code) (steps : List Step) → is_silent missing ≡ true → is_silent (failed_down missing steps) ≡ true
 missing-down missing [] h = h
 missing-down missing (step ∷ steps) h = refl
 
-from-fails : (rows : List Row) (kind : ℕ) (missing : Code) (steps : List Step) (here : ℕ) → not (is_ok missing) ≡ true → fails_rightly (walk_from rows kind missing steps here) ≡ true
+from-fails : (rows : List Row) (kind : ℕ) (missing : Code) (steps : List Step) (here : ℕ) → is_silent missing ≡ true → fails_rightly (walk_from rows kind missing steps here) ≡ true
 from-fails rows kind missing [] here h = refl
 from-fails rows kind missing (Up ∷ steps) here h = onward-fails (parent_at rows here) ObjectNotFound (walk_from rows kind missing steps) refl (λ id. from-fails rows kind missing steps id h)
 from-fails rows kind missing (Down name ∷ steps) here h =
@@ -82,7 +82,7 @@ above-fails : (r : Result ℕ Code) → fails_rightly r ≡ true → fails_right
 above-fails (Ok id) h = cond_both (id == root_parent) (Err ObjectNotFound) (Ok id) (λ r. fails_rightly r ≡ true) (λ above. refl) (λ other. refl)
 above-fails (Err code) h = h
 
-walk-fails : (rows : List Row) (kind : ℕ) (missing : Code) (dir : ℕ) (steps : List Step) → not (is_ok missing) ≡ true → fails_rightly (walk rows kind missing dir steps) ≡ true
+walk-fails : (rows : List Row) (kind : ℕ) (missing : Code) (dir : ℕ) (steps : List Step) → is_silent missing ≡ true → fails_rightly (walk rows kind missing dir steps) ≡ true
 unfolding walk
 walk-fails rows kind missing dir steps h =
     cond_both (is_start rows dir) (not_above_root (walk_from rows kind missing steps dir)) (Err DirNotFound) (λ r. fails_rightly r ≡ true)

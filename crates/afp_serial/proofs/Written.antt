@@ -12,7 +12,7 @@ use Rattle.afp_replies.specs.declared.reply.Reply.{Reply}
 use Rattle.afp_serial.proofs.OnForkRows.{IsHeld, IsHeldFile, held-file, sound-file}
 use Rattle.afp_serial.proofs.PlacedLists.{or-split}
 use Rattle.afp_serial.proofs.VolumeStates.{state-at, state-other}
-use Rattle.afp_serial.specs.CallRow.{silently}
+use Rattle.afp_serial.specs.CallRow.{with_empty_reply}
 use Rattle.afp_serial.specs.Fork.{is_other_length, length_for, set_fork_parms_row}
 use Rattle.afp_serial.specs.ForkBytes.{WriteAsked, ahead, meets_end, most_read, read_bytes, write_end, writes, writes_some, written_bytes}
 use Rattle.afp_serial.specs.Limits.{longest_block}
@@ -37,16 +37,16 @@ under w s reference o v file own there row =
     ∙ ap (λ q. option_map bytes_of (file_on o q)) there
     ∙ ap (λ q. option_map bytes_of (option_map (λ (x : File). record { fork = o; volume = v; file = x }) q)) row
 
-other-bytes : (now : ℕ) (resource : Bool) (bytes : List ℕ) (file : File) (r : Bool) → fork_of r (written now resource bytes true file) ≡ cond (beq r resource) bytes (fork_of r file)
+pub other-bytes : (now : ℕ) (resource : Bool) (bytes : List ℕ) (file : File) (r : Bool) → fork_of r (written now resource bytes true file) ≡ cond (beq r resource) bytes (fork_of r file)
 other-bytes now true bytes file true = refl
 other-bytes now true bytes file false = refl
 other-bytes now false bytes file true = refl
 other-bytes now false bytes file false = refl
 
-one-kind : (f g : Fork) → is_one_fork g f ≡ true → g ≡ f
+pub one-kind : (f g : Fork) → is_one_fork g f ≡ true → g ≡ f
 one-kind f g h = (one_fork g f).0 h
 
-beq-own : (b : Bool) → beq b b ≡ true
+pub beq-own : (b : Bool) → beq b b ≡ true
 beq-own true = refl
 beq-own false = refl
 
@@ -79,7 +79,7 @@ writes-seen w s t reference other f g asked reply h is_f is_g same some =
 pub lengths-seen : (w : World) (s t : Session) (reference other bits : ℕ) (rest : List ℕ) (f g : OpenFile) → IsSound w → open_file w s reference ≡ Some f → open_file w t other ≡ Some g → is_one_fork g.fork.fork f.fork.fork ≡ true → is_other_length bits rest f ≡ true
     → bytes_under ((set_fork_parms_row reference bits rest).effect w s).world t other ≡ Some (resized (bytes_of f) (length_for bits rest f))
 lengths-seen w s t reference other bits rest f g h is_f is_g same some =
-    ap (λ q. bytes_under (done_with q w (λ x. silently (with_bytes w x (is_other_length bits rest x) (resized (bytes_of x) (length_for bits rest x))))).world t other) is_f
+    ap (λ q. bytes_under (done_with q w (λ x. with_empty_reply (with_bytes w x (is_other_length bits rest x) (resized (bytes_of x) (length_for bits rest x))))).world t other) is_f
     ∙ ap (λ b. bytes_under (with_bytes w f b (resized (bytes_of f) (length_for bits rest f))) t other) some
     ∙ bytes-seen w s t reference other f g (resized (bytes_of f) (length_for bits rest f)) h is_f is_g same
 

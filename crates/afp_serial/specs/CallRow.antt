@@ -30,8 +30,8 @@ pub record Effect : Type 0 where
   pub reply : Reply
 
 -- with an empty reply
-abbrev pub silently : World → Effect
-silently w = record { world = w; reply = Empty }
+abbrev pub with_empty_reply : World → Effect
+with_empty_reply w = record { world = w; reply = Empty }
 
 -- The row of a call: the conditions under which it is refused, in order; what it does else; and the index of the volume whose
 -- keeper it commits to or settles, so that it may meet a fault, or none.

@@ -1,12 +1,12 @@
 -- FPCloseVol (AFP Reference, "FPCloseVol").
 use Rattle.std.specs.Prelude.{ℕ, ◌==◌, not, ◌&&◌, [], ◌∷◌, filter}
-use Rattle.afp_serial.specs.CallRow.{Effect, Row, commits_nothing, silently, vol}
+use Rattle.afp_serial.specs.CallRow.{Effect, Row, commits_nothing, with_empty_reply, vol}
 use Rattle.afp_serial.specs.Sessions.{with_session, closing}
 use Rattle.afp_serial.specs.World.{World, Session}
 
 -- the session's forks on the volume are closed, and the volume is no more open in it
 abbrev pub close_vol_effect : ℕ → World → Session → Effect
-close_vol_effect volume w s = silently (closing
+close_vol_effect volume w s = with_empty_reply (closing
     (with_session w (record s { volumes = filter (λ v. not (v == volume)) s.volumes }))
     (λ o. not ((o.session == s.number) && (o.fork.volume == volume))))
 

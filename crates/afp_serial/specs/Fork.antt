@@ -14,10 +14,10 @@ use Rattle.afp_volume.specs.OpenFork.{fork_values, is_resource, open_fork_file, 
 use Rattle.afp_volume.specs.Parms.{is_outside}
 use Rattle.afp_volume.specs.SetForkParms.{asks_length, has_no_length, length_in}
 use Rattle.afp_volume.specs.VolumeState.{Row as File, VolumeState}
-use Rattle.afp_serial.specs.CallRow.{Effect, Refusal, Row, commits_nothing, plain, silently, vol}
+use Rattle.afp_serial.specs.CallRow.{Effect, Refusal, Row, commits_nothing, plain, with_empty_reply, vol}
 use Rattle.afp_serial.specs.Limits.{most_forks}
 use Rattle.afp_serial.specs.OnFork.{OpenFile, bytes_of, is_locked, keeper_if, keeps_all, own_keeper, placed, row_on_fork, with_bytes}
-use Rattle.afp_serial.specs.OnVolume.{coded, opened_on, refused_on}
+use Rattle.afp_serial.specs.OnVolume.{refused_before, opened_on, refused_on}
 use Rattle.afp_serial.specs.Sessions.{closing, is_open, volume_at}
 use Rattle.afp_serial.specs.World.{World, Session, OpenFork}
 
@@ -95,14 +95,14 @@ with_fork w o = record w { opens = with_open o w.opens }
 
 -- the fork is open, and the file is told as it is then; a file that was not found was refused
 abbrev pub opens_fork : World → Session → OpenAsked → Option File → Effect
-opens_fork w s asked None = silently w
+opens_fork w s asked None = with_empty_reply w
 opens_fork w s asked (Some file) =
     let new : OpenFork = new_fork w s asked file in
     record { world = with_fork w new; reply = opened_reply (with_fork w new) asked new.reference file }
 
 abbrev pub opens_asked : OpenAsked → ℕ → PathValue → Row
 opens_asked asked dir path = record {
-  refusals = λ w s. vol s asked.volume ∷ coded (refused_on (volume_at w.volumes asked.volume) (λ v. open_fork_refusal v asked.bits asked.access.write dir path)) (denied_of w s asked (file_asked (volume_at w.volumes asked.volume) dir path));
+  refusals = λ w s. vol s asked.volume ∷ refused_before (refused_on (volume_at w.volumes asked.volume) (λ v. open_fork_refusal v asked.bits asked.access.write dir path)) (denied_of w s asked (file_asked (volume_at w.volumes asked.volume) dir path));
   effect = λ w s. opens_fork w s asked (file_asked (volume_at w.volumes asked.volume) dir path);
   committed = commits_nothing;
 }
@@ -113,12 +113,12 @@ open_fork_row flag volume dir bits mode path = opens_asked (record { volume = vo
 -- FPCloseFork: the fork is closed, and its locks are gone
 
 abbrev pub close_fork_row : ℕ → Row
-close_fork_row reference = row_on_fork reference (λ w f. []) (λ w f. silently (closing w (λ o. not (o.reference == reference)))) keeps_all
+close_fork_row reference = row_on_fork reference (λ w f. []) (λ w f. with_empty_reply (closing w (λ o. not (o.reference == reference)))) keeps_all
 
 -- FPFlushFork: the keeper of its volume settles what was committed to it
 
 abbrev pub flush_fork_row : ℕ → Row
-flush_fork_row reference = row_on_fork reference (λ w f. []) (λ w f. silently w) (λ w f. own_keeper f)
+flush_fork_row reference = row_on_fork reference (λ w f. []) (λ w f. with_empty_reply w) (λ w f. own_keeper f)
 
 -- FPGetForkParms
 
@@ -156,5 +156,5 @@ set_fork_parms_refusals bits tail w f =
 abbrev pub set_fork_parms_row : ℕ → ℕ → List ℕ → Row
 set_fork_parms_row reference bits tail = row_on_fork reference
     (set_fork_parms_refusals bits tail)
-    (λ w f. silently (with_bytes w f (is_other_length bits tail f) (resized (bytes_of f) (length_for bits tail f))))
+    (λ w f. with_empty_reply (with_bytes w f (is_other_length bits tail f) (resized (bytes_of f) (length_for bits tail f))))
     (λ w f. keeper_if (is_other_length bits tail f) f)

@@ -25,6 +25,7 @@ use Rattle.afp_serial.specs.LawfulCall.{is_lawful_call}
 use Rattle.afp_serial.specs.Lock.{byte_range_lock_ext_row, byte_range_lock_row, last_byte, range_of}
 use Rattle.afp_serial.specs.Limits.{longest_block, most_forks, most_sessions}
 use Rattle.afp_serial.specs.ReplyKinds.{reply_kind}
+use Rattle.afp_serial.specs.Rows.{refusal}
 use Rattle.afp_serial.specs.Sessions.{is_open, volume_at}
 use Rattle.afp_serial.specs.Sound.{IsSound, share_fork}
 use Rattle.afp_serial.specs.World.{World, Session, OpenFork, Lock}
@@ -122,6 +123,11 @@ DenialIsShown =
     → file_asked (volume_at w.volumes volume.0) dir.0 path ≡ Some file
     → let denied : Reply = opened_reply w (record { volume = volume.0; bits = bits; resource = resource; access = access }) 0 file in
     Shows denied (reply_kind (calls.OpenFork flag volume dir bits mode path)) DenyConflict (canonical_reply denied)
+
+-- So is what each refusal of each call's row tells: with its code, to a request of that call's kind. Where it tells nothing its code is one under which
+-- such a request is told nothing.
+abbrev pub RefusalsAreShown : Type 0
+RefusalsAreShown = (w : World) (s : Session) (call : Call) (r : Refused) → IsSound w → refusal w s call ≡ Some r → Shows r.reply (reply_kind call) r.code (canonical_reply r.reply)
 
 -- a row changes no volume; a row that commits nothing changes nothing at all
 abbrev pub LeavesVolumes : Row → Type 0

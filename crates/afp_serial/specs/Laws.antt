@@ -5,6 +5,8 @@ use Rattle.afp_base.specs.declared.code.Code.{Code}
 use Rattle.afp_base.specs.declared.code.Code.TheVariants.{MiscErr, Ok}
 use Rattle.afp_base.specs.declared.ids.LinkNumber.{LinkNumber}
 use Rattle.afp_replies.specs.Replies.{Shows, canonical_reply}
+use Rattle.afp_replies.specs.declared.reply.Reply.TheVariants.{Empty}
+use Rattle.afp_replies.specs.declared.reply.ReplyKind.{ReplyKind}
 use Rattle.afp_requests.specs.Spelt.{is_command, spelt_call}
 use Rattle.afp_requests.specs.declared.call.Call.{Call}
 use Rattle.afp_volume.specs.TypedVolume.{are_bytes}
@@ -16,6 +18,7 @@ use Rattle.afp_serial.specs.declared.ask.Outcome.TheVariants.{Done, Fault}
 use Rattle.afp_serial.specs.declared.ask.Told.TheVariants as told
 use Rattle.afp_serial.specs.declared.attachment.Attachment.TheVariants.{Attached}
 use Rattle.afp_serial.specs.Answer.{answer, after, is_legal, link_number, new_session, request, swept}
+use Rattle.afp_serial.specs.CallRow.{Refused}
 use Rattle.afp_serial.specs.History.{answers, is_lawful, opened_in, stand}
 use Rattle.afp_serial.specs.Household.{Household}
 use Rattle.afp_serial.specs.HouseFault.{house_fault}
@@ -146,7 +149,7 @@ abbrev pub SpeltIsLawful : Type 0
 SpeltIsLawful = (block : List ℕ) (enclosed : Option (List ℕ)) (call : Call) → are_bytes block ≡ true → are_bytes_or_none enclosed ≡ true → spelt_call block enclosed ≡ Some call → is_lawful_call call ≡ true
 
 -- The answer is one that was kept for an equal request of the session.
-pub record IsKeptAnswer (w : World) (e : Entry) (block : List ℕ) (ends : Bool) : Type 0 where
+pub record IsKeptAnswer (w : World) (e : Entry) (code : Code) (block : List ℕ) (ends : Bool) : Type 0 where
   pub id : ℕ
   pub write : Bool
   pub offset : ℕ
@@ -154,7 +157,7 @@ pub record IsKeptAnswer (w : World) (e : Entry) (block : List ℕ) (ends : Bool)
   pub asked : e.ask ≡ ask.Call id write offset payload
   pub session : Session
   pub attached : session_at w e.link.0 ≡ Some session
-  pub kept : cached_answer session.cache (request id write offset payload) ≡ Some (record { code = Ok; block = block })
+  pub kept : cached_answer session.cache (request id write offset payload) ≡ Some (record { code = code; block = block })
   pub ends_not : ends ≡ false
 
 -- The answer is that of a call which had its effect: its block is the row's reply, and shows it to a request of that call's kind.
@@ -177,7 +180,35 @@ pub record IsEffectAnswer (w : World) (e : Entry) (block : List ℕ) (ends : Boo
 abbrev pub TellsShown : Type 0
 TellsShown =
     (w : World) (e : Entry) (block : List ℕ) (ends : Bool) → IsSound w → is_legal w e ≡ true → answer w e ≡ told.Reply Ok block ends
-    → IsKeptAnswer w e block ends ⊎ IsEffectAnswer w e block ends
+    → IsKeptAnswer w e Ok block ends ⊎ IsEffectAnswer w e block ends
+
+-- The answer is a refusal of a call's row: its block is the reply of that refusal, and shows it under its code to a request of that call's kind.
+pub record IsRowRefusal (w : World) (e : Entry) (code : Code) (block : List ℕ) : Type 0 where
+  pub id : ℕ
+  pub write : Bool
+  pub offset : ℕ
+  pub payload : List ℕ
+  pub asked : e.ask ≡ ask.Call id write offset payload
+  pub session : Session
+  pub attached : session_at w e.link.0 ≡ Some session
+  pub call : Call
+  pub spelt : spelt_call (block_of (request id write offset payload)) (enclosed_of (request id write offset payload)) ≡ Some call
+  pub told_by : Refused
+  pub refuses : refusal (at_moment w e.at) session call ≡ Some told_by
+  pub code_is : code ≡ told_by.code
+  pub block_is : block ≡ canonical_reply told_by.reply
+  pub shows : Shows told_by.reply (reply_kind call) code block
+
+-- the answer has no bytes, and under its code these are the empty reply to a request of each kind
+pub record TellsNothing (code : Code) (block : List ℕ) : Type 0 where
+  pub bytes : block ≡ []
+  pub shows : (kind : ReplyKind) → Shows Empty kind code block
+
+-- the law of refusals: an answer that is not Ok is a kept one, or the shown refusal of a call's row, or tells nothing; and the session goes on
+abbrev pub RefusesShown : Type 0
+RefusesShown =
+    (w : World) (e : Entry) (code : Code) (block : List ℕ) (ends : Bool) → IsSound w → is_legal w e ≡ true → answer w e ≡ told.Reply code block ends → code ≢ Ok
+    → (ends ≡ false) × (IsKeptAnswer w e code block ends ⊎ (IsRowRefusal w e code block ⊎ TellsNothing code block))
 
 -- The plain laws of sessions, after any entries, legal or not, from a world at the start over any volumes: no two sessions have one link; the
 -- n-th session that is opened has the number n, so that none is given twice; and what is opened is a new session of that number.

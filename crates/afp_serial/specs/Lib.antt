@@ -41,3 +41,5 @@ pub mod Laws
 pub mod ForkExamples
 pub mod ForkLaws
 pub mod WriteLaws
+pub mod ForkHistory
+pub mod HistoryLaws

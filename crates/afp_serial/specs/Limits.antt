@@ -1,5 +1,6 @@
 -- The limits of the server (this profile).
 use Rattle.std.specs.Prelude.{ℕ, ◌^◌}
+use Rattle.afp_volume.specs.Enumerate.{longest_reply}
 
 -- the first and the last printable ASCII character: the space and the tilde
 abbrev pub first_printable : ℕ
@@ -45,9 +46,9 @@ most_forks = 256
 abbrev pub most_locks : ℕ
 most_locks = 1024
 
--- the most bytes of a reply's block: those of a frame's payload
+-- the most bytes of a reply's block: those of a frame's payload, as of a list of nodes
 abbrev pub longest_block : ℕ
-longest_block = 131072
+longest_block = longest_reply
 
 -- how many link numbers there are: the last one is 2 ^ 64 - 1
 abbrev pub links_end : ℕ

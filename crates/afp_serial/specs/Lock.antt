@@ -5,7 +5,7 @@ use Rattle.afp_base.specs.Overlap.{Range}
 use Rattle.afp_base.specs.declared.code.Code.TheVariants.{LockErr, NoMoreLocks, ParamErr, RangeNotLocked, RangeOverlap}
 use Rattle.afp_replies.specs.declared.reply.Reply.{Reply}
 use Rattle.afp_replies.specs.declared.reply.Reply.TheVariants.{Start, StartExt}
-use Rattle.afp_serial.specs.CallRow.{Effect, Refusal, Row, plain, silently}
+use Rattle.afp_serial.specs.CallRow.{Effect, Refusal, Row, plain, with_empty_reply}
 use Rattle.afp_serial.specs.ForkBytes.{is_from_end, start_in}
 use Rattle.afp_serial.specs.Limits.{most_locks}
 use Rattle.afp_serial.specs.OnFork.{OpenFile, bytes_of, is_met_by_other, keeps_all, meets_lock, placed, row_on_fork}
@@ -85,7 +85,7 @@ unlocked w o range = record w { locks = filter (λ lock. not (is_lock o.referenc
 
 -- the range is locked or unlocked, and its start is told; what is no range was refused
 abbrev pub locks_range : Bool → World → OpenFork → (ℕ → Reply) → Option Range → Effect
-locks_range unlocks w o reply None = silently w
+locks_range unlocks w o reply None = with_empty_reply w
 locks_range unlocks w o reply (Some range) = record { world = if unlocks then unlocked w o range else locked w o range; reply = reply range.from }
 
 abbrev pub locks : ℕ → LockAsked → (ℕ → Reply) → Row

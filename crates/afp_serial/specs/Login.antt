@@ -2,7 +2,7 @@
 use Rattle.std.specs.Prelude.{ℕ, not, List, [], ◌∷◌, Some, is_some, bytes_eq}
 use Rattle.std.specs.List.{list_any}
 use Rattle.afp_base.specs.declared.code.Code.TheVariants.{ParamErr, BadVersNum, BadUAM}
-use Rattle.afp_serial.specs.CallRow.{Row, commits_nothing, plain, silently}
+use Rattle.afp_serial.specs.CallRow.{Row, commits_nothing, plain, with_empty_reply}
 use Rattle.afp_serial.specs.Sessions.{with_session}
 use Rattle.afp_serial.specs.StatusBlock.{no_user, versions}
 
@@ -18,6 +18,6 @@ login_row version uam = record {
       ∷ (not (list_any (bytes_eq version) versions), plain BadVersNum)
       ∷ (not (bytes_eq uam no_user), plain BadUAM)
       ∷ [];
-  effect = λ w s. silently (with_session w (record s { user = Some guest_id }));
+  effect = λ w s. with_empty_reply (with_session w (record s { user = Some guest_id }));
   committed = commits_nothing;
 }

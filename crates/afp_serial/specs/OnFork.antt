@@ -7,7 +7,7 @@ use Rattle.afp_base.specs.declared.code.Code.TheVariants.{ParamErr}
 use Rattle.afp_volume.specs.ForkEffect.{fork_effect, fork_of}
 use Rattle.afp_volume.specs.VolumeState.{Row as File, VolumeState}
 use Rattle.afp_volume.specs.Walk.{row_at}
-use Rattle.afp_serial.specs.CallRow.{Effect, Refusal, Row, plain, silently}
+use Rattle.afp_serial.specs.CallRow.{Effect, Refusal, Row, plain, with_empty_reply}
 use Rattle.afp_serial.specs.OnVolume.{keeper_of, with_volume_state}
 use Rattle.afp_serial.specs.Sessions.{volume_at}
 use Rattle.afp_serial.specs.Sound.{share_fork}
@@ -42,7 +42,7 @@ on_fork (Some f) refuses = refuses f
 
 -- what is done with an open fork, and nothing where there is none
 abbrev pub done_with : Option OpenFile → World → (OpenFile → Effect) → Effect
-done_with None w does = silently w
+done_with None w does = with_empty_reply w
 done_with (Some f) w does = does f
 
 -- the keeper that a call on an open fork commits to or settles

@@ -6,14 +6,14 @@ use Rattle.afp_replies.specs.declared.reply.Reply.{Reply}
 use Rattle.afp_volume.specs.Calls.{Opened}
 use Rattle.afp_volume.specs.TreeSteps.{TreeCall, tree_refusal, tree_effect}
 use Rattle.afp_volume.specs.VolumeState.{VolumeState}
-use Rattle.afp_serial.specs.CallRow.{Effect, Refusal, Row, commits_nothing, plain, silently, vol}
+use Rattle.afp_serial.specs.CallRow.{Effect, Refusal, Row, commits_nothing, plain, with_empty_reply, vol}
 use Rattle.afp_serial.specs.Sessions.{volume_at}
 use Rattle.afp_serial.specs.World.{World, Session, OpenFork}
 
 -- a code as a refusal that tells no more, and what is refused behind it
-abbrev pub coded : Option Code → List Refusal → List Refusal
-coded None rest = rest
-coded (Some code) rest = (true, plain code) ∷ rest
+abbrev pub refused_before : Option Code → List Refusal → List Refusal
+refused_before None rest = rest
+refused_before (Some code) rest = (true, plain code) ∷ rest
 
 -- what is refused of a volume; one that is not there counts as not opened
 abbrev pub refused_on : Option VolumeState → (VolumeState → Option Code) → Option Code
@@ -22,7 +22,7 @@ refused_on (Some v) refuses = refuses v
 
 -- the refusals on a volume: the session has to have opened it, and then it is as the volume refuses
 abbrev pub on_volume : World → Session → ℕ → (VolumeState → Option Code) → List Refusal
-on_volume w s volume refuses = vol s volume ∷ coded (refused_on (volume_at w.volumes volume) refuses) []
+on_volume w s volume refuses = vol s volume ∷ refused_before (refused_on (volume_at w.volumes volume) refuses) []
 
 -- the open forks of a volume, of all sessions
 unfoldable pub opened_on : World → ℕ → List Opened
@@ -39,7 +39,7 @@ with_volume_state w volume v = record w { volumes = with_state w.volumes volume 
 
 -- what is done on a volume, and nothing where it is not there
 abbrev pub done_on : Option VolumeState → World → (VolumeState → Effect) → Effect
-done_on None w does = silently w
+done_on None w does = with_empty_reply w
 done_on (Some v) w does = does v
 
 -- the index, from 0 in house order, of the keeper of the volume of this id

@@ -6,8 +6,8 @@ use Rattle.afp_replies.specs.declared.reply.Reply.{Reply}
 use Rattle.afp_replies.specs.declared.reply.Reply.TheVariants.{Params}
 use Rattle.afp_volume.specs.GetVolParms.{get_vol_parms_refusal, volume_values}
 use Rattle.afp_volume.specs.VolumeState.{VolumeState}
-use Rattle.afp_serial.specs.CallRow.{Effect, Row, commits_nothing, plain, silently}
-use Rattle.afp_serial.specs.OnVolume.{coded}
+use Rattle.afp_serial.specs.CallRow.{Effect, Row, commits_nothing, plain, with_empty_reply}
+use Rattle.afp_serial.specs.OnVolume.{refused_before}
 use Rattle.afp_serial.specs.Sessions.{has_opened, volume_at, with_session}
 use Rattle.afp_serial.specs.World.{World, Session}
 
@@ -30,14 +30,14 @@ open_vol_reply bits id v = Params bits (Volume (volume_values v id bits))
 
 -- the volume is open in the session; a name that no volume has was refused
 abbrev pub opens_volume : World → Session → ℕ → Option ℕ → Option VolumeState → Effect
-opens_volume w s bits None state = silently w
-opens_volume w s bits (Some id) None = silently w
+opens_volume w s bits None state = with_empty_reply w
+opens_volume w s bits (Some id) None = with_empty_reply w
 opens_volume w s bits (Some id) (Some v) = record { world = with_session w (with_volume s id); reply = open_vol_reply bits id v }
 
 -- it asks of the volume at least one thing, and tells it as FPGetVolParms does
 abbrev pub open_vol_row : ℕ → List ℕ → Row
 open_vol_row bits name = record {
-  refusals = λ w s. coded (get_vol_parms_refusal bits) ((is_none (state_named w (volume_named w name)), plain ObjectNotFound) ∷ []);
+  refusals = λ w s. refused_before (get_vol_parms_refusal bits) ((is_none (state_named w (volume_named w name)), plain ObjectNotFound) ∷ []);
   effect = λ w s. opens_volume w s bits (volume_named w name) (state_named w (volume_named w name));
   committed = commits_nothing;
 }

@@ -2,16 +2,19 @@
 use Rattle.std.specs.Prelude.{ℕ, Bool, true, false, [], ◌∷◌, Option}
 use Rattle.afp_base.specs.declared.code.Code.TheVariants.{CallNotSupported}
 use Rattle.afp_requests.specs.declared.call.Call.{Call}
-use Rattle.afp_requests.specs.declared.call.Call.TheVariants.{CloseDir, CloseVol, CreateDir, CreateFile, Delete, Enumerate, EnumerateExt, EnumerateExt2, Flush, GetFileDirParms, GetVolParms, Login, Logout, MoveAndRename, OpenDir, OpenVol, Rename, SetDirParms, SetFileDirParms, SetFileParms, SetVolParms}
+use Rattle.afp_requests.specs.declared.call.Call.TheVariants.{ByteRangeLock, ByteRangeLockExt, CloseDir, CloseFork, CloseVol, CreateDir, CreateFile, Delete, Enumerate, EnumerateExt, EnumerateExt2, Flush, FlushFork, GetFileDirParms, GetForkParms, GetVolParms, Login, Logout, MoveAndRename, OpenDir, OpenFork, OpenVol, Read, ReadExt, Rename, SetDirParms, SetFileDirParms, SetFileParms, SetForkParms, SetVolParms, Write, WriteExt}
 use Rattle.afp_base.specs.Choice.{first_holding}
-use Rattle.afp_serial.specs.CallRow.{Effect, Refused, Row, commits_nothing, plain, silently}
+use Rattle.afp_serial.specs.CallRow.{Effect, Refused, Row, commits_nothing, plain, with_empty_reply}
 use Rattle.afp_serial.specs.CloseVol.{close_vol_row}
 use Rattle.afp_serial.specs.CreateDir.{create_dir_row}
 use Rattle.afp_serial.specs.CreateFile.{create_file_row}
 use Rattle.afp_serial.specs.Enumerate.{enumerate_row, enumerate_ext_row, enumerate_ext2_row}
 use Rattle.afp_serial.specs.Flush.{flush_row}
+use Rattle.afp_serial.specs.Fork.{close_fork_row, flush_fork_row, get_fork_parms_row, open_fork_row, set_fork_parms_row}
+use Rattle.afp_serial.specs.ForkBytes.{read_ext_row, read_row, write_ext_row, write_row}
 use Rattle.afp_serial.specs.GetFileDirParms.{get_file_dir_parms_row}
 use Rattle.afp_serial.specs.GetVolParms.{get_vol_parms_row}
+use Rattle.afp_serial.specs.Lock.{byte_range_lock_ext_row, byte_range_lock_row}
 use Rattle.afp_serial.specs.Login.{login_row}
 use Rattle.afp_serial.specs.Logout.{logout_row}
 use Rattle.afp_serial.specs.OpenDir.{close_dir_row, open_dir_row}
@@ -23,10 +26,13 @@ use Rattle.afp_serial.specs.World.{World, Session}
 
 -- a call that is spelt and has no row yet is not supported
 abbrev pub unsupported_row : Row
-unsupported_row = record { refusals = λ w s. (true, plain CallNotSupported) ∷ []; effect = λ w s. silently w; committed = commits_nothing }
+unsupported_row = record { refusals = λ w s. (true, plain CallNotSupported) ∷ []; effect = λ w s. with_empty_reply w; committed = commits_nothing }
 
 unfoldable pub row : Call → Row
+row (ByteRangeLock flags reference offset length) = byte_range_lock_row flags reference.0 offset length
+row (ByteRangeLockExt flags reference offset length) = byte_range_lock_ext_row flags reference.0 offset length
 row (CloseDir volume dir) = close_dir_row volume.0
+row (CloseFork reference) = close_fork_row reference.0
 row (CloseVol volume) = close_vol_row volume.0
 row (CreateDir volume dir path) = create_dir_row volume.0 dir.0 path
 row (CreateFile flag volume dir path) = create_file_row flag volume.0 dir.0 path
@@ -35,18 +41,26 @@ row (Enumerate volume dir file_bits dir_bits count start size path) = enumerate_
 row (EnumerateExt volume dir file_bits dir_bits count start size path) = enumerate_ext_row volume.0 dir.0 file_bits dir_bits count start size path
 row (EnumerateExt2 volume dir file_bits dir_bits count start size path) = enumerate_ext2_row volume.0 dir.0 file_bits dir_bits count start size path
 row (Flush volume) = flush_row volume.0
+row (FlushFork reference) = flush_fork_row reference.0
 row (GetFileDirParms volume dir file_bits dir_bits path) = get_file_dir_parms_row volume.0 dir.0 file_bits dir_bits path
+row (GetForkParms reference bits) = get_fork_parms_row reference.0 bits
 row (GetVolParms volume bits) = get_vol_parms_row volume.0 bits
 row (Login version uam tail) = login_row version uam
 row Logout = logout_row
 row (MoveAndRename volume dir target_dir path target_path new_path) = move_and_rename_row volume.0 dir.0 path target_dir.0 target_path new_path
 row (OpenDir volume dir path) = open_dir_row volume.0 dir.0 path
+row (OpenFork flag volume dir bits mode path) = open_fork_row flag volume.0 dir.0 bits mode path
 row (OpenVol bits name) = open_vol_row bits name
+row (Read reference offset count mask character) = read_row reference.0 offset count mask character
+row (ReadExt reference offset count) = read_ext_row reference.0 offset count
 row (Rename volume dir path new_path) = rename_row volume.0 dir.0 path new_path
 row (SetDirParms volume dir bits path tail) = set_dir_parms_row volume.0 dir.0 bits path tail
 row (SetFileDirParms volume dir bits path tail) = set_file_dir_parms_row volume.0 dir.0 bits path tail
 row (SetFileParms volume dir bits path tail) = set_file_parms_row volume.0 dir.0 bits path tail
+row (SetForkParms reference bits tail) = set_fork_parms_row reference.0 bits tail
 row (SetVolParms volume bits tail) = set_vol_parms_row volume.0 bits tail
+row (Write flag reference offset count piece) = write_row flag reference.0 offset count piece
+row (WriteExt flag reference offset count piece) = write_ext_row flag reference.0 offset count piece
 row call = unsupported_row
 
 -- what is told by the first condition that holds

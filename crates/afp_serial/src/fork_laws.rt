@@ -1,6 +1,7 @@
 //! Laws of the calls on open forks. Each function says one, and does nothing.
 ghost use Rattle.afp_serial.specs.ForkExamples as worked;
 ghost use Rattle.afp_serial.specs.ForkLaws as laws;
+ghost use Rattle.afp_serial.specs.HistoryLaws as history_laws;
 ghost use Rattle.afp_serial.specs.WriteLaws as write_laws;
 
 use afp_base::laws::{resizing_keeps_the_front, splice_puts_between};
@@ -65,10 +66,12 @@ pub fn forks_are_shared_by_their_rules()
     ensures behind { laws.MeetsNoneBehind }
 {}
 
-/// What a read at the end of a fork and a denied open are told is shown by its bytes, with their codes.
+/// What a read at the end of a fork and a denied open are told is shown by its bytes, with their codes; and so is what any refusal of any call tells
+/// to a request of its kind.
 pub fn told_refusals_are_shown()
     ensures end { laws.EndIsShown }
     ensures denial { laws.DenialIsShown }
+    ensures all { laws.RefusalsAreShown }
 {}
 
 /// Of the calls on open forks FPWrite, FPWriteExt and FPSetForkParms change a volume, and commit that to its keeper: where they commit nothing they
@@ -77,3 +80,23 @@ pub fn forks_commit_what_they_change()
     ensures three { laws.ThreeChangeVolumes }
     ensures others { laws.OthersLeaveVolumes }
 {}
+
+/// At each place of a lawful history no two open forks have one reference, no two opens of one fork conflict, and no byte of a fork is locked
+/// twice: whichever sessions opened and locked.
+pub fn forks_are_shared_in_each_history()
+    ensures opens { history_laws.NeverTwoConflict }
+    ensures locks { history_laws.NeverByteTwice }
+{}
+
+/// A write puts its piece where it starts. While a fork stays open its bytes are those from before, with all that was written in between. So what was written is there until bytes of it are
+/// written again or cut off, and any session that may read them is not refused, and is told them.
+pub fn what_is_written_is_read()
+    ensures changes { history_laws.ForksHaveTheirChanges }
+    ensures puts { history_laws.WritesPutTheirPiece }
+    ensures there { history_laws.WrittenIsThere }
+    ensures passes { history_laws.WrittenIsNotRefused }
+    ensures read { history_laws.WrittenIsRead }
+{
+    splice_puts_between();
+    resizing_keeps_the_front();
+}

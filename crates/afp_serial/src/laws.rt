@@ -29,9 +29,11 @@ pub fn kept_answer_is_told_again()
 {}
 
 /// An answer Ok is one that was kept, or the reply of the call's row, which its block shows to a request of that kind. So no refusal is
-/// told Ok.
+/// told Ok. Any other answer is one that was kept, or what the call's row refuses it with, which its block shows in the same way under its code,
+/// or it has no bytes, and tells nothing to a request of any kind.
 pub fn what_is_told_is_shown()
-    ensures { laws.TellsShown }
+    ensures told { laws.TellsShown }
+    ensures refused { laws.RefusesShown }
 {}
 
 /// A fault comes just where a call would have its effect and its row commits to a volume's keeper, or settles it: so it hides no refusal. It

@@ -1,0 +1,82 @@
+-- What the entries of a history do to the bytes of a fork (this profile).
+use Rattle.std.specs.Prelude.{ℕ, pos, Bool, true, ◌&&◌, if◌then◌else◌, List, [], ◌∷◌, ◌++◌, nat_abs, Option, Some, None, option_map}
+use Rattle.std.specs.List.{list_any}
+use Rattle.afp_base.specs.Cached.{Request}
+use Rattle.afp_base.specs.DenyMode.{Fork, is_one_fork}
+use Rattle.afp_requests.specs.declared.call.Call.{Call}
+use Rattle.afp_requests.specs.declared.call.Call.TheVariants.{SetForkParms, Write, WriteExt}
+use Rattle.afp_volume.specs.ForkEffect.{fork_of}
+use Rattle.afp_volume.specs.VolumeState.{VolumeState}
+use Rattle.afp_volume.specs.Walk.{row_at}
+use Rattle.afp_serial.specs.declared.ask.Ask.{Ask}
+use Rattle.afp_serial.specs.declared.ask.Ask.TheVariants as ask
+use Rattle.afp_serial.specs.declared.ask.Entry.{Entry}
+use Rattle.afp_serial.specs.declared.ask.Outcome.{Outcome}
+use Rattle.afp_serial.specs.declared.ask.Outcome.TheVariants as outcome
+use Rattle.afp_serial.specs.Answer.{after, request}
+use Rattle.afp_serial.specs.Fork.{length_for}
+use Rattle.afp_serial.specs.ForkBytes.{WriteAsked, is_from_end, write_start}
+use Rattle.afp_serial.specs.OnFork.{OpenFile, open_file}
+use Rattle.afp_serial.specs.Sessions.{session_at, volume_at}
+use Rattle.afp_serial.specs.Steps.{Verdict, refused, repeats, runs, verdict}
+use Rattle.afp_serial.specs.World.{World, Session, OpenFork, at_moment}
+use Rattle.afp_serial.specs.WriteLaws.{ForkChange, puts, sets_length}
+
+-- the bytes of a fork, where its volume and its file are there
+abbrev pub bytes_on : Option VolumeState → Fork → Option (List ℕ)
+bytes_on None fork = None
+bytes_on (Some v) fork = option_map (fork_of fork.resource) (row_at v.rows fork.node)
+
+abbrev pub bytes_in : World → Fork → Option (List ℕ)
+bytes_in w fork = bytes_on (volume_at w.volumes fork.volume) fork
+
+-- some session has the fork open
+abbrev pub has_open : World → Fork → Bool
+has_open w fork = list_any (λ (o : OpenFork). is_one_fork o.fork fork) w.opens
+
+-- what is done through an open fork, where it is open on this one
+abbrev pub through : Option OpenFile → Fork → (OpenFile → ForkChange) → List ForkChange
+through None fork change = []
+through (Some f) fork change = if is_one_fork f.fork.fork fork then change f ∷ [] else []
+
+abbrev pub put_of : WriteAsked → OpenFile → ForkChange
+put_of asked f = puts (nat_abs (write_start f asked)) asked.piece
+
+-- what a call that has its effect does to the bytes of a fork that is open: FPWrite, FPWriteExt and FPSetForkParms alone do something
+abbrev pub changes_by : World → Session → Fork → Call → List ForkChange
+changes_by w s fork (Write flag reference offset count piece) = through (open_file w s reference.0) fork (put_of (record { from_end = is_from_end flag; offset = offset; count = pos count; piece = piece }))
+changes_by w s fork (WriteExt flag reference offset count piece) = through (open_file w s reference.0) fork (put_of (record { from_end = is_from_end flag; offset = offset; count = count; piece = piece }))
+changes_by w s fork (SetForkParms reference bits tail) = through (open_file w s reference.0) fork (λ f. sets_length (length_for bits tail f))
+changes_by w s fork call = []
+
+abbrev pub changes_of : World → Session → Fork → Verdict → Outcome → List ForkChange
+changes_of w s fork (repeats answer) o = []
+changes_of w s fork (refused r) o = []
+changes_of w s fork (runs call) outcome.Fault = []
+changes_of w s fork (runs call) outcome.Done = changes_by w s fork call
+
+abbrev pub changes_asked : World → Option Session → Fork → Request → Outcome → List ForkChange
+changes_asked w None fork r o = []
+changes_asked w (Some s) fork r o = changes_of w s fork (verdict w s r) o
+
+abbrev pub changes_at : World → ℕ → Fork → Ask → Outcome → List ForkChange
+changes_at w link fork (ask.Open attention) o = []
+changes_at w link fork (ask.Call id write offset payload) o = changes_asked w (session_at w link) fork (request id write offset payload) o
+changes_at w link fork ask.Pulse o = []
+changes_at w link fork ask.Bye o = []
+changes_at w link fork ask.Lost o = []
+changes_at w link fork ask.Drain o = []
+
+-- what an entry does to the bytes of a fork that is open
+abbrev pub changes_in : World → Entry → Fork → List ForkChange
+changes_in w e fork = changes_at (at_moment w e.at) e.link.0 fork e.ask e.outcome
+
+-- and what all entries do, in order
+abbrev pub all_changes : World → List Entry → Fork → List ForkChange
+all_changes w [] fork = []
+all_changes w (e ∷ es) fork = changes_in w e fork ++ all_changes (after w e) es fork
+
+-- the fork is open, in some session, where each of the entries comes
+abbrev pub stays_open : World → List Entry → Fork → Bool
+stays_open w [] fork = true
+stays_open w (e ∷ es) fork = has_open w fork && stays_open (after w e) es fork
