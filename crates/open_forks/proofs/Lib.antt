@@ -1,0 +1,2 @@
+pub mod HeldLocks
+pub mod OpenRows
