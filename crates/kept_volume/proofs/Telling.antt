@@ -21,6 +21,7 @@ use Rattle.afp_volume.specs.DesktopLaws.{with_desktop}
 use Rattle.afp_volume.specs.GetFileDirParms.{get_file_dir_parms_refusal, get_file_dir_parms_values}
 use Rattle.afp_volume.specs.GetVolParms.{free_bytes, volume_values}
 use Rattle.afp_volume.specs.OpenDir.{open_dir_refusal, open_dir_id}
+use Rattle.afp_volume.specs.OpenFork.{open_fork_file, open_fork_refusal}
 use Rattle.afp_volume.specs.SoundVolume.{IsSoundVolume}
 use Rattle.afp_volume.specs.ValueLaws.{FoundIsTold}
 use Rattle.afp_volume.specs.VolumeState.{Appl, Comment, Icon, VolumeState}
@@ -39,6 +40,17 @@ module _ (v whole : VolumeState) (comments : List Comment) (icons : List Icon) (
   pub id_same : (dir : ℕ) (path : PathValue) → open_dir_id v dir path ≡ open_dir_id whole dir path
   unfolding open_dir_id
   id_same dir path = ap (λ (w : VolumeState). open_dir_id w dir path) is
+
+  pub fork_same : (bits : ℕ) (writes : Bool) (dir : ℕ) (path : PathValue) → open_fork_refusal v bits writes dir path ≡ open_fork_refusal whole bits writes dir path
+  unfolding open_fork_refusal
+  fork_same bits writes dir path = ap (λ (w : VolumeState). open_fork_refusal w bits writes dir path) is
+
+  pub file_same : (dir : ℕ) (path : PathValue) → open_fork_file v dir path ≡ open_fork_file whole dir path
+  unfolding open_fork_file
+  file_same dir path = ap (λ (w : VolumeState). open_fork_file w dir path) is
+
+  pub rows_same : v.rows ≡ whole.rows
+  rows_same = ap (λ (w : VolumeState). w.rows) is
 
   pub node_same : (file_bits dir_bits dir : ℕ) (path : PathValue) → get_file_dir_parms_refusal v file_bits dir_bits dir path ≡ get_file_dir_parms_refusal whole file_bits dir_bits dir path
   unfolding get_file_dir_parms_refusal
@@ -60,6 +72,11 @@ module _ (v whole : VolumeState) (comments : List Comment) (icons : List Icon) (
 pub id_told : (result : Result NodeId PlanFault) (a b : Option ℕ) → a ≡ b → IfOk result (λ id. a ≡ Some id.0) → IfOk result (λ id. b ≡ Some id.0)
 id_told (Ok id) a b same told = sym same ∙ told
 id_told (Err fault) a b same told = told
+
+-- what holds of an id that is told
+pub told_id : (result : Result NodeId PlanFault) (P Q : NodeId → Type 0) → IfOk result P → ((id : NodeId) → P id → Q id) → IfOk result Q
+told_id (Ok id) P Q told more = more id told
+told_id (Err fault) P Q told more = tt
 
 -- where a node is told of, the reply has its values
 pub node_told : FoundIsTold → (v : VolumeState) → IsSoundVolume v → (opens : List Opened) (file_bits dir_bits dir : ℕ) (path : PathValue) (result : Result (Unit {0}) PlanFault) → Refuses result (get_file_dir_parms_refusal v file_bits dir_bits dir path)

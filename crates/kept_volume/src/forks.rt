@@ -1,11 +1,11 @@
 //! What is asked of the forks of a volume beside its keeper.
-ghost use Rattle.std.specs.Prelude.{◌≡◌, ◌++◌, Some, true, length, option_map, IfOk, OnOk, OnErr};
+ghost use Rattle.std.specs.Prelude.{◌≡◌, ◌≤◌, ◌++◌, Some, true, length, option_map, IfOk, OnOk, OnErr};
 ghost use Rattle.afp_base.specs.ForkBytes.{taken};
 ghost use Rattle.afp_bitmap.specs.Bits.{IsWithin, file_mask};
 ghost use Rattle.afp_bitmap.specs.Params.{params};
 ghost use Rattle.afp_volume.specs.ForkEffect.{fork_of};
 ghost use Rattle.afp_volume.specs.OpenFork.{fork_values};
-ghost use Rattle.afp_volume.specs.SoundVolume.{has_file};
+ghost use Rattle.afp_volume.specs.SoundVolume.{has_file, most_fork_bytes};
 ghost use Rattle.afp_volume.specs.VolumeState.{Row};
 ghost use Rattle.afp_volume.specs.Walk.{row_at};
 ghost use Rattle.fork_bytes.specs.Line.{line_of};
@@ -13,6 +13,7 @@ ghost use Rattle.volume_tree.specs.Shown.{fork_at, opened};
 
 use crate::kept::KeptVolume;
 use afp_base::{Bytes, NodeId, OutOfMemory};
+use afp_volume::laws::forks_are_given_bytes;
 use fork_bytes::Fork;
 use record_keeper::Keeper;
 use std::alloc::Global;
@@ -52,6 +53,18 @@ impl<K: Keeper> KeptVolume<K> {
             Some(fork) => Some(fork.len()),
             None => None,
         }
+    }
+
+    /// How many bytes a fork of a file has. That is no more than all forks of a volume may have.
+    pub fn fork_size(&self, id: NodeId, resource: bool) -> u64
+        requires { has_file self.now.state.rows id.0 ≡ true }
+        ensures size { (file : Row) → row_at self.now.state.rows id.0 ≡ Some file → result ≡ length (fork_of resource file) }
+        ensures few { result ≤ most_fork_bytes }
+    {
+        forks_are_given_bytes();
+        self.held.keeps_sound();
+        let fork = fork_in(&self.held, id, resource);
+        fork.len()
     }
 
     /// Appends the at most `count` bytes of a fork from `from` on. An error changes nothing.

@@ -1,5 +1,5 @@
 //! What is asked of a volume beside its keeper.
-ghost use Rattle.std.specs.Prelude.{◌≡◌, ◌++◌, IfOk, OnOk, OnErr, Some};
+ghost use Rattle.std.specs.Prelude.{◌≡◌, ◌++◌, true, option_map, IfOk, OnOk, OnErr, Some};
 ghost use Rattle.afp_bitmap.specs.declared.params.Values.TheVariants.{Volume as VolumeOf};
 ghost use Rattle.afp_replies.specs.Replies.{canonical_reply};
 ghost use Rattle.afp_replies.specs.declared.reply.Reply.TheVariants.{Params};
@@ -9,6 +9,10 @@ ghost use Rattle.afp_volume.specs.Enumerate.{enumerate_refusal};
 ghost use Rattle.afp_volume.specs.GetFileDirParms.{get_file_dir_parms_refusal, get_file_dir_parms_values};
 ghost use Rattle.afp_volume.specs.GetVolParms.{get_vol_parms_refusal, volume_values};
 ghost use Rattle.afp_volume.specs.OpenDir.{open_dir_refusal, open_dir_id};
+ghost use Rattle.afp_volume.specs.OpenFork.{open_fork_file, open_fork_refusal};
+ghost use Rattle.afp_volume.specs.SoundVolume.{has_file};
+ghost use Rattle.afp_volume.specs.VolumeState.{Row};
+ghost use Rattle.afp_volume.specs.Walk.{row_at};
 ghost use Rattle.volume_tree.specs.Answered.{Refuses};
 ghost use Rattle.volume_tree.specs.Shown.{opened};
 
@@ -45,6 +49,25 @@ impl<K: Keeper> KeptVolume<K> {
     {
         let held = &self.held;
         volume_answers::open_dir(alloc, &held.volume, dir, path)
+    }
+
+    /// The id of the file that FPOpenFork finds on the volume, or why the volume refuses that. `bits` are those of what is to be told of the file, and
+    /// `writes` says whether the fork is to be written.
+    pub fn open_fork(
+        &self,
+        alloc: Global,
+        bits: u16,
+        writes: bool,
+        dir: NodeId,
+        path: &Path,
+    ) -> Result<NodeId, PlanFault>
+        ensures refused { Refuses result (open_fork_refusal self.now.state bits writes dir.0 path.now) }
+        ensures file { IfOk result (λ id. has_file self.now.state.rows id.0 ≡ true) }
+        ensures found { IfOk result (λ id. open_fork_file self.now.state dir.0 path.now ≡ row_at self.now.state.rows id.0) }
+        ensures id { IfOk result (λ id. option_map (λ (file : Row). file.id) (open_fork_file self.now.state dir.0 path.now) ≡ Some id.0) }
+    {
+        let held = &self.held;
+        volume_answers::open_fork(alloc, &held.volume, bits, writes, dir, path)
     }
 
     /// FPGetFileDirParms on the volume with these open forks: its reply's bytes, at the end of `out`. An error leaves `out`.

@@ -7,3 +7,4 @@ pub mod EntryBytes
 pub mod Filled
 pub mod Starting
 pub mod ListBytes
+pub mod FoundFiles

@@ -97,5 +97,5 @@ pub(crate) fn put_dir(
     ensures err { OnErr result (out.new ≡ out.old) }
 {
     let values = dir_values(alloc, volume, node, bits)?;
-    put_params(alloc, bits, &Values::Dir(values), out)
+    put_params(bits, &Values::Dir(values), out)
 }

@@ -135,5 +135,5 @@ pub(crate) fn put_file(
     ensures err { OnErr result (out.new ≡ out.old) }
 {
     let values = file_values(alloc, volume, opens, node, bits)?;
-    put_params(alloc, bits, &Values::File(values), out)
+    put_params(bits, &Values::File(values), out)
 }

@@ -6,6 +6,7 @@ mod directory;
 mod entry;
 mod fields;
 mod file;
+mod found_file;
 mod list_asked;
 mod lists;
 mod names;
@@ -13,6 +14,7 @@ mod node;
 mod parms;
 mod volume;
 
+pub use found_file::open_fork;
 pub use list_asked::ListAsked;
 pub use lists::list;
 pub use node::node_params;

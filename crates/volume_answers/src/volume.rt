@@ -76,5 +76,5 @@ pub fn volume_params(
     ensures err { OnErr result (out.new ≡ out.old) }
 {
     let values = volume_values(alloc, volume, id, bits)?;
-    put_params(alloc, bits, &Values::Volume(values), out)
+    put_params(bits, &Values::Volume(values), out)
 }
