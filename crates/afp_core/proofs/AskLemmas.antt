@@ -1,5 +1,5 @@
--- Asks, over worlds without open forks and locks.
-use Rattle.std.proofs.Common.{◌≡◌, ◌∙◌, ap, sym, refl, subst, ℕ, ◌==◌, ◌+◌, ◌<◌, ◌≤◌, Bool, true, false, ◌||◌, not, List, [], ◌∷◌, ◌++◌, length, filter, Option, Some, None, is_some}
+-- Asks.
+use Rattle.std.proofs.Common.{◌≡◌, ◌∙◌, ap, sym, refl, subst, ℕ, ◌+◌, ◌<◌, ◌≤◌, Bool, true, false, ◌||◌, not, List, [], ◌∷◌, ◌++◌, length, filter, Option, Some, None, is_some}
 use Rattle.std.specs.Prelude.{Result, Ok, Err}
 use Rattle.std.proofs.lemmas.Bool.{ne_eqb, le-leb, lt-leb}
 use Rattle.afp_base.specs.Cached.{Request, cached_answer, Kept}
@@ -17,16 +17,16 @@ use Rattle.afp_serial.specs.Answer.{after_at, after_call, answer_at, drain_momen
 use Rattle.afp_serial.specs.Limits.{links_end, most_sessions}
 use Rattle.afp_serial.specs.CallRow.{plain}
 use Rattle.afp_serial.specs.Rows.{refusal}
-use Rattle.afp_serial.specs.Sessions.{has_session, session_at, without_session}
+use Rattle.afp_serial.specs.Sessions.{session_at, without_session}
 use Rattle.afp_serial.specs.Steps.{Verdict, block_of, refused, verdict, verdict_of_block, verdict_of_kept, verdict_of_row}
 use Rattle.afp_serial.specs.World.{World, Session}
 use Rattle.afp_core.specs.SessionList.{IsAt, session_of}
 use Rattle.afp_core.specs.Spelling.{IsSpelled}
-use Rattle.afp_core.specs.Turn.{Comes, RunsAsk, RunsCall, RunsPart, RunsRow, RunsVerdict, done, takes_memory}
+use Rattle.afp_core.specs.Turn.{Comes, IsReady, RunsAsk, RunsCall, RunsPart, RunsRow, RunsVerdict, done, takes_memory}
 use Rattle.afp_core.specs.declared.spelling.Stop.TheVariants.{Refused}
 use Rattle.afp_core.specs.ServerState.{KeptWorld, with_sessions}
 use Rattle.afp_core.proofs.KeeperLemmas.{comes-done, comes-same}
-use Rattle.afp_core.proofs.RowLemmas.{closing-bare, without_session-bare}
+use Rattle.afp_core.proofs.ForkLemmas.{staying}
 
 -- the world with another next link and other sessions
 abbrev pub with_opened : KeptWorld → ℕ → List Session → KeptWorld
@@ -80,24 +80,21 @@ pulse-none w (Some s) = refl
 pub pulse-displaced : (w : World) (link : ℕ) → (link ≡ 0 → ⊥) → told_pulse w link None ≡ Displaced
 pulse-displaced w link h = rw (ne_eqb link 0 h) refl
 
-pub pulse-runs : (old new : KeptWorld) (link : ℕ) (told : Told) (sessions : List Session) → [] ≡ old.world.opens → [] ≡ old.world.locks
-    → told ≡ told_pulse old.world link (session_at old.world link) → new ≡ with_sessions old sessions
-    → sessions ≡ filter (λ s. not (is_expired old.world.latest s.place)) old.world.sessions
+pub pulse-runs : (old new : KeptWorld) (link : ℕ) (told : Told) (sessions : List Session) → IsReady old.world → told ≡ told_pulse old.world link (session_at old.world link) → new ≡ with_sessions old sessions
+    → sessions ≡ filter (λ s. not (is_expired old.world.latest s.place)) old.world.sessions → sessions ≡ old.world.sessions
     → RunsAsk old link ask.Pulse (Ok (done told)) new
 unfolding answer_at after_at committed_at
-pulse-runs old new link told sessions o l tells is set =
+pulse-runs old new link told sessions ready tells is set same =
     let w = old.world in
     let left : List Session = filter (λ s. not (is_expired w.latest s.place)) w.sessions in
     comes-done old new _ _ _ _ told tells is
-    (ap (λ (x : List Session). record w { sessions = x }) set ∙ sym (closing-bare (record w { sessions = left }) (λ x. has_session left x.session) o l))
+    (ap (λ (x : List Session). record w { sessions = x }) set ∙ sym (staying w left (sym set ∙ same) ready.opens ready.locks))
 
 -- Bye and Lost
-pub part-runs : (old new : KeptWorld) (link n : ℕ) (sessions : List Session) → IsAt old.world.sessions link n → [] ≡ old.world.opens → [] ≡ old.world.locks
-    → new ≡ with_sessions old sessions → sessions ≡ filter (λ s. not (s.number == n)) old.world.sessions → RunsPart old link Done new
+pub part-runs : (old new : KeptWorld) (link n : ℕ) → IsAt old.world.sessions link n → new ≡ record old { world = without_session old.world n } → RunsPart old link Done new
 unfolding answer_at after_at committed_at
-part-runs old new link n sessions at o l is set =
-    let left : record old.world { sessions = sessions } ≡ without_session old.world at.session.number =
-    ap (λ (x : List Session). record old.world { sessions = x }) set ∙ sym (ap (without_session old.world) at.same ∙ without_session-bare old.world n o l) in
+part-runs old new link n at is =
+    let left : without_session old.world n ≡ without_session old.world at.session.number = ap (without_session old.world) (sym at.same) in
     record {
       bye = rw at.linked (comes-done old new _ _ _ _ Done refl is left);
       lost = rw at.linked (comes-done old new _ _ _ _ Done refl is left);

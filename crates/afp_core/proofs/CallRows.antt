@@ -31,7 +31,7 @@ use Rattle.afp_volume.specs.GetFileDirParms.{get_file_dir_parms_refusal, get_fil
 use Rattle.afp_volume.specs.GetVolParms.{get_vol_parms_refusal, volume_values}
 use Rattle.afp_volume.specs.OpenDir.{open_dir_id, open_dir_refusal}
 use Rattle.afp_volume.specs.TreeSteps as tree
-use Rattle.afp_core.specs.OnOpened.{ChangesSilently, ChangesTree, TellsOf}
+use Rattle.afp_core.specs.OnOpened.{ChangesAlone, ChangesTree, TellsOf}
 
 pub get_vol_parms-tells : (volume : VolumeId) (bits : ℕ) → TellsOf (call.GetVolParms volume bits) volume.0 (λ w v. get_vol_parms_refusal bits) (λ w v. Params bits (Volume (volume_values v volume.0 bits)))
 unfolding row
@@ -51,46 +51,46 @@ pub create_dir-changes : (volume : VolumeId) (dir : NodeId) (path : PathValue) �
 unfolding row
 create_dir-changes volume dir path = record { tree = refl; row_is = refl; goes_on = refl }
 
-pub create_file-changes : (asked : Call) (flag : ℕ) (volume : VolumeId) (dir : NodeId) (path : PathValue) → asked ≡ call.CreateFile flag volume dir path → ChangesSilently asked volume.0
+pub create_file-changes : (asked : Call) (flag : ℕ) (volume : VolumeId) (dir : NodeId) (path : PathValue) → asked ≡ call.CreateFile flag volume dir path → ChangesAlone asked volume.0
 unfolding row
 create_file-changes asked flag volume dir path is =
-    subst (λ (c : Call). ChangesSilently c volume.0) (sym is) record { change = tree.CreateFile (is_hard flag) dir.0 path; changes = record { tree = refl; row_is = refl; goes_on = refl } }
+    subst (λ (c : Call). ChangesAlone c volume.0) (sym is) record { change = tree.CreateFile (is_hard flag) dir.0 path; changes = record { tree = refl; row_is = refl; goes_on = refl } }
 
-pub delete-changes : (asked : Call) (volume : VolumeId) (dir : NodeId) (path : PathValue) → asked ≡ call.Delete volume dir path → ChangesSilently asked volume.0
+pub delete-changes : (asked : Call) (volume : VolumeId) (dir : NodeId) (path : PathValue) → asked ≡ call.Delete volume dir path → ChangesAlone asked volume.0
 unfolding row
 delete-changes asked volume dir path is =
-    subst (λ (c : Call). ChangesSilently c volume.0) (sym is) record { change = tree.Delete dir.0 path; changes = record { tree = refl; row_is = refl; goes_on = refl } }
+    subst (λ (c : Call). ChangesAlone c volume.0) (sym is) record { change = tree.Delete dir.0 path; changes = record { tree = refl; row_is = refl; goes_on = refl } }
 
-pub rename-changes : (asked : Call) (volume : VolumeId) (dir : NodeId) (path new_path : PathValue) → asked ≡ call.Rename volume dir path new_path → ChangesSilently asked volume.0
+pub rename-changes : (asked : Call) (volume : VolumeId) (dir : NodeId) (path new_path : PathValue) → asked ≡ call.Rename volume dir path new_path → ChangesAlone asked volume.0
 unfolding row
 rename-changes asked volume dir path new_path is =
-    subst (λ (c : Call). ChangesSilently c volume.0) (sym is) record { change = tree.Rename dir.0 path new_path; changes = record { tree = refl; row_is = refl; goes_on = refl } }
+    subst (λ (c : Call). ChangesAlone c volume.0) (sym is) record { change = tree.Rename dir.0 path new_path; changes = record { tree = refl; row_is = refl; goes_on = refl } }
 
-pub move_and_rename-changes : (asked : Call) (volume : VolumeId) (dir target_dir : NodeId) (path target_path new_path : PathValue) → asked ≡ call.MoveAndRename volume dir target_dir path target_path new_path → ChangesSilently asked volume.0
+pub move_and_rename-changes : (asked : Call) (volume : VolumeId) (dir target_dir : NodeId) (path target_path new_path : PathValue) → asked ≡ call.MoveAndRename volume dir target_dir path target_path new_path → ChangesAlone asked volume.0
 unfolding row
 move_and_rename-changes asked volume dir target_dir path target_path new_path is =
-    subst (λ (c : Call). ChangesSilently c volume.0) (sym is)
+    subst (λ (c : Call). ChangesAlone c volume.0) (sym is)
     record { change = tree.MoveAndRename dir.0 path target_dir.0 target_path new_path; changes = record { tree = refl; row_is = refl; goes_on = refl } }
 
-pub set_file_parms-changes : (asked : Call) (volume : VolumeId) (dir : NodeId) (bits : ℕ) (path : PathValue) (tail : List ℕ) → asked ≡ call.SetFileParms volume dir bits path tail → ChangesSilently asked volume.0
+pub set_file_parms-changes : (asked : Call) (volume : VolumeId) (dir : NodeId) (bits : ℕ) (path : PathValue) (tail : List ℕ) → asked ≡ call.SetFileParms volume dir bits path tail → ChangesAlone asked volume.0
 unfolding row
 set_file_parms-changes asked volume dir bits path tail is =
-    subst (λ (c : Call). ChangesSilently c volume.0) (sym is) record { change = tree.SetFileParms dir.0 bits path tail; changes = record { tree = refl; row_is = refl; goes_on = refl } }
+    subst (λ (c : Call). ChangesAlone c volume.0) (sym is) record { change = tree.SetFileParms dir.0 bits path tail; changes = record { tree = refl; row_is = refl; goes_on = refl } }
 
-pub set_dir_parms-changes : (asked : Call) (volume : VolumeId) (dir : NodeId) (bits : ℕ) (path : PathValue) (tail : List ℕ) → asked ≡ call.SetDirParms volume dir bits path tail → ChangesSilently asked volume.0
+pub set_dir_parms-changes : (asked : Call) (volume : VolumeId) (dir : NodeId) (bits : ℕ) (path : PathValue) (tail : List ℕ) → asked ≡ call.SetDirParms volume dir bits path tail → ChangesAlone asked volume.0
 unfolding row
 set_dir_parms-changes asked volume dir bits path tail is =
-    subst (λ (c : Call). ChangesSilently c volume.0) (sym is) record { change = tree.SetDirParms dir.0 bits path tail; changes = record { tree = refl; row_is = refl; goes_on = refl } }
+    subst (λ (c : Call). ChangesAlone c volume.0) (sym is) record { change = tree.SetDirParms dir.0 bits path tail; changes = record { tree = refl; row_is = refl; goes_on = refl } }
 
-pub set_file_dir_parms-changes : (asked : Call) (volume : VolumeId) (dir : NodeId) (bits : ℕ) (path : PathValue) (tail : List ℕ) → asked ≡ call.SetFileDirParms volume dir bits path tail → ChangesSilently asked volume.0
+pub set_file_dir_parms-changes : (asked : Call) (volume : VolumeId) (dir : NodeId) (bits : ℕ) (path : PathValue) (tail : List ℕ) → asked ≡ call.SetFileDirParms volume dir bits path tail → ChangesAlone asked volume.0
 unfolding row
 set_file_dir_parms-changes asked volume dir bits path tail is =
-    subst (λ (c : Call). ChangesSilently c volume.0) (sym is) record { change = tree.SetFileDirParms dir.0 bits path tail; changes = record { tree = refl; row_is = refl; goes_on = refl } }
+    subst (λ (c : Call). ChangesAlone c volume.0) (sym is) record { change = tree.SetFileDirParms dir.0 bits path tail; changes = record { tree = refl; row_is = refl; goes_on = refl } }
 
-pub set_vol_parms-changes : (asked : Call) (volume : VolumeId) (bits : ℕ) (tail : List ℕ) → asked ≡ call.SetVolParms volume bits tail → ChangesSilently asked volume.0
+pub set_vol_parms-changes : (asked : Call) (volume : VolumeId) (bits : ℕ) (tail : List ℕ) → asked ≡ call.SetVolParms volume bits tail → ChangesAlone asked volume.0
 unfolding row
 set_vol_parms-changes asked volume bits tail is =
-    subst (λ (c : Call). ChangesSilently c volume.0) (sym is) record { change = tree.SetVolParms bits tail; changes = record { tree = refl; row_is = refl; goes_on = refl } }
+    subst (λ (c : Call). ChangesAlone c volume.0) (sym is) record { change = tree.SetVolParms bits tail; changes = record { tree = refl; row_is = refl; goes_on = refl } }
 
 pub open_dir-shown : (v : VolumeState) (dir : ℕ) (path : PathValue) (answer : Result NodeId PlanFault) → IfOk answer (λ id. open_dir_id v dir path ≡ Some id.0) → IfOk answer (λ id. open_dir_reply (open_dir_id v dir path) ≡ Node id)
 open_dir-shown v dir path (Ok id) is = ap open_dir_reply is

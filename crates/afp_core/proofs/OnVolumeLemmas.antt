@@ -1,5 +1,5 @@
 -- Rows of calls on a volume that the session has open.
-use Rattle.std.proofs.Common.{◌≡◌, ◌∙◌, ap, sym, refl, subst, ℕ, zero, suc, ◌+◌, ◌<◌, ◌==◌, Bool, true, false, not, List, [], ◌∷◌, ◌++◌, length, filter, map, Option, Some, None, is_some, arith, add-one}
+use Rattle.std.proofs.Common.{◌≡◌, ◌∙◌, ap, sym, refl, subst, ℕ, zero, suc, ◌+◌, ◌<◌, Bool, true, false, not, List, [], ◌∷◌, ◌++◌, length, Option, Some, None, is_some, arith, add-one}
 use Rattle.std.specs.Prelude.{IfOk, IfSome, MatchOption, OnOk, Result, Ok as with_ok, Err, option_map, slice_get, slice_set}
 use Rattle.afp_base.specs.Choice.{first_holding}
 use Rattle.afp_base.specs.declared.bytes.OutOfMemory.{OutOfMemory}
@@ -14,15 +14,14 @@ use Rattle.afp_base.specs.declared.ids.NodeId.{NodeId}
 use Rattle.afp_base.specs.declared.ids.VolumeId.{VolumeId}
 use Rattle.afp_serial.specs.Answer.{effect_reply, refusal_reply}
 use Rattle.afp_serial.specs.CallRow.{Effect, Row, plain}
-use Rattle.afp_serial.specs.OnVolume.{coded, done_on, keeper_of, on_volume, opened_on, with_state, with_volume_state}
+use Rattle.afp_serial.specs.OnVolume.{refused_before, done_on, keeper_of, on_volume, opened_on, with_state, with_volume_state}
 use Rattle.afp_serial.specs.Rows.{committed, effect, ends_session, refusal, row}
 use Rattle.afp_serial.specs.Sessions.{has_opened, volume_at}
-use Rattle.afp_serial.specs.World.{World, Session, OpenFork}
+use Rattle.afp_serial.specs.World.{World, Session}
 use Rattle.afp_serial.specs.declared.ask.Outcome.{Outcome}
 use Rattle.afp_serial.specs.declared.ask.Outcome.TheVariants as outcome
 use Rattle.afp_serial.specs.declared.ask.Told.{Told}
 use Rattle.afp_serial.specs.declared.ask.Told.TheVariants.{Reply}
-use Rattle.afp_volume.specs.Calls.{Opened}
 use Rattle.afp_volume.specs.TreeSteps.{TreeCall, tree_effect, tree_refusal}
 use Rattle.afp_volume.specs.VolumeState.{VolumeState}
 use Rattle.afp_core.specs.KeeperFaults.{KeepersRise, SureStand}
@@ -102,7 +101,7 @@ pub refused-on : (w : World) (s : Session) (volume : ℕ) (v : VolumeState) (ref
     → first_holding (on_volume w s volume refuses) ≡ option_map plain (refuses v)
 refused-on w s volume v refuses opened there = rw (opened, there) (by (refuses v))
   where
-    by : (o : Option Code) → first_holding (coded o []) ≡ option_map plain o
+    by : (o : Option Code) → first_holding (refused_before o []) ≡ option_map plain o
     by None = refl
     by (Some code) = refl
 
@@ -168,11 +167,6 @@ module _ (k : KeptWorld) (number : ℕ) (call : Call) (volume : ℕ) (refuses : 
   tells-node index v (Err fault.Memory) (with_ok r) stands there refused shown told = absurd told
   tells-node index v (Err fault.Memory) (Err e) stands there refused shown told = refl
 
--- no fork is open
-pub none-opened : (w : World) (volume : ℕ) → [] ≡ w.opens → opened_on w volume ≡ []
-unfolding opened_on
-none-opened w volume none = sym (ap (λ (l : List OpenFork). map (λ (o : OpenFork). record { node = o.fork.node; resource = o.fork.resource }) (filter (λ o. o.fork.volume == volume) l)) none)
-
 -- a volume and its keeper that stay
 pub kept-stays : (k : KeptWorld) (index : ℕ) (one : KeptState) → IsKept k index one → with_kept k index one ≡ k
 kept-stays k index one was =
@@ -222,22 +216,21 @@ module _ (k : KeptWorld) (number : ℕ) (call : Call) (volume : ℕ) (asked : Tr
   changes-unopened told stands is = λ s at.
       is_refused k k s call ParamErr told (ap (λ (r : Row). first_holding (r.refusals k.world s)) changes.row_is ∙ stands s at (λ v. tree_refusal v (opened_on k.world volume) asked)) is refl
 
-  changes-refuses : (index : ℕ) (v : VolumeState) → [] ≡ k.world.opens → IsOpenAt k number volume index → slice_get k.world.volumes index ≡ Some v → (s : Session) → session_of k.world.sessions number ≡ Some s
-      → refusal k.world s call ≡ option_map plain (tree_refusal v [] asked)
-  changes-refuses index v none stands there s at =
+  changes-refuses : (index : ℕ) (v : VolumeState) → IsOpenAt k number volume index → slice_get k.world.volumes index ≡ Some v → (s : Session) → session_of k.world.sessions number ≡ Some s
+      → refusal k.world s call ≡ option_map plain (tree_refusal v (opened_on k.world volume) asked)
+  changes-refuses index v stands there s at =
       ap (λ (r : Row). first_holding (r.refusals k.world s)) changes.row_is
       ∙ refused-on k.world s volume v (λ x. tree_refusal x (opened_on k.world volume) asked) (stands.opened s at) (found-at k number volume index v stands there)
-      ∙ ap (λ (l : List Opened). option_map plain (tree_refusal v l asked)) (none-opened k.world volume none)
 
-  changes-refused : (new : KeptWorld) (index : ℕ) (code : Code) (told : Told) → [] ≡ k.world.opens → IsOpenAt k number volume index
-      → BecomesKept k index (λ old one. Changes old k.world.latest [] asked (Err (change.Refused code)) one) new → told ≡ refusal_reply code → RunsRow k number call (with_ok (done told)) new
-  changes-refused new index code told none stands b is = λ s at.
-      is_refused k new s call code told (changes-refuses index b.old.state none stands b.was.state s at ∙ ap (option_map plain) b.is.0) is
+  changes-refused : (new : KeptWorld) (index : ℕ) (code : Code) (told : Told) → IsOpenAt k number volume index
+      → BecomesKept k index (λ old one. Changes old k.world.latest (opened_on k.world volume) asked (Err (change.Refused code)) one) new → told ≡ refusal_reply code → RunsRow k number call (with_ok (done told)) new
+  changes-refused new index code told stands b is = λ s at.
+      is_refused k new s call code told (changes-refuses index b.old.state stands b.was.state s at ∙ ap (option_map plain) b.is.0) is
       (b.now ∙ ap (with_kept k index) b.is.1 ∙ kept-stays k index b.old b.was)
 
-  changes-done : (new : KeptWorld) (index : ℕ) (block : List ℕ) (told : Told) → [] ≡ k.world.opens → IsOpenAt k number volume index → AreToldOf k volume asked reply block
-      → BecomesKept k index (λ old one. Changes old k.world.latest [] asked (with_ok tt) one) new → told ≡ Reply Ok block false → RunsRow k number call (with_ok (done told)) new
-  changes-done new index block told none stands tells b is = λ s at.
+  changes-done : (new : KeptWorld) (index : ℕ) (block : List ℕ) (told : Told) → IsOpenAt k number volume index → AreToldOf k volume asked reply block
+      → BecomesKept k index (λ old one. Changes old k.world.latest (opened_on k.world volume) asked (with_ok tt) one) new → told ≡ Reply Ok block false → RunsRow k number call (with_ok (done told)) new
+  changes-done new index block told stands tells b is = λ s at.
       let v = b.old.state in
       let there = found-at k number volume index v stands b.was.state in
       let next = with_volume_state k.world volume (tree_effect v k.world.latest asked) in
@@ -245,35 +238,35 @@ module _ (k : KeptWorld) (number : ℕ) (call : Call) (volume : ℕ) (asked : Tr
       let does : effect k.world s call ≡ of =
       ap (λ (r : Row). r.effect k.world s) changes.row_is
       ∙ ap (λ (o : Option VolumeState). done_on o k.world (λ x. record { world = with_volume_state k.world volume (tree_effect x k.world.latest asked); reply = reply x })) there in
-      has_effect k new s call told next (changes-refuses index v none stands b.was.state s at ∙ ap (option_map plain) b.is.0)
+      has_effect k new s call told next (changes-refuses index v stands b.was.state s at ∙ ap (option_map plain) b.is.0)
       (is ∙ told-effect call (effect k.world s call) of block does changes.goes_on (tells v there b.is.0))
       (b.now ∙ ap (with_kept k index) b.is.1 ∙ state-changes k index b.old (tree_effect v k.world.latest asked) b.was
       ∙ ap (λ (l : List VolumeState). record k { world = record k.world { volumes = l } }) (sym (state-at k.world.volumes volume index (tree_effect v k.world.latest asked) stands.id)))
       (ap (λ (e : Effect). e.world) (sym does))
 
-  changes-fails : (new : KeptWorld) (index : ℕ) (told : Told) → [] ≡ k.world.opens → IsOpenAt k number volume index
-      → BecomesKept k index (λ old one. Changes old k.world.latest [] asked (Err change.Failed) one) new → told ≡ refusal_reply MiscErr → RunsRow k number call (with_ok (told, outcome.Fault)) new
-  changes-fails new index told none stands b is = λ s at.
-      rw (changes-refuses index b.old.state none stands b.was.state s at ∙ ap (option_map plain) b.is.0)
+  changes-fails : (new : KeptWorld) (index : ℕ) (told : Told) → IsOpenAt k number volume index
+      → BecomesKept k index (λ old one. Changes old k.world.latest (opened_on k.world volume) asked (Err change.Failed) one) new → told ≡ refusal_reply MiscErr → RunsRow k number call (with_ok (told, outcome.Fault)) new
+  changes-fails new index told stands b is = λ s at.
+      rw (changes-refuses index b.old.state stands b.was.state s at ∙ ap (option_map plain) b.is.0)
       (keeper-fails k new _ _ _ told index (ap (λ (r : Row). r.committed k.world s) changes.row_is ∙ keeper-at volume index stands.id) is refl
       record { old = b.old; one = b.one; was = b.was; is = b.is.1; now = b.now })
 
-  changes-memory : (new : KeptWorld) (index : ℕ) → BecomesKept k index (λ old one. Changes old k.world.latest [] asked (Err change.Memory) one) new → new ≡ k
+  changes-memory : (new : KeptWorld) (index : ℕ) → BecomesKept k index (λ old one. Changes old k.world.latest (opened_on k.world volume) asked (Err change.Memory) one) new → new ≡ k
   changes-memory new index b = b.now ∙ ap (with_kept k index) b.is ∙ kept-stays k index b.old b.was
 
-  pub changes-runs : (new : KeptWorld) (index : ℕ) (answer : Result (Unit {0}) ChangeFault) (block : List ℕ) (result : Result (Told × Outcome) OutOfMemory) → [] ≡ k.world.opens → IsOpenAt k number volume index
-      → AreToldOf k volume asked reply block → BecomesKept k index (λ old one. Changes old k.world.latest [] asked answer one) new → TellsChanged answer block result → RunsRow k number call result new
-  changes-runs new index (with_ok changed) block (with_ok r) none stands bytes b told =
-      subst (λ (x : Told × Outcome). RunsRow k number call (with_ok x) new) (sym told) (changes-done new index block (Reply Ok block false) none stands bytes b refl)
-  changes-runs new index (with_ok changed) block (Err e) none stands bytes b told = absurd told
-  changes-runs new index (Err (change.Refused code)) block (with_ok r) none stands bytes b told =
-      subst (λ (x : Told × Outcome). RunsRow k number call (with_ok x) new) (sym told) (changes-refused new index code (refusal_reply code) none stands b refl)
-  changes-runs new index (Err (change.Refused code)) block (Err e) none stands bytes b told = absurd told
-  changes-runs new index (Err change.Failed) block (with_ok r) none stands bytes b told =
-      subst (λ (x : Told × Outcome). RunsRow k number call (with_ok x) new) (sym told) (changes-fails new index (refusal_reply MiscErr) none stands b refl)
-  changes-runs new index (Err change.Failed) block (Err e) none stands bytes b told = absurd told
-  changes-runs new index (Err change.Memory) block (with_ok r) none stands bytes b told = absurd told
-  changes-runs new index (Err change.Memory) block (Err e) none stands bytes b told = changes-memory new index b
+  pub changes-runs : (new : KeptWorld) (index : ℕ) (answer : Result (Unit {0}) ChangeFault) (block : List ℕ) (result : Result (Told × Outcome) OutOfMemory) → IsOpenAt k number volume index
+      → AreToldOf k volume asked reply block → BecomesKept k index (λ old one. Changes old k.world.latest (opened_on k.world volume) asked answer one) new → TellsChanged answer block result → RunsRow k number call result new
+  changes-runs new index (with_ok changed) block (with_ok r) stands bytes b told =
+      subst (λ (x : Told × Outcome). RunsRow k number call (with_ok x) new) (sym told) (changes-done new index block (Reply Ok block false) stands bytes b refl)
+  changes-runs new index (with_ok changed) block (Err e) stands bytes b told = absurd told
+  changes-runs new index (Err (change.Refused code)) block (with_ok r) stands bytes b told =
+      subst (λ (x : Told × Outcome). RunsRow k number call (with_ok x) new) (sym told) (changes-refused new index code (refusal_reply code) stands b refl)
+  changes-runs new index (Err (change.Refused code)) block (Err e) stands bytes b told = absurd told
+  changes-runs new index (Err change.Failed) block (with_ok r) stands bytes b told =
+      subst (λ (x : Told × Outcome). RunsRow k number call (with_ok x) new) (sym told) (changes-fails new index (refusal_reply MiscErr) stands b refl)
+  changes-runs new index (Err change.Failed) block (Err e) stands bytes b told = absurd told
+  changes-runs new index (Err change.Memory) block (with_ok r) stands bytes b told = absurd told
+  changes-runs new index (Err change.Memory) block (Err e) stands bytes b told = changes-memory new index b
 
 -- FPFlush
 module _ (k : KeptWorld) (number : ℕ) (volume : VolumeId) where

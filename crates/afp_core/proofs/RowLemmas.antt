@@ -1,12 +1,14 @@
--- Rows of calls, over worlds without open forks and locks.
-use Rattle.std.proofs.Common.{◌≡◌, ◌∙◌, ap, sym, refl, subst, ℕ, ◌==◌, ◌+◌, ◌<◌, zero, suc, length, arith, Bool, true, false, not, ◌&&◌, List, [], ◌∷◌, filter, Some, None, is_some}
-use Rattle.std.specs.Prelude.{slice_get, bytes_eq, Ok as with_ok}
+-- Rows of calls.
+use Rattle.std.proofs.Common.{◌≡◌, ◌∙◌, ap, sym, refl, subst, ℕ, ◌==◌, ◌+◌, ◌<◌, zero, suc, length, arith, true, false, not, ◌&&◌, List, [], ◌∷◌, filter, Some, None, is_some}
+use Rattle.std.specs.Prelude.{Result, slice_get, bytes_eq, Ok as with_ok}
 use Rattle.std.specs.List.{list_any}
+use Rattle.afp_base.specs.declared.bytes.OutOfMemory.{OutOfMemory}
 use Rattle.afp_base.specs.declared.code.Code.{Code}
 use Rattle.afp_base.specs.declared.code.Code.TheVariants.{Ok, ParamErr, BadVersNum, BadUAM, ObjectNotFound}
 use Rattle.afp_base.specs.declared.ids.VolumeId.{VolumeId}
 use Rattle.afp_requests.specs.declared.call.Call.{Call}
 use Rattle.afp_requests.specs.declared.call.Call.TheVariants.{CloseVol, Login, Logout, OpenVol}
+use Rattle.afp_serial.specs.declared.ask.Outcome.{Outcome}
 use Rattle.afp_serial.specs.declared.ask.Told.{Told}
 use Rattle.afp_serial.specs.declared.ask.Told.TheVariants.{Reply}
 use Rattle.afp_serial.specs.Answer.{refusal_reply, effect_reply}
@@ -17,15 +19,16 @@ use Rattle.afp_volume.specs.GetVolParms.{get_vol_parms_refusal}
 use Rattle.afp_volume.specs.VolumeState.{VolumeState}
 use Rattle.afp_serial.specs.CallRow.{Effect, plain}
 use Rattle.afp_serial.specs.Rows.{row, refusal, effect}
-use Rattle.afp_serial.specs.Sessions.{volume_at, with_session, closing, has_opened, has_session, is_open, without_session}
+use Rattle.afp_serial.specs.Sessions.{volume_at, with_session, closing, has_opened, without_session}
 use Rattle.afp_serial.specs.StatusBlock.{no_user, versions}
 use Rattle.afp_serial.specs.Steps.{verdict_of_row}
 use Rattle.afp_serial.specs.World.{World, Session, OpenFork}
 use Rattle.afp_core.specs.SessionList.{replaced}
-use Rattle.afp_core.specs.ServerState.{KeptWorld, with_sessions}
+use Rattle.afp_core.specs.ServerState.{KeptWorld, forks_in, with_forks, with_sessions}
 use Rattle.afp_core.specs.OnOpened.{IsNamed}
 use Rattle.afp_core.specs.Turn.{RunsRow, RunsVerdict, done}
 use Rattle.afp_core.proofs.KeeperLemmas.{comes-done, comes-same, volume_at-index}
+use Rattle.open_forks.specs.Forks.{Forks, left_of}
 
 -- what a row tells, and the world that it leaves
 abbrev pub IsRowOf : KeptWorld → Session → Call → Told → KeptWorld → Type 0
@@ -46,6 +49,10 @@ has_effect old new s call told next passes tells is becomes = rw passes (comes-d
 -- a call by its name
 pub row-as : (old new : KeptWorld) (number : ℕ) (call of : Call) (told : Told) → call ≡ of → RunsRow old number of (with_ok (done told)) new → RunsRow old number call (with_ok (done told)) new
 row-as old new number call of told is runs = subst (λ (a : Call). RunsRow old number a (with_ok (done told)) new) (sym is) runs
+
+-- the same, whatever it came to
+pub call-as : (old new : KeptWorld) (number : ℕ) (call of : Call) (result : Result (Told × Outcome) OutOfMemory) → call ≡ of → RunsRow old number of result new → RunsRow old number call result new
+call-as old new number call of result is runs = subst (λ (a : Call). RunsRow old number a result new) (sym is) runs
 
 -- FPLogin
 module _ (w : World) (s : Session) (version uam tail : List ℕ) where
@@ -75,46 +82,27 @@ login-runs old new s version uam tail told sessions h v u tells is set =
     (ap (λ (l : List Session). record old.world { sessions = l }) set)
 
 -- FPLogout
-filter_none : {A : Type 0} (p : A → Bool) (xs : List A) → [] ≡ xs → filter p xs ≡ xs
-filter_none p xs h = ap (filter p) (sym h) ∙ h
-
-pub closing-bare : (w : World) (stays : OpenFork → Bool) → [] ≡ w.opens → [] ≡ w.locks → closing w stays ≡ w
-closing-bare w stays o l =
-    let e : filter stays w.opens ≡ w.opens = filter_none stays w.opens o in
-    let f : filter (λ lock. is_open (filter stays w.opens) lock.reference) w.locks ≡ w.locks = filter_none (λ lock. is_open (filter stays w.opens) lock.reference) w.locks l in
-    λ i. record w { opens = e i; locks = f i }
-
-pub without_session-bare : (w : World) (n : ℕ) → [] ≡ w.opens → [] ≡ w.locks
-    → without_session w n ≡ record w { sessions = filter (λ s. not (s.number == n)) w.sessions }
-without_session-bare w n o l =
-    let left : List Session = filter (λ s. not (s.number == n)) w.sessions in
-    closing-bare (record w { sessions = left }) (λ x. has_session left x.session) o l
-
-pub logout-runs : (old new : KeptWorld) (s : Session) (told : Told) (sessions : List Session) (n : ℕ) → s.number ≡ n → [] ≡ old.world.opens → [] ≡ old.world.locks
-    → told ≡ Reply Ok [] true → new ≡ with_sessions old sessions → sessions ≡ filter (λ t. not (t.number == n)) old.world.sessions
+pub logout-runs : (old new : KeptWorld) (s : Session) (told : Told) (n : ℕ) → s.number ≡ n → told ≡ Reply Ok [] true → new ≡ record old { world = without_session old.world n }
     → IsRowOf old s Logout told new
 unfolding row
-logout-runs old new s told sessions n number o l tells is set =
-    has_effect old new s Logout told _ refl tells is
-    (ap (λ (x : List Session). record old.world { sessions = x }) set
-    ∙ sym (ap (without_session old.world) number ∙ without_session-bare old.world n o l))
+logout-runs old new s told n number tells is = has_effect old new s Logout told _ refl tells is (ap (without_session old.world) (sym number))
 
 -- FPCloseVol
 pub close_vol-not_open : (w : World) (s : Session) (volume : VolumeId) → has_opened s volume.0 ≡ false → refusal w s (CloseVol volume) ≡ Some (plain ParamErr)
 unfolding row
 close_vol-not_open w s volume h = rw h refl
 
-pub close_vol-runs : (old new : KeptWorld) (s : Session) (volume : VolumeId) (told : Told) (sessions : List Session)
-    → has_opened s volume.0 ≡ true → [] ≡ old.world.opens → [] ≡ old.world.locks
-    → told ≡ Reply Ok [] false → new ≡ with_sessions old sessions
+pub close_vol-runs : (old new : KeptWorld) (s : Session) (n : ℕ) (volume : VolumeId) (told : Told) (sessions : List Session) (forks : Forks)
+    → s.number ≡ n → has_opened s volume.0 ≡ true → told ≡ Reply Ok [] false → new ≡ with_forks (with_sessions old sessions) forks
     → sessions ≡ replaced old.world.sessions (record s { volumes = filter (λ v. not (v == volume.0)) s.volumes })
+    → forks ≡ left_of (λ o. not ((o.session == n) && (o.fork.volume == volume.0))) (forks_in old.world)
     → IsRowOf old s (CloseVol volume) told new
 unfolding row
-close_vol-runs old new s volume told sessions h o l tells is set =
+close_vol-runs old new s n volume told sessions forks number h tells is set closes =
+    let rest : List Session = replaced old.world.sessions (record s { volumes = filter (λ v. not (v == volume.0)) s.volumes }) in
     has_effect old new s (CloseVol volume) told _ (rw h refl) tells is
-    (ap (λ (x : List Session). record old.world { sessions = x }) set
-    ∙ sym (closing-bare (record old.world { sessions = replaced old.world.sessions (record s { volumes = filter (λ v. not (v == volume.0)) s.volumes }) })
-    (λ x. not ((x.session == s.number) && (x.fork.volume == volume.0))) o l))
+    ((λ i. record old.world { sessions = set i; opens = (closes i).opens; locks = (closes i).locks })
+    ∙ ap (λ (m : ℕ). closing (record old.world { sessions = rest }) (λ (o : OpenFork). not ((o.session == m) && (o.fork.volume == volume.0)))) (sym number))
 
 -- FPOpenVol
 module _ (w : World) (s : Session) (bits : ℕ) (name : List ℕ) where

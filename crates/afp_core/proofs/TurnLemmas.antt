@@ -14,12 +14,13 @@ use Rattle.afp_serial.specs.declared.ask.Outcome.{Outcome}
 use Rattle.afp_serial.specs.declared.ask.Outcome.TheVariants as outcome
 use Rattle.afp_serial.specs.declared.ask.Told.{Told}
 use Rattle.afp_serial.specs.declared.ask.Told.TheVariants.{Opened, Reply, Live, Done, Displaced, Memory}
+use Rattle.afp_serial.specs.ForkLaws.{OpensAreFew}
 use Rattle.afp_serial.specs.Answer.{after, answer, answer_at, committed_at, committed_of, is_full, is_legal, is_legal_outcome, link_number, refusal_reply, told_call, told_parting, told_pulse, told_verdict}
 use Rattle.afp_base.specs.declared.code.Code.TheVariants.{NoMoreSessions}
 use Rattle.afp_serial.specs.History.{answers, entry, fault_of, faults_in, is_lawful, is_opened, opened_in, stand}
 use Rattle.afp_serial.specs.Ranges.{is_typed_entry}
 use Rattle.afp_serial.specs.Sessions.{has_session, session_at}
-use Rattle.afp_serial.specs.Sound.{IsSound, has_apart_sessions, is_link_below}
+use Rattle.afp_serial.specs.Sound.{IsSound, has_apart_sessions, has_lawful_locks, has_lawful_opens, is_link_below}
 use Rattle.afp_serial.specs.Steps.{Verdict, refused, repeats, runs, verdict}
 use Rattle.afp_serial.specs.World.{World, Session, at_moment}
 use Rattle.afp_serial.proofs.Grows.{lawful-snoc, stand-append}
@@ -27,7 +28,7 @@ use Rattle.afp_core.specs.Counted.{IsCounted}
 use Rattle.afp_core.specs.KeeperFaults.{KeepersRise, SureStand, failed_keeper}
 use Rattle.afp_core.specs.ServerState.{ServerState, kept_at, kept_of}
 use Rattle.afp_core.specs.Sureness.{SureKept}
-use Rattle.afp_core.specs.Turn.{IsNextFree, RunsAsk, TakesTurn, Turned}
+use Rattle.afp_core.specs.Turn.{IsNextFree, IsReady, RunsAsk, TakesTurn, Turned}
 
 -- the next link number is no session's
 below-fresh : (xs : List Session) (n : ℕ) → list_all (λ s. nat_lt s.number n && is_link_below n s.place) xs ≡ true → has_session xs n ≡ false
@@ -38,9 +39,17 @@ below-fresh (s ∷ xs) n h =
     let less = ltb-true s.number n lower.0 in
     rw (ne_eqb s.number n (λ e. omega (arith, less, e))) (below-fresh xs n both.1)
 
-pub next-free : (w : World) → IsSound w → IsNextFree w
+next-free : (w : World) → IsSound w → IsNextFree w
 unfolding has_apart_sessions
 next-free w sound = below-fresh w.sessions w.next_link (and_parts _ _ (and_parts _ _ sound.sessions).1).1
+
+-- a sound world is ready for a turn; no field of it is the latest moment
+pub ready : (w : World) → OpensAreFew → IsSound w → IsReady w
+ready w few sound = record { link = next-free w sound; opens = sound.opens; locks = sound.locks; few = omega (arith, few w sound) }
+
+pub ready-at : (w : World) (latest : ℕ) → IsReady w → IsReady (record w { latest = latest })
+unfolding has_lawful_opens has_lawful_locks
+ready-at w latest h = record { link = h.link; opens = h.opens; locks = h.locks; few = h.few }
 
 -- an entry is never told Memory
 abbrev pub is_memory : Told → Bool

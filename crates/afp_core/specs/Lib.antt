@@ -8,6 +8,10 @@ pub mod Retiring
 pub mod Turn
 pub mod Counted
 pub mod OnOpened
+pub mod OnForks
+pub mod Opening
+pub mod SettingLength
+pub mod OnForkBytes
 pub mod Sureness
 pub mod Places
 pub mod Telling

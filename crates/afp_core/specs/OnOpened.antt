@@ -17,7 +17,7 @@ use Rattle.afp_core.specs.SessionList.{session_of}
 use Rattle.afp_core.specs.Turn.{done}
 use Rattle.afp_serial.specs.Answer.{refusal_reply}
 use Rattle.afp_serial.specs.CallRow.{plain}
-use Rattle.afp_serial.specs.OnVolume.{changes_tree, on_volume, tells_of}
+use Rattle.afp_serial.specs.OnVolume.{changes_tree, on_volume, opened_on, tells_of}
 use Rattle.afp_serial.specs.OpenVol.{volume_named}
 use Rattle.afp_serial.specs.Rows.{ends_session, row}
 use Rattle.afp_serial.specs.Sessions.{has_opened, volume_at}
@@ -124,10 +124,10 @@ pub record ChangesTree (call : Call) (volume : ℕ) (change : TreeCall) (reply :
 -- the bytes are the reply to the change, where it is not refused
 abbrev pub AreToldOf : KeptWorld → ℕ → TreeCall → (VolumeState → AfpReply) → List ℕ → Type 0
 AreToldOf k volume change reply block =
-    (v : VolumeState) → volume_at k.world.volumes volume ≡ Some v → tree_refusal v [] change ≡ None → block ≡ canonical_reply (reply v)
+    (v : VolumeState) → volume_at k.world.volumes volume ≡ Some v → tree_refusal v (opened_on k.world volume) change ≡ None → block ≡ canonical_reply (reply v)
 
 -- the call changes the volume's tree, and tells no more than that it is done
-pub record ChangesSilently (call : Call) (volume : ℕ) : Type 0 where
+pub record ChangesAlone (call : Call) (volume : ℕ) : Type 0 where
   pub change : TreeCall
   pub changes : ChangesTree call volume change (λ v. Empty)
 

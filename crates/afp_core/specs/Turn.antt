@@ -1,5 +1,5 @@
 -- One turn (this profile).
-use Rattle.std.specs.Prelude.{◌≡◌, ℕ, Bool, true, false, [], ◌∷◌, count_by, Option, Some, Result, Ok, Err}
+use Rattle.std.specs.Prelude.{◌≡◌, ◌<◌, ℕ, Bool, true, false, [], ◌∷◌, count_by, length, Option, Some, Result, Ok, Err}
 use Rattle.afp_base.specs.Cached.{Request}
 use Rattle.afp_base.specs.Counts.{counted}
 use Rattle.afp_base.specs.declared.bytes.OutOfMemory.{OutOfMemory}
@@ -12,6 +12,7 @@ use Rattle.afp_serial.specs.Answer.{answer, answer_at, after, after_at, after_ca
 use Rattle.afp_serial.specs.History.{entry, is_opened}
 use Rattle.afp_serial.specs.Rows.{refusal}
 use Rattle.afp_serial.specs.Sessions.{has_session, session_at}
+use Rattle.afp_serial.specs.Sound.{has_lawful_locks, has_lawful_opens}
 use Rattle.afp_serial.specs.Steps.{Verdict, verdict_of_row}
 use Rattle.afp_serial.specs.World.{World, Session}
 use Rattle.afp_serial.specs.declared.ask.Ask.{Ask}
@@ -25,6 +26,14 @@ use Rattle.afp_serial.specs.declared.ask.Told.TheVariants.{Opened, Reply, Live, 
 -- no session has the next link's number
 abbrev pub IsNextFree : World → Type 0
 IsNextFree w = has_session w.sessions w.next_link ≡ false
+
+-- What a turn takes as given of the world, which is sound: the next link's number is free; each open fork has a reference of its own, a session that
+-- has its volume open, and a file; each lock's reference is open; and there are references for more open forks.
+pub record IsReady (w : World) : Type 0 where
+  pub link : IsNextFree w
+  pub opens : has_lawful_opens w ≡ true
+  pub locks : has_lawful_locks w ≡ true
+  pub few : length w.opens < 65535
 
 -- the asks that take memory
 abbrev pub takes_memory : Ask → Bool

@@ -1,6 +1,6 @@
 //! A call of a session: its steps in their order, and its row.
 ghost use Rattle.afp_core.specs.Requests.{as_request};
-ghost use Rattle.afp_core.specs.Turn.{RunsCall, RunsRow};
+ghost use Rattle.afp_core.specs.Turn.{IsReady, RunsCall, RunsRow};
 
 use crate::replies::refused;
 use crate::request::Request;
@@ -19,6 +19,7 @@ impl<K: Keeper> State<K> {
         link: LinkNumber,
         request: Request,
     ) -> Result<(Told, Outcome), OutOfMemory>
+        requires { IsReady self.old.world }
         ensures { RunsCall self.old link.0 (as_request request) result self.new }
     {
         let Some(session) = self.sessions.at(link) else {
@@ -34,6 +35,7 @@ impl<K: Keeper> State<K> {
 
     /// Runs the row of a call of a session, and lets go of the call.
     fn run(&mut self, session: SessionNumber, call: Call) -> Result<(Told, Outcome), OutOfMemory>
+        requires { IsReady self.old.world }
         ensures { RunsRow self.old session.0 call result self.new }
     {
         self.row(session, &call)
@@ -41,14 +43,15 @@ impl<K: Keeper> State<K> {
 
     /// The row of a call of a session. A call whose row is not there yet is not supported.
     fn row(&mut self, session: SessionNumber, call: &Call) -> Result<(Told, Outcome), OutOfMemory>
+        requires { IsReady self.old.world }
         ensures { RunsRow self.old session.0 call.now result self.new }
     {
         match call {
             Call::CloseDir { volume, dir } => self.close_dir(session, *volume, *dir),
             Call::CloseVol { volume } => Ok((self.close_vol(session, *volume), Outcome::Done)),
             Call::CreateDir { volume, .. } => self.create_dir(session, *volume, call),
-            Call::CreateFile { volume, .. } => self.change_silently(session, *volume, call),
-            Call::Delete { volume, .. } => self.change_silently(session, *volume, call),
+            Call::CreateFile { volume, .. } => self.change_alone(session, *volume, call),
+            Call::Delete { volume, .. } => self.change_alone(session, *volume, call),
             Call::Enumerate {
                 volume,
                 dir,
@@ -125,27 +128,85 @@ impl<K: Keeper> State<K> {
                 ))
             }
             Call::Logout => Ok((self.logout(session), Outcome::Done)),
-            Call::MoveAndRename { volume, .. } => self.change_silently(session, *volume, call),
+            Call::MoveAndRename { volume, .. } => self.change_alone(session, *volume, call),
             Call::OpenDir { volume, dir, path } => self.open_dir(session, *volume, *dir, path),
             Call::OpenVol { bits, name } => self.open_vol(session, *bits, name.as_slice()),
-            Call::Rename { volume, .. } => self.change_silently(session, *volume, call),
-            Call::SetDirParms { volume, .. } => self.change_silently(session, *volume, call),
-            Call::SetFileDirParms { volume, .. } => self.change_silently(session, *volume, call),
-            Call::SetFileParms { volume, .. } => self.change_silently(session, *volume, call),
-            Call::SetVolParms { volume, .. } => self.change_silently(session, *volume, call),
-            Call::ByteRangeLock { .. }
-            | Call::CloseFork { .. }
-            | Call::CopyFile { .. }
-            | Call::FlushFork { .. }
-            | Call::GetForkParms { .. }
+            Call::Rename { volume, .. } => self.change_alone(session, *volume, call),
+            Call::SetDirParms { volume, .. } => self.change_alone(session, *volume, call),
+            Call::SetFileDirParms { volume, .. } => self.change_alone(session, *volume, call),
+            Call::SetFileParms { volume, .. } => self.change_alone(session, *volume, call),
+            Call::SetVolParms { volume, .. } => self.change_alone(session, *volume, call),
+            Call::ByteRangeLock {
+                flags,
+                reference,
+                offset,
+                length,
+            } => self.byte_range_lock(session, *flags, *reference, *offset, *length),
+            Call::ByteRangeLockExt {
+                flags,
+                reference,
+                offset,
+                length,
+            } => self.byte_range_lock_ext(session, *flags, *reference, *offset, *length),
+            Call::CloseFork { reference } => Ok((
+                self.close_fork(session, *reference),
+                Outcome::Done,
+            )),
+            Call::FlushFork { reference } => self.flush_fork(session, *reference),
+            Call::GetForkParms { reference, bits } => self.get_fork_parms(
+                session, *reference, *bits,
+            ),
+            Call::OpenFork {
+                flag,
+                volume,
+                dir,
+                bits,
+                mode,
+                path,
+            } => self.open_fork(session, *flag, *volume, *dir, *bits, *mode, path),
+            Call::Read {
+                reference,
+                offset,
+                count,
+                mask,
+                character,
+            } => self.read(session, *reference, *offset, *count, *mask, *character),
+            Call::ReadExt {
+                reference,
+                offset,
+                count,
+            } => self.read_ext(session, *reference, *offset, *count),
+            Call::SetForkParms {
+                reference,
+                bits,
+                tail,
+            } => self.set_fork_parms(session, *reference, *bits, tail.as_slice()),
+            Call::Write {
+                flag,
+                reference,
+                offset,
+                piece,
+                ..
+            } => self.write(session, *flag, *reference, *offset, piece.as_slice()),
+            Call::WriteExt {
+                flag,
+                reference,
+                offset,
+                count,
+                piece,
+            } => self.write_ext(
+                session,
+                *flag,
+                *reference,
+                *offset,
+                *count,
+                piece.as_slice(),
+            ),
+            Call::CopyFile { .. }
             | Call::GetSrvrInfo
             | Call::GetSrvrParms
             | Call::MapID { .. }
             | Call::MapName { .. }
-            | Call::OpenFork { .. }
-            | Call::Read { .. }
-            | Call::SetForkParms { .. }
-            | Call::Write { .. }
             | Call::GetUserInfo { .. }
             | Call::GetSrvrMsg { .. }
             | Call::CreateID { .. }
@@ -162,9 +223,6 @@ impl<K: Keeper> State<K> {
             | Call::AddComment { .. }
             | Call::RemoveComment { .. }
             | Call::GetComment { .. }
-            | Call::ByteRangeLockExt { .. }
-            | Call::ReadExt { .. }
-            | Call::WriteExt { .. }
             | Call::LoginExt { .. }
             | Call::GetSessionToken { .. }
             | Call::DisconnectOldSession { .. }

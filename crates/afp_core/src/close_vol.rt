@@ -10,7 +10,7 @@ use afp_serial::Told;
 use record_keeper::Keeper;
 
 impl<K: Keeper> State<K> {
-    /// Closes a volume that the session has open.
+    /// Closes a volume that the session has open, and the session's forks on it.
     pub(crate) fn close_vol(&mut self, session: SessionNumber, volume: VolumeId) -> Told
         ensures { RunsRow self.old session.0 (Call.CloseVol volume) (Ok (with_done result)) self.new }
     {
@@ -18,6 +18,7 @@ impl<K: Keeper> State<K> {
             return refused(self.alloc, Code::ParamErr);
         }
         self.sessions.close_volume(session, volume);
+        self.forks.close_volume(session, volume);
         done(Bytes::new(self.alloc))
     }
 }

@@ -73,10 +73,11 @@ impl<K: Keeper> State<K> {
         let Some(index) = self.opened(session, volume) else {
             return Ok((refused(self.alloc, Code::ParamErr), Outcome::Done));
         };
+        let opens = self.opened_forks(volume)?;
         let mut block = Bytes::new(self.alloc);
         let answer = self
             .kept_at(index)
-            .list(self.alloc, &[], asked, dir, path, &mut block);
+            .list(self.alloc, &opens, asked, dir, path, &mut block);
         told_of(self.alloc, answer, block)
     }
 }

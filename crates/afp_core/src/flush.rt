@@ -28,7 +28,7 @@ impl<K: Keeper> State<K> {
     }
 
     /// Settles the keeper of the volume at an index.
-    fn settle_at(&mut self, index: usize) -> Result<(), KeeperFault>
+    pub(crate) fn settle_at(&mut self, index: usize) -> Result<(), KeeperFault>
         requires { index < length self.old.world.volumes }
         ensures { BecomesKept self.old index (λ old one. Settles old result one) self.new }
     {

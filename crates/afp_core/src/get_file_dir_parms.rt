@@ -25,15 +25,10 @@ impl<K: Keeper> State<K> {
         let Some(index) = self.opened(session, volume) else {
             return Ok((refused(self.alloc, Code::ParamErr), Outcome::Done));
         };
+        let opens = self.opened_forks(volume)?;
         let mut block = Bytes::new(self.alloc);
         let answer = self.kept_at(index).get_file_dir_parms(
-            self.alloc,
-            &[],
-            file_bits,
-            dir_bits,
-            dir,
-            path,
-            &mut block,
+            self.alloc, &opens, file_bits, dir_bits, dir, path, &mut block,
         );
         told_of(self.alloc, answer, block)
     }

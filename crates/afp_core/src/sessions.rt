@@ -149,7 +149,8 @@ impl Sessions {
 
     /// Ends the sessions that lost their links too long ago: none does yet, since a session ends with its link.
     pub fn sweep(&mut self, _now: Moment)
-        ensures { self.new ≡ filter (λ s. not (is_expired _now s.place)) self.old }
+        ensures left { self.new ≡ filter (λ s. not (is_expired _now s.place)) self.old }
+        ensures same { self.new ≡ self.old }
     {
         let _ = &self.by_number;
     }

@@ -1,20 +1,21 @@
-//! The state of the server: what it is set up with, moments, links and sessions.
+//! The state of the server: what it is set up with, moments, links, sessions and open forks.
 ghost use Rattle.std.specs.Prelude.{◌≡◌, ℕ, Ok};
 ghost use Rattle.afp_serial.specs.Answer.{told_pulse};
-ghost use Rattle.afp_serial.specs.Sessions.{session_at};
+ghost use Rattle.afp_serial.specs.Sessions.{session_at, without_session};
 ghost use Rattle.afp_serial.specs.World.{start_world};
 ghost use Rattle.afp_serial.specs.declared.ask.Ask.{Ask};
 ghost use Rattle.afp_core.specs.ServerState.{kept_world, volumes_of};
-ghost use Rattle.afp_core.specs.Turn.{IsNextFree, Runs, RunsAsk, RunsOpen, RunsPart, done};
+ghost use Rattle.afp_core.specs.Turn.{IsNextFree, IsReady, Runs, RunsAsk, RunsOpen, RunsPart, done};
 
 use crate::link_numbers::LinkNumbers;
 use crate::moments::later;
 use crate::replies::refused;
 use crate::request::Request;
 use crate::sessions::Sessions;
-use afp_base::{Code, LinkNumber, Moment, OutOfMemory};
+use afp_base::{Code, LinkNumber, Moment, OutOfMemory, SessionNumber};
 use afp_serial::{Ask, House, Outcome, Told};
 use kept_volume::KeptVolume;
+use open_forks::OpenForks;
 use record_keeper::Keeper;
 use std::alloc::Global;
 use std::marker::Model;
@@ -33,15 +34,16 @@ pub struct State<K: Keeper> {
     pub(crate) drain: Option<Moment>,
     pub(crate) links: LinkNumbers,
     pub(crate) sessions: Sessions,
+    pub(crate) forks: OpenForks,
     pub(crate) kept: Vec<KeptVolume<K>>,
 }
 
 impl<K: Keeper> Model for State<K> {
-    ghost use Rattle.afp_core.specs.ServerState.{KeptWorld, bare_world, kept_world, volumes_of};
+    ghost use Rattle.afp_core.specs.ServerState.{KeptWorld, kept_world, volumes_of, world_of};
 
     ghost Value = { KeptWorld };
 
-    ghost view = { λ a. kept_world (bare_world a.house a.latest a.drain a.links a.sessions (volumes_of a.kept.items)) a.kept.items };
+    ghost view = { λ a. kept_world (world_of a.house a.latest a.drain a.links a.sessions a.forks (volumes_of a.kept.items)) a.kept.items };
 }
 
 impl<K: Keeper> State<K> {
@@ -56,6 +58,7 @@ impl<K: Keeper> State<K> {
             drain: None,
             links: LinkNumbers::new(),
             sessions: Sessions::new(alloc),
+            forks: OpenForks::new(alloc),
             kept,
         }
     }
@@ -67,7 +70,7 @@ impl<K: Keeper> State<K> {
         link: LinkNumber,
         ask: Ask,
     ) -> Result<(Told, Outcome), OutOfMemory>
-        requires { IsNextFree self.old.world }
+        requires { IsReady self.old.world }
         ensures { Runs self.old now link ask result self.new }
     {
         let before = self.latest;
@@ -83,7 +86,7 @@ impl<K: Keeper> State<K> {
 
     /// Answers an ask at the latest moment.
     fn turn_now(&mut self, link: LinkNumber, ask: Ask) -> Result<(Told, Outcome), OutOfMemory>
-        requires { IsNextFree self.old.world }
+        requires { IsReady self.old.world }
         ensures { RunsAsk self.old link.0 ask result self.new }
     {
         match ask {
@@ -127,6 +130,7 @@ impl<K: Keeper> State<K> {
     /// Ends the sessions that lost their links too long ago, and tells whether the link's session lives.
     /// Link 0 is no link of a session.
     fn pulse(&mut self, link: LinkNumber) -> Told
+        requires { IsReady self.old.world }
         ensures { RunsAsk self.old link.0 Ask.Pulse (Ok (done result)) self.new }
     {
         let told = self.told_pulse(link);
@@ -147,17 +151,27 @@ impl<K: Keeper> State<K> {
         }
     }
 
-    /// Ends the link's session.
+    /// Ends the link's session, and closes its forks.
     fn part(&mut self, link: LinkNumber) -> Told
+        requires { IsReady self.old.world }
         ensures { RunsPart self.old link.0 result self.new }
     {
         match self.sessions.at(link) {
             Some(session) => {
-                self.sessions.end(session);
+                self.end(session);
                 Told::Done
             }
             None => Told::Displaced,
         }
+    }
+
+    /// A session ends: its forks are closed, and their locks go.
+    pub(crate) fn end(&mut self, session: SessionNumber)
+        requires { IsReady self.old.world }
+        ensures { self.new ≡ record self.old { world = without_session self.old.world session.0 } }
+    {
+        self.sessions.end(session);
+        self.forks.close_session(session);
     }
 
     /// The server is about to stop: the first such moment counts.

@@ -1,17 +1,18 @@
 //! The calls that change a volume's tree: FPCreateDir, FPCreateFile, FPDelete, FPRename, FPMoveAndRename, FPSetFileParms, FPSetDirParms,
 //! FPSetFileDirParms and FPSetVolParms (AFP Reference, under these names).
-ghost use Rattle.std.specs.Prelude.{◌<◌, [], length, IfSome, IsSome};
+ghost use Rattle.std.specs.Prelude.{◌<◌, length, IfSome, IsSome};
 ghost use Rattle.afp_replies.specs.declared.reply.Reply.{Reply};
 ghost use Rattle.afp_volume.specs.TreeSteps.{TreeCall};
 ghost use Rattle.afp_volume.specs.VolumeState.{VolumeState};
-ghost use Rattle.afp_core.specs.OnOpened.{AreToldOf, BecomesKept, ChangesSilently, ChangesTree};
+ghost use Rattle.afp_core.specs.OnOpened.{AreToldOf, BecomesKept, ChangesAlone, ChangesTree};
 ghost use Rattle.afp_core.specs.Turn.{RunsRow};
 ghost use Rattle.kept_volume.specs.Changing.{Changes};
 ghost use Rattle.volume_tree.specs.Requests.{tree_call};
+ghost use Rattle.volume_tree.specs.Shown.{opened};
 
 use crate::replies::{refused, told_changed};
 use crate::state::State;
-use afp_base::{Bytes, Code, OutOfMemory, SessionNumber, VolumeId};
+use afp_base::{Bytes, Code, NodeId, OutOfMemory, SessionNumber, VolumeId};
 use afp_calls::Call;
 use afp_serial::{Outcome, Told};
 use kept_volume::ChangeFault;
@@ -19,13 +20,13 @@ use record_keeper::Keeper;
 
 impl<K: Keeper> State<K> {
     /// A call that changes the tree of a volume that the session has open, and tells no more than that it is done.
-    pub(crate) fn change_silently(
+    pub(crate) fn change_alone(
         &mut self,
         session: SessionNumber,
         volume: VolumeId,
         call: &Call,
     ) -> Result<(Told, Outcome), OutOfMemory>
-        requires { ChangesSilently call.now volume.0 }
+        requires { ChangesAlone call.now volume.0 }
         ensures { RunsRow self.old session.0 call.now result self.new }
     {
         let nothing = Bytes::new(self.alloc);
@@ -46,16 +47,22 @@ impl<K: Keeper> State<K> {
         let Some(index) = self.opened(session, volume) else {
             return Ok((refused(self.alloc, Code::ParamErr), Outcome::Done));
         };
-        let answer = self.change_at(index, call);
+        let opens = self.opened_forks(volume)?;
+        let answer = self.change_at(index, &opens, call);
         told_changed(self.alloc, answer, block)
     }
 
-    /// Changes the volume at an index. No fork is open.
-    fn change_at(&mut self, index: usize, call: &Call) -> Result<(), ChangeFault>
+    /// Changes the volume at an index, with these open forks.
+    fn change_at(
+        &mut self,
+        index: usize,
+        opens: &[(NodeId, bool)],
+        call: &Call,
+    ) -> Result<(), ChangeFault>
         requires within { index < length self.old.world.volumes }
         requires tree { IsSome (tree_call call.now) }
-        ensures { IfSome (tree_call call.now) (λ change. BecomesKept self.old index (λ old one. Changes old self.old.world.latest [] change result one) self.new) }
+        ensures { IfSome (tree_call call.now) (λ change. BecomesKept self.old index (λ old one. Changes old self.old.world.latest (opened opens.now) change result one) self.new) }
     {
-        self.kept[index].change(self.alloc, self.latest, &[], call)
+        self.kept[index].change(self.alloc, self.latest, opens, call)
     }
 }

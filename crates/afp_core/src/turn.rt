@@ -12,6 +12,7 @@ use crate::loading::load_all;
 use crate::retired::{Retired, settle_all};
 use crate::state::State;
 use afp_base::{LinkNumber, Moment, OutOfMemory, VolumeId};
+use afp_serial::fork_laws::references_are_lowest;
 use afp_serial::{Ask, House, Outcome, Told, entry_in_range, moment_in_range};
 use record_keeper::Keeper;
 use std::alloc::Global;
@@ -77,6 +78,7 @@ impl<K: Keeper> Core<K> {
         ensures { TakesStep self.old now link ask result self.new }
     {
         entry_in_range(now, link, &ask);
+        references_are_lowest();
         let (told, outcome) = self.state.turn(now, link, ask)?;
         self.entries = self.entries.saturating_add(1);
         if let Told::Opened { .. } = told {

@@ -1,9 +1,10 @@
-use Rattle.std.proofs.Common.{ap, subst, []}
+use Rattle.std.proofs.Common.{◌∙◌, ap, subst, List}
 use Rattle.kept_volume.specs.Changing.{Changes}
 use Rattle.volume_tree.specs.Requests.{tree_call}
+use Rattle.volume_tree.specs.Shown.{opened}
+use Rattle.afp_volume.specs.Calls.{Opened}
 use Rattle.afp_volume.specs.TreeSteps.{TreeCall}
 use Rattle.afp_core.specs.OnOpened.{BecomesKept, IsOpen}
-use Rattle.afp_core.specs.ServerState.{KeptWorld}
 use Rattle.afp_core.proofs.OnVolumeLemmas.{changes-runs, changes-unopened, some-holds}
 use Rattle.afp_core.proofs.state.State.change.Goals as goal
 
@@ -17,6 +18,7 @@ returns g c = λ t reply changes told.
     let k = c.args.self.now in
     let answer = c.change_at-answer in
     changes-runs k c.args.session.0 c.args.call.now c.args.volume.0 t reply changes answer.new.self c.in-Some.index answer.result c.args.block c.told_changed.result
-    (ap (λ (x : KeptWorld). x.world.opens) c.self.view_is) c.in-Some.ensures told
-    (some-holds (λ (x : TreeCall). BecomesKept k c.in-Some.index (λ old one. Changes old k.world.latest [] x answer.result one) answer.new.self) (tree_call c.args.call.now) t changes.tree answer.ensures)
+    c.in-Some.ensures told
+    (subst (λ (l : List Opened). BecomesKept k c.in-Some.index (λ old one. Changes old k.world.latest l t answer.result one) answer.new.self) (ap opened c.deref.ensures.value ∙ c.in_ok-opens.ensures)
+    (some-holds (λ (x : TreeCall). BecomesKept k c.in-Some.index (λ old one. Changes old k.world.latest (opened c.deref.result.now) x answer.result one) answer.new.self) (tree_call c.args.call.now) t changes.tree answer.ensures))
     c.told_changed.ensures

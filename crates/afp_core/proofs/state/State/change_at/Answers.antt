@@ -4,7 +4,8 @@ use Rattle.afp_volume.specs.TreeSteps.{TreeCall}
 use Rattle.kept_volume.specs.Changing.{Changes}
 use Rattle.kept_volume.specs.Kept.{KeptState}
 use Rattle.volume_tree.specs.Requests.{tree_call}
-use Rattle.afp_core.specs.ServerState.{KeptWorld, bare_world}
+use Rattle.volume_tree.specs.Shown.{opened}
+use Rattle.afp_core.specs.ServerState.{KeptWorld, world_of}
 use Rattle.afp_core.proofs.KeeperLemmas.{becomes-kept}
 use Rattle.afp_core.proofs.OnVolumeLemmas.{if-some}
 use Rattle.afp_core.proofs.state.State.change_at.Goals as goal
@@ -14,8 +15,8 @@ returns g c =
     let a = c.self.inside in
     let kept : List KeptState = a.kept.items in
     let within : c.args.index < length kept = omega (arith, c.requires.within, ap (λ (k : KeptWorld). length k.world.volumes) c.self.view_is, length-map kept (λ (k : KeptState). k.state)) in
-    if-some (λ (t : TreeCall). Changes c.index_mut.result.now a.latest [] t c.change.result c.change.new.self) _ (tree_call c.args.call.now) c.change.ensures
-    (λ t does. becomes-kept (bare_world a.house a.latest a.drain a.links a.sessions []) kept c.args.index c.index_mut.result.now c.change.new.self
-    (λ old one. Changes old c.args.self.now.world.latest [] t c.change.result one) c.args.self.now _ c.self.view_is within
-    (subst (λ (n : ℕ). Changes (get_or kept c.args.index c.index_mut.result.now) n [] t c.change.result c.change.new.self) (ap (λ (k : KeptWorld). k.world.latest) c.self.view_is)
-    (subst (λ (k : KeptState). Changes k a.latest [] t c.change.result c.change.new.self) c.index_mut.ensures.value does)) refl)
+    if-some (λ (t : TreeCall). Changes c.index_mut.result.now a.latest (opened c.args.opens.now) t c.change.result c.change.new.self) _ (tree_call c.args.call.now) c.change.ensures
+    (λ t does. becomes-kept (world_of a.house a.latest a.drain a.links a.sessions a.forks []) kept c.args.index c.index_mut.result.now c.change.new.self
+    (λ old one. Changes old c.args.self.now.world.latest (opened c.args.opens.now) t c.change.result one) c.args.self.now _ c.self.view_is within
+    (subst (λ (n : ℕ). Changes (get_or kept c.args.index c.index_mut.result.now) n (opened c.args.opens.now) t c.change.result c.change.new.self) (ap (λ (k : KeptWorld). k.world.latest) c.self.view_is)
+    (subst (λ (k : KeptState). Changes k a.latest (opened c.args.opens.now) t c.change.result c.change.new.self) c.index_mut.ensures.value does)) refl)

@@ -1,11 +1,11 @@
-use Rattle.std.proofs.Common.{ap, refl, subst, List}
+use Rattle.std.proofs.Common.{◌∙◌, ap, refl, subst, sym, List}
 use Rattle.afp_serial.specs.GetFileDirParms.{get_file_dir_parms_reply}
 use Rattle.afp_volume.specs.Calls.{Opened}
 use Rattle.afp_volume.specs.GetFileDirParms.{get_file_dir_parms_values}
 use Rattle.afp_core.specs.OnOpened.{IsOpen}
-use Rattle.afp_core.specs.ServerState.{KeptWorld}
+use Rattle.volume_tree.specs.Shown.{opened}
 use Rattle.afp_core.proofs.CallRows.{get_file_dir_parms-tells}
-use Rattle.afp_core.proofs.OnVolumeLemmas.{none-opened, tells-runs, tells-unopened}
+use Rattle.afp_core.proofs.OnVolumeLemmas.{tells-runs, tells-unopened}
 use Rattle.afp_core.proofs.state.State.get_file_dir_parms.Goals as goal
 
 pub returns-in_default : goal.returns-in_default
@@ -17,9 +17,9 @@ pub returns : goal.returns
 returns g c =
     let answer = c.get_file_dir_parms-answer in
     let v = c.kept_at.result.now.state in
-    let none = none-opened c.args.self.now.world c.args.volume.0 (ap (λ (k : KeptWorld). k.world.opens) c.self.view_is) in
+    let opens = sym (ap opened c.deref.ensures.value ∙ c.in_ok-opens.ensures) in
     tells-runs c.args.self.now c.args.session.0 _ c.args.volume.0 _ _ (get_file_dir_parms-tells c.args.volume c.args.dir c.args.file_bits c.args.dir_bits c.args.path.now) c.in-Some.index v _ _
     answer.result c.new-block.result answer.new.out
     c.told_of.result c.in-Some.ensures c.kept_at.ensures refl
-    (ap (λ (l : List Opened). get_file_dir_parms_reply c.args.file_bits c.args.dir_bits (get_file_dir_parms_values v l c.args.file_bits c.args.dir_bits c.args.dir.0 c.args.path.now)) none)
+    (ap (λ (l : List Opened). get_file_dir_parms_reply c.args.file_bits c.args.dir_bits (get_file_dir_parms_values v l c.args.file_bits c.args.dir_bits c.args.dir.0 c.args.path.now)) opens)
     answer.ensures.refused c.new-block.ensures answer.ensures.ok c.told_of.ensures

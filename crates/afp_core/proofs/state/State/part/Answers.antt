@@ -1,17 +1,15 @@
-use Rattle.std.proofs.Common.{◌∙◌, ap, sym, subst, ◌==◌, not, filter}
+use Rattle.std.proofs.Common.{◌∙◌, ap, sym, subst}
 use Rattle.afp_serial.specs.Sessions.{session_at}
-use Rattle.afp_core.specs.ServerState.{KeptWorld, with_sessions}
+use Rattle.afp_core.specs.ServerState.{KeptWorld}
 use Rattle.afp_core.specs.SessionList.{IsAt}
 use Rattle.afp_core.proofs.AskLemmas.{part-displaced, part-runs}
 use Rattle.afp_core.proofs.state.State.part.Goals as goal
 
 pub returns-in-Some : goal.returns-in-Some
 returns-in-Some g c =
-    part-runs c.args.self.now _ c.args.link.0 c.in-Some.session.0 c.end.new.self
+    part-runs c.args.self.now _ c.args.link.0 c.in-Some.session.0
     (subst (λ (k : KeptWorld). IsAt k.world.sessions c.args.link.0 c.in-Some.session.0) c.self.view_is c.in-Some.ensures)
-    (ap (λ (k : KeptWorld). k.world.opens) c.self.view_is) (ap (λ (k : KeptWorld). k.world.locks) c.self.view_is)
-    (ap (λ (k : KeptWorld). with_sessions k c.end.new.self) c.self.view_is)
-    (c.end.ensures ∙ ap (λ (k : KeptWorld). filter (λ t. not (t.number == c.in-Some.session.0)) k.world.sessions) c.self.view_is)
+    c.end.ensures
 
 pub returns-in-None : goal.returns-in-None
 returns-in-None g c = part-displaced c.args.self.now c.args.link.0 (ap (λ (k : KeptWorld). session_at k.world c.args.link.0) (sym c.self.view_is) ∙ c.in-None.ensures)

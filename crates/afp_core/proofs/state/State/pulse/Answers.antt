@@ -7,6 +7,6 @@ use Rattle.afp_core.proofs.state.State.pulse.Goals as goal
 pub returns : goal.returns
 returns g c =
     pulse-runs c.args.self.now _ c.args.link.0 _ c.sweep.new.self
-    (ap (λ (k : KeptWorld). k.world.opens) c.self.view_is) (ap (λ (k : KeptWorld). k.world.locks) c.self.view_is)
-    c.told_pulse-told.ensures (ap (λ (k : KeptWorld). with_sessions k c.sweep.new.self) c.self.view_is)
-    (c.sweep.ensures ∙ ap (λ (k : KeptWorld). filter (λ s. not (is_expired k.world.latest s.place)) k.world.sessions) c.self.view_is)
+    c.requires c.told_pulse-told.ensures (ap (λ (k : KeptWorld). with_sessions k c.sweep.new.self) c.self.view_is)
+    (c.sweep.ensures.left ∙ ap (λ (k : KeptWorld). filter (λ s. not (is_expired k.world.latest s.place)) k.world.sessions) c.self.view_is)
+    (c.sweep.ensures.same ∙ ap (λ (k : KeptWorld). k.world.sessions) c.self.view_is)

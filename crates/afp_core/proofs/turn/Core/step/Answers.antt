@@ -6,12 +6,12 @@ use Rattle.afp_serial.specs.Sound.{IsSound}
 use Rattle.afp_serial.specs.declared.ask.Told.{Told}
 use Rattle.afp_core.specs.ServerState.{ServerState, kept_at, kept_of}
 use Rattle.afp_core.specs.Turn.{RunsAsk}
-use Rattle.afp_core.proofs.TurnLemmas.{legal-entry, next-free, not-opened, turned}
+use Rattle.afp_core.proofs.TurnLemmas.{legal-entry, not-opened, ready, turned}
 use Rattle.afp_core.proofs.turn.Core.step.Goals as goal
 use Rattle.afp_core.proofs.turn.Core.step.Goals.{in-Opened, in_default}
 
 pub turn-requires : goal.turn-requires
-turn-requires g c = next-free c.self.inside.state.world c.self.invariant
+turn-requires g c = ready c.self.inside.state.world c.references_are_lowest.ensures.few c.self.invariant
 
 pub invariant_of-self-in-Opened : goal.invariant_of-self-in-Opened
 invariant_of-self-in-Opened g c =
