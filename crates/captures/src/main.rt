@@ -6,6 +6,7 @@
 
 use afp_outside::StdSource;
 use capture_log::{ReplayEnd, replay};
+use capture_server::memory_keepers;
 use std::fs::File;
 use std::io;
 use std::io::{BufRead, BufReader, ErrorKind};
@@ -13,10 +14,13 @@ use std::io::{BufRead, BufReader, ErrorKind};
 /// The most bytes that are read of one: more than it has.
 const TURNS: u64 = (1 << 63) - 1;
 
-/// Replays the capture in a file.
+/// Replays the capture in a file, over keepers in memory.
 fn replay_file(rt: &HostRuntime, name: &str) -> io::Result<ReplayEnd> {
     let mut source = StdSource::new(File::open(rt, name)?);
-    Ok(replay(rt.alloc(), &mut source, TURNS))
+    match memory_keepers(rt.alloc()) {
+        Ok(keepers) => Ok(replay(rt.alloc(), keepers, &mut source, TURNS)),
+        Err(_) => Ok(ReplayEnd::Memory),
+    }
 }
 
 /// Prints which byte differs.
