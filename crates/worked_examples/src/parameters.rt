@@ -70,7 +70,7 @@ fn block_text(alloc: Global, asked: Asked, bytes: &[u8]) -> Result<String, CaseF
     let mut out = Bytes::new(alloc);
     out.extend(b"\xee")?;
     match read_params(alloc, asked.bits, asked.kind, bytes) {
-        Ok(values) => put_params(alloc, asked.bits, &values, &mut out)?,
+        Ok(values) => put_params(asked.bits, &values, &mut out)?,
         Err(fault) => return fault_of(alloc, fault),
     }
     match out.as_slice() {

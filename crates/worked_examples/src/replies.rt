@@ -19,7 +19,7 @@ fn written(alloc: Global, reply: &Reply) -> Result<String, CaseFault>
     requires { IsShown reply.now }
 {
     let mut out = Bytes::new(alloc);
-    write_reply(alloc, reply, &mut out)?;
+    write_reply(reply, &mut out)?;
     word_of(alloc, out.as_slice())
 }
 
