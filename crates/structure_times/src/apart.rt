@@ -94,14 +94,19 @@ fn bytes_of(rt: &HostRuntime, pieces: u32) -> io::Result<Vec<u8>> {
     Ok(list)
 }
 
-/// A copy of 64 KiB out of so many pieces, which jump about.
-pub fn copies(rt: &HostRuntime, pieces: u32) -> io::Result<u64> {
+/// A copy of 64 KiB out of so many pieces. They jump about, or are always the one in the middle.
+pub fn copies(rt: &HostRuntime, pieces: u32, jumps: bool) -> io::Result<u64> {
     let list = bytes_of(rt, pieces)?;
     let mut out = Vec::new(rt.alloc());
     let since = spent(rt)?;
     let mut done: u32 = 0;
     for turn in 0..CALLS {
-        let from = scattered(turn, pieces) as usize * PIECE;
+        let number = if jumps {
+            scattered(turn, pieces)
+        } else {
+            pieces / 2
+        };
+        let from = number as usize * PIECE;
         done = done.saturating_add(copy_piece(list.as_slice(), from, &mut out)?);
     }
     each(rt, since, CALLS, done)

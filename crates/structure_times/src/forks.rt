@@ -46,10 +46,15 @@ pub fn fork(alloc: Global, pieces: u32) -> Result<Fork, OutOfMemory> {
     Ok(fork)
 }
 
-/// The place of a piece, somewhere in a fork.
-fn place(fork: &Fork, turn: u32) -> u64 {
+/// The place of a piece: somewhere in a fork, or always in its middle.
+fn place(fork: &Fork, turn: u32, jumps: bool) -> u64 {
     let pieces = (fork.len() / u64::from(PIECE) % 65536) as u32;
-    u64::from(scattered(turn, pieces)) * u64::from(PIECE)
+    let number = if jumps {
+        scattered(turn, pieces)
+    } else {
+        pieces / 2
+    };
+    u64::from(number) * u64::from(PIECE)
 }
 
 fn read_once(fork: &Fork, from: u64, out: &mut Bytes) -> io::Result<u32> {
@@ -60,13 +65,13 @@ fn read_once(fork: &Fork, from: u64, out: &mut Bytes) -> io::Result<u32> {
     }
 }
 
-/// A read.
-pub fn reads(rt: &HostRuntime, fork: &Fork) -> io::Result<u64> {
+/// A read. The places jump about, or are one.
+pub fn reads(rt: &HostRuntime, fork: &Fork, jumps: bool) -> io::Result<u64> {
     let mut out = Bytes::new(rt.alloc());
     let since = spent(rt)?;
     let mut done: u32 = 0;
     for turn in 0..CALLS {
-        done = done.saturating_add(read_once(fork, place(fork, turn), &mut out)?);
+        done = done.saturating_add(read_once(fork, place(fork, turn, jumps), &mut out)?);
     }
     each(rt, since, CALLS, done)
 }
@@ -79,22 +84,28 @@ fn write_once(rt: &HostRuntime, fork: &mut Fork, from: u64, piece: &[u8]) -> io:
 }
 
 /// Writes a piece at each turn, one of two that differ.
-fn write_all(rt: &HostRuntime, fork: &mut Fork, odd: &[u8], even: &[u8]) -> io::Result<u32> {
+fn write_all(
+    rt: &HostRuntime,
+    fork: &mut Fork,
+    jumps: bool,
+    odd: &[u8],
+    even: &[u8],
+) -> io::Result<u32> {
     let mut done: u32 = 0;
     for turn in 0..CALLS {
-        let from = place(fork, turn);
+        let from = place(fork, turn, jumps);
         let piece = if turn % 2 == 0 { even } else { odd };
         done = done.saturating_add(write_once(rt, fork, from, piece)?);
     }
     Ok(done)
 }
 
-/// A write over bytes that differ from it.
-pub fn writes(rt: &HostRuntime, fork: &mut Fork) -> io::Result<u64> {
+/// A write over bytes that differ from it. The places jump about, or are one.
+pub fn writes(rt: &HostRuntime, fork: &mut Fork, jumps: bool) -> io::Result<u64> {
     let (Ok(odd), Ok(even)) = (piece(rt.alloc(), 3), piece(rt.alloc(), 2)) else {
         return Err(io::Error::from(ErrorKind::OutOfMemory));
     };
     let since = spent(rt)?;
-    let done = write_all(rt, fork, odd.as_slice(), even.as_slice())?;
+    let done = write_all(rt, fork, jumps, odd.as_slice(), even.as_slice())?;
     each(rt, since, CALLS, done)
 }

@@ -135,24 +135,42 @@ fn print_apart(rt: &HostRuntime) -> io::Result<()> {
     )?;
     print_row(
         rt,
-        "std: copy 64 KiB",
-        apart::copies(rt, 16)?,
-        apart::copies(rt, 4096)?,
+        "std: copy 64 KiB, jumping",
+        apart::copies(rt, 16, true)?,
+        apart::copies(rt, 4096, true)?,
+    )?;
+    print_row(
+        rt,
+        "std: copy 64 KiB, at one place",
+        apart::copies(rt, 16, false)?,
+        apart::copies(rt, 4096, false)?,
     )
 }
 
 fn print_forks(rt: &HostRuntime, small: &mut Fork, large: &mut Fork) -> io::Result<()> {
     print_row(
         rt,
-        "fork: read 64 KiB",
-        forks::reads(rt, small)?,
-        forks::reads(rt, large)?,
+        "fork: read 64 KiB, jumping",
+        forks::reads(rt, small, true)?,
+        forks::reads(rt, large, true)?,
     )?;
     print_row(
         rt,
-        "fork: write 64 KiB",
-        forks::writes(rt, small)?,
-        forks::writes(rt, large)?,
+        "fork: read 64 KiB, at one place",
+        forks::reads(rt, small, false)?,
+        forks::reads(rt, large, false)?,
+    )?;
+    print_row(
+        rt,
+        "fork: write 64 KiB, jumping",
+        forks::writes(rt, small, true)?,
+        forks::writes(rt, large, true)?,
+    )?;
+    print_row(
+        rt,
+        "fork: write 64 KiB, at one place",
+        forks::writes(rt, small, false)?,
+        forks::writes(rt, large, false)?,
     )
 }
 
