@@ -2,6 +2,7 @@
 #![tactic(auto)]
 
 use afp_outside::{StdSink, StdSource};
+use capture_server::memory_keepers;
 use plain_tool::afptool_plain;
 use std::io::ErrorKind;
 use std::process::ExitCode;
@@ -33,13 +34,23 @@ fn words_of(rt: &HostRuntime) -> Result<Vec<String>, u8> {
     }
 }
 
-/// Does what the words ask, and gives the exit status.
+/// Does what the words ask, over keepers in memory, and gives the exit status.
 fn run(rt: &HostRuntime) -> u8 {
     match words_of(rt) {
         Ok(words) => {
+            let Ok(keepers) = memory_keepers(rt.alloc()) else {
+                return NO_MEMORY;
+            };
             let mut source = StdSource::new(rt.reader());
             let mut out = StdSink::new(rt);
-            afptool_plain(rt.alloc(), words.as_slice(), &mut source, &mut out, TURNS)
+            afptool_plain(
+                rt.alloc(),
+                words.as_slice(),
+                keepers,
+                &mut source,
+                &mut out,
+                TURNS,
+            )
         }
         Err(status) => status,
     }

@@ -10,10 +10,31 @@ use Rattle.capture_lines.specs.Lines.{line_in, longest_line}
 use Rattle.capture_log.specs.Gathering.{ReaderState, IsOneLine, AreLines, ended_lines, Holds, EndsLine}
 use Rattle.capture_log.specs.Judged.{Decides, DecidesEnd, JudgedAt, Judged}
 use Rattle.capture_log.specs.Reading.{is_newline, pieces, last_line, lines_of, lines_in, Undecided}
-use Rattle.capture_log.specs.Standing.{Standing, Goes, Leads, begins, is_bad}
+use Rattle.capture_server.specs.Standing.{Standing, Goes, Leads, begins, is_bad, no_house}
+use Rattle.capture_server.specs.declared.part.Part.TheVariants as parts
+use Rattle.capture_log.proofs.SetUpLemmas.{set-up-none}
 use Rattle.capture_log.specs.Taking.{CaptureState, IsCapture, Takes}
 use Rattle.capture_log.specs.declared.replay_end.ReplayEnd.{ReplayEnd}
 use Rattle.capture_log.specs.declared.replay_end.ReplayEnd.TheVariants.{BadCapture}
+
+-- nothing was read
+pub holds-nothing : (r : ReaderState) → r ≡ record { capture = record { part = parts.Title; house = no_house; waiting = true; running = None; number = 0 }; held = [] } → Holds r []
+holds-nothing r same =
+    let it : Holds (record { capture = record { part = parts.Title; house = no_house; waiting = true; running = None; number = 0 }; held = [] }) [] = record {
+      lines = [];
+      whole = refl;
+      are_lines = tt;
+      one_line = All-nil (λ byte. is_newline byte ≡ false);
+      size = omega arith;
+      standing = begins;
+      leads = refl;
+      is = record {
+        next = refl;
+        server = record { serves = refl; set_up = set-up-none; keepers = refl; start = refl; connections = refl; links = refl; history = refl; replies = refl };
+      };
+      number = refl;
+    } in
+    subst (λ (x : ReaderState). Holds x []) (sym same) it
 
 -- whether a line is too long
 pub too-long : (held more sum most : ℕ) → sum ≡ min (held + more) most → longest_line < most → nat_lt longest_line sum ≡ nat_lt longest_line (held + more)

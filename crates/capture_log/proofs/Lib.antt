@@ -1,10 +1,5 @@
-pub mod ConnectionLemmas
-pub mod Alone
-pub mod Feeding
 pub mod GatheringLemmas
-pub mod Histories
 pub mod LineLemmas
+pub mod SetUpLemmas
 pub mod SoFar
-pub mod RunningLemmas
 pub mod TakingLemmas
-pub mod NewKeepers

@@ -4,8 +4,8 @@ use Rattle.std.specs.Prelude.{Option, Some, None, option_map}
 use Rattle.afp_base.specs.Counts.{Counts}
 use Rattle.afp_outside.specs.Source.{SourceState, SourceGives, SourceEnds, SourceFails}
 use Rattle.capture_log.specs.Gathering.{ReaderState, Holds}
-use Rattle.capture_log.specs.Judged.{Judged, JudgedAt}
-use Rattle.capture_log.specs.Reading.{lines_in, IsJudged, Replays, ReplaysBy}
+use Rattle.capture_log.specs.Judged.{Judged, JudgedAt, AreTrue}
+use Rattle.capture_log.specs.Reading.{lines_in, IsJudged, Replays, ReplaysBy, IsReadWell, IsCompared, IsTheSame}
 use Rattle.capture_log.specs.declared.replay_end.ReplayEnd.{ReplayEnd}
 use Rattle.capture_log.specs.declared.replay_end.ReplayEnd.TheVariants as ends
 use Rattle.capture_log.proofs.GatheringLemmas.{undecided}
@@ -45,6 +45,39 @@ so_far-more old mid new r s taken n room x g h = record {
   holds = h;
 }
 
+-- a capture that was read well is compared
+
+pub compared-by : (turns : ℕ) (read : List ℕ) (old new : SourceState) (end : ReplayEnd) → ReplaysBy turns read old new end → IsReadWell turns read old new → IsCompared end
+compared-by turns read old new (ends.Same links entries replies refused) by well = tt
+compared-by turns read old new (ends.Differs link at want got) by well = tt
+compared-by turns read old new (ends.BadCapture line) by well = elim by.judged [
+  | inl j ↦ absurd ((well.good by.ended).formed j.before j.raw j.behind j.standing j.whole j.leads j.decides.0)
+  | inr j ↦ absurd (j.0.decides.0 ((well.good by.ended).whole j.1 j.0.standing j.0.leads))
+]
+compared-by turns read old new ends.ReadFault by well = absurd (well.faultless by.0)
+compared-by turns read old new ends.Spent by well = absurd (omega (arith, by.0, well.fewer))
+compared-by turns read old new ends.Memory by well = tt
+
+pub same-by : (turns : ℕ) (read : List ℕ) (old new : SourceState) (end : ReplayEnd) → ReplaysBy turns read old new end → IsReadWell turns read old new → ((ended : Bool) → AreTrue (lines_in ended read)) → IsTheSame end
+same-by turns read old new (ends.Same links entries replies refused) by well holds = tt
+same-by turns read old new (ends.Differs link at want got) by well holds = elim by.judged [
+  | inl j ↦ absurd (holds by.ended j.before j.raw j.behind j.standing link (record { at = at; want = want; got = got }) j.whole j.leads j.decides)
+  | inr j ↦ absurd j.0.decides
+]
+same-by turns read old new (ends.BadCapture line) by well holds = compared-by turns read old new (ends.BadCapture line) by well
+same-by turns read old new ends.ReadFault by well holds = compared-by turns read old new ends.ReadFault by well
+same-by turns read old new ends.Spent by well holds = compared-by turns read old new ends.Spent by well
+same-by turns read old new ends.Memory by well holds = tt
+
+replayed : (turns : ℕ) (old new : SourceState) (end : ReplayEnd) (read : List ℕ) → new.given ≡ option_map (λ given. given ++ read) old.given → ReplaysBy turns read old new end → Replays turns old end new
+replayed turns old new end read given by = record {
+  read = read;
+  given = given;
+  by = by;
+  compared = compared-by turns read old new end by;
+  same = same-by turns read old new end by;
+}
+
 -- the ends
 
 by-verdict : (turns : ℕ) (read : List ℕ) (old new : SourceState) (ended : Bool) (verdict : ReplayEnd) → Judged (lines_in ended read) ended verdict → IsJudged turns read old new verdict
@@ -60,43 +93,29 @@ pub decided : (turns : ℕ) (old mid new : SourceState) (r : ReaderState) (taken
     → JudgedAt (lines_in false (x.read ++ take n room)) verdict → Replays turns old verdict new
 decided turns old mid new r taken n room verdict x g fewer j =
     let last : List ℕ = take n room in
+    replayed turns old new verdict (x.read ++ last) (more-given old mid new x.read last x.given g.given) (by-verdict turns (x.read ++ last) old new false verdict (inl j)
     record {
-      read = x.read ++ last;
-      given = more-given old mid new x.read last x.given g.given;
-      by = by-verdict turns (x.read ++ last) old new false verdict (inl j)
-          record {
-            ended = false;
-            judged = inl j;
-            ends = (g.ended ∙ x.ended, record { before = x.read; last = last; whole = refl; fewer = omega (arith, fewer, x.many) });
-            faults = g.faults ∙ x.faults;
-          };
-    }
+      ended = false;
+      judged = inl j;
+      ends = (g.ended ∙ x.ended, record { before = x.read; last = last; whole = refl; fewer = omega (arith, fewer, x.many) });
+      faults = g.faults ∙ x.faults;
+    })
 
 pub finished : (turns : ℕ) (old mid new : SourceState) (r : ReaderState) (taken : ℕ) (verdict : ReplayEnd) (x : HasRead old r taken mid) → SourceEnds mid new → taken < turns
     → Judged (lines_in true x.read) true verdict → Replays turns old verdict new
-finished turns old mid new r taken verdict x g fewer j = record {
-  read = x.read;
-  given = g.given ∙ x.given;
-  by = by-verdict turns x.read old new true verdict j
-      record { ended = true; judged = j; ends = (g.ended, omega (arith, fewer, x.many)); faults = g.faults ∙ x.faults };
-}
+finished turns old mid new r taken verdict x g fewer j =
+    replayed turns old new verdict x.read (g.given ∙ x.given) (by-verdict turns x.read old new true verdict j
+    record { ended = true; judged = j; ends = (g.ended, omega (arith, fewer, x.many)); faults = g.faults ∙ x.faults })
 
 pub failed : (turns : ℕ) (old mid new : SourceState) (r : ReaderState) (taken : ℕ) → HasRead old r taken mid → SourceFails mid new → taken < turns → Replays turns old ends.ReadFault new
-failed turns old mid new r taken x g fewer = record {
-  read = x.read;
-  given = g.given ∙ x.given;
-  by = (subst (λ (n : ℕ). Counts 1 n new.faults) x.faults g.faults, omega (arith, fewer, x.many), undecided r x.read x.holds);
-}
+failed turns old mid new r taken x g fewer =
+    replayed turns old new ends.ReadFault x.read (g.given ∙ x.given) (subst (λ (n : ℕ). Counts 1 n new.faults) x.faults g.faults, omega (arith, fewer, x.many), undecided r x.read x.holds)
 
 pub spent : (turns : ℕ) (old now : SourceState) (r : ReaderState) (taken : ℕ) → HasRead old r taken now → turns ≤ taken → Replays turns old ends.Spent now
-spent turns old now r taken x all = record {
-  read = x.read;
-  given = x.given;
-  by = (omega (arith, all, x.many), undecided r x.read x.holds, x.faults);
-}
+spent turns old now r taken x all = replayed turns old now ends.Spent x.read x.given (omega (arith, all, x.many), undecided r x.read x.holds, x.faults)
 
 pub no_memory : (turns : ℕ) (old now : SourceState) (read : List ℕ) → now.given ≡ option_map (λ given. given ++ read) old.given → Replays turns old ends.Memory now
-no_memory turns old now read e = record { read = read; given = e; by = tt }
+no_memory turns old now read e = replayed turns old now ends.Memory read e tt
 
 pub no_memory-more : (turns : ℕ) (old mid new : SourceState) (r : ReaderState) (taken n : ℕ) (room : List ℕ) → HasRead old r taken mid → SourceGives mid room n new → Replays turns old ends.Memory new
 no_memory-more turns old mid new r taken n room x g = no_memory turns old new (x.read ++ take n room) (more-given old mid new x.read (take n room) x.given g.given)

@@ -12,15 +12,18 @@ use Rattle.capture_lines.specs.declared.line.What.{What}
 use Rattle.capture_lines.specs.declared.line.What.TheVariants.{In, Quiet, Lost, Out}
 use Rattle.afp_base.specs.declared.ids.LinkNumber.{LinkNumber}
 use Rattle.afp_server.specs.Wire.{open_link}
-use Rattle.capture_log.specs.Connections.{Connection, unused}
-use Rattle.capture_log.specs.Judged.{refused_in, Decides, IsSame, DecidesEnd}
-use Rattle.capture_log.specs.Running.{IsFreshRunning, HappensBy}
-use Rattle.capture_log.specs.Standing.{Standing, Says, Happens, FeedsUnless, PulsesIf, LosesIf, part_after, is_refused, is_refused_on, is_bad, start_at}
-use Rattle.capture_log.specs.States.{ConnectionState, RunningState, IsConnection, IsRunning, unused_state}
+use Rattle.capture_server.specs.Connections.{Connection, unused}
+use Rattle.capture_log.specs.Judged.{Decides, IsSame, DecidesEnd}
+use Rattle.capture_server.specs.Counting.{refused_in}
+use Rattle.capture_server.specs.Running.{IsFreshRunning, HappensBy}
+use Rattle.capture_server.specs.Standing.{Standing, Says, Happens, FeedsUnless, PulsesIf, LosesIf, part_after, is_refused, is_refused_on, is_bad, start_at}
+use Rattle.capture_server.specs.States.{ConnectionState, RunningState, IsConnection, IsRunning, unused_state}
+use Rattle.capture_log.specs.SetUp.{IsSetUp}
 use Rattle.capture_log.specs.Taking.{Acts, begun, CaptureState, house_with, refused_by, is_event, IsIdle, is_past_house, IsBegun, IsServer, IsCapture, RunsFrom, LeadsLine, TakesLine, Takes}
-use Rattle.capture_log.specs.declared.difference.Difference.{Difference}
-use Rattle.capture_log.specs.declared.part.Part.{Part}
-use Rattle.capture_log.specs.declared.part.Part.TheVariants as parts
+use Rattle.capture_log.proofs.SetUpLemmas.{kept-set-up}
+use Rattle.capture_server.specs.declared.difference.Difference.{Difference}
+use Rattle.capture_server.specs.declared.part.Part.{Part}
+use Rattle.capture_server.specs.declared.part.Part.TheVariants as parts
 use Rattle.capture_log.specs.declared.replay_end.ReplayEnd.{ReplayEnd}
 use Rattle.capture_log.specs.declared.replay_end.ReplayEnd.TheVariants.{Same, Differs, BadCapture, ReadFault, Spent, Memory}
 
@@ -38,8 +41,8 @@ unused-there block = record {
   wire = record { closed = refl; unfed = λ on there. record { stage = refl; fed = refl; past = refl } };
 }
 
-fresh-now : (house : Household) (now : ℕ) (r : RunningState) (s : Standing) → IsFreshRunning house now r → IsIdle house s → IsRunning r s now
-fresh-now house now r s f i = record {
+fresh-now : (house : Household) (waiting : Bool) (now : ℕ) (r : RunningState) (s : Standing) → IsFreshRunning house now r → IsIdle house waiting s → IsRunning r s now
+fresh-now house waiting now r s f i = record {
   house = f.serves ∙ i.serves;
   teller = record {
     start = f.start ∙ ap (λ (h : Household). fresh_world h now) i.serves;
@@ -54,16 +57,31 @@ fresh-now house now r s f i = record {
       (subst (λ (x : ConnectionState). IsConnection (status_block s.house) x unused) (sym (f.connections k c at)) (unused-there (status_block s.house)));
 }
 
-pub runs-new : (there : Option RunningState) (house old : Household) (now : ℕ) (r : RunningState) (s : Standing) → there ≡ None → house ≡ old → IsFreshRunning house now r → IsServer there old s → RunsFrom s now r
-runs-new there house old now r s none same f is =
-    let idle : IsIdle old s = subst (λ (o : Option RunningState). IsServer o old s) none is in
-    let it : IsRunning r s now = fresh-now old now r s (subst (λ (h : Household). IsFreshRunning h now r) same f) idle in
+pub runs-new : (there : Option RunningState) (house : Household) (waiting : Bool) (now : ℕ) (r : RunningState) (s : Standing) → there ≡ None → IsFreshRunning house now r → IsServer there house waiting s → RunsFrom s now r
+runs-new there house waiting now r s none f is =
+    let idle : IsIdle house waiting s = subst (λ (o : Option RunningState). IsServer o house waiting s) none is in
+    let it : IsRunning r s now = fresh-now house waiting now r s f idle in
     subst (λ (o : Option ℕ). IsRunning r s (start_at o now)) (sym idle.start) it
 
-pub runs-there : (there : Option RunningState) (old : Household) (now : ℕ) (r : RunningState) (s : Standing) → there ≡ Some r → IsServer there old s → RunsFrom s now r
-runs-there there old now r s some is =
-    let begun : IsBegun r s = subst (λ (o : Option RunningState). IsServer o old s) some is in
+pub waits-there : (there : Option RunningState) (house : Household) (waiting : Bool) (s : Standing) → there ≡ None → IsServer there house waiting s → waiting ≡ true
+waits-there there house waiting s none is = let idle : IsIdle house waiting s = subst (λ (o : Option RunningState). IsServer o house waiting s) none is in idle.keepers
+
+pub set-up-there : (there : Option RunningState) (house : Household) (waiting : Bool) (s : Standing) → there ≡ None → IsServer there house waiting s → s.part ≡ parts.Events → IsSetUp parts.Events house
+set-up-there there house waiting s none is at =
+    let idle : IsIdle house waiting s = subst (λ (o : Option RunningState). IsServer o house waiting s) none is in
+    subst (λ (p : Part). IsSetUp p house) at idle.set_up
+
+pub runs-there : (there : Option RunningState) (old : Household) (waiting : Bool) (now : ℕ) (r : RunningState) (s : Standing) → there ≡ Some r → IsServer there old waiting s → RunsFrom s now r
+runs-there there old waiting now r s some is =
+    let begun : IsBegun r s = subst (λ (o : Option RunningState). IsServer o old waiting s) some is in
     subst (λ (o : Option ℕ). IsRunning r s (start_at o now)) (sym begun.start) begun.is
+
+-- the server that is there, or what waits for it, was taken out
+pub served : (c x : CaptureState) (s : Standing) (waiting : Bool) (there : Option RunningState) → IsCapture c s → x ≡ c → there ≡ x.running → waiting ≡ x.waiting → IsServer there x.house waiting s
+served c x s waiting there is same runs waits =
+    subst (λ (b : Bool). IsServer there x.house b s) (sym waits)
+    (subst (λ (o : Option RunningState). IsServer o x.house x.waiting s) (sym runs)
+    (subst (λ (y : CaptureState). IsServer y.running y.house y.waiting s) (sym same) is.server))
 
 -- where a capture stands does not say which line comes next on the server
 pub moved : (r : RunningState) (s : Standing) (part : Part) (start : Option ℕ) (first : ℕ) → IsRunning r s first → IsRunning r (record s { part = part; start = start }) first
@@ -133,9 +151,9 @@ past-end parts.Volumes line q past e f = absurd (cc past)
 past-end parts.Events line q past e f = events-end line q e f
 past-end parts.Nothing line q past e f = absurd (nothing-more line q f)
 
-begun-end : (r : RunningState) (house : Household) (number : ℕ) (s : Standing) → IsBegun r s → part_after s.part End ≡ Some parts.Nothing
-    → LeadsLine s End (record { part = parts.Nothing; house = house; running = Some r; number = number })
-begun-end r house number s b may = record {
+begun-end : (r : RunningState) (house : Household) (waiting : Bool) (number : ℕ) (s : Standing) → IsBegun r s → part_after s.part End ≡ Some parts.Nothing
+    → LeadsLine s End (record { part = parts.Nothing; house = house; waiting = waiting; running = Some r; number = number })
+begun-end r house waiting number s b may = record {
   part = parts.Nothing;
   after = record s { part = parts.Nothing };
   may = may;
@@ -144,9 +162,9 @@ begun-end r house number s b may = record {
   is = record { next = refl; server = record { first = b.first; start = b.start; is = moved r s parts.Nothing s.start b.first b.is; past = refl } };
 }
 
-leads-by : (o : Option RunningState) (house : Household) (number : ℕ) (s : Standing) (line : Line) (part : Part) → IsServer o house s → part_after s.part line ≡ Some part → is_event line ≡ false
-    → refused_by house line ≡ false → LeadsLine s line (record { part = part; house = house_with house line; running = o; number = number })
-leads-by None house number s line part i may other good = record {
+leads-by : (o : Option RunningState) (house : Household) (waiting : Bool) (number : ℕ) (s : Standing) (line : Line) (part : Part) → IsServer o house waiting s → part_after s.part line ≡ Some part → is_event line ≡ false
+    → refused_by house line ≡ false → LeadsLine s line (record { part = part; house = house_with house line; waiting = waiting; running = o; number = number })
+leads-by None house waiting number s line part i may other good = record {
   part = part;
   after = record s { part = part; house = house_with s.house line };
   may = may;
@@ -156,6 +174,8 @@ leads-by None house number s line part i may other good = record {
     next = refl;
     server = record {
       serves = ap (λ (h : Household). house_with h line) i.serves;
+      set_up = kept-set-up s.part part line house may good i.set_up;
+      keepers = i.keepers;
       start = i.start;
       connections = i.connections;
       links = i.links;
@@ -164,34 +184,34 @@ leads-by None house number s line part i may other good = record {
     };
   };
 }
-leads-by (Some r) house number s line part b may other good =
+leads-by (Some r) house waiting number s line part b may other good =
     let e : IsEnd line part = past-end s.part line part b.past other may in
-    subst (λ (l : Line). LeadsLine s l (record { part = part; house = house_with house l; running = Some r; number = number })) (sym e.ends)
-    (subst (λ (q : Part). LeadsLine s End (record { part = q; house = house; running = Some r; number = number })) (sym e.over)
-    (begun-end r house number s b (ap (λ (l : Line). part_after s.part l) (sym e.ends) ∙ may ∙ ap Some e.over)))
+    subst (λ (l : Line). LeadsLine s l (record { part = part; house = house_with house l; waiting = waiting; running = Some r; number = number })) (sym e.ends)
+    (subst (λ (q : Part). LeadsLine s End (record { part = q; house = house; waiting = waiting; running = Some r; number = number })) (sym e.over)
+    (begun-end r house waiting number s b (ap (λ (l : Line). part_after s.part l) (sym e.ends) ∙ may ∙ ap Some e.over)))
 
 pub part_taken : (old new : CaptureState) (s : Standing) (line : Line) (part : Part) → IsCapture old s → part_after old.part line ≡ Some part → is_event line ≡ false → false ≡ refused_by old.house line
-    → new ≡ record { part = part; house = house_with old.house line; running = old.running; number = old.number } → LeadsLine s line new
+    → new ≡ record { part = part; house = house_with old.house line; waiting = old.waiting; running = old.running; number = old.number } → LeadsLine s line new
 part_taken old new s line part is may other good same =
     subst (λ (x : CaptureState). LeadsLine s line x) (sym same)
-    (leads-by old.running old.house old.number s line part is.server (ap (λ (p : Part). part_after p line) (sym is.next) ∙ may) other (sym good))
+    (leads-by old.running old.house old.waiting old.number s line part is.server (ap (λ (p : Part). part_after p line) (sym is.next) ∙ may) other (sym good))
 
 or-right : (a b : Bool) → b ≡ true → (a || b) ≡ true
 or-right true b e = refl
 or-right false b e = e
 
-bad-by : (o : Option RunningState) (house : Household) (s : Standing) (line : Line) (part : Part) → IsServer o house s → part_after s.part line ≡ Some part → is_event line ≡ false
+bad-by : (o : Option RunningState) (house : Household) (waiting : Bool) (s : Standing) (line : Line) (part : Part) → IsServer o house waiting s → part_after s.part line ≡ Some part → is_event line ≡ false
     → refused_by house line ≡ true → is_bad s (Some line) ≡ true
-bad-by None house s line part i may other bad =
+bad-by None house waiting s line part i may other bad =
     or-right (is_none (part_after s.part line)) (is_refused s line) (refused-same s line other ∙ ap (λ (h : Household). refused_by h line) (sym i.serves) ∙ bad)
-bad-by (Some r) house s line part b may other bad =
+bad-by (Some r) house waiting s line part b may other bad =
     let e : IsEnd line part = past-end s.part line part b.past other may in
     absurd (cc (sym bad ∙ ap (λ (l : Line). refused_by house l) e.ends))
 
 pub part_refused : (old : CaptureState) (s : Standing) (line : Line) (part : Part) → IsCapture old s → part_after old.part line ≡ Some part → is_event line ≡ false → true ≡ refused_by old.house line
     → is_bad s (Some line) ≡ true
 part_refused old s line part is may other bad =
-    bad-by old.running old.house s line part is.server (ap (λ (p : Part). part_after p line) (sym is.next) ∙ may) other (sym bad)
+    bad-by old.running old.house old.waiting s line part is.server (ap (λ (p : Part). part_after p line) (sym is.next) ∙ may) other (sym bad)
 
 -- a line that may not come here
 pub unfit : (old : CaptureState) (s : Standing) (line : Line) → IsCapture old s → part_after old.part line ≡ None → is_bad s (Some line) ≡ true
@@ -248,9 +268,9 @@ acted s number index link now what r found verdict there same_link good h same_v
     (acts-by s number link now what r found there (ap (λ (l : ℕ). is_refused_on (s.connections l) what) (sym same_link) ∙ sym good)
     (subst (λ (l : ℕ). HappensBy (begun s now) l now what (start_at s.start now) found r) same_link h))
 
-acts-taken : (s : Standing) (number count link now : ℕ) (what : What) (house : Household) (r : RunningState) (verdict : Option ReplayEnd) → s.part ≡ parts.Events → Acts s number link now what verdict r
-    → TakesLine s number (At link now what) verdict (record { part = parts.Events; house = house; running = Some r; number = count })
-acts-taken s number count link now what house r None there h =
+acts-taken : (s : Standing) (number count link now : ℕ) (what : What) (house : Household) (waiting : Bool) (r : RunningState) (verdict : Option ReplayEnd) → s.part ≡ parts.Events → Acts s number link now what verdict r
+    → TakesLine s number (At link now what) verdict (record { part = parts.Events; house = house; waiting = waiting; running = Some r; number = count })
+acts-taken s number count link now what house waiting r None there h =
     let stays : h.1.after.part ≡ parts.Events = same-part (begun s now) link now what h.1.after h.1.happens in
     record {
       part = parts.Events;
@@ -260,15 +280,15 @@ acts-taken s number count link now what house r None there h =
       says = h.1.happens;
       is = record { next = sym stays; server = record { first = start_at s.start now; start = h.1.start; is = h.1.is; past = ap is_past_house stays } };
     }
-acts-taken s number count link now what house r (Some verdict) there h = h
+acts-taken s number count link now what house waiting r (Some verdict) there h = h
 
-pub event_taken : (old new : CaptureState) (s : Standing) (house : Household) (number count link now : ℕ) (what : What) (r : RunningState) (part : Part) (verdict : Option ReplayEnd) → IsCapture old s
+pub event_taken : (old new : CaptureState) (s : Standing) (house : Household) (waiting : Bool) (number count link now : ℕ) (what : What) (r : RunningState) (part : Part) (verdict : Option ReplayEnd) → IsCapture old s
     → old.part ≡ parts.Events → part ≡ old.part → Acts s number link now what verdict r
-    → new ≡ record { part = part; house = house; running = Some r; number = count } → TakesLine s number (At link now what) verdict new
-event_taken old new s house number count link now what r part verdict is at kept h same =
+    → new ≡ record { part = part; house = house; waiting = waiting; running = Some r; number = count } → TakesLine s number (At link now what) verdict new
+event_taken old new s house waiting number count link now what r part verdict is at kept h same =
     subst (λ (x : CaptureState). TakesLine s number (At link now what) verdict x)
-    (ap (λ (p : Part). record { part = p; house = house; running = Some r; number = count }) (sym (kept ∙ at)) ∙ sym same)
-    (acts-taken s number count link now what house r verdict (sym is.next ∙ at) h)
+    (ap (λ (p : Part). record { part = p; house = house; waiting = waiting; running = Some r; number = count }) (sym (kept ∙ at)) ∙ sym same)
+    (acts-taken s number count link now what house waiting r verdict (sym is.next ∙ at) h)
 
 pub event_refused : (s : Standing) (index link now : ℕ) (what : What) → suc index ≡ link → true ≡ is_refused_on (s.connections (suc index)) what → is_bad s (Some (At link now what)) ≡ true
 event_refused s index link now what same_link bad =
@@ -334,8 +354,8 @@ ends_same s number ReadFault over same = absurd same
 ends_same s number Spent over same = absurd same
 ends_same s number Memory over same = absurd same
 
-pub idle-same : (house : Household) (s : Standing) → IsIdle house s → IsSame s (Same 0 0 0 0)
-idle-same house s i = record {
+pub idle-same : (house : Household) (waiting : Bool) (s : Standing) → IsIdle house waiting s → IsSame s (Same 0 0 0 0)
+idle-same house waiting s i = record {
   fed = sym i.links;
   asked = ap length (sym i.history);
   replied = ap (λ l. counted (length l) 0) (sym i.replies);

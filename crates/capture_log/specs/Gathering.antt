@@ -3,7 +3,7 @@ use Rattle.std.specs.Prelude.{◌≡◌, ℕ, ◌≤◌, false, List, [], ◌∷
 use Rattle.capture_lines.specs.Lines.{longest_line}
 use Rattle.capture_log.specs.Judged.{JudgedAt}
 use Rattle.capture_log.specs.Reading.{is_newline, lines_in}
-use Rattle.capture_log.specs.Standing.{Standing, Leads, begins}
+use Rattle.capture_server.specs.Standing.{Standing, Leads, begins}
 use Rattle.capture_log.specs.Taking.{CaptureState, IsCapture}
 use Rattle.capture_log.specs.declared.replay_end.ReplayEnd.{ReplayEnd}
 

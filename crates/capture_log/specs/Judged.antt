@@ -1,21 +1,15 @@
 -- The judgement of a capture, over its lines (this profile).
-use Rattle.std.specs.Prelude.{◌≡◌, ◌≢◌, ◌⊎◌, ℕ, ◌+◌, ◌==◌, Bool, true, List, [], ◌∷◌, ◌++◌, length, drop, if◌then◌else◌, Some}
-use Rattle.afp_base.specs.Counts.{counted}
-use Rattle.dsi_frame.specs.Frame.{Frame}
+use Rattle.std.specs.Prelude.{◌≡◌, ◌≢◌, ◌⊎◌, ℕ, ◌+◌, Bool, true, List, ◌∷◌, ◌++◌, length, drop, Some}
 use Rattle.capture_lines.specs.Lines.{line_in}
 use Rattle.capture_lines.specs.declared.line.Line.TheVariants.{At}
 use Rattle.capture_lines.specs.declared.line.What.TheVariants.{Out}
-use Rattle.capture_log.specs.Connections.{difference, output}
-use Rattle.capture_log.specs.declared.difference.Difference.{Difference}
-use Rattle.capture_log.specs.Standing.{Standing, Leads, begins, is_bad}
-use Rattle.capture_log.specs.declared.part.Part.TheVariants as parts
+use Rattle.capture_server.specs.Connections.{difference, output}
+use Rattle.capture_server.specs.Counting.{AreCounts}
+use Rattle.capture_server.specs.declared.difference.Difference.{Difference}
+use Rattle.capture_server.specs.Standing.{Standing, Leads, begins, is_bad}
+use Rattle.capture_server.specs.declared.part.Part.TheVariants as parts
 use Rattle.capture_log.specs.declared.replay_end.ReplayEnd.{ReplayEnd}
 use Rattle.capture_log.specs.declared.replay_end.ReplayEnd.TheVariants.{Same, Differs, BadCapture, ReadFault, Spent, Memory}
-
--- how many replies have a code other than 0
-abbrev pub refused_in : List Frame → ℕ
-refused_in [] = 0
-refused_in (reply ∷ replies) = (if reply.word == 0 then 0 else 1) + refused_in replies
 
 -- A line behind good ones whose bytes differ from the output.
 pub record FindsDifference (s : Standing) (raw : List ℕ) (link : ℕ) (d : Difference) : Type 0 where
@@ -33,13 +27,6 @@ Decides s number raw (Same links entries replies refused) = ⊥
 Decides s number raw ReadFault = ⊥
 Decides s number raw Spent = ⊥
 Decides s number raw Memory = ⊥
-
--- the counts of a capture that is the same
-pub record AreCounts (s : Standing) (links entries replies refused : ℕ) : Type 0 where
-  pub fed : links ≡ s.links
-  pub asked : entries ≡ length s.history
-  pub replied : replies ≡ counted (length s.replies) 0
-  pub not_ok : refused ≡ counted (refused_in s.replies) 0
 
 -- the counts are those
 abbrev pub IsSame : Standing → ReplayEnd → Type 0
@@ -78,3 +65,15 @@ pub record JudgedAtEnd (lines : List (List ℕ)) (verdict : ReplayEnd) : Type 0 
 -- a capture is judged by its first line that decides, or else, where no more lines come, by its end
 abbrev pub Judged : List (List ℕ) → Bool → ReplayEnd → Type 0
 Judged lines ended verdict = JudgedAt lines verdict ⊎ (JudgedAtEnd lines verdict × (ended ≡ true))
+
+-- A capture without a bad line: each of its lines, behind good ones, is good, and where no more come, the last was `end`.
+pub record IsGood (lines : List (List ℕ)) (ended : Bool) : Type 0 where
+  pub formed :
+      (before : List (List ℕ)) (raw : List ℕ) (behind : List (List ℕ)) (s : Standing) → lines ≡ before ++ raw ∷ behind → Leads begins before s → is_bad s (line_in raw) ≢ true
+  pub whole : ended ≡ true → (s : Standing) → Leads begins lines s → s.part ≡ parts.Nothing
+
+-- Each of its lines, behind good ones, names bytes that come next in the output, if it names some.
+abbrev pub AreTrue : List (List ℕ) → Type 0
+AreTrue lines =
+    (before : List (List ℕ)) (raw : List ℕ) (behind : List (List ℕ)) (s : Standing) (link : ℕ) (d : Difference) → lines ≡ before ++ raw ∷ behind → Leads begins before s
+    → FindsDifference s raw link d → ⊥

@@ -1,11 +1,5 @@
-pub mod Connections
 pub mod Gathering
 pub mod Judged
-pub mod Moves
 pub mod Reading
-pub mod Running
-pub mod Slots
-pub mod Standing
-pub mod States
+pub mod SetUp
 pub mod Taking
-pub mod Tellers

@@ -4,8 +4,8 @@ use Rattle.std.specs.List.{slice_split}
 use Rattle.afp_base.specs.Counts.{Counts}
 use Rattle.afp_outside.specs.Source.{SourceState}
 use Rattle.capture_lines.specs.Lines.{longest_line}
-use Rattle.capture_log.specs.Judged.{Judged}
-use Rattle.capture_log.specs.Standing.{Standing, Leads, begins}
+use Rattle.capture_log.specs.Judged.{Judged, IsGood, AreTrue}
+use Rattle.capture_server.specs.Standing.{Standing, Leads, begins}
 use Rattle.capture_log.specs.declared.replay_end.ReplayEnd.{ReplayEnd}
 use Rattle.capture_log.specs.declared.replay_end.ReplayEnd.TheVariants as ends
 
@@ -62,8 +62,34 @@ ReplaysBy turns read old new ends.ReadFault = Counts 1 old.faults new.faults × 
 ReplaysBy turns read old new ends.Spent = (turns ≤ length read) × Undecided read × (new.faults ≡ old.faults)
 ReplaysBy turns read old new ends.Memory = Unit {0}
 
--- A replay reads these bytes, and answers by them.
+-- it was compared to its end, or up to a byte that differs, or there was no memory
+abbrev pub IsCompared : ReplayEnd → Type 0
+IsCompared (ends.Same links entries replies refused) = Unit {0}
+IsCompared (ends.Differs link at want got) = Unit {0}
+IsCompared (ends.BadCapture line) = ⊥
+IsCompared ends.ReadFault = ⊥
+IsCompared ends.Spent = ⊥
+IsCompared ends.Memory = Unit {0}
+
+-- it is the same, or there was no memory
+abbrev pub IsTheSame : ReplayEnd → Type 0
+IsTheSame (ends.Same links entries replies refused) = Unit {0}
+IsTheSame (ends.Differs link at want got) = ⊥
+IsTheSame (ends.BadCapture line) = ⊥
+IsTheSame ends.ReadFault = ⊥
+IsTheSame ends.Spent = ⊥
+IsTheSame ends.Memory = Unit {0}
+
+-- The lines that were read are good, fewer bytes than `turns` were taken, and the source did not fail.
+pub record IsReadWell (turns : ℕ) (read : List ℕ) (old new : SourceState) : Type 0 where
+  pub good : (ended : Bool) → IsGood (lines_in ended read) ended
+  pub fewer : length read < turns
+  pub faultless : Counts 1 old.faults new.faults → ⊥
+
+-- A replay reads these bytes, and answers by them. Where they are read well, no line is bad; where what they name is true too, they are the same.
 pub record Replays (turns : ℕ) (old : SourceState) (end : ReplayEnd) (new : SourceState) : Type 0 where
   pub read : List ℕ
   pub given : new.given ≡ option_map (λ given. given ++ read) old.given
   pub by : ReplaysBy turns read old new end
+  pub compared : IsReadWell turns read old new → IsCompared end
+  pub same : IsReadWell turns read old new → ((ended : Bool) → AreTrue (lines_in ended read)) → IsTheSame end

@@ -8,23 +8,25 @@ use Rattle.capture_lines.specs.declared.line.Line.{Line}
 use Rattle.capture_lines.specs.declared.line.Line.TheVariants.{Title, Server, Signature, User as UserLine, Volume, Key, At, End}
 use Rattle.capture_lines.specs.declared.line.What.{What}
 use Rattle.capture_lines.specs.declared.line.What.TheVariants.{Out}
-use Rattle.capture_log.specs.Connections.{difference, output, unused}
+use Rattle.capture_server.specs.Connections.{difference, output, unused}
 use Rattle.capture_log.specs.Judged.{Decides}
+use Rattle.capture_log.specs.SetUp.{IsSetUp}
 use Rattle.afp_serial.specs.Limits.{most_volumes}
-use Rattle.capture_log.specs.Running.{Happened}
-use Rattle.capture_log.specs.Standing.{is_refused_on, Standing, Says, Goes, part_after, is_refused, is_bad, user_behind, start_at}
-use Rattle.capture_log.specs.States.{RunningState, IsRunning}
-use Rattle.capture_log.specs.declared.difference.Difference.{Difference}
-use Rattle.capture_log.specs.declared.part.Part.{Part}
-use Rattle.capture_log.specs.declared.part.Part.TheVariants as parts
+use Rattle.capture_server.specs.Running.{Happened}
+use Rattle.capture_server.specs.Standing.{is_refused_on, Standing, Says, Goes, part_after, is_refused, is_bad, user_behind, start_at}
+use Rattle.capture_server.specs.States.{RunningState, IsRunning}
+use Rattle.capture_server.specs.declared.difference.Difference.{Difference}
+use Rattle.capture_server.specs.declared.part.Part.{Part}
+use Rattle.capture_server.specs.declared.part.Part.TheVariants as parts
 use Rattle.capture_log.specs.declared.replay_end.ReplayEnd.{ReplayEnd}
 use Rattle.capture_log.specs.declared.replay_end.ReplayEnd.TheVariants.{Same, Differs, BadCapture, ReadFault, Spent, Memory}
 
--- A capture, as far as its lines were taken: what may come next, the house that they make, the server, once something happened, and how
--- many lines there were.
+-- A capture, as far as its lines were taken: what may come next, the house that they make, whether the keepers wait for their server, the
+-- server, once something happened, and how many lines there were.
 pub record CaptureState : Type 0 where
   pub part : Part
   pub house : Household
+  pub waiting : Bool
   pub running : Option RunningState
   pub number : ℕ
 
@@ -61,9 +63,11 @@ is_event (Key bytes) = false
 is_event (At link now what) = true
 is_event End = false
 
--- Nothing happened yet: the house is made, and no more.
-pub record IsIdle (house : Household) (s : Standing) : Type 0 where
+-- Nothing happened yet: the house is made, and no more, and the keepers wait.
+pub record IsIdle (house : Household) (waiting : Bool) (s : Standing) : Type 0 where
   pub serves : house ≡ s.house
+  pub set_up : IsSetUp s.part house
+  pub keepers : waiting ≡ true
   pub start : s.start ≡ None
   pub connections : s.connections ≡ (λ k. unused)
   pub links : s.links ≡ 0
@@ -87,14 +91,14 @@ pub record IsBegun (r : RunningState) (s : Standing) : Type 0 where
   pub is : IsRunning r s first
   pub past : is_past_house s.part ≡ true
 
-abbrev pub IsServer : Option RunningState → Household → Standing → Type 0
-IsServer None house s = IsIdle house s
-IsServer (Some r) house s = IsBegun r s
+abbrev pub IsServer : Option RunningState → Household → Bool → Standing → Type 0
+IsServer None house waiting s = IsIdle house waiting s
+IsServer (Some r) house waiting s = IsBegun r s
 
 -- what is held is where the capture stands
 pub record IsCapture (c : CaptureState) (s : Standing) : Type 0 where
   pub next : c.part ≡ s.part
-  pub server : IsServer c.running c.house s
+  pub server : IsServer c.running c.house c.waiting s
 
 -- the server that is there, or that begins now
 abbrev pub RunsFrom : Standing → ℕ → RunningState → Type 0

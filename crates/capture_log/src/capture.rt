@@ -1,58 +1,88 @@
 //! A capture, as far as its lines were taken.
-ghost use Rattle.std.specs.Prelude.{◌≡◌, ◌<◌, ◌+◌, ℕ, suc, length, None, IfOk, option_map};
+ghost use Rattle.std.specs.Prelude.{◌≡◌, ◌<◌, ◌+◌, ℕ, suc, length, true, None, IfOk, option_map, is_some};
 ghost use Rattle.capture_lines.specs.declared.line.Line.{Line};
 ghost use Rattle.capture_log.specs.Judged.{DecidesEnd};
-ghost use Rattle.capture_log.specs.Standing.{Standing, is_refused_on, no_house};
+ghost use Rattle.capture_server.specs.Standing.{Standing, is_refused_on, no_house};
 ghost use Rattle.capture_log.specs.Taking.{IsCapture, IsLink, IsLinked, IsServer, RunsFrom, Acts, TakesLine, Takes};
-ghost use Rattle.capture_log.specs.States.{IsRunning};
-ghost use Rattle.capture_log.specs.declared.part.Part.{Part};
+ghost use Rattle.capture_log.specs.SetUp.{IsSetUp};
+ghost use Rattle.capture_server.specs.Running.{IsFreshRunning};
+ghost use Rattle.capture_server.specs.States.{IsRunning};
+ghost use Rattle.capture_server.specs.declared.part.Part.{Part};
 ghost use Rattle.capture_log.specs.declared.replay_end.ReplayEnd.{ReplayEnd};
 
-use crate::difference::Difference;
-use crate::part::{Part, part_after};
 use crate::replay_end::ReplayEnd;
-use crate::running::Running;
 use crate::setup::Setup;
 use afp_base::{Moment, OutOfMemory};
+use afp_serial::HouseFault;
 use capture_lines::{Line, What, read_line};
+use capture_server::{Difference, NewKeepers, Part, ReplayCounts, Running, part_after};
+use record_keeper::Keeper;
 use std::alloc::Global;
 use std::marker::Model;
 
-/// What may come next, the house that the lines make, the server, once something happened, and how many lines there were.
+/// What may come next, the house that the lines make, the keepers, until something happens, and from there on the server; and how many
+/// lines there were.
 #[derive(Drop)]
-pub struct Capture {
+pub struct Capture<K: Keeper> {
     alloc: Global,
     part: Part,
     setup: Setup,
-    running: Option<Running>,
+    fresh: Option<NewKeepers<K>>,
+    running: Option<Running<K>>,
     number: u64,
 }
 
-impl Model for Capture {
+impl<K: Keeper> Model for Capture<K> {
+    ghost use Rattle.std.specs.Prelude.{is_some};
     ghost use Rattle.capture_log.specs.Taking.{CaptureState};
 
     ghost Value = { CaptureState };
 
-    ghost view = { λ c. record { part = c.part; house = c.setup; running = c.running; number = c.number } };
+    ghost view = { λ c. record { part = c.part; house = c.setup; waiting = is_some c.fresh; running = c.running; number = c.number } };
+}
+
+/// A server of the house that the lines made, from now on. The house was found good line by line, so it is made, or there is no memory.
+fn begin_running<K: Keeper>(
+    alloc: Global,
+    fresh: Option<NewKeepers<K>>,
+    setup: &mut Setup,
+    now: Moment,
+) -> Result<Running<K>, OutOfMemory>
+    requires waiting { is_some fresh ≡ true }
+    requires set_up { IsSetUp Part.Events setup.old }
+    ensures { IfOk result (λ r. IsFreshRunning setup.old now r) }
+{
+    let Some(fresh) = fresh else {
+        unreachable!();
+    };
+    match setup.house(alloc) {
+        Ok(house) => Running::new(alloc, house, fresh, now),
+        Err(fault) => match fault {
+            HouseFault::Memory => Err(OutOfMemory),
+            _ => unreachable!(),
+        },
+    }
 }
 
 /// The server that is there, or one that begins now.
-fn running_from(
+fn running_from<K: Keeper>(
     alloc: Global,
-    there: Option<Running>,
+    there: Option<Running<K>>,
+    fresh: Option<NewKeepers<K>>,
     setup: &mut Setup,
     now: Moment,
-) -> Result<Running, OutOfMemory>
-    ensures { IfOk result (λ r. (s : Standing) → IsServer there setup.old s → RunsFrom s now r) }
+) -> Result<Running<K>, OutOfMemory>
+    requires { (s : Standing) × IsServer there setup.old (is_some fresh) s × (s.part ≡ Part.Events) }
+    ensures { IfOk result (λ r. (s : Standing) → IsServer there setup.old (is_some fresh) s → RunsFrom s now r) }
 {
     match there {
         Some(running) => Ok(running),
-        None => Running::new(alloc, setup.house(alloc)?, now),
+        None => begin_running(alloc, fresh, setup, now),
     }
 }
 
 /// Whether bytes come on a connection that was lost.
-fn is_refused_on(running: &Running, index: usize, what: &What) -> bool
+fn is_refused_on<K: Keeper>(running: &Running<K>, index: usize, what: &What) -> bool
     requires { index < length running.now.connections }
     ensures { (s : Standing) (first : ℕ) → IsRunning running.now s first → result ≡ is_refused_on (s.connections (suc index)) what.now }
 {
@@ -78,8 +108,8 @@ fn verdict_on(link: u32, found: Option<Difference>) -> Option<ReplayEnd>
 }
 
 /// What happens on the connection of a number, and what it decides, if it does.
-fn act(
-    running: &mut Running,
+fn act<K: Keeper>(
+    running: &mut Running<K>,
     link: u32,
     now: Moment,
     what: &What,
@@ -97,20 +127,33 @@ fn act(
     Ok(verdict_on(link, found))
 }
 
-impl Capture {
+/// The answer with these counts.
+fn same_of(counts: ReplayCounts) -> ReplayEnd
+    ensures { result ≡ ReplayEnd.Same counts.links counts.entries counts.replies counts.refused }
+{
+    ReplayEnd::Same {
+        links: counts.links,
+        entries: counts.entries,
+        replies: counts.replies,
+        refused: counts.refused,
+    }
+}
+
+impl<K: Keeper> Capture<K> {
     ghost use Rattle.std.specs.Prelude.{false, Some, OnOk};
     ghost use Rattle.capture_log.specs.Judged.{IsSame};
-    ghost use Rattle.capture_log.specs.Standing.{part_after};
+    ghost use Rattle.capture_server.specs.Standing.{part_after};
     ghost use Rattle.capture_log.specs.Taking.{is_event};
 
     /// No line was taken.
-    pub fn new(alloc: Global) -> Capture
-        ensures { result ≡ record { part = Part.Title; house = no_house; running = None; number = 0 } }
+    pub fn new(alloc: Global, fresh: NewKeepers<K>) -> Capture<K>
+        ensures { result ≡ record { part = Part.Title; house = no_house; waiting = true; running = None; number = 0 } }
     {
         Capture {
             alloc,
             part: Part::Title,
             setup: Setup::new(alloc),
+            fresh: Some(fresh),
             running: None,
             number: 0,
         }
@@ -158,7 +201,9 @@ impl Capture {
         requires may { self.old.part ≡ Part.Events }
         ensures { IfOk result (λ verdict. (s : Standing) → IsCapture self.old s → TakesLine s number (Line.At link now what.now) verdict self.new) }
     {
-        let mut running = running_from(self.alloc, self.running.take(), &mut self.setup, now)?;
+        let there = self.running.take();
+        let fresh = self.fresh.take();
+        let mut running = running_from(self.alloc, there, fresh, &mut self.setup, now)?;
         let verdict = act(&mut running, link, now, what, number);
         self.running = Some(running);
         verdict
@@ -198,7 +243,7 @@ impl Capture {
         ensures { (s : Standing) → IsCapture self.now s → IsSame s result }
     {
         match &self.running {
-            Some(running) => running.same(),
+            Some(running) => same_of(running.counts()),
             None => ReplayEnd::Same {
                 links: 0,
                 entries: 0,

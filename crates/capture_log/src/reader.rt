@@ -10,17 +10,19 @@ use crate::capture::Capture;
 use crate::replay_end::ReplayEnd;
 use afp_base::{Bytes, OutOfMemory};
 use capture_lines::LONGEST_LINE;
+use capture_server::NewKeepers;
+use record_keeper::Keeper;
 use std::alloc::Global;
 use std::marker::Model;
 
 /// A capture, and what stands behind its last newline.
 #[derive(Drop)]
-pub struct Reader {
-    capture: Capture,
+pub struct Reader<K: Keeper> {
+    capture: Capture<K>,
     held: Bytes,
 }
 
-impl Model for Reader {
+impl<K: Keeper> Model for Reader<K> {
     ghost use Rattle.capture_log.specs.Gathering.{ReaderState};
 
     ghost Value = { ReaderState };
@@ -42,13 +44,13 @@ fn first_line(bytes: &[u8]) -> Option<(&[u8], &[u8])>
     None
 }
 
-impl Reader {
+impl<K: Keeper> Reader<K> {
     /// Nothing was read.
-    pub fn new(alloc: Global) -> Reader
+    pub fn new(alloc: Global, fresh: NewKeepers<K>) -> Reader<K>
         ensures { Holds result [] }
     {
         Reader {
-            capture: Capture::new(alloc),
+            capture: Capture::new(alloc, fresh),
             held: Bytes::new(alloc),
         }
     }

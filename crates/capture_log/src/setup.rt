@@ -1,15 +1,15 @@
 //! The house that the first lines of a capture make.
-ghost use Rattle.std.specs.Prelude.{◌≡◌, ◌≤◌, ◌<◌, ◌++◌, ◌∷◌, [], nat_lt, not, ◌||◌, length, IfOk, OnOk};
-ghost use Rattle.afp_serial.specs.HouseFault.{is_bad_user, is_bad_volume, is_name};
+ghost use Rattle.std.specs.Prelude.{◌≡◌, ◌≢◌, ◌≤◌, ◌<◌, ◌++◌, ◌∷◌, [], false, nat_lt, not, ◌||◌, length, Some, IfOk, IfErr, OnOk};
+ghost use Rattle.afp_serial.specs.HouseFault.{house_fault, is_bad_user, is_bad_volume, is_name};
 ghost use Rattle.afp_serial.specs.Household.{household};
 ghost use Rattle.afp_serial.specs.Limits.{longest_server, most_users};
 ghost use Rattle.afp_serial.specs.Limits.{most_volumes};
-ghost use Rattle.capture_log.specs.Standing.{no_house, user_behind};
+ghost use Rattle.capture_server.specs.Standing.{no_house, user_behind};
 ghost use Rattle.capture_log.specs.Taking.{house_with, refused_by};
 
 use crate::names::{has_user, has_volume, is_name};
 use afp_base::{Bytes, OutOfMemory};
-use afp_serial::{House, User};
+use afp_serial::{House, HouseFault, User};
 use capture_lines::Line;
 use std::alloc::Global;
 use std::marker::Model;
@@ -132,15 +132,12 @@ impl Setup {
     }
 
     /// One user more.
-    pub fn add_user(&mut self, name: &Bytes, password: [u8; 8]) -> Result<(), OutOfMemory>
+    fn add_user(&mut self, name: &Bytes, password: [u8; 8]) -> Result<(), OutOfMemory>
+        requires { length self.old.users < most_users }
         ensures { OnOk result (self.new ≡ record self.old { users = self.old.users ++ user_behind self.old.users name.now password ∷ [] }) }
     {
-        let count = self.users.len();
-        if count >= MOST_USERS {
-            return Err(OutOfMemory);
-        }
         let user = User {
-            id: FIRST_USER + count as u32,
+            id: FIRST_USER + self.users.len() as u32,
             name: name.copy()?,
             password,
         };
@@ -170,6 +167,7 @@ impl Setup {
 
     /// Takes what a line says of the house.
     pub fn take(&mut self, line: &Line) -> Result<(), OutOfMemory>
+        requires { refused_by self.old line.now ≡ false }
         ensures { OnOk result (self.new ≡ house_with self.old line.now) }
     {
         match line {
@@ -188,18 +186,16 @@ impl Setup {
         }
     }
 
-    /// The house of these parts, which are no longer here.
-    pub fn house(&mut self, alloc: Global) -> Result<House, OutOfMemory>
-        ensures { IfOk result (λ house. house ≡ self.old) }
+    /// The house of these parts, which are no longer here; or why there is none.
+    pub fn house(&mut self, alloc: Global) -> Result<House, HouseFault>
+        ensures house { IfOk result (λ house. house ≡ self.old) }
+        ensures fault { IfErr result (λ fault. fault ≢ HouseFault.Memory → house_fault self.old ≡ Some fault) }
     {
         let Ok(server) = str::from_utf8(self.server.as_slice()) else {
-            return Err(OutOfMemory);
+            return Err(HouseFault::Server);
         };
         let users = mem::replace(&mut self.users, Vec::new(alloc));
         let volumes = mem::replace(&mut self.volumes, Vec::new(alloc));
-        match House::new(alloc, server, self.signature, users, volumes, "", self.key) {
-            Ok(house) => Ok(house),
-            Err(_) => Err(OutOfMemory),
-        }
+        House::new(alloc, server, self.signature, users, volumes, "", self.key)
     }
 }

@@ -1,5 +1,6 @@
 //! Replaying a capture, and saying how it ended.
 ghost use Rattle.std.specs.Prelude.{◌≡◌, ◌<◌, ◌^◌, false};
+ghost use Rattle.capture_server.specs.Keepers.{AreFresh};
 ghost use Rattle.plain_server.specs.Reporting.{ReportsAll};
 ghost use Rattle.plain_tool.specs.Lines.{replay_text, replay_status};
 ghost use Rattle.plain_tool.specs.Tool.{RunsReplay};
@@ -8,6 +9,7 @@ use crate::lines::{report_bad_line, report_differs, report_same};
 use afp_outside::{Sink, Source};
 use capture_log::{ReplayEnd, replay};
 use plain_server::report::report_all;
+use record_keeper::Keeper;
 use std::alloc::Global;
 
 /// Prints how a replay ended. `false`: a write failed.
@@ -41,13 +43,21 @@ fn status_of(end: ReplayEnd) -> u8
     }
 }
 
-/// Replays the capture that the source gives, prints how it ended, and gives the exit status.
-pub fn run_replay<S: Source, O: Sink>(alloc: Global, source: &mut S, out: &mut O, turns: u64) -> u8
+/// Replays the capture that the source gives, over the first of eight keepers that nobody has used, prints how it ended, and gives the exit
+/// status.
+pub fn run_replay<K: Keeper, S: Source, O: Sink>(
+    alloc: Global,
+    fresh: Vec<K>,
+    source: &mut S,
+    out: &mut O,
+    turns: u64,
+) -> u8
+    requires keepers { AreFresh K.records K.sure K.faults fresh.items }
     requires turns { turns < 2 ^ 63 }
     requires fresh { (S.source_state source.old).ended ≡ false }
     ensures { RunsReplay turns (S.source_state source.old) (S.source_state source.new) (O.sink_state out.old) (O.sink_state out.new) result }
 {
-    let end = replay(alloc, source, turns);
+    let end = replay(alloc, fresh, source, turns);
     if report_end(out, end) {
         status_of(end)
     } else {

@@ -2,7 +2,7 @@ use Rattle.std.proofs.Common.{◌++◌, subst, take}
 use Rattle.std.specs.Prelude.{Option}
 use Rattle.capture_log.specs.Gathering.{Gathers}
 use Rattle.capture_log.specs.declared.replay_end.ReplayEnd.{ReplayEnd}
-use Rattle.capture_log.proofs.SoFar.{so_far-none, so_far-more, decided, finished, failed, spent, no_memory-more}
+use Rattle.capture_log.proofs.SoFar.{so_far-none, so_far-more, decided, finished, failed, spent, no_memory-more, no_memory-ended}
 use Rattle.capture_log.proofs.replaying.read_all.Goals as goal
 
 pub loop-taken-init : goal.loop-taken-init
@@ -22,6 +22,9 @@ returns-in-Ok-Some g c =
 
 pub returns-in-Err : goal.returns-in-Err
 returns-in-Err g c = no_memory-more c.args.turns _ _ _ _ _ c.in-Got.n c.read.new.room c.loop-taken.invariant c.in-Got.ensures
+
+pub returns-in_default : goal.returns-in_default
+returns-in_default g c = no_memory-ended c.args.turns _ _ _ _ _ c.loop-taken.invariant c.in-End.ensures
 
 pub returns-in-End : goal.returns-in-End
 returns-in-End g c =

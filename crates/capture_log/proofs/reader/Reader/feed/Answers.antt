@@ -4,14 +4,14 @@ use Rattle.capture_log.specs.Gathering.{Holds, Gathers, EndsLine}
 use Rattle.capture_log.specs.Judged.{JudgedAt}
 use Rattle.capture_log.specs.Reading.{lines_in}
 use Rattle.capture_log.specs.declared.replay_end.ReplayEnd.{ReplayEnd}
-use Rattle.capture_log.proofs.RunningLemmas.{ok_with}
+use Rattle.capture_server.proofs.RunningLemmas.{ok_with}
 use Rattle.capture_log.proofs.reader.Reader.feed.Goals as goal
 
 pub end_line-requires-clause-is : goal.end_line-requires-clause-is
-end_line-requires-clause-is c = let i = c.loop-line.invariant c.requires.0 c.requires.1 in (c.requires.0 ++ i.0, i.2)
+end_line-requires-clause-is g c = let i = c.loop-line.invariant c.requires.0 c.requires.1 in (c.requires.0 ++ i.0, i.2)
 
 pub returns-in-Some-2 : goal.returns-in-Some-2
-returns-in-Some-2 c = λ read h.
+returns-in-Some-2 g c = λ read h.
     let i = c.loop-line.invariant read h in
     let line = c.in-Some.line.now in
     let rest = c.in-Some.rest.now in
@@ -21,7 +21,7 @@ returns-in-Some-2 c = λ read h.
     subst (λ (l : List ℕ). JudgedAt (lines_in false l) c.in-Some-2.end) whole (subst (λ (v : Option ReplayEnd). EndsLine (read ++ i.0) line v c.end_line.new.self) c.in-Some-2.is ends rest)
 
 pub loop-line-preserved : goal.loop-line-preserved
-loop-line-preserved c = λ read h.
+loop-line-preserved g c = λ read h.
     let i = c.loop-line.invariant read h in
     let line = c.in-Some.line.now in
     let rest = c.in-Some.rest.now in
@@ -33,7 +33,7 @@ loop-line-preserved c = λ read h.
     )
 
 pub returns : goal.returns
-returns c =
+returns g c =
     ok_with c.hold.result _ _
     (λ verdict f read h.
     let i = c.loop-line.invariant read h in

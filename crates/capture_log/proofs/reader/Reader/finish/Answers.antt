@@ -3,11 +3,11 @@ use Rattle.capture_log.specs.Gathering.{ReaderState}
 use Rattle.capture_log.specs.Judged.{DecidesEnd}
 use Rattle.capture_log.specs.Taking.{IsCapture}
 use Rattle.capture_log.proofs.GatheringLemmas.{none-held, ended-empty}
-use Rattle.capture_log.proofs.RunningLemmas.{ok_with}
+use Rattle.capture_server.proofs.RunningLemmas.{ok_with}
 use Rattle.capture_log.proofs.reader.Reader.finish.Goals as goal
 
 pub returns-then-as_slice-eq0 : goal.returns-then-as_slice-eq0
-returns-then-as_slice-eq0 c =
+returns-then-as_slice-eq0 g c =
     ok_with c.end.result _ _
     (λ verdict f read h.
     let held = c.as_slice.ensures ∙ ap (λ (x : ReaderState). x.held) c.self.view_is in

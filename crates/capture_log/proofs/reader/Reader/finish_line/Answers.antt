@@ -4,11 +4,11 @@ use Rattle.capture_log.specs.Gathering.{ReaderState}
 use Rattle.capture_log.specs.Taking.{IsCapture, Takes}
 use Rattle.capture_log.specs.declared.replay_end.ReplayEnd.{ReplayEnd}
 use Rattle.capture_log.proofs.GatheringLemmas.{some-held, ended-last, ended-line}
-use Rattle.capture_log.proofs.RunningLemmas.{ok_with}
+use Rattle.capture_server.proofs.RunningLemmas.{ok_with}
 use Rattle.capture_log.proofs.reader.Reader.finish_line.Goals as goal
 
 pub returns-in-Some : goal.returns-in-Some
-returns-in-Some c = λ read h.
+returns-in-Some g c = λ read h.
     let held = c.as_slice.ensures ∙ ap (λ (x : ReaderState). x.held) c.self.view_is in
     let takes = c.in_ok-end.ensures h.standing (subst (λ (x : ReaderState). IsCapture x.capture h.standing) (sym c.self.view_is) h.is) in
     let all = subst (λ (l : List ℕ). Takes h.standing (c.args.self.now.capture.number + 1) l (Some c.in-Some.end) c.take.new.self) held
@@ -17,7 +17,7 @@ returns-in-Some c = λ read h.
     ended-last c.args.self.now read c.in-Some.end h (some-held c.args.self.now.held c.requires.some) all
 
 pub returns : goal.returns
-returns c =
+returns g c =
     ok_with c.end.result _ _
     (λ verdict f read h.
     let held = c.as_slice.ensures ∙ ap (λ (x : ReaderState). x.held) c.self.view_is in

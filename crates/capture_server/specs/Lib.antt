@@ -1,0 +1,9 @@
+pub mod Connections
+pub mod Counting
+pub mod Keepers
+pub mod Moves
+pub mod Running
+pub mod Slots
+pub mod Standing
+pub mod States
+pub mod Tellers
