@@ -1,3 +1,4 @@
+pub mod Appended
 pub mod Apart
 pub mod Cached
 pub mod Choice
@@ -6,4 +7,5 @@ pub mod Counts
 pub mod Cursor
 pub mod DenyMode
 pub mod ForkBytes
+pub mod Limits
 pub mod Overlap

@@ -8,17 +8,17 @@ use Rattle.afp_bitmap.specs.Bits.{is_asked}
 use Rattle.afp_bitmap.specs.Field.{Field, Number, Date, Finder, LongName, Utf8Name, fixed_size}
 use Rattle.afp_bitmap.specs.Params.{asked_of, size_of_fixed_part}
 use Rattle.afp_bitmap.specs.lemma.Reading.{size_of, asked_size}
-use Rattle.afp_bitmap.specs.Table.{Row}
+use Rattle.afp_bitmap.specs.Table.{FieldRow}
 
 pub asked_none : (bits : ℕ) → asked_of bits [] ≡ []
 unfolding asked_of
 asked_none bits = refl
 
-pub asked_yes : (bits : ℕ) (r : Row) (rs : List Row) → is_asked bits r.0 ≡ true → asked_of bits (r ∷ rs) ≡ r.1 ∷ asked_of bits rs
+pub asked_yes : (bits : ℕ) (r : FieldRow) (rs : List FieldRow) → is_asked bits r.0 ≡ true → asked_of bits (r ∷ rs) ≡ r.1 ∷ asked_of bits rs
 unfolding asked_of
 asked_yes bits r rs e = rw e refl
 
-pub asked_no : (bits : ℕ) (r : Row) (rs : List Row) → is_asked bits r.0 ≡ false → asked_of bits (r ∷ rs) ≡ asked_of bits rs
+pub asked_no : (bits : ℕ) (r : FieldRow) (rs : List FieldRow) → is_asked bits r.0 ≡ false → asked_of bits (r ∷ rs) ≡ asked_of bits rs
 unfolding asked_of
 asked_no bits r rs e = rw e refl
 
@@ -30,7 +30,7 @@ shape_of (Finder info) = shapes.Plain 32
 shape_of (LongName name) = shapes.LongName
 shape_of (Utf8Name name) = shapes.Utf8Name
 
-abbrev pub slot_of : Row → Slot
+abbrev pub slot_of : FieldRow → Slot
 slot_of r = record { 0 = r.0; 1 = shape_of r.1 }
 
 pub size_of-shape : (f : Field) → size_of (shape_of f) ≡ fixed_size f
@@ -53,7 +53,7 @@ unfolding asked_size
 asked_size_no bits s ss e = rw e (omega arith)
 
 -- the fixed part of the asked fields has the size that their slots have
-pub asked_size_is : (bits : ℕ) (rs : List Row) → asked_size bits (map slot_of rs) ≡ size_of_fixed_part (asked_of bits rs)
+pub asked_size_is : (bits : ℕ) (rs : List FieldRow) → asked_size bits (map slot_of rs) ≡ size_of_fixed_part (asked_of bits rs)
 asked_size_is bits [] = rw (asked_size_none bits, asked_none bits) refl
 asked_size_is bits (r ∷ rs) =
     elim (cases_Bool (is_asked bits r.0)) [

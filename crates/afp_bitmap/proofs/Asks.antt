@@ -8,7 +8,7 @@ use Rattle.afp_bitmap.specs.declared.table.Slot.{Slot}
 use Rattle.afp_bitmap.specs.Bits.{is_asked}
 use Rattle.afp_bitmap.specs.Field.{Field, Number, Date, Finder, LongName, Utf8Name, fixed_size, blank, IsCountable, IsTyped}
 use Rattle.afp_bitmap.specs.Params.{asked_of, size_of_fixed_part, RowFits}
-use Rattle.afp_bitmap.specs.Table.{Row}
+use Rattle.afp_bitmap.specs.Table.{FieldRow}
 use Rattle.afp_bitmap.proofs.Asked.{shape_of, slot_of, size_of-shape, asked_none, asked_yes, asked_no}
 use Rattle.afp_bitmap.proofs.Claims.{if_long}
 use Rattle.afp_bitmap.proofs.Filled.{cut, past, refill, filled, AreNamed, fixed_length}
@@ -22,7 +22,7 @@ abbrev asked_shapes : ℕ → List Slot → List Shape
 asked_shapes bits [] = []
 asked_shapes bits (s ∷ ss) = cond (is_asked bits s.0) (s.1 ∷ asked_shapes bits ss) (asked_shapes bits ss)
 
-shapes_are : (bits : ℕ) (rs : List Row) → map shape_of (asked_of bits rs) ≡ asked_shapes bits (map slot_of rs)
+shapes_are : (bits : ℕ) (rs : List FieldRow) → map shape_of (asked_of bits rs) ≡ asked_shapes bits (map slot_of rs)
 shapes_are bits [] = rw (asked_none bits) refl
 shapes_are bits (r ∷ rs) =
     elim (cases_Bool (is_asked bits r.0)) [
@@ -30,7 +30,7 @@ shapes_are bits (r ∷ rs) =
       | inr off ↦ rw (asked_no bits r rs off, off) (shapes_are bits rs)
     ]
 
-pub same_shapes : (bits : ℕ) (rs ss : List Row) → map slot_of rs ≡ map slot_of ss → map shape_of (asked_of bits rs) ≡ map shape_of (asked_of bits ss)
+pub same_shapes : (bits : ℕ) (rs ss : List FieldRow) → map slot_of rs ≡ map slot_of ss → map shape_of (asked_of bits rs) ≡ map shape_of (asked_of bits ss)
 same_shapes bits rs ss e = shapes_are bits rs ∙ ap (asked_shapes bits) e ∙ sym (shapes_are bits ss)
 
 pub sizes_are : (fs : List Field) → size_of_fixed_part fs ≡ sizes (map shape_of fs)
@@ -46,7 +46,7 @@ fixed_total p q (f ∷ fs) t =
     let d = length-append (fixed_at p q f) (concat (map (fixed_at p q) fs)) in
     omega arith
 
-pub typed_asked : (bits : ℕ) (rs : List Row) → AllByRecursion (λ r. IsTyped r.1) rs → AllByRecursion IsTyped (asked_of bits rs)
+pub typed_asked : (bits : ℕ) (rs : List FieldRow) → AllByRecursion (λ r. IsTyped r.1) rs → AllByRecursion IsTyped (asked_of bits rs)
 typed_asked bits [] h = rw (asked_none bits) tt
 typed_asked bits (r ∷ rs) h =
     elim (cases_Bool (is_asked bits r.0)) [
@@ -131,7 +131,7 @@ shapes_filled (f ∷ fs) rest l u =
 
 -- ---- the names in the rows are those of the asked fields, or empty
 
-named_no_names : (rs : List Row) (l u : List ℕ) → NoNames (fields rs) → AreNamed rs l u
+named_no_names : (rs : List FieldRow) (l u : List ℕ) → NoNames (fields rs) → AreNamed rs l u
 named_no_names [] l u h = tt
 named_no_names ((b, Number n x) ∷ rs) l u h = (tt, named_no_names rs l u h)
 named_no_names ((b, Date z) ∷ rs) l u h = (tt, named_no_names rs l u h)
@@ -139,11 +139,11 @@ named_no_names ((b, Finder info) ∷ rs) l u h = (tt, named_no_names rs l u h)
 named_no_names ((b, LongName name) ∷ rs) l u h = absurd h
 named_no_names ((b, Utf8Name name) ∷ rs) l u h = absurd h
 
-blank_row : (bits : ℕ) (r : Row) → RowFits bits r → is_asked bits r.0 ≡ false → r.1 ≡ blank r.1
+blank_row : (bits : ℕ) (r : FieldRow) → RowFits bits r → is_asked bits r.0 ≡ false → r.1 ≡ blank r.1
 blank_row bits r h off = MatchBool-at_false (IsCountable r.1) (r.1 ≡ blank r.1) off h
 
 -- what a plain row adds to the names
-plain_utf8 : (bits : ℕ) (r : Row) (rs : List Row) (u : List ℕ) → utf8_in (r.1 ∷ asked_of bits rs) ≡ utf8_in (asked_of bits rs)
+plain_utf8 : (bits : ℕ) (r : FieldRow) (rs : List FieldRow) (u : List ℕ) → utf8_in (r.1 ∷ asked_of bits rs) ≡ utf8_in (asked_of bits rs)
     → u ≡ text (utf8_in (asked_of bits (r ∷ rs))) → u ≡ text (utf8_in (asked_of bits rs))
 plain_utf8 bits r rs u plain e =
     elim (cases_Bool (is_asked bits r.0)) [
@@ -151,7 +151,7 @@ plain_utf8 bits r rs u plain e =
       | inr off ↦ rw (asked_no bits r rs off) at e
     ]
 
-plain_long : (bits : ℕ) (r : Row) (rs : List Row) (l : List ℕ) → long_in (r.1 ∷ asked_of bits rs) ≡ long_in (asked_of bits rs)
+plain_long : (bits : ℕ) (r : FieldRow) (rs : List FieldRow) (l : List ℕ) → long_in (r.1 ∷ asked_of bits rs) ≡ long_in (asked_of bits rs)
     → l ≡ text (long_in (asked_of bits (r ∷ rs))) → l ≡ text (long_in (asked_of bits rs))
 plain_long bits r rs l plain e =
     elim (cases_Bool (is_asked bits r.0)) [
@@ -159,7 +159,7 @@ plain_long bits r rs l plain e =
       | inr off ↦ rw (asked_no bits r rs off) at e
     ]
 
-utf8_row : (bits b : ℕ) (name u : List ℕ) (rs : List Row) → NoNames (fields rs) → RowFits bits (b, Utf8Name name) → u ≡ text (utf8_in (asked_of bits ((b, Utf8Name name) ∷ rs))) → name ≡ u
+utf8_row : (bits b : ℕ) (name u : List ℕ) (rs : List FieldRow) → NoNames (fields rs) → RowFits bits (b, Utf8Name name) → u ≡ text (utf8_in (asked_of bits ((b, Utf8Name name) ∷ rs))) → name ≡ u
 utf8_row bits b name u rs h fits e =
     elim (cases_Bool (is_asked bits b)) [
       | inl on ↦ let k : u ≡ name = rw (asked_yes bits (b, Utf8Name name) rs on) at e in sym k
@@ -170,7 +170,7 @@ utf8_row bits b name u rs h fits e =
           same ∙ sym none
     ]
 
-named_late : (bits : ℕ) (rs : List Row) (l u : List ℕ) → Late (fields rs) → AllByRecursion (RowFits bits) rs → u ≡ text (utf8_in (asked_of bits rs)) → AreNamed rs l u
+named_late : (bits : ℕ) (rs : List FieldRow) (l u : List ℕ) → Late (fields rs) → AllByRecursion (RowFits bits) rs → u ≡ text (utf8_in (asked_of bits rs)) → AreNamed rs l u
 named_late bits [] l u h fits e = tt
 named_late bits ((b, Number n x) ∷ rs) l u h fits e = (tt, named_late bits rs l u h fits.1 (plain_utf8 bits (b, Number n x) rs u refl e))
 named_late bits ((b, Date z) ∷ rs) l u h fits e = (tt, named_late bits rs l u h fits.1 (plain_utf8 bits (b, Date z) rs u refl e))
@@ -178,7 +178,7 @@ named_late bits ((b, Finder info) ∷ rs) l u h fits e = (tt, named_late bits rs
 named_late bits ((b, LongName name) ∷ rs) l u h fits e = absurd h
 named_late bits ((b, Utf8Name name) ∷ rs) l u h fits e = (utf8_row bits b name u rs h fits.0 e, named_no_names rs l u h)
 
-long_row : (bits b : ℕ) (name l : List ℕ) (rs : List Row) → Late (fields rs) → RowFits bits (b, LongName name) → l ≡ text (long_in (asked_of bits ((b, LongName name) ∷ rs))) → name ≡ l
+long_row : (bits b : ℕ) (name l : List ℕ) (rs : List FieldRow) → Late (fields rs) → RowFits bits (b, LongName name) → l ≡ text (long_in (asked_of bits ((b, LongName name) ∷ rs))) → name ≡ l
 long_row bits b name l rs h fits e =
     elim (cases_Bool (is_asked bits b)) [
       | inl on ↦ let k : l ≡ name = rw (asked_yes bits (b, LongName name) rs on) at e in sym k
@@ -189,7 +189,7 @@ long_row bits b name l rs h fits e =
           same ∙ sym none
     ]
 
-pub named_formed : (bits : ℕ) (rs : List Row) (l u : List ℕ) → Formed (fields rs) → AllByRecursion (RowFits bits) rs → l ≡ text (long_in (asked_of bits rs))
+pub named_formed : (bits : ℕ) (rs : List FieldRow) (l u : List ℕ) → Formed (fields rs) → AllByRecursion (RowFits bits) rs → l ≡ text (long_in (asked_of bits rs))
     → u ≡ text (utf8_in (asked_of bits rs)) → AreNamed rs l u
 named_formed bits [] l u h fits d e = tt
 named_formed bits ((b, Number n x) ∷ rs) l u h fits d e =

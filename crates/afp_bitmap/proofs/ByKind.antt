@@ -15,7 +15,7 @@ use Rattle.afp_bitmap.specs.Field.{Field, Number, Date, Finder, LongName, Utf8Na
 use Rattle.afp_bitmap.specs.Params.{params, IsAnswer, IsBadAt, IfBad}
 use Rattle.afp_bitmap.specs.lemma.Read.{volume_at, file_at, dir_at, reading}
 use Rattle.afp_bitmap.specs.lemma.Reading.{◌>>=◌, Gives, judged, volume_from, file_from, dir_from}
-use Rattle.afp_bitmap.specs.Table.{Row, volume_rows, file_rows, dir_rows, rows, kind_of}
+use Rattle.afp_bitmap.specs.Table.{FieldRow, volume_rows, file_rows, dir_rows, rows, kind_of}
 use Rattle.afp_bitmap.proofs.Asked.{slot_of}
 use Rattle.afp_bitmap.proofs.Blocks.{Kind}
 use Rattle.afp_bitmap.proofs.Filled.{taken_rows}
@@ -45,7 +45,7 @@ bytes_of (LongName name) = name
 bytes_of (Utf8Name name) = name
 bytes_of f = []
 
-abbrev field_in : List Row → ℕ → Field
+abbrev field_in : List FieldRow → ℕ → Field
 field_in rs i = (get_or rs i (0, Number 0 0)).1
 
 -- ---- volume
@@ -76,7 +76,7 @@ volume_made bits (File v) bytes l u h = absurd (omega arith)
 volume_made bits (Dir v) bytes l u h = absurd (omega arith)
 
 -- the values in the rows
-abbrev volume_back : List Row → VolumeValues
+abbrev volume_back : List FieldRow → VolumeValues
 volume_back rs = record { attributes = number (field_in rs 0); signature = number (field_in rs 1); created = date (field_in rs 2); modified = date (field_in rs 3); backup = date (field_in rs 4); volume = number (field_in rs 5); free = number (field_in rs 6); total = number (field_in rs 7); name = bytes_of (field_in rs 8); ext_free = number (field_in rs 9); ext_total = number (field_in rs 10); block_size = number (field_in rs 11) }
 
 volume_same_rows : (v w : VolumeValues) → volume_rows v ≡ volume_rows w → v ≡ w
@@ -135,7 +135,7 @@ file_made bits (File v) bytes l u h = file_made_rows bits v bytes l u
 file_made bits (Dir v) bytes l u h = absurd (omega arith)
 
 -- the values in the rows
-abbrev file_back : List Row → FileValues
+abbrev file_back : List FieldRow → FileValues
 file_back rs = record { attributes = number (field_in rs 0); parent = number (field_in rs 1); created = date (field_in rs 2); modified = date (field_in rs 3); backup = date (field_in rs 4); finder = bytes_of (field_in rs 5); long_name = bytes_of (field_in rs 6); id = number (field_in rs 7); data_length = number (field_in rs 8); resource_length = number (field_in rs 9); ext_data_length = number (field_in rs 10); utf8_name = bytes_of (field_in rs 11); ext_resource_length = number (field_in rs 12) }
 
 file_same_rows : (v w : FileValues) → file_rows v ≡ file_rows w → v ≡ w
@@ -194,7 +194,7 @@ dir_made bits (File v) bytes l u h = absurd (omega arith)
 dir_made bits (Dir v) bytes l u h = dir_made_rows bits v bytes l u
 
 -- the values in the rows
-abbrev dir_back : List Row → DirValues
+abbrev dir_back : List FieldRow → DirValues
 dir_back rs = record { attributes = number (field_in rs 0); parent = number (field_in rs 1); created = date (field_in rs 2); modified = date (field_in rs 3); backup = date (field_in rs 4); finder = bytes_of (field_in rs 5); long_name = bytes_of (field_in rs 6); id = number (field_in rs 7); offspring = number (field_in rs 8); owner = number (field_in rs 9); group = number (field_in rs 10); rights = number (field_in rs 11); utf8_name = bytes_of (field_in rs 12) }
 
 dir_same_rows : (v w : DirValues) → dir_rows v ≡ dir_rows w → v ≡ w

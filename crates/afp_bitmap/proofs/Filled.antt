@@ -10,7 +10,7 @@ use Rattle.afp_bitmap.specs.Bits.{is_asked}
 use Rattle.afp_bitmap.specs.Field.{Field, Number, Date, Finder, LongName, Utf8Name, fixed_size, blank, IsCountable, IsTyped}
 use Rattle.afp_bitmap.specs.Params.{asked_of, RowFits}
 use Rattle.afp_bitmap.specs.lemma.Reading.{piece, behind, finder_of}
-use Rattle.afp_bitmap.specs.Table.{Row}
+use Rattle.afp_bitmap.specs.Table.{FieldRow}
 use Rattle.afp_bitmap.proofs.Asked.{asked_none, asked_yes, asked_no}
 use Rattle.afp_bitmap.proofs.Formed.{NoNames, Late, Formed, fields, late_asked, no_names_asked}
 use Rattle.afp_bitmap.proofs.Numbers.{IsBytes, IsBytes-take, IsBytes-drop, IsBytes-none, big_number-lt, big_number_none, number_again, length-big_bytes, date_fits, date_lt, date_again}
@@ -65,12 +65,12 @@ filled [] rest l u = []
 filled (f ∷ fs) rest l u = refill f (cut (fixed_size f) rest) l u ∷ filled fs (past (fixed_size f) rest) l u
 
 -- the rows of a table, where the asked fields follow each other in the bytes
-abbrev pub taken_rows : ℕ → List Row → List ℕ → List ℕ → List ℕ → List Row
+abbrev pub taken_rows : ℕ → List FieldRow → List ℕ → List ℕ → List ℕ → List FieldRow
 taken_rows bits [] rest l u = []
 taken_rows bits (r ∷ rs) rest l u =
     (r.0, refill r.1 (piece bits r.0 (fixed_size r.1) rest) l u) ∷ taken_rows bits rs (behind bits r.0 (fixed_size r.1) rest) l u
 
-pub asked_taken : (bits : ℕ) (rs : List Row) (rest l u : List ℕ) → asked_of bits (taken_rows bits rs rest l u) ≡ filled (asked_of bits rs) rest l u
+pub asked_taken : (bits : ℕ) (rs : List FieldRow) (rest l u : List ℕ) → asked_of bits (taken_rows bits rs rest l u) ≡ filled (asked_of bits rs) rest l u
 asked_taken bits [] rest l u = rw (asked_none bits) refl
 asked_taken bits (r ∷ rs) rest l u =
     elim (cases_Bool (is_asked bits r.0)) [
@@ -91,11 +91,11 @@ IsOff (LongName name) l u = l ≡ []
 IsOff (Utf8Name name) l u = u ≡ []
 IsOff f l u = Unit {0}
 
-abbrev pub AreOff : ℕ → List Row → List ℕ → List ℕ → Type 0
+abbrev pub AreOff : ℕ → List FieldRow → List ℕ → List ℕ → Type 0
 AreOff bits [] l u = Unit {0}
 AreOff bits (r ∷ rs) l u = (is_asked bits r.0 ≡ false → IsOff r.1 l u) × AreOff bits rs l u
 
-off_no_names : (bits : ℕ) (rs : List Row) (l u : List ℕ) → NoNames (fields rs) → AreOff bits rs l u
+off_no_names : (bits : ℕ) (rs : List FieldRow) (l u : List ℕ) → NoNames (fields rs) → AreOff bits rs l u
 off_no_names bits [] l u h = tt
 off_no_names bits ((b, Number n x) ∷ rs) l u h = (λ off. tt, off_no_names bits rs l u h)
 off_no_names bits ((b, Date z) ∷ rs) l u h = (λ off. tt, off_no_names bits rs l u h)
@@ -104,7 +104,7 @@ off_no_names bits ((b, LongName name) ∷ rs) l u h = absurd h
 off_no_names bits ((b, Utf8Name name) ∷ rs) l u h = absurd h
 
 -- what is said of the names in the asked rows is said of those in the rest, where the first is plain
-utf8_rest : (bits : ℕ) (r : Row) (rs : List Row) (u : List ℕ) → (utf8_in (r.1 ∷ asked_of bits rs) ≡ utf8_in (asked_of bits rs))
+utf8_rest : (bits : ℕ) (r : FieldRow) (rs : List FieldRow) (u : List ℕ) → (utf8_in (r.1 ∷ asked_of bits rs) ≡ utf8_in (asked_of bits rs))
     → (utf8_in (asked_of bits (r ∷ rs)) ≡ None → u ≡ []) → utf8_in (asked_of bits rs) ≡ None → u ≡ []
 utf8_rest bits r rs u plain h e =
     elim (cases_Bool (is_asked bits r.0)) [
@@ -112,7 +112,7 @@ utf8_rest bits r rs u plain h e =
       | inr off ↦ h (rw (asked_no bits r rs off) e)
     ]
 
-long_rest : (bits : ℕ) (r : Row) (rs : List Row) (l : List ℕ) → (long_in (r.1 ∷ asked_of bits rs) ≡ long_in (asked_of bits rs))
+long_rest : (bits : ℕ) (r : FieldRow) (rs : List FieldRow) (l : List ℕ) → (long_in (r.1 ∷ asked_of bits rs) ≡ long_in (asked_of bits rs))
     → (long_in (asked_of bits (r ∷ rs)) ≡ None → l ≡ []) → long_in (asked_of bits rs) ≡ None → l ≡ []
 long_rest bits r rs l plain h e =
     elim (cases_Bool (is_asked bits r.0)) [
@@ -120,7 +120,7 @@ long_rest bits r rs l plain h e =
       | inr off ↦ h (rw (asked_no bits r rs off) e)
     ]
 
-off_late : (bits : ℕ) (rs : List Row) (l u : List ℕ) → Late (fields rs) → (utf8_in (asked_of bits rs) ≡ None → u ≡ []) → AreOff bits rs l u
+off_late : (bits : ℕ) (rs : List FieldRow) (l u : List ℕ) → Late (fields rs) → (utf8_in (asked_of bits rs) ≡ None → u ≡ []) → AreOff bits rs l u
 off_late bits [] l u h k = tt
 off_late bits ((b, Number n x) ∷ rs) l u h k = (λ off. tt, off_late bits rs l u h (utf8_rest bits (b, Number n x) rs u refl k))
 off_late bits ((b, Date z) ∷ rs) l u h k = (λ off. tt, off_late bits rs l u h (utf8_rest bits (b, Date z) rs u refl k))
@@ -129,7 +129,7 @@ off_late bits ((b, LongName name) ∷ rs) l u h k = absurd h
 off_late bits ((b, Utf8Name name) ∷ rs) l u h k =
     (λ off. k (rw (asked_no bits (b, Utf8Name name) rs off) (no_utf8 (asked_of bits rs) (no_names_asked bits rs h))), off_no_names bits rs l u h)
 
-pub off_formed : (bits : ℕ) (rs : List Row) (l u : List ℕ) → Formed (fields rs) → (long_in (asked_of bits rs) ≡ None → l ≡ [])
+pub off_formed : (bits : ℕ) (rs : List FieldRow) (l u : List ℕ) → Formed (fields rs) → (long_in (asked_of bits rs) ≡ None → l ≡ [])
     → (utf8_in (asked_of bits rs) ≡ None → u ≡ []) → AreOff bits rs l u
 off_formed bits [] l u h j k = tt
 off_formed bits ((b, Number n x) ∷ rs) l u h j k =
@@ -165,7 +165,7 @@ match_on P Q e h = rw e h
 match_off : {b : Bool} (P Q : Type 0) → b ≡ false → Q → MatchBool b P Q
 match_off P Q e h = rw e h
 
-pub taken_fits : (bits : ℕ) (rs : List Row) (rest l u : List ℕ) → length l < 256 → length u < 65536 → AreOff bits rs l u
+pub taken_fits : (bits : ℕ) (rs : List FieldRow) (rest l u : List ℕ) → length l < 256 → length u < 65536 → AreOff bits rs l u
     → AllByRecursion (RowFits bits) (taken_rows bits rs rest l u)
 taken_fits bits [] rest l u hl hu h = tt
 taken_fits bits (r ∷ rs) rest l u hl hu h =
@@ -232,7 +232,7 @@ refill_typed (Finder info) p l u h = finder_length p h
 refill_typed (LongName name) p l u h = tt
 refill_typed (Utf8Name name) p l u h = tt
 
-pub taken_typed : (bits : ℕ) (rs : List Row) (rest l u : List ℕ) → IsBytes rest → AllByRecursion (λ r. IsTyped r.1) (taken_rows bits rs rest l u)
+pub taken_typed : (bits : ℕ) (rs : List FieldRow) (rest l u : List ℕ) → IsBytes rest → AllByRecursion (λ r. IsTyped r.1) (taken_rows bits rs rest l u)
 taken_typed bits [] rest l u h = tt
 taken_typed bits (r ∷ rs) rest l u h = (
   refill_typed r.1 (piece bits r.0 (fixed_size r.1) rest) l u (piece_is bits r.0 (fixed_size r.1) rest h),
@@ -247,7 +247,7 @@ IsNamed (LongName name) l u = name ≡ l
 IsNamed (Utf8Name name) l u = name ≡ u
 IsNamed f l u = Unit {0}
 
-abbrev pub AreNamed : List Row → List ℕ → List ℕ → Type 0
+abbrev pub AreNamed : List FieldRow → List ℕ → List ℕ → Type 0
 AreNamed [] l u = Unit {0}
 AreNamed (r ∷ rs) l u = IsNamed r.1 l u × AreNamed rs l u
 
@@ -283,7 +283,7 @@ refill_off (Finder info) l u h k = sym h
 refill_off (LongName name) l u h k = ap (λ (y : List ℕ). LongName y) (sym k)
 refill_off (Utf8Name name) l u h k = ap (λ (y : List ℕ). Utf8Name y) (sym k)
 
-pub taken_again : (bits first place : ℕ) (rs : List Row) (bytes l u r : List ℕ) → bytes ≡ concat (map (fixed_at first place) (asked_of bits rs)) ++ r
+pub taken_again : (bits first place : ℕ) (rs : List FieldRow) (bytes l u r : List ℕ) → bytes ≡ concat (map (fixed_at first place) (asked_of bits rs)) ++ r
     → AllByRecursion (RowFits bits) rs → AllByRecursion (λ row. IsTyped row.1) rs → AreNamed rs l u → taken_rows bits rs bytes l u ≡ rs
 taken_again bits first place [] bytes l u r e h t k = refl
 taken_again bits first place (row ∷ rs) bytes l u r e h t k =
@@ -297,11 +297,11 @@ taken_again bits first place (row ∷ rs) bytes l u r e h t k =
           let next : behind bits row.0 (fixed_size row.1) bytes ≡ x = behind_on bits row.0 (fixed_size row.1) bytes on ∙ ap (past (fixed_size row.1)) front ∙ past_at (fixed_size row.1) p x len in
           let here : refill row.1 (piece bits row.0 (fixed_size row.1) bytes) l u ≡ row.1 = ap (λ (y : List ℕ). refill row.1 y l u) value ∙ refill_again first place row.1 l u t.0 k.0 in
           let there : taken_rows bits rs (behind bits row.0 (fixed_size row.1) bytes) l u ≡ rs = ap (λ (y : List ℕ). taken_rows bits rs y l u) next ∙ taken_again bits first place rs x l u r refl h.1 t.1 k.1 in
-          ap (λ (y : Field). (row.0, y) ∷ taken_rows bits rs (behind bits row.0 (fixed_size row.1) bytes) l u) here ∙ ap (λ (y : List Row). row ∷ y) there
+          ap (λ (y : Field). (row.0, y) ∷ taken_rows bits rs (behind bits row.0 (fixed_size row.1) bytes) l u) here ∙ ap (λ (y : List FieldRow). row ∷ y) there
       | inr off ↦
           let front : bytes ≡ concat (map (fixed_at first place) (asked_of bits rs)) ++ r = rw (asked_no bits row rs off) at e in
           let blank_is : row.1 ≡ blank row.1 = MatchBool-at_false (IsCountable row.1) (row.1 ≡ blank row.1) off h.0 in
           let here : refill row.1 (piece bits row.0 (fixed_size row.1) bytes) l u ≡ row.1 = ap (λ (y : List ℕ). refill row.1 y l u) (piece_off bits row.0 (fixed_size row.1) bytes off) ∙ refill_off row.1 l u blank_is k.0 in
           let there : taken_rows bits rs (behind bits row.0 (fixed_size row.1) bytes) l u ≡ rs = ap (λ (y : List ℕ). taken_rows bits rs y l u) (behind_off bits row.0 (fixed_size row.1) bytes off) ∙ taken_again bits first place rs bytes l u r front h.1 t.1 k.1 in
-          ap (λ (y : Field). (row.0, y) ∷ taken_rows bits rs (behind bits row.0 (fixed_size row.1) bytes) l u) here ∙ ap (λ (y : List Row). row ∷ y) there
+          ap (λ (y : Field). (row.0, y) ∷ taken_rows bits rs (behind bits row.0 (fixed_size row.1) bytes) l u) here ∙ ap (λ (y : List FieldRow). row ∷ y) there
     ]

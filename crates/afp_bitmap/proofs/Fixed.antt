@@ -14,7 +14,7 @@ use Rattle.afp_bitmap.specs.Bits.{is_asked}
 use Rattle.afp_bitmap.specs.Field.{Field, Number, Date, Finder, LongName, Utf8Name, fixed_size, IsTyped}
 use Rattle.afp_bitmap.specs.Params.{asked_of}
 use Rattle.afp_bitmap.specs.lemma.Reading.{◌>>=◌, Walk, may_stand, stands, behind_field, step, walked, size_of, finder_of}
-use Rattle.afp_bitmap.specs.Table.{Row}
+use Rattle.afp_bitmap.specs.Table.{FieldRow}
 use Rattle.afp_bitmap.proofs.Asked.{shape_of, slot_of, size_of-shape, asked_none, asked_yes, asked_no}
 use Rattle.afp_bitmap.proofs.Filled.{cut, past, cut_whole, past_whole, refill, filled, fixed_length}
 use Rattle.afp_bitmap.proofs.Formed.{by_name}
@@ -107,20 +107,20 @@ abbrev pub walk : ℕ → List Shape → Walk → Result Walk ℕ
 walk first [] w = Ok w
 walk first (s ∷ ss) w = cond (stands first s w) (walk first ss (behind_field s w)) (Err w.place)
 
-on_step : (bits first : ℕ) (r : Row) (w : Walk) (f : Walk → Result Walk ℕ) → is_asked bits r.0 ≡ true
+on_step : (bits first : ℕ) (r : FieldRow) (w : Walk) (f : Walk → Result Walk ℕ) → is_asked bits r.0 ≡ true
     → (step bits first (slot_of r) w >>= f) ≡ cond (stands first (shape_of r.1) w) (f (behind_field (shape_of r.1) w)) (Err w.place)
 unfolding step
 on_step bits first r w f on =
     rw on (elim (cases_Bool (stands first (shape_of r.1) w)) [ inl yes' ↦ rw yes' refl | inr no' ↦ rw no' refl ])
 
-off_step : (bits first : ℕ) (r : Row) (w : Walk) (f : Walk → Result Walk ℕ) → is_asked bits r.0 ≡ false → (step bits first (slot_of r) w >>= f) ≡ f w
+off_step : (bits first : ℕ) (r : FieldRow) (w : Walk) (f : Walk → Result Walk ℕ) → is_asked bits r.0 ≡ false → (step bits first (slot_of r) w >>= f) ≡ f w
 unfolding step
 off_step bits first r w f off = rw off refl
 
 same_cond : (b : Bool) (x y z : Result Walk ℕ) → x ≡ y → cond b x z ≡ cond b y z
 same_cond b x y z e = ap (λ (r : Result Walk ℕ). cond b r z) e
 
-pub walked_is : (bits first : ℕ) (rs : List Row) (w : Walk) → walked bits first (map slot_of rs) w ≡ walk first (map shape_of (asked_of bits rs)) w
+pub walked_is : (bits first : ℕ) (rs : List FieldRow) (w : Walk) → walked bits first (map slot_of rs) w ≡ walk first (map shape_of (asked_of bits rs)) w
 walked_is bits first [] w = walked_none bits first w ∙ rw (asked_none bits) refl
 walked_is bits first (r ∷ rs) w =
     walked_more bits first (slot_of r) (map slot_of rs) w

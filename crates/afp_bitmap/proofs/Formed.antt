@@ -5,7 +5,7 @@ use Rattle.std.proofs.lemmas.List.{length-replicate, append-nil}
 use Rattle.afp_bitmap.specs.Bits.{is_asked}
 use Rattle.afp_bitmap.specs.Field.{Field, Number, Date, Finder, LongName, Utf8Name, long_name_bytes, pad_of}
 use Rattle.afp_bitmap.specs.Params.{asked_of, name_size}
-use Rattle.afp_bitmap.specs.Table.{Row}
+use Rattle.afp_bitmap.specs.Table.{FieldRow}
 pub use Rattle.afp_bitmap.specs.lemma.Writing.{by_name, NoNames, Late, Formed}
 use Rattle.afp_bitmap.proofs.Asked.{asked_none, asked_yes, asked_no}
 
@@ -31,10 +31,10 @@ pub late_formed : (fs : List Field) → Late fs → Formed fs
 late_formed [] h = tt
 late_formed (f ∷ fs) h = by_name_map f (late_formed fs) (λ x. absurd x) (λ x. x) h
 
-abbrev pub fields : List Row → List Field
+abbrev pub fields : List FieldRow → List Field
 fields rs = map (λ r. r.1) rs
 
-pub no_names_asked : (bits : ℕ) (rs : List Row) → NoNames (fields rs) → NoNames (asked_of bits rs)
+pub no_names_asked : (bits : ℕ) (rs : List FieldRow) → NoNames (fields rs) → NoNames (asked_of bits rs)
 no_names_asked bits [] h = rw (asked_none bits) tt
 no_names_asked bits (r ∷ rs) h =
     elim (cases_Bool (is_asked bits r.0)) [
@@ -42,7 +42,7 @@ no_names_asked bits (r ∷ rs) h =
       | inr off ↦ rw (asked_no bits r rs off) (by_name_to r.1 (no_names_asked bits rs) (λ x. absurd x) (λ x. absurd x) h)
     ]
 
-pub late_asked : (bits : ℕ) (rs : List Row) → Late (fields rs) → Late (asked_of bits rs)
+pub late_asked : (bits : ℕ) (rs : List FieldRow) → Late (fields rs) → Late (asked_of bits rs)
 late_asked bits [] h = rw (asked_none bits) tt
 late_asked bits (r ∷ rs) h =
     elim (cases_Bool (is_asked bits r.0)) [
@@ -50,7 +50,7 @@ late_asked bits (r ∷ rs) h =
       | inr off ↦ rw (asked_no bits r rs off) (by_name_to r.1 (late_asked bits rs) (λ x. absurd x) (λ x. no_names_late (asked_of bits rs) (no_names_asked bits rs x)) h)
     ]
 
-pub formed_asked : (bits : ℕ) (rs : List Row) → Formed (fields rs) → Formed (asked_of bits rs)
+pub formed_asked : (bits : ℕ) (rs : List FieldRow) → Formed (fields rs) → Formed (asked_of bits rs)
 formed_asked bits [] h = rw (asked_none bits) tt
 formed_asked bits (r ∷ rs) h =
     elim (cases_Bool (is_asked bits r.0)) [

@@ -6,7 +6,8 @@ use Rattle.std.proofs.lemmas.List.{take-append-drop, take-append-le, length-take
 use Rattle.byteorder.specs.Endian.{big_bytes}
 use Rattle.afp_bitmap.specs.Field.{Field, fixed_bytes, IsCountable}
 use Rattle.afp_bitmap.specs.Params.{parts, size_of_fixed_part}
-use Rattle.afp_bitmap.specs.lemma.Writing.{Spots, no_spots, all_noted, patched, padded, with_long_name, with_utf8_name, CanName, IsSized, Keeps}
+use Rattle.afp_base.specs.Appended.{Keeps}
+use Rattle.afp_bitmap.specs.lemma.Writing.{Spots, no_spots, all_noted, patched, padded, with_long_name, with_utf8_name, CanName, IsSized}
 use Rattle.afp_bitmap.proofs.Formed.{Formed}
 use Rattle.afp_bitmap.proofs.Patches.{Begun, can_begin, can_go_on, block_written}
 

@@ -6,8 +6,9 @@ use Rattle.std.proofs.lemmas.List.{append-nil, take-append-le}
 use Rattle.afp_bitmap.specs.Bits.{is_asked}
 use Rattle.afp_bitmap.specs.Field.{Field, fixed_bytes}
 use Rattle.afp_bitmap.specs.Params.{asked_of}
-use Rattle.afp_bitmap.specs.Table.{Row}
-use Rattle.afp_bitmap.specs.lemma.Writing.{Spots, noted, all_noted, Keeps}
+use Rattle.afp_bitmap.specs.Table.{FieldRow}
+use Rattle.afp_base.specs.Appended.{Keeps}
+use Rattle.afp_bitmap.specs.lemma.Writing.{Spots, noted, all_noted}
 use Rattle.afp_bitmap.proofs.Asked.{asked_none, asked_yes, asked_no}
 
 pub concat-append : (xs ys : List (List ℕ)) → concat (xs ++ ys) ≡ concat xs ++ concat ys
@@ -23,12 +24,12 @@ unfolding all_noted
 noted_more at f fs s = refl
 
 -- with the rows to come the fixed part of the block that begins at `base` is whole, and all names are noted
-pub record Goes (bits : ℕ) (rs : List Row) (base : ℕ) (out : List ℕ) (spots : Spots) (whole : List ℕ) (all : Spots) : Type 0 where
+pub record Goes (bits : ℕ) (rs : List FieldRow) (base : ℕ) (out : List ℕ) (spots : Spots) (whole : List ℕ) (all : Spots) : Type 0 where
   pub begun : base ≤ length out
   pub whole_is : out ++ concat (map (fixed_bytes 0) (asked_of bits rs)) ≡ whole
   pub all_is : all_noted (length out - base) (asked_of bits rs) spots ≡ all
 
-pub row_put : (bits : ℕ) (r : Row) (rs : List Row) (base : ℕ) (old new : List ℕ) (spots next : Spots) (whole : List ℕ) (all : Spots) → (is_asked bits r.0 ≡ true → next ≡ noted (length old - base) r.1 spots)
+pub row_put : (bits : ℕ) (r : FieldRow) (rs : List FieldRow) (base : ℕ) (old new : List ℕ) (spots next : Spots) (whole : List ℕ) (all : Spots) → (is_asked bits r.0 ≡ true → next ≡ noted (length old - base) r.1 spots)
     → (is_asked bits r.0 ≡ true → new ≡ old ++ fixed_bytes 0 r.1) → (is_asked bits r.0 ≡ false → next ≡ spots) → (is_asked bits r.0 ≡ false → new ≡ old)
     → Goes bits (r ∷ rs) base old spots whole all → Goes bits rs base new next whole all
 row_put bits r rs base old new spots next whole all a b c d h =

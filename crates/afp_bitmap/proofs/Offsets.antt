@@ -8,7 +8,7 @@ use Rattle.afp_bitmap.specs.declared.params.Values.TheVariants.{Volume, File, Di
 use Rattle.afp_bitmap.specs.Field.{Field, Number, Date, Finder, LongName, Utf8Name, IsTyped, long_name_bytes, utf8_name_bytes, pad_of}
 use Rattle.afp_bitmap.specs.Offsets.{StandsAtOffset, LongNameStands, Utf8NameStands}
 use Rattle.afp_bitmap.specs.Params.{asked_of, asked, parts, size_of_fixed_part, IsAnswer}
-use Rattle.afp_bitmap.specs.Table.{Row, volume_rows, file_rows, dir_rows, rows}
+use Rattle.afp_bitmap.specs.Table.{FieldRow, volume_rows, file_rows, dir_rows, rows}
 use Rattle.afp_bitmap.proofs.Asks.{sizes_are, fixed_total, typed_asked, long_countable}
 use Rattle.afp_bitmap.proofs.Blocks.{fits_rows}
 use Rattle.afp_bitmap.proofs.Formed.{NoNames, Late, Formed, formed_asked, long_name_size}
@@ -113,7 +113,7 @@ record Known (fs : List Field) : Type 0 where
   long_fits : OptFits (λ l. length l < 256) (long_in fs)
   small : size_of_fixed_part fs < 65000
 
-record Sound (bits : ℕ) (rs : List Row) : Type 0 where
+record Sound (bits : ℕ) (rs : List FieldRow) : Type 0 where
   formed : Formed (asked_of bits rs)
   small : size_of_fixed_part (asked_of bits rs) < 65000
 

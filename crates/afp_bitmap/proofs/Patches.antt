@@ -9,7 +9,7 @@ use Rattle.byteorder.specs.Endian.{big_bytes}
 use Rattle.afp_bitmap.specs.Bits.{is_asked}
 use Rattle.afp_bitmap.specs.Field.{Field, Number, Date, Finder, LongName, Utf8Name, fixed_size, fixed_bytes, long_name_bytes, utf8_name_bytes, pad_of, IsCountable}
 use Rattle.afp_bitmap.specs.Params.{asked_of, parts, size_of_fixed_part}
-use Rattle.afp_bitmap.specs.Table.{Row}
+use Rattle.afp_bitmap.specs.Table.{FieldRow}
 use Rattle.afp_bitmap.specs.lemma.Writing.{Spot, Spots, no_spots, noted, all_noted, padded, patched, CanName, with_long_name, with_utf8_name, IsSized}
 use Rattle.afp_bitmap.proofs.Asked.{asked_none, asked_yes, asked_no}
 use Rattle.afp_bitmap.proofs.Formed.{NoNames, Late, Formed, late_formed}
@@ -30,7 +30,7 @@ zeros_are : (fs : List Field) → concat (map (fixed_bytes 0) fs) ≡ concat (ma
 zeros_are [] = refl
 zeros_are (f ∷ fs) = ap (λ (x : List ℕ). x ++ concat (map (fixed_bytes 0) fs)) (zeros_at f) ∙ ap (λ (x : List ℕ). fixed_at 0 0 f ++ x) (zeros_are fs)
 
-pub sized_asked : (bits : ℕ) (rs : List Row) → AllByRecursion (λ r. IsSized r.1) rs → AllByRecursion IsSized (asked_of bits rs)
+pub sized_asked : (bits : ℕ) (rs : List FieldRow) → AllByRecursion (λ r. IsSized r.1) rs → AllByRecursion IsSized (asked_of bits rs)
 sized_asked bits [] h = rw (asked_none bits) tt
 sized_asked bits (r ∷ rs) h =
     elim (cases_Bool (is_asked bits r.0)) [

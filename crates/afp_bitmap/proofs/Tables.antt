@@ -14,14 +14,14 @@ use Rattle.afp_bitmap.specs.Bits.{is_asked}
 use Rattle.afp_bitmap.specs.Field.{blank, IsCountable}
 use Rattle.afp_bitmap.specs.Params.{asked_of, size_of_fixed_part, RowFits, Fits}
 use Rattle.afp_bitmap.specs.lemma.Reading.{asked_size}
-use Rattle.afp_bitmap.specs.Table.{Row, volume_rows, file_rows, dir_rows, rows}
+use Rattle.afp_bitmap.specs.Table.{FieldRow, volume_rows, file_rows, dir_rows, rows}
 use Rattle.afp_bitmap.specs.lemma.Writing.{IsSized}
 use Rattle.afp_bitmap.proofs.Asked.{slot_of, whole_size, asked_size_le, asked_size_is, asked_none, asked_yes, asked_no}
 use Rattle.afp_bitmap.proofs.Formed.{Formed, fields}
 use Rattle.afp_bitmap.proofs.Patches.{sized_asked}
 
 -- the names of values that fit can be counted
-pub fits_countable : (bits : ℕ) (rs : List Row) → AllByRecursion (RowFits bits) rs → AllByRecursion IsCountable (asked_of bits rs)
+pub fits_countable : (bits : ℕ) (rs : List FieldRow) → AllByRecursion (RowFits bits) rs → AllByRecursion IsCountable (asked_of bits rs)
 fits_countable bits [] h = rw (asked_none bits) tt
 fits_countable bits (r ∷ rs) h =
     elim (cases_Bool (is_asked bits r.0)) [

@@ -6,10 +6,10 @@ use Rattle.afp_bitmap.specs.declared.params.ParamFault.TheVariants as faults
 use Rattle.afp_bitmap.specs.declared.params.Values.{Values}
 use Rattle.afp_bitmap.specs.Bits.{is_asked}
 use Rattle.afp_bitmap.specs.Field.{Field, fixed_size, fixed_bytes, name_parts, blank, IsCountable, IsTyped}
-use Rattle.afp_bitmap.specs.Table.{Row, rows, kind_of}
+use Rattle.afp_bitmap.specs.Table.{FieldRow, rows, kind_of}
 
 -- the fields of the rows that the bits ask for (AFP Reference, "FPGetFileDirParms")
-unfoldable pub asked_of : ℕ → List Row → List Field
+unfoldable pub asked_of : ℕ → List FieldRow → List Field
 asked_of bits table = map (λ r. r.1) (filter (λ r. is_asked bits r.0) table)
 
 -- the fields that the bits ask for
@@ -39,7 +39,7 @@ abbrev pub params : ℕ → Values → List ℕ
 params bits v = concat (parts (asked bits v))
 
 -- an asked name can be counted, and what was not asked is zero or empty
-abbrev pub RowFits : ℕ → Row → Type 0
+abbrev pub RowFits : ℕ → FieldRow → Type 0
 RowFits bits r = MatchBool (is_asked bits r.0) (IsCountable r.1) (r.1 ≡ blank r.1)
 
 -- the values have a block for these bits (this profile)

@@ -8,11 +8,11 @@ use Rattle.afp_bitmap.specs.declared.params.Values.TheVariants.{Volume, File, Di
 use Rattle.afp_bitmap.specs.Field.{Field, Number, Date, Finder, LongName, Utf8Name}
 
 -- a row: the bit, and the field that it asks for
-abbrev pub Row : Type 0
-Row = ℕ × Field
+abbrev pub FieldRow : Type 0
+FieldRow = ℕ × Field
 
 -- AFP Reference, "Volume Bitmap"
-unfoldable pub volume_rows : VolumeValues → List Row
+unfoldable pub volume_rows : VolumeValues → List FieldRow
 volume_rows v =
     (0, Number 2 v.attributes)
     ∷ (1, Number 2 v.signature)
@@ -29,7 +29,7 @@ volume_rows v =
     ∷ []
 
 -- AFP Reference, "File Bitmap"
-unfoldable pub file_rows : FileValues → List Row
+unfoldable pub file_rows : FileValues → List FieldRow
 file_rows v =
     (0, Number 2 v.attributes)
     ∷ (1, Number 4 v.parent)
@@ -47,7 +47,7 @@ file_rows v =
     ∷ []
 
 -- AFP Reference, "Directory Bitmap"
-unfoldable pub dir_rows : DirValues → List Row
+unfoldable pub dir_rows : DirValues → List FieldRow
 dir_rows v =
     (0, Number 2 v.attributes)
     ∷ (1, Number 4 v.parent)
@@ -65,7 +65,7 @@ dir_rows v =
     ∷ []
 
 -- the rows of values of any kind
-unfoldable pub rows : Values → List Row
+unfoldable pub rows : Values → List FieldRow
 rows (Volume v) = volume_rows v
 rows (File v) = file_rows v
 rows (Dir v) = dir_rows v

@@ -6,13 +6,14 @@ ghost use Rattle.afp_bitmap.specs.Params.{asked_of, parts};
 ghost use Rattle.afp_bitmap.specs.lemma.Read.{file_at};
 ghost use Rattle.afp_bitmap.specs.lemma.Reading.{Gives};
 ghost use Rattle.afp_bitmap.specs.Table.{file_rows};
-ghost use Rattle.afp_bitmap.specs.lemma.Writing.{row_of, Keeps};
+ghost use Rattle.afp_base.specs.Appended.{Keeps};
+ghost use Rattle.afp_bitmap.specs.lemma.Writing.{row_of};
 
 use crate::judge::judge;
 use crate::params::ParamFault;
 use crate::table::{Shape, Slot};
 use crate::take::Fields;
-use crate::write::{Field, Row, finder_bytes, put_rows};
+use crate::write::{Field, FieldRow, finder_bytes, put_rows};
 use afp_base::{Bytes, OutOfMemory};
 use std::alloc::Global;
 
@@ -67,24 +68,24 @@ const TABLE: [Slot; 13] = [
 
 /// The rows of the table with these values.
 #[tactic(auto, unfolding(crate::specs::Table::file_rows))]
-fn rows_of(values: &FileValues) -> [Row<'_>; 13]
+fn rows_of(values: &FileValues) -> [FieldRow<'_>; 13]
     ensures rows { map row_of result ≡ file_rows values.now }
     ensures finder { length values.now.finder ≡ 32 }
 {
     [
-        Row(0, Field::Short(values.attributes)),
-        Row(1, Field::Long(values.parent)),
-        Row(2, Field::Date(values.created)),
-        Row(3, Field::Date(values.modified)),
-        Row(4, Field::Date(values.backup)),
-        Row(5, Field::Finder(finder_bytes(&values.finder))),
-        Row(6, Field::LongName(values.long_name.as_slice())),
-        Row(8, Field::Long(values.id)),
-        Row(9, Field::Long(values.data_length)),
-        Row(10, Field::Long(values.resource_length)),
-        Row(11, Field::Wide(values.ext_data_length)),
-        Row(13, Field::Utf8Name(values.utf8_name.as_slice())),
-        Row(14, Field::Wide(values.ext_resource_length)),
+        FieldRow(0, Field::Short(values.attributes)),
+        FieldRow(1, Field::Long(values.parent)),
+        FieldRow(2, Field::Date(values.created)),
+        FieldRow(3, Field::Date(values.modified)),
+        FieldRow(4, Field::Date(values.backup)),
+        FieldRow(5, Field::Finder(finder_bytes(&values.finder))),
+        FieldRow(6, Field::LongName(values.long_name.as_slice())),
+        FieldRow(8, Field::Long(values.id)),
+        FieldRow(9, Field::Long(values.data_length)),
+        FieldRow(10, Field::Long(values.resource_length)),
+        FieldRow(11, Field::Wide(values.ext_data_length)),
+        FieldRow(13, Field::Utf8Name(values.utf8_name.as_slice())),
+        FieldRow(14, Field::Wide(values.ext_resource_length)),
     ]
 }
 

@@ -7,7 +7,7 @@ ghost use Rattle.afp_bitmap.specs.Params.{params, Fits, IsAnswer, IsBadAt, IfBad
 ghost use Rattle.afp_bitmap.specs.Table.{kind_of};
 ghost use Rattle.afp_bitmap.specs.lemma.Read.{reading};
 ghost use Rattle.afp_bitmap.specs.lemma.Reading.{Gives};
-ghost use Rattle.afp_bitmap.specs.lemma.Writing.{Keeps};
+ghost use Rattle.afp_base.specs.Appended.{Keeps};
 
 use crate::directory::{DirValues, put_dir, read_dir};
 use crate::file::{FileValues, put_file, read_file};

@@ -31,8 +31,8 @@ impl Shape {
 #[derive(Clone, Copy)]
 pub(crate) struct Slot(pub(crate) u32, pub(crate) Shape);
 
-/// The bit is set.
-pub(crate) fn is_asked(bits: u16, bit: u32) -> bool
+/// Whether a bit of a bitmap is set, counted from the lowest, which is 0. One above 15 is not.
+pub fn is_asked(bits: u16, bit: u32) -> bool
     ensures { result ≡ is_asked bits bit }
 {
     bit < 16 && bits >> bit & 1 == 1

@@ -6,13 +6,14 @@ ghost use Rattle.afp_bitmap.specs.Params.{asked_of, parts};
 ghost use Rattle.afp_bitmap.specs.lemma.Read.{volume_at};
 ghost use Rattle.afp_bitmap.specs.lemma.Reading.{Gives};
 ghost use Rattle.afp_bitmap.specs.Table.{volume_rows};
-ghost use Rattle.afp_bitmap.specs.lemma.Writing.{row_of, Keeps};
+ghost use Rattle.afp_base.specs.Appended.{Keeps};
+ghost use Rattle.afp_bitmap.specs.lemma.Writing.{row_of};
 
 use crate::judge::judge;
 use crate::params::ParamFault;
 use crate::table::{Shape, Slot};
 use crate::take::Fields;
-use crate::write::{Field, Row, put_rows};
+use crate::write::{Field, FieldRow, put_rows};
 use afp_base::{Bytes, OutOfMemory};
 use std::alloc::Global;
 
@@ -64,22 +65,22 @@ const TABLE: [Slot; 12] = [
 
 /// The rows of the table with these values.
 #[tactic(auto, unfolding(crate::specs::Table::volume_rows))]
-fn rows_of(values: &VolumeValues) -> [Row<'_>; 12]
+fn rows_of(values: &VolumeValues) -> [FieldRow<'_>; 12]
     ensures { map row_of result ≡ volume_rows values.now }
 {
     [
-        Row(0, Field::Short(values.attributes)),
-        Row(1, Field::Short(values.signature)),
-        Row(2, Field::Date(values.created)),
-        Row(3, Field::Date(values.modified)),
-        Row(4, Field::Date(values.backup)),
-        Row(5, Field::Short(values.volume)),
-        Row(6, Field::Long(values.free)),
-        Row(7, Field::Long(values.total)),
-        Row(8, Field::LongName(values.name.as_slice())),
-        Row(9, Field::Wide(values.ext_free)),
-        Row(10, Field::Wide(values.ext_total)),
-        Row(11, Field::Long(values.block_size)),
+        FieldRow(0, Field::Short(values.attributes)),
+        FieldRow(1, Field::Short(values.signature)),
+        FieldRow(2, Field::Date(values.created)),
+        FieldRow(3, Field::Date(values.modified)),
+        FieldRow(4, Field::Date(values.backup)),
+        FieldRow(5, Field::Short(values.volume)),
+        FieldRow(6, Field::Long(values.free)),
+        FieldRow(7, Field::Long(values.total)),
+        FieldRow(8, Field::LongName(values.name.as_slice())),
+        FieldRow(9, Field::Wide(values.ext_free)),
+        FieldRow(10, Field::Wide(values.ext_total)),
+        FieldRow(11, Field::Long(values.block_size)),
     ]
 }
 

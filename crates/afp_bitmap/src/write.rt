@@ -5,7 +5,8 @@ ghost use Rattle.byteorder.specs.Endian.{big_bytes};
 ghost use Rattle.afp_bitmap.specs.Bits.{is_asked};
 ghost use Rattle.afp_bitmap.specs.Field.{fixed_bytes, IsCountable};
 ghost use Rattle.afp_bitmap.specs.Params.{asked_of, parts, size_of_fixed_part};
-ghost use Rattle.afp_bitmap.specs.lemma.Writing.{field_of, row_of, spot_of, spots_of, noted, all_noted, no_spots, padded, patched, with_long_name, with_utf8_name, CanName, Formed, IsSized, Keeps};
+ghost use Rattle.afp_base.specs.Appended.{Keeps};
+ghost use Rattle.afp_bitmap.specs.lemma.Writing.{field_of, row_of, spot_of, spots_of, noted, all_noted, no_spots, padded, patched, with_long_name, with_utf8_name, CanName, Formed, IsSized};
 
 use crate::table::is_asked;
 use afp_base::{Bytes, OutOfMemory};
@@ -25,7 +26,7 @@ pub(crate) enum Field<'a> {
 
 /// A bit, and the field that it asks for.
 #[derive(Drop)]
-pub(crate) struct Row<'a>(pub(crate) u32, pub(crate) Field<'a>);
+pub(crate) struct FieldRow<'a>(pub(crate) u32, pub(crate) Field<'a>);
 
 /// A name, and where in its block its own place is still to be written.
 #[derive(Drop)]
@@ -87,7 +88,7 @@ fn noted<'a>(spots: Spots<'a>, at: usize, field: &Field<'a>) -> Spots<'a>
 /// Appends one field of the fixed part of the block that begins at `base`, where it is asked.
 fn put_row<'a>(
     bits: u16,
-    row: &Row<'a>,
+    row: &FieldRow<'a>,
     spots: Spots<'a>,
     base: usize,
     out: &mut Bytes,
@@ -112,7 +113,7 @@ fn put_row<'a>(
 /// Appends the asked fields, with 0 in place of the places, and tells where in the block these are to stand.
 fn put_fixed_part<'a>(
     bits: u16,
-    rows: &[Row<'a>],
+    rows: &[FieldRow<'a>],
     out: &mut Bytes,
 ) -> Result<Spots<'a>, OutOfMemory>
     ensures spots { IfOk result (λ spots. spots_of spots ≡ all_noted 0 (asked_of bits (map row_of rows.now)) no_spots) }
@@ -202,7 +203,7 @@ fn put_utf8_name(spot: Option<Spot<'_>>, base: usize, out: &mut Bytes) -> Result
 }
 
 /// Appends the block of the asked fields. After an error, any part of it may stand there.
-pub(crate) fn put_rows(bits: u16, rows: &[Row<'_>], out: &mut Bytes) -> Result<(), OutOfMemory>
+pub(crate) fn put_rows(bits: u16, rows: &[FieldRow<'_>], out: &mut Bytes) -> Result<(), OutOfMemory>
     requires formed { Formed (asked_of bits (map row_of rows.now)) }
     requires small { size_of_fixed_part (asked_of bits (map row_of rows.now)) < 65000 }
     requires names { AllByRecursion IsCountable (asked_of bits (map row_of rows.now)) }

@@ -1,7 +1,8 @@
 //! Writes requests.
 ghost use Rattle.std.specs.Prelude.{◌≡◌, ◌++◌, OnOk, OnErr};
 ghost use Rattle.afp_requests.specs.Call.{Spells, IsSpellable, IsTypedCall, layout_of, canonical_call, canonical_data, canonical_piece};
-ghost use Rattle.afp_fields.specs.Putting.{PutsAll, Keeps};
+ghost use Rattle.afp_base.specs.Appended.{Keeps};
+ghost use Rattle.afp_fields.specs.Putting.{PutsAll};
 
 use afp_base::{Bytes, OutOfMemory};
 use afp_desktop_calls::write_desktop_call;

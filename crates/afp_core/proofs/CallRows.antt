@@ -15,7 +15,7 @@ use Rattle.afp_base.specs.declared.code.Code.TheVariants.{DiskFull, ObjectExists
 use Rattle.afp_names.specs.Name.{name_key}
 use Rattle.afp_serial.specs.CreateDir.{node_id}
 use Rattle.afp_serial.specs.Enumerate.{lists}
-use Rattle.afp_volume.specs.Calls.{behind, has_no_ids, has_no_room}
+use Rattle.afp_volume.specs.Shared.{behind, has_no_ids, has_no_room}
 use Rattle.afp_volume.specs.Enumerate.{ListAsked}
 use Rattle.afp_volume.specs.SoundVolume.{last_next_id, most_nodes}
 use Rattle.afp_volume.specs.VolumeState.{VolumeState}

@@ -16,7 +16,7 @@ use Rattle.afp_base.specs.declared.ids.ForkRef.{ForkRef}
 use Rattle.afp_serial.specs.Lock.{lock_asked, locks}
 use Rattle.afp_volume.specs.SoundVolume.{has_file}
 use Rattle.afp_serial.specs.Answer.{refusal_reply, refused_reply}
-use Rattle.afp_serial.specs.CallRow.{Effect, Refusal, Refused, Row, plain}
+use Rattle.afp_serial.specs.CallRow.{Effect, Refusal, Refused, CallRow, plain}
 use Rattle.afp_serial.specs.ForkBytes.{ReadAsked, ahead, meets_end, most_read, read_bytes, read_refusals, read_reply, reads, stop_in, up_to, writes}
 use Rattle.afp_serial.specs.OnFork.{OpenFile, bytes_of, committed_with, done_with, is_locked, on_fork, open_file, row_on_fork}
 use Rattle.afp_serial.specs.Rows.{committed, effect, ends_session, refusal, row}
@@ -48,7 +48,7 @@ module _ (k : KeptWorld) (number : ℕ) (call : Call) (reference : ℕ) (refuses
     (row_is : row call ≡ row_on_fork reference refuses does commits) (goes_on : ends_session call ≡ false) where
   -- it is refused as is refused of what stands under the reference
   refuses-as : (s : Session) (q : Option OpenFile) → open_file k.world s reference ≡ q → refusal k.world s call ≡ first_holding (on_fork q (refuses k.world))
-  refuses-as s q is = ap (λ (r : Row). first_holding (r.refusals k.world s)) row_is ∙ ap (λ (o : Option OpenFile). first_holding (on_fork o (refuses k.world))) is
+  refuses-as s q is = ap (λ (r : CallRow). first_holding (r.refusals k.world s)) row_is ∙ ap (λ (o : Option OpenFile). first_holding (on_fork o (refuses k.world))) is
 
   pub fork-none : (told : Told) → IsFork k number reference None → told ≡ refusal_reply ParamErr → RunsRow k number call (with_ok (done told)) k
   fork-none told none is = λ s at.
@@ -75,7 +75,7 @@ module _ (k : KeptWorld) (number : ℕ) (call : Call) (reference : ℕ) (refuses
   fork-done new own stands next reply block told passes is bytes tells becomes = λ s at.
       let found = stands.found s (session_of-number k.world.sessions number s at) in
       let done : effect k.world s call ≡ record { world = next; reply = reply } =
-      ap (λ (r : Row). r.effect k.world s) row_is ∙ ap (λ (o : Option OpenFile). done_with o k.world (does k.world)) found ∙ is in
+      ap (λ (r : CallRow). r.effect k.world s) row_is ∙ ap (λ (o : Option OpenFile). done_with o k.world (does k.world)) found ∙ is in
       has_effect k new s call told next (refuses-as s (Some stands.file) found ∙ passes)
       (tells ∙ told-effect call (effect k.world s call) (record { world = next; reply = reply }) block done goes_on bytes) becomes (ap (λ (e : Effect). e.world) (sym done))
 
@@ -86,7 +86,7 @@ module _ (k : KeptWorld) (number : ℕ) (call : Call) (reference : ℕ) (refuses
       let found = stands.found s (session_of-number k.world.sessions number s at) in
       let passed : refusal k.world s call ≡ None = refuses-as s (Some stands.file) found ∙ passes in
       let commit : committed k.world s call ≡ Some index =
-      ap (λ (r : Row). r.committed k.world s) row_is ∙ ap (λ (o : Option OpenFile). committed_with o (commits k.world)) found ∙ names in
+      ap (λ (r : CallRow). r.committed k.world s) row_is ∙ ap (λ (o : Option OpenFile). committed_with o (commits k.world)) found ∙ names in
       rw passed (keeper-fails k new _ _ _ told index commit is refl b)
 
 -- what is told of an answer, in place of what it is

@@ -12,7 +12,7 @@ use Rattle.afp_replies.specs.Replies.{canonical_reply}
 use Rattle.afp_replies.specs.declared.reply.Reply.{Reply as AfpReply}
 use Rattle.afp_requests.specs.declared.call.Call.{Call}
 use Rattle.afp_serial.specs.Answer.{refusal_reply, refused_reply}
-use Rattle.afp_serial.specs.CallRow.{Effect, Refusal, Refused, Row, plain, with_empty_reply}
+use Rattle.afp_serial.specs.CallRow.{Effect, Refusal, Refused, CallRow, plain, with_empty_reply}
 use Rattle.afp_serial.specs.OnFork.{OpenFile, committed_with, done_with, keeper_if, on_fork, open_file, own_keeper, row_on_fork, with_bytes}
 use Rattle.afp_serial.specs.OnVolume.{keeper_of, with_state, with_volume_state}
 use Rattle.afp_serial.specs.Rows.{committed, effect, ends_session, refusal, row}
@@ -128,7 +128,7 @@ module _ (k : KeptWorld) (number : ℕ) (call : Call) (reference : ℕ) (refuses
   fork-unopened told none tells = λ s at.
       let no : open_file k.world s reference ≡ None = none s (session_of-number k.world.sessions number s at) in
       is_refused-with k k s call (plain ParamErr) told
-      (ap (λ (r : Row). first_holding (r.refusals k.world s)) is.row_is ∙ ap (λ (o : Option OpenFile). first_holding (on_fork o (refuses k.world))) no) tells refl
+      (ap (λ (r : CallRow). first_holding (r.refusals k.world s)) is.row_is ∙ ap (λ (o : Option OpenFile). first_holding (on_fork o (refuses k.world))) no) tells refl
 
   module _ (own : OwnFork) (here : IsForkAt k number reference own) where
     found-at : (s : Session) → session_of k.world.sessions number ≡ Some s → open_file k.world s reference ≡ Some here.file
@@ -137,13 +137,13 @@ module _ (k : KeptWorld) (number : ℕ) (call : Call) (reference : ℕ) (refuses
     -- its row is that of its open fork
     pub fork-refuses : (s : Session) → session_of k.world.sessions number ≡ Some s → refusal k.world s call ≡ first_holding (refuses k.world here.file)
     fork-refuses s at =
-        ap (λ (r : Row). first_holding (r.refusals k.world s)) is.row_is ∙ ap (λ (o : Option OpenFile). first_holding (on_fork o (refuses k.world))) (found-at s at)
+        ap (λ (r : CallRow). first_holding (r.refusals k.world s)) is.row_is ∙ ap (λ (o : Option OpenFile). first_holding (on_fork o (refuses k.world))) (found-at s at)
 
     pub fork-does : (s : Session) → session_of k.world.sessions number ≡ Some s → effect k.world s call ≡ does k.world here.file
-    fork-does s at = ap (λ (r : Row). r.effect k.world s) is.row_is ∙ ap (λ (o : Option OpenFile). done_with o k.world (does k.world)) (found-at s at)
+    fork-does s at = ap (λ (r : CallRow). r.effect k.world s) is.row_is ∙ ap (λ (o : Option OpenFile). done_with o k.world (does k.world)) (found-at s at)
 
     pub fork-commits : (s : Session) → session_of k.world.sessions number ≡ Some s → committed k.world s call ≡ commits k.world here.file
-    fork-commits s at = ap (λ (r : Row). r.committed k.world s) is.row_is ∙ ap (λ (o : Option OpenFile). committed_with o (commits k.world)) (found-at s at)
+    fork-commits s at = ap (λ (r : CallRow). r.committed k.world s) is.row_is ∙ ap (λ (o : Option OpenFile). committed_with o (commits k.world)) (found-at s at)
 
     -- it is refused
     pub fork-refused-with : (r : Refused) (told : Told) → first_holding (refuses k.world here.file) ≡ Some r → told ≡ refused_reply r → RunsRow k number call (with_ok (done told)) k

@@ -13,7 +13,7 @@ use Rattle.afp_requests.specs.declared.call.Call.TheVariants.{CloseDir, Flush}
 use Rattle.afp_base.specs.declared.ids.NodeId.{NodeId}
 use Rattle.afp_base.specs.declared.ids.VolumeId.{VolumeId}
 use Rattle.afp_serial.specs.Answer.{effect_reply, refusal_reply}
-use Rattle.afp_serial.specs.CallRow.{Effect, Row, plain}
+use Rattle.afp_serial.specs.CallRow.{Effect, CallRow, plain}
 use Rattle.afp_serial.specs.OnVolume.{refused_before, done_on, keeper_of, on_volume, opened_on, with_state, with_volume_state}
 use Rattle.afp_serial.specs.Rows.{committed, effect, ends_session, refusal, row}
 use Rattle.afp_serial.specs.Sessions.{has_opened, volume_at}
@@ -118,12 +118,12 @@ told-effect call e of block is goes told =
 module _ (k : KeptWorld) (number : ℕ) (call : Call) (volume : ℕ) (refuses : World → VolumeState → Option Code) (reply : World → VolumeState → AfpReply) (tells : TellsOf call volume refuses reply) where
   pub tells-unopened : (told : Told) → IsOpen k number volume None → told ≡ refusal_reply ParamErr → RunsRow k number call (with_ok (done told)) k
   tells-unopened told stands is = λ s at.
-      is_refused k k s call ParamErr told (ap (λ (r : Row). first_holding (r.refusals k.world s)) tells.row_is ∙ stands s at (refuses k.world)) is refl
+      is_refused k k s call ParamErr told (ap (λ (r : CallRow). first_holding (r.refusals k.world s)) tells.row_is ∙ stands s at (refuses k.world)) is refl
 
   tells-refuses : (index : ℕ) (v : VolumeState) → IsOpenAt k number volume index → slice_get k.world.volumes index ≡ Some v → (s : Session) → session_of k.world.sessions number ≡ Some s
       → refusal k.world s call ≡ option_map plain (refuses k.world v)
   tells-refuses index v stands there s at =
-      ap (λ (r : Row). first_holding (r.refusals k.world s)) tells.row_is
+      ap (λ (r : CallRow). first_holding (r.refusals k.world s)) tells.row_is
       ∙ refused-on k.world s volume v (refuses k.world) (stands.opened s at) (found-at k number volume index v stands there)
 
   tells-refused : (index : ℕ) (v : VolumeState) (code : Code) (told : Told) → IsOpenAt k number volume index → slice_get k.world.volumes index ≡ Some v → refuses k.world v ≡ Some code
@@ -136,7 +136,7 @@ module _ (k : KeptWorld) (number : ℕ) (call : Call) (volume : ℕ) (refuses : 
   tells-done index v block told stands there passes bytes is = λ s at.
       let of : Effect = record { world = k.world; reply = reply k.world v } in
       let does : effect k.world s call ≡ of =
-      ap (λ (r : Row). r.effect k.world s) tells.row_is
+      ap (λ (r : CallRow). r.effect k.world s) tells.row_is
       ∙ ap (λ (o : Option VolumeState). done_on o k.world (λ x. record { world = k.world; reply = reply k.world x })) (found-at k number volume index v stands there) in
       has_effect k k s call told k.world (tells-refuses index v stands there s at ∙ ap (option_map plain) passes)
       (is ∙ told-effect call (effect k.world s call) of block does tells.goes_on bytes) refl (ap (λ (e : Effect). e.world) (sym does))
@@ -214,12 +214,12 @@ state-at volumes volume index v is = ap (λ (n : ℕ). with_state volumes n v) (
 module _ (k : KeptWorld) (number : ℕ) (call : Call) (volume : ℕ) (asked : TreeCall) (reply : VolumeState → AfpReply) (changes : ChangesTree call volume asked reply) where
   pub changes-unopened : (told : Told) → IsOpen k number volume None → told ≡ refusal_reply ParamErr → RunsRow k number call (with_ok (done told)) k
   changes-unopened told stands is = λ s at.
-      is_refused k k s call ParamErr told (ap (λ (r : Row). first_holding (r.refusals k.world s)) changes.row_is ∙ stands s at (λ v. tree_refusal v (opened_on k.world volume) asked)) is refl
+      is_refused k k s call ParamErr told (ap (λ (r : CallRow). first_holding (r.refusals k.world s)) changes.row_is ∙ stands s at (λ v. tree_refusal v (opened_on k.world volume) asked)) is refl
 
   changes-refuses : (index : ℕ) (v : VolumeState) → IsOpenAt k number volume index → slice_get k.world.volumes index ≡ Some v → (s : Session) → session_of k.world.sessions number ≡ Some s
       → refusal k.world s call ≡ option_map plain (tree_refusal v (opened_on k.world volume) asked)
   changes-refuses index v stands there s at =
-      ap (λ (r : Row). first_holding (r.refusals k.world s)) changes.row_is
+      ap (λ (r : CallRow). first_holding (r.refusals k.world s)) changes.row_is
       ∙ refused-on k.world s volume v (λ x. tree_refusal x (opened_on k.world volume) asked) (stands.opened s at) (found-at k number volume index v stands there)
 
   changes-refused : (new : KeptWorld) (index : ℕ) (code : Code) (told : Told) → IsOpenAt k number volume index
@@ -236,7 +236,7 @@ module _ (k : KeptWorld) (number : ℕ) (call : Call) (volume : ℕ) (asked : Tr
       let next = with_volume_state k.world volume (tree_effect v k.world.latest asked) in
       let of : Effect = record { world = next; reply = reply v } in
       let does : effect k.world s call ≡ of =
-      ap (λ (r : Row). r.effect k.world s) changes.row_is
+      ap (λ (r : CallRow). r.effect k.world s) changes.row_is
       ∙ ap (λ (o : Option VolumeState). done_on o k.world (λ x. record { world = with_volume_state k.world volume (tree_effect x k.world.latest asked); reply = reply x })) there in
       has_effect k new s call told next (changes-refuses index v stands b.was.state s at ∙ ap (option_map plain) b.is.0)
       (is ∙ told-effect call (effect k.world s call) of block does changes.goes_on (tells v there b.is.0))
@@ -248,7 +248,7 @@ module _ (k : KeptWorld) (number : ℕ) (call : Call) (volume : ℕ) (asked : Tr
       → BecomesKept k index (λ old one. Changes old k.world.latest (opened_on k.world volume) asked (Err change.Failed) one) new → told ≡ refusal_reply MiscErr → RunsRow k number call (with_ok (told, outcome.Fault)) new
   changes-fails new index told stands b is = λ s at.
       rw (changes-refuses index b.old.state stands b.was.state s at ∙ ap (option_map plain) b.is.0)
-      (keeper-fails k new _ _ _ told index (ap (λ (r : Row). r.committed k.world s) changes.row_is ∙ keeper-at volume index stands.id) is refl
+      (keeper-fails k new _ _ _ told index (ap (λ (r : CallRow). r.committed k.world s) changes.row_is ∙ keeper-at volume index stands.id) is refl
       record { old = b.old; one = b.one; was = b.was; is = b.is.1; now = b.now })
 
   changes-memory : (new : KeptWorld) (index : ℕ) → BecomesKept k index (λ old one. Changes old k.world.latest (opened_on k.world volume) asked (Err change.Memory) one) new → new ≡ k

@@ -16,7 +16,7 @@ use Rattle.afp_replies.specs.declared.reply.Reply.TheVariants.{Opened}
 use Rattle.afp_requests.specs.declared.call.Call.{Call}
 use Rattle.afp_requests.specs.declared.call.Call.TheVariants as call
 use Rattle.afp_serial.specs.Answer.{link_number, refusal_reply}
-use Rattle.afp_serial.specs.CallRow.{Effect, Refusal, Refused, Row, plain}
+use Rattle.afp_serial.specs.CallRow.{Effect, Refusal, Refused, CallRow, plain}
 use Rattle.afp_serial.specs.Fork.{OpenAsked, access_of, denied_of, file_asked, fork_in, fork_ref, has_most_forks, is_denied, lowest_free, new_fork, opened_reply, opens_asked, opens_fork, with_fork, with_open}
 use Rattle.afp_serial.specs.OnVolume.{opened_on, refused_before, refused_on}
 use Rattle.afp_serial.specs.Rows.{effect, ends_session, refusal, row}
@@ -26,7 +26,7 @@ use Rattle.afp_serial.specs.declared.ask.Outcome.{Outcome}
 use Rattle.afp_serial.specs.declared.ask.Told.{Told}
 use Rattle.afp_serial.specs.declared.ask.Told.TheVariants.{Reply}
 use Rattle.afp_volume.specs.OpenFork.{fork_values, is_resource, open_fork_file, open_fork_refusal}
-use Rattle.afp_volume.specs.Calls.{first_or}
+use Rattle.afp_volume.specs.Shared.{first_or}
 use Rattle.afp_volume.specs.Parms.{is_outside}
 use Rattle.afp_volume.specs.SoundVolume.{has_file}
 use Rattle.afp_volume.specs.VolumeState.{Row as File, VolumeState}
@@ -66,7 +66,7 @@ module _ (k : KeptWorld) (number : ℕ) (call : Call) (asked : OpenAsked) (dir :
   pub opens-unopened : (told : Told) → IsOpen k number asked.volume None → told ≡ refusal_reply ParamErr → RunsRow k number call (with_ok (done told)) k
   opens-unopened told stands tells = λ s at.
       is_refused-with k k s call (plain ParamErr) told
-      (ap (λ (r : Row). first_holding (r.refusals k.world s)) opens.row_is
+      (ap (λ (r : CallRow). first_holding (r.refusals k.world s)) opens.row_is
       ∙ first-before (not (has_opened s asked.volume)) (plain ParamErr) (refused_before (refused_on (volume_at k.world.volumes asked.volume) refuses) [])
       (refused_before (refused_on (volume_at k.world.volumes asked.volume) refuses) (denied_of k.world s asked (file_asked (volume_at k.world.volumes asked.volume) dir path)))
       (plain ParamErr) (stands s at refuses)
@@ -76,7 +76,7 @@ module _ (k : KeptWorld) (number : ℕ) (call : Call) (asked : OpenAsked) (dir :
     on-opened : (s : Session) → session_of k.world.sessions number ≡ Some s
         → refusal k.world s call ≡ first_holding (refused_before (refuses v) (denied_of k.world s asked (open_fork_file v dir path)))
     on-opened s at =
-        ap (λ (r : Row). first_holding (r.refusals k.world s)) opens.row_is
+        ap (λ (r : CallRow). first_holding (r.refusals k.world s)) opens.row_is
         ∙ ap (λ b. first_holding ((not b, plain ParamErr)
         ∷ refused_before (refused_on (volume_at k.world.volumes asked.volume) refuses) (denied_of k.world s asked (file_asked (volume_at k.world.volumes asked.volume) dir path)))) (stands.opened s at)
         ∙ ap (λ (o : Option VolumeState). first_holding (refused_before (refused_on o refuses) (denied_of k.world s asked (file_asked o dir path)))) (found-at k number asked.volume index v stands there)
@@ -103,7 +103,7 @@ module _ (k : KeptWorld) (number : ℕ) (call : Call) (asked : OpenAsked) (dir :
           on-opened s at ∙ ap (λ (o : Option Code). first_holding (refused_before o (denied_of k.world s asked (open_fork_file v dir path)))) passes
           ∙ ap (λ (o : Option File). first_holding (denied_of k.world s asked o)) (finds ∙ found);
       does = λ s at.
-          ap (λ (r : Row). r.effect k.world s) opens.row_is
+          ap (λ (r : CallRow). r.effect k.world s) opens.row_is
           ∙ ap (λ (o : Option VolumeState). opens_fork k.world s asked (file_asked o dir path)) (found-at k number asked.volume index v stands there)
           ∙ ap (λ (o : Option File). opens_fork k.world s asked o) (finds ∙ found);
       goes_on = opens.goes_on;

@@ -10,17 +10,17 @@ use Rattle.afp_serial.specs.Steps.{block_of, enclosed_of, refused, verdict_of_bl
 use Rattle.afp_serial.specs.World.{World, Session}
 
 -- The request comes to the row of this call, or is refused before; want of memory may take the place of each.
-abbrev pub ComesTo : World → Session → Request → List ℕ → Result Call Stop → Type 0
-ComesTo w s r block (Ok call) = verdict_of_block w s r block ≡ verdict_of_row call (refusal w s call)
-ComesTo w s r block (Err (Refused code)) = verdict_of_block w s r block ≡ refused (plain code)
-ComesTo w s r block (Err Memory) = Unit {0}
+abbrev pub ComesToRow : World → Session → Request → List ℕ → Result Call Stop → Type 0
+ComesToRow w s r block (Ok call) = verdict_of_block w s r block ≡ verdict_of_row call (refusal w s call)
+ComesToRow w s r block (Err (Refused code)) = verdict_of_block w s r block ≡ refused (plain code)
+ComesToRow w s r block (Err Memory) = Unit {0}
 
 -- that of every request with this block and these enclosed bytes, in a session that has a user or none
 abbrev pub IsJudged : Bool → List ℕ → Option (List ℕ) → Result Call Stop → Type 0
 IsJudged has_user block enclosed result =
     (w : World) (s : Session) (r : Request) → is_some s.user ≡ has_user → block_of r ≡ block → enclosed_of r ≡ enclosed
-    → ComesTo w s r block result
+    → ComesToRow w s r block result
 
 -- that of this request
 abbrev pub IsSpelled : Bool → Request → Result Call Stop → Type 0
-IsSpelled has_user r result = (w : World) (s : Session) → is_some s.user ≡ has_user → ComesTo w s r (block_of r) result
+IsSpelled has_user r result = (w : World) (s : Session) → is_some s.user ≡ has_user → ComesToRow w s r (block_of r) result

@@ -1,10 +1,10 @@
 //! FPRead and FPReadExt (AFP Reference, under these names).
 ghost use Rattle.std.specs.Prelude.{◌≡◌, ◌&&◌, min, nat_lt, not, [], Some, true, false, length, IfOk, OnOk};
+ghost use Rattle.afp_base.specs.Limits.{payload_limit};
 ghost use Rattle.afp_base.specs.Choice.{first_holding};
 ghost use Rattle.afp_base.specs.ForkBytes.{taken};
 ghost use Rattle.afp_requests.specs.declared.call.Call.{Call};
 ghost use Rattle.afp_serial.specs.ForkBytes.{ReadAsked, reads};
-ghost use Rattle.afp_serial.specs.Limits.{longest_block};
 ghost use Rattle.afp_serial.specs.OnFork.{is_locked};
 ghost use Rattle.afp_serial.specs.Rows.{ends_session, row};
 ghost use Rattle.afp_serial.specs.Sessions.{is_open};
@@ -19,15 +19,12 @@ ghost use Rattle.afp_core.specs.Turn.{IsReady, RunsRow};
 use crate::on_fork::OwnFork;
 use crate::replies::{done, refused};
 use crate::state::State;
-use afp_base::{Bytes, Code, ForkRef, OutOfMemory, SessionNumber};
+use afp_base::{Bytes, Code, ForkRef, MAX_PAYLOAD, OutOfMemory, SessionNumber};
 use afp_serial::{Outcome, Told};
 use deny_modes::ForkKey;
 use kept_volume::KeptVolume;
 use kept_volume::laws::lines_stop_at_characters;
 use record_keeper::Keeper;
-
-/// The most bytes of a reply (this profile).
-const MOST_READ: u64 = 131_072;
 
 /// What is read of a fork: at most `count` bytes from `from` on, up to the first whose value under the mask is the character. A mask of 0 stops
 /// at none.
@@ -56,9 +53,9 @@ fn span_of(offset: i64, count: i64, mask: u8, character: u8) -> Option<ReadSpan>
 
 /// How many of so many bytes are read at most.
 fn most_read(count: u64) -> u32
-    ensures { result ≡ min count longest_block }
+    ensures { result ≡ min count payload_limit }
 {
-    count.min(MOST_READ) as u32
+    count.min(u64::from(MAX_PAYLOAD)) as u32
 }
 
 /// Reads the bytes of a fork into a block that has none. Whether there were fewer.

@@ -3,7 +3,8 @@
 ghost use Rattle.std.specs.Prelude.{OnOk, OnErr};
 ghost use Rattle.afp_requests.specs.Appl.{add_appl, add_appl_reader, remove_appl, remove_appl_reader, get_appl, get_appl_reader};
 ghost use Rattle.afp_fields.specs.Taking.{Gives};
-ghost use Rattle.afp_fields.specs.Putting.{PutsAll, Keeps};
+ghost use Rattle.afp_base.specs.Appended.{Keeps};
+ghost use Rattle.afp_fields.specs.Putting.{PutsAll};
 
 use afp_base::{Bytes, NodeId, OutOfMemory};
 use afp_fields::{Fields, put_bytes, put_command, put_pad, put_path, put_u16, put_u32};

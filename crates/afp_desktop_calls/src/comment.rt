@@ -3,7 +3,8 @@
 ghost use Rattle.std.specs.Prelude.{◌<◌, length, OnOk, OnErr};
 ghost use Rattle.afp_requests.specs.Comment.{add_comment, add_comment_reader, remove_comment, remove_comment_reader, get_comment, get_comment_reader};
 ghost use Rattle.afp_fields.specs.Taking.{Gives};
-ghost use Rattle.afp_fields.specs.Putting.{PutsAll, Keeps};
+ghost use Rattle.afp_base.specs.Appended.{Keeps};
+ghost use Rattle.afp_fields.specs.Putting.{PutsAll};
 
 use afp_base::{Bytes, NodeId, OutOfMemory};
 use afp_fields::{Fields, put_command, put_even, put_pad, put_path, put_str, put_u16, put_u32};

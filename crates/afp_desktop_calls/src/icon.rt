@@ -3,7 +3,8 @@
 ghost use Rattle.std.specs.Prelude.{◌<◌, length, OnOk, OnErr, []};
 ghost use Rattle.afp_requests.specs.Icon.{add_icon, add_icon_reader, get_icon, get_icon_reader, get_icon_info, get_icon_info_reader};
 ghost use Rattle.afp_fields.specs.Taking.{Gives};
-ghost use Rattle.afp_fields.specs.Putting.{PutsAll, Keeps};
+ghost use Rattle.afp_base.specs.Appended.{Keeps};
+ghost use Rattle.afp_fields.specs.Putting.{PutsAll};
 
 use afp_base::{Bytes, OutOfMemory};
 use afp_fields::{Fields, put_bytes, put_command, put_pad, put_u8, put_u16, put_u32};

@@ -3,7 +3,8 @@
 ghost use Rattle.std.specs.Prelude.{OnOk, OnErr};
 ghost use Rattle.afp_requests.specs.Parameters.{set_dir_parms, set_dir_parms_reader, get_file_dir_parms, get_file_dir_parms_reader, set_file_dir_parms, set_file_dir_parms_reader};
 ghost use Rattle.afp_fields.specs.Taking.{Gives};
-ghost use Rattle.afp_fields.specs.Putting.{PutsAll, Keeps};
+ghost use Rattle.afp_base.specs.Appended.{Keeps};
+ghost use Rattle.afp_fields.specs.Putting.{PutsAll};
 
 use afp_base::{Bytes, NodeId, OutOfMemory, VolumeId};
 use afp_fields::{Fields, put_bytes, put_command, put_even, put_pad, put_path, put_u16, put_u32};

@@ -1,6 +1,7 @@
 -- How the fields of a request are put, one after the other.
 use Rattle.std.specs.Prelude.{◌≡◌, ◌≢◌, ℕ, ◌-◌, List, [], ◌∷◌, ◌++◌, length, take, Option, Some, None, Result, OnOk, OnErr}
 use Rattle.std.specs.List.{AllByRecursion}
+use Rattle.afp_base.specs.Appended.{Keeps}
 use Rattle.afp_base.specs.declared.bytes.OutOfMemory.{OutOfMemory}
 use Rattle.afp_requests.specs.declared.call.Call.{Call}
 use Rattle.afp_requests.specs.Call.{layout_of}
@@ -25,10 +26,6 @@ Puts f old new = PutsIn 0 f old new
 pub record PutsAll (fs : List Field) (old new : List ℕ) : Type 0 where
   pub typed : AllByRecursion (λ f. IsTyped f.word f.value) fs
   pub bytes : put_on (length old) fs old ≡ new
-
--- what stood there still stands there, in front
-abbrev pub Keeps : List ℕ → List ℕ → Type 0
-Keeps old new = take (length old) new ≡ old
 
 -- the law: what is put field by field is what the fields are together
 abbrev pub PutTogether : Type 0

@@ -6,7 +6,8 @@ ghost use Rattle.afp_names.specs.LongName.{shown_byte};
 ghost use Rattle.afp_names.specs.Path.{IsPath, canonical_path, longest_path, step_bytes, element_of};
 ghost use Rattle.afp_requests.specs.Words.{Pathname, pathname, hint_size, count_size};
 ghost use Rattle.afp_fields.specs.Taking.{Takes, TakesText};
-ghost use Rattle.afp_fields.specs.Putting.{Puts, Keeps};
+ghost use Rattle.afp_base.specs.Appended.{Keeps};
+ghost use Rattle.afp_fields.specs.Putting.{Puts};
 
 use crate::fields::Fields;
 use afp_base::{Bytes, OutOfMemory};

@@ -3,7 +3,8 @@
 ghost use Rattle.std.specs.Prelude.{◌≡◌, OnOk, OnErr, []};
 ghost use Rattle.afp_requests.specs.ForkBytes.{read, read_reader, read_ext, read_ext_reader, write, write_reader, write_ext, write_ext_reader, piece_size};
 ghost use Rattle.afp_fields.specs.Taking.{Gives};
-ghost use Rattle.afp_fields.specs.Putting.{PutsAll, Keeps};
+ghost use Rattle.afp_base.specs.Appended.{Keeps};
+ghost use Rattle.afp_fields.specs.Putting.{PutsAll};
 
 use afp_base::{Bytes, ForkRef, OutOfMemory};
 use afp_fields::{Fields, put_command, put_i32, put_i64, put_pad, put_u8, put_u16, put_u32};

@@ -1,6 +1,6 @@
 -- What a link to a peer is seen as, and what its reads and writes do to it (this profile).
 use Rattle.std.specs.Prelude.{◌≡◌, ℕ, ◌≤◌, Bool, true, false, List, [], ◌∷◌, ◌++◌, length, take, Option, IfSome, option_map}
-use Rattle.afp_base.specs.Counts.{Rises, Counts}
+use Rattle.afp_base.specs.Counts.{Rises, CountsOn}
 use Rattle.afp_outside.specs.declared.link.Heard.{Heard}
 use Rattle.afp_outside.specs.declared.link.Heard.TheVariants.{Got, Quiet, End, Failed}
 use Rattle.afp_outside.specs.declared.link.Wrote.{Wrote}
@@ -52,7 +52,7 @@ pub record ReadsQuiet (old new : LinkState) : Type 0 where
   pub ended : new.ended ≡ old.ended
   pub read_faults : old.read_faults ≤ new.read_faults
   pub write_faults : new.write_faults ≡ old.write_faults
-  pub quiets : Counts 1 old.quiets new.quiets
+  pub quiets : CountsOn 1 old.quiets new.quiets
   pub heard : new.heard ≡ old.heard
 
 -- A read that found the end: no byte is left. Its clock may fail too.
@@ -106,7 +106,7 @@ pub record FailsToWrite (old new : LinkState) : Type 0 where
   pub written : new.written ≡ old.written
   pub ended : new.ended ≡ old.ended
   pub read_faults : new.read_faults ≡ old.read_faults
-  pub write_faults : Counts 1 old.write_faults new.write_faults
+  pub write_faults : CountsOn 1 old.write_faults new.write_faults
   pub quiets : new.quiets ≡ old.quiets
   pub now : new.now ≡ old.now
   pub heard : new.heard ≡ old.heard

@@ -1,6 +1,6 @@
 -- A door through which links come, and what its calls do to it (this profile).
 use Rattle.std.specs.Prelude.{◌≡◌, ℕ, ◌+◌, Bool, true, List, [], ◌∷◌, ◌++◌}
-use Rattle.afp_base.specs.Counts.{Counts}
+use Rattle.afp_base.specs.Counts.{CountsOn}
 use Rattle.afp_outside.specs.Link.{LinkState, IsFresh}
 use Rattle.afp_outside.specs.declared.listener.Accepted.{Accepted}
 use Rattle.afp_outside.specs.declared.listener.Accepted.TheVariants.{Link, Closed, Failed}
@@ -33,7 +33,7 @@ pub record FailsToAccept {L : Type 0} (old new : DoorState L) : Type 0 where
   pub handed : new.handed ≡ old.handed
   pub back : new.back ≡ old.back
   pub closed : new.closed ≡ old.closed
-  pub faults : Counts 1 old.faults new.faults
+  pub faults : CountsOn 1 old.faults new.faults
 
 -- An accept by its answer; `state` is what a link of this door is seen as.
 abbrev pub Accepts : {L : Type 0} → (L → LinkState) → DoorState L → Accepted L → DoorState L → Type 0

@@ -1,6 +1,6 @@
 -- Where a report goes, and what a write does to it (this profile).
 use Rattle.std.specs.Prelude.{◌≡◌, ℕ, ◌≤◌, List, ◌++◌, length, take, Option, option_map}
-use Rattle.afp_base.specs.Counts.{Counts}
+use Rattle.afp_base.specs.Counts.{CountsOn}
 use Rattle.afp_outside.specs.declared.link.Wrote.{Wrote}
 use Rattle.afp_outside.specs.declared.link.Wrote.TheVariants.{Took, Failed}
 
@@ -19,7 +19,7 @@ pub record SinkTakes (old : SinkState) (offered : List ℕ) (n : ℕ) (new : Sin
 -- A write that failed: it wrote nothing, and its fault is counted, once.
 pub record SinkFails (old new : SinkState) : Type 0 where
   pub written : new.written ≡ old.written
-  pub faults : Counts 1 old.faults new.faults
+  pub faults : CountsOn 1 old.faults new.faults
 
 -- A write by its answer.
 abbrev pub SinkWrites : SinkState → List ℕ → Wrote → SinkState → Type 0

@@ -1,6 +1,6 @@
 -- Where bytes come from, and what a read of them does (this profile).
 use Rattle.std.specs.Prelude.{◌≡◌, ℕ, ◌≤◌, Bool, true, List, [], ◌++◌, length, take, Option, IfSome, option_map}
-use Rattle.afp_base.specs.Counts.{Counts}
+use Rattle.afp_base.specs.Counts.{CountsOn}
 use Rattle.afp_outside.specs.declared.link.Heard.{Heard}
 use Rattle.afp_outside.specs.declared.link.Heard.TheVariants.{Got, Quiet, End, Failed}
 
@@ -34,7 +34,7 @@ pub record SourceFails (old new : SourceState) : Type 0 where
   pub given : new.given ≡ old.given
   pub coming : new.coming ≡ old.coming
   pub ended : new.ended ≡ old.ended
-  pub faults : Counts 1 old.faults new.faults
+  pub faults : CountsOn 1 old.faults new.faults
 
 -- A read by its answer; `room` is the buffer after it. It is never a quiet.
 abbrev pub SourceReads : SourceState → List ℕ → Heard → SourceState → Type 0

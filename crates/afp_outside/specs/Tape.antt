@@ -15,16 +15,16 @@ use Rattle.afp_outside.specs.declared.listener.Accepted.{Accepted}
 use Rattle.afp_outside.specs.declared.listener.Accepted.TheVariants.{Link, Closed, Failed as AcceptFailed}
 
 -- The numbers of the calls that fail, and how many calls were made: the number of the next one.
-pub record Calls : Type 0 where
+pub record PlannedCalls : Type 0 where
   pub failing : List ℕ
   pub made : ℕ
 
 -- whether the next call fails
-abbrev pub fails : Calls → Bool
+abbrev pub fails : PlannedCalls → Bool
 fails calls = list_any (λ number. number == calls.made) calls.failing
 
 -- after one call more
-abbrev pub after_call : Calls → Calls
+abbrev pub after_call : PlannedCalls → PlannedCalls
 after_call calls = record { failing = calls.failing; made = counted 1 calls.made }
 
 -- What reads gave, and the bytes that they have left.
@@ -88,7 +88,7 @@ pub record Tape : Type 0 where
   pub reads : List ℕ
   pub writes : List ℕ
   pub moments : List ℕ
-  pub calls : Calls
+  pub calls : PlannedCalls
 
 -- it tells all
 abbrev pub link_of : Tape → LinkState
@@ -152,7 +152,7 @@ pub record TapeReads (old : Tape) (room : ℕ) (heard : Heard) (new : Tape) : Ty
   pub calls : new.calls ≡ after_call old.calls
 
 -- what a write of n bytes answers by the plan; one that finds no memory fails too
-abbrev pub IsWroteBy : Calls → List ℕ → ℕ → Wrote → List ℕ → Type 0
+abbrev pub IsWroteBy : PlannedCalls → List ℕ → ℕ → Wrote → List ℕ → Type 0
 IsWroteBy calls sizes n (Took k) left = (fails calls ≡ false) × (k ≡ write_size sizes n) × (left ≡ drop 1 sizes)
 IsWroteBy calls sizes n WriteFailed left = left ≡ sizes
 
@@ -173,7 +173,7 @@ pub record TapeReport : Type 0 where
   pub written : List ℕ
   pub faults : ℕ
   pub writes : List ℕ
-  pub calls : Calls
+  pub calls : PlannedCalls
 
 -- it tells all
 abbrev pub sink_of : TapeReport → SinkState
@@ -192,7 +192,7 @@ pub record TapeDoor : Type 0 where
   pub back : List Tape
   pub closed : Bool
   pub faults : ℕ
-  pub calls : Calls
+  pub calls : PlannedCalls
 
 abbrev pub door_of : TapeDoor → DoorState Tape
 door_of door = record { handed = door.handed; back = door.back; closed = door.closed; faults = door.faults }
@@ -220,7 +220,7 @@ pub record SourceTape : Type 0 where
   pub ended : Bool
   pub faults : ℕ
   pub reads : List ℕ
-  pub calls : Calls
+  pub calls : PlannedCalls
 
 -- it tells all
 abbrev pub source_of : SourceTape → SourceState

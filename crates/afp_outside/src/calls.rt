@@ -6,25 +6,25 @@ use std::marker::Model;
 
 /// Calls that are numbered from 0, some of which fail.
 #[derive(Drop)]
-pub struct Calls {
+pub struct PlannedCalls {
     failing: Vec<u64>,
     made: u64,
 }
 
-impl Model for Calls {
-    ghost use Rattle.afp_outside.specs.Tape.{Calls};
+impl Model for PlannedCalls {
+    ghost use Rattle.afp_outside.specs.Tape.{PlannedCalls};
 
-    ghost Value = { Calls };
+    ghost Value = { PlannedCalls };
 
     ghost view = { λ calls. record { failing = calls.failing.items; made = calls.made } };
 }
 
-impl Calls {
+impl PlannedCalls {
     /// No call was made, and those with these numbers fail.
-    pub fn new(failing: Vec<u64>) -> Calls
+    pub fn new(failing: Vec<u64>) -> PlannedCalls
         ensures { result ≡ record { failing = failing.items; made = 0 } }
     {
-        Calls { failing, made: 0 }
+        PlannedCalls { failing, made: 0 }
     }
 
     /// Counts a call, and says whether it fails.

@@ -3,7 +3,7 @@ ghost use Rattle.std.specs.Prelude.{◌≡◌, ◌<◌, length, drop, IsOk, IfOk
 ghost use Rattle.afp_outside.specs.Link.{Reads, Writes};
 ghost use Rattle.afp_outside.specs.Tape.{link_of, fresh_tape, TapeReads, TapeWrites, next_moment, read_size};
 
-use crate::calls::Calls;
+use crate::calls::PlannedCalls;
 use crate::incoming::Incoming;
 use crate::link::{Heard, Link, Wrote};
 use crate::outgoing::Outgoing;
@@ -19,7 +19,7 @@ use std::marker::Model;
 pub struct TapeLink {
     incoming: Incoming,
     outgoing: Outgoing,
-    calls: Calls,
+    calls: PlannedCalls,
     reads: VecDeque<usize>,
     moments: VecDeque<Moment>,
     ended: bool,
@@ -74,7 +74,7 @@ impl TapeLink {
         Ok(TapeLink {
             incoming: Incoming::new(bytes),
             outgoing: Outgoing::new(alloc, writes),
-            calls: Calls::new(failing),
+            calls: PlannedCalls::new(failing),
             reads: VecDeque::from(reads),
             moments: VecDeque::from(moments),
             ended: false,

@@ -4,7 +4,7 @@ ghost use Rattle.afp_outside.specs.Link.{IsFresh};
 ghost use Rattle.afp_outside.specs.Listener.{Accepts, TakesBack};
 ghost use Rattle.afp_outside.specs.Tape.{link_of, door_of, IsFreshTape, TapeAccepts};
 
-use crate::calls::Calls;
+use crate::calls::PlannedCalls;
 use crate::listener::{Accepted, Listener};
 use crate::tape_link::TapeLink;
 use afp_base::OutOfMemory;
@@ -23,7 +23,7 @@ pub struct TapeListener {
     back: Log<TapeLink>,
     closed: bool,
     faults: u64,
-    calls: Calls,
+    calls: PlannedCalls,
 }
 
 impl Model for TapeListener {
@@ -65,7 +65,7 @@ impl TapeListener {
             back: Log::new(),
             closed: false,
             faults: 0,
-            calls: Calls::new(failing),
+            calls: PlannedCalls::new(failing),
         })
     }
 

@@ -3,7 +3,7 @@ ghost use Rattle.std.specs.Prelude.{◌≡◌, ◌<◌, [], length, IsOk, IfOk};
 ghost use Rattle.afp_outside.specs.Sink.{SinkWrites};
 ghost use Rattle.afp_outside.specs.Tape.{sink_of, ReportWrites};
 
-use crate::calls::Calls;
+use crate::calls::PlannedCalls;
 use crate::link::Wrote;
 use crate::outgoing::Outgoing;
 use crate::sink::Sink;
@@ -15,7 +15,7 @@ use std::marker::Model;
 #[derive(Drop)]
 pub struct TapeSink {
     outgoing: Outgoing,
-    calls: Calls,
+    calls: PlannedCalls,
     faults: u64,
 }
 
@@ -48,7 +48,7 @@ impl TapeSink {
     {
         Ok(TapeSink {
             outgoing: Outgoing::new(alloc, writes),
-            calls: Calls::new(failing),
+            calls: PlannedCalls::new(failing),
             faults: 0,
         })
     }

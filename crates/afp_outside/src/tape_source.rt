@@ -3,7 +3,7 @@ ghost use Rattle.std.specs.Prelude.{◌≡◌, ◌≤◌, ◌<◌, ◌++◌, [],
 ghost use Rattle.afp_outside.specs.Source.{SourceReads};
 ghost use Rattle.afp_outside.specs.Tape.{source_of, fresh_source, source_read_size, TapeSourceReads};
 
-use crate::calls::Calls;
+use crate::calls::PlannedCalls;
 use crate::link::Heard;
 use crate::source::Source;
 use afp_base::{Bytes, OutOfMemory};
@@ -65,7 +65,7 @@ impl Remaining {
 pub struct TapeSource {
     bytes: Remaining,
     reads: VecDeque<usize>,
-    calls: Calls,
+    calls: PlannedCalls,
     ended: bool,
     faults: u64,
 }
@@ -102,7 +102,7 @@ impl TapeSource {
         Ok(TapeSource {
             bytes: Remaining::new(bytes),
             reads: VecDeque::from(reads),
-            calls: Calls::new(failing),
+            calls: PlannedCalls::new(failing),
             ended: false,
             faults: 0,
         })

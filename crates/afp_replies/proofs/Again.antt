@@ -18,7 +18,7 @@ use Rattle.afp_replies.specs.declared.volumes.VolumeEntry.{VolumeEntry}
 use Rattle.afp_replies.specs.Bytes as bytes
 use Rattle.afp_replies.specs.Bytes.{width, counted, flag_of}
 use Rattle.afp_replies.specs.Entry.{is_dir, bits_for, kind_for, pad_count, entry_bytes, FitsEntry}
-use Rattle.afp_replies.specs.Words.{Word, Number, Exactly, Asked, Raw, Pad, Counted, Flag, Entry, Value, Spells}
+use Rattle.afp_replies.specs.Words.{ReplyWord, Number, Exactly, Asked, Raw, Pad, Counted, Flag, Entry, Value, Spells}
 use Rattle.afp_replies.specs.Layout.{Layout, Is, Then, Params, Begins, Has}
 use Rattle.afp_replies.specs.Layouts as layouts
 use Rattle.afp_replies.specs.Layouts.{optional, optional_text, volumes, volume, entries, node_params, mapped}
@@ -34,7 +34,7 @@ pub record Good (l : Layout) (r : Reply) : Type 0 where
   pub again : Has l r (canonical_reply r)
 
 -- a field and what follows it
-pub put_front : (w : Word) (P : Value w → List ℕ → List ℕ → Type 0) (x : Value w) (first rest : List ℕ) → Spells w x first → P x first rest → Begins w P (first ++ rest)
+pub put_front : (w : ReplyWord) (P : Value w → List ℕ → List ℕ → Type 0) (x : Value w) (first rest : List ℕ) → Spells w x first → P x first rest → Begins w P (first ++ rest)
 put_front w P x first rest s p = record { value = x; first = first; rest = rest; spelt = s; split = refl; behind = p }
 
 good_empty : (r : Reply) (b : List ℕ) → Has layouts.empty r b → Good layouts.empty r
@@ -158,7 +158,7 @@ good_message bits r b h =
 -- ---- volumes and entries
 
 -- so many of a list behind others
-pub record Row {X : Type 0} (part : List X → (List X → Layout) → Layout) (bytes_of : X → List ℕ) (Fits : X → Type 0) (count : ℕ) (before : List X) (next : List X → Layout) (r : Reply) : Type 0 where
+pub record TakesList {X : Type 0} (part : List X → (List X → Layout) → Layout) (bytes_of : X → List ℕ) (Fits : X → Type 0) (count : ℕ) (before : List X) (next : List X → Layout) (r : Reply) : Type 0 where
   pub all : List X
   pub size : length all ≡ count
   pub fit : AllByRecursion Fits all
@@ -170,7 +170,7 @@ pub with_more : {X : Type 0} (before : List X) (x : X) (all : List X) → (befor
 with_more before x all = append_assoc before (x ∷ []) all
 
 row_none : {X : Type 0} (part : List X → (List X → Layout) → Layout) (bytes_of : X → List ℕ) (Fits : X → Type 0) (before : List X) (next : List X → Layout) (r : Reply) (b : List ℕ)
-    → part before next ≡ next before → Has (part before next) r b → Row part bytes_of Fits 0 before next r
+    → part before next ≡ next before → Has (part before next) r b → TakesList part bytes_of Fits 0 before next r
 row_none {X} part bytes_of Fits before next r b e h =
     let same : before ++ [] ≡ before = append-nil before in
     record {
@@ -191,7 +191,7 @@ unfolding volumes
 volumes_suc more before next = refl
 
 pub row_of_volumes : (count : ℕ) (before : List VolumeEntry) (next : List VolumeEntry → Layout) (r : Reply) (b : List ℕ) → Has (volumes count before next) r b
-    → Row (volumes count) volume_bytes FitsVolume count before next r
+    → TakesList (volumes count) volume_bytes FitsVolume count before next r
 row_of_volumes zero before next r b h = row_none (volumes 0) volume_bytes FitsVolume before next r b (volumes_zero before next) h
 row_of_volumes (suc count) before next r b h =
     let flags = subst (λ (l : Layout). Has l r b) (volumes_suc count before next) h in
@@ -231,7 +231,7 @@ pub entry_spelt : (wide : Bool) (fb db : ℕ) (e : ListEntry) → FitsEntry wide
 entry_spelt wide fb db e f = record { fits = f; pads = replicate (pad_count wide) 0; pads_are = length-replicate (pad_count wide) 0; bytes_are = refl }
 
 pub row_of_entries : (wide : Bool) (fb db count : ℕ) (before : List ListEntry) (next : List ListEntry → Layout) (r : Reply) (b : List ℕ) → Has (entries wide fb db count before next) r b
-    → Row (entries wide fb db count) (entry_bytes wide fb db) (FitsEntry wide fb db) count before next r
+    → TakesList (entries wide fb db count) (entry_bytes wide fb db) (FitsEntry wide fb db) count before next r
 row_of_entries wide fb db zero before next r b h =
     row_none (entries wide fb db 0) (entry_bytes wide fb db) (FitsEntry wide fb db) before next r b (entries_zero wide fb db before next) h
 row_of_entries wide fb db (suc count) before next r b h =

@@ -9,7 +9,7 @@ use Rattle.afp_bitmap.specs.declared.params.Values.TheVariants as kinds
 use Rattle.afp_bitmap.specs.Bits.{is_asked}
 use Rattle.afp_bitmap.specs.Field.{Field, Number, Date, Finder, LongName, Utf8Name, fixed_bytes, name_parts, pad_of, long_name_bytes, utf8_name_bytes, IsTyped}
 use Rattle.afp_bitmap.specs.Params.{asked_of, fixed_parts, size_of_fixed_part, name_size, params, IsAnswer}
-use Rattle.afp_bitmap.specs.Table.{Row, rows, volume_rows, file_rows, dir_rows}
+use Rattle.afp_bitmap.specs.Table.{FieldRow, rows, volume_rows, file_rows, dir_rows}
 use Rattle.afp_replies.specs.declared.list.ListEntry.{ListEntry}
 use Rattle.afp_replies.specs.Bytes.{flag_of, width}
 use Rattle.afp_replies.specs.Entry.{is_dir, bits_for, kind_for, node_params, pad_count, head_size, entry_bytes, FitsEntry}
@@ -69,7 +69,7 @@ even_all_names : (fs : List Field) → length (concat (flat_map name_parts fs)) 
 even_all_names [] = refl
 even_all_names (f ∷ fs) = even_both (name_parts f) (flat_map name_parts fs) (even_names f) (even_all_names fs)
 
-even_asked : (bits : ℕ) (rs : List Row) → AllByRecursion (λ r. EvenField r.1) rs → AllByRecursion EvenField (asked_of bits rs)
+even_asked : (bits : ℕ) (rs : List FieldRow) → AllByRecursion (λ r. EvenField r.1) rs → AllByRecursion EvenField (asked_of bits rs)
 unfolding asked_of
 even_asked bits [] h = tt
 even_asked bits (r ∷ rs) h =

@@ -3,7 +3,7 @@ use Rattle.std.proofs.Common.{◌≡◌, ℕ, suc, ◌+◌, ◌-◌, ◌≤◌, 
 use Rattle.afp_replies.specs.declared.reply.Reply.{Reply}
 use Rattle.afp_replies.specs.declared.reply.ReplyFault.{ReplyFault}
 use Rattle.afp_replies.specs.declared.reply.ReplyFault.TheVariants.{Bad, Memory}
-use Rattle.afp_replies.specs.Words.{Word, Number, Counted, Entry, Value}
+use Rattle.afp_replies.specs.Words.{ReplyWord, Number, Counted, Entry, Value}
 use Rattle.afp_replies.specs.Layout.{Layout, Is, Never, Then, Remaining, Params, Has, StopsAt}
 use Rattle.afp_replies.specs.lemma.Reading.{Rest, Took, IsRead, Takes, Reads, Ends, TakesParams}
 use Rattle.afp_bitmap.specs.declared.params.Values.{Values}
@@ -17,12 +17,12 @@ no_rest : (bytes : List ℕ) → 0 < length bytes → bytes ≡ [] → ⊥
 no_rest bytes lt e = let size : length bytes ≡ 0 = ap (length {A = ℕ}) e in omega arith
 
 -- whoever has the layout from a field on has it behind the field
-behind : (w : Word) (next : Value w → Layout) (old new : Rest) (x : Value w) (s : Reply) → Took w old x new → Has (Then w next) s old.bytes → Has (next x) s new.bytes
+behind : (w : ReplyWord) (next : Value w → Layout) (old new : Rest) (x : Value w) (s : Reply) → Took w old x new → Has (Then w next) s old.bytes → Has (next x) s new.bytes
 behind w next old new x s t b =
     let p = t.only b.value b.first b.rest b.spelt b.split in
     subst (λ (y : Value w). Has (next y) s new.bytes) p.0 (subst (λ (r : List ℕ). Has (next b.value) s r) p.1 b.behind)
 
-pub goes_on : (w : Word) (next : Value w → Layout) (old new : Rest) (x : Value w) (res : Result Reply ReplyFault) → Took w old x new → IsRead (next x) new res → IsRead (Then w next) old res
+pub goes_on : (w : ReplyWord) (next : Value w → Layout) (old new : Rest) (x : Value w) (res : Result Reply ReplyFault) → Took w old x new → IsRead (next x) new res → IsRead (Then w next) old res
 unfolding IsRead
 goes_on w next old new x (Ok r) t h = record {
   has = record { value = x; first = t.first; rest = new.bytes; spelt = t.spelt; split = t.split; behind = h.has };
@@ -41,7 +41,7 @@ goes_on w next old new x (Err (Bad at)) t h = record {
   none = λ s b. h.none s (behind w next old new x s t b);
 }
 
-pub stops_here : (w : Word) (next : Value w → Layout) (old new : Rest) (e : ReplyFault) → Takes w old (Err e) new → IsRead (Then w next) old (Err e)
+pub stops_here : (w : ReplyWord) (next : Value w → Layout) (old new : Rest) (e : ReplyFault) → Takes w old (Err e) new → IsRead (Then w next) old (Err e)
 unfolding IsRead
 stops_here w next old new Memory h = tt
 stops_here w next old new (Bad at) h = record {

@@ -10,7 +10,7 @@ use Rattle.afp_replies.specs.declared.list.ListEntry.{ListEntry}
 use Rattle.afp_replies.specs.declared.reply.Reply.{Reply}
 use Rattle.afp_replies.specs.Bytes.{width, flag_of}
 use Rattle.afp_replies.specs.Entry.{is_dir, bits_for, kind_for, head_size, IsEntry}
-use Rattle.afp_replies.specs.Words.{Word, Number, Exactly, Asked, Raw, Pad, Counted, Flag, Entry, Value, Spells}
+use Rattle.afp_replies.specs.Words.{ReplyWord, Number, Exactly, Asked, Raw, Pad, Counted, Flag, Entry, Value, Spells}
 use Rattle.afp_replies.specs.Layout.{Layout, Is, Never, Then, Remaining, Params, Has}
 use Rattle.afp_replies.proofs.NumberLemmas.{IsBytes, IsBytes-take, IsBytes-drop, length-big_bytes}
 use Rattle.afp_replies.proofs.Spellings.{number_alone}
@@ -47,7 +47,7 @@ one_block law kind bits v w a b bytes e =
     let small : kind_of v ≤ 2 = kind_small v in
     law kind bits v w (omega arith) a b bytes e
 
-record Same (w : Word) (x y : Value w) (r s : List ℕ) : Type 0 where
+record Same (w : ReplyWord) (x y : Value w) (r s : List ℕ) : Type 0 where
   value : x ≡ y
   rest : r ≡ s
 
@@ -71,7 +71,7 @@ same_entry law wide fb db x y f g r s b hx hy e =
       rest = same_behind (length f) f g r s refl size e;
     }
 
-one_value : OneBlock → (w : Word) (x y : Value w) (f g r s : List ℕ) → IsBytes (f ++ r) → Spells w x f → Spells w y g → f ++ r ≡ g ++ s → Same w x y r s
+one_value : OneBlock → (w : ReplyWord) (x y : Value w) (f g r s : List ℕ) → IsBytes (f ++ r) → Spells w x f → Spells w y g → f ++ r ≡ g ++ s → Same w x y r s
 one_value law (Number n) x y f g r s b hx hy e =
     let lf : length f ≡ n = ap (length {A = ℕ}) hx.1 ∙ length-big_bytes n x in
     let lg : length g ≡ n = ap (length {A = ℕ}) hy.1 ∙ length-big_bytes n y in

@@ -10,11 +10,11 @@ use Rattle.afp_replies.specs.Layout.{Layout, Never}
 use Rattle.afp_replies.specs.Layouts as layouts
 
 -- a command, and the shape of its reply
-abbrev pub Row : Type 0
-Row = ℕ × Shape
+abbrev pub ShapeRow : Type 0
+ShapeRow = ℕ × Shape
 
 -- AFP Reference, "AFP Calls"
-unfoldable pub rows : List Row
+unfoldable pub rows : List ShapeRow
 rows =
     (1, Start)  -- FPByteRangeLock
     ∷ (2, Empty)  -- FPCloseVol
@@ -76,7 +76,7 @@ rows =
     ∷ []
 
 -- the shape in the row of a command
-unfoldable pub shape_in : List Row → ℕ → Shape
+unfoldable pub shape_in : List ShapeRow → ℕ → Shape
 shape_in [] command = Unlisted
 shape_in (row ∷ rows) command = if row.0 == command then row.1 else shape_in rows command
 

@@ -3,18 +3,18 @@ use Rattle.std.specs.Prelude.{◌≡◌, ◌⊎◌, ℕ, ◌+◌, ◌<◌, List,
 use Rattle.afp_bitmap.specs.declared.params.Values.{Values}
 use Rattle.afp_bitmap.specs.Params.{params, IsAnswer, IsBadAt}
 use Rattle.afp_replies.specs.declared.reply.Reply.{Reply}
-use Rattle.afp_replies.specs.Words.{Word, Value, Spells, FaultAt}
+use Rattle.afp_replies.specs.Words.{ReplyWord, Value, Spells, FaultAt}
 
 -- A layout, field by field: the end, and the reply that it is; no reply at all; a field, and what follows it for each value; all that remains; the parameters of a kind that these bits ask for, up to the end.
 pub data Layout : Type 0 where
   Is : Reply → Layout
   Never : Layout
-  Then : (w : Word) → (Value w → Layout) → Layout
+  Then : (w : ReplyWord) → (Value w → Layout) → Layout
   Remaining : (List ℕ → Reply) → Layout
   Params : ℕ → ℕ → (Values → Reply) → Layout
 
 -- the bytes begin with the field, and this holds of its value, its bytes and the bytes behind it
-pub record Begins (w : Word) (Then : Value w → List ℕ → List ℕ → Type 0) (bytes : List ℕ) : Type 0 where
+pub record Begins (w : ReplyWord) (Then : Value w → List ℕ → List ℕ → Type 0) (bytes : List ℕ) : Type 0 where
   pub value : Value w
   pub first : List ℕ
   pub rest : List ℕ
@@ -23,7 +23,7 @@ pub record Begins (w : Word) (Then : Value w → List ℕ → List ℕ → Type 
   pub behind : Then value first rest
 
 -- the bytes do not begin with the field, whatever its value
-abbrev pub Lacks : Word → List ℕ → Type 0
+abbrev pub Lacks : ReplyWord → List ℕ → Type 0
 Lacks w bytes = (x : Value w) (first rest : List ℕ) → Spells w x first → bytes ≡ first ++ rest → ⊥
 
 -- the bytes have the layout, as this reply

@@ -10,18 +10,18 @@ use Rattle.afp_replies.specs.Entry.{IsEntry, IsEntryBadAt}
 -- the bits that were asked, which lie in this mask; so many bytes as they are; a pad byte;
 -- a count in so many bytes and the text that it counts; the flag of a directory or a file;
 -- an entry of a list, narrow or wide, for these bits of files and directories.
-pub data Word : Type 0 where
-  Number : ℕ → Word
-  Exactly : ℕ → ℕ → Word
-  Asked : ℕ → ℕ → Word
-  Raw : ℕ → Word
-  Pad : Word
-  Counted : ℕ → Word
-  Flag : Word
-  Entry : Bool → ℕ → ℕ → Word
+pub data ReplyWord : Type 0 where
+  Number : ℕ → ReplyWord
+  Exactly : ℕ → ℕ → ReplyWord
+  Asked : ℕ → ℕ → ReplyWord
+  Raw : ℕ → ReplyWord
+  Pad : ReplyWord
+  Counted : ℕ → ReplyWord
+  Flag : ReplyWord
+  Entry : Bool → ℕ → ℕ → ReplyWord
 
 -- what a field tells
-abbrev pub Value : Word → Type 0
+abbrev pub Value : ReplyWord → Type 0
 Value (Number n) = ℕ
 Value (Exactly n x) = Unit {0}
 Value (Asked mask bits) = Unit {0}
@@ -32,7 +32,7 @@ Value Flag = Bool
 Value (Entry wide file_bits dir_bits) = ListEntry
 
 -- These bytes are the field with this value. A reply's own pad byte has any value; those inside parameters are 0. A flag has no value but two (this profile).
-abbrev pub Spells : (w : Word) → Value w → List ℕ → Type 0
+abbrev pub Spells : (w : ReplyWord) → Value w → List ℕ → Type 0
 Spells (Number n) x bytes = (x < 256 ^ n) × (bytes ≡ big_bytes n x)
 Spells (Exactly n y) x bytes = bytes ≡ big_bytes n y
 Spells (Asked mask bits) x bytes = IsWithin mask bits × (bytes ≡ big_bytes 2 bits)
@@ -43,6 +43,6 @@ Spells Flag x bytes = bytes ≡ flag_of x ∷ []
 Spells (Entry wide file_bits dir_bits) x bytes = IsEntry wide file_bits dir_bits x bytes
 
 -- the place of the fault where bytes that begin at `place` do not begin with the field: inside an entry, else the field's own
-abbrev pub FaultAt : Word → ℕ → List ℕ → ℕ → Type 0
+abbrev pub FaultAt : ReplyWord → ℕ → List ℕ → ℕ → Type 0
 FaultAt (Entry wide file_bits dir_bits) place bytes at = IsEntryBadAt wide file_bits dir_bits place bytes at
 FaultAt w place bytes at = at ≡ place

@@ -1,9 +1,8 @@
 //! Numbers and bytes of fields.
 ghost use Rattle.std.specs.Prelude.{◌≡◌, ◌≤◌, ◌<◌, ◌^◌, ◌++◌, length, OnOk, OnErr};
-ghost use Rattle.afp_bitmap.specs.Bits.{is_asked};
 ghost use Rattle.afp_replies.specs.Entry.{head_size};
 ghost use Rattle.afp_replies.specs.Bytes.{counted, width};
-ghost use Rattle.afp_replies.specs.lemma.Writing.{Keeps};
+ghost use Rattle.afp_base.specs.Appended.{Keeps};
 
 use afp_base::{Bytes, OutOfMemory};
 
@@ -31,13 +30,6 @@ pub(crate) const MESSAGE_MASK: u16 = 0x0003;
 pub(crate) const MESSAGE_BIT: u32 = 0;
 
 pub(crate) const UTF8_BIT: u32 = 1;
-
-/// The bit is set.
-pub(crate) fn is_asked(bits: u16, bit: u32) -> bool
-    ensures { result ≡ is_asked bits bit }
-{
-    bit < 16 && bits >> bit & 1 == 1
-}
 
 /// How many bytes a count or a length has.
 pub(crate) fn width(wide: bool) -> usize

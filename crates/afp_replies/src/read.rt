@@ -10,13 +10,12 @@ use crate::commands::{
 use crate::cursor::Cursor;
 use crate::fields::{
     DIR, FILE, GROUP_ID_BIT, MESSAGE_BIT, MESSAGE_MASK, USER_ID_BIT, USER_INFO_MASK, UTF8_BIT,
-    is_asked,
 };
 use crate::list::ListRows;
 use crate::reply::{Reply, ReplyFault};
 use crate::volumes::{VolumeEntry, VolumeList};
 use afp_base::{ForkRef, NodeId};
-use afp_bitmap::{DirBits, FileBits};
+use afp_bitmap::{DirBits, FileBits, is_asked};
 use std::alloc::Global;
 
 /// No bytes.

@@ -11,14 +11,15 @@ ghost use Rattle.afp_replies.specs.Entry.{is_dir, bits_for, pad_count, node_para
 ghost use Rattle.afp_replies.specs.Numbers.{file_kind, utf8_bit};
 ghost use Rattle.afp_replies.specs.Replies.{volume_bytes, message_bytes, canonical_reply, IsShown};
 ghost use Rattle.afp_replies.specs.Fitting.{FitsVolume, FitsList};
-ghost use Rattle.afp_replies.specs.lemma.Writing.{Keeps, FitsParams, FitsNode, FitsMessage, CanWrite};
+ghost use Rattle.afp_base.specs.Appended.{Keeps};
+ghost use Rattle.afp_replies.specs.lemma.Writing.{FitsParams, FitsNode, FitsMessage, CanWrite};
 
-use crate::fields::{DIRECTORY, UTF8_BIT, is_asked, put_text};
+use crate::fields::{DIRECTORY, UTF8_BIT, put_text};
 use crate::list::ListEntry;
 use crate::reply::Reply;
 use crate::volumes::VolumeEntry;
 use afp_base::{Bytes, OutOfMemory};
-use afp_bitmap::{Values, put_params};
+use afp_bitmap::{Values, is_asked, put_params};
 use byteorder::{BigEndian, ByteOrder};
 
 /// Appends a number of 4 bytes, where there is one.

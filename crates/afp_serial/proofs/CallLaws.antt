@@ -4,6 +4,7 @@ use Rattle.std.proofs.lemmas.Bool.{and_from, and_parts, leb-true}
 use Rattle.afp_serial.proofs.StaysSound.{answer-fits}
 use Rattle.afp_serial.proofs.Verdicts.{comes-to, kept-verdict, runs-of}
 use Rattle.std.specs.Prelude.{is_some}
+use Rattle.afp_base.specs.Limits.{payload_limit}
 use Rattle.afp_requests.specs.declared.call.Call.{Call}
 use Rattle.afp_serial.specs.declared.ask.Ask.{Ask}
 use Rattle.afp_serial.specs.declared.ask.Ask.TheVariants as ask
@@ -12,7 +13,6 @@ use Rattle.afp_serial.specs.declared.ask.Outcome.{Outcome}
 use Rattle.afp_serial.specs.declared.ask.Outcome.TheVariants as outcome
 use Rattle.afp_serial.specs.Answer.{answer, after, answer_at, after_at, after_call, after_verdict, committed_at, committed_by, committed_in, committed_of, is_legal_outcome, request, told_call, told_verdict}
 use Rattle.afp_serial.specs.Laws.{FailsInPlace, FitsFrame, HidesNoRefusal, MayFail, TellsKept}
-use Rattle.afp_serial.specs.Limits.{longest_block}
 use Rattle.afp_serial.specs.Ranges.{is_typed_entry}
 use Rattle.afp_serial.specs.Rows.{committed}
 use Rattle.afp_serial.specs.Sessions.{session_at}
@@ -21,7 +21,7 @@ use Rattle.afp_serial.specs.Steps.{Verdict, repeats, refused, runs, verdict}
 use Rattle.afp_serial.specs.World.{World, Session, at_moment}
 
 pub fits-frame : FitsFrame
-fits-frame w e code block ends sound legal is = leb-true (length block) longest_block (ap fits_frame (sym is) ∙ answer-fits w e sound legal)
+fits-frame w e code block ends sound legal is = leb-true (length block) payload_limit (ap fits_frame (sym is) ∙ answer-fits w e sound legal)
 
 -- a call of an attached session, by its verdict
 

@@ -19,7 +19,7 @@ use Rattle.afp_serial.proofs.OpenForkBytes.{Has, tree-lets-be}
 use Rattle.afp_serial.proofs.OpenVolRow.{opens-keeps}
 use Rattle.afp_serial.proofs.VolumeStates.{state-at, state-other}
 use Rattle.afp_serial.proofs.Written.{bytes-seen, other-bytes}
-use Rattle.afp_serial.specs.CallRow.{Row, with_empty_reply}
+use Rattle.afp_serial.specs.CallRow.{CallRow, with_empty_reply}
 use Rattle.afp_serial.specs.Fork.{access_of, close_fork_row, file_asked, flush_fork_row, get_fork_parms_reply, get_fork_parms_row, is_other_length, length_for, open_fork_row, set_fork_parms_row}
 use Rattle.afp_serial.specs.ForkBytes.{WriteAsked, is_from_end, read_ext_row, read_row, write_end, write_start, writes, writes_some, written_bytes}
 use Rattle.afp_serial.specs.ForkHistory.{bytes_in, bytes_on, changes_by, has_open, put_of, through}
@@ -43,7 +43,7 @@ use Rattle.afp_serial.specs.OpenDir.{close_dir_row, open_dir_row}
 use Rattle.afp_base.specs.declared.code.Code.{Code}
 use Rattle.afp_volume.proofs.ForkEffects.{fork-given, fork-lets-be}
 use Rattle.afp_volume.proofs.TestedLists.{any-map, any-still, any-weaker}
-use Rattle.afp_volume.specs.Calls.{Opened, is_busy}
+use Rattle.afp_volume.specs.Shared.{Opened, is_busy}
 use Rattle.afp_volume.specs.CreateDir.{create_dir_id}
 use Rattle.afp_volume.specs.CreateFile.{is_hard}
 use Rattle.afp_volume.specs.ForkEffect.{fork_effect, fork_of}
@@ -86,10 +86,10 @@ busy-open w fork there =
 
 -- rows that let open forks be
 
-record LeavesForks (row : Row) : Type 0 where
+record LeavesForks (row : CallRow) : Type 0 where
   leaves : (w : World) (s : Session) (fork : Fork) (bytes : List ℕ) → has_open w fork ≡ true → first_holding (row.refusals w s) ≡ None → bytes_in w fork ≡ Some bytes → bytes_in (row.effect w s).world fork ≡ Some bytes
 
-keeps-volumes : (row : Row) → ((w : World) (s : Session) → (row.effect w s).world.volumes ≡ w.volumes) → LeavesForks row
+keeps-volumes : (row : CallRow) → ((w : World) (s : Session) → (row.effect w s).world.volumes ≡ w.volumes) → LeavesForks row
 keeps-volumes row same = record { leaves = λ w s fork bytes there passes h. same-volumes w (row.effect w s).world fork bytes (same w s) h }
 
 tells-leave : (volume : ℕ) (refuses : World → VolumeState → Option Code) (reply : World → VolumeState → Reply) → LeavesForks (tells_of volume refuses reply)

@@ -3,6 +3,7 @@ use Rattle.std.proofs.Common.{◌==◌, ◌≡◌, sym, refl, subst, ℕ, ℤ, p
 use Rattle.std.specs.Prelude.{not, nat_abs}
 use Rattle.std.proofs.lemmas.Bool.{le-leb}
 use Rattle.std.proofs.lemmas.List.{append-nil, length-take}
+use Rattle.afp_base.specs.Limits.{payload_limit}
 use Rattle.afp_base.specs.Choice.{first_holding}
 use Rattle.afp_base.specs.declared.code.Code.TheVariants.{AccessDenied, BitmapErr, EOFErr, LockErr, ParamErr}
 use Rattle.afp_base.specs.declared.ids.ForkRef.{ForkRef}
@@ -28,12 +29,11 @@ use Rattle.afp_serial.proofs.ToldReplies.{empty-told}
 use Rattle.afp_serial.specs.CallRow.{plain}
 use Rattle.afp_serial.specs.Fork.{close_fork_row, flush_fork_row, get_fork_parms_row}
 use Rattle.afp_serial.specs.ForkBytes.{ReadAsked, ahead, most_read, read_bytes, read_ext_row, read_refusals, read_reply, read_row, reads, stop_in, up_to}
-use Rattle.afp_serial.specs.Limits.{longest_block}
 use Rattle.afp_serial.specs.OnFork.{OpenFile, bytes_of}
 use Rattle.afp_serial.specs.OnVolume.{opened_on}
 use Rattle.afp_serial.specs.ReplyKinds.{command_of, reply_kind}
 use Rattle.afp_volume.proofs.ToldValues.{node-told}
-use Rattle.afp_volume.specs.Calls.{Opened}
+use Rattle.afp_volume.specs.Shared.{Opened}
 use Rattle.afp_volume.specs.NodeValues.{dir_values, file_values, node_values}
 use Rattle.afp_volume.specs.OpenFork.{fork_values}
 use Rattle.afp_volume.specs.Parms.{is_outside}
@@ -88,7 +88,7 @@ file-params-told call bits file asks answer inside =
     let size = params-size 1 bits values answer in
     let whole : length (canonical_reply (Params bits values)) ≡ 2 + length (params bits values) = two-parts (u16 bits) (params bits values) in
     record {
-      short = le-leb (length (canonical_reply (Params bits values))) longest_block (omega (arith, size, whole));
+      short = le-leb (length (canonical_reply (Params bits values))) payload_limit (omega (arith, size, whole));
       fits = record { fits = (omega arith, record { within = within file_mask bits inside; answer = answer }); told = asks };
     }
 
@@ -121,16 +121,16 @@ up-to-short : (place : Option ℕ) (bytes : List ℕ) (n : ℕ) → length bytes
 up-to-short None bytes n h = h
 up-to-short (Some place) bytes n h = let is = length-take (place + 1) bytes in omega (arith, is, h)
 
-pub read-short : (bytes : List ℕ) (asked : ReadAsked) → length (read_bytes bytes asked) ≤ longest_block
+pub read-short : (bytes : List ℕ) (asked : ReadAsked) → length (read_bytes bytes asked) ≤ payload_limit
 unfolding read_bytes
 read-short bytes asked =
     let few : length (ahead bytes asked) ≤ most_read asked = let is = length-take (most_read asked) (drop (nat_abs asked.offset) bytes) in omega (arith, is) in
-    up-to-short (stop_in asked (ahead bytes asked)) (ahead bytes asked) longest_block (omega (arith, few))
+    up-to-short (stop_in asked (ahead bytes asked)) (ahead bytes asked) payload_limit (omega (arith, few))
 
 piece-short : (asked : ReadAsked) (f : OpenFile) → is_short (read_reply asked f) ≡ true
 piece-short asked f =
-    le-leb (length (canonical_reply (read_reply asked f))) longest_block
-    (subst (λ (l : List ℕ). length l ≤ longest_block) (sym (append-nil (read_bytes (bytes_of f) asked))) (read-short (bytes_of f) asked))
+    le-leb (length (canonical_reply (read_reply asked f))) payload_limit
+    (subst (λ (l : List ℕ). length l ≤ payload_limit) (sym (append-nil (read_bytes (bytes_of f) asked))) (read-short (bytes_of f) asked))
 
 -- at the end of the fork it is told what it read
 abbrev Ends : Call → Type 0

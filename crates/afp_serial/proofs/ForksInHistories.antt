@@ -5,6 +5,7 @@ use Rattle.std.specs.Int.{is_negative}
 use Rattle.std.specs.List.{list_any}
 use Rattle.std.proofs.lemmas.Bool.{and_from, and_parts, cond_both, eq-eqb, false_from_ne_true, ltb-true}
 use Rattle.std.proofs.lemmas.List.{append-nil}
+use Rattle.afp_base.specs.Limits.{payload_limit}
 use Rattle.afp_base.proofs.DefinitionLaws.{one_fork}
 use Rattle.afp_base.specs.Choice.{first_holding}
 use Rattle.afp_base.specs.Cached.{Request}
@@ -34,7 +35,6 @@ use Rattle.afp_serial.specs.ForkBytes.{ReadAsked, meets_end, most_read, read_byt
 use Rattle.afp_serial.specs.ForkHistory.{all_changes, bytes_in, bytes_on, changes_asked, changes_at, changes_by, changes_in, changes_of, has_open, put_of, stays_open, through}
 use Rattle.afp_serial.specs.History.{is_lawful, stand}
 use Rattle.afp_serial.specs.HistoryLaws.{ForksHaveTheirChanges, MayRead, NeverByteTwice, NeverTwoConflict, PutsPiece, ReadsAll, WrittenIsNotRefused, WrittenIsRead, WrittenIsThere, WritesPutTheirPiece}
-use Rattle.afp_serial.specs.Limits.{longest_block}
 use Rattle.afp_serial.specs.OnFork.{OpenFile, bytes_of, done_with, is_locked, on_fork, open_file}
 use Rattle.afp_serial.specs.Rows.{effect, ends_session, refusal, row}
 use Rattle.afp_serial.specs.Sessions.{session_at, volume_at}
@@ -174,7 +174,7 @@ record ReadsIt (w : World) (s : Session) (call : Call) (piece : List ℕ) : Type
   passes : refusal w s call ≡ None
   reply : (effect w s call).reply ≡ Piece piece
 
-module _ (w : World) (s : Session) (fork : Fork) (at : ℕ) (piece bytes : List ℕ) (few : length piece ≤ longest_block) (had : bytes_in w fork ≡ Some bytes) (there : taken bytes at (length piece) ≡ piece) where
+module _ (w : World) (s : Session) (fork : Fork) (at : ℕ) (piece bytes : List ℕ) (few : length piece ≤ payload_limit) (had : bytes_in w fork ≡ Some bytes) (there : taken bytes at (length piece) ≡ piece) where
   reads-it : (reference character : ℕ) → MayRead w s reference at (length piece) fork
       → (first_holding ((reads reference (read_of at (length piece) character)).refusals w s) ≡ None) × (((reads reference (read_of at (length piece) character)).effect w s).reply ≡ Piece piece)
   reads-it reference character may =

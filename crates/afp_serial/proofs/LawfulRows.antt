@@ -1,22 +1,22 @@
 -- What a sound row owes, in the words of the law.
 use Rattle.std.proofs.Common.{◌≡◌, ◌≢◌, ◌∙◌, ap, sym, ◌≤◌, true, false, length}
 use Rattle.std.proofs.lemmas.Bool.{leb-true}
+use Rattle.afp_base.specs.Limits.{payload_limit}
 use Rattle.afp_base.specs.declared.code.Code.TheVariants.{Ok}
 use Rattle.afp_replies.specs.Replies.{canonical_reply}
 use Rattle.afp_requests.specs.declared.call.Call.{Call}
 use Rattle.afp_serial.proofs.SoundRow.{IsRefusedTo, IsSoundRow, is_ok}
-use Rattle.afp_serial.specs.CallRow.{Refused, Row}
+use Rattle.afp_serial.specs.CallRow.{Refused, CallRow}
 use Rattle.afp_serial.specs.ForkLaws.{IsLawfulRow}
-use Rattle.afp_serial.specs.Limits.{longest_block}
 
-refused-parts : (call : Call) (r : Refused) → IsRefusedTo call r → (r.code ≢ Ok) × (length (canonical_reply r.reply) ≤ longest_block)
-refused-parts call r t = (λ is. let bad : true ≡ false = ap is_ok (sym is) ∙ t.code in cc, leb-true (length (canonical_reply r.reply)) longest_block t.short)
+refused-parts : (call : Call) (r : Refused) → IsRefusedTo call r → (r.code ≢ Ok) × (length (canonical_reply r.reply) ≤ payload_limit)
+refused-parts call r t = (λ is. let bad : true ≡ false = ap is_ok (sym is) ∙ t.code in cc, leb-true (length (canonical_reply r.reply)) payload_limit t.short)
 
-pub row-lawful : (call : Call) (row : Row) → IsSoundRow call row → IsLawfulRow call row
+pub row-lawful : (call : Call) (row : CallRow) → IsSoundRow call row → IsLawfulRow call row
 row-lawful call row h = record {
   sound = h.sound;
   shown = h.shown;
-  fits = λ w s lawful passes sound. leb-true (length (canonical_reply (row.effect w s).reply)) longest_block (h.fits w s lawful passes sound);
+  fits = λ w s lawful passes sound. leb-true (length (canonical_reply (row.effect w s).reply)) payload_limit (h.fits w s lawful passes sound);
   refuses = λ w s r is sound. refused-parts call r (h.refuses w s r is sound);
   keeper = h.keeper;
 }

@@ -5,6 +5,7 @@ use Rattle.std.specs.List.{AllByRecursion, Contains, concat, list_all}
 use Rattle.std.proofs.lemmas.Bool.{and_parts, eqb-true, leb-true}
 use Rattle.std.proofs.lemmas.List.{length-append, length-map}
 use Rattle.std.proofs.lemmas.List.Sums.{sum_by-cons}
+use Rattle.afp_base.specs.Limits.{payload_limit}
 use Rattle.byteorder.specs.Endian.{big_bytes}
 use Rattle.afp_base.specs.declared.code.Code.TheVariants.{BitmapErr}
 use Rattle.afp_bitmap.specs.Bits.{file_mask, dir_mask}
@@ -22,8 +23,8 @@ use Rattle.afp_volume.proofs.ListReplies.{entries-are-asked, entries-fit}
 use Rattle.afp_volume.proofs.Ordered.{is-here, is-later}
 use Rattle.afp_volume.proofs.Refusals.{none-first}
 use Rattle.afp_volume.proofs.ToldValues.{node-told}
-use Rattle.afp_volume.specs.Calls.{Opened}
-use Rattle.afp_volume.specs.Enumerate.{ListAsked, list_head, entry_head, longest_entry, longest_reply, entry_size, fits_reply, entries, enumerate_refusal}
+use Rattle.afp_volume.specs.Shared.{Opened}
+use Rattle.afp_volume.specs.Enumerate.{ListAsked, list_head, entry_head, longest_entry, entry_size, fits_reply, entries, enumerate_refusal}
 use Rattle.afp_volume.specs.NodeValues.{bits_of, node_values, dir_values, file_values}
 use Rattle.afp_volume.specs.Parms.{is_outside}
 use Rattle.afp_volume.specs.SoundVolume.{IsSoundVolume}
@@ -107,7 +108,7 @@ unfolding list_reply enumerate_refusal fits_reply
 list-is-shown v opens asked dir id path few passes is s t =
     let nodes : List Row = entries v.rows opens asked id in
     let first = none-first ((is_outside file_mask asked.file_bits, BitmapErr) ∷ (is_outside dir_mask asked.dir_bits, BitmapErr) ∷ ((asked.file_bits == 0) && (asked.dir_bits == 0), BitmapErr) ∷ []) _ passes in
-    let fits = and_parts (nat_le (list_head + sum_by (entry_size v.rows opens asked) nodes) (min asked.size longest_reply)) (list_all (λ node. nat_le (entry_size v.rows opens asked node) (longest_entry asked.wide)) nodes)
+    let fits = and_parts (nat_le (list_head + sum_by (entry_size v.rows opens asked) nodes) (min asked.size payload_limit)) (list_all (λ node. nat_le (entry_size v.rows opens asked node) (longest_entry asked.wide)) nodes)
     (entries-fit v opens asked dir id path passes is) in
     let count : length nodes ≤ asked.count = entries-are-asked v.rows opens asked id in (
       record {
@@ -116,7 +117,7 @@ list-is-shown v opens asked dir id path few passes is s t =
         dir = within dir_mask asked.dir_bits first.0.1.0;
         each = all-fit v opens asked nodes fits.1 (λ row there short. one-fits v opens asked id row s t there short);
       },
-      subst (λ n. n ≤ min asked.size longest_reply) (sym (list-has-its-size v.rows opens asked nodes)) (leb-true (list_head + sum_by (entry_size v.rows opens asked) nodes) (min asked.size longest_reply) fits.0),
+      subst (λ n. n ≤ min asked.size payload_limit) (sym (list-has-its-size v.rows opens asked nodes)) (leb-true (list_head + sum_by (entry_size v.rows opens asked) nodes) (min asked.size payload_limit) fits.0),
     )
   where
     below : (a b : ℕ) → a ≤ b → b < 65536 → a < 65536

@@ -3,6 +3,7 @@ use Rattle.std.proofs.Common.{◌==◌, ◌≡◌, ◌∙◌, ap, sym, refl, ℕ
 use Rattle.std.specs.Prelude.{count_by, filter, nat_abs, nat_le}
 use Rattle.std.specs.List.{list_all, list_any}
 use Rattle.std.proofs.lemmas.Bool.{and_parts, and_from, cond_both, eqb-true, eq-eqb, leb-true, leb-false, le-leb}
+use Rattle.afp_base.specs.Limits.{payload_limit}
 use Rattle.afp_base.proofs.DefinitionLaws.{one_fork}
 use Rattle.afp_base.specs.Choice.{first_holding}
 use Rattle.afp_base.specs.DenyMode.{Fork, is_one_fork}
@@ -26,7 +27,7 @@ use Rattle.afp_serial.proofs.WriteRows.{start-small}
 use Rattle.afp_serial.specs.CallRow.{Refusal}
 use Rattle.afp_serial.specs.ForkBytes.{start_in}
 use Rattle.afp_serial.specs.LawfulCall.{is_lawful_call, is_signed}
-use Rattle.afp_serial.specs.Limits.{longest_block, most_locks}
+use Rattle.afp_serial.specs.Limits.{most_locks}
 use Rattle.afp_serial.specs.Lock.{LockAsked, byte_range_lock_ext_row, byte_range_lock_row, has_most_locks, is_lock, is_met_by_own, lock_asked, locked, locking_refusals, locks, locks_range, range_asked, range_of, range_refusals, range_to, unlocked}
 use Rattle.afp_serial.specs.OnFork.{OpenFile, bytes_of, is_met_by_other, meets_lock, placed}
 use Rattle.afp_serial.specs.Sessions.{is_open}
@@ -237,7 +238,7 @@ byte-range-lock-asks flags reference offset length start = refl
 
 start-told : (call : Call) (n : ℕ) → Asks call (Start n) → n ≤ most_fork_bytes + 2147483648 → IsToldTo call (Start n)
 start-told call n asks small = record {
-  short = let h : length (canonical_reply (Start n)) ≡ 4 = refl in le-leb (length (canonical_reply (Start n))) longest_block (omega (arith, h));
+  short = let h : length (canonical_reply (Start n)) ≡ 4 = refl in le-leb (length (canonical_reply (Start n))) payload_limit (omega (arith, h));
   fits = record { fits = omega (arith, small); told = asks };
 }
 
@@ -253,7 +254,7 @@ byte-range-lock-ext-asks flags reference offset length start = refl
 
 start-ext-told : (call : Call) (n : ℕ) → Asks call (StartExt n) → n ≤ most_fork_bytes + 9223372036854775808 → IsToldTo call (StartExt n)
 start-ext-told call n asks small = record {
-  short = let h : length (canonical_reply (StartExt n)) ≡ 8 = refl in le-leb (length (canonical_reply (StartExt n))) longest_block (omega (arith, h));
+  short = let h : length (canonical_reply (StartExt n)) ≡ 8 = refl in le-leb (length (canonical_reply (StartExt n))) payload_limit (omega (arith, h));
   fits = record { fits = omega (arith, small); told = asks };
 }
 

@@ -8,7 +8,7 @@ use Rattle.afp_names.specs.Name.{name_key}
 use Rattle.afp_names.specs.Path.{PathValue}
 use Rattle.afp_volume.proofs.Refusals.{at-found, none-holds}
 use Rattle.afp_volume.proofs.SeenRows.{changes-let-be, changes-seen, gone-lets-be}
-use Rattle.afp_volume.specs.Calls.{Opened, created, delete_inhibit, directory_of, done_at, has_attribute, has_no_ids, is_busy, name_of}
+use Rattle.afp_volume.specs.Shared.{Opened, created, delete_inhibit, directory_of, done_at, has_attribute, has_no_ids, is_busy, name_of}
 use Rattle.afp_volume.specs.CreateDir.{create_dir_effect}
 use Rattle.afp_volume.specs.CreateFile.{create_file_effect, create_file_refusal, create_file_there, without_replaced}
 use Rattle.afp_volume.specs.Delete.{delete_effect, delete_refusal}

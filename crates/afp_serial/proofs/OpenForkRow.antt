@@ -4,6 +4,7 @@ use Rattle.std.specs.Prelude.{Result, Ok, Err, count_by, find, nat_le}
 use Rattle.std.specs.List.{list_all, list_any}
 use Rattle.std.proofs.lemmas.Bool.{and_parts, and_from, both_ways, eq-eqb, eqb-true, leb-false, leb-true, le-leb, or_left, or_right}
 use Rattle.std.proofs.lemmas.List.{length-append}
+use Rattle.afp_base.specs.Limits.{payload_limit}
 use Rattle.afp_base.specs.Choice.{first_holding}
 use Rattle.afp_base.specs.DenyMode.{Access, Fork, do_conflict, is_clash, is_denied_by, is_one_fork}
 use Rattle.afp_base.specs.Overlap.{do_meet}
@@ -37,7 +38,7 @@ use Rattle.afp_serial.proofs.VolumeCodes.{is_refusal, open-fork-refuses}
 use Rattle.afp_serial.proofs.VolumeStates.{IsServed, served-at}
 use Rattle.afp_serial.specs.CallRow.{Refused, plain}
 use Rattle.afp_serial.specs.Fork.{OpenAsked, access_of, denied_of, file_asked, fork_in, fork_ref, has_most_forks, is_denied, lowest_free, new_fork, open_fork_row, opened_reply, opens_asked, opens_fork, with_fork, with_open}
-use Rattle.afp_serial.specs.Limits.{longest_block, most_forks, most_locks}
+use Rattle.afp_serial.specs.Limits.{most_forks, most_locks}
 use Rattle.afp_serial.specs.OnVolume.{refused_before, opened_on, refused_on}
 use Rattle.afp_serial.specs.ReplyKinds.{command_of, reply_kind}
 use Rattle.afp_serial.specs.Sessions.{has_opened, has_session, is_open, volume_at}
@@ -49,7 +50,7 @@ use Rattle.afp_volume.proofs.SeenRows.{file-found, test-found}
 use Rattle.afp_volume.proofs.TestedLists.{all-weaker, any-weaker, contra, count-none, find-passes, none-all}
 use Rattle.afp_volume.proofs.Trees.{tree-parts}
 use Rattle.afp_volume.proofs.Walks.{row-there}
-use Rattle.afp_volume.specs.Calls.{behind, done_at, has_attribute, write_inhibit}
+use Rattle.afp_volume.specs.Shared.{behind, done_at, has_attribute, write_inhibit}
 use Rattle.afp_volume.specs.NodeValues.{file_values}
 use Rattle.afp_volume.specs.OpenFork.{file_of, fork_values, is_resource, open_fork_file, open_fork_refusal}
 use Rattle.afp_volume.specs.Parms.{is_outside}
@@ -263,7 +264,7 @@ module _ (w : World) (s : Session) (asked : OpenAsked) (file : File) where
 
 -- what is told
 
-opened-size : (bits reference : ℕ) (values : Values) → IsAnswer 1 bits values → length (canonical_reply (Opened bits (fork_ref reference) values)) ≤ longest_block
+opened-size : (bits reference : ℕ) (values : Values) → IsAnswer 1 bits values → length (canonical_reply (Opened bits (fork_ref reference) values)) ≤ payload_limit
 opened-size bits reference values answer =
     let size = params-size 1 bits values answer in
     let end = length-append (params bits values) [] in
@@ -273,7 +274,7 @@ opened-size bits reference values answer =
 reply-short : (w : World) (asked : OpenAsked) (reference : ℕ) (v : VolumeState) (file : File) → IsServed v asked.volume → IsFileFound v file → is_short (opened_reply w asked reference file) ≡ true
 unfolding opened_reply
 reply-short w asked reference v file served f =
-    le-leb (length (canonical_reply (opened_reply w asked reference file))) longest_block
+    le-leb (length (canonical_reply (opened_reply w asked reference file))) payload_limit
     (opened-size asked.bits reference (fork_values (opened_on w asked.volume) asked.bits file) (file-answer v (opened_on w asked.volume) asked.bits f.id file f.row f.kind served.sound served.typed))
 
 opened-told : (call : Call) (w : World) (asked : OpenAsked) (reference : ℕ) (v : VolumeState) (file : File) → ((r : ℕ) (values : FileValues) → Asks call (Opened asked.bits (fork_ref r) (FileParams values))) → IsServed v asked.volume → IsFileFound v file → is_outside file_mask asked.bits ≡ false → reference < 65536

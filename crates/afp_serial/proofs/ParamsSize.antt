@@ -13,7 +13,7 @@ use Rattle.std.specs.Int.{w32, cast_unsigned}
 use Rattle.afp_bitmap.specs.Bits.{is_asked}
 use Rattle.afp_bitmap.specs.Field.{Field, Number, Date, Finder, LongName, Utf8Name, IsCountable, IsTyped, blank, fixed_bytes, long_name_bytes, name_parts, pad_of, utf8_name_bytes}
 use Rattle.afp_bitmap.specs.Params.{IsAnswer, RowFits, asked, asked_of, fixed_parts, name_size, params, size_of_fixed_part}
-use Rattle.afp_bitmap.specs.Table.{Row, dir_rows, file_rows, rows, volume_rows}
+use Rattle.afp_bitmap.specs.Table.{FieldRow, dir_rows, file_rows, rows, volume_rows}
 use Rattle.afp_bitmap.specs.declared.params.Values.{Values}
 use Rattle.afp_bitmap.specs.declared.params.Values.TheVariants.{Dir, File, Volume}
 
@@ -25,7 +25,7 @@ most_bytes (Finder info) = 32
 most_bytes (LongName name) = 260
 most_bytes (Utf8Name name) = 65550
 
-abbrev pub most_of : List Row → ℕ
+abbrev pub most_of : List FieldRow → ℕ
 most_of [] = 0
 most_of (r ∷ rs) = most_bytes r.1 + most_of rs
 
@@ -58,7 +58,7 @@ field-size place (Utf8Name name) c t =
 abbrev bytes_of : ℕ → List Field → ℕ
 bytes_of place fs = length (concat (fixed_parts place fs)) + length (concat (flat_map name_parts fs))
 
-asked-size : (place bits : ℕ) (rs : List Row) → AllByRecursion (RowFits bits) rs → AllByRecursion (λ r. IsTyped r.1) rs → bytes_of place (asked_of bits rs) ≤ most_of rs
+asked-size : (place bits : ℕ) (rs : List FieldRow) → AllByRecursion (RowFits bits) rs → AllByRecursion (λ r. IsTyped r.1) rs → bytes_of place (asked_of bits rs) ≤ most_of rs
 unfolding asked_of
 asked-size place bits [] fits typed = omega arith
 asked-size place bits (r ∷ rs) fits typed = elim (cases_Bool (is_asked bits r.0)) [

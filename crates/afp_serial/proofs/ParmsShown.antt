@@ -10,7 +10,7 @@ use Rattle.afp_serial.specs.ParmsReplies.{VolumeIsShown, NodeIsShown}
 use Rattle.afp_volume.proofs.CallsSound.{or-none}
 use Rattle.afp_volume.proofs.Refusals.{none-first, none-holds}
 use Rattle.afp_volume.proofs.ToldValues.{node-told, volume-told}
-use Rattle.afp_volume.specs.Calls.{Opened, done_at}
+use Rattle.afp_volume.specs.Shared.{Opened, done_at}
 use Rattle.afp_volume.specs.GetFileDirParms.{get_file_dir_parms_refusal, get_file_dir_parms_values}
 use Rattle.afp_volume.specs.GetVolParms.{get_vol_parms_refusal}
 use Rattle.afp_volume.specs.NodeValues.{node_values, dir_values, file_values}

@@ -3,6 +3,7 @@ use Rattle.std.proofs.Common.{◌≡◌, ap, sym, refl, subst, ℕ, ◌<◌, Boo
 use Rattle.std.specs.Prelude.{find, nat_le}
 use Rattle.std.specs.List.{list_all}
 use Rattle.std.proofs.lemmas.Bool.{and_parts, cond_both}
+use Rattle.afp_base.specs.Limits.{payload_limit}
 use Rattle.afp_base.specs.Choice.{first_holding}
 use Rattle.afp_base.specs.declared.code.Code.{Code}
 use Rattle.afp_base.specs.declared.code.Code.TheVariants.{DenyConflict, EOFErr, Ok}
@@ -14,9 +15,8 @@ use Rattle.afp_replies.specs.declared.reply.Reply.{Reply}
 use Rattle.afp_replies.specs.declared.reply.Reply.TheVariants.{Empty}
 use Rattle.afp_requests.specs.declared.call.Call.{Call}
 use Rattle.afp_serial.proofs.SoundParts.{ApartSessions}
-use Rattle.afp_serial.specs.CallRow.{Refusal, Refused, Row}
+use Rattle.afp_serial.specs.CallRow.{Refusal, Refused, CallRow}
 use Rattle.afp_serial.specs.LawfulCall.{is_lawful_call}
-use Rattle.afp_serial.specs.Limits.{longest_block}
 use Rattle.afp_serial.specs.ReplyKinds.{command_of, reply_kind}
 use Rattle.afp_serial.specs.Sessions.{has_session}
 use Rattle.afp_serial.specs.Sound.{IsSound}
@@ -24,7 +24,7 @@ use Rattle.afp_serial.specs.World.{World, Session}
 
 -- the bytes of a reply fit in a frame
 abbrev pub is_short : Reply → Bool
-is_short reply = nat_le (length (canonical_reply reply)) longest_block
+is_short reply = nat_le (length (canonical_reply reply)) payload_limit
 
 abbrev pub is_ok : Code → Bool
 is_ok Ok = true
@@ -107,7 +107,7 @@ silent-refuses call rows r is all = first-told call rows r is (silent-all call r
 -- What the row of a call owes in a sound world. What it is refused with can be told to its requests, and is never told Ok. Where it is not refused, and its fields are those
 -- that bytes give, its effect keeps the world sound; its reply fits in a frame, and is shown by its bytes. In any world its effect keeps sessions
 -- apart, draws no link number, and makes no session; and the volume of the keeper that it names is there.
-pub record IsSoundRow (call : Call) (row : Row) : Type 0 where
+pub record IsSoundRow (call : Call) (row : CallRow) : Type 0 where
   pub refuses : (w : World) (s : Session) (r : Refused) → first_holding (row.refusals w s) ≡ Some r → IsSound w → IsRefusedTo call r
   pub sound : (w : World) (s : Session) (test : Session → Bool) → is_lawful_call call ≡ true → find test w.sessions ≡ Some s → first_holding (row.refusals w s) ≡ None → IsSound w → IsSound (row.effect w s).world
   pub fits : (w : World) (s : Session) → is_lawful_call call ≡ true → first_holding (row.refusals w s) ≡ None → IsSound w → is_short (row.effect w s).reply ≡ true

@@ -3,6 +3,7 @@ use Rattle.std.proofs.Common.{◌≡◌, ◌∙◌, ap, sym, refl, ℕ, ◌≤�
 use Rattle.std.specs.Prelude.{nat_le, ◌==◌}
 use Rattle.std.specs.List.{list_all}
 use Rattle.std.proofs.lemmas.Bool.{and_parts, cond_both, le-leb, leb-true}
+use Rattle.afp_base.specs.Limits.{payload_limit, replay_cache_size}
 use Rattle.afp_base.specs.Cached.{Request, Answer, Kept, is_repeat, either, cached_answer}
 use Rattle.afp_base.specs.declared.code.Code.TheVariants as code
 use Rattle.afp_base.specs.Apart.{are_apart}
@@ -27,7 +28,6 @@ use Rattle.afp_serial.specs.declared.ask.Told.TheVariants as told
 use Rattle.afp_serial.specs.Answer.{answer, after, committed_of, drain_moment, is_legal, is_legal_outcome, request, refusal_reply, link_number, is_full, told_verdict, told_call, told_pulse, told_parting, answer_at}
 use Rattle.afp_serial.specs.History.{is_lawful, stand}
 use Rattle.afp_serial.specs.LawfulCall.{is_lawful_call}
-use Rattle.afp_serial.specs.Limits.{longest_block, most_kept}
 use Rattle.afp_serial.specs.Ranges.{is_moment, is_moment_or_none, is_typed_ask, is_typed_entry}
 use Rattle.afp_volume.specs.TypedVolume.{is_quad}
 use Rattle.afp_serial.specs.Sessions.{stands_at, session_at}
@@ -123,26 +123,26 @@ stand-sound start (e ∷ es) sound lawful (suc k) =
 -- what is told fits in a frame
 
 abbrev is_short_answer : Kept → Bool
-is_short_answer kept = nat_le (length kept.answer.block) longest_block
+is_short_answer kept = nat_le (length kept.answer.block) payload_limit
 
-either-fits : (a b : Option Answer) (x : Answer) → ((y : Answer) → a ≡ Some y → nat_le (length y.block) longest_block ≡ true) → ((y : Answer) → b ≡ Some y → nat_le (length y.block) longest_block ≡ true) → either a b ≡ Some x → nat_le (length x.block) longest_block ≡ true
+either-fits : (a b : Option Answer) (x : Answer) → ((y : Answer) → a ≡ Some y → nat_le (length y.block) payload_limit ≡ true) → ((y : Answer) → b ≡ Some y → nat_le (length y.block) payload_limit ≡ true) → either a b ≡ Some x → nat_le (length x.block) payload_limit ≡ true
 either-fits (Some a) b x p q h = p x h
 either-fits None b x p q h = q x h
 
-kept-fits : (cache : List Kept) (r : Request) (x : Answer) → list_all is_short_answer cache ≡ true → cached_answer cache r ≡ Some x → nat_le (length x.block) longest_block ≡ true
+kept-fits : (cache : List Kept) (r : Request) (x : Answer) → list_all is_short_answer cache ≡ true → cached_answer cache r ≡ Some x → nat_le (length x.block) payload_limit ≡ true
 kept-fits [] r x short h = absurd (cc)
 kept-fits (k ∷ ks) r x short h =
     let e = and_parts (is_short_answer k) (list_all is_short_answer ks) short in
     either-fits (cached_answer ks r) (cond (is_repeat k.request r) (Some k.answer) None) x
     (λ y is. kept-fits ks r y e.1 is)
-    (λ y. cond_both (is_repeat k.request r) (Some k.answer) None (λ o. o ≡ Some y → nat_le (length y.block) longest_block ≡ true)
-    (λ same is. let this : k.answer ≡ y = cc in ap (λ (a : Answer). nat_le (length a.block) longest_block) (sym this) ∙ e.0)
+    (λ y. cond_both (is_repeat k.request r) (Some k.answer) None (λ o. o ≡ Some y → nat_le (length y.block) payload_limit ≡ true)
+    (λ same is. let this : k.answer ≡ y = cc in ap (λ (a : Answer). nat_le (length a.block) payload_limit) (sym this) ∙ e.0)
     (λ other is. absurd (cc)))
     h
 
 short-cache : (cache : List Kept) → is_lawful_cache cache ≡ true → list_all is_short_answer cache ≡ true
 short-cache cache h =
-    let e = and_parts (nat_le (length cache) most_kept) (are_apart (λ a b. is_repeat a.request b.request) cache && list_all is_short_answer cache) h in
+    let e = and_parts (nat_le (length cache) replay_cache_size) (are_apart (λ a b. is_repeat a.request b.request) cache && list_all is_short_answer cache) h in
     (and_parts (are_apart (λ a b. is_repeat a.request b.request) cache) (list_all is_short_answer cache) e.1).1
 
 verdict-fits : (w : World) (s : Session) (r : Request) → ((call : Call) → spelt_call (block_of r) (enclosed_of r) ≡ Some call → IsLawful call) → IsSound w → is_lawful_cache s.cache ≡ true → (v : Verdict) (o : Outcome) → verdict w s r ≡ v → fits_frame (told_verdict w s v o) ≡ true

@@ -3,6 +3,7 @@ use Rattle.std.proofs.Common.{◌==◌, ◌≡◌, ◌∙◌, ap, sym, refl, sub
 use Rattle.std.specs.Prelude.{Result, Ok, Err, is_some, nat_le}
 use Rattle.std.proofs.lemmas.Bool.{le-leb, leb-false, ltb-true}
 use Rattle.std.proofs.lemmas.List.{length-append}
+use Rattle.afp_base.specs.Limits.{payload_limit}
 use Rattle.afp_base.specs.Choice.{first_holding}
 use Rattle.afp_base.specs.declared.code.Code.{Code}
 use Rattle.afp_base.specs.declared.code.Code.TheVariants.{BitmapErr, DiskFull, ObjectExists}
@@ -30,14 +31,13 @@ use Rattle.afp_serial.proofs.VolumeStates.{IsServed}
 use Rattle.afp_serial.specs.CreateDir.{node_id}
 use Rattle.afp_serial.specs.Enumerate.{enumerate_reply}
 use Rattle.afp_serial.specs.GetFileDirParms.{get_file_dir_parms_reply}
-use Rattle.afp_serial.specs.Limits.{longest_block}
 use Rattle.afp_serial.specs.ListReply.{list_entry, list_reply}
 use Rattle.afp_serial.specs.OpenDir.{open_dir_reply}
 use Rattle.afp_volume.proofs.CallsSound.{or-none}
 use Rattle.afp_volume.proofs.Refusals.{none-first, none-holds}
 use Rattle.afp_volume.proofs.ToldValues.{dir-told-id, found-told}
 use Rattle.afp_volume.proofs.TypedEdits.{directory-long, typed-parts}
-use Rattle.afp_volume.specs.Calls.{Opened, behind, done_at, has_no_ids, has_no_room}
+use Rattle.afp_volume.specs.Shared.{Opened, behind, done_at, has_no_ids, has_no_room}
 use Rattle.afp_volume.specs.CreateDir.{create_dir_id, create_dir_refusal}
 use Rattle.afp_volume.specs.Enumerate.{ListAsked, entries, enumerate_refusal}
 use Rattle.afp_volume.specs.GetFileDirParms.{get_file_dir_parms_refusal, get_file_dir_parms_values}
@@ -57,7 +57,7 @@ empty-told call asks = record { short = refl; fits = record { fits = tt; told = 
 
 pub node-told-to : (call : Call) (id : ℕ) → ((n : NodeId) → Asks call (Node n)) → id < 4294967296 → IsToldTo call (Node (node_id id))
 node-told-to call id asks small = record {
-  short = let h : length (canonical_reply (Node (node_id id))) ≡ 4 = refl in le-leb (length (canonical_reply (Node (node_id id)))) longest_block (omega (arith, h));
+  short = let h : length (canonical_reply (Node (node_id id))) ≡ 4 = refl in le-leb (length (canonical_reply (Node (node_id id)))) payload_limit (omega (arith, h));
   fits = record { fits = omega (arith, small); told = asks (node_id id) };
 }
 
@@ -100,13 +100,13 @@ volume-told-to call v id bits asks served passes =
     let size = params-size 0 bits values shown.1.answer in
     let whole : length (canonical_reply (Params bits values)) ≡ 2 + length (params bits values) = two-parts (u16 bits) (params bits values) in
     record {
-      short = le-leb (length (canonical_reply (Params bits values))) longest_block (omega (arith, size, whole));
+      short = le-leb (length (canonical_reply (Params bits values))) payload_limit (omega (arith, size, whole));
       fits = record { fits = shown; told = asks (volume_values v id bits) };
     }
 
 -- a file or directory
 
-node-size : (file_bits dir_bits : ℕ) (values : Values) → IsNode file_bits dir_bits values → length (canonical_reply (FileDirParams file_bits dir_bits values)) ≤ longest_block
+node-size : (file_bits dir_bits : ℕ) (values : Values) → IsNode file_bits dir_bits values → length (canonical_reply (FileDirParams file_bits dir_bits values)) ≤ payload_limit
 node-size file_bits dir_bits values h =
     let block : List ℕ = node_params file_bits dir_bits values in
     let size : length block ≤ 65888 = params-size (kind_for (is_dir values)) (bits_for (is_dir values) file_bits dir_bits) values h in
@@ -123,17 +123,17 @@ node-values-told-to call v opens volume file_bits dir_bits dir path asks served 
     by (Some values) told some =
         let shown : FitsReply (FileDirParams file_bits dir_bits values) = node-is-shown v opens file_bits dir_bits dir path values passes told served.sound served.typed in
         record {
-          short = le-leb (length (canonical_reply (FileDirParams file_bits dir_bits values))) longest_block (node-size file_bits dir_bits values shown.2);
+          short = le-leb (length (canonical_reply (FileDirParams file_bits dir_bits values))) payload_limit (node-size file_bits dir_bits values shown.2);
           fits = record { fits = shown; told = asks values };
         }
 
 -- a list
 
-list-told : (call : Call) (v : VolumeState) (opens : List Opened) (asked : ListAsked) (id : ℕ) → ((rows : List ListEntry) → Asks call (replies.List asked.wide asked.file_bits asked.dir_bits rows)) → FitsReply (list_reply v.rows opens asked (entries v.rows opens asked id)) → length (canonical_reply (list_reply v.rows opens asked (entries v.rows opens asked id))) ≤ longest_block
+list-told : (call : Call) (v : VolumeState) (opens : List Opened) (asked : ListAsked) (id : ℕ) → ((rows : List ListEntry) → Asks call (replies.List asked.wide asked.file_bits asked.dir_bits rows)) → FitsReply (list_reply v.rows opens asked (entries v.rows opens asked id)) → length (canonical_reply (list_reply v.rows opens asked (entries v.rows opens asked id))) ≤ payload_limit
     → IsToldTo call (list_reply v.rows opens asked (entries v.rows opens asked id))
 unfolding list_reply
 list-told call v opens asked id asks fits short = record {
-  short = le-leb _ longest_block short;
+  short = le-leb _ payload_limit short;
   fits = record { fits = fits; told = asks (map (list_entry v.rows opens asked) (entries v.rows opens asked id)) };
 }
 

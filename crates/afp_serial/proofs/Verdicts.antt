@@ -7,7 +7,7 @@ use Rattle.afp_base.specs.declared.code.Code.TheVariants.{CallNotSupported, Para
 use Rattle.afp_requests.specs.Spelt.{is_command, spelt_call}
 use Rattle.afp_requests.specs.declared.call.Call.{Call}
 use Rattle.afp_serial.proofs.SoundRow.{is_refused}
-use Rattle.afp_serial.specs.Laws.{ComesTo}
+use Rattle.afp_serial.specs.Laws.{ComesToCall}
 use Rattle.afp_serial.specs.CallRow.{Refused, plain}
 use Rattle.afp_serial.specs.Rows.{refusal}
 use Rattle.afp_serial.specs.Steps.{Verdict, repeats, refused, runs, block_of, enclosed_of, needs_user, verdict_of_row, verdict_of_spelling, verdict_of_block, verdict_of_kept, verdict}
@@ -23,15 +23,15 @@ spelling-runs w s (Some c) call h =
     let e : (c ≡ call) × (refusal w s c ≡ None) = row-runs c call (refusal w s c) h in
     (ap Some e.0, ap (refusal w s) (sym e.0) ∙ e.1)
 
-block-runs : (w : World) (s : Session) (r : Request) (block : List ℕ) (call : Call) → cached_answer s.cache r ≡ None → block_of r ≡ block → verdict_of_block w s r block ≡ runs call → ComesTo w s r call
+block-runs : (w : World) (s : Session) (r : Request) (block : List ℕ) (call : Call) → cached_answer s.cache r ≡ None → block_of r ≡ block → verdict_of_block w s r block ≡ runs call → ComesToCall w s r call
 block-runs w s r [] call new is h = absurd (cc)
 block-runs w s r (command ∷ fields) call new is h =
     cond_both (not (is_command command)) (refused (plain CallNotSupported)) (behind)
-    (λ v. v ≡ runs call → ComesTo w s r call)
+    (λ v. v ≡ runs call → ComesToCall w s r call)
     (λ unknown h. absurd (cc))
     (λ known h.
     cond_both (is_none s.user && needs_user command) (refused (plain UserNotAuth)) (verdict_of_spelling w s (spelt_call (block_of r) (enclosed_of r)))
-    (λ v. v ≡ runs call → ComesTo w s r call)
+    (λ v. v ≡ runs call → ComesToCall w s r call)
     (λ lacks h. absurd (cc))
     (λ has h.
     let e = spelling-runs w s (spelt_call (block_of r) (enclosed_of r)) call h in
@@ -42,11 +42,11 @@ block-runs w s r (command ∷ fields) call new is h =
     behind : Verdict
     behind = cond (is_none s.user && needs_user command) (refused (plain UserNotAuth)) (verdict_of_spelling w s (spelt_call (block_of r) (enclosed_of r)))
 
-kept-runs : (w : World) (s : Session) (r : Request) (kept : Option Answer) (call : Call) → cached_answer s.cache r ≡ kept → verdict_of_kept w s r kept ≡ runs call → ComesTo w s r call
+kept-runs : (w : World) (s : Session) (r : Request) (kept : Option Answer) (call : Call) → cached_answer s.cache r ≡ kept → verdict_of_kept w s r kept ≡ runs call → ComesToCall w s r call
 kept-runs w s r (Some answer) call is h = absurd (cc)
 kept-runs w s r None call is h = block-runs w s r (block_of r) call is refl h
 
-pub comes-to : (w : World) (s : Session) (r : Request) (call : Call) → verdict w s r ≡ runs call → ComesTo w s r call
+pub comes-to : (w : World) (s : Session) (r : Request) (call : Call) → verdict w s r ≡ runs call → ComesToCall w s r call
 unfolding verdict
 comes-to w s r call h = kept-runs w s r (cached_answer s.cache r) call refl h
 
@@ -90,7 +90,7 @@ unfolding verdict
 kept-verdict w s r a h = ap (verdict_of_kept w s r) h
 
 -- a request that comes to a call runs it
-pub runs-of : (w : World) (s : Session) (r : Request) (call : Call) → ComesTo w s r call → verdict w s r ≡ runs call
+pub runs-of : (w : World) (s : Session) (r : Request) (call : Call) → ComesToCall w s r call → verdict w s r ≡ runs call
 unfolding verdict
 runs-of w s r call c =
     ap (verdict_of_kept w s r) c.new

@@ -12,7 +12,7 @@ use Rattle.afp_names.specs.Path.{PathValue}
 use Rattle.afp_names.specs.declared.path.Step.{Step}
 use Rattle.afp_names.specs.declared.path.Step.TheVariants.{Down, Up}
 use Rattle.afp_serial.proofs.SoundRow.{is_silent}
-use Rattle.afp_volume.specs.Calls.{Opened, behind, first_or}
+use Rattle.afp_volume.specs.Shared.{Opened, behind, first_or}
 use Rattle.afp_volume.specs.CreateDir.{create_dir_refusal}
 use Rattle.afp_volume.specs.CreateFile.{create_file_refusal, create_file_there}
 use Rattle.afp_volume.specs.Delete.{delete_refusal}

@@ -6,6 +6,7 @@ use Rattle.std.proofs.lemmas.Bool.{and_parts, and_from, le-leb, ltb-true}
 use Rattle.std.proofs.lemmas.Int.{ints}
 use Rattle.std.proofs.lemmas.List.{length-append}
 use Rattle.std.proofs.lemmas.List.Folds.{list_all-append}
+use Rattle.afp_base.specs.Limits.{payload_limit}
 use Rattle.afp_base.proofs.DefinitionLaws.{length-resized}
 use Rattle.afp_base.specs.Choice.{first_holding}
 use Rattle.afp_base.specs.ForkBytes.{resized, splice}
@@ -27,7 +28,6 @@ use Rattle.afp_serial.proofs.VolumeStates.{moment-date, state-sound}
 use Rattle.afp_serial.specs.Fork.{is_other_length, length_for, set_fork_parms_refusals, set_fork_parms_row}
 use Rattle.afp_serial.specs.ForkBytes.{WriteAsked, is_from_end, start_in, write_end, write_ext_row, write_refusals, write_row, write_start, writes, writes_some, written_bytes}
 use Rattle.afp_serial.specs.LawfulCall.{is_lawful_call, is_lawful_field, is_lawful_piece, is_signed}
-use Rattle.afp_serial.specs.Limits.{longest_block}
 use Rattle.afp_serial.specs.OnFork.{OpenFile, bytes_of, keeper_if, own_keeper, with_bytes}
 use Rattle.afp_serial.specs.Sound.{IsSound}
 use Rattle.afp_serial.specs.World.{World, Session}
@@ -172,7 +172,7 @@ write-asks flag reference offset count piece end = refl
 
 end-told : (call : Call) (n : ℕ) → Asks call (End n) → n ≤ most_fork_bytes + 2147483648 → IsToldTo call (End n)
 end-told call n asks small = record {
-  short = let h : length (canonical_reply (End n)) ≡ 4 = refl in le-leb (length (canonical_reply (End n))) longest_block (omega (arith, h));
+  short = let h : length (canonical_reply (End n)) ≡ 4 = refl in le-leb (length (canonical_reply (End n))) payload_limit (omega (arith, h));
   fits = record { fits = omega (arith, small); told = asks };
 }
 
@@ -188,7 +188,7 @@ write-ext-asks flag reference offset count piece end = refl
 
 end-ext-told : (call : Call) (n : ℕ) → Asks call (EndExt n) → n ≤ most_fork_bytes + 9223372036854775808 → IsToldTo call (EndExt n)
 end-ext-told call n asks small = record {
-  short = let h : length (canonical_reply (EndExt n)) ≡ 8 = refl in le-leb (length (canonical_reply (EndExt n))) longest_block (omega (arith, h));
+  short = let h : length (canonical_reply (EndExt n)) ≡ 8 = refl in le-leb (length (canonical_reply (EndExt n))) payload_limit (omega (arith, h));
   fits = record { fits = omega (arith, small); told = asks };
 }
 

@@ -5,6 +5,7 @@ use Rattle.std.specs.Bool.{beq}
 use Rattle.std.specs.List.{list_all}
 use Rattle.std.proofs.lemmas.Bool.{and_parts, eqb-false, eqb-true, eq-eqb, false_from_ne_true, leb-true, ltb-true}
 use Rattle.std.proofs.lemmas.List.{ext_get_or, get_or-drop, get_or-take, length-drop, length-take}
+use Rattle.afp_base.specs.Limits.{payload_limit}
 use Rattle.afp_base.proofs.DefinitionLaws.{one_fork}
 use Rattle.afp_base.specs.DenyMode.{Fork, is_one_fork}
 use Rattle.afp_base.specs.ForkBytes.{HasLength, KeepsFront, LeavesBefore, LeavesBehind, PutsBetween, Reaches, resized, splice, taken}
@@ -15,7 +16,6 @@ use Rattle.afp_serial.proofs.VolumeStates.{state-at, state-other}
 use Rattle.afp_serial.specs.CallRow.{with_empty_reply}
 use Rattle.afp_serial.specs.Fork.{is_other_length, length_for, set_fork_parms_row}
 use Rattle.afp_serial.specs.ForkBytes.{WriteAsked, ahead, meets_end, most_read, read_bytes, write_end, writes, writes_some, written_bytes}
-use Rattle.afp_serial.specs.Limits.{longest_block}
 use Rattle.afp_serial.specs.OnFork.{OpenFile, bytes_of, done_with, file_on, file_under, open_file, own_fork, with_bytes}
 use Rattle.afp_serial.specs.OnVolume.{with_state}
 use Rattle.afp_serial.specs.Sessions.{volume_at}
@@ -198,7 +198,7 @@ written-stay s old piece at changes some missed = holds-taken (changed_by_all ch
 
 -- a read
 
-pub reads-there : (bytes piece : List ℕ) (at character : ℕ) → length piece ≤ longest_block → taken bytes at (length piece) ≡ piece → (read_bytes bytes (read_of at (length piece) character) ≡ piece) × (meets_end bytes (read_of at (length piece) character) ≡ false)
+pub reads-there : (bytes piece : List ℕ) (at character : ℕ) → length piece ≤ payload_limit → taken bytes at (length piece) ≡ piece → (read_bytes bytes (read_of at (length piece) character) ≡ piece) × (meets_end bytes (read_of at (length piece) character) ≡ false)
 unfolding read_bytes meets_end
 reads-there bytes piece at character few there =
     let most : most_read (read_of at (length piece) character) ≡ length piece = omega (arith, few) in

@@ -35,7 +35,7 @@ with_empty_reply w = record { world = w; reply = Empty }
 
 -- The row of a call: the conditions under which it is refused, in order; what it does else; and the index of the volume whose
 -- keeper it commits to or settles, so that it may meet a fault, or none.
-pub record Row : Type 0 where
+pub record CallRow : Type 0 where
   pub refusals : World → Session → List Refusal
   pub effect : World → Session → Effect
   pub committed : World → Session → Option ℕ

@@ -1,6 +1,6 @@
 -- FPCloseVol (AFP Reference, "FPCloseVol").
 use Rattle.std.specs.Prelude.{ℕ, ◌==◌, not, ◌&&◌, [], ◌∷◌, filter}
-use Rattle.afp_serial.specs.CallRow.{Effect, Row, commits_nothing, with_empty_reply, vol}
+use Rattle.afp_serial.specs.CallRow.{Effect, CallRow, commits_nothing, with_empty_reply, vol}
 use Rattle.afp_serial.specs.Sessions.{with_session, closing}
 use Rattle.afp_serial.specs.World.{World, Session}
 
@@ -10,7 +10,7 @@ close_vol_effect volume w s = with_empty_reply (closing
     (with_session w (record s { volumes = filter (λ v. not (v == volume)) s.volumes }))
     (λ o. not ((o.session == s.number) && (o.fork.volume == volume))))
 
-abbrev pub close_vol_row : ℕ → Row
+abbrev pub close_vol_row : ℕ → CallRow
 close_vol_row volume = record {
   refusals = λ w s. vol s volume ∷ [];
   effect = close_vol_effect volume;

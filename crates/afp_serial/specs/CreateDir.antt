@@ -5,12 +5,12 @@ use Rattle.afp_names.specs.Path.{PathValue}
 use Rattle.afp_replies.specs.declared.reply.Reply.TheVariants.{Node}
 use Rattle.afp_volume.specs.CreateDir.{create_dir_id}
 use Rattle.afp_volume.specs.TreeSteps.{CreateDir}
-use Rattle.afp_serial.specs.CallRow.{Row}
+use Rattle.afp_serial.specs.CallRow.{CallRow}
 use Rattle.afp_serial.specs.OnVolume.{changes_tree}
 
 -- the id of a node, as a reply has it
 abbrev pub node_id : ℕ → NodeId
 node_id id = record { 0 = id }
 
-abbrev pub create_dir_row : ℕ → ℕ → PathValue → Row
+abbrev pub create_dir_row : ℕ → ℕ → PathValue → CallRow
 create_dir_row volume dir path = changes_tree volume (CreateDir dir path) (λ v. Node (node_id (create_dir_id v)))

@@ -4,8 +4,8 @@ use Rattle.afp_names.specs.Path.{PathValue}
 use Rattle.afp_replies.specs.declared.reply.Reply.TheVariants.{Empty}
 use Rattle.afp_volume.specs.CreateFile.{is_hard}
 use Rattle.afp_volume.specs.TreeSteps.{CreateFile}
-use Rattle.afp_serial.specs.CallRow.{Row}
+use Rattle.afp_serial.specs.CallRow.{CallRow}
 use Rattle.afp_serial.specs.OnVolume.{changes_tree}
 
-abbrev pub create_file_row : ℕ → ℕ → ℕ → PathValue → Row
+abbrev pub create_file_row : ℕ → ℕ → ℕ → PathValue → CallRow
 create_file_row flag volume dir path = changes_tree volume (CreateFile (is_hard flag) dir path) (λ v. Empty)

@@ -1,9 +1,9 @@
 -- FPFlush (AFP Reference, "FPFlush"): the volume's keeper settles what was committed to it.
 use Rattle.std.specs.Prelude.{ℕ, None}
-use Rattle.afp_serial.specs.CallRow.{Row, with_empty_reply}
+use Rattle.afp_serial.specs.CallRow.{CallRow, with_empty_reply}
 use Rattle.afp_serial.specs.OnVolume.{keeper_of, on_volume}
 
-abbrev pub flush_row : ℕ → Row
+abbrev pub flush_row : ℕ → CallRow
 flush_row volume = record {
   refusals = λ w s. on_volume w s volume (λ v. None);
   effect = λ w s. with_empty_reply w;

@@ -14,7 +14,7 @@ use Rattle.afp_volume.specs.OpenFork.{fork_values, is_resource, open_fork_file, 
 use Rattle.afp_volume.specs.Parms.{is_outside}
 use Rattle.afp_volume.specs.SetForkParms.{asks_length, has_no_length, length_in}
 use Rattle.afp_volume.specs.VolumeState.{Row as File, VolumeState}
-use Rattle.afp_serial.specs.CallRow.{Effect, Refusal, Row, commits_nothing, plain, with_empty_reply, vol}
+use Rattle.afp_serial.specs.CallRow.{Effect, Refusal, CallRow, commits_nothing, plain, with_empty_reply, vol}
 use Rattle.afp_serial.specs.Limits.{most_forks}
 use Rattle.afp_serial.specs.OnFork.{OpenFile, bytes_of, is_locked, keeper_if, keeps_all, own_keeper, placed, row_on_fork, with_bytes}
 use Rattle.afp_serial.specs.OnVolume.{refused_before, opened_on, refused_on}
@@ -100,24 +100,24 @@ opens_fork w s asked (Some file) =
     let new : OpenFork = new_fork w s asked file in
     record { world = with_fork w new; reply = opened_reply (with_fork w new) asked new.reference file }
 
-abbrev pub opens_asked : OpenAsked → ℕ → PathValue → Row
+abbrev pub opens_asked : OpenAsked → ℕ → PathValue → CallRow
 opens_asked asked dir path = record {
   refusals = λ w s. vol s asked.volume ∷ refused_before (refused_on (volume_at w.volumes asked.volume) (λ v. open_fork_refusal v asked.bits asked.access.write dir path)) (denied_of w s asked (file_asked (volume_at w.volumes asked.volume) dir path));
   effect = λ w s. opens_fork w s asked (file_asked (volume_at w.volumes asked.volume) dir path);
   committed = commits_nothing;
 }
 
-abbrev pub open_fork_row : ℕ → ℕ → ℕ → ℕ → ℕ → PathValue → Row
+abbrev pub open_fork_row : ℕ → ℕ → ℕ → ℕ → ℕ → PathValue → CallRow
 open_fork_row flag volume dir bits mode path = opens_asked (record { volume = volume; bits = bits; resource = is_resource flag; access = access_of mode }) dir path
 
 -- FPCloseFork: the fork is closed, and its locks are gone
 
-abbrev pub close_fork_row : ℕ → Row
+abbrev pub close_fork_row : ℕ → CallRow
 close_fork_row reference = row_on_fork reference (λ w f. []) (λ w f. with_empty_reply (closing w (λ o. not (o.reference == reference)))) keeps_all
 
 -- FPFlushFork: the keeper of its volume settles what was committed to it
 
-abbrev pub flush_fork_row : ℕ → Row
+abbrev pub flush_fork_row : ℕ → CallRow
 flush_fork_row reference = row_on_fork reference (λ w f. []) (λ w f. with_empty_reply w) (λ w f. own_keeper f)
 
 -- FPGetForkParms
@@ -125,7 +125,7 @@ flush_fork_row reference = row_on_fork reference (λ w f. []) (λ w f. with_empt
 abbrev pub get_fork_parms_reply : ℕ → World → OpenFile → Reply
 get_fork_parms_reply bits w f = reply.Params bits (fork_values (opened_on w f.fork.fork.volume) bits f.file)
 
-abbrev pub get_fork_parms_row : ℕ → ℕ → Row
+abbrev pub get_fork_parms_row : ℕ → ℕ → CallRow
 get_fork_parms_row reference bits = row_on_fork reference
     (λ w f. (is_outside file_mask bits, plain BitmapErr) ∷ [])
     (λ w f. record { world = w; reply = get_fork_parms_reply bits w f })
@@ -153,7 +153,7 @@ set_fork_parms_refusals bits tail w f =
     ∷ (would_pass f.volume (length (bytes_of f)) (length_for bits tail f), plain DiskFull)
     ∷ []
 
-abbrev pub set_fork_parms_row : ℕ → ℕ → List ℕ → Row
+abbrev pub set_fork_parms_row : ℕ → ℕ → List ℕ → CallRow
 set_fork_parms_row reference bits tail = row_on_fork reference
     (set_fork_parms_refusals bits tail)
     (λ w f. with_empty_reply (with_bytes w f (is_other_length bits tail f) (resized (bytes_of f) (length_for bits tail f))))

@@ -1,13 +1,13 @@
 -- FPRead, FPReadExt, FPWrite and FPWriteExt (AFP Reference, under these names).
 use Rattle.std.specs.Prelude.{ℕ, ℤ, pos, ◌+◌, ◌+ℤ◌, ◌==◌, nat_lt, Bool, not, ◌&&◌, ◌||◌, if◌then◌else◌, List, [], ◌∷◌, length, take, min, nat_abs, bit_and, position, Option, None, Some, is_none}
 use Rattle.std.specs.Int.{is_negative}
+use Rattle.afp_base.specs.Limits.{payload_limit}
 use Rattle.afp_base.specs.ForkBytes.{splice, taken}
 use Rattle.afp_base.specs.declared.code.Code.TheVariants.{AccessDenied, DiskFull, EOFErr, LockErr, ParamErr}
 use Rattle.afp_replies.specs.declared.reply.Reply.{Reply}
 use Rattle.afp_replies.specs.declared.reply.Reply.TheVariants.{End, EndExt, Piece}
 use Rattle.afp_volume.specs.ForkEffect.{would_pass}
-use Rattle.afp_serial.specs.CallRow.{Refusal, Row, plain}
-use Rattle.afp_serial.specs.Limits.{longest_block}
+use Rattle.afp_serial.specs.CallRow.{Refusal, CallRow, plain}
 use Rattle.afp_serial.specs.OnFork.{OpenFile, bytes_of, is_locked, keeper_if, keeps_all, row_on_fork, with_bytes}
 use Rattle.afp_serial.specs.World.{World}
 
@@ -22,7 +22,7 @@ pub record ReadAsked : Type 0 where
 
 -- how many bytes it may read at most: those of a reply (this profile)
 abbrev pub most_read : ReadAsked → ℕ
-most_read asked = min (nat_abs asked.count) longest_block
+most_read asked = min (nat_abs asked.count) payload_limit
 
 -- the bytes that it comes to
 abbrev pub ahead : List ℕ → ReadAsked → List ℕ
@@ -57,13 +57,13 @@ read_refusals asked w f =
     ∷ (meets_end (bytes_of f) asked, record { code = EOFErr; reply = read_reply asked f })
     ∷ []
 
-abbrev pub reads : ℕ → ReadAsked → Row
+abbrev pub reads : ℕ → ReadAsked → CallRow
 reads reference asked = row_on_fork reference (read_refusals asked) (λ w f. record { world = w; reply = read_reply asked f }) keeps_all
 
-abbrev pub read_row : ℕ → ℤ → ℕ → ℕ → ℕ → Row
+abbrev pub read_row : ℕ → ℤ → ℕ → ℕ → ℕ → CallRow
 read_row reference offset count mask character = reads reference (record { offset = offset; count = pos count; mask = mask; character = character })
 
-abbrev pub read_ext_row : ℕ → ℤ → ℤ → Row
+abbrev pub read_ext_row : ℕ → ℤ → ℤ → CallRow
 read_ext_row reference offset count = reads reference (record { offset = offset; count = count; mask = 0; character = 0 })
 
 -- FPWrite and FPWriteExt
@@ -106,14 +106,14 @@ write_refusals asked w f =
     ∷ (would_pass f.volume (length (bytes_of f)) (length (written_bytes f asked)), plain DiskFull)
     ∷ []
 
-abbrev pub writes : ℕ → WriteAsked → (ℕ → Reply) → Row
+abbrev pub writes : ℕ → WriteAsked → (ℕ → Reply) → CallRow
 writes reference asked reply = row_on_fork reference
     (write_refusals asked)
     (λ w f. record { world = with_bytes w f (writes_some asked) (written_bytes f asked); reply = reply (write_end f asked) })
     (λ w f. keeper_if (writes_some asked) f)
 
-abbrev pub write_row : ℕ → ℕ → ℤ → ℕ → List ℕ → Row
+abbrev pub write_row : ℕ → ℕ → ℤ → ℕ → List ℕ → CallRow
 write_row flag reference offset count piece = writes reference (record { from_end = is_from_end flag; offset = offset; count = pos count; piece = piece }) (λ end. End end)
 
-abbrev pub write_ext_row : ℕ → ℕ → ℤ → ℤ → List ℕ → Row
+abbrev pub write_ext_row : ℕ → ℕ → ℤ → ℤ → List ℕ → CallRow
 write_ext_row flag reference offset count piece = writes reference (record { from_end = is_from_end flag; offset = offset; count = count; piece = piece }) (λ end. EndExt end)

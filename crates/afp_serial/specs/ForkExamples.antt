@@ -7,7 +7,7 @@ use Rattle.afp_base.specs.declared.code.Code.TheVariants.{AccessDenied, BitmapEr
 use Rattle.afp_replies.specs.Replies.{canonical_reply}
 use Rattle.afp_volume.specs.VolumeState.{Row as File, VolumeState, fresh_volume, new_row}
 use Rattle.afp_serial.specs.Answer.{new_session}
-use Rattle.afp_serial.specs.CallRow.{Effect, Refused, Row}
+use Rattle.afp_serial.specs.CallRow.{Effect, Refused, CallRow}
 use Rattle.afp_serial.specs.Fork.{OpenAsked, access_of, close_fork_row, denied_of, get_fork_parms_row, opens_fork, set_fork_parms_row}
 use Rattle.afp_serial.specs.ForkBytes.{read_ext_row, read_row, write_ext_row, write_row}
 use Rattle.afp_serial.specs.Household.{Household}
@@ -28,7 +28,7 @@ left w None e = e.world
 left w (Some refused) e = w
 
 -- calls one after another, each of a session, and what they are told
-abbrev pub tells : World → List (Session × Row) → List Said
+abbrev pub tells : World → List (Session × CallRow) → List Said
 tells w [] = []
 tells w (call ∷ calls) =
     let refused : Option Refused = first_holding (call.1.refusals w call.0) in
@@ -36,7 +36,7 @@ tells w (call ∷ calls) =
     said refused e ∷ tells (left w refused e) calls
 
 -- the row of FPOpenFork, of a file that was found
-abbrev pub opening : OpenAsked → File → Row
+abbrev pub opening : OpenAsked → File → CallRow
 opening asked file = record { refusals = λ w s. denied_of w s asked (Some file); effect = λ w s. opens_fork w s asked (Some file); committed = λ w s. None }
 
 -- the bytes of a file, `f` of id 17 in the root of volume 1, and that volume
@@ -70,7 +70,7 @@ some_world bytes opens locks = record (start_world some_house 100 (some_volume b
 abbrev pub asked_as : ℕ → OpenAsked
 asked_as mode = record { volume = 1; bits = 0x0100; resource = false; access = access_of mode }
 
-abbrev pub opens_as : ℕ → Row
+abbrev pub opens_as : ℕ → CallRow
 opens_as mode = opening (asked_as mode) (some_file [])
 
 -- deny modes hold between sessions, and until the fork is closed

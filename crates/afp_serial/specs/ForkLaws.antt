@@ -1,6 +1,7 @@
 -- The laws of the rows of the calls on open forks (this profile).
 use Rattle.std.specs.Prelude.{◌≡◌, ◌≢◌, ℕ, ℤ, ◌+◌, ◌*◌, ◌<◌, ◌≤◌, true, false, Bool, List, length, find, Some, None, ◌↔◌, pos, negsuc, suc, slice_get, nat_le, min, ◌&&◌}
 use Rattle.std.specs.List.{Contains, list_all}
+use Rattle.afp_base.specs.Limits.{payload_limit}
 use Rattle.afp_base.specs.Choice.{first_holding}
 use Rattle.afp_base.specs.declared.code.Code.TheVariants.{DenyConflict, EOFErr, Ok}
 use Rattle.afp_base.specs.declared.ids.ForkRef.{ForkRef}
@@ -18,12 +19,12 @@ use Rattle.afp_base.specs.Overlap.{Covers, Range}
 use Rattle.afp_bitmap.specs.Bits.{file_mask}
 use Rattle.afp_volume.specs.VolumeState.{Row as File}
 use Rattle.afp_volume.specs.Parms.{is_outside}
-use Rattle.afp_serial.specs.CallRow.{Refused, Row}
+use Rattle.afp_serial.specs.CallRow.{Refused, CallRow}
 use Rattle.afp_serial.specs.Fork.{close_fork_row, flush_fork_row, get_fork_parms_row, lowest_free, open_fork_row, set_fork_parms_row, file_asked, is_denied, opened_reply}
 use Rattle.afp_serial.specs.ForkBytes.{read_ext_row, read_row, write_ext_row, write_row, ReadAsked, read_reply}
 use Rattle.afp_serial.specs.LawfulCall.{is_lawful_call}
 use Rattle.afp_serial.specs.Lock.{byte_range_lock_ext_row, byte_range_lock_row, last_byte, range_of}
-use Rattle.afp_serial.specs.Limits.{longest_block, most_forks, most_sessions}
+use Rattle.afp_serial.specs.Limits.{most_forks, most_sessions}
 use Rattle.afp_serial.specs.ReplyKinds.{reply_kind}
 use Rattle.afp_serial.specs.Rows.{refusal}
 use Rattle.afp_serial.specs.Sessions.{is_open, volume_at}
@@ -32,11 +33,11 @@ use Rattle.afp_serial.specs.World.{World, Session, OpenFork, Lock}
 
 -- The row of a call, whose fields are those that bytes give, asked by a session of a sound world: its effect keeps the world sound, its reply is shown by
 -- its bytes, which fit in a frame, and so do those of a refusal, which is never told Ok; and the volume of the keeper that it names is there.
-pub record IsLawfulRow (call : Call) (row : Row) : Type 0 where
+pub record IsLawfulRow (call : Call) (row : CallRow) : Type 0 where
   pub sound : (w : World) (s : Session) (test : Session → Bool) → is_lawful_call call ≡ true → find test w.sessions ≡ Some s → first_holding (row.refusals w s) ≡ None → IsSound w → IsSound (row.effect w s).world
   pub shown : (w : World) (s : Session) → is_lawful_call call ≡ true → first_holding (row.refusals w s) ≡ None → IsSound w → Shows (row.effect w s).reply (reply_kind call) Ok (canonical_reply (row.effect w s).reply)
-  pub fits : (w : World) (s : Session) → is_lawful_call call ≡ true → first_holding (row.refusals w s) ≡ None → IsSound w → length (canonical_reply (row.effect w s).reply) ≤ longest_block
-  pub refuses : (w : World) (s : Session) (r : Refused) → first_holding (row.refusals w s) ≡ Some r → IsSound w → (r.code ≢ Ok) × (length (canonical_reply r.reply) ≤ longest_block)
+  pub fits : (w : World) (s : Session) → is_lawful_call call ≡ true → first_holding (row.refusals w s) ≡ None → IsSound w → length (canonical_reply (row.effect w s).reply) ≤ payload_limit
+  pub refuses : (w : World) (s : Session) (r : Refused) → first_holding (row.refusals w s) ≡ Some r → IsSound w → (r.code ≢ Ok) × (length (canonical_reply r.reply) ≤ payload_limit)
   pub keeper : (w : World) (s : Session) (index : ℕ) → first_holding (row.refusals w s) ≡ None → row.committed w s ≡ Some index → index < length w.volumes
 
 abbrev pub CloseForkIsLawful : Type 0
@@ -130,10 +131,10 @@ abbrev pub RefusalsAreShown : Type 0
 RefusalsAreShown = (w : World) (s : Session) (call : Call) (r : Refused) → IsSound w → refusal w s call ≡ Some r → Shows r.reply (reply_kind call) r.code (canonical_reply r.reply)
 
 -- a row changes no volume; a row that commits nothing changes nothing at all
-abbrev pub LeavesVolumes : Row → Type 0
+abbrev pub LeavesVolumes : CallRow → Type 0
 LeavesVolumes row = (w : World) (s : Session) → (row.effect w s).world.volumes ≡ w.volumes
 
-abbrev pub CommitsChanges : Row → Type 0
+abbrev pub CommitsChanges : CallRow → Type 0
 CommitsChanges row = (w : World) (s : Session) → row.committed w s ≡ None → (row.effect w s).world ≡ w
 
 -- of these calls three change a volume, and commit that to its keeper where they change it

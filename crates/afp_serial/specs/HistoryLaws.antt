@@ -1,6 +1,7 @@
 -- The laws of open forks over whole histories, in the subject's own words (this profile).
 use Rattle.std.specs.Prelude.{◌≡◌, ◌≢◌, ◌⊎◌, ℕ, ℤ, pos, ◌<◌, ◌≤◌, Bool, true, false, List, [], ◌∷◌, length, take, slice_get, Some, None}
 use Rattle.std.specs.List.{Contains, list_all}
+use Rattle.afp_base.specs.Limits.{payload_limit}
 use Rattle.afp_base.specs.DenyMode.{Conflicts, Fork, is_one_fork}
 use Rattle.afp_base.specs.ForkBytes.{taken}
 use Rattle.afp_base.specs.Overlap.{Covers}
@@ -16,8 +17,7 @@ use Rattle.afp_serial.specs.Answer.{answer, request}
 use Rattle.afp_serial.specs.ForkBytes.{is_from_end, start_in}
 use Rattle.afp_serial.specs.ForkHistory.{all_changes, bytes_in, changes_in, stays_open}
 use Rattle.afp_serial.specs.History.{is_lawful, stand}
-use Rattle.afp_serial.specs.Laws.{ComesTo}
-use Rattle.afp_serial.specs.Limits.{longest_block}
+use Rattle.afp_serial.specs.Laws.{ComesToCall}
 use Rattle.afp_serial.specs.OnFork.{OpenFile, bytes_of, is_locked, open_file}
 use Rattle.afp_serial.specs.Rows.{refusal}
 use Rattle.afp_serial.specs.Sessions.{session_at}
@@ -57,7 +57,7 @@ abbrev pub WritesPutTheirPiece : Type 0
 WritesPutTheirPiece =
     (w : World) (e : Entry) (s : Session) (f : OpenFile) (fork : Fork) (at id place : ℕ) (write : Bool) (payload : List ℕ) (reference : ForkRef) (from_end : Bool) (offset : ℤ) (piece : List ℕ) (call : Call)
     → e.ask ≡ ask.Call id write place payload → e.outcome ≡ Done → session_at w e.link.0 ≡ Some s
-    → PutsPiece reference from_end offset piece call → ComesTo (at_moment w e.at) s (request id write place payload) call
+    → PutsPiece reference from_end offset piece call → ComesToCall (at_moment w e.at) s (request id write place payload) call
     → open_file w s reference.0 ≡ Some f → is_one_fork f.fork.fork fork ≡ true → start_in (bytes_of f) from_end offset ≡ pos at
     → changes_in w e fork ≡ puts at piece ∷ []
 
@@ -91,15 +91,15 @@ pub record MayRead (w : World) (s : Session) (reference at n : ℕ) (fork : Fork
 -- so whoever may read the piece is not refused
 abbrev pub WrittenIsNotRefused : Type 0
 WrittenIsNotRefused =
-    (start : World) (e : Entry) (h : List Entry) (fork : Fork) (at : ℕ) (piece : List ℕ) (now : ℕ) (s : Session) (reference : ForkRef) (call : Call) → IsWritten start e h fork at piece → length piece ≤ longest_block
+    (start : World) (e : Entry) (h : List Entry) (fork : Fork) (at : ℕ) (piece : List ℕ) (now : ℕ) (s : Session) (reference : ForkRef) (call : Call) → IsWritten start e h fork at piece → length piece ≤ payload_limit
     → MayRead (at_moment (stand start (e ∷ h)) now) s reference.0 at (length piece) fork → ReadsAll reference at (length piece) call → refusal (at_moment (stand start (e ∷ h)) now) s call ≡ None
 
 -- and is told the piece
 abbrev pub WrittenIsRead : Type 0
 WrittenIsRead =
     (start : World) (e : Entry) (h : List Entry) (fork : Fork) (at : ℕ) (piece : List ℕ) (reading : Entry) (s : Session) (reference : ForkRef) (call : Call) (id : ℕ) (write : Bool) (offset : ℕ) (payload : List ℕ)
-    → IsWritten start e h fork at piece → length piece ≤ longest_block
+    → IsWritten start e h fork at piece → length piece ≤ payload_limit
     → reading.ask ≡ ask.Call id write offset payload → reading.outcome ≡ Done → session_at (stand start (e ∷ h)) reading.link.0 ≡ Some s
     → MayRead (at_moment (stand start (e ∷ h)) reading.at) s reference.0 at (length piece) fork → ReadsAll reference at (length piece) call
-    → ComesTo (at_moment (stand start (e ∷ h)) reading.at) s (request id write offset payload) call
+    → ComesToCall (at_moment (stand start (e ∷ h)) reading.at) s (request id write offset payload) call
     → answer (stand start (e ∷ h)) reading ≡ told.Reply Ok piece false

@@ -1,5 +1,6 @@
 -- The laws of the serial answer, in the subject's own words (this profile).
 use Rattle.std.specs.Prelude.{◌≡◌, ◌≢◌, ◌↔◌, ◌⊎◌, ℕ, ◌+◌, ◌<◌, ◌≤◌, ◌==◌, Bool, true, false, not, ◌&&◌, List, [], ◌∷◌, ◌++◌, length, take, All, Option, Some, None, is_none, slice_get}
+use Rattle.afp_base.specs.Limits.{payload_limit}
 use Rattle.afp_base.specs.Cached.{Request, Answer, cached_answer}
 use Rattle.afp_base.specs.declared.code.Code.{Code}
 use Rattle.afp_base.specs.declared.code.Code.TheVariants.{MiscErr, Ok}
@@ -23,7 +24,6 @@ use Rattle.afp_serial.specs.History.{answers, is_lawful, opened_in, stand}
 use Rattle.afp_serial.specs.Household.{Household}
 use Rattle.afp_serial.specs.HouseFault.{house_fault}
 use Rattle.afp_serial.specs.LawfulCall.{are_bytes_or_none, is_lawful_call}
-use Rattle.afp_serial.specs.Limits.{longest_block}
 use Rattle.afp_serial.specs.ReplyKinds.{reply_kind}
 use Rattle.afp_serial.specs.Rows.{committed, effect, ends_session, refusal}
 use Rattle.afp_serial.specs.Sessions.{has_session, session_at}
@@ -56,7 +56,7 @@ StandsSound = (start : World) (h : List Entry) → IsSound start → is_lawful s
 
 -- the block of a reply fits in a frame
 abbrev pub FitsFrame : Type 0
-FitsFrame = (w : World) (e : Entry) (code : Code) (block : List ℕ) (ends : Bool) → IsSound w → is_legal w e ≡ true → answer w e ≡ told.Reply code block ends → length block ≤ longest_block
+FitsFrame = (w : World) (e : Entry) (code : Code) (block : List ℕ) (ends : Bool) → IsSound w → is_legal w e ≡ true → answer w e ≡ told.Reply code block ends → length block ≤ payload_limit
 
 -- what is told is an answer to the ask
 abbrev pub AnswersAsk : Type 0
@@ -98,7 +98,7 @@ TellsKept =
 
 -- A request of a session comes to a call: no answer is kept for it, its command is one, and may come without a user or has one,
 -- block and enclosed bytes spell the call, and the call's row does not refuse it.
-pub record ComesTo (w : World) (s : Session) (r : Request) (call : Call) : Type 0 where
+pub record ComesToCall (w : World) (s : Session) (r : Request) (call : Call) : Type 0 where
   pub new : cached_answer s.cache r ≡ None
   pub command : ℕ
   pub fields : List ℕ
@@ -119,7 +119,7 @@ pub record FailsInPlace (w : World) (e : Entry) : Type 0 where
   pub session : Session
   pub attached : session_at w e.link.0 ≡ Some session
   pub call : Call
-  pub runs : ComesTo (at_moment w e.at) session (request id write offset payload) call
+  pub runs : ComesToCall (at_moment w e.at) session (request id write offset payload) call
   pub index : ℕ
   pub commits : committed (at_moment w e.at) session call ≡ Some index
   pub answered : answer w e ≡ told.Reply MiscErr [] false
@@ -136,7 +136,7 @@ MayFail =
     → is_typed_entry e ≡ true
     → e.ask ≡ ask.Call id write offset payload
     → session_at w e.link.0 ≡ Some s
-    → ComesTo (at_moment w e.at) s (request id write offset payload) call
+    → ComesToCall (at_moment w e.at) s (request id write offset payload) call
     → committed (at_moment w e.at) s call ≡ Some index
     → is_legal w e ≡ true
 
@@ -170,7 +170,7 @@ pub record IsEffectAnswer (w : World) (e : Entry) (block : List ℕ) (ends : Boo
   pub session : Session
   pub attached : session_at w e.link.0 ≡ Some session
   pub call : Call
-  pub runs : ComesTo (at_moment w e.at) session (request id write offset payload) call
+  pub runs : ComesToCall (at_moment w e.at) session (request id write offset payload) call
   pub done : e.outcome ≡ Done
   pub block_is : block ≡ canonical_reply (effect (at_moment w e.at) session call).reply
   pub shows : Shows (effect (at_moment w e.at) session call).reply (reply_kind call) Ok block

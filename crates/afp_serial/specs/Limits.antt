@@ -1,6 +1,5 @@
 -- The limits of the server (this profile).
 use Rattle.std.specs.Prelude.{ℕ, ◌^◌}
-use Rattle.afp_volume.specs.Enumerate.{longest_reply}
 
 -- the first and the last printable ASCII character: the space and the tilde
 abbrev pub first_printable : ℕ
@@ -33,22 +32,15 @@ most_volumes = 8
 abbrev pub first_user_id : ℕ
 first_user_id = 501
 
--- the most sessions, attached and detached together; answers kept for one; forks that it has open; and locks of one reference
+-- the most sessions, attached and detached together; forks that one has open; and locks of one reference
 abbrev pub most_sessions : ℕ
 most_sessions = 64
-
-abbrev pub most_kept : ℕ
-most_kept = 32
 
 abbrev pub most_forks : ℕ
 most_forks = 256
 
 abbrev pub most_locks : ℕ
 most_locks = 1024
-
--- the most bytes of a reply's block: those of a frame's payload, as of a list of nodes
-abbrev pub longest_block : ℕ
-longest_block = longest_reply
 
 -- how many link numbers there are: the last one is 2 ^ 64 - 1
 abbrev pub links_end : ℕ

@@ -1,13 +1,14 @@
 -- The reply to FPEnumerate, FPEnumerateExt and FPEnumerateExt2 (AFP Reference, under these names).
 use Rattle.std.specs.Prelude.{◌≡◌, ℕ, ◌+◌, ◌<◌, ◌≤◌, ◌^◌, true, List, length, map, min, sum_by, None, Ok}
+use Rattle.afp_base.specs.Limits.{payload_limit}
 use Rattle.afp_names.specs.Path.{PathValue}
 use Rattle.afp_replies.specs.declared.list.ListEntry.{ListEntry}
 use Rattle.afp_replies.specs.declared.reply.Reply.{Reply}
 use Rattle.afp_replies.specs.declared.reply.Reply.TheVariants as replies
 use Rattle.afp_replies.specs.Fitting.{FitsReply}
 use Rattle.afp_replies.specs.Replies.{canonical_reply}
-use Rattle.afp_volume.specs.Calls.{Opened}
-use Rattle.afp_volume.specs.Enumerate.{ListAsked, list_head, entry_size, longest_reply, entries, enumerate_refusal}
+use Rattle.afp_volume.specs.Shared.{Opened}
+use Rattle.afp_volume.specs.Enumerate.{ListAsked, list_head, entry_size, entries, enumerate_refusal}
 use Rattle.afp_volume.specs.NodeValues.{node_values}
 use Rattle.afp_volume.specs.SoundVolume.{IsSoundVolume}
 use Rattle.afp_volume.specs.TypedVolume.{is_typed_volume}
@@ -29,4 +30,4 @@ ListHasItsSize = (rows : List Row) (opens : List Opened) (asked : ListAsked) (no
 -- the law: where a list is not refused it is shown by some bytes, and has no more of them than were asked and fit in a reply
 abbrev pub ListIsShown : Type 0
 ListIsShown = (v : VolumeState) (opens : List Opened) (asked : ListAsked) (dir id : ℕ) (path : PathValue) → asked.count < 2 ^ 16 → enumerate_refusal v opens asked dir path ≡ None → found v.rows dir path ≡ Ok id → IsSoundVolume v → is_typed_volume v ≡ true
-    → FitsReply (list_reply v.rows opens asked (entries v.rows opens asked id)) × (length (canonical_reply (list_reply v.rows opens asked (entries v.rows opens asked id))) ≤ min asked.size longest_reply)
+    → FitsReply (list_reply v.rows opens asked (entries v.rows opens asked id)) × (length (canonical_reply (list_reply v.rows opens asked (entries v.rows opens asked id))) ≤ min asked.size payload_limit)

@@ -5,7 +5,7 @@ use Rattle.afp_base.specs.Overlap.{Range}
 use Rattle.afp_base.specs.declared.code.Code.TheVariants.{LockErr, NoMoreLocks, ParamErr, RangeNotLocked, RangeOverlap}
 use Rattle.afp_replies.specs.declared.reply.Reply.{Reply}
 use Rattle.afp_replies.specs.declared.reply.Reply.TheVariants.{Start, StartExt}
-use Rattle.afp_serial.specs.CallRow.{Effect, Refusal, Row, plain, with_empty_reply}
+use Rattle.afp_serial.specs.CallRow.{Effect, Refusal, CallRow, plain, with_empty_reply}
 use Rattle.afp_serial.specs.ForkBytes.{is_from_end, start_in}
 use Rattle.afp_serial.specs.Limits.{most_locks}
 use Rattle.afp_serial.specs.OnFork.{OpenFile, bytes_of, is_met_by_other, keeps_all, meets_lock, placed, row_on_fork}
@@ -88,14 +88,14 @@ abbrev pub locks_range : Bool → World → OpenFork → (ℕ → Reply) → Opt
 locks_range unlocks w o reply None = with_empty_reply w
 locks_range unlocks w o reply (Some range) = record { world = if unlocks then unlocked w o range else locked w o range; reply = reply range.from }
 
-abbrev pub locks : ℕ → LockAsked → (ℕ → Reply) → Row
+abbrev pub locks : ℕ → LockAsked → (ℕ → Reply) → CallRow
 locks reference asked reply = row_on_fork reference
     (λ w f. range_refusals asked.unlocks w f.fork (range_asked f asked))
     (λ w f. locks_range asked.unlocks w f.fork reply (range_asked f asked))
     keeps_all
 
-abbrev pub byte_range_lock_row : ℕ → ℕ → ℤ → ℤ → Row
+abbrev pub byte_range_lock_row : ℕ → ℕ → ℤ → ℤ → CallRow
 byte_range_lock_row flags reference offset length = locks reference (lock_asked flags offset length) (λ start. Start start)
 
-abbrev pub byte_range_lock_ext_row : ℕ → ℕ → ℤ → ℤ → Row
+abbrev pub byte_range_lock_ext_row : ℕ → ℕ → ℤ → ℤ → CallRow
 byte_range_lock_ext_row flags reference offset length = locks reference (lock_asked flags offset length) (λ start. StartExt start)

@@ -2,7 +2,7 @@
 use Rattle.std.specs.Prelude.{ℕ, not, List, [], ◌∷◌, Some, is_some, bytes_eq}
 use Rattle.std.specs.List.{list_any}
 use Rattle.afp_base.specs.declared.code.Code.TheVariants.{ParamErr, BadVersNum, BadUAM}
-use Rattle.afp_serial.specs.CallRow.{Row, commits_nothing, plain, with_empty_reply}
+use Rattle.afp_serial.specs.CallRow.{CallRow, commits_nothing, plain, with_empty_reply}
 use Rattle.afp_serial.specs.Sessions.{with_session}
 use Rattle.afp_serial.specs.StatusBlock.{no_user, versions}
 
@@ -11,7 +11,7 @@ abbrev pub guest_id : ℕ
 guest_id = 500
 
 -- The UAM by name and password is refused as one that is not known. The session's user is the one without a name.
-abbrev pub login_row : List ℕ → List ℕ → Row
+abbrev pub login_row : List ℕ → List ℕ → CallRow
 login_row version uam = record {
   refusals = λ w s.
       (is_some s.user, plain ParamErr)

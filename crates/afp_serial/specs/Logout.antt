@@ -1,11 +1,11 @@
 -- FPLogout (AFP Reference, "FPLogout").
 use Rattle.std.specs.Prelude.{[]}
 use Rattle.afp_replies.specs.declared.reply.Reply.TheVariants.{Empty}
-use Rattle.afp_serial.specs.CallRow.{Row, commits_nothing}
+use Rattle.afp_serial.specs.CallRow.{CallRow, commits_nothing}
 use Rattle.afp_serial.specs.Sessions.{without_session}
 
 -- It is never refused. The session ends, with its open forks and locks.
-abbrev pub logout_row : Row
+abbrev pub logout_row : CallRow
 logout_row = record {
   refusals = λ w s. [];
   effect = λ w s. record { world = without_session w s.number; reply = Empty };

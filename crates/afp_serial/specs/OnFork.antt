@@ -7,7 +7,7 @@ use Rattle.afp_base.specs.declared.code.Code.TheVariants.{ParamErr}
 use Rattle.afp_volume.specs.ForkEffect.{fork_effect, fork_of}
 use Rattle.afp_volume.specs.VolumeState.{Row as File, VolumeState}
 use Rattle.afp_volume.specs.Walk.{row_at}
-use Rattle.afp_serial.specs.CallRow.{Effect, Refusal, Row, plain, with_empty_reply}
+use Rattle.afp_serial.specs.CallRow.{Effect, Refusal, CallRow, plain, with_empty_reply}
 use Rattle.afp_serial.specs.OnVolume.{keeper_of, with_volume_state}
 use Rattle.afp_serial.specs.Sessions.{volume_at}
 use Rattle.afp_serial.specs.Sound.{share_fork}
@@ -51,7 +51,7 @@ committed_with None commits = None
 committed_with (Some f) commits = commits f
 
 -- the row of a call on an open fork of the session
-abbrev pub row_on_fork : ℕ → (World → OpenFile → List Refusal) → (World → OpenFile → Effect) → (World → OpenFile → Option ℕ) → Row
+abbrev pub row_on_fork : ℕ → (World → OpenFile → List Refusal) → (World → OpenFile → Effect) → (World → OpenFile → Option ℕ) → CallRow
 row_on_fork reference refuses does commits = record {
   refusals = λ w s. on_fork (open_file w s reference) (refuses w);
   effect = λ w s. done_with (open_file w s reference) w (does w);

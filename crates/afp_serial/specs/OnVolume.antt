@@ -3,10 +3,10 @@ use Rattle.std.specs.Prelude.{ℕ, zero, suc, ◌==◌, true, List, [], ◌∷�
 use Rattle.afp_base.specs.declared.code.Code.{Code}
 use Rattle.afp_base.specs.declared.code.Code.TheVariants.{ParamErr}
 use Rattle.afp_replies.specs.declared.reply.Reply.{Reply}
-use Rattle.afp_volume.specs.Calls.{Opened}
+use Rattle.afp_volume.specs.Shared.{Opened}
 use Rattle.afp_volume.specs.TreeSteps.{TreeCall, tree_refusal, tree_effect}
 use Rattle.afp_volume.specs.VolumeState.{VolumeState}
-use Rattle.afp_serial.specs.CallRow.{Effect, Refusal, Row, commits_nothing, plain, with_empty_reply, vol}
+use Rattle.afp_serial.specs.CallRow.{Effect, Refusal, CallRow, commits_nothing, plain, with_empty_reply, vol}
 use Rattle.afp_serial.specs.Sessions.{volume_at}
 use Rattle.afp_serial.specs.World.{World, Session, OpenFork}
 
@@ -48,7 +48,7 @@ keeper_of zero = None
 keeper_of (suc index) = Some index
 
 -- the row of a call that tells something of a volume, and changes nothing
-abbrev pub tells_of : ℕ → (World → VolumeState → Option Code) → (World → VolumeState → Reply) → Row
+abbrev pub tells_of : ℕ → (World → VolumeState → Option Code) → (World → VolumeState → Reply) → CallRow
 tells_of volume refuses reply = record {
   refusals = λ w s. on_volume w s volume (refuses w);
   effect = λ w s. done_on (volume_at w.volumes volume) w (λ v. record { world = w; reply = reply w v });
@@ -56,7 +56,7 @@ tells_of volume refuses reply = record {
 }
 
 -- the row of a call that changes the tree of a volume, and commits that to the volume's keeper; `reply` is of the volume as it was before the call
-abbrev pub changes_tree : ℕ → TreeCall → (VolumeState → Reply) → Row
+abbrev pub changes_tree : ℕ → TreeCall → (VolumeState → Reply) → CallRow
 changes_tree volume call reply = record {
   refusals = λ w s. on_volume w s volume (λ v. tree_refusal v (opened_on w volume) call);
   effect = λ w s. done_on (volume_at w.volumes volume) w (λ v. record { world = with_volume_state w volume (tree_effect v w.latest call); reply = reply v });

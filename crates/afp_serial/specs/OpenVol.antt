@@ -6,7 +6,7 @@ use Rattle.afp_replies.specs.declared.reply.Reply.{Reply}
 use Rattle.afp_replies.specs.declared.reply.Reply.TheVariants.{Params}
 use Rattle.afp_volume.specs.GetVolParms.{get_vol_parms_refusal, volume_values}
 use Rattle.afp_volume.specs.VolumeState.{VolumeState}
-use Rattle.afp_serial.specs.CallRow.{Effect, Row, commits_nothing, plain, with_empty_reply}
+use Rattle.afp_serial.specs.CallRow.{Effect, CallRow, commits_nothing, plain, with_empty_reply}
 use Rattle.afp_serial.specs.OnVolume.{refused_before}
 use Rattle.afp_serial.specs.Sessions.{has_opened, volume_at, with_session}
 use Rattle.afp_serial.specs.World.{World, Session}
@@ -35,7 +35,7 @@ opens_volume w s bits (Some id) None = with_empty_reply w
 opens_volume w s bits (Some id) (Some v) = record { world = with_session w (with_volume s id); reply = open_vol_reply bits id v }
 
 -- it asks of the volume at least one thing, and tells it as FPGetVolParms does
-abbrev pub open_vol_row : ℕ → List ℕ → Row
+abbrev pub open_vol_row : ℕ → List ℕ → CallRow
 open_vol_row bits name = record {
   refusals = λ w s. refused_before (get_vol_parms_refusal bits) ((is_none (state_named w (volume_named w name)), plain ObjectNotFound) ∷ []);
   effect = λ w s. opens_volume w s bits (volume_named w name) (state_named w (volume_named w name));

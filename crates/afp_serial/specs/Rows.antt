@@ -4,7 +4,7 @@ use Rattle.afp_base.specs.declared.code.Code.TheVariants.{CallNotSupported}
 use Rattle.afp_requests.specs.declared.call.Call.{Call}
 use Rattle.afp_requests.specs.declared.call.Call.TheVariants.{ByteRangeLock, ByteRangeLockExt, CloseDir, CloseFork, CloseVol, CreateDir, CreateFile, Delete, Enumerate, EnumerateExt, EnumerateExt2, Flush, FlushFork, GetFileDirParms, GetForkParms, GetVolParms, Login, Logout, MoveAndRename, OpenDir, OpenFork, OpenVol, Read, ReadExt, Rename, SetDirParms, SetFileDirParms, SetFileParms, SetForkParms, SetVolParms, Write, WriteExt}
 use Rattle.afp_base.specs.Choice.{first_holding}
-use Rattle.afp_serial.specs.CallRow.{Effect, Refused, Row, commits_nothing, plain, with_empty_reply}
+use Rattle.afp_serial.specs.CallRow.{Effect, Refused, CallRow, commits_nothing, plain, with_empty_reply}
 use Rattle.afp_serial.specs.CloseVol.{close_vol_row}
 use Rattle.afp_serial.specs.CreateDir.{create_dir_row}
 use Rattle.afp_serial.specs.CreateFile.{create_file_row}
@@ -25,10 +25,10 @@ use Rattle.afp_serial.specs.SetVolParms.{set_vol_parms_row}
 use Rattle.afp_serial.specs.World.{World, Session}
 
 -- a call that is spelt and has no row yet is not supported
-abbrev pub unsupported_row : Row
+abbrev pub unsupported_row : CallRow
 unsupported_row = record { refusals = λ w s. (true, plain CallNotSupported) ∷ []; effect = λ w s. with_empty_reply w; committed = commits_nothing }
 
-unfoldable pub row : Call → Row
+unfoldable pub row : Call → CallRow
 row (ByteRangeLock flags reference offset length) = byte_range_lock_row flags reference.0 offset length
 row (ByteRangeLockExt flags reference offset length) = byte_range_lock_ext_row flags reference.0 offset length
 row (CloseDir volume dir) = close_dir_row volume.0

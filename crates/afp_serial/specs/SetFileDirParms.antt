@@ -3,14 +3,14 @@ use Rattle.std.specs.Prelude.{ℕ, List}
 use Rattle.afp_names.specs.Path.{PathValue}
 use Rattle.afp_replies.specs.declared.reply.Reply.TheVariants.{Empty}
 use Rattle.afp_volume.specs.TreeSteps.{SetDirParms, SetFileDirParms, SetFileParms}
-use Rattle.afp_serial.specs.CallRow.{Row}
+use Rattle.afp_serial.specs.CallRow.{CallRow}
 use Rattle.afp_serial.specs.OnVolume.{changes_tree}
 
-abbrev pub set_file_parms_row : ℕ → ℕ → ℕ → PathValue → List ℕ → Row
+abbrev pub set_file_parms_row : ℕ → ℕ → ℕ → PathValue → List ℕ → CallRow
 set_file_parms_row volume dir bits path tail = changes_tree volume (SetFileParms dir bits path tail) (λ v. Empty)
 
-abbrev pub set_dir_parms_row : ℕ → ℕ → ℕ → PathValue → List ℕ → Row
+abbrev pub set_dir_parms_row : ℕ → ℕ → ℕ → PathValue → List ℕ → CallRow
 set_dir_parms_row volume dir bits path tail = changes_tree volume (SetDirParms dir bits path tail) (λ v. Empty)
 
-abbrev pub set_file_dir_parms_row : ℕ → ℕ → ℕ → PathValue → List ℕ → Row
+abbrev pub set_file_dir_parms_row : ℕ → ℕ → ℕ → PathValue → List ℕ → CallRow
 set_file_dir_parms_row volume dir bits path tail = changes_tree volume (SetFileDirParms dir bits path tail) (λ v. Empty)

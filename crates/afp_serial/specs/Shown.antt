@@ -1,5 +1,6 @@
 -- What a teller shows of the history that it answers from, and what an ask adds to it (this profile).
 use Rattle.std.specs.Prelude.{◌≡◌, ℕ, ◌+◌, ◌≤◌, nat_le, Bool, true, false, List, [], ◌∷◌, ◌++◌, length, take}
+use Rattle.afp_base.specs.Limits.{payload_limit}
 use Rattle.afp_base.specs.Counts.{Rises}
 use Rattle.afp_base.specs.declared.ids.LinkNumber.{LinkNumber}
 use Rattle.afp_serial.specs.declared.ask.Ask.{Ask}
@@ -10,7 +11,6 @@ use Rattle.afp_serial.specs.declared.ask.Told.{Told}
 use Rattle.afp_serial.specs.declared.ask.Told.TheVariants.{Opened, Reply, Live, Done, Displaced, Memory}
 use Rattle.afp_serial.specs.Answer.{answer}
 use Rattle.afp_serial.specs.History.{entry, faults_in, is_lawful, stand}
-use Rattle.afp_serial.specs.Limits.{longest_block}
 use Rattle.afp_serial.specs.Sound.{IsSound}
 use Rattle.afp_serial.specs.World.{World}
 
@@ -102,7 +102,7 @@ is_answer_to ask.Drain Memory = true
 -- the block of a reply fits in a frame
 abbrev pub fits_frame : Told → Bool
 fits_frame (Opened l) = true
-fits_frame (Reply code block ends) = nat_le (length block) longest_block
+fits_frame (Reply code block ends) = nat_le (length block) payload_limit
 fits_frame (Live drain) = true
 fits_frame Done = true
 fits_frame Displaced = true

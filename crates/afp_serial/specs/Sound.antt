@@ -2,6 +2,7 @@
 use Rattle.std.specs.Prelude.{◌≡◌, ℕ, ◌==◌, nat_le, nat_lt, Bool, true, false, ◌&&◌, List, length, map, count_by, All, Option, Some, None, is_none, bytes_eq}
 use Rattle.std.specs.Cmp.Lexicographic.{pointwise}
 use Rattle.std.specs.List.{list_all, list_any}
+use Rattle.afp_base.specs.Limits.{payload_limit, replay_cache_size}
 use Rattle.afp_base.specs.Cached.{Kept, is_repeat}
 use Rattle.afp_base.specs.DenyMode.{is_one_fork, do_conflict}
 use Rattle.afp_base.specs.Overlap.{do_meet}
@@ -10,7 +11,7 @@ use Rattle.afp_base.specs.Apart.{are_apart}
 use Rattle.afp_volume.specs.SoundVolume.{IsSoundVolume, has_file}
 use Rattle.afp_serial.specs.declared.attachment.Attachment.{Attachment}
 use Rattle.afp_serial.specs.declared.attachment.Attachment.TheVariants.{Attached, Detached}
-use Rattle.afp_serial.specs.Limits.{most_users, most_volumes, most_sessions, most_kept, most_forks, most_locks, longest_block}
+use Rattle.afp_serial.specs.Limits.{most_users, most_volumes, most_sessions, most_forks, most_locks}
 use Rattle.afp_serial.specs.HouseFault.{house_fault}
 use Rattle.afp_serial.specs.Household.{Household}
 use Rattle.afp_serial.specs.Ranges.{is_moment, is_moment_or_none, is_typed_house}
@@ -64,12 +65,12 @@ has_lawful_locks w =
     list_all (λ lock. is_open w.opens lock.reference) w.locks
     && are_apart (λ a b. share_fork w.opens a.reference b.reference && do_meet a.range b.range) w.locks
 
--- at most 32 answers, of requests that differ, each short enough for a frame
+-- at most as many answers as the replay cache holds, of requests that differ, each short enough for a frame
 abbrev pub is_lawful_cache : List Kept → Bool
 is_lawful_cache cache =
-    nat_le (length cache) most_kept
+    nat_le (length cache) replay_cache_size
     && (are_apart (λ a b. is_repeat a.request b.request) cache
-    && list_all (λ kept. nat_le (length kept.answer.block) longest_block) cache)
+    && list_all (λ kept. nat_le (length kept.answer.block) payload_limit) cache)
 
 unfoldable pub has_lawful_caches : World → Bool
 has_lawful_caches w = list_all (λ s. is_lawful_cache s.cache) w.sessions

@@ -1,12 +1,12 @@
 -- The laws of what is written and read: a fork that was written gives those bytes to a read until the next change that meets them (this profile).
 use Rattle.std.specs.Prelude.{◌≡◌, ℕ, pos, ◌+◌, ◌<◌, ◌≤◌, ◌==◌, nat_le, Bool, true, false, ◌||◌, List, [], ◌∷◌, length, Option, Some, option_map}
 use Rattle.std.specs.List.{list_all}
+use Rattle.afp_base.specs.Limits.{payload_limit}
 use Rattle.afp_base.specs.DenyMode.{is_one_fork}
 use Rattle.afp_base.specs.ForkBytes.{resized, splice, taken}
 use Rattle.afp_replies.specs.declared.reply.Reply.{Reply}
 use Rattle.afp_serial.specs.Fork.{is_other_length, length_for, set_fork_parms_row}
 use Rattle.afp_serial.specs.ForkBytes.{ReadAsked, WriteAsked, meets_end, read_bytes, writes, writes_some, written_bytes}
-use Rattle.afp_serial.specs.Limits.{longest_block}
 use Rattle.afp_serial.specs.OnFork.{OpenFile, bytes_of, open_file, with_bytes}
 use Rattle.afp_serial.specs.Sound.{IsSound}
 use Rattle.afp_serial.specs.World.{World, Session}
@@ -64,5 +64,5 @@ read_of at n character = record { offset = pos at; count = pos n; mask = 0; char
 
 -- a read gives the bytes that are there, and does not meet the end
 abbrev pub ReadsWhatIsThere : Type 0
-ReadsWhatIsThere = (bytes piece : List ℕ) (at character : ℕ) → length piece ≤ longest_block → taken bytes at (length piece) ≡ piece
+ReadsWhatIsThere = (bytes piece : List ℕ) (at character : ℕ) → length piece ≤ payload_limit → taken bytes at (length piece) ≡ piece
     → (read_bytes bytes (read_of at (length piece) character) ≡ piece) × (meets_end bytes (read_of at (length piece) character) ≡ false)

@@ -37,6 +37,7 @@ impl Model for House {
 }
 
 impl House {
+    ghost use Rattle.afp_base.specs.Limits.{payload_limit};
     ghost use Rattle.afp_serial.specs.Household.{household};
     ghost use Rattle.afp_serial.specs.HouseFault.{house_fault};
     ghost use Rattle.afp_serial.specs.Faultless.{IsFaultless, NamesFirstBad};
@@ -87,7 +88,7 @@ impl House {
     pub fn status(&self, alloc: Global) -> Result<Bytes, OutOfMemory>
         ensures block { IfOk result (λ block. block ≡ status_block self.now) }
         ensures offsets { IfOk result (λ block. OffsetsFindParts self.now block) }
-        ensures size { IfOk result (λ block. length block ≤ 131072) }
+        ensures size { IfOk result (λ block. length block ≤ payload_limit) }
     {
         status_block(alloc, self.server.as_slice(), &self.signature)
     }

@@ -15,7 +15,7 @@ use Rattle.afp_server.specs.Passing.{all_passed}
 use Rattle.afp_server.specs.Replies.{spelling_of}
 use Rattle.afp_server.specs.lemma.Serving.{Start, Point, point, SoFar, Ended, RestsLink}
 use Rattle.afp_server.specs.lemma.SessionState.{SessionState}
-use Rattle.afp_server.specs.Trace.{Happening, came, rested, events_in, frames_in, replies_in, steps_in, standing, Cause, displaced, silent, Rests, Follows}
+use Rattle.afp_server.specs.Trace.{Happening, received, was_quiet, events_in, frames_in, replies_in, steps_in, standing, Cause, displaced, silent, Rests, Follows}
 use Rattle.afp_server.specs.declared.serve.LinkEnd.{LinkEnd}
 use Rattle.afp_server.specs.declared.serve.LinkEnd.TheVariants as links
 use Rattle.afp_server.specs.declared.stage.Stage.{Stage}
@@ -107,7 +107,7 @@ pub so_far-came : (start : Start) (p : Point) (cost n : ℕ) (end : LinkState) (
 so_far-came start p cost n end held room w r rest place most fits =
     let s = w.so_far in
     let bytes : List ℕ = take n room in
-    let h : Happening = came p.link.written end.now bytes in
+    let h : Happening = received p.link.written end.now bytes in
     let size : length bytes ≡ n = length-take n room ∙ omega (arith, r.most) in
     let more : came_in (s.trace ++ h ∷ []) ≡ came_in s.trace ++ bytes = came_in-append s.trace (h ∷ []) ∙ ap (λ (b : List ℕ). came_in s.trace ++ b) (append-nil bytes) in
     let frames : frames_in (s.trace ++ h ∷ []) ≡ frames_in s.trace = frames_in-append s.trace (h ∷ []) ∙ append-nil (frames_in s.trace) in
@@ -139,33 +139,33 @@ pub record RestsHere (start : Start) (p : Point) (cost : ℕ) (end : LinkState) 
   pub went : Went p.shown steps shown
 
 abbrev pub quietly : List Happening → LinkState → LinkState → List Step → List Happening
-quietly trace before end steps = trace ++ rested before.written end.now steps ∷ []
+quietly trace before end steps = trace ++ was_quiet before.written end.now steps ∷ []
 
 rests-follows : (start : Start) (p : Point) (cost : ℕ) (end : LinkState) (steps : List Step) (stage : Stage) (shown : Shown) (why : Option Cause) → (r : RestsHere start p cost end steps stage shown why)
     → Follows start.block (standing stages.Fresh start.link) (quietly r.waits.so_far.trace p.link end steps) (standing stage end) why
 rests-follows start p cost end steps stage shown why r =
-    follows-snoc start.block (standing stages.Fresh start.link) (standing p.stage p.link) (standing stage end) r.waits.so_far.trace (rested p.link.written end.now steps) why r.waits.so_far.follows
+    follows-snoc start.block (standing stages.Fresh start.link) (standing p.stage p.link) (standing stage end) r.waits.so_far.trace (was_quiet p.link.written end.now steps) why r.waits.so_far.follows
     (refl, r.reads.heard, subst (λ (heard : ℕ). Rests heard end.now p.stage steps stage why) r.reads.heard r.rests)
 
 rests-moves : (start : Start) (p : Point) (cost : ℕ) (end : LinkState) (steps : List Step) (stage : Stage) (shown : Shown) (why : Option Cause) → (r : RestsHere start p cost end steps stage shown why)
     → Moves start.link (events_in (quietly r.waits.so_far.trace p.link end steps)) (spelling_of (replies_in (quietly r.waits.so_far.trace p.link end steps))) 0 end
 rests-moves start p cost end steps stage shown why r =
-    grows start.link p.link end r.waits.so_far.trace (rested p.link.written end.now steps) refl r.waits.so_far.moves (moves-quiet p.link end r.reads)
+    grows start.link p.link end r.waits.so_far.trace (was_quiet p.link.written end.now steps) refl r.waits.so_far.moves (moves-quiet p.link end r.reads)
 
 rests-reads : (start : Start) (p : Point) (cost : ℕ) (end : LinkState) (steps : List Step) (stage : Stage) (shown : Shown) (why : Option Cause) → (r : RestsHere start p cost end steps stage shown why)
     → EachMayRead start.turns start.link.written [] (quietly r.waits.so_far.trace p.link end steps)
 rests-reads start p cost end steps stage shown why r =
-    each-snoc start.turns start.link.written [] r.waits.so_far.trace (rested p.link.written end.now steps) r.waits.so_far.reads
+    each-snoc start.turns start.link.written [] r.waits.so_far.trace (was_quiet p.link.written end.now steps) r.waits.so_far.reads
     (may_read start p cost (quiet p.link.written end.now) r.waits refl (omega arith) (omega (arith, r.few)))
 
 rests-came : (trace : List Happening) (before end : LinkState) (steps : List Step) → came_in (quietly trace before end steps) ≡ came_in trace
-rests-came trace before end steps = came_in-append trace (rested before.written end.now steps ∷ []) ∙ append-nil (came_in trace)
+rests-came trace before end steps = came_in-append trace (was_quiet before.written end.now steps ∷ []) ∙ append-nil (came_in trace)
 
 rests-fills : (start : Start) (p : Point) (cost : ℕ) (end : LinkState) (steps : List Step) (stage : Stage) (shown : Shown) (why : Option Cause) → (r : RestsHere start p cost end steps stage shown why)
     → Fills (came_in (quietly r.waits.so_far.trace p.link end steps)) (frames_in (quietly r.waits.so_far.trace p.link end steps)) p.held.rest
 rests-fills start p cost end steps stage shown why r =
     let s = r.waits.so_far in
-    let frames : frames_in (quietly s.trace p.link end steps) ≡ frames_in s.trace = frames_in-append s.trace (rested p.link.written end.now steps ∷ []) ∙ append-nil (frames_in s.trace) in
+    let frames : frames_in (quietly s.trace p.link end steps) ≡ frames_in s.trace = frames_in-append s.trace (was_quiet p.link.written end.now steps ∷ []) ∙ append-nil (frames_in s.trace) in
     subst (λ (b : List ℕ). Fills b (frames_in (quietly s.trace p.link end steps)) p.held.rest) (sym (rests-came s.trace p.link end steps))
     (subst (λ (fs : List Frame). Fills (came_in s.trace) fs p.held.rest) (sym frames) s.fills)
 
@@ -173,14 +173,14 @@ rests-went : (start : Start) (p : Point) (cost : ℕ) (end : LinkState) (steps :
     → Went start.shown (steps_in (quietly r.waits.so_far.trace p.link end steps)) shown
 rests-went start p cost end steps stage shown why r =
     let s = r.waits.so_far in
-    let more : steps_in (quietly s.trace p.link end steps) ≡ steps_in s.trace ++ steps = steps_in-append s.trace (rested p.link.written end.now steps ∷ []) ∙ ap (λ (ss : List Step). steps_in s.trace ++ ss) (append-nil steps) in
+    let more : steps_in (quietly s.trace p.link end steps) ≡ steps_in s.trace ++ steps = steps_in-append s.trace (was_quiet p.link.written end.now steps ∷ []) ∙ ap (λ (ss : List Step). steps_in s.trace ++ ss) (append-nil steps) in
     subst (λ (ss : List Step). Went start.shown ss shown) (sym more) (went-join start.shown p.shown shown (steps_in s.trace) steps s.went r.went)
 
 rests-through : (start : Start) (p : Point) (cost : ℕ) (end : LinkState) (steps : List Step) (stage : Stage) (shown : Shown) (why : Option Cause) → (r : RestsHere start p cost end steps stage shown why)
     → p.passed ≡ all_passed (steps_in (quietly r.waits.so_far.trace p.link end steps))
 rests-through start p cost end steps stage shown why r =
     let s = r.waits.so_far in
-    let more : steps_in (quietly s.trace p.link end steps) ≡ steps_in s.trace ++ steps = steps_in-append s.trace (rested p.link.written end.now steps ∷ []) ∙ ap (λ (ss : List Step). steps_in s.trace ++ ss) (append-nil steps) in
+    let more : steps_in (quietly s.trace p.link end steps) ≡ steps_in s.trace ++ steps = steps_in-append s.trace (was_quiet p.link.written end.now steps ∷ []) ∙ ap (λ (ss : List Step). steps_in s.trace ++ ss) (append-nil steps) in
     passed-more p.passed (steps_in s.trace) steps s.through (rests-calls end.heard end.now p.stage steps stage why r.rests) ∙ ap all_passed (sym more)
 
 -- the link goes on behind a quiet
@@ -188,7 +188,7 @@ pub so_far-rests : (start : Start) (p : Point) (cost : ℕ) (end : LinkState) (s
     → SoFar start (point p.held stage end shown p.passed) (cost + 1)
 so_far-rests start p cost end steps stage shown r =
     let s = r.waits.so_far in
-    let h : Happening = rested p.link.written end.now steps in
+    let h : Happening = was_quiet p.link.written end.now steps in
     record {
       trace = quietly s.trace p.link end steps;
       follows = rests-follows start p cost end steps stage shown None r;

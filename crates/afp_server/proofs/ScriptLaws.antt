@@ -14,7 +14,7 @@ use Rattle.afp_server.specs.Did.{Did}
 use Rattle.afp_server.specs.OpenSession.{OpenTold, OpensSession}
 use Rattle.afp_server.specs.Replies.{listed, plain}
 use Rattle.afp_server.specs.Script.{FreshDoes, OpenDoes, ReplyDoes, FrameDoes, Does, Script}
-use Rattle.afp_server.specs.Trace.{Happening, came, rested, handled, frames_in, replies_in, frame_steps_in, Standing, Cause, closed, displaced, bad, silent, cause_of, RestsOn, Rests, Follows}
+use Rattle.afp_server.specs.Trace.{Happening, received, was_quiet, handled, frames_in, replies_in, frame_steps_in, Standing, Cause, closed, displaced, bad, silent, cause_of, RestsOn, Rests, Follows}
 use Rattle.afp_server.specs.declared.stage.FrameEnd.{FrameEnd}
 use Rattle.afp_server.specs.declared.stage.FrameEnd.TheVariants as ends
 use Rattle.afp_server.specs.declared.stage.Stage.{Stage}
@@ -171,7 +171,7 @@ ends-here block stage h mid b trace cause c last s =
     (subst (λ (t : List Happening). IsScripted block stage (h ∷ t) mid.stage (Some c)) (sym last.0) s))
 
 came-next : (block : List ℕ) (a mid b : Standing) (w : Option (List ℕ)) (n : ℕ) (bytes : List ℕ) (trace : List Happening) (cause why : Option Cause) → mid.stage ≡ a.stage → why ≡ None
-    → (Follows block mid trace b cause → IsScripted block mid.stage trace b.stage cause) → Then block mid trace b cause why → IsScripted block a.stage (came w n bytes ∷ trace) b.stage cause
+    → (Follows block mid trace b cause → IsScripted block mid.stage trace b.stage cause) → Then block mid trace b cause why → IsScripted block a.stage (received w n bytes ∷ trace) b.stage cause
 came-next block a mid b w n bytes trace cause why same goes_on rest next =
     let s = rest (subst (λ (x : Option Cause). Then block mid trace b cause x) goes_on next) in record {
       after = s.after;
@@ -182,7 +182,7 @@ came-next block a mid b w n bytes trace cause why same goes_on rest next =
     }
 
 rested-next : (block : List ℕ) (a mid b : Standing) (w : Option (List ℕ)) (n : ℕ) (steps : List Step) (trace : List Happening) (cause why : Option Cause) → Rests a.heard n a.stage steps mid.stage why
-    → (Follows block mid trace b cause → IsScripted block mid.stage trace b.stage cause) → Then block mid trace b cause why → IsScripted block a.stage (rested w n steps ∷ trace) b.stage cause
+    → (Follows block mid trace b cause → IsScripted block mid.stage trace b.stage cause) → Then block mid trace b cause why → IsScripted block a.stage (was_quiet w n steps ∷ trace) b.stage cause
 rested-next block a mid b w n steps trace cause None r rest next =
     let s = rest next in record {
       after = s.after;
@@ -193,7 +193,7 @@ rested-next block a mid b w n steps trace cause None r rest next =
     }
 rested-next block a mid b w n steps trace cause (Some c) r rest next =
     let s = rests-ends block a.heard n a.stage steps mid.stage c r in
-    ends-here block a.stage (rested w n steps) mid b trace cause c next (record { after = s.after; end = s.end; script = s.script; ends = s.ends; plain_replies = s.plain_replies })
+    ends-here block a.stage (was_quiet w n steps) mid b trace cause c next (record { after = s.after; end = s.end; script = s.script; ends = s.ends; plain_replies = s.plain_replies })
 
 handled-next : (block : List ℕ) (a mid b : Standing) (f : Frame) (did : Did) (trace : List Happening) (cause why : Option Cause) (e : Option FrameEnd) → Does block a.now a.stage f did → mid.stage ≡ did.stage
     → did.end ≡ e → why ≡ option_map cause_of e
@@ -207,8 +207,8 @@ handled-next block a mid b f did trace cause why (Some e) does same ends is rest
 pub scripted : (block : List ℕ) (a b : Standing) (trace : List Happening) (cause : Option Cause) → Follows block a trace b cause → IsScripted block a.stage trace b.stage cause
 scripted block a b [] cause f =
     subst (λ (c : Option Cause). IsScripted block a.stage [] b.stage c) (sym f.1) (scripted-none block a.stage None b.stage b.stage (ap (λ (x : Standing). x.stage) f.0) (refl, refl))
-scripted block a b (came w n bytes ∷ trace) cause f =
+scripted block a b (received w n bytes ∷ trace) cause f =
     came-next block a f.0 b w n bytes trace cause f.1 (ap (λ (x : Standing). x.stage) f.2.0) f.2.1 (λ r. scripted block f.0 b trace cause r) f.3
-scripted block a b (rested w n steps ∷ trace) cause f = rested-next block a f.0 b w n steps trace cause f.1 f.2.2 (λ r. scripted block f.0 b trace cause r) f.3
+scripted block a b (was_quiet w n steps ∷ trace) cause f = rested-next block a f.0 b w n steps trace cause f.1 f.2.2 (λ r. scripted block f.0 b trace cause r) f.3
 scripted block a b (handled f did ∷ trace) cause x =
     handled-next block a x.0 b f did trace cause x.1 did.end x.2.0 (ap (λ (s : Standing). s.stage) x.2.1) refl x.2.2 (λ r. scripted block x.0 b trace cause r) x.3

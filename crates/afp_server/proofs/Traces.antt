@@ -9,31 +9,31 @@ use Rattle.dsi_frame.specs.Frame.{canonical_frame}
 use Rattle.afp_server.specs.Did.{Did}
 use Rattle.afp_server.specs.LinkRun.{MayRead, EachMayRead, Fills, came_in}
 use Rattle.afp_server.specs.Replies.{listed, spelling_of}
-use Rattle.afp_server.specs.Trace.{Happening, came, rested, handled, events_in, frames_in, replies_in, steps_in, Standing, Cause, Takes, Follows}
+use Rattle.afp_server.specs.Trace.{Happening, received, was_quiet, handled, events_in, frames_in, replies_in, steps_in, Standing, Cause, Takes, Follows}
 use Rattle.afp_server.proofs.Moving.{taken-append}
 
 pub events_in-append : (a b : List Happening) → events_in (a ++ b) ≡ events_in a ++ events_in b
 events_in-append [] b = refl
-events_in-append (came w n bytes ∷ a) b = ap (λ (es : List Event). piece w n bytes ∷ es) (events_in-append a b)
-events_in-append (rested w n steps ∷ a) b = ap (λ (es : List Event). quiet w n ∷ es) (events_in-append a b)
+events_in-append (received w n bytes ∷ a) b = ap (λ (es : List Event). piece w n bytes ∷ es) (events_in-append a b)
+events_in-append (was_quiet w n steps ∷ a) b = ap (λ (es : List Event). quiet w n ∷ es) (events_in-append a b)
 events_in-append (handled f did ∷ a) b = events_in-append a b
 
 pub frames_in-append : (a b : List Happening) → frames_in (a ++ b) ≡ frames_in a ++ frames_in b
 frames_in-append [] b = refl
-frames_in-append (came w n bytes ∷ a) b = frames_in-append a b
-frames_in-append (rested w n steps ∷ a) b = frames_in-append a b
+frames_in-append (received w n bytes ∷ a) b = frames_in-append a b
+frames_in-append (was_quiet w n steps ∷ a) b = frames_in-append a b
 frames_in-append (handled f did ∷ a) b = ap (λ (fs : List Frame). f ∷ fs) (frames_in-append a b)
 
 pub replies_in-append : (a b : List Happening) → replies_in (a ++ b) ≡ replies_in a ++ replies_in b
 replies_in-append [] b = refl
-replies_in-append (came w n bytes ∷ a) b = replies_in-append a b
-replies_in-append (rested w n steps ∷ a) b = replies_in-append a b
+replies_in-append (received w n bytes ∷ a) b = replies_in-append a b
+replies_in-append (was_quiet w n steps ∷ a) b = replies_in-append a b
 replies_in-append (handled f did ∷ a) b = ap (λ (fs : List Frame). listed did.reply ++ fs) (replies_in-append a b) ∙ sym (append_assoc (listed did.reply) (replies_in a) (replies_in b))
 
 pub steps_in-append : (a b : List Happening) → steps_in (a ++ b) ≡ steps_in a ++ steps_in b
 steps_in-append [] b = refl
-steps_in-append (came w n bytes ∷ a) b = steps_in-append a b
-steps_in-append (rested w n steps ∷ a) b = ap (λ (ss : List Step). steps ++ ss) (steps_in-append a b) ∙ sym (append_assoc steps (steps_in a) (steps_in b))
+steps_in-append (received w n bytes ∷ a) b = steps_in-append a b
+steps_in-append (was_quiet w n steps ∷ a) b = ap (λ (ss : List Step). steps ++ ss) (steps_in-append a b) ∙ sym (append_assoc steps (steps_in a) (steps_in b))
 steps_in-append (handled f did ∷ a) b = ap (λ (ss : List Step). did.steps ++ ss) (steps_in-append a b) ∙ sym (append_assoc did.steps (steps_in a) (steps_in b))
 
 pub came_in-append : (a b : List Happening) → came_in (a ++ b) ≡ came_in a ++ came_in b
@@ -75,19 +75,19 @@ follows-snoc block a b c (g ∷ trace) h why f t =
 
 -- what a happening asks of the reads
 abbrev pub MayHappen : ℕ → Option (List ℕ) → List Happening → Happening → Type 0
-MayHappen turns written before (came past now bytes) = MayRead turns written before (piece past now bytes)
-MayHappen turns written before (rested past now steps) = MayRead turns written before (quiet past now)
+MayHappen turns written before (received past now bytes) = MayRead turns written before (piece past now bytes)
+MayHappen turns written before (was_quiet past now steps) = MayRead turns written before (quiet past now)
 MayHappen turns written before (handled f did) = Unit {0}
 
 pub each-snoc : (turns : ℕ) (written : Option (List ℕ)) (before trace : List Happening) (h : Happening) → EachMayRead turns written before trace
     → MayHappen turns written (before ++ trace) h → EachMayRead turns written before (trace ++ h ∷ [])
-each-snoc turns written before [] (came past now bytes) each may = (subst (λ (b : List Happening). MayRead turns written b (piece past now bytes)) (append-nil before) may, tt)
-each-snoc turns written before [] (rested past now steps) each may = (subst (λ (b : List Happening). MayRead turns written b (quiet past now)) (append-nil before) may, tt)
+each-snoc turns written before [] (received past now bytes) each may = (subst (λ (b : List Happening). MayRead turns written b (piece past now bytes)) (append-nil before) may, tt)
+each-snoc turns written before [] (was_quiet past now steps) each may = (subst (λ (b : List Happening). MayRead turns written b (quiet past now)) (append-nil before) may, tt)
 each-snoc turns written before [] (handled f did) each may = tt
-each-snoc turns written before (came past now bytes ∷ trace) h each may =
-    (each.0, each-snoc turns written (before ++ came past now bytes ∷ []) trace h each.1 (subst (λ (b : List Happening). MayHappen turns written b h) (sym (append_assoc before (came past now bytes ∷ []) trace)) may))
-each-snoc turns written before (rested past now steps ∷ trace) h each may =
-    (each.0, each-snoc turns written (before ++ rested past now steps ∷ []) trace h each.1 (subst (λ (b : List Happening). MayHappen turns written b h) (sym (append_assoc before (rested past now steps ∷ []) trace)) may))
+each-snoc turns written before (received past now bytes ∷ trace) h each may =
+    (each.0, each-snoc turns written (before ++ received past now bytes ∷ []) trace h each.1 (subst (λ (b : List Happening). MayHappen turns written b h) (sym (append_assoc before (received past now bytes ∷ []) trace)) may))
+each-snoc turns written before (was_quiet past now steps ∷ trace) h each may =
+    (each.0, each-snoc turns written (before ++ was_quiet past now steps ∷ []) trace h each.1 (subst (λ (b : List Happening). MayHappen turns written b h) (sym (append_assoc before (was_quiet past now steps ∷ []) trace)) may))
 each-snoc turns written before (handled f did ∷ trace) h each may =
     each-snoc turns written (before ++ handled f did ∷ []) trace h each (subst (λ (b : List Happening). MayHappen turns written b h) (sym (append_assoc before (handled f did ∷ []) trace)) may)
 

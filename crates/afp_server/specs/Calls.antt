@@ -34,7 +34,7 @@ CallTold f link (told.Live drain) reply stage end = ⊥
 CallTold f link told.Done reply stage end = ⊥
 
 -- A call is asked at the session's link.
-pub record Calls (now : ℕ) (link : LinkNumber) (f : Frame) (asks : Ask) (did : Did) : Type 0 where
+pub record AsksCall (now : ℕ) (link : LinkNumber) (f : Frame) (asks : Ask) (did : Did) : Type 0 where
   pub answer : Told
   pub steps : did.steps ≡ step now link asks answer ∷ []
   pub told : CallTold f link answer did.reply did.stage did.end

@@ -1,7 +1,7 @@
 -- What one run of a link is: what its reads gave, what was asked and written, and why it ended (this profile).
 use Rattle.std.specs.Prelude.{◌≡◌, ◌⊎◌, ℕ, ◌+◌, ◌<◌, ◌≤◌, Bool, true, false, List, [], ◌∷◌, ◌++◌, length, Option, Some, None, IfSome, option_map}
 use Rattle.afp_base.specs.declared.ids.LinkNumber.{LinkNumber}
-use Rattle.afp_base.specs.Counts.{Counts, Rises}
+use Rattle.afp_base.specs.Counts.{CountsOn, Rises}
 use Rattle.afp_outside.specs.Link.{Event, piece, quiet, taken, LinkState}
 use Rattle.afp_serial.specs.Household.{Household}
 use Rattle.afp_serial.specs.StatusBlock.{status_block}
@@ -16,7 +16,7 @@ use Rattle.dsi_frame.specs.declared.frame.DsiCommand.{DsiCommand}
 use Rattle.dsi_frame.specs.declared.frame.DsiCommand.TheVariants as commands
 use Rattle.afp_server.specs.Did.{Did}
 use Rattle.afp_server.specs.Replies.{spelling_of}
-use Rattle.afp_server.specs.Trace.{Happening, came, rested, handled, events_in, frames_in, replies_in, steps_in, Standing, standing, Cause, closed, displaced, silent, bad, Follows}
+use Rattle.afp_server.specs.Trace.{Happening, received, was_quiet, handled, events_in, frames_in, replies_in, steps_in, Standing, standing, Cause, closed, displaced, silent, bad, Follows}
 use Rattle.afp_server.specs.declared.serve.LinkEnd.{LinkEnd}
 use Rattle.afp_server.specs.declared.serve.LinkEnd.TheVariants as ends
 use Rattle.afp_server.specs.declared.stage.Stage.{Stage}
@@ -38,9 +38,9 @@ pub record Moves (old : LinkState) (events : List Event) (wrote : List ℕ) (fai
   pub told : new.events ≡ option_map (λ before. before ++ events) old.events
   pub coming : old.coming ≡ option_map (λ left. taken events ++ left) new.coming
   pub written : new.written ≡ option_map (λ before. before ++ wrote) old.written
-  pub quiets : Counts (quiets_in events) old.quiets new.quiets
+  pub quiets : CountsOn (quiets_in events) old.quiets new.quiets
   pub read_faults : old.read_faults ≤ new.read_faults
-  pub write_faults : Counts failed old.write_faults new.write_faults
+  pub write_faults : CountsOn failed old.write_faults new.write_faults
 
 -- The bytes begin with these frames, one after another, and this is left behind them.
 pub record Fills (bytes : List ℕ) (frames : List Frame) (left : List ℕ) : Type 0 where
@@ -80,10 +80,10 @@ pub record MayRead (turns : ℕ) (written : Option (List ℕ)) (before : List Ha
 -- Each read of the trace, behind those before, was made where the link may read.
 abbrev pub EachMayRead : ℕ → Option (List ℕ) → List Happening → List Happening → Type 0
 EachMayRead turns written before [] = Unit {0}
-EachMayRead turns written before (came past now bytes ∷ trace) =
-    MayRead turns written before (piece past now bytes) × EachMayRead turns written (before ++ came past now bytes ∷ []) trace
-EachMayRead turns written before (rested past now steps ∷ trace) =
-    MayRead turns written before (quiet past now) × EachMayRead turns written (before ++ rested past now steps ∷ []) trace
+EachMayRead turns written before (received past now bytes ∷ trace) =
+    MayRead turns written before (piece past now bytes) × EachMayRead turns written (before ++ received past now bytes ∷ []) trace
+EachMayRead turns written before (was_quiet past now steps ∷ trace) =
+    MayRead turns written before (quiet past now) × EachMayRead turns written (before ++ was_quiet past now steps ∷ []) trace
 EachMayRead turns written before (handled f did ∷ trace) = EachMayRead turns written (before ++ handled f did ∷ []) trace
 
 -- The frames handled begin the bytes that came, and all replies to them were written.
@@ -244,7 +244,7 @@ Parts stages.Closing now steps = steps ≡ []
 
 -- A link is served, on a server with this status block, up to its end: by a trace of what happened, whose reads were each made
 -- where the link may read, and whose events and replies are told where the link tells them.
-pub record ComesTo (block : List ℕ) (turns : ℕ) (old : LinkState) (answer : LinkEnd) (stage : Stage) (new : LinkState) (asked : List Step) : Type 0 where
+pub record RunsTo (block : List ℕ) (turns : ℕ) (old : LinkState) (answer : LinkEnd) (stage : Stage) (new : LinkState) (asked : List Step) : Type 0 where
   pub trace : List Happening
   pub last : Standing
   pub cause : Option Cause
@@ -262,7 +262,7 @@ pub record IsServed (block : List ℕ) (turns : ℕ) (old : LinkState) (answer :
   pub asked : List Step
   pub parting : List Step
   pub stage : Stage
-  pub comes : ComesTo block turns old answer stage new asked
+  pub comes : RunsTo block turns old answer stage new asked
   pub parts : Parts stage new.now parting
   pub all : steps ≡ asked ++ parting
 

@@ -9,7 +9,7 @@ use Rattle.dsi_frame.specs.declared.frame.Reason.TheVariants.{Unexpected, Phase}
 use Rattle.afp_server.specs.Did.{Did, nothing, is_bad}
 use Rattle.afp_server.specs.GetStatus.{gets_status}
 use Rattle.afp_server.specs.OpenSession.{OpensSession}
-use Rattle.afp_server.specs.Calls.{Calls, command_ask, write_ask}
+use Rattle.afp_server.specs.Calls.{AsksCall, command_ask, write_ask}
 use Rattle.afp_server.specs.CloseSession.{ClosesSession, closes}
 use Rattle.afp_server.specs.Replies.{listed}
 use Rattle.afp_server.specs.declared.stage.Stage.{Stage}
@@ -30,8 +30,8 @@ FreshDoes block now Attention f did = did ≡ is_bad Unexpected Fresh
 abbrev pub OpenDoes : List ℕ → ℕ → LinkNumber → DsiCommand → Frame → Did → Type 0
 OpenDoes block now link GetStatus f did = did ≡ gets_status block (Open link) f
 OpenDoes block now link OpenSession f did = did ≡ is_bad Phase (Open link)
-OpenDoes block now link Command f did = Calls now link f (command_ask f) did
-OpenDoes block now link Write f did = Calls now link f (write_ask f) did
+OpenDoes block now link Command f did = AsksCall now link f (command_ask f) did
+OpenDoes block now link Write f did = AsksCall now link f (write_ask f) did
 OpenDoes block now link Tickle f did = did ≡ nothing (Open link)
 OpenDoes block now link CloseSession f did = ClosesSession now link did
 OpenDoes block now link Attention f did = did ≡ is_bad Unexpected (Open link)

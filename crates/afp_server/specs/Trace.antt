@@ -20,43 +20,43 @@ use Rattle.afp_server.specs.declared.stage.FrameEnd.TheVariants as ends
 -- A read that gave bytes; a quiet, with the steps asked in it; or a frame that was handled, with what that did. Of a read
 -- first what had been written before it, where the link tells that, and its moment.
 pub data Happening : Type 0 where
-  came : Option (List ℕ) → ℕ → List ℕ → Happening
-  rested : Option (List ℕ) → ℕ → List Step → Happening
+  received : Option (List ℕ) → ℕ → List ℕ → Happening
+  was_quiet : Option (List ℕ) → ℕ → List Step → Happening
   handled : Frame → Did → Happening
 
 -- what the reads gave
 abbrev pub events_in : List Happening → List Event
 events_in [] = []
-events_in (came written now bytes ∷ trace) = piece written now bytes ∷ events_in trace
-events_in (rested written now steps ∷ trace) = quiet written now ∷ events_in trace
+events_in (received written now bytes ∷ trace) = piece written now bytes ∷ events_in trace
+events_in (was_quiet written now steps ∷ trace) = quiet written now ∷ events_in trace
 events_in (handled f did ∷ trace) = events_in trace
 
 -- the frames that were handled
 abbrev pub frames_in : List Happening → List Frame
 frames_in [] = []
-frames_in (came written now bytes ∷ trace) = frames_in trace
-frames_in (rested written now steps ∷ trace) = frames_in trace
+frames_in (received written now bytes ∷ trace) = frames_in trace
+frames_in (was_quiet written now steps ∷ trace) = frames_in trace
 frames_in (handled f did ∷ trace) = f ∷ frames_in trace
 
 -- the replies to them
 abbrev pub replies_in : List Happening → List Frame
 replies_in [] = []
-replies_in (came written now bytes ∷ trace) = replies_in trace
-replies_in (rested written now steps ∷ trace) = replies_in trace
+replies_in (received written now bytes ∷ trace) = replies_in trace
+replies_in (was_quiet written now steps ∷ trace) = replies_in trace
 replies_in (handled f did ∷ trace) = listed did.reply ++ replies_in trace
 
 -- all that was asked, with what it was told
 abbrev pub steps_in : List Happening → List Step
 steps_in [] = []
-steps_in (came written now bytes ∷ trace) = steps_in trace
-steps_in (rested written now steps ∷ trace) = steps ++ steps_in trace
+steps_in (received written now bytes ∷ trace) = steps_in trace
+steps_in (was_quiet written now steps ∷ trace) = steps ++ steps_in trace
 steps_in (handled f did ∷ trace) = did.steps ++ steps_in trace
 
 -- that part of it that the frames asked
 abbrev pub frame_steps_in : List Happening → List Step
 frame_steps_in [] = []
-frame_steps_in (came written now bytes ∷ trace) = frame_steps_in trace
-frame_steps_in (rested written now steps ∷ trace) = frame_steps_in trace
+frame_steps_in (received written now bytes ∷ trace) = frame_steps_in trace
+frame_steps_in (was_quiet written now steps ∷ trace) = frame_steps_in trace
 frame_steps_in (handled f did ∷ trace) = did.steps ++ frame_steps_in trace
 
 -- How far a link has come, the moment of its last read, and that of the last one that gave bytes; at first that of
@@ -106,8 +106,8 @@ Rests heard now stage steps after (Some (bad reason)) = ⊥
 
 -- What happens takes a link from one standing to another, and may end it.
 abbrev pub Takes : List ℕ → Standing → Happening → Standing → Option Cause → Type 0
-Takes block a (came written now bytes) b cause = (b ≡ record { stage = a.stage; now = now; heard = now }) × (cause ≡ None)
-Takes block a (rested written now steps) b cause = (b.now ≡ now) × (b.heard ≡ a.heard) × Rests a.heard now a.stage steps b.stage cause
+Takes block a (received written now bytes) b cause = (b ≡ record { stage = a.stage; now = now; heard = now }) × (cause ≡ None)
+Takes block a (was_quiet written now steps) b cause = (b.now ≡ now) × (b.heard ≡ a.heard) × Rests a.heard now a.stage steps b.stage cause
 Takes block a (handled f did) b cause = Does block a.now a.stage f did × (b ≡ record { stage = did.stage; now = a.now; heard = a.heard }) × (cause ≡ option_map cause_of did.end)
 
 -- The trace takes a link from one standing to another, step by step; the last happening may end it.

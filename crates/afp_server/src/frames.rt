@@ -7,7 +7,7 @@ ghost use Rattle.afp_server.specs.lemma.Serving.{Start, SoFar, ServesFrame, Serv
 
 use crate::send::send_all;
 use crate::serve::LinkEnd;
-use crate::session::Session;
+use crate::session::LinkSession;
 use crate::stage::{FrameEnd, Stage};
 use afp_base::LinkNumber;
 use afp_outside::{Gate, Link};
@@ -17,7 +17,7 @@ use dsi_frame::{BadFrame, Deframer, Head, Header};
 /// Serves every whole frame that is buffered, in order, and says why the link ends, where a frame ends it.
 pub fn serve_frames<L: Link, T: Teller, G: Gate>(
     deframer: &mut Deframer,
-    session: &mut Session,
+    session: &mut LinkSession,
     link: &mut L,
     teller: &mut T,
     gate: &G,
@@ -50,7 +50,7 @@ pub fn serve_frames<L: Link, T: Teller, G: Gate>(
 fn serve_frame<L: Link, T: Teller, G: Gate>(
     header: &Header,
     deframer: &mut Deframer,
-    session: &mut Session,
+    session: &mut LinkSession,
     link: &mut L,
     teller: &mut T,
     gate: &G,

@@ -3,14 +3,14 @@ ghost use Rattle.std.specs.Prelude.{◌≡◌, ◌≤◌, ◌+◌, [], length, t
 ghost use Rattle.dsi_frame.specs.Frame.{canonical_frame, frame_of, header_of};
 ghost use Rattle.afp_server.specs.Replies.{reply_to};
 
-use afp_base::Code;
+use afp_base::{Code, MAX_PAYLOAD};
 use dsi_frame::{Header, header_bytes};
 
 /// The bytes of a header.
 const HEADER: usize = 16;
 
 /// The bytes of the longest payload.
-const MOST_PAYLOAD: usize = 131_072;
+const MOST_PAYLOAD: usize = MAX_PAYLOAD as usize;
 
 /// The bytes of the longest reply.
 pub const MOST_REPLY: usize = HEADER + MOST_PAYLOAD;

@@ -10,7 +10,7 @@ ghost use Rattle.afp_server.specs.lemma.Reading.{ReadsMore, TakesAtMost};
 ghost use Rattle.afp_server.specs.lemma.Serving.{Ended, RestsLink};
 
 use crate::frames::serve_frames;
-use crate::session::Session;
+use crate::session::LinkSession;
 use crate::stage::{Rest, Stage};
 use afp_base::{Moment, OutOfMemory};
 use afp_outside::{Gate, Heard, Link};
@@ -55,7 +55,7 @@ pub enum LinkEnd {
 #[derive(Drop)]
 pub struct LinkRoom {
     deframer: Deframer,
-    session: Session,
+    session: LinkSession,
 }
 
 impl Model for LinkRoom {
@@ -76,7 +76,7 @@ impl LinkRoom {
     {
         Ok(LinkRoom {
             deframer: Deframer::new(alloc)?,
-            session: Session::new(alloc, house)?,
+            session: LinkSession::new(alloc, house)?,
         })
     }
 
@@ -169,7 +169,7 @@ fn end_of(deframer: &Deframer) -> LinkEnd
 /// Serves a link until it ends, and asks nothing at its end.
 fn serve_session<L: Link, T: Teller, G: Gate>(
     deframer: &mut Deframer,
-    session: &mut Session,
+    session: &mut LinkSession,
     link: &mut L,
     teller: &mut T,
     gate: &G,
@@ -208,7 +208,7 @@ fn serve_session<L: Link, T: Teller, G: Gate>(
 }
 
 /// A quiet: why it ends the link, where it does.
-fn rest<L: Link, T: Teller>(session: &mut Session, link: &L, teller: &mut T) -> Option<LinkEnd>
+fn rest<L: Link, T: Teller>(session: &mut LinkSession, link: &L, teller: &mut T) -> Option<LinkEnd>
     requires { session.old.stage ≢ Stage.Closing }
     ensures fixed { T.fixed teller.new ≡ T.fixed teller.old }
     ensures rests { RestsLink (L.link_state link.now) session.old (T.shown teller.old) result session.new (T.shown teller.new) }

@@ -2,6 +2,7 @@
 //! link.
 ghost use Rattle.std.specs.Prelude.{◌≡◌, ◌≢◌, ◌<◌, ◌≤◌, [], ◌∷◌, length, Option, Some, IsTrue, IfOk, IfNone, MatchBool, false};
 ghost use Rattle.afp_outside.specs.Gate.{in_by};
+ghost use Rattle.afp_base.specs.Limits.{payload_limit};
 ghost use Rattle.afp_serial.specs.StatusBlock.{status_block};
 ghost use Rattle.afp_serial.specs.Went.{Went, step};
 ghost use Rattle.afp_serial.specs.declared.ask.Told.{Told};
@@ -9,7 +10,8 @@ ghost use Rattle.dsi_session.specs.Pulse.{silence_limit, seconds_between};
 ghost use Rattle.afp_server.specs.declared.stage.Stage.{Stage};
 ghost use Rattle.afp_server.specs.declared.stage.FrameEnd.{FrameEnd};
 ghost use Rattle.dsi_frame.specs.Frame.{canonical_frame, frame_of};
-ghost use Rattle.afp_server.specs.Calls.{Calls};
+ghost use Rattle.dsi_frame.specs.Buffered.{buffer_length};
+ghost use Rattle.afp_server.specs.Calls.{AsksCall};
 ghost use Rattle.afp_server.specs.CloseSession.{ClosesSession};
 ghost use Rattle.afp_server.specs.Did.{Did};
 ghost use Rattle.afp_server.specs.LinkRun.{carries_call};
@@ -44,7 +46,7 @@ const NO_LINK: LinkNumber = LinkNumber(0);
 /// Contracts see the status block of its server, how far the link has come, the bytes of the reply to the last
 /// frame, and the tally of its frames.
 #[derive(Drop)]
-pub struct Session {
+pub struct LinkSession {
     alloc: Global,
     status: Bytes,
     stage: Stage,
@@ -53,15 +55,17 @@ pub struct Session {
     tally: Tally,
 }
 
-impl Model for Session {
+impl Model for LinkSession {
     ghost use Rattle.std.specs.Prelude.{◌≡◌, ◌≤◌, length, take};
+    ghost use Rattle.afp_base.specs.Limits.{payload_limit};
     ghost use Rattle.afp_server.specs.lemma.SessionState.{SessionState};
+    ghost use Rattle.dsi_frame.specs.Buffered.{buffer_length};
 
     ghost Value = { SessionState };
 
     ghost view = { λ s. record { block = s.status; stage = s.stage; reply = take s.size s.buffer.items; tally = s.tally } };
 
-    ghost invariant = { λ s. (length s.status ≤ 131072) × (length s.buffer.items ≡ 131088) × (s.size ≤ 131088) };
+    ghost invariant = { λ s. (length s.status ≤ payload_limit) × (length s.buffer.items ≡ buffer_length) × (s.size ≤ buffer_length) };
 }
 
 /// Why a reply of the client's ends its link: only that to an Attention is expected.
@@ -94,12 +98,12 @@ fn called_by(command: DsiCommand, link: LinkNumber) -> Option<LinkNumber>
     }
 }
 
-impl Session {
+impl LinkSession {
     /// No session yet. All memory that replies need is taken here.
-    pub fn new(alloc: Global, house: &House) -> Result<Session, OutOfMemory>
+    pub fn new(alloc: Global, house: &House) -> Result<LinkSession, OutOfMemory>
         ensures { IfOk result (λ s. s ≡ record { block = status_block house.now; stage = Stage.Fresh; reply = []; tally = no_tally }) }
     {
-        Ok(Session {
+        Ok(LinkSession {
             alloc,
             status: house.status(alloc)?,
             stage: Stage::Fresh,
@@ -351,7 +355,7 @@ impl Session {
 
     /// A reply with this code and payload.
     fn answer(&mut self, request: &Header, code: Code, payload: &[u8])
-        requires { length payload.now ≤ 131072 }
+        requires { length payload.now ≤ payload_limit }
         ensures { self.new ≡ record self.old { reply = canonical_frame (reply_to (frame_of request.now []) code payload.now); tally = and_reply (code_word code) self.old.tally } }
     {
         self.size = put_reply(self.buffer.as_mut_slice(), request, code, payload);
@@ -393,7 +397,7 @@ impl Session {
         requires no_reply { self.old.reply ≡ [] }
         requires call { IsCall ask }
         ensures fixed { T.fixed teller.new ≡ T.fixed teller.old }
-        ensures calls { (did : Did) × Calls now link (frame_of request.now []) ask did
+        ensures calls { (did : Did) × AsksCall now link (frame_of request.now []) ask did
             × Acts self.old (T.shown teller.old) did self.new (T.shown teller.new) × (result ≡ did.end) }
         ensures passes { G.passed log.new ≡ in_by (G.passed log.old) (Some link) }
         ensures live { IfNone result (self.new.stage ≢ Stage.Closing) }

@@ -11,7 +11,7 @@ ghost use Rattle.afp_server.specs.Wire.{FeedStart, FedSoFar, Feeds, feed_point, 
 ghost use Rattle.afp_server.specs.lemma.Feeding.{FeedsFrame, Answers, end_of_frame};
 
 use crate::reply::MOST_REPLY;
-use crate::session::Session;
+use crate::session::LinkSession;
 use crate::stage::{FrameEnd, Stage};
 use crate::tally::Tally;
 use afp_base::{Bytes, LinkNumber, Moment, OutOfMemory};
@@ -41,7 +41,7 @@ pub enum WireEnd {
 #[derive(Drop)]
 pub struct Wire {
     deframer: Deframer,
-    session: Session,
+    session: LinkSession,
     end: Option<WireEnd>,
 }
 
@@ -60,7 +60,7 @@ impl Wire {
     {
         Ok(Wire {
             deframer: Deframer::new(alloc)?,
-            session: Session::new(alloc, house)?,
+            session: LinkSession::new(alloc, house)?,
             end: None,
         })
     }
@@ -133,7 +133,7 @@ impl Wire {
 /// Feeds the whole piece, in turns where it is longer than the deframer's room, and handles each frame.
 fn feed_piece<T: Teller>(
     deframer: &mut Deframer,
-    session: &mut Session,
+    session: &mut LinkSession,
     piece: &[u8],
     now: Moment,
     teller: &mut T,
@@ -165,7 +165,7 @@ fn feed_piece<T: Teller>(
 /// Handles every whole frame that is held, in order, and says why the link ends, where it does.
 fn handle_frames<T: Teller>(
     deframer: &mut Deframer,
-    session: &mut Session,
+    session: &mut LinkSession,
     now: Moment,
     teller: &mut T,
     out: &mut Bytes,
@@ -197,7 +197,7 @@ fn handle_frames<T: Teller>(
 fn handle_frame<T: Teller>(
     header: &Header,
     deframer: &mut Deframer,
-    session: &mut Session,
+    session: &mut LinkSession,
     now: Moment,
     teller: &mut T,
     out: &mut Bytes,
@@ -225,7 +225,7 @@ fn handle_frame<T: Teller>(
 
 /// Handles a frame, and appends its reply to `out`. The room for it is taken before anything is asked.
 fn answer<T: Teller>(
-    session: &mut Session,
+    session: &mut LinkSession,
     header: &Header,
     payload: &[u8],
     now: Moment,
@@ -255,7 +255,7 @@ fn answer<T: Teller>(
 }
 
 /// Puts the session's reply in place of the room that stands behind what `out` had.
-fn end_with_reply(out: &mut Bytes, session: &Session)
+fn end_with_reply(out: &mut Bytes, session: &LinkSession)
     requires { MOST_REPLY ≤ length out.old }
     ensures { (before room : List ℕ) → out.old ≡ before ++ room → length room ≡ MOST_REPLY → out.new ≡ before ++ session.now.reply }
 {

@@ -9,7 +9,7 @@ use Rattle.afp_volume.proofs.TestedLists.{none-all}
 use Rattle.afp_volume.proofs.Trees.{tree-parts}
 use Rattle.afp_volume.specs.Edits.{bare}
 use Rattle.afp_volume.proofs.ListReplies.{entries-are-page}
-use Rattle.afp_volume.specs.Calls.{Opened}
+use Rattle.afp_volume.specs.Shared.{Opened}
 use Rattle.afp_volume.specs.Enumerate.{ListAsked, is_counted, counted, entries}
 use Rattle.afp_volume.specs.Listing.{row_key, children, listed}
 use Rattle.afp_base.specs.Apart.{are_apart}

@@ -19,7 +19,7 @@ use Rattle.afp_volume.proofs.Walks.{find-there, mapped-from, MappedFrom}
 use Rattle.afp_volume.specs.Edits.{has_children, without, without_node}
 use Rattle.afp_base.specs.Apart.{are_apart}
 use Rattle.afp_volume.specs.SoundVolume.{IsSoundVolume, has_apart_names, has_node, is_in_place, leads_to_root, most_nodes, last_next_id}
-use Rattle.afp_volume.specs.Calls.{Opened, has_no_room, has_no_ids, has_attribute, is_busy, delete_inhibit, created}
+use Rattle.afp_volume.specs.Shared.{Opened, has_no_room, has_no_ids, has_attribute, is_busy, delete_inhibit, created}
 use Rattle.afp_volume.specs.CreateFile.{create_file_there, without_replaced, create_file_refusal, create_file_effect}
 use Rattle.afp_volume.specs.VolumeState.{Row, VolumeState, root_id, root_parent, first_id}
 use Rattle.afp_volume.specs.Walk.{Place, new_place, has_directory, child_by_key, is_named_path}

@@ -6,6 +6,7 @@ use Rattle.std.proofs.lemmas.Bool.{and_parts, and_from, cond_both, cases_Bool, b
 use Rattle.std.proofs.lemmas.List.{length-append, length-drop, length-take, take_min, drop-drop}
 use Rattle.std.proofs.lemmas.List.Sums.{sum_by-cons, sum_by-take-le}
 use Rattle.std.proofs.Math.Seq.{take-add, take-length}
+use Rattle.afp_base.specs.Limits.{payload_limit}
 use Rattle.afp_base.specs.declared.code.Code.{Code}
 use Rattle.afp_base.specs.declared.code.Code.TheVariants.{BitmapErr, ObjectTypeErr, ObjectNotFound, ParamErr}
 use Rattle.afp_bitmap.specs.Bits.{file_mask, dir_mask}
@@ -16,8 +17,8 @@ use Rattle.afp_volume.proofs.Ordered.{order-count}
 use Rattle.afp_volume.proofs.Refusals.{none-holds, none-first}
 use Rattle.afp_volume.proofs.TestedLists.{all-filter, apart-filter}
 use Rattle.afp_volume.proofs.Trees.{tree-parts}
-use Rattle.afp_volume.specs.Calls.{Opened, behind}
-use Rattle.afp_volume.specs.Enumerate.{ListAsked, is_counted, counted, list_head, longest_entry, longest_reply, entry_size, fits_reply, longest_front, from_start, entries, enumerate_refusal}
+use Rattle.afp_volume.specs.Shared.{Opened, behind}
+use Rattle.afp_volume.specs.Enumerate.{ListAsked, is_counted, counted, list_head, longest_entry, entry_size, fits_reply, longest_front, from_start, entries, enumerate_refusal}
 use Rattle.afp_volume.specs.Listing.{row_key, children, listed, page}
 use Rattle.afp_volume.specs.ListLaws.{is_counted_child, PageAsked, asked_from, entries_in_turn}
 use Rattle.afp_volume.specs.Order.{rises, stands_before, in_order}
@@ -165,7 +166,7 @@ pub fewer-fit : (rows : List Row) (opens : List Opened) (asked : ListAsked) (nod
 unfolding fits_reply
 fewer-fit rows opens asked nodes n h =
     let size : Row → ℕ = entry_size rows opens asked in
-    let limit : ℕ = min asked.size longest_reply in
+    let limit : ℕ = min asked.size payload_limit in
     let short : Row → Bool = λ node. nat_le (size node) (longest_entry asked.wide) in
     let e = and_parts (nat_le (list_head + sum_by size nodes) limit) (list_all short nodes) h in
     let all : list_head + sum_by size nodes ≤ limit = leb-true (list_head + sum_by size nodes) limit e.0 in

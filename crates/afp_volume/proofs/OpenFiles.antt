@@ -8,7 +8,7 @@ use Rattle.afp_names.specs.Name.{name_key}
 use Rattle.afp_names.specs.Path.{PathValue}
 use Rattle.afp_volume.proofs.Refusals.{none-holds, at-found}
 use Rattle.afp_volume.proofs.TestedLists.{any-longer, any-map, any-still, any-weaker}
-use Rattle.afp_volume.specs.Calls.{Opened, done_at, created, delete_inhibit, directory_of, has_attribute, has_no_ids, is_busy, name_of}
+use Rattle.afp_volume.specs.Shared.{Opened, done_at, created, delete_inhibit, directory_of, has_attribute, has_no_ids, is_busy, name_of}
 use Rattle.afp_volume.specs.CreateDir.{create_dir_effect}
 use Rattle.afp_volume.specs.CreateFile.{create_file_there, without_replaced, create_file_refusal, create_file_effect}
 use Rattle.afp_volume.specs.Delete.{delete_refusal, delete_effect}

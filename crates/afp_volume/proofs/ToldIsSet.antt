@@ -12,7 +12,7 @@ use Rattle.afp_bitmap.proofs.Numbers.{number_again, length-big_bytes, date_lt, d
 use Rattle.afp_bitmap.specs.Bits.{is_asked}
 use Rattle.afp_bitmap.specs.Field.{Field, Number, Date, Finder, LongName, Utf8Name, fixed_bytes, name_parts}
 use Rattle.afp_bitmap.specs.Params.{asked_of, name_size, fixed_parts, size_of_fixed_part, parts, params, IsAnswer}
-use Rattle.afp_bitmap.specs.Table.{Row, rows, file_rows, dir_rows}
+use Rattle.afp_bitmap.specs.Table.{FieldRow, rows, file_rows, dir_rows}
 use Rattle.afp_bitmap.specs.declared.file.FileValues.{FileValues}
 use Rattle.afp_bitmap.specs.declared.directory.DirValues.{DirValues}
 use Rattle.afp_bitmap.specs.declared.params.Values.TheVariants.{File, Dir}
@@ -63,30 +63,30 @@ block-plain fs h =
     ∙ ap concat (append-nil (fixed_parts (size_of_fixed_part fs) fs)) ∙ fixed-plain (size_of_fixed_part fs) fs h
 
 -- what a row puts where it is asked
-chunk : ℕ → Row → List ℕ
+chunk : ℕ → FieldRow → List ℕ
 chunk bits r = cond (is_asked bits r.0) (fixed_bytes 0 r.1) []
 
-asked-plain : (bits : ℕ) (table : List Row) → list_all (λ (r : Row). not (is_asked bits r.0) || is-plain r.1) table ≡ true → list_all is-plain (asked_of bits table) ≡ true
+asked-plain : (bits : ℕ) (table : List FieldRow) → list_all (λ (r : FieldRow). not (is_asked bits r.0) || is-plain r.1) table ≡ true → list_all is-plain (asked_of bits table) ≡ true
 unfolding asked_of
 asked-plain bits [] h = refl
 asked-plain bits (r ∷ table) h =
-    let e = and_parts (not (is_asked bits r.0) || is-plain r.1) (list_all (λ (q : Row). not (is_asked bits q.0) || is-plain q.1) table) h in
+    let e = and_parts (not (is_asked bits r.0) || is-plain r.1) (list_all (λ (q : FieldRow). not (is_asked bits q.0) || is-plain q.1) table) h in
     let rest = asked-plain bits table e.1 in
-    cond_both (is_asked bits r.0) (r ∷ filter (λ (q : Row). is_asked bits q.0) table) (filter (λ (q : Row). is_asked bits q.0) table) (λ l. list_all is-plain (map (λ (q : Row). q.1) l) ≡ true)
+    cond_both (is_asked bits r.0) (r ∷ filter (λ (q : FieldRow). is_asked bits q.0) table) (filter (λ (q : FieldRow). is_asked bits q.0) table) (λ l. list_all is-plain (map (λ (q : FieldRow). q.1) l) ≡ true)
     (λ asked. and_from (is-plain r.1) (list_all is-plain (asked_of bits table)) (ap (λ b. not b || is-plain r.1) (sym asked) ∙ e.0) rest)
     (λ other. rest)
 
-asked-chunks : (bits : ℕ) (table : List Row) → flat_map (fixed_bytes 0) (asked_of bits table) ≡ flat_map (chunk bits) table
+asked-chunks : (bits : ℕ) (table : List FieldRow) → flat_map (fixed_bytes 0) (asked_of bits table) ≡ flat_map (chunk bits) table
 unfolding asked_of chunk
 asked-chunks bits [] = refl
 asked-chunks bits (r ∷ table) =
     let rest = asked-chunks bits table in
-    cond_both (is_asked bits r.0) (r ∷ filter (λ (q : Row). is_asked bits q.0) table) (filter (λ (q : Row). is_asked bits q.0) table)
-    (λ l. flat_map (fixed_bytes 0) (map (λ (q : Row). q.1) l) ≡ cond (is_asked bits r.0) (fixed_bytes 0 r.1) [] ++ flat_map (λ (q : Row). cond (is_asked bits q.0) (fixed_bytes 0 q.1) []) table)
+    cond_both (is_asked bits r.0) (r ∷ filter (λ (q : FieldRow). is_asked bits q.0) table) (filter (λ (q : FieldRow). is_asked bits q.0) table)
+    (λ l. flat_map (fixed_bytes 0) (map (λ (q : FieldRow). q.1) l) ≡ cond (is_asked bits r.0) (fixed_bytes 0 r.1) [] ++ flat_map (λ (q : FieldRow). cond (is_asked bits q.0) (fixed_bytes 0 q.1) []) table)
     (λ asked. (λ i. fixed_bytes 0 r.1 ++ rest i) ∙ ap (λ b. cond b (fixed_bytes 0 r.1) [] ++ flat_map (chunk bits) table) (sym asked))
     (λ other. rest ∙ ap (λ b. cond b (fixed_bytes 0 r.1) [] ++ flat_map (chunk bits) table) (sym other))
 
-chunks : (bits : ℕ) (table : List Row) → list_all (λ (r : Row). not (is_asked bits r.0) || is-plain r.1) table ≡ true → concat (parts (asked_of bits table)) ≡ flat_map (chunk bits) table
+chunks : (bits : ℕ) (table : List FieldRow) → list_all (λ (r : FieldRow). not (is_asked bits r.0) || is-plain r.1) table ≡ true → concat (parts (asked_of bits table)) ≡ flat_map (chunk bits) table
 chunks bits table h = block-plain (asked_of bits table) (asked-plain bits table h) ∙ asked-chunks bits table
 
 -- a bit that no mask has is not asked
@@ -250,7 +250,7 @@ nested a b c d e f g rest =
     ∙ ap (λ l. d ++ l) (append_assoc e (f ++ g) rest
     ∙ ap (λ l. e ++ l) (append_assoc f g rest)))))
 
-file-plain : (bits : ℕ) (f : FileValues) → is_outside settable_bits bits ≡ false → list_all (λ (r : Row). not (is_asked bits r.0) || is-plain r.1) (file_rows f) ≡ true
+file-plain : (bits : ℕ) (f : FileValues) → is_outside settable_bits bits ≡ false → list_all (λ (r : FieldRow). not (is_asked bits r.0) || is-plain r.1) (file_rows f) ≡ true
 unfolding file_rows is-plain
 file-plain bits f within =
     and_from _ _ (plain-row (is_asked bits 0)) (and_from _ _ (plain-row (is_asked bits 1)) (and_from _ _ (plain-row (is_asked bits 2)) (and_from _ _ (plain-row (is_asked bits 3))
@@ -292,7 +292,7 @@ file-told-is-set bits f rest within answer =
     none : (a b c n : ℕ) → a ≡ 0 → b ≡ 0 → c ≡ 0 → a + b + c ≤ n
     none a b c n x y z = omega arith
 
-dir-plain : (bits : ℕ) (d : DirValues) → is_outside settable_dir_bits bits ≡ false → list_all (λ (r : Row). not (is_asked bits r.0) || is-plain r.1) (dir_rows d) ≡ true
+dir-plain : (bits : ℕ) (d : DirValues) → is_outside settable_dir_bits bits ≡ false → list_all (λ (r : FieldRow). not (is_asked bits r.0) || is-plain r.1) (dir_rows d) ≡ true
 unfolding dir_rows is-plain
 dir-plain bits d within =
     and_from _ _ (plain-row (is_asked bits 0)) (and_from _ _ (plain-row (is_asked bits 1)) (and_from _ _ (plain-row (is_asked bits 2)) (and_from _ _ (plain-row (is_asked bits 3))

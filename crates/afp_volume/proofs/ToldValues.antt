@@ -25,7 +25,7 @@ use Rattle.afp_volume.proofs.Trees.{TreeParts, tree-parts}
 use Rattle.afp_volume.proofs.Walks.{row-there, walk-there}
 use Rattle.afp_volume.proofs.CallsSound.{not-false}
 use Rattle.afp_volume.proofs.Refusals.{none-first, none-holds}
-use Rattle.afp_volume.specs.Calls.{Opened, behind, done_at}
+use Rattle.afp_volume.specs.Shared.{Opened, behind, done_at}
 use Rattle.afp_volume.specs.GetFileDirParms.{get_file_dir_parms_refusal, get_file_dir_parms_values}
 use Rattle.afp_volume.specs.OpenDir.{open_dir_refusal, open_dir_id}
 use Rattle.afp_names.specs.Path.{PathValue}

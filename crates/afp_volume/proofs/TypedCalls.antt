@@ -13,7 +13,7 @@ use Rattle.afp_volume.proofs.Refusals.{none-holds, none-first, at-found, IsPlace
 use Rattle.afp_volume.proofs.Trees.{tree-parts}
 use Rattle.afp_volume.proofs.TypedEdits.{TypedParts, any-date, directory-long, typed-touched, typed-children, typed-new, typed-without, typed-moved, typed-renamed, typed-set}
 use Rattle.afp_volume.proofs.Walks.{walk-there, row-there}
-use Rattle.afp_volume.specs.Calls.{Opened, has_no_room, has_no_ids, has_attribute, is_busy, delete_inhibit, directory_of, name_of, created, done_at}
+use Rattle.afp_volume.specs.Shared.{Opened, has_no_room, has_no_ids, has_attribute, is_busy, delete_inhibit, directory_of, name_of, created, done_at}
 use Rattle.afp_volume.specs.CreateDir.{create_dir_refusal, create_dir_effect}
 use Rattle.afp_volume.specs.CreateFile.{create_file_there, without_replaced, create_file_refusal, create_file_effect}
 use Rattle.afp_volume.specs.Delete.{delete_effect}

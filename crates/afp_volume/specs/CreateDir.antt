@@ -7,7 +7,7 @@ use Rattle.afp_names.specs.Name.{name_key}
 use Rattle.afp_names.specs.Path.{PathValue}
 use Rattle.afp_volume.specs.VolumeState.{VolumeState}
 use Rattle.afp_volume.specs.Walk.{new_place, child_by_key}
-use Rattle.afp_volume.specs.Calls.{behind, done_at, has_no_room, created}
+use Rattle.afp_volume.specs.Shared.{behind, done_at, has_no_room, created}
 
 -- why it is refused (this profile)
 unfoldable pub create_dir_refusal : VolumeState → ℕ → PathValue → Option Code

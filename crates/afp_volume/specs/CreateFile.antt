@@ -8,7 +8,7 @@ use Rattle.afp_names.specs.Path.{PathValue}
 use Rattle.afp_volume.specs.VolumeState.{VolumeState}
 use Rattle.afp_volume.specs.Walk.{new_place, has_directory, child_by_key}
 use Rattle.afp_volume.specs.Edits.{without_node}
-use Rattle.afp_volume.specs.Calls.{Opened, behind, done_at, delete_inhibit, has_attribute, is_busy, has_no_ids, has_no_room, created}
+use Rattle.afp_volume.specs.Shared.{Opened, behind, done_at, delete_inhibit, has_attribute, is_busy, has_no_ids, has_no_room, created}
 
 -- whether a create is hard: bit 7 of its flag (AFP Reference, "FPCreateFile")
 abbrev pub is_hard : ℕ → Bool

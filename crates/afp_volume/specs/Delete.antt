@@ -7,7 +7,7 @@ use Rattle.afp_names.specs.Path.{PathValue}
 use Rattle.afp_volume.specs.VolumeState.{VolumeState, root_id}
 use Rattle.afp_volume.specs.Walk.{found}
 use Rattle.afp_volume.specs.Edits.{has_children, changed_at, children_changed, without_node}
-use Rattle.afp_volume.specs.Calls.{Opened, behind, done_at, delete_inhibit, has_attribute, is_busy, directory_of}
+use Rattle.afp_volume.specs.Shared.{Opened, behind, done_at, delete_inhibit, has_attribute, is_busy, directory_of}
 
 -- why it is refused (this profile)
 unfoldable pub delete_refusal : VolumeState → List Opened → ℕ → PathValue → Option Code

@@ -2,6 +2,7 @@
 use Rattle.std.specs.Prelude.{ℕ, zero, suc, ◌+◌, ◌-◌, ◌==◌, ◌&&◌, Bool, true, false, not, List, [], ◌∷◌, length, take, drop, min, sum_by, Option, nat_le, nat_lt, if◌then◌else◌}
 use Rattle.std.specs.List.{filter, list_all}
 use Rattle.afp_base.specs.Choice.{first_holding}
+use Rattle.afp_base.specs.Limits.{payload_limit}
 use Rattle.afp_base.specs.declared.code.Code.{Code}
 use Rattle.afp_base.specs.declared.code.Code.TheVariants.{BitmapErr, ObjectNotFound, ObjectTypeErr, ParamErr}
 use Rattle.afp_bitmap.specs.Bits.{file_mask, dir_mask}
@@ -9,7 +10,7 @@ use Rattle.afp_bitmap.specs.Params.{params}
 use Rattle.afp_names.specs.Path.{PathValue}
 use Rattle.afp_volume.specs.VolumeState.{Row, VolumeState}
 use Rattle.afp_volume.specs.Walk.{found, has_directory}
-use Rattle.afp_volume.specs.Calls.{Opened, behind, first_or}
+use Rattle.afp_volume.specs.Shared.{Opened, behind, first_or}
 use Rattle.afp_volume.specs.Listing.{listed}
 use Rattle.afp_volume.specs.Parms.{is_outside}
 use Rattle.afp_volume.specs.NodeValues.{bits_of, node_values}
@@ -52,10 +53,6 @@ entry_head wide = if wide then 4 else 2
 abbrev pub longest_entry : Bool → ℕ
 longest_entry wide = if wide then 65535 else 255
 
--- the most bytes of a reply (this profile)
-abbrev pub longest_reply : ℕ
-longest_reply = 131072
-
 -- the bytes of a node's entry (AFP Reference, "FPEnumerate")
 unfoldable pub entry_size : List Row → List Opened → ListAsked → Row → ℕ
 entry_size rows opens asked row =
@@ -65,7 +62,7 @@ entry_size rows opens asked row =
 -- (AFP Reference, "FPEnumerate")
 unfoldable pub fits_reply : List Row → List Opened → ListAsked → List Row → Bool
 fits_reply rows opens asked nodes =
-    nat_le (list_head + sum_by (entry_size rows opens asked) nodes) (min asked.size longest_reply)
+    nat_le (list_head + sum_by (entry_size rows opens asked) nodes) (min asked.size payload_limit)
     && list_all (λ node. nat_le (entry_size rows opens asked node) (longest_entry asked.wide)) nodes
 
 -- the longest first part of a list, of so many elements at most, that passes a test; nothing where none passes (this profile)

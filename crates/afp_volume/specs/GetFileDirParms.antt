@@ -7,7 +7,7 @@ use Rattle.afp_bitmap.specs.declared.params.Values.{Values}
 use Rattle.afp_names.specs.Path.{PathValue}
 use Rattle.afp_volume.specs.VolumeState.{VolumeState}
 use Rattle.afp_volume.specs.Walk.{found, row_at}
-use Rattle.afp_volume.specs.Calls.{Opened, behind, done_at, first_or}
+use Rattle.afp_volume.specs.Shared.{Opened, behind, done_at, first_or}
 use Rattle.afp_volume.specs.Parms.{is_outside}
 use Rattle.afp_volume.specs.NodeValues.{node_values}
 

@@ -12,7 +12,7 @@ use Rattle.afp_volume.specs.Walk.{found, row_at, is_named_path, parent_at, child
 use Rattle.afp_volume.specs.Edits.{bare, exchanged, with_row, with_changed, without, is_below, is_taken, above, is_another}
 use Rattle.afp_volume.specs.TreeSteps.{TreeStep, tree_refusal, tree_effect, is_named_call, is_typed_step, after_steps}
 use Rattle.afp_names.specs.Name.{name_fault, name_key}
-use Rattle.afp_volume.specs.Calls.{Opened, is_busy}
+use Rattle.afp_volume.specs.Shared.{Opened, is_busy}
 use Rattle.afp_volume.specs.CreateDir.{create_dir_refusal, create_dir_effect}
 use Rattle.afp_volume.specs.CreateFile.{create_file_refusal, create_file_effect}
 use Rattle.afp_volume.specs.Delete.{delete_refusal, delete_effect}

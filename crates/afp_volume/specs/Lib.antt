@@ -4,7 +4,7 @@ pub mod SoundVolume
 pub mod TypedVolume
 pub mod Walk
 pub mod Edits
-pub mod Calls
+pub mod Shared
 pub mod CreateDir
 pub mod CreateFile
 pub mod Delete

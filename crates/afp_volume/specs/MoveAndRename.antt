@@ -7,7 +7,7 @@ use Rattle.afp_names.specs.Path.{PathValue}
 use Rattle.afp_volume.specs.VolumeState.{VolumeState, root_id}
 use Rattle.afp_volume.specs.Walk.{found, one_down_or, has_directory}
 use Rattle.afp_volume.specs.Edits.{is_taken, is_below, changed_at, children_changed, with_moved}
-use Rattle.afp_volume.specs.Calls.{behind, done_at, first_or, rename_inhibit, has_attribute, directory_of, name_of}
+use Rattle.afp_volume.specs.Shared.{behind, done_at, first_or, rename_inhibit, has_attribute, directory_of, name_of}
 
 -- why it is refused (this profile)
 unfoldable pub move_refusal : VolumeState → ℕ → PathValue → ℕ → PathValue → PathValue → Option Code

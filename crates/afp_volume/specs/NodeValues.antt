@@ -7,7 +7,7 @@ use Rattle.afp_bitmap.specs.declared.params.Values.{Values}
 use Rattle.afp_bitmap.specs.declared.params.Values.TheVariants.{File, Dir}
 use Rattle.afp_names.specs.LongName.{long_name_of}
 use Rattle.afp_volume.specs.VolumeState.{Row, finder_size}
-use Rattle.afp_volume.specs.Calls.{Opened}
+use Rattle.afp_volume.specs.Shared.{Opened}
 use Rattle.afp_volume.specs.Listing.{children}
 use Rattle.afp_volume.specs.Parms.{asked_or}
 

@@ -6,7 +6,7 @@ use Rattle.afp_base.specs.declared.code.Code.TheVariants.{ObjectTypeErr}
 use Rattle.afp_names.specs.Path.{PathValue}
 use Rattle.afp_volume.specs.VolumeState.{VolumeState}
 use Rattle.afp_volume.specs.Walk.{found, has_directory}
-use Rattle.afp_volume.specs.Calls.{behind, done_at}
+use Rattle.afp_volume.specs.Shared.{behind, done_at}
 
 -- why it is refused (this profile)
 unfoldable pub open_dir_refusal : VolumeState → ℕ → PathValue → Option Code

@@ -7,7 +7,7 @@ use Rattle.afp_bitmap.specs.Bits.{file_mask}
 use Rattle.afp_bitmap.specs.declared.params.Values.{Values}
 use Rattle.afp_bitmap.specs.declared.params.Values.TheVariants.{File}
 use Rattle.afp_names.specs.Path.{PathValue}
-use Rattle.afp_volume.specs.Calls.{Opened, behind, done_at, first_or, has_attribute, write_inhibit}
+use Rattle.afp_volume.specs.Shared.{Opened, behind, done_at, first_or, has_attribute, write_inhibit}
 use Rattle.afp_volume.specs.NodeValues.{file_values}
 use Rattle.afp_volume.specs.Parms.{is_outside}
 use Rattle.afp_volume.specs.SoundVolume.{has_file}

@@ -7,7 +7,7 @@ use Rattle.afp_names.specs.Path.{PathValue}
 use Rattle.afp_volume.specs.VolumeState.{VolumeState, root_id}
 use Rattle.afp_volume.specs.Walk.{found, one_down}
 use Rattle.afp_volume.specs.Edits.{is_taken, changed_at, children_changed, renamed}
-use Rattle.afp_volume.specs.Calls.{behind, done_at, first_or, rename_inhibit, has_attribute, directory_of}
+use Rattle.afp_volume.specs.Shared.{behind, done_at, first_or, rename_inhibit, has_attribute, directory_of}
 
 -- why it is refused (this profile)
 unfoldable pub rename_refusal : VolumeState → ℕ → PathValue → PathValue → Option Code

@@ -13,7 +13,7 @@ use Rattle.afp_volume.specs.VolumeState.{Row, VolumeState, finder_size}
 use Rattle.afp_volume.specs.SoundVolume.{has_file, file_attributes, dir_attributes}
 use Rattle.afp_volume.specs.Walk.{found, has_directory}
 use Rattle.afp_volume.specs.Edits.{with_changed, changed_at}
-use Rattle.afp_volume.specs.Calls.{behind, done_at, first_or}
+use Rattle.afp_volume.specs.Shared.{behind, done_at, first_or}
 use Rattle.afp_volume.specs.Parms.{is_outside, date_in}
 
 -- the bits that may be set: attributes, three dates, Finder info; of a directory by FPSetDirParms also owner, group and access rights

@@ -15,7 +15,7 @@ use Rattle.afp_serial.specs.declared.user.User.{User}
 use Rattle.capture_lines.specs.declared.line.Line.{Line}
 use Rattle.capture_lines.specs.declared.line.Line.TheVariants.{Title, Server, Signature, User as UserLine, Volume, Key, At, End}
 use Rattle.capture_lines.specs.declared.line.What.{What}
-use Rattle.capture_server.specs.Standing.{part_after, no_house, user_behind}
+use Rattle.capture_server.specs.CaptureState.{part_after, no_house, user_behind}
 use Rattle.capture_server.specs.declared.part.Part.{Part}
 use Rattle.capture_server.specs.declared.part.Part.TheVariants as parts
 use Rattle.capture_log.specs.SetUp.{IsSetUp, has_server, has_volume}

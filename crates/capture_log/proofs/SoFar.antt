@@ -1,7 +1,7 @@
 -- What a replay has read, from one read to the next.
 use Rattle.std.proofs.Common.{◌≡◌, ℕ, ◌+◌, ◌≤◌, ◌<◌, Bool, true, false, List, [], ◌++◌, length, take, append-nil, refl, sym, ap, ◌∙◌, subst, inl, inr, append_assoc, length-append, length-take, arith}
 use Rattle.std.specs.Prelude.{Option, Some, None, option_map}
-use Rattle.afp_base.specs.Counts.{Counts}
+use Rattle.afp_base.specs.Counts.{CountsOn}
 use Rattle.afp_outside.specs.Source.{SourceState, SourceGives, SourceEnds, SourceFails}
 use Rattle.capture_log.specs.Gathering.{ReaderState, Holds}
 use Rattle.capture_log.specs.Judged.{Judged, JudgedAt, AreTrue}
@@ -109,7 +109,7 @@ finished turns old mid new r taken verdict x g fewer j =
 
 pub failed : (turns : ℕ) (old mid new : SourceState) (r : ReaderState) (taken : ℕ) → HasRead old r taken mid → SourceFails mid new → taken < turns → Replays turns old ends.ReadFault new
 failed turns old mid new r taken x g fewer =
-    replayed turns old new ends.ReadFault x.read (g.given ∙ x.given) (subst (λ (n : ℕ). Counts 1 n new.faults) x.faults g.faults, omega (arith, fewer, x.many), undecided r x.read x.holds)
+    replayed turns old new ends.ReadFault x.read (g.given ∙ x.given) (subst (λ (n : ℕ). CountsOn 1 n new.faults) x.faults g.faults, omega (arith, fewer, x.many), undecided r x.read x.holds)
 
 pub spent : (turns : ℕ) (old now : SourceState) (r : ReaderState) (taken : ℕ) → HasRead old r taken now → turns ≤ taken → Replays turns old ends.Spent now
 spent turns old now r taken x all = replayed turns old now ends.Spent x.read x.given (omega (arith, all, x.many), undecided r x.read x.holds, x.faults)

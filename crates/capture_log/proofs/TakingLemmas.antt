@@ -16,7 +16,7 @@ use Rattle.capture_server.specs.Connections.{Connection, unused}
 use Rattle.capture_log.specs.Judged.{Decides, IsSame, DecidesEnd}
 use Rattle.capture_server.specs.Counting.{refused_in}
 use Rattle.capture_server.specs.Running.{IsFreshRunning, HappensBy}
-use Rattle.capture_server.specs.Standing.{Standing, Says, Happens, FeedsUnless, PulsesIf, LosesIf, part_after, is_refused, is_refused_on, is_bad, start_at}
+use Rattle.capture_server.specs.CaptureState.{CaptureState, Says, Happens, FeedsUnless, PulsesIf, LosesIf, part_after, is_refused, is_refused_on, is_bad, start_at}
 use Rattle.capture_server.specs.States.{ConnectionState, RunningState, IsConnection, IsRunning, unused_state}
 use Rattle.capture_log.specs.SetUp.{IsSetUp}
 use Rattle.capture_log.specs.Taking.{Acts, begun, CaptureState, house_with, refused_by, is_event, IsIdle, is_past_house, IsBegun, IsServer, IsCapture, RunsFrom, LeadsLine, TakesLine, Takes}
@@ -41,7 +41,7 @@ unused-there block = record {
   wire = record { closed = refl; unfed = λ on there. record { stage = refl; fed = refl; past = refl } };
 }
 
-fresh-now : (house : Household) (waiting : Bool) (now : ℕ) (r : RunningState) (s : Standing) → IsFreshRunning house now r → IsIdle house waiting s → IsRunning r s now
+fresh-now : (house : Household) (waiting : Bool) (now : ℕ) (r : RunningState) (s : CaptureState) → IsFreshRunning house now r → IsIdle house waiting s → IsRunning r s now
 fresh-now house waiting now r s f i = record {
   house = f.serves ∙ i.serves;
   teller = record {
@@ -57,34 +57,34 @@ fresh-now house waiting now r s f i = record {
       (subst (λ (x : ConnectionState). IsConnection (status_block s.house) x unused) (sym (f.connections k c at)) (unused-there (status_block s.house)));
 }
 
-pub runs-new : (there : Option RunningState) (house : Household) (waiting : Bool) (now : ℕ) (r : RunningState) (s : Standing) → there ≡ None → IsFreshRunning house now r → IsServer there house waiting s → RunsFrom s now r
+pub runs-new : (there : Option RunningState) (house : Household) (waiting : Bool) (now : ℕ) (r : RunningState) (s : CaptureState) → there ≡ None → IsFreshRunning house now r → IsServer there house waiting s → RunsFrom s now r
 runs-new there house waiting now r s none f is =
     let idle : IsIdle house waiting s = subst (λ (o : Option RunningState). IsServer o house waiting s) none is in
     let it : IsRunning r s now = fresh-now house waiting now r s f idle in
     subst (λ (o : Option ℕ). IsRunning r s (start_at o now)) (sym idle.start) it
 
-pub waits-there : (there : Option RunningState) (house : Household) (waiting : Bool) (s : Standing) → there ≡ None → IsServer there house waiting s → waiting ≡ true
+pub waits-there : (there : Option RunningState) (house : Household) (waiting : Bool) (s : CaptureState) → there ≡ None → IsServer there house waiting s → waiting ≡ true
 waits-there there house waiting s none is = let idle : IsIdle house waiting s = subst (λ (o : Option RunningState). IsServer o house waiting s) none is in idle.keepers
 
-pub set-up-there : (there : Option RunningState) (house : Household) (waiting : Bool) (s : Standing) → there ≡ None → IsServer there house waiting s → s.part ≡ parts.Events → IsSetUp parts.Events house
+pub set-up-there : (there : Option RunningState) (house : Household) (waiting : Bool) (s : CaptureState) → there ≡ None → IsServer there house waiting s → s.part ≡ parts.Events → IsSetUp parts.Events house
 set-up-there there house waiting s none is at =
     let idle : IsIdle house waiting s = subst (λ (o : Option RunningState). IsServer o house waiting s) none is in
     subst (λ (p : Part). IsSetUp p house) at idle.set_up
 
-pub runs-there : (there : Option RunningState) (old : Household) (waiting : Bool) (now : ℕ) (r : RunningState) (s : Standing) → there ≡ Some r → IsServer there old waiting s → RunsFrom s now r
+pub runs-there : (there : Option RunningState) (old : Household) (waiting : Bool) (now : ℕ) (r : RunningState) (s : CaptureState) → there ≡ Some r → IsServer there old waiting s → RunsFrom s now r
 runs-there there old waiting now r s some is =
     let begun : IsBegun r s = subst (λ (o : Option RunningState). IsServer o old waiting s) some is in
     subst (λ (o : Option ℕ). IsRunning r s (start_at o now)) (sym begun.start) begun.is
 
 -- the server that is there, or what waits for it, was taken out
-pub served : (c x : CaptureState) (s : Standing) (waiting : Bool) (there : Option RunningState) → IsCapture c s → x ≡ c → there ≡ x.running → waiting ≡ x.waiting → IsServer there x.house waiting s
+pub served : (c x : CaptureState) (s : CaptureState) (waiting : Bool) (there : Option RunningState) → IsCapture c s → x ≡ c → there ≡ x.running → waiting ≡ x.waiting → IsServer there x.house waiting s
 served c x s waiting there is same runs waits =
     subst (λ (b : Bool). IsServer there x.house b s) (sym waits)
     (subst (λ (o : Option RunningState). IsServer o x.house x.waiting s) (sym runs)
     (subst (λ (y : CaptureState). IsServer y.running y.house y.waiting s) (sym same) is.server))
 
 -- where a capture stands does not say which line comes next on the server
-pub moved : (r : RunningState) (s : Standing) (part : Part) (start : Option ℕ) (first : ℕ) → IsRunning r s first → IsRunning r (record s { part = part; start = start }) first
+pub moved : (r : RunningState) (s : CaptureState) (part : Part) (start : Option ℕ) (first : ℕ) → IsRunning r s first → IsRunning r (record s { part = part; start = start }) first
 moved r s part start first is = record {
   house = is.house;
   teller = record { start = is.teller.start; history = is.teller.history };
@@ -97,7 +97,7 @@ moved r s part start first is = record {
 
 -- a line of the house, or the end
 
-refused-same : (s : Standing) (line : Line) → is_event line ≡ false → is_refused s line ≡ refused_by s.house line
+refused-same : (s : CaptureState) (line : Line) → is_event line ≡ false → is_refused s line ≡ refused_by s.house line
 refused-same s Title e = refl
 refused-same s (Server name) e = refl
 refused-same s (Signature bytes) e = refl
@@ -107,7 +107,7 @@ refused-same s (Key bytes) e = refl
 refused-same s (At link now what) e = absurd (cc e)
 refused-same s End e = refl
 
-says-house : (s : Standing) (part : Part) (line : Line) → is_event line ≡ false → Says s part line (record s { part = part; house = house_with s.house line })
+says-house : (s : CaptureState) (part : Part) (line : Line) → is_event line ≡ false → Says s part line (record s { part = part; house = house_with s.house line })
 says-house s part Title e = refl
 says-house s part (Server name) e = refl
 says-house s part (Signature bytes) e = refl
@@ -151,7 +151,7 @@ past-end parts.Volumes line q past e f = absurd (cc past)
 past-end parts.Events line q past e f = events-end line q e f
 past-end parts.Nothing line q past e f = absurd (nothing-more line q f)
 
-begun-end : (r : RunningState) (house : Household) (waiting : Bool) (number : ℕ) (s : Standing) → IsBegun r s → part_after s.part End ≡ Some parts.Nothing
+begun-end : (r : RunningState) (house : Household) (waiting : Bool) (number : ℕ) (s : CaptureState) → IsBegun r s → part_after s.part End ≡ Some parts.Nothing
     → LeadsLine s End (record { part = parts.Nothing; house = house; waiting = waiting; running = Some r; number = number })
 begun-end r house waiting number s b may = record {
   part = parts.Nothing;
@@ -162,7 +162,7 @@ begun-end r house waiting number s b may = record {
   is = record { next = refl; server = record { first = b.first; start = b.start; is = moved r s parts.Nothing s.start b.first b.is; past = refl } };
 }
 
-leads-by : (o : Option RunningState) (house : Household) (waiting : Bool) (number : ℕ) (s : Standing) (line : Line) (part : Part) → IsServer o house waiting s → part_after s.part line ≡ Some part → is_event line ≡ false
+leads-by : (o : Option RunningState) (house : Household) (waiting : Bool) (number : ℕ) (s : CaptureState) (line : Line) (part : Part) → IsServer o house waiting s → part_after s.part line ≡ Some part → is_event line ≡ false
     → refused_by house line ≡ false → LeadsLine s line (record { part = part; house = house_with house line; waiting = waiting; running = o; number = number })
 leads-by None house waiting number s line part i may other good = record {
   part = part;
@@ -190,7 +190,7 @@ leads-by (Some r) house waiting number s line part b may other good =
     (subst (λ (q : Part). LeadsLine s End (record { part = q; house = house; waiting = waiting; running = Some r; number = number })) (sym e.over)
     (begun-end r house waiting number s b (ap (λ (l : Line). part_after s.part l) (sym e.ends) ∙ may ∙ ap Some e.over)))
 
-pub part_taken : (old new : CaptureState) (s : Standing) (line : Line) (part : Part) → IsCapture old s → part_after old.part line ≡ Some part → is_event line ≡ false → false ≡ refused_by old.house line
+pub part_taken : (old new : CaptureState) (s : CaptureState) (line : Line) (part : Part) → IsCapture old s → part_after old.part line ≡ Some part → is_event line ≡ false → false ≡ refused_by old.house line
     → new ≡ record { part = part; house = house_with old.house line; waiting = old.waiting; running = old.running; number = old.number } → LeadsLine s line new
 part_taken old new s line part is may other good same =
     subst (λ (x : CaptureState). LeadsLine s line x) (sym same)
@@ -200,7 +200,7 @@ or-right : (a b : Bool) → b ≡ true → (a || b) ≡ true
 or-right true b e = refl
 or-right false b e = e
 
-bad-by : (o : Option RunningState) (house : Household) (waiting : Bool) (s : Standing) (line : Line) (part : Part) → IsServer o house waiting s → part_after s.part line ≡ Some part → is_event line ≡ false
+bad-by : (o : Option RunningState) (house : Household) (waiting : Bool) (s : CaptureState) (line : Line) (part : Part) → IsServer o house waiting s → part_after s.part line ≡ Some part → is_event line ≡ false
     → refused_by house line ≡ true → is_bad s (Some line) ≡ true
 bad-by None house waiting s line part i may other bad =
     or-right (is_none (part_after s.part line)) (is_refused s line) (refused-same s line other ∙ ap (λ (h : Household). refused_by h line) (sym i.serves) ∙ bad)
@@ -208,42 +208,42 @@ bad-by (Some r) house waiting s line part b may other bad =
     let e : IsEnd line part = past-end s.part line part b.past other may in
     absurd (cc (sym bad ∙ ap (λ (l : Line). refused_by house l) e.ends))
 
-pub part_refused : (old : CaptureState) (s : Standing) (line : Line) (part : Part) → IsCapture old s → part_after old.part line ≡ Some part → is_event line ≡ false → true ≡ refused_by old.house line
+pub part_refused : (old : CaptureState) (s : CaptureState) (line : Line) (part : Part) → IsCapture old s → part_after old.part line ≡ Some part → is_event line ≡ false → true ≡ refused_by old.house line
     → is_bad s (Some line) ≡ true
 part_refused old s line part is may other bad =
     bad-by old.running old.house old.waiting s line part is.server (ap (λ (p : Part). part_after p line) (sym is.next) ∙ may) other (sym bad)
 
 -- a line that may not come here
-pub unfit : (old : CaptureState) (s : Standing) (line : Line) → IsCapture old s → part_after old.part line ≡ None → is_bad s (Some line) ≡ true
+pub unfit : (old : CaptureState) (s : CaptureState) (line : Line) → IsCapture old s → part_after old.part line ≡ None → is_bad s (Some line) ≡ true
 unfit old s line is none = ap (λ (o : Option Part). is_none o || is_refused s line) (ap (λ (p : Part). part_after p line) (sym is.next) ∙ none)
 
 -- what happened on a connection
 
-feeds-part : (b : Bool) (s : Standing) (link now : ℕ) (bytes : List ℕ) (t : Standing) → FeedsUnless b s link now bytes t → t.part ≡ s.part
-feeds-part true s link now bytes t h = ap (λ (x : Standing). x.part) h
-feeds-part false s link now bytes t h = ap (λ (x : Standing). x.part) h.next
+feeds-part : (b : Bool) (s : CaptureState) (link now : ℕ) (bytes : List ℕ) (t : CaptureState) → FeedsUnless b s link now bytes t → t.part ≡ s.part
+feeds-part true s link now bytes t h = ap (λ (x : CaptureState). x.part) h
+feeds-part false s link now bytes t h = ap (λ (x : CaptureState). x.part) h.next
 
-pulses-part : (o : Option LinkNumber) (s : Standing) (link now : ℕ) (t : Standing) → PulsesIf o s link now t → t.part ≡ s.part
-pulses-part None s link now t h = ap (λ (x : Standing). x.part) h
-pulses-part (Some l) s link now t h = ap (λ (x : Standing). x.part) h.next
+pulses-part : (o : Option LinkNumber) (s : CaptureState) (link now : ℕ) (t : CaptureState) → PulsesIf o s link now t → t.part ≡ s.part
+pulses-part None s link now t h = ap (λ (x : CaptureState). x.part) h
+pulses-part (Some l) s link now t h = ap (λ (x : CaptureState). x.part) h.next
 
-loses-part : (o : Option LinkNumber) (s : Standing) (link now : ℕ) (t : Standing) → LosesIf o s link now t → t.part ≡ s.part
-loses-part None s link now t h = ap (λ (x : Standing). x.part) h
-loses-part (Some l) s link now t h = ap (λ (x : Standing). x.part) h.next
+loses-part : (o : Option LinkNumber) (s : CaptureState) (link now : ℕ) (t : CaptureState) → LosesIf o s link now t → t.part ≡ s.part
+loses-part None s link now t h = ap (λ (x : CaptureState). x.part) h
+loses-part (Some l) s link now t h = ap (λ (x : CaptureState). x.part) h.next
 
-same-part : (s : Standing) (link now : ℕ) (what : What) (t : Standing) → Happens s link now what t → t.part ≡ s.part
+same-part : (s : CaptureState) (link now : ℕ) (what : What) (t : CaptureState) → Happens s link now what t → t.part ≡ s.part
 same-part s link now (In bytes) t h = feeds-part (s.connections link).over s link now bytes t h
 same-part s link now Quiet t h = pulses-part (open_link (s.connections link).stage) s link now t h
 same-part s link now Lost t h = loses-part (open_link (s.connections link).stage) s link now t h
-same-part s link now (Out bytes) t h = ap (λ (x : Standing). x.part) h.next
+same-part s link now (Out bytes) t h = ap (λ (x : CaptureState). x.part) h.next
 
-may-come : (s : Standing) (link now : ℕ) (what : What) → s.part ≡ parts.Events → part_after s.part (At link now what) ≡ Some parts.Events
+may-come : (s : CaptureState) (link now : ℕ) (what : What) → s.part ≡ parts.Events → part_after s.part (At link now what) ≡ Some parts.Events
 may-come s link now what at = ap (λ (p : Part). part_after p (At link now what)) at
 
-not_bad : (s : Standing) (link now : ℕ) (what : What) → s.part ≡ parts.Events → is_refused_on (s.connections link) what ≡ false → is_bad s (Some (At link now what)) ≡ false
+not_bad : (s : CaptureState) (link now : ℕ) (what : What) → s.part ≡ parts.Events → is_refused_on (s.connections link) what ≡ false → is_bad s (Some (At link now what)) ≡ false
 not_bad s link now what at good = ap (λ (o : Option Part). is_none o || is_refused_on (s.connections link) what) (may-come s link now what at) ∙ good
 
-acts-by : (s : Standing) (number link now : ℕ) (what : What) (r : RunningState) (found : Option Difference) → s.part ≡ parts.Events → is_refused_on (s.connections link) what ≡ false
+acts-by : (s : CaptureState) (number link now : ℕ) (what : What) (r : RunningState) (found : Option Difference) → s.part ≡ parts.Events → is_refused_on (s.connections link) what ≡ false
     → HappensBy (begun s now) link now what (start_at s.start now) found r → Acts s number link now what (option_map (λ d. Differs link d.at d.want d.got) found) r
 acts-by s number link now what r None at good h = (good, h)
 acts-by s number link now what r (Some d) at good h = record {
@@ -254,13 +254,13 @@ acts-by s number link now what r (Some d) at good h = record {
   found = h.found;
 }
 
-pub begun-running : (s : Standing) (now : ℕ) (r : RunningState) → RunsFrom s now r → IsRunning r (begun s now) (start_at s.start now)
+pub begun-running : (s : CaptureState) (now : ℕ) (r : RunningState) → RunsFrom s now r → IsRunning r (begun s now) (start_at s.start now)
 begun-running s now r is = moved r s parts.Events (Some (start_at s.start now)) (start_at s.start now) is
 
-pub begun-start : (s : Standing) (now : ℕ) → (begun s now).start ≡ Some (start_at s.start now)
+pub begun-start : (s : CaptureState) (now : ℕ) → (begun s now).start ≡ Some (start_at s.start now)
 begun-start s now = refl
 
-pub acted : (s : Standing) (number index link now : ℕ) (what : What) (r : RunningState) (found : Option Difference) (verdict : Option ReplayEnd) → s.part ≡ parts.Events → suc index ≡ link
+pub acted : (s : CaptureState) (number index link now : ℕ) (what : What) (r : RunningState) (found : Option Difference) (verdict : Option ReplayEnd) → s.part ≡ parts.Events → suc index ≡ link
     → false ≡ is_refused_on (s.connections (suc index)) what → HappensBy (begun s now) (suc index) now what (start_at s.start now) found r
     → verdict ≡ option_map (λ d. Differs link d.at d.want d.got) found → Acts s number link now what verdict r
 acted s number index link now what r found verdict there same_link good h same_verdict =
@@ -268,7 +268,7 @@ acted s number index link now what r found verdict there same_link good h same_v
     (acts-by s number link now what r found there (ap (λ (l : ℕ). is_refused_on (s.connections l) what) (sym same_link) ∙ sym good)
     (subst (λ (l : ℕ). HappensBy (begun s now) l now what (start_at s.start now) found r) same_link h))
 
-acts-taken : (s : Standing) (number count link now : ℕ) (what : What) (house : Household) (waiting : Bool) (r : RunningState) (verdict : Option ReplayEnd) → s.part ≡ parts.Events → Acts s number link now what verdict r
+acts-taken : (s : CaptureState) (number count link now : ℕ) (what : What) (house : Household) (waiting : Bool) (r : RunningState) (verdict : Option ReplayEnd) → s.part ≡ parts.Events → Acts s number link now what verdict r
     → TakesLine s number (At link now what) verdict (record { part = parts.Events; house = house; waiting = waiting; running = Some r; number = count })
 acts-taken s number count link now what house waiting r None there h =
     let stays : h.1.after.part ≡ parts.Events = same-part (begun s now) link now what h.1.after h.1.happens in
@@ -282,7 +282,7 @@ acts-taken s number count link now what house waiting r None there h =
     }
 acts-taken s number count link now what house waiting r (Some verdict) there h = h
 
-pub event_taken : (old new : CaptureState) (s : Standing) (house : Household) (waiting : Bool) (number count link now : ℕ) (what : What) (r : RunningState) (part : Part) (verdict : Option ReplayEnd) → IsCapture old s
+pub event_taken : (old new : CaptureState) (s : CaptureState) (house : Household) (waiting : Bool) (number count link now : ℕ) (what : What) (r : RunningState) (part : Part) (verdict : Option ReplayEnd) → IsCapture old s
     → old.part ≡ parts.Events → part ≡ old.part → Acts s number link now what verdict r
     → new ≡ record { part = part; house = house; waiting = waiting; running = Some r; number = count } → TakesLine s number (At link now what) verdict new
 event_taken old new s house waiting number count link now what r part verdict is at kept h same =
@@ -290,7 +290,7 @@ event_taken old new s house waiting number count link now what r part verdict is
     (ap (λ (p : Part). record { part = p; house = house; waiting = waiting; running = Some r; number = count }) (sym (kept ∙ at)) ∙ sym same)
     (acts-taken s number count link now what house waiting r verdict (sym is.next ∙ at) h)
 
-pub event_refused : (s : Standing) (index link now : ℕ) (what : What) → suc index ≡ link → true ≡ is_refused_on (s.connections (suc index)) what → is_bad s (Some (At link now what)) ≡ true
+pub event_refused : (s : CaptureState) (index link now : ℕ) (what : What) → suc index ≡ link → true ≡ is_refused_on (s.connections (suc index)) what → is_bad s (Some (At link now what)) ≡ true
 event_refused s index link now what same_link bad =
     or-right (is_none (part_after s.part (At link now what))) (is_refused_on (s.connections link) what) (ap (λ (l : ℕ). is_refused_on (s.connections l) what) (sym same_link) ∙ sym bad)
 
@@ -315,10 +315,10 @@ no_event End other = refl
 
 -- a line that was read
 
-pub no_line : (s : Standing) (number : ℕ) (raw : List ℕ) (line : Option Line) → line ≡ line_in raw → line ≡ None → Decides s number raw (BadCapture number)
+pub no_line : (s : CaptureState) (number : ℕ) (raw : List ℕ) (line : Option Line) → line ≡ line_in raw → line ≡ None → Decides s number raw (BadCapture number)
 no_line s number raw line read none = (ap (λ (o : Option Line). is_bad s o) (sym read ∙ none), refl)
 
-taken-by : (s : Standing) (number : ℕ) (raw : List ℕ) (line : Line) (verdict : Option ReplayEnd) (c : CaptureState) → line_in raw ≡ Some line → TakesLine s number line verdict c
+taken-by : (s : CaptureState) (number : ℕ) (raw : List ℕ) (line : Line) (verdict : Option ReplayEnd) (c : CaptureState) → line_in raw ≡ Some line → TakesLine s number line verdict c
     → Takes s number raw verdict (record c { number = number })
 taken-by s number raw line None c read h = (
   h.after,
@@ -339,14 +339,14 @@ taken-by s number raw line (Some ReadFault) c read h = absurd h
 taken-by s number raw line (Some Spent) c read h = absurd h
 taken-by s number raw line (Some Memory) c read h = absurd h
 
-pub line_taken : (s : Standing) (number : ℕ) (raw : List ℕ) (line : Line) (found : Option Line) (verdict : Option ReplayEnd) (c new : CaptureState) → found ≡ line_in raw → found ≡ Some line
+pub line_taken : (s : CaptureState) (number : ℕ) (raw : List ℕ) (line : Line) (found : Option Line) (verdict : Option ReplayEnd) (c new : CaptureState) → found ≡ line_in raw → found ≡ Some line
     → TakesLine s number line verdict c → new ≡ record c { number = number } → Takes s number raw verdict new
 line_taken s number raw line found verdict c new read some h same =
     subst (λ (x : CaptureState). Takes s number raw verdict x) (sym same) (taken-by s number raw line verdict c (sym read ∙ some) h)
 
 -- the end
 
-pub ends_same : (s : Standing) (number : ℕ) (verdict : ReplayEnd) → s.part ≡ parts.Nothing → IsSame s verdict → DecidesEnd s number verdict
+pub ends_same : (s : CaptureState) (number : ℕ) (verdict : ReplayEnd) → s.part ≡ parts.Nothing → IsSame s verdict → DecidesEnd s number verdict
 ends_same s number (Same links entries replies refused) over same = (over, same)
 ends_same s number (Differs link at want got) over same = absurd same
 ends_same s number (BadCapture line) over same = absurd same
@@ -354,7 +354,7 @@ ends_same s number ReadFault over same = absurd same
 ends_same s number Spent over same = absurd same
 ends_same s number Memory over same = absurd same
 
-pub idle-same : (house : Household) (waiting : Bool) (s : Standing) → IsIdle house waiting s → IsSame s (Same 0 0 0 0)
+pub idle-same : (house : Household) (waiting : Bool) (s : CaptureState) → IsIdle house waiting s → IsSame s (Same 0 0 0 0)
 idle-same house waiting s i = record {
   fed = sym i.links;
   asked = ap length (sym i.history);

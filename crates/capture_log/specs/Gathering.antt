@@ -3,7 +3,7 @@ use Rattle.std.specs.Prelude.{◌≡◌, ℕ, ◌≤◌, false, List, [], ◌∷
 use Rattle.capture_lines.specs.Lines.{longest_line}
 use Rattle.capture_log.specs.Judged.{JudgedAt}
 use Rattle.capture_log.specs.Reading.{is_newline, lines_in}
-use Rattle.capture_server.specs.Standing.{Standing, Leads, begins}
+use Rattle.capture_server.specs.CaptureState.{CaptureState, Leads, begins}
 use Rattle.capture_log.specs.Taking.{CaptureState, IsCapture}
 use Rattle.capture_log.specs.declared.replay_end.ReplayEnd.{ReplayEnd}
 
@@ -32,7 +32,7 @@ pub record Holds (r : ReaderState) (read : List ℕ) : Type 0 where
   pub are_lines : AreLines lines
   pub one_line : IsOneLine r.held
   pub size : length r.held ≤ longest_line
-  pub standing : Standing
+  pub standing : CaptureState
   pub leads : Leads begins lines standing
   pub is : IsCapture r.capture standing
   pub number : r.capture.number ≡ length lines

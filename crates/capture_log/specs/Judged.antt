@@ -6,13 +6,13 @@ use Rattle.capture_lines.specs.declared.line.What.TheVariants.{Out}
 use Rattle.capture_server.specs.Connections.{difference, output}
 use Rattle.capture_server.specs.Counting.{AreCounts}
 use Rattle.capture_server.specs.declared.difference.Difference.{Difference}
-use Rattle.capture_server.specs.Standing.{Standing, Leads, begins, is_bad}
+use Rattle.capture_server.specs.CaptureState.{CaptureState, Leads, begins, is_bad}
 use Rattle.capture_server.specs.declared.part.Part.TheVariants as parts
 use Rattle.capture_log.specs.declared.replay_end.ReplayEnd.{ReplayEnd}
 use Rattle.capture_log.specs.declared.replay_end.ReplayEnd.TheVariants.{Same, Differs, BadCapture, ReadFault, Spent, Memory}
 
 -- A line behind good ones whose bytes differ from the output.
-pub record FindsDifference (s : Standing) (raw : List ℕ) (link : ℕ) (d : Difference) : Type 0 where
+pub record FindsDifference (s : CaptureState) (raw : List ℕ) (link : ℕ) (d : Difference) : Type 0 where
   pub now : ℕ
   pub bytes : List ℕ
   pub is : line_in raw ≡ Some (At link now (Out bytes))
@@ -20,7 +20,7 @@ pub record FindsDifference (s : Standing) (raw : List ℕ) (link : ℕ) (d : Dif
   pub found : difference (s.connections link).named bytes (drop (s.connections link).named (output (s.connections link))) ≡ Some d
 
 -- what a line decides where the capture stands
-abbrev pub Decides : Standing → ℕ → List ℕ → ReplayEnd → Type 0
+abbrev pub Decides : CaptureState → ℕ → List ℕ → ReplayEnd → Type 0
 Decides s number raw (BadCapture line) = (is_bad s (line_in raw) ≡ true) × (line ≡ number)
 Decides s number raw (Differs link at want got) = FindsDifference s raw link (record { at = at; want = want; got = got })
 Decides s number raw (Same links entries replies refused) = ⊥
@@ -29,7 +29,7 @@ Decides s number raw Spent = ⊥
 Decides s number raw Memory = ⊥
 
 -- the counts are those
-abbrev pub IsSame : Standing → ReplayEnd → Type 0
+abbrev pub IsSame : CaptureState → ReplayEnd → Type 0
 IsSame s (Same links entries replies refused) = AreCounts s links entries replies refused
 IsSame s (Differs link at want got) = ⊥
 IsSame s (BadCapture line) = ⊥
@@ -38,7 +38,7 @@ IsSame s Spent = ⊥
 IsSame s Memory = ⊥
 
 -- what the end of a capture decides that no line has decided
-abbrev pub DecidesEnd : Standing → ℕ → ReplayEnd → Type 0
+abbrev pub DecidesEnd : CaptureState → ℕ → ReplayEnd → Type 0
 DecidesEnd s number (BadCapture line) = (s.part ≢ parts.Nothing) × (line ≡ number)
 DecidesEnd s number (Differs link at want got) = ⊥
 DecidesEnd s number (Same links entries replies refused) = (s.part ≡ parts.Nothing) × AreCounts s links entries replies refused
@@ -52,13 +52,13 @@ pub record JudgedAt (lines : List (List ℕ)) (verdict : ReplayEnd) : Type 0 whe
   pub raw : List ℕ
   pub behind : List (List ℕ)
   pub whole : lines ≡ before ++ raw ∷ behind
-  pub standing : Standing
+  pub standing : CaptureState
   pub leads : Leads begins before standing
   pub decides : Decides standing (length before + 1) raw verdict
 
 -- All lines are good, and no more come.
 pub record JudgedAtEnd (lines : List (List ℕ)) (verdict : ReplayEnd) : Type 0 where
-  pub standing : Standing
+  pub standing : CaptureState
   pub leads : Leads begins lines standing
   pub decides : DecidesEnd standing (length lines + 1) verdict
 
@@ -69,11 +69,11 @@ Judged lines ended verdict = JudgedAt lines verdict ⊎ (JudgedAtEnd lines verdi
 -- A capture without a bad line: each of its lines, behind good ones, is good, and where no more come, the last was `end`.
 pub record IsGood (lines : List (List ℕ)) (ended : Bool) : Type 0 where
   pub formed :
-      (before : List (List ℕ)) (raw : List ℕ) (behind : List (List ℕ)) (s : Standing) → lines ≡ before ++ raw ∷ behind → Leads begins before s → is_bad s (line_in raw) ≢ true
-  pub whole : ended ≡ true → (s : Standing) → Leads begins lines s → s.part ≡ parts.Nothing
+      (before : List (List ℕ)) (raw : List ℕ) (behind : List (List ℕ)) (s : CaptureState) → lines ≡ before ++ raw ∷ behind → Leads begins before s → is_bad s (line_in raw) ≢ true
+  pub whole : ended ≡ true → (s : CaptureState) → Leads begins lines s → s.part ≡ parts.Nothing
 
 -- Each of its lines, behind good ones, names bytes that come next in the output, if it names some.
 abbrev pub AreTrue : List (List ℕ) → Type 0
 AreTrue lines =
-    (before : List (List ℕ)) (raw : List ℕ) (behind : List (List ℕ)) (s : Standing) (link : ℕ) (d : Difference) → lines ≡ before ++ raw ∷ behind → Leads begins before s
+    (before : List (List ℕ)) (raw : List ℕ) (behind : List (List ℕ)) (s : CaptureState) (link : ℕ) (d : Difference) → lines ≡ before ++ raw ∷ behind → Leads begins before s
     → FindsDifference s raw link d → ⊥

@@ -1,11 +1,11 @@
 -- What a replay reads and answers (this profile).
 use Rattle.std.specs.Prelude.{◌≡◌, ℕ, ◌≤◌, ◌<◌, ◌==◌, nat_lt, not, ◌&&◌, ◌||◌, Bool, true, false, List, [], ◌∷◌, ◌++◌, length, option_map, if◌then◌else◌}
 use Rattle.std.specs.List.{slice_split}
-use Rattle.afp_base.specs.Counts.{Counts}
+use Rattle.afp_base.specs.Counts.{CountsOn}
 use Rattle.afp_outside.specs.Source.{SourceState}
 use Rattle.capture_lines.specs.Lines.{longest_line}
 use Rattle.capture_log.specs.Judged.{Judged, IsGood, AreTrue}
-use Rattle.capture_server.specs.Standing.{Standing, Leads, begins}
+use Rattle.capture_server.specs.CaptureState.{CaptureState, Leads, begins}
 use Rattle.capture_log.specs.declared.replay_end.ReplayEnd.{ReplayEnd}
 use Rattle.capture_log.specs.declared.replay_end.ReplayEnd.TheVariants as ends
 
@@ -32,7 +32,7 @@ lines_in ended bytes = lines_of ended (pieces bytes)
 
 -- Of what was read so far no line decides.
 abbrev pub Undecided : List ℕ → Type 0
-Undecided read = (s : Standing) × Leads begins (lines_in false read) s
+Undecided read = (s : CaptureState) × Leads begins (lines_in false read) s
 
 -- The last read was made where fewer bytes than `turns` had been taken.
 pub record ReadWithin (turns : ℕ) (read : List ℕ) : Type 0 where
@@ -58,7 +58,7 @@ abbrev pub ReplaysBy : ℕ → List ℕ → SourceState → SourceState → Repl
 ReplaysBy turns read old new (ends.Same links entries replies refused) = IsJudged turns read old new (ends.Same links entries replies refused)
 ReplaysBy turns read old new (ends.Differs link at want got) = IsJudged turns read old new (ends.Differs link at want got)
 ReplaysBy turns read old new (ends.BadCapture line) = IsJudged turns read old new (ends.BadCapture line)
-ReplaysBy turns read old new ends.ReadFault = Counts 1 old.faults new.faults × (length read < turns) × Undecided read
+ReplaysBy turns read old new ends.ReadFault = CountsOn 1 old.faults new.faults × (length read < turns) × Undecided read
 ReplaysBy turns read old new ends.Spent = (turns ≤ length read) × Undecided read × (new.faults ≡ old.faults)
 ReplaysBy turns read old new ends.Memory = Unit {0}
 
@@ -84,7 +84,7 @@ IsTheSame ends.Memory = Unit {0}
 pub record IsReadWell (turns : ℕ) (read : List ℕ) (old new : SourceState) : Type 0 where
   pub good : (ended : Bool) → IsGood (lines_in ended read) ended
   pub fewer : length read < turns
-  pub faultless : Counts 1 old.faults new.faults → ⊥
+  pub faultless : CountsOn 1 old.faults new.faults → ⊥
 
 -- A replay reads these bytes, and answers by them. Where they are read well, no line is bad; where what they name is true too, they are the same.
 pub record Replays (turns : ℕ) (old : SourceState) (end : ReplayEnd) (new : SourceState) : Type 0 where

@@ -13,7 +13,7 @@ use Rattle.capture_log.specs.Judged.{Decides}
 use Rattle.capture_log.specs.SetUp.{IsSetUp}
 use Rattle.afp_serial.specs.Limits.{most_volumes}
 use Rattle.capture_server.specs.Running.{Happened}
-use Rattle.capture_server.specs.Standing.{is_refused_on, Standing, Says, Goes, part_after, is_refused, is_bad, user_behind, start_at}
+use Rattle.capture_server.specs.CaptureState.{is_refused_on, CaptureState, Says, Goes, part_after, is_refused, is_bad, user_behind, start_at}
 use Rattle.capture_server.specs.States.{RunningState, IsRunning}
 use Rattle.capture_server.specs.declared.difference.Difference.{Difference}
 use Rattle.capture_server.specs.declared.part.Part.{Part}
@@ -64,7 +64,7 @@ is_event (At link now what) = true
 is_event End = false
 
 -- Nothing happened yet: the house is made, and no more, and the keepers wait.
-pub record IsIdle (house : Household) (waiting : Bool) (s : Standing) : Type 0 where
+pub record IsIdle (house : Household) (waiting : Bool) (s : CaptureState) : Type 0 where
   pub serves : house ≡ s.house
   pub set_up : IsSetUp s.part house
   pub keepers : waiting ≡ true
@@ -85,23 +85,23 @@ is_past_house parts.Events = true
 is_past_house parts.Nothing = true
 
 -- Something happened.
-pub record IsBegun (r : RunningState) (s : Standing) : Type 0 where
+pub record IsBegun (r : RunningState) (s : CaptureState) : Type 0 where
   pub first : ℕ
   pub start : s.start ≡ Some first
   pub is : IsRunning r s first
   pub past : is_past_house s.part ≡ true
 
-abbrev pub IsServer : Option RunningState → Household → Bool → Standing → Type 0
+abbrev pub IsServer : Option RunningState → Household → Bool → CaptureState → Type 0
 IsServer None house waiting s = IsIdle house waiting s
 IsServer (Some r) house waiting s = IsBegun r s
 
 -- what is held is where the capture stands
-pub record IsCapture (c : CaptureState) (s : Standing) : Type 0 where
+pub record IsCapture (c : CaptureState) (s : CaptureState) : Type 0 where
   pub next : c.part ≡ s.part
   pub server : IsServer c.running c.house c.waiting s
 
 -- the server that is there, or that begins now
-abbrev pub RunsFrom : Standing → ℕ → RunningState → Type 0
+abbrev pub RunsFrom : CaptureState → ℕ → RunningState → Type 0
 RunsFrom s now r = IsRunning r s (start_at s.start now)
 
 -- a number that a connection may have
@@ -120,16 +120,16 @@ IsLinked (At link now what) = IsLink link
 IsLinked End = Unit {0}
 
 -- A good line leads to where the capture stands then.
-pub record LeadsLine (s : Standing) (line : Line) (c : CaptureState) : Type 0 where
+pub record LeadsLine (s : CaptureState) (line : Line) (c : CaptureState) : Type 0 where
   pub part : Part
-  pub after : Standing
+  pub after : CaptureState
   pub may : part_after s.part line ≡ Some part
   pub taken : is_refused s line ≡ false
   pub says : Says s part line after
   pub is : IsCapture c after
 
 -- A good line whose bytes differ from the output.
-pub record FindsIn (s : Standing) (line : Line) (link : ℕ) (d : Difference) : Type 0 where
+pub record FindsIn (s : CaptureState) (line : Line) (link : ℕ) (d : Difference) : Type 0 where
   pub now : ℕ
   pub bytes : List ℕ
   pub shows : line ≡ At link now (Out bytes)
@@ -137,7 +137,7 @@ pub record FindsIn (s : Standing) (line : Line) (link : ℕ) (d : Difference) : 
   pub found : difference (s.connections link).named bytes (drop (s.connections link).named (output (s.connections link))) ≡ Some d
 
 -- what a line of a good form decides
-abbrev pub DecidesLine : Standing → ℕ → Line → ReplayEnd → Type 0
+abbrev pub DecidesLine : CaptureState → ℕ → Line → ReplayEnd → Type 0
 DecidesLine s number line (BadCapture n) = (is_bad s (Some line) ≡ true) × (n ≡ number)
 DecidesLine s number line (Differs link at want got) = FindsIn s line link (record { at = at; want = want; got = got })
 DecidesLine s number line (Same links entries replies refused) = ⊥
@@ -145,20 +145,20 @@ DecidesLine s number line ReadFault = ⊥
 DecidesLine s number line Spent = ⊥
 DecidesLine s number line Memory = ⊥
 
-abbrev pub TakesLine : Standing → ℕ → Line → Option ReplayEnd → CaptureState → Type 0
+abbrev pub TakesLine : CaptureState → ℕ → Line → Option ReplayEnd → CaptureState → Type 0
 TakesLine s number line None c = LeadsLine s line c
 TakesLine s number line (Some verdict) c = DecidesLine s number line verdict
 
 -- from here on the capture stands at its events, and has begun
-abbrev pub begun : Standing → ℕ → Standing
+abbrev pub begun : CaptureState → ℕ → CaptureState
 begun s now = record s { part = parts.Events; start = Some (start_at s.start now) }
 
 -- Something happened on the server, and it decides nothing; or it decides.
-abbrev pub Acts : Standing → ℕ → ℕ → ℕ → What → Option ReplayEnd → RunningState → Type 0
+abbrev pub Acts : CaptureState → ℕ → ℕ → ℕ → What → Option ReplayEnd → RunningState → Type 0
 Acts s number link now what None r = (is_refused_on (s.connections link) what ≡ false) × Happened (begun s now) link now what (start_at s.start now) r
 Acts s number link now what (Some verdict) r = DecidesLine s number (At link now what) verdict
 
 -- A line leads to where the capture stands then, and is counted; or it decides.
-abbrev pub Takes : Standing → ℕ → List ℕ → Option ReplayEnd → CaptureState → Type 0
-Takes s number raw None c = (t : Standing) × Goes s raw t × IsCapture c t × (c.number ≡ number)
+abbrev pub Takes : CaptureState → ℕ → List ℕ → Option ReplayEnd → CaptureState → Type 0
+Takes s number raw None c = (t : CaptureState) × Goes s raw t × IsCapture c t × (c.number ≡ number)
 Takes s number raw (Some verdict) c = Decides s number raw verdict

@@ -2,7 +2,7 @@
 ghost use Rattle.std.specs.Prelude.{◌≡◌, ◌<◌, ◌+◌, ℕ, suc, length, true, None, IfOk, option_map, is_some};
 ghost use Rattle.capture_lines.specs.declared.line.Line.{Line};
 ghost use Rattle.capture_log.specs.Judged.{DecidesEnd};
-ghost use Rattle.capture_server.specs.Standing.{Standing, is_refused_on, no_house};
+ghost use Rattle.capture_server.specs.CaptureState.{CaptureState, is_refused_on, no_house};
 ghost use Rattle.capture_log.specs.Taking.{IsCapture, IsLink, IsLinked, IsServer, RunsFrom, Acts, TakesLine, Takes};
 ghost use Rattle.capture_log.specs.SetUp.{IsSetUp};
 ghost use Rattle.capture_server.specs.Running.{IsFreshRunning};
@@ -72,8 +72,8 @@ fn running_from<K: Keeper>(
     setup: &mut Setup,
     now: Moment,
 ) -> Result<Running<K>, OutOfMemory>
-    requires { (s : Standing) × IsServer there setup.old (is_some fresh) s × (s.part ≡ Part.Events) }
-    ensures { IfOk result (λ r. (s : Standing) → IsServer there setup.old (is_some fresh) s → RunsFrom s now r) }
+    requires { (s : CaptureState) × IsServer there setup.old (is_some fresh) s × (s.part ≡ Part.Events) }
+    ensures { IfOk result (λ r. (s : CaptureState) → IsServer there setup.old (is_some fresh) s → RunsFrom s now r) }
 {
     match there {
         Some(running) => Ok(running),
@@ -84,7 +84,7 @@ fn running_from<K: Keeper>(
 /// Whether bytes come on a connection that was lost.
 fn is_refused_on<K: Keeper>(running: &Running<K>, index: usize, what: &What) -> bool
     requires { index < length running.now.connections }
-    ensures { (s : Standing) (first : ℕ) → IsRunning running.now s first → result ≡ is_refused_on (s.connections (suc index)) what.now }
+    ensures { (s : CaptureState) (first : ℕ) → IsRunning running.now s first → result ≡ is_refused_on (s.connections (suc index)) what.now }
 {
     match what {
         What::In(_) => running.is_lost(index),
@@ -116,8 +116,8 @@ fn act<K: Keeper>(
     number: u64,
 ) -> Result<Option<ReplayEnd>, OutOfMemory>
     requires link { IsLink link }
-    requires is { (s : Standing) × RunsFrom s now running.old }
-    ensures { IfOk result (λ verdict. (s : Standing) → RunsFrom s now running.old → s.part ≡ Part.Events → Acts s number link now what.now verdict running.new) }
+    requires is { (s : CaptureState) × RunsFrom s now running.old }
+    ensures { IfOk result (λ verdict. (s : CaptureState) → RunsFrom s now running.old → s.part ≡ Part.Events → Acts s number link now what.now verdict running.new) }
 {
     let index = (link - 1) as usize;
     if is_refused_on(running, index, what) {
@@ -142,7 +142,7 @@ fn same_of(counts: ReplayCounts) -> ReplayEnd
 impl<K: Keeper> Capture<K> {
     ghost use Rattle.std.specs.Prelude.{false, Some, OnOk};
     ghost use Rattle.capture_log.specs.Judged.{IsSame};
-    ghost use Rattle.capture_server.specs.Standing.{part_after};
+    ghost use Rattle.capture_server.specs.CaptureState.{part_after};
     ghost use Rattle.capture_log.specs.Taking.{is_event};
 
     /// No line was taken.
@@ -178,7 +178,7 @@ impl<K: Keeper> Capture<K> {
     ) -> Result<Option<ReplayEnd>, OutOfMemory>
         requires may { part_after self.old.part line.now ≡ Some part }
         requires other { is_event line.now ≡ false }
-        ensures { IfOk result (λ verdict. (s : Standing) → IsCapture self.old s → TakesLine s number line.now verdict self.new) }
+        ensures { IfOk result (λ verdict. (s : CaptureState) → IsCapture self.old s → TakesLine s number line.now verdict self.new) }
     {
         if self.setup.refuses(line) {
             return Ok(Some(ReplayEnd::BadCapture { line: number }));
@@ -197,9 +197,9 @@ impl<K: Keeper> Capture<K> {
         number: u64,
     ) -> Result<Option<ReplayEnd>, OutOfMemory>
         requires link { IsLink link }
-        requires is { (s : Standing) × IsCapture self.old s }
+        requires is { (s : CaptureState) × IsCapture self.old s }
         requires may { self.old.part ≡ Part.Events }
-        ensures { IfOk result (λ verdict. (s : Standing) → IsCapture self.old s → TakesLine s number (Line.At link now what.now) verdict self.new) }
+        ensures { IfOk result (λ verdict. (s : CaptureState) → IsCapture self.old s → TakesLine s number (Line.At link now what.now) verdict self.new) }
     {
         let there = self.running.take();
         let fresh = self.fresh.take();
@@ -212,8 +212,8 @@ impl<K: Keeper> Capture<K> {
     /// A line of a good form.
     fn take_line(&mut self, line: &Line, number: u64) -> Result<Option<ReplayEnd>, OutOfMemory>
         requires linked { IsLinked line.now }
-        requires is { (s : Standing) × IsCapture self.old s }
-        ensures { IfOk result (λ verdict. (s : Standing) → IsCapture self.old s → TakesLine s number line.now verdict self.new) }
+        requires is { (s : CaptureState) × IsCapture self.old s }
+        ensures { IfOk result (λ verdict. (s : CaptureState) → IsCapture self.old s → TakesLine s number line.now verdict self.new) }
     {
         let Some(part) = part_after(self.part, line) else {
             return Ok(Some(ReplayEnd::BadCapture { line: number }));
@@ -226,8 +226,8 @@ impl<K: Keeper> Capture<K> {
 
     /// Takes the next line, which stands without its newline, and says what it decides, if it does.
     pub fn take(&mut self, raw: &[u8]) -> Result<Option<ReplayEnd>, OutOfMemory>
-        requires { (s : Standing) × IsCapture self.old s }
-        ensures { IfOk result (λ verdict. (s : Standing) → IsCapture self.old s → Takes s (self.old.number + 1) raw.now verdict self.new) }
+        requires { (s : CaptureState) × IsCapture self.old s }
+        ensures { IfOk result (λ verdict. (s : CaptureState) → IsCapture self.old s → Takes s (self.old.number + 1) raw.now verdict self.new) }
     {
         let number = self.next_number()?;
         let Some(line) = read_line(self.alloc, raw)? else {
@@ -240,7 +240,7 @@ impl<K: Keeper> Capture<K> {
 
     /// The counts, where all is the same.
     fn same(&self) -> ReplayEnd
-        ensures { (s : Standing) → IsCapture self.now s → IsSame s result }
+        ensures { (s : CaptureState) → IsCapture self.now s → IsSame s result }
     {
         match &self.running {
             Some(running) => same_of(running.counts()),
@@ -255,7 +255,7 @@ impl<K: Keeper> Capture<K> {
 
     /// What the end of the capture decides.
     pub fn end(&self) -> Result<ReplayEnd, OutOfMemory>
-        ensures { IfOk result (λ verdict. (s : Standing) → IsCapture self.now s → DecidesEnd s (self.now.number + 1) verdict) }
+        ensures { IfOk result (λ verdict. (s : CaptureState) → IsCapture self.now s → DecidesEnd s (self.now.number + 1) verdict) }
     {
         let line = self.next_number()?;
         match self.part {

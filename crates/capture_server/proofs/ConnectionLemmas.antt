@@ -21,10 +21,10 @@ use Rattle.afp_server.specs.Wire.{WireState, open_link}
 use Rattle.afp_server.specs.declared.stage.Stage.{Stage}
 use Rattle.afp_server.specs.declared.tally.Tally.{Tally}
 use Rattle.afp_server.proofs.Traces.{spelling_of-append}
-use Rattle.capture_server.specs.Connections.{Connection, came, difference, output}
+use Rattle.capture_server.specs.Connections.{Connection, fed_with, difference, output}
 use Rattle.capture_server.specs.declared.difference.Difference.{Difference}
 use Rattle.capture_server.specs.Moves.{Extends, FeedsConnection, RestsConnection, LosesConnection, Compares, wire_or}
-use Rattle.capture_server.specs.Standing.{after_quiet, after_loss}
+use Rattle.capture_server.specs.CaptureState.{after_quiet, after_loss}
 use Rattle.capture_server.specs.States.{ConnectionState, IsConnection, IsLive, IsWire, FeedsWire, GoesOn}
 use Rattle.capture_server.proofs.Alone.{IsAlone}
 use Rattle.capture_server.proofs.Histories.{Asks, asks}
@@ -73,7 +73,7 @@ fed_connection block now piece c d s t u w v tally out sent over fed is r f goes
     let sent_is : sent ≡ c.out ++ spelling_of f.replies = f.sent_is ∙ ap (λ (l : List ℕ). l ++ spelling_of f.replies) (sym same_out) in
     let added : drop c.place sent ≡ drop c.place c.out ++ spelling_of f.replies =
     ap (λ (l : List ℕ). drop c.place l) sent_is ∙ drop-append-le c.place c.out (spelling_of f.replies) is.inside in
-    let it : IsConnection block held (came s piece f.frames f.replies v.stage over) = record {
+    let it : IsConnection block held (fed_with s piece f.frames f.replies v.stage over) = record {
       used = refl;
       over = refl;
       lost = is.lost;
@@ -102,7 +102,7 @@ fed_connection block now piece c d s t u w v tally out sent over fed is r f goes
       };
       extends = record { start = f.start; history = f.history; served = f.served };
       tally_is = same_tally ∙ f.tally;
-      is = subst (λ (x : ConnectionState). IsConnection block x (came s piece f.frames f.replies v.stage over)) (sym same) it;
+      is = subst (λ (x : ConnectionState). IsConnection block x (fed_with s piece f.frames f.replies v.stage over)) (sym same) it;
     }
 
 -- one ask that was answered

@@ -11,7 +11,7 @@ use Rattle.afp_serial.specs.World.{World, fresh_world}
 use Rattle.afp_serial.specs.StatusBlock.{status_block}
 use Rattle.afp_serial.specs.Went.{Step, step}
 use Rattle.afp_serial.specs.declared.ask.Entry.{Entry}
-use Rattle.capture_server.specs.Connections.{Connection, came, entries_of, AreServed}
+use Rattle.capture_server.specs.Connections.{Connection, fed_with, entries_of, AreServed}
 use Rattle.afp_base.specs.Counts.{counted, last_count}
 use Rattle.afp_serial.specs.Household.{Household}
 use Rattle.afp_server.specs.Tally.{replies_after, refused_after, refused_more}
@@ -26,7 +26,7 @@ use Rattle.capture_server.specs.Counting.{refused_in}
 use Rattle.capture_server.specs.Moves.{Extends, FeedsConnection, RestsConnection, LosesConnection}
 use Rattle.capture_server.specs.Running.{AreUnused, Happened, HappensBy}
 use Rattle.capture_server.specs.Slots.{IsFit, FeedsAt, RestsAt, LosesAt, ComparesAt}
-use Rattle.capture_server.specs.Standing.{Standing, FeedsUnless, PulsesIf, LosesIf, after_quiet, after_loss, put, world_at, start_at}
+use Rattle.capture_server.specs.CaptureState.{CaptureState, FeedsUnless, PulsesIf, LosesIf, after_quiet, after_loss, put, world_at, start_at}
 use Rattle.capture_server.specs.States.{ConnectionState, RunningState, IsConnection, IsRunning, IsTeller, unused_state}
 
 pub ok_with : {X E : Type 0} (r : Result X E) (P Q : X → Type 0) → ((x : X) → P x → Q x) → IfOk r P → IfOk r Q
@@ -77,17 +77,17 @@ set-connections block slots i d p conns each is k c e = elim (get-set slots i k 
 
 -- what the teller answers is what the serial server does
 
-pub served-there : (t u : Shown) (s : Standing) (first now : ℕ) (steps : List Step) → IsTeller t s first → s.start ≡ Some first → Extends t steps u → AreServed (world_at s now) steps
+pub served-there : (t u : Shown) (s : CaptureState) (first now : ℕ) (steps : List Step) → IsTeller t s first → s.start ≡ Some first → Extends t steps u → AreServed (world_at s now) steps
 served-there t u s first now steps is started x =
     let world : stand t.start (t.history) ≡ world_at s now =
     ap (λ (w : World). stand w (t.history)) is.start ∙ ap (λ (h : List Entry). stand (fresh_world s.house first) h) is.history
     ∙ ap (λ (o : Option ℕ). stand (fresh_world s.house (start_at o now)) s.history) (sym started) in
     subst (λ (w : World). AreServed w steps) world x.served
 
-pub told-there : (t u : Shown) (s : Standing) (first : ℕ) (steps : List Step) → IsTeller t s first → Extends t steps u → u.history ≡ s.history ++ entries_of steps
+pub told-there : (t u : Shown) (s : CaptureState) (first : ℕ) (steps : List Step) → IsTeller t s first → Extends t steps u → u.history ≡ s.history ++ entries_of steps
 told-there t u s first steps is x = x.history ∙ ap (λ (h : List Entry). h ++ entries_of steps) is.history
 
-pub started-there : (t u : Shown) (s : Standing) (first : ℕ) (steps : List Step) → IsTeller t s first → Extends t steps u → u.start ≡ fresh_world s.house first
+pub started-there : (t u : Shown) (s : CaptureState) (first : ℕ) (steps : List Step) → IsTeller t s first → Extends t steps u → u.start ≡ fresh_world s.house first
 started-there t u s first steps is x = x.start ∙ is.start
 
 -- counts of replies
@@ -128,7 +128,7 @@ refused-then n before fs t e f = omega (arith, e, f, refused-count 0 fs (omega a
 
 -- bytes came
 
-pub fit-there : (r : RunningState) (s : Standing) (first index : ℕ) (over : Bool) → IsRunning r s first → (s.connections (suc index)).lost ≡ false
+pub fit-there : (r : RunningState) (s : CaptureState) (first index : ℕ) (over : Bool) → IsRunning r s first → (s.connections (suc index)).lost ≡ false
     → ((c : ConnectionState) → slice_get r.connections index ≡ Some c → over ≡ c.over) → over ≡ false
     → (c : ConnectionState) → slice_get r.connections index ≡ Some c → IsFit (status_block r.house) c
 fit-there r s first index over is there told on c at =
@@ -141,7 +141,7 @@ fit-there r s first index over is there told on c at =
     }
 
 -- those of a connection that takes no more are passed over
-pub passed-over : (r : RunningState) (s : Standing) (first now index : ℕ) (piece : List ℕ) (over : Bool) → IsRunning r s first → index < length r.connections
+pub passed-over : (r : RunningState) (s : CaptureState) (first now index : ℕ) (piece : List ℕ) (over : Bool) → IsRunning r s first → index < length r.connections
     → ((c : ConnectionState) → slice_get r.connections index ≡ Some c → over ≡ c.over) → over ≡ true → Happened s (suc index) now (In piece) first r
 passed-over r s first now index piece over is within told on =
     let at = slice_get-get_or r.connections index unused_state within in
@@ -149,7 +149,7 @@ passed-over r s first now index piece over is within told on =
     record { after = s; happens = subst (λ (b : Bool). FeedsUnless b s (suc index) now piece s) (sym ends) refl; is = is; start = refl }
 
 -- the others are handled
-pub came-there : (r new : RunningState) (s : Standing) (first now index : ℕ) (piece : List ℕ) (tally : Tally) (over used : Bool) (slots : List ConnectionState) (u : Shown)
+pub came-there : (r new : RunningState) (s : CaptureState) (first now index : ℕ) (piece : List ℕ) (tally : Tally) (over used : Bool) (slots : List ConnectionState) (u : Shown)
     → IsRunning r s first → s.start ≡ Some first
     → ((c : ConnectionState) → slice_get r.connections index ≡ Some c → over ≡ c.over) → over ≡ false
     → ((c : ConnectionState) → slice_get r.connections index ≡ Some c → used ≡ c.used)
@@ -172,8 +172,8 @@ came-there r new s first now index piece tally over used slots u is started told
     let f : FeedsConnection block now piece peer r.teller tally at.then_is u =
     subst (λ (h : Household). FeedsConnection (status_block h) now piece peer r.teller tally at.then_is u) is.house
     (at.feeds peer (subst (λ (h : Household). IsConnection (status_block h) at.old peer) (sym is.house) conn)) in
-    let after : Standing = record s {
-      connections = put (suc index) (came peer piece f.frames f.replies f.after f.over) s.connections;
+    let after : CaptureState = record s {
+      connections = put (suc index) (fed_with peer piece f.frames f.replies f.after f.over) s.connections;
       links = if peer.used then s.links else counted 1 s.links;
       history = s.history ++ entries_of f.steps;
       replies = s.replies ++ f.replies;
@@ -194,8 +194,8 @@ came-there r new s first now index piece tally over used slots u is started told
       refused = refused-then r.refused s.replies f.replies tally.refused is.refused (ap (λ (t : Tally). t.refused) f.tally_is);
       size = ap length at.set ∙ length-set r.connections index at.then_is ∙ is.size;
       connections = subst (λ (l : List ConnectionState). (k : ℕ) (c : ConnectionState) → slice_get l k ≡ Some c
-          → IsConnection block c (put (suc index) (came peer piece f.frames f.replies f.after f.over) s.connections (suc k))) (sym at.set)
-          (set-connections block r.connections index at.then_is (came peer piece f.frames f.replies f.after f.over) s.connections is.connections f.is);
+          → IsConnection block c (put (suc index) (fed_with peer piece f.frames f.replies f.after f.over) s.connections (suc k))) (sym at.set)
+          (set-connections block r.connections index at.then_is (fed_with peer piece f.frames f.replies f.after f.over) s.connections is.connections f.is);
     } in
     record {
       after = after;
@@ -216,7 +216,7 @@ came-there r new s first now index piece tally over used slots u is started told
 
 -- a quiet, a loss, and bytes that are compared
 
-placed : (r : RunningState) (s : Standing) (first index : ℕ) (c d : ConnectionState) (p : Connection) (u : Shown) (slots : List ConnectionState) (steps : List Step)
+placed : (r : RunningState) (s : CaptureState) (first index : ℕ) (c d : ConnectionState) (p : Connection) (u : Shown) (slots : List ConnectionState) (steps : List Step)
     → IsRunning r s first → slots ≡ slice_set r.connections index d → IsConnection (status_block s.house) d p → u.start ≡ fresh_world s.house first → u.history ≡ s.history ++ entries_of steps
     → IsRunning (record r { teller = u; connections = slots }) (record s { connections = put (suc index) p s.connections; history = s.history ++ entries_of steps }) first
 placed r s first index c d p u slots steps is set held start history = record {
@@ -231,7 +231,7 @@ placed r s first index c d p u slots steps is set held start history = record {
 }
 
 -- the same, where nothing was asked
-placed_still : (r : RunningState) (s : Standing) (first index : ℕ) (d : ConnectionState) (p : Connection) (u : Shown) (slots : List ConnectionState)
+placed_still : (r : RunningState) (s : CaptureState) (first index : ℕ) (d : ConnectionState) (p : Connection) (u : Shown) (slots : List ConnectionState)
     → IsRunning r s first → slots ≡ slice_set r.connections index d → IsConnection (status_block s.house) d p → u ≡ r.teller
     → IsRunning (record r { teller = u; connections = slots }) (record s { connections = put (suc index) p s.connections }) first
 placed_still r s first index d p u slots is set held still = record {
@@ -252,7 +252,7 @@ same_place link conns k = elim (eqb_tells k link) [
   | inr t ↦ put-other link k (conns link) conns t.1
 ]
 
-unchanged : (r : RunningState) (s : Standing) (first index : ℕ) (d : ConnectionState) (u : Shown) (slots : List ConnectionState)
+unchanged : (r : RunningState) (s : CaptureState) (first index : ℕ) (d : ConnectionState) (u : Shown) (slots : List ConnectionState)
     → IsRunning r s first → slots ≡ slice_set r.connections index d → IsConnection (status_block s.house) d (s.connections (suc index)) → u ≡ r.teller
     → IsRunning (record r { teller = u; connections = slots }) s first
 unchanged r s first index d u slots is set held still =
@@ -267,10 +267,10 @@ unchanged r s first index d u slots is set held still =
       connections = λ k x at. subst (λ (p : Connection). IsConnection (status_block s.house) x p) (same_place (suc index) s.connections (suc k)) (it.connections k x at);
     }
 
-quiet_by : (r : RunningState) (s : Standing) (first now index : ℕ) (d : ConnectionState) (u : Shown) (slots : List ConnectionState) (o : Option LinkNumber)
+quiet_by : (r : RunningState) (s : CaptureState) (first now index : ℕ) (d : ConnectionState) (u : Shown) (slots : List ConnectionState) (o : Option LinkNumber)
     → IsRunning r s first → s.start ≡ Some first → slots ≡ slice_set r.connections index d → o ≡ open_link (s.connections (suc index)).stage
     → RestsConnection o (status_block s.house) now (s.connections (suc index)) r.teller d u
-    → (after : Standing) × PulsesIf o s (suc index) now after × IsRunning (record r { teller = u; connections = slots }) after first × (after.start ≡ s.start)
+    → (after : CaptureState) × PulsesIf o s (suc index) now after × IsRunning (record r { teller = u; connections = slots }) after first × (after.start ≡ s.start)
 quiet_by r s first now index d u slots None is started set opens rests = (s, refl, unchanged r s first index d u slots is set rests.1 rests.0, refl)
 quiet_by r s first now index d u slots (Some link) is started set opens rests =
     let steps : List Step = step now link asks.Pulse rests.0 ∷ [] in
@@ -281,17 +281,17 @@ quiet_by r s first now index d u slots (Some link) is started set opens rests =
       refl,
     )
 
-pub quiet-there : (r new : RunningState) (s : Standing) (first now index : ℕ) (u : Shown) (slots : List ConnectionState)
+pub quiet-there : (r new : RunningState) (s : CaptureState) (first now index : ℕ) (u : Shown) (slots : List ConnectionState)
     → IsRunning r s first → s.start ≡ Some first → RestsAt now r.connections index r.teller slots u → new ≡ record r { teller = u; connections = slots } → Happened s (suc index) now Quiet first new
 quiet-there r new s first now index u slots is started at same =
     let peer : Connection = s.connections (suc index) in
     let q = quiet_by r s first now index at.then_is u slots (open_link peer.stage) is started at.set refl (at.rests (status_block s.house) peer (is.connections index at.old at.there)) in
     record { after = q.0; happens = q.1; is = subst (λ (x : RunningState). IsRunning x q.0 first) (sym same) q.2; start = q.3 }
 
-loss_by : (r : RunningState) (s : Standing) (first now index : ℕ) (d : ConnectionState) (u : Shown) (slots : List ConnectionState) (o : Option LinkNumber)
+loss_by : (r : RunningState) (s : CaptureState) (first now index : ℕ) (d : ConnectionState) (u : Shown) (slots : List ConnectionState) (o : Option LinkNumber)
     → IsRunning r s first → s.start ≡ Some first → slots ≡ slice_set r.connections index d
     → LosesConnection o (status_block s.house) now (s.connections (suc index)) r.teller d u
-    → (after : Standing) × LosesIf o s (suc index) now after × IsRunning (record r { teller = u; connections = slots }) after first × (after.start ≡ s.start)
+    → (after : CaptureState) × LosesIf o s (suc index) now after × IsRunning (record r { teller = u; connections = slots }) after first × (after.start ≡ s.start)
 loss_by r s first now index d u slots None is started set loses =
     let p : Connection = after_loss (s.connections (suc index)) in
     (record s { connections = put (suc index) p s.connections }, refl, placed_still r s first index d p u slots is set loses.1 loses.0, refl)
@@ -304,20 +304,20 @@ loss_by r s first now index d u slots (Some link) is started set loses =
       refl,
     )
 
-pub loss-there : (r new : RunningState) (s : Standing) (first now index : ℕ) (u : Shown) (slots : List ConnectionState)
+pub loss-there : (r new : RunningState) (s : CaptureState) (first now index : ℕ) (u : Shown) (slots : List ConnectionState)
     → IsRunning r s first → s.start ≡ Some first → LosesAt now r.connections index r.teller slots u → new ≡ record r { teller = u; connections = slots } → Happened s (suc index) now Lost first new
 loss-there r new s first now index u slots is started at same =
     let peer : Connection = s.connections (suc index) in
     let q = loss_by r s first now index at.then_is u slots (open_link peer.stage) is started at.set (at.loses (status_block s.house) peer (is.connections index at.old at.there)) in
     record { after = q.0; happens = q.1; is = subst (λ (x : RunningState). IsRunning x q.0 first) (sym same) q.2; start = q.3 }
 
-pub compare-there : (r new : RunningState) (s : Standing) (first now index : ℕ) (wanted : List ℕ) (found : Option Difference) (slots : List ConnectionState)
+pub compare-there : (r new : RunningState) (s : CaptureState) (first now index : ℕ) (wanted : List ℕ) (found : Option Difference) (slots : List ConnectionState)
     → IsRunning r s first → s.start ≡ Some first → ComparesAt wanted r.connections index found slots → new ≡ record r { connections = slots } → HappensBy s (suc index) now (Out wanted) first found new
 compare-there r new s first now index wanted None slots is started at same =
     let peer : Connection = s.connections (suc index) in
     let c = at.compares (status_block s.house) peer (is.connections index at.old at.there) in
     let p : Connection = record peer { named = peer.named + length wanted } in
-    let after : Standing = record s { connections = put (suc index) p s.connections } in
+    let after : CaptureState = record s { connections = put (suc index) p s.connections } in
     record {
       after = after;
       happens = record { same = c.0; next = refl };
@@ -345,7 +345,7 @@ pub unused-none : AreUnused []
 unused-none zero c e = absurd (cc e)
 unused-none (suc k) c e = absurd (cc e)
 
-pub lost-there : (r : RunningState) (s : Standing) (first index : ℕ) (slots : List ConnectionState) (lost : Bool) → IsRunning r s first → index < length r.connections → slots ≡ r.connections
+pub lost-there : (r : RunningState) (s : CaptureState) (first index : ℕ) (slots : List ConnectionState) (lost : Bool) → IsRunning r s first → index < length r.connections → slots ≡ r.connections
     → ((c : ConnectionState) → slice_get slots index ≡ Some c → lost ≡ c.lost) → lost ≡ (s.connections (suc index)).lost
 lost-there r s first index slots lost is within same told =
     let at = slice_get-get_or r.connections index unused_state within in

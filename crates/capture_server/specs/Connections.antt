@@ -53,8 +53,8 @@ pub record Comes (block : List ℕ) (now : ℕ) (c : Connection) (bytes : List �
   pub framed : FramesEnd (c.fed ++ bytes) (c.past ++ frames) end over
 
 -- the connection then
-abbrev pub came : Connection → List ℕ → List Frame → List Frame → Stage → Bool → Connection
-came c bytes frames replies after over = record {
+abbrev pub fed_with : Connection → List ℕ → List Frame → List Frame → Stage → Bool → Connection
+fed_with c bytes frames replies after over = record {
   fed = c.fed ++ bytes;
   past = c.past ++ frames;
   stage = after;

@@ -4,6 +4,6 @@ pub mod Keepers
 pub mod Moves
 pub mod Running
 pub mod Slots
-pub mod Standing
+pub mod CaptureState
 pub mod States
 pub mod Tellers

@@ -12,9 +12,9 @@ use Rattle.afp_server.specs.Wire.{WireState}
 use Rattle.afp_server.specs.declared.stage.Stage.{Stage}
 use Rattle.afp_server.specs.declared.stage.Stage.TheVariants.{Fresh}
 use Rattle.afp_server.specs.declared.tally.Tally.{Tally}
-use Rattle.capture_server.specs.Connections.{Connection, Comes, came, difference, output, entries_of, AreServed}
+use Rattle.capture_server.specs.Connections.{Connection, Comes, fed_with, difference, output, entries_of, AreServed}
 use Rattle.capture_server.specs.declared.difference.Difference.{Difference}
-use Rattle.capture_server.specs.Standing.{after_quiet, after_loss}
+use Rattle.capture_server.specs.CaptureState.{after_quiet, after_loss}
 use Rattle.capture_server.specs.States.{ConnectionState, IsConnection}
 
 -- The teller answered these steps, and nobody else asked.
@@ -42,7 +42,7 @@ pub record FeedsConnection (block : List ℕ) (now : ℕ) (piece : List ℕ) (s 
   pub comes : Comes block now s piece frames steps replies after over
   pub extends : Extends t steps u
   pub tally_is : tally ≡ tallied no_tally steps replies
-  pub is : IsConnection block c (came s piece frames replies after over)
+  pub is : IsConnection block c (fed_with s piece frames replies after over)
 
 -- A quiet came.
 abbrev pub RestsConnection : Option LinkNumber → List ℕ → ℕ → Connection → Shown → ConnectionState → Shown → Type 0

@@ -5,7 +5,7 @@ use Rattle.afp_serial.specs.World.{fresh_world}
 use Rattle.capture_lines.specs.declared.line.What.{What}
 use Rattle.capture_lines.specs.declared.line.What.TheVariants.{Out}
 use Rattle.capture_server.specs.Connections.{difference, output}
-use Rattle.capture_server.specs.Standing.{Standing, Happens}
+use Rattle.capture_server.specs.CaptureState.{CaptureState, Happens}
 use Rattle.capture_server.specs.States.{ConnectionState, RunningState, IsRunning, unused_state}
 use Rattle.capture_server.specs.declared.difference.Difference.{Difference}
 
@@ -25,18 +25,18 @@ pub record IsFreshRunning (house : Household) (now : ℕ) (r : RunningState) : T
   pub refused : r.refused ≡ 0
 
 -- Something happened, and the capture stands somewhere else.
-pub record Happened (s : Standing) (link now : ℕ) (what : What) (first : ℕ) (r : RunningState) : Type 0 where
-  pub after : Standing
+pub record Happened (s : CaptureState) (link now : ℕ) (what : What) (first : ℕ) (r : RunningState) : Type 0 where
+  pub after : CaptureState
   pub happens : Happens s link now what after
   pub is : IsRunning r after first
   pub start : after.start ≡ s.start
 
 -- Bytes were compared, and one differs.
-pub record Differed (s : Standing) (link : ℕ) (what : What) (d : Difference) : Type 0 where
+pub record Differed (s : CaptureState) (link : ℕ) (what : What) (d : Difference) : Type 0 where
   pub bytes : List ℕ
   pub shows : what ≡ Out bytes
   pub found : difference (s.connections link).named bytes (drop (s.connections link).named (output (s.connections link))) ≡ Some d
 
-abbrev pub HappensBy : Standing → ℕ → ℕ → What → ℕ → Option Difference → RunningState → Type 0
+abbrev pub HappensBy : CaptureState → ℕ → ℕ → What → ℕ → Option Difference → RunningState → Type 0
 HappensBy s link now what first None r = Happened s link now what first r
 HappensBy s link now what first (Some d) r = Differed s link what d

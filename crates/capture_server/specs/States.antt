@@ -18,7 +18,7 @@ use Rattle.afp_server.specs.declared.stage.Stage.TheVariants.{Fresh, Closing}
 use Rattle.afp_server.specs.declared.wire.WireEnd.{WireEnd}
 use Rattle.capture_server.specs.Connections.{Connection, FramesEnd, output, entries_of, AreServed}
 use Rattle.capture_server.specs.Counting.{refused_in}
-use Rattle.capture_server.specs.Standing.{Standing}
+use Rattle.capture_server.specs.CaptureState.{CaptureState}
 
 -- A connection: the wire that its bytes are fed to, and a bound of how many those were; whether it was used, takes no more bytes and was
 -- lost; its output, but perhaps some first part that was compared, the place in that from which on it was not, and how many bytes of all
@@ -86,12 +86,12 @@ pub record RunningState : Type 0 where
   pub refused : ℕ
 
 -- The teller's history began with this house at a moment, and is the capture's.
-pub record IsTeller (t : Shown) (s : Standing) (first : ℕ) : Type 0 where
+pub record IsTeller (t : Shown) (s : CaptureState) (first : ℕ) : Type 0 where
   pub start : t.start ≡ fresh_world s.house first
   pub history : t.history ≡ s.history
 
 -- what is held is where the capture stands, which begins at this moment
-pub record IsRunning (r : RunningState) (s : Standing) (first : ℕ) : Type 0 where
+pub record IsRunning (r : RunningState) (s : CaptureState) (first : ℕ) : Type 0 where
   pub house : r.house ≡ s.house
   pub teller : IsTeller r.teller s first
   pub links : r.links ≡ s.links

@@ -5,7 +5,7 @@ ghost use Rattle.afp_serial.specs.StatusBlock.{status_block};
 ghost use Rattle.afp_serial.specs.declared.ask.Told.{Told};
 ghost use Rattle.capture_server.specs.Moves.{wire_or};
 ghost use Rattle.capture_server.specs.Tellers.{NeverFails};
-ghost use Rattle.capture_server.specs.Standing.{after_quiet, after_loss};
+ghost use Rattle.capture_server.specs.CaptureState.{after_quiet, after_loss};
 ghost use Rattle.afp_server.specs.declared.stage.Stage.{Stage};
 ghost use Rattle.dsi_frame.specs.Deframe.{GivenOut};
 ghost use Rattle.dsi_frame.specs.Frame.{Frame};

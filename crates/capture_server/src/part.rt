@@ -1,6 +1,6 @@
 //! Which line may come where.
 ghost use Rattle.std.specs.Prelude.{◌≡◌};
-ghost use Rattle.capture_server.specs.Standing.{part_after};
+ghost use Rattle.capture_server.specs.CaptureState.{part_after};
 
 use capture_lines::Line;
 

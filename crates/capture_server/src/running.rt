@@ -2,7 +2,7 @@
 ghost use Rattle.std.specs.Prelude.{◌≡◌, ◌<◌, ◌≤◌, ℕ, suc, false, Some, IfOk, OnOk, length};
 ghost use Rattle.capture_lines.specs.declared.line.What.{What};
 ghost use Rattle.capture_server.specs.Running.{AreUnused, Happened, HappensBy};
-ghost use Rattle.capture_server.specs.Standing.{Standing, is_refused_on};
+ghost use Rattle.capture_server.specs.CaptureState.{CaptureState, is_refused_on};
 ghost use Rattle.capture_server.specs.Tellers.{NeverFails};
 ghost use Rattle.afp_serial.specs.World.{fresh_world};
 
@@ -117,14 +117,14 @@ impl<K: Keeper> Running<K> {
     /// Whether the connection at a place was lost.
     pub fn is_lost(&self, index: usize) -> bool
         requires { index < length self.now.connections }
-        ensures { (s : Standing) (first : ℕ) → IsRunning self.now s first → result ≡ (s.connections (suc index)).lost }
+        ensures { (s : CaptureState) (first : ℕ) → IsRunning self.now s first → result ≡ (s.connections (suc index)).lost }
     {
         is_lost_at(self.connections.as_slice(), index)
     }
 
     /// What was counted.
     pub fn counts(&self) -> ReplayCounts
-        ensures { (s : Standing) (first : ℕ) → IsRunning self.now s first → AreCounts s result.links result.entries result.replies result.refused }
+        ensures { (s : CaptureState) (first : ℕ) → IsRunning self.now s first → AreCounts s result.links result.entries result.replies result.refused }
     {
         ReplayCounts {
             links: self.links,
@@ -155,8 +155,8 @@ impl<K: Keeper> Running<K> {
     /// Bytes come on the connection at a place, which was not lost.
     fn come(&mut self, index: usize, piece: &[u8], now: Moment) -> Result<(), OutOfMemory>
         requires within { index < length self.old.connections }
-        requires is { (s : Standing) × (first : ℕ) × IsRunning self.old s first × ((s.connections (suc index)).lost ≡ false) }
-        ensures { OnOk result ((s : Standing) (first : ℕ) → IsRunning self.old s first → s.start ≡ Some first
+        requires is { (s : CaptureState) × (first : ℕ) × IsRunning self.old s first × ((s.connections (suc index)).lost ≡ false) }
+        ensures { OnOk result ((s : CaptureState) (first : ℕ) → IsRunning self.old s first → s.start ≡ Some first
             → Happened s (suc index) now (What.In piece.now) first self.new) }
     {
         if is_over_at(self.connections.as_slice(), index) {
@@ -179,7 +179,7 @@ impl<K: Keeper> Running<K> {
     /// A quiet of it.
     fn rest(&mut self, index: usize, now: Moment) -> Result<(), OutOfMemory>
         requires { index < length self.old.connections }
-        ensures { OnOk result ((s : Standing) (first : ℕ) → IsRunning self.old s first → s.start ≡ Some first
+        ensures { OnOk result ((s : CaptureState) (first : ℕ) → IsRunning self.old s first → s.start ≡ Some first
             → Happened s (suc index) now What.Quiet first self.new) }
     {
         let slots = self.connections.as_mut_slice();
@@ -189,7 +189,7 @@ impl<K: Keeper> Running<K> {
     /// Its loss.
     fn lose(&mut self, index: usize, now: Moment) -> Result<(), OutOfMemory>
         requires { index < length self.old.connections }
-        ensures { OnOk result ((s : Standing) (first : ℕ) → IsRunning self.old s first → s.start ≡ Some first
+        ensures { OnOk result ((s : CaptureState) (first : ℕ) → IsRunning self.old s first → s.start ≡ Some first
             → Happened s (suc index) now What.Lost first self.new) }
     {
         let slots = self.connections.as_mut_slice();
@@ -199,7 +199,7 @@ impl<K: Keeper> Running<K> {
     /// Compares bytes with its output.
     fn compare(&mut self, index: usize, wanted: &[u8]) -> Result<Option<Difference>, OutOfMemory>
         requires { index < length self.old.connections }
-        ensures { IfOk result (λ found. (s : Standing) (first now : ℕ) → IsRunning self.old s first → s.start ≡ Some first
+        ensures { IfOk result (λ found. (s : CaptureState) (first now : ℕ) → IsRunning self.old s first → s.start ≡ Some first
             → HappensBy s (suc index) now (What.Out wanted.now) first found self.new) }
     {
         compare_at(self.connections.as_mut_slice(), index, wanted)
@@ -213,8 +213,8 @@ impl<K: Keeper> Running<K> {
         what: &What,
     ) -> Result<Option<Difference>, OutOfMemory>
         requires within { index < length self.old.connections }
-        requires is { (s : Standing) × (first : ℕ) × IsRunning self.old s first × (is_refused_on (s.connections (suc index)) what.now ≡ false) }
-        ensures { IfOk result (λ found. (s : Standing) (first : ℕ) → IsRunning self.old s first → s.start ≡ Some first
+        requires is { (s : CaptureState) × (first : ℕ) × IsRunning self.old s first × (is_refused_on (s.connections (suc index)) what.now ≡ false) }
+        ensures { IfOk result (λ found. (s : CaptureState) (first : ℕ) → IsRunning self.old s first → s.start ≡ Some first
             → HappensBy s (suc index) now what.now first found self.new) }
     {
         match what {

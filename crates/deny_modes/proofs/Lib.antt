@@ -1,3 +1,4 @@
 pub mod Counting
 pub mod Forks
 pub mod Rows
+pub mod VolumeOpenLemmas

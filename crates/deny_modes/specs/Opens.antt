@@ -2,6 +2,7 @@
 use Rattle.std.specs.Prelude.{ℕ, ◌==◌, nat_lt, Bool, not, ◌&&◌, if◌then◌else◌, List, [], ◌∷◌, filter, length, map, Option, Some, None}
 use Rattle.std.specs.List.{list_any}
 use Rattle.afp_base.specs.DenyMode.{Access, Fork, is_one_fork, do_conflict}
+use Rattle.afp_base.specs.declared.ids.NodeId.{NodeId}
 
 -- an open: its reference, the fork, and its access mode
 pub record Open : Type 0 where
@@ -61,3 +62,7 @@ counts_of opens fork =
 -- the same, where some open is of that fork
 abbrev pub counters_of : List Open → Fork → Option (List ℕ)
 counters_of opens fork = if is_fork_open opens fork then Some (counts_of opens fork) else None
+
+-- the opens of a volume's forks, each as its node and whether it is of the resource fork
+abbrev pub opens_on : ℕ → List Open → List (NodeId × Bool)
+opens_on volume opens = map (λ o. (record { 0 = o.fork.node }, o.fork.resource)) (filter (λ o. o.fork.volume == volume) opens)

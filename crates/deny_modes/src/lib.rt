@@ -3,6 +3,8 @@
 
 mod fork;
 mod opens;
+mod volume_opens;
 
 pub use fork::{ForkKey, Mode};
 pub use opens::Opens;
+pub use volume_opens::VolumeOpens;

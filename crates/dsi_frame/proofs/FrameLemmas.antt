@@ -2,12 +2,13 @@
 use Rattle.std.proofs.Common.{◌≡◌, ◌==◌, ℕ, zero, suc, ◌+◌, ◌^◌, ◌<◌, ◌≤◌, Bool, true, false, List, [], ◌∷◌, ◌++◌, length, take, drop, get_or, Option, Some, None, refl, sym, ap, ◌∙◌, subst, arith, length-append, append_assoc}
 use Rattle.std.proofs.lemmas.Nat.{be_bytes_2, be_bytes_4}
 use Rattle.std.proofs.lemmas.List.{take_at, drop_at, take-append-drop, length-take-le, length-drop}
+use Rattle.afp_base.specs.Limits.{payload_limit}
 use Rattle.byteorder.specs.Endian.{big_number, big_bytes}
 use Rattle.byteorder.specs.Numbers.{big_number-reads_back}
 use Rattle.dsi_frame.specs.declared.frame.DsiCommand.{DsiCommand}
 use Rattle.dsi_frame.specs.declared.frame.Reason.{Reason}
 use Rattle.dsi_frame.specs.declared.frame.Header.{Header}
-use Rattle.dsi_frame.specs.Frame.{Frame, IsGood, IsSpelling, IsBytes, IsBadHeader, WordFits, header, canonical_frame, header_fault, flags_byte, flags_in, command_number, command_in, word_in, length_in, payload_limit, frame_of, header_of, canonical_header}
+use Rattle.dsi_frame.specs.Frame.{Frame, IsGood, IsSpelling, IsBytes, IsBadHeader, WordFits, header, canonical_frame, header_fault, flags_byte, flags_in, command_number, command_in, word_in, length_in, frame_of, header_of, canonical_header}
 use Rattle.dsi_frame.specs.lemma.GoodHeader.{IsGoodHeader, id_in}
 use Rattle.dsi_frame.specs.Stream.{Begins, IsUnfinished}
 use Rattle.dsi_frame.proofs.HeaderLemmas.{command_at, command_at-number, by_header, good_has_no_fault, header_fault-append}

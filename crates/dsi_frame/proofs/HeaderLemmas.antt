@@ -2,12 +2,13 @@
 use Rattle.std.proofs.Common.{◌≡◌, ◌≢◌, ◌==◌, ◌&&◌, ℕ, zero, suc, ◌<◌, ◌≤◌, Bool, true, false, not, cond, nat_lt, List, [], ◌∷◌, ◌++◌, length, Option, Some, None, refl, sym, ap, ◌∙◌, subst, inl, inr, arith, ltb-false, le-ltb, lt-ltb}
 use Rattle.std.proofs.lemmas.Bool.{false≢true}
 use Rattle.std.proofs.lemmas.Bool.Decides.{eqb_tells}
+use Rattle.afp_base.specs.Limits.{payload_limit}
 use Rattle.dsi_frame.specs.declared.frame.DsiCommand.{DsiCommand}
 use Rattle.dsi_frame.specs.declared.frame.DsiCommand.TheVariants as commands
 use Rattle.dsi_frame.specs.declared.frame.Reason.{Reason}
 use Rattle.dsi_frame.specs.declared.frame.Reason.TheVariants as reasons
 use Rattle.dsi_frame.specs.declared.frame.Header.{Header}
-use Rattle.dsi_frame.specs.Frame.{WordFits, header_fault, first_found, flags_byte, flags_in, command_number, command_in, word_in, length_in, is_listed, payload_limit}
+use Rattle.dsi_frame.specs.Frame.{WordFits, header_fault, first_found, flags_byte, flags_in, command_number, command_in, word_in, length_in, is_listed}
 use Rattle.dsi_frame.specs.lemma.GoodHeader.{IsGoodHeader, id_in}
 
 -- the fault that four fields of a header show

@@ -1,6 +1,7 @@
 -- What a deframer holds.
 use Rattle.std.specs.Prelude.{ℕ, ◌+◌, List}
-use Rattle.dsi_frame.specs.Frame.{header_length, payload_limit}
+use Rattle.afp_base.specs.Limits.{payload_limit}
+use Rattle.dsi_frame.specs.Frame.{header_length}
 
 -- the bytes fed that no frame given out has taken, and the place of the first of them in the stream
 pub record Buffered : Type 0 where

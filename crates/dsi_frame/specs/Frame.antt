@@ -1,6 +1,7 @@
 -- Frames of the Data Stream Interface, and their bytes (AFP over TCP, "DSI header"). All numbers are big-endian.
 use Rattle.std.specs.Prelude.{◌≡◌, ◌==◌, ◌&&◌, ℕ, ◌^◌, ◌<◌, ◌≤◌, Bool, false, nat_lt, not, if◌then◌else◌, List, [], ◌∷◌, ◌++◌, length, drop, slice_index, Option, Some, None}
 use Rattle.std.specs.List.{list_any}
+use Rattle.afp_base.specs.Limits.{payload_limit}
 use Rattle.byteorder.specs.Endian.{big_number, big_bytes}
 use Rattle.dsi_frame.specs.declared.frame.DsiCommand.{DsiCommand}
 use Rattle.dsi_frame.specs.declared.frame.DsiCommand.TheVariants as commands
@@ -20,10 +21,6 @@ pub record Frame : Type 0 where
 -- bytes of a header
 abbrev pub header_length : ℕ
 header_length = 16
-
--- bytes of the longest payload (this profile)
-abbrev pub payload_limit : ℕ
-payload_limit = 131072
 
 -- the number of each command
 abbrev pub command_number : DsiCommand → ℕ

@@ -6,7 +6,7 @@ ghost use Rattle.dsi_frame.specs.Frame.{Frame, IsSpelling, length_in};
 ghost use Rattle.dsi_frame.specs.Stream.{Begins, HasFrame};
 
 use crate::frame::{BadFrame, Head, number_at, read_header};
-use afp_base::OutOfMemory;
+use afp_base::{MAX_PAYLOAD, OutOfMemory};
 use std::alloc::Global;
 use std::marker::Model;
 
@@ -14,7 +14,7 @@ use std::marker::Model;
 const HEADER: usize = 16;
 
 /// Bytes of the buffer: the longest frame's.
-const CAPACITY: usize = 131_088;
+const CAPACITY: usize = HEADER + MAX_PAYLOAD as usize;
 
 // What stands at the front of these bytes of a stream, the first of them at `place`.
 fn judge(bytes: &[u8], place: u64) -> Head

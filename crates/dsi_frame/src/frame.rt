@@ -1,14 +1,12 @@
 //! Headers of frames, and the writing of frames.
 ghost use Rattle.std.specs.Prelude.{◌≡◌, ◌+◌, ◌≤◌, ◌++◌, false, length, drop, IfOk, IfErr, OnOk, OnErr, MatchOption};
+ghost use Rattle.afp_base.specs.Limits.{payload_limit};
 ghost use Rattle.byteorder.specs.Endian.{big_number};
-ghost use Rattle.dsi_frame.specs.Frame.{frame_of, canonical_frame, canonical_header, header_fault, command_number, is_listed, payload_limit, header_length, WordFits};
+ghost use Rattle.dsi_frame.specs.Frame.{frame_of, canonical_frame, canonical_header, header_fault, command_number, is_listed, header_length, WordFits};
 ghost use Rattle.dsi_frame.specs.lemma.GoodHeader.{IsGoodHeader};
 
-use afp_base::{Bytes, OutOfMemory};
+use afp_base::{Bytes, MAX_PAYLOAD, OutOfMemory};
 use byteorder::{BigEndian, ByteOrder};
-
-/// Bytes of the longest payload.
-const MAX_PAYLOAD: u32 = 131_072;
 
 /// What a frame asks (AFP over TCP, "DSI commands").
 #[derive(Clone, Copy, Debug, PartialEq, Eq)]

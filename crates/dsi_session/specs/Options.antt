@@ -2,6 +2,7 @@
 -- big-endian.
 use Rattle.std.specs.Prelude.{◌≡◌, ◌≢◌, ◌==◌, ◌&&◌, ℕ, List, [], ◌∷◌, ◌++◌, length, Option, Some, None, unwrap_or, if◌then◌else◌}
 use Rattle.std.specs.List.{flat_map, filter_map, last_or}
+use Rattle.afp_base.specs.Limits.{replay_cache_size}
 use Rattle.byteorder.specs.Endian.{big_number, big_bytes}
 
 -- the types of options: the most bytes of a request that the server takes, the most bytes of an attention
@@ -23,12 +24,9 @@ number_length = 4
 abbrev pub default_attention_quantum : ℕ
 default_attention_quantum = 2
 
--- what this server tells (this profile)
+-- what this server tells beside the size of its replay cache (this profile)
 abbrev pub request_quantum : ℕ
 request_quantum = 130048
-
-abbrev pub replay_cache_size : ℕ
-replay_cache_size = 32
 
 -- an option: its type, and its value
 pub record SessionOption : Type 0 where

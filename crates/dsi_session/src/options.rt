@@ -3,6 +3,7 @@ ghost use Rattle.std.specs.Prelude.{◌≡◌, ◌≢◌, ℕ, ◌++◌, List, l
 ghost use Rattle.std.specs.List.{flat_map};
 ghost use Rattle.dsi_session.specs.Options.{SessionOption, AreOptions, StopsAt, attention_in, attention_of, option_spelling, server_options};
 
+use afp_base::REPLAY_CACHE_SIZE;
 use byteorder::{BigEndian, ByteOrder};
 use std::marker::Model;
 
@@ -23,9 +24,6 @@ const DEFAULT_ATTENTION_QUANTUM: u32 = 2;
 
 /// The most bytes of a request that this server takes.
 const REQUEST_QUANTUM: u32 = 130_048;
-
-/// How many replies this server keeps.
-const REPLAY_CACHE_SIZE: u32 = 32;
 
 /// What the options of an OpenSession request tell: the attention quantum, the most bytes of an
 /// attention that the client takes.
@@ -116,7 +114,7 @@ pub fn read_options(payload: &[u8]) -> Result<OpenOptions, BadOptions>
 }
 
 /// The options that the server answers an OpenSession request with: its request quantum, 130,048, and
-/// its replay cache, 32.
+/// the size of its replay cache.
 pub fn option_bytes() -> [u8; 12]
     ensures { result ≡ flat_map option_spelling server_options }
 {

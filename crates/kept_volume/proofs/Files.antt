@@ -4,7 +4,7 @@ use Rattle.std.specs.Prelude.{nat_lt, option_map}
 use Rattle.std.specs.List.{find, list_any}
 use Rattle.afp_bitmap.specs.Params.{params}
 use Rattle.afp_bitmap.specs.declared.params.Values.TheVariants.{Dir}
-use Rattle.afp_volume.specs.Calls.{Opened}
+use Rattle.afp_volume.specs.Shared.{Opened}
 use Rattle.afp_volume.specs.Edits.{bare}
 use Rattle.afp_volume.specs.ForkEffect.{fork_of}
 use Rattle.afp_volume.specs.NodeValues.{bits_of, dir_values, node_values}

@@ -14,7 +14,7 @@ use Rattle.afp_replies.specs.declared.reply.Reply.TheVariants.{Empty, FileDirPar
 use Rattle.afp_serial.specs.Enumerate.{enumerate_reply}
 use Rattle.afp_serial.specs.ListReply.{list_reply}
 use Rattle.afp_serial.specs.GetFileDirParms.{get_file_dir_parms_reply}
-use Rattle.afp_volume.specs.Calls.{Opened, behind, done_at, first_or}
+use Rattle.afp_volume.specs.Shared.{Opened, behind, done_at, first_or}
 use Rattle.afp_volume.specs.Enumerate.{ListAsked, entries, enumerate_refusal}
 use Rattle.afp_volume.specs.Walk.{found}
 use Rattle.afp_volume.specs.DesktopLaws.{with_desktop}

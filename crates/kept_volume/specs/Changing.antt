@@ -1,6 +1,6 @@
 -- What becomes of a volume and its keeper in a call (this profile).
 use Rattle.std.specs.Prelude.{◌≡◌, ◌<◌, ℕ, false, List, Some, None, Result, Ok, Err}
-use Rattle.afp_volume.specs.Calls.{Opened}
+use Rattle.afp_volume.specs.Shared.{Opened}
 use Rattle.afp_volume.specs.TreeSteps.{TreeCall, tree_effect, tree_refusal}
 use Rattle.kept_volume.specs.Kept.{KeptState}
 use Rattle.kept_volume.specs.declared.change.ChangeFault.{ChangeFault}

@@ -2,7 +2,7 @@
 use afp_base::{Bytes, OutOfMemory};
 use record_keeper::{Change, Keeper, MemoryKeeper, Record};
 use std::alloc::Global;
-use volume_records::{Head, Node, Row, record_of};
+use volume_records::{Head, Node, TableRow, record_of};
 
 /// The date of what was never backed up, 80000000.
 const NEVER: i32 = -2_147_483_648;
@@ -16,8 +16,8 @@ const HEAD: Head = Head {
 };
 
 /// The root, of this name.
-fn root(alloc: Global, name: &str) -> Result<Row, OutOfMemory> {
-    Ok(Row::Node(Node {
+fn root(alloc: Global, name: &str) -> Result<TableRow, OutOfMemory> {
+    Ok(TableRow::Node(Node {
         id: 2,
         is_directory: true,
         parent: 1,
@@ -33,7 +33,7 @@ fn root(alloc: Global, name: &str) -> Result<Row, OutOfMemory> {
     }))
 }
 
-fn put(alloc: Global, changes: &mut Vec<Change>, row: &Row) -> Result<(), OutOfMemory> {
+fn put(alloc: Global, changes: &mut Vec<Change>, row: &TableRow) -> Result<(), OutOfMemory> {
     let Record { key, value } = record_of(alloc, row)?;
     changes.push(Change::Put { key, value })?;
     Ok(())
@@ -42,7 +42,7 @@ fn put(alloc: Global, changes: &mut Vec<Change>, row: &Row) -> Result<(), OutOfM
 /// A keeper of the records of that head and of a root of this name.
 pub fn spent_keeper(alloc: Global, name: &str) -> Result<MemoryKeeper, OutOfMemory> {
     let mut changes = Vec::new(alloc);
-    put(alloc, &mut changes, &Row::Head(HEAD))?;
+    put(alloc, &mut changes, &TableRow::Head(HEAD))?;
     put(alloc, &mut changes, &root(alloc, name)?)?;
     let mut keeper = MemoryKeeper::new(alloc, Vec::new(alloc));
     match keeper.commit(alloc, changes.as_slice()) {

@@ -2,7 +2,7 @@
 use crate::line::{Kind, Line};
 use afp_base::{Bytes, OutOfMemory};
 use std::alloc::Global;
-use volume_records::{Appl, Comment, ForkBlock, Head, Node, Row};
+use volume_records::{Appl, Comment, ForkBlock, Head, Node, TableRow};
 
 /// The bytes that hexadecimal digits spell; none, where they spell none.
 pub fn bytes_of(alloc: Global, digits: &str) -> Result<Bytes, OutOfMemory> {
@@ -13,8 +13,8 @@ pub fn bytes_of(alloc: Global, digits: &str) -> Result<Bytes, OutOfMemory> {
 }
 
 /// A head of zeros with this next id.
-pub fn head(next_id: u32) -> Row {
-    Row::Head(Head {
+pub fn head(next_id: u32) -> TableRow {
+    TableRow::Head(Head {
         created: 0,
         modified: 0,
         backup: 0,
@@ -29,12 +29,12 @@ pub fn node(
     parent: u32,
     length: Option<u32>,
     name: &str,
-) -> Result<Row, OutOfMemory> {
+) -> Result<TableRow, OutOfMemory> {
     let data_length = match length {
         Some(length) => u64::from(length),
         None => 0,
     };
-    Ok(Row::Node(Node {
+    Ok(TableRow::Node(Node {
         id,
         is_directory: length.is_none(),
         parent,
@@ -54,22 +54,22 @@ pub fn node(
 const CREATOR: [u8; 4] = [0x54, 0x54, 0x58, 0x54];
 
 /// The row that a line tells.
-pub fn row_of(alloc: Global, line: &Line<'_>) -> Result<Row, OutOfMemory> {
+pub fn row_of(alloc: Global, line: &Line<'_>) -> Result<TableRow, OutOfMemory> {
     let [first, second, third] = line.numbers;
     match line.kind {
         Kind::Dir => node(alloc, first, second, None, line.text),
         Kind::File => node(alloc, first, second, Some(third), line.text),
-        Kind::Block => Ok(Row::Block(ForkBlock {
+        Kind::Block => Ok(TableRow::Block(ForkBlock {
             node: first,
             is_resource: second == 1,
             index: third,
             bytes: bytes_of(alloc, line.text)?,
         })),
-        Kind::Comment => Ok(Row::Comment(Comment {
+        Kind::Comment => Ok(TableRow::Comment(Comment {
             node: first,
             text: Bytes::of(alloc, line.text.as_bytes())?,
         })),
-        Kind::Appl => Ok(Row::Appl(Appl {
+        Kind::Appl => Ok(TableRow::Appl(Appl {
             creator: CREATOR,
             node: first,
             tag: second,

@@ -6,7 +6,7 @@ use afp_names::Name;
 use record_keeper::{Change, Keeper, KeeperFault, MemoryKeeper, Record, RecordKey, read_all};
 use std::alloc::Global;
 use volume_keeper::{Held, LoadFault, load};
-use volume_records::{Reason, Row, record_of};
+use volume_records::{Reason, TableRow, record_of};
 
 /// A keeper, whose records lines put.
 #[derive(Drop)]
@@ -41,7 +41,7 @@ fn reason_word(reason: Reason) -> &'static str {
     }
 }
 
-fn put(alloc: Global, changes: &mut Vec<Change>, row: &Row) -> Result<(), OutOfMemory> {
+fn put(alloc: Global, changes: &mut Vec<Change>, row: &TableRow) -> Result<(), OutOfMemory> {
     let Record { key, value } = record_of(alloc, row)?;
     changes.push(Change::Put { key, value })?;
     Ok(())

@@ -12,7 +12,7 @@ use Rattle.afp_serial.specs.Fork.{has_most_forks, is_denied, lowest_free, with_o
 use Rattle.afp_serial.specs.Lock.{has_lock, is_lock, locking_refusals, with_lock}
 use Rattle.afp_serial.specs.Sessions.{is_open}
 use Rattle.afp_serial.specs.World.{World, Session, OpenFork, Lock}
-use Rattle.afp_volume.specs.Calls.{Opened}
+use Rattle.afp_volume.specs.Shared.{Opened}
 use Rattle.fork_table.specs.ForkTable.{Table}
 use Rattle.fork_table.specs.declared.open_fork.OpenFault.{OpenFault}
 use Rattle.fork_table.specs.declared.open_fork.OpenFault.TheVariants.{Deny, TooMany, Memory}

@@ -14,7 +14,7 @@ use Rattle.afp_serial.specs.declared.ask.Outcome.TheVariants.{Done, Fault}
 use Rattle.afp_serial.proofs.Grows.{faults-append}
 use Rattle.afp_base.specs.Counts.{last_count}
 use Rattle.plain_server.specs.Keeping.{Keeping}
-use Rattle.plain_server.specs.Plain.{unasked}
+use Rattle.plain_server.specs.Plain.{before_asks}
 use Rattle.plain_server.specs.Complete.{MeetsNoFault}
 use Rattle.plain_server.specs.Links.{ServesEach, ServesUpTo}
 use Rattle.plain_server.specs.declared.links.DoorEnd.{DoorEnd}
@@ -55,4 +55,4 @@ all_done (e ∷ es) none = All-cons (λ (x : Entry). x.outcome ≡ Done) e es (i
 
 pub meets_no_fault : {L P K : Type 0} (state : L → LinkState) (passed : P → Passed) (kept_by : Keeping K) → MeetsNoFault state passed kept_by
 meets_no_fault state passed kept_by house keepers limit clock old end new shown s all low =
-    all_done shown.history (by_end state passed house limit old (unasked house s.now s.kept) end new shown s.serves (s.faultless all) low refl)
+    all_done shown.history (by_end state passed house limit old (before_asks house s.now s.kept) end new shown s.serves (s.faultless all) low refl)

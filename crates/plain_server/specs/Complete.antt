@@ -10,7 +10,7 @@ use Rattle.afp_serial.specs.Household.{Household}
 use Rattle.afp_serial.specs.Shown.{Shown}
 use Rattle.afp_serial.specs.declared.ask.Outcome.TheVariants.{Done}
 use Rattle.plain_server.specs.Keeping.{Keeping}
-use Rattle.plain_server.specs.Plain.{Asks, IsPlainRun, ServesHouse, house_of, unasked}
+use Rattle.plain_server.specs.Plain.{Asks, IsPlainRun, ServesHouse, house_of, before_asks}
 use Rattle.plain_server.specs.declared.links.DoorEnd.{DoorEnd}
 use Rattle.plain_server.specs.Words.{Spoken}
 
@@ -24,4 +24,4 @@ ServesGoodWords {L} {P} {K} state passed kept_by = (words : List (List ℕ)) (ke
 -- The law: where links were served by a house whose keepers are all sure, and whose counts stand below the last number, no ask met a fault.
 abbrev pub MeetsNoFault : {L P K : Type 0} → (L → LinkState) → (P → Passed) → Keeping K → Type 0
 MeetsNoFault {L} {P} {K} state passed kept_by = (house : Household) (keepers : List K) (limit : ℕ) (clock : Option ℕ) (old : DoorState L) (end : DoorEnd) (new : DoorState L) (shown : Shown)
-    → (s : ServesHouse state passed kept_by house keepers limit clock old end new shown) → list_all kept_by.sure keepers ≡ true → (unasked house s.now s.kept).faults < last_count → All (λ e. e.outcome ≡ Done) shown.history
+    → (s : ServesHouse state passed kept_by house keepers limit clock old end new shown) → list_all kept_by.sure keepers ≡ true → (before_asks house s.now s.kept).faults < last_count → All (λ e. e.outcome ≡ Done) shown.history

@@ -43,8 +43,8 @@ abbrev pub IsRefused : List (List ℕ) → List ℕ → ℕ → Type 0
 IsRefused words key many = (spoken : Spoken) → Asks words key spoken → many ≡ length (house_of spoken key).volumes → ⊥
 
 -- what a server shows that nobody has asked yet, over a house and the volumes that were loaded at a moment
-abbrev pub unasked : Household → ℕ → List KeptState → Shown
-unasked house now kept = record { start = start_world house now (volumes_of kept); history = []; mine = []; faults = sum (map (λ k. k.faults) kept) }
+abbrev pub before_asks : Household → ℕ → List KeptState → Shown
+before_asks house now kept = record { start = start_world house now (volumes_of kept); history = []; mine = []; faults = sum (map (λ k. k.faults) kept) }
 
 -- what a teller over a core shows that nobody has asked yet
 abbrev pub shown_at : ServerState → Shown
@@ -63,10 +63,10 @@ pub record ServesHouse {L P K : Type 0} (state : L → LinkState) (passed : P �
   pub told : IfSome clock (λ moment. now ≡ moment)
   pub kept : List KeptState
   pub loaded : LoadEach kept_by.records kept_by.sure kept_by.faults now house.volumes keepers kept
-  pub serves : ServesUpTo state passed house limit old (unasked house now kept) end new shown
+  pub serves : ServesUpTo state passed house limit old (before_asks house now kept) end new shown
   pub sound : IsSoundShown shown
   pub own : shown.mine ≡ upto (length shown.history)
-  pub faultless : list_all kept_by.sure keepers ≡ true → shown.faults ≡ (unasked house now kept).faults
+  pub faultless : list_all kept_by.sure keepers ≡ true → shown.faults ≡ (before_asks house now kept).faults
 
 -- The load of the volume at an index was the first that gave none. A bad record is the first of those of its keeper, where they are told.
 pub record FailsToLoad {K : Type 0} (kept_by : Keeping K) (house : Household) (keepers : List K) (clock : Option ℕ) (index : ℕ) (fault : LoadFault) : Type 0 where

@@ -1,7 +1,7 @@
 -- The frames of a stream are printed one after the other.
 use Rattle.std.proofs.Common.{◌≡◌, ℕ, ◌+◌, ◌≤◌, ◌<◌, Bool, true, false, inl, inr, List, [], ◌∷◌, ◌++◌, length, take, min, ◌-◌, refl, sym, ap, ◌∙◌, subst, append_assoc, append-nil, length-append, length-take, take_all, arith}
 use Rattle.std.specs.Prelude.{Option, Some, None, option_map}
-use Rattle.afp_base.specs.Counts.{Counts}
+use Rattle.afp_base.specs.Counts.{CountsOn}
 use Rattle.afp_outside.specs.Sink.{SinkState}
 use Rattle.afp_outside.specs.Source.{SourceState, SourceGives, SourceEnds, SourceFails}
 use Rattle.dsi_frame.specs.Buffered.{Buffered, buffer_length}
@@ -170,7 +170,7 @@ checked-failed turns old start b taken mid new now x g fewer = record {
   read = x.read;
   frames = x.prints.frames;
   given = g.given ∙ x.given;
-  by = (b.rest, given-framed x.read x.prints.frames b x.prints.given x.unfinished, subst (λ (n : ℕ). Counts 1 n new.faults) x.faults g.faults, omega (arith, fewer, x.many));
+  by = (b.rest, given-framed x.read x.prints.frames b x.prints.given x.unfinished, subst (λ (n : ℕ). CountsOn 1 n new.faults) x.faults g.faults, omega (arith, fewer, x.many));
   printed = x.prints.printed;
 }
 

@@ -1,6 +1,6 @@
 -- What a check of a stream of frames reads, prints and ends with (this profile).
 use Rattle.std.specs.Prelude.{◌≡◌, ◌⊎◌, ℕ, zero, suc, ◌≤◌, ◌<◌, true, List, [], ◌++◌, length, option_map}
-use Rattle.afp_base.specs.Counts.{Counts}
+use Rattle.afp_base.specs.Counts.{CountsOn}
 use Rattle.afp_outside.specs.Sink.{SinkState}
 use Rattle.afp_outside.specs.Source.{SourceState}
 use Rattle.dsi_frame.specs.Buffered.{Buffered, buffer_length}
@@ -22,7 +22,7 @@ use Rattle.plain_tool.specs.declared.checking.FramesEnd.TheVariants as frames_en
 abbrev pub ChecksBy : ℕ → List ℕ → SourceState → SourceState → List Frame → CheckEnd → Type 0
 ChecksBy turns read old new frames (ends.Rest n) = (rest : List ℕ) × Framed read frames rest × (n ≡ length rest) × (new.ended ≡ true) × (length read < turns) × (new.faults ≡ old.faults)
 ChecksBy turns read old new frames (ends.Bad bad) = Stopped read frames bad.at bad.reason × (new.ended ≡ old.ended) × (new.faults ≡ old.faults)
-ChecksBy turns read old new frames ends.ReadFault = (rest : List ℕ) × Framed read frames rest × Counts 1 old.faults new.faults × (length read < turns)
+ChecksBy turns read old new frames ends.ReadFault = (rest : List ℕ) × Framed read frames rest × CountsOn 1 old.faults new.faults × (length read < turns)
 ChecksBy turns read old new frames ends.Spent = (rest : List ℕ) × Framed read frames rest × (turns ≤ length read) × (new.faults ≡ old.faults)
 
 -- what is printed behind the lines of the frames

@@ -67,7 +67,7 @@ fn is_end(end: LinkEnd, want: &Ends) -> bool {
 
 /// A link of a test: what comes, how it gives that, its turns; and what is wanted: why it ends, what is written, how many
 /// asks there are, and the last Lost among them, its moment and link.
-struct Row {
+struct LinkRow {
     pieces: &'static [&'static [u8]],
     plan: Plan<'static>,
     turns: u32,
@@ -79,9 +79,9 @@ struct Row {
 
 const MANY: u32 = u32::MAX;
 
-static ROWS: [Row; 19] = [
+static ROWS: [LinkRow; 19] = [
     // Open: OpenSession comes at 100, a quiet at 219 asks Pulse, and one at 220 ends the link.
-    Row {
+    LinkRow {
         pieces: &[OPEN, COMMAND],
         plan: Plan {
             reads: &[22, 0, 0],
@@ -96,7 +96,7 @@ static ROWS: [Row; 19] = [
         lost: Some((220, 1)),
     },
     // Before a session is open nothing is asked.
-    Row {
+    LinkRow {
         pieces: &[STATUS],
         plan: Plan {
             reads: &[0, 0],
@@ -111,7 +111,7 @@ static ROWS: [Row; 19] = [
         lost: None,
     },
     // Two reads give the two frames, and a third finds the end; each reply goes out in one write. Each of them fails.
-    Row {
+    LinkRow {
         pieces: &[OPEN, COMMAND],
         plan: Plan {
             reads: &[22, 18],
@@ -125,7 +125,7 @@ static ROWS: [Row; 19] = [
         asks: 0,
         lost: None,
     },
-    Row {
+    LinkRow {
         pieces: &[OPEN, COMMAND],
         plan: Plan {
             reads: &[22, 18],
@@ -139,7 +139,7 @@ static ROWS: [Row; 19] = [
         asks: 3,
         lost: Some((100, 1)),
     },
-    Row {
+    LinkRow {
         pieces: &[OPEN, COMMAND],
         plan: Plan {
             reads: &[22, 18],
@@ -153,7 +153,7 @@ static ROWS: [Row; 19] = [
         asks: 3,
         lost: Some((100, 1)),
     },
-    Row {
+    LinkRow {
         pieces: &[OPEN, COMMAND],
         plan: Plan {
             reads: &[22, 18],
@@ -167,7 +167,7 @@ static ROWS: [Row; 19] = [
         asks: 4,
         lost: Some((100, 1)),
     },
-    Row {
+    LinkRow {
         pieces: &[OPEN, COMMAND],
         plan: Plan {
             reads: &[22, 18],
@@ -181,7 +181,7 @@ static ROWS: [Row; 19] = [
         asks: 4,
         lost: Some((100, 1)),
     },
-    Row {
+    LinkRow {
         pieces: &[OPEN, COMMAND],
         plan: Plan {
             reads: &[22, 18],
@@ -196,7 +196,7 @@ static ROWS: [Row; 19] = [
         lost: Some((100, 1)),
     },
     // A link reads no more than its turns, in bytes and quiets.
-    Row {
+    LinkRow {
         pieces: &[STATUS],
         plan: Plan {
             reads: &[],
@@ -210,7 +210,7 @@ static ROWS: [Row; 19] = [
         asks: 0,
         lost: None,
     },
-    Row {
+    LinkRow {
         pieces: &[STATUS],
         plan: Plan {
             reads: &[],
@@ -224,7 +224,7 @@ static ROWS: [Row; 19] = [
         asks: 0,
         lost: None,
     },
-    Row {
+    LinkRow {
         pieces: &[STATUS],
         plan: Plan {
             reads: &[1],
@@ -238,7 +238,7 @@ static ROWS: [Row; 19] = [
         asks: 0,
         lost: None,
     },
-    Row {
+    LinkRow {
         pieces: &[STATUS],
         plan: Plan {
             reads: &[0],
@@ -252,7 +252,7 @@ static ROWS: [Row; 19] = [
         asks: 0,
         lost: None,
     },
-    Row {
+    LinkRow {
         pieces: &[STATUS],
         plan: Plan {
             reads: &[0, 0],
@@ -266,7 +266,7 @@ static ROWS: [Row; 19] = [
         asks: 0,
         lost: None,
     },
-    Row {
+    LinkRow {
         pieces: &[STATUS],
         plan: Plan {
             reads: &[],
@@ -280,7 +280,7 @@ static ROWS: [Row; 19] = [
         asks: 0,
         lost: None,
     },
-    Row {
+    LinkRow {
         pieces: &[STATUS],
         plan: Plan {
             reads: &[0],
@@ -294,7 +294,7 @@ static ROWS: [Row; 19] = [
         asks: 0,
         lost: None,
     },
-    Row {
+    LinkRow {
         pieces: &[STATUS],
         plan: Plan {
             reads: &[0],
@@ -309,7 +309,7 @@ static ROWS: [Row; 19] = [
         lost: None,
     },
     // Calls for which there is no memory are replied to, and the link goes on; a Tickle asks nothing.
-    Row {
+    LinkRow {
         pieces: &[OPEN, COMMAND, WRITE],
         plan: Plan {
             reads: &[],
@@ -323,7 +323,7 @@ static ROWS: [Row; 19] = [
         asks: 5,
         lost: Some((100, 1)),
     },
-    Row {
+    LinkRow {
         pieces: &[OPEN, TICKLE, COMMAND],
         plan: Plan {
             reads: &[],
@@ -338,7 +338,7 @@ static ROWS: [Row; 19] = [
         lost: Some((100, 1)),
     },
     // CloseSession asks Bye, and no Lost behind it.
-    Row {
+    LinkRow {
         pieces: &[OPEN, CLOSE, COMMAND],
         plan: Plan {
             reads: &[],
@@ -354,12 +354,12 @@ static ROWS: [Row; 19] = [
     },
 ];
 
-fn rows() -> &'static [Row] {
+fn rows() -> &'static [LinkRow] {
     &ROWS
 }
 
 /// Whether this came of a row's link.
-fn is_wanted(alloc: Global, row: &Row) -> Result<bool, Fail> {
+fn is_wanted(alloc: Global, row: &LinkRow) -> Result<bool, Fail> {
     let ran = run(alloc, row.pieces, &row.plan, row.turns, &OpenGate)?;
     let written = joined(alloc, row.written)?;
     Ok(

@@ -10,7 +10,7 @@ use Rattle.afp_bitmap.specs.declared.params.Values.TheVariants.{File, Dir}
 use Rattle.afp_replies.specs.Bytes.{flag_of, width}
 use Rattle.afp_replies.specs.Entry.{pad_count, entry_bytes}
 use Rattle.afp_serial.specs.ListReply.{list_entry}
-use Rattle.afp_volume.specs.Calls.{Opened}
+use Rattle.afp_volume.specs.Shared.{Opened}
 use Rattle.afp_volume.specs.Enumerate.{ListAsked, entry_head, entry_size}
 use Rattle.afp_volume.specs.NodeValues.{bits_of, dir_values, file_values, node_values}
 use Rattle.afp_volume.specs.VolumeState.{Row}

@@ -6,11 +6,12 @@ use Rattle.std.proofs.Math.Seq.{drop-cons, take-length}
 use Rattle.std.proofs.lemmas.Bool.{and_parts, cond-true, cond-false, leb-true}
 use Rattle.std.proofs.lemmas.List.{append_assoc, append-nil, length-take, take-append-le}
 use Rattle.std.proofs.lemmas.Option.{slice_get-map, slice_get_read, slice_get_within, get_or_from_slice_get}
+use Rattle.afp_base.specs.Limits.{payload_limit}
 use Rattle.afp_replies.specs.Entry.{entry_bytes}
 use Rattle.afp_serial.specs.ListReply.{list_entry}
 use Rattle.afp_volume.proofs.Counted.{listed-is-there}
-use Rattle.afp_volume.specs.Calls.{Opened}
-use Rattle.afp_volume.specs.Enumerate.{ListAsked, entry_size, is_counted, longest_entry, longest_reply}
+use Rattle.afp_volume.specs.Shared.{Opened}
+use Rattle.afp_volume.specs.Enumerate.{ListAsked, entry_size, is_counted, longest_entry}
 use Rattle.afp_volume.specs.Listing.{listed}
 use Rattle.afp_volume.specs.SoundVolume.{IsSoundVolume, has_node}
 use Rattle.afp_volume.specs.VolumeState.{Row, VolumeState}
@@ -63,7 +64,7 @@ counts-row rows asked node row is of_row counts = sym (counts ∙ ap (is_counted
 -- what is left of the list when so much of it was put
 pub record SoFar (rows : List Row) (opens : List Opened) (asked : ListAsked) (dir first : ℕ) (old out : List ℕ) (i used count : ℕ) : Type 0 where
   pub few : count ≤ asked.count
-  pub room : used ≤ longest_reply
+  pub room : used ≤ payload_limit
   pub all : old ++ bytes_of rows opens asked (filled rows opens asked dir first 6 asked.count) ≡ out ++ bytes_of rows opens asked (filled rows opens asked dir i used (asked.count - count))
   pub many : length (filled rows opens asked dir first 6 asked.count) ≡ count + length (filled rows opens asked dir i used (asked.count - count))
   pub stays : take (length old) out ≡ old
@@ -150,8 +151,8 @@ module _ (rows : List Row) (opens : List Opened) (asked : ListAsked) (dir first 
         record {
           few = let few = s.few in omega (arith, not_all);
           room =
-              let within : used + entry_size rows opens asked row ≤ min asked.size longest_reply = leb-true (used + entry_size rows opens asked row) (min asked.size longest_reply)
-              (and_parts (nat_le (entry_size rows opens asked row) (longest_entry asked.wide)) (nat_le (used + entry_size rows opens asked row) (min asked.size longest_reply)) put.0).1 in
+              let within : used + entry_size rows opens asked row ≤ min asked.size payload_limit = leb-true (used + entry_size rows opens asked row) (min asked.size payload_limit)
+              (and_parts (nat_le (entry_size rows opens asked row) (longest_entry asked.wide)) (nat_le (used + entry_size rows opens asked row) (min asked.size payload_limit)) put.0).1 in
               let is : more ≡ used + entry_size rows opens asked row = put.1 in
               omega arith;
           all = s.all ∙ ap (λ l. out ++ bytes_of rows opens asked l) one ∙ sym (append_assoc out entry (bytes_of rows opens asked tail)) ∙ ap (λ l. l ++ bytes_of rows opens asked tail) (sym put.2);

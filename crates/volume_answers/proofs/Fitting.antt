@@ -10,7 +10,7 @@ use Rattle.afp_bitmap.specs.declared.file.FileValues.{FileValues}
 use Rattle.afp_bitmap.specs.declared.params.Values.TheVariants.{Volume, File, Dir}
 use Rattle.afp_bitmap.specs.declared.volume.VolumeValues.{VolumeValues}
 use Rattle.afp_names.specs.LongName.{long_name_of}
-use Rattle.afp_volume.specs.Calls.{Opened}
+use Rattle.afp_volume.specs.Shared.{Opened}
 use Rattle.afp_volume.specs.GetVolParms.{volume_attributes, fixed_directory_ids, block_size, free_bytes, volume_values}
 use Rattle.afp_volume.specs.Listing.{children}
 use Rattle.afp_volume.specs.NodeValues.{told_attributes, file_values, most_offspring, fixed_owner, fixed_group, all_rights, dir_values}

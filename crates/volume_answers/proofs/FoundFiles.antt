@@ -7,7 +7,7 @@ use Rattle.afp_names.specs.Path.{PathValue}
 use Rattle.afp_volume.proofs.SeenRows.{file-found, test-found}
 use Rattle.afp_volume.proofs.TestedLists.{find-passes}
 use Rattle.afp_volume.proofs.Walks.{row-there}
-use Rattle.afp_volume.specs.Calls.{done_at, has_attribute}
+use Rattle.afp_volume.specs.Shared.{done_at, has_attribute}
 use Rattle.afp_volume.specs.OpenFork.{file_of, open_fork_file}
 use Rattle.afp_volume.specs.SoundVolume.{IsSoundVolume, has_file, has_node}
 use Rattle.afp_volume.specs.VolumeState.{Row, VolumeState}

@@ -5,27 +5,28 @@ use Rattle.std.specs.List.{list_all}
 use Rattle.std.proofs.lemmas.Bool.{and_parts, and_from, cond_both, eq-eqb, ltb-false}
 use Rattle.std.proofs.lemmas.List.{length-drop}
 use Rattle.std.proofs.lemmas.List.Sums.{sum_by-cons}
+use Rattle.afp_base.specs.Limits.{payload_limit}
 use Rattle.afp_volume.proofs.ListReplies.{entries-go-as-far}
-use Rattle.afp_volume.specs.Calls.{Opened}
-use Rattle.afp_volume.specs.Enumerate.{ListAsked, counted, entries, entry_size, fits_reply, from_start, list_head, longest_entry, longest_reply}
+use Rattle.afp_volume.specs.Shared.{Opened}
+use Rattle.afp_volume.specs.Enumerate.{ListAsked, counted, entries, entry_size, fits_reply, from_start, list_head, longest_entry}
 use Rattle.afp_volume.specs.VolumeState.{Row}
 use Rattle.volume_answers.specs.Filling.{can_follow, front, counted_from, filled}
 
 module _ (size : Row → ℕ) (asked : ListAsked) where
   limit : ℕ
-  limit = min asked.size longest_reply
+  limit = min asked.size payload_limit
 
   abbrev short : Row → Bool
   short row = nat_le (size row) (longest_entry asked.wide)
 
   -- whether entries can stand behind so many bytes
   abbrev fits_from : ℕ → List Row → Bool
-  fits_from used nodes = nat_le (used + sum_by size nodes) (min asked.size longest_reply) && list_all short nodes
+  fits_from used nodes = nat_le (used + sum_by size nodes) (min asked.size payload_limit) && list_all short nodes
 
   fits-cons : (used : ℕ) (row : Row) (rows : List Row) → short row ≡ true → fits_from used (row ∷ rows) ≡ fits_from (used + size row) rows
   fits-cons used row rows small =
       let sum : used + sum_by size (row ∷ rows) ≡ used + size row + sum_by size rows = more used (size row) (sum_by size rows) (sum_by size (row ∷ rows)) (sum_by-cons size row rows) in
-      λ i. nat_le (sum i) (min asked.size longest_reply) && (small i && list_all short rows)
+      λ i. nat_le (sum i) (min asked.size payload_limit) && (small i && list_all short rows)
     where
       more : (a b c d : ℕ) → d ≡ b + c → a + d ≡ a + b + c
       more a b c d is = omega arith
@@ -51,14 +52,14 @@ module _ (size : Row → ℕ) (asked : ListAsked) where
       let rest : length (front size asked (used + size row) left rows) ≤ length rows = front-there (used + size row) left rows in
       cond_both (can_follow asked used (size row)) (row ∷ front size asked (used + size row) left rows) [] (λ l. length l ≤ suc (length rows)) (λ fits. omega arith) (λ unfit. omega arith)
 
-  follow-parts : (used n : ℕ) → can_follow asked used n ≡ true → (nat_le n (longest_entry asked.wide) ≡ true) × (nat_le (used + n) (min asked.size longest_reply) ≡ true)
-  follow-parts used n h = and_parts (nat_le n (longest_entry asked.wide)) (nat_le (used + n) (min asked.size longest_reply)) h
+  follow-parts : (used n : ℕ) → can_follow asked used n ≡ true → (nat_le n (longest_entry asked.wide) ≡ true) × (nat_le (used + n) (min asked.size payload_limit) ≡ true)
+  follow-parts used n h = and_parts (nat_le n (longest_entry asked.wide)) (nat_le (used + n) (min asked.size payload_limit)) h
 
-  none-within : (used : ℕ) → nat_le used (min asked.size longest_reply) ≡ true → fits_from used [] ≡ true
-  none-within used here = let same : used + 0 ≡ used = omega arith in and_from (nat_le (used + 0) (min asked.size longest_reply)) true (ap (λ n. nat_le n (min asked.size longest_reply)) same ∙ here) refl
+  none-within : (used : ℕ) → nat_le used (min asked.size payload_limit) ≡ true → fits_from used [] ≡ true
+  none-within used here = let same : used + 0 ≡ used = omega arith in and_from (nat_le (used + 0) (min asked.size payload_limit)) true (ap (λ n. nat_le n (min asked.size payload_limit)) same ∙ here) refl
 
   -- they fit, where what is before them does
-  front-within : (used left : ℕ) (rows : List Row) → nat_le used (min asked.size longest_reply) ≡ true → fits_from used (front size asked used left rows) ≡ true
+  front-within : (used left : ℕ) (rows : List Row) → nat_le used (min asked.size payload_limit) ≡ true → fits_from used (front size asked used left rows) ≡ true
   front-within used left [] here = none-within used here
   front-within used zero (row ∷ rows) here = none-within used here
   front-within used (suc left) (row ∷ rows) here =
@@ -79,7 +80,7 @@ module _ (size : Row → ℕ) (asked : ListAsked) where
   one-not : (used : ℕ) (row : Row) → can_follow asked used (size row) ≡ false → fits_from used (row ∷ []) ≡ false
   one-not used row cannot =
       let sum : sum_by size (row ∷ []) ≡ size row = sum_by-cons size row [] ∙ plus-none (size row) in
-      ap (λ n. nat_le (used + n) (min asked.size longest_reply) && (short row && true)) sum ∙ swap (nat_le (used + size row) (min asked.size longest_reply)) (short row) cannot
+      ap (λ n. nat_le (used + n) (min asked.size payload_limit) && (short row && true)) sum ∙ swap (nat_le (used + size row) (min asked.size payload_limit)) (short row) cannot
     where
       plus-none : (n : ℕ) → n + 0 ≡ n
       plus-none n = omega arith

@@ -7,7 +7,7 @@ use Rattle.afp_base.specs.declared.code.Code.{Code}
 use Rattle.afp_base.specs.declared.code.Code.TheVariants.{ObjectTypeErr, ObjectNotFound, ParamErr}
 use Rattle.afp_replies.specs.Replies.{canonical_reply}
 use Rattle.afp_serial.specs.ListReply.{list_entry, list_reply}
-use Rattle.afp_volume.specs.Calls.{Opened}
+use Rattle.afp_volume.specs.Shared.{Opened}
 use Rattle.afp_volume.specs.Enumerate.{ListAsked}
 use Rattle.afp_volume.specs.VolumeState.{Row}
 use Rattle.volume_answers.proofs.EntryBytes.{patched}

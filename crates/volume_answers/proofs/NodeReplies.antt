@@ -14,7 +14,7 @@ use Rattle.afp_replies.specs.Bytes.{flag_of}
 use Rattle.afp_replies.specs.Replies.{canonical_reply}
 use Rattle.afp_replies.specs.declared.reply.Reply.TheVariants.{FileDirParams}
 use Rattle.afp_volume.proofs.Walks.{row-there}
-use Rattle.afp_volume.specs.Calls.{Opened, done_at}
+use Rattle.afp_volume.specs.Shared.{Opened, done_at}
 use Rattle.afp_volume.specs.GetFileDirParms.{get_file_dir_parms_values}
 use Rattle.afp_volume.specs.NodeValues.{bits_of, dir_values, file_values, node_values}
 use Rattle.afp_volume.specs.SoundVolume.{IsSoundVolume, has_node}

@@ -6,7 +6,7 @@ use Rattle.afp_bitmap.specs.Params.{params}
 use Rattle.afp_bitmap.specs.declared.params.Values.TheVariants.{File, Dir}
 use Rattle.afp_volume.proofs.TestedLists.{find-passes}
 use Rattle.afp_volume.proofs.Walks.{row-there}
-use Rattle.afp_volume.specs.Calls.{Opened}
+use Rattle.afp_volume.specs.Shared.{Opened}
 use Rattle.afp_volume.specs.Edits.{bare}
 use Rattle.afp_volume.specs.NodeValues.{bits_of, dir_values, file_values, node_values}
 use Rattle.afp_volume.specs.SoundVolume.{has_node}

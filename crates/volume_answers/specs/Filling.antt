@@ -1,20 +1,21 @@
 -- How a list is filled, entry by entry, for private contracts (this profile).
 use Rattle.std.specs.Prelude.{◌≡◌, ℕ, zero, suc, ◌+◌, ◌≤◌, ◌<◌, ◌==◌, ◌++◌, Bool, true, false, not, ◌&&◌, List, [], ◌∷◌, min, map, drop, take, length, nat_le, nat_lt, Option, None, Some, if◌then◌else◌}
 use Rattle.std.specs.List.{concat, filter}
+use Rattle.afp_base.specs.Limits.{payload_limit}
 use Rattle.afp_base.specs.Choice.{first_holding}
 use Rattle.afp_base.specs.declared.code.Code.{Code}
 use Rattle.afp_base.specs.declared.code.Code.TheVariants.{ObjectTypeErr, ObjectNotFound, ParamErr}
 use Rattle.afp_replies.specs.Entry.{entry_bytes}
 use Rattle.afp_serial.specs.ListReply.{list_entry}
-use Rattle.afp_volume.specs.Calls.{Opened}
-use Rattle.afp_volume.specs.Enumerate.{ListAsked, counted, entry_size, fits_reply, from_start, is_counted, longest_entry, longest_reply}
+use Rattle.afp_volume.specs.Shared.{Opened}
+use Rattle.afp_volume.specs.Enumerate.{ListAsked, counted, entry_size, fits_reply, from_start, is_counted, longest_entry}
 use Rattle.afp_volume.specs.Listing.{listed}
 use Rattle.afp_volume.specs.VolumeState.{Row, VolumeState}
 use Rattle.afp_volume.specs.Walk.{has_directory}
 
 -- whether an entry of this size can be the next one, behind so many bytes
 abbrev pub can_follow : ListAsked → ℕ → ℕ → Bool
-can_follow asked used size = nat_le size (longest_entry asked.wide) && nat_le (used + size) (min asked.size longest_reply)
+can_follow asked used size = nat_le size (longest_entry asked.wide) && nat_le (used + size) (min asked.size payload_limit)
 
 -- the first of these nodes, so many at most, whose entries fit one after the other behind so many bytes
 abbrev pub front : (Row → ℕ) → ListAsked → ℕ → ℕ → List Row → List Row

@@ -1,15 +1,8 @@
 //! Values whose bits are asked, and what stands for those that are not.
 ghost use Rattle.std.specs.Prelude.{◌≡◌, pos, nat_lt, replicate, true};
-ghost use Rattle.afp_bitmap.specs.Bits.{is_asked};
 ghost use Rattle.afp_volume.specs.Parms.{asked_or, is_outside};
 
-/// Whether a bit is set.
-pub(crate) fn is_asked(bits: u16, bit: u32) -> bool
-    requires { nat_lt bit 16 ≡ true }
-    ensures { result ≡ is_asked bits bit }
-{
-    bits >> bit & 1 == 1
-}
+use afp_bitmap::is_asked;
 
 pub(crate) fn short_or(bits: u16, bit: u32, value: u16) -> u16
     requires { nat_lt bit 16 ≡ true }

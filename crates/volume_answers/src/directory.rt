@@ -7,13 +7,13 @@ ghost use Rattle.afp_volume.specs.Listing.{children};
 ghost use Rattle.afp_volume.specs.NodeValues.{most_offspring, dir_values};
 ghost use Rattle.afp_volume.specs.Parms.{asked_or};
 
-use crate::asked::{is_asked, long_or, short_or};
+use crate::asked::{long_or, short_or};
 use crate::fields::{
     backup_or, created_or, finder_info_or, id_or, long_name_or, modified_or, parent_or,
     utf8_name_or,
 };
 use afp_base::{Bytes, NodeId, OutOfMemory};
-use afp_bitmap::{DirValues, Values, put_params};
+use afp_bitmap::{DirValues, Values, is_asked, put_params};
 use node_rows::Node;
 use std::alloc::Global;
 use volume_tree::Volume;

@@ -1,11 +1,12 @@
 //! An entry of a list.
 ghost use Rattle.std.specs.Prelude.{◌≡◌, ◌++◌, ◌+◌, ◌≤◌, IfOk, OnOk, OnErr, drop, length, min, replicate, take};
+ghost use Rattle.afp_base.specs.Limits.{payload_limit};
 ghost use Rattle.byteorder.specs.Endian.{big_bytes};
 ghost use Rattle.afp_bitmap.specs.Bits.{IsWithin, file_mask, dir_mask};
 ghost use Rattle.afp_bitmap.specs.Params.{params};
 ghost use Rattle.afp_replies.specs.Bytes.{flag_of, width};
 ghost use Rattle.afp_replies.specs.Entry.{pad_count};
-ghost use Rattle.afp_volume.specs.Enumerate.{longest_entry, longest_reply};
+ghost use Rattle.afp_volume.specs.Enumerate.{longest_entry};
 ghost use Rattle.afp_volume.specs.NodeValues.{bits_of, node_values};
 ghost use Rattle.afp_volume.specs.VolumeState.{Row};
 ghost use Rattle.volume_answers.specs.Filling.{IsPut, can_follow};
@@ -15,7 +16,7 @@ ghost use Rattle.volume_tree.specs.Shown.{opened};
 use crate::list_asked::ListAsked;
 use crate::node::{is_dir, put_node};
 use crate::parms::flag_of;
-use afp_base::{Bytes, NodeId, OutOfMemory};
+use afp_base::{Bytes, MAX_PAYLOAD, NodeId, OutOfMemory};
 use byteorder::{BigEndian, ByteOrder};
 use node_rows::Node;
 use std::alloc::Global;
@@ -28,19 +29,16 @@ fn longest_entry(wide: bool) -> usize
     if wide { 65_535 } else { 255 }
 }
 
-/// The most bytes of a reply (this profile).
-const LONGEST_REPLY: u32 = 131_072;
-
 /// How many bytes a list may have.
 fn most_bytes(asked: &ListAsked) -> usize
-    ensures { result ≡ min asked.now.size longest_reply }
+    ensures { result ≡ min asked.now.size payload_limit }
 {
-    asked.size.min(LONGEST_REPLY) as usize
+    asked.size.min(MAX_PAYLOAD) as usize
 }
 
 /// Whether an entry of this size can be the next one, behind `used` bytes.
 fn can_follow(asked: &ListAsked, used: usize, size: usize) -> bool
-    requires { used ≤ longest_reply }
+    requires { used ≤ payload_limit }
     ensures { result ≡ can_follow asked.now used size }
 {
     size <= longest_entry(asked.wide) && used + size <= most_bytes(asked)
@@ -125,7 +123,7 @@ pub(crate) fn put_entry(
 ) -> Result<Option<usize>, OutOfMemory>
     requires files { IsWithin file_mask asked.now.file_bits }
     requires dirs { IsWithin dir_mask asked.now.dir_bits }
-    requires used { used ≤ longest_reply }
+    requires used { used ≤ payload_limit }
     requires node { IsNode volume.now.state.rows node.now }
     ensures ok { IfOk result (λ put. (row : Row) → IsRowOf volume.now.state.rows node.now row → IsPut volume.now.state.rows (opened opens.now) asked.now row used out.old out.new put) }
     ensures err { OnErr result (out.new ≡ out.old) }

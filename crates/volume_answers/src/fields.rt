@@ -3,9 +3,10 @@ ghost use Rattle.std.specs.Prelude.{◌≡◌, ◌<◌, [], pos, replicate, IfOk
 ghost use Rattle.afp_names.specs.LongName.{long_name_of};
 ghost use Rattle.afp_volume.specs.Parms.{asked_or};
 
-use crate::asked::{date_or, finder_or, is_asked, long_or};
+use crate::asked::{date_or, finder_or, long_or};
 use crate::names::name_or;
 use afp_base::{Bytes, OutOfMemory};
+use afp_bitmap::is_asked;
 use afp_names::long_name;
 use node_rows::Node;
 use std::alloc::Global;

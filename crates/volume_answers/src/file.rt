@@ -10,13 +10,12 @@ ghost use Rattle.afp_volume.specs.Parms.{asked_or};
 ghost use Rattle.volume_answers.specs.Told.{bytes_at, whole};
 ghost use Rattle.volume_tree.specs.Shown.{opened};
 
-use crate::asked::is_asked;
 use crate::fields::{
     backup_or, created_or, finder_info_or, id_or, long_name_or, modified_or, parent_or,
     utf8_name_or,
 };
 use afp_base::{Bytes, NodeId, OutOfMemory};
-use afp_bitmap::{FileValues, Values, put_params};
+use afp_bitmap::{FileValues, Values, is_asked, put_params};
 use node_rows::Node;
 use std::alloc::Global;
 use volume_tree::Volume;

@@ -1,6 +1,6 @@
 //! FPOpenFork: the file that it finds.
 ghost use Rattle.std.specs.Prelude.{◌≡◌, ◌==◌, Some, bit_and, not, true, option_map, IfOk};
-ghost use Rattle.afp_volume.specs.Calls.{has_attribute, write_inhibit};
+ghost use Rattle.afp_volume.specs.Shared.{has_attribute, write_inhibit};
 ghost use Rattle.afp_volume.specs.OpenFork.{open_fork_file, open_fork_refusal};
 ghost use Rattle.afp_volume.specs.SoundVolume.{has_file, has_node};
 ghost use Rattle.afp_volume.specs.VolumeState.{Row};

@@ -2,8 +2,8 @@
 ghost use Rattle.std.specs.Prelude.{◌≡◌, ◌<◌, [], IfOk, length, nat_lt, true};
 ghost use Rattle.afp_volume.specs.Parms.{asked_or};
 
-use crate::asked::is_asked;
 use afp_base::{Bytes, OutOfMemory};
+use afp_bitmap::is_asked;
 use afp_names::Name;
 use std::alloc::Global;
 

@@ -7,8 +7,8 @@ use Rattle.afp_volume.specs.SoundVolume.{IsSoundVolume}
 use Rattle.record_keeper.specs.Records.{changed}
 use Rattle.record_keeper.specs.Reading.{Rises}
 use Rattle.volume_records.specs.declared.rows.Head.{Head}
-use Rattle.volume_records.specs.declared.rows.Row.{Row}
-use Rattle.volume_records.specs.declared.rows.Row.TheVariants as row
+use Rattle.volume_records.specs.declared.rows.TableRow.{TableRow}
+use Rattle.volume_records.specs.declared.rows.TableRow.TheVariants as row
 use Rattle.volume_records.specs.Records.{record_of, head_record}
 use Rattle.volume_records.specs.Image.{image, kept_image, rows_of, tables_of}
 use Rattle.volume_records.specs.Laws.{ImagesRise}
@@ -28,7 +28,7 @@ unfolding head_record
 head_keys a b = refl
 
 -- what stands behind the head and the nodes
-abbrev behind : VolumeState → List Row
+abbrev behind : VolumeState → List TableRow
 behind v = blocks_in v.rows ++ (map (λ c. row.Comment c) v.comments ++ (map (λ i. row.Icon i) v.icons ++ map (λ a. row.Appl a) v.appls))
 
 module _ (v : VolumeState) (p : PlanState) (plan : IsPlan v p) where
@@ -58,7 +58,7 @@ module _ (v : VolumeState) (p : PlanState) (plan : IsPlan v p) where
 
   kept_found : Rises (image (planned p v)) → AreFound (rows_of (tables_of (planned p v))) (kept_records p (planned p v))
   kept_found rises =
-      let all : List Row = rows_of (tables_of (planned p v)) in
+      let all : List TableRow = rows_of (tables_of (planned p v)) in
       let each = each_found all rises in
       (each.0, passing_found all (is_touched p) (planned p v).rows (first_found all (nodes_in (planned p v).rows) (behind (planned p v)) each.1))
 

@@ -13,8 +13,8 @@ use Rattle.afp_volume.specs.Order.{put_in, rises, stands_before}
 use Rattle.afp_volume.specs.SoundVolume.{appl_key, code_size, icon_key, is_comment, is_icon, longest_comment, longest_icon}
 use Rattle.afp_volume.specs.Desktop.{IsDesktop, comment_key, icon_under, with_appl, with_comment, with_icon}
 use Rattle.afp_volume.specs.DesktopLaws.{IconHasParts}
-use Rattle.volume_records.specs.declared.rows.Row.{Row}
-use Rattle.volume_records.specs.declared.rows.Row.TheVariants as row
+use Rattle.volume_records.specs.declared.rows.TableRow.{TableRow}
+use Rattle.volume_records.specs.declared.rows.TableRow.TheVariants as row
 use Rattle.volume_records.specs.Image.{fork_blocks, node_of, rows_of, tables_of}
 use Rattle.volume_keeper.specs.Rebuilt.{appls_with, comments_with, icons_with, with_all}
 use Rattle.volume_keeper.proofs.GoneRecords.{first_true, second_true}
@@ -81,7 +81,7 @@ module _ {A : Type 0} (key : A → List ℕ) where
       (all-behind (λ d. stands_before (key d) (key y)) done x (first_true (list_all (λ d. stands_before (key d) (key y)) done) _ e) (first_true (stands_before (key x) (key y)) _ h))
       (later_too x done ys (second_true (list_all (λ d. stands_before (key d) (key y)) done) _ e) (second_true (stands_before (key x) (key y)) _ h))
 
-  module _ (put : Row → List A → List A) (make : A → Row) (good : A → Bool)
+  module _ (put : TableRow → List A → List A) (make : A → TableRow) (good : A → Bool)
       (step : (x : A) (done : List A) → good x ≡ true → list_all (λ d. stands_before (key d) (key x)) done ≡ true → put (make x) done ≡ done ++ x ∷ []) where
     all_in : (done xs : List A) → list_all good xs ≡ true → rises key xs ≡ true → list_all (λ y. list_all (λ d. stands_before (key d) (key y)) done) xs ≡ true → with_all put (map make xs) done ≡ done ++ xs
     all_in done [] g r e = sym (nil_behind done)
@@ -140,11 +140,11 @@ module _ (parts : IconHasParts) where
 
 -- ---- all rows
 
-with-append : {A : Type 0} (put : Row → A → A) (xs ys : List Row) (a : A) → with_all put (xs ++ ys) a ≡ with_all put ys (with_all put xs a)
+with-append : {A : Type 0} (put : TableRow → A → A) (xs ys : List TableRow) (a : A) → with_all put (xs ++ ys) a ≡ with_all put ys (with_all put xs a)
 with-append put [] ys a = refl
 with-append put (x ∷ xs) ys a = with-append put xs ys (put x a)
 
-with-none : {A B : Type 0} (put : Row → A → A) (make : B → Row) → ((b : B) (a : A) → put (make b) a ≡ a) → (xs : List B) (a : A) → with_all put (map make xs) a ≡ a
+with-none : {A B : Type 0} (put : TableRow → A → A) (make : B → TableRow) → ((b : B) (a : A) → put (make b) a ≡ a) → (xs : List B) (a : A) → with_all put (map make xs) a ≡ a
 with-none put make none [] a = refl
 with-none put make none (x ∷ xs) a = ap (with_all put (map make xs)) (none x a) ∙ with-none put make none xs a
 
@@ -153,22 +153,22 @@ always [] = refl
 always (x ∷ xs) = always xs
 
 module _ (v : VolumeState) where
-  abbrev nodes : List Row
+  abbrev nodes : List TableRow
   nodes = map (λ n. row.Node n) (map node_of v.rows)
 
-  abbrev blocks : List Row
+  abbrev blocks : List TableRow
   blocks = map (λ b. row.Block b) (flat_map fork_blocks v.rows)
 
-  abbrev comments : List Row
+  abbrev comments : List TableRow
   comments = map (λ c. row.Comment c) v.comments
 
-  abbrev icons : List Row
+  abbrev icons : List TableRow
   icons = map (λ i. row.Icon i) v.icons
 
-  abbrev appls : List Row
+  abbrev appls : List TableRow
   appls = map (λ a. row.Appl a) v.appls
 
-  module _ {A : Type 0} (put : Row → List A → List A) (head : put (row.Head (tables_of v).head) [] ≡ []) where
+  module _ {A : Type 0} (put : TableRow → List A → List A) (head : put (row.Head (tables_of v).head) [] ≡ []) where
     parts_of : with_all put (rows_of (tables_of v)) [] ≡ with_all put appls (with_all put icons (with_all put comments (with_all put blocks (with_all put nodes []))))
     parts_of =
         ap (with_all put (nodes ++ (blocks ++ (comments ++ (icons ++ appls))))) head

@@ -20,8 +20,8 @@ use Rattle.afp_volume.specs.SoundVolume.{IsSoundVolume, is_formed}
 use Rattle.afp_volume.specs.Walk.{row_at}
 use Rattle.record_keeper.specs.Reading.{IsBelow, Rises}
 use Rattle.volume_records.specs.declared.rows.ForkBlock.{ForkBlock}
-use Rattle.volume_records.specs.declared.rows.Row.{Row}
-use Rattle.volume_records.specs.declared.rows.Row.TheVariants as row
+use Rattle.volume_records.specs.declared.rows.TableRow.{TableRow}
+use Rattle.volume_records.specs.declared.rows.TableRow.TheVariants as row
 use Rattle.volume_records.specs.Records.{record_of, block_record, block_tag, flag_byte, long_bytes}
 use Rattle.volume_records.specs.Laws.{ImagesRise, TablesSayVolumes}
 use Rattle.volume_records.specs.Image.{block_of, fork_blocks, node_of, rows_of, tables_of}
@@ -345,11 +345,11 @@ none_done : (bs : List ForkBlock) → list_all (free_of []) bs ≡ true
 none_done [] = refl
 none_done (b ∷ bs) = none_done bs
 
-pub below_front : (k : List ℕ) (xs ys : List Row) → IsBelow k (map record_of (xs ++ ys)) → IsBelow k (map record_of xs)
+pub below_front : (k : List ℕ) (xs ys : List TableRow) → IsBelow k (map record_of (xs ++ ys)) → IsBelow k (map record_of xs)
 below_front k [] ys b = tt
 below_front k (x ∷ xs) ys b = (b.0, below_front k xs ys b.1)
 
-pub rises_parts : (xs ys : List Row) → Rises (map record_of (xs ++ ys)) → Rises (map record_of xs) × Rises (map record_of ys)
+pub rises_parts : (xs ys : List TableRow) → Rises (map record_of (xs ++ ys)) → Rises (map record_of xs) × Rises (map record_of ys)
 rises_parts [] ys s = (tt, s)
 rises_parts (x ∷ xs) ys s = let rest = rises_parts xs ys s.1 in ((below_front (record_of x).key xs ys s.0, rest.0), rest.1)
 
@@ -440,15 +440,15 @@ all_places laws v (r ∷ rows) o f = row_places laws v r o.0 o.1 (fit_forks r (f
 
 -- ---- all rows
 
-fit-append : (xs ys : List Row) (v : VolumeState) → FitRows xs v → FitRows ys (with_blocks xs v) → FitRows (xs ++ ys) v
+fit-append : (xs ys : List TableRow) (v : VolumeState) → FitRows xs v → FitRows ys (with_blocks xs v) → FitRows (xs ++ ys) v
 fit-append [] ys v f g = g
 fit-append (x ∷ xs) ys v f g = (f.0, fit-append xs ys (with_block x v) f.1 g)
 
-with-append : (xs ys : List Row) (v : VolumeState) → with_blocks (xs ++ ys) v ≡ with_blocks ys (with_blocks xs v)
+with-append : (xs ys : List TableRow) (v : VolumeState) → with_blocks (xs ++ ys) v ≡ with_blocks ys (with_blocks xs v)
 with-append [] ys v = refl
 with-append (x ∷ xs) ys v = with-append xs ys (with_block x v)
 
-module _ {A : Type 0} (make : A → Row) (fits : (a : A) (w : VolumeState) → FitsRow (make a) w) (same : (a : A) (w : VolumeState) → with_block (make a) w ≡ w) where
+module _ {A : Type 0} (make : A → TableRow) (fits : (a : A) (w : VolumeState) → FitsRow (make a) w) (same : (a : A) (w : VolumeState) → with_block (make a) w ≡ w) where
   with-none : (xs : List A) (w : VolumeState) → with_blocks (map make xs) w ≡ w
   with-none [] w = refl
   with-none (x ∷ xs) w = ap (with_blocks (map make xs)) (same x w) ∙ with-none xs w
@@ -471,13 +471,13 @@ module _ (laws : Laws) (v : VolumeState) (sound : IsSoundVolume v) where
   abbrev blocks : List ForkBlock
   blocks = flat_map fork_blocks v.rows
 
-  abbrev nodes_rows : List Row
+  abbrev nodes_rows : List TableRow
   nodes_rows = map (λ n. row.Node n) (map node_of v.rows)
 
-  abbrev block_rows : List Row
+  abbrev block_rows : List TableRow
   block_rows = map (λ b. row.Block b) (flat_map fork_blocks v.rows)
 
-  abbrev others : List Row
+  abbrev others : List TableRow
   others = map (λ c. row.Comment c) v.comments ++ (map (λ i. row.Icon i) v.icons ++ map (λ a. row.Appl a) v.appls)
 
   rising_blocks : Rises (map record_of block_rows)

@@ -19,8 +19,8 @@ use Rattle.record_keeper.specs.declared.record.Change.{Change}
 use Rattle.record_keeper.specs.declared.record.Change.TheVariants.{Put}
 use Rattle.volume_records.proofs.ByteOrder.{front_same, long_less}
 use Rattle.volume_records.specs.declared.rows.Head.{Head}
-use Rattle.volume_records.specs.declared.rows.Row.{Row}
-use Rattle.volume_records.specs.declared.rows.Row.TheVariants as row
+use Rattle.volume_records.specs.declared.rows.TableRow.{TableRow}
+use Rattle.volume_records.specs.declared.rows.TableRow.TheVariants as row
 use Rattle.volume_records.specs.Records.{record_of, block_key, block_record, flag_byte, head_record, long_bytes, node_record}
 use Rattle.volume_records.specs.Image.{block_of, fork_blocks, image, node_of, tables_of}
 use Rattle.volume_keeper.specs.ForkChanges.{block_change, file_changes, fork_changes_of, put_where_other}
@@ -285,7 +285,7 @@ module _ (now id : ℕ) (resource writes : Bool) (bytes : List ℕ) where
 
   -- ---- the nodes
 
-  abbrev pair : Row → Row → Step
+  abbrev pair : TableRow → TableRow → Step
   pair x y = record { key = (record_of x).key; old = Some (record_of x).value; new = Some (record_of y).value }
 
   abbrev node_step : VolumeRow → List Step
@@ -327,28 +327,28 @@ module _ (now id : ℕ) (resource writes : Bool) (bytes : List ℕ) where
 
   -- ---- what stays
 
-  abbrev stays : List Row → List Step
+  abbrev stays : List TableRow → List Step
   stays xs = map (λ x. pair x x) xs
 
-  stays-olds : (xs : List Row) → olds (stays xs) ≡ map record_of xs
+  stays-olds : (xs : List TableRow) → olds (stays xs) ≡ map record_of xs
   stays-olds [] = refl
   stays-olds (x ∷ xs) = ap (λ l. record_of x ∷ l) (stays-olds xs)
 
-  stays-news : (xs : List Row) → news (stays xs) ≡ map record_of xs
+  stays-news : (xs : List TableRow) → news (stays xs) ≡ map record_of xs
   stays-news [] = refl
   stays-news (x ∷ xs) = ap (λ l. record_of x ∷ l) (stays-news xs)
 
-  stays-steady : (xs : List Row) → AreSteady (stays xs)
+  stays-steady : (xs : List TableRow) → AreSteady (stays xs)
   stays-steady [] = tt
   stays-steady (x ∷ xs) = (refl, stays-steady xs)
 
-  stays-none : (xs : List Row) → changes_in (stays xs) ≡ []
+  stays-none : (xs : List TableRow) → changes_in (stays xs) ≡ []
   stays-none [] = refl
   stays-none (x ∷ xs) = λ k. turned-same (record_of x).key (Some (record_of x).value) k ++ stays-none xs k
 
   -- ---- the whole volume
 
-  abbrev others : VolumeState → List Row
+  abbrev others : VolumeState → List TableRow
   others v = map (λ c. row.Comment c) v.comments ++ (map (λ i. row.Icon i) v.icons ++ map (λ a. row.Appl a) v.appls)
 
   abbrev after_fork : VolumeState → VolumeState
@@ -361,7 +361,7 @@ module _ (now id : ℕ) (resource writes : Bool) (bytes : List ℕ) where
   all_steps v = head_step v ∷ (nodes_steps v.rows ++ (rows_steps v.rows ++ stays (others v)))
 
   -- the records of a head, nodes, blocks and others
-  abbrev records_of : Head → List VolumeRow → List Row → List Record
+  abbrev records_of : Head → List VolumeRow → List TableRow → List Record
   records_of head rows behind =
       record_of (row.Head head) ∷ (map record_of (map (λ n. row.Node n) (map node_of rows)) ++ (map record_of (map (λ b. row.Block b) (flat_map fork_blocks rows)) ++ map record_of behind))
 

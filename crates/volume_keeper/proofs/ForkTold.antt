@@ -13,7 +13,7 @@ use Rattle.afp_volume.specs.Walk.{row_at}
 use Rattle.fork_bytes.specs.declared.block.Block.{Block}
 use Rattle.fork_bytes.specs.Plan.{PlanState, IsPlan, changes_of}
 use Rattle.record_keeper.specs.declared.record.Change.{Change}
-use Rattle.volume_records.specs.declared.rows.Row.TheVariants as row
+use Rattle.volume_records.specs.declared.rows.TableRow.TheVariants as row
 use Rattle.volume_records.specs.Image.{node_of, tables_of}
 use Rattle.volume_tree.specs.Shown.{fork_at}
 use Rattle.volume_keeper.specs.ForkChanges.{block_change, dated_head, dated_node, file_changes, fork_changes_of, node_changes, put_where_other}

@@ -12,8 +12,8 @@ use Rattle.afp_volume.specs.SoundVolume.{IsSoundVolume, is_formed, is_formed_vol
 use Rattle.afp_volume.specs.Walk.{row_at}
 use Rattle.record_keeper.specs.declared.record.Change.TheVariants.{Remove}
 use Rattle.volume_records.specs.declared.rows.ForkBlock.{ForkBlock}
-use Rattle.volume_records.specs.declared.rows.Row.{Row}
-use Rattle.volume_records.specs.declared.rows.Row.TheVariants as row
+use Rattle.volume_records.specs.declared.rows.TableRow.{TableRow}
+use Rattle.volume_records.specs.declared.rows.TableRow.TheVariants as row
 use Rattle.volume_records.specs.Records.{node_key, comment_key, appl_key, node_record, block_record, comment_record, appl_record}
 use Rattle.volume_records.specs.Image.{block_of, fork_blocks, node_of, rows_of, tables_of}
 use Rattle.afp_volume.specs.OpenFork.{file_of}
@@ -192,9 +192,9 @@ own_rows : (id : ℕ) (v : VolumeState) → filter (is_of id) (rows_of (tables_o
     ≡ nodes_in (filter (λ (r : VolumeRow). r.id == id) v.rows) ++ (blocks_in (filter (λ (r : VolumeRow). r.id == id) v.rows) ++ (map (λ c. row.Comment c) (filter (λ (c : Comment). c.node == id) v.comments) ++ map (λ a. row.Appl a) (filter (λ (a : Appl). a.node == id) v.appls)))
 own_rows id v =
     let own = is_of id in
-    let appls : List Row = map (λ a. row.Appl a) v.appls in
-    let icons : List Row = map (λ i. row.Icon i) v.icons in
-    let comments : List Row = map (λ c. row.Comment c) v.comments in
+    let appls : List TableRow = map (λ a. row.Appl a) v.appls in
+    let icons : List TableRow = map (λ i. row.Icon i) v.icons in
+    let comments : List TableRow = map (λ c. row.Comment c) v.comments in
     let four = filter-append own icons appls ∙ (λ i. (filter-map own (λ x. row.Icon x) v.icons ∙ ap (map (λ x. row.Icon x)) (never v.icons)) i ++ filter-map own (λ a. row.Appl a) v.appls i) in
     let three = filter-append own comments (icons ++ appls) ∙ (λ i. filter-map own (λ c. row.Comment c) v.comments i ++ four i) in
     let two = filter-append own (blocks_in v.rows) (comments ++ (icons ++ appls)) ∙ (λ i. blocks_by own (λ n. n == id) (λ n. refl) (λ b. refl) v.rows i ++ three i) in
@@ -216,10 +216,10 @@ all_are_taken v sound id =
     let rows = only_one (λ (r : VolumeRow). r.id) 0 id v.rows (ids_rise v sound) in
     let comments = only_one (λ (c : Comment). c.node) 0 id v.comments (nodes_rise v sound) in
     let own = found_is (λ (r : VolumeRow). r.id) id v.rows in
-    let n : List Row = nodes_in (cons_option at []) in
-    let b : List Row = blocks_in (cons_option at []) in
-    let c : List Row = map (λ c. row.Comment c) (cons_option (find (λ (c : Comment). c.node == id) v.comments) []) in
-    let a : List Row = map (λ a. row.Appl a) (filter (λ (a : Appl). a.node == id) v.appls) in
+    let n : List TableRow = nodes_in (cons_option at []) in
+    let b : List TableRow = blocks_in (cons_option at []) in
+    let c : List TableRow = map (λ c. row.Comment c) (cons_option (find (λ (c : Comment). c.node == id) v.comments) []) in
+    let a : List TableRow = map (λ a. row.Appl a) (filter (λ (a : Appl). a.node == id) v.appls) in
     sym (
     ap (map taken) (own_rows id v ∙ (λ i. nodes_in (rows i) ++ (blocks_in (rows i) ++ (map (λ c. row.Comment c) (comments i) ++ a))))
     ∙ map-append taken n (b ++ (c ++ a))

@@ -6,7 +6,7 @@ use Rattle.afp_volume.specs.VolumeState.{Comment, Icon, Appl, VolumeState}
 use Rattle.afp_volume.specs.SoundVolume.{IsSoundVolume, is_formed}
 use Rattle.afp_volume.specs.DesktopLaws.{with_desktop}
 use Rattle.record_keeper.specs.declared.record.Change.{Change}
-use Rattle.volume_records.specs.declared.rows.Row.TheVariants as row
+use Rattle.volume_records.specs.declared.rows.TableRow.TheVariants as row
 use Rattle.volume_records.specs.Image.{tables_of}
 use Rattle.volume_tree.specs.Planned.{PlanState, planned}
 use Rattle.volume_tree.specs.TouchedNodes.{IsTouched}

@@ -16,8 +16,8 @@ use Rattle.record_keeper.specs.Records.{key_of}
 use Rattle.record_keeper.specs.Reading.{IsBelow, Rises}
 use Rattle.volume_records.specs.declared.rows.ForkBlock.{ForkBlock}
 use Rattle.volume_records.specs.declared.rows.Head.{Head}
-use Rattle.volume_records.specs.declared.rows.Row.{Row}
-use Rattle.volume_records.specs.declared.rows.Row.TheVariants as row
+use Rattle.volume_records.specs.declared.rows.TableRow.{TableRow}
+use Rattle.volume_records.specs.declared.rows.TableRow.TheVariants as row
 use Rattle.volume_records.specs.Records.{record_of, head_record, node_record, block_record, comment_record, icon_record, appl_record, node_key, long_bytes}
 use Rattle.volume_records.specs.Image.{image, node_of, rows_of, tables_of, fork_blocks}
 use Rattle.volume_records.specs.Laws.{ImagesRise}
@@ -36,7 +36,7 @@ both_true a b p q = ap (λ x. x && b) p ∙ q
 
 -- ---- rising keys are apart
 
-rises_filter : (p : Row → Bool) (xs : List Row) → Rises (map record_of xs) → Rises (map record_of (filter p xs))
+rises_filter : (p : TableRow → Bool) (xs : List TableRow) → Rises (map record_of xs) → Rises (map record_of (filter p xs))
 rises_filter p [] s = tt
 rises_filter p (x ∷ xs) s = elim (p x) as (λ t. Rises (map record_of (cond t (x ∷ filter p xs) (filter p xs)))) [
   | true ↦ (below_filter (key_of_row x) p xs s.0, rises_filter p xs s.1)
@@ -57,18 +57,18 @@ apart-append alike (x ∷ xs) ys e f g = both_true (not (list_any (alike x) (xs 
     (ap not (any-append (alike x) xs ys (turn_false _ (first_true (not (list_any (alike x) xs)) _ e)) (turn_false _ (first_true (not (list_any (alike x) ys)) _ g))))
     (apart-append alike xs ys (second_true (not (list_any (alike x) xs)) _ e) f (second_true (not (list_any (alike x) ys)) _ g))
 
-module _ (make : Row → Change) (key_is : (x : Row) → key_of (make x) ≡ key_of_row x) where
-  none_alike : (x : Row) (xs : List Row) → IsBelow (key_of_row x) (map record_of xs) → list_any (are_of_one_key (make x)) (map make xs) ≡ false
+module _ (make : TableRow → Change) (key_is : (x : TableRow) → key_of (make x) ≡ key_of_row x) where
+  none_alike : (x : TableRow) (xs : List TableRow) → IsBelow (key_of_row x) (map record_of xs) → list_any (are_of_one_key (make x)) (map make xs) ≡ false
   none_alike x [] s = refl
   none_alike x (y ∷ ys) s = ap (λ b. b || list_any (are_of_one_key (make x)) (map make ys)) ((λ i. bytes_eq (key_is x i) (key_is y i)) ∙ not_equal (key_of_row x) (key_of_row y) (ap is_lt s.0)) ∙ none_alike x ys s.1
 
-  rising_apart : (xs : List Row) → Rises (map record_of xs) → are_apart are_of_one_key (map make xs) ≡ true
+  rising_apart : (xs : List TableRow) → Rises (map record_of xs) → are_apart are_of_one_key (map make xs) ≡ true
   rising_apart [] s = refl
   rising_apart (x ∷ xs) s = both_true (not (list_any (are_of_one_key (make x)) (map make xs))) _ (ap not (none_alike x xs s.0)) (rising_apart xs s.1)
 
 -- ---- what is put has none of the keys that are taken away
 
-abbrev EachAway : List Row → List Row → Type 0
+abbrev EachAway : List TableRow → List TableRow → Type 0
 EachAway gone [] = Unit {0}
 EachAway gone (x ∷ xs) = (any_at gone (key_of_row x) ≡ false) × EachAway gone xs
 
@@ -78,25 +78,25 @@ not_bytes k q e = elim (bytes_eq k q) as (λ t. bytes_eq k q ≡ t → t ≡ fal
   | false ↦ λ t. refl
 ] refl
 
-front_away : (y : Row) (gone xs : List Row) → EachAway (y ∷ gone) xs → list_any (are_of_one_key (taken y)) (map put xs) ≡ false
+front_away : (y : TableRow) (gone xs : List TableRow) → EachAway (y ∷ gone) xs → list_any (are_of_one_key (taken y)) (map put xs) ≡ false
 front_away y gone [] a = refl
 front_away y gone (x ∷ xs) a = ap (λ b. b || list_any (are_of_one_key (taken y)) (map put xs)) (not_bytes (key_of_row y) (key_of_row x) (first_false (are_one (key_of_row x) (key_of_row y)) _ a.0)) ∙ front_away y gone xs a.1
 
-rest_away : (y : Row) (gone xs : List Row) → EachAway (y ∷ gone) xs → EachAway gone xs
+rest_away : (y : TableRow) (gone xs : List TableRow) → EachAway (y ∷ gone) xs → EachAway gone xs
 rest_away y gone [] a = tt
 rest_away y gone (x ∷ xs) a = (second_false (are_one (key_of_row x) (key_of_row y)) _ a.0, rest_away y gone xs a.1)
 
-all_away : (gone xs : List Row) → EachAway gone xs → list_all (λ c. not (list_any (are_of_one_key c) (map put xs))) (map taken gone) ≡ true
+all_away : (gone xs : List TableRow) → EachAway gone xs → list_all (λ c. not (list_any (are_of_one_key c) (map put xs))) (map taken gone) ≡ true
 all_away [] xs a = refl
 all_away (y ∷ gone) xs a = both_true (not (list_any (are_of_one_key (taken y)) (map put xs))) _ (ap not (front_away y gone xs a)) (all_away gone xs (rest_away y gone xs a))
 
-nothing_away : (xs : List Row) → EachAway [] xs
+nothing_away : (xs : List TableRow) → EachAway [] xs
 nothing_away [] = tt
 nothing_away (x ∷ xs) = (refl, nothing_away xs)
 
 -- ---- the nodes that are there afterwards
 
-abbrev RowsAway : List Row → List VolumeRow → Type 0
+abbrev RowsAway : List TableRow → List VolumeRow → Type 0
 RowsAway gone [] = Unit {0}
 RowsAway gone (r ∷ rows) = (any_at gone (key_of_row (row.Node (node_of r))) ≡ false) × RowsAway gone rows
 
@@ -104,13 +104,13 @@ key_by_id : (x y : VolumeRow) → x.id ≡ y.id → key_of_row (row.Node (node_o
 unfolding node_record
 key_by_id x y e = ap node_key e
 
-same_away : (gone : List Row) (t : ℕ → Bool) (xs ys : List VolumeRow) → SameBut t xs ys → RowsAway gone xs → RowsAway gone ys
+same_away : (gone : List TableRow) (t : ℕ → Bool) (xs ys : List VolumeRow) → SameBut t xs ys → RowsAway gone xs → RowsAway gone ys
 same_away gone t [] [] s a = tt
 same_away gone t [] (y ∷ ys) s a = absurd s
 same_away gone t (x ∷ xs) [] s a = absurd s
 same_away gone t (x ∷ xs) (y ∷ ys) s a = (ap (any_at gone) (sym (key_by_id x y s.0)) ∙ a.0, same_away gone t xs ys s.2 a.1)
 
-passing_away : (gone : List Row) (t : ℕ → Bool) (rows : List VolumeRow) → RowsAway gone rows → EachAway gone (passing t rows)
+passing_away : (gone : List TableRow) (t : ℕ → Bool) (rows : List VolumeRow) → RowsAway gone rows → EachAway gone (passing t rows)
 passing_away gone t [] a = tt
 passing_away gone t (r ∷ rows) a = elim (t r.id) as (λ b. EachAway gone (map (λ (r : VolumeRow). row.Node (node_of r)) (cond b (r ∷ filter (λ r. t r.id) rows) (filter (λ r. t r.id) rows)))) [
   | true ↦ (a.0, passing_away gone t rows a.1)
@@ -123,14 +123,14 @@ left_away true o p e s = absurd (let h : false ≡ true = ap is_some e ∙ s in 
 left_away false o p e s = refl
 
 module _ (v : VolumeState) (id : NodeId) (rises : Rises (image v)) where
-  abbrev goes : List Row
+  abbrev goes : List TableRow
   goes = filter (is_of id.0) (rows_of (tables_of v))
 
   found_away : (q : List ℕ) → is_some (found (rows_of (tables_of (gone_volume (Some id) v))) q) ≡ true → any_at goes q ≡ false
   found_away q s = left_away (any_at goes q) (found (rows_of (tables_of v)) q) _ (left_over (is_of id.0) (rows_of (tables_of v)) rises q ∙ ap (λ l. found l q) (left_rows id v)) s
 
   left_rise : Rises (image (gone_volume (Some id) v))
-  left_rise = subst (λ (l : List Row). Rises (map record_of l)) (left_rows id v) (rises_filter (is_other id.0) (rows_of (tables_of v)) rises)
+  left_rise = subst (λ (l : List TableRow). Rises (map record_of l)) (left_rows id v) (rises_filter (is_other id.0) (rows_of (tables_of v)) rises)
 
   nodes_away : (rows : List VolumeRow) → AreFound (rows_of (tables_of (gone_volume (Some id) v))) (nodes_in rows) → RowsAway goes rows
   nodes_away [] f = tt
@@ -145,14 +145,14 @@ module _ (v : VolumeState) (id : NodeId) (rises : Rises (image v)) where
 
 -- ---- the node that comes has a new key
 
-any-none : (p : Row → Bool) (xs : List Row) (q : List ℕ) → any_at xs q ≡ false → any_at (filter p xs) q ≡ false
+any-none : (p : TableRow → Bool) (xs : List TableRow) (q : List ℕ) → any_at xs q ≡ false → any_at (filter p xs) q ≡ false
 any-none p [] q e = refl
 any-none p (x ∷ xs) q e = elim (p x) as (λ t. any_at (cond t (x ∷ filter p xs) (filter p xs)) q ≡ false) [
   | true ↦ ap (λ b. b || any_at (filter p xs) q) (first_false (are_one q (key_of_row x)) _ e) ∙ any-none p xs q (second_false (are_one q (key_of_row x)) _ e)
   | false ↦ any-none p xs q (second_false (are_one q (key_of_row x)) _ e)
 ]
 
-of_kind : {A : Type 0} (make : A → Row) (q : List ℕ) → ((a : A) → are_one q (key_of_row (make a)) ≡ false) → (xs : List A) → any_at (map make xs) q ≡ false
+of_kind : {A : Type 0} (make : A → TableRow) (q : List ℕ) → ((a : A) → are_one q (key_of_row (make a)) ≡ false) → (xs : List A) → any_at (map make xs) q ≡ false
 of_kind make q other [] = refl
 of_kind make q other (x ∷ xs) = ap (λ b. b || any_at (map make xs) q) (other x) ∙ of_kind make q other xs
 
@@ -230,11 +230,11 @@ ids_below v s = all-more (is_in_place v) (λ (r : VolumeRow). nat_lt r.id v.next
     (λ t. let is : r.id ≡ 2 = same_number r.id root_id t in let next : nat_le first_id v.next_id ≡ true = first_true (nat_le first_id v.next_id) _ (next_range v s.formed) in grind (arith, is, next))
     (λ f. second_true (nat_le first_id r.id) (nat_lt r.id v.next_id) (first_true (nat_le first_id r.id && nat_lt r.id v.next_id) _ f)) e) (placed v s.tree)
 
-behind_away : (gone : List Row) (rows : List VolumeRow) (r : VolumeRow) → RowsAway gone rows → any_at gone (key_of_row (row.Node (node_of r))) ≡ false → RowsAway gone (rows ++ r ∷ [])
+behind_away : (gone : List TableRow) (rows : List VolumeRow) (r : VolumeRow) → RowsAway gone rows → any_at gone (key_of_row (row.Node (node_of r))) ≡ false → RowsAway gone (rows ++ r ∷ [])
 behind_away gone [] r a e = (e, tt)
 behind_away gone (x ∷ rows) r a e = (a.0, behind_away gone rows r a.1 e)
 
-come_away : (gone : List Row) (o : Option VolumeRow) (rows : List VolumeRow) → RowsAway gone rows → IfSome o (λ r. any_at gone (key_of_row (row.Node (node_of r))) ≡ false) → RowsAway gone (come_rows o rows)
+come_away : (gone : List TableRow) (o : Option VolumeRow) (rows : List VolumeRow) → RowsAway gone rows → IfSome o (λ r. any_at gone (key_of_row (row.Node (node_of r))) ≡ false) → RowsAway gone (come_rows o rows)
 come_away gone None rows a e = a
 come_away gone (Some r) rows a e = behind_away gone rows r a e
 
@@ -242,7 +242,7 @@ key_at : (r : VolumeRow) → key_of_row (row.Node (node_of r)) ≡ node_key r.id
 unfolding node_record
 key_at r = refl
 
-comes_away : (v : VolumeState) (p : Row → Bool) (rows : List VolumeRow) (o : Option VolumeRow) → IfSome o (IsNew rows v.next_id) → IfSome o (λ r. v.next_id < 2 ^ 32) → list_all (λ (r : VolumeRow). nat_lt r.id v.next_id) v.rows ≡ true
+comes_away : (v : VolumeState) (p : TableRow → Bool) (rows : List VolumeRow) (o : Option VolumeRow) → IfSome o (IsNew rows v.next_id) → IfSome o (λ r. v.next_id < 2 ^ 32) → list_all (λ (r : VolumeRow). nat_lt r.id v.next_id) v.rows ≡ true
     → IfSome o (λ r. any_at (filter p (rows_of (tables_of v))) (key_of_row (row.Node (node_of r))) ≡ false)
 comes_away v p rows None new l e = tt
 comes_away v p rows (Some r) new l e = ap (any_at (filter p (rows_of (tables_of v)))) (key_at r ∙ ap node_key new.id) ∙ any-none p (rows_of (tables_of v)) (node_key v.next_id) (no_row v v.next_id l e)
@@ -271,7 +271,7 @@ rises_passing t (r ∷ rows) s = elim (t r.id) as (λ b. Rises (map record_of (m
   | false ↦ rises_passing t rows s.1
 ]
 
-abbrev behind : VolumeState → List Row
+abbrev behind : VolumeState → List TableRow
 behind w = blocks_in w.rows ++ (map (λ c. row.Comment c) w.comments ++ (map (λ i. row.Icon i) w.icons ++ map (λ a. row.Appl a) w.appls))
 
 kept_rise : (p : PlanState) (w : VolumeState) → Rises (image w) → Rises (map record_of (kept_records p w))
@@ -291,7 +291,7 @@ module _ (rising : ImagesRise) (v : VolumeState) (p : PlanState) (sound : IsSoun
   unfolding planned
   kept_away None e = nothing_away (kept_records p (planned p v))
   kept_away (Some id) e =
-      let goes : List Row = filter (is_of id.0) (rows_of (tables_of v)) in
+      let goes : List TableRow = filter (is_of id.0) (rows_of (tables_of v)) in
       let new : IfSome p.come (IsNew (gone_rows (Some id) v.rows) v.next_id) = subst (λ (g : Option NodeId). IfSome p.come (IsNew (gone_rows g v.rows) v.next_id)) e plan.come in
       let stay = stay_away v id (rising v sound) in
       let come = come_away goes p.come (gone_rows (Some id) v.rows) stay (comes_away v (is_of id.0) (gone_rows (Some id) v.rows) p.come new (small_next v p plan) (ids_below v sound)) in

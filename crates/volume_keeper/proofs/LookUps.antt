@@ -14,7 +14,7 @@ use Rattle.record_keeper.specs.declared.record.Change.{Change}
 use Rattle.record_keeper.specs.declared.record.Change.TheVariants.{Put, Remove}
 use Rattle.record_keeper.specs.Records.{Records, changed}
 use Rattle.record_keeper.specs.Reading.{IsBelow, Rises}
-use Rattle.volume_records.specs.declared.rows.Row.{Row}
+use Rattle.volume_records.specs.declared.rows.TableRow.{TableRow}
 use Rattle.volume_records.specs.Records.{record_of}
 use Rattle.volume_records.specs.Image.{entries_of}
 use Rattle.volume_keeper.specs.Changes.{put, taken}
@@ -32,7 +32,7 @@ alike m n h = same_map nat_list_cmp_total one_key m n h
 abbrev pub are_one : List ℕ → List ℕ → Bool
 are_one q k = eq_by_cmp by_bytes q k
 
-abbrev pub key_of_row : Row → List ℕ
+abbrev pub key_of_row : TableRow → List ℕ
 key_of_row x = (record_of x).key
 
 equal_of : (o : Ordering) → is_eq o ≡ true → o ≡ Equal
@@ -49,7 +49,7 @@ itself k = ap is_eq (tied_itself nat_list_cmp_total k)
 -- ---- look-ups in rows
 
 -- what the records of rows have at a key
-abbrev pub found : List Row → List ℕ → Option (List ℕ)
+abbrev pub found : List TableRow → List ℕ → Option (List ℕ)
 found [] q = None
 found (x ∷ xs) q = cond (are_one q (key_of_row x)) (Some (record_of x).value) (found xs q)
 
@@ -61,11 +61,11 @@ or_cond : (b : Bool) (v : List ℕ) (o p : Option (List ℕ)) → cond b (Some v
 or_cond true v o p = refl
 or_cond false v o p = refl
 
-pub found-append : (xs ys : List Row) (q : List ℕ) → found (xs ++ ys) q ≡ or_then (found xs q) (found ys q)
+pub found-append : (xs ys : List TableRow) (q : List ℕ) → found (xs ++ ys) q ≡ or_then (found xs q) (found ys q)
 found-append [] ys q = refl
 found-append (x ∷ xs) ys q = ap (cond (are_one q (key_of_row x)) (Some (record_of x).value)) (found-append xs ys q) ∙ or_cond (are_one q (key_of_row x)) (record_of x).value (found xs q) (found ys q)
 
-found_entries : (xs : List Row) (q : List ℕ) → find by_bytes q (entries_of (map record_of xs)) ≡ found xs q
+found_entries : (xs : List TableRow) (q : List ℕ) → find by_bytes q (entries_of (map record_of xs)) ≡ found xs q
 found_entries [] q = refl
 found_entries (x ∷ xs) q = ap (cond (are_one q (key_of_row x)) (Some (record_of x).value)) (found_entries xs q)
 
@@ -82,23 +82,23 @@ sorted_entries [] s = tt
 sorted_entries (r ∷ rs) s = both _ _ (below_entries r.key rs s.0) (sorted_entries rs s.1)
 
 -- the map of rising records has at a key what they have
-pub got : (xs : List Row) (q : List ℕ) → Rises (map record_of xs) → get (from_sorted {R = by_bytes} (entries_of (map record_of xs))) q ≡ found xs q
+pub got : (xs : List TableRow) (q : List ℕ) → Rises (map record_of xs) → get (from_sorted {R = by_bytes} (entries_of (map record_of xs))) q ≡ found xs q
 got xs q s = get-from_sorted by_bytes (entries_of (map record_of xs)) q (sorted_entries (map record_of xs) s) ∙ found_entries xs q
 
 -- ---- rising keys
 
-abbrev pub any_at : List Row → List ℕ → Bool
+abbrev pub any_at : List TableRow → List ℕ → Bool
 any_at xs q = list_any (λ x. are_one q (key_of_row x)) xs
 
-none_below : (k : List ℕ) (xs : List Row) → IsBelow k (map record_of xs) → found xs k ≡ None
+none_below : (k : List ℕ) (xs : List TableRow) → IsBelow k (map record_of xs) → found xs k ≡ None
 none_below k [] b = refl
 none_below k (x ∷ xs) b = ap (λ o. cond (is_eq o) (Some (record_of x).value) (found xs k)) b.0 ∙ none_below k xs b.1
 
-any_below : (k : List ℕ) (xs : List Row) → IsBelow k (map record_of xs) → any_at xs k ≡ false
+any_below : (k : List ℕ) (xs : List TableRow) → IsBelow k (map record_of xs) → any_at xs k ≡ false
 any_below k [] b = refl
 any_below k (x ∷ xs) b = ap (λ o. is_eq o || any_at xs k) b.0 ∙ any_below k xs b.1
 
-pub below_filter : (k : List ℕ) (p : Row → Bool) (xs : List Row) → IsBelow k (map record_of xs) → IsBelow k (map record_of (filter p xs))
+pub below_filter : (k : List ℕ) (p : TableRow → Bool) (xs : List TableRow) → IsBelow k (map record_of xs) → IsBelow k (map record_of (filter p xs))
 below_filter k p [] b = tt
 below_filter k p (x ∷ xs) b = elim (p x) as (λ t. IsBelow k (map record_of (cond t (x ∷ filter p xs) (filter p xs)))) [
   | true ↦ (b.0, below_filter k p xs b.1)
@@ -106,22 +106,22 @@ below_filter k p (x ∷ xs) b = elim (p x) as (λ t. IsBelow k (map record_of (c
 ]
 
 -- each row is found under its key
-abbrev pub AreFound : List Row → List Row → Type 0
+abbrev pub AreFound : List TableRow → List TableRow → Type 0
 AreFound all [] = Unit {0}
 AreFound all (x ∷ xs) = (found all (key_of_row x) ≡ Some (record_of x).value) × AreFound all xs
 
 -- a lower key in front hides none
-found_behind : (x : Row) (all xs : List Row) → IsBelow (key_of_row x) (map record_of xs) → AreFound all xs → AreFound (x ∷ all) xs
+found_behind : (x : TableRow) (all xs : List TableRow) → IsBelow (key_of_row x) (map record_of xs) → AreFound all xs → AreFound (x ∷ all) xs
 found_behind x all [] b f = tt
 found_behind x all (y ∷ ys) b f =
     let higher : by_bytes (key_of_row y) (key_of_row x) ≡ Greater = nat_list_cmp_total.antisymm (key_of_row y) (key_of_row x) ∙ ap ordering_reverse b.0 in
     (ap (λ o. cond (is_eq o) (Some (record_of x).value) (found all (key_of_row y))) higher ∙ f.0, found_behind x all ys b.1 f.1)
 
-pub each_found : (xs : List Row) → Rises (map record_of xs) → AreFound xs xs
+pub each_found : (xs : List TableRow) → Rises (map record_of xs) → AreFound xs xs
 each_found [] s = tt
 each_found (x ∷ xs) s = (ap (λ b. cond b (Some (record_of x).value) (found xs (key_of_row x))) (itself (key_of_row x)), found_behind x xs xs s.0 (each_found xs s.1))
 
-pub first_found : (all xs ys : List Row) → AreFound all (xs ++ ys) → AreFound all xs
+pub first_found : (all xs ys : List TableRow) → AreFound all (xs ++ ys) → AreFound all xs
 first_found all [] ys f = tt
 first_found all (x ∷ xs) ys f = (f.0, first_found all xs ys f.1)
 
@@ -144,7 +144,7 @@ after-append (Put k v ∷ cs) ds q o = after-append cs ds q (cond (are_one q k) 
 after-append (Remove k ∷ cs) ds q o = after-append cs ds q (cond (are_one q k) None o)
 
 -- rows that are found in others are put: there is what those have
-pub after_puts : (all xs : List Row) (q : List ℕ) (o : Option (List ℕ)) → AreFound all xs → after (map put xs) q o ≡ cond (any_at xs q) (found all q) o
+pub after_puts : (all xs : List TableRow) (q : List ℕ) (o : Option (List ℕ)) → AreFound all xs → after (map put xs) q o ≡ cond (any_at xs q) (found all q) o
 after_puts all [] q o f = refl
 after_puts all (x ∷ xs) q o f =
     after_puts all xs q (cond (are_one q (key_of_row x)) (Some (record_of x).value) o) f.1
@@ -157,7 +157,7 @@ after_puts all (x ∷ xs) q o f =
     same_both true p = refl
     same_both false p = refl
 
-after_taken : (xs : List Row) (q : List ℕ) (o : Option (List ℕ)) → after (map taken xs) q o ≡ cond (any_at xs q) None o
+after_taken : (xs : List TableRow) (q : List ℕ) (o : Option (List ℕ)) → after (map taken xs) q o ≡ cond (any_at xs q) None o
 after_taken [] q o = refl
 after_taken (x ∷ xs) q o = after_taken xs q (cond (are_one q (key_of_row x)) None o) ∙ joined (any_at xs q) (are_one q (key_of_row x)) o
   where
@@ -168,7 +168,7 @@ after_taken (x ∷ xs) q o = after_taken xs q (cond (are_one q (key_of_row x)) N
     joined false false o = refl
 
 -- some rows among rising ones are taken away: the others are left
-pub left_over : (p : Row → Bool) (xs : List Row) → Rises (map record_of xs) → (q : List ℕ) → cond (any_at (filter p xs) q) None (found xs q) ≡ found (filter (λ x. not (p x)) xs) q
+pub left_over : (p : TableRow → Bool) (xs : List TableRow) → Rises (map record_of xs) → (q : List ℕ) → cond (any_at (filter p xs) q) None (found xs q) ≡ found (filter (λ x. not (p x)) xs) q
 left_over p [] s q = refl
 left_over p (x ∷ xs) s q = elim (are_one q (key_of_row x)) as (λ b. are_one q (key_of_row x) ≡ b
     → cond (any_at (cond (p x) (x ∷ filter p xs) (filter p xs)) q) None (cond b (Some (record_of x).value) (found xs q)) ≡ found (cond (not (p x)) (x ∷ filter (λ x. not (p x)) xs) (filter (λ x. not (p x)) xs)) q) [
@@ -187,11 +187,11 @@ left_over p (x ∷ xs) s q = elim (are_one q (key_of_row x)) as (λ b. are_one q
           ]
     ] refl
 
-pub after_gone : (p : Row → Bool) (xs : List Row) → Rises (map record_of xs) → (q : List ℕ) → after (map taken (filter p xs)) q (found xs q) ≡ found (filter (λ x. not (p x)) xs) q
+pub after_gone : (p : TableRow → Bool) (xs : List TableRow) → Rises (map record_of xs) → (q : List ℕ) → after (map taken (filter p xs)) q (found xs q) ≡ found (filter (λ x. not (p x)) xs) q
 after_gone p xs s q = after_taken (filter p xs) q (found xs q) ∙ left_over p xs s q
 
 -- where no row has the key, none is found
-none_there : (xs : List Row) (q : List ℕ) → cond (any_at xs q) (found xs q) None ≡ found xs q
+none_there : (xs : List TableRow) (q : List ℕ) → cond (any_at xs q) (found xs q) None ≡ found xs q
 none_there [] q = refl
 none_there (x ∷ xs) q = elim (are_one q (key_of_row x)) as (λ b. cond (b || any_at xs q) (cond b (Some (record_of x).value) (found xs q)) None ≡ cond b (Some (record_of x).value) (found xs q)) [
   | true ↦ refl
@@ -199,7 +199,7 @@ none_there (x ∷ xs) q = elim (are_one q (key_of_row x)) as (λ b. cond (b || a
 ]
 
 -- rising rows that are put where nothing is kept are all that is kept
-pub all_put : (xs : List Row) → Rises (map record_of xs) → (m : Records) → entries m ≡ [] → changed (map put xs) m ≡ from_sorted (entries_of (map record_of xs))
+pub all_put : (xs : List TableRow) → Rises (map record_of xs) → (m : Records) → entries m ≡ [] → changed (map put xs) m ≡ from_sorted (entries_of (map record_of xs))
 all_put xs s m e = alike _ _ (λ q.
     got_changed (map put xs) m q
     ∙ ap (after (map put xs) q) (get-entries m q ∙ ap (find by_bytes q) e)

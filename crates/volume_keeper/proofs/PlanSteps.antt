@@ -11,8 +11,8 @@ use Rattle.afp_volume.specs.Edits.{bare, with_changed, without, change_at, at_pl
 use Rattle.afp_volume.specs.SetFileDirParms.{Settings, with_settings}
 use Rattle.volume_records.specs.declared.rows.Node.{Node}
 use Rattle.volume_records.specs.declared.rows.ForkBlock.{ForkBlock}
-use Rattle.volume_records.specs.declared.rows.Row.{Row}
-use Rattle.volume_records.specs.declared.rows.Row.TheVariants as row
+use Rattle.volume_records.specs.declared.rows.TableRow.{TableRow}
+use Rattle.volume_records.specs.declared.rows.TableRow.TheVariants as row
 use Rattle.volume_records.specs.Records.{record_of, node_record, node_tag, long_bytes}
 use Rattle.volume_records.specs.Image.{node_of, block_of, fork_blocks, rows_of, tables_of}
 use Rattle.volume_tree.specs.Planned.{Move, SetNode, PlanState, IsNew, is_gone, gone_rows, gone_comments, gone_appls, come_rows, moved_rows, set_rows, dated_rows}
@@ -44,26 +44,26 @@ pub filter-always : {A : Type 0} (xs : List A) → filter (λ x. true) xs ≡ xs
 filter-always [] = refl
 filter-always (x ∷ xs) = ap (λ l. x ∷ l) (filter-always xs)
 
-abbrev pub is_other : ℕ → Row → Bool
+abbrev pub is_other : ℕ → TableRow → Bool
 is_other id x = not (is_of id x)
 
-abbrev blocks_of_row : VolumeRow → List Row
+abbrev blocks_of_row : VolumeRow → List TableRow
 blocks_of_row r = map (λ b. row.Block b) (fork_blocks r)
 
-abbrev pub blocks_in : List VolumeRow → List Row
+abbrev pub blocks_in : List VolumeRow → List TableRow
 blocks_in rows = map (λ b. row.Block b) (flat_map fork_blocks rows)
 
-abbrev pub nodes_in : List VolumeRow → List Row
+abbrev pub nodes_in : List VolumeRow → List TableRow
 nodes_in rows = map (λ n. row.Node n) (map node_of rows)
 
-both_kept : (b : Bool) (xs ys : List Row) → cond b xs [] ++ cond b ys [] ≡ cond b (xs ++ ys) []
+both_kept : (b : Bool) (xs ys : List TableRow) → cond b xs [] ++ cond b ys [] ≡ cond b (xs ++ ys) []
 both_kept true xs ys = refl
 both_kept false xs ys = refl
 
 -- a test of rows that asks for the node alone
-module _ (t : Row → Bool) (p : ℕ → Bool) (of_node : (n : Node) → t (row.Node n) ≡ p n.id) (of_block : (b : ForkBlock) → t (row.Block b) ≡ p b.node) where
+module _ (t : TableRow → Bool) (p : ℕ → Bool) (of_node : (n : Node) → t (row.Node n) ≡ p n.id) (of_block : (b : ForkBlock) → t (row.Block b) ≡ p b.node) where
   fork_by : (i : ℕ) (f : Bool) (bs : List Block) → filter t (map (λ b. row.Block b) (map (block_of i f) bs)) ≡ cond (p i) (map (λ b. row.Block b) (map (block_of i f) bs)) []
-  fork_by i f [] = elim (p i) as (λ s. ◌≡◌ {A = List Row} [] (cond s [] [])) [ true ↦ refl | false ↦ refl ]
+  fork_by i f [] = elim (p i) as (λ s. ◌≡◌ {A = List TableRow} [] (cond s [] [])) [ true ↦ refl | false ↦ refl ]
   fork_by i f (b ∷ bs) =
       ap (λ s. cond s (row.Block (block_of i f b) ∷ filter t (map (λ b. row.Block b) (map (block_of i f) bs))) (filter t (map (λ b. row.Block b) (map (block_of i f) bs)))) (of_block (block_of i f b))
       ∙ ap (λ l. cond (p i) (row.Block (block_of i f b) ∷ l) l) (fork_by i f bs)
@@ -114,9 +114,9 @@ gone_volume gone v = record v { rows = gone_rows gone v.rows; comments = gone_co
 pub left_rows : (id : NodeId) (v : VolumeState) → filter (is_other id.0) (rows_of (tables_of v)) ≡ rows_of (tables_of (gone_volume (Some id) v))
 left_rows id v =
     let other = is_other id.0 in
-    let appls : List Row = map (λ a. row.Appl a) v.appls in
-    let icons : List Row = map (λ i. row.Icon i) v.icons in
-    let comments : List Row = map (λ c. row.Comment c) v.comments in
+    let appls : List TableRow = map (λ a. row.Appl a) v.appls in
+    let icons : List TableRow = map (λ i. row.Icon i) v.icons in
+    let comments : List TableRow = map (λ c. row.Comment c) v.comments in
     let four = filter-append other icons appls ∙ (λ i. (filter-map other (λ x. row.Icon x) v.icons ∙ ap (map (λ x. row.Icon x)) (filter-always v.icons)) i ++ filter-map other (λ a. row.Appl a) v.appls i) in
     let three = filter-append other comments (icons ++ appls) ∙ (λ i. filter-map other (λ c. row.Comment c) v.comments i ++ four i) in
     let two = filter-append other (blocks_in v.rows) (comments ++ (icons ++ appls)) ∙ (λ i. other_blocks id.0 v.rows i ++ three i) in
@@ -268,11 +268,11 @@ blocks_stay p rows next new =
 
 -- ---- the nodes
 
-abbrev node_row : VolumeRow → Row
+abbrev node_row : VolumeRow → TableRow
 node_row r = row.Node (node_of r)
 
 -- the nodes among rows whose ids pass
-abbrev pub passing : (ℕ → Bool) → List VolumeRow → List Row
+abbrev pub passing : (ℕ → Bool) → List VolumeRow → List TableRow
 passing t rows = map (λ r. row.Node (node_of r)) (filter (λ r. t r.id) rows)
 
 same_key : (x y : VolumeRow) → x.id ≡ y.id → key_of_row (node_row x) ≡ key_of_row (node_row y)
@@ -338,7 +338,7 @@ nodes_stay p rows q n =
     ∙ same_nodes (is_touched p) q one (later_rows p one) same n
 
 -- the nodes that pass are found where all are
-pub passing_found : (all : List Row) (t : ℕ → Bool) (rows : List VolumeRow) → AreFound all (nodes_in rows) → AreFound all (passing t rows)
+pub passing_found : (all : List TableRow) (t : ℕ → Bool) (rows : List VolumeRow) → AreFound all (nodes_in rows) → AreFound all (passing t rows)
 passing_found all t [] f = tt
 passing_found all t (r ∷ rows) f = elim (t r.id) as (λ b. AreFound all (map node_row (cond b (r ∷ filter (λ r. t r.id) rows) (filter (λ r. t r.id) rows)))) [
   | true ↦ (f.0, passing_found all t rows f.1)

@@ -9,7 +9,7 @@ use Rattle.afp_volume.specs.Edits.{bare}
 use Rattle.afp_volume.specs.Order.{rises_from}
 use Rattle.afp_volume.specs.Walk.{row_at}
 use Rattle.record_keeper.specs.declared.record.Change.{Change}
-use Rattle.volume_records.specs.declared.rows.Row.TheVariants as row
+use Rattle.volume_records.specs.declared.rows.TableRow.TheVariants as row
 use Rattle.volume_records.specs.Image.{node_of}
 use Rattle.volume_tree.specs.Planned.{PlanState}
 use Rattle.volume_tree.specs.TouchedNodes.{is_touched, are_rising, IsTouched}

@@ -3,7 +3,7 @@ use Rattle.std.proofs.Common.{◌≡◌, ◌∙◌, ap, sym, refl, subst, ℕ, �
 use Rattle.std.specs.Prelude.{Result, Ok, Err, IfOk, IfSome, IsSome, nat_le}
 use Rattle.std.proofs.lemmas.Bool.{and_from, le-leb}
 use Rattle.afp_base.specs.declared.ids.NodeId.{NodeId}
-use Rattle.afp_volume.specs.Calls.{Opened, has_no_ids, has_no_room}
+use Rattle.afp_volume.specs.Shared.{Opened, has_no_ids, has_no_room}
 use Rattle.afp_volume.specs.CreateDir.{create_dir_refusal}
 use Rattle.afp_volume.specs.CreateFile.{create_file_refusal}
 use Rattle.afp_volume.specs.Delete.{delete_refusal}

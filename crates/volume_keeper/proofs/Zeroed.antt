@@ -6,12 +6,12 @@ use Rattle.std.proofs.lemmas.Slice.Eq.{bytes_eq-Decides}
 use Rattle.afp_base.specs.Apart.{are_apart}
 use Rattle.afp_volume.specs.VolumeState.{Row as VolumeRow}
 use Rattle.afp_volume.specs.VolumeState.{VolumeState, root_id, root_parent, first_id}
-use Rattle.afp_volume.specs.Calls.{name_of}
+use Rattle.afp_volume.specs.Shared.{name_of}
 use Rattle.afp_volume.specs.Order.{rises_from}
 use Rattle.afp_volume.specs.SoundVolume.{IsSoundVolume, is_tree, is_in_place, leads_to_root, has_node, has_apart_names, are_named_alike, has_noted_nodes, keeps_limits, fork_bytes, is_formed_volume, is_formed, is_named, is_in_order, has_rising_ids, most_nodes, most_fork_bytes, last_next_id, file_attributes, dir_attributes}
 use Rattle.afp_volume.specs.Walk.{row_at}
-use Rattle.volume_records.specs.declared.rows.Row.{Row}
-use Rattle.volume_records.specs.declared.rows.Row.TheVariants as row
+use Rattle.volume_records.specs.declared.rows.TableRow.{TableRow}
+use Rattle.volume_records.specs.declared.rows.TableRow.TheVariants as row
 use Rattle.volume_records.specs.Image.{node_of, rows_of, tables_of, fork_blocks}
 use Rattle.volume_tree.specs.Restored.{loaded_row, restored}
 use Rattle.volume_keeper.specs.Rebuilt.{head_said, nodes_said}
@@ -135,7 +135,7 @@ flat-append : {A B : Type 0} (f : A → List B) (xs ys : List A) → flat_map f 
 flat-append f [] ys = refl
 flat-append f (x ∷ xs) ys = ap (λ l. f x ++ l) (flat-append f xs ys) ∙ sym (append_assoc (f x) (flat_map f xs) (flat_map f ys))
 
-flat-none : {A : Type 0} (make : A → Row) → ((a : A) → nodes_said (make a) ≡ []) → (xs : List A) → flat_map nodes_said (map make xs) ≡ []
+flat-none : {A : Type 0} (make : A → TableRow) → ((a : A) → nodes_said (make a) ≡ []) → (xs : List A) → flat_map nodes_said (map make xs) ≡ []
 flat-none make none [] = refl
 flat-none make none (x ∷ xs) = (λ i. none x i ++ flat-none make none xs i)
 
@@ -145,11 +145,11 @@ flat-nodes (r ∷ rows) = ap (λ l. zeroed r ∷ l) (flat-nodes rows)
 
 said : (v : VolumeState) → map loaded_row (flat_map nodes_said (rows_of (tables_of v))) ≡ map zeroed v.rows
 said v =
-    let nodes : List Row = map (λ n. row.Node n) (map node_of v.rows) in
-    let blocks : List Row = map (λ b. row.Block b) (flat_map fork_blocks v.rows) in
-    let comments : List Row = map (λ c. row.Comment c) v.comments in
-    let icons : List Row = map (λ i. row.Icon i) v.icons in
-    let appls : List Row = map (λ a. row.Appl a) v.appls in
+    let nodes : List TableRow = map (λ n. row.Node n) (map node_of v.rows) in
+    let blocks : List TableRow = map (λ b. row.Block b) (flat_map fork_blocks v.rows) in
+    let comments : List TableRow = map (λ c. row.Comment c) v.comments in
+    let icons : List TableRow = map (λ i. row.Icon i) v.icons in
+    let appls : List TableRow = map (λ a. row.Appl a) v.appls in
     let none : flat_map nodes_said (blocks ++ (comments ++ (icons ++ appls))) ≡ [] =
     flat-append nodes_said blocks (comments ++ (icons ++ appls))
     ∙ (λ i. flat-none (λ b. row.Block b) (λ b. refl) (flat_map fork_blocks v.rows) i

@@ -14,15 +14,15 @@ use Rattle.record_keeper.specs.declared.record.Change.TheVariants.{Put, Remove}
 use Rattle.record_keeper.specs.Records.{key_of}
 use Rattle.volume_records.specs.declared.rows.Head.{Head}
 use Rattle.volume_records.specs.declared.rows.Node.{Node}
-use Rattle.volume_records.specs.declared.rows.Row.{Row}
-use Rattle.volume_records.specs.declared.rows.Row.TheVariants as row
+use Rattle.volume_records.specs.declared.rows.TableRow.{TableRow}
+use Rattle.volume_records.specs.declared.rows.TableRow.TheVariants as row
 use Rattle.volume_records.specs.Records.{record_of, block_key}
 use Rattle.volume_records.specs.Image.{node_of, tables_of}
 use Rattle.volume_keeper.specs.Changes.{put}
 use Rattle.volume_keeper.specs.Steps.{sized}
 
 -- the record of a row is put, where it has another value than that of the row before
-abbrev pub put_where_other : Row → Row → List Change
+abbrev pub put_where_other : TableRow → TableRow → List Change
 put_where_other old new = if pointwise nat_eq (record_of old).value (record_of new).value then [] else put new ∷ []
 
 -- the record of a block that differs is put, or taken away where nothing but zeros remains

@@ -3,8 +3,8 @@ use Rattle.std.specs.Prelude.{pos, List, [], ◌∷◌}
 use Rattle.afp_volume.specs.VolumeState.{Comment, Icon, Appl, VolumeState}
 use Rattle.afp_volume.specs.SoundVolume.{icon_key}
 use Rattle.afp_volume.specs.Desktop.{icon_under, with_appl, with_comment, with_icon}
-use Rattle.volume_records.specs.declared.rows.Row.{Row}
-use Rattle.volume_records.specs.declared.rows.Row.TheVariants as row
+use Rattle.volume_records.specs.declared.rows.TableRow.{TableRow}
+use Rattle.volume_records.specs.declared.rows.TableRow.TheVariants as row
 use Rattle.volume_records.specs.Shape.{bare_row}
 use Rattle.volume_tree.specs.declared.head.VolumeHead.{VolumeHead}
 use Rattle.volume_tree.specs.declared.restore.Loaded.{Loaded}
@@ -15,7 +15,7 @@ abbrev pub no_head : VolumeHead
 no_head = record { created = pos 0; modified = pos 0; backup = pos 0; next_id = 0 }
 
 -- the head that a row is
-abbrev pub head_said : Row → VolumeHead
+abbrev pub head_said : TableRow → VolumeHead
 head_said (row.Head head) = record { created = head.created; modified = head.modified; backup = head.backup; next_id = head.next_id }
 head_said (row.Node node) = no_head
 head_said (row.Block block) = no_head
@@ -24,7 +24,7 @@ head_said (row.Icon icon) = no_head
 head_said (row.Appl appl) = no_head
 
 -- the node that a row is, with the lengths of its forks
-abbrev pub nodes_said : Row → List Loaded
+abbrev pub nodes_said : TableRow → List Loaded
 nodes_said (row.Head head) = []
 nodes_said (row.Node node) = record { node = bare_row node; data_len = node.data_length; resource_len = node.resource_length } ∷ []
 nodes_said (row.Block block) = []
@@ -33,7 +33,7 @@ nodes_said (row.Icon icon) = []
 nodes_said (row.Appl appl) = []
 
 -- a volume with the block that a row is
-abbrev pub with_block : Row → VolumeState → VolumeState
+abbrev pub with_block : TableRow → VolumeState → VolumeState
 with_block (row.Head head) v = v
 with_block (row.Node node) v = v
 with_block (row.Block block) v = filled block.node block.is_resource block.index block.bytes v
@@ -41,12 +41,12 @@ with_block (row.Comment comment) v = v
 with_block (row.Icon icon) v = v
 with_block (row.Appl appl) v = v
 
-abbrev pub with_blocks : List Row → VolumeState → VolumeState
+abbrev pub with_blocks : List TableRow → VolumeState → VolumeState
 with_blocks [] v = v
 with_blocks (x ∷ rows) v = with_blocks rows (with_block x v)
 
 -- a block has its place in a fork of the volume
-abbrev pub FitsRow : Row → VolumeState → Type 0
+abbrev pub FitsRow : TableRow → VolumeState → Type 0
 FitsRow (row.Head head) v = Unit {0}
 FitsRow (row.Node node) v = Unit {0}
 FitsRow (row.Block block) v = FitsFork v block.node block.is_resource block.index block.bytes
@@ -54,12 +54,12 @@ FitsRow (row.Comment comment) v = Unit {0}
 FitsRow (row.Icon icon) v = Unit {0}
 FitsRow (row.Appl appl) v = Unit {0}
 
-abbrev pub FitRows : List Row → VolumeState → Type 0
+abbrev pub FitRows : List TableRow → VolumeState → Type 0
 FitRows [] v = Unit {0}
 FitRows (x ∷ rows) v = FitsRow x v × FitRows rows (with_block x v)
 
 -- the lists of a desktop database, with what a row is
-abbrev pub comments_with : Row → List Comment → List Comment
+abbrev pub comments_with : TableRow → List Comment → List Comment
 comments_with (row.Head head) list = list
 comments_with (row.Node node) list = list
 comments_with (row.Block block) list = list
@@ -67,7 +67,7 @@ comments_with (row.Comment comment) list = with_comment comment.node comment.tex
 comments_with (row.Icon icon) list = list
 comments_with (row.Appl appl) list = list
 
-abbrev pub icons_with : Row → List Icon → List Icon
+abbrev pub icons_with : TableRow → List Icon → List Icon
 icons_with (row.Head head) list = list
 icons_with (row.Node node) list = list
 icons_with (row.Block block) list = list
@@ -75,7 +75,7 @@ icons_with (row.Comment comment) list = list
 icons_with (row.Icon icon) list = with_icon (icon_under (icon_key icon) icon.tag icon.bits) list
 icons_with (row.Appl appl) list = list
 
-abbrev pub appls_with : Row → List Appl → List Appl
+abbrev pub appls_with : TableRow → List Appl → List Appl
 appls_with (row.Head head) list = list
 appls_with (row.Node node) list = list
 appls_with (row.Block block) list = list
@@ -84,6 +84,6 @@ appls_with (row.Icon icon) list = list
 appls_with (row.Appl appl) list = with_appl appl list
 
 -- with what all rows are, one after the other
-abbrev pub with_all : {A : Type 0} → (Row → A → A) → List Row → A → A
+abbrev pub with_all : {A : Type 0} → (TableRow → A → A) → List TableRow → A → A
 with_all put [] a = a
 with_all put (x ∷ rows) a = with_all put rows (put x a)

@@ -11,7 +11,7 @@ use Rattle.afp_volume.specs.Walk.{row_at}
 use Rattle.record_keeper.specs.declared.record.Change.{Change}
 use Rattle.record_keeper.specs.declared.record.Change.TheVariants.{Remove}
 use Rattle.volume_records.specs.declared.rows.Node.{Node}
-use Rattle.volume_records.specs.declared.rows.Row.TheVariants as row
+use Rattle.volume_records.specs.declared.rows.TableRow.TheVariants as row
 use Rattle.volume_records.specs.Records.{node_key, block_key, comment_key, appl_key}
 use Rattle.volume_records.specs.Image.{node_of}
 use Rattle.volume_tree.specs.Shown.{fork_at}

@@ -5,7 +5,7 @@ ghost use Rattle.afp_volume.specs.SoundVolume.{is_formed};
 ghost use Rattle.afp_volume.specs.Walk.{row_at};
 ghost use Rattle.record_keeper.specs.declared.record.Change.TheVariants.{Put};
 ghost use Rattle.record_keeper.specs.Records.{changed};
-ghost use Rattle.volume_records.specs.declared.rows.Row.TheVariants as row;
+ghost use Rattle.volume_records.specs.declared.rows.TableRow.TheVariants as row;
 ghost use Rattle.volume_records.specs.Image.{kept_image, tables_of};
 ghost use Rattle.volume_tree.specs.Planned.{planned, IsPlan};
 ghost use Rattle.volume_tree.specs.Shown.{fork_at};

@@ -7,7 +7,7 @@ ghost use Rattle.afp_volume.specs.Walk.{row_at};
 ghost use Rattle.fork_bytes.specs.Kept.{is_empty};
 ghost use Rattle.record_keeper.specs.declared.record.Change.TheVariants.{Put, Remove};
 ghost use Rattle.record_keeper.specs.Records.{changed};
-ghost use Rattle.volume_records.specs.declared.rows.Row.TheVariants as row;
+ghost use Rattle.volume_records.specs.declared.rows.TableRow.TheVariants as row;
 ghost use Rattle.volume_records.specs.Image.{kept_image, tables_of};
 ghost use Rattle.volume_records.specs.Records.{record_of};
 ghost use Rattle.volume_tree.specs.ForkEffect.{IsForkChange};

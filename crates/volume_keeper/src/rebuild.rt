@@ -1,8 +1,8 @@
 //! The volume that rows say.
 ghost use Rattle.std.specs.Prelude.{◌≡◌, ◌<◌, ◌++◌, ◌∷◌, [], List, length, flat_map, IfOk, OnOk};
 ghost use Rattle.afp_volume.specs.VolumeState.{VolumeState};
-ghost use Rattle.volume_records.specs.declared.rows.Row.{Row};
-ghost use Rattle.volume_records.specs.declared.rows.Row.TheVariants as row;
+ghost use Rattle.volume_records.specs.declared.rows.TableRow.{TableRow};
+ghost use Rattle.volume_records.specs.declared.rows.TableRow.TheVariants as row;
 ghost use Rattle.volume_records.specs.Image.{rows_of, tables_of};
 ghost use Rattle.volume_keeper.specs.Rebuilt.{FitRows, FitsRow, appls_with, comments_with, head_said, icons_with, nodes_said, with_all, with_block, with_blocks};
 ghost use Rattle.volume_keeper.specs.Whole.{IsHeld, without_desktop};
@@ -17,7 +17,7 @@ use fork_bytes::laws::{blocks_are_bytes, blocks_of_bytes_are_kept};
 use node_rows::Node as TreeNode;
 use std::alloc::Global;
 use volume_records::laws::{records_are_images, tables_say_volumes};
-use volume_records::{Appl, Comment, ForkBlock, Icon, Node, Row};
+use volume_records::{Appl, Comment, ForkBlock, Icon, Node, TableRow};
 use volume_tree::{Loaded, Volume, VolumeHead};
 
 const NO_HEAD: VolumeHead = VolumeHead {
@@ -28,28 +28,28 @@ const NO_HEAD: VolumeHead = VolumeHead {
 };
 
 /// The head that a row is.
-fn head_of(row: &Row) -> VolumeHead
+fn head_of(row: &TableRow) -> VolumeHead
     ensures { result ≡ head_said row.now }
 {
     match row {
-        Row::Head(head) => VolumeHead {
+        TableRow::Head(head) => VolumeHead {
             created: head.created,
             modified: head.modified,
             backup: head.backup,
             next_id: head.next_id,
         },
-        Row::Node(_) => NO_HEAD,
-        Row::Block(_) => NO_HEAD,
-        Row::Comment(_) => NO_HEAD,
-        Row::Icon(_) => NO_HEAD,
-        Row::Appl(_) => NO_HEAD,
+        TableRow::Node(_) => NO_HEAD,
+        TableRow::Block(_) => NO_HEAD,
+        TableRow::Comment(_) => NO_HEAD,
+        TableRow::Icon(_) => NO_HEAD,
+        TableRow::Appl(_) => NO_HEAD,
     }
 }
 
 /// The head, which is the first of rows.
-fn head_in(rows: &[Row]) -> VolumeHead
+fn head_in(rows: &[TableRow]) -> VolumeHead
     requires { 0 < length rows.now }
-    ensures { (first : Row) (rest : List Row) → rows.now ≡ first ∷ rest → result ≡ head_said first }
+    ensures { (first : TableRow) (rest : List TableRow) → rows.now ≡ first ∷ rest → result ≡ head_said first }
 {
     head_of(&rows[0])
 }
@@ -79,24 +79,24 @@ fn loaded_of(alloc: Global, node: &Node) -> Result<Loaded, OutOfMemory>
     }
 }
 
-fn put_loaded(alloc: Global, nodes: &mut Vec<Loaded>, row: &Row) -> Result<(), OutOfMemory>
+fn put_loaded(alloc: Global, nodes: &mut Vec<Loaded>, row: &TableRow) -> Result<(), OutOfMemory>
     ensures { OnOk result (nodes.new.items ≡ nodes.old.items ++ nodes_said row.now) }
 {
     match row {
-        Row::Node(node) => {
+        TableRow::Node(node) => {
             nodes.push(loaded_of(alloc, node)?)?;
             Ok(())
         }
-        Row::Head(_) => Ok(()),
-        Row::Block(_) => Ok(()),
-        Row::Comment(_) => Ok(()),
-        Row::Icon(_) => Ok(()),
-        Row::Appl(_) => Ok(()),
+        TableRow::Head(_) => Ok(()),
+        TableRow::Block(_) => Ok(()),
+        TableRow::Comment(_) => Ok(()),
+        TableRow::Icon(_) => Ok(()),
+        TableRow::Appl(_) => Ok(()),
     }
 }
 
 /// The nodes among rows, with the lengths of their forks.
-fn all_loaded(alloc: Global, rows: &[Row]) -> Result<Vec<Loaded>, OutOfMemory>
+fn all_loaded(alloc: Global, rows: &[TableRow]) -> Result<Vec<Loaded>, OutOfMemory>
     ensures { IfOk result (λ nodes. nodes.items ≡ flat_map nodes_said rows.now) }
 {
     let mut nodes = Vec::new(alloc);
@@ -120,22 +120,22 @@ fn fill_block(alloc: Global, volume: &mut Volume, block: &ForkBlock) -> Result<(
     )
 }
 
-fn fill_row(alloc: Global, volume: &mut Volume, row: &Row) -> Result<(), OutOfMemory>
+fn fill_row(alloc: Global, volume: &mut Volume, row: &TableRow) -> Result<(), OutOfMemory>
     requires { FitsRow row.now volume.old.state }
     ensures { OnOk result (volume.new.state ≡ with_block row.now volume.old.state) }
 {
     match row {
-        Row::Block(block) => fill_block(alloc, volume, block),
-        Row::Head(_) => Ok(()),
-        Row::Node(_) => Ok(()),
-        Row::Comment(_) => Ok(()),
-        Row::Icon(_) => Ok(()),
-        Row::Appl(_) => Ok(()),
+        TableRow::Block(block) => fill_block(alloc, volume, block),
+        TableRow::Head(_) => Ok(()),
+        TableRow::Node(_) => Ok(()),
+        TableRow::Comment(_) => Ok(()),
+        TableRow::Icon(_) => Ok(()),
+        TableRow::Appl(_) => Ok(()),
     }
 }
 
 /// Puts the blocks among rows in their places.
-fn fill_all(alloc: Global, volume: &mut Volume, rows: &[Row]) -> Result<(), OutOfMemory>
+fn fill_all(alloc: Global, volume: &mut Volume, rows: &[TableRow]) -> Result<(), OutOfMemory>
     requires { FitRows rows.now volume.old.state }
     ensures { OnOk result (volume.new.state ≡ with_blocks rows.now volume.old.state) }
 {
@@ -177,23 +177,23 @@ fn put_appl(desktop: &mut Desktop, appl: &Appl) -> Result<(), OutOfMemory>
 }
 
 /// Puts what a row is into the desktop database, where it belongs there.
-fn put_row(desktop: &mut Desktop, row: &Row) -> Result<(), OutOfMemory>
+fn put_row(desktop: &mut Desktop, row: &TableRow) -> Result<(), OutOfMemory>
     ensures comments { OnOk result (desktop.new.comments ≡ comments_with row.now desktop.old.comments) }
     ensures icons { OnOk result (desktop.new.icons ≡ icons_with row.now desktop.old.icons) }
     ensures appls { OnOk result (desktop.new.appls ≡ appls_with row.now desktop.old.appls) }
 {
     match row {
-        Row::Comment(comment) => put_comment(desktop, comment),
-        Row::Icon(icon) => put_icon(desktop, icon),
-        Row::Appl(appl) => put_appl(desktop, appl),
-        Row::Head(_) => Ok(()),
-        Row::Node(_) => Ok(()),
-        Row::Block(_) => Ok(()),
+        TableRow::Comment(comment) => put_comment(desktop, comment),
+        TableRow::Icon(icon) => put_icon(desktop, icon),
+        TableRow::Appl(appl) => put_appl(desktop, appl),
+        TableRow::Head(_) => Ok(()),
+        TableRow::Node(_) => Ok(()),
+        TableRow::Block(_) => Ok(()),
     }
 }
 
 /// Puts what rows are into the desktop database.
-fn put_all(desktop: &mut Desktop, rows: &[Row]) -> Result<(), OutOfMemory>
+fn put_all(desktop: &mut Desktop, rows: &[TableRow]) -> Result<(), OutOfMemory>
     ensures comments { OnOk result (desktop.new.comments ≡ with_all comments_with rows.now desktop.old.comments) }
     ensures icons { OnOk result (desktop.new.icons ≡ with_all icons_with rows.now desktop.old.icons) }
     ensures appls { OnOk result (desktop.new.appls ≡ with_all appls_with rows.now desktop.old.appls) }
@@ -205,7 +205,7 @@ fn put_all(desktop: &mut Desktop, rows: &[Row]) -> Result<(), OutOfMemory>
 }
 
 /// The tree that rows say.
-fn tree_of(alloc: Global, rows: &[Row]) -> Result<Volume, OutOfMemory>
+fn tree_of(alloc: Global, rows: &[TableRow]) -> Result<Volume, OutOfMemory>
     requires { (v : VolumeState) × IsHeld v × (rows.now ≡ rows_of (tables_of v)) }
     ensures { IfOk result (λ volume. (v : VolumeState) → IsHeld v → rows.now ≡ rows_of (tables_of v) → volume.state ≡ without_desktop v) }
 {
@@ -222,7 +222,7 @@ fn tree_of(alloc: Global, rows: &[Row]) -> Result<Volume, OutOfMemory>
 }
 
 /// The desktop database that rows say.
-fn desktop_of(alloc: Global, rows: &[Row]) -> Result<Desktop, OutOfMemory>
+fn desktop_of(alloc: Global, rows: &[TableRow]) -> Result<Desktop, OutOfMemory>
     ensures comments { IfOk result (λ desktop. (v : VolumeState) → IsHeld v → rows.now ≡ rows_of (tables_of v) → desktop.comments ≡ v.comments) }
     ensures icons { IfOk result (λ desktop. (v : VolumeState) → IsHeld v → rows.now ≡ rows_of (tables_of v) → desktop.icons ≡ v.icons) }
     ensures appls { IfOk result (λ desktop. (v : VolumeState) → IsHeld v → rows.now ≡ rows_of (tables_of v) → desktop.appls ≡ v.appls) }
@@ -235,7 +235,7 @@ fn desktop_of(alloc: Global, rows: &[Row]) -> Result<Desktop, OutOfMemory>
 }
 
 /// The volume that these rows say, with its desktop database. The one error is want of memory.
-pub(crate) fn held_of(alloc: Global, rows: Vec<Row>) -> Result<Held, OutOfMemory>
+pub(crate) fn held_of(alloc: Global, rows: Vec<TableRow>) -> Result<Held, OutOfMemory>
     requires { (v : VolumeState) × IsHeld v × (rows.items ≡ rows_of (tables_of v)) }
     ensures { IfOk result (λ held. (v : VolumeState) → IsHeld v → rows.items ≡ rows_of (tables_of v) → held.state ≡ v) }
 {

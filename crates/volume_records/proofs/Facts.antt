@@ -8,8 +8,8 @@ use Rattle.afp_volume.specs.TypedVolume.{is_typed_row, is_long, are_bytes, is_ty
 use Rattle.volume_records.specs.declared.rows.Node.{Node}
 use Rattle.volume_records.specs.declared.rows.ForkBlock.{ForkBlock}
 use Rattle.volume_records.specs.declared.rows.Reason.TheVariants.{Parent, Twin, Range, Limit}
-use Rattle.volume_records.specs.declared.rows.Row.{Row}
-use Rattle.volume_records.specs.declared.rows.Row.TheVariants as row
+use Rattle.volume_records.specs.declared.rows.TableRow.{TableRow}
+use Rattle.volume_records.specs.declared.rows.TableRow.TheVariants as row
 use Rattle.volume_records.specs.Shape.{is_formed, is_formed_node, is_formed_block, is_formed_comment, is_formed_appl, bare_row, has_fit_forks, is_root_or_other}
 use Rattle.volume_records.specs.Records.{record_of}
 use Rattle.volume_records.specs.KeyOrder.{Rises}
@@ -26,13 +26,13 @@ use Rattle.afp_names.specs.Name.{name_fault}
 use Rattle.afp_volume.specs.SoundVolume.{is_formed as is_formed_row, is_named}
 
 -- no rule holds
-pub record IsFree (t : Tables) (x : Row) : Type 0 where
+pub record IsFree (t : Tables) (x : TableRow) : Type 0 where
   pub placed : lacks_parent t x ≡ false
   pub lone : is_twin t x ≡ false
   pub inside : is_outside t x ≡ false
   pub few : passes_limit t x ≡ false
 
-free_of : (t : Tables) (x : Row) (a b c d : Bool) → lacks_parent t x ≡ a → is_twin t x ≡ b → is_outside t x ≡ c → passes_limit t x ≡ d
+free_of : (t : Tables) (x : TableRow) (a b c d : Bool) → lacks_parent t x ≡ a → is_twin t x ≡ b → is_outside t x ≡ c → passes_limit t x ≡ d
     → is_none (first_of a Parent (first_of b Twin (first_of c Range (first_of d Limit None)))) ≡ true → IsFree t x
 free_of t x true b c d i j k l e = absurd (cc)
 free_of t x false true c d i j k l e = absurd (cc)
@@ -40,10 +40,10 @@ free_of t x false false true d i j k l e = absurd (cc)
 free_of t x false false false true i j k l e = absurd (cc)
 free_of t x false false false false i j k l e = record { placed = i; lone = j; inside = k; few = l }
 
-pub is_free : (t : Tables) (x : Row) → is_clear t x ≡ true → IsFree t x
+pub is_free : (t : Tables) (x : TableRow) → is_clear t x ≡ true → IsFree t x
 is_free t x e = free_of t x (lacks_parent t x) (is_twin t x) (is_outside t x) (passes_limit t x) refl refl refl refl e
 
-pub free_clear : (t : Tables) (x : Row) → IsFree t x → is_clear t x ≡ true
+pub free_clear : (t : Tables) (x : TableRow) → IsFree t x → is_clear t x ≡ true
 free_clear t x f =
     ap (λ a. is_none (first_of a Parent (first_of (is_twin t x) Twin (first_of (is_outside t x) Range (first_of (passes_limit t x) Limit None))))) f.placed
     ∙ ap (λ b. is_none (first_of b Twin (first_of (is_outside t x) Range (first_of (passes_limit t x) Limit None)))) f.lone
@@ -51,7 +51,7 @@ free_clear t x f =
     ∙ ap (λ d. is_none (first_of d Limit None)) f.few
 
 -- a test of all rows, kind by kind
-pub record EachKind (p : Row → Bool) (t : Tables) : Type 0 where
+pub record EachKind (p : TableRow → Bool) (t : Tables) : Type 0 where
   pub head : p (row.Head t.head) ≡ true
   pub nodes : list_all (λ x. p (row.Node x)) t.nodes ≡ true
   pub blocks : list_all (λ x. p (row.Block x)) t.blocks ≡ true
@@ -59,13 +59,13 @@ pub record EachKind (p : Row → Bool) (t : Tables) : Type 0 where
   pub icons : list_all (λ x. p (row.Icon x)) t.icons ≡ true
   pub appls : list_all (λ x. p (row.Appl x)) t.appls ≡ true
 
-pub each_kind : (p : Row → Bool) (t : Tables) → list_all p (rows_of t) ≡ true → EachKind p t
+pub each_kind : (p : TableRow → Bool) (t : Tables) → list_all p (rows_of t) ≡ true → EachKind p t
 each_kind p t e =
-    let appls : List Row = map (λ x. row.Appl x) t.appls in
-    let icons : List Row = map (λ x. row.Icon x) t.icons in
-    let comments : List Row = map (λ x. row.Comment x) t.comments in
-    let blocks : List Row = map (λ x. row.Block x) t.blocks in
-    let nodes : List Row = map (λ x. row.Node x) t.nodes in
+    let appls : List TableRow = map (λ x. row.Appl x) t.appls in
+    let icons : List TableRow = map (λ x. row.Icon x) t.icons in
+    let comments : List TableRow = map (λ x. row.Comment x) t.comments in
+    let blocks : List TableRow = map (λ x. row.Block x) t.blocks in
+    let nodes : List TableRow = map (λ x. row.Node x) t.nodes in
     let one = all-ends p nodes (blocks ++ (comments ++ (icons ++ appls))) (right_true (p (row.Head t.head)) (list_all p (nodes ++ (blocks ++ (comments ++ (icons ++ appls))))) e) in
     let two = all-ends p blocks (comments ++ (icons ++ appls)) one.1 in
     let three = all-ends p comments (icons ++ appls) two.1 in
@@ -79,13 +79,13 @@ each_kind p t e =
       appls = sym (all-map p (λ x. row.Appl x) t.appls) ∙ four.1;
     }
 
-pub all_kinds : (p : Row → Bool) (t : Tables) → EachKind p t → list_all p (rows_of t) ≡ true
+pub all_kinds : (p : TableRow → Bool) (t : Tables) → EachKind p t → list_all p (rows_of t) ≡ true
 all_kinds p t k =
-    let appls : List Row = map (λ x. row.Appl x) t.appls in
-    let icons : List Row = map (λ x. row.Icon x) t.icons in
-    let comments : List Row = map (λ x. row.Comment x) t.comments in
-    let blocks : List Row = map (λ x. row.Block x) t.blocks in
-    let nodes : List Row = map (λ x. row.Node x) t.nodes in
+    let appls : List TableRow = map (λ x. row.Appl x) t.appls in
+    let icons : List TableRow = map (λ x. row.Icon x) t.icons in
+    let comments : List TableRow = map (λ x. row.Comment x) t.comments in
+    let blocks : List TableRow = map (λ x. row.Block x) t.blocks in
+    let nodes : List TableRow = map (λ x. row.Node x) t.nodes in
     both_true (p (row.Head t.head)) (list_all p (nodes ++ (blocks ++ (comments ++ (icons ++ appls))))) k.head
     (all-append p nodes (blocks ++ (comments ++ (icons ++ appls))) (all-map p (λ x. row.Node x) t.nodes ∙ k.nodes)
     (all-append p blocks (comments ++ (icons ++ appls)) (all-map p (λ x. row.Block x) t.blocks ∙ k.blocks)
@@ -114,12 +114,12 @@ fit_appl a f =
 -- what stands behind the head, where its rows are formed and rise
 pub order_behind : (name : List ℕ) (t : Tables) → Rises (map record_of (behind_head t)) → list_all (is_formed name) (behind_head t) ≡ true → InOrder t
 order_behind name t rises e =
-    let p : Row → Bool = is_formed name in
-    let appls : List Row = map (λ x. row.Appl x) t.appls in
-    let icons : List Row = map (λ x. row.Icon x) t.icons in
-    let comments : List Row = map (λ x. row.Comment x) t.comments in
-    let blocks : List Row = map (λ x. row.Block x) t.blocks in
-    let nodes : List Row = map (λ x. row.Node x) t.nodes in
+    let p : TableRow → Bool = is_formed name in
+    let appls : List TableRow = map (λ x. row.Appl x) t.appls in
+    let icons : List TableRow = map (λ x. row.Icon x) t.icons in
+    let comments : List TableRow = map (λ x. row.Comment x) t.comments in
+    let blocks : List TableRow = map (λ x. row.Block x) t.blocks in
+    let nodes : List TableRow = map (λ x. row.Node x) t.nodes in
     let one = rows_ends nodes (blocks ++ (comments ++ (icons ++ appls))) rises in
     let two = rows_ends blocks (comments ++ (icons ++ appls)) one.1 in
     let three = rows_ends comments (icons ++ appls) two.1 in

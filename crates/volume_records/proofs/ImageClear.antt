@@ -13,8 +13,8 @@ use Rattle.afp_volume.specs.SoundVolume.{is_formed as is_formed_row}
 use Rattle.afp_volume.specs.TypedVolume.{is_word, is_long, is_date, are_bytes, is_typed_row, is_typed_comment, is_typed_icon, is_typed_appl, is_typed_volume}
 use Rattle.volume_records.specs.declared.rows.Node.{Node}
 use Rattle.volume_records.specs.declared.rows.ForkBlock.{ForkBlock}
-use Rattle.volume_records.specs.declared.rows.Row.{Row}
-use Rattle.volume_records.specs.declared.rows.Row.TheVariants as row
+use Rattle.volume_records.specs.declared.rows.TableRow.{TableRow}
+use Rattle.volume_records.specs.declared.rows.TableRow.TheVariants as row
 use Rattle.volume_records.specs.Shape.{is_formed, is_formed_node, is_formed_block}
 use Rattle.volume_records.specs.Image.{Tables, rows_of, tables_of, node_of, block_of, fork_blocks}
 use Rattle.volume_records.specs.FirstBad.{fork_length, is_outside, most_records}
@@ -222,11 +222,11 @@ image_few law v sound =
     let comments = no_more (λ (c : Comment). c.node) (λ (r : VolumeRow). r.id) v.rows v.comments s.ids s.comment_order s.commented in
     let blocks = length-flat fork_blocks (λ (r : VolumeRow). length r.data_fork + length r.resource_fork) (few_of_row law) v.rows in
     let t : Tables = tables_of v in
-    let a_rows : List Row = map (λ x. row.Appl x) v.appls in
-    let i_rows : List Row = map (λ x. row.Icon x) v.icons in
-    let c_rows : List Row = map (λ x. row.Comment x) v.comments in
-    let b_rows : List Row = map (λ x. row.Block x) (flat_map fork_blocks v.rows) in
-    let n_rows : List Row = map (λ x. row.Node x) (map node_of v.rows) in
+    let a_rows : List TableRow = map (λ x. row.Appl x) v.appls in
+    let i_rows : List TableRow = map (λ x. row.Icon x) v.icons in
+    let c_rows : List TableRow = map (λ x. row.Comment x) v.comments in
+    let b_rows : List TableRow = map (λ x. row.Block x) (flat_map fork_blocks v.rows) in
+    let n_rows : List TableRow = map (λ x. row.Node x) (map node_of v.rows) in
     let one = length-append n_rows (b_rows ++ (c_rows ++ (i_rows ++ a_rows))) in
     let two = length-append b_rows (c_rows ++ (i_rows ++ a_rows)) in
     let three = length-append c_rows (i_rows ++ a_rows) in

@@ -10,8 +10,8 @@ use Rattle.afp_volume.specs.VolumeState.{Row as VolumeRow}
 use Rattle.afp_volume.specs.SoundVolume.{IsSoundVolume, is_in_place, leads_to_root, has_node, has_file, most_fork_bytes, last_next_id, code_size}
 use Rattle.afp_volume.specs.TypedVolume.{is_long}
 use Rattle.volume_records.specs.declared.rows.Node.{Node}
-use Rattle.volume_records.specs.declared.rows.Row.{Row}
-use Rattle.volume_records.specs.declared.rows.Row.TheVariants as row
+use Rattle.volume_records.specs.declared.rows.TableRow.{TableRow}
+use Rattle.volume_records.specs.declared.rows.TableRow.TheVariants as row
 use Rattle.volume_records.specs.Records.{record_of}
 use Rattle.volume_records.specs.Image.{Tables, image, rows_of, tables_of, node_of, block_of, fork_blocks}
 use Rattle.volume_records.specs.KeyOrder.{Rises}
@@ -26,21 +26,21 @@ use Rattle.volume_records.proofs.ImageBlocks.{all_chain, all-pass}
 
 -- ---- rows of several kinds
 
-tags_at_most : {A : Type 0} (make : A → Row) (k : ℕ) → ((a : A) → nat_le (tag_of (make a)) k ≡ true) → (xs : List A) → list_all (λ x. nat_le (tag_of x) k) (map make xs) ≡ true
+tags_at_most : {A : Type 0} (make : A → TableRow) (k : ℕ) → ((a : A) → nat_le (tag_of (make a)) k ≡ true) → (xs : List A) → list_all (λ x. nat_le (tag_of x) k) (map make xs) ≡ true
 tags_at_most make k h xs = all-map (λ x. nat_le (tag_of x) k) make xs ∙ all-pass (λ a. nat_le (tag_of (make a)) k) h xs
 
-tags_over : {A : Type 0} (make : A → Row) (k : ℕ) → ((a : A) → nat_lt k (tag_of (make a)) ≡ true) → (xs : List A) → list_all (λ x. nat_lt k (tag_of x)) (map make xs) ≡ true
+tags_over : {A : Type 0} (make : A → TableRow) (k : ℕ) → ((a : A) → nat_lt k (tag_of (make a)) ≡ true) → (xs : List A) → list_all (λ x. nat_lt k (tag_of x)) (map make xs) ≡ true
 tags_over make k h xs = all-map (λ x. nat_lt k (tag_of x)) make xs ∙ all-pass (λ a. nat_lt k (tag_of (make a))) h xs
 
 pub rows_rise : (t : Tables) → Rises (map record_of (map (λ x. row.Node x) t.nodes)) → Rises (map record_of (map (λ x. row.Block x) t.blocks)) → Rises (map record_of (map (λ x. row.Comment x) t.comments))
     → Rises (map record_of (map (λ x. row.Icon x) t.icons)) → Rises (map record_of (map (λ x. row.Appl x) t.appls)) → Rises (map record_of (rows_of t))
 rows_rise t n b c i a =
-    let appls : List Row = map (λ x. row.Appl x) t.appls in
-    let icons : List Row = map (λ x. row.Icon x) t.icons in
-    let comments : List Row = map (λ x. row.Comment x) t.comments in
-    let blocks : List Row = map (λ x. row.Block x) t.blocks in
-    let nodes : List Row = map (λ x. row.Node x) t.nodes in
-    let over : (k : ℕ) (xs ys : List Row) → list_all (λ x. nat_lt k (tag_of x)) xs ≡ true → list_all (λ x. nat_lt k (tag_of x)) ys ≡ true → list_all (λ x. nat_lt k (tag_of x)) (xs ++ ys) ≡ true = λ k xs ys p q. all-append (λ x. nat_lt k (tag_of x)) xs ys p q in
+    let appls : List TableRow = map (λ x. row.Appl x) t.appls in
+    let icons : List TableRow = map (λ x. row.Icon x) t.icons in
+    let comments : List TableRow = map (λ x. row.Comment x) t.comments in
+    let blocks : List TableRow = map (λ x. row.Block x) t.blocks in
+    let nodes : List TableRow = map (λ x. row.Node x) t.nodes in
+    let over : (k : ℕ) (xs ys : List TableRow) → list_all (λ x. nat_lt k (tag_of x)) xs ≡ true → list_all (λ x. nat_lt k (tag_of x)) ys ≡ true → list_all (λ x. nat_lt k (tag_of x)) (xs ++ ys) ≡ true = λ k xs ys p q. all-append (λ x. nat_lt k (tag_of x)) xs ys p q in
     let four = rows_both 4 icons appls (tags_at_most (λ x. row.Icon x) 4 (λ x. refl) t.icons) (tags_over (λ x. row.Appl x) 4 (λ x. refl) t.appls) i a in
     let three = rows_both 3 comments (icons ++ appls) (tags_at_most (λ x. row.Comment x) 3 (λ x. refl) t.comments) (over 3 icons appls (tags_over (λ x. row.Icon x) 3 (λ x. refl) t.icons) (tags_over (λ x. row.Appl x) 3 (λ x. refl) t.appls)) c four in
     let two = rows_both 2 blocks (comments ++ (icons ++ appls)) (tags_at_most (λ x. row.Block x) 2 (λ x. refl) t.blocks)

@@ -9,7 +9,7 @@ use Rattle.afp_volume.specs.SoundVolume.{is_in_place, are_named_alike, has_node,
 use Rattle.afp_volume.specs.SoundVolume.{is_formed as is_formed_row}
 use Rattle.afp_volume.specs.TypedVolume.{is_word, is_long, is_date, is_quad, are_bytes, is_typed_row}
 use Rattle.volume_records.specs.declared.rows.Node.{Node}
-use Rattle.volume_records.specs.declared.rows.Row.TheVariants as row
+use Rattle.volume_records.specs.declared.rows.TableRow.TheVariants as row
 use Rattle.volume_records.specs.Shape.{bare_row, is_formed_node, is_root_or_other}
 use Rattle.volume_records.specs.Image.{tables_of, node_of}
 use Rattle.volume_records.specs.FirstBad.{nodes_to, lacks_parent, is_outside, passes_limit}

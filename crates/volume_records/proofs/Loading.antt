@@ -8,7 +8,7 @@ use Rattle.std.proofs.Math.Seq.{drop-cons}
 use Rattle.afp_volume.specs.VolumeState.{VolumeState}
 use Rattle.record_keeper.specs.declared.record.Record.{Record}
 use Rattle.volume_records.specs.declared.rows.Reason.TheVariants.{Limit}
-use Rattle.volume_records.specs.declared.rows.Row.{Row}
+use Rattle.volume_records.specs.declared.rows.TableRow.{TableRow}
 use Rattle.volume_records.specs.Records.{record_of}
 use Rattle.volume_records.specs.Shape.{row_in}
 use Rattle.volume_records.specs.Image.{Tables, rows_of, tables_in}
@@ -46,7 +46,7 @@ with_length k (r ∷ rs) = let rest = with_length k rs in
 pub counted_length : (records : List Record) → length (counted records) ≤ length records + 2
 counted_length records = omega (arith, with_length head_key (with_key root_key records), with_length root_key records)
 
-pub loaded_good : ForkLaw → (name : List ℕ) (records : List Record) (rows : List Row) → Rises records → (records ≡ [] → ⊥) → length records ≤ 480000 → first_bad name (counted records) ≡ None → rows ≡ rows_in name (counted records)
+pub loaded_good : ForkLaw → (name : List ℕ) (records : List Record) (rows : List TableRow) → Rises records → (records ≡ [] → ⊥) → length records ≤ 480000 → first_bad name (counted records) ≡ None → rows ≡ rows_in name (counted records)
     → (first_bad_record name records ≡ None) × (v : VolumeState) × IsVolumeOf name records rows v
 loaded_good law name records rows s n few good are =
     let t : Tables = tables_in (rows_in name (counted records)) in
@@ -63,5 +63,5 @@ loaded_good law name records rows s n few good are =
       },
     )
 
-pub said_counted : (name : List ℕ) (records : List Record) (list : List Row) (rows : List (Option Row)) → list ≡ said_rows rows → rows ≡ map (row_in name) (counted records) → list ≡ rows_in name (counted records)
+pub said_counted : (name : List ℕ) (records : List Record) (list : List TableRow) (rows : List (Option TableRow)) → list ≡ said_rows rows → rows ≡ map (row_in name) (counted records) → list ≡ rows_in name (counted records)
 said_counted name records list rows e f = e ∙ ap said_rows f ∙ said_all name (counted records)

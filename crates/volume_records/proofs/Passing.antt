@@ -18,8 +18,8 @@ use Rattle.record_keeper.specs.declared.record.Record.{Record}
 use Rattle.volume_records.specs.declared.rows.Node.{Node}
 use Rattle.volume_records.specs.declared.rows.Reason.{Reason}
 use Rattle.volume_records.specs.declared.rows.Reason.TheVariants.{Parent, Twin, Range, Limit}
-use Rattle.volume_records.specs.declared.rows.Row.{Row}
-use Rattle.volume_records.specs.declared.rows.Row.TheVariants as row
+use Rattle.volume_records.specs.declared.rows.TableRow.{TableRow}
+use Rattle.volume_records.specs.declared.rows.TableRow.TheVariants as row
 use Rattle.volume_records.specs.declared.tree.Place.{Place}
 use Rattle.volume_records.specs.Records.{record_of}
 use Rattle.volume_records.specs.Shape.{row_in, bare_row, is_formed}
@@ -37,7 +37,7 @@ use Rattle.volume_records.proofs.Facts.{InOrder, order_behind, short_block, node
 use Rattle.volume_records.proofs.VolumeSound.{length-map}
 
 -- what stands before, of some rows
-abbrev pub before_of : List Row → Before
+abbrev pub before_of : List TableRow → Before
 before_of rows = record { nodes = filter_map as_node rows; icons = length (filter_map as_icon rows); appls = length (filter_map as_appl rows) }
 
 -- ---- rows that are there
@@ -55,7 +55,7 @@ pub said_none : [] ≡ said_rows []
 unfolding said_rows
 said_none = refl
 
-pub said_push : (rows : List (Option Row)) (o : Option Row) → said_rows (rows ++ o ∷ []) ≡ said_rows rows ++ cons_option o []
+pub said_push : (rows : List (Option TableRow)) (o : Option TableRow) → said_rows (rows ++ o ∷ []) ≡ said_rows rows ++ cons_option o []
 unfolding said_rows
 said_push rows o = of_both (λ o. o) rows (o ∷ [])
 
@@ -64,12 +64,12 @@ unfolding said_rows
 said_all name [] = refl
 said_all name (r ∷ records) = unfold said_rows in ap (cons_option (row_in name r)) (said_all name records)
 
-pub pushed_places : (rows : List (Option Row)) (i : ℕ) (o : Option Row) → i < length rows → o ≡ get_or rows i o → places_in (take (i + 1) rows) ≡ places_in (take i rows) ++ map place_of (cons_option (said_node o) [])
+pub pushed_places : (rows : List (Option TableRow)) (i : ℕ) (o : Option TableRow) → i < length rows → o ≡ get_or rows i o → places_in (take (i + 1) rows) ≡ places_in (take i rows) ++ map place_of (cons_option (said_node o) [])
 pushed_places rows i o h e =
-    ap places_in (take_more rows i o h ∙ ap (λ (x : Option Row). take i rows ++ x ∷ []) (sym e))
+    ap places_in (take_more rows i o h ∙ ap (λ (x : Option TableRow). take i rows ++ x ∷ []) (sym e))
     ∙ ap (map place_of) (of_both said_node (take i rows) (o ∷ [])) ∙ map-append place_of (filter_map said_node (take i rows)) (cons_option (said_node o) [])
 
-said_as : (x : Row) → said_node (Some x) ≡ as_node x
+said_as : (x : TableRow) → said_node (Some x) ≡ as_node x
 said_as (row.Head h) = refl
 said_as (row.Node n) = refl
 said_as (row.Block b) = refl
@@ -77,7 +77,7 @@ said_as (row.Comment c) = refl
 said_as (row.Icon i) = refl
 said_as (row.Appl a) = refl
 
-one_said : (o : Option Row) (ns : List Node) (xs : List Row) → ns ≡ filter_map as_node xs → cons_option (said_node o) ns ≡ filter_map as_node (cons_option o xs)
+one_said : (o : Option TableRow) (ns : List Node) (xs : List TableRow) → ns ≡ filter_map as_node xs → cons_option (said_node o) ns ≡ filter_map as_node (cons_option o xs)
 one_said None ns xs e = e
 one_said (Some x) ns xs e = λ i. cons_option (said_as x i) (e i)
 
@@ -85,7 +85,7 @@ nodes_said : (name : List ℕ) (records : List Record) → filter_map said_node 
 nodes_said name [] = refl
 nodes_said name (r ∷ records) = one_said (row_in name r) (filter_map said_node (map (row_in name) records)) (rows_in name records) (nodes_said name records)
 
-one_next : (o : Option Row) (next : ℕ) (xs : List Row) → next ≡ (first_head (filter_map as_head xs)).next_id → next_or o next ≡ (first_head (filter_map as_head (cons_option o xs))).next_id
+one_next : (o : Option TableRow) (next : ℕ) (xs : List TableRow) → next ≡ (first_head (filter_map as_head xs)).next_id → next_or o next ≡ (first_head (filter_map as_head (cons_option o xs))).next_id
 one_next None next xs e = e
 one_next (Some (row.Head h)) next xs e = refl
 one_next (Some (row.Node n)) next xs e = e
@@ -100,7 +100,7 @@ next_said name (r ∷ records) = one_next (row_in name r) (next_in (map (row_in 
 
 -- ---- what was read stands in order
 
-below_read : (k : List ℕ) (name : List ℕ) (o : Option Row) (r : Record) (xs : List Row) → ((x : Row) → o ≡ Some x → record_of x ≡ r) → slice_cmp nat_cmp k r.key ≡ Less → IsBelow k (map record_of xs) → IsBelow k (map record_of (cons_option o xs))
+below_read : (k : List ℕ) (name : List ℕ) (o : Option TableRow) (r : Record) (xs : List TableRow) → ((x : TableRow) → o ≡ Some x → record_of x ≡ r) → slice_cmp nat_cmp k r.key ≡ Less → IsBelow k (map record_of xs) → IsBelow k (map record_of (cons_option o xs))
 below_read k name None r xs is e b = b
 below_read k name (Some x) r xs is e b = (ap (λ (q : Record). slice_cmp nat_cmp k q.key) (is x refl) ∙ e, b)
 
@@ -108,7 +108,7 @@ below_rows : (k : List ℕ) (name : List ℕ) (records : List Record) → IsBelo
 below_rows k name [] b = tt
 below_rows k name (r ∷ records) b = below_read k name (row_in name r) r (rows_in name records) (λ x e. (row_is name r x e).1) b.0 (below_rows k name records b.1)
 
-rises_read : (name : List ℕ) (o : Option Row) (r : Record) (xs : List Row) → ((x : Row) → o ≡ Some x → record_of x ≡ r) → IsBelow r.key (map record_of xs) → Rises (map record_of xs) → Rises (map record_of (cons_option o xs))
+rises_read : (name : List ℕ) (o : Option TableRow) (r : Record) (xs : List TableRow) → ((x : TableRow) → o ≡ Some x → record_of x ≡ r) → IsBelow r.key (map record_of xs) → Rises (map record_of xs) → Rises (map record_of (cons_option o xs))
 rises_read name None r xs is b s = s
 rises_read name (Some x) r xs is b s = (subst (λ (q : Record). IsBelow q.key (map record_of xs)) (sym (is x refl)) b, s)
 
@@ -116,7 +116,7 @@ rows_rise : (name : List ℕ) (records : List Record) → Rises records → Rise
 rows_rise name [] s = tt
 rows_rise name (r ∷ records) s = rises_read name (row_in name r) r (rows_in name records) (λ x e. (row_is name r x e).1) (below_rows r.key name records s.0) (rows_rise name records s.1)
 
-formed_read : (name : List ℕ) (o : Option Row) (xs : List Row) → ((x : Row) → o ≡ Some x → is_formed name x ≡ true) → list_all (is_formed name) xs ≡ true → list_all (is_formed name) (cons_option o xs) ≡ true
+formed_read : (name : List ℕ) (o : Option TableRow) (xs : List TableRow) → ((x : TableRow) → o ≡ Some x → is_formed name x ≡ true) → list_all (is_formed name) xs ≡ true → list_all (is_formed name) (cons_option o xs) ≡ true
 formed_read name None xs is e = e
 formed_read name (Some x) xs is e = both_true (is_formed name x) (list_all (is_formed name) xs) (is x refl) e
 
@@ -126,10 +126,10 @@ rows_formed name (r ∷ records) = formed_read name (row_in name r) (rows_in nam
 
 order_read : (name : List ℕ) (records : List Record) → Rises records → InOrder (tables_in (rows_in name records))
 order_read name records s =
-    let rows : List Row = rows_in name records in
+    let rows : List TableRow = rows_in name records in
     let whole = by_kind (rows_in name records) (rows_rise name records s) in
-    let heads : List Row = map (λ h. row.Head h) (filter_map as_head (rows_in name records)) in
-    let rest = (rows_ends heads (behind_head (tables_in (rows_in name records))) (subst (λ (l : List Row). Rises (map record_of l)) (sym whole) (rows_rise name records s))).1 in
+    let heads : List TableRow = map (λ h. row.Head h) (filter_map as_head (rows_in name records)) in
+    let rest = (rows_ends heads (behind_head (tables_in (rows_in name records))) (subst (λ (l : List TableRow). Rises (map record_of l)) (sym whole) (rows_rise name records s))).1 in
     let formed = (all-ends (is_formed name) heads (behind_head (tables_in (rows_in name records))) (ap (list_all (is_formed name)) whole ∙ rows_formed name records)).1 in
     order_behind name (tables_in (rows_in name records)) rest formed
 
@@ -161,7 +161,7 @@ leads_same ns (suc k) id = ap (λ b. (id == root_id) || b)
 climbs_same : (ns : List Node) (id : ℕ) → leads_to_root (map bare_row ns) (length (map bare_row ns)) id ≡ climbs_to_root (map place_of ns) (length (map place_of ns)) id
 climbs_same ns id = ap (λ k. leads_to_root (map bare_row ns) k id) (length-map bare_row ns ∙ sym (length-map place_of ns)) ∙ leads_same ns (length (map place_of ns)) id
 
-stray_same : (t : Tables) (x : Row) → lacks_parent t x ≡ is_stray_here (map place_of t.nodes) x
+stray_same : (t : Tables) (x : TableRow) → lacks_parent t x ≡ is_stray_here (map place_of t.nodes) x
 stray_same t (row.Head h) = refl
 stray_same t (row.Node n) = λ i. not (n.id == root_id) && not (there_same t.nodes root_id i && climbs_same t.nodes n.parent i)
 stray_same t (row.Block b) = ap not (file_same t.nodes b.node)
@@ -173,7 +173,7 @@ length_same : (r : Bool) (n : Node) → fork_length r n ≡ length_of r (place_o
 length_same true n = refl
 length_same false n = refl
 
-outside_same : (t : Tables) (x : Row) → is_outside t x ≡ is_outside_here (map place_of t.nodes) t.head.next_id x
+outside_same : (t : Tables) (x : TableRow) → is_outside t x ≡ is_outside_here (map place_of t.nodes) t.head.next_id x
 outside_same t (row.Head h) = refl
 outside_same t (row.Node n) = refl
 outside_same t (row.Block b) =
@@ -250,10 +250,10 @@ appls_up_to : (xs : List Appl) (n : Appl) (ys : List Appl) → Chain appl_before
 appls_up_to = up_to appl_before (λ o m. not (stands_before (appl_key m) (appl_key o))) (λ a b e. key_not_above (appl_key a) (appl_key b) e) (λ a. ap not (before_itself (appl_key a))) (λ a b e. ap not e)
 
 -- the reason among all rows is the reason by what stands before
-same_reason : (t : Tables) (xs ys : List Row) (x : Row) → t ≡ tables_in (xs ++ x ∷ ys) → InOrder t → reason_of t (Some x) ≡ reason_here (map place_of t.nodes) t.head.next_id (before_of xs) (Some x)
+same_reason : (t : Tables) (xs ys : List TableRow) (x : TableRow) → t ≡ tables_in (xs ++ x ∷ ys) → InOrder t → reason_of t (Some x) ≡ reason_here (map place_of t.nodes) t.head.next_id (before_of xs) (Some x)
 same_reason t xs ys x e order = λ i. first_of (stray_same t x i) Parent (first_of (twin x e i) Twin (first_of (outside_same t x i) Range (first_of (over x e i) Limit None)))
   where
-    twin : (x : Row) → t ≡ tables_in (xs ++ x ∷ ys) → is_twin t x ≡ is_twin_here (before_of xs) x
+    twin : (x : TableRow) → t ≡ tables_in (xs ++ x ∷ ys) → is_twin t x ≡ is_twin_here (before_of xs) x
     twin (row.Node n) e =
         let split : t.nodes ≡ filter_map as_node xs ++ n ∷ filter_map as_node ys = ap (λ (u : Tables). u.nodes) e ∙ of_both as_node xs (row.Node n ∷ ys) in
         ap (list_any (λ (o : Node). nat_lt o.id n.id && are_named_alike (bare_row o) (bare_row n))) split
@@ -265,7 +265,7 @@ same_reason t xs ys x e order = λ i. first_of (stray_same t x i) Parent (first_
     twin (row.Icon j) e = refl
     twin (row.Appl a) e = refl
 
-    over : (x : Row) → t ≡ tables_in (xs ++ x ∷ ys) → passes_limit t x ≡ is_over_here (before_of xs) x
+    over : (x : TableRow) → t ≡ tables_in (xs ++ x ∷ ys) → passes_limit t x ≡ is_over_here (before_of xs) x
     over (row.Node n) e =
         let split : t.nodes ≡ filter_map as_node xs ++ n ∷ filter_map as_node ys = ap (λ (u : Tables). u.nodes) e ∙ of_both as_node xs (row.Node n ∷ ys) in
         let to : nodes_to n t ≡ filter_map as_node xs ++ n ∷ [] = ap (filter (λ (o : Node). nat_le o.id n.id)) split ∙ nodes_up_to (filter_map as_node xs) n (filter_map as_node ys) (subst (Chain (λ (a : Node) b. nat_lt a.id b.id)) split order.nodes) in
@@ -290,14 +290,14 @@ same_reason t xs ys x e order = λ i. first_of (stray_same t x i) Parent (first_
 around : (records : List Record) (i : ℕ) (r : Record) → i < length records → r ≡ get_or records i r → records ≡ take i records ++ r ∷ drop (suc i) records
 around records i r h e = sym (take-append-drop i records) ∙ ap (λ (x : List Record). take i records ++ x) (drop-cons records i r h ∙ ap (λ (x : Record). x ∷ drop (suc i) records) (sym e))
 
-pub row_read : (name : List ℕ) (records : List Record) (rows : List (Option Row)) → rows ≡ map (row_in name) records → (i : ℕ) (r : Record) (o : Option Row) → i < length records → r ≡ get_or records i r → o ≡ get_or rows i o → o ≡ row_in name r
-row_read name records rows parsed i r o h e f = f ∙ ap (λ (x : List (Option Row)). get_or x i o) parsed ∙ get_or-map (row_in name) records i r o h ∙ ap (row_in name) (sym e)
+pub row_read : (name : List ℕ) (records : List Record) (rows : List (Option TableRow)) → rows ≡ map (row_in name) records → (i : ℕ) (r : Record) (o : Option TableRow) → i < length records → r ≡ get_or records i r → o ≡ get_or rows i o → o ≡ row_in name r
+row_read name records rows parsed i r o h e f = f ∙ ap (λ (x : List (Option TableRow)). get_or x i o) parsed ∙ get_or-map (row_in name) records i r o h ∙ ap (row_in name) (sym e)
 
-pub places_sorted : (name : List ℕ) (records : List Record) (rows : List (Option Row)) → rows ≡ map (row_in name) records → Rises records → IsStrictlySortedBy nat_cmp (map id_of (places_in rows))
+pub places_sorted : (name : List ℕ) (records : List Record) (rows : List (Option TableRow)) → rows ≡ map (row_in name) records → Rises records → IsStrictlySortedBy nat_cmp (map id_of (places_in rows))
 places_sorted name records rows parsed s =
     subst (λ (ns : List Node). IsStrictlySortedBy nat_cmp (map id_of (map place_of ns))) (sym (ap (filter_map said_node) parsed ∙ nodes_said name records)) (ids_sorted (filter_map as_node (rows_in name records)) (order_read name records s).nodes)
 
-short_formed : (name : List ℕ) (o : Option Row) → ((x : Row) → o ≡ Some x → is_formed name x ≡ true) → is_short_row o ≡ true
+short_formed : (name : List ℕ) (o : Option TableRow) → ((x : TableRow) → o ≡ Some x → is_formed name x ≡ true) → is_short_row o ≡ true
 short_formed name None f = refl
 short_formed name (Some (row.Head h)) f = refl
 short_formed name (Some (row.Node n)) f = refl
@@ -306,10 +306,10 @@ short_formed name (Some (row.Comment c)) f = refl
 short_formed name (Some (row.Icon i)) f = refl
 short_formed name (Some (row.Appl a)) f = refl
 
-pub short_read : (name : List ℕ) (r : Record) (o : Option Row) → o ≡ row_in name r → is_short_row o ≡ true
+pub short_read : (name : List ℕ) (r : Record) (o : Option TableRow) → o ≡ row_in name r → is_short_row o ≡ true
 short_read name r o e = short_formed name o (λ x h. (row_is name r x (sym e ∙ h)).0)
 
-named_formed : (name : List ℕ) (o : Option Row) → ((x : Row) → o ≡ Some x → is_formed name x ≡ true) → IsNamedRow o
+named_formed : (name : List ℕ) (o : Option TableRow) → ((x : TableRow) → o ≡ Some x → is_formed name x ≡ true) → IsNamedRow o
 named_formed name None f = tt
 named_formed name (Some (row.Head h)) f = tt
 named_formed name (Some (row.Node n)) f = node_name name n (f (row.Node n) refl)
@@ -318,13 +318,13 @@ named_formed name (Some (row.Comment c)) f = tt
 named_formed name (Some (row.Icon i)) f = tt
 named_formed name (Some (row.Appl a)) f = tt
 
-pub named_read : (name : List ℕ) (r : Record) (o : Option Row) → o ≡ row_in name r → IsNamedRow o
+pub named_read : (name : List ℕ) (r : Record) (o : Option TableRow) → o ≡ row_in name r → IsNamedRow o
 named_read name r o e = named_formed name o (λ x h. (row_is name r x (sym e ∙ h)).0)
 
-pub rows_length : (name : List ℕ) (records : List Record) (rows : List (Option Row)) → rows ≡ map (row_in name) records → length rows ≡ length records
+pub rows_length : (name : List ℕ) (records : List Record) (rows : List (Option TableRow)) → rows ≡ map (row_in name) records → length rows ≡ length records
 rows_length name records rows parsed = ap length parsed ∙ length-map (row_in name) records
 
-one_more : (xs : List Row) (o : Option Row) → and_row (before_of xs) o ≡ before_of (xs ++ cons_option o [])
+one_more : (xs : List TableRow) (o : Option TableRow) → and_row (before_of xs) o ≡ before_of (xs ++ cons_option o [])
 one_more xs None = ap before_of (sym (nil_behind xs))
 one_more xs (Some (row.Head h)) = λ i. record { nodes = sym (of_both as_node xs (row.Head h ∷ []) ∙ nil_behind (filter_map as_node xs)) i; icons = length (sym (of_both as_icon xs (row.Head h ∷ []) ∙ nil_behind (filter_map as_icon xs)) i); appls = length (sym (of_both as_appl xs (row.Head h ∷ []) ∙ nil_behind (filter_map as_appl xs)) i) }
 one_more xs (Some (row.Node n)) = λ i. record { nodes = sym (of_both as_node xs (row.Node n ∷ [])) i; icons = length (sym (of_both as_icon xs (row.Node n ∷ []) ∙ nil_behind (filter_map as_icon xs)) i); appls = length (sym (of_both as_appl xs (row.Node n ∷ []) ∙ nil_behind (filter_map as_appl xs)) i) }
@@ -333,22 +333,22 @@ one_more xs (Some (row.Comment h)) = λ i. record { nodes = sym (of_both as_node
 one_more xs (Some (row.Icon n)) = λ i. record { nodes = sym (of_both as_node xs (row.Icon n ∷ []) ∙ nil_behind (filter_map as_node xs)) i; icons = sym (ap length (of_both as_icon xs (row.Icon n ∷ [])) ∙ pushed_length (filter_map as_icon xs) n) i; appls = length (sym (of_both as_appl xs (row.Icon n ∷ []) ∙ nil_behind (filter_map as_appl xs)) i) }
 one_more xs (Some (row.Appl n)) = λ i. record { nodes = sym (of_both as_node xs (row.Appl n ∷ []) ∙ nil_behind (filter_map as_node xs)) i; icons = length (sym (of_both as_icon xs (row.Appl n ∷ []) ∙ nil_behind (filter_map as_icon xs)) i); appls = sym (ap length (of_both as_appl xs (row.Appl n ∷ [])) ∙ pushed_length (filter_map as_appl xs) n) i }
 
-pub pushed_before : (name : List ℕ) (records : List Record) (i : ℕ) (r : Record) (o : Option Row) → i < length records → r ≡ get_or records i r → o ≡ row_in name r → before_of (rows_in name (take (i + 1) records)) ≡ and_row (before_of (rows_in name (take i records))) o
+pub pushed_before : (name : List ℕ) (records : List Record) (i : ℕ) (r : Record) (o : Option TableRow) → i < length records → r ≡ get_or records i r → o ≡ row_in name r → before_of (rows_in name (take (i + 1) records)) ≡ and_row (before_of (rows_in name (take i records))) o
 pushed_before name records i r o h e f =
     ap (λ (x : List Record). before_of (rows_in name x)) (take_more records i r h ∙ ap (λ (x : Record). take i records ++ x ∷ []) (sym e))
     ∙ ap before_of (of_both (row_in name) (take i records) (r ∷ []))
-    ∙ ap (λ (p : Option Row). before_of (rows_in name (take i records) ++ cons_option p [])) (sym f)
+    ∙ ap (λ (p : Option TableRow). before_of (rows_in name (take i records) ++ cons_option p [])) (sym f)
     ∙ sym (one_more (rows_in name (take i records)) o)
 
-reason_read : (name : List ℕ) (records : List Record) → Rises records → (xs : List Record) (r : Record) (ys : List Record) → records ≡ xs ++ r ∷ ys → (o : Option Row) → o ≡ row_in name r
+reason_read : (name : List ℕ) (records : List Record) → Rises records → (xs : List Record) (r : Record) (ys : List Record) → records ≡ xs ++ r ∷ ys → (o : Option TableRow) → o ≡ row_in name r
     → reason_of (tables_in (rows_in name records)) o ≡ reason_here (map place_of (tables_in (rows_in name records)).nodes) (tables_in (rows_in name records)).head.next_id (before_of (rows_in name xs)) o
 reason_read name records s xs r ys e None f = refl
 reason_read name records s xs r ys e (Some x) f =
     same_reason (tables_in (rows_in name records)) (rows_in name xs) (rows_in name ys) x
-    (ap (λ (l : List Record). tables_in (rows_in name l)) e ∙ ap tables_in (of_both (row_in name) xs (r ∷ ys) ∙ ap (λ (p : Option Row). rows_in name xs ++ cons_option p (rows_in name ys)) (sym f)))
+    (ap (λ (l : List Record). tables_in (rows_in name l)) e ∙ ap tables_in (of_both (row_in name) xs (r ∷ ys) ∙ ap (λ (p : Option TableRow). rows_in name xs ++ cons_option p (rows_in name ys)) (sym f)))
     (order_read name records s)
 
-pub one_judged : (name : List ℕ) (records : List Record) (rows : List (Option Row)) → rows ≡ map (row_in name) records → Rises records → (i : ℕ) (r : Record) (o : Option Row) (reason : Option Reason) → i < length records → r ≡ get_or records i r → o ≡ get_or rows i o
+pub one_judged : (name : List ℕ) (records : List Record) (rows : List (Option TableRow)) → rows ≡ map (row_in name) records → Rises records → (i : ℕ) (r : Record) (o : Option TableRow) (reason : Option Reason) → i < length records → r ≡ get_or records i r → o ≡ get_or rows i o
     → reason ≡ reason_here (places_in rows) (next_in rows) (before_of (rows_in name (take i records))) o
     → first_in name (tables_in (rows_in name records)) (drop i records) ≡ bad_or r.key reason (first_in name (tables_in (rows_in name records)) (drop (i + 1) records))
 one_judged name records rows parsed s i r o reason h e f why =
@@ -364,5 +364,5 @@ one_judged name records rows parsed s i r o reason h e f why =
     ∙ ap (λ n. bad_or r.key reason (first_in name (tables_in (rows_in name records)) (drop n records))) (let n : suc i ≡ i + 1 = omega arith in n)
 
 -- the same reason with equal places and next ids
-pub why_among : (reason : Option Reason) (places there : List Place) (next here : ℕ) (before : Before) (o : Option Row) → reason ≡ reason_here places next before o → places ≡ there → next ≡ here → reason ≡ reason_here there here before o
+pub why_among : (reason : Option Reason) (places there : List Place) (next here : ℕ) (before : Before) (o : Option TableRow) → reason ≡ reason_here places next before o → places ≡ there → next ≡ here → reason ≡ reason_here there here before o
 why_among reason places there next here before o w p n = w ∙ ap (λ (x : List Place). reason_here x next before o) p ∙ ap (λ x. reason_here there x before o) n

@@ -13,8 +13,8 @@ use Rattle.afp_volume.specs.TypedVolume.{is_long}
 use Rattle.afp_volume.specs.Order.{stands_before}
 use Rattle.volume_records.specs.declared.rows.Node.{Node}
 use Rattle.volume_records.specs.declared.rows.ForkBlock.{ForkBlock}
-use Rattle.volume_records.specs.declared.rows.Row.{Row}
-use Rattle.volume_records.specs.declared.rows.Row.TheVariants as row
+use Rattle.volume_records.specs.declared.rows.TableRow.{TableRow}
+use Rattle.volume_records.specs.declared.rows.TableRow.TheVariants as row
 use Rattle.volume_records.specs.Records.{record_of, node_record, block_record, comment_record, icon_record, appl_record, long_bytes, flag_byte}
 use Rattle.volume_records.specs.KeyOrder.{IsBelow, Rises}
 use Rattle.volume_records.proofs.TestParts.{left_true, right_true, both_true, or_left, or_right, lt_of, le_of, lt_true, same_of, same_true}
@@ -24,7 +24,7 @@ use Rattle.volume_records.proofs.RowKinds.{tag_of, key_rest, key_is}
 
 -- ---- any kind
 
-module _ {A : Type 0} (make : A → Row) (R : A → A → Bool) (p : A → Bool) where
+module _ {A : Type 0} (make : A → TableRow) (R : A → A → Bool) (p : A → Bool) where
   below_each : ((a b : A) → p a ≡ true → p b ≡ true → slice_cmp nat_cmp (record_of (make a)).key (record_of (make b)).key ≡ Less → R a b ≡ true)
       → (a : A) → p a ≡ true → (xs : List A) → list_all p xs ≡ true → IsBelow (record_of (make a)).key (map record_of (map make xs)) → list_all (R a) xs ≡ true
   below_each h a pa [] f b = refl
@@ -220,27 +220,27 @@ blocks_up = chain_up (λ n. row.Block n) block_before is_fit_block key_of_block
 
 -- ---- rows of several kinds
 
-below_front : (k : List ℕ) (xs ys : List Row) → IsBelow k (map record_of (xs ++ ys)) → IsBelow k (map record_of xs)
+below_front : (k : List ℕ) (xs ys : List TableRow) → IsBelow k (map record_of (xs ++ ys)) → IsBelow k (map record_of xs)
 below_front k [] ys b = tt
 below_front k (x ∷ xs) ys b = (b.0, below_front k xs ys b.1)
 
-pub rows_ends : (xs ys : List Row) → Rises (map record_of (xs ++ ys)) → Rises (map record_of xs) × Rises (map record_of ys)
+pub rows_ends : (xs ys : List TableRow) → Rises (map record_of (xs ++ ys)) → Rises (map record_of xs) × Rises (map record_of ys)
 rows_ends [] ys s = (tt, s)
 rows_ends (x ∷ xs) ys s = let rest = rows_ends xs ys s.1 in ((below_front (record_of x).key xs ys s.0, rest.0), rest.1)
 
-tags_less : (x y : Row) → tag_of x < tag_of y → slice_cmp nat_cmp (record_of x).key (record_of y).key ≡ Less
+tags_less : (x y : TableRow) → tag_of x < tag_of y → slice_cmp nat_cmp (record_of x).key (record_of y).key ≡ Less
 tags_less x y h = (λ i. slice_cmp nat_cmp (key_is x i) (key_is y i)) ∙ byte_less (tag_of x) (tag_of y) (key_rest x) (key_rest y) h
 
-below_later : (x : Row) (k : ℕ) (ys : List Row) → tag_of x ≤ k → list_all (λ y. nat_lt k (tag_of y)) ys ≡ true → IsBelow (record_of x).key (map record_of ys)
+below_later : (x : TableRow) (k : ℕ) (ys : List TableRow) → tag_of x ≤ k → list_all (λ y. nat_lt k (tag_of y)) ys ≡ true → IsBelow (record_of x).key (map record_of ys)
 below_later x k [] h e = tt
 below_later x k (y ∷ ys) h e = (tags_less x y (let l : k < tag_of y = lt_of _ _ (left_true _ _ e) in omega arith), below_later x k ys h (right_true _ _ e))
 
-below_both : (k : List ℕ) (xs ys : List Row) → IsBelow k (map record_of xs) → IsBelow k (map record_of ys) → IsBelow k (map record_of (xs ++ ys))
+below_both : (k : List ℕ) (xs ys : List TableRow) → IsBelow k (map record_of xs) → IsBelow k (map record_of ys) → IsBelow k (map record_of (xs ++ ys))
 below_both k [] ys b c = c
 below_both k (x ∷ xs) ys b c = (b.0, below_both k xs ys b.1 c)
 
 -- rows whose first bytes are at most a number, and behind them rows whose first bytes are above it
-pub rows_both : (k : ℕ) (xs ys : List Row) → list_all (λ x. nat_le (tag_of x) k) xs ≡ true → list_all (λ y. nat_lt k (tag_of y)) ys ≡ true → Rises (map record_of xs) → Rises (map record_of ys) → Rises (map record_of (xs ++ ys))
+pub rows_both : (k : ℕ) (xs ys : List TableRow) → list_all (λ x. nat_le (tag_of x) k) xs ≡ true → list_all (λ y. nat_lt k (tag_of y)) ys ≡ true → Rises (map record_of xs) → Rises (map record_of ys) → Rises (map record_of (xs ++ ys))
 rows_both k [] ys f g s r = r
 rows_both k (x ∷ xs) ys f g s r =
     (below_both (record_of x).key xs ys s.0 (below_later x k ys (le_of _ _ (left_true _ _ f)) g), rows_both k xs ys (right_true _ _ f) g s.1 r)

@@ -5,7 +5,7 @@ use Rattle.fork_bytes.specs.Blocks.{trimmed, before_zeros}
 use Rattle.afp_volume.specs.SoundVolume.{is_formed as is_formed_row, is_named}
 use Rattle.afp_volume.specs.TypedVolume.{is_byte, are_bytes, is_typed_row}
 use Rattle.record_keeper.specs.declared.record.Record.{Record}
-use Rattle.volume_records.specs.declared.rows.Row.TheVariants as row
+use Rattle.volume_records.specs.declared.rows.TableRow.TheVariants as row
 use Rattle.volume_records.specs.Records.{record_of}
 use Rattle.volume_records.specs.Shape.{row_in, guess, is_formed, is_formed_node, bare_row, has_fit_forks, is_root_or_other, head_in, node_in, block_in, comment_in, icon_in, appl_in, are_same}
 use Rattle.volume_records.proofs.TestParts.{both_true, lt_true, le_true, same_true, other_false, bytes_true}

@@ -2,25 +2,25 @@
 use Rattle.std.proofs.Common.{◌≡◌, ◌∙◌, List, [], ◌∷◌, ◌++◌, map, refl, ap, Option}
 use Rattle.std.specs.Prelude.{Some, None}
 use Rattle.std.specs.List.{filter_map, cons_option}
-use Rattle.volume_records.specs.declared.rows.Row.{Row}
-use Rattle.volume_records.specs.declared.rows.Row.TheVariants as row
+use Rattle.volume_records.specs.declared.rows.TableRow.{TableRow}
+use Rattle.volume_records.specs.declared.rows.TableRow.TheVariants as row
 use Rattle.volume_records.specs.Image.{Tables, rows_of, tables_in, as_node, as_block, as_comment, as_icon, as_appl}
 use Rattle.volume_records.proofs.RowKinds.{behind_head, nil_behind}
 
-module _ {A : Type 0} (as_one : Row → Option A) where
+module _ {A : Type 0} (as_one : TableRow → Option A) where
   first_and : (o : Option A) (xs ys : List A) → cons_option o (xs ++ ys) ≡ cons_option o xs ++ ys
   first_and None xs ys = refl
   first_and (Some x) xs ys = refl
 
-  of_both : (xs ys : List Row) → filter_map as_one (xs ++ ys) ≡ filter_map as_one xs ++ filter_map as_one ys
+  of_both : (xs ys : List TableRow) → filter_map as_one (xs ++ ys) ≡ filter_map as_one xs ++ filter_map as_one ys
   of_both [] ys = refl
   of_both (x ∷ xs) ys = ap (cons_option (as_one x)) (of_both xs ys) ∙ first_and (as_one x) (filter_map as_one xs) (filter_map as_one ys)
 
-  of_others : {B : Type 0} (make : B → Row) → ((b : B) → as_one (make b) ≡ None) → (bs : List B) → filter_map as_one (map make bs) ≡ []
+  of_others : {B : Type 0} (make : B → TableRow) → ((b : B) → as_one (make b) ≡ None) → (bs : List B) → filter_map as_one (map make bs) ≡ []
   of_others make other [] = refl
   of_others make other (b ∷ bs) = (λ i. cons_option (other b i) (of_others make other bs i))
 
-  of_these : (make : A → Row) → ((a : A) → as_one (make a) ≡ Some a) → (xs : List A) → filter_map as_one (map make xs) ≡ xs
+  of_these : (make : A → TableRow) → ((a : A) → as_one (make a) ≡ Some a) → (xs : List A) → filter_map as_one (map make xs) ≡ xs
   of_these make same [] = refl
   of_these make same (x ∷ xs) = (λ i. cons_option (same x i) (of_these make same xs i))
 
@@ -28,11 +28,11 @@ module _ {A : Type 0} (as_one : Row → Option A) where
       ≡ filter_map as_one (map (λ x. row.Node x) t.nodes) ++ (filter_map as_one (map (λ x. row.Block x) t.blocks) ++ (filter_map as_one (map (λ x. row.Comment x) t.comments)
       ++ (filter_map as_one (map (λ x. row.Icon x) t.icons) ++ filter_map as_one (map (λ x. row.Appl x) t.appls))))
   of_parts t =
-      let appls : List Row = map (λ x. row.Appl x) t.appls in
-      let icons : List Row = map (λ x. row.Icon x) t.icons in
-      let comments : List Row = map (λ x. row.Comment x) t.comments in
-      let blocks : List Row = map (λ x. row.Block x) t.blocks in
-      let nodes : List Row = map (λ x. row.Node x) t.nodes in
+      let appls : List TableRow = map (λ x. row.Appl x) t.appls in
+      let icons : List TableRow = map (λ x. row.Icon x) t.icons in
+      let comments : List TableRow = map (λ x. row.Comment x) t.comments in
+      let blocks : List TableRow = map (λ x. row.Block x) t.blocks in
+      let nodes : List TableRow = map (λ x. row.Node x) t.nodes in
       of_both nodes (blocks ++ (comments ++ (icons ++ appls)))
       ∙ ap (λ l. filter_map as_one nodes ++ l) (of_both blocks (comments ++ (icons ++ appls))
       ∙ ap (λ l. filter_map as_one blocks ++ l) (of_both comments (icons ++ appls)

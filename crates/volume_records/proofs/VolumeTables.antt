@@ -11,7 +11,7 @@ use Rattle.afp_volume.specs.SoundVolume.{has_file, has_node, is_formed as is_for
 use Rattle.afp_volume.specs.TypedVolume.{is_byte, is_long, is_date, are_bytes, is_typed_row, is_typed_volume, is_typed_comment, is_typed_icon, is_typed_appl}
 use Rattle.volume_records.specs.declared.rows.Node.{Node}
 use Rattle.volume_records.specs.declared.rows.ForkBlock.{ForkBlock}
-use Rattle.volume_records.specs.declared.rows.Row.TheVariants as row
+use Rattle.volume_records.specs.declared.rows.TableRow.TheVariants as row
 use Rattle.volume_records.specs.Shape.{bare_row, is_formed, is_formed_node, is_formed_block, is_formed_comment, is_formed_icon, is_formed_appl, has_fit_forks, is_root_or_other}
 use Rattle.volume_records.specs.Image.{Tables, tables_of, node_of, fork_blocks}
 use Rattle.volume_records.specs.FirstBad.{tree_of, fork_length}

@@ -10,8 +10,8 @@ use Rattle.record_keeper.specs.declared.record.Record.{Record}
 use Rattle.volume_records.specs.declared.rows.BadRecord.{BadRecord}
 use Rattle.volume_records.specs.declared.rows.Node.{Node}
 use Rattle.volume_records.specs.declared.rows.Reason.{Reason}
-use Rattle.volume_records.specs.declared.rows.Row.{Row}
-use Rattle.volume_records.specs.declared.rows.Row.TheVariants as row
+use Rattle.volume_records.specs.declared.rows.TableRow.{TableRow}
+use Rattle.volume_records.specs.declared.rows.TableRow.TheVariants as row
 use Rattle.volume_records.specs.Records.{record_of, head_record, node_record, block_record, comment_record, icon_record, appl_record, long_bytes}
 use Rattle.volume_records.specs.Shape.{row_in, is_formed, bare_row}
 use Rattle.volume_records.specs.Image.{Tables, rows_of, tables_in, as_node}
@@ -24,7 +24,7 @@ use Rattle.volume_records.proofs.TablesBack.{tables_back}
 use Rattle.volume_records.proofs.MissingKeys.{AllShaped, rises_with, has_with, still_has, none_missing, empty_head, empty_root, present_same}
 
 -- no rule refuses a row
-abbrev pub is_clear : Tables → Row → Bool
+abbrev pub is_clear : Tables → TableRow → Bool
 is_clear t x = is_none (reason_of t (Some x))
 
 -- tables whose rows are formed, none refused, by rising key, the root among them
@@ -47,7 +47,7 @@ no_reason None key rest e = (refl, e)
 no_reason (Some reason) key rest e = absurd (cc)
 
 module _ (name : List ℕ) (t : Tables) where
-  read_one : (r : Record) (records : List Record) (o : Option Row) → row_in name r ≡ o → is_none (reason_of t o) ≡ true → IsRead name t records → IsRead name t (r ∷ records)
+  read_one : (r : Record) (records : List Record) (o : Option TableRow) → row_in name r ≡ o → is_none (reason_of t o) ≡ true → IsRead name t records → IsRead name t (r ∷ records)
   read_one r records None e c s = absurd (cc)
   read_one r records (Some x) e c s =
       let is = row_is name r x e in
@@ -65,7 +65,7 @@ module _ (name : List ℕ) (t : Tables) where
       read_one r records (row_in name r) refl two.0 (all_read records two.1)
 
 -- a formed row with the root's key is a node with the root's id
-is_root : (name : List ℕ) (x : Row) → is_formed name x ≡ true → bytes_eq (record_of x).key root_key ≡ true → (n : Node) × (as_node x ≡ Some n) × (n.id ≡ root_id)
+is_root : (name : List ℕ) (x : TableRow) → is_formed name x ≡ true → bytes_eq (record_of x).key root_key ≡ true → (n : Node) × (as_node x ≡ Some n) × (n.id ≡ root_id)
 unfolding head_record node_record block_record comment_record icon_record appl_record
 is_root name (row.Head h) f e = absurd (cc)
 is_root name (row.Node n) f e =
@@ -81,7 +81,7 @@ one_more : (o : Option Node) (rest : List Node) → has_node (map bare_row rest)
 one_more None rest e = e
 one_more (Some n) rest e = or_right (n.id == root_id) _ e
 
-rooted : (name : List ℕ) (xs : List Row) → list_all (is_formed name) xs ≡ true → has_key root_key (map record_of xs) ≡ true → has_node (map bare_row (filter_map as_node xs)) root_id ≡ true
+rooted : (name : List ℕ) (xs : List TableRow) → list_all (is_formed name) xs ≡ true → has_key root_key (map record_of xs) ≡ true → has_node (map bare_row (filter_map as_node xs)) root_id ≡ true
 rooted name [] f e = absurd (cc)
 rooted name (x ∷ xs) f e = cases (bytes_eq (record_of x).key root_key)
     (λ t.
@@ -100,7 +100,7 @@ whole_made name records s h r e =
       record {
         formed = ap (list_all (is_formed name)) are ∙ read.formed;
         clear = ap (list_all (is_clear (tables_in (rows_in name records)))) are ∙ read.clear;
-        rises = subst (λ (x : List Row). Rises (map record_of x)) (sym are) rises;
+        rises = subst (λ (x : List TableRow). Rises (map record_of x)) (sym are) rises;
         root = rooted name (rows_in name records) read.formed (subst (λ (x : List Record). has_key root_key x ≡ true) back r);
       },
       ap (map record_of) are ∙ read.same,
@@ -121,7 +121,7 @@ counted_made name records s e =
 
 -- ---- from tables
 
-pub rows_back : (name : List ℕ) (xs : List Row) → list_all (is_formed name) xs ≡ true → rows_in name (map record_of xs) ≡ xs
+pub rows_back : (name : List ℕ) (xs : List TableRow) → list_all (is_formed name) xs ≡ true → rows_in name (map record_of xs) ≡ xs
 rows_back name [] f = refl
 rows_back name (x ∷ xs) f = λ i. cons_option (read_back name x (left_true _ _ f) i) (rows_back name xs (right_true _ _ f) i)
 
@@ -129,7 +129,7 @@ none_here : (o : Option Reason) (key : List ℕ) (rest : Option BadRecord) → i
 none_here None key rest n e = e
 none_here (Some reason) key rest n e = absurd (cc)
 
-none_in : (name : List ℕ) (t : Tables) (xs : List Row) → list_all (is_formed name) xs ≡ true → list_all (is_clear t) xs ≡ true → first_in name t (map record_of xs) ≡ None
+none_in : (name : List ℕ) (t : Tables) (xs : List TableRow) → list_all (is_formed name) xs ≡ true → list_all (is_clear t) xs ≡ true → first_in name t (map record_of xs) ≡ None
 none_in name t [] f c = refl
 none_in name t (x ∷ xs) f c = none_here (reason_of t (row_in name (record_of x))) (record_of x).key _
     (ap (λ o. is_none (reason_of t o)) (read_back name x (left_true _ _ f)) ∙ left_true _ _ c)
@@ -151,7 +151,7 @@ root_bytes : (n : Node) → (n.id == root_id) ≡ true → bytes_eq (node_record
 unfolding node_record
 root_bytes n e = let i : n.id ≡ root_id = same_of _ _ e in ap (λ id. bytes_eq (1 ∷ long_bytes id) root_key) i
 
-nodes_have_root : (ns : List Node) (xs : List Row) → has_node (map bare_row ns) root_id ≡ true → has_key root_key (map record_of (map (λ n. row.Node n) ns ++ xs)) ≡ true
+nodes_have_root : (ns : List Node) (xs : List TableRow) → has_node (map bare_row ns) root_id ≡ true → has_key root_key (map record_of (map (λ n. row.Node n) ns ++ xs)) ≡ true
 nodes_have_root [] xs e = absurd (cc)
 nodes_have_root (n ∷ ns) xs e = cases (n.id == root_id)
     (λ t. or_left (bytes_eq (node_record n).key root_key) _ (root_bytes n t))

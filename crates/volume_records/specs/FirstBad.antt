@@ -11,14 +11,14 @@ use Rattle.volume_records.specs.declared.rows.Node.{Node}
 use Rattle.volume_records.specs.declared.rows.BadRecord.{BadRecord}
 use Rattle.volume_records.specs.declared.rows.Reason.{Reason}
 use Rattle.volume_records.specs.declared.rows.Reason.TheVariants.{Shape, Parent, Twin, Range, Limit}
-use Rattle.volume_records.specs.declared.rows.Row.{Row}
-use Rattle.volume_records.specs.declared.rows.Row.TheVariants as row
+use Rattle.volume_records.specs.declared.rows.TableRow.{TableRow}
+use Rattle.volume_records.specs.declared.rows.TableRow.TheVariants as row
 use Rattle.volume_records.specs.Shape.{bare_row, row_in}
 use Rattle.volume_records.specs.KeyOrder.{counted}
 use Rattle.volume_records.specs.Image.{Tables, tables_in}
 
 -- what the records of a volume's shape say: a record of another shape is no node
-abbrev pub rows_in : List ℕ → List Record → List Row
+abbrev pub rows_in : List ℕ → List Record → List TableRow
 rows_in name records = filter_map (row_in name) records
 
 -- the nodes as rows of a volume
@@ -41,7 +41,7 @@ appls_to appl t = filter (λ other. not (stands_before (appl_key appl) (appl_key
 
 -- Parent: a node other than the root whose parents do not lead to the root through directories; a block, comment or APPL mapping whose
 -- node is not there, and for blocks and APPL mappings is no file
-abbrev pub lacks_parent : Tables → Row → Bool
+abbrev pub lacks_parent : Tables → TableRow → Bool
 lacks_parent t (row.Node node) = not (node.id == root_id) && not (has_node (tree_of t) root_id && leads_to_root (tree_of t) (length (tree_of t)) node.parent)
 lacks_parent t (row.Block block) = not (has_file (tree_of t) block.node)
 lacks_parent t (row.Comment comment) = not (has_node (tree_of t) comment.node)
@@ -50,18 +50,18 @@ lacks_parent t (row.Head head) = false
 lacks_parent t (row.Icon icon) = false
 
 -- Twin: a node with the parent and name key of a node of lower id
-abbrev pub is_twin : Tables → Row → Bool
+abbrev pub is_twin : Tables → TableRow → Bool
 is_twin t (row.Node node) = list_any (λ other. nat_lt other.id node.id && are_named_alike (bare_row other) (bare_row node)) t.nodes
 is_twin t _ = false
 
 -- Range: an id below 17 that is not the root, or not below the next id; a block that reaches behind its fork's length
-abbrev pub is_outside : Tables → Row → Bool
+abbrev pub is_outside : Tables → TableRow → Bool
 is_outside t (row.Node node) = not (node.id == root_id) && (nat_lt node.id first_id || nat_le t.head.next_id node.id)
 is_outside t (row.Block block) = list_any (λ node. (node.id == block.node) && nat_lt (fork_length block.is_resource node) (block_size * block.index + length block.bytes)) t.nodes
 is_outside t _ = false
 
 -- Limit: the record with which the nodes, the sum of fork lengths, the icons or the APPL mappings pass their limit
-abbrev pub passes_limit : Tables → Row → Bool
+abbrev pub passes_limit : Tables → TableRow → Bool
 passes_limit t (row.Node node) = nat_lt most_nodes (length (nodes_to node t)) || nat_lt most_fork_bytes (sum_by (λ other. other.data_length + other.resource_length) (nodes_to node t))
 passes_limit t (row.Icon icon) = nat_lt most_icons (length (icons_to icon t))
 passes_limit t (row.Appl appl) = nat_lt most_appls (length (appls_to appl t))
@@ -71,7 +71,7 @@ abbrev pub first_of : Bool → Reason → Option Reason → Option Reason
 first_of holds reason other = if holds then Some reason else other
 
 -- the first reason to refuse a record, among all records
-abbrev pub reason_of : Tables → Option Row → Option Reason
+abbrev pub reason_of : Tables → Option TableRow → Option Reason
 reason_of t None = Some Shape
 reason_of t (Some r) =
     first_of (lacks_parent t r) Parent

@@ -11,8 +11,8 @@ pub use Rattle.record_keeper.specs.Records.{Records}
 use Rattle.volume_records.specs.declared.rows.Head.{Head}
 use Rattle.volume_records.specs.declared.rows.Node.{Node}
 use Rattle.volume_records.specs.declared.rows.ForkBlock.{ForkBlock}
-use Rattle.volume_records.specs.declared.rows.Row.{Row}
-use Rattle.volume_records.specs.declared.rows.Row.TheVariants as row
+use Rattle.volume_records.specs.declared.rows.TableRow.{TableRow}
+use Rattle.volume_records.specs.declared.rows.TableRow.TheVariants as row
 use Rattle.volume_records.specs.Records.{record_of}
 
 -- what the records of a volume say: its head, nodes, the blocks of its forks, comments, icons and APPL mappings
@@ -61,7 +61,7 @@ tables_of v = record {
 }
 
 -- the rows of tables, one for each record
-abbrev pub rows_of : Tables → List Row
+abbrev pub rows_of : Tables → List TableRow
 rows_of t =
     row.Head t.head
     ∷ (map (λ node. row.Node node) t.nodes
@@ -71,27 +71,27 @@ rows_of t =
     ++ map (λ appl. row.Appl appl) t.appls))))
 
 -- the rows of each kind among some rows
-abbrev pub as_head : Row → Option Head
+abbrev pub as_head : TableRow → Option Head
 as_head (row.Head head) = Some head
 as_head _ = None
 
-abbrev pub as_node : Row → Option Node
+abbrev pub as_node : TableRow → Option Node
 as_node (row.Node node) = Some node
 as_node _ = None
 
-abbrev pub as_block : Row → Option ForkBlock
+abbrev pub as_block : TableRow → Option ForkBlock
 as_block (row.Block block) = Some block
 as_block _ = None
 
-abbrev pub as_comment : Row → Option Comment
+abbrev pub as_comment : TableRow → Option Comment
 as_comment (row.Comment comment) = Some comment
 as_comment _ = None
 
-abbrev pub as_icon : Row → Option Icon
+abbrev pub as_icon : TableRow → Option Icon
 as_icon (row.Icon icon) = Some icon
 as_icon _ = None
 
-abbrev pub as_appl : Row → Option Appl
+abbrev pub as_appl : TableRow → Option Appl
 as_appl (row.Appl appl) = Some appl
 as_appl _ = None
 
@@ -101,7 +101,7 @@ first_head [] = record { created = pos 0; modified = pos 0; backup = pos 0; next
 first_head (head ∷ heads) = head
 
 -- the tables that rows make
-abbrev pub tables_in : List Row → Tables
+abbrev pub tables_in : List TableRow → Tables
 tables_in rows = record {
   head = first_head (filter_map as_head rows);
   nodes = filter_map as_node rows;

@@ -5,7 +5,7 @@ use Rattle.afp_volume.specs.VolumeState.{VolumeState}
 use Rattle.afp_volume.specs.SoundVolume.{IsSoundVolume}
 use Rattle.afp_volume.specs.TypedVolume.{is_typed_volume}
 use Rattle.record_keeper.specs.declared.record.Record.{Record}
-use Rattle.volume_records.specs.declared.rows.Row.{Row}
+use Rattle.volume_records.specs.declared.rows.TableRow.{TableRow}
 use Rattle.volume_records.specs.Records.{record_of}
 use Rattle.volume_records.specs.Shape.{is_formed, row_in}
 use Rattle.volume_records.specs.Image.{Records, image, kept_image, records_in, tables_of}
@@ -15,13 +15,13 @@ use Rattle.volume_records.specs.FirstBad.{first_bad_record}
 
 -- a row that is of a volume's shape is read from its record, and what is read is of that shape and has just that record
 abbrev pub RowsAreReadBack : Type 0
-RowsAreReadBack = (name : List ℕ) (x : Row) → is_formed name x ≡ true → row_in name (record_of x) ≡ Some x
+RowsAreReadBack = (name : List ℕ) (x : TableRow) → is_formed name x ≡ true → row_in name (record_of x) ≡ Some x
 
 abbrev pub ReadRowsAreFormed : Type 0
-ReadRowsAreFormed = (name : List ℕ) (r : Record) (x : Row) → row_in name r ≡ Some x → is_formed name x ≡ true
+ReadRowsAreFormed = (name : List ℕ) (r : Record) (x : TableRow) → row_in name r ≡ Some x → is_formed name x ≡ true
 
 abbrev pub ReadRowsAreTheirs : Type 0
-ReadRowsAreTheirs = (name : List ℕ) (r : Record) (x : Row) → row_in name r ≡ Some x → record_of x ≡ r
+ReadRowsAreTheirs = (name : List ℕ) (r : Record) (x : TableRow) → row_in name r ≡ Some x → record_of x ≡ r
 
 -- a volume of that name, sound, with numbers in their ranges
 pub record IsVolume (name : List ℕ) (v : VolumeState) : Type 0 where

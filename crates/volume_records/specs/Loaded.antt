@@ -2,7 +2,7 @@
 use Rattle.std.specs.Prelude.{◌≡◌, ℕ, List, Some, None}
 use Rattle.afp_volume.specs.VolumeState.{VolumeState}
 use Rattle.record_keeper.specs.declared.record.Record.{Record}
-use Rattle.volume_records.specs.declared.rows.Row.{Row}
+use Rattle.volume_records.specs.declared.rows.TableRow.{TableRow}
 use Rattle.volume_records.specs.declared.load.Loaded.{Loaded}
 use Rattle.volume_records.specs.declared.load.Loaded.TheVariants as loaded
 use Rattle.volume_records.specs.Image.{rows_of, tables_of}
@@ -10,7 +10,7 @@ use Rattle.volume_records.specs.FirstBad.{first_bad_record}
 use Rattle.volume_records.specs.Laws.{HasRecords}
 
 -- a volume that has just these records, and the rows that say it
-pub record IsVolumeOf (name : List ℕ) (records : List Record) (rows : List Row) (v : VolumeState) : Type 0 where
+pub record IsVolumeOf (name : List ℕ) (records : List Record) (rows : List TableRow) (v : VolumeState) : Type 0 where
   pub has_records : HasRecords name records v
   pub has_rows : rows ≡ rows_of (tables_of v)
 

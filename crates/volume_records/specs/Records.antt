@@ -7,8 +7,8 @@ use Rattle.record_keeper.specs.declared.record.Record.{Record}
 use Rattle.volume_records.specs.declared.rows.Head.{Head}
 use Rattle.volume_records.specs.declared.rows.Node.{Node}
 use Rattle.volume_records.specs.declared.rows.ForkBlock.{ForkBlock}
-use Rattle.volume_records.specs.declared.rows.Row.{Row}
-use Rattle.volume_records.specs.declared.rows.Row.TheVariants as row
+use Rattle.volume_records.specs.declared.rows.TableRow.{TableRow}
+use Rattle.volume_records.specs.declared.rows.TableRow.TheVariants as row
 
 -- the first byte of a key, by what the record is of
 abbrev pub head_tag : ℕ
@@ -119,7 +119,7 @@ appl_record appl = record {
 }
 
 -- the record that says a row
-abbrev pub record_of : Row → Record
+abbrev pub record_of : TableRow → Record
 record_of (row.Head head) = head_record head
 record_of (row.Node node) = node_record node
 record_of (row.Block block) = block_record block

@@ -10,8 +10,8 @@ use Rattle.record_keeper.specs.declared.record.Record.{Record}
 use Rattle.volume_records.specs.declared.rows.Head.{Head}
 use Rattle.volume_records.specs.declared.rows.Node.{Node}
 use Rattle.volume_records.specs.declared.rows.ForkBlock.{ForkBlock}
-use Rattle.volume_records.specs.declared.rows.Row.{Row}
-use Rattle.volume_records.specs.declared.rows.Row.TheVariants as row
+use Rattle.volume_records.specs.declared.rows.TableRow.{TableRow}
+use Rattle.volume_records.specs.declared.rows.TableRow.TheVariants as row
 use Rattle.volume_records.specs.Records.{head_tag, node_tag, block_tag, comment_tag, icon_tag, record_of}
 
 -- a node as a row of a volume, with no bytes in its forks
@@ -66,7 +66,7 @@ abbrev pub is_formed_appl : Appl → Bool
 is_formed_appl appl = is_typed_appl appl && (length appl.creator == code_size)
 
 -- a row of a volume of that name
-abbrev pub is_formed : List ℕ → Row → Bool
+abbrev pub is_formed : List ℕ → TableRow → Bool
 is_formed name (row.Head head) = is_formed_head head
 is_formed name (row.Node node) = is_formed_node name node
 is_formed name (row.Block block) = is_formed_block block
@@ -126,7 +126,7 @@ abbrev pub appl_in : List ℕ → List ℕ → Appl
 appl_in key value = record { creator = four_at key 1; node = long_at key 5; tag = long_at value 0 }
 
 -- the only row whose record this can be
-abbrev pub guess : Record → Row
+abbrev pub guess : Record → TableRow
 guess r =
     if slice_index r.key 0 == head_tag then row.Head (head_in r.value)
     else (if slice_index r.key 0 == node_tag then row.Node (node_in r.key r.value (take 32 (drop 19 r.value)) (drop 51 r.value))
@@ -139,5 +139,5 @@ abbrev pub are_same : Record → Record → Bool
 are_same a b = bytes_eq a.key b.key && bytes_eq a.value b.value
 
 -- the row of a volume of that name whose record this is: the one whose record, written again, is the same
-unfoldable pub row_in : List ℕ → Record → Option Row
+unfoldable pub row_in : List ℕ → Record → Option TableRow
 row_in name r = if is_formed name (guess r) && are_same (record_of (guess r)) r then Some (guess r) else None

@@ -2,11 +2,11 @@
 ghost use Rattle.std.specs.Prelude.{◌≡◌, ◌≤◌, ◌<◌, ◌+◌, ◌||◌, ◌&&◌, ◌==◌, ◌∷◌, [], not, bytes_eq, nat_lt, ℕ, List, length, true, None, Some, IfOk, OnOk};
 ghost use Rattle.afp_names.specs.Name.{name_fault, name_key};
 ghost use Rattle.afp_volume.specs.VolumeState.{Icon, Appl};
-ghost use Rattle.volume_records.specs.declared.rows.Row.TheVariants as row;
+ghost use Rattle.volume_records.specs.declared.rows.TableRow.TheVariants as row;
 ghost use Rattle.volume_records.specs.Judged.{has_seen, Before, HasBefore, KeepsTree, IsTree, IsNamedRow, IsJudged, IsJudgedRow, is_short_row};
 
 use crate::limits::{FIRST_ID, MOST_APPLS, MOST_FORK_BYTES, MOST_ICONS, MOST_NODES, ROOT};
-use crate::rows::{ForkBlock, Node, Reason, Row};
+use crate::rows::{ForkBlock, Node, Reason, TableRow};
 use crate::tree::{Tree, is_stray, reaches_behind};
 use afp_base::OutOfMemory;
 use afp_names::{Name, NameFault};
@@ -136,7 +136,7 @@ fn judge_appl(pass: &mut Pass) -> Option<Reason>
 }
 
 /// The first reason behind Parent to refuse a row.
-fn judge_rest(alloc: Global, pass: &mut Pass, row: &Row) -> Result<Option<Reason>, OutOfMemory>
+fn judge_rest(alloc: Global, pass: &mut Pass, row: &TableRow) -> Result<Option<Reason>, OutOfMemory>
     requires tree { IsTree pass.old.tree }
     requires few { pass.old.bytes ≤ 268435456 }
     requires short { is_short_row (Some row.now) ≡ true }
@@ -144,12 +144,12 @@ fn judge_rest(alloc: Global, pass: &mut Pass, row: &Row) -> Result<Option<Reason
     ensures reason { IsNamedRow (Some row.now) → IfOk result (λ reason. (before : Before) → HasBefore before pass.old → IsJudged pass.old before row.now reason pass.new) }
 {
     match row {
-        Row::Head(_) => Ok(None),
-        Row::Node(node) => judge_node(alloc, pass, node),
-        Row::Block(block) => Ok(judge_block(pass, block)),
-        Row::Comment(_) => Ok(None),
-        Row::Icon(_) => Ok(judge_icon(pass)),
-        Row::Appl(_) => Ok(judge_appl(pass)),
+        TableRow::Head(_) => Ok(None),
+        TableRow::Node(node) => judge_node(alloc, pass, node),
+        TableRow::Block(block) => Ok(judge_block(pass, block)),
+        TableRow::Comment(_) => Ok(None),
+        TableRow::Icon(_) => Ok(judge_icon(pass)),
+        TableRow::Appl(_) => Ok(judge_appl(pass)),
     }
 }
 
@@ -157,7 +157,7 @@ fn judge_rest(alloc: Global, pass: &mut Pass, row: &Row) -> Result<Option<Reason
 pub(crate) fn judge_row(
     alloc: Global,
     pass: &mut Pass,
-    row: &Option<Row>,
+    row: &Option<TableRow>,
 ) -> Result<Option<Reason>, OutOfMemory>
     requires tree { IsTree pass.old.tree }
     requires few { pass.old.bytes ≤ 268435456 }

@@ -8,7 +8,7 @@ ghost use Rattle.volume_records.specs.Judged.{said_rows};
 
 use crate::climb::push;
 use crate::pass::{judge_all, read_all_rows};
-use crate::rows::{BadRecord, Reason, Row};
+use crate::rows::{BadRecord, Reason, TableRow};
 use crate::write::owned;
 use afp_base::{Bytes, OutOfMemory};
 use record_keeper::{Record, RecordKey};
@@ -24,7 +24,7 @@ pub enum Loaded {
     /// The first record that no volume of that name has, and why.
     Bad(BadRecord),
     /// The rows of the volume, by rising key.
-    Good(Vec<Row>),
+    Good(Vec<TableRow>),
 }
 
 /// A record of that key with an empty value, where it is missing.
@@ -53,7 +53,7 @@ fn count_in(alloc: Global, records: &mut Vec<Record>, key: &[u8]) -> Result<(), 
     }
 }
 
-fn put_row(rows: &mut Vec<Row>, row: Option<Row>) -> Result<(), OutOfMemory>
+fn put_row(rows: &mut Vec<TableRow>, row: Option<TableRow>) -> Result<(), OutOfMemory>
     ensures { OnOk result (rows.new.items ≡ rows.old.items ++ cons_option row []) }
 {
     match row {
@@ -63,7 +63,7 @@ fn put_row(rows: &mut Vec<Row>, row: Option<Row>) -> Result<(), OutOfMemory>
 }
 
 /// Those that are there.
-fn collect(alloc: Global, rows: Vec<Option<Row>>) -> Result<Vec<Row>, OutOfMemory>
+fn collect(alloc: Global, rows: Vec<Option<TableRow>>) -> Result<Vec<TableRow>, OutOfMemory>
     ensures { IfOk result (λ list. list.items ≡ said_rows rows.items) }
 {
     let mut list = Vec::new(alloc);

@@ -9,7 +9,7 @@ ghost use Rattle.volume_records.specs.Judged.{place_of, said_node, places_in, ne
 use crate::climb::push;
 use crate::judge::{Pass, judge_row};
 use crate::read::read_row;
-use crate::rows::{BadRecord, Row};
+use crate::rows::{BadRecord, TableRow};
 use crate::tree::{Place, grow};
 use crate::write::owned;
 use afp_base::OutOfMemory;
@@ -22,7 +22,7 @@ pub(crate) fn read_all_rows(
     alloc: Global,
     name: &[u8],
     records: &[Record],
-) -> Result<Vec<Option<Row>>, OutOfMemory>
+) -> Result<Vec<Option<TableRow>>, OutOfMemory>
     ensures { IfOk result (λ rows. rows.items ≡ map (row_in name.now) records.now) }
 {
     let mut rows = Vec::new(alloc);
@@ -33,11 +33,11 @@ pub(crate) fn read_all_rows(
     Ok(rows)
 }
 
-fn put_place(places: &mut Vec<Place>, row: &Option<Row>) -> Result<(), OutOfMemory>
+fn put_place(places: &mut Vec<Place>, row: &Option<TableRow>) -> Result<(), OutOfMemory>
     ensures { OnOk result (places.new.items ≡ places.old.items ++ map place_of (cons_option (said_node row.now) [])) }
 {
     match row {
-        Some(Row::Node(node)) => {
+        Some(TableRow::Node(node)) => {
             let place = Place {
                 id: node.id,
                 is_directory: node.is_directory,
@@ -47,16 +47,16 @@ fn put_place(places: &mut Vec<Place>, row: &Option<Row>) -> Result<(), OutOfMemo
             };
             push(places, place)
         }
-        Some(Row::Head(_)) => Ok(()),
-        Some(Row::Block(_)) => Ok(()),
-        Some(Row::Comment(_)) => Ok(()),
-        Some(Row::Icon(_)) => Ok(()),
-        Some(Row::Appl(_)) => Ok(()),
+        Some(TableRow::Head(_)) => Ok(()),
+        Some(TableRow::Block(_)) => Ok(()),
+        Some(TableRow::Comment(_)) => Ok(()),
+        Some(TableRow::Icon(_)) => Ok(()),
+        Some(TableRow::Appl(_)) => Ok(()),
         None => Ok(()),
     }
 }
 
-fn all_places(alloc: Global, rows: &[Option<Row>]) -> Result<Vec<Place>, OutOfMemory>
+fn all_places(alloc: Global, rows: &[Option<TableRow>]) -> Result<Vec<Place>, OutOfMemory>
     ensures { IfOk result (λ places. places.items ≡ places_in rows.now) }
 {
     let mut places = Vec::new(alloc);
@@ -66,11 +66,11 @@ fn all_places(alloc: Global, rows: &[Option<Row>]) -> Result<Vec<Place>, OutOfMe
     Ok(places)
 }
 
-fn next_of(rows: &[Option<Row>]) -> u64
+fn next_of(rows: &[Option<TableRow>]) -> u64
     ensures { result ≡ next_in rows.now }
 {
     for row in rows {
-        if let Some(Row::Head(head)) = row {
+        if let Some(TableRow::Head(head)) = row {
             return head.next_id;
         }
     }
@@ -82,7 +82,7 @@ pub(crate) fn judge_all(
     alloc: Global,
     name: &[u8],
     records: &[Record],
-    rows: &[Option<Row>],
+    rows: &[Option<TableRow>],
 ) -> Result<Option<BadRecord>, OutOfMemory>
     requires parsed { rows.now ≡ map (row_in name.now) records.now }
     requires order { Rises records.now }

@@ -4,7 +4,7 @@ ghost use Rattle.volume_records.specs.Shape.{head_in, node_in, block_in, comment
 
 use crate::limits::{BLOCK, COMMENT, HEAD, ICON, NODE};
 use crate::numbers::{byte_at, date_at, four_at, long_at, quad_at, word_at};
-use crate::rows::{Appl, Comment, ForkBlock, Head, Icon, Node, Row};
+use crate::rows::{Appl, Comment, ForkBlock, Head, Icon, Node, TableRow};
 use crate::shape::is_formed;
 use crate::write::{owned, record_of};
 use afp_base::OutOfMemory;
@@ -109,7 +109,7 @@ fn appl_of(key: &[u8], value: &[u8]) -> Appl
 }
 
 /// The only row whose record this can be.
-fn guess_row(alloc: Global, kept: &Record) -> Result<Row, OutOfMemory>
+fn guess_row(alloc: Global, kept: &Record) -> Result<TableRow, OutOfMemory>
     requires { slice_index kept.now.key 0 ≡ 1 → 51 ≤ length kept.now.value }
     ensures { IfOk result (λ row. row ≡ guess kept.now) }
 {
@@ -117,17 +117,17 @@ fn guess_row(alloc: Global, kept: &Record) -> Result<Row, OutOfMemory>
     let value = kept.value.as_slice();
     let tag = byte_at(key, 0);
     if tag == HEAD {
-        Ok(Row::Head(head_of(value)))
+        Ok(TableRow::Head(head_of(value)))
     } else if tag == NODE {
-        Ok(Row::Node(node_of(alloc, key, value)?))
+        Ok(TableRow::Node(node_of(alloc, key, value)?))
     } else if tag == BLOCK {
-        Ok(Row::Block(block_of(alloc, key, value)?))
+        Ok(TableRow::Block(block_of(alloc, key, value)?))
     } else if tag == COMMENT {
-        Ok(Row::Comment(comment_of(alloc, key, value)?))
+        Ok(TableRow::Comment(comment_of(alloc, key, value)?))
     } else if tag == ICON {
-        Ok(Row::Icon(icon_of(alloc, key, value)?))
+        Ok(TableRow::Icon(icon_of(alloc, key, value)?))
     } else {
-        Ok(Row::Appl(appl_of(key, value)))
+        Ok(TableRow::Appl(appl_of(key, value)))
     }
 }
 
@@ -139,7 +139,7 @@ fn are_alike(a: &Record, b: &Record) -> bool
 
 /// The row of a volume of that name whose record this is, or none: the row that is written again just so. The one error is want of memory.
 #[tactic(auto, unfolding(crate::specs::Shape::row_in))]
-pub fn read_row(alloc: Global, name: &[u8], kept: &Record) -> Result<Option<Row>, OutOfMemory>
+pub fn read_row(alloc: Global, name: &[u8], kept: &Record) -> Result<Option<TableRow>, OutOfMemory>
     ensures { IfOk result (λ row. row ≡ row_in name.now kept.now) }
 {
     if byte_at(kept.key.as_slice(), 0) == NODE && kept.value.as_slice().len() < BEHIND {

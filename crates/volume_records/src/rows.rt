@@ -88,7 +88,7 @@ impl Model for Appl {
 
 /// What a record says.
 #[derive(Drop)]
-pub enum Row {
+pub enum TableRow {
     Head(Head),
     Node(Node),
     Block(ForkBlock),

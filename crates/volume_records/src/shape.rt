@@ -9,7 +9,7 @@ use crate::limits::{
     DIRECTORY_ATTRIBUTES, FILE_ATTRIBUTES, FIRST_ID, LAST_NEXT_ID, LONGEST_COMMENT, LONGEST_ICON,
     ROOT, ROOT_PARENT,
 };
-use crate::rows::{Appl, Comment, ForkBlock, Head, Icon, Node, Row};
+use crate::rows::{Appl, Comment, ForkBlock, Head, Icon, Node, TableRow};
 use afp_base::OutOfMemory;
 use afp_names::{Name, NameFault};
 use fork_bytes::BLOCK_SIZE;
@@ -155,15 +155,15 @@ fn is_appl_formed(appl: &Appl) -> bool
 }
 
 /// Whether a row is of the shape of a volume of that name. The one error is want of memory.
-pub(crate) fn is_formed(alloc: Global, name: &[u8], row: &Row) -> Result<bool, OutOfMemory>
+pub(crate) fn is_formed(alloc: Global, name: &[u8], row: &TableRow) -> Result<bool, OutOfMemory>
     ensures { IfOk result (λ is. is ≡ the_form name.now row.now) }
 {
     match row {
-        Row::Head(head) => Ok(is_head_formed(head)),
-        Row::Node(node) => is_node_formed(alloc, name, node),
-        Row::Block(block) => Ok(is_block_formed(block)),
-        Row::Comment(comment) => Ok(is_comment_formed(comment)),
-        Row::Icon(icon) => Ok(is_icon_formed(icon)),
-        Row::Appl(appl) => Ok(is_appl_formed(appl)),
+        TableRow::Head(head) => Ok(is_head_formed(head)),
+        TableRow::Node(node) => is_node_formed(alloc, name, node),
+        TableRow::Block(block) => Ok(is_block_formed(block)),
+        TableRow::Comment(comment) => Ok(is_comment_formed(comment)),
+        TableRow::Icon(icon) => Ok(is_icon_formed(icon)),
+        TableRow::Appl(appl) => Ok(is_appl_formed(appl)),
     }
 }

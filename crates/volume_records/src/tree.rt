@@ -9,7 +9,7 @@ ghost use Rattle.volume_records.specs.Judged.{place_of, said_node, places_in, Is
 
 use crate::climb::{ends_of, place_in_ids, push, stand};
 use crate::limits::ROOT;
-use crate::rows::{ForkBlock, Row};
+use crate::rows::{ForkBlock, TableRow};
 use afp_base::OutOfMemory;
 use fork_bytes::BLOCK_SIZE;
 use std::alloc::Global;
@@ -87,17 +87,18 @@ fn leads(tree: &Tree, id: u32) -> bool
 }
 
 /// Whether the parents of a node do not lead to the root, or the node of a row is missing.
-pub(crate) fn is_stray(tree: &Tree, row: &Row) -> bool
+pub(crate) fn is_stray(tree: &Tree, row: &TableRow) -> bool
     requires { IsTree tree.now }
     ensures { result ≡ is_stray_here tree.now.places.items row.now }
 {
     match row {
-        Row::Head(_) => false,
-        Row::Node(node) => node.id != ROOT && !(is_there(tree, ROOT) && leads(tree, node.parent)),
-        Row::Block(block) => !is_file(tree, block.node),
-        Row::Comment(comment) => !is_there(tree, comment.node),
-        Row::Icon(_) => false,
-        Row::Appl(appl) => !is_file(tree, appl.node),
+        TableRow::Head(_) => false,
+        TableRow::Node(node) => node.id != ROOT
+            && !(is_there(tree, ROOT) && leads(tree, node.parent)),
+        TableRow::Block(block) => !is_file(tree, block.node),
+        TableRow::Comment(comment) => !is_there(tree, comment.node),
+        TableRow::Icon(_) => false,
+        TableRow::Appl(appl) => !is_file(tree, appl.node),
     }
 }
 

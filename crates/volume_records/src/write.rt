@@ -3,7 +3,7 @@ ghost use Rattle.std.specs.Prelude.{◌≡◌, ◌∷◌, ◌++◌, [], IfOk, On
 ghost use Rattle.volume_records.specs.Records.{head_record as the_head, node_record as the_node, block_record as the_block, comment_record as the_comment, icon_record as the_icon, appl_record as the_appl, node_key as the_node_key, block_key as the_block_key, comment_key as the_comment_key, appl_key as the_appl_key, record_of as the_record, flag_byte, word_bytes, long_bytes, quad_bytes, date_bytes, version, head_tag, node_tag, block_tag, comment_tag, icon_tag, appl_tag};
 
 use crate::limits::{APPL, BLOCK, COMMENT, HEAD, ICON, NODE, VERSION};
-use crate::rows::{Appl, Comment, ForkBlock, Head, Icon, Node, Row};
+use crate::rows::{Appl, Comment, ForkBlock, Head, Icon, Node, TableRow};
 use afp_base::{Bytes, OutOfMemory};
 use record_keeper::{Record, RecordKey};
 use std::alloc::Global;
@@ -198,15 +198,15 @@ pub fn appl_record(alloc: Global, appl: &Appl) -> Result<Record, OutOfMemory>
 }
 
 /// The record that says a row. The one error is want of memory.
-pub fn record_of(alloc: Global, row: &Row) -> Result<Record, OutOfMemory>
+pub fn record_of(alloc: Global, row: &TableRow) -> Result<Record, OutOfMemory>
     ensures { IfOk result (λ r. r ≡ the_record row.now) }
 {
     match row {
-        Row::Head(head) => head_record(alloc, head),
-        Row::Node(node) => node_record(alloc, node),
-        Row::Block(block) => block_record(alloc, block),
-        Row::Comment(comment) => comment_record(alloc, comment),
-        Row::Icon(icon) => icon_record(alloc, icon),
-        Row::Appl(appl) => appl_record(alloc, appl),
+        TableRow::Head(head) => head_record(alloc, head),
+        TableRow::Node(node) => node_record(alloc, node),
+        TableRow::Block(block) => block_record(alloc, block),
+        TableRow::Comment(comment) => comment_record(alloc, comment),
+        TableRow::Icon(icon) => icon_record(alloc, icon),
+        TableRow::Appl(appl) => appl_record(alloc, appl),
     }
 }

@@ -10,7 +10,7 @@ use Rattle.afp_names.specs.Path.{PathValue}
 use Rattle.afp_volume.proofs.CreateFile.{find-only}
 use Rattle.afp_volume.proofs.TestedLists.{none-find}
 use Rattle.afp_volume.proofs.Walks.{MappedFrom, mapped-from, find-there}
-use Rattle.afp_volume.specs.Calls.{done_at, created}
+use Rattle.afp_volume.specs.Shared.{done_at, created}
 use Rattle.afp_volume.specs.CreateDir.{create_dir_effect}
 use Rattle.afp_volume.specs.CreateFile.{create_file_effect, without_replaced}
 use Rattle.afp_volume.specs.Edits.{without}

@@ -3,7 +3,7 @@ use Rattle.std.proofs.Common.{◌≡◌, ◌∙◌, ap, sym, subst, ℕ, true, S
 use Rattle.std.specs.Prelude.{Ok}
 use Rattle.afp_base.specs.declared.ids.NodeId.{NodeId}
 use Rattle.afp_names.specs.Path.{PathValue}
-use Rattle.afp_volume.specs.Calls.{done_at, directory_of}
+use Rattle.afp_volume.specs.Shared.{done_at, directory_of}
 use Rattle.afp_volume.specs.Delete.{delete_effect}
 use Rattle.afp_volume.specs.Edits.{changed_at, children_changed, without_node}
 use Rattle.afp_volume.specs.SoundVolume.{IsSoundVolume, has_node}

@@ -6,7 +6,7 @@ use Rattle.afp_base.specs.declared.ids.NodeId.{NodeId}
 use Rattle.afp_names.specs.Path.{PathValue}
 use Rattle.afp_volume.proofs.SoundEdits.{changed-same}
 use Rattle.afp_volume.proofs.Walks.{row-there}
-use Rattle.afp_volume.specs.Calls.{done_at, directory_of, name_of}
+use Rattle.afp_volume.specs.Shared.{done_at, directory_of, name_of}
 use Rattle.afp_volume.specs.MoveAndRename.{move_effect}
 use Rattle.afp_volume.specs.Rename.{rename_effect}
 use Rattle.afp_volume.specs.Edits.{changed_at, children_changed, renamed, named, at_place, with_moved, with_changed, is_taken, bare}

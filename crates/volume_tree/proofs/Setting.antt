@@ -2,7 +2,7 @@
 use Rattle.std.proofs.Common.{◌≡◌, ◌∙◌, ap, sym, subst, refl, ℕ, List, Some, None}
 use Rattle.std.specs.Prelude.{Ok}
 use Rattle.afp_names.specs.Path.{PathValue}
-use Rattle.afp_volume.specs.Calls.{done_at}
+use Rattle.afp_volume.specs.Shared.{done_at}
 use Rattle.afp_volume.specs.Parms.{date_in}
 use Rattle.afp_volume.specs.SetFileDirParms.{Settings, settings_in, with_node_set, set_parms_effect}
 use Rattle.afp_volume.specs.SetVolParms.{set_vol_parms_effect}

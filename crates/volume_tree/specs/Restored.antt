@@ -1,6 +1,6 @@
 -- Volumes made from what is kept of them elsewhere (this profile).
 use Rattle.std.specs.Prelude.{ℕ, ◌+◌, ◌==◌, nat_le, Bool, ◌&&◌, if◌then◌else◌, List, [], ◌∷◌, map, replicate, Option, Some, None}
-use Rattle.afp_volume.specs.Calls.{name_of}
+use Rattle.afp_volume.specs.Shared.{name_of}
 use Rattle.afp_volume.specs.SoundVolume.{IsSoundVolume, most_fork_bytes}
 use Rattle.afp_volume.specs.VolumeState.{Row, VolumeState, root_id}
 use Rattle.volume_tree.specs.declared.forks.FileForks.{FileForks}

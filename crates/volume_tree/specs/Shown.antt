@@ -1,7 +1,7 @@
 -- A volume's tree as contracts see it (the form is this profile's).
 use Rattle.std.specs.Prelude.{ℕ, Bool, List, map, Option, option_map}
 use Rattle.afp_base.specs.declared.ids.NodeId.{NodeId}
-use Rattle.afp_volume.specs.Calls.{Opened}
+use Rattle.afp_volume.specs.Shared.{Opened}
 use Rattle.afp_volume.specs.ForkEffect.{fork_of}
 use Rattle.afp_volume.specs.OpenFork.{file_of}
 use Rattle.afp_volume.specs.VolumeState.{Row, VolumeState}

@@ -5,7 +5,7 @@ ghost use Rattle.afp_names.specs.LongName.{shown_byte, long_name_of};
 ghost use Rattle.afp_names.specs.Name.{name_key};
 ghost use Rattle.afp_names.specs.Path.{element_of, long_names};
 ghost use Rattle.afp_volume.specs.Edits.{has_children, is_below, is_taken};
-ghost use Rattle.afp_volume.specs.Calls.{directory_of, has_attribute, has_no_ids, has_no_room, is_busy};
+ghost use Rattle.afp_volume.specs.Shared.{directory_of, has_attribute, has_no_ids, has_no_room, is_busy};
 ghost use Rattle.afp_volume.specs.SoundVolume.{has_file};
 ghost use Rattle.afp_volume.specs.Walk.{parent_at, has_directory, child_by_key, child_by_long_name};
 ghost use Rattle.volume_tree.specs.Answered.{IsFound};
@@ -101,7 +101,7 @@ fn is_open(opens: &[(NodeId, bool)], id: NodeId) -> bool
 
 impl Volume {
     /// The id of the next new node; `None` where the ids have ended.
-    #[tactic(auto, unfolding(afp_volume::specs::Calls::has_no_ids))]
+    #[tactic(auto, unfolding(afp_volume::specs::Shared::has_no_ids))]
     pub(crate) fn next(&self) -> Option<NodeId>
         ensures { MatchOption result (has_no_ids self.now.state ≡ true) (λ id. (has_no_ids self.now.state ≡ false) × (id.0 ≡ self.now.state.next_id)) }
     {
@@ -109,7 +109,7 @@ impl Volume {
     }
 
     /// The id of the next new node; `None` where the volume is full or the ids have ended.
-    #[tactic(auto, unfolding(afp_volume::specs::Calls::has_no_room))]
+    #[tactic(auto, unfolding(afp_volume::specs::Shared::has_no_room))]
     pub(crate) fn room(&self) -> Option<NodeId>
         ensures { MatchOption result (has_no_room self.now.state ≡ true) (λ id. (has_no_room self.now.state ≡ false) × (id.0 ≡ self.now.state.next_id)) }
     {

@@ -4,7 +4,7 @@ ghost use Rattle.std.specs.List.{list_all};
 ghost use Rattle.std.specs.Ordering.{nat_cmp};
 ghost use Rattle.fork_bytes.specs.Blocks.{largest_fork};
 ghost use Rattle.sorted_map.specs.Entries.{at};
-ghost use Rattle.afp_volume.specs.Calls.{name_of};
+ghost use Rattle.afp_volume.specs.Shared.{name_of};
 ghost use Rattle.afp_volume.specs.SoundVolume.{has_node, most_fork_bytes};
 ghost use Rattle.afp_volume.specs.VolumeState.{root_id};
 ghost use Rattle.volume_tree.specs.Restored.{IsRestorable, forks_in, has_short_forks, loaded_bytes, loaded_node, or_forks, own_forks, restored};

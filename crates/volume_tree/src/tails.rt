@@ -1,21 +1,13 @@
 //! What the tails of set calls hold.
 ghost use Rattle.std.specs.Prelude.{◌≡◌, ◌≤◌, ◌+◌, true, false, None, Some, take, drop, length, option_map, MatchOption, if◌then◌else◌, nat_lt};
 ghost use Rattle.byteorder.specs.Endian.{big_number};
-ghost use Rattle.afp_bitmap.specs.Bits.{is_asked};
 ghost use Rattle.afp_volume.specs.Parms.{date_in};
 ghost use Rattle.afp_volume.specs.SetFileDirParms.{asked_bytes, field_in, is_short_tail, set_fields, settings_in};
 ghost use Rattle.volume_tree.specs.Tails.{lower_bytes, size_asked};
 
 use crate::settings::Settings;
+use afp_bitmap::is_asked;
 use byteorder::{BigEndian, ByteOrder};
-
-/// Whether a bit is set.
-fn is_asked(bits: u16, bit: u32) -> bool
-    requires { nat_lt bit 16 ≡ true }
-    ensures { result ≡ is_asked bits bit }
-{
-    bits >> bit & 1 == 1
-}
 
 /// The size of a field, where it is asked.
 fn size_asked(bits: u16, bit: u32, size: usize) -> usize

@@ -3,11 +3,11 @@ use Rattle.std.specs.Prelude.{◌≡◌, ℕ, ◌+◌, ◌≤◌, ◌<◌, List,
 use Rattle.byteorder.specs.Endian.{big_bytes}
 use Rattle.afp_bitmap.specs.declared.write.Field as code
 use Rattle.afp_bitmap.specs.declared.write.Field.TheVariants as codes
-use Rattle.afp_bitmap.specs.declared.write.Row as rows
+use Rattle.afp_bitmap.specs.declared.write.FieldRow as rows
 use Rattle.afp_bitmap.specs.declared.write.Spot as spots
 use Rattle.afp_bitmap.specs.declared.write.Spots as all_spots
 use Rattle.afp_bitmap.specs.Field.{Field, Number, Date, Finder, LongName, Utf8Name, fixed_bytes, pad_of, long_name_bytes, utf8_name_bytes}
-use Rattle.afp_bitmap.specs.Table.{Row}
+use Rattle.afp_bitmap.specs.Table.{FieldRow}
 
 -- what the code's field and row show
 abbrev pub field_of : code.Field → Field
@@ -19,7 +19,7 @@ field_of (codes.Finder info) = Finder info.now
 field_of (codes.LongName name) = LongName name.now
 field_of (codes.Utf8Name name) = Utf8Name name.now
 
-abbrev pub row_of : rows.Row → Row
+abbrev pub row_of : rows.FieldRow → FieldRow
 row_of r = (r.0, field_of r.1)
 
 -- one of three, by what stands for the field in the variable part
@@ -78,10 +78,6 @@ noted at f s = s
 unfoldable pub all_noted : ℕ → List Field → Spots → Spots
 all_noted at [] s = s
 all_noted at (f ∷ fs) s = all_noted (at + length (fixed_bytes 0 f)) fs (noted at f s)
-
--- what stood there still stands there, in front
-abbrev pub Keeps : List ℕ → List ℕ → Type 0
-Keeps old new = take (length old) new ≡ old
 
 -- the bytes and their pad
 abbrev pub padded : List ℕ → List ℕ

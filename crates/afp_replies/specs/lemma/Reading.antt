@@ -3,13 +3,13 @@ use Rattle.std.specs.Prelude.{◌≡◌, ℕ, Bool, ◌+◌, ◌≤◌, ◌<◌,
 use Rattle.std.specs.Borrow.{Bor}
 use Rattle.afp_bitmap.specs.declared.params.Values.{Values}
 use Rattle.afp_bitmap.specs.Params.{params, IsAnswer, IsBadAt}
-use Rattle.afp_replies.specs.declared.commands.Row.{Row}
+use Rattle.afp_replies.specs.declared.commands.ShapeRow.{ShapeRow}
 use Rattle.afp_replies.specs.declared.list.ListEntry.{ListEntry}
 use Rattle.afp_replies.specs.declared.reply.Reply.{Reply}
 use Rattle.afp_replies.specs.declared.reply.ReplyFault.{ReplyFault}
 use Rattle.afp_replies.specs.declared.reply.ReplyFault.TheVariants.{Bad, Memory}
 use Rattle.afp_replies.specs.Entry.{IsCounted, stated}
-use Rattle.afp_replies.specs.Words.{Word, Counted, Value, Spells, FaultAt}
+use Rattle.afp_replies.specs.Words.{ReplyWord, Counted, Value, Spells, FaultAt}
 use Rattle.afp_replies.specs.Layout.{Layout, Lacks, Has, StopsAt}
 use Rattle.afp_replies.specs.Commands as commands
 
@@ -19,7 +19,7 @@ pub record Rest : Type 0 where
   pub bytes : List ℕ
 
 -- a field was read, and no other stood there
-pub record Took (w : Word) (old : Rest) (x : Value w) (new : Rest) : Type 0 where
+pub record Took (w : ReplyWord) (old : Rest) (x : Value w) (new : Rest) : Type 0 where
   pub first : List ℕ
   pub spelt : Spells w x first
   pub split : old.bytes ≡ first ++ new.bytes
@@ -27,7 +27,7 @@ pub record Took (w : Word) (old : Rest) (x : Value w) (new : Rest) : Type 0 wher
   pub only : (y : Value w) (other rest : List ℕ) → Spells w y other → old.bytes ≡ other ++ rest → (y ≡ x) × (rest ≡ new.bytes)
 
 -- what reading a field answers
-abbrev pub Takes : (w : Word) → Rest → Result (Value w) ReplyFault → Rest → Type 0
+abbrev pub Takes : (w : ReplyWord) → Rest → Result (Value w) ReplyFault → Rest → Type 0
 Takes w old (Ok x) new = Took w old x new
 Takes w old (Err Memory) new = Unit {0}
 Takes w old (Err (Bad at)) new = Lacks w old.bytes × FaultAt w old.place old.bytes at
@@ -73,7 +73,7 @@ Ends here (Err Memory) = ⊥
 Ends here (Err (Bad at)) = (0 < length here.bytes) × (at ≡ here.place)
 
 -- what the code's row shows
-abbrev pub row_of : Row → commands.Row
+abbrev pub row_of : ShapeRow → commands.ShapeRow
 row_of r = (r.0, r.1)
 
 -- what reading a part of a layout answers: it goes on with the part's value, or stops

@@ -13,10 +13,6 @@ use Rattle.afp_replies.specs.Bytes.{width}
 use Rattle.afp_replies.specs.Entry.{is_dir, bits_for, kind_for}
 use Rattle.afp_replies.specs.Fitting.{FitsVolume, FitsList}
 
--- what stood there still stands there, in front
-abbrev pub Keeps : List ℕ → List ℕ → Type 0
-Keeps old new = take (length old) new ≡ old
-
 -- the parameters of a kind that the bits ask for
 pub record FitsParams (kind bits : ℕ) (v : Values) : Type 0 where
   pub kind_is : kind_of v ≡ kind

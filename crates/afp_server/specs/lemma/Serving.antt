@@ -6,7 +6,7 @@ use Rattle.afp_serial.specs.Shown.{Shown}
 use Rattle.afp_serial.specs.Went.{Step, Went}
 use Rattle.dsi_frame.specs.Buffered.{Buffered, buffer_length}
 use Rattle.dsi_frame.specs.Stream.{IsUnfinished}
-use Rattle.afp_server.specs.LinkRun.{Moves, Fills, EachMayRead, ComesTo, came_in, cost_of}
+use Rattle.afp_server.specs.LinkRun.{Moves, Fills, EachMayRead, RunsTo, came_in, cost_of}
 use Rattle.afp_server.specs.Passing.{all_passed, GoThrough}
 use Rattle.afp_server.specs.Replies.{spelling_of}
 use Rattle.afp_server.specs.Trace.{Happening, events_in, frames_in, replies_in, steps_in, standing, Follows}
@@ -53,7 +53,7 @@ pub record SoFar (start : Start) (p : Point) (cost : ℕ) : Type 0 where
 -- The link has ended: this is its run, before what is asked at its end.
 pub record Ended (start : Start) (answer : LinkEnd) (stage : Stage) (link : LinkState) (shown : Shown) (passed : Passed) : Type 0 where
   pub asked : List Step
-  pub comes : ComesTo start.block start.turns start.link answer stage link asked
+  pub comes : RunsTo start.block start.turns start.link answer stage link asked
   pub went : Went start.shown asked shown
   pub through : GoThrough answer asked passed
 

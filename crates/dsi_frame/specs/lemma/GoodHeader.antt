@@ -1,8 +1,9 @@
 -- A header that is read.
 use Rattle.std.specs.Prelude.{◌≡◌, ℕ, ◌≤◌, List, drop}
+use Rattle.afp_base.specs.Limits.{payload_limit}
 use Rattle.byteorder.specs.Endian.{big_number}
 use Rattle.dsi_frame.specs.declared.frame.Header.{Header}
-use Rattle.dsi_frame.specs.Frame.{payload_limit, command_number, flags_byte, WordFits, flags_in, command_in, word_in, length_in}
+use Rattle.dsi_frame.specs.Frame.{command_number, flags_byte, WordFits, flags_in, command_in, word_in, length_in}
 
 abbrev pub id_in : List ℕ → ℕ
 id_in bytes = big_number 2 (drop 2 bytes)

@@ -1,7 +1,7 @@
 use Rattle.std.proofs.Common.{ap, ℕ, length, map, refl, arith}
 use Rattle.std.proofs.lemmas.List.{drop_more, drop_all, take_all}
 use Rattle.afp_bitmap.specs.declared.write.Field.TheVariants as codes
-use Rattle.afp_bitmap.specs.declared.write.Row.{Row}
+use Rattle.afp_bitmap.specs.declared.write.FieldRow.{FieldRow}
 use Rattle.afp_bitmap.specs.Params.{asked_of}
 use Rattle.afp_bitmap.specs.lemma.Writing.{row_of, all_noted, no_spots}
 use Rattle.afp_bitmap.proofs.Loops.{row_put, row_kept, rows_put, rows_noted}
@@ -19,7 +19,7 @@ loop-row-init c = (
 
 pub loop-row-preserved : goal.loop-row-preserved
 loop-row-preserved c =
-    let here = rw (drop_more {X = Row} c.args.rows.now c.loop-row.row-index record { 0 = 0; 1 = codes.Short 0 } c.loop-row-test.true) at c.loop-row.invariant.0 in
+    let here = rw (drop_more {X = FieldRow} c.args.rows.now c.loop-row.row-index record { 0 = 0; 1 = codes.Short 0 } c.loop-row-test.true) at c.loop-row.invariant.0 in
     let spots = rw c.as_slice-base.ensures at c.in_ok-spots.ensures.spots in (
       row_put _ _ _ _ _ _ _ _ _ _ spots c.in_ok-spots.ensures.bytes c.in_ok-spots.ensures.same_spots c.in_ok-spots.ensures.same_bytes here,
       row_kept _ _ _ _ _ c.in_ok-spots.ensures.bytes c.in_ok-spots.ensures.same_bytes here.begun c.loop-row.invariant.1,

@@ -2,7 +2,8 @@ use Rattle.std.proofs.Common.{◌++◌, drop, length, map}
 use Rattle.std.specs.List.{concat}
 use Rattle.afp_bitmap.specs.Field.{fixed_bytes}
 use Rattle.afp_bitmap.specs.Params.{asked_of}
-use Rattle.afp_bitmap.specs.lemma.Writing.{row_of, spots_of, all_noted, no_spots, Keeps}
+use Rattle.afp_base.specs.Appended.{Keeps}
+use Rattle.afp_bitmap.specs.lemma.Writing.{row_of, spots_of, all_noted, no_spots}
 use Rattle.afp_bitmap.proofs.Loops.{Goes}
 use Rattle.afp_bitmap.proofs.write.put_fixed_part.Given as goal
 

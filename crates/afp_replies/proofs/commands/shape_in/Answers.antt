@@ -1,11 +1,11 @@
 use Rattle.std.proofs.Common.{sym, ◌∙◌}
 use Rattle.std.proofs.lemmas.List.{drop_more, drop_all}
 use Rattle.afp_replies.specs.declared.commands.Shape.TheVariants.{Unlisted}
-use Rattle.afp_replies.specs.declared.commands.Row.{Row}
+use Rattle.afp_replies.specs.declared.commands.ShapeRow.{ShapeRow}
 use Rattle.afp_replies.proofs.Finding.{in_this_row, not_in_this_row, in_no_row}
 use Rattle.afp_replies.proofs.commands.shape_in.Goals as goal
 
-abbrev none : Row
+abbrev none : ShapeRow
 none = record { 0 = 0; 1 = Unlisted }
 
 pub returns-then-row-command : goal.returns-then-row-command

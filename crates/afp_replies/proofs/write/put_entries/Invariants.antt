@@ -1,7 +1,7 @@
 use Rattle.std.proofs.Common.{◌≡◌, ◌≤◌, ◌++◌, drop, length, map}
 use Rattle.std.specs.List.{concat, AllByRecursion}
 use Rattle.afp_replies.specs.Entry.{entry_bytes, FitsEntry}
-use Rattle.afp_replies.specs.lemma.Writing.{Keeps}
+use Rattle.afp_base.specs.Appended.{Keeps}
 use Rattle.afp_replies.proofs.write.put_entries.Given as goal
 
 -- the entries to come behind these bytes are all entries, and they fit

@@ -2,7 +2,7 @@ use Rattle.std.proofs.Common.{◌≡◌, ◌≤◌, ◌++◌, drop, length, map}
 use Rattle.std.specs.List.{concat, AllByRecursion}
 use Rattle.afp_replies.specs.Replies.{volume_bytes}
 use Rattle.afp_replies.specs.Fitting.{FitsVolume}
-use Rattle.afp_replies.specs.lemma.Writing.{Keeps}
+use Rattle.afp_base.specs.Appended.{Keeps}
 use Rattle.afp_replies.proofs.write.put_volumes.Given as goal
 
 -- the volumes to come behind these bytes are all volumes, and they fit

@@ -2,7 +2,7 @@ use Rattle.std.proofs.Common.{◌==◌, ◌&&◌, ◌∙◌, Bool, not, sym}
 use Rattle.std.specs.Prelude.{if◌then◌else◌}
 use Rattle.afp_base.specs.declared.ids.NodeId.{NodeId}
 use Rattle.afp_volume.proofs.TestedLists.{any-map}
-use Rattle.afp_volume.specs.Calls.{Opened}
+use Rattle.afp_volume.specs.Shared.{Opened}
 use Rattle.afp_volume.specs.NodeValues.{is_open}
 use Rattle.volume_answers.proofs.file.is_open.Goals as goal
 

@@ -1,4 +1,4 @@
-use Rattle.afp_volume.specs.Calls.{write_inhibit}
+use Rattle.afp_volume.specs.Shared.{write_inhibit}
 use Rattle.volume_answers.proofs.FoundFiles.{attribute-is}
 use Rattle.volume_answers.proofs.found_file.is_write_inhibited.Goals as goal
 

@@ -1,7 +1,7 @@
 use Rattle.std.proofs.Common.{◌∙◌, List, sym, ap, subst}
 use Rattle.std.specs.Prelude.{flat_map}
 use Rattle.afp_volume.specs.SoundVolume.{IsSoundVolume}
-use Rattle.volume_records.specs.declared.rows.Row.{Row}
+use Rattle.volume_records.specs.declared.rows.TableRow.{TableRow}
 use Rattle.volume_records.specs.Image.{rows_of, tables_of}
 use Rattle.volume_tree.specs.Restored.{restored}
 use Rattle.volume_keeper.specs.Rebuilt.{FitRows, nodes_said, with_blocks}
@@ -33,7 +33,7 @@ fill_all-requires c =
       reaches = c.splice_puts_between.ensures.reaches;
       image = c.records_are_images.ensures.rising;
     } in
-    subst (λ (rows : List Row). FitRows rows c.in_ok-volume.volume.state) (sym e) (subst (FitRows (rows_of (tables_of v))) (sym same) (all_fit laws v c.requires.1.sound))
+    subst (λ (rows : List TableRow). FitRows rows c.in_ok-volume.volume.state) (sym e) (subst (FitRows (rows_of (tables_of v))) (sym same) (all_fit laws v c.requires.1.sound))
 
 pub returns : goal.returns
 returns c = λ v held e.

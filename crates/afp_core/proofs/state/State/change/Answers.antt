@@ -2,7 +2,7 @@ use Rattle.std.proofs.Common.{◌∙◌, ap, subst, List}
 use Rattle.kept_volume.specs.Changing.{Changes}
 use Rattle.volume_tree.specs.Requests.{tree_call}
 use Rattle.volume_tree.specs.Shown.{opened}
-use Rattle.afp_volume.specs.Calls.{Opened}
+use Rattle.afp_volume.specs.Shared.{Opened}
 use Rattle.afp_volume.specs.TreeSteps.{TreeCall}
 use Rattle.afp_core.specs.OnOpened.{BecomesKept, IsOpen}
 use Rattle.afp_core.proofs.OnVolumeLemmas.{changes-runs, changes-unopened, some-holds}

@@ -1,6 +1,6 @@
 use Rattle.std.proofs.Common.{◌∙◌, ap, refl, subst, sym, List}
 use Rattle.afp_serial.specs.GetFileDirParms.{get_file_dir_parms_reply}
-use Rattle.afp_volume.specs.Calls.{Opened}
+use Rattle.afp_volume.specs.Shared.{Opened}
 use Rattle.afp_volume.specs.GetFileDirParms.{get_file_dir_parms_values}
 use Rattle.afp_core.specs.OnOpened.{IsOpen}
 use Rattle.volume_tree.specs.Shown.{opened}

@@ -1,6 +1,6 @@
 use Rattle.std.proofs.Common.{◌∙◌, ap, subst, sym, List}
 use Rattle.afp_serial.specs.Enumerate.{enumerate_reply}
-use Rattle.afp_volume.specs.Calls.{Opened}
+use Rattle.afp_volume.specs.Shared.{Opened}
 use Rattle.afp_volume.specs.Enumerate.{enumerate_refusal}
 use Rattle.afp_core.specs.OnOpened.{IsOpen}
 use Rattle.volume_tree.specs.Shown.{opened}

@@ -1,6 +1,6 @@
 use Rattle.std.proofs.Common.{◌≡◌, ◌∙◌, ap, sym, subst, None, false, rules}
 use Rattle.std.specs.Prelude.{Ok}
-use Rattle.afp_volume.specs.Calls.{name_of}
+use Rattle.afp_volume.specs.Shared.{name_of}
 use Rattle.afp_volume.specs.Edits.{is_taken}
 use Rattle.afp_volume.specs.MoveAndRename.{move_refusal}
 use Rattle.afp_volume.specs.Walk.{one_down_or}

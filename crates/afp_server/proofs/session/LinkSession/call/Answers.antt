@@ -3,7 +3,7 @@ use Rattle.afp_serial.specs.Went.{step}
 use Rattle.afp_serial.proofs.Grows.{went-one}
 use Rattle.afp_server.specs.Did.{Did}
 use Rattle.afp_server.proofs.Rows.{acts-asks, call-told}
-use Rattle.afp_server.proofs.session.Session.call.Goals as goal
+use Rattle.afp_server.proofs.session.LinkSession.call.Goals as goal
 
 pub called-requires-clause-told : goal.called-requires-clause-told
 called-requires-clause-told g c = call-told c.args.ask c.ask-told.result c.requires.call c.ask-told.ensures.answers

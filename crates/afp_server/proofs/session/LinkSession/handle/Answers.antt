@@ -6,7 +6,7 @@ use Rattle.afp_server.specs.Passing.{call_link}
 use Rattle.afp_server.specs.lemma.SessionState.{SessionState}
 use Rattle.afp_server.proofs.Passing.{not_called, unpassed}
 use Rattle.afp_server.proofs.Rows.{acts-still, does-reply}
-use Rattle.afp_server.proofs.session.Session.handle.Goals as goal
+use Rattle.afp_server.proofs.session.LinkSession.handle.Goals as goal
 
 pub returns-then-header-clause-handles : goal.returns-then-header-clause-handles
 returns-then-header-clause-handles g c =

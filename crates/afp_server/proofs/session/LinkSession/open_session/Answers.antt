@@ -15,7 +15,7 @@ use Rattle.afp_server.specs.lemma.SessionState.{SessionState}
 use Rattle.afp_server.specs.Tally.{and_reply, and_told}
 use Rattle.afp_server.specs.declared.stage.Stage.TheVariants.{Fresh}
 use Rattle.afp_server.proofs.Rows.{acts-asks, acts-replies, open-told, replied}
-use Rattle.afp_server.proofs.session.Session.open_session.Goals as goal
+use Rattle.afp_server.proofs.session.LinkSession.open_session.Goals as goal
 
 pub opened-requires-clause-told : goal.opened-requires-clause-told
 opened-requires-clause-told g c = open-told c.in-Ok.options.attention c.open_of.result c.ask-told.result c.open_of.ensures c.ask-told.ensures.answers

@@ -1,7 +1,7 @@
 use Rattle.std.proofs.Common.{sym, ap, ◌∙◌}
 use Rattle.afp_server.specs.lemma.SessionState.{SessionState}
 use Rattle.afp_server.proofs.Rows.{rests-silent, rests-fresh, rests-pulse, pulse-live, true_part, false_part}
-use Rattle.afp_server.proofs.session.Session.rest.Goals as goal
+use Rattle.afp_server.proofs.session.LinkSession.rest.Goals as goal
 
 pub returns-then-is_silent-clause-rests : goal.returns-then-is_silent-clause-rests
 returns-then-is_silent-clause-rests g c =

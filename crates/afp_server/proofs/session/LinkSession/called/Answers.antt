@@ -5,7 +5,7 @@ use Rattle.afp_server.specs.Replies.{code_word, reply_to}
 use Rattle.afp_server.specs.Tally.{and_reply}
 use Rattle.afp_server.specs.lemma.SessionState.{SessionState}
 use Rattle.afp_server.proofs.Rows.{called-ends, called-goes_on, called-memory}
-use Rattle.afp_server.proofs.session.Session.called.Goals as goal
+use Rattle.afp_server.proofs.session.LinkSession.called.Goals as goal
 
 pub returns-then-ends : goal.returns-then-ends
 returns-then-ends c = record {

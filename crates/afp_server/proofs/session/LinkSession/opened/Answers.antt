@@ -5,7 +5,7 @@ use Rattle.afp_server.specs.Replies.{code_word}
 use Rattle.afp_server.specs.lemma.SessionState.{SessionState}
 use Rattle.afp_server.specs.Tally.{and_reply}
 use Rattle.afp_server.proofs.Rows.{opened-session, opened-refused, opened-memory}
-use Rattle.afp_server.proofs.session.Session.opened.Goals as goal
+use Rattle.afp_server.proofs.session.LinkSession.opened.Goals as goal
 
 pub returns-in-Opened-clause-opened : goal.returns-in-Opened-clause-opened
 returns-in-Opened-clause-opened c =

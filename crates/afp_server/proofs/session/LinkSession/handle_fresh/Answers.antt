@@ -11,7 +11,7 @@ use Rattle.afp_server.specs.Script.{FreshDoes}
 use Rattle.afp_server.specs.lemma.SessionState.{SessionState}
 use Rattle.afp_server.specs.declared.stage.Stage.TheVariants.{Fresh}
 use Rattle.afp_server.proofs.Rows.{acts-still, acts-replies}
-use Rattle.afp_server.proofs.session.Session.handle_fresh.Goals as goal
+use Rattle.afp_server.proofs.session.LinkSession.handle_fresh.Goals as goal
 
 pub returns-in-GetStatus-clause-handles : goal.returns-in-GetStatus-clause-handles
 returns-in-GetStatus-clause-handles g c =

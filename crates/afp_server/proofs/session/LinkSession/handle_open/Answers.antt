@@ -10,7 +10,7 @@ use Rattle.afp_server.specs.Script.{OpenDoes}
 use Rattle.afp_server.specs.lemma.SessionState.{SessionState}
 use Rattle.afp_server.specs.declared.stage.Stage.TheVariants.{Open}
 use Rattle.afp_server.proofs.Rows.{acts-still, acts-replies}
-use Rattle.afp_server.proofs.session.Session.handle_open.Goals as goal
+use Rattle.afp_server.proofs.session.LinkSession.handle_open.Goals as goal
 
 pub returns-in-GetStatus-clause-handles : goal.returns-in-GetStatus-clause-handles
 returns-in-GetStatus-clause-handles g c =

@@ -6,7 +6,7 @@ use Rattle.afp_server.specs.CloseSession.{closes}
 use Rattle.afp_server.specs.Did.{Did}
 use Rattle.afp_server.specs.lemma.SessionState.{SessionState}
 use Rattle.afp_server.proofs.Rows.{acts-asks}
-use Rattle.afp_server.proofs.session.Session.close_session.Goals as goal
+use Rattle.afp_server.proofs.session.LinkSession.close_session.Goals as goal
 
 pub returns-clause-closes : goal.returns-clause-closes
 returns-clause-closes g c =

@@ -24,7 +24,7 @@ use Rattle.capture_lines.specs.declared.line.Line.{Line}
 use Rattle.capture_lines.specs.declared.line.Line.TheVariants.{Title, Server, Signature, User as UserLine, Volume, Key, At, End}
 use Rattle.capture_lines.specs.declared.line.What.{What}
 use Rattle.capture_lines.specs.declared.line.What.TheVariants.{In, Quiet, Lost, Out}
-use Rattle.capture_server.specs.Connections.{Connection, Comes, unused, came, output, entries_of, AreServed, difference}
+use Rattle.capture_server.specs.Connections.{Connection, Comes, unused, fed_with, output, entries_of, AreServed, difference}
 use Rattle.capture_server.specs.declared.part.Part.{Part}
 use Rattle.capture_server.specs.declared.part.Part.TheVariants as parts
 
@@ -35,7 +35,7 @@ zeros (suc n) = 0 ∷ zeros n
 
 -- What may come next; the house that the lines make; the moment of the first `at` line, if there was one; the connections by their
 -- numbers, and how many of them were fed; the history, and all replies.
-pub record Standing : Type 0 where
+pub record CaptureState : Type 0 where
   pub part : Part
   pub house : Household
   pub start : Option ℕ
@@ -49,7 +49,7 @@ abbrev pub no_house : Household
 no_house = household [] (zeros 16) [] [] [] (zeros 32)
 
 -- before the first line
-abbrev pub begins : Standing
+abbrev pub begins : CaptureState
 begins = record { part = parts.Title; house = no_house; start = None; connections = λ k. unused; links = 0; history = []; replies = [] }
 
 -- which line may come in each part, and the part that follows it
@@ -77,7 +77,7 @@ is_refused_on c Lost = false
 is_refused_on c (Out bytes) = false
 
 -- a line of a good form that is refused: a name that a house refuses, one user or volume too many, bytes behind the loss of a connection
-abbrev pub is_refused : Standing → Line → Bool
+abbrev pub is_refused : CaptureState → Line → Bool
 is_refused s Title = false
 is_refused s (Server name) = not (is_name longest_server name)
 is_refused s (Signature bytes) = false
@@ -88,7 +88,7 @@ is_refused s (At link now what) = is_refused_on (s.connections link) what
 is_refused s End = false
 
 -- a bad line: it has none of the forms, may not come here, or is refused
-abbrev pub is_bad : Standing → Option Line → Bool
+abbrev pub is_bad : CaptureState → Option Line → Bool
 is_bad s None = true
 is_bad s (Some line) = is_none (part_after s.part line) || is_refused s line
 
@@ -97,7 +97,7 @@ abbrev pub start_at : Option ℕ → ℕ → ℕ
 start_at None now = now
 start_at (Some first) now = first
 
-abbrev pub world_at : Standing → ℕ → World
+abbrev pub world_at : CaptureState → ℕ → World
 world_at s now = stand (fresh_world s.house (start_at s.start now)) s.history
 
 -- with another connection in place of the one of this number
@@ -105,7 +105,7 @@ abbrev pub put : ℕ → Connection → (ℕ → Connection) → ℕ → Connect
 put link c connections k = if k == link then c else connections k
 
 -- Bytes come: those of a connection that takes no more are passed over.
-pub record Feeds (s : Standing) (link now : ℕ) (bytes : List ℕ) (t : Standing) : Type 0 where
+pub record Feeds (s : CaptureState) (link now : ℕ) (bytes : List ℕ) (t : CaptureState) : Type 0 where
   pub frames : List Frame
   pub steps : List Step
   pub replies : List Frame
@@ -114,13 +114,13 @@ pub record Feeds (s : Standing) (link now : ℕ) (bytes : List ℕ) (t : Standin
   pub comes : Comes (status_block s.house) now (s.connections link) bytes frames steps replies after over
   pub served : AreServed (world_at s now) steps
   pub next : t ≡ record s {
-    connections = put link (came (s.connections link) bytes frames replies after over) s.connections;
+    connections = put link (fed_with (s.connections link) bytes frames replies after over) s.connections;
     links = if (s.connections link).used then s.links else counted 1 s.links;
     history = s.history ++ entries_of steps;
     replies = s.replies ++ replies;
   }
 
-abbrev pub FeedsUnless : Bool → Standing → ℕ → ℕ → List ℕ → Standing → Type 0
+abbrev pub FeedsUnless : Bool → CaptureState → ℕ → ℕ → List ℕ → CaptureState → Type 0
 FeedsUnless true s link now bytes t = t ≡ s
 FeedsUnless false s link now bytes t = Feeds s link now bytes t
 
@@ -133,7 +133,7 @@ after_quiet (told.Live drain) c = c
 after_quiet told.Done c = c
 after_quiet told.Memory c = c
 
-pub record Pulses (s : Standing) (link now : ℕ) (open_at : LinkNumber) (t : Standing) : Type 0 where
+pub record Pulses (s : CaptureState) (link now : ℕ) (open_at : LinkNumber) (t : CaptureState) : Type 0 where
   pub answer : Told
   pub served : AreServed (world_at s now) (step now open_at asks.Pulse answer ∷ [])
   pub next : t ≡ record s {
@@ -141,7 +141,7 @@ pub record Pulses (s : Standing) (link now : ℕ) (open_at : LinkNumber) (t : St
     history = s.history ++ entries_of (step now open_at asks.Pulse answer ∷ []);
   }
 
-abbrev pub PulsesIf : Option LinkNumber → Standing → ℕ → ℕ → Standing → Type 0
+abbrev pub PulsesIf : Option LinkNumber → CaptureState → ℕ → ℕ → CaptureState → Type 0
 PulsesIf None s link now t = t ≡ s
 PulsesIf (Some open_at) s link now t = Pulses s link now open_at t
 
@@ -149,7 +149,7 @@ PulsesIf (Some open_at) s link now t = Pulses s link now open_at t
 abbrev pub after_loss : Connection → Connection
 after_loss c = record c { stage = Closing; lost = true }
 
-pub record Loses (s : Standing) (link now : ℕ) (open_at : LinkNumber) (t : Standing) : Type 0 where
+pub record Loses (s : CaptureState) (link now : ℕ) (open_at : LinkNumber) (t : CaptureState) : Type 0 where
   pub answer : Told
   pub served : AreServed (world_at s now) (step now open_at asks.Lost answer ∷ [])
   pub next : t ≡ record s {
@@ -157,24 +157,24 @@ pub record Loses (s : Standing) (link now : ℕ) (open_at : LinkNumber) (t : Sta
     history = s.history ++ entries_of (step now open_at asks.Lost answer ∷ []);
   }
 
-abbrev pub LosesIf : Option LinkNumber → Standing → ℕ → ℕ → Standing → Type 0
+abbrev pub LosesIf : Option LinkNumber → CaptureState → ℕ → ℕ → CaptureState → Type 0
 LosesIf None s link now t = t ≡ record s { connections = put link (after_loss (s.connections link)) s.connections }
 LosesIf (Some open_at) s link now t = Loses s link now open_at t
 
 -- Bytes were answered: those of the output that were not compared yet begin with them.
-pub record Shows (s : Standing) (link : ℕ) (bytes : List ℕ) (t : Standing) : Type 0 where
+pub record Shows (s : CaptureState) (link : ℕ) (bytes : List ℕ) (t : CaptureState) : Type 0 where
   pub same : difference (s.connections link).named bytes (drop (s.connections link).named (output (s.connections link))) ≡ None
   pub next : t ≡ record s { connections = put link (record (s.connections link) { named = (s.connections link).named + length bytes }) s.connections }
 
 -- what happens on a connection at a moment
-abbrev pub Happens : Standing → ℕ → ℕ → What → Standing → Type 0
+abbrev pub Happens : CaptureState → ℕ → ℕ → What → CaptureState → Type 0
 Happens s link now (In bytes) t = FeedsUnless (s.connections link).over s link now bytes t
 Happens s link now Quiet t = PulsesIf (open_link (s.connections link).stage) s link now t
 Happens s link now Lost t = LosesIf (open_link (s.connections link).stage) s link now t
 Happens s link now (Out bytes) t = Shows s link bytes t
 
 -- where a line that is not bad leads, with the part that follows it
-abbrev pub Says : Standing → Part → Line → Standing → Type 0
+abbrev pub Says : CaptureState → Part → Line → CaptureState → Type 0
 Says s part Title t = t ≡ record s { part = part }
 Says s part (Server name) t = t ≡ record s { part = part; house = record s.house { server = name } }
 Says s part (Signature bytes) t = t ≡ record s { part = part; house = record s.house { signature = bytes } }
@@ -185,7 +185,7 @@ Says s part (At link now what) t = Happens (record s { part = part; start = Some
 Says s part End t = t ≡ record s { part = part }
 
 -- A good line leads from one standing to the next.
-pub record Goes (s : Standing) (raw : List ℕ) (t : Standing) : Type 0 where
+pub record Goes (s : CaptureState) (raw : List ℕ) (t : CaptureState) : Type 0 where
   pub line : Line
   pub part : Part
   pub is : line_in raw ≡ Some line
@@ -194,6 +194,6 @@ pub record Goes (s : Standing) (raw : List ℕ) (t : Standing) : Type 0 where
   pub says : Says s part line t
 
 -- good lines lead from one standing to another
-abbrev pub Leads : Standing → List (List ℕ) → Standing → Type 0
+abbrev pub Leads : CaptureState → List (List ℕ) → CaptureState → Type 0
 Leads s [] t = t ≡ s
-Leads s (raw ∷ lines) t = (m : Standing) × Goes s raw m × Leads m lines t
+Leads s (raw ∷ lines) t = (m : CaptureState) × Goes s raw m × Leads m lines t

@@ -1,0 +1,10 @@
+-- The limits that a frame, a request and a session share (this profile).
+use Rattle.std.specs.Prelude.{ℕ}
+
+-- the most bytes of a frame's payload, and so of a request and of a reply
+abbrev pub payload_limit : ℕ
+payload_limit = 131072
+
+-- how many answers a session keeps for requests that come again
+abbrev pub replay_cache_size : ℕ
+replay_cache_size = 32
