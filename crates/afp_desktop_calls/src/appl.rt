@@ -13,7 +13,8 @@ use afp_requests::commands::{ADD_APPL, GET_APPL, REMOVE_APPL};
 use afp_requests::{Call, ReadFault};
 use std::alloc::Global;
 
-/// FPAddAPPL.
+/// Reads 53 FPAddAPPL: pad, desktop database reference number (2), directory ID (4), file creator
+/// (4), APPL tag (4), pathname.
 pub(crate) fn read_add_appl(alloc: Global, fields: &mut Fields<'_>) -> Result<Call, ReadFault>
     ensures { Gives add_appl_reader fields.old result }
 {
@@ -33,7 +34,7 @@ pub(crate) fn read_add_appl(alloc: Global, fields: &mut Fields<'_>) -> Result<Ca
     })
 }
 
-/// FPAddAPPL.
+/// Writes FPAddAPPL: 53 and these fields, the pad as 0.
 pub(crate) fn write_add_appl(
     alloc: Global,
     out: &mut Bytes,
@@ -56,7 +57,8 @@ pub(crate) fn write_add_appl(
     put_path(alloc, out, path)
 }
 
-/// FPRemoveAPPL.
+/// Reads 54 FPRemoveAPPL: pad, desktop database reference number (2), directory ID (4), file
+/// creator (4), pathname.
 pub(crate) fn read_remove_appl(alloc: Global, fields: &mut Fields<'_>) -> Result<Call, ReadFault>
     ensures { Gives remove_appl_reader fields.old result }
 {
@@ -74,7 +76,7 @@ pub(crate) fn read_remove_appl(alloc: Global, fields: &mut Fields<'_>) -> Result
     })
 }
 
-/// FPRemoveAPPL.
+/// Writes FPRemoveAPPL: 54 and these fields, the pad as 0.
 pub(crate) fn write_remove_appl(
     alloc: Global,
     out: &mut Bytes,
@@ -95,7 +97,8 @@ pub(crate) fn write_remove_appl(
     put_path(alloc, out, path)
 }
 
-/// FPGetAPPL.
+/// Reads 55 FPGetAPPL: pad, desktop database reference number (2), file creator (4), APPL index
+/// (2), bitmap (2).
 pub(crate) fn read_get_appl(fields: &mut Fields<'_>) -> Result<Call, ReadFault>
     ensures { Gives get_appl_reader fields.old result }
 {
@@ -113,7 +116,7 @@ pub(crate) fn read_get_appl(fields: &mut Fields<'_>) -> Result<Call, ReadFault>
     })
 }
 
-/// FPGetAPPL.
+/// Writes FPGetAPPL: 55 and these fields, the pad as 0.
 pub(crate) fn write_get_appl(
     out: &mut Bytes,
     dt: u16,

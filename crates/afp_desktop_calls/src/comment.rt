@@ -13,7 +13,8 @@ use afp_requests::commands::{ADD_COMMENT, GET_COMMENT, REMOVE_COMMENT};
 use afp_requests::{Call, ReadFault};
 use std::alloc::Global;
 
-/// FPAddComment.
+/// Reads 56 FPAddComment: pad, desktop database reference number (2), directory ID (4), pathname,
+/// pad to even, comment (Pascal string).
 pub(crate) fn read_add_comment(alloc: Global, fields: &mut Fields<'_>) -> Result<Call, ReadFault>
     ensures { Gives add_comment_reader fields.old result }
 {
@@ -32,7 +33,8 @@ pub(crate) fn read_add_comment(alloc: Global, fields: &mut Fields<'_>) -> Result
     })
 }
 
-/// FPAddComment.
+/// Writes FPAddComment: 56 and these fields, pads as 0. An even place is counted from the 56, and
+/// the comment has at most 255 bytes.
 pub(crate) fn write_add_comment(
     alloc: Global,
     out: &mut Bytes,
@@ -56,7 +58,8 @@ pub(crate) fn write_add_comment(
     put_str(out, comment.as_slice())
 }
 
-/// FPRemoveComment.
+/// Reads 57 FPRemoveComment: pad, desktop database reference number (2), directory ID (4),
+/// pathname.
 pub(crate) fn read_remove_comment(alloc: Global, fields: &mut Fields<'_>) -> Result<Call, ReadFault>
     ensures { Gives remove_comment_reader fields.old result }
 {
@@ -68,7 +71,7 @@ pub(crate) fn read_remove_comment(alloc: Global, fields: &mut Fields<'_>) -> Res
     Ok(Call::RemoveComment { dt, dir, path })
 }
 
-/// FPRemoveComment.
+/// Writes FPRemoveComment: 57 and these fields, the pad as 0.
 pub(crate) fn write_remove_comment(
     alloc: Global,
     out: &mut Bytes,
@@ -86,7 +89,7 @@ pub(crate) fn write_remove_comment(
     put_path(alloc, out, path)
 }
 
-/// FPGetComment.
+/// Reads 58 FPGetComment: pad, desktop database reference number (2), directory ID (4), pathname.
 pub(crate) fn read_get_comment(alloc: Global, fields: &mut Fields<'_>) -> Result<Call, ReadFault>
     ensures { Gives get_comment_reader fields.old result }
 {
@@ -98,7 +101,7 @@ pub(crate) fn read_get_comment(alloc: Global, fields: &mut Fields<'_>) -> Result
     Ok(Call::GetComment { dt, dir, path })
 }
 
-/// FPGetComment.
+/// Writes FPGetComment: 58 and these fields, the pad as 0.
 pub(crate) fn write_get_comment(
     alloc: Global,
     out: &mut Bytes,

@@ -11,7 +11,7 @@ use afp_fields::{Fields, put_command, put_pad, put_u16};
 use afp_requests::commands::{CLOSE_DT, OPEN_DT};
 use afp_requests::{Call, ReadFault};
 
-/// FPOpenDT.
+/// Reads 48 FPOpenDT: pad, volume ID (2).
 pub(crate) fn read_open_dt(fields: &mut Fields<'_>) -> Result<Call, ReadFault>
     ensures { Gives open_dt_reader fields.old result }
 {
@@ -21,7 +21,7 @@ pub(crate) fn read_open_dt(fields: &mut Fields<'_>) -> Result<Call, ReadFault>
     Ok(Call::OpenDT { volume })
 }
 
-/// FPOpenDT.
+/// Writes FPOpenDT: 48 and these fields, the pad as 0.
 pub(crate) fn write_open_dt(out: &mut Bytes, volume: VolumeId) -> Result<(), OutOfMemory>
     ensures put { OnOk result (PutsAll (open_dt volume).fields out.old out.new) }
     ensures err { OnErr result (Keeps out.old out.new) }
@@ -31,7 +31,7 @@ pub(crate) fn write_open_dt(out: &mut Bytes, volume: VolumeId) -> Result<(), Out
     put_u16(out, volume.0)
 }
 
-/// FPCloseDT.
+/// Reads 49 FPCloseDT: pad, desktop database reference number (2).
 pub(crate) fn read_close_dt(fields: &mut Fields<'_>) -> Result<Call, ReadFault>
     ensures { Gives close_dt_reader fields.old result }
 {
@@ -41,7 +41,7 @@ pub(crate) fn read_close_dt(fields: &mut Fields<'_>) -> Result<Call, ReadFault>
     Ok(Call::CloseDT { dt })
 }
 
-/// FPCloseDT.
+/// Writes FPCloseDT: 49 and these fields, the pad as 0.
 pub(crate) fn write_close_dt(out: &mut Bytes, dt: u16) -> Result<(), OutOfMemory>
     ensures put { OnOk result (PutsAll (close_dt dt).fields out.old out.new) }
     ensures err { OnErr result (Keeps out.old out.new) }

@@ -12,7 +12,8 @@ use afp_requests::commands::{ADD_ICON, GET_ICON, GET_ICON_INFO};
 use afp_requests::{Call, ReadFault};
 use std::alloc::Global;
 
-/// FPAddIcon.
+/// Reads 192 FPAddIcon: pad, desktop database reference number (2), file creator (4), file type (4),
+/// icon type (1), pad, icon tag (4), bitmap size (2). Enclosed: the icon's bitmap, of that size.
 pub(crate) fn read_add_icon(alloc: Global, fields: &mut Fields<'_>) -> Result<Call, ReadFault>
     ensures { Gives add_icon_reader fields.old result }
 {
@@ -36,7 +37,8 @@ pub(crate) fn read_add_icon(alloc: Global, fields: &mut Fields<'_>) -> Result<Ca
     })
 }
 
-/// FPAddIcon.
+/// Writes FPAddIcon: 192 and these fields, pads as 0. The bitmap is not in the block: it goes
+/// enclosed.
 pub(crate) fn write_add_icon(
     out: &mut Bytes,
     dt: u16,
@@ -61,7 +63,8 @@ pub(crate) fn write_add_icon(
     put_u16(out, size)
 }
 
-/// FPGetIcon.
+/// Reads 51 FPGetIcon: pad, desktop database reference number (2), file creator (4), file type (4),
+/// icon type (1), pad, length (2).
 pub(crate) fn read_get_icon(fields: &mut Fields<'_>) -> Result<Call, ReadFault>
     ensures { Gives get_icon_reader fields.old result }
 {
@@ -82,7 +85,7 @@ pub(crate) fn read_get_icon(fields: &mut Fields<'_>) -> Result<Call, ReadFault>
     })
 }
 
-/// FPGetIcon.
+/// Writes FPGetIcon: 51 and these fields, pads as 0.
 pub(crate) fn write_get_icon(
     out: &mut Bytes,
     dt: u16,
@@ -105,7 +108,8 @@ pub(crate) fn write_get_icon(
     put_u16(out, length)
 }
 
-/// FPGetIconInfo.
+/// Reads 52 FPGetIconInfo: pad, desktop database reference number (2), file creator (4), icon index
+/// (2).
 pub(crate) fn read_get_icon_info(fields: &mut Fields<'_>) -> Result<Call, ReadFault>
     ensures { Gives get_icon_info_reader fields.old result }
 {
@@ -117,7 +121,7 @@ pub(crate) fn read_get_icon_info(fields: &mut Fields<'_>) -> Result<Call, ReadFa
     Ok(Call::GetIconInfo { dt, creator, index })
 }
 
-/// FPGetIconInfo.
+/// Writes FPGetIconInfo: 52 and these fields, the pad as 0.
 pub(crate) fn write_get_icon_info(
     out: &mut Bytes,
     dt: u16,

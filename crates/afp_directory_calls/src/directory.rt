@@ -13,7 +13,7 @@ use afp_requests::commands::{CLOSE_DIR, CREATE_DIR, OPEN_DIR};
 use afp_requests::{Call, ReadFault};
 use std::alloc::Global;
 
-/// FPCreateDir.
+/// Reads 6 FPCreateDir: pad, volume ID (2), directory ID (4), pathname.
 pub(crate) fn read_create_dir(alloc: Global, fields: &mut Fields<'_>) -> Result<Call, ReadFault>
     ensures { Gives create_dir_reader fields.old result }
 {
@@ -25,7 +25,7 @@ pub(crate) fn read_create_dir(alloc: Global, fields: &mut Fields<'_>) -> Result<
     Ok(Call::CreateDir { volume, dir, path })
 }
 
-/// FPCreateDir.
+/// Writes FPCreateDir: 6 and these fields, the pad as 0.
 pub(crate) fn write_create_dir(
     alloc: Global,
     out: &mut Bytes,
@@ -43,7 +43,7 @@ pub(crate) fn write_create_dir(
     put_path(alloc, out, path)
 }
 
-/// FPOpenDir.
+/// Reads 25 FPOpenDir: pad, volume ID (2), directory ID (4), pathname.
 pub(crate) fn read_open_dir(alloc: Global, fields: &mut Fields<'_>) -> Result<Call, ReadFault>
     ensures { Gives open_dir_reader fields.old result }
 {
@@ -55,7 +55,7 @@ pub(crate) fn read_open_dir(alloc: Global, fields: &mut Fields<'_>) -> Result<Ca
     Ok(Call::OpenDir { volume, dir, path })
 }
 
-/// FPOpenDir.
+/// Writes FPOpenDir: 25 and these fields, the pad as 0.
 pub(crate) fn write_open_dir(
     alloc: Global,
     out: &mut Bytes,
@@ -73,7 +73,7 @@ pub(crate) fn write_open_dir(
     put_path(alloc, out, path)
 }
 
-/// FPCloseDir.
+/// Reads 3 FPCloseDir: pad, volume ID (2), directory ID (4).
 pub(crate) fn read_close_dir(fields: &mut Fields<'_>) -> Result<Call, ReadFault>
     ensures { Gives close_dir_reader fields.old result }
 {
@@ -84,7 +84,7 @@ pub(crate) fn read_close_dir(fields: &mut Fields<'_>) -> Result<Call, ReadFault>
     Ok(Call::CloseDir { volume, dir })
 }
 
-/// FPCloseDir.
+/// Writes FPCloseDir: 3 and these fields, the pad as 0.
 pub(crate) fn write_close_dir(
     out: &mut Bytes,
     volume: VolumeId,

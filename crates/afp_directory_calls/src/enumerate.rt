@@ -13,7 +13,8 @@ use afp_requests::commands::{ENUMERATE, ENUMERATE_EXT, ENUMERATE_EXT2};
 use afp_requests::{Call, ReadFault};
 use std::alloc::Global;
 
-/// FPEnumerate.
+/// Reads 9 FPEnumerate: pad, volume ID (2), directory ID (4), file bitmap (2), directory bitmap
+/// (2), request count (2), start index (2), maximum reply size (2), pathname.
 pub(crate) fn read_enumerate(alloc: Global, fields: &mut Fields<'_>) -> Result<Call, ReadFault>
     ensures { Gives enumerate_reader fields.old result }
 {
@@ -39,7 +40,7 @@ pub(crate) fn read_enumerate(alloc: Global, fields: &mut Fields<'_>) -> Result<C
     })
 }
 
-/// FPEnumerate.
+/// Writes FPEnumerate: 9 and these fields, the pad as 0.
 pub(crate) fn write_enumerate(
     alloc: Global,
     out: &mut Bytes,
@@ -69,7 +70,8 @@ pub(crate) fn write_enumerate(
     put_path(alloc, out, path)
 }
 
-/// FPEnumerateExt.
+/// Reads 66 FPEnumerateExt: pad, volume ID (2), directory ID (4), file bitmap (2), directory bitmap
+/// (2), request count (2), start index (2), maximum reply size (2), pathname.
 pub(crate) fn read_enumerate_ext(alloc: Global, fields: &mut Fields<'_>) -> Result<Call, ReadFault>
     ensures { Gives enumerate_ext_reader fields.old result }
 {
@@ -95,7 +97,7 @@ pub(crate) fn read_enumerate_ext(alloc: Global, fields: &mut Fields<'_>) -> Resu
     })
 }
 
-/// FPEnumerateExt.
+/// Writes FPEnumerateExt: 66 and these fields, the pad as 0.
 pub(crate) fn write_enumerate_ext(
     alloc: Global,
     out: &mut Bytes,
@@ -125,7 +127,8 @@ pub(crate) fn write_enumerate_ext(
     put_path(alloc, out, path)
 }
 
-/// FPEnumerateExt2.
+/// Reads 68 FPEnumerateExt2: pad, volume ID (2), directory ID (4), file bitmap (2), directory
+/// bitmap (2), request count (2), start index (4), maximum reply size (4), pathname.
 pub(crate) fn read_enumerate_ext2(alloc: Global, fields: &mut Fields<'_>) -> Result<Call, ReadFault>
     ensures { Gives enumerate_ext2_reader fields.old result }
 {
@@ -151,7 +154,7 @@ pub(crate) fn read_enumerate_ext2(alloc: Global, fields: &mut Fields<'_>) -> Res
     })
 }
 
-/// FPEnumerateExt2.
+/// Writes FPEnumerateExt2: 68 and these fields, the pad as 0.
 pub(crate) fn write_enumerate_ext2(
     alloc: Global,
     out: &mut Bytes,

@@ -13,7 +13,8 @@ use afp_requests::commands::{GET_FILE_DIR_PARMS, SET_DIR_PARMS, SET_FILE_DIR_PAR
 use afp_requests::{Call, ReadFault};
 use std::alloc::Global;
 
-/// FPSetDirParms.
+/// Reads 29 FPSetDirParms: pad, volume ID (2), directory ID (4), bitmap (2), pathname, pad to even,
+/// parameters (all that remains).
 pub(crate) fn read_set_dir_parms(alloc: Global, fields: &mut Fields<'_>) -> Result<Call, ReadFault>
     ensures { Gives set_dir_parms_reader fields.old result }
 {
@@ -34,7 +35,7 @@ pub(crate) fn read_set_dir_parms(alloc: Global, fields: &mut Fields<'_>) -> Resu
     })
 }
 
-/// FPSetDirParms.
+/// Writes FPSetDirParms: 29 and these fields, pads as 0. An even place is counted from the 29.
 pub(crate) fn write_set_dir_parms(
     alloc: Global,
     out: &mut Bytes,
@@ -59,7 +60,8 @@ pub(crate) fn write_set_dir_parms(
     put_bytes(out, tail.as_slice())
 }
 
-/// FPGetFileDirParms.
+/// Reads 34 FPGetFileDirParms: pad, volume ID (2), directory ID (4), file bitmap (2), directory
+/// bitmap (2), pathname.
 pub(crate) fn read_get_file_dir_parms(
     alloc: Global,
     fields: &mut Fields<'_>,
@@ -82,7 +84,7 @@ pub(crate) fn read_get_file_dir_parms(
     })
 }
 
-/// FPGetFileDirParms.
+/// Writes FPGetFileDirParms: 34 and these fields, the pad as 0.
 pub(crate) fn write_get_file_dir_parms(
     alloc: Global,
     out: &mut Bytes,
@@ -106,7 +108,8 @@ pub(crate) fn write_get_file_dir_parms(
     put_path(alloc, out, path)
 }
 
-/// FPSetFileDirParms.
+/// Reads 35 FPSetFileDirParms: pad, volume ID (2), directory ID (4), bitmap (2), pathname, pad to
+/// even, parameters (all that remains).
 pub(crate) fn read_set_file_dir_parms(
     alloc: Global,
     fields: &mut Fields<'_>,
@@ -130,7 +133,7 @@ pub(crate) fn read_set_file_dir_parms(
     })
 }
 
-/// FPSetFileDirParms.
+/// Writes FPSetFileDirParms: 35 and these fields, pads as 0. An even place is counted from the 35.
 pub(crate) fn write_set_file_dir_parms(
     alloc: Global,
     out: &mut Bytes,

@@ -13,7 +13,7 @@ use afp_requests::commands::{DELETE, MOVE_AND_RENAME, RENAME};
 use afp_requests::{Call, ReadFault};
 use std::alloc::Global;
 
-/// FPDelete.
+/// Reads 8 FPDelete: pad, volume ID (2), directory ID (4), pathname.
 pub(crate) fn read_delete(alloc: Global, fields: &mut Fields<'_>) -> Result<Call, ReadFault>
     ensures { Gives delete_reader fields.old result }
 {
@@ -25,7 +25,7 @@ pub(crate) fn read_delete(alloc: Global, fields: &mut Fields<'_>) -> Result<Call
     Ok(Call::Delete { volume, dir, path })
 }
 
-/// FPDelete.
+/// Writes FPDelete: 8 and these fields, the pad as 0.
 pub(crate) fn write_delete(
     alloc: Global,
     out: &mut Bytes,
@@ -43,7 +43,7 @@ pub(crate) fn write_delete(
     put_path(alloc, out, path)
 }
 
-/// FPRename.
+/// Reads 28 FPRename: pad, volume ID (2), directory ID (4), pathname, new name (a pathname).
 pub(crate) fn read_rename(alloc: Global, fields: &mut Fields<'_>) -> Result<Call, ReadFault>
     ensures { Gives rename_reader fields.old result }
 {
@@ -61,7 +61,7 @@ pub(crate) fn read_rename(alloc: Global, fields: &mut Fields<'_>) -> Result<Call
     })
 }
 
-/// FPRename.
+/// Writes FPRename: 28 and these fields, the pad as 0.
 pub(crate) fn write_rename(
     alloc: Global,
     out: &mut Bytes,
@@ -82,7 +82,8 @@ pub(crate) fn write_rename(
     put_path(alloc, out, new_path)
 }
 
-/// FPMoveAndRename.
+/// Reads 23 FPMoveAndRename: pad, volume ID (2), source directory ID (4), destination directory ID
+/// (4), source pathname, destination pathname, new name (a pathname).
 pub(crate) fn read_move_and_rename(
     alloc: Global,
     fields: &mut Fields<'_>,
@@ -107,7 +108,7 @@ pub(crate) fn read_move_and_rename(
     })
 }
 
-/// FPMoveAndRename.
+/// Writes FPMoveAndRename: 23 and these fields, the pad as 0.
 pub(crate) fn write_move_and_rename(
     alloc: Global,
     out: &mut Bytes,

@@ -19,7 +19,7 @@ use afp_requests::commands::{COPY_FILE, CREATE_FILE, EXCHANGE_FILES, SET_FILE_PA
 use afp_requests::{Call, ReadFault};
 use std::alloc::Global;
 
-/// FPCreateFile.
+/// Reads 7 FPCreateFile: flag (1; 0x80 hard), volume ID (2), directory ID (4), pathname.
 pub(crate) fn read_create_file(alloc: Global, fields: &mut Fields<'_>) -> Result<Call, ReadFault>
     ensures { Gives create_file_reader fields.old result }
 {
@@ -36,7 +36,7 @@ pub(crate) fn read_create_file(alloc: Global, fields: &mut Fields<'_>) -> Result
     })
 }
 
-/// FPCreateFile.
+/// Writes FPCreateFile: 7 and these fields.
 pub(crate) fn write_create_file(
     alloc: Global,
     out: &mut Bytes,
@@ -55,7 +55,8 @@ pub(crate) fn write_create_file(
     put_path(alloc, out, path)
 }
 
-/// FPCopyFile.
+/// Reads 5 FPCopyFile: pad, source volume ID (2), source directory ID (4), destination volume ID
+/// (2), destination directory ID (4), source pathname, destination pathname, new name (a pathname).
 pub(crate) fn read_copy_file(alloc: Global, fields: &mut Fields<'_>) -> Result<Call, ReadFault>
     ensures { Gives copy_file_reader fields.old result }
 {
@@ -67,7 +68,7 @@ pub(crate) fn read_copy_file(alloc: Global, fields: &mut Fields<'_>) -> Result<C
     copy_file_by_paths(alloc, fields, volume, dir, target_volume, target_dir)
 }
 
-/// What stands of FPCopyFile behind its volumes and directories.
+/// The three pathnames of FPCopyFile, behind its volumes and directories.
 fn copy_file_by_paths(
     alloc: Global,
     fields: &mut Fields<'_>,
@@ -96,7 +97,7 @@ fn copy_file_by_paths(
     })
 }
 
-/// FPCopyFile.
+/// Writes FPCopyFile: 5 and these fields, the pad as 0.
 pub(crate) fn write_copy_file(
     alloc: Global,
     out: &mut Bytes,
@@ -124,7 +125,8 @@ pub(crate) fn write_copy_file(
     put_path(alloc, out, new_path)
 }
 
-/// FPSetFileParms.
+/// Reads 30 FPSetFileParms: pad, volume ID (2), directory ID (4), bitmap (2), pathname, pad to
+/// even, parameters (all that remains).
 pub(crate) fn read_set_file_parms(alloc: Global, fields: &mut Fields<'_>) -> Result<Call, ReadFault>
     ensures { Gives set_file_parms_reader fields.old result }
 {
@@ -135,7 +137,7 @@ pub(crate) fn read_set_file_parms(alloc: Global, fields: &mut Fields<'_>) -> Res
     set_file_parms_behind_its_bits(alloc, fields, volume, dir, bits)
 }
 
-/// What stands of FPSetFileParms behind its bits.
+/// The pathname, the pad and the parameters of FPSetFileParms, behind its bitmap.
 fn set_file_parms_behind_its_bits(
     alloc: Global,
     fields: &mut Fields<'_>,
@@ -161,7 +163,7 @@ fn set_file_parms_behind_its_bits(
     })
 }
 
-/// FPSetFileParms.
+/// Writes FPSetFileParms: 30 and these fields, pads as 0. An even place is counted from the 30.
 pub(crate) fn write_set_file_parms(
     alloc: Global,
     out: &mut Bytes,
@@ -186,7 +188,8 @@ pub(crate) fn write_set_file_parms(
     put_bytes(out, tail.as_slice())
 }
 
-/// FPExchangeFiles.
+/// Reads 42 FPExchangeFiles: pad, volume ID (2), source directory ID (4), destination directory ID
+/// (4), source pathname, destination pathname.
 pub(crate) fn read_exchange_files(alloc: Global, fields: &mut Fields<'_>) -> Result<Call, ReadFault>
     ensures { Gives exchange_files_reader fields.old result }
 {
@@ -206,7 +209,7 @@ pub(crate) fn read_exchange_files(alloc: Global, fields: &mut Fields<'_>) -> Res
     })
 }
 
-/// FPExchangeFiles.
+/// Writes FPExchangeFiles: 42 and these fields, the pad as 0.
 pub(crate) fn write_exchange_files(
     alloc: Global,
     out: &mut Bytes,

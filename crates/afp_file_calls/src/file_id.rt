@@ -13,7 +13,7 @@ use afp_requests::commands::{CREATE_ID, DELETE_ID, RESOLVE_ID};
 use afp_requests::{Call, ReadFault};
 use std::alloc::Global;
 
-/// FPCreateID.
+/// Reads 39 FPCreateID: pad, volume ID (2), directory ID (4), pathname.
 pub(crate) fn read_create_id(alloc: Global, fields: &mut Fields<'_>) -> Result<Call, ReadFault>
     ensures { Gives create_id_reader fields.old result }
 {
@@ -25,7 +25,7 @@ pub(crate) fn read_create_id(alloc: Global, fields: &mut Fields<'_>) -> Result<C
     Ok(Call::CreateID { volume, dir, path })
 }
 
-/// FPCreateID.
+/// Writes FPCreateID: 39 and these fields, the pad as 0.
 pub(crate) fn write_create_id(
     alloc: Global,
     out: &mut Bytes,
@@ -43,7 +43,7 @@ pub(crate) fn write_create_id(
     put_path(alloc, out, path)
 }
 
-/// FPDeleteID.
+/// Reads 40 FPDeleteID: pad, volume ID (2), file ID (4).
 pub(crate) fn read_delete_id(fields: &mut Fields<'_>) -> Result<Call, ReadFault>
     ensures { Gives delete_id_reader fields.old result }
 {
@@ -54,7 +54,7 @@ pub(crate) fn read_delete_id(fields: &mut Fields<'_>) -> Result<Call, ReadFault>
     Ok(Call::DeleteID { volume, id })
 }
 
-/// FPDeleteID.
+/// Writes FPDeleteID: 40 and these fields, the pad as 0.
 pub(crate) fn write_delete_id(
     out: &mut Bytes,
     volume: VolumeId,
@@ -69,7 +69,7 @@ pub(crate) fn write_delete_id(
     put_u32(out, id.0)
 }
 
-/// FPResolveID.
+/// Reads 41 FPResolveID: pad, volume ID (2), file ID (4), bitmap (2).
 pub(crate) fn read_resolve_id(fields: &mut Fields<'_>) -> Result<Call, ReadFault>
     ensures { Gives resolve_id_reader fields.old result }
 {
@@ -81,7 +81,7 @@ pub(crate) fn read_resolve_id(fields: &mut Fields<'_>) -> Result<Call, ReadFault
     Ok(Call::ResolveID { volume, id, bits })
 }
 
-/// FPResolveID.
+/// Writes FPResolveID: 41 and these fields, the pad as 0.
 pub(crate) fn write_resolve_id(
     out: &mut Bytes,
     volume: VolumeId,

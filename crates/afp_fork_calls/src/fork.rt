@@ -13,7 +13,8 @@ use afp_requests::commands::{CLOSE_FORK, FLUSH_FORK, GET_FORK_PARMS, OPEN_FORK, 
 use afp_requests::{Call, ReadFault};
 use std::alloc::Global;
 
-/// FPOpenFork.
+/// Reads 26 FPOpenFork: flag (1; 0x80 resource fork), volume ID (2), directory ID (4), bitmap (2),
+/// access mode (2), pathname.
 pub(crate) fn read_open_fork(alloc: Global, fields: &mut Fields<'_>) -> Result<Call, ReadFault>
     ensures { Gives open_fork_reader fields.old result }
 {
@@ -34,7 +35,7 @@ pub(crate) fn read_open_fork(alloc: Global, fields: &mut Fields<'_>) -> Result<C
     })
 }
 
-/// FPOpenFork.
+/// Writes FPOpenFork: 26 and these fields.
 pub(crate) fn write_open_fork(
     alloc: Global,
     out: &mut Bytes,
@@ -58,7 +59,7 @@ pub(crate) fn write_open_fork(
     put_path(alloc, out, path)
 }
 
-/// FPCloseFork.
+/// Reads 4 FPCloseFork: pad, open fork reference number (2).
 pub(crate) fn read_close_fork(fields: &mut Fields<'_>) -> Result<Call, ReadFault>
     ensures { Gives close_fork_reader fields.old result }
 {
@@ -68,7 +69,7 @@ pub(crate) fn read_close_fork(fields: &mut Fields<'_>) -> Result<Call, ReadFault
     Ok(Call::CloseFork { reference })
 }
 
-/// FPCloseFork.
+/// Writes FPCloseFork: 4 and these fields, the pad as 0.
 pub(crate) fn write_close_fork(out: &mut Bytes, reference: ForkRef) -> Result<(), OutOfMemory>
     ensures put { OnOk result (PutsAll (close_fork reference).fields out.old out.new) }
     ensures err { OnErr result (Keeps out.old out.new) }
@@ -78,7 +79,7 @@ pub(crate) fn write_close_fork(out: &mut Bytes, reference: ForkRef) -> Result<()
     put_u16(out, reference.0)
 }
 
-/// FPFlushFork.
+/// Reads 11 FPFlushFork: pad, open fork reference number (2).
 pub(crate) fn read_flush_fork(fields: &mut Fields<'_>) -> Result<Call, ReadFault>
     ensures { Gives flush_fork_reader fields.old result }
 {
@@ -88,7 +89,7 @@ pub(crate) fn read_flush_fork(fields: &mut Fields<'_>) -> Result<Call, ReadFault
     Ok(Call::FlushFork { reference })
 }
 
-/// FPFlushFork.
+/// Writes FPFlushFork: 11 and these fields, the pad as 0.
 pub(crate) fn write_flush_fork(out: &mut Bytes, reference: ForkRef) -> Result<(), OutOfMemory>
     ensures put { OnOk result (PutsAll (flush_fork reference).fields out.old out.new) }
     ensures err { OnErr result (Keeps out.old out.new) }
@@ -98,7 +99,7 @@ pub(crate) fn write_flush_fork(out: &mut Bytes, reference: ForkRef) -> Result<()
     put_u16(out, reference.0)
 }
 
-/// FPGetForkParms.
+/// Reads 14 FPGetForkParms: pad, open fork reference number (2), bitmap (2).
 pub(crate) fn read_get_fork_parms(fields: &mut Fields<'_>) -> Result<Call, ReadFault>
     ensures { Gives get_fork_parms_reader fields.old result }
 {
@@ -109,7 +110,7 @@ pub(crate) fn read_get_fork_parms(fields: &mut Fields<'_>) -> Result<Call, ReadF
     Ok(Call::GetForkParms { reference, bits })
 }
 
-/// FPGetForkParms.
+/// Writes FPGetForkParms: 14 and these fields, the pad as 0.
 pub(crate) fn write_get_fork_parms(
     out: &mut Bytes,
     reference: ForkRef,
@@ -124,7 +125,8 @@ pub(crate) fn write_get_fork_parms(
     put_u16(out, bits)
 }
 
-/// FPSetForkParms.
+/// Reads 31 FPSetForkParms: pad, open fork reference number (2), bitmap (2), fork length (all that
+/// remains).
 pub(crate) fn read_set_fork_parms(alloc: Global, fields: &mut Fields<'_>) -> Result<Call, ReadFault>
     ensures { Gives set_fork_parms_reader fields.old result }
 {
@@ -140,7 +142,7 @@ pub(crate) fn read_set_fork_parms(alloc: Global, fields: &mut Fields<'_>) -> Res
     })
 }
 
-/// FPSetForkParms.
+/// Writes FPSetForkParms: 31 and these fields, the pad as 0.
 pub(crate) fn write_set_fork_parms(
     out: &mut Bytes,
     reference: ForkRef,

@@ -12,7 +12,8 @@ use afp_requests::commands::{READ, READ_EXT, WRITE, WRITE_EXT};
 use afp_requests::{Call, ReadFault};
 use std::alloc::Global;
 
-/// FPRead.
+/// Reads 27 FPRead: pad, open fork reference number (2), offset (4, signed), request count (4),
+/// newline mask (1), newline character (1).
 pub(crate) fn read_read(fields: &mut Fields<'_>) -> Result<Call, ReadFault>
     ensures { Gives read_reader fields.old result }
 {
@@ -32,7 +33,7 @@ pub(crate) fn read_read(fields: &mut Fields<'_>) -> Result<Call, ReadFault>
     })
 }
 
-/// FPRead.
+/// Writes FPRead: 27 and these fields, the pad as 0.
 pub(crate) fn write_read(
     out: &mut Bytes,
     reference: ForkRef,
@@ -54,7 +55,8 @@ pub(crate) fn write_read(
     put_u8(out, character)
 }
 
-/// FPReadExt.
+/// Reads 60 FPReadExt: pad, open fork reference number (2), offset (8, signed), request count (8,
+/// signed).
 pub(crate) fn read_read_ext(fields: &mut Fields<'_>) -> Result<Call, ReadFault>
     ensures { Gives read_ext_reader fields.old result }
 {
@@ -70,7 +72,7 @@ pub(crate) fn read_read_ext(fields: &mut Fields<'_>) -> Result<Call, ReadFault>
     })
 }
 
-/// FPReadExt.
+/// Writes FPReadExt: 60 and these fields, the pad as 0.
 pub(crate) fn write_read_ext(
     out: &mut Bytes,
     reference: ForkRef,
@@ -87,7 +89,8 @@ pub(crate) fn write_read_ext(
     put_i64(out, count)
 }
 
-/// FPWrite.
+/// Reads 33 FPWrite: flag (1; 0x80 from the fork's end), open fork reference number (2), offset (4,
+/// signed), request count (4). Enclosed: fork data, as many bytes as the count.
 pub(crate) fn read_write(alloc: Global, fields: &mut Fields<'_>) -> Result<Call, ReadFault>
     ensures { Gives write_reader fields.old result }
 {
@@ -105,7 +108,7 @@ pub(crate) fn read_write(alloc: Global, fields: &mut Fields<'_>) -> Result<Call,
     })
 }
 
-/// FPWrite.
+/// Writes FPWrite: 33 and these fields. The data is not in the block: it goes enclosed.
 pub(crate) fn write_write(
     out: &mut Bytes,
     flag: u8,
@@ -123,7 +126,8 @@ pub(crate) fn write_write(
     put_u32(out, count)
 }
 
-/// FPWriteExt.
+/// Reads 61 FPWriteExt: flag (1; 0x80 from the fork's end), open fork reference number (2), offset (8, signed),
+/// request count (8, signed). Enclosed: fork data, as many bytes as the count, none where it is negative.
 pub(crate) fn read_write_ext(alloc: Global, fields: &mut Fields<'_>) -> Result<Call, ReadFault>
     ensures { Gives write_ext_reader fields.old result }
 {
@@ -141,7 +145,7 @@ pub(crate) fn read_write_ext(alloc: Global, fields: &mut Fields<'_>) -> Result<C
     })
 }
 
-/// FPWriteExt.
+/// Writes FPWriteExt: 61 and these fields. The data is not in the block: it goes enclosed.
 pub(crate) fn write_write_ext(
     out: &mut Bytes,
     flag: u8,

@@ -11,7 +11,8 @@ use afp_fields::{Fields, put_command, put_i32, put_i64, put_u8, put_u16};
 use afp_requests::commands::{BYTE_RANGE_LOCK, BYTE_RANGE_LOCK_EXT};
 use afp_requests::{Call, ReadFault};
 
-/// FPByteRangeLock.
+/// Reads 1 FPByteRangeLock: flags (1; bit 0 unlocks, bit 7 counts from the fork's end), open fork
+/// reference number (2), offset (4, signed), length (4, signed).
 pub(crate) fn read_byte_range_lock(fields: &mut Fields<'_>) -> Result<Call, ReadFault>
     ensures { Gives byte_range_lock_reader fields.old result }
 {
@@ -28,7 +29,7 @@ pub(crate) fn read_byte_range_lock(fields: &mut Fields<'_>) -> Result<Call, Read
     })
 }
 
-/// FPByteRangeLock.
+/// Writes FPByteRangeLock: 1 and these fields.
 pub(crate) fn write_byte_range_lock(
     out: &mut Bytes,
     flags: u8,
@@ -47,7 +48,8 @@ pub(crate) fn write_byte_range_lock(
     put_i32(out, length)
 }
 
-/// FPByteRangeLockExt.
+/// Reads 59 FPByteRangeLockExt: flags (1; bit 0 unlocks, bit 7 counts from the fork's end), open
+/// fork reference number (2), offset (8, signed), length (8, signed).
 pub(crate) fn read_byte_range_lock_ext(fields: &mut Fields<'_>) -> Result<Call, ReadFault>
     ensures { Gives byte_range_lock_ext_reader fields.old result }
 {
@@ -64,7 +66,7 @@ pub(crate) fn read_byte_range_lock_ext(fields: &mut Fields<'_>) -> Result<Call, 
     })
 }
 
-/// FPByteRangeLockExt.
+/// Writes FPByteRangeLockExt: 59 and these fields.
 pub(crate) fn write_byte_range_lock_ext(
     out: &mut Bytes,
     flags: u8,

@@ -1,5 +1,9 @@
 //! Replies of the Apple Filing Protocol: written canonically, and read exactly (AFP Reference, "AFP
 //! Calls").
+//!
+//! A comment on a reply names its fields in order, each with its size in bytes. A pad has 1. A
+//! Pascal string is a count (1) and as many bytes. Parameters are all that remains, or in an entry
+//! what its length counts. Nothing may stand behind the last field.
 #![tactic(auto)]
 
 mod answer;

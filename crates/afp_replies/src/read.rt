@@ -26,7 +26,7 @@ pub(crate) fn read_empty(cursor: Cursor<'_>) -> Result<Reply, ReplyFault>
     Ok(Reply::Empty)
 }
 
-/// FPByteRangeLock.
+/// Reads FPByteRangeLock's reply: start of the range (4).
 pub(crate) fn read_start(mut cursor: Cursor<'_>) -> Result<Reply, ReplyFault>
     ensures { IsRead layouts.start cursor.entry result }
 {
@@ -35,7 +35,7 @@ pub(crate) fn read_start(mut cursor: Cursor<'_>) -> Result<Reply, ReplyFault>
     Ok(Reply::Start { start })
 }
 
-/// FPByteRangeLockExt.
+/// Reads FPByteRangeLockExt's reply: start of the range (8).
 pub(crate) fn read_start_ext(mut cursor: Cursor<'_>) -> Result<Reply, ReplyFault>
     ensures { IsRead layouts.start_ext cursor.entry result }
 {
@@ -44,7 +44,7 @@ pub(crate) fn read_start_ext(mut cursor: Cursor<'_>) -> Result<Reply, ReplyFault
     Ok(Reply::StartExt { start })
 }
 
-/// FPWrite.
+/// Reads FPWrite's reply: last written, the place behind the last byte (4).
 pub(crate) fn read_end(mut cursor: Cursor<'_>) -> Result<Reply, ReplyFault>
     ensures { IsRead layouts.end cursor.entry result }
 {
@@ -53,7 +53,7 @@ pub(crate) fn read_end(mut cursor: Cursor<'_>) -> Result<Reply, ReplyFault>
     Ok(Reply::End { end })
 }
 
-/// FPWriteExt.
+/// Reads FPWriteExt's reply: last written, the place behind the last byte (8).
 pub(crate) fn read_end_ext(mut cursor: Cursor<'_>) -> Result<Reply, ReplyFault>
     ensures { IsRead layouts.end_ext cursor.entry result }
 {
@@ -62,7 +62,7 @@ pub(crate) fn read_end_ext(mut cursor: Cursor<'_>) -> Result<Reply, ReplyFault>
     Ok(Reply::EndExt { end })
 }
 
-/// FPCreateDir, FPOpenDir, FPCreateID.
+/// Reads the reply of FPCreateDir and FPOpenDir, directory ID (4), and of FPCreateID, file ID (4).
 pub(crate) fn read_node(mut cursor: Cursor<'_>) -> Result<Reply, ReplyFault>
     ensures { IsRead layouts.node cursor.entry result }
 {
@@ -71,7 +71,7 @@ pub(crate) fn read_node(mut cursor: Cursor<'_>) -> Result<Reply, ReplyFault>
     Ok(Reply::Node { id: NodeId(id) })
 }
 
-/// FPOpenDT.
+/// Reads FPOpenDT's reply: desktop database reference number (2).
 pub(crate) fn read_desk(mut cursor: Cursor<'_>) -> Result<Reply, ReplyFault>
     ensures { IsRead layouts.desk cursor.entry result }
 {
@@ -80,7 +80,7 @@ pub(crate) fn read_desk(mut cursor: Cursor<'_>) -> Result<Reply, ReplyFault>
     Ok(Reply::Desk { dt })
 }
 
-/// FPMapName.
+/// Reads FPMapName's reply: ID (4).
 pub(crate) fn read_mapped_id(mut cursor: Cursor<'_>) -> Result<Reply, ReplyFault>
     ensures { IsRead layouts.mapped_id cursor.entry result }
 {
@@ -89,7 +89,8 @@ pub(crate) fn read_mapped_id(mut cursor: Cursor<'_>) -> Result<Reply, ReplyFault
     Ok(Reply::MappedId { id })
 }
 
-/// FPRead, FPReadExt, FPGetIcon.
+/// Reads the reply of FPRead and FPReadExt, fork data, and of FPGetIcon, the icon's bitmap: all
+/// bytes.
 pub(crate) fn read_piece(alloc: Global, cursor: Cursor<'_>) -> Result<Reply, ReplyFault>
     ensures { IsRead layouts.piece cursor.entry result }
 {
@@ -97,7 +98,7 @@ pub(crate) fn read_piece(alloc: Global, cursor: Cursor<'_>) -> Result<Reply, Rep
     Ok(Reply::Piece { piece })
 }
 
-/// FPGetSrvrInfo.
+/// Reads FPGetSrvrInfo's reply: the status block, all bytes.
 pub(crate) fn read_status(alloc: Global, cursor: Cursor<'_>) -> Result<Reply, ReplyFault>
     ensures { IsRead layouts.status cursor.entry result }
 {
@@ -105,7 +106,7 @@ pub(crate) fn read_status(alloc: Global, cursor: Cursor<'_>) -> Result<Reply, Re
     Ok(Reply::Status { block })
 }
 
-/// FPGetSessionToken.
+/// Reads FPGetSessionToken's reply: token length (4), token.
 pub(crate) fn read_token(alloc: Global, mut cursor: Cursor<'_>) -> Result<Reply, ReplyFault>
     ensures { IsRead layouts.token cursor.entry result }
 {
@@ -114,7 +115,7 @@ pub(crate) fn read_token(alloc: Global, mut cursor: Cursor<'_>) -> Result<Reply,
     Ok(Reply::Token { token })
 }
 
-/// FPGetComment.
+/// Reads FPGetComment's reply: comment (Pascal string).
 pub(crate) fn read_comment(alloc: Global, mut cursor: Cursor<'_>) -> Result<Reply, ReplyFault>
     ensures { IsRead layouts.comment cursor.entry result }
 {
@@ -123,7 +124,7 @@ pub(crate) fn read_comment(alloc: Global, mut cursor: Cursor<'_>) -> Result<Repl
     Ok(Reply::Comment { comment })
 }
 
-/// FPGetIconInfo.
+/// Reads FPGetIconInfo's reply: icon tag (4), file type (4), icon type (1), pad, size (2).
 pub(crate) fn read_icon_info(mut cursor: Cursor<'_>) -> Result<Reply, ReplyFault>
     ensures { IsRead layouts.icon_info cursor.entry result }
 {
@@ -155,7 +156,7 @@ fn is_wide(function: u16) -> Option<bool>
     }
 }
 
-/// FPMapID.
+/// Reads the name of FPMapID's reply: count (1, or 2 where it is wide), bytes.
 fn read_name(alloc: Global, wide: bool, mut cursor: Cursor<'_>) -> Result<Reply, ReplyFault>
     ensures { IsRead (layouts.name wide) cursor.entry result }
 {
@@ -164,7 +165,8 @@ fn read_name(alloc: Global, wide: bool, mut cursor: Cursor<'_>) -> Result<Reply,
     Ok(Reply::MappedName { wide, name })
 }
 
-/// FPMapID with this function.
+/// Reads FPMapID's reply: name (count 1 with subfunctions 1 and 2, count 2 with 3 and 4; bytes). No
+/// other subfunction has one.
 pub(crate) fn read_mapped_name(
     alloc: Global,
     function: u16,
@@ -178,7 +180,8 @@ pub(crate) fn read_mapped_name(
     }
 }
 
-/// FPGetUserInfo of these bits.
+/// Reads FPGetUserInfo's reply: bitmap (2; the one asked), user ID (4; where bit 0 is asked), group
+/// ID (4; where bit 1 is asked).
 pub(crate) fn read_user_info(bits: u16, mut cursor: Cursor<'_>) -> Result<Reply, ReplyFault>
     ensures { IsRead (layouts.user_info bits) cursor.entry result }
 {
@@ -189,7 +192,8 @@ pub(crate) fn read_user_info(bits: u16, mut cursor: Cursor<'_>) -> Result<Reply,
     Ok(Reply::UserInfo { bits, id, group })
 }
 
-/// FPGetSrvrMsg of these bits.
+/// Reads FPGetSrvrMsg's reply: message type (2), message bitmap (2; the one asked), message (where
+/// bit 0 is asked; count 1, or 2 where bit 1 is asked; bytes).
 pub(crate) fn read_message(
     alloc: Global,
     bits: u16,
@@ -212,7 +216,7 @@ pub(crate) fn read_message(
     })
 }
 
-/// A volume of FPGetSrvrParms.
+/// Reads a volume of FPGetSrvrParms: flags (1), volume name (Pascal string).
 fn read_volume(alloc: Global, cursor: &mut Cursor<'_>) -> Result<VolumeEntry, ReplyFault>
     ensures { Reads layouts.volume cursor.old result cursor.new }
 {
@@ -233,7 +237,7 @@ fn read_volumes(alloc: Global, count: u8, cursor: &mut Cursor<'_>) -> Result<Vol
     Ok(volumes)
 }
 
-/// FPGetSrvrParms.
+/// Reads FPGetSrvrParms's reply: server time (4, signed), number of volumes (1), the volumes.
 pub(crate) fn read_server_params(alloc: Global, mut cursor: Cursor<'_>) -> Result<Reply, ReplyFault>
     ensures { IsRead layouts.server_params cursor.entry result }
 {
@@ -247,8 +251,8 @@ pub(crate) fn read_server_params(alloc: Global, mut cursor: Cursor<'_>) -> Resul
     })
 }
 
-/// FPGetVolParms, FPOpenVol (of a volume), FPGetForkParms, FPResolveID (of a file), with the mask of
-/// the kind.
+/// Reads the reply of FPOpenVol and FPGetVolParms (of a volume), FPGetForkParms and FPResolveID (of
+/// a file): bitmap (2; the one asked, within the mask of the kind), parameters.
 pub(crate) fn read_params(
     alloc: Global,
     kind: u8,
@@ -265,7 +269,8 @@ pub(crate) fn read_params(
     Ok(Reply::Params { bits, values })
 }
 
-/// FPOpenFork.
+/// Reads FPOpenFork's reply: bitmap (2; the one asked), open fork reference number (2), parameters
+/// of the file.
 pub(crate) fn read_opened(
     alloc: Global,
     bits: u16,
@@ -283,7 +288,8 @@ pub(crate) fn read_opened(
     })
 }
 
-/// FPOpenFork, where a deny mode forbids it.
+/// Reads FPOpenFork's reply where a deny mode forbids it: bitmap (2; the one asked), 0 (2),
+/// parameters of the file.
 pub(crate) fn read_denied(
     alloc: Global,
     bits: u16,
@@ -330,7 +336,8 @@ fn read_node_params(
     }
 }
 
-/// FPGetFileDirParms.
+/// Reads FPGetFileDirParms's reply: file bitmap (2), directory bitmap (2; both as asked), flag (1;
+/// 0x80 directory, 0 file), pad, parameters by the bitmap of its kind.
 pub(crate) fn read_file_dir_params(
     alloc: Global,
     file_bits: u16,
@@ -346,7 +353,7 @@ pub(crate) fn read_file_dir_params(
     read_node_params(alloc, dir, file_bits, dir_bits, cursor)
 }
 
-/// FPGetAPPL.
+/// Reads FPGetAPPL's reply: bitmap (2; the one asked), APPL tag (4), parameters of the file.
 pub(crate) fn read_appl(
     alloc: Global,
     bits: u16,
@@ -360,7 +367,8 @@ pub(crate) fn read_appl(
     Ok(Reply::Appl { bits, tag, values })
 }
 
-/// So many entries of a list.
+/// Reads so many entries, each: length (1, or 2 where they are wide), flag (1; 0x80 directory, 0
+/// file), a pad where they are wide, parameters.
 fn read_entries(
     alloc: Global,
     wide: bool,
@@ -381,7 +389,8 @@ fn read_entries(
     Ok(rows)
 }
 
-/// FPEnumerate, and with wide lengths FPEnumerateExt and FPEnumerateExt2.
+/// Reads the reply of FPEnumerate, and where it is wide of FPEnumerateExt and FPEnumerateExt2: file
+/// bitmap (2), directory bitmap (2; both as asked), actual count (2), the entries.
 pub(crate) fn read_list(
     alloc: Global,
     wide: bool,

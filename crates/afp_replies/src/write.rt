@@ -33,7 +33,7 @@ fn put_optional(number: &Option<u32>, out: &mut Bytes) -> Result<(), OutOfMemory
     }
 }
 
-/// FPGetIconInfo.
+/// Appends FPGetIconInfo's reply, with a pad of 0 between type and size.
 fn put_icon_info(
     tag: u32,
     kind: &[u8; 4],
@@ -51,7 +51,7 @@ fn put_icon_info(
     out.push_u16(size)
 }
 
-/// FPGetUserInfo.
+/// Appends FPGetUserInfo's reply, each ID where there is one.
 fn put_user_info(
     bits: u16,
     id: &Option<u32>,
@@ -66,7 +66,8 @@ fn put_user_info(
     put_optional(group, out)
 }
 
-/// FPGetSrvrMsg.
+/// Appends FPGetSrvrMsg's reply: the message, where there is one, behind a count as wide as its
+/// bitmap says.
 fn put_message(
     kind: u16,
     bits: u16,
@@ -85,7 +86,7 @@ fn put_message(
     }
 }
 
-/// FPGetSessionToken.
+/// Appends FPGetSessionToken's reply: the token behind its length, which is below 2^32.
 fn put_token(token: &[u8], out: &mut Bytes) -> Result<(), OutOfMemory>
     requires { length token.now < 256 ^ 4 }
     ensures ok { OnOk result (out.new ≡ out.old ++ counted 4 token.now) }
@@ -95,7 +96,7 @@ fn put_token(token: &[u8], out: &mut Bytes) -> Result<(), OutOfMemory>
     out.extend(token)
 }
 
-/// A volume of FPGetSrvrParms.
+/// Appends a volume of FPGetSrvrParms. Its name has at most 255 bytes.
 fn put_volume(volume: &VolumeEntry, out: &mut Bytes) -> Result<(), OutOfMemory>
     requires { FitsVolume volume.now }
     ensures ok { OnOk result (out.new ≡ out.old ++ volume_bytes volume.now) }
@@ -117,7 +118,7 @@ fn put_volumes(volumes: &[VolumeEntry], out: &mut Bytes) -> Result<(), OutOfMemo
     Ok(())
 }
 
-/// FPGetSrvrParms.
+/// Appends FPGetSrvrParms's reply, with the number of volumes counted: at most 255.
 fn put_server_params(time: i32, volumes: &[VolumeEntry], out: &mut Bytes) -> Result<(), OutOfMemory>
     requires few { length volumes.now < 256 ^ 1 }
     requires fits { AllByRecursion FitsVolume volumes.now }
@@ -129,7 +130,8 @@ fn put_server_params(time: i32, volumes: &[VolumeEntry], out: &mut Bytes) -> Res
     put_volumes(volumes, out)
 }
 
-/// FPGetVolParms, FPOpenVol, FPGetForkParms, FPResolveID.
+/// Appends the reply of FPOpenVol, FPGetVolParms, FPGetForkParms and FPResolveID: the bitmap, and
+/// the values that it asks for.
 fn put_block(bits: u16, values: &Values, out: &mut Bytes) -> Result<(), OutOfMemory>
     requires { FitsParams (kind_of values.now) bits values.now }
     ensures ok { OnOk result (out.new ≡ out.old ++ concat (u16 bits ∷ params bits values.now ∷ [])) }
@@ -139,7 +141,7 @@ fn put_block(bits: u16, values: &Values, out: &mut Bytes) -> Result<(), OutOfMem
     put_params(bits, values, out)
 }
 
-/// FPOpenFork.
+/// Appends FPOpenFork's reply; the reference number is 0 where a deny mode forbids it.
 fn put_opened(
     bits: u16,
     reference: u16,
@@ -155,7 +157,7 @@ fn put_opened(
     put_params(bits, values, out)
 }
 
-/// FPGetAPPL.
+/// Appends FPGetAPPL's reply: the bitmap, the tag, and the values that the bitmap asks for.
 fn put_appl(bits: u16, tag: u32, values: &Values, out: &mut Bytes) -> Result<(), OutOfMemory>
     requires { FitsParams file_kind bits values.now }
     ensures ok { OnOk result (out.new ≡ out.old ++ concat (u16 bits ∷ u32 tag ∷ params bits values.now ∷ [])) }
@@ -191,7 +193,8 @@ fn bits_for(dir: bool, file_bits: u16, dir_bits: u16) -> u16
     if dir { dir_bits } else { file_bits }
 }
 
-/// FPGetFileDirParms.
+/// Appends FPGetFileDirParms's reply: both bitmaps, the flag of what the values are of, a pad of 0,
+/// the values.
 fn put_file_dir_params(
     file_bits: u16,
     dir_bits: u16,
@@ -308,7 +311,8 @@ fn put_entries(
     Ok(())
 }
 
-/// FPEnumerate, and with wide lengths FPEnumerateExt and FPEnumerateExt2.
+/// Appends the reply of FPEnumerate, and where it is wide of FPEnumerateExt and FPEnumerateExt2,
+/// with the entries counted.
 fn put_list(
     wide: bool,
     file_bits: u16,

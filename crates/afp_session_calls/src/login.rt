@@ -21,7 +21,8 @@ use afp_requests::commands::{LOGIN, LOGIN_EXT, LOGOUT};
 use afp_requests::{Call, ReadFault};
 use std::alloc::Global;
 
-/// FPLogin.
+/// Reads 18 FPLogin: AFP version, UAM (a Pascal string each), user authentication information (all
+/// that remains).
 pub(crate) fn read_login(alloc: Global, fields: &mut Fields<'_>) -> Result<Call, ReadFault>
     ensures { Gives login_reader fields.old result }
 {
@@ -32,7 +33,7 @@ pub(crate) fn read_login(alloc: Global, fields: &mut Fields<'_>) -> Result<Call,
     Ok(Call::Login { version, uam, tail })
 }
 
-/// FPLogin.
+/// Writes FPLogin: 18 and these fields. Version and UAM have at most 255 bytes each.
 pub(crate) fn write_login(
     out: &mut Bytes,
     version: &Bytes,
@@ -50,7 +51,8 @@ pub(crate) fn write_login(
     put_bytes(out, tail.as_slice())
 }
 
-/// FPLoginExt.
+/// Reads 63 FPLoginExt: pad, flags (2), AFP version, UAM (a Pascal string each), user name type (1; 3), user name (count 2, bytes),
+/// path type (1; 2 or 3), pathname (count 1 or 2, bytes), pad to even, user authentication information (all that remains).
 pub(crate) fn read_login_ext(alloc: Global, fields: &mut Fields<'_>) -> Result<Call, ReadFault>
     ensures { Gives login_ext_reader fields.old result }
 {
@@ -96,7 +98,8 @@ fn read_login_ext_path(
     })
 }
 
-/// FPLoginExt.
+/// Writes FPLoginExt: 63 and these fields, pads as 0. Each text is short enough for its count,
+/// which for the pathname is that of its type.
 pub(crate) fn write_login_ext(
     out: &mut Bytes,
     flags: u16,
@@ -130,7 +133,7 @@ pub(crate) fn write_login_ext(
     put_bytes(out, tail.as_slice())
 }
 
-/// FPLogout.
+/// Reads 20 FPLogout: pad, which may be missing.
 pub(crate) fn read_logout(fields: &mut Fields<'_>) -> Result<Call, ReadFault>
     ensures { Gives logout_reader fields.old result }
 {
@@ -139,7 +142,7 @@ pub(crate) fn read_logout(fields: &mut Fields<'_>) -> Result<Call, ReadFault>
     Ok(Call::Logout)
 }
 
-/// FPLogout.
+/// Writes FPLogout: 20 and the pad, as 0.
 pub(crate) fn write_logout(out: &mut Bytes) -> Result<(), OutOfMemory>
     ensures put { OnOk result (PutsAll logout.fields out.old out.new) }
     ensures err { OnErr result (Keeps out.old out.new) }

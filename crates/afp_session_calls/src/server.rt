@@ -11,7 +11,7 @@ use afp_fields::{Fields, put_command, put_pad, put_u16};
 use afp_requests::commands::{GET_SRVR_INFO, GET_SRVR_MSG, GET_SRVR_PARMS};
 use afp_requests::{Call, ReadFault};
 
-/// FPGetSrvrInfo.
+/// Reads 15 FPGetSrvrInfo: pad, which may be missing.
 pub(crate) fn read_get_srvr_info(fields: &mut Fields<'_>) -> Result<Call, ReadFault>
     ensures { Gives get_srvr_info_reader fields.old result }
 {
@@ -20,7 +20,7 @@ pub(crate) fn read_get_srvr_info(fields: &mut Fields<'_>) -> Result<Call, ReadFa
     Ok(Call::GetSrvrInfo)
 }
 
-/// FPGetSrvrInfo.
+/// Writes FPGetSrvrInfo: 15 and the pad, as 0.
 pub(crate) fn write_get_srvr_info(out: &mut Bytes) -> Result<(), OutOfMemory>
     ensures put { OnOk result (PutsAll get_srvr_info.fields out.old out.new) }
     ensures err { OnErr result (Keeps out.old out.new) }
@@ -29,7 +29,7 @@ pub(crate) fn write_get_srvr_info(out: &mut Bytes) -> Result<(), OutOfMemory>
     put_pad(out)
 }
 
-/// FPGetSrvrParms.
+/// Reads 16 FPGetSrvrParms: pad, which may be missing.
 pub(crate) fn read_get_srvr_parms(fields: &mut Fields<'_>) -> Result<Call, ReadFault>
     ensures { Gives get_srvr_parms_reader fields.old result }
 {
@@ -38,7 +38,7 @@ pub(crate) fn read_get_srvr_parms(fields: &mut Fields<'_>) -> Result<Call, ReadF
     Ok(Call::GetSrvrParms)
 }
 
-/// FPGetSrvrParms.
+/// Writes FPGetSrvrParms: 16 and the pad, as 0.
 pub(crate) fn write_get_srvr_parms(out: &mut Bytes) -> Result<(), OutOfMemory>
     ensures put { OnOk result (PutsAll get_srvr_parms.fields out.old out.new) }
     ensures err { OnErr result (Keeps out.old out.new) }
@@ -47,7 +47,7 @@ pub(crate) fn write_get_srvr_parms(out: &mut Bytes) -> Result<(), OutOfMemory>
     put_pad(out)
 }
 
-/// FPGetSrvrMsg.
+/// Reads 38 FPGetSrvrMsg: pad, message type (2), message bitmap (2).
 pub(crate) fn read_get_srvr_msg(fields: &mut Fields<'_>) -> Result<Call, ReadFault>
     ensures { Gives get_srvr_msg_reader fields.old result }
 {
@@ -58,7 +58,7 @@ pub(crate) fn read_get_srvr_msg(fields: &mut Fields<'_>) -> Result<Call, ReadFau
     Ok(Call::GetSrvrMsg { kind, bits })
 }
 
-/// FPGetSrvrMsg.
+/// Writes FPGetSrvrMsg: 38 and these fields, the pad as 0.
 pub(crate) fn write_get_srvr_msg(out: &mut Bytes, kind: u16, bits: u16) -> Result<(), OutOfMemory>
     ensures put { OnOk result (PutsAll (get_srvr_msg kind bits).fields out.old out.new) }
     ensures err { OnErr result (Keeps out.old out.new) }

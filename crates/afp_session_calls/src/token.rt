@@ -15,7 +15,8 @@ use afp_requests::kinds::{LOGIN_WITH_TIME_AND_ID, LOGIN_WITHOUT_ID, RECONN_WITH_
 use afp_requests::{Call, ReadFault};
 use std::alloc::Global;
 
-/// FPGetSessionToken.
+/// Reads 64 FPGetSessionToken: pad, type (2; 0 to 4), ID length (4), time stamp (4; with types 3
+/// and 4 only), ID.
 pub(crate) fn read_get_session_token(
     alloc: Global,
     fields: &mut Fields<'_>,
@@ -31,7 +32,8 @@ pub(crate) fn read_get_session_token(
     Ok(Call::GetSessionToken { kind, stamp, id })
 }
 
-/// FPGetSessionToken.
+/// Writes FPGetSessionToken: 64 and these fields, the pad as 0, the length counted from the ID. The
+/// stamp is there or not as the caller hands it in.
 pub(crate) fn write_get_session_token(
     out: &mut Bytes,
     kind: u16,
@@ -50,7 +52,7 @@ pub(crate) fn write_get_session_token(
     put_bytes(out, id.as_slice())
 }
 
-/// FPDisconnectOldSession.
+/// Reads 65 FPDisconnectOldSession: pad, type (2), token length (4), token.
 pub(crate) fn read_disconnect_old_session(
     alloc: Global,
     fields: &mut Fields<'_>,
@@ -64,7 +66,8 @@ pub(crate) fn read_disconnect_old_session(
     Ok(Call::DisconnectOldSession { kind, token })
 }
 
-/// FPDisconnectOldSession.
+/// Writes FPDisconnectOldSession: 65 and these fields, the pad as 0, the length counted from the
+/// token.
 pub(crate) fn write_disconnect_old_session(
     out: &mut Bytes,
     kind: u16,

@@ -14,7 +14,7 @@ use afp_requests::kinds::{FIRST_FUNCTION, LAST_FUNCTION, LAST_UTF8_FUNCTION};
 use afp_requests::{Call, ReadFault};
 use std::alloc::Global;
 
-/// FPGetUserInfo.
+/// Reads 37 FPGetUserInfo: flags (1; bit 0 means this user), user ID (4), bitmap (2).
 pub(crate) fn read_get_user_info(fields: &mut Fields<'_>) -> Result<Call, ReadFault>
     ensures { Gives get_user_info_reader fields.old result }
 {
@@ -25,7 +25,7 @@ pub(crate) fn read_get_user_info(fields: &mut Fields<'_>) -> Result<Call, ReadFa
     Ok(Call::GetUserInfo { flag, id, bits })
 }
 
-/// FPGetUserInfo.
+/// Writes FPGetUserInfo: 37 and these fields.
 pub(crate) fn write_get_user_info(
     out: &mut Bytes,
     flag: u8,
@@ -41,7 +41,7 @@ pub(crate) fn write_get_user_info(
     put_u16(out, bits)
 }
 
-/// FPMapID.
+/// Reads 21 FPMapID: subfunction (1; 1 to 4), ID (4).
 pub(crate) fn read_map_id(fields: &mut Fields<'_>) -> Result<Call, ReadFault>
     ensures { Gives map_id_reader fields.old result }
 {
@@ -51,7 +51,7 @@ pub(crate) fn read_map_id(fields: &mut Fields<'_>) -> Result<Call, ReadFault>
     Ok(Call::MapID { function, id })
 }
 
-/// FPMapID.
+/// Writes FPMapID: 21 and these fields.
 pub(crate) fn write_map_id(out: &mut Bytes, function: u8, id: u32) -> Result<(), OutOfMemory>
     ensures put { OnOk result (PutsAll (map_id function id).fields out.old out.new) }
     ensures err { OnErr result (Keeps out.old out.new) }
@@ -61,7 +61,8 @@ pub(crate) fn write_map_id(out: &mut Bytes, function: u8, id: u32) -> Result<(),
     put_u32(out, id)
 }
 
-/// FPMapName.
+/// Reads 22 FPMapName: subfunction (1; 1 to 4), name (count 2 with subfunctions 1 and 2, count 1
+/// with 3 and 4; bytes).
 pub(crate) fn read_map_name(alloc: Global, fields: &mut Fields<'_>) -> Result<Call, ReadFault>
     ensures { Gives map_name_reader fields.old result }
 {
@@ -71,7 +72,8 @@ pub(crate) fn read_map_name(alloc: Global, fields: &mut Fields<'_>) -> Result<Ca
     Ok(Call::MapName { function, name })
 }
 
-/// FPMapName.
+/// Writes FPMapName: 22 and these fields. The name is short enough for the count of its
+/// subfunction.
 pub(crate) fn write_map_name(out: &mut Bytes, function: u8, name: &Bytes) -> Result<(), OutOfMemory>
     requires { length name.now < 256 ^ (name_count function) }
     ensures put { OnOk result (PutsAll (map_name function name.now).fields out.old out.new) }

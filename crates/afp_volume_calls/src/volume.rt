@@ -12,7 +12,7 @@ use afp_requests::commands::{CLOSE_VOL, FLUSH, GET_VOL_PARMS, OPEN_VOL, SET_VOL_
 use afp_requests::{Call, ReadFault};
 use std::alloc::Global;
 
-/// FPOpenVol.
+/// Reads 24 FPOpenVol: pad, bitmap (2), volume name (Pascal string).
 pub(crate) fn read_open_vol(alloc: Global, fields: &mut Fields<'_>) -> Result<Call, ReadFault>
     ensures { Gives open_vol_reader fields.old result }
 {
@@ -23,7 +23,7 @@ pub(crate) fn read_open_vol(alloc: Global, fields: &mut Fields<'_>) -> Result<Ca
     Ok(Call::OpenVol { bits, name })
 }
 
-/// FPOpenVol.
+/// Writes FPOpenVol: 24 and these fields, the pad as 0. The name has at most 255 bytes.
 pub(crate) fn write_open_vol(out: &mut Bytes, bits: u16, name: &Bytes) -> Result<(), OutOfMemory>
     requires { length name.now < 256 }
     ensures put { OnOk result (PutsAll (open_vol bits name.now).fields out.old out.new) }
@@ -35,7 +35,7 @@ pub(crate) fn write_open_vol(out: &mut Bytes, bits: u16, name: &Bytes) -> Result
     put_str(out, name.as_slice())
 }
 
-/// FPCloseVol.
+/// Reads 2 FPCloseVol: pad, volume ID (2).
 pub(crate) fn read_close_vol(fields: &mut Fields<'_>) -> Result<Call, ReadFault>
     ensures { Gives close_vol_reader fields.old result }
 {
@@ -45,7 +45,7 @@ pub(crate) fn read_close_vol(fields: &mut Fields<'_>) -> Result<Call, ReadFault>
     Ok(Call::CloseVol { volume })
 }
 
-/// FPCloseVol.
+/// Writes FPCloseVol: 2 and these fields, the pad as 0.
 pub(crate) fn write_close_vol(out: &mut Bytes, volume: VolumeId) -> Result<(), OutOfMemory>
     ensures put { OnOk result (PutsAll (close_vol volume).fields out.old out.new) }
     ensures err { OnErr result (Keeps out.old out.new) }
@@ -55,7 +55,7 @@ pub(crate) fn write_close_vol(out: &mut Bytes, volume: VolumeId) -> Result<(), O
     put_u16(out, volume.0)
 }
 
-/// FPGetVolParms.
+/// Reads 17 FPGetVolParms: pad, volume ID (2), bitmap (2).
 pub(crate) fn read_get_vol_parms(fields: &mut Fields<'_>) -> Result<Call, ReadFault>
     ensures { Gives get_vol_parms_reader fields.old result }
 {
@@ -66,7 +66,7 @@ pub(crate) fn read_get_vol_parms(fields: &mut Fields<'_>) -> Result<Call, ReadFa
     Ok(Call::GetVolParms { volume, bits })
 }
 
-/// FPGetVolParms.
+/// Writes FPGetVolParms: 17 and these fields, the pad as 0.
 pub(crate) fn write_get_vol_parms(
     out: &mut Bytes,
     volume: VolumeId,
@@ -81,7 +81,7 @@ pub(crate) fn write_get_vol_parms(
     put_u16(out, bits)
 }
 
-/// FPSetVolParms.
+/// Reads 32 FPSetVolParms: pad, volume ID (2), bitmap (2), backup date (all that remains).
 pub(crate) fn read_set_vol_parms(alloc: Global, fields: &mut Fields<'_>) -> Result<Call, ReadFault>
     ensures { Gives set_vol_parms_reader fields.old result }
 {
@@ -93,7 +93,7 @@ pub(crate) fn read_set_vol_parms(alloc: Global, fields: &mut Fields<'_>) -> Resu
     Ok(Call::SetVolParms { volume, bits, tail })
 }
 
-/// FPSetVolParms.
+/// Writes FPSetVolParms: 32 and these fields, the pad as 0.
 pub(crate) fn write_set_vol_parms(
     out: &mut Bytes,
     volume: VolumeId,
@@ -110,7 +110,7 @@ pub(crate) fn write_set_vol_parms(
     put_bytes(out, tail.as_slice())
 }
 
-/// FPFlush.
+/// Reads 10 FPFlush: pad, volume ID (2).
 pub(crate) fn read_flush(fields: &mut Fields<'_>) -> Result<Call, ReadFault>
     ensures { Gives flush_reader fields.old result }
 {
@@ -120,7 +120,7 @@ pub(crate) fn read_flush(fields: &mut Fields<'_>) -> Result<Call, ReadFault>
     Ok(Call::Flush { volume })
 }
 
-/// FPFlush.
+/// Writes FPFlush: 10 and these fields, the pad as 0.
 pub(crate) fn write_flush(out: &mut Bytes, volume: VolumeId) -> Result<(), OutOfMemory>
     ensures put { OnOk result (PutsAll (flush volume).fields out.old out.new) }
     ensures err { OnErr result (Keeps out.old out.new) }

@@ -79,7 +79,7 @@ impl Run {
         }
     }
 
-    /// FPCreateDir.
+    /// Asks FPCreateDir of volume 1: directory ID, pathname. A text that is no path asks nothing.
     pub fn create_dir(&mut self, alloc: Global, dir: NodeId, text: &str) -> Came {
         let Some(path) = path_of(alloc, text) else {
             return Came::Word("no path");
@@ -92,7 +92,7 @@ impl Run {
         self.change(alloc, &call)
     }
 
-    /// FPCreateFile, soft.
+    /// Asks FPCreateFile of volume 1: flag 0 (soft), directory ID, pathname, as FPCreateDir above.
     pub fn create_file(&mut self, alloc: Global, dir: NodeId, text: &str) -> Came {
         let Some(path) = path_of(alloc, text) else {
             return Came::Word("no path");
@@ -106,7 +106,7 @@ impl Run {
         self.change(alloc, &call)
     }
 
-    /// FPDelete.
+    /// Asks FPDelete of volume 1: directory ID, pathname, as FPCreateDir above.
     pub fn delete(&mut self, alloc: Global, dir: NodeId, text: &str) -> Came {
         let Some(path) = path_of(alloc, text) else {
             return Came::Word("no path");
