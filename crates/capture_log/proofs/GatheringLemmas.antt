@@ -13,7 +13,7 @@ use Rattle.capture_log.specs.Reading.{is_newline, pieces, last_line, lines_of, l
 use Rattle.capture_server.specs.CaptureState.{CaptureState, Goes, Leads, begins, is_bad, no_house}
 use Rattle.capture_server.specs.declared.part.Part.TheVariants as parts
 use Rattle.capture_log.proofs.SetUpLemmas.{set-up-none}
-use Rattle.capture_log.specs.Taking.{CaptureState, IsCapture, Takes}
+use Rattle.capture_log.specs.Taking.{HeldCapture, IsCapture, Takes}
 use Rattle.capture_log.specs.declared.replay_end.ReplayEnd.{ReplayEnd}
 use Rattle.capture_log.specs.declared.replay_end.ReplayEnd.TheVariants.{BadCapture}
 
@@ -153,7 +153,7 @@ pub long-line : (r : ReaderState) (read last : List ℕ) → Holds r read → Is
 long-line r read last h one e = decides-line r read last (BadCapture (r.capture.number + 1)) h one (long-bad h.standing (r.held ++ last) (long r.held last (sym e)), refl)
 
 -- a line is counted, and nothing is held any more
-pub line-ended : (r new : ReaderState) (read last : List ℕ) (h : Holds r read) (t : CaptureState) (c : CaptureState) → IsOneLine last → Goes h.standing (r.held ++ last) t → IsCapture c t → c.number ≡ r.capture.number + 1
+pub line-ended : (r new : ReaderState) (read last : List ℕ) (h : Holds r read) (t : CaptureState) (c : HeldCapture) → IsOneLine last → Goes h.standing (r.held ++ last) t → IsCapture c t → c.number ≡ r.capture.number + 1
     → new ≡ record { capture = c; held = [] } → Holds new (read ++ (last ++ 10 ∷ []))
 line-ended r new read last h t c one goes is number same =
     let lines : List (List ℕ) = h.lines ++ (r.held ++ last) ∷ [] in
@@ -173,7 +173,7 @@ line-ended r new read last h t c one goes is number same =
     } in
     subst (λ (x : ReaderState). Holds x (read ++ (last ++ 10 ∷ []))) (sym same) it
 
-pub ends-line : (r new : ReaderState) (read last held : List ℕ) (verdict : Option ReplayEnd) (h : Holds r read) (c : CaptureState) → IsOneLine last → held ≡ r.held ++ last
+pub ends-line : (r new : ReaderState) (read last held : List ℕ) (verdict : Option ReplayEnd) (h : Holds r read) (c : HeldCapture) → IsOneLine last → held ≡ r.held ++ last
     → Takes h.standing (r.capture.number + 1) held verdict c → new ≡ record { capture = c; held = [] } → EndsLine read last verdict new
 ends-line r new read last held None h c one at takes same =
     line-ended r new read last h takes.0 c one (subst (λ (l : List ℕ). Goes h.standing l takes.0) at takes.1) takes.2 takes.3 same

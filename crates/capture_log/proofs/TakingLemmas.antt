@@ -19,7 +19,7 @@ use Rattle.capture_server.specs.Running.{IsFreshRunning, HappensBy}
 use Rattle.capture_server.specs.CaptureState.{CaptureState, Says, Happens, FeedsUnless, PulsesIf, LosesIf, part_after, is_refused, is_refused_on, is_bad, start_at}
 use Rattle.capture_server.specs.States.{ConnectionState, RunningState, IsConnection, IsRunning, unused_state}
 use Rattle.capture_log.specs.SetUp.{IsSetUp}
-use Rattle.capture_log.specs.Taking.{Acts, begun, CaptureState, house_with, refused_by, is_event, IsIdle, is_past_house, IsBegun, IsServer, IsCapture, RunsFrom, LeadsLine, TakesLine, Takes}
+use Rattle.capture_log.specs.Taking.{Acts, begun, HeldCapture, house_with, refused_by, is_event, IsIdle, is_past_house, IsBegun, IsServer, IsCapture, RunsFrom, LeadsLine, TakesLine, Takes}
 use Rattle.capture_log.proofs.SetUpLemmas.{kept-set-up}
 use Rattle.capture_server.specs.declared.difference.Difference.{Difference}
 use Rattle.capture_server.specs.declared.part.Part.{Part}
@@ -77,11 +77,11 @@ runs-there there old waiting now r s some is =
     subst (λ (o : Option ℕ). IsRunning r s (start_at o now)) (sym begun.start) begun.is
 
 -- the server that is there, or what waits for it, was taken out
-pub served : (c x : CaptureState) (s : CaptureState) (waiting : Bool) (there : Option RunningState) → IsCapture c s → x ≡ c → there ≡ x.running → waiting ≡ x.waiting → IsServer there x.house waiting s
+pub served : (c x : HeldCapture) (s : CaptureState) (waiting : Bool) (there : Option RunningState) → IsCapture c s → x ≡ c → there ≡ x.running → waiting ≡ x.waiting → IsServer there x.house waiting s
 served c x s waiting there is same runs waits =
     subst (λ (b : Bool). IsServer there x.house b s) (sym waits)
     (subst (λ (o : Option RunningState). IsServer o x.house x.waiting s) (sym runs)
-    (subst (λ (y : CaptureState). IsServer y.running y.house y.waiting s) (sym same) is.server))
+    (subst (λ (y : HeldCapture). IsServer y.running y.house y.waiting s) (sym same) is.server))
 
 -- where a capture stands does not say which line comes next on the server
 pub moved : (r : RunningState) (s : CaptureState) (part : Part) (start : Option ℕ) (first : ℕ) → IsRunning r s first → IsRunning r (record s { part = part; start = start }) first
@@ -190,10 +190,10 @@ leads-by (Some r) house waiting number s line part b may other good =
     (subst (λ (q : Part). LeadsLine s End (record { part = q; house = house; waiting = waiting; running = Some r; number = number })) (sym e.over)
     (begun-end r house waiting number s b (ap (λ (l : Line). part_after s.part l) (sym e.ends) ∙ may ∙ ap Some e.over)))
 
-pub part_taken : (old new : CaptureState) (s : CaptureState) (line : Line) (part : Part) → IsCapture old s → part_after old.part line ≡ Some part → is_event line ≡ false → false ≡ refused_by old.house line
+pub part_taken : (old new : HeldCapture) (s : CaptureState) (line : Line) (part : Part) → IsCapture old s → part_after old.part line ≡ Some part → is_event line ≡ false → false ≡ refused_by old.house line
     → new ≡ record { part = part; house = house_with old.house line; waiting = old.waiting; running = old.running; number = old.number } → LeadsLine s line new
 part_taken old new s line part is may other good same =
-    subst (λ (x : CaptureState). LeadsLine s line x) (sym same)
+    subst (λ (x : HeldCapture). LeadsLine s line x) (sym same)
     (leads-by old.running old.house old.waiting old.number s line part is.server (ap (λ (p : Part). part_after p line) (sym is.next) ∙ may) other (sym good))
 
 or-right : (a b : Bool) → b ≡ true → (a || b) ≡ true
@@ -208,13 +208,13 @@ bad-by (Some r) house waiting s line part b may other bad =
     let e : IsEnd line part = past-end s.part line part b.past other may in
     absurd (cc (sym bad ∙ ap (λ (l : Line). refused_by house l) e.ends))
 
-pub part_refused : (old : CaptureState) (s : CaptureState) (line : Line) (part : Part) → IsCapture old s → part_after old.part line ≡ Some part → is_event line ≡ false → true ≡ refused_by old.house line
+pub part_refused : (old : HeldCapture) (s : CaptureState) (line : Line) (part : Part) → IsCapture old s → part_after old.part line ≡ Some part → is_event line ≡ false → true ≡ refused_by old.house line
     → is_bad s (Some line) ≡ true
 part_refused old s line part is may other bad =
     bad-by old.running old.house old.waiting s line part is.server (ap (λ (p : Part). part_after p line) (sym is.next) ∙ may) other (sym bad)
 
 -- a line that may not come here
-pub unfit : (old : CaptureState) (s : CaptureState) (line : Line) → IsCapture old s → part_after old.part line ≡ None → is_bad s (Some line) ≡ true
+pub unfit : (old : HeldCapture) (s : CaptureState) (line : Line) → IsCapture old s → part_after old.part line ≡ None → is_bad s (Some line) ≡ true
 unfit old s line is none = ap (λ (o : Option Part). is_none o || is_refused s line) (ap (λ (p : Part). part_after p line) (sym is.next) ∙ none)
 
 -- what happened on a connection
@@ -282,11 +282,11 @@ acts-taken s number count link now what house waiting r None there h =
     }
 acts-taken s number count link now what house waiting r (Some verdict) there h = h
 
-pub event_taken : (old new : CaptureState) (s : CaptureState) (house : Household) (waiting : Bool) (number count link now : ℕ) (what : What) (r : RunningState) (part : Part) (verdict : Option ReplayEnd) → IsCapture old s
+pub event_taken : (old new : HeldCapture) (s : CaptureState) (house : Household) (waiting : Bool) (number count link now : ℕ) (what : What) (r : RunningState) (part : Part) (verdict : Option ReplayEnd) → IsCapture old s
     → old.part ≡ parts.Events → part ≡ old.part → Acts s number link now what verdict r
     → new ≡ record { part = part; house = house; waiting = waiting; running = Some r; number = count } → TakesLine s number (At link now what) verdict new
 event_taken old new s house waiting number count link now what r part verdict is at kept h same =
-    subst (λ (x : CaptureState). TakesLine s number (At link now what) verdict x)
+    subst (λ (x : HeldCapture). TakesLine s number (At link now what) verdict x)
     (ap (λ (p : Part). record { part = p; house = house; waiting = waiting; running = Some r; number = count }) (sym (kept ∙ at)) ∙ sym same)
     (acts-taken s number count link now what house waiting r verdict (sym is.next ∙ at) h)
 
@@ -318,7 +318,7 @@ no_event End other = refl
 pub no_line : (s : CaptureState) (number : ℕ) (raw : List ℕ) (line : Option Line) → line ≡ line_in raw → line ≡ None → Decides s number raw (BadCapture number)
 no_line s number raw line read none = (ap (λ (o : Option Line). is_bad s o) (sym read ∙ none), refl)
 
-taken-by : (s : CaptureState) (number : ℕ) (raw : List ℕ) (line : Line) (verdict : Option ReplayEnd) (c : CaptureState) → line_in raw ≡ Some line → TakesLine s number line verdict c
+taken-by : (s : CaptureState) (number : ℕ) (raw : List ℕ) (line : Line) (verdict : Option ReplayEnd) (c : HeldCapture) → line_in raw ≡ Some line → TakesLine s number line verdict c
     → Takes s number raw verdict (record c { number = number })
 taken-by s number raw line None c read h = (
   h.after,
@@ -339,10 +339,10 @@ taken-by s number raw line (Some ReadFault) c read h = absurd h
 taken-by s number raw line (Some Spent) c read h = absurd h
 taken-by s number raw line (Some Memory) c read h = absurd h
 
-pub line_taken : (s : CaptureState) (number : ℕ) (raw : List ℕ) (line : Line) (found : Option Line) (verdict : Option ReplayEnd) (c new : CaptureState) → found ≡ line_in raw → found ≡ Some line
+pub line_taken : (s : CaptureState) (number : ℕ) (raw : List ℕ) (line : Line) (found : Option Line) (verdict : Option ReplayEnd) (c new : HeldCapture) → found ≡ line_in raw → found ≡ Some line
     → TakesLine s number line verdict c → new ≡ record c { number = number } → Takes s number raw verdict new
 line_taken s number raw line found verdict c new read some h same =
-    subst (λ (x : CaptureState). Takes s number raw verdict x) (sym same) (taken-by s number raw line verdict c (sym read ∙ some) h)
+    subst (λ (x : HeldCapture). Takes s number raw verdict x) (sym same) (taken-by s number raw line verdict c (sym read ∙ some) h)
 
 -- the end
 

@@ -23,7 +23,7 @@ use Rattle.capture_log.specs.declared.replay_end.ReplayEnd.TheVariants.{Same, Di
 
 -- A capture, as far as its lines were taken: what may come next, the house that they make, whether the keepers wait for their server, the
 -- server, once something happened, and how many lines there were.
-pub record CaptureState : Type 0 where
+pub record HeldCapture : Type 0 where
   pub part : Part
   pub house : Household
   pub waiting : Bool
@@ -96,7 +96,7 @@ IsServer None house waiting s = IsIdle house waiting s
 IsServer (Some r) house waiting s = IsBegun r s
 
 -- what is held is where the capture stands
-pub record IsCapture (c : CaptureState) (s : CaptureState) : Type 0 where
+pub record IsCapture (c : HeldCapture) (s : CaptureState) : Type 0 where
   pub next : c.part ≡ s.part
   pub server : IsServer c.running c.house c.waiting s
 
@@ -120,7 +120,7 @@ IsLinked (At link now what) = IsLink link
 IsLinked End = Unit {0}
 
 -- A good line leads to where the capture stands then.
-pub record LeadsLine (s : CaptureState) (line : Line) (c : CaptureState) : Type 0 where
+pub record LeadsLine (s : CaptureState) (line : Line) (c : HeldCapture) : Type 0 where
   pub part : Part
   pub after : CaptureState
   pub may : part_after s.part line ≡ Some part
@@ -145,7 +145,7 @@ DecidesLine s number line ReadFault = ⊥
 DecidesLine s number line Spent = ⊥
 DecidesLine s number line Memory = ⊥
 
-abbrev pub TakesLine : CaptureState → ℕ → Line → Option ReplayEnd → CaptureState → Type 0
+abbrev pub TakesLine : CaptureState → ℕ → Line → Option ReplayEnd → HeldCapture → Type 0
 TakesLine s number line None c = LeadsLine s line c
 TakesLine s number line (Some verdict) c = DecidesLine s number line verdict
 
@@ -159,6 +159,6 @@ Acts s number link now what None r = (is_refused_on (s.connections link) what �
 Acts s number link now what (Some verdict) r = DecidesLine s number (At link now what) verdict
 
 -- A line leads to where the capture stands then, and is counted; or it decides.
-abbrev pub Takes : CaptureState → ℕ → List ℕ → Option ReplayEnd → CaptureState → Type 0
+abbrev pub Takes : CaptureState → ℕ → List ℕ → Option ReplayEnd → HeldCapture → Type 0
 Takes s number raw None c = (t : CaptureState) × Goes s raw t × IsCapture c t × (c.number ≡ number)
 Takes s number raw (Some verdict) c = Decides s number raw verdict

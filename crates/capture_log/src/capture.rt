@@ -34,9 +34,9 @@ pub struct Capture<K: Keeper> {
 
 impl<K: Keeper> Model for Capture<K> {
     ghost use Rattle.std.specs.Prelude.{is_some};
-    ghost use Rattle.capture_log.specs.Taking.{CaptureState};
+    ghost use Rattle.capture_log.specs.Taking.{HeldCapture};
 
-    ghost Value = { CaptureState };
+    ghost Value = { HeldCapture };
 
     ghost view = { λ c. record { part = c.part; house = c.setup; waiting = is_some c.fresh; running = c.running; number = c.number } };
 }

@@ -15,7 +15,8 @@ use Rattle.afp_volume.specs.ForkLaws.{ForksAreFew, RoomIsFew}
 use Rattle.fork_bytes.specs.Kept.{is_empty}
 use Rattle.fork_bytes.specs.Plan.{PlanState, IsPlan}
 use Rattle.kept_volume.proofs.Files.{file_kind, fork_is, found_in}
-use Rattle.kept_volume.specs.ForkChanging.{Commits, GivesBytes, given}
+use Rattle.kept_volume.specs.ForkChanging.{GivesBytes, given}
+use Rattle.kept_volume.specs.lemma.ForkChanging.{Commits}
 use Rattle.kept_volume.specs.Kept.{KeptState}
 use Rattle.kept_volume.specs.declared.change.ChangeFault.{ChangeFault}
 use Rattle.kept_volume.specs.declared.change.ChangeFault.TheVariants.{Refused, Failed, Memory}

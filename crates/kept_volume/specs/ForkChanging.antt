@@ -20,10 +20,3 @@ GivesBytes old now id resource writes before after (Ok done) new = (would_pass o
 GivesBytes old now id resource writes before after (Err (Refused code)) new = (would_pass old.state (length before) (length after) ≡ true) × (code ≡ DiskFull) × (new ≡ old)
 GivesBytes old now id resource writes before after (Err Failed) new = (would_pass old.state (length before) (length after) ≡ false) × (writes ≡ true) × FailsIn old new
 GivesBytes old now id resource writes before after (Err Memory) new = new ≡ old
-
--- From here on for private contracts: a volume that becomes another one, which the keeper holds; or as before beside an error, which is no refusal
-abbrev pub Commits : KeptState → VolumeState → Result (Unit {0}) ChangeFault → KeptState → Type 0
-Commits old after (Ok done) new = new ≡ record old { state = after }
-Commits old after (Err (Refused code)) new = ⊥
-Commits old after (Err Failed) new = FailsIn old new
-Commits old after (Err Memory) new = new ≡ old

@@ -3,3 +3,4 @@ pub mod Changing
 pub mod Loading
 pub mod ForkChanging
 pub mod LineLaws
+pub mod lemma

@@ -5,7 +5,8 @@ ghost use Rattle.afp_volume.specs.ForkEffect.{fork_effect, fork_of, would_pass};
 ghost use Rattle.afp_volume.specs.SoundVolume.{has_file, most_fork_bytes};
 ghost use Rattle.afp_volume.specs.VolumeState.{Row};
 ghost use Rattle.afp_volume.specs.Walk.{row_at};
-ghost use Rattle.kept_volume.specs.ForkChanging.{Commits, GivesBytes};
+ghost use Rattle.kept_volume.specs.ForkChanging.{GivesBytes};
+ghost use Rattle.kept_volume.specs.lemma.ForkChanging.{Commits};
 ghost use Rattle.volume_tree.specs.ForkEffect.{IsForkChange};
 
 use crate::change::ChangeFault;

@@ -18,8 +18,8 @@ use Rattle.afp_volume.specs.VolumeState.{Row, VolumeState}
 use Rattle.afp_volume.specs.Walk.{row_at}
 use Rattle.node_rows.specs.Children.{child_of}
 use Rattle.node_rows.specs.declared.child.Child.{Child}
-use Rattle.volume_answers.specs.Told.{IsRowOf}
-use Rattle.volume_answers.specs.Filling.{IsPut, can_follow, front, bytes_of, counted_from, filled}
+use Rattle.volume_answers.specs.lemma.Told.{IsRowOf}
+use Rattle.volume_answers.specs.lemma.Filling.{IsPut, can_follow, front, bytes_of, counted_from, filled}
 
 -- the child at a place
 

@@ -12,7 +12,7 @@ use Rattle.afp_volume.specs.OpenFork.{file_of, open_fork_file}
 use Rattle.afp_volume.specs.SoundVolume.{IsSoundVolume, has_file, has_node}
 use Rattle.afp_volume.specs.VolumeState.{Row, VolumeState}
 use Rattle.afp_volume.specs.Walk.{found, row_at}
-use Rattle.volume_answers.specs.Told.{IsRowOf}
+use Rattle.volume_answers.specs.lemma.Told.{IsRowOf}
 use Rattle.volume_tree.proofs.Showing.{ids-differ}
 
 -- what a node that is there says of itself

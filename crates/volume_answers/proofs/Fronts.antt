@@ -10,7 +10,7 @@ use Rattle.afp_volume.proofs.ListReplies.{entries-go-as-far}
 use Rattle.afp_volume.specs.Shared.{Opened}
 use Rattle.afp_volume.specs.Enumerate.{ListAsked, counted, entries, entry_size, fits_reply, from_start, list_head, longest_entry}
 use Rattle.afp_volume.specs.VolumeState.{Row}
-use Rattle.volume_answers.specs.Filling.{can_follow, front, counted_from, filled}
+use Rattle.volume_answers.specs.lemma.Filling.{can_follow, front, counted_from, filled}
 
 module _ (size : Row → ℕ) (asked : ListAsked) where
   limit : ℕ

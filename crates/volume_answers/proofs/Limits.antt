@@ -10,7 +10,7 @@ use Rattle.afp_volume.specs.Edits.{bare}
 use Rattle.afp_volume.specs.SoundVolume.{IsSoundVolume, fork_bytes, most_fork_bytes}
 use Rattle.afp_volume.specs.VolumeState.{Row, VolumeState}
 use Rattle.afp_volume.specs.Walk.{row_at}
-use Rattle.volume_answers.specs.Told.{bytes_at, whole}
+use Rattle.volume_answers.specs.lemma.Told.{bytes_at, whole}
 use Rattle.afp_volume.specs.OpenFork.{file_of}
 use Rattle.volume_tree.specs.Shown.{fork_at}
 

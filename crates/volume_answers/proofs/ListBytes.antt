@@ -11,7 +11,7 @@ use Rattle.afp_volume.specs.Shared.{Opened}
 use Rattle.afp_volume.specs.Enumerate.{ListAsked}
 use Rattle.afp_volume.specs.VolumeState.{Row}
 use Rattle.volume_answers.proofs.EntryBytes.{patched}
-use Rattle.volume_answers.specs.Filling.{bytes_of}
+use Rattle.volume_answers.specs.lemma.Filling.{bytes_of}
 
 -- the parts that are written, one behind the other, are the reply
 pub list-bytes : (rows : List Row) (opens : List Opened) (asked : ListAsked) (nodes : List Row) (old a b c d new : List ℕ) (file_bits dir_bits count at_count : ℕ) → file_bits ≡ asked.file_bits → dir_bits ≡ asked.dir_bits

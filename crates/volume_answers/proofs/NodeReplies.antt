@@ -20,7 +20,7 @@ use Rattle.afp_volume.specs.NodeValues.{bits_of, dir_values, file_values, node_v
 use Rattle.afp_volume.specs.SoundVolume.{IsSoundVolume, has_node}
 use Rattle.afp_volume.specs.VolumeState.{Row, VolumeState}
 use Rattle.afp_volume.specs.Walk.{found, has_directory, row_at}
-use Rattle.volume_answers.specs.Told.{IsRowOf}
+use Rattle.volume_answers.specs.lemma.Told.{IsRowOf}
 use Rattle.afp_volume.proofs.SeenRows.{test-found}
 use Rattle.volume_tree.proofs.Showing.{ids-differ}
 

@@ -13,7 +13,7 @@ use Rattle.afp_volume.specs.SoundVolume.{has_node}
 use Rattle.afp_volume.specs.VolumeState.{Row}
 use Rattle.afp_volume.specs.Walk.{row_at}
 use Rattle.volume_answers.proofs.Limits.{whole-is}
-use Rattle.volume_answers.specs.Told.{IsRowOf, whole}
+use Rattle.volume_answers.specs.lemma.Told.{IsRowOf, whole}
 
 -- where an id is a node's, it is found
 pub never-missing : (rows : List Row) (id : ℕ) → has_node rows id ≡ true → None ≡ option_map bare (row_at rows id) → ⊥

@@ -6,7 +6,7 @@ use Rattle.std.proofs.lemmas.List.{length-drop}
 use Rattle.afp_volume.specs.Enumerate.{ListAsked, is_counted, counted}
 use Rattle.afp_volume.specs.Listing.{listed}
 use Rattle.afp_volume.specs.VolumeState.{Row}
-use Rattle.volume_answers.specs.Filling.{IsBehind, IsStart, counted_from}
+use Rattle.volume_answers.specs.lemma.Filling.{IsBehind, IsStart, counted_from}
 
 -- so many are still to be passed over from here on
 abbrev pub StillToPass : List Row → ListAsked → ℕ → ℕ → ℕ → ℕ → Type 0

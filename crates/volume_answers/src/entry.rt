@@ -9,8 +9,8 @@ ghost use Rattle.afp_replies.specs.Entry.{pad_count};
 ghost use Rattle.afp_volume.specs.Enumerate.{longest_entry};
 ghost use Rattle.afp_volume.specs.NodeValues.{bits_of, node_values};
 ghost use Rattle.afp_volume.specs.VolumeState.{Row};
-ghost use Rattle.volume_answers.specs.Filling.{IsPut, can_follow};
-ghost use Rattle.volume_answers.specs.Told.{IsNode, IsRowOf};
+ghost use Rattle.volume_answers.specs.lemma.Filling.{IsPut, can_follow};
+ghost use Rattle.volume_answers.specs.lemma.Told.{IsNode, IsRowOf};
 ghost use Rattle.volume_tree.specs.Shown.{opened};
 
 use crate::list_asked::ListAsked;

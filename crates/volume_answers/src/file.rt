@@ -7,7 +7,7 @@ ghost use Rattle.afp_bitmap.specs.Params.{params};
 ghost use Rattle.afp_bitmap.specs.declared.params.Values.TheVariants as told;
 ghost use Rattle.afp_volume.specs.NodeValues.{is_open, told_attributes, file_values};
 ghost use Rattle.afp_volume.specs.Parms.{asked_or};
-ghost use Rattle.volume_answers.specs.Told.{bytes_at, whole};
+ghost use Rattle.volume_answers.specs.lemma.Told.{bytes_at, whole};
 ghost use Rattle.volume_tree.specs.Shown.{opened};
 
 use crate::fields::{

@@ -7,7 +7,7 @@ ghost use Rattle.afp_serial.specs.ListReply.{list_reply};
 ghost use Rattle.afp_volume.specs.Enumerate.{is_counted, entries, enumerate_refusal, list_head};
 ghost use Rattle.afp_volume.specs.SoundVolume.{has_node};
 ghost use Rattle.afp_volume.specs.Walk.{found};
-ghost use Rattle.volume_answers.specs.Filling.{IsBehind, IsStart, bytes_of, filled, list_refusal};
+ghost use Rattle.volume_answers.specs.lemma.Filling.{IsBehind, IsStart, bytes_of, filled, list_refusal};
 ghost use Rattle.volume_tree.specs.Answered.{Refuses};
 ghost use Rattle.volume_tree.specs.Shown.{opened};
 

@@ -6,7 +6,7 @@ ghost use Rattle.afp_volume.specs.NodeValues.{bits_of, node_values};
 ghost use Rattle.afp_volume.specs.SoundVolume.{has_node};
 ghost use Rattle.afp_volume.specs.VolumeState.{Row};
 ghost use Rattle.afp_volume.specs.Walk.{row_at};
-ghost use Rattle.volume_answers.specs.Told.{IsRowOf};
+ghost use Rattle.volume_answers.specs.lemma.Told.{IsRowOf};
 ghost use Rattle.volume_tree.specs.Shown.{opened};
 
 use crate::directory::put_dir;

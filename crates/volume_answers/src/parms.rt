@@ -13,7 +13,7 @@ ghost use Rattle.afp_volume.specs.OpenDir.{open_dir_refusal, open_dir_id};
 ghost use Rattle.afp_volume.specs.SoundVolume.{has_node};
 ghost use Rattle.afp_volume.specs.VolumeState.{Row};
 ghost use Rattle.afp_volume.specs.Walk.{has_directory};
-ghost use Rattle.volume_answers.specs.Told.{IsRowOf};
+ghost use Rattle.volume_answers.specs.lemma.Told.{IsRowOf};
 ghost use Rattle.volume_tree.specs.Answered.{Refuses};
 ghost use Rattle.volume_tree.specs.Shown.{opened};
 

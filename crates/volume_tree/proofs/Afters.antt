@@ -10,7 +10,7 @@ use Rattle.afp_volume.specs.SetFileDirParms.{with_settings}
 use Rattle.afp_volume.specs.VolumeState.{Row, VolumeState}
 use Rattle.afp_volume.specs.Walk.{row_at}
 use Rattle.volume_tree.proofs.Touching.{gone-lets}
-use Rattle.volume_tree.specs.After.{moved_row, set_row, dated_row, after_row, come_row}
+use Rattle.volume_tree.specs.lemma.After.{moved_row, set_row, dated_row, after_row, come_row}
 use Rattle.volume_tree.specs.Planned.{Move, SetNode, PlanState, planned, is_gone, gone_rows, come_rows, moved_rows, set_rows, dated_rows}
 
 -- what stays, and else what comes

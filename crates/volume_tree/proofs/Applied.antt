@@ -19,7 +19,8 @@ use Rattle.afp_volume.specs.SoundVolume.{IsSoundVolume, has_node, fork_bytes, ro
 use Rattle.afp_volume.specs.VolumeState.{Row, VolumeState, root_id, first_id}
 use Rattle.afp_volume.specs.Walk.{row_at}
 use Rattle.volume_tree.proofs.Showing.{ids-differ}
-use Rattle.volume_tree.specs.Kept.{Forks, IsKept, at_gone, bytes_of, data_of, resource_of, has_forks, with_forks, rows_of, state_of, spare_of}
+use Rattle.volume_tree.specs.Kept.{Forks, data_of, resource_of, with_forks, rows_of, state_of, spare_of}
+use Rattle.volume_tree.specs.lemma.Kept.{IsKept, at_gone, bytes_of, has_forks}
 use Rattle.volume_tree.specs.Planned.{Move, SetNode, PlanState, IsNew, IsPlan, planned, is_gone, gone_rows, gone_comments, gone_appls, come_rows, next_after, moved_rows, set_rows, dated_rows}
 use Rattle.volume_tree.specs.declared.forks.FileForks.{FileForks}
 use Rattle.volume_tree.specs.declared.head.Dates.{Dates}

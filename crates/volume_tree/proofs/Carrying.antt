@@ -6,7 +6,8 @@ use Rattle.std.proofs.lemmas.Bool.{and_parts, cond-true, cond-false, lt-ltb, le-
 use Rattle.std.proofs.lemmas.List.{drop_more, drop_all, drop-set-lt, get_or-take, take_all, take-append-drop, take_more, take_more_set, append_assoc, length-set, length-take-le}
 use Rattle.std.proofs.Math.Seq.{take-set-lt}
 use Rattle.afp_base.specs.declared.ids.NodeId.{NodeId}
-use Rattle.volume_tree.specs.TouchedNodes.{are_rising, put_id}
+use Rattle.volume_tree.specs.TouchedNodes.{are_rising}
+use Rattle.volume_tree.specs.lemma.TouchedNodes.{put_id}
 
 -- what is left to do among the first so many ids, from a place on
 pub record Carried (first now : List NodeId) (count : ℕ) (id carried : NodeId) (i : ℕ) : Type 0 where

@@ -17,7 +17,7 @@ use Rattle.afp_volume.specs.Edits.{without}
 use Rattle.afp_volume.specs.SoundVolume.{IsSoundVolume, has_node, has_apart_names, are_named_alike}
 use Rattle.afp_volume.specs.VolumeState.{Row, VolumeState, new_row}
 use Rattle.afp_volume.specs.Walk.{Place, new_place, child_by_key}
-use Rattle.volume_tree.specs.Answered.{IsFound, option_id}
+use Rattle.volume_tree.specs.lemma.Answered.{IsFound, option_id}
 use Rattle.volume_tree.specs.Planned.{IsPlan, IsNew, planned, plan_new, gone_rows}
 
 -- a plan of a new node is what creates it

@@ -12,7 +12,7 @@ use Rattle.afp_volume.specs.SetFileDirParms.{Settings, with_settings}
 use Rattle.afp_volume.specs.SoundVolume.{has_rising_ids}
 use Rattle.afp_volume.specs.VolumeState.{Row}
 use Rattle.afp_volume.specs.Walk.{row_at}
-use Rattle.volume_tree.specs.Kept.{IsMarks, IsMarksSet}
+use Rattle.volume_tree.specs.lemma.Kept.{IsMarks, IsMarksSet}
 
 -- where no row has the id, nothing changes
 pub changed-missing : (rows : List Row) (id : ℕ) (change : Row → Row) → row_at rows id ≡ None → with_changed id change rows ≡ rows

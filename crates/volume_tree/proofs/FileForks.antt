@@ -10,7 +10,8 @@ use Rattle.afp_volume.specs.ForkEffect.{fork_of}
 use Rattle.afp_volume.specs.VolumeState.{Row}
 use Rattle.afp_volume.specs.Walk.{row_at}
 use Rattle.volume_tree.proofs.Showing.{found-shown, missing-shown}
-use Rattle.volume_tree.specs.Kept.{Forks, data_of, resource_of, has_forks, with_forks, rows_of}
+use Rattle.volume_tree.specs.Kept.{Forks, data_of, resource_of, with_forks, rows_of}
+use Rattle.volume_tree.specs.lemma.Kept.{has_forks}
 use Rattle.afp_volume.specs.OpenFork.{file_of}
 use Rattle.volume_tree.specs.Shown.{fork_at}
 use Rattle.volume_tree.specs.declared.forks.FileForks.{FileForks as Kept}

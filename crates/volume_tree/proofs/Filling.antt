@@ -19,8 +19,9 @@ use Rattle.volume_tree.proofs.FileForks.{found-id}
 use Rattle.volume_tree.proofs.Showing.{found-shown, ids-differ}
 use Rattle.volume_tree.proofs.Writing.{FileThere, Written, file-there, before-within, written-kept, written-state}
 use Rattle.volume_tree.specs.Filled.{FitsFork, block_size, filled, filled_row}
-use Rattle.volume_tree.specs.ForkEffect.{IsChanged, kept_fork}
-use Rattle.volume_tree.specs.Kept.{Forks, IsKept, rows_of, state_of, with_forks}
+use Rattle.volume_tree.specs.lemma.ForkEffect.{IsChanged, kept_fork}
+use Rattle.volume_tree.specs.Kept.{Forks, rows_of, state_of, with_forks}
+use Rattle.volume_tree.specs.lemma.Kept.{IsKept}
 use Rattle.volume_tree.specs.declared.head.Dates.{Dates}
 
 same-length : Reaches → (bytes : List ℕ) (from : ℕ) (block : List ℕ) → from + length block ≤ length bytes → length (splice bytes from block) ≡ length bytes

@@ -8,7 +8,7 @@ use Rattle.afp_volume.specs.SetFileDirParms.{with_settings}
 use Rattle.afp_volume.specs.VolumeState.{Row, VolumeState}
 use Rattle.afp_volume.specs.Walk.{row_at}
 use Rattle.volume_tree.proofs.Afters.{or_row, after-found, stays-gone, stays-here}
-use Rattle.volume_tree.specs.After.{moved_row, set_row, dated_row, after_row, come_row}
+use Rattle.volume_tree.specs.lemma.After.{moved_row, set_row, dated_row, after_row, come_row}
 use Rattle.volume_tree.specs.Planned.{Move, SetNode, PlanState, planned, is_gone, gone_rows, come_rows}
 use Rattle.afp_volume.specs.OpenFork.{file_of}
 use Rattle.volume_tree.specs.Shown.{fork_at}

@@ -18,8 +18,9 @@ use Rattle.afp_volume.specs.SoundVolume.{IsSoundVolume, fork_bytes}
 use Rattle.afp_volume.specs.VolumeState.{Row, fresh_volume, never, new_row}
 use Rattle.afp_names.specs.Name.{name_fault}
 use Rattle.volume_tree.proofs.Showing.{any-shown}
-use Rattle.volume_tree.specs.Answered.{IsFound}
-use Rattle.volume_tree.specs.Kept.{Forks, IsKept, IsShownAs, data_of, resource_of, has_forks, rows_of, state_of, spare_of}
+use Rattle.volume_tree.specs.lemma.Answered.{IsFound}
+use Rattle.volume_tree.specs.Kept.{Forks, data_of, resource_of, rows_of, state_of, spare_of}
+use Rattle.volume_tree.specs.lemma.Kept.{IsKept, IsShownAs, has_forks}
 use Rattle.volume_tree.specs.Shown.{TreeValue}
 use Rattle.volume_tree.specs.declared.head.Dates.{Dates}
 

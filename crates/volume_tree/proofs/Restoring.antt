@@ -18,8 +18,10 @@ use Rattle.afp_volume.proofs.Orders.{order-parts}
 use Rattle.afp_volume.proofs.Trees.{drawn, tree-parts}
 use Rattle.node_rows.specs.Kept.{RowsValue}
 use Rattle.sorted_map.specs.Entries.{at}
-use Rattle.volume_tree.specs.Kept.{Forks, IsKept, data_of, resource_of, has_forks, rows_of, state_of}
-use Rattle.volume_tree.specs.Restored.{IsRestorable, restored, forks_in, has_short_forks, loaded_bytes, loaded_node, loaded_row, or_forks, own_forks}
+use Rattle.volume_tree.specs.Kept.{Forks, data_of, resource_of, rows_of, state_of}
+use Rattle.volume_tree.specs.lemma.Kept.{IsKept, has_forks}
+use Rattle.volume_tree.specs.Restored.{IsRestorable, restored, loaded_row}
+use Rattle.volume_tree.specs.lemma.Restored.{forks_in, has_short_forks, loaded_bytes, loaded_node, or_forks, own_forks}
 use Rattle.volume_tree.specs.declared.head.Dates.{Dates}
 use Rattle.volume_tree.specs.declared.head.VolumeHead.{VolumeHead}
 use Rattle.volume_tree.specs.declared.forks.FileForks.{FileForks}

@@ -10,9 +10,10 @@ use Rattle.afp_volume.specs.SetFileDirParms.{with_settings}
 use Rattle.afp_volume.specs.VolumeState.{Row}
 use Rattle.afp_volume.specs.Edits.{at_place, modified_at}
 use Rattle.afp_volume.specs.Walk.{row_at}
-use Rattle.volume_tree.specs.Answered.{option_id}
+use Rattle.volume_tree.specs.lemma.Answered.{option_id}
 use Rattle.volume_tree.specs.Planned.{Move, SetNode, PlanState, planned, is_gone, gone_rows, come_rows, moved_rows, set_rows, dated_rows}
-use Rattle.volume_tree.specs.TouchedNodes.{is_come, is_moved, is_set, is_dated, is_touched, are_rising, IsTouched, put_id, with_id}
+use Rattle.volume_tree.specs.TouchedNodes.{is_come, is_moved, is_set, is_dated, is_touched, are_rising, IsTouched}
+use Rattle.volume_tree.specs.lemma.TouchedNodes.{put_id, with_id}
 use Rattle.volume_tree.specs.TreeLaws.{UntouchedStay}
 
 -- what is put in is there, and all else as before

@@ -18,8 +18,9 @@ use Rattle.afp_volume.specs.Walk.{row_at}
 use Rattle.volume_tree.proofs.Applied.{gone-drawn, all-dated}
 use Rattle.volume_tree.proofs.FileForks.{found-id, found-kept}
 use Rattle.volume_tree.proofs.Showing.{found-shown, missing-shown}
-use Rattle.volume_tree.specs.ForkEffect.{IsChanged, kept_fork}
-use Rattle.volume_tree.specs.Kept.{Forks, IsKept, data_of, resource_of, has_forks, with_forks, rows_of, state_of}
+use Rattle.volume_tree.specs.lemma.ForkEffect.{IsChanged, kept_fork}
+use Rattle.volume_tree.specs.Kept.{Forks, data_of, resource_of, with_forks, rows_of, state_of}
+use Rattle.volume_tree.specs.lemma.Kept.{IsKept, has_forks}
 use Rattle.volume_tree.specs.Planned.{dated_rows}
 use Rattle.afp_volume.specs.OpenFork.{file_of}
 use Rattle.volume_tree.specs.Shown.{fork_at}

@@ -16,19 +16,3 @@ abbrev pub Refuses : {A : Type 0} → Result A PlanFault → Option Code → Typ
 Refuses (Ok planned) refused = refused ≡ None
 Refuses (Err (fault.Code code)) refused = refused ≡ Some code
 Refuses (Err fault.Memory) refused = Unit {0}
-
--- the node that was found, if one was, is the one that is wanted
-abbrev pub IsFound : Option NodeId → Option ℕ → Type 0
-IsFound None wanted = wanted ≡ None
-IsFound (Some id) wanted = wanted ≡ Some id.0
-
--- where an answer is a code, that is what was wanted
-abbrev pub FailsAs : {A B : Type 0} → Result A PlanFault → Result B Code → Type 0
-FailsAs (Ok at_end) wanted = Unit {0}
-FailsAs (Err (fault.Code code)) wanted = wanted ≡ Err code
-FailsAs (Err fault.Memory) wanted = Unit {0}
-
--- the number of a node's id, if there is one
-abbrev pub option_id : Option NodeId → Option ℕ
-option_id None = None
-option_id (Some id) = Some id.0

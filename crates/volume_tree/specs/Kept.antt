@@ -1,15 +1,9 @@
 -- What is kept of a volume's tree (this profile).
-use Rattle.std.specs.Prelude.{◌≡◌, ℕ, ◌<◌, ◌+◌, ◌||◌, Bool, true, if◌then◌else◌, List, [], length, map, Option, Some, None, is_some}
-use Rattle.std.specs.List.{list_all}
+use Rattle.std.specs.Prelude.{ℕ, if◌then◌else◌, List, [], map, Option, Some, None, is_some}
 use Rattle.std.specs.Ordering.{nat_cmp}
 use Rattle.sorted_map.specs.Entries.{at}
-use Rattle.afp_base.specs.declared.ids.NodeId.{NodeId}
-use Rattle.node_rows.specs.Kept.{RowsValue, marked}
-use Rattle.node_rows.specs.declared.node.Marks.{Marks}
+use Rattle.node_rows.specs.Kept.{RowsValue}
 use Rattle.afp_volume.specs.VolumeState.{Row, VolumeState}
-use Rattle.afp_volume.specs.SetFileDirParms.{Settings, with_settings}
-use Rattle.afp_volume.specs.SoundVolume.{IsSoundVolume, fork_bytes}
-use Rattle.volume_tree.specs.Planned.{is_gone}
 use Rattle.volume_tree.specs.declared.forks.FileForks.{FileForks}
 use Rattle.volume_tree.specs.declared.head.Dates.{Dates}
 
@@ -25,12 +19,6 @@ data_of (Some forks) = forks.data_fork
 abbrev pub resource_of : Option FileForks → List ℕ
 resource_of None = []
 resource_of (Some forks) = forks.resource_fork
-
--- what is kept shows the same bytes as something else, and no less is kept
-pub record IsShownAs (old new : Option FileForks) : Type 0 where
-  pub data_fork : data_of new ≡ data_of old
-  pub resource_fork : resource_of new ≡ resource_of old
-  pub kept : is_some old ≡ true → is_some new ≡ true
 
 -- a row with the forks that are kept of it
 abbrev pub with_forks : Forks → Row → Row
@@ -57,39 +45,3 @@ state_of name dates rows forks = record {
 -- There is room for a new node where the rows have room and forks are kept for the next id already.
 abbrev pub spare_of : RowsValue → Forks → ℕ
 spare_of rows forks = if is_some (at nat_cmp forks rows.next_id) then rows.spare else 0
-
--- whether a row is a directory's, or its forks are kept
-abbrev pub has_forks : Forks → Row → Bool
-has_forks forks row = row.dir || is_some (at nat_cmp forks row.id)
-
--- The volume is sound; the forks of each file are kept; those of the next id have no bytes, and behind it are none; the number of bytes is kept.
-pub record IsKept (name : List ℕ) (dates : Dates) (rows : RowsValue) (forks : Forks) (used : ℕ) : Type 0 where
-  pub sound : IsSoundVolume (state_of name dates rows forks)
-  pub files : list_all (has_forks forks) rows.rows ≡ true
-  pub no_data : data_of (at nat_cmp forks rows.next_id) ≡ []
-  pub no_resource : resource_of (at nat_cmp forks rows.next_id) ≡ []
-  pub none_behind : (id : ℕ) → rows.next_id < id → at nat_cmp forks id ≡ None
-  pub bytes : used ≡ fork_bytes (rows_of forks rows.rows)
-
--- the bytes of the forks of a node that goes
-abbrev pub bytes_of : Option NodeId → Forks → ℕ
-bytes_of None forks = 0
-bytes_of (Some gone) forks = length (data_of (at nat_cmp forks gone.0)) + length (resource_of (at nat_cmp forks gone.0))
-
--- what is kept of a node when another one has gone
-abbrev pub at_gone : Option NodeId → ℕ → Option FileForks → Option FileForks
-at_gone gone id kept = if is_gone gone id then None else kept
-
--- the marks of a row
-abbrev pub marks_in : Row → Marks
-marks_in row = record { attributes = row.attributes; created = row.created; modified = row.modified; backup = row.backup; finder = row.finder; filed = row.filed }
-
--- the marks are those of a row that was found
-abbrev pub IsMarks : Option Marks → Option Row → Type 0
-IsMarks None found = found ≡ None
-IsMarks (Some marks) found = (row : Row) × (found ≡ Some row) × (marks ≡ marks_in row)
-
--- the marks are those of a row that was found, with its settings
-abbrev pub IsMarksSet : Settings → Option Marks → Option Row → Type 0
-IsMarksSet settings None found = found ≡ None
-IsMarksSet settings (Some marks) found = (row : Row) × (found ≡ Some row) × (marked marks row ≡ with_settings settings row)

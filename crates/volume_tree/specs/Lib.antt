@@ -4,9 +4,8 @@ pub mod Kept
 pub mod Answered
 pub mod Requests
 pub mod ForkEffect
-pub mod Tails
 pub mod TouchedNodes
-pub mod After
 pub mod TreeLaws
 pub mod Restored
 pub mod Filled
+pub mod lemma

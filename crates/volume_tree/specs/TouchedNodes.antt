@@ -1,5 +1,5 @@
 -- Which nodes a plan touches (this profile).
-use Rattle.std.specs.Prelude.{◌≡◌, ℕ, ◌==◌, nat_lt, Bool, true, false, ◌&&◌, ◌||◌, if◌then◌else◌, List, [], ◌∷◌, ◌++◌, Option, Some, None}
+use Rattle.std.specs.Prelude.{◌≡◌, ℕ, ◌==◌, nat_lt, Bool, true, false, ◌&&◌, ◌||◌, List, [], ◌∷◌, Option, Some, None}
 use Rattle.std.specs.List.{list_all, list_any}
 use Rattle.afp_base.specs.declared.ids.NodeId.{NodeId}
 use Rattle.afp_volume.specs.VolumeState.{Row}
@@ -36,18 +36,3 @@ are_rising (id ∷ ids) = list_all (λ (other : NodeId). nat_lt id.0 other.0) id
 pub record IsTouched (p : PlanState) (ids : List NodeId) : Type 0 where
   pub rising : are_rising ids ≡ true
   pub all : (id : ℕ) → list_any (λ (touched : NodeId). id == touched.0) ids ≡ is_touched p id
-
--- From here on for private contracts: rising ids with one more, in its place
-abbrev pub put_id : NodeId → List NodeId → List NodeId
-put_id id [] = id ∷ []
-put_id id (other ∷ ids) = if nat_lt other.0 id.0 then other ∷ put_id id ids else if nat_lt id.0 other.0 then id ∷ other ∷ ids else other ∷ ids
-
--- rising ids with the one that there is, or as they are
-abbrev pub with_id : Option NodeId → List NodeId → List NodeId
-with_id None ids = ids
-with_id (Some id) ids = put_id id ids
-
--- ids with a last one behind them, if there is one
-abbrev pub with_last : List NodeId → Option NodeId → List NodeId
-with_last ids None = ids
-with_last ids (Some last) = ids ++ last ∷ []

@@ -4,7 +4,7 @@ ghost use Rattle.afp_volume.specs.ForkEffect.{fork_of};
 ghost use Rattle.afp_volume.specs.Edits.{bare, at_place, modified_at};
 ghost use Rattle.afp_volume.specs.SetFileDirParms.{with_settings};
 ghost use Rattle.afp_volume.specs.Walk.{row_at};
-ghost use Rattle.volume_tree.specs.After.{moved_row, set_row, dated_row, come_row};
+ghost use Rattle.volume_tree.specs.lemma.After.{moved_row, set_row, dated_row, come_row};
 ghost use Rattle.afp_volume.specs.OpenFork.{file_of};
 ghost use Rattle.volume_tree.specs.Shown.{fork_at};
 ghost use Rattle.volume_tree.specs.Planned.{is_gone, gone_rows, come_rows, planned, next_after};

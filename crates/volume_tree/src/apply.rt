@@ -5,7 +5,7 @@ ghost use Rattle.afp_volume.specs.Edits.{is_taken, with_changed, modified_at};
 ghost use Rattle.afp_volume.specs.VolumeState.{Row};
 ghost use Rattle.afp_volume.specs.Walk.{row_at};
 ghost use Rattle.sorted_map.specs.Entries.{at};
-ghost use Rattle.volume_tree.specs.Kept.{bytes_of, at_gone, IsMarks, IsMarksSet};
+ghost use Rattle.volume_tree.specs.lemma.Kept.{bytes_of, at_gone, IsMarks, IsMarksSet};
 ghost use Rattle.afp_volume.specs.SetFileDirParms.{with_settings};
 ghost use Rattle.volume_tree.specs.Planned.{Move, IsNew, IsPlan, planned, gone_rows, come_rows, next_after, moved_rows, set_rows, dated_rows};
 

@@ -5,7 +5,8 @@ ghost use Rattle.afp_base.specs.declared.ids.NodeId.{NodeId as NodeNumber};
 ghost use Rattle.fork_bytes.specs.Plan.{IsPlan as IsForkPlan};
 ghost use Rattle.sorted_map.specs.Entries.{at};
 ghost use Rattle.afp_volume.specs.ForkEffect.{fork_effect};
-ghost use Rattle.volume_tree.specs.ForkEffect.{IsForkChange, IsChanged, kept_fork};
+ghost use Rattle.volume_tree.specs.ForkEffect.{IsForkChange};
+ghost use Rattle.volume_tree.specs.lemma.ForkEffect.{IsChanged, kept_fork};
 
 use crate::apply::set_date;
 use crate::forks::FileForks;

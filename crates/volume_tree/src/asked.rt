@@ -8,7 +8,7 @@ ghost use Rattle.afp_volume.specs.Edits.{has_children, is_below, is_taken};
 ghost use Rattle.afp_volume.specs.Shared.{directory_of, has_attribute, has_no_ids, has_no_room, is_busy};
 ghost use Rattle.afp_volume.specs.SoundVolume.{has_file};
 ghost use Rattle.afp_volume.specs.Walk.{parent_at, has_directory, child_by_key, child_by_long_name};
-ghost use Rattle.volume_tree.specs.Answered.{IsFound};
+ghost use Rattle.volume_tree.specs.lemma.Answered.{IsFound};
 ghost use Rattle.volume_tree.specs.Shown.{opened};
 
 use crate::volume::{ROOT_PARENT, Volume};

@@ -1,7 +1,8 @@
 //! FPCreateFile.
 ghost use Rattle.std.specs.Prelude.{◌≡◌, ◌+◌, Bool, true, false, Some, None, IfOk, IfErr};
 ghost use Rattle.afp_volume.specs.CreateFile.{create_file_refusal, create_file_effect, create_file_there};
-ghost use Rattle.volume_tree.specs.Answered.{Refuses, option_id};
+ghost use Rattle.volume_tree.specs.Answered.{Refuses};
+ghost use Rattle.volume_tree.specs.lemma.Answered.{option_id};
 ghost use Rattle.volume_tree.specs.Planned.{Does, IsPlan, planned};
 ghost use Rattle.volume_tree.specs.Shown.{opened};
 

@@ -6,7 +6,7 @@ ghost use Rattle.fork_bytes.specs.Blocks.{largest_fork};
 ghost use Rattle.fork_bytes.specs.Plan.{IsPlan as IsForkPlan};
 ghost use Rattle.sorted_map.specs.Entries.{at};
 ghost use Rattle.volume_tree.specs.Filled.{FitsFork, filled};
-ghost use Rattle.volume_tree.specs.ForkEffect.{kept_fork};
+ghost use Rattle.volume_tree.specs.lemma.ForkEffect.{kept_fork};
 
 use crate::apply_fork::change_fork;
 use crate::forks::FileForks;

@@ -3,7 +3,7 @@ ghost use Rattle.std.specs.Prelude.{◌≡◌, ◌==◌, ℕ, List, [], true, fa
 ghost use Rattle.std.specs.Ordering.{nat_cmp};
 ghost use Rattle.fork_bytes.specs.Plan.{IsPlan as IsForkPlan};
 ghost use Rattle.sorted_map.specs.Entries.{at};
-ghost use Rattle.volume_tree.specs.Kept.{IsShownAs};
+ghost use Rattle.volume_tree.specs.lemma.Kept.{IsShownAs};
 
 use afp_base::OutOfMemory;
 use fork_bytes::{Fork, ForkPlan};

@@ -2,7 +2,7 @@
 ghost use Rattle.std.specs.Prelude.{◌≡◌, ◌-◌, true, None, Some, Ok, Err, take, length, IfOk, MatchOption};
 ghost use Rattle.afp_volume.specs.Shared.{name_of};
 ghost use Rattle.afp_volume.specs.Walk.{found, before_down, new_place, one_down, one_down_or, is_named_path, is_named_step};
-ghost use Rattle.volume_tree.specs.Answered.{FailsAs};
+ghost use Rattle.volume_tree.specs.lemma.Answered.{FailsAs};
 
 use crate::resolve::PlanFault;
 use crate::volume::Volume;

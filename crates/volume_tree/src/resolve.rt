@@ -1,7 +1,8 @@
 //! Walking a path through the tree.
 ghost use Rattle.std.specs.Prelude.{◌≡◌, ◌≤◌, IfOk, length, take};
 ghost use Rattle.afp_volume.specs.Walk.{child, walk_from, walk, found};
-ghost use Rattle.volume_tree.specs.Answered.{Answers, IsFound};
+ghost use Rattle.volume_tree.specs.Answered.{Answers};
+ghost use Rattle.volume_tree.specs.lemma.Answered.{IsFound};
 
 use crate::volume::{ROOT_PARENT, Volume};
 use afp_base::{Code, NodeId, OutOfMemory};

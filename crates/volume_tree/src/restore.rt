@@ -7,7 +7,8 @@ ghost use Rattle.sorted_map.specs.Entries.{at};
 ghost use Rattle.afp_volume.specs.Shared.{name_of};
 ghost use Rattle.afp_volume.specs.SoundVolume.{has_node, most_fork_bytes};
 ghost use Rattle.afp_volume.specs.VolumeState.{root_id};
-ghost use Rattle.volume_tree.specs.Restored.{IsRestorable, forks_in, has_short_forks, loaded_bytes, loaded_node, or_forks, own_forks, restored};
+ghost use Rattle.volume_tree.specs.Restored.{IsRestorable, restored};
+ghost use Rattle.volume_tree.specs.lemma.Restored.{forks_in, has_short_forks, loaded_bytes, loaded_node, or_forks, own_forks};
 
 use crate::forks::FileForks;
 use crate::head::{Dates, VolumeHead};

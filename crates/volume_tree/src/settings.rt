@@ -3,8 +3,8 @@ ghost use Rattle.std.specs.Prelude.{◌≡◌, ◌==◌, Bool, unwrap_or, option
 ghost use Rattle.std.specs.Int.{bit_not, w16};
 ghost use Rattle.afp_volume.specs.SetFileDirParms.{attributes_by, settable, with_settings};
 ghost use Rattle.node_rows.specs.Kept.{marked};
-ghost use Rattle.volume_tree.specs.After.{marks_after};
-ghost use Rattle.volume_tree.specs.Kept.{marks_in};
+ghost use Rattle.volume_tree.specs.lemma.After.{marks_after};
+ghost use Rattle.volume_tree.specs.lemma.Kept.{marks_in};
 
 use node_rows::{Marks, Node};
 use std::marker::Model;

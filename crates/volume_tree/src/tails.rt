@@ -3,7 +3,7 @@ ghost use Rattle.std.specs.Prelude.{◌≡◌, ◌≤◌, ◌+◌, true, false, 
 ghost use Rattle.byteorder.specs.Endian.{big_number};
 ghost use Rattle.afp_volume.specs.Parms.{date_in};
 ghost use Rattle.afp_volume.specs.SetFileDirParms.{asked_bytes, field_in, is_short_tail, set_fields, settings_in};
-ghost use Rattle.volume_tree.specs.Tails.{lower_bytes, size_asked};
+ghost use Rattle.volume_tree.specs.lemma.Tails.{lower_bytes, size_asked};
 
 use crate::settings::Settings;
 use afp_bitmap::is_asked;

@@ -1,9 +1,10 @@
 //! The nodes that a plan touches.
 ghost use Rattle.std.specs.Prelude.{◌≡◌, ◌≤◌, ◌<◌, ◌+◌, [], take, length, true, option_map};
 ghost use Rattle.afp_volume.specs.VolumeState.{Row};
-ghost use Rattle.volume_tree.specs.Answered.{option_id};
+ghost use Rattle.volume_tree.specs.lemma.Answered.{option_id};
 ghost use Rattle.volume_tree.specs.Planned.{Move, SetNode};
-ghost use Rattle.volume_tree.specs.TouchedNodes.{are_rising, put_id, with_id, IsTouched};
+ghost use Rattle.volume_tree.specs.TouchedNodes.{are_rising, IsTouched};
+ghost use Rattle.volume_tree.specs.lemma.TouchedNodes.{put_id, with_id};
 
 use crate::plan::{Comer, Mover, Plan, Setting};
 use afp_base::NodeId;

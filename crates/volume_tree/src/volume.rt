@@ -43,7 +43,8 @@ impl Model for Volume {
 
     ghost Value = { TreeValue };
 
-    ghost use Rattle.volume_tree.specs.Kept.{state_of, spare_of, IsKept};
+    ghost use Rattle.volume_tree.specs.Kept.{state_of, spare_of};
+    ghost use Rattle.volume_tree.specs.lemma.Kept.{IsKept};
 
     ghost view = { λ a. record { state = state_of a.name a.dates a.rows a.forks; spare = spare_of a.rows a.forks } };
 

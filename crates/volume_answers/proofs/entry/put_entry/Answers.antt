@@ -3,7 +3,7 @@ use Rattle.byteorder.specs.Endian.{big_bytes}
 use Rattle.afp_replies.specs.Bytes.{width}
 use Rattle.afp_volume.specs.Enumerate.{entry_size}
 use Rattle.volume_answers.proofs.EntryBytes.{body-front, body-size, body-room, entry-put, size-is}
-use Rattle.volume_answers.specs.Filling.{can_follow}
+use Rattle.volume_answers.specs.lemma.Filling.{can_follow}
 use Rattle.volume_tree.specs.Shown.{opened}
 use Rattle.volume_answers.proofs.entry.put_entry.Goals as goal
 

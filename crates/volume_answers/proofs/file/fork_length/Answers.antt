@@ -2,7 +2,7 @@ use Rattle.std.proofs.Common.{◌∙◌, ap, sym, ◌<◌, ◌^◌, [], List, �
 use Rattle.std.specs.Prelude.{unwrap_or}
 use Rattle.std.specs.Option.{option_copied}
 use Rattle.volume_answers.proofs.Limits.{fork-small}
-use Rattle.volume_answers.specs.Told.{bytes_at}
+use Rattle.volume_answers.specs.lemma.Told.{bytes_at}
 use Rattle.volume_answers.proofs.file.fork_length.Goals as goal
 
 pub overflow_cast-result : goal.overflow_cast-result

@@ -1,5 +1,5 @@
 use Rattle.volume_answers.proofs.Fitting.{file-fits}
-use Rattle.volume_answers.specs.Told.{whole}
+use Rattle.volume_answers.specs.lemma.Told.{whole}
 use Rattle.volume_tree.specs.Shown.{opened}
 use Rattle.volume_answers.proofs.file.put_file.Goals as goal
 

@@ -3,7 +3,7 @@ use Rattle.std.proofs.lemmas.List.{length-map}
 use Rattle.afp_volume.specs.Listing.{listed}
 use Rattle.node_rows.specs.Children.{child_of}
 use Rattle.volume_answers.proofs.Filled.{child-here, counts-row, begins, ends, none-asked, none-there, none-fits, passes, puts, same-so-far}
-use Rattle.volume_answers.specs.Filling.{IsPut}
+use Rattle.volume_answers.specs.lemma.Filling.{IsPut}
 use Rattle.volume_tree.specs.Shown.{opened}
 use Rattle.volume_answers.proofs.lists.fill.Goals as goal
 use Rattle.volume_answers.proofs.lists.fill.Goals.{then-is_counted+else-count-most+in-Ok-Some, else-is_counted}

@@ -1,7 +1,7 @@
 use Rattle.std.proofs.Common.{ap, length}
 use Rattle.afp_volume.specs.Enumerate.{ListAsked, list_head}
 use Rattle.volume_answers.proofs.ListBytes.{list-bytes}
-use Rattle.volume_answers.specs.Filling.{filled}
+use Rattle.volume_answers.specs.lemma.Filling.{filled}
 use Rattle.volume_tree.specs.Shown.{opened}
 use Rattle.volume_answers.proofs.lists.put_list.Goals as goal
 

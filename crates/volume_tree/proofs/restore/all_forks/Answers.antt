@@ -1,6 +1,6 @@
 use Rattle.std.proofs.Common.{◌∙◌, ap}
 use Rattle.volume_tree.proofs.Restoring.{forks-next}
-use Rattle.volume_tree.specs.Restored.{or_forks, own_forks}
+use Rattle.volume_tree.specs.lemma.Restored.{or_forks, own_forks}
 use Rattle.volume_tree.proofs.restore.all_forks.Goals as goal
 
 pub loop-loaded-preserved : goal.loop-loaded-preserved

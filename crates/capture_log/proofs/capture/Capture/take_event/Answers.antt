@@ -1,7 +1,7 @@
 use Rattle.std.proofs.Common.{sym, ap, ◌∙◌, refl}
 use Rattle.std.specs.Prelude.{is_some}
 use Rattle.capture_server.proofs.RunningLemmas.{ok_with}
-use Rattle.capture_log.specs.Taking.{CaptureState}
+use Rattle.capture_log.specs.Taking.{HeldCapture}
 use Rattle.capture_log.proofs.TakingLemmas.{event_taken, served}
 use Rattle.capture_log.proofs.capture.Capture.take_event.Goals as goal
 
@@ -22,5 +22,5 @@ returns g c =
     (λ verdict acts s is.
     let there = served c.args.self.now _ s (is_some c.take-fresh.result) c.take-there.result is c.self.view_is c.take-there.ensures.value (ap is_some c.take-fresh.ensures.value) in
     event_taken c.args.self.now _ s c.running_from.new.setup _ c.args.number c.self.inside.number c.args.link c.args.now c.args.what.now c.act-verdict.new.running c.self.inside.part verdict is c.requires.may
-    (ap (λ (x : CaptureState). x.part) c.self.view_is) (acts s (c.in_ok-running.ensures s there) (sym is.next ∙ c.requires.may)) refl)
+    (ap (λ (x : HeldCapture). x.part) c.self.view_is) (acts s (c.in_ok-running.ensures s there) (sym is.next ∙ c.requires.may)) refl)
     c.act-verdict.ensures

@@ -1,7 +1,8 @@
 use Rattle.std.proofs.Common.{◌≡◌, ◌∙◌, ap, sym, subst, []}
 use Rattle.volume_tree.proofs.Touching.{six-touched}
 use Rattle.volume_tree.specs.Planned.{PlanState}
-use Rattle.volume_tree.specs.TouchedNodes.{with_id, IsTouched}
+use Rattle.volume_tree.specs.TouchedNodes.{IsTouched}
+use Rattle.volume_tree.specs.lemma.TouchedNodes.{with_id}
 use Rattle.volume_tree.proofs.plan.Plan.touched.Goals as goal
 
 pub returns : goal.returns

@@ -5,7 +5,8 @@ use Rattle.sorted_map.specs.Entries.{at}
 use Rattle.afp_volume.specs.ForkEffect.{fork_effect}
 use Rattle.afp_volume.specs.SoundVolume.{fork_bytes}
 use Rattle.volume_tree.proofs.Writing.{Written, written-state, written-kept, file-there, before-within}
-use Rattle.volume_tree.specs.ForkEffect.{IsForkChange, kept_fork}
+use Rattle.volume_tree.specs.ForkEffect.{IsForkChange}
+use Rattle.volume_tree.specs.lemma.ForkEffect.{kept_fork}
 use Rattle.volume_tree.specs.Kept.{rows_of, state_of}
 use Rattle.volume_tree.specs.Planned.{dated_rows}
 use Rattle.volume_tree.specs.Shown.{TreeValue, fork_at}

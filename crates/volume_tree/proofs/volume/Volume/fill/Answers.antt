@@ -6,7 +6,7 @@ use Rattle.sorted_map.specs.Entries.{at}
 use Rattle.afp_volume.specs.VolumeState.{VolumeState}
 use Rattle.volume_tree.proofs.Filling.{after, ends-within, file, filled-kept, filled-state, plan-is}
 use Rattle.volume_tree.specs.Filled.{FitsFork, filled}
-use Rattle.volume_tree.specs.ForkEffect.{kept_fork}
+use Rattle.volume_tree.specs.lemma.ForkEffect.{kept_fork}
 use Rattle.volume_tree.specs.Kept.{state_of}
 use Rattle.volume_tree.specs.Shown.{TreeValue}
 use Rattle.volume_tree.proofs.volume.Volume.fill.Goals as goal

@@ -1,6 +1,7 @@
 use Rattle.std.proofs.Common.{◌∙◌, ap, subst, sym, true}
 use Rattle.afp_volume.specs.VolumeState.{new_row}
-use Rattle.volume_tree.specs.Kept.{IsKept, state_of}
+use Rattle.volume_tree.specs.Kept.{state_of}
+use Rattle.volume_tree.specs.lemma.Kept.{IsKept}
 use Rattle.volume_tree.proofs.Keeping.{fresh-kept, fresh-state}
 use Rattle.volume_tree.proofs.volume.Volume.fresh.Goals as goal
 

@@ -4,7 +4,7 @@ use Rattle.std.specs.Option.{option_copied}
 use Rattle.afp_volume.specs.Edits.{bare}
 use Rattle.afp_volume.specs.Walk.{row_at}
 use Rattle.volume_tree.proofs.Afters.{after-shown}
-use Rattle.volume_tree.specs.After.{moved_row, set_row, dated_row, after_row}
+use Rattle.volume_tree.specs.lemma.After.{moved_row, set_row, dated_row, after_row}
 use Rattle.volume_tree.specs.Planned.{PlanState, planned, come_rows, gone_rows}
 use Rattle.volume_tree.proofs.volume.Volume.node_after.Goals as goal
 

@@ -5,7 +5,7 @@ use Rattle.afp_base.specs.Apart.{are_apart}
 use Rattle.afp_volume.specs.SoundVolume.{are_named_alike, has_node, has_rising_ids, most_fork_bytes}
 use Rattle.afp_volume.specs.VolumeState.{Row, root_id}
 use Rattle.volume_tree.proofs.Restoring.{Restored, RestoreParts, all-short, restore-parts, restored-kept, restored-state}
-use Rattle.volume_tree.specs.Restored.{forks_in, has_short_forks, loaded_bytes}
+use Rattle.volume_tree.specs.lemma.Restored.{forks_in, has_short_forks, loaded_bytes}
 use Rattle.volume_tree.specs.declared.restore.Loaded.{Loaded}
 use Rattle.volume_tree.proofs.volume.Volume.restore.Goals as goal
 
