@@ -8,7 +8,7 @@ use Rattle.afp_requests.specs.Laws.{BeginsWithNoCommand, BeginsWithCommand, IsBy
 use Rattle.afp_requests.specs.Spelt.{is_command, readers, spelt_call}
 use Rattle.afp_fields.specs.Input.{Input}
 use Rattle.afp_calls.specs.Answer.{IsMisspelt, IsAnswer, IsRefused}
-use Rattle.afp_calls.specs.Known.{Knows}
+use Rattle.afp_calls.specs.lemma.Known.{Knows}
 
 pub answer_read : (block : List ℕ) (enclosed : Option (List ℕ)) (result : Result Call ReadFault) → IsAnswer block enclosed result → (call : Call) → spelt_call block enclosed ≡ Some call → MatchResult result (λ c. c ≡ call) (λ fault. fault ≡ faults.Memory)
 answer_read block enclosed (Ok c) h call e = let spelt = h.spelt in cc

@@ -10,7 +10,7 @@ use Rattle.afp_requests.specs.Reading.{Reader, has_reader, read_by}
 use Rattle.afp_fields.specs.Input.{Input, bytes_left}
 use Rattle.afp_fields.specs.Taking.{GivesBy}
 use Rattle.afp_fields.specs.Putting.{PutTogether, put_on}
-use Rattle.afp_calls.specs.Known.{Knows}
+use Rattle.afp_calls.specs.lemma.Known.{Knows}
 
 or_false : (a b : Bool) → (a || b) ≡ false → (a ≡ false) × (b ≡ false)
 or_false true b h = absurd cc

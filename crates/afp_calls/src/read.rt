@@ -6,7 +6,7 @@ ghost use Rattle.afp_requests.specs.declared.call.ReadFault.{ReadFault};
 ghost use Rattle.afp_requests.specs.Laws.{BeginsWithCommand, BeginsWithNoCommand};
 ghost use Rattle.afp_requests.specs.Spelt.{is_command, readers, spelt_call};
 ghost use Rattle.afp_calls.specs.Answer.{IsAnswer, IsRefused};
-ghost use Rattle.afp_calls.specs.Known.{Knows};
+ghost use Rattle.afp_calls.specs.lemma.Known.{Knows};
 
 use afp_desktop_calls::{is_desktop_call, read_desktop_call};
 use afp_directory_calls::{is_directory_call, read_directory_call};

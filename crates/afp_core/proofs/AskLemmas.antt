@@ -20,11 +20,13 @@ use Rattle.afp_serial.specs.Rows.{refusal}
 use Rattle.afp_serial.specs.Sessions.{session_at, without_session}
 use Rattle.afp_serial.specs.Steps.{Verdict, block_of, refused, verdict, verdict_of_block, verdict_of_kept, verdict_of_row}
 use Rattle.afp_serial.specs.World.{World, Session}
-use Rattle.afp_core.specs.SessionList.{IsAt, session_of}
-use Rattle.afp_core.specs.Spelling.{IsSpelled}
-use Rattle.afp_core.specs.Turn.{Comes, IsReady, RunsAsk, RunsCall, RunsPart, RunsRow, RunsVerdict, done, takes_memory}
+use Rattle.afp_core.specs.lemma.SessionList.{IsAt, session_of}
+use Rattle.afp_core.specs.lemma.Spelling.{IsSpelled}
+use Rattle.afp_core.specs.Turn.{Comes, IsReady, RunsAsk, done, takes_memory}
+use Rattle.afp_core.specs.lemma.Turn.{RunsCall, RunsPart, RunsRow, RunsVerdict}
 use Rattle.afp_core.specs.declared.spelling.Stop.TheVariants.{Refused}
-use Rattle.afp_core.specs.ServerState.{KeptWorld, with_sessions}
+use Rattle.afp_core.specs.ServerState.{KeptWorld}
+use Rattle.afp_core.specs.lemma.ServerState.{with_sessions}
 use Rattle.afp_core.proofs.KeeperLemmas.{comes-done, comes-same}
 use Rattle.afp_core.proofs.ForkLemmas.{staying}
 

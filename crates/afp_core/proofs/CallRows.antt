@@ -31,7 +31,7 @@ use Rattle.afp_volume.specs.GetFileDirParms.{get_file_dir_parms_refusal, get_fil
 use Rattle.afp_volume.specs.GetVolParms.{get_vol_parms_refusal, volume_values}
 use Rattle.afp_volume.specs.OpenDir.{open_dir_id, open_dir_refusal}
 use Rattle.afp_volume.specs.TreeSteps as tree
-use Rattle.afp_core.specs.OnOpened.{ChangesAlone, ChangesTree, TellsOf}
+use Rattle.afp_core.specs.lemma.OnOpened.{ChangesAlone, ChangesTree, TellsOf}
 
 pub get_vol_parms-tells : (volume : VolumeId) (bits : ℕ) → TellsOf (call.GetVolParms volume bits) volume.0 (λ w v. get_vol_parms_refusal bits) (λ w v. Params bits (Volume (volume_values v volume.0 bits)))
 unfolding row

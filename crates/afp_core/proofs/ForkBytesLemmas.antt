@@ -28,11 +28,12 @@ use Rattle.afp_serial.specs.declared.ask.Told.TheVariants.{Reply}
 use Rattle.afp_volume.specs.ForkEffect.{fork_of}
 use Rattle.afp_volume.specs.VolumeState.{Row as File, VolumeState}
 use Rattle.afp_volume.specs.Walk.{row_at}
-use Rattle.afp_core.specs.OnForkBytes.{IsReadOf, IsSpan, IsSpanOf, TellsRead, end_reply, line_in, read_checks, start_reply, write_asked}
-use Rattle.afp_core.specs.OnForks.{IsFork, IsForkAt}
-use Rattle.afp_core.specs.OnOpened.{BecomesKept}
+use Rattle.afp_core.specs.lemma.OnForkBytes.{IsReadOf, IsSpan, IsSpanOf, TellsRead, end_reply, line_in, read_checks, start_reply, write_asked}
+use Rattle.afp_core.specs.lemma.OnForks.{IsFork, IsForkAt}
+use Rattle.afp_core.specs.lemma.OnOpened.{BecomesKept}
 use Rattle.afp_core.specs.ServerState.{KeptWorld}
-use Rattle.afp_core.specs.Turn.{RunsRow, done}
+use Rattle.afp_core.specs.Turn.{done}
+use Rattle.afp_core.specs.lemma.Turn.{RunsRow}
 use Rattle.afp_core.specs.declared.on_fork.OwnFork.{OwnFork}
 use Rattle.afp_core.specs.declared.read.ReadSpan.{ReadSpan}
 use Rattle.afp_core.proofs.KeeperLemmas.{comes-same}

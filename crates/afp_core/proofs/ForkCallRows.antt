@@ -33,11 +33,11 @@ use Rattle.afp_volume.specs.SetForkParms.{asks_length, has_no_length, length_in}
 use Rattle.afp_volume.specs.VolumeState.{Row as File, VolumeState}
 use Rattle.afp_volume.specs.Walk.{row_at}
 use Rattle.volume_tree.specs.Shown.{opened}
-use Rattle.afp_core.specs.OnForks.{IsForkAt}
-use Rattle.afp_core.specs.OnOpened.{BecomesKept, TellsChanged}
+use Rattle.afp_core.specs.lemma.OnForks.{IsForkAt}
+use Rattle.afp_core.specs.lemma.OnOpened.{BecomesKept, TellsChanged}
 use Rattle.afp_core.specs.ServerState.{KeptWorld}
-use Rattle.afp_core.specs.SettingLength.{length_refusal}
-use Rattle.afp_core.specs.Turn.{RunsRow}
+use Rattle.afp_core.specs.lemma.SettingLength.{length_refusal}
+use Rattle.afp_core.specs.lemma.Turn.{RunsRow}
 use Rattle.afp_core.specs.declared.on_fork.OwnFork.{OwnFork}
 use Rattle.afp_core.proofs.OnForkLemmas.{RowOnFork, fork-gives}
 use Rattle.kept_volume.specs.ForkChanging.{GivesBytes}

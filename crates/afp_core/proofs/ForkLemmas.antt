@@ -12,8 +12,9 @@ use Rattle.afp_volume.proofs.TestedLists.{all-weaker, find-all, find-passes}
 use Rattle.afp_volume.specs.SoundVolume.{has_file}
 use Rattle.afp_volume.specs.VolumeState.{Row, VolumeState}
 use Rattle.afp_volume.specs.Walk.{row_at}
-use Rattle.afp_core.specs.OnForks.{IsFork, IsForkAt}
-use Rattle.afp_core.specs.ServerState.{KeptWorld, forks_in, with_forks, with_sessions}
+use Rattle.afp_core.specs.lemma.OnForks.{IsFork, IsForkAt}
+use Rattle.afp_core.specs.ServerState.{KeptWorld}
+use Rattle.afp_core.specs.lemma.ServerState.{forks_in, with_forks, with_sessions}
 use Rattle.afp_core.specs.declared.on_fork.OwnFork.{OwnFork}
 use Rattle.afp_core.proofs.KeeperLemmas.{volume_at-index}
 use Rattle.open_forks.specs.Forks.{Forks, HasForks, left_of}

@@ -20,10 +20,12 @@ use Rattle.afp_serial.specs.declared.ask.Outcome.{Outcome}
 use Rattle.afp_serial.specs.declared.ask.Told.{Told}
 use Rattle.afp_volume.specs.ForkEffect.{fork_of}
 use Rattle.afp_volume.specs.SoundVolume.{most_fork_bytes}
-use Rattle.afp_core.specs.OnForkBytes.{BecomesForks, FitsReply, IsOffset, IsPlace, TellsLocked, TellsUnlocked, start_reply}
-use Rattle.afp_core.specs.OnForks.{IsFork, IsForkAt}
-use Rattle.afp_core.specs.ServerState.{KeptWorld, forks_in, with_forks}
-use Rattle.afp_core.specs.Turn.{RunsRow, done}
+use Rattle.afp_core.specs.lemma.OnForkBytes.{BecomesForks, FitsReply, IsOffset, IsPlace, TellsLocked, TellsUnlocked, start_reply}
+use Rattle.afp_core.specs.lemma.OnForks.{IsFork, IsForkAt}
+use Rattle.afp_core.specs.ServerState.{KeptWorld}
+use Rattle.afp_core.specs.lemma.ServerState.{forks_in, with_forks}
+use Rattle.afp_core.specs.Turn.{done}
+use Rattle.afp_core.specs.lemma.Turn.{RunsRow}
 use Rattle.afp_core.specs.declared.on_fork.OwnFork.{OwnFork}
 use Rattle.afp_core.proofs.ForkBytesLemmas.{fork-done, fork-none, fork-refused, row-told}
 use Rattle.afp_core.proofs.ForkWriteLemmas.{start-fits}

@@ -28,11 +28,12 @@ use Rattle.afp_volume.specs.ForkLaws.{RoomIsFew}
 use Rattle.afp_volume.specs.SoundVolume.{most_fork_bytes}
 use Rattle.afp_volume.specs.VolumeState.{Row as File, VolumeState}
 use Rattle.afp_volume.specs.Walk.{row_at}
-use Rattle.afp_core.specs.OnForkBytes.{FitsReply, IsOffset, IsPlace, end_reply, write_checks}
-use Rattle.afp_core.specs.OnForks.{IsFork, IsForkAt}
-use Rattle.afp_core.specs.OnOpened.{BecomesKept, IsKept, TellsChanged, with_kept}
+use Rattle.afp_core.specs.lemma.OnForkBytes.{FitsReply, IsOffset, IsPlace, end_reply, write_checks}
+use Rattle.afp_core.specs.lemma.OnForks.{IsFork, IsForkAt}
+use Rattle.afp_core.specs.lemma.OnOpened.{BecomesKept, IsKept, TellsChanged, with_kept}
 use Rattle.afp_core.specs.ServerState.{KeptWorld}
-use Rattle.afp_core.specs.Turn.{RunsRow, done}
+use Rattle.afp_core.specs.Turn.{done}
+use Rattle.afp_core.specs.lemma.Turn.{RunsRow}
 use Rattle.afp_core.specs.declared.on_fork.OwnFork.{OwnFork}
 use Rattle.afp_core.proofs.ForkBytesLemmas.{any-refused, fork-done, fork-fails, fork-none, fork-refused, row-told, two-pass, two-refuse}
 use Rattle.afp_core.proofs.OnVolumeLemmas.{kept-stays, state-changes}

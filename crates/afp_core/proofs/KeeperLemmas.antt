@@ -11,8 +11,9 @@ use Rattle.kept_volume.specs.Kept.{KeptState}
 use Rattle.afp_serial.specs.declared.ask.Outcome.TheVariants as outcome
 use Rattle.afp_serial.specs.declared.ask.Told.{Told}
 use Rattle.afp_core.specs.KeeperFaults.{KeepersRise, SureStand}
-use Rattle.afp_core.specs.ServerState.{KeptWorld, kept_world, volumes_of}
-use Rattle.afp_core.specs.OnOpened.{BecomesKept, IsKept, with_kept}
+use Rattle.afp_core.specs.ServerState.{KeptWorld, volumes_of}
+use Rattle.afp_core.specs.lemma.ServerState.{kept_world}
+use Rattle.afp_core.specs.lemma.OnOpened.{BecomesKept, IsKept, with_kept}
 use Rattle.afp_core.specs.Turn.{Comes}
 
 -- nothing

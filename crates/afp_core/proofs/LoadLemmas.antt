@@ -16,7 +16,8 @@ use Rattle.afp_serial.specs.Limits.{most_volumes}
 use Rattle.afp_serial.specs.Sound.{IsSound, ServesVolumes}
 use Rattle.afp_serial.specs.World.{World}
 use Rattle.afp_core.specs.ServerState.{volumes_of}
-use Rattle.afp_core.specs.Loads.{IsCoreFault, IsFaultAt, LoadEach, LoadsOne}
+use Rattle.afp_core.specs.Loads.{IsCoreFault, LoadEach, LoadsOne}
+use Rattle.afp_core.specs.lemma.Loads.{IsFaultAt}
 use Rattle.afp_core.specs.declared.core_fault.CoreFault.{CoreFault}
 use Rattle.afp_core.specs.declared.core_fault.CoreFault.TheVariants.{Count, Load, Memory}
 use Rattle.kept_volume.specs.Kept.{KeptState}

@@ -27,11 +27,12 @@ use Rattle.afp_volume.specs.Parms.{is_outside}
 use Rattle.afp_volume.specs.SoundVolume.{has_file}
 use Rattle.afp_volume.specs.VolumeState.{Row as File, VolumeState}
 use Rattle.afp_volume.specs.Walk.{row_at}
-use Rattle.afp_core.specs.OnForks.{IsFork, IsForkAt}
-use Rattle.afp_core.specs.OnOpened.{BecomesKept, IsKept, TellsChanged, TellsSettled, with_kept}
+use Rattle.afp_core.specs.lemma.OnForks.{IsFork, IsForkAt}
+use Rattle.afp_core.specs.lemma.OnOpened.{BecomesKept, IsKept, TellsChanged, TellsSettled, with_kept}
 use Rattle.afp_core.specs.ServerState.{KeptWorld}
-use Rattle.afp_core.specs.SessionList.{session_of}
-use Rattle.afp_core.specs.Turn.{RunsRow, RunsVerdict, done}
+use Rattle.afp_core.specs.lemma.SessionList.{session_of}
+use Rattle.afp_core.specs.Turn.{done}
+use Rattle.afp_core.specs.lemma.Turn.{RunsRow, RunsVerdict}
 use Rattle.afp_core.specs.declared.on_fork.OwnFork.{OwnFork}
 use Rattle.afp_core.proofs.KeeperLemmas.{comes-same}
 use Rattle.afp_core.proofs.OnVolumeLemmas.{keeper-fails, kept-stays, state-changes, told-effect}

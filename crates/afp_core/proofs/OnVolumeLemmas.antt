@@ -25,10 +25,11 @@ use Rattle.afp_serial.specs.declared.ask.Told.TheVariants.{Reply}
 use Rattle.afp_volume.specs.TreeSteps.{TreeCall, tree_effect, tree_refusal}
 use Rattle.afp_volume.specs.VolumeState.{VolumeState}
 use Rattle.afp_core.specs.KeeperFaults.{KeepersRise, SureStand}
-use Rattle.afp_core.specs.OnOpened.{AreToldOf, BecomesKept, ChangesTree, IsKept, IsOpen, IsOpenAt, Tells, TellsChanged, TellsNode, TellsOf, TellsSettled, with_kept}
+use Rattle.afp_core.specs.lemma.OnOpened.{AreToldOf, BecomesKept, ChangesTree, IsKept, IsOpen, IsOpenAt, Tells, TellsChanged, TellsNode, TellsOf, TellsSettled, with_kept}
 use Rattle.afp_core.specs.ServerState.{KeptWorld}
-use Rattle.afp_core.specs.SessionList.{session_of}
-use Rattle.afp_core.specs.Turn.{Comes, RunsRow, done}
+use Rattle.afp_core.specs.lemma.SessionList.{session_of}
+use Rattle.afp_core.specs.Turn.{Comes, done}
+use Rattle.afp_core.specs.lemma.Turn.{RunsRow}
 use Rattle.afp_core.proofs.KeeperLemmas.{rise-same, volume_at-index}
 use Rattle.afp_core.proofs.RowLemmas.{IsRowOf, has_effect, is_refused}
 use Rattle.kept_volume.specs.Changing.{Changes, FailsIn, Settles}

@@ -31,11 +31,13 @@ use Rattle.afp_volume.specs.Parms.{is_outside}
 use Rattle.afp_volume.specs.SoundVolume.{has_file}
 use Rattle.afp_volume.specs.VolumeState.{Row as File, VolumeState}
 use Rattle.afp_volume.specs.Walk.{row_at}
-use Rattle.afp_core.specs.OnOpened.{IsOpen, IsOpenAt}
-use Rattle.afp_core.specs.Opening.{FindsFile}
-use Rattle.afp_core.specs.ServerState.{KeptWorld, with_forks}
-use Rattle.afp_core.specs.SessionList.{attached, session_of}
-use Rattle.afp_core.specs.Turn.{RunsRow, done}
+use Rattle.afp_core.specs.lemma.OnOpened.{IsOpen, IsOpenAt}
+use Rattle.afp_core.specs.lemma.Opening.{FindsFile}
+use Rattle.afp_core.specs.ServerState.{KeptWorld}
+use Rattle.afp_core.specs.lemma.ServerState.{with_forks}
+use Rattle.afp_core.specs.lemma.SessionList.{attached, session_of}
+use Rattle.afp_core.specs.Turn.{done}
+use Rattle.afp_core.specs.lemma.Turn.{RunsRow}
 use Rattle.afp_core.proofs.OnForkLemmas.{is_refused-with, one-of}
 use Rattle.afp_core.proofs.OnVolumeLemmas.{found-at, told-effect}
 use Rattle.afp_core.proofs.RowLemmas.{has_effect}

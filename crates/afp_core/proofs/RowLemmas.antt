@@ -23,10 +23,12 @@ use Rattle.afp_serial.specs.Sessions.{volume_at, with_session, closing, has_open
 use Rattle.afp_serial.specs.StatusBlock.{no_user, versions}
 use Rattle.afp_serial.specs.Steps.{verdict_of_row}
 use Rattle.afp_serial.specs.World.{World, Session, OpenFork}
-use Rattle.afp_core.specs.SessionList.{replaced}
-use Rattle.afp_core.specs.ServerState.{KeptWorld, forks_in, with_forks, with_sessions}
-use Rattle.afp_core.specs.OnOpened.{IsNamed}
-use Rattle.afp_core.specs.Turn.{RunsRow, RunsVerdict, done}
+use Rattle.afp_core.specs.lemma.SessionList.{replaced}
+use Rattle.afp_core.specs.ServerState.{KeptWorld}
+use Rattle.afp_core.specs.lemma.ServerState.{forks_in, with_forks, with_sessions}
+use Rattle.afp_core.specs.lemma.OnOpened.{IsNamed}
+use Rattle.afp_core.specs.Turn.{done}
+use Rattle.afp_core.specs.lemma.Turn.{RunsRow, RunsVerdict}
 use Rattle.afp_core.proofs.KeeperLemmas.{comes-done, comes-same, volume_at-index}
 use Rattle.open_forks.specs.Forks.{Forks, left_of}
 

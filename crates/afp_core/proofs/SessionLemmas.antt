@@ -7,7 +7,7 @@ use Rattle.std.proofs.lemmas.Bool.{cases_eq, eq-eqb, ne_eqb, eqb-false, ltb-fals
 use Rattle.afp_serial.specs.Answer.{is_expired}
 use Rattle.afp_serial.specs.Sessions.{has_session, stands_at}
 use Rattle.afp_serial.specs.World.{Session}
-use Rattle.afp_core.specs.SessionList.{attached, session_of, replaced, IsAt}
+use Rattle.afp_core.specs.lemma.SessionList.{attached, session_of, replaced, IsAt}
 use Rattle.afp_core.specs.declared.sessions.Linked.{Linked}
 
 abbrev pub seen : ℕ → Linked → Session

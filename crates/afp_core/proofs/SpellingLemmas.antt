@@ -3,7 +3,7 @@ use Rattle.std.proofs.Common.{◌≡◌, ap, sym, refl, subst, ℕ, Bool, true, 
 use Rattle.std.specs.Prelude.{Result}
 use Rattle.afp_requests.specs.declared.call.Call.{Call}
 use Rattle.afp_serial.specs.Answer.{request}
-use Rattle.afp_core.specs.Spelling.{ComesToRow, IsJudged, IsSpelled}
+use Rattle.afp_core.specs.lemma.Spelling.{ComesToRow, IsJudged, IsSpelled}
 use Rattle.afp_core.specs.declared.spelling.Stop.{Stop}
 
 -- a Write

@@ -26,7 +26,8 @@ use Rattle.afp_serial.specs.World.{World, Session, at_moment}
 use Rattle.afp_serial.proofs.Grows.{lawful-snoc, stand-append}
 use Rattle.afp_core.specs.Counted.{IsCounted}
 use Rattle.afp_core.specs.KeeperFaults.{KeepersRise, SureStand, failed_keeper}
-use Rattle.afp_core.specs.ServerState.{ServerState, kept_at, kept_of}
+use Rattle.afp_core.specs.ServerState.{ServerState}
+use Rattle.afp_core.specs.lemma.ServerState.{kept_at, kept_of}
 use Rattle.afp_core.specs.Sureness.{SureKept}
 use Rattle.afp_core.specs.Turn.{IsNextFree, IsReady, RunsAsk, TakesTurn, Turned}
 

@@ -36,12 +36,6 @@ IsFaultOf name records sure (load.BadRecord key reason) = IfSome records (λ hel
 IsFaultOf name records sure load.Failed = sure ≡ false
 IsFaultOf name records sure load.Memory = ⊥
 
--- the same of the load at an index
-abbrev pub IsFaultAt : ℕ → List ℕ → Option Records → Bool → CoreFault → Type 0
-IsFaultAt index name records sure Count = ⊥
-IsFaultAt index name records sure (Load at_index fault) = (at_index ≡ index) × IsFaultOf name records sure fault
-IsFaultAt index name records sure Memory = Unit {0}
-
 -- the load at an index is the first that gave no volume
 pub record StopsAt {K : Type 0} (records : K → Option Records) (sure : K → Bool) (faults : K → ℕ) (now : ℕ) (names : List (List ℕ)) (keepers : List K) (index : ℕ) (fault : LoadFault) : Type 0 where
   pub kept : List KeptState

@@ -1,21 +1,11 @@
 -- All places of a list.
 use Rattle.std.specs.Prelude.{◌≡◌, ℕ, ◌+◌, zero, suc, List, [], ◌∷◌, ◌++◌, length}
-use Rattle.std.proofs.Common.{arith, add-one, ap, length-append}
-use Rattle.afp_serial.specs.Shown.{Rising}
-use Rattle.afp_serial.proofs.Grows.{rising-snoc}
+use Rattle.std.proofs.Common.{arith, ap, length-append}
 
 -- the places below n, rising
 abbrev pub upto : ℕ → List ℕ
 upto zero = []
 upto (suc n) = upto n ++ n ∷ []
-
--- they rise, and lie below n
-pub upto-within : (n : ℕ) → Rising 0 (upto n) n
-upto-within zero = omega arith
-upto-within (suc n) = rising-last n (rising-snoc 0 (upto n) n n (upto-within n) (omega arith))
-  where
-    rising-last : (m : ℕ) → Rising 0 (upto m ++ m ∷ []) (m + 1) → Rising 0 (upto m ++ m ∷ []) (suc m)
-    rising-last m r = rw (← add-one m) r
 
 -- one more place, where the list has one more element
 pub upto-longer : {A : Type 0} → (h : List A) (e : A) → upto (length (h ++ e ∷ [])) ≡ upto (length h) ++ length h ∷ []

@@ -1,8 +1,6 @@
 -- What a teller that stores its history shows (this profile).
-use Rattle.std.specs.Prelude.{List, length, sum}
-use Rattle.afp_serial.specs.Shown.{Shown}
+use Rattle.std.specs.Prelude.{List}
 use Rattle.afp_serial.specs.declared.ask.Entry.{Entry}
-use Rattle.afp_core.specs.Places.{upto}
 use Rattle.afp_core.specs.ServerState.{ServerState}
 use Rattle.afp_core.specs.declared.list_teller.ListTeller.{ListTeller}
 use Rattle.record_keeper.specs.declared.keeper.Keeper.{Ghosts}
@@ -18,7 +16,3 @@ core_of t = t.core
 -- every entry, in order
 abbrev pub history_of : {K : Type 0} {of : Ghosts K} → ListTeller K of → List Entry
 history_of t = t.entries.items
-
--- every entry of the history is an ask of this teller; its count of faults is the sum of the keepers' counts
-abbrev pub shown_of : {K : Type 0} {of : Ghosts K} → ListTeller K of → Shown
-shown_of t = record { start = (start_of t).world; history = history_of t; mine = upto (length (history_of t)); faults = sum (core_of t).faults }

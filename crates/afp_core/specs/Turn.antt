@@ -1,20 +1,16 @@
 -- One turn (this profile).
-use Rattle.std.specs.Prelude.{◌≡◌, ◌<◌, ℕ, Bool, true, false, [], ◌∷◌, count_by, length, Option, Some, Result, Ok, Err}
-use Rattle.afp_base.specs.Cached.{Request}
+use Rattle.std.specs.Prelude.{◌≡◌, ◌<◌, ℕ, Bool, true, false, [], ◌∷◌, count_by, length, Option, Result, Ok, Err}
 use Rattle.afp_base.specs.Counts.{counted}
 use Rattle.afp_base.specs.declared.bytes.OutOfMemory.{OutOfMemory}
 use Rattle.afp_base.specs.declared.ids.LinkNumber.{LinkNumber}
 use Rattle.afp_requests.specs.declared.call.Call.{Call}
 use Rattle.afp_core.specs.KeeperFaults.{KeepersRise, SureStand, failed_keeper}
-use Rattle.afp_core.specs.SessionList.{session_of}
-use Rattle.afp_core.specs.ServerState.{KeptWorld, ServerState, kept_at}
-use Rattle.afp_serial.specs.Answer.{answer, answer_at, after, after_at, after_call, after_verdict, committed_at, committed_by, committed_in, committed_of, is_legal, is_legal_outcome, told_call, told_verdict}
+use Rattle.afp_core.specs.ServerState.{KeptWorld, ServerState}
+use Rattle.afp_serial.specs.Answer.{answer, answer_at, after, after_at, committed_at, committed_of, is_legal, is_legal_outcome}
 use Rattle.afp_serial.specs.History.{entry, is_opened}
-use Rattle.afp_serial.specs.Rows.{refusal}
-use Rattle.afp_serial.specs.Sessions.{has_session, session_at}
+use Rattle.afp_serial.specs.Sessions.{has_session}
 use Rattle.afp_serial.specs.Sound.{has_lawful_locks, has_lawful_opens}
-use Rattle.afp_serial.specs.Steps.{Verdict, verdict_of_row}
-use Rattle.afp_serial.specs.World.{World, Session}
+use Rattle.afp_serial.specs.World.{World}
 use Rattle.afp_serial.specs.declared.ask.Ask.{Ask}
 use Rattle.afp_serial.specs.declared.ask.Ask.TheVariants as ask
 use Rattle.afp_serial.specs.declared.ask.Entry.{Entry}
@@ -54,26 +50,6 @@ pub record Comes (want : Told) (after : World) (index : Option ℕ) (o : Outcome
   pub stand : SureStand old.sure old.faults next.faults
   pub sure : next.sure ≡ old.sure
 
--- In all of these the world's latest moment is already the ask's.
-
--- a call of a session that comes to this verdict
-abbrev pub RunsVerdict : KeptWorld → Session → Verdict → Told × Outcome → KeptWorld → Type 0
-RunsVerdict k s v r new = Comes (told_verdict k.world s v r.1) (after_verdict k.world s v r.1) (committed_by k.world s v) r.1 r.0 k new
-
--- A call of a session comes to its row: what it is told with its outcome, and the world after, are the row's. Or there is no memory,
--- and nothing changes.
-abbrev pub RunsRow : KeptWorld → ℕ → Call → Result (Told × Outcome) OutOfMemory → KeptWorld → Type 0
-RunsRow k number call (Ok r) new =
-    (s : Session) → session_of k.world.sessions number ≡ Some s → RunsVerdict k s (verdict_of_row call (refusal k.world s call)) r new
-RunsRow k number call (Err e) new = new ≡ k
-
--- the same of a call on a link
-abbrev pub RunsCall : KeptWorld → ℕ → Request → Result (Told × Outcome) OutOfMemory → KeptWorld → Type 0
-RunsCall k link q (Ok r) new =
-    Comes (told_call k.world (session_at k.world link) q r.1) (after_call k.world (session_at k.world link) q r.1)
-    (committed_in k.world (session_at k.world link) q) r.1 r.0 k new
-RunsCall k link q (Err e) new = new ≡ k
-
 -- the same of an ask
 abbrev pub RunsAsk : KeptWorld → ℕ → Ask → Result (Told × Outcome) OutOfMemory → KeptWorld → Type 0
 RunsAsk k link ask (Ok r) new = Comes (answer_at k.world link ask r.1) (after_at k.world link ask r.1) (committed_at k.world link ask) r.1 r.0 k new
@@ -86,16 +62,6 @@ done told = (told, outcome.Done)
 abbrev pub RunsOpen : KeptWorld → Result Told OutOfMemory → KeptWorld → Type 0
 RunsOpen k (Ok told) new = (link attention : ℕ) → RunsAsk k link (ask.Open attention) (Ok (done told)) new
 RunsOpen k (Err e) new = new ≡ k
-
--- a Bye or a Lost
-pub record RunsPart (k : KeptWorld) (link : ℕ) (told : Told) (new : KeptWorld) : Type 0 where
-  pub bye : RunsAsk k link ask.Bye (Ok (done told)) new
-  pub lost : RunsAsk k link ask.Lost (Ok (done told)) new
-
--- An ask becomes an entry, or there is no memory and nothing changes.
-abbrev pub Runs : KeptWorld → ℕ → LinkNumber → Ask → Result (Told × Outcome) OutOfMemory → KeptWorld → Type 0
-Runs old now link ask (Ok r) new = RunsAsk (kept_at old now) link.0 ask (Ok r) new
-Runs old now link ask (Err e) new = (takes_memory ask ≡ true) × (new ≡ old)
 
 -- An entry that is legal, with its serial answer, and the world after it. The counts go on, and a fault is one that the keeper of the row's
 -- volume counted.
@@ -125,8 +91,3 @@ TakesTurn c now link ask (Live drain) d = BecomesEntry c now link ask (Live drai
 TakesTurn c now link ask Done d = BecomesEntry c now link ask Done d
 TakesTurn c now link ask Displaced d = BecomesEntry c now link ask Displaced d
 TakesTurn c now link ask Memory d = Refrains c ask d
-
--- the same with its outcome
-abbrev pub TakesStep : ServerState → ℕ → LinkNumber → Ask → Result (Told × Outcome) OutOfMemory → ServerState → Type 0
-TakesStep c now link ask (Ok r) d = Turned c (entry now link ask r.1) r.0 d
-TakesStep c now link ask (Err e) d = Refrains c ask d

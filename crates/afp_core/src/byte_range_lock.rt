@@ -11,9 +11,10 @@ ghost use Rattle.afp_volume.specs.ForkEffect.{fork_of};
 ghost use Rattle.afp_volume.specs.SoundVolume.{has_file};
 ghost use Rattle.afp_volume.specs.VolumeState.{Row};
 ghost use Rattle.afp_volume.specs.Walk.{row_at};
-ghost use Rattle.afp_core.specs.OnForkBytes.{BecomesForks, IsFew, IsOffset, IsPlace, TellsLocked, TellsUnlocked, start_reply};
-ghost use Rattle.afp_core.specs.ServerState.{forks_in};
-ghost use Rattle.afp_core.specs.Turn.{IsReady, RunsRow};
+ghost use Rattle.afp_core.specs.lemma.OnForkBytes.{BecomesForks, IsFew, IsOffset, IsPlace, TellsLocked, TellsUnlocked, start_reply};
+ghost use Rattle.afp_core.specs.lemma.ServerState.{forks_in};
+ghost use Rattle.afp_core.specs.Turn.{IsReady};
+ghost use Rattle.afp_core.specs.lemma.Turn.{RunsRow};
 ghost use Rattle.open_forks.specs.Forks.{LocksRange, UnlocksRange};
 
 use crate::replies::{done, refused};

@@ -1,6 +1,7 @@
 //! A call of a session: its steps in their order, and its row.
-ghost use Rattle.afp_core.specs.Requests.{as_request};
-ghost use Rattle.afp_core.specs.Turn.{IsReady, RunsCall, RunsRow};
+ghost use Rattle.afp_core.specs.lemma.Requests.{as_request};
+ghost use Rattle.afp_core.specs.Turn.{IsReady};
+ghost use Rattle.afp_core.specs.lemma.Turn.{RunsCall, RunsRow};
 
 use crate::replies::refused;
 use crate::request::Request;

@@ -1,7 +1,8 @@
 //! FPCloseVol (AFP Reference, "FPCloseVol").
 ghost use Rattle.std.specs.Prelude.{◌≡◌, Ok};
 ghost use Rattle.afp_requests.specs.declared.call.Call.{Call};
-ghost use Rattle.afp_core.specs.Turn.{RunsRow, done as with_done};
+ghost use Rattle.afp_core.specs.Turn.{done as with_done};
+ghost use Rattle.afp_core.specs.lemma.Turn.{RunsRow};
 
 use crate::replies::{done, refused};
 use crate::state::State;

@@ -6,8 +6,8 @@ ghost use Rattle.afp_serial.specs.CreateDir.{node_id};
 ghost use Rattle.afp_serial.specs.Sessions.{volume_at};
 ghost use Rattle.afp_volume.specs.SoundVolume.{last_next_id};
 ghost use Rattle.afp_volume.specs.VolumeState.{VolumeState};
-ghost use Rattle.afp_core.specs.OnOpened.{CreatesDir};
-ghost use Rattle.afp_core.specs.Turn.{RunsRow};
+ghost use Rattle.afp_core.specs.lemma.OnOpened.{CreatesDir};
+ghost use Rattle.afp_core.specs.lemma.Turn.{RunsRow};
 
 use crate::open_dir::node_block;
 use crate::state::State;

@@ -1,8 +1,8 @@
 //! FPFlush (AFP Reference, "FPFlush"): the volume's keeper settles what was committed to it.
 ghost use Rattle.std.specs.Prelude.{◌<◌, length};
 ghost use Rattle.afp_requests.specs.declared.call.Call.{Call};
-ghost use Rattle.afp_core.specs.OnOpened.{BecomesKept};
-ghost use Rattle.afp_core.specs.Turn.{RunsRow};
+ghost use Rattle.afp_core.specs.lemma.OnOpened.{BecomesKept};
+ghost use Rattle.afp_core.specs.lemma.Turn.{RunsRow};
 ghost use Rattle.kept_volume.specs.Changing.{Settles};
 
 use crate::replies::{refused, told_settled};

@@ -1,6 +1,7 @@
 //! FPFlushFork (AFP Reference, "FPFlushFork"): the keeper of the fork's volume settles what was committed to it.
 ghost use Rattle.afp_requests.specs.declared.call.Call.{Call};
-ghost use Rattle.afp_core.specs.Turn.{IsReady, RunsRow};
+ghost use Rattle.afp_core.specs.Turn.{IsReady};
+ghost use Rattle.afp_core.specs.lemma.Turn.{RunsRow};
 
 use crate::replies::{refused, told_settled};
 use crate::state::State;

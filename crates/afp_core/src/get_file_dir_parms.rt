@@ -1,6 +1,6 @@
 //! FPGetFileDirParms (AFP Reference, "FPGetFileDirParms").
 ghost use Rattle.afp_requests.specs.declared.call.Call.{Call};
-ghost use Rattle.afp_core.specs.Turn.{RunsRow};
+ghost use Rattle.afp_core.specs.lemma.Turn.{RunsRow};
 
 use crate::replies::{refused, told_of};
 use crate::state::State;

@@ -11,7 +11,8 @@ ghost use Rattle.afp_volume.specs.Parms.{is_outside};
 ghost use Rattle.afp_volume.specs.SoundVolume.{has_file};
 ghost use Rattle.afp_volume.specs.VolumeState.{Row, VolumeState};
 ghost use Rattle.afp_volume.specs.Walk.{row_at};
-ghost use Rattle.afp_core.specs.Turn.{IsReady, RunsRow};
+ghost use Rattle.afp_core.specs.Turn.{IsReady};
+ghost use Rattle.afp_core.specs.lemma.Turn.{RunsRow};
 
 use crate::replies::{done, refused};
 use crate::state::State;

@@ -2,7 +2,8 @@
 ghost use Rattle.std.specs.Prelude.{◌≡◌, ◌++◌, ◌∷◌, [], IfOk, IfErr, IfSome, OnOk, length};
 ghost use Rattle.kept_volume.specs.Loading.{IsLoadedFrom, IsLoadedVolume};
 ghost use Rattle.record_keeper.specs.Records.{Records};
-ghost use Rattle.afp_core.specs.Loads.{IsCoreFault, IsFaultAt, LoadEach};
+ghost use Rattle.afp_core.specs.Loads.{IsCoreFault, LoadEach};
+ghost use Rattle.afp_core.specs.lemma.Loads.{IsFaultAt};
 
 use crate::core_fault::CoreFault;
 use afp_base::{Bytes, Moment, OutOfMemory};

@@ -3,7 +3,8 @@ ghost use Rattle.std.specs.Prelude.{◌≡◌, Ok, bytes_eq};
 ghost use Rattle.std.specs.List.{list_any};
 ghost use Rattle.afp_requests.specs.declared.call.Call.{Call};
 ghost use Rattle.afp_serial.specs.StatusBlock.{versions};
-ghost use Rattle.afp_core.specs.Turn.{RunsRow, done as with_done};
+ghost use Rattle.afp_core.specs.Turn.{done as with_done};
+ghost use Rattle.afp_core.specs.lemma.Turn.{RunsRow};
 
 use crate::replies::{done, refused};
 use crate::state::State;

@@ -1,7 +1,8 @@
 //! FPLogout (AFP Reference, "FPLogout").
 ghost use Rattle.std.specs.Prelude.{◌≡◌, Ok};
 ghost use Rattle.afp_requests.specs.declared.call.Call.{Call};
-ghost use Rattle.afp_core.specs.Turn.{IsReady, RunsRow, done as with_done};
+ghost use Rattle.afp_core.specs.Turn.{IsReady, done as with_done};
+ghost use Rattle.afp_core.specs.lemma.Turn.{RunsRow};
 
 use crate::state::State;
 use afp_base::{Bytes, Code, SessionNumber};

@@ -1,5 +1,5 @@
 //! The open forks of a session by their references.
-ghost use Rattle.afp_core.specs.OnForks.{IsFork};
+ghost use Rattle.afp_core.specs.lemma.OnForks.{IsFork};
 ghost use Rattle.afp_core.specs.Turn.{IsReady};
 
 use crate::state::State;

@@ -2,7 +2,7 @@
 ghost use Rattle.std.specs.Prelude.{◌≡◌, ◌+◌, ◌<◌, None, Some, IfOk, MatchOption, length, option_map, slice_get};
 ghost use Rattle.afp_serial.specs.OnVolume.{opened_on};
 ghost use Rattle.afp_serial.specs.Sessions.{volume_at};
-ghost use Rattle.afp_core.specs.OnOpened.{IsOpen};
+ghost use Rattle.afp_core.specs.lemma.OnOpened.{IsOpen};
 ghost use Rattle.volume_tree.specs.Shown.{opened};
 
 use crate::state::State;

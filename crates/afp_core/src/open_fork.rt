@@ -12,8 +12,9 @@ ghost use Rattle.afp_volume.specs.OpenFork.{fork_values, is_resource};
 ghost use Rattle.afp_volume.specs.SoundVolume.{has_file};
 ghost use Rattle.afp_volume.specs.VolumeState.{Row, VolumeState};
 ghost use Rattle.afp_volume.specs.Walk.{row_at};
-ghost use Rattle.afp_core.specs.Opening.{FindsFile};
-ghost use Rattle.afp_core.specs.Turn.{IsReady, RunsRow, done as with_done};
+ghost use Rattle.afp_core.specs.lemma.Opening.{FindsFile};
+ghost use Rattle.afp_core.specs.Turn.{IsReady, done as with_done};
+ghost use Rattle.afp_core.specs.lemma.Turn.{RunsRow};
 
 use crate::replies::{done, refused};
 use crate::state::State;

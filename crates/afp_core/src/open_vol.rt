@@ -8,8 +8,8 @@ ghost use Rattle.afp_serial.specs.OpenVol.{open_vol_reply, state_named, volume_n
 ghost use Rattle.afp_serial.specs.Sessions.{volume_at};
 ghost use Rattle.afp_volume.specs.GetVolParms.{get_vol_parms_refusal};
 ghost use Rattle.afp_volume.specs.VolumeState.{VolumeState};
-ghost use Rattle.afp_core.specs.OnOpened.{IsNamed};
-ghost use Rattle.afp_core.specs.Turn.{RunsRow};
+ghost use Rattle.afp_core.specs.lemma.OnOpened.{IsNamed};
+ghost use Rattle.afp_core.specs.lemma.Turn.{RunsRow};
 
 use crate::replies::{done, refused};
 use crate::state::State;

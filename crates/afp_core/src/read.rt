@@ -13,8 +13,9 @@ ghost use Rattle.afp_volume.specs.ForkEffect.{fork_of};
 ghost use Rattle.afp_volume.specs.SoundVolume.{has_file};
 ghost use Rattle.afp_volume.specs.VolumeState.{Row};
 ghost use Rattle.afp_volume.specs.Walk.{row_at};
-ghost use Rattle.afp_core.specs.OnForkBytes.{IsReadOf, IsSpan, IsSpanOf, TellsRead, line_in, read_checks};
-ghost use Rattle.afp_core.specs.Turn.{IsReady, RunsRow};
+ghost use Rattle.afp_core.specs.lemma.OnForkBytes.{IsReadOf, IsSpan, IsSpanOf, TellsRead, line_in, read_checks};
+ghost use Rattle.afp_core.specs.Turn.{IsReady};
+ghost use Rattle.afp_core.specs.lemma.Turn.{RunsRow};
 
 use crate::on_fork::OwnFork;
 use crate::replies::{done, refused};

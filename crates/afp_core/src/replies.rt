@@ -1,6 +1,6 @@
 //! What calls are told.
 ghost use Rattle.std.specs.Prelude.{◌≡◌, false};
-ghost use Rattle.afp_core.specs.OnOpened.{Tells, TellsChanged, TellsSettled};
+ghost use Rattle.afp_core.specs.lemma.OnOpened.{Tells, TellsChanged, TellsSettled};
 ghost use Rattle.afp_base.specs.declared.code.Code.{Code};
 ghost use Rattle.afp_serial.specs.declared.ask.Told.{Told};
 ghost use Rattle.afp_serial.specs.Answer.{refusal_reply};

@@ -6,7 +6,7 @@ ghost use Rattle.afp_serial.specs.Answer.{new_session, is_expired};
 ghost use Rattle.afp_serial.specs.OpenVol.{with_volume};
 ghost use Rattle.afp_serial.specs.Sessions.{has_session, stands_at};
 ghost use Rattle.afp_serial.specs.World.{Session};
-ghost use Rattle.afp_core.specs.SessionList.{session_of, replaced, IsAt};
+ghost use Rattle.afp_core.specs.lemma.SessionList.{session_of, replaced, IsAt};
 
 use crate::open_volumes::OpenVolumes;
 use afp_base::{LinkNumber, Moment, OutOfMemory, SessionNumber, VolumeId};
@@ -34,7 +34,7 @@ pub struct Sessions {
 impl Model for Sessions {
     ghost use Rattle.std.specs.Prelude.{List, map};
     ghost use Rattle.afp_serial.specs.World.{Session};
-    ghost use Rattle.afp_core.specs.SessionList.{attached};
+    ghost use Rattle.afp_core.specs.lemma.SessionList.{attached};
 
     ghost Value = { List Session };
 

@@ -11,9 +11,10 @@ ghost use Rattle.afp_volume.specs.SetForkParms.{ext_length_bits, length_bits, le
 ghost use Rattle.afp_volume.specs.SoundVolume.{has_file};
 ghost use Rattle.afp_volume.specs.VolumeState.{Row, VolumeState};
 ghost use Rattle.afp_volume.specs.Walk.{row_at};
-ghost use Rattle.afp_core.specs.OnOpened.{BecomesKept};
-ghost use Rattle.afp_core.specs.SettingLength.{is_no_ext_length, length_refusal};
-ghost use Rattle.afp_core.specs.Turn.{IsReady, RunsRow};
+ghost use Rattle.afp_core.specs.lemma.OnOpened.{BecomesKept};
+ghost use Rattle.afp_core.specs.lemma.SettingLength.{is_no_ext_length, length_refusal};
+ghost use Rattle.afp_core.specs.Turn.{IsReady};
+ghost use Rattle.afp_core.specs.lemma.Turn.{RunsRow};
 ghost use Rattle.kept_volume.specs.ForkChanging.{GivesBytes};
 
 use crate::replies::{refused, told_changed};

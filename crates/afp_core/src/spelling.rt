@@ -2,8 +2,8 @@
 ghost use Rattle.std.specs.Prelude.{◌≡◌, false, ◌&&◌, not};
 ghost use Rattle.std.specs.Option.{option_copied};
 ghost use Rattle.afp_serial.specs.Steps.{needs_user};
-ghost use Rattle.afp_core.specs.Requests.{as_request};
-ghost use Rattle.afp_core.specs.Spelling.{IsJudged, IsSpelled};
+ghost use Rattle.afp_core.specs.lemma.Requests.{as_request};
+ghost use Rattle.afp_core.specs.lemma.Spelling.{IsJudged, IsSpelled};
 
 use crate::request::Request;
 use afp_base::Code;

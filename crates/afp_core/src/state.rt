@@ -4,8 +4,10 @@ ghost use Rattle.afp_serial.specs.Answer.{told_pulse};
 ghost use Rattle.afp_serial.specs.Sessions.{session_at, without_session};
 ghost use Rattle.afp_serial.specs.World.{start_world};
 ghost use Rattle.afp_serial.specs.declared.ask.Ask.{Ask};
-ghost use Rattle.afp_core.specs.ServerState.{kept_world, volumes_of};
-ghost use Rattle.afp_core.specs.Turn.{IsNextFree, IsReady, Runs, RunsAsk, RunsOpen, RunsPart, done};
+ghost use Rattle.afp_core.specs.ServerState.{volumes_of};
+ghost use Rattle.afp_core.specs.lemma.ServerState.{kept_world};
+ghost use Rattle.afp_core.specs.Turn.{IsNextFree, IsReady, RunsAsk, RunsOpen, done};
+ghost use Rattle.afp_core.specs.lemma.Turn.{Runs, RunsPart};
 
 use crate::link_numbers::LinkNumbers;
 use crate::moments::later;
@@ -39,7 +41,8 @@ pub struct State<K: Keeper> {
 }
 
 impl<K: Keeper> Model for State<K> {
-    ghost use Rattle.afp_core.specs.ServerState.{KeptWorld, kept_world, volumes_of, world_of};
+    ghost use Rattle.afp_core.specs.ServerState.{KeptWorld, volumes_of};
+    ghost use Rattle.afp_core.specs.lemma.ServerState.{kept_world, world_of};
 
     ghost Value = { KeptWorld };
 

@@ -4,7 +4,8 @@ ghost use Rattle.afp_serial.specs.Sessions.{volume_at};
 ghost use Rattle.afp_serial.specs.Sound.{IsSound};
 ghost use Rattle.afp_core.specs.Loads.{IsCoreFault, IsLoadedServer};
 ghost use Rattle.afp_core.specs.Retiring.{Retires};
-ghost use Rattle.afp_core.specs.Turn.{TakesStep, TakesTurn};
+ghost use Rattle.afp_core.specs.Turn.{TakesTurn};
+ghost use Rattle.afp_core.specs.lemma.Turn.{TakesStep};
 
 use crate::core_fault::CoreFault;
 use crate::counts::Counts;

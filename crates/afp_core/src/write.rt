@@ -14,9 +14,10 @@ ghost use Rattle.afp_volume.specs.SoundVolume.{has_file, most_fork_bytes};
 ghost use Rattle.afp_volume.specs.VolumeState.{Row, VolumeState};
 ghost use Rattle.afp_volume.specs.Walk.{row_at};
 ghost use Rattle.kept_volume.specs.ForkChanging.{GivesBytes};
-ghost use Rattle.afp_core.specs.OnForkBytes.{FitsReply, IsFew, IsOffset, IsPlace, end_reply, start_reply, write_asked, write_checks};
-ghost use Rattle.afp_core.specs.OnOpened.{BecomesKept};
-ghost use Rattle.afp_core.specs.Turn.{IsReady, RunsRow};
+ghost use Rattle.afp_core.specs.lemma.OnForkBytes.{FitsReply, IsFew, IsOffset, IsPlace, end_reply, start_reply, write_asked, write_checks};
+ghost use Rattle.afp_core.specs.lemma.OnOpened.{BecomesKept};
+ghost use Rattle.afp_core.specs.Turn.{IsReady};
+ghost use Rattle.afp_core.specs.lemma.Turn.{RunsRow};
 
 use crate::on_fork::OwnFork;
 use crate::replies::{refused, told_changed};

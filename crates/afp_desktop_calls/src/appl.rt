@@ -2,7 +2,7 @@
 
 ghost use Rattle.std.specs.Prelude.{OnOk, OnErr};
 ghost use Rattle.afp_requests.specs.Appl.{add_appl, add_appl_reader, remove_appl, remove_appl_reader, get_appl, get_appl_reader};
-ghost use Rattle.afp_fields.specs.Taking.{Gives};
+ghost use Rattle.afp_fields.specs.lemma.Taking.{Gives};
 ghost use Rattle.afp_base.specs.Appended.{Keeps};
 ghost use Rattle.afp_fields.specs.Putting.{PutsAll};
 

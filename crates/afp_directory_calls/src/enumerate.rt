@@ -2,7 +2,7 @@
 
 ghost use Rattle.std.specs.Prelude.{OnOk, OnErr};
 ghost use Rattle.afp_requests.specs.Enumerate.{enumerate, enumerate_reader, enumerate_ext, enumerate_ext_reader, enumerate_ext2, enumerate_ext2_reader};
-ghost use Rattle.afp_fields.specs.Taking.{Gives};
+ghost use Rattle.afp_fields.specs.lemma.Taking.{Gives};
 ghost use Rattle.afp_base.specs.Appended.{Keeps};
 ghost use Rattle.afp_fields.specs.Putting.{PutsAll};
 

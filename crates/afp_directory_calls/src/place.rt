@@ -2,7 +2,7 @@
 
 ghost use Rattle.std.specs.Prelude.{OnOk, OnErr};
 ghost use Rattle.afp_requests.specs.Place.{delete, delete_reader, rename, rename_reader, move_and_rename, move_and_rename_reader};
-ghost use Rattle.afp_fields.specs.Taking.{Gives};
+ghost use Rattle.afp_fields.specs.lemma.Taking.{Gives};
 ghost use Rattle.afp_base.specs.Appended.{Keeps};
 ghost use Rattle.afp_fields.specs.Putting.{PutsAll};
 

@@ -14,7 +14,8 @@ use Rattle.afp_requests.specs.declared.call.ReadFault.{ReadFault}
 use Rattle.afp_requests.specs.declared.call.ReadFault.TheVariants as faults
 use Rattle.afp_requests.specs.Words.{Word, Literal, Pad, LastPad, Even, Number, Within, Count, Optional, Signed32, Signed64, Plain, Counted, Pathname, Tail, Value}
 use Rattle.afp_requests.specs.Reading.{Reading, Then, Alone, With, Taken, read, next, path_size, path_text}
-use Rattle.afp_fields.specs.Input.{Input, piece_at, behind, bytes_left, read_on}
+use Rattle.afp_fields.specs.Input.{Input, bytes_left, read_on}
+use Rattle.afp_fields.specs.lemma.Input.{piece_at, behind}
 use Rattle.afp_fields.specs.Taking.{Takes}
 
 -- a word that is there is taken, and a word that is not ends the reading

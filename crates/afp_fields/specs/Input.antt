@@ -1,5 +1,5 @@
 -- The bytes of a request as they are read: its block, the place of the next byte, and what comes with the block.
-use Rattle.std.specs.Prelude.{ℕ, ◌+◌, List, take, drop, Option}
+use Rattle.std.specs.Prelude.{ℕ, List, drop, Option}
 use Rattle.afp_requests.specs.declared.call.Call.{Call}
 use Rattle.afp_requests.specs.Reading.{Reading, read}
 
@@ -8,14 +8,6 @@ pub record Input : Type 0 where
   pub bytes : List ℕ
   pub place : ℕ
   pub enclosed : Option (List ℕ)
-
--- the n bytes at the place
-abbrev pub piece_at : Input → ℕ → List ℕ
-piece_at f n = take n (drop f.place f.bytes)
-
--- the same behind the next n bytes
-abbrev pub behind : Input → ℕ → Input
-behind f n = record { bytes = f.bytes; place = f.place + n; enclosed = f.enclosed }
 
 -- the bytes from the place on
 abbrev pub bytes_left : Input → List ℕ

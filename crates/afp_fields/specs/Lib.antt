@@ -1,3 +1,4 @@
 pub mod Input
 pub mod Putting
 pub mod Taking
+pub mod lemma

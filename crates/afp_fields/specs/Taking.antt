@@ -1,12 +1,12 @@
 -- How the words of a request are taken from a block, one after the other.
-use Rattle.std.specs.Prelude.{◌≡◌, ℕ, ◌+◌, ◌≤◌, ◌<◌, List, length, Option, Some, None, Result, Ok, Err}
-use Rattle.std.specs.Borrow.{Bor}
+use Rattle.std.specs.Prelude.{◌≡◌, ℕ, List, Option, Some, None, Result, Ok, Err}
 use Rattle.afp_requests.specs.declared.call.Call.{Call}
 use Rattle.afp_requests.specs.declared.call.ReadFault.{ReadFault}
 use Rattle.afp_requests.specs.declared.call.ReadFault.TheVariants as faults
 use Rattle.afp_requests.specs.Words.{Word, Value}
-use Rattle.afp_requests.specs.Reading.{Reading, Then, Alone, With, Reader, read_by, path_size, path_text}
-use Rattle.afp_fields.specs.Input.{Input, piece_at, behind, bytes_left, read_on}
+use Rattle.afp_requests.specs.Reading.{Reading, Then, Alone, With, Reader, read_by}
+use Rattle.afp_fields.specs.Input.{Input, bytes_left, read_on}
+use Rattle.afp_fields.specs.lemma.Input.{behind}
 
 -- The word is taken from the front: what is read of it and more is read of the more behind it. Param: it does not stand there.
 abbrev pub Takes : (w : Word) → Input → Result (Value w) ReadFault → Input → Type 0
@@ -36,27 +36,6 @@ IsFound found (Err faults.Param) = found ≡ None
 IsFound found (Err faults.Memory) = Unit {0}
 IsFound found (Err faults.NotSupported) = ⊥
 
--- The answer is the request that the reader finds.
-abbrev pub Gives : Reader → Input → Result Call ReadFault → Type 0
-Gives r old answer = IsFound (read_on r.reading old) answer
-
 -- The answer is the request that the reader of this number finds, if one of the readers has it.
 abbrev pub GivesBy : List Reader → ℕ → Input → Result Call ReadFault → Type 0
 GivesBy rs n old answer = IsFound (read_by rs n old.place old.enclosed (bytes_left old)) answer
-
--- The next n bytes are taken. Param: there are fewer.
-abbrev pub TakesPiece : ℕ → Input → Result (Bor (List ℕ)) ReadFault → Input → Type 0
-TakesPiece n old (Ok x) new = (old.place ≤ length old.bytes) × (old.place + n ≤ length old.bytes) × (x.now ≡ piece_at old n) × (new ≡ behind old n)
-TakesPiece n old (Err fault) new = (old.place ≤ length old.bytes) × (length old.bytes < old.place + n) × (fault ≡ faults.Param) × (new ≡ old)
-
--- The next n bytes are taken and copied. Param: there are fewer.
-abbrev pub TakesCopy : ℕ → Input → Result (List ℕ) ReadFault → Input → Type 0
-TakesCopy n old (Ok x) new = (old.place + n ≤ length old.bytes) × (x ≡ piece_at old n) × (new ≡ behind old n)
-TakesCopy n old (Err faults.Param) new = (old.place ≤ length old.bytes) × (length old.bytes < old.place + n) × (new ≡ old)
-TakesCopy n old (Err faults.Memory) new = new ≡ old
-TakesCopy n old (Err faults.NotSupported) new = ⊥
-
--- A path's bytes, of that type, are taken behind the type. Param: there are fewer than their count.
-abbrev pub TakesText : ℕ → Input → Result (Bor (List ℕ)) ReadFault → Input → Type 0
-TakesText kind old (Ok x) new = (old.place + path_size kind (bytes_left old) ≤ length old.bytes) × (x.now ≡ path_text kind (bytes_left old)) × (new ≡ behind old (path_size kind (bytes_left old)))
-TakesText kind old (Err fault) new = (length old.bytes < old.place + path_size kind (bytes_left old)) × (fault ≡ faults.Param)

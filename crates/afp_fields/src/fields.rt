@@ -4,7 +4,8 @@
 ghost use Rattle.std.specs.Prelude.{◌≡◌, ◌⊎◌, ◌≤◌, length, Ok, IfOk, OnErr};
 ghost use Rattle.std.specs.Option.{option_copied};
 ghost use Rattle.afp_requests.specs.Words.{Literal, Pad, LastPad, Even, Number, Within, Count, Optional, Signed32, Signed64, Plain, Counted, Tail};
-ghost use Rattle.afp_fields.specs.Taking.{Takes, TakesPiece, TakesCopy, TakesEnclosed, StandsAlone};
+ghost use Rattle.afp_fields.specs.Taking.{Takes, TakesEnclosed, StandsAlone};
+ghost use Rattle.afp_fields.specs.lemma.Taking.{TakesPiece, TakesCopy};
 
 use afp_base::{Bytes, OutOfMemory, Scan};
 use afp_requests::ReadFault;

@@ -5,7 +5,8 @@ ghost use Rattle.byteorder.specs.Endian.{big_bytes};
 ghost use Rattle.afp_names.specs.LongName.{shown_byte};
 ghost use Rattle.afp_names.specs.Path.{IsPath, canonical_path, longest_path, step_bytes, element_of};
 ghost use Rattle.afp_requests.specs.Words.{Pathname, pathname, hint_size, count_size};
-ghost use Rattle.afp_fields.specs.Taking.{Takes, TakesText};
+ghost use Rattle.afp_fields.specs.Taking.{Takes};
+ghost use Rattle.afp_fields.specs.lemma.Taking.{TakesText};
 ghost use Rattle.afp_base.specs.Appended.{Keeps};
 ghost use Rattle.afp_fields.specs.Putting.{Puts};
 

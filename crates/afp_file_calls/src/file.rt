@@ -6,7 +6,8 @@ ghost use Rattle.afp_requests.specs.Reading.{Alone, words};
 ghost use Rattle.afp_requests.specs.Words.{Even, Pathname, Tail};
 ghost use Rattle.afp_requests.specs.declared.call.Call.TheVariants as calls;
 ghost use Rattle.afp_fields.specs.Input.{read_on};
-ghost use Rattle.afp_fields.specs.Taking.{Gives, IsFound};
+ghost use Rattle.afp_fields.specs.Taking.{IsFound};
+ghost use Rattle.afp_fields.specs.lemma.Taking.{Gives};
 ghost use Rattle.afp_base.specs.Appended.{Keeps};
 ghost use Rattle.afp_fields.specs.Putting.{PutsAll};
 

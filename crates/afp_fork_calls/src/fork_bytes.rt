@@ -2,7 +2,7 @@
 
 ghost use Rattle.std.specs.Prelude.{◌≡◌, OnOk, OnErr, []};
 ghost use Rattle.afp_requests.specs.ForkBytes.{read, read_reader, read_ext, read_ext_reader, write, write_reader, write_ext, write_ext_reader, piece_size};
-ghost use Rattle.afp_fields.specs.Taking.{Gives};
+ghost use Rattle.afp_fields.specs.lemma.Taking.{Gives};
 ghost use Rattle.afp_base.specs.Appended.{Keeps};
 ghost use Rattle.afp_fields.specs.Putting.{PutsAll};
 

@@ -2,7 +2,7 @@
 
 ghost use Rattle.std.specs.Prelude.{◌<◌, length, OnOk, OnErr};
 ghost use Rattle.afp_requests.specs.Lock.{byte_range_lock, byte_range_lock_reader, byte_range_lock_ext, byte_range_lock_ext_reader};
-ghost use Rattle.afp_fields.specs.Taking.{Gives};
+ghost use Rattle.afp_fields.specs.lemma.Taking.{Gives};
 ghost use Rattle.afp_base.specs.Appended.{Keeps};
 ghost use Rattle.afp_fields.specs.Putting.{PutsAll};
 

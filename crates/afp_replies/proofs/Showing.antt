@@ -33,8 +33,8 @@ use Rattle.afp_replies.proofs.NumberLemmas.{date_again, date_lt}
 use Rattle.afp_replies.proofs.Again.{put_front, has_params, node_layout, node_within, with_more, volumes_zero, volumes_suc, entries_zero, entries_suc, entry_spelt, good_reply}
 
 -- a request with this command, which asked these bits
-abbrev request : ℕ → ℕ → ℕ → ReplyKind
-request command bits dir_bits = record { command = command; bits = bits; dir_bits = dir_bits }
+abbrev asked : ℕ → ℕ → ℕ → ReplyKind
+asked command bits dir_bits = record { command = command; bits = bits; dir_bits = dir_bits }
 
 -- the commands that are used here
 command_1 : shape_of 1 ≡ shapes.Start
@@ -354,41 +354,41 @@ unfolding layouts.is_wide
 is_wide_1 = refl
 
 shown_list : (wide : Bool) (fb db : ℕ) (all : List ListEntry) → FitsList wide fb db all → IsShown (replies.List wide fb db all)
-shown_list true fb db all f = shown_by (replies.List true fb db all) (request 66 fb db) f (command_66, refl, refl)
-shown_list false fb db all f = shown_by (replies.List false fb db all) (request 9 fb db) f (command_9, refl, refl)
+shown_list true fb db all f = shown_by (replies.List true fb db all) (asked 66 fb db) f (command_66, refl, refl)
+shown_list false fb db all f = shown_by (replies.List false fb db all) (asked 9 fb db) f (command_9, refl, refl)
 
 shown_name : (wide : Bool) (name : List ℕ) → length name < 256 ^ width wide → IsShown (replies.MappedName wide name)
-shown_name true name f = shown_by (replies.MappedName true name) (request 21 3 0) f (command_21, is_wide_3)
-shown_name false name f = shown_by (replies.MappedName false name) (request 21 1 0) f (command_21, is_wide_1)
+shown_name true name f = shown_by (replies.MappedName true name) (asked 21 3 0) f (command_21, is_wide_3)
+shown_name false name f = shown_by (replies.MappedName false name) (asked 21 1 0) f (command_21, is_wide_1)
 
 shown_params : (bits : ℕ) (v : Values) → FitsReply (replies.Params bits v) → IsShown (replies.Params bits v)
-shown_params bits (kinds.Volume v) f = shown_by (replies.Params bits (kinds.Volume v)) (request 17 bits 0) f (command_17, refl)
-shown_params bits (kinds.File v) f = shown_by (replies.Params bits (kinds.File v)) (request 14 bits 0) f (command_14, refl)
+shown_params bits (kinds.Volume v) f = shown_by (replies.Params bits (kinds.Volume v)) (asked 17 bits 0) f (command_17, refl)
+shown_params bits (kinds.File v) f = shown_by (replies.Params bits (kinds.File v)) (asked 14 bits 0) f (command_14, refl)
 shown_params bits (kinds.Dir v) f = let le : 2 ≤ 1 = f.0 in absurd (omega arith)
 
 pub what_fits : (r : Reply) → FitsReply r → IsShown r
-what_fits replies.Empty f = shown_by replies.Empty (request 2 0 0) f command_2
-what_fits (replies.Start x) f = shown_by (replies.Start x) (request 1 0 0) f command_1
-what_fits (replies.StartExt x) f = shown_by (replies.StartExt x) (request 59 0 0) f command_59
-what_fits (replies.End x) f = shown_by (replies.End x) (request 33 0 0) f command_33
-what_fits (replies.EndExt x) f = shown_by (replies.EndExt x) (request 61 0 0) f command_61
-what_fits (replies.Node id) f = shown_by (replies.Node id) (request 6 0 0) f command_6
+what_fits replies.Empty f = shown_by replies.Empty (asked 2 0 0) f command_2
+what_fits (replies.Start x) f = shown_by (replies.Start x) (asked 1 0 0) f command_1
+what_fits (replies.StartExt x) f = shown_by (replies.StartExt x) (asked 59 0 0) f command_59
+what_fits (replies.End x) f = shown_by (replies.End x) (asked 33 0 0) f command_33
+what_fits (replies.EndExt x) f = shown_by (replies.EndExt x) (asked 61 0 0) f command_61
+what_fits (replies.Node id) f = shown_by (replies.Node id) (asked 6 0 0) f command_6
 what_fits (replies.List wide fb db all) f = shown_list wide fb db all f
 what_fits (replies.Params bits v) f = shown_params bits v f
-what_fits (replies.Status block) f = shown_by (replies.Status block) (request 15 0 0) f command_15
-what_fits (replies.ServerParams time all) f = shown_by (replies.ServerParams time all) (request 16 0 0) f command_16
+what_fits (replies.Status block) f = shown_by (replies.Status block) (asked 15 0 0) f command_15
+what_fits (replies.ServerParams time all) f = shown_by (replies.ServerParams time all) (asked 16 0 0) f command_16
 what_fits (replies.MappedName wide name) f = shown_name wide name f
-what_fits (replies.MappedId x) f = shown_by (replies.MappedId x) (request 22 0 0) f command_22
-what_fits (replies.Opened bits reference v) f = shown_by (replies.Opened bits reference v) (request 26 bits 0) f (command_26, refl)
-what_fits (replies.Piece piece) f = shown_by (replies.Piece piece) (request 27 0 0) f (inl command_27)
-what_fits (replies.FileDirParams fb db v) f = shown_by (replies.FileDirParams fb db v) (request 34 fb db) f (command_34, refl, refl)
-what_fits (replies.UserInfo bits id group) f = shown_by (replies.UserInfo bits id group) (request 37 bits 0) f (command_37, refl)
-what_fits (replies.Message kind bits text) f = shown_by (replies.Message kind bits text) (request 38 bits 0) f (command_38, refl)
-what_fits (replies.Desk x) f = shown_by (replies.Desk x) (request 48 0 0) f command_48
-what_fits (replies.IconInfo tag kind icon_kind size) f = shown_by (replies.IconInfo tag kind icon_kind size) (request 52 0 0) f command_52
-what_fits (replies.Appl bits tag v) f = shown_by (replies.Appl bits tag v) (request 55 bits 0) f (command_55, refl)
-what_fits (replies.Comment x) f = shown_by (replies.Comment x) (request 58 0 0) f command_58
-what_fits (replies.Token x) f = shown_by (replies.Token x) (request 64 0 0) f command_64
+what_fits (replies.MappedId x) f = shown_by (replies.MappedId x) (asked 22 0 0) f command_22
+what_fits (replies.Opened bits reference v) f = shown_by (replies.Opened bits reference v) (asked 26 bits 0) f (command_26, refl)
+what_fits (replies.Piece piece) f = shown_by (replies.Piece piece) (asked 27 0 0) f (inl command_27)
+what_fits (replies.FileDirParams fb db v) f = shown_by (replies.FileDirParams fb db v) (asked 34 fb db) f (command_34, refl, refl)
+what_fits (replies.UserInfo bits id group) f = shown_by (replies.UserInfo bits id group) (asked 37 bits 0) f (command_37, refl)
+what_fits (replies.Message kind bits text) f = shown_by (replies.Message kind bits text) (asked 38 bits 0) f (command_38, refl)
+what_fits (replies.Desk x) f = shown_by (replies.Desk x) (asked 48 0 0) f command_48
+what_fits (replies.IconInfo tag kind icon_kind size) f = shown_by (replies.IconInfo tag kind icon_kind size) (asked 52 0 0) f command_52
+what_fits (replies.Appl bits tag v) f = shown_by (replies.Appl bits tag v) (asked 55 bits 0) f (command_55, refl)
+what_fits (replies.Comment x) f = shown_by (replies.Comment x) (asked 58 0 0) f command_58
+what_fits (replies.Token x) f = shown_by (replies.Token x) (asked 64 0 0) f command_64
 
 -- ---- the other way, and for the writer
 

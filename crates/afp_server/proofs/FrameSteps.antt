@@ -11,7 +11,8 @@ use Rattle.dsi_frame.specs.Frame.{Frame, IsSpelling, frame_of, header_of}
 use Rattle.dsi_frame.specs.Stream.{Begins}
 use Rattle.dsi_frame.specs.declared.frame.Header.{Header}
 use Rattle.afp_server.specs.Did.{Did}
-use Rattle.afp_server.specs.Passing.{calls_in, call_link}
+use Rattle.afp_server.specs.Passing.{calls_in}
+use Rattle.afp_server.specs.lemma.Passing.{call_link}
 use Rattle.afp_server.specs.Replies.{listed, spelling_of}
 use Rattle.afp_server.specs.Script.{Does}
 use Rattle.afp_server.specs.lemma.Sending.{Sends, SendsPart}

@@ -12,7 +12,8 @@ use Rattle.dsi_frame.specs.declared.frame.DsiCommand.TheVariants.{CloseSession, 
 use Rattle.afp_server.specs.Did.{Did}
 use Rattle.afp_server.specs.LinkRun.{Parts}
 use Rattle.afp_server.specs.OpenSession.{OpensSession}
-use Rattle.afp_server.specs.Passing.{called_on, calls_in, all_passed, GoThrough, call_link}
+use Rattle.afp_server.specs.Passing.{called_on, calls_in, GoThrough}
+use Rattle.afp_server.specs.lemma.Passing.{all_passed, call_link}
 use Rattle.afp_server.specs.Script.{FreshDoes, OpenDoes, ReplyDoes, FrameDoes, Does}
 use Rattle.afp_server.specs.Trace.{Cause, closed, displaced, bad, silent, RestsOn, Rests}
 use Rattle.afp_server.specs.declared.serve.LinkEnd.{LinkEnd}

@@ -11,7 +11,7 @@ use Rattle.dsi_frame.specs.Buffered.{Buffered, buffer_length}
 use Rattle.dsi_frame.specs.Frame.{Frame}
 use Rattle.dsi_frame.specs.Stream.{IsUnfinished, Framed}
 use Rattle.afp_server.specs.LinkRun.{Moves, Fills, MayRead, EachMayRead, EndsBy, failed_writes, GoesOn, came_in, cost_of, size_of, written_before, read_limit}
-use Rattle.afp_server.specs.Passing.{all_passed}
+use Rattle.afp_server.specs.lemma.Passing.{all_passed}
 use Rattle.afp_server.specs.Replies.{spelling_of}
 use Rattle.afp_server.specs.lemma.Serving.{Start, Point, point, SoFar, Ended, RestsLink}
 use Rattle.afp_server.specs.lemma.SessionState.{SessionState}

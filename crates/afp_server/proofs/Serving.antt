@@ -14,7 +14,8 @@ use Rattle.dsi_frame.specs.Stream.{Begins}
 use Rattle.dsi_frame.specs.declared.frame.BadFrame.{BadFrame}
 use Rattle.afp_server.specs.Did.{Did}
 use Rattle.afp_server.specs.LinkRun.{Moves, Fills, EachMayRead, EndsBy, failed_writes, IsAnswered, came_in, cost_of, carries_call}
-use Rattle.afp_server.specs.Passing.{calls_in, all_passed, GoThrough}
+use Rattle.afp_server.specs.Passing.{calls_in, GoThrough}
+use Rattle.afp_server.specs.lemma.Passing.{all_passed}
 use Rattle.afp_server.specs.Replies.{listed, spelling_of}
 use Rattle.afp_server.specs.Script.{Does}
 use Rattle.afp_server.specs.lemma.Sending.{Sends, SendsPart}

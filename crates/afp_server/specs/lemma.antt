@@ -1,6 +1,8 @@
 -- What the code goes by and what its proofs speak of; no public contract cites it.
-pub mod SessionState
+pub mod Feeding
+pub mod Passing
+pub mod Reading
 pub mod Sending
 pub mod Serving
-pub mod Reading
-pub mod Feeding
+pub mod SessionState
+pub mod Wire

@@ -16,7 +16,7 @@ ghost use Rattle.afp_server.specs.CloseSession.{ClosesSession};
 ghost use Rattle.afp_server.specs.Did.{Did};
 ghost use Rattle.afp_server.specs.LinkRun.{carries_call};
 ghost use Rattle.afp_server.specs.OpenSession.{OpensSession};
-ghost use Rattle.afp_server.specs.Passing.{PassesIn, call_link, if_call};
+ghost use Rattle.afp_server.specs.lemma.Passing.{PassesIn, call_link, if_call};
 ghost use Rattle.afp_serial.specs.Shown.{fits_frame};
 ghost use Rattle.afp_server.specs.OpenSession.{OpenTold};
 ghost use Rattle.afp_server.specs.Replies.{code_word, reply_to};

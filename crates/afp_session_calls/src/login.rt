@@ -7,7 +7,8 @@ ghost use Rattle.afp_requests.specs.Reading.{Alone, words};
 ghost use Rattle.afp_requests.specs.declared.call.Call.TheVariants.{LoginExt};
 ghost use Rattle.afp_requests.specs.Login.{login, login_reader, login_ext, login_ext_reader, logout, logout_reader};
 ghost use Rattle.afp_fields.specs.Input.{read_on};
-ghost use Rattle.afp_fields.specs.Taking.{Gives, IsFound, Takes};
+ghost use Rattle.afp_fields.specs.Taking.{IsFound, Takes};
+ghost use Rattle.afp_fields.specs.lemma.Taking.{Gives};
 ghost use Rattle.afp_base.specs.Appended.{Keeps};
 ghost use Rattle.afp_fields.specs.Putting.{PutsAll, Puts};
 

@@ -3,7 +3,8 @@
 ghost use Rattle.std.specs.Prelude.{◌≡◌, ◌<◌, ◌^◌, length, OnOk, OnErr};
 ghost use Rattle.afp_requests.specs.Words.{Counted, counted};
 ghost use Rattle.afp_requests.specs.User.{get_user_info, get_user_info_reader, map_id, map_id_reader, map_name, map_name_reader, name_count};
-ghost use Rattle.afp_fields.specs.Taking.{Gives, Takes};
+ghost use Rattle.afp_fields.specs.Taking.{Takes};
+ghost use Rattle.afp_fields.specs.lemma.Taking.{Gives};
 ghost use Rattle.afp_base.specs.Appended.{Keeps};
 ghost use Rattle.afp_fields.specs.Putting.{PutsAll, Puts};
 

@@ -7,13 +7,13 @@ use Rattle.std.proofs.lemmas.List.{drop_more, get_or-take, length-take, take_all
 use Rattle.std.proofs.lemmas.List.Elements.{All-append, All-nil}
 use Rattle.std.proofs.lemmas.List.Splits.{slice_split_at, slice_split_none}
 use Rattle.capture_lines.specs.Lines.{line_in, longest_line}
-use Rattle.capture_log.specs.Gathering.{ReaderState, IsOneLine, AreLines, ended_lines, Holds, EndsLine}
+use Rattle.capture_log.specs.lemma.Gathering.{ReaderState, IsOneLine, AreLines, ended_lines, Holds, EndsLine}
 use Rattle.capture_log.specs.Judged.{Decides, DecidesEnd, JudgedAt, Judged}
 use Rattle.capture_log.specs.Reading.{is_newline, pieces, last_line, lines_of, lines_in, Undecided}
 use Rattle.capture_server.specs.CaptureState.{CaptureState, Goes, Leads, begins, is_bad, no_house}
 use Rattle.capture_server.specs.declared.part.Part.TheVariants as parts
 use Rattle.capture_log.proofs.SetUpLemmas.{set-up-none}
-use Rattle.capture_log.specs.Taking.{HeldCapture, IsCapture, Takes}
+use Rattle.capture_log.specs.lemma.Taking.{HeldCapture, IsCapture, Takes}
 use Rattle.capture_log.specs.declared.replay_end.ReplayEnd.{ReplayEnd}
 use Rattle.capture_log.specs.declared.replay_end.ReplayEnd.TheVariants.{BadCapture}
 

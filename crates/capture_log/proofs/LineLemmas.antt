@@ -8,7 +8,7 @@ use Rattle.capture_lines.specs.Fields.{is_space, is_colon, is_ascii, is_digit, i
 use Rattle.capture_lines.specs.Lines.{line_in, headed, event_in, title_in, name_in, user_in, link_in, link_then, moment_then, what_in, last_link, last_moment, longest_line}
 use Rattle.capture_lines.specs.declared.line.Line.{Line}
 use Rattle.capture_lines.specs.declared.line.Line.TheVariants.{Title, Server, Signature, User as UserLine, Volume, Key, At, End}
-use Rattle.capture_log.specs.Taking.{IsLink, IsLinked}
+use Rattle.capture_log.specs.lemma.Taking.{IsLink, IsLinked}
 
 -- something that may be read, if it names a connection that there may be
 abbrev IsGoodLine : Option Line → Type 0

@@ -3,7 +3,7 @@ use Rattle.std.proofs.Common.{◌≡◌, ℕ, ◌+◌, ◌≤◌, ◌<◌, Bool,
 use Rattle.std.specs.Prelude.{Option, Some, None, option_map}
 use Rattle.afp_base.specs.Counts.{CountsOn}
 use Rattle.afp_outside.specs.Source.{SourceState, SourceGives, SourceEnds, SourceFails}
-use Rattle.capture_log.specs.Gathering.{ReaderState, Holds}
+use Rattle.capture_log.specs.lemma.Gathering.{ReaderState, Holds}
 use Rattle.capture_log.specs.Judged.{Judged, JudgedAt, AreTrue}
 use Rattle.capture_log.specs.Reading.{lines_in, IsJudged, Replays, ReplaysBy, IsReadWell, IsCompared, IsTheSame}
 use Rattle.capture_log.specs.declared.replay_end.ReplayEnd.{ReplayEnd}

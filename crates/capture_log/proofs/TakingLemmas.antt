@@ -13,13 +13,15 @@ use Rattle.capture_lines.specs.declared.line.What.TheVariants.{In, Quiet, Lost, 
 use Rattle.afp_base.specs.declared.ids.LinkNumber.{LinkNumber}
 use Rattle.afp_server.specs.Wire.{open_link}
 use Rattle.capture_server.specs.Connections.{Connection, unused}
-use Rattle.capture_log.specs.Judged.{Decides, IsSame, DecidesEnd}
+use Rattle.capture_log.specs.Judged.{Decides, DecidesEnd}
+use Rattle.capture_log.specs.lemma.Judged.{IsSame}
 use Rattle.capture_server.specs.Counting.{refused_in}
-use Rattle.capture_server.specs.Running.{IsFreshRunning, HappensBy}
+use Rattle.capture_server.specs.Running.{IsFreshRunning}
+use Rattle.capture_server.specs.lemma.Running.{HappensBy}
 use Rattle.capture_server.specs.CaptureState.{CaptureState, Says, Happens, FeedsUnless, PulsesIf, LosesIf, part_after, is_refused, is_refused_on, is_bad, start_at}
 use Rattle.capture_server.specs.States.{ConnectionState, RunningState, IsConnection, IsRunning, unused_state}
-use Rattle.capture_log.specs.SetUp.{IsSetUp}
-use Rattle.capture_log.specs.Taking.{Acts, begun, HeldCapture, house_with, refused_by, is_event, IsIdle, is_past_house, IsBegun, IsServer, IsCapture, RunsFrom, LeadsLine, TakesLine, Takes}
+use Rattle.capture_log.specs.lemma.SetUp.{IsSetUp}
+use Rattle.capture_log.specs.lemma.Taking.{Acts, begun, HeldCapture, house_with, refused_by, is_event, IsIdle, is_past_house, IsBegun, IsServer, IsCapture, RunsFrom, LeadsLine, TakesLine, Takes}
 use Rattle.capture_log.proofs.SetUpLemmas.{kept-set-up}
 use Rattle.capture_server.specs.declared.difference.Difference.{Difference}
 use Rattle.capture_server.specs.declared.part.Part.{Part}

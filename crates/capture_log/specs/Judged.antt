@@ -28,15 +28,6 @@ Decides s number raw ReadFault = ⊥
 Decides s number raw Spent = ⊥
 Decides s number raw Memory = ⊥
 
--- the counts are those
-abbrev pub IsSame : CaptureState → ReplayEnd → Type 0
-IsSame s (Same links entries replies refused) = AreCounts s links entries replies refused
-IsSame s (Differs link at want got) = ⊥
-IsSame s (BadCapture line) = ⊥
-IsSame s ReadFault = ⊥
-IsSame s Spent = ⊥
-IsSame s Memory = ⊥
-
 -- what the end of a capture decides that no line has decided
 abbrev pub DecidesEnd : CaptureState → ℕ → ReplayEnd → Type 0
 DecidesEnd s number (BadCapture line) = (s.part ≢ parts.Nothing) × (line ≡ number)

@@ -1,5 +1,3 @@
-pub mod Gathering
 pub mod Judged
 pub mod Reading
-pub mod SetUp
-pub mod Taking
+pub mod lemma

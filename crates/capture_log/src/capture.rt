@@ -3,8 +3,8 @@ ghost use Rattle.std.specs.Prelude.{◌≡◌, ◌<◌, ◌+◌, ℕ, suc, lengt
 ghost use Rattle.capture_lines.specs.declared.line.Line.{Line};
 ghost use Rattle.capture_log.specs.Judged.{DecidesEnd};
 ghost use Rattle.capture_server.specs.CaptureState.{CaptureState, is_refused_on, no_house};
-ghost use Rattle.capture_log.specs.Taking.{IsCapture, IsLink, IsLinked, IsServer, RunsFrom, Acts, TakesLine, Takes};
-ghost use Rattle.capture_log.specs.SetUp.{IsSetUp};
+ghost use Rattle.capture_log.specs.lemma.Taking.{IsCapture, IsLink, IsLinked, IsServer, RunsFrom, Acts, TakesLine, Takes};
+ghost use Rattle.capture_log.specs.lemma.SetUp.{IsSetUp};
 ghost use Rattle.capture_server.specs.Running.{IsFreshRunning};
 ghost use Rattle.capture_server.specs.States.{IsRunning};
 ghost use Rattle.capture_server.specs.declared.part.Part.{Part};
@@ -34,7 +34,7 @@ pub struct Capture<K: Keeper> {
 
 impl<K: Keeper> Model for Capture<K> {
     ghost use Rattle.std.specs.Prelude.{is_some};
-    ghost use Rattle.capture_log.specs.Taking.{HeldCapture};
+    ghost use Rattle.capture_log.specs.lemma.Taking.{HeldCapture};
 
     ghost Value = { HeldCapture };
 
@@ -141,9 +141,9 @@ fn same_of(counts: ReplayCounts) -> ReplayEnd
 
 impl<K: Keeper> Capture<K> {
     ghost use Rattle.std.specs.Prelude.{false, Some, OnOk};
-    ghost use Rattle.capture_log.specs.Judged.{IsSame};
+    ghost use Rattle.capture_log.specs.lemma.Judged.{IsSame};
     ghost use Rattle.capture_server.specs.CaptureState.{part_after};
-    ghost use Rattle.capture_log.specs.Taking.{is_event};
+    ghost use Rattle.capture_log.specs.lemma.Taking.{is_event};
 
     /// No line was taken.
     pub fn new(alloc: Global, fresh: NewKeepers<K>) -> Capture<K>

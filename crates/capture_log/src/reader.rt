@@ -3,7 +3,7 @@ ghost use Rattle.std.specs.Prelude.{◌≡◌, ◌++◌, ◌+◌, ◌∷◌, ◌
 ghost use Rattle.capture_lines.specs.Lines.{longest_line};
 ghost use Rattle.capture_log.specs.Reading.{lines_in};
 ghost use Rattle.capture_log.specs.Judged.{Judged};
-ghost use Rattle.capture_log.specs.Gathering.{Holds, Gathers, EndsLine, IsOneLine};
+ghost use Rattle.capture_log.specs.lemma.Gathering.{Holds, Gathers, EndsLine, IsOneLine};
 ghost use Rattle.capture_log.specs.declared.replay_end.ReplayEnd.{ReplayEnd as End};
 
 use crate::capture::Capture;
@@ -23,7 +23,7 @@ pub struct Reader<K: Keeper> {
 }
 
 impl<K: Keeper> Model for Reader<K> {
-    ghost use Rattle.capture_log.specs.Gathering.{ReaderState};
+    ghost use Rattle.capture_log.specs.lemma.Gathering.{ReaderState};
 
     ghost Value = { ReaderState };
 

@@ -1,7 +1,7 @@
 //! Replaying a capture that is read from a source.
 ghost use Rattle.std.specs.Prelude.{◌≡◌, ◌<◌, ◌^◌, false, []};
 ghost use Rattle.capture_server.specs.Keepers.{AreFresh};
-ghost use Rattle.capture_log.specs.Gathering.{Holds};
+ghost use Rattle.capture_log.specs.lemma.Gathering.{Holds};
 ghost use Rattle.capture_log.specs.Reading.{Replays};
 
 use crate::reader::Reader;

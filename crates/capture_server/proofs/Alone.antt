@@ -5,10 +5,11 @@ use Rattle.std.specs.Prelude.{slice_get}
 use Rattle.afp_core.specs.Places.{upto}
 use Rattle.afp_core.specs.ServerState.{ServerState}
 use Rattle.afp_core.specs.Sureness.{SureKept}
-use Rattle.afp_core.specs.Telling.{start_of, core_of, shown_of}
+use Rattle.afp_core.specs.Telling.{start_of, core_of}
+use Rattle.afp_core.specs.lemma.Telling.{shown_of}
 use Rattle.afp_core.specs.declared.list_teller.ListTeller.{ListTeller}
 use Rattle.afp_serial.specs.Shown.{Shown}
-use Rattle.capture_server.specs.Tellers.{NeverFails}
+use Rattle.capture_server.specs.lemma.Tellers.{NeverFails}
 use Rattle.record_keeper.specs.declared.keeper.Keeper.{Ghosts}
 
 -- Each ask of its history was its own, and no keeper has failed.

@@ -23,9 +23,10 @@ use Rattle.afp_server.specs.declared.tally.Tally.{Tally}
 use Rattle.afp_server.proofs.Traces.{spelling_of-append}
 use Rattle.capture_server.specs.Connections.{Connection, fed_with, difference, output}
 use Rattle.capture_server.specs.declared.difference.Difference.{Difference}
-use Rattle.capture_server.specs.Moves.{Extends, FeedsConnection, RestsConnection, LosesConnection, Compares, wire_or}
+use Rattle.capture_server.specs.lemma.Moves.{Extends, FeedsConnection, RestsConnection, LosesConnection, Compares, wire_or}
 use Rattle.capture_server.specs.CaptureState.{after_quiet, after_loss}
-use Rattle.capture_server.specs.States.{ConnectionState, IsConnection, IsLive, IsWire, FeedsWire, GoesOn}
+use Rattle.capture_server.specs.States.{ConnectionState, IsConnection, IsLive, IsWire}
+use Rattle.capture_server.specs.lemma.States.{FeedsWire, GoesOn}
 use Rattle.capture_server.proofs.Alone.{IsAlone}
 use Rattle.capture_server.proofs.Histories.{Asks, asks}
 

@@ -7,7 +7,8 @@ use Rattle.dsi_frame.specs.Deframe.{GivenOut}
 use Rattle.dsi_frame.specs.Frame.{Frame}
 use Rattle.afp_server.specs.LinkRun.{Fills}
 use Rattle.afp_server.specs.Tally.{answered_after}
-use Rattle.afp_server.specs.Wire.{WireState, feed_point, Handled, Feeds}
+use Rattle.afp_server.specs.Wire.{WireState, Handled}
+use Rattle.afp_server.specs.lemma.Wire.{feed_point, Feeds}
 use Rattle.afp_server.specs.declared.stage.FrameEnd.{FrameEnd}
 use Rattle.afp_server.specs.declared.stage.FrameEnd.TheVariants as ends
 use Rattle.afp_server.specs.declared.tally.Tally.{Tally}
@@ -15,7 +16,7 @@ use Rattle.afp_server.specs.declared.wire.WireEnd.{WireEnd}
 use Rattle.afp_server.specs.declared.wire.WireEnd.TheVariants as wires
 use Rattle.afp_server.proofs.Traces.{fills-one}
 use Rattle.capture_server.specs.Connections.{FramesEnd}
-use Rattle.capture_server.specs.States.{FeedsWire, is_end}
+use Rattle.capture_server.specs.lemma.States.{FeedsWire, is_end}
 use Rattle.capture_server.proofs.Alone.{IsAlone}
 use Rattle.capture_server.proofs.Histories.{Asks, asks}
 

@@ -13,7 +13,7 @@ use Rattle.afp_serial.specs.Household.{Household}
 use Rattle.afp_serial.specs.World.{fresh_world, start_world}
 use Rattle.afp_volume.specs.VolumeState.{VolumeState, fresh_volume}
 use Rattle.capture_server.specs.Keepers.{AreNew, IsNew}
-use Rattle.capture_server.specs.Tellers.{NeverFails}
+use Rattle.capture_server.specs.lemma.Tellers.{NeverFails}
 use Rattle.kept_volume.specs.Kept.{KeptState}
 use Rattle.record_keeper.specs.Records.{Records}
 use Rattle.volume_keeper.specs.Loading.{IsFaultIn}

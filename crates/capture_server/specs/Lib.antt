@@ -1,9 +1,7 @@
 pub mod Connections
 pub mod Counting
 pub mod Keepers
-pub mod Moves
 pub mod Running
-pub mod Slots
 pub mod CaptureState
 pub mod States
-pub mod Tellers
+pub mod lemma

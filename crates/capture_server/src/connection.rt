@@ -1,15 +1,16 @@
 //! One connection of a capture.
 ghost use Rattle.std.specs.Prelude.{◌≡◌, ◌≢◌, ◌+◌, ◌^◌, ◌<◌, ◌≤◌, List, ℕ, true, false, None, Some, IfOk, OnOk, length, drop};
-ghost use Rattle.afp_core.specs.Telling.{start_of, shown_of};
+ghost use Rattle.afp_core.specs.Telling.{start_of};
+ghost use Rattle.afp_core.specs.lemma.Telling.{shown_of};
 ghost use Rattle.afp_serial.specs.StatusBlock.{status_block};
 ghost use Rattle.afp_serial.specs.declared.ask.Told.{Told};
-ghost use Rattle.capture_server.specs.Moves.{wire_or};
-ghost use Rattle.capture_server.specs.Tellers.{NeverFails};
+ghost use Rattle.capture_server.specs.lemma.Moves.{wire_or};
+ghost use Rattle.capture_server.specs.lemma.Tellers.{NeverFails};
 ghost use Rattle.capture_server.specs.CaptureState.{after_quiet, after_loss};
 ghost use Rattle.afp_server.specs.declared.stage.Stage.{Stage};
 ghost use Rattle.dsi_frame.specs.Deframe.{GivenOut};
 ghost use Rattle.dsi_frame.specs.Frame.{Frame};
-ghost use Rattle.capture_server.specs.States.{FeedsWire, GoesOn, is_end};
+ghost use Rattle.capture_server.specs.lemma.States.{FeedsWire, GoesOn, is_end};
 
 use crate::difference::{Difference, first_difference};
 use afp_base::{Bytes, LinkNumber, Moment, OutOfMemory};
@@ -106,7 +107,7 @@ fn wire_of(
 
 impl Connection {
     ghost use Rattle.capture_server.specs.States.{IsConnection, unused_state};
-    ghost use Rattle.capture_server.specs.Moves.{FeedsConnection, RestsConnection, LosesConnection, Compares};
+    ghost use Rattle.capture_server.specs.lemma.Moves.{FeedsConnection, RestsConnection, LosesConnection, Compares};
     ghost use Rattle.capture_server.specs.Connections.{Connection as Peer};
     ghost use Rattle.afp_server.specs.Wire.{open_link};
 

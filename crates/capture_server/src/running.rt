@@ -1,9 +1,10 @@
 //! The server that a capture is replayed on, and its connections.
 ghost use Rattle.std.specs.Prelude.{◌≡◌, ◌<◌, ◌≤◌, ℕ, suc, false, Some, IfOk, OnOk, length};
 ghost use Rattle.capture_lines.specs.declared.line.What.{What};
-ghost use Rattle.capture_server.specs.Running.{AreUnused, Happened, HappensBy};
+ghost use Rattle.capture_server.specs.Running.{AreUnused, Happened};
+ghost use Rattle.capture_server.specs.lemma.Running.{HappensBy};
 ghost use Rattle.capture_server.specs.CaptureState.{CaptureState, is_refused_on};
-ghost use Rattle.capture_server.specs.Tellers.{NeverFails};
+ghost use Rattle.capture_server.specs.lemma.Tellers.{NeverFails};
 ghost use Rattle.afp_serial.specs.World.{fresh_world};
 
 use crate::connection::Connection;
@@ -33,9 +34,10 @@ pub struct Running<K: Keeper> {
 }
 
 impl<K: Keeper> Model for Running<K> {
-    ghost use Rattle.afp_core.specs.Telling.{start_of, shown_of};
+    ghost use Rattle.afp_core.specs.Telling.{start_of};
+    ghost use Rattle.afp_core.specs.lemma.Telling.{shown_of};
     ghost use Rattle.capture_server.specs.States.{RunningState};
-    ghost use Rattle.capture_server.specs.Tellers.{NeverFails};
+    ghost use Rattle.capture_server.specs.lemma.Tellers.{NeverFails};
 
     ghost Value = { RunningState };
 

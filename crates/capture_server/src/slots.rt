@@ -1,9 +1,10 @@
 //! Connections by their places.
 ghost use Rattle.std.specs.Prelude.{◌≡◌, ◌<◌, ℕ, Some, false, length, slice_get, IfOk, OnOk};
-ghost use Rattle.afp_core.specs.Telling.{start_of, shown_of};
+ghost use Rattle.afp_core.specs.Telling.{start_of};
+ghost use Rattle.afp_core.specs.lemma.Telling.{shown_of};
 ghost use Rattle.afp_serial.specs.StatusBlock.{status_block};
-ghost use Rattle.capture_server.specs.Slots.{FeedsAt, RestsAt, LosesAt, ComparesAt, IsFit};
-ghost use Rattle.capture_server.specs.Tellers.{NeverFails};
+ghost use Rattle.capture_server.specs.lemma.Slots.{FeedsAt, RestsAt, LosesAt, ComparesAt, IsFit};
+ghost use Rattle.capture_server.specs.lemma.Tellers.{NeverFails};
 ghost use Rattle.capture_server.specs.States.{ConnectionState};
 
 use crate::connection::Connection;

@@ -11,7 +11,7 @@ use Rattle.afp_volume.specs.Order.{put_in}
 use Rattle.afp_volume.specs.TypedVolume.{is_typed_appl, is_typed_comment, is_typed_icon}
 use Rattle.afp_volume.specs.SoundVolume.{appl_key, icon_key, is_comment, is_icon}
 use Rattle.afp_volume.specs.VolumeState.{Appl, Comment, Icon}
-use Rattle.desktop_db.specs.Kept.{AreKept}
+use Rattle.desktop_db.specs.lemma.Kept.{AreKept}
 use Rattle.desktop_db.specs.declared.fault.DeskFault.{DeskFault}
 use Rattle.desktop_db.specs.declared.fault.DeskFault.TheVariants as fault
 

@@ -16,7 +16,7 @@ use Rattle.afp_volume.proofs.Ordered.{before-one-way}
 use Rattle.afp_volume.proofs.TestedLists.{all-weaker, none-find}
 use Rattle.afp_volume.specs.Desktop.{at_key, without_key}
 use Rattle.afp_volume.specs.Order.{stands_before, put_in, rises}
-use Rattle.desktop_db.specs.Places.{IsPlaceOf, IsGapFor}
+use Rattle.desktop_db.specs.lemma.Places.{IsPlaceOf, IsGapFor}
 
 flip : (t : Bool) → not t ≡ true → t ≡ false
 flip true h = absurd (cc)

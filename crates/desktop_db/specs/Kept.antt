@@ -1,8 +1,6 @@
 -- A desktop database as contracts see it (AFP Reference, "Desktop database"; the form is this profile's).
 use Rattle.std.specs.Prelude.{ℕ, List}
-use denote.Ref.{Bor}
 use Rattle.afp_base.specs.declared.ids.NodeId.{NodeId}
-use Rattle.afp_volume.specs.Desktop.{IsDesktop, IsTypedDesktop}
 use Rattle.afp_volume.specs.VolumeState.{Comment, Icon, Appl}
 
 -- a volume's comments, icons and APPL mappings, and how many elements more each list takes with no memory
@@ -11,11 +9,6 @@ pub record DesktopValue : Type 0 where
   pub icons : List Icon
   pub appls : List Appl
   pub spare : ℕ
-
--- what the type keeps: the lists are a desktop's, and their numbers are in their ranges
-pub record AreKept (comments : List Comment) (icons : List Icon) (appls : List Appl) : Type 0 where
-  pub desktop : IsDesktop comments icons appls
-  pub typed : IsTypedDesktop comments icons appls
 
 -- what an icon that is lent shows: its tag and its bits
 abbrev pub shown_icon : ℕ × Bor (List ℕ) → ℕ × List ℕ

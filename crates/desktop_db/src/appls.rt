@@ -5,7 +5,7 @@ ghost use Rattle.std.specs.List.{list_all, prefix_len};
 ghost use Rattle.afp_volume.specs.Desktop.{appl_at, creators_of, has_no_appl_room, is_appl, pair_key, with_appl, without_appl, without_mappings, nth_appl as definition_of_nth};
 ghost use Rattle.afp_volume.specs.Order.{rises, stands_before};
 ghost use Rattle.afp_volume.specs.SoundVolume.{appl_key};
-ghost use Rattle.desktop_db.specs.Places.{IsPlaceOf, IsGapFor};
+ghost use Rattle.desktop_db.specs.lemma.Places.{IsPlaceOf, IsGapFor};
 
 use crate::appl::Appl;
 use crate::fault::DeskFault;

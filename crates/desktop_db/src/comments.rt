@@ -3,7 +3,7 @@ ghost use Rattle.std.specs.Prelude.{◌≡◌, ◌<◌, ◌≤◌, ◌+◌, ◌�
 ghost use Rattle.std.specs.Option.{option_copied};
 ghost use Rattle.afp_volume.specs.Desktop.{comment_at, comment_key, without_comment};
 ghost use Rattle.afp_volume.specs.Order.{put_in, rises};
-ghost use Rattle.desktop_db.specs.Places.{IsPlaceOf, IsGapFor};
+ghost use Rattle.desktop_db.specs.lemma.Places.{IsPlaceOf, IsGapFor};
 
 use crate::comment::Comment;
 use crate::place::insert_at;

@@ -30,7 +30,8 @@ pub struct Desktop {
 
 impl Model for Desktop {
     ghost use Rattle.std.specs.Prelude.{◌-◌, min, vec_capacity, vec_len};
-    ghost use Rattle.desktop_db.specs.Kept.{AreKept, DesktopValue};
+    ghost use Rattle.desktop_db.specs.Kept.{DesktopValue};
+    ghost use Rattle.desktop_db.specs.lemma.Kept.{AreKept};
 
     ghost Value = { DesktopValue };
 

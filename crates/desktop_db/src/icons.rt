@@ -5,7 +5,7 @@ ghost use Rattle.std.specs.List.{list_all, prefix_len};
 ghost use Rattle.afp_volume.specs.Desktop.{has_no_icon_room, icon_at, with_icon, nth_icon as definition_of_nth};
 ghost use Rattle.afp_volume.specs.Order.{rises, stands_before};
 ghost use Rattle.afp_volume.specs.SoundVolume.{icon_key, is_icon};
-ghost use Rattle.desktop_db.specs.Places.{IsPlaceOf, IsGapFor};
+ghost use Rattle.desktop_db.specs.lemma.Places.{IsPlaceOf, IsGapFor};
 
 use crate::fault::DeskFault;
 use crate::icon::Icon;

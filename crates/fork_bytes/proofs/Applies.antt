@@ -8,7 +8,8 @@ use Rattle.std.specs.Cmp.Lexicographic.{pointwise, bytes_decides}
 use Rattle.afp_base.specs.ForkBytes.{taken}
 use Rattle.fork_bytes.specs.declared.block.Block.{Block}
 use Rattle.fork_bytes.specs.Blocks.{trimmed, block_at, block_count, blocks_of, largest_fork}
-use Rattle.fork_bytes.specs.Kept.{bytes_in, bytes_of, is_empty, are_rising, is_kept, with_put, with_puts, Fits, room_of, IsKept}
+use Rattle.fork_bytes.specs.Kept.{bytes_in, bytes_of, is_empty, are_rising, is_kept, room_of}
+use Rattle.fork_bytes.specs.lemma.Kept.{with_put, with_puts, Fits, IsKept}
 use Rattle.fork_bytes.specs.Plan.{changes_from, changes_of, added_by, HasRoom, PlanState, IsPlan}
 use Rattle.fork_bytes.proofs.Trimmed.{get_or-block, length-block, length-trimmed, trimmed-trimmed}
 use Rattle.fork_bytes.proofs.Blocks.{whole, get_or-bytes, length-bytes, block_is}

@@ -4,7 +4,8 @@ use Rattle.std.proofs.lemmas.Bool.{cond-true, cond-false, eq-eqb, ne_eqb, ltb-tr
 use Rattle.std.specs.List.{list_all}
 use Rattle.std.specs.List.Sorted.{IsPartitionedBy}
 use Rattle.fork_bytes.specs.declared.block.Block.{Block}
-use Rattle.fork_bytes.specs.Kept.{bytes_in, is_empty, are_rising, IsPlace}
+use Rattle.fork_bytes.specs.Kept.{bytes_in, is_empty, are_rising}
+use Rattle.fork_bytes.specs.lemma.Kept.{IsPlace}
 use Rattle.fork_bytes.proofs.Blocks.{parts}
 
 -- both cases of a test

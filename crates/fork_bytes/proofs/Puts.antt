@@ -4,7 +4,8 @@ use Rattle.std.proofs.lemmas.Bool.{cond_both, cond-true, cond-false, eqb-true, e
 use Rattle.std.proofs.lemmas.List.{length-take, length-drop}
 use Rattle.std.specs.List.{list_all}
 use Rattle.fork_bytes.specs.declared.block.Block.{Block}
-use Rattle.fork_bytes.specs.Kept.{bytes_in, is_empty, are_rising, in_front, behind, with_put, IsPlace}
+use Rattle.fork_bytes.specs.Kept.{bytes_in, is_empty, are_rising}
+use Rattle.fork_bytes.specs.lemma.Kept.{in_front, behind, with_put, IsPlace}
 use Rattle.fork_bytes.proofs.Blocks.{parts, whole}
 use Rattle.fork_bytes.proofs.Places.{cases, rises, none-above, behind-place}
 

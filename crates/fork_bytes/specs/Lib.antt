@@ -3,3 +3,4 @@ pub mod Kept
 pub mod Line
 pub mod Plan
 pub mod Laws
+pub mod lemma

@@ -1,6 +1,7 @@
 //! Plans carried out.
 ghost use Rattle.std.specs.Prelude.{◌≡◌, ◌≤◌, ◌<◌, ◌+◌, ◌++◌, ℕ, true, if◌then◌else◌, List, [], length, take, drop, slice_set, vec_capacity};
-ghost use Rattle.fork_bytes.specs.Kept.{are_rising, in_front, is_empty, with_put, with_puts, Fits};
+ghost use Rattle.fork_bytes.specs.Kept.{are_rising, is_empty};
+ghost use Rattle.fork_bytes.specs.lemma.Kept.{in_front, with_put, with_puts, Fits};
 ghost use Rattle.fork_bytes.specs.Plan.{IsPlan};
 
 use crate::block::Block;

@@ -1,7 +1,8 @@
 //! A fork.
 ghost use Rattle.std.specs.Prelude.{◌≡◌, ◌≢◌, ◌≤◌, ◌<◌, ◌+◌, ◌^◌, true, false, [], length, slice_index_or, vec_capacity, IfOk};
 ghost use Rattle.fork_bytes.specs.Blocks.{block_at, blocks_of, largest_fork};
-ghost use Rattle.fork_bytes.specs.Kept.{are_rising, IsPlace, room_of};
+ghost use Rattle.fork_bytes.specs.Kept.{are_rising, room_of};
+ghost use Rattle.fork_bytes.specs.lemma.Kept.{IsPlace};
 
 use crate::block::Block;
 use afp_base::OutOfMemory;
@@ -20,7 +21,8 @@ pub struct Fork {
 
 impl Model for Fork {
     ghost use Rattle.std.specs.Prelude.{List, ℕ, vec_capacity};
-    ghost use Rattle.fork_bytes.specs.Kept.{bytes_of, IsKept};
+    ghost use Rattle.fork_bytes.specs.Kept.{bytes_of};
+    ghost use Rattle.fork_bytes.specs.lemma.Kept.{IsKept};
 
     ghost Value = { List ℕ };
 

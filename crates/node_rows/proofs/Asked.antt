@@ -18,7 +18,7 @@ use Rattle.afp_volume.specs.Walk.{child_by_key}
 use Rattle.node_rows.proofs.Siblings.{is_of}
 use Rattle.node_rows.proofs.Sorting.{order-find, order-filter, order-differs}
 use Rattle.node_rows.specs.Children.{child_of, child_order, children_of, node_id}
-use Rattle.node_rows.specs.Kept.{AreKept}
+use Rattle.node_rows.specs.lemma.Kept.{AreKept}
 use Rattle.node_rows.specs.declared.child.Child.{Child}
 
 in-order : (rows : List Row) (children : List Child) (next : ℕ) → AreKept rows children next → rises child_order (in_order child_order (map child_of rows)) ≡ true

@@ -18,7 +18,8 @@ use Rattle.afp_volume.specs.VolumeState.{Row}
 use Rattle.afp_volume.specs.Walk.{row_at, child_by_key}
 use Rattle.node_rows.proofs.Sorting.{put-comm, order-filter, number_place, same-back}
 use Rattle.node_rows.specs.Children.{child_of, child_order, children_of}
-use Rattle.node_rows.specs.Kept.{AreKept, admitted}
+use Rattle.node_rows.specs.Kept.{admitted}
+use Rattle.node_rows.specs.lemma.Kept.{AreKept}
 use Rattle.node_rows.specs.lemma.Places.{IsPlaceOf, is_other, is_apart}
 use Rattle.node_rows.specs.declared.child.Child.{Child}
 

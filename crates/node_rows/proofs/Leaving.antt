@@ -15,7 +15,7 @@ use Rattle.afp_volume.specs.Walk.{row_at}
 use Rattle.node_rows.proofs.Siblings.{parent-before}
 use Rattle.node_rows.proofs.Sorting.{before-differs, key_place, order-all-back}
 use Rattle.node_rows.specs.Children.{child_of, child_order}
-use Rattle.node_rows.specs.Kept.{AreKept}
+use Rattle.node_rows.specs.lemma.Kept.{AreKept}
 use Rattle.node_rows.specs.lemma.Places.{is_child, is_child_at, is_other}
 use Rattle.node_rows.specs.declared.child.Child.{Child}
 

@@ -6,7 +6,8 @@ use Rattle.std.proofs.lemmas.Bool.{and_parts, and_from, cases_Bool, cond-true, c
 use Rattle.afp_volume.proofs.TestedLists.{all-weaker}
 use Rattle.afp_volume.specs.Order.{stands_before, rises}
 use Rattle.node_rows.proofs.Sorting.{kept-past, kept-at, key_place}
-use Rattle.node_rows.specs.Children.{child_order, kept}
+use Rattle.node_rows.specs.Children.{child_order}
+use Rattle.node_rows.specs.lemma.Children.{kept}
 use Rattle.node_rows.specs.declared.child.Child.{Child}
 
 -- whether a child is this parent's

@@ -17,7 +17,7 @@ use Rattle.afp_volume.specs.SoundVolume.{are_named_alike, has_rising_ids, last_n
 use Rattle.afp_volume.specs.VolumeState.{Row}
 use Rattle.node_rows.proofs.Sorting.{same-back}
 use Rattle.node_rows.specs.Children.{child_of, child_order, children_of}
-use Rattle.node_rows.specs.Kept.{AreKept}
+use Rattle.node_rows.specs.lemma.Kept.{AreKept}
 use Rattle.node_rows.specs.declared.child.Child.{Child}
 
 abbrev alike : Child → Child → Bool

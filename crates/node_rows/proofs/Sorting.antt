@@ -10,7 +10,7 @@ use Rattle.afp_volume.proofs.Rising.{above-all}
 use Rattle.afp_volume.proofs.TestedLists.{all-weaker, all-filter, none-find}
 use Rattle.afp_volume.specs.Order.{stands_before, put_in, in_order, rises, rises_from}
 use Rattle.afp_base.specs.Apart.{are_apart}
-use Rattle.node_rows.specs.Children.{kept}
+use Rattle.node_rows.specs.lemma.Children.{kept}
 
 -- keys
 

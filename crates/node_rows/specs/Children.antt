@@ -1,5 +1,5 @@
 -- The children of directories in one list, by parent and key (AFP Reference, "Enumerate"; the form is this profile's).
-use Rattle.std.specs.Prelude.{ℕ, Bool, List, ◌∷◌, map, Option, Some, None, if◌then◌else◌}
+use Rattle.std.specs.Prelude.{ℕ, List, ◌∷◌, map}
 use Rattle.afp_base.specs.declared.ids.NodeId.{NodeId}
 use Rattle.afp_names.specs.Name.{name_key}
 use Rattle.afp_volume.specs.Order.{in_order}
@@ -20,8 +20,3 @@ child_order child = child.parent.0 ∷ child.key
 -- one child for each row, by rising parent and then by key
 abbrev pub children_of : List Row → List Child
 children_of rows = in_order child_order (map child_of rows)
-
--- what is there, if it passes a test
-abbrev pub kept : {A : Type 0} → (A → Bool) → Option A → Option A
-kept test None = None
-kept test (Some x) = if test x then Some x else None

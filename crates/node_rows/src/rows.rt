@@ -37,7 +37,8 @@ pub struct Rows {
 
 impl Model for Rows {
     ghost use Rattle.std.specs.Prelude.{◌-◌, min, vec_capacity, vec_len};
-    ghost use Rattle.node_rows.specs.Kept.{AreKept, RowsValue};
+    ghost use Rattle.node_rows.specs.Kept.{RowsValue};
+    ghost use Rattle.node_rows.specs.lemma.Kept.{AreKept};
 
     ghost Value = { RowsValue };
 

@@ -8,7 +8,8 @@ use Rattle.afp_serial.specs.Household.{Household}
 use Rattle.afp_serial.specs.Shown.{Shown}
 use Rattle.plain_server.specs.declared.links.DoorEnd.{DoorEnd}
 use Rattle.plain_server.specs.declared.links.DoorEnd.TheVariants as doors
-use Rattle.plain_server.specs.Links.{ServesLink, ServesEach, ServesOne, ServesNext, ServesUpTo, ServedSoFar}
+use Rattle.plain_server.specs.Links.{ServesLink, ServesEach, ServesOne, ServesUpTo}
+use Rattle.plain_server.specs.lemma.Links.{ServesNext, ServedSoFar}
 
 each-more : {L P : Type 0} (state : L → LinkState) (passed : P → Passed) (house : Household) (a b c : Shown) (links : List L) (link : L)
     → ServesEach state passed house a links b → ServesLink state passed house b link c → ServesEach state passed house a (links ++ link ∷ []) c

@@ -6,7 +6,8 @@ use Rattle.std.proofs.lemmas.Bool.{and_from, and_parts, not-true}
 use Rattle.std.proofs.Math.Seq.{drop-append_seam, take-append_seam}
 use Rattle.std.proofs.lemmas.List.{append_cancel_right, take-append-drop}
 use Rattle.std.proofs.lemmas.Slice.Eq.{bytes_eq-Decides}
-use Rattle.plain_server.specs.Words.{AreMemoryVolumes, IsMemoryVolume, is_memory_volume, name_in}
+use Rattle.plain_server.specs.Words.{AreMemoryVolumes, IsMemoryVolume, name_in}
+use Rattle.plain_server.specs.lemma.Words.{is_memory_volume}
 
 -- a word that passes is a volume of its name
 memory-of : (word : List ℕ) → is_memory_volume word ≡ true → IsMemoryVolume word (name_in word)

@@ -6,3 +6,4 @@ pub mod Reporting
 pub mod Setup
 pub mod Spoken
 pub mod Words
+pub mod lemma

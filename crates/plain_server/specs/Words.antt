@@ -1,5 +1,5 @@
 -- The words of the server's command line (this profile).
-use Rattle.std.specs.Prelude.{◌≡◌, ◌==◌, ℕ, ◌-◌, ◌<◌, ◌≤◌, ◌^◌, Bool, not, ◌&&◌, List, [], ◌∷◌, ◌++◌, length, take, drop, bytes_eq, codes, false, Ok}
+use Rattle.std.specs.Prelude.{◌≡◌, ◌==◌, ℕ, ◌-◌, ◌<◌, ◌≤◌, ◌^◌, List, [], ◌∷◌, ◌++◌, length, take, codes, false, Ok}
 use Rattle.std.specs.List.{list_any}
 use Rattle.std.specs.Fmt.{decimal}
 use Rattle.hex.specs.Hex.{decode_sized}
@@ -20,9 +20,6 @@ pub record IsMemoryVolume (word name : List ℕ) : Type 0 where
 -- the name in front of the place of a volume, and whether the word is a volume that is kept in memory
 abbrev pub name_in : List ℕ → List ℕ
 name_in word = take (length word - 7) word
-
-abbrev pub is_memory_volume : List ℕ → Bool
-is_memory_volume word = bytes_eq (drop (length word - 7) word) (codes "=memory") && not (list_any (λ byte. byte == 61) (name_in word))
 
 -- each word is a volume that is kept in memory, of this name
 abbrev pub AreMemoryVolumes : List (List ℕ) → List (List ℕ) → Type 0

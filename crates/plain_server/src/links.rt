@@ -1,7 +1,8 @@
 //! Serving the links that come through a door, one after the other.
 ghost use Rattle.std.specs.Prelude.{◌≡◌, false};
 ghost use Rattle.afp_serial.specs.Shown.{IsSoundShown};
-ghost use Rattle.plain_server.specs.Links.{ServesNext, ServesUpTo};
+ghost use Rattle.plain_server.specs.Links.{ServesUpTo};
+ghost use Rattle.plain_server.specs.lemma.Links.{ServesNext};
 
 use afp_outside::{Accepted, Gate, Listener};
 use afp_serial::{House, Teller};

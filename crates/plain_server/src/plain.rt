@@ -4,7 +4,8 @@ ghost use Rattle.afp_serial.specs.HouseFault.{house_fault};
 ghost use Rattle.plain_server.specs.Spoken.{spoken_of};
 ghost use Rattle.plain_server.specs.Words.{name_in};
 ghost use Rattle.plain_server.specs.Keeping.{keeping};
-ghost use Rattle.plain_server.specs.Plain.{house_of, EndsCore, EndsLoad, EndsPlain, EndsHouse, Status, IsPlainRun};
+ghost use Rattle.plain_server.specs.Plain.{house_of, EndsPlain, Status, IsPlainRun};
+ghost use Rattle.plain_server.specs.lemma.Plain.{EndsCore, EndsLoad, EndsHouse};
 
 use crate::links::{DoorEnd, serve_links};
 use crate::report::{report_all, report_bad, report_counts, report_fault};

@@ -4,7 +4,8 @@ ghost use Rattle.std.specs.Fmt.{decimal};
 ghost use Rattle.std.specs.List.{list_all, list_any};
 ghost use Rattle.std.specs.Result.{result_ok};
 ghost use Rattle.hex.specs.Hex.{decode_sized};
-ghost use Rattle.plain_server.specs.Words.{Spoken, IsWords, IsNumberOfLinks, is_memory_volume, name_in};
+ghost use Rattle.plain_server.specs.Words.{Spoken, IsWords, IsNumberOfLinks, name_in};
+ghost use Rattle.plain_server.specs.lemma.Words.{is_memory_volume};
 ghost use Rattle.plain_server.specs.Spoken.{spoken_of};
 
 use std::alloc::{AllocError, Global};

@@ -12,10 +12,6 @@ use Rattle.plain_tool.specs.Lines.{frame_lines, rest_line, bad_frame_line}
 use Rattle.plain_tool.specs.Telling.{Tells}
 use Rattle.plain_tool.specs.declared.checking.CheckEnd.{CheckEnd}
 use Rattle.plain_tool.specs.declared.checking.CheckEnd.TheVariants as ends
-use Rattle.plain_tool.specs.declared.checking.CheckStop.{CheckStop}
-use Rattle.plain_tool.specs.declared.checking.CheckStop.TheVariants as stops
-use Rattle.plain_tool.specs.declared.checking.FramesEnd.{FramesEnd}
-use Rattle.plain_tool.specs.declared.checking.FramesEnd.TheVariants as frames_ends
 
 -- The bytes that were read are these frames, and end so: in less than a frame, where the source has ended; at a bad header; or nothing
 -- decides, and the read failed, or as many bytes were taken as may be.
@@ -55,12 +51,6 @@ pub record PrintsPart (start : SinkState) (bytes : List ℕ) (now : SinkState) :
   pub whole : bytes ≡ filled ++ more
   pub printed : ReportsPart start (frame_lines 0 frames) now
 
--- Whole frames at the front were printed, up to less than a frame, to a bad header, or to a write that failed.
-abbrev pub PrintsTo : SinkState → List ℕ → FramesEnd → Buffered → SinkState → Type 0
-PrintsTo start bytes frames_ends.More b now = Prints start bytes b now × IsUnfinished b.rest × (length b.rest < buffer_length)
-PrintsTo start bytes (frames_ends.Bad bad) b now = (frames : List Frame) × Stopped bytes frames bad.at bad.reason × Reports start (frame_lines 0 frames) now
-PrintsTo start bytes frames_ends.WriteFault b now = PrintsPart start bytes now
-
 -- A stream was read so far, and its frames were printed.
 pub record HasChecked (old : SourceState) (start : SinkState) (b : Buffered) (taken : ℕ) (new : SourceState) (now : SinkState) : Type 0 where
   pub read : List ℕ
@@ -86,10 +76,6 @@ pub record ChecksPart (old new : SourceState) (start now : SinkState) : Type 0 w
   pub given : new.given ≡ option_map (λ given. given ++ read) old.given
   pub faults : new.faults ≡ old.faults
   pub printed : PrintsPart start read now
-
-abbrev pub ChecksTo : ℕ → SourceState → SourceState → SinkState → SinkState → CheckStop → Type 0
-ChecksTo turns old new start now (stops.Ended end) = Checks turns old new start now end
-ChecksTo turns old new start now stops.WriteFault = ChecksPart old new start now
 
 -- A whole check: all is printed, and the status says how the stream ends; or a write failed in the last line.
 pub record TellsCheck (turns : ℕ) (old new : SourceState) (before after : SinkState) (status : ℕ) : Type 0 where

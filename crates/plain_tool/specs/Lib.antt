@@ -2,3 +2,4 @@ pub mod Checking
 pub mod Lines
 pub mod Telling
 pub mod Tool
+pub mod lemma

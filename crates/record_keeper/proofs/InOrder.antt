@@ -12,7 +12,8 @@ use Rattle.std.specs.FinMap.{get, entries, entries_sorted, get-entries}
 use Rattle.std.specs.FinMap.Entries.{find, is_sorted, below_all}
 use Rattle.record_keeper.specs.declared.record.Record.{Record}
 use Rattle.record_keeper.specs.Records.{Records, IsAbove, IsNextKey, Makes, same_records}
-use Rattle.record_keeper.specs.Reading.{entry_of, IsBelow, Rises, last_key, IsFront, IsAll}
+use Rattle.record_keeper.specs.Reading.{entry_of, IsBelow, Rises, IsAll}
+use Rattle.record_keeper.specs.lemma.Reading.{last_key, IsFront}
 use Rattle.record_keeper.proofs.KeptRows.{by_bytes, one_key}
 
 -- a key is above those of all these records

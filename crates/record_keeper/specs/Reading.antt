@@ -1,5 +1,5 @@
 -- Reading all that a keeper keeps, by rising key (this profile).
-use Rattle.std.specs.Prelude.{◌≡◌, ℕ, ◌<◌, ◌≤◌, Bool, true, false, List, [], ◌∷◌, ◌++◌, map, Option, Some, None, Result, OnOk, IfErr, option_map}
+use Rattle.std.specs.Prelude.{◌≡◌, ℕ, ◌<◌, ◌≤◌, Bool, true, List, [], ◌∷◌, map, Some, Result, OnOk, IfErr, option_map}
 use Rattle.std.specs.FinMap.{entries}
 use Rattle.std.specs.List.{slice_get}
 use Rattle.std.specs.Cmp.Lexicographic.{slice_cmp}
@@ -28,24 +28,9 @@ abbrev pub Rises : List Record → Type 0
 Rises [] = Unit {0}
 Rises (r ∷ records) = IsBelow r.key records × Rises records
 
--- the key of the last record
-abbrev pub last_key : List Record → Option (List ℕ)
-last_key [] = None
-last_key (r ∷ []) = Some r.key
-last_key (r ∷ s ∷ records) = last_key (s ∷ records)
-
--- the records are the first of those that are kept, by rising key
-abbrev pub IsFront : Records → List Record → Type 0
-IsFront kept read = (rest : List (List ℕ × List ℕ)) × (entries kept ≡ map entry_of read ++ rest)
-
 -- the records are all that are kept, by rising key
 abbrev pub IsAll : Records → List Record → Type 0
 IsAll kept read = entries kept ≡ map entry_of read
-
--- there may be more records, or these are all
-abbrev pub GoesOn : Bool → Records → List Record → Type 0
-GoesOn true kept read = IsFront kept read
-GoesOn false kept read = IsAll kept read
 
 -- What a fault says of what is kept. TooMany has the key behind the most that are read. Inconsistent comes of no keeper that tells its records.
 abbrev pub IsFaultOf : Records → ReadFault → Type 0

@@ -3,7 +3,8 @@ ghost use Rattle.std.specs.Prelude.{◌≡◌, ◌↔◌, IfOk, IsTrue, OnOk, On
 ghost use Rattle.std.specs.FinMap as map;
 ghost use Rattle.std.specs.Option.{option_copied};
 ghost use Rattle.record_keeper.specs.Causes.{HasCause};
-ghost use Rattle.record_keeper.specs.Planned.{MemoryState, after_call, fails_next, never_fails};
+ghost use Rattle.record_keeper.specs.Planned.{MemoryState, never_fails};
+ghost use Rattle.record_keeper.specs.lemma.Planned.{after_call, fails_next};
 ghost use Rattle.record_keeper.specs.Records.{changed, IsNextKey};
 
 use crate::keeper::{Keeper, KeeperFault};
@@ -27,13 +28,15 @@ pub struct MemoryKeeper {
 }
 
 impl Model for MemoryKeeper {
-    ghost use Rattle.record_keeper.specs.Planned.{MemoryState, state_code};
+    ghost use Rattle.record_keeper.specs.Planned.{MemoryState};
+    ghost use Rattle.record_keeper.specs.lemma.Planned.{state_code};
 
     ghost Value = { MemoryState };
 
     ghost coded = { state_code };
 
-    ghost use Rattle.record_keeper.specs.Rows.{kept, HasNoRoom};
+    ghost use Rattle.record_keeper.specs.Rows.{kept};
+    ghost use Rattle.record_keeper.specs.lemma.Rows.{HasNoRoom};
 
     ghost view = { λ a. record { records = kept a.rows.entries; planned = a.planned } };
 

@@ -1,6 +1,7 @@
 //! Which calls of a keeper in memory fail.
 ghost use Rattle.std.specs.Prelude.{◌≡◌, ◌≤◌};
-ghost use Rattle.record_keeper.specs.Planned.{Planned, fails_next, after_call};
+ghost use Rattle.record_keeper.specs.Planned.{Planned};
+ghost use Rattle.record_keeper.specs.lemma.Planned.{fails_next, after_call};
 
 use std::marker::Model;
 

@@ -2,7 +2,8 @@
 ghost use Rattle.std.specs.Prelude.{◌≡◌, ◌+◌, ◌≤◌, ◌↔◌, length, IfOk, IfErr, IfSome, IsTrue, OnOk, if◌then◌else◌};
 ghost use Rattle.std.specs.Option.{option_copied};
 ghost use Rattle.record_keeper.specs.Causes.{HasCause};
-ghost use Rattle.record_keeper.specs.Reading.{GoesOn, HasReadCause, IsAll, IsFaultOf, IsFront, Rises, last_key, most_records};
+ghost use Rattle.record_keeper.specs.Reading.{HasReadCause, IsAll, IsFaultOf, Rises, most_records};
+ghost use Rattle.record_keeper.specs.lemma.Reading.{GoesOn, IsFront, last_key};
 ghost use Rattle.record_keeper.specs.Records.{IsAbove, IsNextKey, Makes, TellsOn, same_records};
 
 use crate::keeper::{Keeper, KeeperFault};

@@ -15,7 +15,8 @@ use Rattle.std.proofs.lemmas.List.Sorted.{searchable_from_sorted}
 use Rattle.std.proofs.lemmas.Map.{NonePasses, lookup-remove_entry, none_passes_from_lookup}
 use Rattle.std.proofs.lemmas.Map.Keys.{Less-from_sorted, IsDistinct-from_sorted}
 use Rattle.std.proofs.lemmas.Map.Entries.{length-keys_of}
-use Rattle.sorted_map.specs.Entries.{at, exchanged, with_value, IsAt, IsGapFor}
+use Rattle.sorted_map.specs.Entries.{at, exchanged, IsAt}
+use Rattle.sorted_map.specs.lemma.Entries.{with_value, IsGapFor}
 
 module _ {K : Type 0} {R : K → K → Ordering} (o : IsTotalOrder R) where
   turned : (x y : K) (r : Ordering) → R x y ≡ r → R y x ≡ ordering_reverse r

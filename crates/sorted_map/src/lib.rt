@@ -6,7 +6,8 @@ ghost use Rattle.std.specs.List.Sorted.{IsStrictlySortedBy};
 ghost use Rattle.std.specs.Map.{keys_of, update, remove_entry};
 ghost use Rattle.std.specs.BTreeMap.{insert_entry, is_at};
 ghost use Rattle.std.specs.Ordering.{eq_by_cmp};
-ghost use Rattle.sorted_map.specs.Entries.{at, exchanged, with_value, with_new_value, IsAt, IsGapFor};
+ghost use Rattle.sorted_map.specs.Entries.{at, exchanged, with_new_value, IsAt};
+ghost use Rattle.sorted_map.specs.lemma.Entries.{with_value, IsGapFor};
 
 use std::alloc::{AllocFailed, Global};
 use std::marker::Model;

@@ -16,7 +16,7 @@ use Rattle.afp_volume.specs.DesktopLaws.{IconHasParts}
 use Rattle.volume_records.specs.declared.rows.TableRow.{TableRow}
 use Rattle.volume_records.specs.declared.rows.TableRow.TheVariants as row
 use Rattle.volume_records.specs.Image.{fork_blocks, node_of, rows_of, tables_of}
-use Rattle.volume_keeper.specs.Rebuilt.{appls_with, comments_with, icons_with, with_all}
+use Rattle.volume_keeper.specs.lemma.Rebuilt.{appls_with, comments_with, icons_with, with_all}
 use Rattle.volume_keeper.proofs.GoneRecords.{first_true, second_true}
 use Rattle.volume_keeper.proofs.PlanSteps.{same_number}
 

@@ -30,7 +30,7 @@ use Rattle.volume_tree.specs.Filled.{filled, filled_row, FitsFork}
 use Rattle.afp_volume.specs.OpenFork.{file_of}
 use Rattle.afp_volume.specs.ForkEffect.{fork_of}
 use Rattle.volume_tree.specs.Shown.{fork_at}
-use Rattle.volume_keeper.specs.Rebuilt.{FitRows, FitsRow, with_block, with_blocks}
+use Rattle.volume_keeper.specs.lemma.Rebuilt.{FitRows, FitsRow, with_block, with_blocks}
 use Rattle.volume_keeper.specs.Whole.{without_desktop}
 use Rattle.volume_keeper.proofs.GoneRecords.{HasFitForks, first_true, second_true, fit_forks, ids_rise, rows_formed}
 use Rattle.volume_keeper.proofs.PlanSteps.{equal_itself, first_false, same_number, second_false}

@@ -16,8 +16,9 @@ use Rattle.record_keeper.specs.declared.record.Change.{Change}
 use Rattle.volume_records.specs.declared.rows.TableRow.TheVariants as row
 use Rattle.volume_records.specs.Image.{node_of, tables_of}
 use Rattle.volume_tree.specs.Shown.{fork_at}
-use Rattle.volume_keeper.specs.ForkChanges.{block_change, dated_head, dated_node, file_changes, fork_changes_of, node_changes, put_where_other}
-use Rattle.volume_keeper.specs.Steps.{length_of}
+use Rattle.volume_keeper.specs.ForkChanges.{block_change, file_changes, fork_changes_of, put_where_other}
+use Rattle.volume_keeper.specs.lemma.ForkChanges.{dated_head, dated_node, node_changes}
+use Rattle.volume_keeper.specs.lemma.Steps.{length_of}
 use Rattle.volume_keeper.proofs.GoneRecords.{found_is}
 
 -- one block more

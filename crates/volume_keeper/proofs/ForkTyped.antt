@@ -20,7 +20,7 @@ use Rattle.fork_bytes.specs.Laws.{BytesFromBlocks}
 use Rattle.fork_bytes.specs.Plan.{PlanState, changes_from, changes_of, with_change}
 use Rattle.volume_tree.specs.ForkEffect.{IsForkChange}
 use Rattle.volume_tree.specs.Shown.{fork_at}
-use Rattle.volume_keeper.specs.Whole.{IsHeld}
+use Rattle.volume_keeper.specs.lemma.Whole.{IsHeld}
 use Rattle.volume_keeper.proofs.ForkSteps.{longer}
 use Rattle.volume_keeper.proofs.ForkTold.{FileAt, file_at, has_room}
 use Rattle.volume_keeper.proofs.GoneRecords.{first_true, second_true}

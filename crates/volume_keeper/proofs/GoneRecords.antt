@@ -19,7 +19,7 @@ use Rattle.volume_records.specs.Image.{block_of, fork_blocks, node_of, rows_of, 
 use Rattle.afp_volume.specs.OpenFork.{file_of}
 use Rattle.volume_tree.specs.Shown.{fork_at}
 use Rattle.volume_keeper.specs.Changes.{is_of, taken}
-use Rattle.volume_keeper.specs.Steps.{all_taken, appl_taken, appls_taken, block_taken, comment_taken, fork_taken, node_taken}
+use Rattle.volume_keeper.specs.lemma.Steps.{all_taken, appl_taken, appls_taken, block_taken, comment_taken, fork_taken, node_taken}
 use Rattle.volume_keeper.proofs.PlanSteps.{filter-append, map-append, filter-map, same_number, nodes_by, blocks_by, nodes_in, blocks_in}
 
 pub first_true : (a b : Bool) → (a && b) ≡ true → a ≡ true

@@ -11,7 +11,7 @@ use Rattle.volume_records.specs.Image.{tables_of}
 use Rattle.volume_tree.specs.Planned.{PlanState, planned}
 use Rattle.volume_tree.specs.TouchedNodes.{IsTouched}
 use Rattle.volume_keeper.specs.Changes.{kept_records, put}
-use Rattle.volume_keeper.specs.Steps.{nodes_put}
+use Rattle.volume_keeper.specs.lemma.Steps.{nodes_put}
 use Rattle.volume_keeper.proofs.GoneRecords.{ids_rise, rows_formed}
 use Rattle.volume_keeper.proofs.TouchedOrder.{touched_are_put}
 

@@ -19,7 +19,8 @@ use Rattle.volume_records.specs.Laws.{ImagesRise}
 use Rattle.volume_keeper.specs.declared.loading.LoadFault.{LoadFault}
 use Rattle.volume_keeper.specs.declared.loading.LoadFault.TheVariants as fault
 use Rattle.volume_keeper.specs.Changes.{put}
-use Rattle.volume_keeper.specs.Loading.{Becomes, IsFaultIn, IsLoad, IsMadeOf, IsMake, IsReadFault}
+use Rattle.volume_keeper.specs.Loading.{Becomes, IsFaultIn, IsLoad}
+use Rattle.volume_keeper.specs.lemma.Loading.{IsMadeOf, IsMake, IsReadFault}
 use Rattle.volume_keeper.specs.Whole.{HeldValue}
 use Rattle.volume_keeper.proofs.LookUps.{by_bytes, all_put, sorted_entries}
 

@@ -16,7 +16,7 @@ use Rattle.volume_tree.specs.TouchedNodes.{is_touched, are_rising, IsTouched}
 use Rattle.volume_keeper.specs.Changes.{put}
 use Rattle.afp_volume.specs.OpenFork.{file_of}
 use Rattle.volume_tree.specs.Shown.{fork_at}
-use Rattle.volume_keeper.specs.Steps.{length_of, node_put, nodes_put, sized}
+use Rattle.volume_keeper.specs.lemma.Steps.{length_of, node_put, nodes_put, sized}
 use Rattle.volume_keeper.proofs.PlanSteps.{same_number}
 use Rattle.volume_keeper.proofs.GoneRecords.{HasFitForks, first_true, second_true, higher}
 

@@ -20,7 +20,7 @@ use Rattle.afp_volume.specs.VolumeState.{Appl, Comment, Icon, VolumeState}
 use Rattle.volume_tree.specs.Answered.{Refuses}
 use Rattle.volume_tree.specs.Planned.{PlanState, Does, IsPlan, planned, gone_comments, gone_appls}
 use Rattle.volume_tree.specs.declared.resolve.PlanFault.{PlanFault}
-use Rattle.volume_keeper.specs.Whole.{IsHeld}
+use Rattle.volume_keeper.specs.lemma.Whole.{IsHeld}
 
 -- what is refused does not depend on the desktop database
 pub refusal_same : (v : VolumeState) (comments : List Comment) (icons : List Icon) (appls : List Appl) (opens : List Opened) (call : TreeCall)

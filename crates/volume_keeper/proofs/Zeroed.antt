@@ -14,7 +14,7 @@ use Rattle.volume_records.specs.declared.rows.TableRow.{TableRow}
 use Rattle.volume_records.specs.declared.rows.TableRow.TheVariants as row
 use Rattle.volume_records.specs.Image.{node_of, rows_of, tables_of, fork_blocks}
 use Rattle.volume_tree.specs.Restored.{loaded_row, restored}
-use Rattle.volume_keeper.specs.Rebuilt.{head_said, nodes_said}
+use Rattle.volume_keeper.specs.lemma.Rebuilt.{head_said, nodes_said}
 use Rattle.volume_keeper.proofs.GoneRecords.{first_true, second_true}
 
 -- a row with zeros for the bytes of its forks

@@ -1,5 +1,5 @@
 -- What other bytes of a fork change in the records of a volume (this profile).
-use Rattle.std.specs.Prelude.{ℕ, ℤ, pos, nat_eq, Bool, if◌then◌else◌, List, [], ◌∷◌, ◌++◌, map, Option, Some, None}
+use Rattle.std.specs.Prelude.{ℕ, nat_eq, Bool, if◌then◌else◌, List, [], ◌∷◌, ◌++◌, map, Option, Some, None}
 use Rattle.std.specs.Cmp.Lexicographic.{pointwise}
 use Rattle.std.specs.List.{list_any}
 use Rattle.fork_bytes.specs.declared.block.Block.{Block}
@@ -19,7 +19,6 @@ use Rattle.volume_records.specs.declared.rows.TableRow.TheVariants as row
 use Rattle.volume_records.specs.Records.{record_of, block_key}
 use Rattle.volume_records.specs.Image.{node_of, tables_of}
 use Rattle.volume_keeper.specs.Changes.{put}
-use Rattle.volume_keeper.specs.Steps.{sized}
 
 -- the record of a row is put, where it has another value than that of the row before
 abbrev pub put_where_other : TableRow → TableRow → List Change
@@ -45,18 +44,3 @@ fork_changes_of v now id resource after writes =
 -- whether a key is named by changes
 abbrev pub names : List ℕ → List Change → Bool
 names key changes = list_any (λ change. pointwise nat_eq key (key_of change)) changes
-
--- From here on for private contracts: a node with another modified date, whose forks have so many bytes
-abbrev pub dated_node : VolumeRow → ℤ → ℕ → ℕ → Node
-dated_node r modified data_length resource_length = record (sized r data_length resource_length) { modified = modified }
-
--- the record of a node whose one fork has another length, where it is there and has another value
-abbrev pub node_changes : ℕ → Bool → ℕ → Bool → ℕ → ℕ → Option VolumeRow → List Change
-node_changes now resource len writes data_length resource_length None = []
-node_changes now resource len writes data_length resource_length (Some r) =
-    put_where_other (row.Node (sized r data_length resource_length))
-    (row.Node (dated_node r (if writes then pos now else r.modified) (if resource then data_length else len) (if resource then len else resource_length)))
-
--- a volume's head with the moment as its modified date, or as it is
-abbrev pub dated_head : ℕ → Bool → Head → Head
-dated_head now writes head = record head { modified = if writes then pos now else head.modified }

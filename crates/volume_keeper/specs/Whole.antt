@@ -1,19 +1,12 @@
 -- A volume with its desktop database, as contracts see it (the form is this profile's).
-use Rattle.std.specs.Prelude.{◌≡◌, ℕ, true, []}
+use Rattle.std.specs.Prelude.{ℕ, []}
 use Rattle.afp_volume.specs.VolumeState.{VolumeState}
-use Rattle.afp_volume.specs.SoundVolume.{IsSoundVolume}
-use Rattle.afp_volume.specs.TypedVolume.{is_typed_volume}
 use Rattle.afp_volume.specs.DesktopLaws.{with_desktop}
 
 -- a whole volume; and room: so many nodes, and so many elements of any one list of the desktop database, can be added with no memory
 pub record HeldValue : Type 0 where
   pub state : VolumeState
   pub spare : ℕ
-
--- what holds of a volume that is held
-pub record IsHeld (v : VolumeState) : Type 0 where
-  pub sound : IsSoundVolume v
-  pub typed : is_typed_volume v ≡ true
 
 -- a volume with nothing in its desktop database
 abbrev pub without_desktop : VolumeState → VolumeState

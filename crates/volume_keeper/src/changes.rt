@@ -10,7 +10,7 @@ ghost use Rattle.volume_records.specs.Image.{kept_image, tables_of};
 ghost use Rattle.volume_tree.specs.Planned.{planned, IsPlan};
 ghost use Rattle.volume_tree.specs.Shown.{fork_at};
 ghost use Rattle.volume_keeper.specs.Changes.{gone_records, kept_records, put as the_put, taken, tree_changes_of};
-ghost use Rattle.volume_keeper.specs.Steps.{length_of, node_put, nodes_put, sized};
+ghost use Rattle.volume_keeper.specs.lemma.Steps.{length_of, node_put, nodes_put, sized};
 
 use crate::gone::{push, take_all};
 use crate::held::Held;

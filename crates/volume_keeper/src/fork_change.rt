@@ -12,9 +12,10 @@ ghost use Rattle.volume_records.specs.Image.{kept_image, tables_of};
 ghost use Rattle.volume_records.specs.Records.{record_of};
 ghost use Rattle.volume_tree.specs.ForkEffect.{IsForkChange};
 ghost use Rattle.volume_tree.specs.Shown.{fork_at};
-ghost use Rattle.volume_keeper.specs.ForkChanges.{block_change, dated_head, dated_node, fork_changes_of, node_changes, put_where_other};
+ghost use Rattle.volume_keeper.specs.ForkChanges.{block_change, fork_changes_of, put_where_other};
+ghost use Rattle.volume_keeper.specs.lemma.ForkChanges.{dated_head, dated_node, node_changes};
 ghost use Rattle.volume_keeper.specs.Laws.{IsExact};
-ghost use Rattle.volume_keeper.specs.Steps.{length_of};
+ghost use Rattle.volume_keeper.specs.lemma.Steps.{length_of};
 
 use crate::gone::push;
 use crate::held::Held;

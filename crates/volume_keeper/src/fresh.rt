@@ -5,7 +5,8 @@ ghost use Rattle.afp_volume.specs.VolumeState.{VolumeState, fresh_volume, new_ro
 ghost use Rattle.record_keeper.specs.Records.{Records, Makes, changed, TellsOn};
 ghost use Rattle.volume_records.specs.Image.{node_of, rows_of, tables_of};
 ghost use Rattle.volume_keeper.specs.Changes.{put as the_put};
-ghost use Rattle.volume_keeper.specs.Loading.{Becomes, HasLoadCause, IsMake};
+ghost use Rattle.volume_keeper.specs.Loading.{Becomes, HasLoadCause};
+ghost use Rattle.volume_keeper.specs.lemma.Loading.{IsMake};
 
 use crate::changes::put;
 use crate::held::Held;

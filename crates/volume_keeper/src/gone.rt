@@ -5,7 +5,7 @@ ghost use Rattle.afp_volume.specs.DesktopLaws.{with_desktop};
 ghost use Rattle.afp_volume.specs.Walk.{row_at};
 ghost use Rattle.record_keeper.specs.declared.record.Change.TheVariants.{Remove};
 ghost use Rattle.volume_tree.specs.Shown.{fork_at};
-ghost use Rattle.volume_keeper.specs.Steps.{all_taken, appl_taken, appls_taken, block_taken, comment_taken, fork_taken, node_taken};
+ghost use Rattle.volume_keeper.specs.lemma.Steps.{all_taken, appl_taken, appls_taken, block_taken, comment_taken, fork_taken, node_taken};
 
 use afp_base::{NodeId, OutOfMemory};
 use desktop_db::{Appl, Desktop};

@@ -20,7 +20,8 @@ pub struct Held {
 impl Model for Held {
     ghost use Rattle.std.specs.Prelude.{min};
     ghost use Rattle.afp_volume.specs.DesktopLaws.{with_desktop};
-    ghost use Rattle.volume_keeper.specs.Whole.{HeldValue, IsHeld};
+    ghost use Rattle.volume_keeper.specs.Whole.{HeldValue};
+    ghost use Rattle.volume_keeper.specs.lemma.Whole.{IsHeld};
 
     ghost Value = { HeldValue };
 

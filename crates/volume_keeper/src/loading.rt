@@ -5,7 +5,8 @@ ghost use Rattle.afp_volume.specs.VolumeState.{VolumeState};
 ghost use Rattle.record_keeper.specs.Reading.{IsFaultOf, Rises};
 ghost use Rattle.record_keeper.specs.Records.{Records, TellsOn};
 ghost use Rattle.volume_records.specs.Image.{records_in};
-ghost use Rattle.volume_keeper.specs.Loading.{Becomes, HasLoadCause, IsFaultIn, IsLoad, IsMadeOf, IsNotFailed, IsReadFault};
+ghost use Rattle.volume_keeper.specs.Loading.{Becomes, HasLoadCause, IsFaultIn, IsLoad};
+ghost use Rattle.volume_keeper.specs.lemma.Loading.{IsMadeOf, IsNotFailed, IsReadFault};
 
 use crate::fresh::make_fresh;
 use crate::held::Held;

@@ -4,8 +4,9 @@ ghost use Rattle.afp_volume.specs.VolumeState.{VolumeState};
 ghost use Rattle.volume_records.specs.declared.rows.TableRow.{TableRow};
 ghost use Rattle.volume_records.specs.declared.rows.TableRow.TheVariants as row;
 ghost use Rattle.volume_records.specs.Image.{rows_of, tables_of};
-ghost use Rattle.volume_keeper.specs.Rebuilt.{FitRows, FitsRow, appls_with, comments_with, head_said, icons_with, nodes_said, with_all, with_block, with_blocks};
-ghost use Rattle.volume_keeper.specs.Whole.{IsHeld, without_desktop};
+ghost use Rattle.volume_keeper.specs.lemma.Rebuilt.{FitRows, FitsRow, appls_with, comments_with, head_said, icons_with, nodes_said, with_all, with_block, with_blocks};
+ghost use Rattle.volume_keeper.specs.Whole.{without_desktop};
+ghost use Rattle.volume_keeper.specs.lemma.Whole.{IsHeld};
 
 use crate::held::Held;
 use afp_base::laws::splice_puts_between;

@@ -14,7 +14,7 @@ use Rattle.std.proofs.lemmas.Map.Keys.{below_from_sorted, sorted_head, non_decre
 use Rattle.std.proofs.lemmas.Grind.{common_steps}
 use Rattle.volume_records.specs.declared.tree.Place.{Place}
 use Rattle.afp_volume.specs.VolumeState.{root_id}
-use Rattle.volume_records.specs.Climb.{climbs_to_root, id_of, place_in, stands, next_of, steps_of, climbed, through, Climbs, EndsAt}
+use Rattle.volume_records.specs.lemma.Climb.{climbs_to_root, id_of, place_in, stands, next_of, steps_of, climbed, through, Climbs, EndsAt}
 
 pub not_same : (a b : ℕ) → (a ≡ b → ⊥) → (a == b) ≡ false
 not_same a b n = ⊎_elim (λ (e : a ≡ b). absurd (n e)) (λ (e : a ≡ b → ⊥). grind (arith, e)) (cases_eq a b)

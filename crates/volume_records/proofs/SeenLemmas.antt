@@ -7,7 +7,7 @@ use Rattle.std.specs.declared.alloc.Global.{Global}
 use Rattle.std.specs.Cmp.Lexicographic.{slice_cmp}
 use Rattle.std.specs.Ordering.{nat_cmp, ordering_then, is_eq}
 use Rattle.std.specs.FinMap.{slice_cmp-IsAntisymmetric, nat_cmp-IsAntisymmetric}
-use Rattle.volume_records.specs.Judged.{has_seen}
+use Rattle.volume_records.specs.lemma.Judged.{has_seen}
 use Rattle.volume_records.proofs.Climbing.{same_as, not_same}
 use Rattle.std.specs.Cmp.{nat_cmp_is}
 use Rattle.std.proofs.lemmas.Map.Text.{is_eq-slice_cmp}

@@ -1,17 +1,11 @@
 -- Records by rising key, in byte order; two keys always count as there (this profile).
-use Rattle.std.specs.Prelude.{ℕ, Bool, bytes_eq, List, [], ◌∷◌}
-use Rattle.std.specs.List.{list_any}
+use Rattle.std.specs.Prelude.{ℕ, List, [], ◌∷◌}
 use Rattle.std.specs.Cmp.Lexicographic.{slice_cmp}
 use Rattle.std.specs.Ordering.{nat_cmp, match_ordering}
 use Rattle.afp_volume.specs.VolumeState.{root_id}
 use Rattle.record_keeper.specs.declared.record.Record.{Record}
-pub use Rattle.record_keeper.specs.Reading.{IsBelow, Rises}
 use Rattle.volume_records.specs.Records.{node_key}
 pub use Rattle.volume_records.specs.Records.{head_key}
-
--- whether a key is among those of some records
-abbrev pub has_key : List ℕ → List Record → Bool
-has_key key records = list_any (λ r. bytes_eq r.key key) records
 
 -- the key of the root
 abbrev pub root_key : List ℕ

@@ -5,6 +5,5 @@ pub mod FromTables
 pub mod KeyOrder
 pub mod Laws
 pub mod FirstBad
-pub mod Climb
-pub mod Judged
 pub mod Loaded
+pub mod lemma

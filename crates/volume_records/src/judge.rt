@@ -3,7 +3,7 @@ ghost use Rattle.std.specs.Prelude.{◌≡◌, ◌≤◌, ◌<◌, ◌+◌, ◌|
 ghost use Rattle.afp_names.specs.Name.{name_fault, name_key};
 ghost use Rattle.afp_volume.specs.VolumeState.{Icon, Appl};
 ghost use Rattle.volume_records.specs.declared.rows.TableRow.TheVariants as row;
-ghost use Rattle.volume_records.specs.Judged.{has_seen, Before, HasBefore, KeepsTree, IsTree, IsNamedRow, IsJudged, IsJudgedRow, is_short_row};
+ghost use Rattle.volume_records.specs.lemma.Judged.{has_seen, Before, HasBefore, KeepsTree, IsTree, IsNamedRow, IsJudged, IsJudgedRow, is_short_row};
 
 use crate::limits::{FIRST_ID, MOST_APPLS, MOST_FORK_BYTES, MOST_ICONS, MOST_NODES, ROOT};
 use crate::rows::{ForkBlock, Node, Reason, TableRow};

@@ -4,7 +4,7 @@ ghost use Rattle.std.specs.List.{cons_option};
 ghost use Rattle.volume_records.specs.KeyOrder.{Rises, with_key};
 ghost use Rattle.volume_records.specs.FirstBad.{first_bad_record as the_first, most_records};
 ghost use Rattle.volume_records.specs.Loaded.{IsLoaded};
-ghost use Rattle.volume_records.specs.Judged.{said_rows};
+ghost use Rattle.volume_records.specs.lemma.Judged.{said_rows};
 
 use crate::climb::push;
 use crate::pass::{judge_all, read_all_rows};

@@ -4,7 +4,7 @@ ghost use Rattle.std.specs.List.{cons_option};
 ghost use Rattle.volume_records.specs.Shape.{row_in};
 ghost use Rattle.volume_records.specs.KeyOrder.{Rises};
 ghost use Rattle.volume_records.specs.FirstBad.{first_bad};
-ghost use Rattle.volume_records.specs.Judged.{place_of, said_node, places_in, next_in};
+ghost use Rattle.volume_records.specs.lemma.Judged.{place_of, said_node, places_in, next_in};
 
 use crate::climb::push;
 use crate::judge::{Pass, judge_row};

@@ -4,8 +4,8 @@ ghost use Rattle.std.specs.List.{list_any, filter_map};
 ghost use Rattle.std.specs.List.Sorted.{IsStrictlySortedBy};
 ghost use Rattle.std.specs.Ordering.{nat_cmp};
 ghost use Rattle.volume_records.specs.declared.tree.Place.{Place};
-ghost use Rattle.volume_records.specs.Climb.{id_of, climbs_to_root};
-ghost use Rattle.volume_records.specs.Judged.{place_of, said_node, places_in, IsTree, IsTreeOf, told, is_there as is_there_by, is_file_there, is_stray_here, length_of, is_outside_here};
+ghost use Rattle.volume_records.specs.lemma.Climb.{id_of, climbs_to_root};
+ghost use Rattle.volume_records.specs.lemma.Judged.{place_of, said_node, places_in, IsTree, IsTreeOf, told, is_there as is_there_by, is_file_there, is_stray_here, length_of, is_outside_here};
 
 use crate::climb::{ends_of, place_in_ids, push, stand};
 use crate::limits::ROOT;

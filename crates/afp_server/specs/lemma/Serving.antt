@@ -7,7 +7,8 @@ use Rattle.afp_serial.specs.Went.{Step, Went}
 use Rattle.dsi_frame.specs.Buffered.{Buffered, buffer_length}
 use Rattle.dsi_frame.specs.Stream.{IsUnfinished}
 use Rattle.afp_server.specs.LinkRun.{Moves, Fills, EachMayRead, RunsTo, came_in, cost_of}
-use Rattle.afp_server.specs.Passing.{all_passed, GoThrough}
+use Rattle.afp_server.specs.Passing.{GoThrough}
+use Rattle.afp_server.specs.lemma.Passing.{all_passed}
 use Rattle.afp_server.specs.Replies.{spelling_of}
 use Rattle.afp_server.specs.Trace.{Happening, events_in, frames_in, replies_in, steps_in, standing, Follows}
 use Rattle.afp_server.specs.lemma.SessionState.{SessionState, RestsBy}

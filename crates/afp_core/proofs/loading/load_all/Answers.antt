@@ -1,5 +1,5 @@
 use Rattle.std.proofs.Common.{rules, ◌≡◌, ◌<◌, ◌++◌, ◌∷◌, [], ℕ, get_or, length, subst}
-use Rattle.afp_core.specs.Loads.{IsFaultAt}
+use Rattle.afp_core.specs.lemma.Loads.{IsFaultAt}
 use Rattle.afp_core.proofs.LoadLemmas.{load-next, load-stops-first, rest-next}
 use Rattle.afp_core.proofs.loading.load_all.Goals as goal
 

@@ -1,5 +1,6 @@
 use Rattle.std.proofs.Common.{◌≡◌, ◌≢◌, ℕ, ◌+◌, List, length}
-use Rattle.afp_server.specs.Wire.{FeedStart, FedSoFar, feed_point}
+use Rattle.afp_server.specs.Wire.{FeedStart, FedSoFar}
+use Rattle.afp_server.specs.lemma.Wire.{feed_point}
 use Rattle.afp_server.specs.declared.stage.Stage.TheVariants as stages
 use Rattle.afp_server.proofs.wire.handle_frames.Given as goal
 

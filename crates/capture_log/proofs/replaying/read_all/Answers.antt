@@ -1,6 +1,6 @@
 use Rattle.std.proofs.Common.{◌++◌, subst, take}
 use Rattle.std.specs.Prelude.{Option}
-use Rattle.capture_log.specs.Gathering.{Gathers}
+use Rattle.capture_log.specs.lemma.Gathering.{Gathers}
 use Rattle.capture_log.specs.declared.replay_end.ReplayEnd.{ReplayEnd}
 use Rattle.capture_log.proofs.SoFar.{so_far-none, so_far-more, decided, finished, failed, spent, no_memory-more, no_memory-ended}
 use Rattle.capture_log.proofs.replaying.read_all.Goals as goal

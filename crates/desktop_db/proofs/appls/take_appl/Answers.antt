@@ -3,7 +3,7 @@ use Rattle.std.specs.Prelude.{is_some}
 use Rattle.afp_volume.specs.Desktop.{pair_key}
 use Rattle.afp_volume.specs.SoundVolume.{appl_key}
 use Rattle.afp_volume.specs.VolumeState.{Appl}
-use Rattle.desktop_db.specs.Places.{IsPlaceOf, IsGapFor}
+use Rattle.desktop_db.specs.lemma.Places.{IsPlaceOf, IsGapFor}
 use Rattle.desktop_db.proofs.Places.{gap-moved, not-found, not-taken, place-moved, place-there, taken}
 use Rattle.desktop_db.proofs.appls.take_appl.Goals as goal
 

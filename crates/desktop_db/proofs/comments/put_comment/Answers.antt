@@ -2,7 +2,7 @@ use Rattle.std.proofs.Common.{◌∙◌, ap, sym, refl, ◌∷◌, [], List, sli
 use Rattle.afp_volume.specs.Desktop.{comment_key}
 use Rattle.afp_volume.specs.Order.{put_in}
 use Rattle.afp_volume.specs.VolumeState.{Comment}
-use Rattle.desktop_db.specs.Places.{IsPlaceOf, IsGapFor}
+use Rattle.desktop_db.specs.lemma.Places.{IsPlaceOf, IsGapFor}
 use Rattle.desktop_db.proofs.Numbers.{comments-without}
 use Rattle.desktop_db.proofs.Places.{gap-moved, on-ok, place-moved, put-new, replaced}
 use Rattle.desktop_db.proofs.comments.put_comment.Goals as goal

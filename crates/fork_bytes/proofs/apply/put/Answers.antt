@@ -1,5 +1,6 @@
 use Rattle.std.proofs.Common.{◌≡◌, ◌≢◌, ◌∙◌, true, sym, subst, ◌<◌, ◌≤◌, length, get_or}
-use Rattle.fork_bytes.specs.Kept.{IsPlace, are_rising}
+use Rattle.fork_bytes.specs.Kept.{are_rising}
+use Rattle.fork_bytes.specs.lemma.Kept.{IsPlace}
 use Rattle.fork_bytes.proofs.Puts.{put-there, put-new, room-new}
 use Rattle.fork_bytes.proofs.apply.put.Goals as goal
 

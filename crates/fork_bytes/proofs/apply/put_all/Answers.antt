@@ -1,6 +1,6 @@
 use Rattle.std.proofs.Common.{◌≡◌, ◌∙◌, ◌+◌, ◌-◌, length, vec_capacity, reverse, refl, sym, ap, subst, arith}
 use Rattle.std.proofs.lemmas.List.{reverse-reverse}
-use Rattle.fork_bytes.specs.Kept.{with_puts, Fits}
+use Rattle.fork_bytes.specs.lemma.Kept.{with_puts, Fits}
 use Rattle.fork_bytes.proofs.Applies.{next, has_room, all_done}
 use Rattle.fork_bytes.proofs.apply.put_all.Goals as goal
 

@@ -1,5 +1,5 @@
 use Rattle.std.proofs.Common.{◌≡◌, ◌≤◌, ◌+◌, length, vec_capacity, reverse}
-use Rattle.fork_bytes.specs.Kept.{with_puts}
+use Rattle.fork_bytes.specs.lemma.Kept.{with_puts}
 use Rattle.fork_bytes.proofs.Applies.{Left}
 use Rattle.fork_bytes.proofs.apply.put_all.Given as goal
 

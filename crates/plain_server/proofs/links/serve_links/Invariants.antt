@@ -1,5 +1,5 @@
 use Rattle.std.proofs.Common.{◌≡◌}
-use Rattle.plain_server.specs.Links.{ServedSoFar}
+use Rattle.plain_server.specs.lemma.Links.{ServedSoFar}
 use Rattle.plain_server.proofs.links.serve_links.Given as goal
 
 abbrev pub invariant-loop : goal.invariant-loop

@@ -3,7 +3,7 @@ use Rattle.std.specs.Prelude.{Err}
 use Rattle.afp_serial.specs.Household.{Household}
 use Rattle.afp_serial.specs.HouseFault.{house_fault}
 use Rattle.plain_server.specs.Keeping.{keeping}
-use Rattle.plain_server.specs.Plain.{EndsHouse}
+use Rattle.plain_server.specs.lemma.Plain.{EndsHouse}
 use Rattle.plain_server.specs.Spoken.{spoken_of}
 use Rattle.plain_server.proofs.HouseEnds.{words-end}
 use Rattle.plain_server.proofs.OneHouse.{one_house}

@@ -4,7 +4,8 @@ use Rattle.std.specs.List.{list_all}
 use Rattle.std.proofs.Common.{length-drop}
 use Rattle.std.proofs.lemmas.List.{drop-map, length-map}
 use Rattle.plain_server.proofs.VolumeWords.{are-memory, none-memory}
-use Rattle.plain_server.specs.Words.{AreMemoryVolumes, is_memory_volume, name_in, IsNumberOfLinks}
+use Rattle.plain_server.specs.Words.{AreMemoryVolumes, name_in, IsNumberOfLinks}
+use Rattle.plain_server.specs.lemma.Words.{is_memory_volume}
 use Rattle.hex.specs.Hex.{decode_sized}
 use Rattle.plain_server.proofs.EightWords.{eight, is_ok_of}
 use Rattle.plain_server.proofs.words.read_words.Goals as goal

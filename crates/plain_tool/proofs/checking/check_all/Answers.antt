@@ -1,6 +1,6 @@
 use Rattle.std.proofs.Common.{ℕ, List, ◌++◌, subst}
 use Rattle.std.proofs.lemmas.List.{take-append-le}
-use Rattle.plain_tool.specs.Checking.{PrintsTo}
+use Rattle.plain_tool.specs.lemma.Checking.{PrintsTo}
 use Rattle.plain_tool.specs.declared.checking.FramesEnd.TheVariants as frames_ends
 use Rattle.plain_tool.proofs.CheckLemmas.{checked-none, checked-more, checked-bad, checked-part}
 use Rattle.plain_tool.proofs.checking.check_all.Goals as goal

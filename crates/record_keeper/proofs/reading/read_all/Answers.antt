@@ -1,7 +1,8 @@
 use Rattle.std.proofs.Common.{◌≡◌, subst, sym, ap, refl, length, List, arith}
 use Rattle.std.specs.Prelude.{Some, None, IfSome}
 use Rattle.record_keeper.specs.declared.record.Record.{Record}
-use Rattle.record_keeper.specs.Reading.{IsFront, Rises, last_key, most_records}
+use Rattle.record_keeper.specs.Reading.{Rises, most_records}
+use Rattle.record_keeper.specs.lemma.Reading.{IsFront, last_key}
 use Rattle.record_keeper.specs.Records.{IsNextKey}
 use Rattle.record_keeper.proofs.InOrder.{all_read, behind_most, still_told, nothing_read, same_made}
 use Rattle.record_keeper.proofs.reading.read_all.Goals as goal

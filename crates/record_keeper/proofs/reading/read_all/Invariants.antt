@@ -1,6 +1,7 @@
 use Rattle.std.proofs.Common.{◌≡◌, length}
 use Rattle.std.specs.Prelude.{IfSome, IsSome}
-use Rattle.record_keeper.specs.Reading.{IsFront, Rises}
+use Rattle.record_keeper.specs.Reading.{Rises}
+use Rattle.record_keeper.specs.lemma.Reading.{IsFront}
 use Rattle.record_keeper.specs.Records.{Makes, same_records}
 use Rattle.record_keeper.proofs.reading.read_all.Given as goal
 

@@ -1,7 +1,8 @@
 use Rattle.std.proofs.Common.{subst, sym, List}
 use Rattle.std.specs.Prelude.{Some, IfSome}
 use Rattle.record_keeper.specs.declared.record.Record.{Record}
-use Rattle.record_keeper.specs.Reading.{IsFront, Rises, last_key}
+use Rattle.record_keeper.specs.Reading.{Rises}
+use Rattle.record_keeper.specs.lemma.Reading.{IsFront, last_key}
 use Rattle.record_keeper.specs.Records.{IsNextKey}
 use Rattle.record_keeper.proofs.InOrder.{one_read, rises_more, still_told}
 use Rattle.record_keeper.proofs.reading.read_at.Goals as goal

@@ -8,7 +8,7 @@ use Rattle.record_keeper.specs.declared.record.Change.{Change}
 use Rattle.volume_tree.specs.Planned.{planned}
 use Rattle.volume_tree.specs.TouchedNodes.{IsTouched}
 use Rattle.volume_keeper.specs.Changes.{kept_records, put}
-use Rattle.volume_keeper.specs.Steps.{nodes_put}
+use Rattle.volume_keeper.specs.lemma.Steps.{nodes_put}
 use Rattle.volume_keeper.proofs.KeptRecords.{tree_formed, kept_are_put}
 use Rattle.volume_keeper.proofs.changes.put_kept.Goals as goal
 

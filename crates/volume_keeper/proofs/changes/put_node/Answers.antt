@@ -8,7 +8,7 @@ use Rattle.record_keeper.specs.declared.record.Record.{Record}
 use Rattle.volume_records.specs.Records.{node_record}
 use Rattle.volume_tree.specs.Planned.{planned}
 use Rattle.volume_tree.specs.Shown.{fork_at}
-use Rattle.volume_keeper.specs.Steps.{length_of, sized}
+use Rattle.volume_keeper.specs.lemma.Steps.{length_of, sized}
 use Rattle.volume_keeper.proofs.GoneRecords.{row_is_fit}
 use Rattle.volume_keeper.proofs.TouchedOrder.{sized_is_put}
 use Rattle.volume_keeper.proofs.changes.put_node.Goals as goal

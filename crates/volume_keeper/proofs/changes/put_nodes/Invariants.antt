@@ -1,6 +1,6 @@
 use Rattle.std.proofs.Common.{◌≡◌, ◌++◌, take}
 use Rattle.volume_tree.specs.Planned.{planned}
-use Rattle.volume_keeper.specs.Steps.{nodes_put}
+use Rattle.volume_keeper.specs.lemma.Steps.{nodes_put}
 use Rattle.volume_keeper.proofs.changes.put_nodes.Given as goal
 
 abbrev pub invariant-loop-i : goal.invariant-loop-i

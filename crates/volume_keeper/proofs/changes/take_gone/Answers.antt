@@ -5,7 +5,7 @@ use Rattle.afp_volume.specs.DesktopLaws.{with_desktop}
 use Rattle.record_keeper.specs.declared.record.Change.{Change}
 use Rattle.volume_records.specs.Image.{rows_of, tables_of}
 use Rattle.volume_keeper.specs.Changes.{gone_records, is_of, taken}
-use Rattle.volume_keeper.specs.Steps.{all_taken}
+use Rattle.volume_keeper.specs.lemma.Steps.{all_taken}
 use Rattle.volume_keeper.proofs.GoneRecords.{all_are_taken}
 use Rattle.volume_keeper.proofs.changes.take_gone.Goals as goal
 

@@ -11,9 +11,10 @@ use Rattle.record_keeper.specs.Records.{changed}
 use Rattle.volume_records.specs.declared.rows.TableRow.TheVariants as row
 use Rattle.volume_records.specs.Image.{kept_image, tables_of}
 use Rattle.volume_tree.specs.Shown.{fork_at}
-use Rattle.volume_keeper.specs.ForkChanges.{block_change, dated_head, fork_changes_of, node_changes, put_where_other}
+use Rattle.volume_keeper.specs.ForkChanges.{block_change, fork_changes_of, put_where_other}
+use Rattle.volume_keeper.specs.lemma.ForkChanges.{dated_head, node_changes}
 use Rattle.volume_keeper.specs.Laws.{IsExact}
-use Rattle.volume_keeper.specs.Steps.{length_of}
+use Rattle.volume_keeper.specs.lemma.Steps.{length_of}
 use Rattle.volume_keeper.proofs.ForkTold.{FileAt, all_told, file_at, has_room}
 use Rattle.volume_keeper.proofs.fork_change.fork_changes.Goals as goal
 

@@ -1,5 +1,5 @@
 use Rattle.std.proofs.Common.{◌≡◌, ◌++◌, take}
-use Rattle.volume_keeper.specs.Steps.{appls_taken}
+use Rattle.volume_keeper.specs.lemma.Steps.{appls_taken}
 use Rattle.volume_keeper.proofs.gone.take_appls.Given as goal
 
 abbrev pub invariant-loop-appl : goal.invariant-loop-appl

@@ -1,5 +1,5 @@
 use Rattle.std.proofs.Common.{◌≡◌, ◌++◌, take, map}
-use Rattle.volume_keeper.specs.Steps.{block_taken}
+use Rattle.volume_keeper.specs.lemma.Steps.{block_taken}
 use Rattle.volume_keeper.proofs.gone.take_blocks.Given as goal
 
 abbrev pub invariant-loop-block : goal.invariant-loop-block

@@ -1,6 +1,7 @@
 use Rattle.std.proofs.Common.{ℕ, List, subst, rules}
 use Rattle.std.specs.Prelude.{IfOk, IfErr}
-use Rattle.volume_keeper.specs.Loading.{IsFaultIn, IsMadeOf}
+use Rattle.volume_keeper.specs.Loading.{IsFaultIn}
+use Rattle.volume_keeper.specs.lemma.Loading.{IsMadeOf}
 use Rattle.volume_keeper.proofs.Loads.{loaded, refused}
 use Rattle.volume_keeper.proofs.loading.load.Goals as goal
 

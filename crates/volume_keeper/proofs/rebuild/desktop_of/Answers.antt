@@ -1,5 +1,5 @@
 use Rattle.std.proofs.Common.{◌∙◌}
-use Rattle.volume_keeper.specs.Rebuilt.{appls_with, comments_with, icons_with, with_all}
+use Rattle.volume_keeper.specs.lemma.Rebuilt.{appls_with, comments_with, icons_with, with_all}
 use Rattle.volume_keeper.proofs.DesktopAgain.{appls_again, comments_again, icons_again}
 use Rattle.volume_keeper.proofs.rebuild.desktop_of.Goals as goal
 

@@ -1,5 +1,5 @@
 use Rattle.std.proofs.Common.{◌≡◌, drop}
-use Rattle.volume_keeper.specs.Rebuilt.{FitRows, with_blocks}
+use Rattle.volume_keeper.specs.lemma.Rebuilt.{FitRows, with_blocks}
 use Rattle.volume_keeper.proofs.rebuild.fill_all.Given as goal
 
 abbrev pub invariant-loop-i : goal.invariant-loop-i

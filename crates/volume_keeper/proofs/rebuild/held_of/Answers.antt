@@ -1,6 +1,6 @@
 use Rattle.std.proofs.Common.{◌≡◌, ◌∙◌, sym, subst}
 use Rattle.afp_volume.specs.DesktopLaws.{with_desktop}
-use Rattle.volume_keeper.specs.Whole.{IsHeld}
+use Rattle.volume_keeper.specs.lemma.Whole.{IsHeld}
 use Rattle.volume_keeper.proofs.rebuild.held_of.Goals as goal
 
 pub invariant_of-result : goal.invariant_of-result

@@ -1,5 +1,5 @@
 use Rattle.std.proofs.Common.{◌≡◌, drop}
-use Rattle.volume_keeper.specs.Rebuilt.{appls_with, comments_with, icons_with, with_all}
+use Rattle.volume_keeper.specs.lemma.Rebuilt.{appls_with, comments_with, icons_with, with_all}
 use Rattle.volume_keeper.proofs.rebuild.put_all.Given as goal
 
 abbrev pub invariant-loop-i : goal.invariant-loop-i

@@ -4,7 +4,7 @@ use Rattle.afp_volume.specs.SoundVolume.{IsSoundVolume}
 use Rattle.volume_records.specs.declared.rows.TableRow.{TableRow}
 use Rattle.volume_records.specs.Image.{rows_of, tables_of}
 use Rattle.volume_tree.specs.Restored.{restored}
-use Rattle.volume_keeper.specs.Rebuilt.{FitRows, nodes_said, with_blocks}
+use Rattle.volume_keeper.specs.lemma.Rebuilt.{FitRows, nodes_said, with_blocks}
 use Rattle.volume_keeper.proofs.Zeroed.{restored_is, start_sound}
 use Rattle.volume_keeper.proofs.Filling.{Laws, all_fit, all_filled}
 use Rattle.volume_keeper.proofs.rebuild.tree_of.Goals as goal

@@ -1,5 +1,5 @@
 use Rattle.std.proofs.Common.{◌≡◌, ◌%◌, ◌/◌, ℕ, List, sym, subst, arith, rules}
-use Rattle.volume_records.specs.Climb.{through, Climbs}
+use Rattle.volume_records.specs.lemma.Climb.{through, Climbs}
 use Rattle.volume_records.proofs.Climbing.{even_step, odd_step}
 use Rattle.volume_records.proofs.climb.all_through.Goals as goal
 use Rattle.volume_records.proofs.climb.all_through.Goals.{then-left-eq1+in_ok-ends, else-left-eq1}

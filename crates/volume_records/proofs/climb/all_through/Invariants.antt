@@ -1,5 +1,5 @@
 use Rattle.std.proofs.Common.{◌≡◌, ◌<◌, ℕ, length, slice_index}
-use Rattle.volume_records.specs.Climb.{Climbs}
+use Rattle.volume_records.specs.lemma.Climb.{Climbs}
 use Rattle.volume_records.proofs.climb.all_through.Given as goal
 
 abbrev pub invariant-loop-place : goal.invariant-loop-place

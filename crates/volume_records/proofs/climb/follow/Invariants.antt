@@ -1,5 +1,5 @@
 use Rattle.std.proofs.Common.{◌≡◌, take}
-use Rattle.volume_records.specs.Climb.{through}
+use Rattle.volume_records.specs.lemma.Climb.{through}
 use Rattle.volume_records.proofs.climb.follow.Given as goal
 
 abbrev pub invariant-loop-place : goal.invariant-loop-place

@@ -1,5 +1,5 @@
 use Rattle.std.proofs.Common.{◌≡◌, take, map}
-use Rattle.volume_records.specs.Climb.{next_of}
+use Rattle.volume_records.specs.lemma.Climb.{next_of}
 use Rattle.volume_records.proofs.climb.steps.Given as goal
 
 abbrev pub invariant-loop-node : goal.invariant-loop-node

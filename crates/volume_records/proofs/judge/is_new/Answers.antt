@@ -1,6 +1,6 @@
 use Rattle.std.proofs.Common.{ap, ◌∙◌}
 use Rattle.std.specs.Prelude.{◌||◌, ◌&&◌, ◌==◌, bytes_eq}
-use Rattle.volume_records.specs.Judged.{has_seen}
+use Rattle.volume_records.specs.lemma.Judged.{has_seen}
 use Rattle.volume_records.proofs.SeenLemmas.{seen_more}
 use Rattle.volume_records.proofs.judge.is_new.Goals as goal
 

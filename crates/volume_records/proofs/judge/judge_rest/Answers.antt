@@ -1,5 +1,5 @@
 use Rattle.std.proofs.Common.{sym, subst}
-use Rattle.volume_records.specs.Judged.{IsJudged}
+use Rattle.volume_records.specs.lemma.Judged.{IsJudged}
 use Rattle.volume_records.specs.declared.rows.TableRow.{TableRow}
 use Rattle.volume_records.proofs.judge.judge_rest.Goals as goal
 

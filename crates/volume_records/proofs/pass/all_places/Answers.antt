@@ -1,7 +1,7 @@
 use Rattle.std.proofs.Common.{◌++◌, [], List, map, sym, ap, ◌∙◌, rules}
 use Rattle.std.specs.List.{cons_option}
 use Rattle.volume_records.specs.declared.tree.Place.{Place}
-use Rattle.volume_records.specs.Judged.{place_of, said_node}
+use Rattle.volume_records.specs.lemma.Judged.{place_of, said_node}
 use Rattle.volume_records.proofs.Passing.{pushed_places}
 use Rattle.volume_records.proofs.pass.all_places.Goals as goal
 

@@ -1,5 +1,5 @@
 use Rattle.std.proofs.Common.{◌≡◌, take}
-use Rattle.volume_records.specs.Judged.{places_in}
+use Rattle.volume_records.specs.lemma.Judged.{places_in}
 use Rattle.volume_records.proofs.pass.all_places.Given as goal
 
 abbrev pub invariant-loop-row : goal.invariant-loop-row

@@ -4,9 +4,9 @@ use Rattle.std.specs.List.Sorted.{IsStrictlySortedBy}
 use Rattle.std.specs.Ordering.{nat_cmp}
 use Rattle.volume_records.specs.declared.tree.Place.{Place}
 use Rattle.volume_records.specs.declared.tree.Tree.{Tree}
-use Rattle.volume_records.specs.Climb.{id_of}
+use Rattle.volume_records.specs.lemma.Climb.{id_of}
 use Rattle.volume_records.specs.FirstBad.{rows_in}
-use Rattle.volume_records.specs.Judged.{Before, IsTreeOf, HasBefore, places_in, next_in}
+use Rattle.volume_records.specs.lemma.Judged.{Before, IsTreeOf, HasBefore, places_in, next_in}
 use Rattle.volume_records.proofs.Passing.{before_of, places_sorted, row_read, short_read, named_read, one_judged, why_among, pushed_before}
 use Rattle.volume_records.proofs.pass.judge_all.Goals as goal
 

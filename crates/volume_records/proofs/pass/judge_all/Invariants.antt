@@ -1,7 +1,7 @@
 use Rattle.std.proofs.Common.{◌≡◌, ◌≤◌, drop, take}
 use Rattle.volume_records.specs.Image.{tables_in}
 use Rattle.volume_records.specs.FirstBad.{first_in, rows_in}
-use Rattle.volume_records.specs.Judged.{IsTreeOf, HasBefore, places_in, next_in}
+use Rattle.volume_records.specs.lemma.Judged.{IsTreeOf, HasBefore, places_in, next_in}
 use Rattle.volume_records.proofs.Passing.{before_of}
 use Rattle.volume_records.proofs.pass.judge_all.Given as goal
 

@@ -1,5 +1,5 @@
 use Rattle.std.proofs.Common.{◌≡◌, drop}
-use Rattle.volume_records.specs.Judged.{next_in}
+use Rattle.volume_records.specs.lemma.Judged.{next_in}
 use Rattle.volume_records.proofs.pass.next_of.Given as goal
 
 abbrev pub invariant-loop-row : goal.invariant-loop-row

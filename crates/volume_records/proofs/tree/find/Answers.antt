@@ -1,7 +1,7 @@
 use Rattle.std.proofs.Common.{◌≡◌, ◌<◌, ◌≤◌, map, length, get_or, sym, ap, ◌∙◌, subst, rules}
 use Rattle.std.specs.List.Sorted.{IsStrictlySortedBy}
 use Rattle.std.specs.Ordering.{nat_cmp}
-use Rattle.volume_records.specs.Climb.{id_of, place_in}
+use Rattle.volume_records.specs.lemma.Climb.{id_of, place_in}
 use Rattle.volume_records.specs.declared.tree.Place.{Place}
 use Rattle.volume_records.proofs.Climbing.{not_there, at_place}
 use Rattle.volume_records.proofs.tree.find.Goals as goal

@@ -1,5 +1,5 @@
 use Rattle.std.proofs.Common.{◌≡◌, take, map}
-use Rattle.volume_records.specs.Climb.{id_of}
+use Rattle.volume_records.specs.lemma.Climb.{id_of}
 use Rattle.volume_records.proofs.tree.grow.Given as goal
 
 abbrev pub invariant-loop-place : goal.invariant-loop-place

@@ -1,6 +1,6 @@
 use Rattle.std.proofs.Common.{◌+◌, ◌*◌, length, sym, ap, ◌∙◌}
 use Rattle.std.specs.Prelude.{nat_lt}
-use Rattle.volume_records.specs.Judged.{length_of}
+use Rattle.volume_records.specs.lemma.Judged.{length_of}
 use Rattle.volume_records.proofs.tree.reaches_behind.Goals as goal
 
 pub returns-then-block : goal.returns-then-block

@@ -1,7 +1,7 @@
 use Rattle.std.proofs.Common.{◌≡◌, ◌∙◌, ◌<ℤ◌, ℤ, of_z, pos, refl, rules, subst, sym, to_z, w64, false}
 use Rattle.afp_requests.specs.declared.call.Call.TheVariants.{ByteRangeLock}
 use Rattle.afp_serial.specs.Lock.{lock_asked, locks}
-use Rattle.afp_core.specs.OnForkBytes.{IsOffset, start_reply}
+use Rattle.afp_core.specs.lemma.OnForkBytes.{IsOffset, start_reply}
 use Rattle.afp_core.proofs.ForkBytesLemmas.{lock-row}
 use Rattle.afp_core.proofs.state.State.byte_range_lock.Goals as goal
 

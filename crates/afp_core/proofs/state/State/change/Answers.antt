@@ -4,7 +4,7 @@ use Rattle.volume_tree.specs.Requests.{tree_call}
 use Rattle.volume_tree.specs.Shown.{opened}
 use Rattle.afp_volume.specs.Shared.{Opened}
 use Rattle.afp_volume.specs.TreeSteps.{TreeCall}
-use Rattle.afp_core.specs.OnOpened.{BecomesKept, IsOpen}
+use Rattle.afp_core.specs.lemma.OnOpened.{BecomesKept, IsOpen}
 use Rattle.afp_core.proofs.OnVolumeLemmas.{changes-runs, changes-unopened, some-holds}
 use Rattle.afp_core.proofs.state.State.change.Goals as goal
 

@@ -5,7 +5,8 @@ use Rattle.kept_volume.specs.Changing.{Changes}
 use Rattle.kept_volume.specs.Kept.{KeptState}
 use Rattle.volume_tree.specs.Requests.{tree_call}
 use Rattle.volume_tree.specs.Shown.{opened}
-use Rattle.afp_core.specs.ServerState.{KeptWorld, world_of}
+use Rattle.afp_core.specs.ServerState.{KeptWorld}
+use Rattle.afp_core.specs.lemma.ServerState.{world_of}
 use Rattle.afp_core.proofs.KeeperLemmas.{becomes-kept}
 use Rattle.afp_core.proofs.OnVolumeLemmas.{if-some}
 use Rattle.afp_core.proofs.state.State.change_at.Goals as goal

@@ -3,7 +3,7 @@ use Rattle.afp_base.specs.declared.code.Code.TheVariants.{Ok, ParamErr}
 use Rattle.afp_requests.specs.declared.call.Call.TheVariants.{CloseDir}
 use Rattle.afp_serial.specs.declared.ask.Told.TheVariants.{Reply}
 use Rattle.afp_core.specs.ServerState.{KeptWorld}
-use Rattle.afp_core.specs.SessionList.{session_of}
+use Rattle.afp_core.specs.lemma.SessionList.{session_of}
 use Rattle.afp_core.proofs.OnVolumeLemmas.{close_dir-runs, close_dir-unopened}
 use Rattle.afp_core.proofs.RowLemmas.{is_refused}
 use Rattle.afp_core.proofs.state.State.close_dir.Goals as goal

@@ -1,6 +1,7 @@
 use Rattle.std.proofs.Common.{◌∙◌, ◌==◌, ap, refl, subst, not}
-use Rattle.afp_core.specs.OnForks.{IsFork}
-use Rattle.afp_core.specs.ServerState.{KeptWorld, forks_in, with_forks}
+use Rattle.afp_core.specs.lemma.OnForks.{IsFork}
+use Rattle.afp_core.specs.ServerState.{KeptWorld}
+use Rattle.afp_core.specs.lemma.ServerState.{forks_in, with_forks}
 use Rattle.afp_core.proofs.ForkCallRows.{close_fork-row}
 use Rattle.afp_core.proofs.OnForkLemmas.{fork-done, fork-unopened}
 use Rattle.open_forks.specs.Forks.{left_of}

@@ -1,9 +1,10 @@
 use Rattle.std.proofs.Common.{◌∙◌, ap, sym, refl, List, ℕ, ◌==◌, ◌&&◌, filter, not, false}
 use Rattle.afp_base.specs.declared.code.Code.TheVariants.{Ok, ParamErr}
-use Rattle.afp_core.specs.ServerState.{KeptWorld, forks_in, with_forks, with_sessions}
+use Rattle.afp_core.specs.ServerState.{KeptWorld}
+use Rattle.afp_core.specs.lemma.ServerState.{forks_in, with_forks, with_sessions}
 use Rattle.afp_serial.specs.declared.ask.Told.TheVariants.{Reply}
 use Rattle.afp_requests.specs.declared.call.Call.TheVariants.{CloseVol}
-use Rattle.afp_core.specs.SessionList.{replaced, session_of}
+use Rattle.afp_core.specs.lemma.SessionList.{replaced, session_of}
 use Rattle.afp_core.proofs.RowLemmas.{is_refused, close_vol-not_open, close_vol-runs}
 use Rattle.afp_core.proofs.SessionLemmas.{session_of-number}
 use Rattle.open_forks.specs.Forks.{left_of}

@@ -5,7 +5,7 @@ use Rattle.afp_requests.specs.declared.call.Call.{Call}
 use Rattle.afp_serial.specs.CreateDir.{node_id}
 use Rattle.afp_volume.specs.CreateDir.{create_dir_id}
 use Rattle.afp_volume.specs.TreeSteps.{CreateDir}
-use Rattle.afp_core.specs.OnOpened.{ChangesTree}
+use Rattle.afp_core.specs.lemma.OnOpened.{ChangesTree}
 use Rattle.afp_core.proofs.CallRows.{create_dir-changes, create_dir-id, create_dir-ids}
 use Rattle.afp_core.proofs.state.State.create_dir.Goals as goal
 

@@ -1,5 +1,6 @@
 use Rattle.std.proofs.Common.{◌∙◌, ap, ◌==◌, not, filter}
-use Rattle.afp_core.specs.ServerState.{KeptWorld, forks_in, with_forks, with_sessions}
+use Rattle.afp_core.specs.ServerState.{KeptWorld}
+use Rattle.afp_core.specs.lemma.ServerState.{forks_in, with_forks, with_sessions}
 use Rattle.afp_core.proofs.ForkLemmas.{end-runs}
 use Rattle.afp_core.proofs.state.State.end.Goals as goal
 use Rattle.open_forks.specs.Forks.{left_of}

@@ -1,5 +1,5 @@
 use Rattle.std.proofs.Common.{subst}
-use Rattle.afp_core.specs.OnOpened.{IsOpen}
+use Rattle.afp_core.specs.lemma.OnOpened.{IsOpen}
 use Rattle.afp_core.proofs.OnVolumeLemmas.{flush-runs, flush-unopened}
 use Rattle.afp_core.proofs.state.State.flush.Goals as goal
 

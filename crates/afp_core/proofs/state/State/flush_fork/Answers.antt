@@ -1,5 +1,5 @@
 use Rattle.std.proofs.Common.{refl, subst}
-use Rattle.afp_core.specs.OnForks.{IsFork}
+use Rattle.afp_core.specs.lemma.OnForks.{IsFork}
 use Rattle.afp_core.proofs.ForkCallRows.{flush_fork-row}
 use Rattle.afp_core.proofs.OnForkLemmas.{fork-settles, fork-unopened}
 use Rattle.afp_core.proofs.state.State.flush_fork.Goals as goal

@@ -2,7 +2,8 @@ use Rattle.std.proofs.Common.{◌∙◌, ap, refl, sym, List}
 use Rattle.afp_serial.specs.Sessions.{is_open, volume_at}
 use Rattle.afp_serial.specs.World.{OpenFork as Opened}
 use Rattle.fork_table.specs.declared.open_fork.OpenFork.{OpenFork}
-use Rattle.afp_core.specs.ServerState.{KeptWorld, forks_in}
+use Rattle.afp_core.specs.ServerState.{KeptWorld}
+use Rattle.afp_core.specs.lemma.ServerState.{forks_in}
 use Rattle.afp_core.proofs.ForkLemmas.{fork-found, fork-none, fork-unfound, has-forks}
 use Rattle.afp_core.proofs.state.State.fork_at.Goals as goal
 use Rattle.open_forks.specs.Forks.{open_of}

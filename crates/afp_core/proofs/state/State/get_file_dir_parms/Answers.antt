@@ -2,7 +2,7 @@ use Rattle.std.proofs.Common.{◌∙◌, ap, refl, subst, sym, List}
 use Rattle.afp_serial.specs.GetFileDirParms.{get_file_dir_parms_reply}
 use Rattle.afp_volume.specs.Shared.{Opened}
 use Rattle.afp_volume.specs.GetFileDirParms.{get_file_dir_parms_values}
-use Rattle.afp_core.specs.OnOpened.{IsOpen}
+use Rattle.afp_core.specs.lemma.OnOpened.{IsOpen}
 use Rattle.volume_tree.specs.Shown.{opened}
 use Rattle.afp_core.proofs.CallRows.{get_file_dir_parms-tells}
 use Rattle.afp_core.proofs.OnVolumeLemmas.{tells-runs, tells-unopened}

@@ -1,5 +1,5 @@
 use Rattle.std.proofs.Common.{refl, subst}
-use Rattle.afp_core.specs.OnForks.{IsFork}
+use Rattle.afp_core.specs.lemma.OnForks.{IsFork}
 use Rattle.afp_core.proofs.ForkCallRows.{get_fork_parms-row, parms-refused, parms-passes, parms-told}
 use Rattle.afp_core.proofs.OnForkLemmas.{fork-done, fork-refused, fork-unopened, own-file, within-mask}
 use Rattle.afp_core.proofs.state.State.get_fork_parms.Goals as goal

@@ -1,5 +1,5 @@
 use Rattle.std.proofs.Common.{refl, subst}
-use Rattle.afp_core.specs.OnOpened.{IsOpen}
+use Rattle.afp_core.specs.lemma.OnOpened.{IsOpen}
 use Rattle.afp_core.proofs.CallRows.{get_vol_parms-tells}
 use Rattle.afp_core.proofs.OnVolumeLemmas.{tells-runs, tells-unopened}
 use Rattle.afp_core.proofs.state.State.get_vol_parms.Goals as goal

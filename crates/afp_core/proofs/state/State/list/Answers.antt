@@ -2,7 +2,7 @@ use Rattle.std.proofs.Common.{◌∙◌, ap, subst, sym, List}
 use Rattle.afp_serial.specs.Enumerate.{enumerate_reply}
 use Rattle.afp_volume.specs.Shared.{Opened}
 use Rattle.afp_volume.specs.Enumerate.{enumerate_refusal}
-use Rattle.afp_core.specs.OnOpened.{IsOpen}
+use Rattle.afp_core.specs.lemma.OnOpened.{IsOpen}
 use Rattle.volume_tree.specs.Shown.{opened}
 use Rattle.afp_core.proofs.OnVolumeLemmas.{tells-runs, tells-unopened}
 use Rattle.afp_core.proofs.state.State.list.Goals as goal

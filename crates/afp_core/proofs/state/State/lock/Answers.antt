@@ -1,5 +1,6 @@
 use Rattle.std.proofs.Common.{ap, subst, sym}
-use Rattle.afp_core.specs.ServerState.{KeptWorld, forks_in, with_forks}
+use Rattle.afp_core.specs.ServerState.{KeptWorld}
+use Rattle.afp_core.specs.lemma.ServerState.{forks_in, with_forks}
 use Rattle.afp_core.proofs.state.State.lock.Goals as goal
 use Rattle.open_forks.specs.Forks.{Forks, LocksRange}
 

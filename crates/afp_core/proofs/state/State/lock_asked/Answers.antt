@@ -3,8 +3,8 @@ use Rattle.afp_base.specs.Overlap.{Range}
 use Rattle.afp_replies.specs.Replies.{canonical_reply}
 use Rattle.afp_serial.specs.OnFork.{bytes_of}
 use Rattle.afp_volume.specs.ForkEffect.{fork_of}
-use Rattle.afp_core.specs.OnForkBytes.{FitsReply, IsFew, start_reply}
-use Rattle.afp_core.specs.OnForks.{IsFork}
+use Rattle.afp_core.specs.lemma.OnForkBytes.{FitsReply, IsFew, start_reply}
+use Rattle.afp_core.specs.lemma.OnForks.{IsFork}
 use Rattle.afp_core.proofs.ForkBytesLemmas.{node-there}
 use Rattle.afp_core.proofs.ForkLockLemmas.{lock-no_range, lock-none, lock-runs, unlock-runs}
 use Rattle.afp_core.proofs.state.State.lock_asked.Goals as goal

@@ -3,10 +3,11 @@ use Rattle.std.specs.Prelude.{bytes_eq}
 use Rattle.std.proofs.lemmas.Bool.{not-true, not-false}
 use Rattle.afp_base.specs.declared.code.Code.TheVariants.{Ok, ParamErr, BadVersNum, BadUAM}
 use Rattle.afp_serial.specs.Login.{guest_id}
-use Rattle.afp_core.specs.ServerState.{KeptWorld, with_sessions}
+use Rattle.afp_core.specs.ServerState.{KeptWorld}
+use Rattle.afp_core.specs.lemma.ServerState.{with_sessions}
 use Rattle.afp_serial.specs.declared.ask.Told.TheVariants.{Reply}
 use Rattle.afp_requests.specs.declared.call.Call.TheVariants.{Login}
-use Rattle.afp_core.specs.SessionList.{replaced, session_of}
+use Rattle.afp_core.specs.lemma.SessionList.{replaced, session_of}
 use Rattle.afp_core.proofs.RowLemmas.{is_refused, login-has_user, login-version, login-uam, login-runs}
 use Rattle.afp_core.proofs.state.State.login.Goals as goal
 

@@ -1,5 +1,5 @@
 use Rattle.std.proofs.Common.{subst}
-use Rattle.afp_core.specs.OnOpened.{IsOpen}
+use Rattle.afp_core.specs.lemma.OnOpened.{IsOpen}
 use Rattle.afp_core.proofs.CallRows.{open_dir-shown, open_dir-tells}
 use Rattle.afp_core.proofs.OnVolumeLemmas.{tells-node, tells-unopened}
 use Rattle.afp_core.proofs.state.State.open_dir.Goals as goal

@@ -6,7 +6,7 @@ use Rattle.afp_volume.specs.OpenFork.{open_fork_refusal}
 use Rattle.volume_tree.specs.Answered.{Refuses}
 use Rattle.volume_tree.specs.declared.resolve.PlanFault.{PlanFault}
 use Rattle.volume_tree.specs.declared.resolve.PlanFault.TheVariants.{Code}
-use Rattle.afp_core.specs.OnOpened.{IsOpen}
+use Rattle.afp_core.specs.lemma.OnOpened.{IsOpen}
 use Rattle.afp_core.proofs.OpenForkLemmas.{bits-within, open-finds, open-refused, open_fork-opens, opens-unopened}
 use Rattle.afp_core.proofs.OnForkLemmas.{within-mask}
 use Rattle.afp_core.proofs.state.State.open_fork.Goals as goal

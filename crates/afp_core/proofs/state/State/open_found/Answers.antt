@@ -2,8 +2,10 @@ use Rattle.std.proofs.Common.{◌∙◌, ap, sym, subst}
 use Rattle.std.specs.Prelude.{Err, Ok as with_ok, slice_get}
 use Rattle.fork_table.specs.declared.open_fork.OpenFault.{OpenFault}
 use Rattle.open_forks.specs.Forks.{OpensFork}
-use Rattle.afp_core.specs.ServerState.{KeptWorld, forks_in, with_forks}
-use Rattle.afp_core.specs.Turn.{RunsRow, done}
+use Rattle.afp_core.specs.ServerState.{KeptWorld}
+use Rattle.afp_core.specs.lemma.ServerState.{forks_in, with_forks}
+use Rattle.afp_core.specs.Turn.{done}
+use Rattle.afp_core.specs.lemma.Turn.{RunsRow}
 use Rattle.afp_core.proofs.ForkLemmas.{has-forks}
 use Rattle.afp_core.proofs.OpenForkLemmas.{denied-runs, found-many, found-opened, found-refused, found-stays, found-undone}
 use Rattle.afp_core.proofs.state.State.open_found.Goals as goal

@@ -3,8 +3,9 @@ use Rattle.std.specs.Prelude.{if◌then◌else◌}
 use Rattle.afp_base.specs.declared.code.Code.TheVariants.{BitmapErr, ObjectNotFound}
 use Rattle.afp_serial.specs.OpenVol.{with_volume}
 use Rattle.afp_requests.specs.declared.call.Call.TheVariants.{OpenVol}
-use Rattle.afp_core.specs.ServerState.{KeptWorld, with_sessions}
-use Rattle.afp_core.specs.SessionList.{replaced, session_of}
+use Rattle.afp_core.specs.ServerState.{KeptWorld}
+use Rattle.afp_core.specs.lemma.ServerState.{with_sessions}
+use Rattle.afp_core.specs.lemma.SessionList.{replaced, session_of}
 use Rattle.afp_core.proofs.RowLemmas.{is_refused, open_vol-bits, open_vol-no_volume, open_vol-runs}
 use Rattle.afp_core.proofs.state.State.open_vol.Goals as goal
 

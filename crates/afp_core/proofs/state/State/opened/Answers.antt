@@ -1,6 +1,6 @@
 use Rattle.std.proofs.Common.{◌∙◌, ap, sym}
 use Rattle.afp_core.specs.ServerState.{KeptWorld}
-use Rattle.afp_core.specs.SessionList.{session_of}
+use Rattle.afp_core.specs.lemma.SessionList.{session_of}
 use Rattle.afp_core.proofs.OnVolumeLemmas.{index-opens, refused-unopened}
 use Rattle.afp_core.proofs.state.State.opened.Goals as goal
 

@@ -1,6 +1,7 @@
 use Rattle.std.proofs.Common.{◌∙◌, ap, not, filter}
 use Rattle.afp_serial.specs.Answer.{is_expired}
-use Rattle.afp_core.specs.ServerState.{KeptWorld, with_sessions}
+use Rattle.afp_core.specs.ServerState.{KeptWorld}
+use Rattle.afp_core.specs.lemma.ServerState.{with_sessions}
 use Rattle.afp_core.proofs.AskLemmas.{pulse-runs}
 use Rattle.afp_core.proofs.state.State.pulse.Goals as goal
 

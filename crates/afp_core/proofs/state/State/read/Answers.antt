@@ -1,7 +1,7 @@
 use Rattle.std.proofs.Common.{◌≡◌, of_z, pos, refl, rules, subst, to_z, w64}
 use Rattle.afp_requests.specs.declared.call.Call.TheVariants.{Read}
 use Rattle.afp_serial.specs.ForkBytes.{ReadAsked}
-use Rattle.afp_core.specs.OnForkBytes.{IsSpanOf}
+use Rattle.afp_core.specs.lemma.OnForkBytes.{IsSpanOf}
 use Rattle.afp_core.proofs.ForkBytesLemmas.{read-row}
 use Rattle.afp_core.proofs.state.State.read.Goals as goal
 

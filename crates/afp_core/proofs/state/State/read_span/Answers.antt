@@ -1,6 +1,6 @@
 use Rattle.std.proofs.Common.{◌∙◌, subst, sym}
-use Rattle.afp_core.specs.OnForkBytes.{IsSpanOf}
-use Rattle.afp_core.specs.OnForks.{IsFork}
+use Rattle.afp_core.specs.lemma.OnForkBytes.{IsSpanOf}
+use Rattle.afp_core.specs.lemma.OnForks.{IsFork}
 use Rattle.afp_core.proofs.ForkBytesLemmas.{read-negative, read-none, read-of, read-refused, read-runs}
 use Rattle.afp_core.proofs.state.State.read_span.Goals as goal
 

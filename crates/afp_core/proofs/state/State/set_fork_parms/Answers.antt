@@ -6,12 +6,12 @@ use Rattle.afp_serial.specs.Fork.{is_locked_between}
 use Rattle.afp_serial.specs.World.{OpenFork as Opened}
 use Rattle.afp_volume.specs.VolumeState.{Row, VolumeState}
 use Rattle.afp_volume.specs.Walk.{row_at}
-use Rattle.afp_core.specs.OnOpened.{BecomesKept}
+use Rattle.afp_core.specs.lemma.OnOpened.{BecomesKept}
 use Rattle.std.specs.Prelude.{slice_get}
 use Rattle.kept_volume.specs.ForkChanging.{GivesBytes}
 use Rattle.kept_volume.specs.Kept.{KeptState}
-use Rattle.afp_core.specs.OnForks.{IsFork}
-use Rattle.afp_core.specs.SettingLength.{length_refusal}
+use Rattle.afp_core.specs.lemma.OnForks.{IsFork}
+use Rattle.afp_core.specs.lemma.SettingLength.{length_refusal}
 use Rattle.afp_core.specs.declared.on_fork.OwnFork.{OwnFork}
 use Rattle.afp_core.proofs.ForkCallRows.{set-denied, set-locked, set-no_length, set-runs, set_fork_parms-row}
 use Rattle.afp_core.proofs.OnForkLemmas.{fork-refused, fork-unopened, own-becomes}

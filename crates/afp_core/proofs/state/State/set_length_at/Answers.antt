@@ -7,7 +7,8 @@ use Rattle.afp_volume.specs.VolumeState.{Row}
 use Rattle.afp_volume.specs.Walk.{row_at}
 use Rattle.kept_volume.specs.ForkChanging.{GivesBytes}
 use Rattle.kept_volume.specs.Kept.{KeptState}
-use Rattle.afp_core.specs.ServerState.{KeptWorld, world_of}
+use Rattle.afp_core.specs.ServerState.{KeptWorld}
+use Rattle.afp_core.specs.lemma.ServerState.{world_of}
 use Rattle.afp_core.proofs.KeeperLemmas.{becomes-kept, volume-of}
 use Rattle.afp_core.proofs.state.State.set_length_at.Goals as goal
 

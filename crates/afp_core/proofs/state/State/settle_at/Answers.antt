@@ -2,7 +2,8 @@ use Rattle.std.proofs.Common.{◌<◌, ap, subst, length, arith, List, [], refl}
 use Rattle.std.proofs.lemmas.List.{length-map}
 use Rattle.kept_volume.specs.Changing.{Settles}
 use Rattle.kept_volume.specs.Kept.{KeptState}
-use Rattle.afp_core.specs.ServerState.{KeptWorld, world_of}
+use Rattle.afp_core.specs.ServerState.{KeptWorld}
+use Rattle.afp_core.specs.lemma.ServerState.{world_of}
 use Rattle.afp_core.proofs.KeeperLemmas.{becomes-kept}
 use Rattle.afp_core.proofs.state.State.settle_at.Goals as goal
 

@@ -1,7 +1,7 @@
 use Rattle.std.proofs.Common.{◌≡◌, ◌∙◌, ◌<ℤ◌, ℤ, ap, of_z, pos, refl, rules, subst, sym, to_z, w64, false}
 use Rattle.afp_requests.specs.declared.call.Call.TheVariants.{Write}
 use Rattle.afp_serial.specs.ForkBytes.{writes}
-use Rattle.afp_core.specs.OnForkBytes.{IsOffset, end_reply, write_asked}
+use Rattle.afp_core.specs.lemma.OnForkBytes.{IsOffset, end_reply, write_asked}
 use Rattle.afp_core.proofs.ForkBytesLemmas.{write-row}
 use Rattle.afp_core.proofs.ForkWriteLemmas.{negative-none}
 use Rattle.afp_core.proofs.state.State.write.Goals as goal

@@ -7,10 +7,11 @@ use Rattle.afp_volume.specs.SoundVolume.{has_file}
 use Rattle.afp_volume.specs.VolumeState.{Row as File}
 use Rattle.afp_volume.specs.Walk.{row_at}
 use Rattle.kept_volume.specs.ForkChanging.{GivesBytes}
-use Rattle.afp_core.specs.OnOpened.{BecomesKept}
+use Rattle.afp_core.specs.lemma.OnOpened.{BecomesKept}
 use Rattle.afp_core.proofs.ForkWriteLemmas.{GivesAll}
 use Rattle.kept_volume.specs.Kept.{KeptState}
-use Rattle.afp_core.specs.ServerState.{KeptWorld, world_of}
+use Rattle.afp_core.specs.ServerState.{KeptWorld}
+use Rattle.afp_core.specs.lemma.ServerState.{world_of}
 use Rattle.afp_core.proofs.KeeperLemmas.{becomes-kept, volume-of}
 use Rattle.afp_core.proofs.state.State.write_at.Goals as goal
 

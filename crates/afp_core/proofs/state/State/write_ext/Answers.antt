@@ -2,7 +2,7 @@ use Rattle.std.proofs.Common.{◌≡◌, ◌∙◌, ◌<ℤ◌, ℤ, ap, of_z, p
 use Rattle.std.specs.Int.{is_negative}
 use Rattle.afp_requests.specs.declared.call.Call.TheVariants.{WriteExt}
 use Rattle.afp_serial.specs.ForkBytes.{writes}
-use Rattle.afp_core.specs.OnForkBytes.{IsOffset, end_reply, write_asked}
+use Rattle.afp_core.specs.lemma.OnForkBytes.{IsOffset, end_reply, write_asked}
 use Rattle.afp_core.proofs.ForkBytesLemmas.{write_ext-row}
 use Rattle.afp_core.proofs.ForkWriteLemmas.{write-negative}
 use Rattle.afp_core.proofs.state.State.write_ext.Goals as goal

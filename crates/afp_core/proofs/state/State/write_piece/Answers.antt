@@ -3,8 +3,8 @@ use Rattle.afp_base.specs.ForkBytes.{splice}
 use Rattle.afp_serial.specs.ForkBytes.{is_from_end, start_in}
 use Rattle.afp_serial.specs.OnFork.{bytes_of}
 use Rattle.afp_volume.specs.ForkEffect.{fork_of}
-use Rattle.afp_core.specs.OnForkBytes.{IsFew, IsPlace, write_asked}
-use Rattle.afp_core.specs.OnForks.{IsFork}
+use Rattle.afp_core.specs.lemma.OnForkBytes.{IsFew, IsPlace, write_asked}
+use Rattle.afp_core.specs.lemma.OnForks.{IsFork}
 use Rattle.afp_core.proofs.ForkBytesLemmas.{node-there}
 use Rattle.afp_core.proofs.ForkWriteLemmas.{given-of, place-told, write-no_place, write-none, write-refused, write-runs}
 use Rattle.afp_core.proofs.state.State.write_piece.Goals as goal

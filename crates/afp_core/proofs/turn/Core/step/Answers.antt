@@ -4,7 +4,8 @@ use Rattle.afp_serial.proofs.StaysSound.{after-sound}
 use Rattle.afp_serial.specs.History.{entry, is_opened}
 use Rattle.afp_serial.specs.Sound.{IsSound}
 use Rattle.afp_serial.specs.declared.ask.Told.{Told}
-use Rattle.afp_core.specs.ServerState.{ServerState, kept_at, kept_of}
+use Rattle.afp_core.specs.ServerState.{ServerState}
+use Rattle.afp_core.specs.lemma.ServerState.{kept_at, kept_of}
 use Rattle.afp_core.specs.Turn.{RunsAsk}
 use Rattle.afp_core.proofs.TurnLemmas.{legal-entry, not-opened, ready, turned}
 use Rattle.afp_core.proofs.turn.Core.step.Goals as goal

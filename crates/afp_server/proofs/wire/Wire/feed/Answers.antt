@@ -1,7 +1,8 @@
 use Rattle.std.proofs.Common.{refl, sym, ap, subst}
 use Rattle.std.specs.Prelude.{Option, Some, None, IfNone}
 use Rattle.afp_server.specs.lemma.SessionState.{SessionState}
-use Rattle.afp_server.specs.Wire.{FeedStart, FedSoFar, feed_point}
+use Rattle.afp_server.specs.Wire.{FeedStart, FedSoFar}
+use Rattle.afp_server.specs.lemma.Wire.{feed_point}
 use Rattle.afp_server.proofs.WireLemmas.{fed-none}
 use Rattle.afp_server.proofs.wire.Wire.feed.Goals as goal
 

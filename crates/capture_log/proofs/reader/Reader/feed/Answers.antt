@@ -1,6 +1,6 @@
 use Rattle.std.proofs.Common.{◌≡◌, ℕ, List, [], ◌∷◌, ◌++◌, false, sym, ap, ◌∙◌, subst, append_assoc}
 use Rattle.std.specs.Prelude.{Option}
-use Rattle.capture_log.specs.Gathering.{Holds, Gathers, EndsLine}
+use Rattle.capture_log.specs.lemma.Gathering.{Holds, Gathers, EndsLine}
 use Rattle.capture_log.specs.Judged.{JudgedAt}
 use Rattle.capture_log.specs.Reading.{lines_in}
 use Rattle.capture_log.specs.declared.replay_end.ReplayEnd.{ReplayEnd}

@@ -1,5 +1,5 @@
 use Rattle.std.proofs.Common.{◌≡◌, ℕ, List, ◌++◌, length}
-use Rattle.capture_log.specs.Gathering.{Holds}
+use Rattle.capture_log.specs.lemma.Gathering.{Holds}
 use Rattle.capture_log.proofs.reader.Reader.feed.Given as goal
 
 abbrev pub invariant-loop-line : goal.invariant-loop-line

@@ -1,7 +1,7 @@
 use Rattle.std.proofs.Common.{◌+◌, length, sym, ap, ◌∙◌, subst}
-use Rattle.capture_log.specs.Gathering.{ReaderState}
+use Rattle.capture_log.specs.lemma.Gathering.{ReaderState}
 use Rattle.capture_log.specs.Judged.{DecidesEnd}
-use Rattle.capture_log.specs.Taking.{IsCapture}
+use Rattle.capture_log.specs.lemma.Taking.{IsCapture}
 use Rattle.capture_log.proofs.GatheringLemmas.{none-held, ended-empty}
 use Rattle.capture_server.proofs.RunningLemmas.{ok_with}
 use Rattle.capture_log.proofs.reader.Reader.finish.Goals as goal

@@ -1,7 +1,7 @@
 use Rattle.std.proofs.Common.{ℕ, ◌+◌, List, sym, ap, ◌∙◌, subst}
 use Rattle.std.specs.Prelude.{Option, Some, None}
-use Rattle.capture_log.specs.Gathering.{ReaderState}
-use Rattle.capture_log.specs.Taking.{IsCapture, Takes}
+use Rattle.capture_log.specs.lemma.Gathering.{ReaderState}
+use Rattle.capture_log.specs.lemma.Taking.{IsCapture, Takes}
 use Rattle.capture_log.specs.declared.replay_end.ReplayEnd.{ReplayEnd}
 use Rattle.capture_log.proofs.GatheringLemmas.{some-held, ended-last, ended-line}
 use Rattle.capture_server.proofs.RunningLemmas.{ok_with}

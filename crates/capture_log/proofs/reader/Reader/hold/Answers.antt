@@ -1,5 +1,5 @@
 use Rattle.std.proofs.Common.{List, ℕ, ◌++◌, false, sym, ap, ◌∙◌, subst}
-use Rattle.capture_log.specs.Gathering.{ReaderState}
+use Rattle.capture_log.specs.lemma.Gathering.{ReaderState}
 use Rattle.capture_log.specs.Judged.{JudgedAt}
 use Rattle.capture_log.specs.Reading.{lines_in}
 use Rattle.capture_log.specs.declared.replay_end.ReplayEnd.{ReplayEnd}

@@ -1,5 +1,5 @@
 use Rattle.std.proofs.Common.{List, ℕ, ◌+◌, min, length, ap, ◌∙◌, arith}
-use Rattle.capture_log.specs.Gathering.{ReaderState}
+use Rattle.capture_log.specs.lemma.Gathering.{ReaderState}
 use Rattle.capture_log.proofs.GatheringLemmas.{too-long}
 use Rattle.capture_log.proofs.reader.Reader.is_too_long.Goals as goal
 

@@ -1,9 +1,9 @@
 use Rattle.std.proofs.Common.{sym, ap, ◌∙◌, arith, true}
 use Rattle.std.specs.Prelude.{Option, Some}
-use Rattle.afp_core.specs.Telling.{shown_of}
+use Rattle.afp_core.specs.lemma.Telling.{shown_of}
 use Rattle.afp_serial.specs.StatusBlock.{status_block}
 use Rattle.afp_server.specs.Wire.{WireState}
-use Rattle.capture_server.specs.Moves.{wire_or}
+use Rattle.capture_server.specs.lemma.Moves.{wire_or}
 use Rattle.capture_server.specs.States.{ConnectionState}
 use Rattle.capture_server.proofs.ConnectionLemmas.{Ready, ready, fed_connection}
 use Rattle.capture_server.proofs.connection.Connection.feed.Goals as goal

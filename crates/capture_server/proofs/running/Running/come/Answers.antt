@@ -1,9 +1,9 @@
 use Rattle.std.proofs.Common.{List, length, arith, sym, ap, ◌∙◌, subst}
 use Rattle.std.specs.Prelude.{slice_get, if◌then◌else◌}
 use Rattle.afp_base.specs.Counts.{counted}
-use Rattle.afp_core.specs.Telling.{shown_of}
+use Rattle.afp_core.specs.lemma.Telling.{shown_of}
 use Rattle.afp_serial.specs.StatusBlock.{status_block}
-use Rattle.capture_server.specs.Slots.{FeedsAt, IsFit}
+use Rattle.capture_server.specs.lemma.Slots.{FeedsAt, IsFit}
 use Rattle.capture_server.specs.States.{ConnectionState, RunningState}
 use Rattle.capture_server.proofs.RunningLemmas.{lent_back, fit-there, passed-over, came-there}
 use Rattle.capture_server.proofs.running.Running.come.Goals as goal

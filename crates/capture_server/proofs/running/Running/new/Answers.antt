@@ -1,6 +1,6 @@
 use Rattle.std.proofs.Common.{ap, ◌∙◌, sym, subst, refl}
 use Rattle.afp_core.specs.ServerState.{ServerState}
-use Rattle.capture_server.specs.Tellers.{NeverFails}
+use Rattle.capture_server.specs.lemma.Tellers.{NeverFails}
 use Rattle.capture_server.proofs.running.Running.new.Goals as goal
 
 pub invariant_of-result : goal.invariant_of-result

@@ -1,6 +1,7 @@
 use Rattle.std.proofs.Common.{◌≡◌, ◌∙◌, ◌≤◌, length, vec_capacity, sym, ap, subst}
 use Rattle.fork_bytes.specs.Blocks.{largest_fork}
-use Rattle.fork_bytes.specs.Kept.{IsKept, Fits, bytes_of, with_puts}
+use Rattle.fork_bytes.specs.Kept.{bytes_of}
+use Rattle.fork_bytes.specs.lemma.Kept.{IsKept, Fits, with_puts}
 use Rattle.fork_bytes.specs.Plan.{PlanState}
 use Rattle.fork_bytes.proofs.Applies.{given_by, given_fits, given_kept, given_after}
 use Rattle.fork_bytes.proofs.fork.Fork.apply.Goals as goal

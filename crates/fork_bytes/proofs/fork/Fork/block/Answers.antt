@@ -1,6 +1,7 @@
 use Rattle.std.proofs.Common.{◌≡◌, ◌∙◌, true, ap, sym, subst, []}
 use Rattle.fork_bytes.specs.Blocks.{block_at}
-use Rattle.fork_bytes.specs.Kept.{IsPlace, are_rising, bytes_in}
+use Rattle.fork_bytes.specs.Kept.{are_rising, bytes_in}
+use Rattle.fork_bytes.specs.lemma.Kept.{IsPlace}
 use Rattle.fork_bytes.proofs.Blocks.{block_is}
 use Rattle.fork_bytes.proofs.Places.{found-at, not-at}
 use Rattle.fork_bytes.proofs.fork.Fork.block.Goals as goal

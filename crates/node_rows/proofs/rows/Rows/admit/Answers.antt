@@ -1,7 +1,8 @@
 use Rattle.std.proofs.Common.{◌≡◌, ◌∙◌, ap, sym, subst, List, None, arith}
 use Rattle.afp_volume.specs.VolumeState.{Row}
 use Rattle.afp_volume.specs.Walk.{child_by_key, row_at}
-use Rattle.node_rows.specs.Kept.{AreKept, RowsValue, admitted}
+use Rattle.node_rows.specs.Kept.{RowsValue, admitted}
+use Rattle.node_rows.specs.lemma.Kept.{AreKept}
 use Rattle.node_rows.specs.declared.child.Child.{Child}
 use Rattle.node_rows.proofs.Keeping.{free-child, free-apart, none-there, keeps-new}
 use Rattle.node_rows.proofs.rows.Rows.admit.Goals as goal

@@ -4,7 +4,8 @@ use Rattle.std.specs.List.{list_all}
 use Rattle.afp_volume.specs.SoundVolume.{last_next_id}
 use Rattle.afp_volume.specs.VolumeState.{Row}
 use Rattle.afp_volume.specs.Walk.{child_by_key, row_at}
-use Rattle.node_rows.specs.Kept.{AreKept, RowsValue, admitted}
+use Rattle.node_rows.specs.Kept.{RowsValue, admitted}
+use Rattle.node_rows.specs.lemma.Kept.{AreKept}
 use Rattle.node_rows.specs.declared.child.Child.{Child}
 use Rattle.node_rows.proofs.Keeping.{free-child, free-apart, none-drawn, none-there, keeps-new, admitted-last}
 use Rattle.node_rows.proofs.rows.Rows.insert.Goals as goal

@@ -1,7 +1,8 @@
 use Rattle.std.proofs.Common.{◌≡◌, ◌∙◌, ap, sym, subst, List, [], Some, refl, true}
 use Rattle.afp_volume.specs.Edits.{with_changed}
 use Rattle.afp_volume.specs.VolumeState.{Row, new_row}
-use Rattle.node_rows.specs.Kept.{AreKept, RowsValue, marked}
+use Rattle.node_rows.specs.Kept.{RowsValue, marked}
+use Rattle.node_rows.specs.lemma.Kept.{AreKept}
 use Rattle.node_rows.specs.lemma.Places.{IsPlaceOf}
 use Rattle.node_rows.proofs.Keeping.{is-place, no-place, changed-default, changed-nowhere, keeps-marked}
 use Rattle.node_rows.proofs.rows.Rows.mark.Goals as goal

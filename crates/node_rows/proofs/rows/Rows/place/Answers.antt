@@ -5,7 +5,8 @@ use Rattle.afp_volume.specs.Edits.{with_changed, without, at_place, is_taken}
 use Rattle.afp_volume.specs.Order.{rises, put_in}
 use Rattle.afp_volume.specs.VolumeState.{Row}
 use Rattle.node_rows.specs.Children.{child_order, node_id}
-use Rattle.node_rows.specs.Kept.{AreKept, RowsValue}
+use Rattle.node_rows.specs.Kept.{RowsValue}
+use Rattle.node_rows.specs.lemma.Kept.{AreKept}
 use Rattle.node_rows.specs.lemma.Places.{IsPlaceOf, is_other, is_apart}
 use Rattle.node_rows.specs.declared.child.Child.{Child}
 use Rattle.node_rows.proofs.Keeping.{is-place, no-place, row-there, id-there, same-id, changed-default, changed-nowhere, children-without, apart-sorted, untaken-apart, keeps-placed}

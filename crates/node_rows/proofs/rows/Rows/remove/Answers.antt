@@ -2,7 +2,8 @@ use Rattle.std.proofs.Common.{◌≡◌, ◌∙◌, ap, sym, subst, List, Some}
 use Rattle.std.specs.List.{filter}
 use Rattle.afp_volume.specs.Edits.{without}
 use Rattle.afp_volume.specs.VolumeState.{Row}
-use Rattle.node_rows.specs.Kept.{AreKept, RowsValue}
+use Rattle.node_rows.specs.Kept.{RowsValue}
+use Rattle.node_rows.specs.lemma.Kept.{AreKept}
 use Rattle.node_rows.specs.lemma.Places.{IsPlaceOf, is_other}
 use Rattle.node_rows.specs.declared.child.Child.{Child}
 use Rattle.node_rows.proofs.Keeping.{is-place, no-place, row-there, same-id, gone-there, gone-nowhere, keeps-gone}

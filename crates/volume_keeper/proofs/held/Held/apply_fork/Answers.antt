@@ -1,7 +1,7 @@
 use Rattle.std.proofs.Common.{◌≡◌, ◌≤◌, ℕ, sym, subst, rules}
 use Rattle.afp_volume.specs.DesktopLaws.{with_desktop}
 use Rattle.afp_volume.specs.VolumeState.{VolumeState}
-use Rattle.volume_keeper.specs.Whole.{IsHeld}
+use Rattle.volume_keeper.specs.lemma.Whole.{IsHeld}
 use Rattle.volume_keeper.proofs.ForkTyped.{fork_held, tree_change, whole_effect}
 use Rattle.volume_keeper.proofs.held.Held.apply_fork.Goals as goal
 

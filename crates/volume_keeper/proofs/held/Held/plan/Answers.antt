@@ -4,7 +4,7 @@ use Rattle.afp_volume.specs.DesktopLaws.{with_desktop}
 use Rattle.volume_tree.specs.Planned.{planned}
 use Rattle.volume_tree.specs.Requests.{tree_call}
 use Rattle.volume_tree.specs.Shown.{opened}
-use Rattle.volume_keeper.specs.Whole.{IsHeld}
+use Rattle.volume_keeper.specs.lemma.Whole.{IsHeld}
 use Rattle.volume_keeper.proofs.WholePlans.{whole_refuses, whole_effect, plan_is_held, plan_of_whole, plan_typed}
 use Rattle.volume_keeper.proofs.held.Held.plan.Goals as goal
 

@@ -19,7 +19,7 @@ use Rattle.volume_records.specs.declared.rows.Reason.TheVariants.{Shape, Parent,
 use Rattle.volume_records.specs.declared.rows.TableRow.{TableRow}
 use Rattle.volume_records.specs.declared.rows.TableRow.TheVariants as row
 use Rattle.volume_records.specs.FirstBad.{first_of}
-use Rattle.volume_records.specs.Climb.{id_of, climbs_to_root, EndsAt}
+use Rattle.volume_records.specs.lemma.Climb.{id_of, climbs_to_root, EndsAt}
 
 -- where a node stands, and how long its forks are
 abbrev pub place_of : Node → Place

@@ -13,7 +13,7 @@ use Rattle.afp_names.specs.Path.{PathValue}
 use Rattle.afp_requests.specs.declared.call.Call.{Call}
 use Rattle.afp_requests.specs.declared.call.Call.TheVariants.{CreateDir}
 use Rattle.afp_core.specs.ServerState.{KeptWorld}
-use Rattle.afp_core.specs.SessionList.{session_of}
+use Rattle.afp_core.specs.lemma.SessionList.{session_of}
 use Rattle.afp_core.specs.Turn.{done}
 use Rattle.afp_serial.specs.Answer.{refusal_reply}
 use Rattle.afp_serial.specs.CallRow.{plain}

@@ -7,7 +7,8 @@ use Rattle.afp_base.specs.declared.code.Code.{Code}
 use Rattle.afp_base.specs.declared.code.Code.TheVariants as code
 use Rattle.afp_replies.specs.declared.reply.Reply.{Reply as AfpReply}
 use Rattle.afp_replies.specs.declared.reply.Reply.TheVariants.{End, EndExt, Start, StartExt}
-use Rattle.afp_core.specs.ServerState.{KeptWorld, with_forks}
+use Rattle.afp_core.specs.ServerState.{KeptWorld}
+use Rattle.afp_core.specs.lemma.ServerState.{with_forks}
 use Rattle.afp_core.specs.Turn.{done}
 use Rattle.afp_core.specs.declared.read.ReadSpan.{ReadSpan}
 use Rattle.afp_serial.specs.Answer.{refusal_reply}

@@ -4,7 +4,7 @@ use Rattle.afp_serial.specs.Shown.{Shown}
 use Rattle.afp_server.specs.Wire.{open_link}
 use Rattle.afp_server.specs.declared.tally.Tally.{Tally}
 use Rattle.capture_server.specs.Connections.{Connection}
-use Rattle.capture_server.specs.Moves.{FeedsConnection, RestsConnection, LosesConnection, Compares}
+use Rattle.capture_server.specs.lemma.Moves.{FeedsConnection, RestsConnection, LosesConnection, Compares}
 use Rattle.capture_server.specs.States.{ConnectionState, IsConnection}
 use Rattle.capture_server.specs.declared.difference.Difference.{Difference}
 

@@ -9,7 +9,7 @@ use Rattle.afp_serial.specs.World.{Session}
 use Rattle.afp_volume.specs.VolumeState.{Row, VolumeState}
 use Rattle.afp_volume.specs.Walk.{row_at}
 use Rattle.afp_core.specs.ServerState.{KeptWorld}
-use Rattle.afp_core.specs.SessionList.{session_of}
+use Rattle.afp_core.specs.lemma.SessionList.{session_of}
 
 -- The call asks for this fork with this access, and for these bits of its file, which is in the volume at the index; what is left of its row speaks of
 -- that file.

@@ -1,0 +1,32 @@
+-- What the code and the proofs go by beside Passing; no public contract cites it.
+use Rattle.std.specs.Prelude.{◌≡◌, Bool, true, false, List, Option, Some, None, Result, Ok, Err}
+use Rattle.afp_base.specs.declared.bytes.OutOfMemory.{OutOfMemory}
+use Rattle.afp_base.specs.declared.ids.LinkNumber.{LinkNumber}
+use Rattle.afp_outside.specs.Gate.{Passed, in_by}
+use Rattle.afp_serial.specs.Went.{Step}
+use Rattle.dsi_frame.specs.declared.frame.DsiCommand.{DsiCommand}
+use Rattle.afp_server.specs.LinkRun.{carries_call}
+use Rattle.afp_server.specs.declared.stage.FrameEnd.{FrameEnd}
+use Rattle.afp_server.specs.declared.stage.Stage.{Stage}
+use Rattle.afp_server.specs.declared.stage.Stage.TheVariants as stages
+use Rattle.afp_server.specs.Passing.{calls_in}
+
+-- each of these calls went in, and came out
+abbrev pub all_passed : List Step → Passed
+all_passed steps = record { went_in = calls_in steps; came_out = calls_in steps }
+
+abbrev pub if_call : Bool → LinkNumber → Option LinkNumber
+if_call true link = Some link
+if_call false link = None
+
+-- the link of the session that a frame is a call on, if it is one: a request that carries a call, on an open session
+abbrev pub call_link : Bool → Stage → DsiCommand → Option LinkNumber
+call_link true stage kind = None
+call_link false stages.Fresh kind = None
+call_link false (stages.Open link) kind = if_call (carries_call kind) link
+call_link false stages.Closing kind = None
+
+-- The call went in before it was asked; where there was no memory for its copy nothing did.
+abbrev pub PassesIn : Option LinkNumber → Result (Option FrameEnd) OutOfMemory → Passed → Passed → Type 0
+PassesIn called (Ok end) old new = new ≡ in_by old called
+PassesIn called (Err fault) old new = new ≡ old

@@ -1,0 +1,4 @@
+pub mod Gathering
+pub mod Judged
+pub mod SetUp
+pub mod Taking

@@ -1,0 +1,5 @@
+pub mod Moves
+pub mod Running
+pub mod Slots
+pub mod States
+pub mod Tellers

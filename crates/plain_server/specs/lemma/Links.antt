@@ -1,0 +1,30 @@
+-- What the code and the proofs go by beside Links; no public contract cites it.
+use Rattle.std.specs.Prelude.{◌≡◌, ℕ, ◌≤◌, ◌-◌, true, false, List, length, Option, Some, None}
+use Rattle.afp_base.specs.Counts.{Rises}
+use Rattle.afp_outside.specs.Gate.{Passed}
+use Rattle.afp_outside.specs.Link.{LinkState}
+use Rattle.afp_outside.specs.Listener.{DoorState}
+use Rattle.afp_serial.specs.Household.{Household}
+use Rattle.afp_serial.specs.Shown.{Shown}
+use Rattle.plain_server.specs.declared.links.DoorEnd.{DoorEnd}
+use Rattle.plain_server.specs.declared.links.DoorEnd.TheVariants as doors
+use Rattle.plain_server.specs.Links.{Serves, ServesOne, HandsBack}
+
+-- no link came
+pub record HandsNone {L : Type 0} (old new : DoorState L) : Type 0 where
+  pub handed : new.handed ≡ old.handed
+  pub back : new.back ≡ old.back
+
+-- Serving the next link, by why there was none.
+abbrev pub ServesNext : {L P : Type 0} → (L → LinkState) → (P → Passed) → Household → DoorState L → Shown → Option DoorEnd → DoorState L → Shown → Type 0
+ServesNext state passed house old a None new b = ServesOne state passed house old a new b
+ServesNext state passed house old a (Some doors.Done) new b = HandsNone old new × (new.closed ≡ true) × (old.faults ≤ new.faults) × (b ≡ a)
+ServesNext state passed house old a (Some doors.Failed) new b = HandsNone old new × Rises 1 old.faults new.faults × (b ≡ a)
+ServesNext state passed house old a (Some doors.Memory) new b = HandsBack state old new × (b ≡ a)
+
+-- so many links were served, and the door is open
+pub record ServedSoFar {L P : Type 0} (state : L → LinkState) (passed : P → Passed) (house : Household) (count : ℕ) (old : DoorState L) (a : Shown) (new : DoorState L) (b : Shown) : Type 0 where
+  pub links : List L
+  pub serves : Serves state passed house old a links new b
+  pub many : length links ≡ count
+  pub open_still : new.closed ≡ false

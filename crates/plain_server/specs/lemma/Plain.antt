@@ -1,0 +1,52 @@
+-- What the code and the proofs go by beside Plain; no public contract cites it.
+use Rattle.std.specs.Prelude.{◌≡◌, ◌⊎◌, ℕ, List, length, Option, string_bytes}
+use Rattle.hex.specs.Hex.{encode_lower}
+use Rattle.volume_keeper.specs.declared.loading.LoadFault.{LoadFault}
+use Rattle.volume_keeper.specs.declared.loading.LoadFault.TheVariants as load
+use Rattle.afp_core.specs.ServerState.{ServerState}
+use Rattle.afp_core.specs.declared.counts.Counts.{Counts}
+use Rattle.afp_base.specs.Counts.{counted}
+use Rattle.afp_outside.specs.Gate.{Passed}
+use Rattle.afp_outside.specs.Link.{LinkState}
+use Rattle.afp_outside.specs.Listener.{DoorState}
+use Rattle.afp_serial.specs.History.{opened_in}
+use Rattle.afp_serial.specs.Household.{Household}
+use Rattle.afp_serial.specs.Shown.{Shown}
+use Rattle.plain_server.specs.Keeping.{Keeping}
+use Rattle.plain_server.specs.declared.links.DoorEnd.TheVariants as doors
+use Rattle.plain_server.specs.declared.plain.PlainEnd.{PlainEnd}
+use Rattle.plain_server.specs.declared.plain.PlainEnd.TheVariants as plain
+use Rattle.plain_server.specs.Plain.{AreCounts, ServesHouse, FailsToLoad, ServesCore}
+
+-- its counts went on by the history
+pub record CoreCounts (core : ServerState) (shown : Shown) (counts : Counts) : Type 0 where
+  pub entries : counts.entries ≡ counted (length shown.history) core.entries
+  pub sessions : counts.sessions ≡ counted (opened_in shown.start shown.history) core.opened
+
+abbrev pub EndsCore : {L P : Type 0} → (L → LinkState) → (P → Passed) → Household → ServerState → ℕ → DoorState L → DoorState L → PlainEnd → Type 0
+EndsCore state passed house core limit old new plain.Memory = (shown : Shown) × ServesCore state passed house core limit old doors.Memory new shown
+EndsCore state passed house core limit old new (plain.DoorFailed counts) = (shown : Shown) × ServesCore state passed house core limit old doors.Failed new shown × CoreCounts core shown counts
+EndsCore state passed house core limit old new (plain.Served counts) = (shown : Shown) × ServesCore state passed house core limit old doors.Done new shown × CoreCounts core shown counts
+EndsCore state passed house core limit old new plain.Refused = ⊥
+EndsCore state passed house core limit old new (plain.BadRecord index hex reason) = ⊥
+EndsCore state passed house core limit old new (plain.LoadFailed index) = ⊥
+
+-- how a run ends, by why a load gave no volume
+abbrev pub EndsLoad : ℕ → LoadFault → PlainEnd → Type 0
+EndsLoad index fault plain.Memory = Unit {0}
+EndsLoad index fault (plain.BadRecord at_index hex reason) = (at_index ≡ index) × ((key : List ℕ) × (string_bytes hex ≡ encode_lower key) × (fault ≡ load.BadRecord key reason))
+EndsLoad index fault (plain.LoadFailed at_index) = (at_index ≡ index) × (fault ≡ load.Failed)
+EndsLoad index fault plain.Refused = ⊥
+EndsLoad index fault (plain.DoorFailed counts) = ⊥
+EndsLoad index fault (plain.Served counts) = ⊥
+
+abbrev pub EndsHouse : {L P K : Type 0} → (L → LinkState) → (P → Passed) → Keeping K → Household → List K → ℕ → Option ℕ → DoorState L → DoorState L → PlainEnd → Type 0
+EndsHouse state passed kept_by house keepers limit clock old new plain.Refused = (length keepers ≡ length house.volumes → ⊥) × (new ≡ old)
+EndsHouse state passed kept_by house keepers limit clock old new plain.Memory = (new ≡ old) ⊎ ((shown : Shown) × ServesHouse state passed kept_by house keepers limit clock old doors.Memory new shown)
+EndsHouse state passed kept_by house keepers limit clock old new (plain.BadRecord index hex reason) =
+    (new ≡ old) × ((key : List ℕ) × (string_bytes hex ≡ encode_lower key) × FailsToLoad kept_by house keepers clock index (load.BadRecord key reason))
+EndsHouse state passed kept_by house keepers limit clock old new (plain.LoadFailed index) = (new ≡ old) × FailsToLoad kept_by house keepers clock index load.Failed
+EndsHouse state passed kept_by house keepers limit clock old new (plain.DoorFailed counts) =
+    (shown : Shown) × ServesHouse state passed kept_by house keepers limit clock old doors.Failed new shown × AreCounts shown counts
+EndsHouse state passed kept_by house keepers limit clock old new (plain.Served counts) =
+    (shown : Shown) × ServesHouse state passed kept_by house keepers limit clock old doors.Done new shown × AreCounts shown counts

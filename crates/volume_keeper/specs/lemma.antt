@@ -1,0 +1,5 @@
+pub mod ForkChanges
+pub mod Loading
+pub mod Rebuilt
+pub mod Steps
+pub mod Whole

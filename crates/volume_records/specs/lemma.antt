@@ -1,0 +1,3 @@
+pub mod Climb
+pub mod Judged
+pub mod KeyOrder
