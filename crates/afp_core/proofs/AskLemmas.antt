@@ -13,13 +13,10 @@ use Rattle.afp_serial.specs.declared.ask.Ask.TheVariants as ask
 use Rattle.afp_serial.specs.declared.ask.Outcome.{Outcome}
 use Rattle.afp_serial.specs.declared.ask.Told.{Told}
 use Rattle.afp_serial.specs.declared.ask.Told.TheVariants.{Opened, Live, Done, Displaced}
-use Rattle.afp_serial.specs.Answer.{after_at, after_call, answer_at, drain_moment, is_expired, committed_in, is_full, committed_at, link_number, new_session, refusal_reply, request, told_call, told_pulse}
+use Rattle.afp_serial.specs.Answer.{after_at, after_call, answer_at, drain_moment, is_expired, committed_in, is_full, committed_at, link_number, new_session, refusal_reply, request, told_call, told_pulse, Verdict, block_of, refused, verdict, verdict_of_block, verdict_of_kept, verdict_of_row}
 use Rattle.afp_serial.specs.Limits.{links_end, most_sessions}
-use Rattle.afp_serial.specs.CallRow.{plain}
+use Rattle.afp_serial.specs.World.{plain, session_at, without_session, World, Session}
 use Rattle.afp_serial.specs.Rows.{refusal}
-use Rattle.afp_serial.specs.Sessions.{session_at, without_session}
-use Rattle.afp_serial.specs.Steps.{Verdict, block_of, refused, verdict, verdict_of_block, verdict_of_kept, verdict_of_row}
-use Rattle.afp_serial.specs.World.{World, Session}
 use Rattle.afp_core.specs.lemma.SessionList.{IsAt, session_of}
 use Rattle.afp_core.specs.lemma.Spelling.{IsSpelled}
 use Rattle.afp_core.specs.Turn.{Comes, IsReady, RunsAsk, done, takes_memory}

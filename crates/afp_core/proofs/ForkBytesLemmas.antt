@@ -16,11 +16,10 @@ use Rattle.afp_base.specs.declared.ids.ForkRef.{ForkRef}
 use Rattle.afp_serial.specs.Lock.{lock_asked, locks}
 use Rattle.afp_volume.specs.SoundVolume.{has_file}
 use Rattle.afp_serial.specs.Answer.{refusal_reply, refused_reply}
-use Rattle.afp_serial.specs.CallRow.{Effect, Refusal, Refused, CallRow, plain}
+use Rattle.afp_serial.specs.World.{Effect, Refusal, Refused, CallRow, plain, World, Session}
 use Rattle.afp_serial.specs.ForkBytes.{ReadAsked, ahead, meets_end, most_read, read_bytes, read_refusals, read_reply, reads, stop_in, up_to, writes}
 use Rattle.afp_serial.specs.OnFork.{OpenFile, bytes_of, committed_with, done_with, is_locked, on_fork, open_file, row_on_fork}
 use Rattle.afp_serial.specs.Rows.{committed, effect, ends_session, refusal, row}
-use Rattle.afp_serial.specs.World.{World, Session}
 use Rattle.afp_serial.specs.declared.ask.Outcome.{Outcome}
 use Rattle.afp_serial.specs.declared.ask.Outcome.TheVariants as outcome
 use Rattle.afp_serial.specs.declared.ask.Told.{Told}

@@ -17,13 +17,11 @@ use Rattle.afp_bitmap.specs.declared.params.Values.{Values}
 use Rattle.afp_replies.specs.Replies.{canonical_reply}
 use Rattle.afp_replies.specs.declared.reply.Reply.TheVariants.{Empty, Opened, Params}
 use Rattle.afp_requests.specs.declared.call.Call.TheVariants as call
-use Rattle.afp_serial.specs.CallRow.{Refusal, plain, with_empty_reply}
+use Rattle.afp_serial.specs.World.{Refusal, plain, with_empty_reply, closing, World, OpenFork}
 use Rattle.afp_serial.specs.Fork.{get_fork_parms_reply, is_locked_between, is_other_length, length_for, set_fork_parms_refusals}
 use Rattle.afp_serial.specs.OnFork.{bytes_of, keeper_if, keeps_all, own_keeper, with_bytes}
 use Rattle.afp_serial.specs.OnVolume.{opened_on}
 use Rattle.afp_serial.specs.Rows.{row}
-use Rattle.afp_serial.specs.Sessions.{closing}
-use Rattle.afp_serial.specs.World.{World, OpenFork}
 use Rattle.afp_serial.specs.declared.ask.Outcome.{Outcome}
 use Rattle.afp_serial.specs.declared.ask.Told.{Told}
 use Rattle.afp_volume.specs.ForkEffect.{fork_of, would_pass}

@@ -5,9 +5,8 @@ use Rattle.std.specs.Prelude.{find, slice_get}
 use Rattle.std.proofs.lemmas.Bool.{and_parts, cases_eq, eq-eqb, eqb-true, ne_eqb}
 use Rattle.afp_serial.specs.Answer.{new_session}
 use Rattle.afp_serial.specs.OnFork.{open_file, own_fork}
-use Rattle.afp_serial.specs.Sessions.{closing, has_opened, has_session, is_open, volume_at, without_session}
+use Rattle.afp_serial.specs.World.{closing, has_opened, has_session, is_open, volume_at, without_session, World, Session, OpenFork, Lock}
 use Rattle.afp_serial.specs.Sound.{has_lawful_locks, has_lawful_opens, has_volume_open, is_file_of, is_lawful_open}
-use Rattle.afp_serial.specs.World.{World, Session, OpenFork, Lock}
 use Rattle.afp_volume.proofs.TestedLists.{all-weaker, find-all, find-passes}
 use Rattle.afp_volume.specs.SoundVolume.{has_file}
 use Rattle.afp_volume.specs.VolumeState.{Row, VolumeState}

@@ -11,7 +11,7 @@ use Rattle.afp_base.specs.declared.code.Code.TheVariants.{LockErr, NoMoreLocks, 
 use Rattle.afp_replies.specs.Replies.{canonical_reply}
 use Rattle.afp_requests.specs.declared.call.Call.{Call}
 use Rattle.afp_serial.specs.Answer.{refusal_reply}
-use Rattle.afp_serial.specs.CallRow.{plain}
+use Rattle.afp_serial.specs.World.{plain}
 use Rattle.afp_serial.specs.ForkBytes.{is_from_end, start_in}
 use Rattle.afp_serial.specs.Lock.{has_lock, last_byte, lock_asked, locked, locking_refusals, locks, locks_range, range_asked, range_of, range_refusals, range_to, unlocked}
 use Rattle.afp_serial.specs.OnFork.{OpenFile, bytes_of}

@@ -13,12 +13,11 @@ use Rattle.afp_base.specs.declared.code.Code.TheVariants.{Ok, AccessDenied, Disk
 use Rattle.afp_replies.specs.Replies.{canonical_reply}
 use Rattle.afp_requests.specs.declared.call.Call.{Call}
 use Rattle.afp_serial.specs.Answer.{refusal_reply}
-use Rattle.afp_serial.specs.CallRow.{Refusal, plain}
+use Rattle.afp_serial.specs.World.{Refusal, plain, World}
 use Rattle.afp_serial.specs.ForkBytes.{WriteAsked, is_from_end, start_in, write_refusals, write_start, writes, writes_some, written_bytes}
 use Rattle.afp_serial.specs.OnFork.{OpenFile, bytes_of, is_locked, keeper_if, with_bytes}
 use Rattle.afp_serial.specs.OnVolume.{keeper_of, with_state}
 use Rattle.afp_serial.specs.Rows.{ends_session, row}
-use Rattle.afp_serial.specs.World.{World}
 use Rattle.afp_serial.specs.declared.ask.Outcome.{Outcome}
 use Rattle.afp_serial.specs.declared.ask.Outcome.TheVariants as outcome
 use Rattle.afp_serial.specs.declared.ask.Told.{Told}

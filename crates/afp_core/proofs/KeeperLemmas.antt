@@ -4,8 +4,7 @@ use Rattle.std.specs.Prelude.{option_map, slice_get, slice_set}
 use Rattle.std.proofs.Common.{add-one}
 use Rattle.std.proofs.lemmas.List.{length-map}
 use Rattle.std.proofs.lemmas.Option.{slice_get_past}
-use Rattle.afp_serial.specs.Sessions.{volume_at}
-use Rattle.afp_serial.specs.World.{World}
+use Rattle.afp_serial.specs.World.{volume_at, World}
 use Rattle.afp_volume.specs.VolumeState.{VolumeState}
 use Rattle.kept_volume.specs.Kept.{KeptState}
 use Rattle.afp_serial.specs.declared.ask.Outcome.TheVariants as outcome

@@ -11,12 +11,11 @@ use Rattle.afp_bitmap.specs.Bits.{IsWithin, file_mask}
 use Rattle.afp_replies.specs.Replies.{canonical_reply}
 use Rattle.afp_replies.specs.declared.reply.Reply.{Reply as AfpReply}
 use Rattle.afp_requests.specs.declared.call.Call.{Call}
-use Rattle.afp_serial.specs.Answer.{refusal_reply, refused_reply}
-use Rattle.afp_serial.specs.CallRow.{Effect, Refusal, Refused, CallRow, plain, with_empty_reply}
+use Rattle.afp_serial.specs.Answer.{refusal_reply, refused_reply, verdict_of_row}
+use Rattle.afp_serial.specs.World.{Effect, Refusal, Refused, CallRow, plain, with_empty_reply, World, Session}
 use Rattle.afp_serial.specs.OnFork.{OpenFile, committed_with, done_with, keeper_if, on_fork, open_file, own_keeper, row_on_fork, with_bytes}
 use Rattle.afp_serial.specs.OnVolume.{keeper_of, with_state, with_volume_state}
 use Rattle.afp_serial.specs.Rows.{committed, effect, ends_session, refusal, row}
-use Rattle.afp_serial.specs.World.{World, Session}
 use Rattle.afp_serial.specs.declared.ask.Outcome.{Outcome}
 use Rattle.afp_serial.specs.declared.ask.Outcome.TheVariants as outcome
 use Rattle.afp_serial.specs.declared.ask.Told.{Told}
@@ -38,7 +37,6 @@ use Rattle.afp_core.proofs.KeeperLemmas.{comes-same}
 use Rattle.afp_core.proofs.OnVolumeLemmas.{keeper-fails, kept-stays, state-changes, told-effect}
 use Rattle.afp_core.proofs.RowLemmas.{has_effect}
 use Rattle.afp_core.proofs.SessionLemmas.{session_of-number}
-use Rattle.afp_serial.specs.Steps.{verdict_of_row}
 use Rattle.kept_volume.specs.Changing.{FailsIn, Settles}
 use Rattle.kept_volume.specs.ForkChanging.{GivesBytes, given}
 use Rattle.kept_volume.specs.Kept.{KeptState}

@@ -13,11 +13,9 @@ use Rattle.afp_requests.specs.declared.call.Call.TheVariants.{CloseDir, Flush}
 use Rattle.afp_base.specs.declared.ids.NodeId.{NodeId}
 use Rattle.afp_base.specs.declared.ids.VolumeId.{VolumeId}
 use Rattle.afp_serial.specs.Answer.{effect_reply, refusal_reply}
-use Rattle.afp_serial.specs.CallRow.{Effect, CallRow, plain}
-use Rattle.afp_serial.specs.OnVolume.{refused_before, done_on, keeper_of, on_volume, opened_on, with_state, with_volume_state}
+use Rattle.afp_serial.specs.World.{Effect, CallRow, plain, refused_before, has_opened, volume_at, World, Session}
+use Rattle.afp_serial.specs.OnVolume.{done_on, keeper_of, on_volume, opened_on, with_state, with_volume_state}
 use Rattle.afp_serial.specs.Rows.{committed, effect, ends_session, refusal, row}
-use Rattle.afp_serial.specs.Sessions.{has_opened, volume_at}
-use Rattle.afp_serial.specs.World.{World, Session}
 use Rattle.afp_serial.specs.declared.ask.Outcome.{Outcome}
 use Rattle.afp_serial.specs.declared.ask.Outcome.TheVariants as outcome
 use Rattle.afp_serial.specs.declared.ask.Told.{Told}

@@ -16,12 +16,10 @@ use Rattle.afp_replies.specs.declared.reply.Reply.TheVariants.{Opened}
 use Rattle.afp_requests.specs.declared.call.Call.{Call}
 use Rattle.afp_requests.specs.declared.call.Call.TheVariants as call
 use Rattle.afp_serial.specs.Answer.{link_number, refusal_reply}
-use Rattle.afp_serial.specs.CallRow.{Effect, Refusal, Refused, CallRow, plain}
+use Rattle.afp_serial.specs.World.{Effect, Refusal, Refused, CallRow, plain, refused_before, has_opened, is_open, volume_at, World, Session, OpenFork}
 use Rattle.afp_serial.specs.Fork.{OpenAsked, access_of, denied_of, file_asked, fork_in, fork_ref, has_most_forks, is_denied, lowest_free, new_fork, opened_reply, opens_asked, opens_fork, with_fork, with_open}
-use Rattle.afp_serial.specs.OnVolume.{opened_on, refused_before, refused_on}
+use Rattle.afp_serial.specs.OnVolume.{opened_on, refused_on}
 use Rattle.afp_serial.specs.Rows.{effect, ends_session, refusal, row}
-use Rattle.afp_serial.specs.Sessions.{has_opened, is_open, volume_at}
-use Rattle.afp_serial.specs.World.{World, Session, OpenFork}
 use Rattle.afp_serial.specs.declared.ask.Outcome.{Outcome}
 use Rattle.afp_serial.specs.declared.ask.Told.{Told}
 use Rattle.afp_serial.specs.declared.ask.Told.TheVariants.{Reply}

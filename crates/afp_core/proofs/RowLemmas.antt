@@ -11,18 +11,15 @@ use Rattle.afp_requests.specs.declared.call.Call.TheVariants.{CloseVol, Login, L
 use Rattle.afp_serial.specs.declared.ask.Outcome.{Outcome}
 use Rattle.afp_serial.specs.declared.ask.Told.{Told}
 use Rattle.afp_serial.specs.declared.ask.Told.TheVariants.{Reply}
-use Rattle.afp_serial.specs.Answer.{refusal_reply, effect_reply}
+use Rattle.afp_serial.specs.Answer.{refusal_reply, effect_reply, verdict_of_row}
 use Rattle.afp_serial.specs.Login.{guest_id}
 use Rattle.afp_serial.specs.OpenVol.{open_vol_reply, state_named, volume_named, with_volume}
 use Rattle.afp_replies.specs.Replies.{canonical_reply}
 use Rattle.afp_volume.specs.GetVolParms.{get_vol_parms_refusal}
 use Rattle.afp_volume.specs.VolumeState.{VolumeState}
-use Rattle.afp_serial.specs.CallRow.{Effect, plain}
+use Rattle.afp_serial.specs.World.{Effect, plain, volume_at, with_session, closing, has_opened, without_session, World, Session, OpenFork}
 use Rattle.afp_serial.specs.Rows.{row, refusal, effect}
-use Rattle.afp_serial.specs.Sessions.{volume_at, with_session, closing, has_opened, without_session}
 use Rattle.afp_serial.specs.StatusBlock.{no_user, versions}
-use Rattle.afp_serial.specs.Steps.{verdict_of_row}
-use Rattle.afp_serial.specs.World.{World, Session, OpenFork}
 use Rattle.afp_core.specs.lemma.SessionList.{replaced}
 use Rattle.afp_core.specs.ServerState.{KeptWorld}
 use Rattle.afp_core.specs.lemma.ServerState.{forks_in, with_forks, with_sessions}

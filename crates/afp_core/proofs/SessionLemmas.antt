@@ -5,8 +5,7 @@ use Rattle.std.specs.List.{AllByRecursion, IsDistinct, position_or_len}
 use Rattle.std.specs.Map.{keys_of, values_of, lookup, remove_entry, set_value}
 use Rattle.std.proofs.lemmas.Bool.{cases_eq, eq-eqb, ne_eqb, eqb-false, ltb-false, true≢false}
 use Rattle.afp_serial.specs.Answer.{is_expired}
-use Rattle.afp_serial.specs.Sessions.{has_session, stands_at}
-use Rattle.afp_serial.specs.World.{Session}
+use Rattle.afp_serial.specs.World.{has_session, stands_at, Session}
 use Rattle.afp_core.specs.lemma.SessionList.{attached, session_of, replaced, IsAt}
 use Rattle.afp_core.specs.declared.sessions.Linked.{Linked}
 

@@ -15,14 +15,12 @@ use Rattle.afp_serial.specs.declared.ask.Outcome.TheVariants as outcome
 use Rattle.afp_serial.specs.declared.ask.Told.{Told}
 use Rattle.afp_serial.specs.declared.ask.Told.TheVariants.{Opened, Reply, Live, Done, Displaced, Memory}
 use Rattle.afp_serial.specs.ForkLaws.{OpensAreFew}
-use Rattle.afp_serial.specs.Answer.{after, answer, answer_at, committed_at, committed_of, is_full, is_legal, is_legal_outcome, link_number, refusal_reply, told_call, told_parting, told_pulse, told_verdict}
+use Rattle.afp_serial.specs.Answer.{after, answer, answer_at, committed_at, committed_of, is_full, is_legal, is_legal_outcome, link_number, refusal_reply, told_call, told_parting, told_pulse, told_verdict, Verdict, refused, repeats, runs, verdict}
 use Rattle.afp_base.specs.declared.code.Code.TheVariants.{NoMoreSessions}
 use Rattle.afp_serial.specs.History.{answers, entry, fault_of, faults_in, is_lawful, is_opened, opened_in, stand}
 use Rattle.afp_serial.specs.Ranges.{is_typed_entry}
-use Rattle.afp_serial.specs.Sessions.{has_session, session_at}
+use Rattle.afp_serial.specs.World.{has_session, session_at, World, Session, at_moment}
 use Rattle.afp_serial.specs.Sound.{IsSound, has_apart_sessions, has_lawful_locks, has_lawful_opens, is_link_below}
-use Rattle.afp_serial.specs.Steps.{Verdict, refused, repeats, runs, verdict}
-use Rattle.afp_serial.specs.World.{World, Session, at_moment}
 use Rattle.afp_serial.proofs.Grows.{lawful-snoc, stand-append}
 use Rattle.afp_core.specs.Counted.{IsCounted}
 use Rattle.afp_core.specs.KeeperFaults.{KeepersRise, SureStand, failed_keeper}

@@ -8,9 +8,8 @@ use Rattle.afp_core.specs.KeeperFaults.{KeepersRise, SureStand, failed_keeper}
 use Rattle.afp_core.specs.ServerState.{KeptWorld, ServerState}
 use Rattle.afp_serial.specs.Answer.{answer, answer_at, after, after_at, committed_at, committed_of, is_legal, is_legal_outcome}
 use Rattle.afp_serial.specs.History.{entry, is_opened}
-use Rattle.afp_serial.specs.Sessions.{has_session}
+use Rattle.afp_serial.specs.World.{has_session, World}
 use Rattle.afp_serial.specs.Sound.{has_lawful_locks, has_lawful_opens}
-use Rattle.afp_serial.specs.World.{World}
 use Rattle.afp_serial.specs.declared.ask.Ask.{Ask}
 use Rattle.afp_serial.specs.declared.ask.Ask.TheVariants as ask
 use Rattle.afp_serial.specs.declared.ask.Entry.{Entry}

@@ -3,7 +3,7 @@ ghost use Rattle.std.specs.Prelude.{◌≡◌, ◌<◌, IfOk, Some};
 ghost use Rattle.afp_replies.specs.Replies.{canonical_reply};
 ghost use Rattle.afp_replies.specs.declared.reply.Reply.TheVariants.{Node};
 ghost use Rattle.afp_serial.specs.CreateDir.{node_id};
-ghost use Rattle.afp_serial.specs.Sessions.{volume_at};
+ghost use Rattle.afp_serial.specs.World.{volume_at};
 ghost use Rattle.afp_volume.specs.SoundVolume.{last_next_id};
 ghost use Rattle.afp_volume.specs.VolumeState.{VolumeState};
 ghost use Rattle.afp_core.specs.lemma.OnOpened.{CreatesDir};

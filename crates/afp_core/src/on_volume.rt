@@ -1,7 +1,7 @@
 //! The volumes by their ids.
 ghost use Rattle.std.specs.Prelude.{◌≡◌, ◌+◌, ◌<◌, None, Some, IfOk, MatchOption, length, option_map, slice_get};
 ghost use Rattle.afp_serial.specs.OnVolume.{opened_on};
-ghost use Rattle.afp_serial.specs.Sessions.{volume_at};
+ghost use Rattle.afp_serial.specs.World.{volume_at};
 ghost use Rattle.afp_core.specs.lemma.OnOpened.{IsOpen};
 ghost use Rattle.volume_tree.specs.Shown.{opened};
 

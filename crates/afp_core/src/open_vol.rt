@@ -5,7 +5,7 @@ ghost use Rattle.afp_replies.specs.Replies.{canonical_reply};
 ghost use Rattle.afp_requests.specs.declared.call.Call.{Call};
 ghost use Rattle.afp_serial.specs.Limits.{most_volumes};
 ghost use Rattle.afp_serial.specs.OpenVol.{open_vol_reply, state_named, volume_named};
-ghost use Rattle.afp_serial.specs.Sessions.{volume_at};
+ghost use Rattle.afp_serial.specs.World.{volume_at};
 ghost use Rattle.afp_volume.specs.GetVolParms.{get_vol_parms_refusal};
 ghost use Rattle.afp_volume.specs.VolumeState.{VolumeState};
 ghost use Rattle.afp_core.specs.lemma.OnOpened.{IsNamed};

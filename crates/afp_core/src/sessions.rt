@@ -4,8 +4,7 @@ ghost use Rattle.std.specs.List.{list_any};
 ghost use Rattle.indexmap.specs.IndexMap.{values};
 ghost use Rattle.afp_serial.specs.Answer.{new_session, is_expired};
 ghost use Rattle.afp_serial.specs.OpenVol.{with_volume};
-ghost use Rattle.afp_serial.specs.Sessions.{has_session, stands_at};
-ghost use Rattle.afp_serial.specs.World.{Session};
+ghost use Rattle.afp_serial.specs.World.{has_session, stands_at, Session};
 ghost use Rattle.afp_core.specs.lemma.SessionList.{session_of, replaced, IsAt};
 
 use crate::open_volumes::OpenVolumes;

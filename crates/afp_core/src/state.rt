@@ -1,8 +1,7 @@
 //! The state of the server: what it is set up with, moments, links, sessions and open forks.
 ghost use Rattle.std.specs.Prelude.{◌≡◌, ℕ, Ok};
 ghost use Rattle.afp_serial.specs.Answer.{told_pulse};
-ghost use Rattle.afp_serial.specs.Sessions.{session_at, without_session};
-ghost use Rattle.afp_serial.specs.World.{start_world};
+ghost use Rattle.afp_serial.specs.World.{session_at, without_session, start_world};
 ghost use Rattle.afp_serial.specs.declared.ask.Ask.{Ask};
 ghost use Rattle.afp_core.specs.ServerState.{volumes_of};
 ghost use Rattle.afp_core.specs.lemma.ServerState.{kept_world};

@@ -1,6 +1,6 @@
 //! The core, and its turns.
 ghost use Rattle.std.specs.Prelude.{◌≡◌, ◌≢◌, ◌↔◌, Err, IfErr, IfOk, length, option_map};
-ghost use Rattle.afp_serial.specs.Sessions.{volume_at};
+ghost use Rattle.afp_serial.specs.World.{volume_at};
 ghost use Rattle.afp_serial.specs.Sound.{IsSound};
 ghost use Rattle.afp_core.specs.Loads.{IsCoreFault, IsLoadedServer};
 ghost use Rattle.afp_core.specs.Retiring.{Retires};

@@ -11,14 +11,12 @@ use Rattle.afp_serial.specs.declared.ask.Ask.TheVariants as ask
 use Rattle.afp_serial.specs.declared.ask.Entry.{Entry}
 use Rattle.afp_serial.specs.declared.ask.Outcome.{Outcome}
 use Rattle.afp_serial.specs.declared.ask.Outcome.TheVariants as outcome
-use Rattle.afp_serial.specs.Answer.{answer, after, answer_at, after_at, after_call, after_verdict, committed_at, committed_by, committed_in, committed_of, is_legal_outcome, request, told_call, told_verdict}
+use Rattle.afp_serial.specs.Answer.{answer, after, answer_at, after_at, after_call, after_verdict, committed_at, committed_by, committed_in, committed_of, is_legal_outcome, request, told_call, told_verdict, Verdict, repeats, refused, runs, verdict}
 use Rattle.afp_serial.specs.Laws.{FailsInPlace, FitsFrame, HidesNoRefusal, MayFail, TellsKept}
 use Rattle.afp_serial.specs.Ranges.{is_typed_entry}
 use Rattle.afp_serial.specs.Rows.{committed}
-use Rattle.afp_serial.specs.Sessions.{session_at}
+use Rattle.afp_serial.specs.World.{session_at, World, Session, at_moment}
 use Rattle.afp_serial.specs.Shown.{fits_frame}
-use Rattle.afp_serial.specs.Steps.{Verdict, repeats, refused, runs, verdict}
-use Rattle.afp_serial.specs.World.{World, Session, at_moment}
 
 pub fits-frame : FitsFrame
 fits-frame w e code block ends sound legal is = leb-true (length block) payload_limit (ap fits_frame (sym is) ∙ answer-fits w e sound legal)

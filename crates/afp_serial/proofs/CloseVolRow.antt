@@ -14,9 +14,8 @@ use Rattle.afp_serial.proofs.SoundParts.{ApartSessions, sessions-parts, opens-pa
 use Rattle.afp_serial.proofs.SoundRow.{IsSoundRow, no-keeper, silent-refuses}
 use Rattle.afp_serial.specs.CloseVol.{close_vol_effect, close_vol_row}
 use Rattle.afp_serial.specs.ReplyKinds.{reply_kind}
-use Rattle.afp_serial.specs.Sessions.{has_opened, volume_at, closing, with_session}
+use Rattle.afp_serial.specs.World.{has_opened, volume_at, closing, with_session, World, Session, OpenFork}
 use Rattle.afp_serial.specs.Sound.{IsSound, has_volume_open, is_file_of, is_lawful_open, is_lawful_cache}
-use Rattle.afp_serial.specs.World.{World, Session, OpenFork}
 use Rattle.afp_volume.proofs.TestedLists.{contra, all-both, all-kept, any-still, find-all}
 
 abbrev with_volumes : Session → List ℕ → Session

@@ -8,9 +8,8 @@ use Rattle.afp_volume.proofs.TestedLists.{all-weaker, all-both, all-filter, all-
 use Rattle.afp_serial.specs.Limits.{most_sessions, most_forks, most_locks}
 use Rattle.afp_base.specs.DenyMode.{is_one_fork}
 use Rattle.afp_base.specs.Overlap.{do_meet}
-use Rattle.afp_serial.specs.Sessions.{has_session, is_open, volume_at, closing, ending}
+use Rattle.afp_serial.specs.World.{has_session, is_open, volume_at, closing, ending, World, Session, OpenFork, Lock}
 use Rattle.afp_serial.specs.Sound.{IsSound, share_fork, has_volume_open, is_file_of, is_lawful_open, is_lawful_cache, has_typed_fields, has_apart_sessions, has_lawful_locks, has_lawful_caches}
-use Rattle.afp_serial.specs.World.{World, Session, OpenFork, Lock}
 
 -- a smaller number is within the limit too
 pub within : (m n k : ℕ) → m ≤ n → leb n k ≡ true → leb m k ≡ true

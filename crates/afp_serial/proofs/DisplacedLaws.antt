@@ -13,11 +13,9 @@ use Rattle.afp_serial.specs.declared.ask.Outcome.TheVariants as outcome
 use Rattle.afp_serial.specs.declared.ask.Told.TheVariants as told
 use Rattle.afp_serial.specs.declared.attachment.Attachment.{Attachment}
 use Rattle.afp_serial.specs.declared.attachment.Attachment.TheVariants.{Attached, Detached}
-use Rattle.afp_serial.specs.Answer.{answer_at, after_at, after_call, after_parting, is_full, link_number, refusal_reply, request, told_call, told_parting, told_pulse, told_verdict}
+use Rattle.afp_serial.specs.Answer.{answer_at, after_at, after_call, after_parting, is_full, link_number, refusal_reply, request, told_call, told_parting, told_pulse, told_verdict, Verdict, repeats, refused, runs, verdict}
 use Rattle.afp_serial.specs.Laws.{HasNoSession, is_of_session, TellsDisplaced, LeavesDisplaced, OnlySweeps}
-use Rattle.afp_serial.specs.Sessions.{stands_at, session_at}
-use Rattle.afp_serial.specs.Steps.{Verdict, repeats, refused, runs, verdict}
-use Rattle.afp_serial.specs.World.{World, Session, at_moment}
+use Rattle.afp_serial.specs.World.{stands_at, session_at, World, Session, at_moment}
 
 -- no session has the link
 

@@ -19,7 +19,7 @@ use Rattle.afp_serial.proofs.OpenForkBytes.{Has, tree-lets-be}
 use Rattle.afp_serial.proofs.OpenVolRow.{opens-keeps}
 use Rattle.afp_serial.proofs.VolumeStates.{state-at, state-other}
 use Rattle.afp_serial.proofs.Written.{bytes-seen, other-bytes}
-use Rattle.afp_serial.specs.CallRow.{CallRow, with_empty_reply}
+use Rattle.afp_serial.specs.World.{CallRow, with_empty_reply, closing, volume_at, World, Session, OpenFork}
 use Rattle.afp_serial.specs.Fork.{access_of, close_fork_row, file_asked, flush_fork_row, get_fork_parms_reply, get_fork_parms_row, is_other_length, length_for, open_fork_row, set_fork_parms_row}
 use Rattle.afp_serial.specs.ForkBytes.{WriteAsked, is_from_end, read_ext_row, read_row, write_end, write_start, writes, writes_some, written_bytes}
 use Rattle.afp_serial.specs.ForkHistory.{bytes_in, bytes_on, changes_by, has_open, put_of, through}
@@ -28,9 +28,7 @@ use Rattle.afp_serial.specs.OnFork.{OpenFile, bytes_of, done_with, file_on, file
 use Rattle.afp_serial.specs.OnVolume.{changes_tree, done_on, opened_on, tells_of, with_state, with_volume_state}
 use Rattle.afp_serial.specs.OpenVol.{open_vol_row, state_named, volume_named}
 use Rattle.afp_serial.specs.Rows.{effect, refusal, row}
-use Rattle.afp_serial.specs.Sessions.{closing, volume_at}
 use Rattle.afp_serial.specs.Sound.{IsSound}
-use Rattle.afp_serial.specs.World.{World, Session, OpenFork}
 use Rattle.afp_serial.specs.WriteLaws.{bytes_under, changed_by_all, sets_length}
 use Rattle.afp_serial.specs.CloseVol.{close_vol_row}
 use Rattle.afp_serial.specs.CreateDir.{node_id}

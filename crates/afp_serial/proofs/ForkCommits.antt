@@ -3,7 +3,7 @@ use Rattle.std.proofs.Common.{◌≡◌, refl, ℕ, zero, suc, pos, Bool, true, 
 use Rattle.std.specs.Prelude.{◌==◌}
 use Rattle.afp_replies.specs.declared.reply.Reply.{Reply}
 use Rattle.afp_replies.specs.declared.reply.Reply.TheVariants.{End, EndExt, Start, StartExt}
-use Rattle.afp_serial.specs.CallRow.{Effect, with_empty_reply}
+use Rattle.afp_serial.specs.World.{Effect, with_empty_reply, closing, volume_at, World, Session, OpenFork}
 use Rattle.afp_serial.specs.Fork.{OpenAsked, access_of, file_asked, get_fork_parms_reply, is_other_length, length_for, opens_fork}
 use Rattle.afp_serial.specs.ForkBytes.{ReadAsked, WriteAsked, is_from_end, read_reply, write_end, writes, writes_some, written_bytes}
 use Rattle.afp_serial.specs.ForkLaws.{CommitsChanges, OthersLeaveVolumes, ThreeChangeVolumes}
@@ -12,8 +12,6 @@ use Rattle.afp_base.specs.ForkBytes.{resized}
 use Rattle.afp_base.specs.Overlap.{Range}
 use Rattle.afp_serial.specs.OnFork.{OpenFile, bytes_of, committed_with, done_with, keeper_if, open_file, with_bytes}
 use Rattle.afp_serial.specs.OnVolume.{keeper_of, with_volume_state}
-use Rattle.afp_serial.specs.Sessions.{closing, volume_at}
-use Rattle.afp_serial.specs.World.{World, Session, OpenFork}
 use Rattle.afp_volume.specs.ForkEffect.{fork_effect}
 use Rattle.afp_volume.specs.OpenFork.{is_resource}
 use Rattle.afp_volume.specs.VolumeState.{Row as File, VolumeState}

@@ -31,9 +31,8 @@ use Rattle.afp_serial.specs.Lock.{last_byte, range_to}
 use Rattle.afp_serial.specs.OnFork.{bytes_of, is_met_by_other, meets_lock}
 use Rattle.afp_serial.specs.OnVolume.{opened_on}
 use Rattle.afp_serial.specs.ReplyKinds.{reply_kind}
-use Rattle.afp_serial.specs.Sessions.{volume_at}
+use Rattle.afp_serial.specs.World.{volume_at, World, OpenFork, Lock}
 use Rattle.afp_serial.specs.Sound.{share_fork}
-use Rattle.afp_serial.specs.World.{World, OpenFork, Lock}
 use Rattle.afp_volume.proofs.TestedLists.{apart-places, never}
 use Rattle.afp_volume.specs.OpenFork.{fork_values}
 use Rattle.afp_volume.specs.Parms.{is_outside}

@@ -26,7 +26,7 @@ use Rattle.afp_serial.proofs.OnVolumeRows.{Asks, IsToldTo}
 use Rattle.afp_serial.proofs.ParamsSize.{params-size, two-parts}
 use Rattle.afp_serial.proofs.SoundRow.{IsRefusedTo, IsSoundRow, first-told, is_short, silent-refuses, silent-told}
 use Rattle.afp_serial.proofs.ToldReplies.{empty-told}
-use Rattle.afp_serial.specs.CallRow.{plain}
+use Rattle.afp_serial.specs.World.{plain}
 use Rattle.afp_serial.specs.Fork.{close_fork_row, flush_fork_row, get_fork_parms_row}
 use Rattle.afp_serial.specs.ForkBytes.{ReadAsked, ahead, most_read, read_bytes, read_ext_row, read_refusals, read_reply, read_row, reads, stop_in, up_to}
 use Rattle.afp_serial.specs.OnFork.{OpenFile, bytes_of}

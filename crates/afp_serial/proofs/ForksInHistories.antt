@@ -29,18 +29,15 @@ use Rattle.afp_serial.specs.declared.ask.Entry.{Entry}
 use Rattle.afp_serial.specs.declared.ask.Outcome.{Outcome}
 use Rattle.afp_serial.specs.declared.ask.Outcome.TheVariants as outcome
 use Rattle.afp_serial.specs.declared.ask.Told.TheVariants as told
-use Rattle.afp_serial.specs.Answer.{after, after_at, after_call, after_parting, after_verdict, is_full, is_legal, request, with_new_session}
-use Rattle.afp_serial.specs.CallRow.{Refusal, plain}
+use Rattle.afp_serial.specs.Answer.{after, after_at, after_call, after_parting, after_verdict, is_full, is_legal, request, with_new_session, Verdict, refused, repeats, runs, verdict}
+use Rattle.afp_serial.specs.World.{Refusal, plain, session_at, volume_at, World, Session, OpenFork, at_moment}
 use Rattle.afp_serial.specs.ForkBytes.{ReadAsked, meets_end, most_read, read_bytes, read_refusals, read_reply, reads, WriteAsked, is_from_end, start_in, write_start}
 use Rattle.afp_serial.specs.ForkHistory.{all_changes, bytes_in, bytes_on, changes_asked, changes_at, changes_by, changes_in, changes_of, has_open, put_of, stays_open, through}
 use Rattle.afp_serial.specs.History.{is_lawful, stand}
 use Rattle.afp_serial.specs.HistoryLaws.{ForksHaveTheirChanges, MayRead, NeverByteTwice, NeverTwoConflict, PutsPiece, ReadsAll, WrittenIsNotRefused, WrittenIsRead, WrittenIsThere, WritesPutTheirPiece}
 use Rattle.afp_serial.specs.OnFork.{OpenFile, bytes_of, done_with, is_locked, on_fork, open_file}
 use Rattle.afp_serial.specs.Rows.{effect, ends_session, refusal, row}
-use Rattle.afp_serial.specs.Sessions.{session_at, volume_at}
 use Rattle.afp_serial.specs.Sound.{IsSound, has_volume_open, is_file_of, is_lawful_open}
-use Rattle.afp_serial.specs.Steps.{Verdict, refused, repeats, runs, verdict}
-use Rattle.afp_serial.specs.World.{World, Session, OpenFork, at_moment}
 use Rattle.afp_serial.specs.WriteLaws.{ForkChange, changed_by, changed_by_all, read_of, puts}
 use Rattle.afp_volume.proofs.TestedLists.{any-at, any-weaker}
 use Rattle.afp_volume.proofs.Walks.{row-there}

@@ -9,9 +9,8 @@ use Rattle.afp_serial.proofs.PlacedLists.{one_if, or-split}
 use Rattle.afp_serial.proofs.SoundParts.{keeps_forks, limits-parts, opens-parts}
 use Rattle.afp_serial.specs.Fork.{free_from, lowest_free}
 use Rattle.afp_serial.specs.Limits.{most_forks, most_sessions}
-use Rattle.afp_serial.specs.Sessions.{has_opened, has_session, is_open, volume_at}
+use Rattle.afp_serial.specs.World.{has_opened, has_session, is_open, volume_at, World, Session, OpenFork}
 use Rattle.afp_serial.specs.Sound.{IsSound, has_volume_open, is_file_of, is_lawful_open}
-use Rattle.afp_serial.specs.World.{World, Session, OpenFork}
 use Rattle.afp_volume.proofs.TestedLists.{all-both, all-filter, all-kept, all-weaker, any-weaker, count-filter}
 
 -- how many references are a number or above it

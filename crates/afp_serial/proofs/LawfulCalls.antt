@@ -19,10 +19,9 @@ use Rattle.afp_requests.specs.declared.call.Call.{Call}
 use Rattle.afp_serial.proofs.Keeps.{IsKnown}
 use Rattle.afp_serial.specs.declared.ask.Ask.{Ask}
 use Rattle.afp_serial.specs.declared.ask.Ask.TheVariants as ask
-use Rattle.afp_serial.specs.Answer.{request}
+use Rattle.afp_serial.specs.Answer.{request, block_of, enclosed_of}
 use Rattle.afp_serial.specs.LawfulCall.{are_bytes_or_none, is_number, is_number_or_none, is_signed, is_lawful_value, is_lawful_field, is_lawful_piece, is_lawful_call}
 use Rattle.afp_serial.specs.Ranges.{is_typed_ask}
-use Rattle.afp_serial.specs.Steps.{block_of, enclosed_of}
 use Rattle.afp_volume.proofs.LongPathNames.{path-named}
 use Rattle.afp_volume.proofs.TestedLists.{all-place}
 use Rattle.afp_volume.proofs.TypedEdits.{take-bytes, drop-bytes}

@@ -6,7 +6,7 @@ use Rattle.afp_base.specs.declared.code.Code.TheVariants.{Ok}
 use Rattle.afp_replies.specs.Replies.{canonical_reply}
 use Rattle.afp_requests.specs.declared.call.Call.{Call}
 use Rattle.afp_serial.proofs.SoundRow.{IsRefusedTo, IsSoundRow, is_ok}
-use Rattle.afp_serial.specs.CallRow.{Refused, CallRow}
+use Rattle.afp_serial.specs.World.{Refused, CallRow}
 use Rattle.afp_serial.specs.ForkLaws.{IsLawfulRow}
 
 refused-parts : (call : Call) (r : Refused) → IsRefusedTo call r → (r.code ≢ Ok) × (length (canonical_reply r.reply) ≤ payload_limit)

@@ -24,15 +24,13 @@ use Rattle.afp_serial.proofs.PlacedLists.{all-placed, any-pair, apart-placed, co
 use Rattle.afp_serial.proofs.SoundParts.{KeptLimits, LawfulLocks, do_overlap, keeps_locks, limits-parts, limits-whole, locks-parts, locks-whole}
 use Rattle.afp_serial.proofs.SoundRow.{IsSoundRow, is_refused, silent-refuses}
 use Rattle.afp_serial.proofs.WriteRows.{start-small}
-use Rattle.afp_serial.specs.CallRow.{Refusal}
+use Rattle.afp_serial.specs.World.{Refusal, is_open, World, Session, OpenFork, Lock}
 use Rattle.afp_serial.specs.ForkBytes.{start_in}
 use Rattle.afp_serial.specs.LawfulCall.{is_lawful_call, is_signed}
 use Rattle.afp_serial.specs.Limits.{most_locks}
 use Rattle.afp_serial.specs.Lock.{LockAsked, byte_range_lock_ext_row, byte_range_lock_row, has_most_locks, is_lock, is_met_by_own, lock_asked, locked, locking_refusals, locks, locks_range, range_asked, range_of, range_refusals, range_to, unlocked}
 use Rattle.afp_serial.specs.OnFork.{OpenFile, bytes_of, is_met_by_other, meets_lock, placed}
-use Rattle.afp_serial.specs.Sessions.{is_open}
 use Rattle.afp_serial.specs.Sound.{IsSound, has_apart_sessions, has_lawful_caches, has_lawful_opens, has_typed_fields, share_fork}
-use Rattle.afp_serial.specs.World.{World, Session, OpenFork, Lock}
 use Rattle.afp_volume.proofs.ForkEffects.{fork-few}
 use Rattle.afp_volume.proofs.TestedLists.{all-both, all-filter, all-weaker, any-weaker, apart-filter, contra, count-filter, none-all}
 use Rattle.afp_volume.specs.SoundVolume.{most_fork_bytes}

@@ -15,9 +15,8 @@ use Rattle.afp_volume.proofs.TestedLists.{all-weaker, any-filter, find-all}
 use Rattle.afp_serial.specs.ReplyKinds.{reply_kind}
 use Rattle.afp_serial.specs.Login.{login_row, guest_id}
 use Rattle.afp_serial.specs.Logout.{logout_row}
-use Rattle.afp_serial.specs.Sessions.{volume_at, with_session}
+use Rattle.afp_serial.specs.World.{volume_at, with_session, World, Session}
 use Rattle.afp_serial.specs.Sound.{IsSound, has_volume_open, is_file_of, is_lawful_open, is_lawful_cache}
-use Rattle.afp_serial.specs.World.{World, Session}
 
 abbrev with_user : Session → ℕ → Session
 with_user s user = record s { user = Some user }

@@ -12,13 +12,11 @@ use Rattle.afp_serial.proofs.OnVolumeRows.{IsToldTo, told-shown}
 use Rattle.afp_serial.proofs.SoundParts.{ApartSessions, is_below, opens-parts, same_link, same_number}
 use Rattle.afp_serial.proofs.SoundRow.{IsRefusedTo, IsSoundRow, silent-refuses}
 use Rattle.afp_serial.proofs.VolumeStates.{IsServed, served-at}
-use Rattle.afp_serial.specs.CallRow.{Effect, Refusal, Refused, plain}
+use Rattle.afp_serial.specs.World.{Effect, Refusal, Refused, plain, has_session, volume_at, World, Session, OpenFork}
 use Rattle.afp_serial.specs.LawfulCall.{is_lawful_call}
 use Rattle.afp_serial.specs.OnFork.{OpenFile, committed_with, done_with, file_on, file_under, on_fork, open_file, own_fork, own_keeper, row_on_fork}
 use Rattle.afp_serial.specs.OnVolume.{keeper_of}
-use Rattle.afp_serial.specs.Sessions.{has_session, volume_at}
 use Rattle.afp_serial.specs.Sound.{IsSound, has_volume_open, is_file_of, is_lawful_open}
-use Rattle.afp_serial.specs.World.{World, Session, OpenFork}
 use Rattle.afp_volume.proofs.SeenRows.{file-found}
 use Rattle.afp_volume.proofs.TestedLists.{find-all, find-passes}
 use Rattle.afp_volume.proofs.Trees.{tree-parts}

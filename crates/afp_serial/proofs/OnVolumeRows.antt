@@ -17,13 +17,11 @@ use Rattle.afp_serial.proofs.SoundParts.{ApartSessions}
 use Rattle.afp_serial.proofs.SoundRow.{IsSoundRow, is_refused, is_short, no-keeper, silent-refuses}
 use Rattle.afp_serial.proofs.VolumeCodes.{is_refusal, tree-refuses}
 use Rattle.afp_serial.proofs.VolumeStates.{IsServed, moment-date, served-at, state-sound}
-use Rattle.afp_serial.specs.CallRow.{Effect, Refusal, plain}
+use Rattle.afp_serial.specs.World.{Effect, Refusal, plain, refused_before, has_opened, has_session, volume_at, World, Session}
 use Rattle.afp_serial.specs.LawfulCall.{is_lawful_call}
-use Rattle.afp_serial.specs.OnVolume.{changes_tree, refused_before, done_on, keeper_of, on_volume, opened_on, refused_on, tells_of, with_volume_state}
+use Rattle.afp_serial.specs.OnVolume.{changes_tree, done_on, keeper_of, on_volume, opened_on, refused_on, tells_of, with_volume_state}
 use Rattle.afp_serial.specs.ReplyKinds.{command_of, reply_kind}
-use Rattle.afp_serial.specs.Sessions.{has_opened, has_session, volume_at}
 use Rattle.afp_serial.specs.Sound.{IsSound}
-use Rattle.afp_serial.specs.World.{World, Session}
 use Rattle.afp_volume.proofs.Later.{effect-sound}
 use Rattle.afp_volume.proofs.OpenFiles.{call-lets-be, call-named}
 use Rattle.afp_volume.proofs.TypedSteps.{call-typed}

@@ -36,14 +36,12 @@ use Rattle.afp_serial.proofs.SoundParts.{ApartSessions, KeptLimits, LawfulLocks,
 use Rattle.afp_serial.proofs.SoundRow.{IsRefusedTo, IsSoundRow, behind-first, first-told, is_short, no-keeper, silent-refuses, silent-told}
 use Rattle.afp_serial.proofs.VolumeCodes.{is_refusal, open-fork-refuses}
 use Rattle.afp_serial.proofs.VolumeStates.{IsServed, served-at}
-use Rattle.afp_serial.specs.CallRow.{Refused, plain}
+use Rattle.afp_serial.specs.World.{Refused, plain, refused_before, has_opened, has_session, is_open, volume_at, World, Session, OpenFork, Lock}
 use Rattle.afp_serial.specs.Fork.{OpenAsked, access_of, denied_of, file_asked, fork_in, fork_ref, has_most_forks, is_denied, lowest_free, new_fork, open_fork_row, opened_reply, opens_asked, opens_fork, with_fork, with_open}
 use Rattle.afp_serial.specs.Limits.{most_forks, most_locks}
-use Rattle.afp_serial.specs.OnVolume.{refused_before, opened_on, refused_on}
+use Rattle.afp_serial.specs.OnVolume.{opened_on, refused_on}
 use Rattle.afp_serial.specs.ReplyKinds.{command_of, reply_kind}
-use Rattle.afp_serial.specs.Sessions.{has_opened, has_session, is_open, volume_at}
 use Rattle.afp_serial.specs.Sound.{IsSound, has_apart_sessions, has_lawful_caches, has_typed_fields, has_volume_open, is_file_of, is_lawful_open, share_fork}
-use Rattle.afp_serial.specs.World.{World, Session, OpenFork, Lock}
 use Rattle.afp_volume.proofs.CallsSound.{not-false}
 use Rattle.afp_volume.proofs.Refusals.{none-first, none-holds}
 use Rattle.afp_volume.proofs.SeenRows.{file-found, test-found}

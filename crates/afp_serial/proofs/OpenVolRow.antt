@@ -17,12 +17,9 @@ use Rattle.afp_serial.proofs.SoundRow.{IsSoundRow, no-keeper, silent-refuses}
 use Rattle.afp_serial.proofs.ToldReplies.{volume-told-to}
 use Rattle.afp_serial.proofs.VolumeCodes.{volume-refuses}
 use Rattle.afp_serial.proofs.VolumeStates.{served-at}
-use Rattle.afp_serial.specs.CallRow.{plain}
-use Rattle.afp_serial.specs.OnVolume.{refused_before}
+use Rattle.afp_serial.specs.World.{plain, refused_before, has_opened, has_session, volume_at, with_session, World, Session}
 use Rattle.afp_serial.specs.OpenVol.{open_vol_row, opens_volume, state_named, volume_named, with_volume}
-use Rattle.afp_serial.specs.Sessions.{has_opened, has_session, volume_at, with_session}
 use Rattle.afp_serial.specs.Sound.{IsSound, has_volume_open, is_file_of, is_lawful_open, is_lawful_cache}
-use Rattle.afp_serial.specs.World.{World, Session}
 use Rattle.afp_volume.proofs.TestedLists.{all-weaker, any-longer, find-all}
 use Rattle.afp_volume.specs.GetVolParms.{get_vol_parms_refusal}
 use Rattle.afp_volume.specs.VolumeState.{VolumeState}

@@ -8,9 +8,8 @@ use Rattle.afp_serial.specs.declared.attachment.Attachment.{Attachment}
 use Rattle.afp_serial.specs.declared.attachment.Attachment.TheVariants.{Attached, Detached}
 use Rattle.afp_serial.specs.Answer.{is_full, link_number, new_session, with_new_session}
 use Rattle.afp_serial.specs.Limits.{most_sessions, most_forks, links_end}
-use Rattle.afp_serial.specs.Sessions.{has_opened, volume_at}
+use Rattle.afp_serial.specs.World.{has_opened, volume_at, World, Session, OpenFork}
 use Rattle.afp_serial.specs.Sound.{IsSound, share_link, is_link_below, has_volume_open, is_file_of, is_lawful_open, is_lawful_cache, has_lawful_locks, has_typed_fields}
-use Rattle.afp_serial.specs.World.{World, Session, OpenFork}
 
 differs : (m n : ℕ) → m < n → not (eqb m n) ≡ true
 differs m n less = ap not (ne_eqb m n (λ same. omega arith))

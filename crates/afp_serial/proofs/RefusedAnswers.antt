@@ -22,14 +22,11 @@ use Rattle.afp_serial.specs.declared.ask.Outcome.{Outcome}
 use Rattle.afp_serial.specs.declared.ask.Outcome.TheVariants as outcome
 use Rattle.afp_serial.specs.declared.ask.Told.{Told}
 use Rattle.afp_serial.specs.declared.ask.Told.TheVariants as told
-use Rattle.afp_serial.specs.Answer.{answer_at, is_full, link_number, refusal_reply, refused_reply, request, told_call, told_parting, told_pulse, told_verdict}
-use Rattle.afp_serial.specs.CallRow.{Refused}
+use Rattle.afp_serial.specs.Answer.{answer_at, is_full, link_number, refusal_reply, refused_reply, request, told_call, told_parting, told_pulse, told_verdict, Verdict, block_of, enclosed_of, refused, repeats, runs, verdict}
+use Rattle.afp_serial.specs.World.{Refused, session_at, World, Session, at_moment}
 use Rattle.afp_serial.specs.Laws.{IsKeptAnswer, IsRowRefusal, RefusesShown, TellsNothing}
 use Rattle.afp_serial.specs.ReplyKinds.{reply_kind}
-use Rattle.afp_serial.specs.Sessions.{session_at}
 use Rattle.afp_serial.specs.Sound.{IsSound}
-use Rattle.afp_serial.specs.Steps.{Verdict, block_of, enclosed_of, refused, repeats, runs, verdict}
-use Rattle.afp_serial.specs.World.{World, Session, at_moment}
 
 abbrev is_reply : Told → Bool
 is_reply (told.Reply c block ends) = true

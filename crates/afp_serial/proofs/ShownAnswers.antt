@@ -18,14 +18,12 @@ use Rattle.afp_serial.specs.declared.ask.Outcome.{Outcome}
 use Rattle.afp_serial.specs.declared.ask.Outcome.TheVariants as outcome
 use Rattle.afp_serial.specs.declared.ask.Told.{Told}
 use Rattle.afp_serial.specs.declared.ask.Told.TheVariants as told
-use Rattle.afp_serial.specs.Answer.{answer_at, is_full, link_number, refusal_reply, request, told_call, told_parting, told_pulse, told_verdict}
+use Rattle.afp_serial.specs.Answer.{answer_at, is_full, link_number, refusal_reply, request, told_call, told_parting, told_pulse, told_verdict, Verdict, refused, repeats, runs, verdict}
 use Rattle.afp_serial.specs.Laws.{IsEffectAnswer, IsKeptAnswer, TellsShown}
 use Rattle.afp_serial.specs.ReplyKinds.{reply_kind}
 use Rattle.afp_serial.specs.Rows.{effect}
-use Rattle.afp_serial.specs.Sessions.{session_at}
+use Rattle.afp_serial.specs.World.{session_at, World, Session, at_moment}
 use Rattle.afp_serial.specs.Sound.{IsSound}
-use Rattle.afp_serial.specs.Steps.{Verdict, refused, repeats, runs, verdict}
-use Rattle.afp_serial.specs.World.{World, Session, at_moment}
 
 -- a reply's parts
 abbrev pub code_of : Told → Code

@@ -15,12 +15,10 @@ use Rattle.afp_replies.specs.declared.reply.Reply.{Reply}
 use Rattle.afp_replies.specs.declared.reply.Reply.TheVariants.{Empty}
 use Rattle.afp_requests.specs.declared.call.Call.{Call}
 use Rattle.afp_serial.proofs.SoundParts.{ApartSessions}
-use Rattle.afp_serial.specs.CallRow.{Refusal, Refused, CallRow}
+use Rattle.afp_serial.specs.World.{Refusal, Refused, CallRow, has_session, World, Session}
 use Rattle.afp_serial.specs.LawfulCall.{is_lawful_call}
 use Rattle.afp_serial.specs.ReplyKinds.{command_of, reply_kind}
-use Rattle.afp_serial.specs.Sessions.{has_session}
 use Rattle.afp_serial.specs.Sound.{IsSound}
-use Rattle.afp_serial.specs.World.{World, Session}
 
 -- the bytes of a reply fit in a frame
 abbrev pub is_short : Reply → Bool

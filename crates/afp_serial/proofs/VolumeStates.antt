@@ -10,9 +10,8 @@ use Rattle.std.proofs.lemmas.Option.{get_or_from_slice_get, slice_get_within}
 use Rattle.afp_serial.proofs.SoundParts.{KeptLimits, LawfulOpens, fields-parts, limits-parts, limits-whole, opens-parts, opens-whole}
 use Rattle.afp_serial.specs.Limits.{most_volumes}
 use Rattle.afp_serial.specs.OnVolume.{opened_on, with_state, with_volume_state}
-use Rattle.afp_serial.specs.Sessions.{volume_at}
+use Rattle.afp_serial.specs.World.{volume_at, World, OpenFork}
 use Rattle.afp_serial.specs.Sound.{IsSound, ServesVolumes, has_apart_sessions, has_lawful_caches, has_lawful_locks, has_typed_fields, has_volume_open, is_file_of, is_lawful_open}
-use Rattle.afp_serial.specs.World.{World, OpenFork}
 use Rattle.afp_volume.proofs.TestedLists.{all-both, all-place, all-weaker, any-map, any-still, any-weaker}
 use Rattle.afp_volume.specs.Shared.{Opened, is_busy}
 use Rattle.afp_volume.specs.SoundVolume.{IsSoundVolume, has_file}

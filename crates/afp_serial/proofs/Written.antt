@@ -13,14 +13,12 @@ use Rattle.afp_replies.specs.declared.reply.Reply.{Reply}
 use Rattle.afp_serial.proofs.OnForkRows.{IsHeld, IsHeldFile, held-file, sound-file}
 use Rattle.afp_serial.proofs.PlacedLists.{or-split}
 use Rattle.afp_serial.proofs.VolumeStates.{state-at, state-other}
-use Rattle.afp_serial.specs.CallRow.{with_empty_reply}
+use Rattle.afp_serial.specs.World.{with_empty_reply, volume_at, World, Session, OpenFork}
 use Rattle.afp_serial.specs.Fork.{is_other_length, length_for, set_fork_parms_row}
 use Rattle.afp_serial.specs.ForkBytes.{WriteAsked, ahead, meets_end, most_read, read_bytes, write_end, writes, writes_some, written_bytes}
 use Rattle.afp_serial.specs.OnFork.{OpenFile, bytes_of, done_with, file_on, file_under, open_file, own_fork, with_bytes}
 use Rattle.afp_serial.specs.OnVolume.{with_state}
-use Rattle.afp_serial.specs.Sessions.{volume_at}
 use Rattle.afp_serial.specs.Sound.{IsSound}
-use Rattle.afp_serial.specs.World.{World, Session, OpenFork}
 use Rattle.afp_serial.specs.WriteLaws.{ForkChange, puts, sets_length, bytes_under, changed_by, changed_by_all, misses, read_of}
 use Rattle.afp_volume.proofs.ForkEffects.{fork-given, fork-lets-be}
 use Rattle.afp_volume.specs.ForkEffect.{fork_effect, fork_of, written}

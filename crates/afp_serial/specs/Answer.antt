@@ -1,6 +1,6 @@
 -- The serial answer to an ask, and the world after it (this profile). In all of these the world's latest moment is already the ask's.
-use Rattle.std.specs.Prelude.{ℕ, ◌+◌, ◌==◌, nat_le, Bool, true, false, not, ◌&&◌, ◌||◌, if◌then◌else◌, List, [], ◌∷◌, ◌++◌, length, Option, None, Some, is_some}
-use Rattle.afp_base.specs.Cached.{Request}
+use Rattle.std.specs.Prelude.{ℕ, ◌+◌, ◌==◌, nat_le, Bool, true, false, not, ◌&&◌, ◌||◌, if◌then◌else◌, List, [], ◌∷◌, ◌++◌, length, Option, None, Some, is_some, take, drop, is_none}
+use Rattle.afp_base.specs.Cached.{Request, Answer, cached_answer}
 use Rattle.afp_base.specs.declared.code.Code.{Code}
 use Rattle.afp_base.specs.declared.code.Code.TheVariants as code
 use Rattle.afp_base.specs.declared.ids.LinkNumber.{LinkNumber}
@@ -15,13 +15,71 @@ use Rattle.afp_serial.specs.declared.attachment.Attachment.{Attachment}
 use Rattle.afp_serial.specs.declared.attachment.Attachment.TheVariants.{Attached, Detached}
 use Rattle.afp_replies.specs.Replies.{canonical_reply}
 use Rattle.afp_requests.specs.declared.call.Call.{Call}
-use Rattle.afp_serial.specs.CallRow.{Effect, Refused}
+use Rattle.afp_serial.specs.World.{Effect, Refused, session_at, ending, without_session, World, Session, at_moment, plain}
 use Rattle.afp_serial.specs.Limits.{most_sessions, links_end, detached_time}
 use Rattle.afp_serial.specs.Ranges.{is_typed_entry}
-use Rattle.afp_serial.specs.Rows.{effect, committed, ends_session}
-use Rattle.afp_serial.specs.Sessions.{session_at, ending, without_session}
-use Rattle.afp_serial.specs.Steps.{Verdict, repeats, refused, runs, verdict}
-use Rattle.afp_serial.specs.World.{World, Session, at_moment}
+use Rattle.afp_serial.specs.Rows.{effect, committed, ends_session, refusal}
+use Rattle.std.specs.List.{list_any}
+use Rattle.afp_base.specs.declared.code.Code.TheVariants.{ParamErr, CallNotSupported, UserNotAuth}
+use Rattle.afp_requests.specs.Spelt.{is_command, spelt_call}
+
+-- The steps by which a call of a session is decided (this profile). The first of these that applies gives the answer:
+-- an equal request whose answer is kept; no command; a command that is none; no user, where the command asks for one; no spelling
+-- of the command's row; the refusals of its row; its effect.
+
+-- The block of a request: the whole payload, or in a Write what stands before the offset.
+abbrev pub block_of : Request → List ℕ
+block_of r = if r.write then take r.offset r.payload else r.payload
+
+-- The bytes that a Write encloses: the rest of its payload.
+abbrev pub enclosed_of : Request → Option (List ℕ)
+enclosed_of r = if r.write then Some (drop r.offset r.payload) else None
+
+-- the commands that ask for no user: FPGetSrvrInfo, FPLogin, FPLogout and FPLoginExt
+abbrev pub commands_without_user : List ℕ
+commands_without_user = 15 ∷ 18 ∷ 20 ∷ 63 ∷ []
+
+abbrev pub needs_user : ℕ → Bool
+needs_user command = not (list_any (λ other. other == command) commands_without_user)
+
+-- What a call comes to: the answer that is kept for it, a refusal, or its effect.
+pub data Verdict : Type 0 where
+  repeats : Answer → Verdict
+  refused : Refused → Verdict
+  runs : Call → Verdict
+
+-- last, the refusals of the call's row
+abbrev pub verdict_of_row : Call → Option Refused → Verdict
+verdict_of_row call (Some told) = refused told
+verdict_of_row call None = runs call
+
+-- before them, whether block and enclosed bytes spell a call
+abbrev pub verdict_of_spelling : World → Session → Option Call → Verdict
+verdict_of_spelling w s None = refused (plain ParamErr)
+verdict_of_spelling w s (Some call) = verdict_of_row call (refusal w s call)
+
+-- before that, whether the command is one, and whether it may come without a user
+abbrev pub verdict_of_command : World → Session → Request → ℕ → Verdict
+verdict_of_command w s r command =
+    if not (is_command command) then refused (plain CallNotSupported)
+    else if is_none s.user && needs_user command then refused (plain UserNotAuth)
+    else verdict_of_spelling w s (spelt_call (block_of r) (enclosed_of r))
+
+-- before that, whether there is a command
+abbrev pub verdict_of_block : World → Session → Request → List ℕ → Verdict
+verdict_of_block w s r [] = refused (plain ParamErr)
+verdict_of_block w s r (command ∷ fields) = verdict_of_command w s r command
+
+-- first, whether an answer is kept for an equal request
+abbrev pub verdict_of_kept : World → Session → Request → Option Answer → Verdict
+verdict_of_kept w s r (Some answer) = repeats answer
+verdict_of_kept w s r None = verdict_of_block w s r (block_of r)
+
+-- what a call of a session comes to
+unfoldable pub verdict : World → Session → Request → Verdict
+verdict w s r = verdict_of_kept w s r (cached_answer s.cache r)
+
+-- ---- the answers
 
 abbrev pub link_number : ℕ → LinkNumber
 link_number n = record { 0 = n }

@@ -1,8 +1,6 @@
 -- FPCloseVol (AFP Reference, "FPCloseVol").
 use Rattle.std.specs.Prelude.{ℕ, ◌==◌, not, ◌&&◌, [], ◌∷◌, filter}
-use Rattle.afp_serial.specs.CallRow.{Effect, CallRow, commits_nothing, with_empty_reply, vol}
-use Rattle.afp_serial.specs.Sessions.{with_session, closing}
-use Rattle.afp_serial.specs.World.{World, Session}
+use Rattle.afp_serial.specs.World.{Effect, CallRow, commits_nothing, with_empty_reply, vol, with_session, closing, World, Session}
 
 -- the session's forks on the volume are closed, and the volume is no more open in it
 abbrev pub close_vol_effect : ℕ → World → Session → Effect

@@ -5,7 +5,7 @@ use Rattle.afp_names.specs.Path.{PathValue}
 use Rattle.afp_replies.specs.declared.reply.Reply.TheVariants.{Node}
 use Rattle.afp_volume.specs.CreateDir.{create_dir_id}
 use Rattle.afp_volume.specs.TreeSteps.{CreateDir}
-use Rattle.afp_serial.specs.CallRow.{CallRow}
+use Rattle.afp_serial.specs.World.{CallRow}
 use Rattle.afp_serial.specs.OnVolume.{changes_tree}
 
 -- the id of a node, as a reply has it

@@ -4,7 +4,7 @@ use Rattle.afp_names.specs.Path.{PathValue}
 use Rattle.afp_replies.specs.declared.reply.Reply.TheVariants.{Empty}
 use Rattle.afp_volume.specs.CreateFile.{is_hard}
 use Rattle.afp_volume.specs.TreeSteps.{CreateFile}
-use Rattle.afp_serial.specs.CallRow.{CallRow}
+use Rattle.afp_serial.specs.World.{CallRow}
 use Rattle.afp_serial.specs.OnVolume.{changes_tree}
 
 abbrev pub create_file_row : ℕ → ℕ → ℕ → PathValue → CallRow

@@ -7,7 +7,7 @@ use Rattle.afp_volume.specs.Shared.{Opened, done_at}
 use Rattle.afp_volume.specs.Enumerate.{ListAsked, asked_narrow, asked_wide, entries, enumerate_refusal}
 use Rattle.afp_volume.specs.VolumeState.{VolumeState}
 use Rattle.afp_volume.specs.Walk.{found}
-use Rattle.afp_serial.specs.CallRow.{CallRow}
+use Rattle.afp_serial.specs.World.{CallRow}
 use Rattle.afp_serial.specs.ListReply.{list_reply}
 use Rattle.afp_serial.specs.OnVolume.{opened_on, tells_of}
 

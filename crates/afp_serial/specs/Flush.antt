@@ -1,6 +1,6 @@
 -- FPFlush (AFP Reference, "FPFlush"): the volume's keeper settles what was committed to it.
 use Rattle.std.specs.Prelude.{ℕ, None}
-use Rattle.afp_serial.specs.CallRow.{CallRow, with_empty_reply}
+use Rattle.afp_serial.specs.World.{CallRow, with_empty_reply}
 use Rattle.afp_serial.specs.OnVolume.{keeper_of, on_volume}
 
 abbrev pub flush_row : ℕ → CallRow

@@ -14,12 +14,10 @@ use Rattle.afp_volume.specs.OpenFork.{fork_values, is_resource, open_fork_file, 
 use Rattle.afp_volume.specs.Parms.{is_outside}
 use Rattle.afp_volume.specs.SetForkParms.{asks_length, has_no_length, length_in}
 use Rattle.afp_volume.specs.VolumeState.{Row as File, VolumeState}
-use Rattle.afp_serial.specs.CallRow.{Effect, Refusal, CallRow, commits_nothing, plain, with_empty_reply, vol}
+use Rattle.afp_serial.specs.World.{Effect, Refusal, CallRow, commits_nothing, plain, with_empty_reply, vol, refused_before, closing, is_open, volume_at, World, Session, OpenFork}
 use Rattle.afp_serial.specs.Limits.{most_forks}
 use Rattle.afp_serial.specs.OnFork.{OpenFile, bytes_of, is_locked, keeper_if, keeps_all, own_keeper, placed, row_on_fork, with_bytes}
-use Rattle.afp_serial.specs.OnVolume.{refused_before, opened_on, refused_on}
-use Rattle.afp_serial.specs.Sessions.{closing, is_open, volume_at}
-use Rattle.afp_serial.specs.World.{World, Session, OpenFork}
+use Rattle.afp_serial.specs.OnVolume.{opened_on, refused_on}
 
 -- FPOpenFork
 

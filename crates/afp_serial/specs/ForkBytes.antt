@@ -7,9 +7,8 @@ use Rattle.afp_base.specs.declared.code.Code.TheVariants.{AccessDenied, DiskFull
 use Rattle.afp_replies.specs.declared.reply.Reply.{Reply}
 use Rattle.afp_replies.specs.declared.reply.Reply.TheVariants.{End, EndExt, Piece}
 use Rattle.afp_volume.specs.ForkEffect.{would_pass}
-use Rattle.afp_serial.specs.CallRow.{Refusal, CallRow, plain}
+use Rattle.afp_serial.specs.World.{Refusal, CallRow, plain, World}
 use Rattle.afp_serial.specs.OnFork.{OpenFile, bytes_of, is_locked, keeper_if, keeps_all, row_on_fork, with_bytes}
-use Rattle.afp_serial.specs.World.{World}
 
 -- FPRead and FPReadExt
 

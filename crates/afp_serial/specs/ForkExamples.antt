@@ -7,12 +7,11 @@ use Rattle.afp_base.specs.declared.code.Code.TheVariants.{AccessDenied, BitmapEr
 use Rattle.afp_replies.specs.Replies.{canonical_reply}
 use Rattle.afp_volume.specs.VolumeState.{Row as File, VolumeState, fresh_volume, new_row}
 use Rattle.afp_serial.specs.Answer.{new_session}
-use Rattle.afp_serial.specs.CallRow.{Effect, Refused, CallRow}
+use Rattle.afp_serial.specs.World.{Effect, Refused, CallRow, World, Session, OpenFork, Lock, start_world}
 use Rattle.afp_serial.specs.Fork.{OpenAsked, access_of, close_fork_row, denied_of, get_fork_parms_row, opens_fork, set_fork_parms_row}
 use Rattle.afp_serial.specs.ForkBytes.{read_ext_row, read_row, write_ext_row, write_row}
 use Rattle.afp_serial.specs.Household.{Household}
 use Rattle.afp_serial.specs.Lock.{byte_range_lock_ext_row, byte_range_lock_row}
-use Rattle.afp_serial.specs.World.{World, Session, OpenFork, Lock, start_world}
 
 -- what a session is told of its calls: each code with its block
 abbrev pub Said : Type 0

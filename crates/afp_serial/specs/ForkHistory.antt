@@ -13,13 +13,11 @@ use Rattle.afp_serial.specs.declared.ask.Ask.TheVariants as ask
 use Rattle.afp_serial.specs.declared.ask.Entry.{Entry}
 use Rattle.afp_serial.specs.declared.ask.Outcome.{Outcome}
 use Rattle.afp_serial.specs.declared.ask.Outcome.TheVariants as outcome
-use Rattle.afp_serial.specs.Answer.{after, request}
+use Rattle.afp_serial.specs.Answer.{after, request, Verdict, refused, repeats, runs, verdict}
 use Rattle.afp_serial.specs.Fork.{length_for}
 use Rattle.afp_serial.specs.ForkBytes.{WriteAsked, is_from_end, write_start}
 use Rattle.afp_serial.specs.OnFork.{OpenFile, open_file}
-use Rattle.afp_serial.specs.Sessions.{session_at, volume_at}
-use Rattle.afp_serial.specs.Steps.{Verdict, refused, repeats, runs, verdict}
-use Rattle.afp_serial.specs.World.{World, Session, OpenFork, at_moment}
+use Rattle.afp_serial.specs.World.{session_at, volume_at, World, Session, OpenFork, at_moment}
 use Rattle.afp_serial.specs.WriteLaws.{ForkChange, puts, sets_length}
 
 -- the bytes of a fork, where its volume and its file are there

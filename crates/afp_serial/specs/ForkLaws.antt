@@ -19,7 +19,7 @@ use Rattle.afp_base.specs.Overlap.{Covers, Range}
 use Rattle.afp_bitmap.specs.Bits.{file_mask}
 use Rattle.afp_volume.specs.VolumeState.{Row as File}
 use Rattle.afp_volume.specs.Parms.{is_outside}
-use Rattle.afp_serial.specs.CallRow.{Refused, CallRow}
+use Rattle.afp_serial.specs.World.{Refused, CallRow, is_open, volume_at, World, Session, OpenFork, Lock}
 use Rattle.afp_serial.specs.Fork.{close_fork_row, flush_fork_row, get_fork_parms_row, lowest_free, open_fork_row, set_fork_parms_row, file_asked, is_denied, opened_reply}
 use Rattle.afp_serial.specs.ForkBytes.{read_ext_row, read_row, write_ext_row, write_row, ReadAsked, read_reply}
 use Rattle.afp_serial.specs.LawfulCall.{is_lawful_call}
@@ -27,9 +27,7 @@ use Rattle.afp_serial.specs.Lock.{byte_range_lock_ext_row, byte_range_lock_row, 
 use Rattle.afp_serial.specs.Limits.{most_forks, most_sessions}
 use Rattle.afp_serial.specs.ReplyKinds.{reply_kind}
 use Rattle.afp_serial.specs.Rows.{refusal}
-use Rattle.afp_serial.specs.Sessions.{is_open, volume_at}
 use Rattle.afp_serial.specs.Sound.{IsSound, share_fork}
-use Rattle.afp_serial.specs.World.{World, Session, OpenFork, Lock}
 
 -- The row of a call, whose fields are those that bytes give, asked by a session of a sound world: its effect keeps the world sound, its reply is shown by
 -- its bytes, which fit in a frame, and so do those of a refusal, which is never told Ok; and the volume of the keeper that it names is there.

@@ -20,9 +20,8 @@ use Rattle.afp_serial.specs.History.{is_lawful, stand}
 use Rattle.afp_serial.specs.Laws.{ComesToCall}
 use Rattle.afp_serial.specs.OnFork.{OpenFile, bytes_of, is_locked, open_file}
 use Rattle.afp_serial.specs.Rows.{refusal}
-use Rattle.afp_serial.specs.Sessions.{session_at}
+use Rattle.afp_serial.specs.World.{session_at, World, Session, OpenFork, Lock, at_moment}
 use Rattle.afp_serial.specs.Sound.{IsSound}
-use Rattle.afp_serial.specs.World.{World, Session, OpenFork, Lock, at_moment}
 use Rattle.afp_serial.specs.WriteLaws.{changed_by_all, misses, puts}
 
 -- at each place of a lawful history no two open forks have one reference, and no two of one fork conflict

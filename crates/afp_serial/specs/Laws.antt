@@ -18,20 +18,17 @@ use Rattle.afp_serial.specs.declared.ask.Entry.{Entry}
 use Rattle.afp_serial.specs.declared.ask.Outcome.TheVariants.{Done, Fault}
 use Rattle.afp_serial.specs.declared.ask.Told.TheVariants as told
 use Rattle.afp_serial.specs.declared.attachment.Attachment.TheVariants.{Attached}
-use Rattle.afp_serial.specs.Answer.{answer, after, is_legal, link_number, new_session, request, swept}
-use Rattle.afp_serial.specs.CallRow.{Refused}
+use Rattle.afp_serial.specs.Answer.{answer, after, is_legal, link_number, new_session, request, swept, block_of, enclosed_of, needs_user}
+use Rattle.afp_serial.specs.World.{Refused, has_session, session_at, World, Session, at_moment, fresh_volumes, start_world}
 use Rattle.afp_serial.specs.History.{answers, is_lawful, opened_in, stand}
 use Rattle.afp_serial.specs.Household.{Household}
 use Rattle.afp_serial.specs.HouseFault.{house_fault}
 use Rattle.afp_serial.specs.LawfulCall.{are_bytes_or_none, is_lawful_call}
 use Rattle.afp_serial.specs.ReplyKinds.{reply_kind}
 use Rattle.afp_serial.specs.Rows.{committed, effect, ends_session, refusal}
-use Rattle.afp_serial.specs.Sessions.{has_session, session_at}
 use Rattle.afp_serial.specs.Shown.{is_answer_to}
 use Rattle.afp_serial.specs.Ranges.{is_moment, is_typed_entry, is_typed_house}
 use Rattle.afp_serial.specs.Sound.{IsSound, ServesVolumes}
-use Rattle.afp_serial.specs.Steps.{block_of, enclosed_of, needs_user}
-use Rattle.afp_serial.specs.World.{World, Session, at_moment, fresh_volumes, start_world}
 
 -- the law of soundness: a world at the start is sound over sound volumes of the house, as are those that nobody has used, and a legal entry
 -- keeps a sound world sound

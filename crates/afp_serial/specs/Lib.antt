@@ -4,11 +4,9 @@ pub mod HouseFault
 pub mod Faultless
 pub mod StatusBlock
 pub mod World
-pub mod Sessions
 pub mod Ranges
 pub mod Sound
 pub mod ReplyKinds
-pub mod CallRow
 pub mod OnVolume
 pub mod OnFork
 pub mod ListReply
@@ -30,7 +28,6 @@ pub mod Fork
 pub mod ForkBytes
 pub mod Lock
 pub mod Rows
-pub mod Steps
 pub mod LawfulCall
 pub mod Answer
 pub mod History

@@ -1,8 +1,7 @@
 -- FPLogout (AFP Reference, "FPLogout").
 use Rattle.std.specs.Prelude.{[]}
 use Rattle.afp_replies.specs.declared.reply.Reply.TheVariants.{Empty}
-use Rattle.afp_serial.specs.CallRow.{CallRow, commits_nothing}
-use Rattle.afp_serial.specs.Sessions.{without_session}
+use Rattle.afp_serial.specs.World.{CallRow, commits_nothing, without_session}
 
 -- It is never refused. The session ends, with its open forks and locks.
 abbrev pub logout_row : CallRow

@@ -7,11 +7,9 @@ use Rattle.afp_base.specs.declared.code.Code.TheVariants.{ParamErr}
 use Rattle.afp_volume.specs.ForkEffect.{fork_effect, fork_of}
 use Rattle.afp_volume.specs.VolumeState.{Row as File, VolumeState}
 use Rattle.afp_volume.specs.Walk.{row_at}
-use Rattle.afp_serial.specs.CallRow.{Effect, Refusal, CallRow, plain, with_empty_reply}
+use Rattle.afp_serial.specs.World.{Effect, Refusal, CallRow, plain, with_empty_reply, volume_at, World, Session, OpenFork, Lock}
 use Rattle.afp_serial.specs.OnVolume.{keeper_of, with_volume_state}
-use Rattle.afp_serial.specs.Sessions.{volume_at}
 use Rattle.afp_serial.specs.Sound.{share_fork}
-use Rattle.afp_serial.specs.World.{World, Session, OpenFork, Lock}
 
 -- an open fork, with its volume and its file as they are
 pub record OpenFile : Type 0 where

@@ -6,14 +6,7 @@ use Rattle.afp_replies.specs.declared.reply.Reply.{Reply}
 use Rattle.afp_volume.specs.Shared.{Opened}
 use Rattle.afp_volume.specs.TreeSteps.{TreeCall, tree_refusal, tree_effect}
 use Rattle.afp_volume.specs.VolumeState.{VolumeState}
-use Rattle.afp_serial.specs.CallRow.{Effect, Refusal, CallRow, commits_nothing, plain, with_empty_reply, vol}
-use Rattle.afp_serial.specs.Sessions.{volume_at}
-use Rattle.afp_serial.specs.World.{World, Session, OpenFork}
-
--- a code as a refusal that tells no more, and what is refused behind it
-abbrev pub refused_before : Option Code → List Refusal → List Refusal
-refused_before None rest = rest
-refused_before (Some code) rest = (true, plain code) ∷ rest
+use Rattle.afp_serial.specs.World.{Effect, Refusal, CallRow, commits_nothing, plain, refused_before, with_empty_reply, vol, volume_at, World, Session, OpenFork}
 
 -- what is refused of a volume; one that is not there counts as not opened
 abbrev pub refused_on : Option VolumeState → (VolumeState → Option Code) → Option Code

@@ -6,10 +6,7 @@ use Rattle.afp_replies.specs.declared.reply.Reply.{Reply}
 use Rattle.afp_replies.specs.declared.reply.Reply.TheVariants.{Params}
 use Rattle.afp_volume.specs.GetVolParms.{get_vol_parms_refusal, volume_values}
 use Rattle.afp_volume.specs.VolumeState.{VolumeState}
-use Rattle.afp_serial.specs.CallRow.{Effect, CallRow, commits_nothing, plain, with_empty_reply}
-use Rattle.afp_serial.specs.OnVolume.{refused_before}
-use Rattle.afp_serial.specs.Sessions.{has_opened, volume_at, with_session}
-use Rattle.afp_serial.specs.World.{World, Session}
+use Rattle.afp_serial.specs.World.{Effect, CallRow, commits_nothing, plain, with_empty_reply, refused_before, has_opened, volume_at, with_session, World, Session}
 
 -- the id of the volume with exactly that name: ids count from 1, in house order
 abbrev pub volume_named : World → List ℕ → Option ℕ

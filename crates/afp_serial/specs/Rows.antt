@@ -4,7 +4,7 @@ use Rattle.afp_base.specs.declared.code.Code.TheVariants.{CallNotSupported}
 use Rattle.afp_requests.specs.declared.call.Call.{Call}
 use Rattle.afp_requests.specs.declared.call.Call.TheVariants.{ByteRangeLock, ByteRangeLockExt, CloseDir, CloseFork, CloseVol, CreateDir, CreateFile, Delete, Enumerate, EnumerateExt, EnumerateExt2, Flush, FlushFork, GetFileDirParms, GetForkParms, GetVolParms, Login, Logout, MoveAndRename, OpenDir, OpenFork, OpenVol, Read, ReadExt, Rename, SetDirParms, SetFileDirParms, SetFileParms, SetForkParms, SetVolParms, Write, WriteExt}
 use Rattle.afp_base.specs.Choice.{first_holding}
-use Rattle.afp_serial.specs.CallRow.{Effect, Refused, CallRow, commits_nothing, plain, with_empty_reply}
+use Rattle.afp_serial.specs.World.{Effect, Refused, CallRow, commits_nothing, plain, with_empty_reply, World, Session}
 use Rattle.afp_serial.specs.CloseVol.{close_vol_row}
 use Rattle.afp_serial.specs.CreateDir.{create_dir_row}
 use Rattle.afp_serial.specs.CreateFile.{create_file_row}
@@ -22,7 +22,6 @@ use Rattle.afp_serial.specs.OpenVol.{open_vol_row}
 use Rattle.afp_serial.specs.Place.{delete_row, move_and_rename_row, rename_row}
 use Rattle.afp_serial.specs.SetFileDirParms.{set_dir_parms_row, set_file_dir_parms_row, set_file_parms_row}
 use Rattle.afp_serial.specs.SetVolParms.{set_vol_parms_row}
-use Rattle.afp_serial.specs.World.{World, Session}
 
 -- a call that is spelt and has no row yet is not supported
 abbrev pub unsupported_row : CallRow

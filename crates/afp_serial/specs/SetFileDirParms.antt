@@ -3,7 +3,7 @@ use Rattle.std.specs.Prelude.{ℕ, List}
 use Rattle.afp_names.specs.Path.{PathValue}
 use Rattle.afp_replies.specs.declared.reply.Reply.TheVariants.{Empty}
 use Rattle.afp_volume.specs.TreeSteps.{SetDirParms, SetFileDirParms, SetFileParms}
-use Rattle.afp_serial.specs.CallRow.{CallRow}
+use Rattle.afp_serial.specs.World.{CallRow}
 use Rattle.afp_serial.specs.OnVolume.{changes_tree}
 
 abbrev pub set_file_parms_row : ℕ → ℕ → ℕ → PathValue → List ℕ → CallRow

@@ -2,7 +2,7 @@
 use Rattle.std.specs.Prelude.{ℕ, List}
 use Rattle.afp_replies.specs.declared.reply.Reply.TheVariants.{Empty}
 use Rattle.afp_volume.specs.TreeSteps.{SetVolParms}
-use Rattle.afp_serial.specs.CallRow.{CallRow}
+use Rattle.afp_serial.specs.World.{CallRow}
 use Rattle.afp_serial.specs.OnVolume.{changes_tree}
 
 abbrev pub set_vol_parms_row : ℕ → ℕ → List ℕ → CallRow

@@ -16,8 +16,7 @@ use Rattle.afp_serial.specs.HouseFault.{house_fault}
 use Rattle.afp_serial.specs.Household.{Household}
 use Rattle.afp_serial.specs.Ranges.{is_moment, is_moment_or_none, is_typed_house}
 use Rattle.afp_volume.specs.TypedVolume.{is_typed_volume}
-use Rattle.afp_serial.specs.Sessions.{has_opened, is_open, volume_at}
-use Rattle.afp_serial.specs.World.{World, Session, OpenFork}
+use Rattle.afp_serial.specs.World.{has_opened, is_open, volume_at, World, Session, OpenFork}
 
 -- both are attached to one link
 abbrev pub share_link : Attachment → Attachment → Bool

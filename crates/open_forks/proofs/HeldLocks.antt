@@ -10,14 +10,12 @@ use Rattle.afp_base.specs.Choice.{first_holding}
 use Rattle.afp_base.specs.DenyMode.{Fork, is_one_fork}
 use Rattle.afp_base.specs.Overlap.{Range, do_meet}
 use Rattle.afp_base.specs.declared.code.Code.TheVariants.{LockErr, NoMoreLocks, RangeOverlap}
-use Rattle.afp_serial.specs.CallRow.{Refused, plain}
+use Rattle.afp_serial.specs.World.{Refused, plain, is_open, World, OpenFork, Lock}
 use Rattle.afp_serial.specs.ForkLaws.{MeetsNoneBehind, MeetsUpToTop, is_lock_range}
 use Rattle.afp_serial.specs.Fork.{with_open}
 use Rattle.afp_serial.specs.Lock.{has_lock, has_most_locks, is_lock, is_met_by_own, last_byte, locking_refusals, with_lock}
 use Rattle.afp_serial.specs.OnFork.{is_locked, is_met_by_other, meets_lock}
-use Rattle.afp_serial.specs.Sessions.{is_open}
 use Rattle.afp_serial.specs.Sound.{share_fork}
-use Rattle.afp_serial.specs.World.{World, OpenFork, Lock}
 use Rattle.fork_table.specs.ForkTable as table
 use Rattle.fork_table.specs.declared.open_fork.OpenFork.{OpenFork as Row}
 use Rattle.range_locks.specs.Locks as held

@@ -19,8 +19,7 @@ use Rattle.afp_serial.specs.Fork.{has_most_forks, is_denied, lowest_free, with_o
 use Rattle.afp_serial.specs.ForkLaws.{ReferenceCounts, ReferenceIsFree, ReferenceIsLowest}
 use Rattle.afp_serial.specs.OnFork.{own_fork}
 use Rattle.afp_serial.specs.OnVolume.{opened_on}
-use Rattle.afp_serial.specs.Sessions.{is_open}
-use Rattle.afp_serial.specs.World.{World, Session, OpenFork}
+use Rattle.afp_serial.specs.World.{is_open, World, Session, OpenFork}
 use Rattle.afp_volume.specs.Shared.{Opened}
 use Rattle.deny_modes.specs.Opens.{Open, has_conflict}
 use Rattle.fork_table.specs.ForkTable as table

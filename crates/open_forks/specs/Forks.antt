@@ -7,11 +7,9 @@ use Rattle.afp_base.specs.Overlap.{Range}
 use Rattle.afp_base.specs.declared.code.Code.TheVariants.{LockErr, NoMoreLocks, RangeOverlap}
 use Rattle.afp_base.specs.declared.ids.ForkRef.{ForkRef}
 use Rattle.afp_base.specs.declared.ids.NodeId.{NodeId}
-use Rattle.afp_serial.specs.CallRow.{plain}
+use Rattle.afp_serial.specs.World.{plain, is_open, World, Session, OpenFork, Lock}
 use Rattle.afp_serial.specs.Fork.{has_most_forks, is_denied, lowest_free, with_open}
 use Rattle.afp_serial.specs.Lock.{has_lock, is_lock, locking_refusals, with_lock}
-use Rattle.afp_serial.specs.Sessions.{is_open}
-use Rattle.afp_serial.specs.World.{World, Session, OpenFork, Lock}
 use Rattle.afp_volume.specs.Shared.{Opened}
 use Rattle.fork_table.specs.ForkTable.{Table}
 use Rattle.fork_table.specs.declared.open_fork.OpenFault.{OpenFault}

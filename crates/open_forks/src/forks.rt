@@ -2,8 +2,7 @@
 ghost use Rattle.std.specs.Prelude.{◌≡◌, ◌==◌, ◌<◌, ◌&&◌, [], not, true, length, option_map, IfOk, IfSome};
 ghost use Rattle.afp_serial.specs.OnFork.{is_locked, own_fork};
 ghost use Rattle.afp_serial.specs.OnVolume.{opened_on};
-ghost use Rattle.afp_serial.specs.Sessions.{is_open};
-ghost use Rattle.afp_serial.specs.World.{World, Session, OpenFork as Opened};
+ghost use Rattle.afp_serial.specs.World.{is_open, World, Session, OpenFork as Opened};
 ghost use Rattle.open_forks.specs.Forks.{AllHeld, HasForks, LocksRange, OpensFork, UnlocksRange, left_of, open_of, shown_opens};
 
 use afp_base::{ForkRef, NodeId, OutOfMemory, SessionNumber, VolumeId};

@@ -10,7 +10,8 @@ use Rattle.std.specs.declared.cmp.Ordering.TheVariants.{Less, Equal, Greater}
 use Rattle.std.proofs.lemmas.Slice.Eq.{bytes_eq-Decides}
 use Rattle.record_keeper.specs.declared.record.Record.{Record}
 use Rattle.volume_records.specs.Shape.{row_in}
-use Rattle.volume_records.specs.KeyOrder.{IsBelow, Rises, with_key, head_key, root_key}
+use Rattle.volume_records.specs.KeyOrder.{IsBelow, Rises, with_key, root_key}
+use Rattle.volume_records.specs.Records.{head_key}
 use Rattle.volume_records.specs.lemma.KeyOrder.{has_key}
 use Rattle.volume_records.proofs.TestParts.{or_right}
 use Rattle.afp_names.specs.Name.{name_fault}

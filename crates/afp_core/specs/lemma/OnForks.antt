@@ -3,8 +3,7 @@ use Rattle.std.specs.Prelude.{◌≡◌, ◌<◌, ◌+◌, ℕ, true, length, Op
 use Rattle.afp_core.specs.ServerState.{KeptWorld}
 use Rattle.afp_core.specs.declared.on_fork.OwnFork.{OwnFork}
 use Rattle.afp_serial.specs.OnFork.{OpenFile, open_file}
-use Rattle.afp_serial.specs.Sessions.{is_open}
-use Rattle.afp_serial.specs.World.{Session}
+use Rattle.afp_serial.specs.World.{is_open, Session}
 use Rattle.afp_volume.specs.SoundVolume.{has_file}
 use Rattle.afp_volume.specs.Walk.{row_at}
 

@@ -16,12 +16,10 @@ use Rattle.afp_core.specs.ServerState.{KeptWorld}
 use Rattle.afp_core.specs.lemma.SessionList.{session_of}
 use Rattle.afp_core.specs.Turn.{done}
 use Rattle.afp_serial.specs.Answer.{refusal_reply}
-use Rattle.afp_serial.specs.CallRow.{plain}
+use Rattle.afp_serial.specs.World.{plain, has_opened, volume_at, World, Session}
 use Rattle.afp_serial.specs.OnVolume.{changes_tree, on_volume, opened_on, tells_of}
 use Rattle.afp_serial.specs.OpenVol.{volume_named}
 use Rattle.afp_serial.specs.Rows.{ends_session, row}
-use Rattle.afp_serial.specs.Sessions.{has_opened, volume_at}
-use Rattle.afp_serial.specs.World.{World, Session}
 use Rattle.afp_serial.specs.declared.ask.Outcome.{Outcome}
 use Rattle.afp_serial.specs.declared.ask.Outcome.TheVariants as outcome
 use Rattle.afp_serial.specs.declared.ask.Told.{Told}

@@ -2,8 +2,7 @@
 use Rattle.std.specs.Prelude.{◌≡◌, ℕ, ◌==◌, if◌then◌else◌, List, [], find, map, Option, Some}
 use Rattle.afp_base.specs.declared.ids.LinkNumber.{LinkNumber}
 use Rattle.afp_serial.specs.declared.attachment.Attachment.TheVariants.{Attached}
-use Rattle.afp_serial.specs.Sessions.{stands_at}
-use Rattle.afp_serial.specs.World.{Session}
+use Rattle.afp_serial.specs.World.{stands_at, Session}
 
 -- a session that has a link, and no answers that are kept for it
 abbrev pub attached : ℕ → LinkNumber → Option ℕ → List ℕ → Session

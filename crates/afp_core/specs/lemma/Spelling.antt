@@ -4,10 +4,9 @@ use Rattle.afp_base.specs.Cached.{Request}
 use Rattle.afp_requests.specs.declared.call.Call.{Call}
 use Rattle.afp_core.specs.declared.spelling.Stop.{Stop}
 use Rattle.afp_core.specs.declared.spelling.Stop.TheVariants.{Refused, Memory}
-use Rattle.afp_serial.specs.CallRow.{plain}
+use Rattle.afp_serial.specs.World.{plain, World, Session}
 use Rattle.afp_serial.specs.Rows.{refusal}
-use Rattle.afp_serial.specs.Steps.{block_of, enclosed_of, refused, verdict_of_block, verdict_of_row}
-use Rattle.afp_serial.specs.World.{World, Session}
+use Rattle.afp_serial.specs.Answer.{block_of, enclosed_of, refused, verdict_of_block, verdict_of_row}
 
 -- The request comes to the row of this call, or is refused before; want of memory may take the place of each.
 abbrev pub ComesToRow : World → Session → Request → List ℕ → Result Call Stop → Type 0

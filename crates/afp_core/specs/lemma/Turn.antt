@@ -7,12 +7,10 @@ use Rattle.afp_requests.specs.declared.call.Call.{Call}
 use Rattle.afp_core.specs.lemma.SessionList.{session_of}
 use Rattle.afp_core.specs.ServerState.{KeptWorld, ServerState}
 use Rattle.afp_core.specs.lemma.ServerState.{kept_at}
-use Rattle.afp_serial.specs.Answer.{after, after_call, after_verdict, committed_by, committed_in, told_call, told_verdict}
+use Rattle.afp_serial.specs.Answer.{after, after_call, after_verdict, committed_by, committed_in, told_call, told_verdict, Verdict, verdict_of_row}
 use Rattle.afp_serial.specs.History.{entry}
 use Rattle.afp_serial.specs.Rows.{refusal}
-use Rattle.afp_serial.specs.Sessions.{session_at}
-use Rattle.afp_serial.specs.Steps.{Verdict, verdict_of_row}
-use Rattle.afp_serial.specs.World.{Session}
+use Rattle.afp_serial.specs.World.{session_at, Session}
 use Rattle.afp_serial.specs.declared.ask.Ask.{Ask}
 use Rattle.afp_serial.specs.declared.ask.Ask.TheVariants as ask
 use Rattle.afp_serial.specs.declared.ask.Outcome.{Outcome}

@@ -1,8 +1,7 @@
 use Rattle.std.proofs.Common.{◌∙◌, ◌++◌, ◌∷◌, [], ap, List, ℕ, None, nat_eq}
 use Rattle.indexmap.proofs.CallerLemmas.{insert_entry-new}
 use Rattle.afp_serial.specs.Answer.{new_session}
-use Rattle.afp_serial.specs.Sessions.{has_session}
-use Rattle.afp_serial.specs.World.{Session}
+use Rattle.afp_serial.specs.World.{has_session, Session}
 use Rattle.afp_core.specs.lemma.SessionList.{attached}
 use Rattle.afp_core.specs.declared.sessions.Linked.{Linked}
 use Rattle.afp_core.proofs.SessionLemmas.{shown, shown-append, lookup-new}

@@ -1,7 +1,7 @@
 use Rattle.std.proofs.Common.{◌∙◌, ap, sym, refl, subst}
 use Rattle.afp_serial.specs.Answer.{refusal_reply}
 use Rattle.afp_core.specs.ServerState.{KeptWorld}
-use Rattle.afp_serial.specs.Sessions.{session_at}
+use Rattle.afp_serial.specs.World.{session_at}
 use Rattle.afp_core.specs.lemma.Requests.{as_request}
 use Rattle.afp_core.specs.lemma.SessionList.{IsAt, session_of}
 use Rattle.afp_core.proofs.AskLemmas.{call-displaced, call-refused, call-runs}

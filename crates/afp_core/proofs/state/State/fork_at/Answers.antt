@@ -1,6 +1,5 @@
 use Rattle.std.proofs.Common.{◌∙◌, ap, refl, sym, List}
-use Rattle.afp_serial.specs.Sessions.{is_open, volume_at}
-use Rattle.afp_serial.specs.World.{OpenFork as Opened}
+use Rattle.afp_serial.specs.World.{is_open, volume_at, OpenFork as Opened}
 use Rattle.fork_table.specs.declared.open_fork.OpenFork.{OpenFork}
 use Rattle.afp_core.specs.ServerState.{KeptWorld}
 use Rattle.afp_core.specs.lemma.ServerState.{forks_in}

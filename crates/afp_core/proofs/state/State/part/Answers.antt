@@ -1,5 +1,5 @@
 use Rattle.std.proofs.Common.{◌∙◌, ap, sym, subst}
-use Rattle.afp_serial.specs.Sessions.{session_at}
+use Rattle.afp_serial.specs.World.{session_at}
 use Rattle.afp_core.specs.ServerState.{KeptWorld}
 use Rattle.afp_core.specs.lemma.SessionList.{IsAt}
 use Rattle.afp_core.proofs.AskLemmas.{part-displaced, part-runs}

@@ -1,5 +1,5 @@
 use Rattle.std.proofs.Common.{◌∙◌, sym, ap, subst, Some, None}
-use Rattle.afp_serial.specs.Sessions.{is_open}
+use Rattle.afp_serial.specs.World.{is_open}
 use Rattle.open_forks.specs.Forks.{Forks, HasForks}
 use Rattle.open_forks.proofs.OpenRows.{own-is, own-open}
 use Rattle.open_forks.proofs.forks.OpenForks.get.Goals as goal
