@@ -11,6 +11,7 @@ use std::marker::Model;
 /// Which forks of a volume are open, by any session. It is looked up, and not gathered.
 ///
 /// Contracts see a list of the opens, each as its node and whether it is of the resource fork.
+#[derive(Drop)]
 pub struct VolumeOpens<'a> {
     opens: &'a Opens,
     volume: VolumeId,

@@ -77,14 +77,13 @@ fn of_open(table: &mut ForkTable, line: &Line<'_>) -> Came {
 }
 
 /// What comes of a line on the table of open forks.
-fn of_table(table: &mut ForkTable, line: &Line<'_>) -> Result<Came, OutOfMemory> {
+fn of_table(table: &mut ForkTable, line: &Line<'_>) -> Came {
     match line.kind {
-        Kind::Open | Kind::OpenMany => Ok(of_open(table, line)),
-        Kind::Opened => Ok(Came::Number(tables::opened(table, line)?)),
-        Kind::Get | Kind::Busy | Kind::MayOpen | Kind::OwnBlocked => {
-            Ok(yes(tables::asked(table, line)))
+        Kind::Open | Kind::OpenMany => of_open(table, line),
+        Kind::Get | Kind::Busy | Kind::MayOpen | Kind::Opened | Kind::OwnBlocked => {
+            yes(tables::asked(table, line))
         }
-        _ => Ok(Came::Word(tables::change(table, line))),
+        _ => Came::Word(tables::change(table, line)),
     }
 }
 
@@ -126,7 +125,7 @@ impl Run {
             | Kind::Stopped
             | Kind::Blocks
             | Kind::CopyLength => of_fork(alloc, &mut self.fork, line),
-            _ => of_table(&mut self.table, line),
+            _ => Ok(of_table(&mut self.table, line)),
         }
     }
 }

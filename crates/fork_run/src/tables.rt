@@ -2,7 +2,7 @@
 use crate::keys::{fork, mode, range, reference};
 use crate::line::{Kind, Line};
 use crate::locks::{lock_word, unlock_word};
-use afp_base::{ForkRef, NodeId, OutOfMemory, SessionNumber, VolumeId};
+use afp_base::{ForkRef, SessionNumber, VolumeId};
 use fork_table::{ForkTable, OpenFault};
 
 /// Why a fork is not opened.
@@ -98,6 +98,18 @@ fn blocked(table: &ForkTable, line: &Line<'_>) -> bool {
     table.blocks(r, &range)
 }
 
+/// Whether a fork of that node of volume 1 is open: its data fork at 0, its resource fork at 1, either at other numbers.
+fn opened(table: &ForkTable, line: &Line<'_>) -> bool {
+    let [node, which, _, _] = line.numbers;
+    let node = fork(node).node;
+    let opens = table.on(VolumeId(1));
+    match which {
+        0 => opens.has_fork(node, false),
+        1 => opens.has_fork(node, true),
+        _ => opens.has_node(node),
+    }
+}
+
 /// What is asked of the table, and is so or not.
 pub fn asked(table: &ForkTable, line: &Line<'_>) -> bool {
     let [first, second, _, _] = line.numbers;
@@ -105,17 +117,7 @@ pub fn asked(table: &ForkTable, line: &Line<'_>) -> bool {
         Kind::Get => table.get(SessionNumber(first), reference(second)).is_some(),
         Kind::Busy => table.busy(&fork(first)),
         Kind::MayOpen => table.may_open(&fork(first), &mode(second)),
+        Kind::Opened => opened(table, line),
         _ => blocked(table, line),
     }
-}
-
-/// How many open forks of volume 1 are the data fork of that node.
-pub fn opened(table: &ForkTable, line: &Line<'_>) -> Result<u64, OutOfMemory> {
-    let mut count: u64 = 0;
-    for (node, resource) in table.opened(VolumeId(1))?.iter() {
-        if u64::from(node.0) == line.numbers[0] && !*resource {
-            count = count.saturating_add(1);
-        }
-    }
-    Ok(count)
 }

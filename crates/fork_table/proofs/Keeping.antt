@@ -10,15 +10,16 @@ use Rattle.std.specs.declared.cmp.Ordering.TheVariants.{Less, Equal, Greater}
 use Rattle.std.proofs.lemmas.Bool.Decides.{nat_tests}
 use Rattle.afp_base.specs.DenyMode.{Fork, is_one_fork}
 use Rattle.afp_base.specs.Overlap.{Range}
+use Rattle.afp_base.specs.declared.ids.NodeId.{NodeId}
 use Rattle.sorted_map.specs.Entries.{at}
-use Rattle.deny_modes.specs.Opens.{Open, has_reference, in_exchange, exchange_open, exchanged_opens, with_open, without_reference}
+use Rattle.deny_modes.specs.Opens.{Open, opens_on, has_reference, in_exchange, exchange_open, exchanged_opens, with_open, without_reference}
 use Rattle.deny_modes.proofs.Forks.{itself, both_cross}
 use Rattle.range_locks.specs.declared.fault.LockFault.{LockFault}
 use Rattle.range_locks.specs.declared.fault.LockFault.TheVariants.{Locked, Overlap, Full, Memory}
 use Rattle.range_locks.specs.declared.fault.NotLocked.{NotLocked}
 use Rattle.range_locks.specs.Locks.{Lock, SetsLock, TakesLock, with_lock, without_holder, is_lock, exchange_lock, exchanged_locks}
 use Rattle.fork_table.specs.declared.open_fork.OpenFork.{OpenFork}
-use Rattle.fork_table.specs.ForkTable.{Table, plain, plain_opens, is_open, is_held, closing, exchange_row}
+use Rattle.fork_table.specs.ForkTable.{Table, plain, plain_opens, is_open, is_held, closing, exchange_row, forks_of}
 use Rattle.fork_table.specs.Kept.{IsTable}
 use Rattle.fork_table.proofs.References.{Rise, Above, lower, higher, same_number, shows_new, shows_less, fresh_row}
 
@@ -308,3 +309,13 @@ table_exchanged {rows = rows} {rows' = rows'} {locks = locks} a b t rows_are ope
     shows : (rows : List (ℕ × OpenFork)) → exchanged_opens a b (plain_opens rows) ≡ plain_opens (map (exchange_row a b) rows)
     shows [] = refl
     shows (e ∷ es) = ap (λ l. exchange_open a b (plain e) ∷ l) (shows es)
+
+-- ---- the opens of a volume are those of its rows
+pub opens_of_rows : (volume : ℕ) (rows : List (ℕ × OpenFork)) → opens_on volume (plain_opens rows) ≡ forks_of volume rows
+opens_of_rows volume [] = refl
+opens_of_rows volume (e ∷ es) =
+    elim (e.1.fork.volume == volume) as (λ b. map {B = NodeId × Bool} (λ (o : Open). (record { 0 = o.fork.node }, o.fork.resource)) (if b then plain e ∷ filter (λ o. o.fork.volume == volume) (plain_opens es) else filter (λ o. o.fork.volume == volume) (plain_opens es))
+    ≡ map {B = NodeId × Bool} (λ (row : ℕ × OpenFork). (record { 0 = row.1.fork.node }, row.1.fork.resource)) (if b then e ∷ filter (λ row. row.1.fork.volume == volume) es else filter (λ row. row.1.fork.volume == volume) es)) [
+      | true ↦ ap (λ l. (record { 0 = e.1.fork.node }, e.1.fork.resource) ∷ l) (opens_of_rows volume es)
+      | false ↦ opens_of_rows volume es
+    ]

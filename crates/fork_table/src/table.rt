@@ -1,5 +1,5 @@
 //! The table of the open forks.
-ghost use Rattle.std.specs.Prelude.{◌≡◌, ◌<◌, ◌==◌, true, not, [], length, map, filter, option_copied, option_map, IfOk, IfSome, IsSome};
+ghost use Rattle.std.specs.Prelude.{◌≡◌, ◌<◌, ◌==◌, true, not, [], length, map, filter, option_copied, option_map, IfSome, IsSome};
 ghost use Rattle.std.specs.Ordering.{nat_cmp};
 ghost use Rattle.deny_modes.specs.Opens.{has_conflict, is_fork_open};
 ghost use Rattle.range_locks.specs.Locks.{SetsLock, TakesLock, is_met_by_other, without_holder, exchanged_locks};
@@ -8,8 +8,8 @@ ghost use Rattle.fork_table.specs.ForkTable.{Table, plain_opens, OpensFork, own_
 
 use crate::rows::{count_open, exchange_rows, lowest_free, one_of_session, one_of_volume};
 use crate::{OpenFault, OpenFork};
-use afp_base::{ForkRef, NodeId, OutOfMemory, SessionNumber, VolumeId};
-use deny_modes::{ForkKey, Mode, Opens};
+use afp_base::{ForkRef, SessionNumber, VolumeId};
+use deny_modes::{ForkKey, Mode, Opens, VolumeOpens};
 use range_locks::{LockFault, Locks, NotLocked, Range};
 use sorted_map::SortedMap;
 use std::alloc::Global;
@@ -24,7 +24,6 @@ pub struct ForkTable {
     rows: SortedMap<u16, OpenFork>,
     opens: Opens,
     locks: Locks,
-    alloc: Global,
 }
 
 impl Model for ForkTable {
@@ -47,7 +46,6 @@ impl ForkTable {
             rows: SortedMap::new(alloc),
             opens: Opens::new(alloc),
             locks: Locks::new(alloc),
-            alloc,
         }
     }
 
@@ -158,19 +156,11 @@ impl ForkTable {
         }
     }
 
-    /// The open forks of a volume, by rising reference: each node, and whether it is the resource fork. `Err` only for want of memory.
-    pub fn opened(&self, v: VolumeId) -> Result<Vec<(NodeId, bool)>, OutOfMemory>
-        ensures { IfOk result (λ forks. forks.items ≡ forks_of v.0 self.now.opens) }
+    /// The open forks of a volume, of all sessions.
+    pub fn on(&self, v: VolumeId) -> VolumeOpens<'_>
+        ensures { result ≡ forks_of v.0 self.now.opens }
     {
-        let mut found = Vec::new(self.alloc);
-        for row in self.rows.entries() {
-            if row.1.fork.volume == v {
-                let Ok(()) = found.push((row.1.fork.node, row.1.fork.resource)) else {
-                    return Err(OutOfMemory);
-                };
-            }
-        }
-        Ok(found)
+        self.opens.on(v)
     }
 
     /// Takes the open of that reference away, with its locks.

@@ -1,13 +1,13 @@
 //! The open forks of all sessions, with their locks.
-ghost use Rattle.std.specs.Prelude.{◌≡◌, ◌==◌, ◌<◌, ◌&&◌, [], not, true, length, option_map, IfOk, IfSome};
+ghost use Rattle.std.specs.Prelude.{◌≡◌, ◌==◌, ◌<◌, ◌&&◌, [], not, true, length, option_map, IfSome};
 ghost use Rattle.afp_serial.specs.OnFork.{is_locked, own_fork};
 ghost use Rattle.afp_serial.specs.OnVolume.{opened_on};
 ghost use Rattle.afp_serial.specs.World.{is_open, World, Session, OpenFork as Opened};
 ghost use Rattle.open_forks.specs.Forks.{AllHeld, HasForks, LocksRange, OpensFork, UnlocksRange, left_of, open_of, shown_opens};
 
-use afp_base::{ForkRef, NodeId, OutOfMemory, SessionNumber, VolumeId};
+use afp_base::{ForkRef, SessionNumber, VolumeId};
 use afp_serial::fork_laws::{forks_are_shared_by_their_rules, references_are_lowest};
-use deny_modes::{ForkKey, Mode};
+use deny_modes::{ForkKey, Mode, VolumeOpens};
 use fork_table::{ForkTable, OpenFault, OpenFork};
 use range_locks::{LockFault, NotLocked, Range};
 use std::alloc::Global;
@@ -97,11 +97,11 @@ impl OpenForks {
         self.table.close_session(s)
     }
 
-    /// The open forks of a volume, by rising reference: each node, and whether it is the resource fork. `Err` only for want of memory.
-    pub fn opened(&self, v: VolumeId) -> Result<Vec<(NodeId, bool)>, OutOfMemory>
-        ensures { IfOk result (λ forks. (w : World) → HasForks w self.now → shown_opens forks.items ≡ opened_on w v.0) }
+    /// The open forks of a volume, of all sessions.
+    pub fn on(&self, v: VolumeId) -> VolumeOpens<'_>
+        ensures { (w : World) → HasForks w self.now → shown_opens result ≡ opened_on w v.0 }
     {
-        self.table.opened(v)
+        self.table.on(v)
     }
 
     /// Whether another reference's lock covers one of so many bytes of the fork of a reference that is open, from a place on.
