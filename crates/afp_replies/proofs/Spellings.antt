@@ -1,5 +1,5 @@
 -- Each field has one value, and where it stands is told by its bytes.
-use Rattle.std.proofs.Common.{◌≡◌, ℕ, ◌+◌, ◌^◌, ◌<◌, ◌≤◌, List, [], ◌++◌, length, take, drop, refl, sym, ap, ◌∙◌, subst, arith, append_assoc, length-append, Result, Ok, Err}
+use Rattle.std.proofs.Common.{◌≡◌, ℕ, ◌+◌, ◌^◌, ◌<◌, List, [], ◌++◌, length, take, drop, refl, sym, ap, ◌∙◌, subst, arith, append_assoc, length-append, Result, Ok, Err}
 use Rattle.std.proofs.lemmas.List.{take-append-drop, take_at, drop_at, length-take-le, append-nil}
 use Rattle.byteorder.specs.Endian.{big_number, big_bytes}
 use Rattle.afp_bitmap.specs.Bits.{IsWithin}
@@ -8,8 +8,8 @@ use Rattle.afp_replies.specs.declared.reply.ReplyFault.TheVariants.{Bad, Memory}
 use Rattle.afp_replies.specs.Bytes.{counted}
 use Rattle.afp_replies.specs.Words.{Number, Exactly, Asked, Raw, Counted}
 use Rattle.afp_replies.specs.Layout.{Lacks}
-use Rattle.afp_replies.specs.lemma.Reading.{Rest, Took, Takes, Front, FrontIs, IsBytes}
-use Rattle.afp_replies.proofs.NumberLemmas.{bytes_again, number_again, length-big_bytes, big_number-lt, IsBytes-take}
+use Rattle.afp_replies.specs.lemma.Reading.{Rest, Took, Takes, Front, FrontIs}
+use Rattle.afp_replies.proofs.NumberLemmas.{bytes_again, number_again, length-big_bytes, big_number-lt}
 
 -- the front and the rest of a list that is split
 pub front_is : (xs a b : List ℕ) (n : ℕ) → xs ≡ a ++ b → length a ≡ n → take n xs ≡ a
@@ -56,12 +56,6 @@ number_took n old new piece f = record {
 
 pub number_lacks : (n : ℕ) (bytes : List ℕ) → length bytes < n → Lacks (Number n) bytes
 number_lacks n bytes lt x first rest s e = too_short n bytes first rest lt (ap (length {A = ℕ}) s.1 ∙ length-big_bytes n x) e
-
--- what a cursor gives
-pub front_given : (n place : ℕ) (bytes piece rest : List ℕ) → n ≤ length bytes → piece ≡ take n bytes → rest ≡ drop n bytes → IsBytes bytes
-    → FrontIs n (record { place = place; bytes = bytes }) piece (record { place = place + n; bytes = rest })
-front_given n place bytes piece rest le p r b =
-    record { there = le; piece_is = p; place = refl; bytes = r; are_bytes = subst IsBytes (sym p) (IsBytes-take n bytes b) }
 
 -- the bits that were asked, as the number that they must be
 pub asked_takes : (mask bits : ℕ) (old new : Rest) (res : Result (Unit {0}) ReplyFault) → IsWithin mask bits → Takes (Exactly 2 bits) old res new → Takes (Asked mask bits) old res new

@@ -10,7 +10,7 @@ ghost use Rattle.afp_replies.specs.Words.{Number, Exactly, Asked, Raw, Pad, Coun
 use crate::fields::{DIR, DIRECTORY, FILE, head_size, width};
 use crate::list::ListEntry;
 use crate::reply::ReplyFault;
-use afp_base::{Bytes, OutOfMemory};
+use afp_base::{Bytes, OutOfMemory, Scan};
 use afp_bitmap::{ParamFault, Values, read_params};
 use byteorder::{BigEndian, ByteOrder};
 use std::alloc::Global;
@@ -21,19 +21,18 @@ use std::marker::Model;
 /// Contracts see the place of the first of them, and the bytes.
 #[derive(Drop)]
 pub(crate) struct Cursor<'a> {
-    place: usize,
-    bytes: &'a [u8],
+    scan: Scan<'a>,
 }
 
 impl<'a> Model for Cursor<'a> {
-    ghost use Rattle.std.specs.Prelude.{◌+◌, ◌<◌, ◌^◌, length};
+    ghost use Rattle.std.specs.Prelude.{◌≤◌, ◌<◌, ◌^◌, drop, length};
     ghost use Rattle.afp_replies.specs.lemma.Reading.{Rest, IsBytes};
 
     ghost Value = { Rest };
 
-    ghost view = { λ c. record { place = c.place; bytes = c.bytes.now } };
+    ghost view = { λ c. record { place = c.scan.place; bytes = drop c.scan.place c.scan.bytes } };
 
-    ghost invariant = { λ c. (c.place + length c.bytes.now < 2 ^ 64) × IsBytes c.bytes.now };
+    ghost invariant = { λ c. (c.scan.place ≤ length c.scan.bytes) × (length c.scan.bytes < 2 ^ 64) × IsBytes c.scan.bytes };
 }
 
 impl<'a> Cursor<'a> {
@@ -43,20 +42,38 @@ impl<'a> Cursor<'a> {
     pub(crate) fn new(bytes: &'a [u8]) -> Cursor<'a>
         ensures { result ≡ record { place = 0; bytes = bytes.now } }
     {
-        Cursor { place: 0, bytes }
+        Cursor {
+            scan: Scan::new(bytes),
+        }
     }
 
     /// The next `n` bytes.
     fn front(&mut self, n: usize) -> Result<&'a [u8], ReplyFault>
         ensures { Front n self.old result self.new }
     {
-        if self.bytes.len() < n {
-            return Err(ReplyFault::Bad { at: self.place });
+        match self.scan.bytes(n) {
+            Ok(piece) => Ok(piece),
+            Err(short) => Err(ReplyFault::Bad { at: short.at }),
         }
-        let (piece, rest) = self.bytes.split_at(n);
-        self.place += n;
-        self.bytes = rest;
-        Ok(piece)
+    }
+
+    /// The place of the next byte.
+    fn place(&self) -> usize
+        ensures place { result ≡ self.now.place }
+        ensures within { result + length self.now.bytes < 2 ^ 64 }
+    {
+        self.scan.place()
+    }
+
+    /// All bytes that remain, lent.
+    fn rest(&self) -> &'a [u8]
+        ensures { result.now ≡ self.now.bytes }
+    {
+        let mut ahead = self.scan.again();
+        match ahead.bytes(self.scan.remaining()) {
+            Ok(bytes) => bytes,
+            Err(_) => unreachable!(),
+        }
     }
 
     /// A number of 1 byte.
@@ -95,7 +112,7 @@ impl<'a> Cursor<'a> {
     pub(crate) fn exactly(&mut self, number: u16) -> Result<(), ReplyFault>
         ensures { Takes (Exactly 2 number) self.old result self.new }
     {
-        let at = self.place;
+        let at = self.place();
         let piece = self.front(2)?;
         if BigEndian::read_u16(piece) == number {
             Ok(())
@@ -111,7 +128,7 @@ impl<'a> Cursor<'a> {
         if bits & mask == bits {
             self.exactly(bits)
         } else {
-            Err(ReplyFault::Bad { at: self.place })
+            Err(self.bad())
         }
     }
 
@@ -139,10 +156,10 @@ impl<'a> Cursor<'a> {
         requires few { size ≤ 4 }
         ensures { TakesText size self.old result self.new }
     {
-        let at = self.place;
+        let at = self.place();
         let head = self.front(size)?;
         let count = BigEndian::read_uint(head, size) as usize;
-        if self.bytes.len() < count {
+        if self.rest().len() < count {
             return Err(ReplyFault::Bad { at });
         }
         let text = self.front(count)?;
@@ -170,7 +187,7 @@ impl<'a> Cursor<'a> {
     pub(crate) fn flag(&mut self) -> Result<bool, ReplyFault>
         ensures { Takes Flag self.old result self.new }
     {
-        let at = self.place;
+        let at = self.place();
         let piece = self.front(1)?;
         match piece[0] {
             DIRECTORY => Ok(true),
@@ -212,21 +229,20 @@ impl<'a> Cursor<'a> {
         requires bits { IsWithin (mask_of kind) bits }
         ensures { TakesParams kind bits self.entry result }
     {
-        let place = self.place;
-        params_at(alloc, kind, bits, place, self.bytes)
+        params_at(alloc, kind, bits, self.place(), self.rest())
     }
 
     /// The bytes of the next entry of a list, as its length counts them.
     fn entry_bytes(&mut self, wide: bool) -> Result<&'a [u8], ReplyFault>
         ensures { TakesEntryBytes wide self.old result self.new }
     {
-        let at = self.place;
-        if self.bytes.len() < width(wide) {
-            return Err(ReplyFault::Bad { at });
+        let rest = self.rest();
+        if rest.len() < width(wide) {
+            return Err(self.bad());
         }
-        let length = BigEndian::read_uint(self.bytes, width(wide)) as usize;
-        if length < head_size(wide) || self.bytes.len() < length {
-            return Err(ReplyFault::Bad { at });
+        let length = BigEndian::read_uint(rest, width(wide)) as usize;
+        if length < head_size(wide) || rest.len() < length {
+            return Err(self.bad());
         }
         self.front(length)
     }
@@ -243,7 +259,7 @@ impl<'a> Cursor<'a> {
         requires dir { IsWithin dir_mask dir_bits }
         ensures { Takes (Entry wide file_bits dir_bits) self.old result self.new }
     {
-        let place = self.place;
+        let place = self.place();
         let entry = self.entry_bytes(wide)?;
         let (flag, head) = (place + width(wide), head_size(wide));
         match entry[width(wide)] {
@@ -257,24 +273,24 @@ impl<'a> Cursor<'a> {
     pub(crate) fn bad(&self) -> ReplyFault
         ensures { result ≡ Bad self.now.place }
     {
-        ReplyFault::Bad { at: self.place }
+        ReplyFault::Bad { at: self.place() }
     }
 
     /// All bytes that remain.
     pub(crate) fn remaining(self, alloc: Global) -> Result<Bytes, OutOfMemory>
         ensures { IfOk result (λ b. b ≡ self.entry.bytes) }
     {
-        Bytes::of(alloc, self.bytes)
+        Bytes::of(alloc, self.rest())
     }
 
     /// The end of the bytes.
     pub(crate) fn done(&self) -> Result<(), ReplyFault>
         ensures { Ends self.now result }
     {
-        if self.bytes.is_empty() {
+        if self.rest().is_empty() {
             Ok(())
         } else {
-            Err(ReplyFault::Bad { at: self.place })
+            Err(self.bad())
         }
     }
 }
