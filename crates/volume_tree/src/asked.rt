@@ -1,6 +1,5 @@
 //! What calls ask of a volume's tree.
-ghost use Rattle.std.specs.Prelude.{Bool, true, false, None, MatchOption, ◌≡◌, ◌++◌, ◌==◌, ◌&&◌, Some, chars, map, length, bytes_eq, option_map, IfOk, OnOk};
-ghost use Rattle.std.specs.List.{find, list_any};
+ghost use Rattle.std.specs.Prelude.{true, false, None, MatchOption, ◌≡◌, ◌++◌, ◌==◌, ◌&&◌, Some, chars, map, length, bytes_eq, IfOk, OnOk};
 ghost use Rattle.afp_names.specs.LongName.{shown_byte, long_name_of};
 ghost use Rattle.afp_names.specs.Name.{name_key};
 ghost use Rattle.afp_names.specs.Path.{element_of, long_names};
@@ -15,6 +14,7 @@ use crate::volume::{ROOT_PARENT, Volume};
 use afp_base::{Bytes, NodeId, OutOfMemory};
 use afp_names::mac_roman::byte_of;
 use afp_names::{Name, long_name};
+use deny_modes::VolumeOpens;
 use node_rows::Node;
 use std::alloc::Global;
 
@@ -87,16 +87,10 @@ fn is_long(alloc: Global, node: &Node, dir: NodeId, element: &[u8]) -> Result<bo
 }
 
 /// Whether a fork of a node is open.
-pub(crate) fn is_busy(opens: &[(NodeId, bool)], id: NodeId) -> bool
+pub(crate) fn is_busy(opens: &VolumeOpens<'_>, id: NodeId) -> bool
     ensures { result ≡ is_busy (opened opens.now) id.0 }
 {
-    is_open(opens, id)
-}
-
-fn is_open(opens: &[(NodeId, bool)], id: NodeId) -> bool
-    ensures { result ≡ list_any (λ (open_fork : NodeId × Bool). open_fork.0.0 == id.0) opens.now }
-{
-    opens.iter().any(|open| open.0.0 == id.0)
+    opens.has_node(id)
 }
 
 impl Volume {

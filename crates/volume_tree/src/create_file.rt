@@ -16,6 +16,7 @@ use crate::volume::Volume;
 use afp_base::{Code, Moment, NodeId};
 use afp_names::Path;
 use afp_volume::laws::calls_keep_volumes_sound;
+use deny_modes::VolumeOpens;
 use std::alloc::Global;
 
 impl Volume {
@@ -25,7 +26,7 @@ impl Volume {
         &self,
         alloc: Global,
         now: Moment,
-        opens: &[(NodeId, bool)],
+        opens: &VolumeOpens<'_>,
         hard: bool,
         dir: NodeId,
         path: &Path,
@@ -64,7 +65,7 @@ impl Volume {
     /// The id of a new file, in the place of an old node if there is one, or why it is refused.
     fn file_id(
         &self,
-        opens: &[(NodeId, bool)],
+        opens: &VolumeOpens<'_>,
         hard: bool,
         old: Option<NodeId>,
     ) -> Result<NodeId, Code>

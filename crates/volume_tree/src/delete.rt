@@ -14,6 +14,7 @@ use crate::volume::{ROOT, Volume};
 use afp_base::{Code, Moment, NodeId};
 use afp_names::Path;
 use afp_volume::laws::{calls_keep_volumes_sound, rows_are_changed_in_place};
+use deny_modes::VolumeOpens;
 use std::alloc::Global;
 
 /// The attribute of a node that may not be deleted (AFP Reference, "File attributes").
@@ -25,7 +26,7 @@ impl Volume {
         &self,
         alloc: Global,
         now: Moment,
-        opens: &[(NodeId, bool)],
+        opens: &VolumeOpens<'_>,
         dir: NodeId,
         path: &Path,
     ) -> Result<Plan, PlanFault>
@@ -58,7 +59,7 @@ impl Volume {
     fn deleted(
         &self,
         alloc: Global,
-        opens: &[(NodeId, bool)],
+        opens: &VolumeOpens<'_>,
         dir: NodeId,
         path: &Path,
     ) -> Result<NodeId, PlanFault>

@@ -10,18 +10,19 @@ ghost use Rattle.volume_tree.specs.Shown.{opened};
 use crate::plan::Plan;
 use crate::resolve::PlanFault;
 use crate::volume::Volume;
-use afp_base::{Moment, NodeId};
+use afp_base::Moment;
 use afp_requests::Call;
+use deny_modes::VolumeOpens;
 use std::alloc::Global;
 
 impl Volume {
-    /// Why a call is refused, or what it will do. `opens` are the volume's open forks, each as a node and whether it is the
-    /// resource fork. Want of memory comes for no other reason.
+    /// Why a call is refused, or what it will do. `opens` tells which forks of the volume are open. Want of memory
+    /// comes for no other reason.
     pub fn plan(
         &self,
         alloc: Global,
         now: Moment,
-        opens: &[(NodeId, bool)],
+        opens: &VolumeOpens<'_>,
         call: &Call,
     ) -> Result<Plan, PlanFault>
         requires { IsSome (tree_call call.now) }

@@ -6,4 +6,4 @@ use Rattle.volume_tree.proofs.asked.is_busy.Goals as goal
 
 pub returns : goal.returns
 unfolding is_busy
-returns c = c.is_open.ensures ∙ sym (any-map (λ (f : Opened). f.node == c.args.id.0) (λ (open_fork : NodeId × Bool). record { node = open_fork.0.0; resource = open_fork.1 }) c.args.opens.now)
+returns c = c.has_node.ensures ∙ sym (any-map (λ (f : Opened). f.node == c.args.id.0) (λ (open_fork : NodeId × Bool). record { node = open_fork.0.0; resource = open_fork.1 }) c.args.opens.now)
