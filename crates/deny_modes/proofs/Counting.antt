@@ -15,9 +15,10 @@ use Rattle.sorted_map.specs.Entries.{at, exchanged, with_new_value}
 use Rattle.deny_modes.specs.declared.opens.Opened.{Opened}
 use Rattle.deny_modes.specs.declared.opens.Tally.{Tally}
 use Rattle.afp_base.specs.Apart.{are_apart}
-use Rattle.deny_modes.specs.ForkOrder.{fork_cmp}
+use Rattle.deny_modes.specs.lemma.ForkOrder.{fork_cmp}
 use Rattle.deny_modes.specs.Opens.{Open, has_reference, has_conflict, is_fork_open, with_open, without_reference, in_exchange, exchange_open, exchanged_opens, count_of, counts_of, are_in_conflict}
-use Rattle.deny_modes.specs.Counters.{open_of, opens_of, tally_of, IsCounted, clash_with, bit, tally_with, tally_without, no_tally, CanCount, HasOpen, exchange_row}
+use Rattle.deny_modes.specs.Counters.{open_of, opens_of}
+use Rattle.deny_modes.specs.lemma.Counters.{tally_of, IsCounted, clash_with, bit, tally_with, tally_without, no_tally, CanCount, HasOpen, exchange_row}
 use Rattle.deny_modes.proofs.Forks.{order_tells, same_fork, itself, either_way, crosses, both_cross, found_crossed}
 use Rattle.deny_modes.proofs.Rows.{Rise, put_back, out_again, fresh_row, shows_new, shows_less, nothing_out, low_new, low_less}
 

@@ -9,7 +9,7 @@ use Rattle.std.proofs.lemmas.Bool.Decides.{nat_tests}
 use Rattle.afp_base.specs.DenyMode.{Fork, is_one_fork}
 use Rattle.afp_base.proofs.DefinitionLaws.{one_fork}
 use Rattle.sorted_map.specs.Entries.{exchanged}
-use Rattle.deny_modes.specs.ForkOrder.{fork_cmp}
+use Rattle.deny_modes.specs.lemma.ForkOrder.{fork_cmp}
 use Rattle.deny_modes.specs.Opens.{in_exchange}
 
 then_equal : (x y : Ordering) → is_eq (ordering_then x y) ≡ (is_eq x && is_eq y)

@@ -1,3 +1,3 @@
 pub mod Counters
-pub mod ForkOrder
 pub mod Opens
+pub mod lemma

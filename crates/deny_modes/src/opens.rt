@@ -2,9 +2,9 @@
 ghost use Rattle.std.specs.Prelude.{◌≡◌, [], false, true, not, OnOk, OnErr, option_copied, unwrap_or, map};
 ghost use Rattle.sorted_map.specs.Entries.{at};
 ghost use Rattle.afp_base.specs.Apart.{are_apart};
-ghost use Rattle.deny_modes.specs.ForkOrder.{fork_cmp};
+ghost use Rattle.deny_modes.specs.lemma.ForkOrder.{fork_cmp};
 ghost use Rattle.deny_modes.specs.Opens.{has_reference, has_conflict, with_open, without_reference, exchanged_opens, counters_of, in_exchange, are_in_conflict};
-ghost use Rattle.deny_modes.specs.Counters.{clash_with, tally_with, tally_without, no_tally, exchange_row, CanCount, HasOpen};
+ghost use Rattle.deny_modes.specs.lemma.Counters.{clash_with, tally_with, tally_without, no_tally, exchange_row, CanCount, HasOpen};
 
 use crate::{ForkKey, Mode};
 use afp_base::{ForkRef, OutOfMemory};
@@ -38,7 +38,8 @@ pub struct Opens {
 impl Model for Opens {
     ghost use Rattle.std.specs.Prelude.{List};
     ghost use Rattle.deny_modes.specs.Opens.{Open};
-    ghost use Rattle.deny_modes.specs.Counters.{opens_of, IsCounted};
+    ghost use Rattle.deny_modes.specs.Counters.{opens_of};
+    ghost use Rattle.deny_modes.specs.lemma.Counters.{IsCounted};
 
     ghost Value = { List Open };
 

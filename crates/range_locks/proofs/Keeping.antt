@@ -15,7 +15,7 @@ use Rattle.afp_base.specs.DenyMode.{Fork, is_one_fork}
 use Rattle.afp_base.specs.Overlap.{Range, do_meet, do_overlap}
 use Rattle.afp_base.specs.Apart.{are_apart}
 use Rattle.deny_modes.proofs.Forks.{same_fork, either_way, crosses, both_cross, found_crossed}
-use Rattle.deny_modes.specs.ForkOrder.{fork_cmp}
+use Rattle.deny_modes.specs.lemma.ForkOrder.{fork_cmp}
 use Rattle.deny_modes.specs.Opens.{in_exchange}
 use Rattle.sorted_map.specs.Entries.{at, exchanged}
 use Rattle.range_locks.specs.declared.fault.LockFault.TheVariants.{Locked, Overlap, Full}

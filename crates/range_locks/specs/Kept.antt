@@ -5,7 +5,7 @@ use Rattle.std.specs.List.Sorted.{IsNonDecreasingBy}
 use Rattle.afp_base.specs.DenyMode.{Fork, is_one_fork}
 use Rattle.sorted_map.specs.Entries.{at}
 use Rattle.afp_base.specs.Apart.{are_apart}
-use Rattle.deny_modes.specs.ForkOrder.{fork_cmp}
+use Rattle.deny_modes.specs.lemma.ForkOrder.{fork_cmp}
 use Rattle.range_locks.specs.declared.rows.LockRow.{LockRow}
 use Rattle.range_locks.specs.Locks.{Lock, are_overlapping, AreIntervals}
 

@@ -3,7 +3,7 @@ ghost use Rattle.std.specs.Prelude.{◌≡◌, ◌≤◌, ◌==◌, not, filter,
 ghost use Rattle.std.specs.List.{insert};
 ghost use Rattle.afp_base.specs.DenyMode.{Fork, is_one_fork};
 ghost use Rattle.sorted_map.specs.Entries.{at};
-ghost use Rattle.deny_modes.specs.ForkOrder.{fork_cmp};
+ghost use Rattle.deny_modes.specs.lemma.ForkOrder.{fork_cmp};
 ghost use Rattle.range_locks.specs.Kept.{rows_at};
 ghost use Rattle.range_locks.specs.Locks.{are_one_row};
 

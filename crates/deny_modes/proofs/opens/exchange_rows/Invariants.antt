@@ -1,5 +1,5 @@
 use Rattle.std.proofs.Common.{◌≡◌, ◌++◌, length, map, take, drop}
-use Rattle.deny_modes.specs.Counters.{exchange_row}
+use Rattle.deny_modes.specs.lemma.Counters.{exchange_row}
 use Rattle.deny_modes.proofs.opens.exchange_rows.Given as goal
 
 abbrev pub invariant-loop-place : goal.invariant-loop-place

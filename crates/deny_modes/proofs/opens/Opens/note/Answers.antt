@@ -1,5 +1,6 @@
 use Rattle.std.proofs.Common.{◌∙◌, ap, sym, subst, arith}
-use Rattle.deny_modes.specs.Counters.{IsCounted, opens_of}
+use Rattle.deny_modes.specs.Counters.{opens_of}
+use Rattle.deny_modes.specs.lemma.Counters.{IsCounted}
 use Rattle.deny_modes.proofs.Counting.{can_count, noted_shows, noted_counted, undone}
 use Rattle.deny_modes.proofs.opens.Opens.note.Goals as goal
 
