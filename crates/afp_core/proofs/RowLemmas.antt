@@ -19,7 +19,7 @@ use Rattle.afp_volume.specs.GetVolParms.{get_vol_parms_refusal}
 use Rattle.afp_volume.specs.VolumeState.{VolumeState}
 use Rattle.afp_serial.specs.World.{Effect, plain, volume_at, with_session, closing, has_opened, without_session, World, Session, OpenFork}
 use Rattle.afp_serial.specs.Rows.{row, refusal, effect}
-use Rattle.afp_serial.specs.StatusBlock.{no_user, versions}
+use Rattle.afp_serial.specs.StatusWords.{no_user, versions}
 use Rattle.afp_core.specs.lemma.SessionList.{replaced}
 use Rattle.afp_core.specs.ServerState.{KeptWorld}
 use Rattle.afp_core.specs.lemma.ServerState.{forks_in, with_forks, with_sessions}

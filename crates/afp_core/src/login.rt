@@ -2,7 +2,7 @@
 ghost use Rattle.std.specs.Prelude.{◌≡◌, Ok, bytes_eq};
 ghost use Rattle.std.specs.List.{list_any};
 ghost use Rattle.afp_requests.specs.declared.call.Call.{Call};
-ghost use Rattle.afp_serial.specs.StatusBlock.{versions};
+ghost use Rattle.afp_serial.specs.StatusWords.{versions};
 ghost use Rattle.afp_core.specs.Turn.{done as with_done};
 ghost use Rattle.afp_core.specs.lemma.Turn.{RunsRow};
 
@@ -10,20 +10,11 @@ use crate::replies::{done, refused};
 use crate::state::State;
 use afp_base::{Bytes, Code, SessionNumber};
 use afp_serial::Told;
+use afp_serial::status_words::{NO_USER, VERSION_3_1, VERSION_3_2, VERSION_3_3};
 use record_keeper::Keeper;
 
-/// The UAM by which anybody may log in.
-const NO_USER: &str = "No User Authent";
-
-/// The id of who logs in by it.
+/// The id of the user that logs in without a name.
 const GUEST_ID: u32 = 500;
-
-/// The AFP versions that the server speaks.
-const VERSION_3_3: &str = "AFP3.3";
-
-const VERSION_3_2: &str = "AFP3.2";
-
-const VERSION_3_1: &str = "AFP3.1";
 
 impl<K: Keeper> State<K> {
     /// Logs the user without a name in to a session that has no user.

@@ -2,6 +2,7 @@ pub mod Household
 pub mod Limits
 pub mod HouseFault
 pub mod Faultless
+pub mod StatusWords
 pub mod StatusBlock
 pub mod World
 pub mod Ranges

@@ -1,31 +1,9 @@
 -- The status block, which a server gives before any session (AFP Reference, FPGetSrvrInfo).
-use Rattle.std.specs.Prelude.{◌≡◌, ◌<◌, ℕ, ◌+◌, ◌*◌, ◌%◌, List, [], ◌∷◌, ◌++◌, length, take, drop, slice_index_or, replicate, sum_by, flat_map, codes}
+use Rattle.std.specs.Prelude.{◌≡◌, ◌<◌, ℕ, ◌+◌, ◌*◌, ◌%◌, List, [], ◌∷◌, ◌++◌, length, take, drop, slice_index_or, replicate, sum_by, flat_map}
 use Rattle.std.specs.List.{concat}
 use Rattle.byteorder.specs.Endian.{big_bytes}
 use Rattle.afp_serial.specs.Household.{Household}
-
--- what kind of machine the server is
-abbrev pub machine_type : List ℕ
-machine_type = codes "Macintosh"
-
--- the AFP versions that it speaks
-abbrev pub versions : List (List ℕ)
-versions = codes "AFP3.3" ∷ codes "AFP3.2" ∷ codes "AFP3.1" ∷ []
-
--- the user authentication methods (UAMs): without a user, and by name and password (AFP Reference, "User Authentication Methods")
-abbrev pub no_user : List ℕ
-no_user = codes "No User Authent"
-
-abbrev pub cleartext : List ℕ
-cleartext = codes "Cleartxt Passwrd"
-
--- those that it names
-abbrev pub uams : List (List ℕ)
-uams = no_user ∷ cleartext ∷ []
-
--- its flags: CopyFile, server messages, server signature, TCP, reconnecting, UTF-8 server name
-abbrev pub server_flags : ℕ
-server_flags = 0x02b9
+use Rattle.afp_serial.specs.StatusWords.{machine_type, versions, uams, server_flags}
 
 -- an offset of 0: there is no icon
 abbrev pub no_icon : ℕ

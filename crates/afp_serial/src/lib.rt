@@ -12,6 +12,7 @@ pub mod laws;
 mod limits;
 mod ranges;
 mod status;
+pub mod status_words;
 mod teller;
 mod user;
 

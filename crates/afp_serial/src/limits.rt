@@ -1,4 +1,4 @@
-//! The limits of a house, and the words of its status block.
+//! The limits of a house, and the sizes in its status block.
 
 /// The first printable ASCII character, the space.
 pub const FIRST_PRINTABLE: u8 = 0x20;
@@ -26,18 +26,6 @@ pub const MOST_VOLUMES: usize = 8;
 
 /// The id of the first user. The next ones follow it.
 pub const FIRST_USER_ID: usize = 501;
-
-/// What kind of machine the server is.
-pub const MACHINE_TYPE: &str = "Macintosh";
-
-/// The AFP versions that the server speaks.
-pub const VERSIONS: [&str; 3] = ["AFP3.3", "AFP3.2", "AFP3.1"];
-
-/// The user authentication methods that the server takes.
-pub const UAMS: [&str; 2] = ["No User Authent", "Cleartxt Passwrd"];
-
-/// CopyFile, server messages, server signature, TCP, reconnecting, UTF-8 server name.
-pub const SERVER_FLAGS: u16 = 0x02b9;
 
 /// The offset of an icon that is not there.
 pub const NO_ICON: u16 = 0;

@@ -5,9 +5,8 @@ ghost use Rattle.byteorder.specs.Endian.{big_bytes};
 ghost use Rattle.afp_serial.specs.StatusBlock.{counted, counted_words, long_counted, status_pad, head_size, offsets_of, status_parts, status_head, status_of};
 ghost use Rattle.afp_serial.specs.Limits.{longest_server};
 
-use crate::limits::{
-    MACHINE_TYPE, NO_ICON, SERVER_FLAGS, SIZE_BEFORE_NAME, SIZE_BEHIND_NAME, UAMS, VERSIONS,
-};
+use crate::limits::{NO_ICON, SIZE_BEFORE_NAME, SIZE_BEHIND_NAME};
+use crate::status_words::{MACHINE_TYPE, SERVER_FLAGS, UAMS, VERSIONS};
 use afp_base::{Bytes, OutOfMemory};
 use std::alloc::Global;
 use std::marker::Model;
