@@ -1,5 +1,6 @@
 -- A desktop database as contracts see it (AFP Reference, "Desktop database"; the form is this profile's).
 use Rattle.std.specs.Prelude.{ℕ, List}
+use denote.Ref.{Bor}
 use Rattle.afp_base.specs.declared.ids.NodeId.{NodeId}
 use Rattle.afp_volume.specs.VolumeState.{Comment, Icon, Appl}
 

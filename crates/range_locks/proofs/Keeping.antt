@@ -1,29 +1,33 @@
 -- The rows of each fork tell what the list of locks tells, after each call.
-use Rattle.std.proofs.Common.{◌≡◌, ◌∙◌, refl, sym, ap, subst, ℕ, zero, suc, ◌+◌, ◌-◌, ◌<◌, ◌≤◌, Bool, true, false, not, ◌&&◌, ◌||◌, ◌==◌, if◌then◌else◌, List, [], ◌∷◌, length, filter, map, take, drop, ◌++◌, Some, None, unwrap_or, inl, inr, arith}
-use Rattle.std.specs.Prelude.{nat_lt, nat_le, slice_index_or, slice_set}
+use Rattle.std.proofs.Common.{◌≡◌, ◌∙◌, refl, sym, ap, subst, ℕ, zero, suc, ◌+◌, ◌-◌, ◌<◌, ◌≤◌, Bool, true, false, not, ◌&&◌, ◌||◌, ◌==◌, if◌then◌else◌, cond, List, [], ◌∷◌, length, filter, map, take, drop, ◌++◌, Some, None, unwrap_or, inl, inr, arith}
+use Rattle.std.specs.Prelude.{nat_lt, nat_le, slice_index_or, slice_range, slice_set}
 use Rattle.std.specs.Cmp.{both_ways}
-use Rattle.std.specs.List.{list_any, insert}
+use Rattle.std.specs.List.{list_any, insert, remove, position, position_or_len}
 use Rattle.std.specs.List.Sorted.{IsNonDecreasingBy}
 use Rattle.std.proofs.lemmas.Bool.{cases_lt}
 use Rattle.std.proofs.lemmas.Bool.Decides.{nat_tests}
 use Rattle.std.proofs.lemmas.List.Folds.{Any-from_list_any, list_any_at, list_any_more}
+use Rattle.std.proofs.lemmas.List.{take-append-drop}
+use Rattle.std.proofs.lemmas.List.Quantifiers.{position-Some}
+use Rattle.std.proofs.lemmas.List.Sums.{fails_before_first}
+use Rattle.std.proofs.lemmas.Option.{none-some}
 use Rattle.std.proofs.lemmas.List.Kept.{AllPairs-filter, IsNonDecreasingBy-filter}
-use Rattle.std.proofs.lemmas.List.Edits.{length-insert, get_or-insert_below, get_or-insert_at, get_or-insert_above, map_over_more}
+use Rattle.std.proofs.lemmas.List.Edits.{length-between, get_or-between, length-insert, get_or-insert_below, get_or-insert_at, get_or-insert_above, map_over_more}
 use Rattle.std.proofs.lemmas.List.Sorted.{IsNonDecreasingBy-insert}
 use Rattle.afp_base.specs.Choice.{first_holding}
 use Rattle.afp_base.specs.DenyMode.{Fork, is_one_fork}
 use Rattle.afp_base.specs.Overlap.{Range, do_meet, do_overlap}
 use Rattle.afp_base.specs.Apart.{are_apart}
-use Rattle.deny_modes.proofs.Forks.{same_fork, either_way, crosses, both_cross, found_crossed}
+use Rattle.deny_modes.proofs.Forks.{same_fork, itself, either_way, crosses, both_cross, found_crossed}
 use Rattle.deny_modes.specs.lemma.ForkOrder.{fork_cmp}
 use Rattle.deny_modes.specs.Opens.{in_exchange}
 use Rattle.sorted_map.specs.Entries.{at, exchanged}
 use Rattle.range_locks.specs.declared.fault.LockFault.TheVariants.{Locked, Overlap, Full}
 use Rattle.range_locks.specs.declared.rows.LockRow.{LockRow}
 use Rattle.range_locks.specs.declared.rows.Seen.{Seen}
-use Rattle.range_locks.specs.Locks.{Lock, are_overlapping, is_met_by_other, is_met_by_own, count_held, most_locks, lock_refusal, with_lock, is_lock, has_lock, exchange_lock, exchanged_locks, is_row, are_one_row, AreInOrder, AreIntervals}
-use Rattle.range_locks.specs.Kept.{rows_at, holder_of, holds_on, IsBehind, IsBefore, IsKept}
-use Rattle.range_locks.specs.Seen.{IsSeen}
+use Rattle.range_locks.specs.Locks.{Lock, are_overlapping, is_met_by_other, is_met_by_own, count_held, most_locks, lock_refusal, with_lock, is_lock, has_lock, exchange_lock, exchanged_locks, without_holder, is_row, are_one_row, AreInOrder, AreIntervals}
+use Rattle.range_locks.specs.lemma.Kept.{rows_at, holder_of, is_among, IsBehind, IsBefore, IsPlaceOf, IsKept}
+use Rattle.range_locks.specs.lemma.Seen.{IsSeen}
 
 -- ---- tests
 or_parts : (a b : Bool) → (a || b) ≡ false → (a ≡ false) × (b ≡ false)
@@ -116,9 +120,9 @@ seen_other {locks} {fork} {rows} {r} {range} i s =
     s.other ∙ rows_tell locks fork rows (λ row. do_meet row.range range && not (row.reference.0 == r)) i.same
     ∙ any_gives (λ l. is_one_fork l.fork fork && (do_meet l.range range && not (l.reference == r))) (λ l. do_overlap l.fork l.range fork range && not (l.reference == r)) locks (λ l. sym (and_assoc (is_one_fork l.fork fork) (do_meet l.range range) (not (l.reference == r))))
 
-pub seen_own : {locks : List Lock} {fork : Fork} {rows : List LockRow} {r : ℕ} {range : Range} {seen : Seen} → AreIntervals locks fork rows → IsSeen rows r range seen → seen.own ≡ is_met_by_own locks fork r range
-seen_own {locks} {fork} {rows} {r} {range} i s =
-    s.own ∙ rows_tell locks fork rows (λ row. do_meet row.range range && (row.reference.0 == r)) i.same
+pub seen_own : {locks : List Lock} {fork : Fork} {rows : List LockRow} {r : ℕ} {range : Range} {seen : Seen} → AreIntervals locks fork rows → IsSeen rows r range seen → seen.other ≡ false → seen.own ≡ is_met_by_own locks fork r range
+seen_own {locks} {fork} {rows} {r} {range} i s none =
+    s.own none ∙ rows_tell locks fork rows (λ row. do_meet row.range range && (row.reference.0 == r)) i.same
     ∙ any_gives (λ l. is_one_fork l.fork fork && (do_meet l.range range && (l.reference == r))) (λ l. do_overlap l.fork l.range fork range && (l.reference == r)) locks (λ l. sym (and_assoc (is_one_fork l.fork fork) (do_meet l.range range) (l.reference == r)))
 
 -- ---- places by reference
@@ -156,6 +160,43 @@ count_between (l ∷ ls) r (suc first) (suc last) a b =
     let here : count_held r (l ∷ ls) ≡ count_held r ls = ap (λ t. length (if t then l ∷ filter (λ x. x.reference == r) ls else filter (λ x. x.reference == r) ls)) other in
     omega (arith, more, here)
 
+-- ---- the locks of a reference stand together
+none_own : (ls : List Lock) (r : ℕ) → ((k : ℕ) (d : Lock) → k < length ls → nat_le (holder_of (slice_index_or ls k d)) r ≡ false) → (filter (λ l. l.reference == r) ls ≡ []) × (ls ≡ without_holder r ls)
+none_own [] r none = (refl, refl)
+none_own (l ∷ ls) r none =
+    let other : (l.reference == r) ≡ false = (let f = none 0 l (omega arith) in grind (arith, nat_tests, f)) in
+    let more = none_own ls r (λ k d less. none (suc k) d (omega arith)) in (
+      ap (λ b. if b then l ∷ filter (λ x. x.reference == r) ls else filter (λ x. x.reference == r) ls) other ∙ more.0,
+      ap (λ rest. l ∷ rest) more.1 ∙ ap (λ b. if not b then l ∷ without_holder r ls else without_holder r ls) (sym other),
+    )
+
+all_of : (n : ℕ) → n - 0 ≡ n
+all_of n = omega arith
+
+one_less : (m n : ℕ) → suc m - suc n ≡ m - n
+one_less m n = omega arith
+
+pub own_part : (ls : List Lock) (r first last : ℕ) → IsBefore ls r first → IsBehind ls r last → (slice_range ls first last ≡ filter (λ l. l.reference == r) ls) × (take first ls ++ drop last ls ≡ without_holder r ls)
+own_part [] r zero zero a b = (refl, refl)
+own_part [] r zero (suc last) a b = absurd (omega (arith, b.within))
+own_part [] r (suc first) last a b = absurd (omega (arith, a.within))
+own_part (l ∷ ls) r zero zero a b = let none = none_own (l ∷ ls) r (λ k d less. b.rest k d (omega arith) less) in (sym none.0, none.1)
+own_part (l ∷ ls) r zero (suc last) a b =
+    let same : (l.reference == r) ≡ true = (let f = a.rest 0 l (omega arith) (omega arith) in let g = b.front 0 l (omega arith) in grind (arith, nat_tests, f, g)) in
+    let more = own_part ls r zero last (record { within = omega arith; front = λ k d less. absurd (omega arith); rest = λ k d low high. a.rest (suc k) d (omega arith) (omega arith) })
+    (record { within = omega (arith, b.within); front = λ k d less. b.front (suc k) d (omega arith); rest = λ k d low high. b.rest (suc k) d (omega arith) (omega arith) }) in (
+      ap (λ n. take n (l ∷ ls)) (all_of (suc last)) ∙ ap (λ n. l ∷ take n ls) (sym (all_of last)) ∙ ap (λ rest. l ∷ rest) more.0 ∙ ap (λ t. if t then l ∷ filter (λ x. x.reference == r) ls else filter (λ x. x.reference == r) ls) (sym same),
+      more.1 ∙ ap (λ t. if not t then l ∷ without_holder r ls else without_holder r ls) (sym same),
+    )
+own_part (l ∷ ls) r (suc first) zero a b = absurd (let f = a.front 0 l (omega arith) in let g = b.rest 0 l (omega arith) (omega arith) in grind (arith, nat_tests, f, g))
+own_part (l ∷ ls) r (suc first) (suc last) a b =
+    let other : (l.reference == r) ≡ false = (let f = a.front 0 l (omega arith) in grind (arith, nat_tests, f)) in
+    let more = own_part ls r first last (record { within = omega (arith, a.within); front = λ k d less. a.front (suc k) d (omega arith); rest = λ k d low high. a.rest (suc k) d (omega arith) (omega arith) })
+    (record { within = omega (arith, b.within); front = λ k d less. b.front (suc k) d (omega arith); rest = λ k d low high. b.rest (suc k) d (omega arith) (omega arith) }) in (
+      ap (λ n. take n (drop first ls)) (one_less last first) ∙ more.0 ∙ ap (λ t. if t then l ∷ filter (λ x. x.reference == r) ls else filter (λ x. x.reference == r) ls) (sym other),
+      ap (λ rest. l ∷ rest) more.1 ∙ ap (λ t. if not t then l ∷ without_holder r ls else without_holder r ls) (sym other),
+    )
+
 -- ---- a lock that is set
 apart_new : (new : Lock) (ls : List Lock) → list_any (λ l. are_overlapping l new) ls ≡ false → are_apart are_overlapping ls ≡ true → are_apart are_overlapping (with_lock new ls) ≡ true
 apart_new new [] none h = refl
@@ -171,7 +212,7 @@ apart_new new (l ∷ ls) none h =
     turns a b = λ i. either_way a.fork b.fork i && and_turns (nat_le a.range.from b.range.to) (nat_le b.range.from a.range.to) i
 
 not_met : {locks : List Lock} {fork : Fork} {rows : List LockRow} {r : ℕ} {range : Range} {seen : Seen} → AreIntervals locks fork rows → IsSeen rows r range seen → seen.other ≡ false → seen.own ≡ false → list_any (λ row. do_meet row.range range) rows ≡ false
-not_met {rows = rows} {r = r} {range = range} i s other own = neither rows (sym s.other ∙ other) (sym s.own ∙ own)
+not_met {rows = rows} {r = r} {range = range} i s other own = neither rows (sym s.other ∙ other) (sym (s.own other) ∙ own)
   where
     neither : (rows : List LockRow) → list_any (λ row. do_meet row.range range && not (row.reference.0 == r)) rows ≡ false → list_any (λ row. do_meet row.range range && (row.reference.0 == r)) rows ≡ false → list_any (λ row. do_meet row.range range) rows ≡ false
     neither [] a b = refl
@@ -312,14 +353,14 @@ module _ {locks whole : List Lock} {forks : List (Fork × List LockRow)} {rows :
   pub other_is : (b : Bool) → seen.other ≡ b → is_met_by_other whole fork r range ≡ b
   other_is b is = sym (seen_other there_rows l.looked ∙ ap (λ x. is_met_by_other x fork r range) l.shown) ∙ is
 
-  pub own_is : (b : Bool) → seen.own ≡ b → is_met_by_own whole fork r range ≡ b
-  own_is b is = sym (seen_own there_rows l.looked ∙ ap (λ x. is_met_by_own x fork r range) l.shown) ∙ is
+  pub own_is : seen.other ≡ false → (b : Bool) → seen.own ≡ b → is_met_by_own whole fork r range ≡ b
+  own_is none b is = sym (seen_own there_rows l.looked none ∙ ap (λ x. is_met_by_own x fork r range) l.shown) ∙ is
 
   pub is_locked : seen.other ≡ true → lock_refusal whole fork r range ≡ Some Locked
   is_locked other = λ i. first_holding ((other_is true other i, Locked) ∷ (is_met_by_own whole fork r range, Overlap) ∷ (nat_le most_locks (count_held r whole), Full) ∷ [])
 
   pub is_overlap : seen.other ≡ false → seen.own ≡ true → lock_refusal whole fork r range ≡ Some Overlap
-  is_overlap other own = λ i. first_holding ((other_is false other i, Locked) ∷ (own_is true own i, Overlap) ∷ (nat_le most_locks (count_held r whole), Full) ∷ [])
+  is_overlap other own = λ i. first_holding ((other_is false other i, Locked) ∷ (own_is other true own i, Overlap) ∷ (nat_le most_locks (count_held r whole), Full) ∷ [])
 
   full_is : (n : ℕ) (given : List Lock) → given ≡ locks → n ≡ count_held r given → (b : Bool) → nat_le most_locks n ≡ b → nat_le most_locks (count_held r whole) ≡ b
   full_is n given given_is n_is b is = sym (ap (nat_le most_locks) (n_is ∙ ap (count_held r) (given_is ∙ l.shown))) ∙ is
@@ -327,12 +368,12 @@ module _ {locks whole : List Lock} {forks : List (Fork × List LockRow)} {rows :
   pub is_full : (n : ℕ) (given : List Lock) → seen.other ≡ false → seen.own ≡ false → given ≡ locks → n ≡ count_held r given → 1024 ≤ n → lock_refusal whole fork r range ≡ Some Full
   is_full n given other own given_is n_is enough =
       let is : nat_le most_locks n ≡ true = grind (arith, nat_tests) in
-      λ i. first_holding ((other_is false other i, Locked) ∷ (own_is false own i, Overlap) ∷ (full_is n given given_is n_is true is i, Full) ∷ [])
+      λ i. first_holding ((other_is false other i, Locked) ∷ (own_is other false own i, Overlap) ∷ (full_is n given given_is n_is true is i, Full) ∷ [])
 
   pub is_free : (n : ℕ) (given : List Lock) → seen.other ≡ false → seen.own ≡ false → given ≡ locks → n ≡ count_held r given → n < 1024 → lock_refusal whole fork r range ≡ None
   is_free n given other own given_is n_is few =
       let is : nat_le most_locks n ≡ false = grind (arith, nat_tests) in
-      λ i. first_holding ((other_is false other i, Locked) ∷ (own_is false own i, Overlap) ∷ (full_is n given given_is n_is false is i, Full) ∷ [])
+      λ i. first_holding ((other_is false other i, Locked) ∷ (own_is other false own i, Overlap) ∷ (full_is n given given_is n_is false is i, Full) ∷ [])
 
 -- a lock goes into the list behind those of its reference
 pub listed : {list reserved given new : List Lock} {place : ℕ} (held : Lock) (b : Bool) → IsNonDecreasingBy holder_of list → reserved ≡ list → given ≡ reserved → IsBehind given held.reference place → b ≡ true → new ≡ (if b then insert reserved place held else reserved)
@@ -452,22 +493,112 @@ taken_rows forks new_forks fork keep new_is q = new_is q ∙ elim (is_one_fork f
   | false ↦ λ other. filter_if false keep (rows_at forks q)
 ] refl
 
--- the row is there where the lock is
-pub lock_there : {locks whole : List Lock} {fork : Fork} {rows : List LockRow} (row : LockRow) → AreIntervals locks fork rows → locks ≡ whole → list_any (are_one_row row) rows ≡ has_lock whole fork row.reference.0 row.range
-lock_there {locks} {whole} {fork} row i shown = i.same row ∙ any_gives (λ l. is_one_fork l.fork fork && is_row row l) (is_lock fork row.reference.0 row.range) locks (λ l. ap (λ t. is_one_fork l.fork fork && t) (λ j. turn row.reference.0 l.reference j && (turn row.range.from l.range.from j && turn row.range.to l.range.to j)))
-    ∙ ap (λ x. has_lock x fork row.reference.0 row.range) shown
+-- of locks no two of which overlap, one alone has those ends
+alike_overlap : (fork : Fork) (r : ℕ) (range : Range) (a b : Lock) → range.from ≤ range.to → is_lock fork r range a ≡ true → is_lock fork r range b ≡ true → are_overlapping a b ≡ true
+alike_overlap fork r range a b ordered is_a is_b =
+    let p = and_parts (is_one_fork a.fork fork) ((a.reference == r) && ((a.range.from == range.from) && (a.range.to == range.to))) is_a in
+    let p_ends = and_parts (a.range.from == range.from) (a.range.to == range.to) (and_parts (a.reference == r) _ p.1).1 in
+    let q = and_parts (is_one_fork b.fork fork) ((b.reference == r) && ((b.range.from == range.from) && (b.range.to == range.to))) is_b in
+    let q_ends = and_parts (b.range.from == range.from) (b.range.to == range.to) (and_parts (b.reference == r) _ q.1).1 in
+    let a_from = one_number a.range.from range.from p_ends.0 in
+    let a_to = one_number a.range.to range.to p_ends.1 in
+    let b_from = one_number b.range.from range.from q_ends.0 in
+    let b_to = one_number b.range.to range.to q_ends.1 in
+    and_from _ _ (ap (is_one_fork a.fork) (same_fork b.fork fork q.0) ∙ p.0)
+    (and_from _ _ (is_at_most a.range.from b.range.to (omega (arith, a_from, b_to))) (is_at_most b.range.from a.range.to (omega (arith, b_from, a_to))))
   where
-    turn : (m n : ℕ) → (m == n) ≡ (n == m)
-    turn m n = both_ways (m == n) (n == m) (λ h. let e = one_number m n h in grind (arith, nat_tests, e)) (λ h. let e = one_number n m h in grind (arith, nat_tests, e))
+    is_at_most : (m n : ℕ) → m ≤ n → nat_le m n ≡ true
+    is_at_most m n h = grind (arith, nat_tests)
+
+pub remove_one : (fork : Fork) (r : ℕ) (range : Range) (ls : List Lock) (place : ℕ) → range.from ≤ range.to → are_apart are_overlapping ls ≡ true → place < length ls → ((d : Lock) → is_lock fork r range (slice_index_or ls place d) ≡ true) → remove ls place ≡ filter (λ l. not (is_lock fork r range l)) ls
+remove_one fork r range [] place ordered apart within is = absurd (omega arith)
+remove_one fork r range (l ∷ ls) zero ordered apart within is =
+    others ls (not_true (list_any (are_overlapping l) ls) (and_parts (not (list_any (are_overlapping l) ls)) (are_apart are_overlapping ls) apart).0)
+    ∙ ap (λ b. if not b then l ∷ filter (λ x. not (is_lock fork r range x)) ls else filter (λ x. not (is_lock fork r range x)) ls) (sym (is l))
+  where
+    others : (xs : List Lock) → list_any (are_overlapping l) xs ≡ false → xs ≡ filter (λ x. not (is_lock fork r range x)) xs
+    others [] none = refl
+    others (x ∷ xs) none =
+        let parts = or_parts (are_overlapping l x) (list_any (are_overlapping l) xs) none in
+        let other : is_lock fork r range x ≡ false = elim (is_lock fork r range x) as (λ b. is_lock fork r range x ≡ b → b ≡ false) [ true ↦ λ same. sym (alike_overlap fork r range l x ordered (is l) same) ∙ parts.0 | false ↦ λ _. refl ] refl in
+        ap (λ rest. x ∷ rest) (others xs parts.1) ∙ ap (λ b. if not b then x ∷ filter (λ y. not (is_lock fork r range y)) xs else filter (λ y. not (is_lock fork r range y)) xs) (sym other)
+remove_one fork r range (l ∷ ls) (suc place) ordered apart within is =
+    let parts = and_parts (not (list_any (are_overlapping l) ls)) (are_apart are_overlapping ls) apart in
+    let alone = not_true (list_any (are_overlapping l) ls) parts.0 in
+    let other : is_lock fork r range l ≡ false = elim (is_lock fork r range l) as (λ b. is_lock fork r range l ≡ b → b ≡ false) [
+      | true ↦ λ same. sym (list_any_at (are_overlapping l) ls place l (omega arith) (alike_overlap fork r range l (slice_index_or ls place l) ordered same (is l))) ∙ alone
+      | false ↦ λ _. refl
+    ] refl in
+    ap (λ rest. l ∷ rest) (remove_one fork r range ls place ordered parts.1 (omega arith) is)
+    ∙ ap (λ b. if not b then l ∷ filter (λ x. not (is_lock fork r range x)) ls else filter (λ x. not (is_lock fork r range x)) ls) (sym other)
+
+-- the bytes of a lock that is kept end where they begin or behind it
+bytes_in_order : {locks : List Lock} {forks : List (Fork × List LockRow)} (place : ℕ) (d : Lock) → IsKept locks forks → place < length locks → nat_le (slice_index_or locks place d).range.from (slice_index_or locks place d).range.to ≡ true
+bytes_in_order {locks} {forks} place d k within =
+    let q : Fork = (slice_index_or locks place d).fork in
+    elim (nat_le (slice_index_or locks place d).range.from (slice_index_or locks place d).range.to) as (λ b. nat_le (slice_index_or locks place d).range.from (slice_index_or locks place d).range.to ≡ b → b ≡ true) [
+      | true ↦ λ _. refl
+      | false ↦ λ is.
+          let there = list_any_at (λ l. is_one_fork l.fork q && falls (row_of l)) locks place d within (and_from _ _ (itself q) (ap not is)) in
+          let f = Any-from_list_any falls (rows_at forks q) (rows_tell locks q (rows_at forks q) falls (k.intervals q).same ∙ there) in
+          sym (ap not ((k.intervals q).order.valid f.0 f.1 f.2)) ∙ ap falls f.3 ∙ f.4
+    ] refl
+  where
+    falls : LockRow → Bool
+    falls row = not (nat_le row.range.from row.range.to)
+
+-- the list without the lock at its place
+pub one_taken : {locks given new_locks : List Lock} {forks : List (Fork × List LockRow)} (fork : Fork) (r : ℕ) (range : Range) (place : ℕ) → IsKept locks forks → given ≡ locks → IsPlaceOf given fork r range (Some place) → new_locks ≡ remove locks place → new_locks ≡ filter (λ l. not (is_lock fork r range l)) locks
+one_taken {locks} {given} fork r range place k same is new_is =
+    let any : Lock = record { reference = r; fork = fork; range = range } in
+    let there = subst (λ ls. IsPlaceOf ls fork r range (Some place)) same is in
+    let ends = and_parts ((slice_index_or locks place any).range.from == range.from) ((slice_index_or locks place any).range.to == range.to) (and_parts _ _ (and_parts _ _ (there.1 any)).1).1 in
+    new_is ∙ remove_one fork r range locks place (in_order _ _ _ _ (bytes_in_order place any k there.0) ends.0 ends.1) k.apart there.0 there.1
+  where
+    in_order : (a b m n : ℕ) → nat_le a b ≡ true → (a == m) ≡ true → (b == n) ≡ true → m ≤ n
+    in_order a b m n h from to = let e = one_number a m from in let f = one_number b n to in grind (arith, nat_tests, h, e, f)
+
+pub is_there : {given whole : List Lock} (fork : Fork) (r : ℕ) (range : Range) (place : ℕ) → given ≡ whole → IsPlaceOf given fork r range (Some place) → has_lock whole fork r range ≡ true
+is_there {given} {whole} fork r range place same is =
+    let any : Lock = record { reference = r; fork = fork; range = range } in
+    sym (ap (list_any (is_lock fork r range)) same) ∙ list_any_at (is_lock fork r range) given place any is.0 (is.1 any)
+
+-- what stands at the first place that passes, and where none does
+pub place_passes : (p : Lock → Bool) (ls : List Lock) (place : ℕ) (any : Lock) → Some place ≡ position p ls → (place < length ls) × ((d : Lock) → p (slice_index_or ls place d) ≡ true)
+place_passes p ls place any is = ((position-Some p ls place any (sym is)).0, λ d. (position-Some p ls place d (sym is)).1)
+
+pub none_passes : (p : Lock → Bool) (ls : List Lock) → None ≡ position p ls → list_any p ls ≡ false
+none_passes p ls is = elim (nat_lt (position_or_len p ls) (length ls)) as (λ b. nat_lt (position_or_len p ls) (length ls) ≡ b → None ≡ cond b (Some (position_or_len p ls)) None → list_any p ls ≡ false) [
+  | true ↦ λ inside some. absurd (none-some (position_or_len p ls) some)
+  | false ↦ λ outside _. elim (list_any p ls) as (λ b. list_any p ls ≡ b → b ≡ false) [
+    | true ↦ λ any.
+        let f = Any-from_list_any p ls any in
+        let high : length ls ≤ position_or_len p ls = grind (arith, nat_tests, outside) in
+        sym (ap p f.3 ∙ f.4) ∙ fails_before_first p ls f.0 f.1 (omega (arith, f.2))
+    | false ↦ λ _. refl
+  ] refl
+] refl is
+
+-- a lock is in the list where it is among those of its reference
+pub found : {list own : List Lock} (fork : Fork) (r : ℕ) (range : Range) (first last place : ℕ) → IsBefore list r first → IsBehind list r last → own ≡ slice_range list first last → IsPlaceOf own fork r range (Some place) → IsPlaceOf list fork r range (Some (first + place))
+found {list} {own} fork r range first last place before behind given is =
+    let len = ap length given ∙ length-between list first last behind.within in
+    let inside : first + place < last = omega (arith, len, is.0) in
+    (omega (arith, behind.within), λ d. ap (is_lock fork r range) (sym (ap (λ l. slice_index_or l place d) given ∙ get_or-between list first last place d inside)) ∙ is.1 d)
+
+pub not_found : {list own : List Lock} (fork : Fork) (r : ℕ) (range : Range) (first last : ℕ) → IsBefore list r first → IsBehind list r last → own ≡ slice_range list first last → IsPlaceOf own fork r range None → IsPlaceOf list fork r range None
+not_found {list} {own} fork r range first last before behind given is =
+    sym (ap (list_any (is_lock fork r range)) (given ∙ (own_part list r first last before behind).0) ∙ any_filter (is_lock fork r range) (λ l. l.reference == r) list
+    ∙ any_gives (λ l. is_lock fork r range l && (l.reference == r)) (is_lock fork r range) list (λ l. again (is_one_fork l.fork fork) (l.reference == r) ((l.range.from == range.from) && (l.range.to == range.to))))
+    ∙ is
+  where
+    again : (a b c : Bool) → ((a && (b && c)) && b) ≡ (a && (b && c))
+    again true true true = refl
+    again true true false = refl
+    again true false c = refl
+    again false b c = refl
 
 -- ---- the locks of a reference go
-pub no_holder : (r : ℕ) (ls : List Lock) → count_held r ls ≡ 0 → ls ≡ filter (λ l. not (l.reference == r)) ls
-no_holder r [] h = refl
-no_holder r (l ∷ ls) h = elim (l.reference == r) as (λ b. length (if b then l ∷ filter (λ x. x.reference == r) ls else filter (λ x. x.reference == r) ls) ≡ 0 → l ∷ ls ≡ (if not b then l ∷ filter (λ x. not (x.reference == r)) ls else filter (λ x. not (x.reference == r)) ls)) [
-  | true ↦ λ h. absurd (omega (arith, h))
-  | false ↦ λ h. ap (λ rest. l ∷ rest) (no_holder r ls h)
-] h
-
 abbrev pub stays_of : ℕ → LockRow → Bool
 stays_of r x = not (x.reference.0 == r)
 
@@ -484,10 +615,22 @@ stay_twice r (x ∷ xs) = elim (x.reference.0 == r) as (λ b. x.reference.0 == r
   | false ↦ λ is. ap (λ b. if not b then x ∷ filter (stays_of r) (filter (stays_of r) xs) else filter (stays_of r) (filter (stays_of r) xs)) is ∙ ap (λ l. x ∷ l) (stay_twice r xs)
 ] refl
 
-pub cleared : {locks given : List Lock} {forks : List (Fork × List LockRow)} (new_forks : List (Fork × List LockRow)) (r : ℕ) → IsKept locks forks → given ≡ locks → ((q : Fork) → rows_at new_forks q ≡ (if holds_on r q given then filter (stays_of r) (rows_at forks q) else rows_at forks q)) → (q : Fork) → rows_at new_forks q ≡ filter (stays_of r) (rows_at forks q)
-cleared {locks} {given} {forks} new_forks r k given_is new_is q = new_is q ∙ elim (holds_on r q given) as (λ b. holds_on r q given ≡ b → (if b then filter (stays_of r) (rows_at forks q) else rows_at forks q) ≡ filter (stays_of r) (rows_at forks q)) [
+-- the list without the part where they stand
+pub part_gone : {locks new_locks kept : List Lock} (r first last : ℕ) → IsBefore locks r first → IsBehind locks r last → new_locks ≡ kept → kept ≡ take first locks ++ drop last locks → new_locks ≡ without_holder r locks
+part_gone {locks} r first last before behind new_is kept_is = new_is ∙ kept_is ∙ (own_part locks r first last before behind).1
+
+pub no_part : (locks : List Lock) (r first last : ℕ) → IsBefore locks r first → IsBehind locks r last → last ≤ first → locks ≡ without_holder r locks
+no_part locks r first last before behind low =
+    let count = count_between locks r first last before behind in
+    let same : last ≡ first = omega (arith, count, low) in
+    sym (ap (λ n. take first locks ++ drop n locks) same ∙ take-append-drop first locks) ∙ (own_part locks r first last before behind).1
+
+pub cleared : {locks own : List Lock} {forks : List (Fork × List LockRow)} (new_forks : List (Fork × List LockRow)) (r first last : ℕ) → IsKept locks forks → IsBefore locks r first → IsBehind locks r last → own ≡ slice_range locks first last
+    → ((q : Fork) → rows_at new_forks q ≡ (if is_among own q then filter (stays_of r) (rows_at forks q) else rows_at forks q)) → (q : Fork) → rows_at new_forks q ≡ filter (stays_of r) (rows_at forks q)
+cleared {locks} {own} {forks} new_forks r first last k before behind given new_is q = new_is q ∙ elim (is_among own q) as (λ b. is_among own q ≡ b → (if b then filter (stays_of r) (rows_at forks q) else rows_at forks q) ≡ filter (stays_of r) (rows_at forks q)) [
   | true ↦ λ is. refl
-  | false ↦ λ is. stay_all r (rows_at forks q) (rows_tell locks q (rows_at forks q) (λ x. x.reference.0 == r) (k.intervals q).same ∙ sym (ap (holds_on r q) given_is) ∙ is)
+  | false ↦ λ is. stay_all r (rows_at forks q) (rows_tell locks q (rows_at forks q) (λ x. x.reference.0 == r) (k.intervals q).same
+      ∙ sym (ap (λ ls. is_among ls q) (given ∙ (own_part locks r first last before behind).0) ∙ any_filter (λ l. is_one_fork l.fork q) (λ l. l.reference == r) locks) ∙ is)
 ] refl
 
 or_nothing : (b : Bool) → (b || false) ≡ b
@@ -498,36 +641,36 @@ or_all : (b : Bool) → (b || true) ≡ true
 or_all true = refl
 or_all false = refl
 
-holds_more : (ls : List Lock) (i : ℕ) (x : Lock) (r : ℕ) (q : Fork) → i < length ls → x ≡ slice_index_or ls i x → holds_on r q (take (i + 1) ls) ≡ (holds_on r q (take i ls) || (is_one_fork x.fork q && (x.reference == r)))
-holds_more ls i x r q within read = list_any_more (λ l. is_one_fork l.fork q && (l.reference == r)) ls i x within ∙ ap (λ l. holds_on r q (take i ls) || (is_one_fork l.fork q && (l.reference == r))) (sym read)
+-- the rows of a reference after the first so many of its locks
+abbrev pub are_cleared : ℕ → List Lock → List (Fork × List LockRow) → Fork → List LockRow
+are_cleared r ls forks q = if is_among ls q then filter (stays_of r) (rows_at forks q) else rows_at forks q
 
-pub clear_step : (ls : List Lock) (i : ℕ) (x : Lock) (r : ℕ) (first mid new : List (Fork × List LockRow)) (fork : Fork) → i < length ls → x ≡ slice_index_or ls i x → x.reference ≡ r → fork ≡ x.fork
-    → ((q : Fork) → rows_at mid q ≡ (if holds_on r q (take i ls) then filter (stays_of r) (rows_at first q) else rows_at first q))
-    → ((q : Fork) → rows_at new q ≡ (if is_one_fork fork q then filter (stays_of r) (rows_at mid fork) else rows_at mid q))
-    → (q : Fork) → rows_at new q ≡ (if holds_on r q (take (i + 1) ls) then filter (stays_of r) (rows_at first q) else rows_at first q)
-clear_step ls i x r first mid new fork within read is_r fork_is before now_is q =
-    let mine : (x.reference == r) ≡ true = grind (arith, nat_tests, is_r) in
+among_more : (ls : List Lock) (i : ℕ) (x : Lock) (q : Fork) → i < length ls → x ≡ slice_index_or ls i x → is_among (take (i + 1) ls) q ≡ (is_among (take i ls) q || is_one_fork x.fork q)
+among_more ls i x q within read = list_any_more (λ l. is_one_fork l.fork q) ls i x within ∙ ap (λ l. is_among (take i ls) q || is_one_fork l.fork q) (sym read)
+
+pub clear_step : (ls : List Lock) (i : ℕ) (x : Lock) (r : ℕ) (first mid after : List (Fork × List LockRow)) (fork : Fork) → i < length ls → x ≡ slice_index_or ls i x → fork ≡ x.fork → ((q : Fork) → rows_at mid q ≡ are_cleared r (take i ls) first q)
+    → ((q : Fork) → rows_at after q ≡ (if is_one_fork fork q then filter (stays_of r) (rows_at mid fork) else rows_at mid q))
+    → (q : Fork) → rows_at after q ≡ are_cleared r (take (i + 1) ls) first q
+clear_step ls i x r first mid after fork within read fork_is before now_is q =
     now_is q ∙ ap (λ f. if is_one_fork f q then filter (stays_of r) (rows_at mid f) else rows_at mid q) fork_is
-    ∙ elim (is_one_fork x.fork q) as (λ b. is_one_fork x.fork q ≡ b → (if b then filter (stays_of r) (rows_at mid x.fork) else rows_at mid q) ≡ (if holds_on r q (take i ls) || (b && (x.reference == r)) then filter (stays_of r) (rows_at first q) else rows_at first q)) [
+    ∙ elim (is_one_fork x.fork q) as (λ b. is_one_fork x.fork q ≡ b → (if b then filter (stays_of r) (rows_at mid x.fork) else rows_at mid q) ≡ (if is_among (take i ls) q || b then filter (stays_of r) (rows_at first q) else rows_at first q)) [
       | true ↦ λ same.
           ap (λ f. filter (stays_of r) (rows_at mid f)) (same_fork x.fork q same) ∙ ap (filter (stays_of r)) (before q)
-          ∙ elim (holds_on r q (take i ls)) as (λ h. filter (stays_of r) (if h then filter (stays_of r) (rows_at first q) else rows_at first q) ≡ filter (stays_of r) (rows_at first q)) [ true ↦ stay_twice r (rows_at first q) | false ↦ refl ]
-          ∙ ap (λ t. if t then filter (stays_of r) (rows_at first q) else rows_at first q) (sym (ap (λ t. holds_on r q (take i ls) || t) mine ∙ or_all (holds_on r q (take i ls))))
-      | false ↦ λ other. before q ∙ ap (λ t. if t then filter (stays_of r) (rows_at first q) else rows_at first q) (sym (or_nothing (holds_on r q (take i ls))))
+          ∙ elim (is_among (take i ls) q) as (λ h. filter (stays_of r) (if h then filter (stays_of r) (rows_at first q) else rows_at first q) ≡ filter (stays_of r) (rows_at first q)) [ true ↦ stay_twice r (rows_at first q) | false ↦ refl ]
+          ∙ ap (λ t. if t then filter (stays_of r) (rows_at first q) else rows_at first q) (sym (or_all (is_among (take i ls) q)))
+      | false ↦ λ other. before q ∙ ap (λ t. if t then filter (stays_of r) (rows_at first q) else rows_at first q) (sym (or_nothing (is_among (take i ls) q)))
     ] refl
-    ∙ ap (λ t. if t then filter (stays_of r) (rows_at first q) else rows_at first q) (sym (holds_more ls i x r q within read))
+    ∙ ap (λ t. if t then filter (stays_of r) (rows_at first q) else rows_at first q) (sym (among_more ls i x q within read))
 
-pub clear_none : (ls : List Lock) (i : ℕ) (x : Lock) (r : ℕ) (first mid : List (Fork × List LockRow)) → i < length ls → x ≡ slice_index_or ls i x → (x.reference ≡ r → ⊥)
-    → ((q : Fork) → rows_at mid q ≡ (if holds_on r q (take i ls) then filter (stays_of r) (rows_at first q) else rows_at first q))
-    → (q : Fork) → rows_at mid q ≡ (if holds_on r q (take (i + 1) ls) then filter (stays_of r) (rows_at first q) else rows_at first q)
-clear_none ls i x r first mid within read not_r before q =
-    let other : (x.reference == r) ≡ false = grind (arith, nat_tests, not_r) in
+-- a fork that an earlier lock was on has no such row any more
+pub clear_skip : (ls : List Lock) (i : ℕ) (x : Lock) (r : ℕ) (first mid : List (Fork × List LockRow)) (fork : Fork) → i < length ls → x ≡ slice_index_or ls i x → fork ≡ x.fork → is_among (take i ls) fork ≡ true → ((q : Fork) → rows_at mid q ≡ are_cleared r (take i ls) first q)
+    → (q : Fork) → rows_at mid q ≡ are_cleared r (take (i + 1) ls) first q
+clear_skip ls i x r first mid fork within read fork_is earlier before q =
     before q ∙ ap (λ t. if t then filter (stays_of r) (rows_at first q) else rows_at first q)
-    (sym (holds_more ls i x r q within read ∙ ap (λ t. holds_on r q (take i ls) || (is_one_fork x.fork q && t)) other ∙ ap (λ t. holds_on r q (take i ls) || t) (and_none (is_one_fork x.fork q)) ∙ or_nothing (holds_on r q (take i ls))))
-  where
-    and_none : (b : Bool) → (b && false) ≡ false
-    and_none true = refl
-    and_none false = refl
+    (sym (among_more ls i x q within read ∙ elim (is_one_fork x.fork q) as (λ b. is_one_fork x.fork q ≡ b → (is_among (take i ls) q || b) ≡ is_among (take i ls) q) [
+      | true ↦ λ same. or_all (is_among (take i ls) q) ∙ sym (sym (ap (is_among (take i ls)) (fork_is ∙ same_fork x.fork q same)) ∙ earlier)
+      | false ↦ λ _. or_nothing (is_among (take i ls) q)
+    ] refl))
 
 -- ---- two forks change places
 exchange_any : (a b q : Fork) (y : LockRow) (ls : List Lock) → list_any (λ l. is_one_fork l.fork q && is_row y l) (exchanged_locks a b ls) ≡ list_any (λ l. is_one_fork l.fork (in_exchange a b q) && is_row y l) ls

@@ -1,8 +1,8 @@
 -- Two halvings find the rows that a range meets.
-use Rattle.std.proofs.Common.{◌≡◌, ◌∙◌, refl, sym, ap, subst, ℕ, ◌+◌, ◌-◌, ◌<◌, ◌≤◌, Bool, true, false, not, ◌&&◌, ◌==◌, List, length, inl, inr, arith}
+use Rattle.std.proofs.Common.{◌≡◌, ◌∙◌, refl, sym, ap, subst, ℕ, ◌+◌, ◌-◌, ◌<◌, ◌≤◌, Bool, true, false, not, ◌&&◌, ◌||◌, ◌==◌, if◌then◌else◌, List, [], ◌∷◌, length, filter, zero, suc, Some, inl, inr, arith}
 use Rattle.std.specs.Prelude.{nat_lt, nat_le, slice_index_or, slice_range}
 use Rattle.std.specs.Cmp.{both_ways}
-use Rattle.std.specs.List.{list_any}
+use Rattle.std.specs.List.{list_any, remove}
 use Rattle.std.specs.List.Sorted.{IsPartitionedBy, IsPartitionPoint}
 use Rattle.std.proofs.lemmas.Bool.{cases_lt}
 use Rattle.std.proofs.lemmas.Bool.Decides.{nat_tests}
@@ -12,7 +12,7 @@ use Rattle.std.proofs.lemmas.List.Edits.{get_or-between, length-between}
 use Rattle.afp_base.specs.Overlap.{Range, do_meet}
 use Rattle.range_locks.specs.declared.rows.LockRow.{LockRow}
 use Rattle.range_locks.specs.Locks.{AreInOrder, are_one_row}
-use Rattle.range_locks.specs.Seen.{IsSeen}
+use Rattle.range_locks.specs.lemma.Seen.{IsSeen, IsRowPlace}
 
 below : (a b : ℕ) → nat_lt a b ≡ true → a < b
 below a b h = grind (arith, nat_tests, h)
@@ -117,11 +117,23 @@ module _ (rows : List LockRow) (o : AreInOrder rows) where
         omega_is : (k : ℕ) → from ≤ k → from + (k - from) ≡ k
         omega_is k h = omega arith
 
-    pub seen_is : {met : List LockRow} (r : ℕ) (other own : Bool) → met ≡ slice_range rows from to → other ≡ list_any (λ row. not (row.reference.0 == r)) met → own ≡ list_any (λ row. row.reference.0 == r) met
+    -- of rows none of which is another reference's, each is its own
+    own_alone : (r : ℕ) (met : List LockRow) → list_any (λ row. not (row.reference.0 == r)) met ≡ false → not (length met == 0) ≡ list_any (λ row. row.reference.0 == r) met
+    own_alone r [] none = refl
+    own_alone r (x ∷ xs) none = ap not (more (length xs)) ∙ sym (first (x.reference.0 == r) (list_any (λ row. not (row.reference.0 == r)) xs) (list_any (λ row. row.reference.0 == r) xs) none)
+      where
+        first : (a b c : Bool) → (not a || b) ≡ false → (a || c) ≡ true
+        first true b c h = refl
+        first false b c h = absurd (cc h)
+
+        more : (n : ℕ) → (suc n == 0) ≡ false
+        more n = grind (arith, nat_tests)
+
+    pub seen_is : {met : List LockRow} (r : ℕ) (other own : Bool) → met ≡ slice_range rows from to → other ≡ list_any (λ row. not (row.reference.0 == r)) met → own ≡ not (length met == 0)
         → IsSeen rows r range (record { other = other; own = own; place = from })
-    seen_is r other own met_is other_is own_is = record {
+    seen_is {met} r other own met_is other_is own_is = record {
       other = other_is ∙ ap (list_any (λ row. not (row.reference.0 == r))) met_is ∙ sym (any_met (λ row. not (row.reference.0 == r)));
-      own = own_is ∙ ap (list_any (λ row. row.reference.0 == r)) met_is ∙ sym (any_met (λ row. row.reference.0 == r));
+      own = λ none. own_is ∙ own_alone r met (sym other_is ∙ none) ∙ ap (list_any (λ row. row.reference.0 == r)) met_is ∙ sym (any_met (λ row. row.reference.0 == r));
       ordered = ordered;
       within = from_in;
       before = λ i d less. ends.0 i d (omega arith) less;
@@ -129,23 +141,23 @@ module _ (rows : List LockRow) (o : AreInOrder rows) where
     }
 
 -- ---- a row that is there
+ends_of : (row x : LockRow) → are_one_row row x ≡ true → (row.range.from ≡ x.range.from) × (row.range.to ≡ x.range.to)
+ends_of row x h =
+    let first = both (row.reference.0 == x.reference.0) ((row.range.from == x.range.from) && (row.range.to == x.range.to)) h in
+    let ends = both (row.range.from == x.range.from) (row.range.to == x.range.to) first.1 in
+    (one row.range.from x.range.from ends.0, one row.range.to x.range.to ends.1)
+  where
+    both : (a b : Bool) → (a && b) ≡ true → (a ≡ true) × (b ≡ true)
+    both true b h = (refl, h)
+    both false b h = absurd (cc h)
+
+    one : (m n : ℕ) → (m == n) ≡ true → m ≡ n
+    one m n h = grind (arith, nat_tests, h)
+
 module _ (rows : List LockRow) (o : AreInOrder rows) (row : LockRow) (ordered : row.range.from ≤ row.range.to) (place : ℕ) (ends : IsPartitionPoint (λ x. nat_lt x.range.to row.range.from ≡ true) (λ x. nat_lt x.range.to row.range.from ≡ false) rows place) where
-  both_parts : (a b : Bool) → (a && b) ≡ true → (a ≡ true) × (b ≡ true)
-  both_parts true b h = (refl, h)
-  both_parts false b h = absurd (cc h)
-
-  ends_same : (x : LockRow) → are_one_row row x ≡ true → (row.range.from ≡ x.range.from) × (row.range.to ≡ x.range.to)
-  ends_same x h =
-      let first = both_parts (row.reference.0 == x.reference.0) ((row.range.from == x.range.from) && (row.range.to == x.range.to)) h in
-      let both = both_parts (row.range.from == x.range.from) (row.range.to == x.range.to) first.1 in
-      (one row.range.from x.range.from both.0, one row.range.to x.range.to both.1)
-    where
-      one : (m n : ℕ) → (m == n) ≡ true → m ≡ n
-      one m n h = grind (arith, nat_tests, h)
-
   not_before : (k : ℕ) (x : LockRow) → k < length rows → slice_index_or rows k x ≡ x → are_one_row row x ≡ true → place ≤ k
   not_before k x within is same = elim (cases_lt k place) [
-    | inl less ↦ absurd (let e = ends_same x same in let a = below _ _ (sym (ap (λ (y : LockRow). nat_lt y.range.to row.range.from) is) ∙ ends.0 k x (omega arith) less) in omega (arith, a, e.1))
+    | inl less ↦ absurd (let e = ends_of row x same in let a = below _ _ (sym (ap (λ (y : LockRow). nat_lt y.range.to row.range.from) is) ∙ ends.0 k x (omega arith) less) in omega (arith, a, e.1))
     | inr other ↦ other
   ]
 
@@ -163,7 +175,7 @@ module _ (rows : List LockRow) (o : AreInOrder rows) (row : LockRow) (ordered : 
       let low = not_before f.0 f.1 f.2 f.3 f.4 in
       let here : f.0 ≡ place = elim (cases_lt place f.0) [
         | inl less ↦ absurd (
-            let e = ends_same f.1 f.4 in
+            let e = ends_of row f.1 f.4 in
             let a = rising rows o place f.0 f.1 less f.2 in
             let b = not_below _ _ (ends.1 place f.1 (omega arith) within) in
             let c : (slice_index_or rows f.0 f.1).range.from ≡ f.1.range.from = ap (λ (y : LockRow). y.range.from) f.3 in
@@ -171,3 +183,42 @@ module _ (rows : List LockRow) (o : AreInOrder rows) (row : LockRow) (ordered : 
         | inr other ↦ omega (arith, low, other)
       ] in
       ap (are_one_row row) (read ∙ ap (λ k. slice_index_or rows k x) (sym here) ∙ get_or_default rows f.0 x f.1 f.2 ∙ f.3) ∙ f.4)
+
+-- ---- a row that goes
+pub rows_stay : {rows whole : List LockRow} (row : LockRow) → rows ≡ whole → list_any (are_one_row row) rows ≡ false → whole ≡ filter (λ x. not (are_one_row row x)) whole
+rows_stay {rows} {whole} row same none = each whole (sym (ap (list_any (are_one_row row)) same) ∙ none)
+  where
+    each : (rows : List LockRow) → list_any (are_one_row row) rows ≡ false → rows ≡ filter (λ x. not (are_one_row row x)) rows
+    each [] h = refl
+    each (x ∷ xs) h =
+        let parts = neither (are_one_row row x) (list_any (are_one_row row) xs) h in
+        ap (λ rest. x ∷ rest) (each xs parts.1) ∙ ap (λ b. if not b then x ∷ filter (λ y. not (are_one_row row y)) xs else filter (λ y. not (are_one_row row y)) xs) (sym parts.0)
+      where
+        neither : (a b : Bool) → (a || b) ≡ false → (a ≡ false) × (b ≡ false)
+        neither true b h = absurd (cc h)
+        neither false b h = (refl, h)
+
+-- of rows that end before the next ones begin, no two are one
+one_alone : (rows : List LockRow) (row : LockRow) (i j : ℕ) (d : LockRow) → AreInOrder rows → i < j → j < length rows → are_one_row row (slice_index_or rows i d) ≡ true → are_one_row row (slice_index_or rows j d) ≡ true → ⊥
+one_alone rows row i j d o less within first second =
+    let a = ends_of row (slice_index_or rows i d) first in
+    let b = ends_of row (slice_index_or rows j d) second in
+    let apart = rising rows o i j d less within in
+    let ordered = valid rows o i d (omega (arith, less, within)) in
+    omega (arith, a.0, a.1, b.0, apart, ordered)
+
+pub row_gone : (rows : List LockRow) (row : LockRow) (place : ℕ) → AreInOrder rows → IsRowPlace rows row (Some place) → remove rows place ≡ filter (λ x. not (are_one_row row x)) rows
+row_gone [] row place o there = absurd (omega (arith, there.0))
+row_gone (x ∷ xs) row zero o there =
+    let none : list_any (are_one_row row) xs ≡ false = elim (list_any (are_one_row row) xs) as (λ b. list_any (are_one_row row) xs ≡ b → b ≡ false) [
+      | true ↦ λ is. let f = Any-from_list_any (are_one_row row) xs is in absurd (one_alone (x ∷ xs) row 0 (suc f.0) f.1 o (omega arith) (omega (arith, f.2)) (there.1 x) (ap (are_one_row row) f.3 ∙ f.4))
+      | false ↦ λ _. refl
+    ] refl in
+    rows_stay row refl none ∙ ap (λ b. if not b then x ∷ filter (λ y. not (are_one_row row y)) xs else filter (λ y. not (are_one_row row y)) xs) (sym (there.1 x))
+row_gone (x ∷ xs) row (suc place) o there =
+    let other : are_one_row row x ≡ false = elim (are_one_row row x) as (λ b. are_one_row row x ≡ b → b ≡ false) [
+      | true ↦ λ is. absurd (one_alone (x ∷ xs) row 0 (suc place) x o (omega arith) there.0 is (there.1 x))
+      | false ↦ λ _. refl
+    ] refl in
+    ap (λ rest. x ∷ rest) (row_gone xs row place (record { valid = λ i d h. o.valid (suc i) d (omega (arith, h)); rising = λ i j d h k. o.rising (suc i) (suc j) d (omega (arith, h)) (omega (arith, k)) }) (omega (arith, there.0), there.1))
+    ∙ ap (λ b. if not b then x ∷ filter (λ y. not (are_one_row row y)) xs else filter (λ y. not (are_one_row row y)) xs) (sym other)

@@ -1,3 +1,2 @@
-pub mod Kept
 pub mod Locks
-pub mod Seen
+pub mod lemma

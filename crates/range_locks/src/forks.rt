@@ -4,8 +4,8 @@ ghost use Rattle.std.specs.List.{insert};
 ghost use Rattle.afp_base.specs.DenyMode.{Fork, is_one_fork};
 ghost use Rattle.sorted_map.specs.Entries.{at};
 ghost use Rattle.deny_modes.specs.lemma.ForkOrder.{fork_cmp};
-ghost use Rattle.range_locks.specs.Kept.{rows_at};
-ghost use Rattle.range_locks.specs.Locks.{are_one_row};
+ghost use Rattle.range_locks.specs.lemma.Kept.{rows_at};
+ghost use Rattle.range_locks.specs.Locks.{AreInOrder, are_one_row};
 
 use crate::rows::{LockRow, Rows};
 use afp_base::OutOfMemory;
@@ -54,6 +54,7 @@ pub(crate) fn take_row(
     fork: ForkKey,
     row: LockRow,
 )
+    requires { AreInOrder (rows_at forks.old fork) }
     ensures { (q : Fork) → rows_at forks.new q ≡ (if is_one_fork fork q then filter (λ x. not (are_one_row row x)) (rows_at forks.old fork) else rows_at forks.old q) }
 {
     if forks.get(fork).is_none() {

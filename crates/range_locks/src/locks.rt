@@ -1,14 +1,15 @@
 //! The locks of all references.
-ghost use Rattle.std.specs.Prelude.{◌≡◌, ◌==◌, [], true, not, filter, if◌then◌else◌};
+ghost use Rattle.std.specs.Prelude.{◌≡◌, ◌==◌, ◌≤◌, [], true, not, filter, if◌then◌else◌, length, take, slice_range};
 ghost use Rattle.afp_base.specs.DenyMode.{Fork};
 ghost use Rattle.deny_modes.specs.Opens.{in_exchange};
+ghost use Rattle.std.specs.List.{position};
 ghost use Rattle.std.specs.List.Sorted.{IsNonDecreasingBy};
 ghost use Rattle.afp_base.specs.Apart.{are_apart};
 ghost use Rattle.range_locks.specs.Locks.{are_overlapping, SetsLock, TakesLock, AreIntervals, is_met_by_other, count_held, is_lock, without_holder, exchange_lock, exchanged_locks};
-ghost use Rattle.range_locks.specs.Kept.{IsBehind, IsBefore, holder_of, holds_on, rows_at};
+ghost use Rattle.range_locks.specs.lemma.Kept.{IsBehind, IsBefore, IsPlaceOf, holder_of, is_among, rows_at};
 
 use crate::forks::{add_row, rows_of, take_holder, take_row};
-use crate::rows::{LockRow, Rows, has_row, look};
+use crate::rows::{LockRow, Rows, look};
 use crate::{LockFault, NotLocked, Range};
 use afp_base::ForkRef;
 use deny_modes::ForkKey;
@@ -80,7 +81,7 @@ pub struct Locks {
 impl Model for Locks {
     ghost use Rattle.std.specs.Prelude.{List};
     ghost use Rattle.range_locks.specs.Locks.{Lock};
-    ghost use Rattle.range_locks.specs.Kept.{IsKept};
+    ghost use Rattle.range_locks.specs.lemma.Kept.{IsKept};
 
     ghost Value = { List Lock };
 
@@ -160,15 +161,15 @@ impl Locks {
     pub fn unlock(&mut self, fork: &ForkKey, r: ForkRef, range: Range) -> Result<(), NotLocked>
         ensures { TakesLock self.old fork.now r.0 range result self.new }
     {
+        let Some(place) = place_of(self.list.as_slice(), fork, r.0, &range) else {
+            return Err(NotLocked);
+        };
         let row = LockRow {
             range,
             reference: r,
         };
-        if !has_row(rows_of(&self.forks, fork), &row) {
-            return Err(NotLocked);
-        }
         take_row(&mut self.forks, self.alloc, *fork, row);
-        drop_lock(&mut self.list, fork, r.0, range);
+        self.list.remove(place);
         Ok(())
     }
 
@@ -176,11 +177,14 @@ impl Locks {
     pub fn forget(&mut self, r: ForkRef)
         ensures { self.new ≡ without_holder r.0 self.old }
     {
-        if held_by(self.list.as_slice(), r.0) == 0 {
+        let first = before(self.list.as_slice(), r.0);
+        let last = behind(self.list.as_slice(), r.0);
+        if first >= last {
             return;
         }
-        clear_rows(self.list.as_slice(), &mut self.forks, self.alloc, r.0);
-        drop_holder(&mut self.list, r.0);
+        let own = part(self.list.as_slice(), first, last);
+        clear_rows(own, &mut self.forks, self.alloc, r.0);
+        self.list.drain(first..last);
     }
 
     /// Makes each lock on the one fork one on the other, and the other way round.
@@ -215,28 +219,52 @@ fn exchange_list(list: &mut Vec<HeldLock>, a: &ForkKey, b: &ForkKey)
     }
 }
 
-/// Takes that lock out of the list.
-fn drop_lock(list: &mut Vec<HeldLock>, fork: &ForkKey, r: u16, range: Range)
-    ensures { list.new.items ≡ filter (λ l. not (is_lock fork.now r range l)) list.old.items }
-{
-    list.retain(|l| !l.is(fork, r, &range));
-}
-
-/// Takes the locks of a reference out of the list.
-fn drop_holder(list: &mut Vec<HeldLock>, r: u16)
-    ensures { list.new.items ≡ without_holder r list.old.items }
-{
-    list.retain(|l| l.reference() != r);
-}
-
 /// Takes the rows of a reference away, on each fork where the list has a lock of it.
 fn clear_rows(list: &[HeldLock], forks: &mut SortedMap<ForkKey, Rows>, alloc: Global, r: u16)
-    ensures { (q : Fork) → rows_at forks.new q ≡ (if holds_on r q list.now then filter (λ x. not (x.reference.0 == r)) (rows_at forks.old q) else rows_at forks.old q) }
+    ensures { (q : Fork) → rows_at forks.new q ≡ (if is_among list.now q then filter (λ x. not (x.reference.0 == r)) (rows_at forks.old q) else rows_at forks.old q) }
 {
-    for held in list {
-        if held.reference() == r {
-            take_holder(forks, alloc, held.fork(), r);
+    for place in 0..list.len() {
+        let fork = list[place].fork();
+        if !is_cleared(list, place, &fork) {
+            take_holder(forks, alloc, fork, r);
         }
+    }
+}
+
+/// Whether the lock before a place is on that fork.
+fn is_cleared(list: &[HeldLock], place: usize, fork: &ForkKey) -> bool
+    requires { place ≤ length list.now }
+    ensures { result ≡ true → is_among (take place list.now) fork.now ≡ true }
+{
+    place > 0 && list[place - 1].fork() == *fork
+}
+
+/// The locks from one place to another.
+fn part(list: &[HeldLock], first: usize, last: usize) -> &[HeldLock]
+    requires low { first ≤ last }
+    requires high { last ≤ length list.now }
+    ensures { result.now ≡ slice_range list.now first last }
+{
+    &list[first..last]
+}
+
+/// The first place of that lock among these.
+fn place_among(list: &[HeldLock], fork: &ForkKey, r: u16, range: &Range) -> Option<usize>
+    ensures { result ≡ position (is_lock fork.now r range.now) list.now }
+{
+    list.iter().position(|l| l.is(fork, r, range))
+}
+
+/// The place of that lock. It is looked for among those of its reference alone.
+fn place_of(list: &[HeldLock], fork: &ForkKey, r: u16, range: &Range) -> Option<usize>
+    requires { IsNonDecreasingBy holder_of list.now }
+    ensures { IsPlaceOf list.now fork.now r range.now result }
+{
+    let first = before(list, r);
+    let last = behind(list, r);
+    match place_among(part(list, first, last), fork, r, range) {
+        Some(place) => Some(first + place),
+        None => None,
     }
 }
 

@@ -3,7 +3,7 @@ ghost use Rattle.std.specs.Prelude.{◌≡◌, ◌<◌, ◌≤◌, ◌&&◌, ◌
 ghost use Rattle.std.specs.List.{list_any, insert};
 ghost use Rattle.afp_base.specs.Overlap.{do_meet};
 ghost use Rattle.range_locks.specs.Locks.{AreInOrder, are_one_row};
-ghost use Rattle.range_locks.specs.Seen.{IsSeen};
+ghost use Rattle.range_locks.specs.lemma.Seen.{IsSeen, IsRowPlace};
 
 use crate::Range;
 use afp_base::{ForkRef, OutOfMemory};
@@ -63,11 +63,17 @@ impl Rows {
         Ok(())
     }
 
-    /// Takes that row away, where it is.
+    /// Takes that row away, where it is. No other row is looked at but those of a halving.
     pub(crate) fn take_row(&mut self, row: LockRow)
+        requires { AreInOrder self.old }
         ensures { self.new ≡ filter (λ x. not (are_one_row row x)) self.old }
     {
-        self.0.retain(|x| !row.is(x));
+        match row_place(self.0.as_slice(), &row) {
+            Some(place) => {
+                self.0.remove(place);
+            }
+            None => {}
+        }
     }
 
     /// Takes the rows of a reference away.
@@ -78,7 +84,7 @@ impl Rows {
     }
 }
 
-/// What stands in the way of a range: another reference's lock, the reference's own, and the place where the range would go.
+/// What stands in the way of a range: another reference's lock; where there is none, the reference's own; and the place where the range would go.
 #[derive(Clone, Copy)]
 pub(crate) struct Seen {
     pub(crate) other: bool,
@@ -86,7 +92,8 @@ pub(crate) struct Seen {
     pub(crate) place: usize,
 }
 
-/// Looks for what a range meets. Two halvings find the rows that it meets, which stand together.
+/// Looks for what a range meets. Two halvings find the rows that it meets, which stand together. Of these it looks at the reference's own, up to
+/// the first of another.
 pub(crate) fn look(rows: &[LockRow], r: ForkRef, range: &Range) -> Seen
     requires { AreInOrder rows.now }
     ensures { IsSeen rows.now r.0 range.now result }
@@ -98,7 +105,7 @@ pub(crate) fn look(rows: &[LockRow], r: ForkRef, range: &Range) -> Seen
     let met = part(rows, from, to);
     Seen {
         other: has_other(met, r),
-        own: has_own(met, r),
+        own: !met.is_empty(),
         place: from,
     }
 }
@@ -118,22 +125,16 @@ fn has_other(rows: &[LockRow], r: ForkRef) -> bool
     rows.iter().any(|row| row.reference.0 != r.0)
 }
 
-fn has_own(rows: &[LockRow], r: ForkRef) -> bool
-    ensures { result ≡ list_any (λ row. row.reference.0 == r.0) rows.now }
-{
-    rows.iter().any(|row| row.reference.0 == r.0)
-}
-
-/// Whether that row is there. A halving finds the one place where it may be.
-pub(crate) fn has_row(rows: &[LockRow], row: &LockRow) -> bool
+/// The place of that row. A halving finds the one place where it may be.
+fn row_place(rows: &[LockRow], row: &LockRow) -> Option<usize>
     requires { AreInOrder rows.now }
-    ensures { result ≡ list_any (are_one_row row.now) rows.now }
+    ensures { IsRowPlace rows.now row.now result }
 {
     let first = row.range.first();
     let place = rows.partition_point(|x| x.range.last() < first);
-    if place < rows.len() {
-        row.is(&rows[place])
+    if place < rows.len() && row.is(&rows[place]) {
+        Some(place)
     } else {
-        false
+        None
     }
 }

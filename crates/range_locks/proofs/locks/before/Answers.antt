@@ -1,7 +1,7 @@
 use Rattle.std.proofs.Common.{rules, arith}
 use Rattle.std.specs.Prelude.{nat_lt}
 use Rattle.std.proofs.lemmas.List.Sorted.{IsPartitionPoint-from_clause, IsPartitionedBy-ltb}
-use Rattle.range_locks.specs.Kept.{holder_of}
+use Rattle.range_locks.specs.lemma.Kept.{holder_of}
 use Rattle.range_locks.specs.Locks.{Lock}
 use Rattle.range_locks.proofs.locks.before.Goals as goal
 

@@ -1,7 +1,7 @@
 use Rattle.std.proofs.Common.{rules, arith}
 use Rattle.std.specs.Prelude.{nat_le}
 use Rattle.std.proofs.lemmas.List.Sorted.{IsPartitionPoint-from_clause, IsPartitionedBy-leb}
-use Rattle.range_locks.specs.Kept.{holder_of}
+use Rattle.range_locks.specs.lemma.Kept.{holder_of}
 use Rattle.range_locks.specs.Locks.{Lock}
 use Rattle.range_locks.proofs.locks.behind.Goals as goal
 

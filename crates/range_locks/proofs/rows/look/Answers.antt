@@ -1,4 +1,4 @@
-use Rattle.std.proofs.Common.{rules}
+use Rattle.std.proofs.Common.{rules, ap, not}
 use Rattle.std.specs.Prelude.{nat_lt, nat_le}
 use Rattle.std.proofs.lemmas.List.Sorted.{IsPartitionPoint-from_clause}
 use Rattle.range_locks.specs.declared.rows.LockRow.{LockRow}
@@ -15,4 +15,4 @@ pub returns : goal.returns
 returns c =
     let ends = IsPartitionPoint-from_clause (λ (row : LockRow). nat_lt row.range.to c.args.range.now.from) c.args.rows.now c.partition_point-from.result c.partition_point-from.ensures.partitioned (parted_ends c.args.rows.now c.requires c.args.range.now.from) (λ a r g called. search rules) in
     let starts = IsPartitionPoint-from_clause (λ (row : LockRow). nat_le row.range.from c.args.range.now.to) c.args.rows.now c.partition_point-to.result c.partition_point-to.ensures.partitioned (parted_starts c.args.rows.now c.requires c.args.range.now.to) (λ a r g called. search rules) in
-    seen_is c.args.rows.now c.requires c.args.range.now c.first-first.ensures.order c.partition_point-from.result c.partition_point-to.result c.partition_point-from.ensures.bound c.partition_point-to.ensures.bound ends starts c.args.r.0 c.has_other.result c.has_own.result c.part-met.ensures c.has_other.ensures c.has_own.ensures
+    seen_is c.args.rows.now c.requires c.args.range.now c.first-first.ensures.order c.partition_point-from.result c.partition_point-to.result c.partition_point-from.ensures.bound c.partition_point-to.ensures.bound ends starts c.args.r.0 c.has_other.result _ c.part-met.ensures c.has_other.ensures (ap not c.is_empty.ensures)

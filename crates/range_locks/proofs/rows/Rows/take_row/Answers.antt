@@ -1,9 +1,14 @@
-use Rattle.std.proofs.Common.{not, rules, ap, ◌∙◌}
-use Rattle.std.proofs.lemmas.Fn.{filter_same}
-use Rattle.range_locks.specs.Locks.{are_one_row}
-use Rattle.std.specs.Prelude.{filter}
-use Rattle.range_locks.specs.declared.rows.LockRow.{LockRow}
+use Rattle.std.proofs.Common.{◌∙◌, ap, subst}
+use Rattle.std.specs.Prelude.{Some}
+use Rattle.std.specs.List.{remove}
+use Rattle.range_locks.specs.lemma.Seen.{IsRowPlace}
+use Rattle.range_locks.proofs.Looking.{row_gone, rows_stay}
 use Rattle.range_locks.proofs.rows.Rows.take_row.Goals as goal
 
-pub returns : goal.returns
-returns c = filter_same _ (λ (x : LockRow). not (are_one_row c.args.row x)) _ (λ x b f called. search rules) c.self.inside.0.items c.retain.new.self.items c.retain.ensures.filtered ∙ ap (filter (λ (x : LockRow). not (are_one_row c.args.row x))) c.self.view_is
+pub returns-in-Some : goal.returns-in-Some
+returns-in-Some c =
+    let there = subst (λ l. IsRowPlace l c.args.row (Some c.in-Some.place)) (c.as_slice.ensures.value ∙ c.self.view_is) c.in-Some.ensures in
+    c.remove.ensures.items ∙ ap (λ l. remove l c.in-Some.place) c.self.view_is ∙ row_gone c.args.self.now c.args.row c.in-Some.place c.requires there
+
+pub returns-in-None : goal.returns-in-None
+returns-in-None c = rows_stay c.args.row (c.as_slice.ensures.value ∙ c.self.view_is) c.in-None.ensures

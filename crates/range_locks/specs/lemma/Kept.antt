@@ -1,13 +1,14 @@
 -- What is kept for the locks: a list by reference, and rows by fork (this profile).
-use Rattle.std.specs.Prelude.{◌≡◌, ℕ, ◌≤◌, ◌<◌, nat_le, nat_lt, ◌==◌, ◌&&◌, Bool, true, false, List, [], length, slice_index_or, unwrap_or}
+use Rattle.std.specs.Prelude.{◌≡◌, ℕ, ◌≤◌, ◌<◌, nat_le, nat_lt, Bool, true, false, List, [], length, slice_index_or, unwrap_or, Option, Some, None}
 use Rattle.std.specs.List.{list_any}
 use Rattle.std.specs.List.Sorted.{IsNonDecreasingBy}
 use Rattle.afp_base.specs.DenyMode.{Fork, is_one_fork}
 use Rattle.sorted_map.specs.Entries.{at}
+use Rattle.afp_base.specs.Overlap.{Range}
 use Rattle.afp_base.specs.Apart.{are_apart}
 use Rattle.deny_modes.specs.lemma.ForkOrder.{fork_cmp}
 use Rattle.range_locks.specs.declared.rows.LockRow.{LockRow}
-use Rattle.range_locks.specs.Locks.{Lock, are_overlapping, AreIntervals}
+use Rattle.range_locks.specs.Locks.{Lock, are_overlapping, AreIntervals, is_lock, has_lock}
 
 -- the rows of a fork
 abbrev pub rows_at : List (Fork × List LockRow) → Fork → List LockRow
@@ -28,9 +29,14 @@ pub record IsBefore (locks : List Lock) (reference place : ℕ) : Type 0 where
   pub front : (k : ℕ) (d : Lock) → k < place → nat_lt (holder_of (slice_index_or locks k d)) reference ≡ true
   pub rest : (k : ℕ) (d : Lock) → place ≤ k → k < length locks → nat_lt (holder_of (slice_index_or locks k d)) reference ≡ false
 
--- some lock of the reference is on that fork
-abbrev pub holds_on : ℕ → Fork → List Lock → Bool
-holds_on reference fork locks = list_any (λ l. is_one_fork l.fork fork && (l.reference == reference)) locks
+-- some of the locks is on that fork
+abbrev pub is_among : List Lock → Fork → Bool
+is_among locks fork = list_any (λ l. is_one_fork l.fork fork) locks
+
+-- the place of the lock of that reference on that fork, with exactly these ends; none where there is no such lock
+abbrev pub IsPlaceOf : List Lock → Fork → ℕ → Range → Option ℕ → Type 0
+IsPlaceOf locks fork reference range (Some place) = (place < length locks) × ((d : Lock) → is_lock fork reference range (slice_index_or locks place d) ≡ true)
+IsPlaceOf locks fork reference range None = has_lock locks fork reference range ≡ false
 
 -- references do not fall along the list, no two locks on one fork share a byte, and each fork has its rows
 pub record IsKept (locks : List Lock) (forks : List (Fork × List LockRow)) : Type 0 where
