@@ -1,11 +1,16 @@
 //! Runs calls on a volume beside a keeper in memory, one of whose calls may fail, over lines of the standard input. Behind each line it
-//! prints what came of it: a number, the code of a refusal, or a word. A line that is empty or begins with `#` is passed over.
+//! prints what came of it: a number, the code of a refusal, a word, or a change of a record. A line that is empty or begins with `#` is passed
+//! over.
 #![tactic(auto)]
 
+ghost use Rattle.std.specs.Prelude.{◌≤◌, length};
+
+mod noting;
 mod run;
 mod spent;
 
 use afp_base::{NodeId, OutOfMemory};
+use record_keeper::Change;
 use run::{Came, Run};
 use std::alloc::Global;
 use std::io;
@@ -17,6 +22,17 @@ fn number_at(words: &[&str], i: usize) -> u32 {
         return 0;
     }
     match words[i].parse::<u32>() {
+        Ok(number) => number,
+        Err(_) => 0,
+    }
+}
+
+/// The number that a word of a line spells, of up to 64 bits, 0 where there is none.
+fn place_at(words: &[&str], i: usize) -> u64 {
+    if i >= words.len() {
+        return 0;
+    }
+    match words[i].parse::<u64>() {
         Ok(number) => number,
         Err(_) => 0,
     }
@@ -36,6 +52,9 @@ fn came(alloc: Global, run: &mut Run, words: &[&str]) -> Came {
         "create_file" => run.create_file(alloc, dir, text),
         "delete" => run.delete(alloc, dir, text),
         "open_dir" => run.open_dir(alloc, dir, text),
+        "size" => run.size(alloc, dir, place_at(words, 2)),
+        "write" => run.write(alloc, dir, place_at(words, 2), word_at(words, 3)),
+        "changes" => Came::Number(run.changes().len() as u64),
         "count" => run.count(),
         "next" => run.next(),
         "settle" => run.settle(),
@@ -49,6 +68,31 @@ fn print_came(rt: &HostRuntime, line: &str, came: Came) -> io::Result<()> {
         Came::Number(number) => println!(rt; "{line} -> {number}"),
         Came::Code(code) => println!(rt; "{line} -> {code}"),
         Came::Word(word) => println!(rt; "{line} -> {word}"),
+    }
+}
+
+/// How many zeros bytes begin with.
+fn zeros_of(bytes: &[u8]) -> usize
+    ensures { result ≤ length bytes.now }
+{
+    for place in 0..bytes.len() {
+        if bytes[place] != 0 {
+            return place;
+        }
+    }
+    bytes.len()
+}
+
+/// Prints a line, and a change: the key, the zeros that the value begins with, and the bytes behind them.
+fn print_change(rt: &HostRuntime, line: &str, change: &Change) -> io::Result<()> {
+    let key = hex::encode(rt.alloc(), change.key().as_slice())?;
+    match change {
+        Change::Put { key: _, value } => {
+            let zeros = zeros_of(value.as_slice());
+            let rest = hex::encode(rt.alloc(), &value.as_slice()[zeros..])?;
+            println!(rt; "{line} -> put {key}: {zeros} zeros, {rest}")
+        }
+        Change::Remove { key: _ } => println!(rt; "{line} -> remove {key}"),
     }
 }
 
@@ -69,6 +113,17 @@ fn renew(
     }
 }
 
+/// What the words of a line do to a volume, or tell of it.
+fn run_words(rt: &HostRuntime, run: &mut Run, line: &str, words: &[&str]) -> io::Result<()> {
+    if word_at(words, 0) != "change" {
+        return print_came(rt, line, came(rt.alloc(), run, words));
+    }
+    match run.changes().get(number_at(words, 1) as usize) {
+        Some(change) => print_change(rt, line, change),
+        None => print_came(rt, line, Came::Word("none")),
+    }
+}
+
 fn run_text(rt: &HostRuntime, run: &mut Option<Run>, line: &str) -> io::Result<()> {
     if line.is_empty() || line.starts_with('#') {
         return Ok(());
@@ -82,7 +137,7 @@ fn run_text(rt: &HostRuntime, run: &mut Option<Run>, line: &str) -> io::Result<(
         return renew(rt, run, line, Run::spent(rt.alloc()));
     }
     match run {
-        Some(run) => print_came(rt, line, came(rt.alloc(), run, words.as_slice())),
+        Some(run) => run_words(rt, run, line, words.as_slice()),
         None => print_came(rt, line, Came::Word("no volume")),
     }
 }

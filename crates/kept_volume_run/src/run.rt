@@ -2,19 +2,20 @@
 ghost use Rattle.std.specs.Prelude.{IsSome};
 ghost use Rattle.volume_tree.specs.Requests.{tree_call};
 
+use crate::noting::NotingKeeper;
 use crate::spent::spent_keeper;
 use afp_base::{Moment, NodeId, OutOfMemory, VolumeId};
 use afp_names::{LONGEST_PATH, Name, Path, UTF8_NAMES};
 use afp_requests::Call;
 use kept_volume::{ChangeFault, KeptVolume};
-use record_keeper::{KeeperFault, MemoryKeeper};
+use record_keeper::{Change, KeeperFault, MemoryKeeper};
 use std::alloc::Global;
 use volume_tree::PlanFault;
 
 /// A volume beside its keeper, and the moment of all calls.
 #[derive(Drop)]
 pub struct Run {
-    kept: KeptVolume<MemoryKeeper>,
+    kept: KeptVolume<NotingKeeper>,
     now: Moment,
 }
 
@@ -37,6 +38,16 @@ fn path_of(alloc: Global, text: &str) -> Option<Path> {
     }
 }
 
+/// What comes of a change of the volume.
+fn came_of(changed: Result<(), ChangeFault>) -> Came {
+    match changed {
+        Ok(()) => Came::Word("ok"),
+        Err(ChangeFault::Refused(code)) => Came::Code(code.number()),
+        Err(ChangeFault::Failed) => Came::Word("failed"),
+        Err(ChangeFault::Memory) => Came::Word("no memory"),
+    }
+}
+
 impl Run {
     /// The volume "Share" of a keeper, loaded at 100.
     fn load(alloc: Global, keeper: MemoryKeeper) -> Result<Option<Run>, OutOfMemory> {
@@ -46,7 +57,8 @@ impl Run {
         let Ok(name) = Name::new(alloc, b"Share") else {
             return Err(OutOfMemory);
         };
-        match KeptVolume::load(alloc, keeper, name.as_str(), now) {
+        let noting = NotingKeeper::new(alloc, keeper);
+        match KeptVolume::load(alloc, noting, name.as_str(), now) {
             Ok(kept) => Ok(Some(Run { kept, now })),
             Err(_) => Ok(None),
         }
@@ -71,12 +83,7 @@ impl Run {
     fn change(&mut self, alloc: Global, call: &Call) -> Came
         requires { IsSome (tree_call call.now) }
     {
-        match self.kept.change(alloc, self.now, &[], call) {
-            Ok(()) => Came::Word("ok"),
-            Err(ChangeFault::Refused(code)) => Came::Code(code.number()),
-            Err(ChangeFault::Failed) => Came::Word("failed"),
-            Err(ChangeFault::Memory) => Came::Word("no memory"),
-        }
+        came_of(self.kept.change(alloc, self.now, &[], call))
     }
 
     /// Asks FPCreateDir of volume 1: directory ID, pathname. A text that is no path asks nothing.
@@ -117,6 +124,36 @@ impl Run {
             path,
         };
         self.change(alloc, &call)
+    }
+
+    /// The data fork of a file gets another length.
+    pub fn size(&mut self, alloc: Global, file: NodeId, length: u64) -> Came {
+        if !self.kept.has_file(file) {
+            return Came::Word("no file");
+        }
+        came_of(
+            self.kept
+                .set_fork_length(alloc, self.now, file, false, length),
+        )
+    }
+
+    /// Bytes are written to the data fork of a file, the first of them at a place.
+    pub fn write(&mut self, alloc: Global, file: NodeId, place: u64, digits: &str) -> Came {
+        if !self.kept.has_file(file) {
+            return Came::Word("no file");
+        }
+        let Ok(piece) = hex::decode(alloc, digits) else {
+            return Came::Word("no bytes");
+        };
+        came_of(
+            self.kept
+                .write_fork(alloc, self.now, file, false, place, piece.as_slice()),
+        )
+    }
+
+    /// The changes that the keeper was given last.
+    pub fn changes(&self) -> &[Change] {
+        self.kept.keeper().last.as_slice()
     }
 
     /// How many nodes there are.
