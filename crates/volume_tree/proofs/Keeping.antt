@@ -1,9 +1,8 @@
 -- What is kept of a volume, after each edit.
 use Rattle.std.proofs.Common.{◌==◌, ◌≡◌, ◌∙◌, ap, sym, refl, subst, ℕ, Bool, true, false, ◌||◌, List, [], ◌∷◌, Option, Some, None, arith}
-use Rattle.std.specs.Prelude.{pos, option_map, MatchOption, is_some, slice_get, Result, IfOk, if◌then◌else◌}
+use Rattle.std.specs.Prelude.{pos, option_map, MatchOption, is_some, slice_get, if◌then◌else◌}
 use Rattle.std.specs.List.{list_any, list_all, filter}
 use Rattle.std.specs.Ordering.{nat_cmp}
-use Rattle.afp_base.specs.declared.bytes.OutOfMemory.{OutOfMemory}
 use Rattle.afp_base.specs.declared.ids.NodeId.{NodeId}
 use Rattle.sorted_map.specs.Entries.{at}
 use Rattle.node_rows.specs.Kept.{RowsValue}
@@ -33,9 +32,6 @@ sound-is k is = subst (λ (v : TreeValue). IsSoundVolume v.state) is k.sound
 pub found-as : (answer : Option NodeId) (kept shown : Option ℕ) → MatchOption answer (kept ≡ None) (λ id. kept ≡ Some id.0) → shown ≡ kept → IsFound answer shown
 found-as None kept shown found same = same ∙ found
 found-as (Some id) kept shown found same = same ∙ found
-
-pub long-found-as : (answer : Result (Option NodeId) OutOfMemory) (kept shown : Option ℕ) → IfOk answer (λ found. IsFound found kept) → shown ≡ kept → IfOk answer (λ found. IsFound found shown)
-long-found-as answer kept shown found same = subst (λ o. IfOk answer (λ found. IsFound found o)) (sym same) found
 
 -- whether there is a first child
 

@@ -4,14 +4,14 @@ use Rattle.std.specs.Prelude.{option_map}
 use Rattle.std.specs.List.{list_any, find}
 use Rattle.std.proofs.lemmas.Bool.{cond_both, cond-true, cond-false}
 use Rattle.afp_volume.proofs.SeenRows.{test-found}
-use Rattle.afp_volume.proofs.BareRows.{finds-bare, parents-bare, keys-bare, long-names-bare, taken-bare}
+use Rattle.afp_volume.proofs.BareRows.{finds-bare, parents-bare, keys-bare, taken-bare}
 use Rattle.afp_volume.proofs.TestedLists.{length-mapped}
 use Rattle.afp_volume.proofs.Trees.{tree-parts}
 use Rattle.afp_volume.specs.Edits.{bare, is_taken}
 use Rattle.afp_base.specs.Apart.{are_apart}
 use Rattle.afp_volume.specs.SoundVolume.{IsSoundVolume, are_named_alike, has_apart_names}
 use Rattle.afp_volume.specs.VolumeState.{Row, VolumeState}
-use Rattle.afp_volume.specs.Walk.{row_at, parent_at, child_by_key, child_by_long_name}
+use Rattle.afp_volume.specs.Walk.{row_at, parent_at, child_by_key}
 use Rattle.volume_tree.specs.Kept.{Forks, with_forks, rows_of}
 
 -- without their forks they are the same rows
@@ -29,9 +29,6 @@ parent-shown forks rows id = sym (parents-bare (rows_of forks rows) id) ∙ ap (
 
 pub child-shown : (forks : Forks) (rows : List Row) (dir : ℕ) (key : List ℕ) → child_by_key (rows_of forks rows) dir key ≡ child_by_key rows dir key
 child-shown forks rows dir key = sym (keys-bare (rows_of forks rows) dir key) ∙ ap (λ l. child_by_key l dir key) (shown-bare forks rows) ∙ keys-bare rows dir key
-
-pub long-shown : (forks : Forks) (rows : List Row) (dir : ℕ) (element : List ℕ) → child_by_long_name (rows_of forks rows) dir element ≡ child_by_long_name rows dir element
-long-shown forks rows dir element = sym (long-names-bare (rows_of forks rows) dir element) ∙ ap (λ l. child_by_long_name l dir element) (shown-bare forks rows) ∙ long-names-bare rows dir element
 
 pub taken-shown : (forks : Forks) (rows : List Row) (node dir : ℕ) (name : List ℕ) → is_taken (rows_of forks rows) node dir name ≡ is_taken rows node dir name
 taken-shown forks rows node dir name = sym (taken-bare (rows_of forks rows) node dir name) ∙ ap (λ l. is_taken l node dir name) (shown-bare forks rows) ∙ taken-bare rows node dir name

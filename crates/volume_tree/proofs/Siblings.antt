@@ -1,10 +1,10 @@
 -- The children of a directory: the same with forks and without; how many; each by its place.
-use Rattle.std.proofs.Common.{◌≡◌, ◌∙◌, ap, sym, refl, ℕ, suc, ◌≤◌, List, [], ◌∷◌, map, length, Option, Some, None, arith}
-use Rattle.std.specs.Prelude.{option_map, slice_get}
-use Rattle.std.specs.List.{Contains}
+use Rattle.std.proofs.Common.{◌≡◌, ◌∙◌, ap, sym, refl, ℕ, suc, ◌+◌, ◌≤◌, ◌<◌, List, [], ◌∷◌, map, length, drop, Option, Some, None, add-one, arith}
+use Rattle.std.specs.Prelude.{option_map, slice_get, slice_index_or}
+use Rattle.std.proofs.Math.Seq.{drop-cons}
 use Rattle.std.proofs.lemmas.Bool.{cond_both}
 use Rattle.std.proofs.lemmas.List.{length-map}
-use Rattle.std.proofs.lemmas.Option.{slice_get-map, slice_get_past, slice_get_within, get_or_from_slice_get}
+use Rattle.std.proofs.lemmas.Option.{slice_get-map, slice_get_past, slice_get_read, slice_get_within, get_or_from_slice_get}
 use Rattle.afp_volume.proofs.BareRows.{lists-bare}
 use Rattle.afp_volume.proofs.Counted.{listed-is-there}
 use Rattle.afp_volume.specs.Edits.{bare}
@@ -49,13 +49,34 @@ none-behind rows dir i behind =
     ap (λ (o : Option Row). option_map bare o) (sym (slice_get_past (listed rows dir) i past))
 
 -- a child by its place is the node of its id
-pub sibling-found : (v : VolumeState) (dir i : ℕ) (child : Child) → IsSoundVolume v → slice_get (map child_of (listed v.rows dir)) i ≡ Some child
-    → option_map bare (row_at v.rows child.id.0) ≡ option_map bare (slice_get (listed v.rows dir) i)
-sibling-found v dir i child s is = by (slice_get (listed v.rows dir) i) refl (sym (slice_get-map child_of (listed v.rows dir) i) ∙ is)
+
+pub record IsSibling (v : VolumeState) (dir i : ℕ) (child : Child) : Type 0 where
+  pub row : Row
+  pub is : child_of row ≡ child
+  pub here : slice_get (listed v.rows dir) i ≡ Some row
+  pub at_id : row_at v.rows child.id.0 ≡ Some row
+  pub rest : drop i (listed v.rows dir) ≡ row ∷ drop (i + 1) (listed v.rows dir)
+
+sibling-at : (v : VolumeState) (dir i : ℕ) (child : Child) → IsSoundVolume v → slice_get (map child_of (listed v.rows dir)) i ≡ Some child → IsSibling v dir i child
+sibling-at v dir i child s is = by (slice_get (listed v.rows dir) i) refl (sym (slice_get-map child_of (listed v.rows dir) i) ∙ is)
   where
-    by : (o : Option Row) → slice_get (listed v.rows dir) i ≡ o → option_map child_of o ≡ Some child → option_map bare (row_at v.rows child.id.0) ≡ option_map bare (slice_get (listed v.rows dir) i)
+    by : (o : Option Row) → slice_get (listed v.rows dir) i ≡ o → option_map child_of o ≡ Some child → IsSibling v dir i child
     by None here same = absurd (cc)
     by (Some row) here same =
         let child_is : child_of row ≡ child = cc in
-        let there : Contains (listed v.rows dir) row = (i, slice_get_within (listed v.rows dir) i row here, get_or_from_slice_get (listed v.rows dir) i row row here) in
-        ap (λ (c : Child). option_map bare (row_at v.rows c.id.0)) (sym child_is) ∙ ap (λ (o : Option Row). option_map bare o) (listed-is-there v dir row s there ∙ sym here)
+        let inside : i < length (listed v.rows dir) = slice_get_within (listed v.rows dir) i row here in
+        let is_row : slice_index_or (listed v.rows dir) i row ≡ row = get_or_from_slice_get (listed v.rows dir) i row row here in
+        record {
+          row = row;
+          is = child_is;
+          here = here;
+          at_id = ap (λ (c : Child). row_at v.rows c.id.0) (sym child_is) ∙ listed-is-there v dir row s (i, inside, is_row);
+          rest = drop-cons (listed v.rows dir) i row inside ∙ (λ k. is_row k ∷ drop (sym (add-one i) k) (listed v.rows dir));
+        }
+
+pub sibling-found : (v : VolumeState) (dir i : ℕ) (child : Child) → IsSoundVolume v → slice_get (map child_of (listed v.rows dir)) i ≡ Some child
+    → option_map bare (row_at v.rows child.id.0) ≡ option_map bare (slice_get (listed v.rows dir) i)
+sibling-found v dir i child s is = let h = sibling-at v dir i child s is in ap (λ (o : Option Row). option_map bare o) (h.at_id ∙ sym h.here)
+
+pub sibling-here : (v : VolumeState) (dir i : ℕ) (siblings : List Child) (child : Child) → IsSoundVolume v → siblings ≡ map child_of (listed v.rows dir) → i < length siblings → child ≡ slice_index_or siblings i child → IsSibling v dir i child
+sibling-here v dir i siblings child s are within read = sibling-at v dir i child s (ap (λ l. slice_get l i) (sym are) ∙ slice_get_read siblings (length siblings) i child refl within read)

@@ -1,13 +1,14 @@
 //! What calls ask of a volume's tree.
-ghost use Rattle.std.specs.Prelude.{true, false, None, MatchOption, ◌≡◌, ◌++◌, ◌==◌, ◌&&◌, Some, chars, map, length, bytes_eq, IfOk, OnOk};
+ghost use Rattle.std.specs.Prelude.{true, false, None, MatchOption, ◌≡◌, ◌++◌, Some, chars, map, length, bytes_eq, IfOk, OnOk};
 ghost use Rattle.afp_names.specs.LongName.{shown_byte, long_name_of};
 ghost use Rattle.afp_names.specs.Name.{name_key};
 ghost use Rattle.afp_names.specs.Path.{element_of, long_names};
 ghost use Rattle.afp_volume.specs.Edits.{has_children, is_below, is_taken};
 ghost use Rattle.afp_volume.specs.Shared.{directory_of, has_attribute, has_no_ids, has_no_room, is_busy};
 ghost use Rattle.afp_volume.specs.SoundVolume.{has_file};
-ghost use Rattle.afp_volume.specs.Walk.{parent_at, has_directory, child_by_key, child_by_long_name};
-ghost use Rattle.volume_tree.specs.lemma.Answered.{IsFound};
+ghost use Rattle.afp_volume.specs.VolumeState.{Row};
+ghost use Rattle.afp_volume.specs.Walk.{parent_at, has_directory, child_by_key, child_by_long_name, row_at};
+ghost use Rattle.volume_tree.specs.lemma.Answered.{IsFound, lower, option_id};
 ghost use Rattle.volume_tree.specs.Shown.{opened};
 
 use crate::volume::{ROOT_PARENT, Volume};
@@ -57,33 +58,22 @@ fn put_shown(element: &mut Bytes, text: &[char]) -> Result<(), OutOfMemory>
     Ok(())
 }
 
-/// The first node in this directory with this long name.
-fn find_long(
-    alloc: Global,
-    nodes: &[Node],
-    dir: NodeId,
-    element: &[u8],
-) -> Result<Option<NodeId>, OutOfMemory>
-    ensures { IfOk result (λ found. IsFound found (child_by_long_name nodes.now dir.0 element.now)) }
+/// Whether a node has this long name.
+fn is_long(alloc: Global, node: &Node, element: &[u8]) -> Result<bool, OutOfMemory>
+    ensures { IfOk result (λ is. is ≡ bytes_eq (long_name_of node.now.name node.now.id) element.now) }
 {
-    for node in nodes {
-        let fits = is_long(alloc, node, dir, element)?;
-        if fits {
-            return Ok(Some(node.id));
-        }
-    }
-    Ok(None)
-}
-
-/// Whether a node is in this directory and has this long name.
-fn is_long(alloc: Global, node: &Node, dir: NodeId, element: &[u8]) -> Result<bool, OutOfMemory>
-    ensures { IfOk result (λ is. is ≡ ((node.now.parent == dir.0) && bytes_eq (long_name_of node.now.name node.now.id) element.now)) }
-{
-    if node.parent.0 != dir.0 {
-        return Ok(false);
-    }
     let long = long_name(alloc, &node.name, node.id)?;
     Ok(long.as_slice() == element)
+}
+
+/// The lower of an id and of the one that was found before, if one was.
+fn lower(found: Option<NodeId>, id: NodeId) -> NodeId
+    ensures { result.0 ≡ lower (option_id found) id.0 }
+{
+    match found {
+        Some(other) => if other.0 < id.0 { other } else { id },
+        None => id,
+    }
 }
 
 /// Whether a fork of a node is open.
@@ -180,7 +170,38 @@ impl Volume {
         ensures { IfOk result (λ found. IsFound found (child_by_long_name self.now.state.rows dir.0 (element_of long_names name.now))) }
     {
         let element = long_element(alloc, name)?;
-        find_long(alloc, self.rows.nodes(), dir, element.as_slice())
+        self.find_long(alloc, dir, element.as_slice())
+    }
+
+    /// The first child by id of a directory with this long name. Children stand by their keys, so all of them are passed.
+    fn find_long(
+        &self,
+        alloc: Global,
+        dir: NodeId,
+        element: &[u8],
+    ) -> Result<Option<NodeId>, OutOfMemory>
+        ensures { IfOk result (λ found. IsFound found (child_by_long_name self.now.state.rows dir.0 element.now)) }
+    {
+        self.keeps_sound();
+        let siblings = self.siblings(dir);
+        let mut found = None;
+        for child in siblings {
+            let fits = self.has_long(alloc, child.id, element)?;
+            if fits {
+                found = Some(lower(found, child.id));
+            }
+        }
+        Ok(found)
+    }
+
+    /// Whether the node of an id has this long name.
+    fn has_long(&self, alloc: Global, id: NodeId, element: &[u8]) -> Result<bool, OutOfMemory>
+        ensures { IfOk result (λ has. (row : Row) → row_at self.now.state.rows id.0 ≡ Some row → has ≡ bytes_eq (long_name_of row.name row.id) element.now) }
+    {
+        match self.node(id) {
+            Some(node) => is_long(alloc, node, element),
+            None => Ok(false),
+        }
     }
 
     /// Whether a directory has children.

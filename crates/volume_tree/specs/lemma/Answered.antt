@@ -1,5 +1,5 @@
 -- What private functions answer that may also be want of memory.
-use Rattle.std.specs.Prelude.{◌≡◌, ℕ, Option, Some, None, Result, Ok, Err}
+use Rattle.std.specs.Prelude.{◌≡◌, ℕ, min, Option, Some, None, Result, Ok, Err}
 use Rattle.afp_base.specs.declared.code.Code.{Code}
 use Rattle.afp_base.specs.declared.ids.NodeId.{NodeId}
 use Rattle.volume_tree.specs.declared.resolve.PlanFault.{PlanFault}
@@ -20,3 +20,8 @@ FailsAs (Err fault.Memory) wanted = Unit {0}
 abbrev pub option_id : Option NodeId → Option ℕ
 option_id None = None
 option_id (Some id) = Some id.0
+
+-- the lower of an id and of the one that was found before, if one was
+abbrev pub lower : Option ℕ → ℕ → ℕ
+lower None id = id
+lower (Some other) id = min other id
