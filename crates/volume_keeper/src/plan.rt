@@ -8,20 +8,21 @@ ghost use Rattle.volume_tree.specs.Requests.{tree_call};
 ghost use Rattle.volume_tree.specs.Shown.{opened};
 
 use crate::held::Held;
-use afp_base::{Moment, NodeId};
+use afp_base::Moment;
 use afp_requests::Call;
 use afp_volume::laws::{calls_keep_volumes_sound_for_ever, numbers_stay_in_their_ranges};
+use deny_modes::VolumeOpens;
 use std::alloc::Global;
 use volume_tree::{Plan, PlanFault, requests_are_typed};
 
 impl Held {
-    /// Why a call is refused, or what it will do to the whole volume. `opens` are the volume's open forks, each as a node and whether it is
-    /// the resource fork. Want of memory comes for no other reason.
+    /// Why a call is refused, or what it will do to the whole volume. `opens` tells which forks of the volume are open.
+    /// Want of memory comes for no other reason.
     pub fn plan(
         &self,
         alloc: Global,
         now: Moment,
-        opens: &[(NodeId, bool)],
+        opens: &VolumeOpens<'_>,
         call: &Call,
     ) -> Result<Plan, PlanFault>
         requires { IsSome (tree_call call.now) }
