@@ -21,7 +21,7 @@ use Rattle.afp_server.specs.Tally.{no_tally, tallied}
 use Rattle.afp_server.proofs.Tallies.{tallied-join}
 use Rattle.afp_server.specs.declared.tally.Tally.{Tally}
 use Rattle.afp_server.specs.Wire.{FeedStart, FeedPoint, Handled, FedSoFar, FedToEnd}
-use Rattle.afp_server.specs.lemma.Wire.{feed_point, FedTo, Feeds}
+use Rattle.afp_server.specs.Wire.{feed_point, FedTo, Feeds}
 use Rattle.afp_server.specs.lemma.Feeding.{Answers, end_of_frame}
 use Rattle.afp_server.specs.declared.stage.FrameEnd.{FrameEnd}
 use Rattle.afp_server.specs.declared.stage.FrameEnd.TheVariants as ends

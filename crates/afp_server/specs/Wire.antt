@@ -1,12 +1,12 @@
 -- What a link that is fed as bytes does (this profile).
-use Rattle.std.specs.Prelude.{◌≡◌, ℕ, ◌+◌, List, [], ◌∷◌, ◌++◌, length, Option, Some, None, All}
+use Rattle.std.specs.Prelude.{◌≡◌, ◌⊎◌, ℕ, ◌+◌, List, [], ◌∷◌, ◌++◌, length, Option, Some, None, All}
 use Rattle.afp_base.specs.declared.ids.LinkNumber.{LinkNumber}
 use Rattle.afp_serial.specs.Shown.{Shown}
 use Rattle.afp_serial.specs.Went.{Step, Went}
 use Rattle.dsi_frame.specs.Buffered.{Buffered}
 use Rattle.dsi_frame.specs.Deframe.{GivenOut}
 use Rattle.dsi_frame.specs.Frame.{Frame}
-use Rattle.dsi_frame.specs.Stream.{Begins}
+use Rattle.dsi_frame.specs.Stream.{Begins, IsUnfinished, Stopped}
 use Rattle.dsi_frame.specs.declared.frame.BadFrame.{BadFrame}
 use Rattle.afp_server.specs.LinkRun.{Fills, Parts}
 use Rattle.afp_server.specs.Replies.{spelling_of}
@@ -18,6 +18,7 @@ use Rattle.afp_server.specs.declared.stage.Stage.{Stage}
 use Rattle.afp_server.specs.declared.stage.Stage.TheVariants as stages
 use Rattle.afp_server.specs.declared.tally.Tally.{Tally}
 use Rattle.afp_server.specs.declared.wire.WireEnd.{WireEnd}
+use Rattle.afp_server.specs.declared.wire.WireEnd.TheVariants as wires
 
 -- A wire: its server's status block, what it holds of the bytes fed, how far the link has come, the tally of its last feed, and the
 -- end that was answered, if one was.
@@ -52,6 +53,9 @@ pub record FeedPoint : Type 0 where
   pub out : List ℕ
   pub shown : Shown
 
+abbrev pub feed_point : Stage → Tally → List ℕ → Shown → FeedPoint
+feed_point stage tally out shown = record { stage = stage; tally = tally; out = out; shown = shown }
+
 -- The frames were handled in order, each step at that moment, and their replies stand behind what was in `out`; the last frame
 -- may end the link.
 pub record Handled (start : FeedStart) (frames : List Frame) (end : Option FrameEnd) (p : FeedPoint) : Type 0 where
@@ -77,6 +81,12 @@ pub record FedToEnd (start : FeedStart) (bytes : List ℕ) (end : FrameEnd) (p :
   pub fills : Fills bytes (start.past ++ frames) left
   pub closing : p.stage ≡ stages.Closing
 
+-- Behind the frames handled there is a bad header.
+pub record FedToHeader (start : FeedStart) (bytes : List ℕ) (b : BadFrame) (p : FeedPoint) : Type 0 where
+  pub frames : List Frame
+  pub handled : Handled start frames None p
+  pub stopped : Stopped bytes (start.past ++ frames) b.at b.reason
+
 -- The last frame may not come where it came; it begins where those before it end.
 pub record FedToFrame (start : FeedStart) (bytes : List ℕ) (b : BadFrame) (p : FeedPoint) : Type 0 where
   pub before : List Frame
@@ -86,6 +96,25 @@ pub record FedToFrame (start : FeedStart) (bytes : List ℕ) (b : BadFrame) (p :
   pub fills : Fills bytes (start.past ++ before) left
   pub begins : Begins left last
   pub place : b.at + length left ≡ length bytes
+
+-- There was no memory before the next frame: some frames were handled, in order, and no step is of another one.
+pub record FedInPart (start : FeedStart) (bytes : List ℕ) (p : FeedPoint) : Type 0 where
+  pub frames : List Frame
+  pub handled : Handled start frames None p
+  pub left : List ℕ
+  pub fills : Fills bytes (start.past ++ frames) left
+
+-- why it ended
+abbrev pub FedTo : FeedStart → List ℕ → WireEnd → FeedPoint → Type 0
+FedTo start bytes wires.Closed p = FedToEnd start bytes ends.Closed p
+FedTo start bytes wires.Displaced p = FedToEnd start bytes ends.Displaced p
+FedTo start bytes (wires.Bad b) p = FedToHeader start bytes b p ⊎ FedToFrame start bytes b p
+FedTo start bytes wires.Memory p = FedInPart start bytes p
+
+-- All whole frames of these bytes were handled, and less than a frame is left; or the link ended.
+abbrev pub Feeds : FeedStart → List ℕ → Option WireEnd → Buffered → FeedPoint → Type 0
+Feeds start bytes None held p = FedSoFar start bytes held p × IsUnfinished held.rest
+Feeds start bytes (Some end) held p = FedTo start bytes end p
 
 -- The end of a link, with what was asked at it.
 pub record PartsBy (stage : Stage) (now : ℕ) (before after : Shown) : Type 0 where

@@ -5,4 +5,3 @@ pub mod Reading
 pub mod Sending
 pub mod Serving
 pub mod SessionState
-pub mod Wire

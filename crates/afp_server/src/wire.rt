@@ -8,7 +8,7 @@ ghost use Rattle.dsi_frame.specs.Stream.{Begins};
 ghost use Rattle.afp_server.specs.Wire.{PartsBy};
 ghost use Rattle.afp_server.specs.Tally.{no_tally};
 ghost use Rattle.afp_server.specs.Wire.{FeedStart, FedSoFar, open_link};
-ghost use Rattle.afp_server.specs.lemma.Wire.{Feeds, feed_point};
+ghost use Rattle.afp_server.specs.Wire.{Feeds, feed_point};
 ghost use Rattle.afp_server.specs.lemma.Feeding.{FeedsFrame, Answers, end_of_frame};
 
 use crate::reply::MOST_REPLY;

@@ -17,7 +17,7 @@ use Rattle.capture_log.specs.Judged.{Decides, DecidesEnd}
 use Rattle.capture_log.specs.lemma.Judged.{IsSame}
 use Rattle.capture_server.specs.Counting.{refused_in}
 use Rattle.capture_server.specs.Running.{IsFreshRunning}
-use Rattle.capture_server.specs.lemma.Running.{HappensBy}
+use Rattle.capture_server.specs.Running.{HappensBy}
 use Rattle.capture_server.specs.CaptureState.{CaptureState, Says, Happens, FeedsUnless, PulsesIf, LosesIf, part_after, is_refused, is_refused_on, is_bad, start_at}
 use Rattle.capture_server.specs.States.{ConnectionState, RunningState, IsConnection, IsRunning, unused_state}
 use Rattle.capture_log.specs.lemma.SetUp.{IsSetUp}

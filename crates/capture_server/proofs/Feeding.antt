@@ -8,7 +8,7 @@ use Rattle.dsi_frame.specs.Frame.{Frame}
 use Rattle.afp_server.specs.LinkRun.{Fills}
 use Rattle.afp_server.specs.Tally.{answered_after}
 use Rattle.afp_server.specs.Wire.{WireState, Handled}
-use Rattle.afp_server.specs.lemma.Wire.{feed_point, Feeds}
+use Rattle.afp_server.specs.Wire.{feed_point, Feeds}
 use Rattle.afp_server.specs.declared.stage.FrameEnd.{FrameEnd}
 use Rattle.afp_server.specs.declared.stage.FrameEnd.TheVariants as ends
 use Rattle.afp_server.specs.declared.tally.Tally.{Tally}

@@ -25,7 +25,7 @@ use Rattle.capture_server.specs.declared.difference.Difference.{Difference}
 use Rattle.capture_server.specs.Counting.{refused_in}
 use Rattle.capture_server.specs.lemma.Moves.{Extends, FeedsConnection, RestsConnection, LosesConnection}
 use Rattle.capture_server.specs.Running.{AreUnused, Happened}
-use Rattle.capture_server.specs.lemma.Running.{HappensBy}
+use Rattle.capture_server.specs.Running.{HappensBy}
 use Rattle.capture_server.specs.lemma.Slots.{IsFit, FeedsAt, RestsAt, LosesAt, ComparesAt}
 use Rattle.capture_server.specs.CaptureState.{CaptureState, FeedsUnless, PulsesIf, LosesIf, after_quiet, after_loss, put, world_at, start_at}
 use Rattle.capture_server.specs.States.{ConnectionState, RunningState, IsConnection, IsRunning, IsTeller, unused_state}

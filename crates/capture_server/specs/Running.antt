@@ -1,10 +1,13 @@
 -- What the calls on a server that is replayed on do (this profile).
-use Rattle.std.specs.Prelude.{◌≡◌, ℕ, List, [], length, slice_get, Some}
+use Rattle.std.specs.Prelude.{◌≡◌, ℕ, List, [], length, drop, slice_get, Option, Some, None}
 use Rattle.afp_serial.specs.Household.{Household}
 use Rattle.afp_serial.specs.World.{fresh_world}
 use Rattle.capture_lines.specs.declared.line.What.{What}
+use Rattle.capture_lines.specs.declared.line.What.TheVariants.{Out}
+use Rattle.capture_server.specs.Connections.{difference, output}
 use Rattle.capture_server.specs.CaptureState.{CaptureState, Happens}
 use Rattle.capture_server.specs.States.{ConnectionState, RunningState, IsRunning, unused_state}
+use Rattle.capture_server.specs.declared.difference.Difference.{Difference}
 
 -- none of them was named
 abbrev pub AreUnused : List ConnectionState → Type 0
@@ -27,3 +30,13 @@ pub record Happened (s : CaptureState) (link now : ℕ) (what : What) (first : �
   pub happens : Happens s link now what after
   pub is : IsRunning r after first
   pub start : after.start ≡ s.start
+
+-- Bytes were compared, and one differs.
+pub record Differed (s : CaptureState) (link : ℕ) (what : What) (d : Difference) : Type 0 where
+  pub bytes : List ℕ
+  pub shows : what ≡ Out bytes
+  pub found : difference (s.connections link).named bytes (drop (s.connections link).named (output (s.connections link))) ≡ Some d
+
+abbrev pub HappensBy : CaptureState → ℕ → ℕ → What → ℕ → Option Difference → RunningState → Type 0
+HappensBy s link now what first None r = Happened s link now what first r
+HappensBy s link now what first (Some d) r = Differed s link what d

@@ -1,5 +1,4 @@
 pub mod Moves
-pub mod Running
 pub mod Slots
 pub mod States
 pub mod Tellers

@@ -2,7 +2,7 @@
 ghost use Rattle.std.specs.Prelude.{◌≡◌, ◌<◌, ◌≤◌, ℕ, suc, false, Some, IfOk, OnOk, length};
 ghost use Rattle.capture_lines.specs.declared.line.What.{What};
 ghost use Rattle.capture_server.specs.Running.{AreUnused, Happened};
-ghost use Rattle.capture_server.specs.lemma.Running.{HappensBy};
+ghost use Rattle.capture_server.specs.Running.{HappensBy};
 ghost use Rattle.capture_server.specs.CaptureState.{CaptureState, is_refused_on};
 ghost use Rattle.capture_server.specs.lemma.Tellers.{NeverFails};
 ghost use Rattle.afp_serial.specs.World.{fresh_world};

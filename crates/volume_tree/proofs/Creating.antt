@@ -18,7 +18,8 @@ use Rattle.afp_volume.specs.SoundVolume.{IsSoundVolume, has_node, has_apart_name
 use Rattle.afp_volume.specs.VolumeState.{Row, VolumeState, new_row}
 use Rattle.afp_volume.specs.Walk.{Place, new_place, child_by_key}
 use Rattle.volume_tree.specs.lemma.Answered.{IsFound, option_id}
-use Rattle.volume_tree.specs.Planned.{IsPlan, IsNew, planned, plan_new, gone_rows}
+use Rattle.volume_tree.specs.Planned.{IsPlan, IsNew, planned, gone_rows}
+use Rattle.volume_tree.specs.lemma.Planned.{plan_new}
 
 -- a plan of a new node is what creates it
 new-planned : (v : VolumeState) (now : ℕ) (dir : Bool) (id parent : NodeId) (name : List ℕ) → id.0 ≡ v.next_id → planned (plan_new now dir id parent name None) v ≡ created dir now v (record { dir = parent.0; name = name })

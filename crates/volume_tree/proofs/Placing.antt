@@ -14,7 +14,8 @@ use Rattle.afp_volume.specs.SoundVolume.{IsSoundVolume, has_node}
 use Rattle.afp_volume.specs.VolumeState.{Row, VolumeState}
 use Rattle.afp_volume.specs.Walk.{found, one_down, one_down_or, row_at, parent_at}
 use Rattle.volume_tree.proofs.Showing.{ids-differ}
-use Rattle.volume_tree.specs.Planned.{IsPlan, planned, plan_place}
+use Rattle.volume_tree.specs.Planned.{IsPlan, planned}
+use Rattle.volume_tree.specs.lemma.Planned.{plan_place}
 
 -- another name in its directory is the same place with another name
 renamed-is : (v : VolumeState) (id : ℕ) (name : List ℕ) → are_apart (λ (a b : Row). a.id == b.id) v.rows ≡ true → has_node v.rows id ≡ true → with_changed id (at_place (directory_of v.rows id) name) v.rows ≡ with_changed id (named name) v.rows

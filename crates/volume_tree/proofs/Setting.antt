@@ -9,7 +9,8 @@ use Rattle.afp_volume.specs.SetVolParms.{set_vol_parms_effect}
 use Rattle.afp_volume.specs.SoundVolume.{IsSoundVolume}
 use Rattle.afp_volume.specs.VolumeState.{VolumeState}
 use Rattle.afp_volume.specs.Walk.{found}
-use Rattle.volume_tree.specs.Planned.{PlanState, IsPlan, planned, plan_set}
+use Rattle.volume_tree.specs.Planned.{PlanState, IsPlan, planned}
+use Rattle.volume_tree.specs.lemma.Planned.{plan_set}
 
 set-is : (v : VolumeState) (now id : ℕ) (settings : Settings) → planned (plan_set now (Some (record { id = id; settings = settings })) None) v ≡ with_node_set now id settings v
 unfolding planned with_node_set

@@ -4,7 +4,7 @@ use Rattle.std.specs.List.{filter}
 use Rattle.afp_base.specs.declared.ids.NodeId.{NodeId}
 use Rattle.afp_names.specs.Name.{name_key}
 use Rattle.afp_volume.specs.DesktopLaws.{with_desktop}
-use Rattle.afp_volume.specs.VolumeState.{Row, VolumeState, Comment, Icon, Appl, new_row}
+use Rattle.afp_volume.specs.VolumeState.{Row, VolumeState, Comment, Icon, Appl}
 use Rattle.afp_volume.specs.SoundVolume.{IsSoundVolume, has_node}
 use Rattle.afp_volume.specs.Walk.{child_by_key}
 use Rattle.afp_volume.specs.SetFileDirParms.{Settings, with_settings}
@@ -103,15 +103,3 @@ pub record IsPlan (v : VolumeState) (p : PlanState) : Type 0 where
   pub come : IfSome p.come (IsNew (gone_rows p.gone v.rows) v.next_id)
   pub moved : IfSome p.moved (λ (move : Move). is_taken (come_rows p.come (gone_rows p.gone v.rows)) move.id move.parent move.name ≡ false)
   pub sound : IsSoundVolume (planned p v)
-
--- a new file or directory, in the place of a node that goes
-abbrev pub plan_new : ℕ → Bool → NodeId → NodeId → List ℕ → Option NodeId → PlanState
-plan_new now dir id parent name gone = record { moment = now; gone = gone; come = Some (new_row dir id.0 parent.0 name now); moved = None; set = None; backup = None; dated = Some parent; dated_too = None }
-
--- a node's new place, and the directories whose children change
-abbrev pub plan_place : ℕ → NodeId → NodeId → List ℕ → NodeId → Option NodeId → PlanState
-plan_place now id parent name dated dated_too = record { moment = now; gone = None; come = None; moved = Some (record { id = id.0; parent = parent.0; name = name }); set = None; backup = None; dated = Some dated; dated_too = dated_too }
-
--- the settings of a node, or none
-abbrev pub plan_set : ℕ → Option SetNode → Option ℤ → PlanState
-plan_set now set backup = record { moment = now; gone = None; come = None; moved = None; set = set; backup = backup; dated = None; dated_too = None }

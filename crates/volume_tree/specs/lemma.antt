@@ -3,6 +3,7 @@ pub mod After
 pub mod Answered
 pub mod ForkEffect
 pub mod Kept
+pub mod Planned
 pub mod Restored
 pub mod Tails
 pub mod TouchedNodes

@@ -3,7 +3,8 @@ ghost use Rattle.std.specs.Prelude.{◌≡◌, true, Some, None, IfOk};
 ghost use Rattle.afp_names.specs.Name.{name_key};
 ghost use Rattle.afp_volume.specs.CreateDir.{create_dir_refusal, create_dir_effect};
 ghost use Rattle.volume_tree.specs.Answered.{Refuses};
-ghost use Rattle.volume_tree.specs.Planned.{Does, IsPlan, planned, plan_new};
+ghost use Rattle.volume_tree.specs.Planned.{Does, IsPlan, planned};
+ghost use Rattle.volume_tree.specs.lemma.Planned.{plan_new};
 
 use crate::places::steps_are_named;
 use crate::plan::{Comer, Plan};

@@ -4,7 +4,8 @@ ghost use Rattle.afp_names.specs.Name.{name_key};
 ghost use Rattle.afp_volume.specs.Shared.{directory_of};
 ghost use Rattle.afp_volume.specs.Rename.{rename_refusal, rename_effect};
 ghost use Rattle.volume_tree.specs.Answered.{Refuses};
-ghost use Rattle.volume_tree.specs.Planned.{Does, IsPlan, planned, plan_place};
+ghost use Rattle.volume_tree.specs.Planned.{Does, IsPlan, planned};
+ghost use Rattle.volume_tree.specs.lemma.Planned.{plan_place};
 
 use crate::places::{only_name, steps_are_named};
 use crate::plan::{Mover, Plan};

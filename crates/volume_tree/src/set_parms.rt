@@ -5,7 +5,8 @@ ghost use Rattle.afp_volume.specs.SetFileDirParms.{settable_bits, settable_dir_b
 ghost use Rattle.afp_volume.specs.SoundVolume.{has_file};
 ghost use Rattle.afp_volume.specs.Walk.{found};
 ghost use Rattle.volume_tree.specs.Answered.{Refuses};
-ghost use Rattle.volume_tree.specs.Planned.{Does, IsPlan, planned, plan_set};
+ghost use Rattle.volume_tree.specs.Planned.{Does, IsPlan, planned};
+ghost use Rattle.volume_tree.specs.lemma.Planned.{plan_set};
 
 use crate::plan::{Plan, Setting};
 use crate::resolve::PlanFault;

@@ -15,7 +15,7 @@ use Rattle.afp_server.specs.declared.stage.FrameEnd.TheVariants as ends
 use Rattle.afp_server.specs.declared.wire.WireEnd.{WireEnd}
 use Rattle.afp_server.specs.declared.wire.WireEnd.TheVariants as wires
 use Rattle.afp_server.specs.Wire.{FeedStart, FeedPoint, FedSoFar}
-use Rattle.afp_server.specs.lemma.Wire.{FedTo}
+use Rattle.afp_server.specs.Wire.{FedTo}
 
 -- The frame at the front was handled: the link goes on, or ends.
 abbrev pub FeedsFrame : FeedStart → List ℕ → Option WireEnd → Buffered → FeedPoint → Type 0
