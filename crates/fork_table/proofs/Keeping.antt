@@ -20,7 +20,10 @@ use Rattle.range_locks.specs.declared.fault.NotLocked.{NotLocked}
 use Rattle.range_locks.specs.Locks.{Lock, SetsLock, TakesLock, with_lock, without_holder, is_lock, exchange_lock, exchanged_locks}
 use Rattle.fork_table.specs.declared.open_fork.OpenFork.{OpenFork}
 use Rattle.fork_table.specs.ForkTable.{Table, plain, plain_opens, is_open, is_held, closing, exchange_row, forks_of}
-use Rattle.fork_table.specs.Kept.{IsTable}
+use Rattle.fork_table.specs.lemma.Kept.{IsTable}
+use Rattle.fork_table.specs.lemma.Own.{AreOwn}
+use Rattle.fork_table.specs.declared.own.OwnRef.{OwnRef}
+use Rattle.fork_table.proofs.Owning.{own_exchanged}
 use Rattle.fork_table.proofs.References.{Rise, Above, lower, higher, same_number, shows_new, shows_less, fresh_row}
 
 -- ---- tests
@@ -136,12 +139,27 @@ any_new p (e ∷ es) r v none = elim (nat_cmp r e.0) as (λ o. cond (is_eq o) (S
   | Greater ↦ λ none. ap (λ t. p e || t) (any_new p es r v none) ∙ or_swap (p e) (p (r, v)) (list_any p es)
 ] none
 
+all_new : (p : ℕ × OpenFork → Bool) (rows : List (ℕ × OpenFork)) (r : ℕ) (v : OpenFork) → at nat_cmp rows r ≡ None → p (r, v) ≡ true → list_all p rows ≡ true → list_all p (insert_entry nat_cmp rows r v) ≡ true
+all_new p [] r v none here h = ap (λ b. b && true) here
+all_new p (e ∷ es) r v none here h = elim (nat_cmp r e.0) as (λ o. cond (is_eq o) (Some e.1) (at nat_cmp es r) ≡ None → list_all p (match_ordering o ((r, v) ∷ e ∷ es) ((e.0, v) ∷ es) (e ∷ insert_entry nat_cmp es r v)) ≡ true) [
+  | Less ↦ λ none. (λ i. here i && h i)
+  | Equal ↦ λ none. absurd (cc none)
+  | Greater ↦ λ none. let parts = and_parts (p e) (list_all p es) h in (λ i. parts.0 i && all_new p es r v none here parts.1 i)
+] none
+
 pub fresh : (rows : List (ℕ × OpenFork)) (r : ℕ) → is_open rows r ≡ false → has_reference (plain_opens rows) r ≡ false
 fresh rows r free = any_map (λ (o : Open). o.reference == r) plain rows ∙ free
 
-pub table_opened : {rows rows' : List (ℕ × OpenFork)} {opens opens' : List Open} {locks : List Lock} (r : ℕ) (v : OpenFork) → IsTable rows opens locks → is_open rows r ≡ false → rows' ≡ insert_entry nat_cmp rows r v → opens' ≡ with_open (plain (r, v)) opens → IsTable rows' opens' locks
-table_opened {rows = rows} {rows' = rows'} {locks = locks} r v t free rows_are opens_are =
-    let absent = fresh_row rows r (fresh rows r free) in record {
+pub no_row : (rows : List (ℕ × OpenFork)) (r : ℕ) → is_open rows r ≡ false → at nat_cmp rows r ≡ None
+no_row rows r free = fresh_row rows r (fresh rows r free)
+
+pub table_opened : {rows rows' : List (ℕ × OpenFork)} {own own' : List (OwnRef × Unit {0})} {opens opens' : List Open} {locks : List Lock} (r : ℕ) (v : OpenFork) → IsTable rows own opens locks → 1 ≤ r → is_open rows r ≡ false
+    → rows' ≡ insert_entry nat_cmp rows r v → AreOwn rows' own' → opens' ≡ with_open (plain (r, v)) opens → IsTable rows' own' opens' locks
+table_opened {rows = rows} {rows' = rows'} {locks = locks} r v t from_one free rows_are own_are opens_are =
+    let absent = no_row rows r free in
+    let positive : nat_lt 0 r ≡ true = grind (arith, nat_tests, from_one) in record {
+      from_one = ap (list_all (λ (row : ℕ × OpenFork). nat_lt 0 row.0)) rows_are ∙ all_new (λ row. nat_lt 0 row.0) rows r v absent positive t.from_one;
+      sessions = own_are;
       shown = opens_are ∙ ap (with_open (plain (r, v))) t.shown ∙ sym (shows_new rows r v absent) ∙ ap plain_opens (sym rows_are);
       held = ap (λ l. list_all (is_held l) locks) rows_are ∙ all_more (is_held rows) (is_held (insert_entry nat_cmp rows r v)) locks (λ l h.
           any_new (λ (row : ℕ × OpenFork). (row.0 == l.reference) && is_one_fork row.1.fork l.fork) rows r v absent ∙ or_right _ _ h) t.held;
@@ -156,6 +174,14 @@ forgotten (o ∷ os) new none =
       | true ↦ ap (λ b. if not b then new ∷ without_reference new.reference (o ∷ os) else without_reference new.reference (o ∷ os)) (number_itself new.reference) ∙ none_go (λ (x : Open). x.reference == new.reference) (o ∷ os) none
       | false ↦ ap (λ b. if not b then o ∷ without_reference new.reference (with_open new os) else without_reference new.reference (with_open new os)) parts.0 ∙ ap (λ l. o ∷ l) (forgotten os new parts.1)
     ]
+
+pub table_same : {rows rows' : List (ℕ × OpenFork)} {own own' : List (OwnRef × Unit {0})} {opens opens' : List Open} {locks : List Lock} → IsTable rows own opens locks → rows' ≡ rows → own' ≡ own → opens' ≡ opens → IsTable rows' own' opens' locks
+table_same {rows = rows} {rows' = rows'} {own = own} {own' = own'} {locks = locks} t rows_are own_are opens_are = record {
+  from_one = ap (list_all (λ (row : ℕ × OpenFork). nat_lt 0 row.0)) rows_are ∙ t.from_one;
+  sessions = subst (λ l. AreOwn l own') (sym rows_are) (subst (AreOwn rows) (sym own_are) t.sessions);
+  shown = opens_are ∙ t.shown ∙ sym (ap plain_opens rows_are);
+  held = ap (λ l. list_all (is_held l) locks) rows_are ∙ t.held;
+}
 
 -- ---- locks
 pub found_held : (rows : List (ℕ × OpenFork)) (r : ℕ) (f : Fork) → Some f ≡ option_map (λ o. o.fork) (at nat_cmp rows r) → list_any (λ row. (row.0 == r) && is_one_fork row.1.fork f) rows ≡ true
@@ -191,11 +217,11 @@ takes_all : (q : Lock → Bool) (old new : List Lock) (f : Fork) (r : ℕ) (rang
 takes_all q old new f r range (Ok done) s h = ap (list_all q) s.1 ∙ all_filter q q (λ l. not (is_lock f r range l)) old (λ l k p. p) h
 takes_all q old new f r range (Err fault) s h = ap (list_all q) s.1 ∙ h
 
-pub table_locked : {rows : List (ℕ × OpenFork)} {opens : List Open} {locks locks' : List Lock} (f : Fork) (r : ℕ) (range : Range) (res : Result (Unit {0}) LockFault) → IsTable rows opens locks → Some f ≡ option_map (λ o. o.fork) (at nat_cmp rows r) → SetsLock locks f r range res locks' → IsTable rows opens locks'
-table_locked {rows = rows} {locks = locks} {locks' = locks'} f r range res t found set = record { shown = t.shown; held = sets_all (is_held rows) locks locks' f r range res set (found_held rows r f found) t.held }
+pub table_locked : {rows : List (ℕ × OpenFork)} {own : List (OwnRef × Unit {0})} {opens : List Open} {locks locks' : List Lock} (f : Fork) (r : ℕ) (range : Range) (res : Result (Unit {0}) LockFault) → IsTable rows own opens locks → Some f ≡ option_map (λ o. o.fork) (at nat_cmp rows r) → SetsLock locks f r range res locks' → IsTable rows own opens locks'
+table_locked {rows = rows} {locks = locks} {locks' = locks'} f r range res t found set = record { from_one = t.from_one; sessions = t.sessions; shown = t.shown; held = sets_all (is_held rows) locks locks' f r range res set (found_held rows r f found) t.held }
 
-pub table_unlocked : {rows : List (ℕ × OpenFork)} {opens : List Open} {locks locks' : List Lock} (f : Fork) (r : ℕ) (range : Range) (res : Result (Unit {0}) NotLocked) → IsTable rows opens locks → TakesLock locks f r range res locks' → IsTable rows opens locks'
-table_unlocked {rows = rows} {locks = locks} {locks' = locks'} f r range res t taken = record { shown = t.shown; held = takes_all (is_held rows) locks locks' f r range res taken t.held }
+pub table_unlocked : {rows : List (ℕ × OpenFork)} {own : List (OwnRef × Unit {0})} {opens : List Open} {locks locks' : List Lock} (f : Fork) (r : ℕ) (range : Range) (res : Result (Unit {0}) NotLocked) → IsTable rows own opens locks → TakesLock locks f r range res locks' → IsTable rows own opens locks'
+table_unlocked {rows = rows} {locks = locks} {locks' = locks'} f r range res t taken = record { from_one = t.from_one; sessions = t.sessions; shown = t.shown; held = takes_all (is_held rows) locks locks' f r range res taken t.held }
 
 -- ---- an open that goes
 none_less : (r : ℕ) (rows : List (ℕ × OpenFork)) → Above r rows → filter (λ row. not (row.0 == r)) rows ≡ rows
@@ -219,8 +245,10 @@ less_is (e ∷ es) r s = elim (nat_cmp r e.0) as (λ o. nat_cmp r e.0 ≡ o → 
     kept : (e.0 == r) ≡ false → e ∷ filter (λ row. not (row.0 == r)) es ≡ filter (λ row. not (row.0 == r)) (e ∷ es)
     kept other = ap (λ b. if not b then e ∷ filter (λ row. not (row.0 == r)) es else filter (λ row. not (row.0 == r)) es) (sym other)
 
-pub table_closed : {rows rows' : List (ℕ × OpenFork)} {opens opens' : List Open} {locks locks' : List Lock} (r : ℕ) → IsTable rows opens locks → Rise rows → rows' ≡ remove_entry (is_at (nat_cmp r)) rows → opens' ≡ without_reference r opens → locks' ≡ without_holder r locks → IsTable rows' opens' locks'
-table_closed {rows = rows} {rows' = rows'} {locks = locks} r t rise rows_are opens_are locks_are = record {
+pub table_closed : {rows rows' : List (ℕ × OpenFork)} {own own' : List (OwnRef × Unit {0})} {opens opens' : List Open} {locks locks' : List Lock} (r : ℕ) → IsTable rows own opens locks → Rise rows → rows' ≡ remove_entry (is_at (nat_cmp r)) rows → AreOwn rows' own' → opens' ≡ without_reference r opens → locks' ≡ without_holder r locks → IsTable rows' own' opens' locks'
+table_closed {rows = rows} {rows' = rows'} {locks = locks} r t rise rows_are own_are opens_are locks_are = record {
+  from_one = ap (list_all (λ (row : ℕ × OpenFork). nat_lt 0 row.0)) (rows_are ∙ less_is rows r rise) ∙ all_filter (λ row. nat_lt 0 row.0) (λ row. nat_lt 0 row.0) (λ row. not (row.0 == r)) rows (λ row k h. h) t.from_one;
+  sessions = own_are;
   shown = opens_are ∙ ap (without_reference r) t.shown ∙ sym (shows_less rows r rise) ∙ ap plain_opens (sym rows_are);
   held = (λ i. list_all (is_held ((rows_are ∙ less_is rows r rise) i)) (locks_are i))
       ∙ all_filter (is_held rows) (is_held (filter (λ row. not (row.0 == r)) rows)) (λ l. not (l.reference == r)) locks (λ l stays h.
@@ -297,8 +325,10 @@ shorter p (e ∷ es) r h = elim (e.0 == r) as (λ b. ((b && p e) || list_any (λ
     at_most (x ∷ xs) = let more = at_most xs in elim (x.0 == r) as (λ b. length (if not b then x ∷ filter (λ row. not (row.0 == r)) xs else filter (λ row. not (row.0 == r)) xs) ≤ suc (length xs)) [ true ↦ omega (arith, more) | false ↦ omega (arith, more) ]
 
 -- ---- two forks change places
-pub table_exchanged : {rows rows' : List (ℕ × OpenFork)} {opens opens' : List Open} {locks locks' : List Lock} (a b : Fork) → IsTable rows opens locks → rows' ≡ map (exchange_row a b) rows → opens' ≡ exchanged_opens a b opens → locks' ≡ exchanged_locks a b locks → IsTable rows' opens' locks'
-table_exchanged {rows = rows} {rows' = rows'} {locks = locks} a b t rows_are opens_are locks_are = record {
+pub table_exchanged : {rows rows' : List (ℕ × OpenFork)} {own : List (OwnRef × Unit {0})} {opens opens' : List Open} {locks locks' : List Lock} (a b : Fork) → IsTable rows own opens locks → rows' ≡ map (exchange_row a b) rows → opens' ≡ exchanged_opens a b opens → locks' ≡ exchanged_locks a b locks → IsTable rows' own opens' locks'
+table_exchanged {rows = rows} {rows' = rows'} {own = own} {locks = locks} a b t rows_are opens_are locks_are = record {
+  from_one = ap (list_all (λ (row : ℕ × OpenFork). nat_lt 0 row.0)) rows_are ∙ all_map (λ (row : ℕ × OpenFork). nat_lt 0 row.0) (exchange_row a b) rows ∙ t.from_one;
+  sessions = own_exchanged rows own t.sessions a b rows_are;
   shown = opens_are ∙ ap (exchanged_opens a b) t.shown ∙ shows rows ∙ ap plain_opens (sym rows_are);
   held = (λ i. list_all (is_held (rows_are i)) (locks_are i)) ∙ all_map (is_held (map (exchange_row a b) rows)) (exchange_lock a b) locks
       ∙ all_more (is_held rows) (λ l. is_held (map (exchange_row a b) rows) (exchange_lock a b l)) locks (λ l h.

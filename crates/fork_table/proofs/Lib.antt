@@ -1,2 +1,4 @@
+pub mod Entries
 pub mod Keeping
+pub mod Owning
 pub mod References

@@ -1,8 +1,10 @@
 -- Rows by rising reference, and the opens that they show.
-use Rattle.std.proofs.Common.{◌≡◌, ◌∙◌, refl, sym, ap, subst, ℕ, zero, suc, ◌+◌, ◌<◌, ◌≤◌, Bool, true, false, cond, not, ◌||◌, ◌==◌, if◌then◌else◌, List, [], ◌∷◌, ◌++◌, length, map, take, drop, Some, None, arith}
+use Rattle.std.proofs.Common.{◌-◌, ◌&&◌, inl, inr, ◌≡◌, ◌∙◌, refl, sym, ap, subst, ℕ, zero, suc, ◌+◌, ◌<◌, ◌≤◌, Bool, true, false, cond, not, ◌||◌, ◌==◌, if◌then◌else◌, List, [], ◌∷◌, ◌++◌, length, map, take, drop, Some, None, arith}
 use Rattle.std.specs.Prelude.{nat_lt, slice_index_or, slice_set}
-use Rattle.std.specs.List.{AllByRecursion}
-use Rattle.std.proofs.Math.Seq.{drop-cons}
+use Rattle.std.specs.List.{AllByRecursion, list_all}
+use Rattle.std.proofs.lemmas.Bool.{cases_Bool, cases_lt}
+use Rattle.std.proofs.lemmas.List.{get_or_default}
+use Rattle.std.proofs.lemmas.List.Folds.{Any-from_list_any, list_any_at}
 use Rattle.std.proofs.lemmas.List.Edits.{map_over_more}
 use Rattle.afp_base.specs.DenyMode.{Fork}
 use Rattle.std.specs.List.Sorted.{IsStrictlySortedBy}
@@ -17,9 +19,9 @@ use Rattle.fork_table.specs.declared.open_fork.OpenFork.{OpenFork}
 use Rattle.fork_table.specs.ForkTable.{plain, plain_opens, is_open, IsLowestFree, exchange_row}
 use Rattle.deny_modes.specs.Opens.{has_reference, in_exchange, with_open, without_reference}
 
-or_right : (a b : Bool) → b ≡ true → (a || b) ≡ true
-or_right true b h = refl
-or_right false b h = h
+and_parts : (a b : Bool) → (a && b) ≡ true → (a ≡ true) × (b ≡ true)
+and_parts true b h = (refl, h)
+and_parts false b h = absurd (cc h)
 
 abbrev pub Rise : List (ℕ × OpenFork) → Type 0
 Rise rows = IsStrictlySortedBy nat_cmp (keys_of rows)
@@ -30,26 +32,11 @@ Above r rows = AllByRecursion (λ k. nat_cmp r k ≡ Less) (keys_of rows)
 pub lower : (m n : ℕ) → nat_cmp m n ≡ Less → m < n
 lower m n e = ranked m n Less (sym e)
 
-is_lower : (m n : ℕ) → m < n → nat_cmp m n ≡ Less
-is_lower m n h = grind (arith, nat_tests)
-
 pub same_number : (m n : ℕ) → nat_cmp m n ≡ Equal → m ≡ n
 same_number m n e = ranked m n Equal (sym e)
 
 pub higher : (m n : ℕ) → nat_cmp m n ≡ Greater → n < m
 higher m n e = ranked m n Greater (sym e)
-
-pub still_above : (r k : ℕ) (rows : List (ℕ × OpenFork)) → nat_cmp r k ≡ Less → Above k rows → Above r rows
-still_above r k [] h a = tt
-still_above r k (e ∷ es) h a = (is_lower r e.0 (let x = lower r k h in let y = lower k e.0 a.0 in omega arith), still_above r k es h a.1)
-
-none_above : (r : ℕ) (rows : List (ℕ × OpenFork)) → Above r rows → at nat_cmp rows r ≡ None
-none_above r [] a = refl
-none_above r (e ∷ es) a = ap (λ o. cond (is_eq o) (Some e.1) (at nat_cmp es r)) a.0 ∙ none_above r es a.1
-
-put_first : (r : ℕ) (v : OpenFork) (rows : List (ℕ × OpenFork)) → Above r rows → insert_entry nat_cmp rows r v ≡ (r, v) ∷ rows
-put_first r v [] a = refl
-put_first r v (e ∷ es) a = ap (λ o. match_ordering o ((r, v) ∷ e ∷ es) ((e.0, v) ∷ es) (e ∷ insert_entry nat_cmp es r v)) a.0
 
 -- a reference that no open has is at no row
 pub fresh_row : (rows : List (ℕ × OpenFork)) (r : ℕ) → has_reference (plain_opens rows) r ≡ false → at nat_cmp rows r ≡ None
@@ -101,75 +88,99 @@ shows_less (e ∷ es) r s = elim (nat_cmp r e.0) as (λ o. nat_cmp r e.0 ≡ o �
     kept other = ap (λ b. if not b then plain e ∷ without_reference r (plain_opens es) else without_reference r (plain_opens es)) (sym other)
 
 -- ---- the lowest free reference
-abbrev pub next_free : ℕ → List (ℕ × OpenFork) → ℕ
-next_free n [] = n
-next_free n (row ∷ rows) = next_free (if row.0 == n then suc n else n) rows
-
-from_there : (n : ℕ) (rows : List (ℕ × OpenFork)) → n ≤ next_free n rows
-from_there n [] = omega arith
-from_there n (row ∷ rows) = elim (row.0 == n) as (λ b. n ≤ next_free (if b then suc n else n) rows) [
-  | true ↦ let more = from_there (suc n) rows in omega (arith, more)
-  | false ↦ from_there n rows
-]
-
-stays_below : (n : ℕ) (rows : List (ℕ × OpenFork)) → Above n rows → next_free n rows ≡ n
-stays_below n [] a = refl
-stays_below n (row ∷ rows) a =
-    let other : (row.0 == n) ≡ false = (let h = lower n row.0 a.0 in grind (arith, nat_tests)) in
-    ap (λ b. next_free (if b then suc n else n) rows) other ∙ stays_below n rows a.1
-
-not_taken : (n : ℕ) (rows : List (ℕ × OpenFork)) → Rise rows → is_open rows (next_free n rows) ≡ false
+-- a row behind a number is as much above it as there are rows between
+above_at : (rows : List (ℕ × OpenFork)) (j n : ℕ) (d : ℕ × OpenFork) → Above n rows → Rise rows → j < length rows → n + j + 1 ≤ (slice_index_or rows j d).0
 unfolding IsStrictlySortedBy
-not_taken n [] s = refl
-not_taken n (row ∷ rows) s = elim (row.0 == n) as (λ b. (row.0 == n) ≡ b → is_open (row ∷ rows) (next_free (if b then suc n else n) rows) ≡ false) [
-  | true ↦ λ same.
-      let high = from_there (suc n) rows in
-      let m = next_free (suc n) rows in
-      let other : (row.0 == m) ≡ false = grind (arith, nat_tests, same, high) in
-      (λ i. other i || not_taken (suc n) rows s.1 i)
-  | false ↦ λ third.
-      let m = next_free n rows in
-      let other : (row.0 == m) ≡ false = elim (nat_cmp n row.0) as (λ o. nat_cmp n row.0 ≡ o → (row.0 == m) ≡ false) [
-        | Less ↦ λ is. let stay : m ≡ n = stays_below n rows (still_above n row.0 rows is s.0) in grind (arith, nat_tests, stay, third)
-        | Equal ↦ λ is. absurd (let one = same_number n row.0 is in grind (arith, nat_tests, one, third))
-        | Greater ↦ λ is. let h = higher n row.0 is in let high = from_there n rows in grind (arith, nat_tests, h, high)
-      ] refl in
-      (λ i. other i || not_taken n rows s.1 i)
-] refl
+above_at [] j n d a s h = absurd (omega (arith, h))
+above_at (e ∷ es) zero n d a s h = let low = lower n e.0 a.0 in omega (arith, low)
+above_at (e ∷ es) (suc j) n d a s h = let more = above_at es j e.0 d s.0 s.1 (omega (arith, h)) in let low = lower n e.0 a.0 in omega (arith, more, low)
 
-taken_below : (n : ℕ) (rows : List (ℕ × OpenFork)) (k : ℕ) → n ≤ k → k < next_free n rows → is_open rows k ≡ true
-taken_below n [] k low high = absurd (omega (arith, low, high))
-taken_below n (row ∷ rows) k low high = elim (row.0 == n) as (λ b. (row.0 == n) ≡ b → k < next_free (if b then suc n else n) rows → ((row.0 == k) || is_open rows k) ≡ true) [
-  | true ↦ λ same high. elim (row.0 == k) as (λ b. (row.0 == k) ≡ b → (b || is_open rows k) ≡ true) [
-    | true ↦ λ here. refl
-    | false ↦ λ other. taken_below (suc n) rows k (let f : n < k = grind (arith, nat_tests, same, other, low) in omega (arith, f)) high
-  ] refl
-  | false ↦ λ other high. or_right (row.0 == k) (is_open rows k) (taken_below n rows k low high)
-] refl high
+-- of two rows the one behind is as much above as there are rows between
+steps : (rows : List (ℕ × OpenFork)) (i j : ℕ) (d : ℕ × OpenFork) → Rise rows → i ≤ j → j < length rows → (slice_index_or rows i d).0 + j ≤ (slice_index_or rows j d).0 + i
+unfolding IsStrictlySortedBy
+steps [] i j d s le h = absurd (omega (arith, h))
+steps (e ∷ es) zero zero d s le h = omega arith
+steps (e ∷ es) zero (suc j) d s le h = let more = above_at es j e.0 d s.0 s.1 (omega (arith, h)) in omega (arith, more)
+steps (e ∷ es) (suc i) zero d s le h = absurd (omega (arith, le))
+steps (e ∷ es) (suc i) (suc j) d s le h = let more = steps es i j d s.1 (omega (arith, le)) (omega (arith, h)) in omega (arith, more)
 
-pub is_lowest : {rows : List (ℕ × OpenFork)} {free : ℕ} → Rise rows → free ≡ next_free 1 rows → IsLowestFree rows free
-is_lowest {rows = rows} s is = subst (IsLowestFree rows) (sym is) (record { first = from_there 1 rows; free = not_taken 1 rows s; lower = λ k low high. taken_below 1 rows k low high })
+-- a reference is at least its place, from 1
+at_least : (rows : List (ℕ × OpenFork)) (k : ℕ) (d : ℕ × OpenFork) → Rise rows → list_all (λ row. nat_lt 0 row.0) rows ≡ true → k < length rows → k + 1 ≤ (slice_index_or rows k d).0
+at_least [] k d s one h = absurd (omega (arith, h))
+at_least (e ∷ es) k d s one h =
+    let first : 0 < e.0 = (let t = (and_parts (nat_lt 0 e.0) (list_all (λ row. nat_lt 0 row.0) es) one).0 in grind (arith, nat_tests, t)) in
+    let more = steps (e ∷ es) 0 k d s (omega arith) h in omega (arith, first, more)
 
-pub free_more : (rows : List (ℕ × OpenFork)) (i n : ℕ) (row : ℕ × OpenFork) → i < length rows → row ≡ slice_index_or rows i row → next_free n (drop i rows) ≡ next_free (if row.0 == n then n + 1 else n) (drop (i + 1) rows)
-free_more rows i n row h is =
-    let one : suc n ≡ n + 1 = omega arith in
-    let place : suc i ≡ i + 1 = omega arith in
-    ap (next_free n) (drop-cons rows i row h) ∙ (λ j. next_free (if (sym is j).0 == n then one j else n) (drop (place j) rows))
+-- before the one place each reference is its place, from 1; from the other on each is above its place
+pub record AreHalved (rows : List (ℕ × OpenFork)) (low high : ℕ) : Type 0 where
+  pub order : low ≤ high
+  pub within : high ≤ length rows
+  pub front : (k : ℕ) (d : ℕ × OpenFork) → k < low → (slice_index_or rows k d).0 ≡ k + 1
+  pub rest : (k : ℕ) (d : ℕ × OpenFork) → high ≤ k → k < length rows → k + 1 < (slice_index_or rows k d).0
 
-pub free_hit : (rows : List (ℕ × OpenFork)) (i n : ℕ) (row : ℕ × OpenFork) → i < length rows → row ≡ slice_index_or rows i row → row.0 ≡ n → next_free n (drop i rows) ≡ next_free (n + 1) (drop (i + 1) rows)
-free_hit rows i n row h is one = free_more rows i n row h is ∙ ap (λ b. next_free (if b then n + 1 else n) (drop (i + 1) rows)) (let t : (row.0 == n) ≡ true = grind (arith, nat_tests, one) in t)
+pub halved_whole : (rows : List (ℕ × OpenFork)) → AreHalved rows 0 (length rows)
+halved_whole rows = record { order = omega arith; within = omega arith; front = λ k d less. absurd (omega (arith, less)); rest = λ k d low less. absurd (omega (arith, low, less)) }
 
-pub free_miss : (rows : List (ℕ × OpenFork)) (i n : ℕ) (row : ℕ × OpenFork) → i < length rows → row ≡ slice_index_or rows i row → (row.0 ≡ n → ⊥) → next_free n (drop i rows) ≡ next_free n (drop (i + 1) rows)
-free_miss rows i n row h is other = free_more rows i n row h is ∙ ap (λ b. next_free (if b then n + 1 else n) (drop (i + 1) rows)) (let t : (row.0 == n) ≡ false = grind (arith, nat_tests, other) in t)
+module _ (rows : List (ℕ × OpenFork)) (s : Rise rows) (one : list_all (λ row. nat_lt 0 row.0) rows ≡ true) where
+  pub halved_up : (low high middle : ℕ) (row : ℕ × OpenFork) → AreHalved rows low high → middle < high → (slice_index_or rows middle row).0 ≡ middle + 1 → AreHalved rows (middle + 1) high
+  halved_up low high middle row h less is = record {
+    order = omega (arith, less);
+    within = h.within;
+    front = λ k d below.
+        let inside : middle < length rows = omega (arith, h.within, less) in
+        let here : (slice_index_or rows middle d).0 ≡ middle + 1 = ap (λ (e : ℕ × OpenFork). e.0) (get_or_default rows middle d row inside) ∙ is in
+        let up = steps rows k middle d s (omega (arith, below)) inside in
+        let low = at_least rows k d s one (omega (arith, below, inside)) in
+        omega (arith, here, up, low);
+    rest = h.rest;
+  }
 
-pub free_end : (rows : List (ℕ × OpenFork)) (i n : ℕ) → length rows ≤ i → next_free n (drop i rows) ≡ n
-free_end rows i n h = ap (next_free n) (none rows i h)
+  pub halved_down : (low high middle : ℕ) (row : ℕ × OpenFork) → AreHalved rows low high → low ≤ middle → middle < high → ((slice_index_or rows middle row).0 ≡ middle + 1 → ⊥) → AreHalved rows low middle
+  halved_down low high middle row h more less other = record {
+    order = more;
+    within = omega (arith, h.within, less);
+    front = h.front;
+    rest = λ k d above inside.
+        let there : middle < length rows = omega (arith, h.within, less) in
+        let same : (slice_index_or rows middle d).0 ≡ (slice_index_or rows middle row).0 = ap (λ (e : ℕ × OpenFork). e.0) (get_or_default rows middle d row there) in
+        let up = steps rows middle k d s above inside in
+        let low = at_least rows middle d s one there in
+        omega (arith, same, up, low, other);
+  }
+
+pub is_lowest : (rows : List (ℕ × OpenFork)) (low high : ℕ) → AreHalved rows low high → high ≤ low → IsLowestFree rows (low + 1)
+is_lowest rows low high h end = record {
+  first = omega arith;
+  free = elim (cases_Bool (is_open rows (low + 1))) [
+    | inl found ↦ absurd (
+        let f = Any-from_list_any (λ (row : ℕ × OpenFork). row.0 == low + 1) rows found in
+        let number : f.1.0 ≡ low + 1 = one_number f.1.0 (low + 1) f.4 in
+        let there : (slice_index_or rows f.0 f.1).0 ≡ low + 1 = ap (λ (e : ℕ × OpenFork). e.0) f.3 ∙ number in
+        elim (cases_lt f.0 low) [
+          | inl before ↦ let at_front = h.front f.0 f.1 before in omega (arith, there, at_front, before)
+          | inr behind ↦ let at_rest = h.rest f.0 f.1 (omega (arith, h.order, end, behind)) f.2 in omega (arith, there, at_rest, behind)
+        ])
+    | inr none ↦ none
+  ];
+  lower = λ k from below. taken rows k (omega (arith, h.order, h.within, below)) from (λ d. h.front (k - 1) d (omega (arith, from, below)));
+}
   where
-    none : (rows : List (ℕ × OpenFork)) (i : ℕ) → length rows ≤ i → drop i rows ≡ []
-    none [] zero h = refl
-    none [] (suc i) h = refl
-    none (x ∷ xs) zero h = absurd (omega (arith, h))
-    none (x ∷ xs) (suc i) h = none xs i (omega (arith, h))
+    one_number : (m n : ℕ) → (m == n) ≡ true → m ≡ n
+    one_number m n e = grind (arith, nat_tests, e)
+
+    itself : (m : ℕ) → (m == m) ≡ true
+    itself m = grind (arith, nat_tests)
+
+    no_fork : Fork
+    no_fork = record { volume = 0; node = 0; resource = false }
+
+    no_row : ℕ × OpenFork
+    no_row = (0, record { session = record { 0 = 0 }; fork = no_fork; mode = record { read = false; write = false; deny_read = false; deny_write = false } })
+
+    taken : (rows : List (ℕ × OpenFork)) (k : ℕ) → k ≤ length rows → 1 ≤ k → ((d : ℕ × OpenFork) → (slice_index_or rows (k - 1) d).0 ≡ (k - 1) + 1) → is_open rows k ≡ true
+    taken rows k within from is =
+        let here = is no_row in
+        list_any_at (λ (row : ℕ × OpenFork). row.0 == k) rows (k - 1) no_row (omega (arith, within, from)) (let number : (slice_index_or rows (k - 1) no_row).0 ≡ k = omega (arith, here, from) in ap (λ n. n == k) number ∙ itself k)
 
 -- ---- two forks change places
 pub exchange_more : (a b : Fork) (first ys given new : List (ℕ × OpenFork)) (i : ℕ) (e : ℕ × OpenFork) (f : Fork) → i < length first → ys ≡ map (exchange_row a b) (take i first) ++ drop i first → given ≡ ys → e ≡ slice_index_or given i e → f ≡ in_exchange a b e.1.fork

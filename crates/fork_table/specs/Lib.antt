@@ -1,2 +1,2 @@
 pub mod ForkTable
-pub mod Kept
+pub mod lemma

@@ -2,6 +2,7 @@
 #![tactic(auto)]
 
 mod open_fork;
+mod own;
 mod rows;
 mod table;
 

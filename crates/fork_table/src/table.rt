@@ -4,9 +4,11 @@ ghost use Rattle.std.specs.Ordering.{nat_cmp};
 ghost use Rattle.deny_modes.specs.Opens.{has_conflict, is_fork_open};
 ghost use Rattle.range_locks.specs.Locks.{SetsLock, TakesLock, is_met_by_other, without_holder, exchanged_locks};
 ghost use Rattle.sorted_map.specs.Entries.{at};
-ghost use Rattle.fork_table.specs.ForkTable.{Table, plain_opens, OpensFork, own_open, forks_of, closing, is_of_session, is_of_volume, exchange_row, IsSound};
+ghost use Rattle.fork_table.specs.lemma.Kept.{FindsOne, does_pass};
+ghost use Rattle.fork_table.specs.ForkTable.{Table, plain_opens, count_open, OpensFork, own_open, forks_of, closing, is_of_session, is_of_volume, exchange_row, IsSound};
 
-use crate::rows::{count_open, exchange_rows, lowest_free, one_of_session, one_of_volume};
+use crate::own::{OwnRef, own_of};
+use crate::rows::{exchange_rows, lowest_free, put_row, take_row};
 use crate::{OpenFault, OpenFork};
 use afp_base::{ForkRef, SessionNumber, VolumeId};
 use deny_modes::{ForkKey, Mode, Opens, VolumeOpens};
@@ -22,19 +24,20 @@ use std::marker::Model;
 #[derive(Drop)]
 pub struct ForkTable {
     rows: SortedMap<u16, OpenFork>,
+    own: SortedMap<OwnRef, ()>,
     opens: Opens,
     locks: Locks,
 }
 
 impl Model for ForkTable {
     ghost use Rattle.fork_table.specs.ForkTable.{Table};
-    ghost use Rattle.fork_table.specs.Kept.{IsTable};
+    ghost use Rattle.fork_table.specs.lemma.Kept.{IsTable};
 
     ghost Value = { Table };
 
     ghost view = { λ t. record { opens = t.rows; locks = t.locks } };
 
-    ghost invariant = { λ t. IsTable t.rows t.opens t.locks };
+    ghost invariant = { λ t. IsTable t.rows t.own t.opens t.locks };
 }
 
 impl ForkTable {
@@ -44,6 +47,7 @@ impl ForkTable {
     {
         ForkTable {
             rows: SortedMap::new(alloc),
+            own: SortedMap::new(alloc),
             opens: Opens::new(alloc),
             locks: Locks::new(alloc),
         }
@@ -71,7 +75,7 @@ impl ForkTable {
         if !self.opens.may_open(&fork, &mode) {
             return Err(OpenFault::Deny);
         }
-        if count_open(self.rows.entries(), s) >= 256 {
+        if self.count_open(s) >= 256 {
             return Err(OpenFault::TooMany);
         }
         let r = lowest_free(self.rows.entries());
@@ -83,7 +87,7 @@ impl ForkTable {
         let Ok(()) = self.opens.note(ForkRef(r), fork, mode) else {
             return Err(OpenFault::Memory);
         };
-        let Ok(_) = self.rows.insert(r, row) else {
+        let Ok(()) = put_row(&mut self.rows, &mut self.own, ForkRef(r), row) else {
             self.opens.forget(ForkRef(r));
             return Err(OpenFault::Memory);
         };
@@ -168,7 +172,7 @@ impl ForkTable {
         ensures opens { self.new.opens ≡ filter (λ row. not (row.0 == r.0)) self.old.opens }
         ensures locks { self.new.locks ≡ without_holder r.0 self.old.locks }
     {
-        let _ = self.rows.remove(r.0);
+        take_row(&mut self.rows, &mut self.own, r);
         self.opens.forget(r);
         self.locks.forget(r);
     }
@@ -177,7 +181,7 @@ impl ForkTable {
     pub fn close_volume(&mut self, s: SessionNumber, v: VolumeId)
         ensures { self.new ≡ closing (is_of_volume s.0 v.0) self.old }
     {
-        while let Some(r) = one_of_volume(self.rows.entries(), s, v) {
+        while let Some(r) = self.one_of_volume(s, v) {
             self.keeps_sound();
             self.close(r);
         }
@@ -188,7 +192,7 @@ impl ForkTable {
     pub fn close_session(&mut self, s: SessionNumber)
         ensures { self.new ≡ closing (is_of_session s.0) self.old }
     {
-        while let Some(r) = one_of_session(self.rows.entries(), s) {
+        while let Some(r) = self.one_of_session(s) {
             self.keeps_sound();
             self.close(r);
         }
@@ -212,6 +216,47 @@ impl ForkTable {
         match self.rows.get(r.0) {
             Some(row) => Some(row.fork),
             None => None,
+        }
+    }
+
+    /// How many forks the session has open.
+    fn count_open(&self, s: SessionNumber) -> usize
+        ensures { result ≡ count_open s.0 self.now.opens }
+    {
+        own_of(self.own.entries(), s).len()
+    }
+
+    /// A reference of the session, where it has a fork open.
+    fn one_of_session(&self, s: SessionNumber) -> Option<ForkRef>
+        ensures { FindsOne (is_of_session s.0) self.now.opens result }
+    {
+        match own_of(self.own.entries(), s).first() {
+            Some(entry) => Some(entry.0.reference),
+            None => None,
+        }
+    }
+
+    /// A reference of the session to a fork of the volume, where it has one open. It looks at the session's references alone.
+    fn one_of_volume(&self, s: SessionNumber, v: VolumeId) -> Option<ForkRef>
+        ensures { FindsOne (is_of_volume s.0 v.0) self.now.opens result }
+    {
+        self.keeps_sound();
+        for entry in own_of(self.own.entries(), s) {
+            let r = entry.0.reference;
+            if self.is_of_volume(r, s, v) {
+                return Some(r);
+            }
+        }
+        None
+    }
+
+    /// Whether the session has opened a fork of the volume under that reference.
+    fn is_of_volume(&self, r: ForkRef, s: SessionNumber, v: VolumeId) -> bool
+        ensures { result ≡ does_pass (is_of_volume s.0 v.0) (at nat_cmp self.now.opens r.0) }
+    {
+        match self.rows.get(r.0) {
+            Some(row) => row.session == s && row.fork.volume == v,
+            None => false,
         }
     }
 }

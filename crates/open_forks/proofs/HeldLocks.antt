@@ -24,7 +24,7 @@ use Rattle.range_locks.specs.declared.fault.LockFault.TheVariants.{Locked, Overl
 use Rattle.range_locks.specs.declared.fault.NotLocked.{NotLocked}
 use Rattle.sorted_map.specs.Entries.{at}
 use Rattle.open_forks.specs.Forks.{AllHeld, ClosingUndoes, Forks, HasForks, LocksRange, UnlocksRange, forks_of, left_of, lock_of, with_locks}
-use Rattle.open_forks.specs.Kept.{AreInRange}
+use Rattle.open_forks.specs.lemma.Kept.{AreInRange}
 use Rattle.open_forks.proofs.OpenRows.{Rise, any-map, count-map, filter-map, open-at, open-rows, row_of, told, told-at}
 
 -- ---- lists whose elements all pass a test

@@ -23,7 +23,7 @@ pub struct OpenForks {
 
 impl Model for OpenForks {
     ghost use Rattle.open_forks.specs.Forks.{Forks, forks_of};
-    ghost use Rattle.open_forks.specs.Kept.{AreInRange};
+    ghost use Rattle.open_forks.specs.lemma.Kept.{AreInRange};
 
     ghost Value = { Forks };
 

@@ -1,6 +1,9 @@
-use Rattle.std.proofs.Common.{◌≡◌, ◌≤◌, ◌+◌, drop}
-use Rattle.fork_table.proofs.References.{next_free}
+use Rattle.std.proofs.Common.{◌-◌}
+use Rattle.fork_table.proofs.References.{AreHalved}
 use Rattle.fork_table.proofs.rows.lowest_free.Given as goal
 
-abbrev pub invariant-loop-row : goal.invariant-loop-row
-invariant-loop-row l = (next_free l.free (drop l.row-index l.rows) ≡ next_free 1 l.rows) × (l.free ≤ l.row-index + 1)
+abbrev pub invariant-loop-low : goal.invariant-loop-low
+invariant-loop-low l = AreHalved l.rows l.low l.high
+
+abbrev pub decreases-loop-low : goal.decreases-loop-low
+decreases-loop-low l = l.high - l.low

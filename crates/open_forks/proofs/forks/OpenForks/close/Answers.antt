@@ -1,6 +1,6 @@
 use Rattle.std.proofs.Common.{◌∙◌, sym, ap, subst, ◌==◌, not}
 use Rattle.open_forks.specs.Forks.{left_of}
-use Rattle.open_forks.specs.Kept.{AreInRange}
+use Rattle.open_forks.specs.lemma.Kept.{AreInRange}
 use Rattle.open_forks.proofs.HeldLocks.{close-one, left-in-range}
 use Rattle.open_forks.proofs.forks.OpenForks.close.Goals as goal
 
