@@ -73,7 +73,7 @@ impl<K: Keeper> State<K> {
         let Some(index) = self.opened(session, volume) else {
             return Ok((refused(self.alloc, Code::ParamErr), Outcome::Done));
         };
-        let opens = self.opened_forks(volume)?;
+        let opens = self.forks.on(volume);
         let mut block = Bytes::new(self.alloc);
         let answer = self
             .kept_at(index)

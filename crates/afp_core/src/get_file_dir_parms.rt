@@ -25,7 +25,7 @@ impl<K: Keeper> State<K> {
         let Some(index) = self.opened(session, volume) else {
             return Ok((refused(self.alloc, Code::ParamErr), Outcome::Done));
         };
-        let opens = self.opened_forks(volume)?;
+        let opens = self.forks.on(volume);
         let mut block = Bytes::new(self.alloc);
         let answer = self.kept_at(index).get_file_dir_parms(
             self.alloc, &opens, file_bits, dir_bits, dir, path, &mut block,

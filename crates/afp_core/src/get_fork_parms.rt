@@ -72,7 +72,7 @@ impl<K: Keeper> State<K> {
             → out.new ≡ out.old ++ params bits (fork_values (opened_on self.now.world fork.volume) bits file)) }
         ensures err { OnErr result (out.new ≡ out.old) }
     {
-        let opens = self.opened_forks(fork.volume)?;
+        let opens = self.forks.on(fork.volume);
         let volume = self.kept_at(index);
         volume.file_params(self.alloc, fork.node, &opens, bits, out)
     }

@@ -1,12 +1,10 @@
 //! The volumes by their ids.
-ghost use Rattle.std.specs.Prelude.{◌≡◌, ◌+◌, ◌<◌, None, Some, IfOk, MatchOption, length, option_map, slice_get};
-ghost use Rattle.afp_serial.specs.OnVolume.{opened_on};
+ghost use Rattle.std.specs.Prelude.{◌≡◌, ◌+◌, ◌<◌, None, Some, MatchOption, length, option_map, slice_get};
 ghost use Rattle.afp_serial.specs.World.{volume_at};
 ghost use Rattle.afp_core.specs.lemma.OnOpened.{IsOpen};
-ghost use Rattle.volume_tree.specs.Shown.{opened};
 
 use crate::state::State;
-use afp_base::{NodeId, OutOfMemory, SessionNumber, VolumeId};
+use afp_base::{SessionNumber, VolumeId};
 use kept_volume::KeptVolume;
 use record_keeper::Keeper;
 
@@ -30,13 +28,6 @@ impl<K: Keeper> State<K> {
             return None;
         }
         self.index(volume)
-    }
-
-    /// The open forks of a volume, of all sessions: each node, and whether it is the resource fork. `Err` only for want of memory.
-    pub(crate) fn opened_forks(&self, volume: VolumeId) -> Result<Vec<(NodeId, bool)>, OutOfMemory>
-        ensures { IfOk result (λ forks. opened forks.items ≡ opened_on self.now.world volume.0) }
-    {
-        self.forks.opened(volume)
     }
 
     /// The volume at an index.

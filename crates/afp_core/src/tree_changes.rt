@@ -2,17 +2,17 @@
 //! FPSetFileDirParms and FPSetVolParms (AFP Reference, under these names).
 ghost use Rattle.std.specs.Prelude.{◌<◌, length, IfSome, IsSome};
 ghost use Rattle.afp_replies.specs.declared.reply.Reply.{Reply};
+ghost use Rattle.afp_serial.specs.OnVolume.{opened_on};
 ghost use Rattle.afp_volume.specs.TreeSteps.{TreeCall};
 ghost use Rattle.afp_volume.specs.VolumeState.{VolumeState};
 ghost use Rattle.afp_core.specs.lemma.OnOpened.{AreToldOf, BecomesKept, ChangesAlone, ChangesTree};
 ghost use Rattle.afp_core.specs.lemma.Turn.{RunsRow};
 ghost use Rattle.kept_volume.specs.Changing.{Changes};
 ghost use Rattle.volume_tree.specs.Requests.{tree_call};
-ghost use Rattle.volume_tree.specs.Shown.{opened};
 
 use crate::replies::{refused, told_changed};
 use crate::state::State;
-use afp_base::{Bytes, Code, NodeId, OutOfMemory, SessionNumber, VolumeId};
+use afp_base::{Bytes, Code, OutOfMemory, SessionNumber, VolumeId};
 use afp_calls::Call;
 use afp_serial::{Outcome, Told};
 use kept_volume::ChangeFault;
@@ -47,22 +47,17 @@ impl<K: Keeper> State<K> {
         let Some(index) = self.opened(session, volume) else {
             return Ok((refused(self.alloc, Code::ParamErr), Outcome::Done));
         };
-        let opens = self.opened_forks(volume)?;
-        let answer = self.change_at(index, &opens, call);
+        let answer = self.change_at(index, volume, call);
         told_changed(self.alloc, answer, block)
     }
 
-    /// Changes the volume at an index, with these open forks.
-    fn change_at(
-        &mut self,
-        index: usize,
-        opens: &[(NodeId, bool)],
-        call: &Call,
-    ) -> Result<(), ChangeFault>
+    /// Changes the volume at an index, with the forks open that are open of the volume of this id.
+    fn change_at(&mut self, index: usize, volume: VolumeId, call: &Call) -> Result<(), ChangeFault>
         requires within { index < length self.old.world.volumes }
         requires tree { IsSome (tree_call call.now) }
-        ensures { IfSome (tree_call call.now) (λ change. BecomesKept self.old index (λ old one. Changes old self.old.world.latest (opened opens.now) change result one) self.new) }
+        ensures { IfSome (tree_call call.now) (λ change. BecomesKept self.old index (λ old one. Changes old self.old.world.latest (opened_on self.old.world volume.0) change result one) self.new) }
     {
-        self.kept[index].change(self.alloc, self.latest, opens, call)
+        let opens = self.forks.on(volume);
+        self.kept[index].change(self.alloc, self.latest, &opens, call)
     }
 }

@@ -5,8 +5,9 @@ ghost use Rattle.volume_tree.specs.Requests.{tree_call};
 ghost use Rattle.volume_tree.specs.Shown.{opened};
 
 use crate::kept::KeptVolume;
-use afp_base::{Code, Moment, NodeId};
+use afp_base::{Code, Moment};
 use afp_requests::Call;
+use deny_modes::VolumeOpens;
 use record_keeper::{Keeper, KeeperFault};
 use std::alloc::Global;
 use volume_keeper::tree_changes;
@@ -25,13 +26,13 @@ pub enum ChangeFault {
 
 impl<K: Keeper> KeptVolume<K> {
     /// Carries a call out that changes the volume's tree: its changes are committed to the keeper, then the volume changes, for
-    /// which no memory is taken. `opens` are the volume's open forks, each as a node and whether it is the resource fork. At an error nothing has
-    /// changed but, beside `Failed`, the keeper's count.
+    /// which no memory is taken. `opens` tells which forks of the volume are open. At an error nothing has changed but, beside `Failed`, the
+    /// keeper's count.
     pub fn change(
         &mut self,
         alloc: Global,
         now: Moment,
-        opens: &[(NodeId, bool)],
+        opens: &VolumeOpens<'_>,
         call: &Call,
     ) -> Result<(), ChangeFault>
         requires { IsSome (tree_call call.now) }

@@ -14,6 +14,7 @@ ghost use Rattle.volume_tree.specs.Shown.{fork_at, opened};
 use crate::kept::KeptVolume;
 use afp_base::{Bytes, NodeId, OutOfMemory};
 use afp_volume::laws::forks_are_given_bytes;
+use deny_modes::VolumeOpens;
 use fork_bytes::Fork;
 use record_keeper::Keeper;
 use std::alloc::Global;
@@ -110,7 +111,7 @@ impl<K: Keeper> KeptVolume<K> {
         &self,
         alloc: Global,
         id: NodeId,
-        opens: &[(NodeId, bool)],
+        opens: &VolumeOpens<'_>,
         bits: u16,
         out: &mut Bytes,
     ) -> Result<(), OutOfMemory>

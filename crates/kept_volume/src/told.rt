@@ -20,6 +20,7 @@ use crate::kept::KeptVolume;
 use afp_base::{Bytes, NodeId, VolumeId};
 use afp_names::Path;
 use afp_volume::laws::values_are_those_asked_for;
+use deny_modes::VolumeOpens;
 use record_keeper::Keeper;
 use std::alloc::Global;
 use volume_answers::ListAsked;
@@ -74,7 +75,7 @@ impl<K: Keeper> KeptVolume<K> {
     pub fn get_file_dir_parms(
         &self,
         alloc: Global,
-        opens: &[(NodeId, bool)],
+        opens: &VolumeOpens<'_>,
         file_bits: u16,
         dir_bits: u16,
         dir: NodeId,
@@ -104,7 +105,7 @@ impl<K: Keeper> KeptVolume<K> {
     pub fn list(
         &self,
         alloc: Global,
-        opens: &[(NodeId, bool)],
+        opens: &VolumeOpens<'_>,
         asked: ListAsked,
         dir: NodeId,
         path: &Path,

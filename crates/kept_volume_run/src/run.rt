@@ -7,6 +7,7 @@ use crate::spent::spent_keeper;
 use afp_base::{Moment, NodeId, OutOfMemory, VolumeId};
 use afp_names::{LONGEST_PATH, Name, Path, UTF8_NAMES};
 use afp_requests::Call;
+use deny_modes::Opens;
 use kept_volume::{ChangeFault, KeptVolume};
 use record_keeper::{Change, KeeperFault, MemoryKeeper};
 use std::alloc::Global;
@@ -83,7 +84,9 @@ impl Run {
     fn change(&mut self, alloc: Global, call: &Call) -> Came
         requires { IsSome (tree_call call.now) }
     {
-        came_of(self.kept.change(alloc, self.now, &[], call))
+        let none = Opens::new(alloc);
+        let opens = none.on(VolumeId(1));
+        came_of(self.kept.change(alloc, self.now, &opens, call))
     }
 
     /// Asks FPCreateDir of volume 1: directory ID, pathname. A text that is no path asks nothing.

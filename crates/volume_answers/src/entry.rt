@@ -16,8 +16,9 @@ ghost use Rattle.volume_tree.specs.Shown.{opened};
 use crate::list_asked::ListAsked;
 use crate::node::{is_dir, put_node};
 use crate::parms::flag_of;
-use afp_base::{Bytes, MAX_PAYLOAD, NodeId, OutOfMemory};
+use afp_base::{Bytes, MAX_PAYLOAD, OutOfMemory};
 use byteorder::{BigEndian, ByteOrder};
+use deny_modes::VolumeOpens;
 use node_rows::Node;
 use std::alloc::Global;
 use volume_tree::Volume;
@@ -84,7 +85,7 @@ fn put_length(asked: &ListAsked, at: usize, size: usize, out: &mut Bytes)
 fn put_body(
     alloc: Global,
     volume: &Volume,
-    opens: &[(NodeId, bool)],
+    opens: &VolumeOpens<'_>,
     asked: &ListAsked,
     node: &Node,
     out: &mut Bytes,
@@ -115,7 +116,7 @@ fn put_body(
 pub(crate) fn put_entry(
     alloc: Global,
     volume: &Volume,
-    opens: &[(NodeId, bool)],
+    opens: &VolumeOpens<'_>,
     asked: &ListAsked,
     node: &Node,
     used: usize,

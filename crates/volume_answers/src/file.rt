@@ -1,7 +1,5 @@
 //! What is told of a file.
-ghost use Rattle.std.specs.Prelude.{◌≡◌, ◌++◌, ◌==◌, ◌&&◌, ◌<◌, Bool, true, not, IfOk, OnOk, OnErr, length, nat_lt, if◌then◌else◌};
-ghost use Rattle.std.specs.List.{list_any};
-ghost use Rattle.afp_base.specs.declared.ids.NodeId.{NodeId};
+ghost use Rattle.std.specs.Prelude.{◌≡◌, ◌++◌, ◌<◌, true, IfOk, OnOk, OnErr, length, nat_lt, if◌then◌else◌};
 ghost use Rattle.afp_bitmap.specs.Bits.{IsWithin, file_mask};
 ghost use Rattle.afp_bitmap.specs.Params.{params};
 ghost use Rattle.afp_bitmap.specs.declared.params.Values.TheVariants as told;
@@ -16,6 +14,7 @@ use crate::fields::{
 };
 use afp_base::{Bytes, NodeId, OutOfMemory};
 use afp_bitmap::{FileValues, Values, is_asked, put_params};
+use deny_modes::VolumeOpens;
 use node_rows::Node;
 use std::alloc::Global;
 use volume_tree::Volume;
@@ -26,16 +25,10 @@ const DATA_FORK_OPEN: u16 = 0x0008;
 const RESOURCE_FORK_OPEN: u16 = 0x0010;
 
 /// Whether this fork of a node is open.
-fn is_open(opens: &[(NodeId, bool)], id: NodeId, resource: bool) -> bool
+fn is_open(opens: &VolumeOpens<'_>, id: NodeId, resource: bool) -> bool
     ensures { result ≡ is_open (opened opens.now) id.0 resource }
 {
-    has_open(opens, id, resource)
-}
-
-fn has_open(opens: &[(NodeId, bool)], id: NodeId, resource: bool) -> bool
-    ensures { result ≡ list_any (λ (fork : NodeId × Bool). (fork.0.0 == id.0) && (if resource then fork.1 else not fork.1)) opens.now }
-{
-    opens.iter().any(|open| open.0.0 == id.0 && if resource { open.1 } else { !open.1 })
+    opens.has_fork(id, resource)
 }
 
 fn attribute_if(is: bool, attribute: u16) -> u16
@@ -46,7 +39,7 @@ fn attribute_if(is: bool, attribute: u16) -> u16
 
 /// The attributes of a file: those that are set, and whether its forks are open.
 #[tactic(auto, unfolding(afp_volume::specs::NodeValues::told_attributes))]
-fn told_attributes(opens: &[(NodeId, bool)], node: &Node) -> u16
+fn told_attributes(opens: &VolumeOpens<'_>, node: &Node) -> u16
     ensures { result ≡ told_attributes (opened opens.now) node.now }
 {
     let data_fork = attribute_if(is_open(opens, node.id, false), DATA_FORK_OPEN);
@@ -55,7 +48,7 @@ fn told_attributes(opens: &[(NodeId, bool)], node: &Node) -> u16
 }
 
 /// The attributes of a file, where they are asked.
-fn attributes_or(bits: u16, opens: &[(NodeId, bool)], node: &Node) -> u16
+fn attributes_or(bits: u16, opens: &VolumeOpens<'_>, node: &Node) -> u16
     ensures { result ≡ asked_or bits 0 0 (told_attributes (opened opens.now) node.now) }
 {
     if is_asked(bits, 0) {
@@ -93,7 +86,7 @@ fn length_or(bits: u16, bit: u32, volume: &Volume, node: &Node, resource: bool) 
 fn file_values(
     alloc: Global,
     volume: &Volume,
-    opens: &[(NodeId, bool)],
+    opens: &VolumeOpens<'_>,
     node: &Node,
     bits: u16,
 ) -> Result<FileValues, OutOfMemory>
@@ -124,7 +117,7 @@ fn file_values(
 pub(crate) fn put_file(
     alloc: Global,
     volume: &Volume,
-    opens: &[(NodeId, bool)],
+    opens: &VolumeOpens<'_>,
     node: &Node,
     bits: u16,
     out: &mut Bytes,

@@ -21,6 +21,7 @@ use afp_bitmap::{DirBits, FileBits};
 use afp_names::Path;
 use afp_volume::laws::rows_are_changed_in_place;
 use byteorder::{BigEndian, ByteOrder};
+use deny_modes::VolumeOpens;
 use node_rows::Node;
 use std::alloc::Global;
 use volume_tree::{PlanFault, Volume};
@@ -59,7 +60,7 @@ fn start(asked: &ListAsked) -> u32
 fn fill(
     alloc: Global,
     volume: &Volume,
-    opens: &[(NodeId, bool)],
+    opens: &VolumeOpens<'_>,
     asked: &ListAsked,
     dir: NodeId,
     first: usize,
@@ -154,7 +155,7 @@ fn put_count(at: usize, count: u16, out: &mut Bytes)
 fn put_list(
     alloc: Global,
     volume: &Volume,
-    opens: &[(NodeId, bool)],
+    opens: &VolumeOpens<'_>,
     asked: &ListAsked,
     dir: NodeId,
     first: usize,
@@ -179,7 +180,7 @@ fn put_list(
 fn list_of(
     alloc: Global,
     volume: &Volume,
-    opens: &[(NodeId, bool)],
+    opens: &VolumeOpens<'_>,
     asked: &ListAsked,
     id: NodeId,
     out: &mut Bytes,
@@ -215,13 +216,13 @@ fn list_of(
     }
 }
 
-/// Appends the reply to FPEnumerate, FPEnumerateExt or FPEnumerateExt2, or tells why it is refused. `opens` are the volume's open
-/// forks, each as a node and whether it is the resource fork. An error changes nothing.
+/// Appends the reply to FPEnumerate, FPEnumerateExt or FPEnumerateExt2, or tells why it is refused. `opens` tells which forks of
+/// the volume are open. An error changes nothing.
 #[tactic(auto, unfolding(afp_volume::specs::Enumerate::enumerate_refusal))]
 pub fn list(
     alloc: Global,
     volume: &Volume,
-    opens: &[(NodeId, bool)],
+    opens: &VolumeOpens<'_>,
     asked: &ListAsked,
     dir: NodeId,
     path: &Path,

@@ -12,6 +12,7 @@ ghost use Rattle.volume_tree.specs.Shown.{opened};
 use crate::directory::put_dir;
 use crate::file::put_file;
 use afp_base::{Bytes, NodeId, OutOfMemory};
+use deny_modes::VolumeOpens;
 use node_rows::Node;
 use std::alloc::Global;
 use volume_tree::Volume;
@@ -21,7 +22,7 @@ pub(crate) fn put_node(
     alloc: Global,
     volume: &Volume,
     node: &Node,
-    opens: &[(NodeId, bool)],
+    opens: &VolumeOpens<'_>,
     file_bits: u16,
     dir_bits: u16,
     out: &mut Bytes,
@@ -57,13 +58,13 @@ pub(crate) fn is_dir(node: &Node) -> bool
     node.dir
 }
 
-/// Appends the parameters of a node, and tells whether it is a directory (AFP Reference, "FPGetFileDirParms"). `opens` are the
-/// volume's open forks, each as a node and whether it is the resource fork. An error changes nothing.
+/// Appends the parameters of a node, and tells whether it is a directory (AFP Reference, "FPGetFileDirParms"). `opens` tells
+/// which forks of the volume are open. An error changes nothing.
 pub fn node_params(
     alloc: Global,
     volume: &Volume,
     id: NodeId,
-    opens: &[(NodeId, bool)],
+    opens: &VolumeOpens<'_>,
     file_bits: u16,
     dir_bits: u16,
     out: &mut Bytes,

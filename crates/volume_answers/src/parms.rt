@@ -24,6 +24,7 @@ use afp_base::{Bytes, Code, NodeId, OutOfMemory, VolumeId};
 use afp_bitmap::{DirBits, FileBits, VolumeBits};
 use afp_names::Path;
 use afp_volume::laws::rows_are_changed_in_place;
+use deny_modes::VolumeOpens;
 use node_rows::Node;
 use std::alloc::Global;
 use volume_tree::{PlanFault, Volume};
@@ -84,7 +85,7 @@ fn put_node_parms(
     alloc: Global,
     volume: &Volume,
     node: &Node,
-    opens: &[(NodeId, bool)],
+    opens: &VolumeOpens<'_>,
     file_bits: u16,
     dir_bits: u16,
     out: &mut Bytes,
@@ -102,13 +103,13 @@ fn put_node_parms(
     put_node(alloc, volume, node, opens, file_bits, dir_bits, out)
 }
 
-/// Appends the reply to FPGetFileDirParms, or tells why it is refused. `opens` are the volume's open forks, each as a node and
-/// whether it is the resource fork. An error changes nothing.
+/// Appends the reply to FPGetFileDirParms, or tells why it is refused. `opens` tells which forks of the volume are open. An
+/// error changes nothing.
 #[tactic(auto, unfolding(afp_volume::specs::GetFileDirParms::get_file_dir_parms_refusal))]
 pub fn get_file_dir_parms(
     alloc: Global,
     volume: &Volume,
-    opens: &[(NodeId, bool)],
+    opens: &VolumeOpens<'_>,
     file_bits: u16,
     dir_bits: u16,
     dir: NodeId,

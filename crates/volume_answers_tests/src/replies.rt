@@ -4,6 +4,7 @@ ghost use Rattle.volume_tree.specs.Requests.{tree_call};
 use afp_base::{Bytes, Code, Moment, NodeId, VolumeId};
 use afp_names::{Name, Path, UTF8_NAMES};
 use afp_requests::Call;
+use deny_modes::{Opens, VolumeOpens};
 use std::alloc::Global;
 use std::test::Fail;
 use volume_answers::{ListAsked, get_file_dir_parms, get_vol_parms, list, open_dir};
@@ -28,7 +29,9 @@ fn make(alloc: Global, volume: &mut Volume, now: Moment, call: &Call) -> Result<
     requires { IsSome (tree_call call.now) }
 {
     volume.reserve(alloc)?;
-    match volume.plan(alloc, now, &[], call) {
+    let none = Opens::new(alloc);
+    let opens = none.on(VolumeId(1));
+    match volume.plan(alloc, now, &opens, call) {
         Ok(plan) => volume.apply(plan),
         Err(_) => Err("no plan")?,
     }
@@ -81,20 +84,21 @@ fn asked(wide: bool, count: u16, start: u32, size: u32) -> ListAsked {
     }
 }
 
-/// Appends what is told of the volume and of the file, and two lists of the root.
+/// Appends what is told of the volume and of the file, and two lists of the root, with these forks open.
 fn tell(
     alloc: Global,
     volume: &Volume,
+    opens: &VolumeOpens<'_>,
     root: &Path,
     file: &Path,
     out: &mut Bytes,
 ) -> Result<(), PlanFault> {
     get_vol_parms(alloc, volume, VolumeId(1), 0x0fff, out)?;
-    get_file_dir_parms(alloc, volume, &[], 0x0100, 0x0100, NodeId(2), file, out)?;
+    get_file_dir_parms(alloc, volume, opens, 0x0100, 0x0100, NodeId(2), file, out)?;
     list(
         alloc,
         volume,
-        &[],
+        opens,
         &asked(true, 16, 1, 4096),
         NodeId(2),
         root,
@@ -103,7 +107,7 @@ fn tell(
     list(
         alloc,
         volume,
-        &[],
+        opens,
         &asked(false, 1, 1, 4096),
         NodeId(2),
         root,
@@ -128,7 +132,9 @@ fn wanted() -> &'static [u8] {
 /// The replies, one behind the other.
 fn told(alloc: Global, volume: &Volume, root: &Path, file: &Path) -> Result<Bytes, Fail> {
     let mut out = Bytes::new(alloc);
-    match tell(alloc, volume, root, file, &mut out) {
+    let none = Opens::new(alloc);
+    let opens = none.on(VolumeId(1));
+    match tell(alloc, volume, &opens, root, file, &mut out) {
         Ok(()) => Ok(out),
         Err(_) => Err("a refusal")?,
     }
@@ -146,10 +152,12 @@ fn tells(alloc: Global, volume: &Volume) -> Result<bool, Fail> {
 fn refuses(alloc: Global, volume: &Volume) -> Result<bool, Fail> {
     let root = no_path(alloc)?;
     let mut out = Bytes::new(alloc);
+    let none = Opens::new(alloc);
+    let opens = none.on(VolumeId(1));
     let answer = list(
         alloc,
         volume,
-        &[],
+        &opens,
         &asked(true, 16, 1, 10),
         NodeId(2),
         &root,

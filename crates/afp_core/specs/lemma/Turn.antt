@@ -7,7 +7,7 @@ use Rattle.afp_requests.specs.declared.call.Call.{Call}
 use Rattle.afp_core.specs.lemma.SessionList.{session_of}
 use Rattle.afp_core.specs.ServerState.{KeptWorld, ServerState}
 use Rattle.afp_core.specs.lemma.ServerState.{kept_at}
-use Rattle.afp_serial.specs.Answer.{after, after_call, after_verdict, committed_by, committed_in, told_call, told_verdict, Verdict, verdict_of_row}
+use Rattle.afp_serial.specs.Answer.{after_call, after_verdict, committed_by, committed_in, told_call, told_verdict, Verdict, verdict_of_row}
 use Rattle.afp_serial.specs.History.{entry}
 use Rattle.afp_serial.specs.Rows.{refusal}
 use Rattle.afp_serial.specs.World.{session_at, Session}

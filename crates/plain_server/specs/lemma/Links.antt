@@ -1,5 +1,5 @@
 -- What the code and the proofs go by beside Links; no public contract cites it.
-use Rattle.std.specs.Prelude.{◌≡◌, ℕ, ◌≤◌, ◌-◌, true, false, List, length, Option, Some, None}
+use Rattle.std.specs.Prelude.{◌≡◌, ℕ, ◌≤◌, true, false, List, length, Option, Some, None}
 use Rattle.afp_base.specs.Counts.{Rises}
 use Rattle.afp_outside.specs.Gate.{Passed}
 use Rattle.afp_outside.specs.Link.{LinkState}

@@ -9,5 +9,5 @@ use Rattle.volume_answers.proofs.file.is_open.Goals as goal
 pub returns : goal.returns
 unfolding is_open
 returns c =
-    c.has_open.ensures
+    c.has_fork.ensures
     ∙ sym (any-map (λ (open_fork : Opened). (open_fork.node == c.args.id.0) && (if c.args.resource then open_fork.resource else not open_fork.resource)) (λ (open_fork : NodeId × Bool). record { node = open_fork.0.0; resource = open_fork.1 }) c.args.opens.now)

@@ -1,9 +1,8 @@
-use Rattle.std.proofs.Common.{◌∙◌, ap, subst, List}
+use Rattle.std.proofs.Common.{subst}
+use Rattle.afp_serial.specs.OnVolume.{opened_on}
+use Rattle.afp_volume.specs.TreeSteps.{TreeCall}
 use Rattle.kept_volume.specs.Changing.{Changes}
 use Rattle.volume_tree.specs.Requests.{tree_call}
-use Rattle.volume_tree.specs.Shown.{opened}
-use Rattle.afp_volume.specs.Shared.{Opened}
-use Rattle.afp_volume.specs.TreeSteps.{TreeCall}
 use Rattle.afp_core.specs.lemma.OnOpened.{BecomesKept, IsOpen}
 use Rattle.afp_core.proofs.OnVolumeLemmas.{changes-runs, changes-unopened, some-holds}
 use Rattle.afp_core.proofs.state.State.change.Goals as goal
@@ -19,6 +18,5 @@ returns g c = λ t reply changes told.
     let answer = c.change_at-answer in
     changes-runs k c.args.session.0 c.args.call.now c.args.volume.0 t reply changes answer.new.self c.in-Some.index answer.result c.args.block c.told_changed.result
     c.in-Some.ensures told
-    (subst (λ (l : List Opened). BecomesKept k c.in-Some.index (λ old one. Changes old k.world.latest l t answer.result one) answer.new.self) (ap opened c.deref.ensures.value ∙ c.in_ok-opens.ensures)
-    (some-holds (λ (x : TreeCall). BecomesKept k c.in-Some.index (λ old one. Changes old k.world.latest (opened c.deref.result.now) x answer.result one) answer.new.self) (tree_call c.args.call.now) t changes.tree answer.ensures))
+    (some-holds (λ (x : TreeCall). BecomesKept k c.in-Some.index (λ old one. Changes old k.world.latest (opened_on k.world c.args.volume.0) x answer.result one) answer.new.self) (tree_call c.args.call.now) t changes.tree answer.ensures)
     c.told_changed.ensures

@@ -1,10 +1,12 @@
-use Rattle.std.proofs.Common.{◌∙◌, ap, refl, subst, sym, List}
+use Rattle.std.proofs.Common.{ap, refl, subst, sym, List}
 use Rattle.afp_serial.specs.GetFileDirParms.{get_file_dir_parms_reply}
 use Rattle.afp_volume.specs.Shared.{Opened}
 use Rattle.afp_volume.specs.GetFileDirParms.{get_file_dir_parms_values}
 use Rattle.afp_core.specs.lemma.OnOpened.{IsOpen}
-use Rattle.volume_tree.specs.Shown.{opened}
+use Rattle.afp_core.specs.ServerState.{KeptWorld}
+use Rattle.afp_core.specs.lemma.ServerState.{forks_in}
 use Rattle.afp_core.proofs.CallRows.{get_file_dir_parms-tells}
+use Rattle.afp_core.proofs.ForkLemmas.{has-forks}
 use Rattle.afp_core.proofs.OnVolumeLemmas.{tells-runs, tells-unopened}
 use Rattle.afp_core.proofs.state.State.get_file_dir_parms.Goals as goal
 
@@ -17,7 +19,8 @@ pub returns : goal.returns
 returns g c =
     let answer = c.get_file_dir_parms-answer in
     let v = c.kept_at.result.now.state in
-    let opens = sym (ap opened c.deref.ensures.value ∙ c.in_ok-opens.ensures) in
+    let k = c.args.self.now in
+    let opens = sym (c.on-opens.ensures k.world (has-forks k.world c.self.inside.forks (ap (λ (x : KeptWorld). forks_in x.world) c.self.view_is))) in
     tells-runs c.args.self.now c.args.session.0 _ c.args.volume.0 _ _ (get_file_dir_parms-tells c.args.volume c.args.dir c.args.file_bits c.args.dir_bits c.args.path.now) c.in-Some.index v _ _
     answer.result c.new-block.result answer.new.out
     c.told_of.result c.in-Some.ensures c.kept_at.ensures refl

@@ -1,9 +1,11 @@
-use Rattle.std.proofs.Common.{◌∙◌, ap, subst, sym, List}
+use Rattle.std.proofs.Common.{ap, subst, sym, List}
 use Rattle.afp_serial.specs.Enumerate.{enumerate_reply}
 use Rattle.afp_volume.specs.Shared.{Opened}
 use Rattle.afp_volume.specs.Enumerate.{enumerate_refusal}
 use Rattle.afp_core.specs.lemma.OnOpened.{IsOpen}
-use Rattle.volume_tree.specs.Shown.{opened}
+use Rattle.afp_core.specs.ServerState.{KeptWorld}
+use Rattle.afp_core.specs.lemma.ServerState.{forks_in}
+use Rattle.afp_core.proofs.ForkLemmas.{has-forks}
 use Rattle.afp_core.proofs.OnVolumeLemmas.{tells-runs, tells-unopened}
 use Rattle.afp_core.proofs.state.State.list.Goals as goal
 
@@ -17,7 +19,8 @@ returns g c = λ call is goes.
     let answer = c.list-answer in
     let v = c.kept_at.result.now.state in
     let asked = c.args.asked in
-    let opens = sym (ap opened c.deref.ensures.value ∙ c.in_ok-opens.ensures) in
+    let k = c.args.self.now in
+    let opens = sym (c.on-opens.ensures k.world (has-forks k.world c.self.inside.forks (ap (λ (x : KeptWorld). forks_in x.world) c.self.view_is))) in
     tells-runs c.args.self.now c.args.session.0 call c.args.volume.0 _ _ record { row_is = is; goes_on = goes } c.in-Some.index v _ _ answer.result c.new-block.result answer.new.out
     c.told_of.result c.in-Some.ensures c.kept_at.ensures
     (ap (λ (l : List Opened). enumerate_refusal v l asked c.args.dir.0 c.args.path.now) opens) (ap (λ (l : List Opened). enumerate_reply v l asked c.args.dir.0 c.args.path.now) opens)

@@ -5,7 +5,7 @@ use Rattle.afp_base.specs.declared.ids.NodeId.{NodeId}
 use Rattle.afp_volume.specs.DesktopLaws.{with_desktop}
 use Rattle.afp_volume.specs.OpenFork.{open_fork_file}
 use Rattle.afp_volume.specs.SoundVolume.{has_file}
-use Rattle.afp_volume.specs.VolumeState.{Row, VolumeState}
+use Rattle.afp_volume.specs.VolumeState.{Row}
 use Rattle.afp_volume.specs.Walk.{row_at}
 use Rattle.volume_tree.specs.Answered.{Refuses}
 use Rattle.kept_volume.proofs.Telling.{file_same, fork_same, rows_same, told_id}
