@@ -1,4 +1,4 @@
--- The limits that a frame, a request and a session share (this profile).
+-- The limits that several layers share (this profile).
 use Rattle.std.specs.Prelude.{ℕ}
 
 -- the most bytes of a frame's payload, and so of a request and of a reply
@@ -8,3 +8,11 @@ payload_limit = 131072
 -- how many answers a session keeps for requests that come again
 abbrev pub replay_cache_size : ℕ
 replay_cache_size = 32
+
+-- the most forks that one session has open
+abbrev pub most_forks : ℕ
+most_forks = 256
+
+-- the most locks of one reference
+abbrev pub most_locks : ℕ
+most_locks = 1024

@@ -4,11 +4,12 @@ use Rattle.std.specs.Prelude.{count_by, filter, nat_le}
 use Rattle.std.specs.List.{list_all}
 use Rattle.std.proofs.lemmas.Bool.{and_parts, cases_Bool, cond_both, eq-eqb, eqb-false, eqb-true, false_from_ne_true, le-leb, leb-true}
 use Rattle.std.proofs.lemmas.List.Sums.{sum_by-cons}
+use Rattle.afp_base.specs.Limits.{most_forks}
 use Rattle.afp_serial.proofs.Closed.{within}
 use Rattle.afp_serial.proofs.PlacedLists.{one_if, or-split}
 use Rattle.afp_serial.proofs.SoundParts.{keeps_forks, limits-parts, opens-parts}
 use Rattle.afp_serial.specs.Fork.{free_from, lowest_free}
-use Rattle.afp_serial.specs.Limits.{most_forks, most_sessions}
+use Rattle.afp_serial.specs.Limits.{most_sessions}
 use Rattle.afp_serial.specs.World.{has_opened, has_session, is_open, volume_at, World, Session, OpenFork}
 use Rattle.afp_serial.specs.Sound.{IsSound, has_volume_open, is_file_of, is_lawful_open}
 use Rattle.afp_volume.proofs.TestedLists.{all-both, all-filter, all-kept, all-weaker, any-weaker, count-filter}

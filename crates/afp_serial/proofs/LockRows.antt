@@ -3,7 +3,7 @@ use Rattle.std.proofs.Common.{◌==◌, ◌≡◌, ◌∙◌, ap, sym, refl, ℕ
 use Rattle.std.specs.Prelude.{count_by, filter, nat_abs, nat_le}
 use Rattle.std.specs.List.{list_all, list_any}
 use Rattle.std.proofs.lemmas.Bool.{and_parts, and_from, cond_both, eqb-true, eq-eqb, leb-true, leb-false, le-leb}
-use Rattle.afp_base.specs.Limits.{payload_limit}
+use Rattle.afp_base.specs.Limits.{most_locks, payload_limit}
 use Rattle.afp_base.proofs.DefinitionLaws.{one_fork}
 use Rattle.afp_base.specs.Choice.{first_holding}
 use Rattle.afp_base.specs.DenyMode.{Fork, is_one_fork}
@@ -27,7 +27,6 @@ use Rattle.afp_serial.proofs.WriteRows.{start-small}
 use Rattle.afp_serial.specs.World.{Refusal, is_open, World, Session, OpenFork, Lock}
 use Rattle.afp_serial.specs.ForkBytes.{start_in}
 use Rattle.afp_serial.specs.LawfulCall.{is_lawful_call, is_signed}
-use Rattle.afp_serial.specs.Limits.{most_locks}
 use Rattle.afp_serial.specs.Lock.{LockAsked, byte_range_lock_ext_row, byte_range_lock_row, has_most_locks, is_lock, is_met_by_own, lock_asked, locked, locking_refusals, locks, locks_range, range_asked, range_of, range_refusals, range_to, unlocked}
 use Rattle.afp_serial.specs.OnFork.{OpenFile, bytes_of, is_met_by_other, meets_lock, placed}
 use Rattle.afp_serial.specs.Sound.{IsSound, has_apart_sessions, has_lawful_caches, has_lawful_opens, has_typed_fields, share_fork}

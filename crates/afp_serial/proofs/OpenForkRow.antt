@@ -4,7 +4,7 @@ use Rattle.std.specs.Prelude.{Result, Ok, Err, count_by, find, nat_le}
 use Rattle.std.specs.List.{list_all, list_any}
 use Rattle.std.proofs.lemmas.Bool.{and_parts, and_from, both_ways, eq-eqb, eqb-true, leb-false, leb-true, le-leb, or_left, or_right}
 use Rattle.std.proofs.lemmas.List.{length-append}
-use Rattle.afp_base.specs.Limits.{payload_limit}
+use Rattle.afp_base.specs.Limits.{most_forks, most_locks, payload_limit}
 use Rattle.afp_base.specs.Choice.{first_holding}
 use Rattle.afp_base.specs.DenyMode.{Access, Fork, do_conflict, is_clash, is_denied_by, is_one_fork}
 use Rattle.afp_base.specs.Overlap.{do_meet}
@@ -38,7 +38,6 @@ use Rattle.afp_serial.proofs.VolumeCodes.{is_refusal, open-fork-refuses}
 use Rattle.afp_serial.proofs.VolumeStates.{IsServed, served-at}
 use Rattle.afp_serial.specs.World.{Refused, plain, refused_before, has_opened, has_session, is_open, volume_at, World, Session, OpenFork, Lock}
 use Rattle.afp_serial.specs.Fork.{OpenAsked, access_of, denied_of, file_asked, fork_in, fork_ref, has_most_forks, is_denied, lowest_free, new_fork, open_fork_row, opened_reply, opens_asked, opens_fork, with_fork, with_open}
-use Rattle.afp_serial.specs.Limits.{most_forks, most_locks}
 use Rattle.afp_serial.specs.OnVolume.{opened_on, refused_on}
 use Rattle.afp_serial.specs.ReplyKinds.{command_of, reply_kind}
 use Rattle.afp_serial.specs.Sound.{IsSound, has_apart_sessions, has_lawful_caches, has_typed_fields, has_volume_open, is_file_of, is_lawful_open, share_fork}

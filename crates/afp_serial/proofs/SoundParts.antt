@@ -6,7 +6,8 @@ use Rattle.std.proofs.lemmas.Bool.{and_parts, and_from}
 use Rattle.afp_base.specs.DenyMode.{do_conflict}
 use Rattle.afp_base.specs.Overlap.{do_meet}
 use Rattle.afp_base.specs.Apart.{are_apart}
-use Rattle.afp_serial.specs.Limits.{most_users, most_volumes, most_sessions, most_forks, most_locks}
+use Rattle.afp_base.specs.Limits.{most_forks, most_locks}
+use Rattle.afp_serial.specs.Limits.{most_users, most_volumes, most_sessions}
 use Rattle.afp_serial.specs.Ranges.{is_moment, is_moment_or_none, is_typed_house}
 use Rattle.afp_serial.specs.World.{is_open, World, Session, OpenFork, Lock}
 use Rattle.afp_serial.specs.Sound.{share_link, is_link_below, has_apart_sessions, is_lawful_open, has_lawful_opens, share_fork, has_lawful_locks, is_lawful_cache, has_lawful_caches, has_typed_fields, keeps_all_limits}

@@ -3,6 +3,7 @@ use Rattle.std.specs.Prelude.{ℕ, zero, suc, ◌+◌, ◌-◌, ◌==◌, nat_le
 use Rattle.std.specs.List.{list_any}
 use Rattle.afp_base.specs.DenyMode.{Access, Fork, do_conflict}
 use Rattle.afp_base.specs.ForkBytes.{resized}
+use Rattle.afp_base.specs.Limits.{most_forks}
 use Rattle.afp_base.specs.declared.code.Code.TheVariants.{AccessDenied, BitmapErr, DenyConflict, DiskFull, LockErr, ParamErr, TooManyFilesOpen}
 use Rattle.afp_base.specs.declared.ids.ForkRef.{ForkRef}
 use Rattle.afp_bitmap.specs.Bits.{file_mask}
@@ -15,7 +16,6 @@ use Rattle.afp_volume.specs.Parms.{is_outside}
 use Rattle.afp_volume.specs.SetForkParms.{asks_length, has_no_length, length_in}
 use Rattle.afp_volume.specs.VolumeState.{Row as File, VolumeState}
 use Rattle.afp_serial.specs.World.{Effect, Refusal, CallRow, commits_nothing, plain, with_empty_reply, vol, refused_before, closing, is_open, volume_at, World, Session, OpenFork}
-use Rattle.afp_serial.specs.Limits.{most_forks}
 use Rattle.afp_serial.specs.OnFork.{OpenFile, bytes_of, is_locked, keeper_if, keeps_all, own_keeper, placed, row_on_fork, with_bytes}
 use Rattle.afp_serial.specs.OnVolume.{opened_on, refused_on}
 

@@ -1,7 +1,7 @@
 -- The laws of the rows of the calls on open forks (this profile).
 use Rattle.std.specs.Prelude.{◌≡◌, ◌≢◌, ℕ, ℤ, ◌+◌, ◌*◌, ◌<◌, ◌≤◌, true, false, Bool, List, length, find, Some, None, ◌↔◌, pos, negsuc, suc, slice_get, nat_le, min, ◌&&◌}
 use Rattle.std.specs.List.{Contains, list_all}
-use Rattle.afp_base.specs.Limits.{payload_limit}
+use Rattle.afp_base.specs.Limits.{most_forks, payload_limit}
 use Rattle.afp_base.specs.Choice.{first_holding}
 use Rattle.afp_base.specs.declared.code.Code.TheVariants.{DenyConflict, EOFErr, Ok}
 use Rattle.afp_base.specs.declared.ids.ForkRef.{ForkRef}
@@ -24,7 +24,7 @@ use Rattle.afp_serial.specs.Fork.{close_fork_row, flush_fork_row, get_fork_parms
 use Rattle.afp_serial.specs.ForkBytes.{read_ext_row, read_row, write_ext_row, write_row, ReadAsked, read_reply}
 use Rattle.afp_serial.specs.LawfulCall.{is_lawful_call}
 use Rattle.afp_serial.specs.Lock.{byte_range_lock_ext_row, byte_range_lock_row, last_byte, range_of}
-use Rattle.afp_serial.specs.Limits.{most_forks, most_sessions}
+use Rattle.afp_serial.specs.Limits.{most_sessions}
 use Rattle.afp_serial.specs.ReplyKinds.{reply_kind}
 use Rattle.afp_serial.specs.Rows.{refusal}
 use Rattle.afp_serial.specs.Sound.{IsSound, share_fork}

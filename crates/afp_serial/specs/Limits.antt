@@ -32,15 +32,9 @@ most_volumes = 8
 abbrev pub first_user_id : ℕ
 first_user_id = 501
 
--- the most sessions, attached and detached together; forks that one has open; and locks of one reference
+-- the most sessions, attached and detached together
 abbrev pub most_sessions : ℕ
 most_sessions = 64
-
-abbrev pub most_forks : ℕ
-most_forks = 256
-
-abbrev pub most_locks : ℕ
-most_locks = 1024
 
 -- how many link numbers there are: the last one is 2 ^ 64 - 1
 abbrev pub links_end : ℕ

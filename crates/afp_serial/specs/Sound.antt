@@ -2,7 +2,7 @@
 use Rattle.std.specs.Prelude.{◌≡◌, ℕ, ◌==◌, nat_le, nat_lt, Bool, true, false, ◌&&◌, List, length, map, count_by, All, Option, Some, None, is_none, bytes_eq}
 use Rattle.std.specs.Cmp.Lexicographic.{pointwise}
 use Rattle.std.specs.List.{list_all, list_any}
-use Rattle.afp_base.specs.Limits.{payload_limit, replay_cache_size}
+use Rattle.afp_base.specs.Limits.{most_forks, most_locks, payload_limit, replay_cache_size}
 use Rattle.afp_base.specs.Cached.{Kept, is_repeat}
 use Rattle.afp_base.specs.DenyMode.{is_one_fork, do_conflict}
 use Rattle.afp_base.specs.Overlap.{do_meet}
@@ -11,7 +11,7 @@ use Rattle.afp_base.specs.Apart.{are_apart}
 use Rattle.afp_volume.specs.SoundVolume.{IsSoundVolume, has_file}
 use Rattle.afp_serial.specs.declared.attachment.Attachment.{Attachment}
 use Rattle.afp_serial.specs.declared.attachment.Attachment.TheVariants.{Attached, Detached}
-use Rattle.afp_serial.specs.Limits.{most_users, most_volumes, most_sessions, most_forks, most_locks}
+use Rattle.afp_serial.specs.Limits.{most_users, most_volumes, most_sessions}
 use Rattle.afp_serial.specs.HouseFault.{house_fault}
 use Rattle.afp_serial.specs.Household.{Household}
 use Rattle.afp_serial.specs.Ranges.{is_moment, is_moment_or_none, is_typed_house}

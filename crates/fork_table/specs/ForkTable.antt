@@ -10,6 +10,7 @@ use Rattle.afp_base.specs.declared.ids.NodeId.{NodeId}
 use Rattle.afp_base.specs.declared.ids.SessionNumber.{SessionNumber}
 use Rattle.afp_base.specs.Choice.{first_holding}
 use Rattle.afp_base.specs.DenyMode.{Access, Fork, is_one_fork}
+use Rattle.afp_base.specs.Limits.{most_forks}
 use Rattle.afp_base.specs.Apart.{are_apart}
 use Rattle.deny_modes.specs.Opens.{Open, has_conflict, are_in_conflict, in_exchange}
 use Rattle.range_locks.specs.Locks.{Lock, are_overlapping}
@@ -52,15 +53,11 @@ is_of_volume session volume o = (o.session.0 == session) && (o.fork.volume == vo
 abbrev pub count_open : ℕ → List (ℕ × OpenFork) → ℕ
 count_open session rows = length (filter (λ row. is_of_session session row.1) rows)
 
--- the most forks that a session has open
-abbrev pub most_open : ℕ
-most_open = 256
-
 -- the refusals of an open, in order
 abbrev pub open_refusal : Table → SessionNumber → Fork → Access → Option OpenFault
 open_refusal t session fork access = first_holding (
     (has_conflict (plain_opens t.opens) fork access, Deny)
-    ∷ (nat_le most_open (count_open session.0 t.opens), TooMany)
+    ∷ (nat_le most_forks (count_open session.0 t.opens), TooMany)
     ∷ [])
 
 -- the table with one more open

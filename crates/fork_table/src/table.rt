@@ -10,7 +10,7 @@ ghost use Rattle.fork_table.specs.ForkTable.{Table, plain_opens, count_open, Ope
 use crate::own::{OwnRef, own_of};
 use crate::rows::{exchange_rows, lowest_free, put_row, take_row};
 use crate::{OpenFault, OpenFork};
-use afp_base::{ForkRef, SessionNumber, VolumeId};
+use afp_base::{ForkRef, MOST_FORKS, SessionNumber, VolumeId};
 use deny_modes::{ForkKey, Mode, Opens, VolumeOpens};
 use range_locks::{LockFault, Locks, NotLocked, Range};
 use sorted_map::SortedMap;
@@ -75,7 +75,7 @@ impl ForkTable {
         if !self.opens.may_open(&fork, &mode) {
             return Err(OpenFault::Deny);
         }
-        if self.count_open(s) >= 256 {
+        if self.count_open(s) >= MOST_FORKS {
             return Err(OpenFault::TooMany);
         }
         let r = lowest_free(self.rows.entries());

@@ -8,6 +8,7 @@ use Rattle.std.proofs.lemmas.Bool.{and_parts, eq-eqb, eqb-false, eqb-true, le-le
 use Rattle.std.proofs.lemmas.List.Folds.{list_all-map}
 use Rattle.afp_base.specs.Choice.{first_holding}
 use Rattle.afp_base.specs.DenyMode.{Fork, is_one_fork}
+use Rattle.afp_base.specs.Limits.{most_locks}
 use Rattle.afp_base.specs.Overlap.{Range, do_meet}
 use Rattle.afp_base.specs.declared.code.Code.TheVariants.{LockErr, NoMoreLocks, RangeOverlap}
 use Rattle.afp_serial.specs.World.{Refused, plain, is_open, World, OpenFork, Lock}
@@ -138,7 +139,7 @@ met-own w t x r o range f =
     ∙ any-where (table.is_held t.opens) (λ l. meets_lock w x range (lock_of l) && (l.reference == x.reference)) (λ l. (is_one_fork l.fork o.fork && do_meet l.range range) && (l.reference == r)) t.locks f.sound.held
     (λ l h. λ i. meets w t x r o range f l h i && (l.reference == f.number i))
 
-most-held : (w : World) (t : table.Table) (x : OpenFork) (r : ℕ) (o : Row) → Finds w t x r o → has_most_locks w x ≡ nat_le held.most_locks (held.count_held r t.locks)
+most-held : (w : World) (t : table.Table) (x : OpenFork) (r : ℕ) (o : Row) → Finds w t x r o → has_most_locks w x ≡ nat_le most_locks (held.count_held r t.locks)
 unfolding has_most_locks
 most-held w t x r o f =
     (λ i. nat_le 1024 (count_by (λ (lock : Lock). lock.reference == f.number i) (f.has.locks i)))
@@ -173,7 +174,7 @@ three false false false = refl
 refusal-is : (w : World) (t : table.Table) (x : OpenFork) (r : ℕ) (o : Row) (range : Range) → Finds w t x r o → first_holding (locking_refusals w x range) ≡ coded (held.lock_refusal t.locks o.fork r range)
 refusal-is w t x r o range f =
     (λ i. first_holding ((met-other w t x r o range f i, plain LockErr) ∷ (met-own w t x r o range f i, plain RangeOverlap) ∷ (most-held w t x r o f i, plain NoMoreLocks) ∷ []))
-    ∙ three (held.is_met_by_other t.locks o.fork r range) (held.is_met_by_own t.locks o.fork r range) (nat_le held.most_locks (held.count_held r t.locks))
+    ∙ three (held.is_met_by_other t.locks o.fork r range) (held.is_met_by_own t.locks o.fork r range) (nat_le most_locks (held.count_held r t.locks))
 
 -- the table with other locks
 less-locks : (t t' : table.Table) (ls : List Lock) → t'.opens ≡ t.opens → map lock_of t'.locks ≡ ls → forks_of t' ≡ with_locks (forks_of t) ls

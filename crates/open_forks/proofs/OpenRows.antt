@@ -13,6 +13,7 @@ use Rattle.std.proofs.lemmas.Bool.{cases_order, eq-eqb, le-ltb, lt-ltb, ne_eqb}
 use Rattle.std.proofs.lemmas.List.Sums.{length-filter}
 use Rattle.afp_base.specs.Choice.{first_holding}
 use Rattle.afp_base.specs.DenyMode.{Access, Fork, do_conflict}
+use Rattle.afp_base.specs.Limits.{most_forks}
 use Rattle.afp_base.specs.declared.ids.ForkRef.{ForkRef}
 use Rattle.afp_base.specs.declared.ids.SessionNumber.{SessionNumber}
 use Rattle.afp_serial.specs.Fork.{has_most_forks, is_denied, lowest_free, with_open}
@@ -157,7 +158,7 @@ denied-is w t fork access has =
     ∙ any-map (λ (o : OpenFork). do_conflict o.fork o.access fork access) row_of t.opens
     ∙ sym (any-map (λ (o : Open). do_conflict o.fork o.access fork access) table.plain t.opens)
 
-most-is : (w : World) (x : Session) (t : table.Table) (s : ℕ) → HasForks w (forks_of t) → x.number ≡ s → has_most_forks w x ≡ nat_le table.most_open (table.count_open s t.opens)
+most-is : (w : World) (x : Session) (t : table.Table) (s : ℕ) → HasForks w (forks_of t) → x.number ≡ s → has_most_forks w x ≡ nat_le most_forks (table.count_open s t.opens)
 unfolding has_most_forks
 most-is w x t s has number =
     (λ i. nat_le 256 (count_by (λ (o : OpenFork). o.session == number i) (has.opens i)))
@@ -201,7 +202,7 @@ second-of false false h = absurd (cc h)
 pub opens-fork : (w : World) (x : Session) (t t' : table.Table) (s : SessionNumber) (fork : Fork) (access : Access) (res : Result ForkRef OpenFault) → ReferenceIsFree → ReferenceIsLowest → ReferenceCounts
     → HasForks w (forks_of t) → x.number ≡ s.0 → table.OpensFork t s fork access res t' → OpensFork w x (forks_of t) fork access res (forks_of t')
 opens-fork w x t t' s fork access (Ok r) free lowest counts has number is =
-    let none = none-of (has_conflict (table.plain_opens t.opens) fork access) (nat_le table.most_open (table.count_open s.0 t.opens)) is.0 in
+    let none = none-of (has_conflict (table.plain_opens t.opens) fork access) (nat_le most_forks (table.count_open s.0 t.opens)) is.0 in
     let same : r.0 ≡ lowest_free (map row_of t.opens) = lowest-is t.opens r.0 free lowest counts is.1.0 in
     let row : Row = record { session = s; fork = fork; mode = access } in
     let new : open_of r.0 row ≡ new_open (forks_of t) x.number fork access = λ i. record { reference = same i; session = sym number i; fork = fork; access = access } in (
@@ -211,9 +212,9 @@ opens-fork w x t t' s fork access (Ok r) free lowest counts has number is =
       ap forks_of is.1.1 ∙ ap (with_opens (forks_of t)) (placed-new t.opens r.0 row is.1.0.free ∙ ap (λ (o : OpenFork). with_open o (map row_of t.opens)) new),
     )
 opens-fork w x t t' s fork access (Err Deny) free lowest counts has number is =
-    (denied-is w t fork access has ∙ first-of (has_conflict (table.plain_opens t.opens) fork access) (nat_le table.most_open (table.count_open s.0 t.opens)) is.0, ap forks_of is.1)
+    (denied-is w t fork access has ∙ first-of (has_conflict (table.plain_opens t.opens) fork access) (nat_le most_forks (table.count_open s.0 t.opens)) is.0, ap forks_of is.1)
 opens-fork w x t t' s fork access (Err TooMany) free lowest counts has number is =
-    let both = second-of (has_conflict (table.plain_opens t.opens) fork access) (nat_le table.most_open (table.count_open s.0 t.opens)) is.0 in
+    let both = second-of (has_conflict (table.plain_opens t.opens) fork access) (nat_le most_forks (table.count_open s.0 t.opens)) is.0 in
     (denied-is w t fork access has ∙ both.0, most-is w x t s.0 has number ∙ both.1, ap forks_of is.1)
 opens-fork w x t t' s fork access (Err Memory) free lowest counts has number is = ap forks_of is.1
 

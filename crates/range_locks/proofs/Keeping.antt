@@ -16,6 +16,7 @@ use Rattle.std.proofs.lemmas.List.Edits.{length-between, get_or-between, length-
 use Rattle.std.proofs.lemmas.List.Sorted.{IsNonDecreasingBy-insert}
 use Rattle.afp_base.specs.Choice.{first_holding}
 use Rattle.afp_base.specs.DenyMode.{Fork, is_one_fork}
+use Rattle.afp_base.specs.Limits.{most_locks}
 use Rattle.afp_base.specs.Overlap.{Range, do_meet, do_overlap}
 use Rattle.afp_base.specs.Apart.{are_apart}
 use Rattle.deny_modes.proofs.Forks.{same_fork, itself, either_way, crosses, both_cross, found_crossed}
@@ -25,7 +26,7 @@ use Rattle.sorted_map.specs.Entries.{at, exchanged}
 use Rattle.range_locks.specs.declared.fault.LockFault.TheVariants.{Locked, Overlap, Full}
 use Rattle.range_locks.specs.declared.rows.LockRow.{LockRow}
 use Rattle.range_locks.specs.declared.rows.Seen.{Seen}
-use Rattle.range_locks.specs.Locks.{Lock, are_overlapping, is_met_by_other, is_met_by_own, count_held, most_locks, lock_refusal, with_lock, is_lock, has_lock, exchange_lock, exchanged_locks, without_holder, is_row, are_one_row, AreInOrder, AreIntervals}
+use Rattle.range_locks.specs.Locks.{Lock, are_overlapping, is_met_by_other, is_met_by_own, count_held, lock_refusal, with_lock, is_lock, has_lock, exchange_lock, exchanged_locks, without_holder, is_row, are_one_row, AreInOrder, AreIntervals}
 use Rattle.range_locks.specs.lemma.Kept.{rows_at, holder_of, is_among, IsBehind, IsBefore, IsPlaceOf, IsKept}
 use Rattle.range_locks.specs.lemma.Seen.{IsSeen}
 

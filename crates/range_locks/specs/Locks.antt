@@ -3,6 +3,7 @@ use Rattle.std.specs.Prelude.{◌≡◌, ℕ, ◌==◌, ◌<◌, nat_le, nat_lt,
 use Rattle.std.specs.List.{list_any}
 use Rattle.afp_base.specs.Choice.{first_holding}
 use Rattle.afp_base.specs.DenyMode.{Fork, is_one_fork}
+use Rattle.afp_base.specs.Limits.{most_locks}
 use Rattle.afp_base.specs.Overlap.{Range, do_overlap}
 use Rattle.deny_modes.specs.Opens.{in_exchange}
 use Rattle.range_locks.specs.declared.fault.LockFault.{LockFault}
@@ -15,10 +16,6 @@ pub record Lock : Type 0 where
   pub reference : ℕ
   pub fork : Fork
   pub range : Range
-
--- the most locks of one reference
-abbrev pub most_locks : ℕ
-most_locks = 1024
 
 -- two locks on one fork share a byte
 abbrev pub are_overlapping : Lock → Lock → Bool

@@ -11,7 +11,7 @@ ghost use Rattle.range_locks.specs.lemma.Kept.{IsBehind, IsBefore, IsPlaceOf, ho
 use crate::forks::{add_row, rows_of, take_holder, take_row};
 use crate::rows::{LockRow, Rows, look};
 use crate::{LockFault, NotLocked, Range};
-use afp_base::ForkRef;
+use afp_base::{ForkRef, MOST_LOCKS};
 use deny_modes::ForkKey;
 use sorted_map::SortedMap;
 use std::alloc::Global;
@@ -134,7 +134,7 @@ impl Locks {
         if seen.own {
             return Err(LockFault::Overlap);
         }
-        if held_by(self.list.as_slice(), r.0) >= 1024 {
+        if held_by(self.list.as_slice(), r.0) >= MOST_LOCKS {
             return Err(LockFault::Full);
         }
         let Ok(()) = self.list.reserve(1) else {

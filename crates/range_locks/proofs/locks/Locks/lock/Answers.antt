@@ -10,8 +10,8 @@ returns-then-seen c = (is_locked (record { was = c.self.invariant; shown = c.sel
 pub returns-then-seen-2 : goal.returns-then-seen-2
 returns-then-seen-2 c = (is_overlap (record { was = c.self.invariant; shown = c.self.view_is; rows_are = c.rows_of.ensures; looked = c.look-seen.ensures }) c.if-seen.false c.if-seen-2.true, cc)
 
-pub returns-then-held_by-ge1024 : goal.returns-then-held_by-ge1024
-returns-then-held_by-ge1024 c = (is_full (record { was = c.self.invariant; shown = c.self.view_is; rows_are = c.rows_of.ensures; looked = c.look-seen.ensures }) c.held_by.result c.as_slice.result.now c.if-seen.false c.if-seen-2.false c.as_slice.ensures.value c.held_by.ensures (omega arith), cc)
+pub returns-then-held_by-ge-MOST_LOCKS : goal.returns-then-held_by-ge-MOST_LOCKS
+returns-then-held_by-ge-MOST_LOCKS c = (is_full (record { was = c.self.invariant; shown = c.self.view_is; rows_are = c.rows_of.ensures; looked = c.look-seen.ensures }) c.held_by.result c.as_slice.result.now c.if-seen.false c.if-seen-2.false c.as_slice.ensures.value c.held_by.ensures (omega arith), cc)
 
 pub returns-in_default : goal.returns-in_default
 returns-in_default c = (is_free (record { was = c.self.invariant; shown = c.self.view_is; rows_are = c.rows_of.ensures; looked = c.look-seen.ensures }) c.held_by.result c.as_slice.result.now c.if-seen.false c.if-seen-2.false c.as_slice.ensures.value c.held_by.ensures (omega arith), c.in_default.ensures.items ∙ c.self.view_is)
