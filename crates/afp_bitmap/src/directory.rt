@@ -107,7 +107,7 @@ pub(crate) fn read_dir(alloc: Global, bits: u16, bytes: &[u8]) -> Result<DirValu
     let names = judge(bits, &TABLE, bytes)?;
     let long_name = Bytes::of(alloc, names.long)?;
     let utf8_name = Bytes::of(alloc, names.utf8)?;
-    let mut fields = Fields { bits, rest: bytes };
+    let mut fields = Fields::new(bits, bytes);
     let attributes = fields.short(0);
     let parent = fields.long(1);
     let created = fields.date(2);

@@ -1,22 +1,49 @@
 //! The fields of the fixed part, taken one after the other.
-ghost use Rattle.std.specs.Prelude.{◌≡◌, ◌≢◌, [], length, IfOk};
+ghost use Rattle.std.specs.Prelude.{◌≡◌, ◌≢◌, [], length};
 ghost use Rattle.std.specs.Int.{w32, cast_signed};
 ghost use Rattle.byteorder.specs.Endian.{big_number};
 ghost use Rattle.afp_bitmap.specs.lemma.Reading.{finder_of};
 ghost use Rattle.afp_bitmap.specs.lemma.Taking.{Took, taken};
 
 use crate::table::is_asked;
+use afp_base::Scan;
 use byteorder::{BigEndian, ByteOrder};
+use std::marker::Model;
 
 /// Takes field by field from a block, by rising bit. A field that was not asked, or that is not
 /// there, is zero and takes no byte.
+///
+/// Contracts see the asked bits, and the bytes that are not taken yet.
 #[derive(Drop)]
 pub(crate) struct Fields<'a> {
-    pub(crate) bits: u16,
-    pub(crate) rest: &'a [u8],
+    bits: u16,
+    scan: Scan<'a>,
+}
+
+impl<'a> Model for Fields<'a> {
+    ghost use Rattle.std.specs.Prelude.{◌≤◌, drop, length};
+    ghost use Rattle.afp_bitmap.specs.lemma.Taking.{Untaken};
+
+    ghost Value = { Untaken };
+
+    ghost view = { λ f. record { bits = f.bits; rest = drop f.scan.place f.scan.bytes } };
+
+    ghost invariant = { λ f. f.scan.place ≤ length f.scan.bytes };
 }
 
 impl<'a> Fields<'a> {
+    ghost use Rattle.afp_bitmap.specs.lemma.Taking.{Untaken};
+
+    /// No field of the block is taken.
+    pub(crate) fn new(bits: u16, bytes: &'a [u8]) -> Fields<'a>
+        ensures { result ≡ record { bits = bits; rest = bytes.now } }
+    {
+        Fields {
+            bits,
+            scan: Scan::new(bytes),
+        }
+    }
+
     /// The `size` bytes of a field.
     #[tactic(auto, unfolding(crate::specs::lemma::Reading::piece, crate::specs::lemma::Reading::behind))]
     fn piece(&mut self, bit: u32, size: usize) -> &'a [u8]
@@ -24,12 +51,12 @@ impl<'a> Fields<'a> {
         ensures whole { length result.now ≢ size → result.now ≡ [] }
         ensures took { Took self.old bit size self.new }
     {
-        if is_asked(self.bits, bit) && size <= self.rest.len() {
-            let (piece, rest) = self.rest.split_at(size);
-            self.rest = rest;
-            piece
-        } else {
-            &[]
+        if !is_asked(self.bits, bit) {
+            return &[];
+        }
+        match self.scan.bytes(size) {
+            Ok(piece) => piece,
+            Err(_) => &[],
         }
     }
 

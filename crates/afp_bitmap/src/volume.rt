@@ -109,7 +109,7 @@ pub(crate) fn read_volume(
 {
     let names = judge(bits, &TABLE, bytes)?;
     let name = Bytes::of(alloc, names.long)?;
-    let mut fields = Fields { bits, rest: bytes };
+    let mut fields = Fields::new(bits, bytes);
     let attributes = fields.short(0);
     let signature = fields.short(1);
     let created = fields.date(2);

@@ -25,6 +25,6 @@ returns c =
     rw (c.in_ok-long_name.ensures, c.in_ok-utf8_name.ensures)
     (bind_ok _ _ _ c.in_ok-names.ensures
     ∙ ap (λ v. Ok v)
-    (file_taken _ _ _ _ _ _ _ _ _ _ _ _ _ _ _ _ _ _ _ _ _ _ _ _ _ _ _
-    c.short-attributes.ensures.took c.long-parent.ensures.took c.date-created.ensures.took c.date-modified.ensures.took c.date-backup.ensures.took c.finder-finder.ensures.took c.skip.ensures c.long-id.ensures.took c.long-data_length.ensures.took c.long-resource_length.ensures.took c.wide-ext_data_length.ensures.took c.skip-2.ensures c.wide-ext_resource_length.ensures.took
+    (file_taken _ _ _ _ _ _ _ _ _ _ _ _ _ _ _ _ _ _ _ _ _ _ _ _ _ _ _ _ _
+    c.new-fields.ensures c.short-attributes.ensures.took c.long-parent.ensures.took c.date-created.ensures.took c.date-modified.ensures.took c.date-backup.ensures.took c.finder-finder.ensures.took c.skip.ensures c.long-id.ensures.took c.long-data_length.ensures.took c.long-resource_length.ensures.took c.wide-ext_data_length.ensures.took c.skip-2.ensures c.wide-ext_resource_length.ensures.took
     c.short-attributes.ensures.value c.long-parent.ensures.value (created ∙ c.date-created.ensures.value) (modified ∙ c.date-modified.ensures.value) (backup ∙ c.date-backup.ensures.value) c.finder-finder.ensures.value c.long-id.ensures.value c.long-data_length.ensures.value c.long-resource_length.ensures.value c.wide-ext_data_length.ensures.value c.wide-ext_resource_length.ensures.value))

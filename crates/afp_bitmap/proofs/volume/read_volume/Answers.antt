@@ -25,6 +25,6 @@ returns c =
     rw (c.in_ok-name.ensures)
     (bind_ok _ _ _ c.in_ok-names.ensures
     ∙ ap (λ v. Ok v)
-    (volume_taken _ _ _ _ _ _ _ _ _ _ _ _ _ _ _ _ _ _ _ _ _ _ _ _ _
-    c.short-attributes.ensures.took c.short-signature.ensures.took c.date-created.ensures.took c.date-modified.ensures.took c.date-backup.ensures.took c.short-volume.ensures.took c.long-free.ensures.took c.long-total.ensures.took c.skip.ensures c.wide-ext_free.ensures.took c.wide-ext_total.ensures.took c.long-block_size.ensures.took
+    (volume_taken _ _ _ _ _ _ _ _ _ _ _ _ _ _ _ _ _ _ _ _ _ _ _ _ _ _ _
+    c.new-fields.ensures c.short-attributes.ensures.took c.short-signature.ensures.took c.date-created.ensures.took c.date-modified.ensures.took c.date-backup.ensures.took c.short-volume.ensures.took c.long-free.ensures.took c.long-total.ensures.took c.skip.ensures c.wide-ext_free.ensures.took c.wide-ext_total.ensures.took c.long-block_size.ensures.took
     c.short-attributes.ensures.value c.short-signature.ensures.value (created ∙ c.date-created.ensures.value) (modified ∙ c.date-modified.ensures.value) (backup ∙ c.date-backup.ensures.value) c.short-volume.ensures.value c.long-free.ensures.value c.long-total.ensures.value c.wide-ext_free.ensures.value c.wide-ext_total.ensures.value c.long-block_size.ensures.value))
