@@ -1,6 +1,6 @@
 //! The names behind the fixed part.
-ghost use Rattle.std.specs.Prelude.{◌≡◌, ◌+◌, ◌<◌, ◌^◌, length, IfOk, true};
-ghost use Rattle.afp_bitmap.specs.lemma.Reading.{Gives, Spot, spot_of, walk_of, names_of, name_of, zero_at, pad_at, leads_to, long_name_at, utf8_name_at, long_name_of, utf8_name_of, names_at};
+ghost use Rattle.std.specs.Prelude.{◌≡◌, ◌+◌, ◌<◌, ◌^◌, length, IfOk};
+ghost use Rattle.afp_bitmap.specs.lemma.Reading.{Gives, spot_of, walk_of, names_of, name_of, zero_at, pad_at, leads_to, long_name_at, utf8_name_at, long_name_of, utf8_name_of, names_at};
 
 use crate::judge::Walked;
 use crate::params::ParamFault;

@@ -1,5 +1,5 @@
 //! Blocks of parameters of all kinds.
-ghost use Rattle.std.specs.Prelude.{◌≡◌, ◌≤◌, ◌<◌, ◌^◌, ◌++◌, ℕ, OnOk, OnErr, IfOk, MatchResult};
+ghost use Rattle.std.specs.Prelude.{◌≡◌, ◌≤◌, ◌++◌, OnOk, OnErr, IfOk, MatchResult};
 ghost use Rattle.afp_bitmap.specs.declared.params.ParamFault.TheVariants.{Memory};
 ghost use Rattle.afp_bitmap.specs.declared.params.Values.{Values};
 ghost use Rattle.afp_bitmap.specs.Bits.{IsWithin, mask_of};

@@ -1,5 +1,5 @@
 //! The shape of each field, by its bit.
-ghost use Rattle.std.specs.Prelude.{◌≡◌, ◌<◌, ◌^◌, length};
+ghost use Rattle.std.specs.Prelude.{◌≡◌, ◌<◌, ◌^◌};
 ghost use Rattle.afp_bitmap.specs.Bits.{is_asked};
 ghost use Rattle.afp_bitmap.specs.lemma.Reading.{size_of, asked_size};
 

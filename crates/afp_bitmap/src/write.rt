@@ -1,7 +1,6 @@
 //! Fields into a block.
-ghost use Rattle.std.specs.Prelude.{◌≡◌, ◌+◌, ◌-◌, ◌≤◌, ◌<◌, ◌^◌, ◌++◌, drop, length, map, take, true, false, OnOk, OnErr, IfOk, None};
+ghost use Rattle.std.specs.Prelude.{◌≡◌, ◌+◌, ◌-◌, ◌≤◌, ◌<◌, ◌^◌, ◌++◌, drop, length, map, take, true, false, OnOk, OnErr, IfOk};
 ghost use Rattle.std.specs.List.{concat, AllByRecursion};
-ghost use Rattle.byteorder.specs.Endian.{big_bytes};
 ghost use Rattle.afp_bitmap.specs.Bits.{is_asked};
 ghost use Rattle.afp_bitmap.specs.Field.{fixed_bytes, IsCountable};
 ghost use Rattle.afp_bitmap.specs.Params.{asked_of, parts, size_of_fixed_part};

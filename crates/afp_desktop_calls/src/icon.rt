@@ -1,6 +1,6 @@
 //! The requests about icons (AFP Reference, "Desktop Database Commands").
 
-ghost use Rattle.std.specs.Prelude.{◌<◌, length, OnOk, OnErr, []};
+ghost use Rattle.std.specs.Prelude.{length, OnOk, OnErr, []};
 ghost use Rattle.afp_requests.specs.Icon.{add_icon, add_icon_reader, get_icon, get_icon_reader, get_icon_info, get_icon_info_reader};
 ghost use Rattle.afp_fields.specs.lemma.Taking.{Gives};
 ghost use Rattle.afp_base.specs.Appended.{Keeps};

@@ -6,7 +6,6 @@ use Rattle.afp_requests.specs.declared.call.ReadFault.TheVariants as faults
 use Rattle.afp_requests.specs.Words.{Word, Value}
 use Rattle.afp_requests.specs.Reading.{Reading, Then, Alone, With, Reader, read_by}
 use Rattle.afp_fields.specs.Input.{Input, bytes_left, read_on}
-use Rattle.afp_fields.specs.lemma.Input.{behind}
 
 -- The word is taken from the front: what is read of it and more is read of the more behind it. Param: it does not stand there.
 abbrev pub Takes : (w : Word) → Input → Result (Value w) ReadFault → Input → Type 0

@@ -1,7 +1,7 @@
 //! The fields of a request, one after the other.
 #![tactic(auto, using(crate::proofs::WordLemmas::words_read))]
 
-ghost use Rattle.std.specs.Prelude.{◌≡◌, ◌⊎◌, ◌≤◌, length, Ok, IfOk, OnErr};
+ghost use Rattle.std.specs.Prelude.{◌≡◌, ◌≤◌, length, Ok, OnErr};
 ghost use Rattle.std.specs.Option.{option_copied};
 ghost use Rattle.afp_requests.specs.Words.{Literal, Pad, LastPad, Even, Number, Within, Count, Optional, Signed32, Signed64, Plain, Counted, Tail};
 ghost use Rattle.afp_fields.specs.Taking.{Takes, TakesEnclosed, StandsAlone};

@@ -1,6 +1,6 @@
 //! The requests about byte-range locks (AFP Reference, "Fork Commands").
 
-ghost use Rattle.std.specs.Prelude.{◌<◌, length, OnOk, OnErr};
+ghost use Rattle.std.specs.Prelude.{length, OnOk, OnErr};
 ghost use Rattle.afp_requests.specs.Lock.{byte_range_lock, byte_range_lock_reader, byte_range_lock_ext, byte_range_lock_ext_reader};
 ghost use Rattle.afp_fields.specs.lemma.Taking.{Gives};
 ghost use Rattle.afp_base.specs.Appended.{Keeps};

@@ -1,12 +1,12 @@
 //! Long names, for clients that name nodes in at most 31 bytes.
-ghost use Rattle.std.specs.Prelude.{◌≡◌, ◌≤◌, ◌-◌, ◌&&◌, nat_lt, drop, [], if◌then◌else◌, ◌++◌, ◌∷◌, map, chars, take, true, not, length, string_bytes, OnOk, IfOk, IfSome, IfNone, is_some, slice_index, ◌<◌, ◌+◌, ◌==◌};
+ghost use Rattle.std.specs.Prelude.{◌≡◌, ◌≤◌, ◌-◌, ◌&&◌, nat_lt, drop, [], if◌then◌else◌, ◌++◌, map, chars, true, not, length, string_bytes, OnOk, IfOk, IfSome, IfNone, is_some, slice_index, ◌<◌, ◌+◌, ◌==◌};
 ghost use Rattle.std.specs.List.{list_all, suffix_len};
 ghost use Rattle.std.specs.Char.{is_ascii_alphanumeric};
 ghost use Rattle.std.specs.Fmt.{digits};
 ghost use Rattle.std.specs.Str.{IsAscii};
 ghost use Rattle.unicode_normalization.specs.Forms.{nfc};
 ghost use Rattle.afp_names.specs.MacRoman.{mac_roman_byte};
-ghost use Rattle.afp_names.specs.LongName.{longest_long_name, full_stop, shown_byte, is_long_name, is_extension, extension_of, stem_of, ending_of, shortened, long_name_of};
+ghost use Rattle.afp_names.specs.LongName.{longest_long_name, full_stop, shown_byte, is_long_name, is_extension, extension_of, ending_of, shortened, long_name_of};
 
 use crate::mac_roman::byte_of;
 use crate::name::Name;

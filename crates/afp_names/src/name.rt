@@ -1,5 +1,5 @@
 //! Names, and the keys by which names are told apart.
-ghost use Rattle.std.specs.Prelude.{◌≡◌, ◌≢◌, ◌↔◌, ◌⊎◌, ℕ, List, None, Some, ◌==◌, ◌<◌, ◌≤◌, nat_lt, false, length, map, take, IfOk, IfErr, IfSome, OnOk, IfNone, MatchOption, MatchResult};
+ghost use Rattle.std.specs.Prelude.{◌≡◌, ◌↔◌, ℕ, List, None, Some, ◌==◌, ◌<◌, ◌≤◌, nat_lt, false, length, map, take, IfOk, IfErr, IfSome, OnOk, IfNone, MatchOption};
 ghost use Rattle.std.specs.Char.{to_ascii_lowercase};
 ghost use Rattle.std.specs.Str.{IsAscii, IsNotAscii};
 ghost use Rattle.std.specs.List.{list_any};

@@ -1,5 +1,5 @@
 //! Paths: steps up and down from a directory.
-ghost use Rattle.std.specs.Prelude.{◌≡◌, ◌≢◌, ◌||◌, ◌<◌, ◌≤◌, ◌⊎◌, ◌++◌, ◌==◌, nat_le, not, true, false, Some, None, [], ◌∷◌, replicate, length, slice_get, IfOk, IfErr, OnOk};
+ghost use Rattle.std.specs.Prelude.{◌≡◌, ◌≢◌, ◌||◌, ◌<◌, ◌≤◌, ◌⊎◌, ◌++◌, ◌==◌, nat_le, not, true, false, Some, [], ◌∷◌, replicate, length, slice_get, IfOk, IfErr, OnOk};
 ghost use Rattle.std.specs.List.{list_any, position_or_len};
 ghost use Rattle.afp_names.specs.LongName.{longest_long_name};
 ghost use Rattle.afp_names.specs.Path.{long_names, utf8_names, longest_long_path, longest_utf8_path, PathValue, IsPath, SpellsPath, canonical_path, path_fault, path_steps, has_bad_element, is_element, element_name};

@@ -1,5 +1,5 @@
 //! The bytes that the reads of a link in memory give.
-ghost use Rattle.std.specs.Prelude.{◌≡◌, ◌≤◌, ◌<◌, ◌++◌, ◌∷◌, [], Some, length, take, drop};
+ghost use Rattle.std.specs.Prelude.{◌≡◌, ◌≤◌, ◌++◌, ◌∷◌, [], Some, length, take, drop};
 ghost use Rattle.afp_outside.specs.Link.{piece, quiet};
 
 use crate::link::Heard;

@@ -1,6 +1,5 @@
 //! A door in memory.
 ghost use Rattle.std.specs.Prelude.{◌≡◌, ◌≤◌, [], false, length, All, IfOk};
-ghost use Rattle.afp_outside.specs.Link.{IsFresh};
 ghost use Rattle.afp_outside.specs.Listener.{Accepts, TakesBack};
 ghost use Rattle.afp_outside.specs.Tape.{link_of, door_of, IsFreshTape, TapeAccepts};
 

@@ -1,5 +1,5 @@
 //! Fields of replies, read one after the other.
-ghost use Rattle.std.specs.Prelude.{◌≡◌, ◌+◌, ◌≤◌, ◌<◌, ◌^◌, [], length, take, drop, IfOk, MatchResult};
+ghost use Rattle.std.specs.Prelude.{◌≡◌, ◌+◌, ◌≤◌, ◌<◌, ◌^◌, length, drop, IfOk};
 ghost use Rattle.afp_bitmap.specs.Bits.{IsWithin, mask_of, file_mask, dir_mask};
 ghost use Rattle.afp_replies.specs.declared.reply.ReplyFault.TheVariants.{Bad};
 ghost use Rattle.afp_replies.specs.Bytes.{width};

@@ -1,12 +1,12 @@
 -- What the rows of calls on one volume share: the volume's own refusals behind the session's, its next state in the world, its open forks, and its keeper (this profile).
-use Rattle.std.specs.Prelude.{ℕ, zero, suc, ◌==◌, true, List, [], ◌∷◌, filter, map, slice_set, Option, None, Some}
+use Rattle.std.specs.Prelude.{ℕ, zero, suc, ◌==◌, List, [], ◌∷◌, filter, map, slice_set, Option, None, Some}
 use Rattle.afp_base.specs.declared.code.Code.{Code}
 use Rattle.afp_base.specs.declared.code.Code.TheVariants.{ParamErr}
 use Rattle.afp_replies.specs.declared.reply.Reply.{Reply}
 use Rattle.afp_volume.specs.Shared.{Opened}
 use Rattle.afp_volume.specs.TreeSteps.{TreeCall, tree_refusal, tree_effect}
 use Rattle.afp_volume.specs.VolumeState.{VolumeState}
-use Rattle.afp_serial.specs.World.{Effect, Refusal, CallRow, commits_nothing, plain, refused_before, with_empty_reply, vol, volume_at, World, Session, OpenFork}
+use Rattle.afp_serial.specs.World.{Effect, Refusal, CallRow, commits_nothing, refused_before, with_empty_reply, vol, volume_at, World, Session, OpenFork}
 
 -- what is refused of a volume; one that is not there counts as not opened
 abbrev pub refused_on : Option VolumeState → (VolumeState → Option Code) → Option Code

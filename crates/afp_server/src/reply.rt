@@ -1,5 +1,5 @@
 //! Replies, as frames in a buffer.
-ghost use Rattle.std.specs.Prelude.{◌≡◌, ◌≤◌, ◌+◌, [], length, take};
+ghost use Rattle.std.specs.Prelude.{◌≡◌, ◌≤◌, [], length, take};
 ghost use Rattle.dsi_frame.specs.Frame.{canonical_frame, frame_of, header_of};
 ghost use Rattle.afp_server.specs.Replies.{reply_to};
 

@@ -1,6 +1,6 @@
 -- the number that digits spell is at least that of a first part of them
 use Rattle.std.proofs.Common.{◌≡◌, ℕ, ◌+◌, ◌*◌, ◌-◌, ◌≤◌, ◌<◌, Bool, true, false, List, [], ◌∷◌, suc, length, drop, get_or, sym, ap, ◌∙◌, refl, arith, drop-cons}
-use Rattle.std.specs.Prelude.{Option, Some, None, nat_le, if◌then◌else◌}
+use Rattle.std.specs.Prelude.{Some, None, nat_le, if◌then◌else◌}
 use Rattle.std.proofs.lemmas.Bool.{lt-leb}
 use Rattle.capture_lines.specs.Fields.{value_behind}
 

@@ -1,5 +1,5 @@
 -- The forms of a capture's lines (docs/CAPTURES.md; this profile).
-use Rattle.std.specs.Prelude.{ℕ, ◌==◌, ◌&&◌, nat_le, nat_lt, not, Bool, if◌then◌else◌, List, [], ◌∷◌, length, codes, bytes_eq, Option, Some, None, option_map}
+use Rattle.std.specs.Prelude.{ℕ, ◌&&◌, nat_le, nat_lt, if◌then◌else◌, List, length, codes, bytes_eq, Option, Some, None, option_map}
 use Rattle.std.specs.List.{list_all, list_any, before_first, after_first}
 use Rattle.capture_lines.specs.Fields.{is_space, is_colon, is_ascii, is_word, number_in, hex_in, sized_in, filled}
 use Rattle.capture_lines.specs.declared.line.Line.{Line}

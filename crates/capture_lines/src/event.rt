@@ -1,5 +1,5 @@
 //! What happened on a connection.
-ghost use Rattle.std.specs.Prelude.{◌≡◌, ◌≤◌, IfOk, IfSome};
+ghost use Rattle.std.specs.Prelude.{◌≡◌, IfOk};
 ghost use Rattle.std.specs.List.{before_first, after_first};
 ghost use Rattle.capture_lines.specs.Fields.{is_space, number_in};
 ghost use Rattle.capture_lines.specs.Lines.{link_in, last_moment, bytes_in, what_in, moment_then, event_in};

@@ -1,8 +1,8 @@
 //! Bytes in hexadecimal digits.
-ghost use Rattle.std.specs.Prelude.{◌≡◌, length, Ok, IfOk, IfNone, IfSome};
+ghost use Rattle.std.specs.Prelude.{◌≡◌, IfOk};
 ghost use Rattle.std.specs.List.{list_all};
 ghost use Rattle.std.specs.Result.{result_ok};
-ghost use Rattle.hex.specs.Hex.{decode_of, decode_sized};
+ghost use Rattle.hex.specs.Hex.{decode_of};
 ghost use Rattle.capture_lines.specs.Fields.{is_lower_digit, hex_in, sized_in};
 
 use afp_base::{Bytes, OutOfMemory};

@@ -1,5 +1,5 @@
 //! A line, read.
-ghost use Rattle.std.specs.Prelude.{◌≡◌, ◌≤◌, ◌++◌, ◌∷◌, [], length, take, IfOk, option_map};
+ghost use Rattle.std.specs.Prelude.{◌≡◌, ◌≤◌, length, IfOk};
 ghost use Rattle.capture_lines.specs.Fields.{filled};
 ghost use Rattle.capture_lines.specs.Lines.{name_in, user_in, headed, line_in};
 

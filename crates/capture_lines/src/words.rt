@@ -1,5 +1,5 @@
 //! Words, and what stands behind them.
-ghost use Rattle.std.specs.Prelude.{◌≡◌, ◌==◌, ℕ, length, take, drop};
+ghost use Rattle.std.specs.Prelude.{◌≡◌, ◌==◌, ℕ, take, drop};
 ghost use Rattle.std.specs.List.{before_first, after_first, position, position_or_len, list_all, list_any};
 ghost use Rattle.capture_lines.specs.Fields.{is_space, is_colon, is_ascii, is_word};
 

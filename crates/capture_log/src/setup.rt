@@ -1,5 +1,5 @@
 //! The house that the first lines of a capture make.
-ghost use Rattle.std.specs.Prelude.{◌≡◌, ◌≢◌, ◌≤◌, ◌<◌, ◌++◌, ◌∷◌, [], false, nat_lt, not, ◌||◌, length, Some, IfOk, IfErr, OnOk};
+ghost use Rattle.std.specs.Prelude.{◌≡◌, ◌≢◌, ◌<◌, ◌++◌, ◌∷◌, [], false, nat_lt, not, ◌||◌, length, Some, IfOk, IfErr, OnOk};
 ghost use Rattle.afp_serial.specs.HouseFault.{house_fault, is_bad_user, is_bad_volume, is_name};
 ghost use Rattle.afp_serial.specs.Household.{household};
 ghost use Rattle.afp_serial.specs.Limits.{longest_server, most_users};

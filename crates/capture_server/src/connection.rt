@@ -1,5 +1,5 @@
 //! One connection of a capture.
-ghost use Rattle.std.specs.Prelude.{◌≡◌, ◌≢◌, ◌+◌, ◌^◌, ◌<◌, ◌≤◌, List, ℕ, true, false, None, Some, IfOk, OnOk, length, drop};
+ghost use Rattle.std.specs.Prelude.{◌≡◌, ◌≢◌, ◌+◌, ◌^◌, ◌<◌, ◌≤◌, List, ℕ, false, None, Some, IfOk, OnOk, length, drop};
 ghost use Rattle.afp_core.specs.Telling.{start_of};
 ghost use Rattle.afp_core.specs.lemma.Telling.{shown_of};
 ghost use Rattle.afp_serial.specs.StatusBlock.{status_block};

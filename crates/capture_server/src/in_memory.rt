@@ -1,5 +1,5 @@
 //! Keepers in memory for a replay.
-ghost use Rattle.std.specs.Prelude.{◌≡◌, Some, IfOk};
+ghost use Rattle.std.specs.Prelude.{Some, IfOk};
 ghost use Rattle.record_keeper.specs.Planned.{never_fails};
 ghost use Rattle.capture_server.specs.Keepers.{AreFresh};
 

@@ -1,5 +1,5 @@
 //! The server that a capture is replayed on, and its connections.
-ghost use Rattle.std.specs.Prelude.{◌≡◌, ◌<◌, ◌≤◌, ℕ, suc, false, Some, IfOk, OnOk, length};
+ghost use Rattle.std.specs.Prelude.{◌≡◌, ◌<◌, ℕ, suc, false, Some, IfOk, OnOk, length};
 ghost use Rattle.capture_lines.specs.declared.line.What.{What};
 ghost use Rattle.capture_server.specs.Running.{AreUnused, Happened};
 ghost use Rattle.capture_server.specs.Running.{HappensBy};

@@ -1,5 +1,5 @@
 //! Connections by their places.
-ghost use Rattle.std.specs.Prelude.{◌≡◌, ◌<◌, ℕ, Some, false, length, slice_get, IfOk, OnOk};
+ghost use Rattle.std.specs.Prelude.{◌≡◌, ◌<◌, Some, length, slice_get, IfOk, OnOk};
 ghost use Rattle.afp_core.specs.Telling.{start_of};
 ghost use Rattle.afp_core.specs.lemma.Telling.{shown_of};
 ghost use Rattle.afp_serial.specs.StatusBlock.{status_block};

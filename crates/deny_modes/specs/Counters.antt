@@ -1,5 +1,5 @@
 -- What is kept for the opens: rows by reference, and a tally for each fork that is open (this profile).
-use Rattle.std.specs.Prelude.{ℕ, ◌-◌, List, map}
+use Rattle.std.specs.Prelude.{ℕ, List, map}
 use Rattle.deny_modes.specs.declared.opens.Opened.{Opened}
 use Rattle.deny_modes.specs.Opens.{Open}
 

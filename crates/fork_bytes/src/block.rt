@@ -1,6 +1,6 @@
 //! Blocks, and their bytes without the zeros at the end.
 ghost use Rattle.std.specs.Prelude.{◌≡◌, ◌≤◌, length, take, drop, replicate, IfOk};
-ghost use Rattle.fork_bytes.specs.Blocks.{trimmed, block_size};
+ghost use Rattle.fork_bytes.specs.Blocks.{trimmed};
 
 use afp_base::{Bytes, OutOfMemory};
 

@@ -1,5 +1,5 @@
 //! Plans of writes and of new lengths.
-ghost use Rattle.std.specs.Prelude.{◌≡◌, ◌+◌, ◌-◌, ◌/◌, ◌≤◌, ◌<◌, ◌==◌, ◌++◌, not, [], length, take, min, max, nat_eq, if◌then◌else◌, IfOk, OnOk};
+ghost use Rattle.std.specs.Prelude.{◌≡◌, ◌+◌, ◌/◌, ◌≤◌, ◌<◌, ◌==◌, ◌++◌, not, [], length, take, nat_eq, if◌then◌else◌, IfOk, OnOk};
 ghost use Rattle.std.specs.Cmp.Lexicographic.{pointwise};
 ghost use Rattle.afp_base.specs.ForkBytes.{splice, resized};
 ghost use Rattle.fork_bytes.specs.Blocks.{largest_fork, trimmed, blocks_of};

@@ -1,5 +1,4 @@
 //! Forks, modes, references and ranges of a line's numbers.
-ghost use Rattle.std.specs.Prelude.{◌≤◌};
 
 use afp_base::{ForkRef, NodeId, VolumeId};
 use deny_modes::{ForkKey, Mode};

@@ -1,5 +1,5 @@
 //! The table of the open forks.
-ghost use Rattle.std.specs.Prelude.{◌≡◌, ◌<◌, ◌==◌, true, not, [], length, map, filter, option_copied, option_map, IfSome, IsSome};
+ghost use Rattle.std.specs.Prelude.{◌≡◌, ◌<◌, ◌==◌, not, [], length, map, filter, option_copied, option_map, IfSome, IsSome};
 ghost use Rattle.std.specs.Ordering.{nat_cmp};
 ghost use Rattle.deny_modes.specs.Opens.{has_conflict, is_fork_open};
 ghost use Rattle.range_locks.specs.Locks.{SetsLock, TakesLock, is_met_by_other, without_holder, exchanged_locks};

@@ -1,5 +1,5 @@
 //! Calls that change a volume, and settling.
-ghost use Rattle.std.specs.Prelude.{◌≡◌, IfSome, IsSome};
+ghost use Rattle.std.specs.Prelude.{IfSome, IsSome};
 ghost use Rattle.kept_volume.specs.Changing.{Changes, Settles};
 ghost use Rattle.volume_tree.specs.Requests.{tree_call};
 ghost use Rattle.volume_tree.specs.Shown.{opened};

@@ -1,5 +1,5 @@
 //! One node or child more, less or changed, at its place. None of these takes memory.
-ghost use Rattle.std.specs.Prelude.{◌≡◌, ◌∷◌, ◌+◌, ◌<◌, ◌≤◌, ◌==◌, true, None, length, slice_set, slice_index_or, vec_len, vec_capacity};
+ghost use Rattle.std.specs.Prelude.{◌≡◌, ◌+◌, ◌<◌, ◌≤◌, ◌==◌, true, None, slice_set, slice_index_or, vec_len, vec_capacity};
 ghost use Rattle.std.specs.List.{list_any, list_all, filter};
 ghost use Rattle.afp_volume.specs.Edits.{at_place};
 ghost use Rattle.afp_volume.specs.Order.{put_in, rises};

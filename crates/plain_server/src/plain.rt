@@ -1,5 +1,5 @@
 //! The whole server: it reads its words, serves the links that come through its door, and reports.
-ghost use Rattle.std.specs.Prelude.{◌≡◌, ◌≢◌, ◌∷◌, [], length, Some, false, map, string_bytes, IfOk, IfErr, None};
+ghost use Rattle.std.specs.Prelude.{◌≡◌, ◌≢◌, Some, false, map, string_bytes, IfOk, IfErr, None};
 ghost use Rattle.afp_serial.specs.HouseFault.{house_fault};
 ghost use Rattle.plain_server.specs.Spoken.{spoken_of};
 ghost use Rattle.plain_server.specs.Words.{name_in};

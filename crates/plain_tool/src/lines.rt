@@ -1,5 +1,5 @@
 //! The lines that are printed. They take no memory.
-ghost use Rattle.std.specs.Prelude.{◌≡◌, ◌≤◌, ◌++◌, ◌/◌, ◌%◌, ◌<◌, ◌+◌, ◌∷◌, [], length, drop};
+ghost use Rattle.std.specs.Prelude.{◌≡◌, ◌≤◌, ◌++◌, ◌<◌, ◌+◌, ◌∷◌, [], length, drop};
 ghost use Rattle.dsi_frame.specs.Frame.{command_number};
 ghost use Rattle.plain_server.specs.Reporting.{ReportsAll};
 ghost use Rattle.plain_tool.specs.Lines.{hex_digit, hex_byte, same_line, got_word, differs_line, bad_line, kind_word, sizes_text, frame_line, rest_line, reason_word, bad_frame_line};

@@ -1,7 +1,6 @@
 //! The locks on one fork, by rising start.
-ghost use Rattle.std.specs.Prelude.{◌≡◌, ◌<◌, ◌≤◌, ◌&&◌, ◌==◌, [], length, not, filter, OnOk, OnErr, slice_range};
+ghost use Rattle.std.specs.Prelude.{◌≡◌, ◌≤◌, ◌==◌, [], length, not, filter, OnOk, OnErr, slice_range};
 ghost use Rattle.std.specs.List.{list_any, insert};
-ghost use Rattle.afp_base.specs.Overlap.{do_meet};
 ghost use Rattle.range_locks.specs.Locks.{AreInOrder, are_one_row};
 ghost use Rattle.range_locks.specs.lemma.Seen.{IsSeen, IsRowPlace};
 

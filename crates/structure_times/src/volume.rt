@@ -1,7 +1,6 @@
 //! A volume with many nodes in its root.
-ghost use Rattle.std.specs.Prelude.{◌≡◌, None, IfOk, IfSome};
+ghost use Rattle.std.specs.Prelude.{◌≡◌, IfOk, IfSome};
 ghost use Rattle.afp_names.specs.Name.{name_key};
-ghost use Rattle.afp_volume.specs.Walk.{child_by_key};
 
 use afp_base::{Bytes, NodeId, OutOfMemory};
 use afp_names::Name;

@@ -1,5 +1,5 @@
 -- The file that is found.
-use Rattle.std.proofs.Common.{◌≡◌, ◌∙◌, ap, sym, ℕ, ◌==◌, Bool, true, not, List, Option, Some, None, if◌then◌else◌}
+use Rattle.std.proofs.Common.{◌≡◌, ◌∙◌, ap, sym, ℕ, ◌==◌, Bool, true, not, List, Some, None, if◌then◌else◌}
 use Rattle.std.specs.Prelude.{Result, Ok, bit_and, option_map}
 use Rattle.std.proofs.lemmas.Bool.{eqb-true}
 use Rattle.afp_base.specs.declared.code.Code.{Code}

@@ -1,5 +1,5 @@
 //! FPEnumerate, FPEnumerateExt and FPEnumerateExt2.
-ghost use Rattle.std.specs.Prelude.{◌≡◌, ℕ, ◌++◌, ◌+◌, ◌<◌, ◌≤◌, ◌==◌, ◌&&◌, not, Ok, Some, true, IfOk, OnOk, OnErr, drop, length, take};
+ghost use Rattle.std.specs.Prelude.{◌≡◌, ℕ, ◌++◌, ◌+◌, ◌<◌, ◌≤◌, ◌==◌, ◌&&◌, not, Ok, true, IfOk, OnOk, OnErr, drop, length, take};
 ghost use Rattle.byteorder.specs.Endian.{big_bytes};
 ghost use Rattle.afp_bitmap.specs.Bits.{IsWithin, file_mask, dir_mask};
 ghost use Rattle.afp_replies.specs.Replies.{canonical_reply};

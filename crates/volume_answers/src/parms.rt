@@ -1,5 +1,5 @@
 //! FPGetVolParms, FPGetFileDirParms and FPOpenDir.
-ghost use Rattle.std.specs.Prelude.{◌≡◌, ◌++◌, Ok, Some, true, IfOk, OnOk, OnErr, length, take};
+ghost use Rattle.std.specs.Prelude.{◌≡◌, ◌++◌, Some, true, IfOk, OnOk, OnErr, length, take};
 ghost use Rattle.afp_bitmap.specs.Bits.{IsWithin, volume_mask, file_mask, dir_mask};
 ghost use Rattle.afp_bitmap.specs.declared.params.Values as values;
 ghost use Rattle.afp_bitmap.specs.declared.params.Values.TheVariants as told;

@@ -1,5 +1,5 @@
 //! What a plan changes in the records of a volume.
-ghost use Rattle.std.specs.Prelude.{◌≡◌, ◌++◌, ◌∷◌, [], map, Some, Option, length, IfOk, OnOk, false, true};
+ghost use Rattle.std.specs.Prelude.{◌≡◌, ◌++◌, ◌∷◌, [], map, IfOk, OnOk, true};
 ghost use Rattle.std.specs.List.{list_all};
 ghost use Rattle.afp_volume.specs.SoundVolume.{is_formed};
 ghost use Rattle.afp_volume.specs.Walk.{row_at};

@@ -1,8 +1,8 @@
 //! A volume that nobody has used, and its records.
-ghost use Rattle.std.specs.Prelude.{◌≡◌, None, map, IfOk, IfErr, true, pos, List, ℕ};
+ghost use Rattle.std.specs.Prelude.{◌≡◌, None, map, IfOk, true, List, ℕ};
 ghost use Rattle.afp_names.specs.Name.{name_fault};
-ghost use Rattle.afp_volume.specs.VolumeState.{VolumeState, fresh_volume, new_row, root_id, root_parent};
-ghost use Rattle.record_keeper.specs.Records.{Records, Makes, changed, TellsOn};
+ghost use Rattle.afp_volume.specs.VolumeState.{fresh_volume, new_row, root_id, root_parent};
+ghost use Rattle.record_keeper.specs.Records.{TellsOn};
 ghost use Rattle.volume_records.specs.Image.{node_of, rows_of, tables_of};
 ghost use Rattle.volume_keeper.specs.Changes.{put as the_put};
 ghost use Rattle.volume_keeper.specs.Loading.{Becomes, HasLoadCause};

@@ -1,5 +1,5 @@
 //! The records of a node that goes.
-ghost use Rattle.std.specs.Prelude.{◌≡◌, ◌++◌, ◌∷◌, [], map, OnOk, if◌then◌else◌, ◌==◌, false, true};
+ghost use Rattle.std.specs.Prelude.{◌≡◌, ◌++◌, ◌∷◌, [], map, OnOk, if◌then◌else◌, ◌==◌};
 ghost use Rattle.afp_volume.specs.Desktop.{comment_at};
 ghost use Rattle.afp_volume.specs.DesktopLaws.{with_desktop};
 ghost use Rattle.afp_volume.specs.Walk.{row_at};

@@ -1,10 +1,8 @@
 //! A volume loaded from a keeper of records.
-ghost use Rattle.std.specs.Prelude.{◌≡◌, [], None, Some, IfOk, IfErr, IfSome, OnOk};
+ghost use Rattle.std.specs.Prelude.{◌≡◌, [], None, IfOk, IfErr};
 ghost use Rattle.afp_names.specs.Name.{name_fault};
-ghost use Rattle.afp_volume.specs.VolumeState.{VolumeState};
-ghost use Rattle.record_keeper.specs.Reading.{IsFaultOf, Rises};
-ghost use Rattle.record_keeper.specs.Records.{Records, TellsOn};
-ghost use Rattle.volume_records.specs.Image.{records_in};
+ghost use Rattle.record_keeper.specs.Reading.{Rises};
+ghost use Rattle.record_keeper.specs.Records.{TellsOn};
 ghost use Rattle.volume_keeper.specs.Loading.{Becomes, HasLoadCause, IsFaultIn, IsLoad};
 ghost use Rattle.volume_keeper.specs.lemma.Loading.{IsMadeOf, IsNotFailed, IsReadFault};
 

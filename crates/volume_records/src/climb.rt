@@ -2,7 +2,7 @@
 ghost use Rattle.std.specs.Prelude.{◌≡◌, ◌+◌, ◌<◌, ◌^◌, IfOk, OnOk, OnErr, [], ◌∷◌, ◌++◌, length, All, map, ℕ, slice_index};
 ghost use Rattle.std.specs.List.Sorted.{IsStrictlySortedBy};
 ghost use Rattle.std.specs.Ordering.{nat_cmp};
-ghost use Rattle.volume_records.specs.lemma.Climb.{place_in, stands, next_of, steps_of, climbed, through, id_of, EndsAt};
+ghost use Rattle.volume_records.specs.lemma.Climb.{place_in, stands, steps_of, climbed, through, id_of, EndsAt};
 
 use crate::limits::ROOT;
 use crate::tree::Place;

@@ -1,5 +1,5 @@
 //! Judging one record, by the tree of all nodes and the records before it.
-ghost use Rattle.std.specs.Prelude.{◌≡◌, ◌≤◌, ◌<◌, ◌+◌, ◌||◌, ◌&&◌, ◌==◌, ◌∷◌, [], not, bytes_eq, nat_lt, ℕ, List, length, true, None, Some, IfOk, OnOk};
+ghost use Rattle.std.specs.Prelude.{◌≡◌, ◌≤◌, ◌<◌, ◌+◌, ◌||◌, ◌&&◌, ◌==◌, not, bytes_eq, nat_lt, ℕ, List, length, true, None, Some, IfOk, OnOk};
 ghost use Rattle.afp_names.specs.Name.{name_fault, name_key};
 ghost use Rattle.afp_volume.specs.VolumeState.{Icon, Appl};
 ghost use Rattle.volume_records.specs.declared.rows.TableRow.TheVariants as row;

@@ -1,8 +1,7 @@
 //! The rows of a volume from its records, or the first record that is bad.
-ghost use Rattle.std.specs.Prelude.{◌≡◌, ◌++◌, ◌∷◌, [], ◌≤◌, ◌<◌, ◌^◌, IfOk, OnOk, OnErr, Some, None, map, length};
+ghost use Rattle.std.specs.Prelude.{◌≡◌, ◌++◌, [], IfOk, OnOk};
 ghost use Rattle.std.specs.List.{cons_option};
 ghost use Rattle.volume_records.specs.KeyOrder.{Rises, with_key};
-ghost use Rattle.volume_records.specs.FirstBad.{first_bad_record as the_first, most_records};
 ghost use Rattle.volume_records.specs.Loaded.{IsLoaded};
 ghost use Rattle.volume_records.specs.lemma.Judged.{said_rows};
 

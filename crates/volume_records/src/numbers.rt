@@ -1,5 +1,5 @@
 //! Numbers at a place of some bytes, with their highest byte first. Bytes behind the end count as 0.
-ghost use Rattle.std.specs.Prelude.{◌≡◌, ◌<◌, ◌^◌, slice_index};
+ghost use Rattle.std.specs.Prelude.{◌≡◌, ◌<◌, slice_index};
 ghost use Rattle.volume_records.specs.Shape.{word_at as the_word, four_at as the_four, long_at as the_long, date_at as the_date, quad_at as the_quad};
 
 pub(crate) fn byte_at(bytes: &[u8], at: usize) -> u8

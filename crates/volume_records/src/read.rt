@@ -1,5 +1,5 @@
 //! The row of a record.
-ghost use Rattle.std.specs.Prelude.{◌≡◌, ◌≤◌, length, take, drop, slice_index, IfOk, ◌&&◌};
+ghost use Rattle.std.specs.Prelude.{◌≡◌, ◌≤◌, length, take, drop, slice_index, IfOk};
 ghost use Rattle.volume_records.specs.Shape.{head_in, node_in, block_in, comment_in, icon_in, appl_in, guess, are_same, row_in};
 
 use crate::limits::{BLOCK, COMMENT, HEAD, ICON, NODE};

@@ -1,11 +1,11 @@
 //! Where all nodes stand.
-ghost use Rattle.std.specs.Prelude.{◌≡◌, ◌<◌, ◌^◌, ◌==◌, ◌&&◌, ◌*◌, ◌+◌, not, Bool, nat_lt, IfOk, OnOk, ◌++◌, map, length};
-ghost use Rattle.std.specs.List.{list_any, filter_map};
+ghost use Rattle.std.specs.Prelude.{◌≡◌, ◌<◌, ◌^◌, ◌==◌, ◌&&◌, ◌*◌, ◌+◌, Bool, nat_lt, IfOk, map, length};
+ghost use Rattle.std.specs.List.{list_any};
 ghost use Rattle.std.specs.List.Sorted.{IsStrictlySortedBy};
 ghost use Rattle.std.specs.Ordering.{nat_cmp};
 ghost use Rattle.volume_records.specs.declared.tree.Place.{Place};
 ghost use Rattle.volume_records.specs.lemma.Climb.{id_of, climbs_to_root};
-ghost use Rattle.volume_records.specs.lemma.Judged.{place_of, said_node, places_in, IsTree, IsTreeOf, told, is_there as is_there_by, is_file_there, is_stray_here, length_of, is_outside_here};
+ghost use Rattle.volume_records.specs.lemma.Judged.{IsTree, IsTreeOf, told, is_there as is_there_by, is_file_there, is_stray_here, length_of};
 
 use crate::climb::{ends_of, place_in_ids, push, stand};
 use crate::limits::ROOT;

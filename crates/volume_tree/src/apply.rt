@@ -1,8 +1,7 @@
 //! Plans carried out. None of these takes memory.
-ghost use Rattle.std.specs.Prelude.{◌≡◌, ◌≤◌, ◌<◌, ◌^◌, ◌+◌, ℕ, false, None, IfSome, pos};
+ghost use Rattle.std.specs.Prelude.{◌≡◌, ◌≤◌, ◌<◌, ◌^◌, ℕ, false, IfSome, pos};
 ghost use Rattle.std.specs.Ordering.{nat_cmp};
 ghost use Rattle.afp_volume.specs.Edits.{is_taken, with_changed, modified_at};
-ghost use Rattle.afp_volume.specs.VolumeState.{Row};
 ghost use Rattle.afp_volume.specs.Walk.{row_at};
 ghost use Rattle.sorted_map.specs.Entries.{at};
 ghost use Rattle.volume_tree.specs.lemma.Kept.{bytes_of, at_gone, IsMarks, IsMarksSet};

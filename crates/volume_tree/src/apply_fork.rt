@@ -1,7 +1,6 @@
 //! Plans of forks carried out. None of these takes memory.
 ghost use Rattle.std.specs.Prelude.{◌≡◌, ◌==◌, ℕ, List, true, false, Some, None, length, is_some, if◌then◌else◌};
 ghost use Rattle.std.specs.Ordering.{nat_cmp};
-ghost use Rattle.afp_base.specs.declared.ids.NodeId.{NodeId as NodeNumber};
 ghost use Rattle.fork_bytes.specs.Plan.{IsPlan as IsForkPlan};
 ghost use Rattle.sorted_map.specs.Entries.{at};
 ghost use Rattle.afp_volume.specs.ForkEffect.{fork_effect};

@@ -1,5 +1,5 @@
 //! What calls ask of a volume's tree.
-ghost use Rattle.std.specs.Prelude.{true, false, None, MatchOption, ◌≡◌, ◌++◌, Some, chars, map, length, bytes_eq, IfOk, OnOk};
+ghost use Rattle.std.specs.Prelude.{true, false, MatchOption, ◌≡◌, ◌++◌, Some, chars, map, length, bytes_eq, IfOk, OnOk};
 ghost use Rattle.afp_names.specs.LongName.{shown_byte, long_name_of};
 ghost use Rattle.afp_names.specs.Name.{name_key};
 ghost use Rattle.afp_names.specs.Path.{element_of, long_names};

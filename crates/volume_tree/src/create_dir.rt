@@ -1,5 +1,5 @@
 //! FPCreateDir, and new nodes.
-ghost use Rattle.std.specs.Prelude.{◌≡◌, true, Some, None, IfOk};
+ghost use Rattle.std.specs.Prelude.{◌≡◌, IfOk};
 ghost use Rattle.afp_names.specs.Name.{name_key};
 ghost use Rattle.afp_volume.specs.CreateDir.{create_dir_refusal, create_dir_effect};
 ghost use Rattle.volume_tree.specs.Answered.{Refuses};

@@ -1,5 +1,5 @@
 //! FPCreateFile.
-ghost use Rattle.std.specs.Prelude.{◌≡◌, ◌+◌, Bool, true, false, Some, None, IfOk, IfErr};
+ghost use Rattle.std.specs.Prelude.{◌≡◌, Some, None, IfOk, IfErr};
 ghost use Rattle.afp_volume.specs.CreateFile.{create_file_refusal, create_file_effect, create_file_there};
 ghost use Rattle.volume_tree.specs.Answered.{Refuses};
 ghost use Rattle.volume_tree.specs.lemma.Answered.{option_id};

@@ -1,6 +1,5 @@
 //! FPDelete.
 ghost use Rattle.std.specs.Prelude.{◌≡◌, Ok, IfOk};
-ghost use Rattle.afp_volume.specs.Shared.{is_busy, directory_of};
 ghost use Rattle.afp_volume.specs.Delete.{delete_refusal, delete_effect};
 ghost use Rattle.afp_volume.specs.Walk.{found};
 ghost use Rattle.volume_tree.specs.Answered.{Refuses};

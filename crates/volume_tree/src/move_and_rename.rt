@@ -1,5 +1,5 @@
 //! FPMoveAndRename.
-ghost use Rattle.std.specs.Prelude.{◌≡◌, Some, None, Ok, IfOk};
+ghost use Rattle.std.specs.Prelude.{◌≡◌, IfOk};
 ghost use Rattle.afp_volume.specs.MoveAndRename.{move_refusal, move_effect};
 ghost use Rattle.volume_tree.specs.Answered.{Refuses};
 ghost use Rattle.volume_tree.specs.Planned.{Does, IsPlan, planned};

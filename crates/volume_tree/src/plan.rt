@@ -1,6 +1,5 @@
 //! What calls will do to a volume.
 ghost use Rattle.std.specs.Prelude.{◌≡◌};
-ghost use Rattle.afp_volume.specs.Edits.{at_place};
 
 use crate::settings::Settings;
 use afp_base::{Bytes, Moment, NodeId};

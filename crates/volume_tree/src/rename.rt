@@ -1,7 +1,6 @@
 //! FPRename.
-ghost use Rattle.std.specs.Prelude.{◌≡◌, Some, None, Ok, IfOk};
+ghost use Rattle.std.specs.Prelude.{◌≡◌, IfOk};
 ghost use Rattle.afp_names.specs.Name.{name_key};
-ghost use Rattle.afp_volume.specs.Shared.{directory_of};
 ghost use Rattle.afp_volume.specs.Rename.{rename_refusal, rename_effect};
 ghost use Rattle.volume_tree.specs.Answered.{Refuses};
 ghost use Rattle.volume_tree.specs.Planned.{Does, IsPlan, planned};

@@ -1,5 +1,5 @@
 //! Calls that change a volume's tree.
-ghost use Rattle.std.specs.Prelude.{◌≡◌, ◌==◌, not, bit_and, IfOk, IfSome, IsSome};
+ghost use Rattle.std.specs.Prelude.{◌≡◌, IfOk, IfSome, IsSome};
 ghost use Rattle.afp_volume.specs.CreateFile.{is_hard};
 ghost use Rattle.afp_volume.specs.TreeSteps.{tree_refusal, tree_effect};
 ghost use Rattle.volume_tree.specs.Answered.{Refuses};

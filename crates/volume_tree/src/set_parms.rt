@@ -1,9 +1,7 @@
 //! FPSetFileParms, FPSetDirParms and FPSetFileDirParms.
 ghost use Rattle.std.specs.Prelude.{◌≡◌, Some, None, IfOk};
 ghost use Rattle.afp_volume.specs.Parms.{is_outside};
-ghost use Rattle.afp_volume.specs.SetFileDirParms.{settable_bits, settable_dir_bits, set_file_parms_refusal, set_dir_parms_refusal, set_file_dir_parms_refusal, set_parms_effect, is_short_tail};
-ghost use Rattle.afp_volume.specs.SoundVolume.{has_file};
-ghost use Rattle.afp_volume.specs.Walk.{found};
+ghost use Rattle.afp_volume.specs.SetFileDirParms.{set_file_parms_refusal, set_dir_parms_refusal, set_file_dir_parms_refusal, set_parms_effect};
 ghost use Rattle.volume_tree.specs.Answered.{Refuses};
 ghost use Rattle.volume_tree.specs.Planned.{Does, IsPlan, planned};
 ghost use Rattle.volume_tree.specs.lemma.Planned.{plan_set};

@@ -1,7 +1,6 @@
 //! What calls set of nodes.
-ghost use Rattle.std.specs.Prelude.{◌≡◌, ◌==◌, Bool, unwrap_or, option_map, nat_le, bit_and, bit_or, if◌then◌else◌};
-ghost use Rattle.std.specs.Int.{bit_not, w16};
-ghost use Rattle.afp_volume.specs.SetFileDirParms.{attributes_by, settable, with_settings};
+ghost use Rattle.std.specs.Prelude.{◌≡◌, unwrap_or, option_map};
+ghost use Rattle.afp_volume.specs.SetFileDirParms.{attributes_by, with_settings};
 ghost use Rattle.node_rows.specs.Kept.{marked};
 ghost use Rattle.volume_tree.specs.lemma.After.{marks_after};
 ghost use Rattle.volume_tree.specs.lemma.Kept.{marks_in};

@@ -1,5 +1,5 @@
 //! What the tails of set calls hold.
-ghost use Rattle.std.specs.Prelude.{◌≡◌, ◌≤◌, ◌+◌, true, false, None, Some, take, drop, length, option_map, MatchOption, if◌then◌else◌, nat_lt};
+ghost use Rattle.std.specs.Prelude.{◌≡◌, ◌≤◌, ◌+◌, true, false, None, Some, take, drop, length, option_map, MatchOption, nat_lt};
 ghost use Rattle.byteorder.specs.Endian.{big_number};
 ghost use Rattle.afp_volume.specs.Parms.{date_in};
 ghost use Rattle.afp_volume.specs.SetFileDirParms.{asked_bytes, field_in, is_short_tail, set_fields, settings_in};

@@ -1,5 +1,5 @@
 //! A volume's tree.
-ghost use Rattle.std.specs.Prelude.{◌≡◌, ◌≤◌, ◌+◌, [], None, Some, pos, length, is_some, IfOk, OnOk, OnErr, option_map, option_copied};
+ghost use Rattle.std.specs.Prelude.{◌≡◌, ◌≤◌, [], None, length, is_some, IfOk, OnOk, option_map, option_copied};
 ghost use Rattle.afp_names.specs.Name.{name_fault};
 ghost use Rattle.afp_volume.specs.DesktopLaws.{with_desktop};
 ghost use Rattle.afp_volume.specs.Edits.{bare, changed_at};

@@ -1,5 +1,5 @@
 //! Whole links, each to a server of its own.
-ghost use Rattle.std.specs.Prelude.{◌≡◌, ◌≤◌, ◌<◌, ◌^◌, length, IfOk};
+ghost use Rattle.std.specs.Prelude.{◌≤◌, length, IfOk};
 ghost use Rattle.afp_outside.specs.Tape.{IsFreshTape};
 
 use crate::fault::CaseFault;

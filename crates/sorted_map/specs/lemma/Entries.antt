@@ -3,7 +3,6 @@ use Rattle.std.specs.Prelude.{◌≡◌, ℕ, ◌<◌, ◌≤◌, List, length, 
 use Rattle.std.specs.BTreeMap.{insert_entry}
 use Rattle.std.specs.declared.cmp.Ordering.{Ordering}
 use Rattle.std.specs.declared.cmp.Ordering.TheVariants.{Less, Greater}
-use Rattle.sorted_map.specs.Entries.{at}
 
 -- the entries with a value at a key, where there is one
 abbrev pub with_value : {K V : Type 0} → (K → K → Ordering) → List (K × V) → K → Option V → List (K × V)

@@ -1,5 +1,4 @@
 use Rattle.std.proofs.Common.{◌≡◌, rules, true}
-use Rattle.afp_volume.specs.OpenFork.{open_fork_file}
 use Rattle.afp_volume.specs.SoundVolume.{has_file, has_node}
 use Rattle.volume_answers.proofs.FoundFiles.{opens-id, opens-row}
 use Rattle.volume_answers.proofs.found_file.open_fork.Goals as goal
