@@ -66,12 +66,12 @@ module _ (v : VolumeState) (id now : ℕ) (resource writes : Bool) (before bytes
   written-sound fits =
       let row : row_bytes t + length before ≡ row_bytes s + length bytes = written-bytes now resource writes bytes before s is in
       let put_sound : IsSoundVolume (record v { rows = with_changed id (put t) v.rows }) = sound-put v id s t found takes (omega arith) sound in
-      dated writes (subst (λ rows. IsSoundVolume (record v { rows = rows })) put-written put_sound)
+      with_date writes (subst (λ rows. IsSoundVolume (record v { rows = rows })) put-written put_sound)
     where
-      dated : (w : Bool) → IsSoundVolume (record v { rows = with_changed id (written now resource bytes writes) v.rows })
+      with_date : (w : Bool) → IsSoundVolume (record v { rows = with_changed id (written now resource bytes writes) v.rows })
           → IsSoundVolume (record v { modified = if w then pos now else v.modified; rows = with_changed id (written now resource bytes writes) v.rows })
-      dated true h = sound-changed (record v { rows = with_changed id (written now resource bytes writes) v.rows }) now h
-      dated false h = h
+      with_date true h = sound-changed (record v { rows = with_changed id (written now resource bytes writes) v.rows }) now h
+      with_date false h = h
 
 -- where there is room
 pub room-left : (v : VolumeState) (old new : ℕ) → would_pass v old new ≡ false → fork_bytes v.rows + new ≤ most_fork_bytes + old
@@ -101,7 +101,7 @@ bytes-either false a b p q = q
 pub fork-typed : (v : VolumeState) (now id : ℕ) (resource writes : Bool) (bytes : List ℕ) → is_date (pos now) ≡ true → are_bytes bytes ≡ true → is_typed_volume v ≡ true → is_typed_volume (fork_effect now id resource bytes writes v) ≡ true
 unfolding fork_effect
 fork-typed v now id resource writes bytes moment small typed =
-    typed-whole (record v { modified = if writes then pos now else v.modified; rows = with_changed id (written now resource bytes writes) v.rows }) (dated (typed-at v id (written now resource bytes writes) (λ row h.
+    typed-whole (record v { modified = if writes then pos now else v.modified; rows = with_changed id (written now resource bytes writes) v.rows }) (with_date (typed-at v id (written now resource bytes writes) (λ row h.
     let r = row-parts row h in
     row-whole (written now resource bytes writes row) (record {
       id = r.id;
@@ -116,8 +116,8 @@ fork-typed v now id resource writes bytes moment small typed =
       resource_fork = bytes-either resource bytes row.resource_fork small r.resource_fork;
     })) (typed-parts v typed)))
   where
-    dated : TypedParts (record v { rows = with_changed id (written now resource bytes writes) v.rows }) → TypedParts (record v { modified = if writes then pos now else v.modified; rows = with_changed id (written now resource bytes writes) v.rows })
-    dated t = record { name = t.name; created = t.created; modified = date-either now writes v.modified moment t.modified; backup = t.backup; next = t.next; rows = t.rows; comments = t.comments; icons = t.icons; appls = t.appls }
+    with_date : TypedParts (record v { rows = with_changed id (written now resource bytes writes) v.rows }) → TypedParts (record v { modified = if writes then pos now else v.modified; rows = with_changed id (written now resource bytes writes) v.rows })
+    with_date t = record { name = t.name; created = t.created; modified = date-either now writes v.modified moment t.modified; backup = t.backup; next = t.next; rows = t.rows; comments = t.comments; icons = t.icons; appls = t.appls }
 
 -- what is seen afterwards
 

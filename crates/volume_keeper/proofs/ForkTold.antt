@@ -17,7 +17,7 @@ use Rattle.volume_records.specs.declared.rows.TableRow.TheVariants as row
 use Rattle.volume_records.specs.Image.{node_of, tables_of}
 use Rattle.volume_tree.specs.Shown.{fork_at}
 use Rattle.volume_keeper.specs.ForkChanges.{block_change, file_changes, fork_changes_of, put_where_other}
-use Rattle.volume_keeper.specs.lemma.ForkChanges.{dated_head, dated_node, node_changes}
+use Rattle.volume_keeper.specs.lemma.ForkChanges.{modified_head, modified_node, node_changes}
 use Rattle.volume_keeper.specs.lemma.Steps.{length_of}
 use Rattle.volume_keeper.proofs.GoneRecords.{found_is}
 
@@ -29,13 +29,13 @@ blocks_next f (x ∷ xs) (suc k) b d h e = ap (λ l. f x ∷ l) (blocks_next f x
 
 module _ (now id : ℕ) (resource : Bool) (plan : PlanState) (before after : List ℕ) (plans : IsPlan before after plan) where
   -- the file's node afterwards
-  node_is : (r : VolumeRow) → dated_node (bare r) (if plan.writes then pos now else r.modified) (if resource then length r.data_fork else plan.len) (if resource then plan.len else length r.resource_fork)
+  node_is : (r : VolumeRow) → modified_node (bare r) (if plan.writes then pos now else r.modified) (if resource then length r.data_fork else plan.len) (if resource then plan.len else length r.resource_fork)
       ≡ node_of (written now resource after plan.writes r)
   node_is r = by resource
     where
-      by : (f : Bool) → dated_node (bare r) (if plan.writes then pos now else r.modified) (if f then length r.data_fork else plan.len) (if f then plan.len else length r.resource_fork) ≡ node_of (written now f after plan.writes r)
-      by true = ap (dated_node (bare r) (if plan.writes then pos now else r.modified) (length r.data_fork)) plans.len
-      by false = ap (λ n. dated_node (bare r) (if plan.writes then pos now else r.modified) n (length r.resource_fork)) plans.len
+      by : (f : Bool) → modified_node (bare r) (if plan.writes then pos now else r.modified) (if f then length r.data_fork else plan.len) (if f then plan.len else length r.resource_fork) ≡ node_of (written now f after plan.writes r)
+      by true = ap (modified_node (bare r) (if plan.writes then pos now else r.modified) (length r.data_fork)) plans.len
+      by false = ap (λ n. modified_node (bare r) (if plan.writes then pos now else r.modified) n (length r.resource_fork)) plans.len
 
   file_told : (o : Option VolumeRow) → option_map (fork_of resource) (file_of o) ≡ Some before → IfSome o (λ r. r.id ≡ id)
       → node_changes now resource plan.len plan.writes (length_of (option_map (fork_of false) (file_of o))) (length_of (option_map (fork_of true) (file_of o))) (option_map bare o) ++ map (block_change id resource) plan.changes ≡ file_changes now resource after plan.writes o
@@ -49,12 +49,12 @@ module _ (now id : ℕ) (resource : Bool) (plan : PlanState) (before after : Lis
       ] e
 
   pub all_told : (t : VolumeState) (comments : List Comment) (icons : List Icon) (appls : List Appl) → fork_at t.rows id resource ≡ Some before
-      → put_where_other (row.Head (tables_of t).head) (row.Head (dated_head now plan.writes (tables_of t).head))
+      → put_where_other (row.Head (tables_of t).head) (row.Head (modified_head now plan.writes (tables_of t).head))
       ++ (node_changes now resource plan.len plan.writes (length_of (fork_at t.rows id false)) (length_of (fork_at t.rows id true)) (option_map bare (row_at t.rows id)) ++ map (block_change id resource) plan.changes)
       ≡ fork_changes_of (with_desktop t comments icons appls) now id resource after plan.writes
   unfolding fork_changes_of fork_effect fork_at row_at
   all_told t comments icons appls there =
-      ap (λ l. put_where_other (row.Head (tables_of t).head) (row.Head (dated_head now plan.writes (tables_of t).head)) ++ l)
+      ap (λ l. put_where_other (row.Head (tables_of t).head) (row.Head (modified_head now plan.writes (tables_of t).head)) ++ l)
       (file_told (find (λ (r : VolumeRow). r.id == id) t.rows) there (found_is (λ (r : VolumeRow). r.id) id t.rows))
 
 -- the file of a fork that is there

@@ -15,8 +15,8 @@ use Rattle.volume_records.specs.declared.rows.TableRow.{TableRow}
 use Rattle.volume_records.specs.declared.rows.TableRow.TheVariants as row
 use Rattle.volume_records.specs.Records.{record_of, node_record, node_tag, long_bytes}
 use Rattle.volume_records.specs.Image.{node_of, block_of, fork_blocks, rows_of, tables_of}
-use Rattle.volume_tree.specs.Planned.{Move, SetNode, PlanState, IsNew, is_gone, gone_rows, gone_comments, gone_appls, come_rows, moved_rows, set_rows, dated_rows}
-use Rattle.volume_tree.specs.TouchedNodes.{is_come, is_moved, is_set, is_dated, is_touched}
+use Rattle.volume_tree.specs.Planned.{Move, SetNode, PlanState, IsNew, is_gone, gone_rows, gone_comments, gone_appls, come_rows, moved_rows, set_rows, modified_rows}
+use Rattle.volume_tree.specs.TouchedNodes.{is_come, is_moved, is_set, is_modified, is_touched}
 use Rattle.volume_keeper.specs.Changes.{is_of}
 use Rattle.volume_keeper.proofs.LookUps.{are_one, found, key_of_row, any_at, AreFound}
 
@@ -177,13 +177,13 @@ set_same : (t : ℕ → Bool) (o : Option SetNode) → ((id : ℕ) → is_set o 
 set_same t None h rows = same_all t rows
 set_same t (Some s) h rows = same_changed t s.id (with_settings s.settings) (settings_keep_id s.settings) (h s.id (equal_itself s.id)) rows
 
-dated_same : (t : ℕ → Bool) (now : ℕ) (o : Option NodeId) → ((id : ℕ) → is_dated o id ≡ true → t id ≡ true) → (rows : List VolumeRow) → SameBut t rows (dated_rows now o rows)
-dated_same t now None h rows = same_all t rows
-dated_same t now (Some dir) h rows = same_changed t dir.0 (modified_at now) (λ r. refl) (h dir.0 (equal_itself dir.0)) rows
+modified_same : (t : ℕ → Bool) (now : ℕ) (o : Option NodeId) → ((id : ℕ) → is_modified o id ≡ true → t id ≡ true) → (rows : List VolumeRow) → SameBut t rows (modified_rows now o rows)
+modified_same t now None h rows = same_all t rows
+modified_same t now (Some dir) h rows = same_changed t dir.0 (modified_at now) (λ r. refl) (h dir.0 (equal_itself dir.0)) rows
 
 -- the rows behind those that come, as a plan leaves them
 abbrev pub later_rows : PlanState → List VolumeRow → List VolumeRow
-later_rows p rows = dated_rows p.moment p.dated_too (dated_rows p.moment p.dated (set_rows p.set (moved_rows p.moved rows)))
+later_rows p rows = modified_rows p.moment p.modified_dir_too (modified_rows p.moment p.modified_dir (set_rows p.set (moved_rows p.moved rows)))
 
 or_true : (a b : Bool) → b ≡ true → (a || b) ≡ true
 or_true true b e = refl
@@ -205,23 +205,23 @@ module _ (p : PlanState) where
   unfolding is_touched
   set_touched id e = or_true (is_gone p.gone id) _ (or_true (is_come p.come id) _ (or_true (is_moved p.moved id) _ (or_first (is_set p.set id) _ e)))
 
-  dated_touched : (id : ℕ) → is_dated p.dated id ≡ true → is_touched p id ≡ true
+  modified_touched : (id : ℕ) → is_modified p.modified_dir id ≡ true → is_touched p id ≡ true
   unfolding is_touched
-  dated_touched id e = or_true (is_gone p.gone id) _ (or_true (is_come p.come id) _ (or_true (is_moved p.moved id) _ (or_true (is_set p.set id) _ (or_first (is_dated p.dated id) _ e))))
+  modified_touched id e = or_true (is_gone p.gone id) _ (or_true (is_come p.come id) _ (or_true (is_moved p.moved id) _ (or_true (is_set p.set id) _ (or_first (is_modified p.modified_dir id) _ e))))
 
-  dated_too_touched : (id : ℕ) → is_dated p.dated_too id ≡ true → is_touched p id ≡ true
+  modified_too_touched : (id : ℕ) → is_modified p.modified_dir_too id ≡ true → is_touched p id ≡ true
   unfolding is_touched
-  dated_too_touched id e = or_true (is_gone p.gone id) _ (or_true (is_come p.come id) _ (or_true (is_moved p.moved id) _ (or_true (is_set p.set id) _ (or_true (is_dated p.dated id) _ e))))
+  modified_too_touched id e = or_true (is_gone p.gone id) _ (or_true (is_come p.come id) _ (or_true (is_moved p.moved id) _ (or_true (is_set p.set id) _ (or_true (is_modified p.modified_dir id) _ e))))
 
   pub later_same : (rows : List VolumeRow) → SameBut (is_touched p) rows (later_rows p rows)
   later_same rows =
       let t = is_touched p in
       let one : List VolumeRow = moved_rows p.moved rows in
       let two : List VolumeRow = set_rows p.set one in
-      let three : List VolumeRow = dated_rows p.moment p.dated two in
+      let three : List VolumeRow = modified_rows p.moment p.modified_dir two in
       same_then t rows one (later_rows p rows) (moved_same t p.moved moved_touched rows)
       (same_then t one two (later_rows p rows) (set_same t p.set set_touched one)
-      (same_then t two three (later_rows p rows) (dated_same t p.moment p.dated dated_touched two) (dated_same t p.moment p.dated_too dated_too_touched three)))
+      (same_then t two three (later_rows p rows) (modified_same t p.moment p.modified_dir modified_touched two) (modified_same t p.moment p.modified_dir_too modified_too_touched three)))
 
 -- ---- the blocks
 
@@ -240,9 +240,9 @@ set_blocks : (o : Option SetNode) (rows : List VolumeRow) → flat_map fork_bloc
 set_blocks None rows = refl
 set_blocks (Some s) rows = changed_blocks s.id (with_settings s.settings) (settings_keep_forks s.settings) rows
 
-dated_blocks : (now : ℕ) (o : Option NodeId) (rows : List VolumeRow) → flat_map fork_blocks (dated_rows now o rows) ≡ flat_map fork_blocks rows
-dated_blocks now None rows = refl
-dated_blocks now (Some dir) rows = changed_blocks dir.0 (modified_at now) (λ r. refl) rows
+modified_blocks : (now : ℕ) (o : Option NodeId) (rows : List VolumeRow) → flat_map fork_blocks (modified_rows now o rows) ≡ flat_map fork_blocks rows
+modified_blocks now None rows = refl
+modified_blocks now (Some dir) rows = changed_blocks dir.0 (modified_at now) (λ r. refl) rows
 
 come_blocks : (o : Option VolumeRow) (rows : List VolumeRow) → IfSome o (λ r. fork_blocks r ≡ []) → flat_map fork_blocks (come_rows o rows) ≡ flat_map fork_blocks rows
 come_blocks None rows e = refl
@@ -264,7 +264,7 @@ blocks_stay p rows next new =
     let one : List VolumeRow = come_rows p.come rows in
     let two : List VolumeRow = moved_rows p.moved one in
     let three : List VolumeRow = set_rows p.set two in
-    dated_blocks p.moment p.dated_too (dated_rows p.moment p.dated three) ∙ dated_blocks p.moment p.dated three ∙ set_blocks p.set two ∙ moved_blocks p.moved one ∙ come_blocks p.come rows (new_blocks rows next p.come new)
+    modified_blocks p.moment p.modified_dir_too (modified_rows p.moment p.modified_dir three) ∙ modified_blocks p.moment p.modified_dir three ∙ set_blocks p.set two ∙ moved_blocks p.moved one ∙ come_blocks p.come rows (new_blocks rows next p.come new)
 
 -- ---- the nodes
 

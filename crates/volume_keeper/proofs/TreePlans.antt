@@ -10,7 +10,7 @@ use Rattle.afp_volume.specs.SetFileDirParms.{Settings, with_settings}
 use Rattle.afp_volume.specs.SoundVolume.{IsSoundVolume, has_node, has_file, has_noted_nodes}
 use Rattle.afp_volume.specs.Desktop.{IsDesktop}
 use Rattle.afp_volume.specs.DesktopLaws.{GoneNodeKeepsDesktop, SoundHasDesktop, DesktopStands, with_desktop}
-use Rattle.volume_tree.specs.Planned.{Move, SetNode, PlanState, IsPlan, planned, gone_rows, gone_comments, gone_appls, come_rows, moved_rows, set_rows, dated_rows}
+use Rattle.volume_tree.specs.Planned.{Move, SetNode, PlanState, IsPlan, planned, gone_rows, gone_comments, gone_appls, come_rows, moved_rows, set_rows, modified_rows}
 use Rattle.volume_keeper.specs.Whole.{without_desktop}
 use Rattle.volume_keeper.proofs.PlanSteps.{later_rows, same_number}
 use Rattle.volume_keeper.proofs.GoneRecords.{first_true, second_true}
@@ -40,9 +40,9 @@ module _ (t : VolumeRow → Bool) where
   set_any None same rows = refl
   set_any (Some s) same rows = changed_any s.id (with_settings s.settings) (same s.settings) rows
 
-  dated_any : (now : ℕ) (o : Option NodeId) → ((r : VolumeRow) → t (modified_at now r) ≡ t r) → (rows : List VolumeRow) → list_any t (dated_rows now o rows) ≡ list_any t rows
-  dated_any now None same rows = refl
-  dated_any now (Some dir) same rows = changed_any dir.0 (modified_at now) same rows
+  modified_any : (now : ℕ) (o : Option NodeId) → ((r : VolumeRow) → t (modified_at now r) ≡ t r) → (rows : List VolumeRow) → list_any t (modified_rows now o rows) ≡ list_any t rows
+  modified_any now None same rows = refl
+  modified_any now (Some dir) same rows = changed_any dir.0 (modified_at now) same rows
 
   come_any : (o : Option VolumeRow) (rows : List VolumeRow) → list_any t rows ≡ true → list_any t (come_rows o rows) ≡ true
   come_any None rows e = e
@@ -69,11 +69,11 @@ module _ (t : VolumeRow → Bool) where
   -- what is there and does not go is there afterwards
   pub after_any : (p : PlanState) (id : ℕ) → ((parent : ℕ) (name : List ℕ) (r : VolumeRow) → t (at_place parent name r) ≡ t r) → ((s : Settings) (r : VolumeRow) → t (with_settings s r) ≡ t r) → ((r : VolumeRow) → t (modified_at p.moment r) ≡ t r)
       → ((r : VolumeRow) → t r ≡ true → r.id ≡ id) → (rows : List VolumeRow) → list_any t (gone_rows p.gone rows) ≡ true → list_any t (later_rows p (come_rows p.come (gone_rows p.gone rows))) ≡ true
-  after_any p id moved set dated of_id rows e =
+  after_any p id moved set modified of_id rows e =
       let one : List VolumeRow = come_rows p.come (gone_rows p.gone rows) in
       let two : List VolumeRow = moved_rows p.moved one in
       let three : List VolumeRow = set_rows p.set two in
-      dated_any p.moment p.dated_too dated (dated_rows p.moment p.dated three) ∙ dated_any p.moment p.dated dated three ∙ set_any p.set set two ∙ moved_any p.moved moved one ∙ come_any p.come (gone_rows p.gone rows) e
+      modified_any p.moment p.modified_dir_too modified (modified_rows p.moment p.modified_dir three) ∙ modified_any p.moment p.modified_dir modified three ∙ set_any p.set set two ∙ moved_any p.moved moved one ∙ come_any p.come (gone_rows p.gone rows) e
 
 -- ---- nodes and files
 

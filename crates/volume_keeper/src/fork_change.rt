@@ -13,7 +13,7 @@ ghost use Rattle.volume_records.specs.Records.{record_of};
 ghost use Rattle.volume_tree.specs.ForkEffect.{IsForkChange};
 ghost use Rattle.volume_tree.specs.Shown.{fork_at};
 ghost use Rattle.volume_keeper.specs.ForkChanges.{block_change, fork_changes_of, put_where_other};
-ghost use Rattle.volume_keeper.specs.lemma.ForkChanges.{dated_head, dated_node, node_changes};
+ghost use Rattle.volume_keeper.specs.lemma.ForkChanges.{modified_head, modified_node, node_changes};
 ghost use Rattle.volume_keeper.specs.Laws.{IsExact};
 ghost use Rattle.volume_keeper.specs.lemma.Steps.{length_of};
 
@@ -48,7 +48,7 @@ fn date_if(now: Moment, writes: bool, date: i32) -> i32
 
 /// The record of a volume's head, with a modified date.
 fn head_at(alloc: Global, volume: &Volume, now: Moment, writes: bool) -> Result<Record, OutOfMemory>
-    ensures { IfOk result (λ r. r ≡ record_of (row.Head (dated_head now writes (tables_of volume.now.state).head))) }
+    ensures { IfOk result (λ r. r ≡ record_of (row.Head (modified_head now writes (tables_of volume.now.state).head))) }
 {
     let head = volume.head();
     let head = Head {
@@ -68,7 +68,7 @@ fn put_head(
     writes: bool,
     changes: &mut Vec<Change>,
 ) -> Result<(), OutOfMemory>
-    ensures { OnOk result (changes.new.items ≡ changes.old.items ++ put_where_other (row.Head (tables_of volume.now.state).head) (row.Head (dated_head now writes (tables_of volume.now.state).head))) }
+    ensures { OnOk result (changes.new.items ≡ changes.old.items ++ put_where_other (row.Head (tables_of volume.now.state).head) (row.Head (modified_head now writes (tables_of volume.now.state).head))) }
 {
     let old = head_at(alloc, volume, now, false)?;
     let new = head_at(alloc, volume, now, writes)?;
@@ -86,14 +86,14 @@ fn fork_length(volume: &Volume, id: NodeId, resource: bool) -> u64
 }
 
 /// A node with a modified date and the lengths of its forks.
-fn dated_node(
+fn modified_node(
     alloc: Global,
     node: &TreeNode,
     modified: i32,
     data_length: u64,
     resource_length: u64,
 ) -> Result<Node, OutOfMemory>
-    ensures { IfOk result (λ dated. dated ≡ dated_node node.now modified data_length resource_length) }
+    ensures { IfOk result (λ new. new ≡ modified_node node.now modified data_length resource_length) }
 {
     Ok(Node {
         id: node.id.0,
@@ -119,10 +119,10 @@ fn node_at(
     data_length: u64,
     resource_length: u64,
 ) -> Result<Record, OutOfMemory>
-    ensures { IfOk result (λ r. r ≡ record_of (row.Node (dated_node node.now modified data_length resource_length))) }
+    ensures { IfOk result (λ r. r ≡ record_of (row.Node (modified_node node.now modified data_length resource_length))) }
 {
-    let dated = dated_node(alloc, node, modified, data_length, resource_length)?;
-    node_record(alloc, &dated)
+    let new = modified_node(alloc, node, modified, data_length, resource_length)?;
+    node_record(alloc, &new)
 }
 
 /// The one number or the other.

@@ -10,8 +10,8 @@ use Rattle.afp_volume.specs.SetFileDirParms.{with_settings}
 use Rattle.afp_volume.specs.VolumeState.{Row, VolumeState}
 use Rattle.afp_volume.specs.Walk.{row_at}
 use Rattle.volume_tree.proofs.Touching.{gone-lets}
-use Rattle.volume_tree.specs.lemma.After.{moved_row, set_row, dated_row, after_row, come_row}
-use Rattle.volume_tree.specs.Planned.{Move, SetNode, PlanState, planned, is_gone, gone_rows, come_rows, moved_rows, set_rows, dated_rows}
+use Rattle.volume_tree.specs.lemma.After.{moved_row, set_row, modified_row, after_row, come_row}
+use Rattle.volume_tree.specs.Planned.{Move, SetNode, PlanState, planned, is_gone, gone_rows, come_rows, moved_rows, set_rows, modified_rows}
 
 -- what stays, and else what comes
 
@@ -100,9 +100,9 @@ unfolding with_settings
 set-found q None rows = option-same (row_at rows q)
 set-found q (Some set) rows = changed-found set.id q (with_settings set.settings) rows (λ row. refl)
 
-dated-found : (q now : ℕ) (dir : Option NodeId) (rows : List Row) → row_at (dated_rows now dir rows) q ≡ option_map (dated_row now dir) (row_at rows q)
-dated-found q now None rows = option-same (row_at rows q)
-dated-found q now (Some dir) rows = changed-found dir.0 q (modified_at now) rows (λ row. refl)
+modified-found : (q now : ℕ) (dir : Option NodeId) (rows : List Row) → row_at (modified_rows now dir rows) q ≡ option_map (modified_row now dir) (row_at rows q)
+modified-found q now None rows = option-same (row_at rows q)
+modified-found q now (Some dir) rows = changed-found dir.0 q (modified_at now) rows (λ row. refl)
 
 pub after-found : (q : ℕ) (p : PlanState) (v : VolumeState) → row_at (planned p v).rows q ≡ option_map (after_row p) (row_at (come_rows p.come (gone_rows p.gone v.rows)) q)
 unfolding planned
@@ -110,13 +110,13 @@ after-found q p v =
     let two : List Row = come_rows p.come (gone_rows p.gone v.rows) in
     let three : List Row = moved_rows p.moved two in
     let four : List Row = set_rows p.set three in
-    let five : List Row = dated_rows p.moment p.dated four in
+    let five : List Row = modified_rows p.moment p.modified_dir four in
     let move : Row → Row = λ row. moved_row p.moved row in
     let set : Row → Row = λ row. set_row p.set row in
-    let date : Row → Row = λ row. dated_row p.moment p.dated row in
-    let date_too : Row → Row = λ row. dated_row p.moment p.dated_too row in
-    dated-found q p.moment p.dated_too five
-    ∙ ap (λ o. option_map date_too o) (dated-found q p.moment p.dated four
+    let date : Row → Row = λ row. modified_row p.moment p.modified_dir row in
+    let date_too : Row → Row = λ row. modified_row p.moment p.modified_dir_too row in
+    modified-found q p.moment p.modified_dir_too five
+    ∙ ap (λ o. option_map date_too o) (modified-found q p.moment p.modified_dir four
     ∙ ap (λ o. option_map date o) (set-found q p.set three
     ∙ ap (λ o. option_map set o) (moved-found q p.moved two)
     ∙ option-both set move (row_at two q))
@@ -137,18 +137,18 @@ unfolding with_settings
 set-bare None row = refl
 set-bare (Some set) row = changed-bare set.id (with_settings set.settings) row refl
 
-dated-bare : (now : ℕ) (dir : Option NodeId) (row : Row) → bare (dated_row now dir row) ≡ dated_row now dir (bare row)
-dated-bare now None row = refl
-dated-bare now (Some dir) row = changed-bare dir.0 (modified_at now) row refl
+modified-bare : (now : ℕ) (dir : Option NodeId) (row : Row) → bare (modified_row now dir row) ≡ modified_row now dir (bare row)
+modified-bare now None row = refl
+modified-bare now (Some dir) row = changed-bare dir.0 (modified_at now) row refl
 
 after-bare : (p : PlanState) (row : Row) → bare (after_row p row) ≡ after_row p (bare row)
 after-bare p row =
     let three : Row = moved_row p.moved row in
     let four : Row = set_row p.set three in
-    let five : Row = dated_row p.moment p.dated four in
-    dated-bare p.moment p.dated_too five
-    ∙ ap (dated_row p.moment p.dated_too) (dated-bare p.moment p.dated four
-    ∙ ap (dated_row p.moment p.dated) (set-bare p.set three
+    let five : Row = modified_row p.moment p.modified_dir four in
+    modified-bare p.moment p.modified_dir_too five
+    ∙ ap (modified_row p.moment p.modified_dir_too) (modified-bare p.moment p.modified_dir four
+    ∙ ap (modified_row p.moment p.modified_dir) (set-bare p.set three
     ∙ ap (set_row p.set) (moved-bare p.moved row)))
 
 option-bare : (p : PlanState) (o : Option Row) → option_map bare (option_map (after_row p) o) ≡ option_map (after_row p) (option_map bare o)

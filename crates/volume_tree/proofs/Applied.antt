@@ -21,7 +21,7 @@ use Rattle.afp_volume.specs.Walk.{row_at}
 use Rattle.volume_tree.proofs.Showing.{ids-differ}
 use Rattle.volume_tree.specs.Kept.{Forks, data_of, resource_of, with_forks, rows_of, state_of, spare_of}
 use Rattle.volume_tree.specs.lemma.Kept.{IsKept, at_gone, bytes_of, has_forks}
-use Rattle.volume_tree.specs.Planned.{Move, SetNode, PlanState, IsNew, IsPlan, planned, is_gone, gone_rows, gone_comments, gone_appls, come_rows, next_after, moved_rows, set_rows, dated_rows}
+use Rattle.volume_tree.specs.Planned.{Move, SetNode, PlanState, IsNew, IsPlan, planned, is_gone, gone_rows, gone_comments, gone_appls, come_rows, next_after, moved_rows, set_rows, modified_rows}
 use Rattle.volume_tree.specs.declared.forks.FileForks.{FileForks}
 use Rattle.volume_tree.specs.declared.head.Dates.{Dates}
 
@@ -39,9 +39,9 @@ shown-changed forks id change (row ∷ rows) same =
     (λ here. same row ∙ sym (cond-true (row.id == id) (change (with_forks forks row)) (with_forks forks row) here)) (λ other. sym (cond-false (row.id == id) (change (with_forks forks row)) (with_forks forks row) other)) i
     ∷ shown-changed forks id change rows same i
 
-shown-dated : (forks : Forks) (now : ℕ) (dir : Option NodeId) (rows : List Row) → rows_of forks (dated_rows now dir rows) ≡ dated_rows now dir (rows_of forks rows)
-shown-dated forks now None rows = refl
-shown-dated forks now (Some dir) rows = shown-changed forks dir.0 (modified_at now) rows (λ row. refl)
+shown-modified : (forks : Forks) (now : ℕ) (dir : Option NodeId) (rows : List Row) → rows_of forks (modified_rows now dir rows) ≡ modified_rows now dir (rows_of forks rows)
+shown-modified forks now None rows = refl
+shown-modified forks now (Some dir) rows = shown-changed forks dir.0 (modified_at now) rows (λ row. refl)
 
 shown-moved : (forks : Forks) (moved : Option Move) (rows : List Row) → rows_of forks (moved_rows moved rows) ≡ moved_rows moved (rows_of forks rows)
 shown-moved forks None rows = refl
@@ -102,9 +102,9 @@ all-changed p id change [] same = refl
 all-changed p id change (row ∷ rows) same =
     λ i. cond_both (row.id == id) (change row) row (λ r. p r ≡ p row) (λ here. same row) (λ other. refl) i && all-changed p id change rows same i
 
-pub all-dated : (forks : Forks) (now : ℕ) (dir : Option NodeId) (rows : List Row) → list_all (has_forks forks) (dated_rows now dir rows) ≡ list_all (has_forks forks) rows
-all-dated forks now None rows = refl
-all-dated forks now (Some dir) rows = all-changed (has_forks forks) dir.0 (modified_at now) rows (λ row. refl)
+pub all-modified : (forks : Forks) (now : ℕ) (dir : Option NodeId) (rows : List Row) → list_all (has_forks forks) (modified_rows now dir rows) ≡ list_all (has_forks forks) rows
+all-modified forks now None rows = refl
+all-modified forks now (Some dir) rows = all-changed (has_forks forks) dir.0 (modified_at now) rows (λ row. refl)
 
 all-moved : (forks : Forks) (moved : Option Move) (rows : List Row) → list_all (has_forks forks) (moved_rows moved rows) ≡ list_all (has_forks forks) rows
 all-moved forks None rows = refl
@@ -141,9 +141,9 @@ bytes-changed id change (row ∷ rows) same =
     ∙ (λ i. cond_both (row.id == id) (change row) row (λ r. row_bytes r ≡ row_bytes row) (λ here. same row) (λ other. refl) i + bytes-changed id change rows same i)
     ∙ sym (sum_by-cons row_bytes row rows)
 
-bytes-dated : (now : ℕ) (dir : Option NodeId) (rows : List Row) → fork_bytes (dated_rows now dir rows) ≡ fork_bytes rows
-bytes-dated now None rows = refl
-bytes-dated now (Some dir) rows = bytes-changed dir.0 (modified_at now) rows (λ row. refl)
+bytes-modified : (now : ℕ) (dir : Option NodeId) (rows : List Row) → fork_bytes (modified_rows now dir rows) ≡ fork_bytes rows
+bytes-modified now None rows = refl
+bytes-modified now (Some dir) rows = bytes-changed dir.0 (modified_at now) rows (λ row. refl)
 
 bytes-moved : (moved : Option Move) (rows : List Row) → fork_bytes (moved_rows moved rows) ≡ fork_bytes rows
 bytes-moved None rows = refl
@@ -236,7 +236,7 @@ pub record Applied (name : List ℕ) (dates new_dates : Dates) (rows new_rows : 
   pub spare : 1 ≤ spare_of rows forks
   pub dates_are : new_dates ≡ record dates { modified = pos p.moment; backup = unwrap_or p.backup dates.backup }
   pub next_is : new_rows.next_id ≡ next_after p.come rows.next_id
-  pub rows_are : new_rows.rows ≡ dated_rows p.moment p.dated_too (dated_rows p.moment p.dated (set_rows p.set (moved_rows p.moved (come_rows p.come (gone_rows p.gone rows.rows)))))
+  pub rows_are : new_rows.rows ≡ modified_rows p.moment p.modified_dir_too (modified_rows p.moment p.modified_dir (set_rows p.set (moved_rows p.moved (come_rows p.come (gone_rows p.gone rows.rows)))))
   pub forks_are : (q : ℕ) → at nat_cmp new_forks q ≡ at_gone p.gone q (at nat_cmp forks q)
   pub left_is : left + bytes_of p.gone forks ≡ used
 
@@ -263,13 +263,13 @@ module _ {name : List ℕ} {dates new_dates : Dates} {rows new_rows : RowsValue}
       ∙ ap is_some (cond-false (is_gone p.gone rows.next_id) None (at nat_cmp forks rows.next_id) (gone-drawn (state_of name dates rows forks) p.gone a.plan.gone a.kept.sound))
       ∙ (spare-kept (is_some (at nat_cmp forks rows.next_id)) rows.spare a.spare).0)
 
-  shown : rows_of new_forks new_rows.rows ≡ dated_rows p.moment p.dated_too (dated_rows p.moment p.dated (set_rows p.set (moved_rows p.moved (come_rows p.come (gone_rows p.gone (rows_of forks rows.rows))))))
+  shown : rows_of new_forks new_rows.rows ≡ modified_rows p.moment p.modified_dir_too (modified_rows p.moment p.modified_dir (set_rows p.set (moved_rows p.moved (come_rows p.come (gone_rows p.gone (rows_of forks rows.rows))))))
   shown =
       let came = come_rows p.come (gone_rows p.gone rows.rows) in
       ap (rows_of new_forks) a.rows_are
-      ∙ shown-dated new_forks p.moment p.dated_too (dated_rows p.moment p.dated (set_rows p.set (moved_rows p.moved came)))
-      ∙ ap (dated_rows p.moment p.dated_too) (shown-dated new_forks p.moment p.dated (set_rows p.set (moved_rows p.moved came))
-      ∙ ap (dated_rows p.moment p.dated) (shown-set new_forks p.set (moved_rows p.moved came)
+      ∙ shown-modified new_forks p.moment p.modified_dir_too (modified_rows p.moment p.modified_dir (set_rows p.set (moved_rows p.moved came)))
+      ∙ ap (modified_rows p.moment p.modified_dir_too) (shown-modified new_forks p.moment p.modified_dir (set_rows p.set (moved_rows p.moved came))
+      ∙ ap (modified_rows p.moment p.modified_dir) (shown-set new_forks p.set (moved_rows p.moved came)
       ∙ ap (set_rows p.set) (shown-moved new_forks p.moved came
       ∙ ap (moved_rows p.moved) (shown-come new_forks p.come (gone_rows p.gone rows.rows) (come-blanks p.come a.plan.come)
       ∙ ap (come_rows p.come) (shown-gone forks new_forks p.gone rows.rows a.forks_are)))))
@@ -306,7 +306,7 @@ module _ {name : List ℕ} {dates new_dates : Dates} {rows new_rows : RowsValue}
       record {
         sound = subst IsSoundVolume (sym applied-state) a.plan.sound;
         files = ap (list_all (has_forks new_forks)) a.rows_are
-            ∙ all-dated new_forks p.moment p.dated_too (dated_rows p.moment p.dated (set_rows p.set (moved_rows p.moved came))) ∙ all-dated new_forks p.moment p.dated (set_rows p.set (moved_rows p.moved came)) ∙ all-set new_forks p.set (moved_rows p.moved came) ∙ all-moved new_forks p.moved came
+            ∙ all-modified new_forks p.moment p.modified_dir_too (modified_rows p.moment p.modified_dir (set_rows p.set (moved_rows p.moved came))) ∙ all-modified new_forks p.moment p.modified_dir (set_rows p.set (moved_rows p.moved came)) ∙ all-set new_forks p.set (moved_rows p.moved came) ∙ all-moved new_forks p.moved came
             ∙ all-come new_forks p.come (gone_rows p.gone rows.rows) (come-kept p.come a.plan.come) (all-gone forks new_forks p.gone rows.rows a.forks_are a.kept.files);
         no_data = ap (λ q. data_of (at nat_cmp new_forks q)) a.next_is ∙ ap data_of (a.forks_are (next_after p.come rows.next_id))
             ∙ blank-gone p.gone (next_after p.come rows.next_id) (at nat_cmp forks (next_after p.come rows.next_id)) (next-data p.come);
@@ -317,8 +317,8 @@ module _ {name : List ℕ} {dates new_dates : Dates} {rows new_rows : RowsValue}
         bytes =
             let old = rows_of forks rows.rows in
             let after : fork_bytes (rows_of new_forks new_rows.rows) ≡ fork_bytes (gone_rows p.gone old) =
-            ap fork_bytes shown ∙ bytes-dated p.moment p.dated_too (dated_rows p.moment p.dated (set_rows p.set (moved_rows p.moved (come_rows p.come (gone_rows p.gone old)))))
-            ∙ bytes-dated p.moment p.dated (set_rows p.set (moved_rows p.moved (come_rows p.come (gone_rows p.gone old)))) ∙ bytes-set p.set (moved_rows p.moved (come_rows p.come (gone_rows p.gone old))) ∙ bytes-moved p.moved (come_rows p.come (gone_rows p.gone old))
+            ap fork_bytes shown ∙ bytes-modified p.moment p.modified_dir_too (modified_rows p.moment p.modified_dir (set_rows p.set (moved_rows p.moved (come_rows p.come (gone_rows p.gone old)))))
+            ∙ bytes-modified p.moment p.modified_dir (set_rows p.set (moved_rows p.moved (come_rows p.come (gone_rows p.gone old)))) ∙ bytes-set p.set (moved_rows p.moved (come_rows p.come (gone_rows p.gone old))) ∙ bytes-moved p.moved (come_rows p.come (gone_rows p.gone old))
             ∙ bytes-come p.come (gone_rows p.gone old) (come-plain p.come a.plan.come) in
             let whole : fork_bytes (gone_rows p.gone old) + bytes_of p.gone forks ≡ fork_bytes old = bytes-gone forks rows.rows p.gone (ids-differ (state_of name dates rows forks) a.kept.sound) a.plan.gone in
             let were : used ≡ fork_bytes old = a.kept.bytes in

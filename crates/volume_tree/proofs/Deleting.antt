@@ -12,7 +12,7 @@ use Rattle.afp_volume.specs.Walk.{found}
 use Rattle.volume_tree.specs.Planned.{PlanState, IsPlan, planned}
 
 abbrev pub delete_plan : ℕ → NodeId → NodeId → PlanState
-delete_plan now id up = record { moment = now; gone = Some id; come = None; moved = None; set = None; backup = None; dated = Some up; dated_too = None }
+delete_plan now id up = record { moment = now; gone = Some id; come = None; moved = None; set = None; backup = None; modified_dir = Some up; modified_dir_too = None }
 
 pub delete-planned : (v : VolumeState) (now dir : ℕ) (path : PathValue) (id up : NodeId) → found v.rows dir path ≡ Ok id.0 → up.0 ≡ directory_of v.rows id.0 → planned (delete_plan now id up) v ≡ delete_effect v now dir path
 unfolding planned delete_effect

@@ -8,7 +8,7 @@ use Rattle.afp_volume.specs.SetFileDirParms.{with_settings}
 use Rattle.afp_volume.specs.VolumeState.{Row, VolumeState}
 use Rattle.afp_volume.specs.Walk.{row_at}
 use Rattle.volume_tree.proofs.Afters.{or_row, after-found, stays-gone, stays-here}
-use Rattle.volume_tree.specs.lemma.After.{moved_row, set_row, dated_row, after_row, come_row}
+use Rattle.volume_tree.specs.lemma.After.{moved_row, set_row, modified_row, after_row, come_row}
 use Rattle.volume_tree.specs.Planned.{Move, SetNode, PlanState, planned, is_gone, gone_rows, come_rows}
 use Rattle.afp_volume.specs.OpenFork.{file_of}
 use Rattle.volume_tree.specs.Shown.{fork_at}
@@ -34,16 +34,16 @@ unfolding with_settings
 set-told resource None row = refl
 set-told resource (Some set) row = changed-told resource set.id (with_settings set.settings) row refl
 
-dated-told : (resource : Bool) (now : ℕ) (dir : Option NodeId) (row : Row) → told resource (dated_row now dir row) ≡ told resource row
-dated-told resource now None row = refl
-dated-told resource now (Some dir) row = changed-told resource dir.0 (modified_at now) row refl
+modified-told : (resource : Bool) (now : ℕ) (dir : Option NodeId) (row : Row) → told resource (modified_row now dir row) ≡ told resource row
+modified-told resource now None row = refl
+modified-told resource now (Some dir) row = changed-told resource dir.0 (modified_at now) row refl
 
 after-told : (resource : Bool) (p : PlanState) (row : Row) → told resource (after_row p row) ≡ told resource row
 after-told resource p row =
     let three : Row = moved_row p.moved row in
     let four : Row = set_row p.set three in
-    let five : Row = dated_row p.moment p.dated four in
-    dated-told resource p.moment p.dated_too five ∙ dated-told resource p.moment p.dated four ∙ set-told resource p.set three ∙ moved-told resource p.moved row
+    let five : Row = modified_row p.moment p.modified_dir four in
+    modified-told resource p.moment p.modified_dir_too five ∙ modified-told resource p.moment p.modified_dir four ∙ set-told resource p.set three ∙ moved-told resource p.moved row
 
 option-told : (resource : Bool) (p : PlanState) (o : Option Row) → option_map (fork_of resource) (file_of (option_map (after_row p) o)) ≡ option_map (fork_of resource) (file_of o)
 option-told resource p None = refl

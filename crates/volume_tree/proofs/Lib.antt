@@ -4,7 +4,7 @@ pub mod LongNames
 pub mod Steps
 pub mod UpSteps
 pub mod Keeping
-pub mod Dating
+pub mod ModifiedDates
 pub mod Applied
 pub mod Beside
 pub mod Deleting

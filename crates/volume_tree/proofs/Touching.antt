@@ -11,8 +11,8 @@ use Rattle.afp_volume.specs.VolumeState.{Row}
 use Rattle.afp_volume.specs.Edits.{at_place, modified_at}
 use Rattle.afp_volume.specs.Walk.{row_at}
 use Rattle.volume_tree.specs.lemma.Answered.{option_id}
-use Rattle.volume_tree.specs.Planned.{Move, SetNode, PlanState, planned, is_gone, gone_rows, come_rows, moved_rows, set_rows, dated_rows}
-use Rattle.volume_tree.specs.TouchedNodes.{is_come, is_moved, is_set, is_dated, is_touched, are_rising, IsTouched}
+use Rattle.volume_tree.specs.Planned.{Move, SetNode, PlanState, planned, is_gone, gone_rows, come_rows, moved_rows, set_rows, modified_rows}
+use Rattle.volume_tree.specs.TouchedNodes.{is_come, is_moved, is_set, is_modified, is_touched, are_rising, IsTouched}
 use Rattle.volume_tree.specs.lemma.TouchedNodes.{put_id, with_id}
 use Rattle.volume_tree.specs.TreeLaws.{UntouchedStay}
 
@@ -96,9 +96,9 @@ is-set q (Some id) (Some set) is = let same : id.0 ≡ set.id = cc in ap (λ n. 
 is-set q None (Some set) is = absurd (cc)
 is-set q (Some id) None is = absurd (cc)
 
-is-dated : (q : ℕ) (id : Option NodeId) → is_gone id q ≡ is_dated id q
-is-dated q None = refl
-is-dated q (Some id) = refl
+is-modified : (q : ℕ) (id : Option NodeId) → is_gone id q ≡ is_modified id q
+is-modified q None = refl
+is-modified q (Some id) = refl
 
 or-none : (a : Bool) → (a || false) ≡ a
 or-none true = refl
@@ -107,22 +107,22 @@ or-none false = refl
 -- all six, one after the other
 pub six-touched : (p : PlanState) (come moved set : Option NodeId) → option_id come ≡ option_map (λ (row : Row). row.id) p.come → option_id moved ≡ option_map (λ (move : Move). move.id) p.moved
     → option_id set ≡ option_map (λ (set : SetNode). set.id) p.set
-    → IsTouched p (with_id p.gone (with_id come (with_id moved (with_id set (with_id p.dated (with_id p.dated_too []))))))
+    → IsTouched p (with_id p.gone (with_id come (with_id moved (with_id set (with_id p.modified_dir (with_id p.modified_dir_too []))))))
 unfolding is_touched
 six-touched p come moved set is_come_ is_moved_ is_set_ =
-    let one : List NodeId = with_id p.dated_too [] in
-    let two : List NodeId = with_id p.dated one in
+    let one : List NodeId = with_id p.modified_dir_too [] in
+    let two : List NodeId = with_id p.modified_dir one in
     let three : List NodeId = with_id set two in
     let four : List NodeId = with_id moved three in
     let five : List NodeId = with_id come four in
     record {
-      rising = with-rises p.gone five (with-rises come four (with-rises moved three (with-rises set two (with-rises p.dated one (with-rises p.dated_too [] refl)))));
-      all = λ q. with-any q p.gone five (is_gone p.gone q) (is_come p.come q || (is_moved p.moved q || (is_set p.set q || (is_dated p.dated q || is_dated p.dated_too q)))) refl
-          (with-any q come four (is_come p.come q) (is_moved p.moved q || (is_set p.set q || (is_dated p.dated q || is_dated p.dated_too q))) (is-come q come p.come is_come_)
-          (with-any q moved three (is_moved p.moved q) (is_set p.set q || (is_dated p.dated q || is_dated p.dated_too q)) (is-moved q moved p.moved is_moved_)
-          (with-any q set two (is_set p.set q) (is_dated p.dated q || is_dated p.dated_too q) (is-set q set p.set is_set_)
-          (with-any q p.dated one (is_dated p.dated q) (is_dated p.dated_too q) (is-dated q p.dated)
-          (with-any q p.dated_too [] (is_dated p.dated_too q) false (is-dated q p.dated_too) refl ∙ or-none (is_dated p.dated_too q))))));
+      rising = with-rises p.gone five (with-rises come four (with-rises moved three (with-rises set two (with-rises p.modified_dir one (with-rises p.modified_dir_too [] refl)))));
+      all = λ q. with-any q p.gone five (is_gone p.gone q) (is_come p.come q || (is_moved p.moved q || (is_set p.set q || (is_modified p.modified_dir q || is_modified p.modified_dir_too q)))) refl
+          (with-any q come four (is_come p.come q) (is_moved p.moved q || (is_set p.set q || (is_modified p.modified_dir q || is_modified p.modified_dir_too q))) (is-come q come p.come is_come_)
+          (with-any q moved three (is_moved p.moved q) (is_set p.set q || (is_modified p.modified_dir q || is_modified p.modified_dir_too q)) (is-moved q moved p.moved is_moved_)
+          (with-any q set two (is_set p.set q) (is_modified p.modified_dir q || is_modified p.modified_dir_too q) (is-set q set p.set is_set_)
+          (with-any q p.modified_dir one (is_modified p.modified_dir q) (is_modified p.modified_dir_too q) (is-modified q p.modified_dir)
+          (with-any q p.modified_dir_too [] (is_modified p.modified_dir_too q) false (is-modified q p.modified_dir_too) refl ∙ or-none (is_modified p.modified_dir_too q))))));
     }
 
 -- what is not touched stays
@@ -159,21 +159,21 @@ unfolding with_settings
 set-lets q None rows h = refl
 set-lets q (Some set) rows h = changes-let-be rows set.id q (with_settings set.settings) (λ row. refl) h
 
-dated-lets : (q now : ℕ) (dir : Option NodeId) (rows : List Row) → is_dated dir q ≡ false → row_at (dated_rows now dir rows) q ≡ row_at rows q
-dated-lets q now None rows h = refl
-dated-lets q now (Some dir) rows h = changes-let-be rows dir.0 q (modified_at now) (λ row. refl) h
+modified-lets : (q now : ℕ) (dir : Option NodeId) (rows : List Row) → is_modified dir q ≡ false → row_at (modified_rows now dir rows) q ≡ row_at rows q
+modified-lets q now None rows h = refl
+modified-lets q now (Some dir) rows h = changes-let-be rows dir.0 q (modified_at now) (λ row. refl) h
 
 pub untouched-stay : UntouchedStay
 unfolding planned is_touched
 untouched-stay = λ v p q h.
-    let a = neither (is_gone p.gone q) (is_come p.come q || (is_moved p.moved q || (is_set p.set q || (is_dated p.dated q || is_dated p.dated_too q)))) h in
-    let b = neither (is_come p.come q) (is_moved p.moved q || (is_set p.set q || (is_dated p.dated q || is_dated p.dated_too q))) a.1 in
-    let c = neither (is_moved p.moved q) (is_set p.set q || (is_dated p.dated q || is_dated p.dated_too q)) b.1 in
-    let d = neither (is_set p.set q) (is_dated p.dated q || is_dated p.dated_too q) c.1 in
-    let e = neither (is_dated p.dated q) (is_dated p.dated_too q) d.1 in
+    let a = neither (is_gone p.gone q) (is_come p.come q || (is_moved p.moved q || (is_set p.set q || (is_modified p.modified_dir q || is_modified p.modified_dir_too q)))) h in
+    let b = neither (is_come p.come q) (is_moved p.moved q || (is_set p.set q || (is_modified p.modified_dir q || is_modified p.modified_dir_too q))) a.1 in
+    let c = neither (is_moved p.moved q) (is_set p.set q || (is_modified p.modified_dir q || is_modified p.modified_dir_too q)) b.1 in
+    let d = neither (is_set p.set q) (is_modified p.modified_dir q || is_modified p.modified_dir_too q) c.1 in
+    let e = neither (is_modified p.modified_dir q) (is_modified p.modified_dir_too q) d.1 in
     let one : List Row = gone_rows p.gone v.rows in
     let two : List Row = come_rows p.come one in
     let three : List Row = moved_rows p.moved two in
     let four : List Row = set_rows p.set three in
-    let five : List Row = dated_rows p.moment p.dated four in
-    dated-lets q p.moment p.dated_too five e.1 ∙ dated-lets q p.moment p.dated four e.0 ∙ set-lets q p.set three d.0 ∙ moved-lets q p.moved two c.0 ∙ come-lets q p.come one b.0 ∙ gone-lets q p.gone v.rows a.0
+    let five : List Row = modified_rows p.moment p.modified_dir four in
+    modified-lets q p.moment p.modified_dir_too five e.1 ∙ modified-lets q p.moment p.modified_dir four e.0 ∙ set-lets q p.set three d.0 ∙ moved-lets q p.moved two c.0 ∙ come-lets q p.come one b.0 ∙ gone-lets q p.gone v.rows a.0

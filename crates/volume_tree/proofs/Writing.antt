@@ -15,13 +15,13 @@ use Rattle.afp_volume.specs.ForkEffect.{fork_effect, fork_of, written}
 use Rattle.afp_volume.specs.SoundVolume.{IsSoundVolume, has_node, fork_bytes, most_fork_bytes}
 use Rattle.afp_volume.specs.VolumeState.{Row}
 use Rattle.afp_volume.specs.Walk.{row_at}
-use Rattle.volume_tree.proofs.Applied.{gone-drawn, all-dated}
+use Rattle.volume_tree.proofs.Applied.{gone-drawn, all-modified}
 use Rattle.volume_tree.proofs.FileForks.{found-id, found-kept}
 use Rattle.volume_tree.proofs.Showing.{found-shown, missing-shown}
 use Rattle.volume_tree.specs.lemma.ForkEffect.{IsChanged, kept_fork}
 use Rattle.volume_tree.specs.Kept.{Forks, data_of, resource_of, with_forks, rows_of, state_of}
 use Rattle.volume_tree.specs.lemma.Kept.{IsKept, has_forks}
-use Rattle.volume_tree.specs.Planned.{dated_rows}
+use Rattle.volume_tree.specs.Planned.{modified_rows}
 use Rattle.afp_volume.specs.OpenFork.{file_of}
 use Rattle.volume_tree.specs.Shown.{fork_at}
 use Rattle.volume_tree.specs.declared.head.Dates.{Dates}
@@ -58,9 +58,9 @@ file-there forks rows id resource bytes all is = go (row_at rows id) refl
 -- rows with their forks, where one has changed
 
 module _ (old new : Forks) (id now : ℕ) (resource writes : Bool) (bytes : List ℕ) (others : (q : ℕ) → (q == id) ≡ false → at nat_cmp new q ≡ at nat_cmp old q) (changed : IsChanged resource bytes (at nat_cmp old id) (at nat_cmp new id)) where
-  row-changed : (row dated : Row) → row.id ≡ id → dated ≡ record row { modified = if writes then pos now else row.modified } → with_forks new dated ≡ written now resource bytes writes (with_forks old row)
-  row-changed row dated is dated_is =
-      ap (with_forks new) dated_is
+  row-changed : (row later : Row) → row.id ≡ id → later ≡ record row { modified = if writes then pos now else row.modified } → with_forks new later ≡ written now resource bytes writes (with_forks old row)
+  row-changed row later is later_is =
+      ap (with_forks new) later_is
       ∙ (λ i. record row {
         modified = if writes then pos now else row.modified;
         data_fork = (ap (λ n. data_of (at nat_cmp new n)) is ∙ changed.data_fork ∙ ap (λ n. if resource then data_of (at nat_cmp old n) else bytes) (sym is)) i;
@@ -85,7 +85,7 @@ unchanged-rows id [] = refl
 unchanged-rows id (row ∷ rows) = λ i. cond_both (row.id == id) row row (λ r. r ≡ row) (λ here. refl) (λ other. refl) i ∷ unchanged-rows id rows i
 
 pub shown-written : (old new : Forks) (id : NodeId) (now : ℕ) (resource writes : Bool) (bytes : List ℕ) (rows : List Row) → ((q : ℕ) → (q == id.0) ≡ false → at nat_cmp new q ≡ at nat_cmp old q) → IsChanged resource bytes (at nat_cmp old id.0) (at nat_cmp new id.0)
-    → rows_of new (dated_rows now (if writes then Some id else None) rows) ≡ with_changed id.0 (written now resource bytes writes) (rows_of old rows)
+    → rows_of new (modified_rows now (if writes then Some id else None) rows) ≡ with_changed id.0 (written now resource bytes writes) (rows_of old rows)
 shown-written old new id now resource true bytes rows others changed = rows-changed old new id.0 now resource true bytes others changed (modified_at now) rows (λ row. refl)
 shown-written old new id now resource false bytes rows others changed = ap (rows_of new) (sym (unchanged-rows id.0 rows)) ∙ rows-changed old new id.0 now resource false bytes others changed (λ row. row) rows (λ row. refl)
 
@@ -108,7 +108,7 @@ pub record Written (name : List ℕ) (dates new_dates : Dates) (rows new_rows : 
   pub fits : fork_bytes (rows_of forks rows.rows) + length after ≤ most_fork_bytes + length before
   pub dates_are : new_dates ≡ (if writes then (record dates { modified = pos now }) else dates)
   pub next_is : new_rows.next_id ≡ rows.next_id
-  pub rows_are : new_rows.rows ≡ dated_rows now (if writes then Some id else None) rows.rows
+  pub rows_are : new_rows.rows ≡ modified_rows now (if writes then Some id else None) rows.rows
   pub others : (q : ℕ) → (q == id.0) ≡ false → at nat_cmp new_forks q ≡ at nat_cmp forks q
   pub changed : IsChanged resource after (at nat_cmp forks id.0) (at nat_cmp new_forks id.0)
   pub left_is : left + length before ≡ used + length after
@@ -155,7 +155,7 @@ module _ {name : List ℕ} {dates new_dates : Dates} {rows new_rows : RowsValue}
       let shown = rows_of forks rows.rows in
       record {
         sound = subst IsSoundVolume (sym written-state) (written-sound (state_of name dates rows forks) id.0 now resource writes before after (with_forks forks a.file.row) shown-row a.file.file shown-bytes a.kept.sound a.fits);
-        files = ap (list_all (has_forks new_forks)) a.rows_are ∙ all-dated new_forks now (if writes then Some id else None) rows.rows ∙ all-weaker (has_forks forks) (has_forks new_forks) rows.rows still-kept a.kept.files;
+        files = ap (list_all (has_forks new_forks)) a.rows_are ∙ all-modified new_forks now (if writes then Some id else None) rows.rows ∙ all-weaker (has_forks forks) (has_forks new_forks) rows.rows still-kept a.kept.files;
         no_data = ap data_of (a.others new_rows.next_id next-other) ∙ ap (λ n. data_of (at nat_cmp forks n)) a.next_is ∙ a.kept.no_data;
         no_resource = ap resource_of (a.others new_rows.next_id next-other) ∙ ap (λ n. resource_of (at nat_cmp forks n)) a.next_is ∙ a.kept.no_resource;
         none_behind = λ q behind. let none = a.kept.none_behind q (subst (λ n. n < q) a.next_is behind) in a.others q (none-there q none) ∙ none;

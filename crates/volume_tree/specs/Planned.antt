@@ -30,8 +30,8 @@ pub record PlanState : Type 0 where
   pub moved : Option Move
   pub set : Option SetNode
   pub backup : Option ℤ
-  pub dated : Option NodeId
-  pub dated_too : Option NodeId
+  pub modified_dir : Option NodeId
+  pub modified_dir_too : Option NodeId
 
 -- whether a node goes
 abbrev pub is_gone : Option NodeId → ℕ → Bool
@@ -71,9 +71,9 @@ set_rows None rows = rows
 set_rows (Some set) rows = with_changed set.id (with_settings set.settings) rows
 
 -- rows with another modified date of a directory
-abbrev pub dated_rows : ℕ → Option NodeId → List Row → List Row
-dated_rows now None rows = rows
-dated_rows now (Some dir) rows = with_changed dir.0 (modified_at now) rows
+abbrev pub modified_rows : ℕ → Option NodeId → List Row → List Row
+modified_rows now None rows = rows
+modified_rows now (Some dir) rows = with_changed dir.0 (modified_at now) rows
 
 -- a volume after what was planned
 unfoldable pub planned : PlanState → VolumeState → VolumeState
@@ -81,7 +81,7 @@ planned p v = record v {
   modified = pos p.moment;
   backup = unwrap_or p.backup v.backup;
   next_id = next_after p.come v.next_id;
-  rows = dated_rows p.moment p.dated_too (dated_rows p.moment p.dated (set_rows p.set (moved_rows p.moved (come_rows p.come (gone_rows p.gone v.rows)))));
+  rows = modified_rows p.moment p.modified_dir_too (modified_rows p.moment p.modified_dir (set_rows p.set (moved_rows p.moved (come_rows p.come (gone_rows p.gone v.rows)))));
   comments = gone_comments p.gone v.comments;
   appls = gone_appls p.gone v.appls;
 }

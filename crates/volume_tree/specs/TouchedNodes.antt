@@ -19,13 +19,13 @@ is_set None id = false
 is_set (Some set) id = id == set.id
 
 -- whether this id is a directory's that gets the moment as its modified date
-abbrev pub is_dated : Option NodeId → ℕ → Bool
-is_dated None id = false
-is_dated (Some dir) id = id == dir.0
+abbrev pub is_modified : Option NodeId → ℕ → Bool
+is_modified None id = false
+is_modified (Some dir) id = id == dir.0
 
 -- whether the node of this id goes, comes, gets another place, is set, or is one of the two directories whose date is set
 unfoldable pub is_touched : PlanState → ℕ → Bool
-is_touched p id = is_gone p.gone id || (is_come p.come id || (is_moved p.moved id || (is_set p.set id || (is_dated p.dated id || is_dated p.dated_too id))))
+is_touched p id = is_gone p.gone id || (is_come p.come id || (is_moved p.moved id || (is_set p.set id || (is_modified p.modified_dir id || is_modified p.modified_dir_too id))))
 
 -- ids each of which is below all behind it
 abbrev pub are_rising : List NodeId → Bool

@@ -4,7 +4,7 @@ ghost use Rattle.afp_volume.specs.ForkEffect.{fork_of};
 ghost use Rattle.afp_volume.specs.Edits.{bare, at_place, modified_at};
 ghost use Rattle.afp_volume.specs.SetFileDirParms.{with_settings};
 ghost use Rattle.afp_volume.specs.Walk.{row_at};
-ghost use Rattle.volume_tree.specs.lemma.After.{moved_row, set_row, dated_row, come_row};
+ghost use Rattle.volume_tree.specs.lemma.After.{moved_row, set_row, modified_row, come_row};
 ghost use Rattle.afp_volume.specs.OpenFork.{file_of};
 ghost use Rattle.volume_tree.specs.Shown.{fork_at};
 ghost use Rattle.volume_tree.specs.Planned.{is_gone, gone_rows, come_rows, planned, next_after};
@@ -123,8 +123,8 @@ impl<'a> NodeAfter<'a> {
     }
 
     /// The node with the moment as its modified date, where it is this directory.
-    fn dated(self, now: Moment, dir: Option<NodeId>) -> NodeAfter<'a>
-        ensures { result ≡ dated_row now dir self.entry }
+    fn modified_dir(self, now: Moment, dir: Option<NodeId>) -> NodeAfter<'a>
+        ensures { result ≡ modified_row now dir self.entry }
     {
         match dir {
             Some(dir) => if self.id.0 == dir.0 {
@@ -199,8 +199,8 @@ impl Volume {
                 NodeAfter::of(node)
                     .moved(&plan.moved)
                     .set(&plan.set)
-                    .dated(plan.moment, plan.dated)
-                    .dated(plan.moment, plan.dated_too),
+                    .modified_dir(plan.moment, plan.modified_dir)
+                    .modified_dir(plan.moment, plan.modified_dir_too),
             ),
             None => None,
         }

@@ -6,7 +6,7 @@ ghost use Rattle.afp_volume.specs.Walk.{row_at};
 ghost use Rattle.sorted_map.specs.Entries.{at};
 ghost use Rattle.volume_tree.specs.lemma.Kept.{bytes_of, at_gone, IsMarks, IsMarksSet};
 ghost use Rattle.afp_volume.specs.SetFileDirParms.{with_settings};
-ghost use Rattle.volume_tree.specs.Planned.{Move, IsNew, IsPlan, planned, gone_rows, come_rows, next_after, moved_rows, set_rows, dated_rows};
+ghost use Rattle.volume_tree.specs.Planned.{Move, IsNew, IsPlan, planned, gone_rows, come_rows, next_after, moved_rows, set_rows, modified_rows};
 
 use crate::forks::{FileForks, forget};
 use crate::plan::{Comer, Mover, Plan, Setting};
@@ -30,16 +30,16 @@ impl Volume {
             moved,
             set,
             backup,
-            dated,
-            dated_too,
+            modified_dir,
+            modified_dir_too,
         } = plan;
         self.used -= used_by(&self.forks, gone);
         take_out(&mut self.rows, &mut self.forks, gone);
         put_in(&mut self.rows, come);
         put_elsewhere(&mut self.rows, moved);
         put_settings(&mut self.rows, set);
-        set_date(&mut self.rows, now, dated);
-        set_date(&mut self.rows, now, dated_too);
+        set_date(&mut self.rows, now, modified_dir);
+        set_date(&mut self.rows, now, modified_dir_too);
         self.dates = self.dates.changed(now, backup);
     }
 }
@@ -145,7 +145,7 @@ fn marks_set(rows: &Rows, id: NodeId, settings: &Settings) -> Option<Marks>
 
 /// Gives a directory the moment as its modified date.
 pub(crate) fn set_date(rows: &mut Rows, now: Moment, dir: Option<NodeId>)
-    ensures rows { rows.new.rows ≡ dated_rows now dir rows.old.rows }
+    ensures rows { rows.new.rows ≡ modified_rows now dir rows.old.rows }
     ensures next { rows.new.next_id ≡ rows.old.next_id }
 {
     match dir {
@@ -161,7 +161,7 @@ fn date_node(rows: &mut Rows, now: Moment, id: NodeId)
 {
     let _nodes = rows.nodes();
     match marks_at(rows, id) {
-        Some(marks) => rows.mark(id, dated(marks, now)),
+        Some(marks) => rows.mark(id, modified_marks(marks, now)),
         None => {}
     }
 }
@@ -184,7 +184,7 @@ fn marks_at(rows: &Rows, id: NodeId) -> Option<Marks>
 }
 
 /// Marks with the moment as their modified date.
-fn dated(marks: Marks, now: Moment) -> Marks
+fn modified_marks(marks: Marks, now: Moment) -> Marks
     ensures { result ≡ record marks { modified = pos now } }
 {
     Marks {

@@ -48,8 +48,8 @@ pub(crate) fn plan_new(
         moved: None,
         set: None,
         backup: None,
-        dated: Some(new.parent),
-        dated_too: None,
+        modified_dir: Some(new.parent),
+        modified_dir_too: None,
     })
 }
 

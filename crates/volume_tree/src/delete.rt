@@ -48,8 +48,8 @@ impl Volume {
             moved: None,
             set: None,
             backup: None,
-            dated: Some(self.directory(id)),
-            dated_too: None,
+            modified_dir: Some(self.directory(id)),
+            modified_dir_too: None,
         })
     }
 

@@ -69,8 +69,8 @@ impl Volume {
         let place = NewPlace {
             id,
             parent: target,
-            dated: self.directory(id),
-            dated_too: Some(target),
+            modified_dir: self.directory(id),
+            modified_dir_too: Some(target),
         };
         match plan_place(alloc, now, place, name, key) {
             Ok(plan) => Ok(plan),

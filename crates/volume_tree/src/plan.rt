@@ -76,8 +76,8 @@ pub struct Plan {
     pub(crate) moved: Option<Mover>,
     pub(crate) set: Option<Setting>,
     pub(crate) backup: Option<i32>,
-    pub(crate) dated: Option<NodeId>,
-    pub(crate) dated_too: Option<NodeId>,
+    pub(crate) modified_dir: Option<NodeId>,
+    pub(crate) modified_dir_too: Option<NodeId>,
 }
 
 impl Model for Plan {
@@ -85,7 +85,7 @@ impl Model for Plan {
 
     ghost Value = { PlanState };
 
-    ghost view = { λ a. record { moment = a.moment; gone = a.gone; come = a.come; moved = a.moved; set = a.set; backup = a.backup; dated = a.dated; dated_too = a.dated_too } };
+    ghost view = { λ a. record { moment = a.moment; gone = a.gone; come = a.come; moved = a.moved; set = a.set; backup = a.backup; modified_dir = a.modified_dir; modified_dir_too = a.modified_dir_too } };
 }
 
 impl Plan {

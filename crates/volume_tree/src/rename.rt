@@ -23,8 +23,8 @@ pub(crate) const RENAME_INHIBIT: u16 = 0x0080;
 pub(crate) struct NewPlace {
     pub id: NodeId,
     pub parent: NodeId,
-    pub dated: NodeId,
-    pub dated_too: Option<NodeId>,
+    pub modified_dir: NodeId,
+    pub modified_dir_too: Option<NodeId>,
 }
 
 /// The plan of a node's new place.
@@ -36,7 +36,7 @@ pub(crate) fn plan_place(
     key: Bytes,
 ) -> Result<Plan, OutOfMemory>
     requires { key ≡ name_key name.now }
-    ensures { IfOk result (λ plan. plan ≡ plan_place now place.id place.parent name.now place.dated place.dated_too) }
+    ensures { IfOk result (λ plan. plan ≡ plan_place now place.id place.parent name.now place.modified_dir place.modified_dir_too) }
 {
     let name = name.copy(alloc)?;
     Ok(Plan {
@@ -51,8 +51,8 @@ pub(crate) fn plan_place(
         }),
         set: None,
         backup: None,
-        dated: Some(place.dated),
-        dated_too: place.dated_too,
+        modified_dir: Some(place.modified_dir),
+        modified_dir_too: place.modified_dir_too,
     })
 }
 
@@ -100,8 +100,8 @@ impl Volume {
         let place = NewPlace {
             id,
             parent,
-            dated: parent,
-            dated_too: None,
+            modified_dir: parent,
+            modified_dir_too: None,
         };
         match plan_place(alloc, now, place, name, key) {
             Ok(plan) => Ok(plan),

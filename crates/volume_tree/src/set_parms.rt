@@ -38,8 +38,8 @@ pub(crate) fn plan_set(now: Moment, id: NodeId, settings: Settings) -> Plan
         moved: None,
         set: Some(Setting { id, settings }),
         backup: None,
-        dated: None,
-        dated_too: None,
+        modified_dir: None,
+        modified_dir_too: None,
     }
 }
 

@@ -28,8 +28,8 @@ fn plan_backup(now: Moment, tail: &[u8]) -> Plan
         moved: None,
         set: None,
         backup: Some(BigEndian::read_u32(tail).cast_signed()),
-        dated: None,
-        dated_too: None,
+        modified_dir: None,
+        modified_dir_too: None,
     }
 }
 

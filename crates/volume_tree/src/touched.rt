@@ -120,8 +120,8 @@ impl Plan {
         ensures { IsTouched self.now result }
     {
         let mut touched = Touched::new();
-        touched.add(self.dated_too);
-        touched.add(self.dated);
+        touched.add(self.modified_dir_too);
+        touched.add(self.modified_dir);
         touched.add(id_of_set(&self.set));
         touched.add(id_of_moved(&self.moved));
         touched.add(id_of_come(&self.come));

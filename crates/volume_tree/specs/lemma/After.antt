@@ -16,13 +16,13 @@ abbrev pub set_row : Option SetNode → Row → Row
 set_row None row = row
 set_row (Some set) row = change_at set.id (with_settings set.settings) row
 
-abbrev pub dated_row : ℕ → Option NodeId → Row → Row
-dated_row now None row = row
-dated_row now (Some dir) row = change_at dir.0 (modified_at now) row
+abbrev pub modified_row : ℕ → Option NodeId → Row → Row
+modified_row now None row = row
+modified_row now (Some dir) row = change_at dir.0 (modified_at now) row
 
 -- a row that stays or comes, after a plan
 abbrev pub after_row : PlanState → Row → Row
-after_row p row = dated_row p.moment p.dated_too (dated_row p.moment p.dated (set_row p.set (moved_row p.moved row)))
+after_row p row = modified_row p.moment p.modified_dir_too (modified_row p.moment p.modified_dir (set_row p.set (moved_row p.moved row)))
 
 -- the row that comes, where it has this id
 abbrev pub come_row : Option Row → ℕ → Option Row

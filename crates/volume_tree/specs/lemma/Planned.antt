@@ -6,12 +6,12 @@ use Rattle.volume_tree.specs.Planned.{SetNode, PlanState}
 
 -- a new file or directory, in the place of a node that goes
 abbrev pub plan_new : ℕ → Bool → NodeId → NodeId → List ℕ → Option NodeId → PlanState
-plan_new now dir id parent name gone = record { moment = now; gone = gone; come = Some (new_row dir id.0 parent.0 name now); moved = None; set = None; backup = None; dated = Some parent; dated_too = None }
+plan_new now dir id parent name gone = record { moment = now; gone = gone; come = Some (new_row dir id.0 parent.0 name now); moved = None; set = None; backup = None; modified_dir = Some parent; modified_dir_too = None }
 
 -- a node's new place, and the directories whose children change
 abbrev pub plan_place : ℕ → NodeId → NodeId → List ℕ → NodeId → Option NodeId → PlanState
-plan_place now id parent name dated dated_too = record { moment = now; gone = None; come = None; moved = Some (record { id = id.0; parent = parent.0; name = name }); set = None; backup = None; dated = Some dated; dated_too = dated_too }
+plan_place now id parent name modified_dir modified_dir_too = record { moment = now; gone = None; come = None; moved = Some (record { id = id.0; parent = parent.0; name = name }); set = None; backup = None; modified_dir = Some modified_dir; modified_dir_too = modified_dir_too }
 
 -- the settings of a node, or none
 abbrev pub plan_set : ℕ → Option SetNode → Option ℤ → PlanState
-plan_set now set backup = record { moment = now; gone = None; come = None; moved = None; set = set; backup = backup; dated = None; dated_too = None }
+plan_set now set backup = record { moment = now; gone = None; come = None; moved = None; set = set; backup = backup; modified_dir = None; modified_dir_too = None }

@@ -12,7 +12,7 @@ use Rattle.volume_records.specs.declared.rows.TableRow.TheVariants as row
 use Rattle.volume_records.specs.Image.{kept_image, tables_of}
 use Rattle.volume_tree.specs.Shown.{fork_at}
 use Rattle.volume_keeper.specs.ForkChanges.{block_change, fork_changes_of, put_where_other}
-use Rattle.volume_keeper.specs.lemma.ForkChanges.{dated_head, node_changes}
+use Rattle.volume_keeper.specs.lemma.ForkChanges.{modified_head, node_changes}
 use Rattle.volume_keeper.specs.Laws.{IsExact}
 use Rattle.volume_keeper.specs.lemma.Steps.{length_of}
 use Rattle.volume_keeper.proofs.ForkTold.{FileAt, all_told, file_at, has_room}
@@ -25,7 +25,7 @@ returns-clause-changes c = λ change.
     let id = c.args.id.0 in
     let is : with_desktop t d.comments d.icons d.appls ≡ c.args.held.now.state = search rules in
     let there : fork_at t.rows id c.args.resource ≡ Some change.before = ap (λ (v : VolumeState). fork_at v.rows id c.args.resource) is ∙ change.there in
-    let head : Bool → List Change = λ writes. put_where_other (row.Head (tables_of t).head) (row.Head (dated_head c.args.now writes (tables_of t).head)) in
+    let head : Bool → List Change = λ writes. put_where_other (row.Head (tables_of t).head) (row.Head (modified_head c.args.now writes (tables_of t).head)) in
     let node : List Change = node_changes c.args.now c.args.resource c.args.plan.now.len c.args.plan.now.writes (length_of (fork_at t.rows id false)) (length_of (fork_at t.rows id true)) (option_map bare (row_at t.rows id)) in
     let blocks : List Change = map (block_change id c.args.resource) c.args.plan.now.changes in
     c.in_ok-change_blocks.ensures

@@ -1,6 +1,6 @@
 use Rattle.std.proofs.Common.{◌∙◌, sym}
 use Rattle.afp_volume.specs.SetFileDirParms.{with_settings}
-use Rattle.volume_tree.proofs.Dating.{changed-missing, set-same}
+use Rattle.volume_tree.proofs.ModifiedDates.{changed-missing, set-same}
 use Rattle.volume_tree.proofs.apply.set_node.Goals as goal
 
 pub returns-in-Some-clause-rows : goal.returns-in-Some-clause-rows

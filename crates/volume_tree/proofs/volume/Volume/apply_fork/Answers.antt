@@ -8,7 +8,7 @@ use Rattle.volume_tree.proofs.Writing.{Written, written-state, written-kept, fil
 use Rattle.volume_tree.specs.ForkEffect.{IsForkChange}
 use Rattle.volume_tree.specs.lemma.ForkEffect.{kept_fork}
 use Rattle.volume_tree.specs.Kept.{rows_of, state_of}
-use Rattle.volume_tree.specs.Planned.{dated_rows}
+use Rattle.volume_tree.specs.Planned.{modified_rows}
 use Rattle.volume_tree.specs.Shown.{TreeValue, fork_at}
 use Rattle.volume_tree.proofs.volume.Volume.apply_fork.Goals as goal
 
@@ -65,7 +65,7 @@ invariant_of-self c =
       fits = change.fits;
       dates_are = c.touched_if-self-inside.ensures ∙ ap (λ w. if w then (record c.self.inside.dates { modified = pos c.args.now }) else c.self.inside.dates) c.writes-writes.ensures;
       next_is = c.set_date.ensures.next;
-      rows_are = c.set_date.ensures.rows ∙ ap (λ o. dated_rows c.args.now o c.self.inside.rows.rows) (c.id_if.ensures ∙ ap (λ w. if w then Some c.args.id else None) c.writes-writes.ensures);
+      rows_are = c.set_date.ensures.rows ∙ ap (λ o. modified_rows c.args.now o c.self.inside.rows.rows) (c.id_if.ensures ∙ ap (λ w. if w then Some c.args.id else None) c.writes-writes.ensures);
       others = c.change_fork.ensures.others;
       changed = c.change_fork.ensures.changed change.after plans;
       left_is = let new : c.len.result ≡ length change.after = c.len.ensures ∙ change.plans.len in omega (arith, old, within);
@@ -92,7 +92,7 @@ returns c = λ given.
       fits = change.fits;
       dates_are = c.touched_if-self-inside.ensures ∙ ap (λ w. if w then (record c.self.inside.dates { modified = pos c.args.now }) else c.self.inside.dates) c.writes-writes.ensures;
       next_is = c.set_date.ensures.next;
-      rows_are = c.set_date.ensures.rows ∙ ap (λ o. dated_rows c.args.now o c.self.inside.rows.rows) (c.id_if.ensures ∙ ap (λ w. if w then Some c.args.id else None) c.writes-writes.ensures);
+      rows_are = c.set_date.ensures.rows ∙ ap (λ o. modified_rows c.args.now o c.self.inside.rows.rows) (c.id_if.ensures ∙ ap (λ w. if w then Some c.args.id else None) c.writes-writes.ensures);
       others = c.change_fork.ensures.others;
       changed = c.change_fork.ensures.changed change.after plans;
       left_is = let new : c.len.result ≡ length change.after = c.len.ensures ∙ change.plans.len in omega (arith, old, within);

@@ -30,8 +30,8 @@ pub marked-same : (rows : List Row) (id : ℕ) (marks : Marks) (change : Row →
 unfolding row_at with_changed
 marked-same rows id marks change s rising found same = changed-same rows id (marked marks) change s (rising-ids-differ rows rising) found same
 
-pub dated-same : (rows : List Row) (id now : ℕ) (marks new : Marks) → has_rising_ids rows ≡ true → IsMarks (Some marks) (row_at rows id) → new ≡ record marks { modified = pos now } → with_changed id (marked new) rows ≡ with_changed id (modified_at now) rows
-dated-same rows id now marks new rising found is =
+pub modified-same : (rows : List Row) (id now : ℕ) (marks new : Marks) → has_rising_ids rows ≡ true → IsMarks (Some marks) (row_at rows id) → new ≡ record marks { modified = pos now } → with_changed id (marked new) rows ≡ with_changed id (modified_at now) rows
+modified-same rows id now marks new rising found is =
     marked-same rows id new (modified_at now) found.0 rising found.1 (ap (λ (m : Marks). marked m found.0) (is ∙ ap (λ (m : Marks). let n : Marks = record m { modified = pos now } in n) found.2))
 
 pub set-same : (rows : List Row) (id : ℕ) (settings : Settings) (marks : Marks) → has_rising_ids rows ≡ true → IsMarksSet settings (Some marks) (row_at rows id) → with_changed id (marked marks) rows ≡ with_changed id (with_settings settings) rows
