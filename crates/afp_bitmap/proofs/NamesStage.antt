@@ -5,7 +5,8 @@ use Rattle.std.proofs.lemmas.Bool.{cases_Bool, cases_lt, and_parts, and_from, le
 use Rattle.std.proofs.lemmas.List.{take_at, drop_at, take-append-drop, length-take-le, length-append, length-drop, length-replicate, append_assoc, append-nil, drop-drop}
 use Rattle.byteorder.specs.Endian.{big_number, big_bytes}
 use Rattle.afp_bitmap.specs.Field.{long_name_bytes, utf8_name_bytes}
-use Rattle.afp_bitmap.specs.lemma.Reading.{◌>>=◌, Spot, zero_at, pad_at, leads_to, long_name_at, utf8_text_at, utf8_name_at}
+use Rattle.afp_bitmap.specs.lemma.Reading.{◌>>=◌, zero_at, pad_at, leads_to, long_name_at, utf8_text_at, utf8_name_at}
+use Rattle.afp_bitmap.specs.lemma.Spot.{Spot}
 use Rattle.afp_bitmap.proofs.Fixed.{front_number, front_is, zeros_are}
 use Rattle.afp_bitmap.proofs.Numbers.{IsBytes, IsBytes-drop, big_number-lt, length-big_bytes}
 use Rattle.afp_bitmap.proofs.Parts.{opt}
@@ -282,7 +283,8 @@ utf8_no spot h = rw h refl
 text_yes : (count : ℕ) (spot : Spot) → count ≤ length (drop 6 spot.1)
     → utf8_text_at count spot ≡ then_pad (6 + count) spot.0 (take count (drop 6 spot.1)) (drop count (drop 6 spot.1))
 unfolding utf8_text_at
-text_yes count spot h = rw (le-leb count (length (drop 6 spot.1)) h) refl
+text_yes count spot h =
+    rw (le-leb count (length (drop 6 spot.1)) h) (ap (λ (rest : List ℕ). then_pad (6 + count) spot.0 (take count (drop 6 spot.1)) rest) (sym (drop-drop count 6 spot.1)))
 
 text_no : (count : ℕ) (spot : Spot) → length (drop 6 spot.1) < count → utf8_text_at count spot ≡ Err spot.0
 unfolding utf8_text_at

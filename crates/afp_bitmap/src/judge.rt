@@ -1,9 +1,10 @@
 //! Whether bytes are a block, and the first place where they are none.
-ghost use Rattle.std.specs.Prelude.{◌≡◌, ◌+◌, ◌<◌, ◌^◌, length, IfOk, true};
+ghost use Rattle.std.specs.Prelude.{◌≡◌, ◌<◌, ◌^◌, true};
 ghost use Rattle.afp_bitmap.specs.lemma.Reading.{Gives, asked_size, start, walk_of, names_of, may_stand, stands, behind_field, step, walked, judged};
 
 use crate::names::{Names, names_at};
 use crate::params::ParamFault;
+use crate::spot::Spot;
 use crate::table::{Shape, Slot, fixed_size, is_asked};
 use byteorder::{BigEndian, ByteOrder};
 
@@ -14,9 +15,8 @@ pub(crate) struct Walked<'a> {
     pub(crate) long_name: bool,
     /// Where the UTF-8 name is to stand.
     pub(crate) utf8_name: Option<usize>,
-    pub(crate) place: usize,
-    /// The bytes from that place on.
-    pub(crate) rest: &'a [u8],
+    /// What is read next.
+    pub(crate) spot: Spot<'a>,
 }
 
 /// Whether a UTF-8 name may stand at a place, where the names begin at `first`: just there, or
@@ -39,7 +39,7 @@ fn stands(first: usize, shape: Shape, walk: &Walked<'_>) -> bool
     requires { first < 2 ^ 16 }
     ensures { result ≡ stands first shape (walk_of walk.now) }
 {
-    let rest = walk.rest;
+    let rest = walk.spot.rest();
     if rest.len() < shape.size() {
         return false;
     }
@@ -58,31 +58,24 @@ fn stands(first: usize, shape: Shape, walk: &Walked<'_>) -> bool
 fn behind_field<'a>(first: usize, shape: Shape, walk: &Walked<'a>) -> Walked<'a>
     requires small { first < 2 ^ 16 }
     requires whole { stands first shape (walk_of walk.now) ≡ true }
-    requires within { walk.now.place + length walk.now.rest.now < 2 ^ 64 }
-    ensures value { walk_of result ≡ behind_field shape (walk_of walk.now) }
-    ensures all { result.place + length result.rest.now ≡ walk.now.place + length walk.now.rest.now }
+    ensures { walk_of result ≡ behind_field shape (walk_of walk.now) }
 {
-    let rest = walk.rest;
-    let place = walk.place + shape.size();
-    let behind = &rest[shape.size()..];
+    let spot = walk.spot.behind(shape.size());
     match shape {
         Shape::Plain(_) => Walked {
             long_name: walk.long_name,
             utf8_name: walk.utf8_name,
-            place,
-            rest: behind,
+            spot,
         },
         Shape::LongName => Walked {
             long_name: true,
             utf8_name: walk.utf8_name,
-            place,
-            rest: behind,
+            spot,
         },
         Shape::Utf8Name => Walked {
             long_name: walk.long_name,
-            utf8_name: Some(BigEndian::read_u16(rest) as usize),
-            place,
-            rest: behind,
+            utf8_name: Some(BigEndian::read_u16(walk.spot.rest()) as usize),
+            spot,
         },
     }
 }
@@ -91,15 +84,15 @@ fn behind_field<'a>(first: usize, shape: Shape, walk: &Walked<'a>) -> Walked<'a>
 #[tactic(auto, unfolding(crate::specs::lemma::Reading::step))]
 fn step<'a>(bits: u16, first: usize, slot: Slot, walk: Walked<'a>) -> Result<Walked<'a>, ParamFault>
     requires small { first < 2 ^ 16 }
-    requires within { walk.place + length walk.rest.now < 2 ^ 64 }
-    ensures value { Gives walk_of result (step bits first slot (walk_of walk.entry)) }
-    ensures all { IfOk result (λ w. w.place + length w.rest.now ≡ walk.entry.place + length walk.entry.rest.now) }
+    ensures { Gives walk_of result (step bits first slot (walk_of walk.entry)) }
 {
     if !is_asked(bits, slot.0) {
         return Ok(walk);
     }
     if !stands(first, slot.1, &walk) {
-        return Err(ParamFault::Bad { at: walk.place });
+        return Err(ParamFault::Bad {
+            at: walk.spot.place(),
+        });
     }
     Ok(behind_field(first, slot.1, &walk))
 }
@@ -107,15 +100,13 @@ fn step<'a>(bits: u16, first: usize, slot: Slot, walk: Walked<'a>) -> Result<Wal
 /// Goes over the fixed part.
 fn walk<'a>(bits: u16, table: &[Slot], bytes: &'a [u8]) -> Result<Walked<'a>, ParamFault>
     requires { asked_size bits table.now < 2 ^ 16 }
-    ensures value { Gives walk_of result (walked bits (asked_size bits table.now) table.now (start bytes.now)) }
-    ensures all { IfOk result (λ w. w.place + length w.rest.now ≡ length bytes.now) }
+    ensures { Gives walk_of result (walked bits (asked_size bits table.now) table.now (start bytes.now)) }
 {
     let first = fixed_size(bits, table);
     let mut walk = Walked {
         long_name: false,
         utf8_name: None,
-        place: 0,
-        rest: bytes,
+        spot: Spot::new(bytes),
     };
     for slot in table {
         walk = step(bits, first, *slot, walk)?;

@@ -10,6 +10,7 @@ mod judge;
 mod laws;
 mod names;
 mod params;
+mod spot;
 mod table;
 mod take;
 mod volume;

@@ -5,8 +5,8 @@ ghost use Rattle.byteorder.specs.Endian.{big_number};
 ghost use Rattle.afp_bitmap.specs.lemma.Reading.{finder_of};
 ghost use Rattle.afp_bitmap.specs.lemma.Taking.{Took, taken};
 
+use crate::spot::Spot;
 use crate::table::is_asked;
-use afp_base::Scan;
 use byteorder::{BigEndian, ByteOrder};
 use std::marker::Model;
 
@@ -17,30 +17,25 @@ use std::marker::Model;
 #[derive(Drop)]
 pub(crate) struct Fields<'a> {
     bits: u16,
-    scan: Scan<'a>,
+    spot: Spot<'a>,
 }
 
 impl<'a> Model for Fields<'a> {
-    ghost use Rattle.std.specs.Prelude.{◌≤◌, drop, length};
     ghost use Rattle.afp_bitmap.specs.lemma.Taking.{Untaken};
 
     ghost Value = { Untaken };
 
-    ghost view = { λ f. record { bits = f.bits; rest = drop f.scan.place f.scan.bytes } };
-
-    ghost invariant = { λ f. f.scan.place ≤ length f.scan.bytes };
+    ghost view = { λ f. record { bits = f.bits; rest = f.spot.1 } };
 }
 
 impl<'a> Fields<'a> {
-    ghost use Rattle.afp_bitmap.specs.lemma.Taking.{Untaken};
-
     /// No field of the block is taken.
     pub(crate) fn new(bits: u16, bytes: &'a [u8]) -> Fields<'a>
         ensures { result ≡ record { bits = bits; rest = bytes.now } }
     {
         Fields {
             bits,
-            scan: Scan::new(bytes),
+            spot: Spot::new(bytes),
         }
     }
 
@@ -51,12 +46,12 @@ impl<'a> Fields<'a> {
         ensures whole { length result.now ≢ size → result.now ≡ [] }
         ensures took { Took self.old bit size self.new }
     {
-        if !is_asked(self.bits, bit) {
-            return &[];
-        }
-        match self.scan.bytes(size) {
-            Ok(piece) => piece,
-            Err(_) => &[],
+        let rest = self.spot.rest();
+        if is_asked(self.bits, bit) && size <= rest.len() {
+            self.spot = self.spot.behind(size);
+            &rest[..size]
+        } else {
+            &[]
         }
     }
 

@@ -6,7 +6,6 @@ use Rattle.afp_bitmap.specs.declared.table.Shape.{Shape}
 use Rattle.afp_bitmap.specs.declared.table.Shape.TheVariants as shapes
 use Rattle.afp_bitmap.specs.declared.table.Slot.{Slot}
 use Rattle.afp_bitmap.specs.declared.judge.Walked.{Walked}
-use Rattle.afp_bitmap.specs.declared.names.Spot as code
 use Rattle.afp_bitmap.specs.declared.names.Named.{Named}
 use Rattle.afp_bitmap.specs.declared.names.Names.{Names}
 use Rattle.afp_bitmap.specs.declared.params.ParamFault.{ParamFault}
@@ -15,6 +14,7 @@ use Rattle.afp_bitmap.specs.declared.volume.VolumeValues.{VolumeValues}
 use Rattle.afp_bitmap.specs.declared.file.FileValues.{FileValues}
 use Rattle.afp_bitmap.specs.declared.directory.DirValues.{DirValues}
 use Rattle.afp_bitmap.specs.Bits.{is_asked}
+use Rattle.afp_bitmap.specs.lemma.Spot.{Spot}
 
 infixl 10 ◌>>=◌
 -- the next step, unless this one met a fault
@@ -56,7 +56,7 @@ may_stand first true place = nat_le (first + 2) place && nat_le place (first + 2
 
 -- what the code's walk shows
 abbrev pub walk_of : Walked → Walk
-walk_of w = record { long_name = w.long_name; utf8_name = w.utf8_name; place = w.place; rest = w.rest.now }
+walk_of w = record { long_name = w.long_name; utf8_name = w.utf8_name; place = w.spot.0; rest = w.spot.1 }
 
 -- the bytes at the walk's place are a field of that shape
 unfoldable pub stands : ℕ → Shape → Walk → Bool
@@ -81,14 +81,6 @@ step bits first s w =
 unfoldable pub walked : ℕ → ℕ → List Slot → Walk → Result Walk ℕ
 walked bits first [] w = Ok w
 walked bits first (s ∷ ss) w = step bits first s w >>= λ x. walked bits first ss x
-
--- where a name begins and what stands there
-abbrev pub Spot : Type 0
-Spot = ℕ × List ℕ
-
--- what the code's spot shows
-abbrev pub spot_of : code.Spot → Spot
-spot_of s = (s.place, s.rest.now)
 
 -- the spot behind a byte of zero
 unfoldable pub zero_at : ℕ → List ℕ → Result Spot ℕ
@@ -117,7 +109,7 @@ long_name_at next place (count ∷ rest) =
 unfoldable pub utf8_text_at : ℕ → Spot → Result (List ℕ × Spot) ℕ
 utf8_text_at count spot =
     if nat_le count (length (drop 6 spot.1))
-    then (pad_at (6 + count) (spot.0 + (6 + count), drop count (drop 6 spot.1)) >>= λ behind. Ok (take count (drop 6 spot.1), behind))
+    then (pad_at (6 + count) (spot.0 + (6 + count), drop (6 + count) spot.1) >>= λ behind. Ok (take count (drop 6 spot.1), behind))
     else Err spot.0
 
 -- a UTF-8 name, and the spot behind its pad
@@ -126,7 +118,7 @@ utf8_name_at spot = if nat_le 6 (length spot.1) && (big_number 4 spot.1 == 0) th
 
 -- what the code's names show
 abbrev pub name_of : Named → List ℕ × Spot
-name_of n = (n.name.now, spot_of n.behind)
+name_of n = (n.name.now, n.behind)
 
 abbrev pub names_of : Names → List ℕ × List ℕ
 names_of n = (n.long.now, n.utf8.now)
