@@ -16,3 +16,11 @@ most_forks = 256
 -- the most locks of one reference
 abbrev pub most_locks : ℕ
 most_locks = 1024
+
+-- the most bytes of a fork, and of all forks of a volume together
+abbrev pub most_fork_bytes : ℕ
+most_fork_bytes = 268435456
+
+-- the bytes of a block, in which forks are kept and volumes are counted
+abbrev pub block_size : ℕ
+block_size = 4096

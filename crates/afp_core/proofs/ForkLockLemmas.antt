@@ -19,7 +19,7 @@ use Rattle.afp_serial.specs.Rows.{ends_session, row}
 use Rattle.afp_serial.specs.declared.ask.Outcome.{Outcome}
 use Rattle.afp_serial.specs.declared.ask.Told.{Told}
 use Rattle.afp_volume.specs.ForkEffect.{fork_of}
-use Rattle.afp_volume.specs.SoundVolume.{most_fork_bytes}
+use Rattle.afp_base.specs.Limits.{most_fork_bytes}
 use Rattle.afp_core.specs.lemma.OnForkBytes.{BecomesForks, FitsReply, IsOffset, IsPlace, TellsLocked, TellsUnlocked, start_reply}
 use Rattle.afp_core.specs.lemma.OnForks.{IsFork, IsForkAt}
 use Rattle.afp_core.specs.ServerState.{KeptWorld}

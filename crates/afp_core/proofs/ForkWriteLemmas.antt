@@ -24,7 +24,7 @@ use Rattle.afp_serial.specs.declared.ask.Told.{Told}
 use Rattle.afp_serial.specs.declared.ask.Told.TheVariants.{Reply}
 use Rattle.afp_volume.specs.ForkEffect.{fork_effect, fork_of, would_pass}
 use Rattle.afp_volume.specs.ForkLaws.{RoomIsFew}
-use Rattle.afp_volume.specs.SoundVolume.{most_fork_bytes}
+use Rattle.afp_base.specs.Limits.{most_fork_bytes}
 use Rattle.afp_volume.specs.VolumeState.{Row as File, VolumeState}
 use Rattle.afp_volume.specs.Walk.{row_at}
 use Rattle.afp_core.specs.lemma.OnForkBytes.{FitsReply, IsOffset, IsPlace, end_reply, write_checks}

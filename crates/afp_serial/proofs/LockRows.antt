@@ -3,7 +3,7 @@ use Rattle.std.proofs.Common.{◌==◌, ◌≡◌, ◌∙◌, ap, sym, refl, ℕ
 use Rattle.std.specs.Prelude.{count_by, filter, nat_abs, nat_le}
 use Rattle.std.specs.List.{list_all, list_any}
 use Rattle.std.proofs.lemmas.Bool.{and_parts, and_from, cond_both, eqb-true, eq-eqb, leb-true, leb-false, le-leb}
-use Rattle.afp_base.specs.Limits.{most_locks, payload_limit}
+use Rattle.afp_base.specs.Limits.{most_locks, payload_limit, most_fork_bytes}
 use Rattle.afp_base.proofs.DefinitionLaws.{one_fork}
 use Rattle.afp_base.specs.Choice.{first_holding}
 use Rattle.afp_base.specs.DenyMode.{Fork, is_one_fork}
@@ -32,7 +32,6 @@ use Rattle.afp_serial.specs.OnFork.{OpenFile, bytes_of, is_met_by_other, meets_l
 use Rattle.afp_serial.specs.Sound.{IsSound, has_apart_sessions, has_lawful_caches, has_lawful_opens, has_typed_fields, share_fork}
 use Rattle.afp_volume.proofs.ForkEffects.{fork-few}
 use Rattle.afp_volume.proofs.TestedLists.{all-both, all-filter, all-weaker, any-weaker, apart-filter, contra, count-filter, none-all}
-use Rattle.afp_volume.specs.SoundVolume.{most_fork_bytes}
 
 -- which of two comes first makes no difference
 

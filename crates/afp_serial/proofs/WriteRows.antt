@@ -6,7 +6,7 @@ use Rattle.std.proofs.lemmas.Bool.{and_parts, and_from, le-leb, ltb-true}
 use Rattle.std.proofs.lemmas.Int.{ints}
 use Rattle.std.proofs.lemmas.List.{length-append}
 use Rattle.std.proofs.lemmas.List.Folds.{list_all-append}
-use Rattle.afp_base.specs.Limits.{payload_limit}
+use Rattle.afp_base.specs.Limits.{payload_limit, most_fork_bytes}
 use Rattle.afp_base.proofs.DefinitionLaws.{length-resized}
 use Rattle.afp_base.specs.Choice.{first_holding}
 use Rattle.afp_base.specs.ForkBytes.{resized, splice}
@@ -34,7 +34,6 @@ use Rattle.afp_serial.specs.World.{World, Session}
 use Rattle.afp_volume.proofs.ForkEffects.{files-stay, fork-bytes-typed, fork-few, fork-sound, fork-typed, new-few}
 use Rattle.afp_volume.proofs.TypedEdits.{drop-bytes, take-bytes}
 use Rattle.afp_volume.specs.ForkEffect.{fork_effect, would_pass}
-use Rattle.afp_volume.specs.SoundVolume.{most_fork_bytes}
 use Rattle.afp_volume.specs.TypedVolume.{are_bytes, is_byte}
 use Rattle.afp_volume.specs.VolumeState.{VolumeState}
 use Rattle.afp_volume.specs.Walk.{row_at}

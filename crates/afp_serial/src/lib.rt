@@ -9,7 +9,7 @@ pub mod fork_laws;
 mod house;
 mod house_fault;
 pub mod laws;
-mod limits;
+pub mod limits;
 mod ranges;
 mod status;
 pub mod status_words;

@@ -3,8 +3,7 @@ ghost use Rattle.std.specs.Prelude.{◌≡◌, ◌==◌, ◌&&◌, length, true}
 ghost use Rattle.std.specs.List.{list_all};
 ghost use Rattle.afp_serial.specs.History.{entry};
 ghost use Rattle.afp_serial.specs.Ranges.{is_moment, is_typed_ask, is_typed_entry, is_typed_user};
-ghost use Rattle.afp_volume.specs.TypedVolume.{is_quad};
-ghost use Rattle.afp_volume.specs.TypedVolume.{are_bytes};
+ghost use Rattle.afp_volume.specs.TypedVolume.{is_quad, are_bytes};
 ghost use Rattle.afp_serial.specs.declared.ask.Outcome.{Outcome};
 
 use crate::ask::Ask;

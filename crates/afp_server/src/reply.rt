@@ -4,16 +4,13 @@ ghost use Rattle.dsi_frame.specs.Frame.{canonical_frame, frame_of, header_of};
 ghost use Rattle.afp_server.specs.Replies.{reply_to};
 
 use afp_base::{Code, MAX_PAYLOAD};
-use dsi_frame::{Header, header_bytes};
-
-/// The bytes of a header.
-const HEADER: usize = 16;
+use dsi_frame::{HEADER_LENGTH, Header, header_bytes};
 
 /// The bytes of the longest payload.
 const MOST_PAYLOAD: usize = MAX_PAYLOAD as usize;
 
 /// The bytes of the longest reply.
-pub const MOST_REPLY: usize = HEADER + MOST_PAYLOAD;
+pub const MOST_REPLY: usize = HEADER_LENGTH + MOST_PAYLOAD;
 
 /// The header of a reply with this code and payload.
 fn reply_header(request: &Header, code: Code, payload: &[u8]) -> Header
@@ -37,9 +34,9 @@ pub fn put_reply(buffer: &mut [u8], request: &Header, code: Code, payload: &[u8]
     ensures bytes { take result buffer.new ≡ canonical_frame (reply_to (frame_of request.now []) code payload.now) }
     ensures size { result ≤ MOST_REPLY }
 {
-    let end = HEADER + payload.len();
+    let end = HEADER_LENGTH + payload.len();
     let header = reply_header(request, code, payload);
-    buffer[..HEADER].copy_from_slice(&header_bytes(&header));
-    buffer[HEADER..end].copy_from_slice(payload);
+    buffer[..HEADER_LENGTH].copy_from_slice(&header_bytes(&header));
+    buffer[HEADER_LENGTH..end].copy_from_slice(payload);
     end
 }

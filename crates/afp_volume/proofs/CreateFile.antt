@@ -10,7 +10,7 @@ use Rattle.afp_names.specs.Path.{PathValue}
 use Rattle.afp_volume.proofs.CallsSound.{created-sound, or-none}
 use Rattle.afp_volume.proofs.Formed.{limit-parts}
 use Rattle.afp_volume.proofs.Leading.{goes_up, without-shorter}
-use Rattle.afp_volume.specs.SoundVolume.{are_named_alike}
+use Rattle.afp_volume.specs.SoundVolume.{are_named_alike, IsSoundVolume, has_apart_names, has_node, is_in_place, leads_to_root, most_nodes, last_next_id}
 use Rattle.afp_volume.proofs.Refusals.{none-holds, at-found, IsPlaceThere, place-there}
 use Rattle.afp_volume.proofs.SoundEdits.{sound-without}
 use Rattle.afp_volume.proofs.TestedLists.{contra, never, find-all, any-still, any-weaker, none-find, any-at}
@@ -18,7 +18,6 @@ use Rattle.afp_volume.proofs.Trees.{TreeParts, tree-parts, drawn, any-with}
 use Rattle.afp_volume.proofs.Walks.{find-there, mapped-from, MappedFrom}
 use Rattle.afp_volume.specs.Edits.{has_children, without, without_node}
 use Rattle.afp_base.specs.Apart.{are_apart}
-use Rattle.afp_volume.specs.SoundVolume.{IsSoundVolume, has_apart_names, has_node, is_in_place, leads_to_root, most_nodes, last_next_id}
 use Rattle.afp_volume.specs.Shared.{Opened, has_no_room, has_no_ids, has_attribute, is_busy, delete_inhibit, created}
 use Rattle.afp_volume.specs.CreateFile.{create_file_there, without_replaced, create_file_refusal, create_file_effect}
 use Rattle.afp_volume.specs.VolumeState.{Row, VolumeState, root_id, root_parent, first_id}

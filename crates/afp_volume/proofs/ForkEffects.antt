@@ -13,7 +13,8 @@ use Rattle.afp_volume.proofs.Trees.{tree-parts}
 use Rattle.afp_volume.proofs.TypedEdits.{TypedParts, row-parts, row-whole, typed-at, typed-parts, typed-whole}
 use Rattle.afp_volume.specs.Edits.{change_at, put, with_changed}
 use Rattle.afp_volume.specs.ForkEffect.{fork_effect, fork_of, would_pass, written}
-use Rattle.afp_volume.specs.SoundVolume.{IsSoundVolume, TakesRow, is_formed, is_named, file_attributes, dir_attributes, fork_bytes, has_file, row_bytes, most_fork_bytes}
+use Rattle.afp_base.specs.Limits.{most_fork_bytes}
+use Rattle.afp_volume.specs.SoundVolume.{IsSoundVolume, TakesRow, is_formed, is_named, file_attributes, dir_attributes, fork_bytes, has_file, row_bytes}
 use Rattle.afp_volume.specs.TypedVolume.{are_bytes, is_date, is_typed_row, is_typed_volume}
 use Rattle.afp_volume.specs.VolumeState.{Row, VolumeState}
 use Rattle.afp_volume.specs.Walk.{row_at}

@@ -12,7 +12,8 @@ use Rattle.afp_volume.proofs.TestedLists.{none-all, not-equal}
 use Rattle.afp_volume.proofs.Trees.{TreeParts, KeepsPlace, KeepsTree, keeps-tree, tree-parts, tree-whole, tree-new, tree-without, tree-mapped, tree-moved, keeps-at}
 use Rattle.afp_volume.specs.Edits.{is_taken, is_below, has_children, with_changed, change_at, at_place, modified_at, changed_at, children_changed, with_row, with_new, without_node, with_moved, named, renamed}
 use Rattle.afp_base.specs.Apart.{are_apart}
-use Rattle.afp_volume.specs.SoundVolume.{fork_bytes, row_bytes, most_fork_bytes, IsSoundVolume, is_tree, has_apart_names, has_noted_nodes, keeps_limits, is_formed_volume, is_in_order, is_formed, is_named, most_nodes, last_next_id, file_attributes, dir_attributes}
+use Rattle.afp_base.specs.Limits.{most_fork_bytes}
+use Rattle.afp_volume.specs.SoundVolume.{fork_bytes, row_bytes, IsSoundVolume, is_tree, has_apart_names, has_noted_nodes, keeps_limits, is_formed_volume, is_in_order, is_formed, is_named, most_nodes, last_next_id, file_attributes, dir_attributes}
 use Rattle.afp_volume.specs.VolumeState.{Row, VolumeState, root_id, new_row}
 use Rattle.afp_volume.specs.Walk.{has_directory, child_by_key, row_at}
 

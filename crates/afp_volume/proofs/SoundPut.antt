@@ -14,7 +14,8 @@ use Rattle.afp_volume.proofs.TestedLists.{find-all, find-passes, none-all, lengt
 use Rattle.afp_volume.proofs.Trees.{TreeParts, KeepsPlace, tree-parts, tree-whole, tree-mapped, keeps-tree, keeps-at}
 use Rattle.afp_volume.specs.Edits.{with_changed, change_at, put, with_forks_of, exchanged}
 use Rattle.afp_base.specs.Apart.{are_apart}
-use Rattle.afp_volume.specs.SoundVolume.{is_named, dir_attributes, file_attributes, TakesRow, row_bytes, IsSoundVolume, has_apart_names, is_formed, fork_bytes, most_fork_bytes, most_nodes}
+use Rattle.afp_base.specs.Limits.{most_fork_bytes}
+use Rattle.afp_volume.specs.SoundVolume.{is_named, dir_attributes, file_attributes, TakesRow, row_bytes, IsSoundVolume, has_apart_names, is_formed, fork_bytes, most_nodes}
 use Rattle.afp_volume.specs.VolumeState.{Row, VolumeState}
 use Rattle.afp_volume.specs.Walk.{row_at}
 

@@ -33,7 +33,8 @@ use Rattle.afp_volume.specs.GetVolParms.{free_bytes, volume_values}
 use Rattle.afp_volume.specs.Listing.{children}
 use Rattle.afp_volume.specs.NodeValues.{is_open, told_attributes, file_values, dir_values, bits_of, node_values}
 use Rattle.afp_volume.specs.Parms.{is_outside}
-use Rattle.afp_volume.specs.SoundVolume.{IsSoundVolume, is_formed, is_named, fork_bytes, row_bytes, most_fork_bytes, is_in_place, leads_to_root}
+use Rattle.afp_base.specs.Limits.{most_fork_bytes}
+use Rattle.afp_volume.specs.SoundVolume.{IsSoundVolume, is_formed, is_named, fork_bytes, row_bytes, is_in_place, leads_to_root}
 use Rattle.afp_volume.specs.TypedVolume.{is_date, is_typed_row, is_typed_volume}
 use Rattle.afp_volume.specs.VolumeState.{Row, VolumeState, root_id, root_parent, first_id}
 use Rattle.afp_volume.specs.Walk.{found, has_directory, row_at}

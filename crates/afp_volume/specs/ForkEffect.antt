@@ -1,7 +1,8 @@
 -- What other bytes of a fork do to a volume (AFP Reference, "FPWrite", "FPSetForkParms"; whose dates change is this profile's).
 use Rattle.std.specs.Prelude.{ℕ, pos, ◌+◌, nat_lt, Bool, if◌then◌else◌, List}
 use Rattle.afp_volume.specs.Edits.{with_changed}
-use Rattle.afp_volume.specs.SoundVolume.{fork_bytes, most_fork_bytes}
+use Rattle.afp_base.specs.Limits.{most_fork_bytes}
+use Rattle.afp_volume.specs.SoundVolume.{fork_bytes}
 use Rattle.afp_volume.specs.VolumeState.{Row, VolumeState}
 
 -- the bytes of a fork of a file: of its resource fork, or of its data fork (AFP Reference, "File forks")

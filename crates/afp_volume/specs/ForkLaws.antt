@@ -1,7 +1,8 @@
 -- The laws of the bytes of forks on a volume (this profile).
 use Rattle.std.specs.Prelude.{◌≡◌, ◌≤◌, ℕ, pos, ◌+◌, ◌==◌, Bool, true, false, List, length, Some}
 use Rattle.afp_volume.specs.ForkEffect.{fork_effect, fork_of, would_pass, written}
-use Rattle.afp_volume.specs.SoundVolume.{IsSoundVolume, fork_bytes, has_file, most_fork_bytes}
+use Rattle.afp_base.specs.Limits.{most_fork_bytes}
+use Rattle.afp_volume.specs.SoundVolume.{IsSoundVolume, fork_bytes, has_file}
 use Rattle.afp_volume.specs.TypedVolume.{are_bytes, is_date, is_typed_volume}
 use Rattle.afp_volume.specs.VolumeState.{Row, VolumeState}
 use Rattle.afp_volume.specs.Walk.{row_at}

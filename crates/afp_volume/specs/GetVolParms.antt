@@ -6,7 +6,8 @@ use Rattle.afp_base.specs.declared.code.Code.TheVariants.{BitmapErr}
 use Rattle.afp_bitmap.specs.Bits.{volume_mask}
 use Rattle.afp_bitmap.specs.declared.volume.VolumeValues.{VolumeValues}
 use Rattle.afp_volume.specs.VolumeState.{VolumeState}
-use Rattle.afp_volume.specs.SoundVolume.{fork_bytes, most_fork_bytes}
+use Rattle.afp_base.specs.Limits.{block_size, most_fork_bytes}
+use Rattle.afp_volume.specs.SoundVolume.{fork_bytes}
 use Rattle.afp_volume.specs.Parms.{is_outside, asked_or}
 
 -- why it is refused (this profile)
@@ -20,10 +21,6 @@ volume_attributes = 0x0044
 -- the signature of a volume with fixed directory ids (AFP Reference, "Volume Signature")
 abbrev pub fixed_directory_ids : ℕ
 fixed_directory_ids = 2
-
--- the size of a block in bytes (this profile)
-abbrev pub block_size : ℕ
-block_size = 4096
 
 -- the bytes that forks may still take: all of the volume, less those of all forks (this profile)
 unfoldable pub free_bytes : VolumeState → ℕ

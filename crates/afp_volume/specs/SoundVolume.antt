@@ -1,4 +1,5 @@
 -- What holds of every volume (this profile, after the AFP Reference's "Catalog node IDs" and "Desktop database").
+use Rattle.afp_base.specs.Limits.{most_fork_bytes}
 use Rattle.std.specs.Prelude.{◌≡◌, ℕ, zero, suc, ◌^◌, ◌+◌, ◌==◌, nat_le, nat_lt, Bool, true, not, ◌&&◌, ◌||◌, if◌then◌else◌, List, [], ◌∷◌, ◌++◌, length, sum_by, bit_and, bytes_eq, is_none}
 use Rattle.std.specs.List.{list_all, list_any}
 use Rattle.afp_base.specs.Apart.{are_apart}
@@ -61,10 +62,6 @@ is_formed row = is_named row &&
 -- the size of a creator and of a type (Inside Macintosh, "Finder Interface")
 abbrev pub code_size : ℕ
 code_size = 4
-
--- the limits of a volume
-abbrev pub most_fork_bytes : ℕ
-most_fork_bytes = 268435456
 
 abbrev pub most_nodes : ℕ
 most_nodes = 100000

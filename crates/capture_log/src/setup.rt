@@ -9,26 +9,14 @@ ghost use Rattle.capture_log.specs.lemma.Taking.{house_with, refused_by};
 
 use crate::names::{has_user, has_volume, is_name};
 use afp_base::{Bytes, OutOfMemory};
+use afp_serial::limits::{
+    FIRST_USER_ID, LONGEST_SERVER, LONGEST_USER, LONGEST_VOLUME, MOST_USERS, MOST_VOLUMES,
+};
 use afp_serial::{House, HouseFault, User};
 use capture_lines::Line;
 use std::alloc::Global;
 use std::marker::Model;
 use std::{mem, str};
-
-/// The most characters of the server's name, of a user's and of a volume's.
-const LONGEST_SERVER: usize = 31;
-
-const LONGEST_USER: usize = 31;
-
-const LONGEST_VOLUME: usize = 27;
-
-/// The most users, and the most volumes.
-const MOST_USERS: usize = 256;
-
-const MOST_VOLUMES: usize = 8;
-
-/// The id of the first user.
-const FIRST_USER: u32 = 501;
 
 /// The parts of a house, as far as lines have named them. Contracts see them as a house without a login message.
 #[derive(Drop)]
@@ -137,7 +125,7 @@ impl Setup {
         ensures { OnOk result (self.new ≡ record self.old { users = self.old.users ++ user_behind self.old.users name.now password ∷ [] }) }
     {
         let user = User {
-            id: FIRST_USER + self.users.len() as u32,
+            id: FIRST_USER_ID as u32 + self.users.len() as u32,
             name: name.copy()?,
             password,
         };

@@ -11,9 +11,7 @@ use crate::appl::Appl;
 use crate::fault::DeskFault;
 use crate::place::insert_at;
 use afp_base::NodeId;
-
-/// The most mappings of a volume.
-const MOST_APPLS: usize = 4096;
+use afp_volume::limits::MOST_APPLS;
 
 /// Where the mapping of a creator and a file is, or where it would go.
 fn find(appls: &[Appl], creator: &[u8; 4], node: NodeId) -> Result<usize, usize>

@@ -8,6 +8,7 @@ ghost use Rattle.afp_volume.specs.TypedVolume.{is_typed_comment};
 
 use crate::bytes::{bytes_in_range, long_in_range};
 use afp_base::{Bytes, NodeId};
+use afp_volume::limits::LONGEST_COMMENT;
 use std::cmp::Ordering;
 use std::marker::Model;
 
@@ -27,9 +28,6 @@ impl Model for Comment {
 
     ghost view = { λ a. record { node = a.node.0; text = a.text } };
 }
-
-/// The most bytes of a comment.
-const LONGEST_COMMENT: usize = 199;
 
 impl Comment {
     /// A comment; of its text the first 199 bytes are kept.

@@ -8,6 +8,7 @@ ghost use Rattle.afp_volume.specs.TypedVolume.{is_typed_icon};
 
 use crate::bytes::{bytes_in_range, long_in_range, nine_bytes};
 use afp_base::Bytes;
+use afp_volume::limits::LONGEST_ICON;
 use std::cmp::Ordering;
 use std::marker::Model;
 
@@ -32,9 +33,6 @@ impl Model for Icon {
 
     ghost invariant = { λ a. length a.key ≡ 9 };
 }
-
-/// The most bytes of an icon.
-const LONGEST_ICON: usize = 65535;
 
 impl Icon {
     /// An icon; of its bits the first 65,535 are kept.

@@ -10,9 +10,7 @@ ghost use Rattle.desktop_db.specs.lemma.Places.{IsPlaceOf, IsGapFor};
 use crate::fault::DeskFault;
 use crate::icon::Icon;
 use crate::place::insert_at;
-
-/// The most icons of a volume.
-const MOST_ICONS: usize = 1024;
+use afp_volume::limits::MOST_ICONS;
 
 /// Where the icon of a key is, or where it would go.
 fn find(icons: &[Icon], key: &[u8; 9]) -> Result<usize, usize>

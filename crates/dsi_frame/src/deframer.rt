@@ -11,10 +11,10 @@ use std::alloc::Global;
 use std::marker::Model;
 
 /// Bytes of a header.
-const HEADER: usize = 16;
+pub const HEADER_LENGTH: usize = 16;
 
 /// Bytes of the buffer: the longest frame's.
-const CAPACITY: usize = HEADER + MAX_PAYLOAD as usize;
+const CAPACITY: usize = HEADER_LENGTH + MAX_PAYLOAD as usize;
 
 // What stands at the front of these bytes of a stream, the first of them at `place`.
 fn judge(bytes: &[u8], place: u64) -> Head
@@ -22,13 +22,13 @@ fn judge(bytes: &[u8], place: u64) -> Head
     ensures head { IsHead (record { place = place; rest = bytes.now }) result }
     ensures room { result ≡ Head.NotYet → length bytes.now < buffer_length }
 {
-    if bytes.len() < HEADER {
+    if bytes.len() < HEADER_LENGTH {
         return Head::NotYet;
     }
     match read_header(bytes) {
         Err(reason) => Head::Bad(BadFrame { at: place, reason }),
         Ok(header) => {
-            if bytes.len() - HEADER < header.length as usize {
+            if bytes.len() - HEADER_LENGTH < header.length as usize {
                 Head::NotYet
             } else {
                 Head::Whole(header)
@@ -41,7 +41,7 @@ fn judge(bytes: &[u8], place: u64) -> Head
 fn payload_length(bytes: &[u8]) -> usize
     requires { HasFrame bytes.now }
     ensures value { result ≡ length_in bytes.now }
-    ensures fits { HEADER + result ≤ length bytes.now }
+    ensures fits { HEADER_LENGTH + result ≤ length bytes.now }
 {
     number_at(bytes, 8) as usize
 }
@@ -153,7 +153,7 @@ impl Deframer {
     {
         let bytes = self.bytes();
         let length = payload_length(bytes);
-        &bytes[HEADER..HEADER + length]
+        &bytes[HEADER_LENGTH..HEADER_LENGTH + length]
     }
 
     /// Gives out the whole frame at the front.
@@ -161,7 +161,7 @@ impl Deframer {
         requires { HasFrame self.old.rest }
         ensures { (f : Frame) (first more : List ℕ) → IsSpelling first f → self.old.rest ≡ first ++ more → self.new ≡ record { place = self.old.place + length first; rest = more } }
     {
-        let length = HEADER + payload_length(self.bytes());
+        let length = HEADER_LENGTH + payload_length(self.bytes());
         self.start += length;
         self.held -= length;
         self.place += length as u64;

@@ -7,7 +7,7 @@ mod frame;
 mod laws;
 mod stream;
 
-pub use deframer::Deframer;
+pub use deframer::{Deframer, HEADER_LENGTH};
 pub use frame::{BadFrame, DsiCommand, Head, Header, Reason, header_bytes, write_frame};
 pub use laws::{one_frame, one_stream, read_again};
 pub use stream::{Frames, OwnedFrame, Stream, StreamEnd, read_stream};

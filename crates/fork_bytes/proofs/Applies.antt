@@ -7,7 +7,8 @@ use Rattle.std.specs.List.{list_all}
 use Rattle.std.specs.Cmp.Lexicographic.{pointwise, bytes_decides}
 use Rattle.afp_base.specs.ForkBytes.{taken}
 use Rattle.fork_bytes.specs.declared.block.Block.{Block}
-use Rattle.fork_bytes.specs.Blocks.{trimmed, block_at, block_count, blocks_of, largest_fork}
+use Rattle.afp_base.specs.Limits.{most_fork_bytes}
+use Rattle.fork_bytes.specs.Blocks.{trimmed, block_at, block_count, blocks_of}
 use Rattle.fork_bytes.specs.Kept.{bytes_in, bytes_of, is_empty, are_rising, is_kept, room_of}
 use Rattle.fork_bytes.specs.lemma.Kept.{with_put, with_puts, Fits, IsKept}
 use Rattle.fork_bytes.specs.Plan.{changes_from, changes_of, added_by, HasRoom, PlanState, IsPlan}
@@ -235,7 +236,7 @@ given_bytes {a = a} {b = b} g k = elim (cases_lt k (0 + all_blocks a b)) [
 ]
 
 pub given_kept : {a b : List ℕ} {len : ℕ} {blocks changes : List Block} {old_capacity room capacity : ℕ} → Given a b len blocks changes old_capacity room capacity
-    → (last : ℕ) → capacity ≤ last → length b ≤ largest_fork → IsKept (length b) (with_puts changes blocks) last
+    → (last : ℕ) → capacity ≤ last → length b ≤ most_fork_bytes → IsKept (length b) (with_puts changes blocks) last
 given_kept {a = a} {b = b} {blocks = blocks} {changes = changes} {room = room} {capacity = capacity} g last more_ few = record {
   few = few;
   rising = (ended g).rising;

@@ -1,15 +1,8 @@
 -- The bytes of a fork as blocks of one size (this profile).
+use Rattle.afp_base.specs.Limits.{block_size}
 use Rattle.std.specs.Prelude.{ℕ, zero, suc, ◌+◌, ◌*◌, ◌/◌, List, [], ◌∷◌, length}
 use Rattle.afp_base.specs.ForkBytes.{taken}
 use Rattle.fork_bytes.specs.declared.block.Block.{Block}
-
--- the bytes of a block
-abbrev pub block_size : ℕ
-block_size = 4096
-
--- the most bytes of a fork
-abbrev pub largest_fork : ℕ
-largest_fork = 268435456
 
 -- a byte alone, none where it is 0
 abbrev pub unless_zero : ℕ → List ℕ

@@ -3,7 +3,8 @@ use Rattle.std.specs.Prelude.{ℕ, zero, suc, ◌+◌, ◌*◌, ◌/◌, ◌%◌
 use Rattle.std.specs.List.{list_all}
 use Rattle.std.specs.Cmp.Lexicographic.{pointwise}
 use Rattle.fork_bytes.specs.declared.block.Block.{Block}
-use Rattle.fork_bytes.specs.Blocks.{block_size, trimmed}
+use Rattle.afp_base.specs.Limits.{block_size}
+use Rattle.fork_bytes.specs.Blocks.{trimmed}
 
 -- the bytes of the block with an index, none where there is no such block
 abbrev pub bytes_in : List Block → ℕ → List ℕ

@@ -1,6 +1,7 @@
 //! A fork.
 ghost use Rattle.std.specs.Prelude.{◌≡◌, ◌≢◌, ◌≤◌, ◌<◌, ◌+◌, ◌^◌, true, false, [], length, slice_index_or, vec_capacity, IfOk};
-ghost use Rattle.fork_bytes.specs.Blocks.{block_at, blocks_of, largest_fork};
+ghost use Rattle.afp_base.specs.Limits.{most_fork_bytes};
+ghost use Rattle.fork_bytes.specs.Blocks.{block_at, blocks_of};
 ghost use Rattle.fork_bytes.specs.Kept.{are_rising, room_of};
 ghost use Rattle.fork_bytes.specs.lemma.Kept.{IsPlace};
 
@@ -9,10 +10,7 @@ use afp_base::OutOfMemory;
 use std::alloc::Global;
 use std::marker::Model;
 
-/// The most bytes of a fork (this profile).
-pub const LARGEST_FORK: u64 = 268_435_456;
-
-/// A fork's bytes, at most `LARGEST_FORK`. Contracts see them as a list of bytes.
+/// A fork's bytes, at most `MOST_FORK_BYTES`. Contracts see them as a list of bytes.
 #[derive(Drop)]
 pub struct Fork {
     pub(crate) len: u64,
@@ -30,11 +28,6 @@ impl Model for Fork {
 
     ghost invariant = { λ a. IsKept a.len a.blocks.items (vec_capacity a.blocks) };
 }
-
-/// The most bytes of a fork are as the definitions have it. The call does nothing.
-pub fn largest_fork_is_as_defined()
-    ensures { LARGEST_FORK ≡ largest_fork }
-{}
 
 impl Fork {
     /// A fork of no bytes. It takes no memory.

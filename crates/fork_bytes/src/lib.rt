@@ -10,5 +10,5 @@ mod read;
 mod write;
 
 pub use block::{BLOCK_SIZE, Block};
-pub use fork::{Fork, LARGEST_FORK, largest_fork_is_as_defined};
+pub use fork::Fork;
 pub use plan::ForkPlan;

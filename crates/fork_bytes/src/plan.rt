@@ -15,14 +15,14 @@ pub struct ForkPlan {
 
 impl Model for ForkPlan {
     ghost use Rattle.std.specs.Prelude.{◌≡◌, ◌≤◌, [], vec_capacity};
-    ghost use Rattle.fork_bytes.specs.Blocks.{largest_fork};
+    ghost use Rattle.afp_base.specs.Limits.{most_fork_bytes};
     ghost use Rattle.fork_bytes.specs.Plan.{PlanState};
 
     ghost Value = { PlanState };
 
     ghost view = { λ a. record { len = a.len; changes = a.changes.items; writes = a.writes; room = vec_capacity a.room } };
 
-    ghost invariant = { λ a. (a.room.items ≡ []) × (a.len ≤ largest_fork) };
+    ghost invariant = { λ a. (a.room.items ≡ []) × (a.len ≤ most_fork_bytes) };
 }
 
 impl ForkPlan {

@@ -1,7 +1,7 @@
 //! Reading from a fork.
 ghost use Rattle.std.specs.Prelude.{◌≡◌, ◌≢◌, ◌≤◌, ◌<◌, ◌+◌, ◌-◌, ◌*◌, ◌/◌, ◌++◌, ℕ, min, length, take, bit_and, slice_index, OnOk, OnErr, IfOk, IfSome, IfNone};
 ghost use Rattle.afp_base.specs.ForkBytes.{taken};
-ghost use Rattle.fork_bytes.specs.Blocks.{largest_fork};
+ghost use Rattle.afp_base.specs.Limits.{most_fork_bytes};
 ghost use Rattle.fork_bytes.specs.Line.{line_of};
 
 use crate::block::{BLOCK_SIZE, front_of, rest_of, zeros};
@@ -66,7 +66,7 @@ impl Fork {
     fn read_blocks(&self, from: u64, end: u64, out: &mut Bytes) -> Result<(), OutOfMemory>
         requires order { from ≤ end }
         requires within { end ≤ length self.now }
-        requires few { end ≤ largest_fork }
+        requires few { end ≤ most_fork_bytes }
         ensures ok { OnOk result (out.new ≡ out.old ++ taken self.now from (end - from)) }
         ensures err { OnErr result (take (length out.old) out.new ≡ out.old) }
     {
@@ -91,7 +91,7 @@ impl Fork {
     ) -> Result<bool, OutOfMemory>
         requires order { from ≤ end }
         requires within { end ≤ length self.now }
-        requires few { end ≤ largest_fork }
+        requires few { end ≤ most_fork_bytes }
         ensures stopped { IfOk result (λ stopped. stopped ≡ (line_of mask character (taken self.now from (end - from))).stopped) }
         ensures ok { OnOk result (out.new ≡ out.old ++ (line_of mask character (taken self.now from (end - from))).bytes) }
         ensures err { OnErr result (take (length out.old) out.new ≡ out.old) }
@@ -114,7 +114,7 @@ impl Fork {
     fn read_in_block(&self, from: u64, end: u64, out: &mut Bytes) -> Result<(), OutOfMemory>
         requires order { from < end }
         requires within { end ≤ length self.now }
-        requires few { end ≤ largest_fork }
+        requires few { end ≤ most_fork_bytes }
         requires one_block { end ≤ 4096 * (from / 4096 + 1) }
         ensures ok { OnOk result (out.new ≡ out.old ++ taken self.now from (end - from)) }
         ensures err { OnErr result (take (length out.old) out.new ≡ out.old) }

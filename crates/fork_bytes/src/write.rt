@@ -2,7 +2,8 @@
 ghost use Rattle.std.specs.Prelude.{◌≡◌, ◌+◌, ◌/◌, ◌≤◌, ◌<◌, ◌==◌, ◌++◌, not, [], length, take, nat_eq, if◌then◌else◌, IfOk, OnOk};
 ghost use Rattle.std.specs.Cmp.Lexicographic.{pointwise};
 ghost use Rattle.afp_base.specs.ForkBytes.{splice, resized};
-ghost use Rattle.fork_bytes.specs.Blocks.{largest_fork, trimmed, blocks_of};
+ghost use Rattle.afp_base.specs.Limits.{most_fork_bytes};
+ghost use Rattle.fork_bytes.specs.Blocks.{trimmed, blocks_of};
 ghost use Rattle.fork_bytes.specs.Kept.{is_empty};
 ghost use Rattle.fork_bytes.specs.Plan.{IsPlan, HasRoom, added_by, changes_of, with_change};
 
@@ -29,7 +30,7 @@ impl Fork {
         from: u64,
         piece: &[u8],
     ) -> Result<ForkPlan, OutOfMemory>
-        requires { from + length piece.now ≤ largest_fork }
+        requires { from + length piece.now ≤ most_fork_bytes }
         ensures plan { IfOk result (λ p. IsPlan self.now (splice self.now from piece.now) p) }
         ensures writes { IfOk result (λ p. p.writes ≡ not (is_empty piece.now)) }
     {
@@ -44,7 +45,7 @@ impl Fork {
 
     /// The plan of a new length: bytes behind it go, and new bytes are zeros. The one error is want of memory.
     pub fn plan_set_length(&self, alloc: Global, len: u64) -> Result<ForkPlan, OutOfMemory>
-        requires { len ≤ largest_fork }
+        requires { len ≤ most_fork_bytes }
         ensures plan { IfOk result (λ p. IsPlan self.now (resized self.now len) p) }
         ensures writes { IfOk result (λ p. p.writes ≡ not (len == length self.now)) }
     {
@@ -62,7 +63,7 @@ impl Fork {
     ) -> Result<Changes, OutOfMemory>
         requires some { 0 < length piece.now }
         requires ends { end ≡ from + length piece.now }
-        requires few { end ≤ largest_fork }
+        requires few { end ≤ most_fork_bytes }
         ensures changes { IfOk result (λ c. c.list.items ≡ changes_of self.now (splice self.now from piece.now)) }
         ensures added { IfOk result (λ c. c.added ≡ added_by self.now c.list.items) }
         ensures few { IfOk result (λ c. c.added ≤ 65536) }
@@ -83,7 +84,7 @@ impl Fork {
 
     /// The changes of a new length.
     fn cut(&self, alloc: Global, len: u64) -> Result<Changes, OutOfMemory>
-        requires { len ≤ largest_fork }
+        requires { len ≤ most_fork_bytes }
         ensures changes { IfOk result (λ c. c.list.items ≡ changes_of self.now (resized self.now len)) }
         ensures added { IfOk result (λ c. c.added ≡ added_by self.now c.list.items) }
         ensures few { IfOk result (λ c. c.added ≤ 65536) }
@@ -99,7 +100,7 @@ impl Fork {
     fn cut_blocks(&self, alloc: Global, len: u64, end: u64) -> Result<Changes, OutOfMemory>
         requires shorter { len < length self.now }
         requires end { end ≡ length self.now }
-        requires few { end ≤ largest_fork }
+        requires few { end ≤ most_fork_bytes }
         ensures changes { IfOk result (λ c. c.list.items ≡ changes_of self.now (resized self.now len)) }
         ensures added { IfOk result (λ c. c.added ≡ added_by self.now c.list.items) }
         ensures few { IfOk result (λ c. c.added ≤ 65536) }
@@ -124,7 +125,7 @@ impl Fork {
         writes: bool,
     ) -> Result<ForkPlan, OutOfMemory>
         requires added { changes.added ≤ 65536 }
-        requires few { len ≤ largest_fork }
+        requires few { len ≤ most_fork_bytes }
         ensures len { IfOk result (λ p. p.len ≡ len) }
         ensures changes { IfOk result (λ p. p.changes ≡ changes.list.items) }
         ensures writes { IfOk result (λ p. p.writes ≡ writes) }
@@ -175,7 +176,7 @@ impl Changes {
 
 /// The index of the block in which a byte stands.
 fn block_of(at: u64) -> u32
-    requires { at < largest_fork + 4096 }
+    requires { at < most_fork_bytes + 4096 }
     ensures { result ≡ at / 4096 }
 {
     (at / BLOCK_SIZE as u64) as u32

@@ -3,8 +3,8 @@ ghost use Rattle.std.specs.Prelude.{ℕ, List, IfOk};
 ghost use Rattle.fork_bytes.specs.Plan.{IsPlan};
 
 use crate::line::{Kind, Line};
-use afp_base::{Bytes, OutOfMemory};
-use fork_bytes::{Fork, ForkPlan, LARGEST_FORK, largest_fork_is_as_defined};
+use afp_base::{Bytes, MOST_FORK_BYTES, OutOfMemory, limits_are_told};
+use fork_bytes::{Fork, ForkPlan};
 use std::alloc::Global;
 
 /// The bytes that hexadecimal digits spell; none, where they spell none.
@@ -19,8 +19,8 @@ fn bytes_of(alloc: Global, digits: &str) -> Vec<u8> {
 fn plan(alloc: Global, fork: &Fork, from: u64, piece: &[u8]) -> Result<ForkPlan, OutOfMemory>
     ensures { IfOk result (λ plan. (after : List ℕ) × IsPlan fork.now after plan) }
 {
-    largest_fork_is_as_defined();
-    if from > LARGEST_FORK || piece.len() as u64 > LARGEST_FORK - from {
+    limits_are_told();
+    if from > MOST_FORK_BYTES || piece.len() as u64 > MOST_FORK_BYTES - from {
         return fork.plan_write(alloc, 0, &[]);
     }
     fork.plan_write(alloc, from, piece)
@@ -63,8 +63,8 @@ pub fn planned(alloc: Global, fork: &Fork, line: &Line<'_>) -> Result<u64, OutOf
 
 /// Sets the length, and tells how many blocks differ.
 fn resize(alloc: Global, fork: &mut Fork, len: u64) -> Result<usize, OutOfMemory> {
-    largest_fork_is_as_defined();
-    if len > LARGEST_FORK {
+    limits_are_told();
+    if len > MOST_FORK_BYTES {
         return Ok(0);
     }
     let plan = fork.plan_set_length(alloc, len)?;

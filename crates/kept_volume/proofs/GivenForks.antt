@@ -8,7 +8,8 @@ use Rattle.afp_base.specs.ForkBytes.{Reaches, resized, splice}
 use Rattle.afp_volume.proofs.Formed.{limit-parts}
 use Rattle.afp_volume.proofs.ForkEffects.{room-left}
 use Rattle.afp_volume.specs.ForkEffect.{fork_effect, fork_of, would_pass}
-use Rattle.afp_volume.specs.SoundVolume.{IsSoundVolume, fork_bytes, has_file, most_fork_bytes}
+use Rattle.afp_base.specs.Limits.{most_fork_bytes}
+use Rattle.afp_volume.specs.SoundVolume.{IsSoundVolume, fork_bytes, has_file}
 use Rattle.afp_volume.specs.VolumeState.{Row, VolumeState}
 use Rattle.afp_volume.specs.Walk.{row_at}
 use Rattle.afp_volume.specs.ForkLaws.{ForksAreFew, RoomIsFew}

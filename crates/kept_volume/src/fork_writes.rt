@@ -2,7 +2,8 @@
 ghost use Rattle.std.specs.Prelude.{◌≡◌, ◌==◌, ◌≤◌, nat_lt, not, Some, true, length};
 ghost use Rattle.afp_base.specs.ForkBytes.{resized, splice};
 ghost use Rattle.afp_volume.specs.ForkEffect.{fork_effect, fork_of, would_pass};
-ghost use Rattle.afp_volume.specs.SoundVolume.{has_file, most_fork_bytes};
+ghost use Rattle.afp_base.specs.Limits.{most_fork_bytes};
+ghost use Rattle.afp_volume.specs.SoundVolume.{has_file};
 ghost use Rattle.afp_volume.specs.VolumeState.{Row};
 ghost use Rattle.afp_volume.specs.Walk.{row_at};
 ghost use Rattle.kept_volume.specs.ForkChanging.{GivesBytes};
@@ -13,15 +14,12 @@ use crate::change::ChangeFault;
 use crate::forks::fork_in;
 use crate::kept::KeptVolume;
 use afp_base::laws::splice_puts_between;
-use afp_base::{Code, Moment, NodeId};
+use afp_base::{Code, MOST_FORK_BYTES, Moment, NodeId};
 use afp_volume::laws::forks_are_given_bytes;
 use fork_bytes::ForkPlan;
 use record_keeper::{Keeper, KeeperFault};
 use std::alloc::Global;
 use volume_keeper::{Held, fork_changes};
-
-/// The most bytes of all forks of a volume (this profile).
-const MOST_FORK_BYTES: u64 = 268_435_456;
 
 /// Whether the bytes of all forks would pass the total, if a fork of so many bytes had so many others.
 fn would_pass(held: &Held, old: u64, new: u64) -> bool

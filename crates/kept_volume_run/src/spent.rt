@@ -1,11 +1,9 @@
 //! A keeper in memory whose volume has given out its last id.
 use afp_base::{Bytes, OutOfMemory};
+use afp_volume::limits::NEVER;
 use record_keeper::{Change, Keeper, MemoryKeeper, Record};
 use std::alloc::Global;
 use volume_records::{Head, Node, TableRow, record_of};
-
-/// The date of what was never backed up, 80000000.
-const NEVER: i32 = -2_147_483_648;
 
 /// The head whose next id is past the last.
 const HEAD: Head = Head {

@@ -10,5 +10,5 @@ mod rows;
 
 pub use keeper::{Keeper, KeeperFault};
 pub use memory::MemoryKeeper;
-pub use reading::{ReadFault, read_all};
+pub use reading::{MOST_RECORDS, ReadFault, read_all};
 pub use record::{Change, Record, RecordKey};

@@ -24,7 +24,7 @@ pub enum ReadFault {
 }
 
 /// The most records that are read.
-const MOST_RECORDS: usize = 480_000;
+pub const MOST_RECORDS: usize = 480_000;
 
 /// All records of a keeper, by rising key, at most 480,000. It asks the keeper for each key and for each value once, and
 /// once more for a key, and changes nothing.

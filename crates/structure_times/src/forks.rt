@@ -1,7 +1,7 @@
 //! What a read and a write of 64 KiB take in a fork.
 use crate::watch::{each, scattered, spent};
-use afp_base::{Bytes, OutOfMemory};
-use fork_bytes::{Fork, LARGEST_FORK};
+use afp_base::{Bytes, MOST_FORK_BYTES, OutOfMemory, limits_are_told};
+use fork_bytes::Fork;
 use std::alloc::Global;
 use std::io;
 use std::io::ErrorKind;
@@ -22,8 +22,8 @@ fn piece(alloc: Global, byte: u8) -> Result<Bytes, OutOfMemory> {
 
 /// Writes a piece. It tells whether it lies within the largest fork.
 fn write(alloc: Global, fork: &mut Fork, from: u64, piece: &[u8]) -> Result<bool, OutOfMemory> {
-    fork_bytes::largest_fork_is_as_defined();
-    if from > LARGEST_FORK || piece.len() as u64 > LARGEST_FORK - from {
+    limits_are_told();
+    if from > MOST_FORK_BYTES || piece.len() as u64 > MOST_FORK_BYTES - from {
         return Ok(false);
     }
     let plan = fork.plan_write(alloc, from, piece)?;

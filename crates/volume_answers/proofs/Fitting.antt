@@ -11,11 +11,11 @@ use Rattle.afp_bitmap.specs.declared.params.Values.TheVariants.{Volume, File, Di
 use Rattle.afp_bitmap.specs.declared.volume.VolumeValues.{VolumeValues}
 use Rattle.afp_names.specs.LongName.{long_name_of}
 use Rattle.afp_volume.specs.Shared.{Opened}
-use Rattle.afp_volume.specs.GetVolParms.{volume_attributes, fixed_directory_ids, block_size, free_bytes, volume_values}
+use Rattle.afp_base.specs.Limits.{block_size, most_fork_bytes}
+use Rattle.afp_volume.specs.GetVolParms.{volume_attributes, fixed_directory_ids, free_bytes, volume_values}
 use Rattle.afp_volume.specs.Listing.{children}
 use Rattle.afp_volume.specs.NodeValues.{told_attributes, file_values, most_offspring, fixed_owner, fixed_group, all_rights, dir_values}
 use Rattle.afp_volume.specs.Parms.{asked_or}
-use Rattle.afp_volume.specs.SoundVolume.{most_fork_bytes}
 use Rattle.afp_volume.specs.VolumeState.{Row, VolumeState}
 
 -- a value that stands where its bit is asked, and is blank where not

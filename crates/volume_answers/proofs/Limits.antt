@@ -7,7 +7,8 @@ use Rattle.std.proofs.lemmas.Bool.{cond_both}
 use Rattle.std.proofs.lemmas.List.Sums.{sum_by-cons}
 use Rattle.afp_volume.proofs.Formed.{LimitParts, limit-parts}
 use Rattle.afp_volume.specs.Edits.{bare}
-use Rattle.afp_volume.specs.SoundVolume.{IsSoundVolume, fork_bytes, most_fork_bytes}
+use Rattle.afp_base.specs.Limits.{most_fork_bytes}
+use Rattle.afp_volume.specs.SoundVolume.{IsSoundVolume, fork_bytes}
 use Rattle.afp_volume.specs.VolumeState.{Row, VolumeState}
 use Rattle.afp_volume.specs.Walk.{row_at}
 use Rattle.volume_answers.specs.lemma.Told.{bytes_at, whole}

@@ -7,8 +7,9 @@ ghost use Rattle.afp_volume.specs.GetVolParms.{free_bytes, volume_values};
 
 use crate::asked::{date_or, long_or, short_or, wide_or};
 use crate::names::name_or;
-use afp_base::{Bytes, OutOfMemory, VolumeId};
+use afp_base::{Bytes, MOST_FORK_BYTES, OutOfMemory, VolumeId};
 use afp_bitmap::{Values, VolumeValues, put_params};
+use fork_bytes::BLOCK_SIZE;
 use std::alloc::Global;
 use volume_tree::Volume;
 
@@ -18,19 +19,13 @@ const ATTRIBUTES: u16 = 0x0044;
 /// The signature of a volume with fixed directory ids (AFP Reference, "Volume Signature").
 const FIXED_DIRECTORY_IDS: u16 = 2;
 
-/// The size of a block in bytes (this profile).
-const BLOCK_SIZE: u32 = 4096;
-
-/// The most bytes that all forks of a volume may have (this profile).
-const MOST_FORK_BYTES: u32 = 268_435_456;
-
 /// The bytes that forks may still take.
 #[tactic(auto, unfolding(afp_volume::specs::GetVolParms::free_bytes))]
 fn free_bytes(volume: &Volume) -> u32
     ensures { result ≡ free_bytes volume.now.state }
 {
     volume.keeps_sound();
-    MOST_FORK_BYTES - volume.used() as u32
+    (MOST_FORK_BYTES - volume.used()) as u32
 }
 
 /// What is told of a volume: each value whose bit is asked.
@@ -55,11 +50,11 @@ fn volume_values(
         backup: date_or(bits, 4, head.backup),
         volume: short_or(bits, 5, id.0),
         free: long_or(bits, 6, free),
-        total: long_or(bits, 7, MOST_FORK_BYTES),
+        total: long_or(bits, 7, MOST_FORK_BYTES as u32),
         name,
         ext_free: wide_or(bits, 9, u64::from(free)),
-        ext_total: wide_or(bits, 10, u64::from(MOST_FORK_BYTES)),
-        block_size: long_or(bits, 11, BLOCK_SIZE),
+        ext_total: wide_or(bits, 10, MOST_FORK_BYTES),
+        block_size: long_or(bits, 11, BLOCK_SIZE as u32),
     })
 }
 

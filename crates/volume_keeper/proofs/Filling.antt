@@ -9,11 +9,11 @@ use Rattle.std.specs.declared.cmp.Ordering.TheVariants.{Less}
 use Rattle.std.proofs.lemmas.Bool.{cases_lt}
 use Rattle.afp_base.specs.ForkBytes.{splice, LeavesBefore, PutsBetween, LeavesBehind, Reaches}
 use Rattle.fork_bytes.specs.declared.block.Block.{Block}
-use Rattle.fork_bytes.specs.Blocks.{block_size, blocks_of, trimmed}
+use Rattle.afp_base.specs.Limits.{block_size}
+use Rattle.fork_bytes.specs.Blocks.{blocks_of, trimmed}
 use Rattle.fork_bytes.specs.Kept.{are_rising, byte_at, bytes_in, bytes_of, each_of, is_empty, is_kept}
 use Rattle.fork_bytes.specs.Laws.{BytesFromBlocks, HasItsLength, BlocksRise, BlocksAreKept}
-use Rattle.afp_volume.specs.VolumeState.{Row as VolumeRow}
-use Rattle.afp_volume.specs.VolumeState.{VolumeState}
+use Rattle.afp_volume.specs.VolumeState.{Row as VolumeRow, VolumeState}
 use Rattle.afp_volume.specs.Edits.{change_at, with_changed}
 use Rattle.afp_volume.specs.Order.{rises_from}
 use Rattle.afp_volume.specs.SoundVolume.{IsSoundVolume, is_formed}

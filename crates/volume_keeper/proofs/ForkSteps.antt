@@ -8,8 +8,7 @@ use Rattle.std.specs.declared.cmp.Ordering.TheVariants.{Less}
 use Rattle.afp_volume.specs.Edits.{change_at, with_changed}
 use Rattle.afp_volume.specs.ForkEffect.{fork_effect, fork_of, written}
 use Rattle.afp_volume.specs.Order.{rises_from}
-use Rattle.afp_volume.specs.VolumeState.{Row as VolumeRow}
-use Rattle.afp_volume.specs.VolumeState.{VolumeState}
+use Rattle.afp_volume.specs.VolumeState.{Row as VolumeRow, VolumeState}
 use Rattle.afp_volume.specs.Walk.{row_at}
 use Rattle.fork_bytes.specs.declared.block.Block.{Block}
 use Rattle.fork_bytes.specs.Blocks.{block_at, block_count, blocks_from, blocks_of, trimmed, with_block}

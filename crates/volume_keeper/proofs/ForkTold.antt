@@ -6,9 +6,9 @@ use Rattle.afp_volume.specs.DesktopLaws.{with_desktop}
 use Rattle.afp_volume.specs.Edits.{bare}
 use Rattle.afp_volume.specs.ForkEffect.{fork_effect, fork_of, would_pass, written}
 use Rattle.afp_volume.specs.OpenFork.{file_of}
-use Rattle.afp_volume.specs.SoundVolume.{fork_bytes, most_fork_bytes}
-use Rattle.afp_volume.specs.VolumeState.{Row as VolumeRow}
-use Rattle.afp_volume.specs.VolumeState.{Comment, Icon, Appl, VolumeState}
+use Rattle.afp_base.specs.Limits.{most_fork_bytes}
+use Rattle.afp_volume.specs.SoundVolume.{fork_bytes}
+use Rattle.afp_volume.specs.VolumeState.{Row as VolumeRow, Comment, Icon, Appl, VolumeState}
 use Rattle.afp_volume.specs.Walk.{row_at}
 use Rattle.fork_bytes.specs.declared.block.Block.{Block}
 use Rattle.fork_bytes.specs.Plan.{PlanState, IsPlan, changes_of}

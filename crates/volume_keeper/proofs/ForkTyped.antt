@@ -10,7 +10,8 @@ use Rattle.afp_volume.proofs.TypedEdits.{drop-bytes, take-bytes}
 use Rattle.afp_volume.specs.DesktopLaws.{with_desktop}
 use Rattle.afp_volume.specs.ForkEffect.{fork_effect, fork_of}
 use Rattle.afp_volume.specs.ForkLaws.{ForkKeepsSound, ForkKeepsTyped}
-use Rattle.afp_volume.specs.SoundVolume.{fork_bytes, most_fork_bytes}
+use Rattle.afp_base.specs.Limits.{most_fork_bytes}
+use Rattle.afp_volume.specs.SoundVolume.{fork_bytes}
 use Rattle.afp_volume.specs.TypedVolume.{are_bytes, is_byte}
 use Rattle.afp_volume.specs.VolumeState.{Comment, Icon, Appl, VolumeState}
 use Rattle.fork_bytes.specs.declared.block.Block.{Block}

@@ -5,8 +5,7 @@ use Rattle.std.specs.Prelude.{Option, Some, None, IfSome, option_map, nat_lt, â—
 use Rattle.std.specs.List.{filter, find, list_all, cons_option}
 use Rattle.fork_bytes.specs.Blocks.{blocks_of}
 use Rattle.fork_bytes.specs.declared.block.Block.{Block}
-use Rattle.afp_volume.specs.VolumeState.{Row as VolumeRow}
-use Rattle.afp_volume.specs.VolumeState.{Comment, Appl, VolumeState}
+use Rattle.afp_volume.specs.VolumeState.{Row as VolumeRow, Comment, Appl, VolumeState}
 use Rattle.afp_volume.specs.Order.{rises_from}
 use Rattle.afp_volume.specs.SoundVolume.{IsSoundVolume, is_formed, is_formed_volume, is_in_order, has_rising_ids, is_named}
 use Rattle.afp_volume.specs.Walk.{row_at}

@@ -8,8 +8,7 @@ use Rattle.std.proofs.lemmas.Nat.{from_be_bytes-to_be_bytes_4}
 use Rattle.std.proofs.lemmas.Slice.Eq.{bytes_eq-Decides}
 use Rattle.afp_base.specs.Apart.{are_apart}
 use Rattle.afp_base.specs.declared.ids.NodeId.{NodeId}
-use Rattle.afp_volume.specs.VolumeState.{Row as VolumeRow}
-use Rattle.afp_volume.specs.VolumeState.{Comment, Icon, Appl, VolumeState, root_id, first_id}
+use Rattle.afp_volume.specs.VolumeState.{Row as VolumeRow, Comment, Icon, Appl, VolumeState, root_id, first_id}
 use Rattle.afp_volume.specs.SoundVolume.{IsSoundVolume, is_formed_volume, is_in_place, is_tree, has_node, last_next_id}
 use Rattle.record_keeper.specs.declared.record.Change.{Change}
 use Rattle.record_keeper.specs.Records.{key_of}

@@ -10,9 +10,9 @@ use Rattle.record_keeper.specs.declared.record.Change.{Change}
 use Rattle.record_keeper.specs.declared.reading.ReadFault.{ReadFault}
 use Rattle.record_keeper.specs.declared.reading.ReadFault.TheVariants as read
 use Rattle.record_keeper.specs.Records.{Records, Makes, changed, same_records}
-use Rattle.record_keeper.specs.Reading.{IsAll, IsFaultOf, Rises, entry_of}
+use Rattle.record_keeper.specs.Reading.{IsAll, IsFaultOf, Rises, entry_of, most_records}
 use Rattle.volume_records.specs.declared.rows.Reason.TheVariants.{Limit}
-use Rattle.volume_records.specs.FirstBad.{first_bad, first_bad_record, most_records, too_many}
+use Rattle.volume_records.specs.FirstBad.{first_bad, first_bad_record, too_many}
 use Rattle.volume_records.specs.Image.{entries_of, image, kept_image, records_in, rows_of, tables_of}
 use Rattle.volume_records.specs.KeyOrder.{counted}
 use Rattle.volume_records.specs.Laws.{ImagesRise}

@@ -5,8 +5,7 @@ use Rattle.std.specs.List.{filter}
 use Rattle.afp_base.specs.declared.ids.NodeId.{NodeId}
 use Rattle.fork_bytes.specs.declared.block.Block.{Block}
 use Rattle.fork_bytes.specs.Blocks.{blocks_of}
-use Rattle.afp_volume.specs.VolumeState.{Row as VolumeRow}
-use Rattle.afp_volume.specs.VolumeState.{VolumeState}
+use Rattle.afp_volume.specs.VolumeState.{Row as VolumeRow, VolumeState}
 use Rattle.afp_volume.specs.Edits.{bare, with_changed, without, change_at, at_place, modified_at}
 use Rattle.afp_volume.specs.SetFileDirParms.{Settings, with_settings}
 use Rattle.volume_records.specs.declared.rows.Node.{Node}

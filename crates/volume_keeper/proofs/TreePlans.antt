@@ -3,8 +3,7 @@ use Rattle.std.proofs.Common.{◌≡◌, ◌∙◌, ℕ, Bool, true, false, cond
 use Rattle.std.specs.Prelude.{Option, Some, None, ◌&&◌, ◌==◌}
 use Rattle.std.specs.List.{filter, list_all, list_any}
 use Rattle.afp_base.specs.declared.ids.NodeId.{NodeId}
-use Rattle.afp_volume.specs.VolumeState.{Row as VolumeRow}
-use Rattle.afp_volume.specs.VolumeState.{Comment, Icon, Appl, VolumeState}
+use Rattle.afp_volume.specs.VolumeState.{Row as VolumeRow, Comment, Icon, Appl, VolumeState}
 use Rattle.afp_volume.specs.Edits.{with_changed, without, change_at, at_place, modified_at}
 use Rattle.afp_volume.specs.SetFileDirParms.{Settings, with_settings}
 use Rattle.afp_volume.specs.SoundVolume.{IsSoundVolume, has_node, has_file, has_noted_nodes}

@@ -13,22 +13,13 @@ use crate::held::Held;
 use crate::loading::LoadFault;
 use afp_base::{Bytes, Moment, OutOfMemory};
 use afp_volume::laws::{fresh_volumes_are_sound, numbers_stay_in_their_ranges};
+use afp_volume::limits::{FIRST_ID, NEVER, ROOT_ID, ROOT_PARENT_ID};
 use desktop_db::Desktop;
 use record_keeper::{Change, Keeper, KeeperFault};
 use std::alloc::Global;
 use volume_records::laws::records_are_images;
 use volume_records::{Head, Node, head_record, node_record};
 use volume_tree::Volume;
-
-/// The date of what never happened (AFP Reference, "Date and time").
-const NEVER: i32 = -2_147_483_648;
-
-/// The ids of the root and of its parent, and the first of other nodes (AFP Reference, "Directory IDs").
-const ROOT: u32 = 2;
-
-const ROOT_PARENT: u32 = 1;
-
-const FIRST_ID: u64 = 17;
 
 /// The head of a volume that is made at a moment.
 fn head_of(now: Moment) -> Head
@@ -39,7 +30,7 @@ fn head_of(now: Moment) -> Head
         created: date,
         modified: date,
         backup: NEVER,
-        next_id: FIRST_ID,
+        next_id: FIRST_ID as u64,
     }
 }
 
@@ -49,9 +40,9 @@ fn root_of(alloc: Global, name: &str, now: Moment) -> Result<Node, OutOfMemory>
 {
     let date = now.seconds() as i32;
     Ok(Node {
-        id: ROOT,
+        id: ROOT_ID,
         is_directory: true,
-        parent: ROOT_PARENT,
+        parent: ROOT_PARENT_ID,
         attributes: 0,
         created: date,
         modified: date,

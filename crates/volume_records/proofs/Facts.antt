@@ -3,7 +3,7 @@ use Rattle.std.proofs.Common.{◌≡◌, ◌∙◌, ℕ, ◌≤◌, Bool, true, 
 use Rattle.std.specs.Prelude.{Some, None, is_none, nat_le, nat_lt, ◌&&◌, ◌==◌, bytes_eq}
 use Rattle.std.specs.List.{list_all}
 use Rattle.afp_volume.specs.VolumeState.{Comment, Appl}
-use Rattle.afp_volume.specs.SoundVolume.{is_comment}
+use Rattle.afp_volume.specs.SoundVolume.{is_comment, is_formed as is_formed_row, is_named}
 use Rattle.afp_volume.specs.TypedVolume.{is_typed_row, is_long, are_bytes, is_typed_comment, is_typed_appl}
 use Rattle.volume_records.specs.declared.rows.Node.{Node}
 use Rattle.volume_records.specs.declared.rows.ForkBlock.{ForkBlock}
@@ -21,9 +21,9 @@ use Rattle.volume_records.proofs.Chains.{Chain}
 use Rattle.volume_records.proofs.RowOrder.{rows_ends, nodes_in_chain, comments_in_chain, icons_in_chain, appls_in_chain, blocks_in_chain, block_before, icon_before, appl_before, is_fit_block, is_fit_appl}
 use Rattle.volume_records.proofs.Whole.{IsWhole, is_clear}
 use Rattle.volume_records.proofs.RowKinds.{behind_head}
-use Rattle.fork_bytes.specs.Blocks.{block_size, trimmed}
+use Rattle.afp_base.specs.Limits.{block_size}
+use Rattle.fork_bytes.specs.Blocks.{trimmed}
 use Rattle.afp_names.specs.Name.{name_fault}
-use Rattle.afp_volume.specs.SoundVolume.{is_formed as is_formed_row, is_named}
 
 -- no rule holds
 pub record IsFree (t : Tables) (x : TableRow) : Type 0 where

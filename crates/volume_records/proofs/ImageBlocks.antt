@@ -4,7 +4,8 @@ use Rattle.std.specs.Prelude.{nat_le, nat_lt, ◌&&◌, ◌==◌, bytes_eq, flat
 use Rattle.std.specs.List.{list_all, filter}
 use Rattle.afp_base.specs.ForkBytes.{taken}
 use Rattle.fork_bytes.specs.declared.block.Block.{Block}
-use Rattle.fork_bytes.specs.Blocks.{block_size, block_at, block_count, before_zeros, trimmed, with_block, blocks_from, blocks_of}
+use Rattle.afp_base.specs.Limits.{block_size}
+use Rattle.fork_bytes.specs.Blocks.{block_at, block_count, before_zeros, trimmed, with_block, blocks_from, blocks_of}
 use Rattle.fork_bytes.specs.Kept.{bytes_of, are_rising, is_kept, is_empty}
 use Rattle.afp_volume.specs.VolumeState.{Row as VolumeRow}
 use Rattle.afp_volume.specs.TypedVolume.{is_byte, is_long, are_bytes}

@@ -3,13 +3,12 @@ use Rattle.std.proofs.Common.{◌≡◌, ◌∙◌, ℕ, ◌+◌, ◌*◌, ◌�
 use Rattle.std.specs.Prelude.{nat_le, nat_lt, ◌&&◌, ◌||◌, ◌==◌, bytes_eq, bit_and, flat_map}
 use Rattle.std.specs.List.{list_all, filter}
 use Rattle.fork_bytes.specs.declared.block.Block.{Block}
-use Rattle.fork_bytes.specs.Blocks.{block_size, blocks_of, trimmed}
+use Rattle.afp_base.specs.Limits.{block_size, most_fork_bytes}
+use Rattle.fork_bytes.specs.Blocks.{blocks_of, trimmed}
 use Rattle.fork_bytes.specs.Kept.{is_kept, is_empty}
-use Rattle.afp_volume.specs.VolumeState.{Comment, Icon, Appl, VolumeState, root_id}
-use Rattle.afp_volume.specs.VolumeState.{Row as VolumeRow}
+use Rattle.afp_volume.specs.VolumeState.{Comment, Icon, Appl, VolumeState, root_id, Row as VolumeRow}
 use Rattle.afp_volume.specs.Order.{stands_before}
-use Rattle.afp_volume.specs.SoundVolume.{IsSoundVolume, is_named, file_attributes, dir_attributes, is_in_place, has_node, has_file, is_comment, is_icon, icon_key, appl_key, most_fork_bytes, most_icons, most_appls, code_size}
-use Rattle.afp_volume.specs.SoundVolume.{is_formed as is_formed_row}
+use Rattle.afp_volume.specs.SoundVolume.{IsSoundVolume, is_named, file_attributes, dir_attributes, is_in_place, has_node, has_file, is_comment, is_icon, icon_key, appl_key, most_icons, most_appls, code_size, is_formed as is_formed_row}
 use Rattle.afp_volume.specs.TypedVolume.{is_word, is_long, is_date, are_bytes, is_typed_row, is_typed_comment, is_typed_icon, is_typed_appl, is_typed_volume}
 use Rattle.volume_records.specs.declared.rows.Node.{Node}
 use Rattle.volume_records.specs.declared.rows.ForkBlock.{ForkBlock}
@@ -17,7 +16,8 @@ use Rattle.volume_records.specs.declared.rows.TableRow.{TableRow}
 use Rattle.volume_records.specs.declared.rows.TableRow.TheVariants as row
 use Rattle.volume_records.specs.Shape.{is_formed, is_formed_node, is_formed_block}
 use Rattle.volume_records.specs.Image.{Tables, rows_of, tables_of, node_of, block_of, fork_blocks}
-use Rattle.volume_records.specs.FirstBad.{fork_length, is_outside, most_records}
+use Rattle.record_keeper.specs.Reading.{most_records}
+use Rattle.volume_records.specs.FirstBad.{fork_length, is_outside}
 use Rattle.volume_records.proofs.TestParts.{left_true, right_true, both_true, cases, le_of, lt_false, same_of, all-more, all-both, all-map, all-append, any-map, any-none, always}
 use Rattle.volume_records.proofs.Chains.{chain-map, filter-most}
 use Rattle.volume_records.proofs.Counts.{no_more, sum_each, length-flat}

@@ -13,7 +13,8 @@ use Rattle.record_keeper.specs.declared.record.Record.{Record}
 use Rattle.volume_records.specs.Records.{record_of}
 use Rattle.volume_records.specs.Image.{Tables, Records, rows_of, tables_of, tables_in, image, kept_image, records_in, entries_of}
 use Rattle.volume_records.specs.KeyOrder.{IsBelow, Rises, counted}
-use Rattle.volume_records.specs.FirstBad.{rows_in, first_bad, first_bad_record, most_records, too_many}
+use Rattle.record_keeper.specs.Reading.{most_records}
+use Rattle.volume_records.specs.FirstBad.{rows_in, first_bad, first_bad_record, too_many}
 use Rattle.volume_records.specs.Laws.{IsVolume, HasRecords, IsKept}
 use Rattle.volume_records.proofs.TestParts.{lt_of}
 use Rattle.volume_records.proofs.Whole.{IsWhole, counted_made, whole_good, tables_read}

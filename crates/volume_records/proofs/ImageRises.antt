@@ -3,11 +3,11 @@ use Rattle.std.proofs.Common.{◌≡◌, ◌∙◌, ℕ, ◌+◌, ◌*◌, ◌<�
 use Rattle.std.specs.Prelude.{nat_le, nat_lt, ◌&&◌, ◌||◌, ◌==◌, bytes_eq, flat_map}
 use Rattle.std.specs.List.{list_all, list_any}
 use Rattle.fork_bytes.specs.declared.block.Block.{Block}
-use Rattle.fork_bytes.specs.Blocks.{block_size, blocks_of, trimmed}
+use Rattle.afp_base.specs.Limits.{block_size, most_fork_bytes}
+use Rattle.fork_bytes.specs.Blocks.{blocks_of, trimmed}
 use Rattle.fork_bytes.specs.Kept.{is_kept}
-use Rattle.afp_volume.specs.VolumeState.{Comment, Appl, VolumeState, root_id, root_parent, first_id}
-use Rattle.afp_volume.specs.VolumeState.{Row as VolumeRow}
-use Rattle.afp_volume.specs.SoundVolume.{IsSoundVolume, is_in_place, leads_to_root, has_node, has_file, most_fork_bytes, last_next_id, code_size}
+use Rattle.afp_volume.specs.VolumeState.{Comment, Appl, VolumeState, root_id, root_parent, first_id, Row as VolumeRow}
+use Rattle.afp_volume.specs.SoundVolume.{IsSoundVolume, is_in_place, leads_to_root, has_node, has_file, last_next_id, code_size}
 use Rattle.afp_volume.specs.TypedVolume.{is_long}
 use Rattle.volume_records.specs.declared.rows.Node.{Node}
 use Rattle.volume_records.specs.declared.rows.TableRow.{TableRow}

@@ -2,11 +2,10 @@
 use Rattle.std.proofs.Common.{◌≡◌, ◌∙◌, ℕ, zero, suc, ◌+◌, ◌<◌, ◌≤◌, Bool, true, false, cond, not, List, [], ◌∷◌, map, length, refl, sym, ap, arith}
 use Rattle.std.specs.Prelude.{nat_le, nat_lt, ◌&&◌, ◌||◌, ◌==◌, bytes_eq, bit_and, sum_by}
 use Rattle.std.specs.List.{list_all, list_any}
-use Rattle.afp_volume.specs.VolumeState.{VolumeState, root_id, root_parent, first_id}
-use Rattle.afp_volume.specs.VolumeState.{Row as VolumeRow}
+use Rattle.afp_volume.specs.VolumeState.{VolumeState, root_id, root_parent, first_id, Row as VolumeRow}
 use Rattle.afp_base.specs.Apart.{are_apart}
-use Rattle.afp_volume.specs.SoundVolume.{is_in_place, are_named_alike, has_node, has_file, leads_to_root, is_named, most_nodes, most_fork_bytes, file_attributes, dir_attributes}
-use Rattle.afp_volume.specs.SoundVolume.{is_formed as is_formed_row}
+use Rattle.afp_base.specs.Limits.{most_fork_bytes}
+use Rattle.afp_volume.specs.SoundVolume.{is_in_place, are_named_alike, has_node, has_file, leads_to_root, is_named, most_nodes, file_attributes, dir_attributes, is_formed as is_formed_row}
 use Rattle.afp_volume.specs.TypedVolume.{is_word, is_long, is_date, is_quad, are_bytes, is_typed_row}
 use Rattle.volume_records.specs.declared.rows.Node.{Node}
 use Rattle.volume_records.specs.declared.rows.TableRow.TheVariants as row

@@ -9,12 +9,12 @@ use Rattle.afp_volume.specs.VolumeState.{VolumeState}
 use Rattle.record_keeper.specs.declared.record.Record.{Record}
 use Rattle.volume_records.specs.declared.rows.Reason.TheVariants.{Limit}
 use Rattle.volume_records.specs.declared.rows.TableRow.{TableRow}
-use Rattle.volume_records.specs.Records.{record_of}
+use Rattle.volume_records.specs.Records.{record_of, head_key}
 use Rattle.volume_records.specs.Shape.{row_in}
 use Rattle.volume_records.specs.Image.{Tables, rows_of, tables_in}
 use Rattle.volume_records.specs.KeyOrder.{Rises, with_key, counted, root_key}
-use Rattle.volume_records.specs.Records.{head_key}
-use Rattle.volume_records.specs.FirstBad.{rows_in, first_bad, first_bad_record, most_records, too_many}
+use Rattle.record_keeper.specs.Reading.{most_records}
+use Rattle.volume_records.specs.FirstBad.{rows_in, first_bad, first_bad_record, too_many}
 use Rattle.volume_records.specs.lemma.Judged.{said_rows}
 use Rattle.volume_records.specs.Loaded.{IsVolumeOf}
 use Rattle.volume_records.proofs.TestParts.{lt_true, lt_false}

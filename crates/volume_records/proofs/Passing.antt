@@ -10,10 +10,10 @@ use Rattle.std.specs.declared.cmp.Ordering.TheVariants.{Less}
 use Rattle.std.proofs.lemmas.List.{take_more, take-append-drop, get_or-map, map-append}
 use Rattle.std.proofs.Math.Seq.{drop-cons}
 use Rattle.afp_names.specs.Name.{name_key}
-use Rattle.afp_volume.specs.VolumeState.{Icon, Appl, root_id}
-use Rattle.afp_volume.specs.VolumeState.{Row as VolumeRow}
+use Rattle.afp_volume.specs.VolumeState.{Icon, Appl, root_id, Row as VolumeRow}
 use Rattle.afp_volume.specs.Order.{stands_before}
-use Rattle.afp_volume.specs.SoundVolume.{has_node, has_file, leads_to_root, are_named_alike, icon_key, appl_key, most_nodes, most_fork_bytes, most_icons, most_appls}
+use Rattle.afp_base.specs.Limits.{most_fork_bytes}
+use Rattle.afp_volume.specs.SoundVolume.{has_node, has_file, leads_to_root, are_named_alike, icon_key, appl_key, most_nodes, most_icons, most_appls}
 use Rattle.record_keeper.specs.declared.record.Record.{Record}
 use Rattle.volume_records.specs.declared.rows.Node.{Node}
 use Rattle.volume_records.specs.declared.rows.Reason.{Reason}

@@ -15,9 +15,8 @@ use Rattle.volume_records.specs.declared.rows.Node.{Node}
 use Rattle.volume_records.specs.declared.rows.ForkBlock.{ForkBlock}
 use Rattle.volume_records.specs.declared.rows.TableRow.{TableRow}
 use Rattle.volume_records.specs.declared.rows.TableRow.TheVariants as row
-use Rattle.volume_records.specs.Records.{record_of, head_record, node_record, block_record, comment_record, icon_record, appl_record, long_bytes, flag_byte}
+use Rattle.volume_records.specs.Records.{record_of, head_record, node_record, block_record, comment_record, icon_record, appl_record, long_bytes, flag_byte, head_key}
 use Rattle.volume_records.specs.KeyOrder.{IsBelow, Rises}
-use Rattle.volume_records.specs.Records.{head_key}
 use Rattle.volume_records.specs.lemma.KeyOrder.{has_key}
 use Rattle.volume_records.specs.Image.{Tables, rows_of, tables_in, first_head, as_head, as_node, as_block, as_comment, as_icon, as_appl}
 use Rattle.volume_records.proofs.TestParts.{both_true, le_true, cases}

@@ -2,12 +2,11 @@
 use Rattle.std.proofs.Common.{◌≡◌, ◌≤◌, Bool, true, false, length, refl}
 use Rattle.std.specs.Prelude.{nat_le, nat_lt, ◌&&◌, ◌==◌}
 use Rattle.std.specs.List.{list_all}
-use Rattle.afp_volume.specs.VolumeState.{Comment, Appl, VolumeState, root_id, first_id}
-use Rattle.afp_volume.specs.VolumeState.{Row as VolumeRow}
+use Rattle.afp_volume.specs.VolumeState.{Comment, Appl, VolumeState, root_id, first_id, Row as VolumeRow}
 use Rattle.afp_volume.specs.Order.{rises, rises_from}
 use Rattle.afp_base.specs.Apart.{are_apart}
-use Rattle.afp_volume.specs.SoundVolume.{IsSoundVolume, is_tree, is_in_place, has_apart_names, are_named_alike, has_noted_nodes, keeps_limits, is_formed_volume, is_in_order, has_rising_ids, has_node, has_file, is_comment, is_icon, are_one_icon, are_one_appl, icon_key, appl_key, fork_bytes, most_nodes, most_fork_bytes, most_icons, most_appls, last_next_id, code_size}
-use Rattle.afp_volume.specs.SoundVolume.{is_formed as is_formed_row}
+use Rattle.afp_base.specs.Limits.{most_fork_bytes}
+use Rattle.afp_volume.specs.SoundVolume.{IsSoundVolume, is_tree, is_in_place, has_apart_names, are_named_alike, has_noted_nodes, keeps_limits, is_formed_volume, is_in_order, has_rising_ids, has_node, has_file, is_comment, is_icon, are_one_icon, are_one_appl, icon_key, appl_key, fork_bytes, most_nodes, most_icons, most_appls, last_next_id, code_size, is_formed as is_formed_row}
 use Rattle.afp_volume.specs.TypedVolume.{is_date, are_bytes, is_typed_row, is_typed_comment, is_typed_icon, is_typed_appl, is_typed_volume}
 use Rattle.volume_records.proofs.TestParts.{right_true, parts, le_of}
 use Rattle.volume_records.proofs.Chains.{Chain, from-all, rises-chain}

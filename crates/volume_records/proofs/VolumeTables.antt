@@ -3,10 +3,9 @@ use Rattle.std.proofs.Common.{◌≡◌, ◌∙◌, ℕ, zero, suc, ◌+◌, ◌
 use Rattle.std.specs.Prelude.{nat_le, nat_lt, ◌&&◌, ◌||◌, ◌==◌, bytes_eq, flat_map}
 use Rattle.std.specs.List.{list_all, list_any}
 use Rattle.fork_bytes.specs.declared.block.Block.{Block}
-use Rattle.fork_bytes.specs.Blocks.{block_size}
+use Rattle.afp_base.specs.Limits.{block_size}
 use Rattle.fork_bytes.specs.Kept.{bytes_of, bytes_in, byte_at, each_of}
-use Rattle.afp_volume.specs.VolumeState.{root_id, root_parent, first_id}
-use Rattle.afp_volume.specs.VolumeState.{Row as VolumeRow}
+use Rattle.afp_volume.specs.VolumeState.{root_id, root_parent, first_id, Row as VolumeRow}
 use Rattle.afp_volume.specs.SoundVolume.{has_file, has_node, is_formed as is_formed_row, is_comment, is_icon, last_next_id}
 use Rattle.afp_volume.specs.TypedVolume.{is_byte, is_long, is_date, are_bytes, is_typed_row, is_typed_volume, is_typed_comment, is_typed_icon, is_typed_appl}
 use Rattle.volume_records.specs.declared.rows.Node.{Node}

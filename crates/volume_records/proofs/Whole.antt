@@ -12,13 +12,13 @@ use Rattle.volume_records.specs.declared.rows.Node.{Node}
 use Rattle.volume_records.specs.declared.rows.Reason.{Reason}
 use Rattle.volume_records.specs.declared.rows.TableRow.{TableRow}
 use Rattle.volume_records.specs.declared.rows.TableRow.TheVariants as row
-use Rattle.volume_records.specs.Records.{record_of, head_record, node_record, block_record, comment_record, icon_record, appl_record, long_bytes}
+use Rattle.volume_records.specs.Records.{record_of, head_record, node_record, block_record, comment_record, icon_record, appl_record, long_bytes, head_key}
 use Rattle.volume_records.specs.Shape.{row_in, is_formed, bare_row}
 use Rattle.volume_records.specs.Image.{Tables, rows_of, tables_in, as_node}
 use Rattle.volume_records.specs.KeyOrder.{Rises, with_key, counted, root_key}
-use Rattle.volume_records.specs.Records.{head_key}
 use Rattle.volume_records.specs.lemma.KeyOrder.{has_key}
-use Rattle.volume_records.specs.FirstBad.{rows_in, tree_of, reason_of, bad_or, first_in, first_bad, first_bad_record, most_records, too_many}
+use Rattle.record_keeper.specs.Reading.{most_records}
+use Rattle.volume_records.specs.FirstBad.{rows_in, tree_of, reason_of, bad_or, first_in, first_bad, first_bad_record, too_many}
 use Rattle.volume_records.proofs.TestParts.{both_true, left_true, right_true, cases, lt_of, same_true, same_of, bytes_same, or_left, or_right, lt_false}
 use Rattle.volume_records.proofs.ReadBack.{row_is, read_back, node_parts}
 use Rattle.volume_records.proofs.RowKinds.{rows_are}

@@ -1,11 +1,11 @@
 -- The first record that breaks a rule of a volume (this profile).
+use Rattle.record_keeper.specs.Reading.{most_records}
 use Rattle.std.specs.Prelude.{ℕ, ◌+◌, ◌*◌, ◌==◌, nat_le, nat_lt, Bool, false, not, ◌&&◌, ◌||◌, if◌then◌else◌, List, [], ◌∷◌, map, length, drop, sum_by, Option, Some, None}
 use Rattle.std.specs.List.{list_any, filter, filter_map}
-use Rattle.fork_bytes.specs.Blocks.{block_size}
-use Rattle.afp_volume.specs.VolumeState.{Row as VolumeRow}
-use Rattle.afp_volume.specs.VolumeState.{Icon, Appl, root_id, first_id}
+use Rattle.afp_base.specs.Limits.{block_size, most_fork_bytes}
+use Rattle.afp_volume.specs.VolumeState.{Row as VolumeRow, Icon, Appl, root_id, first_id}
 use Rattle.afp_volume.specs.Order.{stands_before}
-use Rattle.afp_volume.specs.SoundVolume.{has_node, has_file, leads_to_root, are_named_alike, most_nodes, most_fork_bytes, most_icons, most_appls, icon_key, appl_key}
+use Rattle.afp_volume.specs.SoundVolume.{has_node, has_file, leads_to_root, are_named_alike, most_nodes, most_icons, most_appls, icon_key, appl_key}
 use Rattle.record_keeper.specs.declared.record.Record.{Record}
 use Rattle.volume_records.specs.declared.rows.Node.{Node}
 use Rattle.volume_records.specs.declared.rows.BadRecord.{BadRecord}
@@ -90,10 +90,6 @@ first_in name t (r ∷ records) = bad_or r.key (reason_of t (row_in name r)) (fi
 
 abbrev pub first_bad : List ℕ → List Record → Option BadRecord
 first_bad name records = first_in name (tables_in (rows_in name records)) records
-
--- the most records of a keeper: no image has so many
-abbrev pub most_records : ℕ
-most_records = 480000
 
 -- a record with which a keeper passes that limit
 abbrev pub too_many : List Record → Option BadRecord

@@ -3,8 +3,7 @@ use Rattle.std.specs.Prelude.{ℕ, ◌==◌, List, map}
 use Rattle.std.specs.List.{filter}
 use Rattle.fork_bytes.specs.declared.block.Block.{Block}
 use Rattle.fork_bytes.specs.Kept.{bytes_of}
-use Rattle.afp_volume.specs.VolumeState.{VolumeState}
-use Rattle.afp_volume.specs.VolumeState.{Row as VolumeRow}
+use Rattle.afp_volume.specs.VolumeState.{VolumeState, Row as VolumeRow}
 use Rattle.volume_records.specs.declared.rows.Node.{Node}
 use Rattle.volume_records.specs.declared.rows.ForkBlock.{ForkBlock}
 use Rattle.volume_records.specs.Records.{flag_byte}

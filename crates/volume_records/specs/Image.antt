@@ -4,8 +4,7 @@ use Rattle.std.specs.List.{filter_map}
 use Rattle.std.specs.FinMap.{entries, from_sorted}
 use Rattle.fork_bytes.specs.declared.block.Block.{Block}
 use Rattle.fork_bytes.specs.Blocks.{blocks_of}
-use Rattle.afp_volume.specs.VolumeState.{Row as VolumeRow}
-use Rattle.afp_volume.specs.VolumeState.{Comment, Icon, Appl, VolumeState}
+use Rattle.afp_volume.specs.VolumeState.{Row as VolumeRow, Comment, Icon, Appl, VolumeState}
 use Rattle.record_keeper.specs.declared.record.Record.{Record}
 pub use Rattle.record_keeper.specs.Records.{Records}
 use Rattle.volume_records.specs.declared.rows.Head.{Head}

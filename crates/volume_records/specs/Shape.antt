@@ -1,9 +1,9 @@
 -- Which records are of a volume's shape, and what they say (this profile).
 use Rattle.std.specs.Prelude.{ℕ, ℤ, ◌+◌, ◌==◌, nat_le, Bool, true, ◌&&◌, if◌then◌else◌, List, [], ◌∷◌, length, take, drop, slice_index, bytes_eq, Option, Some, None}
 use Rattle.std.specs.Int.{from_be_bytes, cast_signed, w16, w32, w64}
-use Rattle.fork_bytes.specs.Blocks.{block_size, trimmed}
-use Rattle.afp_volume.specs.VolumeState.{Comment, Icon, Appl, root_id, root_parent, first_id}
-use Rattle.afp_volume.specs.VolumeState.{Row as VolumeRow}
+use Rattle.afp_base.specs.Limits.{block_size}
+use Rattle.fork_bytes.specs.Blocks.{trimmed}
+use Rattle.afp_volume.specs.VolumeState.{Comment, Icon, Appl, root_id, root_parent, first_id, Row as VolumeRow}
 use Rattle.afp_volume.specs.SoundVolume.{is_formed as is_formed_row, is_comment, is_icon, code_size, last_next_id}
 use Rattle.afp_volume.specs.TypedVolume.{is_long, is_quad, is_date, are_bytes, is_typed_row, is_typed_comment, is_typed_icon, is_typed_appl}
 use Rattle.record_keeper.specs.declared.record.Record.{Record}

@@ -4,9 +4,9 @@ ghost use Rattle.std.specs.List.Sorted.{IsStrictlySortedBy};
 ghost use Rattle.std.specs.Ordering.{nat_cmp};
 ghost use Rattle.volume_records.specs.lemma.Climb.{place_in, stands, steps_of, climbed, through, id_of, EndsAt};
 
-use crate::limits::ROOT;
 use crate::tree::Place;
 use afp_base::OutOfMemory;
+use afp_volume::limits::ROOT_ID;
 use std::alloc::Global;
 
 pub(crate) fn push<T: Drop>(list: &mut Vec<T>, item: T) -> Result<(), OutOfMemory>
@@ -35,7 +35,7 @@ pub(crate) fn stand(ids: &[u32], id: u32) -> usize
     requires room { length ids.now < 2 ^ 60 }
     ensures { result ≡ stands ids.now id }
 {
-    if id == ROOT {
+    if id == ROOT_ID {
         ids.len() + 1
     } else {
         place_in_ids(ids, id)

@@ -5,11 +5,11 @@ ghost use Rattle.afp_volume.specs.VolumeState.{Icon, Appl};
 ghost use Rattle.volume_records.specs.declared.rows.TableRow.TheVariants as row;
 ghost use Rattle.volume_records.specs.lemma.Judged.{has_seen, Before, HasBefore, KeepsTree, IsTree, IsNamedRow, IsJudged, IsJudgedRow, is_short_row};
 
-use crate::limits::{FIRST_ID, MOST_APPLS, MOST_FORK_BYTES, MOST_ICONS, MOST_NODES, ROOT};
 use crate::rows::{ForkBlock, Node, Reason, TableRow};
 use crate::tree::{Tree, is_stray, reaches_behind};
-use afp_base::OutOfMemory;
+use afp_base::{MOST_FORK_BYTES, OutOfMemory};
 use afp_names::{Name, NameFault};
+use afp_volume::limits::{FIRST_ID, MOST_APPLS, MOST_ICONS, MOST_NODES, ROOT_ID};
 use std::alloc::Global;
 use std::collections::BTreeSet;
 
@@ -86,7 +86,7 @@ fn judge_node(alloc: Global, pass: &mut Pass, node: &Node) -> Result<Option<Reas
     if !is_new(alloc, &mut pass.seen, node.parent, node.name.as_slice())? {
         return Ok(Some(Reason::Twin));
     }
-    if node.id != ROOT && (node.id < FIRST_ID || pass.next <= node.id as u64) {
+    if node.id != ROOT_ID && (node.id < FIRST_ID || pass.next <= node.id as u64) {
         return Ok(Some(Reason::Range));
     }
     if MOST_NODES <= pass.nodes

@@ -14,7 +14,7 @@ mod shape;
 mod tree;
 mod write;
 
-pub use load::{Loaded, MOST_RECORDS, load_records};
+pub use load::{Loaded, load_records};
 pub use read::read_row;
 pub use rows::{Appl, BadRecord, Comment, ForkBlock, Head, Icon, Node, Reason, TableRow};
 pub use write::{

@@ -10,12 +10,9 @@ use crate::pass::{judge_all, read_all_rows};
 use crate::rows::{BadRecord, Reason, TableRow};
 use crate::write::owned;
 use afp_base::{Bytes, OutOfMemory};
-use record_keeper::{Record, RecordKey};
+use record_keeper::{MOST_RECORDS, Record, RecordKey};
 use std::alloc::Global;
 use std::cmp::Ordering;
-
-/// The most records of a keeper: no volume has so many.
-pub const MOST_RECORDS: usize = 480_000;
 
 /// What becomes of records.
 #[derive(Drop)]

@@ -5,13 +5,14 @@ ghost use Rattle.afp_volume.specs.TypedVolume.{are_bytes};
 ghost use Rattle.fork_bytes.specs.Blocks.{trimmed};
 ghost use Rattle.volume_records.specs.Shape.{is_formed as the_form, is_formed_head, is_formed_node, is_formed_block, is_formed_comment, is_formed_icon, is_formed_appl, is_root_or_other, has_fit_forks};
 
-use crate::limits::{
-    DIRECTORY_ATTRIBUTES, FILE_ATTRIBUTES, FIRST_ID, LAST_NEXT_ID, LONGEST_COMMENT, LONGEST_ICON,
-    ROOT, ROOT_PARENT,
-};
+use crate::limits::LAST_NEXT_ID;
 use crate::rows::{Appl, Comment, ForkBlock, Head, Icon, Node, TableRow};
 use afp_base::OutOfMemory;
 use afp_names::{Name, NameFault};
+use afp_volume::limits::{
+    DIRECTORY_ATTRIBUTES, FILE_ATTRIBUTES, FIRST_ID, LONGEST_COMMENT, LONGEST_ICON, ROOT_ID,
+    ROOT_PARENT_ID,
+};
 use fork_bytes::BLOCK_SIZE;
 use std::alloc::Global;
 
@@ -48,8 +49,8 @@ fn is_name(alloc: Global, bytes: &[u8]) -> Result<bool, OutOfMemory>
 fn is_root_named(name: &[u8], node: &Node) -> bool
     ensures { result ≡ is_root_or_other name.now node.now }
 {
-    if node.id == ROOT {
-        node.is_directory && (node.parent == ROOT_PARENT && node.name.as_slice() == name)
+    if node.id == ROOT_ID {
+        node.is_directory && (node.parent == ROOT_PARENT_ID && node.name.as_slice() == name)
     } else {
         true
     }

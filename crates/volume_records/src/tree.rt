@@ -8,9 +8,9 @@ ghost use Rattle.volume_records.specs.lemma.Climb.{id_of, climbs_to_root};
 ghost use Rattle.volume_records.specs.lemma.Judged.{IsTree, IsTreeOf, told, is_there as is_there_by, is_file_there, is_stray_here, length_of};
 
 use crate::climb::{ends_of, place_in_ids, push, stand};
-use crate::limits::ROOT;
 use crate::rows::{ForkBlock, TableRow};
 use afp_base::OutOfMemory;
+use afp_volume::limits::ROOT_ID;
 use fork_bytes::BLOCK_SIZE;
 use std::alloc::Global;
 
@@ -93,8 +93,8 @@ pub(crate) fn is_stray(tree: &Tree, row: &TableRow) -> bool
 {
     match row {
         TableRow::Head(_) => false,
-        TableRow::Node(node) => node.id != ROOT
-            && !(is_there(tree, ROOT) && leads(tree, node.parent)),
+        TableRow::Node(node) => node.id != ROOT_ID
+            && !(is_there(tree, ROOT_ID) && leads(tree, node.parent)),
         TableRow::Block(block) => !is_file(tree, block.node),
         TableRow::Comment(comment) => !is_there(tree, comment.node),
         TableRow::Icon(_) => false,

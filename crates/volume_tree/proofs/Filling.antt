@@ -5,20 +5,20 @@ use Rattle.std.specs.Prelude.{max}
 use Rattle.std.specs.Ordering.{nat_cmp}
 use Rattle.afp_base.specs.ForkBytes.{splice, Reaches}
 use Rattle.afp_base.specs.declared.ids.NodeId.{NodeId}
-use Rattle.fork_bytes.specs.Blocks.{largest_fork}
+use Rattle.afp_base.specs.Limits.{block_size, most_fork_bytes}
 use Rattle.fork_bytes.specs.Plan.{PlanState as ForkPlanState, IsPlan as IsForkPlan}
 use Rattle.node_rows.specs.Kept.{RowsValue}
 use Rattle.sorted_map.specs.Entries.{at}
 use Rattle.afp_volume.proofs.Formed.{limit-parts}
 use Rattle.afp_volume.proofs.SoundEdits.{changed-same}
-use Rattle.afp_volume.specs.SoundVolume.{fork_bytes, most_fork_bytes}
+use Rattle.afp_volume.specs.SoundVolume.{fork_bytes}
 use Rattle.afp_volume.specs.VolumeState.{Row, VolumeState}
 use Rattle.afp_volume.specs.Edits.{with_changed}
 use Rattle.afp_volume.specs.Walk.{row_at}
 use Rattle.volume_tree.proofs.FileForks.{found-id}
 use Rattle.volume_tree.proofs.Showing.{found-shown, ids-differ}
 use Rattle.volume_tree.proofs.Writing.{FileThere, Written, file-there, before-within, written-kept, written-state}
-use Rattle.volume_tree.specs.Filled.{FitsFork, block_size, filled, filled_row}
+use Rattle.volume_tree.specs.Filled.{FitsFork, filled, filled_row}
 use Rattle.volume_tree.specs.lemma.ForkEffect.{IsChanged, kept_fork}
 use Rattle.volume_tree.specs.Kept.{Forks, rows_of, state_of, with_forks}
 use Rattle.volume_tree.specs.lemma.Kept.{IsKept}
@@ -34,7 +34,7 @@ module _ (name : List ℕ) (dates : Dates) (rows : RowsValue) (forks : Forks) (u
   file = file-there forks rows.rows id.0 resource fits.bytes kept.files fits.there
 
   -- no fork is longer than all bytes can be
-  pub ends-within : block_size * index + length block ≤ largest_fork
+  pub ends-within : block_size * index + length block ≤ most_fork_bytes
   ends-within =
       let before : length fits.bytes ≤ used = before-within id.0 0 resource fits.bytes kept file in
       let were : used ≡ fork_bytes (rows_of forks rows.rows) = kept.bytes in

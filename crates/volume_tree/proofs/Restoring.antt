@@ -9,7 +9,8 @@ use Rattle.std.proofs.lemmas.List.Sums.{sum_by-cons}
 use Rattle.afp_base.specs.Apart.{are_apart}
 use Rattle.afp_volume.specs.Shared.{name_of}
 use Rattle.afp_volume.specs.Order.{rises_from}
-use Rattle.afp_volume.specs.SoundVolume.{IsSoundVolume, are_named_alike, fork_bytes, has_apart_names, has_node, has_rising_ids, is_formed, is_in_place, is_named, dir_attributes, file_attributes, most_fork_bytes, row_bytes, last_next_id}
+use Rattle.afp_base.specs.Limits.{most_fork_bytes}
+use Rattle.afp_volume.specs.SoundVolume.{IsSoundVolume, are_named_alike, fork_bytes, has_apart_names, has_node, has_rising_ids, is_formed, is_in_place, is_named, dir_attributes, file_attributes, row_bytes, last_next_id}
 use Rattle.afp_volume.specs.VolumeState.{Row, VolumeState, root_id, first_id}
 use Rattle.afp_volume.specs.Walk.{row_at}
 use Rattle.afp_volume.proofs.TestedLists.{any-at, apart-map, find-none, none-all}

@@ -12,7 +12,8 @@ use Rattle.afp_volume.proofs.TestedLists.{all-weaker}
 use Rattle.afp_volume.proofs.Walks.{find-there}
 use Rattle.afp_volume.specs.Edits.{with_changed, change_at, modified_at}
 use Rattle.afp_volume.specs.ForkEffect.{fork_effect, fork_of, written}
-use Rattle.afp_volume.specs.SoundVolume.{IsSoundVolume, has_node, fork_bytes, most_fork_bytes}
+use Rattle.afp_base.specs.Limits.{most_fork_bytes}
+use Rattle.afp_volume.specs.SoundVolume.{IsSoundVolume, has_node, fork_bytes}
 use Rattle.afp_volume.specs.VolumeState.{Row}
 use Rattle.afp_volume.specs.Walk.{row_at}
 use Rattle.volume_tree.proofs.Applied.{gone-drawn, all-modified}

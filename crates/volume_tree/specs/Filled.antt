@@ -1,13 +1,10 @@
 -- Filling forks block by block (this profile).
+use Rattle.afp_base.specs.Limits.{block_size}
 use Rattle.std.specs.Prelude.{◌≡◌, ℕ, ◌+◌, ◌*◌, ◌≤◌, Bool, if◌then◌else◌, List, length, Some}
 use Rattle.afp_base.specs.ForkBytes.{splice}
 use Rattle.afp_volume.specs.Edits.{with_changed}
 use Rattle.afp_volume.specs.VolumeState.{Row, VolumeState}
 use Rattle.volume_tree.specs.Shown.{fork_at}
-
--- the bytes of a block
-abbrev pub block_size : ℕ
-block_size = 4096
 
 -- a row with bytes in a fork, from the block with an index on
 abbrev pub filled_row : Bool → ℕ → List ℕ → Row → Row

@@ -15,12 +15,10 @@ use crate::volume::{ROOT_PARENT, Volume};
 use afp_base::{Bytes, NodeId, OutOfMemory};
 use afp_names::mac_roman::byte_of;
 use afp_names::{Name, long_name};
+use afp_volume::limits::MOST_NODES;
 use deny_modes::VolumeOpens;
 use node_rows::Node;
 use std::alloc::Global;
-
-/// The most nodes of a volume (this profile).
-pub(crate) const MOST_NODES: usize = 100_000;
 
 /// The byte of a character in a long name, or `?` where their character set has none.
 #[tactic(auto, unfolding(afp_names::specs::LongName::shown_byte))]

@@ -2,7 +2,7 @@
 ghost use Rattle.std.specs.Prelude.{◌≡◌, ◌≤◌, ◌+◌, true, length, is_some, IfOk, OnOk, OnErr};
 ghost use Rattle.std.specs.Ordering.{nat_cmp};
 ghost use Rattle.afp_base.specs.ForkBytes.{splice};
-ghost use Rattle.fork_bytes.specs.Blocks.{largest_fork};
+ghost use Rattle.afp_base.specs.Limits.{most_fork_bytes};
 ghost use Rattle.fork_bytes.specs.Plan.{IsPlan as IsForkPlan};
 ghost use Rattle.sorted_map.specs.Entries.{at};
 ghost use Rattle.volume_tree.specs.Filled.{FitsFork, filled};
@@ -50,7 +50,7 @@ fn plan_fill(
     bytes: &[u8],
 ) -> Result<ForkPlan, OutOfMemory>
     requires there { is_some (at nat_cmp forks.now id.0) ≡ true }
-    requires fits { from + length bytes.now ≤ largest_fork }
+    requires fits { from + length bytes.now ≤ most_fork_bytes }
     ensures { IfOk result (IsForkPlan (kept_fork resource (at nat_cmp forks.now id.0)) (splice (kept_fork resource (at nat_cmp forks.now id.0)) from bytes.now)) }
 {
     match forks.get(u64::from(id.0)) {

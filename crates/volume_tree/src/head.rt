@@ -3,9 +3,7 @@ ghost use Rattle.std.specs.Prelude.{◌≡◌, pos, unwrap_or, if◌then◌else�
 ghost use Rattle.afp_volume.specs.VolumeState.{never};
 
 use afp_base::Moment;
-
-/// The date of what never happened (AFP Reference, "Date and time").
-pub(crate) const NEVER: i32 = -2_147_483_648;
+use afp_volume::limits::NEVER;
 
 /// The dates of a volume, in seconds from 2000-01-01 00:00 GMT (AFP Reference, "Volume parameters").
 #[derive(Clone, Copy)]

@@ -2,10 +2,10 @@
 ghost use Rattle.std.specs.Prelude.{◌≡◌, ◌≤◌, ℕ, true, map, replicate, sum_by, IfOk, OnOk};
 ghost use Rattle.std.specs.List.{list_all};
 ghost use Rattle.std.specs.Ordering.{nat_cmp};
-ghost use Rattle.fork_bytes.specs.Blocks.{largest_fork};
+ghost use Rattle.afp_base.specs.Limits.{most_fork_bytes};
 ghost use Rattle.sorted_map.specs.Entries.{at};
 ghost use Rattle.afp_volume.specs.Shared.{name_of};
-ghost use Rattle.afp_volume.specs.SoundVolume.{has_node, most_fork_bytes};
+ghost use Rattle.afp_volume.specs.SoundVolume.{has_node};
 ghost use Rattle.afp_volume.specs.VolumeState.{root_id};
 ghost use Rattle.volume_tree.specs.Restored.{IsRestorable, restored};
 ghost use Rattle.volume_tree.specs.lemma.Restored.{forks_in, has_short_forks, loaded_bytes, loaded_node, or_forks, own_forks};
@@ -30,7 +30,7 @@ pub struct Loaded {
 
 /// A fork of so many zeros.
 fn zeros(alloc: Global, len: u64) -> Result<Fork, OutOfMemory>
-    requires { len ≤ largest_fork }
+    requires { len ≤ most_fork_bytes }
     ensures { IfOk result (λ fork. fork ≡ replicate len 0) }
 {
     let mut fork = Fork::new(alloc);
@@ -42,8 +42,8 @@ fn zeros(alloc: Global, len: u64) -> Result<Fork, OutOfMemory>
 impl FileForks {
     /// Forks of so many zeros.
     fn zeros(alloc: Global, data_len: u64, resource_len: u64) -> Result<FileForks, OutOfMemory>
-        requires data_fork { data_len ≤ largest_fork }
-        requires resource_fork { resource_len ≤ largest_fork }
+        requires data_fork { data_len ≤ most_fork_bytes }
+        requires resource_fork { resource_len ≤ most_fork_bytes }
         ensures { IfOk result (λ forks. forks ≡ record { data_fork = replicate data_len 0; resource_fork = replicate resource_len 0 }) }
     {
         Ok(FileForks {

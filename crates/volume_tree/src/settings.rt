@@ -5,14 +5,9 @@ ghost use Rattle.node_rows.specs.Kept.{marked};
 ghost use Rattle.volume_tree.specs.lemma.After.{marks_after};
 ghost use Rattle.volume_tree.specs.lemma.Kept.{marks_in};
 
+use afp_volume::limits::{DIRECTORY_ATTRIBUTES, FILE_ATTRIBUTES};
 use node_rows::{Marks, Node};
 use std::marker::Model;
-
-/// The attributes that a call may set, of files and of directories (AFP Reference, "File attributes",
-/// "Directory attributes").
-const FILE_ATTRIBUTES: u16 = 0x01e5;
-
-const DIR_ATTRIBUTES: u16 = 0x01c5;
 
 /// The bit of an attributes word that says that its others are to be set; without it they are to be
 /// cleared (AFP Reference, "File attributes").
@@ -90,7 +85,11 @@ fn with_attributes(marks: Marks, dir: bool, word: Option<u16>) -> Marks
 fn attributes_by(dir: bool, word: u16, old: u16) -> u16
     ensures { result ≡ attributes_by dir word old }
 {
-    let settable = if dir { DIR_ATTRIBUTES } else { FILE_ATTRIBUTES };
+    let settable = if dir {
+        DIRECTORY_ATTRIBUTES
+    } else {
+        FILE_ATTRIBUTES
+    };
     if word >= SET_OR_CLEAR {
         settable & (old | word)
     } else {

@@ -10,10 +10,11 @@ ghost use Rattle.afp_volume.specs.OpenFork.{file_of};
 ghost use Rattle.volume_tree.specs.Shown.{fork_at};
 
 use crate::forks::{FileForks, keep};
-use crate::head::{Dates, NEVER, VolumeHead};
+use crate::head::{Dates, VolumeHead};
 use afp_base::{Moment, NodeId, OutOfMemory};
 use afp_names::Name;
 use afp_volume::laws::fresh_volumes_are_sound;
+use afp_volume::limits::NEVER;
 use fork_bytes::Fork;
 use node_rows::{Node, Rows};
 use sorted_map::SortedMap;

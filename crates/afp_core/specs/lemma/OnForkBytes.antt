@@ -19,7 +19,7 @@ use Rattle.afp_serial.specs.declared.ask.Outcome.{Outcome}
 use Rattle.afp_serial.specs.declared.ask.Told.{Told}
 use Rattle.afp_serial.specs.declared.ask.Told.TheVariants.{Reply}
 use Rattle.afp_volume.specs.ForkEffect.{fork_of}
-use Rattle.afp_volume.specs.SoundVolume.{most_fork_bytes}
+use Rattle.afp_base.specs.Limits.{most_fork_bytes}
 use Rattle.afp_volume.specs.VolumeState.{Row as File}
 use Rattle.fork_bytes.specs.Line.{Line, line_of}
 use Rattle.open_forks.specs.Forks.{Forks}

@@ -3,12 +3,12 @@ use Rattle.std.specs.Prelude.{ℕ, ◌≤◌, ◌==◌, ◌≡◌, true, false, 
 use Rattle.std.specs.List.{list_all}
 use Rattle.std.specs.List.Sorted.{IsPartitionPoint}
 use Rattle.fork_bytes.specs.declared.block.Block.{Block}
-use Rattle.fork_bytes.specs.Blocks.{largest_fork}
+use Rattle.afp_base.specs.Limits.{most_fork_bytes}
 use Rattle.fork_bytes.specs.Kept.{is_empty, are_rising, is_kept, room_of}
 
 -- what holds of a fork's length, its blocks and its room for blocks
 pub record IsKept (len : ℕ) (blocks : List Block) (capacity : ℕ) : Type 0 where
-  pub few : len ≤ largest_fork
+  pub few : len ≤ most_fork_bytes
   pub rising : are_rising blocks ≡ true
   pub kept : list_all (is_kept len) blocks ≡ true
   pub room : room_of (length blocks) ≤ capacity

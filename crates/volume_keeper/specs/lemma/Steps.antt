@@ -4,8 +4,7 @@ use Rattle.std.specs.List.{filter}
 use Rattle.afp_base.specs.declared.ids.NodeId.{NodeId}
 use Rattle.fork_bytes.specs.declared.block.Block.{Block}
 use Rattle.fork_bytes.specs.Blocks.{blocks_of}
-use Rattle.afp_volume.specs.VolumeState.{Row as VolumeRow}
-use Rattle.afp_volume.specs.VolumeState.{Appl, Comment, VolumeState}
+use Rattle.afp_volume.specs.VolumeState.{Row as VolumeRow, Appl, Comment, VolumeState}
 use Rattle.afp_volume.specs.Desktop.{comment_at}
 use Rattle.afp_volume.specs.Walk.{row_at}
 use Rattle.record_keeper.specs.declared.record.Change.{Change}

@@ -6,10 +6,10 @@ use Rattle.std.specs.BTreeSet.{BTreeSet, contains_by}
 use Rattle.std.specs.Cmp.Lexicographic.{slice_cmp}
 use Rattle.std.specs.Ordering.{nat_cmp, ordering_then}
 use Rattle.std.specs.declared.alloc.Global.{Global}
-use Rattle.fork_bytes.specs.Blocks.{block_size}
+use Rattle.afp_base.specs.Limits.{block_size, most_fork_bytes}
 use Rattle.afp_names.specs.Name.{name_fault, name_key}
 use Rattle.afp_volume.specs.VolumeState.{root_id, first_id}
-use Rattle.afp_volume.specs.SoundVolume.{most_nodes, most_fork_bytes, most_icons, most_appls}
+use Rattle.afp_volume.specs.SoundVolume.{most_nodes, most_icons, most_appls}
 use Rattle.volume_records.specs.declared.tree.Place.{Place}
 use Rattle.volume_records.specs.declared.tree.Tree.{Tree}
 use Rattle.volume_records.specs.declared.judge.Pass.{Pass}

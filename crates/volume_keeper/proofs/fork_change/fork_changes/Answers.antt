@@ -3,7 +3,8 @@ use Rattle.std.specs.Prelude.{Some, option_map}
 use Rattle.afp_volume.specs.DesktopLaws.{with_desktop}
 use Rattle.afp_volume.specs.Edits.{bare}
 use Rattle.afp_volume.specs.ForkEffect.{fork_effect, fork_of}
-use Rattle.afp_volume.specs.SoundVolume.{fork_bytes, most_fork_bytes}
+use Rattle.afp_base.specs.Limits.{most_fork_bytes}
+use Rattle.afp_volume.specs.SoundVolume.{fork_bytes}
 use Rattle.afp_volume.specs.VolumeState.{VolumeState}
 use Rattle.afp_volume.specs.Walk.{row_at}
 use Rattle.record_keeper.specs.declared.record.Change.{Change}

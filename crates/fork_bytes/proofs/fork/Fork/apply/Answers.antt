@@ -1,5 +1,5 @@
 use Rattle.std.proofs.Common.{◌≡◌, ◌∙◌, ◌≤◌, length, vec_capacity, sym, ap, subst}
-use Rattle.fork_bytes.specs.Blocks.{largest_fork}
+use Rattle.afp_base.specs.Limits.{most_fork_bytes}
 use Rattle.fork_bytes.specs.Kept.{bytes_of}
 use Rattle.fork_bytes.specs.lemma.Kept.{IsKept, Fits, with_puts}
 use Rattle.fork_bytes.specs.Plan.{PlanState}
@@ -19,7 +19,7 @@ invariant_of-self c =
     let items = c.put_all.ensures.items ∙ ap (with_puts c.plan.inside.changes.items) c.move_to.ensures.items in
     subst (λ n. IsKept n c.put_all.new.blocks.items (vec_capacity c.put_all.new.blocks)) (sym len)
     (subst (λ l. IsKept (length c.requires.0) l (vec_capacity c.put_all.new.blocks)) (sym items)
-    (given_kept given (vec_capacity c.put_all.new.blocks) c.put_all.ensures.room (subst (λ n. n ≤ largest_fork) len c.plan.invariant.1)))
+    (given_kept given (vec_capacity c.put_all.new.blocks) c.put_all.ensures.room (subst (λ n. n ≤ most_fork_bytes) len c.plan.invariant.1)))
 
 pub returns : goal.returns
 returns c after p =

@@ -2,7 +2,8 @@ use Rattle.std.proofs.Common.{◌==◌, ◌≡◌, ◌≤◌, ◌∙◌, ℕ, tr
 use Rattle.std.proofs.lemmas.Bool.{ne_eqb}
 use Rattle.afp_base.specs.ForkBytes.{resized}
 use Rattle.afp_volume.specs.ForkEffect.{fork_of, would_pass}
-use Rattle.afp_volume.specs.SoundVolume.{IsSoundVolume, most_fork_bytes}
+use Rattle.afp_base.specs.Limits.{most_fork_bytes}
+use Rattle.afp_volume.specs.SoundVolume.{IsSoundVolume}
 use Rattle.afp_volume.specs.VolumeState.{Row, VolumeState}
 use Rattle.afp_volume.specs.Walk.{row_at}
 use Rattle.kept_volume.specs.ForkChanging.{GivesBytes}

@@ -1,6 +1,6 @@
 use Rattle.std.proofs.Common.{◌≤◌, ◌∙◌, ◌+◌, ◌*◌, ap, sym, subst, length, nat_cmp}
 use Rattle.afp_base.specs.ForkBytes.{splice}
-use Rattle.fork_bytes.specs.Blocks.{largest_fork}
+use Rattle.afp_base.specs.Limits.{most_fork_bytes}
 use Rattle.fork_bytes.specs.Plan.{IsPlan as IsForkPlan}
 use Rattle.sorted_map.specs.Entries.{at}
 use Rattle.afp_volume.specs.VolumeState.{VolumeState}
@@ -21,7 +21,7 @@ pub plan_fill-requires-clause-fits : goal.plan_fill-requires-clause-fits
 plan_fill-requires-clause-fits c =
     let state : VolumeState = state_of c.self.inside.name c.self.inside.dates c.self.inside.rows c.self.inside.forks in
     let fits : FitsFork state c.args.id.0 c.args.resource c.args.index c.args.block.now = subst (λ (v : TreeValue). FitsFork v.state c.args.id.0 c.args.resource c.args.index c.args.block.now) (sym c.self.view_is) c.requires in
-    subst (λ n. 4096 * n + length c.args.block.now ≤ largest_fork) (sym c.from.ensures) (ends-within c.self.inside.name c.self.inside.dates c.self.inside.rows c.self.inside.forks c.self.inside.used c.args.id c.args.resource c.args.index c.args.block.now c.self.invariant fits)
+    subst (λ n. 4096 * n + length c.args.block.now ≤ most_fork_bytes) (sym c.from.ensures) (ends-within c.self.inside.name c.self.inside.dates c.self.inside.rows c.self.inside.forks c.self.inside.used c.args.id c.args.resource c.args.index c.args.block.now c.self.invariant fits)
 
 pub change_fork-requires-clause-there : goal.change_fork-requires-clause-there
 change_fork-requires-clause-there c =

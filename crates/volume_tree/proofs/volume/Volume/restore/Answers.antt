@@ -2,7 +2,8 @@ use Rattle.std.proofs.Common.{◌≡◌, ◌≤◌, ◌∙◌, ap, sym, subst, t
 use Rattle.std.specs.Prelude.{nat_lt, sum_by}
 use Rattle.std.specs.List.{list_all}
 use Rattle.afp_base.specs.Apart.{are_apart}
-use Rattle.afp_volume.specs.SoundVolume.{are_named_alike, has_node, has_rising_ids, most_fork_bytes}
+use Rattle.afp_base.specs.Limits.{most_fork_bytes}
+use Rattle.afp_volume.specs.SoundVolume.{are_named_alike, has_node, has_rising_ids}
 use Rattle.afp_volume.specs.VolumeState.{Row, root_id}
 use Rattle.volume_tree.proofs.Restoring.{Restored, RestoreParts, all-short, restore-parts, restored-kept, restored-state}
 use Rattle.volume_tree.specs.lemma.Restored.{forks_in, has_short_forks, loaded_bytes}
