@@ -17,15 +17,16 @@ use Rattle.afp_serial.specs.Answer.{after_at, after_call, answer_at, drain_momen
 use Rattle.afp_serial.specs.Limits.{links_end, most_sessions}
 use Rattle.afp_serial.specs.World.{plain, session_at, without_session, World, Session}
 use Rattle.afp_serial.specs.Rows.{refusal}
-use Rattle.afp_core.specs.lemma.SessionList.{IsAt, session_of}
+use Rattle.core_state.specs.SessionList.{IsAt, session_of}
 use Rattle.afp_core.specs.lemma.Spelling.{IsSpelled}
-use Rattle.afp_core.specs.Turn.{Comes, IsReady, RunsAsk, done, takes_memory}
-use Rattle.afp_core.specs.lemma.Turn.{RunsCall, RunsPart, RunsRow, RunsVerdict}
+use Rattle.core_state.specs.Running.{Comes, IsReady, done, RunsRow, RunsVerdict}
+use Rattle.afp_core.specs.Turn.{RunsAsk, takes_memory}
+use Rattle.afp_core.specs.lemma.Turn.{RunsCall, RunsPart}
 use Rattle.afp_core.specs.declared.spelling.Stop.TheVariants.{Refused}
-use Rattle.afp_core.specs.ServerState.{KeptWorld}
-use Rattle.afp_core.specs.lemma.ServerState.{with_sessions}
-use Rattle.afp_core.proofs.KeeperLemmas.{comes-done, comes-same}
-use Rattle.afp_core.proofs.ForkLemmas.{staying}
+use Rattle.core_state.specs.KeptWorld.{KeptWorld}
+use Rattle.core_state.specs.lemma.KeptWorld.{with_sessions}
+use Rattle.core_state.proofs.KeeperLemmas.{comes-done, comes-same}
+use Rattle.core_state.proofs.ForkLemmas.{staying}
 
 -- the world with another next link and other sessions
 abbrev pub with_opened : KeptWorld → ℕ → List Session → KeptWorld

@@ -1,16 +1,5 @@
-pub mod SessionLemmas
-pub mod KeeperLemmas
-pub mod ForkLemmas
-pub mod RowLemmas
+pub mod LoginLemmas
 pub mod SpellingLemmas
-pub mod OnVolumeLemmas
-pub mod CallRows
-pub mod OnForkLemmas
-pub mod ForkCallRows
-pub mod OpenForkLemmas
-pub mod ForkBytesLemmas
-pub mod ForkWriteLemmas
-pub mod ForkLockLemmas
 pub mod AskLemmas
 pub mod LoadLemmas
 pub mod TurnLemmas

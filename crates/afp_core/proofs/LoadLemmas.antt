@@ -15,7 +15,7 @@ use Rattle.afp_serial.specs.Household.{Household}
 use Rattle.afp_serial.specs.Limits.{most_volumes}
 use Rattle.afp_serial.specs.Sound.{IsSound, ServesVolumes}
 use Rattle.afp_serial.specs.World.{World}
-use Rattle.afp_core.specs.ServerState.{volumes_of}
+use Rattle.core_state.specs.KeptWorld.{volumes_of}
 use Rattle.afp_core.specs.Loads.{IsCoreFault, LoadEach, LoadsOne}
 use Rattle.afp_core.specs.lemma.Loads.{IsFaultAt}
 use Rattle.afp_core.specs.declared.core_fault.CoreFault.{CoreFault}

@@ -23,11 +23,12 @@ use Rattle.afp_serial.specs.World.{has_session, session_at, World, Session, at_m
 use Rattle.afp_serial.specs.Sound.{IsSound, has_apart_sessions, has_lawful_locks, has_lawful_opens, is_link_below}
 use Rattle.afp_serial.proofs.Grows.{lawful-snoc, stand-append}
 use Rattle.afp_core.specs.Counted.{IsCounted}
-use Rattle.afp_core.specs.KeeperFaults.{KeepersRise, SureStand, failed_keeper}
+use Rattle.core_state.specs.KeeperFaults.{KeepersRise, SureStand, failed_keeper}
 use Rattle.afp_core.specs.ServerState.{ServerState}
 use Rattle.afp_core.specs.lemma.ServerState.{kept_at, kept_of}
 use Rattle.afp_core.specs.Sureness.{SureKept}
-use Rattle.afp_core.specs.Turn.{IsNextFree, IsReady, RunsAsk, TakesTurn, Turned}
+use Rattle.core_state.specs.Running.{IsNextFree, IsReady}
+use Rattle.afp_core.specs.Turn.{RunsAsk, TakesTurn, Turned}
 
 -- the next link number is no session's
 below-fresh : (xs : List Session) (n : ℕ) → list_all (λ s. nat_lt s.number n && is_link_below n s.place) xs ≡ true → has_session xs n ≡ false

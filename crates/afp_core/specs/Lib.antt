@@ -1,5 +1,4 @@
 pub mod ServerState
-pub mod KeeperFaults
 pub mod Loads
 pub mod Retiring
 pub mod Turn

@@ -1,6 +1,7 @@
 -- The volumes of a house, loaded from their keepers (this profile).
 use Rattle.std.specs.Prelude.{◌≡◌, ◌≢◌, ℕ, Bool, false, List, [], ◌∷◌, length, map, take, Option, Some, IfSome, slice_get}
-use Rattle.afp_core.specs.ServerState.{ServerState, start_server, volumes_of}
+use Rattle.afp_core.specs.ServerState.{ServerState, start_server}
+use Rattle.core_state.specs.KeptWorld.{volumes_of}
 use Rattle.afp_core.specs.declared.core_fault.CoreFault.{CoreFault}
 use Rattle.afp_core.specs.declared.core_fault.CoreFault.TheVariants.{Count, Load, Memory}
 use Rattle.afp_serial.specs.Household.{Household}

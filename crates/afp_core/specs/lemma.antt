@@ -1,13 +1,7 @@
 pub mod Loads
-pub mod OnForkBytes
-pub mod OnForks
-pub mod OnOpened
-pub mod Opening
 pub mod Places
 pub mod Requests
 pub mod ServerState
-pub mod SessionList
-pub mod SettingLength
 pub mod Spelling
 pub mod Telling
 pub mod Turn

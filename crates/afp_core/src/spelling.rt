@@ -1,5 +1,5 @@
 //! The steps by which a request is decided before its call's row.
-ghost use Rattle.std.specs.Prelude.{◌≡◌, false, ◌&&◌, not};
+ghost use Rattle.std.specs.Prelude.{◌≡◌, ◌&&◌};
 ghost use Rattle.std.specs.Option.{option_copied};
 ghost use Rattle.afp_serial.specs.Answer.{needs_user};
 ghost use Rattle.afp_core.specs.lemma.Requests.{as_request};

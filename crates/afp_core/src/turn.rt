@@ -7,14 +7,15 @@ ghost use Rattle.afp_core.specs.Retiring.{Retires};
 ghost use Rattle.afp_core.specs.Turn.{TakesTurn};
 ghost use Rattle.afp_core.specs.lemma.Turn.{TakesStep};
 
+use crate::asks::turn;
 use crate::core_fault::CoreFault;
 use crate::counts::Counts;
 use crate::loading::load_all;
 use crate::retired::{Retired, settle_all};
-use crate::state::State;
 use afp_base::{LinkNumber, Moment, OutOfMemory, VolumeId};
 use afp_serial::fork_laws::references_are_lowest;
 use afp_serial::{Ask, House, Outcome, Told, entry_in_range, moment_in_range};
+use core_state::State;
 use record_keeper::Keeper;
 use std::alloc::Global;
 use std::marker::Model;
@@ -80,7 +81,7 @@ impl<K: Keeper> Core<K> {
     {
         entry_in_range(now, link, &ask);
         references_are_lowest();
-        let (told, outcome) = self.state.turn(now, link, ask)?;
+        let (told, outcome) = turn(&mut self.state, now, link, ask)?;
         self.entries = self.entries.saturating_add(1);
         if let Told::Opened { .. } = told {
             self.opened = self.opened.saturating_add(1);

@@ -6,7 +6,8 @@ use Rattle.std.specs.Prelude.{map as mapped, slice_get, Option, IfSome}
 use Rattle.std.specs.Cmp.Lexicographic.{slice_cmp}
 use Rattle.std.specs.Ordering.{nat_cmp}
 use Rattle.afp_core.specs.Loads.{LoadEach, IsLoadedServer, IsCoreFault, IsFaultOf, StopsAt}
-use Rattle.afp_core.specs.ServerState.{ServerState, volumes_of}
+use Rattle.afp_core.specs.ServerState.{ServerState}
+use Rattle.core_state.specs.KeptWorld.{volumes_of}
 use Rattle.afp_core.specs.declared.core_fault.CoreFault.{CoreFault}
 use Rattle.afp_core.specs.declared.core_fault.CoreFault.TheVariants as cores
 use Rattle.afp_serial.specs.Household.{Household}

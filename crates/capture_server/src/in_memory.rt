@@ -4,11 +4,9 @@ ghost use Rattle.record_keeper.specs.Planned.{never_fails};
 ghost use Rattle.capture_server.specs.Keepers.{AreFresh};
 
 use afp_base::OutOfMemory;
+use afp_serial::limits::MOST_VOLUMES;
 use record_keeper::MemoryKeeper;
 use std::alloc::Global;
-
-/// How many volumes there may be.
-const MOST_VOLUMES: usize = 8;
 
 /// Eight keepers in memory that hold nothing and never fail.
 pub fn memory_keepers(alloc: Global) -> Result<Vec<MemoryKeeper>, OutOfMemory>

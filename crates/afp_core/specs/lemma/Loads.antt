@@ -2,7 +2,6 @@
 use Rattle.std.specs.Prelude.{◌≡◌, ℕ, Bool, List, Option}
 use Rattle.afp_core.specs.declared.core_fault.CoreFault.{CoreFault}
 use Rattle.afp_core.specs.declared.core_fault.CoreFault.TheVariants.{Count, Load, Memory}
-use Rattle.volume_keeper.specs.declared.loading.LoadFault.TheVariants as load
 use Rattle.record_keeper.specs.Records.{Records}
 use Rattle.afp_core.specs.Loads.{IsFaultOf}
 

@@ -1,37 +1,24 @@
 -- What the code and the proofs go by beside Turn; no public contract cites it.
-use Rattle.std.specs.Prelude.{◌≡◌, ℕ, true, Some, Result, Ok, Err}
+use Rattle.std.specs.Prelude.{◌≡◌, ℕ, true, Result, Ok, Err}
 use Rattle.afp_base.specs.Cached.{Request}
 use Rattle.afp_base.specs.declared.bytes.OutOfMemory.{OutOfMemory}
 use Rattle.afp_base.specs.declared.ids.LinkNumber.{LinkNumber}
-use Rattle.afp_requests.specs.declared.call.Call.{Call}
-use Rattle.afp_core.specs.lemma.SessionList.{session_of}
-use Rattle.afp_core.specs.ServerState.{KeptWorld, ServerState}
+use Rattle.core_state.specs.KeptWorld.{KeptWorld}
+use Rattle.afp_core.specs.ServerState.{ServerState}
 use Rattle.afp_core.specs.lemma.ServerState.{kept_at}
-use Rattle.afp_serial.specs.Answer.{after_call, after_verdict, committed_by, committed_in, told_call, told_verdict, Verdict, verdict_of_row}
+use Rattle.afp_serial.specs.Answer.{after_call, committed_in, told_call}
 use Rattle.afp_serial.specs.History.{entry}
-use Rattle.afp_serial.specs.Rows.{refusal}
-use Rattle.afp_serial.specs.World.{session_at, Session}
+use Rattle.afp_serial.specs.World.{session_at}
 use Rattle.afp_serial.specs.declared.ask.Ask.{Ask}
 use Rattle.afp_serial.specs.declared.ask.Ask.TheVariants as ask
 use Rattle.afp_serial.specs.declared.ask.Outcome.{Outcome}
-use Rattle.afp_serial.specs.declared.ask.Outcome.TheVariants as outcome
 use Rattle.afp_serial.specs.declared.ask.Told.{Told}
-use Rattle.afp_core.specs.Turn.{takes_memory, Comes, RunsAsk, done, Turned, Refrains}
+use Rattle.afp_core.specs.Turn.{takes_memory, RunsAsk, Turned, Refrains}
+use Rattle.core_state.specs.Running.{Comes, done}
 
--- In all of these the world's latest moment is already the ask's.
+-- In both of these the world's latest moment is already the ask's.
 
--- a call of a session that comes to this verdict
-abbrev pub RunsVerdict : KeptWorld → Session → Verdict → Told × Outcome → KeptWorld → Type 0
-RunsVerdict k s v r new = Comes (told_verdict k.world s v r.1) (after_verdict k.world s v r.1) (committed_by k.world s v) r.1 r.0 k new
-
--- A call of a session comes to its row: what it is told with its outcome, and the world after, are the row's. Or there is no memory,
--- and nothing changes.
-abbrev pub RunsRow : KeptWorld → ℕ → Call → Result (Told × Outcome) OutOfMemory → KeptWorld → Type 0
-RunsRow k number call (Ok r) new =
-    (s : Session) → session_of k.world.sessions number ≡ Some s → RunsVerdict k s (verdict_of_row call (refusal k.world s call)) r new
-RunsRow k number call (Err e) new = new ≡ k
-
--- the same of a call on a link
+-- a call on a link comes to its steps; or there is no memory, and nothing changes
 abbrev pub RunsCall : KeptWorld → ℕ → Request → Result (Told × Outcome) OutOfMemory → KeptWorld → Type 0
 RunsCall k link q (Ok r) new =
     Comes (told_call k.world (session_at k.world link) q r.1) (after_call k.world (session_at k.world link) q r.1)

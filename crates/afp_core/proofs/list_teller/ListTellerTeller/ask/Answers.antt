@@ -8,7 +8,8 @@ use Rattle.afp_serial.specs.declared.ask.Entry.{Entry}
 use Rattle.afp_serial.proofs.Grows.{asked-adds}
 use Rattle.afp_serial.proofs.StaysSound.{answer-fits, answer-kind, stand-sound, stood-sound}
 use Rattle.afp_core.specs.Counted.{IsCounted}
-use Rattle.afp_core.specs.Places.{upto, upto-longer}
+use Rattle.afp_core.specs.Places.{upto}
+use Rattle.afp_core.specs.lemma.Places.{upto-longer}
 use Rattle.afp_core.proofs.TurnLemmas.{answer-told, turn-counted, turn-faults, turn-lawful, turn-stands, turn-tells, turn-kept}
 use Rattle.afp_core.proofs.list_teller.ListTellerTeller.ask.Goals as goal
 

@@ -5,7 +5,7 @@ use Rattle.afp_serial.specs.HouseFault.{house_fault}
 use Rattle.afp_serial.specs.Ranges.{is_typed_house}
 use Rattle.afp_serial.specs.Sound.{IsSound}
 use Rattle.afp_core.specs.Loads.{LoadEach}
-use Rattle.afp_core.specs.ServerState.{KeptWorld, volumes_of}
+use Rattle.core_state.specs.KeptWorld.{KeptWorld, volumes_of}
 use Rattle.afp_core.proofs.LoadLemmas.{loaded-serve}
 use Rattle.afp_core.proofs.turn.Core.new.Goals as goal
 

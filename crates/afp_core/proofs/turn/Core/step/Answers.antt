@@ -24,7 +24,7 @@ invariant_of-self-in_default g c =
 
 pub returns : goal.returns
 returns g c =
-    let comes = subst (λ (s : ServerState). RunsAsk (kept_at (kept_of s) c.args.now) c.args.link.0 c.args.ask (Ok (c.in_ok-told.told, c.in_ok-told.outcome)) c.turn.new.self) c.self.view_is c.in_ok-told.ensures in
+    let comes = subst (λ (s : ServerState). RunsAsk (kept_at (kept_of s) c.args.now) c.args.link.0 c.args.ask (Ok (c.in_ok-told.told, c.in_ok-told.outcome)) c.turn.new.state) c.self.view_is c.in_ok-told.ensures in
     let typed = c.entry_in_range.ensures c.in_ok-told.outcome in
     let was : c.self.inside.entries ≡ c.args.self.now.entries = ap (λ (s : ServerState). s.entries) c.self.view_is in
     let had : c.self.inside.opened ≡ c.args.self.now.opened = ap (λ (s : ServerState). s.opened) c.self.view_is in

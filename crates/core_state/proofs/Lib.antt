@@ -1,0 +1,5 @@
+pub mod SessionLemmas
+pub mod KeeperLemmas
+pub mod ForkLemmas
+pub mod RowLemmas
+pub mod OnVolumeLemmas

@@ -1,0 +1,18 @@
+//! The state of the core: volumes beside their keepers, sessions, links and open forks, and what calls on them are told.
+#![tactic(auto)]
+
+mod link_numbers;
+mod moments;
+mod on_fork;
+mod on_volume;
+mod open_volumes;
+mod replies;
+mod sessions;
+mod state;
+
+pub use link_numbers::LinkNumbers;
+pub use moments::later;
+pub use on_fork::OwnFork;
+pub use replies::{done, refused, told_changed, told_of, told_settled};
+pub use sessions::Sessions;
+pub use state::State;

@@ -1,0 +1,3 @@
+pub mod OnVolumeRows
+pub mod VolumeLemmas
+pub mod CallRows

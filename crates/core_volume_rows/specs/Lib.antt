@@ -1,0 +1,2 @@
+pub mod VolumeRows
+pub mod lemma
