@@ -18,7 +18,7 @@ use Rattle.plain_server.specs.declared.plain.PlainEnd.TheVariants as plain
 still : (before after : SinkState) (text : List ℕ) (status good : ℕ) → ((status ≡ good) × Reports before text after) ⊎ ((status ≡ 5) × ReportsPart before text after)
     → after.faults ≡ before.faults → before.faults < last_count → status ≡ good
 still before after text status good (inl told) same low = told.0
-still before after text status good (inr told) same low = absurd (omega (arith, told.1.fault.1, same, low))
+still before after text status good (inr told) same low = absurd (omega (arith, told.1.fault.2, same, low))
 
 pub by_end : {L P K : Type 0} (state : L → LinkState) (passed : P → Passed) (kept_by : Keeping K) (words : List (List ℕ)) (keepers : List K) (key : List ℕ) (clock : Option ℕ) (spoken : Spoken) (old new : DoorState L) (before after : SinkState) (status : ℕ) (end : PlainEnd)
     → EndsPlain state passed kept_by words keepers key clock old new end → Status end before after status → Asks words key spoken → length keepers ≡ length (house_of spoken key).volumes → new.faults ≡ old.faults → old.faults < last_count
@@ -30,7 +30,7 @@ by_end state passed kept_by words keepers key clock spoken old new before after 
 by_end state passed kept_by words keepers key clock spoken old new before after status (plain.LoadFailed index) e s asks many same low same_report low_report =
     inr (inl (still before after _ status 3 s same_report low_report))
 by_end state passed kept_by words keepers key clock spoken old new before after status (plain.DoorFailed counts) e s asks many same low same_report low_report =
-    absurd (omega (arith, e.1.serves.serves.fault.1, same, low))
+    absurd (omega (arith, e.1.serves.serves.fault.2, same, low))
 by_end state passed kept_by words keepers key clock spoken old new before after status (plain.Served counts) e s asks many same low same_report low_report =
     inl (still before after _ status 0 s same_report low_report)
 

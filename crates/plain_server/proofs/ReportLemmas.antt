@@ -1,5 +1,6 @@
 -- A report is written from step to step.
-use Rattle.std.proofs.Common.{◌≡◌, ℕ, ◌-◌, ◌≤◌, List, ◌++◌, length, take, drop, length-drop, length-append, Bool, true, false, refl, sym, ap, ◌∙◌, append_assoc, arith}
+use Rattle.std.proofs.Common.{◌≡◌, ℕ, ◌-◌, ◌≤◌, List, ◌++◌, length, take, drop, length-drop, length-append, Bool, true, false, refl, sym, ap, subst, ◌∙◌, append_assoc, arith}
+use Rattle.afp_base.specs.Counts.{CountsOn}
 use Rattle.std.proofs.lemmas.List.{take-append-drop, take_all}
 use Rattle.std.specs.Prelude.{Option, Some, None, option_map}
 use Rattle.afp_outside.specs.Sink.{SinkState, SinkTakes}
@@ -19,7 +20,7 @@ reports-more a b c text sent left n split so_far w = (
   split ∙ ap (λ (rest : List ℕ). sent ++ rest) (cut_at left n w.most) ∙ sym (append_assoc sent (take n left) (take (length left - n) (drop n left))),
   record {
     written = w.written ∙ ap (λ o. option_map (λ before. before ++ take n left) o) so_far.written ∙ added-added a.written sent (take n left);
-    faults = omega (arith, so_far.faults, w.faults);
+    faults = w.faults ∙ so_far.faults;
   },
 )
 
@@ -27,7 +28,7 @@ reports-more a b c text sent left n split so_far w = (
 pub reports-both : (a b c : SinkState) (x y : List ℕ) (all : Bool) → ReportsAll a x true b → ReportsAll b y all c → ReportsAll a (x ++ y) all c
 reports-both a b c x y true s t = record {
   written = t.written ∙ ap (λ o. option_map (λ before. before ++ y) o) s.written ∙ added-added a.written x y;
-  faults = omega (arith, s.faults, t.faults);
+  faults = t.faults ∙ s.faults;
 }
 reports-both a b c x y false s t = record {
   part = x ++ t.part;
@@ -35,7 +36,7 @@ reports-both a b c x y false s t = record {
   some_lost = t.some_lost;
   cut = append_assoc x t.part t.lost ∙ ap (λ (l : List ℕ). x ++ l) t.cut;
   written = t.written ∙ ap (λ o. option_map (λ before. before ++ t.part) o) s.written ∙ added-added a.written x t.part;
-  fault = (omega (arith, s.faults, t.fault.0), omega (arith, s.faults, t.fault.0, t.fault.1));
+  fault = subst (λ (n : ℕ). CountsOn 1 n c.faults) s.faults t.fault;
 }
 
 -- a report that was cut in its first part

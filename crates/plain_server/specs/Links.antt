@@ -1,6 +1,6 @@
 -- What it is to serve the links of a door, one after the other (this profile).
 use Rattle.std.specs.Prelude.{◌≡◌, ◌⊎◌, ℕ, ◌+◌, ◌≤◌, ◌-◌, ◌^◌, true, List, [], ◌∷◌, ◌++◌, length}
-use Rattle.afp_base.specs.Counts.{Rises}
+use Rattle.afp_base.specs.Counts.{CountsOn}
 use Rattle.afp_outside.specs.Gate.{Passed}
 use Rattle.afp_outside.specs.Link.{LinkState, IsFresh}
 use Rattle.afp_outside.specs.Listener.{DoorState}
@@ -39,23 +39,23 @@ pub record Serves {L P : Type 0} (state : L → LinkState) (passed : P → Passe
   pub each : ServesEach state passed house a links b
   pub handed : new.handed ≡ old.handed + length links
   pub back : new.back ≡ old.back ++ links
-  pub faults : old.faults ≤ new.faults
 
--- As many links as there should be were served, or the door was closed before.
+-- As many links as there should be were served, or the door was closed before. The door did not fail.
 pub record EndsDone {L P : Type 0} (state : L → LinkState) (passed : P → Passed) (house : Household) (limit : ℕ) (old : DoorState L) (a : Shown) (new : DoorState L) (b : Shown) : Type 0 where
   pub links : List L
   pub serves : Serves state passed house old a links new b
   pub most : length links ≤ limit
   pub all : (length links ≡ limit) ⊎ (new.closed ≡ true)
+  pub faults : new.faults ≡ old.faults
 
--- The door failed behind the links that were served, and its fault is counted.
+-- The door failed behind the links that were served: once, and its fault is counted.
 pub record EndsFailed {L P : Type 0} (state : L → LinkState) (passed : P → Passed) (house : Household) (limit : ℕ) (old : DoorState L) (a : Shown) (new : DoorState L) (b : Shown) : Type 0 where
   pub links : List L
   pub serves : Serves state passed house old a links new b
   pub most : length links + 1 ≤ limit
-  pub fault : Rises 1 old.faults new.faults
+  pub fault : CountsOn 1 old.faults new.faults
 
--- There was no memory for the last link, of which nothing was read: it was handed back as it came.
+-- There was no memory for the last link, of which nothing was read: it was handed back as it came. The door did not fail.
 pub record EndsWithoutRoom {L P : Type 0} (state : L → LinkState) (passed : P → Passed) (house : Household) (limit : ℕ) (old : DoorState L) (a : Shown) (new : DoorState L) (b : Shown) : Type 0 where
   pub links : List L
   pub last : L
@@ -63,7 +63,7 @@ pub record EndsWithoutRoom {L P : Type 0} (state : L → LinkState) (passed : P 
   pub each : ServesEach state passed house a links b
   pub handed : new.handed ≡ old.handed + length links + 1
   pub back : new.back ≡ old.back ++ (links ++ last ∷ [])
-  pub faults : old.faults ≤ new.faults
+  pub faults : new.faults ≡ old.faults
   pub most : length links + 1 ≤ limit
 
 -- Serving up to so many links, by why there were no more.
@@ -71,20 +71,3 @@ abbrev pub ServesUpTo : {L P : Type 0} → (L → LinkState) → (P → Passed) 
 ServesUpTo state passed house limit old a doors.Done new b = EndsDone state passed house limit old a new b
 ServesUpTo state passed house limit old a doors.Failed new b = EndsFailed state passed house limit old a new b
 ServesUpTo state passed house limit old a doors.Memory new b = EndsWithoutRoom state passed house limit old a new b
-
--- the next link came, was served, and was handed back
-pub record ServesOne {L P : Type 0} (state : L → LinkState) (passed : P → Passed) (house : Household) (old : DoorState L) (a : Shown) (new : DoorState L) (b : Shown) : Type 0 where
-  pub link : L
-  pub serves : ServesLink state passed house a link b
-  pub handed : new.handed ≡ old.handed + 1
-  pub back : new.back ≡ old.back ++ link ∷ []
-  pub closed : new.closed ≡ old.closed
-  pub faults : old.faults ≤ new.faults
-
--- the next link came, and there was no memory for it
-pub record HandsBack {L : Type 0} (state : L → LinkState) (old new : DoorState L) : Type 0 where
-  pub link : L
-  pub unread : IsFresh (state link)
-  pub handed : new.handed ≡ old.handed + 1
-  pub back : new.back ≡ old.back ++ link ∷ []
-  pub faults : old.faults ≤ new.faults

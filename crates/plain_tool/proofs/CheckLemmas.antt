@@ -45,7 +45,7 @@ nothing-added (Some zs) = ap Some (sym (append-nil zs))
 pub reports-both : (a b c : SinkState) (x y : List ℕ) → Reports a x b → Reports b y c → Reports a (x ++ y) c
 reports-both a b c x y r s = record {
   written = s.written ∙ ap (λ (o : Option (List ℕ)). option_map (λ before. before ++ y) o) r.written ∙ added-added a.written x y;
-  faults = omega (arith, r.faults, s.faults);
+  faults = s.faults ∙ r.faults;
 }
 
 pub part-behind : (a b c : SinkState) (x y : List ℕ) → Reports a x b → ReportsPart b y c → ReportsPart a (x ++ y) c
@@ -55,7 +55,7 @@ part-behind a b c x y r s = record {
   some_lost = s.some_lost;
   cut = append_assoc x s.part s.lost ∙ ap (λ (l : List ℕ). x ++ l) s.cut;
   written = s.written ∙ ap (λ (o : Option (List ℕ)). option_map (λ before. before ++ s.part) o) r.written ∙ added-added a.written x s.part;
-  fault = (omega (arith, r.faults, s.fault.0), omega (arith, r.faults, s.fault.1));
+  fault = subst (λ (n : ℕ). CountsOn 1 n c.faults) r.faults s.fault;
 }
 
 -- whole frames

@@ -1,7 +1,6 @@
-use Rattle.std.proofs.Common.{◌≡◌, List, ◌∷◌, ℕ, ◌≤◌, length, drop, map, ap, sym, ◌∙◌, subst, codes, string_bytes, String, Global, arith, rules}
+use Rattle.std.proofs.Common.{◌≡◌, List, ◌∷◌, ℕ, ◌≤◌, length, drop, map, ap, sym, ◌∙◌, subst, codes, string_bytes, String, Global, arith, rules, length-drop}
 use Rattle.std.specs.Fmt.{decimal}
 use Rattle.std.specs.List.{list_all}
-use Rattle.std.proofs.Common.{length-drop}
 use Rattle.std.proofs.lemmas.List.{drop-map, length-map}
 use Rattle.plain_server.proofs.VolumeWords.{are-memory, none-memory}
 use Rattle.plain_server.specs.Words.{AreMemoryVolumes, name_in, IsNumberOfLinks}
