@@ -13,7 +13,8 @@ pub use bytes::{Bytes, OutOfMemory};
 pub use code::Code;
 pub use ids::{ForkRef, LinkNumber, NodeId, SessionNumber, VolumeId};
 pub use limits::{
-    MAX_PAYLOAD, MOST_FORK_BYTES, MOST_FORKS, MOST_LOCKS, REPLAY_CACHE_SIZE, limits_are_told,
+    LAST_BYTE, MAX_PAYLOAD, MOST_FORK_BYTES, MOST_FORKS, MOST_LOCKS, MOST_OPENS, NO_LIMIT,
+    REPLAY_CACHE_SIZE, limits_are_told,
 };
 pub use moment::Moment;
 pub use scan::{Scan, Short};

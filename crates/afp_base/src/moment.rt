@@ -1,5 +1,6 @@
 //! Moments, in whole seconds.
 ghost use Rattle.std.specs.Prelude.{◌≡◌, ◌≤◌, ◌↔◌, IsSome, IfSome};
+ghost use Rattle.afp_base.specs.Limits.{last_moment};
 
 use std::marker::Model;
 
@@ -11,12 +12,13 @@ pub struct Moment(u32);
 
 impl Model for Moment {
     ghost use Rattle.std.specs.Prelude.{ℕ, ◌≤◌};
+    ghost use Rattle.afp_base.specs.Limits.{last_moment};
 
     ghost Value = { ℕ };
 
     ghost view = { λ m. m.0 };
 
-    ghost invariant = { λ m. m.0 ≤ 2147483647 };
+    ghost invariant = { λ m. m.0 ≤ last_moment };
 
     ghost inverse = { λ n. record { 0 = n } };
 }
@@ -27,7 +29,7 @@ impl Moment {
 
     /// The moment so many seconds after 2000-01-01 00:00 GMT; `None` exactly above [`Moment::LAST`].
     pub fn new(n: u32) -> Option<Moment>
-        ensures some { IsSome result ↔ (n ≤ 2147483647) }
+        ensures some { IsSome result ↔ (n ≤ last_moment) }
         ensures value { IfSome result (λ m. m ≡ n) }
     {
         if n > Moment::LAST {
@@ -39,7 +41,7 @@ impl Moment {
     /// Seconds since 2000-01-01 00:00 GMT.
     pub fn seconds(self) -> u32
         ensures value { result ≡ self }
-        ensures fits { result ≤ 2147483647 }
+        ensures fits { result ≤ last_moment }
     {
         self.0
     }

@@ -1,5 +1,6 @@
 -- Links and doors over TCP, which tell no bytes (this profile).
 use Rattle.std.specs.Prelude.{◌≡◌, ◌≢◌, ◌⊎◌, ℕ, ◌-◌, ℤ, pos, Option, Some, None, option_map, min, zero, suc}
+use Rattle.afp_base.specs.Limits.{last_moment}
 use Rattle.afp_outside.specs.Link.{LinkState}
 use Rattle.afp_outside.specs.Listener.{DoorState}
 use Rattle.afp_outside.specs.declared.listener.Accepted.{Accepted}
@@ -7,7 +8,7 @@ use Rattle.afp_outside.specs.declared.listener.Accepted.TheVariants.{Link, Close
 
 -- the moment of a Unix time in seconds: that of 2000-01-01 is 946,684,800 (AFP Reference, dates)
 abbrev pub moment_of_unix : ℕ → ℕ
-moment_of_unix seconds = min (seconds - 946684800) 2147483647
+moment_of_unix seconds = min (seconds - 946684800) last_moment
 
 -- The number of an accept's error is one of a socket alone: EINTR, EPROTO, ECONNABORTED (Linux, errno.h and accept(2)).
 abbrev pub IsOneSocket : ℤ → Type 0

@@ -27,7 +27,8 @@ use Rattle.afp_serial.proofs.VolumeStates.{IsServed, served-at}
 use Rattle.afp_serial.specs.Fork.{OpenAsked, file_asked, fork_ref, is_denied, opened_reply}
 use Rattle.afp_serial.specs.ForkBytes.{read_bytes, read_reply}
 use Rattle.afp_serial.specs.ForkLaws.{DenialIsShown, DeniesConflicts, EndIsShown, NoByteTwice, NoTwoConflict, RangesCount, RangesEnd, RangesToTop, MeetsNoneBehind, MeetsUpToTop, is_lock_range}
-use Rattle.afp_serial.specs.Lock.{last_byte, range_to}
+use Rattle.afp_serial.specs.Lock.{range_to}
+use Rattle.afp_base.specs.Limits.{last_byte}
 use Rattle.afp_serial.specs.OnFork.{bytes_of, is_met_by_other, meets_lock}
 use Rattle.afp_serial.specs.OnVolume.{opened_on}
 use Rattle.afp_serial.specs.ReplyKinds.{reply_kind}

@@ -23,7 +23,8 @@ use Rattle.afp_serial.specs.World.{Refused, CallRow, is_open, volume_at, World, 
 use Rattle.afp_serial.specs.Fork.{close_fork_row, flush_fork_row, get_fork_parms_row, lowest_free, open_fork_row, set_fork_parms_row, file_asked, is_denied, opened_reply}
 use Rattle.afp_serial.specs.ForkBytes.{read_ext_row, read_row, write_ext_row, write_row, ReadAsked, read_reply}
 use Rattle.afp_serial.specs.LawfulCall.{is_lawful_call}
-use Rattle.afp_serial.specs.Lock.{byte_range_lock_ext_row, byte_range_lock_row, last_byte, range_of}
+use Rattle.afp_serial.specs.Lock.{byte_range_lock_ext_row, byte_range_lock_row, range_of}
+use Rattle.afp_base.specs.Limits.{last_byte}
 use Rattle.afp_serial.specs.Limits.{most_sessions}
 use Rattle.afp_serial.specs.ReplyKinds.{reply_kind}
 use Rattle.afp_serial.specs.Rows.{refusal}

@@ -1,7 +1,7 @@
 -- FPByteRangeLock and FPByteRangeLockExt (AFP Reference, under these names).
 use Rattle.std.specs.Prelude.{ℕ, ℤ, pos, negsuc, zero, suc, ◌+◌, ◌==◌, nat_le, Bool, true, not, ◌&&◌, if◌then◌else◌, List, [], ◌∷◌, filter, count_by, bit_and, Option, None, Some}
 use Rattle.std.specs.List.{list_any}
-use Rattle.afp_base.specs.Limits.{most_locks}
+use Rattle.afp_base.specs.Limits.{last_byte, most_locks}
 use Rattle.afp_base.specs.Overlap.{Range}
 use Rattle.afp_base.specs.declared.code.Code.TheVariants.{LockErr, NoMoreLocks, ParamErr, RangeNotLocked, RangeOverlap}
 use Rattle.afp_replies.specs.declared.reply.Reply.{Reply}
@@ -9,10 +9,6 @@ use Rattle.afp_replies.specs.declared.reply.Reply.TheVariants.{Start, StartExt}
 use Rattle.afp_serial.specs.World.{Effect, Refusal, CallRow, plain, with_empty_reply, World, OpenFork, Lock}
 use Rattle.afp_serial.specs.ForkBytes.{is_from_end, start_in}
 use Rattle.afp_serial.specs.OnFork.{OpenFile, bytes_of, is_met_by_other, keeps_all, meets_lock, placed, row_on_fork}
-
--- the last byte that a lock can cover: 2 ^ 63 - 1 (this profile)
-abbrev pub last_byte : ℕ
-last_byte = 9223372036854775807
 
 -- a range up to a place, if neither its start nor its end passes the last byte
 abbrev pub range_to : ℕ → ℕ → Option Range

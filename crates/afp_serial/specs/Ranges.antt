@@ -1,6 +1,7 @@
 -- The ranges of numbers, as the fields of requests and of the server's setup have them (AFP Reference, "Command formats"; the setup is this profile's).
 use Rattle.std.specs.Prelude.{ℕ, ◌==◌, nat_le, Bool, true, ◌&&◌, length, Option, None, Some}
 use Rattle.std.specs.List.{list_all}
+use Rattle.afp_base.specs.Limits.{last_moment}
 use Rattle.afp_volume.specs.TypedVolume.{are_bytes, is_long, is_quad, is_word}
 use Rattle.afp_serial.specs.Household.{Household}
 use Rattle.afp_serial.specs.declared.ask.Ask.{Ask}
@@ -10,7 +11,7 @@ use Rattle.afp_serial.specs.declared.user.User.{User}
 
 -- seconds since 2000-01-01 00:00 GMT, of a moment
 abbrev pub is_moment : ℕ → Bool
-is_moment n = nat_le n 2147483647
+is_moment n = nat_le n last_moment
 
 -- The fields of what the server is set up with: a password has 8 bytes, the signature 16, the key of the session tokens 32. (Names, the
 -- message and the ids of users are small where the house has no fault.)

@@ -1,6 +1,7 @@
 -- The ranges of a volume's numbers, as its fields have them (AFP Reference, "File and directory parameters", "Date and time").
 use Rattle.std.specs.Prelude.{ℕ, ℤ, pos, negsuc, nat_le, nat_lt, Bool, ◌&&◌, List}
 use Rattle.std.specs.List.{list_all}
+use Rattle.afp_base.specs.Limits.{last_moment}
 use Rattle.afp_volume.specs.VolumeState.{Appl, Comment, Icon, Row, VolumeState}
 
 -- numbers of one byte, of two, of four, and of eight
@@ -21,8 +22,8 @@ are_bytes bytes = list_all is_byte bytes
 
 -- a date: seconds since 2000-01-01 00:00 GMT, in 32 bits with a sign
 abbrev pub is_date : ℤ → Bool
-is_date (pos n) = nat_le n 2147483647
-is_date (negsuc n) = nat_le n 2147483647
+is_date (pos n) = nat_le n last_moment
+is_date (negsuc n) = nat_le n last_moment
 
 -- the fields of a file or directory, of a comment, of an icon, and of an APPL mapping
 abbrev pub is_typed_row : Row → Bool

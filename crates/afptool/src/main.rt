@@ -1,15 +1,13 @@
 //! The tool: it replays captures, and checks streams of frames, from the standard input.
 #![tactic(auto)]
 
+use afp_base::NO_LIMIT;
 use afp_outside::{StdSink, StdSource};
 use capture_server::memory_keepers;
 use plain_tool::afptool_plain;
 use std::io::ErrorKind;
 use std::process::ExitCode;
 use std::{env, io};
-
-/// The most bytes that are read: more than can come.
-const TURNS: u64 = (1 << 63) - 1;
 
 /// The exit status for want of memory.
 const NO_MEMORY: u8 = 6;
@@ -49,7 +47,7 @@ fn run(rt: &HostRuntime) -> u8 {
                 keepers,
                 &mut source,
                 &mut out,
-                TURNS,
+                NO_LIMIT,
             )
         }
         Err(status) => status,

@@ -1,6 +1,7 @@
 -- The forms of a capture's lines (docs/CAPTURES.md; this profile).
 use Rattle.std.specs.Prelude.{ℕ, ◌&&◌, nat_le, nat_lt, if◌then◌else◌, List, length, codes, bytes_eq, Option, Some, None, option_map}
 use Rattle.std.specs.List.{list_all, list_any, before_first, after_first}
+use Rattle.afp_base.specs.Limits.{last_moment}
 use Rattle.capture_lines.specs.Fields.{is_space, is_colon, is_ascii, is_word, number_in, hex_in, sized_in, filled}
 use Rattle.capture_lines.specs.declared.line.Line.{Line}
 use Rattle.capture_lines.specs.declared.line.Line.TheVariants as lines
@@ -14,10 +15,6 @@ longest_line = 300000
 -- the last number of a connection
 abbrev pub last_link : ℕ
 last_link = 1000
-
--- the last moment, in seconds since 2000-01-01 00:00 GMT
-abbrev pub last_moment : ℕ
-last_moment = 2147483647
 
 -- a name: one word
 abbrev pub name_in : List ℕ → Option (List ℕ)

@@ -2,7 +2,8 @@
 ghost use Rattle.std.specs.Prelude.{◌≡◌, IfOk};
 ghost use Rattle.std.specs.List.{before_first, after_first};
 ghost use Rattle.capture_lines.specs.Fields.{is_space, number_in};
-ghost use Rattle.capture_lines.specs.Lines.{link_in, last_moment, bytes_in, what_in, moment_then, event_in};
+ghost use Rattle.capture_lines.specs.Lines.{link_in, bytes_in, what_in, moment_then, event_in};
+ghost use Rattle.afp_base.specs.Limits.{last_moment};
 
 use crate::hexadecimal::bytes_of;
 use crate::limits::LAST_LINK;

@@ -16,7 +16,7 @@ use afp_base::{Moment, OutOfMemory};
 use afp_core::{Core, CoreFault, ListTeller};
 use afp_serial::House;
 use afp_server::Tally;
-use capture_lines::What;
+use capture_lines::{LAST_LINK, What};
 use record_keeper::Keeper;
 use std::alloc::Global;
 use std::marker::Model;
@@ -53,8 +53,8 @@ impl<K: Keeper> Model for Running<K> {
     ghost invariant = { λ r. NeverFails (start_of r.teller) };
 }
 
-/// As many connections as there may be.
-const CONNECTIONS: usize = 1000;
+/// As many connections as there may be, one of each number.
+const CONNECTIONS: usize = LAST_LINK as usize;
 
 /// As many connections as there may be, none of which was named.
 fn no_connections(alloc: Global) -> Result<Vec<Connection>, OutOfMemory>

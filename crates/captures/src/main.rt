@@ -4,6 +4,7 @@
 //! `same`; or how else the replay ended.
 #![tactic(auto)]
 
+use afp_base::NO_LIMIT;
 use afp_outside::StdSource;
 use capture_log::{ReplayEnd, replay};
 use capture_server::memory_keepers;
@@ -11,14 +12,11 @@ use std::fs::File;
 use std::io;
 use std::io::{BufRead, BufReader};
 
-/// The most bytes that are read of one: more than it has.
-const TURNS: u64 = (1 << 63) - 1;
-
 /// Replays the capture in a file, over keepers in memory.
 fn replay_file(rt: &HostRuntime, name: &str) -> io::Result<ReplayEnd> {
     let mut source = StdSource::new(File::open(rt, name)?);
     match memory_keepers(rt.alloc()) {
-        Ok(keepers) => Ok(replay(rt.alloc(), keepers, &mut source, TURNS)),
+        Ok(keepers) => Ok(replay(rt.alloc(), keepers, &mut source, NO_LIMIT)),
         Err(_) => Ok(ReplayEnd::Memory),
     }
 }

@@ -14,7 +14,8 @@ use Rattle.afp_base.specs.Limits.{most_fork_bytes}
 use Rattle.afp_serial.specs.Answer.{refusal_reply}
 use Rattle.afp_serial.specs.World.{plain}
 use Rattle.afp_serial.specs.ForkBytes.{is_from_end, start_in}
-use Rattle.afp_serial.specs.Lock.{has_lock, last_byte, lock_asked, locked, locking_refusals, locks, locks_range, range_asked, range_of, range_refusals, range_to, unlocked}
+use Rattle.afp_serial.specs.Lock.{has_lock, lock_asked, locked, locking_refusals, locks, locks_range, range_asked, range_of, range_refusals, range_to, unlocked}
+use Rattle.afp_base.specs.Limits.{last_byte}
 use Rattle.afp_serial.specs.OnFork.{OpenFile, bytes_of}
 use Rattle.afp_serial.specs.Rows.{ends_session, row}
 use Rattle.afp_serial.specs.declared.ask.Outcome.{Outcome}

@@ -16,7 +16,7 @@ ghost use Rattle.core_state.specs.Running.{IsReady, RunsRow};
 ghost use Rattle.open_forks.specs.Forks.{LocksRange, UnlocksRange};
 
 use crate::on_bytes::{is_from_end, number_block, start_on};
-use afp_base::{Bytes, Code, ForkRef, OutOfMemory, SessionNumber};
+use afp_base::{Bytes, Code, ForkRef, LAST_BYTE, OutOfMemory, SessionNumber};
 use afp_serial::{Outcome, Told};
 use core_state::{State, done, refused};
 use deny_modes::ForkKey;
@@ -27,9 +27,6 @@ use std::alloc::Global;
 
 /// The flag that unlocks (AFP Reference, "FPByteRangeLock").
 const UNLOCK: u8 = 0x01;
-
-/// The last byte that a lock can cover (this profile).
-const LAST_BYTE: u64 = 9_223_372_036_854_775_807;
 
 /// A length of which all bits are set: up to the last byte.
 const TO_LAST_BYTE: i64 = -1;

@@ -1,4 +1,5 @@
 -- A call of a session comes to its row: what is told, the world after, and the keepers' counts (this profile).
+use Rattle.afp_base.specs.Limits.{most_opens}
 use Rattle.afp_base.specs.declared.bytes.OutOfMemory.{OutOfMemory}
 use Rattle.core_state.specs.KeeperFaults.{KeepersRise, SureStand, failed_keeper}
 use Rattle.core_state.specs.KeptWorld.{KeptWorld}
@@ -23,7 +24,7 @@ pub record IsReady (w : World) : Type 0 where
   pub link : IsNextFree w
   pub opens : has_lawful_opens w ≡ true
   pub locks : has_lawful_locks w ≡ true
-  pub few : length w.opens < 65535
+  pub few : length w.opens < most_opens
 
 -- An outcome that may come where this keeper or none is committed to, with what is told then, the next world, and what became of the
 -- keepers' counts: a fault is one that this keeper counted.

@@ -2,7 +2,7 @@
 use crate::keys::{fork, mode, range, reference};
 use crate::line::{Kind, Line};
 use crate::locks::{lock_word, unlock_word};
-use afp_base::{ForkRef, SessionNumber, VolumeId};
+use afp_base::{ForkRef, MOST_OPENS, SessionNumber, VolumeId};
 use fork_table::{ForkTable, OpenFault};
 
 /// Why a fork is not opened.
@@ -17,7 +17,7 @@ pub fn fault_word(fault: OpenFault) -> &'static str {
 /// Opens a fork for a session.
 pub fn open(table: &mut ForkTable, line: &Line<'_>) -> Result<ForkRef, OpenFault> {
     let [session, node, bits, _] = line.numbers;
-    if table.count() >= 65535 {
+    if table.count() >= MOST_OPENS {
         return Err(OpenFault::TooMany);
     }
     table.open(SessionNumber(session), fork(node), mode(bits))

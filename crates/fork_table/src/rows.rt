@@ -5,6 +5,7 @@ ghost use Rattle.std.specs.List.Sorted.{IsStrictlySortedBy};
 ghost use Rattle.std.specs.Map.{keys_of, remove_entry};
 ghost use Rattle.std.specs.BTreeMap.{insert_entry, is_at};
 ghost use Rattle.std.specs.Ordering.{nat_cmp};
+ghost use Rattle.afp_base.specs.Limits.{most_opens};
 ghost use Rattle.deny_modes.specs.Opens.{in_exchange};
 ghost use Rattle.fork_table.specs.ForkTable.{IsLowestFree, exchange_row, is_open};
 ghost use Rattle.fork_table.specs.lemma.Own.{AreOwn};
@@ -20,7 +21,7 @@ use sorted_map::SortedMap;
 pub(crate) fn lowest_free(rows: &[(u16, OpenFork)]) -> u16
     requires order { IsStrictlySortedBy nat_cmp (keys_of rows.now) }
     requires from_one { list_all (λ row. nat_lt 0 row.0) rows.now ≡ true }
-    requires room { length rows.now < 65535 }
+    requires room { length rows.now < most_opens }
     ensures { IsLowestFree rows.now result }
 {
     let mut low = 0;

@@ -1,6 +1,7 @@
 //! The table of the open forks.
 ghost use Rattle.std.specs.Prelude.{◌≡◌, ◌<◌, ◌==◌, not, [], length, map, filter, option_copied, option_map, IfSome, IsSome};
 ghost use Rattle.std.specs.Ordering.{nat_cmp};
+ghost use Rattle.afp_base.specs.Limits.{most_opens};
 ghost use Rattle.deny_modes.specs.Opens.{has_conflict, is_fork_open};
 ghost use Rattle.range_locks.specs.Locks.{SetsLock, TakesLock, is_met_by_other, without_holder, exchanged_locks};
 ghost use Rattle.sorted_map.specs.Entries.{at};
@@ -69,7 +70,7 @@ impl ForkTable {
         fork: ForkKey,
         mode: Mode,
     ) -> Result<ForkRef, OpenFault>
-        requires { length self.old.opens < 65535 }
+        requires { length self.old.opens < most_opens }
         ensures { OpensFork self.old s fork mode result self.new }
     {
         if !self.opens.may_open(&fork, &mode) {

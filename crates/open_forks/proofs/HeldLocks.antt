@@ -14,7 +14,8 @@ use Rattle.afp_base.specs.declared.code.Code.TheVariants.{LockErr, NoMoreLocks, 
 use Rattle.afp_serial.specs.World.{Refused, plain, is_open, World, OpenFork, Lock}
 use Rattle.afp_serial.specs.ForkLaws.{MeetsNoneBehind, MeetsUpToTop, is_lock_range}
 use Rattle.afp_serial.specs.Fork.{with_open}
-use Rattle.afp_serial.specs.Lock.{has_lock, has_most_locks, is_lock, is_met_by_own, last_byte, locking_refusals, with_lock}
+use Rattle.afp_serial.specs.Lock.{has_lock, has_most_locks, is_lock, is_met_by_own, locking_refusals, with_lock}
+use Rattle.afp_base.specs.Limits.{last_byte}
 use Rattle.afp_serial.specs.OnFork.{is_locked, is_met_by_other, meets_lock}
 use Rattle.afp_serial.specs.Sound.{share_fork}
 use Rattle.fork_table.specs.ForkTable as table

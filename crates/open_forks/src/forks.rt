@@ -1,11 +1,12 @@
 //! The open forks of all sessions, with their locks.
 ghost use Rattle.std.specs.Prelude.{◌≡◌, ◌==◌, ◌<◌, ◌&&◌, [], not, true, length, option_map, IfSome};
+ghost use Rattle.afp_base.specs.Limits.{most_opens};
 ghost use Rattle.afp_serial.specs.OnFork.{is_locked, own_fork};
 ghost use Rattle.afp_serial.specs.OnVolume.{opened_on};
 ghost use Rattle.afp_serial.specs.World.{is_open, World, Session, OpenFork as Opened};
 ghost use Rattle.open_forks.specs.Forks.{AllHeld, HasForks, LocksRange, OpensFork, UnlocksRange, left_of, open_of, shown_opens};
 
-use afp_base::{ForkRef, SessionNumber, VolumeId};
+use afp_base::{ForkRef, LAST_BYTE, SessionNumber, VolumeId};
 use afp_serial::fork_laws::{forks_are_shared_by_their_rules, references_are_lowest};
 use deny_modes::{ForkKey, Mode, VolumeOpens};
 use fork_table::{ForkTable, OpenFault, OpenFork};
@@ -68,7 +69,7 @@ impl OpenForks {
         fork: ForkKey,
         mode: Mode,
     ) -> Result<ForkRef, OpenFault>
-        requires { length self.old.opens < 65535 }
+        requires { length self.old.opens < most_opens }
         ensures { (w : World) (x : Session) → HasForks w self.old → x.number ≡ s.0 → OpensFork w x self.old fork mode result self.new }
     {
         references_are_lowest();
@@ -114,12 +115,10 @@ impl OpenForks {
         if count == 0 {
             return false;
         }
-        if from > 9_223_372_036_854_775_807 {
+        if from > LAST_BYTE {
             return false;
         }
-        let to = from
-            .saturating_add(count - 1)
-            .min(9_223_372_036_854_775_807);
+        let to = from.saturating_add(count - 1).min(LAST_BYTE);
         self.table.blocks(r, &Range { from, to })
     }
 

@@ -4,13 +4,11 @@ ghost use Rattle.afp_serial.specs.Shown.{IsSoundShown};
 ghost use Rattle.plain_server.specs.Links.{ServesUpTo};
 ghost use Rattle.plain_server.specs.lemma.Links.{ServesNext};
 
+use afp_base::NO_LIMIT;
 use afp_outside::{Accepted, Gate, Listener};
 use afp_serial::{House, Teller};
 use afp_server::LinkRoom;
 use std::alloc::Global;
-
-/// The limit of the bytes and quiets of a link: none that a link can reach.
-pub const NO_LIMIT: u64 = (1 << 63) - 1;
 
 /// Why no more links are served.
 #[derive(Clone, Copy)]

@@ -4,15 +4,13 @@
 //! printed, then what the tool prints, and its exit status.
 #![tactic(auto)]
 
+use afp_base::NO_LIMIT;
 use afp_outside::{StdSink, StdSource};
 use capture_server::memory_keepers;
 use plain_tool::afptool_plain;
 use std::fs::File;
 use std::io;
 use std::io::{BufRead, BufReader, ErrorKind};
-
-/// The most bytes that are read of a file: more than it has.
-const TURNS: u64 = (1 << 63) - 1;
 
 /// The words of a line.
 fn words_of(rt: &HostRuntime, line: &str) -> io::Result<Vec<String>> {
@@ -30,7 +28,7 @@ fn run(rt: &HostRuntime, words: &[String], name: &str) -> io::Result<u8> {
     };
     let mut source = StdSource::new(File::open(rt, name)?);
     let mut out = StdSink::new(rt);
-    Ok(afptool_plain(rt.alloc(), words, keepers, &mut source, &mut out, TURNS))
+    Ok(afptool_plain(rt.alloc(), words, keepers, &mut source, &mut out, NO_LIMIT))
 }
 
 /// Prints a line, what the tool prints, and its exit status.

@@ -14,13 +14,14 @@ pub struct Range {
 
 impl Model for Range {
     ghost use Rattle.std.specs.Prelude.{◌≤◌};
+    ghost use Rattle.afp_base.specs.Limits.{last_byte};
     ghost use Rattle.afp_base.specs.Overlap.{Range as Bytes};
 
     ghost Value = { Bytes };
 
     ghost view = { λ r. record { from = r.from; to = r.to } };
 
-    ghost invariant = { λ r. (r.from ≤ r.to) × (r.to ≤ 9223372036854775807) };
+    ghost invariant = { λ r. (r.from ≤ r.to) × (r.to ≤ last_byte) };
 
     ghost inverse = { λ b. record { from = b.from; to = b.to } };
 }

@@ -14,7 +14,7 @@ use crate::head::{Dates, VolumeHead};
 use afp_base::{Moment, NodeId, OutOfMemory};
 use afp_names::Name;
 use afp_volume::laws::fresh_volumes_are_sound;
-use afp_volume::limits::NEVER;
+use afp_volume::limits::{NEVER, ROOT_ID, ROOT_PARENT_ID};
 use fork_bytes::Fork;
 use node_rows::{Node, Rows};
 use sorted_map::SortedMap;
@@ -22,9 +22,9 @@ use std::alloc::Global;
 use std::marker::Model;
 
 /// The id of the root directory, and that of its parent (AFP Reference, "Directory IDs").
-pub(crate) const ROOT: NodeId = NodeId(2);
+pub(crate) const ROOT: NodeId = NodeId(ROOT_ID);
 
-pub(crate) const ROOT_PARENT: NodeId = NodeId(1);
+pub(crate) const ROOT_PARENT: NodeId = NodeId(ROOT_PARENT_ID);
 
 /// A volume: its name and dates, its files and directories, and their forks; and room for more nodes.
 ///

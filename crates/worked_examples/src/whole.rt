@@ -6,13 +6,10 @@ use crate::fault::CaseFault;
 use crate::frames::put_bad;
 use crate::server::{Server, put_counts};
 use crate::words::{bytes_of, word_of};
-use afp_base::{Bytes, Moment, OutOfMemory};
+use afp_base::{Bytes, Moment, NO_LIMIT, OutOfMemory};
 use afp_outside::{OpenGate, TapeLink};
 use afp_server::{LinkEnd, serve_link};
 use std::alloc::Global;
-
-/// The most turns that a link may be given.
-const TURNS: u64 = (1 << 63) - 1;
 
 fn coming_of(alloc: Global, bytes: &[u8]) -> Result<Bytes, OutOfMemory> {
     let mut coming = Bytes::new(alloc);
@@ -68,7 +65,7 @@ fn serve(
         &mut link,
         &mut server.teller,
         &OpenGate,
-        TURNS,
+        NO_LIMIT,
     );
     run_text(alloc, link.written(), end)
 }
