@@ -20,15 +20,17 @@ use Rattle.afp_base.specs.declared.code.Code.TheVariants.{NoMoreSessions}
 use Rattle.afp_serial.specs.History.{answers, entry, fault_of, faults_in, is_lawful, is_opened, opened_in, stand}
 use Rattle.afp_serial.specs.Ranges.{is_typed_entry}
 use Rattle.afp_serial.specs.World.{has_session, session_at, World, Session, at_moment}
-use Rattle.afp_serial.specs.Sound.{IsSound, has_apart_sessions, has_lawful_locks, has_lawful_opens, is_link_below}
+use Rattle.afp_serial.specs.Sound.{IsSound, has_apart_sessions, is_link_below}
 use Rattle.afp_serial.proofs.Grows.{lawful-snoc, stand-append}
 use Rattle.afp_core.specs.Counted.{IsCounted}
 use Rattle.core_state.specs.KeeperFaults.{KeepersRise, SureStand, failed_keeper}
 use Rattle.afp_core.specs.ServerState.{ServerState}
-use Rattle.afp_core.specs.lemma.ServerState.{kept_at, kept_of}
+use Rattle.core_asks.specs.Asks.{kept_at}
+use Rattle.afp_core.specs.lemma.ServerState.{kept_of}
 use Rattle.afp_core.specs.Sureness.{SureKept}
 use Rattle.core_state.specs.Running.{IsNextFree, IsReady}
-use Rattle.afp_core.specs.Turn.{RunsAsk, TakesTurn, Turned}
+use Rattle.core_asks.specs.Asks.{RunsAsk}
+use Rattle.afp_core.specs.Turn.{TakesTurn, Turned}
 
 -- the next link number is no session's
 below-fresh : (xs : List Session) (n : ℕ) → list_all (λ s. nat_lt s.number n && is_link_below n s.place) xs ≡ true → has_session xs n ≡ false
@@ -46,10 +48,6 @@ next-free w sound = below-fresh w.sessions w.next_link (and_parts _ _ (and_parts
 -- a sound world is ready for a turn; no field of it is the latest moment
 pub ready : (w : World) → OpensAreFew → IsSound w → IsReady w
 ready w few sound = record { link = next-free w sound; opens = sound.opens; locks = sound.locks; few = omega (arith, few w sound) }
-
-pub ready-at : (w : World) (latest : ℕ) → IsReady w → IsReady (record w { latest = latest })
-unfolding has_lawful_opens has_lawful_locks
-ready-at w latest h = record { link = h.link; opens = h.opens; locks = h.locks; few = h.few }
 
 -- an entry is never told Memory
 abbrev pub is_memory : Told → Bool

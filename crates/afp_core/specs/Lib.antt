@@ -1,6 +1,5 @@
 pub mod ServerState
 pub mod Loads
-pub mod Retiring
 pub mod Turn
 pub mod Counted
 pub mod Sureness

@@ -1,12 +1,10 @@
 -- One turn (this profile).
-use Rattle.std.specs.Prelude.{◌≡◌, ℕ, Bool, true, false, [], ◌∷◌, count_by, Result, Ok, Err}
+use Rattle.std.specs.Prelude.{◌≡◌, ℕ, true, [], ◌∷◌, count_by}
 use Rattle.afp_base.specs.Counts.{counted}
-use Rattle.afp_base.specs.declared.bytes.OutOfMemory.{OutOfMemory}
 use Rattle.afp_base.specs.declared.ids.LinkNumber.{LinkNumber}
 use Rattle.core_state.specs.KeeperFaults.{KeepersRise, SureStand, failed_keeper}
-use Rattle.core_state.specs.KeptWorld.{KeptWorld}
 use Rattle.afp_core.specs.ServerState.{ServerState}
-use Rattle.afp_serial.specs.Answer.{answer, answer_at, after, after_at, committed_at, committed_of, is_legal}
+use Rattle.afp_serial.specs.Answer.{answer, after, committed_of, is_legal}
 use Rattle.afp_serial.specs.History.{entry, is_opened}
 use Rattle.afp_serial.specs.declared.ask.Ask.{Ask}
 use Rattle.afp_serial.specs.declared.ask.Ask.TheVariants as ask
@@ -14,26 +12,6 @@ use Rattle.afp_serial.specs.declared.ask.Entry.{Entry}
 use Rattle.afp_serial.specs.declared.ask.Outcome.{Outcome}
 use Rattle.afp_serial.specs.declared.ask.Told.{Told}
 use Rattle.afp_serial.specs.declared.ask.Told.TheVariants.{Opened, Reply, Live, Done, Displaced, Memory}
-use Rattle.core_state.specs.Running.{Comes, done}
-
--- the asks that take memory
-abbrev pub takes_memory : Ask → Bool
-takes_memory (ask.Open attention) = true
-takes_memory (ask.Call id write offset payload) = true
-takes_memory ask.Pulse = false
-takes_memory ask.Bye = false
-takes_memory ask.Lost = false
-takes_memory ask.Drain = false
-
--- An ask at the latest moment: an outcome that may come, with what is told then and the world after it; or there is no memory, and nothing changes.
-abbrev pub RunsAsk : KeptWorld → ℕ → Ask → Result (Told × Outcome) OutOfMemory → KeptWorld → Type 0
-RunsAsk k link ask (Ok r) new = Comes (answer_at k.world link ask r.1) (after_at k.world link ask r.1) (committed_at k.world link ask) r.1 r.0 k new
-RunsAsk k link ask (Err e) new = (takes_memory ask ≡ true) × (new ≡ k)
-
--- an Open
-abbrev pub RunsOpen : KeptWorld → Result Told OutOfMemory → KeptWorld → Type 0
-RunsOpen k (Ok told) new = (link attention : ℕ) → RunsAsk k link (ask.Open attention) (Ok (done told)) new
-RunsOpen k (Err e) new = new ≡ k
 
 -- An entry that is legal, with its serial answer, and the world after it. The counts go on, and a fault is one that the keeper of the row's
 -- volume counted.

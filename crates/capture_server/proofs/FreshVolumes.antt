@@ -5,11 +5,12 @@ use Rattle.std.specs.FinMap.{len-empty, len-entries}
 use Rattle.std.specs.Prelude.{map as mapped, slice_get, Option, IfSome}
 use Rattle.std.specs.Cmp.Lexicographic.{slice_cmp}
 use Rattle.std.specs.Ordering.{nat_cmp}
-use Rattle.afp_core.specs.Loads.{LoadEach, IsLoadedServer, IsCoreFault, IsFaultOf, StopsAt}
+use Rattle.core_keepers.specs.Loads.{LoadEach, IsCoreFault, IsFaultOf, StopsAt}
+use Rattle.afp_core.specs.Loads.{IsLoadedServer}
 use Rattle.afp_core.specs.ServerState.{ServerState}
 use Rattle.core_state.specs.KeptWorld.{volumes_of}
-use Rattle.afp_core.specs.declared.core_fault.CoreFault.{CoreFault}
-use Rattle.afp_core.specs.declared.core_fault.CoreFault.TheVariants as cores
+use Rattle.core_keepers.specs.declared.core_fault.CoreFault.{CoreFault}
+use Rattle.core_keepers.specs.declared.core_fault.CoreFault.TheVariants as cores
 use Rattle.afp_serial.specs.Household.{Household}
 use Rattle.afp_serial.specs.World.{fresh_world, start_world}
 use Rattle.afp_volume.specs.VolumeState.{VolumeState, fresh_volume}

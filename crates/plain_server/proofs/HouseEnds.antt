@@ -5,7 +5,8 @@ use Rattle.std.specs.List.{list_all}
 use Rattle.std.proofs.lemmas.Bool.{and_from, and_parts}
 use Rattle.std.proofs.lemmas.List.{length-map}
 use Rattle.afp_base.specs.Counts.{counted}
-use Rattle.afp_core.specs.Loads.{IsLoadedServer, LoadEach}
+use Rattle.afp_core.specs.Loads.{IsLoadedServer}
+use Rattle.core_keepers.specs.Loads.{LoadEach}
 use Rattle.afp_core.specs.ServerState.{ServerState}
 use Rattle.afp_core.specs.Sureness.{SureKept}
 use Rattle.afp_core.specs.declared.counts.Counts.{Counts}

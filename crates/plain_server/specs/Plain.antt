@@ -5,7 +5,7 @@ use Rattle.hex.specs.Hex.{encode_lower}
 use Rattle.kept_volume.specs.Kept.{KeptState}
 use Rattle.volume_keeper.specs.declared.loading.LoadFault.{LoadFault}
 use Rattle.volume_keeper.specs.declared.loading.LoadFault.TheVariants as load
-use Rattle.afp_core.specs.Loads.{LoadEach, StopsAt}
+use Rattle.core_keepers.specs.Loads.{LoadEach, StopsAt}
 use Rattle.afp_core.specs.ServerState.{ServerState}
 use Rattle.core_state.specs.KeptWorld.{volumes_of}
 use Rattle.afp_core.specs.Sureness.{SureKept}
