@@ -1,3 +1,2 @@
-pub mod OnForkBytes
 pub mod Opening
 pub mod SettingLength

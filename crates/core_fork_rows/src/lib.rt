@@ -1,12 +1,8 @@
-//! The rows of calls on open forks.
+//! The rows of calls on open forks: they are opened and closed, and their parameters are told and set.
 #![tactic(auto)]
 
-pub mod byte_range_lock;
 pub mod close_fork;
 pub mod flush_fork;
 pub mod get_fork_parms;
-mod on_bytes;
 pub mod open_fork;
-pub mod read;
 pub mod set_fork_parms;
-pub mod write;

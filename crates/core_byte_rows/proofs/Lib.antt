@@ -1,0 +1,3 @@
+pub mod ForkBytesLemmas
+pub mod ForkWriteLemmas
+pub mod ForkLockLemmas
