@@ -43,7 +43,7 @@ impl<K: Keeper> ListTeller<K> {
         }
     }
 
-    /// The history.
+    /// Every entry, the oldest first.
     pub fn entries(&self) -> &[Entry]
         ensures { result.now ≡ history_of self.now }
     {

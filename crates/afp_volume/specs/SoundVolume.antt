@@ -78,6 +78,7 @@ longest_comment = 199
 abbrev pub longest_icon : ℕ
 longest_icon = 65535
 
+-- the next id where all ids of 4 bytes have been given
 abbrev pub last_next_id : ℕ
 last_next_id = 2 ^ 32
 

@@ -2,6 +2,7 @@
 use Rattle.std.specs.Prelude.{ℕ, ℤ, pos, negsuc, nat_le, nat_lt, Bool, ◌&&◌, List}
 use Rattle.std.specs.List.{list_all}
 use Rattle.afp_base.specs.Limits.{last_moment}
+use Rattle.afp_volume.specs.SoundVolume.{last_next_id}
 use Rattle.afp_volume.specs.VolumeState.{Appl, Comment, Icon, Row, VolumeState}
 
 -- numbers of one byte, of two, of four, and of eight
@@ -48,14 +49,14 @@ is_typed_icon icon = are_bytes icon.creator && (are_bytes icon.kind && (is_byte 
 abbrev pub is_typed_appl : Appl → Bool
 is_typed_appl appl = are_bytes appl.creator && (is_long appl.node && is_long appl.tag)
 
--- the fields of a volume; its next id is at most 2 ^ 32, where the ids have ended
+-- the fields of a volume
 unfoldable pub is_typed_volume : VolumeState → Bool
 is_typed_volume v =
     are_bytes v.name
     && (is_date v.created
     && (is_date v.modified
     && (is_date v.backup
-    && (nat_le v.next_id 4294967296
+    && (nat_le v.next_id last_next_id
     && (list_all is_typed_row v.rows
     && (list_all is_typed_comment v.comments
     && (list_all is_typed_icon v.icons

@@ -1,6 +1,6 @@
 //! The numbers of a volume that code above goes by.
 ghost use Rattle.std.specs.Prelude.{◌≡◌};
-ghost use Rattle.afp_volume.specs.SoundVolume.{dir_attributes, file_attributes, longest_comment, longest_icon, most_appls, most_icons, most_nodes};
+ghost use Rattle.afp_volume.specs.SoundVolume.{dir_attributes, file_attributes, last_next_id, longest_comment, longest_icon, most_appls, most_icons, most_nodes};
 ghost use Rattle.afp_volume.specs.VolumeState.{first_id, root_id, root_parent};
 
 /// The id of the root (AFP Reference, "Directory IDs").
@@ -11,6 +11,9 @@ pub const ROOT_PARENT_ID: u32 = 1;
 
 /// The first id of other nodes (AFP Reference, "Directory IDs").
 pub const FIRST_ID: u32 = 17;
+
+/// The next id where all ids of 4 bytes have been given.
+pub const LAST_NEXT_ID: u64 = 4_294_967_296;
 
 /// The date of what never happened (AFP Reference, "Date and time").
 pub const NEVER: i32 = -2_147_483_648;
@@ -41,6 +44,7 @@ pub fn limits_are_told()
     ensures root { ROOT_ID ≡ root_id }
     ensures parent { ROOT_PARENT_ID ≡ root_parent }
     ensures first { FIRST_ID ≡ first_id }
+    ensures last { LAST_NEXT_ID ≡ last_next_id }
     ensures files { FILE_ATTRIBUTES ≡ file_attributes }
     ensures directories { DIRECTORY_ATTRIBUTES ≡ dir_attributes }
     ensures nodes { MOST_NODES ≡ most_nodes }

@@ -15,6 +15,7 @@ use crate::settings::Settings;
 use crate::volume::{Volume, next_of};
 use afp_base::{Moment, NodeId};
 use afp_names::Name;
+use afp_volume::limits::LAST_NEXT_ID;
 use fork_bytes::Fork;
 use node_rows::{Marks, Node, Rows};
 use std::marker::Model;
@@ -244,7 +245,7 @@ fn next_after(come: &Option<Comer>, rows: &Rows) -> u64
     match come {
         Some(_) => match rows.next_id() {
             Some(id) => u64::from(id.0) + 1,
-            None => 4_294_967_297,
+            None => LAST_NEXT_ID + 1,
         },
         None => next_of(rows),
     }

@@ -14,7 +14,7 @@ use crate::head::{Dates, VolumeHead};
 use afp_base::{Moment, NodeId, OutOfMemory};
 use afp_names::Name;
 use afp_volume::laws::fresh_volumes_are_sound;
-use afp_volume::limits::{NEVER, ROOT_ID, ROOT_PARENT_ID};
+use afp_volume::limits::{LAST_NEXT_ID, NEVER, ROOT_ID, ROOT_PARENT_ID};
 use fork_bytes::Fork;
 use node_rows::{Node, Rows};
 use sorted_map::SortedMap;
@@ -82,13 +82,13 @@ fn name_of(alloc: Global, text: &str) -> Result<Name, OutOfMemory>
     }
 }
 
-/// The next node id of rows, 4,294,967,296 where the ids have ended.
+/// The next node id of rows, [`LAST_NEXT_ID`] where the ids have ended.
 pub(crate) fn next_of(rows: &Rows) -> u64
     ensures { result ≡ rows.now.next_id }
 {
     match rows.next_id() {
         Some(id) => u64::from(id.0),
-        None => 4_294_967_296,
+        None => LAST_NEXT_ID,
     }
 }
 
