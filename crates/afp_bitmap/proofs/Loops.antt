@@ -8,28 +8,28 @@ use Rattle.afp_bitmap.specs.Field.{Field, fixed_bytes}
 use Rattle.afp_bitmap.specs.Params.{asked_of}
 use Rattle.afp_bitmap.specs.Table.{FieldRow}
 use Rattle.afp_base.specs.Appended.{Keeps}
-use Rattle.afp_bitmap.specs.lemma.Writing.{Spots, noted, all_noted}
+use Rattle.afp_bitmap.specs.lemma.Writing.{NameSpots, noted, all_noted}
 use Rattle.afp_bitmap.proofs.Asked.{asked_none, asked_yes, asked_no}
 
 pub concat-append : (xs ys : List (List ℕ)) → concat (xs ++ ys) ≡ concat xs ++ concat ys
 concat-append [] ys = refl
 concat-append (x ∷ xs) ys = ap (λ (r : List ℕ). x ++ r) (concat-append xs ys) ∙ sym (append_assoc x (concat xs) (concat ys))
 
-pub noted_none : (at : ℕ) (s : Spots) → all_noted at [] s ≡ s
+pub noted_none : (at : ℕ) (s : NameSpots) → all_noted at [] s ≡ s
 unfolding all_noted
 noted_none at s = refl
 
-pub noted_more : (at : ℕ) (f : Field) (fs : List Field) (s : Spots) → all_noted at (f ∷ fs) s ≡ all_noted (at + length (fixed_bytes 0 f)) fs (noted at f s)
+pub noted_more : (at : ℕ) (f : Field) (fs : List Field) (s : NameSpots) → all_noted at (f ∷ fs) s ≡ all_noted (at + length (fixed_bytes 0 f)) fs (noted at f s)
 unfolding all_noted
 noted_more at f fs s = refl
 
 -- with the rows to come the fixed part of the block that begins at `base` is whole, and all names are noted
-pub record Goes (bits : ℕ) (rs : List FieldRow) (base : ℕ) (out : List ℕ) (spots : Spots) (whole : List ℕ) (all : Spots) : Type 0 where
+pub record Goes (bits : ℕ) (rs : List FieldRow) (base : ℕ) (out : List ℕ) (spots : NameSpots) (whole : List ℕ) (all : NameSpots) : Type 0 where
   pub begun : base ≤ length out
   pub whole_is : out ++ concat (map (fixed_bytes 0) (asked_of bits rs)) ≡ whole
   pub all_is : all_noted (length out - base) (asked_of bits rs) spots ≡ all
 
-pub row_put : (bits : ℕ) (r : FieldRow) (rs : List FieldRow) (base : ℕ) (old new : List ℕ) (spots next : Spots) (whole : List ℕ) (all : Spots) → (is_asked bits r.0 ≡ true → next ≡ noted (length old - base) r.1 spots)
+pub row_put : (bits : ℕ) (r : FieldRow) (rs : List FieldRow) (base : ℕ) (old new : List ℕ) (spots next : NameSpots) (whole : List ℕ) (all : NameSpots) → (is_asked bits r.0 ≡ true → next ≡ noted (length old - base) r.1 spots)
     → (is_asked bits r.0 ≡ true → new ≡ old ++ fixed_bytes 0 r.1) → (is_asked bits r.0 ≡ false → next ≡ spots) → (is_asked bits r.0 ≡ false → new ≡ old)
     → Goes bits (r ∷ rs) base old spots whole all → Goes bits rs base new next whole all
 row_put bits r rs base old new spots next whole all a b c d h =
@@ -62,12 +62,12 @@ row_kept true f first old new b d begun h = ap (take (length first)) (b refl) �
 row_kept false f first old new b d begun h = ap (take (length first)) (d refl) ∙ h
 
 -- behind the last row all stands
-pub rows_put : (bits base : ℕ) (out : List ℕ) (spots : Spots) (whole : List ℕ) (all : Spots) → Goes bits [] base out spots whole all → out ≡ whole
+pub rows_put : (bits base : ℕ) (out : List ℕ) (spots : NameSpots) (whole : List ℕ) (all : NameSpots) → Goes bits [] base out spots whole all → out ≡ whole
 rows_put bits base out spots whole all h =
     let w = rw (asked_none bits) at h.whole_is in
     sym (append-nil out) ∙ w
 
-pub rows_noted : (bits base : ℕ) (out : List ℕ) (spots : Spots) (whole : List ℕ) (all : Spots) → Goes bits [] base out spots whole all → spots ≡ all
+pub rows_noted : (bits base : ℕ) (out : List ℕ) (spots : NameSpots) (whole : List ℕ) (all : NameSpots) → Goes bits [] base out spots whole all → spots ≡ all
 rows_noted bits base out spots whole all h =
     let n = rw (asked_none bits) at h.all_is in
     sym (noted_none (length out - base) spots) ∙ n

@@ -10,7 +10,7 @@ use Rattle.afp_bitmap.specs.Bits.{is_asked}
 use Rattle.afp_bitmap.specs.Field.{Field, Number, Date, Finder, LongName, Utf8Name, fixed_size, fixed_bytes, long_name_bytes, utf8_name_bytes, pad_of, IsCountable}
 use Rattle.afp_bitmap.specs.Params.{asked_of, parts, size_of_fixed_part}
 use Rattle.afp_bitmap.specs.Table.{FieldRow}
-use Rattle.afp_bitmap.specs.lemma.Writing.{Spot, Spots, no_spots, noted, all_noted, padded, patched, CanName, with_long_name, with_utf8_name, IsSized}
+use Rattle.afp_bitmap.specs.lemma.Writing.{NameSpot, NameSpots, no_spots, noted, all_noted, padded, patched, CanName, with_long_name, with_utf8_name, IsSized}
 use Rattle.afp_bitmap.proofs.Asked.{asked_none, asked_yes, asked_no}
 use Rattle.afp_bitmap.proofs.Formed.{NoNames, Late, Formed, late_formed}
 use Rattle.afp_bitmap.proofs.Loops.{concat-append, noted_none, noted_more}
@@ -55,27 +55,27 @@ total p q (f ∷ fs) h =
 
 -- ---- where the places are to be written
 
-abbrev pick_spot : Option Spot → Option Spot → Option Spot
+abbrev pick_spot : Option NameSpot → Option NameSpot → Option NameSpot
 pick_spot None o = o
 pick_spot (Some x) o = Some x
 
-abbrev long_here : ℕ → Field → Option Spot
+abbrev long_here : ℕ → Field → Option NameSpot
 long_here at (LongName name) = Some (at, name)
 long_here at f = None
 
-abbrev utf8_here : ℕ → Field → Option Spot
+abbrev utf8_here : ℕ → Field → Option NameSpot
 utf8_here at (Utf8Name name) = Some (at, name)
 utf8_here at f = None
 
-abbrev long_spot : ℕ → List Field → Option Spot
+abbrev long_spot : ℕ → List Field → Option NameSpot
 long_spot at [] = None
 long_spot at (f ∷ fs) = pick_spot (long_here at f) (long_spot (at + length (fixed_bytes 0 f)) fs)
 
-abbrev utf8_spot : ℕ → List Field → Option Spot
+abbrev utf8_spot : ℕ → List Field → Option NameSpot
 utf8_spot at [] = None
 utf8_spot at (f ∷ fs) = pick_spot (utf8_here at f) (utf8_spot (at + length (fixed_bytes 0 f)) fs)
 
-pick_none : (o : Option Spot) → pick_spot o None ≡ o
+pick_none : (o : Option NameSpot) → pick_spot o None ≡ o
 pick_none None = refl
 pick_none (Some x) = refl
 
@@ -87,7 +87,7 @@ spot_no_names at (Finder info ∷ fs) h = spot_no_names (at + length info) fs h
 spot_no_names at (LongName name ∷ fs) h = absurd h
 spot_no_names at (Utf8Name name ∷ fs) h = absurd h
 
-noted_no_names : (at : ℕ) (fs : List Field) (s : Spots) → NoNames fs → all_noted at fs s ≡ s
+noted_no_names : (at : ℕ) (fs : List Field) (s : NameSpots) → NoNames fs → all_noted at fs s ≡ s
 noted_no_names at [] s h = noted_none at s
 noted_no_names at (Number n x ∷ fs) s h = noted_more at (Number n x) fs s ∙ noted_no_names (at + length (big_bytes n x)) fs s h
 noted_no_names at (Date z ∷ fs) s h = noted_more at (Date z) fs s ∙ noted_no_names (at + length (big_bytes 4 (cast_unsigned w32 z))) fs s h
@@ -95,9 +95,9 @@ noted_no_names at (Finder info ∷ fs) s h = noted_more at (Finder info) fs s �
 noted_no_names at (LongName name ∷ fs) s h = absurd h
 noted_no_names at (Utf8Name name ∷ fs) s h = absurd h
 
-noted_late : (at : ℕ) (fs : List Field) (s : Spots) → Late fs → s.utf8_name ≡ None → all_noted at fs s ≡ record { long_name = s.long_name; utf8_name = utf8_spot at fs }
+noted_late : (at : ℕ) (fs : List Field) (s : NameSpots) → Late fs → s.utf8_name ≡ None → all_noted at fs s ≡ record { long_name = s.long_name; utf8_name = utf8_spot at fs }
 noted_late at [] s h e =
-    let spots : Option Spot → Spots = λ o. record { long_name = s.long_name; utf8_name = o } in
+    let spots : Option NameSpot → NameSpots = λ o. record { long_name = s.long_name; utf8_name = o } in
     noted_none at s ∙ ap spots e
 noted_late at (Number n x ∷ fs) s h e = noted_more at (Number n x) fs s ∙ noted_late (at + length (big_bytes n x)) fs s h e
 noted_late at (Date z ∷ fs) s h e = noted_more at (Date z) fs s ∙ noted_late (at + length (big_bytes 4 (cast_unsigned w32 z))) fs s h e
@@ -114,7 +114,7 @@ noted_formed at (LongName name ∷ fs) h = noted_more at (LongName name) fs no_s
 noted_formed at (Utf8Name name ∷ fs) h =
     let next : ℕ = at + length (fixed_bytes 0 (Utf8Name name)) in
     let none = spot_no_names next fs h in
-    let spots : Option Spot → Spots = λ o. record { long_name = o; utf8_name = Some (at, name) } in
+    let spots : Option NameSpot → NameSpots = λ o. record { long_name = o; utf8_name = Some (at, name) } in
     noted_more at (Utf8Name name) fs no_spots ∙ noted_no_names next fs (noted at (Utf8Name name) no_spots) h ∙ ap spots (sym none)
 
 -- ---- the bytes round a place
@@ -135,14 +135,14 @@ late_same a b c (Finder info ∷ fs) h = ap (λ (y : List ℕ). info ++ y) (late
 late_same a b c (LongName name ∷ fs) h = absurd h
 late_same a b c (Utf8Name name ∷ fs) h = ap (λ (y : List ℕ). (big_bytes 2 b ++ replicate 4 0) ++ y) (plain_same a b c b fs h)
 
-record LongSplit (at : ℕ) (fs : List Field) (s : Spot) : Type 0 where
+record LongSplit (at : ℕ) (fs : List Field) (s : NameSpot) : Type 0 where
   pre : List ℕ
   post : ℕ → List ℕ
   place : s.0 ≡ at + length pre
   name : long_in fs ≡ Some s.1
   is : (a b : ℕ) → concat (map (fixed_at a b) fs) ≡ pre ++ (big_bytes 2 a ++ post b)
 
-long_behind : (at : ℕ) (front : List ℕ) (fs : List Field) (s : Spot) (f : Field) → long_in (f ∷ fs) ≡ long_in fs → ((a b : ℕ) → fixed_at a b f ≡ front) → LongSplit (at + length front) fs s → LongSplit at (f ∷ fs) s
+long_behind : (at : ℕ) (front : List ℕ) (fs : List Field) (s : NameSpot) (f : Field) → long_in (f ∷ fs) ≡ long_in fs → ((a b : ℕ) → fixed_at a b f ≡ front) → LongSplit (at + length front) fs s → LongSplit at (f ∷ fs) s
 long_behind at front fs s f same is h = record {
   pre = front ++ h.pre;
   post = h.post;
@@ -151,7 +151,7 @@ long_behind at front fs s f same is h = record {
   is = λ a b. ap (λ (x : List ℕ). x ++ concat (map (fixed_at a b) fs)) (is a b) ∙ ap (λ (x : List ℕ). front ++ x) (h.is a b) ∙ sym (append_assoc front h.pre (big_bytes 2 a ++ h.post b));
 }
 
-long_split : (at : ℕ) (fs : List Field) (s : Spot) → Formed fs → long_spot at fs ≡ Some s → LongSplit at fs s
+long_split : (at : ℕ) (fs : List Field) (s : NameSpot) → Formed fs → long_spot at fs ≡ Some s → LongSplit at fs s
 long_split at [] s h e = absurd cc
 long_split at (Number n x ∷ fs) s h e = long_behind at (big_bytes n x) fs s (Number n x) refl (λ a b. refl) (long_split (at + length (big_bytes n x)) fs s h e)
 long_split at (Date z ∷ fs) s h e =
@@ -159,7 +159,7 @@ long_split at (Date z ∷ fs) s h e =
 long_split at (Finder info ∷ fs) s h e = long_behind at info fs s (Finder info) refl (λ a b. refl) (long_split (at + length info) fs s h e)
 long_split at (LongName name ∷ fs) s h e =
     let here : (at, name) ≡ s = cc in
-    let P : Spot → Type 0 = λ t. LongSplit at (LongName name ∷ fs) t in
+    let P : NameSpot → Type 0 = λ t. LongSplit at (LongName name ∷ fs) t in
     subst P here (record {
       pre = [];
       post = λ b. concat (map (fixed_at 0 b) fs);
@@ -169,14 +169,14 @@ long_split at (LongName name ∷ fs) s h e =
     })
 long_split at (Utf8Name name ∷ fs) s h e = let none = spot_no_names (at + length (fixed_bytes 0 (Utf8Name name))) fs h in absurd cc
 
-record Utf8Split (at : ℕ) (fs : List Field) (s : Spot) : Type 0 where
+record Utf8Split (at : ℕ) (fs : List Field) (s : NameSpot) : Type 0 where
   pre : ℕ → List ℕ
   post : List ℕ
   place : (a : ℕ) → s.0 ≡ at + length (pre a)
   name : utf8_in fs ≡ Some s.1
   is : (a b : ℕ) → concat (map (fixed_at a b) fs) ≡ pre a ++ (big_bytes 2 b ++ post)
 
-utf8_behind : (at : ℕ) (front : ℕ → List ℕ) (size : ℕ) (fs : List Field) (s : Spot) (f : Field) → utf8_in (f ∷ fs) ≡ utf8_in fs → ((a : ℕ) → length (front a) ≡ size) → ((a b : ℕ) → fixed_at a b f ≡ front a)
+utf8_behind : (at : ℕ) (front : ℕ → List ℕ) (size : ℕ) (fs : List Field) (s : NameSpot) (f : Field) → utf8_in (f ∷ fs) ≡ utf8_in fs → ((a : ℕ) → length (front a) ≡ size) → ((a b : ℕ) → fixed_at a b f ≡ front a)
     → Utf8Split (at + size) fs s → Utf8Split at (f ∷ fs) s
 utf8_behind at front size fs s f same len is h = record {
   pre = λ a. front a ++ h.pre a;
@@ -186,7 +186,7 @@ utf8_behind at front size fs s f same len is h = record {
   is = λ a b. ap (λ (x : List ℕ). x ++ concat (map (fixed_at a b) fs)) (is a b) ∙ ap (λ (x : List ℕ). front a ++ x) (h.is a b) ∙ sym (append_assoc (front a) (h.pre a) (big_bytes 2 b ++ h.post));
 }
 
-utf8_split : (at : ℕ) (fs : List Field) (s : Spot) → Formed fs → utf8_spot at fs ≡ Some s → Utf8Split at fs s
+utf8_split : (at : ℕ) (fs : List Field) (s : NameSpot) → Formed fs → utf8_spot at fs ≡ Some s → Utf8Split at fs s
 utf8_split at [] s h e = absurd cc
 utf8_split at (Number n x ∷ fs) s h e =
     utf8_behind at (λ a. big_bytes n x) (length (big_bytes n x)) fs s (Number n x) refl (λ a. refl) (λ a b. refl) (utf8_split (at + length (big_bytes n x)) fs s h e)
@@ -197,7 +197,7 @@ utf8_split at (LongName name ∷ fs) s h e =
     utf8_behind at (λ a. big_bytes 2 a) (length (big_bytes 2 0)) fs s (LongName name) refl (λ a. refl) (λ a b. refl) (utf8_split (at + length (big_bytes 2 0)) fs s (late_formed fs h) e)
 utf8_split at (Utf8Name name ∷ fs) s h e =
     let here : (at, name) ≡ s = cc in
-    let P : Spot → Type 0 = λ t. Utf8Split at (Utf8Name name ∷ fs) t in
+    let P : NameSpot → Type 0 = λ t. Utf8Split at (Utf8Name name ∷ fs) t in
     subst P here (record {
       pre = λ a. [];
       post = replicate 4 0 ++ concat (map (fixed_at 0 0) fs);
@@ -256,7 +256,7 @@ opt_padded : (format : List ℕ → List ℕ) (name : List ℕ) → padded (form
 opt_padded format name = sym (ap (λ (x : List ℕ). format name ++ x) (append-nil (pad_of (format name))))
 
 -- the fixed part with the first name's place, and the long name
-long_written : (fs : List Field) (o : Option Spot) → Formed fs → AllByRecursion IsSized fs → long_spot 0 fs ≡ o
+long_written : (fs : List Field) (o : Option NameSpot) → Formed fs → AllByRecursion IsSized fs → long_spot 0 fs ≡ o
     → with_long_name o (concat (map (fixed_at 0 0) fs)) ≡ concat (map (fixed_at (size_of_fixed_part fs) 0) fs) ++ concat (opt long_name_bytes (long_in fs))
 long_written fs None h z e =
     let n = long_none 0 fs e in
@@ -283,7 +283,7 @@ opt_gap (Some name) =
     omega arith
 
 -- and with the second name's place, and the UTF-8 name
-utf8_written : (fs : List Field) (o : Option Spot) → Formed fs → AllByRecursion IsSized fs → utf8_spot 0 fs ≡ o
+utf8_written : (fs : List Field) (o : Option NameSpot) → Formed fs → AllByRecursion IsSized fs → utf8_spot 0 fs ≡ o
     → with_utf8_name o (concat (map (fixed_at (size_of_fixed_part fs) 0) fs) ++ concat (opt long_name_bytes (long_in fs)))
     ≡ concat (map (fixed_at (size_of_fixed_part fs) (size_of_fixed_part fs + gap (long_in fs))) fs) ++ concat (names_of (long_in fs) (utf8_in fs))
 utf8_written fs None h z e =
@@ -340,7 +340,7 @@ gap_small : (o : Option (List ℕ)) → Counted 256 o → gap o < 300
 gap_small None h = omega arith
 gap_small (Some name) h = let lt : length name < 256 = h in omega arith
 
-can_long : (fs : List Field) (o : Option Spot) → Formed fs → AllByRecursion IsSized fs → AllByRecursion IsCountable fs → size_of_fixed_part fs < 65000 → long_spot 0 fs ≡ o
+can_long : (fs : List Field) (o : Option NameSpot) → Formed fs → AllByRecursion IsSized fs → AllByRecursion IsCountable fs → size_of_fixed_part fs < 65000 → long_spot 0 fs ≡ o
     → CanName 256 o (concat (map (fixed_at 0 0) fs))
 can_long fs None h z k lt e = tt
 can_long fs (Some s) h z k lt e =
@@ -353,7 +353,7 @@ can_long fs (Some s) h z k lt e =
     let c = length-big_bytes 2 0 in
     (counted_at 256 (long_in fs) s.1 p.name (long_counted fs k), omega arith, omega arith)
 
-can_utf8 : (fs : List Field) (o : Option Spot) → Formed fs → AllByRecursion IsSized fs → AllByRecursion IsCountable fs → size_of_fixed_part fs < 65000 → utf8_spot 0 fs ≡ o
+can_utf8 : (fs : List Field) (o : Option NameSpot) → Formed fs → AllByRecursion IsSized fs → AllByRecursion IsCountable fs → size_of_fixed_part fs < 65000 → utf8_spot 0 fs ≡ o
     → CanName 65536 o (concat (map (fixed_at (size_of_fixed_part fs) 0) fs) ++ concat (opt long_name_bytes (long_in fs)))
 can_utf8 fs None h z k lt e = tt
 can_utf8 fs (Some s) h z k lt e =
@@ -373,7 +373,7 @@ can_utf8 fs (Some s) h z k lt e =
 -- ---- the writer's three steps
 
 -- the fixed part with zeros stands, and its names are noted
-pub record Begun (fs : List Field) (block : List ℕ) (spots : Spots) : Type 0 where
+pub record Begun (fs : List Field) (block : List ℕ) (spots : NameSpots) : Type 0 where
   pub formed : Formed fs
   pub sized_so : AllByRecursion IsSized fs
   pub countable : AllByRecursion IsCountable fs
@@ -381,26 +381,26 @@ pub record Begun (fs : List Field) (block : List ℕ) (spots : Spots) : Type 0 w
   pub block_is : block ≡ concat (map (fixed_bytes 0) fs)
   pub spots_are : spots ≡ all_noted 0 fs no_spots
 
-begun_long : (fs : List Field) (block : List ℕ) (spots : Spots) → Begun fs block spots → long_spot 0 fs ≡ spots.long_name
-begun_long fs block spots b = sym (ap (λ (s : Spots). s.long_name) (b.spots_are ∙ noted_formed 0 fs b.formed))
+begun_long : (fs : List Field) (block : List ℕ) (spots : NameSpots) → Begun fs block spots → long_spot 0 fs ≡ spots.long_name
+begun_long fs block spots b = sym (ap (λ (s : NameSpots). s.long_name) (b.spots_are ∙ noted_formed 0 fs b.formed))
 
-begun_utf8 : (fs : List Field) (block : List ℕ) (spots : Spots) → Begun fs block spots → utf8_spot 0 fs ≡ spots.utf8_name
-begun_utf8 fs block spots b = sym (ap (λ (s : Spots). s.utf8_name) (b.spots_are ∙ noted_formed 0 fs b.formed))
+begun_utf8 : (fs : List Field) (block : List ℕ) (spots : NameSpots) → Begun fs block spots → utf8_spot 0 fs ≡ spots.utf8_name
+begun_utf8 fs block spots b = sym (ap (λ (s : NameSpots). s.utf8_name) (b.spots_are ∙ noted_formed 0 fs b.formed))
 
-pub can_begin : (fs : List Field) (block : List ℕ) (spots : Spots) → Begun fs block spots → CanName 256 spots.long_name block
+pub can_begin : (fs : List Field) (block : List ℕ) (spots : NameSpots) → Begun fs block spots → CanName 256 spots.long_name block
 can_begin fs block spots b =
     subst (CanName 256 spots.long_name) (sym (b.block_is ∙ zeros_are fs)) (can_long fs spots.long_name b.formed b.sized_so b.countable b.small (begun_long fs block spots b))
 
-one_name : (fs : List Field) (block one : List ℕ) (spots : Spots) → Begun fs block spots → one ≡ with_long_name spots.long_name block
+one_name : (fs : List Field) (block one : List ℕ) (spots : NameSpots) → Begun fs block spots → one ≡ with_long_name spots.long_name block
     → one ≡ concat (map (fixed_at (size_of_fixed_part fs) 0) fs) ++ concat (opt long_name_bytes (long_in fs))
 one_name fs block one spots b e =
     e ∙ ap (with_long_name spots.long_name) (b.block_is ∙ zeros_are fs) ∙ long_written fs spots.long_name b.formed b.sized_so (begun_long fs block spots b)
 
-pub can_go_on : (fs : List Field) (block one : List ℕ) (spots : Spots) → Begun fs block spots → one ≡ with_long_name spots.long_name block → CanName 65536 spots.utf8_name one
+pub can_go_on : (fs : List Field) (block one : List ℕ) (spots : NameSpots) → Begun fs block spots → one ≡ with_long_name spots.long_name block → CanName 65536 spots.utf8_name one
 can_go_on fs block one spots b e =
     subst (CanName 65536 spots.utf8_name) (sym (one_name fs block one spots b e)) (can_utf8 fs spots.utf8_name b.formed b.sized_so b.countable b.small (begun_utf8 fs block spots b))
 
-pub block_written : (fs : List Field) (block one two : List ℕ) (spots : Spots) → Begun fs block spots → one ≡ with_long_name spots.long_name block → two ≡ with_utf8_name spots.utf8_name one
+pub block_written : (fs : List Field) (block one two : List ℕ) (spots : NameSpots) → Begun fs block spots → one ≡ with_long_name spots.long_name block → two ≡ with_utf8_name spots.utf8_name one
     → two ≡ concat (parts fs)
 block_written fs block one two spots b e g =
     let first : ℕ = size_of_fixed_part fs in

@@ -12,7 +12,7 @@ ghost use Rattle.afp_bitmap.specs.lemma.Writing.{row_of};
 use crate::judge::judge;
 use crate::params::ParamFault;
 use crate::table::{Shape, Slot};
-use crate::take::Fields;
+use crate::take::FieldCursor;
 use crate::write::{Field, FieldRow, finder_bytes, put_rows};
 use afp_base::{Bytes, OutOfMemory};
 use std::alloc::Global;
@@ -107,7 +107,7 @@ pub(crate) fn read_file(alloc: Global, bits: u16, bytes: &[u8]) -> Result<FileVa
     let names = judge(bits, &TABLE, bytes)?;
     let long_name = Bytes::of(alloc, names.long)?;
     let utf8_name = Bytes::of(alloc, names.utf8)?;
-    let mut fields = Fields::new(bits, bytes);
+    let mut fields = FieldCursor::new(bits, bytes);
     let attributes = fields.short(0);
     let parent = fields.long(1);
     let created = fields.date(2);

@@ -15,12 +15,12 @@ use std::marker::Model;
 ///
 /// Contracts see the asked bits, and the bytes that are not taken yet.
 #[derive(Drop)]
-pub(crate) struct Fields<'a> {
+pub(crate) struct FieldCursor<'a> {
     bits: u16,
     spot: Spot<'a>,
 }
 
-impl<'a> Model for Fields<'a> {
+impl<'a> Model for FieldCursor<'a> {
     ghost use Rattle.afp_bitmap.specs.lemma.Taking.{Untaken};
 
     ghost Value = { Untaken };
@@ -28,12 +28,12 @@ impl<'a> Model for Fields<'a> {
     ghost view = { λ f. record { bits = f.bits; rest = f.spot.1 } };
 }
 
-impl<'a> Fields<'a> {
+impl<'a> FieldCursor<'a> {
     /// No field of the block is taken.
-    pub(crate) fn new(bits: u16, bytes: &'a [u8]) -> Fields<'a>
+    pub(crate) fn new(bits: u16, bytes: &'a [u8]) -> FieldCursor<'a>
         ensures { result ≡ record { bits = bits; rest = bytes.now } }
     {
-        Fields {
+        FieldCursor {
             bits,
             spot: Spot::new(bytes),
         }

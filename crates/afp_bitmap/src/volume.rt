@@ -12,7 +12,7 @@ ghost use Rattle.afp_bitmap.specs.lemma.Writing.{row_of};
 use crate::judge::judge;
 use crate::params::ParamFault;
 use crate::table::{Shape, Slot};
-use crate::take::Fields;
+use crate::take::FieldCursor;
 use crate::write::{Field, FieldRow, put_rows};
 use afp_base::{Bytes, OutOfMemory};
 use std::alloc::Global;
@@ -109,7 +109,7 @@ pub(crate) fn read_volume(
 {
     let names = judge(bits, &TABLE, bytes)?;
     let name = Bytes::of(alloc, names.long)?;
-    let mut fields = Fields::new(bits, bytes);
+    let mut fields = FieldCursor::new(bits, bytes);
     let attributes = fields.short(0);
     let signature = fields.short(1);
     let created = fields.date(2);

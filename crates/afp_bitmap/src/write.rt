@@ -29,16 +29,16 @@ pub(crate) struct FieldRow<'a>(pub(crate) u32, pub(crate) Field<'a>);
 
 /// A name, and where in its block its own place is still to be written.
 #[derive(Drop)]
-struct Spot<'a> {
+struct NameSpot<'a> {
     at: usize,
     name: &'a [u8],
 }
 
 /// The asked names.
 #[derive(Drop)]
-struct Spots<'a> {
-    long_name: Option<Spot<'a>>,
-    utf8_name: Option<Spot<'a>>,
+struct NameSpots<'a> {
+    long_name: Option<NameSpot<'a>>,
+    utf8_name: Option<NameSpot<'a>>,
 }
 
 /// The bytes for the Finder.
@@ -68,17 +68,17 @@ fn put_fixed(field: &Field<'_>, out: &mut Bytes) -> Result<(), OutOfMemory>
 }
 
 /// Notes a name whose field of the fixed part begins at `at`.
-fn noted<'a>(spots: Spots<'a>, at: usize, field: &Field<'a>) -> Spots<'a>
+fn noted<'a>(spots: NameSpots<'a>, at: usize, field: &Field<'a>) -> NameSpots<'a>
     ensures { spots_of result ≡ noted at (field_of field.now) (spots_of spots.entry) }
 {
     match field {
-        Field::LongName(name) => Spots {
-            long_name: Some(Spot { at, name: *name }),
+        Field::LongName(name) => NameSpots {
+            long_name: Some(NameSpot { at, name: *name }),
             utf8_name: spots.utf8_name,
         },
-        Field::Utf8Name(name) => Spots {
+        Field::Utf8Name(name) => NameSpots {
             long_name: spots.long_name,
-            utf8_name: Some(Spot { at, name: *name }),
+            utf8_name: Some(NameSpot { at, name: *name }),
         },
         _ => spots,
     }
@@ -88,10 +88,10 @@ fn noted<'a>(spots: Spots<'a>, at: usize, field: &Field<'a>) -> Spots<'a>
 fn put_row<'a>(
     bits: u16,
     row: &FieldRow<'a>,
-    spots: Spots<'a>,
+    spots: NameSpots<'a>,
     base: usize,
     out: &mut Bytes,
-) -> Result<Spots<'a>, OutOfMemory>
+) -> Result<NameSpots<'a>, OutOfMemory>
     requires { base ≤ length out.old }
     ensures spots { is_asked bits row.now.0 ≡ true
         → IfOk result (λ next. spots_of next ≡ noted (length out.old - base) (field_of row.now.1) (spots_of spots.entry)) }
@@ -114,13 +114,13 @@ fn put_fixed_part<'a>(
     bits: u16,
     rows: &[FieldRow<'a>],
     out: &mut Bytes,
-) -> Result<Spots<'a>, OutOfMemory>
+) -> Result<NameSpots<'a>, OutOfMemory>
     ensures spots { IfOk result (λ spots. spots_of spots ≡ all_noted 0 (asked_of bits (map row_of rows.now)) no_spots) }
     ensures bytes { OnOk result (out.new ≡ out.old ++ concat (map (fixed_bytes 0) (asked_of bits (map row_of rows.now)))) }
     ensures err { OnErr result (Keeps out.old out.new) }
 {
     let base = out.as_slice().len();
-    let mut spots = Spots {
+    let mut spots = NameSpots {
         long_name: None,
         utf8_name: None,
     };
@@ -155,7 +155,7 @@ fn put_padded(head: &[u8], name: &[u8], out: &mut Bytes) -> Result<(), OutOfMemo
 }
 
 /// Writes the place of a name, and appends its head, its bytes and its pad. The block begins at `base`.
-fn put_name(spot: Spot<'_>, head: &[u8], base: usize, out: &mut Bytes) -> Result<(), OutOfMemory>
+fn put_name(spot: NameSpot<'_>, head: &[u8], base: usize, out: &mut Bytes) -> Result<(), OutOfMemory>
     requires inside { base + spot.at + 2 ≤ length out.old }
     requires small { length out.old < base + 65536 }
     requires fits { length head.now + length spot.name.now < 2 ^ 64 }
@@ -169,7 +169,7 @@ fn put_name(spot: Spot<'_>, head: &[u8], base: usize, out: &mut Bytes) -> Result
 }
 
 /// Appends the long name, where there is one, and writes its place. The block begins at `base`.
-fn put_long_name(spot: Option<Spot<'_>>, base: usize, out: &mut Bytes) -> Result<(), OutOfMemory>
+fn put_long_name(spot: Option<NameSpot<'_>>, base: usize, out: &mut Bytes) -> Result<(), OutOfMemory>
     requires begun { base ≤ length out.old }
     requires can { CanName 256 (spot_of spot) (drop base out.old) }
     ensures ok { OnOk result (out.new ≡ take base out.old ++ with_long_name (spot_of spot.entry) (drop base out.old)) }
@@ -185,7 +185,7 @@ fn put_long_name(spot: Option<Spot<'_>>, base: usize, out: &mut Bytes) -> Result
 }
 
 /// Appends the UTF-8 name, where there is one, and writes its place. The block begins at `base`.
-fn put_utf8_name(spot: Option<Spot<'_>>, base: usize, out: &mut Bytes) -> Result<(), OutOfMemory>
+fn put_utf8_name(spot: Option<NameSpot<'_>>, base: usize, out: &mut Bytes) -> Result<(), OutOfMemory>
     requires begun { base ≤ length out.old }
     requires can { CanName 65536 (spot_of spot) (drop base out.old) }
     ensures ok { OnOk result (out.new ≡ take base out.old ++ with_utf8_name (spot_of spot.entry) (drop base out.old)) }

@@ -5,7 +5,7 @@ ghost use Rattle.afp_requests.specs.Group.{Desktop};
 ghost use Rattle.afp_requests.specs.Reading.{has_reader};
 ghost use Rattle.afp_requests.specs.Readers.{desktop_readers};
 ghost use Rattle.afp_fields.specs.Taking.{GivesBy};
-ghost use Rattle.afp_fields.specs.Putting.{Writes};
+ghost use Rattle.afp_fields.specs.Putting.{WritesCall};
 
 use crate::appl::{
     read_add_appl, read_get_appl, read_remove_appl, write_add_appl, write_get_appl,
@@ -84,7 +84,7 @@ pub fn write_desktop_call(
     call: &Call,
 ) -> Option<Result<(), OutOfMemory>>
     requires { IsSpellable call.now }
-    ensures { Writes Desktop call.now result out.old out.new }
+    ensures { WritesCall Desktop call.now result out.old out.new }
 {
     match call {
         Call::OpenDT { volume } => Some(write_open_dt(out, *volume)),

@@ -5,7 +5,7 @@ ghost use Rattle.afp_requests.specs.Group.{Directory};
 ghost use Rattle.afp_requests.specs.Reading.{has_reader};
 ghost use Rattle.afp_requests.specs.Readers.{directory_readers};
 ghost use Rattle.afp_fields.specs.Taking.{GivesBy};
-ghost use Rattle.afp_fields.specs.Putting.{Writes};
+ghost use Rattle.afp_fields.specs.Putting.{WritesCall};
 
 use crate::directory::{
     read_close_dir, read_create_dir, read_open_dir, write_close_dir, write_create_dir,
@@ -89,7 +89,7 @@ pub fn write_directory_call(
     call: &Call,
 ) -> Option<Result<(), OutOfMemory>>
     requires { IsSpellable call.now }
-    ensures { Writes Directory call.now result out.old out.new }
+    ensures { WritesCall Directory call.now result out.old out.new }
 {
     match call {
         Call::CreateDir { volume, dir, path } => Some(write_create_dir(

@@ -32,6 +32,6 @@ abbrev pub PutTogether : Type 0
 PutTogether = (fs : List Field) (bytes : List ℕ) → put_on (length bytes) fs bytes ≡ bytes ++ canonical_fields 0 fs
 
 -- The request is of this group, and its canonical block is appended; an error keeps what stood there, and may leave some of the block behind it. None: it is of another group, and nothing is appended.
-abbrev pub Writes : Group → Call → Option (Result (Unit {0}) OutOfMemory) → List ℕ → List ℕ → Type 0
-Writes group call (Some result) old new = (group_of call ≡ group) × OnOk result (PutsAll (layout_of call).fields old new) × OnErr result (Keeps old new)
-Writes group call None old new = (group_of call ≢ group) × (new ≡ old)
+abbrev pub WritesCall : Group → Call → Option (Result (Unit {0}) OutOfMemory) → List ℕ → List ℕ → Type 0
+WritesCall group call (Some result) old new = (group_of call ≡ group) × OnOk result (PutsAll (layout_of call).fields old new) × OnErr result (Keeps old new)
+WritesCall group call None old new = (group_of call ≢ group) × (new ≡ old)

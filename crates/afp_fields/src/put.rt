@@ -1,6 +1,6 @@
 //! The canonical bytes of the fields of a request, one after the other. An error changes nothing.
 ghost use Rattle.std.specs.Prelude.{◌≡◌, ◌<◌, ◌≤◌, ◌^◌, ◌++◌, length, OnOk, OnErr};
-ghost use Rattle.afp_requests.specs.Words.{IsNumberIn, command, literal, pad, last_pad, even, u8, u16, u32, count_in, optional_bytes, i32, i64, str, counted};
+ghost use Rattle.afp_requests.specs.Words.{IsNumberIn, command, literal, pad, last_pad, even, u8, u16, u32, count_in, optional_bytes, i32, i64, str, counted_field};
 ghost use Rattle.afp_fields.specs.Putting.{Puts, PutsIn};
 
 use afp_base::{Bytes, OutOfMemory};
@@ -116,7 +116,7 @@ pub fn put_str(out: &mut Bytes, text: &[u8]) -> Result<(), OutOfMemory>
 /// Bytes behind their count of 2 bytes.
 pub fn put_text(out: &mut Bytes, text: &[u8]) -> Result<(), OutOfMemory>
     requires { length text.now < 256 ^ 2 }
-    ensures put { OnOk result (Puts (counted 2 text.now) out.old out.new) }
+    ensures put { OnOk result (Puts (counted_field 2 text.now) out.old out.new) }
     ensures err { OnErr result (out.new ≡ out.old) }
 {
     let mut bytes = [0; 2];
@@ -127,7 +127,7 @@ pub fn put_text(out: &mut Bytes, text: &[u8]) -> Result<(), OutOfMemory>
 /// Bytes behind their count of 4 bytes.
 pub fn put_long_text(out: &mut Bytes, text: &[u8]) -> Result<(), OutOfMemory>
     requires { length text.now < 256 ^ 4 }
-    ensures put { OnOk result (Puts (counted 4 text.now) out.old out.new) }
+    ensures put { OnOk result (Puts (counted_field 4 text.now) out.old out.new) }
     ensures err { OnErr result (out.new ≡ out.old) }
 {
     let mut bytes = [0; 4];

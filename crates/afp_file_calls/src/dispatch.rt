@@ -5,7 +5,7 @@ ghost use Rattle.afp_requests.specs.Group.{File};
 ghost use Rattle.afp_requests.specs.Reading.{has_reader};
 ghost use Rattle.afp_requests.specs.Readers.{file_readers};
 ghost use Rattle.afp_fields.specs.Taking.{GivesBy};
-ghost use Rattle.afp_fields.specs.Putting.{Writes};
+ghost use Rattle.afp_fields.specs.Putting.{WritesCall};
 
 use crate::file::{
     read_copy_file, read_create_file, read_exchange_files, read_set_file_parms, write_copy_file,
@@ -70,7 +70,7 @@ pub fn write_file_call(
     call: &Call,
 ) -> Option<Result<(), OutOfMemory>>
     requires { IsSpellable call.now }
-    ensures { Writes File call.now result out.old out.new }
+    ensures { WritesCall File call.now result out.old out.new }
 {
     match call {
         Call::CreateFile {

@@ -5,7 +5,7 @@ ghost use Rattle.afp_requests.specs.Group.{Fork};
 ghost use Rattle.afp_requests.specs.Reading.{has_reader};
 ghost use Rattle.afp_requests.specs.Readers.{fork_readers};
 ghost use Rattle.afp_fields.specs.Taking.{GivesBy};
-ghost use Rattle.afp_fields.specs.Putting.{Writes};
+ghost use Rattle.afp_fields.specs.Putting.{WritesCall};
 
 use crate::fork::{
     read_close_fork, read_flush_fork, read_get_fork_parms, read_open_fork, read_set_fork_parms,
@@ -84,7 +84,7 @@ pub fn write_fork_call(
     call: &Call,
 ) -> Option<Result<(), OutOfMemory>>
     requires { IsSpellable call.now }
-    ensures { Writes Fork call.now result out.old out.new }
+    ensures { WritesCall Fork call.now result out.old out.new }
 {
     match call {
         Call::OpenFork {

@@ -1,41 +1,41 @@
--- the events of reads, when one read more is heard of
+-- the events of reads, when one read more is gave of
 use Rattle.std.proofs.Common.{◌≡◌, ℕ, ◌+◌, ◌≤◌, List, [], ◌∷◌, ◌++◌, length, take, drop, Some, sym, ap, ◌∙◌, add_assoc, add-zero, zero-add, arith}
 use Rattle.std.proofs.lemmas.List.{drop-drop, length-drop, append-nil, append_assoc}
 use Rattle.afp_outside.specs.Link.{piece, quiet}
-use Rattle.afp_outside.specs.Tape.{Reading, event_of, heard_size, events_of, size_of}
-use Rattle.afp_outside.specs.declared.link.Heard.TheVariants.{Got, Quiet}
+use Rattle.afp_outside.specs.Tape.{Reading, event_of, gave_size, events_of, size_of}
+use Rattle.afp_outside.specs.declared.link.ReadResult.TheVariants.{Got, Quiet}
 
-pub size-more : (them : List Reading) (it : Reading) → size_of (them ++ it ∷ []) ≡ size_of them + heard_size it.heard
-size-more [] it = add-zero (heard_size it.heard) ∙ sym (zero-add (heard_size it.heard))
-size-more (first ∷ them) it = ap (λ k. heard_size first.heard + k) (size-more them it) ∙ sym (add_assoc (heard_size first.heard) (size_of them) (heard_size it.heard))
+pub size-more : (them : List Reading) (it : Reading) → size_of (them ++ it ∷ []) ≡ size_of them + gave_size it.gave
+size-more [] it = add-zero (gave_size it.gave) ∙ sym (zero-add (gave_size it.gave))
+size-more (first ∷ them) it = ap (λ k. gave_size first.gave + k) (size-more them it) ∙ sym (add_assoc (gave_size first.gave) (size_of them) (gave_size it.gave))
 
-pub events-more : (bytes : List ℕ) (them : List Reading) (it : Reading) → events_of bytes (them ++ it ∷ []) ≡ events_of bytes them ++ event_of it.heard it.written it.moment (drop (size_of them) bytes)
-events-more bytes [] it = append-nil (event_of it.heard it.written it.moment bytes)
+pub events-more : (bytes : List ℕ) (them : List Reading) (it : Reading) → events_of bytes (them ++ it ∷ []) ≡ events_of bytes them ++ event_of it.gave it.written it.moment (drop (size_of them) bytes)
+events-more bytes [] it = append-nil (event_of it.gave it.written it.moment bytes)
 events-more bytes (first ∷ them) it =
-    ap (λ es. event_of first.heard first.written first.moment bytes ++ es) (events-more (drop (heard_size first.heard) bytes) them it
-    ∙ ap (λ rest. events_of (drop (heard_size first.heard) bytes) them ++ event_of it.heard it.written it.moment rest) (drop-drop (size_of them) (heard_size first.heard) bytes))
-    ∙ sym (append_assoc (event_of first.heard first.written first.moment bytes) (events_of (drop (heard_size first.heard) bytes) them) (event_of it.heard it.written it.moment (drop (heard_size first.heard + size_of them) bytes)))
+    ap (λ es. event_of first.gave first.written first.moment bytes ++ es) (events-more (drop (gave_size first.gave) bytes) them it
+    ∙ ap (λ rest. events_of (drop (gave_size first.gave) bytes) them ++ event_of it.gave it.written it.moment rest) (drop-drop (size_of them) (gave_size first.gave) bytes))
+    ∙ sym (append_assoc (event_of first.gave first.written first.moment bytes) (events_of (drop (gave_size first.gave) bytes) them) (event_of it.gave it.written it.moment (drop (gave_size first.gave + size_of them) bytes)))
 
 pub got_place : (bytes : List ℕ) (n place : ℕ) → place ≤ length bytes → n ≤ length (drop place bytes) → place + n ≤ length bytes
 got_place bytes n place p h = let e = length-drop place bytes in omega arith
 
 -- a read that gave n bytes at a place
-pub got_size : (them : List Reading) (it : Reading) (n place : ℕ) → it.heard ≡ Got n → size_of them ≡ place → size_of (them ++ it ∷ []) ≡ place + n
-got_size them it n place is e = size-more them it ∙ ap (λ heard. size_of them + heard_size heard) is ∙ ap (λ k. k + n) e
+pub got_size : (them : List Reading) (it : Reading) (n place : ℕ) → it.gave ≡ Got n → size_of them ≡ place → size_of (them ++ it ∷ []) ≡ place + n
+got_size them it n place is e = size-more them it ∙ ap (λ gave. size_of them + gave_size gave) is ∙ ap (λ k. k + n) e
 
-pub got_events : (bytes : List ℕ) (them : List Reading) (it : Reading) (n : ℕ) (written : List ℕ) (moment place : ℕ) → it ≡ record { heard = Got n; written = written; moment = moment } → size_of them ≡ place
+pub got_events : (bytes : List ℕ) (them : List Reading) (it : Reading) (n : ℕ) (written : List ℕ) (moment place : ℕ) → it ≡ record { gave = Got n; written = written; moment = moment } → size_of them ≡ place
     → events_of bytes (them ++ it ∷ []) ≡ events_of bytes them ++ piece (Some written) moment (take n (drop place bytes)) ∷ []
 got_events bytes them it n written moment place is e =
     events-more bytes them it
-    ∙ ap (λ (x : Reading). events_of bytes them ++ event_of x.heard x.written x.moment (drop (size_of them) bytes)) is
+    ∙ ap (λ (x : Reading). events_of bytes them ++ event_of x.gave x.written x.moment (drop (size_of them) bytes)) is
     ∙ ap (λ k. events_of bytes them ++ piece (Some written) moment (take n (drop k bytes)) ∷ []) e
 
 -- a read that gave a quiet
-pub quiet_size : (them : List Reading) (it : Reading) (place : ℕ) → it.heard ≡ Quiet → size_of them ≡ place → size_of (them ++ it ∷ []) ≡ place
-quiet_size them it place is e = size-more them it ∙ ap (λ heard. size_of them + heard_size heard) is ∙ add-zero (size_of them) ∙ e
+pub quiet_size : (them : List Reading) (it : Reading) (place : ℕ) → it.gave ≡ Quiet → size_of them ≡ place → size_of (them ++ it ∷ []) ≡ place
+quiet_size them it place is e = size-more them it ∙ ap (λ gave. size_of them + gave_size gave) is ∙ add-zero (size_of them) ∙ e
 
-pub quiet_events : (bytes : List ℕ) (them : List Reading) (it : Reading) (written : List ℕ) (moment : ℕ) → it ≡ record { heard = Quiet; written = written; moment = moment }
+pub quiet_events : (bytes : List ℕ) (them : List Reading) (it : Reading) (written : List ℕ) (moment : ℕ) → it ≡ record { gave = Quiet; written = written; moment = moment }
     → events_of bytes (them ++ it ∷ []) ≡ events_of bytes them ++ quiet (Some written) moment ∷ []
 quiet_events bytes them it written moment is =
     events-more bytes them it
-    ∙ ap (λ (x : Reading). events_of bytes them ++ event_of x.heard x.written x.moment (drop (size_of them) bytes)) is
+    ∙ ap (λ (x : Reading). events_of bytes them ++ event_of x.gave x.written x.moment (drop (size_of them) bytes)) is

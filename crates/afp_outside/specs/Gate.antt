@@ -2,20 +2,20 @@
 use Rattle.std.specs.Prelude.{List, [], ◌∷◌, ◌++◌, Option, Some, None}
 use Rattle.afp_base.specs.declared.ids.LinkNumber.{LinkNumber}
 
--- The links whose calls went in, and those whose calls came out, each in order.
+-- The links whose calls entered, and those whose calls left, each in order.
 pub record Passed : Type 0 where
-  pub went_in : List LinkNumber
-  pub came_out : List LinkNumber
+  pub entered : List LinkNumber
+  pub exited : List LinkNumber
 
 abbrev pub none_passed : Passed
-none_passed = record { went_in = []; came_out = [] }
+none_passed = record { entered = []; exited = [] }
 
--- A call of a link went in, or none did.
+-- A call of a link entered, or none did.
 abbrev pub in_by : Passed → Option LinkNumber → Passed
 in_by p None = p
-in_by p (Some link) = record { went_in = p.went_in ++ link ∷ []; came_out = p.came_out }
+in_by p (Some link) = record { entered = p.entered ++ link ∷ []; exited = p.exited }
 
--- A call of a link came out, or none did.
+-- A call of a link left, or none did.
 abbrev pub out_by : Passed → Option LinkNumber → Passed
 out_by p None = p
-out_by p (Some link) = record { went_in = p.went_in; came_out = p.came_out ++ link ∷ [] }
+out_by p (Some link) = record { entered = p.entered; exited = p.exited ++ link ∷ [] }

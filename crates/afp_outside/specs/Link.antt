@@ -1,8 +1,8 @@
 -- What a link to a peer is seen as, and what its reads and writes do to it (this profile).
 use Rattle.std.specs.Prelude.{◌≡◌, ℕ, ◌≤◌, Bool, true, false, List, [], ◌∷◌, ◌++◌, length, take, Option, IfSome, option_map}
 use Rattle.afp_base.specs.Counts.{Rises, CountsOn}
-use Rattle.afp_outside.specs.declared.link.Heard.{Heard}
-use Rattle.afp_outside.specs.declared.link.Heard.TheVariants.{Got, Quiet, End, Failed}
+use Rattle.afp_outside.specs.declared.link.ReadResult.{ReadResult}
+use Rattle.afp_outside.specs.declared.link.ReadResult.TheVariants.{Got, Quiet, End, Failed}
 use Rattle.afp_outside.specs.declared.link.Wrote.{Wrote}
 use Rattle.afp_outside.specs.declared.link.Wrote.TheVariants.{Took, Failed as WriteFailed}
 
@@ -19,7 +19,7 @@ taken (piece written moment bytes ∷ events) = bytes ++ taken events
 taken (quiet written moment ∷ events) = taken events
 
 -- A link. The events, the bytes still coming and the bytes written are each known where the link
--- tells them; `now` and `heard` are seconds since 2000-01-01 00:00 GMT.
+-- tells them; `now` and `last_read` are seconds since 2000-01-01 00:00 GMT.
 pub record LinkState : Type 0 where
   pub events : Option (List Event)
   pub coming : Option (List ℕ)
@@ -29,7 +29,7 @@ pub record LinkState : Type 0 where
   pub write_faults : ℕ
   pub quiets : ℕ
   pub now : ℕ
-  pub heard : ℕ
+  pub last_read : ℕ
 
 -- A read that gave the n next bytes, which begin the room. Its clock may fail, so faults of reading may be counted beside it.
 pub record ReadsPiece (old : LinkState) (room : List ℕ) (n : ℕ) (new : LinkState) : Type 0 where
@@ -42,7 +42,7 @@ pub record ReadsPiece (old : LinkState) (room : List ℕ) (n : ℕ) (new : LinkS
   pub read_faults : old.read_faults ≤ new.read_faults
   pub write_faults : new.write_faults ≡ old.write_faults
   pub quiets : new.quiets ≡ old.quiets
-  pub heard : new.heard ≡ new.now
+  pub last_read : new.last_read ≡ new.now
 
 -- A read in whose time no byte came. Its clock may fail too.
 pub record ReadsQuiet (old new : LinkState) : Type 0 where
@@ -53,7 +53,7 @@ pub record ReadsQuiet (old new : LinkState) : Type 0 where
   pub read_faults : old.read_faults ≤ new.read_faults
   pub write_faults : new.write_faults ≡ old.write_faults
   pub quiets : CountsOn 1 old.quiets new.quiets
-  pub heard : new.heard ≡ old.heard
+  pub last_read : new.last_read ≡ old.last_read
 
 -- A read that found the end: no byte is left. Its clock may fail too.
 pub record ReadsEnd (old new : LinkState) : Type 0 where
@@ -65,7 +65,7 @@ pub record ReadsEnd (old new : LinkState) : Type 0 where
   pub read_faults : old.read_faults ≤ new.read_faults
   pub write_faults : new.write_faults ≡ old.write_faults
   pub quiets : new.quiets ≡ old.quiets
-  pub heard : new.heard ≡ old.heard
+  pub last_read : new.last_read ≡ old.last_read
 
 -- A read that failed: it took nothing, and its fault is counted, with one of its clock where that failed too.
 pub record FailsToRead (old new : LinkState) : Type 0 where
@@ -76,10 +76,10 @@ pub record FailsToRead (old new : LinkState) : Type 0 where
   pub read_faults : Rises 1 old.read_faults new.read_faults
   pub write_faults : new.write_faults ≡ old.write_faults
   pub quiets : new.quiets ≡ old.quiets
-  pub heard : new.heard ≡ old.heard
+  pub last_read : new.last_read ≡ old.last_read
 
 -- A read by its answer; `room` is the buffer after it. The moment of the read is `now` after it.
-abbrev pub Reads : LinkState → List ℕ → Heard → LinkState → Type 0
+abbrev pub Reads : LinkState → List ℕ → ReadResult → LinkState → Type 0
 Reads old room (Got n) new = ReadsPiece old room n new
 Reads old room Quiet new = ReadsQuiet old new
 Reads old room End new = ReadsEnd old new
@@ -97,7 +97,7 @@ pub record WritesPiece (old : LinkState) (offered : List ℕ) (n : ℕ) (new : L
   pub write_faults : new.write_faults ≡ old.write_faults
   pub quiets : new.quiets ≡ old.quiets
   pub now : new.now ≡ old.now
-  pub heard : new.heard ≡ old.heard
+  pub last_read : new.last_read ≡ old.last_read
 
 -- A write that failed: it wrote nothing, and its fault is counted, once.
 pub record FailsToWrite (old new : LinkState) : Type 0 where
@@ -109,7 +109,7 @@ pub record FailsToWrite (old new : LinkState) : Type 0 where
   pub write_faults : CountsOn 1 old.write_faults new.write_faults
   pub quiets : new.quiets ≡ old.quiets
   pub now : new.now ≡ old.now
-  pub heard : new.heard ≡ old.heard
+  pub last_read : new.last_read ≡ old.last_read
 
 -- A write by its answer.
 abbrev pub Writes : LinkState → List ℕ → Wrote → LinkState → Type 0
@@ -124,4 +124,4 @@ pub record IsFresh (link : LinkState) : Type 0 where
   pub read_faults : link.read_faults ≡ 0
   pub write_faults : link.write_faults ≡ 0
   pub quiets : link.quiets ≡ 0
-  pub heard : link.heard ≡ link.now
+  pub last_read : link.last_read ≡ link.now

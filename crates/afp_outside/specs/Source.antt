@@ -1,8 +1,8 @@
 -- Where bytes come from, and what a read of them does (this profile).
 use Rattle.std.specs.Prelude.{◌≡◌, ℕ, ◌≤◌, Bool, true, List, [], ◌++◌, length, take, Option, IfSome, option_map}
 use Rattle.afp_base.specs.Counts.{CountsOn}
-use Rattle.afp_outside.specs.declared.link.Heard.{Heard}
-use Rattle.afp_outside.specs.declared.link.Heard.TheVariants.{Got, Quiet, End, Failed}
+use Rattle.afp_outside.specs.declared.link.ReadResult.{ReadResult}
+use Rattle.afp_outside.specs.declared.link.ReadResult.TheVariants.{Got, Quiet, End, Failed}
 
 -- The bytes that its reads gave and the bytes still coming, each known where the source tells them; whether it has answered that
 -- nothing is left; and how often it failed.
@@ -37,7 +37,7 @@ pub record SourceFails (old new : SourceState) : Type 0 where
   pub faults : CountsOn 1 old.faults new.faults
 
 -- A read by its answer; `room` is the buffer after it. It is never a quiet.
-abbrev pub SourceReads : SourceState → List ℕ → Heard → SourceState → Type 0
+abbrev pub SourceReads : SourceState → List ℕ → ReadResult → SourceState → Type 0
 SourceReads old room (Got n) new = SourceGives old room n new
 SourceReads old room Quiet new = ⊥
 SourceReads old room End new = SourceEnds old new

@@ -6,8 +6,8 @@ use Rattle.afp_base.specs.Counts.{counted}
 use Rattle.afp_outside.specs.Link.{Event, piece, quiet, LinkState, IsFresh}
 use Rattle.afp_outside.specs.Sink.{SinkState}
 use Rattle.afp_outside.specs.Source.{SourceState}
-use Rattle.afp_outside.specs.declared.link.Heard.{Heard}
-use Rattle.afp_outside.specs.declared.link.Heard.TheVariants.{Got, Quiet, End, Failed}
+use Rattle.afp_outside.specs.declared.link.ReadResult.{ReadResult}
+use Rattle.afp_outside.specs.declared.link.ReadResult.TheVariants.{Got, Quiet, End, Failed}
 use Rattle.afp_outside.specs.declared.link.Wrote.{Wrote}
 use Rattle.afp_outside.specs.declared.link.Wrote.TheVariants.{Took, Failed as WriteFailed}
 use Rattle.afp_outside.specs.Listener.{DoorState}
@@ -34,33 +34,33 @@ pub record Incoming : Type 0 where
 
 -- What a read gave, what had been written before it, and its moment.
 pub record Reading : Type 0 where
-  pub heard : Heard
+  pub gave : ReadResult
   pub written : List ℕ
   pub moment : ℕ
 
 -- the event of a read, if it is one, of what it gave, what had been written, its moment, and the bytes to read
-abbrev pub event_of : Heard → List ℕ → ℕ → List ℕ → List Event
+abbrev pub event_of : ReadResult → List ℕ → ℕ → List ℕ → List Event
 event_of (Got n) written moment bytes = piece (Some written) moment (take n bytes) ∷ []
 event_of Quiet written moment bytes = quiet (Some written) moment ∷ []
 event_of End written moment bytes = []
 event_of Failed written moment bytes = []
 
 -- how many bytes a read gave
-abbrev pub heard_size : Heard → ℕ
-heard_size (Got n) = n
-heard_size Quiet = 0
-heard_size End = 0
-heard_size Failed = 0
+abbrev pub gave_size : ReadResult → ℕ
+gave_size (Got n) = n
+gave_size Quiet = 0
+gave_size End = 0
+gave_size Failed = 0
 
 -- the events of readings, of the bytes that all of them read from
 abbrev pub events_of : List ℕ → List Reading → List Event
 events_of bytes [] = []
-events_of bytes (it ∷ more) = event_of it.heard it.written it.moment bytes ++ events_of (drop (heard_size it.heard) bytes) more
+events_of bytes (it ∷ more) = event_of it.gave it.written it.moment bytes ++ events_of (drop (gave_size it.gave) bytes) more
 
 -- how many bytes the readings gave
 abbrev pub size_of : List Reading → ℕ
 size_of [] = 0
-size_of (it ∷ more) = heard_size it.heard + size_of more
+size_of (it ∷ more) = gave_size it.gave + size_of more
 
 -- What writes took, and the most bytes that each write still to come takes.
 pub record Outgoing : Type 0 where
@@ -84,7 +84,7 @@ pub record Tape : Type 0 where
   pub write_faults : ℕ
   pub quiets : ℕ
   pub moment : ℕ
-  pub heard : ℕ
+  pub last_read : ℕ
   pub reads : List ℕ
   pub writes : List ℕ
   pub moments : List ℕ
@@ -101,7 +101,7 @@ link_of tape = record {
   write_faults = tape.write_faults;
   quiets = tape.quiets;
   now = tape.moment;
-  heard = tape.heard;
+  last_read = tape.last_read;
 }
 
 -- it was neither read nor written
@@ -119,7 +119,7 @@ fresh_tape made bytes reads writes moments failing = record {
   write_faults = 0;
   quiets = 0;
   moment = made;
-  heard = made;
+  last_read = made;
   reads = reads;
   writes = writes;
   moments = moments;
@@ -131,11 +131,11 @@ abbrev pub read_size : List ℕ → ℕ → ℕ
 read_size [] room = room
 read_size (size ∷ sizes) room = min size room
 
--- what a read of at most so many bytes hears, of the bytes still coming: 0 is a quiet
-abbrev pub heard_of : ℕ → List ℕ → Heard
-heard_of zero coming = Quiet
-heard_of (suc most) [] = End
-heard_of (suc most) (byte ∷ bytes) = Got (min (suc most) (length (byte ∷ bytes)))
+-- what a read of at most so many bytes gives, of the bytes still coming: 0 is a quiet
+abbrev pub tape_gives : ℕ → List ℕ → ReadResult
+tape_gives zero coming = Quiet
+tape_gives (suc most) [] = End
+tape_gives (suc most) (byte ∷ bytes) = Got (min (suc most) (length (byte ∷ bytes)))
 
 -- the moment of the next read, of the moments to come and the last one
 abbrev pub next_moment : List ℕ → ℕ → ℕ
@@ -143,8 +143,8 @@ next_moment [] last = last
 next_moment (moment ∷ moments) last = moment
 
 -- A read follows the plan; one that fails uses up a moment, and no size.
-pub record TapeReads (old : Tape) (room : ℕ) (heard : Heard) (new : Tape) : Type 0 where
-  pub answer : heard ≡ (if fails old.calls then Failed else heard_of (read_size old.reads room) old.coming)
+pub record TapeReads (old : Tape) (room : ℕ) (gave : ReadResult) (new : Tape) : Type 0 where
+  pub answer : gave ≡ (if fails old.calls then Failed else tape_gives (read_size old.reads room) old.coming)
   pub moment : new.moment ≡ next_moment old.moments old.moment
   pub moments : new.moments ≡ drop 1 old.moments
   pub reads : new.reads ≡ (if fails old.calls then old.reads else drop 1 old.reads)
@@ -235,13 +235,13 @@ abbrev pub source_read_size : List ℕ → ℕ → ℕ
 source_read_size [] room = room
 source_read_size (size ∷ sizes) room = min (max 1 size) room
 
--- what a read of at most so many bytes hears, of the bytes still coming
-abbrev pub source_heard : ℕ → List ℕ → Heard
-source_heard most [] = End
-source_heard most (byte ∷ bytes) = Got (min most (length (byte ∷ bytes)))
+-- what a read of at most so many bytes gives, of the bytes still coming
+abbrev pub source_gives : ℕ → List ℕ → ReadResult
+source_gives most [] = End
+source_gives most (byte ∷ bytes) = Got (min most (length (byte ∷ bytes)))
 
 -- A read follows the plan; one that fails uses up no size.
-pub record TapeSourceReads (old : SourceTape) (room : ℕ) (heard : Heard) (new : SourceTape) : Type 0 where
-  pub answer : heard ≡ (if fails old.calls then Failed else source_heard (source_read_size old.reads room) old.coming)
+pub record TapeSourceReads (old : SourceTape) (room : ℕ) (gave : ReadResult) (new : SourceTape) : Type 0 where
+  pub answer : gave ≡ (if fails old.calls then Failed else source_gives (source_read_size old.reads room) old.coming)
   pub reads : new.reads ≡ (if fails old.calls then old.reads else drop 1 old.reads)
   pub calls : new.calls ≡ after_call old.calls

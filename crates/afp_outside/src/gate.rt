@@ -9,7 +9,7 @@ use std::marker::Model;
 /// Goes before and after each call of a link, so that a test can hold one back. It cannot fail.
 ///
 /// Nothing can be said of what it keeps itself. So whoever calls keeps a log, which only the gate makes and makes longer: it tells
-/// contracts which calls went in and came out.
+/// contracts which calls entered and left.
 pub trait Gate {
     ghost use Rattle.std.specs.Prelude.{◌≡◌, Some};
     ghost use Rattle.afp_outside.specs.Gate.{Passed, none_passed, in_by, out_by};
@@ -34,11 +34,11 @@ pub trait Gate {
 
 /// A log that any gate may use. Only proofs read it, and it takes no memory.
 ///
-/// Contracts see the links whose calls went in, and those whose calls came out.
+/// Contracts see the links whose calls entered, and those whose calls left.
 #[derive(Drop)]
 pub struct GateLog {
-    went_in: Log<LinkNumber>,
-    came_out: Log<LinkNumber>,
+    entered: Log<LinkNumber>,
+    exited: Log<LinkNumber>,
 }
 
 impl Model for GateLog {
@@ -46,7 +46,7 @@ impl Model for GateLog {
 
     ghost Value = { Passed };
 
-    ghost view = { λ l. record { went_in = l.went_in.items; came_out = l.came_out.items } };
+    ghost view = { λ l. record { entered = l.entered.items; exited = l.exited.items } };
 }
 
 impl GateLog {
@@ -55,23 +55,23 @@ impl GateLog {
         ensures { result ≡ none_passed }
     {
         GateLog {
-            went_in: Log::new(),
-            came_out: Log::new(),
+            entered: Log::new(),
+            exited: Log::new(),
         }
     }
 
-    /// Notes that a call of a link went in.
-    pub fn go_in(&mut self, link: LinkNumber)
+    /// Notes that a call of a link entered.
+    pub fn enter(&mut self, link: LinkNumber)
         ensures { self.new ≡ in_by self.old (Some link) }
     {
-        self.went_in = self.went_in.and(&link);
+        self.entered = self.entered.and(&link);
     }
 
-    /// Notes that a call of a link came out.
-    pub fn come_out(&mut self, link: LinkNumber)
+    /// Notes that a call of a link left.
+    pub fn exit(&mut self, link: LinkNumber)
         ensures { self.new ≡ out_by self.old (Some link) }
     {
-        self.came_out = self.came_out.and(&link);
+        self.exited = self.exited.and(&link);
     }
 }
 
@@ -89,10 +89,10 @@ impl Gate for OpenGate {
     }
 
     fn before(&self, link: LinkNumber, log: &mut GateLog) {
-        log.go_in(link);
+        log.enter(link);
     }
 
     fn after(&self, link: LinkNumber, log: &mut GateLog) {
-        log.come_out(link);
+        log.exit(link);
     }
 }

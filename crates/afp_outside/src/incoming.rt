@@ -2,7 +2,7 @@
 ghost use Rattle.std.specs.Prelude.{◌≡◌, ◌≤◌, ◌++◌, ◌∷◌, [], Some, length, take, drop};
 ghost use Rattle.afp_outside.specs.Link.{piece, quiet};
 
-use crate::link::Heard;
+use crate::link::ReadResult;
 use crate::reading::Reading;
 use afp_base::{Bytes, Moment};
 use ghost_log::Log;
@@ -62,7 +62,7 @@ impl Incoming {
         self.place = end;
         self.readings = self
             .readings
-            .and(&Reading::new(Heard::Got(n), written, moment));
+            .and(&Reading::new(ReadResult::Got(n), written, moment));
     }
 
     /// Gives a quiet at a moment, when so much is written.
@@ -73,6 +73,6 @@ impl Incoming {
     {
         self.readings = self
             .readings
-            .and(&Reading::new(Heard::Quiet, written, moment));
+            .and(&Reading::new(ReadResult::Quiet, written, moment));
     }
 }

@@ -4,7 +4,7 @@ use afp_base::Moment;
 
 /// What a read gave.
 #[derive(Clone, Copy, Debug, PartialEq, Eq)]
-pub enum Heard {
+pub enum ReadResult {
     /// So many bytes, 1 or more, at the beginning of the room.
     Got(usize),
     /// No byte in the time that a read waits.
@@ -33,7 +33,7 @@ pub trait Link {
     ghost link_state: { Self → LinkState };
 
     /// Reads the next bytes into `room`, as many as come, up to its length.
-    fn read(&mut self, room: &mut [u8]) -> Heard
+    fn read(&mut self, room: &mut [u8]) -> ReadResult
         requires { 0 < length room.old }
         ensures { Reads (link_state self.old) room.new result (link_state self.new) };
 
@@ -47,6 +47,6 @@ pub trait Link {
         ensures { result ≡ (link_state self.now).now };
 
     /// The moment of the last read that gave bytes, or else that at which the link was made.
-    fn heard(&self) -> Moment
-        ensures { result ≡ (link_state self.now).heard };
+    fn last_read(&self) -> Moment
+        ensures { result ≡ (link_state self.now).last_read };
 }

@@ -1,7 +1,7 @@
 //! A read, as proofs alone look back at it.
 ghost use Rattle.std.specs.Prelude.{◌≡◌};
 
-use crate::link::Heard;
+use crate::link::ReadResult;
 use afp_base::{Bytes, Moment};
 use std::marker::Model;
 use std::snapshot::Snapshot;
@@ -9,7 +9,7 @@ use std::snapshot::Snapshot;
 /// What a read gave, what had been written before it, and its moment.
 #[derive(Drop)]
 pub struct Reading {
-    heard: Heard,
+    gave: ReadResult,
     written: Snapshot<Bytes>,
     moment: Moment,
 }
@@ -19,16 +19,16 @@ impl Model for Reading {
 
     ghost Value = { Reading };
 
-    ghost view = { λ a. record { heard = a.heard; written = a.written.value; moment = a.moment } };
+    ghost view = { λ a. record { gave = a.gave; written = a.written.value; moment = a.moment } };
 }
 
 impl Reading {
     /// A read that gives this at a moment, when so much is written.
-    pub fn new(heard: Heard, written: &Bytes, moment: Moment) -> Reading
-        ensures { result ≡ record { heard = heard; written = written.now; moment = moment } }
+    pub fn new(gave: ReadResult, written: &Bytes, moment: Moment) -> Reading
+        ensures { result ≡ record { gave = gave; written = written.now; moment = moment } }
     {
         Reading {
-            heard,
+            gave,
             written: Snapshot::of(written),
             moment,
         }

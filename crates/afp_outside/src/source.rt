@@ -1,6 +1,6 @@
 //! Where bytes come from.
 
-use crate::link::Heard;
+use crate::link::ReadResult;
 
 /// Gives bytes, as a file or the standard input does. A read is never a quiet.
 pub trait Source {
@@ -11,7 +11,7 @@ pub trait Source {
     ghost source_state: { Self → SourceState };
 
     /// Reads the next bytes into `room`, as many as come, up to its length.
-    fn read(&mut self, room: &mut [u8]) -> Heard
+    fn read(&mut self, room: &mut [u8]) -> ReadResult
         requires { 0 < length room.old }
         ensures { SourceReads (source_state self.old) room.new result (source_state self.new) };
 }

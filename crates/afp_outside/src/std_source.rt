@@ -1,6 +1,6 @@
 //! A source that reads the standard input.
 
-use crate::link::Heard;
+use crate::link::ReadResult;
 use crate::source::Source;
 use std::io::Read;
 use std::marker::Model;
@@ -40,16 +40,16 @@ impl<R> StdSource<R> {
 impl<R: Read> Source for StdSource<R> {
     ghost source_state = { λ source. source };
 
-    fn read(&mut self, room: &mut [u8]) -> Heard {
+    fn read(&mut self, room: &mut [u8]) -> ReadResult {
         match self.reader.read(room) {
             Ok(0) => {
                 self.ended = true;
-                Heard::End
+                ReadResult::End
             }
-            Ok(n) => Heard::Got(n),
+            Ok(n) => ReadResult::Got(n),
             Err(_) => {
                 self.faults = self.faults.saturating_add(1);
-                Heard::Failed
+                ReadResult::Failed
             }
         }
     }

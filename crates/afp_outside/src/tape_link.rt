@@ -5,7 +5,7 @@ ghost use Rattle.afp_outside.specs.Tape.{link_of, fresh_tape, TapeReads, TapeWri
 
 use crate::calls::PlannedCalls;
 use crate::incoming::Incoming;
-use crate::link::{Heard, Link, Wrote};
+use crate::link::{ReadResult, Link, Wrote};
 use crate::outgoing::Outgoing;
 use afp_base::{Bytes, Moment, OutOfMemory};
 use std::alloc::Global;
@@ -27,7 +27,7 @@ pub struct TapeLink {
     write_faults: u64,
     quiets: u64,
     moment: Moment,
-    heard: Moment,
+    last_read: Moment,
 }
 
 impl Model for TapeLink {
@@ -44,7 +44,7 @@ impl Model for TapeLink {
       write_faults = a.write_faults;
       quiets = a.quiets;
       moment = a.moment;
-      heard = a.heard;
+      last_read = a.last_read;
       reads = a.reads.items;
       writes = a.outgoing.writes;
       moments = a.moments.items;
@@ -82,7 +82,7 @@ impl TapeLink {
             write_faults: 0,
             quiets: 0,
             moment: made,
-            heard: made,
+            last_read: made,
         })
     }
 
@@ -119,7 +119,7 @@ fn next_moment(moments: &mut VecDeque<Moment>, now: Moment) -> Moment
 impl Link for TapeLink {
     ghost link_state = { link_of };
 
-    fn read(&mut self, room: &mut [u8]) -> Heard
+    fn read(&mut self, room: &mut [u8]) -> ReadResult
         requires { 0 < length room.old }
         ensures reads { Reads (link_of self.old) room.new result (link_of self.new) }
         ensures tape { TapeReads self.old (length room.old) result self.new }
@@ -127,24 +127,24 @@ impl Link for TapeLink {
         self.moment = next_moment(&mut self.moments, self.moment);
         if self.calls.fails() {
             self.read_faults = self.read_faults.saturating_add(1);
-            return Heard::Failed;
+            return ReadResult::Failed;
         }
         let most = next_size(&mut self.reads, room.len());
         if most == 0 {
             self.incoming.be_quiet(self.outgoing.written(), self.moment);
             self.quiets = self.quiets.saturating_add(1);
-            return Heard::Quiet;
+            return ReadResult::Quiet;
         }
         let left = self.incoming.left();
         if left == 0 {
             self.ended = true;
-            return Heard::End;
+            return ReadResult::End;
         }
         let n = most.min(left);
         self.incoming
             .give(n, room, self.outgoing.written(), self.moment);
-        self.heard = self.moment;
-        Heard::Got(n)
+        self.last_read = self.moment;
+        ReadResult::Got(n)
     }
 
     fn write(&mut self, piece: &[u8]) -> Wrote
@@ -165,7 +165,7 @@ impl Link for TapeLink {
         self.moment
     }
 
-    fn heard(&self) -> Moment {
-        self.heard
+    fn last_read(&self) -> Moment {
+        self.last_read
     }
 }

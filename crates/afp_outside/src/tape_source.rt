@@ -4,7 +4,7 @@ ghost use Rattle.afp_outside.specs.Source.{SourceReads};
 ghost use Rattle.afp_outside.specs.Tape.{source_of, fresh_source, source_read_size, TapeSourceReads};
 
 use crate::calls::PlannedCalls;
-use crate::link::Heard;
+use crate::link::ReadResult;
 use crate::source::Source;
 use afp_base::{Bytes, OutOfMemory};
 use std::collections::VecDeque;
@@ -126,23 +126,23 @@ fn next_size(reads: &mut VecDeque<usize>, room: usize) -> usize
 impl Source for TapeSource {
     ghost source_state = { source_of };
 
-    fn read(&mut self, room: &mut [u8]) -> Heard
+    fn read(&mut self, room: &mut [u8]) -> ReadResult
         requires { 0 < length room.old }
         ensures reads { SourceReads (source_of self.old) room.new result (source_of self.new) }
         ensures tape { TapeSourceReads self.old (length room.old) result self.new }
     {
         if self.calls.fails() {
             self.faults = self.faults.saturating_add(1);
-            return Heard::Failed;
+            return ReadResult::Failed;
         }
         let most = next_size(&mut self.reads, room.len());
         let left = self.bytes.left();
         if left == 0 {
             self.ended = true;
-            return Heard::End;
+            return ReadResult::End;
         }
         let n = most.min(left);
         self.bytes.give(n, room);
-        Heard::Got(n)
+        ReadResult::Got(n)
     }
 }

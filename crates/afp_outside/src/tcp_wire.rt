@@ -2,7 +2,7 @@
 ghost use Rattle.std.specs.Prelude.{◌≡◌, ◌≤◌, ◌<◌, length, max, IfOk, IfSome};
 ghost use Rattle.afp_outside.specs.Link.{IsFresh, Reads};
 
-use crate::link::{Heard, Link, Wrote};
+use crate::link::{ReadResult, Link, Wrote};
 use crate::steady_clock::SteadyClock;
 use afp_base::Moment;
 use std::io;
@@ -38,7 +38,7 @@ pub struct TcpWire<C> {
     stream: TcpStream,
     clock: SteadyClock<C>,
     moment: Moment,
-    heard: Moment,
+    last_read: Moment,
     ended: bool,
     read_faults: u64,
     write_faults: u64,
@@ -60,7 +60,7 @@ impl<C> Model for TcpWire<C> {
       write_faults = a.write_faults;
       quiets = a.quiets;
       now = a.moment;
-      heard = a.heard;
+      last_read = a.last_read;
     } };
 }
 
@@ -78,7 +78,7 @@ impl<C: Clock + Drop> TcpWire<C> {
             stream,
             clock,
             moment: made,
-            heard: made,
+            last_read: made,
             ended: false,
             read_faults: 0,
             write_faults: 0,
@@ -166,7 +166,7 @@ fn later(one: Moment, other: Moment) -> Moment
 impl<C: Clock> Link for TcpWire<C> {
     ghost link_state = { λ link. link };
 
-    fn read(&mut self, room: &mut [u8]) -> Heard
+    fn read(&mut self, room: &mut [u8]) -> ReadResult
         requires { 0 < length room.old }
         ensures reads { Reads self.old room.new result self.new }
         ensures steady { self.old.now ≤ self.new.now }
@@ -179,19 +179,19 @@ impl<C: Clock> Link for TcpWire<C> {
         match outcome {
             Ok(0) => {
                 self.ended = true;
-                Heard::End
+                ReadResult::End
             }
             Ok(n) => {
-                self.heard = self.moment;
-                Heard::Got(n)
+                self.last_read = self.moment;
+                ReadResult::Got(n)
             }
             Err(error) if has_only_waited(&error) => {
                 self.quiets = self.quiets.saturating_add(1);
-                Heard::Quiet
+                ReadResult::Quiet
             }
             Err(_) => {
                 self.read_faults = self.read_faults.saturating_add(1);
-                Heard::Failed
+                ReadResult::Failed
             }
         }
     }
@@ -210,8 +210,8 @@ impl<C: Clock> Link for TcpWire<C> {
         self.moment
     }
 
-    fn heard(&self) -> Moment {
-        self.heard
+    fn last_read(&self) -> Moment {
+        self.last_read
     }
 }
 

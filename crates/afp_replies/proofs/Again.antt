@@ -16,7 +16,7 @@ use Rattle.afp_replies.specs.declared.reply.Reply.TheVariants as replies
 use Rattle.afp_replies.specs.declared.reply.ReplyKind.{ReplyKind}
 use Rattle.afp_replies.specs.declared.volumes.VolumeEntry.{VolumeEntry}
 use Rattle.afp_replies.specs.Bytes as bytes
-use Rattle.afp_replies.specs.Bytes.{width, counted, flag_of}
+use Rattle.afp_replies.specs.Bytes.{width, with_count, flag_of}
 use Rattle.afp_replies.specs.Entry.{is_dir, bits_for, kind_for, pad_count, entry_bytes, FitsEntry}
 use Rattle.afp_replies.specs.Words.{ReplyWord, Number, Exactly, Asked, Raw, Pad, Counted, Flag, Entry, Value, Spells}
 use Rattle.afp_replies.specs.Layout.{Layout, Is, Then, Params, Begins, Has}
@@ -76,17 +76,17 @@ good_status r b h = subst (Good layouts.status) (sym h) (record { fits = tt; aga
 
 good_token : (r : Reply) (b : List ℕ) → Has layouts.token r b → Good layouts.token r
 good_token r b h =
-    subst (Good layouts.token) (sym h.behind.0) (record { fits = h.spelt.0; again = put_front (Counted 4) _ h.value (counted 4 h.value) [] (h.spelt.0, refl) (refl, refl) })
+    subst (Good layouts.token) (sym h.behind.0) (record { fits = h.spelt.0; again = put_front (Counted 4) _ h.value (with_count 4 h.value) [] (h.spelt.0, refl) (refl, refl) })
 
 good_comment : (r : Reply) (b : List ℕ) → Has layouts.comment r b → Good layouts.comment r
 good_comment r b h =
-    subst (Good layouts.comment) (sym h.behind.0) (record { fits = h.spelt.0; again = put_front (Counted 1) _ h.value (counted 1 h.value) [] (h.spelt.0, refl) (refl, refl) })
+    subst (Good layouts.comment) (sym h.behind.0) (record { fits = h.spelt.0; again = put_front (Counted 1) _ h.value (with_count 1 h.value) [] (h.spelt.0, refl) (refl, refl) })
 
 good_mapped : (o : Option Bool) (r : Reply) (b : List ℕ) → Has (mapped o) r b → Good (mapped o) r
 good_mapped None r b h = absurd h
 good_mapped (Some wide) r b h =
     subst (Good (mapped (Some wide))) (sym h.behind.0)
-    (record { fits = h.spelt.0; again = put_front (Counted (width wide)) _ h.value (counted (width wide) h.value) [] (h.spelt.0, refl) (refl, refl) })
+    (record { fits = h.spelt.0; again = put_front (Counted (width wide)) _ h.value (with_count (width wide) h.value) [] (h.spelt.0, refl) (refl, refl) })
 
 good_icon_info : (r : Reply) (b : List ℕ) → Has layouts.icon_info r b → Good layouts.icon_info r
 good_icon_info r b h =
@@ -130,7 +130,7 @@ holds_text wide true next r b h = record {
   fits = h.spelt.0;
   rest = h.rest;
   behind = h.behind;
-  again = λ more k. put_front (Counted (width wide)) _ h.value (counted (width wide) h.value) more (h.spelt.0, refl) k;
+  again = λ more k. put_front (Counted (width wide)) _ h.value (with_count (width wide) h.value) more (h.spelt.0, refl) k;
 }
 holds_text wide false next r b h = record { value = None; fits = tt; rest = b; behind = h; again = λ more k. k }
 
@@ -207,15 +207,15 @@ row_of_volumes (suc count) before next r b h =
       behind = subst (λ (x : List VolumeEntry). Has (next x) r rest.rest) same rest.behind;
       again = λ more k.
           let back = rest.again more (subst (λ (x : List VolumeEntry). Has (next x) r more) (sym same) k) in
-          let whole : (bytes.u8 flags.value ++ counted 1 name.value) ++ concat (map volume_bytes rest.all) ≡ bytes.u8 flags.value ++ (counted 1 name.value ++ concat (map volume_bytes rest.all)) =
-          append_assoc (bytes.u8 flags.value) (counted 1 name.value) (concat (map volume_bytes rest.all)) in
-          let bytes_are : bytes.u8 flags.value ++ (counted 1 name.value ++ (concat (map volume_bytes rest.all) ++ more)) ≡ concat (map volume_bytes (v ∷ rest.all)) ++ more =
-          ap (λ (x : List ℕ). bytes.u8 flags.value ++ x) (sym (append_assoc (counted 1 name.value) (concat (map volume_bytes rest.all)) more))
-          ∙ sym (append_assoc (bytes.u8 flags.value) (counted 1 name.value ++ concat (map volume_bytes rest.all)) more)
+          let whole : (bytes.u8 flags.value ++ with_count 1 name.value) ++ concat (map volume_bytes rest.all) ≡ bytes.u8 flags.value ++ (with_count 1 name.value ++ concat (map volume_bytes rest.all)) =
+          append_assoc (bytes.u8 flags.value) (with_count 1 name.value) (concat (map volume_bytes rest.all)) in
+          let bytes_are : bytes.u8 flags.value ++ (with_count 1 name.value ++ (concat (map volume_bytes rest.all) ++ more)) ≡ concat (map volume_bytes (v ∷ rest.all)) ++ more =
+          ap (λ (x : List ℕ). bytes.u8 flags.value ++ x) (sym (append_assoc (with_count 1 name.value) (concat (map volume_bytes rest.all)) more))
+          ∙ sym (append_assoc (bytes.u8 flags.value) (with_count 1 name.value ++ concat (map volume_bytes rest.all)) more)
           ∙ ap (λ (x : List ℕ). x ++ more) (sym whole) in
           subst (λ (l : Layout). Has l r (concat (map volume_bytes (v ∷ rest.all)) ++ more)) (sym (volumes_suc count before next))
           (subst (Has (volume (λ x. volumes count (before ++ (x ∷ [])) next)) r) bytes_are
-          (put_front (Number 1) _ flags.value (bytes.u8 flags.value) _ (flags.spelt.0, refl) (put_front (Counted 1) _ name.value (counted 1 name.value) _ (name.spelt.0, refl) back)));
+          (put_front (Number 1) _ flags.value (bytes.u8 flags.value) _ (flags.spelt.0, refl) (put_front (Counted 1) _ name.value (with_count 1 name.value) _ (name.spelt.0, refl) back)));
     }
 
 pub entries_zero : (wide : Bool) (fb db : ℕ) (before : List ListEntry) (next : List ListEntry → Layout) → entries wide fb db 0 before next ≡ next before

@@ -12,9 +12,9 @@ use Rattle.afp_replies.specs.declared.list.ListEntry.{ListEntry}
 use Rattle.afp_replies.specs.declared.reply.ReplyFault.{ReplyFault}
 use Rattle.afp_replies.specs.declared.reply.ReplyFault.TheVariants.{Bad, Memory}
 use Rattle.afp_replies.specs.Bytes.{flag_of, width}
-use Rattle.afp_replies.specs.Entry.{is_dir, bits_for, kind_for, node_params, pad_count, head_size, IsEntry, IsCounted, stated, length_unfit, flag_unfit, params_unfit}
+use Rattle.afp_replies.specs.Entry.{is_dir, bits_for, kind_for, node_params, pad_count, head_size, IsEntry, HasEntryLength, stated, length_unfit, flag_unfit, params_unfit}
 use Rattle.afp_replies.specs.Words.{Entry}
-use Rattle.afp_replies.specs.lemma.Reading.{Rest, Took, Takes, FrontIs, TakesParams, entry_result}
+use Rattle.afp_replies.specs.lemma.Reading.{Rest, Took, TakesWord, FrontIs, TakesParams, entry_result}
 use Rattle.afp_replies.proofs.Spellings.{same_piece, same_rest, piece_size, piece_split}
 use Rattle.afp_replies.proofs.NumberLemmas.{number_again, length-big_bytes, bytes_again, big_number-lt, IsBytes, IsBytes-take}
 
@@ -83,7 +83,7 @@ flag_tells false false e = refl
 -- an entry at the front of bytes
 pub record Stands (wide : Bool) (fb db : ℕ) (e : ListEntry) (bytes other : List ℕ) : Type 0 where
   pub size : length other ≡ stated wide bytes
-  pub counted : IsCounted wide bytes
+  pub counted : HasEntryLength wide bytes
   pub flag : get_or other (width wide) 0 ≡ flag_of (is_dir e.values)
   pub params : drop (head_size wide) other ≡ node_params fb db e.values
 
@@ -126,7 +126,7 @@ same_entry wide fb db dir old new piece e other rest f flag h split =
       bytes = ap (drop {A = ℕ} (head_size wide)) (sym same) ∙ st.params ∙ ap (λ (d : Bool). params (bits_for d fb db) e.values) is;
     }
 
-pub entry_took : (wide : Bool) (fb db : ℕ) (dir : Bool) (old new : Rest) (piece : List ℕ) (v : Values) → IsCounted wide old.bytes → FrontIs (stated wide old.bytes) old piece new
+pub entry_took : (wide : Bool) (fb db : ℕ) (dir : Bool) (old new : Rest) (piece : List ℕ) (v : Values) → HasEntryLength wide old.bytes → FrontIs (stated wide old.bytes) old piece new
     → get_or piece (width wide) 0 ≡ flag_of dir → TakesParams (kind_for dir) (bits_for dir fb db) (inner wide old piece) (Ok v) → Took (Entry wide fb db) old (record { values = v }) new
 entry_took wide fb db dir old new piece v k f flag t =
     let w : ℕ = width wide in
@@ -163,8 +163,8 @@ entry_took wide fb db dir old new piece v k f flag t =
           (ap (λ (x : Values). let r : ListEntry = record { values = x } in r) (t.2 y.values a.answer a.bytes), same_rest n old new piece other more f st.size e);
     }
 
-pub entry_lacks : (wide : Bool) (fb db : ℕ) (dir : Bool) (old new : Rest) (piece : List ℕ) (e : ReplyFault) → IsCounted wide old.bytes → FrontIs (stated wide old.bytes) old piece new
-    → get_or piece (width wide) 0 ≡ flag_of dir → TakesParams (kind_for dir) (bits_for dir fb db) (inner wide old piece) (Err e) → Takes (Entry wide fb db) old (Err e) new
+pub entry_lacks : (wide : Bool) (fb db : ℕ) (dir : Bool) (old new : Rest) (piece : List ℕ) (e : ReplyFault) → HasEntryLength wide old.bytes → FrontIs (stated wide old.bytes) old piece new
+    → get_or piece (width wide) 0 ≡ flag_of dir → TakesParams (kind_for dir) (bits_for dir fb db) (inner wide old piece) (Err e) → TakesWord (Entry wide fb db) old (Err e) new
 entry_lacks wide fb db dir old new piece Memory k f flag t = tt
 entry_lacks wide fb db dir old new piece (Bad at) k f flag t =
     let h : head_size wide ≤ stated wide old.bytes = k.enough in
@@ -180,18 +180,18 @@ entry_lacks wide fb db dir old new piece (Bad at) k f flag t =
     )
 
 -- both, as the code has them
-pub entry_takes : (wide : Bool) (fb db : ℕ) (dir : Bool) (old new : Rest) (piece : List ℕ) (res : Result Values ReplyFault) → IsCounted wide old.bytes → FrontIs (stated wide old.bytes) old piece new
-    → get_or piece (width wide) 0 ≡ flag_of dir → TakesParams (kind_for dir) (bits_for dir fb db) (inner wide old piece) res → Takes (Entry wide fb db) old (entry_result res) new
+pub entry_takes : (wide : Bool) (fb db : ℕ) (dir : Bool) (old new : Rest) (piece : List ℕ) (res : Result Values ReplyFault) → HasEntryLength wide old.bytes → FrontIs (stated wide old.bytes) old piece new
+    → get_or piece (width wide) 0 ≡ flag_of dir → TakesParams (kind_for dir) (bits_for dir fb db) (inner wide old piece) res → TakesWord (Entry wide fb db) old (entry_result res) new
 entry_takes wide fb db dir old new piece (Ok v) k f flag t = entry_took wide fb db dir old new piece v k f flag t
 entry_takes wide fb db dir old new piece (Err e) k f flag t = entry_lacks wide fb db dir old new piece e k f flag t
 
 -- the length of an entry is not there, or does not fit
-pub entry_uncounted : (wide : Bool) (fb db : ℕ) (old new : Rest) (at : ℕ) → (IsCounted wide old.bytes → ⊥) → at ≡ old.place → Takes (Entry wide fb db) old (Err (Bad at)) new
+pub entry_uncounted : (wide : Bool) (fb db : ℕ) (old new : Rest) (at : ℕ) → (HasEntryLength wide old.bytes → ⊥) → at ≡ old.place → TakesWord (Entry wide fb db) old (Err (Bad at)) new
 entry_uncounted wide fb db old new at unfit e =
     ((λ x first rest s split. unfit (stands wide fb db x old.bytes first rest s split).counted), length_unfit unfit e)
 
-pub entry_unflagged : (wide : Bool) (fb db : ℕ) (old new : Rest) (piece : List ℕ) (at : ℕ) → IsCounted wide old.bytes → FrontIs (stated wide old.bytes) old piece new
-    → ((dir : Bool) → get_or piece (width wide) 0 ≢ flag_of dir) → at ≡ old.place + width wide → Takes (Entry wide fb db) old (Err (Bad at)) new
+pub entry_unflagged : (wide : Bool) (fb db : ℕ) (old new : Rest) (piece : List ℕ) (at : ℕ) → HasEntryLength wide old.bytes → FrontIs (stated wide old.bytes) old piece new
+    → ((dir : Bool) → get_or piece (width wide) 0 ≢ flag_of dir) → at ≡ old.place + width wide → TakesWord (Entry wide fb db) old (Err (Bad at)) new
 entry_unflagged wide fb db old new piece at k f unfit e =
     let h : head_size wide ≤ stated wide old.bytes = k.enough in
     let whole : head_size wide ≡ width wide + (1 + pad_count wide) = refl in
@@ -214,10 +214,10 @@ inner_is wide old piece place head p h =
     let r : ℕ → ℕ → Rest = λ q d. record { place = q + d; bytes = drop d piece } in
     ap (λ (x : List ℕ). let s : Rest = record { place = place + head; bytes = x } in s) all ∙ ap (λ (q : ℕ). r q head) p ∙ ap (λ (d : ℕ). r old.place d) h
 
-pub entry_here : (wide : Bool) (fb db : ℕ) (dir : Bool) (old new : Rest) (piece : List ℕ) (place head size : ℕ) (res : Result Values ReplyFault) → IsCounted wide old.bytes
+pub entry_here : (wide : Bool) (fb db : ℕ) (dir : Bool) (old new : Rest) (piece : List ℕ) (place head size : ℕ) (res : Result Values ReplyFault) → HasEntryLength wide old.bytes
     → FrontIs (stated wide old.bytes) old piece new → place ≡ old.place → head ≡ head_size wide → size ≡ width wide → get_or piece size 0 ≡ flag_of dir
     → TakesParams (kind_for dir) (bits_for dir fb db) (record { place = place + head; bytes = take (length piece - head) (drop head piece) }) res
-    → Takes (Entry wide fb db) old (entry_result res) new
+    → TakesWord (Entry wide fb db) old (entry_result res) new
 entry_here wide fb db dir old new piece place head size res k f p h s flag t =
     entry_takes wide fb db dir old new piece res k f (ap (λ (i : ℕ). get_or piece i 0) (sym s) ∙ flag)
     (subst (λ (r : Rest). TakesParams (kind_for dir) (bits_for dir fb db) r res) (inner_is wide old piece place head p h) t)

@@ -18,7 +18,7 @@ use Rattle.afp_replies.specs.declared.reply.Reply.TheVariants as replies
 use Rattle.afp_replies.specs.declared.reply.ReplyKind.{ReplyKind}
 use Rattle.afp_replies.specs.declared.volumes.VolumeEntry.{VolumeEntry}
 use Rattle.afp_replies.specs.Bytes as bytes
-use Rattle.afp_replies.specs.Bytes.{width, counted, flag_of}
+use Rattle.afp_replies.specs.Bytes.{width, with_count, flag_of}
 use Rattle.afp_replies.specs.Entry.{is_dir, bits_for, kind_for, entry_bytes, FitsEntry}
 use Rattle.afp_replies.specs.Words.{Number, Exactly, Asked, Raw, Pad, Counted, Flag, Entry}
 use Rattle.afp_replies.specs.Layout.{Layout, Is, Then, Has}
@@ -145,7 +145,7 @@ shown_optional false next r None more f h = h
 shown_text : (wide asked : Bool) (next : Option (List ℕ) → Layout) (r : Reply) (x : Option (List ℕ)) (more : List ℕ) → FitsText wide asked x → Has (next x) r more
     → Has (optional_text wide asked next) r (message_bytes wide x ++ more)
 unfolding optional_text
-shown_text wide true next r (Some x) more f h = put_front (Counted (width wide)) _ x (counted (width wide) x) more (f, refl) h
+shown_text wide true next r (Some x) more f h = put_front (Counted (width wide)) _ x (with_count (width wide) x) more (f, refl) h
 shown_text wide true next r None more f h = absurd f
 shown_text wide false next r (Some x) more f h = absurd f
 shown_text wide false next r None more f h = h
@@ -156,11 +156,11 @@ shown_volumes [] before next r more f h = subst (λ (l : Layout). Has l r more) 
 shown_volumes (v ∷ all) before next r more f h =
     let back = shown_volumes all (before ++ (v ∷ [])) next r more f.1 (subst (λ (x : List VolumeEntry). Has (next x) r more) (sym (with_more before v all)) h) in
     let tail : List ℕ = concat (map volume_bytes all) in
-    let bytes_are : bytes.u8 v.flags ++ (counted 1 v.name ++ (tail ++ more)) ≡ (volume_bytes v ++ tail) ++ more =
-    sym (append_assoc (bytes.u8 v.flags) (counted 1 v.name) (tail ++ more)) ∙ sym (append_assoc (volume_bytes v) tail more) in
+    let bytes_are : bytes.u8 v.flags ++ (with_count 1 v.name ++ (tail ++ more)) ≡ (volume_bytes v ++ tail) ++ more =
+    sym (append_assoc (bytes.u8 v.flags) (with_count 1 v.name) (tail ++ more)) ∙ sym (append_assoc (volume_bytes v) tail more) in
     subst (λ (l : Layout). Has l r ((volume_bytes v ++ tail) ++ more)) (sym (volumes_suc (length all) before next))
     (subst (Has (volume (λ x. volumes (length all) (before ++ (x ∷ [])) next)) r) bytes_are
-    (put_front (Number 1) _ v.flags (bytes.u8 v.flags) _ (f.0.0, refl) (put_front (Counted 1) _ v.name (counted 1 v.name) _ (f.0.1, refl) back)))
+    (put_front (Number 1) _ v.flags (bytes.u8 v.flags) _ (f.0.0, refl) (put_front (Counted 1) _ v.name (with_count 1 v.name) _ (f.0.1, refl) back)))
 
 shown_entries : (wide : Bool) (fb db : ℕ) (all before : List ListEntry) (next : List ListEntry → Layout) (r : Reply) (more : List ℕ) → AllByRecursion (FitsEntry wide fb db) all
     → Has (next (before ++ all)) r more → Has (entries wide fb db (length all) before next) r (concat (map (entry_bytes wide fb db) all) ++ more)
@@ -205,8 +205,8 @@ has_list_of wide fb db all shape kind f is =
     (subst (λ (l : Layout). Has l (replies.List wide fb db all) (canonical_reply (replies.List wide fb db all))) (list_layout wide fb db kind is.1 is.2)
     (subst (Has (layouts.list wide fb db) (replies.List wide fb db all)) (list_bytes wide fb db all) (has_list wide fb db all f)))
 
-has_name : (wide : Bool) (name : List ℕ) → length name < 256 ^ width wide → Has (layouts.name wide) (replies.MappedName wide name) (counted (width wide) name ++ [])
-has_name wide name f = put_front (Counted (width wide)) _ name (counted (width wide) name) [] (f, refl) (refl, refl)
+has_name : (wide : Bool) (name : List ℕ) → length name < 256 ^ width wide → Has (layouts.name wide) (replies.MappedName wide name) (with_count (width wide) name ++ [])
+has_name wide name f = put_front (Counted (width wide)) _ name (with_count (width wide) name) [] (f, refl) (refl, refl)
 
 has_block : (kind bits : ℕ) (v : Values) → IsWithin (mask_of kind) bits → IsAnswer kind bits v → Has (layouts.params kind bits) (replies.Params bits v) (bytes.u16 bits ++ (params bits v ++ []))
 has_block kind bits v w a = put_front (Asked (mask_of kind) bits) _ tt (bytes.u16 bits) _ (w, refl) (has_params kind bits (λ x. replies.Params bits x) v a)
@@ -290,7 +290,7 @@ has_fields (replies.Status block) shape kind f is = at_shape shape shapes.Status
 has_fields (replies.ServerParams time all) shape kind f is = at_shape shape shapes.ServerParams kind _ _ is (has_server_params time all f)
 has_fields (replies.MappedName wide name) shape kind f is =
     at_shape shape shapes.MappedName kind _ _ is.0
-    (subst (λ (o : Option Bool). Has (layouts.mapped o) (replies.MappedName wide name) (counted (width wide) name ++ [])) (sym is.1) (has_name wide name f))
+    (subst (λ (o : Option Bool). Has (layouts.mapped o) (replies.MappedName wide name) (with_count (width wide) name ++ [])) (sym is.1) (has_name wide name f))
 has_fields (replies.MappedId x) shape kind f is = at_shape shape shapes.MappedId kind _ _ is (put_front (Number 4) _ x (bytes.u32 x) [] (f, refl) (refl, refl))
 has_fields (replies.Opened bits reference v) shape kind f is =
     at_shape shape shapes.Opened kind _ _ is.0 (at_bits layouts.opened bits kind.bits _ _ is.1 (has_opened bits reference v f))
@@ -306,8 +306,8 @@ has_fields (replies.Message k bits text) shape kind f is =
 has_fields (replies.Desk x) shape kind f is = at_shape shape shapes.Desk kind _ _ is (put_front (Number 2) _ x (bytes.u16 x) [] (f, refl) (refl, refl))
 has_fields (replies.IconInfo tag k icon_kind size) shape kind f is = at_shape shape shapes.IconInfo kind _ _ is (has_icon_info tag k icon_kind size f)
 has_fields (replies.Appl bits tag v) shape kind f is = at_shape shape shapes.Appl kind _ _ is.0 (at_bits layouts.appl bits kind.bits _ _ is.1 (has_appl bits tag v f))
-has_fields (replies.Comment x) shape kind f is = at_shape shape shapes.Comment kind _ _ is (put_front (Counted 1) _ x (counted 1 x) [] (f, refl) (refl, refl))
-has_fields (replies.Token x) shape kind f is = at_shape shape shapes.Token kind _ _ is (put_front (Counted 4) _ x (counted 4 x) [] (f, refl) (refl, refl))
+has_fields (replies.Comment x) shape kind f is = at_shape shape shapes.Comment kind _ _ is (put_front (Counted 1) _ x (with_count 1 x) [] (f, refl) (refl, refl))
+has_fields (replies.Token x) shape kind f is = at_shape shape shapes.Token kind _ _ is (put_front (Counted 4) _ x (with_count 4 x) [] (f, refl) (refl, refl))
 
 -- ---- refusals
 

@@ -5,10 +5,10 @@ use Rattle.byteorder.specs.Endian.{big_number, big_bytes}
 use Rattle.afp_bitmap.specs.Bits.{IsWithin}
 use Rattle.afp_replies.specs.declared.reply.ReplyFault.{ReplyFault}
 use Rattle.afp_replies.specs.declared.reply.ReplyFault.TheVariants.{Bad, Memory}
-use Rattle.afp_replies.specs.Bytes.{counted}
+use Rattle.afp_replies.specs.Bytes.{with_count}
 use Rattle.afp_replies.specs.Words.{Number, Exactly, Asked, Raw, Counted}
 use Rattle.afp_replies.specs.Layout.{Lacks}
-use Rattle.afp_replies.specs.lemma.Reading.{Rest, Took, Takes, Front, FrontIs}
+use Rattle.afp_replies.specs.lemma.Reading.{Rest, Took, TakesWord, Front, FrontIs}
 use Rattle.afp_replies.proofs.NumberLemmas.{bytes_again, number_again, length-big_bytes, big_number-lt}
 
 -- the front and the rest of a list that is split
@@ -58,7 +58,7 @@ pub number_lacks : (n : ℕ) (bytes : List ℕ) → length bytes < n → Lacks (
 number_lacks n bytes lt x first rest s e = too_short n bytes first rest lt (ap (length {A = ℕ}) s.1 ∙ length-big_bytes n x) e
 
 -- the bits that were asked, as the number that they must be
-pub asked_takes : (mask bits : ℕ) (old new : Rest) (res : Result (Unit {0}) ReplyFault) → IsWithin mask bits → Takes (Exactly 2 bits) old res new → Takes (Asked mask bits) old res new
+pub asked_takes : (mask bits : ℕ) (old new : Rest) (res : Result (Unit {0}) ReplyFault) → IsWithin mask bits → TakesWord (Exactly 2 bits) old res new → TakesWord (Asked mask bits) old res new
 asked_takes mask bits old new (Ok x) w t = record {
   first = t.first;
   spelt = (w, t.spelt);
@@ -81,15 +81,15 @@ raw_took n old new piece f = record {
 }
 
 -- the count of a text, and behind it the text
-counted_head : (n : ℕ) (old mid : Rest) (head y rest : List ℕ) → FrontIs n old head mid → old.bytes ≡ counted n y ++ rest → big_bytes n (length y) ≡ head
+counted_head : (n : ℕ) (old mid : Rest) (head y rest : List ℕ) → FrontIs n old head mid → old.bytes ≡ with_count n y ++ rest → big_bytes n (length y) ≡ head
 counted_head n old mid head y rest f e =
     same_piece n old mid head (big_bytes n (length y)) (y ++ rest) f (length-big_bytes n (length y)) (e ∙ append_assoc (big_bytes n (length y)) y rest)
 
-counted_rest : (n : ℕ) (old mid : Rest) (head y rest : List ℕ) → FrontIs n old head mid → old.bytes ≡ counted n y ++ rest → mid.bytes ≡ y ++ rest
+counted_rest : (n : ℕ) (old mid : Rest) (head y rest : List ℕ) → FrontIs n old head mid → old.bytes ≡ with_count n y ++ rest → mid.bytes ≡ y ++ rest
 counted_rest n old mid head y rest f e =
     sym (same_rest n old mid head (big_bytes n (length y)) (y ++ rest) f (length-big_bytes n (length y)) (e ∙ append_assoc (big_bytes n (length y)) y rest))
 
-counted_size : (n : ℕ) (old mid : Rest) (head y rest : List ℕ) → FrontIs n old head mid → length y < 256 ^ n → old.bytes ≡ counted n y ++ rest → length y ≡ big_number n head
+counted_size : (n : ℕ) (old mid : Rest) (head y rest : List ℕ) → FrontIs n old head mid → length y < 256 ^ n → old.bytes ≡ with_count n y ++ rest → length y ≡ big_number n head
 counted_size n old mid head y rest f lt e = number_alone n (length y) lt ∙ ap (big_number n) (counted_head n old mid head y rest f e)
 
 pub counted_took : (n : ℕ) (old mid new : Rest) (head text : List ℕ) → FrontIs n old head mid → FrontIs (big_number n head) mid text new → Took (Counted n) old text new
@@ -105,7 +105,7 @@ counted_took n old mid new head text f g =
       split = piece_split n old mid head f ∙ ap (λ (r : List ℕ). head ++ r) (piece_split (big_number n head) mid new text g) ∙ sym (append_assoc head text new.bytes);
       place = g.place ∙ (let first : mid.place ≡ old.place + n = f.place in omega arith);
       only = λ y other rest s e.
-          let split : old.bytes ≡ counted n y ++ rest = e ∙ ap (λ (o : List ℕ). o ++ rest) s.1 in
+          let split : old.bytes ≡ with_count n y ++ rest = e ∙ ap (λ (o : List ℕ). o ++ rest) s.1 in
           let sized : length y ≡ big_number n head = counted_size n old mid head y rest f s.0 split in
           let behind : mid.bytes ≡ y ++ rest = counted_rest n old mid head y rest f split in
           (same_piece (big_number n head) mid new text y rest g sized behind, same_rest (big_number n head) mid new text y rest g sized behind);
@@ -119,10 +119,10 @@ counted_lacks n bytes lt x first rest s e =
 -- the text is cut off
 pub counted_cut : (n : ℕ) (old mid : Rest) (head : List ℕ) → FrontIs n old head mid → length mid.bytes < big_number n head → Lacks (Counted n) old.bytes
 counted_cut n old mid head f lt x first rest s e =
-    let split : old.bytes ≡ counted n x ++ rest = e ∙ ap (λ (o : List ℕ). o ++ rest) s.1 in
+    let split : old.bytes ≡ with_count n x ++ rest = e ∙ ap (λ (o : List ℕ). o ++ rest) s.1 in
     too_short (big_number n head) mid.bytes x rest lt (counted_size n old mid head x rest f s.0 split) (counted_rest n old mid head x rest f split)
 
-pub counted_stops : (n : ℕ) (old mid new : Rest) (e : ReplyFault) → Front n old (Err e) mid → Takes (Counted n) old (Err e) new
+pub counted_stops : (n : ℕ) (old mid new : Rest) (e : ReplyFault) → Front n old (Err e) mid → TakesWord (Counted n) old (Err e) new
 counted_stops n old mid new Memory h = tt
 counted_stops n old mid new (Bad at) h = (counted_lacks n old.bytes h.0, h.1)
 

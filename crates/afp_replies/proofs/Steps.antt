@@ -5,7 +5,7 @@ use Rattle.afp_replies.specs.declared.reply.ReplyFault.{ReplyFault}
 use Rattle.afp_replies.specs.declared.reply.ReplyFault.TheVariants.{Bad, Memory}
 use Rattle.afp_replies.specs.Words.{ReplyWord, Number, Counted, Entry, Value}
 use Rattle.afp_replies.specs.Layout.{Layout, Is, Never, Then, Remaining, Params, Has, StopsAt}
-use Rattle.afp_replies.specs.lemma.Reading.{Rest, Took, IsRead, Takes, Reads, Ends, TakesParams}
+use Rattle.afp_replies.specs.lemma.Reading.{Rest, Took, IsRead, TakesWord, ReadsPart, Ends, TakesParams}
 use Rattle.afp_bitmap.specs.declared.params.Values.{Values}
 use Rattle.afp_replies.specs.declared.list.ListEntry.{ListEntry}
 use Rattle.afp_replies.specs.Layouts.{optional, optional_text, volume, volumes, entries}
@@ -41,7 +41,7 @@ goes_on w next old new x (Err (Bad at)) t h = record {
   none = λ s b. h.none s (behind w next old new x s t b);
 }
 
-pub stops_here : (w : ReplyWord) (next : Value w → Layout) (old new : Rest) (e : ReplyFault) → Takes w old (Err e) new → IsRead (Then w next) old (Err e)
+pub stops_here : (w : ReplyWord) (next : Value w → Layout) (old new : Rest) (e : ReplyFault) → TakesWord w old (Err e) new → IsRead (Then w next) old (Err e)
 unfolding IsRead
 stops_here w next old new Memory h = tt
 stops_here w next old new (Bad at) h = record {
@@ -72,27 +72,27 @@ unfolding IsRead
 never_stops here = record { stops = refl; none = λ s h. h }
 
 -- parts of a field, or of none
-pub optional_some : (old new : Rest) (x : ℕ) → Took (Number 4) old x new → Reads (optional true) old (Ok (Some x)) new
+pub optional_some : (old new : Rest) (x : ℕ) → Took (Number 4) old x new → ReadsPart (optional true) old (Ok (Some x)) new
 unfolding optional
 optional_some old new x t = λ next res h. goes_on (Number 4) (λ y. next (Some y)) old new x res t h
 
-pub optional_stops : (old new : Rest) (e : ReplyFault) → Takes (Number 4) old (Err e) new → Reads (optional true) old (Err e) new
+pub optional_stops : (old new : Rest) (e : ReplyFault) → TakesWord (Number 4) old (Err e) new → ReadsPart (optional true) old (Err e) new
 unfolding optional
 optional_stops old new e t = λ next. stops_here (Number 4) (λ y. next (Some y)) old new e t
 
-pub optional_none : (old : Rest) → Reads (optional false) old (Ok None) old
+pub optional_none : (old : Rest) → ReadsPart (optional false) old (Ok None) old
 unfolding optional
 optional_none old = λ next res h. h
 
-pub text_some : (wide : Bool) (old new : Rest) (x : List ℕ) → Took (Counted (width wide)) old x new → Reads (optional_text wide true) old (Ok (Some x)) new
+pub text_some : (wide : Bool) (old new : Rest) (x : List ℕ) → Took (Counted (width wide)) old x new → ReadsPart (optional_text wide true) old (Ok (Some x)) new
 unfolding optional_text
 text_some wide old new x t = λ next res h. goes_on (Counted (width wide)) (λ y. next (Some y)) old new x res t h
 
-pub text_stops : (wide : Bool) (old new : Rest) (e : ReplyFault) → Takes (Counted (width wide)) old (Err e) new → Reads (optional_text wide true) old (Err e) new
+pub text_stops : (wide : Bool) (old new : Rest) (e : ReplyFault) → TakesWord (Counted (width wide)) old (Err e) new → ReadsPart (optional_text wide true) old (Err e) new
 unfolding optional_text
 text_stops wide old new e t = λ next. stops_here (Counted (width wide)) (λ y. next (Some y)) old new e t
 
-pub text_none : (wide : Bool) (old : Rest) → Reads (optional_text wide false) old (Ok None) old
+pub text_none : (wide : Bool) (old : Rest) → ReadsPart (optional_text wide false) old (Ok None) old
 unfolding optional_text
 text_none wide old = λ next res h. h
 
@@ -106,7 +106,7 @@ pub volumes_more : (more : ℕ) (before : List VolumeEntry) (next : List VolumeE
 unfolding volumes
 volumes_more more before next = refl
 
-pub volume_read : (count i : ℕ) (before : List VolumeEntry) (old new : Rest) (v : VolumeEntry) → i < count → Reads volume old (Ok v) new
+pub volume_read : (count i : ℕ) (before : List VolumeEntry) (old new : Rest) (v : VolumeEntry) → i < count → ReadsPart volume old (Ok v) new
     → (next : List VolumeEntry → Layout) (res : Result Reply ReplyFault) → IsRead (volumes (count - (i + 1)) (before ++ (v ∷ [])) next) new res → IsRead (volumes (count - i) before next) old res
 volume_read count i before old new v lt r next res h =
     let one : count - i ≡ suc (count - (i + 1)) = omega arith in
@@ -142,7 +142,7 @@ entry_read wide fb db count i before old new e lt t next res h =
     rw (one, entries_more wide fb db (count - (i + 1)) before next)
     (goes_on (Entry wide fb db) (λ x. entries wide fb db (count - (i + 1)) (before ++ (x ∷ [])) next) old new e res t h)
 
-pub entry_stops : (wide : Bool) (fb db count i : ℕ) (before : List ListEntry) (old new : Rest) (fault : ReplyFault) → i < count → Takes (Entry wide fb db) old (Err fault) new
+pub entry_stops : (wide : Bool) (fb db count i : ℕ) (before : List ListEntry) (old new : Rest) (fault : ReplyFault) → i < count → TakesWord (Entry wide fb db) old (Err fault) new
     → (next : List ListEntry → Layout) → IsRead (entries wide fb db (count - i) before next) old (Err fault)
 entry_stops wide fb db count i before old new fault lt t next =
     let one : count - i ≡ suc (count - (i + 1)) = omega arith in

@@ -26,8 +26,8 @@ abbrev pub pad : List ℕ
 pad = 0 ∷ []
 
 -- a text with its count in so many bytes before it
-abbrev pub counted : ℕ → List ℕ → List ℕ
-counted n text = big_bytes n (length text) ++ text
+abbrev pub with_count : ℕ → List ℕ → List ℕ
+with_count n text = big_bytes n (length text) ++ text
 
 -- the flag of a directory, and that of a file (AFP Reference, FPGetFileDirParms)
 abbrev pub flag_of : Bool → ℕ

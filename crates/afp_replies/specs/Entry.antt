@@ -68,7 +68,7 @@ abbrev pub stated : Bool → List ℕ → ℕ
 stated wide bytes = big_number (width wide) bytes
 
 -- the bytes from the first have a length that an entry can have, and all bytes that it counts
-pub record IsCounted (wide : Bool) (bytes : List ℕ) : Type 0 where
+pub record HasEntryLength (wide : Bool) (bytes : List ℕ) : Type 0 where
   pub there : width wide ≤ length bytes
   pub enough : head_size wide ≤ stated wide bytes
   pub inside : stated wide bytes ≤ length bytes
@@ -82,8 +82,8 @@ params_part wide bytes = drop (head_size wide) (take (stated wide bytes) bytes)
 -- So it is where the length counts less than what stands before the parameters.
 -- Else it is at a flag that is neither a directory's nor a file's, or where the bytes that the length counts stop being parameters.
 pub data IsEntryBadAt (wide : Bool) (file_bits dir_bits place : ℕ) (bytes : List ℕ) (at : ℕ) : Type 0 where
-  length_unfit : (IsCounted wide bytes → ⊥) → at ≡ place → IsEntryBadAt wide file_bits dir_bits place bytes at
-  flag_unfit : IsCounted wide bytes → ((dir : Bool) → slice_index bytes (width wide) ≢ flag_of dir) → at ≡ place + width wide → IsEntryBadAt wide file_bits dir_bits place bytes at
-  params_unfit : (dir : Bool) (within : ℕ) → IsCounted wide bytes → slice_index bytes (width wide) ≡ flag_of dir
+  length_unfit : (HasEntryLength wide bytes → ⊥) → at ≡ place → IsEntryBadAt wide file_bits dir_bits place bytes at
+  flag_unfit : HasEntryLength wide bytes → ((dir : Bool) → slice_index bytes (width wide) ≢ flag_of dir) → at ≡ place + width wide → IsEntryBadAt wide file_bits dir_bits place bytes at
+  params_unfit : (dir : Bool) (within : ℕ) → HasEntryLength wide bytes → slice_index bytes (width wide) ≡ flag_of dir
       → IsBadAt (kind_for dir) (bits_for dir file_bits dir_bits) (params_part wide bytes) within → at ≡ place + (head_size wide + within)
       → IsEntryBadAt wide file_bits dir_bits place bytes at

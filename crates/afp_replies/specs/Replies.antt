@@ -13,7 +13,7 @@ use Rattle.afp_replies.specs.declared.reply.ReplyFault.{ReplyFault}
 use Rattle.afp_replies.specs.declared.reply.ReplyFault.TheVariants as faults
 use Rattle.afp_replies.specs.declared.reply.ReplyKind.{ReplyKind}
 use Rattle.afp_replies.specs.Numbers.{utf8_bit}
-use Rattle.afp_replies.specs.Bytes.{u8, u16, u32, u64, optional, pad, counted, flag_of, width}
+use Rattle.afp_replies.specs.Bytes.{u8, u16, u32, u64, optional, pad, with_count, flag_of, width}
 use Rattle.afp_replies.specs.Entry.{is_dir, node_params, entry_bytes}
 use Rattle.afp_replies.specs.Layout.{Layout, Has, StopsAt}
 use Rattle.afp_replies.specs.Commands.{shape_of, reply_layout}
@@ -45,12 +45,12 @@ IfBad (Err (faults.Bad at)) P = P at
 
 -- a volume of the server: flags 1, name
 abbrev pub volume_bytes : VolumeEntry → List ℕ
-volume_bytes v = u8 v.flags ++ counted 1 v.name
+volume_bytes v = u8 v.flags ++ with_count 1 v.name
 
 -- a message with its count in a byte or two, where there is one
 abbrev pub message_bytes : Bool → Option (List ℕ) → List ℕ
 message_bytes wide None = []
-message_bytes wide (Some text) = counted (width wide) text
+message_bytes wide (Some text) = with_count (width wide) text
 
 -- the fields of a reply in order, as they are written: pads are 0
 abbrev pub fields : Reply → List (List ℕ)
@@ -64,7 +64,7 @@ fields (replies.List wide file_bits dir_bits rows) = u16 file_bits ∷ u16 dir_b
 fields (Params bits values) = u16 bits ∷ params bits values ∷ []
 fields (Status block) = block ∷ []
 fields (ServerParams time volumes) = u32 (cast_unsigned w32 time) ∷ u8 (length volumes) ∷ map volume_bytes volumes
-fields (MappedName wide name) = counted (width wide) name ∷ []
+fields (MappedName wide name) = with_count (width wide) name ∷ []
 fields (MappedId id) = u32 id ∷ []
 fields (Opened bits reference values) = u16 bits ∷ u16 reference.0 ∷ params bits values ∷ []
 fields (Piece piece) = piece ∷ []
@@ -75,8 +75,8 @@ fields (Message kind bits message) = u16 kind ∷ u16 bits ∷ message_bytes (is
 fields (Desk dt) = u16 dt ∷ []
 fields (IconInfo tag kind icon_kind size) = u32 tag ∷ kind ∷ u8 icon_kind ∷ pad ∷ u16 size ∷ []
 fields (Appl bits tag values) = u16 bits ∷ u32 tag ∷ params bits values ∷ []
-fields (Comment comment) = counted 1 comment ∷ []
-fields (Token token) = counted 4 token ∷ []
+fields (Comment comment) = with_count 1 comment ∷ []
+fields (Token token) = with_count 4 token ∷ []
 
 -- the bytes of a reply, as they are written
 abbrev pub canonical_reply : Reply → List ℕ

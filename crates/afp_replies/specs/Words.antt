@@ -3,7 +3,7 @@ use Rattle.std.specs.Prelude.{◌≡◌, ℕ, ◌^◌, ◌<◌, Bool, List, [], 
 use Rattle.byteorder.specs.Endian.{big_bytes}
 use Rattle.afp_bitmap.specs.Bits.{IsWithin}
 use Rattle.afp_replies.specs.declared.list.ListEntry.{ListEntry}
-use Rattle.afp_replies.specs.Bytes.{counted, flag_of}
+use Rattle.afp_replies.specs.Bytes.{with_count, flag_of}
 use Rattle.afp_replies.specs.Entry.{IsEntry, IsEntryBadAt}
 
 -- The sorts of fields: an unsigned number of so many bytes; a number of so many bytes that must be this one;
@@ -38,7 +38,7 @@ Spells (Exactly n y) x bytes = bytes ≡ big_bytes n y
 Spells (Asked mask bits) x bytes = IsWithin mask bits × (bytes ≡ big_bytes 2 bits)
 Spells (Raw n) x bytes = (length x ≡ n) × (bytes ≡ x)
 Spells Pad x bytes = length bytes ≡ 1
-Spells (Counted n) x bytes = (length x < 256 ^ n) × (bytes ≡ counted n x)
+Spells (Counted n) x bytes = (length x < 256 ^ n) × (bytes ≡ with_count n x)
 Spells Flag x bytes = bytes ≡ flag_of x ∷ []
 Spells (Entry wide file_bits dir_bits) x bytes = IsEntry wide file_bits dir_bits x bytes
 

@@ -4,7 +4,7 @@ ghost use Rattle.afp_bitmap.specs.Bits.{IsWithin, mask_of, file_mask, dir_mask};
 ghost use Rattle.afp_replies.specs.declared.reply.ReplyFault.TheVariants.{Bad};
 ghost use Rattle.afp_replies.specs.Bytes.{width};
 ghost use Rattle.afp_replies.specs.Layouts.{optional, optional_text};
-ghost use Rattle.afp_replies.specs.lemma.Reading.{Rest, Takes, Reads, Front, Ends, IsBytes, TakesParams, TakesText, TakesEntryBytes, entry_result};
+ghost use Rattle.afp_replies.specs.lemma.Reading.{Rest, TakesWord, ReadsPart, Front, Ends, IsBytes, TakesParams, TakesText, TakesEntryBytes, entry_result};
 ghost use Rattle.afp_replies.specs.Words.{Number, Exactly, Asked, Raw, Pad, Counted, Flag, Entry};
 
 use crate::fields::{DIR, DIRECTORY, FILE, head_size, width};
@@ -36,7 +36,7 @@ impl<'a> Model for Cursor<'a> {
 }
 
 impl<'a> Cursor<'a> {
-    ghost use Rattle.afp_replies.specs.lemma.Reading.{Rest, Takes, Front, Ends, IsBytes};
+    ghost use Rattle.afp_replies.specs.lemma.Reading.{Rest, TakesWord, Front, Ends, IsBytes};
 
     /// A cursor at the first byte.
     pub(crate) fn new(bytes: &'a [u8]) -> Cursor<'a>
@@ -78,7 +78,7 @@ impl<'a> Cursor<'a> {
 
     /// A number of 1 byte.
     pub(crate) fn u8(&mut self) -> Result<u8, ReplyFault>
-        ensures { Takes (Number 1) self.old result self.new }
+        ensures { TakesWord (Number 1) self.old result self.new }
     {
         let piece = self.front(1)?;
         Ok(piece[0])
@@ -86,7 +86,7 @@ impl<'a> Cursor<'a> {
 
     /// A number of 2 bytes.
     pub(crate) fn u16(&mut self) -> Result<u16, ReplyFault>
-        ensures { Takes (Number 2) self.old result self.new }
+        ensures { TakesWord (Number 2) self.old result self.new }
     {
         let piece = self.front(2)?;
         Ok(BigEndian::read_u16(piece))
@@ -94,7 +94,7 @@ impl<'a> Cursor<'a> {
 
     /// A number of 4 bytes.
     pub(crate) fn u32(&mut self) -> Result<u32, ReplyFault>
-        ensures { Takes (Number 4) self.old result self.new }
+        ensures { TakesWord (Number 4) self.old result self.new }
     {
         let piece = self.front(4)?;
         Ok(BigEndian::read_u32(piece))
@@ -102,7 +102,7 @@ impl<'a> Cursor<'a> {
 
     /// A number of 8 bytes.
     pub(crate) fn u64(&mut self) -> Result<u64, ReplyFault>
-        ensures { Takes (Number 8) self.old result self.new }
+        ensures { TakesWord (Number 8) self.old result self.new }
     {
         let piece = self.front(8)?;
         Ok(BigEndian::read_u64(piece))
@@ -110,7 +110,7 @@ impl<'a> Cursor<'a> {
 
     /// A number of 2 bytes that must be this one.
     pub(crate) fn exactly(&mut self, number: u16) -> Result<(), ReplyFault>
-        ensures { Takes (Exactly 2 number) self.old result self.new }
+        ensures { TakesWord (Exactly 2 number) self.old result self.new }
     {
         let at = self.place();
         let piece = self.front(2)?;
@@ -123,7 +123,7 @@ impl<'a> Cursor<'a> {
 
     /// The bits that were asked, which must lie in the mask.
     pub(crate) fn asked(&mut self, mask: u16, bits: u16) -> Result<(), ReplyFault>
-        ensures { Takes (Asked mask bits) self.old result self.new }
+        ensures { TakesWord (Asked mask bits) self.old result self.new }
     {
         if bits & mask == bits {
             self.exactly(bits)
@@ -134,7 +134,7 @@ impl<'a> Cursor<'a> {
 
     /// 4 bytes as they are.
     pub(crate) fn raw4(&mut self) -> Result<[u8; 4], ReplyFault>
-        ensures { Takes (Raw 4) self.old result self.new }
+        ensures { TakesWord (Raw 4) self.old result self.new }
     {
         let piece = self.front(4)?;
         let mut bytes = [0; 4];
@@ -144,7 +144,7 @@ impl<'a> Cursor<'a> {
 
     /// A pad byte.
     pub(crate) fn pad(&mut self) -> Result<(), ReplyFault>
-        ensures { Takes Pad self.old result self.new }
+        ensures { TakesWord Pad self.old result self.new }
     {
         let _piece = self.front(1)?;
         Ok(())
@@ -170,7 +170,7 @@ impl<'a> Cursor<'a> {
     pub(crate) fn counted(&mut self, alloc: Global, size: usize) -> Result<Bytes, ReplyFault>
         requires some { 1 ≤ size }
         requires few { size ≤ 4 }
-        ensures { Takes (Counted size) self.old result self.new }
+        ensures { TakesWord (Counted size) self.old result self.new }
     {
         let text = self.counted_piece(size)?;
         Ok(Bytes::of(alloc, text)?)
@@ -178,14 +178,14 @@ impl<'a> Cursor<'a> {
 
     /// A text with its count in 1 byte before it, or in 2 where it is wide.
     pub(crate) fn text(&mut self, alloc: Global, wide: bool) -> Result<Bytes, ReplyFault>
-        ensures { Takes (Counted (width wide)) self.old result self.new }
+        ensures { TakesWord (Counted (width wide)) self.old result self.new }
     {
         self.counted(alloc, width(wide))
     }
 
     /// The flag of a directory or a file.
     pub(crate) fn flag(&mut self) -> Result<bool, ReplyFault>
-        ensures { Takes Flag self.old result self.new }
+        ensures { TakesWord Flag self.old result self.new }
     {
         let at = self.place();
         let piece = self.front(1)?;
@@ -198,7 +198,7 @@ impl<'a> Cursor<'a> {
 
     /// A number of 4 bytes, where it is asked.
     pub(crate) fn optional(&mut self, asked: bool) -> Result<Option<u32>, ReplyFault>
-        ensures { Reads (optional asked) self.old result self.new }
+        ensures { ReadsPart (optional asked) self.old result self.new }
     {
         if asked {
             Ok(Some(self.u32()?))
@@ -214,7 +214,7 @@ impl<'a> Cursor<'a> {
         wide: bool,
         asked: bool,
     ) -> Result<Option<Bytes>, ReplyFault>
-        ensures { Reads (optional_text wide asked) self.old result self.new }
+        ensures { ReadsPart (optional_text wide asked) self.old result self.new }
     {
         if asked {
             Ok(Some(self.text(alloc, wide)?))
@@ -257,7 +257,7 @@ impl<'a> Cursor<'a> {
     ) -> Result<ListEntry, ReplyFault>
         requires file { IsWithin file_mask file_bits }
         requires dir { IsWithin dir_mask dir_bits }
-        ensures { Takes (Entry wide file_bits dir_bits) self.old result self.new }
+        ensures { TakesWord (Entry wide file_bits dir_bits) self.old result self.new }
     {
         let place = self.place();
         let entry = self.entry_bytes(wide)?;

@@ -1,7 +1,7 @@
 //! Numbers and bytes of fields.
 ghost use Rattle.std.specs.Prelude.{◌≡◌, ◌≤◌, ◌<◌, ◌^◌, ◌++◌, length, OnOk, OnErr};
 ghost use Rattle.afp_replies.specs.Entry.{head_size};
-ghost use Rattle.afp_replies.specs.Bytes.{counted, width};
+ghost use Rattle.afp_replies.specs.Bytes.{with_count, width};
 ghost use Rattle.afp_base.specs.Appended.{Keeps};
 
 use afp_base::{Bytes, OutOfMemory};
@@ -51,7 +51,7 @@ pub(crate) fn head_size(wide: bool) -> usize
 /// Appends a text with its count in 1 byte, or in 2 where it is wide.
 pub(crate) fn put_text(wide: bool, text: &[u8], out: &mut Bytes) -> Result<(), OutOfMemory>
     requires { length text.now < 256 ^ width wide }
-    ensures ok { OnOk result (out.new ≡ out.old ++ counted (width wide) text.now) }
+    ensures ok { OnOk result (out.new ≡ out.old ++ with_count (width wide) text.now) }
     ensures err { OnErr result (Keeps out.old out.new) }
 {
     if wide {

@@ -2,7 +2,7 @@
 ghost use Rattle.std.specs.Prelude.{◌≡◌, ◌≤◌, []};
 ghost use Rattle.afp_bitmap.specs.Bits.{IsWithin, mask_of, file_mask, dir_mask};
 ghost use Rattle.afp_replies.specs.Layouts as layouts;
-ghost use Rattle.afp_replies.specs.lemma.Reading.{IsRead, Reads};
+ghost use Rattle.afp_replies.specs.lemma.Reading.{IsRead, ReadsPart};
 
 use crate::commands::{
     GROUP_ID_TO_NAME, GROUP_ID_TO_UTF8_NAME, USER_ID_TO_NAME, USER_ID_TO_UTF8_NAME,
@@ -218,7 +218,7 @@ pub(crate) fn read_message(
 
 /// Reads a volume of FPGetSrvrParms: flags (1), volume name (Pascal string).
 fn read_volume(alloc: Global, cursor: &mut Cursor<'_>) -> Result<VolumeEntry, ReplyFault>
-    ensures { Reads layouts.volume cursor.old result cursor.new }
+    ensures { ReadsPart layouts.volume cursor.old result cursor.new }
 {
     let flags = cursor.u8()?;
     let name = cursor.counted(alloc, 1)?;
@@ -227,7 +227,7 @@ fn read_volume(alloc: Global, cursor: &mut Cursor<'_>) -> Result<VolumeEntry, Re
 
 /// So many volumes of FPGetSrvrParms.
 fn read_volumes(alloc: Global, count: u8, cursor: &mut Cursor<'_>) -> Result<VolumeList, ReplyFault>
-    ensures { Reads (layouts.volumes count []) cursor.old result cursor.new }
+    ensures { ReadsPart (layouts.volumes count []) cursor.old result cursor.new }
 {
     let mut volumes = VolumeList::new(alloc);
     for _i in 0..count {
@@ -379,7 +379,7 @@ fn read_entries(
 ) -> Result<ListRows, ReplyFault>
     requires file { IsWithin file_mask file_bits }
     requires dir { IsWithin dir_mask dir_bits }
-    ensures { Reads (layouts.entries wide file_bits dir_bits count []) cursor.old result cursor.new }
+    ensures { ReadsPart (layouts.entries wide file_bits dir_bits count []) cursor.old result cursor.new }
 {
     let mut rows = ListRows::new(alloc);
     for _i in 0..count {

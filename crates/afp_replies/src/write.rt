@@ -6,7 +6,7 @@ ghost use Rattle.byteorder.specs.Endian.{big_bytes};
 ghost use Rattle.afp_bitmap.specs.Bits.{IsWithin, file_mask, dir_mask, is_asked};
 ghost use Rattle.afp_bitmap.specs.Params.{params};
 ghost use Rattle.afp_bitmap.specs.Table.{kind_of};
-ghost use Rattle.afp_replies.specs.Bytes.{u8, u16, u32, optional, pad, counted, flag_of, width};
+ghost use Rattle.afp_replies.specs.Bytes.{u8, u16, u32, optional, pad, with_count, flag_of, width};
 ghost use Rattle.afp_replies.specs.Entry.{is_dir, bits_for, pad_count, node_params, entry_bytes, FitsEntry};
 ghost use Rattle.afp_replies.specs.Numbers.{file_kind, utf8_bit};
 ghost use Rattle.afp_replies.specs.Replies.{volume_bytes, message_bytes, canonical_reply, IsShown};
@@ -89,7 +89,7 @@ fn put_message(
 /// Appends FPGetSessionToken's reply: the token behind its length, which is below 2^32.
 fn put_token(token: &[u8], out: &mut Bytes) -> Result<(), OutOfMemory>
     requires { length token.now < 256 ^ 4 }
-    ensures ok { OnOk result (out.new ≡ out.old ++ counted 4 token.now) }
+    ensures ok { OnOk result (out.new ≡ out.old ++ with_count 4 token.now) }
     ensures err { OnErr result (Keeps out.old out.new) }
 {
     out.push_u32(token.len() as u32)?;

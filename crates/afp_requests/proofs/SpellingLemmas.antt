@@ -8,7 +8,7 @@ use Rattle.std.proofs.lemmas.List.{append-nil, append_assoc, drop-append-le, dro
 use Rattle.byteorder.specs.Endian.{big_number, big_bytes}
 use Rattle.byteorder.specs.Numbers.{big_from-take, big_from-append, big_from-lt, big_number-reads_back, length-bytes_high_first}
 use Rattle.afp_names.specs.Path.{PathValue, canonical_path, longest_path, path_fault, path_steps}
-use Rattle.afp_requests.specs.Words.{Word, Literal, Pad, LastPad, Even, Number, Within, Count, Optional, Signed32, Signed64, Plain, Counted, Pathname, Tail, Value, IsCounted, SpellsPathname, IsSpelling, IsTyped, CanSpell, canonical, hint_size, count_size}
+use Rattle.afp_requests.specs.Words.{Word, Literal, Pad, LastPad, Even, Number, Within, Count, Optional, Signed32, Signed64, Plain, Counted, Pathname, Tail, Value, IsCountedText, SpellsPathname, IsSpelling, IsTyped, CanSpell, canonical, hint_size, count_size}
 use Rattle.afp_requests.specs.Reading.{Taken, next, path_count, path_size, path_text}
 
 and_true : (a b : Bool) → (a && b) ≡ true → (a ≡ true) × (b ≡ true)
@@ -32,7 +32,7 @@ pub record IsTaken (w : Word) (place : ℕ) (bytes : List ℕ) (t : Taken w) : T
   pub within : t.size ≤ length bytes
   pub spells : IsSpelling w t.value place (take t.size bytes) (drop t.size bytes)
 
-counted_taken : (n : ℕ) (bytes : List ℕ) → n + big_number n bytes ≤ length bytes → IsCounted n (take (big_number n bytes) (drop n bytes)) (take (n + big_number n bytes) bytes)
+counted_taken : (n : ℕ) (bytes : List ℕ) → n + big_number n bytes ≤ length bytes → IsCountedText n (take (big_number n bytes) (drop n bytes)) (take (n + big_number n bytes) bytes)
 counted_taken n bytes some =
     let whole = length-take-le (n + big_number n bytes) bytes some in
     let part : length (take (big_number n bytes) (drop n bytes)) ≡ big_number n bytes = length-take-le (big_number n bytes) (drop n bytes) (omega (arith, length-drop n bytes)) in
@@ -92,7 +92,7 @@ next_spells Pathname place (kind ∷ bytes) t h = taken_if (IsTaken Pathname pla
 next_spells Tail place bytes t h = let e : record { value = bytes; size = length bytes } ≡ t = cc in subst (IsTaken Tail place bytes) e (record { within = omega arith; spells = (take_all (length bytes) bytes (omega arith), drop_all (length bytes) bytes (omega arith)) })
 
 -- what spells a word is taken
-counted_next : (n : ℕ) (text bytes rest : List ℕ) → IsCounted n text bytes → (big_number n (bytes ++ rest) ≡ length text) × (n + length text ≤ length (bytes ++ rest)) × (take (length text) (drop n (bytes ++ rest)) ≡ text)
+counted_next : (n : ℕ) (text bytes rest : List ℕ) → IsCountedText n text bytes → (big_number n (bytes ++ rest) ≡ length text) × (n + length text ≤ length (bytes ++ rest)) × (take (length text) (drop n (bytes ++ rest)) ≡ text)
 counted_next n text bytes rest h = (
   big_from-append n bytes rest (omega (arith, h.length_is)) ∙ h.count_is,
   omega (arith, length-append bytes rest, h.length_is),
@@ -169,7 +169,7 @@ spelling_next Pathname x place first rest h = pathname_next x place first rest h
 spelling_next Tail x place first rest h = rw (h.0, h.1, append-nil) refl
 
 -- the canonical bytes spell the word
-counted_spells : (n : ℕ) (x : List ℕ) → length x < 256 ^ n → IsCounted n x (big_bytes n (length x) ++ x)
+counted_spells : (n : ℕ) (x : List ℕ) → length x < 256 ^ n → IsCountedText n x (big_bytes n (length x) ++ x)
 counted_spells n x fits =
     let size = length-bytes_high_first n (length x) in
     let seam = drop-append_seam (big_bytes n (length x)) x in

@@ -3,7 +3,7 @@ use Rattle.std.specs.Prelude.{ℕ, List, [], ◌∷◌, Option, Bool, ◌==◌, 
 use Rattle.afp_requests.specs.Commands.{get_session_token_command, disconnect_old_session_command}
 use Rattle.afp_requests.specs.Kinds.{login_without_id, login_with_time_and_id, reconn_with_time_and_id}
 use Rattle.afp_requests.specs.declared.call.Call.TheVariants.{GetSessionToken, DisconnectOldSession}
-use Rattle.afp_requests.specs.Words.{Count, Counted, Number, Optional, Pad, Plain, Within, Layout, in_command, command, count_in, counted, optional, pad, plain, u16, u16_within}
+use Rattle.afp_requests.specs.Words.{Count, Counted, Number, Optional, Pad, Plain, Within, Layout, in_command, command, count_in, counted_field, optional, pad, plain, u16, u16_within}
 use Rattle.afp_requests.specs.Reading.{Reader, reader, Alone, Then}
 
 -- a request for a token of these types has a time stamp before its id (AFP Reference, FPGetSessionToken)
@@ -19,7 +19,7 @@ get_session_token_reader = reader get_session_token_command (Pad ∷ Within 2 lo
 
 -- AFP Reference, FPDisconnectOldSession; the layout is this profile's
 abbrev pub disconnect_old_session : ℕ → List ℕ → Layout
-disconnect_old_session kind token = in_command (command disconnect_old_session_command ∷ pad ∷ u16 kind ∷ counted 4 token ∷ [])
+disconnect_old_session kind token = in_command (command disconnect_old_session_command ∷ pad ∷ u16 kind ∷ counted_field 4 token ∷ [])
 
 abbrev pub disconnect_old_session_reader : Reader
 disconnect_old_session_reader = reader disconnect_old_session_command (Pad ∷ Number 2 ∷ Counted 4 ∷ []) (λ _ kind token. Alone (DisconnectOldSession kind token))

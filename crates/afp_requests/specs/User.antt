@@ -3,7 +3,7 @@ use Rattle.std.specs.Prelude.{ℕ, List, [], ◌∷◌, nat_le, if◌then◌else
 use Rattle.afp_requests.specs.Commands.{get_user_info_command, map_id_command, map_name_command}
 use Rattle.afp_requests.specs.Kinds.{first_function, last_function, last_utf8_function}
 use Rattle.afp_requests.specs.declared.call.Call.TheVariants.{GetUserInfo, MapID, MapName}
-use Rattle.afp_requests.specs.Words.{Counted, Number, Within, Layout, in_command, command, counted, u16, u32, u8, u8_within}
+use Rattle.afp_requests.specs.Words.{Counted, Number, Within, Layout, in_command, command, counted_field, u16, u32, u8, u8_within}
 use Rattle.afp_requests.specs.Reading.{Reader, reader, Alone, Then}
 
 -- FPMapName's name is UTF-8 behind a count of 2 bytes in its first functions, and stands behind a count of 1 byte in the others (this profile)
@@ -26,7 +26,7 @@ map_id_reader = reader map_id_command (Within 1 first_function last_function ∷
 
 -- AFP Reference, FPMapName; the layout is this profile's
 abbrev pub map_name : ℕ → List ℕ → Layout
-map_name function name = in_command (command map_name_command ∷ u8_within first_function last_function function ∷ counted (name_count function) name ∷ [])
+map_name function name = in_command (command map_name_command ∷ u8_within first_function last_function function ∷ counted_field (name_count function) name ∷ [])
 
 abbrev pub map_name_reader : Reader
 map_name_reader = reader map_name_command (Within 1 first_function last_function ∷ []) (λ function. Then (Counted (name_count function)) (λ name. Alone (MapName function name)))

@@ -101,11 +101,11 @@ i64 x = record { word = Signed64; value = x }
 abbrev pub plain : ℕ → List ℕ → Field
 plain n bytes = record { word = Plain n; value = bytes }
 
-abbrev pub counted : ℕ → List ℕ → Field
-counted n bytes = record { word = Counted n; value = bytes }
+abbrev pub counted_field : ℕ → List ℕ → Field
+counted_field n bytes = record { word = Counted n; value = bytes }
 
 abbrev pub str : List ℕ → Field
-str bytes = counted 1 bytes
+str bytes = counted_field 1 bytes
 
 abbrev pub pathname : PathValue → Field
 pathname p = record { word = Pathname; value = p }
@@ -114,7 +114,7 @@ abbrev pub tail : List ℕ → Field
 tail bytes = record { word = Tail; value = bytes }
 
 -- the bytes are a count in n bytes, and the text that it counts
-pub record IsCounted (n : ℕ) (text bytes : List ℕ) : Type 0 where
+pub record IsCountedText (n : ℕ) (text bytes : List ℕ) : Type 0 where
   pub length_is : length bytes ≡ n + length text
   pub count_is : big_number n bytes ≡ length text
   pub text_is : drop n bytes ≡ text
@@ -133,7 +133,7 @@ pub record SpellsPathname (p : PathValue) (bytes : List ℕ) : Type 0 where
   pub behind_hint : List ℕ
   pub whole : bytes ≡ p.kind ∷ (hint ++ behind_hint)
   pub hint_length : length hint ≡ hint_size p.kind
-  pub count : IsCounted (count_size p.kind) text behind_hint
+  pub count : IsCountedText (count_size p.kind) text behind_hint
   pub spells : SpellsPath text p
 
 -- the number is there exactly where the condition holds
@@ -156,7 +156,7 @@ IsSpelling (Optional there n) x place bytes rest = IsOptional there n x bytes
 IsSpelling Signed32 x place bytes rest = (length bytes ≡ 4) × (cast_signed w32 (big_number 4 bytes) ≡ x)
 IsSpelling Signed64 x place bytes rest = (length bytes ≡ 8) × (cast_signed w64 (big_number 8 bytes) ≡ x)
 IsSpelling (Plain n) x place bytes rest = (length bytes ≡ n) × (bytes ≡ x)
-IsSpelling (Counted n) x place bytes rest = IsCounted n x bytes
+IsSpelling (Counted n) x place bytes rest = IsCountedText n x bytes
 IsSpelling Pathname x place bytes rest = SpellsPathname x bytes
 IsSpelling Tail x place bytes rest = (bytes ≡ x) × (rest ≡ [])
 

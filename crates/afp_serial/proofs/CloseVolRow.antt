@@ -11,7 +11,7 @@ use Rattle.afp_requests.specs.declared.call.Call.TheVariants.{CloseVol}
 use Rattle.afp_serial.proofs.Closed.{closing-sound, closing-apart}
 use Rattle.afp_serial.proofs.Replaced.{TakesPlace, replaced-apart, replaced-old, replaced-sound, volume-kept}
 use Rattle.afp_serial.proofs.SoundParts.{ApartSessions, sessions-parts, opens-parts, caches-parts}
-use Rattle.afp_serial.proofs.SoundRow.{IsSoundRow, no-keeper, silent-refuses}
+use Rattle.afp_serial.proofs.SoundRow.{IsSoundRow, no-keeper, no_more-refuses}
 use Rattle.afp_serial.specs.CloseVol.{close_vol_effect, close_vol_row}
 use Rattle.afp_serial.specs.ReplyKinds.{reply_kind}
 use Rattle.afp_serial.specs.World.{has_opened, volume_at, closing, with_session, World, Session, OpenFork}
@@ -74,7 +74,7 @@ close-vol-shown volume = (refl, refl)
 
 pub close-vol-sound : (volume : VolumeId) → IsSoundRow (CloseVol volume) (close_vol_row volume.0)
 close-vol-sound volume = record {
-  refuses = λ w s r is h. silent-refuses (CloseVol volume) ((close_vol_row volume.0).refusals w s) r is refl;
+  refuses = λ w s r is h. no_more-refuses (CloseVol volume) ((close_vol_row volume.0).refusals w s) r is refl;
   sound = λ w s test lawful found passes h. close-vol-keeps w s test volume.0 found h;
   fits = λ w s lawful passes h. refl;
   shown = λ w s lawful passes h. close-vol-shown volume;

@@ -24,7 +24,7 @@ use Rattle.afp_serial.proofs.ListShown.{within}
 use Rattle.afp_serial.proofs.OnForkRows.{fork-row-sound, sound-file}
 use Rattle.afp_serial.proofs.OnVolumeRows.{Asks, IsToldTo}
 use Rattle.afp_serial.proofs.ParamsSize.{params-size, two-parts}
-use Rattle.afp_serial.proofs.SoundRow.{IsRefusedTo, IsSoundRow, first-told, is_short, silent-refuses, silent-told}
+use Rattle.afp_serial.proofs.SoundRow.{IsRefusedTo, IsSoundRow, first-told, is_short, no_more-refuses, no_more-told}
 use Rattle.afp_serial.proofs.ToldReplies.{empty-told}
 use Rattle.afp_serial.specs.World.{plain}
 use Rattle.afp_serial.specs.Fork.{close_fork_row, flush_fork_row, get_fork_parms_row}
@@ -50,7 +50,7 @@ close-fork-asks reference = refl
 
 pub close-fork-sound : (reference : ForkRef) → IsSoundRow (CloseFork reference) (close_fork_row reference.0)
 close-fork-sound reference = fork-row-sound (CloseFork reference) reference.0 _ _ _ (record {
-  refused = λ w f r is. silent-refuses (CloseFork reference) [] r is refl;
+  refused = λ w f r is. no_more-refuses (CloseFork reference) [] r is refl;
   sound = λ w s f lawful held passes h. closing-sound w (λ o. not (o.reference == reference.0)) h;
   told = λ w s f lawful held passes h. empty-told (CloseFork reference) (close-fork-asks reference);
   sessions = λ w f. refl;
@@ -66,7 +66,7 @@ flush-fork-asks reference = refl
 
 pub flush-fork-sound : (reference : ForkRef) → IsSoundRow (FlushFork reference) (flush_fork_row reference.0)
 flush-fork-sound reference = fork-row-sound (FlushFork reference) reference.0 _ _ _ (record {
-  refused = λ w f r is. silent-refuses (FlushFork reference) [] r is refl;
+  refused = λ w f r is. no_more-refuses (FlushFork reference) [] r is refl;
   sound = λ w s f lawful held passes h. h;
   told = λ w s f lawful held passes h. empty-told (FlushFork reference) (flush-fork-asks reference);
   sessions = λ w f. refl;
@@ -98,7 +98,7 @@ get-fork-parms-asks reference bits values = (refl, refl)
 
 pub get-fork-parms-sound : (reference : ForkRef) (bits : ℕ) → IsSoundRow (GetForkParms reference bits) (get_fork_parms_row reference.0 bits)
 get-fork-parms-sound reference bits = fork-row-sound (GetForkParms reference bits) reference.0 _ _ _ (record {
-  refused = λ w f r is. silent-refuses (GetForkParms reference bits) ((is_outside file_mask bits, plain BitmapErr) ∷ []) r is refl;
+  refused = λ w f r is. no_more-refuses (GetForkParms reference bits) ((is_outside file_mask bits, plain BitmapErr) ∷ []) r is refl;
   sound = λ w s f lawful held passes h. h;
   told = λ w s f lawful held passes h.
       let its = sound-file w s reference.0 f h held in
@@ -140,7 +140,7 @@ reads-sound : (call : Call) (reference : ℕ) (asked : ReadAsked) → ((piece : 
 reads-sound call reference asked asks ends = fork-row-sound call reference _ _ _ (record {
   refused = λ w f r is.
       let at_end : IsRefusedTo call (record { code = EOFErr; reply = read_reply asked f }) = record { code = refl; short = piece-short asked f; fits = record { fits = tt; told = ends (read_bytes (bytes_of f) asked) } } in
-      first-told call (read_refusals asked w f) r is (silent-told call (plain ParamErr) refl, (silent-told call (plain AccessDenied) refl, (silent-told call (plain LockErr) refl, (at_end, tt))));
+      first-told call (read_refusals asked w f) r is (no_more-told call (plain ParamErr) refl, (no_more-told call (plain AccessDenied) refl, (no_more-told call (plain LockErr) refl, (at_end, tt))));
   sound = λ w s f lawful held passes h. h;
   told = λ w s f lawful held passes h. record { short = piece-short asked f; fits = record { fits = tt; told = asks (read_bytes (bytes_of f) asked) } };
   sessions = λ w f. refl;

@@ -14,7 +14,7 @@ use Rattle.afp_requests.proofs.CallLemmas.{readers_sound}
 use Rattle.afp_requests.proofs.ReaderLemmas.{spelt_spells}
 use Rattle.afp_requests.specs.Call.{Spells, layout_of}
 use Rattle.afp_requests.specs.Spelt.{spelt_call}
-use Rattle.afp_requests.specs.Words.{Word, Value, Field, BeginsWith, Enclosed, Nothing, Piece, IsCounted, IsEnclosed, IsOptional, IsSpelling, SpellsPathname, Literal, Pad, LastPad, Even, Number, Within, Count, Optional, Signed32, Signed64, Plain, Counted, Pathname, Tail, count_size}
+use Rattle.afp_requests.specs.Words.{Word, Value, Field, BeginsWith, Enclosed, Nothing, Piece, IsCountedText, IsEnclosed, IsOptional, IsSpelling, SpellsPathname, Literal, Pad, LastPad, Even, Number, Within, Count, Optional, Signed32, Signed64, Plain, Counted, Pathname, Tail, count_size}
 use Rattle.afp_requests.specs.declared.call.Call.{Call}
 use Rattle.afp_serial.proofs.Keeps.{IsKnown}
 use Rattle.afp_serial.specs.declared.ask.Ask.{Ask}
@@ -55,7 +55,7 @@ signed64 n small = cond_both (ltb n 9223372036854775808) (pos n) (negsuc (184467
     (λ low. low)
     (λ high. lt-ltb (18446744073709551616 - suc n) 9223372036854775808 (let h = ltb-false n 9223372036854775808 high in omega arith))
 
-counted-lawful : (n : ℕ) (text bytes : List ℕ) → are_bytes bytes ≡ true → IsCounted n text bytes → are_bytes text ≡ true
+counted-lawful : (n : ℕ) (text bytes : List ℕ) → are_bytes bytes ≡ true → IsCountedText n text bytes → are_bytes text ≡ true
 counted-lawful n text bytes small h = ap are_bytes (sym h.text_is) ∙ drop-bytes n bytes small
 
 path-lawful : (p : PathValue) (bytes : List ℕ) → are_bytes bytes ≡ true → SpellsPathname p bytes → is_named_path p ≡ true

@@ -22,7 +22,7 @@ use Rattle.afp_serial.proofs.OnForkRows.{IsHeld, fork-row-sound, is_own, none-re
 use Rattle.afp_serial.proofs.OnVolumeRows.{Asks, IsToldTo}
 use Rattle.afp_serial.proofs.PlacedLists.{all-placed, any-pair, apart-placed, count-placed, find-any, one_if}
 use Rattle.afp_serial.proofs.SoundParts.{KeptLimits, LawfulLocks, do_overlap, keeps_locks, limits-parts, limits-whole, locks-parts, locks-whole}
-use Rattle.afp_serial.proofs.SoundRow.{IsSoundRow, is_refused, silent-refuses}
+use Rattle.afp_serial.proofs.SoundRow.{IsSoundRow, is_refused, no_more-refuses}
 use Rattle.afp_serial.proofs.WriteRows.{start-small}
 use Rattle.afp_serial.specs.World.{Refusal, is_open, World, Session, OpenFork, Lock}
 use Rattle.afp_serial.specs.ForkBytes.{start_in}
@@ -220,7 +220,7 @@ lock-told call w unlocks o reply (Some range) passes tells = tells range refl
 
 all-locks-sound : (call : Call) (reference : ℕ) (asked : LockAsked) (bound : ℕ) (reply : ℕ → Reply) → (is_lawful_call call ≡ true → is_signed bound asked.offset ≡ true) → ((n : ℕ) → n ≤ most_fork_bytes + bound → IsToldTo call (reply n)) → IsSoundRow call (locks reference asked reply)
 all-locks-sound call reference asked bound reply ranges tells = fork-row-sound call reference _ _ _ (record {
-  refused = λ w f r is. silent-refuses call (range_refusals asked.unlocks w f.fork (range_asked f asked)) r is (lock-refused w asked.unlocks f.fork (range_asked f asked));
+  refused = λ w f r is. no_more-refuses call (range_refusals asked.unlocks w f.fork (range_asked f asked)) r is (lock-refused w asked.unlocks f.fork (range_asked f asked));
   sound = λ w s f lawful held passes h. locks-sound w asked.unlocks f.fork reply (range_asked f asked) (held-open w s reference f held) passes h;
   told = λ w s f lawful held passes h. lock-told call w asked.unlocks f.fork reply (range_asked f asked) passes (λ range is. tells range.from (asked-small w s reference f asked bound range held h (ranges lawful) is));
   sessions = λ w f. lock-sessions w asked.unlocks f.fork reply (range_asked f asked);

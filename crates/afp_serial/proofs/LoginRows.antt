@@ -9,7 +9,7 @@ use Rattle.afp_base.specs.declared.code.Code.TheVariants.{Ok}
 use Rattle.afp_requests.specs.declared.call.Call.TheVariants.{Login, Logout}
 use Rattle.afp_serial.proofs.Closed.{ending-sound, ending-apart}
 use Rattle.afp_serial.proofs.Replaced.{TakesPlace, replaced-apart, replaced-old, replaced-sound, volume-kept}
-use Rattle.afp_serial.proofs.SoundRow.{IsSoundRow, no-keeper, silent-refuses}
+use Rattle.afp_serial.proofs.SoundRow.{IsSoundRow, no-keeper, no_more-refuses}
 use Rattle.afp_serial.proofs.SoundParts.{sessions-parts, opens-parts, caches-parts}
 use Rattle.afp_volume.proofs.TestedLists.{all-weaker, any-filter, find-all}
 use Rattle.afp_serial.specs.ReplyKinds.{reply_kind}
@@ -41,7 +41,7 @@ login-shown version uam tail = (refl, refl)
 
 pub login-sound : (version uam tail : List ℕ) → IsSoundRow (Login version uam tail) (login_row version uam)
 login-sound version uam tail = record {
-  refuses = λ w s r is h. silent-refuses (Login version uam tail) ((login_row version uam).refusals w s) r is refl;
+  refuses = λ w s r is h. no_more-refuses (Login version uam tail) ((login_row version uam).refusals w s) r is refl;
   sound = λ w s test lawful found passes h. login-keeps w s test found h;
   fits = λ w s lawful passes h. refl;
   shown = λ w s lawful passes h. login-shown version uam tail;
@@ -57,7 +57,7 @@ logout-shown = (refl, refl)
 
 pub logout-sound : IsSoundRow Logout logout_row
 logout-sound = record {
-  refuses = λ w s r is h. silent-refuses Logout (logout_row.refusals w s) r is refl;
+  refuses = λ w s r is h. no_more-refuses Logout (logout_row.refusals w s) r is refl;
   sound = λ w s test lawful found passes h. ending-sound w (λ x. not (x.number == s.number)) h;
   fits = λ w s lawful passes h. refl;
   shown = λ w s lawful passes h. logout-shown;

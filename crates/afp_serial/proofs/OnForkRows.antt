@@ -10,7 +10,7 @@ use Rattle.afp_base.specs.declared.code.Code.TheVariants.{ParamErr}
 use Rattle.afp_requests.specs.declared.call.Call.{Call}
 use Rattle.afp_serial.proofs.OnVolumeRows.{IsToldTo, told-shown}
 use Rattle.afp_serial.proofs.SoundParts.{ApartSessions, is_below, opens-parts, same_link, same_number}
-use Rattle.afp_serial.proofs.SoundRow.{IsRefusedTo, IsSoundRow, silent-refuses}
+use Rattle.afp_serial.proofs.SoundRow.{IsRefusedTo, IsSoundRow, no_more-refuses}
 use Rattle.afp_serial.proofs.VolumeStates.{IsServed, served-at}
 use Rattle.afp_serial.specs.World.{Effect, Refusal, Refused, plain, has_session, volume_at, World, Session, OpenFork}
 use Rattle.afp_serial.specs.LawfulCall.{is_lawful_call}
@@ -126,7 +126,7 @@ fork-row-sound call reference refuses does commits owes = record {
 }
   where
     refused : (w : World) (q : Option OpenFile) (r : Refused) → first_holding (on_fork q (refuses w)) ≡ Some r → IsRefusedTo call r
-    refused w None r is = silent-refuses call ((true, plain ParamErr) ∷ []) r is refl
+    refused w None r is = no_more-refuses call ((true, plain ParamErr) ∷ []) r is refl
     refused w (Some f) r is = owes.refused w f r is
 
     sound : (w : World) (s : Session) → is_lawful_call call ≡ true → IsSound w → (q : Option OpenFile) → open_file w s reference ≡ q → first_holding (on_fork q (refuses w)) ≡ None → IsSound (done_with q w (does w)).world

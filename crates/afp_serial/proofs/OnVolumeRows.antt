@@ -14,7 +14,7 @@ use Rattle.afp_replies.specs.Requested.{FitsRequest, IsTold}
 use Rattle.afp_replies.specs.declared.reply.Reply.{Reply}
 use Rattle.afp_requests.specs.declared.call.Call.{Call}
 use Rattle.afp_serial.proofs.SoundParts.{ApartSessions}
-use Rattle.afp_serial.proofs.SoundRow.{IsSoundRow, is_refused, is_short, no-keeper, silent-refuses}
+use Rattle.afp_serial.proofs.SoundRow.{IsSoundRow, is_refused, is_short, no-keeper, no_more-refuses}
 use Rattle.afp_serial.proofs.VolumeCodes.{is_refusal, tree-refuses}
 use Rattle.afp_serial.proofs.VolumeStates.{IsServed, moment-date, served-at, state-sound}
 use Rattle.afp_serial.specs.World.{Effect, Refusal, plain, refused_before, has_opened, has_session, volume_at, World, Session}
@@ -93,7 +93,7 @@ pub tells-sound : (call : Call) (volume : ℕ) (refuses : World → VolumeState 
     → ((w : World) (v : VolumeState) → is_lawful_call call ≡ true → IsServed v volume → refuses w v ≡ None → IsToldTo call (reply w v))
     → IsSoundRow call (tells_of volume refuses reply)
 tells-sound call volume refuses reply rightly tells = record {
-  refuses = λ w s r is h. silent-refuses call (on_volume w s volume (refuses w)) r is (on-refused w s volume (refuses w) (rightly w));
+  refuses = λ w s r is h. no_more-refuses call (on_volume w s volume (refuses w)) r is (on-refused w s volume (refuses w) (rightly w));
   sound = λ w s test lawful found passes h. done-keeps IsSound (volume_at w.volumes volume) w (λ v. record { world = w; reply = reply w v }) h (λ v. h);
   fits = λ w s lawful passes h. (told w s lawful passes h).short;
   shown = λ w s lawful passes h. told-shown call (done_on (volume_at w.volumes volume) w (λ v. record { world = w; reply = reply w v })).reply (told w s lawful passes h);
@@ -132,7 +132,7 @@ pub changes-sound : (call : Call) (volume : ℕ) (tree : TreeCall) (reply : Volu
     → ((w : World) (v : VolumeState) → IsServed v volume → tree_refusal v (opened_on w volume) tree ≡ None → IsToldTo call (reply v))
     → IsSoundRow call (changes_tree volume tree reply)
 changes-sound call volume tree reply ranges tells = record {
-  refuses = λ w s r is h. silent-refuses call (on_volume w s volume (λ v. tree_refusal v (opened_on w volume) tree)) r is (on-refused w s volume (λ v. tree_refusal v (opened_on w volume) tree) (λ v. tree-refuses v (opened_on w volume) tree));
+  refuses = λ w s r is h. no_more-refuses call (on_volume w s volume (λ v. tree_refusal v (opened_on w volume) tree)) r is (on-refused w s volume (λ v. tree_refusal v (opened_on w volume) tree) (λ v. tree-refuses v (opened_on w volume) tree));
   sound = λ w s test lawful found passes h. sound w s lawful passes h;
   fits = λ w s lawful passes h. (told w s passes h).short;
   shown = λ w s lawful passes h. told-shown call (done_on (volume_at w.volumes volume) w (does w)).reply (told w s passes h);

@@ -33,7 +33,7 @@ use Rattle.afp_serial.proofs.OnVolumeRows.{Asks, IsToldTo, refused_before-none, 
 use Rattle.afp_serial.proofs.ParamsSize.{params-size}
 use Rattle.afp_serial.proofs.PlacedLists.{all-placed, any-placed, apart-placed, apart-where, count-placed, find-any, one_if, or-split}
 use Rattle.afp_serial.proofs.SoundParts.{ApartSessions, KeptLimits, LawfulLocks, LawfulOpens, do_clash, do_overlap, keeps_forks, keeps_locks, limits-parts, limits-whole, locks-parts, locks-whole, opens-parts, opens-whole, same_reference}
-use Rattle.afp_serial.proofs.SoundRow.{IsRefusedTo, IsSoundRow, behind-first, first-told, is_short, no-keeper, silent-refuses, silent-told}
+use Rattle.afp_serial.proofs.SoundRow.{IsRefusedTo, IsSoundRow, behind-first, first-told, is_short, no-keeper, no_more-refuses, no_more-told}
 use Rattle.afp_serial.proofs.VolumeCodes.{is_refusal, open-fork-refuses}
 use Rattle.afp_serial.proofs.VolumeStates.{IsServed, served-at}
 use Rattle.afp_serial.specs.World.{Refused, plain, refused_before, has_opened, has_session, is_open, volume_at, World, Session, OpenFork, Lock}
@@ -312,16 +312,16 @@ open-refused call asked dir path w s r denies h is = by (volume_at w.volumes ask
     told-of : (v : VolumeState) → IsServed v asked.volume → VolumeOpens v asked.bits dir path → first_holding (denied_of w s asked (open_fork_file v dir path)) ≡ Some r → IsRefusedTo call r
     told-of v served o k =
         first-told call (denied_of w s asked (Some o.file)) r (ap (λ q. first_holding (denied_of w s asked q)) (sym o.is) ∙ k)
-        (denial-told call w asked v o.file denies served (found-file v dir path o.file o.is) o.inside, (silent-told call (plain TooManyFilesOpen) refl, tt))
+        (denial-told call w asked v o.file denies served (found-file v dir path o.file o.is) o.inside, (no_more-told call (plain TooManyFilesOpen) refl, tt))
 
     of-volume : (v : VolumeState) → IsServed v asked.volume → (q : Option Code) → refuses v ≡ q → is_refusal q ≡ true → first_holding (refused_before q (denied_of w s asked (open_fork_file v dir path))) ≡ Some r → IsRefusedTo call r
-    of-volume v served None passes silent k = told-of v served (volume-opens v asked.bits asked.access.write dir path served.sound passes) k
-    of-volume v served (Some code) passes silent k = let same : plain code ≡ r = cc in subst (IsRefusedTo call) same (silent-told call (plain code) silent)
+    of-volume v served None passes no_more k = told-of v served (volume-opens v asked.bits asked.access.write dir path served.sound passes) k
+    of-volume v served (Some code) passes no_more k = let same : plain code ≡ r = cc in subst (IsRefusedTo call) same (no_more-told call (plain code) no_more)
 
     by : (q : Option VolumeState) → volume_at w.volumes asked.volume ≡ q → first_holding ((not (has_opened s asked.volume), plain ParamErr) ∷ refused_before (refused_on q refuses) (denied_of w s asked (file_asked q dir path))) ≡ Some r → IsRefusedTo call r
-    by None there k = silent-refuses call ((not (has_opened s asked.volume), plain ParamErr) ∷ (true, plain ParamErr) ∷ []) r k refl
+    by None there k = no_more-refuses call ((not (has_opened s asked.volume), plain ParamErr) ∷ (true, plain ParamErr) ∷ []) r k refl
     by (Some v) there k =
-        behind-first call (not (has_opened s asked.volume), plain ParamErr) (refused_before (refuses v) (denied_of w s asked (open_fork_file v dir path))) r (silent-told call (plain ParamErr) refl)
+        behind-first call (not (has_opened s asked.volume), plain ParamErr) (refused_before (refuses v) (denied_of w s asked (open_fork_file v dir path))) r (no_more-told call (plain ParamErr) refl)
         (of-volume v (served-at w asked.volume v h there) (refuses v) refl (open-fork-refuses v asked.bits asked.access.write dir path)) k
 
 -- the file that is asked for

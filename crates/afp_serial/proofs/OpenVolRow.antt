@@ -13,7 +13,7 @@ use Rattle.afp_requests.specs.declared.call.Call.TheVariants.{OpenVol}
 use Rattle.afp_serial.proofs.OnVolumeRows.{Asks, IsToldTo, refused_before-none, refused_before-refused, told-shown}
 use Rattle.afp_serial.proofs.Replaced.{TakesPlace, replaced-apart, replaced-old, replaced-sound, volume-kept}
 use Rattle.afp_serial.proofs.SoundParts.{ApartSessions, sessions-parts, opens-parts, caches-parts}
-use Rattle.afp_serial.proofs.SoundRow.{IsSoundRow, no-keeper, silent-refuses}
+use Rattle.afp_serial.proofs.SoundRow.{IsSoundRow, no-keeper, no_more-refuses}
 use Rattle.afp_serial.proofs.ToldReplies.{volume-told-to}
 use Rattle.afp_serial.proofs.VolumeCodes.{volume-refuses}
 use Rattle.afp_serial.proofs.VolumeStates.{served-at}
@@ -88,7 +88,7 @@ opens-told w s bits name volume h o =
 
 pub open-vol-sound : (bits : ℕ) (name : List ℕ) → IsSoundRow (OpenVol bits name) (open_vol_row bits name)
 open-vol-sound bits name = record {
-  refuses = λ w s r is h. silent-refuses (OpenVol bits name) ((open_vol_row bits name).refusals w s) r is (refused_before-refused (get_vol_parms_refusal bits) ((is_none (state_named w (volume_named w name)), plain ObjectNotFound) ∷ []) (volume-refuses bits) refl);
+  refuses = λ w s r is h. no_more-refuses (OpenVol bits name) ((open_vol_row bits name).refusals w s) r is (refused_before-refused (get_vol_parms_refusal bits) ((is_none (state_named w (volume_named w name)), plain ObjectNotFound) ∷ []) (volume-refuses bits) refl);
   sound = λ w s test lawful found passes h. opens-keeps IsSound w s bits (volume_named w name) (state_named w (volume_named w name)) h (λ v. with-volume-sound w s test v found h);
   fits = λ w s lawful passes h. (opens-told w s bits name (volume_named w name) h (opens-passed w bits (volume_named w name) passes)).short;
   shown = λ w s lawful passes h. told-shown (OpenVol bits name) (opens_volume w s bits (volume_named w name) (state_named w (volume_named w name))).reply

@@ -12,7 +12,7 @@ use Rattle.afp_replies.specs.declared.reply.ReplyKind.{ReplyKind}
 use Rattle.afp_requests.specs.Spelt.{spelt_call}
 use Rattle.afp_serial.proofs.RowsSound.{row-sound}
 use Rattle.afp_serial.proofs.ShownAnswers.{block_in, code_of, ends_in}
-use Rattle.afp_serial.proofs.SoundRow.{is_refused, is_silent, silent-nothing, silent-parts}
+use Rattle.afp_serial.proofs.SoundRow.{is_refused, tells_no_more, no_more-nothing, no_more-parts}
 use Rattle.afp_serial.proofs.StaysSound.{legal-moment, moment-sound}
 use Rattle.afp_serial.proofs.Verdicts.{Refuses, refused-by, repeats-kept}
 use Rattle.afp_serial.specs.declared.ask.Ask.{Ask}
@@ -32,8 +32,8 @@ abbrev is_reply : Told → Bool
 is_reply (told.Reply c block ends) = true
 is_reply t = false
 
-nothing-shown : (c : Code) (kind : ReplyKind) → is_silent c ≡ true → Shows Empty kind c []
-nothing-shown c kind silent = what_fits_a_request Empty kind c (nothing_fits kind c (silent-nothing kind.command c silent))
+nothing-shown : (c : Code) (kind : ReplyKind) → tells_no_more c ≡ true → Shows Empty kind c []
+nothing-shown c kind no_more = what_fits_a_request Empty kind c (nothing_fits kind c (no_more-nothing kind.command c no_more))
 
 -- what an answer says that is not Ok
 abbrev Says : World → Entry → Code → List ℕ → Bool → Type 0
@@ -43,18 +43,18 @@ module _ (w : World) (e : Entry) (c : Code) (block : List ℕ) (ends : Bool) (ot
   no-reply : (t : Told) → is_reply t ≡ false → t ≡ told.Reply c block ends → Says w e c block ends
   no-reply t none tells = let bad : true ≡ false = sym (ap is_reply tells) ∙ none in absurd (cc)
 
-  says-nothing : (x : Code) → is_silent x ≡ true → refusal_reply x ≡ told.Reply c block ends → Says w e c block ends
-  says-nothing x silent tells = (
+  says-nothing : (x : Code) → tells_no_more x ≡ true → refusal_reply x ≡ told.Reply c block ends → Says w e c block ends
+  says-nothing x no_more tells = (
     sym (ap ends_in tells),
     inr (inr (record {
       bytes = sym (ap block_in tells);
-      shows = λ kind. subst (λ (t : Told). Shows Empty kind (code_of t) (block_in t)) tells (nothing-shown x kind silent);
+      shows = λ kind. subst (λ (t : Told). Shows Empty kind (code_of t) (block_in t)) tells (nothing-shown x kind no_more);
     })),
   )
 
-  says-silent : (x : Refused) → is_refused x ≡ true → refused_reply x ≡ told.Reply c block ends → Says w e c block ends
-  says-silent x silent tells =
-      let parts = silent-parts x silent in
+  says-no_more : (x : Refused) → is_refused x ≡ true → refused_reply x ≡ told.Reply c block ends → Says w e c block ends
+  says-no_more x no_more tells =
+      let parts = no_more-parts x no_more in
       says-nothing x.code parts.1 (ap (λ r. told.Reply x.code (canonical_reply r) false) (sym parts.0) ∙ tells)
 
   module _ (id : ℕ) (write : Bool) (offset : ℕ) (payload : List ℕ) (asked : e.ask ≡ ask.Call id write offset payload) where
@@ -78,7 +78,7 @@ module _ (w : World) (e : Entry) (c : Code) (block : List ℕ) (ends : Bool) (ot
         shows = subst (λ (t : Told). Shows x.reply (reply_kind r.0) (code_of t) (block_in t)) tells (what_fits_a_request x.reply (reply_kind r.0) x.code ((row-sound r.0).refuses (at_moment w e.at) s x r.2 h).fits);
       })),
     )
-    says-refused s x attached (inr silent) tells = says-silent x silent tells
+    says-refused s x attached (inr no_more) tells = says-no_more x no_more tells
 
     verdict-refused : (s : Session) (v : Verdict) (o : Outcome) → session_at w e.link.0 ≡ Some s → verdict (at_moment w e.at) s (request id write offset payload) ≡ v → told_verdict (at_moment w e.at) s v o ≡ told.Reply c block ends → Says w e c block ends
     verdict-refused s (repeats a) o attached is tells = (

@@ -8,7 +8,7 @@ use Rattle.afp_serial.proofs.LockRows.{byte-range-lock-ext-sound, byte-range-loc
 use Rattle.afp_serial.proofs.LoginRows.{login-sound, logout-sound}
 use Rattle.afp_serial.proofs.OpenForkRow.{open-fork-sound}
 use Rattle.afp_serial.proofs.OpenVolRow.{open-vol-sound}
-use Rattle.afp_serial.proofs.SoundRow.{IsSoundRow, no-keeper, silent-refuses}
+use Rattle.afp_serial.proofs.SoundRow.{IsSoundRow, no-keeper, no_more-refuses}
 use Rattle.afp_serial.proofs.TellRows.{close-dir-sound, enumerate-ext-sound, enumerate-ext2-sound, enumerate-sound, flush-sound, get-file-dir-parms-sound, get-vol-parms-sound, open-dir-sound}
 use Rattle.afp_serial.proofs.TreeRows.{create-dir-sound, create-file-sound, delete-sound, move-and-rename-sound, rename-sound, set-dir-parms-sound, set-file-dir-parms-sound, set-file-parms-sound, set-vol-parms-sound}
 use Rattle.afp_serial.proofs.WriteRows.{set-fork-parms-sound, write-ext-sound, write-sound}
@@ -17,7 +17,7 @@ use Rattle.afp_serial.specs.Rows.{row, unsupported_row}
 -- it is always refused
 unsupported-sound : (call : Call) → IsSoundRow call unsupported_row
 unsupported-sound call = record {
-  refuses = λ w s r is h. silent-refuses call (unsupported_row.refusals w s) r is refl;
+  refuses = λ w s r is h. no_more-refuses call (unsupported_row.refusals w s) r is refl;
   sound = λ w s test lawful found passes h. h;
   fits = λ w s lawful passes h. refl;
   shown = λ w s lawful passes h. absurd (cc);

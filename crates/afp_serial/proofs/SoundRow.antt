@@ -29,11 +29,11 @@ is_ok Ok = true
 is_ok code = false
 
 -- the codes under which no request is told more
-abbrev pub is_silent : Code → Bool
-is_silent Ok = false
-is_silent DenyConflict = false
-is_silent EOFErr = false
-is_silent code = true
+abbrev pub tells_no_more : Code → Bool
+tells_no_more Ok = false
+tells_no_more DenyConflict = false
+tells_no_more EOFErr = false
+tells_no_more code = true
 
 abbrev pub is_nothing : Reply → Bool
 is_nothing Empty = true
@@ -41,7 +41,7 @@ is_nothing reply = false
 
 -- a refusal tells no more than such a code
 abbrev pub is_refused : Refused → Bool
-is_refused r = is_nothing r.reply && is_silent r.code
+is_refused r = is_nothing r.reply && tells_no_more r.code
 
 -- What a request of a call is told by a refusal: its code is not Ok, and the reply fits in a frame and can be told under that code.
 pub record IsRefusedTo (call : Call) (r : Refused) : Type 0 where
@@ -53,27 +53,27 @@ nothing-is : (reply : Reply) → is_nothing reply ≡ true → reply ≡ Empty
 nothing-is Empty h = refl
 nothing-is reply h = absurd (cc)
 
-silent-not-ok : (code : Code) → is_silent code ≡ true → is_ok code ≡ false
-silent-not-ok Ok h = absurd (cc)
-silent-not-ok code h = refl
+no_more-not-ok : (code : Code) → tells_no_more code ≡ true → is_ok code ≡ false
+no_more-not-ok Ok h = absurd (cc)
+no_more-not-ok code h = refl
 
-pub silent-nothing : (command : ℕ) (code : Code) → is_silent code ≡ true → tells_nothing (shape_of command) code ≡ true
-silent-nothing command Ok h = absurd (cc)
-silent-nothing command DenyConflict h = absurd (cc)
-silent-nothing command EOFErr h = absurd (cc)
-silent-nothing command code h = refl
+pub no_more-nothing : (command : ℕ) (code : Code) → tells_no_more code ≡ true → tells_nothing (shape_of command) code ≡ true
+no_more-nothing command Ok h = absurd (cc)
+no_more-nothing command DenyConflict h = absurd (cc)
+no_more-nothing command EOFErr h = absurd (cc)
+no_more-nothing command code h = refl
 
 -- the parts of such a refusal
-pub silent-parts : (r : Refused) → is_refused r ≡ true → (r.reply ≡ Empty) × (is_silent r.code ≡ true)
-silent-parts r h = let e = and_parts (is_nothing r.reply) (is_silent r.code) h in (nothing-is r.reply e.0, e.1)
+pub no_more-parts : (r : Refused) → is_refused r ≡ true → (r.reply ≡ Empty) × (tells_no_more r.code ≡ true)
+no_more-parts r h = let e = and_parts (is_nothing r.reply) (tells_no_more r.code) h in (nothing-is r.reply e.0, e.1)
 
-pub silent-told : (call : Call) (r : Refused) → is_refused r ≡ true → IsRefusedTo call r
-silent-told call r h =
-    let e = silent-parts r h in
+pub no_more-told : (call : Call) (r : Refused) → is_refused r ≡ true → IsRefusedTo call r
+no_more-told call r h =
+    let e = no_more-parts r h in
     record {
-      code = silent-not-ok r.code e.1;
+      code = no_more-not-ok r.code e.1;
       short = ap is_short e.0;
-      fits = subst (FitsRequest (reply_kind call) r.code) (sym e.0) (nothing_fits (reply_kind call) r.code (silent-nothing (command_of call) r.code e.1));
+      fits = subst (FitsRequest (reply_kind call) r.code) (sym e.0) (nothing_fits (reply_kind call) r.code (no_more-nothing (command_of call) r.code e.1));
     }
 
 -- the first of some refusals that holds, or one behind it
@@ -93,14 +93,14 @@ pub first-told : (call : Call) (rows : List Refusal) (r : Refused) → first_hol
 first-told call [] r is all = absurd (cc)
 first-told call (row ∷ rows) r is all = behind-first call row rows r all.0 (λ h. first-told call rows r h all.1) is
 
-silent-all : (call : Call) (rows : List Refusal) → list_all (λ (row : Refusal). is_refused row.1) rows ≡ true → AreRefusedTo call rows
-silent-all call [] all = tt
-silent-all call (row ∷ rows) all =
+no_more-all : (call : Call) (rows : List Refusal) → list_all (λ (row : Refusal). is_refused row.1) rows ≡ true → AreRefusedTo call rows
+no_more-all call [] all = tt
+no_more-all call (row ∷ rows) all =
     let e = and_parts (is_refused row.1) (list_all (λ (x : Refusal). is_refused x.1) rows) all in
-    (silent-told call row.1 e.0, silent-all call rows e.1)
+    (no_more-told call row.1 e.0, no_more-all call rows e.1)
 
-pub silent-refuses : (call : Call) (rows : List Refusal) (r : Refused) → first_holding rows ≡ Some r → list_all (λ (row : Refusal). is_refused row.1) rows ≡ true → IsRefusedTo call r
-silent-refuses call rows r is all = first-told call rows r is (silent-all call rows all)
+pub no_more-refuses : (call : Call) (rows : List Refusal) (r : Refused) → first_holding rows ≡ Some r → list_all (λ (row : Refusal). is_refused row.1) rows ≡ true → IsRefusedTo call r
+no_more-refuses call rows r is all = first-told call rows r is (no_more-all call rows all)
 
 -- What the row of a call owes in a sound world. What it is refused with can be told to its requests, and is never told Ok. Where it is not refused, and its fields are those
 -- that bytes give, its effect keeps the world sound; its reply fits in a frame, and is shown by its bytes. In any world its effect keeps sessions

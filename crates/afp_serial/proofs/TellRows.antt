@@ -15,7 +15,7 @@ use Rattle.afp_requests.specs.Words.{u16}
 use Rattle.afp_requests.specs.declared.call.Call.TheVariants.{CloseDir, Enumerate, EnumerateExt, EnumerateExt2, Flush, GetFileDirParms, GetVolParms, OpenDir}
 use Rattle.afp_serial.proofs.LawfulCalls.{field-lawful}
 use Rattle.afp_serial.proofs.OnVolumeRows.{Asks, keeper-there, on-refused, tells-sound, told-shown}
-use Rattle.afp_serial.proofs.SoundRow.{IsSoundRow, no-keeper, silent-refuses}
+use Rattle.afp_serial.proofs.SoundRow.{IsSoundRow, no-keeper, no_more-refuses}
 use Rattle.afp_serial.proofs.ToldReplies.{dir-told-to, empty-told, list-told-to, node-values-told-to, volume-told-to}
 use Rattle.afp_serial.proofs.VolumeCodes.{list-refuses, node-refuses, open-dir-refuses, volume-refuses}
 use Rattle.afp_serial.specs.Enumerate.{enumerate_ext2_row, enumerate_ext_row, enumerate_row}
@@ -34,7 +34,7 @@ close-dir-asks volume dir = refl
 
 pub close-dir-sound : (volume : VolumeId) (dir : NodeId) → IsSoundRow (CloseDir volume dir) (close_dir_row volume.0)
 close-dir-sound volume dir = record {
-  refuses = λ w s r is h. silent-refuses (CloseDir volume dir) ((close_dir_row volume.0).refusals w s) r is refl;
+  refuses = λ w s r is h. no_more-refuses (CloseDir volume dir) ((close_dir_row volume.0).refusals w s) r is refl;
   sound = λ w s test lawful found passes h. h;
   fits = λ w s lawful passes h. refl;
   shown = λ w s lawful passes h. told-shown (CloseDir volume dir) _ (empty-told (CloseDir volume dir) (close-dir-asks volume dir));
@@ -50,7 +50,7 @@ flush-asks volume = refl
 
 pub flush-sound : (volume : VolumeId) → IsSoundRow (Flush volume) (flush_row volume.0)
 flush-sound volume = record {
-  refuses = λ w s r is h. silent-refuses (Flush volume) (on_volume w s volume.0 (λ v. None)) r is (on-refused w s volume.0 (λ v. None) (λ v. refl));
+  refuses = λ w s r is h. no_more-refuses (Flush volume) (on_volume w s volume.0 (λ v. None)) r is (on-refused w s volume.0 (λ v. None) (λ v. refl));
   sound = λ w s test lawful found passes h. h;
   fits = λ w s lawful passes h. refl;
   shown = λ w s lawful passes h. told-shown (Flush volume) _ (empty-told (Flush volume) (flush-asks volume));

@@ -115,7 +115,7 @@ row-refused c (Some y) x h = let same : y ≡ x = cc in ap Some same
 row-refused c None x h = absurd (cc)
 
 plain-refused : (w : World) (s : Session) (spelt : Option Call) (y x : Refused) → is_refused y ≡ true → refused y ≡ refused x → Refuses w s spelt x
-plain-refused w s spelt y x silent h = let same : y ≡ x = cc in inr (ap is_refused (sym same) ∙ silent)
+plain-refused w s spelt y x no_more h = let same : y ≡ x = cc in inr (ap is_refused (sym same) ∙ no_more)
 
 spelling-refused : (w : World) (s : Session) (spelt : Option Call) (x : Refused) → verdict_of_spelling w s spelt ≡ refused x → Refuses w s spelt x
 spelling-refused w s None x h = plain-refused w s None (plain ParamErr) x refl h

@@ -11,12 +11,12 @@ use Rattle.afp_names.specs.Name.{name_key}
 use Rattle.afp_names.specs.Path.{PathValue}
 use Rattle.afp_names.specs.declared.path.Step.{Step}
 use Rattle.afp_names.specs.declared.path.Step.TheVariants.{Down, Up}
-use Rattle.afp_serial.proofs.SoundRow.{is_silent}
+use Rattle.afp_serial.proofs.SoundRow.{tells_no_more}
 use Rattle.afp_volume.specs.Shared.{Opened, behind, first_or}
 use Rattle.afp_volume.specs.CreateDir.{create_dir_refusal}
 use Rattle.afp_volume.specs.CreateFile.{create_file_refusal, create_file_there}
 use Rattle.afp_volume.specs.Delete.{delete_refusal}
-use Rattle.afp_volume.specs.Enumerate.{ListAsked, counted, enumerate_refusal, fits_reply, from_start}
+use Rattle.afp_volume.specs.Enumerate.{ListAsked, counted_children, enumerate_refusal, fits_reply, from_start}
 use Rattle.afp_volume.specs.GetFileDirParms.{get_file_dir_parms_refusal}
 use Rattle.afp_volume.specs.GetVolParms.{get_vol_parms_refusal}
 use Rattle.afp_volume.specs.MoveAndRename.{move_refusal}
@@ -33,29 +33,29 @@ use Rattle.afp_volume.specs.Walk.{before_down, child, child_by_key, failed_down,
 -- such a code, or none
 abbrev pub is_refusal : Option Code → Bool
 is_refusal None = true
-is_refusal (Some code) = is_silent code
+is_refusal (Some code) = tells_no_more code
 
 -- a result that fails with such a code
 abbrev pub fails_rightly : {A : Type 0} → Result A Code → Bool
 fails_rightly (Ok a) = true
-fails_rightly (Err code) = is_silent code
+fails_rightly (Err code) = tells_no_more code
 
 -- conditions with such codes
 abbrev pub are_refusals : List (Bool × Code) → Bool
-are_refusals rows = list_all (λ row. is_silent row.1) rows
+are_refusals rows = list_all (λ row. tells_no_more row.1) rows
 
 -- lists of conditions, and what stands behind walks
 
 first-refuses : (rows : List (Bool × Code)) → are_refusals rows ≡ true → is_refusal (first_holding rows) ≡ true
 first-refuses [] h = refl
 first-refuses (row ∷ rows) h =
-    let e = and_parts (is_silent row.1) (are_refusals rows) h in
+    let e = and_parts (tells_no_more row.1) (are_refusals rows) h in
     cond_both row.0 (Some row.1) (first_holding rows) (λ o. is_refusal o ≡ true) (λ holds. e.0) (λ other. first-refuses rows e.1)
 
 or-refuses : (rows : List (Bool × Code)) (rest : Option Code) → are_refusals rows ≡ true → is_refusal rest ≡ true → is_refusal (first_or rows rest) ≡ true
 or-refuses [] rest h k = k
 or-refuses (row ∷ rows) rest h k =
-    let e = and_parts (is_silent row.1) (are_refusals rows) h in
+    let e = and_parts (tells_no_more row.1) (are_refusals rows) h in
     cond_both row.0 (Some row.1) (first_or rows rest) (λ o. is_refusal o ≡ true) (λ holds. e.0) (λ other. or-refuses rows rest e.1 k)
 
 behind-refuses : {A : Type 0} (r : Result A Code) (refused : A → Option Code) → fails_rightly r ≡ true → ((a : A) → is_refusal (refused a) ≡ true) → is_refusal (behind r refused) ≡ true
@@ -64,15 +64,15 @@ behind-refuses (Err code) refused h gives = h
 
 -- walks
 
-onward-fails : (o : Option ℕ) (code : Code) (rest : ℕ → Result ℕ Code) → is_silent code ≡ true → ((id : ℕ) → fails_rightly (rest id) ≡ true) → fails_rightly (onward o code rest) ≡ true
+onward-fails : (o : Option ℕ) (code : Code) (rest : ℕ → Result ℕ Code) → tells_no_more code ≡ true → ((id : ℕ) → fails_rightly (rest id) ≡ true) → fails_rightly (onward o code rest) ≡ true
 onward-fails None code rest h gives = h
 onward-fails (Some id) code rest h gives = gives id
 
-missing-down : (missing : Code) (steps : List Step) → is_silent missing ≡ true → is_silent (failed_down missing steps) ≡ true
+missing-down : (missing : Code) (steps : List Step) → tells_no_more missing ≡ true → tells_no_more (failed_down missing steps) ≡ true
 missing-down missing [] h = h
 missing-down missing (step ∷ steps) h = refl
 
-from-fails : (rows : List Row) (kind : ℕ) (missing : Code) (steps : List Step) (here : ℕ) → is_silent missing ≡ true → fails_rightly (walk_from rows kind missing steps here) ≡ true
+from-fails : (rows : List Row) (kind : ℕ) (missing : Code) (steps : List Step) (here : ℕ) → tells_no_more missing ≡ true → fails_rightly (walk_from rows kind missing steps here) ≡ true
 from-fails rows kind missing [] here h = refl
 from-fails rows kind missing (Up ∷ steps) here h = onward-fails (parent_at rows here) ObjectNotFound (walk_from rows kind missing steps) refl (λ id. from-fails rows kind missing steps id h)
 from-fails rows kind missing (Down name ∷ steps) here h =
@@ -82,7 +82,7 @@ above-fails : (r : Result ℕ Code) → fails_rightly r ≡ true → fails_right
 above-fails (Ok id) h = cond_both (id == root_parent) (Err ObjectNotFound) (Ok id) (λ r. fails_rightly r ≡ true) (λ above. refl) (λ other. refl)
 above-fails (Err code) h = h
 
-walk-fails : (rows : List Row) (kind : ℕ) (missing : Code) (dir : ℕ) (steps : List Step) → is_silent missing ≡ true → fails_rightly (walk rows kind missing dir steps) ≡ true
+walk-fails : (rows : List Row) (kind : ℕ) (missing : Code) (dir : ℕ) (steps : List Step) → tells_no_more missing ≡ true → fails_rightly (walk rows kind missing dir steps) ≡ true
 unfolding walk
 walk-fails rows kind missing dir steps h =
     cond_both (is_start rows dir) (not_above_root (walk_from rows kind missing steps dir)) (Err DirNotFound) (λ r. fails_rightly r ≡ true)
@@ -162,7 +162,7 @@ list-refuses v opens asked dir path =
         (not (has_directory v.rows id), ObjectTypeErr)
         ∷ (asked.count == 0, ParamErr)
         ∷ (asked.start == 0, ParamErr)
-        ∷ (nat_lt (length (counted v.rows asked id)) asked.start, ObjectNotFound)
+        ∷ (nat_lt (length (counted_children v.rows asked id)) asked.start, ObjectNotFound)
         ∷ (not (fits_reply v.rows opens asked (take 1 (from_start v.rows asked id))), ParamErr)
         ∷ []
 

@@ -22,7 +22,7 @@ use Rattle.afp_requests.specs.declared.call.Call.TheVariants.{SetForkParms, Writ
 use Rattle.afp_serial.proofs.LawfulCalls.{field-lawful}
 use Rattle.afp_serial.proofs.OnForkRows.{IsHeld, IsHeldFile, fork-row-sound, none-refused, sound-file}
 use Rattle.afp_serial.proofs.OnVolumeRows.{Asks, IsToldTo}
-use Rattle.afp_serial.proofs.SoundRow.{IsSoundRow, silent-refuses}
+use Rattle.afp_serial.proofs.SoundRow.{IsSoundRow, no_more-refuses}
 use Rattle.afp_serial.proofs.ToldReplies.{empty-told}
 use Rattle.afp_serial.proofs.VolumeStates.{moment-date, state-sound}
 use Rattle.afp_serial.specs.Fork.{is_other_length, length_for, set_fork_parms_refusals, set_fork_parms_row}
@@ -153,7 +153,7 @@ writes-sound : (call : Call) (reference : ℕ) (asked : WriteAsked) (bound : ℕ
     → ((n : ℕ) → n ≤ most_fork_bytes + bound → IsToldTo call (reply n))
     → IsSoundRow call (writes reference asked reply)
 writes-sound call reference asked bound reply ranges tells = fork-row-sound call reference _ _ _ (record {
-  refused = λ w f r is. silent-refuses call (write_refusals asked w f) r is refl;
+  refused = λ w f r is. no_more-refuses call (write_refusals asked w f) r is refl;
   sound = λ w s f lawful held passes h.
       bytes-sound w s reference f (writes_some asked) (written_bytes f asked) held h (spliced-bytes (bytes_of f) (nat_abs (write_start f asked)) asked.piece (old-bytes w s reference f held h) (ranges lawful).0) (room w f passes);
   told = λ w s f lawful held passes h. tells (write_end f asked) (end-small w s reference f asked bound held h (ranges lawful).1 (room w f passes));
@@ -205,7 +205,7 @@ set-fork-parms-asks reference bits rest = refl
 
 pub set-fork-parms-sound : (reference : ForkRef) (bits : ℕ) (rest : List ℕ) → IsSoundRow (SetForkParms reference bits rest) (set_fork_parms_row reference.0 bits rest)
 set-fork-parms-sound reference bits rest = fork-row-sound (SetForkParms reference bits rest) reference.0 _ _ _ (record {
-  refused = λ w f r is. silent-refuses (SetForkParms reference bits rest) (set_fork_parms_refusals bits rest w f) r is refl;
+  refused = λ w f r is. no_more-refuses (SetForkParms reference bits rest) (set_fork_parms_refusals bits rest w f) r is refl;
   sound = λ w s f lawful held passes h.
       let n : ℕ = length_for bits rest f in
       let room : would_pass f.volume (length (bytes_of f)) n ≡ false = (none-refused (set_fork_parms_refusals bits rest w f) passes).1.1.1.1.0 in

@@ -10,12 +10,12 @@ abbrev pub no_icon : ℕ
 no_icon = 0
 
 -- a count of one byte and the bytes (a Pascal string)
-abbrev pub counted : List ℕ → List ℕ
-counted text = length text ∷ text
+abbrev pub pascal_string : List ℕ → List ℕ
+pascal_string text = length text ∷ text
 
 -- a count of one byte and the counted words
 abbrev pub counted_words : List (List ℕ) → List ℕ
-counted_words words = length words ∷ flat_map counted words
+counted_words words = length words ∷ flat_map pascal_string words
 
 -- a count of two bytes and the bytes
 abbrev pub long_counted : List ℕ → List ℕ
@@ -26,7 +26,7 @@ long_counted text = big_bytes 2 (length text) ++ text
 -- UTF-8 name
 abbrev pub status_parts : List ℕ → List ℕ → List (List ℕ)
 status_parts name signature =
-    counted machine_type ∷ counted_words versions ∷ counted_words uams ∷ signature ∷ counted_words []
+    pascal_string machine_type ∷ counted_words versions ∷ counted_words uams ∷ signature ∷ counted_words []
     ∷ counted_words [] ∷ long_counted name ∷ []
 
 -- the sizes of an offset and of the flags
@@ -38,7 +38,7 @@ flags_size = 2
 
 -- the size of what stands before the pad: four offsets, the flags, the counted name
 abbrev pub name_end : List ℕ → ℕ
-name_end name = 4 * offset_size + flags_size + length (counted name)
+name_end name = 4 * offset_size + flags_size + length (pascal_string name)
 
 -- a zero byte, where the next byte would stand at an odd place
 abbrev pub status_pad : List ℕ → List ℕ
@@ -83,7 +83,7 @@ status_head name offsets =
     ∷ big_bytes 2 offsets.uams
     ∷ big_bytes 2 no_icon
     ∷ big_bytes 2 server_flags
-    ∷ counted name
+    ∷ pascal_string name
     ∷ status_pad name
     ∷ big_bytes 2 offsets.signature
     ∷ big_bytes 2 offsets.addresses

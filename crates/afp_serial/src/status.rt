@@ -2,7 +2,7 @@
 ghost use Rattle.std.specs.Prelude.{◌≡◌, ◌+◌, ◌≤◌, ◌<◌, ◌^◌, ◌++◌, length, map, All, IfOk, OnOk, flat_map};
 ghost use Rattle.std.specs.List.{concat};
 ghost use Rattle.byteorder.specs.Endian.{big_bytes};
-ghost use Rattle.afp_serial.specs.StatusBlock.{counted, counted_words, long_counted, status_pad, head_size, offsets_of, status_parts, status_head, status_of};
+ghost use Rattle.afp_serial.specs.StatusBlock.{pascal_string, counted_words, long_counted, status_pad, head_size, offsets_of, status_parts, status_head, status_of};
 ghost use Rattle.afp_serial.specs.Limits.{longest_server};
 
 use crate::limits::{NO_ICON, SIZE_BEFORE_NAME, SIZE_BEHIND_NAME};
@@ -44,7 +44,7 @@ fn put_numbers(block: &mut Bytes, numbers: &[u16]) -> Result<(), OutOfMemory>
 /// Appends a count of one byte and the bytes.
 fn put_counted(block: &mut Bytes, text: &[u8]) -> Result<(), OutOfMemory>
     requires { length text.now < 256 }
-    ensures { OnOk result (block.new ≡ block.old ++ counted text.now) }
+    ensures { OnOk result (block.new ≡ block.old ++ pascal_string text.now) }
 {
     block.push_u8(text.len() as u8)?;
     block.extend(text)
@@ -92,7 +92,7 @@ fn head_size(name: &[u8]) -> usize
 /// Appends the counted name, and a zero byte where the next byte would stand at an odd place.
 fn put_padded_name(block: &mut Bytes, name: &[u8]) -> Result<(), OutOfMemory>
     requires { length name.now ≤ longest_server }
-    ensures { OnOk result (block.new ≡ block.old ++ counted name.now ++ status_pad name.now) }
+    ensures { OnOk result (block.new ≡ block.old ++ pascal_string name.now ++ status_pad name.now) }
 {
     put_counted(block, name)?;
     if name.len() % 2 == 0 {

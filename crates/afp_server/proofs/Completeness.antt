@@ -9,7 +9,7 @@ use Rattle.dsi_frame.specs.declared.frame.Reason.{Reason}
 use Rattle.dsi_frame.proofs.FrameLemmas.{bad_is_no_frame, bad_header-append}
 use Rattle.dsi_frame.proofs.StreamLemmas.{stopped-append}
 use Rattle.afp_server.specs.Complete.{ScriptEnds, IsScripted, BeginsScript, GoesBehind, BringsGood, RunsStill, IsUnhindered, Wrote, ServesAll, IsComplete}
-use Rattle.afp_server.specs.LinkRun.{Moves, Fills, EndsBy, IsServed, came_in}
+use Rattle.afp_server.specs.LinkRun.{Moves, Fills, EndsBy, IsServed, bytes_read}
 use Rattle.afp_server.specs.Replies.{listed, spelling_of}
 use Rattle.afp_server.specs.Script.{Script}
 use Rattle.afp_server.specs.Trace.{events_in, frames_in, replies_in, frame_steps_in, standing, Cause, closed, bad}
@@ -129,8 +129,8 @@ record Run (block bytes : List ℕ) (frames : List Frame) (turns : ℕ) (old : L
   pub good : BringsGood block bytes frames (frame_steps_in served.comes.trace)
 
 split_run : (block bytes : List ℕ) (frames : List Frame) (turns : ℕ) (old : LinkState) (answer : LinkEnd) (new : LinkState) (steps : List Step) → (r : Run block bytes frames turns old answer new steps)
-    → (left : List ℕ) × (bytes ≡ came_in r.served.comes.trace ++ left)
-split_run block bytes frames turns old answer new steps r = still_coming new.coming (came_in r.served.comes.trace) bytes (sym r.coming ∙ r.served.comes.moves.coming)
+    → (left : List ℕ) × (bytes ≡ bytes_read r.served.comes.trace ++ left)
+split_run block bytes frames turns old answer new steps r = still_coming new.coming (bytes_read r.served.comes.trace) bytes (sym r.coming ∙ r.served.comes.moves.coming)
 
 script_run : (block bytes : List ℕ) (frames : List Frame) (turns : ℕ) (old : LinkState) (answer : LinkEnd) (new : LinkState) (steps : List Step) → (r : Run block bytes frames turns old answer new steps)
     → IsScripted block stages.Fresh r.served.comes.trace r.served.comes.last.stage r.served.comes.cause
@@ -154,7 +154,7 @@ goes_run block bytes frames turns old answer new steps r others same still =
 
 -- the frames handled are the first of those that are coming
 first_run : StreamLaws → (block bytes : List ℕ) (frames : List Frame) (turns : ℕ) (old : LinkState) (answer : LinkEnd) (new : LinkState) (steps : List Step) → (r : Run block bytes frames turns old answer new steps)
-    → (left : List ℕ) → Fills (came_in r.served.comes.trace) (frames_in r.served.comes.trace) left → (others : List Frame) × (frames ≡ frames_in r.served.comes.trace ++ others)
+    → (left : List ℕ) → Fills (bytes_read r.served.comes.trace) (frames_in r.served.comes.trace) left → (others : List Frame) × (frames ≡ frames_in r.served.comes.trace ++ others)
 first_run laws block bytes frames turns old answer new steps r left fills =
     let trace = r.served.comes.trace in
     let split = split_run block bytes frames turns old answer new steps r in
@@ -171,7 +171,7 @@ first_run laws block bytes frames turns old answer new steps r left fills =
 
 -- they are a script, with the steps that they asked
 begins_run : StreamLaws → (block bytes : List ℕ) (frames : List Frame) (turns : ℕ) (old : LinkState) (answer : LinkEnd) (new : LinkState) (steps : List Step) → (r : Run block bytes frames turns old answer new steps)
-    → (end : Option FrameEnd) (left : List ℕ) → Fills (came_in r.served.comes.trace) (frames_in r.served.comes.trace) left
+    → (end : Option FrameEnd) (left : List ℕ) → Fills (bytes_read r.served.comes.trace) (frames_in r.served.comes.trace) left
     → (script_run block bytes frames turns old answer new steps r).end ≡ end → BeginsScript block frames (frame_steps_in r.served.comes.trace) end (replies_in r.served.comes.trace)
 begins_run laws block bytes frames turns old answer new steps r end left fills ends =
     let trace = r.served.comes.trace in
@@ -205,7 +205,7 @@ past_run laws block bytes frames turns old answer new steps r filled left spelle
 
 -- a bad header comes only behind the frames, where the link went on
 bad_header_run : StreamLaws → (block bytes : List ℕ) (frames : List Frame) (turns : ℕ) (old : LinkState) (answer : LinkEnd) (new : LinkState) (steps : List Step) → (r : Run block bytes frames turns old answer new steps)
-    → (at : ℕ) (reason : Reason) → Stopped (came_in r.served.comes.trace) (frames_in r.served.comes.trace) at reason → r.served.comes.cause ≡ None → ⊥
+    → (at : ℕ) (reason : Reason) → Stopped (bytes_read r.served.comes.trace) (frames_in r.served.comes.trace) at reason → r.served.comes.cause ≡ None → ⊥
 bad_header_run laws block bytes frames turns old answer new steps r at reason stopped why =
     let c = r.served.comes in
     let split = split_run block bytes frames turns old answer new steps r in
@@ -214,7 +214,7 @@ bad_header_run laws block bytes frames turns old answer new steps r at reason st
     elim r.good.last [
       | inl none ↦
           laws.exclusive bytes [] frames (frames_in c.trace) at reason (framed-whole bytes frames (spelled_run block bytes frames (frame_steps_in c.trace) r.good none))
-          (subst (λ (x : List ℕ). Stopped x (frames_in c.trace) at reason) (sym split.1) (stopped-append (came_in c.trace) split.0 (frames_in c.trace) at reason stopped))
+          (subst (λ (x : List ℕ). Stopped x (frames_in c.trace) at reason) (sym split.1) (stopped-append (bytes_read c.trace) split.0 (frames_in c.trace) at reason stopped))
       | inr stops ↦
           stops (past_run laws block bytes frames turns old answer new steps r stopped.filled (stopped.left ++ split.0) stopped.spelled whole (λ f b. bad_is_no_frame (stopped.left ++ split.0) reason bad_rest f b) why)
     ]
@@ -236,11 +236,11 @@ by_answer laws block bytes frames turns old links.Ended new steps r e still free
     let c = r.served.comes in
     let sc = script_run block bytes frames turns old links.Ended new steps r in
     let framed = e.goes_on.framed in
-    let all : bytes ≡ came_in c.trace = all_taken new.coming (came_in c.trace) bytes (sym r.coming ∙ c.moves.coming) e.nothing_comes in
+    let all : bytes ≡ bytes_read c.trace = all_taken new.coming (bytes_read c.trace) bytes (sym r.coming ∙ c.moves.coming) e.nothing_comes in
     elim r.good.last [
       | inl none ↦
-          let same = laws.one_rest (came_in c.trace) [] [] (frames_in c.trace) frames framed
-          (framed-whole (came_in c.trace) frames (subst (λ (b : List ℕ). Spelled b frames) all (spelled_run block bytes frames (frame_steps_in c.trace) r.good none))) in
+          let same = laws.one_rest (bytes_read c.trace) [] [] (frames_in c.trace) frames framed
+          (framed-whole (bytes_read c.trace) frames (subst (λ (b : List ℕ). Spelled b frames) all (spelled_run block bytes frames (frame_steps_in c.trace) r.good none))) in
           inr (inr (
             replies_in c.trace,
             sc.after,
@@ -255,11 +255,11 @@ by_answer laws block bytes frames turns old links.Ended new steps r e still free
 by_answer laws block bytes frames turns old (links.Cut at) new steps r e still free below =
     let c = r.served.comes in
     let framed = e.goes_on.framed in
-    let all : bytes ≡ came_in c.trace = all_taken new.coming (came_in c.trace) bytes (sym r.coming ∙ c.moves.coming) e.nothing_comes in
+    let all : bytes ≡ bytes_read c.trace = all_taken new.coming (bytes_read c.trace) bytes (sym r.coming ∙ c.moves.coming) e.nothing_comes in
     absurd (elim r.good.last [
       | inl none ↦
-          let same = laws.one_rest (came_in c.trace) e.left [] (frames_in c.trace) frames framed
-          (framed-whole (came_in c.trace) frames (subst (λ (b : List ℕ). Spelled b frames) all (spelled_run block bytes frames (frame_steps_in c.trace) r.good none))) in
+          let same = laws.one_rest (bytes_read c.trace) e.left [] (frames_in c.trace) frames framed
+          (framed-whole (bytes_read c.trace) frames (subst (λ (b : List ℕ). Spelled b frames) all (spelled_run block bytes frames (frame_steps_in c.trace) r.good none))) in
           let some : ⊥ = omega (arith, ap length same.1, e.something_left) in some
       | inr stops ↦
           stops (past_run laws block bytes frames turns old (links.Cut at) new steps r framed.filled e.left framed.spelled (all ∙ framed.whole) framed.unfinished.no_frame e.goes_on.why)
@@ -272,8 +272,8 @@ by_answer laws block bytes frames turns old (links.Bad b) new steps r e still fr
       | inr frame ↦
           r.good.none_bad b.reason (replies_in c.trace)
           (begins_run laws block bytes frames turns old (links.Bad b) new steps r (Some (ends.Bad b.reason)) frame.begins.more
-          (subst (λ (fs : List Frame). Fills (came_in c.trace) fs frame.begins.more) (sym frame.frames)
-          (fills-one (came_in c.trace) frame.left frame.begins.first frame.begins.more frame.before frame.last frame.fills frame.begins.spelling frame.begins.whole)) (end_of c.cause (bad b.reason) c.last.stage sc.after sc.end frame.why sc.ends).1)
+          (subst (λ (fs : List Frame). Fills (bytes_read c.trace) fs frame.begins.more) (sym frame.frames)
+          (fills-one (bytes_read c.trace) frame.left frame.begins.first frame.begins.more frame.before frame.last frame.fills frame.begins.spelling frame.begins.whole)) (end_of c.cause (bad b.reason) c.last.stage sc.after sc.end frame.why sc.ends).1)
     ])
 by_answer laws block bytes frames turns old (links.Silent last now) new steps r e still free below = absurd free
 by_answer laws block bytes frames turns old links.Displaced new steps r e still free below = absurd free
@@ -282,7 +282,7 @@ by_answer laws block bytes frames turns old links.ReadFault new steps r e still 
 by_answer laws block bytes frames turns old links.WriteFault new steps r e still free below = absurd (omega (arith, r.served.comes.moves.write_faults, still.write_faults, still.writes_count))
 by_answer laws block bytes frames turns old links.Spent new steps r e still free below =
     let split = split_run block bytes frames turns old links.Spent new steps r in
-    absurd (omega (arith, e.0.reached, r.served.comes.moves.quiets, still.quiets_count, ap length split.1, length-append (came_in r.served.comes.trace) split.0))
+    absurd (omega (arith, e.0.reached, r.served.comes.moves.quiets, still.quiets_count, ap length split.1, length-append (bytes_read r.served.comes.trace) split.0))
 
 pub complete : StreamLaws → IsComplete
 complete laws block bytes frames turns old new answer steps served coming good still free below =

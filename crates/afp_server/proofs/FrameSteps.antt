@@ -65,10 +65,10 @@ pub frame-goes_on : (start : Start) (cost : ℕ) (held then_held : Buffered) (li
     → (n : Next start cost held link old before f did new after passed) → called ≡ call_link f.reply old.stage f.command → mid ≡ in_by passed called → then_passed ≡ out_by mid called → reply ≡ new.reply → Sends link reply 0 then_link → did.end ≡ None
     → ((g : Frame) (first more : List ℕ) → IsSpelling first g → held.rest ≡ first ++ more → then_held ≡ record { place = held.place + length first; rest = more })
     → SoFar start (point then_held new.stage then_link after then_passed) cost
-frame-goes_on start cost held then_held link then_link old new before after f did reply passed mid then_passed called n call goes_in comes_out is sent goes_on advanced =
+frame-goes_on start cost held then_held link then_link old new before after f did reply passed mid then_passed called n call enters exits is sent goes_on advanced =
     subst (λ (stage : Stage). SoFar start (point then_held stage then_link after then_passed) cost) (sym (ap (λ (s : SessionState). s.stage) n.acts.state))
     (so_far-handles start (point held old.stage link before passed) cost f did n.begins.first n.begins.more after then_link then_held mid then_passed called (handles start cost held link old new before after f did passed n)
-    (record { goes_in = goes_in; comes_out = comes_out; calls = next-calls start cost held link old new before after f did passed called n call })
+    (record { enters = enters; exits = exits; calls = next-calls start cost held link old new before after f did passed called n call })
     (subst (λ (b : List ℕ). Sends link b 0 then_link) (is ∙ ap (λ (s : SessionState). s.reply) n.acts.state) sent) goes_on (advanced f n.begins.first n.begins.more n.begins.spelling n.begins.whole))
 
 pub frame-less : (held then_held : Buffered) (f : Frame) → (b : Begins held.rest f)
@@ -82,19 +82,19 @@ frame-less held then_held f b advanced =
 pub frame-ends : (start : Start) (cost : ℕ) (held : Buffered) (link then_link : LinkState) (old new : SessionState) (before after : Shown) (f : Frame) (did : Did) (reply : List ℕ) (end : FrameEnd) (place : ℕ) (answer : LinkEnd) (passed mid then_passed : Passed) (called : Option LinkNumber)
     → (n : Next start cost held link old before f did new after passed) → called ≡ call_link f.reply old.stage f.command → mid ≡ in_by passed called → then_passed ≡ out_by mid called → reply ≡ new.reply → Sends link reply 0 then_link → did.end ≡ Some end → place ≡ held.place → answer ≡ end_of_frame end place
     → Ended start answer new.stage then_link after then_passed
-frame-ends start cost held link then_link old new before after f did reply end place answer passed mid then_passed called n call goes_in comes_out is sent ends at as_frame =
+frame-ends start cost held link then_link old new before after f did reply end place answer passed mid then_passed called n call enters exits is sent ends at as_frame =
     subst (λ (a : LinkEnd). Ended start a new.stage then_link after then_passed) (sym (as_frame ∙ ap (λ (k : ℕ). end_of_frame end k) at))
     (subst (λ (stage : Stage). Ended start (end_of_frame end held.place) stage then_link after then_passed) (sym (ap (λ (s : SessionState). s.stage) n.acts.state))
     (ends-frame start (point held old.stage link before passed) cost f did n.begins.first n.begins.more after then_link end mid then_passed called (handles start cost held link old new before after f did passed n)
-    (record { goes_in = goes_in; comes_out = comes_out; calls = next-calls start cost held link old new before after f did passed called n call })
+    (record { enters = enters; exits = exits; calls = next-calls start cost held link old new before after f did passed called n call })
     (subst (λ (b : List ℕ). Sends link b 0 then_link) (is ∙ ap (λ (s : SessionState). s.reply) n.acts.state) sent) ends))
 
 -- its reply could not be written
 pub frame-unwritten : (start : Start) (cost : ℕ) (held : Buffered) (link then_link : LinkState) (old new : SessionState) (before after : Shown) (f : Frame) (did : Did) (reply : List ℕ) (passed mid : Passed) (called : Option LinkNumber)
     → (n : Next start cost held link old before f did new after passed) → called ≡ call_link f.reply old.stage f.command → mid ≡ in_by passed called → reply ≡ new.reply → SendsPart link reply then_link → Ended start links.WriteFault new.stage then_link after mid
-frame-unwritten start cost held link then_link old new before after f did reply passed mid called n call goes_in is sent =
+frame-unwritten start cost held link then_link old new before after f did reply passed mid called n call enters is sent =
     let part : SendsPart link (spelling_of (listed did.reply)) then_link = subst (λ (b : List ℕ). SendsPart link b then_link) (is ∙ ap (λ (s : SessionState). s.reply) n.acts.state) sent in
     let some = some_lost-replied did.reply part.part part.lost part.some_lost part.cut in
     subst (λ (stage : Stage). Ended start links.WriteFault stage then_link after mid) (sym (ap (λ (s : SessionState). s.stage) n.acts.state))
     (ends-unwritten start (point held old.stage link before passed) cost f did n.begins.first n.begins.more after then_link some.0 mid called (handles start cost held link old new before after f did passed n)
-    goes_in (next-calls start cost held link old new before after f did passed called n call) some.1 part)
+    enters (next-calls start cost held link old new before after f did passed called n call) some.1 part)

@@ -86,7 +86,7 @@ sends-join a b c sent more failed one two = record {
   moves = moves-join a b c [] [] sent more failed one.moves two.moves;
   ended = two.ended ∙ one.ended;
   now = two.now ∙ one.now;
-  heard = two.heard ∙ one.heard;
+  last_read = two.last_read ∙ one.last_read;
 }
 
 pub sends-more : (a b c : LinkState) (offered sent left : List ℕ) (n : ℕ) → offered ≡ sent ++ left → Sends a sent 0 b → WritesPiece b left n c
@@ -94,14 +94,14 @@ pub sends-more : (a b c : LinkState) (offered sent left : List ℕ) (n : ℕ) �
 sends-more a b c offered sent left n split so_far w = (
   sent ++ take n left,
   split ∙ ap (λ rest. sent ++ rest) (cut_at left n w.most) ∙ sym (append_assoc sent (take n left) (take (length left - n) (drop n left))),
-  sends-join a b c sent (take n left) 0 so_far (record { moves = moves-write b c left n w; ended = w.ended; now = w.now; heard = w.heard }),
+  sends-join a b c sent (take n left) 0 so_far (record { moves = moves-write b c left n w; ended = w.ended; now = w.now; last_read = w.last_read }),
 )
 
 -- a write failed behind the bytes that were sent
 pub sends-failed : (a b c : LinkState) (sent : List ℕ) → Sends a sent 0 b → FailsToWrite b c → Sends a sent 1 c
 sends-failed a b c sent so_far w =
     subst (λ (x : List ℕ). Sends a x 1 c) (append-nil sent)
-    (sends-join a b c sent [] 1 so_far (record { moves = moves-unwritten b c w; ended = w.ended; now = w.now; heard = w.heard }))
+    (sends-join a b c sent [] 1 so_far (record { moves = moves-unwritten b c w; ended = w.ended; now = w.now; last_read = w.last_read }))
 
 pub some_left : (xs : List ℕ) → false ≡ (length xs == 0) → 0 < length xs
 some_left (x ∷ xs) h = omega arith

@@ -15,7 +15,7 @@ use Rattle.afp_server.specs.OpenSession.{OpensSession}
 use Rattle.afp_server.specs.Passing.{called_on, calls_in, GoThrough}
 use Rattle.afp_server.specs.lemma.Passing.{all_passed, call_link}
 use Rattle.afp_server.specs.Script.{FreshDoes, OpenDoes, ReplyDoes, FrameDoes, Does}
-use Rattle.afp_server.specs.Trace.{Cause, closed, displaced, bad, silent, RestsOn, Rests}
+use Rattle.afp_server.specs.Trace.{Cause, closed, displaced, bad, silent, IdlesOn, Idles}
 use Rattle.afp_server.specs.declared.serve.LinkEnd.{LinkEnd}
 use Rattle.afp_server.specs.declared.serve.LinkEnd.TheVariants as ends
 use Rattle.afp_server.specs.declared.stage.Stage.{Stage}
@@ -70,17 +70,17 @@ does-calls block now stage f did row = frame-calls block now stage f.reply f did
 
 -- a quiet asks no call, and the end of a link asks none
 
-rests_on-calls : (now : ℕ) (stage : Stage) (steps : List Step) (after : Stage) → RestsOn now stage steps after → calls_in steps ≡ []
-rests_on-calls now Fresh steps after r = ap calls_in r.0
-rests_on-calls now (Open link) steps after r = ap calls_in r.1
-rests_on-calls now Closing steps after r = absurd r
+idles_on-calls : (now : ℕ) (stage : Stage) (steps : List Step) (after : Stage) → IdlesOn now stage steps after → calls_in steps ≡ []
+idles_on-calls now Fresh steps after r = ap calls_in r.0
+idles_on-calls now (Open link) steps after r = ap calls_in r.1
+idles_on-calls now Closing steps after r = absurd r
 
-pub rests-calls : (heard now : ℕ) (stage : Stage) (steps : List Step) (after : Stage) (why : Option Cause) → Rests heard now stage steps after why → calls_in steps ≡ []
-rests-calls heard now stage steps after (Some silent) r = ap calls_in r.1
-rests-calls heard now stage steps after (Some displaced) r = ap calls_in r.1.asks
-rests-calls heard now stage steps after None r = rests_on-calls now stage steps after r.1
-rests-calls heard now stage steps after (Some closed) r = absurd r
-rests-calls heard now stage steps after (Some (bad reason)) r = absurd r
+pub idles-calls : (last_read now : ℕ) (stage : Stage) (steps : List Step) (after : Stage) (why : Option Cause) → Idles last_read now stage steps after why → calls_in steps ≡ []
+idles-calls last_read now stage steps after (Some silent) r = ap calls_in r.1
+idles-calls last_read now stage steps after (Some displaced) r = ap calls_in r.1.asks
+idles-calls last_read now stage steps after None r = idles_on-calls now stage steps after r.1
+idles-calls last_read now stage steps after (Some closed) r = absurd r
+idles-calls last_read now stage steps after (Some (bad reason)) r = absurd r
 
 pub parts-calls : (stage : Stage) (now : ℕ) (steps : List Step) → Parts stage now steps → calls_in steps ≡ []
 parts-calls Fresh now steps p = ap calls_in p
@@ -89,33 +89,33 @@ parts-calls Closing now steps p = ap calls_in p
 
 -- in, and out again
 
-both : (p : Passed) (called : Option LinkNumber) → out_by (in_by p called) called ≡ record { went_in = p.went_in ++ option_to_list called; came_out = p.came_out ++ option_to_list called }
-both p None = λ i. record { went_in = sym (append-nil p.went_in) i; came_out = sym (append-nil p.came_out) i }
+both : (p : Passed) (called : Option LinkNumber) → out_by (in_by p called) called ≡ record { entered = p.entered ++ option_to_list called; exited = p.exited ++ option_to_list called }
+both p None = λ i. record { entered = sym (append-nil p.entered) i; exited = sym (append-nil p.exited) i }
 both p (Some link) = refl
 
--- A frame was handled: the call that it is went in, and came out.
+-- A frame was handled: the call that it is entered the gate, and left it.
 pub record PassesFrame (old mid new : Passed) (called : Option LinkNumber) (did : Did) : Type 0 where
-  pub goes_in : mid ≡ in_by old called
-  pub comes_out : new ≡ out_by mid called
+  pub enters : mid ≡ in_by old called
+  pub exits : new ≡ out_by mid called
   pub calls : calls_in did.steps ≡ option_to_list called
 
 pub passed-frame : (old mid new : Passed) (called : Option LinkNumber) (did : Did) (steps : List Step) → old ≡ all_passed steps → PassesFrame old mid new called did → new ≡ all_passed (steps ++ did.steps)
 passed-frame old mid new called did steps all p =
     let lists : calls_in steps ++ option_to_list called ≡ calls_in (steps ++ did.steps) = ap (λ (l : List LinkNumber). calls_in steps ++ l) (sym p.calls) ∙ sym (calls_in-append steps did.steps) in
-    p.comes_out ∙ ap (λ (m : Passed). out_by m called) p.goes_in ∙ ap (λ (m : Passed). out_by (in_by m called) called) all ∙ both (all_passed steps) called
-    ∙ (λ i. record { went_in = lists i; came_out = lists i })
+    p.exits ∙ ap (λ (m : Passed). out_by m called) p.enters ∙ ap (λ (m : Passed). out_by (in_by m called) called) all ∙ both (all_passed steps) called
+    ∙ (λ i. record { entered = lists i; exited = lists i })
 
 -- steps without a call
 pub passed-more : (passed : Passed) (steps more : List Step) → passed ≡ all_passed steps → calls_in more ≡ [] → passed ≡ all_passed (steps ++ more)
 passed-more passed steps more all none =
     let lists : calls_in steps ≡ calls_in (steps ++ more) = sym (append-nil (calls_in steps)) ∙ ap (λ (l : List LinkNumber). calls_in steps ++ l) (sym none) ∙ sym (calls_in-append steps more) in
-    all ∙ (λ i. record { went_in = lists i; came_out = lists i })
+    all ∙ (λ i. record { entered = lists i; exited = lists i })
 
 pub through-all : (answer : LinkEnd) (passed : Passed) (steps : List Step) → passed ≡ all_passed steps → GoThrough answer steps passed
 through-all answer passed steps all = record {
-  went_in = ap (λ (p : Passed). p.went_in) all;
+  entered = ap (λ (p : Passed). p.entered) all;
   inside = [];
-  came_out = sym (append-nil passed.came_out ∙ ap (λ (p : Passed). p.came_out) all);
+  exited = sym (append-nil passed.exited ∙ ap (λ (p : Passed). p.exited) all);
   most = omega arith;
   unwritten = λ n. refl;
 }
@@ -124,20 +124,20 @@ one_call : (called : Option LinkNumber) → length (option_to_list called) ≤ 1
 one_call None = omega arith
 one_call (Some link) = omega arith
 
-in_lists : (p : Passed) (called : Option LinkNumber) → in_by p called ≡ record { went_in = p.went_in ++ option_to_list called; came_out = p.came_out }
-in_lists p None = λ i. record { went_in = sym (append-nil p.went_in) i; came_out = p.came_out }
+in_lists : (p : Passed) (called : Option LinkNumber) → in_by p called ≡ record { entered = p.entered ++ option_to_list called; exited = p.exited }
+in_lists p None = λ i. record { entered = sym (append-nil p.entered) i; exited = p.exited }
 in_lists p (Some link) = refl
 
 -- the reply could not be written
 pub through-unwritten : (old mid : Passed) (called : Option LinkNumber) (did : Did) (steps : List Step) → old ≡ all_passed steps → mid ≡ in_by old called → calls_in did.steps ≡ option_to_list called
     → GoThrough ends.WriteFault (steps ++ did.steps) mid
-through-unwritten old mid called did steps all goes_in calls =
+through-unwritten old mid called did steps all enters calls =
     let lists : calls_in steps ++ option_to_list called ≡ calls_in (steps ++ did.steps) = ap (λ (l : List LinkNumber). calls_in steps ++ l) (sym calls) ∙ sym (calls_in-append steps did.steps) in
-    let now : mid ≡ record { went_in = calls_in steps ++ option_to_list called; came_out = calls_in steps } = goes_in ∙ ap (λ (m : Passed). in_by m called) all ∙ in_lists (all_passed steps) called in
+    let now : mid ≡ record { entered = calls_in steps ++ option_to_list called; exited = calls_in steps } = enters ∙ ap (λ (m : Passed). in_by m called) all ∙ in_lists (all_passed steps) called in
     record {
-      went_in = ap (λ (p : Passed). p.went_in) now ∙ lists;
+      entered = ap (λ (p : Passed). p.entered) now ∙ lists;
       inside = option_to_list called;
-      came_out = sym lists ∙ ap (λ (l : List LinkNumber). l ++ option_to_list called) (sym (ap (λ (p : Passed). p.came_out) now));
+      exited = sym lists ∙ ap (λ (l : List LinkNumber). l ++ option_to_list called) (sym (ap (λ (p : Passed). p.exited) now));
       most = one_call called;
       unwritten = λ n. absurd (n refl);
     }
@@ -145,7 +145,7 @@ through-unwritten old mid called did steps all goes_in calls =
 pub through-more : (answer : LinkEnd) (passed : Passed) (steps more : List Step) → GoThrough answer steps passed → calls_in more ≡ [] → GoThrough answer (steps ++ more) passed
 through-more answer passed steps more t none =
     let lists : calls_in (steps ++ more) ≡ calls_in steps = calls_in-append steps more ∙ ap (λ (l : List LinkNumber). calls_in steps ++ l) none ∙ append-nil (calls_in steps) in
-    record { went_in = t.went_in ∙ sym lists; inside = t.inside; came_out = lists ∙ t.came_out; most = t.most; unwritten = t.unwritten }
+    record { entered = t.entered ∙ sym lists; inside = t.inside; exited = lists ∙ t.exited; most = t.most; unwritten = t.unwritten }
 
 -- no call comes where no session is open
 pub not_called : (reply : Bool) (stage : Stage) (kind : DsiCommand) → ((link : LinkNumber) → stage ≡ Open link → ⊥) → call_link reply stage kind ≡ None

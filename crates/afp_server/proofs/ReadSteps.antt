@@ -10,20 +10,20 @@ use Rattle.afp_serial.proofs.Grows.{went-join}
 use Rattle.dsi_frame.specs.Buffered.{Buffered, buffer_length}
 use Rattle.dsi_frame.specs.Frame.{Frame}
 use Rattle.dsi_frame.specs.Stream.{IsUnfinished, Framed}
-use Rattle.afp_server.specs.LinkRun.{Moves, Fills, MayRead, EachMayRead, EndsBy, failed_writes, GoesOn, came_in, cost_of, size_of, written_before, read_limit}
+use Rattle.afp_server.specs.LinkRun.{Moves, Fills, MayRead, EachMayRead, EndsBy, failed_writes, GoesOn, bytes_read, cost_of, size_of, written_before, read_limit}
 use Rattle.afp_server.specs.lemma.Passing.{all_passed}
 use Rattle.afp_server.specs.Replies.{spelling_of}
-use Rattle.afp_server.specs.lemma.Serving.{Start, Point, point, SoFar, Ended, RestsLink}
+use Rattle.afp_server.specs.lemma.Serving.{Start, Point, point, SoFar, Ended, IdlesLink}
 use Rattle.afp_server.specs.lemma.SessionState.{SessionState}
-use Rattle.afp_server.specs.Trace.{Happening, received, was_quiet, events_in, frames_in, replies_in, steps_in, standing, Cause, displaced, silent, Rests, Follows}
+use Rattle.afp_server.specs.Trace.{Happening, received, was_quiet, events_in, frames_in, replies_in, steps_in, standing, Cause, displaced, silent, Idles, Follows}
 use Rattle.afp_server.specs.declared.serve.LinkEnd.{LinkEnd}
 use Rattle.afp_server.specs.declared.serve.LinkEnd.TheVariants as links
 use Rattle.afp_server.specs.declared.stage.Stage.{Stage}
 use Rattle.afp_server.specs.declared.stage.Stage.TheVariants as stages
 use Rattle.afp_server.proofs.Moving.{moves-join, added-none, left-none, cost_of-append}
-use Rattle.afp_server.proofs.Passing.{passed-more, rests-calls, through-all}
+use Rattle.afp_server.proofs.Passing.{passed-more, idles-calls, through-all}
 use Rattle.afp_server.proofs.Serving.{moves-events}
-use Rattle.afp_server.proofs.Traces.{events_in-append, frames_in-append, replies_in-append, steps_in-append, came_in-append, follows-snoc, each-snoc, fills-later}
+use Rattle.afp_server.proofs.Traces.{events_in-append, frames_in-append, replies_in-append, steps_in-append, bytes_read-append, follows-snoc, each-snoc, fills-later}
 
 -- The link waits for more: less than a frame is left, and it may read.
 pub record Waits (start : Start) (p : Point) (cost : ℕ) : Type 0 where
@@ -31,7 +31,7 @@ pub record Waits (start : Start) (p : Point) (cost : ℕ) : Type 0 where
   pub unfinished : IsUnfinished p.held.rest
   pub below : cost < start.turns
 
-pub framed : (start : Start) (p : Point) (cost : ℕ) → (s : SoFar start p cost) → IsUnfinished p.held.rest → Framed (came_in s.trace) (frames_in s.trace) p.held.rest
+pub framed : (start : Start) (p : Point) (cost : ℕ) → (s : SoFar start p cost) → IsUnfinished p.held.rest → Framed (bytes_read s.trace) (frames_in s.trace) p.held.rest
 framed start p cost s unfinished = record { filled = s.fills.filled; spelled = s.fills.spelled; whole = s.fills.whole; unfinished = unfinished }
 
 pub may_read : (start : Start) (p : Point) (cost : ℕ) (event : Event) → (w : Waits start p cost) → written_before event ≡ p.link.written → size_of event ≤ read_limit
@@ -102,150 +102,150 @@ grows a b c trace h unreplied one two =
     (moves-join a b c (events_in trace) (events_in (h ∷ [])) (spelling_of (replies_in trace)) [] 0 one two)
 
 -- a read gave bytes, which stand behind the rest
-pub so_far-came : (start : Start) (p : Point) (cost n : ℕ) (end : LinkState) (held : Buffered) (room : List ℕ) → Waits start p cost → ReadsPiece p.link room n end
+pub so_far-gets : (start : Start) (p : Point) (cost n : ℕ) (end : LinkState) (held : Buffered) (room : List ℕ) → Waits start p cost → ReadsPiece p.link room n end
     → held.rest ≡ p.held.rest ++ take n room → held.place ≡ p.held.place → n ≤ read_limit → length p.held.rest + n ≤ buffer_length → SoFar start (point held p.stage end p.shown p.passed) (cost + n)
-so_far-came start p cost n end held room w r rest place most fits =
+so_far-gets start p cost n end held room w r rest place most fits =
     let s = w.so_far in
     let bytes : List ℕ = take n room in
     let h : Happening = received p.link.written end.now bytes in
     let size : length bytes ≡ n = length-take n room ∙ omega (arith, r.most) in
-    let more : came_in (s.trace ++ h ∷ []) ≡ came_in s.trace ++ bytes = came_in-append s.trace (h ∷ []) ∙ ap (λ (b : List ℕ). came_in s.trace ++ b) (append-nil bytes) in
+    let more : bytes_read (s.trace ++ h ∷ []) ≡ bytes_read s.trace ++ bytes = bytes_read-append s.trace (h ∷ []) ∙ ap (λ (b : List ℕ). bytes_read s.trace ++ b) (append-nil bytes) in
     let frames : frames_in (s.trace ++ h ∷ []) ≡ frames_in s.trace = frames_in-append s.trace (h ∷ []) ∙ append-nil (frames_in s.trace) in
     let steps : steps_in (s.trace ++ h ∷ []) ≡ steps_in s.trace = steps_in-append s.trace (h ∷ []) ∙ append-nil (steps_in s.trace) in
     record {
       trace = s.trace ++ h ∷ [];
       follows =
           follows-snoc start.block (standing stages.Fresh start.link) (standing p.stage p.link) (standing p.stage end) s.trace h None s.follows
-          ((λ i. record { stage = p.stage; now = end.now; heard = r.heard i }), refl);
+          ((λ i. record { stage = p.stage; now = end.now; last_read = r.last_read i }), refl);
       moves = grows start.link p.link end s.trace h refl s.moves (moves-read p.link end room n r);
       ended = r.ended ∙ s.ended;
       reads = each-snoc start.turns start.link.written [] s.trace h s.reads (may_read start p cost (piece p.link.written end.now bytes) w refl (omega (arith, size, most)) (omega (arith, size, fits)));
       fills =
           subst (λ (b : List ℕ). Fills b (frames_in (s.trace ++ h ∷ [])) held.rest) (sym more)
-          (subst (λ (fs : List Frame). Fills (came_in s.trace ++ bytes) fs held.rest) (sym frames)
-          (subst (λ (left : List ℕ). Fills (came_in s.trace ++ bytes) (frames_in s.trace) left) (sym rest) (fills-later (came_in s.trace) p.held.rest bytes (frames_in s.trace) s.fills)));
-      place = omega (arith, s.place, place, size, ap length rest, length-append p.held.rest bytes, ap length more, length-append (came_in s.trace) bytes);
+          (subst (λ (fs : List Frame). Fills (bytes_read s.trace ++ bytes) fs held.rest) (sym frames)
+          (subst (λ (left : List ℕ). Fills (bytes_read s.trace ++ bytes) (frames_in s.trace) left) (sym rest) (fills-later (bytes_read s.trace) p.held.rest bytes (frames_in s.trace) s.fills)));
+      place = omega (arith, s.place, place, size, ap length rest, length-append p.held.rest bytes, ap length more, length-append (bytes_read s.trace) bytes);
       costs = omega (arith, s.costs, size, ap cost_of (events_in-append s.trace (h ∷ [])), cost_of-append (events_in s.trace) (events_in (h ∷ [])), ap length (append-nil bytes));
       went = subst (λ (ss : List Step). Went start.shown ss p.shown) (sym steps) s.went;
       through = s.through ∙ ap all_passed (sym steps);
     }
 
 -- A read was quiet, and these steps were asked in it.
-pub record RestsHere (start : Start) (p : Point) (cost : ℕ) (end : LinkState) (steps : List Step) (stage : Stage) (shown : Shown) (why : Option Cause) : Type 0 where
+pub record IdlesHere (start : Start) (p : Point) (cost : ℕ) (end : LinkState) (steps : List Step) (stage : Stage) (shown : Shown) (why : Option Cause) : Type 0 where
   pub waits : Waits start p cost
   pub few : length p.held.rest ≤ buffer_length
   pub reads : ReadsQuiet p.link end
-  pub rests : Rests end.heard end.now p.stage steps stage why
+  pub idles : Idles end.last_read end.now p.stage steps stage why
   pub went : Went p.shown steps shown
 
 abbrev pub quietly : List Happening → LinkState → LinkState → List Step → List Happening
 quietly trace before end steps = trace ++ was_quiet before.written end.now steps ∷ []
 
-rests-follows : (start : Start) (p : Point) (cost : ℕ) (end : LinkState) (steps : List Step) (stage : Stage) (shown : Shown) (why : Option Cause) → (r : RestsHere start p cost end steps stage shown why)
+idles-follows : (start : Start) (p : Point) (cost : ℕ) (end : LinkState) (steps : List Step) (stage : Stage) (shown : Shown) (why : Option Cause) → (r : IdlesHere start p cost end steps stage shown why)
     → Follows start.block (standing stages.Fresh start.link) (quietly r.waits.so_far.trace p.link end steps) (standing stage end) why
-rests-follows start p cost end steps stage shown why r =
+idles-follows start p cost end steps stage shown why r =
     follows-snoc start.block (standing stages.Fresh start.link) (standing p.stage p.link) (standing stage end) r.waits.so_far.trace (was_quiet p.link.written end.now steps) why r.waits.so_far.follows
-    (refl, r.reads.heard, subst (λ (heard : ℕ). Rests heard end.now p.stage steps stage why) r.reads.heard r.rests)
+    (refl, r.reads.last_read, subst (λ (last_read : ℕ). Idles last_read end.now p.stage steps stage why) r.reads.last_read r.idles)
 
-rests-moves : (start : Start) (p : Point) (cost : ℕ) (end : LinkState) (steps : List Step) (stage : Stage) (shown : Shown) (why : Option Cause) → (r : RestsHere start p cost end steps stage shown why)
+idles-moves : (start : Start) (p : Point) (cost : ℕ) (end : LinkState) (steps : List Step) (stage : Stage) (shown : Shown) (why : Option Cause) → (r : IdlesHere start p cost end steps stage shown why)
     → Moves start.link (events_in (quietly r.waits.so_far.trace p.link end steps)) (spelling_of (replies_in (quietly r.waits.so_far.trace p.link end steps))) 0 end
-rests-moves start p cost end steps stage shown why r =
+idles-moves start p cost end steps stage shown why r =
     grows start.link p.link end r.waits.so_far.trace (was_quiet p.link.written end.now steps) refl r.waits.so_far.moves (moves-quiet p.link end r.reads)
 
-rests-reads : (start : Start) (p : Point) (cost : ℕ) (end : LinkState) (steps : List Step) (stage : Stage) (shown : Shown) (why : Option Cause) → (r : RestsHere start p cost end steps stage shown why)
+idles-reads : (start : Start) (p : Point) (cost : ℕ) (end : LinkState) (steps : List Step) (stage : Stage) (shown : Shown) (why : Option Cause) → (r : IdlesHere start p cost end steps stage shown why)
     → EachMayRead start.turns start.link.written [] (quietly r.waits.so_far.trace p.link end steps)
-rests-reads start p cost end steps stage shown why r =
+idles-reads start p cost end steps stage shown why r =
     each-snoc start.turns start.link.written [] r.waits.so_far.trace (was_quiet p.link.written end.now steps) r.waits.so_far.reads
     (may_read start p cost (quiet p.link.written end.now) r.waits refl (omega arith) (omega (arith, r.few)))
 
-rests-came : (trace : List Happening) (before end : LinkState) (steps : List Step) → came_in (quietly trace before end steps) ≡ came_in trace
-rests-came trace before end steps = came_in-append trace (was_quiet before.written end.now steps ∷ []) ∙ append-nil (came_in trace)
+idles-bytes_read : (trace : List Happening) (before end : LinkState) (steps : List Step) → bytes_read (quietly trace before end steps) ≡ bytes_read trace
+idles-bytes_read trace before end steps = bytes_read-append trace (was_quiet before.written end.now steps ∷ []) ∙ append-nil (bytes_read trace)
 
-rests-fills : (start : Start) (p : Point) (cost : ℕ) (end : LinkState) (steps : List Step) (stage : Stage) (shown : Shown) (why : Option Cause) → (r : RestsHere start p cost end steps stage shown why)
-    → Fills (came_in (quietly r.waits.so_far.trace p.link end steps)) (frames_in (quietly r.waits.so_far.trace p.link end steps)) p.held.rest
-rests-fills start p cost end steps stage shown why r =
+idles-fills : (start : Start) (p : Point) (cost : ℕ) (end : LinkState) (steps : List Step) (stage : Stage) (shown : Shown) (why : Option Cause) → (r : IdlesHere start p cost end steps stage shown why)
+    → Fills (bytes_read (quietly r.waits.so_far.trace p.link end steps)) (frames_in (quietly r.waits.so_far.trace p.link end steps)) p.held.rest
+idles-fills start p cost end steps stage shown why r =
     let s = r.waits.so_far in
     let frames : frames_in (quietly s.trace p.link end steps) ≡ frames_in s.trace = frames_in-append s.trace (was_quiet p.link.written end.now steps ∷ []) ∙ append-nil (frames_in s.trace) in
-    subst (λ (b : List ℕ). Fills b (frames_in (quietly s.trace p.link end steps)) p.held.rest) (sym (rests-came s.trace p.link end steps))
-    (subst (λ (fs : List Frame). Fills (came_in s.trace) fs p.held.rest) (sym frames) s.fills)
+    subst (λ (b : List ℕ). Fills b (frames_in (quietly s.trace p.link end steps)) p.held.rest) (sym (idles-bytes_read s.trace p.link end steps))
+    (subst (λ (fs : List Frame). Fills (bytes_read s.trace) fs p.held.rest) (sym frames) s.fills)
 
-rests-went : (start : Start) (p : Point) (cost : ℕ) (end : LinkState) (steps : List Step) (stage : Stage) (shown : Shown) (why : Option Cause) → (r : RestsHere start p cost end steps stage shown why)
+idles-went : (start : Start) (p : Point) (cost : ℕ) (end : LinkState) (steps : List Step) (stage : Stage) (shown : Shown) (why : Option Cause) → (r : IdlesHere start p cost end steps stage shown why)
     → Went start.shown (steps_in (quietly r.waits.so_far.trace p.link end steps)) shown
-rests-went start p cost end steps stage shown why r =
+idles-went start p cost end steps stage shown why r =
     let s = r.waits.so_far in
     let more : steps_in (quietly s.trace p.link end steps) ≡ steps_in s.trace ++ steps = steps_in-append s.trace (was_quiet p.link.written end.now steps ∷ []) ∙ ap (λ (ss : List Step). steps_in s.trace ++ ss) (append-nil steps) in
     subst (λ (ss : List Step). Went start.shown ss shown) (sym more) (went-join start.shown p.shown shown (steps_in s.trace) steps s.went r.went)
 
-rests-through : (start : Start) (p : Point) (cost : ℕ) (end : LinkState) (steps : List Step) (stage : Stage) (shown : Shown) (why : Option Cause) → (r : RestsHere start p cost end steps stage shown why)
+idles-through : (start : Start) (p : Point) (cost : ℕ) (end : LinkState) (steps : List Step) (stage : Stage) (shown : Shown) (why : Option Cause) → (r : IdlesHere start p cost end steps stage shown why)
     → p.passed ≡ all_passed (steps_in (quietly r.waits.so_far.trace p.link end steps))
-rests-through start p cost end steps stage shown why r =
+idles-through start p cost end steps stage shown why r =
     let s = r.waits.so_far in
     let more : steps_in (quietly s.trace p.link end steps) ≡ steps_in s.trace ++ steps = steps_in-append s.trace (was_quiet p.link.written end.now steps ∷ []) ∙ ap (λ (ss : List Step). steps_in s.trace ++ ss) (append-nil steps) in
-    passed-more p.passed (steps_in s.trace) steps s.through (rests-calls end.heard end.now p.stage steps stage why r.rests) ∙ ap all_passed (sym more)
+    passed-more p.passed (steps_in s.trace) steps s.through (idles-calls end.last_read end.now p.stage steps stage why r.idles) ∙ ap all_passed (sym more)
 
 -- the link goes on behind a quiet
-pub so_far-rests : (start : Start) (p : Point) (cost : ℕ) (end : LinkState) (steps : List Step) (stage : Stage) (shown : Shown) → RestsHere start p cost end steps stage shown None
+pub so_far-idles : (start : Start) (p : Point) (cost : ℕ) (end : LinkState) (steps : List Step) (stage : Stage) (shown : Shown) → IdlesHere start p cost end steps stage shown None
     → SoFar start (point p.held stage end shown p.passed) (cost + 1)
-so_far-rests start p cost end steps stage shown r =
+so_far-idles start p cost end steps stage shown r =
     let s = r.waits.so_far in
     let h : Happening = was_quiet p.link.written end.now steps in
     record {
       trace = quietly s.trace p.link end steps;
-      follows = rests-follows start p cost end steps stage shown None r;
-      moves = rests-moves start p cost end steps stage shown None r;
+      follows = idles-follows start p cost end steps stage shown None r;
+      moves = idles-moves start p cost end steps stage shown None r;
       ended = r.reads.ended ∙ s.ended;
-      reads = rests-reads start p cost end steps stage shown None r;
-      fills = rests-fills start p cost end steps stage shown None r;
-      place = omega (arith, s.place, ap length (rests-came s.trace p.link end steps));
+      reads = idles-reads start p cost end steps stage shown None r;
+      fills = idles-fills start p cost end steps stage shown None r;
+      place = omega (arith, s.place, ap length (idles-bytes_read s.trace p.link end steps));
       costs = omega (arith, s.costs, ap cost_of (events_in-append s.trace (h ∷ [])), cost_of-append (events_in s.trace) (events_in (h ∷ [])));
-      went = rests-went start p cost end steps stage shown None r;
-      through = rests-through start p cost end steps stage shown None r;
+      went = idles-went start p cost end steps stage shown None r;
+      through = idles-through start p cost end steps stage shown None r;
     }
 
 -- a quiet ends the link
-ends-rests : (start : Start) (p : Point) (cost : ℕ) (end : LinkState) (steps : List Step) (stage : Stage) (shown : Shown) (why : Cause) (answer : LinkEnd) → failed_writes answer ≡ 0 → (r : RestsHere start p cost end steps stage shown (Some why))
+ends-idles : (start : Start) (p : Point) (cost : ℕ) (end : LinkState) (steps : List Step) (stage : Stage) (shown : Shown) (why : Cause) (answer : LinkEnd) → failed_writes answer ≡ 0 → (r : IdlesHere start p cost end steps stage shown (Some why))
     → EndsBy start.turns start.link (quietly r.waits.so_far.trace p.link end steps) (standing stage end) (Some why) (spelling_of (replies_in (quietly r.waits.so_far.trace p.link end steps))) answer end
     → Ended start answer stage end shown p.passed
-ends-rests start p cost end steps stage shown why answer none r by = record {
+ends-idles start p cost end steps stage shown why answer none r by = record {
   asked = steps_in (quietly r.waits.so_far.trace p.link end steps);
   comes = record {
     trace = quietly r.waits.so_far.trace p.link end steps;
     last = standing stage end;
     cause = Some why;
     wrote = spelling_of (replies_in (quietly r.waits.so_far.trace p.link end steps));
-    follows = rests-follows start p cost end steps stage shown (Some why) r;
+    follows = idles-follows start p cost end steps stage shown (Some why) r;
     stands = refl;
-    heard = refl;
+    last_read = refl;
     moves =
         subst (λ (n : ℕ). Moves start.link (events_in (quietly r.waits.so_far.trace p.link end steps)) (spelling_of (replies_in (quietly r.waits.so_far.trace p.link end steps))) n end) (sym none)
-        (rests-moves start p cost end steps stage shown (Some why) r);
-    reads = rests-reads start p cost end steps stage shown (Some why) r;
+        (idles-moves start p cost end steps stage shown (Some why) r);
+    reads = idles-reads start p cost end steps stage shown (Some why) r;
     ends = by;
     steps = refl;
   };
-  went = rests-went start p cost end steps stage shown (Some why) r;
-  through = through-all answer p.passed (steps_in (quietly r.waits.so_far.trace p.link end steps)) (rests-through start p cost end steps stage shown (Some why) r);
+  went = idles-went start p cost end steps stage shown (Some why) r;
+  through = through-all answer p.passed (steps_in (quietly r.waits.so_far.trace p.link end steps)) (idles-through start p cost end steps stage shown (Some why) r);
 }
 
-pub ends-silent : (start : Start) (p : Point) (cost : ℕ) (end : LinkState) (steps : List Step) (stage : Stage) (shown : Shown) → RestsHere start p cost end steps stage shown (Some silent)
-    → Ended start (links.Silent end.heard end.now) stage end shown p.passed
+pub ends-silent : (start : Start) (p : Point) (cost : ℕ) (end : LinkState) (steps : List Step) (stage : Stage) (shown : Shown) → IdlesHere start p cost end steps stage shown (Some silent)
+    → Ended start (links.Silent end.last_read end.now) stage end shown p.passed
 ends-silent start p cost end steps stage shown r =
-    ends-rests start p cost end steps stage shown silent (links.Silent end.heard end.now) refl r
-    (record { why = refl; heard = refl; read = refl; answered = record { left = p.held.rest; fills = rests-fills start p cost end steps stage shown (Some silent) r; sent = refl } }, record { ended = r.reads.ended ∙ r.waits.so_far.ended; now = refl })
+    ends-idles start p cost end steps stage shown silent (links.Silent end.last_read end.now) refl r
+    (record { why = refl; last_read = refl; read = refl; answered = record { left = p.held.rest; fills = idles-fills start p cost end steps stage shown (Some silent) r; sent = refl } }, record { ended = r.reads.ended ∙ r.waits.so_far.ended; now = refl })
 
-pub ends-displaced : (start : Start) (p : Point) (cost : ℕ) (end : LinkState) (steps : List Step) (stage : Stage) (shown : Shown) → RestsHere start p cost end steps stage shown (Some displaced)
+pub ends-displaced : (start : Start) (p : Point) (cost : ℕ) (end : LinkState) (steps : List Step) (stage : Stage) (shown : Shown) → IdlesHere start p cost end steps stage shown (Some displaced)
     → Ended start links.Displaced stage end shown p.passed
 ends-displaced start p cost end steps stage shown r =
-    ends-rests start p cost end steps stage shown displaced links.Displaced refl r
-    (record { why = refl; answered = record { left = p.held.rest; fills = rests-fills start p cost end steps stage shown (Some displaced) r; sent = refl } }, record { ended = r.reads.ended ∙ r.waits.so_far.ended; now = refl })
+    ends-idles start p cost end steps stage shown displaced links.Displaced refl r
+    (record { why = refl; answered = record { left = p.held.rest; fills = idles-fills start p cost end steps stage shown (Some displaced) r; sent = refl } }, record { ended = r.reads.ended ∙ r.waits.so_far.ended; now = refl })
 
 -- the link would go on, and ends for another reason
 goes_on : (start : Start) (p : Point) (cost : ℕ) → (s : SoFar start p cost) → IsUnfinished p.held.rest → GoesOn s.trace None (spelling_of (replies_in s.trace)) p.held.rest
 goes_on start p cost s unfinished = record { why = refl; framed = framed start p cost s unfinished; sent = refl }
 
-ends-here : (start : Start) (p : Point) (cost : ℕ) (end : LinkState) (answer : LinkEnd) → (s : SoFar start p cost) → Moves p.link [] [] (failed_writes answer) end → p.link.heard ≡ end.heard
+ends-here : (start : Start) (p : Point) (cost : ℕ) (end : LinkState) (answer : LinkEnd) → (s : SoFar start p cost) → Moves p.link [] [] (failed_writes answer) end → p.link.last_read ≡ end.last_read
     → EndsBy start.turns start.link s.trace (standing p.stage p.link) None (spelling_of (replies_in s.trace)) answer end → Ended start answer p.stage end p.shown p.passed
-ends-here start p cost end answer s still heard by = record {
+ends-here start p cost end answer s still last_read by = record {
   asked = steps_in s.trace;
   comes = record {
     trace = s.trace;
@@ -254,7 +254,7 @@ ends-here start p cost end answer s still heard by = record {
     wrote = spelling_of (replies_in s.trace);
     follows = s.follows;
     stands = refl;
-    heard = heard;
+    last_read = last_read;
     moves = moves-still start.link p.link end (events_in s.trace) (spelling_of (replies_in s.trace)) (failed_writes answer) s.moves still;
     reads = s.reads;
     ends = by;
@@ -267,7 +267,7 @@ ends-here start p cost end answer s still heard by = record {
 pub ends-whole : (start : Start) (p : Point) (cost : ℕ) (end : LinkState) → Waits start p cost → ReadsEnd p.link end → p.held.rest ≡ [] → Ended start links.Ended p.stage end p.shown p.passed
 ends-whole start p cost end w r empty =
     let s = w.so_far in
-    ends-here start p cost end links.Ended s (moves-end p.link end r) (sym r.heard) record {
+    ends-here start p cost end links.Ended s (moves-end p.link end r) (sym r.last_read) record {
       ended = r.ended;
       nothing_comes = rw r.coming r.nothing_left;
       goes_on = subst (λ (left : List ℕ). GoesOn s.trace None (spelling_of (replies_in s.trace)) left) empty (goes_on start p cost s w.unfinished);
@@ -277,7 +277,7 @@ ends-whole start p cost end w r empty =
 pub ends-cut : (start : Start) (p : Point) (cost : ℕ) (end : LinkState) → Waits start p cost → ReadsEnd p.link end → 0 < length p.held.rest → Ended start (links.Cut p.held.place) p.stage end p.shown p.passed
 ends-cut start p cost end w r some =
     let s = w.so_far in
-    ends-here start p cost end (links.Cut p.held.place) s (moves-end p.link end r) (sym r.heard) record {
+    ends-here start p cost end (links.Cut p.held.place) s (moves-end p.link end r) (sym r.last_read) record {
       ended = r.ended;
       nothing_comes = rw r.coming r.nothing_left;
       left = p.held.rest;
@@ -302,7 +302,7 @@ ends-reads start p cost end answer w r whole cut = elim (none_or_some p.held.res
 pub ends-unread : (start : Start) (p : Point) (cost : ℕ) (end : LinkState) → Waits start p cost → FailsToRead p.link end → Ended start links.ReadFault p.stage end p.shown p.passed
 ends-unread start p cost end w r =
     let s = w.so_far in
-    ends-here start p cost end links.ReadFault s (moves-fault p.link end r) (sym r.heard) (
+    ends-here start p cost end links.ReadFault s (moves-fault p.link end r) (sym r.last_read) (
       record {
         left = p.held.rest;
         goes_on = goes_on start p cost s w.unfinished;
@@ -322,7 +322,7 @@ ends-spent start p cost s unfinished reached = record {
     wrote = spelling_of (replies_in s.trace);
     follows = s.follows;
     stands = refl;
-    heard = refl;
+    last_read = refl;
     moves = s.moves;
     reads = s.reads;
     ends = (record { left = p.held.rest; goes_on = goes_on start p cost s unfinished; reached = omega (arith, s.costs, reached) }, record { ended = s.ended; now = refl });
@@ -333,18 +333,18 @@ ends-spent start p cost s unfinished reached = record {
 }
 
 -- a quiet, by what the session machine answered
-pub link-rests : (start : Start) (held : Buffered) (mid end : LinkState) (old new : SessionState) (before after : Shown) (passed : Passed) (cost : ℕ) → Waits start (point held old.stage mid before passed) cost → length held.rest ≤ buffer_length
-    → ReadsQuiet mid end → RestsLink end old before None new after → SoFar start (point held new.stage end after passed) (cost + 1)
-link-rests start held mid end old new before after passed cost w few r rests =
-    so_far-rests start (point held old.stage mid before passed) cost end rests.steps new.stage after (record { waits = w; few = few; reads = r; rests = rests.rests; went = rests.went })
+pub link-idles : (start : Start) (held : Buffered) (mid end : LinkState) (old new : SessionState) (before after : Shown) (passed : Passed) (cost : ℕ) → Waits start (point held old.stage mid before passed) cost → length held.rest ≤ buffer_length
+    → ReadsQuiet mid end → IdlesLink end old before None new after → SoFar start (point held new.stage end after passed) (cost + 1)
+link-idles start held mid end old new before after passed cost w few r idles =
+    so_far-idles start (point held old.stage mid before passed) cost end idles.steps new.stage after (record { waits = w; few = few; reads = r; idles = idles.idles; went = idles.went })
 
 pub link-ends : (start : Start) (held : Buffered) (mid end : LinkState) (old new : SessionState) (before after : Shown) (passed : Passed) (cost : ℕ) (answer : LinkEnd) → Waits start (point held old.stage mid before passed) cost → length held.rest ≤ buffer_length
-    → ReadsQuiet mid end → RestsLink end old before (Some answer) new after → Ended start answer new.stage end after passed
-link-ends start held mid end old new before after passed cost answer w few r rests = elim rests [
+    → ReadsQuiet mid end → IdlesLink end old before (Some answer) new after → Ended start answer new.stage end after passed
+link-ends start held mid end old new before after passed cost answer w few r idles = elim idles [
   | inl s ↦
       subst (λ (a : LinkEnd). Ended start a new.stage end after passed) (sym s.1)
-      (ends-silent start (point held old.stage mid before passed) cost end s.0.steps new.stage after (record { waits = w; few = few; reads = r; rests = s.0.rests; went = s.0.went }))
+      (ends-silent start (point held old.stage mid before passed) cost end s.0.steps new.stage after (record { waits = w; few = few; reads = r; idles = s.0.idles; went = s.0.went }))
   | inr d ↦
       subst (λ (a : LinkEnd). Ended start a new.stage end after passed) (sym d.1)
-      (ends-displaced start (point held old.stage mid before passed) cost end d.0.steps new.stage after (record { waits = w; few = few; reads = r; rests = d.0.rests; went = d.0.went }))
+      (ends-displaced start (point held old.stage mid before passed) cost end d.0.steps new.stage after (record { waits = w; few = few; reads = r; idles = d.0.idles; went = d.0.went }))
 ]

@@ -20,11 +20,11 @@ use Rattle.afp_server.specs.Script.{ReplyDoes, FrameDoes, Does}
 use Rattle.afp_server.specs.Tally.{tallied, and_told, and_reply}
 use Rattle.afp_server.specs.declared.tally.Tally.{Tally}
 use Rattle.afp_server.proofs.Tallies.{tallied-none, tallied-reply}
-use Rattle.afp_server.specs.lemma.SessionState.{SessionState, Acts, CalledBy, PulseTold, RestsBy, IsCall, IsCallAnswer, IsOpenAnswer}
+use Rattle.afp_server.specs.lemma.SessionState.{SessionState, Acts, CalledBy, PulseTold, IdlesBy, IsCall, IsCallAnswer, IsOpenAnswer}
 use Rattle.dsi_session.specs.Pulse.{silence_limit, seconds_between}
-use Rattle.afp_server.specs.declared.stage.Rest.{Rest}
-use Rattle.afp_server.specs.declared.stage.Rest.TheVariants as rests
-use Rattle.afp_server.specs.Trace.{RestsOn}
+use Rattle.afp_server.specs.declared.stage.Idle.{Idle}
+use Rattle.afp_server.specs.declared.stage.Idle.TheVariants as idles
+use Rattle.afp_server.specs.Trace.{IdlesOn}
 use Rattle.afp_server.specs.declared.stage.Stage.{Stage}
 use Rattle.afp_server.specs.declared.stage.Stage.TheVariants.{Fresh, Open, Closing}
 use Rattle.afp_server.specs.declared.stage.FrameEnd.TheVariants as ends
@@ -173,43 +173,43 @@ open-told n a t is may = subst (λ (x : Ask). is_answer_to x t ≡ true) is may
 
 -- a quiet
 
-pub rests-silent : (heard now : ℕ) (s : SessionState) (a : Shown) → silence_limit ≤ seconds_between heard now → RestsBy heard now s a rests.Silent s a
-rests-silent heard now s a long = record { steps = []; rests = (long, refl, refl); block = refl; went = went-none a }
+pub idles-silent : (last_read now : ℕ) (s : SessionState) (a : Shown) → silence_limit ≤ seconds_between last_read now → IdlesBy last_read now s a idles.Silent s a
+idles-silent last_read now s a long = record { steps = []; idles = (long, refl, refl); block = refl; went = went-none a }
 
-pub rests-fresh : (heard now : ℕ) (s : SessionState) (a : Shown) → s.stage ≡ Fresh → seconds_between heard now < silence_limit → RestsBy heard now s a rests.On s a
-rests-fresh heard now s a is short =
-    record { steps = []; rests = (short, subst (λ (stage : Stage). RestsOn now stage [] stage) (sym is) (refl, refl)); block = refl; went = went-none a }
+pub idles-fresh : (last_read now : ℕ) (s : SessionState) (a : Shown) → s.stage ≡ Fresh → seconds_between last_read now < silence_limit → IdlesBy last_read now s a idles.On s a
+idles-fresh last_read now s a is short =
+    record { steps = []; idles = (short, subst (λ (stage : Stage). IdlesOn now stage [] stage) (sym is) (refl, refl)); block = refl; went = went-none a }
 
-rests-on : (heard now : ℕ) (link : LinkNumber) (old new : SessionState) (a b : Shown) (t : Told) (rest : Rest) → old.stage ≡ Open link → seconds_between heard now < silence_limit
-    → t ≢ tells.Displaced → rest ≡ rests.On → new ≡ old → Went a (step now link asks.Pulse t ∷ []) b → RestsBy heard now old a rest new b
-rests-on heard now link old new a b t rest at short other on same went =
+idles-on : (last_read now : ℕ) (link : LinkNumber) (old new : SessionState) (a b : Shown) (t : Told) (idle : Idle) → old.stage ≡ Open link → seconds_between last_read now < silence_limit
+    → t ≢ tells.Displaced → idle ≡ idles.On → new ≡ old → Went a (step now link asks.Pulse t ∷ []) b → IdlesBy last_read now old a idle new b
+idles-on last_read now link old new a b t idle at short other on same went =
     let stays : new.stage ≡ Open link = ap (λ (s : SessionState). s.stage) same ∙ at in
-    subst (λ (r : Rest). RestsBy heard now old a r new b) (sym on) record {
+    subst (λ (r : Idle). IdlesBy last_read now old a r new b) (sym on) record {
       steps = step now link asks.Pulse t ∷ [];
-      rests = (short, subst (λ (stage : Stage). RestsOn now stage (step now link asks.Pulse t ∷ []) new.stage) (sym at) (t, refl, other, stays));
+      idles = (short, subst (λ (stage : Stage). IdlesOn now stage (step now link asks.Pulse t ∷ []) new.stage) (sym at) (t, refl, other, stays));
       block = ap (λ (s : SessionState). s.block) same;
       went = went;
     }
 
-pub rests-pulse : (heard now : ℕ) (link : LinkNumber) (old new : SessionState) (a b : Shown) (t : Told) (rest : Rest) → old.stage ≡ Open link → seconds_between heard now < silence_limit
-    → PulseTold t old rest new → Went a (step now link asks.Pulse t ∷ []) b → RestsBy heard now old a rest new b
-rests-pulse heard now link old new a b tells.Displaced rest at short told went =
-    subst (λ (r : Rest). RestsBy heard now old a r new b) (sym told.0) record {
+pub idles-pulse : (last_read now : ℕ) (link : LinkNumber) (old new : SessionState) (a b : Shown) (t : Told) (idle : Idle) → old.stage ≡ Open link → seconds_between last_read now < silence_limit
+    → PulseTold t old idle new → Went a (step now link asks.Pulse t ∷ []) b → IdlesBy last_read now old a idle new b
+idles-pulse last_read now link old new a b tells.Displaced idle at short told went =
+    subst (λ (r : Idle). IdlesBy last_read now old a r new b) (sym told.0) record {
       steps = step now link asks.Pulse tells.Displaced ∷ [];
-      rests = (short, record { link = link; in_session = at; asks = refl; closes = ap (λ (s : SessionState). s.stage) told.1 });
+      idles = (short, record { link = link; in_session = at; asks = refl; closes = ap (λ (s : SessionState). s.stage) told.1 });
       block = ap (λ (s : SessionState). s.block) told.1;
       went = went;
     }
-rests-pulse heard now link old new a b (tells.Opened l) rest at short told went = rests-on heard now link old new a b _ rest at short (λ e. cc e) told.0 told.1 went
-rests-pulse heard now link old new a b (tells.Reply c block e) rest at short told went = rests-on heard now link old new a b _ rest at short (λ e. cc e) told.0 told.1 went
-rests-pulse heard now link old new a b (tells.Live drain) rest at short told went = rests-on heard now link old new a b _ rest at short (λ e. cc e) told.0 told.1 went
-rests-pulse heard now link old new a b tells.Done rest at short told went = rests-on heard now link old new a b _ rest at short (λ e. cc e) told.0 told.1 went
-rests-pulse heard now link old new a b tells.Memory rest at short told went = rests-on heard now link old new a b _ rest at short (λ e. cc e) told.0 told.1 went
+idles-pulse last_read now link old new a b (tells.Opened l) idle at short told went = idles-on last_read now link old new a b _ idle at short (λ e. cc e) told.0 told.1 went
+idles-pulse last_read now link old new a b (tells.Reply c block e) idle at short told went = idles-on last_read now link old new a b _ idle at short (λ e. cc e) told.0 told.1 went
+idles-pulse last_read now link old new a b (tells.Live drain) idle at short told went = idles-on last_read now link old new a b _ idle at short (λ e. cc e) told.0 told.1 went
+idles-pulse last_read now link old new a b tells.Done idle at short told went = idles-on last_read now link old new a b _ idle at short (λ e. cc e) told.0 told.1 went
+idles-pulse last_read now link old new a b tells.Memory idle at short told went = idles-on last_read now link old new a b _ idle at short (λ e. cc e) told.0 told.1 went
 
-pub pulse-live : (t : Told) (link : LinkNumber) (old new : SessionState) (rest : Rest) → old.stage ≡ Open link → PulseTold t old rest new → rest ≡ rests.On → new.stage ≢ Closing
-pulse-live tells.Displaced link old new rest at told on = absurd (cc (told.0, on))
-pulse-live (tells.Opened l) link old new rest at told on = λ e. let s = ap (λ (x : SessionState). x.stage) told.1 in cc (s, at, e)
-pulse-live (tells.Reply c block x) link old new rest at told on = λ e. let s = ap (λ (x : SessionState). x.stage) told.1 in cc (s, at, e)
-pulse-live (tells.Live drain) link old new rest at told on = λ e. let s = ap (λ (x : SessionState). x.stage) told.1 in cc (s, at, e)
-pulse-live tells.Done link old new rest at told on = λ e. let s = ap (λ (x : SessionState). x.stage) told.1 in cc (s, at, e)
-pulse-live tells.Memory link old new rest at told on = λ e. let s = ap (λ (x : SessionState). x.stage) told.1 in cc (s, at, e)
+pub pulse-live : (t : Told) (link : LinkNumber) (old new : SessionState) (idle : Idle) → old.stage ≡ Open link → PulseTold t old idle new → idle ≡ idles.On → new.stage ≢ Closing
+pulse-live tells.Displaced link old new idle at told on = absurd (cc (told.0, on))
+pulse-live (tells.Opened l) link old new idle at told on = λ e. let s = ap (λ (x : SessionState). x.stage) told.1 in cc (s, at, e)
+pulse-live (tells.Reply c block x) link old new idle at told on = λ e. let s = ap (λ (x : SessionState). x.stage) told.1 in cc (s, at, e)
+pulse-live (tells.Live drain) link old new idle at told on = λ e. let s = ap (λ (x : SessionState). x.stage) told.1 in cc (s, at, e)
+pulse-live tells.Done link old new idle at told on = λ e. let s = ap (λ (x : SessionState). x.stage) told.1 in cc (s, at, e)
+pulse-live tells.Memory link old new idle at told on = λ e. let s = ap (λ (x : SessionState). x.stage) told.1 in cc (s, at, e)

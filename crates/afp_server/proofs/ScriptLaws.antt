@@ -14,7 +14,7 @@ use Rattle.afp_server.specs.Did.{Did}
 use Rattle.afp_server.specs.OpenSession.{OpenTold, OpensSession}
 use Rattle.afp_server.specs.Replies.{listed, plain}
 use Rattle.afp_server.specs.Script.{FreshDoes, OpenDoes, ReplyDoes, FrameDoes, Does, Script}
-use Rattle.afp_server.specs.Trace.{Happening, received, was_quiet, handled, frames_in, replies_in, frame_steps_in, Standing, Cause, closed, displaced, bad, silent, cause_of, RestsOn, Rests, Follows}
+use Rattle.afp_server.specs.Trace.{Happening, received, was_quiet, handled, frames_in, replies_in, frame_steps_in, Standing, Cause, closed, displaced, bad, silent, cause_of, IdlesOn, Idles, Follows}
 use Rattle.afp_server.specs.declared.stage.FrameEnd.{FrameEnd}
 use Rattle.afp_server.specs.declared.stage.FrameEnd.TheVariants as ends
 use Rattle.afp_server.specs.declared.stage.Stage.{Stage}
@@ -96,10 +96,10 @@ plain-more None frames is p = p
 plain-more (Some f) frames is p = plain-one f frames is ∙ ap (λ (fs : List Frame). f ∷ fs) p
 
 -- a quiet goes on in its phase
-rests_on-stage : (now : ℕ) (stage : Stage) (steps : List Step) (after : Stage) → RestsOn now stage steps after → after ≡ stage
-rests_on-stage now Fresh steps after r = r.1
-rests_on-stage now (Open link) steps after r = r.3
-rests_on-stage now Closing steps after r = absurd r
+idles_on-stage : (now : ℕ) (stage : Stage) (steps : List Step) (after : Stage) → IdlesOn now stage steps after → after ≡ stage
+idles_on-stage now Fresh steps after r = r.1
+idles_on-stage now (Open link) steps after r = r.3
+idles_on-stage now Closing steps after r = absurd r
 
 -- nothing happens behind an end
 
@@ -110,11 +110,11 @@ scripted-trace : (block : List ℕ) (stage last : Stage) (cause : Option Cause) 
 scripted-trace block stage last cause trace none s = subst (λ (t : List Happening). IsScripted block stage t last cause) (sym none) s
 
 -- a quiet that ends the link
-rests-ends : (block : List ℕ) (heard now : ℕ) (stage : Stage) (steps : List Step) (after : Stage) (c : Cause) → Rests heard now stage steps after (Some c) → IsScripted block stage [] after (Some c)
-rests-ends block heard now stage steps after silent r = scripted-none block stage (Some silent) after stage refl (sym r.2, refl)
-rests-ends block heard now stage steps after displaced r = scripted-none block stage (Some displaced) after stage refl (inr (r.1.link, r.1.in_session, refl))
-rests-ends block heard now stage steps after closed r = absurd r
-rests-ends block heard now stage steps after (bad reason) r = absurd r
+idles-ends : (block : List ℕ) (last_read now : ℕ) (stage : Stage) (steps : List Step) (after : Stage) (c : Cause) → Idles last_read now stage steps after (Some c) → IsScripted block stage [] after (Some c)
+idles-ends block last_read now stage steps after silent r = scripted-none block stage (Some silent) after stage refl (sym r.2, refl)
+idles-ends block last_read now stage steps after displaced r = scripted-none block stage (Some displaced) after stage refl (inr (r.1.link, r.1.in_session, refl))
+idles-ends block last_read now stage steps after closed r = absurd r
+idles-ends block last_read now stage steps after (bad reason) r = absurd r
 
 -- what a script says behind a frame, by its end
 abbrev Behind : List ℕ → Stage → List Frame → List Step → List Frame → Stage → Option FrameEnd → Option FrameEnd → Type 0
@@ -170,9 +170,9 @@ ends-here block stage h mid b trace cause c last s =
     (subst (λ (st : Stage). IsScripted block stage (h ∷ trace) st (Some c)) (sym (ap (λ (x : Standing). x.stage) last.1))
     (subst (λ (t : List Happening). IsScripted block stage (h ∷ t) mid.stage (Some c)) (sym last.0) s))
 
-came-next : (block : List ℕ) (a mid b : Standing) (w : Option (List ℕ)) (n : ℕ) (bytes : List ℕ) (trace : List Happening) (cause why : Option Cause) → mid.stage ≡ a.stage → why ≡ None
+received-next : (block : List ℕ) (a mid b : Standing) (w : Option (List ℕ)) (n : ℕ) (bytes : List ℕ) (trace : List Happening) (cause why : Option Cause) → mid.stage ≡ a.stage → why ≡ None
     → (Follows block mid trace b cause → IsScripted block mid.stage trace b.stage cause) → Then block mid trace b cause why → IsScripted block a.stage (received w n bytes ∷ trace) b.stage cause
-came-next block a mid b w n bytes trace cause why same goes_on rest next =
+received-next block a mid b w n bytes trace cause why same goes_on rest next =
     let s = rest (subst (λ (x : Option Cause). Then block mid trace b cause x) goes_on next) in record {
       after = s.after;
       end = s.end;
@@ -181,18 +181,18 @@ came-next block a mid b w n bytes trace cause why same goes_on rest next =
       plain_replies = s.plain_replies;
     }
 
-rested-next : (block : List ℕ) (a mid b : Standing) (w : Option (List ℕ)) (n : ℕ) (steps : List Step) (trace : List Happening) (cause why : Option Cause) → Rests a.heard n a.stage steps mid.stage why
+idled-next : (block : List ℕ) (a mid b : Standing) (w : Option (List ℕ)) (n : ℕ) (steps : List Step) (trace : List Happening) (cause why : Option Cause) → Idles a.last_read n a.stage steps mid.stage why
     → (Follows block mid trace b cause → IsScripted block mid.stage trace b.stage cause) → Then block mid trace b cause why → IsScripted block a.stage (was_quiet w n steps ∷ trace) b.stage cause
-rested-next block a mid b w n steps trace cause None r rest next =
+idled-next block a mid b w n steps trace cause None r rest next =
     let s = rest next in record {
       after = s.after;
       end = s.end;
-      script = subst (λ (st : Stage). Script block st (frames_in trace) (frame_steps_in trace) (replies_in trace) s.after s.end) (rests_on-stage n a.stage steps mid.stage r.1) s.script;
+      script = subst (λ (st : Stage). Script block st (frames_in trace) (frame_steps_in trace) (replies_in trace) s.after s.end) (idles_on-stage n a.stage steps mid.stage r.1) s.script;
       ends = s.ends;
       plain_replies = s.plain_replies;
     }
-rested-next block a mid b w n steps trace cause (Some c) r rest next =
-    let s = rests-ends block a.heard n a.stage steps mid.stage c r in
+idled-next block a mid b w n steps trace cause (Some c) r rest next =
+    let s = idles-ends block a.last_read n a.stage steps mid.stage c r in
     ends-here block a.stage (was_quiet w n steps) mid b trace cause c next (record { after = s.after; end = s.end; script = s.script; ends = s.ends; plain_replies = s.plain_replies })
 
 handled-next : (block : List ℕ) (a mid b : Standing) (f : Frame) (did : Did) (trace : List Happening) (cause why : Option Cause) (e : Option FrameEnd) → Does block a.now a.stage f did → mid.stage ≡ did.stage
@@ -208,7 +208,7 @@ pub scripted : (block : List ℕ) (a b : Standing) (trace : List Happening) (cau
 scripted block a b [] cause f =
     subst (λ (c : Option Cause). IsScripted block a.stage [] b.stage c) (sym f.1) (scripted-none block a.stage None b.stage b.stage (ap (λ (x : Standing). x.stage) f.0) (refl, refl))
 scripted block a b (received w n bytes ∷ trace) cause f =
-    came-next block a f.0 b w n bytes trace cause f.1 (ap (λ (x : Standing). x.stage) f.2.0) f.2.1 (λ r. scripted block f.0 b trace cause r) f.3
-scripted block a b (was_quiet w n steps ∷ trace) cause f = rested-next block a f.0 b w n steps trace cause f.1 f.2.2 (λ r. scripted block f.0 b trace cause r) f.3
+    received-next block a f.0 b w n bytes trace cause f.1 (ap (λ (x : Standing). x.stage) f.2.0) f.2.1 (λ r. scripted block f.0 b trace cause r) f.3
+scripted block a b (was_quiet w n steps ∷ trace) cause f = idled-next block a f.0 b w n steps trace cause f.1 f.2.2 (λ r. scripted block f.0 b trace cause r) f.3
 scripted block a b (handled f did ∷ trace) cause x =
     handled-next block a x.0 b f did trace cause x.1 did.end x.2.0 (ap (λ (s : Standing). s.stage) x.2.1) refl x.2.2 (λ r. scripted block x.0 b trace cause r) x.3

@@ -13,7 +13,7 @@ use Rattle.dsi_frame.specs.Frame.{Frame, IsSpelling, IsBadHeader}
 use Rattle.dsi_frame.specs.Stream.{Begins}
 use Rattle.dsi_frame.specs.declared.frame.BadFrame.{BadFrame}
 use Rattle.afp_server.specs.Did.{Did}
-use Rattle.afp_server.specs.LinkRun.{Moves, Fills, EachMayRead, EndsBy, failed_writes, IsAnswered, came_in, cost_of, carries_call}
+use Rattle.afp_server.specs.LinkRun.{Moves, Fills, EachMayRead, EndsBy, failed_writes, IsAnswered, bytes_read, cost_of, carries_call}
 use Rattle.afp_server.specs.Passing.{calls_in, GoThrough}
 use Rattle.afp_server.specs.lemma.Passing.{all_passed}
 use Rattle.afp_server.specs.Replies.{listed, spelling_of}
@@ -65,11 +65,11 @@ abbrev pub longer : List Happening → Frame → Did → List Happening
 longer trace f did = trace ++ handled f did ∷ []
 
 pub handles-follows : (start : Start) (p : Point) (cost : ℕ) (f : Frame) (did : Did) (first more : List ℕ) (shown : Shown) (link : LinkState) (why : Option Cause)
-    → (h : HandlesNext start p cost f did first more shown) → link.now ≡ p.link.now → link.heard ≡ p.link.heard → why ≡ option_map cause_of did.end
+    → (h : HandlesNext start p cost f did first more shown) → link.now ≡ p.link.now → link.last_read ≡ p.link.last_read → why ≡ option_map cause_of did.end
     → Follows start.block (standing stages.Fresh start.link) (longer h.so_far.trace f did) (standing did.stage link) why
-handles-follows start p cost f did first more shown link why h now heard is =
+handles-follows start p cost f did first more shown link why h now last_read is =
     follows-snoc start.block (standing stages.Fresh start.link) (standing p.stage p.link) (standing did.stage link) h.so_far.trace (handled f did) why h.so_far.follows
-    (h.does, (λ i. record { stage = did.stage; now = now i; heard = heard i }), is)
+    (h.does, (λ i. record { stage = did.stage; now = now i; last_read = last_read i }), is)
 
 pub handles-moves : (start : Start) (p : Point) (cost : ℕ) (f : Frame) (did : Did) (first more : List ℕ) (shown : Shown) (link : LinkState)
     → (h : HandlesNext start p cost f did first more shown) → Sends p.link (spelling_of (listed did.reply)) 0 link
@@ -83,18 +83,18 @@ pub handles-reads : (start : Start) (p : Point) (cost : ℕ) (f : Frame) (did : 
     → (h : HandlesNext start p cost f did first more shown) → EachMayRead start.turns start.link.written [] (longer h.so_far.trace f did)
 handles-reads start p cost f did first more shown h = each-snoc start.turns start.link.written [] h.so_far.trace (handled f did) h.so_far.reads tt
 
-pub handles-came : (trace : List Happening) (f : Frame) (did : Did) → came_in (longer trace f did) ≡ came_in trace
-handles-came trace f did = ap taken (events-one trace f did)
+pub handles-bytes_read : (trace : List Happening) (f : Frame) (did : Did) → bytes_read (longer trace f did) ≡ bytes_read trace
+handles-bytes_read trace f did = ap taken (events-one trace f did)
 
 pub handles-frames : (trace : List Happening) (f : Frame) (did : Did) → frames_in (longer trace f did) ≡ frames_in trace ++ f ∷ []
 handles-frames trace f did = frames_in-append trace (handled f did ∷ [])
 
 pub handles-fills : (start : Start) (p : Point) (cost : ℕ) (f : Frame) (did : Did) (first more : List ℕ) (shown : Shown)
-    → (h : HandlesNext start p cost f did first more shown) → Fills (came_in (longer h.so_far.trace f did)) (frames_in (longer h.so_far.trace f did)) more
+    → (h : HandlesNext start p cost f did first more shown) → Fills (bytes_read (longer h.so_far.trace f did)) (frames_in (longer h.so_far.trace f did)) more
 handles-fills start p cost f did first more shown h =
-    subst (λ (b : List ℕ). Fills b (frames_in (longer h.so_far.trace f did)) more) (sym (handles-came h.so_far.trace f did))
-    (subst (λ (fs : List Frame). Fills (came_in h.so_far.trace) fs more) (sym (handles-frames h.so_far.trace f did))
-    (fills-one (came_in h.so_far.trace) p.held.rest first more (frames_in h.so_far.trace) f h.so_far.fills h.spelling h.whole))
+    subst (λ (b : List ℕ). Fills b (frames_in (longer h.so_far.trace f did)) more) (sym (handles-bytes_read h.so_far.trace f did))
+    (subst (λ (fs : List Frame). Fills (bytes_read h.so_far.trace) fs more) (sym (handles-frames h.so_far.trace f did))
+    (fills-one (bytes_read h.so_far.trace) p.held.rest first more (frames_in h.so_far.trace) f h.so_far.fills h.spelling h.whole))
 
 pub handles-went : (start : Start) (p : Point) (cost : ℕ) (f : Frame) (did : Did) (first more : List ℕ) (shown : Shown)
     → (h : HandlesNext start p cost f did first more shown) → Went start.shown (steps_in (longer h.so_far.trace f did)) shown
@@ -115,12 +115,12 @@ pub so_far-handles : (start : Start) (p : Point) (cost : ℕ) (f : Frame) (did :
 so_far-handles start p cost f did first more shown link held mid passed called h g s goes_on is =
     subst (λ (d : Buffered). SoFar start (point d did.stage link shown passed) cost) (sym is) record {
       trace = longer h.so_far.trace f did;
-      follows = handles-follows start p cost f did first more shown link None h s.now s.heard (sym (ap (λ (e : Option FrameEnd). option_map cause_of e) goes_on));
+      follows = handles-follows start p cost f did first more shown link None h s.now s.last_read (sym (ap (λ (e : Option FrameEnd). option_map cause_of e) goes_on));
       moves = handles-moves start p cost f did first more shown link h s;
       ended = s.ended ∙ h.so_far.ended;
       reads = handles-reads start p cost f did first more shown h;
       fills = handles-fills start p cost f did first more shown h;
-      place = omega (arith, h.so_far.place, ap length h.whole, length-append first more, ap length (handles-came h.so_far.trace f did));
+      place = omega (arith, h.so_far.place, ap length h.whole, length-append first more, ap length (handles-bytes_read h.so_far.trace f did));
       costs = h.so_far.costs ∙ sym (ap cost_of (events-one h.so_far.trace f did));
       went = handles-went start p cost f did first more shown h;
       through = handles-through start p cost f did first more shown mid passed called h g;
@@ -147,9 +147,9 @@ ended-frame start p cost f did first more shown link end mid passed called h g s
     last = standing did.stage link;
     cause = Some (cause_of end);
     wrote = spelling_of (replies_in (longer h.so_far.trace f did));
-    follows = handles-follows start p cost f did first more shown link (Some (cause_of end)) h s.now s.heard (sym (ap (λ (e : Option FrameEnd). option_map cause_of e) is));
+    follows = handles-follows start p cost f did first more shown link (Some (cause_of end)) h s.now s.last_read (sym (ap (λ (e : Option FrameEnd). option_map cause_of e) is));
     stands = refl;
-    heard = refl;
+    last_read = refl;
     moves =
         subst (λ (n : ℕ). Moves start.link (events_in (longer h.so_far.trace f did)) (spelling_of (replies_in (longer h.so_far.trace f did))) n link) (sym (frame_writes end p.held.place))
         (handles-moves start p cost f did first more shown link h s);
@@ -178,9 +178,9 @@ ends-frame start p cost f did first more shown link (ends.Bad reason) mid passed
         last = f;
         frames = handles-frames h.so_far.trace f did;
         left = p.held.rest;
-        fills = subst (λ (b : List ℕ). Fills b (frames_in h.so_far.trace) p.held.rest) (sym (handles-came h.so_far.trace f did)) h.so_far.fills;
+        fills = subst (λ (b : List ℕ). Fills b (frames_in h.so_far.trace) p.held.rest) (sym (handles-bytes_read h.so_far.trace f did)) h.so_far.fills;
         begins = record { first = first; more = more; whole = h.whole; spelling = h.spelling };
-        place = h.so_far.place ∙ sym (ap length (handles-came h.so_far.trace f did));
+        place = h.so_far.place ∙ sym (ap length (handles-bytes_read h.so_far.trace f did));
         sent = refl;
       },
       record { ended = s.ended ∙ h.so_far.ended; now = refl },
@@ -190,16 +190,16 @@ ends-frame start p cost f did first more shown link (ends.Bad reason) mid passed
 pub ends-unwritten : (start : Start) (p : Point) (cost : ℕ) (f : Frame) (did : Did) (first more : List ℕ) (shown : Shown) (link : LinkState) (reply : Frame) (mid : Passed) (called : Option LinkNumber)
     → (h : HandlesNext start p cost f did first more shown) → mid ≡ in_by p.passed called → calls_in did.steps ≡ option_to_list called → did.reply ≡ Some reply → SendsPart p.link (spelling_of (listed did.reply)) link
     → Ended start links.WriteFault did.stage link shown mid
-ends-unwritten start p cost f did first more shown link reply mid called h goes_in calls is s = record {
+ends-unwritten start p cost f did first more shown link reply mid called h enters calls is s = record {
   asked = steps_in (longer h.so_far.trace f did);
   comes = record {
     trace = longer h.so_far.trace f did;
     last = standing did.stage link;
     cause = option_map cause_of did.end;
     wrote = spelling_of (replies_in h.so_far.trace) ++ s.part;
-    follows = handles-follows start p cost f did first more shown link (option_map cause_of did.end) h s.sends.now s.sends.heard refl;
+    follows = handles-follows start p cost f did first more shown link (option_map cause_of did.end) h s.sends.now s.sends.last_read refl;
     stands = refl;
-    heard = refl;
+    last_read = refl;
     moves =
         moves-events start.link link 1 (events_in h.so_far.trace) (events_in (longer h.so_far.trace f did)) (spelling_of (replies_in h.so_far.trace) ++ s.part) (spelling_of (replies_in h.so_far.trace) ++ s.part)
         (sym (events-one h.so_far.trace f did)) refl
@@ -227,7 +227,7 @@ ends-unwritten start p cost f did first more shown link reply mid called h goes_
   };
   went = handles-went start p cost f did first more shown h;
   through = subst (λ (ss : List Step). GoThrough links.WriteFault ss mid) (sym (steps-one h.so_far.trace f did))
-      (through-unwritten p.passed mid called did (steps_in h.so_far.trace) h.so_far.through goes_in calls);
+      (through-unwritten p.passed mid called did (steps_in h.so_far.trace) h.so_far.through enters calls);
 }
 
 pub some_lost-replied : (o : Option Frame) (part lost : List ℕ) → 0 < length lost → part ++ lost ≡ spelling_of (listed o) → (f : Frame) × (o ≡ Some f)
@@ -237,8 +237,8 @@ some_lost-replied None part lost some cut = absurd (omega (arith, ap length cut,
 -- there was no memory for a copy of a call
 pub ends-uncopied : (start : Start) (p : Point) (cost : ℕ) (f : Frame) (link : LinkNumber) (stage : Stage) (shown : Shown) (passed : Passed) → SoFar start p cost → Begins p.held.rest f
     → f.reply ≡ false → carries_call f.command ≡ true → p.stage ≡ stages.Open link → stage ≡ p.stage → shown ≡ p.shown → passed ≡ p.passed → Ended start links.Memory stage p.link shown passed
-ends-uncopied start p cost f link stage shown passed s begins request call in_session same unasked unpassed =
-    subst (λ (b : Shown). Ended start links.Memory stage p.link b passed) (sym unasked) (subst (λ (x : Stage). Ended start links.Memory x p.link p.shown passed) (sym same) record {
+ends-uncopied start p cost f link stage shown passed s begins request call in_session same same_shown same_passed =
+    subst (λ (b : Shown). Ended start links.Memory stage p.link b passed) (sym same_shown) (subst (λ (x : Stage). Ended start links.Memory x p.link p.shown passed) (sym same) record {
       asked = steps_in s.trace;
       comes = record {
         trace = s.trace;
@@ -247,14 +247,14 @@ ends-uncopied start p cost f link stage shown passed s begins request call in_se
         wrote = spelling_of (replies_in s.trace);
         follows = s.follows;
         stands = refl;
-        heard = refl;
+        last_read = refl;
         moves = s.moves;
         reads = s.reads;
         ends = (record { why = refl; link = link; in_session = in_session; left = p.held.rest; fills = s.fills; next = f; begins = begins; request = request; call = call; sent = refl }, record { ended = s.ended; now = refl });
         steps = refl;
       };
       went = s.went;
-      through = through-all links.Memory passed (steps_in s.trace) (unpassed ∙ s.through);
+      through = through-all links.Memory passed (steps_in s.trace) (same_passed ∙ s.through);
     })
 
 -- a bad header ends the link
@@ -268,7 +268,7 @@ ends-header start p cost b s at header = record {
     wrote = spelling_of (replies_in s.trace);
     follows = s.follows;
     stands = refl;
-    heard = refl;
+    last_read = refl;
     moves = s.moves;
     reads = s.reads;
     ends = (

@@ -7,9 +7,9 @@ use Rattle.dsi_frame.specs.Frame.{Frame, IsSpelling}
 use Rattle.dsi_frame.specs.Stream.{Spelled}
 use Rattle.dsi_frame.specs.Frame.{canonical_frame}
 use Rattle.afp_server.specs.Did.{Did}
-use Rattle.afp_server.specs.LinkRun.{MayRead, EachMayRead, Fills, came_in}
+use Rattle.afp_server.specs.LinkRun.{MayRead, EachMayRead, Fills, bytes_read}
 use Rattle.afp_server.specs.Replies.{listed, spelling_of}
-use Rattle.afp_server.specs.Trace.{Happening, received, was_quiet, handled, events_in, frames_in, replies_in, steps_in, Standing, Cause, Takes, Follows}
+use Rattle.afp_server.specs.Trace.{Happening, received, was_quiet, handled, events_in, frames_in, replies_in, steps_in, Standing, Cause, MovesStanding, Follows}
 use Rattle.afp_server.proofs.Moving.{taken-append}
 
 pub events_in-append : (a b : List Happening) → events_in (a ++ b) ≡ events_in a ++ events_in b
@@ -36,8 +36,8 @@ steps_in-append (received w n bytes ∷ a) b = steps_in-append a b
 steps_in-append (was_quiet w n steps ∷ a) b = ap (λ (ss : List Step). steps ++ ss) (steps_in-append a b) ∙ sym (append_assoc steps (steps_in a) (steps_in b))
 steps_in-append (handled f did ∷ a) b = ap (λ (ss : List Step). did.steps ++ ss) (steps_in-append a b) ∙ sym (append_assoc did.steps (steps_in a) (steps_in b))
 
-pub came_in-append : (a b : List Happening) → came_in (a ++ b) ≡ came_in a ++ came_in b
-came_in-append a b = ap taken (events_in-append a b) ∙ taken-append (events_in a) (events_in b)
+pub bytes_read-append : (a b : List Happening) → bytes_read (a ++ b) ≡ bytes_read a ++ bytes_read b
+bytes_read-append a b = ap taken (events_in-append a b) ∙ taken-append (events_in a) (events_in b)
 
 pub spelling_of-append : (frames others : List Frame) → spelling_of (frames ++ others) ≡ spelling_of frames ++ spelling_of others
 spelling_of-append [] others = refl
@@ -67,9 +67,9 @@ follows-next block mid b c trace more None why step rest = step rest
 follows-next block mid b c trace more (Some x) why step rest = absurd (cc (rest.2))
 
 pub follows-snoc : (block : List ℕ) (a b c : Standing) (trace : List Happening) (h : Happening) (why : Option Cause)
-    → Follows block a trace b None → Takes block b h c why → Follows block a (trace ++ h ∷ []) c why
-follows-snoc block a b c [] h None f t = (c, None, subst (λ (s : Standing). Takes block s h c None) f.0 t, (refl, refl))
-follows-snoc block a b c [] h (Some x) f t = (c, Some x, subst (λ (s : Standing). Takes block s h c (Some x)) f.0 t, (refl, refl, refl))
+    → Follows block a trace b None → MovesStanding block b h c why → Follows block a (trace ++ h ∷ []) c why
+follows-snoc block a b c [] h None f t = (c, None, subst (λ (s : Standing). MovesStanding block s h c None) f.0 t, (refl, refl))
+follows-snoc block a b c [] h (Some x) f t = (c, Some x, subst (λ (s : Standing). MovesStanding block s h c (Some x)) f.0 t, (refl, refl, refl))
 follows-snoc block a b c (g ∷ trace) h why f t =
     (f.0, f.1, f.2, follows-next block f.0 b c trace (trace ++ h ∷ []) f.1 why (λ r. follows-snoc block f.0 b c trace h why r t) f.3)
 

@@ -49,8 +49,8 @@ pub record Fills (bytes : List ℕ) (frames : List Frame) (left : List ℕ) : Ty
   pub whole : bytes ≡ filled ++ left
 
 -- all bytes that came
-abbrev pub came_in : List Happening → List ℕ
-came_in trace = taken (events_in trace)
+abbrev pub bytes_read : List Happening → List ℕ
+bytes_read trace = taken (events_in trace)
 
 -- what had been written before a read
 abbrev pub written_before : Event → Option (List ℕ)
@@ -71,7 +71,7 @@ read_limit = 16384
 -- buffer has room for.
 pub record MayRead (turns : ℕ) (written : Option (List ℕ)) (before : List Happening) (event : Event) : Type 0 where
   pub left : List ℕ
-  pub framed : Framed (came_in before) (frames_in before) left
+  pub framed : Framed (bytes_read before) (frames_in before) left
   pub sent : written_before event ≡ option_map (λ first. first ++ spelling_of (replies_in before)) written
   pub below : cost_of (events_in before) < turns
   pub size : size_of event ≤ read_limit
@@ -89,7 +89,7 @@ EachMayRead turns written before (handled f did ∷ trace) = EachMayRead turns w
 -- The frames handled begin the bytes that came, and all replies to them were written.
 pub record IsAnswered (trace : List Happening) (wrote : List ℕ) : Type 0 where
   pub left : List ℕ
-  pub fills : Fills (came_in trace) (frames_in trace) left
+  pub fills : Fills (bytes_read trace) (frames_in trace) left
   pub sent : wrote ≡ spelling_of (replies_in trace)
 
 -- A CloseSession was handled, or a call whose session ended with it.
@@ -105,7 +105,7 @@ pub record EndsDisplaced (trace : List Happening) (cause : Option Cause) (wrote 
 -- At a quiet 120 seconds or more lay between the last byte and that moment.
 pub record EndsSilent (trace : List Happening) (cause : Option Cause) (wrote : List ℕ) (last now : ℕ) (new : LinkState) : Type 0 where
   pub why : cause ≡ Some silent
-  pub heard : last ≡ new.heard
+  pub last_read : last ≡ new.last_read
   pub read : now ≡ new.now
   pub answered : IsAnswered trace wrote
 
@@ -113,7 +113,7 @@ pub record EndsSilent (trace : List Happening) (cause : Option Cause) (wrote : L
 -- frame is left.
 pub record GoesOn (trace : List Happening) (cause : Option Cause) (wrote left : List ℕ) : Type 0 where
   pub why : cause ≡ None
-  pub framed : Framed (came_in trace) (frames_in trace) left
+  pub framed : Framed (bytes_read trace) (frames_in trace) left
   pub sent : wrote ≡ spelling_of (replies_in trace)
 
 -- The reads ended, with nothing left behind the frames handled.
@@ -130,13 +130,13 @@ pub record EndsCut (turns : ℕ) (trace : List Happening) (cause : Option Cause)
   pub left : List ℕ
   pub goes_on : GoesOn trace cause wrote left
   pub something_left : 0 < length left
-  pub place : at + length left ≡ length (came_in trace)
+  pub place : at + length left ≡ length (bytes_read trace)
   pub below : cost_of (events_in trace) < turns
 
 -- Behind the frames handled there is a bad header.
 pub record EndsAtHeader (trace : List Happening) (cause : Option Cause) (wrote : List ℕ) (b : BadFrame) : Type 0 where
   pub why : cause ≡ None
-  pub stopped : Stopped (came_in trace) (frames_in trace) b.at b.reason
+  pub stopped : Stopped (bytes_read trace) (frames_in trace) b.at b.reason
   pub sent : wrote ≡ spelling_of (replies_in trace)
 
 -- The last frame may not come where it came; it begins where those before it end.
@@ -146,9 +146,9 @@ pub record EndsAtFrame (trace : List Happening) (cause : Option Cause) (wrote : 
   pub last : Frame
   pub frames : frames_in trace ≡ before ++ last ∷ []
   pub left : List ℕ
-  pub fills : Fills (came_in trace) before left
+  pub fills : Fills (bytes_read trace) before left
   pub begins : Begins left last
-  pub place : b.at + length left ≡ length (came_in trace)
+  pub place : b.at + length left ≡ length (bytes_read trace)
   pub sent : wrote ≡ spelling_of (replies_in trace)
 
 -- A read failed where the link went on, and its fault is counted.
@@ -165,7 +165,7 @@ pub record EndsUnwritten (trace : List Happening) (wrote : List ℕ) : Type 0 wh
   pub did : Did
   pub handled_last : trace ≡ before ++ handled last did ∷ []
   pub left : List ℕ
-  pub fills : Fills (came_in trace) (frames_in trace) left
+  pub fills : Fills (bytes_read trace) (frames_in trace) left
   pub reply : Frame
   pub replied : did.reply ≡ Some reply
   pub part : List ℕ
@@ -196,7 +196,7 @@ pub record EndsUncopied (trace : List Happening) (cause : Option Cause) (wrote :
   pub link : LinkNumber
   pub in_session : stage ≡ stages.Open link
   pub left : List ℕ
-  pub fills : Fills (came_in trace) (frames_in trace) left
+  pub fills : Fills (bytes_read trace) (frames_in trace) left
   pub next : Frame
   pub begins : Begins left next
   pub request : next.reply ≡ false
@@ -214,7 +214,7 @@ EndsBy turns old trace last cause wrote ends.Closed new = EndsClosed trace cause
 EndsBy turns old trace last cause wrote ends.Ended new = EndsWhole turns trace cause wrote new
 EndsBy turns old trace last cause wrote (ends.Cut at) new = EndsCut turns trace cause wrote at new
 EndsBy turns old trace last cause wrote (ends.Bad b) new = (EndsAtHeader trace cause wrote b ⊎ EndsAtFrame trace cause wrote b) × StaysAt old last new
-EndsBy turns old trace last cause wrote (ends.Silent heard now) new = EndsSilent trace cause wrote heard now new × StaysAt old last new
+EndsBy turns old trace last cause wrote (ends.Silent last_read now) new = EndsSilent trace cause wrote last_read now new × StaysAt old last new
 EndsBy turns old trace last cause wrote ends.Displaced new = EndsDisplaced trace cause wrote × StaysAt old last new
 EndsBy turns old trace last cause wrote ends.Drained new = ⊥
 EndsBy turns old trace last cause wrote ends.ReadFault new = EndsUnread turns trace cause wrote old new × (new.ended ≡ old.ended)
@@ -228,7 +228,7 @@ failed_writes ends.Closed = 0
 failed_writes ends.Ended = 0
 failed_writes (ends.Cut at) = 0
 failed_writes (ends.Bad b) = 0
-failed_writes (ends.Silent heard now) = 0
+failed_writes (ends.Silent last_read now) = 0
 failed_writes ends.Displaced = 0
 failed_writes ends.Drained = 0
 failed_writes ends.ReadFault = 0
@@ -251,7 +251,7 @@ pub record RunsTo (block : List ℕ) (turns : ℕ) (old : LinkState) (answer : L
   pub wrote : List ℕ
   pub follows : Follows block (standing stages.Fresh old) trace last cause
   pub stands : last.stage ≡ stage
-  pub heard : last.heard ≡ new.heard
+  pub last_read : last.last_read ≡ new.last_read
   pub moves : Moves old (events_in trace) wrote (failed_writes answer) new
   pub reads : EachMayRead turns old.written [] trace
   pub ends : EndsBy turns old trace last cause wrote answer new

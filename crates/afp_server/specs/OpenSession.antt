@@ -8,7 +8,7 @@ use Rattle.afp_serial.specs.declared.ask.Told.{Told}
 use Rattle.afp_serial.specs.declared.ask.Told.TheVariants as told
 use Rattle.afp_serial.specs.Went.{step}
 use Rattle.dsi_frame.specs.Frame.{Frame}
-use Rattle.dsi_session.specs.Options.{SessionOption, AreOptions, StopsAt, attention_of, option_spelling, server_options}
+use Rattle.dsi_session.specs.Options.{SessionOption, AreOptions, OptionsStopAt, attention_of, option_spelling, server_options}
 use Rattle.afp_server.specs.Did.{Did, replies}
 use Rattle.afp_server.specs.Replies.{reply_to}
 use Rattle.afp_server.specs.declared.stage.Stage.{Stage}
@@ -45,7 +45,7 @@ pub record Opens (now : ℕ) (f : Frame) (did : Did) : Type 0 where
 pub record Refuses (f : Frame) (did : Did) : Type 0 where
   pub options : List SessionOption
   pub at : ℕ
-  pub stops : StopsAt f.payload options at
+  pub stops : OptionsStopAt f.payload options at
   pub is : did ≡ replies (reply_to f code.ParamErr []) stages.Fresh
 
 -- before a session is open on the link

@@ -64,10 +64,10 @@ frame_steps_in (handled f did ∷ trace) = did.steps ++ frame_steps_in trace
 pub record Standing : Type 0 where
   pub stage : Stage
   pub now : ℕ
-  pub heard : ℕ
+  pub last_read : ℕ
 
 abbrev pub standing : Stage → LinkState → Standing
-standing stage link = record { stage = stage; now = link.now; heard = link.heard }
+standing stage link = record { stage = stage; now = link.now; last_read = link.last_read }
 
 -- why what happened ends a link: as a frame does, or by silence
 pub data Cause : Type 0 where
@@ -83,11 +83,11 @@ cause_of (ends.Bad reason) = bad reason
 
 -- A quiet before a session is open asks nothing; one on an open session asks Pulse at its link, and is not told that it was
 -- displaced.
-abbrev pub RestsOn : ℕ → Stage → List Step → Stage → Type 0
-RestsOn now stages.Fresh steps after = (steps ≡ []) × (after ≡ stages.Fresh)
-RestsOn now (stages.Open link) steps after =
+abbrev pub IdlesOn : ℕ → Stage → List Step → Stage → Type 0
+IdlesOn now stages.Fresh steps after = (steps ≡ []) × (after ≡ stages.Fresh)
+IdlesOn now (stages.Open link) steps after =
     (answer : Told) × (steps ≡ step now link ask.Pulse answer ∷ []) × (answer ≢ told.Displaced) × (after ≡ stages.Open link)
-RestsOn now stages.Closing steps after = ⊥
+IdlesOn now stages.Closing steps after = ⊥
 
 -- A quiet on an open session asks Pulse at its link, and is told that it was displaced.
 pub record IsDisplaced (now : ℕ) (stage : Stage) (steps : List Step) (after : Stage) : Type 0 where
@@ -97,22 +97,22 @@ pub record IsDisplaced (now : ℕ) (stage : Stage) (steps : List Step) (after : 
   pub closes : after ≡ stages.Closing
 
 -- A quiet, by why it ends the link, where it does: silence goes first, and asks nothing (AFP over TCP, DSITickle).
-abbrev pub Rests : ℕ → ℕ → Stage → List Step → Stage → Option Cause → Type 0
-Rests heard now stage steps after (Some silent) = (silence_limit ≤ seconds_between heard now) × (steps ≡ []) × (after ≡ stage)
-Rests heard now stage steps after (Some displaced) = (seconds_between heard now < silence_limit) × IsDisplaced now stage steps after
-Rests heard now stage steps after None = (seconds_between heard now < silence_limit) × RestsOn now stage steps after
-Rests heard now stage steps after (Some closed) = ⊥
-Rests heard now stage steps after (Some (bad reason)) = ⊥
+abbrev pub Idles : ℕ → ℕ → Stage → List Step → Stage → Option Cause → Type 0
+Idles last_read now stage steps after (Some silent) = (silence_limit ≤ seconds_between last_read now) × (steps ≡ []) × (after ≡ stage)
+Idles last_read now stage steps after (Some displaced) = (seconds_between last_read now < silence_limit) × IsDisplaced now stage steps after
+Idles last_read now stage steps after None = (seconds_between last_read now < silence_limit) × IdlesOn now stage steps after
+Idles last_read now stage steps after (Some closed) = ⊥
+Idles last_read now stage steps after (Some (bad reason)) = ⊥
 
 -- What happens takes a link from one standing to another, and may end it.
-abbrev pub Takes : List ℕ → Standing → Happening → Standing → Option Cause → Type 0
-Takes block a (received written now bytes) b cause = (b ≡ record { stage = a.stage; now = now; heard = now }) × (cause ≡ None)
-Takes block a (was_quiet written now steps) b cause = (b.now ≡ now) × (b.heard ≡ a.heard) × Rests a.heard now a.stage steps b.stage cause
-Takes block a (handled f did) b cause = Does block a.now a.stage f did × (b ≡ record { stage = did.stage; now = a.now; heard = a.heard }) × (cause ≡ option_map cause_of did.end)
+abbrev pub MovesStanding : List ℕ → Standing → Happening → Standing → Option Cause → Type 0
+MovesStanding block a (received written now bytes) b cause = (b ≡ record { stage = a.stage; now = now; last_read = now }) × (cause ≡ None)
+MovesStanding block a (was_quiet written now steps) b cause = (b.now ≡ now) × (b.last_read ≡ a.last_read) × Idles a.last_read now a.stage steps b.stage cause
+MovesStanding block a (handled f did) b cause = Does block a.now a.stage f did × (b ≡ record { stage = did.stage; now = a.now; last_read = a.last_read }) × (cause ≡ option_map cause_of did.end)
 
 -- The trace takes a link from one standing to another, step by step; the last happening may end it.
 abbrev pub Follows : List ℕ → Standing → List Happening → Standing → Option Cause → Type 0
 Follows block a [] b cause = (b ≡ a) × (cause ≡ None)
 Follows block a (happening ∷ trace) b cause =
-    (mid : Standing) × (why : Option Cause) × Takes block a happening mid why
+    (mid : Standing) × (why : Option Cause) × MovesStanding block a happening mid why
     × MatchOption why (Follows block mid trace b cause) (λ c. (trace ≡ []) × (b ≡ mid) × (cause ≡ Some c))

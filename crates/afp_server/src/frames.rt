@@ -46,7 +46,7 @@ pub fn serve_frames<L: Link, T: Teller, G: Gate>(
     }
 }
 
-/// Serves the whole frame at the front, and writes its reply; a call comes out of the gate only then.
+/// Serves the whole frame at the front, and writes its reply; a call leaves the gate only then.
 fn serve_frame<L: Link, T: Teller, G: Gate>(
     header: &Header,
     deframer: &mut Deframer,
@@ -73,7 +73,7 @@ fn serve_frame<L: Link, T: Teller, G: Gate>(
     if !send_all(link, session.reply()) {
         return Some(LinkEnd::WriteFault);
     }
-    come_out(gate, called, log);
+    exit_gate(gate, called, log);
     match end {
         None => {
             deframer.advance();
@@ -83,8 +83,8 @@ fn serve_frame<L: Link, T: Teller, G: Gate>(
     }
 }
 
-/// The call of a link comes out of the gate, where one went in.
-fn come_out<G: Gate>(gate: &G, called: Option<LinkNumber>, log: &mut G::Log)
+/// The call of a link leaves the gate, where one entered.
+fn exit_gate<G: Gate>(gate: &G, called: Option<LinkNumber>, log: &mut G::Log)
     ensures { G.passed log.new ≡ out_by (G.passed log.old) called }
 {
     match called {

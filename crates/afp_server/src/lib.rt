@@ -15,6 +15,6 @@ mod wire;
 pub use laws::{each_request_has_its_reply, what_happens_follows_the_script};
 pub use script_laws::{a_frame_is_timely, scripts_join};
 pub use serve::{LinkEnd, LinkRoom, serve_link};
-pub use stage::{FrameEnd, Rest, Stage};
+pub use stage::{FrameEnd, Idle, Stage};
 pub use tally::Tally;
 pub use wire::{Wire, WireEnd};

@@ -7,13 +7,13 @@ ghost use Rattle.afp_server.specs.LinkRun.{IsRun, IsServed};
 ghost use Rattle.afp_outside.specs.Gate.{none_passed};
 ghost use Rattle.afp_server.specs.Passing.{Passes};
 ghost use Rattle.afp_server.specs.lemma.Reading.{ReadsMore, TakesAtMost};
-ghost use Rattle.afp_server.specs.lemma.Serving.{Ended, RestsLink};
+ghost use Rattle.afp_server.specs.lemma.Serving.{Ended, IdlesLink};
 
 use crate::frames::serve_frames;
 use crate::session::LinkSession;
-use crate::stage::{Rest, Stage};
+use crate::stage::{Idle, Stage};
 use afp_base::{Moment, OutOfMemory};
-use afp_outside::{Gate, Heard, Link};
+use afp_outside::{Gate, ReadResult, Link};
 use afp_serial::{House, Teller};
 use dsi_frame::{BadFrame, Deframer};
 use std::alloc::Global;
@@ -33,7 +33,7 @@ pub enum LinkEnd {
     Cut { at: u64 },
     /// A frame has a bad header, or may not come where it came.
     Bad(BadFrame),
-    /// The peer was last heard 120 seconds or more before now.
+    /// The last byte of the peer was read 120 seconds or more before now.
     Silent { last: Moment, now: Moment },
     /// The session has another link.
     Displaced,
@@ -137,7 +137,7 @@ pub fn serve_link<L: Link, T: Teller, G: Gate>(
 }
 
 /// Reads once, no more than there is room for, and buffers what came.
-fn read_more<L: Link>(link: &mut L, deframer: &mut Deframer, room: &mut [u8]) -> Heard
+fn read_more<L: Link>(link: &mut L, deframer: &mut Deframer, room: &mut [u8]) -> ReadResult
     requires some { 0 < length room.old }
     requires free { length deframer.old.rest < buffer_length }
     requires fits { deframer.old.place + length deframer.old.rest + length room.old < 2 ^ 64 }
@@ -145,11 +145,11 @@ fn read_more<L: Link>(link: &mut L, deframer: &mut Deframer, room: &mut [u8]) ->
     ensures most { TakesAtMost result (length room.old) }
 {
     let size = deframer.room().min(room.len());
-    let heard = link.read(&mut room[..size]);
-    if let Heard::Got(n) = heard {
+    let gave = link.read(&mut room[..size]);
+    if let ReadResult::Got(n) = gave {
         deframer.feed(&room[..n]);
     }
-    heard
+    gave
 }
 
 /// Why a link ended whose peer writes no more.
@@ -194,30 +194,30 @@ fn serve_session<L: Link, T: Teller, G: Gate>(
             return LinkEnd::Spent;
         }
         match read_more(link, deframer, &mut room) {
-            Heard::Got(n) => cost += n as u64,
-            Heard::Quiet => {
+            ReadResult::Got(n) => cost += n as u64,
+            ReadResult::Quiet => {
                 cost += 1;
-                if let Some(end) = rest(session, link, teller) {
+                if let Some(end) = idle(session, link, teller) {
                     return end;
                 }
             }
-            Heard::End => return end_of(deframer),
-            Heard::Failed => return LinkEnd::ReadFault,
+            ReadResult::End => return end_of(deframer),
+            ReadResult::Failed => return LinkEnd::ReadFault,
         }
     }
 }
 
 /// A quiet: why it ends the link, where it does.
-fn rest<L: Link, T: Teller>(session: &mut LinkSession, link: &L, teller: &mut T) -> Option<LinkEnd>
+fn idle<L: Link, T: Teller>(session: &mut LinkSession, link: &L, teller: &mut T) -> Option<LinkEnd>
     requires { session.old.stage ≢ Stage.Closing }
     ensures fixed { T.fixed teller.new ≡ T.fixed teller.old }
-    ensures rests { RestsLink (L.link_state link.now) session.old (T.shown teller.old) result session.new (T.shown teller.new) }
+    ensures idles { IdlesLink (L.link_state link.now) session.old (T.shown teller.old) result session.new (T.shown teller.new) }
     ensures live { IfNone result (session.new.stage ≢ Stage.Closing) }
 {
-    let (last, now) = (link.heard(), link.now());
-    match session.rest(last, now, teller) {
-        Rest::On => None,
-        Rest::Silent => Some(LinkEnd::Silent { last, now }),
-        Rest::Displaced => Some(LinkEnd::Displaced),
+    let (last, now) = (link.last_read(), link.now());
+    match session.idle(last, now, teller) {
+        Idle::On => None,
+        Idle::Silent => Some(LinkEnd::Silent { last, now }),
+        Idle::Displaced => Some(LinkEnd::Displaced),
     }
 }

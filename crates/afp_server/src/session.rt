@@ -21,14 +21,14 @@ ghost use Rattle.afp_serial.specs.Shown.{fits_frame};
 ghost use Rattle.afp_server.specs.OpenSession.{OpenTold};
 ghost use Rattle.afp_server.specs.Replies.{code_word, reply_to};
 ghost use Rattle.afp_server.specs.Script.{FreshDoes, ReplyDoes};
-ghost use Rattle.afp_server.specs.lemma.SessionState.{Acts, Handles, HandlesOpen, CalledBy, RestsBy, PulseTold, IsCall, IsCallAnswer, IsOpenAnswer};
+ghost use Rattle.afp_server.specs.lemma.SessionState.{Acts, Handles, HandlesOpen, CalledBy, IdlesBy, PulseTold, IsCall, IsCallAnswer, IsOpenAnswer};
 ghost use Rattle.afp_server.specs.Wire.{PartsBy};
 ghost use Rattle.afp_server.specs.Tally.{no_tally, and_reply, and_told};
 ghost use Rattle.afp_server.specs.Wire.{open_link};
 ghost use Rattle.dsi_frame.specs.Frame.{Frame};
 
 use crate::reply::{MOST_REPLY, put_reply};
-use crate::stage::{FrameEnd, Rest, Stage};
+use crate::stage::{FrameEnd, Idle, Stage};
 use crate::tally::Tally;
 use afp_base::{Bytes, Code, LinkNumber, Moment, OutOfMemory};
 use afp_outside::Gate;
@@ -382,7 +382,7 @@ impl LinkSession {
         })
     }
 
-    /// DSICommand and DSIWrite on an open session: the call goes in through the gate, and is asked at its link.
+    /// DSICommand and DSIWrite on an open session: the call enters the gate, and is asked at its link.
     fn call<T: Teller, G: Gate>(
         &mut self,
         link: LinkNumber,
@@ -462,24 +462,24 @@ impl LinkSession {
     }
 
     /// A quiet: silence ends the link; else an open session asks Pulse.
-    pub fn rest<T: Teller>(&mut self, heard: Moment, now: Moment, teller: &mut T) -> Rest
+    pub fn idle<T: Teller>(&mut self, last_read: Moment, now: Moment, teller: &mut T) -> Idle
         requires { self.old.stage ≢ Stage.Closing }
         ensures fixed { T.fixed teller.new ≡ T.fixed teller.old }
-        ensures rests { RestsBy heard now self.old (T.shown teller.old) result self.new (T.shown teller.new) }
-        ensures live { result ≡ Rest.On → self.new.stage ≢ Stage.Closing }
+        ensures idles { IdlesBy last_read now self.old (T.shown teller.old) result self.new (T.shown teller.new) }
+        ensures live { result ≡ Idle.On → self.new.stage ≢ Stage.Closing }
     {
-        if is_silent(heard, now) {
-            return Rest::Silent;
+        if is_silent(last_read, now) {
+            return Idle::Silent;
         }
         match self.stage {
             Stage::Open(link) => self.pulse(link, now, teller),
-            Stage::Fresh => Rest::On,
-            Stage::Closing => Rest::On,
+            Stage::Fresh => Idle::On,
+            Stage::Closing => Idle::On,
         }
     }
 
     /// A Pulse of an open session.
-    fn pulse<T: Teller>(&mut self, link: LinkNumber, now: Moment, teller: &mut T) -> Rest
+    fn pulse<T: Teller>(&mut self, link: LinkNumber, now: Moment, teller: &mut T) -> Idle
         requires session { self.old.stage ≡ Stage.Open link }
         ensures fixed { T.fixed teller.new ≡ T.fixed teller.old }
         ensures pulses { (answer : Told) × PulseTold answer self.old result self.new × Went (T.shown teller.old) (step now link Ask.Pulse answer ∷ []) (T.shown teller.new) }
@@ -489,19 +489,19 @@ impl LinkSession {
     }
 
     /// What a Pulse's answer does.
-    fn pulsed(&mut self, told: Told) -> Rest
+    fn pulsed(&mut self, told: Told) -> Idle
         ensures { PulseTold told self.old result self.new }
     {
         match told {
             Told::Displaced => {
                 self.close();
-                Rest::Displaced
+                Idle::Displaced
             }
-            Told::Opened { .. } => Rest::On,
-            Told::Reply { .. } => Rest::On,
-            Told::Live { .. } => Rest::On,
-            Told::Done => Rest::On,
-            Told::Memory => Rest::On,
+            Told::Opened { .. } => Idle::On,
+            Told::Reply { .. } => Idle::On,
+            Told::Live { .. } => Idle::On,
+            Told::Done => Idle::On,
+            Told::Memory => Idle::On,
         }
     }
 
@@ -530,11 +530,11 @@ fn ask_lost<T: Teller>(stage: Stage, now: Moment, teller: &mut T)
     }
 }
 
-/// Whether a peer that was last heard at this moment is silent now.
-fn is_silent(heard: Moment, now: Moment) -> bool
-    ensures { MatchBool result (silence_limit ≤ seconds_between heard now) (seconds_between heard now < silence_limit) }
+/// Whether a peer of which the last byte was read at this moment is silent now.
+fn is_silent(last_read: Moment, now: Moment) -> bool
+    ensures { MatchBool result (silence_limit ≤ seconds_between last_read now) (seconds_between last_read now < silence_limit) }
 {
-    match Pulse::new(heard).due(now) {
+    match Pulse::new(last_read).due(now) {
         Due::Silent => true,
         Due::Tickle => false,
         Due::Nothing => false,

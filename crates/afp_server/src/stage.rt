@@ -25,10 +25,10 @@ pub enum FrameEnd {
 
 /// What a quiet comes to.
 #[derive(Clone, Copy, Debug, PartialEq, Eq)]
-pub enum Rest {
+pub enum Idle {
     /// The link goes on.
     On,
-    /// The peer was not heard for too long.
+    /// No byte of the peer was read for too long.
     Silent,
     /// The session has another link.
     Displaced,

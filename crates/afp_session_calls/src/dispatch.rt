@@ -5,7 +5,7 @@ ghost use Rattle.afp_requests.specs.Group.{Session};
 ghost use Rattle.afp_requests.specs.Reading.{has_reader};
 ghost use Rattle.afp_requests.specs.Readers.{session_readers};
 ghost use Rattle.afp_fields.specs.Taking.{GivesBy};
-ghost use Rattle.afp_fields.specs.Putting.{Writes};
+ghost use Rattle.afp_fields.specs.Putting.{WritesCall};
 
 use crate::login::{
     read_login, read_login_ext, read_logout, write_login, write_login_ext, write_logout,
@@ -82,7 +82,7 @@ pub fn read_session_call(
 /// stood there, and may leave some of the block behind it.
 pub fn write_session_call(out: &mut Bytes, call: &Call) -> Option<Result<(), OutOfMemory>>
     requires { IsSpellable call.now }
-    ensures { Writes Session call.now result out.old out.new }
+    ensures { WritesCall Session call.now result out.old out.new }
 {
     match call {
         Call::Login { version, uam, tail } => Some(write_login(out, version, uam, tail)),

@@ -2,7 +2,7 @@
 
 ghost use Rattle.std.specs.Prelude.{◌≡◌, ◌<◌, ◌^◌, [], ◌∷◌, length, OnOk, OnErr};
 ghost use Rattle.afp_names.specs.Path.{long_names, utf8_names};
-ghost use Rattle.afp_requests.specs.Words.{Counted, Even, Tail, Within, count_size, counted};
+ghost use Rattle.afp_requests.specs.Words.{Counted, Even, Tail, Within, count_size, counted_field};
 ghost use Rattle.afp_requests.specs.Reading.{Alone, words};
 ghost use Rattle.afp_requests.specs.declared.call.Call.TheVariants.{LoginExt};
 ghost use Rattle.afp_requests.specs.Login.{login, login_reader, login_ext, login_ext_reader, logout, logout_reader};
@@ -165,7 +165,7 @@ fn path_text(alloc: Global, fields: &mut Fields<'_>, kind: u8) -> Result<Bytes, 
 /// The bytes of a path of that type, behind their count.
 fn put_path_text(out: &mut Bytes, kind: u8, text: &[u8]) -> Result<(), OutOfMemory>
     requires { length text.now < 256 ^ count_size kind }
-    ensures put { OnOk result (Puts (counted (count_size kind) text.now) out.old out.new) }
+    ensures put { OnOk result (Puts (counted_field (count_size kind) text.now) out.old out.new) }
     ensures err { OnErr result (out.new ≡ out.old) }
 {
     if kind == LONG_NAMES {

@@ -1,7 +1,7 @@
 //! The requests about users (AFP Reference, "User Commands").
 
 ghost use Rattle.std.specs.Prelude.{◌≡◌, ◌<◌, ◌^◌, length, OnOk, OnErr};
-ghost use Rattle.afp_requests.specs.Words.{Counted, counted};
+ghost use Rattle.afp_requests.specs.Words.{Counted, counted_field};
 ghost use Rattle.afp_requests.specs.User.{get_user_info, get_user_info_reader, map_id, map_id_reader, map_name, map_name_reader, name_count};
 ghost use Rattle.afp_fields.specs.Taking.{Takes};
 ghost use Rattle.afp_fields.specs.lemma.Taking.{Gives};
@@ -98,7 +98,7 @@ fn name_text(alloc: Global, fields: &mut Fields<'_>, function: u8) -> Result<Byt
 /// A name, behind its count, which is wider for the functions that map names in UTF-8.
 fn put_name_text(out: &mut Bytes, function: u8, text: &[u8]) -> Result<(), OutOfMemory>
     requires { length text.now < 256 ^ name_count function }
-    ensures put { OnOk result (Puts (counted (name_count function) text.now) out.old out.new) }
+    ensures put { OnOk result (Puts (counted_field (name_count function) text.now) out.old out.new) }
     ensures err { OnErr result (out.new ≡ out.old) }
 {
     if function <= LAST_UTF8_FUNCTION {

@@ -10,7 +10,7 @@ use Rattle.afp_volume.proofs.Trees.{tree-parts}
 use Rattle.afp_volume.specs.Edits.{bare}
 use Rattle.afp_volume.proofs.ListReplies.{entries-are-page}
 use Rattle.afp_volume.specs.Shared.{Opened}
-use Rattle.afp_volume.specs.Enumerate.{ListAsked, is_counted, counted, entries}
+use Rattle.afp_volume.specs.Enumerate.{ListAsked, is_counted, counted_children, entries}
 use Rattle.afp_volume.specs.Listing.{row_key, children, listed}
 use Rattle.afp_base.specs.Apart.{are_apart}
 use Rattle.afp_volume.specs.SoundVolume.{IsSoundVolume}
@@ -21,8 +21,8 @@ filter-all : {A : Type 0} (keep : A → Bool) (xs : List A) → ((x : A) → kee
 filter-all keep [] each = refl
 filter-all keep (x ∷ xs) each = cond-true (keep x) (x ∷ filter keep xs) (filter keep xs) (each x) ∙ ap (λ l. x ∷ l) (filter-all keep xs each)
 
-pub counts-all : (rows : List Row) (asked : ListAsked) (dir : ℕ) → (asked.file_bits == 0) ≡ false → (asked.dir_bits == 0) ≡ false → counted rows asked dir ≡ listed rows dir
-unfolding counted
+pub counts-all : (rows : List Row) (asked : ListAsked) (dir : ℕ) → (asked.file_bits == 0) ≡ false → (asked.dir_bits == 0) ≡ false → counted_children rows asked dir ≡ listed rows dir
+unfolding counted_children
 counts-all rows asked dir files dirs = filter-all (is_counted asked) (listed rows dir) (λ row. by row.dir)
   where
     by : (d : Bool) → not (cond d asked.dir_bits asked.file_bits == 0) ≡ true
@@ -65,8 +65,8 @@ kept-bare asked (row ∷ rows) =
     (λ kept. cond-true (keep row) (bare row ∷ map bare (filter keep rows)) (map bare (filter keep rows)) kept)
     (λ gone. cond-false (keep row) (bare row ∷ map bare (filter keep rows)) (map bare (filter keep rows)) gone)
 
-pub counts-bare : (rows : List Row) (asked : ListAsked) (dir : ℕ) → counted (map bare rows) asked dir ≡ map bare (counted rows asked dir)
-unfolding counted
+pub counts-bare : (rows : List Row) (asked : ListAsked) (dir : ℕ) → counted_children (map bare rows) asked dir ≡ map bare (counted_children rows asked dir)
+unfolding counted_children
 counts-bare rows asked dir = ap (λ l. filter (is_counted asked) l) (lists-bare rows dir) ∙ kept-bare asked (listed rows dir)
 
 pub offspring-bare : (rows : List Row) (dir : ℕ) → length (children (map bare rows) dir) ≡ length (children rows dir)
@@ -87,9 +87,9 @@ take-contains (suc n) (x ∷ xs) z c = elim (contains-cases x z (take n xs) c) [
 ]
 
 pub entries-are-there : (v : VolumeState) (opens : List Opened) (asked : ListAsked) (dir : ℕ) (row : Row) → IsSoundVolume v → Contains (entries v.rows opens asked dir) row → row_at v.rows row.id ≡ Some row
-unfolding counted
+unfolding counted_children
 entries-are-there v opens asked dir row s c =
     let n : ℕ = length (entries v.rows opens asked dir) in
-    let paged : Contains (take n (drop (asked.start - 1) (counted v.rows asked dir))) row = subst (λ (l : List Row). Contains l row) (entries-are-page v.rows opens asked dir) c in
-    let in_counted = drop-contains (asked.start - 1) (counted v.rows asked dir) row (take-contains n (drop (asked.start - 1) (counted v.rows asked dir)) row paged) in
+    let paged : Contains (take n (drop (asked.start - 1) (counted_children v.rows asked dir))) row = subst (λ (l : List Row). Contains l row) (entries-are-page v.rows opens asked dir) c in
+    let in_counted = drop-contains (asked.start - 1) (counted_children v.rows asked dir) row (take-contains n (drop (asked.start - 1) (counted_children v.rows asked dir)) row paged) in
     listed-is-there v dir row s (filter-contains (is_counted asked) (listed v.rows dir) row in_counted)

@@ -18,7 +18,7 @@ use Rattle.afp_volume.proofs.Refusals.{none-holds, none-first}
 use Rattle.afp_volume.proofs.TestedLists.{all-filter, apart-filter}
 use Rattle.afp_volume.proofs.Trees.{tree-parts}
 use Rattle.afp_volume.specs.Shared.{Opened, behind}
-use Rattle.afp_volume.specs.Enumerate.{ListAsked, is_counted, counted, list_head, longest_entry, entry_size, fits_reply, longest_front, from_start, entries, enumerate_refusal}
+use Rattle.afp_volume.specs.Enumerate.{ListAsked, is_counted, counted_children, list_head, longest_entry, entry_size, fits_reply, longest_front, from_start, entries, enumerate_refusal}
 use Rattle.afp_volume.specs.Listing.{row_key, children, listed, page}
 use Rattle.afp_volume.specs.ListLaws.{is_counted_child, PageAsked, asked_from, entries_in_turn}
 use Rattle.afp_volume.specs.Order.{rises, stands_before, in_order}
@@ -44,8 +44,8 @@ count-kept is keep (x ∷ xs) =
     no-more : (n : ℕ) → n ≡ 0 + n
     no-more n = omega arith
 
-pub counts-once : (v : VolumeState) (asked : ListAsked) (dir id : ℕ) → IsSoundVolume v → count_by (λ (row : Row). row.id == id) (counted v.rows asked dir) ≡ cond (is_counted_child v.rows asked dir id) 1 0
-unfolding counted listed is_counted_child children
+pub counts-once : (v : VolumeState) (asked : ListAsked) (dir id : ℕ) → IsSoundVolume v → count_by (λ (row : Row). row.id == id) (counted_children v.rows asked dir) ≡ cond (is_counted_child v.rows asked dir id) 1 0
+unfolding counted_children listed is_counted_child children
 counts-once v asked dir id s =
     let is : Row → Bool = λ row. row.id == id in
     let keep : Row → Bool = is_counted asked in
@@ -64,8 +64,8 @@ rises-filter key keep (x ∷ xs) h =
     (λ kept. and_from (list_all (λ y. stands_before (key x) (key y)) (filter keep xs)) (rises key (filter keep xs)) (all-filter (λ y. stands_before (key x) (key y)) keep xs e.0) rest)
     (λ gone. rest)
 
-pub counts-by-key : (v : VolumeState) (asked : ListAsked) (dir : ℕ) → IsSoundVolume v → rises row_key (counted v.rows asked dir) ≡ true
-unfolding counted
+pub counts-by-key : (v : VolumeState) (asked : ListAsked) (dir : ℕ) → IsSoundVolume v → rises row_key (counted_children v.rows asked dir) ≡ true
+unfolding counted_children
 counts-by-key v asked dir s = rises-filter row_key (is_counted asked) (listed v.rows dir) (lists-by-key v dir s)
 
 -- the longest first part that passes
@@ -178,7 +178,7 @@ fewer-fit rows opens asked nodes n h =
     within : (a b limit : ℕ) → 6 + b ≤ limit → a ≤ b → 6 + a ≤ limit
     within a b limit h less = omega arith
 
-pub entries-are-page : (rows : List Row) (opens : List Opened) (asked : ListAsked) (dir : ℕ) → entries rows opens asked dir ≡ page (counted rows asked dir) asked.start (length (entries rows opens asked dir))
+pub entries-are-page : (rows : List Row) (opens : List Opened) (asked : ListAsked) (dir : ℕ) → entries rows opens asked dir ≡ page (counted_children rows asked dir) asked.start (length (entries rows opens asked dir))
 unfolding entries
 entries-are-page rows opens asked dir = front-is (fits_reply rows opens asked) asked.count (from_start rows asked dir)
 
@@ -206,10 +206,10 @@ one-there v opens asked dir id path passes is =
     (not (has_directory v.rows id), ObjectTypeErr)
     ∷ (asked.count == 0, ParamErr)
     ∷ (asked.start == 0, ParamErr)
-    ∷ (nat_lt (length (counted v.rows asked id)) asked.start, ObjectNotFound)
+    ∷ (nat_lt (length (counted_children v.rows asked id)) asked.start, ObjectNotFound)
     ∷ (not (fits_reply v.rows opens asked (take 1 (from_start v.rows asked id))), ParamErr)
     ∷ []) (behind-ok (found v.rows dir path) _ id first.1 is) in
-    let list : List Row = counted v.rows asked id in
+    let list : List Row = counted_children v.rows asked id in
     let there : asked.start ≤ length list = ltb-false (length list) asked.start none.1.1.1.0 in
     let size : length (from_start v.rows asked id) ≡ length list - (asked.start - 1) = length-drop (asked.start - 1) list in
     front-most (fits_reply v.rows opens asked) asked.count 1 (from_start v.rows asked id)
@@ -248,11 +248,11 @@ never-empty v opens asked dir path passes = by (found v.rows dir path) refl
 
 -- replies in turn
 turns-go-on : (rows : List Row) (asked : ListAsked) (dir start : ℕ) (turns : List PageAsked) → 1 ≤ start
-    → entries_in_turn rows asked dir start turns ≡ take (length (entries_in_turn rows asked dir start turns)) (drop (start - 1) (counted rows asked dir))
-unfolding counted
+    → entries_in_turn rows asked dir start turns ≡ take (length (entries_in_turn rows asked dir start turns)) (drop (start - 1) (counted_children rows asked dir))
+unfolding counted_children
 turns-go-on rows asked dir start [] h = refl
 turns-go-on rows asked dir start (turn ∷ turns) h =
-    let list : List Row = counted rows asked dir in
+    let list : List Row = counted_children rows asked dir in
     let here : List Row = entries rows turn.opens (asked_from asked start turn) dir in
     let later : List Row = entries_in_turn rows asked dir (start + length here) turns in
     let first : here ≡ take (length here) (drop (start - 1) list) = entries-are-page rows turn.opens (asked_from asked start turn) dir in
@@ -263,7 +263,7 @@ turns-go-on rows asked dir start (turn ∷ turns) h =
     ∙ sym (take-add (length here) (length later) (drop (start - 1) list))
     ∙ ap (λ n. take n (drop (start - 1) list)) (sym (length-append here later))
 
-pub turns-give-first : (rows : List Row) (asked : ListAsked) (dir : ℕ) (turns : List PageAsked) → entries_in_turn rows asked dir 1 turns ≡ take (length (entries_in_turn rows asked dir 1 turns)) (counted rows asked dir)
+pub turns-give-first : (rows : List Row) (asked : ListAsked) (dir : ℕ) (turns : List PageAsked) → entries_in_turn rows asked dir 1 turns ≡ take (length (entries_in_turn rows asked dir 1 turns)) (counted_children rows asked dir)
 turns-give-first rows asked dir turns = turns-go-on rows asked dir 1 turns (omega arith)
 
 take-all : {A : Type 0} (n : ℕ) (xs : List A) → length xs ≤ n → take n xs ≡ xs
@@ -272,5 +272,5 @@ take-all n xs few = sym (take_min n xs) ∙ ap (λ k. take k xs) (least n (lengt
     least : (n m : ℕ) → m ≤ n → min n m ≡ m
     least n m few = omega arith
 
-pub turns-give-all : (rows : List Row) (asked : ListAsked) (dir : ℕ) (turns : List PageAsked) → length (counted rows asked dir) < 1 + length (entries_in_turn rows asked dir 1 turns) → entries_in_turn rows asked dir 1 turns ≡ counted rows asked dir
-turns-give-all rows asked dir turns far = turns-give-first rows asked dir turns ∙ take-all (length (entries_in_turn rows asked dir 1 turns)) (counted rows asked dir) (omega arith)
+pub turns-give-all : (rows : List Row) (asked : ListAsked) (dir : ℕ) (turns : List PageAsked) → length (counted_children rows asked dir) < 1 + length (entries_in_turn rows asked dir 1 turns) → entries_in_turn rows asked dir 1 turns ≡ counted_children rows asked dir
+turns-give-all rows asked dir turns far = turns-give-first rows asked dir turns ∙ take-all (length (entries_in_turn rows asked dir 1 turns)) (counted_children rows asked dir) (omega arith)

@@ -90,9 +90,9 @@ chunks : (bits : ℕ) (table : List FieldRow) → list_all (λ (r : FieldRow). n
 chunks bits table h = block-plain (asked_of bits table) (asked-plain bits table h) ∙ asked-chunks bits table
 
 -- a bit that no mask has is not asked
-unasked : (mask bits k : ℕ) → is_outside mask bits ≡ false → bit_at mask k ≡ 0 → is_asked bits k ≡ false
+not_asked : (mask bits k : ℕ) → is_outside mask bits ≡ false → bit_at mask k ≡ 0 → is_asked bits k ≡ false
 unfolding is_asked
-unasked mask bits k within none =
+not_asked mask bits k within none =
     let same : bit_and bits mask ≡ bits = eqb-true (bit_and bits mask) bits (by (bit_and bits mask == bits) within) in
     let at_mask : bit_at (bit_and bits mask) k ≡ min (bit_at bits k) (bit_at mask k) = bit_at_and bits mask k in
     let zero : bit_at bits k ≡ 0 = ap (λ n. bit_at n k) (sym same) ∙ at_mask ∙ ap (λ n. min (bit_at bits k) n) none ∙ none-left (bit_at bits k) in
@@ -254,9 +254,9 @@ file-plain : (bits : ℕ) (f : FileValues) → is_outside settable_bits bits ≡
 unfolding file_rows is-plain
 file-plain bits f within =
     and_from _ _ (plain-row (is_asked bits 0)) (and_from _ _ (plain-row (is_asked bits 1)) (and_from _ _ (plain-row (is_asked bits 2)) (and_from _ _ (plain-row (is_asked bits 3))
-    (and_from _ _ (plain-row (is_asked bits 4)) (and_from _ _ (plain-row (is_asked bits 5)) (and_from _ _ (name-row (is_asked bits 6) (unasked settable_bits bits 6 within refl))
+    (and_from _ _ (plain-row (is_asked bits 4)) (and_from _ _ (plain-row (is_asked bits 5)) (and_from _ _ (name-row (is_asked bits 6) (not_asked settable_bits bits 6 within refl))
     (and_from _ _ (plain-row (is_asked bits 8)) (and_from _ _ (plain-row (is_asked bits 9)) (and_from _ _ (plain-row (is_asked bits 10)) (and_from _ _ (plain-row (is_asked bits 11))
-    (and_from _ _ (name-row (is_asked bits 13) (unasked settable_bits bits 13 within refl)) (and_from _ _ (plain-row (is_asked bits 14)) refl))))))))))))
+    (and_from _ _ (name-row (is_asked bits 13) (not_asked settable_bits bits 13 within refl)) (and_from _ _ (plain-row (is_asked bits 14)) refl))))))))))))
 
 file-tail : (bits : ℕ) (f : FileValues) (rest : List ℕ) → is_outside settable_bits bits ≡ false → IsAnswer 1 bits (File f)
     → Tail bits f.attributes f.created f.modified f.backup f.finder (big_bytes 4 f.parent) (flat_map (chunk bits) (drop 6 (file_rows f)) ++ rest) (params bits (File f) ++ rest)
@@ -264,7 +264,7 @@ unfolding rows file_rows chunk
 file-tail bits f rest within answer =
     let t = answer.typed in
     record {
-      no_parent = unasked settable_bits bits 1 within refl;
+      no_parent = not_asked settable_bits bits 1 within refl;
       word_fits = t.0;
       c_fits = t.1.1.0;
       m_fits = t.1.1.1.0;
@@ -279,7 +279,7 @@ pub file-told-is-set : (bits : ℕ) (f : FileValues) (rest : List ℕ) → is_ou
 file-told-is-set bits f rest within answer =
     let t = file-tail bits f rest within answer in (
       tail-long bits f.attributes f.created f.modified f.backup f.finder _ _ _ t (none _ _ _ _
-          (unset 10 (unasked settable_bits bits 10 within refl)) (unset 11 (unasked settable_bits bits 11 within refl)) (unset 12 (unasked settable_bits bits 12 within refl))),
+          (unset 10 (not_asked settable_bits bits 10 within refl)) (unset 11 (not_asked settable_bits bits 11 within refl)) (unset 12 (not_asked settable_bits bits 12 within refl))),
       tail-reads bits f.attributes f.created f.modified f.backup f.finder _ _ _ t,
     )
   where
@@ -296,9 +296,9 @@ dir-plain : (bits : ℕ) (d : DirValues) → is_outside settable_dir_bits bits �
 unfolding dir_rows is-plain
 dir-plain bits d within =
     and_from _ _ (plain-row (is_asked bits 0)) (and_from _ _ (plain-row (is_asked bits 1)) (and_from _ _ (plain-row (is_asked bits 2)) (and_from _ _ (plain-row (is_asked bits 3))
-    (and_from _ _ (plain-row (is_asked bits 4)) (and_from _ _ (plain-row (is_asked bits 5)) (and_from _ _ (name-row (is_asked bits 6) (unasked settable_dir_bits bits 6 within refl))
+    (and_from _ _ (plain-row (is_asked bits 4)) (and_from _ _ (plain-row (is_asked bits 5)) (and_from _ _ (name-row (is_asked bits 6) (not_asked settable_dir_bits bits 6 within refl))
     (and_from _ _ (plain-row (is_asked bits 8)) (and_from _ _ (plain-row (is_asked bits 9)) (and_from _ _ (plain-row (is_asked bits 10)) (and_from _ _ (plain-row (is_asked bits 11))
-    (and_from _ _ (plain-row (is_asked bits 12)) (and_from _ _ (name-row (is_asked bits 13) (unasked settable_dir_bits bits 13 within refl)) refl))))))))))))
+    (and_from _ _ (plain-row (is_asked bits 12)) (and_from _ _ (name-row (is_asked bits 13) (not_asked settable_dir_bits bits 13 within refl)) refl))))))))))))
 
 dir-tail : (bits : ℕ) (d : DirValues) (rest : List ℕ) → is_outside settable_dir_bits bits ≡ false → IsAnswer 2 bits (Dir d)
     → Tail bits d.attributes d.created d.modified d.backup d.finder (big_bytes 4 d.parent) (flat_map (chunk bits) (drop 6 (dir_rows d)) ++ rest) (params bits (Dir d) ++ rest)
@@ -306,7 +306,7 @@ unfolding rows dir_rows chunk
 dir-tail bits d rest within answer =
     let t = answer.typed in
     record {
-      no_parent = unasked settable_dir_bits bits 1 within refl;
+      no_parent = not_asked settable_dir_bits bits 1 within refl;
       word_fits = t.0;
       c_fits = t.1.1.0;
       m_fits = t.1.1.1.0;

@@ -37,8 +37,8 @@ abbrev pub is_counted : ListAsked → Row → Bool
 is_counted asked row = not (bits_of asked.file_bits asked.dir_bits row == 0)
 
 -- the children of a directory that count, in the order of their names' keys (this profile)
-unfoldable pub counted : List Row → ListAsked → ℕ → List Row
-counted rows asked dir = filter (is_counted asked) (listed rows dir)
+unfoldable pub counted_children : List Row → ListAsked → ℕ → List Row
+counted_children rows asked dir = filter (is_counted asked) (listed rows dir)
 
 -- the bytes of a list before its entries: the bits of files, those of directories, how many entries there are (AFP Reference, "FPEnumerate")
 abbrev pub list_head : ℕ
@@ -72,7 +72,7 @@ longest_front passes (suc most) list = if passes (take (suc most) list) then tak
 
 -- the counted children from the start on (AFP Reference, "FPEnumerate")
 abbrev pub from_start : List Row → ListAsked → ℕ → List Row
-from_start rows asked dir = drop (asked.start - 1) (counted rows asked dir)
+from_start rows asked dir = drop (asked.start - 1) (counted_children rows asked dir)
 
 -- the nodes of a reply: from the start on as many as are asked and fit (AFP Reference, "FPEnumerate")
 unfoldable pub entries : List Row → List Opened → ListAsked → ℕ → List Row
@@ -89,6 +89,6 @@ enumerate_refusal v opens asked dir path = first_or (
     (not (has_directory v.rows id), ObjectTypeErr)
     ∷ (asked.count == 0, ParamErr)
     ∷ (asked.start == 0, ParamErr)
-    ∷ (nat_lt (length (counted v.rows asked id)) asked.start, ObjectNotFound)
+    ∷ (nat_lt (length (counted_children v.rows asked id)) asked.start, ObjectNotFound)
     ∷ (not (fits_reply v.rows opens asked (take 1 (from_start v.rows asked id))), ParamErr)
     ∷ [])))

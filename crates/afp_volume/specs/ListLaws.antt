@@ -9,7 +9,7 @@ use Rattle.afp_volume.specs.VolumeState.{Row, VolumeState}
 use Rattle.afp_volume.specs.SoundVolume.{IsSoundVolume}
 use Rattle.afp_volume.specs.Walk.{found, row_at}
 use Rattle.afp_volume.specs.Shared.{Opened}
-use Rattle.afp_volume.specs.Enumerate.{ListAsked, is_counted, counted, fits_reply, from_start, entries, enumerate_refusal}
+use Rattle.afp_volume.specs.Enumerate.{ListAsked, is_counted, counted_children, fits_reply, from_start, entries, enumerate_refusal}
 
 -- whether a directory has a child of this id that counts
 unfoldable pub is_counted_child : List Row → ListAsked → ℕ → ℕ → Bool
@@ -17,14 +17,14 @@ is_counted_child rows asked dir id = list_any (λ row. (row.id == id) && is_coun
 
 -- what is counted has each child that counts just once, and nothing else; in a sound volume its keys rise
 abbrev pub CountsChildrenOnce : Type 0
-CountsChildrenOnce = (v : VolumeState) (asked : ListAsked) (dir id : ℕ) → IsSoundVolume v → count_by (λ (row : Row). row.id == id) (counted v.rows asked dir) ≡ (if is_counted_child v.rows asked dir id then 1 else 0)
+CountsChildrenOnce = (v : VolumeState) (asked : ListAsked) (dir id : ℕ) → IsSoundVolume v → count_by (λ (row : Row). row.id == id) (counted_children v.rows asked dir) ≡ (if is_counted_child v.rows asked dir id then 1 else 0)
 
 abbrev pub CountsByKey : Type 0
-CountsByKey = (v : VolumeState) (asked : ListAsked) (dir : ℕ) → IsSoundVolume v → rises row_key (counted v.rows asked dir) ≡ true
+CountsByKey = (v : VolumeState) (asked : ListAsked) (dir : ℕ) → IsSoundVolume v → rises row_key (counted_children v.rows asked dir) ≡ true
 
 -- the entries of a reply are a page of what is counted, of at most so many as are asked
 abbrev pub EntriesArePage : Type 0
-EntriesArePage = (rows : List Row) (opens : List Opened) (asked : ListAsked) (dir : ℕ) → entries rows opens asked dir ≡ page (counted rows asked dir) asked.start (length (entries rows opens asked dir))
+EntriesArePage = (rows : List Row) (opens : List Opened) (asked : ListAsked) (dir : ℕ) → entries rows opens asked dir ≡ page (counted_children rows asked dir) asked.start (length (entries rows opens asked dir))
 
 abbrev pub EntriesAreAsked : Type 0
 EntriesAreAsked = (rows : List Row) (opens : List Opened) (asked : ListAsked) (dir : ℕ) → length (entries rows opens asked dir) ≤ asked.count
@@ -67,14 +67,14 @@ entries_in_turn rows asked dir start (turn ∷ turns) =
 
 -- while rows do not change, such entries from start 1 are the first of what is counted; where no more is behind them they are all of it
 abbrev pub TurnsGiveFirst : Type 0
-TurnsGiveFirst = (rows : List Row) (asked : ListAsked) (dir : ℕ) (turns : List PageAsked) → entries_in_turn rows asked dir 1 turns ≡ take (length (entries_in_turn rows asked dir 1 turns)) (counted rows asked dir)
+TurnsGiveFirst = (rows : List Row) (asked : ListAsked) (dir : ℕ) (turns : List PageAsked) → entries_in_turn rows asked dir 1 turns ≡ take (length (entries_in_turn rows asked dir 1 turns)) (counted_children rows asked dir)
 
 abbrev pub TurnsGiveAll : Type 0
-TurnsGiveAll = (rows : List Row) (asked : ListAsked) (dir : ℕ) (turns : List PageAsked) → length (counted rows asked dir) < 1 + length (entries_in_turn rows asked dir 1 turns) → entries_in_turn rows asked dir 1 turns ≡ counted rows asked dir
+TurnsGiveAll = (rows : List Row) (asked : ListAsked) (dir : ℕ) (turns : List PageAsked) → length (counted_children rows asked dir) < 1 + length (entries_in_turn rows asked dir 1 turns) → entries_in_turn rows asked dir 1 turns ≡ counted_children rows asked dir
 
 -- where something is asked of files and of directories every child counts
 abbrev pub CountsAll : Type 0
-CountsAll = (rows : List Row) (asked : ListAsked) (dir : ℕ) → (asked.file_bits == 0) ≡ false → (asked.dir_bits == 0) ≡ false → counted rows asked dir ≡ listed rows dir
+CountsAll = (rows : List Row) (asked : ListAsked) (dir : ℕ) → (asked.file_bits == 0) ≡ false → (asked.dir_bits == 0) ≡ false → counted_children rows asked dir ≡ listed rows dir
 
 -- what is listed is there, by its id
 abbrev pub ListedIsThere : Type 0
@@ -85,7 +85,7 @@ EntriesAreThere = (v : VolumeState) (opens : List Opened) (asked : ListAsked) (d
 
 -- what counts, and how many children there are, are the same of rows with no bytes in their forks
 abbrev pub CountsBare : Type 0
-CountsBare = (rows : List Row) (asked : ListAsked) (dir : ℕ) → counted (map bare rows) asked dir ≡ map bare (counted rows asked dir)
+CountsBare = (rows : List Row) (asked : ListAsked) (dir : ℕ) → counted_children (map bare rows) asked dir ≡ map bare (counted_children rows asked dir)
 
 abbrev pub OffspringBare : Type 0
 OffspringBare = (rows : List Row) (dir : ℕ) → length (children (map bare rows) dir) ≡ length (children rows dir)

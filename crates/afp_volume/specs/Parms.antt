@@ -10,7 +10,7 @@ is_outside mask bits = not (bit_and bits mask == bits)
 
 -- a value whose bit is asked, or what stands for one that is not (this profile)
 abbrev pub asked_or : {A : Type 0} → ℕ → ℕ → A → A → A
-asked_or bits bit unasked value = if is_asked bits bit then value else unasked
+asked_or bits bit other value = if is_asked bits bit then value else other
 
 -- the date in the first 4 bytes: signed seconds from 2000-01-01 00:00 GMT (AFP Reference, "Date and time")
 abbrev pub date_in : List ℕ → ℤ

@@ -5,7 +5,7 @@ ghost use Rattle.afp_requests.specs.Group.{Volume};
 ghost use Rattle.afp_requests.specs.Reading.{has_reader};
 ghost use Rattle.afp_requests.specs.Readers.{volume_readers};
 ghost use Rattle.afp_fields.specs.Taking.{GivesBy};
-ghost use Rattle.afp_fields.specs.Putting.{Writes};
+ghost use Rattle.afp_fields.specs.Putting.{WritesCall};
 
 use crate::volume::{
     read_close_vol, read_flush, read_get_vol_parms, read_open_vol, read_set_vol_parms,
@@ -50,7 +50,7 @@ pub fn read_volume_call(
 /// stood there, and may leave some of the block behind it.
 pub fn write_volume_call(out: &mut Bytes, call: &Call) -> Option<Result<(), OutOfMemory>>
     requires { IsSpellable call.now }
-    ensures { Writes Volume call.now result out.old out.new }
+    ensures { WritesCall Volume call.now result out.old out.new }
 {
     match call {
         Call::OpenVol { bits, name } => Some(write_open_vol(out, *bits, name)),

@@ -13,7 +13,7 @@ use Rattle.capture_log.specs.Reading.{is_newline, pieces, last_line, lines_of, l
 use Rattle.capture_server.specs.CaptureState.{CaptureState, Goes, Leads, begins, is_bad, no_house}
 use Rattle.capture_server.specs.declared.part.Part.TheVariants as parts
 use Rattle.capture_log.proofs.SetUpLemmas.{set-up-none}
-use Rattle.capture_log.specs.lemma.Taking.{HeldCapture, IsCapture, Takes}
+use Rattle.capture_log.specs.lemma.Taking.{HeldCapture, IsCapture, TakesRawLine}
 use Rattle.capture_log.specs.declared.replay_end.ReplayEnd.{ReplayEnd}
 use Rattle.capture_log.specs.declared.replay_end.ReplayEnd.TheVariants.{BadCapture}
 
@@ -174,7 +174,7 @@ line-ended r new read last h t c one goes is number same =
     subst (λ (x : ReaderState). Holds x (read ++ (last ++ 10 ∷ []))) (sym same) it
 
 pub ends-line : (r new : ReaderState) (read last held : List ℕ) (verdict : Option ReplayEnd) (h : Holds r read) (c : HeldCapture) → IsOneLine last → held ≡ r.held ++ last
-    → Takes h.standing (r.capture.number + 1) held verdict c → new ≡ record { capture = c; held = [] } → EndsLine read last verdict new
+    → TakesRawLine h.standing (r.capture.number + 1) held verdict c → new ≡ record { capture = c; held = [] } → EndsLine read last verdict new
 ends-line r new read last held None h c one at takes same =
     line-ended r new read last h takes.0 c one (subst (λ (l : List ℕ). Goes h.standing l takes.0) at takes.1) takes.2 takes.3 same
 ends-line r new read last held (Some verdict) h c one at takes same =

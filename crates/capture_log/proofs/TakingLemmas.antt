@@ -21,7 +21,7 @@ use Rattle.capture_server.specs.Running.{HappensBy}
 use Rattle.capture_server.specs.CaptureState.{CaptureState, Says, Happens, FeedsUnless, PulsesIf, LosesIf, part_after, is_refused, is_refused_on, is_bad, start_at}
 use Rattle.capture_server.specs.States.{ConnectionState, RunningState, IsConnection, IsRunning, unused_state}
 use Rattle.capture_log.specs.lemma.SetUp.{IsSetUp}
-use Rattle.capture_log.specs.lemma.Taking.{Acts, begun, HeldCapture, house_with, refused_by, is_event, IsIdle, is_past_house, IsBegun, IsServer, IsCapture, RunsFrom, LeadsLine, TakesLine, Takes}
+use Rattle.capture_log.specs.lemma.Taking.{Acts, begun, HeldCapture, house_with, refused_by, is_event, IsIdle, is_past_house, IsBegun, IsServer, IsCapture, RunsFrom, LeadsLine, TakesLine, TakesRawLine}
 use Rattle.capture_log.proofs.SetUpLemmas.{kept-set-up}
 use Rattle.capture_server.specs.declared.difference.Difference.{Difference}
 use Rattle.capture_server.specs.declared.part.Part.{Part}
@@ -321,7 +321,7 @@ pub no_line : (s : CaptureState) (number : ℕ) (raw : List ℕ) (line : Option 
 no_line s number raw line read none = (ap (λ (o : Option Line). is_bad s o) (sym read ∙ none), refl)
 
 taken-by : (s : CaptureState) (number : ℕ) (raw : List ℕ) (line : Line) (verdict : Option ReplayEnd) (c : HeldCapture) → line_in raw ≡ Some line → TakesLine s number line verdict c
-    → Takes s number raw verdict (record c { number = number })
+    → TakesRawLine s number raw verdict (record c { number = number })
 taken-by s number raw line None c read h = (
   h.after,
   record { line = line; part = h.part; is = read; may = h.may; taken = h.taken; says = h.says },
@@ -342,9 +342,9 @@ taken-by s number raw line (Some Spent) c read h = absurd h
 taken-by s number raw line (Some Memory) c read h = absurd h
 
 pub line_taken : (s : CaptureState) (number : ℕ) (raw : List ℕ) (line : Line) (found : Option Line) (verdict : Option ReplayEnd) (c new : HeldCapture) → found ≡ line_in raw → found ≡ Some line
-    → TakesLine s number line verdict c → new ≡ record c { number = number } → Takes s number raw verdict new
+    → TakesLine s number line verdict c → new ≡ record c { number = number } → TakesRawLine s number raw verdict new
 line_taken s number raw line found verdict c new read some h same =
-    subst (λ (x : HeldCapture). Takes s number raw verdict x) (sym same) (taken-by s number raw line verdict c (sym read ∙ some) h)
+    subst (λ (x : HeldCapture). TakesRawLine s number raw verdict x) (sym same) (taken-by s number raw line verdict c (sym read ∙ some) h)
 
 -- the end
 

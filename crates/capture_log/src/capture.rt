@@ -3,7 +3,7 @@ ghost use Rattle.std.specs.Prelude.{◌≡◌, ◌<◌, ◌+◌, ℕ, suc, lengt
 ghost use Rattle.capture_lines.specs.declared.line.Line.{Line};
 ghost use Rattle.capture_log.specs.Judged.{DecidesEnd};
 ghost use Rattle.capture_server.specs.CaptureState.{CaptureState, is_refused_on, no_house};
-ghost use Rattle.capture_log.specs.lemma.Taking.{IsCapture, IsLink, IsLinked, IsServer, RunsFrom, Acts, TakesLine, Takes};
+ghost use Rattle.capture_log.specs.lemma.Taking.{IsCapture, IsLink, IsLinked, IsServer, RunsFrom, Acts, TakesLine, TakesRawLine};
 ghost use Rattle.capture_log.specs.lemma.SetUp.{IsSetUp};
 ghost use Rattle.capture_server.specs.Running.{IsFreshRunning};
 ghost use Rattle.capture_server.specs.States.{IsRunning};
@@ -227,7 +227,7 @@ impl<K: Keeper> Capture<K> {
     /// Takes the next line, which stands without its newline, and says what it decides, if it does.
     pub fn take(&mut self, raw: &[u8]) -> Result<Option<ReplayEnd>, OutOfMemory>
         requires { (s : CaptureState) × IsCapture self.old s }
-        ensures { IfOk result (λ verdict. (s : CaptureState) → IsCapture self.old s → Takes s (self.old.number + 1) raw.now verdict self.new) }
+        ensures { IfOk result (λ verdict. (s : CaptureState) → IsCapture self.old s → TakesRawLine s (self.old.number + 1) raw.now verdict self.new) }
     {
         let number = self.next_number()?;
         let Some(line) = read_line(self.alloc, raw)? else {

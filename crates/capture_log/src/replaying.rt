@@ -6,7 +6,7 @@ ghost use Rattle.capture_log.specs.Reading.{Replays};
 
 use crate::reader::Reader;
 use crate::replay_end::ReplayEnd;
-use afp_outside::{Heard, Source};
+use afp_outside::{ReadResult, Source};
 use capture_server::NewKeepers;
 use record_keeper::Keeper;
 use std::alloc::Global;
@@ -25,7 +25,7 @@ fn read_all<K: Keeper, S: Source>(reader: &mut Reader<K>, source: &mut S, turns:
     let mut taken: u64 = 0;
     while taken < turns {
         match source.read(&mut room) {
-            Heard::Got(n) => {
+            ReadResult::Got(n) => {
                 taken += n as u64;
                 match reader.feed(&room[..n]) {
                     Ok(None) => {}
@@ -33,14 +33,14 @@ fn read_all<K: Keeper, S: Source>(reader: &mut Reader<K>, source: &mut S, turns:
                     Err(_) => return ReplayEnd::Memory,
                 }
             }
-            Heard::End => {
+            ReadResult::End => {
                 let Ok(end) = reader.finish() else {
                     return ReplayEnd::Memory;
                 };
                 return end;
             }
-            Heard::Failed => return ReplayEnd::ReadFault,
-            Heard::Quiet => return ReplayEnd::ReadFault,
+            ReadResult::Failed => return ReplayEnd::ReadFault,
+            ReadResult::Quiet => return ReplayEnd::ReadFault,
         }
     }
     ReplayEnd::Spent

@@ -23,7 +23,7 @@ use Rattle.afp_server.specs.declared.tally.Tally.{Tally}
 use Rattle.afp_server.proofs.Traces.{spelling_of-append}
 use Rattle.capture_server.specs.Connections.{Connection, fed_with, difference, output}
 use Rattle.capture_server.specs.declared.difference.Difference.{Difference}
-use Rattle.capture_server.specs.lemma.Moves.{Extends, FeedsConnection, RestsConnection, LosesConnection, Compares, wire_or}
+use Rattle.capture_server.specs.lemma.Moves.{Extends, FeedsConnection, IdlesConnection, LosesConnection, Compares, wire_or}
 use Rattle.capture_server.specs.CaptureState.{after_quiet, after_loss}
 use Rattle.capture_server.specs.States.{ConnectionState, IsConnection, IsLive, IsWire}
 use Rattle.capture_server.specs.lemma.States.{FeedsWire, GoesOn}
@@ -181,13 +181,13 @@ differs block wanted c d s found is e = same_difference block wanted c s is ∙ 
 
 -- a quiet came, or a loss
 
-pub rested : (now : ℕ) (link : LinkNumber) (a : Told) (c d : ConnectionState) (t u : Shown) (o : Option LinkNumber) (r : Result (Unit {0}) OutOfMemory)
+pub idled : (now : ℕ) (link : LinkNumber) (a : Told) (c d : ConnectionState) (t u : Shown) (o : Option LinkNumber) (r : Result (Unit {0}) OutOfMemory)
     → ((block : List ℕ) (s : Connection) → IsConnection block c s → o ≡ open_link s.stage) → o ≡ Some link → Asked t now link asks_of.Pulse a u → IsAlone t → IsAlone u → u.start ≡ t.start
     → OnOk r (a ≢ told.Memory) → OnOk r ((block : List ℕ) (s : Connection) → IsConnection block c s → IsConnection block d (after_quiet a s))
-    → OnOk r ((block : List ℕ) (s : Connection) → IsConnection block c s → RestsConnection (open_link s.stage) block now s t d u)
-rested now link a c d t u o (Ok x) opens there asked alone still fixed other kept = λ block s is.
-    subst (λ (l : Option LinkNumber). RestsConnection l block now s t d u) (sym there ∙ opens block s is) (a, one t u now link asks_of.Pulse a asked alone still fixed other, kept block s is)
-rested now link a c d t u o (Err e) opens there asked alone still fixed other kept = tt
+    → OnOk r ((block : List ℕ) (s : Connection) → IsConnection block c s → IdlesConnection (open_link s.stage) block now s t d u)
+idled now link a c d t u o (Ok x) opens there asked alone still fixed other kept = λ block s is.
+    subst (λ (l : Option LinkNumber). IdlesConnection l block now s t d u) (sym there ∙ opens block s is) (a, one t u now link asks_of.Pulse a asked alone still fixed other, kept block s is)
+idled now link a c d t u o (Err e) opens there asked alone still fixed other kept = tt
 
 pub ended : (now : ℕ) (link : LinkNumber) (a : Told) (c d : ConnectionState) (t u : Shown) (o : Option LinkNumber)
     → ((block : List ℕ) (s : Connection) → IsConnection block c s → o ≡ open_link s.stage) → o ≡ Some link → Asked t now link asks_of.Lost a u → IsAlone t → IsAlone u → u.start ≡ t.start

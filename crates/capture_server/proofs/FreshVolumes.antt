@@ -5,7 +5,7 @@ use Rattle.std.specs.FinMap.{len-empty, len-entries}
 use Rattle.std.specs.Prelude.{map as mapped, slice_get, Option, IfSome}
 use Rattle.std.specs.Cmp.Lexicographic.{slice_cmp}
 use Rattle.std.specs.Ordering.{nat_cmp}
-use Rattle.core_keepers.specs.Loads.{LoadEach, IsCoreFault, IsFaultOf, StopsAt}
+use Rattle.core_keepers.specs.Loads.{LoadEach, IsCoreFault, IsFaultOf, LoadsStopAt}
 use Rattle.afp_core.specs.Loads.{IsLoadedServer}
 use Rattle.afp_core.specs.ServerState.{ServerState}
 use Rattle.core_state.specs.KeptWorld.{volumes_of}
@@ -117,6 +117,6 @@ pub not-load : {K : Type 0} (records : K → Option Records) (sure : K → Bool)
     → IsCoreFault records sure faults now names keepers fault → AreNew records sure faults keepers → (index : ℕ) (why : LoadFault) → fault ≡ cores.Load index why → ⊥
 not-load records sure faults now names keepers cores.Count is new index why e = cc e
 not-load records sure faults now names keepers (cores.Load at_index fault) is new index why e =
-    let stops : StopsAt records sure faults now names keepers at_index fault = is.1 in
+    let stops : LoadsStopAt records sure faults now names keepers at_index fault = is.1 in
     loads-one stops.name (records stops.keeper) (sure stops.keeper) (faults stops.keeper) fault (one-new records sure faults keepers at_index stops.keeper new stops.kept_by) stops.cause
 not-load records sure faults now names keepers cores.Memory is new index why e = cc e

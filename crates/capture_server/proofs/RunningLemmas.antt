@@ -23,10 +23,10 @@ use Rattle.afp_serial.specs.declared.ask.Ask.TheVariants as asks
 use Rattle.afp_server.specs.Wire.{open_link}
 use Rattle.capture_server.specs.declared.difference.Difference.{Difference}
 use Rattle.capture_server.specs.Counting.{refused_in}
-use Rattle.capture_server.specs.lemma.Moves.{Extends, FeedsConnection, RestsConnection, LosesConnection}
+use Rattle.capture_server.specs.lemma.Moves.{Extends, FeedsConnection, IdlesConnection, LosesConnection}
 use Rattle.capture_server.specs.Running.{AreUnused, Happened}
 use Rattle.capture_server.specs.Running.{HappensBy}
-use Rattle.capture_server.specs.lemma.Slots.{IsFit, FeedsAt, RestsAt, LosesAt, ComparesAt}
+use Rattle.capture_server.specs.lemma.Slots.{IsFit, FeedsAt, IdlesAt, LosesAt, ComparesAt}
 use Rattle.capture_server.specs.CaptureState.{CaptureState, FeedsUnless, PulsesIf, LosesIf, after_quiet, after_loss, put, world_at, start_at}
 use Rattle.capture_server.specs.States.{ConnectionState, RunningState, IsConnection, IsRunning, IsTeller, unused_state}
 
@@ -150,7 +150,7 @@ passed-over r s first now index piece over is within told on =
     record { after = s; happens = subst (λ (b : Bool). FeedsUnless b s (suc index) now piece s) (sym ends) refl; is = is; start = refl }
 
 -- the others are handled
-pub came-there : (r new : RunningState) (s : CaptureState) (first now index : ℕ) (piece : List ℕ) (tally : Tally) (over used : Bool) (slots : List ConnectionState) (u : Shown)
+pub fed-there : (r new : RunningState) (s : CaptureState) (first now index : ℕ) (piece : List ℕ) (tally : Tally) (over used : Bool) (slots : List ConnectionState) (u : Shown)
     → IsRunning r s first → s.start ≡ Some first
     → ((c : ConnectionState) → slice_get r.connections index ≡ Some c → over ≡ c.over) → over ≡ false
     → ((c : ConnectionState) → slice_get r.connections index ≡ Some c → used ≡ c.used)
@@ -164,7 +164,7 @@ pub came-there : (r new : RunningState) (s : CaptureState) (first now index : �
       refused = counted tally.refused r.refused;
     }
     → Happened s (suc index) now (In piece) first new
-came-there r new s first now index piece tally over used slots u is started told on used_is at same =
+fed-there r new s first now index piece tally over used slots u is started told on used_is at same =
     let block : List ℕ = status_block s.house in
     let peer : Connection = s.connections (suc index) in
     let conn : IsConnection block at.old peer = is.connections index at.old at.there in
@@ -268,25 +268,25 @@ unchanged r s first index d u slots is set held still =
       connections = λ k x at. subst (λ (p : Connection). IsConnection (status_block s.house) x p) (same_place (suc index) s.connections (suc k)) (it.connections k x at);
     }
 
-quiet_by : (r : RunningState) (s : CaptureState) (first now index : ℕ) (d : ConnectionState) (u : Shown) (slots : List ConnectionState) (o : Option LinkNumber)
+idle_by : (r : RunningState) (s : CaptureState) (first now index : ℕ) (d : ConnectionState) (u : Shown) (slots : List ConnectionState) (o : Option LinkNumber)
     → IsRunning r s first → s.start ≡ Some first → slots ≡ slice_set r.connections index d → o ≡ open_link (s.connections (suc index)).stage
-    → RestsConnection o (status_block s.house) now (s.connections (suc index)) r.teller d u
+    → IdlesConnection o (status_block s.house) now (s.connections (suc index)) r.teller d u
     → (after : CaptureState) × PulsesIf o s (suc index) now after × IsRunning (record r { teller = u; connections = slots }) after first × (after.start ≡ s.start)
-quiet_by r s first now index d u slots None is started set opens rests = (s, refl, unchanged r s first index d u slots is set rests.1 rests.0, refl)
-quiet_by r s first now index d u slots (Some link) is started set opens rests =
-    let steps : List Step = step now link asks.Pulse rests.0 ∷ [] in
-    let p : Connection = after_quiet rests.0 (s.connections (suc index)) in (
+idle_by r s first now index d u slots None is started set opens idles = (s, refl, unchanged r s first index d u slots is set idles.1 idles.0, refl)
+idle_by r s first now index d u slots (Some link) is started set opens idles =
+    let steps : List Step = step now link asks.Pulse idles.0 ∷ [] in
+    let p : Connection = after_quiet idles.0 (s.connections (suc index)) in (
       record s { connections = put (suc index) p s.connections; history = s.history ++ entries_of steps },
-      record { answer = rests.0; served = served-there r.teller u s first now steps is.teller started rests.1; next = refl },
-      placed r s first index d d p u slots steps is set rests.2 (started-there r.teller u s first steps is.teller rests.1) (told-there r.teller u s first steps is.teller rests.1),
+      record { answer = idles.0; served = served-there r.teller u s first now steps is.teller started idles.1; next = refl },
+      placed r s first index d d p u slots steps is set idles.2 (started-there r.teller u s first steps is.teller idles.1) (told-there r.teller u s first steps is.teller idles.1),
       refl,
     )
 
 pub quiet-there : (r new : RunningState) (s : CaptureState) (first now index : ℕ) (u : Shown) (slots : List ConnectionState)
-    → IsRunning r s first → s.start ≡ Some first → RestsAt now r.connections index r.teller slots u → new ≡ record r { teller = u; connections = slots } → Happened s (suc index) now Quiet first new
+    → IsRunning r s first → s.start ≡ Some first → IdlesAt now r.connections index r.teller slots u → new ≡ record r { teller = u; connections = slots } → Happened s (suc index) now Quiet first new
 quiet-there r new s first now index u slots is started at same =
     let peer : Connection = s.connections (suc index) in
-    let q = quiet_by r s first now index at.then_is u slots (open_link peer.stage) is started at.set refl (at.rests (status_block s.house) peer (is.connections index at.old at.there)) in
+    let q = idle_by r s first now index at.then_is u slots (open_link peer.stage) is started at.set refl (at.idles (status_block s.house) peer (is.connections index at.old at.there)) in
     record { after = q.0; happens = q.1; is = subst (λ (x : RunningState). IsRunning x q.0 first) (sym same) q.2; start = q.3 }
 
 loss_by : (r : RunningState) (s : CaptureState) (first now index : ℕ) (d : ConnectionState) (u : Shown) (slots : List ConnectionState) (o : Option LinkNumber)

@@ -24,7 +24,7 @@ use Rattle.capture_lines.specs.declared.line.Line.{Line}
 use Rattle.capture_lines.specs.declared.line.Line.TheVariants.{Title, Server, Signature, User as UserLine, Volume, Key, At, End}
 use Rattle.capture_lines.specs.declared.line.What.{What}
 use Rattle.capture_lines.specs.declared.line.What.TheVariants.{In, Quiet, Lost, Out}
-use Rattle.capture_server.specs.Connections.{Connection, Comes, unused, fed_with, output, entries_of, AreServed, difference}
+use Rattle.capture_server.specs.Connections.{Connection, TakesBytes, unused, fed_with, output, entries_of, AreServed, difference}
 use Rattle.capture_server.specs.declared.part.Part.{Part}
 use Rattle.capture_server.specs.declared.part.Part.TheVariants as parts
 
@@ -111,7 +111,7 @@ pub record Feeds (s : CaptureState) (link now : ℕ) (bytes : List ℕ) (t : Cap
   pub replies : List Frame
   pub after : Stage
   pub over : Bool
-  pub comes : Comes (status_block s.house) now (s.connections link) bytes frames steps replies after over
+  pub comes : TakesBytes (status_block s.house) now (s.connections link) bytes frames steps replies after over
   pub served : AreServed (world_at s now) steps
   pub next : t ≡ record s {
     connections = put link (fed_with (s.connections link) bytes frames replies after over) s.connections;

@@ -46,7 +46,7 @@ FramesEnd bytes frames None over =
 
 -- Bytes come on a connection of a server with this status block, at a moment: these frames of all its bytes are handled with them, by
 -- these steps and replies, and so far the link has come then.
-pub record Comes (block : List ℕ) (now : ℕ) (c : Connection) (bytes : List ℕ) (frames : List Frame) (steps : List Step) (replies : List Frame) (after : Stage) (over : Bool) : Type 0 where
+pub record TakesBytes (block : List ℕ) (now : ℕ) (c : Connection) (bytes : List ℕ) (frames : List Frame) (steps : List Step) (replies : List Frame) (after : Stage) (over : Bool) : Type 0 where
   pub end : Option FrameEnd
   pub script : Script block c.stage frames steps replies after end
   pub moments : All (λ s. s.at ≡ now) steps

@@ -107,7 +107,7 @@ fn wire_of(
 
 impl Connection {
     ghost use Rattle.capture_server.specs.States.{IsConnection, unused_state};
-    ghost use Rattle.capture_server.specs.lemma.Moves.{FeedsConnection, RestsConnection, LosesConnection, Compares};
+    ghost use Rattle.capture_server.specs.lemma.Moves.{FeedsConnection, IdlesConnection, LosesConnection, Compares};
     ghost use Rattle.capture_server.specs.Connections.{Connection as Peer};
     ghost use Rattle.afp_server.specs.Wire.{open_link};
 
@@ -212,15 +212,15 @@ impl Connection {
     }
 
     /// A quiet.
-    pub fn rest<K: Keeper>(
+    pub fn idle<K: Keeper>(
         &mut self,
         now: Moment,
         teller: &mut ListTeller<K>,
     ) -> Result<(), OutOfMemory>
         requires sure { NeverFails (start_of teller.old) }
         ensures fixed { start_of teller.new ≡ start_of teller.old }
-        ensures rests { OnOk result ((block : List ℕ) (s : Peer) → IsConnection block self.old s
-            → RestsConnection (open_link s.stage) block now s (shown_of teller.old) self.new (shown_of teller.new)) }
+        ensures idles { OnOk result ((block : List ℕ) (s : Peer) → IsConnection block self.old s
+            → IdlesConnection (open_link s.stage) block now s (shown_of teller.old) self.new (shown_of teller.new)) }
     {
         match self.link() {
             Some(link) => {

@@ -11,7 +11,7 @@ use crate::connection::Connection;
 use crate::difference::Difference;
 use crate::new_keepers::NewKeepers;
 use crate::replay_counts::ReplayCounts;
-use crate::slots::{compare_at, feed_at, is_lost_at, is_over_at, is_used_at, lose_at, rest_at};
+use crate::slots::{compare_at, feed_at, is_lost_at, is_over_at, is_used_at, lose_at, idle_at};
 use afp_base::{Moment, OutOfMemory};
 use afp_core::{Core, CoreFault, ListTeller};
 use afp_serial::House;
@@ -155,7 +155,7 @@ impl<K: Keeper> Running<K> {
     }
 
     /// Bytes come on the connection at a place, which was not lost.
-    fn come(&mut self, index: usize, piece: &[u8], now: Moment) -> Result<(), OutOfMemory>
+    fn feed(&mut self, index: usize, piece: &[u8], now: Moment) -> Result<(), OutOfMemory>
         requires within { index < length self.old.connections }
         requires is { (s : CaptureState) × (first : ℕ) × IsRunning self.old s first × ((s.connections (suc index)).lost ≡ false) }
         ensures { OnOk result ((s : CaptureState) (first : ℕ) → IsRunning self.old s first → s.start ≡ Some first
@@ -179,13 +179,13 @@ impl<K: Keeper> Running<K> {
     }
 
     /// A quiet of it.
-    fn rest(&mut self, index: usize, now: Moment) -> Result<(), OutOfMemory>
+    fn idle(&mut self, index: usize, now: Moment) -> Result<(), OutOfMemory>
         requires { index < length self.old.connections }
         ensures { OnOk result ((s : CaptureState) (first : ℕ) → IsRunning self.old s first → s.start ≡ Some first
             → Happened s (suc index) now What.Quiet first self.new) }
     {
         let slots = self.connections.as_mut_slice();
-        rest_at(slots, index, now, &mut self.teller)
+        idle_at(slots, index, now, &mut self.teller)
     }
 
     /// Its loss.
@@ -221,11 +221,11 @@ impl<K: Keeper> Running<K> {
     {
         match what {
             What::In(piece) => {
-                self.come(index, piece.as_slice(), now)?;
+                self.feed(index, piece.as_slice(), now)?;
                 Ok(None)
             }
             What::Quiet => {
-                self.rest(index, now)?;
+                self.idle(index, now)?;
                 Ok(None)
             }
             What::Lost => {

@@ -3,7 +3,7 @@ ghost use Rattle.std.specs.Prelude.{◌≡◌, ◌<◌, Some, length, slice_get,
 ghost use Rattle.afp_core.specs.Telling.{start_of};
 ghost use Rattle.afp_core.specs.lemma.Telling.{shown_of};
 ghost use Rattle.afp_serial.specs.StatusBlock.{status_block};
-ghost use Rattle.capture_server.specs.lemma.Slots.{FeedsAt, RestsAt, LosesAt, ComparesAt, IsFit};
+ghost use Rattle.capture_server.specs.lemma.Slots.{FeedsAt, IdlesAt, LosesAt, ComparesAt, IsFit};
 ghost use Rattle.capture_server.specs.lemma.Tellers.{NeverFails};
 ghost use Rattle.capture_server.specs.States.{ConnectionState};
 
@@ -66,7 +66,7 @@ pub fn feed_at<K: Keeper>(
 }
 
 /// A quiet of it.
-pub fn rest_at<K: Keeper>(
+pub fn idle_at<K: Keeper>(
     slots: &mut [Connection],
     index: usize,
     now: Moment,
@@ -75,9 +75,9 @@ pub fn rest_at<K: Keeper>(
     requires within { index < length slots.old }
     requires sure { NeverFails (start_of teller.old) }
     ensures fixed { start_of teller.new ≡ start_of teller.old }
-    ensures rests { OnOk result (RestsAt now slots.old index (shown_of teller.old) slots.new (shown_of teller.new)) }
+    ensures idles { OnOk result (IdlesAt now slots.old index (shown_of teller.old) slots.new (shown_of teller.new)) }
 {
-    slots[index].rest(now, teller)
+    slots[index].idle(now, teller)
 }
 
 /// Its loss.

@@ -19,7 +19,7 @@ use Rattle.afp_serial.specs.World.{plain, session_at, without_session, World, Se
 use Rattle.afp_serial.specs.Rows.{refusal}
 use Rattle.core_state.specs.SessionList.{IsAt, session_of}
 use Rattle.core_asks.specs.lemma.Spelling.{IsSpelled}
-use Rattle.core_state.specs.Running.{Comes, IsReady, done, RunsRow, RunsVerdict}
+use Rattle.core_state.specs.Running.{IsOutcomeOf, IsReady, done, RunsRow, RunsVerdict}
 use Rattle.core_asks.specs.Asks.{RunsAsk, takes_memory}
 use Rattle.core_asks.specs.lemma.Asks.{RunsCall, RunsPart}
 use Rattle.core_asks.specs.declared.spelling.Stop.TheVariants.{Refused}
@@ -133,7 +133,7 @@ found-verdict : (k new : KeptWorld) (link n : ℕ) (q : Request) (r : Told × Ou
 found-verdict k new link n q r v at comes runs =
     let w = k.world in
     let e : verdict w at.session q ≡ v = uncached w at.session q at.uncached ∙ comes in
-    subst (λ (o : Option Session). Comes (told_call w o q r.1) (after_call w o q r.1) (committed_in w o q) r.1 r.0 k new) (sym at.linked)
+    subst (λ (o : Option Session). IsOutcomeOf (told_call w o q r.1) (after_call w o q r.1) (committed_in w o q) r.1 r.0 k new) (sym at.linked)
     (subst (λ (x : Verdict). RunsVerdict k at.session x r new) (sym e) runs)
 
 pub call-runs : (old new : KeptWorld) (link n : ℕ) (q : Request) (call : Call) (result : Result (Told × Outcome) OutOfMemory) (has_user : Bool) → IsAt old.world.sessions link n

@@ -3,7 +3,7 @@ use Rattle.std.specs.Prelude.{◌≡◌, ℕ, Bool, true, false, Result, Ok, Err
 use Rattle.afp_base.specs.declared.bytes.OutOfMemory.{OutOfMemory}
 use Rattle.afp_base.specs.declared.ids.LinkNumber.{LinkNumber}
 use Rattle.core_state.specs.KeptWorld.{KeptWorld}
-use Rattle.core_state.specs.Running.{Comes}
+use Rattle.core_state.specs.Running.{IsOutcomeOf}
 use Rattle.afp_serial.specs.Answer.{after_at, answer_at, committed_at}
 use Rattle.afp_serial.specs.World.{at_moment}
 use Rattle.afp_serial.specs.declared.ask.Ask.{Ask}
@@ -26,7 +26,7 @@ kept_at k now = record k { world = at_moment k.world now }
 
 -- An ask at the latest moment: an outcome that may come, with what is told then and the world after it; or there is no memory, and nothing changes.
 abbrev pub RunsAsk : KeptWorld → ℕ → Ask → Result (Told × Outcome) OutOfMemory → KeptWorld → Type 0
-RunsAsk k link ask (Ok r) new = Comes (answer_at k.world link ask r.1) (after_at k.world link ask r.1) (committed_at k.world link ask) r.1 r.0 k new
+RunsAsk k link ask (Ok r) new = IsOutcomeOf (answer_at k.world link ask r.1) (after_at k.world link ask r.1) (committed_at k.world link ask) r.1 r.0 k new
 RunsAsk k link ask (Err e) new = (takes_memory ask ≡ true) × (new ≡ k)
 
 -- An ask becomes an entry, or there is no memory and nothing changes.

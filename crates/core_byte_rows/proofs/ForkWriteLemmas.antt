@@ -29,7 +29,7 @@ use Rattle.afp_volume.specs.VolumeState.{Row as File, VolumeState}
 use Rattle.afp_volume.specs.Walk.{row_at}
 use Rattle.core_byte_rows.specs.lemma.OnForkBytes.{HasRoom, IsOffset, IsPlace, end_reply, write_checks}
 use Rattle.core_state.specs.OnForks.{IsFork, IsForkAt}
-use Rattle.core_state.specs.OnVolumes.{BecomesKept, IsKept, with_kept}
+use Rattle.core_state.specs.OnVolumes.{BecomesKept, IsKeptAt, with_kept}
 use Rattle.core_state.specs.Replies.{TellsChanged}
 use Rattle.core_state.specs.KeptWorld.{KeptWorld}
 use Rattle.core_state.specs.Running.{done, RunsRow}
@@ -116,7 +116,7 @@ write-uncounted w f asked count =
 pub record Given (k : KeptWorld) (own : OwnFork) (f : OpenFile) (writes : Bool) (after : List ℕ) (answer : Result (Unit {0}) ChangeFault) (new : KeptWorld) : Type 0 where
   pub old : KeptState
   pub one : KeptState
-  pub was : IsKept k own.index old
+  pub was : IsKeptAt k own.index old
   pub state : old.state ≡ f.volume
   pub gives : GivesBytes old k.world.latest own.fork.node own.fork.resource writes (bytes_of f) after answer one
   pub now : new ≡ with_kept k own.index one
@@ -160,7 +160,7 @@ module _ (k : KeptWorld) (number reference : ℕ) (own : OwnFork) (stands : IsFo
   pub own-keeper : keeper_of stands.file.fork.fork.volume ≡ Some own.index
   own-keeper = ap keeper_of (volume-id ∙ add-one own.index)
 
-  given-world : (writes : Bool) (after : List ℕ) (old : KeptState) → IsKept k own.index old → old.state ≡ stands.file.volume
+  given-world : (writes : Bool) (after : List ℕ) (old : KeptState) → IsKeptAt k own.index old → old.state ≡ stands.file.volume
       → with_kept k own.index (record old { state = given k.world.latest own.fork.node own.fork.resource writes after old.state }) ≡ record k { world = with_bytes k.world stands.file writes after }
   given-world false after old was state = kept-stays k own.index old was
   given-world true after old was state =
@@ -175,7 +175,7 @@ module _ (k : KeptWorld) (number reference : ℕ) (own : OwnFork) (stands : IsFo
   pub given-done : (new : KeptWorld) (writes : Bool) (after : List ℕ) → Given k own stands.file writes after (with_ok tt) new → new ≡ record k { world = with_bytes k.world stands.file writes after }
   given-done new writes after g = g.now ∙ ap (with_kept k own.index) g.gives.1 ∙ given-world writes after g.old g.was g.state
 
-  pub given-same : (new : KeptWorld) (old one : KeptState) → IsKept k own.index old → one ≡ old → new ≡ with_kept k own.index one → new ≡ k
+  pub given-same : (new : KeptWorld) (old one : KeptState) → IsKeptAt k own.index old → one ≡ old → new ≡ with_kept k own.index one → new ≡ k
   given-same new old one was same now = now ∙ ap (with_kept k own.index) same ∙ kept-stays k own.index old was
 
   pub given-room : (b : Bool) (old : KeptState) (after : List ℕ) → old.state ≡ stands.file.volume → would_pass old.state (length (bytes_of stands.file)) (length after) ≡ b

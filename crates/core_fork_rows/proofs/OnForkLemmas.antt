@@ -27,7 +27,7 @@ use Rattle.afp_volume.specs.SoundVolume.{has_file}
 use Rattle.afp_volume.specs.VolumeState.{Row as File, VolumeState}
 use Rattle.afp_volume.specs.Walk.{row_at}
 use Rattle.core_state.specs.OnForks.{IsFork, IsForkAt}
-use Rattle.core_state.specs.OnVolumes.{BecomesKept, IsKept, with_kept}
+use Rattle.core_state.specs.OnVolumes.{BecomesKept, IsKeptAt, with_kept}
 use Rattle.core_state.specs.Replies.{TellsChanged, TellsSettled}
 use Rattle.core_state.specs.KeptWorld.{KeptWorld}
 use Rattle.core_state.specs.SessionList.{session_of}
@@ -73,7 +73,7 @@ own-state k number reference own here v =
     ap (λ (f : Fork). with_state k.world.volumes f.volume v) here.fork_is ∙ ap (λ (n : ℕ). with_state k.world.volumes n v) (here.id ∙ add-one own.index)
 
 -- the volume that is changed is the fork's
-pub same-volume : (k : KeptWorld) (number reference : ℕ) (own : OwnFork) (here : IsForkAt k number reference own) (old : KeptState) → IsKept k own.index old → old.state ≡ here.file.volume
+pub same-volume : (k : KeptWorld) (number reference : ℕ) (own : OwnFork) (here : IsForkAt k number reference own) (old : KeptState) → IsKeptAt k own.index old → old.state ≡ here.file.volume
 same-volume k number reference own here old was = one-of old.state here.file.volume (sym was.state ∙ here.volume)
 
 -- its node is a file of that volume
@@ -100,14 +100,14 @@ own-becomes k new number reference own here becomes b = record {
 }
 
 -- another state of the fork's volume, whose keeper stays
-pub own-changes : (k new : KeptWorld) (number reference : ℕ) (own : OwnFork) (here : IsForkAt k number reference own) (old : KeptState) (v : VolumeState) → IsKept k own.index old
+pub own-changes : (k new : KeptWorld) (number reference : ℕ) (own : OwnFork) (here : IsForkAt k number reference own) (old : KeptState) (v : VolumeState) → IsKeptAt k own.index old
     → new ≡ with_kept k own.index (record old { state = v }) → new ≡ record k { world = with_volume_state k.world here.file.fork.fork.volume v }
 own-changes k new number reference own here old v was is =
     is ∙ state-changes k own.index old v was
     ∙ ap (λ (l : List VolumeState). record k { world = record k.world { volumes = l } }) (sym (own-state k number reference own here v))
 
 -- other bytes of the fork, where some are given
-pub own-given : (k new : KeptWorld) (number reference : ℕ) (own : OwnFork) (here : IsForkAt k number reference own) (old : KeptState) (writes : Bool) (bytes : List ℕ) → IsKept k own.index old
+pub own-given : (k new : KeptWorld) (number reference : ℕ) (own : OwnFork) (here : IsForkAt k number reference own) (old : KeptState) (writes : Bool) (bytes : List ℕ) → IsKeptAt k own.index old
     → new ≡ with_kept k own.index (record old { state = given k.world.latest own.fork.node own.fork.resource writes bytes old.state }) → new ≡ record k { world = with_bytes k.world here.file writes bytes }
 own-given k new number reference own here old false bytes was is = is ∙ kept-stays k own.index old was
 own-given k new number reference own here old true bytes was is =
@@ -187,7 +187,7 @@ module _ (k : KeptWorld) (number : ℕ) (call : Call) (reference : ℕ) (refuses
         (full : would_pass here.file.volume (length before) (length after) ≡ true → first_holding (refuses k.world here.file) ≡ Some (plain DiskFull))
         (effect_is : does k.world here.file ≡ record { world = with_bytes k.world here.file writes after; reply = reply })
         (names : commits k.world here.file ≡ keeper_if writes here.file) where
-      pass-at : (old : KeptState) → IsKept k own.index old → (b : Bool) → would_pass old.state (length before) (length after) ≡ b → would_pass here.file.volume (length before) (length after) ≡ b
+      pass-at : (old : KeptState) → IsKeptAt k own.index old → (b : Bool) → would_pass old.state (length before) (length after) ≡ b → would_pass here.file.volume (length before) (length after) ≡ b
       pass-at old was b = subst (λ (v : VolumeState). would_pass v (length before) (length after) ≡ b) (same-volume k number reference own here old was)
 
       pub fork-gives : (new : KeptWorld) (answer : Result (Unit {0}) ChangeFault) (block : List ℕ) (result : Result (Told × Outcome) OutOfMemory)

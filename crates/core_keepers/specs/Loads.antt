@@ -29,7 +29,7 @@ IsFaultOf name records sure load.Failed = sure ≡ false
 IsFaultOf name records sure load.Memory = ⊥
 
 -- the load at an index is the first that gave no volume
-pub record StopsAt {K : Type 0} (records : K → Option Records) (sure : K → Bool) (faults : K → ℕ) (now : ℕ) (names : List (List ℕ)) (keepers : List K) (index : ℕ) (fault : LoadFault) : Type 0 where
+pub record LoadsStopAt {K : Type 0} (records : K → Option Records) (sure : K → Bool) (faults : K → ℕ) (now : ℕ) (names : List (List ℕ)) (keepers : List K) (index : ℕ) (fault : LoadFault) : Type 0 where
   pub kept : List KeptState
   pub before : LoadEach records sure faults now (take index names) (take index keepers) kept
   pub name : List ℕ
@@ -41,5 +41,5 @@ pub record StopsAt {K : Type 0} (records : K → Option Records) (sure : K → B
 -- why there is no core: the numbers differ, the first load that gave no volume, or there is no memory
 abbrev pub IsCoreFault : {K : Type 0} → (K → Option Records) → (K → Bool) → (K → ℕ) → ℕ → List (List ℕ) → List K → CoreFault → Type 0
 IsCoreFault records sure faults now names keepers Count = length keepers ≢ length names
-IsCoreFault records sure faults now names keepers (Load index fault) = (length keepers ≡ length names) × StopsAt records sure faults now names keepers index fault
+IsCoreFault records sure faults now names keepers (Load index fault) = (length keepers ≡ length names) × LoadsStopAt records sure faults now names keepers index fault
 IsCoreFault records sure faults now names keepers Memory = length keepers ≡ length names

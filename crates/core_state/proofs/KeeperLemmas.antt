@@ -10,8 +10,8 @@ use Rattle.afp_serial.specs.declared.ask.Outcome.TheVariants as outcome
 use Rattle.afp_serial.specs.declared.ask.Told.{Told}
 use Rattle.core_state.specs.KeeperFaults.{KeepersRise, SureStand}
 use Rattle.core_state.specs.KeptWorld.{KeptWorld, volumes_of, kept_world}
-use Rattle.core_state.specs.OnVolumes.{BecomesKept, IsKept, with_kept}
-use Rattle.core_state.specs.Running.{Comes}
+use Rattle.core_state.specs.OnVolumes.{BecomesKept, IsKeptAt, with_kept}
+use Rattle.core_state.specs.Running.{IsOutcomeOf}
 
 -- nothing
 pub rise-same : (xs : List ℕ) → KeepersRise None xs xs
@@ -25,7 +25,7 @@ stand-same (s ∷ rest) (x ∷ xs) = ((λ e. refl), stand-same rest xs)
 
 -- an entry that meets no fault, and changes the world alone
 pub comes-done : (old new : KeptWorld) (want : Told) (after next : World) (index : Option ℕ) (told : Told) → told ≡ want → new ≡ record old { world = next } → next ≡ after
-    → Comes want after index outcome.Done told old new
+    → IsOutcomeOf want after index outcome.Done told old new
 comes-done old new want after next index told tells is becomes = record {
   legal = refl;
   serial = tells;
@@ -37,7 +37,7 @@ comes-done old new want after next index told tells is becomes = record {
 
 -- one that changes nothing
 pub comes-same : (old new : KeptWorld) (want : Told) (index : Option ℕ) (told : Told) → told ≡ want → new ≡ old
-    → Comes want old.world index outcome.Done told old new
+    → IsOutcomeOf want old.world index outcome.Done told old new
 comes-same old new want index told tells is = comes-done old new want old.world old.world index told tells is refl
 
 -- the volumes beside their keepers
@@ -75,7 +75,7 @@ pub becomes-kept : (w : World) (kept : List KeptState) (index : ℕ) (d one : Ke
 becomes-kept w kept index d one becomes k new is within does becomes_is = record {
   old = get_or kept index d;
   one = one;
-  was = subst (λ (x : KeptWorld). IsKept x index (get_or kept index d)) is record {
+  was = subst (λ (x : KeptWorld). IsKeptAt x index (get_or kept index d)) is record {
     state = list-get (λ x. x.state) kept index d within;
     faults = list-get (λ x. x.faults) kept index d within;
     sure = list-get (λ x. x.sure) kept index d within;

@@ -15,10 +15,10 @@ use Rattle.afp_serial.specs.declared.ask.Told.{Told}
 use Rattle.afp_serial.specs.declared.ask.Told.TheVariants.{Reply}
 use Rattle.afp_volume.specs.VolumeState.{VolumeState}
 use Rattle.core_state.specs.KeeperFaults.{KeepersRise, SureStand}
-use Rattle.core_state.specs.OnVolumes.{BecomesKept, IsKept, IsOpen, IsOpenAt, with_kept}
+use Rattle.core_state.specs.OnVolumes.{BecomesKept, IsKeptAt, IsOpen, IsOpenAt, with_kept}
 use Rattle.core_state.specs.KeptWorld.{KeptWorld}
 use Rattle.core_state.specs.SessionList.{session_of}
-use Rattle.core_state.specs.Running.{Comes}
+use Rattle.core_state.specs.Running.{IsOutcomeOf}
 use Rattle.core_state.proofs.KeeperLemmas.{rise-same, volume_at-index}
 use Rattle.kept_volume.specs.Changing.{FailsIn}
 use Rattle.kept_volume.specs.Kept.{KeptState}
@@ -97,7 +97,7 @@ told-effect call e of block is goes told =
     ap (λ (b : List ℕ). Reply Ok b false) (told ∙ ap (λ (x : Effect). canonical_reply x.reply) (sym is)) ∙ ap (λ (b : Bool). Reply Ok (canonical_reply e.reply) b) (sym goes)
 
 -- a volume and its keeper that stay
-pub kept-stays : (k : KeptWorld) (index : ℕ) (one : KeptState) → IsKept k index one → with_kept k index one ≡ k
+pub kept-stays : (k : KeptWorld) (index : ℕ) (one : KeptState) → IsKeptAt k index one → with_kept k index one ≡ k
 kept-stays k index one was =
     let v = set-same k.world.volumes index one.state was.state in
     let f = set-same k.faults index one.faults was.faults in
@@ -105,7 +105,7 @@ kept-stays k index one was =
     λ i. record { world = record k.world { volumes = v i }; faults = f i; sure = s i }
 
 -- another state of a volume whose keeper stays
-pub state-changes : (k : KeptWorld) (index : ℕ) (one : KeptState) (v : VolumeState) → IsKept k index one
+pub state-changes : (k : KeptWorld) (index : ℕ) (one : KeptState) (v : VolumeState) → IsKeptAt k index one
     → with_kept k index (record one { state = v }) ≡ record k { world = record k.world { volumes = slice_set k.world.volumes index v } }
 state-changes k index one v was =
     let f = set-same k.faults index one.faults was.faults in
@@ -114,7 +114,7 @@ state-changes k index one v was =
 
 -- a keeper that failed
 pub keeper-fails : (k new : KeptWorld) (want : Told) (after : World) (committed_to : Option ℕ) (told : Told) (index : ℕ) → committed_to ≡ Some index → told ≡ want → k.world ≡ after
-    → BecomesKept k index (λ old one. FailsIn old one) new → Comes want after committed_to outcome.Fault told k new
+    → BecomesKept k index (λ old one. FailsIn old one) new → IsOutcomeOf want after committed_to outcome.Fault told k new
 keeper-fails k new want after committed_to told index commits tells same b =
     let f = b.is in
     let states : with_kept k index b.one ≡ record k { faults = slice_set k.faults index b.one.faults } =

@@ -24,7 +24,7 @@ IsOpen k number volume None =
 IsOpen k number volume (Some index) = IsOpenAt k number volume index
 
 -- the volume at an index, with its keeper's count and whether the keeper is sure
-pub record IsKept (k : KeptWorld) (index : ℕ) (one : KeptState) : Type 0 where
+pub record IsKeptAt (k : KeptWorld) (index : ℕ) (one : KeptState) : Type 0 where
   pub state : slice_get k.world.volumes index ≡ Some one.state
   pub faults : slice_get k.faults index ≡ Some one.faults
   pub sure : slice_get k.sure index ≡ Some one.sure
@@ -41,6 +41,6 @@ with_kept k index one = record {
 pub record BecomesKept (k : KeptWorld) (index : ℕ) (becomes : KeptState → KeptState → Type 0) (new : KeptWorld) : Type 0 where
   pub old : KeptState
   pub one : KeptState
-  pub was : IsKept k index old
+  pub was : IsKeptAt k index old
   pub is : becomes old one
   pub now : new ≡ with_kept k index one

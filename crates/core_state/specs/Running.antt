@@ -28,7 +28,7 @@ pub record IsReady (w : World) : Type 0 where
 
 -- An outcome that may come where this keeper or none is committed to, with what is told then, the next world, and what became of the
 -- keepers' counts: a fault is one that this keeper counted.
-pub record Comes (want : Told) (after : World) (index : Option ℕ) (o : Outcome) (told : Told) (old next : KeptWorld) : Type 0 where
+pub record IsOutcomeOf (want : Told) (after : World) (index : Option ℕ) (o : Outcome) (told : Told) (old next : KeptWorld) : Type 0 where
   pub legal : is_legal_outcome index o ≡ true
   pub serial : told ≡ want
   pub world : next.world ≡ after
@@ -44,7 +44,7 @@ done told = (told, outcome.Done)
 
 -- a call of a session that comes to this verdict
 abbrev pub RunsVerdict : KeptWorld → Session → Verdict → Told × Outcome → KeptWorld → Type 0
-RunsVerdict k s v r new = Comes (told_verdict k.world s v r.1) (after_verdict k.world s v r.1) (committed_by k.world s v) r.1 r.0 k new
+RunsVerdict k s v r new = IsOutcomeOf (told_verdict k.world s v r.1) (after_verdict k.world s v r.1) (committed_by k.world s v) r.1 r.0 k new
 
 -- A call of a session comes to its row: what it is told with its outcome, and the world after, are the row's. Or there is no memory,
 -- and nothing changes.

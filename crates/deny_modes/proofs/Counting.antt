@@ -13,12 +13,12 @@ use mathlib.Core.Bool.{false≢true}
 use Rattle.afp_base.specs.DenyMode.{Access, Fork, is_one_fork, is_clash}
 use Rattle.sorted_map.specs.Entries.{at, exchanged, with_new_value}
 use Rattle.deny_modes.specs.declared.opens.Opened.{Opened}
-use Rattle.deny_modes.specs.declared.opens.Tally.{Tally}
+use Rattle.deny_modes.specs.declared.opens.ForkTally.{ForkTally}
 use Rattle.afp_base.specs.Apart.{are_apart}
 use Rattle.deny_modes.specs.lemma.ForkOrder.{fork_cmp}
 use Rattle.deny_modes.specs.Opens.{Open, has_reference, has_conflict, is_fork_open, with_open, without_reference, in_exchange, exchange_open, exchanged_opens, count_of, counts_of, are_in_conflict}
 use Rattle.deny_modes.specs.Counters.{open_of, opens_of}
-use Rattle.deny_modes.specs.lemma.Counters.{tally_of, IsCounted, clash_with, bit, tally_with, tally_without, no_tally, CanCount, HasOpen, exchange_row}
+use Rattle.deny_modes.specs.lemma.Counters.{tally_of, IsTallied, clash_with, bit, tally_with, tally_without, no_tally, CanCount, HasOpen, exchange_row}
 use Rattle.deny_modes.proofs.Forks.{order_tells, same_fork, itself, either_way, crosses, both_cross, found_crossed}
 use Rattle.deny_modes.proofs.Rows.{Rise, put_back, out_again, fresh_row, shows_new, shows_less, nothing_out, low_new, low_less}
 
@@ -82,7 +82,7 @@ len_le p [] = omega arith
 len_le p (o ∷ os) = let more = len_le p os in elim (p o) as (λ b. length (if b then o ∷ filter p os else filter p os) ≤ length (o ∷ os)) [ true ↦ omega (arith, more) | false ↦ omega (arith, more) ]
 
 -- ---- what a fork's opens come to
-abbrev full : List Open → Fork → Tally
+abbrev full : List Open → Fork → ForkTally
 full os q = record { counts = counts_of os q; opens = length (filter (λ o. is_one_fork o.fork q) os) }
 
 sum_and : (has : Access → Bool) (new : Open) (os : List Open) (q : Fork) → is_one_fork new.fork q ≡ true → count_of has q (with_open new os) ≡ count_of has q os + bit (has new.access)
@@ -202,7 +202,7 @@ clash_is (o ∷ os) q a = elim (is_one_fork o.fork q) as (λ b.
       | false ↦ clash_is os q a
     ]
 
-some_is : (os : List Open) (q : Fork) (t : Tally) → Some t ≡ tally_of os q → (t ≡ full os q) × (is_fork_open os q ≡ true)
+some_is : (os : List Open) (q : Fork) (t : ForkTally) → Some t ≡ tally_of os q → (t ≡ full os q) × (is_fork_open os q ≡ true)
 some_is os q t found = elim (is_fork_open os q) as (λ b. is_fork_open os q ≡ b → Some t ≡ (if b then Some (full os q) else None) → (t ≡ full os q) × (is_fork_open os q ≡ true)) [
   | true ↦ λ is found. (cc found, is)
   | false ↦ λ is found. absurd (cc found)
@@ -211,8 +211,8 @@ some_is os q t found = elim (is_fork_open os q) as (λ b. is_fork_open os q ≡ 
 none_is : (os : List Open) (q : Fork) → None ≡ tally_of os q → is_fork_open os q ≡ false
 none_is os q found = elim (is_fork_open os q) as (λ b. None ≡ (if b then Some (full os q) else None) → b ≡ false) [ true ↦ λ found. absurd (cc found) | false ↦ λ found. refl ] found
 
-module _ {rows : List (ℕ × Opened)} {tallies : List (Fork × Tally)} (w : IsCounted rows tallies) where
-  pub told_some : {whole : List Open} (f : Fork) (a : Access) (t : Tally) → opens_of rows ≡ whole → Some t ≡ at fork_cmp tallies f → (b : Bool) → b ≡ clash_with t.counts a → not b ≡ not (has_conflict whole f a)
+module _ {rows : List (ℕ × Opened)} {tallies : List (Fork × ForkTally)} (w : IsTallied rows tallies) where
+  pub told_some : {whole : List Open} (f : Fork) (a : Access) (t : ForkTally) → opens_of rows ≡ whole → Some t ≡ at fork_cmp tallies f → (b : Bool) → b ≡ clash_with t.counts a → not b ≡ not (has_conflict whole f a)
   told_some f a t shown found b is =
       let t_is = (some_is (opens_of rows) f t (found ∙ w.tallied f)).0 in
       ap not (is ∙ (λ i. clash_with (t_is i).counts a) ∙ counted_any (opens_of rows) f a ∙ clash_is (opens_of rows) f a ∙ ap (λ l. has_conflict l f a) shown)
@@ -297,7 +297,7 @@ conflict_turns : (a b : Open) → are_in_conflict a b ≡ are_in_conflict b a
 conflict_turns a b = λ i. either_way a.fork b.fork i && clash_turns a.access b.access i
 
 -- ---- each call
-tally_new : (new : Open) (os : List Open) (q : Fork) (t : Tally) → t ≡ tally_with (full os new.fork) new.access → tally_of (with_open new os) q ≡ cond (is_one_fork new.fork q) (Some t) (tally_of os q)
+tally_new : (new : Open) (os : List Open) (q : Fork) (t : ForkTally) → t ≡ tally_with (full os new.fork) new.access → tally_of (with_open new os) q ≡ cond (is_one_fork new.fork q) (Some t) (tally_of os q)
 tally_new new os q t t_is = elim (is_one_fork new.fork q) as (λ b. is_one_fork new.fork q ≡ b → tally_of (with_open new os) q ≡ cond b (Some t) (tally_of os q)) [
   | true ↦ λ same.
       let there : is_fork_open (with_open new os) q ≡ true = any_new (λ o. is_one_fork o.fork q) new os ∙ ap (λ b. b || is_fork_open os q) same in
@@ -307,14 +307,14 @@ tally_new new os q t t_is = elim (is_one_fork new.fork q) as (λ b. is_one_fork 
       (λ i. if there i then Some (full_other new os q other i) else None)
 ] refl
 
-pub record Noted (rows rows' : List (ℕ × Opened)) (tallies : List (Fork × Tally)) (whole : List Open) (r : ℕ) (v : Opened) : Type 0 where
-  pub was : IsCounted rows tallies
+pub record Noted (rows rows' : List (ℕ × Opened)) (tallies : List (Fork × ForkTally)) (whole : List Open) (r : ℕ) (v : Opened) : Type 0 where
+  pub was : IsTallied rows tallies
   pub shown : opens_of rows ≡ whole
   pub fresh : has_reference whole r ≡ false
   pub free : has_conflict whole v.fork v.mode ≡ false
   pub new_rows : rows' ≡ insert_entry nat_cmp rows r v
 
-module _ {rows rows' : List (ℕ × Opened)} {tallies : List (Fork × Tally)} {whole : List Open} {r : ℕ} {v : Opened} (n : Noted rows rows' tallies whole r v) where
+module _ {rows rows' : List (ℕ × Opened)} {tallies : List (Fork × ForkTally)} {whole : List Open} {r : ℕ} {v : Opened} (n : Noted rows rows' tallies whole r v) where
   absent : at nat_cmp rows r ≡ None
   absent = fresh_row rows r (ap (λ l. has_reference l r) n.shown ∙ n.fresh)
 
@@ -324,7 +324,7 @@ module _ {rows rows' : List (ℕ × Opened)} {tallies : List (Fork × Tally)} {w
   pub noted_shows : opens_of rows' ≡ with_open (record { reference = r; fork = v.fork; access = v.mode }) whole
   noted_shows = shown_new ∙ ap (with_open (open_of (r, v))) n.shown
 
-  pub noted_counted : {tallies' : List (Fork × Tally)} (t : Tally) → r < 65536 → t ≡ tally_with (unwrap_or (at fork_cmp tallies v.fork) no_tally) v.mode → ((q : Fork) → at fork_cmp tallies' q ≡ update (eq_by_cmp fork_cmp) (at fork_cmp tallies) v.fork (Some t) q) → IsCounted rows' tallies'
+  pub noted_counted : {tallies' : List (Fork × ForkTally)} (t : ForkTally) → r < 65536 → t ≡ tally_with (unwrap_or (at fork_cmp tallies v.fork) no_tally) v.mode → ((q : Fork) → at fork_cmp tallies' q ≡ update (eq_by_cmp fork_cmp) (at fork_cmp tallies) v.fork (Some t) q) → IsTallied rows' tallies'
   noted_counted t low t_is updates = record {
     low = subst (λ l. AllByRecursion (λ k. k < 65536) (keys_of l)) (sym n.new_rows) (low_new (λ k. k < 65536) rows r v low n.was.low);
     tallied = λ q.
@@ -342,7 +342,7 @@ pub nothing_gone : {rows' : List (ℕ × Opened)} (rows : List (ℕ × Opened)) 
 nothing_gone rows r none gone = gone ∙ nothing_out rows r (sym none)
 
 -- a key that is there can be given another value
-pub put_over : {X Y : Type 0} (P : Type 0) (r : Result X Y) (t : Tally) (o : Option Tally) → Some t ≡ o → OnErr r (o ≡ None) → OnOk r P → P
+pub put_over : {X Y : Type 0} (P : Type 0) (r : Result X Y) (t : ForkTally) (o : Option ForkTally) → Some t ≡ o → OnErr r (o ≡ None) → OnOk r P → P
 put_over P (Ok x) t o found none p = p
 put_over P (Err y) t o found none p = absurd (cc (found, none))
 
@@ -352,14 +352,14 @@ gone_there r o = ap (λ b. cond b None o) (let e : is_eq (nat_cmp r r) ≡ true 
 pub gone_shows : {rows' : List (ℕ × Opened)} {whole : List Open} (rows : List (ℕ × Opened)) (r : ℕ) → Rise rows → opens_of rows ≡ whole → rows' ≡ remove_entry (is_at (nat_cmp r)) rows → opens_of rows' ≡ without_reference r whole
 gone_shows rows r s shown gone = ap opens_of gone ∙ shows_less rows r s ∙ ap (without_reference r) shown
 
-pub record Gone (rows rows' : List (ℕ × Opened)) (tallies : List (Fork × Tally)) (r : ℕ) (v : Opened) : Type 0 where
-  pub was : IsCounted rows tallies
+pub record Gone (rows rows' : List (ℕ × Opened)) (tallies : List (Fork × ForkTally)) (r : ℕ) (v : Opened) : Type 0 where
+  pub was : IsTallied rows tallies
   pub rise : Rise rows
   pub found : Some v ≡ at nat_cmp rows r
   pub new_rows : rows' ≡ remove_entry (is_at (nat_cmp r)) rows
   pub absent : at nat_cmp rows' r ≡ None
 
-module _ {rows rows' : List (ℕ × Opened)} {tallies : List (Fork × Tally)} {r : ℕ} {v : Opened} (g : Gone rows rows' tallies r v) where
+module _ {rows rows' : List (ℕ × Opened)} {tallies : List (Fork × ForkTally)} {r : ℕ} {v : Opened} (g : Gone rows rows' tallies r v) where
   shown_old : opens_of rows ≡ with_open (open_of (r, v)) (opens_of rows')
   shown_old = ap opens_of (put_back rows r v g.rise g.found ∙ ap (λ l. insert_entry nat_cmp l r v) (sym g.new_rows)) ∙ shows_new rows' r v g.absent
 
@@ -372,13 +372,13 @@ module _ {rows rows' : List (ℕ × Opened)} {tallies : List (Fork × Tally)} {r
   pub no_tally_is_wrong : None ≡ at fork_cmp tallies v.fork → ⊥
   no_tally_is_wrong none = false≢true (sym (none_is (opens_of rows) v.fork (none ∙ g.was.tallied v.fork)) ∙ was_open)
 
-  t_is : (t : Tally) → Some t ≡ at fork_cmp tallies v.fork → t ≡ tally_with (full (opens_of rows') v.fork) v.mode
+  t_is : (t : ForkTally) → Some t ≡ at fork_cmp tallies v.fork → t ≡ tally_with (full (opens_of rows') v.fork) v.mode
   t_is t found = (some_is (opens_of rows) v.fork t (found ∙ g.was.tallied v.fork)).0 ∙ was_full
 
-  pub has_open : (t : Tally) → Some t ≡ at fork_cmp tallies v.fork → HasOpen t v.mode
+  pub has_open : (t : ForkTally) → Some t ≡ at fork_cmp tallies v.fork → HasOpen t v.mode
   has_open t found = subst (λ x. HasOpen x v.mode) (sym (t_is t found)) (record { reads = omega arith; writes = omega arith; denies_reading = omega arith; denies_writing = omega arith; is = omega arith })
 
-  left_is : (t left : Tally) → Some t ≡ at fork_cmp tallies v.fork → left ≡ tally_without t v.mode → left ≡ full (opens_of rows') v.fork
+  left_is : (t left : ForkTally) → Some t ≡ at fork_cmp tallies v.fork → left ≡ tally_without t v.mode → left ≡ full (opens_of rows') v.fork
   left_is t left found is = is ∙ ap (λ x. tally_without x v.mode) (t_is t found) ∙ taken_off (opens_of rows') v.fork v.mode
 
   others : (q : Fork) → is_one_fork v.fork q ≡ false → tally_of (opens_of rows) q ≡ tally_of (opens_of rows') q
@@ -387,7 +387,7 @@ module _ {rows rows' : List (ℕ × Opened)} {tallies : List (Fork × Tally)} {r
       let same : full (opens_of rows) q ≡ full (opens_of rows') q = ap (λ l. full l q) shown_old ∙ full_other (open_of (r, v)) (opens_of rows') q other in
       λ i. if there i then Some (same i) else None
 
-  counted_gone : {tallies' : List (Fork × Tally)} (o : Option Tally) → o ≡ tally_of (opens_of rows') v.fork → ((q : Fork) → at fork_cmp tallies' q ≡ update (eq_by_cmp fork_cmp) (at fork_cmp tallies) v.fork o q) → IsCounted rows' tallies'
+  counted_gone : {tallies' : List (Fork × ForkTally)} (o : Option ForkTally) → o ≡ tally_of (opens_of rows') v.fork → ((q : Fork) → at fork_cmp tallies' q ≡ update (eq_by_cmp fork_cmp) (at fork_cmp tallies) v.fork o q) → IsTallied rows' tallies'
   counted_gone {tallies' = tallies'} o o_is updates = record {
     low = subst (λ l. AllByRecursion (λ k. k < 65536) (keys_of l)) (sym g.new_rows) (low_less (λ k. k < 65536) (is_at (nat_cmp r)) rows g.was.low);
     tallied = λ q. updates q ∙ (λ i. cond (order_tells v.fork q i) o (g.was.tallied q i)) ∙ elim (is_one_fork v.fork q) as (λ b. is_one_fork v.fork q ≡ b → cond b o (tally_of (opens_of rows) q) ≡ tally_of (opens_of rows') q) [
@@ -397,13 +397,13 @@ module _ {rows rows' : List (ℕ × Opened)} {tallies : List (Fork × Tally)} {r
     apart = ap (are_apart are_in_conflict) (ap opens_of g.new_rows ∙ shows_less rows r g.rise) ∙ apart_filter are_in_conflict (λ o. not (o.reference == r)) (opens_of rows) g.was.apart;
   }
 
-  pub last_gone : {tallies' : List (Fork × Tally)} (t left : Tally) → Some t ≡ at fork_cmp tallies v.fork → left ≡ tally_without t v.mode → left.opens ≡ 0 → ((q : Fork) → at fork_cmp tallies' q ≡ update (eq_by_cmp fork_cmp) (at fork_cmp tallies) v.fork None q) → IsCounted rows' tallies'
+  pub last_gone : {tallies' : List (Fork × ForkTally)} (t left : ForkTally) → Some t ≡ at fork_cmp tallies v.fork → left ≡ tally_without t v.mode → left.opens ≡ 0 → ((q : Fork) → at fork_cmp tallies' q ≡ update (eq_by_cmp fork_cmp) (at fork_cmp tallies) v.fork None q) → IsTallied rows' tallies'
   last_gone t left found is none updates =
       let n : length (filter (λ o. is_one_fork o.fork v.fork) (opens_of rows')) ≡ 0 = sym (λ i. (left_is t left found is i).opens) ∙ none in
       let no_one : is_fork_open (opens_of rows') v.fork ≡ false = sym (some_left (λ o. is_one_fork o.fork v.fork) (opens_of rows')) ∙ ap (nat_lt 0) n in
       counted_gone None (sym (λ i. if no_one i then Some (full (opens_of rows') v.fork) else None)) updates
 
-  pub one_gone : {tallies' : List (Fork × Tally)} (t left : Tally) → Some t ≡ at fork_cmp tallies v.fork → left ≡ tally_without t v.mode → (left.opens ≡ 0 → ⊥) → ((q : Fork) → at fork_cmp tallies' q ≡ update (eq_by_cmp fork_cmp) (at fork_cmp tallies) v.fork (Some left) q) → IsCounted rows' tallies'
+  pub one_gone : {tallies' : List (Fork × ForkTally)} (t left : ForkTally) → Some t ≡ at fork_cmp tallies v.fork → left ≡ tally_without t v.mode → (left.opens ≡ 0 → ⊥) → ((q : Fork) → at fork_cmp tallies' q ≡ update (eq_by_cmp fork_cmp) (at fork_cmp tallies) v.fork (Some left) q) → IsTallied rows' tallies'
   one_gone t left found is some updates =
       let opens_is : left.opens ≡ length (filter (λ o. is_one_fork o.fork v.fork) (opens_of rows')) = λ i. (left_is t left found is i).opens in
       let n : nat_lt 0 left.opens ≡ true = grind (arith, nat_tests, some) in
@@ -446,7 +446,7 @@ tally_exchanged a b q os =
 pub exchange_shows : {rows' : List (ℕ × Opened)} {whole : List Open} (rows : List (ℕ × Opened)) (a b : Fork) → opens_of rows ≡ whole → rows' ≡ map (exchange_row a b) rows → opens_of rows' ≡ exchanged_opens a b whole
 exchange_shows rows a b shown is = ap opens_of is ∙ shows_exchanged a b rows ∙ ap (exchanged_opens a b) shown
 
-pub exchange_counted : {rows rows' : List (ℕ × Opened)} {tallies tallies' : List (Fork × Tally)} (a b : Fork) → IsCounted rows tallies → rows' ≡ map (exchange_row a b) rows → ((q : Fork) → at fork_cmp tallies' q ≡ exchanged fork_cmp (at fork_cmp tallies) a b q) → IsCounted rows' tallies'
+pub exchange_counted : {rows rows' : List (ℕ × Opened)} {tallies tallies' : List (Fork × ForkTally)} (a b : Fork) → IsTallied rows tallies → rows' ≡ map (exchange_row a b) rows → ((q : Fork) → at fork_cmp tallies' q ≡ exchanged fork_cmp (at fork_cmp tallies) a b q) → IsTallied rows' tallies'
 exchange_counted {rows = rows} {rows' = rows'} {tallies = tallies} a b w is updates =
     let shown : opens_of rows' ≡ exchanged_opens a b (opens_of rows) = ap opens_of is ∙ shows_exchanged a b rows in
     record {

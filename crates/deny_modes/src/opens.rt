@@ -21,7 +21,7 @@ struct Opened {
 
 /// The opens of a fork: the four counters, and how many there are.
 #[derive(Clone, Copy)]
-struct Tally {
+struct ForkTally {
     counts: [u32; 4],
     opens: u32,
 }
@@ -32,20 +32,20 @@ struct Tally {
 #[derive(Drop)]
 pub struct Opens {
     rows: SortedMap<u16, Opened>,
-    tallies: SortedMap<ForkKey, Tally>,
+    tallies: SortedMap<ForkKey, ForkTally>,
 }
 
 impl Model for Opens {
     ghost use Rattle.std.specs.Prelude.{List};
     ghost use Rattle.deny_modes.specs.Opens.{Open};
     ghost use Rattle.deny_modes.specs.Counters.{opens_of};
-    ghost use Rattle.deny_modes.specs.lemma.Counters.{IsCounted};
+    ghost use Rattle.deny_modes.specs.lemma.Counters.{IsTallied};
 
     ghost Value = { List Open };
 
     ghost view = { λ o. opens_of o.rows };
 
-    ghost invariant = { λ o. IsCounted o.rows o.tallies };
+    ghost invariant = { λ o. IsTallied o.rows o.tallies };
 }
 
 impl Opens {
@@ -132,14 +132,14 @@ impl Opens {
 }
 
 /// The tally of a fork with one more open.
-fn one_more(tallies: &SortedMap<ForkKey, Tally>, fork: ForkKey, mode: &Mode) -> Tally
+fn one_more(tallies: &SortedMap<ForkKey, ForkTally>, fork: ForkKey, mode: &Mode) -> ForkTally
     requires { CanCount (unwrap_or (at fork_cmp tallies.now fork) no_tally) }
     ensures { result ≡ tally_with (unwrap_or (at fork_cmp tallies.now fork) no_tally) mode.now }
 {
     match tallies.get(fork) {
         Some(tally) => with_one(tally, mode),
         None => with_one(
-            &Tally {
+            &ForkTally {
                 counts: [0; 4],
                 opens: 0,
             },
@@ -179,11 +179,11 @@ fn in_exchange(a: &ForkKey, b: &ForkKey, fork: &ForkKey) -> ForkKey
 }
 
 /// A tally with one more open.
-fn with_one(tally: &Tally, mode: &Mode) -> Tally
+fn with_one(tally: &ForkTally, mode: &Mode) -> ForkTally
     requires { CanCount tally.now }
     ensures { result ≡ tally_with tally.now mode.now }
 {
-    Tally {
+    ForkTally {
         counts: [
             tally.counts[0] + u32::from(mode.read),
             tally.counts[1] + u32::from(mode.write),
@@ -195,11 +195,11 @@ fn with_one(tally: &Tally, mode: &Mode) -> Tally
 }
 
 /// A tally with one open fewer.
-fn without_one(tally: &Tally, mode: &Mode) -> Tally
+fn without_one(tally: &ForkTally, mode: &Mode) -> ForkTally
     requires { HasOpen tally.now mode.now }
     ensures { result ≡ tally_without tally.now mode.now }
 {
-    Tally {
+    ForkTally {
         counts: [
             tally.counts[0] - u32::from(mode.read),
             tally.counts[1] - u32::from(mode.write),

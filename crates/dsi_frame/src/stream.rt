@@ -35,7 +35,7 @@ impl Model for OwnedFrame {
 impl OwnedFrame {
     ghost use Rattle.dsi_frame.specs.Frame.{header_of};
 
-    /// The header.
+    /// The fields of its first 16 bytes.
     pub fn header(&self) -> Header
         ensures { result ≡ header_of self.now }
     {

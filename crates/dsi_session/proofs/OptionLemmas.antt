@@ -6,7 +6,7 @@ use Rattle.std.proofs.lemmas.List.Elements.{filter_map-append}
 use Rattle.std.proofs.lemmas.Bool.{cases_lt}
 use Rattle.std.specs.List.{flat_map, filter_map, last_or}
 use Rattle.std.proofs.lemmas.Grind.{flat_map-append}
-use Rattle.dsi_session.specs.Options.{SessionOption, option_spelling, AreOptions, StopsAt, attention_in, attention_of, default_attention_quantum}
+use Rattle.dsi_session.specs.Options.{SessionOption, option_spelling, AreOptions, OptionsStopAt, attention_in, attention_of, default_attention_quantum}
 
 -- no option stands at the front of the bytes
 abbrev pub HasNone : List ℕ → Type 0
@@ -51,7 +51,7 @@ with_nothing : (payload : List ℕ) (options : List SessionOption) → AreOption
 with_nothing payload options e = e ∙ sym (append-nil (flat_map option_spelling options))
 
 -- the laws
-pub exclusive : (payload : List ℕ) (options others : List SessionOption) (at : ℕ) → AreOptions payload options → StopsAt payload others at → ⊥
+pub exclusive : (payload : List ℕ) (options others : List SessionOption) (at : ℕ) → AreOptions payload options → OptionsStopAt payload others at → ⊥
 exclusive payload options others at e stop =
     let parts = one_row options others [] stop.left nothing_has_none stop.no_option (sym (with_nothing payload options e) ∙ stop.whole) in
     stop.some_left (sym parts.1)
@@ -61,7 +61,7 @@ one_list payload options others e f =
     let parts = one_row options others [] [] nothing_has_none nothing_has_none (sym (with_nothing payload options e) ∙ with_nothing payload others f) in
     parts.0
 
-pub one_place : (payload : List ℕ) (options others : List SessionOption) (at place : ℕ) → StopsAt payload options at → StopsAt payload others place → (options ≡ others) × (at ≡ place)
+pub one_place : (payload : List ℕ) (options others : List SessionOption) (at place : ℕ) → OptionsStopAt payload options at → OptionsStopAt payload others place → (options ≡ others) × (at ≡ place)
 one_place payload options others at place s t =
     let parts = one_row options others s.left t.left s.no_option t.no_option (sym s.whole ∙ t.whole) in
     (parts.0, s.place ∙ ap (λ os. length (flat_map option_spelling os)) parts.0 ∙ sym t.place)
@@ -94,7 +94,7 @@ front (kind ∷ size ∷ rest) = elim (cases_lt (length rest) size) [
 
 -- a payload is options, or it stops
 abbrev pub Read : List ℕ → Type 0
-Read payload = ((options : List SessionOption) × AreOptions payload options) ⊎ ((options : List SessionOption) × (at : ℕ) × StopsAt payload options at)
+Read payload = ((options : List SessionOption) × AreOptions payload options) ⊎ ((options : List SessionOption) × (at : ℕ) × OptionsStopAt payload options at)
 
 -- an option before what is read
 read_before : (bytes more : List ℕ) (option : SessionOption) → bytes ≡ option_spelling option ++ more → Read more → Read bytes

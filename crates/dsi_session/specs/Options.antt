@@ -42,7 +42,7 @@ abbrev pub AreOptions : List ℕ → List SessionOption → Type 0
 AreOptions payload options = payload ≡ flat_map option_spelling options
 
 -- these options fill the payload up to the place `at`, where bytes are left that begin with no option
-pub record StopsAt (payload : List ℕ) (options : List SessionOption) (at : ℕ) : Type 0 where
+pub record OptionsStopAt (payload : List ℕ) (options : List SessionOption) (at : ℕ) : Type 0 where
   pub left : List ℕ
   pub whole : payload ≡ flat_map option_spelling options ++ left
   pub place : at ≡ length (flat_map option_spelling options)

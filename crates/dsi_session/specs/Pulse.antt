@@ -3,12 +3,12 @@ use Rattle.std.specs.Prelude.{ℕ, ◌-◌, ◌≤◌, ◌<◌}
 use Rattle.dsi_session.specs.declared.pulse.Due.{Due}
 use Rattle.dsi_session.specs.declared.pulse.Due.TheVariants.{Nothing, Tickle, Silent}
 
--- the moments at which the peer was last heard and last written to, in seconds since 2000-01-01 00:00 GMT
+-- the moments at which the peer was last read from and last written to, in seconds since 2000-01-01 00:00 GMT
 pub record Moments : Type 0 where
-  pub heard : ℕ
-  pub wrote : ℕ
+  pub last_read : ℕ
+  pub last_write : ℕ
 
--- seconds in which nothing was heard, after which a link is silent
+-- seconds in which nothing was read, after which a link is silent
 abbrev pub silence_limit : ℕ
 silence_limit = 120
 
@@ -22,6 +22,6 @@ seconds_between last now = now - last
 
 -- what is due at a moment: silence goes first
 abbrev pub IsDue : Moments → ℕ → Due → Type 0
-IsDue pulse now Silent = silence_limit ≤ seconds_between pulse.heard now
-IsDue pulse now Tickle = (seconds_between pulse.heard now < silence_limit) × (tickle_limit ≤ seconds_between pulse.wrote now)
-IsDue pulse now Nothing = (seconds_between pulse.heard now < silence_limit) × (seconds_between pulse.wrote now < tickle_limit)
+IsDue pulse now Silent = silence_limit ≤ seconds_between pulse.last_read now
+IsDue pulse now Tickle = (seconds_between pulse.last_read now < silence_limit) × (tickle_limit ≤ seconds_between pulse.last_write now)
+IsDue pulse now Nothing = (seconds_between pulse.last_read now < silence_limit) × (seconds_between pulse.last_write now < tickle_limit)

@@ -1,7 +1,7 @@
 //! The options by which a session is opened.
 ghost use Rattle.std.specs.Prelude.{◌≡◌, ◌≢◌, ℕ, ◌++◌, List, length, IfSome, IfNone, IfOk, IfErr};
 ghost use Rattle.std.specs.List.{flat_map};
-ghost use Rattle.dsi_session.specs.Options.{SessionOption, AreOptions, StopsAt, attention_in, attention_of, option_spelling, server_options};
+ghost use Rattle.dsi_session.specs.Options.{SessionOption, AreOptions, OptionsStopAt, attention_in, attention_of, option_spelling, server_options};
 
 use afp_base::REPLAY_CACHE_SIZE;
 use byteorder::{BigEndian, ByteOrder};
@@ -99,7 +99,7 @@ impl<'a> FoundOption<'a> {
 /// none; all others are skipped. An option that does not fit is bad.
 pub fn read_options(payload: &[u8]) -> Result<OpenOptions, BadOptions>
     ensures options { IfOk result (λ read. (options : List SessionOption) × AreOptions payload.now options × (read.attention ≡ attention_of options)) }
-    ensures bad { IfErr result (λ bad. (options : List SessionOption) × StopsAt payload.now options bad.at) }
+    ensures bad { IfErr result (λ bad. (options : List SessionOption) × OptionsStopAt payload.now options bad.at) }
 {
     let mut attention = DEFAULT_ATTENTION_QUANTUM;
     let mut at = 0;

@@ -5,7 +5,7 @@ ghost use Rattle.dsi_session.specs.Pulse.{IsDue, seconds_between};
 use afp_base::Moment;
 use std::marker::Model;
 
-/// Seconds in which nothing was heard, after which a link is silent.
+/// Seconds in which nothing was read, after which a link is silent.
 const SILENCE_LIMIT: u32 = 120;
 
 /// Seconds in which nothing was written, after which a tickle is due.
@@ -19,13 +19,13 @@ pub enum Due {
     Silent,
 }
 
-/// When the peer of a link was last heard, and last written to.
+/// When the peer of a link was last read from, and last written to.
 ///
 /// Contracts see these two moments.
 #[derive(Debug, Drop)]
 pub struct Pulse {
-    heard: Moment,
-    wrote: Moment,
+    last_read: Moment,
+    last_write: Moment,
 }
 
 impl Model for Pulse {
@@ -33,43 +33,43 @@ impl Model for Pulse {
 
     ghost Value = { Moments };
 
-    ghost view = { λ pulse. record { heard = pulse.heard; wrote = pulse.wrote } };
+    ghost view = { λ pulse. record { last_read = pulse.last_read; last_write = pulse.last_write } };
 }
 
 impl Pulse {
     /// The pulse of a link that was made now.
     pub fn new(now: Moment) -> Pulse
-        ensures { result ≡ record { heard = now; wrote = now } }
+        ensures { result ≡ record { last_read = now; last_write = now } }
     {
         Pulse {
-            heard: now,
-            wrote: now,
+            last_read: now,
+            last_write: now,
         }
     }
 
-    /// The peer was heard now. That moment counts from here on, also where it is an earlier one.
-    pub fn heard(&mut self, now: Moment)
-        ensures { self.new ≡ record { heard = now; wrote = self.old.wrote } }
+    /// The peer was read from now. That moment counts from here on, also where it is an earlier one.
+    pub fn note_read(&mut self, now: Moment)
+        ensures { self.new ≡ record { last_read = now; last_write = self.old.last_write } }
     {
-        self.heard = now;
+        self.last_read = now;
     }
 
     /// The peer was written to now. That moment counts from here on, also where it is an earlier one.
-    pub fn wrote(&mut self, now: Moment)
-        ensures { self.new ≡ record { heard = self.old.heard; wrote = now } }
+    pub fn note_write(&mut self, now: Moment)
+        ensures { self.new ≡ record { last_read = self.old.last_read; last_write = now } }
     {
-        self.wrote = now;
+        self.last_write = now;
     }
 
-    /// What is due now: `Silent` where 120 seconds or more have passed since the peer was last heard,
+    /// What is due now: `Silent` where 120 seconds or more have passed since the peer was last read from,
     /// else `Tickle` where 30 or more have passed since it was last written to. No time has passed
     /// where now comes before that moment.
     pub fn due(&self, now: Moment) -> Due
         ensures { IsDue self.now now result }
     {
-        if seconds_between(self.heard, now) >= SILENCE_LIMIT {
+        if seconds_between(self.last_read, now) >= SILENCE_LIMIT {
             Due::Silent
-        } else if seconds_between(self.wrote, now) >= TICKLE_LIMIT {
+        } else if seconds_between(self.last_write, now) >= TICKLE_LIMIT {
             Due::Tickle
         } else {
             Due::Nothing

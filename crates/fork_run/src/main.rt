@@ -1,5 +1,5 @@
 //! Runs the bytes of a fork, opens with their deny modes, byte-range locks and the table of open forks over lines of the standard
-//! input. Behind each line it prints what came of it. A line that is empty or begins with `#` is passed over.
+//! input. Behind each line it prints its result. A line that is empty or begins with `#` is passed over.
 #![tactic(auto)]
 
 mod forks;
@@ -12,17 +12,17 @@ mod tables;
 
 use afp_base::OutOfMemory;
 use line::{Line, line_of};
-use run::{Came, Run};
+use run::{LineResult, Run};
 use std::io;
 use std::io::ErrorKind;
 
-/// Prints a line, and what came of it; bytes in hexadecimal digits.
-fn print_came(rt: &HostRuntime, text: &str, came: &Came) -> io::Result<()> {
-    match came {
-        Came::Nothing => println!(rt; "{text} -> -"),
-        Came::Number(number) => println!(rt; "{text} -> {number}"),
-        Came::Word(word) => println!(rt; "{text} -> {word}"),
-        Came::Bytes(bytes) => {
+/// Prints a line, and its result; bytes in hexadecimal digits.
+fn print_result(rt: &HostRuntime, text: &str, result: &LineResult) -> io::Result<()> {
+    match result {
+        LineResult::Nothing => println!(rt; "{text} -> -"),
+        LineResult::Number(number) => println!(rt; "{text} -> {number}"),
+        LineResult::Word(word) => println!(rt; "{text} -> {word}"),
+        LineResult::Bytes(bytes) => {
             let digits = hex::encode(rt.alloc(), bytes.as_slice())?;
             println!(rt; "{text} -> {digits}")
         }
@@ -31,7 +31,7 @@ fn print_came(rt: &HostRuntime, text: &str, came: &Came) -> io::Result<()> {
 
 fn run_line(rt: &HostRuntime, run: &mut Run, text: &str, line: &Line<'_>) -> io::Result<()> {
     match run.answer(rt.alloc(), line) {
-        Ok(came) => print_came(rt, text, &came),
+        Ok(result) => print_result(rt, text, &result),
         Err(OutOfMemory) => Err(io::Error::from(ErrorKind::OutOfMemory)),
     }
 }

@@ -19,71 +19,71 @@ pub struct Run {
 
 /// What comes of a line.
 #[derive(Drop)]
-pub enum Came {
+pub enum LineResult {
     Nothing,
     Number(u64),
     Word(&'static str),
     Bytes(Bytes),
 }
 
-fn yes(holds: bool) -> Came {
-    Came::Word(if holds { "yes" } else { "no" })
+fn yes(holds: bool) -> LineResult {
+    LineResult::Word(if holds { "yes" } else { "no" })
 }
 
 /// What comes of a line on the bytes of a fork.
-fn of_fork(alloc: Global, fork: &mut Fork, line: &Line<'_>) -> Result<Came, OutOfMemory> {
+fn of_fork(alloc: Global, fork: &mut Fork, line: &Line<'_>) -> Result<LineResult, OutOfMemory> {
     match line.kind {
-        Kind::Write | Kind::Resize => Ok(Came::Number(forks::change(alloc, fork, line)? as u64)),
-        Kind::Read | Kind::Line => Ok(Came::Bytes(forks::read(alloc, fork, line)?)),
+        Kind::Write | Kind::Resize => Ok(LineResult::Number(forks::change(alloc, fork, line)? as u64)),
+        Kind::Read | Kind::Line => Ok(LineResult::Bytes(forks::read(alloc, fork, line)?)),
         Kind::Stopped | Kind::Blocks | Kind::CopyLength => {
-            Ok(Came::Number(forks::count(alloc, fork, line)?))
+            Ok(LineResult::Number(forks::count(alloc, fork, line)?))
         }
-        _ => Ok(Came::Number(forks::planned(alloc, fork, line)?)),
+        _ => Ok(LineResult::Number(forks::planned(alloc, fork, line)?)),
     }
 }
 
 /// What comes of a line on the opens.
-fn of_opens(opens: &mut Opens, line: &Line<'_>) -> Result<Came, OutOfMemory> {
+fn of_opens(opens: &mut Opens, line: &Line<'_>) -> Result<LineResult, OutOfMemory> {
     match line.kind {
         Kind::May => Ok(yes(opens::may(opens, line))),
         Kind::Counter => match opens::counter(opens, line) {
-            Some(count) => Ok(Came::Number(count)),
-            None => Ok(Came::Nothing),
+            Some(count) => Ok(LineResult::Number(count)),
+            None => Ok(LineResult::Nothing),
         },
         _ => Ok(yes(opens::change(opens, line)?)),
     }
 }
 
 /// What comes of a line on the locks.
-fn of_locks(locks: &mut Locks, line: &Line<'_>) -> Came {
+fn of_locks(locks: &mut Locks, line: &Line<'_>) -> LineResult {
     match line.kind {
         Kind::Blocked => yes(locks::blocked(locks, line)),
-        Kind::Intervals => Came::Number(locks::intervals(locks, line) as u64),
-        _ => Came::Word(locks::change(locks, line)),
+        Kind::Intervals => LineResult::Number(locks::intervals(locks, line) as u64),
+        _ => LineResult::Word(locks::change(locks, line)),
     }
 }
 
 /// What comes of an open.
-fn of_open(table: &mut ForkTable, line: &Line<'_>) -> Came {
+fn of_open(table: &mut ForkTable, line: &Line<'_>) -> LineResult {
     let opened = if line.kind == Kind::Open {
         tables::open(table, line)
     } else {
         tables::open_many(table, line)
     };
     match opened {
-        Ok(r) => Came::Number(u64::from(r.0)),
-        Err(fault) => Came::Word(tables::fault_word(fault)),
+        Ok(r) => LineResult::Number(u64::from(r.0)),
+        Err(fault) => LineResult::Word(tables::fault_word(fault)),
     }
 }
 
 /// What comes of a line on the table of open forks.
-fn of_table(table: &mut ForkTable, line: &Line<'_>) -> Came {
+fn of_table(table: &mut ForkTable, line: &Line<'_>) -> LineResult {
     match line.kind {
         Kind::Open | Kind::OpenMany => of_open(table, line),
         Kind::Get | Kind::Busy | Kind::MayOpen | Kind::Opened | Kind::OwnBlocked => {
             yes(tables::asked(table, line))
         }
-        _ => Came::Word(tables::change(table, line)),
+        _ => LineResult::Word(tables::change(table, line)),
     }
 }
 
@@ -98,11 +98,11 @@ impl Run {
     }
 
     /// What comes of a line.
-    pub fn answer(&mut self, alloc: Global, line: &Line<'_>) -> Result<Came, OutOfMemory> {
+    pub fn answer(&mut self, alloc: Global, line: &Line<'_>) -> Result<LineResult, OutOfMemory> {
         match line.kind {
             Kind::New => {
                 *self = Run::new(alloc);
-                Ok(Came::Nothing)
+                Ok(LineResult::Nothing)
             }
             Kind::May | Kind::Note | Kind::Forget | Kind::Counter | Kind::SwapOpens => {
                 of_opens(&mut self.opens, line)

@@ -1,5 +1,5 @@
 //! Runs calls on a volume beside a keeper in memory, one of whose calls may fail, over lines of the standard input. Behind each line it
-//! prints what came of it: a number, the code of a refusal, a word, or a change of a record. A line that is empty or begins with `#` is passed
+//! prints its result: a number, the code of a refusal, a word, or a change of a record. A line that is empty or begins with `#` is passed
 //! over.
 #![tactic(auto)]
 
@@ -11,7 +11,7 @@ mod spent;
 
 use afp_base::{NodeId, OutOfMemory};
 use record_keeper::Change;
-use run::{Came, Run};
+use run::{LineResult, Run};
 use std::alloc::Global;
 use std::io;
 use std::io::ErrorKind;
@@ -43,8 +43,8 @@ fn word_at<'a>(words: &[&'a str], i: usize) -> &'a str {
     if i >= words.len() { "" } else { words[i] }
 }
 
-/// What comes of the words of a line.
-fn came(alloc: Global, run: &mut Run, words: &[&str]) -> Came {
+/// The result of the words of a line.
+fn run_line(alloc: Global, run: &mut Run, words: &[&str]) -> LineResult {
     let dir = NodeId(number_at(words, 1));
     let text = word_at(words, 2);
     match word_at(words, 0) {
@@ -54,20 +54,20 @@ fn came(alloc: Global, run: &mut Run, words: &[&str]) -> Came {
         "open_dir" => run.open_dir(alloc, dir, text),
         "size" => run.size(alloc, dir, place_at(words, 2)),
         "write" => run.write(alloc, dir, place_at(words, 2), word_at(words, 3)),
-        "changes" => Came::Number(run.changes().len() as u64),
+        "changes" => LineResult::Number(run.changes().len() as u64),
         "count" => run.count(),
         "next" => run.next(),
         "settle" => run.settle(),
-        _ => Came::Word("no such line"),
+        _ => LineResult::Word("no such line"),
     }
 }
 
-/// Prints a line, and what came of it.
-fn print_came(rt: &HostRuntime, line: &str, came: Came) -> io::Result<()> {
-    match came {
-        Came::Number(number) => println!(rt; "{line} -> {number}"),
-        Came::Code(code) => println!(rt; "{line} -> {code}"),
-        Came::Word(word) => println!(rt; "{line} -> {word}"),
+/// Prints a line, and its result.
+fn print_result(rt: &HostRuntime, line: &str, result: LineResult) -> io::Result<()> {
+    match result {
+        LineResult::Number(number) => println!(rt; "{line} -> {number}"),
+        LineResult::Code(code) => println!(rt; "{line} -> {code}"),
+        LineResult::Word(word) => println!(rt; "{line} -> {word}"),
     }
 }
 
@@ -107,7 +107,7 @@ fn renew(
         Ok(new) => {
             let word = if new.is_some() { "ok" } else { "failed" };
             *run = new;
-            print_came(rt, line, Came::Word(word))
+            print_result(rt, line, LineResult::Word(word))
         }
         Err(OutOfMemory) => Err(io::Error::from(ErrorKind::OutOfMemory)),
     }
@@ -116,11 +116,11 @@ fn renew(
 /// What the words of a line do to a volume, or tell of it.
 fn run_words(rt: &HostRuntime, run: &mut Run, line: &str, words: &[&str]) -> io::Result<()> {
     if word_at(words, 0) != "change" {
-        return print_came(rt, line, came(rt.alloc(), run, words));
+        return print_result(rt, line, run_line(rt.alloc(), run, words));
     }
     match run.changes().get(number_at(words, 1) as usize) {
         Some(change) => print_change(rt, line, change),
-        None => print_came(rt, line, Came::Word("none")),
+        None => print_result(rt, line, LineResult::Word("none")),
     }
 }
 
@@ -138,7 +138,7 @@ fn run_text(rt: &HostRuntime, run: &mut Option<Run>, line: &str) -> io::Result<(
     }
     match run {
         Some(run) => run_words(rt, run, line, words.as_slice()),
-        None => print_came(rt, line, Came::Word("no volume")),
+        None => print_result(rt, line, LineResult::Word("no volume")),
     }
 }
 

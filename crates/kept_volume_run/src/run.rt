@@ -22,7 +22,7 @@ pub struct Run {
 
 /// What comes of a line: a number, or a word.
 #[derive(Clone, Copy)]
-pub enum Came {
+pub enum LineResult {
     Number(u64),
     Code(i32),
     Word(&'static str),
@@ -40,12 +40,12 @@ fn path_of(alloc: Global, text: &str) -> Option<Path> {
 }
 
 /// What comes of a change of the volume.
-fn came_of(changed: Result<(), ChangeFault>) -> Came {
+fn change_result(changed: Result<(), ChangeFault>) -> LineResult {
     match changed {
-        Ok(()) => Came::Word("ok"),
-        Err(ChangeFault::Refused(code)) => Came::Code(code.number()),
-        Err(ChangeFault::Failed) => Came::Word("failed"),
-        Err(ChangeFault::Memory) => Came::Word("no memory"),
+        Ok(()) => LineResult::Word("ok"),
+        Err(ChangeFault::Refused(code)) => LineResult::Code(code.number()),
+        Err(ChangeFault::Failed) => LineResult::Word("failed"),
+        Err(ChangeFault::Memory) => LineResult::Word("no memory"),
     }
 }
 
@@ -81,18 +81,18 @@ impl Run {
     }
 
     /// What comes of a call that changes the volume, with no fork open.
-    fn change(&mut self, alloc: Global, call: &Call) -> Came
+    fn change(&mut self, alloc: Global, call: &Call) -> LineResult
         requires { IsSome (tree_call call.now) }
     {
         let none = Opens::new(alloc);
         let opens = none.on(VolumeId(1));
-        came_of(self.kept.change(alloc, self.now, &opens, call))
+        change_result(self.kept.change(alloc, self.now, &opens, call))
     }
 
     /// Asks FPCreateDir of volume 1: directory ID, pathname. A text that is no path asks nothing.
-    pub fn create_dir(&mut self, alloc: Global, dir: NodeId, text: &str) -> Came {
+    pub fn create_dir(&mut self, alloc: Global, dir: NodeId, text: &str) -> LineResult {
         let Some(path) = path_of(alloc, text) else {
-            return Came::Word("no path");
+            return LineResult::Word("no path");
         };
         let call = Call::CreateDir {
             volume: VolumeId(1),
@@ -103,9 +103,9 @@ impl Run {
     }
 
     /// Asks FPCreateFile of volume 1: flag 0 (soft), directory ID, pathname, as FPCreateDir above.
-    pub fn create_file(&mut self, alloc: Global, dir: NodeId, text: &str) -> Came {
+    pub fn create_file(&mut self, alloc: Global, dir: NodeId, text: &str) -> LineResult {
         let Some(path) = path_of(alloc, text) else {
-            return Came::Word("no path");
+            return LineResult::Word("no path");
         };
         let call = Call::CreateFile {
             flag: 0,
@@ -117,9 +117,9 @@ impl Run {
     }
 
     /// Asks FPDelete of volume 1: directory ID, pathname, as FPCreateDir above.
-    pub fn delete(&mut self, alloc: Global, dir: NodeId, text: &str) -> Came {
+    pub fn delete(&mut self, alloc: Global, dir: NodeId, text: &str) -> LineResult {
         let Some(path) = path_of(alloc, text) else {
-            return Came::Word("no path");
+            return LineResult::Word("no path");
         };
         let call = Call::Delete {
             volume: VolumeId(1),
@@ -130,25 +130,25 @@ impl Run {
     }
 
     /// The data fork of a file gets another length.
-    pub fn size(&mut self, alloc: Global, file: NodeId, length: u64) -> Came {
+    pub fn size(&mut self, alloc: Global, file: NodeId, length: u64) -> LineResult {
         if !self.kept.has_file(file) {
-            return Came::Word("no file");
+            return LineResult::Word("no file");
         }
-        came_of(
+        change_result(
             self.kept
                 .set_fork_length(alloc, self.now, file, false, length),
         )
     }
 
     /// Bytes are written to the data fork of a file, the first of them at a place.
-    pub fn write(&mut self, alloc: Global, file: NodeId, place: u64, digits: &str) -> Came {
+    pub fn write(&mut self, alloc: Global, file: NodeId, place: u64, digits: &str) -> LineResult {
         if !self.kept.has_file(file) {
-            return Came::Word("no file");
+            return LineResult::Word("no file");
         }
         let Ok(piece) = hex::decode(alloc, digits) else {
-            return Came::Word("no bytes");
+            return LineResult::Word("no bytes");
         };
-        came_of(
+        change_result(
             self.kept
                 .write_fork(alloc, self.now, file, false, place, piece.as_slice()),
         )
@@ -160,33 +160,33 @@ impl Run {
     }
 
     /// How many nodes there are.
-    pub fn count(&self) -> Came {
-        Came::Number(self.kept.count() as u64)
+    pub fn count(&self) -> LineResult {
+        LineResult::Number(self.kept.count() as u64)
     }
 
     /// The id that the next new node draws.
-    pub fn next(&self) -> Came {
-        Came::Number(self.kept.next_id())
+    pub fn next(&self) -> LineResult {
+        LineResult::Number(self.kept.next_id())
     }
 
     /// The id of the directory to which a path leads.
-    pub fn open_dir(&self, alloc: Global, dir: NodeId, text: &str) -> Came {
+    pub fn open_dir(&self, alloc: Global, dir: NodeId, text: &str) -> LineResult {
         let Some(path) = path_of(alloc, text) else {
-            return Came::Word("no path");
+            return LineResult::Word("no path");
         };
         match self.kept.open_dir(alloc, dir, &path) {
-            Ok(id) => Came::Number(u64::from(id.0)),
-            Err(PlanFault::Code(code)) => Came::Code(code.number()),
-            Err(PlanFault::Memory) => Came::Word("no memory"),
+            Ok(id) => LineResult::Number(u64::from(id.0)),
+            Err(PlanFault::Code(code)) => LineResult::Code(code.number()),
+            Err(PlanFault::Memory) => LineResult::Word("no memory"),
         }
     }
 
     /// The keeper settles.
-    pub fn settle(&mut self) -> Came {
+    pub fn settle(&mut self) -> LineResult {
         match self.kept.settle() {
-            Ok(()) => Came::Word("ok"),
-            Err(KeeperFault::Failed) => Came::Word("failed"),
-            Err(KeeperFault::Memory) => Came::Word("no memory"),
+            Ok(()) => LineResult::Word("ok"),
+            Err(KeeperFault::Failed) => LineResult::Word("failed"),
+            Err(KeeperFault::Memory) => LineResult::Word("no memory"),
         }
     }
 }

@@ -1,5 +1,5 @@
-//! Loads volumes from a keeper in memory, over lines of the standard input that put its records. Behind each line it prints what
-//! came of it. A line that is empty or begins with `#` is passed over.
+//! Loads volumes from a keeper in memory, over lines of the standard input that put its records. Behind each line it prints
+//! its result. A line that is empty or begins with `#` is passed over.
 #![tactic(auto)]
 
 mod line;
@@ -8,21 +8,21 @@ mod run;
 
 use afp_base::OutOfMemory;
 use line::{Line, line_of};
-use run::{Came, Run};
+use run::{LineResult, Run};
 use std::io;
 use std::io::ErrorKind;
 
-/// Prints a line, and what came of it; bytes in hexadecimal digits.
-fn print_came(rt: &HostRuntime, text: &str, came: &Came) -> io::Result<()> {
-    match came {
-        Came::Nothing => println!(rt; "{text} -> -"),
-        Came::Number(number) => println!(rt; "{text} -> {number}"),
-        Came::Word(word) => println!(rt; "{text} -> {word}"),
-        Came::Bytes(bytes) => {
+/// Prints a line, and its result; bytes in hexadecimal digits.
+fn print_result(rt: &HostRuntime, text: &str, result: &LineResult) -> io::Result<()> {
+    match result {
+        LineResult::Nothing => println!(rt; "{text} -> -"),
+        LineResult::Number(number) => println!(rt; "{text} -> {number}"),
+        LineResult::Word(word) => println!(rt; "{text} -> {word}"),
+        LineResult::Bytes(bytes) => {
             let digits = hex::encode(rt.alloc(), bytes.as_slice())?;
             println!(rt; "{text} -> {digits}")
         }
-        Came::Bad(key, reason) => {
+        LineResult::Bad(key, reason) => {
             let digits = hex::encode(rt.alloc(), key.as_slice())?;
             println!(rt; "{text} -> bad {digits} {reason}")
         }
@@ -31,7 +31,7 @@ fn print_came(rt: &HostRuntime, text: &str, came: &Came) -> io::Result<()> {
 
 fn run_line(rt: &HostRuntime, run: &mut Run, text: &str, line: &Line<'_>) -> io::Result<()> {
     match run.answer(rt.alloc(), line) {
-        Ok(came) => print_came(rt, text, &came),
+        Ok(result) => print_result(rt, text, &result),
         Err(OutOfMemory) => Err(io::Error::from(ErrorKind::OutOfMemory)),
     }
 }

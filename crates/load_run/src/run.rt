@@ -16,7 +16,7 @@ pub struct Run {
 
 /// What comes of a line.
 #[derive(Drop)]
-pub enum Came {
+pub enum LineResult {
     Nothing,
     Number(u64),
     Word(&'static str),
@@ -24,10 +24,10 @@ pub enum Came {
     Bad(RecordKey, &'static str),
 }
 
-fn word_of(fault: KeeperFault) -> Came {
+fn word_of(fault: KeeperFault) -> LineResult {
     match fault {
-        KeeperFault::Failed => Came::Word("failed"),
-        KeeperFault::Memory => Came::Word("memory"),
+        KeeperFault::Failed => LineResult::Word("failed"),
+        KeeperFault::Memory => LineResult::Word("memory"),
     }
 }
 
@@ -84,13 +84,13 @@ fn changes_of(alloc: Global, line: &Line<'_>) -> Result<Vec<Change>, OutOfMemory
     Ok(changes)
 }
 
-/// What came of a load: how many nodes there are, or why there are none.
-fn of_load(loaded: Result<Held, LoadFault>) -> Came {
+/// The result of a load: how many nodes there are, or why there are none.
+fn of_load(loaded: Result<Held, LoadFault>) -> LineResult {
     match loaded {
-        Ok(held) => Came::Number(held.volume.count() as u64),
-        Err(LoadFault::BadRecord { key, reason }) => Came::Bad(key, reason_word(reason)),
-        Err(LoadFault::Failed) => Came::Word("failed"),
-        Err(LoadFault::Memory) => Came::Word("memory"),
+        Ok(held) => LineResult::Number(held.volume.count() as u64),
+        Err(LoadFault::BadRecord { key, reason }) => LineResult::Bad(key, reason_word(reason)),
+        Err(LoadFault::Failed) => LineResult::Word("failed"),
+        Err(LoadFault::Memory) => LineResult::Word("memory"),
     }
 }
 
@@ -101,46 +101,46 @@ impl Run {
         }
     }
 
-    fn change(&mut self, alloc: Global, line: &Line<'_>) -> Result<Came, OutOfMemory> {
+    fn change(&mut self, alloc: Global, line: &Line<'_>) -> Result<LineResult, OutOfMemory> {
         let changes = changes_of(alloc, line)?;
         match self.keeper.commit(alloc, changes.as_slice()) {
-            Ok(()) => Ok(Came::Nothing),
+            Ok(()) => Ok(LineResult::Nothing),
             Err(fault) => Ok(word_of(fault)),
         }
     }
 
-    fn load(&mut self, alloc: Global, line: &Line<'_>) -> Came {
+    fn load(&mut self, alloc: Global, line: &Line<'_>) -> LineResult {
         let Some(now) = Moment::new(line.numbers[0]) else {
-            return Came::Word("no moment");
+            return LineResult::Word("no moment");
         };
         match Name::new(alloc, line.text.as_bytes()) {
             Ok(_) => of_load(load(alloc, &mut self.keeper, line.text, now)),
-            Err(_) => Came::Word("no name"),
+            Err(_) => LineResult::Word("no name"),
         }
     }
 
-    fn read(&mut self, alloc: Global, line: &Line<'_>) -> Result<Came, OutOfMemory> {
+    fn read(&mut self, alloc: Global, line: &Line<'_>) -> Result<LineResult, OutOfMemory> {
         let key = RecordKey::new(bytes_of(alloc, line.text)?);
         match self.keeper.read(alloc, &key) {
-            Ok(Some(value)) => Ok(Came::Bytes(value)),
-            Ok(None) => Ok(Came::Word("none")),
+            Ok(Some(value)) => Ok(LineResult::Bytes(value)),
+            Ok(None) => Ok(LineResult::Word("none")),
             Err(fault) => Ok(word_of(fault)),
         }
     }
 
-    fn count(&mut self, alloc: Global) -> Came {
+    fn count(&mut self, alloc: Global) -> LineResult {
         match read_all(alloc, &mut self.keeper) {
-            Ok(records) => Came::Number(records.len() as u64),
-            Err(_) => Came::Word("unread"),
+            Ok(records) => LineResult::Number(records.len() as u64),
+            Err(_) => LineResult::Word("unread"),
         }
     }
 
     /// What comes of a line.
-    pub fn answer(&mut self, alloc: Global, line: &Line<'_>) -> Result<Came, OutOfMemory> {
+    pub fn answer(&mut self, alloc: Global, line: &Line<'_>) -> Result<LineResult, OutOfMemory> {
         match line.kind {
             Kind::New => {
                 *self = Run::new(alloc);
-                Ok(Came::Nothing)
+                Ok(LineResult::Nothing)
             }
             Kind::Load => Ok(self.load(alloc, line)),
             Kind::Read => self.read(alloc, line),

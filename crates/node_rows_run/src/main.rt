@@ -1,4 +1,4 @@
-//! Runs the nodes of a volume over lines of the standard input. Behind each line it prints what came of it, a number or
+//! Runs the nodes of a volume over lines of the standard input. Behind each line it prints its result, a number or
 //! `none`. A line that is empty or begins with `#` is passed over.
 #![tactic(auto)]
 
@@ -13,9 +13,9 @@ use std::io;
 use std::io::ErrorKind;
 use volume::share;
 
-/// Prints a line, and what came of it.
-fn print_came(rt: &HostRuntime, line: &str, came: Option<u64>) -> io::Result<()> {
-    match came {
+/// Prints a line, and its result.
+fn print_result(rt: &HostRuntime, line: &str, result: Option<u64>) -> io::Result<()> {
+    match result {
         Some(number) => println!(rt; "{line} -> {number}"),
         None => println!(rt; "{line} -> none"),
     }
@@ -23,7 +23,7 @@ fn print_came(rt: &HostRuntime, line: &str, came: Option<u64>) -> io::Result<()>
 
 fn run_line(rt: &HostRuntime, rows: &mut Rows, text: &str, line: &Line<'_>) -> io::Result<()> {
     match answer(rt.alloc(), rows, line) {
-        Ok(came) => print_came(rt, text, came),
+        Ok(result) => print_result(rt, text, result),
         Err(OutOfMemory) => Err(io::Error::from(ErrorKind::OutOfMemory)),
     }
 }

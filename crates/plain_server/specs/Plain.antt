@@ -5,7 +5,7 @@ use Rattle.hex.specs.Hex.{encode_lower}
 use Rattle.kept_volume.specs.Kept.{KeptState}
 use Rattle.volume_keeper.specs.declared.loading.LoadFault.{LoadFault}
 use Rattle.volume_keeper.specs.declared.loading.LoadFault.TheVariants as load
-use Rattle.core_keepers.specs.Loads.{LoadEach, StopsAt}
+use Rattle.core_keepers.specs.Loads.{LoadEach, LoadsStopAt}
 use Rattle.afp_core.specs.ServerState.{ServerState}
 use Rattle.core_state.specs.KeptWorld.{volumes_of}
 use Rattle.afp_core.specs.Sureness.{SureKept}
@@ -73,7 +73,7 @@ pub record ServesHouse {L P K : Type 0} (state : L → LinkState) (passed : P �
 pub record FailsToLoad {K : Type 0} (kept_by : Keeping K) (house : Household) (keepers : List K) (clock : Option ℕ) (index : ℕ) (fault : LoadFault) : Type 0 where
   pub now : ℕ
   pub told : IfSome clock (λ moment. now ≡ moment)
-  pub stops : StopsAt kept_by.records kept_by.sure kept_by.faults now house.volumes keepers index fault
+  pub stops : LoadsStopAt kept_by.records kept_by.sure kept_by.faults now house.volumes keepers index fault
 
 -- The same for the words: by the house that they ask for, up to as many links as they say.
 pub record ServesWords {L P K : Type 0} (state : L → LinkState) (passed : P → Passed) (kept_by : Keeping K) (words : List (List ℕ)) (keepers : List K) (key : List ℕ) (clock : Option ℕ) (old : DoorState L) (end : DoorEnd) (new : DoorState L) (shown : Shown) : Type 0 where

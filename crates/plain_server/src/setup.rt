@@ -9,7 +9,7 @@ use std::alloc::Global;
 
 /// Where a volume is kept.
 #[derive(Drop)]
-pub enum Place {
+pub enum VolumePlace {
     /// In memory, for as long as the program runs.
     Memory,
     /// In the file of this name, in UTF-8.
@@ -19,15 +19,15 @@ pub enum Place {
 /// Where the volumes are kept, in order; the TCP port; how many links are served at once; and after how
 /// many the door closes.
 #[derive(Drop)]
-pub struct Settings {
-    pub places: Vec<Place>,
+pub struct ServerSettings {
+    pub places: Vec<VolumePlace>,
     pub port: u16,
     pub workers: u8,
     pub links: u64,
 }
 
 /// What the words of the command line say, as far as it is no matter of the house.
-pub fn setup(alloc: Global, words: &[String]) -> Result<Settings, WordFault>
+pub fn setup(alloc: Global, words: &[String]) -> Result<ServerSettings, WordFault>
     ensures found { IfOk result (λ settings. Sets (map (λ word. string_bytes word) words.now) settings) }
     ensures bad { IsErrOf result WordFault.Bad → (spoken : Spoken) → IsWords (map (λ word. string_bytes word) words.now) spoken → ⊥ }
 {
@@ -37,7 +37,7 @@ pub fn setup(alloc: Global, words: &[String]) -> Result<Settings, WordFault>
             let Ok(places) = places_of(alloc, words.places) else {
                 return Err(WordFault::Memory);
             };
-            Ok(Settings {
+            Ok(ServerSettings {
                 places,
                 port: words.port,
                 workers: 1,
@@ -48,12 +48,12 @@ pub fn setup(alloc: Global, words: &[String]) -> Result<Settings, WordFault>
 }
 
 /// Where the volumes are kept: each in memory.
-fn places_of(alloc: Global, volumes: &[String]) -> Result<Vec<Place>, OutOfMemory>
-    ensures { IfOk result (λ places. places.items ≡ map (λ volume. Place.Memory) volumes.now) }
+fn places_of(alloc: Global, volumes: &[String]) -> Result<Vec<VolumePlace>, OutOfMemory>
+    ensures { IfOk result (λ places. places.items ≡ map (λ volume. VolumePlace.Memory) volumes.now) }
 {
     let mut places = Vec::new(alloc);
     for _ in volumes {
-        places.push(Place::Memory)?;
+        places.push(VolumePlace::Memory)?;
     }
     Ok(places)
 }

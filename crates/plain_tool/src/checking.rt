@@ -8,7 +8,7 @@ ghost use Rattle.plain_tool.specs.lemma.Checking.{PrintsTo, ChecksTo};
 ghost use Rattle.plain_tool.specs.Telling.{Tells};
 
 use crate::lines::{report_bad_frame, report_frame, report_rest};
-use afp_outside::{Heard, Sink, Source};
+use afp_outside::{ReadResult, Sink, Source};
 use dsi_frame::{BadFrame, Deframer, Head};
 use plain_server::report::report_all;
 use std::alloc::Global;
@@ -96,7 +96,7 @@ fn check_all<S: Source, O: Sink>(
     while taken < turns {
         let most = deframer.room().min(ROOM);
         match source.read(&mut room[..most]) {
-            Heard::Got(n) => {
+            ReadResult::Got(n) => {
                 taken += n as u64;
                 match take_piece(deframer, out, &room[..n]) {
                     FramesEnd::More => {}
@@ -104,9 +104,9 @@ fn check_all<S: Source, O: Sink>(
                     FramesEnd::WriteFault => return CheckStop::WriteFault,
                 }
             }
-            Heard::End => return CheckStop::Ended(CheckEnd::Rest(deframer.rest() as u64)),
-            Heard::Failed => return CheckStop::Ended(CheckEnd::ReadFault),
-            Heard::Quiet => return CheckStop::Ended(CheckEnd::ReadFault),
+            ReadResult::End => return CheckStop::Ended(CheckEnd::Rest(deframer.rest() as u64)),
+            ReadResult::Failed => return CheckStop::Ended(CheckEnd::ReadFault),
+            ReadResult::Quiet => return CheckStop::Ended(CheckEnd::ReadFault),
         }
     }
     CheckStop::Ended(CheckEnd::Spent)

@@ -27,7 +27,7 @@ use Rattle.range_locks.specs.declared.fault.LockFault.TheVariants.{Locked, Overl
 use Rattle.range_locks.specs.declared.rows.LockRow.{LockRow}
 use Rattle.range_locks.specs.declared.rows.Seen.{Seen}
 use Rattle.range_locks.specs.Locks.{Lock, are_overlapping, is_met_by_other, is_met_by_own, count_held, lock_refusal, with_lock, is_lock, has_lock, exchange_lock, exchanged_locks, without_holder, is_row, are_one_row, AreInOrder, AreIntervals}
-use Rattle.range_locks.specs.lemma.Kept.{rows_at, holder_of, is_among, IsBehind, IsBefore, IsPlaceOf, IsKept}
+use Rattle.range_locks.specs.lemma.Kept.{rows_at, holder_of, is_among, IsBehind, IsBefore, IsPlaceOf, IsLockTable}
 use Rattle.range_locks.specs.lemma.Seen.{IsSeen}
 
 -- ---- tests
@@ -292,7 +292,7 @@ ordered_new rows range reference seen row range_is o s ordered none =
 
 -- what a lock is set on
 pub record Set (locks new_locks : List Lock) (forks new_forks : List (Fork × List LockRow)) (rows : List LockRow) (fork : Fork) (r : ℕ) (range : Range) (seen : Seen) : Type 0 where
-  pub was : IsKept locks forks
+  pub was : IsLockTable locks forks
   pub rows_are : rows ≡ rows_at forks fork
   pub looked : IsSeen rows r range seen
   pub other : seen.other ≡ false
@@ -331,7 +331,7 @@ module _ {locks new_locks : List Lock} {forks new_forks : List (Fork × List Loc
     same = λ x. (s.was.intervals q).same x ∙ sym (ap (list_any (has q x)) s.new_list ∙ any_new (has q x) new locks ∙ ap (λ b. (b && is_row x new) || list_any (has q x) locks) other);
   }
 
-  pub set_kept : IsKept new_locks new_forks
+  pub set_kept : IsLockTable new_locks new_forks
   set_kept = record {
     order = s.new_order;
     apart = ap (are_apart are_overlapping) s.new_list
@@ -342,7 +342,7 @@ module _ {locks new_locks : List Lock} {forks new_forks : List (Fork × List Loc
 
 -- what was looked at
 pub record Looked (locks whole : List Lock) (forks : List (Fork × List LockRow)) (rows : List LockRow) (fork : Fork) (r : ℕ) (range : Range) (seen : Seen) : Type 0 where
-  pub was : IsKept locks forks
+  pub was : IsLockTable locks forks
   pub shown : locks ≡ whole
   pub rows_are : rows ≡ rows_at forks fork
   pub looked : IsSeen rows r range seen
@@ -447,12 +447,12 @@ order_filter keep rows o = record {
 
 -- where the list and the rows of each fork lose alike, all is kept
 pub record Lost (locks new_locks : List Lock) (forks new_forks : List (Fork × List LockRow)) (keep : Lock → Bool) (stays : Fork → LockRow → Bool) : Type 0 where
-  pub was : IsKept locks forks
+  pub was : IsLockTable locks forks
   pub new_list : new_locks ≡ filter keep locks
   pub new_rows : (q : Fork) → rows_at new_forks q ≡ filter (stays q) (rows_at forks q)
   pub alike : (q : Fork) (l : Lock) → is_one_fork l.fork q ≡ true → stays q (row_of l) ≡ keep l
 
-pub lost_kept : {locks new_locks : List Lock} {forks new_forks : List (Fork × List LockRow)} {keep : Lock → Bool} {stays : Fork → LockRow → Bool} → Lost locks new_locks forks new_forks keep stays → IsKept new_locks new_forks
+pub lost_kept : {locks new_locks : List Lock} {forks new_forks : List (Fork × List LockRow)} {keep : Lock → Bool} {stays : Fork → LockRow → Bool} → Lost locks new_locks forks new_forks keep stays → IsLockTable new_locks new_forks
 lost_kept {locks} {new_locks} {forks} {new_forks} {keep} {stays} l = record {
   order = subst (IsNonDecreasingBy holder_of) (sym l.new_list) (IsNonDecreasingBy-filter holder_of keep locks l.was.order);
   apart = ap (are_apart are_overlapping) l.new_list ∙ apart_filter keep locks l.was.apart;
@@ -534,7 +534,7 @@ remove_one fork r range (l ∷ ls) (suc place) ordered apart within is =
     ∙ ap (λ b. if not b then l ∷ filter (λ x. not (is_lock fork r range x)) ls else filter (λ x. not (is_lock fork r range x)) ls) (sym other)
 
 -- the bytes of a lock that is kept end where they begin or behind it
-bytes_in_order : {locks : List Lock} {forks : List (Fork × List LockRow)} (place : ℕ) (d : Lock) → IsKept locks forks → place < length locks → nat_le (slice_index_or locks place d).range.from (slice_index_or locks place d).range.to ≡ true
+bytes_in_order : {locks : List Lock} {forks : List (Fork × List LockRow)} (place : ℕ) (d : Lock) → IsLockTable locks forks → place < length locks → nat_le (slice_index_or locks place d).range.from (slice_index_or locks place d).range.to ≡ true
 bytes_in_order {locks} {forks} place d k within =
     let q : Fork = (slice_index_or locks place d).fork in
     elim (nat_le (slice_index_or locks place d).range.from (slice_index_or locks place d).range.to) as (λ b. nat_le (slice_index_or locks place d).range.from (slice_index_or locks place d).range.to ≡ b → b ≡ true) [
@@ -549,7 +549,7 @@ bytes_in_order {locks} {forks} place d k within =
     falls row = not (nat_le row.range.from row.range.to)
 
 -- the list without the lock at its place
-pub one_taken : {locks given new_locks : List Lock} {forks : List (Fork × List LockRow)} (fork : Fork) (r : ℕ) (range : Range) (place : ℕ) → IsKept locks forks → given ≡ locks → IsPlaceOf given fork r range (Some place) → new_locks ≡ remove locks place → new_locks ≡ filter (λ l. not (is_lock fork r range l)) locks
+pub one_taken : {locks given new_locks : List Lock} {forks : List (Fork × List LockRow)} (fork : Fork) (r : ℕ) (range : Range) (place : ℕ) → IsLockTable locks forks → given ≡ locks → IsPlaceOf given fork r range (Some place) → new_locks ≡ remove locks place → new_locks ≡ filter (λ l. not (is_lock fork r range l)) locks
 one_taken {locks} {given} fork r range place k same is new_is =
     let any : Lock = record { reference = r; fork = fork; range = range } in
     let there = subst (λ ls. IsPlaceOf ls fork r range (Some place)) same is in
@@ -626,7 +626,7 @@ no_part locks r first last before behind low =
     let same : last ≡ first = omega (arith, count, low) in
     sym (ap (λ n. take first locks ++ drop n locks) same ∙ take-append-drop first locks) ∙ (own_part locks r first last before behind).1
 
-pub cleared : {locks own : List Lock} {forks : List (Fork × List LockRow)} (new_forks : List (Fork × List LockRow)) (r first last : ℕ) → IsKept locks forks → IsBefore locks r first → IsBehind locks r last → own ≡ slice_range locks first last
+pub cleared : {locks own : List Lock} {forks : List (Fork × List LockRow)} (new_forks : List (Fork × List LockRow)) (r first last : ℕ) → IsLockTable locks forks → IsBefore locks r first → IsBehind locks r last → own ≡ slice_range locks first last
     → ((q : Fork) → rows_at new_forks q ≡ (if is_among own q then filter (stays_of r) (rows_at forks q) else rows_at forks q)) → (q : Fork) → rows_at new_forks q ≡ filter (stays_of r) (rows_at forks q)
 cleared {locks} {own} {forks} new_forks r first last k before behind given new_is q = new_is q ∙ elim (is_among own q) as (λ b. is_among own q ≡ b → (if b then filter (stays_of r) (rows_at forks q) else rows_at forks q) ≡ filter (stays_of r) (rows_at forks q)) [
   | true ↦ λ is. refl
@@ -686,7 +686,7 @@ exchange_apart a b (l ∷ ls) = λ i. not (same ls i) && exchange_apart a b ls i
     same [] = refl
     same (x ∷ xs) = λ i. (both_cross a b l.fork x.fork i && do_meet l.range x.range) || same xs i
 
-pub exchange_kept : {locks new_locks : List Lock} {forks new_forks : List (Fork × List LockRow)} (a b : Fork) → IsKept locks forks → new_locks ≡ exchanged_locks a b locks → IsNonDecreasingBy holder_of (exchanged_locks a b locks) → ((q : Fork) → at fork_cmp new_forks q ≡ exchanged fork_cmp (at fork_cmp forks) a b q) → IsKept new_locks new_forks
+pub exchange_kept : {locks new_locks : List Lock} {forks new_forks : List (Fork × List LockRow)} (a b : Fork) → IsLockTable locks forks → new_locks ≡ exchanged_locks a b locks → IsNonDecreasingBy holder_of (exchanged_locks a b locks) → ((q : Fork) → at fork_cmp new_forks q ≡ exchanged fork_cmp (at fork_cmp forks) a b q) → IsLockTable new_locks new_forks
 exchange_kept {locks} {new_locks} {forks} {new_forks} a b k list_is order new_is = record {
   order = subst (IsNonDecreasingBy holder_of) (sym list_is) order;
   apart = ap (are_apart are_overlapping) list_is ∙ exchange_apart a b locks ∙ k.apart;

@@ -81,13 +81,13 @@ pub struct Locks {
 impl Model for Locks {
     ghost use Rattle.std.specs.Prelude.{List};
     ghost use Rattle.range_locks.specs.Locks.{Lock};
-    ghost use Rattle.range_locks.specs.lemma.Kept.{IsKept};
+    ghost use Rattle.range_locks.specs.lemma.Kept.{IsLockTable};
 
     ghost Value = { List Lock };
 
     ghost view = { λ l. l.list.items };
 
-    ghost invariant = { λ l. IsKept l.list.items l.forks };
+    ghost invariant = { λ l. IsLockTable l.list.items l.forks };
 }
 
 impl Locks {

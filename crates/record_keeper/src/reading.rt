@@ -12,7 +12,7 @@ use std::alloc::Global;
 
 /// Why a keeper was not read whole.
 #[derive(Drop)]
-pub enum ReadFault {
+pub enum ReadAllFault {
     /// The keeper has more than 480,000 records; this is the key behind those.
     TooMany { key: RecordKey },
     /// The keeper gave this key, and then no value at it, or one before it that is not below it.
@@ -28,7 +28,7 @@ pub const MOST_RECORDS: usize = 480_000;
 
 /// All records of a keeper, by rising key, at most 480,000. It asks the keeper for each key and for each value once, and
 /// once more for a key, and changes nothing.
-pub fn read_all<K: Keeper>(alloc: Global, keeper: &mut K) -> Result<Vec<Record>, ReadFault>
+pub fn read_all<K: Keeper>(alloc: Global, keeper: &mut K) -> Result<Vec<Record>, ReadAllFault>
     ensures all { IfOk result (λ read. IfSome (K.records keeper.new) (λ kept. IsAll kept read.items)) }
     ensures rises { IfOk result (λ read. Rises read.items) }
     ensures most { IfOk result (λ read. length read.items ≤ most_records) }
@@ -48,7 +48,7 @@ pub fn read_all<K: Keeper>(alloc: Global, keeper: &mut K) -> Result<Vec<Record>,
     }
     match key_behind(alloc, keeper, &read) {
         Ok(None) => Ok(read),
-        Ok(Some(key)) => Err(ReadFault::TooMany { key }),
+        Ok(Some(key)) => Err(ReadAllFault::TooMany { key }),
         Err(fault) => Err(fault),
     }
 }
@@ -58,7 +58,7 @@ fn read_next<K: Keeper>(
     alloc: Global,
     keeper: &mut K,
     read: &mut Vec<Record>,
-) -> Result<bool, ReadFault>
+) -> Result<bool, ReadAllFault>
     requires rises { Rises read.old.items }
     requires front { IfSome (K.records keeper.old) (λ kept. IsFront kept read.old.items) }
     ensures front { IfOk result (λ more. IfSome (K.records keeper.new) (λ kept. GoesOn more kept read.new.items)) }
@@ -86,7 +86,7 @@ fn read_at<K: Keeper>(
     keeper: &mut K,
     read: &mut Vec<Record>,
     key: RecordKey,
-) -> Result<(), ReadFault>
+) -> Result<(), ReadAllFault>
     requires rises { Rises read.old.items }
     requires above { IsAbove (last_key read.old.items) key }
     requires front { IfSome (K.records keeper.old) (λ kept. IsFront kept read.old.items) }
@@ -103,11 +103,11 @@ fn read_at<K: Keeper>(
     match keeper.read(alloc, &key) {
         Ok(Some(value)) => match read.push(Record { key, value }) {
             Ok(()) => Ok(()),
-            Err(_) => Err(ReadFault::Memory),
+            Err(_) => Err(ReadAllFault::Memory),
         },
-        Ok(None) => Err(ReadFault::Inconsistent { key }),
-        Err(KeeperFault::Failed) => Err(ReadFault::Failed),
-        Err(KeeperFault::Memory) => Err(ReadFault::Memory),
+        Ok(None) => Err(ReadAllFault::Inconsistent { key }),
+        Err(KeeperFault::Failed) => Err(ReadAllFault::Failed),
+        Err(KeeperFault::Memory) => Err(ReadAllFault::Memory),
     }
 }
 
@@ -116,7 +116,7 @@ fn key_behind<K: Keeper>(
     alloc: Global,
     keeper: &mut K,
     read: &[Record],
-) -> Result<Option<RecordKey>, ReadFault>
+) -> Result<Option<RecordKey>, ReadAllFault>
     ensures next { IfOk result (λ key. IfSome (K.records keeper.new) (λ kept. IsNextKey kept (last_key read.now) key)) }
     ensures above { IfOk result (λ key. IfSome key (IsAbove (last_key read.now))) }
     ensures fault { IfErr result (λ fault. IfSome (K.records keeper.new) (λ kept. IsFaultOf kept fault)) }
@@ -131,11 +131,11 @@ fn key_behind<K: Keeper>(
             if is_behind(read, &key) {
                 Ok(Some(key))
             } else {
-                Err(ReadFault::Inconsistent { key })
+                Err(ReadAllFault::Inconsistent { key })
             }
         }
-        Err(KeeperFault::Failed) => Err(ReadFault::Failed),
-        Err(KeeperFault::Memory) => Err(ReadFault::Memory),
+        Err(KeeperFault::Failed) => Err(ReadAllFault::Failed),
+        Err(KeeperFault::Memory) => Err(ReadAllFault::Memory),
     }
 }
 

@@ -1,5 +1,5 @@
 use afp_base::Bytes;
-use record_keeper::{Change, Keeper, KeeperFault, ReadFault, RecordKey, read_all};
+use record_keeper::{Change, Keeper, KeeperFault, ReadAllFault, RecordKey, read_all};
 use std::alloc::Global;
 
 /// A keeper that does not tell its records, and gives one key for ever.
@@ -39,5 +39,5 @@ impl Keeper for OneKey {
 #[test]
 fn keys_that_do_not_rise_are_refused(rt: HostRuntime) {
     let answer = read_all(rt.alloc(), &mut OneKey);
-    assert!(rt; matches!(&answer, Err(ReadFault::Inconsistent { key: _ })));
+    assert!(rt; matches!(&answer, Err(ReadAllFault::Inconsistent { key: _ })));
 }

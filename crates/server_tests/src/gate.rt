@@ -32,7 +32,7 @@ impl Gate for CountingGate {
             add_one(&self.out_of_turn);
         }
         add_one(&self.before);
-        log.go_in(link);
+        log.enter(link);
     }
 
     fn after(&self, link: LinkNumber, log: &mut GateLog) {
@@ -40,7 +40,7 @@ impl Gate for CountingGate {
         if link.0 != 1 || self.before.get() != self.after.get() {
             add_one(&self.out_of_turn);
         }
-        log.come_out(link);
+        log.exit(link);
     }
 }
 

@@ -2,7 +2,7 @@
 use crate::taped::{Plan, link_of, moment};
 use afp_base::{Bytes, LinkNumber, OutOfMemory};
 use afp_outside::{
-    Accepted, Clock, Gate, Heard, Link, Listener, OpenGate, Sink, Source, SteadyClock, SystemClock,
+    Accepted, Clock, Gate, ReadResult, Link, Listener, OpenGate, Sink, Source, SteadyClock, SystemClock,
     TapeClock, TapeLink, TapeListener, TapeSink, TapeSource, TcpDoor, Wrote,
 };
 use std::alloc::Global;
@@ -13,15 +13,15 @@ use std::test::Fail;
 use std::time::Duration;
 use std::{io, time};
 
-/// What each read in turn hears, its bytes, the moment after it, and that of the last bytes.
-fn reads() -> &'static [(Heard, &'static str, u32, u32)] {
+/// What each read in turn gives, its bytes, the moment after it, and that of the last bytes.
+fn reads() -> &'static [(ReadResult, &'static str, u32, u32)] {
     &[
-        (Heard::Got(2), "ab", 110, 110),
-        (Heard::Failed, "", 120, 110),
-        (Heard::Quiet, "", 130, 110),
-        (Heard::Got(3), "cde", 130, 130),
-        (Heard::Got(1), "f", 130, 130),
-        (Heard::End, "", 130, 130),
+        (ReadResult::Got(2), "ab", 110, 110),
+        (ReadResult::Failed, "", 120, 110),
+        (ReadResult::Quiet, "", 130, 110),
+        (ReadResult::Got(3), "cde", 130, 130),
+        (ReadResult::Got(1), "f", 130, 130),
+        (ReadResult::End, "", 130, 130),
     ]
 }
 
@@ -35,16 +35,16 @@ fn writes() -> &'static [(Wrote, &'static str)] {
     ]
 }
 
-/// Whether a link's next read hears this, with these bytes, at this moment, the last bytes at that one.
-fn hears(link: &mut TapeLink, heard: Heard, text: &str, now: u32, heard_at: u32) -> bool {
+/// Whether a link's next read gives this, with these bytes, at this moment, the last bytes at that one.
+fn gives(link: &mut TapeLink, gave: ReadResult, text: &str, now: u32, last_read: u32) -> bool {
     let mut room = [0; 8];
-    let is_heard = link.read(&mut room) == heard && room.as_slice().starts_with(text.as_bytes());
-    is_heard && link.now() == moment(now) && link.heard() == moment(heard_at)
+    let is_given = link.read(&mut room) == gave && room.as_slice().starts_with(text.as_bytes());
+    is_given && link.now() == moment(now) && link.last_read() == moment(last_read)
 }
 
 fn expect_reads(rt: &impl Abort, link: &mut TapeLink) {
-    for (heard, text, now, heard_at) in reads() {
-        assert!(rt; hears(link, *heard, text, *now, *heard_at), "{text}");
+    for (gave, text, now, last_read) in reads() {
+        assert!(rt; gives(link, *gave, text, *now, *last_read), "{text}");
     }
 }
 
@@ -84,13 +84,13 @@ fn expect_report(rt: &impl Abort, sink: &mut TapeSink) {
     assert!(rt; is_cut && sink.written() == b"hel".as_slice());
 }
 
-/// What each read of a source in turn hears, and its bytes.
-fn source_reads() -> &'static [(Heard, &'static str)] {
+/// What each read of a source in turn gives, and its bytes.
+fn source_reads() -> &'static [(ReadResult, &'static str)] {
     &[
-        (Heard::Got(2), "ab"),
-        (Heard::Failed, ""),
-        (Heard::Got(1), "c"),
-        (Heard::End, ""),
+        (ReadResult::Got(2), "ab"),
+        (ReadResult::Failed, ""),
+        (ReadResult::Got(1), "c"),
+        (ReadResult::End, ""),
     ]
 }
 
@@ -102,9 +102,9 @@ fn planned_source(alloc: Global) -> Result<TapeSource, OutOfMemory> {
 }
 
 fn expect_source(rt: &impl Abort, source: &mut TapeSource) {
-    for (heard, text) in source_reads() {
+    for (gave, text) in source_reads() {
         let mut room = [0; 8];
-        let is_wanted = source.read(&mut room) == *heard
+        let is_wanted = source.read(&mut room) == *gave
             && room.as_slice().starts_with(text.as_bytes());
         assert!(rt; is_wanted, "{text}");
     }

@@ -8,7 +8,7 @@ use Rattle.std.proofs.lemmas.List.Sums.{sum_by-cons}
 use Rattle.afp_base.specs.Limits.{payload_limit}
 use Rattle.afp_volume.proofs.ListReplies.{entries-go-as-far}
 use Rattle.afp_volume.specs.Shared.{Opened}
-use Rattle.afp_volume.specs.Enumerate.{ListAsked, counted, entries, entry_size, fits_reply, from_start, list_head, longest_entry}
+use Rattle.afp_volume.specs.Enumerate.{ListAsked, counted_children, entries, entry_size, fits_reply, from_start, list_head, longest_entry}
 use Rattle.afp_volume.specs.VolumeState.{Row}
 use Rattle.volume_answers.specs.lemma.Filling.{can_follow, front, counted_from, filled}
 
@@ -169,11 +169,11 @@ filled-entries rows opens asked dir place begins =
       ])
     ]
 
-module _ (rows : List Row) (opens : List Opened) (asked : ListAsked) (dir place : ℕ) (begins : counted_from rows asked dir place ≡ from_start rows asked dir) (some : asked.count ≡ 0 → ⊥) (somewhere : asked.start ≡ 0 → ⊥) (there : nat_lt (length (counted rows asked dir)) asked.start ≡ false) where
+module _ (rows : List Row) (opens : List Opened) (asked : ListAsked) (dir place : ℕ) (begins : counted_from rows asked dir place ≡ from_start rows asked dir) (some : asked.count ≡ 0 → ⊥) (somewhere : asked.start ≡ 0 → ⊥) (there : nat_lt (length (counted_children rows asked dir)) asked.start ≡ false) where
   first-is : FirstOf (entry_size rows opens asked) asked list_head asked.count (from_start rows asked dir)
   first-is =
-      let enough : asked.start ≤ length (counted rows asked dir) = ltb-false (length (counted rows asked dir)) asked.start there in
-      let left : length (from_start rows asked dir) ≡ length (counted rows asked dir) - (asked.start - 1) = length-drop (asked.start - 1) (counted rows asked dir) in
+      let enough : asked.start ≤ length (counted_children rows asked dir) = ltb-false (length (counted_children rows asked dir)) asked.start there in
+      let left : length (from_start rows asked dir) ≡ length (counted_children rows asked dir) - (asked.start - 1) = length-drop (asked.start - 1) (counted_children rows asked dir) in
       first-of (entry_size rows opens asked) asked list_head asked.count (from_start rows asked dir) some (omega (arith, somewhere))
 
   pub first-unfit : length (filled rows opens asked dir place list_head asked.count) ≡ 0 → fits_reply rows opens asked (take 1 (from_start rows asked dir)) ≡ false

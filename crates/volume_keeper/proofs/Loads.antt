@@ -7,8 +7,8 @@ use Rattle.afp_volume.specs.VolumeState.{VolumeState, fresh_volume}
 use Rattle.afp_volume.specs.SoundVolume.{IsSoundVolume}
 use Rattle.record_keeper.specs.declared.record.Record.{Record}
 use Rattle.record_keeper.specs.declared.record.Change.{Change}
-use Rattle.record_keeper.specs.declared.reading.ReadFault.{ReadFault}
-use Rattle.record_keeper.specs.declared.reading.ReadFault.TheVariants as read
+use Rattle.record_keeper.specs.declared.reading.ReadAllFault.{ReadAllFault}
+use Rattle.record_keeper.specs.declared.reading.ReadAllFault.TheVariants as read
 use Rattle.record_keeper.specs.Records.{Records, Makes, changed, same_records}
 use Rattle.record_keeper.specs.Reading.{IsAll, IsFaultOf, Rises, entry_of, most_records}
 use Rattle.volume_records.specs.declared.rows.Reason.TheVariants.{Limit}
@@ -123,13 +123,13 @@ over_many name (x ∷ es) key e =
     let two = one_over most_records (x ∷ es) key e in
     ap (λ b. cond b (too_many (drop most_records (map record_by (x ∷ es)))) (first_bad name (counted (map record_by (x ∷ es))))) two.0 ∙ two.1
 
-refused_one : (name : List ℕ) (f : ReadFault) (g : LoadFault) → IsReadFault f g → (kept : Records) → IsFaultOf kept f → IsFaultIn name (records_in kept) g
+refused_one : (name : List ℕ) (f : ReadAllFault) (g : LoadFault) → IsReadFault f g → (kept : Records) → IsFaultOf kept f → IsFaultIn name (records_in kept) g
 refused_one name (read.TooMany key) g is kept e = subst (IsFaultIn name (records_in kept)) (sym is) (over_many name (entries kept) key e)
 refused_one name (read.Inconsistent key) g is kept e = absurd e
 refused_one name read.Failed g is kept e = subst (IsFaultIn name (records_in kept)) (sym is) tt
 refused_one name read.Memory g is kept e = subst (IsFaultIn name (records_in kept)) (sym is) tt
 
-pub refused : (name : List ℕ) (now : ℕ) (f : ReadFault) (g : LoadFault) → IsReadFault f g → (old new : Option Records) → Makes same_records old new → IfSome new (λ kept. IsFaultOf kept f) → Becomes (IsLoad name now (Err g)) old new
+pub refused : (name : List ℕ) (now : ℕ) (f : ReadAllFault) (g : LoadFault) → IsReadFault f g → (old new : Option Records) → Makes same_records old new → IfSome new (λ kept. IsFaultOf kept f) → Becomes (IsLoad name now (Err g)) old new
 refused name now f g is old None m e = tt
 refused name now f g is None (Some new) m e = absurd (cc)
 refused name now f g is (Some old) (Some new) m e =

@@ -38,14 +38,14 @@ IsLoad name now (Ok held) old new = IsLoaded name now old new held.state
 IsLoad name now (Err fault) old new = (new ≡ old) × IsFaultIn name (records_in old) fault
 
 -- the count of the keeper's faults beside a fault: it rose beside Failed alone
-abbrev pub IsCounted : ℕ → ℕ → LoadFault → Type 0
-IsCounted before now (BadRecord key reason) = now ≡ before
-IsCounted before now Failed = before < now
-IsCounted before now Memory = now ≡ before
+abbrev pub CountsLoadFault : ℕ → ℕ → LoadFault → Type 0
+CountsLoadFault before now (BadRecord key reason) = now ≡ before
+CountsLoadFault before now Failed = before < now
+CountsLoadFault before now Memory = now ≡ before
 
 -- The count of the keeper's faults never falls. It rises beside Failed, and beside no other answer; that of a sure keeper never rises.
 pub record HasLoadCause {T : Type 0} (sure : Bool) (before now : ℕ) (result : Result T LoadFault) : Type 0 where
   pub later : before ≤ now
   pub answered : OnOk result (now ≡ before)
-  pub fault : IfErr result (IsCounted before now)
+  pub fault : IfErr result (CountsLoadFault before now)
   pub still : sure ≡ true → now ≡ before

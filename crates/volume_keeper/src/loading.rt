@@ -10,7 +10,7 @@ use crate::fresh::make_fresh;
 use crate::held::Held;
 use crate::rebuild::held_of;
 use afp_base::Moment;
-use record_keeper::{Keeper, ReadFault, Record, RecordKey, read_all};
+use record_keeper::{Keeper, ReadAllFault, Record, RecordKey, read_all};
 use std::alloc::Global;
 use volume_records::{Loaded, Reason, load_records};
 
@@ -48,20 +48,20 @@ fn held_in(alloc: Global, name: &[u8], records: Vec<Record>) -> Result<Held, Loa
 }
 
 /// Why a keeper that was not read whole is no volume.
-fn fault_of(fault: ReadFault) -> LoadFault
+fn fault_of(fault: ReadAllFault) -> LoadFault
     ensures { IsReadFault fault result }
 {
     match fault {
-        ReadFault::TooMany { key } => LoadFault::BadRecord {
+        ReadAllFault::TooMany { key } => LoadFault::BadRecord {
             key,
             reason: Reason::Limit,
         },
-        ReadFault::Inconsistent { key } => LoadFault::BadRecord {
+        ReadAllFault::Inconsistent { key } => LoadFault::BadRecord {
             key,
             reason: Reason::Shape,
         },
-        ReadFault::Failed => LoadFault::Failed,
-        ReadFault::Memory => LoadFault::Memory,
+        ReadAllFault::Failed => LoadFault::Failed,
+        ReadAllFault::Memory => LoadFault::Memory,
     }
 }
 

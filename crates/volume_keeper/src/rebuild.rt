@@ -19,7 +19,7 @@ use node_rows::Node as TreeNode;
 use std::alloc::Global;
 use volume_records::laws::{records_are_images, tables_say_volumes};
 use volume_records::{Appl, Comment, ForkBlock, Icon, Node, TableRow};
-use volume_tree::{Loaded, Volume, VolumeHead};
+use volume_tree::{LoadedNode, Volume, VolumeHead};
 
 const NO_HEAD: VolumeHead = VolumeHead {
     created: 0,
@@ -56,11 +56,11 @@ fn head_in(rows: &[TableRow]) -> VolumeHead
 }
 
 /// A node with the lengths of its forks.
-fn loaded_of(alloc: Global, node: &Node) -> Result<Loaded, OutOfMemory>
+fn loaded_of(alloc: Global, node: &Node) -> Result<LoadedNode, OutOfMemory>
     ensures { IfOk result (λ loaded. loaded ∷ [] ≡ nodes_said (row.Node node.now)) }
 {
     match Name::new(alloc, node.name.as_slice()) {
-        Ok(name) => Ok(Loaded {
+        Ok(name) => Ok(LoadedNode {
             node: TreeNode {
                 id: NodeId(node.id),
                 parent: NodeId(node.parent),
@@ -80,7 +80,7 @@ fn loaded_of(alloc: Global, node: &Node) -> Result<Loaded, OutOfMemory>
     }
 }
 
-fn put_loaded(alloc: Global, nodes: &mut Vec<Loaded>, row: &TableRow) -> Result<(), OutOfMemory>
+fn put_loaded(alloc: Global, nodes: &mut Vec<LoadedNode>, row: &TableRow) -> Result<(), OutOfMemory>
     ensures { OnOk result (nodes.new.items ≡ nodes.old.items ++ nodes_said row.now) }
 {
     match row {
@@ -97,7 +97,7 @@ fn put_loaded(alloc: Global, nodes: &mut Vec<Loaded>, row: &TableRow) -> Result<
 }
 
 /// The nodes among rows, with the lengths of their forks.
-fn all_loaded(alloc: Global, rows: &[TableRow]) -> Result<Vec<Loaded>, OutOfMemory>
+fn all_loaded(alloc: Global, rows: &[TableRow]) -> Result<Vec<LoadedNode>, OutOfMemory>
     ensures { IfOk result (λ nodes. nodes.items ≡ flat_map nodes_said rows.now) }
 {
     let mut nodes = Vec::new(alloc);

@@ -20,7 +20,7 @@ use Rattle.afp_volume.specs.VolumeState.{Row, VolumeState, root_id, first_id}
 use Rattle.afp_volume.specs.Walk.{row_at}
 use Rattle.volume_tree.proofs.Showing.{ids-differ}
 use Rattle.volume_tree.specs.Kept.{Forks, data_of, resource_of, with_forks, rows_of, state_of, spare_of}
-use Rattle.volume_tree.specs.lemma.Kept.{IsKept, at_gone, bytes_of, has_forks}
+use Rattle.volume_tree.specs.lemma.Kept.{IsKeptVolume, at_gone, bytes_of, has_forks}
 use Rattle.volume_tree.specs.Planned.{Move, SetNode, PlanState, IsNew, IsPlan, planned, is_gone, gone_rows, gone_comments, gone_appls, come_rows, next_after, moved_rows, set_rows, modified_rows}
 use Rattle.volume_tree.specs.declared.forks.FileForks.{FileForks}
 use Rattle.volume_tree.specs.declared.head.Dates.{Dates}
@@ -231,7 +231,7 @@ new-shown forks row no_data no_resource plain = (λ i. record row { data_fork = 
 
 -- a plan of a volume, and what was done of it
 pub record Applied (name : List ℕ) (dates new_dates : Dates) (rows new_rows : RowsValue) (forks new_forks : Forks) (used left : ℕ) (p : PlanState) : Type 0 where
-  pub kept : IsKept name dates rows forks used
+  pub kept : IsKeptVolume name dates rows forks used
   pub plan : IsPlan (state_of name dates rows forks) p
   pub spare : 1 ≤ spare_of rows forks
   pub dates_are : new_dates ≡ record dates { modified = pos p.moment; backup = unwrap_or p.backup dates.backup }
@@ -300,7 +300,7 @@ module _ {name : List ℕ} {dates new_dates : Dates} {rows new_rows : RowsValue}
   next-resource None = a.kept.no_resource
   next-resource (Some row) = ap resource_of (a.kept.none_behind (rows.next_id + 1) (omega arith))
 
-  pub applied-kept : IsKept name new_dates new_rows new_forks left
+  pub applied-kept : IsKeptVolume name new_dates new_rows new_forks left
   applied-kept =
       let came = come_rows p.come (gone_rows p.gone rows.rows) in
       record {
@@ -326,7 +326,7 @@ module _ {name : List ℕ} {dates new_dates : Dates} {rows new_rows : RowsValue}
             omega arith;
       }
 
-pub bytes-within : {name : List ℕ} {dates : Dates} {rows : RowsValue} {forks : Forks} {used : ℕ} (p : PlanState) → IsKept name dates rows forks used → IsPlan (state_of name dates rows forks) p → bytes_of p.gone forks ≤ used
+pub bytes-within : {name : List ℕ} {dates : Dates} {rows : RowsValue} {forks : Forks} {used : ℕ} (p : PlanState) → IsKeptVolume name dates rows forks used → IsPlan (state_of name dates rows forks) p → bytes_of p.gone forks ≤ used
 bytes-within {name} {dates} {rows} {forks} {used} p kept plan =
     let whole : fork_bytes (gone_rows p.gone (rows_of forks rows.rows)) + bytes_of p.gone forks ≡ fork_bytes (rows_of forks rows.rows) = bytes-gone forks rows.rows p.gone (ids-differ (state_of name dates rows forks) kept.sound) plan.gone in
     let were : used ≡ fork_bytes (rows_of forks rows.rows) = kept.bytes in

@@ -21,7 +21,7 @@ use Rattle.volume_tree.proofs.Writing.{FileThere, Written, file-there, before-wi
 use Rattle.volume_tree.specs.Filled.{FitsFork, filled, filled_row}
 use Rattle.volume_tree.specs.lemma.ForkEffect.{IsChanged, kept_fork}
 use Rattle.volume_tree.specs.Kept.{Forks, rows_of, state_of, with_forks}
-use Rattle.volume_tree.specs.lemma.Kept.{IsKept}
+use Rattle.volume_tree.specs.lemma.Kept.{IsKeptVolume}
 use Rattle.volume_tree.specs.declared.head.Dates.{Dates}
 
 same-length : Reaches → (bytes : List ℕ) (from : ℕ) (block : List ℕ) → from + length block ≤ length bytes → length (splice bytes from block) ≡ length bytes
@@ -29,7 +29,7 @@ same-length reaches bytes from [] within = refl
 same-length reaches bytes from (b ∷ block) within = let r : length (splice bytes from (b ∷ block)) ≡ max (length bytes) (from + length (b ∷ block)) = reaches bytes (b ∷ block) from (omega arith) in omega arith
 
 module _ (name : List ℕ) (dates : Dates) (rows : RowsValue) (forks : Forks) (used : ℕ) (id : NodeId) (resource : Bool) (index : ℕ) (block : List ℕ)
-    (kept : IsKept name dates rows forks used) (fits : FitsFork (state_of name dates rows forks) id.0 resource index block) where
+    (kept : IsKeptVolume name dates rows forks used) (fits : FitsFork (state_of name dates rows forks) id.0 resource index block) where
   pub file : FileThere forks rows.rows id.0 resource fits.bytes
   file = file-there forks rows.rows id.0 resource fits.bytes kept.files fits.there
 
@@ -80,7 +80,7 @@ module _ (name : List ℕ) (dates : Dates) (rows : RowsValue) (forks : Forks) (u
       → IsForkPlan (kept_fork resource (at nat_cmp forks id.0)) after plan
   plan-is plan is = subst (λ l. IsForkPlan (kept_fork resource (at nat_cmp forks id.0)) (splice l (block_size * index) block) plan) file.bytes_are is
 
-  pub filled-kept : Reaches → (new : Forks) → ((q : ℕ) → (q == id.0) ≡ false → at nat_cmp new q ≡ at nat_cmp forks q) → IsChanged resource after (at nat_cmp forks id.0) (at nat_cmp new id.0) → IsKept name dates rows new used
+  pub filled-kept : Reaches → (new : Forks) → ((q : ℕ) → (q == id.0) ≡ false → at nat_cmp new q ≡ at nat_cmp forks q) → IsChanged resource after (at nat_cmp forks id.0) (at nat_cmp new id.0) → IsKeptVolume name dates rows new used
   filled-kept reaches new others changed = written-kept (written-fill reaches new others changed)
 
   pub filled-state : Reaches → (new : Forks) → ((q : ℕ) → (q == id.0) ≡ false → at nat_cmp new q ≡ at nat_cmp forks q) → IsChanged resource after (at nat_cmp forks id.0) (at nat_cmp new id.0)

@@ -19,12 +19,12 @@ use Rattle.afp_names.specs.Name.{name_fault}
 use Rattle.volume_tree.proofs.Showing.{any-shown}
 use Rattle.volume_tree.specs.lemma.Answered.{IsFound}
 use Rattle.volume_tree.specs.Kept.{Forks, data_of, resource_of, rows_of, state_of, spare_of}
-use Rattle.volume_tree.specs.lemma.Kept.{IsKept, IsShownAs, has_forks}
+use Rattle.volume_tree.specs.lemma.Kept.{IsKeptVolume, IsShownAs, has_forks}
 use Rattle.volume_tree.specs.Shown.{TreeValue}
 use Rattle.volume_tree.specs.declared.head.Dates.{Dates}
 
 -- a volume as it is shown is sound
-pub sound-is : {name : List ℕ} {dates : Dates} {rows : RowsValue} {forks : Forks} {used : ℕ} {v : TreeValue} → IsKept name dates rows forks used → record { state = state_of name dates rows forks; spare = spare_of rows forks } ≡ v → IsSoundVolume v.state
+pub sound-is : {name : List ℕ} {dates : Dates} {rows : RowsValue} {forks : Forks} {used : ℕ} {v : TreeValue} → IsKeptVolume name dates rows forks used → record { state = state_of name dates rows forks; spare = spare_of rows forks } ≡ v → IsSoundVolume v.state
 sound-is k is = subst (λ (v : TreeValue). IsSoundVolume v.state) is k.sound
 
 -- answers
@@ -79,7 +79,7 @@ fresh-state name now dates rows forks root created modified backup rows_are root
 }
 
 pub fresh-kept : (name : List ℕ) (now : ℕ) (dates : Dates) (rows : RowsValue) (forks : Forks) (root : Row) → name_fault name ≡ None → dates.created ≡ pos now → dates.modified ≡ pos now → dates.backup ≡ never
-    → rows.rows ≡ root ∷ [] → root ≡ new_row true 2 1 name now → rows.next_id ≡ 17 → forks ≡ [] → IsKept name dates rows forks 0
+    → rows.rows ≡ root ∷ [] → root ≡ new_row true 2 1 name now → rows.next_id ≡ 17 → forks ≡ [] → IsKeptVolume name dates rows forks 0
 unfolding rows_of
 fresh-kept name now dates rows forks root good created modified backup rows_are root_is next forks_are =
     let are : rows.rows ≡ new_row true 2 1 name now ∷ [] = rows_are ∙ ap (λ r. r ∷ []) root_is in
@@ -97,7 +97,7 @@ fresh-kept name now dates rows forks root good created modified backup rows_are 
 pub touched-state : (name : List ℕ) (dates new : Dates) (rows : RowsValue) (forks : Forks) (now : ℕ) → new ≡ record dates { modified = pos now } → state_of name new rows forks ≡ changed_at now (state_of name dates rows forks)
 touched-state name dates new rows forks now is = ap (λ (d : Dates). state_of name d rows forks) is
 
-pub touched-kept : {name : List ℕ} {dates new : Dates} {rows : RowsValue} {forks : Forks} {used : ℕ} (now : ℕ) → new ≡ record dates { modified = pos now } → IsKept name dates rows forks used → IsKept name new rows forks used
+pub touched-kept : {name : List ℕ} {dates new : Dates} {rows : RowsValue} {forks : Forks} {used : ℕ} (now : ℕ) → new ≡ record dates { modified = pos now } → IsKeptVolume name dates rows forks used → IsKeptVolume name new rows forks used
 touched-kept {name} {dates} {new} {rows} {forks} {used} now is k = record {
   sound = subst IsSoundVolume (sym (touched-state name dates new rows forks now is)) (sound-changed (state_of name dates rows forks) now k.sound);
   files = k.files;
@@ -137,7 +137,7 @@ reserved-state name dates rows grown forks new rows_are next same = λ i. record
 
 -- room for one node more
 pub reserved-kept : {name : List ℕ} {dates : Dates} {rows grown : RowsValue} {forks new : Forks} {used : ℕ} (n : ℕ) → n ≡ grown.next_id → grown.rows ≡ rows.rows → grown.next_id ≡ rows.next_id → ((q : ℕ) → IsShownAs (at nat_cmp forks q) (at nat_cmp new q))
-    → ((q : ℕ) → (q == n) ≡ false → at nat_cmp new q ≡ at nat_cmp forks q) → IsKept name dates rows forks used → IsKept name dates grown new used
+    → ((q : ℕ) → (q == n) ≡ false → at nat_cmp new q ≡ at nat_cmp forks q) → IsKeptVolume name dates rows forks used → IsKeptVolume name dates grown new used
 reserved-kept {name} {dates} {rows} {grown} {forks} {new} {used} n n_is rows_are next same others k = record {
   sound = subst IsSoundVolume (sym (reserved-state name dates rows grown forks new rows_are next same)) k.sound;
   files = ap (list_all (has_forks new)) rows_are ∙ all-kept forks new rows.rows same k.files;

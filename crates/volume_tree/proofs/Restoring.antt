@@ -20,13 +20,13 @@ use Rattle.afp_volume.proofs.Trees.{drawn, tree-parts}
 use Rattle.node_rows.specs.Kept.{RowsValue}
 use Rattle.sorted_map.specs.Entries.{at}
 use Rattle.volume_tree.specs.Kept.{Forks, data_of, resource_of, rows_of, state_of}
-use Rattle.volume_tree.specs.lemma.Kept.{IsKept, has_forks}
+use Rattle.volume_tree.specs.lemma.Kept.{IsKeptVolume, has_forks}
 use Rattle.volume_tree.specs.Restored.{IsRestorable, restored, loaded_row}
 use Rattle.volume_tree.specs.lemma.Restored.{forks_in, has_short_forks, loaded_bytes, loaded_node, or_forks, own_forks}
 use Rattle.volume_tree.specs.declared.head.Dates.{Dates}
 use Rattle.volume_tree.specs.declared.head.VolumeHead.{VolumeHead}
 use Rattle.volume_tree.specs.declared.forks.FileForks.{FileForks}
-use Rattle.volume_tree.specs.declared.restore.Loaded.{Loaded}
+use Rattle.volume_tree.specs.declared.restore.LoadedNode.{LoadedNode}
 
 -- one more node
 
@@ -38,32 +38,32 @@ or-none : (a : Option FileForks) → or_forks a None ≡ a
 or-none None = refl
 or-none (Some a) = refl
 
-pub forks-last : (nodes : List Loaded) (l : Loaded) (q : ℕ) → forks_in (nodes ++ l ∷ []) q ≡ or_forks (own_forks l q) (forks_in nodes q)
+pub forks-last : (nodes : List LoadedNode) (l : LoadedNode) (q : ℕ) → forks_in (nodes ++ l ∷ []) q ≡ or_forks (own_forks l q) (forks_in nodes q)
 forks-last [] l q = sym (or-none (own_forks l q))
 forks-last (x ∷ nodes) l q = ap (λ o. or_forks o (own_forks x q)) (forks-last nodes l q) ∙ or-assoc (own_forks l q) (forks_in nodes q) (own_forks x q)
 
-pub forks-next : (nodes : List Loaded) (i : ℕ) (l : Loaded) (q : ℕ) → i < length nodes → l ≡ slice_index_or nodes i l → or_forks (own_forks l q) (forks_in (take i nodes) q) ≡ forks_in (take (i + 1) nodes) q
+pub forks-next : (nodes : List LoadedNode) (i : ℕ) (l : LoadedNode) (q : ℕ) → i < length nodes → l ≡ slice_index_or nodes i l → or_forks (own_forks l q) (forks_in (take i nodes) q) ≡ forks_in (take (i + 1) nodes) q
 forks-next nodes i l q within is =
-    sym (forks-last (take i nodes) l q) ∙ ap (λ (r : Loaded). forks_in (take i nodes ++ r ∷ []) q) is ∙ ap (λ (t : List Loaded). forks_in t q) (sym (take_more nodes i l within))
+    sym (forks-last (take i nodes) l q) ∙ ap (λ (r : LoadedNode). forks_in (take i nodes ++ r ∷ []) q) is ∙ ap (λ (t : List LoadedNode). forks_in t q) (sym (take_more nodes i l within))
 
 -- what is asked of the nodes is what is asked of their rows
 
-pub same-rising : (low : ℕ) (nodes : List Loaded) → rises_from (λ (row : Row). row.id) low (map loaded_node nodes) ≡ rises_from (λ (row : Row). row.id) low (map loaded_row nodes)
+pub same-rising : (low : ℕ) (nodes : List LoadedNode) → rises_from (λ (row : Row). row.id) low (map loaded_node nodes) ≡ rises_from (λ (row : Row). row.id) low (map loaded_row nodes)
 same-rising low [] = refl
 same-rising low (l ∷ nodes) = ap (λ t. nat_lt low l.node.id && t) (same-rising l.node.id nodes)
 
-pub same-names : (nodes : List Loaded) → are_apart are_named_alike (map loaded_node nodes) ≡ are_apart are_named_alike (map loaded_row nodes)
+pub same-names : (nodes : List LoadedNode) → are_apart are_named_alike (map loaded_node nodes) ≡ are_apart are_named_alike (map loaded_row nodes)
 same-names nodes = apart-map are_named_alike loaded_node nodes ∙ sym (apart-map are_named_alike loaded_row nodes)
 
-pub same-node : (id : ℕ) (nodes : List Loaded) → has_node (map loaded_node nodes) id ≡ has_node (map loaded_row nodes) id
+pub same-node : (id : ℕ) (nodes : List LoadedNode) → has_node (map loaded_node nodes) id ≡ has_node (map loaded_row nodes) id
 same-node id [] = refl
 same-node id (l ∷ nodes) = ap (λ t. (l.node.id == id) || t) (same-node id nodes)
 
-pub same-name : (id : ℕ) (nodes : List Loaded) → name_of (map loaded_node nodes) id ≡ name_of (map loaded_row nodes) id
+pub same-name : (id : ℕ) (nodes : List LoadedNode) → name_of (map loaded_node nodes) id ≡ name_of (map loaded_row nodes) id
 unfolding row_at
 same-name id nodes = ap (λ o. unwrap_or o []) (found nodes)
   where
-    found : (nodes : List Loaded) → option_map (λ (row : Row). row.name) (find (λ (row : Row). row.id == id) (map loaded_node nodes)) ≡ option_map (λ (row : Row). row.name) (find (λ (row : Row). row.id == id) (map loaded_row nodes))
+    found : (nodes : List LoadedNode) → option_map (λ (row : Row). row.name) (find (λ (row : Row). row.id == id) (map loaded_node nodes)) ≡ option_map (λ (row : Row). row.name) (find (λ (row : Row). row.id == id) (map loaded_row nodes))
     found [] = refl
     found (l ∷ nodes) =
         cond_both (l.node.id == id) (Some (loaded_row l)) (find (λ (row : Row). row.id == id) (map loaded_row nodes))
@@ -78,7 +78,7 @@ below-next v row low placed =
     (λ here. let is : row.id ≡ 2 = eqb-true row.id root_id here in lt-ltb row.id v.next_id (omega arith))
     (λ other. let d = (drawn v row other placed).high in lt-ltb row.id v.next_id d)
 
-pub all-below : (v : VolumeState) (nodes : List Loaded) → first_id ≤ v.next_id → list_all (is_in_place v) (map loaded_row nodes) ≡ true → list_all (λ (row : Row). nat_lt row.id v.next_id) (map loaded_node nodes) ≡ true
+pub all-below : (v : VolumeState) (nodes : List LoadedNode) → first_id ≤ v.next_id → list_all (is_in_place v) (map loaded_row nodes) ≡ true → list_all (λ (row : Row). nat_lt row.id v.next_id) (map loaded_node nodes) ≡ true
 all-below v [] low h = refl
 all-below v (l ∷ nodes) low h =
     let e = and_parts (is_in_place v (loaded_row l)) (list_all (is_in_place v) (map loaded_row nodes)) h in
@@ -86,14 +86,14 @@ all-below v (l ∷ nodes) low h =
 
 -- bytes
 
-row-bytes : (l : Loaded) → row_bytes (loaded_row l) ≡ loaded_bytes l
+row-bytes : (l : LoadedNode) → row_bytes (loaded_row l) ≡ loaded_bytes l
 row-bytes l = λ i. length-replicate {A = ℕ} l.data_len 0 i + length-replicate {A = ℕ} l.resource_len 0 i
 
-pub all-bytes : (nodes : List Loaded) → fork_bytes (map loaded_row nodes) ≡ sum_by loaded_bytes nodes
+pub all-bytes : (nodes : List LoadedNode) → fork_bytes (map loaded_row nodes) ≡ sum_by loaded_bytes nodes
 all-bytes [] = refl
 all-bytes (l ∷ nodes) = sum_by-cons row_bytes (loaded_row l) (map loaded_row nodes) ∙ (λ i. row-bytes l i + all-bytes nodes i) ∙ sym (sum_by-cons loaded_bytes l nodes)
 
-pub all-short : (nodes : List Loaded) → sum_by loaded_bytes nodes ≤ most_fork_bytes → list_all has_short_forks nodes ≡ true
+pub all-short : (nodes : List LoadedNode) → sum_by loaded_bytes nodes ≤ most_fork_bytes → list_all has_short_forks nodes ≡ true
 all-short [] few = refl
 all-short (l ∷ nodes) few =
     let whole : sum_by loaded_bytes (l ∷ nodes) ≡ loaded_bytes l + sum_by loaded_bytes nodes = sum_by-cons loaded_bytes l nodes in
@@ -104,11 +104,11 @@ all-short (l ∷ nodes) few =
 -- forks by id
 
 -- what is found shows each node's lengths, and the forks of files are there
-pub Each : (ℕ → Option FileForks) → List Loaded → Type 0
+pub Each : (ℕ → Option FileForks) → List LoadedNode → Type 0
 Each found [] = Unit {0}
 Each found (l ∷ nodes) = (data_of (found l.node.id) ≡ replicate l.data_len 0) × (resource_of (found l.node.id) ≡ replicate l.resource_len 0) × ((l.node.dir || is_some (found l.node.id)) ≡ true) × Each found nodes
 
-none-own : (l : Loaded) (q : ℕ) → (q == l.node.id) ≡ false → own_forks l q ≡ None
+none-own : (l : LoadedNode) (q : ℕ) → (q == l.node.id) ≡ false → own_forks l q ≡ None
 none-own l q other =
     let kept : FileForks = record { data_fork = replicate l.data_len 0; resource_fork = replicate l.resource_len 0 } in
     let here : Option FileForks = cond (q == l.node.id) (Some kept) None in
@@ -118,17 +118,17 @@ not-is : (t : Bool) → not t ≡ true → t ≡ false
 not-is true h = absurd (cc)
 not-is false h = refl
 
-pub absent : (nodes : List Loaded) (q : ℕ) → list_all (λ (l : Loaded). not (q == l.node.id)) nodes ≡ true → forks_in nodes q ≡ None
+pub absent : (nodes : List LoadedNode) (q : ℕ) → list_all (λ (l : LoadedNode). not (q == l.node.id)) nodes ≡ true → forks_in nodes q ≡ None
 absent [] q h = refl
 absent (l ∷ nodes) q h =
-    let e = and_parts (not (q == l.node.id)) (list_all (λ (l : Loaded). not (q == l.node.id)) nodes) h in
+    let e = and_parts (not (q == l.node.id)) (list_all (λ (l : LoadedNode). not (q == l.node.id)) nodes) h in
     ap (λ o. or_forks o (own_forks l q)) (absent nodes q e.1) ∙ none-own l q (not-is (q == l.node.id) e.0)
 
 -- the forks of one more node, in front, are seen at its id alone
-before : (l : Loaded) (nodes : List Loaded) (q : ℕ) → (q == l.node.id) ≡ false → forks_in (l ∷ nodes) q ≡ forks_in nodes q
+before : (l : LoadedNode) (nodes : List LoadedNode) (q : ℕ) → (q == l.node.id) ≡ false → forks_in (l ∷ nodes) q ≡ forks_in nodes q
 before l nodes q other = ap (λ o. or_forks (forks_in nodes q) o) (none-own l q other) ∙ or-none (forks_in nodes q)
 
-each-same : (f g : ℕ → Option FileForks) (test : Loaded → Bool) (nodes : List Loaded) → ((l : Loaded) → test l ≡ true → g l.node.id ≡ f l.node.id) → list_all test nodes ≡ true → Each f nodes → Each g nodes
+each-same : (f g : ℕ → Option FileForks) (test : LoadedNode → Bool) (nodes : List LoadedNode) → ((l : LoadedNode) → test l ≡ true → g l.node.id ≡ f l.node.id) → list_all test nodes ≡ true → Each f nodes → Each g nodes
 unfolding Each
 each-same f g test [] same h each = tt
 each-same f g test (l ∷ nodes) same h each =
@@ -141,7 +141,7 @@ each-same f g test (l ∷ nodes) same h each =
     )
 
 -- a directory has no bytes
-empty-dir : (l : Loaded) → is_formed (loaded_row l) ≡ true → l.node.dir ≡ true → (l.data_len ≡ 0) × (l.resource_len ≡ 0)
+empty-dir : (l : LoadedNode) → is_formed (loaded_row l) ≡ true → l.node.dir ≡ true → (l.data_len ≡ 0) × (l.resource_len ≡ 0)
 empty-dir l formed dir =
     let bytes : List ℕ = replicate l.data_len 0 in
     let resource : List ℕ = replicate l.resource_len 0 in
@@ -155,10 +155,10 @@ empty-dir l formed dir =
     (sym (length-replicate {A = ℕ} l.data_len 0) ∙ eqb-true (length bytes) 0 d.0, sym (length-replicate {A = ℕ} l.resource_len 0) ∙ eqb-true (length resource) 0 e.0)
 
 -- a node's own forks
-OwnShown : Loaded → Option FileForks → Type 0
+OwnShown : LoadedNode → Option FileForks → Type 0
 OwnShown l o = (data_of o ≡ replicate l.data_len 0) × (resource_of o ≡ replicate l.resource_len 0) × ((l.node.dir || is_some o) ≡ true)
 
-own-shown : (l : Loaded) → is_formed (loaded_row l) ≡ true → OwnShown l (own_forks l l.node.id)
+own-shown : (l : LoadedNode) → is_formed (loaded_row l) ≡ true → OwnShown l (own_forks l l.node.id)
 unfolding OwnShown
 own-shown l formed =
     let kept : FileForks = record { data_fork = replicate l.data_len 0; resource_fork = replicate l.resource_len 0 } in
@@ -180,35 +180,35 @@ other-way a b h = cond_both (b == a) true false (λ t. (b == a) ≡ false) (λ i
     never : (t : Bool) → t ≡ true → t ≡ false → ⊥
     never t is isnt = cc
 
-pub all-each : (nodes : List Loaded) → are_apart (λ (a : Loaded) b. a.node.id == b.node.id) nodes ≡ true → list_all is_formed (map loaded_row nodes) ≡ true → Each (λ q. forks_in nodes q) nodes
+pub all-each : (nodes : List LoadedNode) → are_apart (λ (a : LoadedNode) b. a.node.id == b.node.id) nodes ≡ true → list_all is_formed (map loaded_row nodes) ≡ true → Each (λ q. forks_in nodes q) nodes
 unfolding Each OwnShown
 all-each [] apart formed = tt
 all-each (l ∷ nodes) apart formed =
-    let e = and_parts (not (list_any (λ (b : Loaded). l.node.id == b.node.id) nodes)) (are_apart (λ (a : Loaded) b. a.node.id == b.node.id) nodes) apart in
+    let e = and_parts (not (list_any (λ (b : LoadedNode). l.node.id == b.node.id) nodes)) (are_apart (λ (a : LoadedNode) b. a.node.id == b.node.id) nodes) apart in
     let f = and_parts (is_formed (loaded_row l)) (list_all is_formed (map loaded_row nodes)) formed in
-    let others : list_all (λ (b : Loaded). not (l.node.id == b.node.id)) nodes ≡ true = none-all (λ (b : Loaded). l.node.id == b.node.id) nodes e.0 in
+    let others : list_all (λ (b : LoadedNode). not (l.node.id == b.node.id)) nodes ≡ true = none-all (λ (b : LoadedNode). l.node.id == b.node.id) nodes e.0 in
     let own = own-shown l f.0 in
     let is : forks_in (l ∷ nodes) l.node.id ≡ own_forks l l.node.id = ap (λ o. or_forks o (own_forks l l.node.id)) (absent nodes l.node.id others) in (
       ap data_of is ∙ own.0,
       ap resource_of is ∙ own.1,
       ap (λ o. l.node.dir || is_some o) is ∙ own.2,
-      each-same (λ q. forks_in nodes q) (λ q. forks_in (l ∷ nodes) q) (λ (b : Loaded). not (l.node.id == b.node.id)) nodes
+      each-same (λ q. forks_in nodes q) (λ q. forks_in (l ∷ nodes) q) (λ (b : LoadedNode). not (l.node.id == b.node.id)) nodes
           (λ b other. before l nodes b.node.id (other-way l.node.id b.node.id (not-is (l.node.id == b.node.id) other))) others (all-each nodes e.1 f.1),
     )
 
 -- so the rows are the nodes with their lengths, and each file's forks are kept
-pub rows-are : (forks : Forks) (nodes : List Loaded) → Each (λ q. at nat_cmp forks q) nodes → rows_of forks (map loaded_node nodes) ≡ map loaded_row nodes
+pub rows-are : (forks : Forks) (nodes : List LoadedNode) → Each (λ q. at nat_cmp forks q) nodes → rows_of forks (map loaded_node nodes) ≡ map loaded_row nodes
 unfolding rows_of Each
 rows-are forks [] each = refl
 rows-are forks (l ∷ nodes) each =
     λ i. record l.node { data_fork = each.0 i; resource_fork = each.1 i } ∷ rows-are forks nodes each.3 i
 
-pub files-are : (forks : Forks) (nodes : List Loaded) → Each (λ q. at nat_cmp forks q) nodes → list_all (has_forks forks) (map loaded_node nodes) ≡ true
+pub files-are : (forks : Forks) (nodes : List LoadedNode) → Each (λ q. at nat_cmp forks q) nodes → list_all (has_forks forks) (map loaded_node nodes) ≡ true
 unfolding Each
 files-are forks [] each = refl
 files-are forks (l ∷ nodes) each = and_from (has_forks forks l.node) (list_all (has_forks forks) (map loaded_node nodes)) each.2 (files-are forks nodes each.3)
 
-pub each-found : (f g : ℕ → Option FileForks) (nodes : List Loaded) → ((q : ℕ) → g q ≡ f q) → Each f nodes → Each g nodes
+pub each-found : (f g : ℕ → Option FileForks) (nodes : List LoadedNode) → ((q : ℕ) → g q ≡ f q) → Each f nodes → Each g nodes
 unfolding Each
 each-found f g [] same each = tt
 each-found f g (l ∷ nodes) same each = (
@@ -219,12 +219,12 @@ each-found f g (l ∷ nodes) same each = (
 )
 
 -- no id is as high as the next one
-pub none-high : (nodes : List Loaded) (next q : ℕ) → next ≤ q → list_all (λ (row : Row). nat_lt row.id next) (map loaded_node nodes) ≡ true → list_all (λ (l : Loaded). not (q == l.node.id)) nodes ≡ true
+pub none-high : (nodes : List LoadedNode) (next q : ℕ) → next ≤ q → list_all (λ (row : Row). nat_lt row.id next) (map loaded_node nodes) ≡ true → list_all (λ (l : LoadedNode). not (q == l.node.id)) nodes ≡ true
 none-high [] next q high h = refl
 none-high (l ∷ nodes) next q high h =
     let e = and_parts (nat_lt l.node.id next) (list_all (λ (row : Row). nat_lt row.id next) (map loaded_node nodes)) h in
     let below : l.node.id < next = ltb-true l.node.id next e.0 in
-    and_from (not (q == l.node.id)) (list_all (λ (l : Loaded). not (q == l.node.id)) nodes) (ap not (ne_eqb q l.node.id (λ same. omega arith))) (none-high nodes next q high e.1)
+    and_from (not (q == l.node.id)) (list_all (λ (l : LoadedNode). not (q == l.node.id)) nodes) (ap not (ne_eqb q l.node.id (λ same. omega arith))) (none-high nodes next q high e.1)
 
 -- a node that is there is found
 pub found-there : (rows : List Row) (id : ℕ) → row_at rows id ≡ None → has_node rows id ≡ true → ⊥
@@ -237,7 +237,7 @@ found-there rows id none there =
     never false is isnt = cc
 
 -- all that is needed of what is to be restored
-pub record RestoreParts (head : VolumeHead) (nodes : List Loaded) : Type 0 where
+pub record RestoreParts (head : VolumeHead) (nodes : List LoadedNode) : Type 0 where
   pub few : sum_by loaded_bytes nodes ≤ most_fork_bytes
   pub rising : has_rising_ids (map loaded_node nodes) ≡ true
   pub below : list_all (λ (row : Row). nat_lt row.id head.next_id) (map loaded_node nodes) ≡ true
@@ -247,7 +247,7 @@ pub record RestoreParts (head : VolumeHead) (nodes : List Loaded) : Type 0 where
   pub root : has_node (map loaded_node nodes) root_id ≡ true
   pub each : Each (λ q. forks_in nodes q) nodes
 
-pub restore-parts : (head : VolumeHead) (nodes : List Loaded) → IsRestorable head nodes → RestoreParts head nodes
+pub restore-parts : (head : VolumeHead) (nodes : List LoadedNode) → IsRestorable head nodes → RestoreParts head nodes
 unfolding restored has_rising_ids has_apart_names
 restore-parts head nodes r =
     let v : VolumeState = restored head nodes in
@@ -268,7 +268,7 @@ restore-parts head nodes r =
     }
 
 -- what was made of it
-pub record Restored (head : VolumeHead) (nodes : List Loaded) (name : List ℕ) (dates : Dates) (rows : RowsValue) (forks : Forks) (used : ℕ) : Type 0 where
+pub record Restored (head : VolumeHead) (nodes : List LoadedNode) (name : List ℕ) (dates : Dates) (rows : RowsValue) (forks : Forks) (used : ℕ) : Type 0 where
   pub may : IsRestorable head nodes
   pub name_is : name ≡ name_of rows.rows root_id
   pub dates_are : dates ≡ record { created = head.created; modified = head.modified; backup = head.backup }
@@ -277,12 +277,12 @@ pub record Restored (head : VolumeHead) (nodes : List Loaded) (name : List ℕ) 
   pub forks_are : (q : ℕ) → at nat_cmp forks q ≡ forks_in nodes q
   pub used_is : used ≡ sum_by loaded_bytes nodes
 
-shown-rows : {head : VolumeHead} {nodes : List Loaded} {name : List ℕ} {dates : Dates} {rows : RowsValue} {forks : Forks} {used : ℕ} → Restored head nodes name dates rows forks used → rows_of forks rows.rows ≡ map loaded_row nodes
+shown-rows : {head : VolumeHead} {nodes : List LoadedNode} {name : List ℕ} {dates : Dates} {rows : RowsValue} {forks : Forks} {used : ℕ} → Restored head nodes name dates rows forks used → rows_of forks rows.rows ≡ map loaded_row nodes
 shown-rows {head} {nodes} {name} {dates} {rows} {forks} r =
     ap (λ l. rows_of forks l) r.rows_are
     ∙ rows-are forks nodes (each-found (λ q. forks_in nodes q) (λ q. at nat_cmp forks q) nodes r.forks_are (restore-parts head nodes r.may).each)
 
-pub restored-state : {head : VolumeHead} {nodes : List Loaded} {name : List ℕ} {dates : Dates} {rows : RowsValue} {forks : Forks} {used : ℕ} → Restored head nodes name dates rows forks used
+pub restored-state : {head : VolumeHead} {nodes : List LoadedNode} {name : List ℕ} {dates : Dates} {rows : RowsValue} {forks : Forks} {used : ℕ} → Restored head nodes name dates rows forks used
     → state_of name dates rows forks ≡ restored head nodes
 unfolding restored
 restored-state {head} {nodes} {name} {dates} {rows} {forks} r =
@@ -300,7 +300,7 @@ restored-state {head} {nodes} {name} {dates} {rows} {forks} r =
       appls = [];
     }
 
-pub restored-kept : {head : VolumeHead} {nodes : List Loaded} {name : List ℕ} {dates : Dates} {rows : RowsValue} {forks : Forks} {used : ℕ} → Restored head nodes name dates rows forks used → IsKept name dates rows forks used
+pub restored-kept : {head : VolumeHead} {nodes : List LoadedNode} {name : List ℕ} {dates : Dates} {rows : RowsValue} {forks : Forks} {used : ℕ} → Restored head nodes name dates rows forks used → IsKeptVolume name dates rows forks used
 restored-kept {head} {nodes} {name} {dates} {rows} {forks} {used} r =
     let parts = restore-parts head nodes r.may in
     let each : Each (λ q. at nat_cmp forks q) nodes = each-found (λ q. forks_in nodes q) (λ q. at nat_cmp forks q) nodes r.forks_are parts.each in

@@ -21,7 +21,7 @@ use Rattle.volume_tree.proofs.FileForks.{found-id, found-kept}
 use Rattle.volume_tree.proofs.Showing.{found-shown, missing-shown}
 use Rattle.volume_tree.specs.lemma.ForkEffect.{IsChanged, kept_fork}
 use Rattle.volume_tree.specs.Kept.{Forks, data_of, resource_of, with_forks, rows_of, state_of}
-use Rattle.volume_tree.specs.lemma.Kept.{IsKept, has_forks}
+use Rattle.volume_tree.specs.lemma.Kept.{IsKeptVolume, has_forks}
 use Rattle.volume_tree.specs.Planned.{modified_rows}
 use Rattle.afp_volume.specs.OpenFork.{file_of}
 use Rattle.volume_tree.specs.Shown.{fork_at}
@@ -104,7 +104,7 @@ if-modified false now dates = refl
 
 -- a plan of a fork, and what was done of it
 pub record Written (name : List ℕ) (dates new_dates : Dates) (rows new_rows : RowsValue) (forks new_forks : Forks) (used left : ℕ) (id : NodeId) (now : ℕ) (resource writes : Bool) (before after : List ℕ) : Type 0 where
-  pub kept : IsKept name dates rows forks used
+  pub kept : IsKeptVolume name dates rows forks used
   pub file : FileThere forks rows.rows id.0 resource before
   pub fits : fork_bytes (rows_of forks rows.rows) + length after ≤ most_fork_bytes + length before
   pub dates_are : new_dates ≡ (if writes then (record dates { modified = pos now }) else dates)
@@ -151,7 +151,7 @@ module _ {name : List ℕ} {dates new_dates : Dates} {rows new_rows : RowsValue}
   none-there : (q : ℕ) → at nat_cmp forks q ≡ None → (q == id.0) ≡ false
   none-there q none = ne_eqb q id.0 (λ same. let kept : is_some (at nat_cmp forks id.0) ≡ true = a.file.kept in let gone : is_some (at nat_cmp forks id.0) ≡ false = ap (λ n. is_some (at nat_cmp forks n)) (sym same) ∙ ap is_some none in absurd (cc))
 
-  pub written-kept : IsKept name new_dates new_rows new_forks left
+  pub written-kept : IsKeptVolume name new_dates new_rows new_forks left
   written-kept =
       let shown = rows_of forks rows.rows in
       record {
@@ -171,7 +171,7 @@ module _ {name : List ℕ} {dates new_dates : Dates} {rows new_rows : RowsValue}
       }
 
 -- the bytes of a fork are among all bytes
-pub before-within : {name : List ℕ} {dates : Dates} {rows : RowsValue} {forks : Forks} {used : ℕ} (id now : ℕ) (resource : Bool) (before : List ℕ) → IsKept name dates rows forks used → FileThere forks rows.rows id resource before → length before ≤ used
+pub before-within : {name : List ℕ} {dates : Dates} {rows : RowsValue} {forks : Forks} {used : ℕ} (id now : ℕ) (resource : Bool) (before : List ℕ) → IsKeptVolume name dates rows forks used → FileThere forks rows.rows id resource before → length before ≤ used
 before-within {name} {dates} {rows} {forks} {used} id now resource before kept file =
     let none : List ℕ = [] in
     let sizes : fork_bytes (with_changed id (written now resource none false) (rows_of forks rows.rows)) + length before ≡ fork_bytes (rows_of forks rows.rows) + length none =

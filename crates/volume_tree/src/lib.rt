@@ -32,7 +32,7 @@ pub use after::NodeAfter;
 pub use head::VolumeHead;
 pub use plan::Plan;
 pub use resolve::PlanFault;
-pub use restore::Loaded;
+pub use restore::LoadedNode;
 pub use touched::Touched;
 pub use typed::requests_are_typed;
 pub use volume::Volume;

@@ -22,7 +22,7 @@ use std::alloc::Global;
 
 /// A node with the lengths of its forks in bytes. A directory has forks of no bytes.
 #[derive(Drop)]
-pub struct Loaded {
+pub struct LoadedNode {
     pub node: Node,
     pub data_len: u64,
     pub resource_len: u64,
@@ -57,7 +57,7 @@ impl FileForks {
 fn keep_forks(
     forks: &mut SortedMap<u64, FileForks>,
     alloc: Global,
-    loaded: &Loaded,
+    loaded: &LoadedNode,
 ) -> Result<(), OutOfMemory>
     requires { has_short_forks loaded.now ≡ true }
     ensures { OnOk result ((q : ℕ) → at nat_cmp forks.new q ≡ or_forks (own_forks loaded.now q) (at nat_cmp forks.old q)) }
@@ -71,7 +71,7 @@ fn keep_forks(
 }
 
 /// The forks of all files.
-fn all_forks(alloc: Global, nodes: &[Loaded]) -> Result<SortedMap<u64, FileForks>, OutOfMemory>
+fn all_forks(alloc: Global, nodes: &[LoadedNode]) -> Result<SortedMap<u64, FileForks>, OutOfMemory>
     requires { list_all has_short_forks nodes.now ≡ true }
     ensures { IfOk result (λ forks. (q : ℕ) → at nat_cmp forks q ≡ forks_in nodes.now q) }
 {
@@ -83,7 +83,7 @@ fn all_forks(alloc: Global, nodes: &[Loaded]) -> Result<SortedMap<u64, FileForks
 }
 
 /// How many bytes all forks have.
-fn bytes_of(nodes: &[Loaded]) -> u64
+fn bytes_of(nodes: &[LoadedNode]) -> u64
     requires { sum_by loaded_bytes nodes.now ≤ most_fork_bytes }
     ensures { result ≡ sum_by loaded_bytes nodes.now }
 {
@@ -95,7 +95,7 @@ fn bytes_of(nodes: &[Loaded]) -> u64
 }
 
 /// The nodes without the lengths of their forks.
-fn nodes_of(alloc: Global, nodes: Vec<Loaded>) -> Result<Vec<Node>, OutOfMemory>
+fn nodes_of(alloc: Global, nodes: Vec<LoadedNode>) -> Result<Vec<Node>, OutOfMemory>
     ensures { IfOk result (λ bare. bare.items ≡ map loaded_node nodes.items) }
 {
     Ok(nodes.into_iter().map(|loaded| loaded.node).collect(alloc)?)
@@ -130,7 +130,7 @@ impl Volume {
     pub fn restore(
         alloc: Global,
         head: VolumeHead,
-        nodes: Vec<Loaded>,
+        nodes: Vec<LoadedNode>,
     ) -> Result<Volume, OutOfMemory>
         requires { IsRestorable head nodes.items }
         ensures { IfOk result (λ volume. volume.state ≡ restored head nodes.items) }

@@ -45,11 +45,11 @@ impl Model for Volume {
     ghost Value = { TreeValue };
 
     ghost use Rattle.volume_tree.specs.Kept.{state_of, spare_of};
-    ghost use Rattle.volume_tree.specs.lemma.Kept.{IsKept};
+    ghost use Rattle.volume_tree.specs.lemma.Kept.{IsKeptVolume};
 
     ghost view = { λ a. record { state = state_of a.name a.dates a.rows a.forks; spare = spare_of a.rows a.forks } };
 
-    ghost invariant = { λ a. IsKept a.name a.dates a.rows a.forks a.used };
+    ghost invariant = { λ a. IsKeptVolume a.name a.dates a.rows a.forks a.used };
 }
 
 /// A new file or directory of no attributes (AFP Reference, "FPCreateFile", "FPCreateDir").

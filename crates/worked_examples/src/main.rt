@@ -2,7 +2,7 @@
 //!
 //! Each line of the standard input is a case: its kind, what is given, and behind ` -> ` what is wanted. Bytes are
 //! hexadecimal digits, `-` where there are none; parts of them are joined by `+`, and `*` with a number repeats a part. A
-//! line of which something else came is printed with its number; at the end it prints how many cases there were of each
+//! line of which the result is another is printed with its number; at the end it prints how many cases there were of each
 //! kind.
 #![tactic(auto)]
 
@@ -35,11 +35,11 @@ fn error_of(fault: CaseFault) -> io::Error {
     }
 }
 
-/// Takes a line, and prints it where something else came of it.
+/// Takes a line, and prints it where its result is another.
 fn take_line(rt: &HostRuntime, run: &mut Run, number: u64, line: &str) -> io::Result<()> {
     match run.take(rt.alloc(), line) {
         Ok(None) => Ok(()),
-        Ok(Some(came)) => println!(rt; "line {number}: {line}\n  but came: {came}"),
+        Ok(Some(result)) => println!(rt; "line {number}: {line}\n  but came: {result}"),
         Err(fault) => Err(error_of(fault)),
     }
 }

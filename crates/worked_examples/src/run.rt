@@ -49,8 +49,8 @@ impl Run {
         }
     }
 
-    /// What comes of a case.
-    fn came(&mut self, alloc: Global, case_words: &str) -> Result<String, CaseFault> {
+    /// The result of a case.
+    fn result(&mut self, alloc: Global, case_words: &str) -> Result<String, CaseFault> {
         let words: Vec<&str> = case_words.split_whitespace().collect(alloc)?;
         let [kind, rest @ ..] = words.as_slice() else {
             return Err(CaseFault::Word);
@@ -59,7 +59,7 @@ impl Run {
         case(alloc, &mut self.server, kind, rest)
     }
 
-    /// What comes of a case, where it is not what is wanted.
+    /// The result of a case, where it is not what is wanted.
     fn other(
         &mut self,
         alloc: Global,
@@ -67,12 +67,12 @@ impl Run {
         wanted: &str,
     ) -> Result<Option<String>, CaseFault> {
         let wanted = spelt_out(alloc, wanted)?;
-        match self.came(alloc, case_words) {
-            Ok(came) => {
-                if came.as_str() == wanted.as_str() {
+        match self.result(alloc, case_words) {
+            Ok(result) => {
+                if result.as_str() == wanted.as_str() {
                     return Ok(None);
                 }
-                Ok(Some(came))
+                Ok(Some(result))
             }
             Err(CaseFault::Word) => Ok(Some(text_of(alloc, "no case")?)),
             Err(CaseFault::Memory) => Err(CaseFault::Memory),

@@ -37,15 +37,15 @@ fn due_of(due: Due) -> &'static str {
 
 fn take(pulse: &mut Pulse, step: &str, now: Moment, text: &mut String) -> Result<(), CaseFault> {
     match step {
-        "heard" => pulse.heard(now),
-        "wrote" => pulse.wrote(now),
+        "read" => pulse.note_read(now),
+        "wrote" => pulse.note_write(now),
         "due" => text.push_str(due_of(pulse.due(now)))?,
         _ => return Err(CaseFault::Word),
     }
     Ok(())
 }
 
-/// `pulse MADE STEP SECONDS ..`, where a step is `heard`, `wrote` or `due`: what is due at each `due`.
+/// `pulse MADE STEP SECONDS ..`, where a step is `read`, `wrote` or `due`: what is due at each `due`.
 pub fn pulse(alloc: Global, words: &[&str]) -> Result<String, CaseFault> {
     let [made, steps @ ..] = words else {
         return Err(CaseFault::Word);

@@ -95,7 +95,7 @@ fn run(alloc: Global, bytes: &[u8], first: usize) -> Result<String, CaseFault>
     }
 }
 
-/// The place where the bytes were cut, where something else came of them.
+/// The place where the bytes were cut, where the result of them is another.
 fn differs(alloc: Global, bytes: &[u8], text: &str) -> Result<Option<usize>, CaseFault> {
     for first in 1..bytes.len() {
         if run(alloc, bytes, first)?.as_str() != text {

@@ -4,8 +4,8 @@ use Rattle.byteorder.specs.Endian.{big_bytes}
 use Rattle.afp_bitmap.specs.declared.write.Field as code
 use Rattle.afp_bitmap.specs.declared.write.Field.TheVariants as codes
 use Rattle.afp_bitmap.specs.declared.write.FieldRow as rows
-use Rattle.afp_bitmap.specs.declared.write.Spot as spots
-use Rattle.afp_bitmap.specs.declared.write.Spots as all_spots
+use Rattle.afp_bitmap.specs.declared.write.NameSpot as spots
+use Rattle.afp_bitmap.specs.declared.write.NameSpots as all_spots
 use Rattle.afp_bitmap.specs.Field.{Field, Number, Date, Finder, LongName, Utf8Name, fixed_bytes, pad_of, long_name_bytes, utf8_name_bytes}
 use Rattle.afp_bitmap.specs.Table.{FieldRow}
 
@@ -51,31 +51,31 @@ IsSized (Finder info) = length info ≡ 32
 IsSized f = Unit {0}
 
 -- where a name's place is to be written, and the name
-abbrev pub Spot : Type 0
-Spot = ℕ × List ℕ
+abbrev pub NameSpot : Type 0
+NameSpot = ℕ × List ℕ
 
-abbrev pub spot_of : Option spots.Spot → Option Spot
+abbrev pub spot_of : Option spots.NameSpot → Option NameSpot
 spot_of None = None
 spot_of (Some s) = Some (s.at, s.name.now)
 
-pub record Spots : Type 0 where
-  pub long_name : Option Spot
-  pub utf8_name : Option Spot
+pub record NameSpots : Type 0 where
+  pub long_name : Option NameSpot
+  pub utf8_name : Option NameSpot
 
-abbrev pub spots_of : all_spots.Spots → Spots
+abbrev pub spots_of : all_spots.NameSpots → NameSpots
 spots_of s = record { long_name = spot_of s.long_name; utf8_name = spot_of s.utf8_name }
 
-abbrev pub no_spots : Spots
+abbrev pub no_spots : NameSpots
 no_spots = record { long_name = None; utf8_name = None }
 
 -- a name is noted
-abbrev pub noted : ℕ → Field → Spots → Spots
+abbrev pub noted : ℕ → Field → NameSpots → NameSpots
 noted at (LongName name) s = record { long_name = Some (at, name); utf8_name = s.utf8_name }
 noted at (Utf8Name name) s = record { long_name = s.long_name; utf8_name = Some (at, name) }
 noted at f s = s
 
 -- the names of fields that begin at this place
-unfoldable pub all_noted : ℕ → List Field → Spots → Spots
+unfoldable pub all_noted : ℕ → List Field → NameSpots → NameSpots
 all_noted at [] s = s
 all_noted at (f ∷ fs) s = all_noted (at + length (fixed_bytes 0 f)) fs (noted at f s)
 
@@ -88,15 +88,15 @@ abbrev pub patched : ℕ → ℕ → List ℕ → List ℕ
 patched at number bytes = take at bytes ++ (big_bytes 2 number ++ drop 2 (drop at bytes))
 
 -- a name can be appended: it can be counted, and its place is written over 2 bytes
-abbrev pub CanName : ℕ → Option Spot → List ℕ → Type 0
+abbrev pub CanName : ℕ → Option NameSpot → List ℕ → Type 0
 CanName limit None bytes = Unit {0}
 CanName limit (Some s) bytes = (length s.1 < limit) × (s.0 + 2 ≤ length bytes) × (length bytes < 65536)
 
 -- the bytes with a name behind them, whose place is written
-abbrev pub with_long_name : Option Spot → List ℕ → List ℕ
+abbrev pub with_long_name : Option NameSpot → List ℕ → List ℕ
 with_long_name None bytes = bytes
 with_long_name (Some s) bytes = patched s.0 (length bytes) bytes ++ padded (long_name_bytes s.1)
 
-abbrev pub with_utf8_name : Option Spot → List ℕ → List ℕ
+abbrev pub with_utf8_name : Option NameSpot → List ℕ → List ℕ
 with_utf8_name None bytes = bytes
 with_utf8_name (Some s) bytes = patched s.0 (length bytes) bytes ++ padded (utf8_name_bytes s.1)

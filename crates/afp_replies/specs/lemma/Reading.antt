@@ -8,7 +8,7 @@ use Rattle.afp_replies.specs.declared.list.ListEntry.{ListEntry}
 use Rattle.afp_replies.specs.declared.reply.Reply.{Reply}
 use Rattle.afp_replies.specs.declared.reply.ReplyFault.{ReplyFault}
 use Rattle.afp_replies.specs.declared.reply.ReplyFault.TheVariants.{Bad, Memory}
-use Rattle.afp_replies.specs.Entry.{IsCounted, stated}
+use Rattle.afp_replies.specs.Entry.{HasEntryLength, stated}
 use Rattle.afp_replies.specs.Words.{ReplyWord, Counted, Value, Spells, FaultAt}
 use Rattle.afp_replies.specs.Layout.{Layout, Lacks, Has, StopsAt}
 use Rattle.afp_replies.specs.Commands as commands
@@ -27,10 +27,10 @@ pub record Took (w : ReplyWord) (old : Rest) (x : Value w) (new : Rest) : Type 0
   pub only : (y : Value w) (other rest : List ℕ) → Spells w y other → old.bytes ≡ other ++ rest → (y ≡ x) × (rest ≡ new.bytes)
 
 -- what reading a field answers
-abbrev pub Takes : (w : ReplyWord) → Rest → Result (Value w) ReplyFault → Rest → Type 0
-Takes w old (Ok x) new = Took w old x new
-Takes w old (Err Memory) new = Unit {0}
-Takes w old (Err (Bad at)) new = Lacks w old.bytes × FaultAt w old.place old.bytes at
+abbrev pub TakesWord : (w : ReplyWord) → Rest → Result (Value w) ReplyFault → Rest → Type 0
+TakesWord w old (Ok x) new = Took w old x new
+TakesWord w old (Err Memory) new = Unit {0}
+TakesWord w old (Err (Bad at)) new = Lacks w old.bytes × FaultAt w old.place old.bytes at
 
 -- the reply was read, and the bytes are no other
 pub record Found (l : Layout) (bytes : List ℕ) (r : Reply) : Type 0 where
@@ -77,9 +77,9 @@ abbrev pub row_of : ShapeRow → commands.ShapeRow
 row_of r = (r.0, r.1)
 
 -- what reading a part of a layout answers: it goes on with the part's value, or stops
-abbrev pub Reads : {X : Type 0} → ((X → Layout) → Layout) → Rest → Result X ReplyFault → Rest → Type 0
-Reads {X = X} part old (Ok x) new = (next : X → Layout) (res : Result Reply ReplyFault) → IsRead (next x) new res → IsRead (part next) old res
-Reads {X = X} part old (Err e) new = (next : X → Layout) → IsRead (part next) old (Err e)
+abbrev pub ReadsPart : {X : Type 0} → ((X → Layout) → Layout) → Rest → Result X ReplyFault → Rest → Type 0
+ReadsPart {X = X} part old (Ok x) new = (next : X → Layout) (res : Result Reply ReplyFault) → IsRead (next x) new res → IsRead (part next) old res
+ReadsPart {X = X} part old (Err e) new = (next : X → Layout) → IsRead (part next) old (Err e)
 
 -- what reading the parameters of a kind for these bits answers: no other values have these bytes
 abbrev pub TakesParams : ℕ → ℕ → Rest → Result Values ReplyFault → Type 0
@@ -93,13 +93,13 @@ TakesParams kind bits here (Err (Bad at)) =
 -- the bytes of a text with its count in so many bytes before it
 abbrev pub TakesText : ℕ → Rest → Result (Bor (List ℕ)) ReplyFault → Rest → Type 0
 TakesText size old (Ok piece) new = Took (Counted size) old piece.now new
-TakesText size old (Err e) new = Takes (Counted size) old (Err e) new
+TakesText size old (Err e) new = TakesWord (Counted size) old (Err e) new
 
 -- the bytes of an entry
 abbrev pub TakesEntryBytes : Bool → Rest → Result (Bor (List ℕ)) ReplyFault → Rest → Type 0
-TakesEntryBytes wide old (Ok piece) new = IsCounted wide old.bytes × FrontIs (stated wide old.bytes) old piece.now new
+TakesEntryBytes wide old (Ok piece) new = HasEntryLength wide old.bytes × FrontIs (stated wide old.bytes) old piece.now new
 TakesEntryBytes wide old (Err Memory) new = ⊥
-TakesEntryBytes wide old (Err (Bad at)) new = (IsCounted wide old.bytes → ⊥) × (at ≡ old.place)
+TakesEntryBytes wide old (Err (Bad at)) new = (HasEntryLength wide old.bytes → ⊥) × (at ≡ old.place)
 
 -- an entry with the values that were read
 abbrev pub entry_result : Result Values ReplyFault → Result ListEntry ReplyFault

@@ -11,9 +11,9 @@ use Rattle.afp_server.specs.declared.stage.Stage.{Stage}
 use Rattle.afp_server.specs.declared.stage.Stage.TheVariants as stages
 use Rattle.afp_server.specs.Passing.{calls_in}
 
--- each of these calls went in, and came out
+-- each of these calls entered the gate, and left it
 abbrev pub all_passed : List Step → Passed
-all_passed steps = record { went_in = calls_in steps; came_out = calls_in steps }
+all_passed steps = record { entered = calls_in steps; exited = calls_in steps }
 
 abbrev pub if_call : Bool → LinkNumber → Option LinkNumber
 if_call true link = Some link
@@ -26,7 +26,7 @@ call_link false stages.Fresh kind = None
 call_link false (stages.Open link) kind = if_call (carries_call kind) link
 call_link false stages.Closing kind = None
 
--- The call went in before it was asked; where there was no memory for its copy nothing did.
+-- The call entered the gate before it was asked; where there was no memory for its copy nothing did.
 abbrev pub PassesIn : Option LinkNumber → Result (Option FrameEnd) OutOfMemory → Passed → Passed → Type 0
 PassesIn called (Ok end) old new = new ≡ in_by old called
 PassesIn called (Err fault) old new = new ≡ old

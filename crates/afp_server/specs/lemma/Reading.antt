@@ -1,8 +1,8 @@
 -- What one read does to a deframer and a link (this profile).
 use Rattle.std.specs.Prelude.{◌≡◌, ℕ, ◌+◌, ◌≤◌, List, ◌++◌, length, take}
 use Rattle.afp_outside.specs.Link.{LinkState, ReadsPiece, ReadsQuiet, ReadsEnd, FailsToRead}
-use Rattle.afp_outside.specs.declared.link.Heard.{Heard}
-use Rattle.afp_outside.specs.declared.link.Heard.TheVariants as heard
+use Rattle.afp_outside.specs.declared.link.ReadResult.{ReadResult}
+use Rattle.afp_outside.specs.declared.link.ReadResult.TheVariants as results
 use Rattle.dsi_frame.specs.Buffered.{Buffered, buffer_length}
 
 -- The n bytes that came stand behind the rest.
@@ -13,16 +13,16 @@ pub record Buffers (old : Buffered) (before : LinkState) (n : ℕ) (new : Buffer
   pub place : new.place ≡ old.place
   pub fits : length old.rest + n ≤ buffer_length
 
--- by what was heard
-abbrev pub ReadsMore : Buffered → LinkState → Heard → Buffered → LinkState → Type 0
-ReadsMore old before (heard.Got n) new after = Buffers old before n new after
-ReadsMore old before heard.Quiet new after = ReadsQuiet before after × (new ≡ old)
-ReadsMore old before heard.End new after = ReadsEnd before after × (new ≡ old)
-ReadsMore old before heard.Failed new after = FailsToRead before after × (new ≡ old)
+-- by what the read gave
+abbrev pub ReadsMore : Buffered → LinkState → ReadResult → Buffered → LinkState → Type 0
+ReadsMore old before (results.Got n) new after = Buffers old before n new after
+ReadsMore old before results.Quiet new after = ReadsQuiet before after × (new ≡ old)
+ReadsMore old before results.End new after = ReadsEnd before after × (new ≡ old)
+ReadsMore old before results.Failed new after = FailsToRead before after × (new ≡ old)
 
 -- no more bytes came than the room has
-abbrev pub TakesAtMost : Heard → ℕ → Type 0
-TakesAtMost (heard.Got n) most = n ≤ most
-TakesAtMost heard.Quiet most = Unit {0}
-TakesAtMost heard.End most = Unit {0}
-TakesAtMost heard.Failed most = Unit {0}
+abbrev pub TakesAtMost : ReadResult → ℕ → Type 0
+TakesAtMost (results.Got n) most = n ≤ most
+TakesAtMost results.Quiet most = Unit {0}
+TakesAtMost results.End most = Unit {0}
+TakesAtMost results.Failed most = Unit {0}

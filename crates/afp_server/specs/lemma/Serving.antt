@@ -6,17 +6,17 @@ use Rattle.afp_serial.specs.Shown.{Shown}
 use Rattle.afp_serial.specs.Went.{Step, Went}
 use Rattle.dsi_frame.specs.Buffered.{Buffered, buffer_length}
 use Rattle.dsi_frame.specs.Stream.{IsUnfinished}
-use Rattle.afp_server.specs.LinkRun.{Moves, Fills, EachMayRead, RunsTo, came_in, cost_of}
+use Rattle.afp_server.specs.LinkRun.{Moves, Fills, EachMayRead, RunsTo, bytes_read, cost_of}
 use Rattle.afp_server.specs.Passing.{GoThrough}
 use Rattle.afp_server.specs.lemma.Passing.{all_passed}
 use Rattle.afp_server.specs.Replies.{spelling_of}
 use Rattle.afp_server.specs.Trace.{Happening, events_in, frames_in, replies_in, steps_in, standing, Follows}
-use Rattle.afp_server.specs.lemma.SessionState.{SessionState, RestsBy}
+use Rattle.afp_server.specs.lemma.SessionState.{SessionState, IdlesBy}
 use Rattle.afp_server.specs.declared.serve.LinkEnd.{LinkEnd}
 use Rattle.afp_server.specs.declared.serve.LinkEnd.TheVariants as links
 use Rattle.afp_server.specs.declared.stage.FrameEnd.{FrameEnd}
 use Rattle.afp_server.specs.declared.stage.FrameEnd.TheVariants as ends
-use Rattle.afp_server.specs.declared.stage.Rest.TheVariants as rests
+use Rattle.afp_server.specs.declared.stage.Idle.TheVariants as idles
 use Rattle.afp_server.specs.declared.stage.Stage.{Stage}
 use Rattle.afp_server.specs.declared.stage.Stage.TheVariants as stages
 
@@ -45,8 +45,8 @@ pub record SoFar (start : Start) (p : Point) (cost : ℕ) : Type 0 where
   pub moves : Moves start.link (events_in trace) (spelling_of (replies_in trace)) 0 p.link
   pub ended : p.link.ended ≡ start.link.ended
   pub reads : EachMayRead start.turns start.link.written [] trace
-  pub fills : Fills (came_in trace) (frames_in trace) p.held.rest
-  pub place : p.held.place + length p.held.rest ≡ length (came_in trace)
+  pub fills : Fills (bytes_read trace) (frames_in trace) p.held.rest
+  pub place : p.held.place + length p.held.rest ≡ length (bytes_read trace)
   pub costs : cost ≡ cost_of (events_in trace)
   pub went : Went start.shown (steps_in trace) p.shown
   pub through : p.passed ≡ all_passed (steps_in trace)
@@ -75,8 +75,8 @@ end_of_frame ends.Displaced at = links.Displaced
 end_of_frame (ends.Bad reason) at = links.Bad (record { at = at; reason = reason })
 
 -- A quiet was answered: the link goes on, or ends silent or displaced.
-abbrev pub RestsLink : LinkState → SessionState → Shown → Option LinkEnd → SessionState → Shown → Type 0
-RestsLink link old before None new after = RestsBy link.heard link.now old before rests.On new after
-RestsLink link old before (Some end) new after =
-    (RestsBy link.heard link.now old before rests.Silent new after × (end ≡ links.Silent link.heard link.now))
-    ⊎ (RestsBy link.heard link.now old before rests.Displaced new after × (end ≡ links.Displaced))
+abbrev pub IdlesLink : LinkState → SessionState → Shown → Option LinkEnd → SessionState → Shown → Type 0
+IdlesLink link old before None new after = IdlesBy link.last_read link.now old before idles.On new after
+IdlesLink link old before (Some end) new after =
+    (IdlesBy link.last_read link.now old before idles.Silent new after × (end ≡ links.Silent link.last_read link.now))
+    ⊎ (IdlesBy link.last_read link.now old before idles.Displaced new after × (end ≡ links.Displaced))

@@ -16,10 +16,10 @@ use Rattle.afp_server.specs.Calls.{CallTold}
 use Rattle.dsi_frame.specs.declared.frame.DsiCommand.{DsiCommand}
 use Rattle.afp_server.specs.Script.{Does, OpenDoes}
 use Rattle.afp_server.specs.Tally.{tallied, and_told, replies_after, refused_after}
-use Rattle.afp_server.specs.Trace.{Cause, displaced, silent, Rests}
+use Rattle.afp_server.specs.Trace.{Cause, displaced, silent, Idles}
 use Rattle.afp_server.specs.declared.stage.FrameEnd.{FrameEnd}
-use Rattle.afp_server.specs.declared.stage.Rest.{Rest}
-use Rattle.afp_server.specs.declared.stage.Rest.TheVariants as rests
+use Rattle.afp_server.specs.declared.stage.Idle.{Idle}
+use Rattle.afp_server.specs.declared.stage.Idle.TheVariants as idles
 use Rattle.afp_server.specs.declared.stage.Stage.{Stage}
 use Rattle.afp_server.specs.declared.stage.Stage.TheVariants as stages
 use Rattle.afp_server.specs.declared.tally.Tally.{Tally}
@@ -53,26 +53,26 @@ HandlesOpen now link command f old before (Err fault) new after =
     (carries_call command ≡ true) × (new.stage ≡ old.stage) × (new.block ≡ old.block) × (after ≡ before) × (new.tally ≡ old.tally)
 
 -- what a quiet comes to, as a cause
-abbrev pub rest_cause : Rest → Option Cause
-rest_cause rests.On = None
-rest_cause rests.Silent = Some silent
-rest_cause rests.Displaced = Some displaced
+abbrev pub idle_cause : Idle → Option Cause
+idle_cause idles.On = None
+idle_cause idles.Silent = Some silent
+idle_cause idles.Displaced = Some displaced
 
 -- A quiet, with what was asked in it.
-pub record RestsBy (heard now : ℕ) (old : SessionState) (before : Shown) (rest : Rest) (new : SessionState) (after : Shown) : Type 0 where
+pub record IdlesBy (last_read now : ℕ) (old : SessionState) (before : Shown) (idle : Idle) (new : SessionState) (after : Shown) : Type 0 where
   pub steps : List Step
-  pub rests : Rests heard now old.stage steps new.stage (rest_cause rest)
+  pub idles : Idles last_read now old.stage steps new.stage (idle_cause idle)
   pub block : new.block ≡ old.block
   pub went : Went before steps after
 
 -- What a Pulse's answer does: a session that was displaced closes its link.
-abbrev pub PulseTold : Told → SessionState → Rest → SessionState → Type 0
-PulseTold tells.Displaced old rest new = (rest ≡ rests.Displaced) × (new ≡ record old { stage = stages.Closing })
-PulseTold (tells.Opened link) old rest new = (rest ≡ rests.On) × (new ≡ old)
-PulseTold (tells.Reply c block ends) old rest new = (rest ≡ rests.On) × (new ≡ old)
-PulseTold (tells.Live drain) old rest new = (rest ≡ rests.On) × (new ≡ old)
-PulseTold tells.Done old rest new = (rest ≡ rests.On) × (new ≡ old)
-PulseTold tells.Memory old rest new = (rest ≡ rests.On) × (new ≡ old)
+abbrev pub PulseTold : Told → SessionState → Idle → SessionState → Type 0
+PulseTold tells.Displaced old idle new = (idle ≡ idles.Displaced) × (new ≡ record old { stage = stages.Closing })
+PulseTold (tells.Opened link) old idle new = (idle ≡ idles.On) × (new ≡ old)
+PulseTold (tells.Reply c block ends) old idle new = (idle ≡ idles.On) × (new ≡ old)
+PulseTold (tells.Live drain) old idle new = (idle ≡ idles.On) × (new ≡ old)
+PulseTold tells.Done old idle new = (idle ≡ idles.On) × (new ≡ old)
+PulseTold tells.Memory old idle new = (idle ≡ idles.On) × (new ≡ old)
 
 -- A call was replied to, or not, and the link goes on or ends, by what it was told.
 pub record CalledBy (f : Frame) (told : Told) (reply : Option Frame) (old new : SessionState) (end : Option FrameEnd) : Type 0 where

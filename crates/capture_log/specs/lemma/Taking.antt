@@ -159,6 +159,6 @@ Acts s number link now what None r = (is_refused_on (s.connections link) what �
 Acts s number link now what (Some verdict) r = DecidesLine s number (At link now what) verdict
 
 -- A line leads to where the capture stands then, and is counted; or it decides.
-abbrev pub Takes : CaptureState → ℕ → List ℕ → Option ReplayEnd → HeldCapture → Type 0
-Takes s number raw None c = (t : CaptureState) × Goes s raw t × IsCapture c t × (c.number ≡ number)
-Takes s number raw (Some verdict) c = Decides s number raw verdict
+abbrev pub TakesRawLine : CaptureState → ℕ → List ℕ → Option ReplayEnd → HeldCapture → Type 0
+TakesRawLine s number raw None c = (t : CaptureState) × Goes s raw t × IsCapture c t × (c.number ≡ number)
+TakesRawLine s number raw (Some verdict) c = Decides s number raw verdict

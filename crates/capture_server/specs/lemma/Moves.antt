@@ -12,7 +12,7 @@ use Rattle.afp_server.specs.Wire.{WireState}
 use Rattle.afp_server.specs.declared.stage.Stage.{Stage}
 use Rattle.afp_server.specs.declared.stage.Stage.TheVariants.{Fresh}
 use Rattle.afp_server.specs.declared.tally.Tally.{Tally}
-use Rattle.capture_server.specs.Connections.{Connection, Comes, fed_with, difference, output, entries_of, AreServed}
+use Rattle.capture_server.specs.Connections.{Connection, TakesBytes, fed_with, difference, output, entries_of, AreServed}
 use Rattle.capture_server.specs.declared.difference.Difference.{Difference}
 use Rattle.capture_server.specs.CaptureState.{after_quiet, after_loss}
 use Rattle.capture_server.specs.States.{ConnectionState, IsConnection}
@@ -39,15 +39,15 @@ pub record FeedsConnection (block : List ℕ) (now : ℕ) (piece : List ℕ) (s 
   pub replies : List Frame
   pub after : Stage
   pub over : Bool
-  pub comes : Comes block now s piece frames steps replies after over
+  pub comes : TakesBytes block now s piece frames steps replies after over
   pub extends : Extends t steps u
   pub tally_is : tally ≡ tallied no_tally steps replies
   pub is : IsConnection block c (fed_with s piece frames replies after over)
 
 -- A quiet came.
-abbrev pub RestsConnection : Option LinkNumber → List ℕ → ℕ → Connection → Shown → ConnectionState → Shown → Type 0
-RestsConnection None block now s t c u = (u ≡ t) × IsConnection block c s
-RestsConnection (Some link) block now s t c u = (answer : Told) × Extends t (step now link asks.Pulse answer ∷ []) u × IsConnection block c (after_quiet answer s)
+abbrev pub IdlesConnection : Option LinkNumber → List ℕ → ℕ → Connection → Shown → ConnectionState → Shown → Type 0
+IdlesConnection None block now s t c u = (u ≡ t) × IsConnection block c s
+IdlesConnection (Some link) block now s t c u = (answer : Told) × Extends t (step now link asks.Pulse answer ∷ []) u × IsConnection block c (after_quiet answer s)
 
 -- The connection was lost.
 abbrev pub LosesConnection : Option LinkNumber → List ℕ → ℕ → Connection → Shown → ConnectionState → Shown → Type 0

@@ -4,7 +4,7 @@ use Rattle.afp_serial.specs.Shown.{Shown}
 use Rattle.afp_server.specs.Wire.{open_link}
 use Rattle.afp_server.specs.declared.tally.Tally.{Tally}
 use Rattle.capture_server.specs.Connections.{Connection}
-use Rattle.capture_server.specs.lemma.Moves.{FeedsConnection, RestsConnection, LosesConnection, Compares}
+use Rattle.capture_server.specs.lemma.Moves.{FeedsConnection, IdlesConnection, LosesConnection, Compares}
 use Rattle.capture_server.specs.States.{ConnectionState, IsConnection}
 use Rattle.capture_server.specs.declared.difference.Difference.{Difference}
 
@@ -22,12 +22,12 @@ pub record FeedsAt (block : List ℕ) (now : ℕ) (piece : List ℕ) (slots : Li
   pub set : new ≡ slice_set slots index then_is
   pub feeds : (s : Connection) → IsConnection block old s → FeedsConnection block now piece s t tally then_is u
 
-pub record RestsAt (now : ℕ) (slots : List ConnectionState) (index : ℕ) (t : Shown) (new : List ConnectionState) (u : Shown) : Type 0 where
+pub record IdlesAt (now : ℕ) (slots : List ConnectionState) (index : ℕ) (t : Shown) (new : List ConnectionState) (u : Shown) : Type 0 where
   pub old : ConnectionState
   pub then_is : ConnectionState
   pub there : slice_get slots index ≡ Some old
   pub set : new ≡ slice_set slots index then_is
-  pub rests : (block : List ℕ) (s : Connection) → IsConnection block old s → RestsConnection (open_link s.stage) block now s t then_is u
+  pub idles : (block : List ℕ) (s : Connection) → IsConnection block old s → IdlesConnection (open_link s.stage) block now s t then_is u
 
 pub record LosesAt (now : ℕ) (slots : List ConnectionState) (index : ℕ) (t : Shown) (new : List ConnectionState) (u : Shown) : Type 0 where
   pub old : ConnectionState

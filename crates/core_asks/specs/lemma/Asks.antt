@@ -3,7 +3,7 @@ use Rattle.std.specs.Prelude.{◌≡◌, ℕ, Result, Ok, Err}
 use Rattle.afp_base.specs.Cached.{Request}
 use Rattle.afp_base.specs.declared.bytes.OutOfMemory.{OutOfMemory}
 use Rattle.core_state.specs.KeptWorld.{KeptWorld}
-use Rattle.core_state.specs.Running.{Comes, done}
+use Rattle.core_state.specs.Running.{IsOutcomeOf, done}
 use Rattle.afp_serial.specs.Answer.{after_call, committed_in, told_call}
 use Rattle.afp_serial.specs.World.{session_at}
 use Rattle.afp_serial.specs.declared.ask.Ask.TheVariants as ask
@@ -21,7 +21,7 @@ RunsOpen k (Err e) new = new ≡ k
 -- a call on a link comes to its steps; or there is no memory, and nothing changes
 abbrev pub RunsCall : KeptWorld → ℕ → Request → Result (Told × Outcome) OutOfMemory → KeptWorld → Type 0
 RunsCall k link q (Ok r) new =
-    Comes (told_call k.world (session_at k.world link) q r.1) (after_call k.world (session_at k.world link) q r.1)
+    IsOutcomeOf (told_call k.world (session_at k.world link) q r.1) (after_call k.world (session_at k.world link) q r.1)
     (committed_in k.world (session_at k.world link) q) r.1 r.0 k new
 RunsCall k link q (Err e) new = new ≡ k
 

@@ -39,7 +39,7 @@ IsPlaceOf locks fork reference range (Some place) = (place < length locks) × ((
 IsPlaceOf locks fork reference range None = has_lock locks fork reference range ≡ false
 
 -- references do not fall along the list, no two locks on one fork share a byte, and each fork has its rows
-pub record IsKept (locks : List Lock) (forks : List (Fork × List LockRow)) : Type 0 where
+pub record IsLockTable (locks : List Lock) (forks : List (Fork × List LockRow)) : Type 0 where
   pub order : IsNonDecreasingBy holder_of locks
   pub apart : are_apart are_overlapping locks ≡ true
   pub intervals : (fork : Fork) → AreIntervals locks fork (rows_at forks fork)

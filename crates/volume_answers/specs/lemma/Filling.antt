@@ -8,7 +8,7 @@ use Rattle.afp_base.specs.declared.code.Code.TheVariants.{ObjectTypeErr, ObjectN
 use Rattle.afp_replies.specs.Entry.{entry_bytes}
 use Rattle.afp_serial.specs.ListReply.{list_entry}
 use Rattle.afp_volume.specs.Shared.{Opened}
-use Rattle.afp_volume.specs.Enumerate.{ListAsked, counted, entry_size, fits_reply, from_start, is_counted, longest_entry}
+use Rattle.afp_volume.specs.Enumerate.{ListAsked, counted_children, entry_size, fits_reply, from_start, is_counted, longest_entry}
 use Rattle.afp_volume.specs.Listing.{listed}
 use Rattle.afp_volume.specs.VolumeState.{Row, VolumeState}
 use Rattle.afp_volume.specs.Walk.{has_directory}
@@ -45,8 +45,8 @@ IsPut rows opens asked row used old new (Some more) =
 
 -- the place of the child with which a list begins; none where the start is behind the last
 abbrev pub IsStart : List Row → ListAsked → ℕ → Option ℕ → Type 0
-IsStart rows asked dir None = nat_lt (length (counted rows asked dir)) asked.start ≡ true
-IsStart rows asked dir (Some place) = (nat_lt (length (counted rows asked dir)) asked.start ≡ false) × (counted_from rows asked dir place ≡ from_start rows asked dir)
+IsStart rows asked dir None = nat_lt (length (counted_children rows asked dir)) asked.start ≡ true
+IsStart rows asked dir (Some place) = (nat_lt (length (counted_children rows asked dir)) asked.start ≡ false) × (counted_from rows asked dir place ≡ from_start rows asked dir)
 
 -- why a list of a node that was found is refused
 abbrev pub list_refusal : VolumeState → List Opened → ListAsked → ℕ → Option Code
@@ -54,11 +54,11 @@ list_refusal v opens asked id = first_holding (
     (not (has_directory v.rows id), ObjectTypeErr)
     ∷ (asked.count == 0, ParamErr)
     ∷ (asked.start == 0, ParamErr)
-    ∷ (nat_lt (length (counted v.rows asked id)) asked.start, ObjectNotFound)
+    ∷ (nat_lt (length (counted_children v.rows asked id)) asked.start, ObjectNotFound)
     ∷ (not (fits_reply v.rows opens asked (take 1 (from_start v.rows asked id))), ParamErr)
     ∷ [])
 
 -- the place of the child that counts behind so many others that count; none where no more are there
 abbrev pub IsBehind : List Row → ListAsked → ℕ → ℕ → Option ℕ → Type 0
-IsBehind rows asked dir skip None = length (counted rows asked dir) ≤ skip
-IsBehind rows asked dir skip (Some place) = (skip < length (counted rows asked dir)) × (counted_from rows asked dir place ≡ drop skip (counted rows asked dir))
+IsBehind rows asked dir skip None = length (counted_children rows asked dir) ≤ skip
+IsBehind rows asked dir skip (Some place) = (skip < length (counted_children rows asked dir)) × (counted_from rows asked dir place ≡ drop skip (counted_children rows asked dir))

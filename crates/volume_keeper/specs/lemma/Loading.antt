@@ -3,8 +3,8 @@ use Rattle.std.specs.Prelude.{◌≡◌, ℕ, List, [], None, Result, Ok, Err}
 use Rattle.std.specs.FinMap.{entries}
 use Rattle.afp_volume.specs.VolumeState.{VolumeState}
 use Rattle.record_keeper.specs.declared.record.Record.{Record}
-use Rattle.record_keeper.specs.declared.reading.ReadFault.{ReadFault}
-use Rattle.record_keeper.specs.declared.reading.ReadFault.TheVariants as read
+use Rattle.record_keeper.specs.declared.reading.ReadAllFault.{ReadAllFault}
+use Rattle.record_keeper.specs.declared.reading.ReadAllFault.TheVariants as read
 use Rattle.record_keeper.specs.Records.{Records}
 use Rattle.volume_records.specs.declared.rows.Reason.TheVariants.{Shape, Limit}
 use Rattle.volume_records.specs.FirstBad.{first_bad_record}
@@ -37,7 +37,7 @@ IsMake name now (Ok held) old new = entries old ≡ [] → kept_image held.state
 IsMake name now (Err fault) old new = (new ≡ old) × IsNotBad fault
 
 -- what a keeper that was not read whole is
-abbrev pub IsReadFault : ReadFault → LoadFault → Type 0
+abbrev pub IsReadFault : ReadAllFault → LoadFault → Type 0
 IsReadFault (read.TooMany key) fault = fault ≡ BadRecord key Limit
 IsReadFault (read.Inconsistent key) fault = fault ≡ BadRecord key Shape
 IsReadFault read.Failed fault = fault ≡ Failed

@@ -7,7 +7,7 @@ use Rattle.volume_records.specs.declared.rows.TableRow.{TableRow}
 use Rattle.volume_records.specs.declared.rows.TableRow.TheVariants as row
 use Rattle.volume_records.specs.Shape.{bare_row}
 use Rattle.volume_tree.specs.declared.head.VolumeHead.{VolumeHead}
-use Rattle.volume_tree.specs.declared.restore.Loaded.{Loaded}
+use Rattle.volume_tree.specs.declared.restore.LoadedNode.{LoadedNode}
 use Rattle.volume_tree.specs.Filled.{filled, FitsFork}
 
 -- a head of zeros
@@ -24,7 +24,7 @@ head_said (row.Icon icon) = no_head
 head_said (row.Appl appl) = no_head
 
 -- the node that a row is, with the lengths of its forks
-abbrev pub nodes_said : TableRow → List Loaded
+abbrev pub nodes_said : TableRow → List LoadedNode
 nodes_said (row.Head head) = []
 nodes_said (row.Node node) = record { node = bare_row node; data_len = node.data_length; resource_len = node.resource_length } ∷ []
 nodes_said (row.Block block) = []

@@ -25,7 +25,7 @@ abbrev pub has_forks : Forks → Row → Bool
 has_forks forks row = row.dir || is_some (at nat_cmp forks row.id)
 
 -- The volume is sound; the forks of each file are kept; those of the next id have no bytes, and behind it are none; the number of bytes is kept.
-pub record IsKept (name : List ℕ) (dates : Dates) (rows : RowsValue) (forks : Forks) (used : ℕ) : Type 0 where
+pub record IsKeptVolume (name : List ℕ) (dates : Dates) (rows : RowsValue) (forks : Forks) (used : ℕ) : Type 0 where
   pub sound : IsSoundVolume (state_of name dates rows forks)
   pub files : list_all (has_forks forks) rows.rows ≡ true
   pub no_data : data_of (at nat_cmp forks rows.next_id) ≡ []

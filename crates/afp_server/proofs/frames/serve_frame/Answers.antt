@@ -32,10 +32,10 @@ returns-in-None-clause-serves g c = λ start cost block s.
     let call = c.called_link-called.ensures ∙ called-is c.args.header.now w.0 c.args.session.now.stage w.2 in
     let passes = c.in-Ok.ensures.passes in
     frame-goes_on start cost c.args.deframer.now c.advance.new.self (g.L.Link.link_state c.args.link.now) (g.L.Link.link_state c.send_all.new.link) c.args.session.now c.handle.new.self _ _ w.0 h.0 c.reply.result.now
-    (g.G.Gate.passed c.args.log.now) (g.G.Gate.passed c.handle.new.log) (g.G.Gate.passed c.come_out.new.log) c.called_link-called.result
+    (g.G.Gate.passed c.args.log.now) (g.G.Gate.passed c.handle.new.log) (g.G.Gate.passed c.exit_gate.new.log) c.called_link-called.result
     (next start cost c.args.deframer.now (g.L.Link.link_state c.args.link.now) c.args.session.now c.handle.new.self _ _ w.0 (frame_of c.args.header.now c.payload.result.now) h.0 c.now.result _ block s w.1
     (frame_is c.args.header.now c.payload.result.now w.0 w.2 (c.payload.ensures w.0 w.1)) c.now.ensures h.1 h.2)
-    call (passes ∙ ap (λ (o : Option LinkNumber). in_by (g.G.Gate.passed c.args.log.now) o) (sym c.called_link-called.ensures)) c.come_out.ensures
+    call (passes ∙ ap (λ (o : Option LinkNumber). in_by (g.G.Gate.passed c.args.log.now) o) (sym c.called_link-called.ensures)) c.exit_gate.ensures
     c.reply.ensures c.if-not-send_all.ensures (sym h.3 ∙ c.in-None.is) c.advance.ensures
 
 pub returns-in-Some-clause-serves : goal.returns-in-Some-clause-serves
@@ -45,10 +45,10 @@ returns-in-Some-clause-serves g c = λ start cost block s.
     let call = c.called_link-called.ensures ∙ called-is c.args.header.now w.0 c.args.session.now.stage w.2 in
     let passes = c.in-Ok.ensures.passes in
     frame-ends start cost c.args.deframer.now (g.L.Link.link_state c.args.link.now) (g.L.Link.link_state c.send_all.new.link) c.args.session.now c.handle.new.self _ _ w.0 h.0 c.reply.result.now c.in-Some.end c.place.result c.link_end.result
-    (g.G.Gate.passed c.args.log.now) (g.G.Gate.passed c.handle.new.log) (g.G.Gate.passed c.come_out.new.log) c.called_link-called.result
+    (g.G.Gate.passed c.args.log.now) (g.G.Gate.passed c.handle.new.log) (g.G.Gate.passed c.exit_gate.new.log) c.called_link-called.result
     (next start cost c.args.deframer.now (g.L.Link.link_state c.args.link.now) c.args.session.now c.handle.new.self _ _ w.0 (frame_of c.args.header.now c.payload.result.now) h.0 c.now.result _ block s w.1
     (frame_is c.args.header.now c.payload.result.now w.0 w.2 (c.payload.ensures w.0 w.1)) c.now.ensures h.1 h.2)
-    call (passes ∙ ap (λ (o : Option LinkNumber). in_by (g.G.Gate.passed c.args.log.now) o) (sym c.called_link-called.ensures)) c.come_out.ensures
+    call (passes ∙ ap (λ (o : Option LinkNumber). in_by (g.G.Gate.passed c.args.log.now) o) (sym c.called_link-called.ensures)) c.exit_gate.ensures
     c.reply.ensures c.if-not-send_all.ensures (sym h.3 ∙ c.in-Some.is) c.place.ensures.place c.link_end.ensures
 
 pub returns-in_default-clause-serves : goal.returns-in_default-clause-serves

@@ -6,7 +6,7 @@ use Rattle.afp_server.specs.lemma.Serving.{Start, Point, point, SoFar, ServesFra
 use Rattle.afp_server.specs.declared.serve.LinkEnd.TheVariants as links
 use Rattle.afp_server.specs.declared.stage.Stage.{Stage}
 use Rattle.afp_server.specs.declared.stage.Stage.TheVariants as stages
-use Rattle.afp_server.proofs.ReadSteps.{Waits, so_far-came, ends-reads, ends-unread, ends-spent, link-rests, link-ends}
+use Rattle.afp_server.proofs.ReadSteps.{Waits, so_far-gets, ends-reads, ends-unread, ends-spent, link-idles, link-ends}
 use Rattle.afp_server.proofs.Serving.{so_far-none}
 use Rattle.afp_server.proofs.serve.serve_session.Goals as goal
 
@@ -62,18 +62,18 @@ loop-end-preserved-in-Got g c =
       fixed = c.serve_frames.ensures.fixed ∙ c.loop-end.invariant.fixed;
       block = c.serve_frames.ensures.block ∙ c.loop-end.invariant.block;
       live = c.in_default.ensures.live;
-      so_far = so_far-came start here c.loop-end.cost c.in-Got.n end c.read_more.new.deframer b.room waits b.reads b.rest b.place (omega (arith, c.in-Got.ensures.most)) b.fits;
+      so_far = so_far-gets start here c.loop-end.cost c.in-Got.n end c.read_more.new.deframer b.room waits b.reads b.rest b.place (omega (arith, c.in-Got.ensures.most)) b.fits;
     }
 
-pub returns-in-Some-rest-clause-serves : goal.returns-in-Some-rest-clause-serves
-returns-in-Some-rest-clause-serves g c =
+pub returns-in-Some-idle-clause-serves : goal.returns-in-Some-idle-clause-serves
+returns-in-Some-idle-clause-serves g c =
     let start : Start = record { block = c.args.session.now.block; turns = c.args.turns; link = g.L.Link.link_state c.args.link.now; shown = g.T.Teller.shown c.args.teller.now } in
     let here : Point = point c.serve_frames.new.deframer c.serve_frames.new.session.stage (g.L.Link.link_state c.serve_frames.new.link) (g.T.Teller.shown c.serve_frames.new.teller) (g.G.Gate.passed c.serve_frames.new.log) in
     let served : ServesFrames start c.loop-end.cost None here = c.in_default.ensures.serves start c.loop-end.cost (sym c.loop-end.invariant.block) c.loop-end.invariant.so_far in
     let waits : Waits start here c.loop-end.cost = record { so_far = served.0; unfinished = served.1; below = c.if-cost-turns.false } in
     let end = g.L.Link.link_state c.read_more.new.link in
-    link-ends start c.serve_frames.new.deframer (g.L.Link.link_state c.serve_frames.new.link) end c.serve_frames.new.session c.rest.new.session (g.T.Teller.shown c.serve_frames.new.teller) (g.T.Teller.shown c.rest.new.teller) (g.G.Gate.passed c.serve_frames.new.log) c.loop-end.cost c.in-Some-rest.end
-    waits (omega (arith, served.2)) c.in-Quiet.ensures.reads.0 c.in-Some-rest.ensures.rests
+    link-ends start c.serve_frames.new.deframer (g.L.Link.link_state c.serve_frames.new.link) end c.serve_frames.new.session c.idle.new.session (g.T.Teller.shown c.serve_frames.new.teller) (g.T.Teller.shown c.idle.new.teller) (g.G.Gate.passed c.serve_frames.new.log) c.loop-end.cost c.in-Some-idle.end
+    waits (omega (arith, served.2)) c.in-Quiet.ensures.reads.0 c.in-Some-idle.ensures.idles
 
 pub loop-end-preserved : goal.loop-end-preserved
 loop-end-preserved g c =
@@ -83,13 +83,13 @@ loop-end-preserved g c =
     let waits : Waits start here c.loop-end.cost = record { so_far = served.0; unfinished = served.1; below = c.if-cost-turns.false } in
     let end = g.L.Link.link_state c.read_more.new.link in
     let reads = c.in-Quiet.ensures.reads in
-    let after = g.T.Teller.shown c.rest.new.teller in record {
-      fixed = c.rest.ensures.fixed ∙ c.serve_frames.ensures.fixed ∙ c.loop-end.invariant.fixed;
-      block = c.in_default-rest.ensures.rests.block ∙ c.serve_frames.ensures.block ∙ c.loop-end.invariant.block;
-      live = c.in_default-rest.ensures.live;
-      so_far = subst (λ (d : Buffered). SoFar start (point d c.rest.new.session.stage end after (g.G.Gate.passed c.serve_frames.new.log)) (c.loop-end.cost + 1)) (sym reads.1)
-          (link-rests start c.serve_frames.new.deframer (g.L.Link.link_state c.serve_frames.new.link) end c.serve_frames.new.session c.rest.new.session (g.T.Teller.shown c.serve_frames.new.teller) after (g.G.Gate.passed c.serve_frames.new.log) c.loop-end.cost
-          waits (omega (arith, served.2)) reads.0 c.in_default-rest.ensures.rests);
+    let after = g.T.Teller.shown c.idle.new.teller in record {
+      fixed = c.idle.ensures.fixed ∙ c.serve_frames.ensures.fixed ∙ c.loop-end.invariant.fixed;
+      block = c.in_default-idle.ensures.idles.block ∙ c.serve_frames.ensures.block ∙ c.loop-end.invariant.block;
+      live = c.in_default-idle.ensures.live;
+      so_far = subst (λ (d : Buffered). SoFar start (point d c.idle.new.session.stage end after (g.G.Gate.passed c.serve_frames.new.log)) (c.loop-end.cost + 1)) (sym reads.1)
+          (link-idles start c.serve_frames.new.deframer (g.L.Link.link_state c.serve_frames.new.link) end c.serve_frames.new.session c.idle.new.session (g.T.Teller.shown c.serve_frames.new.teller) after (g.G.Gate.passed c.serve_frames.new.log) c.loop-end.cost
+          waits (omega (arith, served.2)) reads.0 c.in_default-idle.ensures.idles);
     }
 
 pub returns-in-End-clause-serves : goal.returns-in-End-clause-serves

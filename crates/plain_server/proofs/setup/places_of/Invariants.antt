@@ -1,5 +1,5 @@
 use Rattle.std.proofs.Common.{◌≡◌, map, take}
-use Rattle.plain_server.specs.declared.setup.Place.TheVariants.{Memory}
+use Rattle.plain_server.specs.declared.setup.VolumePlace.TheVariants.{Memory}
 use Rattle.plain_server.proofs.setup.places_of.Given as goal
 
 abbrev pub invariant-loop : goal.invariant-loop

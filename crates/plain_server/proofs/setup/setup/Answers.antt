@@ -2,7 +2,7 @@ use Rattle.std.proofs.Common.{◌≡◌, ◌∙◌, ap, sym, refl, List, ℕ, St
 use Rattle.std.proofs.lemmas.Simd.{map-map}
 use Rattle.plain_server.specs.Spoken.{spoken_of}
 use Rattle.plain_server.specs.Words.{name_in}
-use Rattle.plain_server.specs.declared.setup.Place.TheVariants.{Memory}
+use Rattle.plain_server.specs.declared.setup.VolumePlace.TheVariants.{Memory}
 use Rattle.std.specs.Prelude.{Err}
 use Rattle.plain_server.specs.declared.words.WordFault.TheVariants.{Bad}
 use Rattle.plain_server.proofs.setup.setup.Goals as goal

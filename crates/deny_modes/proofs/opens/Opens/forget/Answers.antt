@@ -1,12 +1,12 @@
 use Rattle.std.proofs.Common.{◌∙◌, sym, subst}
-use Rattle.deny_modes.specs.lemma.Counters.{IsCounted}
+use Rattle.deny_modes.specs.lemma.Counters.{IsTallied}
 use Rattle.deny_modes.proofs.Counting.{nothing_gone, gone_shows, gone_there, no_tally_is_wrong, has_open, last_gone, one_gone, put_over}
 use Rattle.sorted_map.specs.Entries.{at}
 use Rattle.deny_modes.specs.lemma.ForkOrder.{fork_cmp}
 use Rattle.deny_modes.proofs.opens.Opens.forget.Goals as goal
 
 pub invariant_of-self : goal.invariant_of-self
-invariant_of-self c = subst (λ l. IsCounted l c.self.inside.tallies) (sym (nothing_gone c.self.inside.rows c.args.r.0 c.in_default.ensures.value c.remove.ensures.entries)) c.self.invariant
+invariant_of-self c = subst (λ l. IsTallied l c.self.inside.tallies) (sym (nothing_gone c.self.inside.rows c.args.r.0 c.in_default.ensures.value c.remove.ensures.entries)) c.self.invariant
 
 pub returns-in_default : goal.returns-in_default
 returns-in_default c = gone_shows c.self.inside.rows c.args.r.0 c.remove.ensures.was_sorted c.self.view_is c.remove.ensures.entries

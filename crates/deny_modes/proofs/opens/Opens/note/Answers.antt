@@ -1,6 +1,6 @@
 use Rattle.std.proofs.Common.{◌∙◌, ap, sym, subst, arith}
 use Rattle.deny_modes.specs.Counters.{opens_of}
-use Rattle.deny_modes.specs.lemma.Counters.{IsCounted}
+use Rattle.deny_modes.specs.lemma.Counters.{IsTallied}
 use Rattle.deny_modes.proofs.Counting.{can_count, noted_shows, noted_counted, undone}
 use Rattle.deny_modes.proofs.opens.Opens.note.Goals as goal
 
@@ -14,7 +14,7 @@ invariant_of-self-in-Ok-insert c =
 pub invariant_of-self-in_default-insert : goal.invariant_of-self-in_default-insert
 invariant_of-self-in_default-insert c =
     let rows_are = undone (record { was = c.self.invariant; shown = c.self.view_is; fresh = c.requires.fresh; free = c.requires.free; new_rows = c.in-Ok.ensures.entries }) c.remove.ensures.entries in
-    subst (λ l. IsCounted l c.insert-2.new.self) (sym rows_are) (subst (IsCounted c.self.inside.rows) (sym c.in_default-insert.ensures.err) c.self.invariant)
+    subst (λ l. IsTallied l c.insert-2.new.self) (sym rows_are) (subst (IsTallied c.self.inside.rows) (sym c.in_default-insert.ensures.err) c.self.invariant)
 
 pub returns-in_default-insert-clause-err : goal.returns-in_default-insert-clause-err
 returns-in_default-insert-clause-err c =

@@ -7,18 +7,18 @@ use Rattle.afp_volume.specs.SoundVolume.{are_named_alike, has_node, has_rising_i
 use Rattle.afp_volume.specs.VolumeState.{Row, root_id}
 use Rattle.volume_tree.proofs.Restoring.{Restored, RestoreParts, all-short, restore-parts, restored-kept, restored-state}
 use Rattle.volume_tree.specs.lemma.Restored.{forks_in, has_short_forks, loaded_bytes}
-use Rattle.volume_tree.specs.declared.restore.Loaded.{Loaded}
+use Rattle.volume_tree.specs.declared.restore.LoadedNode.{LoadedNode}
 use Rattle.volume_tree.proofs.volume.Volume.restore.Goals as goal
 
 pub all_forks-requires : goal.all_forks-requires
 all_forks-requires c =
     let parts : RestoreParts c.args.head c.args.nodes.items = restore-parts c.args.head c.args.nodes.items c.requires in
-    subst (λ (l : List Loaded). list_all has_short_forks l ≡ true) (sym c.as_slice.ensures.value) (all-short c.args.nodes.items parts.few)
+    subst (λ (l : List LoadedNode). list_all has_short_forks l ≡ true) (sym c.as_slice.ensures.value) (all-short c.args.nodes.items parts.few)
 
 pub bytes_of-used-requires : goal.bytes_of-used-requires
 bytes_of-used-requires c =
     let parts : RestoreParts c.args.head c.args.nodes.items = restore-parts c.args.head c.args.nodes.items c.requires in
-    subst (λ (l : List Loaded). sum_by loaded_bytes l ≤ most_fork_bytes) (sym c.as_slice-2.ensures.value) parts.few
+    subst (λ (l : List LoadedNode). sum_by loaded_bytes l ≤ most_fork_bytes) (sym c.as_slice-2.ensures.value) parts.few
 
 pub of-requires-clause-rising : goal.of-requires-clause-rising
 of-requires-clause-rising c =
@@ -54,8 +54,8 @@ invariant_of-result c =
       dates_are = c.dates.ensures;
       rows_are = c.in_ok-rows.ensures.rows ∙ c.in_ok-nodes_of.ensures;
       next_is = c.in_ok-rows.ensures.next;
-      forks_are = λ q. c.in_ok-forks.ensures q ∙ ap (λ (l : List Loaded). forks_in l q) c.as_slice.ensures.value;
-      used_is = c.bytes_of-used.ensures ∙ ap (λ (l : List Loaded). sum_by loaded_bytes l) c.as_slice-2.ensures.value;
+      forks_are = λ q. c.in_ok-forks.ensures q ∙ ap (λ (l : List LoadedNode). forks_in l q) c.as_slice.ensures.value;
+      used_is = c.bytes_of-used.ensures ∙ ap (λ (l : List LoadedNode). sum_by loaded_bytes l) c.as_slice-2.ensures.value;
     } in
     restored-kept r
 
@@ -67,7 +67,7 @@ returns c =
       dates_are = c.dates.ensures;
       rows_are = c.in_ok-rows.ensures.rows ∙ c.in_ok-nodes_of.ensures;
       next_is = c.in_ok-rows.ensures.next;
-      forks_are = λ q. c.in_ok-forks.ensures q ∙ ap (λ (l : List Loaded). forks_in l q) c.as_slice.ensures.value;
-      used_is = c.bytes_of-used.ensures ∙ ap (λ (l : List Loaded). sum_by loaded_bytes l) c.as_slice-2.ensures.value;
+      forks_are = λ q. c.in_ok-forks.ensures q ∙ ap (λ (l : List LoadedNode). forks_in l q) c.as_slice.ensures.value;
+      used_is = c.bytes_of-used.ensures ∙ ap (λ (l : List LoadedNode). sum_by loaded_bytes l) c.as_slice-2.ensures.value;
     } in
     restored-state r

@@ -5,8 +5,8 @@ use Rattle.afp_core.specs.lemma.Telling.{shown_of}
 use Rattle.afp_serial.specs.StatusBlock.{status_block}
 use Rattle.capture_server.specs.lemma.Slots.{FeedsAt, IsFit}
 use Rattle.capture_server.specs.States.{ConnectionState, RunningState}
-use Rattle.capture_server.proofs.RunningLemmas.{lent_back, fit-there, passed-over, came-there}
-use Rattle.capture_server.proofs.running.Running.come.Goals as goal
+use Rattle.capture_server.proofs.RunningLemmas.{lent_back, fit-there, passed-over, fed-there}
+use Rattle.capture_server.proofs.running.Running.feed.Goals as goal
 
 pub returns-then-is_over_at : goal.returns-then-is_over_at
 returns-then-is_over_at g c = λ s first is started.
@@ -33,7 +33,7 @@ returns g c = λ s first is started.
     let tally = c.in_ok-tally.tally in
     let inside : FeedsAt (status_block c.self.inside.house) c.args.now c.args.piece.now c.self.inside.connections.items c.args.index (shown_of c.self.inside.teller) tally slots u =
     subst (λ (l : List ConnectionState). FeedsAt (status_block c.self.inside.house) c.args.now c.args.piece.now l c.args.index (shown_of c.self.inside.teller) tally slots u) c.as_mut_slice.ensures.value c.in_ok-tally.ensures.feeds in
-    came-there c.args.self.now c.count.new.self s first c.args.now c.args.index c.args.piece.now tally c.is_over_at.result c.is_used_at-used.result slots u is started
+    fed-there c.args.self.now c.count.new.self s first c.args.now c.args.index c.args.piece.now tally c.is_over_at.result c.is_used_at-used.result slots u is started
     (λ x at. c.is_over_at.ensures x (ap (λ (l : List ConnectionState). slice_get l c.args.index) (sym same) ∙ at)) c.if-is_over_at.false
     (λ x at. c.is_used_at-used.ensures x (ap (λ (l : List ConnectionState). slice_get l c.args.index) (sym again) ∙ at))
     (subst (λ (x : RunningState). FeedsAt (status_block x.house) c.args.now c.args.piece.now x.connections c.args.index x.teller tally slots u) c.self.view_is inside)

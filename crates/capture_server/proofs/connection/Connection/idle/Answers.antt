@@ -2,11 +2,11 @@ use Rattle.std.proofs.Common.{ap}
 use Rattle.afp_core.specs.ServerState.{ServerState}
 use Rattle.afp_core.specs.lemma.Telling.{shown_of}
 use Rattle.capture_server.proofs.Alone.{alone, alone-after}
-use Rattle.capture_server.proofs.ConnectionLemmas.{rested}
-use Rattle.capture_server.proofs.connection.Connection.rest.Goals as goal
+use Rattle.capture_server.proofs.ConnectionLemmas.{idled}
+use Rattle.capture_server.proofs.connection.Connection.idle.Goals as goal
 
-pub returns-in-Some-clause-rests : goal.returns-in-Some-clause-rests
-returns-in-Some-clause-rests g c =
-    rested c.args.now c.in-Some.link c.ask-told.result c.args.self.now c.pulsed.new.self (shown_of c.args.teller.now) (shown_of c.ask-told.new.self) c.link.result c.pulsed.result c.link.ensures c.in-Some.is
+pub returns-in-Some-clause-idles : goal.returns-in-Some-clause-idles
+returns-in-Some-clause-idles g c =
+    idled c.args.now c.in-Some.link c.ask-told.result c.args.self.now c.pulsed.new.self (shown_of c.args.teller.now) (shown_of c.ask-told.new.self) c.link.result c.pulsed.result c.link.ensures c.in-Some.is
     c.ask-told.ensures.asked (alone c.args.teller.now c.requires.sure) (alone-after c.args.teller.now c.ask-told.new.self c.ask-told.ensures.fixed c.requires.sure)
     (ap (λ (x : ServerState). x.world) c.ask-told.ensures.fixed) c.pulsed.ensures.memory c.pulsed.ensures.is
