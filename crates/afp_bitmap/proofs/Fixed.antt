@@ -7,7 +7,6 @@ use Rattle.std.proofs.Math.Seq.{take-add}
 use Rattle.std.proofs.lemmas.Int.{of_z-to_z}
 use Rattle.std.proofs.lemmas.List.{drop_at, take-append-drop, drop-drop, length-take-le, length-append, length-drop, append_assoc}
 use Rattle.byteorder.specs.Endian.{big_number, big_bytes}
-use Rattle.byteorder.specs.Numbers.{big_from-take}
 use Rattle.afp_bitmap.specs.declared.table.Shape.{Shape}
 use Rattle.afp_bitmap.specs.declared.table.Shape.TheVariants as shapes
 use Rattle.afp_bitmap.specs.Bits.{is_asked}
@@ -18,7 +17,7 @@ use Rattle.afp_bitmap.specs.Table.{FieldRow}
 use Rattle.afp_bitmap.proofs.Asked.{shape_of, slot_of, size_of-shape, asked_none, asked_yes, asked_no}
 use Rattle.afp_bitmap.proofs.Filled.{cut, past, cut_whole, past_whole, refill, filled, fixed_length}
 use Rattle.afp_bitmap.proofs.Formed.{by_name}
-use Rattle.afp_bitmap.proofs.Numbers.{IsBytes, IsBytes-take, IsBytes-drop, big_number-lt, bytes_again, number_again, length-big_bytes}
+use Rattle.afp_bitmap.proofs.Numbers.{IsBytes, IsBytes-take, IsBytes-drop, big_number-lt, number_front, bytes_again, number_again, length-big_bytes}
 use Rattle.afp_bitmap.proofs.Parts.{fixed_at}
 use Rattle.afp_bitmap.proofs.Walks.{walked_none, walked_more}
 
@@ -206,9 +205,6 @@ walk_faults first (s ∷ ss) w at e =
 abbrev pub Claimed : List Field → List ℕ → ℕ → Type 0
 Claimed [] rest q = Unit {0}
 Claimed (f ∷ fs) rest q = by_name f (Unit {0}) (Unit {0}) (big_number 2 rest ≡ q) × Claimed fs (drop (fixed_size f) rest) q
-
-number_front : (n : ℕ) (rest : List ℕ) → big_number n (take n rest) ≡ big_number n rest
-number_front n rest = big_from-take 0 n n rest (omega arith)
 
 pub front_is : (n : ℕ) (rest : List ℕ) → n ≤ length rest → IsBytes rest → big_bytes n (big_number n rest) ≡ take n rest
 front_is n rest len h =

@@ -6,7 +6,6 @@ use crate::names::{Names, names_at};
 use crate::params::ParamFault;
 use crate::spot::Spot;
 use crate::table::{Shape, Slot, fixed_size, is_asked};
-use byteorder::{BigEndian, ByteOrder};
 
 /// How far the fixed part was read.
 #[derive(Drop)]
@@ -39,16 +38,15 @@ fn stands(first: usize, shape: Shape, walk: &Walked<'_>) -> bool
     requires { first < 2 ^ 16 }
     ensures { result ≡ stands first shape (walk_of walk.now) }
 {
-    let rest = walk.spot.rest();
-    if rest.len() < shape.size() {
+    if walk.spot.rest().len() < shape.size() {
         return false;
     }
     match shape {
         Shape::Plain(_) => true,
-        Shape::LongName => BigEndian::read_u16(rest) as usize == first,
+        Shape::LongName => walk.spot.u16() as usize == first,
         Shape::Utf8Name => {
-            may_stand(first, walk.long_name, BigEndian::read_u16(rest) as usize)
-                && BigEndian::read_u32(&rest[2..]) == 0
+            may_stand(first, walk.long_name, walk.spot.u16() as usize)
+                && walk.spot.behind(2).u32() == 0
         }
     }
 }
@@ -74,7 +72,7 @@ fn behind_field<'a>(first: usize, shape: Shape, walk: &Walked<'a>) -> Walked<'a>
         },
         Shape::Utf8Name => Walked {
             long_name: walk.long_name,
-            utf8_name: Some(BigEndian::read_u16(walk.spot.rest()) as usize),
+            utf8_name: Some(walk.spot.u16() as usize),
             spot,
         },
     }

@@ -5,7 +5,6 @@ ghost use Rattle.afp_bitmap.specs.lemma.Reading.{Gives, walk_of, names_of, name_
 use crate::judge::Walked;
 use crate::params::ParamFault;
 use crate::spot::Spot;
-use byteorder::{BigEndian, ByteOrder};
 
 /// The asked names of a block; no bytes where one is not asked.
 #[derive(Drop)]
@@ -72,12 +71,11 @@ fn long_name_at(next: Option<usize>, spot: Spot<'_>) -> Result<Named<'_>, ParamF
 fn utf8_name_at(spot: Spot<'_>) -> Result<Named<'_>, ParamFault>
     ensures { Gives name_of result (utf8_name_at spot.entry) }
 {
-    let rest = spot.rest();
-    if rest.len() < 6 || BigEndian::read_u32(rest) != 0 {
+    if spot.rest().len() < 6 || spot.u32() != 0 {
         return Err(ParamFault::Bad { at: spot.place() });
     }
-    let count = BigEndian::read_u16(&rest[4..]) as usize;
-    let text = &rest[6..];
+    let count = spot.behind(4).u16() as usize;
+    let text = spot.behind(6).rest();
     if text.len() < count {
         return Err(ParamFault::Bad { at: spot.place() });
     }

@@ -1,5 +1,6 @@
 //! A place in a block, and the bytes from there on.
 ghost use Rattle.std.specs.Prelude.{◌≡◌, ◌+◌, ◌≤◌, ◌<◌, ◌^◌, drop, length};
+ghost use Rattle.byteorder.specs.Endian.{big_number};
 
 use afp_base::Scan;
 use std::marker::Model;
@@ -45,9 +46,29 @@ impl<'a> Spot<'a> {
     pub(crate) fn rest(&self) -> &'a [u8]
         ensures { result.now ≡ self.now.1 }
     {
-        let mut ahead = self.scan.again();
-        match ahead.bytes(self.scan.remaining()) {
-            Ok(bytes) => bytes,
+        self.scan.rest()
+    }
+
+    /// The number in the next 2 bytes.
+    #[tactic(auto, using(crate::proofs::Numbers::number_front))]
+    pub(crate) fn u16(&self) -> u16
+        requires { 2 ≤ length self.now.1 }
+        ensures { result ≡ big_number 2 self.now.1 }
+    {
+        match self.scan.again().u16() {
+            Ok(number) => number,
+            Err(_) => unreachable!(),
+        }
+    }
+
+    /// The number in the next 4 bytes.
+    #[tactic(auto, using(crate::proofs::Numbers::number_front))]
+    pub(crate) fn u32(&self) -> u32
+        requires { 4 ≤ length self.now.1 }
+        ensures { result ≡ big_number 4 self.now.1 }
+    {
+        match self.scan.again().u32() {
+            Ok(number) => number,
             Err(_) => unreachable!(),
         }
     }

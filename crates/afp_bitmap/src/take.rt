@@ -7,7 +7,7 @@ ghost use Rattle.afp_bitmap.specs.lemma.Taking.{Took, taken};
 
 use crate::spot::Spot;
 use crate::table::is_asked;
-use byteorder::{BigEndian, ByteOrder};
+use afp_base::Scan;
 use std::marker::Model;
 
 /// Takes field by field from a block, by rising bit. A field that was not asked, or that is not
@@ -63,41 +63,41 @@ impl<'a> FieldCursor<'a> {
     }
 
     /// A number of 2 bytes.
+    #[tactic(auto, using(crate::proofs::Numbers::number_front))]
     pub(crate) fn short(&mut self, bit: u32) -> u16
         ensures value { result ≡ big_number 2 (taken self.old bit 2) }
         ensures took { Took self.old bit 2 self.new }
     {
         let piece = self.piece(bit, 2);
-        if piece.len() == 2 {
-            BigEndian::read_u16(piece)
-        } else {
-            0
+        match Scan::new(piece).u16() {
+            Ok(number) => number,
+            Err(_) => 0,
         }
     }
 
     /// A number of 4 bytes.
+    #[tactic(auto, using(crate::proofs::Numbers::number_front))]
     pub(crate) fn long(&mut self, bit: u32) -> u32
         ensures value { result ≡ big_number 4 (taken self.old bit 4) }
         ensures took { Took self.old bit 4 self.new }
     {
         let piece = self.piece(bit, 4);
-        if piece.len() == 4 {
-            BigEndian::read_u32(piece)
-        } else {
-            0
+        match Scan::new(piece).u32() {
+            Ok(number) => number,
+            Err(_) => 0,
         }
     }
 
     /// A number of 8 bytes.
+    #[tactic(auto, using(crate::proofs::Numbers::number_front))]
     pub(crate) fn wide(&mut self, bit: u32) -> u64
         ensures value { result ≡ big_number 8 (taken self.old bit 8) }
         ensures took { Took self.old bit 8 self.new }
     {
         let piece = self.piece(bit, 8);
-        if piece.len() == 8 {
-            BigEndian::read_u64(piece)
-        } else {
-            0
+        match Scan::new(piece).u64() {
+            Ok(number) => number,
+            Err(_) => 0,
         }
     }
 

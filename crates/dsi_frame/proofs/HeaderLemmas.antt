@@ -1,15 +1,18 @@
 -- What the bytes of a header say, and how they follow from its fields.
-use Rattle.std.proofs.Common.{◌≡◌, ◌≢◌, ◌==◌, ◌&&◌, ℕ, zero, suc, ◌<◌, ◌≤◌, Bool, true, false, not, cond, nat_lt, List, [], ◌∷◌, ◌++◌, length, Option, Some, None, refl, sym, ap, ◌∙◌, subst, inl, inr, arith, ltb-false, le-ltb, lt-ltb}
+use Rattle.std.proofs.Common.{◌≡◌, ◌≢◌, ◌==◌, ◌&&◌, ◌+◌, ◌*◌, Bor, Ok, ℕ, zero, suc, ◌<◌, ◌≤◌, Bool, true, false, not, cond, nat_lt, List, [], ◌∷◌, ◌++◌, length, take, drop, Option, Some, None, refl, sym, ap, ◌∙◌, subst, inl, inr, arith, ltb-false, le-ltb, lt-ltb}
 use Rattle.std.proofs.lemmas.Bool.{false≢true}
 use Rattle.std.proofs.lemmas.Bool.Decides.{eqb_tells}
+use Rattle.afp_base.specs.Cursor.{Cursor, ReadsNumber, ReadsBytes, behind, piece_at}
 use Rattle.afp_base.specs.Limits.{payload_limit}
 use Rattle.dsi_frame.specs.declared.frame.DsiCommand.{DsiCommand}
 use Rattle.dsi_frame.specs.declared.frame.DsiCommand.TheVariants as commands
 use Rattle.dsi_frame.specs.declared.frame.Reason.{Reason}
 use Rattle.dsi_frame.specs.declared.frame.Reason.TheVariants as reasons
+use Rattle.byteorder.specs.Endian.{big_number}
 use Rattle.dsi_frame.specs.declared.frame.Header.{Header}
+use Rattle.dsi_frame.specs.declared.frame.HeaderNumbers.{HeaderNumbers}
 use Rattle.dsi_frame.specs.Frame.{WordFits, header_fault, first_found, flags_byte, flags_in, command_number, command_in, word_in, length_in, is_listed}
-use Rattle.dsi_frame.specs.lemma.GoodHeader.{IsGoodHeader, id_in}
+use Rattle.dsi_frame.specs.lemma.GoodHeader.{AreNumbers, IsGoodHeader, id_in}
 
 -- the fault that four fields of a header show
 abbrev pub fault_of : ℕ → ℕ → ℕ → ℕ → Option Reason
@@ -112,6 +115,33 @@ pub by_header : (P : List ℕ → Type 0)
     → (bytes : List ℕ) → 16 ≤ length bytes → P bytes
 by_header P holds (a ∷ b ∷ c ∷ d ∷ e ∷ f ∷ g ∷ h ∷ i ∷ j ∷ k ∷ l ∷ m ∷ n ∷ o ∷ p ∷ tail) long = holds a b c d e f g h i j k l m n o p tail
 by_header P holds _ long = absurd (omega arith)
+
+once : (n : ℕ) → n * 1 + 0 ≡ n
+once n = omega arith
+
+-- the numbers that a cursor reads one after the other are those of the header
+numbers_read : (bytes : List ℕ) (n : HeaderNumbers) → 16 ≤ length bytes
+    → n.flags ≡ big_number 1 (take 1 (drop 0 bytes)) → n.command ≡ big_number 1 (take 1 (drop 1 bytes)) → n.id ≡ big_number 2 (take 2 (drop 2 bytes))
+    → n.word ≡ big_number 4 (take 4 (drop 4 bytes)) → n.length ≡ big_number 4 (take 4 (drop 8 bytes)) → AreNumbers bytes n
+numbers_read bytes n long =
+    by_header (λ bs. n.flags ≡ big_number 1 (take 1 (drop 0 bs)) → n.command ≡ big_number 1 (take 1 (drop 1 bs)) → n.id ≡ big_number 2 (take 2 (drop 2 bs))
+    → n.word ≡ big_number 4 (take 4 (drop 4 bs)) → n.length ≡ big_number 4 (take 4 (drop 8 bs)) → AreNumbers bs n)
+    (λ a b c d e f g h i j k l m n o p tail one two three four five. record { flags = one ∙ once a; command = two ∙ once b; id = three; word = four; size = five }) bytes long
+
+-- the same, as the code has them
+pub numbers_scanned : (bytes : List ℕ) (a b c d e : ℕ) (reserved : Bor (List ℕ)) (s0 s1 s2 s3 s4 s5 s6 : Cursor) → s0 ≡ record { bytes = bytes; place = 0 }
+    → ReadsNumber 1 s0 (Ok a) s1 → ReadsNumber 1 s1 (Ok b) s2 → ReadsNumber 2 s2 (Ok c) s3 → ReadsNumber 4 s3 (Ok d) s4 → ReadsNumber 4 s4 (Ok e) s5 → ReadsBytes 4 s5 (Ok reserved) s6
+    → AreNumbers bytes (record { flags = a; command = b; id = c; word = d; length = e })
+numbers_scanned bytes a b c d e reserved s0 s1 s2 s3 s4 s5 s6 e0 h1 h2 h3 h4 h5 h6 =
+    let e1 : s1 ≡ record { bytes = bytes; place = 1 } = h1.2 ∙ ap (λ s. behind s 1) e0 in
+    let e2 : s2 ≡ record { bytes = bytes; place = 2 } = h2.2 ∙ ap (λ s. behind s 1) e1 in
+    let e3 : s3 ≡ record { bytes = bytes; place = 4 } = h3.2 ∙ ap (λ s. behind s 2) e2 in
+    let e4 : s4 ≡ record { bytes = bytes; place = 8 } = h4.2 ∙ ap (λ s. behind s 4) e3 in
+    let e5 : s5 ≡ record { bytes = bytes; place = 12 } = h5.2 ∙ ap (λ s. behind s 4) e4 in
+    let number : ℕ → Cursor → ℕ = λ n s. big_number n (piece_at s n) in
+    numbers_read bytes (record { flags = a; command = b; id = c; word = d; length = e })
+    (subst (λ (s : Cursor). s.place + 4 ≤ length s.bytes) e5 h6.0)
+    (h1.1 ∙ ap (number 1) e0) (h2.1 ∙ ap (number 1) e1) (h3.1 ∙ ap (number 2) e2) (h4.1 ∙ ap (number 4) e3) (h5.1 ∙ ap (number 4) e4)
 
 -- a header's fault is in its 16 bytes
 pub header_fault-append : (bytes more : List ℕ) → 16 ≤ length bytes → header_fault (bytes ++ more) ≡ header_fault bytes

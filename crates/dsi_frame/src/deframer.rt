@@ -5,7 +5,7 @@ ghost use Rattle.dsi_frame.specs.Deframe.{IsHead};
 ghost use Rattle.dsi_frame.specs.Frame.{Frame, IsSpelling, length_in};
 ghost use Rattle.dsi_frame.specs.Stream.{Begins, HasFrame};
 
-use crate::frame::{BadFrame, Head, number_at, read_header};
+use crate::frame::{BadFrame, Head, numbers_in, read_header};
 use afp_base::{MAX_PAYLOAD, OutOfMemory};
 use std::alloc::Global;
 use std::marker::Model;
@@ -43,7 +43,7 @@ fn payload_length(bytes: &[u8]) -> usize
     ensures value { result ≡ length_in bytes.now }
     ensures fits { HEADER_LENGTH + result ≤ length bytes.now }
 {
-    number_at(bytes, 8) as usize
+    numbers_in(bytes).length as usize
 }
 
 // Moves the bytes `held` from `start` to the front.

@@ -1,11 +1,10 @@
 //! Headers of frames, and the writing of frames.
-ghost use Rattle.std.specs.Prelude.{◌≡◌, ◌+◌, ◌≤◌, ◌++◌, false, length, drop, IfOk, IfErr, OnOk, OnErr, MatchOption};
+ghost use Rattle.std.specs.Prelude.{◌≡◌, ◌<◌, ◌≤◌, ◌++◌, false, length, IfOk, IfErr, OnOk, OnErr, MatchOption};
 ghost use Rattle.afp_base.specs.Limits.{payload_limit};
-ghost use Rattle.byteorder.specs.Endian.{big_number};
 ghost use Rattle.dsi_frame.specs.Frame.{frame_of, canonical_frame, canonical_header, header_fault, command_number, is_listed, header_length, WordFits};
-ghost use Rattle.dsi_frame.specs.lemma.GoodHeader.{IsGoodHeader};
+ghost use Rattle.dsi_frame.specs.lemma.GoodHeader.{AreNumbers, IsGoodHeader};
 
-use afp_base::{Bytes, MAX_PAYLOAD, OutOfMemory};
+use afp_base::{Bytes, MAX_PAYLOAD, OutOfMemory, Scan, Short};
 use byteorder::{BigEndian, ByteOrder};
 
 /// What a frame asks (AFP over TCP, "DSI commands").
@@ -93,12 +92,42 @@ impl DsiCommand {
     }
 }
 
-// The number in the four bytes at a place.
-pub(crate) fn number_at(bytes: &[u8], place: usize) -> u32
-    requires { place + 4 ≤ length bytes.now }
-    ensures { result ≡ big_number 4 (drop place bytes.now) }
+// The numbers in a header, as they stand there.
+#[derive(Clone, Copy)]
+pub(crate) struct HeaderNumbers {
+    pub(crate) flags: u8,
+    pub(crate) command: u8,
+    pub(crate) id: u16,
+    pub(crate) word: u32,
+    pub(crate) length: u32,
+}
+
+// The numbers in the first 16 bytes, the last 4 of which are passed over.
+fn scan_numbers(bytes: &[u8]) -> Result<HeaderNumbers, Short>
+    ensures ok { IfOk result (AreNumbers bytes.now) }
+    ensures err { OnErr result (length bytes.now < header_length) }
 {
-    BigEndian::read_u32(&bytes[place..])
+    let mut scan = Scan::new(bytes);
+    let numbers = HeaderNumbers {
+        flags: scan.u8()?,
+        command: scan.u8()?,
+        id: scan.u16()?,
+        word: scan.u32()?,
+        length: scan.u32()?,
+    };
+    let _reserved = scan.bytes(4)?;
+    Ok(numbers)
+}
+
+// The numbers in the first 16 bytes.
+pub(crate) fn numbers_in(bytes: &[u8]) -> HeaderNumbers
+    requires { header_length ≤ length bytes.now }
+    ensures { AreNumbers bytes.now result }
+{
+    match scan_numbers(bytes) {
+        Ok(numbers) => numbers,
+        Err(_) => unreachable!(),
+    }
 }
 
 // The header in the first 16 bytes, or its first fault.
@@ -107,27 +136,25 @@ pub(crate) fn read_header(bytes: &[u8]) -> Result<Header, Reason>
     ensures good { IfOk result (IsGoodHeader bytes.now) }
     ensures bad { IfErr result (λ reason. header_fault bytes.now ≡ Some reason) }
 {
-    let flags = bytes[0];
-    if flags > 1 {
+    let numbers = numbers_in(bytes);
+    if numbers.flags > 1 {
         return Err(Reason::Flags);
     }
-    let Some(command) = DsiCommand::of(bytes[1]) else {
+    let Some(command) = DsiCommand::of(numbers.command) else {
         return Err(Reason::Command);
     };
-    let word = number_at(bytes, 4);
-    let length = number_at(bytes, 8);
-    if length > MAX_PAYLOAD {
+    if numbers.length > MAX_PAYLOAD {
         return Err(Reason::Length);
     }
-    if flags == 0 && command == DsiCommand::Write && word > length {
+    if numbers.flags == 0 && command == DsiCommand::Write && numbers.word > numbers.length {
         return Err(Reason::Offset);
     }
     Ok(Header {
-        reply: flags == 1,
+        reply: numbers.flags == 1,
         command,
-        id: BigEndian::read_u16(&bytes[2..]),
-        word,
-        length,
+        id: numbers.id,
+        word: numbers.word,
+        length: numbers.length,
     })
 }
 

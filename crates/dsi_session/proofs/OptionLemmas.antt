@@ -1,11 +1,15 @@
 -- options of a payload: what stands at its front, and how far a reader has come
-use Rattle.std.proofs.Common.{◌≡◌, ◌≢◌, ℕ, zero, suc, ◌+◌, ◌-◌, ◌<◌, ◌≤◌, List, [], ◌∷◌, ◌++◌, length, take, drop, slice_index, Option, Some, None, unwrap_or, ◌⊎◌, inl, inr, refl, sym, ap, ◌∙◌, subst, append_assoc, arith}
-use Rattle.std.proofs.lemmas.List.{append-nil, length-append, length-drop, length-take-le, take-append-drop}
-use Rattle.std.proofs.Math.Seq.{take-append_seam, drop-append_seam, take-length}
+use Rattle.std.proofs.Common.{◌≡◌, ◌≢◌, ℕ, ◌*◌, Bor, Ok, Err, zero, suc, ◌+◌, ◌<◌, ◌≤◌, List, [], ◌∷◌, ◌++◌, length, take, drop, Option, Some, None, unwrap_or, ◌⊎◌, inl, inr, refl, sym, ap, ◌∙◌, subst, append_assoc, arith}
+use Rattle.std.proofs.lemmas.List.{append-nil, length-append, length-drop, length-take-le, take-append-drop, drop-drop}
+use Rattle.std.proofs.Math.Seq.{take-append_seam, drop-append_seam}
 use Rattle.std.proofs.lemmas.List.Elements.{filter_map-append}
 use Rattle.std.proofs.lemmas.Bool.{cases_lt}
 use Rattle.std.specs.List.{flat_map, filter_map, last_or}
 use Rattle.std.proofs.lemmas.Grind.{flat_map-append}
+use Rattle.byteorder.specs.Endian.{big_number}
+use Rattle.afp_base.specs.Cursor.{Cursor, ReadsNumber, ReadsBytes, behind, piece_at}
+use Rattle.afp_base.specs.declared.scan.Short.{Short}
+use Rattle.dsi_session.specs.lemma.Next.{IsNext, HasNoNext}
 use Rattle.dsi_session.specs.Options.{SessionOption, option_spelling, AreOptions, OptionsStopAt, attention_in, attention_of, default_attention_quantum}
 
 -- no option stands at the front of the bytes
@@ -177,24 +181,90 @@ has_read-option payload at told option more read e =
       attention = ap (λ n. unwrap_or (attention_in option) n) read.attention ∙ sym (attention_more read.options option);
     }
 
--- the option that stands at the front of bytes that are long enough
-pub found_at : (bytes : List ℕ) (size n : ℕ) → 2 ≤ length bytes → size ≡ slice_index bytes 1 → n ≡ size → 2 + size ≤ length bytes
-    → (more : List ℕ) × (bytes ≡ option_spelling (record { kind = slice_index bytes 0; value = take n (drop 2 bytes) }) ++ more)
-found_at [] size n two is same fits = absurd (omega arith)
-found_at (kind ∷ []) size n two is same fits = absurd (omega arith)
-found_at (kind ∷ second ∷ rest) size n two is same fits =
-    let e : n ≡ second = same ∙ is in
-    let enough : n ≤ length rest = omega arith in
-    (drop n rest, ap (λ k. kind ∷ k ∷ rest) (sym e) ∙ found kind n rest enough)
+once : (n : ℕ) → n * 1 + 0 ≡ n
+once n = omega arith
 
--- the same where the option stands in the slice that is left
-pub has_read-next : (payload : List ℕ) (at told size next : ℕ) (option : SessionOption) (more : List ℕ)
-    → HasRead payload at told → take (length payload - at) (drop at payload) ≡ option_spelling option ++ more
-    → size ≡ length (option_spelling option) → next ≡ unwrap_or (attention_in option) told
-    → HasRead payload (at + size) next
-has_read-next payload at told size next option more read e size_is next_is =
-    let slice : take (length payload - at) (drop at payload) ≡ drop at payload =
-    ap (λ n. take n (drop at payload)) (sym (length-drop at payload)) ∙ take-length (drop at payload) in
-    let here = has_read-option payload at told option more read (sym slice ∙ e) in
-    let sized = subst (λ n. HasRead payload (at + n) (unwrap_or (attention_in option) told)) (sym size_is) here in
-    subst (λ n. HasRead payload (at + size) n) (sym next_is) sized
+-- the option at the front of bytes that are long enough
+next_cells : (rest : List ℕ) (kind size : ℕ) (value : List ℕ) → 2 + size ≤ length rest → kind ≡ big_number 1 (take 1 rest) → size ≡ big_number 1 (take 1 (drop 1 rest))
+    → value ≡ take size (drop 2 rest) → rest ≡ option_spelling (record { kind = kind; value = value }) ++ drop size (drop 2 rest)
+next_cells [] kind size value fits k s v = absurd (omega arith)
+next_cells (a ∷ []) kind size value fits k s v = absurd (omega arith)
+next_cells (a ∷ b ∷ rest) kind size value fits k s v =
+    let enough : size ≤ length rest = omega arith in
+    let spelling : ℕ → List ℕ → List ℕ = λ n xs. option_spelling (record { kind = n; value = xs }) ++ drop size rest in
+    ap (λ n. n ∷ b ∷ rest) (sym (k ∙ once a)) ∙ ap (λ n. kind ∷ n ∷ rest) (sym (s ∙ once b)) ∙ found kind size rest enough ∙ ap (spelling kind) (sym v)
+
+-- no option in too few bytes
+none_in_one : (rest : List ℕ) → length rest < 2 → HasNone rest
+none_in_one [] short = nothing_has_none
+none_in_one (a ∷ []) short = λ option more e. cc
+none_in_one (a ∷ b ∷ rest) short = absurd (omega arith)
+
+none_cells : (rest : List ℕ) (size : ℕ) → 2 ≤ length rest → size ≡ big_number 1 (take 1 (drop 1 rest)) → length rest < 2 + size → HasNone rest
+none_cells [] size two s short = absurd (omega arith)
+none_cells (a ∷ []) size two s short = absurd (omega arith)
+none_cells (a ∷ b ∷ rest) size two s short = none_fits a b rest (let e : size ≡ b = s ∙ once b in omega arith)
+
+-- a cursor behind so many bytes
+later : (n at : ℕ) (bytes : List ℕ) → drop (at + n) bytes ≡ drop n (drop at bytes)
+later n at bytes = sym (drop-drop n at bytes)
+
+left_of : (at n : ℕ) (bytes : List ℕ) → at + n ≤ length bytes → n ≤ length (drop at bytes)
+left_of at n bytes fits = omega (arith, length-drop at bytes)
+
+less_left : (at n : ℕ) (bytes : List ℕ) → at ≤ length bytes → length bytes < at + n → length (drop at bytes) < n
+less_left at n bytes within short = omega (arith, length-drop at bytes)
+
+-- reads of a type, a length and a value, as the code has them
+pub next_read : (kind size n : ℕ) (value : Bor (List ℕ)) (s0 s1 s2 s3 : Cursor) → n ≡ size → ReadsNumber 1 s0 (Ok kind) s1 → ReadsNumber 1 s1 (Ok size) s2 → ReadsBytes n s2 (Ok value) s3
+    → IsNext s0 (record { kind = kind; value = value.now }) s3
+next_read kind size n value s0 s1 s2 s3 same h1 h2 h =
+    let h3 : ReadsBytes size s2 (Ok value) s3 = subst (λ (m : ℕ). ReadsBytes m s2 (Ok value) s3) same h in
+    let e2 : s2 ≡ behind (behind s0 1) 1 = h2.2 ∙ ap (λ s. behind s 1) h1.2 in
+    let e3 : s3 ≡ behind (behind (behind s0 1) 1) size = h3.2 ∙ ap (λ s. behind s size) e2 in
+    let two : s0.place + 1 + 1 + size ≤ length s0.bytes = subst (λ (s : Cursor). s.place + size ≤ length s.bytes) e2 h3.0 in
+    let rest : List ℕ = drop s0.place s0.bytes in
+    let size_is : size ≡ big_number 1 (take 1 (drop 1 rest)) =
+    h2.1 ∙ ap (λ s. big_number 1 (piece_at s 1)) h1.2 ∙ ap (λ xs. big_number 1 (take 1 xs)) (later 1 s0.place s0.bytes) in
+    let behind_two : drop (s0.place + 1 + 1) s0.bytes ≡ drop 2 rest =
+    ap (λ n. drop n s0.bytes) (let n : s0.place + 1 + 1 ≡ s0.place + 2 = omega arith in n) ∙ later 2 s0.place s0.bytes in
+    let value_is : value.now ≡ take size (drop 2 rest) = h3.1 ∙ ap (λ s. piece_at s size) e2 ∙ ap (take size) behind_two in
+    let long : length value.now ≡ size = ap (length {A = ℕ}) value_is ∙ length-take-le size (drop 2 rest) (omega (arith, length-drop 2 rest, length-drop s0.place s0.bytes)) in
+    let place_is : s3.place ≡ s0.place + 1 + 1 + size = ap (λ (s : Cursor). s.place) e3 in
+    record {
+      bytes = ap (λ (s : Cursor). s.bytes) e3;
+      place = omega arith;
+      whole = next_cells rest kind size value.now (omega (arith, length-drop s0.place s0.bytes)) h1.1 size_is value_is
+          ∙ ap (λ xs. option_spelling (record { kind = kind; value = value.now }) ++ xs)
+          (ap (drop size) (sym behind_two) ∙ drop-drop size (s0.place + 1 + 1) s0.bytes ∙ ap (λ n. drop n s0.bytes) (sym place_is));
+    }
+
+pub none_without_kind : (s0 s1 : Cursor) (short : Short) → s0.place ≤ length s0.bytes → ReadsNumber 1 s0 (Err short) s1 → HasNoNext s0
+none_without_kind s0 s1 short within h = none_in_one (drop s0.place s0.bytes) (omega (arith, length-drop s0.place s0.bytes))
+
+pub none_without_size : (kind : ℕ) (s0 s1 s2 : Cursor) (short : Short) → ReadsNumber 1 s0 (Ok kind) s1 → ReadsNumber 1 s1 (Err short) s2 → HasNoNext s0
+none_without_size kind s0 s1 s2 short h1 h2 =
+    let less : length s0.bytes < s0.place + 1 + 1 = subst (λ (s : Cursor). length s.bytes < s.place + 1) h1.2 h2.0 in
+    none_in_one (drop s0.place s0.bytes) (omega (arith, length-drop s0.place s0.bytes))
+
+pub none_without_value : (kind size n : ℕ) (s0 s1 s2 s3 : Cursor) (short : Short) → n ≡ size → ReadsNumber 1 s0 (Ok kind) s1 → ReadsNumber 1 s1 (Ok size) s2 → ReadsBytes n s2 (Err short) s3 → HasNoNext s0
+none_without_value kind size n s0 s1 s2 s3 short same h1 h2 h =
+    let h3 : ReadsBytes size s2 (Err short) s3 = subst (λ (m : ℕ). ReadsBytes m s2 (Err short) s3) same h in
+    let e2 : s2 ≡ behind (behind s0 1) 1 = h2.2 ∙ ap (λ s. behind s 1) h1.2 in
+    let less : length s0.bytes < s0.place + 1 + 1 + size = subst (λ (s : Cursor). length s.bytes < s.place + size) e2 h3.0 in
+    let two : s0.place + 1 + 1 ≤ length s0.bytes = subst (λ (s : Cursor). s.place + 1 ≤ length s.bytes) h1.2 h2.0 in
+    let rest : List ℕ = drop s0.place s0.bytes in
+    let size_is : size ≡ big_number 1 (take 1 (drop 1 rest)) =
+    h2.1 ∙ ap (λ s. big_number 1 (piece_at s 1)) h1.2 ∙ ap (λ xs. big_number 1 (take 1 xs)) (later 1 s0.place s0.bytes) in
+    none_cells rest size (omega (arith, length-drop s0.place s0.bytes)) size_is (omega (arith, length-drop s0.place s0.bytes))
+
+-- a reader behind one option more
+pub has_read-next : (payload : List ℕ) (told next : ℕ) (option : SessionOption) (old new : Cursor) → old.bytes ≡ payload
+    → HasRead payload old.place told → IsNext old option new → next ≡ unwrap_or (attention_in option) told
+    → (new.bytes ≡ payload) × HasRead payload new.place next
+has_read-next payload told next option old new same read is next_is =
+    let here = has_read-option payload old.place told option (drop new.place payload) read
+    (subst (λ (xs : List ℕ). drop old.place xs ≡ option_spelling option ++ drop new.place xs) same is.whole) in (
+      is.bytes ∙ same,
+      subst (λ (n : ℕ). HasRead payload n next) (sym is.place) (subst (λ (n : ℕ). HasRead payload (old.place + length (option_spelling option)) n) (sym next_is) here),
+    )

@@ -1,9 +1,10 @@
 //! The options by which a session is opened.
-ghost use Rattle.std.specs.Prelude.{◌≡◌, ◌≢◌, ℕ, ◌++◌, List, length, IfSome, IfNone, IfOk, IfErr};
+ghost use Rattle.std.specs.Prelude.{◌≡◌, List, IfOk, IfErr, OnErr};
 ghost use Rattle.std.specs.List.{flat_map};
 ghost use Rattle.dsi_session.specs.Options.{SessionOption, AreOptions, OptionsStopAt, attention_in, attention_of, option_spelling, server_options};
+ghost use Rattle.dsi_session.specs.lemma.Next.{IsNext, HasNoNext};
 
-use afp_base::REPLAY_CACHE_SIZE;
+use afp_base::{REPLAY_CACHE_SIZE, Scan, Short};
 use byteorder::{BigEndian, ByteOrder};
 use std::marker::Model;
 
@@ -57,29 +58,15 @@ impl<'a> Model for FoundOption<'a> {
 }
 
 impl<'a> FoundOption<'a> {
-    /// The option at the front of the bytes, where one fits.
-    fn first(bytes: &'a [u8]) -> Option<FoundOption<'a>>
-        ensures some { IfSome result (λ option. (more : List ℕ) × (bytes.now ≡ option_spelling option ++ more)) }
-        ensures none { IfNone result ((option : SessionOption) (more : List ℕ) → bytes.now ≢ option_spelling option ++ more) }
+    /// The next option, where one fits: the cursor goes behind it.
+    fn next(scan: &mut Scan<'a>) -> Result<FoundOption<'a>, Short>
+        ensures ok { IfOk result (λ option. IsNext scan.old option scan.new) }
+        ensures err { OnErr result (HasNoNext scan.old) }
     {
-        if bytes.len() < 2 {
-            return None;
-        }
-        let end = 2 + usize::from(bytes[1]);
-        if bytes.len() < end {
-            return None;
-        }
-        Some(FoundOption {
-            kind: bytes[0],
-            value: &bytes[2..end],
-        })
-    }
-
-    /// How many bytes it has.
-    fn len(&self) -> usize
-        ensures { result ≡ length (option_spelling self.now) }
-    {
-        2 + self.value.len()
+        let kind = scan.u8()?;
+        let size = scan.u8()?;
+        let value = scan.bytes(usize::from(size))?;
+        Ok(FoundOption { kind, value })
     }
 
     /// The attention quantum that it tells.
@@ -102,13 +89,13 @@ pub fn read_options(payload: &[u8]) -> Result<OpenOptions, BadOptions>
     ensures bad { IfErr result (λ bad. (options : List SessionOption) × OptionsStopAt payload.now options bad.at) }
 {
     let mut attention = DEFAULT_ATTENTION_QUANTUM;
-    let mut at = 0;
-    while at < payload.len() {
-        let Some(option) = FoundOption::first(&payload[at..]) else {
+    let mut scan = Scan::new(payload);
+    while scan.remaining() > 0 {
+        let at = scan.place();
+        let Ok(option) = FoundOption::next(&mut scan) else {
             return Err(BadOptions { at });
         };
         attention = option.attention().unwrap_or(attention);
-        at += option.len();
     }
     Ok(OpenOptions { attention })
 }

@@ -2,9 +2,8 @@ use Rattle.std.proofs.Common.{ap, ◌∙◌, unwrap_or}
 use Rattle.dsi_session.proofs.OptionLemmas.{has_read-next}
 use Rattle.dsi_session.proofs.options.read_options.Goals as goal
 
-pub loop-at-preserved : goal.loop-at-preserved
-loop-at-preserved c =
-    let front = c.in-Some.ensures.some in
-    has_read-next c.args.payload.now c.loop-at.at c.loop-at.attention c.len-at.result c.unwrap_or-attention.result c.in-Some.option front.0
-    c.loop-at.invariant front.1 c.len-at.ensures
-    (c.unwrap_or-attention.ensures ∙ ap (λ o. unwrap_or o c.loop-at.attention) c.attention.ensures)
+pub loop-scan-preserved : goal.loop-scan-preserved
+loop-scan-preserved c =
+    has_read-next c.args.payload.now c.loop-scan.attention c.unwrap_or-attention.result c.in-Ok.option c.loop-scan.scan c.next.new.scan
+    c.loop-scan.invariant.0 c.loop-scan.invariant.1 c.in-Ok.ensures.ok
+    (c.unwrap_or-attention.ensures ∙ ap (λ o. unwrap_or o c.loop-scan.attention) c.attention.ensures)
