@@ -10,7 +10,7 @@ use Rattle.fork_bytes.specs.declared.block.Block.{Block}
 use Rattle.afp_base.specs.Limits.{most_fork_bytes}
 use Rattle.fork_bytes.specs.Blocks.{trimmed, block_at, block_count, blocks_of}
 use Rattle.fork_bytes.specs.Kept.{bytes_in, bytes_of, is_empty, are_rising, is_kept, room_of}
-use Rattle.fork_bytes.specs.lemma.Kept.{with_put, with_puts, Fits, IsKept}
+use Rattle.fork_bytes.specs.lemma.Kept.{with_put, with_puts, Fits, IsForkKept}
 use Rattle.fork_bytes.specs.Plan.{changes_from, changes_of, added_by, HasRoom, PlanState, IsPlan}
 use Rattle.fork_bytes.proofs.Trimmed.{get_or-block, length-block, length-trimmed, trimmed-trimmed}
 use Rattle.fork_bytes.proofs.Blocks.{whole, get_or-bytes, length-bytes, block_is}
@@ -195,7 +195,7 @@ all_done capacity (c ∷ cs) blocks want none l = absurd (omega arith)
 
 -- a plan's changes, the blocks that they are made in, and the room for them
 pub record Given (a b : List ℕ) (len : ℕ) (blocks changes : List Block) (old_capacity room capacity : ℕ) : Type 0 where
-  pub kept : IsKept len blocks old_capacity
+  pub kept : IsForkKept len blocks old_capacity
   pub view : bytes_of len blocks ≡ a
   pub are : changes ≡ changes_of a b
   pub enough : HasRoom (length (blocks_of a)) (added_by a changes) room
@@ -236,7 +236,7 @@ given_bytes {a = a} {b = b} g k = elim (cases_lt k (0 + all_blocks a b)) [
 ]
 
 pub given_kept : {a b : List ℕ} {len : ℕ} {blocks changes : List Block} {old_capacity room capacity : ℕ} → Given a b len blocks changes old_capacity room capacity
-    → (last : ℕ) → capacity ≤ last → length b ≤ most_fork_bytes → IsKept (length b) (with_puts changes blocks) last
+    → (last : ℕ) → capacity ≤ last → length b ≤ most_fork_bytes → IsForkKept (length b) (with_puts changes blocks) last
 given_kept {a = a} {b = b} {blocks = blocks} {changes = changes} {room = room} {capacity = capacity} g last more_ few = record {
   few = few;
   rising = (ended g).rising;
@@ -255,7 +255,7 @@ pub given_after : {a b : List ℕ} {len : ℕ} {blocks changes : List Block} {ol
 given_after {b = b} {blocks = blocks} {changes = changes} g = bytes-told b (with_puts changes blocks) (given_bytes g)
 
 -- what is given where a plan of the fork as it is is carried out
-pub given_by : {a b : List ℕ} {len : ℕ} {blocks changes : List Block} {old_capacity room capacity : ℕ} {plan : PlanState} → IsKept len blocks old_capacity → bytes_of len blocks ≡ a → IsPlan a b plan
+pub given_by : {a b : List ℕ} {len : ℕ} {blocks changes : List Block} {old_capacity room capacity : ℕ} {plan : PlanState} → IsForkKept len blocks old_capacity → bytes_of len blocks ≡ a → IsPlan a b plan
     → plan.changes ≡ changes → plan.room ≡ room → old_capacity ≤ capacity → room ≤ capacity → Given a b len blocks changes old_capacity room capacity
 given_by {a = a} {room = room} {plan = plan} kept view p changes_are room_is more_ brought_ = record {
   kept = kept;

@@ -1,5 +1,6 @@
 //! Blocks, and their bytes without the zeros at the end.
 ghost use Rattle.std.specs.Prelude.{◌≡◌, ◌≤◌, length, take, drop, replicate, IfOk};
+ghost use Rattle.afp_base.specs.Limits.{block_size};
 ghost use Rattle.fork_bytes.specs.Blocks.{trimmed};
 
 use afp_base::{Bytes, OutOfMemory};
@@ -60,7 +61,7 @@ const ZEROS: [u8; BLOCK_SIZE] = [0; BLOCK_SIZE];
 
 /// So many zeros, at most a block of them.
 pub(crate) fn zeros(n: usize) -> &'static [u8]
-    requires { n ≤ 4096 }
+    requires { n ≤ block_size }
     ensures { result.now ≡ replicate n 0 }
 {
     &ZEROS[..n]

@@ -20,13 +20,13 @@ pub struct Fork {
 impl Model for Fork {
     ghost use Rattle.std.specs.Prelude.{List, ℕ, vec_capacity};
     ghost use Rattle.fork_bytes.specs.Kept.{bytes_of};
-    ghost use Rattle.fork_bytes.specs.lemma.Kept.{IsKept};
+    ghost use Rattle.fork_bytes.specs.lemma.Kept.{IsForkKept};
 
     ghost Value = { List ℕ };
 
     ghost view = { λ a. bytes_of a.len a.blocks.items };
 
-    ghost invariant = { λ a. IsKept a.len a.blocks.items (vec_capacity a.blocks) };
+    ghost invariant = { λ a. IsForkKept a.len a.blocks.items (vec_capacity a.blocks) };
 }
 
 impl Fork {

@@ -1,7 +1,7 @@
 //! Reading from a fork.
 ghost use Rattle.std.specs.Prelude.{◌≡◌, ◌≢◌, ◌≤◌, ◌<◌, ◌+◌, ◌-◌, ◌*◌, ◌/◌, ◌++◌, ℕ, min, length, take, bit_and, slice_index, OnOk, OnErr, IfOk, IfSome, IfNone};
 ghost use Rattle.afp_base.specs.ForkBytes.{taken};
-ghost use Rattle.afp_base.specs.Limits.{most_fork_bytes};
+ghost use Rattle.afp_base.specs.Limits.{most_fork_bytes, block_size};
 ghost use Rattle.fork_bytes.specs.Line.{line_of};
 
 use crate::block::{BLOCK_SIZE, front_of, rest_of, zeros};
@@ -115,7 +115,7 @@ impl Fork {
         requires order { from < end }
         requires within { end ≤ length self.now }
         requires few { end ≤ most_fork_bytes }
-        requires one_block { end ≤ 4096 * (from / 4096 + 1) }
+        requires one_block { end ≤ block_size * (from / block_size + 1) }
         ensures ok { OnOk result (out.new ≡ out.old ++ taken self.now from (end - from)) }
         ensures err { OnErr result (take (length out.old) out.new ≡ out.old) }
     {
@@ -132,8 +132,8 @@ impl Fork {
 
 /// The start of the next block.
 fn next_block(at: u64) -> u64
-    requires { at ≤ 268435456 }
-    ensures { result ≡ 4096 * (at / 4096 + 1) }
+    requires { at ≤ most_fork_bytes }
+    ensures { result ≡ block_size * (at / block_size + 1) }
 {
     (at / BLOCK_SIZE as u64 + 1) * BLOCK_SIZE as u64
 }

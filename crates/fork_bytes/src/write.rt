@@ -2,7 +2,7 @@
 ghost use Rattle.std.specs.Prelude.{◌≡◌, ◌+◌, ◌/◌, ◌≤◌, ◌<◌, ◌==◌, ◌++◌, not, [], length, take, nat_eq, if◌then◌else◌, IfOk, OnOk};
 ghost use Rattle.std.specs.Cmp.Lexicographic.{pointwise};
 ghost use Rattle.afp_base.specs.ForkBytes.{splice, resized};
-ghost use Rattle.afp_base.specs.Limits.{most_fork_bytes};
+ghost use Rattle.afp_base.specs.Limits.{most_fork_bytes, block_size};
 ghost use Rattle.fork_bytes.specs.Blocks.{trimmed, blocks_of};
 ghost use Rattle.fork_bytes.specs.Kept.{is_empty};
 ghost use Rattle.fork_bytes.specs.Plan.{IsPlan, HasRoom, added_by, changes_of, with_change};
@@ -176,17 +176,17 @@ impl Changes {
 
 /// The index of the block in which a byte stands.
 fn block_of(at: u64) -> u32
-    requires { at < most_fork_bytes + 4096 }
-    ensures { result ≡ at / 4096 }
+    requires { at < most_fork_bytes + block_size }
+    ensures { result ≡ at / block_size }
 {
     (at / BLOCK_SIZE as u64) as u32
 }
 
 /// A block with a part of it written, without the zeros at its end.
 fn spliced(alloc: Global, old: &[u8], low: usize, part: &[u8]) -> Result<Bytes, OutOfMemory>
-    requires block { length old.now ≤ 4096 }
+    requires block { length old.now ≤ block_size }
     requires some { 0 < length part.now }
-    requires within { low + length part.now ≤ 4096 }
+    requires within { low + length part.now ≤ block_size }
     ensures { IfOk result (λ new. new ≡ trimmed (splice old.now low part.now)) }
 {
     let front = front_of(old, low);

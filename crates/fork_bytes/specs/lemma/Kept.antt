@@ -7,7 +7,7 @@ use Rattle.afp_base.specs.Limits.{most_fork_bytes}
 use Rattle.fork_bytes.specs.Kept.{is_empty, are_rising, is_kept, room_of}
 
 -- what holds of a fork's length, its blocks and its room for blocks
-pub record IsKept (len : ℕ) (blocks : List Block) (capacity : ℕ) : Type 0 where
+pub record IsForkKept (len : ℕ) (blocks : List Block) (capacity : ℕ) : Type 0 where
   pub few : len ≤ most_fork_bytes
   pub rising : are_rising blocks ≡ true
   pub kept : list_all (is_kept len) blocks ≡ true

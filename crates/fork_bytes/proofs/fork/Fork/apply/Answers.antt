@@ -1,7 +1,7 @@
 use Rattle.std.proofs.Common.{◌≡◌, ◌∙◌, ◌≤◌, length, vec_capacity, sym, ap, subst}
 use Rattle.afp_base.specs.Limits.{most_fork_bytes}
 use Rattle.fork_bytes.specs.Kept.{bytes_of}
-use Rattle.fork_bytes.specs.lemma.Kept.{IsKept, Fits, with_puts}
+use Rattle.fork_bytes.specs.lemma.Kept.{IsForkKept, Fits, with_puts}
 use Rattle.fork_bytes.specs.Plan.{PlanState}
 use Rattle.fork_bytes.proofs.Applies.{given_by, given_fits, given_kept, given_after}
 use Rattle.fork_bytes.proofs.fork.Fork.apply.Goals as goal
@@ -17,8 +17,8 @@ invariant_of-self c =
     let given = given_by c.self.invariant c.self.view_is p (sym (ap (λ (s : PlanState). s.changes) c.plan.view_is)) (sym (ap (λ (s : PlanState). s.room) c.plan.view_is)) c.move_to.ensures.more c.move_to.ensures.brought in
     let len : c.plan.inside.len ≡ length c.requires.0 = ap (λ (s : PlanState). s.len) c.plan.view_is ∙ p.len in
     let items = c.put_all.ensures.items ∙ ap (with_puts c.plan.inside.changes.items) c.move_to.ensures.items in
-    subst (λ n. IsKept n c.put_all.new.blocks.items (vec_capacity c.put_all.new.blocks)) (sym len)
-    (subst (λ l. IsKept (length c.requires.0) l (vec_capacity c.put_all.new.blocks)) (sym items)
+    subst (λ n. IsForkKept n c.put_all.new.blocks.items (vec_capacity c.put_all.new.blocks)) (sym len)
+    (subst (λ l. IsForkKept (length c.requires.0) l (vec_capacity c.put_all.new.blocks)) (sym items)
     (given_kept given (vec_capacity c.put_all.new.blocks) c.put_all.ensures.room (subst (λ n. n ≤ most_fork_bytes) len c.plan.invariant.1)))
 
 pub returns : goal.returns
