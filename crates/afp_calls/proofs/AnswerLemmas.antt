@@ -4,7 +4,8 @@ use Rattle.std.proofs.lemmas.Bool.{eqb-true}
 use Rattle.afp_requests.specs.declared.call.Call.{Call}
 use Rattle.afp_requests.specs.declared.call.ReadFault.{ReadFault}
 use Rattle.afp_requests.specs.declared.call.ReadFault.TheVariants as faults
-use Rattle.afp_requests.specs.Laws.{BeginsWithNoCommand, BeginsWithCommand, IsBytes, IsFunction, SpeltCanBeWritten, UnknownIsNotSpelt}
+use Rattle.afp_base.specs.Bytes.{IsBytes}
+use Rattle.afp_requests.specs.Laws.{BeginsWithNoCommand, BeginsWithCommand, IsFunction, SpeltCanBeWritten, UnknownIsNotSpelt}
 use Rattle.afp_requests.specs.Spelt.{is_command, readers, spelt_call}
 use Rattle.afp_fields.specs.Input.{Input}
 use Rattle.afp_calls.specs.Answer.{IsMisspelt, IsAnswer, IsRefused}

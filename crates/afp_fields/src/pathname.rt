@@ -1,8 +1,7 @@
 //! Paths in requests (AFP Reference, "Pathnames").
-ghost use Rattle.std.specs.Prelude.{◌≡◌, ◌≤◌, ◌++◌, ◌∷◌, length, map, replicate, chars, IfOk, OnOk, OnErr};
+ghost use Rattle.std.specs.Prelude.{◌≡◌, ◌≤◌, ◌++◌, ◌∷◌, length, replicate, IfOk, OnOk, OnErr};
 ghost use Rattle.std.specs.Option.{option_copied};
 ghost use Rattle.byteorder.specs.Endian.{big_bytes};
-ghost use Rattle.afp_names.specs.LongName.{shown_byte};
 ghost use Rattle.afp_names.specs.Path.{IsPath, canonical_path, longest_path, step_bytes, element_of};
 ghost use Rattle.afp_requests.specs.Words.{Pathname, pathname, hint_size, count_size};
 ghost use Rattle.afp_fields.specs.Taking.{Takes};
@@ -12,8 +11,7 @@ ghost use Rattle.afp_fields.specs.Putting.{Puts};
 
 use crate::fields::Fields;
 use afp_base::{Bytes, OutOfMemory};
-use afp_names::mac_roman::byte_of;
-use afp_names::{LONG_NAMES, Name, Path, PathFault, Step, UTF8_NAMES};
+use afp_names::{LONG_NAMES, Name, Path, PathFault, Step, UTF8_NAMES, put_shown};
 use afp_requests::ReadFault;
 use byteorder::{BigEndian, ByteOrder};
 use std::alloc::Global;
@@ -160,29 +158,5 @@ fn put_element(alloc: Global, bytes: &mut Bytes, kind: u8, name: &Name) -> Resul
     if kind != LONG_NAMES {
         return bytes.extend(name.as_str().as_bytes());
     }
-    put_long(bytes, &characters(alloc, name)?)
-}
-
-fn characters(alloc: Global, name: &Name) -> Result<Vec<char>, OutOfMemory>
-    ensures { IfOk result (λ text. text.items ≡ chars name.now) }
-{
-    Ok(name.as_str().chars().collect(alloc)?)
-}
-
-/// Characters of a long name, with `?` where the character set lacks one.
-fn put_long(bytes: &mut Bytes, text: &[char]) -> Result<(), OutOfMemory>
-    ensures { OnOk result (bytes.new ≡ bytes.old ++ map shown_byte text.now) }
-{
-    for character in text {
-        bytes.extend(&[shown_byte(*character)])?;
-    }
-    Ok(())
-}
-
-/// The byte of a character, or `?` where the character set has none.
-#[tactic(auto, unfolding(afp_names::specs::LongName::shown_byte))]
-fn shown_byte(character: char) -> u8
-    ensures { result ≡ shown_byte character }
-{
-    byte_of(character).unwrap_or(b'?')
+    put_shown(alloc, bytes, name.as_str())
 }

@@ -33,7 +33,7 @@ pub fn long_name(alloc: Global, name: &Name, id: NodeId) -> Result<Bytes, OutOfM
 {
     let text = name.as_str();
     if is_ascii_long_name(text) {
-        return copied(alloc, text.as_bytes());
+        return Bytes::of(alloc, text.as_bytes());
     }
     composed_long_name(alloc, name, id)
 }
@@ -44,14 +44,6 @@ fn is_ascii_long_name(text: &str) -> bool
     ensures short { result ≡ true → length text.now ≤ longest_long_name }
 {
     text.len() <= LONGEST_LONG_NAME && text.is_ascii()
-}
-
-fn copied(alloc: Global, bytes: &[u8]) -> Result<Bytes, OutOfMemory>
-    ensures { IfOk result (λ copy. copy ≡ bytes.now) }
-{
-    let mut copy = Bytes::new(alloc);
-    copy.extend(bytes)?;
-    Ok(copy)
 }
 
 /// The long name, by the characters of the name in form C.
@@ -85,7 +77,14 @@ fn composed(alloc: Global, name: &Name) -> Result<Vec<char>, OutOfMemory>
     ensures { IfOk result (λ text. text.items ≡ nfc (chars name.now)) }
 {
     let text = to_nfc(alloc, name.as_str())?;
-    Ok(text.as_str().chars().collect(alloc)?)
+    characters(alloc, text.as_str())
+}
+
+/// The characters of a text.
+fn characters(alloc: Global, text: &str) -> Result<Vec<char>, OutOfMemory>
+    ensures { IfOk result (λ characters. characters.items ≡ chars text.now) }
+{
+    Ok(text.chars().collect(alloc)?)
 }
 
 /// Whether the text is a long name as it stands.
@@ -101,6 +100,13 @@ fn has_all(text: &[char]) -> bool
     ensures { result ≡ list_all (λ c. is_some (mac_roman_byte c)) text.now }
 {
     text.iter().all(|c| byte_of(*c).is_some())
+}
+
+/// Appends a text in the character set of [`crate::mac_roman`], with `?` for each character that it lacks.
+pub fn put_shown(alloc: Global, bytes: &mut Bytes, text: &str) -> Result<(), OutOfMemory>
+    ensures { OnOk result (bytes.new ≡ bytes.old ++ map shown_byte (chars text.now)) }
+{
+    put(bytes, &characters(alloc, text)?)
 }
 
 /// Appends the text's bytes.

@@ -9,6 +9,7 @@
 mod answer;
 mod commands;
 mod cursor;
+mod entry;
 mod fields;
 mod laws;
 mod list;
@@ -18,6 +19,7 @@ mod volumes;
 mod write;
 
 pub use answer::read_reply;
+pub use entry::{flag_of, put_length, put_pad, put_place};
 pub use laws::{
     entries_are_even, one_reply_for_each, what_fits_a_request_is_shown_to_it, what_fits_is_shown,
     what_is_written_is_shown,

@@ -1,8 +1,7 @@
 //! Replies, written field by field.
 ghost use Rattle.std.specs.Int.{w32, cast_unsigned};
-ghost use Rattle.std.specs.Prelude.{◌≡◌, ◌∷◌, ◌++◌, ◌<◌, ◌^◌, ◌+◌, ◌≤◌, [], drop, length, map, replicate, take, OnOk, OnErr};
+ghost use Rattle.std.specs.Prelude.{◌≡◌, ◌∷◌, ◌++◌, ◌<◌, ◌^◌, ◌+◌, [], length, map, replicate, OnOk, OnErr};
 ghost use Rattle.std.specs.List.{concat, AllByRecursion};
-ghost use Rattle.byteorder.specs.Endian.{big_bytes};
 ghost use Rattle.afp_bitmap.specs.Bits.{IsWithin, file_mask, dir_mask, is_asked};
 ghost use Rattle.afp_bitmap.specs.Params.{params};
 ghost use Rattle.afp_bitmap.specs.Table.{kind_of};
@@ -14,13 +13,13 @@ ghost use Rattle.afp_replies.specs.Fitting.{FitsVolume, FitsList};
 ghost use Rattle.afp_base.specs.Appended.{Keeps};
 ghost use Rattle.afp_replies.specs.lemma.Writing.{FitsParams, FitsNode, FitsMessage, CanWrite};
 
-use crate::fields::{DIRECTORY, UTF8_BIT, put_text};
+use crate::entry::{flag_of, put_length, put_pad, put_place};
+use crate::fields::{UTF8_BIT, put_text};
 use crate::list::ListEntry;
 use crate::reply::Reply;
 use crate::volumes::VolumeEntry;
 use afp_base::{Bytes, OutOfMemory};
 use afp_bitmap::{Values, is_asked, put_params};
-use byteorder::{BigEndian, ByteOrder};
 
 /// Appends a number of 4 bytes, where there is one.
 fn put_optional(number: &Option<u32>, out: &mut Bytes) -> Result<(), OutOfMemory>
@@ -179,13 +178,6 @@ fn is_dir(values: &Values) -> bool
     }
 }
 
-/// The flag of a directory or a file.
-fn flag_of(dir: bool) -> u8
-    ensures { result ≡ flag_of dir }
-{
-    if dir { DIRECTORY } else { 0 }
-}
-
 /// The bits that are asked of a directory or a file.
 fn bits_for(dir: bool, file_bits: u16, dir_bits: u16) -> u16
     ensures { result ≡ bits_for dir file_bits dir_bits }
@@ -211,41 +203,6 @@ fn put_file_dir_params(
     out.push_u8(flag_of(dir))?;
     out.push_u8(0)?;
     put_params(bits_for(dir, file_bits, dir_bits), values, out)
-}
-
-/// Zeros where the length of an entry is to stand, narrow or wide.
-fn put_place(wide: bool, out: &mut Bytes) -> Result<(), OutOfMemory>
-    ensures ok { OnOk result (out.new ≡ out.old ++ replicate (width wide) 0) }
-    ensures err { OnErr result (out.new ≡ out.old) }
-{
-    if wide {
-        out.push_u16(0)
-    } else {
-        out.push_u8(0)
-    }
-}
-
-/// Writes the length of an entry at its place.
-fn put_length(wide: bool, at: usize, size: usize, out: &mut Bytes)
-    requires inside { at + width wide ≤ length out.old }
-    requires fits { size < 256 ^ width wide }
-    ensures { out.new ≡ take at out.old ++ big_bytes (width wide) size ++ drop (at + width wide) out.old }
-{
-    if wide {
-        let mut bytes = [0; 2];
-        BigEndian::write_u16(&mut bytes, size as u16);
-        out.put(at, &bytes);
-    } else {
-        out.put(at, &[size as u8]);
-    }
-}
-
-/// The pad behind the flag of an entry, in a wide list.
-fn put_pad(wide: bool, out: &mut Bytes) -> Result<(), OutOfMemory>
-    ensures ok { OnOk result (out.new ≡ out.old ++ replicate (pad_count wide) 0) }
-    ensures err { OnErr result (out.new ≡ out.old) }
-{
-    if wide { out.push_u8(0) } else { Ok(()) }
 }
 
 /// An entry without its length: zeros in place of that, the flag, a pad and the parameters.

@@ -29,7 +29,7 @@ use Rattle.afp_requests.specs.Icon.{add_icon_reader, get_icon_reader, get_icon_i
 use Rattle.afp_requests.specs.Appl.{add_appl_reader, remove_appl_reader, get_appl_reader}
 use Rattle.afp_requests.specs.Comment.{add_comment_reader, remove_comment_reader, get_comment_reader}
 use Rattle.afp_requests.specs.Spelt.{readers, spelt_call}
-use Rattle.afp_requests.proofs.ReaderLemmas.{IsSound, both_sound, reader_read, tail_last, canonical_begins, canonical_encloses}
+use Rattle.afp_requests.proofs.ReaderLemmas.{ReaderIsSound, both_sound, reader_read, tail_last, canonical_begins, canonical_encloses}
 use Rattle.afp_requests.proofs.SessionSound.{session_sound}
 use Rattle.afp_requests.proofs.VolumeSound.{volume_sound}
 use Rattle.afp_requests.proofs.DirectorySound.{directory_sound}
@@ -38,7 +38,7 @@ use Rattle.afp_requests.proofs.ForkSound.{fork_sound}
 use Rattle.afp_requests.proofs.DesktopSound.{desktop_sound}
 
 -- each reader makes the requests whose fields it has
-pub readers_sound : AllByRecursion IsSound readers
+pub readers_sound : AllByRecursion ReaderIsSound readers
 readers_sound = both_sound session_readers (volume_readers ++ (directory_readers ++ (file_readers ++ (fork_readers ++ (desktop_readers))))) session_sound (both_sound volume_readers (directory_readers ++ (file_readers ++ (fork_readers ++ (desktop_readers)))) volume_sound (both_sound directory_readers (file_readers ++ (fork_readers ++ (desktop_readers))) directory_sound (both_sound file_readers (fork_readers ++ (desktop_readers)) file_sound (both_sound fork_readers (desktop_readers) fork_sound (desktop_sound)))))
 
 -- each request is read by its reader

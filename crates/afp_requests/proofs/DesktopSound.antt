@@ -2,7 +2,7 @@
 use Rattle.std.proofs.Common.{refl}
 use Rattle.std.specs.List.{AllByRecursion}
 use Rattle.afp_requests.specs.Readers.{desktop_readers}
-use Rattle.afp_requests.proofs.ReaderLemmas.{IsSound}
+use Rattle.afp_requests.proofs.ReaderLemmas.{ReaderIsSound}
 
-pub desktop_sound : AllByRecursion IsSound desktop_readers
+pub desktop_sound : AllByRecursion ReaderIsSound desktop_readers
 desktop_sound = (λ vs bytes h. refl, (λ vs bytes h. refl, (λ vs bytes h. refl, (λ vs bytes h. refl, (λ vs bytes h. refl, (λ vs bytes h. refl, (λ vs bytes h. refl, (λ vs bytes h. refl, (λ vs bytes h. refl, (λ vs bytes h. refl, (λ vs bytes h. refl, tt)))))))))))

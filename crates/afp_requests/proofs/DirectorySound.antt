@@ -2,7 +2,7 @@
 use Rattle.std.proofs.Common.{refl}
 use Rattle.std.specs.List.{AllByRecursion}
 use Rattle.afp_requests.specs.Readers.{directory_readers}
-use Rattle.afp_requests.proofs.ReaderLemmas.{IsSound}
+use Rattle.afp_requests.proofs.ReaderLemmas.{ReaderIsSound}
 
-pub directory_sound : AllByRecursion IsSound directory_readers
+pub directory_sound : AllByRecursion ReaderIsSound directory_readers
 directory_sound = (λ vs bytes h. refl, (λ vs bytes h. refl, (λ vs bytes h. refl, (λ vs bytes h. refl, (λ vs bytes h. refl, (λ vs bytes h. refl, (λ vs bytes h. refl, (λ vs bytes h. refl, (λ vs bytes h. refl, (λ vs bytes h. refl, (λ vs bytes h. refl, (λ vs bytes h. refl, tt))))))))))))

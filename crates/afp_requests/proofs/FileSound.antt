@@ -2,7 +2,7 @@
 use Rattle.std.proofs.Common.{refl}
 use Rattle.std.specs.List.{AllByRecursion}
 use Rattle.afp_requests.specs.Readers.{file_readers}
-use Rattle.afp_requests.proofs.ReaderLemmas.{IsSound}
+use Rattle.afp_requests.proofs.ReaderLemmas.{ReaderIsSound}
 
-pub file_sound : AllByRecursion IsSound file_readers
+pub file_sound : AllByRecursion ReaderIsSound file_readers
 file_sound = (λ vs bytes h. refl, (λ vs bytes h. refl, (λ vs bytes h. refl, (λ vs bytes h. refl, (λ vs bytes h. refl, (λ vs bytes h. refl, (λ vs bytes h. refl, tt)))))))

@@ -88,10 +88,10 @@ begins_read (With size make) vs place bytes (Some piece) h k =
     rw (fits, front) refl
 
 -- a reader makes the requests whose fields it has, and with which its piece comes
-abbrev pub IsSound : Reader → Type 0
-IsSound r = (vs : Values r.reading) (bytes : List ℕ) → BeginsWith 1 (fields_with r.reading vs) bytes → layout_of (made_of r.reading vs) ≡ record { fields = command r.number ∷ fields_with r.reading vs; enclosed = enclosed_with r.reading vs }
+abbrev pub ReaderIsSound : Reader → Type 0
+ReaderIsSound r = (vs : Values r.reading) (bytes : List ℕ) → BeginsWith 1 (fields_with r.reading vs) bytes → layout_of (made_of r.reading vs) ≡ record { fields = command r.number ∷ fields_with r.reading vs; enclosed = enclosed_with r.reading vs }
 
-pub reader_spells : (r : Reader) → IsSound r → (bytes : List ℕ) (enclosed : Option (List ℕ)) (c : Call) → read r.reading 1 enclosed bytes ≡ Some c → Spells c (r.number ∷ bytes) enclosed
+pub reader_spells : (r : Reader) → ReaderIsSound r → (bytes : List ℕ) (enclosed : Option (List ℕ)) (c : Call) → read r.reading 1 enclosed bytes ≡ Some c → Spells c (r.number ∷ bytes) enclosed
 reader_spells r sound bytes enclosed c h =
     let from = read_begins r.reading 1 bytes enclosed c h in
     let layout : record { fields = command r.number ∷ fields_with r.reading from.values; enclosed = enclosed_with r.reading from.values } ≡ layout_of c = sym (sound from.values bytes from.begins) ∙ ap layout_of from.made in
@@ -100,18 +100,18 @@ reader_spells r sound bytes enclosed c h =
       encloses = subst (λ (l : Layout). IsEnclosed l.enclosed enclosed) layout from.encloses;
     }
 
-reader_or_more : (r : Reader) (n : ℕ) (bytes : List ℕ) (enclosed : Option (List ℕ)) (c : Call) (more : Option Call) (t : Bool) → IsSound r → (r.number == n) ≡ t → cond t (read r.reading 1 enclosed bytes) more ≡ Some c → (more ≡ Some c → Spells c (n ∷ bytes) enclosed) → Spells c (n ∷ bytes) enclosed
+reader_or_more : (r : Reader) (n : ℕ) (bytes : List ℕ) (enclosed : Option (List ℕ)) (c : Call) (more : Option Call) (t : Bool) → ReaderIsSound r → (r.number == n) ≡ t → cond t (read r.reading 1 enclosed bytes) more ≡ Some c → (more ≡ Some c → Spells c (n ∷ bytes) enclosed) → Spells c (n ∷ bytes) enclosed
 reader_or_more r n bytes enclosed c more true sound e h others =
     let same : r.number ≡ n = eqb-true r.number n e in
     subst (λ (m : ℕ). Spells c (m ∷ bytes) enclosed) same (reader_spells r sound bytes enclosed c h)
 reader_or_more r n bytes enclosed c more false sound e h others = others h
 
-pub readers_spell : (rs : List Reader) → AllByRecursion IsSound rs → (n : ℕ) (bytes : List ℕ) (enclosed : Option (List ℕ)) (c : Call) → read_by rs n 1 enclosed bytes ≡ Some c → Spells c (n ∷ bytes) enclosed
+pub readers_spell : (rs : List Reader) → AllByRecursion ReaderIsSound rs → (n : ℕ) (bytes : List ℕ) (enclosed : Option (List ℕ)) (c : Call) → read_by rs n 1 enclosed bytes ≡ Some c → Spells c (n ∷ bytes) enclosed
 readers_spell [] sound n bytes enclosed c h = absurd cc
 readers_spell (r ∷ rs) sound n bytes enclosed c h = reader_or_more r n bytes enclosed c (read_by rs n 1 enclosed bytes) (r.number == n) sound.0 refl h (λ more. readers_spell rs sound.1 n bytes enclosed c more)
 
 -- sound readers behind sound ones
-pub both_sound : (rs ss : List Reader) → AllByRecursion IsSound rs → AllByRecursion IsSound ss → AllByRecursion IsSound (rs ++ ss)
+pub both_sound : (rs ss : List Reader) → AllByRecursion ReaderIsSound rs → AllByRecursion ReaderIsSound ss → AllByRecursion ReaderIsSound (rs ++ ss)
 both_sound [] ss h k = k
 both_sound (r ∷ rs) ss h k = (h.0, both_sound rs ss h.1 k)
 
@@ -134,7 +134,7 @@ no_reader (r ∷ rs) n bytes enclosed h =
     rw parts.0 (no_reader rs n bytes enclosed parts.1)
 
 -- the request that is spelt, where one is
-pub spelt_spells : AllByRecursion IsSound readers → (block : List ℕ) (enclosed : Option (List ℕ)) (c : Call) → spelt_call block enclosed ≡ Some c → Spells c block enclosed
+pub spelt_spells : AllByRecursion ReaderIsSound readers → (block : List ℕ) (enclosed : Option (List ℕ)) (c : Call) → spelt_call block enclosed ≡ Some c → Spells c block enclosed
 unfolding spelt_call
 spelt_spells sound [] enclosed c h = absurd cc
 spelt_spells sound (n ∷ bytes) enclosed c h = readers_spell readers sound n bytes enclosed c h

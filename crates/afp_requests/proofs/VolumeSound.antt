@@ -2,7 +2,7 @@
 use Rattle.std.proofs.Common.{refl}
 use Rattle.std.specs.List.{AllByRecursion}
 use Rattle.afp_requests.specs.Readers.{volume_readers}
-use Rattle.afp_requests.proofs.ReaderLemmas.{IsSound}
+use Rattle.afp_requests.proofs.ReaderLemmas.{ReaderIsSound}
 
-pub volume_sound : AllByRecursion IsSound volume_readers
+pub volume_sound : AllByRecursion ReaderIsSound volume_readers
 volume_sound = (λ vs bytes h. refl, (λ vs bytes h. refl, (λ vs bytes h. refl, (λ vs bytes h. refl, (λ vs bytes h. refl, tt)))))

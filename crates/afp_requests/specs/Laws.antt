@@ -1,5 +1,6 @@
 -- What holds of every request and every block, whatever function is run.
-use Rattle.std.specs.Prelude.{◌≡◌, ◌↔◌, ℕ, ◌<◌, true, false, List, [], ◌∷◌, slice_index, Option, Some, None}
+use Rattle.std.specs.Prelude.{◌≡◌, ◌↔◌, ℕ, true, false, List, [], ◌∷◌, Option, Some, None}
+use Rattle.afp_base.specs.Bytes.{IsBytes}
 use Rattle.afp_requests.specs.declared.call.Call.{Call}
 use Rattle.afp_requests.specs.Call.{Spells, IsTypedCall, IsSpellable, canonical_call, canonical_data}
 use Rattle.afp_requests.specs.Spelt.{is_command, spelt_call}
@@ -30,10 +31,6 @@ CanonicalIsReadAgain = (call : Call) → IsTypedCall call → IsSpellable call �
 
 abbrev pub CanonicalIsOfOne : Type 0
 CanonicalIsOfOne = (c d : Call) → IsTypedCall c → IsSpellable c → Spells d (canonical_call c) (canonical_data c) → d ≡ c
-
--- each is below 256
-abbrev pub IsBytes : List ℕ → Type 0
-IsBytes bytes = (i : ℕ) → slice_index bytes i < 256
 
 -- what bytes spell can be written
 abbrev pub SpeltCanBeWritten : Type 0

@@ -98,8 +98,8 @@ i32 x = record { word = Signed32; value = x }
 abbrev pub i64 : ℤ → Field
 i64 x = record { word = Signed64; value = x }
 
-abbrev pub plain : ℕ → List ℕ → Field
-plain n bytes = record { word = Plain n; value = bytes }
+abbrev pub plain_bytes : ℕ → List ℕ → Field
+plain_bytes n bytes = record { word = Plain n; value = bytes }
 
 abbrev pub counted_field : ℕ → List ℕ → Field
 counted_field n bytes = record { word = Counted n; value = bytes }

@@ -32,22 +32,22 @@ fn is_text(longest: usize, text: &[u8]) -> bool
     text.len() <= longest && are_printable(text)
 }
 
-/// The same of at least one character.
-fn is_name(longest: usize, text: &[u8]) -> bool
+/// Whether the text is printable ASCII of at least one character and at most `longest`.
+pub fn is_name(longest: usize, text: &[u8]) -> bool
     ensures { result ≡ is_name longest text.now }
 {
     text.len() >= 1 && is_text(longest, text)
 }
 
 /// Whether one of the users has the name.
-fn is_user_name(users: &[User], name: &[u8]) -> bool
+pub fn has_user(users: &[User], name: &[u8]) -> bool
     ensures { result ≡ list_any (λ other. bytes_eq other.name name.now) users.now }
 {
     users.iter().any(|other| other.name.as_slice() == name)
 }
 
 /// Whether one of the volumes has the name.
-fn is_volume_name(volumes: &[Bytes], name: &[u8]) -> bool
+pub fn has_volume(volumes: &[Bytes], name: &[u8]) -> bool
     ensures { result ≡ list_any (λ other. bytes_eq other name.now) volumes.now }
 {
     volumes.iter().any(|other| other.as_slice() == name)
@@ -60,7 +60,7 @@ fn is_bad_user(before: &[User], user: &User) -> bool
 {
     let name = user.name.as_slice();
     !is_name(LONGEST_USER, name)
-        || is_user_name(before, name)
+        || has_user(before, name)
         || user.id as usize != FIRST_USER_ID + before.len()
 }
 
@@ -69,7 +69,7 @@ fn is_bad_volume(before: &[Bytes], volume: &Bytes) -> bool
     ensures { result ≡ is_bad_volume before.now volume.now }
 {
     let name = volume.as_slice();
-    !is_name(LONGEST_VOLUME, name) || is_volume_name(before, name)
+    !is_name(LONGEST_VOLUME, name) || has_volume(before, name)
 }
 
 /// The index of the first bad user.

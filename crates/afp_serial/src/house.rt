@@ -74,11 +74,11 @@ impl House {
         }
         fields_in_range(&signature, users.as_slice(), &token_key);
         Ok(House {
-            server: bytes_of(alloc, server.as_bytes())?,
+            server: Bytes::of(alloc, server.as_bytes())?,
             signature,
             users,
             volumes,
-            message: bytes_of(alloc, message.as_bytes())?,
+            message: Bytes::of(alloc, message.as_bytes())?,
             token_key,
         })
     }
@@ -139,15 +139,6 @@ impl House {
     {
         self.token_key
     }
-}
-
-/// The bytes, owned.
-fn bytes_of(alloc: Global, piece: &[u8]) -> Result<Bytes, OutOfMemory>
-    ensures { IfOk result (λ bytes. bytes ≡ piece.now) }
-{
-    let mut bytes = Bytes::new(alloc);
-    bytes.extend(piece)?;
-    Ok(bytes)
 }
 
 fn copied_users(alloc: Global, users: &[User]) -> Result<Vec<User>, OutOfMemory>

@@ -12,7 +12,7 @@ use Rattle.afp_server.specs.Calls.{CallTold}
 use Rattle.afp_server.specs.Complete.{ScriptEnds, IsScripted}
 use Rattle.afp_server.specs.Did.{Did}
 use Rattle.afp_server.specs.OpenSession.{OpenTold, OpensSession}
-use Rattle.afp_server.specs.Replies.{listed, plain}
+use Rattle.afp_server.specs.Replies.{listed, only_replies}
 use Rattle.afp_server.specs.Script.{FreshDoes, OpenDoes, ReplyDoes, FrameDoes, Does, Script}
 use Rattle.afp_server.specs.Trace.{Happening, received, was_quiet, handled, frames_in, replies_in, frame_steps_in, Standing, Cause, closed, displaced, bad, silent, cause_of, IdlesOn, Idles, Follows}
 use Rattle.afp_server.specs.declared.stage.FrameEnd.{FrameEnd}
@@ -88,12 +88,12 @@ frame-reply block now (Open link) false f did row = open-reply block now link f.
 pub does-replies : (block : List ℕ) (now : ℕ) (stage : Stage) (f : Frame) (did : Did) → Does block now stage f did → IsReply did.reply
 does-replies block now stage f did row = frame-reply block now stage f.reply f did row
 
-plain-one : (f : Frame) (frames : List Frame) → f.reply ≡ true → plain (f ∷ frames) ≡ f ∷ plain frames
-plain-one f frames is = rw is refl
+only_replies-one : (f : Frame) (frames : List Frame) → f.reply ≡ true → only_replies (f ∷ frames) ≡ f ∷ only_replies frames
+only_replies-one f frames is = rw is refl
 
-plain-more : (o : Option Frame) (frames : List Frame) → IsReply o → plain frames ≡ frames → plain (listed o ++ frames) ≡ listed o ++ frames
-plain-more None frames is p = p
-plain-more (Some f) frames is p = plain-one f frames is ∙ ap (λ (fs : List Frame). f ∷ fs) p
+only_replies-more : (o : Option Frame) (frames : List Frame) → IsReply o → only_replies frames ≡ frames → only_replies (listed o ++ frames) ≡ listed o ++ frames
+only_replies-more None frames is p = p
+only_replies-more (Some f) frames is p = only_replies-one f frames is ∙ ap (λ (fs : List Frame). f ∷ fs) p
 
 -- a quiet goes on in its phase
 idles_on-stage : (now : ℕ) (stage : Stage) (steps : List Step) (after : Stage) → IdlesOn now stage steps after → after ≡ stage
@@ -104,7 +104,7 @@ idles_on-stage now Closing steps after r = absurd r
 -- nothing happens behind an end
 
 scripted-none : (block : List ℕ) (stage : Stage) (cause : Option Cause) (last : Stage) (after : Stage) → after ≡ stage → ScriptEnds cause last after None → IsScripted block stage [] last cause
-scripted-none block stage cause last after same ends = record { after = after; end = None; script = (refl, refl, same, refl); ends = ends; plain_replies = refl }
+scripted-none block stage cause last after same ends = record { after = after; end = None; script = (refl, refl, same, refl); ends = ends; are_replies = refl }
 
 scripted-trace : (block : List ℕ) (stage last : Stage) (cause : Option Cause) (trace : List Happening) → trace ≡ [] → IsScripted block stage [] last cause → IsScripted block stage trace last cause
 scripted-trace block stage last cause trace none s = subst (λ (t : List Happening). IsScripted block stage t last cause) (sym none) s
@@ -139,7 +139,7 @@ scripted-frame block now stage mid last cause f did trace does same goes_on s = 
         (subst (λ (st : Stage). Script block st (frames_in trace) (frame_steps_in trace) (replies_in trace) s.after s.end) same s.script),
   );
   ends = s.ends;
-  plain_replies = plain-more did.reply (replies_in trace) (does-replies block now stage f did does) s.plain_replies;
+  are_replies = only_replies-more did.reply (replies_in trace) (does-replies block now stage f did does) s.are_replies;
 }
 
 -- a frame that ends the link
@@ -155,7 +155,7 @@ frame-ends block now stage f did e does is = record {
   end = Some e;
   script = (now, did, [], [], does, refl, refl, subst (λ (x : Option FrameEnd). Behind block did.stage [] [] [] did.stage (Some e) x) (sym is) (refl, refl, refl, refl, refl));
   ends = script_ends e did.stage;
-  plain_replies = plain-more did.reply [] (does-replies block now stage f did does) refl;
+  are_replies = only_replies-more did.reply [] (does-replies block now stage f did does) refl;
 }
 
 -- what a trace says behind a happening, by why that ends it
@@ -178,7 +178,7 @@ received-next block a mid b w n bytes trace cause why same goes_on rest next =
       end = s.end;
       script = subst (λ (st : Stage). Script block st (frames_in trace) (frame_steps_in trace) (replies_in trace) s.after s.end) same s.script;
       ends = s.ends;
-      plain_replies = s.plain_replies;
+      are_replies = s.are_replies;
     }
 
 idled-next : (block : List ℕ) (a mid b : Standing) (w : Option (List ℕ)) (n : ℕ) (steps : List Step) (trace : List Happening) (cause why : Option Cause) → Idles a.last_read n a.stage steps mid.stage why
@@ -189,11 +189,11 @@ idled-next block a mid b w n steps trace cause None r rest next =
       end = s.end;
       script = subst (λ (st : Stage). Script block st (frames_in trace) (frame_steps_in trace) (replies_in trace) s.after s.end) (idles_on-stage n a.stage steps mid.stage r.1) s.script;
       ends = s.ends;
-      plain_replies = s.plain_replies;
+      are_replies = s.are_replies;
     }
 idled-next block a mid b w n steps trace cause (Some c) r rest next =
     let s = idles-ends block a.last_read n a.stage steps mid.stage c r in
-    ends-here block a.stage (was_quiet w n steps) mid b trace cause c next (record { after = s.after; end = s.end; script = s.script; ends = s.ends; plain_replies = s.plain_replies })
+    ends-here block a.stage (was_quiet w n steps) mid b trace cause c next (record { after = s.after; end = s.end; script = s.script; ends = s.ends; are_replies = s.plain_replies })
 
 handled-next : (block : List ℕ) (a mid b : Standing) (f : Frame) (did : Did) (trace : List Happening) (cause why : Option Cause) (e : Option FrameEnd) → Does block a.now a.stage f did → mid.stage ≡ did.stage
     → did.end ≡ e → why ≡ option_map cause_of e

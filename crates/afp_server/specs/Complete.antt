@@ -7,7 +7,7 @@ use Rattle.afp_serial.specs.Went.{Step}
 use Rattle.dsi_frame.specs.Frame.{Frame}
 use Rattle.dsi_frame.specs.declared.frame.Reason.{Reason}
 use Rattle.afp_server.specs.LinkRun.{Fills, IsServed}
-use Rattle.afp_server.specs.Replies.{plain, spelling_of}
+use Rattle.afp_server.specs.Replies.{only_replies, spelling_of}
 use Rattle.afp_server.specs.Script.{Script}
 use Rattle.afp_server.specs.Trace.{Happening, frames_in, replies_in, frame_steps_in, Standing, Cause, closed, displaced, bad, silent, Follows}
 use Rattle.afp_server.specs.declared.serve.LinkEnd.{LinkEnd}
@@ -26,13 +26,13 @@ ScriptEnds (Some silent) last after end = (after ≡ last) × (end ≡ None)
 ScriptEnds (Some displaced) last after end =
     ((after ≡ last) × (end ≡ Some ends.Displaced)) ⊎ ((link : LinkNumber) × (after ≡ stages.Open link) × (end ≡ None))
 
--- The frames of a trace are a script, with the steps that they asked and the replies to them; and the replies are plain.
+-- The frames of a trace are a script, with the steps that they asked and the replies to them; and each of these is a reply.
 pub record IsScripted (block : List ℕ) (stage : Stage) (trace : List Happening) (last : Stage) (cause : Option Cause) : Type 0 where
   pub after : Stage
   pub end : Option FrameEnd
   pub script : Script block stage (frames_in trace) (frame_steps_in trace) (replies_in trace) after end
   pub ends : ScriptEnds cause last after end
-  pub plain_replies : plain (replies_in trace) ≡ replies_in trace
+  pub are_replies : only_replies (replies_in trace) ≡ replies_in trace
 
 -- The law: what happens follows the script.
 abbrev pub FollowsScript : Type 0

@@ -24,6 +24,6 @@ abbrev pub spelling_of : List Frame → List ℕ
 spelling_of frames = flat_map canonical_frame frames
 
 -- the frames among them that are replies
-abbrev pub plain : List Frame → List Frame
-plain [] = []
-plain (f ∷ frames) = if f.reply then f ∷ plain frames else plain frames
+abbrev pub only_replies : List Frame → List Frame
+only_replies [] = []
+only_replies (f ∷ frames) = if f.reply then f ∷ only_replies frames else only_replies frames

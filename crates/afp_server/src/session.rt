@@ -372,13 +372,11 @@ impl LinkSession {
     ) -> Result<Ask, OutOfMemory>
         ensures { IfOk result (λ ask. ask ≡ Ask.Call request.now.id write offset payload.now) }
     {
-        let mut copy = Bytes::new(self.alloc);
-        copy.extend(payload)?;
         Ok(Ask::Call {
             id: request.id,
             write,
             offset,
-            payload: copy,
+            payload: Bytes::of(self.alloc, payload)?,
         })
     }
 

@@ -26,11 +26,7 @@ fn decoded(alloc: Global, word: &[u8]) -> Result<Option<Bytes>, OutOfMemory>
     ensures { IfOk result (λ bytes. bytes ≡ result_ok (decode_of word.now)) }
 {
     match hex::decode(alloc, word) {
-        Ok(digits) => {
-            let mut bytes = Bytes::new(alloc);
-            bytes.extend(digits.as_slice())?;
-            Ok(Some(bytes))
-        }
+        Ok(digits) => Ok(Some(Bytes::of(alloc, digits.as_slice())?)),
         Err(FromHexError::OutOfMemory) => Err(OutOfMemory),
         Err(_) => Ok(None),
     }

@@ -11,21 +11,12 @@ use crate::words::{first_word, has_colon, is_ascii, is_word, parts_at_colon};
 use afp_base::{Bytes, OutOfMemory};
 use std::alloc::Global;
 
-/// The bytes, owned.
-fn owned(alloc: Global, text: &[u8]) -> Result<Bytes, OutOfMemory>
-    ensures { IfOk result (λ bytes. bytes ≡ text.now) }
-{
-    let mut bytes = Bytes::new(alloc);
-    bytes.extend(text)?;
-    Ok(bytes)
-}
-
 /// A name: one word.
 fn name(alloc: Global, text: &[u8]) -> Result<Option<Bytes>, OutOfMemory>
     ensures { IfOk result (λ name. name ≡ name_in text.now) }
 {
     if is_word(text) {
-        Ok(Some(owned(alloc, text)?))
+        Ok(Some(Bytes::of(alloc, text)?))
     } else {
         Ok(None)
     }
@@ -54,7 +45,7 @@ fn user(alloc: Global, text: &[u8]) -> Result<Option<Line>, OutOfMemory>
     }
     let password = filled(password);
     Ok(Some(Line::User {
-        name: owned(alloc, name)?,
+        name: Bytes::of(alloc, name)?,
         password,
     }))
 }

@@ -2,7 +2,6 @@
 #![tactic(auto)]
 
 mod capture;
-mod names;
 mod reader;
 mod replay_end;
 mod replaying;

@@ -7,12 +7,11 @@ ghost use Rattle.afp_serial.specs.Limits.{most_volumes};
 ghost use Rattle.capture_server.specs.CaptureState.{no_house, user_behind};
 ghost use Rattle.capture_log.specs.lemma.Taking.{house_with, refused_by};
 
-use crate::names::{has_user, has_volume, is_name};
 use afp_base::{Bytes, OutOfMemory};
 use afp_serial::limits::{
     FIRST_USER_ID, LONGEST_SERVER, LONGEST_USER, LONGEST_VOLUME, MOST_USERS, MOST_VOLUMES,
 };
-use afp_serial::{House, HouseFault, User};
+use afp_serial::{House, HouseFault, User, has_user, has_volume, is_name};
 use capture_lines::Line;
 use std::alloc::Global;
 use std::marker::Model;
@@ -74,7 +73,7 @@ impl Setup {
     pub fn refuses_server(&self, name: &[u8]) -> bool
         ensures { result ≡ not (is_name longest_server name.now) }
     {
-        !is_name(name, LONGEST_SERVER)
+        !is_name(LONGEST_SERVER, name)
     }
 
     /// Whether there are as many users as there may be.
@@ -88,7 +87,7 @@ impl Setup {
     fn is_bad_user(&self, name: &[u8], password: [u8; 8]) -> bool
         ensures { result ≡ is_bad_user self.now.users (user_behind self.now.users name.now password) }
     {
-        !is_name(name, LONGEST_USER) || has_user(self.users.as_slice(), name)
+        !is_name(LONGEST_USER, name) || has_user(self.users.as_slice(), name)
     }
 
     /// Whether a user of this name is refused.
@@ -109,7 +108,7 @@ impl Setup {
     fn is_bad_volume(&self, name: &[u8]) -> bool
         ensures { result ≡ is_bad_volume self.now.volumes name.now }
     {
-        !is_name(name, LONGEST_VOLUME) || has_volume(self.volumes.as_slice(), name)
+        !is_name(LONGEST_VOLUME, name) || has_volume(self.volumes.as_slice(), name)
     }
 
     /// Whether a volume of this name is refused.

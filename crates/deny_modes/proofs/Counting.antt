@@ -16,7 +16,7 @@ use Rattle.deny_modes.specs.declared.opens.Opened.{Opened}
 use Rattle.deny_modes.specs.declared.opens.ForkTally.{ForkTally}
 use Rattle.afp_base.specs.Apart.{are_apart}
 use Rattle.deny_modes.specs.lemma.ForkOrder.{fork_cmp}
-use Rattle.deny_modes.specs.Opens.{Open, has_reference, has_conflict, is_fork_open, with_open, without_reference, in_exchange, exchange_open, exchanged_opens, count_of, counts_of, are_in_conflict}
+use Rattle.deny_modes.specs.Opens.{Open, has_reference, has_conflict, is_fork_open, with_noted, without_reference, in_exchange, exchange_open, exchanged_opens, count_of, counts_of, are_in_conflict}
 use Rattle.deny_modes.specs.Counters.{open_of, opens_of}
 use Rattle.deny_modes.specs.lemma.Counters.{tally_of, IsTallied, clash_with, bit, tally_with, tally_without, no_tally, CanCount, HasOpen, exchange_row}
 use Rattle.deny_modes.proofs.Forks.{order_tells, same_fork, itself, either_way, crosses, both_cross, found_crossed}
@@ -48,17 +48,17 @@ or_none true = refl
 or_none false = refl
 
 -- ---- filters and tests of a list with one more
-len_new : (p : Open → Bool) (new : Open) (os : List Open) → length (filter p (with_open new os)) ≡ bit (p new) + length (filter p os)
+len_new : (p : Open → Bool) (new : Open) (os : List Open) → length (filter p (with_noted new os)) ≡ bit (p new) + length (filter p os)
 len_new p new [] = elim (p new) as (λ b. length (if b then new ∷ [] else []) ≡ bit b + 0) [ true ↦ omega arith | false ↦ omega arith ]
-len_new p new (o ∷ os) = elim (nat_lt new.reference o.reference) as (λ b. length (filter p (if b then new ∷ o ∷ os else o ∷ with_open new os)) ≡ bit (p new) + length (filter p (o ∷ os))) [
+len_new p new (o ∷ os) = elim (nat_lt new.reference o.reference) as (λ b. length (filter p (if b then new ∷ o ∷ os else o ∷ with_noted new os)) ≡ bit (p new) + length (filter p (o ∷ os))) [
   | true ↦ elim (p new) as (λ b. length (if b then new ∷ filter p (o ∷ os) else filter p (o ∷ os)) ≡ bit b + length (filter p (o ∷ os))) [ true ↦ omega arith | false ↦ omega arith ]
   | false ↦ let more = len_new p new os in
-      elim (p o) as (λ b. length (if b then o ∷ filter p (with_open new os) else filter p (with_open new os)) ≡ bit (p new) + length (if b then o ∷ filter p os else filter p os)) [ true ↦ omega (arith, more) | false ↦ more ]
+      elim (p o) as (λ b. length (if b then o ∷ filter p (with_noted new os) else filter p (with_noted new os)) ≡ bit (p new) + length (if b then o ∷ filter p os else filter p os)) [ true ↦ omega (arith, more) | false ↦ more ]
 ]
 
-any_new : (p : Open → Bool) (new : Open) (os : List Open) → list_any p (with_open new os) ≡ (p new || list_any p os)
+any_new : (p : Open → Bool) (new : Open) (os : List Open) → list_any p (with_noted new os) ≡ (p new || list_any p os)
 any_new p new [] = refl
-any_new p new (o ∷ os) = elim (nat_lt new.reference o.reference) as (λ b. list_any p (if b then new ∷ o ∷ os else o ∷ with_open new os) ≡ (p new || (p o || list_any p os))) [
+any_new p new (o ∷ os) = elim (nat_lt new.reference o.reference) as (λ b. list_any p (if b then new ∷ o ∷ os else o ∷ with_noted new os) ≡ (p new || (p o || list_any p os))) [
   | true ↦ refl
   | false ↦ ap (λ t. p o || t) (any_new p new os) ∙ or_swap (p o) (p new) (list_any p os)
 ]
@@ -85,33 +85,33 @@ len_le p (o ∷ os) = let more = len_le p os in elim (p o) as (λ b. length (if 
 abbrev full : List Open → Fork → ForkTally
 full os q = record { counts = counts_of os q; opens = length (filter (λ o. is_one_fork o.fork q) os) }
 
-sum_and : (has : Access → Bool) (new : Open) (os : List Open) (q : Fork) → is_one_fork new.fork q ≡ true → count_of has q (with_open new os) ≡ count_of has q os + bit (has new.access)
+sum_and : (has : Access → Bool) (new : Open) (os : List Open) (q : Fork) → is_one_fork new.fork q ≡ true → count_of has q (with_noted new os) ≡ count_of has q os + bit (has new.access)
 sum_and has new os q same =
     let more = len_new (λ o. is_one_fork o.fork q && has o.access) new os in
     let here : bit (is_one_fork new.fork q && has new.access) ≡ bit (has new.access) = ap (λ b. bit (b && has new.access)) same in
     omega (arith, more, here)
 
-same_count : (has : Access → Bool) (new : Open) (os : List Open) (q : Fork) → is_one_fork new.fork q ≡ false → count_of has q (with_open new os) ≡ count_of has q os
+same_count : (has : Access → Bool) (new : Open) (os : List Open) (q : Fork) → is_one_fork new.fork q ≡ false → count_of has q (with_noted new os) ≡ count_of has q os
 same_count has new os q other =
     let more = len_new (λ o. is_one_fork o.fork q && has o.access) new os in
     let here : bit (is_one_fork new.fork q && has new.access) ≡ 0 = ap (λ b. bit (b && has new.access)) other in
     omega (arith, more, here)
 
-full_new : (new : Open) (os : List Open) (q : Fork) → is_one_fork new.fork q ≡ true → full (with_open new os) q ≡ tally_with (full os q) new.access
+full_new : (new : Open) (os : List Open) (q : Fork) → is_one_fork new.fork q ≡ true → full (with_noted new os) q ≡ tally_with (full os q) new.access
 full_new new os q same =
     let more = len_new (λ o. is_one_fork o.fork q) new os in
     let here : bit (is_one_fork new.fork q) ≡ 1 = ap bit same in
-    let all : length (filter (λ o. is_one_fork o.fork q) (with_open new os)) ≡ length (filter (λ o. is_one_fork o.fork q) os) + 1 = omega (arith, more, here) in
+    let all : length (filter (λ o. is_one_fork o.fork q) (with_noted new os)) ≡ length (filter (λ o. is_one_fork o.fork q) os) + 1 = omega (arith, more, here) in
     λ i. record {
       counts = sum_and (λ a. a.read) new os q same i ∷ sum_and (λ a. a.write) new os q same i ∷ sum_and (λ a. a.deny_read) new os q same i ∷ sum_and (λ a. a.deny_write) new os q same i ∷ [];
       opens = all i;
     }
 
-full_other : (new : Open) (os : List Open) (q : Fork) → is_one_fork new.fork q ≡ false → full (with_open new os) q ≡ full os q
+full_other : (new : Open) (os : List Open) (q : Fork) → is_one_fork new.fork q ≡ false → full (with_noted new os) q ≡ full os q
 full_other new os q other =
     let more = len_new (λ o. is_one_fork o.fork q) new os in
     let here : bit (is_one_fork new.fork q) ≡ 0 = ap bit other in
-    let all : length (filter (λ o. is_one_fork o.fork q) (with_open new os)) ≡ length (filter (λ o. is_one_fork o.fork q) os) = omega (arith, more, here) in
+    let all : length (filter (λ o. is_one_fork o.fork q) (with_noted new os)) ≡ length (filter (λ o. is_one_fork o.fork q) os) = omega (arith, more, here) in
     λ i. record {
       counts = same_count (λ a. a.read) new os q other i ∷ same_count (λ a. a.write) new os q other i ∷ same_count (λ a. a.deny_read) new os q other i ∷ same_count (λ a. a.deny_write) new os q other i ∷ [];
       opens = all i;
@@ -251,12 +251,12 @@ any_gives : (r s : Open → Bool) (os : List Open) → ((o : Open) → r o ≡ s
 any_gives r s [] same = refl
 any_gives r s (o ∷ os) same = λ i. same o i || any_gives r s os same i
 
-apart_new : (alike : Open → Open → Bool) (new : Open) (os : List Open) → ((a b : Open) → alike a b ≡ alike b a) → list_any (λ o. alike o new) os ≡ false → are_apart alike os ≡ true → are_apart alike (with_open new os) ≡ true
+apart_new : (alike : Open → Open → Bool) (new : Open) (os : List Open) → ((a b : Open) → alike a b ≡ alike b a) → list_any (λ o. alike o new) os ≡ false → are_apart alike os ≡ true → are_apart alike (with_noted new os) ≡ true
 apart_new alike new [] either none h = refl
 apart_new alike new (o ∷ os) either none h =
     let parts = or_parts (alike o new) (list_any (λ x. alike x new) os) none in
     let rest = and_parts (not (list_any (alike o) os)) (are_apart alike os) h in
-    elim (nat_lt new.reference o.reference) as (λ b. are_apart alike (if b then new ∷ o ∷ os else o ∷ with_open new os) ≡ true) [
+    elim (nat_lt new.reference o.reference) as (λ b. are_apart alike (if b then new ∷ o ∷ os else o ∷ with_noted new os) ≡ true) [
       | true ↦ and_from _ _ (ap not (any_gives (alike new) (λ x. alike x new) (o ∷ os) (λ x. either new x) ∙ none)) h
       | false ↦ and_from _ _ (ap not (any_new (alike o) new os ∙ (λ i. parts.0 i || not_true (list_any (alike o) os) rest.0 i))) (apart_new alike new os either parts.1 rest.1)
     ]
@@ -297,13 +297,13 @@ conflict_turns : (a b : Open) → are_in_conflict a b ≡ are_in_conflict b a
 conflict_turns a b = λ i. either_way a.fork b.fork i && clash_turns a.access b.access i
 
 -- ---- each call
-tally_new : (new : Open) (os : List Open) (q : Fork) (t : ForkTally) → t ≡ tally_with (full os new.fork) new.access → tally_of (with_open new os) q ≡ cond (is_one_fork new.fork q) (Some t) (tally_of os q)
-tally_new new os q t t_is = elim (is_one_fork new.fork q) as (λ b. is_one_fork new.fork q ≡ b → tally_of (with_open new os) q ≡ cond b (Some t) (tally_of os q)) [
+tally_new : (new : Open) (os : List Open) (q : Fork) (t : ForkTally) → t ≡ tally_with (full os new.fork) new.access → tally_of (with_noted new os) q ≡ cond (is_one_fork new.fork q) (Some t) (tally_of os q)
+tally_new new os q t t_is = elim (is_one_fork new.fork q) as (λ b. is_one_fork new.fork q ≡ b → tally_of (with_noted new os) q ≡ cond b (Some t) (tally_of os q)) [
   | true ↦ λ same.
-      let there : is_fork_open (with_open new os) q ≡ true = any_new (λ o. is_one_fork o.fork q) new os ∙ ap (λ b. b || is_fork_open os q) same in
-      (λ i. if there i then Some (full (with_open new os) q) else None) ∙ ap Some (full_new new os q same ∙ ap (λ f. tally_with (full os f) new.access) (sym (same_fork new.fork q same)) ∙ sym t_is)
+      let there : is_fork_open (with_noted new os) q ≡ true = any_new (λ o. is_one_fork o.fork q) new os ∙ ap (λ b. b || is_fork_open os q) same in
+      (λ i. if there i then Some (full (with_noted new os) q) else None) ∙ ap Some (full_new new os q same ∙ ap (λ f. tally_with (full os f) new.access) (sym (same_fork new.fork q same)) ∙ sym t_is)
   | false ↦ λ other.
-      let there : is_fork_open (with_open new os) q ≡ is_fork_open os q = any_new (λ o. is_one_fork o.fork q) new os ∙ ap (λ b. b || is_fork_open os q) other in
+      let there : is_fork_open (with_noted new os) q ≡ is_fork_open os q = any_new (λ o. is_one_fork o.fork q) new os ∙ ap (λ b. b || is_fork_open os q) other in
       (λ i. if there i then Some (full_other new os q other i) else None)
 ] refl
 
@@ -318,11 +318,11 @@ module _ {rows rows' : List (ℕ × Opened)} {tallies : List (Fork × ForkTally)
   absent : at nat_cmp rows r ≡ None
   absent = fresh_row rows r (ap (λ l. has_reference l r) n.shown ∙ n.fresh)
 
-  shown_new : opens_of rows' ≡ with_open (open_of (r, v)) (opens_of rows)
+  shown_new : opens_of rows' ≡ with_noted (open_of (r, v)) (opens_of rows)
   shown_new = ap opens_of n.new_rows ∙ shows_new rows r v absent
 
-  pub noted_shows : opens_of rows' ≡ with_open (record { reference = r; fork = v.fork; access = v.mode }) whole
-  noted_shows = shown_new ∙ ap (with_open (open_of (r, v))) n.shown
+  pub noted_shows : opens_of rows' ≡ with_noted (record { reference = r; fork = v.fork; access = v.mode }) whole
+  noted_shows = shown_new ∙ ap (with_noted (open_of (r, v))) n.shown
 
   pub noted_counted : {tallies' : List (Fork × ForkTally)} (t : ForkTally) → r < 65536 → t ≡ tally_with (unwrap_or (at fork_cmp tallies v.fork) no_tally) v.mode → ((q : Fork) → at fork_cmp tallies' q ≡ update (eq_by_cmp fork_cmp) (at fork_cmp tallies) v.fork (Some t) q) → IsTallied rows' tallies'
   noted_counted t low t_is updates = record {
@@ -360,7 +360,7 @@ pub record Gone (rows rows' : List (ℕ × Opened)) (tallies : List (Fork × For
   pub absent : at nat_cmp rows' r ≡ None
 
 module _ {rows rows' : List (ℕ × Opened)} {tallies : List (Fork × ForkTally)} {r : ℕ} {v : Opened} (g : Gone rows rows' tallies r v) where
-  shown_old : opens_of rows ≡ with_open (open_of (r, v)) (opens_of rows')
+  shown_old : opens_of rows ≡ with_noted (open_of (r, v)) (opens_of rows')
   shown_old = ap opens_of (put_back rows r v g.rise g.found ∙ ap (λ l. insert_entry nat_cmp l r v) (sym g.new_rows)) ∙ shows_new rows' r v g.absent
 
   was_open : is_fork_open (opens_of rows) v.fork ≡ true

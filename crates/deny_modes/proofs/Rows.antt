@@ -12,7 +12,7 @@ use Rattle.std.proofs.lemmas.Bool.Decides.{nat_tests}
 use Rattle.sorted_map.specs.Entries.{at}
 use Rattle.deny_modes.specs.declared.opens.Opened.{Opened}
 use Rattle.deny_modes.specs.Counters.{open_of, opens_of}
-use Rattle.deny_modes.specs.Opens.{has_reference, with_open, without_reference}
+use Rattle.deny_modes.specs.Opens.{has_reference, with_noted, without_reference}
 
 abbrev pub Rise : List (ℕ × Opened) → Type 0
 Rise rows = IsStrictlySortedBy nat_cmp (keys_of rows)
@@ -87,14 +87,14 @@ fresh_row (e ∷ es) r f = elim (nat_cmp r e.0) as (λ o. nat_cmp r e.0 ≡ o �
     first false b e = refl
 
 -- what the edits show
-pub shows_new : (rows : List (ℕ × Opened)) (r : ℕ) (v : Opened) → at nat_cmp rows r ≡ None → opens_of (insert_entry nat_cmp rows r v) ≡ with_open (open_of (r, v)) (opens_of rows)
+pub shows_new : (rows : List (ℕ × Opened)) (r : ℕ) (v : Opened) → at nat_cmp rows r ≡ None → opens_of (insert_entry nat_cmp rows r v) ≡ with_noted (open_of (r, v)) (opens_of rows)
 shows_new [] r v none = refl
 shows_new (e ∷ es) r v none = elim (nat_cmp r e.0) as (λ o. nat_cmp r e.0 ≡ o → cond (is_eq o) (Some e.1) (at nat_cmp es r) ≡ None
-    → opens_of (match_ordering o ((r, v) ∷ e ∷ es) ((e.0, v) ∷ es) (e ∷ insert_entry nat_cmp es r v)) ≡ with_open (open_of (r, v)) (opens_of (e ∷ es))) [
-      | Less ↦ λ is none. ap (λ b. if b then open_of (r, v) ∷ opens_of (e ∷ es) else open_of e ∷ with_open (open_of (r, v)) (opens_of es)) (let h = lower r e.0 is in let t : true ≡ nat_lt r e.0 = grind (arith, nat_tests) in t)
+    → opens_of (match_ordering o ((r, v) ∷ e ∷ es) ((e.0, v) ∷ es) (e ∷ insert_entry nat_cmp es r v)) ≡ with_noted (open_of (r, v)) (opens_of (e ∷ es))) [
+      | Less ↦ λ is none. ap (λ b. if b then open_of (r, v) ∷ opens_of (e ∷ es) else open_of e ∷ with_noted (open_of (r, v)) (opens_of es)) (let h = lower r e.0 is in let t : true ≡ nat_lt r e.0 = grind (arith, nat_tests) in t)
       | Equal ↦ λ is none. absurd (cc none)
       | Greater ↦ λ is none. ap (λ l. open_of e ∷ l) (shows_new es r v none)
-          ∙ ap (λ b. if b then open_of (r, v) ∷ opens_of (e ∷ es) else open_of e ∷ with_open (open_of (r, v)) (opens_of es)) (let h = higher r e.0 is in let t : false ≡ nat_lt r e.0 = grind (arith, nat_tests) in t)
+          ∙ ap (λ b. if b then open_of (r, v) ∷ opens_of (e ∷ es) else open_of e ∷ with_noted (open_of (r, v)) (opens_of es)) (let h = higher r e.0 is in let t : false ≡ nat_lt r e.0 = grind (arith, nat_tests) in t)
     ] refl none
 
 none_left : (r : ℕ) (rows : List (ℕ × Opened)) → Above r rows → without_reference r (opens_of rows) ≡ opens_of rows

@@ -27,9 +27,9 @@ abbrev pub are_in_conflict : Open → Open → Bool
 are_in_conflict a b = do_conflict a.fork a.access b.fork b.access
 
 -- the opens, which stand by rising reference, with one more
-abbrev pub with_open : Open → List Open → List Open
-with_open new [] = new ∷ []
-with_open new (o ∷ os) = if nat_lt new.reference o.reference then new ∷ o ∷ os else o ∷ with_open new os
+abbrev pub with_noted : Open → List Open → List Open
+with_noted new [] = new ∷ []
+with_noted new (o ∷ os) = if nat_lt new.reference o.reference then new ∷ o ∷ os else o ∷ with_noted new os
 
 -- the opens without the one of that reference
 abbrev pub without_reference : ℕ → List Open → List Open

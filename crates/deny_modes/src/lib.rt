@@ -6,5 +6,5 @@ mod opens;
 mod volume_opens;
 
 pub use fork::{ForkKey, Mode};
-pub use opens::Opens;
+pub use opens::{Opens, in_exchange};
 pub use volume_opens::VolumeOpens;

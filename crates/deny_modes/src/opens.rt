@@ -3,7 +3,7 @@ ghost use Rattle.std.specs.Prelude.{◌≡◌, [], false, true, not, OnOk, OnErr
 ghost use Rattle.sorted_map.specs.Entries.{at};
 ghost use Rattle.afp_base.specs.Apart.{are_apart};
 ghost use Rattle.deny_modes.specs.lemma.ForkOrder.{fork_cmp};
-ghost use Rattle.deny_modes.specs.Opens.{has_reference, has_conflict, with_open, without_reference, exchanged_opens, counters_of, in_exchange, are_in_conflict};
+ghost use Rattle.deny_modes.specs.Opens.{has_reference, has_conflict, with_noted, without_reference, exchanged_opens, counters_of, in_exchange, are_in_conflict};
 ghost use Rattle.deny_modes.specs.lemma.Counters.{clash_with, tally_with, tally_without, no_tally, exchange_row, CanCount, HasOpen};
 
 use crate::{ForkKey, Mode};
@@ -90,7 +90,7 @@ impl Opens {
     pub fn note(&mut self, r: ForkRef, fork: ForkKey, mode: Mode) -> Result<(), OutOfMemory>
         requires free { has_conflict self.old fork mode ≡ false }
         requires fresh { has_reference self.old r.0 ≡ false }
-        ensures ok { OnOk result (self.new ≡ with_open (record { reference = r.0; fork = fork; access = mode }) self.old) }
+        ensures ok { OnOk result (self.new ≡ with_noted (record { reference = r.0; fork = fork; access = mode }) self.old) }
         ensures err { OnErr result (self.new ≡ self.old) }
     {
         let Ok(_) = self.rows.insert(r.0, Opened { fork, mode }) else {
@@ -166,7 +166,7 @@ fn exchange_rows(rows: &mut SortedMap<u16, Opened>, a: &ForkKey, b: &ForkKey)
 }
 
 /// The fork that stands in a fork's place where `a` and `b` change places.
-fn in_exchange(a: &ForkKey, b: &ForkKey, fork: &ForkKey) -> ForkKey
+pub fn in_exchange(a: &ForkKey, b: &ForkKey, fork: &ForkKey) -> ForkKey
     ensures { result ≡ in_exchange a.now b.now fork.now }
 {
     if a == fork {

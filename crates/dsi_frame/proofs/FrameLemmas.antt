@@ -8,7 +8,8 @@ use Rattle.byteorder.specs.Numbers.{big_number-reads_back}
 use Rattle.dsi_frame.specs.declared.frame.DsiCommand.{DsiCommand}
 use Rattle.dsi_frame.specs.declared.frame.Reason.{Reason}
 use Rattle.dsi_frame.specs.declared.frame.Header.{Header}
-use Rattle.dsi_frame.specs.Frame.{Frame, IsGood, IsSpelling, IsBytes, IsBadHeader, WordFits, header, canonical_frame, header_fault, flags_byte, flags_in, command_number, command_in, word_in, length_in, frame_of, header_of, canonical_header}
+use Rattle.afp_base.specs.Bytes.{IsBytes}
+use Rattle.dsi_frame.specs.Frame.{Frame, IsGood, IsSpelling, IsBadHeader, WordFits, header, canonical_frame, header_fault, flags_byte, flags_in, command_number, command_in, word_in, length_in, frame_of, header_of, canonical_header}
 use Rattle.dsi_frame.specs.lemma.GoodHeader.{IsGoodHeader, id_in}
 use Rattle.dsi_frame.specs.Stream.{Begins, IsUnfinished}
 use Rattle.dsi_frame.proofs.HeaderLemmas.{command_at, command_at-number, by_header, good_has_no_fault, header_fault-append}

@@ -5,7 +5,8 @@ use Rattle.std.proofs.lemmas.List.Concat.{flat_map-append}
 use Rattle.std.specs.List.{flat_map}
 use Rattle.std.proofs.lemmas.Bool.{cases_lt}
 use Rattle.dsi_frame.specs.declared.frame.Reason.{Reason}
-use Rattle.dsi_frame.specs.Frame.{Frame, IsSpelling, IsBytes, IsBadHeader, header_fault, length_in}
+use Rattle.afp_base.specs.Bytes.{IsBytes}
+use Rattle.dsi_frame.specs.Frame.{Frame, IsSpelling, IsBadHeader, header_fault, length_in}
 use Rattle.dsi_frame.specs.Stream.{Begins, IsUnfinished, Spelled, Framed, Stopped}
 use Rattle.dsi_frame.specs.Buffered.{Buffered, buffer_length}
 use Rattle.dsi_frame.specs.Deframe.{GivenOut}

@@ -126,7 +126,3 @@ header_of f = record { reply = f.reply; command = f.command; id = f.id; word = f
 abbrev pub canonical_header : Header → List ℕ
 canonical_header h = (flags_byte h.reply ∷ command_number h.command ∷ []) ++ big_bytes 2 h.id ++ big_bytes 4 h.word
     ++ big_bytes 4 h.length ++ (0 ∷ 0 ∷ 0 ∷ 0 ∷ [])
-
--- each is below 256
-abbrev pub IsBytes : List ℕ → Type 0
-IsBytes bytes = (i : ℕ) → slice_index bytes i < 256

@@ -1,6 +1,7 @@
 //! Laws of frames and streams. Their functions do nothing: the contract is the law.
 ghost use Rattle.std.specs.Prelude.{◌≡◌, ◌++◌, ◌⊎◌, ℕ, List};
-ghost use Rattle.dsi_frame.specs.Frame.{Frame, IsSpelling, IsGood, IsBytes, canonical_frame};
+ghost use Rattle.afp_base.specs.Bytes.{IsBytes};
+ghost use Rattle.dsi_frame.specs.Frame.{Frame, IsSpelling, IsGood, canonical_frame};
 ghost use Rattle.dsi_frame.specs.Stream.{Begins, Framed, Stopped};
 ghost use Rattle.dsi_frame.specs.declared.frame.Reason.{Reason};
 

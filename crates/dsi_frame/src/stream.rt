@@ -79,11 +79,9 @@ impl Frames {
         ensures ok { OnOk result (self.new ≡ self.old ++ frame_of header payload.now ∷ []) }
         ensures err { OnErr result (self.new ≡ self.old) }
     {
-        let mut owned = Bytes::new(alloc);
-        owned.extend(payload)?;
         self.0.push(OwnedFrame {
             header,
-            payload: owned,
+            payload: Bytes::of(alloc, payload)?,
         })?;
         Ok(())
     }

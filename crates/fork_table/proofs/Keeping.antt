@@ -12,14 +12,14 @@ use Rattle.afp_base.specs.DenyMode.{Fork, is_one_fork}
 use Rattle.afp_base.specs.Overlap.{Range}
 use Rattle.afp_base.specs.declared.ids.NodeId.{NodeId}
 use Rattle.sorted_map.specs.Entries.{at}
-use Rattle.deny_modes.specs.Opens.{Open, opens_on, has_reference, in_exchange, exchange_open, exchanged_opens, with_open, without_reference}
+use Rattle.deny_modes.specs.Opens.{Open, opens_on, has_reference, in_exchange, exchange_open, exchanged_opens, with_noted, without_reference}
 use Rattle.deny_modes.proofs.Forks.{itself, both_cross}
 use Rattle.range_locks.specs.declared.fault.LockFault.{LockFault}
 use Rattle.range_locks.specs.declared.fault.LockFault.TheVariants.{Locked, Overlap, Full, Memory}
 use Rattle.range_locks.specs.declared.fault.NotLocked.{NotLocked}
-use Rattle.range_locks.specs.Locks.{Lock, SetsLock, TakesLock, with_lock, without_holder, is_lock, exchange_lock, exchanged_locks}
+use Rattle.range_locks.specs.Locks.{ForkLock, SetsLock, TakesLock, with_lock, without_holder, is_lock, exchange_lock, exchanged_locks}
 use Rattle.fork_table.specs.declared.open_fork.OpenFork.{OpenFork}
-use Rattle.fork_table.specs.ForkTable.{Table, plain, plain_opens, is_open, is_held, closing, exchange_row, forks_of}
+use Rattle.fork_table.specs.ForkTable.{Table, plain_open, plain_opens, is_open, is_held, closing, exchange_row, forks_of}
 use Rattle.fork_table.specs.lemma.Kept.{IsTable}
 use Rattle.fork_table.specs.lemma.Own.{AreOwn}
 use Rattle.fork_table.specs.declared.own.OwnRef.{OwnRef}
@@ -148,34 +148,34 @@ all_new p (e ∷ es) r v none here h = elim (nat_cmp r e.0) as (λ o. cond (is_e
 ] none
 
 pub fresh : (rows : List (ℕ × OpenFork)) (r : ℕ) → is_open rows r ≡ false → has_reference (plain_opens rows) r ≡ false
-fresh rows r free = any_map (λ (o : Open). o.reference == r) plain rows ∙ free
+fresh rows r free = any_map (λ (o : Open). o.reference == r) plain_open rows ∙ free
 
 pub no_row : (rows : List (ℕ × OpenFork)) (r : ℕ) → is_open rows r ≡ false → at nat_cmp rows r ≡ None
 no_row rows r free = fresh_row rows r (fresh rows r free)
 
-pub table_opened : {rows rows' : List (ℕ × OpenFork)} {own own' : List (OwnRef × Unit {0})} {opens opens' : List Open} {locks : List Lock} (r : ℕ) (v : OpenFork) → IsTable rows own opens locks → 1 ≤ r → is_open rows r ≡ false
-    → rows' ≡ insert_entry nat_cmp rows r v → AreOwn rows' own' → opens' ≡ with_open (plain (r, v)) opens → IsTable rows' own' opens' locks
+pub table_opened : {rows rows' : List (ℕ × OpenFork)} {own own' : List (OwnRef × Unit {0})} {opens opens' : List Open} {locks : List ForkLock} (r : ℕ) (v : OpenFork) → IsTable rows own opens locks → 1 ≤ r → is_open rows r ≡ false
+    → rows' ≡ insert_entry nat_cmp rows r v → AreOwn rows' own' → opens' ≡ with_noted (plain_open (r, v)) opens → IsTable rows' own' opens' locks
 table_opened {rows = rows} {rows' = rows'} {locks = locks} r v t from_one free rows_are own_are opens_are =
     let absent = no_row rows r free in
     let positive : nat_lt 0 r ≡ true = grind (arith, nat_tests, from_one) in record {
       from_one = ap (list_all (λ (row : ℕ × OpenFork). nat_lt 0 row.0)) rows_are ∙ all_new (λ row. nat_lt 0 row.0) rows r v absent positive t.from_one;
       sessions = own_are;
-      shown = opens_are ∙ ap (with_open (plain (r, v))) t.shown ∙ sym (shows_new rows r v absent) ∙ ap plain_opens (sym rows_are);
+      shown = opens_are ∙ ap (with_noted (plain_open (r, v))) t.shown ∙ sym (shows_new rows r v absent) ∙ ap plain_opens (sym rows_are);
       held = ap (λ l. list_all (is_held l) locks) rows_are ∙ all_more (is_held rows) (is_held (insert_entry nat_cmp rows r v)) locks (λ l h.
           any_new (λ (row : ℕ × OpenFork). (row.0 == l.reference) && is_one_fork row.1.fork l.fork) rows r v absent ∙ or_right _ _ h) t.held;
     }
 
 -- an open that is noted and forgotten
-pub forgotten : (opens : List Open) (new : Open) → has_reference opens new.reference ≡ false → without_reference new.reference (with_open new opens) ≡ opens
+pub forgotten : (opens : List Open) (new : Open) → has_reference opens new.reference ≡ false → without_reference new.reference (with_noted new opens) ≡ opens
 forgotten [] new none = ap (λ b. if not b then new ∷ [] else []) (number_itself new.reference)
 forgotten (o ∷ os) new none =
     let parts = or_parts (o.reference == new.reference) (has_reference os new.reference) none in
-    elim (nat_lt new.reference o.reference) as (λ b. without_reference new.reference (if b then new ∷ o ∷ os else o ∷ with_open new os) ≡ o ∷ os) [
+    elim (nat_lt new.reference o.reference) as (λ b. without_reference new.reference (if b then new ∷ o ∷ os else o ∷ with_noted new os) ≡ o ∷ os) [
       | true ↦ ap (λ b. if not b then new ∷ without_reference new.reference (o ∷ os) else without_reference new.reference (o ∷ os)) (number_itself new.reference) ∙ none_go (λ (x : Open). x.reference == new.reference) (o ∷ os) none
-      | false ↦ ap (λ b. if not b then o ∷ without_reference new.reference (with_open new os) else without_reference new.reference (with_open new os)) parts.0 ∙ ap (λ l. o ∷ l) (forgotten os new parts.1)
+      | false ↦ ap (λ b. if not b then o ∷ without_reference new.reference (with_noted new os) else without_reference new.reference (with_noted new os)) parts.0 ∙ ap (λ l. o ∷ l) (forgotten os new parts.1)
     ]
 
-pub table_same : {rows rows' : List (ℕ × OpenFork)} {own own' : List (OwnRef × Unit {0})} {opens opens' : List Open} {locks : List Lock} → IsTable rows own opens locks → rows' ≡ rows → own' ≡ own → opens' ≡ opens → IsTable rows' own' opens' locks
+pub table_same : {rows rows' : List (ℕ × OpenFork)} {own own' : List (OwnRef × Unit {0})} {opens opens' : List Open} {locks : List ForkLock} → IsTable rows own opens locks → rows' ≡ rows → own' ≡ own → opens' ≡ opens → IsTable rows' own' opens' locks
 table_same {rows = rows} {rows' = rows'} {own = own} {own' = own'} {locks = locks} t rows_are own_are opens_are = record {
   from_one = ap (list_all (λ (row : ℕ × OpenFork). nat_lt 0 row.0)) rows_are ∙ t.from_one;
   sessions = subst (λ l. AreOwn l own') (sym rows_are) (subst (AreOwn rows) (sym own_are) t.sessions);
@@ -197,7 +197,7 @@ found_held (e ∷ es) r f found = elim (nat_cmp r e.0) as (λ o. nat_cmp r e.0 �
   | Greater ↦ λ is found. or_right _ _ (found_held es r f found)
 ] refl found
 
-all_with : (q : Lock → Bool) (new : Lock) (ls : List Lock) → q new ≡ true → list_all q ls ≡ true → list_all q (with_lock new ls) ≡ true
+all_with : (q : ForkLock → Bool) (new : ForkLock) (ls : List ForkLock) → q new ≡ true → list_all q ls ≡ true → list_all q (with_lock new ls) ≡ true
 all_with q new [] here h = (λ i. here i && true)
 all_with q new (l ∷ ls) here h =
     let parts = and_parts (q l) (list_all q ls) h in
@@ -206,21 +206,21 @@ all_with q new (l ∷ ls) here h =
       | false ↦ (λ i. parts.0 i && all_with q new ls here parts.1 i)
     ]
 
-sets_all : (q : Lock → Bool) (old new : List Lock) (f : Fork) (r : ℕ) (range : Range) (res : Result (Unit {0}) LockFault) → SetsLock old f r range res new → q (record { reference = r; fork = f; range = range }) ≡ true → list_all q old ≡ true → list_all q new ≡ true
+sets_all : (q : ForkLock → Bool) (old new : List ForkLock) (f : Fork) (r : ℕ) (range : Range) (res : Result (Unit {0}) LockFault) → SetsLock old f r range res new → q (record { reference = r; fork = f; range = range }) ≡ true → list_all q old ≡ true → list_all q new ≡ true
 sets_all q old new f r range (Ok done) s here h = ap (list_all q) s.1 ∙ all_with q _ old here h
 sets_all q old new f r range (Err Locked) s here h = ap (list_all q) s.1 ∙ h
 sets_all q old new f r range (Err Overlap) s here h = ap (list_all q) s.1 ∙ h
 sets_all q old new f r range (Err Full) s here h = ap (list_all q) s.1 ∙ h
 sets_all q old new f r range (Err Memory) s here h = ap (list_all q) s.1 ∙ h
 
-takes_all : (q : Lock → Bool) (old new : List Lock) (f : Fork) (r : ℕ) (range : Range) (res : Result (Unit {0}) NotLocked) → TakesLock old f r range res new → list_all q old ≡ true → list_all q new ≡ true
+takes_all : (q : ForkLock → Bool) (old new : List ForkLock) (f : Fork) (r : ℕ) (range : Range) (res : Result (Unit {0}) NotLocked) → TakesLock old f r range res new → list_all q old ≡ true → list_all q new ≡ true
 takes_all q old new f r range (Ok done) s h = ap (list_all q) s.1 ∙ all_filter q q (λ l. not (is_lock f r range l)) old (λ l k p. p) h
 takes_all q old new f r range (Err fault) s h = ap (list_all q) s.1 ∙ h
 
-pub table_locked : {rows : List (ℕ × OpenFork)} {own : List (OwnRef × Unit {0})} {opens : List Open} {locks locks' : List Lock} (f : Fork) (r : ℕ) (range : Range) (res : Result (Unit {0}) LockFault) → IsTable rows own opens locks → Some f ≡ option_map (λ o. o.fork) (at nat_cmp rows r) → SetsLock locks f r range res locks' → IsTable rows own opens locks'
+pub table_locked : {rows : List (ℕ × OpenFork)} {own : List (OwnRef × Unit {0})} {opens : List Open} {locks locks' : List ForkLock} (f : Fork) (r : ℕ) (range : Range) (res : Result (Unit {0}) LockFault) → IsTable rows own opens locks → Some f ≡ option_map (λ o. o.fork) (at nat_cmp rows r) → SetsLock locks f r range res locks' → IsTable rows own opens locks'
 table_locked {rows = rows} {locks = locks} {locks' = locks'} f r range res t found set = record { from_one = t.from_one; sessions = t.sessions; shown = t.shown; held = sets_all (is_held rows) locks locks' f r range res set (found_held rows r f found) t.held }
 
-pub table_unlocked : {rows : List (ℕ × OpenFork)} {own : List (OwnRef × Unit {0})} {opens : List Open} {locks locks' : List Lock} (f : Fork) (r : ℕ) (range : Range) (res : Result (Unit {0}) NotLocked) → IsTable rows own opens locks → TakesLock locks f r range res locks' → IsTable rows own opens locks'
+pub table_unlocked : {rows : List (ℕ × OpenFork)} {own : List (OwnRef × Unit {0})} {opens : List Open} {locks locks' : List ForkLock} (f : Fork) (r : ℕ) (range : Range) (res : Result (Unit {0}) NotLocked) → IsTable rows own opens locks → TakesLock locks f r range res locks' → IsTable rows own opens locks'
 table_unlocked {rows = rows} {locks = locks} {locks' = locks'} f r range res t taken = record { from_one = t.from_one; sessions = t.sessions; shown = t.shown; held = takes_all (is_held rows) locks locks' f r range res taken t.held }
 
 -- ---- an open that goes
@@ -245,7 +245,7 @@ less_is (e ∷ es) r s = elim (nat_cmp r e.0) as (λ o. nat_cmp r e.0 ≡ o → 
     kept : (e.0 == r) ≡ false → e ∷ filter (λ row. not (row.0 == r)) es ≡ filter (λ row. not (row.0 == r)) (e ∷ es)
     kept other = ap (λ b. if not b then e ∷ filter (λ row. not (row.0 == r)) es else filter (λ row. not (row.0 == r)) es) (sym other)
 
-pub table_closed : {rows rows' : List (ℕ × OpenFork)} {own own' : List (OwnRef × Unit {0})} {opens opens' : List Open} {locks locks' : List Lock} (r : ℕ) → IsTable rows own opens locks → Rise rows → rows' ≡ remove_entry (is_at (nat_cmp r)) rows → AreOwn rows' own' → opens' ≡ without_reference r opens → locks' ≡ without_holder r locks → IsTable rows' own' opens' locks'
+pub table_closed : {rows rows' : List (ℕ × OpenFork)} {own own' : List (OwnRef × Unit {0})} {opens opens' : List Open} {locks locks' : List ForkLock} (r : ℕ) → IsTable rows own opens locks → Rise rows → rows' ≡ remove_entry (is_at (nat_cmp r)) rows → AreOwn rows' own' → opens' ≡ without_reference r opens → locks' ≡ without_holder r locks → IsTable rows' own' opens' locks'
 table_closed {rows = rows} {rows' = rows'} {locks = locks} r t rise rows_are own_are opens_are locks_are = record {
   from_one = ap (list_all (λ (row : ℕ × OpenFork). nat_lt 0 row.0)) (rows_are ∙ less_is rows r rise) ∙ all_filter (λ row. nat_lt 0 row.0) (λ row. nat_lt 0 row.0) (λ row. not (row.0 == r)) rows (λ row k h. h) t.from_one;
   sessions = own_are;
@@ -293,14 +293,14 @@ closing_more goes t t' r rise there opens_are locks_are =
     let closed : is_open (filter stays t.opens) r ≡ false = any_in_filter (λ row. row.0 == r) stays t.opens ∙ any_gives (λ (row : ℕ × OpenFork). (row.0 == r) && stays row) (λ row. not (not (row.0 == r)) && stays row) t.opens (λ row. ap (λ b. b && stays row) (twice (row.0 == r))) ∙ no_stay in
     λ i. record {
       opens = same i;
-      locks = ((λ j. filter (λ l. is_open (same j) l.reference) (locks_are j)) ∙ filter_inner (λ (l : Lock). is_open (filter stays t.opens) l.reference) (λ l. not (l.reference == r)) t.locks (no_lock (filter stays t.opens) closed t.locks)) i;
+      locks = ((λ j. filter (λ l. is_open (same j) l.reference) (locks_are j)) ∙ filter_inner (λ (l : ForkLock). is_open (filter stays t.opens) l.reference) (λ l. not (l.reference == r)) t.locks (no_lock (filter stays t.opens) closed t.locks)) i;
     }
   where
     twice : (b : Bool) → b ≡ not (not b)
     twice true = refl
     twice false = refl
 
-    no_lock : (rows : List (ℕ × OpenFork)) → is_open rows r ≡ false → (ls : List Lock) → list_any (λ (l : Lock). not (not (l.reference == r)) && is_open rows l.reference) ls ≡ false
+    no_lock : (rows : List (ℕ × OpenFork)) → is_open rows r ≡ false → (ls : List ForkLock) → list_any (λ (l : ForkLock). not (not (l.reference == r)) && is_open rows l.reference) ls ≡ false
     no_lock rows closed [] = refl
     no_lock rows closed (l ∷ ls) = elim (l.reference == r) as (λ b. (l.reference == r) ≡ b → ((not (not b) && is_open rows l.reference) || list_any (λ l. not (not (l.reference == r)) && is_open rows l.reference) ls) ≡ false) [
       | true ↦ λ is. (λ i. (ap (is_open rows) (one_number l.reference r is) ∙ closed) i || no_lock rows closed ls i)
@@ -310,8 +310,8 @@ closing_more goes t t' r rise there opens_are locks_are =
 pub closing_done : (goes : OpenFork → Bool) (t : Table) → list_all (is_held t.opens) t.locks ≡ true → list_any (λ row. goes row.1) t.opens ≡ false → closing goes t ≡ t
 closing_done goes t held none =
     let same : filter (λ (row : ℕ × OpenFork). not (goes row.1)) t.opens ≡ t.opens = none_go (λ (row : ℕ × OpenFork). goes row.1) t.opens none in
-    let open_all : list_all (λ (l : Lock). is_open t.opens l.reference) t.locks ≡ true = all_more (is_held t.opens) (λ l. is_open t.opens l.reference) t.locks (λ l h. any_more (λ (row : ℕ × OpenFork). (row.0 == l.reference) && is_one_fork row.1.fork l.fork) (λ row. row.0 == l.reference) t.opens (λ row p. (and_parts _ _ p).0) h) held in
-    λ i. record { opens = same i; locks = ((λ j. filter (λ l. is_open (same j) l.reference) t.locks) ∙ all_stay (λ (l : Lock). is_open t.opens l.reference) t.locks open_all) i }
+    let open_all : list_all (λ (l : ForkLock). is_open t.opens l.reference) t.locks ≡ true = all_more (is_held t.opens) (λ l. is_open t.opens l.reference) t.locks (λ l h. any_more (λ (row : ℕ × OpenFork). (row.0 == l.reference) && is_one_fork row.1.fork l.fork) (λ row. row.0 == l.reference) t.opens (λ row p. (and_parts _ _ p).0) h) held in
+    λ i. record { opens = same i; locks = ((λ j. filter (λ l. is_open (same j) l.reference) t.locks) ∙ all_stay (λ (l : ForkLock). is_open t.opens l.reference) t.locks open_all) i }
 
 pub shorter : (p : ℕ × OpenFork → Bool) (rows : List (ℕ × OpenFork)) (r : ℕ) → list_any (λ row. (row.0 == r) && p row) rows ≡ true → length (filter (λ row. not (row.0 == r)) rows) < length rows
 shorter p [] r h = absurd (cc h)
@@ -325,7 +325,7 @@ shorter p (e ∷ es) r h = elim (e.0 == r) as (λ b. ((b && p e) || list_any (λ
     at_most (x ∷ xs) = let more = at_most xs in elim (x.0 == r) as (λ b. length (if not b then x ∷ filter (λ row. not (row.0 == r)) xs else filter (λ row. not (row.0 == r)) xs) ≤ suc (length xs)) [ true ↦ omega (arith, more) | false ↦ omega (arith, more) ]
 
 -- ---- two forks change places
-pub table_exchanged : {rows rows' : List (ℕ × OpenFork)} {own : List (OwnRef × Unit {0})} {opens opens' : List Open} {locks locks' : List Lock} (a b : Fork) → IsTable rows own opens locks → rows' ≡ map (exchange_row a b) rows → opens' ≡ exchanged_opens a b opens → locks' ≡ exchanged_locks a b locks → IsTable rows' own opens' locks'
+pub table_exchanged : {rows rows' : List (ℕ × OpenFork)} {own : List (OwnRef × Unit {0})} {opens opens' : List Open} {locks locks' : List ForkLock} (a b : Fork) → IsTable rows own opens locks → rows' ≡ map (exchange_row a b) rows → opens' ≡ exchanged_opens a b opens → locks' ≡ exchanged_locks a b locks → IsTable rows' own opens' locks'
 table_exchanged {rows = rows} {rows' = rows'} {own = own} {locks = locks} a b t rows_are opens_are locks_are = record {
   from_one = ap (list_all (λ (row : ℕ × OpenFork). nat_lt 0 row.0)) rows_are ∙ all_map (λ (row : ℕ × OpenFork). nat_lt 0 row.0) (exchange_row a b) rows ∙ t.from_one;
   sessions = own_exchanged rows own t.sessions a b rows_are;
@@ -338,13 +338,13 @@ table_exchanged {rows = rows} {rows' = rows'} {own = own} {locks = locks} a b t 
   where
     shows : (rows : List (ℕ × OpenFork)) → exchanged_opens a b (plain_opens rows) ≡ plain_opens (map (exchange_row a b) rows)
     shows [] = refl
-    shows (e ∷ es) = ap (λ l. exchange_open a b (plain e) ∷ l) (shows es)
+    shows (e ∷ es) = ap (λ l. exchange_open a b (plain_open e) ∷ l) (shows es)
 
 -- ---- the opens of a volume are those of its rows
 pub opens_of_rows : (volume : ℕ) (rows : List (ℕ × OpenFork)) → opens_on volume (plain_opens rows) ≡ forks_of volume rows
 opens_of_rows volume [] = refl
 opens_of_rows volume (e ∷ es) =
-    elim (e.1.fork.volume == volume) as (λ b. map {B = NodeId × Bool} (λ (o : Open). (record { 0 = o.fork.node }, o.fork.resource)) (if b then plain e ∷ filter (λ o. o.fork.volume == volume) (plain_opens es) else filter (λ o. o.fork.volume == volume) (plain_opens es))
+    elim (e.1.fork.volume == volume) as (λ b. map {B = NodeId × Bool} (λ (o : Open). (record { 0 = o.fork.node }, o.fork.resource)) (if b then plain_open e ∷ filter (λ o. o.fork.volume == volume) (plain_opens es) else filter (λ o. o.fork.volume == volume) (plain_opens es))
     ≡ map {B = NodeId × Bool} (λ (row : ℕ × OpenFork). (record { 0 = row.1.fork.node }, row.1.fork.resource)) (if b then e ∷ filter (λ row. row.1.fork.volume == volume) es else filter (λ row. row.1.fork.volume == volume) es)) [
       | true ↦ ap (λ l. (record { 0 = e.1.fork.node }, e.1.fork.resource) ∷ l) (opens_of_rows volume es)
       | false ↦ opens_of_rows volume es

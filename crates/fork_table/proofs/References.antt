@@ -16,8 +16,8 @@ use Rattle.std.specs.declared.cmp.Ordering.TheVariants.{Less, Equal, Greater}
 use Rattle.std.proofs.lemmas.Bool.Decides.{nat_tests}
 use Rattle.sorted_map.specs.Entries.{at, with_new_value}
 use Rattle.fork_table.specs.declared.open_fork.OpenFork.{OpenFork}
-use Rattle.fork_table.specs.ForkTable.{plain, plain_opens, is_open, IsLowestFree, exchange_row}
-use Rattle.deny_modes.specs.Opens.{has_reference, in_exchange, with_open, without_reference}
+use Rattle.fork_table.specs.ForkTable.{plain_open, plain_opens, is_open, IsLowestFree, exchange_row}
+use Rattle.deny_modes.specs.Opens.{has_reference, in_exchange, with_noted, without_reference}
 
 and_parts : (a b : Bool) → (a && b) ≡ true → (a ≡ true) × (b ≡ true)
 and_parts true b h = (refl, h)
@@ -56,36 +56,36 @@ fresh_row (e ∷ es) r f = elim (nat_cmp r e.0) as (λ o. nat_cmp r e.0 ≡ o �
     first false b e = refl
 
 -- what the edits show
-pub shows_new : (rows : List (ℕ × OpenFork)) (r : ℕ) (v : OpenFork) → at nat_cmp rows r ≡ None → plain_opens (insert_entry nat_cmp rows r v) ≡ with_open (plain (r, v)) (plain_opens rows)
+pub shows_new : (rows : List (ℕ × OpenFork)) (r : ℕ) (v : OpenFork) → at nat_cmp rows r ≡ None → plain_opens (insert_entry nat_cmp rows r v) ≡ with_noted (plain_open (r, v)) (plain_opens rows)
 shows_new [] r v none = refl
 shows_new (e ∷ es) r v none = elim (nat_cmp r e.0) as (λ o. nat_cmp r e.0 ≡ o → cond (is_eq o) (Some e.1) (at nat_cmp es r) ≡ None
-    → plain_opens (match_ordering o ((r, v) ∷ e ∷ es) ((e.0, v) ∷ es) (e ∷ insert_entry nat_cmp es r v)) ≡ with_open (plain (r, v)) (plain_opens (e ∷ es))) [
-      | Less ↦ λ is none. ap (λ b. if b then plain (r, v) ∷ plain_opens (e ∷ es) else plain e ∷ with_open (plain (r, v)) (plain_opens es)) (let h = lower r e.0 is in let t : true ≡ nat_lt r e.0 = grind (arith, nat_tests) in t)
+    → plain_opens (match_ordering o ((r, v) ∷ e ∷ es) ((e.0, v) ∷ es) (e ∷ insert_entry nat_cmp es r v)) ≡ with_noted (plain_open (r, v)) (plain_opens (e ∷ es))) [
+      | Less ↦ λ is none. ap (λ b. if b then plain_open (r, v) ∷ plain_opens (e ∷ es) else plain_open e ∷ with_noted (plain_open (r, v)) (plain_opens es)) (let h = lower r e.0 is in let t : true ≡ nat_lt r e.0 = grind (arith, nat_tests) in t)
       | Equal ↦ λ is none. absurd (cc none)
-      | Greater ↦ λ is none. ap (λ l. plain e ∷ l) (shows_new es r v none)
-          ∙ ap (λ b. if b then plain (r, v) ∷ plain_opens (e ∷ es) else plain e ∷ with_open (plain (r, v)) (plain_opens es)) (let h = higher r e.0 is in let t : false ≡ nat_lt r e.0 = grind (arith, nat_tests) in t)
+      | Greater ↦ λ is none. ap (λ l. plain_open e ∷ l) (shows_new es r v none)
+          ∙ ap (λ b. if b then plain_open (r, v) ∷ plain_opens (e ∷ es) else plain_open e ∷ with_noted (plain_open (r, v)) (plain_opens es)) (let h = higher r e.0 is in let t : false ≡ nat_lt r e.0 = grind (arith, nat_tests) in t)
     ] refl none
 
 none_left : (r : ℕ) (rows : List (ℕ × OpenFork)) → Above r rows → without_reference r (plain_opens rows) ≡ plain_opens rows
 none_left r [] a = refl
 none_left r (e ∷ es) a =
-    ap (λ b. if not b then plain e ∷ without_reference r (plain_opens es) else without_reference r (plain_opens es)) (let h = lower r e.0 a.0 in let t : (e.0 == r) ≡ false = grind (arith, nat_tests) in t)
-    ∙ ap (λ l. plain e ∷ l) (none_left r es a.1)
+    ap (λ b. if not b then plain_open e ∷ without_reference r (plain_opens es) else without_reference r (plain_opens es)) (let h = lower r e.0 a.0 in let t : (e.0 == r) ≡ false = grind (arith, nat_tests) in t)
+    ∙ ap (λ l. plain_open e ∷ l) (none_left r es a.1)
 
 pub shows_less : (rows : List (ℕ × OpenFork)) (r : ℕ) → Rise rows → plain_opens (remove_entry (is_at (nat_cmp r)) rows) ≡ without_reference r (plain_opens rows)
 unfolding IsStrictlySortedBy
 shows_less [] r s = refl
 shows_less (e ∷ es) r s = elim (nat_cmp r e.0) as (λ o. nat_cmp r e.0 ≡ o → plain_opens (cond (is_eq o) es (e ∷ remove_entry (is_at (nat_cmp r)) es)) ≡ without_reference r (plain_opens (e ∷ es))) [
-  | Less ↦ λ is. ap (λ l. plain e ∷ l) (shows_less es r s.1) ∙ kept (let h = lower r e.0 is in let t : (e.0 == r) ≡ false = grind (arith, nat_tests) in t)
+  | Less ↦ λ is. ap (λ l. plain_open e ∷ l) (shows_less es r s.1) ∙ kept (let h = lower r e.0 is in let t : (e.0 == r) ≡ false = grind (arith, nat_tests) in t)
   | Equal ↦ λ is.
       let one = same_number r e.0 is in
       sym (none_left r es (subst (λ k. Above k es) (sym one) s.0))
-      ∙ ap (λ b. if not b then plain e ∷ without_reference r (plain_opens es) else without_reference r (plain_opens es)) (let t : true ≡ (e.0 == r) = grind (arith, nat_tests, one) in t)
-  | Greater ↦ λ is. ap (λ l. plain e ∷ l) (shows_less es r s.1) ∙ kept (let h = higher r e.0 is in let t : (e.0 == r) ≡ false = grind (arith, nat_tests) in t)
+      ∙ ap (λ b. if not b then plain_open e ∷ without_reference r (plain_opens es) else without_reference r (plain_opens es)) (let t : true ≡ (e.0 == r) = grind (arith, nat_tests, one) in t)
+  | Greater ↦ λ is. ap (λ l. plain_open e ∷ l) (shows_less es r s.1) ∙ kept (let h = higher r e.0 is in let t : (e.0 == r) ≡ false = grind (arith, nat_tests) in t)
 ] refl
   where
-    kept : (e.0 == r) ≡ false → plain e ∷ without_reference r (plain_opens es) ≡ without_reference r (plain_opens (e ∷ es))
-    kept other = ap (λ b. if not b then plain e ∷ without_reference r (plain_opens es) else without_reference r (plain_opens es)) (sym other)
+    kept : (e.0 == r) ≡ false → plain_open e ∷ without_reference r (plain_opens es) ≡ without_reference r (plain_opens (e ∷ es))
+    kept other = ap (λ b. if not b then plain_open e ∷ without_reference r (plain_opens es) else without_reference r (plain_opens es)) (sym other)
 
 -- ---- the lowest free reference
 -- a row behind a number is as much above it as there are rows between

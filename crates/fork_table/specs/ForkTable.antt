@@ -13,7 +13,7 @@ use Rattle.afp_base.specs.DenyMode.{Access, Fork, is_one_fork}
 use Rattle.afp_base.specs.Limits.{most_forks}
 use Rattle.afp_base.specs.Apart.{are_apart}
 use Rattle.deny_modes.specs.Opens.{Open, has_conflict, are_in_conflict, in_exchange}
-use Rattle.range_locks.specs.Locks.{Lock, are_overlapping}
+use Rattle.range_locks.specs.Locks.{ForkLock, are_overlapping}
 use Rattle.fork_table.specs.declared.open_fork.OpenFork.{OpenFork}
 use Rattle.fork_table.specs.declared.open_fork.OpenFault.{OpenFault}
 use Rattle.fork_table.specs.declared.open_fork.OpenFault.TheVariants.{Deny, TooMany, Memory}
@@ -21,15 +21,15 @@ use Rattle.fork_table.specs.declared.open_fork.OpenFault.TheVariants.{Deny, TooM
 -- the open forks with their references, which rise, and the locks by rising reference
 pub record Table : Type 0 where
   pub opens : List (ℕ × OpenFork)
-  pub locks : List Lock
+  pub locks : List ForkLock
 
 -- an open without its session
-abbrev pub plain : ℕ × OpenFork → Open
-plain row = record { reference = row.0; fork = row.1.fork; access = row.1.mode }
+abbrev pub plain_open : ℕ × OpenFork → Open
+plain_open row = record { reference = row.0; fork = row.1.fork; access = row.1.mode }
 
 -- the opens without their sessions
 abbrev pub plain_opens : List (ℕ × OpenFork) → List Open
-plain_opens rows = map plain rows
+plain_opens rows = map plain_open rows
 
 -- the reference is one of these
 abbrev pub is_open : List (ℕ × OpenFork) → ℕ → Bool
@@ -61,16 +61,16 @@ open_refusal t session fork access = first_holding (
     ∷ [])
 
 -- the table with one more open
-abbrev pub with_open : ℕ → OpenFork → Table → Table
-with_open reference o t = record { opens = insert_entry nat_cmp t.opens reference o; locks = t.locks }
+abbrev pub with_reference : ℕ → OpenFork → Table → Table
+with_reference reference o t = record { opens = insert_entry nat_cmp t.opens reference o; locks = t.locks }
 
 -- What `open` answers: Ok where nothing refuses it, with the lowest free reference, and the fork is open; else the first refusal,
 -- and nothing changes. Want of memory comes only where nothing refuses it, and changes nothing.
-abbrev pub OpensFork : Table → SessionNumber → Fork → Access → Result ForkRef OpenFault → Table → Type 0
-OpensFork old session fork access (Ok r) new = (open_refusal old session fork access ≡ None) × (IsLowestFree old.opens r.0 × (new ≡ with_open r.0 (record { session = session; fork = fork; mode = access }) old))
-OpensFork old session fork access (Err Deny) new = (open_refusal old session fork access ≡ Some Deny) × (new ≡ old)
-OpensFork old session fork access (Err TooMany) new = (open_refusal old session fork access ≡ Some TooMany) × (new ≡ old)
-OpensFork old session fork access (Err Memory) new = (open_refusal old session fork access ≡ None) × (new ≡ old)
+abbrev pub OpensInTable : Table → SessionNumber → Fork → Access → Result ForkRef OpenFault → Table → Type 0
+OpensInTable old session fork access (Ok r) new = (open_refusal old session fork access ≡ None) × (IsLowestFree old.opens r.0 × (new ≡ with_reference r.0 (record { session = session; fork = fork; mode = access }) old))
+OpensInTable old session fork access (Err Deny) new = (open_refusal old session fork access ≡ Some Deny) × (new ≡ old)
+OpensInTable old session fork access (Err TooMany) new = (open_refusal old session fork access ≡ Some TooMany) × (new ≡ old)
+OpensInTable old session fork access (Err Memory) new = (open_refusal old session fork access ≡ None) × (new ≡ old)
 
 -- an open, where it is the session's
 abbrev pub own_open : ℕ → Option OpenFork → Option OpenFork
@@ -90,12 +90,12 @@ abbrev pub exchange_row : Fork → Fork → ℕ × OpenFork → ℕ × OpenFork
 exchange_row a b row = (row.0, record row.1 { fork = in_exchange a b row.1.fork })
 
 -- the lock is on the fork of a reference that is open
-abbrev pub is_held : List (ℕ × OpenFork) → Lock → Bool
+abbrev pub is_held : List (ℕ × OpenFork) → ForkLock → Bool
 is_held rows l = list_any (λ row. (row.0 == l.reference) && is_one_fork row.1.fork l.fork) rows
 
 -- What is kept true: no two opens conflict, no two locks on one fork share a byte, each lock is on the fork of a reference that is
 -- open, and references rise, so that no two are the same.
-pub record IsSound (t : Table) : Type 0 where
+pub record TableIsSound (t : Table) : Type 0 where
   pub apart : are_apart are_in_conflict (plain_opens t.opens) ≡ true
   pub separate : are_apart are_overlapping t.locks ≡ true
   pub held : list_all (is_held t.opens) t.locks ≡ true

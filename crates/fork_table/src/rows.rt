@@ -6,14 +6,13 @@ ghost use Rattle.std.specs.Map.{keys_of, remove_entry};
 ghost use Rattle.std.specs.BTreeMap.{insert_entry, is_at};
 ghost use Rattle.std.specs.Ordering.{nat_cmp};
 ghost use Rattle.afp_base.specs.Limits.{most_opens};
-ghost use Rattle.deny_modes.specs.Opens.{in_exchange};
 ghost use Rattle.fork_table.specs.ForkTable.{IsLowestFree, exchange_row, is_open};
 ghost use Rattle.fork_table.specs.lemma.Own.{AreOwn};
 
 use crate::OpenFork;
 use crate::own::{OwnRef, own_ref};
 use afp_base::{ForkRef, OutOfMemory};
-use deny_modes::ForkKey;
+use deny_modes::{ForkKey, in_exchange};
 use sorted_map::SortedMap;
 
 /// The lowest number from 1 that is no reference. A halving finds the first place whose reference is not the place's number
@@ -93,18 +92,5 @@ pub(crate) fn exchange_rows(rows: &mut SortedMap<u16, OpenFork>, a: &ForkKey, b:
                 mode: row.mode,
             },
         );
-    }
-}
-
-/// The fork that stands in a fork's place where `a` and `b` change places.
-fn in_exchange(a: &ForkKey, b: &ForkKey, fork: &ForkKey) -> ForkKey
-    ensures { result ≡ in_exchange a.now b.now fork.now }
-{
-    if a == fork {
-        *b
-    } else if b == fork {
-        *a
-    } else {
-        *fork
     }
 }

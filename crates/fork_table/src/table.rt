@@ -6,7 +6,7 @@ ghost use Rattle.deny_modes.specs.Opens.{has_conflict, is_fork_open};
 ghost use Rattle.range_locks.specs.Locks.{SetsLock, TakesLock, is_met_by_other, without_holder, exchanged_locks};
 ghost use Rattle.sorted_map.specs.Entries.{at};
 ghost use Rattle.fork_table.specs.lemma.Kept.{FindsOne, does_pass};
-ghost use Rattle.fork_table.specs.ForkTable.{Table, plain_opens, count_open, OpensFork, own_open, forks_of, closing, is_of_session, is_of_volume, exchange_row, IsSound};
+ghost use Rattle.fork_table.specs.ForkTable.{Table, plain_opens, count_open, OpensInTable, own_open, forks_of, closing, is_of_session, is_of_volume, exchange_row, TableIsSound};
 
 use crate::own::{OwnRef, own_of};
 use crate::rows::{exchange_rows, lowest_free, put_row, take_row};
@@ -56,7 +56,7 @@ impl ForkTable {
 
     /// What is kept true of the opens and the locks. The call does nothing.
     pub fn keeps_sound(&self)
-        ensures { IsSound self.now }
+        ensures { TableIsSound self.now }
     {
         self.opens.no_two_conflict();
         self.locks.no_two_overlap();
@@ -71,7 +71,7 @@ impl ForkTable {
         mode: Mode,
     ) -> Result<ForkRef, OpenFault>
         requires { length self.old.opens < most_opens }
-        ensures { OpensFork self.old s fork mode result self.new }
+        ensures { OpensInTable self.old s fork mode result self.new }
     {
         if !self.opens.may_open(&fork, &mode) {
             return Err(OpenFault::Deny);

@@ -80,13 +80,13 @@ itself a = λ i. eq-eqb a.volume a.volume refl i && (eq-eqb a.node a.node refl i
     same false = refl
 
 -- the open fork at a reference of a lock is of the lock's fork
-held-at : (rows : List (ℕ × Row)) (l : held.Lock) → Rise rows → table.is_held rows l ≡ true → told (λ o. is_one_fork o.fork l.fork) (at nat_cmp rows l.reference) ≡ true
+held-at : (rows : List (ℕ × Row)) (l : held.ForkLock) → Rise rows → table.is_held rows l ≡ true → told (λ o. is_one_fork o.fork l.fork) (at nat_cmp rows l.reference) ≡ true
 held-at rows l rise h = sym (told-at (λ o. is_one_fork o.fork l.fork) rows l.reference rise) ∙ h
 
-held-fork : (rows : List (ℕ × Row)) (l : held.Lock) (o : Row) → Rise rows → table.is_held rows l ≡ true → at nat_cmp rows l.reference ≡ Some o → o.fork ≡ l.fork
+held-fork : (rows : List (ℕ × Row)) (l : held.ForkLock) (o : Row) → Rise rows → table.is_held rows l ≡ true → at nat_cmp rows l.reference ≡ Some o → o.fork ≡ l.fork
 held-fork rows l o rise h found = one-fork o.fork l.fork (sym (ap (told (λ (x : Row). is_one_fork x.fork l.fork)) found) ∙ held-at rows l rise h)
 
-held-open : (rows : List (ℕ × Row)) (l : held.Lock) → Rise rows → table.is_held rows l ≡ true → is_open (map row_of rows) l.reference ≡ true
+held-open : (rows : List (ℕ × Row)) (l : held.ForkLock) → Rise rows → table.is_held rows l ≡ true → is_open (map row_of rows) l.reference ≡ true
 held-open rows l rise h = open-rows rows l.reference ∙ more rows h
   where
     more : (rs : List (ℕ × Row)) → list_any (λ row. (row.0 == l.reference) && is_one_fork row.1.fork l.fork) rs ≡ true → list_any (λ row. row.0 == l.reference) rs ≡ true
@@ -97,7 +97,7 @@ held-open rows l rise h = open-rows rows l.reference ∙ more rows h
     ] h
 
 -- a lock's reference and another one are open on one fork just where the other's fork is the lock's
-shares : (rows : List (ℕ × Row)) (l : held.Lock) (r : ℕ) (o : Row) → Rise rows → table.is_held rows l ≡ true → at nat_cmp rows r ≡ Some o → share_fork (map row_of rows) l.reference r ≡ is_one_fork l.fork o.fork
+shares : (rows : List (ℕ × Row)) (l : held.ForkLock) (r : ℕ) (o : Row) → Rise rows → table.is_held rows l ≡ true → at nat_cmp rows r ≡ Some o → share_fork (map row_of rows) l.reference r ≡ is_one_fork l.fork o.fork
 shares rows l r o rise h found =
     any-map (λ (x : OpenFork). (x.reference == l.reference) && list_any (λ (y : OpenFork). (y.reference == r) && is_one_fork x.fork y.fork) (map row_of rows)) row_of rows
     ∙ told-at (λ x. list_any (λ (y : OpenFork). (y.reference == r) && is_one_fork x.fork y.fork) (map row_of rows)) rows l.reference rise
@@ -113,13 +113,13 @@ shares rows l r o rise h found =
 -- What is known of a world and the table, and of the open fork of a reference.
 pub record Finds (w : World) (t : table.Table) (x : OpenFork) (r : ℕ) (o : Row) : Type 0 where
   pub has : HasForks w (forks_of t)
-  pub sound : table.IsSound t
+  pub sound : table.TableIsSound t
   pub number : x.reference ≡ r
   pub found : at nat_cmp t.opens r ≡ Some o
 
 -- ---- locks that meet a range
 
-meets : (w : World) (t : table.Table) (x : OpenFork) (r : ℕ) (o : Row) (range : Range) → Finds w t x r o → (l : held.Lock) → table.is_held t.opens l ≡ true → meets_lock w x range (lock_of l) ≡ (is_one_fork l.fork o.fork && do_meet l.range range)
+meets : (w : World) (t : table.Table) (x : OpenFork) (r : ℕ) (o : Row) (range : Range) → Finds w t x r o → (l : held.ForkLock) → table.is_held t.opens l ≡ true → meets_lock w x range (lock_of l) ≡ (is_one_fork l.fork o.fork && do_meet l.range range)
 meets w t x r o range f l h =
     (λ i. share_fork (f.has.opens i) l.reference (f.number i) && do_meet l.range range)
     ∙ ap (λ b. b && do_meet l.range range) (shares t.opens l r o f.sound.rising h f.found)
@@ -148,7 +148,7 @@ most-held w t x r o f =
 
 -- ---- a range is locked
 
-with-map : (new : held.Lock) (ls : List held.Lock) → map lock_of (held.with_lock new ls) ≡ with_lock (lock_of new) (map lock_of ls)
+with-map : (new : held.ForkLock) (ls : List held.ForkLock) → map lock_of (held.with_lock new ls) ≡ with_lock (lock_of new) (map lock_of ls)
 with-map new [] = refl
 with-map new (l ∷ ls) = elim (nat_lt new.reference l.reference) as (λ b. map lock_of (if b then new ∷ l ∷ ls else l ∷ held.with_lock new ls) ≡ (if b then lock_of new ∷ lock_of l ∷ map lock_of ls else lock_of l ∷ with_lock (lock_of new) (map lock_of ls))) [
   | true ↦ refl
@@ -198,7 +198,7 @@ locks-range w t t' x r o range (Err Memory) f opens is = no-change t t' opens is
 
 -- ---- a range is unlocked
 
-one-lock : (rows : List (ℕ × Row)) (r : ℕ) (o : Row) (range : Range) → Rise rows → at nat_cmp rows r ≡ Some o → (l : held.Lock) → table.is_held rows l ≡ true → is_lock r range (lock_of l) ≡ held.is_lock o.fork r range l
+one-lock : (rows : List (ℕ × Row)) (r : ℕ) (o : Row) (range : Range) → Rise rows → at nat_cmp rows r ≡ Some o → (l : held.ForkLock) → table.is_held rows l ≡ true → is_lock r range (lock_of l) ≡ held.is_lock o.fork r range l
 one-lock rows r o range rise found l h = by (l.reference == r) refl
   where
     off : (b : Bool) → (b && false) ≡ false
@@ -271,7 +271,7 @@ close-is goes stays t same =
     filter-alike [] = refl
     filter-alike (row ∷ rows) = λ i. cond (sym (same row.0 row.1) i) (row ∷ filter-alike rows i) (filter-alike rows i)
 
-    filter-open : (rows : List (ℕ × Row)) (ls : List held.Lock) → filter (λ (l : held.Lock). table.is_open rows l.reference) ls ≡ filter (λ l. is_open (map row_of rows) l.reference) ls
+    filter-open : (rows : List (ℕ × Row)) (ls : List held.ForkLock) → filter (λ (l : held.ForkLock). table.is_open rows l.reference) ls ≡ filter (λ l. is_open (map row_of rows) l.reference) ls
     filter-open rows [] = refl
     filter-open rows (l ∷ ls) = λ i. cond (sym (open-rows rows l.reference) i) (l ∷ filter-open rows ls i) (filter-open rows ls i)
 
@@ -302,7 +302,7 @@ still-open opens r k open_was = by (k == r) refl
     by true same = gone (eqb-true k r same) opens ∙ ap not (sym same)
     by false other = kept other opens open_was ∙ ap not (sym other)
 
-pub close-one : (t t' : table.Table) (r : ℕ) → table.IsSound t → t'.opens ≡ filter (λ (row : ℕ × Row). not (row.0 == r)) t.opens → t'.locks ≡ held.without_holder r t.locks → forks_of t' ≡ left_of (λ (o : OpenFork). not (o.reference == r)) (forks_of t)
+pub close-one : (t t' : table.Table) (r : ℕ) → table.TableIsSound t → t'.opens ≡ filter (λ (row : ℕ × Row). not (row.0 == r)) t.opens → t'.locks ≡ held.without_holder r t.locks → forks_of t' ≡ left_of (λ (o : OpenFork). not (o.reference == r)) (forks_of t)
 close-one t t' r sound opens locks = λ i. record {
   opens = (ap (map row_of) opens ∙ sym (filter-map (λ (o : OpenFork). not (o.reference == r)) row_of t.opens)) i;
   locks = (ap (map lock_of) locks
@@ -313,17 +313,17 @@ close-one t t' r sound opens locks = λ i. record {
 
 -- ---- what is kept
 
-pub all-held : (t : table.Table) → table.IsSound t → AllHeld (forks_of t)
+pub all-held : (t : table.Table) → table.TableIsSound t → AllHeld (forks_of t)
 all-held t sound =
     list_all-map (λ (lock : Lock). is_open (map row_of t.opens) lock.reference) lock_of t.locks
     ∙ all-where (table.is_held t.opens) (λ l. is_open (map row_of t.opens) l.reference) t.locks sound.held (λ l h. held-open t.opens l sound.rising h)
 
-pub left-in-range : (keep : held.Lock → Bool) (ls : List held.Lock) → AreInRange ls → AreInRange (filter keep ls)
-left-in-range keep ls all = all-left (λ (l : held.Lock). is_lock_range l.range) keep ls all
+pub left-in-range : (keep : held.ForkLock → Bool) (ls : List held.ForkLock) → AreInRange ls → AreInRange (filter keep ls)
+left-in-range keep ls all = all-left (λ (l : held.ForkLock). is_lock_range l.range) keep ls all
 
 pub closed-in-range : (goes : Row → Bool) (t t' : table.Table) → t' ≡ table.closing goes t → AreInRange t.locks → AreInRange t'.locks
 closed-in-range goes t t' is all =
-    subst (λ (t : table.Table). AreInRange t.locks) (sym is) (left-in-range (λ (l : held.Lock). table.is_open (filter (λ (row : ℕ × Row). not (goes row.1)) t.opens) l.reference) t.locks all)
+    subst (λ (t : table.Table). AreInRange t.locks) (sym is) (left-in-range (λ (l : held.ForkLock). table.is_open (filter (λ (row : ℕ × Row). not (goes row.1)) t.opens) l.reference) t.locks all)
 
 -- the law: closing undoes an opening
 pub closing-undoes : ClosingUndoes
@@ -366,7 +366,7 @@ at-some : (q : Option Row) → IsSome q → (o : Row) × (q ≡ Some o)
 at-some None h = absurd (cc h)
 at-some (Some o) h = (o, refl)
 
-pub lock-answers : (w : World) (x : OpenFork) (old : Forks) (t t' : table.Table) (r : ℕ) (range : Range) (res : Result (Unit {0}) LockFault) → table.IsSound t → forks_of t ≡ old → is_open old.opens r ≡ true
+pub lock-answers : (w : World) (x : OpenFork) (old : Forks) (t t' : table.Table) (r : ℕ) (range : Range) (res : Result (Unit {0}) LockFault) → table.TableIsSound t → forks_of t ≡ old → is_open old.opens r ≡ true
     → t'.opens ≡ t.opens → IfSome (at nat_cmp t.opens r) (λ o. held.SetsLock t.locks o.fork r range res t'.locks) → HasForks w old → x.reference ≡ r → LocksRange w old x range res (forks_of t')
 lock-answers w x old t t' r range res sound shown open_was opens is has number =
     let o = at-some (at nat_cmp t.opens r) (some-at t old r shown open_was) in
@@ -374,7 +374,7 @@ lock-answers w x old t t' r range res sound shown open_was opens is has number =
     subst (λ (f : Forks). LocksRange w f x range res (forks_of t')) shown
     (locks-range w t t' x r o.0 range res (record { has = subst (HasForks w) (sym shown) has; sound = sound; number = number; found = o.1 }) opens sets)
 
-pub unlock-answers : (w : World) (x : OpenFork) (old : Forks) (t t' : table.Table) (r : ℕ) (range : Range) (res : Result (Unit {0}) NotLocked) → table.IsSound t → forks_of t ≡ old → is_open old.opens r ≡ true
+pub unlock-answers : (w : World) (x : OpenFork) (old : Forks) (t t' : table.Table) (r : ℕ) (range : Range) (res : Result (Unit {0}) NotLocked) → table.TableIsSound t → forks_of t ≡ old → is_open old.opens r ≡ true
     → t'.opens ≡ t.opens → IfSome (at nat_cmp t.opens r) (λ o. held.TakesLock t.locks o.fork r range res t'.locks) → HasForks w old → x.reference ≡ r → UnlocksRange w old x range res (forks_of t')
 unlock-answers w x old t t' r range res sound shown open_was opens is has number =
     let o = at-some (at nat_cmp t.opens r) (some-at t old r shown open_was) in
@@ -382,14 +382,14 @@ unlock-answers w x old t t' r range res sound shown open_was opens is has number
     subst (λ (f : Forks). UnlocksRange w f x range res (forks_of t')) shown
     (unlocks-range w t t' x r o.0 range res (record { has = subst (HasForks w) (sym shown) has; sound = sound; number = number; found = o.1 }) opens takes)
 
-pub blocks-answers : (w : World) (x : OpenFork) (old : Forks) (t : table.Table) (r from count to : ℕ) (res : Bool) → MeetsUpToTop → AreInRange t.locks → table.IsSound t → forks_of t ≡ old → is_open old.opens r ≡ true
+pub blocks-answers : (w : World) (x : OpenFork) (old : Forks) (t : table.Table) (r from count to : ℕ) (res : Bool) → MeetsUpToTop → AreInRange t.locks → table.TableIsSound t → forks_of t ≡ old → is_open old.opens r ≡ true
     → (count ≡ 0 → ⊥) → to ≡ min (from + (count - 1)) last_byte → IfSome (at nat_cmp t.opens r) (λ o. res ≡ held.is_met_by_other t.locks o.fork r (record { from = from; to = to })) → HasForks w old → x.reference ≡ r → res ≡ is_locked w x from count
 blocks-answers w x old t r from count to res law all sound shown open_was some to_is is has number =
     let o = at-some (at nat_cmp t.opens r) (some-at t old r shown open_was) in
     let met : res ≡ held.is_met_by_other t.locks o.0.fork r (record { from = from; to = to }) = subst (λ (q : Option Row). IfSome q (λ o. res ≡ held.is_met_by_other t.locks o.fork r (record { from = from; to = to }))) o.1 is in
     met ∙ up-to-top w t x r o.0 from count to law (record { has = subst (HasForks w) (sym shown) has; sound = sound; number = number; found = o.1 }) all (omega (arith, some)) to_is
 
-all-with : (q : held.Lock → Bool) (new : held.Lock) (ls : List held.Lock) → q new ≡ true → list_all q ls ≡ true → list_all q (held.with_lock new ls) ≡ true
+all-with : (q : held.ForkLock → Bool) (new : held.ForkLock) (ls : List held.ForkLock) → q new ≡ true → list_all q ls ≡ true → list_all q (held.with_lock new ls) ≡ true
 all-with q new [] here all = (λ i. here i && true)
 all-with q new (l ∷ ls) here all =
     let e = and_parts (q l) (list_all q ls) all in
@@ -398,15 +398,15 @@ all-with q new (l ∷ ls) here all =
       | false ↦ (λ i. e.0 i && all-with q new ls here e.1 i)
     ]
 
-sets-in-range : (old new : List held.Lock) (f : Fork) (r : ℕ) (range : Range) (res : Result (Unit {0}) LockFault) → is_lock_range range ≡ true → AreInRange old → held.SetsLock old f r range res new → AreInRange new
-sets-in-range old new f r range (Ok done) here all is = ap (list_all (λ (l : held.Lock). is_lock_range l.range)) is.1 ∙ all-with (λ (l : held.Lock). is_lock_range l.range) (record { reference = r; fork = f; range = range }) old here all
+sets-in-range : (old new : List held.ForkLock) (f : Fork) (r : ℕ) (range : Range) (res : Result (Unit {0}) LockFault) → is_lock_range range ≡ true → AreInRange old → held.SetsLock old f r range res new → AreInRange new
+sets-in-range old new f r range (Ok done) here all is = ap (list_all (λ (l : held.ForkLock). is_lock_range l.range)) is.1 ∙ all-with (λ (l : held.ForkLock). is_lock_range l.range) (record { reference = r; fork = f; range = range }) old here all
 sets-in-range old new f r range (Err Locked) here all is = subst AreInRange (sym is.1) all
 sets-in-range old new f r range (Err Overlap) here all is = subst AreInRange (sym is.1) all
 sets-in-range old new f r range (Err Full) here all is = subst AreInRange (sym is.1) all
 sets-in-range old new f r range (Err Memory) here all is = subst AreInRange (sym is.1) all
 
-takes-in-range : (old new : List held.Lock) (f : Fork) (r : ℕ) (range : Range) (res : Result (Unit {0}) NotLocked) → AreInRange old → held.TakesLock old f r range res new → AreInRange new
-takes-in-range old new f r range (Ok done) all is = subst AreInRange (sym is.1) (left-in-range (λ (l : held.Lock). not (held.is_lock f r range l)) old all)
+takes-in-range : (old new : List held.ForkLock) (f : Fork) (r : ℕ) (range : Range) (res : Result (Unit {0}) NotLocked) → AreInRange old → held.TakesLock old f r range res new → AreInRange new
+takes-in-range old new f r range (Ok done) all is = subst AreInRange (sym is.1) (left-in-range (λ (l : held.ForkLock). not (held.is_lock f r range l)) old all)
 takes-in-range old new f r range (Err fault) all is = subst AreInRange (sym is.1) all
 
 pub lock-in-range : (old : Forks) (t t' : table.Table) (r : ℕ) (range : Range) (res : Result (Unit {0}) LockFault) → AreInRange t.locks → forks_of t ≡ old → is_open old.opens r ≡ true → range.from ≤ range.to → range.to ≤ 9223372036854775807

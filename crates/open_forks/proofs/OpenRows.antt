@@ -156,7 +156,7 @@ unfolding is_denied
 denied-is w t fork access has =
     ap (list_any (λ (o : OpenFork). do_conflict o.fork o.access fork access)) has.opens
     ∙ any-map (λ (o : OpenFork). do_conflict o.fork o.access fork access) row_of t.opens
-    ∙ sym (any-map (λ (o : Open). do_conflict o.fork o.access fork access) table.plain t.opens)
+    ∙ sym (any-map (λ (o : Open). do_conflict o.fork o.access fork access) table.plain_open t.opens)
 
 most-is : (w : World) (x : Session) (t : table.Table) (s : ℕ) → HasForks w (forks_of t) → x.number ≡ s → has_most_forks w x ≡ nat_le most_forks (table.count_open s t.opens)
 unfolding has_most_forks
@@ -200,7 +200,7 @@ second-of false true h = (refl, refl)
 second-of false false h = absurd (cc h)
 
 pub opens-fork : (w : World) (x : Session) (t t' : table.Table) (s : SessionNumber) (fork : Fork) (access : Access) (res : Result ForkRef OpenFault) → ReferenceIsFree → ReferenceIsLowest → ReferenceCounts
-    → HasForks w (forks_of t) → x.number ≡ s.0 → table.OpensFork t s fork access res t' → OpensFork w x (forks_of t) fork access res (forks_of t')
+    → HasForks w (forks_of t) → x.number ≡ s.0 → table.OpensInTable t s fork access res t' → OpensFork w x (forks_of t) fork access res (forks_of t')
 opens-fork w x t t' s fork access (Ok r) free lowest counts has number is =
     let none = none-of (has_conflict (table.plain_opens t.opens) fork access) (nat_le most_forks (table.count_open s.0 t.opens)) is.0 in
     let same : r.0 ≡ lowest_free (map row_of t.opens) = lowest-is t.opens r.0 free lowest counts is.1.0 in

@@ -29,7 +29,7 @@ pub record Forks : Type 0 where
 abbrev pub open_of : ℕ → table.OpenFork → OpenFork
 open_of reference o = record { reference = reference; session = o.session.0; fork = o.fork; access = o.mode }
 
-abbrev pub lock_of : locks.Lock → Lock
+abbrev pub lock_of : locks.ForkLock → Lock
 lock_of l = record { reference = l.reference; range = l.range }
 
 abbrev pub forks_of : Table → Forks

@@ -26,7 +26,7 @@ use Rattle.sorted_map.specs.Entries.{at, exchanged}
 use Rattle.range_locks.specs.declared.fault.LockFault.TheVariants.{Locked, Overlap, Full}
 use Rattle.range_locks.specs.declared.rows.LockRow.{LockRow}
 use Rattle.range_locks.specs.declared.rows.Seen.{Seen}
-use Rattle.range_locks.specs.Locks.{Lock, are_overlapping, is_met_by_other, is_met_by_own, count_held, lock_refusal, with_lock, is_lock, has_lock, exchange_lock, exchanged_locks, without_holder, is_row, are_one_row, AreInOrder, AreIntervals}
+use Rattle.range_locks.specs.Locks.{ForkLock, are_overlapping, is_met_by_other, is_met_by_own, count_held, lock_refusal, with_lock, is_lock, has_lock, exchange_lock, exchanged_locks, without_holder, is_row, are_one_row, AreInOrder, AreIntervals}
 use Rattle.range_locks.specs.lemma.Kept.{rows_at, holder_of, is_among, IsBehind, IsBefore, IsPlaceOf, IsLockTable}
 use Rattle.range_locks.specs.lemma.Seen.{IsSeen}
 
@@ -71,7 +71,7 @@ any_gives : {A : Type 0} (r s : A → Bool) (xs : List A) → ((x : A) → r x �
 any_gives r s [] same = refl
 any_gives r s (x ∷ xs) same = λ i. same x i || any_gives r s xs same i
 
-any_new : (p : Lock → Bool) (new : Lock) (ls : List Lock) → list_any p (with_lock new ls) ≡ (p new || list_any p ls)
+any_new : (p : ForkLock → Bool) (new : ForkLock) (ls : List ForkLock) → list_any p (with_lock new ls) ≡ (p new || list_any p ls)
 any_new p new [] = refl
 any_new p new (l ∷ ls) = elim (nat_lt new.reference l.reference) as (λ b. list_any p (if b then new ∷ l ∷ ls else l ∷ with_lock new ls) ≡ (p new || (p l || list_any p ls))) [
   | true ↦ refl
@@ -84,7 +84,7 @@ any_insert p row [] (suc i) = refl
 any_insert p row (x ∷ xs) (suc i) = ap (λ t. p x || t) (any_insert p row xs i) ∙ or_swap (p x) (p row) (list_any p xs)
 
 -- ---- a test of a fork's rows is a test of its locks
-abbrev row_of : Lock → LockRow
+abbrev row_of : ForkLock → LockRow
 row_of l = record { range = l.range; reference = record { 0 = l.reference } }
 
 same_row : (a b : LockRow) → are_one_row a b ≡ true → a ≡ b
@@ -99,7 +99,7 @@ same_row a b h =
 row_itself : (a : LockRow) → are_one_row a a ≡ true
 row_itself a = λ i. number_itself a.reference.0 i && (number_itself a.range.from i && number_itself a.range.to i)
 
-rows_tell : (locks : List Lock) (fork : Fork) (rows : List LockRow) (p : LockRow → Bool) → ((row : LockRow) → list_any (are_one_row row) rows ≡ list_any (λ l. is_one_fork l.fork fork && is_row row l) locks)
+rows_tell : (locks : List ForkLock) (fork : Fork) (rows : List LockRow) (p : LockRow → Bool) → ((row : LockRow) → list_any (are_one_row row) rows ≡ list_any (λ l. is_one_fork l.fork fork && is_row row l) locks)
     → list_any p rows ≡ list_any (λ l. is_one_fork l.fork fork && p (row_of l)) locks
 rows_tell locks fork rows p same = both_ways _ _
     (λ h.
@@ -116,18 +116,18 @@ rows_tell locks fork rows p same = both_ways _ _
     let f = Any-from_list_any (are_one_row (row_of g.1)) rows (same (row_of g.1) ∙ there) in
     list_any_at p rows f.0 f.1 f.2 (ap p f.3 ∙ sym (ap p (same_row (row_of g.1) f.1 f.4)) ∙ parts.1))
 
-pub seen_other : {locks : List Lock} {fork : Fork} {rows : List LockRow} {r : ℕ} {range : Range} {seen : Seen} → AreIntervals locks fork rows → IsSeen rows r range seen → seen.other ≡ is_met_by_other locks fork r range
+pub seen_other : {locks : List ForkLock} {fork : Fork} {rows : List LockRow} {r : ℕ} {range : Range} {seen : Seen} → AreIntervals locks fork rows → IsSeen rows r range seen → seen.other ≡ is_met_by_other locks fork r range
 seen_other {locks} {fork} {rows} {r} {range} i s =
     s.other ∙ rows_tell locks fork rows (λ row. do_meet row.range range && not (row.reference.0 == r)) i.same
     ∙ any_gives (λ l. is_one_fork l.fork fork && (do_meet l.range range && not (l.reference == r))) (λ l. do_overlap l.fork l.range fork range && not (l.reference == r)) locks (λ l. sym (and_assoc (is_one_fork l.fork fork) (do_meet l.range range) (not (l.reference == r))))
 
-pub seen_own : {locks : List Lock} {fork : Fork} {rows : List LockRow} {r : ℕ} {range : Range} {seen : Seen} → AreIntervals locks fork rows → IsSeen rows r range seen → seen.other ≡ false → seen.own ≡ is_met_by_own locks fork r range
+pub seen_own : {locks : List ForkLock} {fork : Fork} {rows : List LockRow} {r : ℕ} {range : Range} {seen : Seen} → AreIntervals locks fork rows → IsSeen rows r range seen → seen.other ≡ false → seen.own ≡ is_met_by_own locks fork r range
 seen_own {locks} {fork} {rows} {r} {range} i s none =
     s.own none ∙ rows_tell locks fork rows (λ row. do_meet row.range range && (row.reference.0 == r)) i.same
     ∙ any_gives (λ l. is_one_fork l.fork fork && (do_meet l.range range && (l.reference == r))) (λ l. do_overlap l.fork l.range fork range && (l.reference == r)) locks (λ l. sym (and_assoc (is_one_fork l.fork fork) (do_meet l.range range) (l.reference == r)))
 
 -- ---- places by reference
-pub put_behind : (ls : List Lock) (new : Lock) (place : ℕ) → IsBehind ls new.reference place → insert ls place new ≡ with_lock new ls
+pub put_behind : (ls : List ForkLock) (new : ForkLock) (place : ℕ) → IsBehind ls new.reference place → insert ls place new ≡ with_lock new ls
 put_behind [] new zero b = refl
 put_behind [] new (suc place) b = absurd (omega (arith, b.within))
 put_behind (l ∷ ls) new zero b =
@@ -138,13 +138,13 @@ put_behind (l ∷ ls) new (suc place) b =
     ap (λ rest. l ∷ rest) (put_behind ls new place (record { within = omega (arith, b.within); front = λ k d less. b.front (suc k) d (omega arith); rest = λ k d low high. b.rest (suc k) d (omega arith) (omega arith) }))
     ∙ ap (λ t. if t then new ∷ l ∷ ls else l ∷ with_lock new ls) h
 
-count_none : (ls : List Lock) (r : ℕ) → ((k : ℕ) (d : Lock) → k < length ls → nat_le (holder_of (slice_index_or ls k d)) r ≡ false) → count_held r ls ≡ 0
+count_none : (ls : List ForkLock) (r : ℕ) → ((k : ℕ) (d : ForkLock) → k < length ls → nat_le (holder_of (slice_index_or ls k d)) r ≡ false) → count_held r ls ≡ 0
 count_none [] r none = refl
 count_none (l ∷ ls) r none =
     let other : (l.reference == r) ≡ false = (let f = none 0 l (omega arith) in grind (arith, nat_tests, f)) in
     ap (λ b. length (if b then l ∷ filter (λ x. x.reference == r) ls else filter (λ x. x.reference == r) ls)) other ∙ count_none ls r (λ k d less. none (suc k) d (omega arith))
 
-pub count_between : (ls : List Lock) (r first last : ℕ) → IsBefore ls r first → IsBehind ls r last → first + count_held r ls ≡ last
+pub count_between : (ls : List ForkLock) (r first last : ℕ) → IsBefore ls r first → IsBehind ls r last → first + count_held r ls ≡ last
 count_between [] r first last a b = omega (arith, a.within, b.within)
 count_between (l ∷ ls) r zero zero a b = let none = count_none (l ∷ ls) r (λ k d less. b.rest k d (omega arith) less) in omega (arith, none)
 count_between (l ∷ ls) r zero (suc last) a b =
@@ -162,7 +162,7 @@ count_between (l ∷ ls) r (suc first) (suc last) a b =
     omega (arith, more, here)
 
 -- ---- the locks of a reference stand together
-none_own : (ls : List Lock) (r : ℕ) → ((k : ℕ) (d : Lock) → k < length ls → nat_le (holder_of (slice_index_or ls k d)) r ≡ false) → (filter (λ l. l.reference == r) ls ≡ []) × (ls ≡ without_holder r ls)
+none_own : (ls : List ForkLock) (r : ℕ) → ((k : ℕ) (d : ForkLock) → k < length ls → nat_le (holder_of (slice_index_or ls k d)) r ≡ false) → (filter (λ l. l.reference == r) ls ≡ []) × (ls ≡ without_holder r ls)
 none_own [] r none = (refl, refl)
 none_own (l ∷ ls) r none =
     let other : (l.reference == r) ≡ false = (let f = none 0 l (omega arith) in grind (arith, nat_tests, f)) in
@@ -177,7 +177,7 @@ all_of n = omega arith
 one_less : (m n : ℕ) → suc m - suc n ≡ m - n
 one_less m n = omega arith
 
-pub own_part : (ls : List Lock) (r first last : ℕ) → IsBefore ls r first → IsBehind ls r last → (slice_range ls first last ≡ filter (λ l. l.reference == r) ls) × (take first ls ++ drop last ls ≡ without_holder r ls)
+pub own_part : (ls : List ForkLock) (r first last : ℕ) → IsBefore ls r first → IsBehind ls r last → (slice_range ls first last ≡ filter (λ l. l.reference == r) ls) × (take first ls ++ drop last ls ≡ without_holder r ls)
 own_part [] r zero zero a b = (refl, refl)
 own_part [] r zero (suc last) a b = absurd (omega (arith, b.within))
 own_part [] r (suc first) last a b = absurd (omega (arith, a.within))
@@ -199,7 +199,7 @@ own_part (l ∷ ls) r (suc first) (suc last) a b =
     )
 
 -- ---- a lock that is set
-apart_new : (new : Lock) (ls : List Lock) → list_any (λ l. are_overlapping l new) ls ≡ false → are_apart are_overlapping ls ≡ true → are_apart are_overlapping (with_lock new ls) ≡ true
+apart_new : (new : ForkLock) (ls : List ForkLock) → list_any (λ l. are_overlapping l new) ls ≡ false → are_apart are_overlapping ls ≡ true → are_apart are_overlapping (with_lock new ls) ≡ true
 apart_new new [] none h = refl
 apart_new new (l ∷ ls) none h =
     let parts = or_parts (are_overlapping l new) (list_any (λ x. are_overlapping x new) ls) none in
@@ -209,10 +209,10 @@ apart_new new (l ∷ ls) none h =
       | false ↦ and_from _ _ (ap not (any_new (are_overlapping l) new ls ∙ (λ i. parts.0 i || not_true (list_any (are_overlapping l) ls) rest.0 i))) (apart_new new ls parts.1 rest.1)
     ]
   where
-    turns : (a b : Lock) → are_overlapping a b ≡ are_overlapping b a
+    turns : (a b : ForkLock) → are_overlapping a b ≡ are_overlapping b a
     turns a b = λ i. either_way a.fork b.fork i && and_turns (nat_le a.range.from b.range.to) (nat_le b.range.from a.range.to) i
 
-not_met : {locks : List Lock} {fork : Fork} {rows : List LockRow} {r : ℕ} {range : Range} {seen : Seen} → AreIntervals locks fork rows → IsSeen rows r range seen → seen.other ≡ false → seen.own ≡ false → list_any (λ row. do_meet row.range range) rows ≡ false
+not_met : {locks : List ForkLock} {fork : Fork} {rows : List LockRow} {r : ℕ} {range : Range} {seen : Seen} → AreIntervals locks fork rows → IsSeen rows r range seen → seen.other ≡ false → seen.own ≡ false → list_any (λ row. do_meet row.range range) rows ≡ false
 not_met {rows = rows} {r = r} {range = range} i s other own = neither rows (sym s.other ∙ other) (sym (s.own other) ∙ own)
   where
     neither : (rows : List LockRow) → list_any (λ row. do_meet row.range range && not (row.reference.0 == r)) rows ≡ false → list_any (λ row. do_meet row.range range && (row.reference.0 == r)) rows ≡ false → list_any (λ row. do_meet row.range range) rows ≡ false
@@ -291,7 +291,7 @@ ordered_new rows range reference seen row range_is o s ordered none =
         none_at (x ∷ xs) (suc i) d h none = none_at xs i d (omega arith) (or_parts (do_meet x.range range) _ none).1
 
 -- what a lock is set on
-pub record Set (locks new_locks : List Lock) (forks new_forks : List (Fork × List LockRow)) (rows : List LockRow) (fork : Fork) (r : ℕ) (range : Range) (seen : Seen) : Type 0 where
+pub record Set (locks new_locks : List ForkLock) (forks new_forks : List (Fork × List LockRow)) (rows : List LockRow) (fork : Fork) (r : ℕ) (range : Range) (seen : Seen) : Type 0 where
   pub was : IsLockTable locks forks
   pub rows_are : rows ≡ rows_at forks fork
   pub looked : IsSeen rows r range seen
@@ -301,8 +301,8 @@ pub record Set (locks new_locks : List Lock) (forks new_forks : List (Fork × Li
   pub new_list : new_locks ≡ with_lock (record { reference = r; fork = fork; range = range }) locks
   pub new_order : IsNonDecreasingBy holder_of new_locks
 
-module _ {locks new_locks : List Lock} {forks new_forks : List (Fork × List LockRow)} {rows : List LockRow} {fork : Fork} {r : ℕ} {range : Range} {seen : Seen} (s : Set locks new_locks forks new_forks rows fork r range seen) where
-  abbrev new : Lock
+module _ {locks new_locks : List ForkLock} {forks new_forks : List (Fork × List LockRow)} {rows : List LockRow} {fork : Fork} {r : ℕ} {range : Range} {seen : Seen} (s : Set locks new_locks forks new_forks rows fork r range seen) where
+  abbrev new : ForkLock
   new = record { reference = r; fork = fork; range = range }
 
   abbrev row : LockRow
@@ -314,7 +314,7 @@ module _ {locks new_locks : List Lock} {forks new_forks : List (Fork × List Loc
   none : list_any (λ x. do_meet x.range range) (rows_at forks fork) ≡ false
   none = not_met (s.was.intervals fork) looked s.other s.own
 
-  abbrev has : Fork → LockRow → Lock → Bool
+  abbrev has : Fork → LockRow → ForkLock → Bool
   has q x l = is_one_fork l.fork q && is_row x l
 
   here : (q : Fork) → is_one_fork fork q ≡ true → AreIntervals new_locks q (insert (rows_at forks fork) seen.place row)
@@ -341,13 +341,13 @@ module _ {locks new_locks : List Lock} {forks new_forks : List (Fork × List Loc
   }
 
 -- what was looked at
-pub record Looked (locks whole : List Lock) (forks : List (Fork × List LockRow)) (rows : List LockRow) (fork : Fork) (r : ℕ) (range : Range) (seen : Seen) : Type 0 where
+pub record Looked (locks whole : List ForkLock) (forks : List (Fork × List LockRow)) (rows : List LockRow) (fork : Fork) (r : ℕ) (range : Range) (seen : Seen) : Type 0 where
   pub was : IsLockTable locks forks
   pub shown : locks ≡ whole
   pub rows_are : rows ≡ rows_at forks fork
   pub looked : IsSeen rows r range seen
 
-module _ {locks whole : List Lock} {forks : List (Fork × List LockRow)} {rows : List LockRow} {fork : Fork} {r : ℕ} {range : Range} {seen : Seen} (l : Looked locks whole forks rows fork r range seen) where
+module _ {locks whole : List ForkLock} {forks : List (Fork × List LockRow)} {rows : List LockRow} {fork : Fork} {r : ℕ} {range : Range} {seen : Seen} (l : Looked locks whole forks rows fork r range seen) where
   there_rows : AreIntervals locks fork rows
   there_rows = subst (AreIntervals locks fork) (sym l.rows_are) (l.was.intervals fork)
 
@@ -363,21 +363,21 @@ module _ {locks whole : List Lock} {forks : List (Fork × List LockRow)} {rows :
   pub is_overlap : seen.other ≡ false → seen.own ≡ true → lock_refusal whole fork r range ≡ Some Overlap
   is_overlap other own = λ i. first_holding ((other_is false other i, Locked) ∷ (own_is other true own i, Overlap) ∷ (nat_le most_locks (count_held r whole), Full) ∷ [])
 
-  full_is : (n : ℕ) (given : List Lock) → given ≡ locks → n ≡ count_held r given → (b : Bool) → nat_le most_locks n ≡ b → nat_le most_locks (count_held r whole) ≡ b
+  full_is : (n : ℕ) (given : List ForkLock) → given ≡ locks → n ≡ count_held r given → (b : Bool) → nat_le most_locks n ≡ b → nat_le most_locks (count_held r whole) ≡ b
   full_is n given given_is n_is b is = sym (ap (nat_le most_locks) (n_is ∙ ap (count_held r) (given_is ∙ l.shown))) ∙ is
 
-  pub is_full : (n : ℕ) (given : List Lock) → seen.other ≡ false → seen.own ≡ false → given ≡ locks → n ≡ count_held r given → 1024 ≤ n → lock_refusal whole fork r range ≡ Some Full
+  pub is_full : (n : ℕ) (given : List ForkLock) → seen.other ≡ false → seen.own ≡ false → given ≡ locks → n ≡ count_held r given → 1024 ≤ n → lock_refusal whole fork r range ≡ Some Full
   is_full n given other own given_is n_is enough =
       let is : nat_le most_locks n ≡ true = grind (arith, nat_tests) in
       λ i. first_holding ((other_is false other i, Locked) ∷ (own_is other false own i, Overlap) ∷ (full_is n given given_is n_is true is i, Full) ∷ [])
 
-  pub is_free : (n : ℕ) (given : List Lock) → seen.other ≡ false → seen.own ≡ false → given ≡ locks → n ≡ count_held r given → n < 1024 → lock_refusal whole fork r range ≡ None
+  pub is_free : (n : ℕ) (given : List ForkLock) → seen.other ≡ false → seen.own ≡ false → given ≡ locks → n ≡ count_held r given → n < 1024 → lock_refusal whole fork r range ≡ None
   is_free n given other own given_is n_is few =
       let is : nat_le most_locks n ≡ false = grind (arith, nat_tests) in
       λ i. first_holding ((other_is false other i, Locked) ∷ (own_is other false own i, Overlap) ∷ (full_is n given given_is n_is false is i, Full) ∷ [])
 
 -- a lock goes into the list behind those of its reference
-pub listed : {list reserved given new : List Lock} {place : ℕ} (held : Lock) (b : Bool) → IsNonDecreasingBy holder_of list → reserved ≡ list → given ≡ reserved → IsBehind given held.reference place → b ≡ true → new ≡ (if b then insert reserved place held else reserved)
+pub listed : {list reserved given new : List ForkLock} {place : ℕ} (held : ForkLock) (b : Bool) → IsNonDecreasingBy holder_of list → reserved ≡ list → given ≡ reserved → IsBehind given held.reference place → b ≡ true → new ≡ (if b then insert reserved place held else reserved)
     → (new ≡ with_lock held list) × IsNonDecreasingBy holder_of new
 listed {list} {reserved} {given} {new} {place} held b order reserved_is given_is behind b_is new_is =
     let there : IsBehind list held.reference place = subst (λ l. IsBehind l held.reference place) (given_is ∙ reserved_is) behind in
@@ -410,13 +410,13 @@ any_filter p keep (x ∷ xs) = elim (keep x) as (λ b. list_any p (if b then x �
     off true = refl
     off false = refl
 
-none_filter : (p keep : Lock → Bool) (ls : List Lock) → list_any p ls ≡ false → list_any p (filter keep ls) ≡ false
+none_filter : (p keep : ForkLock → Bool) (ls : List ForkLock) → list_any p ls ≡ false → list_any p (filter keep ls) ≡ false
 none_filter p keep [] h = refl
 none_filter p keep (l ∷ ls) h =
     let parts = or_parts (p l) (list_any p ls) h in
     elim (keep l) as (λ b. list_any p (if b then l ∷ filter keep ls else filter keep ls) ≡ false) [ true ↦ (λ i. parts.0 i || none_filter p keep ls parts.1 i) | false ↦ none_filter p keep ls parts.1 ]
 
-apart_filter : (keep : Lock → Bool) (ls : List Lock) → are_apart are_overlapping ls ≡ true → are_apart are_overlapping (filter keep ls) ≡ true
+apart_filter : (keep : ForkLock → Bool) (ls : List ForkLock) → are_apart are_overlapping ls ≡ true → are_apart are_overlapping (filter keep ls) ≡ true
 apart_filter keep [] h = refl
 apart_filter keep (l ∷ ls) h =
     let parts = and_parts (not (list_any (are_overlapping l) ls)) (are_apart are_overlapping ls) h in
@@ -446,13 +446,13 @@ order_filter keep rows o = record {
 }
 
 -- where the list and the rows of each fork lose alike, all is kept
-pub record Lost (locks new_locks : List Lock) (forks new_forks : List (Fork × List LockRow)) (keep : Lock → Bool) (stays : Fork → LockRow → Bool) : Type 0 where
+pub record Lost (locks new_locks : List ForkLock) (forks new_forks : List (Fork × List LockRow)) (keep : ForkLock → Bool) (stays : Fork → LockRow → Bool) : Type 0 where
   pub was : IsLockTable locks forks
   pub new_list : new_locks ≡ filter keep locks
   pub new_rows : (q : Fork) → rows_at new_forks q ≡ filter (stays q) (rows_at forks q)
-  pub alike : (q : Fork) (l : Lock) → is_one_fork l.fork q ≡ true → stays q (row_of l) ≡ keep l
+  pub alike : (q : Fork) (l : ForkLock) → is_one_fork l.fork q ≡ true → stays q (row_of l) ≡ keep l
 
-pub lost_kept : {locks new_locks : List Lock} {forks new_forks : List (Fork × List LockRow)} {keep : Lock → Bool} {stays : Fork → LockRow → Bool} → Lost locks new_locks forks new_forks keep stays → IsLockTable new_locks new_forks
+pub lost_kept : {locks new_locks : List ForkLock} {forks new_forks : List (Fork × List LockRow)} {keep : ForkLock → Bool} {stays : Fork → LockRow → Bool} → Lost locks new_locks forks new_forks keep stays → IsLockTable new_locks new_forks
 lost_kept {locks} {new_locks} {forks} {new_forks} {keep} {stays} l = record {
   order = subst (IsNonDecreasingBy holder_of) (sym l.new_list) (IsNonDecreasingBy-filter holder_of keep locks l.was.order);
   apart = ap (are_apart are_overlapping) l.new_list ∙ apart_filter keep locks l.was.apart;
@@ -472,7 +472,7 @@ lost_kept {locks} {new_locks} {forks} {new_forks} {keep} {stays} l = record {
     regroup false b c d same = refl
 
 -- a lock that goes
-pub lock_alike : (fork : Fork) (row : LockRow) (q : Fork) (l : Lock) → is_one_fork l.fork q ≡ true → (if is_one_fork fork q then not (are_one_row row (row_of l)) else true) ≡ not (is_lock fork row.reference.0 row.range l)
+pub lock_alike : (fork : Fork) (row : LockRow) (q : Fork) (l : ForkLock) → is_one_fork l.fork q ≡ true → (if is_one_fork fork q then not (are_one_row row (row_of l)) else true) ≡ not (is_lock fork row.reference.0 row.range l)
 lock_alike fork row q l on = ap (λ f. if is_one_fork fork f then not (are_one_row row (row_of l)) else true) (sym (same_fork l.fork q on)) ∙ ap (λ t. if t then not (are_one_row row (row_of l)) else true) (either_way fork l.fork)
     ∙ elim (is_one_fork l.fork fork) as (λ t. (if t then not (are_one_row row (row_of l)) else true) ≡ not (t && ((l.reference == row.reference.0) && ((l.range.from == row.range.from) && (l.range.to == row.range.to))))) [
       | true ↦ ap not (λ i. turn row.reference.0 l.reference i && (turn row.range.from l.range.from i && turn row.range.to l.range.to i))
@@ -495,7 +495,7 @@ taken_rows forks new_forks fork keep new_is q = new_is q ∙ elim (is_one_fork f
 ] refl
 
 -- of locks no two of which overlap, one alone has those ends
-alike_overlap : (fork : Fork) (r : ℕ) (range : Range) (a b : Lock) → range.from ≤ range.to → is_lock fork r range a ≡ true → is_lock fork r range b ≡ true → are_overlapping a b ≡ true
+alike_overlap : (fork : Fork) (r : ℕ) (range : Range) (a b : ForkLock) → range.from ≤ range.to → is_lock fork r range a ≡ true → is_lock fork r range b ≡ true → are_overlapping a b ≡ true
 alike_overlap fork r range a b ordered is_a is_b =
     let p = and_parts (is_one_fork a.fork fork) ((a.reference == r) && ((a.range.from == range.from) && (a.range.to == range.to))) is_a in
     let p_ends = and_parts (a.range.from == range.from) (a.range.to == range.to) (and_parts (a.reference == r) _ p.1).1 in
@@ -511,13 +511,13 @@ alike_overlap fork r range a b ordered is_a is_b =
     is_at_most : (m n : ℕ) → m ≤ n → nat_le m n ≡ true
     is_at_most m n h = grind (arith, nat_tests)
 
-pub remove_one : (fork : Fork) (r : ℕ) (range : Range) (ls : List Lock) (place : ℕ) → range.from ≤ range.to → are_apart are_overlapping ls ≡ true → place < length ls → ((d : Lock) → is_lock fork r range (slice_index_or ls place d) ≡ true) → remove ls place ≡ filter (λ l. not (is_lock fork r range l)) ls
+pub remove_one : (fork : Fork) (r : ℕ) (range : Range) (ls : List ForkLock) (place : ℕ) → range.from ≤ range.to → are_apart are_overlapping ls ≡ true → place < length ls → ((d : ForkLock) → is_lock fork r range (slice_index_or ls place d) ≡ true) → remove ls place ≡ filter (λ l. not (is_lock fork r range l)) ls
 remove_one fork r range [] place ordered apart within is = absurd (omega arith)
 remove_one fork r range (l ∷ ls) zero ordered apart within is =
     others ls (not_true (list_any (are_overlapping l) ls) (and_parts (not (list_any (are_overlapping l) ls)) (are_apart are_overlapping ls) apart).0)
     ∙ ap (λ b. if not b then l ∷ filter (λ x. not (is_lock fork r range x)) ls else filter (λ x. not (is_lock fork r range x)) ls) (sym (is l))
   where
-    others : (xs : List Lock) → list_any (are_overlapping l) xs ≡ false → xs ≡ filter (λ x. not (is_lock fork r range x)) xs
+    others : (xs : List ForkLock) → list_any (are_overlapping l) xs ≡ false → xs ≡ filter (λ x. not (is_lock fork r range x)) xs
     others [] none = refl
     others (x ∷ xs) none =
         let parts = or_parts (are_overlapping l x) (list_any (are_overlapping l) xs) none in
@@ -534,7 +534,7 @@ remove_one fork r range (l ∷ ls) (suc place) ordered apart within is =
     ∙ ap (λ b. if not b then l ∷ filter (λ x. not (is_lock fork r range x)) ls else filter (λ x. not (is_lock fork r range x)) ls) (sym other)
 
 -- the bytes of a lock that is kept end where they begin or behind it
-bytes_in_order : {locks : List Lock} {forks : List (Fork × List LockRow)} (place : ℕ) (d : Lock) → IsLockTable locks forks → place < length locks → nat_le (slice_index_or locks place d).range.from (slice_index_or locks place d).range.to ≡ true
+bytes_in_order : {locks : List ForkLock} {forks : List (Fork × List LockRow)} (place : ℕ) (d : ForkLock) → IsLockTable locks forks → place < length locks → nat_le (slice_index_or locks place d).range.from (slice_index_or locks place d).range.to ≡ true
 bytes_in_order {locks} {forks} place d k within =
     let q : Fork = (slice_index_or locks place d).fork in
     elim (nat_le (slice_index_or locks place d).range.from (slice_index_or locks place d).range.to) as (λ b. nat_le (slice_index_or locks place d).range.from (slice_index_or locks place d).range.to ≡ b → b ≡ true) [
@@ -549,9 +549,9 @@ bytes_in_order {locks} {forks} place d k within =
     falls row = not (nat_le row.range.from row.range.to)
 
 -- the list without the lock at its place
-pub one_taken : {locks given new_locks : List Lock} {forks : List (Fork × List LockRow)} (fork : Fork) (r : ℕ) (range : Range) (place : ℕ) → IsLockTable locks forks → given ≡ locks → IsPlaceOf given fork r range (Some place) → new_locks ≡ remove locks place → new_locks ≡ filter (λ l. not (is_lock fork r range l)) locks
+pub one_taken : {locks given new_locks : List ForkLock} {forks : List (Fork × List LockRow)} (fork : Fork) (r : ℕ) (range : Range) (place : ℕ) → IsLockTable locks forks → given ≡ locks → IsPlaceOf given fork r range (Some place) → new_locks ≡ remove locks place → new_locks ≡ filter (λ l. not (is_lock fork r range l)) locks
 one_taken {locks} {given} fork r range place k same is new_is =
-    let any : Lock = record { reference = r; fork = fork; range = range } in
+    let any : ForkLock = record { reference = r; fork = fork; range = range } in
     let there = subst (λ ls. IsPlaceOf ls fork r range (Some place)) same is in
     let ends = and_parts ((slice_index_or locks place any).range.from == range.from) ((slice_index_or locks place any).range.to == range.to) (and_parts _ _ (and_parts _ _ (there.1 any)).1).1 in
     new_is ∙ remove_one fork r range locks place (in_order _ _ _ _ (bytes_in_order place any k there.0) ends.0 ends.1) k.apart there.0 there.1
@@ -559,16 +559,16 @@ one_taken {locks} {given} fork r range place k same is new_is =
     in_order : (a b m n : ℕ) → nat_le a b ≡ true → (a == m) ≡ true → (b == n) ≡ true → m ≤ n
     in_order a b m n h from to = let e = one_number a m from in let f = one_number b n to in grind (arith, nat_tests, h, e, f)
 
-pub is_there : {given whole : List Lock} (fork : Fork) (r : ℕ) (range : Range) (place : ℕ) → given ≡ whole → IsPlaceOf given fork r range (Some place) → has_lock whole fork r range ≡ true
+pub is_there : {given whole : List ForkLock} (fork : Fork) (r : ℕ) (range : Range) (place : ℕ) → given ≡ whole → IsPlaceOf given fork r range (Some place) → has_lock whole fork r range ≡ true
 is_there {given} {whole} fork r range place same is =
-    let any : Lock = record { reference = r; fork = fork; range = range } in
+    let any : ForkLock = record { reference = r; fork = fork; range = range } in
     sym (ap (list_any (is_lock fork r range)) same) ∙ list_any_at (is_lock fork r range) given place any is.0 (is.1 any)
 
 -- what stands at the first place that passes, and where none does
-pub place_passes : (p : Lock → Bool) (ls : List Lock) (place : ℕ) (any : Lock) → Some place ≡ position p ls → (place < length ls) × ((d : Lock) → p (slice_index_or ls place d) ≡ true)
+pub place_passes : (p : ForkLock → Bool) (ls : List ForkLock) (place : ℕ) (any : ForkLock) → Some place ≡ position p ls → (place < length ls) × ((d : ForkLock) → p (slice_index_or ls place d) ≡ true)
 place_passes p ls place any is = ((position-Some p ls place any (sym is)).0, λ d. (position-Some p ls place d (sym is)).1)
 
-pub none_passes : (p : Lock → Bool) (ls : List Lock) → None ≡ position p ls → list_any p ls ≡ false
+pub none_passes : (p : ForkLock → Bool) (ls : List ForkLock) → None ≡ position p ls → list_any p ls ≡ false
 none_passes p ls is = elim (nat_lt (position_or_len p ls) (length ls)) as (λ b. nat_lt (position_or_len p ls) (length ls) ≡ b → None ≡ cond b (Some (position_or_len p ls)) None → list_any p ls ≡ false) [
   | true ↦ λ inside some. absurd (none-some (position_or_len p ls) some)
   | false ↦ λ outside _. elim (list_any p ls) as (λ b. list_any p ls ≡ b → b ≡ false) [
@@ -581,13 +581,13 @@ none_passes p ls is = elim (nat_lt (position_or_len p ls) (length ls)) as (λ b.
 ] refl is
 
 -- a lock is in the list where it is among those of its reference
-pub found : {list own : List Lock} (fork : Fork) (r : ℕ) (range : Range) (first last place : ℕ) → IsBefore list r first → IsBehind list r last → own ≡ slice_range list first last → IsPlaceOf own fork r range (Some place) → IsPlaceOf list fork r range (Some (first + place))
+pub found : {list own : List ForkLock} (fork : Fork) (r : ℕ) (range : Range) (first last place : ℕ) → IsBefore list r first → IsBehind list r last → own ≡ slice_range list first last → IsPlaceOf own fork r range (Some place) → IsPlaceOf list fork r range (Some (first + place))
 found {list} {own} fork r range first last place before behind given is =
     let len = ap length given ∙ length-between list first last behind.within in
     let inside : first + place < last = omega (arith, len, is.0) in
     (omega (arith, behind.within), λ d. ap (is_lock fork r range) (sym (ap (λ l. slice_index_or l place d) given ∙ get_or-between list first last place d inside)) ∙ is.1 d)
 
-pub not_found : {list own : List Lock} (fork : Fork) (r : ℕ) (range : Range) (first last : ℕ) → IsBefore list r first → IsBehind list r last → own ≡ slice_range list first last → IsPlaceOf own fork r range None → IsPlaceOf list fork r range None
+pub not_found : {list own : List ForkLock} (fork : Fork) (r : ℕ) (range : Range) (first last : ℕ) → IsBefore list r first → IsBehind list r last → own ≡ slice_range list first last → IsPlaceOf own fork r range None → IsPlaceOf list fork r range None
 not_found {list} {own} fork r range first last before behind given is =
     sym (ap (list_any (is_lock fork r range)) (given ∙ (own_part list r first last before behind).0) ∙ any_filter (is_lock fork r range) (λ l. l.reference == r) list
     ∙ any_gives (λ l. is_lock fork r range l && (l.reference == r)) (is_lock fork r range) list (λ l. again (is_one_fork l.fork fork) (l.reference == r) ((l.range.from == range.from) && (l.range.to == range.to))))
@@ -617,16 +617,16 @@ stay_twice r (x ∷ xs) = elim (x.reference.0 == r) as (λ b. x.reference.0 == r
 ] refl
 
 -- the list without the part where they stand
-pub part_gone : {locks new_locks kept : List Lock} (r first last : ℕ) → IsBefore locks r first → IsBehind locks r last → new_locks ≡ kept → kept ≡ take first locks ++ drop last locks → new_locks ≡ without_holder r locks
+pub part_gone : {locks new_locks kept : List ForkLock} (r first last : ℕ) → IsBefore locks r first → IsBehind locks r last → new_locks ≡ kept → kept ≡ take first locks ++ drop last locks → new_locks ≡ without_holder r locks
 part_gone {locks} r first last before behind new_is kept_is = new_is ∙ kept_is ∙ (own_part locks r first last before behind).1
 
-pub no_part : (locks : List Lock) (r first last : ℕ) → IsBefore locks r first → IsBehind locks r last → last ≤ first → locks ≡ without_holder r locks
+pub no_part : (locks : List ForkLock) (r first last : ℕ) → IsBefore locks r first → IsBehind locks r last → last ≤ first → locks ≡ without_holder r locks
 no_part locks r first last before behind low =
     let count = count_between locks r first last before behind in
     let same : last ≡ first = omega (arith, count, low) in
     sym (ap (λ n. take first locks ++ drop n locks) same ∙ take-append-drop first locks) ∙ (own_part locks r first last before behind).1
 
-pub cleared : {locks own : List Lock} {forks : List (Fork × List LockRow)} (new_forks : List (Fork × List LockRow)) (r first last : ℕ) → IsLockTable locks forks → IsBefore locks r first → IsBehind locks r last → own ≡ slice_range locks first last
+pub cleared : {locks own : List ForkLock} {forks : List (Fork × List LockRow)} (new_forks : List (Fork × List LockRow)) (r first last : ℕ) → IsLockTable locks forks → IsBefore locks r first → IsBehind locks r last → own ≡ slice_range locks first last
     → ((q : Fork) → rows_at new_forks q ≡ (if is_among own q then filter (stays_of r) (rows_at forks q) else rows_at forks q)) → (q : Fork) → rows_at new_forks q ≡ filter (stays_of r) (rows_at forks q)
 cleared {locks} {own} {forks} new_forks r first last k before behind given new_is q = new_is q ∙ elim (is_among own q) as (λ b. is_among own q ≡ b → (if b then filter (stays_of r) (rows_at forks q) else rows_at forks q) ≡ filter (stays_of r) (rows_at forks q)) [
   | true ↦ λ is. refl
@@ -643,13 +643,13 @@ or_all true = refl
 or_all false = refl
 
 -- the rows of a reference after the first so many of its locks
-abbrev pub are_cleared : ℕ → List Lock → List (Fork × List LockRow) → Fork → List LockRow
+abbrev pub are_cleared : ℕ → List ForkLock → List (Fork × List LockRow) → Fork → List LockRow
 are_cleared r ls forks q = if is_among ls q then filter (stays_of r) (rows_at forks q) else rows_at forks q
 
-among_more : (ls : List Lock) (i : ℕ) (x : Lock) (q : Fork) → i < length ls → x ≡ slice_index_or ls i x → is_among (take (i + 1) ls) q ≡ (is_among (take i ls) q || is_one_fork x.fork q)
+among_more : (ls : List ForkLock) (i : ℕ) (x : ForkLock) (q : Fork) → i < length ls → x ≡ slice_index_or ls i x → is_among (take (i + 1) ls) q ≡ (is_among (take i ls) q || is_one_fork x.fork q)
 among_more ls i x q within read = list_any_more (λ l. is_one_fork l.fork q) ls i x within ∙ ap (λ l. is_among (take i ls) q || is_one_fork l.fork q) (sym read)
 
-pub clear_step : (ls : List Lock) (i : ℕ) (x : Lock) (r : ℕ) (first mid after : List (Fork × List LockRow)) (fork : Fork) → i < length ls → x ≡ slice_index_or ls i x → fork ≡ x.fork → ((q : Fork) → rows_at mid q ≡ are_cleared r (take i ls) first q)
+pub clear_step : (ls : List ForkLock) (i : ℕ) (x : ForkLock) (r : ℕ) (first mid after : List (Fork × List LockRow)) (fork : Fork) → i < length ls → x ≡ slice_index_or ls i x → fork ≡ x.fork → ((q : Fork) → rows_at mid q ≡ are_cleared r (take i ls) first q)
     → ((q : Fork) → rows_at after q ≡ (if is_one_fork fork q then filter (stays_of r) (rows_at mid fork) else rows_at mid q))
     → (q : Fork) → rows_at after q ≡ are_cleared r (take (i + 1) ls) first q
 clear_step ls i x r first mid after fork within read fork_is before now_is q =
@@ -664,7 +664,7 @@ clear_step ls i x r first mid after fork within read fork_is before now_is q =
     ∙ ap (λ t. if t then filter (stays_of r) (rows_at first q) else rows_at first q) (sym (among_more ls i x q within read))
 
 -- a fork that an earlier lock was on has no such row any more
-pub clear_skip : (ls : List Lock) (i : ℕ) (x : Lock) (r : ℕ) (first mid : List (Fork × List LockRow)) (fork : Fork) → i < length ls → x ≡ slice_index_or ls i x → fork ≡ x.fork → is_among (take i ls) fork ≡ true → ((q : Fork) → rows_at mid q ≡ are_cleared r (take i ls) first q)
+pub clear_skip : (ls : List ForkLock) (i : ℕ) (x : ForkLock) (r : ℕ) (first mid : List (Fork × List LockRow)) (fork : Fork) → i < length ls → x ≡ slice_index_or ls i x → fork ≡ x.fork → is_among (take i ls) fork ≡ true → ((q : Fork) → rows_at mid q ≡ are_cleared r (take i ls) first q)
     → (q : Fork) → rows_at mid q ≡ are_cleared r (take (i + 1) ls) first q
 clear_skip ls i x r first mid fork within read fork_is earlier before q =
     before q ∙ ap (λ t. if t then filter (stays_of r) (rows_at first q) else rows_at first q)
@@ -674,19 +674,19 @@ clear_skip ls i x r first mid fork within read fork_is earlier before q =
     ] refl))
 
 -- ---- two forks change places
-exchange_any : (a b q : Fork) (y : LockRow) (ls : List Lock) → list_any (λ l. is_one_fork l.fork q && is_row y l) (exchanged_locks a b ls) ≡ list_any (λ l. is_one_fork l.fork (in_exchange a b q) && is_row y l) ls
+exchange_any : (a b q : Fork) (y : LockRow) (ls : List ForkLock) → list_any (λ l. is_one_fork l.fork q && is_row y l) (exchanged_locks a b ls) ≡ list_any (λ l. is_one_fork l.fork (in_exchange a b q) && is_row y l) ls
 exchange_any a b q y [] = refl
 exchange_any a b q y (l ∷ ls) = λ i. (crosses a b l.fork q i && is_row y l) || exchange_any a b q y ls i
 
-exchange_apart : (a b : Fork) (ls : List Lock) → are_apart are_overlapping (exchanged_locks a b ls) ≡ are_apart are_overlapping ls
+exchange_apart : (a b : Fork) (ls : List ForkLock) → are_apart are_overlapping (exchanged_locks a b ls) ≡ are_apart are_overlapping ls
 exchange_apart a b [] = refl
 exchange_apart a b (l ∷ ls) = λ i. not (same ls i) && exchange_apart a b ls i
   where
-    same : (ls : List Lock) → list_any (are_overlapping (exchange_lock a b l)) (exchanged_locks a b ls) ≡ list_any (are_overlapping l) ls
+    same : (ls : List ForkLock) → list_any (are_overlapping (exchange_lock a b l)) (exchanged_locks a b ls) ≡ list_any (are_overlapping l) ls
     same [] = refl
     same (x ∷ xs) = λ i. (both_cross a b l.fork x.fork i && do_meet l.range x.range) || same xs i
 
-pub exchange_kept : {locks new_locks : List Lock} {forks new_forks : List (Fork × List LockRow)} (a b : Fork) → IsLockTable locks forks → new_locks ≡ exchanged_locks a b locks → IsNonDecreasingBy holder_of (exchanged_locks a b locks) → ((q : Fork) → at fork_cmp new_forks q ≡ exchanged fork_cmp (at fork_cmp forks) a b q) → IsLockTable new_locks new_forks
+pub exchange_kept : {locks new_locks : List ForkLock} {forks new_forks : List (Fork × List LockRow)} (a b : Fork) → IsLockTable locks forks → new_locks ≡ exchanged_locks a b locks → IsNonDecreasingBy holder_of (exchanged_locks a b locks) → ((q : Fork) → at fork_cmp new_forks q ≡ exchanged fork_cmp (at fork_cmp forks) a b q) → IsLockTable new_locks new_forks
 exchange_kept {locks} {new_locks} {forks} {new_forks} a b k list_is order new_is = record {
   order = subst (IsNonDecreasingBy holder_of) (sym list_is) order;
   apart = ap (are_apart are_overlapping) list_is ∙ exchange_apart a b locks ∙ k.apart;
@@ -698,7 +698,7 @@ exchange_kept {locks} {new_locks} {forks} {new_forks} a b k list_is order new_is
       });
 }
 
-pub exchange_order : (a b : Fork) (ls : List Lock) → IsNonDecreasingBy holder_of ls → IsNonDecreasingBy holder_of (exchanged_locks a b ls)
+pub exchange_order : (a b : Fork) (ls : List ForkLock) → IsNonDecreasingBy holder_of ls → IsNonDecreasingBy holder_of (exchanged_locks a b ls)
 exchange_order a b ls order = λ i j d low high.
     let len = length_same ls in
     let within : j < length ls = omega (arith, len, high) in
@@ -707,14 +707,14 @@ exchange_order a b ls order = λ i j d low high.
     let g : holder_of (slice_index_or ls i d) ≤ holder_of (slice_index_or ls j d) = order i j d low within in
     omega (arith, e, f, g)
   where
-    length_same : (ls : List Lock) → length (exchanged_locks a b ls) ≡ length ls
+    length_same : (ls : List ForkLock) → length (exchanged_locks a b ls) ≡ length ls
     length_same [] = refl
     length_same (l ∷ ls) = ap suc (length_same ls)
 
-    holder_same : (ls : List Lock) (i : ℕ) (d : Lock) → i < length ls → holder_of (slice_index_or (exchanged_locks a b ls) i d) ≡ holder_of (slice_index_or ls i d)
+    holder_same : (ls : List ForkLock) (i : ℕ) (d : ForkLock) → i < length ls → holder_of (slice_index_or (exchanged_locks a b ls) i d) ≡ holder_of (slice_index_or ls i d)
     holder_same [] i d h = absurd (omega arith)
     holder_same (l ∷ ls) zero d h = refl
     holder_same (l ∷ ls) (suc i) d h = holder_same ls i d (omega arith)
 
-pub exchange_more : (a b : Fork) (first ys : List Lock) (i : ℕ) (x put : Lock) → i < length first → ys ≡ map (exchange_lock a b) (take i first) ++ drop i first → x ≡ slice_index_or ys i x → put ≡ exchange_lock a b x → slice_set ys i put ≡ map (exchange_lock a b) (take (i + 1) first) ++ drop (i + 1) first
+pub exchange_more : (a b : Fork) (first ys : List ForkLock) (i : ℕ) (x put : ForkLock) → i < length first → ys ≡ map (exchange_lock a b) (take i first) ++ drop i first → x ≡ slice_index_or ys i x → put ≡ exchange_lock a b x → slice_set ys i put ≡ map (exchange_lock a b) (take (i + 1) first) ++ drop (i + 1) first
 exchange_more a b first ys i x put within ys_is read put_is = ap (slice_set ys i) put_is ∙ map_over_more (exchange_lock a b) first ys i x within ys_is read

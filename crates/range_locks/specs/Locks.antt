@@ -12,29 +12,29 @@ use Rattle.range_locks.specs.declared.fault.NotLocked.{NotLocked}
 use Rattle.range_locks.specs.declared.rows.LockRow.{LockRow}
 
 -- a lock: the reference that holds it, the fork, and its bytes
-pub record Lock : Type 0 where
+pub record ForkLock : Type 0 where
   pub reference : ℕ
   pub fork : Fork
   pub range : Range
 
 -- two locks on one fork share a byte
-abbrev pub are_overlapping : Lock → Lock → Bool
+abbrev pub are_overlapping : ForkLock → ForkLock → Bool
 are_overlapping a b = do_overlap a.fork a.range b.fork b.range
 
 -- another reference's lock on the fork shares a byte with the range
-abbrev pub is_met_by_other : List Lock → Fork → ℕ → Range → Bool
+abbrev pub is_met_by_other : List ForkLock → Fork → ℕ → Range → Bool
 is_met_by_other locks fork reference range = list_any (λ l. do_overlap l.fork l.range fork range && not (l.reference == reference)) locks
 
 -- the reference's own lock on the fork does
-abbrev pub is_met_by_own : List Lock → Fork → ℕ → Range → Bool
+abbrev pub is_met_by_own : List ForkLock → Fork → ℕ → Range → Bool
 is_met_by_own locks fork reference range = list_any (λ l. do_overlap l.fork l.range fork range && (l.reference == reference)) locks
 
 -- how many locks the reference has
-abbrev pub count_held : ℕ → List Lock → ℕ
+abbrev pub count_held : ℕ → List ForkLock → ℕ
 count_held reference locks = length (filter (λ l. l.reference == reference) locks)
 
 -- the refusals of a lock, in order
-abbrev pub lock_refusal : List Lock → Fork → ℕ → Range → Option LockFault
+abbrev pub lock_refusal : List ForkLock → Fork → ℕ → Range → Option LockFault
 lock_refusal locks fork reference range = first_holding (
     (is_met_by_other locks fork reference range, Locked)
     ∷ (is_met_by_own locks fork reference range, Overlap)
@@ -42,13 +42,13 @@ lock_refusal locks fork reference range = first_holding (
     ∷ [])
 
 -- the locks, which stand by rising reference and for one reference in the order in which they were set, with one more
-abbrev pub with_lock : Lock → List Lock → List Lock
+abbrev pub with_lock : ForkLock → List ForkLock → List ForkLock
 with_lock new [] = new ∷ []
 with_lock new (l ∷ ls) = if nat_lt new.reference l.reference then new ∷ l ∷ ls else l ∷ with_lock new ls
 
 -- What `lock` answers: Ok where nothing refuses it, and the lock is set; else the first refusal, and nothing changes. Want of
 -- memory comes only where nothing refuses it, and changes nothing.
-abbrev pub SetsLock : List Lock → Fork → ℕ → Range → Result (Unit {0}) LockFault → List Lock → Type 0
+abbrev pub SetsLock : List ForkLock → Fork → ℕ → Range → Result (Unit {0}) LockFault → List ForkLock → Type 0
 SetsLock old fork reference range (Ok done) new = (lock_refusal old fork reference range ≡ None) × (new ≡ with_lock (record { reference = reference; fork = fork; range = range }) old)
 SetsLock old fork reference range (Err Locked) new = (lock_refusal old fork reference range ≡ Some Locked) × (new ≡ old)
 SetsLock old fork reference range (Err Overlap) new = (lock_refusal old fork reference range ≡ Some Overlap) × (new ≡ old)
@@ -56,30 +56,30 @@ SetsLock old fork reference range (Err Full) new = (lock_refusal old fork refere
 SetsLock old fork reference range (Err Memory) new = (lock_refusal old fork reference range ≡ None) × (new ≡ old)
 
 -- the lock of that reference on that fork, with exactly these ends
-abbrev pub is_lock : Fork → ℕ → Range → Lock → Bool
+abbrev pub is_lock : Fork → ℕ → Range → ForkLock → Bool
 is_lock fork reference range l = is_one_fork l.fork fork && ((l.reference == reference) && ((l.range.from == range.from) && (l.range.to == range.to)))
 
-abbrev pub has_lock : List Lock → Fork → ℕ → Range → Bool
+abbrev pub has_lock : List ForkLock → Fork → ℕ → Range → Bool
 has_lock locks fork reference range = list_any (is_lock fork reference range) locks
 
 -- What `unlock` answers: Ok exactly where the reference has the lock with these ends, and it goes; else nothing changes.
-abbrev pub TakesLock : List Lock → Fork → ℕ → Range → Result (Unit {0}) NotLocked → List Lock → Type 0
+abbrev pub TakesLock : List ForkLock → Fork → ℕ → Range → Result (Unit {0}) NotLocked → List ForkLock → Type 0
 TakesLock old fork reference range (Ok done) new = (has_lock old fork reference range ≡ true) × (new ≡ filter (λ l. not (is_lock fork reference range l)) old)
 TakesLock old fork reference range (Err fault) new = (has_lock old fork reference range ≡ false) × (new ≡ old)
 
 -- the locks without those of a reference
-abbrev pub without_holder : ℕ → List Lock → List Lock
+abbrev pub without_holder : ℕ → List ForkLock → List ForkLock
 without_holder reference locks = filter (λ l. not (l.reference == reference)) locks
 
 -- each lock on one of two forks made one on the other
-abbrev pub exchange_lock : Fork → Fork → Lock → Lock
+abbrev pub exchange_lock : Fork → Fork → ForkLock → ForkLock
 exchange_lock a b l = record l { fork = in_exchange a b l.fork }
 
-abbrev pub exchanged_locks : Fork → Fork → List Lock → List Lock
+abbrev pub exchanged_locks : Fork → Fork → List ForkLock → List ForkLock
 exchanged_locks a b locks = map (exchange_lock a b) locks
 
 -- a row of a fork is a lock
-abbrev pub is_row : LockRow → Lock → Bool
+abbrev pub is_row : LockRow → ForkLock → Bool
 is_row row l = (row.reference.0 == l.reference) && ((row.range.from == l.range.from) && (row.range.to == l.range.to))
 
 abbrev pub are_one_row : LockRow → LockRow → Bool
@@ -91,6 +91,6 @@ pub record AreInOrder (rows : List LockRow) : Type 0 where
   pub rising : (i j : ℕ) (d : LockRow) → i < j → j < length rows → let a : LockRow = slice_index_or rows i d in let b : LockRow = slice_index_or rows j d in nat_lt a.range.to b.range.from ≡ true
 
 -- The intervals of a fork: by rising start, and exactly its locks.
-pub record AreIntervals (locks : List Lock) (fork : Fork) (rows : List LockRow) : Type 0 where
+pub record AreIntervals (locks : List ForkLock) (fork : Fork) (rows : List LockRow) : Type 0 where
   pub order : AreInOrder rows
   pub same : (row : LockRow) → list_any (are_one_row row) rows ≡ list_any (λ l. is_one_fork l.fork fork && is_row row l) locks

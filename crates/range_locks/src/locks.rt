@@ -1,7 +1,6 @@
 //! The locks of all references.
 ghost use Rattle.std.specs.Prelude.{◌≡◌, ◌==◌, ◌≤◌, [], true, not, filter, if◌then◌else◌, length, take, slice_range};
 ghost use Rattle.afp_base.specs.DenyMode.{Fork};
-ghost use Rattle.deny_modes.specs.Opens.{in_exchange};
 ghost use Rattle.std.specs.List.{position};
 ghost use Rattle.std.specs.List.Sorted.{IsNonDecreasingBy};
 ghost use Rattle.afp_base.specs.Apart.{are_apart};
@@ -12,12 +11,12 @@ use crate::forks::{add_row, rows_of, take_holder, take_row};
 use crate::rows::{LockRow, Rows, look};
 use crate::{LockFault, NotLocked, Range};
 use afp_base::{ForkRef, MOST_LOCKS};
-use deny_modes::ForkKey;
+use deny_modes::{ForkKey, in_exchange};
 use sorted_map::SortedMap;
 use std::alloc::Global;
 use std::marker::Model;
 
-/// A lock. Contracts see it as `Lock`.
+/// A lock. Contracts see it as `ForkLock`.
 #[derive(Clone, Copy)]
 struct HeldLock {
     reference: u16,
@@ -26,9 +25,9 @@ struct HeldLock {
 }
 
 impl Model for HeldLock {
-    ghost use Rattle.range_locks.specs.Locks.{Lock};
+    ghost use Rattle.range_locks.specs.Locks.{ForkLock};
 
-    ghost Value = { Lock };
+    ghost Value = { ForkLock };
 
     ghost view = { λ l. record { reference = l.reference; fork = l.fork; range = l.range } };
 
@@ -80,10 +79,10 @@ pub struct Locks {
 
 impl Model for Locks {
     ghost use Rattle.std.specs.Prelude.{List};
-    ghost use Rattle.range_locks.specs.Locks.{Lock};
+    ghost use Rattle.range_locks.specs.Locks.{ForkLock};
     ghost use Rattle.range_locks.specs.lemma.Kept.{IsLockTable};
 
-    ghost Value = { List Lock };
+    ghost Value = { List ForkLock };
 
     ghost view = { λ l. l.list.items };
 
@@ -193,19 +192,6 @@ impl Locks {
     {
         self.forks.exchange(*a, *b);
         exchange_list(&mut self.list, a, b);
-    }
-}
-
-/// The fork that stands in a fork's place where `a` and `b` change places.
-fn in_exchange(a: &ForkKey, b: &ForkKey, fork: &ForkKey) -> ForkKey
-    ensures { result ≡ in_exchange a.now b.now fork.now }
-{
-    if a == fork {
-        *b
-    } else if b == fork {
-        *a
-    } else {
-        *fork
     }
 }
 

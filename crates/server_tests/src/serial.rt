@@ -3,18 +3,12 @@ use afp_serial::{Ask, House, HouseFault, User};
 use std::alloc::Global;
 use std::test::Fail;
 
-fn bytes_of(alloc: Global, piece: &[u8]) -> Result<Bytes, OutOfMemory> {
-    let mut bytes = Bytes::new(alloc);
-    bytes.extend(piece)?;
-    Ok(bytes)
-}
-
 fn users(alloc: Global) -> Result<Vec<User>, OutOfMemory> {
     let mut users = Vec::new(alloc);
     for (id, name) in [(501, b"ann".as_slice()), (502, b"bob".as_slice())] {
         users.push(User {
             id,
-            name: bytes_of(alloc, name)?,
+            name: Bytes::of(alloc, name)?,
             password: *b"secret\0\0",
         })?;
     }
@@ -25,7 +19,7 @@ fn house(alloc: Global) -> Result<House, HouseFault> {
     let mut volumes = Vec::new(alloc);
     for name in [b"Share".as_slice(), b"Two".as_slice()] {
         volumes
-            .push(bytes_of(alloc, name)?)
+            .push(Bytes::of(alloc, name)?)
             .map_err(OutOfMemory::from)?;
     }
     House::new(
@@ -101,7 +95,7 @@ fn is_copied(ask: Ask) -> Result<bool, OutOfMemory> {
 
 #[test]
 fn a_copy_of_an_ask_is_the_same_ask(rt: HostRuntime) -> Result<(), Fail> {
-    let payload = bytes_of(rt.alloc(), b"FPWrite")?;
+    let payload = Bytes::of(rt.alloc(), b"FPWrite")?;
     let call = Ask::Call {
         id: 7,
         write: true,

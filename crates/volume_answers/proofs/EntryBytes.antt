@@ -1,5 +1,6 @@
 -- An entry is put: its size, whether it can stay, and its bytes.
-use Rattle.std.proofs.Common.{◌≡◌, ◌∙◌, ap, refl, ℕ, zero, suc, ◌+◌, ◌-◌, ◌≤◌, arith, Bool, true, false, cond, List, ◌++◌, length, take, drop, replicate}
+use Rattle.std.proofs.Common.{◌≡◌, ◌∙◌, ap, refl, ℕ, zero, suc, ◌+◌, ◌-◌, ◌^◌, ◌<◌, ◌≤◌, nat_le, min, arith, Bool, true, false, cond, List, ◌++◌, length, take, drop, replicate}
+use Rattle.std.proofs.lemmas.Bool.{and_parts, leb-true}
 use Rattle.std.proofs.Math.Seq.{take-append_seam, drop-append-add}
 use Rattle.std.proofs.lemmas.List.{append_assoc, length-append}
 use Rattle.byteorder.specs.Endian.{big_bytes}
@@ -11,9 +12,11 @@ use Rattle.afp_replies.specs.Bytes.{flag_of, width}
 use Rattle.afp_replies.specs.Entry.{pad_count, entry_bytes}
 use Rattle.afp_serial.specs.ListReply.{list_entry}
 use Rattle.afp_volume.specs.Shared.{Opened}
-use Rattle.afp_volume.specs.Enumerate.{ListAsked, entry_head, entry_size}
+use Rattle.afp_base.specs.Limits.{payload_limit}
+use Rattle.afp_volume.specs.Enumerate.{ListAsked, entry_head, entry_size, longest_entry}
 use Rattle.afp_volume.specs.NodeValues.{bits_of, dir_values, file_values, node_values}
 use Rattle.afp_volume.specs.VolumeState.{Row}
+use Rattle.volume_answers.specs.lemma.Filling.{can_follow}
 
 drop-zeros : (n : ℕ) (b : List ℕ) → drop n (replicate n 0 ++ b) ≡ b
 drop-zeros zero b = refl
@@ -85,3 +88,12 @@ module _ (rows : List Row) (opens : List Opened) (asked : ListAsked) (row : Row)
 -- the size is what was put
 pub size-is : (a b : List ℕ) (before after : List ℕ) (n : ℕ) → a ≡ before → b ≡ after → length after ≡ length before + n → length b - length a ≡ n
 size-is a b before after n a_is b_is size = let la : length a ≡ length before = ap length a_is in let lb : length b ≡ length after = ap length b_is in omega arith
+
+-- the length of an entry that can follow can be told
+pub length-told : (asked : ListAsked) (used size : ℕ) → can_follow asked used size ≡ true → size < 256 ^ width asked.wide
+length-told asked used size can =
+    by asked.wide (leb-true size (longest_entry asked.wide) (and_parts (nat_le size (longest_entry asked.wide)) (nat_le (used + size) (min asked.size payload_limit)) can).0)
+  where
+    by : (wide : Bool) → size ≤ longest_entry wide → size < 256 ^ width wide
+    by true small = omega arith
+    by false small = omega arith

@@ -1,6 +1,6 @@
 //! Values whose bits are asked, and what stands for those that are not.
 ghost use Rattle.std.specs.Prelude.{◌≡◌, pos, nat_lt, replicate, true};
-ghost use Rattle.afp_volume.specs.Parms.{asked_or, is_outside};
+ghost use Rattle.afp_volume.specs.Parms.{asked_or};
 
 use afp_bitmap::is_asked;
 
@@ -37,11 +37,4 @@ pub(crate) fn finder_or(bits: u16, bit: u32, value: [u8; 32]) -> [u8; 32]
     ensures { result ≡ asked_or bits bit (replicate 32 0) value }
 {
     if is_asked(bits, bit) { value } else { [0; 32] }
-}
-
-/// Whether a bit outside the mask is set.
-pub(crate) fn is_outside(mask: u16, bits: u16) -> bool
-    ensures { result ≡ is_outside mask bits }
-{
-    bits & mask != bits
 }

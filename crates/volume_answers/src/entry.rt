@@ -1,5 +1,5 @@
 //! An entry of a list.
-ghost use Rattle.std.specs.Prelude.{◌≡◌, ◌++◌, ◌+◌, ◌≤◌, IfOk, OnOk, OnErr, drop, length, min, replicate, take};
+ghost use Rattle.std.specs.Prelude.{◌≡◌, ◌++◌, ◌+◌, ◌≤◌, IfOk, OnOk, OnErr, length, min, replicate, take};
 ghost use Rattle.afp_base.specs.Limits.{payload_limit};
 ghost use Rattle.byteorder.specs.Endian.{big_bytes};
 ghost use Rattle.afp_bitmap.specs.Bits.{IsWithin, file_mask, dir_mask};
@@ -15,9 +15,8 @@ ghost use Rattle.volume_tree.specs.Shown.{opened};
 
 use crate::list_asked::ListAsked;
 use crate::node::{is_dir, put_node};
-use crate::parms::flag_of;
 use afp_base::{Bytes, MAX_PAYLOAD, OutOfMemory};
-use byteorder::{BigEndian, ByteOrder};
+use afp_replies::{flag_of, put_length, put_pad, put_place};
 use deny_modes::VolumeOpens;
 use node_rows::Node;
 use std::alloc::Global;
@@ -43,41 +42,6 @@ fn can_follow(asked: &ListAsked, used: usize, size: usize) -> bool
     ensures { result ≡ can_follow asked.now used size }
 {
     size <= longest_entry(asked.wide) && used + size <= most_bytes(asked)
-}
-
-/// Zeros where the length of an entry is to stand.
-fn put_place(wide: bool, out: &mut Bytes) -> Result<(), OutOfMemory>
-    ensures ok { OnOk result (out.new ≡ out.old ++ replicate (width wide) 0) }
-    ensures err { OnErr result (out.new ≡ out.old) }
-{
-    if wide {
-        out.push_u16(0)
-    } else {
-        out.push_u8(0)
-    }
-}
-
-/// The pad behind the flag of an entry, in a wide list.
-fn put_pad(wide: bool, out: &mut Bytes) -> Result<(), OutOfMemory>
-    ensures ok { OnOk result (out.new ≡ out.old ++ replicate (pad_count wide) 0) }
-    ensures err { OnErr result (out.new ≡ out.old) }
-{
-    if wide { out.push_u8(0) } else { Ok(()) }
-}
-
-/// Writes the length of an entry at its place.
-fn put_length(asked: &ListAsked, at: usize, size: usize, out: &mut Bytes)
-    requires inside { at + width asked.now.wide ≤ length out.old }
-    requires fits { size ≤ longest_entry asked.now.wide }
-    ensures { out.new ≡ take at out.old ++ big_bytes (width asked.now.wide) size ++ drop (at + width asked.now.wide) out.old }
-{
-    if asked.wide {
-        let mut bytes = [0; 2];
-        BigEndian::write_u16(&mut bytes, size as u16);
-        out.put(at, &bytes);
-    } else {
-        out.put(at, &[size as u8]);
-    }
 }
 
 /// An entry without its length: zeros in place of that, the flag, a pad and the parameters. After an error, any part of them may
@@ -142,6 +106,6 @@ pub(crate) fn put_entry(
         out.truncate(before);
         return Ok(None);
     }
-    put_length(asked, before, size, out);
+    put_length(asked.wide, before, size, out);
     Ok(Some(used + size))
 }

@@ -7,11 +7,11 @@ ghost use Rattle.afp_volume.specs.VolumeState.{Row};
 ghost use Rattle.afp_volume.specs.Walk.{row_at};
 ghost use Rattle.volume_tree.specs.Answered.{Refuses};
 
-use crate::asked::is_outside;
 use crate::node::{is_dir, node_at};
 use afp_base::{Code, NodeId};
 use afp_bitmap::FileBits;
 use afp_names::Path;
+use afp_volume::is_outside;
 use afp_volume::laws::rows_are_changed_in_place;
 use node_rows::Node;
 use std::alloc::Global;

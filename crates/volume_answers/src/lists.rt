@@ -11,7 +11,6 @@ ghost use Rattle.volume_answers.specs.lemma.Filling.{IsBehind, IsStart, bytes_of
 ghost use Rattle.volume_tree.specs.Answered.{Refuses};
 ghost use Rattle.volume_tree.specs.Shown.{opened};
 
-use crate::asked::is_outside;
 use crate::entry::put_entry;
 use crate::list_asked::ListAsked;
 use crate::node::node_at;
@@ -19,6 +18,7 @@ use crate::parms::is_directory;
 use afp_base::{Bytes, Code, NodeId, OutOfMemory};
 use afp_bitmap::{DirBits, FileBits};
 use afp_names::Path;
+use afp_volume::is_outside;
 use afp_volume::laws::rows_are_changed_in_place;
 use byteorder::{BigEndian, ByteOrder};
 use deny_modes::VolumeOpens;

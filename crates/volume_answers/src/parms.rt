@@ -17,26 +17,18 @@ ghost use Rattle.volume_answers.specs.lemma.Told.{IsRowOf};
 ghost use Rattle.volume_tree.specs.Answered.{Refuses};
 ghost use Rattle.volume_tree.specs.Shown.{opened};
 
-use crate::asked::is_outside;
 use crate::node::{is_dir, node_at, put_node};
 use crate::volume::volume_params;
 use afp_base::{Bytes, Code, NodeId, OutOfMemory, VolumeId};
 use afp_bitmap::{DirBits, FileBits, VolumeBits};
 use afp_names::Path;
+use afp_replies::flag_of;
+use afp_volume::is_outside;
 use afp_volume::laws::rows_are_changed_in_place;
 use deny_modes::VolumeOpens;
 use node_rows::Node;
 use std::alloc::Global;
 use volume_tree::{PlanFault, Volume};
-
-/// The flag of a directory (AFP Reference, "FPGetFileDirParms"). That of a file is 0.
-const DIRECTORY: u8 = 0x80;
-
-pub(crate) fn flag_of(dir: bool) -> u8
-    ensures { result ≡ flag_of dir }
-{
-    if dir { DIRECTORY } else { 0 }
-}
 
 /// The bits and the parameters of a volume. After an error, any part of them may stand there.
 fn put_vol_parms(

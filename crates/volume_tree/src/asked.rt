@@ -1,6 +1,6 @@
 //! What calls ask of a volume's tree.
-ghost use Rattle.std.specs.Prelude.{true, false, MatchOption, ◌≡◌, ◌++◌, Some, chars, map, length, bytes_eq, IfOk, OnOk};
-ghost use Rattle.afp_names.specs.LongName.{shown_byte, long_name_of};
+ghost use Rattle.std.specs.Prelude.{true, false, MatchOption, ◌≡◌, Some, length, bytes_eq, IfOk};
+ghost use Rattle.afp_names.specs.LongName.{long_name_of};
 ghost use Rattle.afp_names.specs.Name.{name_key};
 ghost use Rattle.afp_names.specs.Path.{element_of, long_names};
 ghost use Rattle.afp_volume.specs.Edits.{has_children, is_below, is_taken};
@@ -13,47 +13,20 @@ ghost use Rattle.volume_tree.specs.Shown.{opened};
 
 use crate::volume::{ROOT_PARENT, Volume};
 use afp_base::{Bytes, NodeId, OutOfMemory};
-use afp_names::mac_roman::byte_of;
-use afp_names::{Name, long_name};
+use afp_names::{Name, long_name, put_shown};
 use afp_volume::limits::MOST_NODES;
 use deny_modes::VolumeOpens;
 use node_rows::Node;
 use std::alloc::Global;
-
-/// The byte of a character in a long name, or `?` where their character set has none.
-#[tactic(auto, unfolding(afp_names::specs::LongName::shown_byte))]
-fn shown_byte(character: char) -> u8
-    ensures { result ≡ shown_byte character }
-{
-    byte_of(character).unwrap_or(b'?')
-}
 
 /// The element by which a path of long names spells a name.
 #[tactic(auto, unfolding(afp_names::specs::Path::element_of))]
 fn long_element(alloc: Global, name: &Name) -> Result<Bytes, OutOfMemory>
     ensures { IfOk result (λ element. element ≡ element_of long_names name.now) }
 {
-    let text = characters(alloc, name.as_str())?;
     let mut element = Bytes::new(alloc);
-    put_shown(&mut element, &text)?;
+    put_shown(alloc, &mut element, name.as_str())?;
     Ok(element)
-}
-
-/// The characters of a text.
-fn characters(alloc: Global, text: &str) -> Result<Vec<char>, OutOfMemory>
-    ensures { IfOk result (λ characters. characters.items ≡ chars text.now) }
-{
-    Ok(text.chars().collect(alloc)?)
-}
-
-/// Appends the bytes of a text in the character set of long names.
-fn put_shown(element: &mut Bytes, text: &[char]) -> Result<(), OutOfMemory>
-    ensures { OnOk result (element.new ≡ element.old ++ map shown_byte text.now) }
-{
-    for character in text {
-        element.extend(&[shown_byte(*character)])?;
-    }
-    Ok(())
 }
 
 /// Whether a node has this long name.

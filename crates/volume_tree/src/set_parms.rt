@@ -1,6 +1,5 @@
 //! FPSetFileParms, FPSetDirParms and FPSetFileDirParms.
 ghost use Rattle.std.specs.Prelude.{◌≡◌, Some, None, IfOk};
-ghost use Rattle.afp_volume.specs.Parms.{is_outside};
 ghost use Rattle.afp_volume.specs.SetFileDirParms.{set_file_parms_refusal, set_dir_parms_refusal, set_file_dir_parms_refusal, set_parms_effect};
 ghost use Rattle.volume_tree.specs.Answered.{Refuses};
 ghost use Rattle.volume_tree.specs.Planned.{Does, IsPlan, planned};
@@ -13,6 +12,7 @@ use crate::tails::{is_short_tail, settings_in};
 use crate::volume::Volume;
 use afp_base::{Code, Moment, NodeId};
 use afp_names::Path;
+use afp_volume::is_outside;
 use afp_volume::laws::calls_keep_volumes_sound;
 use std::alloc::Global;
 
@@ -20,12 +20,6 @@ use std::alloc::Global;
 const SETTABLE_BITS: u16 = 0x003d;
 
 const SETTABLE_DIR_BITS: u16 = 0x1c3d;
-
-fn is_outside(mask: u16, bits: u16) -> bool
-    ensures { result ≡ is_outside mask bits }
-{
-    bits & mask != bits
-}
 
 /// The plan of settings.
 pub(crate) fn plan_set(now: Moment, id: NodeId, settings: Settings) -> Plan

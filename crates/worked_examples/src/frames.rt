@@ -1,5 +1,5 @@
 //! Frames of the Data Stream Interface.
-ghost use Rattle.std.specs.Prelude.{◌≡◌, ◌≤◌, ◌<◌, ◌^◌, length, IfOk};
+ghost use Rattle.std.specs.Prelude.{◌≤◌, ◌<◌, ◌^◌, length};
 
 use crate::fault::CaseFault;
 use crate::words::{bytes_of, put_word, text_of};
@@ -55,15 +55,6 @@ fn stream_text(alloc: Global, stream: &Stream) -> Result<String, CaseFault> {
     Ok(text)
 }
 
-/// A piece with these bytes.
-fn piece_of(alloc: Global, bytes: &[u8]) -> Result<Bytes, OutOfMemory>
-    ensures { IfOk result (λ piece. piece ≡ bytes.now) }
-{
-    let mut piece = Bytes::new(alloc);
-    piece.extend(bytes)?;
-    Ok(piece)
-}
-
 /// The frames of bytes that come in three pieces.
 fn cut_at(alloc: Global, bytes: &[u8], first: usize, second: usize) -> Result<Stream, OutOfMemory>
     requires first { first ≤ second }
@@ -71,9 +62,9 @@ fn cut_at(alloc: Global, bytes: &[u8], first: usize, second: usize) -> Result<St
     requires few { length bytes.now < 2 ^ 32 }
 {
     let mut pieces = Vec::new(alloc);
-    pieces.push(piece_of(alloc, &bytes[..first])?)?;
-    pieces.push(piece_of(alloc, &bytes[first..second])?)?;
-    pieces.push(piece_of(alloc, &bytes[second..])?)?;
+    pieces.push(Bytes::of(alloc, &bytes[..first])?)?;
+    pieces.push(Bytes::of(alloc, &bytes[first..second])?)?;
+    pieces.push(Bytes::of(alloc, &bytes[second..])?)?;
     read_stream(alloc, pieces.as_slice())
 }
 

@@ -11,18 +11,12 @@ use afp_outside::{OpenGate, TapeLink};
 use afp_server::{LinkEnd, serve_link};
 use std::alloc::Global;
 
-fn coming_of(alloc: Global, bytes: &[u8]) -> Result<Bytes, OutOfMemory> {
-    let mut coming = Bytes::new(alloc);
-    coming.extend(bytes)?;
-    Ok(coming)
-}
-
 /// A link in memory through which the bytes come, in a first read of so many, and then as many as there is room for.
 fn tape_of(alloc: Global, made: Moment, bytes: &[u8], first: usize) -> Result<TapeLink, OutOfMemory>
     ensures { IfOk result IsFreshTape }
 {
     let reads = vec![in alloc; first]?;
-    let coming = coming_of(alloc, bytes)?;
+    let coming = Bytes::of(alloc, bytes)?;
     TapeLink::new(
         alloc,
         made,

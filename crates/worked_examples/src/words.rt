@@ -34,9 +34,7 @@ pub fn bytes_of(alloc: Global, word: &str) -> Result<Vec<u8>, CaseFault> {
 
 /// The same bytes, as the server's crates own them.
 pub fn owned(alloc: Global, word: &str) -> Result<Bytes, CaseFault> {
-    let mut bytes = Bytes::new(alloc);
-    bytes.extend(bytes_of(alloc, word)?.as_slice())?;
-    Ok(bytes)
+    Ok(Bytes::of(alloc, bytes_of(alloc, word)?.as_slice())?)
 }
 
 /// The word that spells bytes: their hexadecimal digits, or `-`.

@@ -1,6 +1,7 @@
 -- How the code reads, for its proofs; no public contract cites it.
-use Rattle.std.specs.Prelude.{◌≡◌, ℕ, Bool, ◌+◌, ◌≤◌, ◌<◌, List, [], ◌++◌, length, take, drop, slice_index, Result, Ok, Err}
+use Rattle.std.specs.Prelude.{◌≡◌, ℕ, Bool, ◌+◌, ◌≤◌, ◌<◌, List, [], ◌++◌, length, take, drop, Result, Ok, Err}
 use Rattle.std.specs.Borrow.{Bor}
+pub use Rattle.afp_base.specs.Bytes.{IsBytes}
 use Rattle.afp_bitmap.specs.declared.params.Values.{Values}
 use Rattle.afp_bitmap.specs.Params.{params, IsAnswer, IsBadAt}
 use Rattle.afp_replies.specs.declared.commands.ShapeRow.{ShapeRow}
@@ -47,10 +48,6 @@ unfoldable pub IsRead : Layout → Rest → Result Reply ReplyFault → Type 0
 IsRead l here (Ok r) = Found l here.bytes r
 IsRead l here (Err Memory) = Unit {0}
 IsRead l here (Err (Bad at)) = Missing l here at
-
--- each is a byte
-abbrev pub IsBytes : List ℕ → Type 0
-IsBytes bytes = (i : ℕ) → slice_index bytes i < 256
 
 -- the next n bytes were taken
 pub record FrontIs (n : ℕ) (old : Rest) (piece : List ℕ) (new : Rest) : Type 0 where

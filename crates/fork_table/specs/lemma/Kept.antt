@@ -3,7 +3,7 @@ use Rattle.std.specs.Prelude.{◌≡◌, ℕ, ◌==◌, nat_lt, Bool, true, fals
 use Rattle.std.specs.List.{list_any, list_all}
 use Rattle.afp_base.specs.declared.ids.ForkRef.{ForkRef}
 use Rattle.deny_modes.specs.Opens.{Open}
-use Rattle.range_locks.specs.Locks.{Lock}
+use Rattle.range_locks.specs.Locks.{ForkLock}
 use Rattle.fork_table.specs.declared.open_fork.OpenFork.{OpenFork}
 use Rattle.fork_table.specs.declared.own.OwnRef.{OwnRef}
 use Rattle.fork_table.specs.ForkTable.{plain_opens, is_held}
@@ -11,7 +11,7 @@ use Rattle.fork_table.specs.lemma.Own.{AreOwn}
 
 -- references are 1 or more; the entries of the sessions are those of the rows; the opens are the rows without their sessions; and each
 -- lock is on the fork of a row
-pub record IsTable (rows : List (ℕ × OpenFork)) (own : List (OwnRef × Unit {0})) (opens : List Open) (locks : List Lock) : Type 0 where
+pub record IsTable (rows : List (ℕ × OpenFork)) (own : List (OwnRef × Unit {0})) (opens : List Open) (locks : List ForkLock) : Type 0 where
   pub from_one : list_all (λ row. nat_lt 0 row.0) rows ≡ true
   pub sessions : AreOwn rows own
   pub shown : opens ≡ plain_opens rows

@@ -1,4 +1,4 @@
-use Rattle.std.proofs.Common.{◌≡◌, ◌∙◌, sym, chars, encode_utf8_all, rules}
+use Rattle.std.proofs.Common.{◌≡◌, sym, chars, encode_utf8_all}
 use Rattle.std.proofs.lemmas.Str.{chars_from_encodes}
 use Rattle.unicode_normalization.specs.Forms.{nfc}
 use Rattle.afp_names.proofs.long_names.composed.Goals as goal
@@ -6,5 +6,5 @@ use Rattle.afp_names.proofs.long_names.composed.Goals as goal
 pub returns : goal.returns
 returns c =
     let text : c.as_str-2.result.now ≡ encode_utf8_all (nfc (chars c.args.name.now)) = cc (c.as_str.ensures.text, c.as_str-2.ensures.value, c.in_ok-text.ensures) in
-    let collected : c.in_ok-collect.field-0.items ≡ chars c.as_str-2.result.now = search (rules, chars_from_encodes) in
-    collected ∙ sym (chars_from_encodes (nfc (chars c.args.name.now)) c.as_str-2.result.now c.as_str-2.utf8 (sym text))
+    let same = sym (chars_from_encodes (nfc (chars c.args.name.now)) c.as_str-2.result.now c.as_str-2.utf8 (sym text)) in
+    rw (← same) c.characters.ensures

@@ -1,5 +1,5 @@
 use Rattle.std.proofs.Common.{arith}
-use Rattle.range_locks.specs.Locks.{Lock, is_lock}
+use Rattle.range_locks.specs.Locks.{ForkLock, is_lock}
 use Rattle.range_locks.proofs.Keeping.{count_between, place_passes, none_passes, found, not_found}
 use Rattle.range_locks.proofs.locks.place_of.Goals as goal
 
@@ -8,7 +8,7 @@ part-requires-clause-low c = omega (arith, count_between c.args.list.now c.args.
 
 pub returns-in-Some : goal.returns-in-Some
 returns-in-Some c =
-    let any : Lock = record { reference = c.args.r; fork = c.args.fork.now; range = c.args.range.now } in
+    let any : ForkLock = record { reference = c.args.r; fork = c.args.fork.now; range = c.args.range.now } in
     let there = place_passes (is_lock c.args.fork.now c.args.r c.args.range.now) c.part.result.now c.in-Some.place any c.in-Some.ensures in
     found c.args.fork.now c.args.r c.args.range.now c.before-first.result c.behind-last.result c.in-Some.place c.before-first.ensures c.behind-last.ensures c.part.ensures there
 

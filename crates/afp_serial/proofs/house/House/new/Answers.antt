@@ -17,8 +17,8 @@ returns-in-Some-clause-index c =
 
 pub invariant_of-result : goal.invariant_of-result
 invariant_of-result c =
-    let sound : house_fault (household c.in_ok-bytes_of.field-0 c.args.signature c.args.users.items c.args.volumes.items c.in_ok-bytes_of-2.field-0 c.args.token_key) ≡ None =
-    rw (c.in_ok-bytes_of.ensures, c.in_ok-bytes_of-2.ensures, c.as_bytes-3.ensures.value, c.as_bytes-4.ensures.value, ← c.as_bytes.ensures.value, ← c.as_slice.ensures.value, ← c.as_slice-2.ensures.value, ← c.as_bytes-2.ensures.value) (sym (c.in_default.ensures c.args.signature c.args.token_key)) in (
+    let sound : house_fault (household c.in_ok-of.field-0 c.args.signature c.args.users.items c.args.volumes.items c.in_ok-of-2.field-0 c.args.token_key) ≡ None =
+    rw (c.in_ok-of.ensures, c.in_ok-of-2.ensures, c.as_bytes-3.ensures.value, c.as_bytes-4.ensures.value, ← c.as_bytes.ensures.value, ← c.as_slice.ensures.value, ← c.as_slice-2.ensures.value, ← c.as_bytes-2.ensures.value) (sym (c.in_default.ensures c.args.signature c.args.token_key)) in (
       sound,
       house-typed _ c.args.signature c.args.users.items c.args.volumes.items _ c.args.token_key
           (subst (λ (users : List User). list_all is_typed_user users ≡ true) c.as_slice-3.ensures.value c.fields_in_range.ensures.users) c.fields_in_range.ensures.signature c.fields_in_range.ensures.token_key,

@@ -1,6 +1,6 @@
 use Rattle.std.proofs.Common.{rules}
 use Rattle.std.proofs.lemmas.Str.{chars_from_encodes}
-use Rattle.volume_tree.proofs.asked.characters.Goals as goal
+use Rattle.afp_names.proofs.long_names.characters.Goals as goal
 
 pub returns : goal.returns
 returns c = search (rules, chars_from_encodes)

@@ -1,0 +1,51 @@
+//! The parts of an entry of a list (AFP Reference, "FPEnumerate", "FPEnumerateExt").
+ghost use Rattle.std.specs.Prelude.{◌≡◌, ◌++◌, ◌<◌, ◌^◌, ◌+◌, ◌≤◌, drop, length, replicate, take, OnOk, OnErr};
+ghost use Rattle.byteorder.specs.Endian.{big_bytes};
+ghost use Rattle.afp_replies.specs.Bytes.{flag_of, width};
+ghost use Rattle.afp_replies.specs.Entry.{pad_count};
+
+use crate::fields::DIRECTORY;
+use afp_base::{Bytes, OutOfMemory};
+use byteorder::{BigEndian, ByteOrder};
+
+/// The flag of a directory or a file.
+pub fn flag_of(dir: bool) -> u8
+    ensures { result ≡ flag_of dir }
+{
+    if dir { DIRECTORY } else { 0 }
+}
+
+/// Zeros where the length of an entry is to stand, narrow or wide.
+pub fn put_place(wide: bool, out: &mut Bytes) -> Result<(), OutOfMemory>
+    ensures ok { OnOk result (out.new ≡ out.old ++ replicate (width wide) 0) }
+    ensures err { OnErr result (out.new ≡ out.old) }
+{
+    if wide {
+        out.push_u16(0)
+    } else {
+        out.push_u8(0)
+    }
+}
+
+/// Writes the length of an entry at its place.
+pub fn put_length(wide: bool, at: usize, size: usize, out: &mut Bytes)
+    requires inside { at + width wide ≤ length out.old }
+    requires fits { size < 256 ^ width wide }
+    ensures { out.new ≡ take at out.old ++ big_bytes (width wide) size ++ drop (at + width wide) out.old }
+{
+    if wide {
+        let mut bytes = [0; 2];
+        BigEndian::write_u16(&mut bytes, size as u16);
+        out.put(at, &bytes);
+    } else {
+        out.put(at, &[size as u8]);
+    }
+}
+
+/// The pad behind the flag of an entry, in a wide list.
+pub fn put_pad(wide: bool, out: &mut Bytes) -> Result<(), OutOfMemory>
+    ensures ok { OnOk result (out.new ≡ out.old ++ replicate (pad_count wide) 0) }
+    ensures err { OnErr result (out.new ≡ out.old) }
+{
+    if wide { out.push_u8(0) } else { Ok(()) }
+}
