@@ -7,7 +7,7 @@ use Rattle.std.proofs.lemmas.List.{append-nil, get_or-take, get_or-drop, get_or_
 use Rattle.std.proofs.lemmas.Bool.{cases_lt}
 use Rattle.std.specs.Int.{byte_at, bytes_high_first, cast_signed, cast_unsigned}
 use Rattle.byteorder.specs.Endian.{big_from, big_number, big_bytes}
-use Rattle.byteorder.specs.Numbers.{big_from-cons, big_from-lt, big_from-take, big_number-reads_back, length-bytes_high_first}
+use Rattle.byteorder.specs.Numbers.{big_from-cons, big_from-lt, big_number-reads_back, length-bytes_high_first}
 
 abbrev pub IsBytes : List ℕ → Type 0
 IsBytes bytes = (i : ℕ) → get_or bytes i 0 < 256
@@ -104,7 +104,3 @@ date_lt (negsuc n) h = omega (arith, ints, h)
 
 pub date_again : (z : ℤ) → FitsSigned w32 z → cast_signed w32 (cast_unsigned w32 z) ≡ z
 date_again z h = to_z-of_z w32 z h
-
--- a number is in its first bytes
-pub number_front : (n : ℕ) (rest : List ℕ) → big_number n (take n rest) ≡ big_number n rest
-number_front n rest = big_from-take 0 n n rest (omega arith)

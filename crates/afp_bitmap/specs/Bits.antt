@@ -1,5 +1,5 @@
 -- The bits by which a client asks for parameters.
-use Rattle.std.specs.Prelude.{◌≡◌, ℕ, zero, suc, Bool, ◌==◌, bit_and}
+use Rattle.std.specs.Prelude.{◌≡◌, ℕ, zero, suc, Bool, ◌==◌, not, bit_and}
 use Rattle.std.specs.Int.{bit_at}
 
 -- The bits that may be asked of a volume, a file and a directory (AFP Reference, "Volume Bitmap", "File Bitmap", "Directory Bitmap"; this profile)
@@ -21,6 +21,10 @@ mask_of (suc (suc kind)) = dir_mask
 -- no bit outside the mask is set (this profile)
 abbrev pub IsWithin : ℕ → ℕ → Type 0
 IsWithin mask bits = bit_and bits mask ≡ bits
+
+-- whether a bit outside the mask is set (AFP Reference, "FPGetFileDirParms")
+abbrev pub is_outside : ℕ → ℕ → Bool
+is_outside mask bits = not (bit_and bits mask == bits)
 
 -- the bit is set (AFP Reference, "FPGetFileDirParms")
 unfoldable pub is_asked : ℕ → ℕ → Bool

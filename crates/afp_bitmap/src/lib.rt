@@ -21,5 +21,5 @@ pub use directory::DirValues;
 pub use file::FileValues;
 pub use laws::{names_stand_at_their_offsets, one_block_for_each};
 pub use params::{ParamFault, Values, put_params, read_params};
-pub use table::is_asked;
+pub use table::{is_asked, is_outside};
 pub use volume::VolumeValues;

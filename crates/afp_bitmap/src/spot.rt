@@ -50,7 +50,7 @@ impl<'a> Spot<'a> {
     }
 
     /// The number in the next 2 bytes.
-    #[tactic(auto, using(crate::proofs::Numbers::number_front))]
+    #[tactic(auto, using(afp_base::proofs::Numbers::number_front))]
     pub(crate) fn u16(&self) -> u16
         requires { 2 ≤ length self.now.1 }
         ensures { result ≡ big_number 2 self.now.1 }
@@ -62,7 +62,7 @@ impl<'a> Spot<'a> {
     }
 
     /// The number in the next 4 bytes.
-    #[tactic(auto, using(crate::proofs::Numbers::number_front))]
+    #[tactic(auto, using(afp_base::proofs::Numbers::number_front))]
     pub(crate) fn u32(&self) -> u32
         requires { 4 ≤ length self.now.1 }
         ensures { result ≡ big_number 4 self.now.1 }

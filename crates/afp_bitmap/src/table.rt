@@ -1,6 +1,6 @@
 //! The shape of each field, by its bit.
 ghost use Rattle.std.specs.Prelude.{◌≡◌, ◌<◌, ◌^◌};
-ghost use Rattle.afp_bitmap.specs.Bits.{is_asked};
+ghost use Rattle.afp_bitmap.specs.Bits.{is_asked, is_outside};
 ghost use Rattle.afp_bitmap.specs.lemma.Reading.{size_of, asked_size};
 
 /// How a field stands in the fixed part.
@@ -36,6 +36,13 @@ pub fn is_asked(bits: u16, bit: u32) -> bool
     ensures { result ≡ is_asked bits bit }
 {
     bit < 16 && bits >> bit & 1 == 1
+}
+
+/// Whether a bit outside the mask is set.
+pub fn is_outside(mask: u16, bits: u16) -> bool
+    ensures { result ≡ is_outside mask bits }
+{
+    bits & mask != bits
 }
 
 /// The size of the fixed part, in bytes.

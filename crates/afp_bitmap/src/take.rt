@@ -63,7 +63,7 @@ impl<'a> FieldCursor<'a> {
     }
 
     /// A number of 2 bytes.
-    #[tactic(auto, using(crate::proofs::Numbers::number_front))]
+    #[tactic(auto, using(afp_base::proofs::Numbers::number_front))]
     pub(crate) fn short(&mut self, bit: u32) -> u16
         ensures value { result ≡ big_number 2 (taken self.old bit 2) }
         ensures took { Took self.old bit 2 self.new }
@@ -76,7 +76,7 @@ impl<'a> FieldCursor<'a> {
     }
 
     /// A number of 4 bytes.
-    #[tactic(auto, using(crate::proofs::Numbers::number_front))]
+    #[tactic(auto, using(afp_base::proofs::Numbers::number_front))]
     pub(crate) fn long(&mut self, bit: u32) -> u32
         ensures value { result ≡ big_number 4 (taken self.old bit 4) }
         ensures took { Took self.old bit 4 self.new }
@@ -89,7 +89,7 @@ impl<'a> FieldCursor<'a> {
     }
 
     /// A number of 8 bytes.
-    #[tactic(auto, using(crate::proofs::Numbers::number_front))]
+    #[tactic(auto, using(afp_base::proofs::Numbers::number_front))]
     pub(crate) fn wide(&mut self, bit: u32) -> u64
         ensures value { result ≡ big_number 8 (taken self.old bit 8) }
         ensures took { Took self.old bit 8 self.new }

@@ -155,7 +155,12 @@ fn put_padded(head: &[u8], name: &[u8], out: &mut Bytes) -> Result<(), OutOfMemo
 }
 
 /// Writes the place of a name, and appends its head, its bytes and its pad. The block begins at `base`.
-fn put_name(spot: NameSpot<'_>, head: &[u8], base: usize, out: &mut Bytes) -> Result<(), OutOfMemory>
+fn put_name(
+    spot: NameSpot<'_>,
+    head: &[u8],
+    base: usize,
+    out: &mut Bytes,
+) -> Result<(), OutOfMemory>
     requires inside { base + spot.at + 2 ≤ length out.old }
     requires small { length out.old < base + 65536 }
     requires fits { length head.now + length spot.name.now < 2 ^ 64 }
@@ -169,7 +174,11 @@ fn put_name(spot: NameSpot<'_>, head: &[u8], base: usize, out: &mut Bytes) -> Re
 }
 
 /// Appends the long name, where there is one, and writes its place. The block begins at `base`.
-fn put_long_name(spot: Option<NameSpot<'_>>, base: usize, out: &mut Bytes) -> Result<(), OutOfMemory>
+fn put_long_name(
+    spot: Option<NameSpot<'_>>,
+    base: usize,
+    out: &mut Bytes,
+) -> Result<(), OutOfMemory>
     requires begun { base ≤ length out.old }
     requires can { CanName 256 (spot_of spot) (drop base out.old) }
     ensures ok { OnOk result (out.new ≡ take base out.old ++ with_long_name (spot_of spot.entry) (drop base out.old)) }
@@ -185,7 +194,11 @@ fn put_long_name(spot: Option<NameSpot<'_>>, base: usize, out: &mut Bytes) -> Re
 }
 
 /// Appends the UTF-8 name, where there is one, and writes its place. The block begins at `base`.
-fn put_utf8_name(spot: Option<NameSpot<'_>>, base: usize, out: &mut Bytes) -> Result<(), OutOfMemory>
+fn put_utf8_name(
+    spot: Option<NameSpot<'_>>,
+    base: usize,
+    out: &mut Bytes,
+) -> Result<(), OutOfMemory>
     requires begun { base ≤ length out.old }
     requires can { CanName 65536 (spot_of spot) (drop base out.old) }
     ensures ok { OnOk result (out.new ≡ take base out.old ++ with_utf8_name (spot_of spot.entry) (drop base out.old)) }

@@ -27,7 +27,7 @@ mod tcp_wire;
 
 pub use clock::Clock;
 pub use gate::{Gate, GateLog, OpenGate};
-pub use link::{ReadResult, Link, Wrote};
+pub use link::{Link, ReadResult, Wrote};
 pub use listener::{Accepted, Listener};
 pub use sink::Sink;
 pub use source::Source;

@@ -5,7 +5,7 @@ ghost use Rattle.afp_outside.specs.Tape.{link_of, fresh_tape, TapeReads, TapeWri
 
 use crate::calls::PlannedCalls;
 use crate::incoming::Incoming;
-use crate::link::{ReadResult, Link, Wrote};
+use crate::link::{Link, ReadResult, Wrote};
 use crate::outgoing::Outgoing;
 use afp_base::{Bytes, Moment, OutOfMemory};
 use std::alloc::Global;

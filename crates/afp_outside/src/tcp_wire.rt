@@ -2,7 +2,7 @@
 ghost use Rattle.std.specs.Prelude.{◌≡◌, ◌≤◌, ◌<◌, length, max, IfOk, IfSome};
 ghost use Rattle.afp_outside.specs.Link.{IsFresh, Reads};
 
-use crate::link::{ReadResult, Link, Wrote};
+use crate::link::{Link, ReadResult, Wrote};
 use crate::steady_clock::SteadyClock;
 use afp_base::Moment;
 use std::io;

@@ -3,11 +3,12 @@ ghost use Rattle.std.specs.Prelude.{◌≡◌, ◌+◌, ◌≤◌, ◌<◌, ◌^
 ghost use Rattle.afp_bitmap.specs.Bits.{IsWithin, mask_of, file_mask, dir_mask};
 ghost use Rattle.afp_replies.specs.declared.reply.ReplyFault.TheVariants.{Bad};
 ghost use Rattle.afp_replies.specs.Bytes.{width};
+ghost use Rattle.afp_replies.specs.Entry.{stated};
 ghost use Rattle.afp_replies.specs.Layouts.{optional, optional_text};
 ghost use Rattle.afp_replies.specs.lemma.Reading.{Rest, TakesWord, ReadsPart, Front, Ends, IsBytes, TakesParams, TakesText, TakesEntryBytes, entry_result};
 ghost use Rattle.afp_replies.specs.Words.{Number, Exactly, Asked, Raw, Pad, Counted, Flag, Entry};
 
-use crate::fields::{DIR, DIRECTORY, FILE, head_size, width};
+use crate::fields::{DIR, DIRECTORY_FLAG, FILE, head_size, width};
 use crate::list::ListEntry;
 use crate::reply::ReplyFault;
 use afp_base::{Bytes, OutOfMemory, Scan};
@@ -69,11 +70,7 @@ impl<'a> Cursor<'a> {
     fn rest(&self) -> &'a [u8]
         ensures { result.now ≡ self.now.bytes }
     {
-        let mut ahead = self.scan.again();
-        match ahead.bytes(self.scan.remaining()) {
-            Ok(bytes) => bytes,
-            Err(_) => unreachable!(),
-        }
+        self.scan.rest()
     }
 
     /// A number of 1 byte.
@@ -190,7 +187,7 @@ impl<'a> Cursor<'a> {
         let at = self.place();
         let piece = self.front(1)?;
         match piece[0] {
-            DIRECTORY => Ok(true),
+            DIRECTORY_FLAG => Ok(true),
             0 => Ok(false),
             _ => Err(ReplyFault::Bad { at }),
         }
@@ -232,6 +229,25 @@ impl<'a> Cursor<'a> {
         params_at(alloc, kind, bits, self.place(), self.rest())
     }
 
+    /// The length that the next entry of a list states.
+    #[tactic(auto, using(afp_base::proofs::Numbers::number_front))]
+    fn stated(&self, wide: bool) -> usize
+        requires { width wide ≤ length self.now.bytes }
+        ensures { result ≡ stated wide self.now.bytes }
+    {
+        let mut ahead = self.scan.again();
+        if wide {
+            return match ahead.u16() {
+                Ok(length) => length as usize,
+                Err(_) => unreachable!(),
+            };
+        }
+        match ahead.u8() {
+            Ok(length) => length as usize,
+            Err(_) => unreachable!(),
+        }
+    }
+
     /// The bytes of the next entry of a list, as its length counts them.
     fn entry_bytes(&mut self, wide: bool) -> Result<&'a [u8], ReplyFault>
         ensures { TakesEntryBytes wide self.old result self.new }
@@ -240,7 +256,7 @@ impl<'a> Cursor<'a> {
         if rest.len() < width(wide) {
             return Err(self.bad());
         }
-        let length = BigEndian::read_uint(rest, width(wide)) as usize;
+        let length = self.stated(wide);
         if length < head_size(wide) || rest.len() < length {
             return Err(self.bad());
         }
@@ -263,7 +279,7 @@ impl<'a> Cursor<'a> {
         let entry = self.entry_bytes(wide)?;
         let (flag, head) = (place + width(wide), head_size(wide));
         match entry[width(wide)] {
-            DIRECTORY => entry_of(params_at(alloc, DIR, dir_bits, place + head, &entry[head..])),
+            DIRECTORY_FLAG => entry_of(params_at(alloc, DIR, dir_bits, place + head, &entry[head..])),
             0 => entry_of(params_at(alloc, FILE, file_bits, place + head, &entry[head..])),
             _ => Err(ReplyFault::Bad { at: flag }),
         }

@@ -4,7 +4,7 @@ ghost use Rattle.byteorder.specs.Endian.{big_bytes};
 ghost use Rattle.afp_replies.specs.Bytes.{flag_of, width};
 ghost use Rattle.afp_replies.specs.Entry.{pad_count};
 
-use crate::fields::DIRECTORY;
+use crate::fields::DIRECTORY_FLAG;
 use afp_base::{Bytes, OutOfMemory};
 use byteorder::{BigEndian, ByteOrder};
 
@@ -12,7 +12,7 @@ use byteorder::{BigEndian, ByteOrder};
 pub fn flag_of(dir: bool) -> u8
     ensures { result ≡ flag_of dir }
 {
-    if dir { DIRECTORY } else { 0 }
+    if dir { DIRECTORY_FLAG } else { 0 }
 }
 
 /// Zeros where the length of an entry is to stand, narrow or wide.

@@ -7,7 +7,7 @@ ghost use Rattle.afp_base.specs.Appended.{Keeps};
 use afp_base::{Bytes, OutOfMemory};
 
 /// The flag of a directory (AFP Reference, "FPGetFileDirParms"). That of a file is 0.
-pub(crate) const DIRECTORY: u8 = 0x80;
+pub(crate) const DIRECTORY_FLAG: u8 = 0x80;
 
 /// The kinds of parameters.
 pub(crate) const VOLUME: u8 = 0;

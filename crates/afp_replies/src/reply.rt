@@ -104,11 +104,11 @@ pub enum Reply {
         tag: u32,
         values: Values,
     },
-    /// FPGetComment.
+    /// FPGetComment: a length byte and the comment.
     Comment {
         comment: Bytes,
     },
-    /// FPGetSessionToken.
+    /// FPGetSessionToken: a length of four bytes and the token.
     Token {
         token: Bytes,
     },

@@ -9,7 +9,7 @@ use Rattle.afp_base.specs.Overlap.{Covers, Range, do_meet}
 use Rattle.afp_base.specs.declared.code.Code.TheVariants.{DenyConflict, EOFErr}
 use Rattle.afp_base.specs.declared.ids.NodeId.{NodeId}
 use Rattle.afp_base.specs.declared.ids.VolumeId.{VolumeId}
-use Rattle.afp_bitmap.specs.Bits.{file_mask}
+use Rattle.afp_bitmap.specs.Bits.{file_mask, is_outside}
 use Rattle.afp_names.specs.Path.{PathValue}
 use Rattle.afp_replies.proofs.Showing.{what_fits_a_request}
 use Rattle.afp_replies.specs.Commands.{rows, shape_in, shape_of}
@@ -36,7 +36,6 @@ use Rattle.afp_serial.specs.World.{volume_at, World, OpenFork, Lock}
 use Rattle.afp_serial.specs.Sound.{share_fork}
 use Rattle.afp_volume.proofs.TestedLists.{apart-places, never}
 use Rattle.afp_volume.specs.OpenFork.{fork_values}
-use Rattle.afp_volume.specs.Parms.{is_outside}
 use Rattle.afp_volume.specs.VolumeState.{Row as File, VolumeState}
 
 -- conflicts

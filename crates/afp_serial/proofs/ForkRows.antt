@@ -7,7 +7,7 @@ use Rattle.afp_base.specs.Limits.{payload_limit}
 use Rattle.afp_base.specs.Choice.{first_holding}
 use Rattle.afp_base.specs.declared.code.Code.TheVariants.{AccessDenied, BitmapErr, EOFErr, LockErr, ParamErr}
 use Rattle.afp_base.specs.declared.ids.ForkRef.{ForkRef}
-use Rattle.afp_bitmap.specs.Bits.{file_mask}
+use Rattle.afp_bitmap.specs.Bits.{file_mask, is_outside}
 use Rattle.afp_bitmap.specs.Params.{params, IsAnswer}
 use Rattle.afp_bitmap.specs.declared.file.FileValues.{FileValues}
 use Rattle.afp_bitmap.specs.declared.params.Values.{Values}
@@ -36,7 +36,6 @@ use Rattle.afp_volume.proofs.ToldValues.{node-told}
 use Rattle.afp_volume.specs.Shared.{Opened}
 use Rattle.afp_volume.specs.NodeValues.{dir_values, file_values, node_values}
 use Rattle.afp_volume.specs.OpenFork.{fork_values}
-use Rattle.afp_volume.specs.Parms.{is_outside}
 use Rattle.afp_volume.specs.SoundVolume.{IsSoundVolume}
 use Rattle.afp_volume.specs.TypedVolume.{is_typed_volume}
 use Rattle.afp_volume.specs.VolumeState.{Row as File, VolumeState}

@@ -8,7 +8,7 @@ use Rattle.std.proofs.lemmas.List.Sums.{sum_by-cons}
 use Rattle.afp_base.specs.Limits.{payload_limit}
 use Rattle.byteorder.specs.Endian.{big_bytes}
 use Rattle.afp_base.specs.declared.code.Code.TheVariants.{BitmapErr}
-use Rattle.afp_bitmap.specs.Bits.{file_mask, dir_mask}
+use Rattle.afp_bitmap.specs.Bits.{file_mask, dir_mask, is_outside}
 use Rattle.afp_bitmap.specs.Params.{params, IsAnswer}
 use Rattle.afp_bitmap.specs.declared.directory.DirValues.{DirValues}
 use Rattle.afp_bitmap.specs.declared.file.FileValues.{FileValues}
@@ -26,7 +26,6 @@ use Rattle.afp_volume.proofs.ToldValues.{node-told}
 use Rattle.afp_volume.specs.Shared.{Opened}
 use Rattle.afp_volume.specs.Enumerate.{ListAsked, list_head, entry_head, longest_entry, entry_size, fits_reply, entries, enumerate_refusal}
 use Rattle.afp_volume.specs.NodeValues.{bits_of, node_values, dir_values, file_values}
-use Rattle.afp_volume.specs.Parms.{is_outside}
 use Rattle.afp_volume.specs.SoundVolume.{IsSoundVolume}
 use Rattle.afp_volume.specs.TypedVolume.{is_typed_volume}
 use Rattle.afp_volume.specs.VolumeState.{Row, VolumeState}

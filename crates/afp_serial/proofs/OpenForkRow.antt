@@ -12,7 +12,7 @@ use Rattle.afp_base.specs.declared.code.Code.{Code}
 use Rattle.afp_base.specs.declared.code.Code.TheVariants.{BitmapErr, DenyConflict, ObjectLocked, ObjectTypeErr, ParamErr, TooManyFilesOpen}
 use Rattle.afp_base.specs.declared.ids.NodeId.{NodeId}
 use Rattle.afp_base.specs.declared.ids.VolumeId.{VolumeId}
-use Rattle.afp_bitmap.specs.Bits.{file_mask}
+use Rattle.afp_bitmap.specs.Bits.{file_mask, is_outside}
 use Rattle.afp_bitmap.specs.Params.{params, IsAnswer}
 use Rattle.afp_bitmap.specs.declared.file.FileValues.{FileValues}
 use Rattle.afp_bitmap.specs.declared.params.Values.{Values}
@@ -50,7 +50,6 @@ use Rattle.afp_volume.proofs.Walks.{row-there}
 use Rattle.afp_volume.specs.Shared.{behind, done_at, has_attribute, write_inhibit}
 use Rattle.afp_volume.specs.NodeValues.{file_values}
 use Rattle.afp_volume.specs.OpenFork.{file_of, fork_values, is_resource, open_fork_file, open_fork_refusal}
-use Rattle.afp_volume.specs.Parms.{is_outside}
 use Rattle.afp_volume.specs.SoundVolume.{IsSoundVolume, has_file, has_node}
 use Rattle.afp_volume.specs.VolumeState.{Row as File, VolumeState}
 use Rattle.afp_volume.specs.Walk.{found, row_at}

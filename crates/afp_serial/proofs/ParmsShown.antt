@@ -3,7 +3,7 @@ use Rattle.std.proofs.Common.{◌==◌, ◌≡◌, refl, ℕ, arith, true, ◌||
 use Rattle.std.specs.Prelude.{Result, Ok, Err, option_map}
 use Rattle.afp_base.specs.declared.code.Code.{Code}
 use Rattle.afp_base.specs.declared.code.Code.TheVariants.{BitmapErr}
-use Rattle.afp_bitmap.specs.Bits.{volume_mask, file_mask, dir_mask}
+use Rattle.afp_bitmap.specs.Bits.{volume_mask, file_mask, dir_mask, is_outside}
 use Rattle.afp_replies.specs.Entry.{IsNode}
 use Rattle.afp_serial.proofs.ListShown.{node-answer, within}
 use Rattle.afp_serial.specs.ParmsReplies.{VolumeIsShown, NodeIsShown}
@@ -14,7 +14,6 @@ use Rattle.afp_volume.specs.Shared.{Opened, done_at}
 use Rattle.afp_volume.specs.GetFileDirParms.{get_file_dir_parms_refusal, get_file_dir_parms_values}
 use Rattle.afp_volume.specs.GetVolParms.{get_vol_parms_refusal}
 use Rattle.afp_volume.specs.NodeValues.{node_values, dir_values, file_values}
-use Rattle.afp_volume.specs.Parms.{is_outside}
 use Rattle.afp_volume.specs.SoundVolume.{IsSoundVolume}
 use Rattle.afp_volume.specs.TypedVolume.{is_typed_volume}
 use Rattle.afp_volume.specs.VolumeState.{Row, VolumeState}

@@ -9,7 +9,7 @@ use Rattle.afp_base.specs.declared.code.Code.{Code}
 use Rattle.afp_base.specs.declared.code.Code.TheVariants.{BitmapErr, DiskFull, ObjectExists}
 use Rattle.afp_base.specs.declared.ids.NodeId.{NodeId}
 use Rattle.afp_bitmap.specs.Params.{params}
-use Rattle.afp_bitmap.specs.Bits.{dir_mask, file_mask}
+use Rattle.afp_bitmap.specs.Bits.{dir_mask, file_mask, is_outside}
 use Rattle.afp_bitmap.specs.declared.params.Values.{Values}
 use Rattle.afp_bitmap.specs.declared.volume.VolumeValues.{VolumeValues}
 use Rattle.afp_bitmap.specs.declared.params.Values.TheVariants.{Volume}
@@ -42,7 +42,6 @@ use Rattle.afp_volume.specs.CreateDir.{create_dir_id, create_dir_refusal}
 use Rattle.afp_volume.specs.Enumerate.{ListAsked, entries, enumerate_refusal}
 use Rattle.afp_volume.specs.GetFileDirParms.{get_file_dir_parms_refusal, get_file_dir_parms_values}
 use Rattle.afp_volume.specs.GetVolParms.{get_vol_parms_refusal, volume_values}
-use Rattle.afp_volume.specs.Parms.{is_outside}
 use Rattle.afp_volume.specs.OpenDir.{open_dir_id, open_dir_refusal}
 use Rattle.afp_volume.specs.SoundVolume.{last_next_id, most_nodes}
 use Rattle.afp_volume.specs.VolumeState.{VolumeState}

@@ -6,7 +6,7 @@ use Rattle.std.proofs.lemmas.Bool.{and_parts, cond_both}
 use Rattle.afp_base.specs.Choice.{first_holding}
 use Rattle.afp_base.specs.declared.code.Code.{Code}
 use Rattle.afp_base.specs.declared.code.Code.TheVariants.{AccessDenied, BitmapErr, CantMove, CantRename, DirNotEmpty, DirNotFound, DiskFull, FileBusy, ObjectExists, ObjectLocked, ObjectNotFound, ObjectTypeErr, ParamErr}
-use Rattle.afp_bitmap.specs.Bits.{dir_mask, file_mask}
+use Rattle.afp_bitmap.specs.Bits.{dir_mask, file_mask, is_outside}
 use Rattle.afp_names.specs.Name.{name_key}
 use Rattle.afp_names.specs.Path.{PathValue}
 use Rattle.afp_names.specs.declared.path.Step.{Step}
@@ -22,7 +22,6 @@ use Rattle.afp_volume.specs.GetVolParms.{get_vol_parms_refusal}
 use Rattle.afp_volume.specs.MoveAndRename.{move_refusal}
 use Rattle.afp_volume.specs.OpenDir.{open_dir_refusal}
 use Rattle.afp_volume.specs.OpenFork.{open_fork_refusal}
-use Rattle.afp_volume.specs.Parms.{is_outside}
 use Rattle.afp_volume.specs.Rename.{rename_refusal}
 use Rattle.afp_volume.specs.SetFileDirParms.{set_dir_parms_refusal, set_file_dir_parms_refusal, set_file_parms_refusal}
 use Rattle.afp_volume.specs.SetVolParms.{set_vol_parms_refusal}

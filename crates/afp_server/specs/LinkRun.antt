@@ -48,7 +48,7 @@ pub record Fills (bytes : List ℕ) (frames : List Frame) (left : List ℕ) : Ty
   pub spelled : Spelled filled frames
   pub whole : bytes ≡ filled ++ left
 
--- all bytes that came
+-- all bytes that were read
 abbrev pub bytes_read : List Happening → List ℕ
 bytes_read trace = taken (events_in trace)
 

@@ -13,7 +13,7 @@ use crate::frames::serve_frames;
 use crate::session::LinkSession;
 use crate::stage::{Idle, Stage};
 use afp_base::{Moment, OutOfMemory};
-use afp_outside::{Gate, ReadResult, Link};
+use afp_outside::{Gate, Link, ReadResult};
 use afp_serial::{House, Teller};
 use dsi_frame::{BadFrame, Deframer};
 use std::alloc::Global;

@@ -9,7 +9,7 @@ use Rattle.std.proofs.Math.Seq.{take-add, take-length}
 use Rattle.afp_base.specs.Limits.{payload_limit}
 use Rattle.afp_base.specs.declared.code.Code.{Code}
 use Rattle.afp_base.specs.declared.code.Code.TheVariants.{BitmapErr, ObjectTypeErr, ObjectNotFound, ParamErr}
-use Rattle.afp_bitmap.specs.Bits.{file_mask, dir_mask}
+use Rattle.afp_bitmap.specs.Bits.{file_mask, dir_mask, is_outside}
 use Rattle.afp_names.specs.Path.{PathValue}
 use Rattle.afp_volume.proofs.CallsSound.{not-false}
 use Rattle.afp_volume.proofs.Listings.{count-once, lists-by-key}
@@ -22,7 +22,6 @@ use Rattle.afp_volume.specs.Enumerate.{ListAsked, is_counted, counted_children, 
 use Rattle.afp_volume.specs.Listing.{row_key, children, listed, page}
 use Rattle.afp_volume.specs.ListLaws.{is_counted_child, PageAsked, asked_from, entries_in_turn}
 use Rattle.afp_volume.specs.Order.{rises, stands_before, in_order}
-use Rattle.afp_volume.specs.Parms.{is_outside}
 use Rattle.afp_volume.specs.SoundVolume.{IsSoundVolume}
 use Rattle.afp_volume.specs.VolumeState.{Row, VolumeState}
 use Rattle.afp_volume.specs.Walk.{found, has_directory}

@@ -7,13 +7,12 @@ use Rattle.std.proofs.lemmas.List.{length-drop, length-take-le}
 use Rattle.std.proofs.lemmas.Nat.{and_assoc, and_comm}
 use Rattle.std.specs.Int.Bits.{and_self}
 use Rattle.afp_base.specs.declared.code.Code.TheVariants.{BitmapErr, ObjectTypeErr, ParamErr}
-use Rattle.afp_bitmap.specs.Bits.{is_asked}
+use Rattle.afp_bitmap.specs.Bits.{is_asked, is_outside}
 use Rattle.afp_names.specs.Name.{name_fault}
 use Rattle.afp_names.specs.Path.{PathValue}
 use Rattle.afp_volume.proofs.Refusals.{none-holds, none-first, at-found}
 use Rattle.afp_volume.proofs.SoundEdits.{KeepsRow, sound-at, sound-changed}
 use Rattle.afp_volume.specs.Edits.{with_changed}
-use Rattle.afp_volume.specs.Parms.{is_outside}
 use Rattle.afp_volume.specs.SetFileDirParms.{Settings, has_sized_finder, set_fields, asked_bytes, is_short_tail, field_in, settings_in, attributes_by, with_settings, settable_bits, settable_dir_bits, set_file_parms_refusal, set_dir_parms_refusal, set_file_dir_parms_refusal, with_node_set, set_parms_effect}
 use Rattle.afp_volume.specs.SetVolParms.{set_vol_parms_effect}
 use Rattle.afp_volume.specs.SoundVolume.{IsSoundVolume, is_tree, has_apart_names, has_noted_nodes, keeps_limits, is_formed_volume, is_in_order, is_formed, is_named, has_file, file_attributes, dir_attributes}

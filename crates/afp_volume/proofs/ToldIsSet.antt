@@ -9,14 +9,14 @@ use Rattle.std.proofs.lemmas.List.{append-nil, append_assoc, length-append}
 use Rattle.std.proofs.lemmas.Nat.Bits.{bit_at_and}
 use Rattle.byteorder.specs.Endian.{big_bytes, big_number}
 use Rattle.afp_bitmap.proofs.Numbers.{number_again, length-big_bytes, date_lt, date_again}
-use Rattle.afp_bitmap.specs.Bits.{is_asked}
+use Rattle.afp_bitmap.specs.Bits.{is_asked, is_outside}
 use Rattle.afp_bitmap.specs.Field.{Field, Number, Date, Finder, LongName, Utf8Name, fixed_bytes, name_parts}
 use Rattle.afp_bitmap.specs.Params.{asked_of, name_size, fixed_parts, size_of_fixed_part, parts, params, IsAnswer}
 use Rattle.afp_bitmap.specs.Table.{FieldRow, rows, file_rows, dir_rows}
 use Rattle.afp_bitmap.specs.declared.file.FileValues.{FileValues}
 use Rattle.afp_bitmap.specs.declared.directory.DirValues.{DirValues}
 use Rattle.afp_bitmap.specs.declared.params.Values.TheVariants.{File, Dir}
-use Rattle.afp_volume.specs.Parms.{is_outside, date_in}
+use Rattle.afp_volume.specs.Parms.{date_in}
 use Rattle.afp_volume.specs.SetFileDirParms.{set_fields, asked_bytes, is_short_tail, field_in, settings_in, settable_bits, settable_dir_bits}
 use Rattle.afp_volume.specs.ValueLaws.{settings_told}
 

@@ -9,7 +9,7 @@ use Rattle.std.proofs.lemmas.List.Sums.{sum_by-cons}
 use Rattle.std.proofs.lemmas.Nat.{or_lt}
 use Rattle.afp_base.specs.declared.code.Code.{Code}
 use Rattle.afp_base.specs.declared.code.Code.TheVariants.{BitmapErr, ObjectTypeErr, ObjectNotFound}
-use Rattle.afp_bitmap.specs.Bits.{is_asked, file_mask, dir_mask}
+use Rattle.afp_bitmap.specs.Bits.{is_asked, file_mask, dir_mask, is_outside}
 use Rattle.afp_bitmap.specs.Field.{Number, Date, Finder, LongName, Utf8Name}
 use Rattle.afp_bitmap.specs.Params.{Fits, IsAnswer}
 use Rattle.afp_bitmap.specs.Table.{rows, volume_rows, file_rows, dir_rows}
@@ -32,7 +32,6 @@ use Rattle.afp_names.specs.Path.{PathValue}
 use Rattle.afp_volume.specs.GetVolParms.{free_bytes, volume_values}
 use Rattle.afp_volume.specs.Listing.{children}
 use Rattle.afp_volume.specs.NodeValues.{is_open, told_attributes, file_values, dir_values, bits_of, node_values}
-use Rattle.afp_volume.specs.Parms.{is_outside}
 use Rattle.afp_base.specs.Limits.{most_fork_bytes}
 use Rattle.afp_volume.specs.SoundVolume.{IsSoundVolume, is_formed, is_named, fork_bytes, row_bytes, is_in_place, leads_to_root}
 use Rattle.afp_volume.specs.TypedVolume.{is_date, is_typed_row, is_typed_volume}

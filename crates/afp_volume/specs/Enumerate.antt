@@ -5,14 +5,13 @@ use Rattle.afp_base.specs.Choice.{first_holding}
 use Rattle.afp_base.specs.Limits.{payload_limit}
 use Rattle.afp_base.specs.declared.code.Code.{Code}
 use Rattle.afp_base.specs.declared.code.Code.TheVariants.{BitmapErr, ObjectNotFound, ObjectTypeErr, ParamErr}
-use Rattle.afp_bitmap.specs.Bits.{file_mask, dir_mask}
+use Rattle.afp_bitmap.specs.Bits.{file_mask, dir_mask, is_outside}
 use Rattle.afp_bitmap.specs.Params.{params}
 use Rattle.afp_names.specs.Path.{PathValue}
 use Rattle.afp_volume.specs.VolumeState.{Row, VolumeState}
 use Rattle.afp_volume.specs.Walk.{found, has_directory}
 use Rattle.afp_volume.specs.Shared.{Opened, behind, first_or}
 use Rattle.afp_volume.specs.Listing.{listed}
-use Rattle.afp_volume.specs.Parms.{is_outside}
 use Rattle.afp_volume.specs.NodeValues.{bits_of, node_values}
 
 -- what is asked of a list: whether the lengths of its entries are wide (they are but in FPEnumerate), what to tell of files and of

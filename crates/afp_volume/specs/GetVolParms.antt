@@ -3,12 +3,12 @@ use Rattle.std.specs.Prelude.{ℕ, pos, ◌-◌, ◌==◌, ◌||◌, [], ◌∷�
 use Rattle.afp_base.specs.Choice.{first_holding}
 use Rattle.afp_base.specs.declared.code.Code.{Code}
 use Rattle.afp_base.specs.declared.code.Code.TheVariants.{BitmapErr}
-use Rattle.afp_bitmap.specs.Bits.{volume_mask}
+use Rattle.afp_bitmap.specs.Bits.{volume_mask, is_outside}
 use Rattle.afp_bitmap.specs.declared.volume.VolumeValues.{VolumeValues}
 use Rattle.afp_volume.specs.VolumeState.{VolumeState}
 use Rattle.afp_base.specs.Limits.{block_size, most_fork_bytes}
 use Rattle.afp_volume.specs.SoundVolume.{fork_bytes}
-use Rattle.afp_volume.specs.Parms.{is_outside, asked_or}
+use Rattle.afp_volume.specs.Parms.{asked_or}
 
 -- why it is refused (this profile)
 unfoldable pub get_vol_parms_refusal : ℕ → Option Code

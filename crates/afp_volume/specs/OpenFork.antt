@@ -3,13 +3,12 @@ use Rattle.std.specs.Prelude.{ℕ, ◌==◌, Bool, not, ◌&&◌, List, [], ◌�
 use Rattle.afp_base.specs.Choice.{first_holding}
 use Rattle.afp_base.specs.declared.code.Code.{Code}
 use Rattle.afp_base.specs.declared.code.Code.TheVariants.{BitmapErr, ObjectLocked, ObjectTypeErr}
-use Rattle.afp_bitmap.specs.Bits.{file_mask}
+use Rattle.afp_bitmap.specs.Bits.{file_mask, is_outside}
 use Rattle.afp_bitmap.specs.declared.params.Values.{Values}
 use Rattle.afp_bitmap.specs.declared.params.Values.TheVariants.{File}
 use Rattle.afp_names.specs.Path.{PathValue}
 use Rattle.afp_volume.specs.Shared.{Opened, behind, done_at, first_or, has_attribute, write_inhibit}
 use Rattle.afp_volume.specs.NodeValues.{file_values}
-use Rattle.afp_volume.specs.Parms.{is_outside}
 use Rattle.afp_volume.specs.SoundVolume.{has_file}
 use Rattle.afp_volume.specs.VolumeState.{Row, VolumeState}
 use Rattle.afp_volume.specs.Walk.{found, row_at}

@@ -1,12 +1,8 @@
 -- What the calls share that tell or set parameters (AFP Reference, "FPGetFileDirParms").
-use Rattle.std.specs.Prelude.{ℕ, ℤ, ◌==◌, Bool, not, List, bit_and, if◌then◌else◌}
+use Rattle.std.specs.Prelude.{ℕ, ℤ, List, if◌then◌else◌}
 use Rattle.std.specs.Int.{w32, cast_signed}
 use Rattle.byteorder.specs.Endian.{big_number}
 use Rattle.afp_bitmap.specs.Bits.{is_asked}
-
--- whether a bit outside the mask is set (AFP Reference, "FPGetFileDirParms")
-abbrev pub is_outside : ℕ → ℕ → Bool
-is_outside mask bits = not (bit_and bits mask == bits)
 
 -- a value whose bit is asked, or what stands for one that is not (this profile)
 abbrev pub asked_or : {A : Type 0} → ℕ → ℕ → A → A → A

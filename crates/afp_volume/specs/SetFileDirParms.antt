@@ -7,14 +7,14 @@ use Rattle.byteorder.specs.Endian.{big_number}
 use Rattle.afp_base.specs.Choice.{first_holding}
 use Rattle.afp_base.specs.declared.code.Code.{Code}
 use Rattle.afp_base.specs.declared.code.Code.TheVariants.{BitmapErr, ObjectTypeErr, ParamErr}
-use Rattle.afp_bitmap.specs.Bits.{is_asked}
+use Rattle.afp_bitmap.specs.Bits.{is_asked, is_outside}
 use Rattle.afp_names.specs.Path.{PathValue}
 use Rattle.afp_volume.specs.VolumeState.{Row, VolumeState, finder_size}
 use Rattle.afp_volume.specs.SoundVolume.{has_file, file_attributes, dir_attributes}
 use Rattle.afp_volume.specs.Walk.{found, has_directory}
 use Rattle.afp_volume.specs.Edits.{with_changed, changed_at}
 use Rattle.afp_volume.specs.Shared.{behind, done_at, first_or}
-use Rattle.afp_volume.specs.Parms.{is_outside, date_in}
+use Rattle.afp_volume.specs.Parms.{date_in}
 
 -- the bits that may be set: attributes, three dates, Finder info; of a directory by FPSetDirParms also owner, group and access rights
 -- (AFP Reference, "File Bitmap", "Directory Bitmap")

@@ -1,6 +1,6 @@
 -- The laws of what is told of a volume and of its nodes (this profile).
 use Rattle.std.specs.Prelude.{◌≡◌, ℕ, ℤ, ◌<◌, ◌^◌, true, false, List, ◌++◌, Option, None, Some, is_some, if◌then◌else◌}
-use Rattle.afp_bitmap.specs.Bits.{is_asked}
+use Rattle.afp_bitmap.specs.Bits.{is_asked, is_outside}
 use Rattle.afp_bitmap.specs.Params.{params, IsAnswer}
 use Rattle.afp_bitmap.specs.declared.file.FileValues.{FileValues}
 use Rattle.afp_bitmap.specs.declared.directory.DirValues.{DirValues}
@@ -14,7 +14,6 @@ use Rattle.afp_volume.specs.Shared.{Opened}
 use Rattle.afp_volume.specs.GetFileDirParms.{get_file_dir_parms_refusal, get_file_dir_parms_values}
 use Rattle.afp_volume.specs.GetVolParms.{volume_values}
 use Rattle.afp_volume.specs.NodeValues.{bits_of, node_values}
-use Rattle.afp_volume.specs.Parms.{is_outside}
 use Rattle.afp_volume.specs.SetFileDirParms.{Settings, is_short_tail, settings_in, settable_bits, settable_dir_bits}
 use Rattle.afp_volume.specs.OpenDir.{open_dir_refusal, open_dir_id}
 

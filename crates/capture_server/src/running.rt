@@ -11,7 +11,7 @@ use crate::connection::Connection;
 use crate::difference::Difference;
 use crate::new_keepers::NewKeepers;
 use crate::replay_counts::ReplayCounts;
-use crate::slots::{compare_at, feed_at, is_lost_at, is_over_at, is_used_at, lose_at, idle_at};
+use crate::slots::{compare_at, feed_at, idle_at, is_lost_at, is_over_at, is_used_at, lose_at};
 use afp_base::{Moment, OutOfMemory};
 use afp_core::{Core, CoreFault, ListTeller};
 use afp_serial::House;

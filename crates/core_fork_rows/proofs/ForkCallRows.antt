@@ -11,7 +11,7 @@ use Rattle.afp_base.specs.declared.code.Code.{Code}
 use Rattle.afp_base.specs.declared.code.Code.TheVariants.{AccessDenied, BitmapErr, DiskFull, LockErr, ParamErr}
 use Rattle.afp_base.specs.declared.ids.ForkRef.{ForkRef}
 use Rattle.afp_base.specs.declared.ids.NodeId.{NodeId}
-use Rattle.afp_bitmap.specs.Bits.{file_mask}
+use Rattle.afp_bitmap.specs.Bits.{file_mask, is_outside}
 use Rattle.afp_bitmap.specs.Params.{params}
 use Rattle.afp_bitmap.specs.declared.params.Values.{Values}
 use Rattle.afp_replies.specs.Replies.{canonical_reply}
@@ -26,7 +26,6 @@ use Rattle.afp_serial.specs.declared.ask.Outcome.{Outcome}
 use Rattle.afp_serial.specs.declared.ask.Told.{Told}
 use Rattle.afp_volume.specs.ForkEffect.{fork_of, would_pass}
 use Rattle.afp_volume.specs.OpenFork.{fork_values}
-use Rattle.afp_volume.specs.Parms.{is_outside}
 use Rattle.afp_volume.specs.SetForkParms.{asks_length, has_no_length, length_in}
 use Rattle.afp_volume.specs.VolumeState.{Row as File, VolumeState}
 use Rattle.afp_volume.specs.Walk.{row_at}

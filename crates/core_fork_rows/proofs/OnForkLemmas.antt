@@ -7,7 +7,7 @@ use Rattle.afp_base.specs.DenyMode.{Fork}
 use Rattle.afp_base.specs.declared.bytes.OutOfMemory.{OutOfMemory}
 use Rattle.afp_base.specs.declared.code.Code.{Code}
 use Rattle.afp_base.specs.declared.code.Code.TheVariants.{DiskFull, Ok, MiscErr, ParamErr}
-use Rattle.afp_bitmap.specs.Bits.{IsWithin, file_mask}
+use Rattle.afp_bitmap.specs.Bits.{IsWithin, file_mask, is_outside}
 use Rattle.afp_replies.specs.Replies.{canonical_reply}
 use Rattle.afp_replies.specs.declared.reply.Reply.{Reply as AfpReply}
 use Rattle.afp_requests.specs.declared.call.Call.{Call}
@@ -22,7 +22,6 @@ use Rattle.afp_serial.specs.declared.ask.Told.{Told}
 use Rattle.afp_serial.specs.declared.ask.Told.TheVariants.{Reply}
 use Rattle.afp_volume.proofs.TestedLists.{find-passes}
 use Rattle.afp_volume.specs.ForkEffect.{fork_effect, would_pass}
-use Rattle.afp_volume.specs.Parms.{is_outside}
 use Rattle.afp_volume.specs.SoundVolume.{has_file}
 use Rattle.afp_volume.specs.VolumeState.{Row as File, VolumeState}
 use Rattle.afp_volume.specs.Walk.{row_at}

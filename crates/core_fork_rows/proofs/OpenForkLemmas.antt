@@ -9,7 +9,7 @@ use Rattle.afp_base.specs.declared.code.Code.TheVariants.{BitmapErr, DenyConflic
 use Rattle.afp_base.specs.declared.ids.ForkRef.{ForkRef}
 use Rattle.afp_base.specs.declared.ids.NodeId.{NodeId}
 use Rattle.afp_base.specs.declared.ids.VolumeId.{VolumeId}
-use Rattle.afp_bitmap.specs.Bits.{file_mask}
+use Rattle.afp_bitmap.specs.Bits.{file_mask, is_outside}
 use Rattle.afp_names.specs.Path.{PathValue}
 use Rattle.afp_replies.specs.Replies.{canonical_reply}
 use Rattle.afp_replies.specs.declared.reply.Reply.TheVariants.{Opened}
@@ -25,7 +25,6 @@ use Rattle.afp_serial.specs.declared.ask.Told.{Told}
 use Rattle.afp_serial.specs.declared.ask.Told.TheVariants.{Reply}
 use Rattle.afp_volume.specs.OpenFork.{fork_values, is_resource, open_fork_file, open_fork_refusal}
 use Rattle.afp_volume.specs.Shared.{first_or}
-use Rattle.afp_volume.specs.Parms.{is_outside}
 use Rattle.afp_volume.specs.SoundVolume.{has_file}
 use Rattle.afp_volume.specs.VolumeState.{Row as File, VolumeState}
 use Rattle.afp_volume.specs.Walk.{row_at}

@@ -1,13 +1,12 @@
 //! FPGetForkParms (AFP Reference, "FPGetForkParms").
 ghost use Rattle.std.specs.Prelude.{◌≡◌, ◌++◌, ◌<◌, Some, true, length, slice_get, IfOk, OnOk, OnErr};
-ghost use Rattle.afp_bitmap.specs.Bits.{IsWithin, file_mask};
+ghost use Rattle.afp_bitmap.specs.Bits.{IsWithin, file_mask, is_outside};
 ghost use Rattle.afp_bitmap.specs.Params.{params};
 ghost use Rattle.afp_replies.specs.Replies.{canonical_reply};
 ghost use Rattle.afp_replies.specs.declared.reply.Reply.TheVariants.{Params};
 ghost use Rattle.afp_requests.specs.declared.call.Call.{Call};
 ghost use Rattle.afp_serial.specs.OnVolume.{opened_on};
 ghost use Rattle.afp_volume.specs.OpenFork.{fork_values};
-ghost use Rattle.afp_volume.specs.Parms.{is_outside};
 ghost use Rattle.afp_volume.specs.SoundVolume.{has_file};
 ghost use Rattle.afp_volume.specs.VolumeState.{Row, VolumeState};
 ghost use Rattle.afp_volume.specs.Walk.{row_at};
@@ -80,8 +79,8 @@ pub(crate) fn put_file_params<K: Keeper>(
 }
 
 /// Whether a bit is set that asks nothing of a file.
-pub(crate) fn is_outside(bits: u16) -> bool
+fn is_outside(bits: u16) -> bool
     ensures { result ≡ is_outside file_mask bits }
 {
-    bits & FileBits::MASK != bits
+    afp_bitmap::is_outside(FileBits::MASK, bits)
 }

@@ -16,9 +16,8 @@ ghost use Rattle.core_state.specs.Running.{IsReady, RunsRow};
 ghost use Rattle.kept_volume.specs.ForkChanging.{GivesBytes};
 
 use afp_base::laws::resizing_keeps_the_front;
-use afp_base::{Bytes, Code, ForkRef, NodeId, OutOfMemory, SessionNumber};
+use afp_base::{Bytes, Code, ForkRef, NodeId, OutOfMemory, Scan, SessionNumber};
 use afp_serial::{Outcome, Told};
-use byteorder::{BigEndian, ByteOrder};
 use core_state::{State, refused, told_changed};
 use kept_volume::ChangeFault;
 use record_keeper::Keeper;
@@ -136,23 +135,24 @@ fn ext_length_bits(resource: bool) -> u16
 }
 
 /// The length in the first 4 bytes.
+#[tactic(auto, using(afp_base::proofs::Numbers::number_front))]
 fn short_length(tail: &[u8]) -> Option<u64>
     ensures { MatchOption result (nat_lt (length tail.now) 4 ≡ true) (λ len. (nat_lt (length tail.now) 4 ≡ false) × (len ≡ big_number 4 tail.now)) }
 {
-    if tail.len() < 4 {
-        return None;
+    match Scan::new(tail).u32() {
+        Ok(len) => Some(u64::from(len)),
+        Err(_) => None,
     }
-    Some(u64::from(BigEndian::read_u32(tail)))
 }
 
 /// The length in the first 8 bytes, which is not negative.
+#[tactic(auto, using(afp_base::proofs::Numbers::number_front))]
 fn ext_length(tail: &[u8]) -> Option<u64>
     ensures { MatchOption result (is_no_ext_length tail.now ≡ true) (λ len. (is_no_ext_length tail.now ≡ false) × (len ≡ big_number 8 tail.now)) }
 {
-    if tail.len() < 8 {
+    let Ok(len) = Scan::new(tail).u64() else {
         return None;
-    }
-    let len = BigEndian::read_u64(tail);
+    };
     if len >= NEGATIVE {
         return None;
     }

@@ -12,7 +12,7 @@ ghost use Rattle.core_volume_rows.specs.lemma.VolumeRows.{IsNamed};
 ghost use Rattle.core_state.specs.Running.{RunsRow};
 
 use afp_base::{Bytes, Code, OutOfMemory, SessionNumber, VolumeId};
-use afp_bitmap::VolumeBits;
+use afp_bitmap::{VolumeBits, is_outside};
 use afp_serial::{Outcome, Told};
 use core_state::{State, done, refused};
 use record_keeper::Keeper;
@@ -76,7 +76,7 @@ fn volume_block<K: Keeper>(
 fn are_refused(bits: u16) -> bool
     ensures { get_vol_parms_refusal bits ≡ (if result then Some Code.BitmapErr else None) }
 {
-    bits & VolumeBits::MASK != bits || bits == 0
+    is_outside(VolumeBits::MASK, bits) || bits == 0
 }
 
 /// The id of the volume with exactly that name. Ids count from 1, in the house's order.

@@ -33,7 +33,9 @@ fn yes(holds: bool) -> LineResult {
 /// What comes of a line on the bytes of a fork.
 fn of_fork(alloc: Global, fork: &mut Fork, line: &Line<'_>) -> Result<LineResult, OutOfMemory> {
     match line.kind {
-        Kind::Write | Kind::Resize => Ok(LineResult::Number(forks::change(alloc, fork, line)? as u64)),
+        Kind::Write | Kind::Resize => Ok(LineResult::Number(
+            forks::change(alloc, fork, line)? as u64,
+        )),
         Kind::Read | Kind::Line => Ok(LineResult::Bytes(forks::read(alloc, fork, line)?)),
         Kind::Stopped | Kind::Blocks | Kind::CopyLength => {
             Ok(LineResult::Number(forks::count(alloc, fork, line)?))

@@ -3,8 +3,7 @@ use Rattle.std.proofs.Common.{Bool, false, [], ◌∷◌, ◌≡◌, ◌∙◌, 
 use Rattle.std.specs.Prelude.{Result, Ok, Err, OnOk, IfOk, is_some, ◌==◌, ◌&&◌, if◌then◌else◌}
 use Rattle.afp_base.specs.declared.code.Code.{Code}
 use Rattle.afp_base.specs.declared.code.Code.TheVariants.{BitmapErr}
-use Rattle.afp_bitmap.specs.Bits.{file_mask, dir_mask}
-use Rattle.afp_volume.specs.Parms.{is_outside}
+use Rattle.afp_bitmap.specs.Bits.{file_mask, dir_mask, is_outside}
 use Rattle.afp_base.specs.declared.ids.NodeId.{NodeId}
 use Rattle.afp_bitmap.specs.declared.params.Values.{Values}
 use Rattle.afp_names.specs.Path.{PathValue}

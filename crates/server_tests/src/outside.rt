@@ -2,8 +2,8 @@
 use crate::taped::{Plan, link_of, moment};
 use afp_base::{Bytes, LinkNumber, OutOfMemory};
 use afp_outside::{
-    Accepted, Clock, Gate, ReadResult, Link, Listener, OpenGate, Sink, Source, SteadyClock, SystemClock,
-    TapeClock, TapeLink, TapeListener, TapeSink, TapeSource, TcpDoor, Wrote,
+    Accepted, Clock, Gate, Link, Listener, OpenGate, ReadResult, Sink, Source, SteadyClock,
+    SystemClock, TapeClock, TapeLink, TapeListener, TapeSink, TapeSource, TcpDoor, Wrote,
 };
 use std::alloc::Global;
 use std::cell::Cell;

@@ -9,9 +9,8 @@ ghost use Rattle.volume_tree.specs.Answered.{Refuses};
 
 use crate::node::{is_dir, node_at};
 use afp_base::{Code, NodeId};
-use afp_bitmap::FileBits;
+use afp_bitmap::{FileBits, is_outside};
 use afp_names::Path;
-use afp_volume::is_outside;
 use afp_volume::laws::rows_are_changed_in_place;
 use node_rows::Node;
 use std::alloc::Global;

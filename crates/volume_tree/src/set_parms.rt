@@ -11,8 +11,8 @@ use crate::settings::Settings;
 use crate::tails::{is_short_tail, settings_in};
 use crate::volume::Volume;
 use afp_base::{Code, Moment, NodeId};
+use afp_bitmap::is_outside;
 use afp_names::Path;
-use afp_volume::is_outside;
 use afp_volume::laws::calls_keep_volumes_sound;
 use std::alloc::Global;
 

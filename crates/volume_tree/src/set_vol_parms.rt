@@ -1,5 +1,5 @@
 //! FPSetVolParms.
-ghost use Rattle.std.specs.Prelude.{◌≡◌, ◌≤◌, length, Some, None, IfOk};
+ghost use Rattle.std.specs.Prelude.{◌≡◌, ◌<◌, ◌≤◌, length, Some, None, IfOk, OnErr};
 ghost use Rattle.afp_volume.specs.Parms.{date_in};
 ghost use Rattle.afp_volume.specs.SetVolParms.{set_vol_parms_refusal, set_vol_parms_effect};
 ghost use Rattle.volume_tree.specs.Answered.{Refuses};
@@ -9,17 +9,25 @@ ghost use Rattle.volume_tree.specs.lemma.Planned.{plan_set};
 use crate::plan::Plan;
 use crate::resolve::PlanFault;
 use crate::volume::Volume;
-use afp_base::{Code, Moment};
+use afp_base::{Code, Moment, Scan, Short};
 use afp_volume::laws::calls_keep_volumes_sound;
-use byteorder::{BigEndian, ByteOrder};
 
 /// The bits that may be set: the backup date alone (AFP Reference, "Volume Bitmap").
 const BACKUP_DATE_ALONE: u16 = 0x0010;
 
-/// The plan of a backup date, which bytes begin with.
-fn plan_backup(now: Moment, tail: &[u8]) -> Plan
-    requires { 4 ≤ length tail.now }
-    ensures { result ≡ plan_set now None (Some (date_in tail.now)) }
+/// The date in the first 4 bytes.
+#[tactic(auto, using(afp_base::proofs::Numbers::number_front))]
+fn first_date(tail: &[u8]) -> Result<i32, Short>
+    ensures ok { IfOk result (λ date. (4 ≤ length tail.now) × (date ≡ date_in tail.now)) }
+    ensures err { OnErr result (length tail.now < 4) }
+{
+    let date = Scan::new(tail).u32()?;
+    Ok(date.cast_signed())
+}
+
+/// The plan of a backup date.
+fn plan_backup(now: Moment, date: i32) -> Plan
+    ensures { result ≡ plan_set now None (Some date) }
 {
     Plan {
         moment: now,
@@ -27,7 +35,7 @@ fn plan_backup(now: Moment, tail: &[u8]) -> Plan
         come: None,
         moved: None,
         set: None,
-        backup: Some(BigEndian::read_u32(tail).cast_signed()),
+        backup: Some(date),
         modified_dir: None,
         modified_dir_too: None,
     }
@@ -52,9 +60,9 @@ impl Volume {
         if bits != BACKUP_DATE_ALONE {
             return Err(PlanFault::Code(Code::BitmapErr));
         }
-        if tail.len() < 4 {
+        let Ok(date) = first_date(tail) else {
             return Err(PlanFault::Code(Code::ParamErr));
-        }
-        Ok(plan_backup(now, tail))
+        };
+        Ok(plan_backup(now, date))
     }
 }

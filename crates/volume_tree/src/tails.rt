@@ -6,6 +6,7 @@ ghost use Rattle.afp_volume.specs.SetFileDirParms.{asked_bytes, field_in, is_sho
 ghost use Rattle.volume_tree.specs.lemma.Tails.{lower_bytes, size_asked};
 
 use crate::settings::Settings;
+use afp_base::Scan;
 use afp_bitmap::is_asked;
 use byteorder::{BigEndian, ByteOrder};
 
@@ -17,18 +18,15 @@ fn size_asked(bits: u16, bit: u32, size: usize) -> usize
     if is_asked(bits, bit) { size } else { 0 }
 }
 
-fn behind(bytes: &[u8], at: usize) -> &[u8]
-    requires { at ≤ length bytes.now }
-    ensures { result.now ≡ drop at bytes.now }
+/// The next `size` bytes at a place.
+fn piece_at(bytes: &[u8], at: usize, size: usize) -> &[u8]
+    requires { at + size ≤ length bytes.now }
+    ensures { result.now ≡ take size (drop at bytes.now) }
 {
-    &bytes[at..]
-}
-
-fn front(bytes: &[u8], size: usize) -> &[u8]
-    requires { size ≤ length bytes.now }
-    ensures { result.now ≡ take size bytes.now }
-{
-    &bytes[..size]
+    match Scan::at(bytes, at).bytes(size) {
+        Ok(piece) => piece,
+        Err(_) => unreachable!(),
+    }
 }
 
 /// The bytes of the field of this bit and size, which begins at a place, where it is asked.
@@ -42,7 +40,7 @@ fn field(bits: u16, tail: &[u8], bit: u32, at: usize, size: usize) -> Option<&[u
     if !is_asked(bits, bit) {
         return None;
     }
-    Some(front(behind(tail, at), size))
+    Some(piece_at(tail, at, size))
 }
 
 fn word_in(bits: u16, tail: &[u8], bit: u32, at: usize) -> Option<u16>
