@@ -14,7 +14,7 @@ use Rattle.record_keeper.specs.Reading.{IsAll, IsFaultOf, Rises, entry_of, most_
 use Rattle.volume_records.specs.declared.rows.Reason.TheVariants.{Limit}
 use Rattle.volume_records.specs.FirstBad.{first_bad, first_bad_record, too_many}
 use Rattle.volume_records.specs.Image.{entries_of, image, kept_image, records_in, rows_of, tables_of}
-use Rattle.volume_records.specs.KeyOrder.{counted}
+use Rattle.volume_records.specs.KeyOrder.{with_head_and_root}
 use Rattle.volume_records.specs.Laws.{ImagesRise}
 use Rattle.volume_keeper.specs.declared.loading.LoadFault.{LoadFault}
 use Rattle.volume_keeper.specs.declared.loading.LoadFault.TheVariants as fault
@@ -121,7 +121,7 @@ over_many : (name : List ℕ) (es : List (List ℕ × List ℕ)) (key : List ℕ
 over_many name [] key e = absurd (cc)
 over_many name (x ∷ es) key e =
     let two = one_over most_records (x ∷ es) key e in
-    ap (λ b. cond b (too_many (drop most_records (map record_by (x ∷ es)))) (first_bad name (counted (map record_by (x ∷ es))))) two.0 ∙ two.1
+    ap (λ b. cond b (too_many (drop most_records (map record_by (x ∷ es)))) (first_bad name (with_head_and_root (map record_by (x ∷ es))))) two.0 ∙ two.1
 
 refused_one : (name : List ℕ) (f : ReadAllFault) (g : LoadFault) → IsReadFault f g → (kept : Records) → IsFaultOf kept f → IsFaultIn name (records_in kept) g
 refused_one name (read.TooMany key) g is kept e = subst (IsFaultIn name (records_in kept)) (sym is) (over_many name (entries kept) key e)

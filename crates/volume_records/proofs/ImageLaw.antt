@@ -12,10 +12,10 @@ use Rattle.afp_volume.specs.SoundVolume.{IsSoundVolume}
 use Rattle.record_keeper.specs.declared.record.Record.{Record}
 use Rattle.volume_records.specs.Records.{record_of}
 use Rattle.volume_records.specs.Image.{Tables, Records, rows_of, tables_of, tables_in, image, kept_image, records_in, entries_of}
-use Rattle.volume_records.specs.KeyOrder.{IsBelow, Rises, counted}
+use Rattle.volume_records.specs.KeyOrder.{IsBelow, Rises, with_head_and_root}
 use Rattle.record_keeper.specs.Reading.{most_records}
 use Rattle.volume_records.specs.FirstBad.{rows_in, first_bad, first_bad_record, too_many}
-use Rattle.volume_records.specs.Laws.{IsVolume, HasRecords, IsKept}
+use Rattle.volume_records.specs.Laws.{IsVolume, HasRecords, HasKeptRecords}
 use Rattle.volume_records.proofs.TestParts.{lt_of}
 use Rattle.volume_records.proofs.Whole.{IsWhole, counted_made, whole_good, tables_read}
 use Rattle.volume_records.proofs.ForkParts.{ForkLaw, volume_of}
@@ -44,7 +44,7 @@ module _ (law : ForkLaw) where
   pub whole_volume : (name : List ℕ) (t : Tables) → IsWhole name t → IsVolume name (volume_of name t)
   whole_volume name t w = record { sound = volume_sound law name t w; typed = volume_typed name t w; named = refl }
 
-  few_only : (name : List ℕ) (r : Record) (records : List Record) (b : Bool) → cond b (too_many (drop most_records (r ∷ records))) (first_bad name (counted (r ∷ records))) ≡ None → nat_lt most_records (length (r ∷ records)) ≡ b → first_bad name (counted (r ∷ records)) ≡ None
+  few_only : (name : List ℕ) (r : Record) (records : List Record) (b : Bool) → cond b (too_many (drop most_records (r ∷ records))) (first_bad name (with_head_and_root (r ∷ records))) ≡ None → nat_lt most_records (length (r ∷ records)) ≡ b → first_bad name (with_head_and_root (r ∷ records)) ≡ None
   few_only name r records false e h = e
   few_only name r records true e h = absurd (none_over most_records (r ∷ records) (lt_of _ _ h) e)
 
@@ -53,11 +53,11 @@ module _ (law : ForkLaw) where
   good_images name (r ∷ records) s n e =
       let good = few_only name r records (nat_lt most_records (length (r ∷ records))) e refl in
       let made = counted_made name (r ∷ records) s good in
-      let t : Tables = tables_in (rows_in name (counted (r ∷ records))) in (
-        volume_of name (tables_in (rows_in name (counted (r ∷ records)))),
+      let t : Tables = tables_in (rows_in name (with_head_and_root (r ∷ records))) in (
+        volume_of name (tables_in (rows_in name (with_head_and_root (r ∷ records)))),
         record {
-          volume = whole_volume name (tables_in (rows_in name (counted (r ∷ records)))) made.0;
-          image = ap (λ (u : Tables). map record_of (rows_of u)) (tables_again law name (tables_in (rows_in name (counted (r ∷ records)))) made.0) ∙ made.1;
+          volume = whole_volume name (tables_in (rows_in name (with_head_and_root (r ∷ records)))) made.0;
+          image = ap (λ (u : Tables). map record_of (rows_of u)) (tables_again law name (tables_in (rows_in name (with_head_and_root (r ∷ records)))) made.0) ∙ made.1;
         },
       )
 
@@ -125,7 +125,7 @@ module _ (law : ForkLaw) where
   some_records : (m : Records) → (entries m ≡ [] → ⊥) → records_in m ≡ [] → ⊥
   some_records m n e = n (sym (back_and_there (entries m)) ∙ ap entries_of e)
 
-  pub good_kept : (name : List ℕ) (kept : Records) → (entries kept ≡ [] → ⊥) → first_bad_record name (records_in kept) ≡ None → (v : VolumeState) × IsKept name kept v
+  pub good_kept : (name : List ℕ) (kept : Records) → (entries kept ≡ [] → ⊥) → first_bad_record name (records_in kept) ≡ None → (v : VolumeState) × HasKeptRecords name kept v
   good_kept name m n e =
       let found = good_images law name (records_in m) (rising_records (entries m) (entries_sorted m)) (some_records m n) e in
       (found.0, record { volume = found.1.volume; image = same_entries_map (kept_image found.0) m (image_entries name found.0 found.1.volume ∙ ap entries_of found.1.image ∙ back_and_there (entries m)) })

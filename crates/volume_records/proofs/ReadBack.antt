@@ -5,6 +5,7 @@ use Rattle.std.specs.Int.{from_be_bytes, cast_signed, cast_unsigned}
 use Rattle.std.proofs.lemmas.Nat.{from_be_bytes-to_be_bytes_2, from_be_bytes-to_be_bytes_4, from_be_bytes-to_be_bytes_8}
 use Rattle.std.proofs.lemmas.Int.{ints, to_z-of_z}
 use Rattle.std.proofs.Math.Seq.{take-append_seam, drop-append_seam}
+use Rattle.byteorder.specs.Endian.{big_bytes, big_number}
 use Rattle.afp_volume.specs.VolumeState.{Comment, Icon, Appl}
 use Rattle.afp_volume.specs.SoundVolume.{is_formed as is_formed_row, is_named, is_comment, is_icon, longest_icon}
 use Rattle.afp_volume.specs.TypedVolume.{is_byte, is_word, is_long, is_quad, is_date, are_bytes, is_typed_row, is_typed_icon, is_typed_appl}
@@ -50,18 +51,27 @@ date_lt : (z : ℤ) → FitsSigned w32 z → cast_unsigned w32 z < 2 ^ 32
 date_lt (pos n) h = omega (arith, ints, h)
 date_lt (negsuc n) h = omega (arith, ints, h)
 
+number_back_2 : (n : ℕ) → n < 2 ^ 16 → big_number 2 (big_bytes 2 n) ≡ n
+number_back_2 n fits = let same : big_number 2 (big_bytes 2 n) ≡ from_be_bytes w16 (big_bytes 2 n) = omega arith in same ∙ from_be_bytes-to_be_bytes_2 n fits
+
+pub number_back_4 : (n : ℕ) → n < 2 ^ 32 → big_number 4 (big_bytes 4 n) ≡ n
+number_back_4 n fits = let same : big_number 4 (big_bytes 4 n) ≡ from_be_bytes w32 (big_bytes 4 n) = omega arith in same ∙ from_be_bytes-to_be_bytes_4 n fits
+
+number_back_8 : (n : ℕ) → n < 2 ^ 64 → big_number 8 (big_bytes 8 n) ≡ n
+number_back_8 n fits = let same : big_number 8 (big_bytes 8 n) ≡ from_be_bytes w64 (big_bytes 8 n) = omega arith in same ∙ from_be_bytes-to_be_bytes_8 n fits
+
 -- a date, a number of four and of eight bytes, written and read
-date_back : (z : ℤ) → is_date z ≡ true → cast_signed w32 (from_be_bytes w32 (date_bytes z)) ≡ z
-date_back z h = let f = date_fits z h in ap (cast_signed w32) (from_be_bytes-to_be_bytes_4 (cast_unsigned w32 z) (date_lt z f)) ∙ to_z-of_z w32 z f
+date_back : (z : ℤ) → is_date z ≡ true → cast_signed w32 (big_number 4 (date_bytes z)) ≡ z
+date_back z h = let f = date_fits z h in ap (cast_signed w32) (number_back_4 (cast_unsigned w32 z) (date_lt z f)) ∙ to_z-of_z w32 z f
 
-long_back : (n : ℕ) → is_long n ≡ true → from_be_bytes w32 (long_bytes n) ≡ n
-long_back n h = let l : n < 4294967296 = lt_of _ _ h in from_be_bytes-to_be_bytes_4 n (omega (arith, l))
+long_back : (n : ℕ) → is_long n ≡ true → big_number 4 (long_bytes n) ≡ n
+long_back n h = let l : n < 4294967296 = lt_of _ _ h in number_back_4 n (omega (arith, l))
 
-word_back : (n : ℕ) → is_word n ≡ true → from_be_bytes w16 (word_bytes n) ≡ n
-word_back n h = let l : n < 65536 = lt_of _ _ h in from_be_bytes-to_be_bytes_2 n (omega (arith, l))
+word_back : (n : ℕ) → is_word n ≡ true → big_number 2 (word_bytes n) ≡ n
+word_back n h = let l : n < 65536 = lt_of _ _ h in number_back_2 n (omega (arith, l))
 
-quad_back : (n : ℕ) → is_quad n ≡ true → from_be_bytes w64 (quad_bytes n) ≡ n
-quad_back n h = let l : n < 18446744073709551616 = lt_of _ _ h in from_be_bytes-to_be_bytes_8 n (omega (arith, l))
+quad_back : (n : ℕ) → is_quad n ≡ true → big_number 8 (quad_bytes n) ≡ n
+quad_back n h = let l : n < 18446744073709551616 = lt_of _ _ h in number_back_8 n (omega (arith, l))
 
 guess_head : (h : Head) → is_formed_head h ≡ true → guess (head_record h) ≡ row.Head h
 unfolding head_record
@@ -71,7 +81,7 @@ guess_head h f =
     let modified = date_back h.modified (left_true _ _ (right_true _ _ dates)) in
     let backup = date_back h.backup (right_true _ _ (right_true _ _ dates)) in
     let below : h.next_id ≤ 2 ^ 32 = le_of _ _ (right_true _ _ (right_true _ _ f)) in
-    let next = from_be_bytes-to_be_bytes_8 h.next_id (omega (arith, below)) in
+    let next = number_back_8 h.next_id (omega (arith, below)) in
     λ k. row.Head (record { created = created k; modified = modified k; backup = backup k; next_id = next k })
 
 -- what a formed node's fields are

@@ -21,19 +21,22 @@ right_false false b e = refl
 left_false : (a b : Bool) → a ≡ false → (a && b) ≡ false
 left_false a b e = ap (λ x. x && b) e
 
+-- a record under a node's key is guessed as a node
+pub node_guess : (r : Record) → slice_index r.key 0 ≡ 1 → guess r ≡ row.Node (node_in r.key r.value (take 32 (drop 19 r.value)) (drop 51 r.value))
+node_guess r tag =
+    ap (λ t. cond (t == 0) (row.Head (head_in r.value)) (cond (t == 1) (row.Node (node_in r.key r.value (take 32 (drop 19 r.value)) (drop 51 r.value))) (cond (t == 2) (row.Block (block_in r.key r.value))
+    (cond (t == 3) (row.Comment (comment_in r.key r.value)) (cond (t == 4) (row.Icon (icon_in r.key r.value)) (row.Appl (appl_in r.key r.value))))))) tag
+
 -- a node's value that ends before its Finder info does is of no shape
 pub short_node : (name : List ℕ) (r : Record) → slice_index r.key 0 ≡ 1 → length r.value < 51 → row_in name r ≡ None
 unfolding row_in
 short_node name r tag short =
     let finder : List ℕ = take 32 (drop 19 r.value) in
     let len : (length finder == 32) ≡ false = other_false (length finder) 32 (λ e. absurd (let a = length-take 32 (drop 19 r.value) in let b = length-drop 19 r.value in omega arith)) in
-    let guessed : guess r ≡ row.Node (node_in r.key r.value (take 32 (drop 19 r.value)) (drop 51 r.value)) =
-    ap (λ t. cond (t == 0) (row.Head (head_in r.value)) (cond (t == 1) (row.Node (node_in r.key r.value (take 32 (drop 19 r.value)) (drop 51 r.value))) (cond (t == 2) (row.Block (block_in r.key r.value))
-    (cond (t == 3) (row.Comment (comment_in r.key r.value)) (cond (t == 4) (row.Icon (icon_in r.key r.value)) (row.Appl (appl_in r.key r.value))))))) tag in
     let node = node_in r.key r.value (take 32 (drop 19 r.value)) (drop 51 r.value) in
     let unnamed : is_named (bare_row node) ≡ false = right_false _ (length finder == 32) len in
     let unformed : is_formed_node name node ≡ false = right_false (is_typed_row (bare_row node)) (is_formed_row (bare_row node) && (has_fit_forks node && is_root_or_other name node)) (left_false (is_formed_row (bare_row node)) (has_fit_forks node && is_root_or_other name node) (left_false (is_named (bare_row node)) _ unnamed)) in
-    ap (λ g. cond (is_formed name g && are_same (record_of g) r) (Some g) None) guessed
+    ap (λ g. cond (is_formed name g && are_same (record_of g) r) (Some g) None) (node_guess r tag)
     ∙ ap (λ t. cond (t && are_same (record_of (row.Node node)) r) (Some (row.Node node)) None) unformed
 
 more_in_front : (b c : ℕ) (cs ts : List ℕ) → bytes_eq ts (c ∷ cs) ≡ bytes_eq (before_zeros b ts) (b ∷ c ∷ cs)

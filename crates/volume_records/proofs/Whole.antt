@@ -1,9 +1,8 @@
 -- Records of which none is bad are those of whole tables, and those of whole tables have none that is bad.
-use Rattle.std.proofs.Common.{◌≡◌, ◌∙◌, ℕ, suc, ◌<◌, ◌≤◌, Bool, true, false, cond, List, [], ◌∷◌, ◌++◌, map, length, drop, refl, sym, ap, subst, arith, Option, w32}
+use Rattle.std.proofs.Common.{◌≡◌, ◌∙◌, ℕ, suc, ◌<◌, ◌≤◌, Bool, true, false, cond, List, [], ◌∷◌, ◌++◌, map, length, drop, refl, sym, ap, subst, arith, Option}
 use Rattle.std.specs.Prelude.{Some, None, is_none, nat_lt, ◌||◌, ◌==◌, bytes_eq}
-use Rattle.std.specs.Int.{from_be_bytes}
 use Rattle.std.specs.List.{list_all, filter_map, cons_option}
-use Rattle.std.proofs.lemmas.Nat.{from_be_bytes-to_be_bytes_4}
+use Rattle.byteorder.specs.Endian.{big_number}
 use Rattle.afp_volume.specs.VolumeState.{root_id}
 use Rattle.afp_volume.specs.SoundVolume.{has_node}
 use Rattle.record_keeper.specs.declared.record.Record.{Record}
@@ -15,12 +14,12 @@ use Rattle.volume_records.specs.declared.rows.TableRow.TheVariants as row
 use Rattle.volume_records.specs.Records.{record_of, head_record, node_record, block_record, comment_record, icon_record, appl_record, long_bytes, head_key}
 use Rattle.volume_records.specs.Shape.{row_in, is_formed, bare_row}
 use Rattle.volume_records.specs.Image.{Tables, rows_of, tables_in, as_node}
-use Rattle.volume_records.specs.KeyOrder.{Rises, with_key, counted, root_key}
+use Rattle.volume_records.specs.KeyOrder.{Rises, with_key, with_head_and_root, root_key}
 use Rattle.volume_records.specs.lemma.KeyOrder.{has_key}
 use Rattle.record_keeper.specs.Reading.{most_records}
 use Rattle.volume_records.specs.FirstBad.{rows_in, tree_of, reason_of, bad_or, first_in, first_bad, first_bad_record, too_many}
 use Rattle.volume_records.proofs.TestParts.{both_true, left_true, right_true, cases, lt_of, same_true, same_of, bytes_same, or_left, or_right, lt_false}
-use Rattle.volume_records.proofs.ReadBack.{row_is, read_back, node_parts}
+use Rattle.volume_records.proofs.ReadBack.{row_is, read_back, node_parts, number_back_4}
 use Rattle.volume_records.proofs.RowKinds.{rows_are}
 use Rattle.volume_records.proofs.TablesBack.{tables_back}
 use Rattle.volume_records.proofs.MissingKeys.{AllShaped, rises_with, has_with, still_has, none_missing, empty_head, empty_root, present_same}
@@ -73,7 +72,7 @@ is_root name (row.Head h) f e = absurd (cc)
 is_root name (row.Node n) f e =
     let k : 1 ∷ long_bytes n.id ≡ root_key = bytes_same (1 ∷ long_bytes n.id) root_key e in
     let small : n.id < 4294967296 = lt_of _ _ (node_parts name n f).id in
-    (n, refl, sym (from_be_bytes-to_be_bytes_4 n.id (omega (arith, small))) ∙ ap (λ bytes. from_be_bytes w32 (drop 1 bytes)) k)
+    (n, refl, sym (number_back_4 n.id (omega (arith, small))) ∙ ap (λ bytes. big_number 4 (drop 1 bytes)) k)
 is_root name (row.Block b) f e = absurd (cc)
 is_root name (row.Comment c) f e = absurd (cc)
 is_root name (row.Icon i) f e = absurd (cc)
@@ -110,13 +109,13 @@ whole_made name records s h r e =
     )
 
 -- where nothing is bad, nothing counted as there that is not
-pub counted_made : (name : List ℕ) (records : List Record) → Rises records → first_bad name (counted records) ≡ None
-    → IsWhole name (tables_in (rows_in name (counted records))) × (map record_of (rows_of (tables_in (rows_in name (counted records)))) ≡ records) × (rows_of (tables_in (rows_in name (counted records))) ≡ rows_in name (counted records))
+pub counted_made : (name : List ℕ) (records : List Record) → Rises records → first_bad name (with_head_and_root records) ≡ None
+    → IsWhole name (tables_in (rows_in name (with_head_and_root records))) × (map record_of (rows_of (tables_in (rows_in name (with_head_and_root records)))) ≡ records) × (rows_of (tables_in (rows_in name (with_head_and_root records))) ≡ rows_in name (with_head_and_root records))
 counted_made name records s e =
     let inner = rises_with root_key records s in
     let rises = rises_with head_key (with_key root_key records) inner in
-    let made = whole_made name (counted records) rises (has_with head_key (with_key root_key records)) (still_has root_key head_key (with_key root_key records) (has_with root_key records)) e in
-    let shapes = (all_read name (tables_in (rows_in name (counted records))) (counted records) e).shaped in
+    let made = whole_made name (with_head_and_root records) rises (has_with head_key (with_key root_key records)) (still_has root_key head_key (with_key root_key records) (has_with root_key records)) e in
+    let shapes = (all_read name (tables_in (rows_in name (with_head_and_root records))) (with_head_and_root records) e).shaped in
     let first = none_missing name head_key (empty_head name) (with_key root_key records) shapes in
     let second = none_missing name root_key (empty_root name) records (subst (AllShaped name) first shapes) in
     (made.0, made.1 ∙ first ∙ second, made.2)
@@ -165,10 +164,10 @@ has_root_key name t w = or_right (bytes_eq (head_record t.head).key root_key) _ 
 pub whole_good : (name : List ℕ) (t : Tables) → IsWhole name t → length (rows_of t) ≤ most_records → first_bad_record name (map record_of (rows_of t)) ≡ None
 whole_good name t w few =
     let all : List Record = map record_of (rows_of t) in
-    let same : counted (map record_of (rows_of t)) ≡ map record_of (rows_of t) =
+    let same : with_head_and_root (map record_of (rows_of t)) ≡ map record_of (rows_of t) =
     ap (with_key head_key) (present_same root_key (map record_of (rows_of t)) w.rises (has_root_key name t w)) ∙ present_same head_key (map record_of (rows_of t)) w.rises (has_head_key t) in
     let fits : nat_lt most_records (length (map record_of (rows_of t))) ≡ false = lt_false _ _ (omega (arith, few, length-map record_of (rows_of t))) in
-    ap (λ b. cond b (too_many (drop most_records (map record_of (rows_of t)))) (first_bad name (counted (map record_of (rows_of t))))) fits
+    ap (λ b. cond b (too_many (drop most_records (map record_of (rows_of t)))) (first_bad name (with_head_and_root (map record_of (rows_of t))))) fits
     ∙ ap (first_bad name) same ∙ whole_clear name t w
   where
     length-map : {A B : Type 0} (f : A → B) (xs : List A) → length (map f xs) ≡ length xs

@@ -14,7 +14,7 @@ use Rattle.volume_records.specs.declared.rows.Reason.TheVariants.{Shape, Parent,
 use Rattle.volume_records.specs.declared.rows.TableRow.{TableRow}
 use Rattle.volume_records.specs.declared.rows.TableRow.TheVariants as row
 use Rattle.volume_records.specs.Shape.{bare_row, row_in}
-use Rattle.volume_records.specs.KeyOrder.{counted}
+use Rattle.volume_records.specs.KeyOrder.{with_head_and_root}
 use Rattle.volume_records.specs.Image.{Tables, tables_in}
 
 -- what the records of a volume's shape say: a record of another shape is no node
@@ -101,4 +101,4 @@ too_many (r ∷ records) = Some (record { key = r.key; reason = Limit })
 abbrev pub first_bad_record : List ℕ → List Record → Option BadRecord
 first_bad_record name [] = None
 first_bad_record name (r ∷ records) =
-    if nat_lt most_records (length (r ∷ records)) then too_many (drop most_records (r ∷ records)) else first_bad name (counted (r ∷ records))
+    if nat_lt most_records (length (r ∷ records)) then too_many (drop most_records (r ∷ records)) else first_bad name (with_head_and_root (r ∷ records))

@@ -18,5 +18,5 @@ with_key key [] = record { key = key; value = [] } ∷ []
 with_key key (r ∷ records) = match_ordering (slice_cmp nat_cmp key r.key) (record { key = key; value = [] } ∷ r ∷ records) (r ∷ records) (r ∷ with_key key records)
 
 -- the head and the root count as there
-abbrev pub counted : List Record → List Record
-counted records = with_key head_key (with_key root_key records)
+abbrev pub with_head_and_root : List Record → List Record
+with_head_and_root records = with_key head_key (with_key root_key records)

@@ -55,12 +55,12 @@ abbrev pub KeptAreGood : Type 0
 KeptAreGood = (name : List ℕ) (v : VolumeState) → IsVolume name v → first_bad_record name (records_in (kept_image v)) ≡ None
 
 -- a volume that a keeper holds
-pub record IsKept (name : List ℕ) (kept : Records) (v : VolumeState) : Type 0 where
+pub record HasKeptRecords (name : List ℕ) (kept : Records) (v : VolumeState) : Type 0 where
   pub volume : IsVolume name v
   pub image : kept_image v ≡ kept
 
 abbrev pub GoodAreKept : Type 0
-GoodAreKept = (name : List ℕ) (kept : Records) → (entries kept ≡ [] → ⊥) → first_bad_record name (records_in kept) ≡ None → (v : VolumeState) × IsKept name kept v
+GoodAreKept = (name : List ℕ) (kept : Records) → (entries kept ≡ [] → ⊥) → first_bad_record name (records_in kept) ≡ None → (v : VolumeState) × HasKeptRecords name kept v
 
 abbrev pub KeptDiffer : Type 0
 KeptDiffer = (name : List ℕ) (v w : VolumeState) → IsVolume name v → IsVolume name w → kept_image v ≡ kept_image w → v ≡ w

@@ -1,6 +1,7 @@
 -- The records of a volume, one definition each (this profile). Numbers stand with their highest byte first.
 use Rattle.std.specs.Prelude.{ℕ, ℤ, Bool, List, [], ◌∷◌, ◌++◌, if◌then◌else◌}
-use Rattle.std.specs.Int.{to_be_bytes, cast_unsigned, w16, w32, w64}
+use Rattle.std.specs.Int.{cast_unsigned, w32}
+use Rattle.byteorder.specs.Endian.{big_bytes}
 use Rattle.afp_volume.specs.VolumeState.{Comment, Icon, Appl}
 use Rattle.afp_volume.specs.SoundVolume.{icon_key}
 use Rattle.record_keeper.specs.declared.record.Record.{Record}
@@ -35,13 +36,13 @@ version = 1
 
 -- numbers of two, of four and of eight bytes, and a date, which has a sign
 abbrev pub word_bytes : ℕ → List ℕ
-word_bytes n = to_be_bytes w16 n
+word_bytes n = big_bytes 2 n
 
 abbrev pub long_bytes : ℕ → List ℕ
-long_bytes n = to_be_bytes w32 n
+long_bytes n = big_bytes 4 n
 
 abbrev pub quad_bytes : ℕ → List ℕ
-quad_bytes n = to_be_bytes w64 n
+quad_bytes n = big_bytes 8 n
 
 abbrev pub date_bytes : ℤ → List ℕ
 date_bytes date = long_bytes (cast_unsigned w32 date)

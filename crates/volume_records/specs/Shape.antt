@@ -1,6 +1,7 @@
 -- Which records are of a volume's shape, and what they say (this profile).
-use Rattle.std.specs.Prelude.{ℕ, ℤ, ◌+◌, ◌==◌, nat_le, Bool, true, ◌&&◌, if◌then◌else◌, List, [], ◌∷◌, length, take, drop, slice_index, bytes_eq, Option, Some, None}
-use Rattle.std.specs.Int.{from_be_bytes, cast_signed, w16, w32, w64}
+use Rattle.std.specs.Prelude.{ℕ, ℤ, ◌==◌, nat_le, Bool, true, ◌&&◌, if◌then◌else◌, List, [], ◌++◌, length, take, drop, replicate, slice_index, bytes_eq, Option, Some, None}
+use Rattle.std.specs.Int.{cast_signed, w32}
+use Rattle.byteorder.specs.Endian.{big_number}
 use Rattle.afp_base.specs.Limits.{block_size}
 use Rattle.fork_bytes.specs.Blocks.{trimmed}
 use Rattle.afp_volume.specs.VolumeState.{Comment, Icon, Appl, root_id, root_parent, first_id, Row as VolumeRow}
@@ -74,23 +75,21 @@ is_formed name (row.Comment comment) = is_formed_comment comment
 is_formed name (row.Icon icon) = is_formed_icon icon
 is_formed name (row.Appl appl) = is_formed_appl appl
 
--- Numbers of two, four and eight bytes at a place, a date, and four bytes as they are.
+-- Numbers of two, four and eight bytes at a place, a date, and four bytes as they are. Bytes behind the end count as 0.
 abbrev pub word_at : List ℕ → ℕ → ℕ
-word_at bytes i = from_be_bytes w16 (slice_index bytes i ∷ slice_index bytes (i + 1) ∷ [])
-
-abbrev pub four_at : List ℕ → ℕ → List ℕ
-four_at bytes i = slice_index bytes i ∷ slice_index bytes (i + 1) ∷ slice_index bytes (i + 2) ∷ slice_index bytes (i + 3) ∷ []
+word_at bytes i = big_number 2 (drop i bytes)
 
 abbrev pub long_at : List ℕ → ℕ → ℕ
-long_at bytes i = from_be_bytes w32 (four_at bytes i)
+long_at bytes i = big_number 4 (drop i bytes)
+
+abbrev pub quad_at : List ℕ → ℕ → ℕ
+quad_at bytes i = big_number 8 (drop i bytes)
 
 abbrev pub date_at : List ℕ → ℕ → ℤ
 date_at bytes i = cast_signed w32 (long_at bytes i)
 
-abbrev pub quad_at : List ℕ → ℕ → ℕ
-quad_at bytes i = from_be_bytes w64
-    (slice_index bytes i ∷ slice_index bytes (i + 1) ∷ slice_index bytes (i + 2) ∷ slice_index bytes (i + 3) ∷ slice_index bytes (i + 4)
-    ∷ slice_index bytes (i + 5) ∷ slice_index bytes (i + 6) ∷ slice_index bytes (i + 7) ∷ [])
+abbrev pub four_at : List ℕ → ℕ → List ℕ
+four_at bytes i = take 4 (drop i bytes ++ replicate 4 0)
 
 -- what a record says if it is of a volume's shape, by the first byte of its key
 abbrev pub head_in : List ℕ → Head

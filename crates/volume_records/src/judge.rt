@@ -1,5 +1,6 @@
 //! Judging one record, by the tree of all nodes and the records before it.
 ghost use Rattle.std.specs.Prelude.{◌≡◌, ◌≤◌, ◌<◌, ◌+◌, ◌||◌, ◌&&◌, ◌==◌, not, bytes_eq, nat_lt, ℕ, List, length, true, None, Some, IfOk, OnOk};
+ghost use Rattle.afp_base.specs.Limits.{most_fork_bytes};
 ghost use Rattle.afp_names.specs.Name.{name_fault, name_key};
 ghost use Rattle.afp_volume.specs.VolumeState.{Icon, Appl};
 ghost use Rattle.volume_records.specs.declared.rows.TableRow.TheVariants as row;
@@ -71,15 +72,15 @@ fn is_new(
 
 /// Whether two forks more pass the limit.
 fn passes_bytes(bytes: u64, first: u64, second: u64) -> bool
-    requires { bytes ≤ 268435456 }
-    ensures { result ≡ nat_lt 268435456 (bytes + (first + second)) }
+    requires { bytes ≤ most_fork_bytes }
+    ensures { result ≡ nat_lt most_fork_bytes (bytes + (first + second)) }
 {
     first > MOST_FORK_BYTES || second > MOST_FORK_BYTES || bytes + first + second > MOST_FORK_BYTES
 }
 
 /// The first reason behind Parent to refuse a node.
 fn judge_node(alloc: Global, pass: &mut Pass, node: &Node) -> Result<Option<Reason>, OutOfMemory>
-    requires few { pass.old.bytes ≤ 268435456 }
+    requires few { pass.old.bytes ≤ most_fork_bytes }
     ensures same { OnOk result (KeepsTree pass.old pass.new) }
     ensures reason { name_fault node.now.name ≡ None → IfOk result (λ reason. (before : Before) → HasBefore before pass.old → IsJudged pass.old before (row.Node node.now) reason pass.new) }
 {
@@ -112,7 +113,7 @@ fn judge_block(pass: &Pass, block: &ForkBlock) -> Option<Reason>
 }
 
 fn judge_icon(pass: &mut Pass) -> Option<Reason>
-    requires few { pass.old.bytes ≤ 268435456 }
+    requires few { pass.old.bytes ≤ most_fork_bytes }
     ensures same { KeepsTree pass.old pass.new }
     ensures reason { (icon : Icon) (before : Before) → HasBefore before pass.old → IsJudged pass.old before (row.Icon icon) result pass.new }
 {
@@ -124,7 +125,7 @@ fn judge_icon(pass: &mut Pass) -> Option<Reason>
 }
 
 fn judge_appl(pass: &mut Pass) -> Option<Reason>
-    requires few { pass.old.bytes ≤ 268435456 }
+    requires few { pass.old.bytes ≤ most_fork_bytes }
     ensures same { KeepsTree pass.old pass.new }
     ensures reason { (appl : Appl) (before : Before) → HasBefore before pass.old → IsJudged pass.old before (row.Appl appl) result pass.new }
 {
@@ -138,7 +139,7 @@ fn judge_appl(pass: &mut Pass) -> Option<Reason>
 /// The first reason behind Parent to refuse a row.
 fn judge_rest(alloc: Global, pass: &mut Pass, row: &TableRow) -> Result<Option<Reason>, OutOfMemory>
     requires tree { IsTree pass.old.tree }
-    requires few { pass.old.bytes ≤ 268435456 }
+    requires few { pass.old.bytes ≤ most_fork_bytes }
     requires short { is_short_row (Some row.now) ≡ true }
     ensures same { OnOk result (KeepsTree pass.old pass.new) }
     ensures reason { IsNamedRow (Some row.now) → IfOk result (λ reason. (before : Before) → HasBefore before pass.old → IsJudged pass.old before row.now reason pass.new) }
@@ -160,7 +161,7 @@ pub(crate) fn judge_row(
     row: &Option<TableRow>,
 ) -> Result<Option<Reason>, OutOfMemory>
     requires tree { IsTree pass.old.tree }
-    requires few { pass.old.bytes ≤ 268435456 }
+    requires few { pass.old.bytes ≤ most_fork_bytes }
     requires short { is_short_row row.now ≡ true }
     ensures same { OnOk result (KeepsTree pass.old pass.new) }
     ensures reason { IsNamedRow row.now → IfOk result (λ reason. (before : Before) → HasBefore before pass.old → IsJudgedRow pass.old before row.now reason pass.new) }

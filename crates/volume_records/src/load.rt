@@ -8,7 +8,6 @@ ghost use Rattle.volume_records.specs.lemma.Judged.{said_rows};
 use crate::climb::push;
 use crate::pass::{judge_all, read_all_rows};
 use crate::rows::{BadRecord, Reason, TableRow};
-use crate::write::owned;
 use afp_base::{Bytes, OutOfMemory};
 use record_keeper::{MOST_RECORDS, Record, RecordKey};
 use std::alloc::Global;
@@ -28,7 +27,7 @@ fn count_in(alloc: Global, records: &mut Vec<Record>, key: &[u8]) -> Result<(), 
     ensures { OnOk result (records.new.items ≡ with_key key.now records.old.items) }
 {
     let missing = Record {
-        key: RecordKey::new(owned(alloc, key)?),
+        key: RecordKey::new(Bytes::of(alloc, key)?),
         value: Bytes::new(alloc),
     };
     for place in 0..records.len() {
@@ -83,7 +82,7 @@ pub fn load_records(
     fork_bytes::laws::blocks_are_bytes();
     fork_bytes::laws::blocks_of_bytes_are_kept();
     if records.len() > MOST_RECORDS {
-        let key = owned(alloc, records[MOST_RECORDS].key.as_slice())?;
+        let key = Bytes::of(alloc, records[MOST_RECORDS].key.as_slice())?;
         let reason = Reason::Limit;
         return Ok(Loaded::Bad(BadRecord { key, reason }));
     }

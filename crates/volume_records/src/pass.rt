@@ -11,8 +11,7 @@ use crate::judge::{Pass, judge_row};
 use crate::read::read_row;
 use crate::rows::{BadRecord, TableRow};
 use crate::tree::{Place, grow};
-use crate::write::owned;
-use afp_base::OutOfMemory;
+use afp_base::{Bytes, OutOfMemory};
 use record_keeper::Record;
 use std::alloc::Global;
 use std::collections::BTreeSet;
@@ -105,7 +104,7 @@ pub(crate) fn judge_all(
         let kept = &records[i];
         match judge_row(alloc, &mut pass, &rows[i])? {
             Some(reason) => {
-                let key = owned(alloc, kept.key.as_slice())?;
+                let key = Bytes::of(alloc, kept.key.as_slice())?;
                 return Ok(Some(BadRecord { key, reason }));
             }
             None => {}

@@ -3,11 +3,11 @@ ghost use Rattle.std.specs.Prelude.{◌≡◌, ◌≤◌, length, take, drop, sl
 ghost use Rattle.volume_records.specs.Shape.{head_in, node_in, block_in, comment_in, icon_in, appl_in, guess, are_same, row_in};
 
 use crate::limits::{BLOCK, COMMENT, HEAD, ICON, NODE};
-use crate::numbers::{byte_at, date_at, four_at, long_at, quad_at, word_at};
+use crate::numbers::{byte_at, date_at, four_at, long_at, quad_at, rest_of, word_at};
 use crate::rows::{Appl, Comment, ForkBlock, Head, Icon, Node, TableRow};
 use crate::shape::is_formed;
-use crate::write::{owned, record_of};
-use afp_base::OutOfMemory;
+use crate::write::record_of;
+use afp_base::{Bytes, OutOfMemory};
 use record_keeper::Record;
 use std::alloc::Global;
 
@@ -27,13 +27,6 @@ fn head_of(value: &[u8]) -> Head
     }
 }
 
-/// The bytes from a place on, none where it lies behind them.
-fn rest_of(bytes: &[u8], from: usize) -> &[u8]
-    ensures { result.now ≡ drop from bytes.now }
-{
-    &bytes[from.min(bytes.len())..]
-}
-
 fn finder_of(value: &[u8]) -> [u8; 32]
     requires { 51 ≤ length value.now }
     ensures { result ≡ take 32 (drop 19 value.now) }
@@ -48,7 +41,7 @@ fn node_of(alloc: Global, key: &[u8], value: &[u8]) -> Result<Node, OutOfMemory>
     ensures { IfOk result (λ n. n ≡ node_in key.now value.now (take 32 (drop 19 value.now)) (drop 51 value.now)) }
 {
     let behind = rest_of(value, BEHIND);
-    let name = owned(alloc, rest_of(behind, 17))?;
+    let name = Bytes::of(alloc, rest_of(behind, 17))?;
     let finder = finder_of(value);
     Ok(Node {
         id: long_at(key, 1),
@@ -73,7 +66,7 @@ fn block_of(alloc: Global, key: &[u8], value: &[u8]) -> Result<ForkBlock, OutOfM
         node: long_at(key, 1),
         is_resource: byte_at(key, 5) == 1,
         index: long_at(key, 6),
-        bytes: owned(alloc, value)?,
+        bytes: Bytes::of(alloc, value)?,
     })
 }
 
@@ -82,7 +75,7 @@ fn comment_of(alloc: Global, key: &[u8], value: &[u8]) -> Result<Comment, OutOfM
 {
     Ok(Comment {
         node: long_at(key, 1),
-        text: owned(alloc, value)?,
+        text: Bytes::of(alloc, value)?,
     })
 }
 
@@ -94,7 +87,7 @@ fn icon_of(alloc: Global, key: &[u8], value: &[u8]) -> Result<Icon, OutOfMemory>
         kind: four_at(key, 5),
         icon_kind: byte_at(key, 9),
         tag: long_at(value, 0),
-        bits: owned(alloc, rest_of(value, 4))?,
+        bits: Bytes::of(alloc, rest_of(value, 4))?,
     })
 }
 

@@ -3,6 +3,7 @@ ghost use Rattle.std.specs.Prelude.{◌≡◌, ◌<◌, ◌^◌, ◌==◌, ◌&&
 ghost use Rattle.std.specs.List.{list_any};
 ghost use Rattle.std.specs.List.Sorted.{IsStrictlySortedBy};
 ghost use Rattle.std.specs.Ordering.{nat_cmp};
+ghost use Rattle.afp_base.specs.Limits.{block_size};
 ghost use Rattle.volume_records.specs.declared.tree.Place.{Place};
 ghost use Rattle.volume_records.specs.lemma.Climb.{id_of, climbs_to_root};
 ghost use Rattle.volume_records.specs.lemma.Judged.{IsTree, IsTreeOf, told, is_there as is_there_by, is_file_there, is_stray_here, length_of};
@@ -106,7 +107,7 @@ pub(crate) fn is_stray(tree: &Tree, row: &TableRow) -> bool
 pub(crate) fn reaches_behind(tree: &Tree, block: &ForkBlock) -> bool
     requires tree { IsTree tree.now }
     requires short { length block.now.bytes < 5000 }
-    ensures { result ≡ list_any (λ place. (place.id == block.now.node) && nat_lt (length_of block.now.is_resource place) (4096 * block.now.index + length block.now.bytes)) tree.now.places.items }
+    ensures { result ≡ list_any (λ place. (place.id == block.now.node) && nat_lt (length_of block.now.is_resource place) (block_size * block.now.index + length block.now.bytes)) tree.now.places.items }
 {
     let index = block.index;
     let end = BLOCK_SIZE as u64 * index as u64 + block.bytes.as_slice().len() as u64;

@@ -1,5 +1,5 @@
 //! The record of a row.
-ghost use Rattle.std.specs.Prelude.{◌≡◌, ◌∷◌, ◌++◌, [], IfOk, OnOk};
+ghost use Rattle.std.specs.Prelude.{◌≡◌, ◌∷◌, ◌++◌, IfOk};
 ghost use Rattle.volume_records.specs.Records.{head_record as the_head, node_record as the_node, block_record as the_block, comment_record as the_comment, icon_record as the_icon, appl_record as the_appl, node_key as the_node_key, block_key as the_block_key, comment_key as the_comment_key, appl_key as the_appl_key, record_of as the_record, flag_byte, word_bytes, long_bytes, quad_bytes, date_bytes};
 
 use crate::limits::{APPL, BLOCK, COMMENT, HEAD, ICON, NODE, VERSION};
@@ -14,51 +14,12 @@ fn flag(set: bool) -> u8
     if set { 1 } else { 0 }
 }
 
-/// Bytes of one's own.
-pub(crate) fn owned(alloc: Global, piece: &[u8]) -> Result<Bytes, OutOfMemory>
-    ensures { IfOk result (λ b. b ≡ piece.now) }
-{
-    let mut bytes = Bytes::new(alloc);
-    bytes.extend(piece)?;
-    Ok(bytes)
-}
-
-fn put_byte(bytes: &mut Bytes, byte: u8) -> Result<(), OutOfMemory>
-    ensures { OnOk result (bytes.new ≡ bytes.old ++ byte ∷ []) }
-{
-    bytes.extend(&[byte])
-}
-
-fn put_word(bytes: &mut Bytes, n: u16) -> Result<(), OutOfMemory>
-    ensures { OnOk result (bytes.new ≡ bytes.old ++ word_bytes n) }
-{
-    bytes.extend(&n.to_be_bytes())
-}
-
-fn put_long(bytes: &mut Bytes, n: u32) -> Result<(), OutOfMemory>
-    ensures { OnOk result (bytes.new ≡ bytes.old ++ long_bytes n) }
-{
-    bytes.extend(&n.to_be_bytes())
-}
-
-fn put_quad(bytes: &mut Bytes, n: u64) -> Result<(), OutOfMemory>
-    ensures { OnOk result (bytes.new ≡ bytes.old ++ quad_bytes n) }
-{
-    bytes.extend(&n.to_be_bytes())
-}
-
-fn put_date(bytes: &mut Bytes, date: i32) -> Result<(), OutOfMemory>
-    ensures { OnOk result (bytes.new ≡ bytes.old ++ date_bytes date) }
-{
-    put_long(bytes, date.cast_unsigned())
-}
-
 /// The key of a node's record.
 pub fn node_key(alloc: Global, id: u32) -> Result<RecordKey, OutOfMemory>
     ensures { IfOk result (λ key. key ≡ the_node_key id) }
 {
-    let mut key = owned(alloc, &[NODE])?;
-    put_long(&mut key, id)?;
+    let mut key = Bytes::of(alloc, &[NODE])?;
+    key.push_u32(id)?;
     Ok(RecordKey::new(key))
 }
 
@@ -71,10 +32,10 @@ pub fn block_key(
 ) -> Result<RecordKey, OutOfMemory>
     ensures { IfOk result (λ key. key ≡ the_block_key node is_resource index) }
 {
-    let mut key = owned(alloc, &[BLOCK])?;
-    put_long(&mut key, node)?;
-    put_byte(&mut key, flag(is_resource))?;
-    put_long(&mut key, index)?;
+    let mut key = Bytes::of(alloc, &[BLOCK])?;
+    key.push_u32(node)?;
+    key.push_u8(flag(is_resource))?;
+    key.push_u32(index)?;
     Ok(RecordKey::new(key))
 }
 
@@ -82,8 +43,8 @@ pub fn block_key(
 pub fn comment_key(alloc: Global, node: u32) -> Result<RecordKey, OutOfMemory>
     ensures { IfOk result (λ key. key ≡ the_comment_key node) }
 {
-    let mut key = owned(alloc, &[COMMENT])?;
-    put_long(&mut key, node)?;
+    let mut key = Bytes::of(alloc, &[COMMENT])?;
+    key.push_u32(node)?;
     Ok(RecordKey::new(key))
 }
 
@@ -91,9 +52,9 @@ pub fn comment_key(alloc: Global, node: u32) -> Result<RecordKey, OutOfMemory>
 pub fn appl_key(alloc: Global, creator: &[u8; 4], node: u32) -> Result<RecordKey, OutOfMemory>
     ensures { IfOk result (λ key. key ≡ the_appl_key creator.now node) }
 {
-    let mut key = owned(alloc, &[APPL])?;
+    let mut key = Bytes::of(alloc, &[APPL])?;
     key.extend(creator.as_slice())?;
-    put_long(&mut key, node)?;
+    key.push_u32(node)?;
     Ok(RecordKey::new(key))
 }
 
@@ -102,13 +63,13 @@ pub fn appl_key(alloc: Global, creator: &[u8; 4], node: u32) -> Result<RecordKey
 pub fn head_record(alloc: Global, head: &Head) -> Result<Record, OutOfMemory>
     ensures { IfOk result (λ r. r ≡ the_head head.now) }
 {
-    let key = owned(alloc, &[HEAD])?;
+    let key = Bytes::of(alloc, &[HEAD])?;
     let mut value = Bytes::new(alloc);
-    put_word(&mut value, VERSION)?;
-    put_date(&mut value, head.created)?;
-    put_date(&mut value, head.modified)?;
-    put_date(&mut value, head.backup)?;
-    put_quad(&mut value, head.next_id)?;
+    value.push_u16(VERSION)?;
+    value.push_u32(head.created.cast_unsigned())?;
+    value.push_u32(head.modified.cast_unsigned())?;
+    value.push_u32(head.backup.cast_unsigned())?;
+    value.push_u64(head.next_id)?;
     let key = RecordKey::new(key);
     Ok(Record { key, value })
 }
@@ -117,12 +78,12 @@ pub fn head_record(alloc: Global, head: &Head) -> Result<Record, OutOfMemory>
 fn front_of(alloc: Global, node: &Node) -> Result<Bytes, OutOfMemory>
     ensures { IfOk result (λ b. b ≡ flag_byte node.now.is_directory ∷ (long_bytes node.now.parent ++ (word_bytes node.now.attributes ++ (date_bytes node.now.created ++ (date_bytes node.now.modified ++ date_bytes node.now.backup))))) }
 {
-    let mut front = owned(alloc, &[flag(node.is_directory)])?;
-    put_long(&mut front, node.parent)?;
-    put_word(&mut front, node.attributes)?;
-    put_date(&mut front, node.created)?;
-    put_date(&mut front, node.modified)?;
-    put_date(&mut front, node.backup)?;
+    let mut front = Bytes::of(alloc, &[flag(node.is_directory)])?;
+    front.push_u32(node.parent)?;
+    front.push_u16(node.attributes)?;
+    front.push_u32(node.created.cast_unsigned())?;
+    front.push_u32(node.modified.cast_unsigned())?;
+    front.push_u32(node.backup.cast_unsigned())?;
     Ok(front)
 }
 
@@ -130,9 +91,9 @@ fn front_of(alloc: Global, node: &Node) -> Result<Bytes, OutOfMemory>
 fn behind_of(alloc: Global, node: &Node) -> Result<Bytes, OutOfMemory>
     ensures { IfOk result (λ b. b ≡ flag_byte node.now.is_filed ∷ (quad_bytes node.now.data_length ++ (quad_bytes node.now.resource_length ++ node.now.name))) }
 {
-    let mut behind = owned(alloc, &[flag(node.is_filed)])?;
-    put_quad(&mut behind, node.data_length)?;
-    put_quad(&mut behind, node.resource_length)?;
+    let mut behind = Bytes::of(alloc, &[flag(node.is_filed)])?;
+    behind.push_u64(node.data_length)?;
+    behind.push_u64(node.resource_length)?;
     behind.extend(node.name.as_slice())?;
     Ok(behind)
 }
@@ -175,12 +136,12 @@ pub fn comment_record(alloc: Global, comment: &Comment) -> Result<Record, OutOfM
 pub fn icon_record(alloc: Global, icon: &Icon) -> Result<Record, OutOfMemory>
     ensures { IfOk result (λ r. r ≡ the_icon icon.now) }
 {
-    let mut key = owned(alloc, &[ICON])?;
+    let mut key = Bytes::of(alloc, &[ICON])?;
     key.extend(icon.creator.as_slice())?;
     key.extend(icon.kind.as_slice())?;
-    put_byte(&mut key, icon.icon_kind)?;
+    key.push_u8(icon.icon_kind)?;
     let mut value = Bytes::new(alloc);
-    put_long(&mut value, icon.tag)?;
+    value.push_u32(icon.tag)?;
     value.extend(icon.bits.as_slice())?;
     let key = RecordKey::new(key);
     Ok(Record { key, value })
@@ -193,7 +154,7 @@ pub fn appl_record(alloc: Global, appl: &Appl) -> Result<Record, OutOfMemory>
 {
     let key = appl_key(alloc, &appl.creator, appl.node)?;
     let mut value = Bytes::new(alloc);
-    put_long(&mut value, appl.tag)?;
+    value.push_u32(appl.tag)?;
     Ok(Record { key, value })
 }
 
