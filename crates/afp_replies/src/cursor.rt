@@ -279,13 +279,9 @@ impl<'a> Cursor<'a> {
         let entry = self.entry_bytes(wide)?;
         let (flag, head) = (place + width(wide), head_size(wide));
         match entry[width(wide)] {
-            DIRECTORY_FLAG => entry_of(params_at(
-                alloc,
-                DIR,
-                dir_bits,
-                place + head,
-                &entry[head..],
-            )),
+            DIRECTORY_FLAG => {
+                entry_of(params_at(alloc, DIR, dir_bits, place + head, &entry[head..]))
+            }
             0 => entry_of(params_at(alloc, FILE, file_bits, place + head, &entry[head..])),
             _ => Err(ReplyFault::Bad { at: flag }),
         }

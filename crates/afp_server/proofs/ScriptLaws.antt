@@ -193,7 +193,7 @@ idled-next block a mid b w n steps trace cause None r rest next =
     }
 idled-next block a mid b w n steps trace cause (Some c) r rest next =
     let s = idles-ends block a.last_read n a.stage steps mid.stage c r in
-    ends-here block a.stage (was_quiet w n steps) mid b trace cause c next (record { after = s.after; end = s.end; script = s.script; ends = s.ends; are_replies = s.plain_replies })
+    ends-here block a.stage (was_quiet w n steps) mid b trace cause c next (record { after = s.after; end = s.end; script = s.script; ends = s.ends; are_replies = s.are_replies })
 
 handled-next : (block : List ℕ) (a mid b : Standing) (f : Frame) (did : Did) (trace : List Happening) (cause why : Option Cause) (e : Option FrameEnd) → Does block a.now a.stage f did → mid.stage ≡ did.stage
     → did.end ≡ e → why ≡ option_map cause_of e

@@ -140,7 +140,7 @@ fn same_of(counts: ReplayCounts) -> ReplayEnd
 }
 
 impl<K: Keeper> Capture<K> {
-    ghost use Rattle.std.specs.Prelude.{false, Some, OnOk};
+    ghost use Rattle.std.specs.Prelude.{false, Some};
     ghost use Rattle.capture_log.specs.lemma.Judged.{IsSame};
     ghost use Rattle.capture_server.specs.CaptureState.{part_after};
     ghost use Rattle.capture_log.specs.lemma.Taking.{is_event};

@@ -1,6 +1,5 @@
 //! A fork.
 ghost use Rattle.std.specs.Prelude.{◌≡◌, ◌≢◌, ◌≤◌, ◌<◌, ◌+◌, ◌^◌, true, false, [], length, slice_index_or, vec_capacity, IfOk};
-ghost use Rattle.afp_base.specs.Limits.{most_fork_bytes};
 ghost use Rattle.fork_bytes.specs.Blocks.{block_at, blocks_of};
 ghost use Rattle.fork_bytes.specs.Kept.{are_rising, room_of};
 ghost use Rattle.fork_bytes.specs.lemma.Kept.{IsPlace};

@@ -1,6 +1,7 @@
 //! FPSetVolParms.
 ghost use Rattle.std.specs.Prelude.{◌≡◌, ◌<◌, ◌≤◌, length, Some, None, IfOk, OnErr};
-ghost use Rattle.afp_volume.specs.Parms.{date_in};
+ghost use Rattle.std.specs.Int.{w32, cast_signed};
+ghost use Rattle.byteorder.specs.Endian.{big_number};
 ghost use Rattle.afp_volume.specs.SetVolParms.{set_vol_parms_refusal, set_vol_parms_effect};
 ghost use Rattle.volume_tree.specs.Answered.{Refuses};
 ghost use Rattle.volume_tree.specs.Planned.{Does, IsPlan, planned};
@@ -15,19 +16,18 @@ use afp_volume::laws::calls_keep_volumes_sound;
 /// The bits that may be set: the backup date alone (AFP Reference, "Volume Bitmap").
 const BACKUP_DATE_ALONE: u16 = 0x0010;
 
-/// The date in the first 4 bytes.
+/// The number in the first 4 bytes.
 #[tactic(auto, using(afp_base::proofs::Numbers::number_front))]
-fn first_date(tail: &[u8]) -> Result<i32, Short>
-    ensures ok { IfOk result (λ date. (4 ≤ length tail.now) × (date ≡ date_in tail.now)) }
+fn first_number(tail: &[u8]) -> Result<u32, Short>
+    ensures ok { IfOk result (λ number. (4 ≤ length tail.now) × (number ≡ big_number 4 tail.now)) }
     ensures err { OnErr result (length tail.now < 4) }
 {
-    let date = Scan::new(tail).u32()?;
-    Ok(date.cast_signed())
+    Scan::new(tail).u32()
 }
 
-/// The plan of a backup date.
-fn plan_backup(now: Moment, date: i32) -> Plan
-    ensures { result ≡ plan_set now None (Some date) }
+/// The plan of a backup date, as the number that its bytes are.
+fn plan_backup(now: Moment, number: u32) -> Plan
+    ensures { result ≡ plan_set now None (Some (cast_signed w32 number)) }
 {
     Plan {
         moment: now,
@@ -35,7 +35,7 @@ fn plan_backup(now: Moment, date: i32) -> Plan
         come: None,
         moved: None,
         set: None,
-        backup: Some(date),
+        backup: Some(number.cast_signed()),
         modified_dir: None,
         modified_dir_too: None,
     }
@@ -60,9 +60,9 @@ impl Volume {
         if bits != BACKUP_DATE_ALONE {
             return Err(PlanFault::Code(Code::BitmapErr));
         }
-        let Ok(date) = first_date(tail) else {
+        let Ok(number) = first_number(tail) else {
             return Err(PlanFault::Code(Code::ParamErr));
         };
-        Ok(plan_backup(now, date))
+        Ok(plan_backup(now, number))
     }
 }

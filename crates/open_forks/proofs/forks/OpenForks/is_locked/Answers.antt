@@ -6,9 +6,9 @@ use Rattle.open_forks.proofs.forks.OpenForks.is_locked.Goals as goal
 pub returns-then-count-eq0 : goal.returns-then-count-eq0
 returns-then-count-eq0 c = λ w o has number. no-bytes w o c.args.from c.args.count c.if-count-eq0.true
 
-pub returns-then-from-gt9223372036854775807 : goal.returns-then-from-gt9223372036854775807
-returns-then-from-gt9223372036854775807 c = λ w o has number.
-    none-behind w c.self.inside.table o c.args.from c.args.count c.forks_are_shared_by_their_rules.ensures.behind (subst (HasForks w) (sym c.self.view_is) has) c.self.invariant c.if-from-gt9223372036854775807.true
+pub returns-then-from-gt-LAST_BYTE : goal.returns-then-from-gt-LAST_BYTE
+returns-then-from-gt-LAST_BYTE c = λ w o has number.
+    none-behind w c.self.inside.table o c.args.from c.args.count c.forks_are_shared_by_their_rules.ensures.behind (subst (HasForks w) (sym c.self.view_is) has) c.self.invariant c.if-from-gt-LAST_BYTE.true
 
 pub blocks-requires : goal.blocks-requires
 blocks-requires c = some-at c.self.inside.table c.args.self.now c.args.r.0 c.self.view_is c.requires
