@@ -12,7 +12,7 @@ use crate::counts::Counts;
 use afp_base::{LinkNumber, Moment, OutOfMemory, VolumeId};
 use afp_serial::fork_laws::references_are_lowest;
 use afp_serial::{Ask, House, Outcome, Told, entry_in_range, moment_in_range};
-use core_asks::turn;
+use core_asks::run_ask;
 use core_keepers::{CoreFault, Retired, load_all, settle_all};
 use core_state::State;
 use record_keeper::Keeper;
@@ -80,7 +80,7 @@ impl<K: Keeper> Core<K> {
     {
         entry_in_range(now, link, &ask);
         references_are_lowest();
-        let (told, outcome) = turn(&mut self.state, now, link, ask)?;
+        let (told, outcome) = run_ask(&mut self.state, now, link, ask)?;
         self.entries = self.entries.saturating_add(1);
         if let Told::Opened { .. } = told {
             self.opened = self.opened.saturating_add(1);

@@ -94,7 +94,7 @@ fed_connection block now piece c d s t u w v tally out sent over fed is r f goes
       replies = f.replies;
       after = v.stage;
       over = over;
-      comes = record {
+      takes = record {
         end = f.end;
         script = subst (λ (stage : Stage). Script block stage f.frames f.steps f.replies v.stage f.end) r.stage
             (subst (λ (b : List ℕ). Script b w.stage f.frames f.steps f.replies v.stage f.end) r.serves f.script);

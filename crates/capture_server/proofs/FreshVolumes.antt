@@ -5,7 +5,7 @@ use Rattle.std.specs.FinMap.{len-empty, len-entries}
 use Rattle.std.specs.Prelude.{map as mapped, slice_get, Option, IfSome}
 use Rattle.std.specs.Cmp.Lexicographic.{slice_cmp}
 use Rattle.std.specs.Ordering.{nat_cmp}
-use Rattle.core_keepers.specs.Loads.{LoadEach, IsCoreFault, IsFaultOf, LoadsStopAt}
+use Rattle.core_keepers.specs.Loads.{LoadEach, IsCoreFault, IsLoadFaultOf, LoadsStopAt}
 use Rattle.afp_core.specs.Loads.{IsLoadedServer}
 use Rattle.afp_core.specs.ServerState.{ServerState}
 use Rattle.core_state.specs.KeptWorld.{volumes_of}
@@ -105,7 +105,7 @@ none-held =
     let size : length (map.entries {X = List ℕ} {R = slice_cmp nat_cmp} map.empty) ≡ 0 = sym (len-entries map.empty) ∙ len-empty (slice_cmp nat_cmp) (List ℕ) in
     ap (λ (es : List (List ℕ × List ℕ)). mapped (λ e. record { key = e.0; value = e.1 }) es) (no_entries _ size)
 
-loads-one : (name : List ℕ) (records : Option Records) (sure : Bool) (count : ℕ) (fault : LoadFault) → IsNew records sure count → IsFaultOf name records sure fault → ⊥
+loads-one : (name : List ℕ) (records : Option Records) (sure : Bool) (count : ℕ) (fault : LoadFault) → IsNew records sure count → IsLoadFaultOf name records sure fault → ⊥
 loads-one name records sure count (loads.BadRecord key reason) new cause =
     let told : IsFaultIn name (records_in map.empty) (loads.BadRecord key reason) =
     subst (λ (o : Option Records). IfSome o (λ held. IsFaultIn name (records_in held) (loads.BadRecord key reason))) new.empty cause in

@@ -207,7 +207,7 @@ fed-there r new s first now index piece tally over used slots u is started told 
             replies = f.replies;
             after = f.after;
             over = f.over;
-            comes = f.comes;
+            takes = f.takes;
             served = served-there r.teller u s first now f.steps is.teller started f.extends;
             next = refl;
           };

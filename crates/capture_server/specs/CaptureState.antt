@@ -104,14 +104,14 @@ world_at s now = stand (fresh_world s.house (start_at s.start now)) s.history
 abbrev pub put : ℕ → Connection → (ℕ → Connection) → ℕ → Connection
 put link c connections k = if k == link then c else connections k
 
--- Bytes come: those of a connection that takes no more are passed over.
+-- Bytes are read: those of a connection that takes no more are passed over.
 pub record Feeds (s : CaptureState) (link now : ℕ) (bytes : List ℕ) (t : CaptureState) : Type 0 where
   pub frames : List Frame
   pub steps : List Step
   pub replies : List Frame
   pub after : Stage
   pub over : Bool
-  pub comes : TakesBytes (status_block s.house) now (s.connections link) bytes frames steps replies after over
+  pub takes : TakesBytes (status_block s.house) now (s.connections link) bytes frames steps replies after over
   pub served : AreServed (world_at s now) steps
   pub next : t ≡ record s {
     connections = put link (fed_with (s.connections link) bytes frames replies after over) s.connections;

@@ -1,4 +1,4 @@
--- What comes on a connection of a capture, and what is answered (this profile).
+-- What a connection of a capture reads, and what is answered (this profile).
 use Rattle.std.specs.Prelude.{◌≡◌, ◌⊎◌, ℕ, ◌+◌, ◌==◌, Bool, true, false, List, [], ◌∷◌, ◌++◌, map, All, Option, Some, None, if◌then◌else◌}
 use Rattle.afp_serial.specs.History.{answers, entry}
 use Rattle.afp_serial.specs.Went.{Step}

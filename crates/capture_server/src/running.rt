@@ -154,7 +154,7 @@ impl<K: Keeper> Running<K> {
         self.refused = self.refused.saturating_add(tally.refused);
     }
 
-    /// Bytes come on the connection at a place, which was not lost.
+    /// Feeds bytes to the connection at a place, which was not lost.
     fn feed(&mut self, index: usize, piece: &[u8], now: Moment) -> Result<(), OutOfMemory>
         requires within { index < length self.old.connections }
         requires is { (s : CaptureState) × (first : ℕ) × IsRunning self.old s first × ((s.connections (suc index)).lost ≡ false) }

@@ -29,7 +29,7 @@ abbrev pub RunsAsk : KeptWorld → ℕ → Ask → Result (Told × Outcome) OutO
 RunsAsk k link ask (Ok r) new = IsOutcomeOf (answer_at k.world link ask r.1) (after_at k.world link ask r.1) (committed_at k.world link ask) r.1 r.0 k new
 RunsAsk k link ask (Err e) new = (takes_memory ask ≡ true) × (new ≡ k)
 
--- An ask becomes an entry, or there is no memory and nothing changes.
-abbrev pub Runs : KeptWorld → ℕ → LinkNumber → Ask → Result (Told × Outcome) OutOfMemory → KeptWorld → Type 0
-Runs old now link ask (Ok r) new = RunsAsk (kept_at old now) link.0 ask (Ok r) new
-Runs old now link ask (Err e) new = (takes_memory ask ≡ true) × (new ≡ old)
+-- An ask at its moment: an outcome that may come, or there is no memory and nothing changes.
+abbrev pub RunsAskAt : KeptWorld → ℕ → LinkNumber → Ask → Result (Told × Outcome) OutOfMemory → KeptWorld → Type 0
+RunsAskAt old now link ask (Ok r) new = RunsAsk (kept_at old now) link.0 ask (Ok r) new
+RunsAskAt old now link ask (Err e) new = (takes_memory ask ≡ true) × (new ≡ old)

@@ -4,10 +4,8 @@ ghost use Rattle.afp_serial.specs.Answer.{told_pulse};
 ghost use Rattle.afp_serial.specs.World.{session_at};
 ghost use Rattle.afp_serial.specs.declared.ask.Ask.{Ask};
 ghost use Rattle.core_state.specs.Running.{IsNextFree, IsReady, done};
-ghost use Rattle.core_asks.specs.Asks.{RunsAsk};
-ghost use Rattle.core_asks.specs.lemma.Asks.{RunsOpen};
-ghost use Rattle.core_asks.specs.Asks.{Runs};
-ghost use Rattle.core_asks.specs.lemma.Asks.{RunsPart};
+ghost use Rattle.core_asks.specs.Asks.{RunsAsk, RunsAskAt};
+ghost use Rattle.core_asks.specs.lemma.Asks.{RunsOpen, RunsPart};
 
 use crate::call::call;
 use crate::request::Request;
@@ -21,18 +19,18 @@ use std::marker::Model;
 const MOST_SESSIONS: usize = 64;
 
 /// Answers an ask. Without memory nothing changes; only `Open` and `Call` take some.
-pub fn turn<K: Keeper>(
+pub fn run_ask<K: Keeper>(
     state: &mut State<K>,
     now: Moment,
     link: LinkNumber,
     ask: Ask,
 ) -> Result<(Told, Outcome), OutOfMemory>
     requires { IsReady state.old.world }
-    ensures { Runs state.old now link ask result state.new }
+    ensures { RunsAskAt state.old now link ask result state.new }
 {
     let before = state.latest;
     state.latest = later(before, now);
-    match turn_now(state, link, ask) {
+    match run_ask_now(state, link, ask) {
         Ok(told) => Ok(told),
         Err(OutOfMemory) => {
             state.latest = before;
@@ -42,7 +40,7 @@ pub fn turn<K: Keeper>(
 }
 
 /// Answers an ask at the latest moment.
-fn turn_now<K: Keeper>(
+fn run_ask_now<K: Keeper>(
     state: &mut State<K>,
     link: LinkNumber,
     ask: Ask,

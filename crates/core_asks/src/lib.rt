@@ -8,4 +8,4 @@ mod logout;
 mod request;
 mod spelling;
 
-pub use asks::turn;
+pub use asks::run_ask;

@@ -1,6 +1,6 @@
 //! FPGetForkParms (AFP Reference, "FPGetForkParms").
 ghost use Rattle.std.specs.Prelude.{◌≡◌, ◌++◌, ◌<◌, Some, true, length, slice_get, IfOk, OnOk, OnErr};
-ghost use Rattle.afp_bitmap.specs.Bits.{IsWithin, file_mask, is_outside};
+ghost use Rattle.afp_bitmap.specs.Bits.{IsWithin, file_mask};
 ghost use Rattle.afp_bitmap.specs.Params.{params};
 ghost use Rattle.afp_replies.specs.Replies.{canonical_reply};
 ghost use Rattle.afp_replies.specs.declared.reply.Reply.TheVariants.{Params};
@@ -13,7 +13,7 @@ ghost use Rattle.afp_volume.specs.Walk.{row_at};
 ghost use Rattle.core_state.specs.Running.{IsReady, RunsRow};
 
 use afp_base::{Bytes, Code, ForkRef, OutOfMemory, SessionNumber};
-use afp_bitmap::FileBits;
+use afp_bitmap::{FileBits, is_outside};
 use afp_serial::{Outcome, Told};
 use core_state::{State, done, refused};
 use deny_modes::ForkKey;
@@ -32,7 +32,7 @@ pub fn get_fork_parms<K: Keeper>(
     let Some(own) = state.fork_at(session, reference) else {
         return Ok((refused(state.alloc, Code::ParamErr), Outcome::Done));
     };
-    if is_outside(bits) {
+    if is_outside(FileBits::MASK, bits) {
         return Ok((refused(state.alloc, Code::BitmapErr), Outcome::Done));
     }
     let block = parms_block(state, own.index, own.fork, bits)?;
@@ -76,11 +76,4 @@ pub(crate) fn put_file_params<K: Keeper>(
     let opens = state.forks.on(fork.volume);
     let volume = state.kept_at(index);
     volume.file_params(state.alloc, fork.node, &opens, bits, out)
-}
-
-/// Whether a bit is set that asks nothing of a file.
-fn is_outside(bits: u16) -> bool
-    ensures { result ≡ is_outside file_mask bits }
-{
-    afp_bitmap::is_outside(FileBits::MASK, bits)
 }

@@ -23,10 +23,10 @@ LoadEach records sure faults now names keepers kept = ⊥
 
 -- Why a load under a name gave no volume, of a keeper with these records, which is sure or not: where the records are told, the first bad one of
 -- them, for its reason; or the keeper failed. Want of memory is told otherwise.
-abbrev pub IsFaultOf : List ℕ → Option Records → Bool → LoadFault → Type 0
-IsFaultOf name records sure (load.BadRecord key reason) = IfSome records (λ held. IsFaultIn name (records_in held) (load.BadRecord key reason))
-IsFaultOf name records sure load.Failed = sure ≡ false
-IsFaultOf name records sure load.Memory = ⊥
+abbrev pub IsLoadFaultOf : List ℕ → Option Records → Bool → LoadFault → Type 0
+IsLoadFaultOf name records sure (load.BadRecord key reason) = IfSome records (λ held. IsFaultIn name (records_in held) (load.BadRecord key reason))
+IsLoadFaultOf name records sure load.Failed = sure ≡ false
+IsLoadFaultOf name records sure load.Memory = ⊥
 
 -- the load at an index is the first that gave no volume
 pub record LoadsStopAt {K : Type 0} (records : K → Option Records) (sure : K → Bool) (faults : K → ℕ) (now : ℕ) (names : List (List ℕ)) (keepers : List K) (index : ℕ) (fault : LoadFault) : Type 0 where
@@ -36,7 +36,7 @@ pub record LoadsStopAt {K : Type 0} (records : K → Option Records) (sure : K �
   pub named : slice_get names index ≡ Some name
   pub keeper : K
   pub kept_by : slice_get keepers index ≡ Some keeper
-  pub cause : IsFaultOf name (records keeper) (sure keeper) fault
+  pub cause : IsLoadFaultOf name (records keeper) (sure keeper) fault
 
 -- why there is no core: the numbers differ, the first load that gave no volume, or there is no memory
 abbrev pub IsCoreFault : {K : Type 0} → (K → Option Records) → (K → Bool) → (K → ℕ) → ℕ → List (List ℕ) → List K → CoreFault → Type 0

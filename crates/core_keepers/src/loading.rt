@@ -12,7 +12,8 @@ use kept_volume::{KeptVolume, LoadFault};
 use record_keeper::Keeper;
 use std::alloc::Global;
 
-/// Loads the volumes of these names, each from its keeper. An error is that of the first load that gave none.
+/// Loads the volumes of these names, each from its keeper. An error is that of the first load that gave none, or `Memory`;
+/// that is also the answer where a text is no name, which the names of a house all are.
 pub fn load_all<K: Keeper>(
     alloc: Global,
     names: &[Bytes],

@@ -17,8 +17,8 @@ use std::io;
 use std::io::ErrorKind;
 
 /// Prints a line, and its result; bytes in hexadecimal digits.
-fn print_result(rt: &HostRuntime, text: &str, result: &LineResult) -> io::Result<()> {
-    match result {
+fn print_result(rt: &HostRuntime, text: &str, line_result: &LineResult) -> io::Result<()> {
+    match line_result {
         LineResult::Nothing => println!(rt; "{text} -> -"),
         LineResult::Number(number) => println!(rt; "{text} -> {number}"),
         LineResult::Word(word) => println!(rt; "{text} -> {word}"),
@@ -31,7 +31,7 @@ fn print_result(rt: &HostRuntime, text: &str, result: &LineResult) -> io::Result
 
 fn run_line(rt: &HostRuntime, run: &mut Run, text: &str, line: &Line<'_>) -> io::Result<()> {
     match run.answer(rt.alloc(), line) {
-        Ok(result) => print_result(rt, text, &result),
+        Ok(line_result) => print_result(rt, text, &line_result),
         Err(OutOfMemory) => Err(io::Error::from(ErrorKind::OutOfMemory)),
     }
 }

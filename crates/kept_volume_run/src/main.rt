@@ -63,8 +63,8 @@ fn run_line(alloc: Global, run: &mut Run, words: &[&str]) -> LineResult {
 }
 
 /// Prints a line, and its result.
-fn print_result(rt: &HostRuntime, line: &str, result: LineResult) -> io::Result<()> {
-    match result {
+fn print_result(rt: &HostRuntime, line: &str, line_result: LineResult) -> io::Result<()> {
+    match line_result {
         LineResult::Number(number) => println!(rt; "{line} -> {number}"),
         LineResult::Code(code) => println!(rt; "{line} -> {code}"),
         LineResult::Word(word) => println!(rt; "{line} -> {word}"),

@@ -14,8 +14,8 @@ use std::io::ErrorKind;
 use volume::share;
 
 /// Prints a line, and its result.
-fn print_result(rt: &HostRuntime, line: &str, result: Option<u64>) -> io::Result<()> {
-    match result {
+fn print_result(rt: &HostRuntime, line: &str, line_result: Option<u64>) -> io::Result<()> {
+    match line_result {
         Some(number) => println!(rt; "{line} -> {number}"),
         None => println!(rt; "{line} -> none"),
     }
@@ -23,7 +23,7 @@ fn print_result(rt: &HostRuntime, line: &str, result: Option<u64>) -> io::Result
 
 fn run_line(rt: &HostRuntime, rows: &mut Rows, text: &str, line: &Line<'_>) -> io::Result<()> {
     match answer(rt.alloc(), rows, line) {
-        Ok(result) => print_result(rt, text, result),
+        Ok(line_result) => print_result(rt, text, line_result),
         Err(OutOfMemory) => Err(io::Error::from(ErrorKind::OutOfMemory)),
     }
 }

@@ -39,7 +39,7 @@ fn error_of(fault: CaseFault) -> io::Error {
 fn take_line(rt: &HostRuntime, run: &mut Run, number: u64, line: &str) -> io::Result<()> {
     match run.take(rt.alloc(), line) {
         Ok(None) => Ok(()),
-        Ok(Some(result)) => println!(rt; "line {number}: {line}\n  but came: {result}"),
+        Ok(Some(got)) => println!(rt; "line {number}: {line}\n  but got: {got}"),
         Err(fault) => Err(error_of(fault)),
     }
 }

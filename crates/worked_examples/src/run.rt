@@ -49,8 +49,8 @@ impl Run {
         }
     }
 
-    /// The result of a case.
-    fn result(&mut self, alloc: Global, case_words: &str) -> Result<String, CaseFault> {
+    /// Runs a case, and says its result.
+    fn run_case(&mut self, alloc: Global, case_words: &str) -> Result<String, CaseFault> {
         let words: Vec<&str> = case_words.split_whitespace().collect(alloc)?;
         let [kind, rest @ ..] = words.as_slice() else {
             return Err(CaseFault::Word);
@@ -67,19 +67,19 @@ impl Run {
         wanted: &str,
     ) -> Result<Option<String>, CaseFault> {
         let wanted = spelt_out(alloc, wanted)?;
-        match self.result(alloc, case_words) {
-            Ok(result) => {
-                if result.as_str() == wanted.as_str() {
+        match self.run_case(alloc, case_words) {
+            Ok(got) => {
+                if got.as_str() == wanted.as_str() {
                     return Ok(None);
                 }
-                Ok(Some(result))
+                Ok(Some(got))
             }
             Err(CaseFault::Word) => Ok(Some(text_of(alloc, "no case")?)),
             Err(CaseFault::Memory) => Err(CaseFault::Memory),
         }
     }
 
-    /// Takes a line: nothing, a comment behind `#`, or a case, with what is wanted behind ` -> `. It tells what comes of the
+    /// Takes a line: nothing, a comment behind `#`, or a case, with what is wanted behind ` -> `. It tells the result of the
     /// case, where it is another.
     pub fn take(&mut self, alloc: Global, line: &str) -> Result<Option<String>, CaseFault> {
         if line.is_empty() || line.starts_with('#') {

@@ -1,11 +1,10 @@
 -- What the code and the proofs go by beside Turn; no public contract cites it.
-use Rattle.std.specs.Prelude.{◌≡◌, ℕ, Result, Ok, Err}
+use Rattle.std.specs.Prelude.{ℕ, Result, Ok, Err}
 use Rattle.afp_base.specs.declared.bytes.OutOfMemory.{OutOfMemory}
 use Rattle.afp_base.specs.declared.ids.LinkNumber.{LinkNumber}
 use Rattle.afp_core.specs.ServerState.{ServerState}
 use Rattle.afp_serial.specs.History.{entry}
 use Rattle.afp_serial.specs.declared.ask.Ask.{Ask}
-use Rattle.afp_serial.specs.declared.ask.Ask.TheVariants as ask
 use Rattle.afp_serial.specs.declared.ask.Outcome.{Outcome}
 use Rattle.afp_serial.specs.declared.ask.Told.{Told}
 use Rattle.afp_core.specs.Turn.{Turned, Refrains}

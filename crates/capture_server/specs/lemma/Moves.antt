@@ -39,12 +39,12 @@ pub record FeedsConnection (block : List ℕ) (now : ℕ) (piece : List ℕ) (s 
   pub replies : List Frame
   pub after : Stage
   pub over : Bool
-  pub comes : TakesBytes block now s piece frames steps replies after over
+  pub takes : TakesBytes block now s piece frames steps replies after over
   pub extends : Extends t steps u
   pub tally_is : tally ≡ tallied no_tally steps replies
   pub is : IsConnection block c (fed_with s piece frames replies after over)
 
--- A quiet came.
+-- No byte was read for a while.
 abbrev pub IdlesConnection : Option LinkNumber → List ℕ → ℕ → Connection → Shown → ConnectionState → Shown → Type 0
 IdlesConnection None block now s t c u = (u ≡ t) × IsConnection block c s
 IdlesConnection (Some link) block now s t c u = (answer : Told) × Extends t (step now link asks.Pulse answer ∷ []) u × IsConnection block c (after_quiet answer s)

@@ -12,8 +12,8 @@ use Rattle.afp_core.proofs.TurnLemmas.{legal-entry, not-opened, ready, turned}
 use Rattle.afp_core.proofs.turn.Core.step.Goals as goal
 use Rattle.afp_core.proofs.turn.Core.step.Goals.{in-Opened, in_default}
 
-pub turn-requires : goal.turn-requires
-turn-requires g c = ready c.self.inside.state.world c.references_are_lowest.ensures.few c.self.invariant
+pub run_ask-requires : goal.run_ask-requires
+run_ask-requires g c = ready c.self.inside.state.world c.references_are_lowest.ensures.few c.self.invariant
 
 pub invariant_of-self-in-Opened : goal.invariant_of-self-in-Opened
 invariant_of-self-in-Opened g c =
@@ -25,7 +25,7 @@ invariant_of-self-in_default g c =
 
 pub returns : goal.returns
 returns g c =
-    let comes = subst (λ (s : ServerState). RunsAsk (kept_at (kept_of s) c.args.now) c.args.link.0 c.args.ask (Ok (c.in_ok-told.told, c.in_ok-told.outcome)) c.turn.new.state) c.self.view_is c.in_ok-told.ensures in
+    let comes = subst (λ (s : ServerState). RunsAsk (kept_at (kept_of s) c.args.now) c.args.link.0 c.args.ask (Ok (c.in_ok-told.told, c.in_ok-told.outcome)) c.run_ask.new.state) c.self.view_is c.in_ok-told.ensures in
     let typed = c.entry_in_range.ensures c.in_ok-told.outcome in
     let was : c.self.inside.entries ≡ c.args.self.now.entries = ap (λ (s : ServerState). s.entries) c.self.view_is in
     let had : c.self.inside.opened ≡ c.args.self.now.opened = ap (λ (s : ServerState). s.opened) c.self.view_is in
