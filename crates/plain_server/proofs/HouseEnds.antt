@@ -20,8 +20,8 @@ use Rattle.kept_volume.specs.Kept.{KeptState}
 use Rattle.plain_server.proofs.OneHouse.{one_house}
 use Rattle.plain_server.specs.Keeping.{Keeping}
 use Rattle.plain_server.specs.Links.{ServesUpTo}
-use Rattle.plain_server.specs.Plain.{AreCounts, Asks, EndsPlain, ServesCore, ServesHouse, house_of, shown_at}
-use Rattle.plain_server.specs.lemma.Plain.{CoreCounts, EndsCore, EndsHouse}
+use Rattle.plain_server.specs.Plain.{AreCounts, Asks, EndsPlain, ServesHouse, house_of}
+use Rattle.plain_server.specs.lemma.Plain.{CoreCounts, EndsCore, EndsHouse, ServesCore, shown_at}
 use Rattle.plain_server.specs.Words.{Spoken}
 use Rattle.plain_server.specs.declared.links.DoorEnd.{DoorEnd}
 use Rattle.plain_server.specs.declared.links.DoorEnd.TheVariants as doors

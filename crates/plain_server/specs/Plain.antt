@@ -6,9 +6,7 @@ use Rattle.kept_volume.specs.Kept.{KeptState}
 use Rattle.volume_keeper.specs.declared.loading.LoadFault.{LoadFault}
 use Rattle.volume_keeper.specs.declared.loading.LoadFault.TheVariants as load
 use Rattle.core_keepers.specs.Loads.{LoadEach, LoadsStopAt}
-use Rattle.afp_core.specs.ServerState.{ServerState}
 use Rattle.core_state.specs.KeptWorld.{volumes_of}
-use Rattle.afp_core.specs.Sureness.{SureKept}
 use Rattle.afp_core.specs.Places.{upto}
 use Rattle.afp_core.specs.declared.counts.Counts.{Counts}
 use Rattle.afp_base.specs.Counts.{counted}
@@ -47,10 +45,6 @@ IsRefused words key many = (spoken : Spoken) → Asks words key spoken → many 
 abbrev pub before_asks : Household → ℕ → List KeptState → Shown
 before_asks house now kept = record { start = start_world house now (volumes_of kept); history = []; mine = []; faults = sum (map (λ k. k.faults) kept) }
 
--- what a teller over a core shows that nobody has asked yet
-abbrev pub shown_at : ServerState → Shown
-shown_at core = record { start = core.world; history = []; mine = []; faults = sum core.faults }
-
 -- the counts of a history: its entries, and how many of them opened a session, each up to the last number of a count
 pub record AreCounts (shown : Shown) (counts : Counts) : Type 0 where
   pub entries : counts.entries ≡ counted (length shown.history) 0
@@ -85,13 +79,6 @@ pub record WordsFailToLoad {K : Type 0} (kept_by : Keeping K) (words : List (Lis
   pub spoken : Spoken
   pub asks : Asks words key spoken
   pub fails : FailsToLoad kept_by (house_of spoken key) keepers clock index fault
-
--- The links of a door were served by a core, which nobody had asked before, as it says.
-pub record ServesCore {L P : Type 0} (state : L → LinkState) (passed : P → Passed) (house : Household) (core : ServerState) (limit : ℕ) (old : DoorState L) (end : DoorEnd) (new : DoorState L) (shown : Shown) : Type 0 where
-  pub serves : ServesUpTo state passed house limit old (shown_at core) end new shown
-  pub sound : IsSoundShown shown
-  pub own : shown.mine ≡ upto (length shown.history)
-  pub keeps : (done : ServerState) × SureKept core done × (shown.faults ≡ sum done.faults)
 
 -- How a run ends, by its answer: the words or the number of keepers are refused; there was no memory, before a link came or for one that came;
 -- the first load that gave no volume; the door failed; or it was closed, or all links were served.

@@ -12,8 +12,8 @@ use Rattle.dsi_frame.specs.declared.frame.Header.{Header}
 use Rattle.dsi_frame.proofs.FrameLemmas.{length-spelling, short_is_unfinished}
 use Rattle.dsi_frame.proofs.StreamLemmas.{spelled_push, given-end, given-frame, given-stop, given-framed, given-feed, given-nothing}
 use Rattle.plain_server.specs.Reporting.{Reports, ReportsPart, ReportsAll}
-use Rattle.plain_tool.specs.Checking.{Prints, PrintsPart, HasChecked, Checks, ChecksPart, TellsCheck, end_text, end_status}
-use Rattle.plain_tool.specs.lemma.Checking.{PrintsTo}
+use Rattle.plain_tool.specs.Checking.{PrintsPart, ChecksPart, TellsCheck, end_text, end_status}
+use Rattle.plain_tool.specs.lemma.Checking.{Checks, HasChecked, Prints, PrintsTo}
 use Rattle.plain_tool.specs.Telling.{Tells}
 use Rattle.plain_tool.specs.Lines.{frame_line, frame_lines}
 use Rattle.plain_tool.specs.declared.checking.CheckEnd.{CheckEnd}

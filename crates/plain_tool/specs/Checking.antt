@@ -3,11 +3,9 @@ use Rattle.std.specs.Prelude.{◌≡◌, ◌⊎◌, ℕ, zero, suc, ◌≤◌, �
 use Rattle.afp_base.specs.Counts.{CountsOn}
 use Rattle.afp_outside.specs.Sink.{SinkState}
 use Rattle.afp_outside.specs.Source.{SourceState}
-use Rattle.dsi_frame.specs.Buffered.{Buffered, buffer_length}
-use Rattle.dsi_frame.specs.Deframe.{GivenOut}
 use Rattle.dsi_frame.specs.Frame.{Frame}
-use Rattle.dsi_frame.specs.Stream.{Spelled, Framed, Stopped, IsUnfinished}
-use Rattle.plain_server.specs.Reporting.{Reports, ReportsPart}
+use Rattle.dsi_frame.specs.Stream.{Spelled, Framed, Stopped}
+use Rattle.plain_server.specs.Reporting.{ReportsPart}
 use Rattle.plain_tool.specs.Lines.{frame_lines, rest_line, bad_frame_line}
 use Rattle.plain_tool.specs.Telling.{Tells}
 use Rattle.plain_tool.specs.declared.checking.CheckEnd.{CheckEnd}
@@ -36,12 +34,6 @@ end_status (ends.Bad bad) = 3
 end_status ends.ReadFault = 4
 end_status ends.Spent = 8
 
--- The lines of the frames that were given out so far stand in the sink.
-pub record Prints (start : SinkState) (bytes : List ℕ) (b : Buffered) (now : SinkState) : Type 0 where
-  pub frames : List Frame
-  pub given : GivenOut bytes frames b
-  pub printed : Reports start (frame_lines 0 frames) now
-
 -- A write failed in the lines of frames that were read.
 pub record PrintsPart (start : SinkState) (bytes : List ℕ) (now : SinkState) : Type 0 where
   pub frames : List Frame
@@ -50,25 +42,6 @@ pub record PrintsPart (start : SinkState) (bytes : List ℕ) (now : SinkState) :
   pub spelled : Spelled filled frames
   pub whole : bytes ≡ filled ++ more
   pub printed : ReportsPart start (frame_lines 0 frames) now
-
--- A stream was read so far, and its frames were printed.
-pub record HasChecked (old : SourceState) (start : SinkState) (b : Buffered) (taken : ℕ) (new : SourceState) (now : SinkState) : Type 0 where
-  pub read : List ℕ
-  pub given : new.given ≡ option_map (λ given. given ++ read) old.given
-  pub ended : new.ended ≡ old.ended
-  pub faults : new.faults ≡ old.faults
-  pub many : taken ≡ length read
-  pub prints : Prints start read b now
-  pub unfinished : IsUnfinished b.rest
-  pub room : length b.rest < buffer_length
-
--- A stream was read, and its frames were printed, but not yet how it ends.
-pub record Checks (turns : ℕ) (old new : SourceState) (start now : SinkState) (end : CheckEnd) : Type 0 where
-  pub read : List ℕ
-  pub frames : List Frame
-  pub given : new.given ≡ option_map (λ given. given ++ read) old.given
-  pub by : ChecksBy turns read old new frames end
-  pub printed : Reports start (frame_lines 0 frames) now
 
 -- A write failed in the lines of frames that were read.
 pub record ChecksPart (old new : SourceState) (start now : SinkState) : Type 0 where

@@ -3,8 +3,8 @@ ghost use Rattle.std.specs.Prelude.{◌≡◌, ◌+◌, ◌<◌, ◌≤◌, ◌^
 ghost use Rattle.afp_outside.specs.Sink.{SinkState};
 ghost use Rattle.dsi_frame.specs.Buffered.{buffer_length};
 ghost use Rattle.plain_server.specs.Reporting.{ReportsAll};
-ghost use Rattle.plain_tool.specs.Checking.{Prints, end_text, end_status, RunsCheck};
-ghost use Rattle.plain_tool.specs.lemma.Checking.{PrintsTo, ChecksTo};
+ghost use Rattle.plain_tool.specs.Checking.{end_text, end_status, RunsCheck};
+ghost use Rattle.plain_tool.specs.lemma.Checking.{ChecksTo, Prints, PrintsTo};
 ghost use Rattle.plain_tool.specs.Telling.{Tells};
 
 use crate::lines::{report_bad_frame, report_frame, report_rest};

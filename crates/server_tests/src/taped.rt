@@ -80,7 +80,7 @@ pub struct Ran {
     pub lost: Option<(u32, u64)>,
 }
 
-fn ran(
+fn made_run(
     alloc: Global,
     end: LinkEnd,
     written: &[u8],
@@ -101,7 +101,7 @@ fn serve<G: Gate>(alloc: Global, link: &mut TapeLink, turns: u32, gate: &G) -> R
     let house = house(alloc)?;
     let mut teller = OneSession::new();
     let end = serve_link(alloc, &house, link, &mut teller, gate, u64::from(turns));
-    Ok(ran(alloc, end, link.written(), &teller)?)
+    Ok(made_run(alloc, end, link.written(), &teller)?)
 }
 
 /// Serves a link with so many turns, through a gate.

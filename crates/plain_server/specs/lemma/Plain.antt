@@ -1,9 +1,11 @@
 -- What the code and the proofs go by beside Plain; no public contract cites it.
-use Rattle.std.specs.Prelude.{◌≡◌, ◌⊎◌, ℕ, List, length, Option, string_bytes}
+use Rattle.std.specs.Prelude.{◌≡◌, ◌⊎◌, ℕ, List, [], length, Option, string_bytes, sum}
 use Rattle.hex.specs.Hex.{encode_lower}
 use Rattle.volume_keeper.specs.declared.loading.LoadFault.{LoadFault}
 use Rattle.volume_keeper.specs.declared.loading.LoadFault.TheVariants as load
 use Rattle.afp_core.specs.ServerState.{ServerState}
+use Rattle.afp_core.specs.Sureness.{SureKept}
+use Rattle.afp_core.specs.Places.{upto}
 use Rattle.afp_core.specs.declared.counts.Counts.{Counts}
 use Rattle.afp_base.specs.Counts.{counted}
 use Rattle.afp_outside.specs.Gate.{Passed}
@@ -11,12 +13,25 @@ use Rattle.afp_outside.specs.Link.{LinkState}
 use Rattle.afp_outside.specs.Listener.{DoorState}
 use Rattle.afp_serial.specs.History.{opened_in}
 use Rattle.afp_serial.specs.Household.{Household}
-use Rattle.afp_serial.specs.Shown.{Shown}
+use Rattle.afp_serial.specs.Shown.{Shown, IsSoundShown}
 use Rattle.plain_server.specs.Keeping.{Keeping}
+use Rattle.plain_server.specs.Links.{ServesUpTo}
+use Rattle.plain_server.specs.declared.links.DoorEnd.{DoorEnd}
 use Rattle.plain_server.specs.declared.links.DoorEnd.TheVariants as doors
 use Rattle.plain_server.specs.declared.plain.PlainEnd.{PlainEnd}
 use Rattle.plain_server.specs.declared.plain.PlainEnd.TheVariants as plain
-use Rattle.plain_server.specs.Plain.{AreCounts, ServesHouse, FailsToLoad, ServesCore}
+use Rattle.plain_server.specs.Plain.{AreCounts, ServesHouse, FailsToLoad}
+
+-- what a teller over a core shows that nobody has asked yet
+abbrev pub shown_at : ServerState → Shown
+shown_at core = record { start = core.world; history = []; mine = []; faults = sum core.faults }
+
+-- The links of a door were served by a core, which nobody had asked before, as it says.
+pub record ServesCore {L P : Type 0} (state : L → LinkState) (passed : P → Passed) (house : Household) (core : ServerState) (limit : ℕ) (old : DoorState L) (end : DoorEnd) (new : DoorState L) (shown : Shown) : Type 0 where
+  pub serves : ServesUpTo state passed house limit old (shown_at core) end new shown
+  pub sound : IsSoundShown shown
+  pub own : shown.mine ≡ upto (length shown.history)
+  pub keeps : (done : ServerState) × SureKept core done × (shown.faults ≡ sum done.faults)
 
 -- its counts went on by the history
 pub record CoreCounts (core : ServerState) (shown : Shown) (counts : Counts) : Type 0 where

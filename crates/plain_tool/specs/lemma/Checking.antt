@@ -1,17 +1,44 @@
 -- What the code and the proofs go by beside Checking; no public contract cites it.
-use Rattle.std.specs.Prelude.{ℕ, ◌<◌, List, length}
+use Rattle.std.specs.Prelude.{◌≡◌, ℕ, ◌<◌, List, ◌++◌, length, option_map}
 use Rattle.afp_outside.specs.Sink.{SinkState}
 use Rattle.afp_outside.specs.Source.{SourceState}
 use Rattle.dsi_frame.specs.Buffered.{Buffered, buffer_length}
+use Rattle.dsi_frame.specs.Deframe.{GivenOut}
 use Rattle.dsi_frame.specs.Frame.{Frame}
 use Rattle.dsi_frame.specs.Stream.{Stopped, IsUnfinished}
 use Rattle.plain_server.specs.Reporting.{Reports}
 use Rattle.plain_tool.specs.Lines.{frame_lines}
+use Rattle.plain_tool.specs.declared.checking.CheckEnd.{CheckEnd}
 use Rattle.plain_tool.specs.declared.checking.CheckStop.{CheckStop}
 use Rattle.plain_tool.specs.declared.checking.CheckStop.TheVariants as stops
 use Rattle.plain_tool.specs.declared.checking.FramesEnd.{FramesEnd}
 use Rattle.plain_tool.specs.declared.checking.FramesEnd.TheVariants as frames_ends
-use Rattle.plain_tool.specs.Checking.{Prints, PrintsPart, Checks, ChecksPart}
+use Rattle.plain_tool.specs.Checking.{ChecksBy, ChecksPart, PrintsPart}
+
+-- The lines of the frames that were given out so far stand in the sink.
+pub record Prints (start : SinkState) (bytes : List ℕ) (b : Buffered) (now : SinkState) : Type 0 where
+  pub frames : List Frame
+  pub given : GivenOut bytes frames b
+  pub printed : Reports start (frame_lines 0 frames) now
+
+-- A stream was read so far, and its frames were printed.
+pub record HasChecked (old : SourceState) (start : SinkState) (b : Buffered) (taken : ℕ) (new : SourceState) (now : SinkState) : Type 0 where
+  pub read : List ℕ
+  pub given : new.given ≡ option_map (λ given. given ++ read) old.given
+  pub ended : new.ended ≡ old.ended
+  pub faults : new.faults ≡ old.faults
+  pub many : taken ≡ length read
+  pub prints : Prints start read b now
+  pub unfinished : IsUnfinished b.rest
+  pub room : length b.rest < buffer_length
+
+-- A stream was read, and its frames were printed, but not yet how it ends.
+pub record Checks (turns : ℕ) (old new : SourceState) (start now : SinkState) (end : CheckEnd) : Type 0 where
+  pub read : List ℕ
+  pub frames : List Frame
+  pub given : new.given ≡ option_map (λ given. given ++ read) old.given
+  pub by : ChecksBy turns read old new frames end
+  pub printed : Reports start (frame_lines 0 frames) now
 
 -- Whole frames at the front were printed, up to less than a frame, to a bad header, or to a write that failed.
 abbrev pub PrintsTo : SinkState → List ℕ → FramesEnd → Buffered → SinkState → Type 0

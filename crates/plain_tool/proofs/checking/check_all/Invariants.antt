@@ -1,5 +1,5 @@
 use Rattle.std.proofs.Common.{◌-◌}
-use Rattle.plain_tool.specs.Checking.{HasChecked}
+use Rattle.plain_tool.specs.lemma.Checking.{HasChecked}
 use Rattle.plain_tool.proofs.checking.check_all.Given as goal
 
 abbrev pub invariant-loop-taken : goal.invariant-loop-taken

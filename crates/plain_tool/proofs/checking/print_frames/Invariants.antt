@@ -1,6 +1,6 @@
 use Rattle.std.proofs.Common.{ℕ, List, length}
 use Rattle.afp_outside.specs.Sink.{SinkState}
-use Rattle.plain_tool.specs.Checking.{Prints}
+use Rattle.plain_tool.specs.lemma.Checking.{Prints}
 use Rattle.plain_tool.proofs.checking.print_frames.Given as goal
 
 abbrev pub invariant-loop-header : goal.invariant-loop-header
