@@ -14,6 +14,7 @@ use Rattle.afp_serial.specs.declared.ask.Told.TheVariants as told
 use Rattle.afp_serial.specs.declared.attachment.Attachment.{Attachment}
 use Rattle.afp_serial.specs.declared.attachment.Attachment.TheVariants.{Attached, Detached}
 use Rattle.afp_replies.specs.Replies.{canonical_reply}
+use Rattle.afp_requests.specs.Commands.{get_srvr_info_command, login_command, login_ext_command, logout_command}
 use Rattle.afp_requests.specs.declared.call.Call.{Call}
 use Rattle.afp_serial.specs.World.{Effect, Refused, session_at, ending, without_session, World, Session, at_moment, plain}
 use Rattle.afp_serial.specs.Limits.{most_sessions, links_end, detached_time}
@@ -35,9 +36,9 @@ block_of r = if r.write then take r.offset r.payload else r.payload
 abbrev pub enclosed_of : Request → Option (List ℕ)
 enclosed_of r = if r.write then Some (drop r.offset r.payload) else None
 
--- the commands that ask for no user: FPGetSrvrInfo, FPLogin, FPLogout and FPLoginExt
+-- the commands that ask for no user
 abbrev pub commands_without_user : List ℕ
-commands_without_user = 15 ∷ 18 ∷ 20 ∷ 63 ∷ []
+commands_without_user = get_srvr_info_command ∷ login_command ∷ logout_command ∷ login_ext_command ∷ []
 
 abbrev pub needs_user : ℕ → Bool
 needs_user command = not (list_any (λ other. other == command) commands_without_user)
