@@ -26,7 +26,7 @@ use Rattle.core_asks.specs.declared.spelling.Stop.TheVariants.{Refused}
 use Rattle.core_state.specs.KeptWorld.{KeptWorld}
 use Rattle.core_state.specs.lemma.KeptWorld.{with_sessions}
 use Rattle.afp_serial.specs.Sound.{has_lawful_locks, has_lawful_opens}
-use Rattle.core_state.proofs.KeeperLemmas.{comes-done, comes-same}
+use Rattle.core_state.proofs.KeeperLemmas.{outcome-done, outcome-same}
 use Rattle.core_state.proofs.ForkLemmas.{staying}
 
 -- the world with another next link and other sessions
@@ -59,7 +59,7 @@ full-sessions w h = or_left _ _ (le-leb most_sessions (length w.sessions) h)
 pub open-refused : (old : KeptWorld) (link attention : ℕ) (told : Told) → is_full old.world ≡ true → told ≡ refusal_reply NoMoreSessions
     → RunsAsk old link (ask.Open attention) (Ok (done told)) old
 unfolding answer_at after_at committed_at
-open-refused old link attention told full tells = rw full (comes-same old old _ _ told tells refl)
+open-refused old link attention told full tells = rw full (outcome-same old old _ _ told tells refl)
 
 pub open-runs : (old new : KeptWorld) (link attention : ℕ) (drawn : LinkNumber) (sessions : List Session) (next : ℕ)
     → length old.world.sessions < most_sessions → old.world.next_link < links_end → drawn.0 ≡ old.world.next_link
@@ -69,7 +69,7 @@ unfolding answer_at after_at committed_at
 open-runs old new link attention drawn sessions next few left number is counts adds =
     let w = old.world in
     let room : is_full w ≡ false = or_neither _ _ (lt-leb most_sessions (length w.sessions) few) (lt-leb links_end w.next_link left) in
-    rw room (comes-done old new _ _ _ _ (Opened drawn) (ap (λ (n : ℕ). Opened (link_number n)) number) is
+    rw room (outcome-done old new _ _ _ _ (Opened drawn) (ap (λ (n : ℕ). Opened (link_number n)) number) is
     ((λ i. record w { next_link = counts i; sessions = adds i })
     ∙ ap (λ (n : ℕ). record w { next_link = w.next_link + 1; sessions = w.sessions ++ new_session n ∷ [] }) number))
 
@@ -88,7 +88,7 @@ unfolding answer_at after_at committed_at
 pulse-runs old new link told sessions ready tells is set same =
     let w = old.world in
     let left : List Session = filter (λ s. not (is_expired w.latest s.place)) w.sessions in
-    comes-done old new _ _ _ _ told tells is
+    outcome-done old new _ _ _ _ told tells is
     (ap (λ (x : List Session). record w { sessions = x }) set ∙ sym (staying w left (sym set ∙ same) ready.opens ready.locks))
 
 -- Bye and Lost
@@ -97,15 +97,15 @@ unfolding answer_at after_at committed_at
 part-runs old new link n at is =
     let left : without_session old.world n ≡ without_session old.world at.session.number = ap (without_session old.world) (sym at.same) in
     record {
-      bye = rw at.linked (comes-done old new _ _ _ _ Done refl is left);
-      lost = rw at.linked (comes-done old new _ _ _ _ Done refl is left);
+      bye = rw at.linked (outcome-done old new _ _ _ _ Done refl is left);
+      lost = rw at.linked (outcome-done old new _ _ _ _ Done refl is left);
     }
 
 pub part-displaced : (old : KeptWorld) (link : ℕ) → session_at old.world link ≡ None → RunsPart old link Displaced old
 unfolding answer_at after_at committed_at
 part-displaced old link none = record {
-  bye = rw none (comes-same old old _ _ Displaced refl refl);
-  lost = rw none (comes-same old old _ _ Displaced refl refl);
+  bye = rw none (outcome-same old old _ _ Displaced refl refl);
+  lost = rw none (outcome-same old old _ _ Displaced refl refl);
 }
 
 -- Drain
@@ -120,7 +120,7 @@ drain-kept moment (Some m) h = refl
 pub drain-runs : (old new : KeptWorld) (link : ℕ) (drain : Option ℕ) → new ≡ with_drain old drain → drain_moment old.world.latest old.world.drain ≡ drain
     → RunsAsk old link ask.Drain (Ok (done Done)) new
 unfolding answer_at after_at committed_at
-drain-runs old new link drain is first = comes-done old new _ _ _ _ Done refl is (ap (λ (d : Option ℕ). record old.world { drain = d }) (sym first))
+drain-runs old new link drain is first = outcome-done old new _ _ _ _ Done refl is (ap (λ (d : Option ℕ). record old.world { drain = d }) (sym first))
 
 -- a session without kept answers
 uncached : (w : World) (s : Session) (r : Request) → s.cache ≡ [] → verdict w s r ≡ verdict_of_block w s r (block_of r)
@@ -145,14 +145,14 @@ call-runs old new link n q call (Ok r) has_user at user spelled row =
     (spelled old.world at.session (sym (user at.session at.numbered))) (row at.session at.numbered)
 
 pub call-displaced : (old : KeptWorld) (link : ℕ) (q : Request) → session_at old.world link ≡ None → RunsCall old link q (Ok (done Displaced)) old
-call-displaced old link q none = rw none (comes-same old old _ _ Displaced refl refl)
+call-displaced old link q none = rw none (outcome-same old old _ _ Displaced refl refl)
 
 pub call-refused : (old new : KeptWorld) (link n : ℕ) (q : Request) (code : Code) (told : Told) (has_user : Bool) → IsAt old.world.sessions link n
     → ((s : Session) → session_of old.world.sessions n ≡ Some s → has_user ≡ is_some s.user) → IsSpelled has_user q (Err (Refused code)) → told ≡ refusal_reply code → new ≡ old
     → RunsCall old link q (Ok (done told)) new
 call-refused old new link n q code told has_user at user spelled tells same =
     found-verdict old new link n q (done told) (refused (plain code)) at
-    (spelled old.world at.session (sym (user at.session at.numbered))) (comes-same old new _ _ told tells same)
+    (spelled old.world at.session (sym (user at.session at.numbered))) (outcome-same old new _ _ told tells same)
 
 pub call-at : (old new : KeptWorld) (link id : ℕ) (write : Bool) (offset : ℕ) (payload : List ℕ) (asked : Ask) (result : Result (Told × Outcome) OutOfMemory)
     → asked ≡ ask.Call id write offset payload → RunsCall old link (request id write offset payload) result new → RunsAsk old link asked result new

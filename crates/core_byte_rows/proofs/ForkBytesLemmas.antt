@@ -34,7 +34,7 @@ use Rattle.core_state.specs.KeptWorld.{KeptWorld}
 use Rattle.core_state.specs.Running.{done, RunsRow}
 use Rattle.core_state.specs.declared.on_fork.OwnFork.{OwnFork}
 use Rattle.core_byte_rows.specs.declared.read.ReadSpan.{ReadSpan}
-use Rattle.core_state.proofs.KeeperLemmas.{comes-same}
+use Rattle.core_state.proofs.KeeperLemmas.{outcome-same}
 use Rattle.core_state.proofs.OnVolumeLemmas.{keeper-fails, told-effect}
 use Rattle.core_state.proofs.RowLemmas.{has_effect, is_refused}
 use Rattle.core_state.proofs.SessionLemmas.{session_of-number}
@@ -57,7 +57,7 @@ module _ (k : KeptWorld) (number : ℕ) (call : Call) (reference : ℕ) (refuses
       → told ≡ refused_reply r → new ≡ k → RunsRow k number call (with_ok (done told)) new
   fork-refused new own stands r told holds is same = λ s at.
       let refused : refusal k.world s call ≡ Some r = refuses-as s (Some stands.file) (stands.found s (session_of-number k.world.sessions number s at)) ∙ holds in
-      rw refused (comes-same k new _ _ told is same)
+      rw refused (outcome-same k new _ _ told is same)
 
   -- what refuses any fork by a code refuses the call, whatever stands under the reference
   pub any-refused : (told : Told) → ((f : OpenFile) → first_holding (refuses k.world f) ≡ Some (plain ParamErr)) → told ≡ refusal_reply ParamErr → RunsRow k number call (with_ok (done told)) k

@@ -32,7 +32,7 @@ use Rattle.core_state.specs.KeptWorld.{KeptWorld}
 use Rattle.core_state.specs.SessionList.{session_of}
 use Rattle.core_state.specs.Running.{done, RunsRow, RunsVerdict}
 use Rattle.core_state.specs.declared.on_fork.OwnFork.{OwnFork}
-use Rattle.core_state.proofs.KeeperLemmas.{comes-same}
+use Rattle.core_state.proofs.KeeperLemmas.{outcome-same}
 use Rattle.core_state.proofs.OnVolumeLemmas.{keeper-fails, kept-stays, state-changes, told-effect}
 use Rattle.core_state.proofs.RowLemmas.{has_effect}
 use Rattle.core_state.proofs.SessionLemmas.{session_of-number}
@@ -55,7 +55,7 @@ one-of a b e = cc e
 -- a call that is refused, with all that it is told then
 pub is_refused-with : (k new : KeptWorld) (s : Session) (call : Call) (r : Refused) (told : Told) → refusal k.world s call ≡ Some r → told ≡ refused_reply r → new ≡ k
     → RunsVerdict k s (verdict_of_row call (refusal k.world s call)) (done told) new
-is_refused-with k new s call r told refused tells same = rw refused (comes-same k new _ _ told tells same)
+is_refused-with k new s call r told refused tells same = rw refused (outcome-same k new _ _ told tells same)
 
 -- the call's row is one on the open fork of a reference, and its session goes on
 pub record RowOnFork (call : Call) (reference : ℕ) (refuses : World → OpenFile → List Refusal) (does : World → OpenFile → Effect) (commits : World → OpenFile → Option ℕ) : Type 0 where

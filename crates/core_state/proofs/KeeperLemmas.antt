@@ -24,9 +24,9 @@ stand-same (s ∷ rest) [] = tt
 stand-same (s ∷ rest) (x ∷ xs) = ((λ e. refl), stand-same rest xs)
 
 -- an entry that meets no fault, and changes the world alone
-pub comes-done : (old new : KeptWorld) (want : Told) (after next : World) (index : Option ℕ) (told : Told) → told ≡ want → new ≡ record old { world = next } → next ≡ after
+pub outcome-done : (old new : KeptWorld) (want : Told) (after next : World) (index : Option ℕ) (told : Told) → told ≡ want → new ≡ record old { world = next } → next ≡ after
     → IsOutcomeOf want after index outcome.Done told old new
-comes-done old new want after next index told tells is becomes = record {
+outcome-done old new want after next index told tells is becomes = record {
   legal = refl;
   serial = tells;
   world = ap (λ (k : KeptWorld). k.world) is ∙ becomes;
@@ -36,9 +36,9 @@ comes-done old new want after next index told tells is becomes = record {
 }
 
 -- one that changes nothing
-pub comes-same : (old new : KeptWorld) (want : Told) (index : Option ℕ) (told : Told) → told ≡ want → new ≡ old
+pub outcome-same : (old new : KeptWorld) (want : Told) (index : Option ℕ) (told : Told) → told ≡ want → new ≡ old
     → IsOutcomeOf want old.world index outcome.Done told old new
-comes-same old new want index told tells is = comes-done old new want old.world old.world index told tells is refl
+outcome-same old new want index told tells is = outcome-done old new want old.world old.world index told tells is refl
 
 -- the volumes beside their keepers
 pub volume-of : (kept : List KeptState) (index : ℕ) (d : KeptState) → index < length kept → slice_get (volumes_of kept) index ≡ Some (get_or kept index d).state

@@ -11,7 +11,7 @@ use Rattle.afp_serial.specs.World.{plain, World, Session}
 use Rattle.afp_serial.specs.Rows.{refusal, effect}
 use Rattle.core_state.specs.KeptWorld.{KeptWorld}
 use Rattle.core_state.specs.Running.{done, RunsRow, RunsVerdict}
-use Rattle.core_state.proofs.KeeperLemmas.{comes-done, comes-same}
+use Rattle.core_state.proofs.KeeperLemmas.{outcome-done, outcome-same}
 
 -- what a row tells, and the world that it leaves
 abbrev pub IsRowOf : KeptWorld → Session → Call → Told → KeptWorld → Type 0
@@ -21,13 +21,13 @@ IsRowOf k s call told next = RunsVerdict k s (verdict_of_row call (refusal k.wor
 pub is_refused : (old new : KeptWorld) (s : Session) (call : Call) (code : Code) (told : Told) → refusal old.world s call ≡ Some (plain code)
     → told ≡ refusal_reply code → new ≡ old → IsRowOf old s call told new
 is_refused old new s call code told refused tells same =
-    rw refused (comes-same old new _ _ told tells same)
+    rw refused (outcome-same old new _ _ told tells same)
 
 -- a call that has its effect
 pub has_effect : (old new : KeptWorld) (s : Session) (call : Call) (told : Told) (next : World) → refusal old.world s call ≡ None
     → told ≡ effect_reply call (effect old.world s call) → new ≡ record old { world = next } → next ≡ (effect old.world s call).world
     → IsRowOf old s call told new
-has_effect old new s call told next passes tells is becomes = rw passes (comes-done old new _ _ next _ told tells is becomes)
+has_effect old new s call told next passes tells is becomes = rw passes (outcome-done old new _ _ next _ told tells is becomes)
 
 -- a call by its name
 pub row-as : (old new : KeptWorld) (number : ℕ) (call of : Call) (told : Told) → call ≡ of → RunsRow old number of (with_ok (done told)) new → RunsRow old number call (with_ok (done told)) new
