@@ -127,3 +127,10 @@ impl Bytes {
         self.0.as_slice()
     }
 }
+
+/// The bytes from a place on, none where it lies behind them.
+pub fn rest_of(bytes: &[u8], from: usize) -> &[u8]
+    ensures { result.now ≡ drop from bytes.now }
+{
+    &bytes[from.min(bytes.len())..]
+}

@@ -20,7 +20,7 @@ use Rattle.afp_bitmap.proofs.Formed.{Formed, fields, formed_asked}
 use Rattle.afp_bitmap.proofs.Loops.{concat-append}
 use Rattle.afp_bitmap.proofs.NamesAll.{OptFits, NamesFit}
 use Rattle.afp_bitmap.proofs.NamesStage.{LongFits}
-use Rattle.afp_bitmap.proofs.Numbers.{IsBytes}
+use Rattle.afp_base.specs.Bytes.{IsBytes}
 use Rattle.afp_bitmap.proofs.Parts.{fixed_at, gap, long_in, utf8_in, names_of, parts_formed}
 use Rattle.afp_bitmap.proofs.Tables.{fits_countable}
 

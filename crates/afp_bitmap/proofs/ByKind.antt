@@ -21,7 +21,7 @@ use Rattle.afp_bitmap.proofs.Blocks.{Kind}
 use Rattle.afp_bitmap.proofs.Filled.{taken_rows}
 use Rattle.afp_bitmap.proofs.Formed.{Formed, fields}
 use Rattle.afp_bitmap.proofs.Judgements.{Judgement, judgement, Again, again}
-use Rattle.afp_bitmap.proofs.Numbers.{IsBytes}
+use Rattle.afp_base.specs.Bytes.{IsBytes}
 use Rattle.afp_bitmap.proofs.Tables.{volume_table, volume_small, volume_formed, file_table, file_small, file_formed, dir_table, dir_small, dir_formed}
 use Rattle.afp_bitmap.proofs.Walks.{bind_ok}
 

@@ -13,7 +13,8 @@ use Rattle.afp_bitmap.specs.lemma.Reading.{piece, behind, finder_of}
 use Rattle.afp_bitmap.specs.Table.{FieldRow}
 use Rattle.afp_bitmap.proofs.Asked.{asked_none, asked_yes, asked_no}
 use Rattle.afp_bitmap.proofs.Formed.{NoNames, Late, Formed, fields, late_asked, no_names_asked}
-use Rattle.afp_bitmap.proofs.Numbers.{IsBytes, IsBytes-take, IsBytes-drop, IsBytes-none, big_number-lt, big_number_none, number_again, length-big_bytes, date_fits, date_lt, date_again}
+use Rattle.afp_base.specs.Bytes.{IsBytes}
+use Rattle.afp_base.proofs.Numbers.{IsBytes-take, IsBytes-drop, IsBytes-none, big_number-lt, big_number_none, number_again, length-big_bytes, date_fits, date_lt, date_again}
 use Rattle.afp_bitmap.proofs.Parts.{fixed_at, long_in, utf8_in, no_long, no_utf8}
 
 -- the n bytes at the front where they are there, and those behind them

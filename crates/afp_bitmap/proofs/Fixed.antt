@@ -17,8 +17,8 @@ use Rattle.afp_bitmap.specs.Table.{FieldRow}
 use Rattle.afp_bitmap.proofs.Asked.{shape_of, slot_of, size_of-shape, asked_none, asked_yes, asked_no}
 use Rattle.afp_bitmap.proofs.Filled.{cut, past, cut_whole, past_whole, refill, filled, fixed_length}
 use Rattle.afp_bitmap.proofs.Formed.{by_name}
-use Rattle.afp_base.proofs.Numbers.{number_front}
-use Rattle.afp_bitmap.proofs.Numbers.{IsBytes, IsBytes-take, IsBytes-drop, big_number-lt, bytes_again, number_again, length-big_bytes}
+use Rattle.afp_base.specs.Bytes.{IsBytes}
+use Rattle.afp_base.proofs.Numbers.{number_front, IsBytes-take, IsBytes-drop, big_number-lt, bytes_again, number_again, length-big_bytes}
 use Rattle.afp_bitmap.proofs.Parts.{fixed_at}
 use Rattle.afp_bitmap.proofs.Walks.{walked_none, walked_more}
 

@@ -58,7 +58,7 @@ pub front_size : (base : ℕ) (out : List ℕ) → base ≤ length out → base 
 front_size base out begun = sym (length-take-le base out begun)
 
 -- The fixed part of a block stands behind bytes that stay.
-pub record Standing (fs : List Field) (base : ℕ) (old out : List ℕ) (spots : NameSpots) : Type 0 where
+pub record BegunAt (fs : List Field) (base : ℕ) (old out : List ℕ) (spots : NameSpots) : Type 0 where
   pub at : base ≡ length old
   pub formed : Formed fs
   pub sized_so : AllByRecursion IsSized fs
@@ -67,7 +67,7 @@ pub record Standing (fs : List Field) (base : ℕ) (old out : List ℕ) (spots :
   pub out_is : out ≡ old ++ concat (map (fixed_bytes 0) fs)
   pub spots_are : spots ≡ all_noted 0 fs no_spots
 
-begun : (fs : List Field) (base : ℕ) (old out : List ℕ) (spots : NameSpots) → Standing fs base old out spots → Begun fs (drop base out) spots
+begun : (fs : List Field) (base : ℕ) (old out : List ℕ) (spots : NameSpots) → BegunAt fs base old out spots → Begun fs (drop base out) spots
 begun fs base old out spots s = record {
   formed = s.formed;
   sized_so = s.sized_so;
@@ -77,20 +77,20 @@ begun fs base old out spots s = record {
   spots_are = s.spots_are;
 }
 
-pub long_can : (fs : List Field) (base : ℕ) (old out : List ℕ) (spots : NameSpots) → Standing fs base old out spots → CanName 256 spots.long_name (drop base out)
+pub long_can : (fs : List Field) (base : ℕ) (old out : List ℕ) (spots : NameSpots) → BegunAt fs base old out spots → CanName 256 spots.long_name (drop base out)
 long_can fs base old out spots s = can_begin fs (drop base out) spots (begun fs base old out spots s)
 
 -- the block behind the long name
-named_block : (fs : List Field) (base : ℕ) (old out next : List ℕ) (spots : NameSpots) → Standing fs base old out spots → next ≡ take base out ++ with_long_name spots.long_name (drop base out)
+named_block : (fs : List Field) (base : ℕ) (old out next : List ℕ) (spots : NameSpots) → BegunAt fs base old out spots → next ≡ take base out ++ with_long_name spots.long_name (drop base out)
     → drop base next ≡ with_long_name spots.long_name (drop base out)
 named_block fs base old out next spots s is =
     block_is base (take base out) (with_long_name spots.long_name (drop base out)) next (front_size base out (begins base old (concat (map (fixed_bytes 0) fs)) out s.at s.out_is)) is
 
-pub utf8_can : (fs : List Field) (base : ℕ) (old out next : List ℕ) (spots : NameSpots) → Standing fs base old out spots → next ≡ take base out ++ with_long_name spots.long_name (drop base out)
+pub utf8_can : (fs : List Field) (base : ℕ) (old out next : List ℕ) (spots : NameSpots) → BegunAt fs base old out spots → next ≡ take base out ++ with_long_name spots.long_name (drop base out)
     → CanName 65536 spots.utf8_name (drop base next)
 utf8_can fs base old out next spots s is = can_go_on fs (drop base out) (drop base next) spots (begun fs base old out spots s) (named_block fs base old out next spots s is)
 
-pub written_behind : (fs : List Field) (base : ℕ) (old out next last : List ℕ) (spots : NameSpots) → Standing fs base old out spots → next ≡ take base out ++ with_long_name spots.long_name (drop base out)
+pub written_behind : (fs : List Field) (base : ℕ) (old out next last : List ℕ) (spots : NameSpots) → BegunAt fs base old out spots → next ≡ take base out ++ with_long_name spots.long_name (drop base out)
     → last ≡ take base next ++ with_utf8_name spots.utf8_name (drop base next) → last ≡ old ++ concat (parts fs)
 written_behind fs base old out next last spots s is then_is =
     let first : take base out ≡ old = front_is base old (concat (map (fixed_bytes 0) fs)) out s.at s.out_is in

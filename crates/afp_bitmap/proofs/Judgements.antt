@@ -18,7 +18,8 @@ use Rattle.afp_bitmap.proofs.Formed.{Formed, formed_asked}
 use Rattle.afp_bitmap.proofs.Loops.{concat-append}
 use Rattle.afp_bitmap.proofs.NamesAll.{text, OptFits, NamesFit, NamesRead, NamesStop, NamesEnd, NamesAre, names_are, names_again, names_same}
 use Rattle.afp_bitmap.proofs.NamesStage.{LongFits, Utf8Fits}
-use Rattle.afp_bitmap.proofs.Numbers.{IsBytes, IsBytes-drop}
+use Rattle.afp_base.specs.Bytes.{IsBytes}
+use Rattle.afp_base.proofs.Numbers.{IsBytes-drop}
 use Rattle.afp_bitmap.proofs.Parts.{fixed_at, gap, long_in, utf8_in, names_of}
 use Rattle.afp_bitmap.proofs.Blocks.{Kind, Asks, shapes, first, fits_rows, asks, Names, template, made_answer, made_asked, fixed_take, names_take, begins_fixed, begins_names, length_shapes, first_place, leads_none, leads_some, leads_from, cond_is, claim_is}
 use Rattle.afp_bitmap.proofs.Walks.{bind_ok}

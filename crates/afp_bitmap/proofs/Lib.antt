@@ -4,7 +4,6 @@ pub mod Loops
 pub mod Walks
 pub mod Tables
 pub mod Taken
-pub mod Numbers
 pub mod Parts
 pub mod Filled
 pub mod Fixed

@@ -10,7 +10,7 @@ use Rattle.afp_bitmap.specs.lemma.Reading.{◌>>=◌, Walk, long_name_at, utf8_n
 use Rattle.afp_bitmap.specs.lemma.Spot.{Spot}
 use Rattle.afp_bitmap.proofs.Loops.{concat-append}
 use Rattle.afp_bitmap.proofs.NamesStage.{same_front, pad, IsFormat, Stops, NameIs, name_cases, LongFits, long_format, long_cases, Utf8Fits, utf8_format, utf8_cases}
-use Rattle.afp_bitmap.proofs.Numbers.{IsBytes}
+use Rattle.afp_base.specs.Bytes.{IsBytes}
 use Rattle.afp_bitmap.proofs.Parts.{opt, names_of}
 
 abbrev pub text : Option (List ℕ) → List ℕ

@@ -8,7 +8,8 @@ use Rattle.afp_bitmap.specs.Field.{long_name_bytes, utf8_name_bytes}
 use Rattle.afp_bitmap.specs.lemma.Reading.{◌>>=◌, zero_at, pad_at, leads_to, long_name_at, utf8_text_at, utf8_name_at}
 use Rattle.afp_bitmap.specs.lemma.Spot.{Spot}
 use Rattle.afp_bitmap.proofs.Fixed.{front_number, front_is, zeros_are}
-use Rattle.afp_bitmap.proofs.Numbers.{IsBytes, IsBytes-drop, big_number-lt, length-big_bytes}
+use Rattle.afp_base.specs.Bytes.{IsBytes}
+use Rattle.afp_base.proofs.Numbers.{IsBytes-drop, big_number-lt, length-big_bytes}
 use Rattle.afp_bitmap.proofs.Parts.{opt}
 use Rattle.afp_bitmap.proofs.Walks.{bind_ok, bind_err}
 

@@ -14,7 +14,7 @@ use Rattle.afp_bitmap.proofs.Blocks.{fits_rows}
 use Rattle.afp_bitmap.proofs.Formed.{NoNames, Late, Formed, formed_asked, long_name_size}
 use Rattle.afp_bitmap.proofs.Loops.{concat-append}
 use Rattle.afp_bitmap.proofs.NamesAll.{OptFits}
-use Rattle.afp_bitmap.proofs.Numbers.{number_again}
+use Rattle.afp_base.proofs.Numbers.{number_again}
 use Rattle.afp_bitmap.proofs.Parts.{fixed_at, gap, long_in, utf8_in, opt, names_of, parts_formed}
 use Rattle.afp_bitmap.proofs.Tables.{fits_countable, volume_formed, volume_fixed, volume_rows_is, file_formed, file_fixed, file_rows_is, dir_formed, dir_fixed, dir_rows_is}
 

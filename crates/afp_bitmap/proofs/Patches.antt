@@ -14,7 +14,7 @@ use Rattle.afp_bitmap.specs.lemma.Writing.{NameSpot, NameSpots, no_spots, noted,
 use Rattle.afp_bitmap.proofs.Asked.{asked_none, asked_yes, asked_no}
 use Rattle.afp_bitmap.proofs.Formed.{NoNames, Late, Formed, late_formed}
 use Rattle.afp_bitmap.proofs.Loops.{concat-append, noted_none, noted_more}
-use Rattle.afp_bitmap.proofs.Numbers.{length-big_bytes}
+use Rattle.afp_base.proofs.Numbers.{length-big_bytes}
 use Rattle.afp_bitmap.proofs.Parts.{fixed_at, gap, long_in, utf8_in, opt, names_of, parts_formed}
 
 -- ---- zeros in place of the places

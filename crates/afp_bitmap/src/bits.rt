@@ -2,6 +2,7 @@
 ghost use Rattle.std.specs.Prelude.{◌≡◌, ◌↔◌, IfOk, IfErr, IsOk};
 ghost use Rattle.afp_bitmap.specs.Bits.{IsWithin, volume_mask, file_mask, dir_mask};
 
+use crate::table::is_outside;
 use afp_base::Code;
 use std::marker::Model;
 
@@ -34,10 +35,10 @@ impl VolumeBits {
         ensures value { IfOk result (λ b. b ≡ bits) }
         ensures error { IfErr result (λ e. e ≡ Code.BitmapErr) }
     {
-        if bits & VolumeBits::MASK == bits {
-            Ok(VolumeBits(bits))
-        } else {
+        if is_outside(VolumeBits::MASK, bits) {
             Err(Code::BitmapErr)
+        } else {
+            Ok(VolumeBits(bits))
         }
     }
 
@@ -79,10 +80,10 @@ impl FileBits {
         ensures value { IfOk result (λ b. b ≡ bits) }
         ensures error { IfErr result (λ e. e ≡ Code.BitmapErr) }
     {
-        if bits & FileBits::MASK == bits {
-            Ok(FileBits(bits))
-        } else {
+        if is_outside(FileBits::MASK, bits) {
             Err(Code::BitmapErr)
+        } else {
+            Ok(FileBits(bits))
         }
     }
 
@@ -124,10 +125,10 @@ impl DirBits {
         ensures value { IfOk result (λ b. b ≡ bits) }
         ensures error { IfErr result (λ e. e ≡ Code.BitmapErr) }
     {
-        if bits & DirBits::MASK == bits {
-            Ok(DirBits(bits))
-        } else {
+        if is_outside(DirBits::MASK, bits) {
             Err(Code::BitmapErr)
+        } else {
+            Ok(DirBits(bits))
         }
     }
 

@@ -1,10 +1,11 @@
 //! Long names, for clients that name nodes in at most 31 bytes.
-ghost use Rattle.std.specs.Prelude.{◌≡◌, ◌≤◌, ◌-◌, ◌&&◌, nat_lt, drop, [], if◌then◌else◌, ◌++◌, map, chars, true, not, length, string_bytes, OnOk, IfOk, IfSome, IfNone, is_some, slice_index, ◌<◌, ◌+◌, ◌==◌};
+ghost use Rattle.std.specs.Prelude.{◌≡◌, ◌≤◌, ◌-◌, ◌&&◌, nat_lt, drop, [], if◌then◌else◌, ◌++◌, map, chars, true, not, length, string_bytes, OnOk, OnErr, IfOk, IfSome, IfNone, is_some, slice_index, ◌<◌, ◌+◌, ◌==◌};
 ghost use Rattle.std.specs.List.{list_all, suffix_len};
 ghost use Rattle.std.specs.Char.{is_ascii_alphanumeric};
 ghost use Rattle.std.specs.Fmt.{digits};
 ghost use Rattle.std.specs.Str.{IsAscii};
 ghost use Rattle.unicode_normalization.specs.Forms.{nfc};
+ghost use Rattle.afp_base.specs.Appended.{Keeps};
 ghost use Rattle.afp_names.specs.MacRoman.{mac_roman_byte};
 ghost use Rattle.afp_names.specs.LongName.{longest_long_name, full_stop, shown_byte, is_long_name, is_extension, extension_of, ending_of, shortened, long_name_of};
 
@@ -102,16 +103,19 @@ fn has_all(text: &[char]) -> bool
     text.iter().all(|c| byte_of(*c).is_some())
 }
 
-/// Appends a text in the character set of [`crate::mac_roman`], with `?` for each character that it lacks.
+/// Appends a text in the character set of [`crate::mac_roman`], with `?` for each character that it lacks. After an
+/// error what stood in `bytes` stands there still, in front.
 pub fn put_shown(alloc: Global, bytes: &mut Bytes, text: &str) -> Result<(), OutOfMemory>
-    ensures { OnOk result (bytes.new ≡ bytes.old ++ map shown_byte (chars text.now)) }
+    ensures ok { OnOk result (bytes.new ≡ bytes.old ++ map shown_byte (chars text.now)) }
+    ensures err { OnErr result (Keeps bytes.old bytes.new) }
 {
     put(bytes, &characters(alloc, text)?)
 }
 
 /// Appends the text's bytes.
 fn put(long: &mut Bytes, text: &[char]) -> Result<(), OutOfMemory>
-    ensures { OnOk result (long.new ≡ long.old ++ map shown_byte text.now) }
+    ensures ok { OnOk result (long.new ≡ long.old ++ map shown_byte text.now) }
+    ensures err { OnErr result (Keeps long.old long.new) }
 {
     for character in text {
         long.extend(&[shown_byte(*character)])?;

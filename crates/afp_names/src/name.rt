@@ -103,8 +103,7 @@ impl Name {
         let decomposed = to_nfd(alloc, self.text.as_str())?;
         let folded = default_case_fold_str(alloc, decomposed.as_str())?;
         let key = to_nfd(alloc, folded.as_str())?;
-        let mut bytes = Bytes::new(alloc);
-        bytes.extend(key.as_bytes())?;
+        let bytes = Bytes::of(alloc, key.as_bytes())?;
         Ok(bytes)
     }
 

@@ -11,11 +11,11 @@ abbrev pub none_passed : Passed
 none_passed = record { entered = []; exited = [] }
 
 -- A call of a link entered, or none did.
-abbrev pub in_by : Passed → Option LinkNumber → Passed
-in_by p None = p
-in_by p (Some link) = record { entered = p.entered ++ link ∷ []; exited = p.exited }
+abbrev pub with_entered : Passed → Option LinkNumber → Passed
+with_entered p None = p
+with_entered p (Some link) = record { entered = p.entered ++ link ∷ []; exited = p.exited }
 
 -- A call of a link left, or none did.
-abbrev pub out_by : Passed → Option LinkNumber → Passed
-out_by p None = p
-out_by p (Some link) = record { entered = p.entered; exited = p.exited ++ link ∷ [] }
+abbrev pub with_exited : Passed → Option LinkNumber → Passed
+with_exited p None = p
+with_exited p (Some link) = record { entered = p.entered; exited = p.exited ++ link ∷ [] }

@@ -1,6 +1,6 @@
 //! Gates that calls go through.
 ghost use Rattle.std.specs.Prelude.{◌≡◌, Some};
-ghost use Rattle.afp_outside.specs.Gate.{none_passed, in_by, out_by};
+ghost use Rattle.afp_outside.specs.Gate.{none_passed, with_entered, with_exited};
 
 use afp_base::LinkNumber;
 use ghost_log::Log;
@@ -12,7 +12,7 @@ use std::marker::Model;
 /// contracts which calls entered and left.
 pub trait Gate {
     ghost use Rattle.std.specs.Prelude.{◌≡◌, Some};
-    ghost use Rattle.afp_outside.specs.Gate.{Passed, none_passed, in_by, out_by};
+    ghost use Rattle.afp_outside.specs.Gate.{Passed, none_passed, with_entered, with_exited};
 
     /// What went through.
     type Log: Drop;
@@ -25,11 +25,11 @@ pub trait Gate {
 
     /// Before the call of a link.
     fn before(&self, link: LinkNumber, log: &mut Self::Log)
-        ensures { passed log.new ≡ in_by (passed log.old) (Some link) };
+        ensures { passed log.new ≡ with_entered (passed log.old) (Some link) };
 
     /// After the call of a link, once its reply was written.
     fn after(&self, link: LinkNumber, log: &mut Self::Log)
-        ensures { passed log.new ≡ out_by (passed log.old) (Some link) };
+        ensures { passed log.new ≡ with_exited (passed log.old) (Some link) };
 }
 
 /// A log that any gate may use. Only proofs read it, and it takes no memory.
@@ -62,14 +62,14 @@ impl GateLog {
 
     /// Notes that a call of a link entered.
     pub fn enter(&mut self, link: LinkNumber)
-        ensures { self.new ≡ in_by self.old (Some link) }
+        ensures { self.new ≡ with_entered self.old (Some link) }
     {
         self.entered = self.entered.and(&link);
     }
 
     /// Notes that a call of a link left.
     pub fn exit(&mut self, link: LinkNumber)
-        ensures { self.new ≡ out_by self.old (Some link) }
+        ensures { self.new ≡ with_exited self.old (Some link) }
     {
         self.exited = self.exited.and(&link);
     }

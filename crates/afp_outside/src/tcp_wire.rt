@@ -1,5 +1,5 @@
 //! A link over TCP.
-ghost use Rattle.std.specs.Prelude.{◌≡◌, ◌≤◌, ◌<◌, length, max, IfOk, IfSome};
+ghost use Rattle.std.specs.Prelude.{◌≡◌, ◌≤◌, ◌<◌, length, IfOk, IfSome};
 ghost use Rattle.afp_outside.specs.Link.{IsFresh, Reads};
 
 use crate::link::{Link, ReadResult, Wrote};
@@ -152,17 +152,6 @@ fn write_some(stream: &mut TcpStream, piece: &[u8]) -> Option<usize>
     None
 }
 
-/// The later one of two moments.
-fn later(one: Moment, other: Moment) -> Moment
-    ensures { result ≡ max one other }
-{
-    if one.seconds() < other.seconds() {
-        other
-    } else {
-        one
-    }
-}
-
 impl<C: Clock> Link for TcpWire<C> {
     ghost link_state = { λ link. link };
 
@@ -173,7 +162,7 @@ impl<C: Clock> Link for TcpWire<C> {
     {
         let outcome = self.stream.read(room);
         match self.clock.moment() {
-            Some(moment) => self.moment = later(self.moment, moment),
+            Some(moment) => self.moment = self.moment.later(moment),
             None => self.read_faults = self.read_faults.saturating_add(1),
         }
         match outcome {

@@ -25,7 +25,7 @@ use Rattle.afp_replies.specs.Layouts.{optional, optional_text, volumes, volume, 
 use Rattle.afp_replies.specs.Commands.{layout_of, denied, ended, reply_layout}
 use Rattle.afp_replies.specs.Replies.{canonical_reply, volume_bytes, message_bytes}
 use Rattle.afp_replies.specs.Fitting.{FitsReply, FitsValues, FitsOptional, FitsText, FitsVolume}
-use Rattle.afp_replies.proofs.NumberLemmas.{date_back, date_fits}
+use Rattle.afp_base.proofs.Numbers.{date_back, date_fits}
 use Rattle.afp_replies.proofs.Entries.{dir_is}
 
 -- a reply that has this layout fits, and its bytes have the layout

@@ -16,7 +16,8 @@ use Rattle.afp_replies.specs.Entry.{is_dir, bits_for, kind_for, node_params, pad
 use Rattle.afp_replies.specs.Words.{Entry}
 use Rattle.afp_replies.specs.lemma.Reading.{Rest, Took, TakesWord, FrontIs, TakesParams, entry_result}
 use Rattle.afp_replies.proofs.Spellings.{same_piece, same_rest, piece_size, piece_split}
-use Rattle.afp_replies.proofs.NumberLemmas.{number_again, length-big_bytes, bytes_again, big_number-lt, IsBytes, IsBytes-take}
+use Rattle.afp_base.specs.Bytes.{IsBytes}
+use Rattle.afp_base.proofs.Numbers.{number_again, length-big_bytes, bytes_again, big_number-lt, IsBytes-take}
 
 -- a length, a flag, pads and parameters, one after the other
 abbrev pub row : ℕ → ℕ → ℕ → List ℕ → List ℕ → List ℕ

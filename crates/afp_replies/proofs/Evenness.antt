@@ -14,7 +14,7 @@ use Rattle.afp_replies.specs.declared.list.ListEntry.{ListEntry}
 use Rattle.afp_replies.specs.Bytes.{flag_of, width}
 use Rattle.afp_replies.specs.Entry.{is_dir, bits_for, kind_for, node_params, pad_count, head_size, entry_bytes, FitsEntry}
 use Rattle.afp_replies.proofs.Entries.{row_size}
-use Rattle.afp_replies.proofs.NumberLemmas.{length-big_bytes}
+use Rattle.afp_base.proofs.Numbers.{length-big_bytes}
 
 abbrev EvenField : Field → Type 0
 EvenField (Number n x) = n % 2 ≡ 0

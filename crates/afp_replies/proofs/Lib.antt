@@ -1,5 +1,4 @@
 pub mod Finding
-pub mod NumberLemmas
 pub mod Spellings
 pub mod Steps
 pub mod Entries

@@ -29,7 +29,7 @@ use Rattle.afp_replies.specs.Fitting.{FitsReply, FitsOptional, FitsText, FitsVol
 use Rattle.afp_replies.specs.Replies.{IsShown, Shows, canonical_reply, layout_for, volume_bytes, message_bytes}
 use Rattle.afp_replies.specs.Requested.{FitsRequest, IsAsked, IsDenied, IsEnded, IsTold, list_shape}
 use Rattle.afp_replies.specs.lemma.Writing.{CanWrite, FitsMessage}
-use Rattle.afp_replies.proofs.NumberLemmas.{date_again, date_lt}
+use Rattle.afp_base.proofs.Numbers.{date_again, date_lt}
 use Rattle.afp_replies.proofs.Again.{put_front, has_params, node_layout, node_within, with_more, volumes_zero, volumes_suc, entries_zero, entries_suc, entry_spelt, good_reply}
 
 -- a request with this command, which asked these bits

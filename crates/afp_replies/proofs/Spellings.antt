@@ -1,15 +1,17 @@
 -- Each field has one value, and where it stands is told by its bytes.
-use Rattle.std.proofs.Common.{◌≡◌, ℕ, ◌+◌, ◌^◌, ◌<◌, List, [], ◌++◌, length, take, drop, refl, sym, ap, ◌∙◌, subst, arith, append_assoc, length-append, Result, Ok, Err}
+use Rattle.std.proofs.Common.{◌≡◌, false, ◌==◌, ℕ, ◌+◌, ◌^◌, ◌<◌, List, [], ◌++◌, length, take, drop, refl, sym, ap, ◌∙◌, subst, arith, append_assoc, length-append, Result, Ok, Err}
+use Rattle.std.proofs.lemmas.Bool.{eqb-true, not-false}
 use Rattle.std.proofs.lemmas.List.{take-append-drop, take_at, drop_at, length-take-le, append-nil}
+use Rattle.std.specs.Prelude.{bit_and}
 use Rattle.byteorder.specs.Endian.{big_number, big_bytes}
-use Rattle.afp_bitmap.specs.Bits.{IsWithin}
+use Rattle.afp_bitmap.specs.Bits.{IsWithin, is_outside}
 use Rattle.afp_replies.specs.declared.reply.ReplyFault.{ReplyFault}
 use Rattle.afp_replies.specs.declared.reply.ReplyFault.TheVariants.{Bad, Memory}
 use Rattle.afp_replies.specs.Bytes.{with_count}
 use Rattle.afp_replies.specs.Words.{Number, Exactly, Asked, Raw, Counted}
 use Rattle.afp_replies.specs.Layout.{Lacks}
 use Rattle.afp_replies.specs.lemma.Reading.{Rest, Took, TakesWord, Front, FrontIs}
-use Rattle.afp_replies.proofs.NumberLemmas.{bytes_again, number_again, length-big_bytes, big_number-lt}
+use Rattle.afp_base.proofs.Numbers.{bytes_again, number_again, length-big_bytes, big_number-lt}
 
 -- the front and the rest of a list that is split
 pub front_is : (xs a b : List ℕ) (n : ℕ) → xs ≡ a ++ b → length a ≡ n → take n xs ≡ a
@@ -58,6 +60,10 @@ pub number_lacks : (n : ℕ) (bytes : List ℕ) → length bytes < n → Lacks (
 number_lacks n bytes lt x first rest s e = too_short n bytes first rest lt (ap (length {A = ℕ}) s.1 ∙ length-big_bytes n x) e
 
 -- the bits that were asked, as the number that they must be
+-- bits that are not outside the mask are within it
+pub not_outside : (mask bits : ℕ) → is_outside mask bits ≡ false → IsWithin mask bits
+not_outside mask bits not_ = eqb-true (bit_and bits mask) bits (not-false (bit_and bits mask == bits) not_)
+
 pub asked_takes : (mask bits : ℕ) (old new : Rest) (res : Result (Unit {0}) ReplyFault) → IsWithin mask bits → TakesWord (Exactly 2 bits) old res new → TakesWord (Asked mask bits) old res new
 asked_takes mask bits old new (Ok x) w t = record {
   first = t.first;

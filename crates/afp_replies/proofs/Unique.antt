@@ -12,7 +12,8 @@ use Rattle.afp_replies.specs.Bytes.{width, flag_of}
 use Rattle.afp_replies.specs.Entry.{is_dir, bits_for, kind_for, head_size, IsEntry}
 use Rattle.afp_replies.specs.Words.{ReplyWord, Number, Exactly, Asked, Raw, Pad, Counted, Flag, Entry, Value, Spells}
 use Rattle.afp_replies.specs.Layout.{Layout, Is, Never, Then, Remaining, Params, Has}
-use Rattle.afp_replies.proofs.NumberLemmas.{IsBytes, IsBytes-take, IsBytes-drop, length-big_bytes}
+use Rattle.afp_base.specs.Bytes.{IsBytes}
+use Rattle.afp_base.proofs.Numbers.{IsBytes-take, IsBytes-drop, length-big_bytes}
 use Rattle.afp_replies.proofs.Spellings.{number_alone}
 use Rattle.afp_replies.proofs.Entries.{flag_tells, stands}
 

@@ -5,14 +5,14 @@ ghost use Rattle.afp_replies.specs.declared.reply.ReplyFault.TheVariants.{Bad};
 ghost use Rattle.afp_replies.specs.Bytes.{width};
 ghost use Rattle.afp_replies.specs.Entry.{stated};
 ghost use Rattle.afp_replies.specs.Layouts.{optional, optional_text};
-ghost use Rattle.afp_replies.specs.lemma.Reading.{Rest, TakesWord, ReadsPart, Front, Ends, IsBytes, TakesParams, TakesText, TakesEntryBytes, entry_result};
+ghost use Rattle.afp_replies.specs.lemma.Reading.{Rest, TakesWord, ReadsPart, Front, Ends, TakesParams, TakesText, TakesEntryBytes, entry_result};
 ghost use Rattle.afp_replies.specs.Words.{Number, Exactly, Asked, Raw, Pad, Counted, Flag, Entry};
 
 use crate::fields::{DIR, DIRECTORY_FLAG, FILE, head_size, width};
 use crate::list::ListEntry;
 use crate::reply::ReplyFault;
 use afp_base::{Bytes, OutOfMemory, Scan};
-use afp_bitmap::{ParamFault, Values, read_params};
+use afp_bitmap::{ParamFault, Values, is_outside, read_params};
 use byteorder::{BigEndian, ByteOrder};
 use std::alloc::Global;
 use std::marker::Model;
@@ -27,7 +27,8 @@ pub(crate) struct Cursor<'a> {
 
 impl<'a> Model for Cursor<'a> {
     ghost use Rattle.std.specs.Prelude.{◌≤◌, ◌<◌, ◌^◌, drop, length};
-    ghost use Rattle.afp_replies.specs.lemma.Reading.{Rest, IsBytes};
+    ghost use Rattle.afp_base.specs.Bytes.{IsBytes};
+    ghost use Rattle.afp_replies.specs.lemma.Reading.{Rest};
 
     ghost Value = { Rest };
 
@@ -37,7 +38,8 @@ impl<'a> Model for Cursor<'a> {
 }
 
 impl<'a> Cursor<'a> {
-    ghost use Rattle.afp_replies.specs.lemma.Reading.{Rest, TakesWord, Front, Ends, IsBytes};
+    ghost use Rattle.afp_base.specs.Bytes.{IsBytes};
+    ghost use Rattle.afp_replies.specs.lemma.Reading.{Rest, TakesWord, Front, Ends};
 
     /// A cursor at the first byte.
     pub(crate) fn new(bytes: &'a [u8]) -> Cursor<'a>
@@ -122,10 +124,10 @@ impl<'a> Cursor<'a> {
     pub(crate) fn asked(&mut self, mask: u16, bits: u16) -> Result<(), ReplyFault>
         ensures { TakesWord (Asked mask bits) self.old result self.new }
     {
-        if bits & mask == bits {
-            self.exactly(bits)
-        } else {
+        if is_outside(mask, bits) {
             Err(self.bad())
+        } else {
+            self.exactly(bits)
         }
     }
 

@@ -43,7 +43,7 @@ pub fn put_length(wide: bool, at: usize, size: usize, out: &mut Bytes)
 }
 
 /// The pad behind the flag of an entry, in a wide list.
-pub fn put_pad(wide: bool, out: &mut Bytes) -> Result<(), OutOfMemory>
+pub fn put_entry_pad(wide: bool, out: &mut Bytes) -> Result<(), OutOfMemory>
     ensures ok { OnOk result (out.new ≡ out.old ++ replicate (pad_count wide) 0) }
     ensures err { OnErr result (out.new ≡ out.old) }
 {

@@ -7,7 +7,7 @@ use Rattle.std.proofs.lemmas.List.{length-append, length-replicate}
 use Rattle.std.proofs.lemmas.List.Folds.{concat-append}
 use Rattle.afp_bitmap.proofs.Asked.{asked_no, asked_yes}
 use Rattle.afp_bitmap.proofs.Blocks.{fits_rows}
-use Rattle.afp_bitmap.proofs.Numbers.{length-big_bytes}
+use Rattle.afp_base.proofs.Numbers.{length-big_bytes}
 use Rattle.byteorder.specs.Endian.{big_bytes}
 use Rattle.std.specs.Int.{w32, cast_unsigned}
 use Rattle.afp_bitmap.specs.Bits.{is_asked}

@@ -40,14 +40,14 @@ pub fn is_name(longest: usize, text: &[u8]) -> bool
 }
 
 /// Whether one of the users has the name.
-pub fn has_user(users: &[User], name: &[u8]) -> bool
+pub fn has_user_named(users: &[User], name: &[u8]) -> bool
     ensures { result ≡ list_any (λ other. bytes_eq other.name name.now) users.now }
 {
     users.iter().any(|other| other.name.as_slice() == name)
 }
 
 /// Whether one of the volumes has the name.
-pub fn has_volume(volumes: &[Bytes], name: &[u8]) -> bool
+pub fn has_volume_named(volumes: &[Bytes], name: &[u8]) -> bool
     ensures { result ≡ list_any (λ other. bytes_eq other name.now) volumes.now }
 {
     volumes.iter().any(|other| other.as_slice() == name)
@@ -60,7 +60,7 @@ fn is_bad_user(before: &[User], user: &User) -> bool
 {
     let name = user.name.as_slice();
     !is_name(LONGEST_USER, name)
-        || has_user(before, name)
+        || has_user_named(before, name)
         || user.id as usize != FIRST_USER_ID + before.len()
 }
 
@@ -69,7 +69,7 @@ fn is_bad_volume(before: &[Bytes], volume: &Bytes) -> bool
     ensures { result ≡ is_bad_volume before.now volume.now }
 {
     let name = volume.as_slice();
-    !is_name(LONGEST_VOLUME, name) || has_volume(before, name)
+    !is_name(LONGEST_VOLUME, name) || has_volume_named(before, name)
 }
 
 /// The index of the first bad user.

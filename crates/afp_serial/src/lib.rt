@@ -18,7 +18,7 @@ mod user;
 
 pub use ask::{Ask, Entry, Outcome, Told};
 pub use attachment::Attachment;
-pub use checks::{has_user, has_volume, is_name};
+pub use checks::{has_user_named, has_volume_named, is_name};
 pub use house::House;
 pub use house_fault::HouseFault;
 pub use ranges::{entry_in_range, moment_in_range};

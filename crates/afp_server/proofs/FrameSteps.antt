@@ -3,7 +3,7 @@ use Rattle.std.proofs.Common.{◌≡◌, ℕ, ◌+◌, ◌<◌, List, ◌++◌, 
 use Rattle.std.specs.Prelude.{Option, Some, None}
 use Rattle.std.specs.Option.{option_to_list}
 use Rattle.afp_base.specs.declared.ids.LinkNumber.{LinkNumber}
-use Rattle.afp_outside.specs.Gate.{Passed, in_by, out_by}
+use Rattle.afp_outside.specs.Gate.{Passed, with_entered, with_exited}
 use Rattle.afp_outside.specs.Link.{LinkState}
 use Rattle.afp_serial.specs.Shown.{Shown}
 use Rattle.dsi_frame.specs.Buffered.{Buffered}
@@ -62,7 +62,7 @@ next-calls start cost held link old new before after f did passed called n is = 
 
 -- the link goes on
 pub frame-goes_on : (start : Start) (cost : ℕ) (held then_held : Buffered) (link then_link : LinkState) (old new : SessionState) (before after : Shown) (f : Frame) (did : Did) (reply : List ℕ) (passed mid then_passed : Passed) (called : Option LinkNumber)
-    → (n : Next start cost held link old before f did new after passed) → called ≡ call_link f.reply old.stage f.command → mid ≡ in_by passed called → then_passed ≡ out_by mid called → reply ≡ new.reply → Sends link reply 0 then_link → did.end ≡ None
+    → (n : Next start cost held link old before f did new after passed) → called ≡ call_link f.reply old.stage f.command → mid ≡ with_entered passed called → then_passed ≡ with_exited mid called → reply ≡ new.reply → Sends link reply 0 then_link → did.end ≡ None
     → ((g : Frame) (first more : List ℕ) → IsSpelling first g → held.rest ≡ first ++ more → then_held ≡ record { place = held.place + length first; rest = more })
     → SoFar start (point then_held new.stage then_link after then_passed) cost
 frame-goes_on start cost held then_held link then_link old new before after f did reply passed mid then_passed called n call enters exits is sent goes_on advanced =
@@ -80,7 +80,7 @@ frame-less held then_held f b advanced =
 
 -- the frame ends it
 pub frame-ends : (start : Start) (cost : ℕ) (held : Buffered) (link then_link : LinkState) (old new : SessionState) (before after : Shown) (f : Frame) (did : Did) (reply : List ℕ) (end : FrameEnd) (place : ℕ) (answer : LinkEnd) (passed mid then_passed : Passed) (called : Option LinkNumber)
-    → (n : Next start cost held link old before f did new after passed) → called ≡ call_link f.reply old.stage f.command → mid ≡ in_by passed called → then_passed ≡ out_by mid called → reply ≡ new.reply → Sends link reply 0 then_link → did.end ≡ Some end → place ≡ held.place → answer ≡ end_of_frame end place
+    → (n : Next start cost held link old before f did new after passed) → called ≡ call_link f.reply old.stage f.command → mid ≡ with_entered passed called → then_passed ≡ with_exited mid called → reply ≡ new.reply → Sends link reply 0 then_link → did.end ≡ Some end → place ≡ held.place → answer ≡ end_of_frame end place
     → Ended start answer new.stage then_link after then_passed
 frame-ends start cost held link then_link old new before after f did reply end place answer passed mid then_passed called n call enters exits is sent ends at as_frame =
     subst (λ (a : LinkEnd). Ended start a new.stage then_link after then_passed) (sym (as_frame ∙ ap (λ (k : ℕ). end_of_frame end k) at))
@@ -91,7 +91,7 @@ frame-ends start cost held link then_link old new before after f did reply end p
 
 -- its reply could not be written
 pub frame-unwritten : (start : Start) (cost : ℕ) (held : Buffered) (link then_link : LinkState) (old new : SessionState) (before after : Shown) (f : Frame) (did : Did) (reply : List ℕ) (passed mid : Passed) (called : Option LinkNumber)
-    → (n : Next start cost held link old before f did new after passed) → called ≡ call_link f.reply old.stage f.command → mid ≡ in_by passed called → reply ≡ new.reply → SendsPart link reply then_link → Ended start links.WriteFault new.stage then_link after mid
+    → (n : Next start cost held link old before f did new after passed) → called ≡ call_link f.reply old.stage f.command → mid ≡ with_entered passed called → reply ≡ new.reply → SendsPart link reply then_link → Ended start links.WriteFault new.stage then_link after mid
 frame-unwritten start cost held link then_link old new before after f did reply passed mid called n call enters is sent =
     let part : SendsPart link (spelling_of (listed did.reply)) then_link = subst (λ (b : List ℕ). SendsPart link b then_link) (is ∙ ap (λ (s : SessionState). s.reply) n.acts.state) sent in
     let some = some_lost-replied did.reply part.part part.lost part.some_lost part.cut in

@@ -3,7 +3,7 @@ use Rattle.std.proofs.Common.{◌≡◌, ℕ, ◌≤◌, Bool, true, false, List
 use Rattle.std.specs.Prelude.{Option, Some, None}
 use Rattle.std.specs.Option.{option_to_list}
 use Rattle.afp_base.specs.declared.ids.LinkNumber.{LinkNumber}
-use Rattle.afp_outside.specs.Gate.{Passed, in_by, out_by}
+use Rattle.afp_outside.specs.Gate.{Passed, with_entered, with_exited}
 use Rattle.afp_serial.specs.Went.{Step}
 use Rattle.dsi_frame.specs.Frame.{Frame, header_of}
 use Rattle.dsi_frame.specs.declared.frame.Header.{Header}
@@ -89,20 +89,20 @@ parts-calls Closing now steps p = ap calls_in p
 
 -- in, and out again
 
-both : (p : Passed) (called : Option LinkNumber) → out_by (in_by p called) called ≡ record { entered = p.entered ++ option_to_list called; exited = p.exited ++ option_to_list called }
+both : (p : Passed) (called : Option LinkNumber) → with_exited (with_entered p called) called ≡ record { entered = p.entered ++ option_to_list called; exited = p.exited ++ option_to_list called }
 both p None = λ i. record { entered = sym (append-nil p.entered) i; exited = sym (append-nil p.exited) i }
 both p (Some link) = refl
 
 -- A frame was handled: the call that it is entered the gate, and left it.
 pub record PassesFrame (old mid new : Passed) (called : Option LinkNumber) (did : Did) : Type 0 where
-  pub enters : mid ≡ in_by old called
-  pub exits : new ≡ out_by mid called
+  pub enters : mid ≡ with_entered old called
+  pub exits : new ≡ with_exited mid called
   pub calls : calls_in did.steps ≡ option_to_list called
 
 pub passed-frame : (old mid new : Passed) (called : Option LinkNumber) (did : Did) (steps : List Step) → old ≡ all_passed steps → PassesFrame old mid new called did → new ≡ all_passed (steps ++ did.steps)
 passed-frame old mid new called did steps all p =
     let lists : calls_in steps ++ option_to_list called ≡ calls_in (steps ++ did.steps) = ap (λ (l : List LinkNumber). calls_in steps ++ l) (sym p.calls) ∙ sym (calls_in-append steps did.steps) in
-    p.exits ∙ ap (λ (m : Passed). out_by m called) p.enters ∙ ap (λ (m : Passed). out_by (in_by m called) called) all ∙ both (all_passed steps) called
+    p.exits ∙ ap (λ (m : Passed). with_exited m called) p.enters ∙ ap (λ (m : Passed). with_exited (with_entered m called) called) all ∙ both (all_passed steps) called
     ∙ (λ i. record { entered = lists i; exited = lists i })
 
 -- steps without a call
@@ -124,16 +124,16 @@ one_call : (called : Option LinkNumber) → length (option_to_list called) ≤ 1
 one_call None = omega arith
 one_call (Some link) = omega arith
 
-in_lists : (p : Passed) (called : Option LinkNumber) → in_by p called ≡ record { entered = p.entered ++ option_to_list called; exited = p.exited }
+in_lists : (p : Passed) (called : Option LinkNumber) → with_entered p called ≡ record { entered = p.entered ++ option_to_list called; exited = p.exited }
 in_lists p None = λ i. record { entered = sym (append-nil p.entered) i; exited = p.exited }
 in_lists p (Some link) = refl
 
 -- the reply could not be written
-pub through-unwritten : (old mid : Passed) (called : Option LinkNumber) (did : Did) (steps : List Step) → old ≡ all_passed steps → mid ≡ in_by old called → calls_in did.steps ≡ option_to_list called
+pub through-unwritten : (old mid : Passed) (called : Option LinkNumber) (did : Did) (steps : List Step) → old ≡ all_passed steps → mid ≡ with_entered old called → calls_in did.steps ≡ option_to_list called
     → GoThrough ends.WriteFault (steps ++ did.steps) mid
 through-unwritten old mid called did steps all enters calls =
     let lists : calls_in steps ++ option_to_list called ≡ calls_in (steps ++ did.steps) = ap (λ (l : List LinkNumber). calls_in steps ++ l) (sym calls) ∙ sym (calls_in-append steps did.steps) in
-    let now : mid ≡ record { entered = calls_in steps ++ option_to_list called; exited = calls_in steps } = enters ∙ ap (λ (m : Passed). in_by m called) all ∙ in_lists (all_passed steps) called in
+    let now : mid ≡ record { entered = calls_in steps ++ option_to_list called; exited = calls_in steps } = enters ∙ ap (λ (m : Passed). with_entered m called) all ∙ in_lists (all_passed steps) called in
     record {
       entered = ap (λ (p : Passed). p.entered) now ∙ lists;
       inside = option_to_list called;
@@ -154,8 +154,8 @@ not_called false Fresh kind fresh = refl
 not_called false Closing kind fresh = refl
 not_called false (Open link) kind fresh = absurd (fresh link refl)
 
-pub unpassed : (p : Passed) (called : Option LinkNumber) → called ≡ None → p ≡ in_by p called
-unpassed p called none = ap (λ (o : Option LinkNumber). in_by p o) (sym none)
+pub unpassed : (p : Passed) (called : Option LinkNumber) → called ≡ None → p ≡ with_entered p called
+unpassed p called none = ap (λ (o : Option LinkNumber). with_entered p o) (sym none)
 
 -- the same call, told by the frame and by its header
 pub called-is : (header : Header) (f : Frame) (stage : Stage) → header ≡ header_of f → call_link header.reply stage header.command ≡ call_link f.reply stage f.command

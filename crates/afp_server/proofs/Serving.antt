@@ -3,7 +3,7 @@ use Rattle.std.proofs.Common.{◌≡◌, ℕ, ◌+◌, ◌<◌, false, true, Lis
 use Rattle.std.specs.Prelude.{Option, Some, None, option_map}
 use Rattle.std.specs.Option.{option_to_list}
 use Rattle.afp_base.specs.declared.ids.LinkNumber.{LinkNumber}
-use Rattle.afp_outside.specs.Gate.{Passed, none_passed, in_by}
+use Rattle.afp_outside.specs.Gate.{Passed, none_passed, with_entered}
 use Rattle.afp_outside.specs.Link.{Event, taken, LinkState}
 use Rattle.afp_serial.specs.Shown.{Shown}
 use Rattle.afp_serial.specs.Went.{Step, Went}
@@ -188,7 +188,7 @@ ends-frame start p cost f did first more shown link (ends.Bad reason) mid passed
 
 -- its reply could not be written whole
 pub ends-unwritten : (start : Start) (p : Point) (cost : ℕ) (f : Frame) (did : Did) (first more : List ℕ) (shown : Shown) (link : LinkState) (reply : Frame) (mid : Passed) (called : Option LinkNumber)
-    → (h : HandlesNext start p cost f did first more shown) → mid ≡ in_by p.passed called → calls_in did.steps ≡ option_to_list called → did.reply ≡ Some reply → SendsPart p.link (spelling_of (listed did.reply)) link
+    → (h : HandlesNext start p cost f did first more shown) → mid ≡ with_entered p.passed called → calls_in did.steps ≡ option_to_list called → did.reply ≡ Some reply → SendsPart p.link (spelling_of (listed did.reply)) link
     → Ended start links.WriteFault did.stage link shown mid
 ends-unwritten start p cost f did first more shown link reply mid called h enters calls is s = record {
   asked = steps_in (longer h.so_far.trace f did);

@@ -1,6 +1,6 @@
 //! Serving the whole frames that are buffered.
 ghost use Rattle.std.specs.Prelude.{◌≡◌, ◌≢◌, ◌<◌, ℕ, length, IfNone};
-ghost use Rattle.afp_outside.specs.Gate.{out_by};
+ghost use Rattle.afp_outside.specs.Gate.{with_exited};
 ghost use Rattle.dsi_frame.specs.Frame.{Frame, header_of};
 ghost use Rattle.dsi_frame.specs.Stream.{Begins};
 ghost use Rattle.afp_server.specs.lemma.Serving.{Start, SoFar, ServesFrame, ServesFrames, point, end_of_frame};
@@ -85,7 +85,7 @@ fn serve_frame<L: Link, T: Teller, G: Gate>(
 
 /// The call of a link leaves the gate, where one entered.
 fn exit_gate<G: Gate>(gate: &G, called: Option<LinkNumber>, log: &mut G::Log)
-    ensures { G.passed log.new ≡ out_by (G.passed log.old) called }
+    ensures { G.passed log.new ≡ with_exited (G.passed log.old) called }
 {
     match called {
         Some(number) => gate.after(number, log),

@@ -1,7 +1,7 @@
 //! The session machine of a link: it takes frames, asks a teller, and holds the reply. It knows no bytes on a
 //! link.
 ghost use Rattle.std.specs.Prelude.{◌≡◌, ◌≢◌, ◌<◌, ◌≤◌, [], ◌∷◌, length, Option, Some, IsTrue, IfOk, IfNone, MatchBool, false};
-ghost use Rattle.afp_outside.specs.Gate.{in_by};
+ghost use Rattle.afp_outside.specs.Gate.{with_entered};
 ghost use Rattle.afp_base.specs.Limits.{payload_limit};
 ghost use Rattle.afp_serial.specs.StatusBlock.{status_block};
 ghost use Rattle.afp_serial.specs.Went.{Went, step};
@@ -397,7 +397,7 @@ impl LinkSession {
         ensures fixed { T.fixed teller.new ≡ T.fixed teller.old }
         ensures calls { (did : Did) × AsksCall now link (frame_of request.now []) ask did
             × Acts self.old (T.shown teller.old) did self.new (T.shown teller.new) × (result ≡ did.end) }
-        ensures passes { G.passed log.new ≡ in_by (G.passed log.old) (Some link) }
+        ensures passes { G.passed log.new ≡ with_entered (G.passed log.old) (Some link) }
         ensures live { IfNone result (self.new.stage ≢ Stage.Closing) }
     {
         gate.before(link, log);

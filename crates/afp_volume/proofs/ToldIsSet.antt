@@ -8,7 +8,7 @@ use Rattle.std.proofs.lemmas.Bool.{and_parts, and_from, cond_both, cond-true, eq
 use Rattle.std.proofs.lemmas.List.{append-nil, append_assoc, length-append}
 use Rattle.std.proofs.lemmas.Nat.Bits.{bit_at_and}
 use Rattle.byteorder.specs.Endian.{big_bytes, big_number}
-use Rattle.afp_bitmap.proofs.Numbers.{number_again, length-big_bytes, date_lt, date_again}
+use Rattle.afp_base.proofs.Numbers.{number_again, length-big_bytes, date_lt, date_again}
 use Rattle.afp_bitmap.specs.Bits.{is_asked, is_outside}
 use Rattle.afp_bitmap.specs.Field.{Field, Number, Date, Finder, LongName, Utf8Name, fixed_bytes, name_parts}
 use Rattle.afp_bitmap.specs.Params.{asked_of, name_size, fixed_parts, size_of_fixed_part, parts, params, IsAnswer}

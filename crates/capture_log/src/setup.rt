@@ -11,7 +11,7 @@ use afp_base::{Bytes, OutOfMemory};
 use afp_serial::limits::{
     FIRST_USER_ID, LONGEST_SERVER, LONGEST_USER, LONGEST_VOLUME, MOST_USERS, MOST_VOLUMES,
 };
-use afp_serial::{House, HouseFault, User, has_user, has_volume, is_name};
+use afp_serial::{House, HouseFault, User, has_user_named, has_volume_named, is_name};
 use capture_lines::Line;
 use std::alloc::Global;
 use std::marker::Model;
@@ -87,7 +87,7 @@ impl Setup {
     fn is_bad_user(&self, name: &[u8], password: [u8; 8]) -> bool
         ensures { result ≡ is_bad_user self.now.users (user_behind self.now.users name.now password) }
     {
-        !is_name(LONGEST_USER, name) || has_user(self.users.as_slice(), name)
+        !is_name(LONGEST_USER, name) || has_user_named(self.users.as_slice(), name)
     }
 
     /// Whether a user of this name is refused.
@@ -108,7 +108,7 @@ impl Setup {
     fn is_bad_volume(&self, name: &[u8]) -> bool
         ensures { result ≡ is_bad_volume self.now.volumes name.now }
     {
-        !is_name(LONGEST_VOLUME, name) || has_volume(self.volumes.as_slice(), name)
+        !is_name(LONGEST_VOLUME, name) || has_volume_named(self.volumes.as_slice(), name)
     }
 
     /// Whether a volume of this name is refused.

@@ -21,7 +21,7 @@ use Rattle.core_state.specs.SessionList.{IsAt, session_of}
 use Rattle.core_asks.specs.lemma.Spelling.{IsSpelled}
 use Rattle.core_state.specs.Running.{IsOutcomeOf, IsReady, done, RunsRow, RunsVerdict}
 use Rattle.core_asks.specs.Asks.{RunsAsk, takes_memory}
-use Rattle.core_asks.specs.lemma.Asks.{RunsCall, RunsPart}
+use Rattle.core_asks.specs.lemma.Asks.{RunsCall, RunsEndAt}
 use Rattle.core_asks.specs.declared.spelling.Stop.TheVariants.{Refused}
 use Rattle.core_state.specs.KeptWorld.{KeptWorld}
 use Rattle.core_state.specs.lemma.KeptWorld.{with_sessions}
@@ -92,18 +92,18 @@ pulse-runs old new link told sessions ready tells is set same =
     (ap (λ (x : List Session). record w { sessions = x }) set ∙ sym (staying w left (sym set ∙ same) ready.opens ready.locks))
 
 -- Bye and Lost
-pub part-runs : (old new : KeptWorld) (link n : ℕ) → IsAt old.world.sessions link n → new ≡ record old { world = without_session old.world n } → RunsPart old link Done new
+pub end_at-runs : (old new : KeptWorld) (link n : ℕ) → IsAt old.world.sessions link n → new ≡ record old { world = without_session old.world n } → RunsEndAt old link Done new
 unfolding answer_at after_at committed_at
-part-runs old new link n at is =
+end_at-runs old new link n at is =
     let left : without_session old.world n ≡ without_session old.world at.session.number = ap (without_session old.world) (sym at.same) in
     record {
       bye = rw at.linked (outcome-done old new _ _ _ _ Done refl is left);
       lost = rw at.linked (outcome-done old new _ _ _ _ Done refl is left);
     }
 
-pub part-displaced : (old : KeptWorld) (link : ℕ) → session_at old.world link ≡ None → RunsPart old link Displaced old
+pub end_at-displaced : (old : KeptWorld) (link : ℕ) → session_at old.world link ≡ None → RunsEndAt old link Displaced old
 unfolding answer_at after_at committed_at
-part-displaced old link none = record {
+end_at-displaced old link none = record {
   bye = rw none (outcome-same old old _ _ Displaced refl refl);
   lost = rw none (outcome-same old old _ _ Displaced refl refl);
 }

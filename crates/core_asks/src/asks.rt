@@ -5,13 +5,13 @@ ghost use Rattle.afp_serial.specs.World.{session_at};
 ghost use Rattle.afp_serial.specs.declared.ask.Ask.{Ask};
 ghost use Rattle.core_state.specs.Running.{IsNextFree, IsReady, done};
 ghost use Rattle.core_asks.specs.Asks.{RunsAsk, RunsAskAt};
-ghost use Rattle.core_asks.specs.lemma.Asks.{RunsOpen, RunsPart};
+ghost use Rattle.core_asks.specs.lemma.Asks.{RunsOpen, RunsEndAt};
 
 use crate::call::call;
 use crate::request::Request;
 use afp_base::{Code, LinkNumber, Moment, OutOfMemory};
 use afp_serial::{Ask, Outcome, Told};
-use core_state::{State, later, refused};
+use core_state::{State, refused};
 use record_keeper::Keeper;
 use std::marker::Model;
 
@@ -29,7 +29,7 @@ pub fn run_ask<K: Keeper>(
     ensures { RunsAskAt state.old now link ask result state.new }
 {
     let before = state.latest;
-    state.latest = later(before, now);
+    state.latest = before.later(now);
     match run_ask_now(state, link, ask) {
         Ok(told) => Ok(told),
         Err(OutOfMemory) => {
@@ -66,7 +66,7 @@ fn run_ask_now<K: Keeper>(
             },
         ),
         Ask::Pulse => Ok((pulse(state, link), Outcome::Done)),
-        Ask::Bye | Ask::Lost => Ok((part(state, link), Outcome::Done)),
+        Ask::Bye | Ask::Lost => Ok((end_at(state, link), Outcome::Done)),
         Ask::Drain => Ok((drain(state), Outcome::Done)),
     }
 }
@@ -112,9 +112,9 @@ fn told_pulse<K: Keeper>(state: &State<K>, link: LinkNumber) -> Told
 }
 
 /// Ends the link's session, and closes its forks.
-fn part<K: Keeper>(state: &mut State<K>, link: LinkNumber) -> Told
+fn end_at<K: Keeper>(state: &mut State<K>, link: LinkNumber) -> Told
     requires { IsReady state.old.world }
-    ensures { RunsPart state.old link.0 result state.new }
+    ensures { RunsEndAt state.old link.0 result state.new }
 {
     match state.sessions.at(link) {
         Some(session) => {

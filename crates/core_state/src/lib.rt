@@ -2,7 +2,6 @@
 #![tactic(auto)]
 
 mod link_numbers;
-mod moments;
 mod on_fork;
 mod on_volume;
 mod open_volumes;
@@ -11,7 +10,6 @@ mod sessions;
 mod state;
 
 pub use link_numbers::LinkNumbers;
-pub use moments::later;
 pub use on_fork::OwnFork;
 pub use replies::{done, refused, told_changed, told_of, told_settled};
 pub use sessions::Sessions;

@@ -1,6 +1,6 @@
 //! Ids of requests.
 ghost use Rattle.std.specs.Prelude.{◌≡◌};
-ghost use Rattle.dsi_session.specs.RequestIds.{first_id, id_after};
+ghost use Rattle.dsi_session.specs.RequestIds.{first_request_id, id_after};
 
 use std::marker::Model;
 
@@ -23,7 +23,7 @@ impl Model for RequestIds {
 impl RequestIds {
     /// No id was given.
     pub fn new() -> RequestIds
-        ensures { result ≡ first_id }
+        ensures { result ≡ first_request_id }
     {
         RequestIds { id: 0 }
     }

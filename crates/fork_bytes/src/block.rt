@@ -49,13 +49,6 @@ pub(crate) fn front_of(bytes: &[u8], n: usize) -> &[u8]
     &bytes[..n.min(bytes.len())]
 }
 
-/// The bytes from a place on, none where it lies behind them.
-pub(crate) fn rest_of(bytes: &[u8], from: usize) -> &[u8]
-    ensures { result.now ≡ drop from bytes.now }
-{
-    &bytes[from.min(bytes.len())..]
-}
-
 /// A block of zeros.
 const ZEROS: [u8; BLOCK_SIZE] = [0; BLOCK_SIZE];
 

@@ -4,9 +4,9 @@ ghost use Rattle.afp_base.specs.ForkBytes.{taken};
 ghost use Rattle.afp_base.specs.Limits.{most_fork_bytes, block_size};
 ghost use Rattle.fork_bytes.specs.Line.{line_of};
 
-use crate::block::{BLOCK_SIZE, front_of, rest_of, zeros};
+use crate::block::{BLOCK_SIZE, front_of, zeros};
 use crate::fork::Fork;
-use afp_base::{Bytes, OutOfMemory};
+use afp_base::{Bytes, OutOfMemory, rest_of};
 
 impl Fork {
     /// Appends the at most `count` bytes from `from` on. An error changes nothing.

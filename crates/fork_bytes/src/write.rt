@@ -7,11 +7,11 @@ ghost use Rattle.fork_bytes.specs.Blocks.{trimmed, blocks_of};
 ghost use Rattle.fork_bytes.specs.Kept.{is_empty};
 ghost use Rattle.fork_bytes.specs.Plan.{IsPlan, HasRoom, added_by, changes_of, with_change};
 
-use crate::block::{BLOCK_SIZE, Block, front_of, rest_of, trimmed_len, zeros};
+use crate::block::{BLOCK_SIZE, Block, front_of, trimmed_len, zeros};
 use crate::fork::{Fork, room_for};
 use crate::plan::ForkPlan;
 use afp_base::laws::{resizing_keeps_the_front, splice_puts_between};
-use afp_base::{Bytes, OutOfMemory};
+use afp_base::{Bytes, OutOfMemory, rest_of};
 use std::alloc::Global;
 
 /// Changes that are gathered block by block, and how many of them are blocks that were all zeros and are not afterwards.

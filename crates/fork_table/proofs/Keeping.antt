@@ -17,7 +17,7 @@ use Rattle.deny_modes.proofs.Forks.{itself, both_cross}
 use Rattle.range_locks.specs.declared.fault.LockFault.{LockFault}
 use Rattle.range_locks.specs.declared.fault.LockFault.TheVariants.{Locked, Overlap, Full, Memory}
 use Rattle.range_locks.specs.declared.fault.NotLocked.{NotLocked}
-use Rattle.range_locks.specs.Locks.{ForkLock, SetsLock, TakesLock, with_lock, without_holder, is_lock, exchange_lock, exchanged_locks}
+use Rattle.range_locks.specs.Locks.{ForkLock, SetsLock, TakesLock, with_fork_lock, without_holder, is_lock, exchange_lock, exchanged_locks}
 use Rattle.fork_table.specs.declared.open_fork.OpenFork.{OpenFork}
 use Rattle.fork_table.specs.ForkTable.{Table, plain_open, plain_opens, is_open, is_held, closing, exchange_row, forks_of}
 use Rattle.fork_table.specs.lemma.Kept.{IsTable}
@@ -197,11 +197,11 @@ found_held (e ∷ es) r f found = elim (nat_cmp r e.0) as (λ o. nat_cmp r e.0 �
   | Greater ↦ λ is found. or_right _ _ (found_held es r f found)
 ] refl found
 
-all_with : (q : ForkLock → Bool) (new : ForkLock) (ls : List ForkLock) → q new ≡ true → list_all q ls ≡ true → list_all q (with_lock new ls) ≡ true
+all_with : (q : ForkLock → Bool) (new : ForkLock) (ls : List ForkLock) → q new ≡ true → list_all q ls ≡ true → list_all q (with_fork_lock new ls) ≡ true
 all_with q new [] here h = (λ i. here i && true)
 all_with q new (l ∷ ls) here h =
     let parts = and_parts (q l) (list_all q ls) h in
-    elim (nat_lt new.reference l.reference) as (λ b. list_all q (if b then new ∷ l ∷ ls else l ∷ with_lock new ls) ≡ true) [
+    elim (nat_lt new.reference l.reference) as (λ b. list_all q (if b then new ∷ l ∷ ls else l ∷ with_fork_lock new ls) ≡ true) [
       | true ↦ (λ i. here i && h i)
       | false ↦ (λ i. parts.0 i && all_with q new ls here parts.1 i)
     ]

@@ -148,9 +148,9 @@ most-held w t x r o f =
 
 -- ---- a range is locked
 
-with-map : (new : held.ForkLock) (ls : List held.ForkLock) → map lock_of (held.with_lock new ls) ≡ with_lock (lock_of new) (map lock_of ls)
+with-map : (new : held.ForkLock) (ls : List held.ForkLock) → map lock_of (held.with_fork_lock new ls) ≡ with_lock (lock_of new) (map lock_of ls)
 with-map new [] = refl
-with-map new (l ∷ ls) = elim (nat_lt new.reference l.reference) as (λ b. map lock_of (if b then new ∷ l ∷ ls else l ∷ held.with_lock new ls) ≡ (if b then lock_of new ∷ lock_of l ∷ map lock_of ls else lock_of l ∷ with_lock (lock_of new) (map lock_of ls))) [
+with-map new (l ∷ ls) = elim (nat_lt new.reference l.reference) as (λ b. map lock_of (if b then new ∷ l ∷ ls else l ∷ held.with_fork_lock new ls) ≡ (if b then lock_of new ∷ lock_of l ∷ map lock_of ls else lock_of l ∷ with_lock (lock_of new) (map lock_of ls))) [
   | true ↦ refl
   | false ↦ ap (λ m. lock_of l ∷ m) (with-map new ls)
 ]
@@ -389,11 +389,11 @@ blocks-answers w x old t r from count to res law all sound shown open_was some t
     let met : res ≡ held.is_met_by_other t.locks o.0.fork r (record { from = from; to = to }) = subst (λ (q : Option Row). IfSome q (λ o. res ≡ held.is_met_by_other t.locks o.fork r (record { from = from; to = to }))) o.1 is in
     met ∙ up-to-top w t x r o.0 from count to law (record { has = subst (HasForks w) (sym shown) has; sound = sound; number = number; found = o.1 }) all (omega (arith, some)) to_is
 
-all-with : (q : held.ForkLock → Bool) (new : held.ForkLock) (ls : List held.ForkLock) → q new ≡ true → list_all q ls ≡ true → list_all q (held.with_lock new ls) ≡ true
+all-with : (q : held.ForkLock → Bool) (new : held.ForkLock) (ls : List held.ForkLock) → q new ≡ true → list_all q ls ≡ true → list_all q (held.with_fork_lock new ls) ≡ true
 all-with q new [] here all = (λ i. here i && true)
 all-with q new (l ∷ ls) here all =
     let e = and_parts (q l) (list_all q ls) all in
-    elim (nat_lt new.reference l.reference) as (λ b. list_all q (if b then new ∷ l ∷ ls else l ∷ held.with_lock new ls) ≡ true) [
+    elim (nat_lt new.reference l.reference) as (λ b. list_all q (if b then new ∷ l ∷ ls else l ∷ held.with_fork_lock new ls) ≡ true) [
       | true ↦ (λ i. here i && all i)
       | false ↦ (λ i. e.0 i && all-with q new ls here e.1 i)
     ]

@@ -45,9 +45,7 @@ pub enum PlainEnd {
 fn volume_name(alloc: Global, place: &String) -> Result<Bytes, OutOfMemory>
     ensures { IfOk result (λ name. name ≡ name_in (string_bytes place.now)) }
 {
-    let mut name = Bytes::new(alloc);
-    name.extend(name_of(place.as_bytes()))?;
-    Ok(name)
+    Bytes::of(alloc, name_of(place.as_bytes()))
 }
 
 /// The names of the volumes.

@@ -26,7 +26,7 @@ use Rattle.sorted_map.specs.Entries.{at, exchanged}
 use Rattle.range_locks.specs.declared.fault.LockFault.TheVariants.{Locked, Overlap, Full}
 use Rattle.range_locks.specs.declared.rows.LockRow.{LockRow}
 use Rattle.range_locks.specs.declared.rows.Seen.{Seen}
-use Rattle.range_locks.specs.Locks.{ForkLock, are_overlapping, is_met_by_other, is_met_by_own, count_held, lock_refusal, with_lock, is_lock, has_lock, exchange_lock, exchanged_locks, without_holder, is_row, are_one_row, AreInOrder, AreIntervals}
+use Rattle.range_locks.specs.Locks.{ForkLock, are_overlapping, is_met_by_other, is_met_by_own, count_held, lock_refusal, with_fork_lock, is_lock, has_lock, exchange_lock, exchanged_locks, without_holder, is_row, are_one_row, AreInOrder, AreIntervals}
 use Rattle.range_locks.specs.lemma.Kept.{rows_at, holder_of, is_among, IsBehind, IsBefore, IsPlaceOf, IsLockTable}
 use Rattle.range_locks.specs.lemma.Seen.{IsSeen}
 
@@ -71,9 +71,9 @@ any_gives : {A : Type 0} (r s : A → Bool) (xs : List A) → ((x : A) → r x �
 any_gives r s [] same = refl
 any_gives r s (x ∷ xs) same = λ i. same x i || any_gives r s xs same i
 
-any_new : (p : ForkLock → Bool) (new : ForkLock) (ls : List ForkLock) → list_any p (with_lock new ls) ≡ (p new || list_any p ls)
+any_new : (p : ForkLock → Bool) (new : ForkLock) (ls : List ForkLock) → list_any p (with_fork_lock new ls) ≡ (p new || list_any p ls)
 any_new p new [] = refl
-any_new p new (l ∷ ls) = elim (nat_lt new.reference l.reference) as (λ b. list_any p (if b then new ∷ l ∷ ls else l ∷ with_lock new ls) ≡ (p new || (p l || list_any p ls))) [
+any_new p new (l ∷ ls) = elim (nat_lt new.reference l.reference) as (λ b. list_any p (if b then new ∷ l ∷ ls else l ∷ with_fork_lock new ls) ≡ (p new || (p l || list_any p ls))) [
   | true ↦ refl
   | false ↦ ap (λ t. p l || t) (any_new p new ls) ∙ or_swap (p l) (p new) (list_any p ls)
 ]
@@ -127,16 +127,16 @@ seen_own {locks} {fork} {rows} {r} {range} i s none =
     ∙ any_gives (λ l. is_one_fork l.fork fork && (do_meet l.range range && (l.reference == r))) (λ l. do_overlap l.fork l.range fork range && (l.reference == r)) locks (λ l. sym (and_assoc (is_one_fork l.fork fork) (do_meet l.range range) (l.reference == r)))
 
 -- ---- places by reference
-pub put_behind : (ls : List ForkLock) (new : ForkLock) (place : ℕ) → IsBehind ls new.reference place → insert ls place new ≡ with_lock new ls
+pub put_behind : (ls : List ForkLock) (new : ForkLock) (place : ℕ) → IsBehind ls new.reference place → insert ls place new ≡ with_fork_lock new ls
 put_behind [] new zero b = refl
 put_behind [] new (suc place) b = absurd (omega (arith, b.within))
 put_behind (l ∷ ls) new zero b =
     let h : true ≡ nat_lt new.reference l.reference = (let f = b.rest 0 l (omega arith) (omega arith) in grind (arith, nat_tests, f)) in
-    ap (λ t. if t then new ∷ l ∷ ls else l ∷ with_lock new ls) h
+    ap (λ t. if t then new ∷ l ∷ ls else l ∷ with_fork_lock new ls) h
 put_behind (l ∷ ls) new (suc place) b =
     let h : false ≡ nat_lt new.reference l.reference = (let f = b.front 0 l (omega arith) in grind (arith, nat_tests, f)) in
     ap (λ rest. l ∷ rest) (put_behind ls new place (record { within = omega (arith, b.within); front = λ k d less. b.front (suc k) d (omega arith); rest = λ k d low high. b.rest (suc k) d (omega arith) (omega arith) }))
-    ∙ ap (λ t. if t then new ∷ l ∷ ls else l ∷ with_lock new ls) h
+    ∙ ap (λ t. if t then new ∷ l ∷ ls else l ∷ with_fork_lock new ls) h
 
 count_none : (ls : List ForkLock) (r : ℕ) → ((k : ℕ) (d : ForkLock) → k < length ls → nat_le (holder_of (slice_index_or ls k d)) r ≡ false) → count_held r ls ≡ 0
 count_none [] r none = refl
@@ -199,12 +199,12 @@ own_part (l ∷ ls) r (suc first) (suc last) a b =
     )
 
 -- ---- a lock that is set
-apart_new : (new : ForkLock) (ls : List ForkLock) → list_any (λ l. are_overlapping l new) ls ≡ false → are_apart are_overlapping ls ≡ true → are_apart are_overlapping (with_lock new ls) ≡ true
+apart_new : (new : ForkLock) (ls : List ForkLock) → list_any (λ l. are_overlapping l new) ls ≡ false → are_apart are_overlapping ls ≡ true → are_apart are_overlapping (with_fork_lock new ls) ≡ true
 apart_new new [] none h = refl
 apart_new new (l ∷ ls) none h =
     let parts = or_parts (are_overlapping l new) (list_any (λ x. are_overlapping x new) ls) none in
     let rest = and_parts (not (list_any (are_overlapping l) ls)) (are_apart are_overlapping ls) h in
-    elim (nat_lt new.reference l.reference) as (λ b. are_apart are_overlapping (if b then new ∷ l ∷ ls else l ∷ with_lock new ls) ≡ true) [
+    elim (nat_lt new.reference l.reference) as (λ b. are_apart are_overlapping (if b then new ∷ l ∷ ls else l ∷ with_fork_lock new ls) ≡ true) [
       | true ↦ and_from _ _ (ap not (any_gives (are_overlapping new) (λ x. are_overlapping x new) (l ∷ ls) (λ x. turns new x) ∙ none)) h
       | false ↦ and_from _ _ (ap not (any_new (are_overlapping l) new ls ∙ (λ i. parts.0 i || not_true (list_any (are_overlapping l) ls) rest.0 i))) (apart_new new ls parts.1 rest.1)
     ]
@@ -298,7 +298,7 @@ pub record Set (locks new_locks : List ForkLock) (forks new_forks : List (Fork �
   pub other : seen.other ≡ false
   pub own : seen.own ≡ false
   pub new_rows : (q : Fork) → rows_at new_forks q ≡ (if is_one_fork fork q then insert (rows_at forks fork) seen.place (record { range = range; reference = record { 0 = r } }) else rows_at forks q)
-  pub new_list : new_locks ≡ with_lock (record { reference = r; fork = fork; range = range }) locks
+  pub new_list : new_locks ≡ with_fork_lock (record { reference = r; fork = fork; range = range }) locks
   pub new_order : IsNonDecreasingBy holder_of new_locks
 
 module _ {locks new_locks : List ForkLock} {forks new_forks : List (Fork × List LockRow)} {rows : List LockRow} {fork : Fork} {r : ℕ} {range : Range} {seen : Seen} (s : Set locks new_locks forks new_forks rows fork r range seen) where
@@ -378,7 +378,7 @@ module _ {locks whole : List ForkLock} {forks : List (Fork × List LockRow)} {ro
 
 -- a lock goes into the list behind those of its reference
 pub listed : {list reserved given new : List ForkLock} {place : ℕ} (held : ForkLock) (b : Bool) → IsNonDecreasingBy holder_of list → reserved ≡ list → given ≡ reserved → IsBehind given held.reference place → b ≡ true → new ≡ (if b then insert reserved place held else reserved)
-    → (new ≡ with_lock held list) × IsNonDecreasingBy holder_of new
+    → (new ≡ with_fork_lock held list) × IsNonDecreasingBy holder_of new
 listed {list} {reserved} {given} {new} {place} held b order reserved_is given_is behind b_is new_is =
     let there : IsBehind list held.reference place = subst (λ l. IsBehind l held.reference place) (given_is ∙ reserved_is) behind in
     let put : new ≡ insert list place held = new_is ∙ (λ i. if b_is i then insert (reserved_is i) place held else reserved_is i) in (

@@ -42,14 +42,14 @@ lock_refusal locks fork reference range = first_holding (
     ∷ [])
 
 -- the locks, which stand by rising reference and for one reference in the order in which they were set, with one more
-abbrev pub with_lock : ForkLock → List ForkLock → List ForkLock
-with_lock new [] = new ∷ []
-with_lock new (l ∷ ls) = if nat_lt new.reference l.reference then new ∷ l ∷ ls else l ∷ with_lock new ls
+abbrev pub with_fork_lock : ForkLock → List ForkLock → List ForkLock
+with_fork_lock new [] = new ∷ []
+with_fork_lock new (l ∷ ls) = if nat_lt new.reference l.reference then new ∷ l ∷ ls else l ∷ with_fork_lock new ls
 
 -- What `lock` answers: Ok where nothing refuses it, and the lock is set; else the first refusal, and nothing changes. Want of
 -- memory comes only where nothing refuses it, and changes nothing.
 abbrev pub SetsLock : List ForkLock → Fork → ℕ → Range → Result (Unit {0}) LockFault → List ForkLock → Type 0
-SetsLock old fork reference range (Ok done) new = (lock_refusal old fork reference range ≡ None) × (new ≡ with_lock (record { reference = reference; fork = fork; range = range }) old)
+SetsLock old fork reference range (Ok done) new = (lock_refusal old fork reference range ≡ None) × (new ≡ with_fork_lock (record { reference = reference; fork = fork; range = range }) old)
 SetsLock old fork reference range (Err Locked) new = (lock_refusal old fork reference range ≡ Some Locked) × (new ≡ old)
 SetsLock old fork reference range (Err Overlap) new = (lock_refusal old fork reference range ≡ Some Overlap) × (new ≡ old)
 SetsLock old fork reference range (Err Full) new = (lock_refusal old fork reference range ≡ Some Full) × (new ≡ old)

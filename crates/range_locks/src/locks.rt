@@ -181,7 +181,7 @@ impl Locks {
         if first >= last {
             return;
         }
-        let own = part(self.list.as_slice(), first, last);
+        let own = locks_between(self.list.as_slice(), first, last);
         clear_rows(own, &mut self.forks, self.alloc, r.0);
         self.list.drain(first..last);
     }
@@ -226,7 +226,7 @@ fn is_cleared(list: &[HeldLock], place: usize, fork: &ForkKey) -> bool
 }
 
 /// The locks from one place to another.
-fn part(list: &[HeldLock], first: usize, last: usize) -> &[HeldLock]
+fn locks_between(list: &[HeldLock], first: usize, last: usize) -> &[HeldLock]
     requires low { first ≤ last }
     requires high { last ≤ length list.now }
     ensures { result.now ≡ slice_range list.now first last }
@@ -248,7 +248,7 @@ fn place_of(list: &[HeldLock], fork: &ForkKey, r: u16, range: &Range) -> Option<
 {
     let first = before(list, r);
     let last = behind(list, r);
-    match place_among(part(list, first, last), fork, r, range) {
+    match place_among(locks_between(list, first, last), fork, r, range) {
         Some(place) => Some(first + place),
         None => None,
     }

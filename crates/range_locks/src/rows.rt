@@ -101,7 +101,7 @@ pub(crate) fn look(rows: &[LockRow], r: ForkRef, range: &Range) -> Seen
     let last = range.last();
     let from = rows.partition_point(|row| row.range.last() < first);
     let to = rows.partition_point(|row| row.range.first() <= last);
-    let met = part(rows, from, to);
+    let met = rows_between(rows, from, to);
     Seen {
         other: has_other(met, r),
         own: !met.is_empty(),
@@ -110,7 +110,7 @@ pub(crate) fn look(rows: &[LockRow], r: ForkRef, range: &Range) -> Seen
 }
 
 /// The rows from one place to another.
-fn part(rows: &[LockRow], from: usize, to: usize) -> &[LockRow]
+fn rows_between(rows: &[LockRow], from: usize, to: usize) -> &[LockRow]
     requires low { from ≤ to }
     requires high { to ≤ length rows.now }
     ensures { result.now ≡ slice_range rows.now from to }

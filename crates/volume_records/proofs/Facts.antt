@@ -14,7 +14,7 @@ use Rattle.volume_records.specs.Shape.{is_formed, is_formed_node, is_formed_bloc
 use Rattle.volume_records.specs.Records.{record_of}
 use Rattle.volume_records.specs.KeyOrder.{Rises}
 use Rattle.volume_records.specs.Image.{Tables, rows_of}
-use Rattle.volume_records.specs.FirstBad.{first_of, lacks_parent, is_twin, is_outside, passes_limit}
+use Rattle.volume_records.specs.FirstBad.{first_of, lacks_parent, is_twin, is_out_of_range, passes_limit}
 use Rattle.volume_records.proofs.TestParts.{lt_true, le_of, left_true, right_true, both_true, all-ends, all-append, all-map, all-more}
 use Rattle.volume_records.proofs.ReadBack.{node_parts}
 use Rattle.volume_records.proofs.Chains.{Chain}
@@ -29,10 +29,10 @@ use Rattle.afp_names.specs.Name.{name_fault}
 pub record IsFree (t : Tables) (x : TableRow) : Type 0 where
   pub placed : lacks_parent t x ≡ false
   pub lone : is_twin t x ≡ false
-  pub inside : is_outside t x ≡ false
+  pub inside : is_out_of_range t x ≡ false
   pub few : passes_limit t x ≡ false
 
-free_of : (t : Tables) (x : TableRow) (a b c d : Bool) → lacks_parent t x ≡ a → is_twin t x ≡ b → is_outside t x ≡ c → passes_limit t x ≡ d
+free_of : (t : Tables) (x : TableRow) (a b c d : Bool) → lacks_parent t x ≡ a → is_twin t x ≡ b → is_out_of_range t x ≡ c → passes_limit t x ≡ d
     → is_none (first_of a Parent (first_of b Twin (first_of c Range (first_of d Limit None)))) ≡ true → IsFree t x
 free_of t x true b c d i j k l e = absurd (cc)
 free_of t x false true c d i j k l e = absurd (cc)
@@ -41,12 +41,12 @@ free_of t x false false false true i j k l e = absurd (cc)
 free_of t x false false false false i j k l e = record { placed = i; lone = j; inside = k; few = l }
 
 pub is_free : (t : Tables) (x : TableRow) → is_clear t x ≡ true → IsFree t x
-is_free t x e = free_of t x (lacks_parent t x) (is_twin t x) (is_outside t x) (passes_limit t x) refl refl refl refl e
+is_free t x e = free_of t x (lacks_parent t x) (is_twin t x) (is_out_of_range t x) (passes_limit t x) refl refl refl refl e
 
 pub free_clear : (t : Tables) (x : TableRow) → IsFree t x → is_clear t x ≡ true
 free_clear t x f =
-    ap (λ a. is_none (first_of a Parent (first_of (is_twin t x) Twin (first_of (is_outside t x) Range (first_of (passes_limit t x) Limit None))))) f.placed
-    ∙ ap (λ b. is_none (first_of b Twin (first_of (is_outside t x) Range (first_of (passes_limit t x) Limit None)))) f.lone
+    ap (λ a. is_none (first_of a Parent (first_of (is_twin t x) Twin (first_of (is_out_of_range t x) Range (first_of (passes_limit t x) Limit None))))) f.placed
+    ∙ ap (λ b. is_none (first_of b Twin (first_of (is_out_of_range t x) Range (first_of (passes_limit t x) Limit None)))) f.lone
     ∙ ap (λ c. is_none (first_of c Range (first_of (passes_limit t x) Limit None))) f.inside
     ∙ ap (λ d. is_none (first_of d Limit None)) f.few
 

@@ -17,7 +17,7 @@ use Rattle.volume_records.specs.declared.rows.TableRow.TheVariants as row
 use Rattle.volume_records.specs.Shape.{is_formed, is_formed_node, is_formed_block}
 use Rattle.volume_records.specs.Image.{Tables, rows_of, tables_of, node_of, block_of, fork_blocks}
 use Rattle.record_keeper.specs.Reading.{most_records}
-use Rattle.volume_records.specs.FirstBad.{fork_length, is_outside}
+use Rattle.volume_records.specs.FirstBad.{fork_length, is_out_of_range}
 use Rattle.volume_records.proofs.TestParts.{left_true, right_true, both_true, cases, le_of, lt_false, same_of, all-more, all-both, all-map, all-append, any-map, any-none, always}
 use Rattle.volume_records.proofs.Chains.{chain-map, filter-most}
 use Rattle.volume_records.proofs.Counts.{no_more, sum_each, length-flat}
@@ -95,7 +95,7 @@ no_bytes r d f =
     (empty r.data_fork two.0, empty r.resource_fork two.1)
 
 module _ (v : VolumeState) where
-  block_inside : (r : VolumeRow) (f : Bool) (b : Block) → list_all (same_forks r) v.rows ≡ true → 4096 * b.index + length b.bytes ≤ length (fork_of f r) → is_outside (tables_of v) (row.Block (block_of r.id f b)) ≡ false
+  block_inside : (r : VolumeRow) (f : Bool) (b : Block) → list_all (same_forks r) v.rows ≡ true → 4096 * b.index + length b.bytes ≤ length (fork_of f r) → is_out_of_range (tables_of v) (row.Block (block_of r.id f b)) ≡ false
   block_inside r f b s w = any-map (λ (n : Node). (n.id == r.id) && reaches_past n (block_of r.id f b)) node_of v.rows
       ∙ any-none (λ (o : VolumeRow). (o.id == r.id) && reaches_past (node_of o) (block_of r.id f b)) v.rows
       (all-more (same_forks r) (λ (o : VolumeRow). not ((o.id == r.id) && reaches_past (node_of o) (block_of r.id f b))) v.rows

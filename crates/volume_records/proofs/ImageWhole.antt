@@ -11,7 +11,7 @@ use Rattle.volume_records.specs.declared.rows.Node.{Node}
 use Rattle.volume_records.specs.declared.rows.TableRow.TheVariants as row
 use Rattle.volume_records.specs.Shape.{bare_row, is_formed_node, is_root_or_other}
 use Rattle.volume_records.specs.Image.{tables_of, node_of}
-use Rattle.volume_records.specs.FirstBad.{nodes_to, lacks_parent, is_outside, passes_limit}
+use Rattle.volume_records.specs.FirstBad.{nodes_to, lacks_parent, is_out_of_range, passes_limit}
 use Rattle.volume_records.proofs.TestParts.{left_true, right_true, both_true, or_left, or_right, cases, lt_of, le_of, lt_true, lt_false, same_true, other_false, turn_false, not_true, either_false, neither, all-more, all-both, any-map, any-same, pick, then_of, else_of, parts}
 use Rattle.volume_records.proofs.Chains.{Chain, filter-most, sum-filter, sum-map}
 use Rattle.volume_records.proofs.VolumeSound.{length-map, alike, no_twins}
@@ -96,7 +96,7 @@ module _ (v : VolumeState) (facts : SoundFacts v) where
       ap (λ k. leads_to_root (map bare_row (map node_of v.rows)) k r.parent) (length-map bare_row (map node_of v.rows) ∙ length-map node_of v.rows) ∙ leads_same v.rows (length v.rows) r.parent ∙ leads in
       λ i. not (e i) && not (root i && same i))
 
-  pub node_inside : (r : VolumeRow) → is_in_place v r ≡ true → is_outside (tables_of v) (row.Node (node_of r)) ≡ false
+  pub node_inside : (r : VolumeRow) → is_in_place v r ≡ true → is_out_of_range (tables_of v) (row.Node (node_of r)) ≡ false
   node_inside r place = cases (r.id == root_id)
       (λ e. root_low r.id v.next_id e)
       (λ e.

@@ -25,7 +25,7 @@ use Rattle.volume_records.specs.Records.{record_of}
 use Rattle.volume_records.specs.Shape.{row_in, bare_row, is_formed}
 use Rattle.volume_records.specs.Image.{Tables, tables_in, first_head, as_head, as_node, as_icon, as_appl}
 use Rattle.volume_records.specs.KeyOrder.{IsBelow, Rises}
-use Rattle.volume_records.specs.FirstBad.{rows_in, fork_length, nodes_to, icons_to, appls_to, lacks_parent, is_twin, is_outside, passes_limit, first_of, reason_of, bad_or, first_in}
+use Rattle.volume_records.specs.FirstBad.{rows_in, fork_length, nodes_to, icons_to, appls_to, lacks_parent, is_twin, is_out_of_range, passes_limit, first_of, reason_of, bad_or, first_in}
 use Rattle.volume_records.specs.lemma.Climb.{id_of, climbs_to_root}
 use Rattle.volume_records.specs.lemma.Judged.{place_of, said_node, places_in, is_there, is_file_there, length_of, is_stray_here, is_outside_here, Before, is_twin_here, fork_sum, is_over_here, reason_here, and_row, next_in, next_or, said_rows, is_short_row, IsNamedRow}
 use Rattle.volume_records.proofs.TestParts.{left_true, right_true, both_true, lt_of, le_true, lt_false, same_of, same_true, other_false, bytes_same, bytes_true, cases, any-map, any-same, all-ends}
@@ -173,7 +173,7 @@ length_same : (r : Bool) (n : Node) → fork_length r n ≡ length_of r (place_o
 length_same true n = refl
 length_same false n = refl
 
-outside_same : (t : Tables) (x : TableRow) → is_outside t x ≡ is_outside_here (map place_of t.nodes) t.head.next_id x
+outside_same : (t : Tables) (x : TableRow) → is_out_of_range t x ≡ is_outside_here (map place_of t.nodes) t.head.next_id x
 outside_same t (row.Head h) = refl
 outside_same t (row.Node n) = refl
 outside_same t (row.Block b) =

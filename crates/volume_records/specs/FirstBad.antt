@@ -55,10 +55,10 @@ is_twin t (row.Node node) = list_any (λ other. nat_lt other.id node.id && are_n
 is_twin t _ = false
 
 -- Range: an id below 17 that is not the root, or not below the next id; a block that reaches behind its fork's length
-abbrev pub is_outside : Tables → TableRow → Bool
-is_outside t (row.Node node) = not (node.id == root_id) && (nat_lt node.id first_id || nat_le t.head.next_id node.id)
-is_outside t (row.Block block) = list_any (λ node. (node.id == block.node) && nat_lt (fork_length block.is_resource node) (block_size * block.index + length block.bytes)) t.nodes
-is_outside t _ = false
+abbrev pub is_out_of_range : Tables → TableRow → Bool
+is_out_of_range t (row.Node node) = not (node.id == root_id) && (nat_lt node.id first_id || nat_le t.head.next_id node.id)
+is_out_of_range t (row.Block block) = list_any (λ node. (node.id == block.node) && nat_lt (fork_length block.is_resource node) (block_size * block.index + length block.bytes)) t.nodes
+is_out_of_range t _ = false
 
 -- Limit: the record with which the nodes, the sum of fork lengths, the icons or the APPL mappings pass their limit
 abbrev pub passes_limit : Tables → TableRow → Bool
@@ -76,7 +76,7 @@ reason_of t None = Some Shape
 reason_of t (Some r) =
     first_of (lacks_parent t r) Parent
     (first_of (is_twin t r) Twin
-    (first_of (is_outside t r) Range
+    (first_of (is_out_of_range t r) Range
     (first_of (passes_limit t r) Limit None)))
 
 abbrev pub bad_or : List ℕ → Option Reason → Option BadRecord → Option BadRecord

@@ -2,19 +2,13 @@
 ghost use Rattle.std.specs.Prelude.{◌≡◌, ◌++◌, length, take, drop, slice_index};
 ghost use Rattle.volume_records.specs.Shape.{word_at as the_word, four_at as the_four, long_at as the_long, date_at as the_date, quad_at as the_quad};
 
+use afp_base::rest_of;
 use byteorder::{BigEndian, ByteOrder};
 
 pub(crate) fn byte_at(bytes: &[u8], at: usize) -> u8
     ensures { result ≡ slice_index bytes.now at }
 {
     if at < bytes.len() { bytes[at] } else { 0 }
-}
-
-/// The bytes from a place on, none where it lies behind them.
-pub(crate) fn rest_of(bytes: &[u8], from: usize) -> &[u8]
-    ensures { result.now ≡ drop from bytes.now }
-{
-    &bytes[from.min(bytes.len())..]
 }
 
 /// Puts the first bytes in place of those of a piece, and leaves what stands behind them.

@@ -32,7 +32,7 @@ pub(crate) fn read_all_rows(
     Ok(rows)
 }
 
-fn put_place(places: &mut Vec<Place>, row: &Option<TableRow>) -> Result<(), OutOfMemory>
+fn push_place(places: &mut Vec<Place>, row: &Option<TableRow>) -> Result<(), OutOfMemory>
     ensures { OnOk result (places.new.items ≡ places.old.items ++ map place_of (cons_option (said_node row.now) [])) }
 {
     match row {
@@ -60,7 +60,7 @@ fn all_places(alloc: Global, rows: &[Option<TableRow>]) -> Result<Vec<Place>, Ou
 {
     let mut places = Vec::new(alloc);
     for row in rows {
-        put_place(&mut places, row)?;
+        push_place(&mut places, row)?;
     }
     Ok(places)
 }

@@ -3,11 +3,11 @@ ghost use Rattle.std.specs.Prelude.{◌≡◌, ◌≤◌, length, take, drop, sl
 ghost use Rattle.volume_records.specs.Shape.{head_in, node_in, block_in, comment_in, icon_in, appl_in, guess, are_same, row_in};
 
 use crate::limits::{BLOCK, COMMENT, HEAD, ICON, NODE};
-use crate::numbers::{byte_at, date_at, four_at, long_at, quad_at, rest_of, word_at};
+use crate::numbers::{byte_at, date_at, four_at, long_at, quad_at, word_at};
 use crate::rows::{Appl, Comment, ForkBlock, Head, Icon, Node, TableRow};
 use crate::shape::is_formed;
 use crate::write::record_of;
-use afp_base::{Bytes, OutOfMemory};
+use afp_base::{Bytes, OutOfMemory, rest_of};
 use record_keeper::Record;
 use std::alloc::Global;
 

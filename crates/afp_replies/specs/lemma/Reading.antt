@@ -1,7 +1,7 @@
 -- How the code reads, for its proofs; no public contract cites it.
 use Rattle.std.specs.Prelude.{◌≡◌, ℕ, Bool, ◌+◌, ◌≤◌, ◌<◌, List, [], ◌++◌, length, take, drop, Result, Ok, Err}
 use Rattle.std.specs.Borrow.{Bor}
-pub use Rattle.afp_base.specs.Bytes.{IsBytes}
+use Rattle.afp_base.specs.Bytes.{IsBytes}
 use Rattle.afp_bitmap.specs.declared.params.Values.{Values}
 use Rattle.afp_bitmap.specs.Params.{params, IsAnswer, IsBadAt}
 use Rattle.afp_replies.specs.declared.commands.ShapeRow.{ShapeRow}

@@ -26,6 +26,6 @@ RunsCall k link q (Ok r) new =
 RunsCall k link q (Err e) new = new ≡ k
 
 -- a Bye or a Lost
-pub record RunsPart (k : KeptWorld) (link : ℕ) (told : Told) (new : KeptWorld) : Type 0 where
+pub record RunsEndAt (k : KeptWorld) (link : ℕ) (told : Told) (new : KeptWorld) : Type 0 where
   pub bye : RunsAsk k link ask.Bye (Ok (done told)) new
   pub lost : RunsAsk k link ask.Lost (Ok (done told)) new

@@ -1,7 +1,7 @@
 use Rattle.std.proofs.Common.{sym, ap, ◌∙◌}
 use Rattle.std.specs.Prelude.{Option}
 use Rattle.afp_base.specs.declared.ids.LinkNumber.{LinkNumber}
-use Rattle.afp_outside.specs.Gate.{in_by}
+use Rattle.afp_outside.specs.Gate.{with_entered}
 use Rattle.dsi_frame.specs.Frame.{frame_of}
 use Rattle.dsi_frame.specs.declared.frame.Header.{Header}
 use Rattle.afp_server.specs.LinkRun.{carries_call}
@@ -35,7 +35,7 @@ returns-in-None-clause-serves g c = λ start cost block s.
     (g.G.Gate.passed c.args.log.now) (g.G.Gate.passed c.handle.new.log) (g.G.Gate.passed c.exit_gate.new.log) c.called_link-called.result
     (next start cost c.args.deframer.now (g.L.Link.link_state c.args.link.now) c.args.session.now c.handle.new.self _ _ w.0 (frame_of c.args.header.now c.payload.result.now) h.0 c.now.result _ block s w.1
     (frame_is c.args.header.now c.payload.result.now w.0 w.2 (c.payload.ensures w.0 w.1)) c.now.ensures h.1 h.2)
-    call (passes ∙ ap (λ (o : Option LinkNumber). in_by (g.G.Gate.passed c.args.log.now) o) (sym c.called_link-called.ensures)) c.exit_gate.ensures
+    call (passes ∙ ap (λ (o : Option LinkNumber). with_entered (g.G.Gate.passed c.args.log.now) o) (sym c.called_link-called.ensures)) c.exit_gate.ensures
     c.reply.ensures c.if-not-send_all.ensures (sym h.3 ∙ c.in-None.is) c.advance.ensures
 
 pub returns-in-Some-clause-serves : goal.returns-in-Some-clause-serves
@@ -48,7 +48,7 @@ returns-in-Some-clause-serves g c = λ start cost block s.
     (g.G.Gate.passed c.args.log.now) (g.G.Gate.passed c.handle.new.log) (g.G.Gate.passed c.exit_gate.new.log) c.called_link-called.result
     (next start cost c.args.deframer.now (g.L.Link.link_state c.args.link.now) c.args.session.now c.handle.new.self _ _ w.0 (frame_of c.args.header.now c.payload.result.now) h.0 c.now.result _ block s w.1
     (frame_is c.args.header.now c.payload.result.now w.0 w.2 (c.payload.ensures w.0 w.1)) c.now.ensures h.1 h.2)
-    call (passes ∙ ap (λ (o : Option LinkNumber). in_by (g.G.Gate.passed c.args.log.now) o) (sym c.called_link-called.ensures)) c.exit_gate.ensures
+    call (passes ∙ ap (λ (o : Option LinkNumber). with_entered (g.G.Gate.passed c.args.log.now) o) (sym c.called_link-called.ensures)) c.exit_gate.ensures
     c.reply.ensures c.if-not-send_all.ensures (sym h.3 ∙ c.in-Some.is) c.place.ensures.place c.link_end.ensures
 
 pub returns-in_default-clause-serves : goal.returns-in_default-clause-serves

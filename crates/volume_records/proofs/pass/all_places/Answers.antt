@@ -7,6 +7,6 @@ use Rattle.volume_records.proofs.pass.all_places.Goals as goal
 
 pub loop-row-preserved : goal.loop-row-preserved
 loop-row-preserved c =
-    c.in_ok-put_place.ensures
+    c.in_ok-push_place.ensures
     ∙ ap (λ (ps : List Place). ps ++ map place_of (cons_option (said_node c.row-item.result) [])) c.loop-row.invariant
     ∙ sym (pushed_places c.args.rows.now c.loop-row.row-index c.row-item.result (search rules) c.row-item.is)

@@ -11,5 +11,5 @@ returns c =
     let folded = c.as_str-3.result.now in
     let first : decomposed ≡ encode_utf8_all (nfd (chars name)) = cc (c.as_str.ensures.value, c.self.view_is, c.as_str-2.ensures.value, c.in_ok-decomposed.ensures) in
     let second : folded ≡ encode_utf8_all (default_case_fold (chars decomposed)) = cc (c.as_str-3.ensures.value, c.in_ok-folded.ensures) in
-    let third : c.extend.new.self ≡ encode_utf8_all (nfd (chars folded)) = cc (c.in_ok-extend.ensures.ok, c.new-bytes.ensures, c.as_bytes.ensures.value, c.in_ok-key.ensures) in
-    name_key-steps name decomposed folded c.extend.new.self c.as_str-2.utf8 c.as_str-3.utf8 first second third
+    let third : c.in_ok-bytes.bytes ≡ encode_utf8_all (nfd (chars folded)) = cc (c.in_ok-bytes.ensures, c.as_bytes.ensures.value, c.in_ok-key.ensures) in
+    name_key-steps name decomposed folded c.in_ok-bytes.bytes c.as_str-2.utf8 c.as_str-3.utf8 first second third

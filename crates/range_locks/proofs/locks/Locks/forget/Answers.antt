@@ -18,7 +18,7 @@ invariant_of-self c =
     lost_kept (record {
       was = c.self.invariant;
       new_list = part_gone c.args.r.0 c.before-first.result c.behind-last.result low high c.drop-drain.ensures.items c.drain.ensures.kept;
-      new_rows = cleared c.clear_rows.new.forks c.args.r.0 c.before-first.result c.behind-last.result c.self.invariant low high (c.part-own.ensures ∙ ap (λ l. slice_range l c.before-first.result c.behind-last.result) c.as_slice-3.ensures.value) c.clear_rows.ensures;
+      new_rows = cleared c.clear_rows.new.forks c.args.r.0 c.before-first.result c.behind-last.result c.self.invariant low high (c.locks_between-own.ensures ∙ ap (λ l. slice_range l c.before-first.result c.behind-last.result) c.as_slice-3.ensures.value) c.clear_rows.ensures;
       alike = λ q l on. refl;
     })
 

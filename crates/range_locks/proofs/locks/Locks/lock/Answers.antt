@@ -1,6 +1,6 @@
 use Rattle.std.proofs.Common.{◌∙◌, ap, arith}
 use Rattle.std.specs.Prelude.{is_ok}
-use Rattle.range_locks.specs.Locks.{with_lock}
+use Rattle.range_locks.specs.Locks.{with_fork_lock}
 use Rattle.range_locks.proofs.Keeping.{is_locked, is_overlap, is_full, is_free, listed, set_kept}
 use Rattle.range_locks.proofs.locks.Locks.lock.Goals as goal
 
@@ -27,4 +27,4 @@ invariant_of-self-2 c =
 pub returns : goal.returns
 returns c =
     let put = listed (record { reference = c.args.r.0; fork = c.args.fork.now; range = c.args.range }) (is_ok c.insert.result) c.self.invariant.order c.in-Ok.ensures.items c.as_slice-2.ensures.value c.behind-place.ensures (c.insert.ensures.succeeds (omega (arith, c.in-Ok.ensures.ok))) c.insert.ensures.items in
-    (is_free (record { was = c.self.invariant; shown = c.self.view_is; rows_are = c.rows_of.ensures; looked = c.look-seen.ensures }) c.held_by.result c.as_slice.result.now c.if-seen.false c.if-seen-2.false c.as_slice.ensures.value c.held_by.ensures (omega arith), put.0 ∙ ap (with_lock (record { reference = c.args.r.0; fork = c.args.fork.now; range = c.args.range })) c.self.view_is)
+    (is_free (record { was = c.self.invariant; shown = c.self.view_is; rows_are = c.rows_of.ensures; looked = c.look-seen.ensures }) c.held_by.result c.as_slice.result.now c.if-seen.false c.if-seen-2.false c.as_slice.ensures.value c.held_by.ensures (omega arith), put.0 ∙ ap (with_fork_lock (record { reference = c.args.r.0; fork = c.args.fork.now; range = c.args.range })) c.self.view_is)
