@@ -53,7 +53,7 @@ pub record IsAnswer (kind bits : ℕ) (v : Values) : Type 0 where
   pub typed : AllByRecursion (λ r. IsTyped r.1) (rows v)
 
 -- The bytes begin with the first `count` parts of the values' block, which end at the place `at`.
-pub record Begins (bits : ℕ) (v : Values) (count : ℕ) (bytes : List ℕ) (at : ℕ) : Type 0 where
+pub record BeginsBlock (bits : ℕ) (v : Values) (count : ℕ) (bytes : List ℕ) (at : ℕ) : Type 0 where
   pub rest : List ℕ
   pub front_is : bytes ≡ concat (take count (parts (asked bits v))) ++ rest
   pub at_is : at ≡ length (concat (take count (parts (asked bits v))))
@@ -63,9 +63,9 @@ pub record BreaksAt (kind bits : ℕ) (bytes : List ℕ) (at : ℕ) : Type 0 whe
   pub count : ℕ
   pub values : Values
   pub answer : IsAnswer kind bits values
-  pub up_to : Begins bits values count bytes at
-  pub no_further : (w : Values) (end : ℕ) → IsAnswer kind bits w → Begins bits w (count + 1) bytes end → ⊥
-  pub one_place : (w : Values) (end : ℕ) → IsAnswer kind bits w → Begins bits w count bytes end → end ≡ at
+  pub up_to : BeginsBlock bits values count bytes at
+  pub no_further : (w : Values) (end : ℕ) → IsAnswer kind bits w → BeginsBlock bits w (count + 1) bytes end → ⊥
+  pub one_place : (w : Values) (end : ℕ) → IsAnswer kind bits w → BeginsBlock bits w count bytes end → end ≡ at
 
 -- At this place some values' block ends, and bytes remain; no other values' block ends elsewhere (this profile).
 pub record EndsAt (kind bits : ℕ) (bytes : List ℕ) (at : ℕ) : Type 0 where

@@ -8,10 +8,10 @@ use Rattle.afp_base.specs.Bytes.{IsBytes}
 use Rattle.afp_requests.specs.Laws.{BeginsWithNoCommand, BeginsWithCommand, IsFunction, SpeltCanBeWritten, UnknownIsNotSpelt}
 use Rattle.afp_requests.specs.Spelt.{is_command, readers, spelt_call}
 use Rattle.afp_fields.specs.Input.{Input}
-use Rattle.afp_calls.specs.Answer.{IsMisspelt, IsAnswer, IsRefused}
+use Rattle.afp_calls.specs.Answer.{IsMisspelt, IsReadAnswer, IsReadRefusal}
 use Rattle.afp_calls.specs.lemma.Known.{Knows}
 
-pub answer_read : (block : List ℕ) (enclosed : Option (List ℕ)) (result : Result Call ReadFault) → IsAnswer block enclosed result → (call : Call) → spelt_call block enclosed ≡ Some call → MatchResult result (λ c. c ≡ call) (λ fault. fault ≡ faults.Memory)
+pub answer_read : (block : List ℕ) (enclosed : Option (List ℕ)) (result : Result Call ReadFault) → IsReadAnswer block enclosed result → (call : Call) → spelt_call block enclosed ≡ Some call → MatchResult result (λ c. c ≡ call) (λ fault. fault ≡ faults.Memory)
 answer_read block enclosed (Ok c) h call e = let spelt = h.spelt in cc
 answer_read block enclosed (Err faults.NotSupported) h call e = let spelt = h.spelt in cc
 answer_read block enclosed (Err faults.Param) h call e = let spelt = h.spelt in cc
@@ -21,13 +21,13 @@ not_both : (block : List ℕ) → BeginsWithNoCommand block → BeginsWithComman
 not_both [] unknown h = unknown
 not_both (n ∷ bytes) unknown h = cc
 
-pub answer_unknown : UnknownIsNotSpelt → (block : List ℕ) (enclosed : Option (List ℕ)) (result : Result Call ReadFault) → IsAnswer block enclosed result → BeginsWithNoCommand block → IsRefused result faults.NotSupported
+pub answer_unknown : UnknownIsNotSpelt → (block : List ℕ) (enclosed : Option (List ℕ)) (result : Result Call ReadFault) → IsReadAnswer block enclosed result → BeginsWithNoCommand block → IsReadRefusal result faults.NotSupported
 answer_unknown law block enclosed (Ok c) h first = let spelt = h.spelt in let none = law block enclosed first in cc
 answer_unknown law block enclosed (Err faults.NotSupported) h first = inl refl
 answer_unknown law block enclosed (Err faults.Param) h first = absurd (not_both block first h.first)
 answer_unknown law block enclosed (Err faults.Memory) h first = inr refl
 
-pub answer_misspelt : (block : List ℕ) (enclosed : Option (List ℕ)) (result : Result Call ReadFault) → IsAnswer block enclosed result → BeginsWithCommand block → spelt_call block enclosed ≡ None → IsRefused result faults.Param
+pub answer_misspelt : (block : List ℕ) (enclosed : Option (List ℕ)) (result : Result Call ReadFault) → IsReadAnswer block enclosed result → BeginsWithCommand block → spelt_call block enclosed ≡ None → IsReadRefusal result faults.Param
 answer_misspelt block enclosed (Ok c) h first e = let spelt = h.spelt in cc
 answer_misspelt block enclosed (Err faults.NotSupported) h first e = absurd (not_both block h.first first)
 answer_misspelt block enclosed (Err faults.Param) h first e = inl refl
@@ -40,7 +40,7 @@ empty_misspelt (n ∷ bytes) enclosed h = absurd (let none : length (n ∷ bytes
 
 -- what the reader of the block's first byte finds is what the block spells
 knows_answer : IsFunction → SpeltCanBeWritten → UnknownIsNotSpelt → (n : ℕ) (bytes : List ℕ) (enclosed : Option (List ℕ)) (result : Result Call ReadFault) → IsBytes (n ∷ bytes)
-    → Knows readers n (record { bytes = n ∷ bytes; place = 1; enclosed = enclosed }) result → IsAnswer (n ∷ bytes) enclosed result
+    → Knows readers n (record { bytes = n ∷ bytes; place = 1; enclosed = enclosed }) result → IsReadAnswer (n ∷ bytes) enclosed result
 unfolding spelt_call is_command
 knows_answer function written unknown n bytes enclosed (Ok c) small h =
     let spells = (function (n ∷ bytes) enclosed c).0 h.1 in
@@ -50,7 +50,7 @@ knows_answer function written unknown n bytes enclosed (Err faults.NotSupported)
 knows_answer function written unknown n bytes enclosed (Err faults.Memory) small h = tt
 
 pub block_answer : IsFunction → SpeltCanBeWritten → UnknownIsNotSpelt → (block : List ℕ) (enclosed : Option (List ℕ)) (n : ℕ) (f : Input) (result : Result Call ReadFault) → IsBytes block → (length block == 0) ≡ false → n ≡ get_or block 0 0
-    → f ≡ record { bytes = block; place = 1; enclosed = enclosed } → Knows readers n f result → IsAnswer block enclosed result
+    → f ≡ record { bytes = block; place = 1; enclosed = enclosed } → Knows readers n f result → IsReadAnswer block enclosed result
 block_answer function written unknown [] enclosed n f result small some first at h = absurd cc
 block_answer function written unknown (b ∷ bytes) enclosed n f result small some first at h =
     let here : Knows readers b (record { bytes = b ∷ bytes; place = 1; enclosed = enclosed }) result = subst (λ (m : ℕ). Knows readers m (record { bytes = b ∷ bytes; place = 1; enclosed = enclosed }) result) first (subst (λ (g : Input). Knows readers n g result) at h) in

@@ -24,13 +24,13 @@ pub record IsMisspelt (block : List ℕ) (enclosed : Option (List ℕ)) : Type 0
   pub spelt : spelt_call block enclosed ≡ None
 
 -- exactly one of these holds of a block and data; want of memory may take the place of each
-abbrev pub IsAnswer : List ℕ → Option (List ℕ) → Result Call ReadFault → Type 0
-IsAnswer block enclosed (Ok call) = IsRequest block enclosed call
-IsAnswer block enclosed (Err faults.NotSupported) = IsUnknown block enclosed
-IsAnswer block enclosed (Err faults.Param) = IsMisspelt block enclosed
-IsAnswer block enclosed (Err faults.Memory) = Unit {0}
+abbrev pub IsReadAnswer : List ℕ → Option (List ℕ) → Result Call ReadFault → Type 0
+IsReadAnswer block enclosed (Ok call) = IsRequest block enclosed call
+IsReadAnswer block enclosed (Err faults.NotSupported) = IsUnknown block enclosed
+IsReadAnswer block enclosed (Err faults.Param) = IsMisspelt block enclosed
+IsReadAnswer block enclosed (Err faults.Memory) = Unit {0}
 
 -- the answer is this fault, or there is no memory
-abbrev pub IsRefused : Result Call ReadFault → ReadFault → Type 0
-IsRefused (Ok call) fault = ⊥
-IsRefused (Err found) fault = (found ≡ fault) ⊎ (found ≡ faults.Memory)
+abbrev pub IsReadRefusal : Result Call ReadFault → ReadFault → Type 0
+IsReadRefusal (Ok call) fault = ⊥
+IsReadRefusal (Err found) fault = (found ≡ fault) ⊎ (found ≡ faults.Memory)

@@ -5,7 +5,7 @@ ghost use Rattle.afp_requests.specs.declared.call.Call.{Call};
 ghost use Rattle.afp_requests.specs.declared.call.ReadFault.{ReadFault};
 ghost use Rattle.afp_requests.specs.Laws.{BeginsWithCommand, BeginsWithNoCommand};
 ghost use Rattle.afp_requests.specs.Spelt.{is_command, readers, spelt_call};
-ghost use Rattle.afp_calls.specs.Answer.{IsAnswer, IsRefused};
+ghost use Rattle.afp_calls.specs.Answer.{IsReadAnswer, IsReadRefusal};
 ghost use Rattle.afp_calls.specs.lemma.Known.{Knows};
 
 use afp_desktop_calls::{is_desktop_call, read_desktop_call};
@@ -38,23 +38,23 @@ pub fn is_command(number: u8) -> bool
 /// the block's first byte is no command, `Param` exactly where there is no first byte or the command
 /// is spelt otherwise.
 pub fn read_call(alloc: Global, block: &[u8], enclosed: Option<&[u8]>) -> Result<Call, ReadFault>
-    ensures answer { IsAnswer block.now (option_copied enclosed.entry) result }
+    ensures answer { IsReadAnswer block.now (option_copied enclosed.entry) result }
 
     // What is spelt is read, unless memory runs out.
     ensures read { (call : Call) → spelt_call block.now (option_copied enclosed.entry) ≡ Some call
         → MatchResult result (λ c. c ≡ call) (λ fault. fault ≡ ReadFault.Memory) }
 
     // What is not spelt is refused: as an unknown command, or as a known one or none.
-    ensures unknown { BeginsWithNoCommand block.now → IsRefused result ReadFault.NotSupported }
+    ensures unknown { BeginsWithNoCommand block.now → IsReadRefusal result ReadFault.NotSupported }
     ensures misspelt { BeginsWithCommand block.now → spelt_call block.now (option_copied enclosed.entry) ≡ None
-        → IsRefused result ReadFault.Param }
+        → IsReadRefusal result ReadFault.Param }
 {
     one_request_for_each();
     read(alloc, block, enclosed)
 }
 
 fn read(alloc: Global, block: &[u8], enclosed: Option<&[u8]>) -> Result<Call, ReadFault>
-    ensures { IsAnswer block.now (option_copied enclosed.entry) result }
+    ensures { IsReadAnswer block.now (option_copied enclosed.entry) result }
 {
     one_request_for_each();
     what_is_spelt_can_be_written();

@@ -14,18 +14,18 @@ use Rattle.afp_replies.specs.declared.reply.Reply.{Reply}
 use Rattle.afp_replies.specs.declared.reply.Reply.TheVariants as replies
 use Rattle.afp_replies.specs.declared.reply.ReplyKind.{ReplyKind}
 use Rattle.afp_replies.specs.declared.volumes.VolumeEntry.{VolumeEntry}
-use Rattle.afp_replies.specs.Layout.{Layout, Is, Has}
+use Rattle.afp_replies.specs.Layout.{ReplyLayout, Is, Has}
 use Rattle.afp_replies.specs.Layouts as layouts
 use Rattle.afp_replies.specs.Layouts.{optional, mapped}
-use Rattle.afp_replies.specs.Commands.{shape_of, layout_of, denied, ended, reply_layout}
+use Rattle.afp_replies.specs.Commands.{shape_of, reply_layout_of, denied, ended, reply_layout}
 use Rattle.afp_replies.specs.Replies.{Shows, layout_for}
-use Rattle.afp_replies.specs.Requested.{FitsRequest, IsAsked, IsDenied, IsEnded, IsTold, is_data, is_opened, list_shape, tells_nothing, values_shape}
+use Rattle.afp_replies.specs.Requested.{FitsRequest, IsAsked, IsDenied, IsEnded, IsTold, is_data, is_opened_shape, list_shape, tells_nothing, values_shape}
 use Rattle.afp_replies.proofs.Again.{holds_optional, holds_text, row_of_volumes, row_of_entries, node_layout, good_reply}
 
 asked_list : (wide : Bool) (kind : ReplyKind) (r : Reply) (b : List ℕ) → Has (layouts.list wide kind.bits kind.dir_bits) r b → IsAsked (list_shape wide) kind r
 asked_list wide kind r b h =
     let count = h.behind.behind in
-    let next : List ListEntry → Layout = λ rows. Is (replies.List wide kind.bits kind.dir_bits rows) in
+    let next : List ListEntry → ReplyLayout = λ rows. Is (replies.List wide kind.bits kind.dir_bits rows) in
     let row = row_of_entries wide kind.bits kind.dir_bits count.value [] next r count.rest count.behind in
     subst (IsAsked (list_shape wide) kind) (sym row.behind.0) (refl, refl, refl)
 
@@ -42,7 +42,7 @@ asked_file kind (kinds.Dir v) e = absurd (omega arith)
 asked_server_params : (kind : ReplyKind) (r : Reply) (b : List ℕ) → Has layouts.server_params r b → IsAsked shapes.ServerParams kind r
 asked_server_params kind r b h =
     let count = h.behind in
-    let next : List VolumeEntry → Layout = λ all. Is (replies.ServerParams (cast_signed w32 h.value) all) in
+    let next : List VolumeEntry → ReplyLayout = λ all. Is (replies.ServerParams (cast_signed w32 h.value) all) in
     let row = row_of_volumes count.value [] next r count.rest count.behind in
     subst (IsAsked shapes.ServerParams kind) (sym row.behind.0) refl
 
@@ -54,7 +54,7 @@ asked_file_dir_params : (kind : ReplyKind) (r : Reply) (b : List ℕ) → Has (l
 asked_file_dir_params kind r b h =
     let flag = h.behind.behind in
     let gap = flag.behind in
-    let p = subst (λ (l : Layout). Has l r gap.rest) (node_layout flag.value kind.bits kind.dir_bits) gap.behind in
+    let p = subst (λ (l : ReplyLayout). Has l r gap.rest) (node_layout flag.value kind.bits kind.dir_bits) gap.behind in
     subst (IsAsked shapes.FileDirParams kind) (sym p.3) (refl, refl, refl)
 
 asked_user_info : (kind : ReplyKind) (r : Reply) (b : List ℕ) → Has (layouts.user_info kind.bits) r b → IsAsked shapes.UserInfo kind r
@@ -68,11 +68,11 @@ asked_message : (kind : ReplyKind) (r : Reply) (b : List ℕ) → Has (layouts.m
 asked_message kind r b h =
     let bits : ℕ = kind.bits in
     let gap = h.behind in
-    let next : Option (List ℕ) → Layout = λ text. Is (replies.Message h.value bits text) in
+    let next : Option (List ℕ) → ReplyLayout = λ text. Is (replies.Message h.value bits text) in
     let text = holds_text (is_asked bits 1) (is_asked bits 0) next r gap.rest gap.behind in
     subst (IsAsked shapes.Message kind) (sym text.behind.0) (refl, refl)
 
-asked : (shape : Shape) (kind : ReplyKind) (r : Reply) (b : List ℕ) → Has (layout_of shape kind) r b → IsAsked shape kind r
+asked : (shape : Shape) (kind : ReplyKind) (r : Reply) (b : List ℕ) → Has (reply_layout_of shape kind) r b → IsAsked shape kind r
 asked shapes.Unlisted kind r b h = absurd h
 asked shapes.Empty kind r b h = subst (IsAsked shapes.Empty kind) (sym h.0) refl
 asked shapes.Start kind r b h = subst (IsAsked shapes.Start kind) (sym h.behind.0) refl
@@ -120,7 +120,7 @@ what_is_shown_to_a_request r kind code b h = record { fits = (good_reply (shape_
 
 -- ---- refusals that tell nothing
 
-nothing_denied : (shape : Shape) (kind : ReplyKind) → not (is_opened shape) ≡ true → IsDenied shape kind replies.Empty
+nothing_denied : (shape : Shape) (kind : ReplyKind) → not (is_opened_shape shape) ≡ true → IsDenied shape kind replies.Empty
 nothing_denied shapes.Opened kind e = absurd (cc)
 nothing_denied shape kind e = refl
 

@@ -21,10 +21,10 @@ use Rattle.afp_replies.specs.Bytes as bytes
 use Rattle.afp_replies.specs.Bytes.{width, with_count, flag_of}
 use Rattle.afp_replies.specs.Entry.{is_dir, bits_for, kind_for, entry_bytes, FitsEntry}
 use Rattle.afp_replies.specs.Words.{Number, Exactly, Asked, Raw, Pad, Counted, Flag, Entry}
-use Rattle.afp_replies.specs.Layout.{Layout, Is, Then, Has}
+use Rattle.afp_replies.specs.Layout.{ReplyLayout, Is, Then, Has}
 use Rattle.afp_replies.specs.Layouts as layouts
 use Rattle.afp_replies.specs.Layouts.{optional, optional_text, volumes, volume, entries}
-use Rattle.afp_replies.specs.Commands.{rows, shape_in, shape_of, layout_of, denied, ended, reply_layout}
+use Rattle.afp_replies.specs.Commands.{rows, shape_in, shape_of, reply_layout_of, denied, ended, reply_layout}
 use Rattle.afp_replies.specs.Fitting.{FitsReply, FitsOptional, FitsText, FitsVolume, FitsList}
 use Rattle.afp_replies.specs.Replies.{IsShown, Shows, canonical_reply, layout_for, volume_bytes, message_bytes}
 use Rattle.afp_replies.specs.Requested.{FitsRequest, IsAsked, IsDenied, IsEnded, IsTold, list_shape}
@@ -135,14 +135,14 @@ command_66 = refl
 
 -- ---- parts
 
-shown_optional : (asked : Bool) (next : Option ℕ → Layout) (r : Reply) (x : Option ℕ) (more : List ℕ) → FitsOptional asked x → Has (next x) r more → Has (optional asked next) r (bytes.optional x ++ more)
+shown_optional : (asked : Bool) (next : Option ℕ → ReplyLayout) (r : Reply) (x : Option ℕ) (more : List ℕ) → FitsOptional asked x → Has (next x) r more → Has (optional asked next) r (bytes.optional_bytes x ++ more)
 unfolding optional
-shown_optional true next r (Some x) more f h = put_front (Number 4) _ x (bytes.u32 x) more (f, refl) h
+shown_optional true next r (Some x) more f h = put_front (Number 4) _ x (bytes.u32_bytes x) more (f, refl) h
 shown_optional true next r None more f h = absurd f
 shown_optional false next r (Some x) more f h = absurd f
 shown_optional false next r None more f h = h
 
-shown_text : (wide asked : Bool) (next : Option (List ℕ) → Layout) (r : Reply) (x : Option (List ℕ)) (more : List ℕ) → FitsText wide asked x → Has (next x) r more
+shown_text : (wide asked : Bool) (next : Option (List ℕ) → ReplyLayout) (r : Reply) (x : Option (List ℕ)) (more : List ℕ) → FitsText wide asked x → Has (next x) r more
     → Has (optional_text wide asked next) r (message_bytes wide x ++ more)
 unfolding optional_text
 shown_text wide true next r (Some x) more f h = put_front (Counted (width wide)) _ x (with_count (width wide) x) more (f, refl) h
@@ -150,69 +150,69 @@ shown_text wide true next r None more f h = absurd f
 shown_text wide false next r (Some x) more f h = absurd f
 shown_text wide false next r None more f h = h
 
-shown_volumes : (all before : List VolumeEntry) (next : List VolumeEntry → Layout) (r : Reply) (more : List ℕ) → AllByRecursion FitsVolume all → Has (next (before ++ all)) r more
+shown_volumes : (all before : List VolumeEntry) (next : List VolumeEntry → ReplyLayout) (r : Reply) (more : List ℕ) → AllByRecursion FitsVolume all → Has (next (before ++ all)) r more
     → Has (volumes (length all) before next) r (concat (map volume_bytes all) ++ more)
-shown_volumes [] before next r more f h = subst (λ (l : Layout). Has l r more) (ap next (append-nil before) ∙ sym (volumes_zero before next)) h
+shown_volumes [] before next r more f h = subst (λ (l : ReplyLayout). Has l r more) (ap next (append-nil before) ∙ sym (volumes_zero before next)) h
 shown_volumes (v ∷ all) before next r more f h =
     let back = shown_volumes all (before ++ (v ∷ [])) next r more f.1 (subst (λ (x : List VolumeEntry). Has (next x) r more) (sym (with_more before v all)) h) in
     let tail : List ℕ = concat (map volume_bytes all) in
-    let bytes_are : bytes.u8 v.flags ++ (with_count 1 v.name ++ (tail ++ more)) ≡ (volume_bytes v ++ tail) ++ more =
-    sym (append_assoc (bytes.u8 v.flags) (with_count 1 v.name) (tail ++ more)) ∙ sym (append_assoc (volume_bytes v) tail more) in
-    subst (λ (l : Layout). Has l r ((volume_bytes v ++ tail) ++ more)) (sym (volumes_suc (length all) before next))
+    let bytes_are : bytes.u8_bytes v.flags ++ (with_count 1 v.name ++ (tail ++ more)) ≡ (volume_bytes v ++ tail) ++ more =
+    sym (append_assoc (bytes.u8_bytes v.flags) (with_count 1 v.name) (tail ++ more)) ∙ sym (append_assoc (volume_bytes v) tail more) in
+    subst (λ (l : ReplyLayout). Has l r ((volume_bytes v ++ tail) ++ more)) (sym (volumes_suc (length all) before next))
     (subst (Has (volume (λ x. volumes (length all) (before ++ (x ∷ [])) next)) r) bytes_are
-    (put_front (Number 1) _ v.flags (bytes.u8 v.flags) _ (f.0.0, refl) (put_front (Counted 1) _ v.name (with_count 1 v.name) _ (f.0.1, refl) back)))
+    (put_front (Number 1) _ v.flags (bytes.u8_bytes v.flags) _ (f.0.0, refl) (put_front (Counted 1) _ v.name (with_count 1 v.name) _ (f.0.1, refl) back)))
 
-shown_entries : (wide : Bool) (fb db : ℕ) (all before : List ListEntry) (next : List ListEntry → Layout) (r : Reply) (more : List ℕ) → AllByRecursion (FitsEntry wide fb db) all
+shown_entries : (wide : Bool) (fb db : ℕ) (all before : List ListEntry) (next : List ListEntry → ReplyLayout) (r : Reply) (more : List ℕ) → AllByRecursion (FitsEntry wide fb db) all
     → Has (next (before ++ all)) r more → Has (entries wide fb db (length all) before next) r (concat (map (entry_bytes wide fb db) all) ++ more)
-shown_entries wide fb db [] before next r more f h = subst (λ (l : Layout). Has l r more) (ap next (append-nil before) ∙ sym (entries_zero wide fb db before next)) h
+shown_entries wide fb db [] before next r more f h = subst (λ (l : ReplyLayout). Has l r more) (ap next (append-nil before) ∙ sym (entries_zero wide fb db before next)) h
 shown_entries wide fb db (e ∷ all) before next r more f h =
     let back = shown_entries wide fb db all (before ++ (e ∷ [])) next r more f.1 (subst (λ (x : List ListEntry). Has (next x) r more) (sym (with_more before e all)) h) in
     let tail : List ℕ = concat (map (entry_bytes wide fb db) all) in
     let bytes_are : entry_bytes wide fb db e ++ (tail ++ more) ≡ (entry_bytes wide fb db e ++ tail) ++ more = sym (append_assoc (entry_bytes wide fb db e) tail more) in
-    subst (λ (l : Layout). Has l r ((entry_bytes wide fb db e ++ tail) ++ more)) (sym (entries_suc wide fb db (length all) before next))
+    subst (λ (l : ReplyLayout). Has l r ((entry_bytes wide fb db e ++ tail) ++ more)) (sym (entries_suc wide fb db (length all) before next))
     (subst (Has (Then (Entry wide fb db) (λ x. entries wide fb db (length all) (before ++ (x ∷ [])) next)) r) bytes_are
     (put_front (Entry wide fb db) _ e (entry_bytes wide fb db e) _ (entry_spelt wide fb db e f.0) back))
 
 -- ---- replies
 
 -- at the shape, and at the bits, that the request has
-at_shape : (shape want : Shape) (kind : ReplyKind) (r : Reply) (b : List ℕ) → shape ≡ want → Has (layout_of want kind) r b → Has (layout_of shape kind) r b
-at_shape shape want kind r b e h = subst (λ (s : Shape). Has (layout_of s kind) r b) (sym e) h
+at_shape : (shape want : Shape) (kind : ReplyKind) (r : Reply) (b : List ℕ) → shape ≡ want → Has (reply_layout_of want kind) r b → Has (reply_layout_of shape kind) r b
+at_shape shape want kind r b e h = subst (λ (s : Shape). Has (reply_layout_of s kind) r b) (sym e) h
 
-at_bits : (layout : ℕ → Layout) (bits asked : ℕ) (r : Reply) (b : List ℕ) → bits ≡ asked → Has (layout bits) r b → Has (layout asked) r b
+at_bits : (layout : ℕ → ReplyLayout) (bits asked : ℕ) (r : Reply) (b : List ℕ) → bits ≡ asked → Has (layout bits) r b → Has (layout asked) r b
 at_bits layout bits asked r b e h = subst (λ (x : ℕ). Has (layout x) r b) e h
 
 has_list : (wide : Bool) (fb db : ℕ) (all : List ListEntry) → FitsList wide fb db all
     → Has (layouts.list wide fb db) (replies.List wide fb db all)
-    (bytes.u16 fb ++ (bytes.u16 db ++ (bytes.u16 (length all) ++ (concat (map (entry_bytes wide fb db) all) ++ []))))
+    (bytes.u16_bytes fb ++ (bytes.u16_bytes db ++ (bytes.u16_bytes (length all) ++ (concat (map (entry_bytes wide fb db) all) ++ []))))
 has_list wide fb db all f =
-    put_front (Asked _ fb) _ tt (bytes.u16 fb) _ (f.file, refl) (put_front (Asked _ db) _ tt (bytes.u16 db) _ (f.dir, refl)
-    (put_front (Number 2) _ (length all) (bytes.u16 (length all)) _ (f.few, refl)
+    put_front (Asked _ fb) _ tt (bytes.u16_bytes fb) _ (f.file, refl) (put_front (Asked _ db) _ tt (bytes.u16_bytes db) _ (f.dir, refl)
+    (put_front (Number 2) _ (length all) (bytes.u16_bytes (length all)) _ (f.few, refl)
     (shown_entries wide fb db all [] (λ rows. Is (replies.List wide fb db rows)) (replies.List wide fb db all) [] f.each (refl, refl))))
 
 list_bytes : (wide : Bool) (fb db : ℕ) (all : List ListEntry)
-    → bytes.u16 fb ++ (bytes.u16 db ++ (bytes.u16 (length all) ++ (concat (map (entry_bytes wide fb db) all) ++ []))) ≡ canonical_reply (replies.List wide fb db all)
-list_bytes wide fb db all = ap (λ (x : List ℕ). bytes.u16 fb ++ (bytes.u16 db ++ (bytes.u16 (length all) ++ x))) (append-nil (concat (map (entry_bytes wide fb db) all)))
+    → bytes.u16_bytes fb ++ (bytes.u16_bytes db ++ (bytes.u16_bytes (length all) ++ (concat (map (entry_bytes wide fb db) all) ++ []))) ≡ canonical_reply (replies.List wide fb db all)
+list_bytes wide fb db all = ap (λ (x : List ℕ). bytes.u16_bytes fb ++ (bytes.u16_bytes db ++ (bytes.u16_bytes (length all) ++ x))) (append-nil (concat (map (entry_bytes wide fb db) all)))
 
-list_layout : (wide : Bool) (fb db : ℕ) (kind : ReplyKind) → fb ≡ kind.bits → db ≡ kind.dir_bits → layouts.list wide fb db ≡ layout_of (list_shape wide) kind
+list_layout : (wide : Bool) (fb db : ℕ) (kind : ReplyKind) → fb ≡ kind.bits → db ≡ kind.dir_bits → layouts.list wide fb db ≡ reply_layout_of (list_shape wide) kind
 list_layout true fb db kind e d = ap (λ (x : ℕ). layouts.list true x db) e ∙ ap (λ (x : ℕ). layouts.list true kind.bits x) d
 list_layout false fb db kind e d = ap (λ (x : ℕ). layouts.list false x db) e ∙ ap (λ (x : ℕ). layouts.list false kind.bits x) d
 
 has_list_of : (wide : Bool) (fb db : ℕ) (all : List ListEntry) (shape : Shape) (kind : ReplyKind) → FitsList wide fb db all → IsAsked shape kind (replies.List wide fb db all)
-    → Has (layout_of shape kind) (replies.List wide fb db all) (canonical_reply (replies.List wide fb db all))
+    → Has (reply_layout_of shape kind) (replies.List wide fb db all) (canonical_reply (replies.List wide fb db all))
 has_list_of wide fb db all shape kind f is =
     at_shape shape (list_shape wide) kind _ _ is.0
-    (subst (λ (l : Layout). Has l (replies.List wide fb db all) (canonical_reply (replies.List wide fb db all))) (list_layout wide fb db kind is.1 is.2)
+    (subst (λ (l : ReplyLayout). Has l (replies.List wide fb db all) (canonical_reply (replies.List wide fb db all))) (list_layout wide fb db kind is.1 is.2)
     (subst (Has (layouts.list wide fb db) (replies.List wide fb db all)) (list_bytes wide fb db all) (has_list wide fb db all f)))
 
 has_name : (wide : Bool) (name : List ℕ) → length name < 256 ^ width wide → Has (layouts.name wide) (replies.MappedName wide name) (with_count (width wide) name ++ [])
 has_name wide name f = put_front (Counted (width wide)) _ name (with_count (width wide) name) [] (f, refl) (refl, refl)
 
-has_block : (kind bits : ℕ) (v : Values) → IsWithin (mask_of kind) bits → IsAnswer kind bits v → Has (layouts.params kind bits) (replies.Params bits v) (bytes.u16 bits ++ (params bits v ++ []))
-has_block kind bits v w a = put_front (Asked (mask_of kind) bits) _ tt (bytes.u16 bits) _ (w, refl) (has_params kind bits (λ x. replies.Params bits x) v a)
+has_block : (kind bits : ℕ) (v : Values) → IsWithin (mask_of kind) bits → IsAnswer kind bits v → Has (layouts.params kind bits) (replies.Params bits v) (bytes.u16_bytes bits ++ (params bits v ++ []))
+has_block kind bits v w a = put_front (Asked (mask_of kind) bits) _ tt (bytes.u16_bytes bits) _ (w, refl) (has_params kind bits (λ x. replies.Params bits x) v a)
 
 has_block_of : (bits : ℕ) (v : Values) (shape : Shape) (kind : ReplyKind) → FitsReply (replies.Params bits v) → IsAsked shape kind (replies.Params bits v)
-    → Has (layout_of shape kind) (replies.Params bits v) (canonical_reply (replies.Params bits v))
+    → Has (reply_layout_of shape kind) (replies.Params bits v) (canonical_reply (replies.Params bits v))
 has_block_of bits (kinds.Volume v) shape kind f is =
     at_shape shape shapes.VolumeParams kind _ _ is.0 (at_bits (layouts.params 0) bits kind.bits _ _ is.1 (has_block 0 bits (kinds.Volume v) f.1.within f.1.answer))
 has_block_of bits (kinds.File v) shape kind f is =
@@ -225,65 +225,65 @@ has_server_params time all f =
     let t : ℕ = cast_unsigned w32 time in
     let back : cast_signed w32 t ≡ time = date_again time f.0 in
     let small : t < 256 ^ 4 = (let lt : t < 2 ^ 32 = date_lt time f.0 in omega arith) in
-    subst (λ (x : List ℕ). Has layouts.server_params (replies.ServerParams time all) (bytes.u32 t ++ (bytes.u8 (length all) ++ x))) (append-nil (concat (map volume_bytes all)))
-    (put_front (Number 4) _ t (bytes.u32 t) _ (small, refl) (put_front (Number 1) _ (length all) (bytes.u8 (length all)) _ (f.1, refl)
+    subst (λ (x : List ℕ). Has layouts.server_params (replies.ServerParams time all) (bytes.u32_bytes t ++ (bytes.u8_bytes (length all) ++ x))) (append-nil (concat (map volume_bytes all)))
+    (put_front (Number 4) _ t (bytes.u32_bytes t) _ (small, refl) (put_front (Number 1) _ (length all) (bytes.u8_bytes (length all)) _ (f.1, refl)
     (shown_volumes all [] (λ x. Is (replies.ServerParams (cast_signed w32 t) x)) (replies.ServerParams time all) [] f.2 (ap (λ z. replies.ServerParams z all) (sym back), refl))))
 
 has_file_dir_params : (fb db : ℕ) (v : Values) → FitsReply (replies.FileDirParams fb db v)
     → Has (layouts.file_dir_params fb db) (replies.FileDirParams fb db v) (canonical_reply (replies.FileDirParams fb db v))
 has_file_dir_params fb db v f =
     let dir : Bool = is_dir v in
-    put_front (Asked _ fb) _ tt (bytes.u16 fb) _ (f.0, refl) (put_front (Asked _ db) _ tt (bytes.u16 db) _ (f.1, refl)
-    (put_front Flag _ dir (flag_of dir ∷ []) _ refl (put_front Pad _ tt bytes.pad _ refl
-    (subst (λ (l : Layout). Has l (replies.FileDirParams fb db v) (params (bits_for dir fb db) v ++ [])) (sym (node_layout dir fb db))
+    put_front (Asked _ fb) _ tt (bytes.u16_bytes fb) _ (f.0, refl) (put_front (Asked _ db) _ tt (bytes.u16_bytes db) _ (f.1, refl)
+    (put_front Flag _ dir (flag_of dir ∷ []) _ refl (put_front Pad _ tt bytes.pad_byte _ refl
+    (subst (λ (l : ReplyLayout). Has l (replies.FileDirParams fb db v) (params (bits_for dir fb db) v ++ [])) (sym (node_layout dir fb db))
     (has_params (kind_for dir) (bits_for dir fb db) (λ x. replies.FileDirParams fb db x) v f.2)))))
 
 has_user_info : (bits : ℕ) (id group : Option ℕ) → FitsReply (replies.UserInfo bits id group)
     → Has (layouts.user_info bits) (replies.UserInfo bits id group) (canonical_reply (replies.UserInfo bits id group))
 has_user_info bits id group f =
-    put_front (Asked _ bits) _ tt (bytes.u16 bits) _ (f.0, refl)
+    put_front (Asked _ bits) _ tt (bytes.u16_bytes bits) _ (f.0, refl)
     (shown_optional (is_asked bits 0) (λ x. optional (is_asked bits 1) (λ y. Is (replies.UserInfo bits x y))) (replies.UserInfo bits id group) id _ f.1
     (shown_optional (is_asked bits 1) (λ y. Is (replies.UserInfo bits id y)) (replies.UserInfo bits id group) group [] f.2 (refl, refl)))
 
 has_message : (kind bits : ℕ) (text : Option (List ℕ)) → FitsReply (replies.Message kind bits text)
     → Has (layouts.message bits) (replies.Message kind bits text) (canonical_reply (replies.Message kind bits text))
 has_message kind bits text f =
-    put_front (Number 2) _ kind (bytes.u16 kind) _ (f.0, refl) (put_front (Asked _ bits) _ tt (bytes.u16 bits) _ (f.1, refl)
+    put_front (Number 2) _ kind (bytes.u16_bytes kind) _ (f.0, refl) (put_front (Asked _ bits) _ tt (bytes.u16_bytes bits) _ (f.1, refl)
     (shown_text (is_asked bits 1) (is_asked bits 0) (λ x. Is (replies.Message kind bits x)) (replies.Message kind bits text) text [] f.2 (refl, refl)))
 
 has_opened : (bits : ℕ) (reference : ForkRef) (v : Values) → FitsReply (replies.Opened bits reference v)
     → Has (layouts.opened bits) (replies.Opened bits reference v) (canonical_reply (replies.Opened bits reference v))
 has_opened bits reference v f =
-    put_front (Asked _ bits) _ tt (bytes.u16 bits) _ (f.1.within, refl) (put_front (Number 2) _ reference.0 (bytes.u16 reference.0) _ (f.0, refl)
+    put_front (Asked _ bits) _ tt (bytes.u16_bytes bits) _ (f.1.within, refl) (put_front (Number 2) _ reference.0 (bytes.u16_bytes reference.0) _ (f.0, refl)
     (has_params 1 bits (λ x. replies.Opened bits (record { 0 = reference.0 }) x) v f.1.answer))
 
 has_appl : (bits tag : ℕ) (v : Values) → FitsReply (replies.Appl bits tag v) → Has (layouts.appl bits) (replies.Appl bits tag v) (canonical_reply (replies.Appl bits tag v))
 has_appl bits tag v f =
-    put_front (Asked _ bits) _ tt (bytes.u16 bits) _ (f.1.within, refl) (put_front (Number 4) _ tag (bytes.u32 tag) _ (f.0, refl)
+    put_front (Asked _ bits) _ tt (bytes.u16_bytes bits) _ (f.1.within, refl) (put_front (Number 4) _ tag (bytes.u32_bytes tag) _ (f.0, refl)
     (has_params 1 bits (λ x. replies.Appl bits tag x) v f.1.answer))
 
 has_icon_info : (tag : ℕ) (kind : List ℕ) (icon_kind size : ℕ) → FitsReply (replies.IconInfo tag kind icon_kind size)
     → Has layouts.icon_info (replies.IconInfo tag kind icon_kind size) (canonical_reply (replies.IconInfo tag kind icon_kind size))
 has_icon_info tag kind icon_kind size f =
-    put_front (Number 4) _ tag (bytes.u32 tag) _ (f.0, refl) (put_front (Raw 4) _ kind kind _ (f.1, refl) (put_front (Number 1) _ icon_kind (bytes.u8 icon_kind) _ (f.2, refl)
-    (put_front Pad _ tt bytes.pad _ refl (put_front (Number 2) _ size (bytes.u16 size) [] (f.3, refl) (refl, refl)))))
+    put_front (Number 4) _ tag (bytes.u32_bytes tag) _ (f.0, refl) (put_front (Raw 4) _ kind kind _ (f.1, refl) (put_front (Number 1) _ icon_kind (bytes.u8_bytes icon_kind) _ (f.2, refl)
+    (put_front Pad _ tt bytes.pad_byte _ refl (put_front (Number 2) _ size (bytes.u16_bytes size) [] (f.3, refl) (refl, refl)))))
 
 has_piece : (piece : List ℕ) (b : List ℕ) → b ≡ piece → Has layouts.piece (replies.Piece piece) b
 has_piece piece b e = ap (λ (x : List ℕ). replies.Piece x) (sym e)
 
 has_piece_of : (piece : List ℕ) (shape : Shape) (kind : ReplyKind) → IsAsked shape kind (replies.Piece piece)
-    → Has (layout_of shape kind) (replies.Piece piece) (canonical_reply (replies.Piece piece))
+    → Has (reply_layout_of shape kind) (replies.Piece piece) (canonical_reply (replies.Piece piece))
 has_piece_of piece shape kind (inl e) = at_shape shape shapes.Data kind _ _ e (has_piece piece _ (append-nil piece))
 has_piece_of piece shape kind (inr e) = at_shape shape shapes.Icon kind _ _ e (has_piece piece _ (append-nil piece))
 
 -- what fits, and is asked for, is shown
-has_fields : (r : Reply) (shape : Shape) (kind : ReplyKind) → FitsReply r → IsAsked shape kind r → Has (layout_of shape kind) r (canonical_reply r)
+has_fields : (r : Reply) (shape : Shape) (kind : ReplyKind) → FitsReply r → IsAsked shape kind r → Has (reply_layout_of shape kind) r (canonical_reply r)
 has_fields replies.Empty shape kind f is = at_shape shape shapes.Empty kind _ _ is (refl, refl)
-has_fields (replies.Start x) shape kind f is = at_shape shape shapes.Start kind _ _ is (put_front (Number 4) _ x (bytes.u32 x) [] (f, refl) (refl, refl))
-has_fields (replies.StartExt x) shape kind f is = at_shape shape shapes.StartExt kind _ _ is (put_front (Number 8) _ x (bytes.u64 x) [] (f, refl) (refl, refl))
-has_fields (replies.End x) shape kind f is = at_shape shape shapes.End kind _ _ is (put_front (Number 4) _ x (bytes.u32 x) [] (f, refl) (refl, refl))
-has_fields (replies.EndExt x) shape kind f is = at_shape shape shapes.EndExt kind _ _ is (put_front (Number 8) _ x (bytes.u64 x) [] (f, refl) (refl, refl))
-has_fields (replies.Node id) shape kind f is = at_shape shape shapes.Node kind _ _ is (put_front (Number 4) _ id.0 (bytes.u32 id.0) [] (f, refl) (refl, refl))
+has_fields (replies.Start x) shape kind f is = at_shape shape shapes.Start kind _ _ is (put_front (Number 4) _ x (bytes.u32_bytes x) [] (f, refl) (refl, refl))
+has_fields (replies.StartExt x) shape kind f is = at_shape shape shapes.StartExt kind _ _ is (put_front (Number 8) _ x (bytes.u64_bytes x) [] (f, refl) (refl, refl))
+has_fields (replies.End x) shape kind f is = at_shape shape shapes.End kind _ _ is (put_front (Number 4) _ x (bytes.u32_bytes x) [] (f, refl) (refl, refl))
+has_fields (replies.EndExt x) shape kind f is = at_shape shape shapes.EndExt kind _ _ is (put_front (Number 8) _ x (bytes.u64_bytes x) [] (f, refl) (refl, refl))
+has_fields (replies.Node id) shape kind f is = at_shape shape shapes.Node kind _ _ is (put_front (Number 4) _ id.0 (bytes.u32_bytes id.0) [] (f, refl) (refl, refl))
 has_fields (replies.List wide fb db all) shape kind f is = has_list_of wide fb db all shape kind f is
 has_fields (replies.Params bits v) shape kind f is = has_block_of bits v shape kind f is
 has_fields (replies.Status block) shape kind f is = at_shape shape shapes.Status kind _ _ is (ap (λ (x : List ℕ). replies.Status x) (sym (append-nil block)))
@@ -291,7 +291,7 @@ has_fields (replies.ServerParams time all) shape kind f is = at_shape shape shap
 has_fields (replies.MappedName wide name) shape kind f is =
     at_shape shape shapes.MappedName kind _ _ is.0
     (subst (λ (o : Option Bool). Has (layouts.mapped o) (replies.MappedName wide name) (with_count (width wide) name ++ [])) (sym is.1) (has_name wide name f))
-has_fields (replies.MappedId x) shape kind f is = at_shape shape shapes.MappedId kind _ _ is (put_front (Number 4) _ x (bytes.u32 x) [] (f, refl) (refl, refl))
+has_fields (replies.MappedId x) shape kind f is = at_shape shape shapes.MappedId kind _ _ is (put_front (Number 4) _ x (bytes.u32_bytes x) [] (f, refl) (refl, refl))
 has_fields (replies.Opened bits reference v) shape kind f is =
     at_shape shape shapes.Opened kind _ _ is.0 (at_bits layouts.opened bits kind.bits _ _ is.1 (has_opened bits reference v f))
 has_fields (replies.Piece piece) shape kind f is = has_piece_of piece shape kind is
@@ -303,7 +303,7 @@ has_fields (replies.UserInfo bits id group) shape kind f is =
     at_shape shape shapes.UserInfo kind _ _ is.0 (at_bits layouts.user_info bits kind.bits _ _ is.1 (has_user_info bits id group f))
 has_fields (replies.Message k bits text) shape kind f is =
     at_shape shape shapes.Message kind _ _ is.0 (at_bits layouts.message bits kind.bits _ _ is.1 (has_message k bits text f))
-has_fields (replies.Desk x) shape kind f is = at_shape shape shapes.Desk kind _ _ is (put_front (Number 2) _ x (bytes.u16 x) [] (f, refl) (refl, refl))
+has_fields (replies.Desk x) shape kind f is = at_shape shape shapes.Desk kind _ _ is (put_front (Number 2) _ x (bytes.u16_bytes x) [] (f, refl) (refl, refl))
 has_fields (replies.IconInfo tag k icon_kind size) shape kind f is = at_shape shape shapes.IconInfo kind _ _ is (has_icon_info tag k icon_kind size f)
 has_fields (replies.Appl bits tag v) shape kind f is = at_shape shape shapes.Appl kind _ _ is.0 (at_bits layouts.appl bits kind.bits _ _ is.1 (has_appl bits tag v f))
 has_fields (replies.Comment x) shape kind f is = at_shape shape shapes.Comment kind _ _ is (put_front (Counted 1) _ x (with_count 1 x) [] (f, refl) (refl, refl))
@@ -315,15 +315,15 @@ has_nothing : (r : Reply) → r ≡ replies.Empty → Has layouts.empty r (canon
 has_nothing r e = subst (λ (s : Reply). Has layouts.empty s (canonical_reply s)) (sym e) (refl, refl)
 
 has_denied : (bits : ℕ) (v : Values) → FitsReply (replies.Opened bits (record { 0 = 0 }) v)
-    → Has (layouts.denied bits) (replies.Opened bits (record { 0 = 0 }) v) (canonical_reply (replies.Opened bits (record { 0 = 0 }) v))
+    → Has (layouts.denied_params bits) (replies.Opened bits (record { 0 = 0 }) v) (canonical_reply (replies.Opened bits (record { 0 = 0 }) v))
 has_denied bits v f =
-    put_front (Asked _ bits) _ tt (bytes.u16 bits) _ (f.1.within, refl) (put_front (Exactly 2 0) _ tt (bytes.u16 0) _ refl
+    put_front (Asked _ bits) _ tt (bytes.u16_bytes bits) _ (f.1.within, refl) (put_front (Exactly 2 0) _ tt (bytes.u16_bytes 0) _ refl
     (has_params 1 bits (λ x. replies.Opened bits (record { 0 = 0 }) x) v f.1.answer))
 
 has_denial : (r : Reply) (shape : Shape) (kind : ReplyKind) → FitsReply r → IsDenied shape kind r → Has (denied shape kind) r (canonical_reply r)
 has_denial r shapes.Opened kind f is =
     let s : Reply = replies.Opened kind.bits (record { 0 = 0 }) is.0 in
-    subst (λ (x : Reply). Has (layouts.denied kind.bits) x (canonical_reply x)) (sym is.1) (has_denied kind.bits is.0 (subst FitsReply is.1 f))
+    subst (λ (x : Reply). Has (layouts.denied_params kind.bits) x (canonical_reply x)) (sym is.1) (has_denied kind.bits is.0 (subst FitsReply is.1 f))
 has_denial r shape kind f is = has_nothing r is
 
 has_end : (r : Reply) (shape : Shape) → IsEnded shape r → Has (ended shape) r (canonical_reply r)

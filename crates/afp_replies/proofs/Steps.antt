@@ -3,26 +3,26 @@ use Rattle.std.proofs.Common.{◌≡◌, ℕ, suc, ◌+◌, ◌-◌, ◌≤◌, 
 use Rattle.afp_replies.specs.declared.reply.Reply.{Reply}
 use Rattle.afp_replies.specs.declared.reply.ReplyFault.{ReplyFault}
 use Rattle.afp_replies.specs.declared.reply.ReplyFault.TheVariants.{Bad, Memory}
-use Rattle.afp_replies.specs.Words.{ReplyWord, Number, Counted, Entry, Value}
-use Rattle.afp_replies.specs.Layout.{Layout, Is, Never, Then, Remaining, Params, Has, StopsAt}
+use Rattle.afp_replies.specs.Words.{ReplyWord, Number, Counted, Entry, ReplyValue}
+use Rattle.afp_replies.specs.Layout.{ReplyLayout, Is, Never, Then, Remaining, Params, Has, StopsAt}
 use Rattle.afp_replies.specs.lemma.Reading.{Rest, Took, IsRead, TakesWord, ReadsPart, Ends, TakesParams}
 use Rattle.afp_bitmap.specs.declared.params.Values.{Values}
 use Rattle.afp_replies.specs.declared.list.ListEntry.{ListEntry}
 use Rattle.afp_replies.specs.Layouts.{optional, optional_text, volume, volumes, entries}
 use Rattle.afp_replies.specs.Bytes.{width}
-use Rattle.afp_replies.specs.Replies.{IfBad}
+use Rattle.afp_replies.specs.Replies.{IfBadReply}
 use Rattle.afp_replies.specs.declared.volumes.VolumeEntry.{VolumeEntry}
 
 no_rest : (bytes : List ℕ) → 0 < length bytes → bytes ≡ [] → ⊥
 no_rest bytes lt e = let size : length bytes ≡ 0 = ap (length {A = ℕ}) e in omega arith
 
 -- whoever has the layout from a field on has it behind the field
-behind : (w : ReplyWord) (next : Value w → Layout) (old new : Rest) (x : Value w) (s : Reply) → Took w old x new → Has (Then w next) s old.bytes → Has (next x) s new.bytes
+behind : (w : ReplyWord) (next : ReplyValue w → ReplyLayout) (old new : Rest) (x : ReplyValue w) (s : Reply) → Took w old x new → Has (Then w next) s old.bytes → Has (next x) s new.bytes
 behind w next old new x s t b =
     let p = t.only b.value b.first b.rest b.spelt b.split in
-    subst (λ (y : Value w). Has (next y) s new.bytes) p.0 (subst (λ (r : List ℕ). Has (next b.value) s r) p.1 b.behind)
+    subst (λ (y : ReplyValue w). Has (next y) s new.bytes) p.0 (subst (λ (r : List ℕ). Has (next b.value) s r) p.1 b.behind)
 
-pub goes_on : (w : ReplyWord) (next : Value w → Layout) (old new : Rest) (x : Value w) (res : Result Reply ReplyFault) → Took w old x new → IsRead (next x) new res → IsRead (Then w next) old res
+pub goes_on : (w : ReplyWord) (next : ReplyValue w → ReplyLayout) (old new : Rest) (x : ReplyValue w) (res : Result Reply ReplyFault) → Took w old x new → IsRead (next x) new res → IsRead (Then w next) old res
 unfolding IsRead
 goes_on w next old new x (Ok r) t h = record {
   has = record { value = x; first = t.first; rest = new.bytes; spelt = t.spelt; split = t.split; behind = h.has };
@@ -41,7 +41,7 @@ goes_on w next old new x (Err (Bad at)) t h = record {
   none = λ s b. h.none s (behind w next old new x s t b);
 }
 
-pub stops_here : (w : ReplyWord) (next : Value w → Layout) (old new : Rest) (e : ReplyFault) → TakesWord w old (Err e) new → IsRead (Then w next) old (Err e)
+pub stops_here : (w : ReplyWord) (next : ReplyValue w → ReplyLayout) (old new : Rest) (e : ReplyFault) → TakesWord w old (Err e) new → IsRead (Then w next) old (Err e)
 unfolding IsRead
 stops_here w next old new Memory h = tt
 stops_here w next old new (Bad at) h = record {
@@ -59,7 +59,7 @@ end_stops r here Memory h = absurd h
 end_stops r here (Bad at) h = record { stops = h; none = λ s t. no_rest here.bytes h.0 t.1 }
 
 -- want of memory says nothing of the bytes
-pub no_memory : (l : Layout) (here : Rest) → IsRead l here (Err Memory)
+pub no_memory : (l : ReplyLayout) (here : Rest) → IsRead l here (Err Memory)
 unfolding IsRead
 no_memory l here = tt
 
@@ -97,45 +97,45 @@ unfolding optional_text
 text_none wide old = λ next res h. h
 
 -- volumes, one after the other
-pub volumes_none : (before : List VolumeEntry) (next : List VolumeEntry → Layout) → volumes 0 before next ≡ next before
+pub volumes_none : (before : List VolumeEntry) (next : List VolumeEntry → ReplyLayout) → volumes 0 before next ≡ next before
 unfolding volumes
 volumes_none before next = refl
 
-pub volumes_more : (more : ℕ) (before : List VolumeEntry) (next : List VolumeEntry → Layout)
+pub volumes_more : (more : ℕ) (before : List VolumeEntry) (next : List VolumeEntry → ReplyLayout)
     → volumes (suc more) before next ≡ volume (λ v. volumes more (before ++ (v ∷ [])) next)
 unfolding volumes
 volumes_more more before next = refl
 
 pub volume_read : (count i : ℕ) (before : List VolumeEntry) (old new : Rest) (v : VolumeEntry) → i < count → ReadsPart volume old (Ok v) new
-    → (next : List VolumeEntry → Layout) (res : Result Reply ReplyFault) → IsRead (volumes (count - (i + 1)) (before ++ (v ∷ [])) next) new res → IsRead (volumes (count - i) before next) old res
+    → (next : List VolumeEntry → ReplyLayout) (res : Result Reply ReplyFault) → IsRead (volumes (count - (i + 1)) (before ++ (v ∷ [])) next) new res → IsRead (volumes (count - i) before next) old res
 volume_read count i before old new v lt r next res h =
     let one : count - i ≡ suc (count - (i + 1)) = omega arith in
     rw (one, volumes_more (count - (i + 1)) before next) (r (λ v. volumes (count - (i + 1)) (before ++ (v ∷ [])) next) res h)
 
-pub volume_stops : (count i : ℕ) (before : List VolumeEntry) (old : Rest) (e : ReplyFault) → i < count → ((then : VolumeEntry → Layout) → IsRead (volume then) old (Err e))
-    → (next : List VolumeEntry → Layout) → IsRead (volumes (count - i) before next) old (Err e)
+pub volume_stops : (count i : ℕ) (before : List VolumeEntry) (old : Rest) (e : ReplyFault) → i < count → ((then : VolumeEntry → ReplyLayout) → IsRead (volume then) old (Err e))
+    → (next : List VolumeEntry → ReplyLayout) → IsRead (volumes (count - i) before next) old (Err e)
 volume_stops count i before old e lt r next =
     let one : count - i ≡ suc (count - (i + 1)) = omega arith in
     rw (one, volumes_more (count - (i + 1)) before next) (r (λ v. volumes (count - (i + 1)) (before ++ (v ∷ [])) next))
 
-pub volumes_read : (count i : ℕ) (before : List VolumeEntry) (old : Rest) → count ≤ i → (next : List VolumeEntry → Layout) (res : Result Reply ReplyFault) → IsRead (next before) old res
+pub volumes_read : (count i : ℕ) (before : List VolumeEntry) (old : Rest) → count ≤ i → (next : List VolumeEntry → ReplyLayout) (res : Result Reply ReplyFault) → IsRead (next before) old res
     → IsRead (volumes (count - i) before next) old res
 volumes_read count i before old le next res h =
     let none : count - i ≡ 0 = omega arith in
     rw (none, volumes_none before next) h
 
 -- entries, one after the other
-pub entries_none : (wide : Bool) (fb db : ℕ) (before : List ListEntry) (next : List ListEntry → Layout) → entries wide fb db 0 before next ≡ next before
+pub entries_none : (wide : Bool) (fb db : ℕ) (before : List ListEntry) (next : List ListEntry → ReplyLayout) → entries wide fb db 0 before next ≡ next before
 unfolding entries
 entries_none wide fb db before next = refl
 
-pub entries_more : (wide : Bool) (fb db more : ℕ) (before : List ListEntry) (next : List ListEntry → Layout)
+pub entries_more : (wide : Bool) (fb db more : ℕ) (before : List ListEntry) (next : List ListEntry → ReplyLayout)
     → entries wide fb db (suc more) before next ≡ Then (Entry wide fb db) (λ e. entries wide fb db more (before ++ (e ∷ [])) next)
 unfolding entries
 entries_more wide fb db more before next = refl
 
 pub entry_read : (wide : Bool) (fb db count i : ℕ) (before : List ListEntry) (old new : Rest) (e : ListEntry) → i < count → Took (Entry wide fb db) old e new
-    → (next : List ListEntry → Layout) (res : Result Reply ReplyFault) → IsRead (entries wide fb db (count - (i + 1)) (before ++ (e ∷ [])) next) new res
+    → (next : List ListEntry → ReplyLayout) (res : Result Reply ReplyFault) → IsRead (entries wide fb db (count - (i + 1)) (before ++ (e ∷ [])) next) new res
     → IsRead (entries wide fb db (count - i) before next) old res
 entry_read wide fb db count i before old new e lt t next res h =
     let one : count - i ≡ suc (count - (i + 1)) = omega arith in
@@ -143,13 +143,13 @@ entry_read wide fb db count i before old new e lt t next res h =
     (goes_on (Entry wide fb db) (λ x. entries wide fb db (count - (i + 1)) (before ++ (x ∷ [])) next) old new e res t h)
 
 pub entry_stops : (wide : Bool) (fb db count i : ℕ) (before : List ListEntry) (old new : Rest) (fault : ReplyFault) → i < count → TakesWord (Entry wide fb db) old (Err fault) new
-    → (next : List ListEntry → Layout) → IsRead (entries wide fb db (count - i) before next) old (Err fault)
+    → (next : List ListEntry → ReplyLayout) → IsRead (entries wide fb db (count - i) before next) old (Err fault)
 entry_stops wide fb db count i before old new fault lt t next =
     let one : count - i ≡ suc (count - (i + 1)) = omega arith in
     rw (one, entries_more wide fb db (count - (i + 1)) before next)
     (stops_here (Entry wide fb db) (λ x. entries wide fb db (count - (i + 1)) (before ++ (x ∷ [])) next) old new fault t)
 
-pub entries_read : (wide : Bool) (fb db count i : ℕ) (before : List ListEntry) (old : Rest) → count ≤ i → (next : List ListEntry → Layout) (res : Result Reply ReplyFault)
+pub entries_read : (wide : Bool) (fb db count i : ℕ) (before : List ListEntry) (old : Rest) → count ≤ i → (next : List ListEntry → ReplyLayout) (res : Result Reply ReplyFault)
     → IsRead (next before) old res → IsRead (entries wide fb db (count - i) before next) old res
 entries_read wide fb db count i before old le next res h =
     let none : count - i ≡ 0 = omega arith in
@@ -169,18 +169,18 @@ params_stop kind bits reply here Memory t = tt
 params_stop kind bits reply here (Bad at) t = record { stops = t.0; none = λ s h. t.1 h.0 h.1 h.2 }
 
 -- what reading from the first byte tells
-pub is_found : (l : Layout) (here : Rest) (res : Result Reply ReplyFault) → IsRead l here res → IfOk res (λ r. Has l r here.bytes)
+pub is_found : (l : ReplyLayout) (here : Rest) (res : Result Reply ReplyFault) → IsRead l here res → IfOk res (λ r. Has l r here.bytes)
 unfolding IsRead
 is_found l here (Ok r) h = h.has
 is_found l here (Err e) h = tt
 
-pub is_only : (l : Layout) (here : Rest) (res : Result Reply ReplyFault) → IsRead l here res → (r : Reply) → Has l r here.bytes → MatchResult res (λ s. s ≡ r) (λ fault. fault ≡ Memory)
+pub is_only : (l : ReplyLayout) (here : Rest) (res : Result Reply ReplyFault) → IsRead l here res → (r : Reply) → Has l r here.bytes → MatchResult res (λ s. s ≡ r) (λ fault. fault ≡ Memory)
 unfolding IsRead
 is_only l here (Ok s) h r k = sym (h.only r k)
 is_only l here (Err Memory) h r k = refl
 is_only l here (Err (Bad at)) h r k = absurd (h.none r k)
 
-pub is_bad : (l : Layout) (here : Rest) (res : Result Reply ReplyFault) → IsRead l here res → IfBad res (λ at. StopsAt l here.place here.bytes at)
+pub is_bad : (l : ReplyLayout) (here : Rest) (res : Result Reply ReplyFault) → IsRead l here res → IfBadReply res (λ at. StopsAt l here.place here.bytes at)
 unfolding IsRead
 is_bad l here (Ok r) h = tt
 is_bad l here (Err Memory) h = tt

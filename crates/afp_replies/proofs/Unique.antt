@@ -10,8 +10,8 @@ use Rattle.afp_replies.specs.declared.list.ListEntry.{ListEntry}
 use Rattle.afp_replies.specs.declared.reply.Reply.{Reply}
 use Rattle.afp_replies.specs.Bytes.{width, flag_of}
 use Rattle.afp_replies.specs.Entry.{is_dir, bits_for, kind_for, head_size, IsEntry}
-use Rattle.afp_replies.specs.Words.{ReplyWord, Number, Exactly, Asked, Raw, Pad, Counted, Flag, Entry, Value, Spells}
-use Rattle.afp_replies.specs.Layout.{Layout, Is, Never, Then, Remaining, Params, Has}
+use Rattle.afp_replies.specs.Words.{ReplyWord, Number, Exactly, Asked, Raw, Pad, Counted, Flag, Entry, ReplyValue, SpellsWord}
+use Rattle.afp_replies.specs.Layout.{ReplyLayout, Is, Never, Then, Remaining, Params, Has}
 use Rattle.afp_base.specs.Bytes.{IsBytes}
 use Rattle.afp_base.proofs.Numbers.{IsBytes-take, IsBytes-drop, length-big_bytes}
 use Rattle.afp_replies.proofs.Spellings.{number_alone}
@@ -48,7 +48,7 @@ one_block law kind bits v w a b bytes e =
     let small : kind_of v ≤ 2 = kind_small v in
     law kind bits v w (omega arith) a b bytes e
 
-record Same (w : ReplyWord) (x y : Value w) (r s : List ℕ) : Type 0 where
+record Same (w : ReplyWord) (x y : ReplyValue w) (r s : List ℕ) : Type 0 where
   value : x ≡ y
   rest : r ≡ s
 
@@ -72,7 +72,7 @@ same_entry law wide fb db x y f g r s b hx hy e =
       rest = same_behind (length f) f g r s refl size e;
     }
 
-one_value : OneBlock → (w : ReplyWord) (x y : Value w) (f g r s : List ℕ) → IsBytes (f ++ r) → Spells w x f → Spells w y g → f ++ r ≡ g ++ s → Same w x y r s
+one_value : OneBlock → (w : ReplyWord) (x y : ReplyValue w) (f g r s : List ℕ) → IsBytes (f ++ r) → SpellsWord w x f → SpellsWord w y g → f ++ r ≡ g ++ s → Same w x y r s
 one_value law (Number n) x y f g r s b hx hy e =
     let lf : length f ≡ n = ap (length {A = ℕ}) hx.1 ∙ length-big_bytes n x in
     let lg : length g ≡ n = ap (length {A = ℕ}) hy.1 ∙ length-big_bytes n y in
@@ -106,14 +106,14 @@ one_value law Flag x y f g r s b hx hy e =
     record { value = flag_tells x y (ap (λ (z : List ℕ). get_or z 0 0) flags); rest = same_behind 1 f g r s lf lg e }
 one_value law (Entry wide fb db) x y f g r s b hx hy e = same_entry law wide fb db x y f g r s b hx hy e
 
-pub one_reply : OneBlock → (l : Layout) (r s : Reply) (b : List ℕ) → IsBytes b → Has l r b → Has l s b → r ≡ s
+pub one_reply : OneBlock → (l : ReplyLayout) (r s : Reply) (b : List ℕ) → IsBytes b → Has l r b → Has l s b → r ≡ s
 one_reply law (Is reply) r s b bytes h k = h.0 ∙ sym k.0
 one_reply law Never r s b bytes h k = absurd h
 one_reply law (Then w next) r s b bytes h k =
     let here : IsBytes (h.first ++ h.rest) = subst IsBytes h.split bytes in
     let same = one_value law w h.value k.value h.first k.first h.rest k.rest here h.spelt k.spelt (sym h.split ∙ k.split) in
     one_reply law (next h.value) r s h.rest (bytes_behind h.first h.rest here) h.behind
-    (subst (λ (x : Value w). Has (next x) s h.rest) (sym same.value) (subst (λ (z : List ℕ). Has (next k.value) s z) (sym same.rest) k.behind))
+    (subst (λ (x : ReplyValue w). Has (next x) s h.rest) (sym same.value) (subst (λ (z : List ℕ). Has (next k.value) s z) (sym same.rest) k.behind))
 one_reply law (Remaining reply) r s b bytes h k = h ∙ sym k
 one_reply law (Params kind bits reply) r s b bytes h k =
     h.3 ∙ ap reply (one_block law kind bits h.0 k.0 h.1 k.1 (subst IsBytes h.2 bytes) (sym h.2 ∙ k.2)) ∙ sym k.3

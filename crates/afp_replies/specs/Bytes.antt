@@ -4,26 +4,26 @@ use Rattle.byteorder.specs.Endian.{big_bytes}
 use Rattle.afp_replies.specs.Numbers.{directory_flag}
 
 -- a number of 1, 2, 4 and 8 bytes
-abbrev pub u8 : ℕ → List ℕ
-u8 x = big_bytes 1 x
+abbrev pub u8_bytes : ℕ → List ℕ
+u8_bytes x = big_bytes 1 x
 
-abbrev pub u16 : ℕ → List ℕ
-u16 x = big_bytes 2 x
+abbrev pub u16_bytes : ℕ → List ℕ
+u16_bytes x = big_bytes 2 x
 
-abbrev pub u32 : ℕ → List ℕ
-u32 x = big_bytes 4 x
+abbrev pub u32_bytes : ℕ → List ℕ
+u32_bytes x = big_bytes 4 x
 
-abbrev pub u64 : ℕ → List ℕ
-u64 x = big_bytes 8 x
+abbrev pub u64_bytes : ℕ → List ℕ
+u64_bytes x = big_bytes 8 x
 
 -- a number of 4 bytes, where there is one
-abbrev pub optional : Option ℕ → List ℕ
-optional None = []
-optional (Some x) = u32 x
+abbrev pub optional_bytes : Option ℕ → List ℕ
+optional_bytes None = []
+optional_bytes (Some x) = u32_bytes x
 
--- a pad byte
-abbrev pub pad : List ℕ
-pad = 0 ∷ []
+-- a pad_byte byte
+abbrev pub pad_byte : List ℕ
+pad_byte = 0 ∷ []
 
 -- a text with its count in so many bytes before it
 abbrev pub with_count : ℕ → List ℕ → List ℕ

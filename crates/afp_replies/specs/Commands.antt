@@ -6,7 +6,7 @@ use Rattle.afp_replies.specs.declared.commands.Shape.{Shape}
 use Rattle.afp_replies.specs.declared.commands.Shape.TheVariants.{Unlisted, Empty, Start, StartExt, End, EndExt, Node, NarrowList, WideList, FileParams, VolumeParams, FileDirParams, Status, ServerParams, MappedName, MappedId, Opened, Data, Icon, IconInfo, UserInfo, Message, Desk, Appl, Comment, Token}
 use Rattle.afp_replies.specs.declared.reply.ReplyKind.{ReplyKind}
 use Rattle.afp_replies.specs.Numbers.{volume_kind, file_kind}
-use Rattle.afp_replies.specs.Layout.{Layout, Never}
+use Rattle.afp_replies.specs.Layout.{ReplyLayout, Never}
 use Rattle.afp_replies.specs.Layouts as layouts
 
 -- a command, and the shape of its reply
@@ -84,47 +84,47 @@ unfoldable pub shape_of : ℕ → Shape
 shape_of command = shape_in rows command
 
 -- the layout of a shape
-abbrev pub layout_of : Shape → ReplyKind → Layout
-layout_of Unlisted kind = Never
-layout_of Empty kind = layouts.empty
-layout_of Start kind = layouts.start
-layout_of StartExt kind = layouts.start_ext
-layout_of End kind = layouts.end
-layout_of EndExt kind = layouts.end_ext
-layout_of Node kind = layouts.node
-layout_of NarrowList kind = layouts.list false kind.bits kind.dir_bits
-layout_of WideList kind = layouts.list true kind.bits kind.dir_bits
-layout_of FileParams kind = layouts.params file_kind kind.bits
-layout_of VolumeParams kind = layouts.params volume_kind kind.bits
-layout_of FileDirParams kind = layouts.file_dir_params kind.bits kind.dir_bits
-layout_of Status kind = layouts.status
-layout_of ServerParams kind = layouts.server_params
-layout_of MappedName kind = layouts.mapped_name kind.bits
-layout_of MappedId kind = layouts.mapped_id
-layout_of Opened kind = layouts.opened kind.bits
-layout_of Data kind = layouts.piece
-layout_of Icon kind = layouts.piece
-layout_of IconInfo kind = layouts.icon_info
-layout_of UserInfo kind = layouts.user_info kind.bits
-layout_of Message kind = layouts.message kind.bits
-layout_of Desk kind = layouts.desk
-layout_of Appl kind = layouts.appl kind.bits
-layout_of Comment kind = layouts.comment
-layout_of Token kind = layouts.token
+abbrev pub reply_layout_of : Shape → ReplyKind → ReplyLayout
+reply_layout_of Unlisted kind = Never
+reply_layout_of Empty kind = layouts.empty
+reply_layout_of Start kind = layouts.start
+reply_layout_of StartExt kind = layouts.start_ext
+reply_layout_of End kind = layouts.end
+reply_layout_of EndExt kind = layouts.end_ext
+reply_layout_of Node kind = layouts.node
+reply_layout_of NarrowList kind = layouts.list false kind.bits kind.dir_bits
+reply_layout_of WideList kind = layouts.list true kind.bits kind.dir_bits
+reply_layout_of FileParams kind = layouts.params file_kind kind.bits
+reply_layout_of VolumeParams kind = layouts.params volume_kind kind.bits
+reply_layout_of FileDirParams kind = layouts.file_dir_params kind.bits kind.dir_bits
+reply_layout_of Status kind = layouts.status
+reply_layout_of ServerParams kind = layouts.server_params
+reply_layout_of MappedName kind = layouts.mapped_name kind.bits
+reply_layout_of MappedId kind = layouts.mapped_id
+reply_layout_of Opened kind = layouts.opened kind.bits
+reply_layout_of Data kind = layouts.piece
+reply_layout_of Icon kind = layouts.piece
+reply_layout_of IconInfo kind = layouts.icon_info
+reply_layout_of UserInfo kind = layouts.user_info kind.bits
+reply_layout_of Message kind = layouts.message kind.bits
+reply_layout_of Desk kind = layouts.desk
+reply_layout_of Appl kind = layouts.appl kind.bits
+reply_layout_of Comment kind = layouts.comment
+reply_layout_of Token kind = layouts.token
 
 -- a refusal by a deny mode: FPOpenFork tells of the file all the same
-abbrev pub denied : Shape → ReplyKind → Layout
-denied Opened kind = layouts.denied kind.bits
+abbrev pub denied : Shape → ReplyKind → ReplyLayout
+denied Opened kind = layouts.denied_params kind.bits
 denied shape kind = layouts.empty
 
 -- a refusal at the end of a fork: FPRead and FPReadExt have what they read
-abbrev pub ended : Shape → Layout
+abbrev pub ended : Shape → ReplyLayout
 ended Data = layouts.piece
 ended shape = layouts.empty
 
 -- The layout of the reply with this code. A refusal is empty, but for those two; so is a refusal of a command that is not listed.
-abbrev pub reply_layout : Shape → Code → ReplyKind → Layout
-reply_layout shape codes.Ok kind = layout_of shape kind
+abbrev pub reply_layout : Shape → Code → ReplyKind → ReplyLayout
+reply_layout shape codes.Ok kind = reply_layout_of shape kind
 reply_layout shape codes.DenyConflict kind = denied shape kind
 reply_layout shape codes.EOFErr kind = ended shape
 reply_layout shape code kind = layouts.empty

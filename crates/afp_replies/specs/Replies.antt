@@ -13,13 +13,13 @@ use Rattle.afp_replies.specs.declared.reply.ReplyFault.{ReplyFault}
 use Rattle.afp_replies.specs.declared.reply.ReplyFault.TheVariants as faults
 use Rattle.afp_replies.specs.declared.reply.ReplyKind.{ReplyKind}
 use Rattle.afp_replies.specs.Numbers.{utf8_bit}
-use Rattle.afp_replies.specs.Bytes.{u8, u16, u32, u64, optional, pad, with_count, flag_of, width}
+use Rattle.afp_replies.specs.Bytes.{u8_bytes, u16_bytes, u32_bytes, u64_bytes, optional_bytes, pad_byte, with_count, flag_of, width}
 use Rattle.afp_replies.specs.Entry.{is_dir, node_params, entry_bytes}
-use Rattle.afp_replies.specs.Layout.{Layout, Has, StopsAt}
+use Rattle.afp_replies.specs.Layout.{ReplyLayout, Has, StopsAt}
 use Rattle.afp_replies.specs.Commands.{shape_of, reply_layout}
 
 -- the layout of a reply to this kind of request with this code
-unfoldable pub layout_for : ReplyKind → Code → Layout
+unfoldable pub layout_for : ReplyKind → Code → ReplyLayout
 layout_for kind code = reply_layout (shape_of kind.command) code kind
 
 -- the bytes are the reply to this kind of request with this code
@@ -34,18 +34,18 @@ pub record IsShown (r : Reply) : Type 0 where
   pub shows : Shows r kind code bytes
 
 -- the place where bytes stop being a reply to this kind of request with this code
-abbrev pub IsBadAt : ReplyKind → Code → List ℕ → ℕ → Type 0
-IsBadAt kind code bytes at = StopsAt (layout_for kind code) 0 bytes at
+abbrev pub IsBadReplyAt : ReplyKind → Code → List ℕ → ℕ → Type 0
+IsBadReplyAt kind code bytes at = StopsAt (layout_for kind code) 0 bytes at
 
 -- what holds of the place of a fault, where there is one
-abbrev pub IfBad : Result Reply ReplyFault → (ℕ → Type 0) → Type 0
-IfBad (Ok r) P = Unit {0}
-IfBad (Err faults.Memory) P = Unit {0}
-IfBad (Err (faults.Bad at)) P = P at
+abbrev pub IfBadReply : Result Reply ReplyFault → (ℕ → Type 0) → Type 0
+IfBadReply (Ok r) P = Unit {0}
+IfBadReply (Err faults.Memory) P = Unit {0}
+IfBadReply (Err (faults.Bad at)) P = P at
 
 -- a volume of the server: flags 1, name
 abbrev pub volume_bytes : VolumeEntry → List ℕ
-volume_bytes v = u8 v.flags ++ with_count 1 v.name
+volume_bytes v = u8_bytes v.flags ++ with_count 1 v.name
 
 -- a message with its count in a byte or two, where there is one
 abbrev pub message_bytes : Bool → Option (List ℕ) → List ℕ
@@ -55,26 +55,26 @@ message_bytes wide (Some text) = with_count (width wide) text
 -- the fields of a reply in order, as they are written: pads are 0
 abbrev pub fields : Reply → List (List ℕ)
 fields Empty = []
-fields (Start start) = u32 start ∷ []
-fields (StartExt start) = u64 start ∷ []
-fields (End end) = u32 end ∷ []
-fields (EndExt end) = u64 end ∷ []
-fields (Node id) = u32 id.0 ∷ []
-fields (replies.List wide file_bits dir_bits rows) = u16 file_bits ∷ u16 dir_bits ∷ u16 (length rows) ∷ map (entry_bytes wide file_bits dir_bits) rows
-fields (Params bits values) = u16 bits ∷ params bits values ∷ []
+fields (Start start) = u32_bytes start ∷ []
+fields (StartExt start) = u64_bytes start ∷ []
+fields (End end) = u32_bytes end ∷ []
+fields (EndExt end) = u64_bytes end ∷ []
+fields (Node id) = u32_bytes id.0 ∷ []
+fields (replies.List wide file_bits dir_bits rows) = u16_bytes file_bits ∷ u16_bytes dir_bits ∷ u16_bytes (length rows) ∷ map (entry_bytes wide file_bits dir_bits) rows
+fields (Params bits values) = u16_bytes bits ∷ params bits values ∷ []
 fields (Status block) = block ∷ []
-fields (ServerParams time volumes) = u32 (cast_unsigned w32 time) ∷ u8 (length volumes) ∷ map volume_bytes volumes
+fields (ServerParams time volumes) = u32_bytes (cast_unsigned w32 time) ∷ u8_bytes (length volumes) ∷ map volume_bytes volumes
 fields (MappedName wide name) = with_count (width wide) name ∷ []
-fields (MappedId id) = u32 id ∷ []
-fields (Opened bits reference values) = u16 bits ∷ u16 reference.0 ∷ params bits values ∷ []
+fields (MappedId id) = u32_bytes id ∷ []
+fields (Opened bits reference values) = u16_bytes bits ∷ u16_bytes reference.0 ∷ params bits values ∷ []
 fields (Piece piece) = piece ∷ []
 fields (FileDirParams file_bits dir_bits values) =
-    u16 file_bits ∷ u16 dir_bits ∷ (flag_of (is_dir values) ∷ []) ∷ pad ∷ node_params file_bits dir_bits values ∷ []
-fields (UserInfo bits id group) = u16 bits ∷ optional id ∷ optional group ∷ []
-fields (Message kind bits message) = u16 kind ∷ u16 bits ∷ message_bytes (is_asked bits utf8_bit) message ∷ []
-fields (Desk dt) = u16 dt ∷ []
-fields (IconInfo tag kind icon_kind size) = u32 tag ∷ kind ∷ u8 icon_kind ∷ pad ∷ u16 size ∷ []
-fields (Appl bits tag values) = u16 bits ∷ u32 tag ∷ params bits values ∷ []
+    u16_bytes file_bits ∷ u16_bytes dir_bits ∷ (flag_of (is_dir values) ∷ []) ∷ pad_byte ∷ node_params file_bits dir_bits values ∷ []
+fields (UserInfo bits id group) = u16_bytes bits ∷ optional_bytes id ∷ optional_bytes group ∷ []
+fields (Message kind bits message) = u16_bytes kind ∷ u16_bytes bits ∷ message_bytes (is_asked bits utf8_bit) message ∷ []
+fields (Desk dt) = u16_bytes dt ∷ []
+fields (IconInfo tag kind icon_kind size) = u32_bytes tag ∷ kind ∷ u8_bytes icon_kind ∷ pad_byte ∷ u16_bytes size ∷ []
+fields (Appl bits tag values) = u16_bytes bits ∷ u32_bytes tag ∷ params bits values ∷ []
 fields (Comment comment) = with_count 1 comment ∷ []
 fields (Token token) = with_count 4 token ∷ []
 

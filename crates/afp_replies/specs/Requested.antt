@@ -73,9 +73,9 @@ pub record FitsRequest (kind : ReplyKind) (code : Code) (r : Reply) : Type 0 whe
   pub told : IsTold (shape_of kind.command) code kind r
 
 -- the shapes of FPOpenFork's reply, and of FPRead's and FPReadExt's
-abbrev pub is_opened : Shape → Bool
-is_opened shapes.Opened = true
-is_opened shape = false
+abbrev pub is_opened_shape : Shape → Bool
+is_opened_shape shapes.Opened = true
+is_opened_shape shape = false
 
 abbrev pub is_data : Shape → Bool
 is_data shapes.Data = true
@@ -84,6 +84,6 @@ is_data shape = false
 -- whether a refusal with this code tells nothing to a request whose reply has this shape
 abbrev pub tells_nothing : Shape → Code → Bool
 tells_nothing shape codes.Ok = false
-tells_nothing shape codes.DenyConflict = not (is_opened shape)
+tells_nothing shape codes.DenyConflict = not (is_opened_shape shape)
 tells_nothing shape codes.EOFErr = not (is_data shape)
 tells_nothing shape code = true

@@ -21,26 +21,26 @@ pub data ReplyWord : Type 0 where
   Entry : Bool → ℕ → ℕ → ReplyWord
 
 -- what a field tells
-abbrev pub Value : ReplyWord → Type 0
-Value (Number n) = ℕ
-Value (Exactly n x) = Unit {0}
-Value (Asked mask bits) = Unit {0}
-Value (Raw n) = List ℕ
-Value Pad = Unit {0}
-Value (Counted n) = List ℕ
-Value Flag = Bool
-Value (Entry wide file_bits dir_bits) = ListEntry
+abbrev pub ReplyValue : ReplyWord → Type 0
+ReplyValue (Number n) = ℕ
+ReplyValue (Exactly n x) = Unit {0}
+ReplyValue (Asked mask bits) = Unit {0}
+ReplyValue (Raw n) = List ℕ
+ReplyValue Pad = Unit {0}
+ReplyValue (Counted n) = List ℕ
+ReplyValue Flag = Bool
+ReplyValue (Entry wide file_bits dir_bits) = ListEntry
 
 -- These bytes are the field with this value. A reply's own pad byte has any value; those inside parameters are 0. A flag has no value but two (this profile).
-abbrev pub Spells : (w : ReplyWord) → Value w → List ℕ → Type 0
-Spells (Number n) x bytes = (x < 256 ^ n) × (bytes ≡ big_bytes n x)
-Spells (Exactly n y) x bytes = bytes ≡ big_bytes n y
-Spells (Asked mask bits) x bytes = IsWithin mask bits × (bytes ≡ big_bytes 2 bits)
-Spells (Raw n) x bytes = (length x ≡ n) × (bytes ≡ x)
-Spells Pad x bytes = length bytes ≡ 1
-Spells (Counted n) x bytes = (length x < 256 ^ n) × (bytes ≡ with_count n x)
-Spells Flag x bytes = bytes ≡ flag_of x ∷ []
-Spells (Entry wide file_bits dir_bits) x bytes = IsEntry wide file_bits dir_bits x bytes
+abbrev pub SpellsWord : (w : ReplyWord) → ReplyValue w → List ℕ → Type 0
+SpellsWord (Number n) x bytes = (x < 256 ^ n) × (bytes ≡ big_bytes n x)
+SpellsWord (Exactly n y) x bytes = bytes ≡ big_bytes n y
+SpellsWord (Asked mask bits) x bytes = IsWithin mask bits × (bytes ≡ big_bytes 2 bits)
+SpellsWord (Raw n) x bytes = (length x ≡ n) × (bytes ≡ x)
+SpellsWord Pad x bytes = length bytes ≡ 1
+SpellsWord (Counted n) x bytes = (length x < 256 ^ n) × (bytes ≡ with_count n x)
+SpellsWord Flag x bytes = bytes ≡ flag_of x ∷ []
+SpellsWord (Entry wide file_bits dir_bits) x bytes = IsEntry wide file_bits dir_bits x bytes
 
 -- the place of the fault where bytes that begin at `place` do not begin with the field: inside an entry, else the field's own
 abbrev pub FaultAt : ReplyWord → ℕ → List ℕ → ℕ → Type 0

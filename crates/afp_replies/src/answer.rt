@@ -2,9 +2,9 @@
 ghost use Rattle.std.specs.Prelude.{◌≡◌, IfOk, MatchResult};
 ghost use Rattle.afp_replies.specs.declared.reply.Reply.{Reply};
 ghost use Rattle.afp_replies.specs.declared.reply.ReplyFault.TheVariants.{Memory};
-ghost use Rattle.afp_replies.specs.Commands.{layout_of, denied, ended};
+ghost use Rattle.afp_replies.specs.Commands.{reply_layout_of, denied, ended};
 ghost use Rattle.afp_replies.specs.lemma.Reading.{IsRead};
-ghost use Rattle.afp_replies.specs.Replies.{layout_for, Shows, IsBadAt, IfBad};
+ghost use Rattle.afp_replies.specs.Replies.{layout_for, Shows, IsBadReplyAt, IfBadReply};
 
 use crate::commands::{Shape, shape_of};
 use crate::cursor::Cursor;
@@ -22,7 +22,7 @@ fn read_shape(
     kind: &ReplyKind,
     cursor: Cursor<'_>,
 ) -> Result<Reply, ReplyFault>
-    ensures { IsRead (layout_of shape kind.now) cursor.entry result }
+    ensures { IsRead (reply_layout_of shape kind.now) cursor.entry result }
 {
     match shape {
         Shape::Unlisted => Err(cursor.bad()),
@@ -112,7 +112,7 @@ pub fn read_reply(
     // What the bytes show is read, unless memory runs out.
     ensures only { (r : Reply) → Shows r kind.now code bytes.now → MatchResult result (λ s. s ≡ r) (λ fault. fault ≡ Memory) }
     // Where they show nothing.
-    ensures bad { IfBad result (IsBadAt kind.now code bytes.now) }
+    ensures bad { IfBadReply result (IsBadReplyAt kind.now code bytes.now) }
 {
     read(alloc, kind, code, Cursor::new(bytes))
 }

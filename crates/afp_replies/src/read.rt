@@ -295,7 +295,7 @@ pub(crate) fn read_denied(
     bits: u16,
     mut cursor: Cursor<'_>,
 ) -> Result<Reply, ReplyFault>
-    ensures { IsRead (layouts.denied bits) cursor.entry result }
+    ensures { IsRead (layouts.denied_params bits) cursor.entry result }
 {
     cursor.asked(FileBits::MASK, bits)?;
     cursor.exactly(0)?;
@@ -317,7 +317,7 @@ fn read_node_params(
 ) -> Result<Reply, ReplyFault>
     requires file { IsWithin file_mask file_bits }
     requires dir { IsWithin dir_mask dir_bits }
-    ensures { IsRead (layouts.node_params dir file_bits dir_bits) cursor.entry result }
+    ensures { IsRead (layouts.node_params_layout dir file_bits dir_bits) cursor.entry result }
 {
     if dir {
         let values = cursor.params(alloc, DIR, dir_bits)?;

@@ -5,7 +5,7 @@ ghost use Rattle.std.specs.List.{concat, AllByRecursion};
 ghost use Rattle.afp_bitmap.specs.Bits.{IsWithin, file_mask, dir_mask, is_asked};
 ghost use Rattle.afp_bitmap.specs.Params.{params};
 ghost use Rattle.afp_bitmap.specs.Table.{kind_of};
-ghost use Rattle.afp_replies.specs.Bytes.{u8, u16, u32, optional, pad, with_count, flag_of, width};
+ghost use Rattle.afp_replies.specs.Bytes.{u8_bytes, u16_bytes, u32_bytes, optional_bytes, pad_byte, with_count, flag_of, width};
 ghost use Rattle.afp_replies.specs.Entry.{is_dir, bits_for, pad_count, node_params, entry_bytes, FitsEntry};
 ghost use Rattle.afp_replies.specs.Numbers.{file_kind, utf8_bit};
 ghost use Rattle.afp_replies.specs.Replies.{volume_bytes, message_bytes, canonical_reply, IsShown};
@@ -23,7 +23,7 @@ use afp_bitmap::{Values, is_asked, put_params};
 
 /// Appends a number of 4 bytes, where there is one.
 fn put_optional(number: &Option<u32>, out: &mut Bytes) -> Result<(), OutOfMemory>
-    ensures ok { OnOk result (out.new ≡ out.old ++ optional number.now) }
+    ensures ok { OnOk result (out.new ≡ out.old ++ optional_bytes number.now) }
     ensures err { OnErr result (Keeps out.old out.new) }
 {
     match number {
@@ -40,7 +40,7 @@ fn put_icon_info(
     size: u16,
     out: &mut Bytes,
 ) -> Result<(), OutOfMemory>
-    ensures ok { OnOk result (out.new ≡ out.old ++ concat (u32 tag ∷ kind.now ∷ u8 icon_kind ∷ pad ∷ u16 size ∷ [])) }
+    ensures ok { OnOk result (out.new ≡ out.old ++ concat (u32_bytes tag ∷ kind.now ∷ u8_bytes icon_kind ∷ pad_byte ∷ u16_bytes size ∷ [])) }
     ensures err { OnErr result (Keeps out.old out.new) }
 {
     out.push_u32(tag)?;
@@ -57,7 +57,7 @@ fn put_user_info(
     group: &Option<u32>,
     out: &mut Bytes,
 ) -> Result<(), OutOfMemory>
-    ensures ok { OnOk result (out.new ≡ out.old ++ concat (u16 bits ∷ optional id.now ∷ optional group.now ∷ [])) }
+    ensures ok { OnOk result (out.new ≡ out.old ++ concat (u16_bytes bits ∷ optional_bytes id.now ∷ optional_bytes group.now ∷ [])) }
     ensures err { OnErr result (Keeps out.old out.new) }
 {
     out.push_u16(bits)?;
@@ -74,7 +74,7 @@ fn put_message(
     out: &mut Bytes,
 ) -> Result<(), OutOfMemory>
     requires { FitsMessage (is_asked bits utf8_bit) message.now }
-    ensures ok { OnOk result (out.new ≡ out.old ++ concat (u16 kind ∷ u16 bits ∷ message_bytes (is_asked bits utf8_bit) message.now ∷ [])) }
+    ensures ok { OnOk result (out.new ≡ out.old ++ concat (u16_bytes kind ∷ u16_bytes bits ∷ message_bytes (is_asked bits utf8_bit) message.now ∷ [])) }
     ensures err { OnErr result (Keeps out.old out.new) }
 {
     out.push_u16(kind)?;
@@ -121,7 +121,7 @@ fn put_volumes(volumes: &[VolumeEntry], out: &mut Bytes) -> Result<(), OutOfMemo
 fn put_server_params(time: i32, volumes: &[VolumeEntry], out: &mut Bytes) -> Result<(), OutOfMemory>
     requires few { length volumes.now < 256 ^ 1 }
     requires fits { AllByRecursion FitsVolume volumes.now }
-    ensures ok { OnOk result (out.new ≡ out.old ++ concat (u32 (cast_unsigned w32 time) ∷ u8 (length volumes.now) ∷ map volume_bytes volumes.now)) }
+    ensures ok { OnOk result (out.new ≡ out.old ++ concat (u32_bytes (cast_unsigned w32 time) ∷ u8_bytes (length volumes.now) ∷ map volume_bytes volumes.now)) }
     ensures err { OnErr result (Keeps out.old out.new) }
 {
     out.push_u32(time.cast_unsigned())?;
@@ -133,7 +133,7 @@ fn put_server_params(time: i32, volumes: &[VolumeEntry], out: &mut Bytes) -> Res
 /// the values that it asks for.
 fn put_block(bits: u16, values: &Values, out: &mut Bytes) -> Result<(), OutOfMemory>
     requires { FitsParams (kind_of values.now) bits values.now }
-    ensures ok { OnOk result (out.new ≡ out.old ++ concat (u16 bits ∷ params bits values.now ∷ [])) }
+    ensures ok { OnOk result (out.new ≡ out.old ++ concat (u16_bytes bits ∷ params bits values.now ∷ [])) }
     ensures err { OnErr result (Keeps out.old out.new) }
 {
     out.push_u16(bits)?;
@@ -148,7 +148,7 @@ fn put_opened(
     out: &mut Bytes,
 ) -> Result<(), OutOfMemory>
     requires { FitsParams file_kind bits values.now }
-    ensures ok { OnOk result (out.new ≡ out.old ++ concat (u16 bits ∷ u16 reference ∷ params bits values.now ∷ [])) }
+    ensures ok { OnOk result (out.new ≡ out.old ++ concat (u16_bytes bits ∷ u16_bytes reference ∷ params bits values.now ∷ [])) }
     ensures err { OnErr result (Keeps out.old out.new) }
 {
     out.push_u16(bits)?;
@@ -159,7 +159,7 @@ fn put_opened(
 /// Appends FPGetAPPL's reply: the bitmap, the tag, and the values that the bitmap asks for.
 fn put_appl(bits: u16, tag: u32, values: &Values, out: &mut Bytes) -> Result<(), OutOfMemory>
     requires { FitsParams file_kind bits values.now }
-    ensures ok { OnOk result (out.new ≡ out.old ++ concat (u16 bits ∷ u32 tag ∷ params bits values.now ∷ [])) }
+    ensures ok { OnOk result (out.new ≡ out.old ++ concat (u16_bytes bits ∷ u32_bytes tag ∷ params bits values.now ∷ [])) }
     ensures err { OnErr result (Keeps out.old out.new) }
 {
     out.push_u16(bits)?;
@@ -194,7 +194,7 @@ fn put_file_dir_params(
     out: &mut Bytes,
 ) -> Result<(), OutOfMemory>
     requires { FitsNode file_bits dir_bits values.now }
-    ensures ok { OnOk result (out.new ≡ out.old ++ concat (u16 file_bits ∷ u16 dir_bits ∷ (flag_of (is_dir values.now) ∷ []) ∷ pad ∷ node_params file_bits dir_bits values.now ∷ [])) }
+    ensures ok { OnOk result (out.new ≡ out.old ++ concat (u16_bytes file_bits ∷ u16_bytes dir_bits ∷ (flag_of (is_dir values.now) ∷ []) ∷ pad_byte ∷ node_params file_bits dir_bits values.now ∷ [])) }
     ensures err { OnErr result (Keeps out.old out.new) }
 {
     let dir = is_dir(values);
@@ -278,7 +278,7 @@ fn put_list(
     out: &mut Bytes,
 ) -> Result<(), OutOfMemory>
     requires { FitsList wide file_bits dir_bits rows.now }
-    ensures ok { OnOk result (out.new ≡ out.old ++ concat (u16 file_bits ∷ u16 dir_bits ∷ u16 (length rows.now) ∷ map (entry_bytes wide file_bits dir_bits) rows.now)) }
+    ensures ok { OnOk result (out.new ≡ out.old ++ concat (u16_bytes file_bits ∷ u16_bytes dir_bits ∷ u16_bytes (length rows.now) ∷ map (entry_bytes wide file_bits dir_bits) rows.now)) }
     ensures err { OnErr result (Keeps out.old out.new) }
 {
     out.push_u16(file_bits)?;

@@ -6,7 +6,7 @@ use Rattle.std.proofs.lemmas.Option.{option_and_then_some}
 use Rattle.std.proofs.Math.Seq.{drop-append_seam, take-append_seam}
 use Rattle.std.proofs.lemmas.List.{append-nil, length-take-le, length-append, take-append-drop}
 use Rattle.afp_requests.specs.declared.call.Call.{Call}
-use Rattle.afp_requests.specs.Words.{Word, Tail, Value, Field, Layout, Enclosed, Nothing, Piece, BeginsWith, IsEnclosed, IsTyped, CanSpell, CanEnclose, canonical, canonical_fields, canonical_enclosed, command}
+use Rattle.afp_requests.specs.Words.{Word, Tail, Value, RequestField, Layout, Enclosed, Nothing, Piece, BeginsWith, IsEnclosed, IsTypedValue, CanSpell, CanEnclose, canonical, canonical_fields, canonical_enclosed, command}
 use Rattle.afp_requests.specs.Reading.{Reading, Then, Alone, With, Taken, Reader, read, next, has_reader, read_by}
 use Rattle.afp_requests.specs.Call.{Spells, layout_of}
 use Rattle.afp_requests.specs.Laws.{BeginsWithNoCommand}
@@ -19,7 +19,7 @@ Values (Then w more) = (x : Value w) × Values (more x)
 Values (Alone call) = Unit {0}
 Values (With size make) = List ℕ
 
-abbrev pub fields_with : (r : Reading) → Values r → List Field
+abbrev pub fields_with : (r : Reading) → Values r → List RequestField
 fields_with (Then w more) vs = record { word = w; value = vs.0 } ∷ fields_with (more vs.0) vs.1
 fields_with (Alone call) vs = []
 fields_with (With size make) vs = []
@@ -146,7 +146,7 @@ unknown_is_none [] enclosed h = absurd h
 unknown_is_none (n ∷ bytes) enclosed h = no_reader readers n bytes enclosed h
 
 -- each field's canonical bytes stand where its words are read, where a tail is the last
-abbrev has_none : List Field → Bool
+abbrev has_none : List RequestField → Bool
 has_none [] = true
 has_none (f ∷ fs) = false
 
@@ -154,16 +154,16 @@ abbrev is_tail : Word → Bool
 is_tail Tail = true
 is_tail w = false
 
-abbrev pub tail_last : List Field → Bool
+abbrev pub tail_last : List RequestField → Bool
 tail_last [] = true
 tail_last (f ∷ fs) = cond (is_tail f.word) (has_none fs) (tail_last fs)
 
-behind_word : (w : Word) (fs : List Field) (place : ℕ) → cond (is_tail w) (has_none fs) (tail_last fs) ≡ true → (w ≡ Tail → canonical_fields place fs ≡ []) × (tail_last fs ≡ true)
+behind_word : (w : Word) (fs : List RequestField) (place : ℕ) → cond (is_tail w) (has_none fs) (tail_last fs) ≡ true → (w ≡ Tail → canonical_fields place fs ≡ []) × (tail_last fs ≡ true)
 behind_word Tail [] place h = (λ e. refl, refl)
 behind_word Tail (f ∷ fs) place h = absurd cc
 behind_word w fs place h = (λ e. absurd cc, h)
 
-pub canonical_begins : (fs : List Field) (place : ℕ) → AllByRecursion (λ f. IsTyped f.word f.value) fs → AllByRecursion (λ f. CanSpell f.word f.value) fs → tail_last fs ≡ true → BeginsWith place fs (canonical_fields place fs)
+pub canonical_begins : (fs : List RequestField) (place : ℕ) → AllByRecursion (λ f. IsTypedValue f.word f.value) fs → AllByRecursion (λ f. CanSpell f.word f.value) fs → tail_last fs ≡ true → BeginsWith place fs (canonical_fields place fs)
 canonical_begins [] place typed can h = tt
 canonical_begins (f ∷ fs) place typed can h =
     let first = canonical f.word f.value place in
@@ -190,7 +190,7 @@ bytes_right : (first rest : List ℕ) → AreBytes (first ++ rest) → AreBytes 
 bytes_right [] rest h = h
 bytes_right (b ∷ first) rest h = bytes_right first rest (λ i. h (suc i))
 
-pub begins_can : (fs : List Field) (place : ℕ) (bytes : List ℕ) → AreBytes bytes → BeginsWith place fs bytes → AllByRecursion (λ f. CanSpell f.word f.value) fs
+pub begins_can : (fs : List RequestField) (place : ℕ) (bytes : List ℕ) → AreBytes bytes → BeginsWith place fs bytes → AllByRecursion (λ f. CanSpell f.word f.value) fs
 begins_can [] place bytes small h = tt
 begins_can (f ∷ fs) place bytes small h =
     let parts : AreBytes (h.0 ++ h.1) = rw (← h.2) small in

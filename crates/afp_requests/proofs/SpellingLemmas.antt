@@ -8,7 +8,7 @@ use Rattle.std.proofs.lemmas.List.{append-nil, append_assoc, drop-append-le, dro
 use Rattle.byteorder.specs.Endian.{big_number, big_bytes}
 use Rattle.byteorder.specs.Numbers.{big_from-take, big_from-append, big_from-lt, big_number-reads_back, length-bytes_high_first}
 use Rattle.afp_names.specs.Path.{PathValue, canonical_path, longest_path, path_fault, path_steps}
-use Rattle.afp_requests.specs.Words.{Word, Literal, Pad, LastPad, Even, Number, Within, Count, Optional, Signed32, Signed64, Plain, Counted, Pathname, Tail, Value, IsCountedText, SpellsPathname, IsSpelling, IsTyped, CanSpell, canonical, hint_size, count_size}
+use Rattle.afp_requests.specs.Words.{Word, Literal, Pad, LastPad, Even, Number, Within, Count, Optional, Signed32, Signed64, Plain, Counted, Pathname, Tail, Value, IsCountedText, SpellsPathname, IsWordSpelling, IsTypedValue, CanSpell, canonical, hint_size, count_size}
 use Rattle.afp_requests.specs.Reading.{Taken, next, path_count, path_size, path_text}
 
 and_true : (a b : Bool) → (a && b) ≡ true → (a ≡ true) × (b ≡ true)
@@ -30,7 +30,7 @@ taken_if P false x t holds h = absurd cc
 -- the bytes that were taken spell the word
 pub record IsTaken (w : Word) (place : ℕ) (bytes : List ℕ) (t : Taken w) : Type 0 where
   pub within : t.size ≤ length bytes
-  pub spells : IsSpelling w t.value place (take t.size bytes) (drop t.size bytes)
+  pub spells : IsWordSpelling w t.value place (take t.size bytes) (drop t.size bytes)
 
 counted_taken : (n : ℕ) (bytes : List ℕ) → n + big_number n bytes ≤ length bytes → IsCountedText n (take (big_number n bytes) (drop n bytes)) (take (n + big_number n bytes) bytes)
 counted_taken n bytes some =
@@ -116,7 +116,7 @@ pathname_next p place first rest h =
     let whole : 1 + path_size p.kind bytes ≡ length first = omega (arith, size, ap length h.whole, length-append h.hint h.behind_hint, h.hint_length, h.count.length_is) in
     rw (same, some, good, steps, whole) refl
 
-pub spelling_next : (w : Word) (x : Value w) (place : ℕ) (first rest : List ℕ) → IsSpelling w x place first rest → next w place (first ++ rest) ≡ Some (record { value = x; size = length first })
+pub spelling_next : (w : Word) (x : Value w) (place : ℕ) (first rest : List ℕ) → IsWordSpelling w x place first rest → next w place (first ++ rest) ≡ Some (record { value = x; size = length first })
 unfolding next
 spelling_next (Literal n) x place first rest h = rw (h, eq-eqb n n refl) refl
 spelling_next Pad x place first rest h =
@@ -195,7 +195,7 @@ path_fits : (kind n : ℕ) (t : Bool) → (kind == 2) ≡ t → n ≤ longest_pa
 path_fits kind n true e h = rw e (let low = rw e at h in omega arith)
 path_fits kind n false e h = rw e (let low = rw e at h in omega arith)
 
-pub canonical_spells : (w : Word) (x : Value w) (place : ℕ) (rest : List ℕ) → IsTyped w x → CanSpell w x → (w ≡ Tail → rest ≡ []) → IsSpelling w x place (canonical w x place) rest
+pub canonical_spells : (w : Word) (x : Value w) (place : ℕ) (rest : List ℕ) → IsTypedValue w x → CanSpell w x → (w ≡ Tail → rest ≡ []) → IsWordSpelling w x place (canonical w x place) rest
 canonical_spells (Literal n) x place rest typed can ends = refl
 canonical_spells Pad x place rest typed can ends = refl
 canonical_spells LastPad x place rest typed can ends = inl refl
@@ -228,7 +228,7 @@ abbrev pub AreBytes : List ℕ → Type 0
 AreBytes bytes = (i : ℕ) → get_or bytes i 0 < 256
 
 -- what bytes spell can be spelt
-pub spelling_can : (w : Word) (x : Value w) (place : ℕ) (first rest : List ℕ) → AreBytes first → IsSpelling w x place first rest → CanSpell w x
+pub spelling_can : (w : Word) (x : Value w) (place : ℕ) (first rest : List ℕ) → AreBytes first → IsWordSpelling w x place first rest → CanSpell w x
 spelling_can (Within n low high) x place first rest small h = (h.2, h.3)
 spelling_can (Count n) x place first rest small h = rw (← h.1) (rw (← h.0) (big_from-lt 0 (length first) first small))
 spelling_can (Optional true n) (Some x) place first rest small h = refl

@@ -3,7 +3,7 @@ use Rattle.std.specs.Prelude.{ℕ, List, Option}
 use Rattle.std.specs.List.{AllByRecursion}
 use Rattle.afp_requests.specs.declared.call.Call.{Call}
 use Rattle.afp_requests.specs.declared.call.Call.TheVariants.{ByteRangeLock, CloseVol, CloseDir, CloseFork, CopyFile, CreateDir, CreateFile, Delete, Enumerate, Flush, FlushFork, GetForkParms, GetSrvrInfo, GetSrvrParms, GetVolParms, Login, Logout, MapID, MapName, MoveAndRename, OpenVol, OpenDir, OpenFork, Read, Rename, SetDirParms, SetFileParms, SetForkParms, SetVolParms, Write, GetFileDirParms, SetFileDirParms, GetUserInfo, GetSrvrMsg, CreateID, DeleteID, ResolveID, ExchangeFiles, OpenDT, CloseDT, GetIcon, GetIconInfo, AddAPPL, RemoveAPPL, GetAPPL, AddComment, RemoveComment, GetComment, ByteRangeLockExt, ReadExt, WriteExt, LoginExt, GetSessionToken, DisconnectOldSession, EnumerateExt, EnumerateExt2, AddIcon}
-use Rattle.afp_requests.specs.Words.{Layout, BeginsWith, IsTyped, CanSpell, IsEnclosed, CanEnclose, canonical_fields, canonical_enclosed, enclosed_bytes}
+use Rattle.afp_requests.specs.Words.{Layout, BeginsWith, IsTypedValue, CanSpell, IsEnclosed, CanEnclose, canonical_fields, canonical_enclosed, enclosed_bytes}
 use Rattle.afp_requests.specs.Login.{login, login_ext, logout}
 use Rattle.afp_requests.specs.Token.{get_session_token, disconnect_old_session}
 use Rattle.afp_requests.specs.Server.{get_srvr_info, get_srvr_parms, get_srvr_msg}
@@ -90,7 +90,7 @@ pub record Spells (call : Call) (block : List ℕ) (enclosed : Option (List ℕ)
 
 -- each number is one of its field's type, and each path is a path; of bytes nothing is asked
 abbrev pub IsTypedCall : Call → Type 0
-IsTypedCall call = AllByRecursion (λ f. IsTyped f.word f.value) (layout_of call).fields
+IsTypedCall call = AllByRecursion (λ f. IsTypedValue f.word f.value) (layout_of call).fields
 
 -- each text is short enough for its count, each number stands in its range, a piece has its size: of these requests a block and what comes with it can be written
 pub record IsSpellable (call : Call) : Type 0 where

@@ -42,75 +42,75 @@ Value Pathname = PathValue
 Value Tail = List ℕ
 
 -- a field: a word, and its value
-pub record Field : Type 0 where
+pub record RequestField : Type 0 where
   pub word : Word
   pub value : Value word
 
 -- the field words, as the requests write them
-abbrev pub command : ℕ → Field
+abbrev pub command : ℕ → RequestField
 command n = record { word = Literal n; value = tt }
 
-abbrev pub literal : ℕ → Field
+abbrev pub literal : ℕ → RequestField
 literal n = record { word = Literal n; value = tt }
 
-abbrev pub pad : Field
+abbrev pub pad : RequestField
 pad = record { word = Pad; value = tt }
 
-abbrev pub last_pad : Field
+abbrev pub last_pad : RequestField
 last_pad = record { word = LastPad; value = tt }
 
-abbrev pub even : Field
+abbrev pub even : RequestField
 even = record { word = Even; value = tt }
 
-abbrev pub u8 : ℕ → Field
+abbrev pub u8 : ℕ → RequestField
 u8 x = record { word = Number 1; value = x }
 
-abbrev pub u16 : ℕ → Field
+abbrev pub u16 : ℕ → RequestField
 u16 x = record { word = Number 2; value = x }
 
-abbrev pub u32 : ℕ → Field
+abbrev pub u32 : ℕ → RequestField
 u32 x = record { word = Number 4; value = x }
 
-abbrev pub volume_id : VolumeId → Field
+abbrev pub volume_id : VolumeId → RequestField
 volume_id volume = u16 volume.0
 
-abbrev pub node_id : NodeId → Field
+abbrev pub node_id : NodeId → RequestField
 node_id node = u32 node.0
 
-abbrev pub fork_ref : ForkRef → Field
+abbrev pub fork_ref : ForkRef → RequestField
 fork_ref reference = u16 reference.0
 
-abbrev pub u8_within : ℕ → ℕ → ℕ → Field
+abbrev pub u8_within : ℕ → ℕ → ℕ → RequestField
 u8_within low high x = record { word = Within 1 low high; value = x }
 
-abbrev pub u16_within : ℕ → ℕ → ℕ → Field
+abbrev pub u16_within : ℕ → ℕ → ℕ → RequestField
 u16_within low high x = record { word = Within 2 low high; value = x }
 
-abbrev pub count_in : ℕ → ℕ → Field
+abbrev pub count_in : ℕ → ℕ → RequestField
 count_in n x = record { word = Count n; value = x }
 
-abbrev pub optional : Bool → ℕ → Option ℕ → Field
+abbrev pub optional : Bool → ℕ → Option ℕ → RequestField
 optional there n x = record { word = Optional there n; value = x }
 
-abbrev pub i32 : ℤ → Field
+abbrev pub i32 : ℤ → RequestField
 i32 x = record { word = Signed32; value = x }
 
-abbrev pub i64 : ℤ → Field
+abbrev pub i64 : ℤ → RequestField
 i64 x = record { word = Signed64; value = x }
 
-abbrev pub plain_bytes : ℕ → List ℕ → Field
+abbrev pub plain_bytes : ℕ → List ℕ → RequestField
 plain_bytes n bytes = record { word = Plain n; value = bytes }
 
-abbrev pub counted_field : ℕ → List ℕ → Field
+abbrev pub counted_field : ℕ → List ℕ → RequestField
 counted_field n bytes = record { word = Counted n; value = bytes }
 
-abbrev pub str : List ℕ → Field
+abbrev pub str : List ℕ → RequestField
 str bytes = counted_field 1 bytes
 
-abbrev pub pathname : PathValue → Field
+abbrev pub pathname : PathValue → RequestField
 pathname p = record { word = Pathname; value = p }
 
-abbrev pub tail : List ℕ → Field
+abbrev pub tail : List ℕ → RequestField
 tail bytes = record { word = Tail; value = bytes }
 
 -- the bytes are a count in n bytes, and the text that it counts
@@ -144,26 +144,26 @@ IsOptional false n (Some x) bytes = ⊥
 IsOptional false n None bytes = bytes ≡ []
 
 -- These bytes, which begin at this place of their block and have the rest behind them, spell the word with this value.
-abbrev pub IsSpelling : (w : Word) → Value w → ℕ → List ℕ → List ℕ → Type 0
-IsSpelling (Literal n) x place bytes rest = bytes ≡ n ∷ []
-IsSpelling Pad x place bytes rest = length bytes ≡ 1
-IsSpelling LastPad x place bytes rest = (length bytes ≡ 1) ⊎ ((bytes ≡ []) × (rest ≡ []))
-IsSpelling Even x place bytes rest = length bytes ≡ place % 2
-IsSpelling (Number n) x place bytes rest = (length bytes ≡ n) × (big_number n bytes ≡ x)
-IsSpelling (Within n low high) x place bytes rest = (length bytes ≡ n) × (big_number n bytes ≡ x) × (low ≤ x) × (x ≤ high)
-IsSpelling (Count n) x place bytes rest = (length bytes ≡ n) × (big_number n bytes ≡ x)
-IsSpelling (Optional there n) x place bytes rest = IsOptional there n x bytes
-IsSpelling Signed32 x place bytes rest = (length bytes ≡ 4) × (cast_signed w32 (big_number 4 bytes) ≡ x)
-IsSpelling Signed64 x place bytes rest = (length bytes ≡ 8) × (cast_signed w64 (big_number 8 bytes) ≡ x)
-IsSpelling (Plain n) x place bytes rest = (length bytes ≡ n) × (bytes ≡ x)
-IsSpelling (Counted n) x place bytes rest = IsCountedText n x bytes
-IsSpelling Pathname x place bytes rest = SpellsPathname x bytes
-IsSpelling Tail x place bytes rest = (bytes ≡ x) × (rest ≡ [])
+abbrev pub IsWordSpelling : (w : Word) → Value w → ℕ → List ℕ → List ℕ → Type 0
+IsWordSpelling (Literal n) x place bytes rest = bytes ≡ n ∷ []
+IsWordSpelling Pad x place bytes rest = length bytes ≡ 1
+IsWordSpelling LastPad x place bytes rest = (length bytes ≡ 1) ⊎ ((bytes ≡ []) × (rest ≡ []))
+IsWordSpelling Even x place bytes rest = length bytes ≡ place % 2
+IsWordSpelling (Number n) x place bytes rest = (length bytes ≡ n) × (big_number n bytes ≡ x)
+IsWordSpelling (Within n low high) x place bytes rest = (length bytes ≡ n) × (big_number n bytes ≡ x) × (low ≤ x) × (x ≤ high)
+IsWordSpelling (Count n) x place bytes rest = (length bytes ≡ n) × (big_number n bytes ≡ x)
+IsWordSpelling (Optional there n) x place bytes rest = IsOptional there n x bytes
+IsWordSpelling Signed32 x place bytes rest = (length bytes ≡ 4) × (cast_signed w32 (big_number 4 bytes) ≡ x)
+IsWordSpelling Signed64 x place bytes rest = (length bytes ≡ 8) × (cast_signed w64 (big_number 8 bytes) ≡ x)
+IsWordSpelling (Plain n) x place bytes rest = (length bytes ≡ n) × (bytes ≡ x)
+IsWordSpelling (Counted n) x place bytes rest = IsCountedText n x bytes
+IsWordSpelling Pathname x place bytes rest = SpellsPathname x bytes
+IsWordSpelling Tail x place bytes rest = (bytes ≡ x) × (rest ≡ [])
 
 -- The bytes, of which the first stands at this place of its block, begin with these fields. What stands behind them is free.
-abbrev pub BeginsWith : ℕ → List Field → List ℕ → Type 0
+abbrev pub BeginsWith : ℕ → List RequestField → List ℕ → Type 0
 BeginsWith place [] bytes = Unit {0}
-BeginsWith place (f ∷ fs) bytes = (first : List ℕ) × (rest : List ℕ) × (bytes ≡ first ++ rest) × IsSpelling f.word f.value place first rest × BeginsWith (place + length first) fs rest
+BeginsWith place (f ∷ fs) bytes = (first : List ℕ) × (rest : List ℕ) × (bytes ≡ first ++ rest) × IsWordSpelling f.word f.value place first rest × BeginsWith (place + length first) fs rest
 
 -- the number, where there is one, has n bytes
 abbrev pub IsNumberIn : ℕ → Option ℕ → Type 0
@@ -171,14 +171,14 @@ IsNumberIn n None = Unit {0}
 IsNumberIn n (Some x) = x < 256 ^ n
 
 -- a number is one of its type, and a path is a path; of bytes nothing is asked, and counts are for the next definition
-abbrev pub IsTyped : (w : Word) → Value w → Type 0
-IsTyped (Number n) x = x < 256 ^ n
-IsTyped (Within n low high) x = x < 256 ^ n
-IsTyped (Optional there n) x = IsNumberIn n x
-IsTyped Signed32 x = FitsSigned w32 x
-IsTyped Signed64 x = FitsSigned w64 x
-IsTyped Pathname x = IsPath x
-IsTyped w x = Unit {0}
+abbrev pub IsTypedValue : (w : Word) → Value w → Type 0
+IsTypedValue (Number n) x = x < 256 ^ n
+IsTypedValue (Within n low high) x = x < 256 ^ n
+IsTypedValue (Optional there n) x = IsNumberIn n x
+IsTypedValue Signed32 x = FitsSigned w32 x
+IsTypedValue Signed64 x = FitsSigned w64 x
+IsTypedValue Pathname x = IsPath x
+IsTypedValue w x = Unit {0}
 
 -- the value can be spelt: the number is in its range, or there exactly where it is asked; the bytes are as many as are asked, or few enough for their count
 abbrev pub CanSpell : (w : Word) → Value w → Type 0
@@ -212,7 +212,7 @@ canonical Pathname x place = x.kind ∷ (replicate (hint_size x.kind) 0 ++ (big_
 canonical Tail x place = x
 
 -- the canonical bytes of fields, one after the other
-abbrev pub canonical_fields : ℕ → List Field → List ℕ
+abbrev pub canonical_fields : ℕ → List RequestField → List ℕ
 canonical_fields place [] = []
 canonical_fields place (f ∷ fs) = canonical f.word f.value place ++ canonical_fields (place + length (canonical f.word f.value place)) fs
 
@@ -223,13 +223,13 @@ pub data Enclosed : Type 0 where
 
 -- a request's fields, and what comes with them
 pub record Layout : Type 0 where
-  pub fields : List Field
+  pub fields : List RequestField
   pub enclosed : Enclosed
 
-abbrev pub in_command : List Field → Layout
+abbrev pub in_command : List RequestField → Layout
 in_command fields = record { fields = fields; enclosed = Nothing }
 
-abbrev pub in_write : List Field → ℕ → List ℕ → Layout
+abbrev pub in_write : List RequestField → ℕ → List ℕ → Layout
 in_write fields size piece = record { fields = fields; enclosed = Piece size piece }
 
 -- Where the request has a piece, it comes in a Write frame whose data begin with it, and it has its size; what stands behind it is dropped. Where it has none, it comes in a Command frame.

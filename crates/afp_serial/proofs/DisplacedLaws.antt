@@ -14,33 +14,33 @@ use Rattle.afp_serial.specs.declared.ask.Told.TheVariants as told
 use Rattle.afp_serial.specs.declared.attachment.Attachment.{Attachment}
 use Rattle.afp_serial.specs.declared.attachment.Attachment.TheVariants.{Attached, Detached}
 use Rattle.afp_serial.specs.Answer.{answer_at, after_at, after_call, after_parting, is_full, link_number, refusal_reply, request, told_call, told_parting, told_pulse, told_verdict, Verdict, repeats, refused, runs, verdict}
-use Rattle.afp_serial.specs.Laws.{HasNoSession, is_of_session, TellsDisplaced, LeavesDisplaced, OnlySweeps}
-use Rattle.afp_serial.specs.World.{stands_at, session_at, World, Session, at_moment}
+use Rattle.afp_serial.specs.Laws.{HasNoSession, is_session_ask, TellsDisplaced, LeavesDisplaced, OnlyEndsExpired}
+use Rattle.afp_serial.specs.World.{is_on_link, session_at, World, Session, at_moment}
 
 -- no session has the link
 
-attached-to : (link : LinkNumber) (place : Attachment) → stands_at link.0 place ≡ true → place ≡ Attached link
+attached-to : (link : LinkNumber) (place : Attachment) → is_on_link link.0 place ≡ true → place ≡ Attached link
 attached-to link (Attached l) stands = let same : l.0 ≡ link.0 = eqb-true l.0 link.0 stands in λ i. Attached (link_number (same i))
 attached-to link (Detached m) stands = absurd (cc)
 
-stands-not : (link : LinkNumber) (place : Attachment) → place ≢ Attached link → not (stands_at link.0 place) ≡ true
-stands-not link place other = elsewhere (stands_at link.0 place) (λ stands. other (attached-to link place stands))
+stands-not : (link : LinkNumber) (place : Attachment) → place ≢ Attached link → not (is_on_link link.0 place) ≡ true
+stands-not link place other = elsewhere (is_on_link link.0 place) (λ stands. other (attached-to link place stands))
   where
     elsewhere : (b : Bool) → (b ≡ true → ⊥) → not b ≡ true
     elsewhere true no_more = absurd (no_more refl)
     elsewhere false no_more = refl
 
-not-attached : (link : LinkNumber) (place : Attachment) → not (stands_at link.0 place) ≡ true → place ≢ Attached link
-not-attached link place other is = never (stands_at link.0 place) (ap (stands_at link.0) is ∙ eq-eqb link.0 link.0 refl) other
+not-attached : (link : LinkNumber) (place : Attachment) → not (is_on_link link.0 place) ≡ true → place ≢ Attached link
+not-attached link place other is = never (is_on_link link.0 place) (ap (is_on_link link.0) is ∙ eq-eqb link.0 link.0 refl) other
 
 pub none-attached : (w : World) (link : LinkNumber) → HasNoSession w link → session_at w link.0 ≡ None
 none-attached w link h =
-    none-find (λ s. stands_at link.0 s.place) w.sessions
-    (all-each (λ s. not (stands_at link.0 s.place)) w.sessions (λ k d within. stands-not link _ (h k d within)))
+    none-find (λ s. is_on_link link.0 s.place) w.sessions
+    (all-each (λ s. not (is_on_link link.0 s.place)) w.sessions (λ k d within. stands-not link _ (h k d within)))
 
 pub attached-none : (w : World) (link : LinkNumber) → session_at w link.0 ≡ None → HasNoSession w link
 attached-none w link none k d within =
-    not-attached link _ (each-all (λ s. not (stands_at link.0 s.place)) w.sessions (find-none (λ s. stands_at link.0 s.place) w.sessions none) k d within)
+    not-attached link _ (each-all (λ s. not (is_on_link link.0 s.place)) w.sessions (find-none (λ s. is_on_link link.0 s.place) w.sessions none) k d within)
 
 -- told Displaced
 
@@ -63,7 +63,7 @@ parting-displaced : (session : Option Session) → told_parting session ≡ told
 parting-displaced None h = refl
 parting-displaced (Some s) h = absurd (cc)
 
-pub at-displaced : (w : World) (link : ℕ) (a : Ask) (o : Outcome) → answer_at w link a o ≡ told.Displaced → (is_of_session a link ≡ true) × (session_at w link ≡ None)
+pub at-displaced : (w : World) (link : ℕ) (a : Ask) (o : Outcome) → answer_at w link a o ≡ told.Displaced → (is_session_ask a link ≡ true) × (session_at w link ≡ None)
 unfolding answer_at
 at-displaced w link (ask.Open attention) o h =
     cond_both (is_full w) (refusal_reply code.NoMoreSessions) (told.Opened (link_number w.next_link))
@@ -75,7 +75,7 @@ at-displaced w link ask.Bye o h = (refl, parting-displaced (session_at w link) h
 at-displaced w link ask.Lost o h = (refl, parting-displaced (session_at w link) h)
 at-displaced w link ask.Drain o h = absurd (cc)
 
-displaced-at : (w : World) (link : ℕ) (a : Ask) (o : Outcome) → is_of_session a link ≡ true → session_at w link ≡ None → answer_at w link a o ≡ told.Displaced
+displaced-at : (w : World) (link : ℕ) (a : Ask) (o : Outcome) → is_session_ask a link ≡ true → session_at w link ≡ None → answer_at w link a o ≡ told.Displaced
 unfolding answer_at
 displaced-at w link (ask.Open attention) o is none = absurd (cc)
 displaced-at w link (ask.Call id write offset payload) o is none = ap (λ (s : Option Session). told_call w s (request id write offset payload) o) none
@@ -94,7 +94,7 @@ tells-displaced w e = (
 
 -- what it leaves
 
-leaves-at : (w : World) (link : ℕ) (a : Ask) (o : Outcome) → is_of_session a link ≡ true → session_at w link ≡ None → a ≢ ask.Pulse → after_at w link a o ≡ w
+leaves-at : (w : World) (link : ℕ) (a : Ask) (o : Outcome) → is_session_ask a link ≡ true → session_at w link ≡ None → a ≢ ask.Pulse → after_at w link a o ≡ w
 unfolding after_at
 leaves-at w link (ask.Open attention) o is none other = absurd (cc)
 leaves-at w link (ask.Call id write offset payload) o is none other = ap (λ (s : Option Session). after_call w s (request id write offset payload) o) none
@@ -108,6 +108,6 @@ leaves-displaced w e h other =
     let both = at-displaced (at_moment w e.at) e.link.0 e.ask e.outcome h in
     leaves-at (at_moment w e.at) e.link.0 e.ask e.outcome both.0 both.1 other
 
-pub only-sweeps : OnlySweeps
+pub only-sweeps : OnlyEndsExpired
 unfolding after_at
 only-sweeps w e is = ap (λ (a : Ask). after_at (at_moment w e.at) e.link.0 a e.outcome) is

@@ -11,7 +11,7 @@ use Rattle.afp_serial.specs.declared.house_fault.HouseFault.TheVariants.{Server,
 use Rattle.afp_serial.specs.declared.user.User.{User}
 use Rattle.afp_serial.specs.Household.{Household}
 use Rattle.afp_serial.specs.Limits.{longest_server, longest_user, longest_volume, longest_message, most_users, most_volumes, first_user_id}
-use Rattle.afp_serial.specs.HouseFault.{first_bad, is_name, is_text, is_bad_user, is_bad_volume, fault_if, first_fault, house_fault}
+use Rattle.afp_serial.specs.HouseFault.{first_bad_name, is_name, is_text, is_bad_user, is_bad_volume, fault_if, first_fault, house_fault}
 use Rattle.afp_serial.specs.Faultless.{IsFaultless, NamesFirstBad}
 use Rattle.afp_serial.proofs.FirstBad.{none_bad, is_first_bad}
 
@@ -64,21 +64,21 @@ good_volume before name good =
     record { named = not_not _ parts.0; new = parts.1 }
 
 -- the users and the volumes where none is bad
-user_at : (users : List User) → first_bad is_bad_user users ≡ None → (k : ℕ) (d : User) → k < length users → IsGoodUser (take k users) (get_or users k d)
+user_at : (users : List User) → first_bad_name is_bad_user users ≡ None → (k : ℕ) (d : User) → k < length users → IsGoodUser (take k users) (get_or users k d)
 user_at users none k d h = good_user _ _ (none_bad is_bad_user users none k d h)
 
-volume_at : (volumes : List (List ℕ)) → first_bad is_bad_volume volumes ≡ None → (k : ℕ) (d : List ℕ) → k < length volumes → IsGoodVolume (take k volumes) (get_or volumes k d)
+volume_at : (volumes : List (List ℕ)) → first_bad_name is_bad_volume volumes ≡ None → (k : ℕ) (d : List ℕ) → k < length volumes → IsGoodVolume (take k volumes) (get_or volumes k d)
 volume_at volumes none k d h = good_volume _ _ (none_bad is_bad_volume volumes none k d h)
 
-id_at : (users : List User) → first_bad is_bad_user users ≡ None → (k : ℕ) (d : User) → k < length users → (get_or users k d).id ≡ first_user_id + k
+id_at : (users : List User) → first_bad_name is_bad_user users ≡ None → (k : ℕ) (d : User) → k < length users → (get_or users k d).id ≡ first_user_id + k
 id_at users none k d h = omega (arith, (user_at users none k d h).follows, length-take-le k users (omega arith))
 
-users_differ : (users : List User) → first_bad is_bad_user users ≡ None → (j k : ℕ) (d : User) → j < k → k < length users → (get_or users j d).name ≢ (get_or users k d).name
+users_differ : (users : List User) → first_bad_name is_bad_user users ≡ None → (j k : ℕ) (d : User) → j < k → k < length users → (get_or users j d).name ≢ (get_or users k d).name
 users_differ users none j k d earlier h =
     let new : bytes_eq (get_or (take k users) j d).name (get_or users k d).name ≡ false = none_passes (λ (other : User). bytes_eq other.name (get_or users k d).name) (take k users) (user_at users none k d h).new j d (omega (arith, length-take-le k users (omega arith))) in
     differ _ _ (rw (get_or-take k users j d earlier) at new)
 
-volumes_differ : (volumes : List (List ℕ)) → first_bad is_bad_volume volumes ≡ None → (j k : ℕ) (d : List ℕ) → j < k → k < length volumes → get_or volumes j d ≢ get_or volumes k d
+volumes_differ : (volumes : List (List ℕ)) → first_bad_name is_bad_volume volumes ≡ None → (j k : ℕ) (d : List ℕ) → j < k → k < length volumes → get_or volumes j d ≢ get_or volumes k d
 volumes_differ volumes none j k d earlier h =
     let new : bytes_eq (get_or (take k volumes) j d) (get_or volumes k d) ≡ false = none_passes (λ (other : List ℕ). bytes_eq other (get_or volumes k d)) (take k volumes) (volume_at volumes none k d h).new j d (omega (arith, length-take-le k volumes (omega arith))) in
     differ _ _ (rw (get_or-take k volumes j d earlier) at new)
@@ -101,7 +101,7 @@ clear true true None true None true none = (refl, refl, refl, refl, refl, refl)
 pub faultless : (house : Household) → house_fault house ≡ None → IsFaultless house
 unfolding house_fault
 faultless house none =
-    let each : (is_name longest_server house.server ≡ true) × (nat_le (length house.users) most_users ≡ true) × (first_bad is_bad_user house.users ≡ None) × ((nat_le 1 (length house.volumes) && nat_le (length house.volumes) most_volumes) ≡ true) × (first_bad is_bad_volume house.volumes ≡ None) × (is_text longest_message house.message ≡ true) = clear _ _ _ _ _ _ none in
+    let each : (is_name longest_server house.server ≡ true) × (nat_le (length house.users) most_users ≡ true) × (first_bad_name is_bad_user house.users ≡ None) × ((nat_le 1 (length house.volumes) && nat_le (length house.volumes) most_volumes) ≡ true) × (first_bad_name is_bad_volume house.volumes ≡ None) × (is_text longest_message house.message ≡ true) = clear _ _ _ _ _ _ none in
     let number : (nat_le 1 (length house.volumes) ≡ true) × (nat_le (length house.volumes) most_volumes ≡ true) = both _ _ each.3 in
     record {
       server = each.0;
@@ -126,8 +126,8 @@ server_fits house none =
 told_index :
     (house : Household) (fault : HouseFault) (server users : Bool) (user : Option ℕ) (volumes : Bool)
     (volume : Option ℕ) (message : Bool)
-    → user ≡ first_bad is_bad_user house.users
-    → volume ≡ first_bad is_bad_volume house.volumes
+    → user ≡ first_bad_name is_bad_user house.users
+    → volume ≡ first_bad_name is_bad_volume house.volumes
     → first_fault
     (fault_if (not server) Server ∷ fault_if (not users) Users ∷ option_map UserAt user
     ∷ fault_if (not volumes) Volumes ∷ option_map VolumeAt volume ∷ fault_if (not message) Message ∷ []) ≡ Some fault

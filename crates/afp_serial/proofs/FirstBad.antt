@@ -3,7 +3,7 @@ use Rattle.std.proofs.Common.{◌≡◌, ap, ℕ, zero, suc, ◌+◌, ◌<◌, �
 use Rattle.std.specs.Prelude.{Option, Some, None, if◌then◌else◌}
 use Rattle.std.proofs.Math.Seq.{take-suc, drop-cons, length-take-le, take-append_seam, get_or-append_seam}
 use Rattle.std.proofs.lemmas.List.{drop_all, append-nil, length-append}
-use Rattle.afp_serial.specs.HouseFault.{first_bad, first_bad_behind}
+use Rattle.afp_serial.specs.HouseFault.{first_bad_name, first_bad_behind}
 use Rattle.afp_serial.specs.Faultless.{IsFirstBad}
 
 -- the search from an index on
@@ -35,7 +35,7 @@ none_behind is_bad before (x ∷ rest) none (suc k) d h =
     rw (← append_assoc before (x ∷ []) (take k rest))
     (none_behind is_bad (before ++ x ∷ []) rest (rest_none _ _ _ none) k d (omega arith))
 
-pub none_bad : {X : Type 0} (is_bad : List X → X → Bool) (xs : List X) → first_bad is_bad xs ≡ None → (k : ℕ) (d : X) → k < length xs → is_bad (take k xs) (get_or xs k d) ≡ false
+pub none_bad : {X : Type 0} (is_bad : List X → X → Bool) (xs : List X) → first_bad_name is_bad xs ≡ None → (k : ℕ) (d : X) → k < length xs → is_bad (take k xs) (get_or xs k d) ≡ false
 none_bad is_bad xs none = none_behind is_bad [] xs none
 
 -- where one is found, it is the first: one good element more: the next one
@@ -67,5 +67,5 @@ found_behind {X = X} is_bad before (x ∷ rest) i good found =
     (λ k d h. rw (append_assoc before (x ∷ []) rest) (good_more is_bad before x rest good here k d (omega (arith, length-append before (x ∷ []))))) later))
     (is_bad before x) refl found
 
-pub is_first_bad : {X : Type 0} (is_bad : List X → X → Bool) (xs : List X) (i : ℕ) → first_bad is_bad xs ≡ Some i → IsFirstBad is_bad xs i
+pub is_first_bad : {X : Type 0} (is_bad : List X → X → Bool) (xs : List X) (i : ℕ) → first_bad_name is_bad xs ≡ Some i → IsFirstBad is_bad xs i
 is_first_bad is_bad xs i found = found_behind is_bad [] xs i (λ k d h. absurd (omega arith)) found

@@ -26,7 +26,7 @@ use Rattle.afp_serial.proofs.SoundParts.{do_clash, do_overlap, locks-parts, open
 use Rattle.afp_serial.proofs.VolumeStates.{IsServed, served-at}
 use Rattle.afp_serial.specs.Fork.{OpenAsked, file_asked, fork_ref, is_denied, opened_reply}
 use Rattle.afp_serial.specs.ForkBytes.{read_bytes, read_reply}
-use Rattle.afp_serial.specs.ForkLaws.{DenialIsShown, DeniesConflicts, EndIsShown, NoByteTwice, NoTwoConflict, RangesCount, RangesEnd, RangesToTop, MeetsNoneBehind, MeetsUpToTop, is_lock_range}
+use Rattle.afp_serial.specs.ForkLaws.{DenialIsShown, DeniesConflicts, EndIsShown, NoByteTwice, NoTwoConflict, RangesCount, RangesEnd, RangesToLastByte, MeetsNoneBehind, MeetsUpToLastByte, is_lock_range}
 use Rattle.afp_serial.specs.Lock.{range_to}
 use Rattle.afp_base.specs.Limits.{last_byte}
 use Rattle.afp_serial.specs.OnFork.{bytes_of, is_met_by_other, meets_lock}
@@ -98,7 +98,7 @@ covers-range from to byte r i = (λ c. (omega (arith, i.starts, c.0), omega (ari
 pub ranges-count : RangesCount
 ranges-count from more byte r is = covers-range from (from + more) byte r (range-is from (from + more) r is)
 
-pub ranges-to-top : RangesToTop
+pub ranges-to-top : RangesToLastByte
 ranges-to-top from byte r is = covers-range from last_byte byte r (range-is from last_byte r is)
 
 ends-of : (from to : ℕ) (r : Range) → IsRange from to r → (r.from ≤ r.to) × (r.to ≤ last_byte)
@@ -154,7 +154,7 @@ any-same q p r (x ∷ xs) all same =
     let e = and_parts (q x) (list_all q xs) all in
     λ i. same x e.0 i || any-same q p r xs e.1 same i
 
-pub meets-up-to-top : MeetsUpToTop
+pub meets-up-to-top : MeetsUpToLastByte
 unfolding is_met_by_other
 meets-up-to-top w o from to all =
     any-same (λ (lock : Lock). is_lock_range lock.range) (λ lock. meets_lock w o (record { from = from; to = to }) lock && not (lock.reference == o.reference)) (λ lock. meets_lock w o (record { from = from; to = min to last_byte }) lock && not (lock.reference == o.reference)) w.locks all

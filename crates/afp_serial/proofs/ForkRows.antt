@@ -12,7 +12,7 @@ use Rattle.afp_bitmap.specs.Params.{params, IsAnswer}
 use Rattle.afp_bitmap.specs.declared.file.FileValues.{FileValues}
 use Rattle.afp_bitmap.specs.declared.params.Values.{Values}
 use Rattle.afp_bitmap.specs.declared.params.Values.TheVariants.{Dir, File as FileParams}
-use Rattle.afp_replies.specs.Bytes.{u16}
+use Rattle.afp_replies.specs.Bytes.{u16_bytes}
 use Rattle.afp_replies.specs.Commands.{rows, shape_in, shape_of}
 use Rattle.afp_replies.specs.Replies.{canonical_reply}
 use Rattle.afp_replies.specs.Requested.{IsTold}
@@ -85,7 +85,7 @@ file-params-told : (call : Call) (bits : ℕ) (file : FileValues) → Asks call 
 file-params-told call bits file asks answer inside =
     let values : Values = FileParams file in
     let size = params-size 1 bits values answer in
-    let whole : length (canonical_reply (Params bits values)) ≡ 2 + length (params bits values) = two-parts (u16 bits) (params bits values) in
+    let whole : length (canonical_reply (Params bits values)) ≡ 2 + length (params bits values) = two-parts (u16_bytes bits) (params bits values) in
     record {
       short = le-leb (length (canonical_reply (Params bits values))) payload_limit (omega (arith, size, whole));
       fits = record { fits = (omega arith, record { within = within file_mask bits inside; answer = answer }); told = asks };

@@ -34,7 +34,7 @@ use Rattle.afp_serial.specs.World.{Refusal, plain, session_at, volume_at, World,
 use Rattle.afp_serial.specs.ForkBytes.{ReadAsked, meets_end, most_read, read_bytes, read_refusals, read_reply, reads, WriteAsked, is_from_end, start_in, write_start}
 use Rattle.afp_serial.specs.ForkHistory.{all_changes, bytes_in, bytes_on, changes_asked, changes_at, changes_by, changes_in, changes_of, has_open, put_of, stays_open, through}
 use Rattle.afp_serial.specs.History.{is_lawful, stand}
-use Rattle.afp_serial.specs.HistoryLaws.{ForksHaveTheirChanges, MayRead, NeverByteTwice, NeverTwoConflict, PutsPiece, ReadsAll, WrittenIsNotRefused, WrittenIsRead, WrittenIsThere, WritesPutTheirPiece}
+use Rattle.afp_serial.specs.HistoryLaws.{ForksHaveTheirChanges, MayReadFork, NeverByteTwice, NeverTwoConflict, PutsPiece, ReadsAll, WrittenIsNotRefused, WrittenIsRead, WrittenIsThere, WritesPutTheirPiece}
 use Rattle.afp_serial.specs.OnFork.{OpenFile, bytes_of, done_with, is_locked, on_fork, open_file}
 use Rattle.afp_serial.specs.Rows.{effect, ends_session, refusal, row}
 use Rattle.afp_serial.specs.Sound.{IsSound, has_volume_open, is_file_of, is_lawful_open}
@@ -172,7 +172,7 @@ record ReadsIt (w : World) (s : Session) (call : Call) (piece : List ℕ) : Type
   reply : (effect w s call).reply ≡ Piece piece
 
 module _ (w : World) (s : Session) (fork : Fork) (at : ℕ) (piece bytes : List ℕ) (few : length piece ≤ payload_limit) (had : bytes_in w fork ≡ Some bytes) (there : taken bytes at (length piece) ≡ piece) where
-  reads-it : (reference character : ℕ) → MayRead w s reference at (length piece) fork
+  reads-it : (reference character : ℕ) → MayReadFork w s reference at (length piece) fork
       → (first_holding ((reads reference (read_of at (length piece) character)).refusals w s) ≡ None) × (((reads reference (read_of at (length piece) character)).effect w s).reply ≡ Piece piece)
   reads-it reference character may =
       let asked : ReadAsked = read_of at (length piece) character in
@@ -187,7 +187,7 @@ module _ (w : World) (s : Session) (fork : Fork) (at : ℕ) (piece bytes : List 
         ap (λ q. (done_with q w (λ f. record { world = w; reply = read_reply asked f })).reply) may.is ∙ ap (λ b. Piece (read_bytes b asked)) same ∙ ap Piece its.0,
       )
 
-  call-reads : (reference : ForkRef) (call : Call) → MayRead w s reference.0 at (length piece) fork → ReadsAll reference at (length piece) call → ReadsIt w s call piece
+  call-reads : (reference : ForkRef) (call : Call) → MayReadFork w s reference.0 at (length piece) fork → ReadsAll reference at (length piece) call → ReadsIt w s call piece
   unfolding row
   call-reads reference call may (inl r) = subst (λ c. ReadsIt w s c piece) (sym r.1) (let t = reads-it reference.0 r.0 may in record { passes = t.0; reply = t.1 })
   call-reads reference call may (inr is) = subst (λ c. ReadsIt w s c piece) (sym is) (let t = reads-it reference.0 0 may in record { passes = t.0; reply = t.1 })

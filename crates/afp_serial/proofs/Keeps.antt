@@ -14,7 +14,7 @@ use Rattle.afp_serial.specs.declared.ask.Outcome.TheVariants as outcome
 use Rattle.afp_serial.specs.declared.ask.Told.{Told}
 use Rattle.afp_serial.specs.Answer.{request, is_full, with_new_session, after_verdict, after_call, is_expired, after_parting, drain_moment, kept_in, told_verdict, after_at, after, Verdict, repeats, refused, runs, block_of, enclosed_of, verdict}
 use Rattle.afp_serial.specs.Rows.{refusal, effect}
-use Rattle.afp_serial.specs.World.{stands_at, session_at, ending, World, Session, at_moment}
+use Rattle.afp_serial.specs.World.{is_on_link, session_at, ending, World, Session, at_moment}
 
 -- what is known of each call that an ask spells
 abbrev pub IsKnown : (Call → Type 0) → Ask → Type 0
@@ -55,7 +55,7 @@ call-keeps : {known : Call → Type 0} {P : World → Type 0} → Keeps known P 
 call-keeps k w link None r o knows is h = h
 call-keeps k w link (Some s) r o knows is h =
     let v : Verdict = verdict w s r in
-    k.stores (after_verdict w s v o) s r (told_verdict w s v o) (verdict-keeps k w s r (λ x. stands_at link x.place) knows is v o refl h)
+    k.stores (after_verdict w s v o) s r (told_verdict w s v o) (verdict-keeps k w s r (λ x. is_on_link link x.place) knows is v o refl h)
 
 parting-keeps : {known : Call → Type 0} {P : World → Type 0} → Keeps known P → (w : World) (session : Option Session) → P w → P (after_parting w session)
 parting-keeps k w None h = h

@@ -14,7 +14,7 @@ use Rattle.afp_requests.proofs.CallLemmas.{readers_sound}
 use Rattle.afp_requests.proofs.ReaderLemmas.{spelt_spells}
 use Rattle.afp_requests.specs.Call.{Spells, layout_of}
 use Rattle.afp_requests.specs.Spelt.{spelt_call}
-use Rattle.afp_requests.specs.Words.{Word, Value, Field, BeginsWith, Enclosed, Nothing, Piece, IsCountedText, IsEnclosed, IsOptional, IsSpelling, SpellsPathname, Literal, Pad, LastPad, Even, Number, Within, Count, Optional, Signed32, Signed64, Plain, Counted, Pathname, Tail, count_size}
+use Rattle.afp_requests.specs.Words.{Word, Value, RequestField, BeginsWith, Enclosed, Nothing, Piece, IsCountedText, IsEnclosed, IsOptional, IsWordSpelling, SpellsPathname, Literal, Pad, LastPad, Even, Number, Within, Count, Optional, Signed32, Signed64, Plain, Counted, Pathname, Tail, count_size}
 use Rattle.afp_requests.specs.declared.call.Call.{Call}
 use Rattle.afp_serial.proofs.Keeps.{IsKnown}
 use Rattle.afp_serial.specs.declared.ask.Ask.{Ask}
@@ -64,7 +64,7 @@ path-lawful p bytes small h =
     let behind = both-bytes h.hint h.behind_hint (and_parts (is_byte p.kind) (are_bytes (h.hint ++ h.behind_hint)) all).1 in
     path-named h.text p (counted-lawful (count_size p.kind) h.text h.behind_hint behind.1 h.count) h.spells
 
-value-lawful : (w : Word) (x : Value w) (place : ℕ) (first rest : List ℕ) → are_bytes first ≡ true → IsSpelling w x place first rest → is_lawful_value w x ≡ true
+value-lawful : (w : Word) (x : Value w) (place : ℕ) (first rest : List ℕ) → are_bytes first ≡ true → IsWordSpelling w x place first rest → is_lawful_value w x ≡ true
 value-lawful (Literal n) x place first rest small h = refl
 value-lawful Pad x place first rest small h = refl
 value-lawful LastPad x place first rest small h = refl
@@ -80,7 +80,7 @@ value-lawful (Counted n) x place first rest small h = counted-lawful n x first s
 value-lawful Pathname x place first rest small h = path-lawful x first small h
 value-lawful Tail x place first rest small h = ap are_bytes (sym h.0) ∙ small
 
-fields-lawful : (place : ℕ) (fs : List Field) (bytes : List ℕ) → are_bytes bytes ≡ true → BeginsWith place fs bytes → list_all is_lawful_field fs ≡ true
+fields-lawful : (place : ℕ) (fs : List RequestField) (bytes : List ℕ) → are_bytes bytes ≡ true → BeginsWith place fs bytes → list_all is_lawful_field fs ≡ true
 fields-lawful place [] bytes small h = refl
 fields-lawful place (f ∷ fs) bytes small h =
     let parts = both-bytes h.0 h.1 (ap are_bytes (sym h.2) ∙ small) in
@@ -99,7 +99,7 @@ spelt-lawful block enclosed call small more is =
     (fields-lawful 0 (layout_of call).fields block small s.fields) (piece-lawful (layout_of call).enclosed enclosed more s.encloses)
 
 -- a field of a lawful call, by its place among the fields
-pub field-lawful : (call : Call) (place : ℕ) (f : Field) → is_lawful_call call ≡ true → slice_get (layout_of call).fields place ≡ Some f → is_lawful_field f ≡ true
+pub field-lawful : (call : Call) (place : ℕ) (f : RequestField) → is_lawful_call call ≡ true → slice_get (layout_of call).fields place ≡ Some f → is_lawful_field f ≡ true
 unfolding is_lawful_call
 field-lawful call place f h at_place =
     all-place is_lawful_field (layout_of call).fields place f (and_parts (list_all is_lawful_field (layout_of call).fields) (is_lawful_piece (layout_of call).enclosed) h).0 at_place

@@ -7,7 +7,7 @@ use Rattle.std.proofs.lemmas.List.{length-append, take-append-drop}
 use Rattle.std.proofs.lemmas.List.Folds.{concat-append}
 use Rattle.std.proofs.lemmas.List.Sums.{sum_by-cons}
 use Rattle.afp_serial.specs.Household.{Household}
-use Rattle.afp_serial.specs.StatusBlock.{StatusOffsets, status_head, head_size, status_parts, status_of, offsets_of, OffsetsFindParts}
+use Rattle.afp_serial.specs.StatusBlock.{StatusOffsets, status_head, status_head_size, status_parts, status_of, offsets_of, OffsetsFindParts}
 
 length-concat : (parts : List (List ℕ)) → length (concat parts) ≡ sum_by length parts
 length-concat [] = refl
@@ -29,15 +29,15 @@ found size head parts sized k d h =
     let split : head ++ concat parts ≡ (head ++ concat (take k parts)) ++ (get_or parts k d ++ concat (drop (suc k) parts)) = ap (λ (xs : List ℕ). head ++ xs) (parted parts k ∙ ap (λ (xs : List ℕ). concat (take k parts) ++ xs) (concat-drop parts k d h)) ∙ sym (append_assoc head (concat (take k parts)) (get_or parts k d ++ concat (drop (suc k) parts))) in
     rw (← before, split, drop-append_seam (head ++ concat (take k parts)) (get_or parts k d ++ concat (drop (suc k) parts))) (take-append_seam (get_or parts k d) (concat (drop (suc k) parts)))
 
-head_length : (name : List ℕ) (offsets : StatusOffsets) → length (status_head name offsets) ≡ head_size name
+head_length : (name : List ℕ) (offsets : StatusOffsets) → length (status_head name offsets) ≡ status_head_size name
 head_length name offsets = simp length-append (omega arith)
 
 offsets_find_parts : (house : Household) → OffsetsFindParts house (status_of house.server house.signature)
 offsets_find_parts house =
-    found (head_size house.server)
-    (status_head house.server (offsets_of (head_size house.server) (status_parts house.server house.signature)))
+    found (status_head_size house.server)
+    (status_head house.server (offsets_of (status_head_size house.server) (status_parts house.server house.signature)))
     (status_parts house.server house.signature)
-    (head_length house.server (offsets_of (head_size house.server) (status_parts house.server house.signature)))
+    (head_length house.server (offsets_of (status_head_size house.server) (status_parts house.server house.signature)))
 
 offsets_of_ok : {E : Type 0} (r : Result (List ℕ) E) (house : Household) (name : List ℕ) → name ≡ house.server → IfOk r (λ block. block ≡ status_of name house.signature) → IfOk r (λ block. OffsetsFindParts house block)
 offsets_of_ok (Ok block) house name is_name is_block =

@@ -30,7 +30,7 @@ use Rattle.afp_serial.specs.History.{is_lawful, stand}
 use Rattle.afp_serial.specs.LawfulCall.{is_lawful_call}
 use Rattle.afp_serial.specs.Ranges.{is_moment, is_moment_or_none, is_typed_ask, is_typed_entry}
 use Rattle.afp_volume.specs.TypedVolume.{is_quad}
-use Rattle.afp_serial.specs.World.{stands_at, session_at, World, Session, at_moment}
+use Rattle.afp_serial.specs.World.{is_on_link, session_at, World, Session, at_moment}
 use Rattle.afp_serial.specs.Shown.{fits_frame, is_answer_to, is_parting_answer}
 use Rattle.afp_serial.specs.Sound.{IsSound, has_apart_sessions, has_lawful_opens, has_lawful_locks, is_lawful_cache, has_lawful_caches, keeps_all_limits}
 
@@ -152,7 +152,7 @@ verdict-fits w s r knows h lawful (runs call) outcome.Done is = let c = comes-to
 call-fits : (w : World) (link : ℕ) (session : Option Session) (r : Request) (o : Outcome) → ((call : Call) → spelt_call (block_of r) (enclosed_of r) ≡ Some call → IsLawful call) → IsSound w → session_at w link ≡ session → fits_frame (told_call w session r o) ≡ true
 call-fits w link None r o knows h is = refl
 call-fits w link (Some s) r o knows h is =
-    verdict-fits w s r knows h (find-all (λ x. stands_at link x.place) (λ x. is_lawful_cache x.cache) w.sessions s is (caches-parts w h.caches)) (verdict w s r) o refl
+    verdict-fits w s r knows h (find-all (λ x. is_on_link link x.place) (λ x. is_lawful_cache x.cache) w.sessions s is (caches-parts w h.caches)) (verdict w s r) o refl
 
 pulse-fits : (w : World) (link : ℕ) (session : Option Session) → fits_frame (told_pulse w link session) ≡ true
 pulse-fits w link None = cond_both (link == 0) (told.Live w.drain) told.Displaced (λ t. fits_frame t ≡ true) (λ none. refl) (λ other. refl)

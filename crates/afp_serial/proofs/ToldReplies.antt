@@ -15,7 +15,7 @@ use Rattle.afp_bitmap.specs.declared.volume.VolumeValues.{VolumeValues}
 use Rattle.afp_bitmap.specs.declared.params.Values.TheVariants.{Volume}
 use Rattle.afp_names.specs.Name.{name_key}
 use Rattle.afp_names.specs.Path.{PathValue}
-use Rattle.afp_replies.specs.Bytes.{u16}
+use Rattle.afp_replies.specs.Bytes.{u16_bytes}
 use Rattle.afp_replies.specs.Entry.{IsNode, bits_for, is_dir, kind_for, node_params}
 use Rattle.afp_replies.specs.Fitting.{FitsReply}
 use Rattle.afp_replies.specs.Replies.{canonical_reply}
@@ -97,7 +97,7 @@ volume-told-to call v id bits asks served passes =
     let values : Values = Volume (volume_values v id bits) in
     let shown : FitsReply (Params bits values) = volume-is-shown v id bits served.small passes served.sound served.typed in
     let size = params-size 0 bits values shown.1.answer in
-    let whole : length (canonical_reply (Params bits values)) ≡ 2 + length (params bits values) = two-parts (u16 bits) (params bits values) in
+    let whole : length (canonical_reply (Params bits values)) ≡ 2 + length (params bits values) = two-parts (u16_bytes bits) (params bits values) in
     record {
       short = le-leb (length (canonical_reply (Params bits values))) payload_limit (omega (arith, size, whole));
       fits = record { fits = shown; told = asks (volume_values v id bits) };

@@ -155,8 +155,8 @@ abbrev pub is_expired : ℕ → Attachment → Bool
 is_expired now (Attached link) = false
 is_expired now (Detached moment) = nat_le (moment + detached_time) now
 
-abbrev pub swept : World → World
-swept w = ending w (λ s. not (is_expired w.latest s.place))
+abbrev pub without_expired : World → World
+without_expired w = ending w (λ s. not (is_expired w.latest s.place))
 
 -- link 0 is no link of a session, and asks for the sweep alone
 abbrev pub told_pulse : World → ℕ → Option Session → Told
@@ -194,7 +194,7 @@ answer_at w link ask.Drain o = told.Done
 unfoldable pub after_at : World → ℕ → Ask → Outcome → World
 after_at w link (ask.Open attention) o = if is_full w then w else with_new_session w
 after_at w link (ask.Call id write offset payload) o = after_call w (session_at w link) (request id write offset payload) o
-after_at w link ask.Pulse o = swept w
+after_at w link ask.Pulse o = without_expired w
 after_at w link ask.Bye o = after_parting w (session_at w link)
 after_at w link ask.Lost o = after_parting w (session_at w link)
 after_at w link ask.Drain o = record w { drain = drain_moment w.latest w.drain }

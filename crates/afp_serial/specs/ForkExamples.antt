@@ -114,8 +114,8 @@ ReadsLines =
     ∷ []
 
 -- a lock to the top: -1 is a length of which all bits are set
-abbrev pub LocksToTop : Type 0
-LocksToTop =
+abbrev pub LocksToLastByte : Type 0
+LocksToLastByte =
     tells (some_world (0x61 ∷ []) (held 1 1 0x0003 ∷ held 2 2 0x0003 ∷ []) [])
     ((first, byte_range_lock_row 0 1 (pos 3) (negsuc 0))
     ∷ (second, write_row 0 2 (pos 2) 2 (0x78 ∷ 0x78 ∷ []))

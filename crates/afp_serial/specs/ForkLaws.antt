@@ -100,8 +100,8 @@ NoByteTwice = (w : World) (j k byte : ℕ) (a b : Lock) → IsSound w → j < k 
 abbrev pub RangesCount : Type 0
 RangesCount = (from more byte : ℕ) (r : Range) → range_of (pos from) (pos (suc more)) ≡ Some r → (Covers r byte ↔ ((from ≤ byte) × (byte ≤ from + more)))
 
-abbrev pub RangesToTop : Type 0
-RangesToTop = (from byte : ℕ) (r : Range) → range_of (pos from) (negsuc 0) ≡ Some r → (Covers r byte ↔ ((from ≤ byte) × (byte ≤ last_byte)))
+abbrev pub RangesToLastByte : Type 0
+RangesToLastByte = (from byte : ℕ) (r : Range) → range_of (pos from) (negsuc 0) ≡ Some r → (Covers r byte ↔ ((from ≤ byte) × (byte ≤ last_byte)))
 
 abbrev pub RangesEnd : Type 0
 RangesEnd = (start length : ℤ) (r : Range) → range_of start length ≡ Some r → (r.from ≤ r.to) × (r.to ≤ last_byte)
@@ -159,8 +159,8 @@ OthersLeaveVolumes =
 abbrev pub is_lock_range : Range → Bool
 is_lock_range r = nat_le r.from r.to && nat_le r.to last_byte
 
-abbrev pub MeetsUpToTop : Type 0
-MeetsUpToTop = (w : World) (o : OpenFork) (from to : ℕ) → list_all (λ (lock : Lock). is_lock_range lock.range) w.locks ≡ true
+abbrev pub MeetsUpToLastByte : Type 0
+MeetsUpToLastByte = (w : World) (o : OpenFork) (from to : ℕ) → list_all (λ (lock : Lock). is_lock_range lock.range) w.locks ≡ true
     → is_met_by_other w o (record { from = from; to = to }) ≡ is_met_by_other w o (record { from = from; to = min to last_byte })
 
 abbrev pub MeetsNoneBehind : Type 0

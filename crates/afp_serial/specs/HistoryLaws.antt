@@ -80,7 +80,7 @@ abbrev pub ReadsAll : ForkRef → ℕ → ℕ → Call → Type 0
 ReadsAll reference at n call = ((character : ℕ) × (call ≡ Read reference (pos at) n 0 character)) ⊎ (call ≡ ReadExt reference (pos at) (pos n))
 
 -- A session may read so many bytes from a place on under a reference: it is open on the fork for reading, and no lock of others meets them.
-pub record MayRead (w : World) (s : Session) (reference at n : ℕ) (fork : Fork) : Type 0 where
+pub record MayReadFork (w : World) (s : Session) (reference at n : ℕ) (fork : Fork) : Type 0 where
   pub file : OpenFile
   pub is : open_file w s reference ≡ Some file
   pub on : is_one_fork file.fork.fork fork ≡ true
@@ -91,7 +91,7 @@ pub record MayRead (w : World) (s : Session) (reference at n : ℕ) (fork : Fork
 abbrev pub WrittenIsNotRefused : Type 0
 WrittenIsNotRefused =
     (start : World) (e : Entry) (h : List Entry) (fork : Fork) (at : ℕ) (piece : List ℕ) (now : ℕ) (s : Session) (reference : ForkRef) (call : Call) → IsWritten start e h fork at piece → length piece ≤ payload_limit
-    → MayRead (at_moment (stand start (e ∷ h)) now) s reference.0 at (length piece) fork → ReadsAll reference at (length piece) call → refusal (at_moment (stand start (e ∷ h)) now) s call ≡ None
+    → MayReadFork (at_moment (stand start (e ∷ h)) now) s reference.0 at (length piece) fork → ReadsAll reference at (length piece) call → refusal (at_moment (stand start (e ∷ h)) now) s call ≡ None
 
 -- and is told the piece
 abbrev pub WrittenIsRead : Type 0
@@ -99,6 +99,6 @@ WrittenIsRead =
     (start : World) (e : Entry) (h : List Entry) (fork : Fork) (at : ℕ) (piece : List ℕ) (reading : Entry) (s : Session) (reference : ForkRef) (call : Call) (id : ℕ) (write : Bool) (offset : ℕ) (payload : List ℕ)
     → IsWritten start e h fork at piece → length piece ≤ payload_limit
     → reading.ask ≡ ask.Call id write offset payload → reading.outcome ≡ Done → session_at (stand start (e ∷ h)) reading.link.0 ≡ Some s
-    → MayRead (at_moment (stand start (e ∷ h)) reading.at) s reference.0 at (length piece) fork → ReadsAll reference at (length piece) call
+    → MayReadFork (at_moment (stand start (e ∷ h)) reading.at) s reference.0 at (length piece) fork → ReadsAll reference at (length piece) call
     → ComesToCall (at_moment (stand start (e ∷ h)) reading.at) s (request id write offset payload) call
     → answer (stand start (e ∷ h)) reading ≡ told.Reply Ok piece false

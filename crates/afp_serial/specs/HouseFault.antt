@@ -37,8 +37,8 @@ first_bad_behind is_bad before [] = None
 first_bad_behind is_bad before (x ∷ rest) =
     if is_bad before x then Some (length before) else first_bad_behind is_bad (before ++ x ∷ []) rest
 
-abbrev pub first_bad : {X : Type 0} → (List X → X → Bool) → List X → Option ℕ
-first_bad is_bad xs = first_bad_behind is_bad [] xs
+abbrev pub first_bad_name : {X : Type 0} → (List X → X → Bool) → List X → Option ℕ
+first_bad_name is_bad xs = first_bad_behind is_bad [] xs
 
 -- the fault, where the condition holds
 abbrev pub fault_if : Bool → HouseFault → Option HouseFault
@@ -56,8 +56,8 @@ house_fault house =
     first_fault
     (fault_if (not (is_name longest_server house.server)) fault.Server
     ∷ fault_if (not (nat_le (length house.users) most_users)) fault.Users
-    ∷ option_map fault.User (first_bad is_bad_user house.users)
+    ∷ option_map fault.User (first_bad_name is_bad_user house.users)
     ∷ fault_if (not (nat_le 1 (length house.volumes) && nat_le (length house.volumes) most_volumes)) fault.Volumes
-    ∷ option_map fault.Volume (first_bad is_bad_volume house.volumes)
+    ∷ option_map fault.Volume (first_bad_name is_bad_volume house.volumes)
     ∷ fault_if (not (is_text longest_message house.message)) fault.Message
     ∷ [])

@@ -2,7 +2,7 @@
 use Rattle.std.specs.Prelude.{ℕ, ℤ, pos, negsuc, ◌^◌, nat_lt, Bool, true, ◌&&◌, List, Option, None, Some}
 use Rattle.std.specs.List.{list_all}
 use Rattle.afp_requests.specs.Call.{layout_of}
-use Rattle.afp_requests.specs.Words.{Word, Value, Field, Enclosed, Nothing, Piece, Literal, Pad, LastPad, Even, Number, Within, Count, Optional, Signed32, Signed64, Plain, Counted, Pathname, Tail}
+use Rattle.afp_requests.specs.Words.{Word, Value, RequestField, Enclosed, Nothing, Piece, Literal, Pad, LastPad, Even, Number, Within, Count, Optional, Signed32, Signed64, Plain, Counted, Pathname, Tail}
 use Rattle.afp_requests.specs.declared.call.Call.{Call}
 use Rattle.afp_volume.specs.TypedVolume.{are_bytes}
 use Rattle.afp_volume.specs.Walk.{is_named_path}
@@ -37,7 +37,7 @@ is_lawful_value (Counted n) x = are_bytes x
 is_lawful_value Pathname x = is_named_path x
 is_lawful_value Tail x = are_bytes x
 
-abbrev pub is_lawful_field : Field → Bool
+abbrev pub is_lawful_field : RequestField → Bool
 is_lawful_field f = is_lawful_value f.word f.value
 
 -- what comes with a block is bytes

@@ -18,7 +18,7 @@ use Rattle.afp_serial.specs.declared.ask.Entry.{Entry}
 use Rattle.afp_serial.specs.declared.ask.Outcome.TheVariants.{Done, Fault}
 use Rattle.afp_serial.specs.declared.ask.Told.TheVariants as told
 use Rattle.afp_serial.specs.declared.attachment.Attachment.TheVariants.{Attached}
-use Rattle.afp_serial.specs.Answer.{answer, after, is_legal, link_number, new_session, request, swept, block_of, enclosed_of, needs_user}
+use Rattle.afp_serial.specs.Answer.{answer, after, is_legal, link_number, new_session, request, without_expired, block_of, enclosed_of, needs_user}
 use Rattle.afp_serial.specs.World.{Refused, has_session, session_at, World, Session, at_moment, fresh_volumes, start_world}
 use Rattle.afp_serial.specs.History.{answers, is_lawful, opened_in, stand}
 use Rattle.afp_serial.specs.Household.{Household}
@@ -41,8 +41,8 @@ StartsSound =
     → ServesVolumes house volumes
     → IsSound (start_world house now volumes)
 
-abbrev pub FreshIsSound : Type 0
-FreshIsSound = (house : Household) (now : ℕ) → house_fault house ≡ None → is_moment now ≡ true → ServesVolumes house (fresh_volumes house now)
+abbrev pub FreshWorldIsSound : Type 0
+FreshWorldIsSound = (house : Household) (now : ℕ) → house_fault house ≡ None → is_moment now ≡ true → ServesVolumes house (fresh_volumes house now)
 
 abbrev pub KeepsSound : Type 0
 KeepsSound = (w : World) (e : Entry) → IsSound w → is_legal w e ≡ true → IsSound (after w e)
@@ -64,24 +64,24 @@ abbrev pub HasNoSession : World → LinkNumber → Type 0
 HasNoSession w link = All (λ s. s.place ≢ Attached link) w.sessions
 
 -- an ask of a session: a call, Bye, Lost, or Pulse on a link that is not 0
-abbrev pub is_of_session : Ask → ℕ → Bool
-is_of_session (ask.Open attention) link = false
-is_of_session (ask.Call id write offset payload) link = true
-is_of_session ask.Pulse link = not (link == 0)
-is_of_session ask.Bye link = true
-is_of_session ask.Lost link = true
-is_of_session ask.Drain link = false
+abbrev pub is_session_ask : Ask → ℕ → Bool
+is_session_ask (ask.Open attention) link = false
+is_session_ask (ask.Call id write offset payload) link = true
+is_session_ask ask.Pulse link = not (link == 0)
+is_session_ask ask.Bye link = true
+is_session_ask ask.Lost link = true
+is_session_ask ask.Drain link = false
 
 -- the laws of Displaced: it is told just where an ask of a session comes on a link that no session has; then nothing
 -- changes but the latest moment, and in a Pulse the sessions that are gone by then
 abbrev pub TellsDisplaced : Type 0
-TellsDisplaced = (w : World) (e : Entry) → (answer w e ≡ told.Displaced ↔ ((is_of_session e.ask e.link.0 ≡ true) × HasNoSession w e.link))
+TellsDisplaced = (w : World) (e : Entry) → (answer w e ≡ told.Displaced ↔ ((is_session_ask e.ask e.link.0 ≡ true) × HasNoSession w e.link))
 
 abbrev pub LeavesDisplaced : Type 0
 LeavesDisplaced = (w : World) (e : Entry) → answer w e ≡ told.Displaced → e.ask ≢ ask.Pulse → after w e ≡ at_moment w e.at
 
-abbrev pub OnlySweeps : Type 0
-OnlySweeps = (w : World) (e : Entry) → e.ask ≡ ask.Pulse → after w e ≡ swept (at_moment w e.at)
+abbrev pub OnlyEndsExpired : Type 0
+OnlyEndsExpired = (w : World) (e : Entry) → e.ask ≡ ask.Pulse → after w e ≡ without_expired (at_moment w e.at)
 
 -- the law of repeats: where an answer is kept for a session's request it is told again, the session goes on, and nothing
 -- changes but the latest moment

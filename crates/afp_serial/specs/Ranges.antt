@@ -1,6 +1,7 @@
 -- The ranges of numbers, as the fields of requests and of the server's setup have them (AFP Reference, "Command formats"; the setup is this profile's).
 use Rattle.std.specs.Prelude.{ℕ, ◌==◌, nat_le, Bool, true, ◌&&◌, length, Option, None, Some}
 use Rattle.std.specs.List.{list_all}
+use Rattle.afp_base.specs.Limits.{password_size, signature_size, token_key_size}
 use Rattle.afp_base.specs.Limits.{last_moment}
 use Rattle.afp_volume.specs.TypedVolume.{are_bytes, is_long, is_quad, is_word}
 use Rattle.afp_serial.specs.Household.{Household}
@@ -16,12 +17,12 @@ is_moment n = nat_le n last_moment
 -- The fields of what the server is set up with: a password has 8 bytes, the signature 16, the key of the session tokens 32. (Names, the
 -- message and the ids of users are small where the house has no fault.)
 abbrev pub is_typed_user : User → Bool
-is_typed_user user = are_bytes user.password && (length user.password == 8)
+is_typed_user user = are_bytes user.password && (length user.password == password_size)
 
 unfoldable pub is_typed_house : Household → Bool
 is_typed_house house =
     list_all is_typed_user house.users
-    && ((are_bytes house.signature && (length house.signature == 16)) && (are_bytes house.token_key && (length house.token_key == 32)))
+    && ((are_bytes house.signature && (length house.signature == signature_size)) && (are_bytes house.token_key && (length house.token_key == token_key_size)))
 
 -- a moment, where there is one
 abbrev pub is_moment_or_none : Option ℕ → Bool

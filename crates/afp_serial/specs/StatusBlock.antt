@@ -45,8 +45,8 @@ abbrev pub status_pad : List ℕ → List ℕ
 status_pad name = replicate (name_end name % 2) 0
 
 -- the size of the head: that, the pad, and four offsets more
-abbrev pub head_size : List ℕ → ℕ
-head_size name = name_end name + length (status_pad name) + 4 * offset_size
+abbrev pub status_head_size : List ℕ → ℕ
+status_head_size name = name_end name + length (status_pad name) + 4 * offset_size
 
 -- the place of the part with this index: behind a head of this size and the parts before it
 abbrev pub place_of : ℕ → List (List ℕ) → ℕ → ℕ
@@ -95,7 +95,7 @@ status_head name offsets =
 abbrev pub status_of : List ℕ → List ℕ → List ℕ
 status_of name signature =
     let parts : List (List ℕ) = status_parts name signature
-    in status_head name (offsets_of (head_size name) parts) ++ concat parts
+    in status_head name (offsets_of (status_head_size name) parts) ++ concat parts
 
 unfoldable pub status_block : Household → List ℕ
 status_block house = status_of house.server house.signature
@@ -105,5 +105,5 @@ abbrev pub OffsetsFindParts : Household → List ℕ → Type 0
 OffsetsFindParts house block =
     let parts : List (List ℕ) = status_parts house.server house.signature
     in (index : ℕ) (none : List ℕ) → index < length parts
-    → take (length (slice_index_or parts index none)) (drop (place_of (head_size house.server) parts index) block)
+    → take (length (slice_index_or parts index none)) (drop (place_of (status_head_size house.server) parts index) block)
     ≡ slice_index_or parts index none

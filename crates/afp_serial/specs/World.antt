@@ -73,13 +73,13 @@ at_moment w now = record w { latest = max w.latest now }
 
 -- Finding, changing and ending sessions (this profile).
 
-abbrev pub stands_at : ℕ → Attachment → Bool
-stands_at link (Attached l) = l.0 == link
-stands_at link (Detached moment) = false
+abbrev pub is_on_link : ℕ → Attachment → Bool
+is_on_link link (Attached l) = l.0 == link
+is_on_link link (Detached moment) = false
 
 -- the session that has the link
 abbrev pub session_at : World → ℕ → Option Session
-session_at w link = find (λ s. stands_at link s.place) w.sessions
+session_at w link = find (λ s. is_on_link link s.place) w.sessions
 
 -- the session has that volume open
 abbrev pub has_opened : Session → ℕ → Bool

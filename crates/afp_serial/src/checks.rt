@@ -2,7 +2,7 @@
 ghost use Rattle.std.specs.Prelude.{◌≡◌, ◌≤◌, ℕ, List, length, bytes_eq};
 ghost use Rattle.std.specs.List.{list_all, list_any};
 ghost use Rattle.afp_serial.specs.Household.{household};
-ghost use Rattle.afp_serial.specs.HouseFault.{is_printable, is_text, is_name, is_bad_user, is_bad_volume, first_bad, house_fault};
+ghost use Rattle.afp_serial.specs.HouseFault.{is_printable, is_text, is_name, is_bad_user, is_bad_volume, first_bad_name, house_fault};
 ghost use Rattle.afp_serial.specs.Limits.{most_users};
 
 use crate::house_fault::HouseFault;
@@ -75,7 +75,7 @@ fn is_bad_volume(before: &[Bytes], volume: &Bytes) -> bool
 /// The index of the first bad user.
 fn first_bad_user(users: &[User]) -> Option<usize>
     requires { length users.now ≤ most_users }
-    ensures { result ≡ first_bad is_bad_user users.now }
+    ensures { result ≡ first_bad_name is_bad_user users.now }
 {
     for (index, user) in users.iter().enumerate() {
         if is_bad_user(&users[..index], user) {
@@ -87,7 +87,7 @@ fn first_bad_user(users: &[User]) -> Option<usize>
 
 /// The index of the first bad volume.
 fn first_bad_volume(volumes: &[Bytes]) -> Option<usize>
-    ensures { result ≡ first_bad is_bad_volume volumes.now }
+    ensures { result ≡ first_bad_name is_bad_volume volumes.now }
 {
     for (index, name) in volumes.iter().enumerate() {
         if is_bad_volume(&volumes[..index], name) {

@@ -11,7 +11,7 @@ pub fn worked_forks_hold()
     ensures denied { worked.DeniesUntilClosed }
     ensures itself { worked.DeniesItself }
     ensures reads { worked.ReadsLines }
-    ensures locks { worked.LocksToTop }
+    ensures locks { worked.LocksToLastByte }
     ensures writes { worked.WritesFromEnd }
     ensures most { worked.OpensMost }
     ensures most_locks { worked.LocksMost }
@@ -60,9 +60,9 @@ pub fn forks_are_shared_by_their_rules()
     ensures opens { laws.NoTwoConflict }
     ensures locks { laws.NoByteTwice }
     ensures counted { laws.RangesCount }
-    ensures top { laws.RangesToTop }
+    ensures top { laws.RangesToLastByte }
     ensures end { laws.RangesEnd }
-    ensures met { laws.MeetsUpToTop }
+    ensures met { laws.MeetsUpToLastByte }
     ensures behind { laws.MeetsNoneBehind }
 {}
 

@@ -8,7 +8,7 @@ ghost use Rattle.afp_serial.specs.ParmsReplies as parms_replies;
 /// it has at most 131,072 bytes.
 pub fn sound_worlds_stay_sound()
     ensures starts { laws.StartsSound }
-    ensures fresh { laws.FreshIsSound }
+    ensures fresh { laws.FreshWorldIsSound }
     ensures keeps { laws.KeepsSound }
     ensures stands { laws.StandsSound }
     ensures answers { laws.AnswersAsk }
@@ -20,7 +20,7 @@ pub fn sound_worlds_stay_sound()
 pub fn displaced_changes_nothing()
     ensures told { laws.TellsDisplaced }
     ensures left { laws.LeavesDisplaced }
-    ensures swept { laws.OnlySweeps }
+    ensures swept { laws.OnlyEndsExpired }
 {}
 
 /// An answer that is kept is told again, not ending, and nothing changes but the latest moment.

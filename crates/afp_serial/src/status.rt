@@ -2,7 +2,7 @@
 ghost use Rattle.std.specs.Prelude.{◌≡◌, ◌+◌, ◌≤◌, ◌<◌, ◌^◌, ◌++◌, length, map, All, IfOk, OnOk, flat_map};
 ghost use Rattle.std.specs.List.{concat};
 ghost use Rattle.byteorder.specs.Endian.{big_bytes};
-ghost use Rattle.afp_serial.specs.StatusBlock.{pascal_string, counted_words, long_counted, status_pad, head_size, offsets_of, status_parts, status_head, status_of};
+ghost use Rattle.afp_serial.specs.StatusBlock.{pascal_string, counted_words, long_counted, status_pad, status_head_size, offsets_of, status_parts, status_head, status_of};
 ghost use Rattle.afp_serial.specs.Limits.{longest_server};
 
 use crate::limits::{NO_ICON, SIZE_BEFORE_NAME, SIZE_BEHIND_NAME};
@@ -74,8 +74,8 @@ fn put_counted_words(block: &mut Bytes, words: &[&str]) -> Result<(), OutOfMemor
 
 /// The place behind a head of this size and the parts so far.
 fn place_behind(head_size: usize, parts: &Bytes) -> u16
-    requires { head_size + length parts.now < 2 ^ 16 }
-    ensures { result ≡ head_size + length parts.now }
+    requires { status_head_size + length parts.now < 2 ^ 16 }
+    ensures { result ≡ status_head_size + length parts.now }
 {
     (head_size + parts.as_slice().len()) as u16
 }
@@ -83,7 +83,7 @@ fn place_behind(head_size: usize, parts: &Bytes) -> u16
 /// The size of the head, in bytes.
 fn head_size(name: &[u8]) -> usize
     requires { length name.now ≤ longest_server }
-    ensures { result ≡ head_size name.now }
+    ensures { result ≡ status_head_size name.now }
 {
     let name_end = SIZE_BEFORE_NAME + 1 + name.len();
     name_end + name_end % 2 + SIZE_BEHIND_NAME
@@ -133,9 +133,9 @@ fn status_parts(
     signature: &[u8; 16],
 ) -> Result<(Bytes, Offsets), OutOfMemory>
     requires small_name { length name.now ≤ longest_server }
-    requires small_head { head_size ≤ 64 }
+    requires small_head { status_head_size ≤ 64 }
     ensures parts { IfOk result (λ both. both.0 ≡ concat (status_parts name.now signature.now)) }
-    ensures offsets { IfOk result (λ both. both.1 ≡ offsets_of head_size (status_parts name.now signature.now)) }
+    ensures offsets { IfOk result (λ both. both.1 ≡ offsets_of status_head_size (status_parts name.now signature.now)) }
 {
     let mut parts = Bytes::new(alloc);
     let machine_type = place_behind(head_size, &parts);

@@ -10,7 +10,7 @@ use Rattle.afp_serial.proofs.Grows.{went-join}
 use Rattle.dsi_frame.specs.Buffered.{Buffered, buffer_length}
 use Rattle.dsi_frame.specs.Frame.{Frame}
 use Rattle.dsi_frame.specs.Stream.{IsUnfinished, Framed}
-use Rattle.afp_server.specs.LinkRun.{Moves, Fills, MayRead, EachMayRead, EndsBy, failed_writes, GoesOn, bytes_read, cost_of, size_of, written_before, read_limit}
+use Rattle.afp_server.specs.LinkRun.{Moves, Fills, MayRead, EachMayRead, EndsBy, failed_writes, Continues, bytes_read, cost_of, size_of, written_before, read_limit}
 use Rattle.afp_server.specs.lemma.Passing.{all_passed}
 use Rattle.afp_server.specs.Replies.{spelling_of}
 use Rattle.afp_server.specs.lemma.Serving.{Start, Point, point, SoFar, Ended, IdlesLink}
@@ -240,7 +240,7 @@ ends-displaced start p cost end steps stage shown r =
     (record { why = refl; answered = record { left = p.held.rest; fills = idles-fills start p cost end steps stage shown (Some displaced) r; sent = refl } }, record { ended = r.reads.ended ∙ r.waits.so_far.ended; now = refl })
 
 -- the link would go on, and ends for another reason
-goes_on : (start : Start) (p : Point) (cost : ℕ) → (s : SoFar start p cost) → IsUnfinished p.held.rest → GoesOn s.trace None (spelling_of (replies_in s.trace)) p.held.rest
+goes_on : (start : Start) (p : Point) (cost : ℕ) → (s : SoFar start p cost) → IsUnfinished p.held.rest → Continues s.trace None (spelling_of (replies_in s.trace)) p.held.rest
 goes_on start p cost s unfinished = record { why = refl; framed = framed start p cost s unfinished; sent = refl }
 
 ends-here : (start : Start) (p : Point) (cost : ℕ) (end : LinkState) (answer : LinkEnd) → (s : SoFar start p cost) → Moves p.link [] [] (failed_writes answer) end → p.link.last_read ≡ end.last_read
@@ -270,7 +270,7 @@ ends-whole start p cost end w r empty =
     ends-here start p cost end links.Ended s (moves-end p.link end r) (sym r.last_read) record {
       ended = r.ended;
       nothing_comes = rw r.coming r.nothing_left;
-      goes_on = subst (λ (left : List ℕ). GoesOn s.trace None (spelling_of (replies_in s.trace)) left) empty (goes_on start p cost s w.unfinished);
+      goes_on = subst (λ (left : List ℕ). Continues s.trace None (spelling_of (replies_in s.trace)) left) empty (goes_on start p cost s w.unfinished);
       below = omega (arith, w.below, s.costs);
     }
 

@@ -111,7 +111,7 @@ pub record EndsSilent (trace : List Happening) (cause : Option Cause) (wrote : L
 
 -- The link goes on: all whole frames that came were handled, none of them ended it, all replies were written, and less than a
 -- frame is left.
-pub record GoesOn (trace : List Happening) (cause : Option Cause) (wrote left : List ℕ) : Type 0 where
+pub record Continues (trace : List Happening) (cause : Option Cause) (wrote left : List ℕ) : Type 0 where
   pub why : cause ≡ None
   pub framed : Framed (bytes_read trace) (frames_in trace) left
   pub sent : wrote ≡ spelling_of (replies_in trace)
@@ -120,7 +120,7 @@ pub record GoesOn (trace : List Happening) (cause : Option Cause) (wrote left : 
 pub record EndsWhole (turns : ℕ) (trace : List Happening) (cause : Option Cause) (wrote : List ℕ) (new : LinkState) : Type 0 where
   pub ended : new.ended ≡ true
   pub nothing_comes : IfSome new.coming (λ coming. coming ≡ [])
-  pub goes_on : GoesOn trace cause wrote []
+  pub goes_on : Continues trace cause wrote []
   pub below : cost_of (events_in trace) < turns
 
 -- The reads ended within a frame that begins at this place.
@@ -128,7 +128,7 @@ pub record EndsCut (turns : ℕ) (trace : List Happening) (cause : Option Cause)
   pub ended : new.ended ≡ true
   pub nothing_comes : IfSome new.coming (λ coming. coming ≡ [])
   pub left : List ℕ
-  pub goes_on : GoesOn trace cause wrote left
+  pub goes_on : Continues trace cause wrote left
   pub something_left : 0 < length left
   pub place : at + length left ≡ length (bytes_read trace)
   pub below : cost_of (events_in trace) < turns
@@ -154,7 +154,7 @@ pub record EndsAtFrame (trace : List Happening) (cause : Option Cause) (wrote : 
 -- A read failed where the link went on, and its fault is counted.
 pub record EndsUnread (turns : ℕ) (trace : List Happening) (cause : Option Cause) (wrote : List ℕ) (old new : LinkState) : Type 0 where
   pub left : List ℕ
-  pub goes_on : GoesOn trace cause wrote left
+  pub goes_on : Continues trace cause wrote left
   pub below : cost_of (events_in trace) < turns
   pub fault : Rises 1 old.read_faults new.read_faults
 
@@ -177,7 +177,7 @@ pub record EndsUnwritten (trace : List Happening) (wrote : List ℕ) : Type 0 wh
 -- The link would read again, and the cost so far has reached the limit.
 pub record EndsSpent (turns : ℕ) (trace : List Happening) (cause : Option Cause) (wrote : List ℕ) : Type 0 where
   pub left : List ℕ
-  pub goes_on : GoesOn trace cause wrote left
+  pub goes_on : Continues trace cause wrote left
   pub reached : turns ≤ cost_of (events_in trace)
 
 -- a request that carries a call

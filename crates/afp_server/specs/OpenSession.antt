@@ -32,7 +32,7 @@ OpenTold f told.Done reply stage = ⊥
 OpenTold f told.Displaced reply stage = ⊥
 
 -- Options that fit: a Pulse at link 0, whatever it is told, and then Open.
-pub record Opens (now : ℕ) (f : Frame) (did : Did) : Type 0 where
+pub record OpensByOptions (now : ℕ) (f : Frame) (did : Did) : Type 0 where
   pub options : List SessionOption
   pub fit : AreOptions f.payload options
   pub pulsed : Told
@@ -42,7 +42,7 @@ pub record Opens (now : ℕ) (f : Frame) (did : Did) : Type 0 where
   pub end : did.end ≡ None
 
 -- An option that does not fit: nothing is asked, and the link stays as it was.
-pub record Refuses (f : Frame) (did : Did) : Type 0 where
+pub record RefusesOptions (f : Frame) (did : Did) : Type 0 where
   pub options : List SessionOption
   pub at : ℕ
   pub stops : OptionsStopAt f.payload options at
@@ -50,4 +50,4 @@ pub record Refuses (f : Frame) (did : Did) : Type 0 where
 
 -- before a session is open on the link
 abbrev pub OpensSession : ℕ → Frame → Did → Type 0
-OpensSession now f did = Opens now f did ⊎ Refuses f did
+OpensSession now f did = OpensByOptions now f did ⊎ RefusesOptions f did

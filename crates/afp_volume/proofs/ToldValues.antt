@@ -31,7 +31,7 @@ use Rattle.afp_volume.specs.OpenDir.{open_dir_refusal, open_dir_id}
 use Rattle.afp_names.specs.Path.{PathValue}
 use Rattle.afp_volume.specs.GetVolParms.{free_bytes, volume_values}
 use Rattle.afp_volume.specs.Listing.{children}
-use Rattle.afp_volume.specs.NodeValues.{is_open, told_attributes, file_values, dir_values, bits_of, node_values}
+use Rattle.afp_volume.specs.NodeValues.{has_open_fork, told_attributes, file_values, dir_values, bits_of, node_values}
 use Rattle.afp_base.specs.Limits.{most_fork_bytes}
 use Rattle.afp_volume.specs.SoundVolume.{IsSoundVolume, is_formed, is_named, fork_bytes, row_bytes, is_in_place, leads_to_root}
 use Rattle.afp_volume.specs.TypedVolume.{is_date, is_typed_row, is_typed_volume}
@@ -125,8 +125,8 @@ attributes-short : (opens : List Opened) (row : Row) → row.attributes < 2 ^ 16
 unfolding told_attributes
 attributes-short opens row small =
     or_lt 16 row.attributes _ small (or_lt 16 _ _
-    (cond_both (is_open opens row.id false) 8 0 (λ n. n < 2 ^ 16) (λ open_fork. omega arith) (λ shut. omega arith))
-    (cond_both (is_open opens row.id true) 16 0 (λ n. n < 2 ^ 16) (λ open_fork. omega arith) (λ shut. omega arith)))
+    (cond_both (has_open_fork opens row.id false) 8 0 (λ n. n < 2 ^ 16) (λ open_fork. omega arith) (λ shut. omega arith))
+    (cond_both (has_open_fork opens row.id true) 16 0 (λ n. n < 2 ^ 16) (λ open_fork. omega arith) (λ shut. omega arith)))
 
 file-told : (opens : List Opened) (bits : ℕ) (row : Row) → RowFacts row → IsAnswer 1 bits (File (file_values opens bits row))
 unfolding file_values rows file_rows Fits

@@ -19,8 +19,8 @@ ForkKeepsTyped = (v : VolumeState) (now id : ℕ) (resource writes : Bool) (byte
 abbrev pub ForkIsGiven : Type 0
 ForkIsGiven = (v : VolumeState) (now id : ℕ) (resource writes : Bool) (bytes : List ℕ) (file : Row) → row_at v.rows id ≡ Some file → row_at (fork_effect now id resource bytes writes v).rows id ≡ Some (written now resource bytes writes file)
 
-abbrev pub ForkLetsBe : Type 0
-ForkLetsBe = (v : VolumeState) (now id other : ℕ) (resource writes : Bool) (bytes : List ℕ) → (other == id) ≡ false → row_at (fork_effect now id resource bytes writes v).rows other ≡ row_at v.rows other
+abbrev pub ForkLeavesOthers : Type 0
+ForkLeavesOthers = (v : VolumeState) (now id other : ℕ) (resource writes : Bool) (bytes : List ℕ) → (other == id) ≡ false → row_at (fork_effect now id resource bytes writes v).rows other ≡ row_at v.rows other
 
 abbrev pub FilesStay : Type 0
 FilesStay = (v : VolumeState) (now id other : ℕ) (resource writes : Bool) (bytes : List ℕ) → has_file (fork_effect now id resource bytes writes v).rows other ≡ has_file v.rows other

@@ -138,14 +138,14 @@ RemovesAtPlace = (rows : List Row) (i : ℕ) (s : Row) → are_apart (λ (a : Ro
 abbrev pub ChangesAreSeen : Type 0
 ChangesAreSeen = (rows : List Row) (id : ℕ) (change : Row → Row) → ((row : Row) → (change row).id ≡ row.id) → row_at (with_changed id change rows) id ≡ option_map change (row_at rows id)
 
-abbrev pub ChangesLetBe : Type 0
-ChangesLetBe = (rows : List Row) (id other : ℕ) (change : Row → Row) → ((row : Row) → (change row).id ≡ row.id) → (other == id) ≡ false → row_at (with_changed id change rows) other ≡ row_at rows other
+abbrev pub ChangesLeaveOthers : Type 0
+ChangesLeaveOthers = (rows : List Row) (id other : ℕ) (change : Row → Row) → ((row : Row) → (change row).id ≡ row.id) → (other == id) ≡ false → row_at (with_changed id change rows) other ≡ row_at rows other
 
 abbrev pub GoneIsUnseen : Type 0
 GoneIsUnseen = (rows : List Row) (id : ℕ) → row_at (without id rows) id ≡ None
 
-abbrev pub GoneLetsBe : Type 0
-GoneLetsBe = (rows : List Row) (id other : ℕ) → (other == id) ≡ false → row_at (without id rows) other ≡ row_at rows other
+abbrev pub GoneLeavesOthers : Type 0
+GoneLeavesOthers = (rows : List Row) (id other : ℕ) → (other == id) ≡ false → row_at (without id rows) other ≡ row_at rows other
 
 -- where rows stand in the order of their ids, ids differ; each edit keeps that order
 abbrev pub RisingIdsDiffer : Type 0

@@ -12,8 +12,8 @@ use Rattle.afp_volume.specs.Listing.{children}
 use Rattle.afp_volume.specs.Parms.{asked_or}
 
 -- whether this fork of a node is open: its resource fork or its data fork (this profile)
-unfoldable pub is_open : List Opened → ℕ → Bool → Bool
-is_open opens id resource = list_any (λ open_fork. (open_fork.node == id) && (if resource then open_fork.resource else not open_fork.resource)) opens
+unfoldable pub has_open_fork : List Opened → ℕ → Bool → Bool
+has_open_fork opens id resource = list_any (λ open_fork. (open_fork.node == id) && (if resource then open_fork.resource else not open_fork.resource)) opens
 
 -- the attributes that tell of open forks (AFP Reference, "File attributes")
 abbrev pub data_fork_open : ℕ
@@ -25,7 +25,7 @@ resource_fork_open = 0x0010
 -- the attributes of a file: those that are set, and whether its forks are open (AFP Reference, "File attributes")
 unfoldable pub told_attributes : List Opened → Row → ℕ
 told_attributes opens row = bit_or row.attributes
-    (bit_or (if is_open opens row.id false then data_fork_open else 0) (if is_open opens row.id true then resource_fork_open else 0))
+    (bit_or (if has_open_fork opens row.id false then data_fork_open else 0) (if has_open_fork opens row.id true then resource_fork_open else 0))
 
 -- what is told of a file: each value whose bit is asked, by its bit (AFP Reference, "File Bitmap")
 unfoldable pub file_values : List Opened → ℕ → Row → FileValues

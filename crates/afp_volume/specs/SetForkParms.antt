@@ -1,5 +1,6 @@
 -- FPSetForkParms: which length is set (AFP Reference, "FPSetForkParms"; the order of refusals is this profile's).
-use Rattle.std.specs.Prelude.{ℕ, ◌^◌, ◌==◌, Bool, ◌||◌, ◌&&◌, List, length, nat_le, nat_lt, if◌then◌else◌}
+use Rattle.std.specs.Prelude.{ℕ, ◌==◌, Bool, ◌||◌, ◌&&◌, List, length, nat_lt, if◌then◌else◌}
+use Rattle.afp_base.specs.Limits.{last_byte}
 use Rattle.byteorder.specs.Endian.{big_number}
 
 -- the bits of a fork's length in 4 bytes and in 8, of the data fork and of the resource fork (AFP Reference, "File Bitmap")
@@ -23,4 +24,4 @@ length_in resource bits tail = big_number (length_size resource bits) tail
 
 -- whether the tail has fewer bytes than the length, or the length is negative (this profile)
 unfoldable pub has_no_length : Bool → ℕ → List ℕ → Bool
-has_no_length resource bits tail = nat_lt (length tail) (length_size resource bits) || ((length_size resource bits == 8) && nat_le (2 ^ 63) (length_in resource bits tail))
+has_no_length resource bits tail = nat_lt (length tail) (length_size resource bits) || ((length_size resource bits == 8) && nat_lt last_byte (length_in resource bits tail))

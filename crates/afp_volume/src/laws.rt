@@ -111,7 +111,7 @@ pub fn forks_are_given_bytes()
     ensures sound { fork_laws.ForkKeepsSound }
     ensures typed { fork_laws.ForkKeepsTyped }
     ensures given { fork_laws.ForkIsGiven }
-    ensures let_be { fork_laws.ForkLetsBe }
+    ensures let_be { fork_laws.ForkLeavesOthers }
     ensures files { fork_laws.FilesStay }
     ensures counted { fork_laws.ForkIsCounted }
     ensures few { fork_laws.ForksAreFew }
@@ -126,9 +126,9 @@ pub fn rows_are_changed_in_place()
     ensures changed { laws.ChangesAtPlace }
     ensures removed { laws.RemovesAtPlace }
     ensures seen { laws.ChangesAreSeen }
-    ensures let_be { laws.ChangesLetBe }
+    ensures let_be { laws.ChangesLeaveOthers }
     ensures unseen { laws.GoneIsUnseen }
-    ensures lets_be { laws.GoneLetsBe }
+    ensures lets_be { laws.GoneLeavesOthers }
 {}
 
 /// Rows in the order of their ids have ids that differ, and each edit keeps that order.

@@ -21,12 +21,12 @@ abbrev pub is_lower_digit : ℕ → Bool
 is_lower_digit byte = is_digit byte || (nat_le 97 byte && nat_le byte 102)
 
 -- one word: it has a byte, and no space
-abbrev pub is_word : List ℕ → Bool
-is_word text = not (length text == 0) && not (list_any is_space text)
+abbrev pub is_text_word : List ℕ → Bool
+is_text_word text = not (length text == 0) && not (list_any is_space text)
 
 -- digits in decimal, without a leading zero
-abbrev pub is_number : List ℕ → Bool
-is_number word = not (length word == 0) && list_all is_digit word && (length word == 1 || not (slice_index word 0 == 48))
+abbrev pub is_decimal : List ℕ → Bool
+is_decimal word = not (length word == 0) && list_all is_digit word && (length word == 1 || not (slice_index word 0 == 48))
 
 -- the number that digits spell behind a first part of this value
 abbrev pub value_behind : ℕ → List ℕ → ℕ
@@ -35,7 +35,7 @@ value_behind value (digit ∷ digits) = value_behind (value * 10 + (digit - 48))
 
 -- the number that a word spells, if it is one of at most so much
 abbrev pub number_in : ℕ → List ℕ → Option ℕ
-number_in most word = if is_number word && nat_le (value_behind 0 word) most then Some (value_behind 0 word) else None
+number_in most word = if is_decimal word && nat_le (value_behind 0 word) most then Some (value_behind 0 word) else None
 
 -- the bytes that hexadecimal digits spell, at least one
 abbrev pub hex_in : List ℕ → Option (List ℕ)

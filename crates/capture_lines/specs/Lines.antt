@@ -1,8 +1,9 @@
 -- The forms of a capture's lines (docs/CAPTURES.md; this profile).
+use Rattle.afp_base.specs.Limits.{password_size, signature_size, token_key_size}
 use Rattle.std.specs.Prelude.{ℕ, ◌&&◌, nat_le, nat_lt, if◌then◌else◌, List, length, codes, bytes_eq, Option, Some, None, option_map}
 use Rattle.std.specs.List.{list_all, list_any, before_first, after_first}
 use Rattle.afp_base.specs.Limits.{last_moment}
-use Rattle.capture_lines.specs.Fields.{is_space, is_colon, is_ascii, is_word, number_in, hex_in, sized_in, filled}
+use Rattle.capture_lines.specs.Fields.{is_space, is_colon, is_ascii, is_text_word, number_in, hex_in, sized_in, filled}
 use Rattle.capture_lines.specs.declared.line.Line.{Line}
 use Rattle.capture_lines.specs.declared.line.Line.TheVariants as lines
 use Rattle.capture_lines.specs.declared.line.What.{What}
@@ -18,7 +19,7 @@ last_link = 1000
 
 -- a name: one word
 abbrev pub name_in : List ℕ → Option (List ℕ)
-name_in text = if is_word text then Some text else None
+name_in text = if is_text_word text then Some text else None
 
 -- afp-capture 1
 abbrev pub title_in : List ℕ → Option Line
@@ -27,7 +28,7 @@ title_in rest = if bytes_eq rest (codes "1") then Some lines.Title else None
 -- NAME:PASSWORD, parted at the first colon; the password is ASCII of at most 8 bytes
 abbrev pub user_in : List ℕ → Option Line
 user_in text =
-    if is_word text && list_any is_colon text && list_all is_ascii (after_first is_colon text) && nat_le (length (after_first is_colon text)) 8
+    if is_text_word text && list_any is_colon text && list_all is_ascii (after_first is_colon text) && nat_le (length (after_first is_colon text)) password_size
     then Some (lines.User (before_first is_colon text) (filled (after_first is_colon text)))
     else None
 
@@ -68,10 +69,10 @@ headed word rest =
     if bytes_eq word (codes "at") then event_in rest
     else if bytes_eq word (codes "afp-capture") then title_in rest
     else if bytes_eq word (codes "server") then option_map lines.Server (name_in rest)
-    else if bytes_eq word (codes "signature") then option_map lines.Signature (sized_in 16 rest)
+    else if bytes_eq word (codes "signature") then option_map lines.Signature (sized_in signature_size rest)
     else if bytes_eq word (codes "user") then user_in rest
     else if bytes_eq word (codes "volume") then option_map lines.Volume (name_in rest)
-    else if bytes_eq word (codes "key") then option_map lines.Key (sized_in 32 rest)
+    else if bytes_eq word (codes "key") then option_map lines.Key (sized_in token_key_size rest)
     else None
 
 -- what a line says; none where it has none of the forms, or is too long

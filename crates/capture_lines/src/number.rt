@@ -1,6 +1,6 @@
 //! Decimal numbers.
 ghost use Rattle.std.specs.Prelude.{◌≡◌, nat_le, if◌then◌else◌};
-ghost use Rattle.capture_lines.specs.Fields.{is_digit, is_number, number_in, value_behind};
+ghost use Rattle.capture_lines.specs.Fields.{is_digit, is_decimal, number_in, value_behind};
 ghost use Rattle.std.specs.List.{list_all};
 
 fn is_digit(byte: u8) -> bool
@@ -17,7 +17,7 @@ fn are_digits(word: &[u8]) -> bool
 
 /// Whether the word is a number in decimal, without a leading zero.
 fn is_number(word: &[u8]) -> bool
-    ensures { result ≡ is_number word.now }
+    ensures { result ≡ is_decimal word.now }
 {
     !word.is_empty() && are_digits(word) && (word.len() == 1 || word[0] != b'0')
 }

@@ -1,7 +1,7 @@
 //! Words, and what stands behind them.
 ghost use Rattle.std.specs.Prelude.{◌≡◌, ◌==◌, ℕ, take, drop};
 ghost use Rattle.std.specs.List.{before_first, after_first, position, position_or_len, list_all, list_any};
-ghost use Rattle.capture_lines.specs.Fields.{is_space, is_colon, is_ascii, is_word};
+ghost use Rattle.capture_lines.specs.Fields.{is_space, is_colon, is_ascii, is_text_word};
 
 fn position_of(text: &[u8], sought: u8) -> Option<usize>
     ensures { result ≡ position (λ (byte : ℕ). byte == sought) text.now }
@@ -80,7 +80,7 @@ pub fn is_ascii(text: &[u8]) -> bool
 
 /// Whether the text is one word: it has a byte, and no space.
 pub fn is_word(text: &[u8]) -> bool
-    ensures { result ≡ is_word text.now }
+    ensures { result ≡ is_text_word text.now }
 {
     text.len() != 0 && !has_space(text)
 }

@@ -10,7 +10,7 @@ use Rattle.capture_lines.specs.Lines.{line_in, longest_line}
 use Rattle.capture_log.specs.lemma.Gathering.{ReaderState, IsOneLine, AreLines, ended_lines, Holds, EndsLine}
 use Rattle.capture_log.specs.Judged.{Decides, DecidesEnd, JudgedAt, Judged}
 use Rattle.capture_log.specs.Reading.{is_newline, pieces, last_line, lines_of, lines_in, Undecided}
-use Rattle.capture_server.specs.CaptureState.{CaptureState, Goes, Leads, begins, is_bad, no_house}
+use Rattle.capture_server.specs.CaptureState.{CaptureState, TakesGoodLine, Leads, begins, is_bad, no_house}
 use Rattle.capture_server.specs.declared.part.Part.TheVariants as parts
 use Rattle.capture_log.proofs.SetUpLemmas.{set-up-none}
 use Rattle.capture_log.specs.lemma.Taking.{HeldCapture, IsCapture, TakesRawLine}
@@ -99,8 +99,8 @@ lines-append : (lines : List (List ℕ)) (line : List ℕ) → AreLines lines �
 lines-append [] line h one = (one, tt)
 lines-append (l ∷ lines) line h one = (h.0, lines-append lines line h.1 one)
 
-leads-one : (s : CaptureState) (lines : List (List ℕ)) (raw : List ℕ) (m t : CaptureState) → Leads s lines m → Goes m raw t → Leads s (lines ++ raw ∷ []) t
-leads-one s [] raw m t h g = (t, subst (λ (x : CaptureState). Goes x raw t) h g, refl)
+leads-one : (s : CaptureState) (lines : List (List ℕ)) (raw : List ℕ) (m t : CaptureState) → Leads s lines m → TakesGoodLine m raw t → Leads s (lines ++ raw ∷ []) t
+leads-one s [] raw m t h g = (t, subst (λ (x : CaptureState). TakesGoodLine x raw t) h g, refl)
 leads-one s (l ∷ lines) raw m t h g = (h.0, h.1, leads-one h.0 lines raw m t h.2 g)
 
 -- what stands at the end of a line that was read
@@ -153,7 +153,7 @@ pub long-line : (r : ReaderState) (read last : List ℕ) → Holds r read → Is
 long-line r read last h one e = decides-line r read last (BadCapture (r.capture.number + 1)) h one (long-bad h.standing (r.held ++ last) (long r.held last (sym e)), refl)
 
 -- a line is counted, and nothing is held any more
-pub line-ended : (r new : ReaderState) (read last : List ℕ) (h : Holds r read) (t : CaptureState) (c : HeldCapture) → IsOneLine last → Goes h.standing (r.held ++ last) t → IsCapture c t → c.number ≡ r.capture.number + 1
+pub line-ended : (r new : ReaderState) (read last : List ℕ) (h : Holds r read) (t : CaptureState) (c : HeldCapture) → IsOneLine last → TakesGoodLine h.standing (r.held ++ last) t → IsCapture c t → c.number ≡ r.capture.number + 1
     → new ≡ record { capture = c; held = [] } → Holds new (read ++ (last ++ 10 ∷ []))
 line-ended r new read last h t c one goes is number same =
     let lines : List (List ℕ) = h.lines ++ (r.held ++ last) ∷ [] in
@@ -176,7 +176,7 @@ line-ended r new read last h t c one goes is number same =
 pub ends-line : (r new : ReaderState) (read last held : List ℕ) (verdict : Option ReplayEnd) (h : Holds r read) (c : HeldCapture) → IsOneLine last → held ≡ r.held ++ last
     → TakesRawLine h.standing (r.capture.number + 1) held verdict c → new ≡ record { capture = c; held = [] } → EndsLine read last verdict new
 ends-line r new read last held None h c one at takes same =
-    line-ended r new read last h takes.0 c one (subst (λ (l : List ℕ). Goes h.standing l takes.0) at takes.1) takes.2 takes.3 same
+    line-ended r new read last h takes.0 c one (subst (λ (l : List ℕ). TakesGoodLine h.standing l takes.0) at takes.1) takes.2 takes.3 same
 ends-line r new read last held (Some verdict) h c one at takes same =
     decides-line r read last verdict h one (subst (λ (l : List ℕ). Decides h.standing (r.capture.number + 1) l verdict) at takes)
 
@@ -257,7 +257,7 @@ ended-last r read verdict h some d = inl (record {
   decides = subst (λ (n : ℕ). Decides h.standing (n + 1) r.held verdict) h.number d;
 })
 
-pub ended-line : (r : ReaderState) (read : List ℕ) (verdict : ReplayEnd) (h : Holds r read) (t : CaptureState) (n : ℕ) → false ≡ (length r.held == 0) → Goes h.standing r.held t
+pub ended-line : (r : ReaderState) (read : List ℕ) (verdict : ReplayEnd) (h : Holds r read) (t : CaptureState) (n : ℕ) → false ≡ (length r.held == 0) → TakesGoodLine h.standing r.held t
     → n ≡ r.capture.number + 1 → DecidesEnd t (n + 1) verdict → Judged (lines_in true read) true verdict
 ended-line r read verdict h t n some goes number d =
     let all : lines_in true read ≡ h.lines ++ r.held ∷ [] =

@@ -4,7 +4,7 @@ use Rattle.std.specs.Prelude.{Option, Some, None, option_map, bytes_eq, if◌the
 use Rattle.std.specs.List.{before_first, after_first, list_any, list_all, slice_index}
 use Rattle.std.proofs.lemmas.Bool.{leb-true}
 use Rattle.std.proofs.lemmas.Bool.Decides.{eqb_tells}
-use Rattle.capture_lines.specs.Fields.{is_space, is_colon, is_ascii, is_digit, is_word, is_number, number_in, sized_in, value_behind, filled}
+use Rattle.capture_lines.specs.Fields.{is_space, is_colon, is_ascii, is_digit, is_text_word, is_decimal, number_in, sized_in, value_behind, filled}
 use Rattle.capture_lines.specs.Lines.{line_in, headed, event_in, title_in, name_in, user_in, link_in, link_then, moment_then, what_in, last_link, longest_line}
 use Rattle.afp_base.specs.Limits.{last_moment}
 use Rattle.capture_lines.specs.declared.line.Line.{Line}
@@ -67,8 +67,8 @@ number-good : (word : List ℕ) (l : ℕ) → bytes_eq word (codes "0") ≡ fals
 number-good [] l other e = absurd (cc e)
 number-good (d ∷ ds) l other e =
     let v = value_behind 0 (d ∷ ds) in
-    let h = if_some_none (is_number (d ∷ ds) && nat_le v last_link) v l e in
-    let k = both_true (is_number (d ∷ ds)) (nat_le v last_link) h.0 in
+    let h = if_some_none (is_decimal (d ∷ ds) && nat_le v last_link) v l e in
+    let k = both_true (is_decimal (d ∷ ds)) (nat_le v last_link) h.0 in
     let parts = both_true (not (length (d ∷ ds) == 0) && list_all is_digit (d ∷ ds)) (length (d ∷ ds) == 1 || not (slice_index (d ∷ ds) 0 == 48)) k.0 in
     let digits = both_true (not (length (d ∷ ds) == 0)) (list_all is_digit (d ∷ ds)) parts.0 in
     let first = both_true (is_digit d) (list_all is_digit ds) digits.1 in
@@ -94,7 +94,7 @@ link_good word rest (Some link) same = moment_good link (number_in last_moment (
 
 user_good : (text : List ℕ) → IsGoodLine (user_in text)
 user_good text =
-    if_good (is_word text && list_any is_colon text && list_all is_ascii (after_first is_colon text) && nat_le (length (after_first is_colon text)) 8)
+    if_good (is_text_word text && list_any is_colon text && list_all is_ascii (after_first is_colon text) && nat_le (length (after_first is_colon text)) 8)
     (Some (UserLine (before_first is_colon text) (filled (after_first is_colon text)))) None tt tt
 
 headed_good : (word rest : List ℕ) → IsGoodLine (headed word rest)

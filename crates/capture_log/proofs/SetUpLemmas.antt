@@ -7,7 +7,7 @@ use Rattle.std.specs.List.{list_all}
 use Rattle.std.specs.Prelude.{Option, Some, None, option_map, if◌then◌else◌}
 use Rattle.std.specs.Str.{IsUtf8}
 use Rattle.afp_serial.specs.Household.{Household}
-use Rattle.afp_serial.specs.HouseFault.{house_fault, first_fault, fault_if, is_printable, is_name, is_text, first_bad, first_bad_behind, is_bad_user, is_bad_volume}
+use Rattle.afp_serial.specs.HouseFault.{house_fault, first_fault, fault_if, is_printable, is_name, is_text, first_bad_name, first_bad_behind, is_bad_user, is_bad_volume}
 use Rattle.afp_serial.specs.Limits.{longest_server, longest_message, most_users, most_volumes}
 use Rattle.afp_serial.specs.declared.house_fault.HouseFault.{HouseFault}
 use Rattle.afp_serial.specs.declared.house_fault.HouseFault.TheVariants as faults
@@ -195,13 +195,13 @@ same-parts p q line h i adds no_server no_volume server users volumes message is
     | inr named ↦ absurd (cc (sym named ∙ no_server))
   ];
   few_users = ap (λ (l : List User). nat_le (length l) most_users) users ∙ is.few_users;
-  users = ap (λ (l : List User). first_bad is_bad_user l) users ∙ is.users;
+  users = ap (λ (l : List User). first_bad_name is_bad_user l) users ∙ is.users;
   some_volume = λ e. elim (adds.volume e) [
     | inl there ↦ ap (λ (l : List (List ℕ)). nat_le 1 (length l)) volumes ∙ is.some_volume there
     | inr named ↦ absurd (cc (sym named ∙ no_volume))
   ];
   few_volumes = ap (λ (l : List (List ℕ)). nat_le (length l) most_volumes) volumes ∙ is.few_volumes;
-  volumes = ap (λ (l : List (List ℕ)). first_bad is_bad_volume l) volumes ∙ is.volumes;
+  volumes = ap (λ (l : List (List ℕ)). first_bad_name is_bad_volume l) volumes ∙ is.volumes;
   message = message ∙ is.message;
 }
 
@@ -291,7 +291,7 @@ pub set-up-good : (h : Household) → IsSetUp parts.Events h → house_fault h �
 unfolding house_fault
 set-up-good h is =
     none-holds (is_name longest_server h.server) (nat_le (length h.users) most_users) (nat_le 1 (length h.volumes)) (nat_le (length h.volumes) most_volumes) (is_text longest_message h.message)
-    (first_bad is_bad_user h.users) (first_bad is_bad_volume h.volumes)
+    (first_bad_name is_bad_user h.users) (first_bad_name is_bad_volume h.volumes)
     (is.server refl) is.few_users is.users (is.some_volume refl) is.few_volumes is.volumes (ap (is_text longest_message) is.message)
 
 -- a name is UTF-8

@@ -4,7 +4,7 @@ use Rattle.capture_lines.specs.Lines.{line_in}
 use Rattle.capture_lines.specs.declared.line.Line.TheVariants.{At}
 use Rattle.capture_lines.specs.declared.line.What.TheVariants.{Out}
 use Rattle.capture_server.specs.Connections.{difference, output}
-use Rattle.capture_server.specs.Counting.{AreCounts}
+use Rattle.capture_server.specs.Counting.{AreCaptureCounts}
 use Rattle.capture_server.specs.declared.difference.Difference.{Difference}
 use Rattle.capture_server.specs.CaptureState.{CaptureState, Leads, begins, is_bad}
 use Rattle.capture_server.specs.declared.part.Part.TheVariants as parts
@@ -32,7 +32,7 @@ Decides s number raw Memory = ⊥
 abbrev pub DecidesEnd : CaptureState → ℕ → ReplayEnd → Type 0
 DecidesEnd s number (BadCapture line) = (s.part ≢ parts.Nothing) × (line ≡ number)
 DecidesEnd s number (Differs link at want got) = ⊥
-DecidesEnd s number (Same links entries replies refused) = (s.part ≡ parts.Nothing) × AreCounts s links entries replies refused
+DecidesEnd s number (Same links entries replies refused) = (s.part ≡ parts.Nothing) × AreCaptureCounts s links entries replies refused
 DecidesEnd s number ReadFault = ⊥
 DecidesEnd s number Spent = ⊥
 DecidesEnd s number Memory = ⊥
@@ -58,7 +58,7 @@ abbrev pub Judged : List (List ℕ) → Bool → ReplayEnd → Type 0
 Judged lines ended verdict = JudgedAt lines verdict ⊎ (JudgedAtEnd lines verdict × (ended ≡ true))
 
 -- A capture without a bad line: each of its lines, behind good ones, is good, and where no more come, the last was `end`.
-pub record IsGood (lines : List (List ℕ)) (ended : Bool) : Type 0 where
+pub record IsGoodCapture (lines : List (List ℕ)) (ended : Bool) : Type 0 where
   pub formed :
       (before : List (List ℕ)) (raw : List ℕ) (behind : List (List ℕ)) (s : CaptureState) → lines ≡ before ++ raw ∷ behind → Leads begins before s → is_bad s (line_in raw) ≢ true
   pub whole : ended ≡ true → (s : CaptureState) → Leads begins lines s → s.part ≡ parts.Nothing

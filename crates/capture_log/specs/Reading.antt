@@ -4,7 +4,7 @@ use Rattle.std.specs.List.{slice_split}
 use Rattle.afp_base.specs.Counts.{CountsOn}
 use Rattle.afp_outside.specs.Source.{SourceState}
 use Rattle.capture_lines.specs.Lines.{longest_line}
-use Rattle.capture_log.specs.Judged.{Judged, IsGood, AreTrue}
+use Rattle.capture_log.specs.Judged.{Judged, IsGoodCapture, AreTrue}
 use Rattle.capture_server.specs.CaptureState.{CaptureState, Leads, begins}
 use Rattle.capture_log.specs.declared.replay_end.ReplayEnd.{ReplayEnd}
 use Rattle.capture_log.specs.declared.replay_end.ReplayEnd.TheVariants as ends
@@ -82,7 +82,7 @@ IsTheSame ends.Memory = Unit {0}
 
 -- The lines that were read are good, fewer bytes than `turns` were taken, and the source did not fail.
 pub record IsReadWell (turns : ℕ) (read : List ℕ) (old new : SourceState) : Type 0 where
-  pub good : (ended : Bool) → IsGood (lines_in ended read) ended
+  pub good : (ended : Bool) → IsGoodCapture (lines_in ended read) ended
   pub fewer : length read < turns
   pub faultless : CountsOn 1 old.faults new.faults → ⊥
 

@@ -1,5 +1,6 @@
 -- Where a capture stands after some of its lines, and where one line more leads (docs/CAPTURES.md; this profile).
 use Rattle.std.specs.Prelude.{◌≡◌, ℕ, zero, suc, ◌+◌, ◌==◌, nat_lt, not, ◌||◌, Bool, true, false, List, [], ◌∷◌, ◌++◌, length, drop, Option, Some, None, is_none, if◌then◌else◌}
+use Rattle.afp_base.specs.Limits.{signature_size, token_key_size}
 use Rattle.afp_base.specs.Counts.{counted}
 use Rattle.afp_base.specs.declared.ids.LinkNumber.{LinkNumber}
 use Rattle.afp_serial.specs.History.{stand}
@@ -46,7 +47,7 @@ pub record CaptureState : Type 0 where
 
 -- a house of which no part is named: its signature and its key are zeros
 abbrev pub no_house : Household
-no_house = household [] (zeros 16) [] [] [] (zeros 32)
+no_house = household [] (zeros signature_size) [] [] [] (zeros token_key_size)
 
 -- before the first line
 abbrev pub begins : CaptureState
@@ -105,7 +106,7 @@ abbrev pub put : ℕ → Connection → (ℕ → Connection) → ℕ → Connect
 put link c connections k = if k == link then c else connections k
 
 -- Bytes are read: those of a connection that takes no more are passed over.
-pub record Feeds (s : CaptureState) (link now : ℕ) (bytes : List ℕ) (t : CaptureState) : Type 0 where
+pub record FeedsConnection (s : CaptureState) (link now : ℕ) (bytes : List ℕ) (t : CaptureState) : Type 0 where
   pub frames : List Frame
   pub steps : List Step
   pub replies : List Frame
@@ -122,7 +123,7 @@ pub record Feeds (s : CaptureState) (link now : ℕ) (bytes : List ℕ) (t : Cap
 
 abbrev pub FeedsUnless : Bool → CaptureState → ℕ → ℕ → List ℕ → CaptureState → Type 0
 FeedsUnless true s link now bytes t = t ≡ s
-FeedsUnless false s link now bytes t = Feeds s link now bytes t
+FeedsUnless false s link now bytes t = FeedsConnection s link now bytes t
 
 -- A quiet: Pulse is asked at the link of the session that is open; one that is told Displaced ends the connection's link.
 abbrev pub after_quiet : Told → Connection → Connection
@@ -162,7 +163,7 @@ LosesIf None s link now t = t ≡ record s { connections = put link (after_loss 
 LosesIf (Some open_at) s link now t = Loses s link now open_at t
 
 -- Bytes were answered: those of the output that were not compared yet begin with them.
-pub record Shows (s : CaptureState) (link : ℕ) (bytes : List ℕ) (t : CaptureState) : Type 0 where
+pub record ShowsBytes (s : CaptureState) (link : ℕ) (bytes : List ℕ) (t : CaptureState) : Type 0 where
   pub same : difference (s.connections link).named bytes (drop (s.connections link).named (output (s.connections link))) ≡ None
   pub next : t ≡ record s { connections = put link (record (s.connections link) { named = (s.connections link).named + length bytes }) s.connections }
 
@@ -171,7 +172,7 @@ abbrev pub Happens : CaptureState → ℕ → ℕ → What → CaptureState → 
 Happens s link now (In bytes) t = FeedsUnless (s.connections link).over s link now bytes t
 Happens s link now Quiet t = PulsesIf (open_link (s.connections link).stage) s link now t
 Happens s link now Lost t = LosesIf (open_link (s.connections link).stage) s link now t
-Happens s link now (Out bytes) t = Shows s link bytes t
+Happens s link now (Out bytes) t = ShowsBytes s link bytes t
 
 -- where a line that is not bad leads, with the part that follows it
 abbrev pub Says : CaptureState → Part → Line → CaptureState → Type 0
@@ -185,7 +186,7 @@ Says s part (At link now what) t = Happens (record s { part = part; start = Some
 Says s part End t = t ≡ record s { part = part }
 
 -- A good line leads from one standing to the next.
-pub record Goes (s : CaptureState) (raw : List ℕ) (t : CaptureState) : Type 0 where
+pub record TakesGoodLine (s : CaptureState) (raw : List ℕ) (t : CaptureState) : Type 0 where
   pub line : Line
   pub part : Part
   pub is : line_in raw ≡ Some line
@@ -196,4 +197,4 @@ pub record Goes (s : CaptureState) (raw : List ℕ) (t : CaptureState) : Type 0 
 -- good lines lead from one standing to another
 abbrev pub Leads : CaptureState → List (List ℕ) → CaptureState → Type 0
 Leads s [] t = t ≡ s
-Leads s (raw ∷ lines) t = (m : CaptureState) × Goes s raw m × Leads m lines t
+Leads s (raw ∷ lines) t = (m : CaptureState) × TakesGoodLine s raw m × Leads m lines t

@@ -10,7 +10,7 @@ refused_in [] = 0
 refused_in (reply ∷ replies) = (if reply.word == 0 then 0 else 1) + refused_in replies
 
 -- the connections that were fed, the entries of the history, the replies, and those with a code other than 0
-pub record AreCounts (s : CaptureState) (links entries replies refused : ℕ) : Type 0 where
+pub record AreCaptureCounts (s : CaptureState) (links entries replies refused : ℕ) : Type 0 where
   pub fed : links ≡ s.links
   pub asked : entries ≡ length s.history
   pub replied : replies ≡ counted (length s.replies) 0

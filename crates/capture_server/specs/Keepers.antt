@@ -1,6 +1,7 @@
 -- Keepers that a capture is replayed over (this profile).
 use Rattle.std.specs.FinMap as map
 use Rattle.std.specs.Prelude.{◌≡◌, ℕ, Bool, true, List, [], ◌∷◌, length, Option, Some}
+use Rattle.afp_serial.specs.Limits.{most_volumes}
 use Rattle.record_keeper.specs.Records.{Records}
 
 -- A keeper that nobody has used: it tells that it holds nothing, is sure, and has not failed.
@@ -15,5 +16,5 @@ AreNew records sure faults (keeper ∷ keepers) = IsNew (records keeper) (sure k
 
 -- one for each volume that there may be
 pub record AreFresh {K : Type 0} (records : K → Option Records) (sure : K → Bool) (faults : K → ℕ) (keepers : List K) : Type 0 where
-  pub eight : length keepers ≡ 8
+  pub many : length keepers ≡ most_volumes
   pub new : AreNew records sure faults keepers

@@ -5,6 +5,7 @@ use Rattle.afp_serial.specs.World.{fresh_world}
 use Rattle.capture_lines.specs.declared.line.What.{What}
 use Rattle.capture_lines.specs.declared.line.What.TheVariants.{Out}
 use Rattle.capture_server.specs.Connections.{difference, output}
+use Rattle.capture_lines.specs.Lines.{last_link}
 use Rattle.capture_server.specs.CaptureState.{CaptureState, Happens}
 use Rattle.capture_server.specs.States.{ConnectionState, RunningState, IsRunning, unused_state}
 use Rattle.capture_server.specs.declared.difference.Difference.{Difference}
@@ -18,7 +19,7 @@ pub record IsFreshRunning (house : Household) (now : ℕ) (r : RunningState) : T
   pub serves : r.house ≡ house
   pub start : r.teller.start ≡ fresh_world house now
   pub history : r.teller.history ≡ []
-  pub size : length r.connections ≡ 1000
+  pub size : length r.connections ≡ last_link
   pub connections : AreUnused r.connections
   pub links : r.links ≡ 0
   pub replies : r.replies ≡ 0

@@ -10,6 +10,7 @@ use Rattle.afp_server.specs.Wire.{WireState, open_link}
 use Rattle.afp_server.specs.declared.stage.Stage.TheVariants.{Fresh, Closing}
 use Rattle.capture_server.specs.Connections.{Connection, output}
 use Rattle.capture_server.specs.Counting.{refused_in}
+use Rattle.capture_lines.specs.Lines.{last_link}
 use Rattle.capture_server.specs.CaptureState.{CaptureState}
 
 -- A connection: the wire that its bytes are fed to, and a bound of how many those were; whether it was used, takes no more bytes and was
@@ -89,5 +90,5 @@ pub record IsRunning (r : RunningState) (s : CaptureState) (first : ℕ) : Type 
   pub links : r.links ≡ s.links
   pub replies : r.replies ≡ counted (length s.replies) 0
   pub refused : r.refused ≡ counted (refused_in s.replies) 0
-  pub size : length r.connections ≡ 1000
+  pub size : length r.connections ≡ last_link
   pub connections : (k : ℕ) (c : ConnectionState) → slice_get r.connections k ≡ Some c → IsConnection (status_block s.house) c (s.connections (suc k))

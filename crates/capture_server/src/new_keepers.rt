@@ -1,5 +1,6 @@
 //! Keepers that nobody has used.
 ghost use Rattle.std.specs.Prelude.{◌≡◌, ◌≤◌, length};
+ghost use Rattle.afp_serial.specs.Limits.{most_volumes};
 ghost use Rattle.capture_server.specs.Keepers.{AreFresh, AreNew};
 
 use record_keeper::Keeper;
@@ -28,14 +29,14 @@ impl<K: Keeper> NewKeepers<K> {
     /// The same keepers.
     pub fn new(keepers: Vec<K>) -> NewKeepers<K>
         requires { AreFresh K.records K.sure K.faults keepers.items }
-        ensures { result ≡ 8 }
+        ensures { result ≡ most_volumes }
     {
         NewKeepers { keepers }
     }
 
     /// So many of them; the others are let go.
     pub fn first(self, count: usize) -> Vec<K>
-        requires { count ≤ 8 }
+        requires { count ≤ most_volumes }
         ensures count { length result.items ≡ count }
         ensures new { AreNew K.records K.sure K.faults result.items }
     {

@@ -92,7 +92,7 @@ fn core_of<K: Keeper>(
 impl<K: Keeper> Running<K> {
     ghost use Rattle.std.specs.Prelude.{if◌then◌else◌};
     ghost use Rattle.capture_server.specs.Running.{IsFreshRunning};
-    ghost use Rattle.capture_server.specs.Counting.{AreCounts};
+    ghost use Rattle.capture_server.specs.Counting.{AreCaptureCounts};
 
     /// A server that nobody has asked, from a moment on, over new keepers; those that it has no volume for are let go.
     pub fn new(
@@ -126,7 +126,7 @@ impl<K: Keeper> Running<K> {
 
     /// What was counted.
     pub fn counts(&self) -> ReplayCounts
-        ensures { (s : CaptureState) (first : ℕ) → IsRunning self.now s first → AreCounts s result.links result.entries result.replies result.refused }
+        ensures { (s : CaptureState) (first : ℕ) → IsRunning self.now s first → AreCaptureCounts s result.links result.entries result.replies result.refused }
     {
         ReplayCounts {
             links: self.links,

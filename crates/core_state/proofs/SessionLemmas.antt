@@ -5,7 +5,7 @@ use Rattle.std.specs.List.{AllByRecursion, IsDistinct, position_or_len}
 use Rattle.std.specs.Map.{keys_of, values_of, lookup, remove_entry, set_value}
 use Rattle.std.proofs.lemmas.Bool.{cases_eq, eq-eqb, ne_eqb, eqb-false, ltb-false, true≢false}
 use Rattle.afp_serial.specs.Answer.{is_expired}
-use Rattle.afp_serial.specs.World.{has_session, stands_at, Session}
+use Rattle.afp_serial.specs.World.{has_session, is_on_link, Session}
 use Rattle.core_state.specs.SessionList.{attached, session_of, replaced, IsAt}
 use Rattle.core_state.specs.declared.sessions.Linked.{Linked}
 
@@ -125,12 +125,12 @@ module _ (old : List Session) (es : List (ℕ × Linked)) (is : shown es ≡ old
 
 -- the session that has a link, by the entry's place
 find-prefix : (es : List (ℕ × Linked)) (link : ℕ)
-    → find (λ s. stands_at link s.place) (shown es) ≡ option_map (λ e. seen e.0 e.1) (slice_get es (position_or_len (λ x. x.link.0 == link) (values_of es)))
+    → find (λ s. is_on_link link s.place) (shown es) ≡ option_map (λ e. seen e.0 e.1) (slice_get es (position_or_len (λ x. x.link.0 == link) (values_of es)))
 find-prefix [] link = refl
 find-prefix (e ∷ es) link = by (e.1.link.0 == link) (position_or_len (λ x. x.link.0 == link) (values_of es)) (find-prefix es link)
   where
-    by : (b : Bool) (n : ℕ) → find (λ s. stands_at link s.place) (shown es) ≡ option_map (λ e. seen e.0 e.1) (slice_get es n)
-        → cond b (Some (seen e.0 e.1)) (find (λ s. stands_at link s.place) (shown es)) ≡ option_map (λ e. seen e.0 e.1) (slice_get (e ∷ es) (cond (not b) (1 + n) 0))
+    by : (b : Bool) (n : ℕ) → find (λ s. is_on_link link s.place) (shown es) ≡ option_map (λ e. seen e.0 e.1) (slice_get es n)
+        → cond b (Some (seen e.0 e.1)) (find (λ s. is_on_link link s.place) (shown es)) ≡ option_map (λ e. seen e.0 e.1) (slice_get (e ∷ es) (cond (not b) (1 + n) 0))
     by true n rest = refl
     by false n rest = let one : 1 + n ≡ suc n = omega arith in rw one rest
 
@@ -148,11 +148,11 @@ no_place true n h = cc
 no_place false n h = refl
 
 pub find-linked : (es : List (ℕ × Linked)) (link i : ℕ) → position (λ x. x.link.0 == link) (values_of es) ≡ Some i
-    → find (λ s. stands_at link s.place) (shown es) ≡ option_map (λ e. seen e.0 e.1) (slice_get es i)
+    → find (λ s. is_on_link link s.place) (shown es) ≡ option_map (λ e. seen e.0 e.1) (slice_get es i)
 find-linked es link i h = find-prefix es link ∙ ap (λ j. option_map (λ e. seen e.0 e.1) (slice_get es j)) (some_place _ _ i h)
 
 pub find-unlinked : (es : List (ℕ × Linked)) (link : ℕ) → position (λ x. x.link.0 == link) (values_of es) ≡ None
-    → find (λ s. stands_at link s.place) (shown es) ≡ None
+    → find (λ s. is_on_link link s.place) (shown es) ≡ None
 find-unlinked es link h = find-prefix es link ∙ ap (option_map (λ e. seen e.0 e.1)) (get-past es _ (ltb-false _ _ (no_place _ _ h)))
 
 pub is_at : (old : List Session) (es : List (ℕ × Linked)) → shown es ≡ old → (link i n : ℕ) (x : Linked)

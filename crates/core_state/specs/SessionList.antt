@@ -2,7 +2,7 @@
 use Rattle.std.specs.Prelude.{◌≡◌, ℕ, ◌==◌, if◌then◌else◌, List, [], find, map, Option, Some}
 use Rattle.afp_base.specs.declared.ids.LinkNumber.{LinkNumber}
 use Rattle.afp_serial.specs.declared.attachment.Attachment.TheVariants.{Attached}
-use Rattle.afp_serial.specs.World.{stands_at, Session}
+use Rattle.afp_serial.specs.World.{is_on_link, Session}
 
 -- a session that has a link, and no answers that are kept for it
 abbrev pub attached : ℕ → LinkNumber → Option ℕ → List ℕ → Session
@@ -19,7 +19,7 @@ replaced sessions session = map (λ s. if s.number == session.number then sessio
 -- a session is found by its link, and by its number
 pub record IsAt (sessions : List Session) (link number : ℕ) : Type 0 where
   pub session : Session
-  pub linked : find (λ s. stands_at link s.place) sessions ≡ Some session
+  pub linked : find (λ s. is_on_link link s.place) sessions ≡ Some session
   pub numbered : session_of sessions number ≡ Some session
   pub same : session.number ≡ number
   pub uncached : session.cache ≡ []

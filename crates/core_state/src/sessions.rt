@@ -4,7 +4,7 @@ ghost use Rattle.std.specs.List.{list_any};
 ghost use Rattle.indexmap.specs.IndexMap.{values};
 ghost use Rattle.afp_serial.specs.Answer.{new_session, is_expired};
 ghost use Rattle.afp_serial.specs.OpenVol.{with_volume};
-ghost use Rattle.afp_serial.specs.World.{has_session, stands_at, Session};
+ghost use Rattle.afp_serial.specs.World.{has_session, is_on_link, Session};
 ghost use Rattle.core_state.specs.SessionList.{session_of, replaced, IsAt};
 
 use crate::open_volumes::OpenVolumes;
@@ -75,7 +75,7 @@ impl Sessions {
 
     /// The session that has the link.
     pub fn at(&self, link: LinkNumber) -> Option<SessionNumber>
-        ensures { MatchOption result (find (λ s. stands_at link.0 s.place) self.now ≡ None) (λ number. IsAt self.now link.0 number.0) }
+        ensures { MatchOption result (find (λ s. is_on_link link.0 s.place) self.now ≡ None) (λ number. IsAt self.now link.0 number.0) }
     {
         let Some(index) = index_at(&self.by_number, link.0) else {
             return None;

@@ -9,7 +9,7 @@ use Rattle.dsi_frame.specs.declared.frame.DsiCommand.{DsiCommand}
 use Rattle.dsi_frame.specs.declared.frame.Reason.{Reason}
 use Rattle.dsi_frame.specs.declared.frame.Header.{Header}
 use Rattle.afp_base.specs.Bytes.{IsBytes}
-use Rattle.dsi_frame.specs.Frame.{Frame, IsGood, IsSpelling, IsBadHeader, WordFits, header, canonical_frame, header_fault, flags_byte, flags_in, command_number, command_in, word_in, length_in, frame_of, header_of, canonical_header}
+use Rattle.dsi_frame.specs.Frame.{Frame, IsGood, IsSpelling, IsBadHeader, WordFits, header, canonical_frame, header_fault, flags_byte, flags_in, command_number, command_in, word_in, payload_length_in, frame_of, header_of, canonical_header}
 use Rattle.dsi_frame.specs.lemma.GoodHeader.{IsGoodHeader, id_in}
 use Rattle.dsi_frame.specs.Stream.{Begins, IsUnfinished}
 use Rattle.dsi_frame.proofs.HeaderLemmas.{command_at, command_at-number, by_header, good_has_no_fault, header_fault-append}
@@ -47,7 +47,7 @@ frame_in bytes = record {
   command = command_at (command_in bytes);
   id = id_in bytes;
   word = word_in bytes;
-  payload = take (length_in bytes) (drop 16 bytes);
+  payload = take (payload_length_in bytes) (drop 16 bytes);
 }
 
 reply-flags : (reply : Bool) → (flags_byte reply == 1) ≡ reply
@@ -63,8 +63,8 @@ frame_is reply _ id word payload f a b c d e = λ i. record { reply = a i; comma
 pub frame_in-spelling : (first more : List ℕ) (f : Frame) → IsSpelling first f → frame_in (first ++ more) ≡ f
 frame_in-spelling first more f s =
     let g = fields first more f s in
-    let payload : take (length_in (first ++ more)) (drop 16 (first ++ more)) ≡ f.payload =
-    rw (behind_header first more f s) (take_at f.payload more (length_in (first ++ more)) (sym g.size)) in
+    let payload : take (payload_length_in (first ++ more)) (drop 16 (first ++ more)) ≡ f.payload =
+    rw (behind_header first more f s) (take_at f.payload more (payload_length_in (first ++ more)) (sym g.size)) in
     let reply : (flags_in (first ++ more) == 1) ≡ f.reply = ap (λ (n : ℕ). n == 1) g.flags ∙ reply-flags f.reply in
     let command : command_at (command_in (first ++ more)) ≡ f.command = ap command_at g.command ∙ command_at-number f.command in
     frame_is _ _ _ _ _ f reply command g.id g.word payload
@@ -156,14 +156,14 @@ canonical_begins f more good = record { first = canonical_frame f; more = more; 
 pub begins-good : (bytes : List ℕ) (f : Frame) → Begins bytes f → IsGoodHeader bytes (header_of f)
 begins-good bytes f b = let P : List ℕ → Type 0 = λ l. IsGoodHeader l (header_of f) in subst P (sym b.whole) (fields b.first b.more f b.spelling)
 
-pub begins-length : (bytes : List ℕ) (f : Frame) → Begins bytes f → 16 + length_in bytes ≤ length bytes
+pub begins-length : (bytes : List ℕ) (f : Frame) → Begins bytes f → 16 + payload_length_in bytes ≤ length bytes
 begins-length bytes f b =
     let size = (begins-good bytes f b).size in
     let whole = ap length b.whole ∙ length-append b.first b.more in
     let first = length-spelling b.first f b.spelling in
     omega (arith, size, whole, first)
 
-pub begins-payload : (bytes : List ℕ) (f : Frame) → Begins bytes f → take (length_in bytes) (drop 16 bytes) ≡ f.payload
+pub begins-payload : (bytes : List ℕ) (f : Frame) → Begins bytes f → take (payload_length_in bytes) (drop 16 bytes) ≡ f.payload
 begins-payload bytes f b = ap (λ (g : Frame). g.payload) (frame_in-begins bytes f b)
 
 -- less than a header is less than a frame
@@ -177,7 +177,7 @@ none_is_no_some : (o : Option Reason) (reason : Reason) → o ≡ None → o ≡
 none_is_no_some o reason a b = cc
 
 -- a good header without its whole payload is less than a frame
-pub cut_is_unfinished : (bytes : List ℕ) → header_fault bytes ≡ None → length bytes < 16 + length_in bytes → IsUnfinished bytes
+pub cut_is_unfinished : (bytes : List ℕ) → header_fault bytes ≡ None → length bytes < 16 + payload_length_in bytes → IsUnfinished bytes
 cut_is_unfinished bytes good short = record {
   no_frame = λ f b. let l = begins-length bytes f b in omega (arith, l);
   no_bad_header = λ reason b. none_is_no_some (header_fault bytes) reason good b.1;

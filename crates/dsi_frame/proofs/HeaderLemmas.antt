@@ -11,7 +11,7 @@ use Rattle.dsi_frame.specs.declared.frame.Reason.TheVariants as reasons
 use Rattle.byteorder.specs.Endian.{big_number}
 use Rattle.dsi_frame.specs.declared.frame.Header.{Header}
 use Rattle.dsi_frame.specs.declared.frame.HeaderNumbers.{HeaderNumbers}
-use Rattle.dsi_frame.specs.Frame.{WordFits, header_fault, first_found, flags_byte, flags_in, command_number, command_in, word_in, length_in, is_listed}
+use Rattle.dsi_frame.specs.Frame.{WordFits, header_fault, first_found, flags_byte, flags_in, command_number, command_in, word_in, payload_length_in, is_listed}
 use Rattle.dsi_frame.specs.lemma.GoodHeader.{AreNumbers, IsGoodHeader, id_in}
 
 -- the fault that four fields of a header show
@@ -44,7 +44,7 @@ no_fault false commands.Attention word size limit offset = rw (le-ltb payload_li
 -- a good header has no fault
 pub good_has_no_fault : (bytes : List ℕ) (h : Header) → IsGoodHeader bytes h → header_fault bytes ≡ None
 good_has_no_fault bytes h g =
-    let at_fields : fault_of (flags_in bytes) (command_in bytes) (word_in bytes) (length_in bytes) ≡ fault_of (flags_byte h.reply) (command_number h.command) h.word h.length =
+    let at_fields : fault_of (flags_in bytes) (command_in bytes) (word_in bytes) (payload_length_in bytes) ≡ fault_of (flags_byte h.reply) (command_number h.command) h.word h.length =
     rw (g.flags, g.command, g.word, g.size) refl in
     at_fields ∙ no_fault h.reply h.command h.word h.length g.limit g.offset
 
@@ -189,7 +189,7 @@ header_in bytes = record {
   command = command_at (command_in bytes);
   id = id_in bytes;
   word = word_in bytes;
-  length = length_in bytes;
+  length = payload_length_in bytes;
 }
 
 -- a header without fault is good
@@ -207,9 +207,9 @@ faultless_is_good bytes h =
       id = refl;
       word = refl;
       size = refl;
-      limit = ltb-false payload_limit (length_in bytes) size.0;
-      offset = word_fits (flags_in bytes == 1) (command_at (command_in bytes)) (word_in bytes) (length_in bytes)
-          (let P : ℕ → ℕ → Type 0 = λ m n. (m == 0 && n == command_number commands.Write && nat_lt (length_in bytes) (word_in bytes)) ≡ false in
+      limit = ltb-false payload_limit (payload_length_in bytes) size.0;
+      offset = word_fits (flags_in bytes == 1) (command_at (command_in bytes)) (word_in bytes) (payload_length_in bytes)
+          (let P : ℕ → ℕ → Type 0 = λ m n. (m == 0 && n == command_number commands.Write && nat_lt (payload_length_in bytes) (word_in bytes)) ≡ false in
           subst (λ (m : ℕ). P m (command_number (command_at (command_in bytes)))) one (subst (λ (n : ℕ). P (flags_in bytes) n) (sym two) offset.0));
     }
 
@@ -238,16 +238,16 @@ flags_fault bytes flags = choose_first (nat_lt 1 (flags_in bytes)) _ _ (lt-ltb 1
 
 pub command_fault : (bytes : List ℕ) → flags_in bytes ≤ 1 → is_listed (command_in bytes) ≡ false → header_fault bytes ≡ Some reasons.Command
 command_fault bytes flags unlisted =
-    let at_fields : fault_of (flags_in bytes) (command_in bytes) (word_in bytes) (length_in bytes) ≡ Some reasons.Command =
-    at_command (flags_in bytes) (command_in bytes) (word_in bytes) (length_in bytes) flags unlisted in
+    let at_fields : fault_of (flags_in bytes) (command_in bytes) (word_in bytes) (payload_length_in bytes) ≡ Some reasons.Command =
+    at_command (flags_in bytes) (command_in bytes) (word_in bytes) (payload_length_in bytes) flags unlisted in
     at_fields
 
-pub length_fault : (bytes : List ℕ) → flags_in bytes ≤ 1 → is_listed (command_in bytes) ≡ true → payload_limit < length_in bytes
+pub length_fault : (bytes : List ℕ) → flags_in bytes ≤ 1 → is_listed (command_in bytes) ≡ true → payload_limit < payload_length_in bytes
     → header_fault bytes ≡ Some reasons.Length
-length_fault bytes flags command size = at_length (flags_in bytes) (command_in bytes) (word_in bytes) (length_in bytes) flags command size
+length_fault bytes flags command size = at_length (flags_in bytes) (command_in bytes) (word_in bytes) (payload_length_in bytes) flags command size
 
-pub offset_fault : (bytes : List ℕ) → flags_in bytes ≡ 0 → command_in bytes ≡ 6 → length_in bytes ≤ payload_limit → length_in bytes < word_in bytes
+pub offset_fault : (bytes : List ℕ) → flags_in bytes ≡ 0 → command_in bytes ≡ 6 → payload_length_in bytes ≤ payload_limit → payload_length_in bytes < word_in bytes
     → header_fault bytes ≡ Some reasons.Offset
 offset_fault bytes flags command size word =
-    let at_fields : fault_of (flags_in bytes) (command_in bytes) (word_in bytes) (length_in bytes) ≡ fault_of 0 6 (word_in bytes) (length_in bytes) = rw (flags, command) refl in
-    at_fields ∙ at_offset (word_in bytes) (length_in bytes) size word
+    let at_fields : fault_of (flags_in bytes) (command_in bytes) (word_in bytes) (payload_length_in bytes) ≡ fault_of 0 6 (word_in bytes) (payload_length_in bytes) = rw (flags, command) refl in
+    at_fields ∙ at_offset (word_in bytes) (payload_length_in bytes) size word

@@ -6,7 +6,7 @@ use Rattle.std.specs.List.{flat_map}
 use Rattle.std.proofs.lemmas.Bool.{cases_lt}
 use Rattle.dsi_frame.specs.declared.frame.Reason.{Reason}
 use Rattle.afp_base.specs.Bytes.{IsBytes}
-use Rattle.dsi_frame.specs.Frame.{Frame, IsSpelling, IsBadHeader, header_fault, length_in}
+use Rattle.dsi_frame.specs.Frame.{Frame, IsSpelling, IsBadHeader, header_fault, payload_length_in}
 use Rattle.dsi_frame.specs.Stream.{Begins, IsUnfinished, Spelled, Framed, Stopped}
 use Rattle.dsi_frame.specs.Buffered.{Buffered, buffer_length}
 use Rattle.dsi_frame.specs.Deframe.{GivenOut}
@@ -94,7 +94,7 @@ stopped-append bytes more frames at reason s = record {
 by_fault : (bytes : List ℕ) → IsBytes bytes → 16 ≤ length bytes → (o : Option Reason) → header_fault bytes ≡ o
     → ((f : Frame) × Begins bytes f) ⊎ (((reason : Reason) × IsBadHeader bytes reason) ⊎ IsUnfinished bytes)
 by_fault bytes fits long (Some reason) e = inr (inl (reason, (long, e)))
-by_fault bytes fits long None e = elim (cases_lt (length bytes) (16 + length_in bytes)) [
+by_fault bytes fits long None e = elim (cases_lt (length bytes) (16 + payload_length_in bytes)) [
   | inl short ↦ inr (inr (cut_is_unfinished bytes e short))
   | inr enough ↦ inl (_, begins (header_in bytes) bytes long fits (faultless_is_good bytes e) enough)
 ]

@@ -84,8 +84,8 @@ command_in bytes = slice_index bytes 1
 abbrev pub word_in : List ℕ → ℕ
 word_in bytes = big_number 4 (drop 4 bytes)
 
-abbrev pub length_in : List ℕ → ℕ
-length_in bytes = big_number 4 (drop 8 bytes)
+abbrev pub payload_length_in : List ℕ → ℕ
+payload_length_in bytes = big_number 4 (drop 8 bytes)
 
 -- a test that a bad header passes, and the reason that it gives
 pub record Fault : Type 0 where
@@ -97,8 +97,8 @@ abbrev pub header_faults : List ℕ → List Fault
 header_faults bytes =
     record { found = nat_lt 1 (flags_in bytes); reason = reasons.Flags }
     ∷ record { found = not (is_listed (command_in bytes)); reason = reasons.Command }
-    ∷ record { found = nat_lt payload_limit (length_in bytes); reason = reasons.Length }
-    ∷ record { found = flags_in bytes == 0 && command_in bytes == command_number commands.Write && nat_lt (length_in bytes) (word_in bytes); reason = reasons.Offset }
+    ∷ record { found = nat_lt payload_limit (payload_length_in bytes); reason = reasons.Length }
+    ∷ record { found = flags_in bytes == 0 && command_in bytes == command_number commands.Write && nat_lt (payload_length_in bytes) (word_in bytes); reason = reasons.Offset }
     ∷ []
 
 -- the reason of the first fault found

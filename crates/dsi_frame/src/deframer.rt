@@ -2,7 +2,7 @@
 ghost use Rattle.std.specs.Prelude.{◌≡◌, ◌+◌, ◌-◌, ◌<◌, ◌≤◌, ◌^◌, ◌++◌, [], List, ℕ, length, take, drop, min, IfOk};
 ghost use Rattle.dsi_frame.specs.Buffered.{Buffered, buffer_length};
 ghost use Rattle.dsi_frame.specs.Deframe.{IsHead};
-ghost use Rattle.dsi_frame.specs.Frame.{Frame, IsSpelling, length_in};
+ghost use Rattle.dsi_frame.specs.Frame.{Frame, IsSpelling, payload_length_in};
 ghost use Rattle.dsi_frame.specs.Stream.{Begins, HasFrame};
 
 use crate::frame::{BadFrame, Head, numbers_in, read_header};
@@ -40,7 +40,7 @@ fn judge(bytes: &[u8], place: u64) -> Head
 // How long the payload of the whole frame is that the bytes begin with.
 fn payload_length(bytes: &[u8]) -> usize
     requires { HasFrame bytes.now }
-    ensures value { result ≡ length_in bytes.now }
+    ensures value { result ≡ payload_length_in bytes.now }
     ensures fits { HEADER_LENGTH + result ≤ length bytes.now }
 {
     numbers_in(bytes).length as usize

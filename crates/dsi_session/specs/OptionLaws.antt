@@ -3,8 +3,8 @@ use Rattle.std.specs.Prelude.{◌≡◌, ℕ, List, ◌⊎◌}
 use Rattle.dsi_session.specs.Options.{SessionOption, AreOptions, OptionsStopAt}
 
 -- a payload is options, or it stops where one does not fit
-abbrev pub IsRead : Type 0
-IsRead = (payload : List ℕ) →
+abbrev pub IsReadOrStops : Type 0
+IsReadOrStops = (payload : List ℕ) →
     ((options : List SessionOption) × AreOptions payload options)
     ⊎ ((options : List SessionOption) × (at : ℕ) × OptionsStopAt payload options at)
 

@@ -11,7 +11,7 @@ use Rattle.afp_base.specs.Limits.{most_fork_bytes}
 use Rattle.fork_bytes.specs.Blocks.{trimmed, block_at, block_count, blocks_of}
 use Rattle.fork_bytes.specs.Kept.{bytes_in, bytes_of, is_empty, are_rising, is_kept, room_of}
 use Rattle.fork_bytes.specs.lemma.Kept.{with_put, with_puts, Fits, IsForkKept}
-use Rattle.fork_bytes.specs.Plan.{changes_from, changes_of, added_by, HasRoom, PlanState, IsPlan}
+use Rattle.fork_bytes.specs.Plan.{changes_from, changes_of, added_by, HasRoom, ForkPlanState, IsForkPlan}
 use Rattle.fork_bytes.proofs.Trimmed.{get_or-block, length-block, length-trimmed, trimmed-trimmed}
 use Rattle.fork_bytes.proofs.Blocks.{whole, get_or-bytes, length-bytes, block_is}
 use Rattle.fork_bytes.proofs.Places.{cases, rises, none-above}
@@ -255,7 +255,7 @@ pub given_after : {a b : List ℕ} {len : ℕ} {blocks changes : List Block} {ol
 given_after {b = b} {blocks = blocks} {changes = changes} g = bytes-told b (with_puts changes blocks) (given_bytes g)
 
 -- what is given where a plan of the fork as it is is carried out
-pub given_by : {a b : List ℕ} {len : ℕ} {blocks changes : List Block} {old_capacity room capacity : ℕ} {plan : PlanState} → IsForkKept len blocks old_capacity → bytes_of len blocks ≡ a → IsPlan a b plan
+pub given_by : {a b : List ℕ} {len : ℕ} {blocks changes : List Block} {old_capacity room capacity : ℕ} {plan : ForkPlanState} → IsForkKept len blocks old_capacity → bytes_of len blocks ≡ a → IsForkPlan a b plan
     → plan.changes ≡ changes → plan.room ≡ room → old_capacity ≤ capacity → room ≤ capacity → Given a b len blocks changes old_capacity room capacity
 given_by {a = a} {room = room} {plan = plan} kept view p changes_are room_is more_ brought_ = record {
   kept = kept;
@@ -267,8 +267,8 @@ given_by {a = a} {room = room} {plan = plan} kept view p changes_are room_is mor
 }
 
 -- a plan that is made of its parts
-pub if_plan : {E : Type 0} (r : Result PlanState E) (a b : List ℕ) (len added : ℕ) (list : List Block) → IfOk r (λ p. p.len ≡ len) → IfOk r (λ p. p.changes ≡ list)
-    → IfOk r (λ p. HasRoom (length (blocks_of a)) added p.room) → len ≡ length b → list ≡ changes_of a b → added ≡ added_by a list → IfOk r (λ p. IsPlan a b p)
+pub if_plan : {E : Type 0} (r : Result ForkPlanState E) (a b : List ℕ) (len added : ℕ) (list : List Block) → IfOk r (λ p. p.len ≡ len) → IfOk r (λ p. p.changes ≡ list)
+    → IfOk r (λ p. HasRoom (length (blocks_of a)) added p.room) → len ≡ length b → list ≡ changes_of a b → added ≡ added_by a list → IfOk r (λ p. IsForkPlan a b p)
 if_plan (Ok p) a b len added list x y z l c n = record {
   len = x ∙ l;
   changes = y ∙ c;
@@ -279,7 +279,7 @@ if_plan (Err e) a b len added list x y z l c n = tt
 pub no_changes : (a : List ℕ) → [] ≡ changes_of a a
 no_changes a = sym (changes-none a a 0 (all_blocks a a) (λ k low high. refl))
 
-pub if_writes : {E : Type 0} (r : Result PlanState E) (v w : Bool) → v ≡ w → IfOk r (λ p. p.writes ≡ v) → IfOk r (λ p. p.writes ≡ w)
+pub if_writes : {E : Type 0} (r : Result ForkPlanState E) (v w : Bool) → v ≡ w → IfOk r (λ p. p.writes ≡ v) → IfOk r (λ p. p.writes ≡ w)
 if_writes (Ok p) v w same h = h ∙ same
 if_writes (Err e) v w same h = tt
 

@@ -24,7 +24,7 @@ added_by before [] = 0
 added_by before (c ∷ cs) = (if is_empty (block_at before c.index) then 1 else 0) + added_by before cs
 
 -- the length afterwards, the blocks that differ, whether a byte is written or the length changes, and for how many blocks it brings room
-pub record PlanState : Type 0 where
+pub record ForkPlanState : Type 0 where
   pub len : ℕ
   pub changes : List Block
   pub writes : Bool
@@ -35,7 +35,7 @@ abbrev pub HasRoom : ℕ → ℕ → ℕ → Type 0
 HasRoom kept added room = (kept + added ≤ room_of kept) ⊎ (room_of (kept + added) ≤ room)
 
 -- a plan that turns some bytes into others
-pub record IsPlan (before after : List ℕ) (plan : PlanState) : Type 0 where
+pub record IsForkPlan (before after : List ℕ) (plan : ForkPlanState) : Type 0 where
   pub len : plan.len ≡ length after
   pub changes : plan.changes ≡ changes_of before after
   pub room : HasRoom (length (blocks_of before)) (added_by before plan.changes) plan.room

@@ -2,7 +2,7 @@
 ghost use Rattle.std.specs.Prelude.{◌≡◌, ◌≤◌, ◌<◌, ◌+◌, ◌++◌, ℕ, true, if◌then◌else◌, List, [], length, take, drop, slice_set, vec_capacity};
 ghost use Rattle.fork_bytes.specs.Kept.{are_rising, is_empty};
 ghost use Rattle.fork_bytes.specs.lemma.Kept.{in_front, with_put, with_puts, Fits};
-ghost use Rattle.fork_bytes.specs.Plan.{IsPlan};
+ghost use Rattle.fork_bytes.specs.Plan.{IsForkPlan};
 
 use crate::block::Block;
 use crate::fork::{Fork, has_at, place_of};
@@ -11,8 +11,8 @@ use crate::plan::ForkPlan;
 impl Fork {
     /// Carries out a plan of this fork as it is. It takes no memory.
     pub fn apply(&mut self, plan: ForkPlan)
-        requires { (after : List ℕ) × IsPlan self.old after plan }
-        ensures { (after : List ℕ) → IsPlan self.old after plan → self.new ≡ after }
+        requires { (after : List ℕ) × IsForkPlan self.old after plan }
+        ensures { (after : List ℕ) → IsForkPlan self.old after plan → self.new ≡ after }
     {
         let ForkPlan {
             len,

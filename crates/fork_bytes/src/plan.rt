@@ -16,9 +16,9 @@ pub struct ForkPlan {
 impl Model for ForkPlan {
     ghost use Rattle.std.specs.Prelude.{◌≡◌, ◌≤◌, [], vec_capacity};
     ghost use Rattle.afp_base.specs.Limits.{most_fork_bytes};
-    ghost use Rattle.fork_bytes.specs.Plan.{PlanState};
+    ghost use Rattle.fork_bytes.specs.Plan.{ForkPlanState};
 
-    ghost Value = { PlanState };
+    ghost Value = { ForkPlanState };
 
     ghost view = { λ a. record { len = a.len; changes = a.changes.items; writes = a.writes; room = vec_capacity a.room } };
 

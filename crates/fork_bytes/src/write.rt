@@ -5,7 +5,7 @@ ghost use Rattle.afp_base.specs.ForkBytes.{splice, resized};
 ghost use Rattle.afp_base.specs.Limits.{most_fork_bytes, block_size};
 ghost use Rattle.fork_bytes.specs.Blocks.{trimmed, blocks_of};
 ghost use Rattle.fork_bytes.specs.Kept.{is_empty};
-ghost use Rattle.fork_bytes.specs.Plan.{IsPlan, HasRoom, added_by, changes_of, with_change};
+ghost use Rattle.fork_bytes.specs.Plan.{IsForkPlan, HasRoom, added_by, changes_of, with_change};
 
 use crate::block::{BLOCK_SIZE, Block, front_of, trimmed_len, zeros};
 use crate::fork::{Fork, room_for};
@@ -31,7 +31,7 @@ impl Fork {
         piece: &[u8],
     ) -> Result<ForkPlan, OutOfMemory>
         requires { from + length piece.now ≤ most_fork_bytes }
-        ensures plan { IfOk result (λ p. IsPlan self.now (splice self.now from piece.now) p) }
+        ensures plan { IfOk result (λ p. IsForkPlan self.now (splice self.now from piece.now) p) }
         ensures writes { IfOk result (λ p. p.writes ≡ not (is_empty piece.now)) }
     {
         splice_puts_between();
@@ -46,7 +46,7 @@ impl Fork {
     /// The plan of a new length: bytes behind it go, and new bytes are zeros. The one error is want of memory.
     pub fn plan_set_length(&self, alloc: Global, len: u64) -> Result<ForkPlan, OutOfMemory>
         requires { len ≤ most_fork_bytes }
-        ensures plan { IfOk result (λ p. IsPlan self.now (resized self.now len) p) }
+        ensures plan { IfOk result (λ p. IsForkPlan self.now (resized self.now len) p) }
         ensures writes { IfOk result (λ p. p.writes ≡ not (len == length self.now)) }
     {
         let changes = self.cut(alloc, len)?;

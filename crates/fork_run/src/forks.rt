@@ -1,6 +1,6 @@
 //! The bytes of a fork.
 ghost use Rattle.std.specs.Prelude.{ℕ, List, IfOk};
-ghost use Rattle.fork_bytes.specs.Plan.{IsPlan};
+ghost use Rattle.fork_bytes.specs.Plan.{IsForkPlan};
 
 use crate::line::{Kind, Line};
 use afp_base::{Bytes, MOST_FORK_BYTES, OutOfMemory, limits_are_told};
@@ -17,7 +17,7 @@ fn bytes_of(alloc: Global, digits: &str) -> Vec<u8> {
 
 /// The plan of a write of bytes; of no bytes, where they would lie behind the largest fork.
 fn plan(alloc: Global, fork: &Fork, from: u64, piece: &[u8]) -> Result<ForkPlan, OutOfMemory>
-    ensures { IfOk result (λ plan. (after : List ℕ) × IsPlan fork.now after plan) }
+    ensures { IfOk result (λ plan. (after : List ℕ) × IsForkPlan fork.now after plan) }
 {
     limits_are_told();
     if from > MOST_FORK_BYTES || piece.len() as u64 > MOST_FORK_BYTES - from {

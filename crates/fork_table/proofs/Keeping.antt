@@ -17,9 +17,9 @@ use Rattle.deny_modes.proofs.Forks.{itself, both_cross}
 use Rattle.range_locks.specs.declared.fault.LockFault.{LockFault}
 use Rattle.range_locks.specs.declared.fault.LockFault.TheVariants.{Locked, Overlap, Full, Memory}
 use Rattle.range_locks.specs.declared.fault.NotLocked.{NotLocked}
-use Rattle.range_locks.specs.Locks.{ForkLock, SetsLock, TakesLock, with_fork_lock, without_holder, is_lock, exchange_lock, exchanged_locks}
+use Rattle.range_locks.specs.Locks.{ForkLock, SetsLock, TakesLock, with_fork_lock, without_holder, is_fork_lock, exchange_lock, exchanged_locks}
 use Rattle.fork_table.specs.declared.open_fork.OpenFork.{OpenFork}
-use Rattle.fork_table.specs.ForkTable.{Table, plain_open, plain_opens, is_open, is_held, closing, exchange_row, forks_of}
+use Rattle.fork_table.specs.ForkTable.{Table, plain_open, plain_opens, is_open_reference, is_held, closing, exchange_row, forks_of}
 use Rattle.fork_table.specs.lemma.Kept.{IsTable}
 use Rattle.fork_table.specs.lemma.Own.{AreOwn}
 use Rattle.fork_table.specs.declared.own.OwnRef.{OwnRef}
@@ -147,13 +147,13 @@ all_new p (e ∷ es) r v none here h = elim (nat_cmp r e.0) as (λ o. cond (is_e
   | Greater ↦ λ none. let parts = and_parts (p e) (list_all p es) h in (λ i. parts.0 i && all_new p es r v none here parts.1 i)
 ] none
 
-pub fresh : (rows : List (ℕ × OpenFork)) (r : ℕ) → is_open rows r ≡ false → has_reference (plain_opens rows) r ≡ false
+pub fresh : (rows : List (ℕ × OpenFork)) (r : ℕ) → is_open_reference rows r ≡ false → has_reference (plain_opens rows) r ≡ false
 fresh rows r free = any_map (λ (o : Open). o.reference == r) plain_open rows ∙ free
 
-pub no_row : (rows : List (ℕ × OpenFork)) (r : ℕ) → is_open rows r ≡ false → at nat_cmp rows r ≡ None
+pub no_row : (rows : List (ℕ × OpenFork)) (r : ℕ) → is_open_reference rows r ≡ false → at nat_cmp rows r ≡ None
 no_row rows r free = fresh_row rows r (fresh rows r free)
 
-pub table_opened : {rows rows' : List (ℕ × OpenFork)} {own own' : List (OwnRef × Unit {0})} {opens opens' : List Open} {locks : List ForkLock} (r : ℕ) (v : OpenFork) → IsTable rows own opens locks → 1 ≤ r → is_open rows r ≡ false
+pub table_opened : {rows rows' : List (ℕ × OpenFork)} {own own' : List (OwnRef × Unit {0})} {opens opens' : List Open} {locks : List ForkLock} (r : ℕ) (v : OpenFork) → IsTable rows own opens locks → 1 ≤ r → is_open_reference rows r ≡ false
     → rows' ≡ insert_entry nat_cmp rows r v → AreOwn rows' own' → opens' ≡ with_noted (plain_open (r, v)) opens → IsTable rows' own' opens' locks
 table_opened {rows = rows} {rows' = rows'} {locks = locks} r v t from_one free rows_are own_are opens_are =
     let absent = no_row rows r free in
@@ -214,7 +214,7 @@ sets_all q old new f r range (Err Full) s here h = ap (list_all q) s.1 ∙ h
 sets_all q old new f r range (Err Memory) s here h = ap (list_all q) s.1 ∙ h
 
 takes_all : (q : ForkLock → Bool) (old new : List ForkLock) (f : Fork) (r : ℕ) (range : Range) (res : Result (Unit {0}) NotLocked) → TakesLock old f r range res new → list_all q old ≡ true → list_all q new ≡ true
-takes_all q old new f r range (Ok done) s h = ap (list_all q) s.1 ∙ all_filter q q (λ l. not (is_lock f r range l)) old (λ l k p. p) h
+takes_all q old new f r range (Ok done) s h = ap (list_all q) s.1 ∙ all_filter q q (λ l. not (is_fork_lock f r range l)) old (λ l k p. p) h
 takes_all q old new f r range (Err fault) s h = ap (list_all q) s.1 ∙ h
 
 pub table_locked : {rows : List (ℕ × OpenFork)} {own : List (OwnRef × Unit {0})} {opens : List Open} {locks locks' : List ForkLock} (f : Fork) (r : ℕ) (range : Range) (res : Result (Unit {0}) LockFault) → IsTable rows own opens locks → Some f ≡ option_map (λ o. o.fork) (at nat_cmp rows r) → SetsLock locks f r range res locks' → IsTable rows own opens locks'
@@ -290,28 +290,28 @@ closing_more goes t t' r rise there opens_are locks_are =
     let stays = λ (row : ℕ × OpenFork). not (goes row.1) in
     let no_stay = alone goes t.opens r rise there in
     let same : filter stays t'.opens ≡ filter stays t.opens = ap (filter stays) opens_are ∙ filter_inner stays (λ row. not (row.0 == r)) t.opens no_stay in
-    let closed : is_open (filter stays t.opens) r ≡ false = any_in_filter (λ row. row.0 == r) stays t.opens ∙ any_gives (λ (row : ℕ × OpenFork). (row.0 == r) && stays row) (λ row. not (not (row.0 == r)) && stays row) t.opens (λ row. ap (λ b. b && stays row) (twice (row.0 == r))) ∙ no_stay in
+    let closed : is_open_reference (filter stays t.opens) r ≡ false = any_in_filter (λ row. row.0 == r) stays t.opens ∙ any_gives (λ (row : ℕ × OpenFork). (row.0 == r) && stays row) (λ row. not (not (row.0 == r)) && stays row) t.opens (λ row. ap (λ b. b && stays row) (twice (row.0 == r))) ∙ no_stay in
     λ i. record {
       opens = same i;
-      locks = ((λ j. filter (λ l. is_open (same j) l.reference) (locks_are j)) ∙ filter_inner (λ (l : ForkLock). is_open (filter stays t.opens) l.reference) (λ l. not (l.reference == r)) t.locks (no_lock (filter stays t.opens) closed t.locks)) i;
+      locks = ((λ j. filter (λ l. is_open_reference (same j) l.reference) (locks_are j)) ∙ filter_inner (λ (l : ForkLock). is_open_reference (filter stays t.opens) l.reference) (λ l. not (l.reference == r)) t.locks (no_lock (filter stays t.opens) closed t.locks)) i;
     }
   where
     twice : (b : Bool) → b ≡ not (not b)
     twice true = refl
     twice false = refl
 
-    no_lock : (rows : List (ℕ × OpenFork)) → is_open rows r ≡ false → (ls : List ForkLock) → list_any (λ (l : ForkLock). not (not (l.reference == r)) && is_open rows l.reference) ls ≡ false
+    no_lock : (rows : List (ℕ × OpenFork)) → is_open_reference rows r ≡ false → (ls : List ForkLock) → list_any (λ (l : ForkLock). not (not (l.reference == r)) && is_open_reference rows l.reference) ls ≡ false
     no_lock rows closed [] = refl
-    no_lock rows closed (l ∷ ls) = elim (l.reference == r) as (λ b. (l.reference == r) ≡ b → ((not (not b) && is_open rows l.reference) || list_any (λ l. not (not (l.reference == r)) && is_open rows l.reference) ls) ≡ false) [
-      | true ↦ λ is. (λ i. (ap (is_open rows) (one_number l.reference r is) ∙ closed) i || no_lock rows closed ls i)
+    no_lock rows closed (l ∷ ls) = elim (l.reference == r) as (λ b. (l.reference == r) ≡ b → ((not (not b) && is_open_reference rows l.reference) || list_any (λ l. not (not (l.reference == r)) && is_open_reference rows l.reference) ls) ≡ false) [
+      | true ↦ λ is. (λ i. (ap (is_open_reference rows) (one_number l.reference r is) ∙ closed) i || no_lock rows closed ls i)
       | false ↦ λ is. no_lock rows closed ls
     ] refl
 
 pub closing_done : (goes : OpenFork → Bool) (t : Table) → list_all (is_held t.opens) t.locks ≡ true → list_any (λ row. goes row.1) t.opens ≡ false → closing goes t ≡ t
 closing_done goes t held none =
     let same : filter (λ (row : ℕ × OpenFork). not (goes row.1)) t.opens ≡ t.opens = none_go (λ (row : ℕ × OpenFork). goes row.1) t.opens none in
-    let open_all : list_all (λ (l : ForkLock). is_open t.opens l.reference) t.locks ≡ true = all_more (is_held t.opens) (λ l. is_open t.opens l.reference) t.locks (λ l h. any_more (λ (row : ℕ × OpenFork). (row.0 == l.reference) && is_one_fork row.1.fork l.fork) (λ row. row.0 == l.reference) t.opens (λ row p. (and_parts _ _ p).0) h) held in
-    λ i. record { opens = same i; locks = ((λ j. filter (λ l. is_open (same j) l.reference) t.locks) ∙ all_stay (λ (l : ForkLock). is_open t.opens l.reference) t.locks open_all) i }
+    let open_all : list_all (λ (l : ForkLock). is_open_reference t.opens l.reference) t.locks ≡ true = all_more (is_held t.opens) (λ l. is_open_reference t.opens l.reference) t.locks (λ l h. any_more (λ (row : ℕ × OpenFork). (row.0 == l.reference) && is_one_fork row.1.fork l.fork) (λ row. row.0 == l.reference) t.opens (λ row p. (and_parts _ _ p).0) h) held in
+    λ i. record { opens = same i; locks = ((λ j. filter (λ l. is_open_reference (same j) l.reference) t.locks) ∙ all_stay (λ (l : ForkLock). is_open_reference t.opens l.reference) t.locks open_all) i }
 
 pub shorter : (p : ℕ × OpenFork → Bool) (rows : List (ℕ × OpenFork)) (r : ℕ) → list_any (λ row. (row.0 == r) && p row) rows ≡ true → length (filter (λ row. not (row.0 == r)) rows) < length rows
 shorter p [] r h = absurd (cc h)

@@ -17,7 +17,7 @@ use Rattle.afp_base.specs.declared.ids.ForkRef.{ForkRef}
 use Rattle.sorted_map.specs.Entries.{at}
 use Rattle.fork_table.specs.declared.open_fork.OpenFork.{OpenFork}
 use Rattle.fork_table.specs.declared.own.OwnRef.{OwnRef}
-use Rattle.fork_table.specs.ForkTable.{is_of_session, exchange_row}
+use Rattle.fork_table.specs.ForkTable.{is_open_of_session, exchange_row}
 use Rattle.fork_table.specs.lemma.Kept.{FindsOne, does_pass}
 use Rattle.fork_table.specs.lemma.Own.{own_cmp, own_entry, own_ref, is_own, session_of, AreOwn, IsOwnPart, IsSplitBy}
 use Rattle.fork_table.proofs.Entries.{other_put, own_put, other_taken, own_taken, found_passing, none_passing, out_again, nothing_taken}
@@ -55,17 +55,17 @@ rest_none : {A : Type 0} (b : Bool) (x : A) (o : Option A) → cond b (Some x) o
 rest_none true x o h = absurd (cc h)
 rest_none false x o h = h
 
-in_session : (s m n : ℕ) (v w : OpenFork) → is_of_session s v ≡ true → is_of_session s w ≡ true → own_cmp (own_ref m v) (own_ref n w) ≡ nat_cmp m n
+in_session : (s m n : ℕ) (v w : OpenFork) → is_open_of_session s v ≡ true → is_open_of_session s w ≡ true → own_cmp (own_ref m v) (own_ref n w) ≡ nat_cmp m n
 in_session s m n v w one two = ap (λ o. ordering_then o (nat_cmp m n)) (let e : nat_cmp v.session.0 w.session.0 ≡ Equal = grind (arith, nat_tests, one, two) in e)
 
 abbrev pub of_rows : ℕ → List (ℕ × OpenFork) → List (ℕ × OpenFork)
-of_rows s rows = filter (λ row. is_of_session s row.1) rows
+of_rows s rows = filter (λ row. is_open_of_session s row.1) rows
 
 -- an entry that is put in
-entries_put : (s : ℕ) (rows : List (ℕ × OpenFork)) (r : ℕ) (v : OpenFork) → is_of_session s v ≡ true → at nat_cmp rows r ≡ None
+entries_put : (s : ℕ) (rows : List (ℕ × OpenFork)) (r : ℕ) (v : OpenFork) → is_open_of_session s v ≡ true → at nat_cmp rows r ≡ None
     → map own_entry (insert_entry nat_cmp (of_rows s rows) r v) ≡ insert_entry own_cmp (map own_entry (of_rows s rows)) (own_ref r v) tt
 entries_put s [] r v own none = refl
-entries_put s (e ∷ es) r v own none = elim (is_of_session s e.1) as (λ b. is_of_session s e.1 ≡ b
+entries_put s (e ∷ es) r v own none = elim (is_open_of_session s e.1) as (λ b. is_open_of_session s e.1 ≡ b
     → map own_entry (insert_entry nat_cmp (if b then e ∷ of_rows s es else of_rows s es) r v) ≡ insert_entry own_cmp (map own_entry (if b then e ∷ of_rows s es else of_rows s es)) (own_ref r v) tt) [
       | true ↦ λ one.
           let here = in_session s r e.0 v e.1 own one in
@@ -81,18 +81,18 @@ entries_put s (e ∷ es) r v own none = elim (is_of_session s e.1) as (λ b. is_
     ] refl
 
 -- an entry that is taken out
-entries_taken : (s : ℕ) (rows : List (ℕ × OpenFork)) (r : ℕ) (o : OpenFork) → is_of_session s o ≡ true → Some o ≡ at nat_cmp rows r
+entries_taken : (s : ℕ) (rows : List (ℕ × OpenFork)) (r : ℕ) (o : OpenFork) → is_open_of_session s o ≡ true → Some o ≡ at nat_cmp rows r
     → map own_entry (of_rows s (remove_entry (is_at (nat_cmp r)) rows)) ≡ remove_entry (is_at (own_cmp (own_ref r o))) (map own_entry (of_rows s rows))
 entries_taken s [] r o own found = absurd (cc found)
 entries_taken s (e ∷ es) r o own found = elim (is_eq (nat_cmp r e.0)) as (λ b. is_eq (nat_cmp r e.0) ≡ b → Some o ≡ cond b (Some e.1) (at nat_cmp es r)
-    → map own_entry (of_rows s (cond b es (e ∷ remove_entry (is_at (nat_cmp r)) es))) ≡ remove_entry (is_at (own_cmp (own_ref r o))) (map own_entry (if is_of_session s e.1 then e ∷ of_rows s es else of_rows s es))) [
+    → map own_entry (of_rows s (cond b es (e ∷ remove_entry (is_at (nat_cmp r)) es))) ≡ remove_entry (is_at (own_cmp (own_ref r o))) (map own_entry (if is_open_of_session s e.1 then e ∷ of_rows s es else of_rows s es))) [
       | true ↦ λ is found.
           let same : o ≡ e.1 = cc found in
-          let one : is_of_session s e.1 ≡ true = ap (is_of_session s) (sym same) ∙ own in
+          let one : is_open_of_session s e.1 ≡ true = ap (is_open_of_session s) (sym same) ∙ own in
           let here : is_eq (own_cmp (own_ref r o) (own_ref e.0 e.1)) ≡ true = ap is_eq (in_session s r e.0 o e.1 own one) ∙ is in
           ap (λ b. cond b (map own_entry (of_rows s es)) (own_entry e ∷ remove_entry (is_at (own_cmp (own_ref r o))) (map own_entry (of_rows s es)))) (sym here)
           ∙ ap (λ b. remove_entry (is_at (own_cmp (own_ref r o))) (map own_entry (if b then e ∷ of_rows s es else of_rows s es))) (sym one)
-      | false ↦ λ is found. elim (is_of_session s e.1) as (λ b. is_of_session s e.1 ≡ b
+      | false ↦ λ is found. elim (is_open_of_session s e.1) as (λ b. is_open_of_session s e.1 ≡ b
           → map own_entry (if b then e ∷ of_rows s (remove_entry (is_at (nat_cmp r)) es) else of_rows s (remove_entry (is_at (nat_cmp r)) es)) ≡ remove_entry (is_at (own_cmp (own_ref r o))) (map own_entry (if b then e ∷ of_rows s es else of_rows s es))) [
             | true ↦ λ one.
                 let here : is_eq (own_cmp (own_ref r o) (own_ref e.0 e.1)) ≡ false = ap is_eq (in_session s r e.0 o e.1 own one) ∙ is in
@@ -103,11 +103,11 @@ entries_taken s (e ∷ es) r o own found = elim (is_eq (nat_cmp r e.0)) as (λ b
     ] refl found
 
 -- a row of another session that is taken out
-others_taken : (s : ℕ) (rows : List (ℕ × OpenFork)) (r : ℕ) (o : OpenFork) → is_of_session s o ≡ false → Some o ≡ at nat_cmp rows r → of_rows s (remove_entry (is_at (nat_cmp r)) rows) ≡ of_rows s rows
+others_taken : (s : ℕ) (rows : List (ℕ × OpenFork)) (r : ℕ) (o : OpenFork) → is_open_of_session s o ≡ false → Some o ≡ at nat_cmp rows r → of_rows s (remove_entry (is_at (nat_cmp r)) rows) ≡ of_rows s rows
 others_taken s [] r o other found = refl
-others_taken s (e ∷ es) r o other found = elim (is_eq (nat_cmp r e.0)) as (λ b. Some o ≡ cond b (Some e.1) (at nat_cmp es r) → of_rows s (cond b es (e ∷ remove_entry (is_at (nat_cmp r)) es)) ≡ (if is_of_session s e.1 then e ∷ of_rows s es else of_rows s es)) [
-  | true ↦ λ found. let same : o ≡ e.1 = cc found in ap (λ b. if b then e ∷ of_rows s es else of_rows s es) (sym (ap (is_of_session s) (sym same) ∙ other))
-  | false ↦ λ found. ap (λ l. if is_of_session s e.1 then e ∷ l else l) (others_taken s es r o other found)
+others_taken s (e ∷ es) r o other found = elim (is_eq (nat_cmp r e.0)) as (λ b. Some o ≡ cond b (Some e.1) (at nat_cmp es r) → of_rows s (cond b es (e ∷ remove_entry (is_at (nat_cmp r)) es)) ≡ (if is_open_of_session s e.1 then e ∷ of_rows s es else of_rows s es)) [
+  | true ↦ λ found. let same : o ≡ e.1 = cc found in ap (λ b. if b then e ∷ of_rows s es else of_rows s es) (sym (ap (is_open_of_session s) (sym same) ∙ other))
+  | false ↦ λ found. ap (λ l. if is_open_of_session s e.1 then e ∷ l else l) (others_taken s es r o other found)
 ] found
 
 -- no entry is of a reference that no row has
@@ -132,22 +132,22 @@ module _ (rows : List (ℕ × OpenFork)) (own : List Entry) (a : AreOwn rows own
       let itself : (s == s) ≡ true = grind (arith, nat_tests) in
       sym (found_passing own_cmp (is_own s) (own_ref r v) own (λ e h. of_one s true (own_ref r v) e itself h))
       ∙ ap (λ l. at own_cmp l (own_ref r v)) (a s)
-      ∙ entries_none (of_rows s rows) r v (none_passing nat_cmp (λ row. is_of_session s row.1) r rows none)
+      ∙ entries_none (of_rows s rows) r v (none_passing nat_cmp (λ row. is_open_of_session s row.1) r rows none)
 
   pub own_more : {rows' : List (ℕ × OpenFork)} {own' : List Entry} (r : ℕ) (v : OpenFork) → Rise rows → IsStrictlySortedBy own_cmp (keys_of own) → at nat_cmp rows r ≡ None
       → rows' ≡ insert_entry nat_cmp rows r v → own' ≡ insert_entry own_cmp own (own_ref r v) tt → AreOwn rows' own'
   own_more r v rise sorted none rows_are own_are = λ s.
       ap (filter (is_own s)) own_are
-      ∙ elim (is_of_session s v) as (λ b. is_of_session s v ≡ b → filter (is_own s) (insert_entry own_cmp own (own_ref r v) tt) ≡ map own_entry (of_rows s (insert_entry nat_cmp rows r v))) [
+      ∙ elim (is_open_of_session s v) as (λ b. is_open_of_session s v ≡ b → filter (is_own s) (insert_entry own_cmp own (own_ref r v) tt) ≡ map own_entry (of_rows s (insert_entry nat_cmp rows r v))) [
         | true ↦ λ one.
             own_put own_cmp own_total (is_own s) (own_ref r v) tt own sorted (own_absent r v none) one
             ∙ ap (λ l. insert_entry own_cmp l (own_ref r v) tt) (a s)
             ∙ sym (entries_put s rows r v one none)
-            ∙ ap (map own_entry) (sym (own_put nat_cmp nat_cmp_total (λ row. is_of_session s row.1) r v rows rise none one))
+            ∙ ap (map own_entry) (sym (own_put nat_cmp nat_cmp_total (λ row. is_open_of_session s row.1) r v rows rise none one))
         | false ↦ λ other.
             other_put own_cmp (is_own s) (own_ref r v) tt own (own_absent r v none) other
             ∙ a s
-            ∙ ap (map own_entry) (sym (other_put nat_cmp (λ row. is_of_session s row.1) r v rows none other))
+            ∙ ap (map own_entry) (sym (other_put nat_cmp (λ row. is_open_of_session s row.1) r v rows none other))
       ] refl
       ∙ ap (λ l. map own_entry (of_rows s l)) (sym rows_are)
 
@@ -157,7 +157,7 @@ module _ (rows : List (ℕ × OpenFork)) (own : List Entry) (a : AreOwn rows own
   pub own_less : {rows' : List (ℕ × OpenFork)} {own' : List Entry} (r : ℕ) (o : OpenFork) → Some o ≡ at nat_cmp rows r → rows' ≡ remove_entry (is_at (nat_cmp r)) rows → own' ≡ remove_entry (is_at (own_cmp (own_ref r o))) own → AreOwn rows' own'
   own_less r o found rows_are own_are = λ s.
       ap (filter (is_own s)) own_are
-      ∙ elim (is_of_session s o) as (λ b. is_of_session s o ≡ b → filter (is_own s) (remove_entry (is_at (own_cmp (own_ref r o))) own) ≡ map own_entry (of_rows s (remove_entry (is_at (nat_cmp r)) rows))) [
+      ∙ elim (is_open_of_session s o) as (λ b. is_open_of_session s o ≡ b → filter (is_own s) (remove_entry (is_at (own_cmp (own_ref r o))) own) ≡ map own_entry (of_rows s (remove_entry (is_at (nat_cmp r)) rows))) [
         | true ↦ λ one.
             own_taken own_cmp (is_own s) (own_ref r o) own (λ e h. of_one s true (own_ref r o) e one h)
             ∙ ap (remove_entry (is_at (own_cmp (own_ref r o)))) (a s)
@@ -177,17 +177,17 @@ module _ (rows : List (ℕ × OpenFork)) (own : List Entry) (a : AreOwn rows own
     where
       same : (s : ℕ) (rows : List (ℕ × OpenFork)) → map own_entry (of_rows s rows) ≡ map own_entry (of_rows s (map (exchange_row f g) rows))
       same s [] = refl
-      same s (e ∷ es) = elim (is_of_session s e.1) as (λ b. map own_entry (if b then e ∷ of_rows s es else of_rows s es) ≡ map own_entry (if b then exchange_row f g e ∷ of_rows s (map (exchange_row f g) es) else of_rows s (map (exchange_row f g) es))) [
+      same s (e ∷ es) = elim (is_open_of_session s e.1) as (λ b. map own_entry (if b then e ∷ of_rows s es else of_rows s es) ≡ map own_entry (if b then exchange_row f g e ∷ of_rows s (map (exchange_row f g) es) else of_rows s (map (exchange_row f g) es))) [
         | true ↦ ap (λ l. own_entry e ∷ l) (same s es)
         | false ↦ same s es
       ]
 
 -- ---- what is asked of them
 -- the first of a session's entries
-first_found : (s : ℕ) (rows : List (ℕ × OpenFork)) → FindsOne (is_of_session s) rows (option_map (λ (e : Entry). e.0.reference) (slice_get (map own_entry (of_rows s rows)) 0))
+first_found : (s : ℕ) (rows : List (ℕ × OpenFork)) → FindsOne (is_open_of_session s) rows (option_map (λ (e : Entry). e.0.reference) (slice_get (map own_entry (of_rows s rows)) 0))
 first_found s [] = refl
-first_found s (e ∷ es) = elim (is_of_session s e.1) as (λ b. is_of_session s e.1 ≡ b → FindsOne (is_of_session s) (e ∷ es) (option_map (λ (x : Entry). x.0.reference) (slice_get (map own_entry (if b then e ∷ of_rows s es else of_rows s es)) 0))) [
-  | true ↦ λ one. let number : (e.0 == e.0) ≡ true = grind (arith, nat_tests) in (λ i. (number i && one i) || list_any (λ row. (row.0 == e.0) && is_of_session s row.1) es)
+first_found s (e ∷ es) = elim (is_open_of_session s e.1) as (λ b. is_open_of_session s e.1 ≡ b → FindsOne (is_open_of_session s) (e ∷ es) (option_map (λ (x : Entry). x.0.reference) (slice_get (map own_entry (if b then e ∷ of_rows s es else of_rows s es)) 0))) [
+  | true ↦ λ one. let number : (e.0 == e.0) ≡ true = grind (arith, nat_tests) in (λ i. (number i && one i) || list_any (λ row. (row.0 == e.0) && is_open_of_session s row.1) es)
   | false ↦ λ other. further (option_map (λ (x : Entry). x.0.reference) (slice_get (map own_entry (of_rows s es)) 0)) other (first_found s es)
 ] refl
   where
@@ -195,12 +195,12 @@ first_found s (e ∷ es) = elim (is_of_session s e.1) as (λ b. is_of_session s 
     or_right true b h = refl
     or_right false b h = h
 
-    further : (o : Option ForkRef) → is_of_session s e.1 ≡ false → FindsOne (is_of_session s) es o → FindsOne (is_of_session s) (e ∷ es) o
+    further : (o : Option ForkRef) → is_open_of_session s e.1 ≡ false → FindsOne (is_open_of_session s) es o → FindsOne (is_open_of_session s) (e ∷ es) o
     further (Some r) other h = or_right _ _ h
     further None other h = λ i. other i || h i
 
-pub finds_first : (rows : List (ℕ × OpenFork)) (s : ℕ) {mine : List Entry} → mine ≡ map own_entry (of_rows s rows) → FindsOne (is_of_session s) rows (option_map (λ (e : Entry). e.0.reference) (slice_get mine 0))
-finds_first rows s is = subst (λ l. FindsOne (is_of_session s) rows (option_map (λ (e : Entry). e.0.reference) (slice_get l 0))) (sym is) (first_found s rows)
+pub finds_first : (rows : List (ℕ × OpenFork)) (s : ℕ) {mine : List Entry} → mine ≡ map own_entry (of_rows s rows) → FindsOne (is_open_of_session s) rows (option_map (λ (e : Entry). e.0.reference) (slice_get mine 0))
+finds_first rows s is = subst (λ l. FindsOne (is_open_of_session s) rows (option_map (λ (e : Entry). e.0.reference) (slice_get l 0))) (sym is) (first_found s rows)
 
 pub first_part : (a b : Bool) → (a && b) ≡ true → a ≡ true
 first_part true b h = refl
@@ -220,11 +220,11 @@ finds_passing p (e ∷ es) r h = elim (nat_cmp r e.0) as (λ o. nat_cmp r e.0 �
     or_right false b h = h
 
 -- where no entry of the session has an open that passes, no open passes
-pub finds_none : (s : ℕ) (p : OpenFork → Bool) (rows : List (ℕ × OpenFork)) → Rise rows → ((o : OpenFork) → p o ≡ true → is_of_session s o ≡ true)
+pub finds_none : (s : ℕ) (p : OpenFork → Bool) (rows : List (ℕ × OpenFork)) → Rise rows → ((o : OpenFork) → p o ≡ true → is_open_of_session s o ≡ true)
     → list_any (λ (e : Entry). does_pass p (at nat_cmp rows e.0.reference.0)) (map own_entry (of_rows s rows)) ≡ false → list_any (λ row. p row.1) rows ≡ false
 unfolding IsStrictlySortedBy
 finds_none s p [] rise own none = refl
-finds_none s p (e ∷ es) rise own none = elim (is_of_session s e.1) as (λ b. is_of_session s e.1 ≡ b
+finds_none s p (e ∷ es) rise own none = elim (is_open_of_session s e.1) as (λ b. is_open_of_session s e.1 ≡ b
     → list_any (λ (x : Entry). does_pass p (at nat_cmp (e ∷ es) x.0.reference.0)) (map own_entry (if b then e ∷ of_rows s es else of_rows s es)) ≡ false → (p e.1 || list_any (λ row. p row.1) es) ≡ false) [
       | true ↦ λ one none.
           let parts = or_parts (does_pass p (at nat_cmp (e ∷ es) e.0)) _ none in
@@ -237,7 +237,7 @@ finds_none s p (e ∷ es) rise own none = elim (is_of_session s e.1) as (λ b. i
     or_parts true b h = absurd (cc h)
     or_parts false b h = (refl, h)
 
-    not_own : is_of_session s e.1 ≡ false → p e.1 ≡ false
+    not_own : is_open_of_session s e.1 ≡ false → p e.1 ≡ false
     not_own other = elim (cases_Bool (p e.1)) [ inl passes ↦ absurd (let one = own e.1 passes in cc (one, other)) | inr fails ↦ fails ]
 
     above_not : (n : ℕ) → nat_cmp e.0 n ≡ Less → is_eq (nat_cmp n e.0) ≡ false
@@ -245,7 +245,7 @@ finds_none s p (e ∷ es) rise own none = elim (is_of_session s e.1) as (λ b. i
 
     behind : (l : List (ℕ × OpenFork)) → Above e.0 l → list_any (λ (x : Entry). does_pass p (at nat_cmp (e ∷ es) x.0.reference.0)) (map own_entry (of_rows s l)) ≡ list_any (λ (x : Entry). does_pass p (at nat_cmp es x.0.reference.0)) (map own_entry (of_rows s l))
     behind [] a = refl
-    behind (row ∷ l) a = elim (is_of_session s row.1) as (λ b. list_any (λ (x : Entry). does_pass p (at nat_cmp (e ∷ es) x.0.reference.0)) (map own_entry (if b then row ∷ of_rows s l else of_rows s l)) ≡ list_any (λ (x : Entry). does_pass p (at nat_cmp es x.0.reference.0)) (map own_entry (if b then row ∷ of_rows s l else of_rows s l))) [
+    behind (row ∷ l) a = elim (is_open_of_session s row.1) as (λ b. list_any (λ (x : Entry). does_pass p (at nat_cmp (e ∷ es) x.0.reference.0)) (map own_entry (if b then row ∷ of_rows s l else of_rows s l)) ≡ list_any (λ (x : Entry). does_pass p (at nat_cmp es x.0.reference.0)) (map own_entry (if b then row ∷ of_rows s l else of_rows s l))) [
       | true ↦ (λ i. does_pass p (cond (above_not row.0 a.0 i) (Some e.1) (at nat_cmp es row.0)) || behind l a.1 i)
       | false ↦ behind l a.1
     ]

@@ -16,7 +16,7 @@ use Rattle.std.specs.declared.cmp.Ordering.TheVariants.{Less, Equal, Greater}
 use Rattle.std.proofs.lemmas.Bool.Decides.{nat_tests}
 use Rattle.sorted_map.specs.Entries.{at, with_new_value}
 use Rattle.fork_table.specs.declared.open_fork.OpenFork.{OpenFork}
-use Rattle.fork_table.specs.ForkTable.{plain_open, plain_opens, is_open, IsLowestFree, exchange_row}
+use Rattle.fork_table.specs.ForkTable.{plain_open, plain_opens, is_open_reference, IsLowestFree, exchange_row}
 use Rattle.deny_modes.specs.Opens.{has_reference, in_exchange, with_noted, without_reference}
 
 and_parts : (a b : Bool) → (a && b) ≡ true → (a ≡ true) × (b ≡ true)
@@ -151,7 +151,7 @@ module _ (rows : List (ℕ × OpenFork)) (s : Rise rows) (one : list_all (λ row
 pub is_lowest : (rows : List (ℕ × OpenFork)) (low high : ℕ) → AreHalved rows low high → high ≤ low → IsLowestFree rows (low + 1)
 is_lowest rows low high h end = record {
   first = omega arith;
-  free = elim (cases_Bool (is_open rows (low + 1))) [
+  free = elim (cases_Bool (is_open_reference rows (low + 1))) [
     | inl found ↦ absurd (
         let f = Any-from_list_any (λ (row : ℕ × OpenFork). row.0 == low + 1) rows found in
         let number : f.1.0 ≡ low + 1 = one_number f.1.0 (low + 1) f.4 in
@@ -177,7 +177,7 @@ is_lowest rows low high h end = record {
     no_row : ℕ × OpenFork
     no_row = (0, record { session = record { 0 = 0 }; fork = no_fork; mode = record { read = false; write = false; deny_read = false; deny_write = false } })
 
-    taken : (rows : List (ℕ × OpenFork)) (k : ℕ) → k ≤ length rows → 1 ≤ k → ((d : ℕ × OpenFork) → (slice_index_or rows (k - 1) d).0 ≡ (k - 1) + 1) → is_open rows k ≡ true
+    taken : (rows : List (ℕ × OpenFork)) (k : ℕ) → k ≤ length rows → 1 ≤ k → ((d : ℕ × OpenFork) → (slice_index_or rows (k - 1) d).0 ≡ (k - 1) + 1) → is_open_reference rows k ≡ true
     taken rows k within from is =
         let here = is no_row in
         list_any_at (λ (row : ℕ × OpenFork). row.0 == k) rows (k - 1) no_row (omega (arith, within, from)) (let number : (slice_index_or rows (k - 1) no_row).0 ≡ k = omega (arith, here, from) in ap (λ n. n == k) number ∙ itself k)

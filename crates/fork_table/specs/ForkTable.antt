@@ -32,18 +32,18 @@ abbrev pub plain_opens : List (ℕ × OpenFork) → List Open
 plain_opens rows = map plain_open rows
 
 -- the reference is one of these
-abbrev pub is_open : List (ℕ × OpenFork) → ℕ → Bool
-is_open rows reference = list_any (λ row. row.0 == reference) rows
+abbrev pub is_open_reference : List (ℕ × OpenFork) → ℕ → Bool
+is_open_reference rows reference = list_any (λ row. row.0 == reference) rows
 
 -- The lowest number from 1 that is no reference.
 pub record IsLowestFree (rows : List (ℕ × OpenFork)) (reference : ℕ) : Type 0 where
   pub first : 1 ≤ reference
-  pub free : is_open rows reference ≡ false
-  pub lower : (k : ℕ) → 1 ≤ k → k < reference → is_open rows k ≡ true
+  pub free : is_open_reference rows reference ≡ false
+  pub lower : (k : ℕ) → 1 ≤ k → k < reference → is_open_reference rows k ≡ true
 
 -- the session opened the fork
-abbrev pub is_of_session : ℕ → OpenFork → Bool
-is_of_session session o = o.session.0 == session
+abbrev pub is_open_of_session : ℕ → OpenFork → Bool
+is_open_of_session session o = o.session.0 == session
 
 -- the session opened the fork, which is of the volume
 abbrev pub is_of_volume : ℕ → ℕ → OpenFork → Bool
@@ -51,7 +51,7 @@ is_of_volume session volume o = (o.session.0 == session) && (o.fork.volume == vo
 
 -- how many forks the session has open
 abbrev pub count_open : ℕ → List (ℕ × OpenFork) → ℕ
-count_open session rows = length (filter (λ row. is_of_session session row.1) rows)
+count_open session rows = length (filter (λ row. is_open_of_session session row.1) rows)
 
 -- the refusals of an open, in order
 abbrev pub open_refusal : Table → SessionNumber → Fork → Access → Option OpenFault
@@ -83,7 +83,7 @@ forks_of volume rows = map (λ row. (record { 0 = row.1.fork.node }, row.1.fork.
 
 -- the table without the opens that pass, and with the locks of the references that are still open
 abbrev pub closing : (OpenFork → Bool) → Table → Table
-closing goes t = record { opens = filter (λ row. not (goes row.1)) t.opens; locks = filter (λ l. is_open (filter (λ row. not (goes row.1)) t.opens) l.reference) t.locks }
+closing goes t = record { opens = filter (λ row. not (goes row.1)) t.opens; locks = filter (λ l. is_open_reference (filter (λ row. not (goes row.1)) t.opens) l.reference) t.locks }
 
 -- an open with its fork exchanged
 abbrev pub exchange_row : Fork → Fork → ℕ × OpenFork → ℕ × OpenFork

@@ -6,7 +6,7 @@ ghost use Rattle.std.specs.Map.{keys_of, remove_entry};
 ghost use Rattle.std.specs.BTreeMap.{insert_entry, is_at};
 ghost use Rattle.std.specs.Ordering.{nat_cmp};
 ghost use Rattle.afp_base.specs.Limits.{most_opens};
-ghost use Rattle.fork_table.specs.ForkTable.{IsLowestFree, exchange_row, is_open};
+ghost use Rattle.fork_table.specs.ForkTable.{IsLowestFree, exchange_row, is_open_reference};
 ghost use Rattle.fork_table.specs.lemma.Own.{AreOwn};
 
 use crate::OpenFork;
@@ -44,7 +44,7 @@ pub(crate) fn put_row(
     row: OpenFork,
 ) -> Result<(), OutOfMemory>
     requires own { AreOwn rows.old own.old }
-    requires new { is_open rows.old r.0 ≡ false }
+    requires new { is_open_reference rows.old r.0 ≡ false }
     ensures rows { OnOk result (rows.new ≡ insert_entry nat_cmp rows.old r.0 row) }
     ensures own { OnOk result (AreOwn rows.new own.new) }
     ensures err { OnErr result ((rows.new ≡ rows.old) × (own.new ≡ own.old)) }

@@ -3,10 +3,10 @@ ghost use Rattle.std.specs.Prelude.{◌≡◌, ◌<◌, ◌==◌, not, [], lengt
 ghost use Rattle.std.specs.Ordering.{nat_cmp};
 ghost use Rattle.afp_base.specs.Limits.{most_opens};
 ghost use Rattle.deny_modes.specs.Opens.{has_conflict, is_fork_open};
-ghost use Rattle.range_locks.specs.Locks.{SetsLock, TakesLock, is_met_by_other, without_holder, exchanged_locks};
+ghost use Rattle.range_locks.specs.Locks.{SetsLock, TakesLock, is_met_by_other_lock, without_holder, exchanged_locks};
 ghost use Rattle.sorted_map.specs.Entries.{at};
 ghost use Rattle.fork_table.specs.lemma.Kept.{FindsOne, does_pass};
-ghost use Rattle.fork_table.specs.ForkTable.{Table, plain_opens, count_open, OpensInTable, own_open, forks_of, closing, is_of_session, is_of_volume, exchange_row, TableIsSound};
+ghost use Rattle.fork_table.specs.ForkTable.{Table, plain_opens, count_open, OpensInTable, own_open, forks_of, closing, is_open_of_session, is_of_volume, exchange_row, TableIsSound};
 
 use crate::own::{OwnRef, own_of};
 use crate::rows::{exchange_rows, lowest_free, put_row, take_row};
@@ -153,7 +153,7 @@ impl ForkTable {
     /// Whether another reference's lock on the fork of a reference that is open shares a byte with the range.
     pub fn blocks(&self, r: ForkRef, range: &Range) -> bool
         requires { IsSome (at nat_cmp self.now.opens r.0) }
-        ensures { IfSome (at nat_cmp self.now.opens r.0) (λ o. result ≡ is_met_by_other self.now.locks o.fork r.0 range.now) }
+        ensures { IfSome (at nat_cmp self.now.opens r.0) (λ o. result ≡ is_met_by_other_lock self.now.locks o.fork r.0 range.now) }
     {
         match self.fork_of(r) {
             Some(fork) => self.locks.blocks(&fork, r, range),
@@ -191,7 +191,7 @@ impl ForkTable {
 
     /// Takes the session's opens away, with their locks.
     pub fn close_session(&mut self, s: SessionNumber)
-        ensures { self.new ≡ closing (is_of_session s.0) self.old }
+        ensures { self.new ≡ closing (is_open_of_session s.0) self.old }
     {
         while let Some(r) = self.one_of_session(s) {
             self.keeps_sound();
@@ -229,7 +229,7 @@ impl ForkTable {
 
     /// A reference of the session, where it has a fork open.
     fn one_of_session(&self, s: SessionNumber) -> Option<ForkRef>
-        ensures { FindsOne (is_of_session s.0) self.now.opens result }
+        ensures { FindsOne (is_open_of_session s.0) self.now.opens result }
     {
         match own_of(self.own.entries(), s).first() {
             Some(entry) => Some(entry.0.reference),

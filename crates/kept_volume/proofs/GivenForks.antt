@@ -14,7 +14,7 @@ use Rattle.afp_volume.specs.VolumeState.{Row, VolumeState}
 use Rattle.afp_volume.specs.Walk.{row_at}
 use Rattle.afp_volume.specs.ForkLaws.{ForksAreFew, RoomIsFew}
 use Rattle.fork_bytes.specs.Kept.{is_empty}
-use Rattle.fork_bytes.specs.Plan.{PlanState, IsPlan}
+use Rattle.fork_bytes.specs.Plan.{ForkPlanState, IsForkPlan}
 use Rattle.kept_volume.proofs.Files.{file_kind, fork_is, found_in}
 use Rattle.kept_volume.specs.ForkChanging.{GivesBytes, given}
 use Rattle.kept_volume.specs.lemma.ForkChanging.{Commits}
@@ -54,8 +54,8 @@ committed_given old now id resource writes told before after some is room (Err F
 committed_given old now id resource writes told before after some is room (Err Memory) new c = c
 
 -- a plan of a fork for which there is room
-abbrev pub as_change : (v : VolumeState) → IsSoundVolume v → (id : ℕ) (resource : Bool) (file : Row) → has_file v.rows id ≡ true → row_at v.rows id ≡ Some file → (before after : List ℕ) (plan : PlanState) → before ≡ fork_of resource file
-    → would_pass v (length before) (length after) ≡ false → IsPlan before after plan → IsForkChange v id resource plan
+abbrev pub as_change : (v : VolumeState) → IsSoundVolume v → (id : ℕ) (resource : Bool) (file : Row) → has_file v.rows id ≡ true → row_at v.rows id ≡ Some file → (before after : List ℕ) (plan : ForkPlanState) → before ≡ fork_of resource file
+    → would_pass v (length before) (length after) ≡ false → IsForkPlan before after plan → IsForkChange v id resource plan
 as_change v sound id resource file e found before after plan is room plans = record {
   before = before;
   after = after;
@@ -99,7 +99,7 @@ saturated v old new used sum used_is sum_is few = ap (nat_lt (most_fork_bytes + 
     ]
 
 -- the change of a volume is one of the same volume
-abbrev pub same_change : (v w : VolumeState) → v ≡ w → (id : ℕ) (resource : Bool) (plan : PlanState) → IsForkChange w id resource plan → IsForkChange v id resource plan
+abbrev pub same_change : (v w : VolumeState) → v ≡ w → (id : ℕ) (resource : Bool) (plan : ForkPlanState) → IsForkChange w id resource plan → IsForkChange v id resource plan
 same_change v w is id resource plan change = record {
   before = change.before;
   after = change.after;
@@ -128,8 +128,8 @@ new_few law v sound id resource bytes new e told room =
     let it = found_in v sound id e in
     law v id resource it.file new it.found (ap (λ (l : List ℕ). would_pass v (length l) new) (sym (told it.file it.found)) ∙ room)
 
-abbrev pub own_change : (v : VolumeState) → IsSoundVolume v → (id : ℕ) (resource : Bool) → has_file v.rows id ≡ true → (before after : List ℕ) (plan : PlanState) → ((file : Row) → row_at v.rows id ≡ Some file → before ≡ fork_of resource file)
-    → would_pass v (length before) (length after) ≡ false → IsPlan before after plan → IsForkChange v id resource plan
+abbrev pub own_change : (v : VolumeState) → IsSoundVolume v → (id : ℕ) (resource : Bool) → has_file v.rows id ≡ true → (before after : List ℕ) (plan : ForkPlanState) → ((file : Row) → row_at v.rows id ≡ Some file → before ≡ fork_of resource file)
+    → would_pass v (length before) (length after) ≡ false → IsForkPlan before after plan → IsForkChange v id resource plan
 own_change v sound id resource e before after plan told room plans =
     let it = found_in v sound id e in
     as_change v sound id resource it.file e it.found before after plan (told it.file it.found) room plans

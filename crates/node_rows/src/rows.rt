@@ -7,8 +7,8 @@ ghost use Rattle.afp_volume.specs.Edits.{at_place, is_taken, with_changed, witho
 ghost use Rattle.afp_volume.specs.Listing.{listed};
 ghost use Rattle.afp_volume.specs.Order.{put_in, rises};
 ghost use Rattle.afp_base.specs.Apart.{are_apart};
-ghost use Rattle.afp_volume.specs.SoundVolume.{are_named_alike, has_rising_ids};
-ghost use Rattle.afp_volume.specs.VolumeState.{Row};
+ghost use Rattle.afp_volume.specs.SoundVolume.{are_named_alike, has_rising_ids, last_next_id};
+ghost use Rattle.afp_volume.specs.VolumeState.{Row, first_id, root_id};
 ghost use Rattle.afp_volume.specs.Walk.{child_by_key, row_at};
 ghost use Rattle.node_rows.specs.Children.{child_of, child_order, children_of};
 ghost use Rattle.node_rows.specs.Kept.{admitted, marked};
@@ -50,9 +50,9 @@ impl Model for Rows {
 impl Rows {
     /// The root of a volume alone.
     pub fn new(alloc: Global, root: Node, next: u64) -> Result<Rows, OutOfMemory>
-        requires root { root.id ≡ 2 }
-        requires low { 17 ≤ next }
-        requires high { next ≤ 2 ^ 32 }
+        requires root { root.id ≡ root_id }
+        requires low { first_id ≤ next }
+        requires high { next ≤ last_next_id }
         ensures rows { IfOk result (λ rows. rows.rows ≡ root ∷ []) }
         ensures next { IfOk result (λ rows. rows.next_id ≡ next) }
     {
@@ -74,8 +74,8 @@ impl Rows {
         requires rising { has_rising_ids nodes.items ≡ true }
         requires below { list_all (λ (row : Row). nat_lt row.id next) nodes.items ≡ true }
         requires apart { are_apart are_named_alike nodes.items ≡ true }
-        requires low { 17 ≤ next }
-        requires high { next ≤ 2 ^ 32 }
+        requires low { first_id ≤ next }
+        requires high { next ≤ last_next_id }
         ensures rows { IfOk result (λ rows. rows.rows ≡ nodes.items) }
         ensures next { IfOk result (λ rows. rows.next_id ≡ next) }
     {
@@ -128,7 +128,7 @@ impl Rows {
 
     /// The id that the next new node draws. `None`: the last id, 4,294,967,295, was drawn.
     pub fn next_id(&self) -> Option<NodeId>
-        ensures { MatchOption result (self.now.next_id ≡ 2 ^ 32) (λ id. self.now.next_id ≡ id.0) }
+        ensures { MatchOption result (self.now.next_id ≡ last_next_id) (λ id. self.now.next_id ≡ id.0) }
     {
         match u32::try_from(self.next) {
             Ok(next) => Some(NodeId(next)),
@@ -181,7 +181,7 @@ impl Rows {
     /// Adds a node with an id that was drawn before and is no node's. Its parent need not be there yet. It takes no memory.
     pub fn admit(&mut self, node: Node, key: Bytes)
         requires drawn { node.id < self.old.next_id }
-        requires low { 17 ≤ node.id }
+        requires low { first_id ≤ node.id }
         requires new { row_at self.old.rows node.id ≡ None }
         requires key { key ≡ name_key node.name }
         requires free { child_by_key self.old.rows node.parent key ≡ None }

@@ -12,7 +12,7 @@ use Rattle.afp_base.specs.Limits.{most_locks}
 use Rattle.afp_base.specs.Overlap.{Range, do_meet}
 use Rattle.afp_base.specs.declared.code.Code.TheVariants.{LockErr, NoMoreLocks, RangeOverlap}
 use Rattle.afp_serial.specs.World.{Refused, plain, is_open, World, OpenFork, Lock}
-use Rattle.afp_serial.specs.ForkLaws.{MeetsNoneBehind, MeetsUpToTop, is_lock_range}
+use Rattle.afp_serial.specs.ForkLaws.{MeetsNoneBehind, MeetsUpToLastByte, is_lock_range}
 use Rattle.afp_serial.specs.Fork.{with_open}
 use Rattle.afp_serial.specs.Lock.{has_lock, has_most_locks, is_lock, is_met_by_own, locking_refusals, with_lock}
 use Rattle.afp_base.specs.Limits.{last_byte}
@@ -124,7 +124,7 @@ meets w t x r o range f l h =
     (λ i. share_fork (f.has.opens i) l.reference (f.number i) && do_meet l.range range)
     ∙ ap (λ b. b && do_meet l.range range) (shares t.opens l r o f.sound.rising h f.found)
 
-met-other : (w : World) (t : table.Table) (x : OpenFork) (r : ℕ) (o : Row) (range : Range) → Finds w t x r o → is_met_by_other w x range ≡ held.is_met_by_other t.locks o.fork r range
+met-other : (w : World) (t : table.Table) (x : OpenFork) (r : ℕ) (o : Row) (range : Range) → Finds w t x r o → is_met_by_other w x range ≡ held.is_met_by_other_lock t.locks o.fork r range
 unfolding is_met_by_other
 met-other w t x r o range f =
     ap (list_any (λ (lock : Lock). meets_lock w x range lock && not (lock.reference == x.reference))) f.has.locks
@@ -132,7 +132,7 @@ met-other w t x r o range f =
     ∙ any-where (table.is_held t.opens) (λ l. meets_lock w x range (lock_of l) && not (l.reference == x.reference)) (λ l. (is_one_fork l.fork o.fork && do_meet l.range range) && not (l.reference == r)) t.locks f.sound.held
     (λ l h. λ i. meets w t x r o range f l h i && not (l.reference == f.number i))
 
-met-own : (w : World) (t : table.Table) (x : OpenFork) (r : ℕ) (o : Row) (range : Range) → Finds w t x r o → is_met_by_own w x range ≡ held.is_met_by_own t.locks o.fork r range
+met-own : (w : World) (t : table.Table) (x : OpenFork) (r : ℕ) (o : Row) (range : Range) → Finds w t x r o → is_met_by_own w x range ≡ held.is_met_by_own_lock t.locks o.fork r range
 unfolding is_met_by_own
 met-own w t x r o range f =
     ap (list_any (λ (lock : Lock). meets_lock w x range lock && (lock.reference == x.reference))) f.has.locks
@@ -175,7 +175,7 @@ three false false false = refl
 refusal-is : (w : World) (t : table.Table) (x : OpenFork) (r : ℕ) (o : Row) (range : Range) → Finds w t x r o → first_holding (locking_refusals w x range) ≡ coded (held.lock_refusal t.locks o.fork r range)
 refusal-is w t x r o range f =
     (λ i. first_holding ((met-other w t x r o range f i, plain LockErr) ∷ (met-own w t x r o range f i, plain RangeOverlap) ∷ (most-held w t x r o f i, plain NoMoreLocks) ∷ []))
-    ∙ three (held.is_met_by_other t.locks o.fork r range) (held.is_met_by_own t.locks o.fork r range) (nat_le most_locks (held.count_held r t.locks))
+    ∙ three (held.is_met_by_other_lock t.locks o.fork r range) (held.is_met_by_own_lock t.locks o.fork r range) (nat_le most_locks (held.count_held r t.locks))
 
 -- the table with other locks
 less-locks : (t t' : table.Table) (ls : List Lock) → t'.opens ≡ t.opens → map lock_of t'.locks ≡ ls → forks_of t' ≡ with_locks (forks_of t) ls
@@ -198,7 +198,7 @@ locks-range w t t' x r o range (Err Memory) f opens is = no-change t t' opens is
 
 -- ---- a range is unlocked
 
-one-lock : (rows : List (ℕ × Row)) (r : ℕ) (o : Row) (range : Range) → Rise rows → at nat_cmp rows r ≡ Some o → (l : held.ForkLock) → table.is_held rows l ≡ true → is_lock r range (lock_of l) ≡ held.is_lock o.fork r range l
+one-lock : (rows : List (ℕ × Row)) (r : ℕ) (o : Row) (range : Range) → Rise rows → at nat_cmp rows r ≡ Some o → (l : held.ForkLock) → table.is_held rows l ≡ true → is_lock r range (lock_of l) ≡ held.is_fork_lock o.fork r range l
 one-lock rows r o range rise found l h = by (l.reference == r) refl
   where
     off : (b : Bool) → (b && false) ≡ false
@@ -215,12 +215,12 @@ one-lock rows r o range rise found l h = by (l.reference == r) refl
         ∙ sym (off (is_one_fork l.fork o.fork))
         ∙ ap (λ b. is_one_fork l.fork o.fork && (b && ((l.range.from == range.from) && (l.range.to == range.to)))) (sym other)
 
-has-is : (w : World) (t : table.Table) (x : OpenFork) (r : ℕ) (o : Row) (range : Range) → Finds w t x r o → has_lock w x range ≡ held.has_lock t.locks o.fork r range
+has-is : (w : World) (t : table.Table) (x : OpenFork) (r : ℕ) (o : Row) (range : Range) → Finds w t x r o → has_lock w x range ≡ held.has_fork_lock t.locks o.fork r range
 unfolding has_lock
 has-is w t x r o range f =
     (λ i. list_any (is_lock (f.number i) range) (f.has.locks i))
     ∙ any-map (is_lock r range) lock_of t.locks
-    ∙ any-where (table.is_held t.opens) (λ l. is_lock r range (lock_of l)) (held.is_lock o.fork r range) t.locks f.sound.held (one-lock t.opens r o range f.sound.rising f.found)
+    ∙ any-where (table.is_held t.opens) (λ l. is_lock r range (lock_of l)) (held.is_fork_lock o.fork r range) t.locks f.sound.held (one-lock t.opens r o range f.sound.rising f.found)
 
 pub unlocks-range : (w : World) (t t' : table.Table) (x : OpenFork) (r : ℕ) (o : Row) (range : Range) (res : Result (Unit {0}) NotLocked) → Finds w t x r o
     → t'.opens ≡ t.opens → held.TakesLock t.locks o.fork r range res t'.locks → UnlocksRange w (forks_of t) x range res (forks_of t')
@@ -228,7 +228,7 @@ unlocks-range w t t' x r o range (Ok done) f opens is = (
   has-is w t x r o range f ∙ is.0,
   less-locks t t' (filter (λ (lock : Lock). not (is_lock x.reference range lock)) (map lock_of t.locks)) opens
       (ap (map lock_of) is.1
-      ∙ ap (map lock_of) (filter-where (table.is_held t.opens) (λ l. not (held.is_lock o.fork r range l)) (λ l. not (is_lock r range (lock_of l))) t.locks f.sound.held (λ l h. ap not (sym (one-lock t.opens r o range f.sound.rising f.found l h))))
+      ∙ ap (map lock_of) (filter-where (table.is_held t.opens) (λ l. not (held.is_fork_lock o.fork r range l)) (λ l. not (is_lock r range (lock_of l))) t.locks f.sound.held (λ l h. ap not (sym (one-lock t.opens r o range f.sound.rising f.found l h))))
       ∙ sym (filter-map (λ (lock : Lock). not (is_lock r range lock)) lock_of t.locks)
       ∙ (λ i. filter (λ (lock : Lock). not (is_lock (sym f.number i) range lock)) (map lock_of t.locks))),
 )
@@ -246,8 +246,8 @@ pub none-behind : (w : World) (t : table.Table) (x : OpenFork) (from count : ℕ
 none-behind w t x from zero law has all behind = refl
 none-behind w t x from (suc more) law has all behind = sym (law w x (record { from = from; to = from + more }) (shown-range w t has all) behind)
 
-pub up-to-top : (w : World) (t : table.Table) (x : OpenFork) (r : ℕ) (o : Row) (from count to : ℕ) → MeetsUpToTop → Finds w t x r o → AreInRange t.locks → 0 < count → to ≡ min (from + (count - 1)) last_byte
-    → held.is_met_by_other t.locks o.fork r (record { from = from; to = to }) ≡ is_locked w x from count
+pub up-to-top : (w : World) (t : table.Table) (x : OpenFork) (r : ℕ) (o : Row) (from count to : ℕ) → MeetsUpToLastByte → Finds w t x r o → AreInRange t.locks → 0 < count → to ≡ min (from + (count - 1)) last_byte
+    → held.is_met_by_other_lock t.locks o.fork r (record { from = from; to = to }) ≡ is_locked w x from count
 up-to-top w t x r o from zero to law f all some is = absurd (omega (arith, some))
 up-to-top w t x r o from (suc more) to law f all some is =
     let end : from + (suc more - 1) ≡ from + more = omega arith in
@@ -271,7 +271,7 @@ close-is goes stays t same =
     filter-alike [] = refl
     filter-alike (row ∷ rows) = λ i. cond (sym (same row.0 row.1) i) (row ∷ filter-alike rows i) (filter-alike rows i)
 
-    filter-open : (rows : List (ℕ × Row)) (ls : List held.ForkLock) → filter (λ (l : held.ForkLock). table.is_open rows l.reference) ls ≡ filter (λ l. is_open (map row_of rows) l.reference) ls
+    filter-open : (rows : List (ℕ × Row)) (ls : List held.ForkLock) → filter (λ (l : held.ForkLock). table.is_open_reference rows l.reference) ls ≡ filter (λ l. is_open (map row_of rows) l.reference) ls
     filter-open rows [] = refl
     filter-open rows (l ∷ ls) = λ i. cond (sym (open-rows rows l.reference) i) (l ∷ filter-open rows ls i) (filter-open rows ls i)
 
@@ -323,7 +323,7 @@ left-in-range keep ls all = all-left (λ (l : held.ForkLock). is_lock_range l.ra
 
 pub closed-in-range : (goes : Row → Bool) (t t' : table.Table) → t' ≡ table.closing goes t → AreInRange t.locks → AreInRange t'.locks
 closed-in-range goes t t' is all =
-    subst (λ (t : table.Table). AreInRange t.locks) (sym is) (left-in-range (λ (l : held.ForkLock). table.is_open (filter (λ (row : ℕ × Row). not (goes row.1)) t.opens) l.reference) t.locks all)
+    subst (λ (t : table.Table). AreInRange t.locks) (sym is) (left-in-range (λ (l : held.ForkLock). table.is_open_reference (filter (λ (row : ℕ × Row). not (goes row.1)) t.opens) l.reference) t.locks all)
 
 -- the law: closing undoes an opening
 pub closing-undoes : ClosingUndoes
@@ -382,11 +382,11 @@ unlock-answers w x old t t' r range res sound shown open_was opens is has number
     subst (λ (f : Forks). UnlocksRange w f x range res (forks_of t')) shown
     (unlocks-range w t t' x r o.0 range res (record { has = subst (HasForks w) (sym shown) has; sound = sound; number = number; found = o.1 }) opens takes)
 
-pub blocks-answers : (w : World) (x : OpenFork) (old : Forks) (t : table.Table) (r from count to : ℕ) (res : Bool) → MeetsUpToTop → AreInRange t.locks → table.TableIsSound t → forks_of t ≡ old → is_open old.opens r ≡ true
-    → (count ≡ 0 → ⊥) → to ≡ min (from + (count - 1)) last_byte → IfSome (at nat_cmp t.opens r) (λ o. res ≡ held.is_met_by_other t.locks o.fork r (record { from = from; to = to })) → HasForks w old → x.reference ≡ r → res ≡ is_locked w x from count
+pub blocks-answers : (w : World) (x : OpenFork) (old : Forks) (t : table.Table) (r from count to : ℕ) (res : Bool) → MeetsUpToLastByte → AreInRange t.locks → table.TableIsSound t → forks_of t ≡ old → is_open old.opens r ≡ true
+    → (count ≡ 0 → ⊥) → to ≡ min (from + (count - 1)) last_byte → IfSome (at nat_cmp t.opens r) (λ o. res ≡ held.is_met_by_other_lock t.locks o.fork r (record { from = from; to = to })) → HasForks w old → x.reference ≡ r → res ≡ is_locked w x from count
 blocks-answers w x old t r from count to res law all sound shown open_was some to_is is has number =
     let o = at-some (at nat_cmp t.opens r) (some-at t old r shown open_was) in
-    let met : res ≡ held.is_met_by_other t.locks o.0.fork r (record { from = from; to = to }) = subst (λ (q : Option Row). IfSome q (λ o. res ≡ held.is_met_by_other t.locks o.fork r (record { from = from; to = to }))) o.1 is in
+    let met : res ≡ held.is_met_by_other_lock t.locks o.0.fork r (record { from = from; to = to }) = subst (λ (q : Option Row). IfSome q (λ o. res ≡ held.is_met_by_other_lock t.locks o.fork r (record { from = from; to = to }))) o.1 is in
     met ∙ up-to-top w t x r o.0 from count to law (record { has = subst (HasForks w) (sym shown) has; sound = sound; number = number; found = o.1 }) all (omega (arith, some)) to_is
 
 all-with : (q : held.ForkLock → Bool) (new : held.ForkLock) (ls : List held.ForkLock) → q new ≡ true → list_all q ls ≡ true → list_all q (held.with_fork_lock new ls) ≡ true
@@ -406,7 +406,7 @@ sets-in-range old new f r range (Err Full) here all is = subst AreInRange (sym i
 sets-in-range old new f r range (Err Memory) here all is = subst AreInRange (sym is.1) all
 
 takes-in-range : (old new : List held.ForkLock) (f : Fork) (r : ℕ) (range : Range) (res : Result (Unit {0}) NotLocked) → AreInRange old → held.TakesLock old f r range res new → AreInRange new
-takes-in-range old new f r range (Ok done) all is = subst AreInRange (sym is.1) (left-in-range (λ (l : held.ForkLock). not (held.is_lock f r range l)) old all)
+takes-in-range old new f r range (Ok done) all is = subst AreInRange (sym is.1) (left-in-range (λ (l : held.ForkLock). not (held.is_fork_lock f r range l)) old all)
 takes-in-range old new f r range (Err fault) all is = subst AreInRange (sym is.1) all
 
 pub lock-in-range : (old : Forks) (t t' : table.Table) (r : ℕ) (range : Range) (res : Result (Unit {0}) LockFault) → AreInRange t.locks → forks_of t ≡ old → is_open old.opens r ≡ true → range.from ≤ range.to → range.to ≤ 9223372036854775807

@@ -76,15 +76,15 @@ none-above r [] a = refl
 none-above r (e ∷ es) a = ap (λ o. cond (is_eq o) (Some e.1) (at nat_cmp es r)) a.0 ∙ none-above r es a.1
 
 -- a reference is open just where a row is at it
-pub open-at : (rows : List (ℕ × Row)) (k : ℕ) → table.is_open rows k ≡ is_some (at nat_cmp rows k)
+pub open-at : (rows : List (ℕ × Row)) (k : ℕ) → table.is_open_reference rows k ≡ is_some (at nat_cmp rows k)
 open-at [] k = refl
-open-at (e ∷ es) k = elim (nat_cmp k e.0) as (λ o. nat_cmp k e.0 ≡ o → ((e.0 == k) || table.is_open es k) ≡ is_some (cond (is_eq o) (Some e.1) (at nat_cmp es k))) [
-  | Less ↦ λ is. ap (λ b. b || table.is_open es k) (differs-less k e.0 is) ∙ open-at es k
-  | Equal ↦ λ is. ap (λ b. b || table.is_open es k) (eq-eqb e.0 k (same-number k e.0 is))
-  | Greater ↦ λ is. ap (λ b. b || table.is_open es k) (differs-more k e.0 is) ∙ open-at es k
+open-at (e ∷ es) k = elim (nat_cmp k e.0) as (λ o. nat_cmp k e.0 ≡ o → ((e.0 == k) || table.is_open_reference es k) ≡ is_some (cond (is_eq o) (Some e.1) (at nat_cmp es k))) [
+  | Less ↦ λ is. ap (λ b. b || table.is_open_reference es k) (differs-less k e.0 is) ∙ open-at es k
+  | Equal ↦ λ is. ap (λ b. b || table.is_open_reference es k) (eq-eqb e.0 k (same-number k e.0 is))
+  | Greater ↦ λ is. ap (λ b. b || table.is_open_reference es k) (differs-more k e.0 is) ∙ open-at es k
 ] refl
 
-pub open-rows : (rows : List (ℕ × Row)) (k : ℕ) → is_open (map row_of rows) k ≡ table.is_open rows k
+pub open-rows : (rows : List (ℕ × Row)) (k : ℕ) → is_open (map row_of rows) k ≡ table.is_open_reference rows k
 open-rows rows k = any-map (λ (o : OpenFork). o.reference == k) row_of rows
 
 -- a test of the open fork of a reference
@@ -172,14 +172,14 @@ lowest-is rows r free lowest counts is = by (cases_order r (lowest_free (map row
     by (inr (inl low)) = absurd (let taken = sym (open-rows rows r) ∙ lowest (map row_of rows) r is.first low in cc (taken, is.free))
     by (inr (inr high)) = absurd (let taken = open-rows rows (lowest_free (map row_of rows)) ∙ is.lower (lowest_free (map row_of rows)) (counts (map row_of rows)).0 high in cc (taken, free (map row_of rows)))
 
-placed-new : (rows : List (ℕ × Row)) (r : ℕ) (v : Row) → table.is_open rows r ≡ false → map row_of (insert_entry nat_cmp rows r v) ≡ with_open (open_of r v) (map row_of rows)
+placed-new : (rows : List (ℕ × Row)) (r : ℕ) (v : Row) → table.is_open_reference rows r ≡ false → map row_of (insert_entry nat_cmp rows r v) ≡ with_open (open_of r v) (map row_of rows)
 placed-new [] r v free = refl
 placed-new (e ∷ es) r v free = elim (nat_cmp r e.0) as (λ o. nat_cmp r e.0 ≡ o → map row_of (match_ordering o ((r, v) ∷ e ∷ es) ((e.0, v) ∷ es) (e ∷ insert_entry nat_cmp es r v)) ≡ (if nat_lt r e.0 then open_of r v ∷ row_of e ∷ map row_of es else row_of e ∷ with_open (open_of r v) (map row_of es))) [
   | Less ↦ λ is. ap (λ b. if b then open_of r v ∷ row_of e ∷ map row_of es else row_of e ∷ with_open (open_of r v) (map row_of es)) (sym (lt-ltb r e.0 (ranked r e.0 Less (sym is))))
-  | Equal ↦ λ is. absurd (let taken = ap (λ b. b || table.is_open es r) (eq-eqb e.0 r (same-number r e.0 is)) in cc (taken, free))
+  | Equal ↦ λ is. absurd (let taken = ap (λ b. b || table.is_open_reference es r) (eq-eqb e.0 r (same-number r e.0 is)) in cc (taken, free))
   | Greater ↦ λ is.
       let high : e.0 < r = ranked r e.0 Greater (sym is) in
-      ap (λ l. row_of e ∷ l) (placed-new es r v (ap (λ b. b || table.is_open es r) (sym (differs-more r e.0 is)) ∙ free))
+      ap (λ l. row_of e ∷ l) (placed-new es r v (ap (λ b. b || table.is_open_reference es r) (sym (differs-more r e.0 is)) ∙ free))
       ∙ ap (λ b. if b then open_of r v ∷ row_of e ∷ map row_of es else row_of e ∷ with_open (open_of r v) (map row_of es)) (sym (le-ltb r e.0 (omega (arith, high))))
 ] refl
 

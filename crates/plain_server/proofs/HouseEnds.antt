@@ -22,7 +22,7 @@ use Rattle.plain_server.specs.Keeping.{Keeping}
 use Rattle.plain_server.specs.Links.{ServesUpTo}
 use Rattle.plain_server.specs.Plain.{AreCounts, Asks, EndsPlain, ServesHouse, house_of}
 use Rattle.plain_server.specs.lemma.Plain.{CoreCounts, EndsCore, EndsHouse, ServesCore, shown_at}
-use Rattle.plain_server.specs.Words.{Spoken}
+use Rattle.plain_server.specs.Words.{WordValues}
 use Rattle.plain_server.specs.declared.links.DoorEnd.{DoorEnd}
 use Rattle.plain_server.specs.declared.links.DoorEnd.TheVariants as doors
 use Rattle.plain_server.specs.declared.plain.PlainEnd.{PlainEnd}
@@ -98,7 +98,7 @@ module _ {L P K : Type 0} (state : L → LinkState) (passed : P → Passed) (kep
   core-ends (plain.Served counts) e = (e.0, core-serves doors.Done e.0 e.1, core-counts e.0 counts e.2)
 
 -- the same for the words
-pub words-end : {L P K : Type 0} → (state : L → LinkState) (passed : P → Passed) (kept_by : Keeping K) (words : List (List ℕ)) (keepers : List K) (key : List ℕ) (clock : Option ℕ) (old new : DoorState L) (spoken : Spoken) (end : PlainEnd)
+pub words-end : {L P K : Type 0} → (state : L → LinkState) (passed : P → Passed) (kept_by : Keeping K) (words : List (List ℕ)) (keepers : List K) (key : List ℕ) (clock : Option ℕ) (old new : DoorState L) (spoken : WordValues) (end : PlainEnd)
     → Asks words key spoken → EndsHouse state passed kept_by (house_of spoken key) keepers spoken.links clock old new end → EndsPlain state passed kept_by words keepers key clock old new end
 words-end state passed kept_by words keepers key clock old new spoken plain.Refused asks e =
     (λ other others same. e.0 (same ∙ ap (λ (h : Household). length h.volumes) (one_house words key other spoken others.words_are asks.words_are)), e.1)

@@ -10,7 +10,7 @@ use Rattle.plain_server.specs.Keeping.{Keeping}
 use Rattle.plain_server.specs.Complete.{ServesGoodWords}
 use Rattle.plain_server.specs.Plain.{Asks, EndsPlain, Status, house_of}
 use Rattle.plain_server.specs.Reporting.{Reports, ReportsPart}
-use Rattle.plain_server.specs.Words.{Spoken}
+use Rattle.plain_server.specs.Words.{WordValues}
 use Rattle.plain_server.specs.declared.plain.PlainEnd.{PlainEnd}
 use Rattle.plain_server.specs.declared.plain.PlainEnd.TheVariants as plain
 
@@ -20,7 +20,7 @@ still : (before after : SinkState) (text : List ℕ) (status good : ℕ) → ((s
 still before after text status good (inl told) same low = told.0
 still before after text status good (inr told) same low = absurd (omega (arith, told.1.fault.2, same, low))
 
-pub by_end : {L P K : Type 0} (state : L → LinkState) (passed : P → Passed) (kept_by : Keeping K) (words : List (List ℕ)) (keepers : List K) (key : List ℕ) (clock : Option ℕ) (spoken : Spoken) (old new : DoorState L) (before after : SinkState) (status : ℕ) (end : PlainEnd)
+pub by_end : {L P K : Type 0} (state : L → LinkState) (passed : P → Passed) (kept_by : Keeping K) (words : List (List ℕ)) (keepers : List K) (key : List ℕ) (clock : Option ℕ) (spoken : WordValues) (old new : DoorState L) (before after : SinkState) (status : ℕ) (end : PlainEnd)
     → EndsPlain state passed kept_by words keepers key clock old new end → Status end before after status → Asks words key spoken → length keepers ≡ length (house_of spoken key).volumes → new.faults ≡ old.faults → old.faults < last_count
     → after.faults ≡ before.faults → before.faults < last_count → (status ≡ 0) ⊎ ((status ≡ 3) ⊎ (status ≡ 6))
 by_end state passed kept_by words keepers key clock spoken old new before after status plain.Refused e s asks many same low same_report low_report = absurd (e.0 spoken asks many)

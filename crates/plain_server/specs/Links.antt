@@ -1,6 +1,7 @@
 -- What it is to serve the links of a door, one after the other (this profile).
 use Rattle.std.specs.Prelude.{◌≡◌, ◌⊎◌, ℕ, ◌+◌, ◌≤◌, ◌-◌, ◌^◌, true, List, [], ◌∷◌, ◌++◌, length}
 use Rattle.afp_base.specs.Counts.{CountsOn}
+use Rattle.afp_base.specs.Limits.{no_limit}
 use Rattle.afp_outside.specs.Gate.{Passed}
 use Rattle.afp_outside.specs.Link.{LinkState, IsFresh}
 use Rattle.afp_outside.specs.Listener.{DoorState}
@@ -13,10 +14,6 @@ use Rattle.afp_server.specs.Passing.{Passes}
 use Rattle.afp_server.specs.declared.serve.LinkEnd.{LinkEnd}
 use Rattle.plain_server.specs.declared.links.DoorEnd.{DoorEnd}
 use Rattle.plain_server.specs.declared.links.DoorEnd.TheVariants as doors
-
--- no limit that a link can reach
-abbrev pub no_limit : ℕ
-no_limit = 2 ^ 63 - 1
 
 -- A fresh link was served whole, what it asked went into the history, and its calls went through the gate. `state` is what a link of
 -- the door is seen as, and `passed` what a log of the gate tells.

@@ -22,24 +22,24 @@ use Rattle.afp_serial.specs.World.{start_world}
 use Rattle.plain_server.specs.Keeping.{Keeping}
 use Rattle.plain_server.specs.Links.{ServesUpTo}
 use Rattle.plain_server.specs.Reporting.{Reports, ReportsPart, bad_line, bad_words, counts_line, fault_line, no_memory}
-use Rattle.plain_server.specs.Words.{Spoken, IsWords}
+use Rattle.plain_server.specs.Words.{WordValues, IsWords}
 use Rattle.plain_server.specs.declared.links.DoorEnd.{DoorEnd}
 use Rattle.plain_server.specs.declared.links.DoorEnd.TheVariants as doors
 use Rattle.plain_server.specs.declared.plain.PlainEnd.{PlainEnd}
 use Rattle.plain_server.specs.declared.plain.PlainEnd.TheVariants as plain
 
 -- the house that the words ask for: no users, the volumes, no message, and this key of session tokens
-abbrev pub house_of : Spoken → List ℕ → Household
+abbrev pub house_of : WordValues → List ℕ → Household
 house_of s key = household s.server s.signature [] s.volumes [] key
 
 -- the words ask for a house that is taken
-pub record Asks (words : List (List ℕ)) (key : List ℕ) (spoken : Spoken) : Type 0 where
+pub record Asks (words : List (List ℕ)) (key : List ℕ) (spoken : WordValues) : Type 0 where
   pub words_are : IsWords words spoken
   pub house_is : house_fault (house_of spoken key) ≡ None
 
 -- the words are others, or the house that they ask for is refused, or the number of keepers is not that of its volumes
 abbrev pub IsRefused : List (List ℕ) → List ℕ → ℕ → Type 0
-IsRefused words key many = (spoken : Spoken) → Asks words key spoken → many ≡ length (house_of spoken key).volumes → ⊥
+IsRefused words key many = (spoken : WordValues) → Asks words key spoken → many ≡ length (house_of spoken key).volumes → ⊥
 
 -- what a server shows that nobody has asked yet, over a house and the volumes that were loaded at a moment
 abbrev pub before_asks : Household → ℕ → List KeptState → Shown
@@ -71,12 +71,12 @@ pub record FailsToLoad {K : Type 0} (kept_by : Keeping K) (house : Household) (k
 
 -- The same for the words: by the house that they ask for, up to as many links as they say.
 pub record ServesWords {L P K : Type 0} (state : L → LinkState) (passed : P → Passed) (kept_by : Keeping K) (words : List (List ℕ)) (keepers : List K) (key : List ℕ) (clock : Option ℕ) (old : DoorState L) (end : DoorEnd) (new : DoorState L) (shown : Shown) : Type 0 where
-  pub spoken : Spoken
+  pub spoken : WordValues
   pub asks : Asks words key spoken
   pub serves : ServesHouse state passed kept_by (house_of spoken key) keepers spoken.links clock old end new shown
 
 pub record WordsFailToLoad {K : Type 0} (kept_by : Keeping K) (words : List (List ℕ)) (keepers : List K) (key : List ℕ) (clock : Option ℕ) (index : ℕ) (fault : LoadFault) : Type 0 where
-  pub spoken : Spoken
+  pub spoken : WordValues
   pub asks : Asks words key spoken
   pub fails : FailsToLoad kept_by (house_of spoken key) keepers clock index fault
 

@@ -1,12 +1,12 @@
 -- What the words set (this profile).
 use Rattle.std.specs.Prelude.{◌≡◌, ℕ, List, map}
-use Rattle.plain_server.specs.Words.{Spoken, IsWords}
+use Rattle.plain_server.specs.Words.{WordValues, IsWords}
 use Rattle.plain_server.specs.declared.setup.ServerSettings.{ServerSettings}
 use Rattle.plain_server.specs.declared.setup.VolumePlace.TheVariants.{Memory}
 
 -- the settings that the words ask for: each volume in memory, the port, one worker and the number of links
 pub record Sets (words : List (List ℕ)) (settings : ServerSettings) : Type 0 where
-  pub spoken : Spoken
+  pub spoken : WordValues
   pub words_are : IsWords words spoken
   pub places : settings.places.items ≡ map (λ name. Memory) spoken.volumes
   pub port : settings.port ≡ spoken.port

@@ -1,11 +1,12 @@
 -- The words of the server's command line (this profile).
+use Rattle.afp_base.specs.Limits.{signature_size}
 use Rattle.std.specs.Prelude.{◌≡◌, ◌==◌, ℕ, ◌-◌, ◌<◌, ◌≤◌, ◌^◌, List, [], ◌∷◌, ◌++◌, length, take, codes, false, Ok}
 use Rattle.std.specs.List.{list_any}
 use Rattle.std.specs.Fmt.{decimal}
 use Rattle.hex.specs.Hex.{decode_sized}
 
 -- what they say: the server's name, its signature, its TCP port, how many links it serves, and the volumes' names
-pub record Spoken : Type 0 where
+pub record WordValues : Type 0 where
   pub server : List ℕ
   pub signature : List ℕ
   pub port : ℕ
@@ -39,13 +40,13 @@ pub record IsNumberOfLinks (word : List ℕ) (links : ℕ) : Type 0 where
 
 -- The words in their order: the name of the server, 32 hexadecimal digits of the signature, the
 -- port and the number of links in decimal, and volumes in memory, one at least.
-pub record IsWords (words : List (List ℕ)) (spoken : Spoken) : Type 0 where
+pub record IsWords (words : List (List ℕ)) (spoken : WordValues) : Type 0 where
   pub hex : List ℕ
   pub links : List ℕ
   pub places : List (List ℕ)
   pub whole : words ≡ codes "--server" ∷ spoken.server ∷ codes "--signature" ∷ hex ∷ codes "--port" ∷ decimal spoken.port
       ∷ codes "--links" ∷ links ∷ places
-  pub signature : decode_sized hex 16 ≡ Ok spoken.signature
+  pub signature : decode_sized hex signature_size ≡ Ok spoken.signature
   pub port : spoken.port < 2 ^ 16
   pub links_are : IsNumberOfLinks links spoken.links
   pub some : 1 ≤ length places

@@ -1,7 +1,7 @@
 //! The whole server: it reads its words, serves the links that come through its door, and reports.
 ghost use Rattle.std.specs.Prelude.{◌≡◌, ◌≢◌, Some, false, map, string_bytes, IfOk, IfErr, None};
 ghost use Rattle.afp_serial.specs.HouseFault.{house_fault};
-ghost use Rattle.plain_server.specs.Spoken.{spoken_of};
+ghost use Rattle.plain_server.specs.Spoken.{values_of};
 ghost use Rattle.plain_server.specs.Words.{name_in};
 ghost use Rattle.plain_server.specs.Keeping.{keeping};
 ghost use Rattle.plain_server.specs.Plain.{house_of, EndsPlain, Status, IsPlainRun};
@@ -61,9 +61,9 @@ fn volume_names(alloc: Global, places: &[String]) -> Result<Vec<Bytes>, OutOfMem
 
 /// The house that the words ask for, with this key of session tokens.
 fn house_for(alloc: Global, words: &Words<'_>, token_key: [u8; 32]) -> Result<House, HouseFault>
-    ensures house { IfOk result (λ house. house ≡ house_of (spoken_of words.now) token_key) }
-    ensures sound { IfOk result (λ house. house_fault (house_of (spoken_of words.now) token_key) ≡ None) }
-    ensures fault { IfErr result (λ fault. fault ≢ HouseFault.Memory → house_fault (house_of (spoken_of words.now) token_key) ≡ Some fault) }
+    ensures house { IfOk result (λ house. house ≡ house_of (values_of words.now) token_key) }
+    ensures sound { IfOk result (λ house. house_fault (house_of (values_of words.now) token_key) ≡ None) }
+    ensures fault { IfErr result (λ fault. fault ≢ HouseFault.Memory → house_fault (house_of (values_of words.now) token_key) ≡ Some fault) }
 {
     let volumes = volume_names(alloc, words.places)?;
     let users = Vec::new(alloc);

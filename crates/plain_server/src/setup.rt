@@ -1,6 +1,6 @@
 //! What the program makes before it serves.
 ghost use Rattle.std.specs.Prelude.{◌≡◌, map, string_bytes, IfOk, IsErrOf};
-ghost use Rattle.plain_server.specs.Words.{Spoken, IsWords};
+ghost use Rattle.plain_server.specs.Words.{WordValues, IsWords};
 ghost use Rattle.plain_server.specs.Setup.{Sets};
 
 use crate::words::{WordFault, read_words};
@@ -29,7 +29,7 @@ pub struct ServerSettings {
 /// What the words of the command line say, as far as it is no matter of the house.
 pub fn setup(alloc: Global, words: &[String]) -> Result<ServerSettings, WordFault>
     ensures found { IfOk result (λ settings. Sets (map (λ word. string_bytes word) words.now) settings) }
-    ensures bad { IsErrOf result WordFault.Bad → (spoken : Spoken) → IsWords (map (λ word. string_bytes word) words.now) spoken → ⊥ }
+    ensures bad { IsErrOf result WordFault.Bad → (spoken : WordValues) → IsWords (map (λ word. string_bytes word) words.now) spoken → ⊥ }
 {
     match read_words(alloc, words) {
         Err(fault) => Err(fault),

@@ -26,7 +26,7 @@ use Rattle.sorted_map.specs.Entries.{at, exchanged}
 use Rattle.range_locks.specs.declared.fault.LockFault.TheVariants.{Locked, Overlap, Full}
 use Rattle.range_locks.specs.declared.rows.LockRow.{LockRow}
 use Rattle.range_locks.specs.declared.rows.Seen.{Seen}
-use Rattle.range_locks.specs.Locks.{ForkLock, are_overlapping, is_met_by_other, is_met_by_own, count_held, lock_refusal, with_fork_lock, is_lock, has_lock, exchange_lock, exchanged_locks, without_holder, is_row, are_one_row, AreInOrder, AreIntervals}
+use Rattle.range_locks.specs.Locks.{ForkLock, are_overlapping, is_met_by_other_lock, is_met_by_own_lock, count_held, lock_refusal, with_fork_lock, is_fork_lock, has_fork_lock, exchange_lock, exchanged_locks, without_holder, is_row, are_one_row, AreInOrder, AreIntervals}
 use Rattle.range_locks.specs.lemma.Kept.{rows_at, holder_of, is_among, IsBehind, IsBefore, IsPlaceOf, IsLockTable}
 use Rattle.range_locks.specs.lemma.Seen.{IsSeen}
 
@@ -116,12 +116,12 @@ rows_tell locks fork rows p same = both_ways _ _
     let f = Any-from_list_any (are_one_row (row_of g.1)) rows (same (row_of g.1) ∙ there) in
     list_any_at p rows f.0 f.1 f.2 (ap p f.3 ∙ sym (ap p (same_row (row_of g.1) f.1 f.4)) ∙ parts.1))
 
-pub seen_other : {locks : List ForkLock} {fork : Fork} {rows : List LockRow} {r : ℕ} {range : Range} {seen : Seen} → AreIntervals locks fork rows → IsSeen rows r range seen → seen.other ≡ is_met_by_other locks fork r range
+pub seen_other : {locks : List ForkLock} {fork : Fork} {rows : List LockRow} {r : ℕ} {range : Range} {seen : Seen} → AreIntervals locks fork rows → IsSeen rows r range seen → seen.other ≡ is_met_by_other_lock locks fork r range
 seen_other {locks} {fork} {rows} {r} {range} i s =
     s.other ∙ rows_tell locks fork rows (λ row. do_meet row.range range && not (row.reference.0 == r)) i.same
     ∙ any_gives (λ l. is_one_fork l.fork fork && (do_meet l.range range && not (l.reference == r))) (λ l. do_overlap l.fork l.range fork range && not (l.reference == r)) locks (λ l. sym (and_assoc (is_one_fork l.fork fork) (do_meet l.range range) (not (l.reference == r))))
 
-pub seen_own : {locks : List ForkLock} {fork : Fork} {rows : List LockRow} {r : ℕ} {range : Range} {seen : Seen} → AreIntervals locks fork rows → IsSeen rows r range seen → seen.other ≡ false → seen.own ≡ is_met_by_own locks fork r range
+pub seen_own : {locks : List ForkLock} {fork : Fork} {rows : List LockRow} {r : ℕ} {range : Range} {seen : Seen} → AreIntervals locks fork rows → IsSeen rows r range seen → seen.other ≡ false → seen.own ≡ is_met_by_own_lock locks fork r range
 seen_own {locks} {fork} {rows} {r} {range} i s none =
     s.own none ∙ rows_tell locks fork rows (λ row. do_meet row.range range && (row.reference.0 == r)) i.same
     ∙ any_gives (λ l. is_one_fork l.fork fork && (do_meet l.range range && (l.reference == r))) (λ l. do_overlap l.fork l.range fork range && (l.reference == r)) locks (λ l. sym (and_assoc (is_one_fork l.fork fork) (do_meet l.range range) (l.reference == r)))
@@ -351,14 +351,14 @@ module _ {locks whole : List ForkLock} {forks : List (Fork × List LockRow)} {ro
   there_rows : AreIntervals locks fork rows
   there_rows = subst (AreIntervals locks fork) (sym l.rows_are) (l.was.intervals fork)
 
-  pub other_is : (b : Bool) → seen.other ≡ b → is_met_by_other whole fork r range ≡ b
-  other_is b is = sym (seen_other there_rows l.looked ∙ ap (λ x. is_met_by_other x fork r range) l.shown) ∙ is
+  pub other_is : (b : Bool) → seen.other ≡ b → is_met_by_other_lock whole fork r range ≡ b
+  other_is b is = sym (seen_other there_rows l.looked ∙ ap (λ x. is_met_by_other_lock x fork r range) l.shown) ∙ is
 
-  pub own_is : seen.other ≡ false → (b : Bool) → seen.own ≡ b → is_met_by_own whole fork r range ≡ b
-  own_is none b is = sym (seen_own there_rows l.looked none ∙ ap (λ x. is_met_by_own x fork r range) l.shown) ∙ is
+  pub own_is : seen.other ≡ false → (b : Bool) → seen.own ≡ b → is_met_by_own_lock whole fork r range ≡ b
+  own_is none b is = sym (seen_own there_rows l.looked none ∙ ap (λ x. is_met_by_own_lock x fork r range) l.shown) ∙ is
 
   pub is_locked : seen.other ≡ true → lock_refusal whole fork r range ≡ Some Locked
-  is_locked other = λ i. first_holding ((other_is true other i, Locked) ∷ (is_met_by_own whole fork r range, Overlap) ∷ (nat_le most_locks (count_held r whole), Full) ∷ [])
+  is_locked other = λ i. first_holding ((other_is true other i, Locked) ∷ (is_met_by_own_lock whole fork r range, Overlap) ∷ (nat_le most_locks (count_held r whole), Full) ∷ [])
 
   pub is_overlap : seen.other ≡ false → seen.own ≡ true → lock_refusal whole fork r range ≡ Some Overlap
   is_overlap other own = λ i. first_holding ((other_is false other i, Locked) ∷ (own_is other true own i, Overlap) ∷ (nat_le most_locks (count_held r whole), Full) ∷ [])
@@ -472,7 +472,7 @@ lost_kept {locks} {new_locks} {forks} {new_forks} {keep} {stays} l = record {
     regroup false b c d same = refl
 
 -- a lock that goes
-pub lock_alike : (fork : Fork) (row : LockRow) (q : Fork) (l : ForkLock) → is_one_fork l.fork q ≡ true → (if is_one_fork fork q then not (are_one_row row (row_of l)) else true) ≡ not (is_lock fork row.reference.0 row.range l)
+pub lock_alike : (fork : Fork) (row : LockRow) (q : Fork) (l : ForkLock) → is_one_fork l.fork q ≡ true → (if is_one_fork fork q then not (are_one_row row (row_of l)) else true) ≡ not (is_fork_lock fork row.reference.0 row.range l)
 lock_alike fork row q l on = ap (λ f. if is_one_fork fork f then not (are_one_row row (row_of l)) else true) (sym (same_fork l.fork q on)) ∙ ap (λ t. if t then not (are_one_row row (row_of l)) else true) (either_way fork l.fork)
     ∙ elim (is_one_fork l.fork fork) as (λ t. (if t then not (are_one_row row (row_of l)) else true) ≡ not (t && ((l.reference == row.reference.0) && ((l.range.from == row.range.from) && (l.range.to == row.range.to))))) [
       | true ↦ ap not (λ i. turn row.reference.0 l.reference i && (turn row.range.from l.range.from i && turn row.range.to l.range.to i))
@@ -495,7 +495,7 @@ taken_rows forks new_forks fork keep new_is q = new_is q ∙ elim (is_one_fork f
 ] refl
 
 -- of locks no two of which overlap, one alone has those ends
-alike_overlap : (fork : Fork) (r : ℕ) (range : Range) (a b : ForkLock) → range.from ≤ range.to → is_lock fork r range a ≡ true → is_lock fork r range b ≡ true → are_overlapping a b ≡ true
+alike_overlap : (fork : Fork) (r : ℕ) (range : Range) (a b : ForkLock) → range.from ≤ range.to → is_fork_lock fork r range a ≡ true → is_fork_lock fork r range b ≡ true → are_overlapping a b ≡ true
 alike_overlap fork r range a b ordered is_a is_b =
     let p = and_parts (is_one_fork a.fork fork) ((a.reference == r) && ((a.range.from == range.from) && (a.range.to == range.to))) is_a in
     let p_ends = and_parts (a.range.from == range.from) (a.range.to == range.to) (and_parts (a.reference == r) _ p.1).1 in
@@ -511,27 +511,27 @@ alike_overlap fork r range a b ordered is_a is_b =
     is_at_most : (m n : ℕ) → m ≤ n → nat_le m n ≡ true
     is_at_most m n h = grind (arith, nat_tests)
 
-pub remove_one : (fork : Fork) (r : ℕ) (range : Range) (ls : List ForkLock) (place : ℕ) → range.from ≤ range.to → are_apart are_overlapping ls ≡ true → place < length ls → ((d : ForkLock) → is_lock fork r range (slice_index_or ls place d) ≡ true) → remove ls place ≡ filter (λ l. not (is_lock fork r range l)) ls
+pub remove_one : (fork : Fork) (r : ℕ) (range : Range) (ls : List ForkLock) (place : ℕ) → range.from ≤ range.to → are_apart are_overlapping ls ≡ true → place < length ls → ((d : ForkLock) → is_fork_lock fork r range (slice_index_or ls place d) ≡ true) → remove ls place ≡ filter (λ l. not (is_fork_lock fork r range l)) ls
 remove_one fork r range [] place ordered apart within is = absurd (omega arith)
 remove_one fork r range (l ∷ ls) zero ordered apart within is =
     others ls (not_true (list_any (are_overlapping l) ls) (and_parts (not (list_any (are_overlapping l) ls)) (are_apart are_overlapping ls) apart).0)
-    ∙ ap (λ b. if not b then l ∷ filter (λ x. not (is_lock fork r range x)) ls else filter (λ x. not (is_lock fork r range x)) ls) (sym (is l))
+    ∙ ap (λ b. if not b then l ∷ filter (λ x. not (is_fork_lock fork r range x)) ls else filter (λ x. not (is_fork_lock fork r range x)) ls) (sym (is l))
   where
-    others : (xs : List ForkLock) → list_any (are_overlapping l) xs ≡ false → xs ≡ filter (λ x. not (is_lock fork r range x)) xs
+    others : (xs : List ForkLock) → list_any (are_overlapping l) xs ≡ false → xs ≡ filter (λ x. not (is_fork_lock fork r range x)) xs
     others [] none = refl
     others (x ∷ xs) none =
         let parts = or_parts (are_overlapping l x) (list_any (are_overlapping l) xs) none in
-        let other : is_lock fork r range x ≡ false = elim (is_lock fork r range x) as (λ b. is_lock fork r range x ≡ b → b ≡ false) [ true ↦ λ same. sym (alike_overlap fork r range l x ordered (is l) same) ∙ parts.0 | false ↦ λ _. refl ] refl in
-        ap (λ rest. x ∷ rest) (others xs parts.1) ∙ ap (λ b. if not b then x ∷ filter (λ y. not (is_lock fork r range y)) xs else filter (λ y. not (is_lock fork r range y)) xs) (sym other)
+        let other : is_fork_lock fork r range x ≡ false = elim (is_fork_lock fork r range x) as (λ b. is_fork_lock fork r range x ≡ b → b ≡ false) [ true ↦ λ same. sym (alike_overlap fork r range l x ordered (is l) same) ∙ parts.0 | false ↦ λ _. refl ] refl in
+        ap (λ rest. x ∷ rest) (others xs parts.1) ∙ ap (λ b. if not b then x ∷ filter (λ y. not (is_fork_lock fork r range y)) xs else filter (λ y. not (is_fork_lock fork r range y)) xs) (sym other)
 remove_one fork r range (l ∷ ls) (suc place) ordered apart within is =
     let parts = and_parts (not (list_any (are_overlapping l) ls)) (are_apart are_overlapping ls) apart in
     let alone = not_true (list_any (are_overlapping l) ls) parts.0 in
-    let other : is_lock fork r range l ≡ false = elim (is_lock fork r range l) as (λ b. is_lock fork r range l ≡ b → b ≡ false) [
+    let other : is_fork_lock fork r range l ≡ false = elim (is_fork_lock fork r range l) as (λ b. is_fork_lock fork r range l ≡ b → b ≡ false) [
       | true ↦ λ same. sym (list_any_at (are_overlapping l) ls place l (omega arith) (alike_overlap fork r range l (slice_index_or ls place l) ordered same (is l))) ∙ alone
       | false ↦ λ _. refl
     ] refl in
     ap (λ rest. l ∷ rest) (remove_one fork r range ls place ordered parts.1 (omega arith) is)
-    ∙ ap (λ b. if not b then l ∷ filter (λ x. not (is_lock fork r range x)) ls else filter (λ x. not (is_lock fork r range x)) ls) (sym other)
+    ∙ ap (λ b. if not b then l ∷ filter (λ x. not (is_fork_lock fork r range x)) ls else filter (λ x. not (is_fork_lock fork r range x)) ls) (sym other)
 
 -- the bytes of a lock that is kept end where they begin or behind it
 bytes_in_order : {locks : List ForkLock} {forks : List (Fork × List LockRow)} (place : ℕ) (d : ForkLock) → IsLockTable locks forks → place < length locks → nat_le (slice_index_or locks place d).range.from (slice_index_or locks place d).range.to ≡ true
@@ -549,7 +549,7 @@ bytes_in_order {locks} {forks} place d k within =
     falls row = not (nat_le row.range.from row.range.to)
 
 -- the list without the lock at its place
-pub one_taken : {locks given new_locks : List ForkLock} {forks : List (Fork × List LockRow)} (fork : Fork) (r : ℕ) (range : Range) (place : ℕ) → IsLockTable locks forks → given ≡ locks → IsPlaceOf given fork r range (Some place) → new_locks ≡ remove locks place → new_locks ≡ filter (λ l. not (is_lock fork r range l)) locks
+pub one_taken : {locks given new_locks : List ForkLock} {forks : List (Fork × List LockRow)} (fork : Fork) (r : ℕ) (range : Range) (place : ℕ) → IsLockTable locks forks → given ≡ locks → IsPlaceOf given fork r range (Some place) → new_locks ≡ remove locks place → new_locks ≡ filter (λ l. not (is_fork_lock fork r range l)) locks
 one_taken {locks} {given} fork r range place k same is new_is =
     let any : ForkLock = record { reference = r; fork = fork; range = range } in
     let there = subst (λ ls. IsPlaceOf ls fork r range (Some place)) same is in
@@ -559,10 +559,10 @@ one_taken {locks} {given} fork r range place k same is new_is =
     in_order : (a b m n : ℕ) → nat_le a b ≡ true → (a == m) ≡ true → (b == n) ≡ true → m ≤ n
     in_order a b m n h from to = let e = one_number a m from in let f = one_number b n to in grind (arith, nat_tests, h, e, f)
 
-pub is_there : {given whole : List ForkLock} (fork : Fork) (r : ℕ) (range : Range) (place : ℕ) → given ≡ whole → IsPlaceOf given fork r range (Some place) → has_lock whole fork r range ≡ true
+pub is_there : {given whole : List ForkLock} (fork : Fork) (r : ℕ) (range : Range) (place : ℕ) → given ≡ whole → IsPlaceOf given fork r range (Some place) → has_fork_lock whole fork r range ≡ true
 is_there {given} {whole} fork r range place same is =
     let any : ForkLock = record { reference = r; fork = fork; range = range } in
-    sym (ap (list_any (is_lock fork r range)) same) ∙ list_any_at (is_lock fork r range) given place any is.0 (is.1 any)
+    sym (ap (list_any (is_fork_lock fork r range)) same) ∙ list_any_at (is_fork_lock fork r range) given place any is.0 (is.1 any)
 
 -- what stands at the first place that passes, and where none does
 pub place_passes : (p : ForkLock → Bool) (ls : List ForkLock) (place : ℕ) (any : ForkLock) → Some place ≡ position p ls → (place < length ls) × ((d : ForkLock) → p (slice_index_or ls place d) ≡ true)
@@ -585,12 +585,12 @@ pub found : {list own : List ForkLock} (fork : Fork) (r : ℕ) (range : Range) (
 found {list} {own} fork r range first last place before behind given is =
     let len = ap length given ∙ length-between list first last behind.within in
     let inside : first + place < last = omega (arith, len, is.0) in
-    (omega (arith, behind.within), λ d. ap (is_lock fork r range) (sym (ap (λ l. slice_index_or l place d) given ∙ get_or-between list first last place d inside)) ∙ is.1 d)
+    (omega (arith, behind.within), λ d. ap (is_fork_lock fork r range) (sym (ap (λ l. slice_index_or l place d) given ∙ get_or-between list first last place d inside)) ∙ is.1 d)
 
 pub not_found : {list own : List ForkLock} (fork : Fork) (r : ℕ) (range : Range) (first last : ℕ) → IsBefore list r first → IsBehind list r last → own ≡ slice_range list first last → IsPlaceOf own fork r range None → IsPlaceOf list fork r range None
 not_found {list} {own} fork r range first last before behind given is =
-    sym (ap (list_any (is_lock fork r range)) (given ∙ (own_part list r first last before behind).0) ∙ any_filter (is_lock fork r range) (λ l. l.reference == r) list
-    ∙ any_gives (λ l. is_lock fork r range l && (l.reference == r)) (is_lock fork r range) list (λ l. again (is_one_fork l.fork fork) (l.reference == r) ((l.range.from == range.from) && (l.range.to == range.to))))
+    sym (ap (list_any (is_fork_lock fork r range)) (given ∙ (own_part list r first last before behind).0) ∙ any_filter (is_fork_lock fork r range) (λ l. l.reference == r) list
+    ∙ any_gives (λ l. is_fork_lock fork r range l && (l.reference == r)) (is_fork_lock fork r range) list (λ l. again (is_one_fork l.fork fork) (l.reference == r) ((l.range.from == range.from) && (l.range.to == range.to))))
     ∙ is
   where
     again : (a b c : Bool) → ((a && (b && c)) && b) ≡ (a && (b && c))

@@ -22,12 +22,12 @@ abbrev pub are_overlapping : ForkLock → ForkLock → Bool
 are_overlapping a b = do_overlap a.fork a.range b.fork b.range
 
 -- another reference's lock on the fork shares a byte with the range
-abbrev pub is_met_by_other : List ForkLock → Fork → ℕ → Range → Bool
-is_met_by_other locks fork reference range = list_any (λ l. do_overlap l.fork l.range fork range && not (l.reference == reference)) locks
+abbrev pub is_met_by_other_lock : List ForkLock → Fork → ℕ → Range → Bool
+is_met_by_other_lock locks fork reference range = list_any (λ l. do_overlap l.fork l.range fork range && not (l.reference == reference)) locks
 
 -- the reference's own lock on the fork does
-abbrev pub is_met_by_own : List ForkLock → Fork → ℕ → Range → Bool
-is_met_by_own locks fork reference range = list_any (λ l. do_overlap l.fork l.range fork range && (l.reference == reference)) locks
+abbrev pub is_met_by_own_lock : List ForkLock → Fork → ℕ → Range → Bool
+is_met_by_own_lock locks fork reference range = list_any (λ l. do_overlap l.fork l.range fork range && (l.reference == reference)) locks
 
 -- how many locks the reference has
 abbrev pub count_held : ℕ → List ForkLock → ℕ
@@ -36,8 +36,8 @@ count_held reference locks = length (filter (λ l. l.reference == reference) loc
 -- the refusals of a lock, in order
 abbrev pub lock_refusal : List ForkLock → Fork → ℕ → Range → Option LockFault
 lock_refusal locks fork reference range = first_holding (
-    (is_met_by_other locks fork reference range, Locked)
-    ∷ (is_met_by_own locks fork reference range, Overlap)
+    (is_met_by_other_lock locks fork reference range, Locked)
+    ∷ (is_met_by_own_lock locks fork reference range, Overlap)
     ∷ (nat_le most_locks (count_held reference locks), Full)
     ∷ [])
 
@@ -56,16 +56,16 @@ SetsLock old fork reference range (Err Full) new = (lock_refusal old fork refere
 SetsLock old fork reference range (Err Memory) new = (lock_refusal old fork reference range ≡ None) × (new ≡ old)
 
 -- the lock of that reference on that fork, with exactly these ends
-abbrev pub is_lock : Fork → ℕ → Range → ForkLock → Bool
-is_lock fork reference range l = is_one_fork l.fork fork && ((l.reference == reference) && ((l.range.from == range.from) && (l.range.to == range.to)))
+abbrev pub is_fork_lock : Fork → ℕ → Range → ForkLock → Bool
+is_fork_lock fork reference range l = is_one_fork l.fork fork && ((l.reference == reference) && ((l.range.from == range.from) && (l.range.to == range.to)))
 
-abbrev pub has_lock : List ForkLock → Fork → ℕ → Range → Bool
-has_lock locks fork reference range = list_any (is_lock fork reference range) locks
+abbrev pub has_fork_lock : List ForkLock → Fork → ℕ → Range → Bool
+has_fork_lock locks fork reference range = list_any (is_fork_lock fork reference range) locks
 
 -- What `unlock` answers: Ok exactly where the reference has the lock with these ends, and it goes; else nothing changes.
 abbrev pub TakesLock : List ForkLock → Fork → ℕ → Range → Result (Unit {0}) NotLocked → List ForkLock → Type 0
-TakesLock old fork reference range (Ok done) new = (has_lock old fork reference range ≡ true) × (new ≡ filter (λ l. not (is_lock fork reference range l)) old)
-TakesLock old fork reference range (Err fault) new = (has_lock old fork reference range ≡ false) × (new ≡ old)
+TakesLock old fork reference range (Ok done) new = (has_fork_lock old fork reference range ≡ true) × (new ≡ filter (λ l. not (is_fork_lock fork reference range l)) old)
+TakesLock old fork reference range (Err fault) new = (has_fork_lock old fork reference range ≡ false) × (new ≡ old)
 
 -- the locks without those of a reference
 abbrev pub without_holder : ℕ → List ForkLock → List ForkLock

@@ -4,7 +4,7 @@ ghost use Rattle.afp_base.specs.DenyMode.{Fork};
 ghost use Rattle.std.specs.List.{position};
 ghost use Rattle.std.specs.List.Sorted.{IsNonDecreasingBy};
 ghost use Rattle.afp_base.specs.Apart.{are_apart};
-ghost use Rattle.range_locks.specs.Locks.{are_overlapping, SetsLock, TakesLock, AreIntervals, is_met_by_other, count_held, is_lock, without_holder, exchange_lock, exchanged_locks};
+ghost use Rattle.range_locks.specs.Locks.{are_overlapping, SetsLock, TakesLock, AreIntervals, is_met_by_other_lock, count_held, is_fork_lock, without_holder, exchange_lock, exchanged_locks};
 ghost use Rattle.range_locks.specs.lemma.Kept.{IsBehind, IsBefore, IsPlaceOf, holder_of, is_among, rows_at};
 
 use crate::forks::{add_row, rows_of, take_holder, take_row};
@@ -49,7 +49,7 @@ impl HeldLock {
 
     /// Whether it is the lock of that reference on that fork, with exactly these ends.
     fn is(&self, fork: &ForkKey, r: u16, range: &Range) -> bool
-        ensures { result ≡ is_lock fork.now r range.now self.now }
+        ensures { result ≡ is_fork_lock fork.now r range.now self.now }
     {
         self.fork == *fork
             && (self.reference == r
@@ -117,7 +117,7 @@ impl Locks {
 
     /// Whether another reference's lock on that fork shares a byte with the range.
     pub fn blocks(&self, fork: &ForkKey, r: ForkRef, range: &Range) -> bool
-        ensures { result ≡ is_met_by_other self.now fork.now r.0 range.now }
+        ensures { result ≡ is_met_by_other_lock self.now fork.now r.0 range.now }
     {
         look(self.intervals(fork), r, range).other
     }
@@ -236,7 +236,7 @@ fn locks_between(list: &[HeldLock], first: usize, last: usize) -> &[HeldLock]
 
 /// The first place of that lock among these.
 fn place_among(list: &[HeldLock], fork: &ForkKey, r: u16, range: &Range) -> Option<usize>
-    ensures { result ≡ position (is_lock fork.now r range.now) list.now }
+    ensures { result ≡ position (is_fork_lock fork.now r range.now) list.now }
 {
     list.iter().position(|l| l.is(fork, r, range))
 }

@@ -12,7 +12,7 @@ use Rattle.std.specs.FinMap.{get, entries, entries_sorted, get-entries}
 use Rattle.std.specs.FinMap.Entries.{find, is_sorted, below_all}
 use Rattle.record_keeper.specs.declared.record.Record.{Record}
 use Rattle.record_keeper.specs.Records.{Records, IsAbove, IsNextKey, Makes, same_records}
-use Rattle.record_keeper.specs.Reading.{entry_of, IsBelow, Rises, IsAll}
+use Rattle.record_keeper.specs.Reading.{entry_of, IsBelow, RisesByKey, IsAll}
 use Rattle.record_keeper.specs.lemma.Reading.{last_key, IsFront}
 use Rattle.record_keeper.proofs.KeptRows.{by_bytes, one_key}
 
@@ -22,7 +22,7 @@ IsAboveAll q [] = Unit {0}
 IsAboveAll q (r ∷ records) = (by_bytes r.key q ≡ Less) × IsAboveAll q records
 
 -- what is above the last of rising keys is above them all
-above_all : (read : List Record) (q : List ℕ) → Rises read → IsAbove (last_key read) q → IsAboveAll q read
+above_all : (read : List Record) (q : List ℕ) → RisesByKey read → IsAbove (last_key read) q → IsAboveAll q read
 above_all [] q rises above = tt
 above_all (r ∷ []) q rises above = (above, tt)
 above_all (r ∷ s ∷ read) q rises above =
@@ -38,12 +38,12 @@ below_pushed : (key : List ℕ) (read : List Record) (r : Record) → IsBelow ke
 below_pushed key [] r below less = (less, tt)
 below_pushed key (s ∷ read) r below less = (below.0, below_pushed key read r below.1 less)
 
-rises_pushed : (read : List Record) (r : Record) → Rises read → IsAboveAll r.key read → Rises (read ++ r ∷ [])
+rises_pushed : (read : List Record) (r : Record) → RisesByKey read → IsAboveAll r.key read → RisesByKey (read ++ r ∷ [])
 rises_pushed [] r rises above = (tt, tt)
 rises_pushed (s ∷ read) r rises above = (below_pushed s.key read r rises.0 above.0, rises_pushed read r rises.1 above.1)
 
 -- one more record still rises
-pub rises_more : (read : List Record) (r : Record) → Rises read → IsAbove (last_key read) r.key → Rises (read ++ r ∷ [])
+pub rises_more : (read : List Record) (r : Record) → RisesByKey read → IsAbove (last_key read) r.key → RisesByKey (read ++ r ∷ [])
 rises_more read r rises above = rises_pushed read r rises (above_all read r.key rises above)
 
 -- the last key, by its place
@@ -94,7 +94,7 @@ find_before q x (e ∷ rest) less below =
     ap (λ o. cond (is_eq o) (Some e.1) (find by_bytes q rest)) (nat_list_cmp_total.trans q x e.0 less (is_less _ (first_true _ _ below)))
     ∙ find_before q x rest less (second_true _ _ below)
 
-module _ (kept : Records) (read : List Record) (rises : Rises read) where
+module _ (kept : Records) (read : List Record) (rises : RisesByKey read) where
   -- what stands behind the records that were read is kept, and above them
   next_there : (e : List ℕ × List ℕ) (rest : List (List ℕ × List ℕ)) → entries kept ≡ map entry_of read ++ e ∷ rest → IsAboveAll e.0 read × (get kept e.0 ≡ Some e.1)
   next_there e rest are =
@@ -183,16 +183,16 @@ pub both_told : (told : Option Records) (P Q R : Records → Type 0) → ((m : R
 both_told None P Q R h p q = tt
 both_told (Some m) P Q R h p q = h m p q
 
-pub all_read : (told : Option Records) (read : List Record) → Rises read → IfSome told (λ kept. IsFront kept read) → IfSome told (λ kept. IsNextKey kept (last_key read) None) → IfSome told (λ kept. IsAll kept read)
+pub all_read : (told : Option Records) (read : List Record) → RisesByKey read → IfSome told (λ kept. IsFront kept read) → IfSome told (λ kept. IsNextKey kept (last_key read) None) → IfSome told (λ kept. IsAll kept read)
 all_read None read rises front next = tt
 all_read (Some m) read rises front next = read_whole m read rises front next
 
-pub one_read : (told : Option Records) (read : List Record) (k v : List ℕ) → Rises read → IfSome told (λ kept. IsFront kept read) → IfSome told (λ kept. IsNextKey kept (last_key read) (Some k)) → IfSome told (λ kept. Some v ≡ get kept k)
+pub one_read : (told : Option Records) (read : List Record) (k v : List ℕ) → RisesByKey read → IfSome told (λ kept. IsFront kept read) → IfSome told (λ kept. IsNextKey kept (last_key read) (Some k)) → IfSome told (λ kept. Some v ≡ get kept k)
     → IfSome told (λ kept. IsFront kept (read ++ record { key = k; value = v } ∷ []))
 one_read None read k v rises front next got = tt
 one_read (Some m) read k v rises front next got = read_more m read rises k v front next (sym got)
 
-pub behind_most : (told : Option Records) (read : List Record) (k : List ℕ) (n : ℕ) → length read ≡ n → Rises read → IfSome told (λ kept. IsFront kept read) → IfSome told (λ kept. IsNextKey kept (last_key read) (Some k))
+pub behind_most : (told : Option Records) (read : List Record) (k : List ℕ) (n : ℕ) → length read ≡ n → RisesByKey read → IfSome told (λ kept. IsFront kept read) → IfSome told (λ kept. IsNextKey kept (last_key read) (Some k))
     → IfSome told (λ kept. option_map (λ (e : List ℕ × List ℕ). e.0) (slice_get (entries kept) n) ≡ Some k)
 behind_most None read k n many rises front next = tt
 behind_most (Some m) read k n many rises front next = next_place m read rises k n many front next

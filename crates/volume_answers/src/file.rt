@@ -3,7 +3,7 @@ ghost use Rattle.std.specs.Prelude.{◌≡◌, ◌++◌, ◌<◌, true, IfOk, On
 ghost use Rattle.afp_bitmap.specs.Bits.{IsWithin, file_mask};
 ghost use Rattle.afp_bitmap.specs.Params.{params};
 ghost use Rattle.afp_bitmap.specs.declared.params.Values.TheVariants as told;
-ghost use Rattle.afp_volume.specs.NodeValues.{is_open, told_attributes, file_values};
+ghost use Rattle.afp_volume.specs.NodeValues.{has_open_fork, told_attributes, file_values};
 ghost use Rattle.afp_volume.specs.Parms.{asked_or};
 ghost use Rattle.volume_answers.specs.lemma.Told.{bytes_at, whole};
 ghost use Rattle.volume_tree.specs.Shown.{opened};
@@ -26,7 +26,7 @@ const RESOURCE_FORK_OPEN: u16 = 0x0010;
 
 /// Whether this fork of a node is open.
 fn is_open(opens: &VolumeOpens<'_>, id: NodeId, resource: bool) -> bool
-    ensures { result ≡ is_open (opened opens.now) id.0 resource }
+    ensures { result ≡ has_open_fork (opened opens.now) id.0 resource }
 {
     opens.has_fork(id, resource)
 }

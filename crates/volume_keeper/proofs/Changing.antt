@@ -5,7 +5,7 @@ use Rattle.afp_base.specs.declared.ids.NodeId.{NodeId}
 use Rattle.afp_volume.specs.VolumeState.{VolumeState}
 use Rattle.afp_volume.specs.SoundVolume.{IsSoundVolume}
 use Rattle.record_keeper.specs.Records.{changed}
-use Rattle.record_keeper.specs.Reading.{Rises}
+use Rattle.record_keeper.specs.Reading.{RisesByKey}
 use Rattle.volume_records.specs.declared.rows.Head.{Head}
 use Rattle.volume_records.specs.declared.rows.TableRow.{TableRow}
 use Rattle.volume_records.specs.declared.rows.TableRow.TheVariants as row
@@ -14,11 +14,11 @@ use Rattle.volume_records.specs.Image.{image, kept_image, rows_of, tables_of}
 use Rattle.volume_records.specs.Laws.{ImagesRise}
 use Rattle.volume_tree.specs.Planned.{PlanState, IsPlan, planned, gone_rows, gone_comments, gone_appls}
 use Rattle.volume_tree.specs.TouchedNodes.{is_touched}
-use Rattle.volume_keeper.specs.Changes.{put, taken, is_of, gone_records, kept_records, tree_changes_of}
+use Rattle.volume_keeper.specs.Changes.{put_of, removal_of, is_of, gone_records, kept_records, tree_changes_of}
 use Rattle.volume_keeper.proofs.LookUps.{are_one, alike, found, found-append, or_then, any_at, key_of_row, AreFound, each_found, first_found, got, got_changed, after, after-append, after_puts, after_gone}
 use Rattle.volume_keeper.proofs.PlanSteps.{gone_volume, left_rows, nodes_in, blocks_in, passing, blocks_stay, nodes_stay, passing_found}
 
-gone_left : (gone : Option NodeId) (v : VolumeState) → Rises (image v) → (q : List ℕ) → after (map taken (gone_records gone v)) q (found (rows_of (tables_of v)) q) ≡ found (rows_of (tables_of (gone_volume gone v))) q
+gone_left : (gone : Option NodeId) (v : VolumeState) → RisesByKey (image v) → (q : List ℕ) → after (map removal_of (gone_records gone v)) q (found (rows_of (tables_of v)) q) ≡ found (rows_of (tables_of (gone_volume gone v))) q
 gone_left None v rises q = refl
 gone_left (Some id) v rises q = after_gone (is_of id.0) (rows_of (tables_of v)) rises q ∙ ap (λ l. found l q) (left_rows id v)
 
@@ -56,7 +56,7 @@ module _ (v : VolumeState) (p : PlanState) (plan : IsPlan v p) where
       neither true b e = absurd (cc)
       neither false b e = (refl, e)
 
-  kept_found : Rises (image (planned p v)) → AreFound (rows_of (tables_of (planned p v))) (kept_records p (planned p v))
+  kept_found : RisesByKey (image (planned p v)) → AreFound (rows_of (tables_of (planned p v))) (kept_records p (planned p v))
   kept_found rises =
       let all : List TableRow = rows_of (tables_of (planned p v)) in
       let each = each_found all rises in
@@ -66,11 +66,11 @@ module _ (v : VolumeState) (p : PlanState) (plan : IsPlan v p) where
   settled q true e = refl
   settled q false e = untouched q e
 
-  changed_at : Rises (image v) → Rises (image (planned p v)) → (q : List ℕ) → after (tree_changes_of v p) q (found (rows_of (tables_of v)) q) ≡ found (rows_of (tables_of (planned p v))) q
+  changed_at : RisesByKey (image v) → RisesByKey (image (planned p v)) → (q : List ℕ) → after (tree_changes_of v p) q (found (rows_of (tables_of v)) q) ≡ found (rows_of (tables_of (planned p v))) q
   unfolding tree_changes_of
   changed_at first last q =
-      after-append (map taken (gone_records p.gone v)) (map put (kept_records p (planned p v))) q (found (rows_of (tables_of v)) q)
-      ∙ ap (after (map put (kept_records p (planned p v))) q) (gone_left p.gone v first q)
+      after-append (map removal_of (gone_records p.gone v)) (map put_of (kept_records p (planned p v))) q (found (rows_of (tables_of v)) q)
+      ∙ ap (after (map put_of (kept_records p (planned p v))) q) (gone_left p.gone v first q)
       ∙ after_puts (rows_of (tables_of (planned p v))) (kept_records p (planned p v)) q (found (rows_of (tables_of (gone_volume p.gone v))) q) (kept_found last)
       ∙ settled q (any_at (kept_records p (planned p v)) q) refl
 

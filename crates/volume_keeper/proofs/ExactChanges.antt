@@ -12,7 +12,7 @@ use Rattle.record_keeper.specs.declared.record.Change.{Change}
 use Rattle.record_keeper.specs.declared.record.Change.TheVariants.{Put, Remove}
 use Rattle.record_keeper.specs.declared.record.Record.{Record}
 use Rattle.record_keeper.specs.Records.{Records, key_of}
-use Rattle.record_keeper.specs.Reading.{IsBelow, Rises}
+use Rattle.record_keeper.specs.Reading.{IsBelow, RisesByKey}
 use Rattle.volume_records.specs.Image.{entries_of}
 use Rattle.volume_keeper.specs.ForkChanges.{names}
 use Rattle.volume_keeper.proofs.LookUps.{are_one, itself, one_of, after}
@@ -130,9 +130,9 @@ differs (s ∷ ss) st q e h = by (differs ss st.1 q) s.key s.old s.new st.0 e h
 abbrev kept : List Record → Records
 kept rs = from_sorted (entries_of rs)
 
-pub named_differ : (ss : List Step) → IsStrict ss → Rises (olds ss) → Rises (news ss) → (q : List ℕ) → names q (changes_in ss) ≡ true → get (kept (olds ss)) q ≡ get (kept (news ss)) q → ⊥
+pub named_differ : (ss : List Step) → IsStrict ss → RisesByKey (olds ss) → RisesByKey (news ss) → (q : List ℕ) → names q (changes_in ss) ≡ true → get (kept (olds ss)) q ≡ get (kept (news ss)) q → ⊥
 named_differ ss strict first last q e h = differs ss strict q (sym (same_names q (changes_in ss)) ∙ e) (sym (got_seen (olds ss) q first) ∙ h ∙ got_seen (news ss) q last)
 
-pub others_same : (ss : List Step) → IsStrict ss → Rises (olds ss) → Rises (news ss) → (q : List ℕ) → names q (changes_in ss) ≡ false → get (kept (olds ss)) q ≡ get (kept (news ss)) q
+pub others_same : (ss : List Step) → IsStrict ss → RisesByKey (olds ss) → RisesByKey (news ss) → (q : List ℕ) → names q (changes_in ss) ≡ false → get (kept (olds ss)) q ≡ get (kept (news ss)) q
 others_same ss strict first last q e =
     got_seen (olds ss) q first ∙ sym (missed q (changes_in ss) (seen (olds ss) q) (sym (same_names q (changes_in ss)) ∙ e)) ∙ after_steps ss strict q ∙ sym (got_seen (news ss) q last)

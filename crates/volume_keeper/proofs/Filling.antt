@@ -18,13 +18,13 @@ use Rattle.afp_volume.specs.Edits.{change_at, with_changed}
 use Rattle.afp_volume.specs.Order.{rises_from}
 use Rattle.afp_volume.specs.SoundVolume.{IsSoundVolume, is_formed}
 use Rattle.afp_volume.specs.Walk.{row_at}
-use Rattle.record_keeper.specs.Reading.{IsBelow, Rises}
+use Rattle.record_keeper.specs.Reading.{IsBelow, RisesByKey}
 use Rattle.volume_records.specs.declared.rows.ForkBlock.{ForkBlock}
 use Rattle.volume_records.specs.declared.rows.TableRow.{TableRow}
 use Rattle.volume_records.specs.declared.rows.TableRow.TheVariants as row
 use Rattle.volume_records.specs.Records.{record_of, block_record, block_tag, flag_byte, long_bytes}
 use Rattle.volume_records.specs.Laws.{ImagesRise, TablesSayVolumes}
-use Rattle.volume_records.specs.Image.{block_of, fork_blocks, node_of, rows_of, tables_of}
+use Rattle.volume_records.specs.Image.{fork_block_of, fork_blocks, node_of, rows_of, tables_of}
 use Rattle.volume_records.specs.FromTables.{own, fork_part, piece_of, pieces, row_from}
 use Rattle.volume_tree.specs.Filled.{filled, filled_row, FitsFork}
 use Rattle.afp_volume.specs.OpenFork.{file_of}
@@ -315,7 +315,7 @@ all_later : (b : ForkBlock) (bs : List ForkBlock) → IsBelow (record_of (row.Bl
 all_later b [] s = refl
 all_later b (c ∷ bs) s = both_true (not (same_place c b)) _ (not_there b c s.0) (all_later b bs s.1)
 
-apart_blocks : (bs : List ForkBlock) → Rises (map record_of (map (λ b. row.Block b) bs)) → Apart bs
+apart_blocks : (bs : List ForkBlock) → RisesByKey (map record_of (map (λ b. row.Block b) bs)) → Apart bs
 apart_blocks [] s = tt
 apart_blocks (b ∷ bs) s = (all_later b bs s.0, apart_blocks bs s.1)
 
@@ -349,7 +349,7 @@ pub below_front : (k : List ℕ) (xs ys : List TableRow) → IsBelow k (map reco
 below_front k [] ys b = tt
 below_front k (x ∷ xs) ys b = (b.0, below_front k xs ys b.1)
 
-pub rises_parts : (xs ys : List TableRow) → Rises (map record_of (xs ++ ys)) → Rises (map record_of xs) × Rises (map record_of ys)
+pub rises_parts : (xs ys : List TableRow) → RisesByKey (map record_of (xs ++ ys)) → RisesByKey (map record_of xs) × RisesByKey (map record_of ys)
 rises_parts [] ys s = (tt, s)
 rises_parts (x ∷ xs) ys s = let rest = rises_parts xs ys s.1 in ((below_front (record_of x).key xs ys s.0, rest.0), rest.1)
 
@@ -399,7 +399,7 @@ some_bytes [] e = absurd (cc)
 some_bytes (b ∷ bs) e = omega arith
 
 module _ (v : VolumeState) (r : VolumeRow) (here : row_at v.rows r.id ≡ Some r) (only : OnlyAt r v.rows) (file : r.dir ≡ false) where
-  one_place : (f : Bool) (b : Block) → not (is_empty b.bytes) ≡ true → is_kept (length (fork_of f r)) b ≡ true → HasPlace v (block_of r.id f b)
+  one_place : (f : Bool) (b : Block) → not (is_empty b.bytes) ≡ true → is_kept (length (fork_of f r)) b ≡ true → HasPlace v (fork_block_of r.id f b)
   one_place f b some kept =
       let sizes = second_true (pointwise (λ m n. m == n) (trimmed b.bytes) b.bytes) _ kept in
       let short : nat_le (length b.bytes) block_size ≡ true = first_true (nat_le (length b.bytes) block_size) _ sizes in
@@ -410,7 +410,7 @@ module _ (v : VolumeState) (r : VolumeRow) (here : row_at v.rows r.id ≡ Some r
         here = here;
         file = file;
         within = within;
-        rows = rows_fit r (block_of r.id f b) refl within v.rows only;
+        rows = rows_fit r (fork_block_of r.id f b) refl within v.rows only;
         short = le_of _ _ short;
         some = some_bytes b.bytes some;
       }
@@ -418,7 +418,7 @@ module _ (v : VolumeState) (r : VolumeRow) (here : row_at v.rows r.id ≡ Some r
       le_of : (a b : ℕ) → nat_le a b ≡ true → a ≤ b
       le_of a b e = grind (arith, e)
 
-  fork_places : (f : Bool) (bs : List Block) → are_rising bs ≡ true → list_all (is_kept (length (fork_of f r))) bs ≡ true → (rest : List ForkBlock) → EachPlace v rest → EachPlace v (map (block_of r.id f) bs ++ rest)
+  fork_places : (f : Bool) (bs : List Block) → are_rising bs ≡ true → list_all (is_kept (length (fork_of f r))) bs ≡ true → (rest : List ForkBlock) → EachPlace v rest → EachPlace v (map (fork_block_of r.id f) bs ++ rest)
   fork_places f [] s k rest p = p
   fork_places f (b ∷ bs) s k rest p = (
     one_place f b (first_true (not (is_empty b.bytes)) _ s) (first_true (is_kept (length (fork_of f r)) b) _ k),
@@ -427,9 +427,9 @@ module _ (v : VolumeState) (r : VolumeRow) (here : row_at v.rows r.id ≡ Some r
 
 row_places : (laws : Laws) (v : VolumeState) (r : VolumeRow) → row_at v.rows r.id ≡ Some r → OnlyAt r v.rows → HasFitForks r → (rest : List ForkBlock) → EachPlace v rest → EachPlace v (fork_blocks r ++ rest)
 row_places laws v r here only fit rest p = elim r.dir as (λ d. r.dir ≡ d → EachPlace v (fork_blocks r ++ rest)) [
-  | true ↦ λ d. let none = fit d in subst (λ l. EachPlace v (l ++ rest)) (sym (λ i. map (block_of r.id false) (blocks_of (none.0 i)) ++ map (block_of r.id true) (blocks_of (none.1 i)))) p
-  | false ↦ λ d. subst (EachPlace v) (sym (append_assoc (map (block_of r.id false) (blocks_of r.data_fork)) (map (block_of r.id true) (blocks_of r.resource_fork)) rest))
-      (fork_places v r here only d false (blocks_of r.data_fork) (laws.rising r.data_fork) (laws.kept r.data_fork) (map (block_of r.id true) (blocks_of r.resource_fork) ++ rest)
+  | true ↦ λ d. let none = fit d in subst (λ l. EachPlace v (l ++ rest)) (sym (λ i. map (fork_block_of r.id false) (blocks_of (none.0 i)) ++ map (fork_block_of r.id true) (blocks_of (none.1 i)))) p
+  | false ↦ λ d. subst (EachPlace v) (sym (append_assoc (map (fork_block_of r.id false) (blocks_of r.data_fork)) (map (fork_block_of r.id true) (blocks_of r.resource_fork)) rest))
+      (fork_places v r here only d false (blocks_of r.data_fork) (laws.rising r.data_fork) (laws.kept r.data_fork) (map (fork_block_of r.id true) (blocks_of r.resource_fork) ++ rest)
       (fork_places v r here only d true (blocks_of r.resource_fork) (laws.rising r.resource_fork) (laws.kept r.resource_fork) rest p))
 ] refl
 
@@ -480,7 +480,7 @@ module _ (laws : Laws) (v : VolumeState) (sound : IsSoundVolume v) where
   abbrev others : List TableRow
   others = map (λ c. row.Comment c) v.comments ++ (map (λ i. row.Icon i) v.icons ++ map (λ a. row.Appl a) v.appls)
 
-  rising_blocks : Rises (map record_of block_rows)
+  rising_blocks : RisesByKey (map record_of block_rows)
   rising_blocks = (rises_parts block_rows others (rises_parts nodes_rows (block_rows ++ others) (laws.image v sound).1).1).0
 
   pub filled_from : FitRows block_rows (with_some v []) × (with_blocks block_rows (with_some v []) ≡ with_some v blocks)

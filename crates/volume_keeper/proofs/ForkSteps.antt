@@ -21,7 +21,7 @@ use Rattle.volume_records.specs.declared.rows.Head.{Head}
 use Rattle.volume_records.specs.declared.rows.TableRow.{TableRow}
 use Rattle.volume_records.specs.declared.rows.TableRow.TheVariants as row
 use Rattle.volume_records.specs.Records.{record_of, block_key, block_record, flag_byte, head_record, long_bytes, node_record}
-use Rattle.volume_records.specs.Image.{block_of, fork_blocks, image, node_of, tables_of}
+use Rattle.volume_records.specs.Image.{fork_block_of, fork_blocks, image, node_of, tables_of}
 use Rattle.volume_keeper.specs.ForkChanges.{block_change, file_changes, fork_changes_of, put_where_other}
 use Rattle.volume_keeper.proofs.GoneRecords.{first_true, second_true, nil_behind}
 use Rattle.volume_keeper.proofs.PlanSteps.{map-append, same_number}
@@ -38,7 +38,7 @@ steps_from i f a b index zero = []
 steps_from i f a b index (suc n) = record { key = block_key i f index; old = unless_empty (block_at a index); new = unless_empty (block_at b index) } ∷ steps_from i f a b (index + 1) n
 
 abbrev block_records : ℕ → Bool → List Block → List Record
-block_records i f bs = map record_of (map (λ b. row.Block b) (map (block_of i f) bs))
+block_records i f bs = map record_of (map (λ b. row.Block b) (map (fork_block_of i f) bs))
 
 one_record : (i : ℕ) (f : Bool) (index : ℕ) (bytes : List ℕ) (rs : List Record) (bs : List Block) → rs ≡ block_records i f bs → with_value (block_key i f index) (unless_empty bytes) rs ≡ block_records i f (with_block index bytes bs)
 unfolding block_record
@@ -138,10 +138,10 @@ abbrev row_records : VolumeRow → List Record
 row_records r = map record_of (map (λ b. row.Block b) (fork_blocks r))
 
 -- what has the records of both forks, one behind the other
-both_records : (i : ℕ) (one two : List Block) → map record_of (map (λ b. row.Block b) (map (block_of i false) one ++ map (block_of i true) two)) ≡ block_records i false one ++ block_records i true two
+both_records : (i : ℕ) (one two : List Block) → map record_of (map (λ b. row.Block b) (map (fork_block_of i false) one ++ map (fork_block_of i true) two)) ≡ block_records i false one ++ block_records i true two
 both_records i one two =
-    ap (map record_of) (map-append (λ b. row.Block b) (map (block_of i false) one) (map (block_of i true) two))
-    ∙ map-append record_of (map (λ b. row.Block b) (map (block_of i false) one)) (map (λ b. row.Block b) (map (block_of i true) two))
+    ap (map record_of) (map-append (λ b. row.Block b) (map (fork_block_of i false) one) (map (fork_block_of i true) two))
+    ∙ map-append record_of (map (λ b. row.Block b) (map (fork_block_of i false) one)) (map (λ b. row.Block b) (map (fork_block_of i true) two))
 
 row-olds : (r s : VolumeRow) → olds (row_steps r s) ≡ row_records r
 row-olds r s =
@@ -154,7 +154,7 @@ row-news r s e =
     news-append (fork_steps r.id false r.data_fork s.data_fork) (fork_steps r.id true r.resource_fork s.resource_fork)
     ∙ (λ k. fork-news r.id false r.data_fork s.data_fork k ++ fork-news r.id true r.resource_fork s.resource_fork k)
     ∙ sym (both_records r.id (blocks_of s.data_fork) (blocks_of s.resource_fork))
-    ∙ ap (λ n. map record_of (map (λ b. row.Block b) (map (block_of n false) (blocks_of s.data_fork) ++ map (block_of n true) (blocks_of s.resource_fork)))) (sym e)
+    ∙ ap (λ n. map record_of (map (λ b. row.Block b) (map (fork_block_of n false) (blocks_of s.data_fork) ++ map (fork_block_of n true) (blocks_of s.resource_fork)))) (sym e)
 
 row-steady : (r : VolumeRow) → AreSteady (row_steps r r)
 row-steady r = steady_both (fork_steps r.id false r.data_fork r.data_fork) (fork_steps r.id true r.resource_fork r.resource_fork)

@@ -11,7 +11,7 @@ use Rattle.afp_volume.specs.SoundVolume.{fork_bytes}
 use Rattle.afp_volume.specs.VolumeState.{Row as VolumeRow, Comment, Icon, Appl, VolumeState}
 use Rattle.afp_volume.specs.Walk.{row_at}
 use Rattle.fork_bytes.specs.declared.block.Block.{Block}
-use Rattle.fork_bytes.specs.Plan.{PlanState, IsPlan, changes_of}
+use Rattle.fork_bytes.specs.Plan.{ForkPlanState, IsForkPlan, changes_of}
 use Rattle.record_keeper.specs.declared.record.Change.{Change}
 use Rattle.volume_records.specs.declared.rows.TableRow.TheVariants as row
 use Rattle.volume_records.specs.Image.{node_of, tables_of}
@@ -27,7 +27,7 @@ blocks_next f [] k b d h e = absurd (omega arith)
 blocks_next f (x ∷ xs) zero b d h e = ap (λ y. f y ∷ []) e
 blocks_next f (x ∷ xs) (suc k) b d h e = ap (λ l. f x ∷ l) (blocks_next f xs k b d (omega arith) e)
 
-module _ (now id : ℕ) (resource : Bool) (plan : PlanState) (before after : List ℕ) (plans : IsPlan before after plan) where
+module _ (now id : ℕ) (resource : Bool) (plan : ForkPlanState) (before after : List ℕ) (plans : IsForkPlan before after plan) where
   -- the file's node afterwards
   node_is : (r : VolumeRow) → modified_node (bare r) (if plan.writes then pos now else r.modified) (if resource then length r.data_fork else plan.len) (if resource then plan.len else length r.resource_fork)
       ≡ node_of (written now resource after plan.writes r)

@@ -18,7 +18,7 @@ use Rattle.fork_bytes.specs.declared.block.Block.{Block}
 use Rattle.fork_bytes.specs.Blocks.{before_zeros, block_at, block_count, blocks_from, blocks_of, trimmed, with_block}
 use Rattle.fork_bytes.specs.Kept.{byte_at, bytes_in, each_of}
 use Rattle.fork_bytes.specs.Laws.{BytesFromBlocks}
-use Rattle.fork_bytes.specs.Plan.{PlanState, changes_from, changes_of, with_change}
+use Rattle.fork_bytes.specs.Plan.{ForkPlanState, changes_from, changes_of, with_change}
 use Rattle.volume_tree.specs.ForkEffect.{IsForkChange}
 use Rattle.volume_tree.specs.Shown.{fork_at}
 use Rattle.volume_keeper.specs.lemma.Whole.{IsHeld}
@@ -88,7 +88,7 @@ all_next (x ∷ xs) zero d h e f = and_from (has_bytes x) true f refl
 all_next (x ∷ xs) (suc k) d h e f = and_from (has_bytes x) (list_all has_bytes (take (suc k) xs)) (first_true (has_bytes x) (list_all has_bytes (take k xs)) e) (all_next xs k d (omega arith) (second_true (has_bytes x) (list_all has_bytes (take k xs)) e) f)
 
 -- the volume with these bytes can be held
-pub fork_held : ForkKeepsSound → ForkKeepsTyped → BytesFromBlocks → (v : VolumeState) → IsHeld v → (now id : ℕ) (resource : Bool) (plan : PlanState) → now ≤ 2147483647 → list_all has_bytes plan.changes ≡ true
+pub fork_held : ForkKeepsSound → ForkKeepsTyped → BytesFromBlocks → (v : VolumeState) → IsHeld v → (now id : ℕ) (resource : Bool) (plan : ForkPlanState) → now ≤ 2147483647 → list_all has_bytes plan.changes ≡ true
     → (change : IsForkChange v id resource plan) → IsHeld (fork_effect now id resource change.after plan.writes v)
 fork_held sounds types law v held now id resource plan date typed change =
     let file : FileAt v id resource change.before = file_at v id resource change.before change.there in
@@ -101,7 +101,7 @@ fork_held sounds types law v held now id resource plan date typed change =
     }
 
 -- the change of a whole volume is one of its tree, and does there what it does to the whole
-abbrev pub tree_change : (t w : VolumeState) (comments : List Comment) (icons : List Icon) (appls : List Appl) → with_desktop t comments icons appls ≡ w → (id : ℕ) (resource : Bool) (plan : PlanState) → IsForkChange w id resource plan → IsForkChange t id resource plan
+abbrev pub tree_change : (t w : VolumeState) (comments : List Comment) (icons : List Icon) (appls : List Appl) → with_desktop t comments icons appls ≡ w → (id : ℕ) (resource : Bool) (plan : ForkPlanState) → IsForkChange w id resource plan → IsForkChange t id resource plan
 tree_change t w comments icons appls is id resource plan change = record {
   before = change.before;
   after = change.after;

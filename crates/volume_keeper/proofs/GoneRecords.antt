@@ -13,11 +13,11 @@ use Rattle.record_keeper.specs.declared.record.Change.TheVariants.{Remove}
 use Rattle.volume_records.specs.declared.rows.ForkBlock.{ForkBlock}
 use Rattle.volume_records.specs.declared.rows.TableRow.{TableRow}
 use Rattle.volume_records.specs.declared.rows.TableRow.TheVariants as row
-use Rattle.volume_records.specs.Records.{node_key, comment_key, appl_key, node_record, block_record, comment_record, appl_record}
-use Rattle.volume_records.specs.Image.{block_of, fork_blocks, node_of, rows_of, tables_of}
+use Rattle.volume_records.specs.Records.{node_key, comment_record_key, appl_record_key, node_record, block_record, comment_record, appl_record}
+use Rattle.volume_records.specs.Image.{fork_block_of, fork_blocks, node_of, rows_of, tables_of}
 use Rattle.afp_volume.specs.OpenFork.{file_of}
 use Rattle.volume_tree.specs.Shown.{fork_at}
-use Rattle.volume_keeper.specs.Changes.{is_of, taken}
+use Rattle.volume_keeper.specs.Changes.{is_of, removal_of}
 use Rattle.volume_keeper.specs.lemma.Steps.{all_taken, appl_taken, appls_taken, block_taken, comment_taken, fork_taken, node_taken}
 use Rattle.volume_keeper.proofs.PlanSteps.{filter-append, map-append, filter-map, same_number, nodes_by, blocks_by, nodes_in, blocks_in}
 
@@ -122,31 +122,31 @@ row_is_fit rows formed id = fit (find (λ (r : VolumeRow). r.id == id) rows) (fo
 
 -- ---- kind by kind
 
-node_is_taken : (r : VolumeRow) → taken (row.Node (node_of r)) ≡ Remove (node_key r.id)
+node_is_taken : (r : VolumeRow) → removal_of (row.Node (node_of r)) ≡ Remove (node_key r.id)
 unfolding node_record
 node_is_taken r = refl
 
-comment_is_taken : (c : Comment) → taken (row.Comment c) ≡ Remove (comment_key c.node)
+comment_is_taken : (c : Comment) → removal_of (row.Comment c) ≡ Remove (comment_record_key c.node)
 unfolding comment_record
 comment_is_taken c = refl
 
-appl_is_taken : (a : Appl) → taken (row.Appl a) ≡ Remove (appl_key a.creator a.node)
+appl_is_taken : (a : Appl) → removal_of (row.Appl a) ≡ Remove (appl_record_key a.creator a.node)
 unfolding appl_record
 appl_is_taken a = refl
 
-block_is_taken : (id : ℕ) (f : Bool) (b : Block) → taken (row.Block (block_of id f b)) ≡ block_taken id f b
+block_is_taken : (id : ℕ) (f : Bool) (b : Block) → removal_of (row.Block (fork_block_of id f b)) ≡ block_taken id f b
 unfolding block_record
 block_is_taken id f b = refl
 
-blocks_are_taken : (id : ℕ) (f : Bool) (bs : List Block) → map taken (map (λ b. row.Block b) (map (block_of id f) bs)) ≡ map (block_taken id f) bs
+blocks_are_taken : (id : ℕ) (f : Bool) (bs : List Block) → map removal_of (map (λ b. row.Block b) (map (fork_block_of id f) bs)) ≡ map (block_taken id f) bs
 blocks_are_taken id f [] = refl
 blocks_are_taken id f (b ∷ bs) = λ i. block_is_taken id f b i ∷ blocks_are_taken id f bs i
 
-appls_are_taken : (id : ℕ) (xs : List Appl) → map taken (map (λ a. row.Appl a) (filter (λ (a : Appl). a.node == id) xs)) ≡ appls_taken id xs
+appls_are_taken : (id : ℕ) (xs : List Appl) → map removal_of (map (λ a. row.Appl a) (filter (λ (a : Appl). a.node == id) xs)) ≡ appls_taken id xs
 appls_are_taken id [] = refl
 appls_are_taken id (a ∷ xs) = elim (a.node == id) as (λ b. a.node == id ≡ b
-    → map taken (map (λ a. row.Appl a) (cond b (a ∷ filter (λ (a : Appl). a.node == id) xs) (filter (λ (a : Appl). a.node == id) xs))) ≡ map (appl_taken id) (cond b (a ∷ filter (λ (a : Appl). a.node == id) xs) (filter (λ (a : Appl). a.node == id) xs))) [
-      | true ↦ λ e. let here = appl_is_taken a ∙ ap (λ n. Remove (appl_key a.creator n)) (same_number a.node id e) in λ i. here i ∷ appls_are_taken id xs i
+    → map removal_of (map (λ a. row.Appl a) (cond b (a ∷ filter (λ (a : Appl). a.node == id) xs) (filter (λ (a : Appl). a.node == id) xs))) ≡ map (appl_taken id) (cond b (a ∷ filter (λ (a : Appl). a.node == id) xs) (filter (λ (a : Appl). a.node == id) xs))) [
+      | true ↦ λ e. let here = appl_is_taken a ∙ ap (λ n. Remove (appl_record_key a.creator n)) (same_number a.node id e) in λ i. here i ∷ appls_are_taken id xs i
       | false ↦ λ e. appls_are_taken id xs
     ] refl
 
@@ -154,21 +154,21 @@ pub nil_behind : {A : Type 0} (xs : List A) → xs ++ [] ≡ xs
 nil_behind [] = refl
 nil_behind (x ∷ xs) = ap (λ l. x ∷ l) (nil_behind xs)
 
-both_forks : (r : VolumeRow) → map taken (blocks_in (r ∷ [])) ≡ map (block_taken r.id false) (blocks_of r.data_fork) ++ map (block_taken r.id true) (blocks_of r.resource_fork)
+both_forks : (r : VolumeRow) → map removal_of (blocks_in (r ∷ [])) ≡ map (block_taken r.id false) (blocks_of r.data_fork) ++ map (block_taken r.id true) (blocks_of r.resource_fork)
 both_forks r =
-    let one : List ForkBlock = map (block_of r.id false) (blocks_of r.data_fork) in
-    let two : List ForkBlock = map (block_of r.id true) (blocks_of r.resource_fork) in
-    ap (λ l. map taken (map (λ b. row.Block b) l)) (nil_behind (fork_blocks r))
-    ∙ ap (map taken) (map-append (λ b. row.Block b) one two)
-    ∙ map-append taken (map (λ b. row.Block b) one) (map (λ b. row.Block b) two)
+    let one : List ForkBlock = map (fork_block_of r.id false) (blocks_of r.data_fork) in
+    let two : List ForkBlock = map (fork_block_of r.id true) (blocks_of r.resource_fork) in
+    ap (λ l. map removal_of (map (λ b. row.Block b) l)) (nil_behind (fork_blocks r))
+    ∙ ap (map removal_of) (map-append (λ b. row.Block b) one two)
+    ∙ map-append removal_of (map (λ b. row.Block b) one) (map (λ b. row.Block b) two)
     ∙ (λ i. blocks_are_taken r.id false (blocks_of r.data_fork) i ++ blocks_are_taken r.id true (blocks_of r.resource_fork) i)
 
-row_taken : (id : ℕ) (o : Option VolumeRow) → IfSome o (λ r. r.id ≡ id) → map taken (nodes_in (cons_option o [])) ≡ node_taken id o
+row_taken : (id : ℕ) (o : Option VolumeRow) → IfSome o (λ r. r.id ≡ id) → map removal_of (nodes_in (cons_option o [])) ≡ node_taken id o
 row_taken id None e = refl
 row_taken id (Some r) e = ap (λ c. c ∷ []) (node_is_taken r ∙ ap (λ n. Remove (node_key n)) e)
 
 forks_taken : (id : ℕ) (o : Option VolumeRow) → IfSome o (λ r. r.id ≡ id) → IfSome o HasFitForks
-    → map taken (blocks_in (cons_option o [])) ≡ fork_taken id false (option_map (fork_of false) (file_of o)) ++ fork_taken id true (option_map (fork_of true) (file_of o))
+    → map removal_of (blocks_in (cons_option o [])) ≡ fork_taken id false (option_map (fork_of false) (file_of o)) ++ fork_taken id true (option_map (fork_of true) (file_of o))
 forks_taken id None e f = refl
 forks_taken id (Some r) e f =
     both_forks r
@@ -178,9 +178,9 @@ forks_taken id (Some r) e f =
       | false ↦ λ d. ap (λ n. map (block_taken n false) (blocks_of r.data_fork) ++ map (block_taken n true) (blocks_of r.resource_fork)) e
     ] refl
 
-comments_taken : (id : ℕ) (o : Option Comment) → IfSome o (λ (c : Comment). c.node ≡ id) → map taken (map (λ c. row.Comment c) (cons_option o [])) ≡ comment_taken id o
+comments_taken : (id : ℕ) (o : Option Comment) → IfSome o (λ (c : Comment). c.node ≡ id) → map removal_of (map (λ c. row.Comment c) (cons_option o [])) ≡ comment_taken id o
 comments_taken id None e = refl
-comments_taken id (Some c) e = ap (λ c. c ∷ []) (comment_is_taken c ∙ ap (λ n. Remove (comment_key n)) e)
+comments_taken id (Some c) e = ap (λ c. c ∷ []) (comment_is_taken c ∙ ap (λ n. Remove (comment_record_key n)) e)
 
 never : {A : Type 0} (xs : List A) → filter (λ x. false) xs ≡ []
 never [] = refl
@@ -208,7 +208,7 @@ found_is f n xs = of_found (find (λ x. f x == n) xs) (λ y e. found_number f n 
     of_found (Some y) h = h y refl
 
 -- all records of a node, as the code takes them away
-pub all_are_taken : (v : VolumeState) → IsSoundVolume v → (id : ℕ) → all_taken id v ≡ map taken (filter (is_of id) (rows_of (tables_of v)))
+pub all_are_taken : (v : VolumeState) → IsSoundVolume v → (id : ℕ) → all_taken id v ≡ map removal_of (filter (is_of id) (rows_of (tables_of v)))
 unfolding row_at fork_at
 all_are_taken v sound id =
     let at : Option VolumeRow = find (λ (r : VolumeRow). r.id == id) v.rows in
@@ -220,9 +220,9 @@ all_are_taken v sound id =
     let c : List TableRow = map (λ c. row.Comment c) (cons_option (find (λ (c : Comment). c.node == id) v.comments) []) in
     let a : List TableRow = map (λ a. row.Appl a) (filter (λ (a : Appl). a.node == id) v.appls) in
     sym (
-    ap (map taken) (own_rows id v ∙ (λ i. nodes_in (rows i) ++ (blocks_in (rows i) ++ (map (λ c. row.Comment c) (comments i) ++ a))))
-    ∙ map-append taken n (b ++ (c ++ a))
-    ∙ ap (λ l. map taken n ++ l) (map-append taken b (c ++ a) ∙ ap (λ l. map taken b ++ l) (map-append taken c a))
+    ap (map removal_of) (own_rows id v ∙ (λ i. nodes_in (rows i) ++ (blocks_in (rows i) ++ (map (λ c. row.Comment c) (comments i) ++ a))))
+    ∙ map-append removal_of n (b ++ (c ++ a))
+    ∙ ap (λ l. map removal_of n ++ l) (map-append removal_of b (c ++ a) ∙ ap (λ l. map removal_of b ++ l) (map-append removal_of c a))
     ∙ (λ i. row_taken id at own i ++ (forks_taken id at own (row_is_fit v.rows (rows_formed v sound) id) i ++ (comments_taken id (find (λ (c : Comment). c.node == id) v.comments) (found_is (λ (c : Comment). c.node) id v.comments) i ++ appls_are_taken id v.appls i)))
     ∙ ap (λ l. node_taken id at ++ l) (append_assoc (fork_taken id false (option_map (fork_of false) (file_of at))) (fork_taken id true (option_map (fork_of true) (file_of at))) (comment_taken id (find (λ (c : Comment). c.node == id) v.comments) ++ appls_taken id v.appls))
     )

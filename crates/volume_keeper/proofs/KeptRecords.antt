@@ -10,7 +10,7 @@ use Rattle.volume_records.specs.declared.rows.TableRow.TheVariants as row
 use Rattle.volume_records.specs.Image.{tables_of}
 use Rattle.volume_tree.specs.Planned.{PlanState, planned}
 use Rattle.volume_tree.specs.TouchedNodes.{IsTouched}
-use Rattle.volume_keeper.specs.Changes.{kept_records, put}
+use Rattle.volume_keeper.specs.Changes.{kept_records, put_of}
 use Rattle.volume_keeper.specs.lemma.Steps.{nodes_put}
 use Rattle.volume_keeper.proofs.GoneRecords.{ids_rise, rows_formed}
 use Rattle.volume_keeper.proofs.TouchedOrder.{touched_are_put}
@@ -21,8 +21,8 @@ module _ (t : VolumeState) (comments : List Comment) (icons : List Icon) (appls 
   tree_formed = rows_formed (planned p (with_desktop t comments icons appls)) sound
 
   pub kept_are_put : (ids : List NodeId) → IsTouched p ids → (old : List Change)
-      → (old ++ put (row.Head (tables_of (planned p t)).head) ∷ []) ++ nodes_put (planned p t).rows ids ≡ old ++ map put (kept_records p (planned p (with_desktop t comments icons appls)))
+      → (old ++ put_of (row.Head (tables_of (planned p t)).head) ∷ []) ++ nodes_put (planned p t).rows ids ≡ old ++ map put_of (kept_records p (planned p (with_desktop t comments icons appls)))
   unfolding planned
   kept_are_put ids touched old =
-      append_assoc old (put (row.Head (tables_of (planned p t)).head) ∷ []) (nodes_put (planned p t).rows ids)
-      ∙ ap (λ l. old ++ put (row.Head (tables_of (planned p t)).head) ∷ l) (touched_are_put p ids touched (planned p t).rows (ids_rise (planned p (with_desktop t comments icons appls)) sound))
+      append_assoc old (put_of (row.Head (tables_of (planned p t)).head) ∷ []) (nodes_put (planned p t).rows ids)
+      ∙ ap (λ l. old ++ put_of (row.Head (tables_of (planned p t)).head) ∷ l) (touched_are_put p ids touched (planned p t).rows (ids_rise (planned p (with_desktop t comments icons appls)) sound))

@@ -12,7 +12,7 @@ use Rattle.afp_volume.specs.VolumeState.{Row as VolumeRow, Comment, Icon, Appl, 
 use Rattle.afp_volume.specs.SoundVolume.{IsSoundVolume, is_formed_volume, is_in_place, is_tree, has_node, last_next_id}
 use Rattle.record_keeper.specs.declared.record.Change.{Change}
 use Rattle.record_keeper.specs.Records.{key_of}
-use Rattle.record_keeper.specs.Reading.{IsBelow, Rises}
+use Rattle.record_keeper.specs.Reading.{IsBelow, RisesByKey}
 use Rattle.volume_records.specs.declared.rows.ForkBlock.{ForkBlock}
 use Rattle.volume_records.specs.declared.rows.Head.{Head}
 use Rattle.volume_records.specs.declared.rows.TableRow.{TableRow}
@@ -22,7 +22,7 @@ use Rattle.volume_records.specs.Image.{image, node_of, rows_of, tables_of, fork_
 use Rattle.volume_records.specs.Laws.{ImagesRise}
 use Rattle.volume_tree.specs.Planned.{PlanState, IsPlan, IsNew, planned, gone_rows, come_rows, next_after}
 use Rattle.volume_tree.specs.TouchedNodes.{is_touched}
-use Rattle.volume_keeper.specs.Changes.{is_of, put, taken, gone_records, kept_records, tree_changes_of}
+use Rattle.volume_keeper.specs.Changes.{is_of, put_of, removal_of, gone_records, kept_records, tree_changes_of}
 use Rattle.volume_keeper.specs.Laws.{are_of_one_key}
 use Rattle.volume_keeper.proofs.LookUps.{are_one, any_at, below_filter, each_found, first_found, found, itself, key_of_row, left_over, one_of, AreFound}
 use Rattle.volume_keeper.proofs.PlanSteps.{SameBut, gone_volume, later_rows, later_same, left_rows, is_other, nodes_in, blocks_in, passing, same_number, first_false, second_false}
@@ -35,9 +35,9 @@ both_true a b p q = ap (λ x. x && b) p ∙ q
 
 -- ---- rising keys are apart
 
-rises_filter : (p : TableRow → Bool) (xs : List TableRow) → Rises (map record_of xs) → Rises (map record_of (filter p xs))
+rises_filter : (p : TableRow → Bool) (xs : List TableRow) → RisesByKey (map record_of xs) → RisesByKey (map record_of (filter p xs))
 rises_filter p [] s = tt
-rises_filter p (x ∷ xs) s = elim (p x) as (λ t. Rises (map record_of (cond t (x ∷ filter p xs) (filter p xs)))) [
+rises_filter p (x ∷ xs) s = elim (p x) as (λ t. RisesByKey (map record_of (cond t (x ∷ filter p xs) (filter p xs)))) [
   | true ↦ (below_filter (key_of_row x) p xs s.0, rises_filter p xs s.1)
   | false ↦ rises_filter p xs s.1
 ]
@@ -61,11 +61,11 @@ module _ (make : TableRow → Change) (key_is : (x : TableRow) → key_of (make 
   none_alike x [] s = refl
   none_alike x (y ∷ ys) s = ap (λ b. b || list_any (are_of_one_key (make x)) (map make ys)) ((λ i. bytes_eq (key_is x i) (key_is y i)) ∙ not_equal (key_of_row x) (key_of_row y) (ap is_lt s.0)) ∙ none_alike x ys s.1
 
-  rising_apart : (xs : List TableRow) → Rises (map record_of xs) → are_apart are_of_one_key (map make xs) ≡ true
+  rising_apart : (xs : List TableRow) → RisesByKey (map record_of xs) → are_apart are_of_one_key (map make xs) ≡ true
   rising_apart [] s = refl
   rising_apart (x ∷ xs) s = both_true (not (list_any (are_of_one_key (make x)) (map make xs))) _ (ap not (none_alike x xs s.0)) (rising_apart xs s.1)
 
--- ---- what is put has none of the keys that are taken away
+-- ---- what is put_of has none of the keys that are removal_of away
 
 abbrev EachAway : List TableRow → List TableRow → Type 0
 EachAway gone [] = Unit {0}
@@ -77,17 +77,17 @@ not_bytes k q e = elim (bytes_eq k q) as (λ t. bytes_eq k q ≡ t → t ≡ fal
   | false ↦ λ t. refl
 ] refl
 
-front_away : (y : TableRow) (gone xs : List TableRow) → EachAway (y ∷ gone) xs → list_any (are_of_one_key (taken y)) (map put xs) ≡ false
+front_away : (y : TableRow) (gone xs : List TableRow) → EachAway (y ∷ gone) xs → list_any (are_of_one_key (removal_of y)) (map put_of xs) ≡ false
 front_away y gone [] a = refl
-front_away y gone (x ∷ xs) a = ap (λ b. b || list_any (are_of_one_key (taken y)) (map put xs)) (not_bytes (key_of_row y) (key_of_row x) (first_false (are_one (key_of_row x) (key_of_row y)) _ a.0)) ∙ front_away y gone xs a.1
+front_away y gone (x ∷ xs) a = ap (λ b. b || list_any (are_of_one_key (removal_of y)) (map put_of xs)) (not_bytes (key_of_row y) (key_of_row x) (first_false (are_one (key_of_row x) (key_of_row y)) _ a.0)) ∙ front_away y gone xs a.1
 
 rest_away : (y : TableRow) (gone xs : List TableRow) → EachAway (y ∷ gone) xs → EachAway gone xs
 rest_away y gone [] a = tt
 rest_away y gone (x ∷ xs) a = (second_false (are_one (key_of_row x) (key_of_row y)) _ a.0, rest_away y gone xs a.1)
 
-all_away : (gone xs : List TableRow) → EachAway gone xs → list_all (λ c. not (list_any (are_of_one_key c) (map put xs))) (map taken gone) ≡ true
+all_away : (gone xs : List TableRow) → EachAway gone xs → list_all (λ c. not (list_any (are_of_one_key c) (map put_of xs))) (map removal_of gone) ≡ true
 all_away [] xs a = refl
-all_away (y ∷ gone) xs a = both_true (not (list_any (are_of_one_key (taken y)) (map put xs))) _ (ap not (front_away y gone xs a)) (all_away gone xs (rest_away y gone xs a))
+all_away (y ∷ gone) xs a = both_true (not (list_any (are_of_one_key (removal_of y)) (map put_of xs))) _ (ap not (front_away y gone xs a)) (all_away gone xs (rest_away y gone xs a))
 
 nothing_away : (xs : List TableRow) → EachAway [] xs
 nothing_away [] = tt
@@ -116,20 +116,20 @@ passing_away gone t (r ∷ rows) a = elim (t r.id) as (λ b. EachAway gone (map 
   | false ↦ passing_away gone t rows a.1
 ]
 
--- what is found among those that are left was not taken away
+-- what is found among those that are left was not removal_of away
 left_away : (b : Bool) (o p : Option (List ℕ)) → cond b None o ≡ p → is_some p ≡ true → b ≡ false
 left_away true o p e s = absurd (let h : false ≡ true = ap is_some e ∙ s in cc h)
 left_away false o p e s = refl
 
-module _ (v : VolumeState) (id : NodeId) (rises : Rises (image v)) where
+module _ (v : VolumeState) (id : NodeId) (rises : RisesByKey (image v)) where
   abbrev goes : List TableRow
   goes = filter (is_of id.0) (rows_of (tables_of v))
 
   found_away : (q : List ℕ) → is_some (found (rows_of (tables_of (gone_volume (Some id) v))) q) ≡ true → any_at goes q ≡ false
   found_away q s = left_away (any_at goes q) (found (rows_of (tables_of v)) q) _ (left_over (is_of id.0) (rows_of (tables_of v)) rises q ∙ ap (λ l. found l q) (left_rows id v)) s
 
-  left_rise : Rises (image (gone_volume (Some id) v))
-  left_rise = subst (λ (l : List TableRow). Rises (map record_of l)) (left_rows id v) (rises_filter (is_other id.0) (rows_of (tables_of v)) rises)
+  left_rise : RisesByKey (image (gone_volume (Some id) v))
+  left_rise = subst (λ (l : List TableRow). RisesByKey (map record_of l)) (left_rows id v) (rises_filter (is_other id.0) (rows_of (tables_of v)) rises)
 
   nodes_away : (rows : List VolumeRow) → AreFound (rows_of (tables_of (gone_volume (Some id) v))) (nodes_in rows) → RowsAway goes rows
   nodes_away [] f = tt
@@ -263,9 +263,9 @@ below_passing k t (r ∷ rows) b = elim (t r.id) as (λ s. IsBelow k (map record
   | false ↦ below_passing k t rows b.1
 ]
 
-rises_passing : (t : ℕ → Bool) (rows : List VolumeRow) → Rises (map record_of (nodes_in rows)) → Rises (map record_of (passing t rows))
+rises_passing : (t : ℕ → Bool) (rows : List VolumeRow) → RisesByKey (map record_of (nodes_in rows)) → RisesByKey (map record_of (passing t rows))
 rises_passing t [] s = tt
-rises_passing t (r ∷ rows) s = elim (t r.id) as (λ b. Rises (map record_of (map (λ (r : VolumeRow). row.Node (node_of r)) (cond b (r ∷ filter (λ r. t r.id) rows) (filter (λ r. t r.id) rows))))) [
+rises_passing t (r ∷ rows) s = elim (t r.id) as (λ b. RisesByKey (map record_of (map (λ (r : VolumeRow). row.Node (node_of r)) (cond b (r ∷ filter (λ r. t r.id) rows) (filter (λ r. t r.id) rows))))) [
   | true ↦ (below_passing (key_of_row (row.Node (node_of r))) t rows s.0, rises_passing t rows s.1)
   | false ↦ rises_passing t rows s.1
 ]
@@ -273,7 +273,7 @@ rises_passing t (r ∷ rows) s = elim (t r.id) as (λ b. Rises (map record_of (m
 abbrev behind : VolumeState → List TableRow
 behind w = blocks_in w.rows ++ (map (λ c. row.Comment c) w.comments ++ (map (λ i. row.Icon i) w.icons ++ map (λ a. row.Appl a) w.appls))
 
-kept_rise : (p : PlanState) (w : VolumeState) → Rises (image w) → Rises (map record_of (kept_records p w))
+kept_rise : (p : PlanState) (w : VolumeState) → RisesByKey (image w) → RisesByKey (map record_of (kept_records p w))
 kept_rise p w s = (
   below_passing (key_of_row (row.Head (tables_of w).head)) (is_touched p) w.rows (below_front (key_of_row (row.Head (tables_of w).head)) (nodes_in w.rows) (behind w) s.0),
   rises_passing (is_touched p) w.rows (rises_parts (nodes_in w.rows) (behind w) s.1).0,
@@ -301,14 +301,14 @@ module _ (rising : ImagesRise) (v : VolumeState) (p : PlanState) (sound : IsSoun
         passing_away goes (is_touched p) (later_rows p (come_rows p.come (gone_rows p.gone v.rows))) later,
       )
 
-  gone_rise : (gone : Option NodeId) → Rises (map record_of (gone_records gone v))
+  gone_rise : (gone : Option NodeId) → RisesByKey (map record_of (gone_records gone v))
   gone_rise None = tt
   gone_rise (Some id) = rises_filter (is_of id.0) (rows_of (tables_of v)) (rising v sound)
 
 pub keys_once : ImagesRise → (v : VolumeState) (p : PlanState) → IsSoundVolume v → IsPlan v p → are_apart are_of_one_key (tree_changes_of v p) ≡ true
 unfolding tree_changes_of
 keys_once rising v p sound plan =
-    apart-append are_of_one_key (map taken (gone_records p.gone v)) (map put (kept_records p (planned p v)))
-    (rising_apart taken (λ x. refl) (gone_records p.gone v) (gone_rise rising v p sound plan p.gone))
-    (rising_apart put (λ x. refl) (kept_records p (planned p v)) (kept_rise p (planned p v) (rising (planned p v) plan.sound)))
+    apart-append are_of_one_key (map removal_of (gone_records p.gone v)) (map put_of (kept_records p (planned p v)))
+    (rising_apart removal_of (λ x. refl) (gone_records p.gone v) (gone_rise rising v p sound plan p.gone))
+    (rising_apart put_of (λ x. refl) (kept_records p (planned p v)) (kept_rise p (planned p v) (rising (planned p v) plan.sound)))
     (all_away (gone_records p.gone v) (kept_records p (planned p v)) (kept_away rising v p sound plan p.gone refl))

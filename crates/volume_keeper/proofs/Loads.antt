@@ -10,15 +10,15 @@ use Rattle.record_keeper.specs.declared.record.Change.{Change}
 use Rattle.record_keeper.specs.declared.reading.ReadAllFault.{ReadAllFault}
 use Rattle.record_keeper.specs.declared.reading.ReadAllFault.TheVariants as read
 use Rattle.record_keeper.specs.Records.{Records, Makes, changed, same_records}
-use Rattle.record_keeper.specs.Reading.{IsAll, IsFaultOf, Rises, entry_of, most_records}
+use Rattle.record_keeper.specs.Reading.{IsAll, IsFaultOf, RisesByKey, entry_of, most_records}
 use Rattle.volume_records.specs.declared.rows.Reason.TheVariants.{Limit}
-use Rattle.volume_records.specs.FirstBad.{first_bad, first_bad_record, too_many}
+use Rattle.volume_records.specs.FirstBad.{first_bad_among, first_bad_record, too_many}
 use Rattle.volume_records.specs.Image.{entries_of, image, kept_image, records_in, rows_of, tables_of}
 use Rattle.volume_records.specs.KeyOrder.{with_head_and_root}
 use Rattle.volume_records.specs.Laws.{ImagesRise}
 use Rattle.volume_keeper.specs.declared.loading.LoadFault.{LoadFault}
 use Rattle.volume_keeper.specs.declared.loading.LoadFault.TheVariants as fault
-use Rattle.volume_keeper.specs.Changes.{put}
+use Rattle.volume_keeper.specs.Changes.{put_of}
 use Rattle.volume_keeper.specs.Loading.{Becomes, IsFaultIn, IsLoad}
 use Rattle.volume_keeper.specs.lemma.Loading.{IsMadeOf, IsMake, IsReadFault}
 use Rattle.volume_keeper.specs.Whole.{HeldValue}
@@ -29,14 +29,14 @@ same_some x y e = cc e
 
 -- ---- a fresh volume
 
-made_one : ImagesRise → (name : List ℕ) (now : ℕ) → IsSoundVolume (fresh_volume name now) → (held : HeldValue) → held.state ≡ fresh_volume name now → (cs : List Change) → cs ≡ map put (rows_of (tables_of (fresh_volume name now)))
+made_one : ImagesRise → (name : List ℕ) (now : ℕ) → IsSoundVolume (fresh_volume name now) → (held : HeldValue) → held.state ≡ fresh_volume name now → (cs : List Change) → cs ≡ map put_of (rows_of (tables_of (fresh_volume name now)))
     → (old new : Records) → new ≡ changed cs old → entries old ≡ [] → kept_image held.state ≡ new
 made_one rising name now sound held is cs all old new e none =
     ap kept_image is
     ∙ sym (all_put (rows_of (tables_of (fresh_volume name now))) (rising (fresh_volume name now) sound) old none)
     ∙ ap (λ l. changed l old) (sym all) ∙ sym e
 
-pub made : ImagesRise → (name : List ℕ) (now : ℕ) → IsSoundVolume (fresh_volume name now) → (held : HeldValue) → held.state ≡ fresh_volume name now → (cs : List Change) → cs ≡ map put (rows_of (tables_of (fresh_volume name now)))
+pub made : ImagesRise → (name : List ℕ) (now : ℕ) → IsSoundVolume (fresh_volume name now) → (held : HeldValue) → held.state ≡ fresh_volume name now → (cs : List Change) → cs ≡ map put_of (rows_of (tables_of (fresh_volume name now)))
     → (old new : Option Records) → Makes (changed cs) old new → Becomes (IsMake name now (Ok held)) old new
 made rising name now sound held is cs all old None m = tt
 made rising name now sound held is cs all None (Some new) m = absurd (cc)
@@ -51,7 +51,7 @@ there_and_back (r ∷ rs) = ap (λ (x : List Record). r ∷ x) (there_and_back r
 records_are : (kept : Records) (rs : List Record) → IsAll kept rs → records_in kept ≡ rs
 records_are kept rs all = ap (λ (es : List (List ℕ × List ℕ)). map (λ e. record { key = e.0; value = e.1 }) es) all ∙ there_and_back rs
 
-image_is : (v : VolumeState) (kept : Records) (rs : List Record) → Rises rs → IsAll kept rs → image v ≡ rs → kept_image v ≡ kept
+image_is : (v : VolumeState) (kept : Records) (rs : List Record) → RisesByKey rs → IsAll kept rs → image v ≡ rs → kept_image v ≡ kept
 image_is v kept rs rises all e =
     ap (λ (l : List Record). from_sorted (entries_of l)) e
     ∙ same_entries_map (from_sorted (entries_of rs)) kept (entries-from_sorted by_bytes (entries_of rs) (sorted_entries rs rises) ∙ sym all)
@@ -62,7 +62,7 @@ no_entries (r ∷ rs) e = absurd (cc)
 
 -- ---- a volume that was there
 
-loaded_one : (name : List ℕ) (now : ℕ) (records : List Record) → Rises records → (records ≡ [] → ⊥) → (result : Result HeldValue LoadFault) → IfOk result (λ held. IsMadeOf name records held.state) → IfErr result (IsFaultIn name records)
+loaded_one : (name : List ℕ) (now : ℕ) (records : List Record) → RisesByKey records → (records ≡ [] → ⊥) → (result : Result HeldValue LoadFault) → IfOk result (λ held. IsMadeOf name records held.state) → IfErr result (IsFaultIn name records)
     → (old new : Records) → new ≡ old → IsAll new records → IsLoad name now result old new
 loaded_one name now records rises some (Ok held) ok err old new same all =
     let told : records_in old ≡ records = ap records_in (sym same) ∙ records_are new records all in
@@ -74,7 +74,7 @@ loaded_one name now records rises some (Ok held) ok err old new same all =
     }
 loaded_one name now records rises some (Err f) ok err old new same all = (same, subst (λ (rs : List Record). IsFaultIn name rs f) (sym (ap records_in (sym same) ∙ records_are new records all)) err)
 
-pub loaded : (name : List ℕ) (now : ℕ) (records : List Record) → Rises records → (records ≡ [] → ⊥) → (result : Result HeldValue LoadFault) → IfOk result (λ held. IsMadeOf name records held.state) → IfErr result (IsFaultIn name records)
+pub loaded : (name : List ℕ) (now : ℕ) (records : List Record) → RisesByKey records → (records ≡ [] → ⊥) → (result : Result HeldValue LoadFault) → IfOk result (λ held. IsMadeOf name records held.state) → IfErr result (IsFaultIn name records)
     → (old new : Option Records) → Makes same_records old new → IfSome new (λ kept. IsAll kept records) → Becomes (IsLoad name now result) old new
 loaded name now records rises some result ok err old None m all = tt
 loaded name now records rises some result ok err None (Some new) m all = absurd (cc)
@@ -121,7 +121,7 @@ over_many : (name : List ℕ) (es : List (List ℕ × List ℕ)) (key : List ℕ
 over_many name [] key e = absurd (cc)
 over_many name (x ∷ es) key e =
     let two = one_over most_records (x ∷ es) key e in
-    ap (λ b. cond b (too_many (drop most_records (map record_by (x ∷ es)))) (first_bad name (with_head_and_root (map record_by (x ∷ es))))) two.0 ∙ two.1
+    ap (λ b. cond b (too_many (drop most_records (map record_by (x ∷ es)))) (first_bad_among name (with_head_and_root (map record_by (x ∷ es))))) two.0 ∙ two.1
 
 refused_one : (name : List ℕ) (f : ReadAllFault) (g : LoadFault) → IsReadFault f g → (kept : Records) → IsFaultOf kept f → IsFaultIn name (records_in kept) g
 refused_one name (read.TooMany key) g is kept e = subst (IsFaultIn name (records_in kept)) (sym is) (over_many name (entries kept) key e)

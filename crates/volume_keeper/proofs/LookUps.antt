@@ -13,11 +13,11 @@ use Rattle.record_keeper.specs.declared.record.Record.{Record}
 use Rattle.record_keeper.specs.declared.record.Change.{Change}
 use Rattle.record_keeper.specs.declared.record.Change.TheVariants.{Put, Remove}
 use Rattle.record_keeper.specs.Records.{Records, changed}
-use Rattle.record_keeper.specs.Reading.{IsBelow, Rises}
+use Rattle.record_keeper.specs.Reading.{IsBelow, RisesByKey}
 use Rattle.volume_records.specs.declared.rows.TableRow.{TableRow}
 use Rattle.volume_records.specs.Records.{record_of}
 use Rattle.volume_records.specs.Image.{entries_of}
-use Rattle.volume_keeper.specs.Changes.{put, taken}
+use Rattle.volume_keeper.specs.Changes.{put_of, removal_of}
 
 abbrev pub by_bytes : List ℕ → List ℕ → Ordering
 by_bytes = slice_cmp nat_cmp
@@ -77,12 +77,12 @@ below_entries : (k : List ℕ) (rs : List Record) → IsBelow k rs → T (below_
 below_entries k [] b = tt
 below_entries k (r ∷ rs) b = both _ _ (subst (λ o. T (is_lt o)) (sym b.0) tt) (below_entries k rs b.1)
 
-pub sorted_entries : (rs : List Record) → Rises rs → T (is_sorted by_bytes (entries_of rs))
+pub sorted_entries : (rs : List Record) → RisesByKey rs → T (is_sorted by_bytes (entries_of rs))
 sorted_entries [] s = tt
 sorted_entries (r ∷ rs) s = both _ _ (below_entries r.key rs s.0) (sorted_entries rs s.1)
 
 -- the map of rising records has at a key what they have
-pub got : (xs : List TableRow) (q : List ℕ) → Rises (map record_of xs) → get (from_sorted {R = by_bytes} (entries_of (map record_of xs))) q ≡ found xs q
+pub got : (xs : List TableRow) (q : List ℕ) → RisesByKey (map record_of xs) → get (from_sorted {R = by_bytes} (entries_of (map record_of xs))) q ≡ found xs q
 got xs q s = get-from_sorted by_bytes (entries_of (map record_of xs)) q (sorted_entries (map record_of xs) s) ∙ found_entries xs q
 
 -- ---- rising keys
@@ -117,7 +117,7 @@ found_behind x all (y ∷ ys) b f =
     let higher : by_bytes (key_of_row y) (key_of_row x) ≡ Greater = nat_list_cmp_total.antisymm (key_of_row y) (key_of_row x) ∙ ap ordering_reverse b.0 in
     (ap (λ o. cond (is_eq o) (Some (record_of x).value) (found all (key_of_row y))) higher ∙ f.0, found_behind x all ys b.1 f.1)
 
-pub each_found : (xs : List TableRow) → Rises (map record_of xs) → AreFound xs xs
+pub each_found : (xs : List TableRow) → RisesByKey (map record_of xs) → AreFound xs xs
 each_found [] s = tt
 each_found (x ∷ xs) s = (ap (λ b. cond b (Some (record_of x).value) (found xs (key_of_row x))) (itself (key_of_row x)), found_behind x xs xs s.0 (each_found xs s.1))
 
@@ -143,8 +143,8 @@ after-append [] ds q o = refl
 after-append (Put k v ∷ cs) ds q o = after-append cs ds q (cond (are_one q k) (Some v) o)
 after-append (Remove k ∷ cs) ds q o = after-append cs ds q (cond (are_one q k) None o)
 
--- rows that are found in others are put: there is what those have
-pub after_puts : (all xs : List TableRow) (q : List ℕ) (o : Option (List ℕ)) → AreFound all xs → after (map put xs) q o ≡ cond (any_at xs q) (found all q) o
+-- rows that are found in others are put_of: there is what those have
+pub after_puts : (all xs : List TableRow) (q : List ℕ) (o : Option (List ℕ)) → AreFound all xs → after (map put_of xs) q o ≡ cond (any_at xs q) (found all q) o
 after_puts all [] q o f = refl
 after_puts all (x ∷ xs) q o f =
     after_puts all xs q (cond (are_one q (key_of_row x)) (Some (record_of x).value) o) f.1
@@ -157,7 +157,7 @@ after_puts all (x ∷ xs) q o f =
     same_both true p = refl
     same_both false p = refl
 
-after_taken : (xs : List TableRow) (q : List ℕ) (o : Option (List ℕ)) → after (map taken xs) q o ≡ cond (any_at xs q) None o
+after_taken : (xs : List TableRow) (q : List ℕ) (o : Option (List ℕ)) → after (map removal_of xs) q o ≡ cond (any_at xs q) None o
 after_taken [] q o = refl
 after_taken (x ∷ xs) q o = after_taken xs q (cond (are_one q (key_of_row x)) None o) ∙ joined (any_at xs q) (are_one q (key_of_row x)) o
   where
@@ -167,8 +167,8 @@ after_taken (x ∷ xs) q o = after_taken xs q (cond (are_one q (key_of_row x)) N
     joined false true o = refl
     joined false false o = refl
 
--- some rows among rising ones are taken away: the others are left
-pub left_over : (p : TableRow → Bool) (xs : List TableRow) → Rises (map record_of xs) → (q : List ℕ) → cond (any_at (filter p xs) q) None (found xs q) ≡ found (filter (λ x. not (p x)) xs) q
+-- some rows among rising ones are removal_of away: the others are left
+pub left_over : (p : TableRow → Bool) (xs : List TableRow) → RisesByKey (map record_of xs) → (q : List ℕ) → cond (any_at (filter p xs) q) None (found xs q) ≡ found (filter (λ x. not (p x)) xs) q
 left_over p [] s q = refl
 left_over p (x ∷ xs) s q = elim (are_one q (key_of_row x)) as (λ b. are_one q (key_of_row x) ≡ b
     → cond (any_at (cond (p x) (x ∷ filter p xs) (filter p xs)) q) None (cond b (Some (record_of x).value) (found xs q)) ≡ found (cond (not (p x)) (x ∷ filter (λ x. not (p x)) xs) (filter (λ x. not (p x)) xs)) q) [
@@ -187,7 +187,7 @@ left_over p (x ∷ xs) s q = elim (are_one q (key_of_row x)) as (λ b. are_one q
           ]
     ] refl
 
-pub after_gone : (p : TableRow → Bool) (xs : List TableRow) → Rises (map record_of xs) → (q : List ℕ) → after (map taken (filter p xs)) q (found xs q) ≡ found (filter (λ x. not (p x)) xs) q
+pub after_gone : (p : TableRow → Bool) (xs : List TableRow) → RisesByKey (map record_of xs) → (q : List ℕ) → after (map removal_of (filter p xs)) q (found xs q) ≡ found (filter (λ x. not (p x)) xs) q
 after_gone p xs s q = after_taken (filter p xs) q (found xs q) ∙ left_over p xs s q
 
 -- where no row has the key, none is found
@@ -198,11 +198,11 @@ none_there (x ∷ xs) q = elim (are_one q (key_of_row x)) as (λ b. cond (b || a
   | false ↦ none_there xs q
 ]
 
--- rising rows that are put where nothing is kept are all that is kept
-pub all_put : (xs : List TableRow) → Rises (map record_of xs) → (m : Records) → entries m ≡ [] → changed (map put xs) m ≡ from_sorted (entries_of (map record_of xs))
+-- rising rows that are put_of where nothing is kept are all that is kept
+pub all_put : (xs : List TableRow) → RisesByKey (map record_of xs) → (m : Records) → entries m ≡ [] → changed (map put_of xs) m ≡ from_sorted (entries_of (map record_of xs))
 all_put xs s m e = alike _ _ (λ q.
-    got_changed (map put xs) m q
-    ∙ ap (after (map put xs) q) (get-entries m q ∙ ap (find by_bytes q) e)
+    got_changed (map put_of xs) m q
+    ∙ ap (after (map put_of xs) q) (get-entries m q ∙ ap (find by_bytes q) e)
     ∙ after_puts xs xs q None (each_found xs s)
     ∙ none_there xs q
     ∙ sym (got xs q s))

@@ -13,7 +13,7 @@ use Rattle.volume_records.specs.declared.rows.ForkBlock.{ForkBlock}
 use Rattle.volume_records.specs.declared.rows.TableRow.{TableRow}
 use Rattle.volume_records.specs.declared.rows.TableRow.TheVariants as row
 use Rattle.volume_records.specs.Records.{record_of, node_record, node_tag, long_bytes}
-use Rattle.volume_records.specs.Image.{node_of, block_of, fork_blocks, rows_of, tables_of}
+use Rattle.volume_records.specs.Image.{node_of, fork_block_of, fork_blocks, rows_of, tables_of}
 use Rattle.volume_tree.specs.Planned.{Move, SetNode, PlanState, IsNew, is_gone, gone_rows, gone_comments, gone_appls, come_rows, moved_rows, set_rows, modified_rows}
 use Rattle.volume_tree.specs.TouchedNodes.{is_come, is_moved, is_set, is_modified, is_touched}
 use Rattle.volume_keeper.specs.Changes.{is_of}
@@ -61,17 +61,17 @@ both_kept false xs ys = refl
 
 -- a test of rows that asks for the node alone
 module _ (t : TableRow → Bool) (p : ℕ → Bool) (of_node : (n : Node) → t (row.Node n) ≡ p n.id) (of_block : (b : ForkBlock) → t (row.Block b) ≡ p b.node) where
-  fork_by : (i : ℕ) (f : Bool) (bs : List Block) → filter t (map (λ b. row.Block b) (map (block_of i f) bs)) ≡ cond (p i) (map (λ b. row.Block b) (map (block_of i f) bs)) []
+  fork_by : (i : ℕ) (f : Bool) (bs : List Block) → filter t (map (λ b. row.Block b) (map (fork_block_of i f) bs)) ≡ cond (p i) (map (λ b. row.Block b) (map (fork_block_of i f) bs)) []
   fork_by i f [] = elim (p i) as (λ s. ◌≡◌ {A = List TableRow} [] (cond s [] [])) [ true ↦ refl | false ↦ refl ]
   fork_by i f (b ∷ bs) =
-      ap (λ s. cond s (row.Block (block_of i f b) ∷ filter t (map (λ b. row.Block b) (map (block_of i f) bs))) (filter t (map (λ b. row.Block b) (map (block_of i f) bs)))) (of_block (block_of i f b))
-      ∙ ap (λ l. cond (p i) (row.Block (block_of i f b) ∷ l) l) (fork_by i f bs)
-      ∙ elim (p i) as (λ s. cond s (row.Block (block_of i f b) ∷ cond s (map (λ b. row.Block b) (map (block_of i f) bs)) []) (cond s (map (λ b. row.Block b) (map (block_of i f) bs)) []) ≡ cond s (row.Block (block_of i f b) ∷ map (λ b. row.Block b) (map (block_of i f) bs)) []) [ true ↦ refl | false ↦ refl ]
+      ap (λ s. cond s (row.Block (fork_block_of i f b) ∷ filter t (map (λ b. row.Block b) (map (fork_block_of i f) bs))) (filter t (map (λ b. row.Block b) (map (fork_block_of i f) bs)))) (of_block (fork_block_of i f b))
+      ∙ ap (λ l. cond (p i) (row.Block (fork_block_of i f b) ∷ l) l) (fork_by i f bs)
+      ∙ elim (p i) as (λ s. cond s (row.Block (fork_block_of i f b) ∷ cond s (map (λ b. row.Block b) (map (fork_block_of i f) bs)) []) (cond s (map (λ b. row.Block b) (map (fork_block_of i f) bs)) []) ≡ cond s (row.Block (fork_block_of i f b) ∷ map (λ b. row.Block b) (map (fork_block_of i f) bs)) []) [ true ↦ refl | false ↦ refl ]
 
   row_by : (r : VolumeRow) → filter t (blocks_of_row r) ≡ cond (p r.id) (blocks_of_row r) []
   row_by r =
-      let one : List ForkBlock = map (block_of r.id false) (blocks_of r.data_fork) in
-      let two : List ForkBlock = map (block_of r.id true) (blocks_of r.resource_fork) in
+      let one : List ForkBlock = map (fork_block_of r.id false) (blocks_of r.data_fork) in
+      let two : List ForkBlock = map (fork_block_of r.id true) (blocks_of r.resource_fork) in
       ap (filter t) (map-append (λ b. row.Block b) one two)
       ∙ filter-append t (map (λ b. row.Block b) one) (map (λ b. row.Block b) two)
       ∙ (λ i. fork_by r.id false (blocks_of r.data_fork) i ++ fork_by r.id true (blocks_of r.resource_fork) i)

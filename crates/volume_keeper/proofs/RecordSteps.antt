@@ -9,7 +9,7 @@ use Rattle.record_keeper.specs.declared.record.Record.{Record}
 use Rattle.record_keeper.specs.declared.record.Change.{Change}
 use Rattle.record_keeper.specs.declared.record.Change.TheVariants.{Put, Remove}
 use Rattle.record_keeper.specs.Records.{changed}
-use Rattle.record_keeper.specs.Reading.{IsBelow, Rises}
+use Rattle.record_keeper.specs.Reading.{IsBelow, RisesByKey}
 use Rattle.volume_records.specs.Image.{entries_of}
 use Rattle.volume_keeper.proofs.LookUps.{alike, are_one, by_bytes, one_of, sorted_entries, after, got_changed}
 
@@ -79,7 +79,7 @@ find_seen : (rs : List Record) (q : List ℕ) → find by_bytes q (entries_of rs
 find_seen [] q = refl
 find_seen (r ∷ rs) q = ap (cond (are_one q r.key) (Some r.value)) (find_seen rs q)
 
-pub got_seen : (rs : List Record) (q : List ℕ) → Rises rs → get (from_sorted {R = by_bytes} (entries_of rs)) q ≡ seen rs q
+pub got_seen : (rs : List Record) (q : List ℕ) → RisesByKey rs → get (from_sorted {R = by_bytes} (entries_of rs)) q ≡ seen rs q
 got_seen rs q s = get-from_sorted by_bytes (entries_of rs) q (sorted_entries rs s) ∙ find_seen rs q
 
 pub none_seen : (k : List ℕ) (rs : List Record) → IsBelow k rs → seen rs k ≡ None
@@ -150,7 +150,7 @@ after_steps (s ∷ ss) st q = by (after_steps ss st.1 q) s.key s.old s.new st.0
           | false ↦ λ e. put_over rest key n o (are_one q key) refl b.0 b.1
         ] refl
 
-pub steps_turn : (ss : List Step) → IsStrict ss → Rises (olds ss) → Rises (news ss) → changed (changes_in ss) (from_sorted (entries_of (olds ss))) ≡ from_sorted (entries_of (news ss))
+pub steps_turn : (ss : List Step) → IsStrict ss → RisesByKey (olds ss) → RisesByKey (news ss) → changed (changes_in ss) (from_sorted (entries_of (olds ss))) ≡ from_sorted (entries_of (news ss))
 steps_turn ss strict first last = alike _ _ (λ q.
     got_changed (changes_in ss) (from_sorted (entries_of (olds ss))) q
     ∙ ap (after (changes_in ss) q) (got_seen (olds ss) q first)
@@ -200,15 +200,15 @@ to_olds k (s ∷ ss) b l = by (λ d. to_olds k ss d l.1) s.key s.old s.new b l.0
     by rest key (Some o) None b h = (h refl, rest b)
     by rest key (Some o) (Some n) b h = (b.0, rest b.1)
 
-rises_behind : (key : List ℕ) (o : Option (List ℕ)) (rs : List Record) → Rises (with_value key o rs) → Rises rs
+rises_behind : (key : List ℕ) (o : Option (List ℕ)) (rs : List Record) → RisesByKey (with_value key o rs) → RisesByKey rs
 rises_behind key None rs s = s
 rises_behind key (Some value) rs s = s.1
 
-pub are_strict : (ss : List Step) → Rises (olds ss) → Rises (news ss) → AreCrossed ss → IsStrict ss
+pub are_strict : (ss : List Step) → RisesByKey (olds ss) → RisesByKey (news ss) → AreCrossed ss → IsStrict ss
 are_strict [] first last c = tt
 are_strict (s ∷ ss) first last c = (by s.key s.old s.new first last c.0, are_strict ss (rises_behind s.key s.old (olds ss) first) (rises_behind s.key s.new (news ss) last) c.1)
   where
-    by : (key : List ℕ) (old new : Option (List ℕ)) → Rises (with_value key old (olds ss)) → Rises (with_value key new (news ss)) → (is_steady old new ≡ false → IsBeneath key ss) → Beneath key old new ss
+    by : (key : List ℕ) (old new : Option (List ℕ)) → RisesByKey (with_value key old (olds ss)) → RisesByKey (with_value key new (news ss)) → (is_steady old new ≡ false → IsBeneath key ss) → Beneath key old new ss
     by key None None f l h = tt
     by key None (Some n) f l h = (to_olds key ss l.0 (h refl), l.0)
     by key (Some o) None f l h = (f.0, to_news key ss f.0 (h refl))

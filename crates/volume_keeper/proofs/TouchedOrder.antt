@@ -13,7 +13,7 @@ use Rattle.volume_records.specs.declared.rows.TableRow.TheVariants as row
 use Rattle.volume_records.specs.Image.{node_of}
 use Rattle.volume_tree.specs.Planned.{PlanState}
 use Rattle.volume_tree.specs.TouchedNodes.{is_touched, are_rising, IsTouched}
-use Rattle.volume_keeper.specs.Changes.{put}
+use Rattle.volume_keeper.specs.Changes.{put_of}
 use Rattle.afp_volume.specs.OpenFork.{file_of}
 use Rattle.volume_tree.specs.Shown.{fork_at}
 use Rattle.volume_keeper.specs.lemma.Steps.{length_of, node_put, nodes_put, sized}
@@ -25,7 +25,7 @@ abbrev among : List NodeId → ℕ → Bool
 among ids x = list_any (λ (t : NodeId). x == t.0) ids
 
 abbrev puts : List VolumeRow → List Change
-puts rows = map put (map (λ r. row.Node (node_of r)) rows)
+puts rows = map put_of (map (λ r. row.Node (node_of r)) rows)
 
 abbrev those : List NodeId → List VolumeRow → List VolumeRow
 those ids rows = filter (λ r. among ids r.id) rows
@@ -67,13 +67,13 @@ first_of i ids low (r ∷ rows) a e =
       | true ↦ λ h.
           let same = same_number r.id i.0 h in
           let absent : among ids r.id ≡ false = not_among (among ids r.id) (λ t. absurd (let far = above i ids r.id a t in omega (arith, far, same))) in
-          ap (λ l. put (row.Node (node_of r)) ∷ puts l) (skipped_here i ids rows (ap (λ k. rises_from (λ (r : VolumeRow). r.id) k rows) (sym same) ∙ rest))
-          ∙ ap (λ b. put (row.Node (node_of r)) ∷ puts (cond b (r ∷ those ids rows) (those ids rows))) (sym absent)
+          ap (λ l. put_of (row.Node (node_of r)) ∷ puts l) (skipped_here i ids rows (ap (λ k. rises_from (λ (r : VolumeRow). r.id) k rows) (sym same) ∙ rest))
+          ∙ ap (λ b. put_of (row.Node (node_of r)) ∷ puts (cond b (r ∷ those ids rows) (those ids rows))) (sym absent)
       | false ↦ λ h. elim (among ids r.id) as (λ b. among ids r.id ≡ b → puts (cond b (r ∷ those (i ∷ ids) rows) (those (i ∷ ids) rows)) ≡ node_put (find (λ (r : VolumeRow). r.id == i.0) rows) ++ puts (cond b (r ∷ those ids rows) (those ids rows))) [
         | true ↦ λ t.
             let far = above i ids r.id a t in
-            ap (λ l. put (row.Node (node_of r)) ∷ puts l) (skipped i ids r.id rows far rest)
-            ∙ ap (λ o. node_put o ++ (put (row.Node (node_of r)) ∷ puts (those ids rows))) (sym (higher (λ (r : VolumeRow). r.id) r.id i.0 rows far rest))
+            ap (λ l. put_of (row.Node (node_of r)) ∷ puts l) (skipped i ids r.id rows far rest)
+            ∙ ap (λ o. node_put o ++ (put_of (row.Node (node_of r)) ∷ puts (those ids rows))) (sym (higher (λ (r : VolumeRow). r.id) r.id i.0 rows far rest))
         | false ↦ λ t. first_of i ids r.id rows a rest
       ] refl
     ] refl
@@ -99,7 +99,7 @@ by_ids (i ∷ ids) rows a e =
 
 -- the records of the nodes that a plan touches, one after the other
 pub touched_are_put : (p : PlanState) (ids : List NodeId) → IsTouched p ids → (rows : List VolumeRow) → rises_from (λ (r : VolumeRow). r.id) 0 rows ≡ true
-    → nodes_put rows ids ≡ map put (map (λ r. row.Node (node_of r)) (filter (λ r. is_touched p r.id) rows))
+    → nodes_put rows ids ≡ map put_of (map (λ r. row.Node (node_of r)) (filter (λ r. is_touched p r.id) rows))
 touched_are_put p ids t rows e = sym (by_ids ids rows t.rising e) ∙ ap puts (same_filter (among ids) (is_touched p) t.all rows)
 
 -- ---- a node with the lengths of its forks
@@ -111,13 +111,13 @@ length_is f r fit = elim r.dir as (λ d. r.dir ≡ d → length_of (option_map (
 ] refl
 
 sized_put : (o : Option VolumeRow) (n : VolumeRow) → IfSome o HasFitForks → Some n ≡ option_map bare o
-    → put (row.Node (sized n (length_of (option_map (fork_of false) (file_of o))) (length_of (option_map (fork_of true) (file_of o))))) ∷ [] ≡ node_put o
+    → put_of (row.Node (sized n (length_of (option_map (fork_of false) (file_of o))) (length_of (option_map (fork_of true) (file_of o))))) ∷ [] ≡ node_put o
 sized_put None n fit e = absurd (cc)
 sized_put (Some r) n fit e =
     let is : n ≡ bare r = cc e in
-    λ i. put (row.Node (sized (is i) (length_is false r fit i) (length_is true r fit i))) ∷ []
+    λ i. put_of (row.Node (sized (is i) (length_is false r fit i) (length_is true r fit i))) ∷ []
 
 pub sized_is_put : (rows : List VolumeRow) (id : ℕ) (n : VolumeRow) → IfSome (row_at rows id) HasFitForks → Some n ≡ option_map bare (row_at rows id)
-    → put (row.Node (sized n (length_of (fork_at rows id false)) (length_of (fork_at rows id true)))) ∷ [] ≡ node_put (row_at rows id)
+    → put_of (row.Node (sized n (length_of (fork_at rows id false)) (length_of (fork_at rows id true)))) ∷ [] ≡ node_put (row_at rows id)
 unfolding fork_at
 sized_is_put rows id n fit e = sized_put (row_at rows id) n fit e

@@ -18,7 +18,7 @@ use Rattle.afp_volume.specs.TreeSteps.{TreeCall, CreateDir, CreateFile, Delete, 
 use Rattle.afp_volume.specs.TypedVolume.{is_typed_volume}
 use Rattle.afp_volume.specs.VolumeState.{Appl, Comment, Icon, VolumeState}
 use Rattle.volume_tree.specs.Answered.{Refuses}
-use Rattle.volume_tree.specs.Planned.{PlanState, Does, IsPlan, planned, gone_comments, gone_appls}
+use Rattle.volume_tree.specs.Planned.{PlanState, DoesCall, IsPlan, planned, gone_comments, gone_appls}
 use Rattle.volume_tree.specs.declared.resolve.PlanFault.{PlanFault}
 use Rattle.volume_keeper.specs.lemma.Whole.{IsHeld}
 
@@ -62,7 +62,7 @@ plan_is_held sounds types w held now date opens (Some call) there named typed (O
 
 -- what a plan of the tree does to the whole
 pub whole_effect : (v whole : VolumeState) (comments : List Comment) (icons : List Icon) (appls : List Appl) → with_desktop v comments icons appls ≡ whole → (now : ℕ) (call : Option TreeCall) (result : Result PlanState PlanFault)
-    → IfOk result (λ plan. IfSome call (λ call. Does plan v (λ v. tree_effect v now call))) → IfOk result (λ plan. IfSome call (λ call. planned plan whole ≡ tree_effect whole now call))
+    → IfOk result (λ plan. IfSome call (λ call. DoesCall plan v (λ v. tree_effect v now call))) → IfOk result (λ plan. IfSome call (λ call. planned plan whole ≡ tree_effect whole now call))
 whole_effect v whole comments icons appls is now call (Err fault) does = does
 whole_effect v whole comments icons appls is now None (Ok p) does = does
 whole_effect v whole comments icons appls is now (Some call) (Ok p) does = subst (λ (w : VolumeState). planned p w ≡ tree_effect w now call) is (does comments icons appls)

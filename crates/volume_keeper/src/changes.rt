@@ -9,7 +9,7 @@ ghost use Rattle.volume_records.specs.declared.rows.TableRow.TheVariants as row;
 ghost use Rattle.volume_records.specs.Image.{kept_image, tables_of};
 ghost use Rattle.volume_tree.specs.Planned.{planned, IsPlan};
 ghost use Rattle.volume_tree.specs.Shown.{fork_at};
-ghost use Rattle.volume_keeper.specs.Changes.{gone_records, kept_records, put as the_put, taken, tree_changes_of};
+ghost use Rattle.volume_keeper.specs.Changes.{gone_records, kept_records, put_of as the_put, removal_of, tree_changes_of};
 ghost use Rattle.volume_keeper.specs.lemma.Steps.{length_of, node_put, nodes_put, sized};
 
 use crate::gone::{push, take_all};
@@ -130,7 +130,7 @@ fn take_gone(
     gone: Option<NodeId>,
     changes: &mut Vec<Change>,
 ) -> Result<(), OutOfMemory>
-    ensures { OnOk result (changes.new.items ≡ changes.old.items ++ map taken (gone_records gone held.now.state)) }
+    ensures { OnOk result (changes.new.items ≡ changes.old.items ++ map removal_of (gone_records gone held.now.state)) }
 {
     held.keeps_sound();
     match gone {

@@ -4,7 +4,7 @@ ghost use Rattle.afp_names.specs.Name.{name_fault};
 ghost use Rattle.afp_volume.specs.VolumeState.{fresh_volume, new_row, root_id, root_parent};
 ghost use Rattle.record_keeper.specs.Records.{TellsOn};
 ghost use Rattle.volume_records.specs.Image.{node_of, rows_of, tables_of};
-ghost use Rattle.volume_keeper.specs.Changes.{put as the_put};
+ghost use Rattle.volume_keeper.specs.Changes.{put_of as the_put};
 ghost use Rattle.volume_keeper.specs.Loading.{Becomes, HasLoadCause};
 ghost use Rattle.volume_keeper.specs.lemma.Loading.{IsMake};
 

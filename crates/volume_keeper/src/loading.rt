@@ -1,7 +1,7 @@
 //! A volume loaded from a keeper of records.
 ghost use Rattle.std.specs.Prelude.{◌≡◌, [], None, IfOk, IfErr};
 ghost use Rattle.afp_names.specs.Name.{name_fault};
-ghost use Rattle.record_keeper.specs.Reading.{Rises};
+ghost use Rattle.record_keeper.specs.Reading.{RisesByKey};
 ghost use Rattle.record_keeper.specs.Records.{TellsOn};
 ghost use Rattle.volume_keeper.specs.Loading.{Becomes, HasLoadCause, IsFaultIn, IsLoad};
 ghost use Rattle.volume_keeper.specs.lemma.Loading.{IsMadeOf, IsNotFailed, IsReadFault};
@@ -27,7 +27,7 @@ pub enum LoadFault {
 
 /// The volume that records say, by rising key.
 fn held_in(alloc: Global, name: &[u8], records: Vec<Record>) -> Result<Held, LoadFault>
-    requires order { Rises records.items }
+    requires order { RisesByKey records.items }
     requires some { records.items ≡ [] → ⊥ }
     ensures ok { IfOk result (λ held. IsMadeOf name.now records.items held.state) }
     ensures err { IfErr result (IsFaultIn name.now records.items) }

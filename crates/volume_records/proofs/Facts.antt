@@ -10,9 +10,9 @@ use Rattle.volume_records.specs.declared.rows.ForkBlock.{ForkBlock}
 use Rattle.volume_records.specs.declared.rows.Reason.TheVariants.{Parent, Twin, Range, Limit}
 use Rattle.volume_records.specs.declared.rows.TableRow.{TableRow}
 use Rattle.volume_records.specs.declared.rows.TableRow.TheVariants as row
-use Rattle.volume_records.specs.Shape.{is_formed, is_formed_node, is_formed_block, is_formed_comment, is_formed_appl, bare_row, has_fit_forks, is_root_or_other}
+use Rattle.volume_records.specs.Shape.{is_formed_record, is_formed_node, is_formed_block, is_formed_comment, is_formed_appl, bare_row, has_fit_forks, is_root_or_other}
 use Rattle.volume_records.specs.Records.{record_of}
-use Rattle.volume_records.specs.KeyOrder.{Rises}
+use Rattle.volume_records.specs.KeyOrder.{RisesByKey}
 use Rattle.volume_records.specs.Image.{Tables, rows_of}
 use Rattle.volume_records.specs.FirstBad.{first_of, lacks_parent, is_twin, is_out_of_range, passes_limit}
 use Rattle.volume_records.proofs.TestParts.{lt_true, le_of, left_true, right_true, both_true, all-ends, all-append, all-map, all-more}
@@ -112,9 +112,9 @@ fit_appl a f =
     both_true (is_long a.node) _ (left_true (is_long a.node) (is_long a.tag) typed) (right_true (is_typed_appl a) _ f)
 
 -- what stands behind the head, where its rows are formed and rise
-pub order_behind : (name : List ℕ) (t : Tables) → Rises (map record_of (behind_head t)) → list_all (is_formed name) (behind_head t) ≡ true → InOrder t
+pub order_behind : (name : List ℕ) (t : Tables) → RisesByKey (map record_of (behind_head t)) → list_all (is_formed_record name) (behind_head t) ≡ true → InOrder t
 order_behind name t rises e =
-    let p : TableRow → Bool = is_formed name in
+    let p : TableRow → Bool = is_formed_record name in
     let appls : List TableRow = map (λ x. row.Appl x) t.appls in
     let icons : List TableRow = map (λ x. row.Icon x) t.icons in
     let comments : List TableRow = map (λ x. row.Comment x) t.comments in
@@ -124,14 +124,14 @@ order_behind name t rises e =
     let two = rows_ends blocks (comments ++ (icons ++ appls)) one.1 in
     let three = rows_ends comments (icons ++ appls) two.1 in
     let four = rows_ends icons appls three.1 in
-    let f1 = all-ends (is_formed name) nodes (blocks ++ (comments ++ (icons ++ appls))) e in
-    let f2 = all-ends (is_formed name) blocks (comments ++ (icons ++ appls)) f1.1 in
-    let f3 = all-ends (is_formed name) comments (icons ++ appls) f2.1 in
-    let f4 = all-ends (is_formed name) icons appls f3.1 in
-    let fn : list_all (is_formed_node name) t.nodes ≡ true = sym (all-map (is_formed name) (λ x. row.Node x) t.nodes) ∙ f1.0 in
-    let fb : list_all is_formed_block t.blocks ≡ true = sym (all-map (is_formed name) (λ x. row.Block x) t.blocks) ∙ f2.0 in
-    let fc : list_all is_formed_comment t.comments ≡ true = sym (all-map (is_formed name) (λ x. row.Comment x) t.comments) ∙ f3.0 in
-    let fa : list_all is_formed_appl t.appls ≡ true = sym (all-map (is_formed name) (λ x. row.Appl x) t.appls) ∙ f4.1 in
+    let f1 = all-ends (is_formed_record name) nodes (blocks ++ (comments ++ (icons ++ appls))) e in
+    let f2 = all-ends (is_formed_record name) blocks (comments ++ (icons ++ appls)) f1.1 in
+    let f3 = all-ends (is_formed_record name) comments (icons ++ appls) f2.1 in
+    let f4 = all-ends (is_formed_record name) icons appls f3.1 in
+    let fn : list_all (is_formed_node name) t.nodes ≡ true = sym (all-map (is_formed_record name) (λ x. row.Node x) t.nodes) ∙ f1.0 in
+    let fb : list_all is_formed_block t.blocks ≡ true = sym (all-map (is_formed_record name) (λ x. row.Block x) t.blocks) ∙ f2.0 in
+    let fc : list_all is_formed_comment t.comments ≡ true = sym (all-map (is_formed_record name) (λ x. row.Comment x) t.comments) ∙ f3.0 in
+    let fa : list_all is_formed_appl t.appls ≡ true = sym (all-map (is_formed_record name) (λ x. row.Appl x) t.appls) ∙ f4.1 in
     record {
       nodes = nodes_in_chain t.nodes (all-more (is_formed_node name) (λ n. is_long n.id) t.nodes (λ n f. (node_parts name n f).id) fn) one.0;
       blocks = blocks_in_chain t.blocks (all-more is_formed_block is_fit_block t.blocks fit_block fb) two.0;
@@ -141,7 +141,7 @@ order_behind name t rises e =
     }
 
 pub in_order : (name : List ℕ) (t : Tables) → IsWhole name t → InOrder t
-in_order name t w = order_behind name t w.rises.1 (right_true (is_formed name (row.Head t.head)) (list_all (is_formed name) (behind_head t)) w.formed)
+in_order name t w = order_behind name t w.rises.1 (right_true (is_formed_record name (row.Head t.head)) (list_all (is_formed_record name) (behind_head t)) w.formed)
 
 -- a formed block is short, and a formed node has a name
 pub short_block : (b : ForkBlock) → is_formed_block b ≡ true → nat_lt (length b.bytes) 5000 ≡ true

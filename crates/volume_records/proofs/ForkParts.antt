@@ -12,7 +12,7 @@ use Rattle.volume_records.specs.declared.rows.Node.{Node}
 use Rattle.volume_records.specs.declared.rows.ForkBlock.{ForkBlock}
 use Rattle.volume_records.specs.Records.{flag_byte}
 use Rattle.volume_records.specs.Shape.{is_formed_block}
-use Rattle.volume_records.specs.Image.{block_of, fork_blocks}
+use Rattle.volume_records.specs.Image.{fork_block_of, fork_blocks}
 use Rattle.volume_records.specs.FirstBad.{fork_length}
 pub use Rattle.volume_records.specs.FromTables.{piece_of, own, fork_part, pieces, row_from, volume_of}
 use Rattle.volume_records.proofs.TestParts.{left_true, right_true, both_true, lt_of, le_true, same_of, all-more, all-map}
@@ -102,7 +102,7 @@ same_flag false false e = refl
 same_flag true false e = absurd (cc)
 same_flag false true e = absurd (cc)
 
-back_again : (id : ℕ) (r : Bool) (bs : List ForkBlock) → list_all (λ b. id == b.node) bs ≡ true → list_all (λ b. flag_byte r == flag_byte b.is_resource) bs ≡ true → map (block_of id r) (map piece_of bs) ≡ bs
+back_again : (id : ℕ) (r : Bool) (bs : List ForkBlock) → list_all (λ b. id == b.node) bs ≡ true → list_all (λ b. flag_byte r == flag_byte b.is_resource) bs ≡ true → map (fork_block_of id r) (map piece_of bs) ≡ bs
 back_again id r [] p q = refl
 back_again id r (b ∷ bs) p q =
     let i : id ≡ b.node = same_of _ _ (left_true (id == b.node) (list_all (λ b. id == b.node) bs) p) in
@@ -141,12 +141,12 @@ has_bytes n b g =
 
 -- the blocks of a fork are those of the bytes that they tell
 one_fork : ForkLaw → (n : Node) (r : Bool) (bs : List ForkBlock) → Chain fork_before bs → list_all (is_good_block n) bs ≡ true → list_all (λ b. n.id == b.node) bs ≡ true
-    → map (block_of n.id r) (blocks_of (bytes_of (fork_length r n) (map piece_of (fork_part bs (flag_byte r))))) ≡ fork_part bs (flag_byte r)
+    → map (fork_block_of n.id r) (blocks_of (bytes_of (fork_length r n) (map piece_of (fork_part bs (flag_byte r))))) ≡ fork_part bs (flag_byte r)
 one_fork law n r bs c g i =
     let test : ForkBlock → Bool = λ b. flag_byte r == flag_byte b.is_resource in
     let good = all-filter (λ (b : ForkBlock). flag_byte r == flag_byte b.is_resource) (is_good_block n) bs g in
     let flags = filter-passes (λ (b : ForkBlock). flag_byte r == flag_byte b.is_resource) bs in
-    ap (map (block_of n.id r)) (law.forth (fork_length r n) (map piece_of (fork_part bs (flag_byte r)))
+    ap (map (fork_block_of n.id r)) (law.forth (fork_length r n) (map piece_of (fork_part bs (flag_byte r)))
     (rising_pieces (fork_part bs (flag_byte r)) (part_chain (flag_byte r) bs c) (all-more (is_good_block n) (λ b. nat_le 1 (length b.bytes)) (fork_part bs (flag_byte r)) (has_bytes n) good))
     (kept_pieces n r (fork_part bs (flag_byte r)) good flags))
     ∙ back_again n.id r (fork_part bs (flag_byte r)) (all-filter (λ (b : ForkBlock). flag_byte r == flag_byte b.is_resource) (λ b. n.id == b.node) bs i) flags

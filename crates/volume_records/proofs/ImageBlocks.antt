@@ -12,7 +12,7 @@ use Rattle.afp_volume.specs.TypedVolume.{is_byte, is_long, are_bytes}
 use Rattle.volume_records.specs.declared.rows.ForkBlock.{ForkBlock}
 use Rattle.volume_records.specs.Records.{flag_byte}
 use Rattle.volume_records.specs.Shape.{is_formed_block}
-use Rattle.volume_records.specs.Image.{node_of, block_of, fork_blocks}
+use Rattle.volume_records.specs.Image.{node_of, fork_block_of, fork_blocks}
 use Rattle.volume_records.proofs.TestParts.{left_true, right_true, both_true, or_left, or_right, lt_of, le_of, lt_true, le_true, same_of, same_true, other_false, all-more, all-both, all-map, all-append, parts}
 use Rattle.volume_records.proofs.Chains.{Chain, chain-map, chain-more}
 use Rattle.volume_records.proofs.RowKinds.{nil_behind}
@@ -74,7 +74,7 @@ whole_blocks law bytes e =
     all-both (is_kept (length bytes)) (λ b. not (is_empty b.bytes) && are_bytes b.bytes) (blocks_of bytes) (law.kept bytes)
     (all-both (λ (b : Block). not (is_empty b.bytes)) (λ b. are_bytes b.bytes) (blocks_of bytes) (some_each (blocks_of bytes) (law.rising bytes)) (from_typed bytes 0 (block_count (length bytes)) e))
 
-pub one_formed : (id len : ℕ) (r : Bool) (b : Block) → is_long id ≡ true → len ≤ 268435456 → is_whole_block len b ≡ true → is_formed_block (block_of id r b) ≡ true
+pub one_formed : (id len : ℕ) (r : Bool) (b : Block) → is_long id ≡ true → len ≤ 268435456 → is_whole_block len b ≡ true → is_formed_block (fork_block_of id r b) ≡ true
 one_formed id len r b i small w =
     let kept = left_true (is_kept len b) (not (is_empty b.bytes) && are_bytes b.bytes) w in
     let rest = right_true (is_kept len b) (not (is_empty b.bytes) && are_bytes b.bytes) w in
@@ -94,38 +94,38 @@ chain-append R [] ys c d e = d
 chain-append R (x ∷ xs) ys c d e =
     (all-append (R x) xs ys c.0 (left_true (list_all (R x) ys) (list_all (λ x. list_all (R x) ys) xs) e), chain-append R xs ys c.1 d (right_true (list_all (R x) ys) (list_all (λ x. list_all (R x) ys) xs) e))
 
-later_index : (id : ℕ) (r : Bool) (a b : Block) → nat_lt a.index b.index ≡ true → block_before (block_of id r a) (block_of id r b) ≡ true
-later_index id r a b e = or_right (nat_lt id id) ((id == id) && fork_before (block_of id r a) (block_of id r b))
-    (both_true (id == id) (fork_before (block_of id r a) (block_of id r b)) (same_true id id refl)
+later_index : (id : ℕ) (r : Bool) (a b : Block) → nat_lt a.index b.index ≡ true → block_before (fork_block_of id r a) (fork_block_of id r b) ≡ true
+later_index id r a b e = or_right (nat_lt id id) ((id == id) && fork_before (fork_block_of id r a) (fork_block_of id r b))
+    (both_true (id == id) (fork_before (fork_block_of id r a) (fork_block_of id r b)) (same_true id id refl)
     (or_right (nat_lt (flag_byte r) (flag_byte r)) ((flag_byte r == flag_byte r) && nat_lt a.index b.index) (both_true (flag_byte r == flag_byte r) (nat_lt a.index b.index) (same_true (flag_byte r) (flag_byte r) refl) e)))
 
 always : {A : Type 0} (xs : List A) → list_all (λ x. true) xs ≡ true
 always [] = refl
 always (x ∷ xs) = always xs
 
-fork_chain : ForkLaw → (id : ℕ) (r : Bool) (bytes : List ℕ) → Chain block_before (map (block_of id r) (blocks_of bytes))
-fork_chain law id r bytes = chain-map block_before (block_of id r) (blocks_of bytes)
-    (chain-more (λ (a : Block) b. nat_lt a.index b.index) (λ a b. block_before (block_of id r a) (block_of id r b)) (λ b. true) (blocks_of bytes) (λ a b p q e. later_index id r a b e) (always (blocks_of bytes)) (index_chain (blocks_of bytes) (law.rising bytes)))
+fork_chain : ForkLaw → (id : ℕ) (r : Bool) (bytes : List ℕ) → Chain block_before (map (fork_block_of id r) (blocks_of bytes))
+fork_chain law id r bytes = chain-map block_before (fork_block_of id r) (blocks_of bytes)
+    (chain-more (λ (a : Block) b. nat_lt a.index b.index) (λ a b. block_before (fork_block_of id r a) (fork_block_of id r b)) (λ b. true) (blocks_of bytes) (λ a b p q e. later_index id r a b e) (always (blocks_of bytes)) (index_chain (blocks_of bytes) (law.rising bytes)))
 
 -- a test that all elements pass
 pub all-pass : {A : Type 0} (p : A → Bool) → ((x : A) → p x ≡ true) → (xs : List A) → list_all p xs ≡ true
 all-pass p h [] = refl
 all-pass p h (x ∷ xs) = both_true (p x) (list_all p xs) (h x) (all-pass p h xs)
 
-data_first : (id : ℕ) (a b : Block) → block_before (block_of id false a) (block_of id true b) ≡ true
+data_first : (id : ℕ) (a b : Block) → block_before (fork_block_of id false a) (fork_block_of id true b) ≡ true
 data_first id a b = or_right (nat_lt id id) (id == id && true) (both_true (id == id) true (same_true id id refl) refl)
 
 pub row_chain : ForkLaw → (r : VolumeRow) → Chain block_before (fork_blocks r)
-row_chain law r = chain-append block_before (map (block_of r.id false) (blocks_of r.data_fork)) (map (block_of r.id true) (blocks_of r.resource_fork)) (fork_chain law r.id false r.data_fork) (fork_chain law r.id true r.resource_fork)
-    (all-map (λ x. list_all (block_before x) (map (block_of r.id true) (blocks_of r.resource_fork))) (block_of r.id false) (blocks_of r.data_fork)
-    ∙ all-pass (λ a. list_all (block_before (block_of r.id false a)) (map (block_of r.id true) (blocks_of r.resource_fork)))
-    (λ a. all-map (block_before (block_of r.id false a)) (block_of r.id true) (blocks_of r.resource_fork) ∙ all-pass (λ b. block_before (block_of r.id false a) (block_of r.id true b)) (data_first r.id a) (blocks_of r.resource_fork)) (blocks_of r.data_fork))
+row_chain law r = chain-append block_before (map (fork_block_of r.id false) (blocks_of r.data_fork)) (map (fork_block_of r.id true) (blocks_of r.resource_fork)) (fork_chain law r.id false r.data_fork) (fork_chain law r.id true r.resource_fork)
+    (all-map (λ x. list_all (block_before x) (map (fork_block_of r.id true) (blocks_of r.resource_fork))) (fork_block_of r.id false) (blocks_of r.data_fork)
+    ∙ all-pass (λ a. list_all (block_before (fork_block_of r.id false a)) (map (fork_block_of r.id true) (blocks_of r.resource_fork)))
+    (λ a. all-map (block_before (fork_block_of r.id false a)) (fork_block_of r.id true) (blocks_of r.resource_fork) ∙ all-pass (λ b. block_before (fork_block_of r.id false a) (fork_block_of r.id true b)) (data_first r.id a) (blocks_of r.resource_fork)) (blocks_of r.data_fork))
 
 -- each block of a row has its id
 pub ids_of : (r : VolumeRow) → list_all (λ (b : ForkBlock). r.id == b.node) (fork_blocks r) ≡ true
-ids_of r = all-append (λ (b : ForkBlock). r.id == b.node) (map (block_of r.id false) (blocks_of r.data_fork)) (map (block_of r.id true) (blocks_of r.resource_fork))
-    (all-map (λ (b : ForkBlock). r.id == b.node) (block_of r.id false) (blocks_of r.data_fork) ∙ all-pass (λ b. r.id == r.id) (λ b. same_true r.id r.id refl) (blocks_of r.data_fork))
-    (all-map (λ (b : ForkBlock). r.id == b.node) (block_of r.id true) (blocks_of r.resource_fork) ∙ all-pass (λ b. r.id == r.id) (λ b. same_true r.id r.id refl) (blocks_of r.resource_fork))
+ids_of r = all-append (λ (b : ForkBlock). r.id == b.node) (map (fork_block_of r.id false) (blocks_of r.data_fork)) (map (fork_block_of r.id true) (blocks_of r.resource_fork))
+    (all-map (λ (b : ForkBlock). r.id == b.node) (fork_block_of r.id false) (blocks_of r.data_fork) ∙ all-pass (λ b. r.id == r.id) (λ b. same_true r.id r.id refl) (blocks_of r.data_fork))
+    (all-map (λ (b : ForkBlock). r.id == b.node) (fork_block_of r.id true) (blocks_of r.resource_fork) ∙ all-pass (λ b. r.id == r.id) (λ b. same_true r.id r.id refl) (blocks_of r.resource_fork))
 
 -- the blocks of rows above an id have nodes above it
 pub ids_above : (low : ℕ) (rs : List VolumeRow) → list_all (λ (r : VolumeRow). nat_lt low r.id) rs ≡ true → list_all (λ (b : ForkBlock). nat_lt low b.node) (flat_map fork_blocks rs) ≡ true
@@ -196,23 +196,23 @@ owns_from before (r ∷ rs) c low = (
       (owns_from (before ++ fork_blocks r) rs c.1 (lower_all r rs before c.0 (right_true (list_all (λ (b : ForkBlock). nat_lt b.node r.id) before) (list_all (λ (s : VolumeRow). list_all (λ (b : ForkBlock). nat_lt b.node s.id) before) rs) low))),
 )
 
-to_pieces : (id : ℕ) (r : Bool) (bs : List Block) → map piece_of (map (block_of id r) bs) ≡ bs
+to_pieces : (id : ℕ) (r : Bool) (bs : List Block) → map piece_of (map (fork_block_of id r) bs) ≡ bs
 to_pieces id r [] = refl
 to_pieces id r (b ∷ bs) = ap (λ l. b ∷ l) (to_pieces id r bs)
 
 data_pieces : (r : VolumeRow) → map piece_of (fork_part (fork_blocks r) 0) ≡ blocks_of r.data_fork
 data_pieces r =
-    ap (map piece_of) (filter-append (λ (b : ForkBlock). 0 == flag_byte b.is_resource) (map (block_of r.id false) (blocks_of r.data_fork)) (map (block_of r.id true) (blocks_of r.resource_fork))
-    ∙ (λ i. filter-all (λ (b : ForkBlock). 0 == flag_byte b.is_resource) (map (block_of r.id false) (blocks_of r.data_fork)) (all-map (λ (b : ForkBlock). 0 == flag_byte b.is_resource) (block_of r.id false) (blocks_of r.data_fork) ∙ always (blocks_of r.data_fork)) i
-    ++ filter-none (λ (b : ForkBlock). 0 == flag_byte b.is_resource) (map (block_of r.id true) (blocks_of r.resource_fork)) (all-map (λ (b : ForkBlock). not (0 == flag_byte b.is_resource)) (block_of r.id true) (blocks_of r.resource_fork) ∙ always (blocks_of r.resource_fork)) i)
-    ∙ nil_behind (map (block_of r.id false) (blocks_of r.data_fork)))
+    ap (map piece_of) (filter-append (λ (b : ForkBlock). 0 == flag_byte b.is_resource) (map (fork_block_of r.id false) (blocks_of r.data_fork)) (map (fork_block_of r.id true) (blocks_of r.resource_fork))
+    ∙ (λ i. filter-all (λ (b : ForkBlock). 0 == flag_byte b.is_resource) (map (fork_block_of r.id false) (blocks_of r.data_fork)) (all-map (λ (b : ForkBlock). 0 == flag_byte b.is_resource) (fork_block_of r.id false) (blocks_of r.data_fork) ∙ always (blocks_of r.data_fork)) i
+    ++ filter-none (λ (b : ForkBlock). 0 == flag_byte b.is_resource) (map (fork_block_of r.id true) (blocks_of r.resource_fork)) (all-map (λ (b : ForkBlock). not (0 == flag_byte b.is_resource)) (fork_block_of r.id true) (blocks_of r.resource_fork) ∙ always (blocks_of r.resource_fork)) i)
+    ∙ nil_behind (map (fork_block_of r.id false) (blocks_of r.data_fork)))
     ∙ to_pieces r.id false (blocks_of r.data_fork)
 
 resource_pieces : (r : VolumeRow) → map piece_of (fork_part (fork_blocks r) 1) ≡ blocks_of r.resource_fork
 resource_pieces r =
-    ap (map piece_of) (filter-append (λ (b : ForkBlock). 1 == flag_byte b.is_resource) (map (block_of r.id false) (blocks_of r.data_fork)) (map (block_of r.id true) (blocks_of r.resource_fork))
-    ∙ (λ i. filter-none (λ (b : ForkBlock). 1 == flag_byte b.is_resource) (map (block_of r.id false) (blocks_of r.data_fork)) (all-map (λ (b : ForkBlock). not (1 == flag_byte b.is_resource)) (block_of r.id false) (blocks_of r.data_fork) ∙ always (blocks_of r.data_fork)) i
-    ++ filter-all (λ (b : ForkBlock). 1 == flag_byte b.is_resource) (map (block_of r.id true) (blocks_of r.resource_fork)) (all-map (λ (b : ForkBlock). 1 == flag_byte b.is_resource) (block_of r.id true) (blocks_of r.resource_fork) ∙ always (blocks_of r.resource_fork)) i))
+    ap (map piece_of) (filter-append (λ (b : ForkBlock). 1 == flag_byte b.is_resource) (map (fork_block_of r.id false) (blocks_of r.data_fork)) (map (fork_block_of r.id true) (blocks_of r.resource_fork))
+    ∙ (λ i. filter-none (λ (b : ForkBlock). 1 == flag_byte b.is_resource) (map (fork_block_of r.id false) (blocks_of r.data_fork)) (all-map (λ (b : ForkBlock). not (1 == flag_byte b.is_resource)) (fork_block_of r.id false) (blocks_of r.data_fork) ∙ always (blocks_of r.data_fork)) i
+    ++ filter-all (λ (b : ForkBlock). 1 == flag_byte b.is_resource) (map (fork_block_of r.id true) (blocks_of r.resource_fork)) (all-map (λ (b : ForkBlock). 1 == flag_byte b.is_resource) (fork_block_of r.id true) (blocks_of r.resource_fork) ∙ always (blocks_of r.resource_fork)) i))
     ∙ to_pieces r.id true (blocks_of r.resource_fork)
 
 row_again : ForkLaw → (blocks : List ForkBlock) (r : VolumeRow) → own blocks r.id ≡ fork_blocks r → row_from blocks (node_of r) ≡ r
@@ -238,7 +238,7 @@ pub few_of_row : ForkLaw → (r : VolumeRow) → 4096 * length (fork_blocks r) �
 few_of_row law r =
     let a = few_one (length r.data_fork) (length (blocks_of r.data_fork)) (law.few r.data_fork) in
     let b = few_one (length r.resource_fork) (length (blocks_of r.resource_fork)) (law.few r.resource_fork) in
-    let s = length-append (map (block_of r.id false) (blocks_of r.data_fork)) (map (block_of r.id true) (blocks_of r.resource_fork)) in
-    let i = length-map (block_of r.id false) (blocks_of r.data_fork) in
-    let j = length-map (block_of r.id true) (blocks_of r.resource_fork) in
+    let s = length-append (map (fork_block_of r.id false) (blocks_of r.data_fork)) (map (fork_block_of r.id true) (blocks_of r.resource_fork)) in
+    let i = length-map (fork_block_of r.id false) (blocks_of r.data_fork) in
+    let j = length-map (fork_block_of r.id true) (blocks_of r.resource_fork) in
     omega (arith, a, b, s, i, j)

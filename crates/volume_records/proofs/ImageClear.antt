@@ -14,8 +14,8 @@ use Rattle.volume_records.specs.declared.rows.Node.{Node}
 use Rattle.volume_records.specs.declared.rows.ForkBlock.{ForkBlock}
 use Rattle.volume_records.specs.declared.rows.TableRow.{TableRow}
 use Rattle.volume_records.specs.declared.rows.TableRow.TheVariants as row
-use Rattle.volume_records.specs.Shape.{is_formed, is_formed_node, is_formed_block}
-use Rattle.volume_records.specs.Image.{Tables, rows_of, tables_of, node_of, block_of, fork_blocks}
+use Rattle.volume_records.specs.Shape.{is_formed_record, is_formed_node, is_formed_block}
+use Rattle.volume_records.specs.Image.{Tables, rows_of, tables_of, node_of, fork_block_of, fork_blocks}
 use Rattle.record_keeper.specs.Reading.{most_records}
 use Rattle.volume_records.specs.FirstBad.{fork_length, is_out_of_range}
 use Rattle.volume_records.proofs.TestParts.{left_true, right_true, both_true, cases, le_of, lt_false, same_of, all-more, all-both, all-map, all-append, any-map, any-none, always}
@@ -95,18 +95,18 @@ no_bytes r d f =
     (empty r.data_fork two.0, empty r.resource_fork two.1)
 
 module _ (v : VolumeState) where
-  block_inside : (r : VolumeRow) (f : Bool) (b : Block) → list_all (same_forks r) v.rows ≡ true → 4096 * b.index + length b.bytes ≤ length (fork_of f r) → is_out_of_range (tables_of v) (row.Block (block_of r.id f b)) ≡ false
-  block_inside r f b s w = any-map (λ (n : Node). (n.id == r.id) && reaches_past n (block_of r.id f b)) node_of v.rows
-      ∙ any-none (λ (o : VolumeRow). (o.id == r.id) && reaches_past (node_of o) (block_of r.id f b)) v.rows
-      (all-more (same_forks r) (λ (o : VolumeRow). not ((o.id == r.id) && reaches_past (node_of o) (block_of r.id f b))) v.rows
+  block_inside : (r : VolumeRow) (f : Bool) (b : Block) → list_all (same_forks r) v.rows ≡ true → 4096 * b.index + length b.bytes ≤ length (fork_of f r) → is_out_of_range (tables_of v) (row.Block (fork_block_of r.id f b)) ≡ false
+  block_inside r f b s w = any-map (λ (n : Node). (n.id == r.id) && reaches_past n (fork_block_of r.id f b)) node_of v.rows
+      ∙ any-none (λ (o : VolumeRow). (o.id == r.id) && reaches_past (node_of o) (fork_block_of r.id f b)) v.rows
+      (all-more (same_forks r) (λ (o : VolumeRow). not ((o.id == r.id) && reaches_past (node_of o) (fork_block_of r.id f b))) v.rows
       (λ o e. cases (o.id == r.id)
       (λ i.
       let len = long_as f r o e i in
-      let past : reaches_past (node_of o) (block_of r.id f b) ≡ false = lt_false (fork_length f (node_of o)) (block_size * b.index + length b.bytes) (omega (arith, len, w)) in
+      let past : reaches_past (node_of o) (fork_block_of r.id f b) ≡ false = lt_false (fork_length f (node_of o)) (block_size * b.index + length b.bytes) (omega (arith, len, w)) in
       λ k. not (i k && past k))
-      (λ i. ap (λ t. not (t && reaches_past (node_of o) (block_of r.id f b))) i)) s)
+      (λ i. ap (λ t. not (t && reaches_past (node_of o) (fork_block_of r.id f b))) i)) s)
 
-  one_fine : (r : VolumeRow) (f : Bool) (b : Block) → is_known_row v r ≡ true → r.dir ≡ false → is_whole_block (length (fork_of f r)) b ≡ true → is_fine_block (tables_of v) (block_of r.id f b) ≡ true
+  one_fine : (r : VolumeRow) (f : Bool) (b : Block) → is_known_row v r ≡ true → r.dir ≡ false → is_whole_block (length (fork_of f r)) b ≡ true → is_fine_block (tables_of v) (fork_block_of r.id f b) ≡ true
   one_fine r f b k d w =
       let good = left_true (is_good_row v r) (list_all (same_forks r) v.rows && (r.dir || has_file v.rows r.id)) k in
       let rest = right_true (is_good_row v r) (list_all (same_forks r) v.rows && (r.dir || has_file v.rows r.id)) k in
@@ -118,16 +118,16 @@ module _ (v : VolumeState) where
       let kept = left_true (is_kept (length (fork_of f r)) b) (not (is_empty b.bytes) && are_bytes b.bytes) w in
       let sizes = right_true (bytes_eq (trimmed b.bytes) b.bytes) (nat_le (length b.bytes) block_size && nat_le (block_size * b.index + length b.bytes) (length (fork_of f r))) kept in
       let within = le_of _ _ (right_true (nat_le (length b.bytes) block_size) (nat_le (block_size * b.index + length b.bytes) (length (fork_of f r))) sizes) in
-      both_true (is_formed_block (block_of r.id f b)) (is_clear (tables_of v) (row.Block (block_of r.id f b))) (one_formed r.id (length (fork_of f r)) f b id fits w)
-      (free_clear (tables_of v) (row.Block (block_of r.id f b)) (record { placed = ap not (files_same v.rows r.id ∙ there); lone = refl; inside = block_inside r f b same within; few = refl }))
+      both_true (is_formed_block (fork_block_of r.id f b)) (is_clear (tables_of v) (row.Block (fork_block_of r.id f b))) (one_formed r.id (length (fork_of f r)) f b id fits w)
+      (free_clear (tables_of v) (row.Block (fork_block_of r.id f b)) (record { placed = ap not (files_same v.rows r.id ∙ there); lone = refl; inside = block_inside r f b same within; few = refl }))
 
-  fork_fine : ForkLaw → (r : VolumeRow) (f : Bool) → is_known_row v r ≡ true → r.dir ≡ false → list_all (is_fine_block (tables_of v)) (map (block_of r.id f) (blocks_of (fork_of f r))) ≡ true
+  fork_fine : ForkLaw → (r : VolumeRow) (f : Bool) → is_known_row v r ≡ true → r.dir ≡ false → list_all (is_fine_block (tables_of v)) (map (fork_block_of r.id f) (blocks_of (fork_of f r))) ≡ true
   fork_fine law r f k d =
       let good = left_true (is_good_row v r) (list_all (same_forks r) v.rows && (r.dir || has_file v.rows r.id)) k in
       let typed = left_true (is_typed_row r) (is_formed_row r) (left_true (is_typed_row r && is_formed_row r) (is_in_place v r && nat_le (length r.data_fork + length r.resource_fork) most_fork_bytes) good) in
       let bytes = fork_typed r f typed in
-      all-map (is_fine_block (tables_of v)) (block_of r.id f) (blocks_of (fork_of f r))
-      ∙ all-more (is_whole_block (length (fork_of f r))) (λ b. is_fine_block (tables_of v) (block_of r.id f b)) (blocks_of (fork_of f r)) (λ b w. one_fine r f b k d w) (whole_blocks law (fork_of f r) bytes)
+      all-map (is_fine_block (tables_of v)) (fork_block_of r.id f) (blocks_of (fork_of f r))
+      ∙ all-more (is_whole_block (length (fork_of f r))) (λ b. is_fine_block (tables_of v) (fork_block_of r.id f b)) (blocks_of (fork_of f r)) (λ b w. one_fine r f b k d w) (whole_blocks law (fork_of f r) bytes)
 
   -- a directory has no bytes, so no blocks
   pub row_fine : ForkLaw → (r : VolumeRow) → is_known_row v r ≡ true → list_all (is_fine_block (tables_of v)) (fork_blocks r) ≡ true
@@ -136,8 +136,8 @@ module _ (v : VolumeState) where
       let good = left_true (is_good_row v r) (list_all (same_forks r) v.rows && (r.dir || has_file v.rows r.id)) k in
       let formed = right_true (is_typed_row r) (is_formed_row r) (left_true (is_typed_row r && is_formed_row r) (is_in_place v r && nat_le (length r.data_fork + length r.resource_fork) most_fork_bytes) good) in
       let none = no_bytes r d formed in
-      ap (list_all (is_fine_block (tables_of v))) (λ i. map (block_of r.id false) (blocks_of (none.0 i)) ++ map (block_of r.id true) (blocks_of (none.1 i))))
-      (λ d. all-append (is_fine_block (tables_of v)) (map (block_of r.id false) (blocks_of r.data_fork)) (map (block_of r.id true) (blocks_of r.resource_fork)) (fork_fine law r false k d) (fork_fine law r true k d))
+      ap (list_all (is_fine_block (tables_of v))) (λ i. map (fork_block_of r.id false) (blocks_of (none.0 i)) ++ map (fork_block_of r.id true) (blocks_of (none.1 i))))
+      (λ d. all-append (is_fine_block (tables_of v)) (map (fork_block_of r.id false) (blocks_of r.data_fork)) (map (fork_block_of r.id true) (blocks_of r.resource_fork)) (fork_fine law r false k d) (fork_fine law r true k d))
 
   pub all_fine : ForkLaw → (rs : List VolumeRow) → list_all (is_known_row v) rs ≡ true → list_all (is_fine_block (tables_of v)) (flat_map fork_blocks rs) ≡ true
   all_fine law [] e = refl
@@ -162,7 +162,7 @@ node_free v s r g =
 few_to : {A : Type 0} (p : A → Bool) (xs : List A) (most : ℕ) → length xs ≤ most → nat_lt most (length (filter p xs)) ≡ false
 few_to p xs most h = let a = filter-most p xs in lt_false most (length (filter p xs)) (omega (arith, a, h))
 
-rows_formed : (v : VolumeState) → SoundFacts v → TypedFacts v → ForkLaw → EachKind (is_formed v.name) (tables_of v)
+rows_formed : (v : VolumeState) → SoundFacts v → TypedFacts v → ForkLaw → EachKind (is_formed_record v.name) (tables_of v)
 rows_formed v s t law =
     let known = known_rows v s t in
     let fine = all_fine v law v.rows known in
@@ -204,7 +204,7 @@ image_whole law v sound typed =
     let t = typed_facts v typed in
     let formed = rows_formed v s t law in
     record {
-      formed = all_kinds (is_formed v.name) (tables_of v) formed;
+      formed = all_kinds (is_formed_record v.name) (tables_of v) formed;
       clear = all_kinds (is_clear (tables_of v)) (tables_of v) (rows_clear v s t law);
       rises = image_rises law v sound;
       root = nodes_same v.rows root_id ∙ s.root;

@@ -12,9 +12,9 @@ use Rattle.afp_volume.specs.SoundVolume.{IsSoundVolume}
 use Rattle.record_keeper.specs.declared.record.Record.{Record}
 use Rattle.volume_records.specs.Records.{record_of}
 use Rattle.volume_records.specs.Image.{Tables, Records, rows_of, tables_of, tables_in, image, kept_image, records_in, entries_of}
-use Rattle.volume_records.specs.KeyOrder.{IsBelow, Rises, with_head_and_root}
+use Rattle.volume_records.specs.KeyOrder.{IsBelow, RisesByKey, with_head_and_root}
 use Rattle.record_keeper.specs.Reading.{most_records}
-use Rattle.volume_records.specs.FirstBad.{rows_in, first_bad, first_bad_record, too_many}
+use Rattle.volume_records.specs.FirstBad.{rows_in, first_bad_among, first_bad_record, too_many}
 use Rattle.volume_records.specs.Laws.{IsVolume, HasRecords, HasKeptRecords}
 use Rattle.volume_records.proofs.TestParts.{lt_of}
 use Rattle.volume_records.proofs.Whole.{IsWhole, counted_made, whole_good, tables_read}
@@ -34,7 +34,7 @@ module _ (law : ForkLaw) where
   whole_of : (name : List ℕ) (v : VolumeState) → IsVolume name v → IsWhole name (tables_of v)
   whole_of name v i = subst (λ n. IsWhole n (tables_of v)) i.named (image_whole law v i.sound i.typed)
 
-  pub images_rise : (v : VolumeState) → IsSoundVolume v → Rises (image v)
+  pub images_rise : (v : VolumeState) → IsSoundVolume v → RisesByKey (image v)
   images_rise = image_rises law
 
   pub images_good : (name : List ℕ) (v : VolumeState) → IsVolume name v → first_bad_record name (image v) ≡ None
@@ -44,11 +44,11 @@ module _ (law : ForkLaw) where
   pub whole_volume : (name : List ℕ) (t : Tables) → IsWhole name t → IsVolume name (volume_of name t)
   whole_volume name t w = record { sound = volume_sound law name t w; typed = volume_typed name t w; named = refl }
 
-  few_only : (name : List ℕ) (r : Record) (records : List Record) (b : Bool) → cond b (too_many (drop most_records (r ∷ records))) (first_bad name (with_head_and_root (r ∷ records))) ≡ None → nat_lt most_records (length (r ∷ records)) ≡ b → first_bad name (with_head_and_root (r ∷ records)) ≡ None
+  few_only : (name : List ℕ) (r : Record) (records : List Record) (b : Bool) → cond b (too_many (drop most_records (r ∷ records))) (first_bad_among name (with_head_and_root (r ∷ records))) ≡ None → nat_lt most_records (length (r ∷ records)) ≡ b → first_bad_among name (with_head_and_root (r ∷ records)) ≡ None
   few_only name r records false e h = e
   few_only name r records true e h = absurd (none_over most_records (r ∷ records) (lt_of _ _ h) e)
 
-  pub good_images : (name : List ℕ) (records : List Record) → Rises records → (records ≡ [] → ⊥) → first_bad_record name records ≡ None → (v : VolumeState) × HasRecords name records v
+  pub good_images : (name : List ℕ) (records : List Record) → RisesByKey records → (records ≡ [] → ⊥) → first_bad_record name records ≡ None → (v : VolumeState) × HasRecords name records v
   good_images name [] s n e = absurd (n refl)
   good_images name (r ∷ records) s n e =
       let good = few_only name r records (nat_lt most_records (length (r ∷ records))) e refl in
@@ -89,7 +89,7 @@ below_entries : (k : List ℕ) (rs : List Record) → IsBelow k rs → T (below_
 below_entries k [] b = tt
 below_entries k (r ∷ rs) b = both _ _ (subst (λ o. T (is_lt o)) (sym b.0) tt) (below_entries k rs b.1)
 
-sorted_entries : (rs : List Record) → Rises rs → T (is_sorted (slice_cmp nat_cmp) (entries_of rs))
+sorted_entries : (rs : List Record) → RisesByKey rs → T (is_sorted (slice_cmp nat_cmp) (entries_of rs))
 sorted_entries [] s = tt
 sorted_entries (r ∷ rs) s = both _ _ (below_entries r.key rs s.0) (sorted_entries rs s.1)
 
@@ -100,7 +100,7 @@ below_records : (k : List ℕ) (es : List (List ℕ × List ℕ)) → T (below_a
 below_records k [] b = tt
 below_records k (e ∷ es) b = (less _ (first _ _ b), below_records k es (second _ _ b))
 
-rising_records : (es : List (List ℕ × List ℕ)) → T (is_sorted (slice_cmp nat_cmp) es) → Rises (records_by es)
+rising_records : (es : List (List ℕ × List ℕ)) → T (is_sorted (slice_cmp nat_cmp) es) → RisesByKey (records_by es)
 rising_records [] s = tt
 rising_records (e ∷ es) s = (below_records e.0 es (first _ _ s), rising_records es (second _ _ s))
 

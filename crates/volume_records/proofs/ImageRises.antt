@@ -13,8 +13,8 @@ use Rattle.volume_records.specs.declared.rows.Node.{Node}
 use Rattle.volume_records.specs.declared.rows.TableRow.{TableRow}
 use Rattle.volume_records.specs.declared.rows.TableRow.TheVariants as row
 use Rattle.volume_records.specs.Records.{record_of}
-use Rattle.volume_records.specs.Image.{Tables, image, rows_of, tables_of, node_of, block_of, fork_blocks}
-use Rattle.volume_records.specs.KeyOrder.{Rises}
+use Rattle.volume_records.specs.Image.{Tables, image, rows_of, tables_of, node_of, fork_block_of, fork_blocks}
+use Rattle.volume_records.specs.KeyOrder.{RisesByKey}
 use Rattle.volume_records.proofs.TestParts.{left_true, right_true, both_true, cases, le_of, lt_of, lt_true, same_of, else_of, all-more, all-both, all-map, all-append}
 use Rattle.volume_records.proofs.Chains.{chain-map}
 use Rattle.volume_records.proofs.Counts.{sum_each}
@@ -32,8 +32,8 @@ tags_at_most make k h xs = all-map (λ x. nat_le (tag_of x) k) make xs ∙ all-p
 tags_over : {A : Type 0} (make : A → TableRow) (k : ℕ) → ((a : A) → nat_lt k (tag_of (make a)) ≡ true) → (xs : List A) → list_all (λ x. nat_lt k (tag_of x)) (map make xs) ≡ true
 tags_over make k h xs = all-map (λ x. nat_lt k (tag_of x)) make xs ∙ all-pass (λ a. nat_lt k (tag_of (make a))) h xs
 
-pub rows_rise : (t : Tables) → Rises (map record_of (map (λ x. row.Node x) t.nodes)) → Rises (map record_of (map (λ x. row.Block x) t.blocks)) → Rises (map record_of (map (λ x. row.Comment x) t.comments))
-    → Rises (map record_of (map (λ x. row.Icon x) t.icons)) → Rises (map record_of (map (λ x. row.Appl x) t.appls)) → Rises (map record_of (rows_of t))
+pub rows_rise : (t : Tables) → RisesByKey (map record_of (map (λ x. row.Node x) t.nodes)) → RisesByKey (map record_of (map (λ x. row.Block x) t.blocks)) → RisesByKey (map record_of (map (λ x. row.Comment x) t.comments))
+    → RisesByKey (map record_of (map (λ x. row.Icon x) t.icons)) → RisesByKey (map record_of (map (λ x. row.Appl x) t.appls)) → RisesByKey (map record_of (rows_of t))
 rows_rise t n b c i a =
     let appls : List TableRow = map (λ x. row.Appl x) t.appls in
     let icons : List TableRow = map (λ x. row.Icon x) t.icons in
@@ -76,14 +76,14 @@ on_row p (r ∷ rs) id h e a = cases (p r)
     (λ t. ap is_long (sym (h r t)) ∙ left_true (is_long r.id) (list_all (λ (r : VolumeRow). is_long r.id) rs) e)
     (λ f. on_row p rs id h (right_true (is_long r.id) (list_all (λ (r : VolumeRow). is_long r.id) rs) e) (ap (λ b. b || list_any p rs) (sym f) ∙ a))
 
-fit_index : (id len : ℕ) (f : Bool) (b : Block) → is_long id ≡ true → len ≤ 268435456 → is_kept len b ≡ true → is_fit_block (block_of id f b) ≡ true
+fit_index : (id len : ℕ) (f : Bool) (b : Block) → is_long id ≡ true → len ≤ 268435456 → is_kept len b ≡ true → is_fit_block (fork_block_of id f b) ≡ true
 fit_index id len f b i small kept =
     let sizes = right_true (bytes_eq (trimmed b.bytes) b.bytes) (nat_le (length b.bytes) block_size && nat_le (block_size * b.index + length b.bytes) len) kept in
     let within : 4096 * b.index + length b.bytes ≤ len = le_of _ _ (right_true (nat_le (length b.bytes) block_size) (nat_le (block_size * b.index + length b.bytes) len) sizes) in
     both_true (is_long id) (is_long b.index) i (lt_true b.index 4294967296 (omega (arith, within, small)))
 
-fit_fork : ForkLaw → (id : ℕ) (f : Bool) (bytes : List ℕ) → is_long id ≡ true → length bytes ≤ 268435456 → list_all is_fit_block (map (block_of id f) (blocks_of bytes)) ≡ true
-fit_fork law id f bytes i small = all-map is_fit_block (block_of id f) (blocks_of bytes) ∙ all-more (is_kept (length bytes)) (λ b. is_fit_block (block_of id f b)) (blocks_of bytes) (λ b k. fit_index id (length bytes) f b i small k) (law.kept bytes)
+fit_fork : ForkLaw → (id : ℕ) (f : Bool) (bytes : List ℕ) → is_long id ≡ true → length bytes ≤ 268435456 → list_all is_fit_block (map (fork_block_of id f) (blocks_of bytes)) ≡ true
+fit_fork law id f bytes i small = all-map is_fit_block (fork_block_of id f) (blocks_of bytes) ∙ all-more (is_kept (length bytes)) (λ b. is_fit_block (fork_block_of id f b)) (blocks_of bytes) (λ b k. fit_index id (length bytes) f b i small k) (law.kept bytes)
 
 abbrev pub is_small : VolumeRow → Bool
 is_small r = is_long r.id && nat_le (length r.data_fork + length r.resource_fork) most_fork_bytes
@@ -95,11 +95,11 @@ fit_blocks law (r ∷ rs) e =
     let id = left_true (is_long r.id) (nat_le (length r.data_fork + length r.resource_fork) most_fork_bytes) here in
     let small : length r.data_fork + length r.resource_fork ≤ 268435456 = le_of _ _ (right_true (is_long r.id) (nat_le (length r.data_fork + length r.resource_fork) most_fork_bytes) here) in
     all-append is_fit_block (fork_blocks r) (flat_map fork_blocks rs)
-    (all-append is_fit_block (map (block_of r.id false) (blocks_of r.data_fork)) (map (block_of r.id true) (blocks_of r.resource_fork))
+    (all-append is_fit_block (map (fork_block_of r.id false) (blocks_of r.data_fork)) (map (fork_block_of r.id true) (blocks_of r.resource_fork))
     (fit_fork law r.id false r.data_fork id (omega (arith, small))) (fit_fork law r.id true r.resource_fork id (omega (arith, small))))
     (fit_blocks law rs (right_true (is_small r) (list_all is_small rs) e))
 
-pub image_rises : ForkLaw → (v : VolumeState) → IsSoundVolume v → Rises (image v)
+pub image_rises : ForkLaw → (v : VolumeState) → IsSoundVolume v → RisesByKey (image v)
 image_rises law v sound =
     let s = sound_facts v sound in
     let ids = long_rows v s in

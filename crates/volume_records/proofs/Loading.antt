@@ -12,9 +12,9 @@ use Rattle.volume_records.specs.declared.rows.TableRow.{TableRow}
 use Rattle.volume_records.specs.Records.{record_of, head_key}
 use Rattle.volume_records.specs.Shape.{row_in}
 use Rattle.volume_records.specs.Image.{Tables, rows_of, tables_in}
-use Rattle.volume_records.specs.KeyOrder.{Rises, with_key, with_head_and_root, root_key}
+use Rattle.volume_records.specs.KeyOrder.{RisesByKey, with_key, with_head_and_root, root_key}
 use Rattle.record_keeper.specs.Reading.{most_records}
-use Rattle.volume_records.specs.FirstBad.{rows_in, first_bad, first_bad_record, too_many}
+use Rattle.volume_records.specs.FirstBad.{rows_in, first_bad_among, first_bad_record, too_many}
 use Rattle.volume_records.specs.lemma.Judged.{said_rows}
 use Rattle.volume_records.specs.Loaded.{IsVolumeOf}
 use Rattle.volume_records.proofs.TestParts.{lt_true, lt_false}
@@ -29,25 +29,17 @@ use Rattle.volume_records.proofs.Passing.{said_all}
 pub over_many : (name : List ℕ) (records : List Record) (r : Record) → 480000 < length records → r ≡ get_or records 480000 r → first_bad_record name records ≡ Some (record { key = r.key; reason = Limit })
 over_many name [] r h e = absurd (omega arith)
 over_many name (x ∷ xs) r h e =
-    ap (λ b. cond b (too_many (drop most_records (x ∷ xs))) (first_bad name (with_head_and_root (x ∷ xs)))) (lt_true most_records (length (x ∷ xs)) h)
+    ap (λ b. cond b (too_many (drop most_records (x ∷ xs))) (first_bad_among name (with_head_and_root (x ∷ xs)))) (lt_true most_records (length (x ∷ xs)) h)
     ∙ ap too_many (drop-cons (x ∷ xs) 480000 r h) ∙ ap (λ (q : Record). Some (record { key = q.key; reason = Limit })) (sym e)
 
-pub judged_counted : (name : List ℕ) (records : List Record) → (records ≡ [] → ⊥) → length records ≤ 480000 → first_bad_record name records ≡ first_bad name (with_head_and_root records)
+pub judged_counted : (name : List ℕ) (records : List Record) → (records ≡ [] → ⊥) → length records ≤ 480000 → first_bad_record name records ≡ first_bad_among name (with_head_and_root records)
 judged_counted name [] n h = absurd (n refl)
-judged_counted name (x ∷ xs) n h = ap (λ b. cond b (too_many (drop most_records (x ∷ xs))) (first_bad name (with_head_and_root (x ∷ xs)))) (lt_false most_records (length (x ∷ xs)) h)
+judged_counted name (x ∷ xs) n h = ap (λ b. cond b (too_many (drop most_records (x ∷ xs))) (first_bad_among name (with_head_and_root (x ∷ xs)))) (lt_false most_records (length (x ∷ xs)) h)
 
-pub counted_rises : (records : List Record) → Rises records → Rises (with_head_and_root records)
+pub counted_rises : (records : List Record) → RisesByKey records → RisesByKey (with_head_and_root records)
 counted_rises records s = rises_with head_key (with_key root_key records) (rises_with root_key records s)
 
-with_length : (k : List ℕ) (rs : List Record) → length (with_key k rs) ≤ length rs + 1
-with_length k [] = omega arith
-with_length k (r ∷ rs) = let rest = with_length k rs in
-    elim (slice_cmp nat_cmp k r.key) as (λ o. length (match_ordering o (record { key = k; value = [] } ∷ r ∷ rs) (r ∷ rs) (r ∷ with_key k rs)) ≤ length (r ∷ rs) + 1) [ Less ↦ omega arith | Equal ↦ omega arith | Greater ↦ omega (arith, rest) ]
-
-pub counted_length : (records : List Record) → length (with_head_and_root records) ≤ length records + 2
-counted_length records = omega (arith, with_length head_key (with_key root_key records), with_length root_key records)
-
-pub loaded_good : ForkLaw → (name : List ℕ) (records : List Record) (rows : List TableRow) → Rises records → (records ≡ [] → ⊥) → length records ≤ 480000 → first_bad name (with_head_and_root records) ≡ None → rows ≡ rows_in name (with_head_and_root records)
+pub loaded_good : ForkLaw → (name : List ℕ) (records : List Record) (rows : List TableRow) → RisesByKey records → (records ≡ [] → ⊥) → length records ≤ 480000 → first_bad_among name (with_head_and_root records) ≡ None → rows ≡ rows_in name (with_head_and_root records)
     → (first_bad_record name records ≡ None) × (v : VolumeState) × IsVolumeOf name records rows v
 loaded_good law name records rows s n few good are =
     let t : Tables = tables_in (rows_in name (with_head_and_root records)) in

@@ -10,7 +10,7 @@ use Rattle.std.specs.declared.cmp.Ordering.TheVariants.{Less, Equal, Greater}
 use Rattle.std.proofs.lemmas.Slice.Eq.{bytes_eq-Decides}
 use Rattle.record_keeper.specs.declared.record.Record.{Record}
 use Rattle.volume_records.specs.Shape.{row_in}
-use Rattle.volume_records.specs.KeyOrder.{IsBelow, Rises, with_key, root_key}
+use Rattle.volume_records.specs.KeyOrder.{IsBelow, RisesByKey, with_key, root_key}
 use Rattle.volume_records.specs.Records.{head_key}
 use Rattle.volume_records.specs.lemma.KeyOrder.{has_key}
 use Rattle.volume_records.proofs.TestParts.{or_right}
@@ -42,9 +42,9 @@ below_with x k (r ∷ rs) e b = elim (by_bytes k r.key) as (λ o. IsBelow x (mat
   | Greater ↦ (b.0, below_with x k rs e b.1)
 ]
 
-pub rises_with : (k : List ℕ) (rs : List Record) → Rises rs → Rises (with_key k rs)
+pub rises_with : (k : List ℕ) (rs : List Record) → RisesByKey rs → RisesByKey (with_key k rs)
 rises_with k [] s = (tt, tt)
-rises_with k (r ∷ rs) s = elim (by_bytes k r.key) as (λ o. by_bytes k r.key ≡ o → Rises (match_ordering o (record { key = k; value = [] } ∷ r ∷ rs) (r ∷ rs) (r ∷ with_key k rs))) [
+rises_with k (r ∷ rs) s = elim (by_bytes k r.key) as (λ o. by_bytes k r.key ≡ o → RisesByKey (match_ordering o (record { key = k; value = [] } ∷ r ∷ rs) (r ∷ rs) (r ∷ with_key k rs))) [
   | Less ↦ λ e. ((e, below_through k r.key rs e s.0), s)
   | Equal ↦ λ e. s
   | Greater ↦ λ e. (below_with r.key k rs (turned_less k r.key e) s.0, rises_with k rs s.1)
@@ -94,7 +94,7 @@ not_there k (r ∷ rs) b = elim (bytes_eq r.key k) as (λ t. bytes_eq r.key k �
   | false ↦ λ t. not_there k rs b.1
 ] refl
 
-pub present_same : (k : List ℕ) (rs : List Record) → Rises rs → has_key k rs ≡ true → with_key k rs ≡ rs
+pub present_same : (k : List ℕ) (rs : List Record) → RisesByKey rs → has_key k rs ≡ true → with_key k rs ≡ rs
 present_same k [] s h = absurd (cc)
 present_same k (r ∷ rs) s h = elim (by_bytes k r.key) as (λ o. by_bytes k r.key ≡ o → match_ordering o (record { key = k; value = [] } ∷ r ∷ rs) (r ∷ rs) (r ∷ with_key k rs) ≡ r ∷ rs) [
   | Less ↦ λ e. absurd (let n : has_key k (r ∷ rs) ≡ false = not_there k (r ∷ rs) (e, below_through k r.key rs e s.0) in let i : true ≡ false = sym h ∙ n in cc)

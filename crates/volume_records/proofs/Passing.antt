@@ -22,9 +22,9 @@ use Rattle.volume_records.specs.declared.rows.TableRow.{TableRow}
 use Rattle.volume_records.specs.declared.rows.TableRow.TheVariants as row
 use Rattle.volume_records.specs.declared.tree.Place.{Place}
 use Rattle.volume_records.specs.Records.{record_of}
-use Rattle.volume_records.specs.Shape.{row_in, bare_row, is_formed}
+use Rattle.volume_records.specs.Shape.{row_in, bare_row, is_formed_record}
 use Rattle.volume_records.specs.Image.{Tables, tables_in, first_head, as_head, as_node, as_icon, as_appl}
-use Rattle.volume_records.specs.KeyOrder.{IsBelow, Rises}
+use Rattle.volume_records.specs.KeyOrder.{IsBelow, RisesByKey}
 use Rattle.volume_records.specs.FirstBad.{rows_in, fork_length, nodes_to, icons_to, appls_to, lacks_parent, is_twin, is_out_of_range, passes_limit, first_of, reason_of, bad_or, first_in}
 use Rattle.volume_records.specs.lemma.Climb.{id_of, climbs_to_root}
 use Rattle.volume_records.specs.lemma.Judged.{place_of, said_node, places_in, is_there, is_file_there, length_of, is_stray_here, is_outside_here, Before, is_twin_here, fork_sum, is_over_here, reason_here, and_row, next_in, next_or, said_rows, is_short_row, IsNamedRow}
@@ -108,29 +108,29 @@ below_rows : (k : List ℕ) (name : List ℕ) (records : List Record) → IsBelo
 below_rows k name [] b = tt
 below_rows k name (r ∷ records) b = below_read k name (row_in name r) r (rows_in name records) (λ x e. (row_is name r x e).1) b.0 (below_rows k name records b.1)
 
-rises_read : (name : List ℕ) (o : Option TableRow) (r : Record) (xs : List TableRow) → ((x : TableRow) → o ≡ Some x → record_of x ≡ r) → IsBelow r.key (map record_of xs) → Rises (map record_of xs) → Rises (map record_of (cons_option o xs))
+rises_read : (name : List ℕ) (o : Option TableRow) (r : Record) (xs : List TableRow) → ((x : TableRow) → o ≡ Some x → record_of x ≡ r) → IsBelow r.key (map record_of xs) → RisesByKey (map record_of xs) → RisesByKey (map record_of (cons_option o xs))
 rises_read name None r xs is b s = s
 rises_read name (Some x) r xs is b s = (subst (λ (q : Record). IsBelow q.key (map record_of xs)) (sym (is x refl)) b, s)
 
-rows_rise : (name : List ℕ) (records : List Record) → Rises records → Rises (map record_of (rows_in name records))
+rows_rise : (name : List ℕ) (records : List Record) → RisesByKey records → RisesByKey (map record_of (rows_in name records))
 rows_rise name [] s = tt
 rows_rise name (r ∷ records) s = rises_read name (row_in name r) r (rows_in name records) (λ x e. (row_is name r x e).1) (below_rows r.key name records s.0) (rows_rise name records s.1)
 
-formed_read : (name : List ℕ) (o : Option TableRow) (xs : List TableRow) → ((x : TableRow) → o ≡ Some x → is_formed name x ≡ true) → list_all (is_formed name) xs ≡ true → list_all (is_formed name) (cons_option o xs) ≡ true
+formed_read : (name : List ℕ) (o : Option TableRow) (xs : List TableRow) → ((x : TableRow) → o ≡ Some x → is_formed_record name x ≡ true) → list_all (is_formed_record name) xs ≡ true → list_all (is_formed_record name) (cons_option o xs) ≡ true
 formed_read name None xs is e = e
-formed_read name (Some x) xs is e = both_true (is_formed name x) (list_all (is_formed name) xs) (is x refl) e
+formed_read name (Some x) xs is e = both_true (is_formed_record name x) (list_all (is_formed_record name) xs) (is x refl) e
 
-rows_formed : (name : List ℕ) (records : List Record) → list_all (is_formed name) (rows_in name records) ≡ true
+rows_formed : (name : List ℕ) (records : List Record) → list_all (is_formed_record name) (rows_in name records) ≡ true
 rows_formed name [] = refl
 rows_formed name (r ∷ records) = formed_read name (row_in name r) (rows_in name records) (λ x e. (row_is name r x e).0) (rows_formed name records)
 
-order_read : (name : List ℕ) (records : List Record) → Rises records → InOrder (tables_in (rows_in name records))
+order_read : (name : List ℕ) (records : List Record) → RisesByKey records → InOrder (tables_in (rows_in name records))
 order_read name records s =
     let rows : List TableRow = rows_in name records in
     let whole = by_kind (rows_in name records) (rows_rise name records s) in
     let heads : List TableRow = map (λ h. row.Head h) (filter_map as_head (rows_in name records)) in
-    let rest = (rows_ends heads (behind_head (tables_in (rows_in name records))) (subst (λ (l : List TableRow). Rises (map record_of l)) (sym whole) (rows_rise name records s))).1 in
-    let formed = (all-ends (is_formed name) heads (behind_head (tables_in (rows_in name records))) (ap (list_all (is_formed name)) whole ∙ rows_formed name records)).1 in
+    let rest = (rows_ends heads (behind_head (tables_in (rows_in name records))) (subst (λ (l : List TableRow). RisesByKey (map record_of l)) (sym whole) (rows_rise name records s))).1 in
+    let formed = (all-ends (is_formed_record name) heads (behind_head (tables_in (rows_in name records))) (ap (list_all (is_formed_record name)) whole ∙ rows_formed name records)).1 in
     order_behind name (tables_in (rows_in name records)) rest formed
 
 below_each : (id : ℕ) (ns : List Node) → list_all (λ (n : Node). nat_lt id n.id) ns ≡ true → AllByRecursion (λ y. nat_cmp id y ≡ Less) (map id_of (map place_of ns))
@@ -293,11 +293,11 @@ around records i r h e = sym (take-append-drop i records) ∙ ap (λ (x : List R
 pub row_read : (name : List ℕ) (records : List Record) (rows : List (Option TableRow)) → rows ≡ map (row_in name) records → (i : ℕ) (r : Record) (o : Option TableRow) → i < length records → r ≡ get_or records i r → o ≡ get_or rows i o → o ≡ row_in name r
 row_read name records rows parsed i r o h e f = f ∙ ap (λ (x : List (Option TableRow)). get_or x i o) parsed ∙ get_or-map (row_in name) records i r o h ∙ ap (row_in name) (sym e)
 
-pub places_sorted : (name : List ℕ) (records : List Record) (rows : List (Option TableRow)) → rows ≡ map (row_in name) records → Rises records → IsStrictlySortedBy nat_cmp (map id_of (places_in rows))
+pub places_sorted : (name : List ℕ) (records : List Record) (rows : List (Option TableRow)) → rows ≡ map (row_in name) records → RisesByKey records → IsStrictlySortedBy nat_cmp (map id_of (places_in rows))
 places_sorted name records rows parsed s =
     subst (λ (ns : List Node). IsStrictlySortedBy nat_cmp (map id_of (map place_of ns))) (sym (ap (filter_map said_node) parsed ∙ nodes_said name records)) (ids_sorted (filter_map as_node (rows_in name records)) (order_read name records s).nodes)
 
-short_formed : (name : List ℕ) (o : Option TableRow) → ((x : TableRow) → o ≡ Some x → is_formed name x ≡ true) → is_short_row o ≡ true
+short_formed : (name : List ℕ) (o : Option TableRow) → ((x : TableRow) → o ≡ Some x → is_formed_record name x ≡ true) → is_short_row o ≡ true
 short_formed name None f = refl
 short_formed name (Some (row.Head h)) f = refl
 short_formed name (Some (row.Node n)) f = refl
@@ -309,7 +309,7 @@ short_formed name (Some (row.Appl a)) f = refl
 pub short_read : (name : List ℕ) (r : Record) (o : Option TableRow) → o ≡ row_in name r → is_short_row o ≡ true
 short_read name r o e = short_formed name o (λ x h. (row_is name r x (sym e ∙ h)).0)
 
-named_formed : (name : List ℕ) (o : Option TableRow) → ((x : TableRow) → o ≡ Some x → is_formed name x ≡ true) → IsNamedRow o
+named_formed : (name : List ℕ) (o : Option TableRow) → ((x : TableRow) → o ≡ Some x → is_formed_record name x ≡ true) → IsNamedRow o
 named_formed name None f = tt
 named_formed name (Some (row.Head h)) f = tt
 named_formed name (Some (row.Node n)) f = node_name name n (f (row.Node n) refl)
@@ -340,7 +340,7 @@ pushed_before name records i r o h e f =
     ∙ ap (λ (p : Option TableRow). before_of (rows_in name (take i records) ++ cons_option p [])) (sym f)
     ∙ sym (one_more (rows_in name (take i records)) o)
 
-reason_read : (name : List ℕ) (records : List Record) → Rises records → (xs : List Record) (r : Record) (ys : List Record) → records ≡ xs ++ r ∷ ys → (o : Option TableRow) → o ≡ row_in name r
+reason_read : (name : List ℕ) (records : List Record) → RisesByKey records → (xs : List Record) (r : Record) (ys : List Record) → records ≡ xs ++ r ∷ ys → (o : Option TableRow) → o ≡ row_in name r
     → reason_of (tables_in (rows_in name records)) o ≡ reason_here (map place_of (tables_in (rows_in name records)).nodes) (tables_in (rows_in name records)).head.next_id (before_of (rows_in name xs)) o
 reason_read name records s xs r ys e None f = refl
 reason_read name records s xs r ys e (Some x) f =
@@ -348,7 +348,7 @@ reason_read name records s xs r ys e (Some x) f =
     (ap (λ (l : List Record). tables_in (rows_in name l)) e ∙ ap tables_in (of_both (row_in name) xs (r ∷ ys) ∙ ap (λ (p : Option TableRow). rows_in name xs ++ cons_option p (rows_in name ys)) (sym f)))
     (order_read name records s)
 
-pub one_judged : (name : List ℕ) (records : List Record) (rows : List (Option TableRow)) → rows ≡ map (row_in name) records → Rises records → (i : ℕ) (r : Record) (o : Option TableRow) (reason : Option Reason) → i < length records → r ≡ get_or records i r → o ≡ get_or rows i o
+pub one_judged : (name : List ℕ) (records : List Record) (rows : List (Option TableRow)) → rows ≡ map (row_in name) records → RisesByKey records → (i : ℕ) (r : Record) (o : Option TableRow) (reason : Option Reason) → i < length records → r ≡ get_or records i r → o ≡ get_or rows i o
     → reason ≡ reason_here (places_in rows) (next_in rows) (before_of (rows_in name (take i records))) o
     → first_in name (tables_in (rows_in name records)) (drop i records) ≡ bad_or r.key reason (first_in name (tables_in (rows_in name records)) (drop (i + 1) records))
 one_judged name records rows parsed s i r o reason h e f why =

@@ -16,7 +16,7 @@ use Rattle.volume_records.specs.declared.rows.ForkBlock.{ForkBlock}
 use Rattle.volume_records.specs.declared.rows.TableRow.{TableRow}
 use Rattle.volume_records.specs.declared.rows.TableRow.TheVariants as row
 use Rattle.volume_records.specs.Records.{record_of, head_record, node_record, block_record, comment_record, icon_record, appl_record, flag_byte, long_bytes, word_bytes, quad_bytes, date_bytes}
-use Rattle.volume_records.specs.Shape.{row_in, guess, are_same, is_formed, is_formed_head, is_formed_node, is_formed_block, is_formed_comment, is_formed_icon, is_formed_appl, bare_row, has_fit_forks, node_in}
+use Rattle.volume_records.specs.Shape.{row_in, guess, are_same, is_formed_record, is_formed_head, is_formed_node, is_formed_block, is_formed_comment, is_formed_icon, is_formed_appl, bare_row, has_fit_forks, node_in}
 use Rattle.volume_records.proofs.TestParts.{left_true, right_true, lt_of, le_of, same_of, bytes_same, bytes_true, both_true}
 
 pub same_records : (a b : Record) → are_same a b ≡ true → a ≡ b
@@ -30,11 +30,11 @@ kept_is true g x e = (refl, cc)
 kept_is false g x e = absurd (cc)
 
 -- a row that is read is formed, and the record is the one that says it
-pub row_is : (name : List ℕ) (r : Record) (x : TableRow) → row_in name r ≡ Some x → (is_formed name x ≡ true) × (record_of x ≡ r)
+pub row_is : (name : List ℕ) (r : Record) (x : TableRow) → row_in name r ≡ Some x → (is_formed_record name x ≡ true) × (record_of x ≡ r)
 unfolding row_in
 row_is name r x e =
-    let k = kept_is (is_formed name (guess r) && are_same (record_of (guess r)) r) (guess r) x e in
-    (ap (is_formed name) (sym k.1) ∙ left_true _ _ k.0, ap record_of (sym k.1) ∙ same_records (record_of (guess r)) r (right_true _ _ k.0))
+    let k = kept_is (is_formed_record name (guess r) && are_same (record_of (guess r)) r) (guess r) x e in
+    (ap (is_formed_record name) (sym k.1) ∙ left_true _ _ k.0, ap record_of (sym k.1) ∙ same_records (record_of (guess r)) r (right_true _ _ k.0))
 
 same_itself : (r : Record) → are_same r r ≡ true
 same_itself r = both_true _ _ (bytes_true r.key r.key refl) (bytes_true r.value r.value refl)
@@ -210,7 +210,7 @@ guess_appl a f =
     let typed = right_true _ _ (left_true (is_typed_appl a) _ f) in
     appl_back a.node a.tag (left_true _ _ typed) (right_true _ _ typed) a.creator (same_of _ _ (right_true (is_typed_appl a) _ f))
 
-guess_back : (name : List ℕ) (x : TableRow) → is_formed name x ≡ true → guess (record_of x) ≡ x
+guess_back : (name : List ℕ) (x : TableRow) → is_formed_record name x ≡ true → guess (record_of x) ≡ x
 guess_back name (row.Head h) f = guess_head h f
 guess_back name (row.Node n) f = guess_node n (node_parts name n f)
 guess_back name (row.Block b) f = guess_block b f
@@ -219,8 +219,8 @@ guess_back name (row.Icon i) f = guess_icon i f
 guess_back name (row.Appl a) f = guess_appl a f
 
 -- the record of a formed row is read as that row
-pub read_back : (name : List ℕ) (x : TableRow) → is_formed name x ≡ true → row_in name (record_of x) ≡ Some x
+pub read_back : (name : List ℕ) (x : TableRow) → is_formed_record name x ≡ true → row_in name (record_of x) ≡ Some x
 unfolding row_in
 read_back name x f =
-    ap (λ g. cond (is_formed name g && are_same (record_of g) (record_of x)) (Some g) None) (guess_back name x f)
+    ap (λ g. cond (is_formed_record name g && are_same (record_of g) (record_of x)) (Some g) None) (guess_back name x f)
     ∙ ap (λ t. cond t (Some x) None) (both_true _ _ f (same_itself (record_of x)))

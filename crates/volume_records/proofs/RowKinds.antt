@@ -16,7 +16,7 @@ use Rattle.volume_records.specs.declared.rows.ForkBlock.{ForkBlock}
 use Rattle.volume_records.specs.declared.rows.TableRow.{TableRow}
 use Rattle.volume_records.specs.declared.rows.TableRow.TheVariants as row
 use Rattle.volume_records.specs.Records.{record_of, head_record, node_record, block_record, comment_record, icon_record, appl_record, long_bytes, flag_byte, head_key}
-use Rattle.volume_records.specs.KeyOrder.{IsBelow, Rises}
+use Rattle.volume_records.specs.KeyOrder.{IsBelow, RisesByKey}
 use Rattle.volume_records.specs.lemma.KeyOrder.{has_key}
 use Rattle.volume_records.specs.Image.{Tables, rows_of, tables_in, first_head, as_head, as_node, as_block, as_comment, as_icon, as_appl}
 use Rattle.volume_records.proofs.TestParts.{both_true, le_true, cases}
@@ -62,7 +62,7 @@ tags_above : (x : TableRow) (xs : List TableRow) → IsBelow (record_of x).key (
 tags_above x [] b = refl
 tags_above x (y ∷ xs) b = both_true _ _ (le_true _ _ (tags_le x y b.0)) (tags_above x xs b.1)
 
-pub tags_climb : (xs : List TableRow) → Rises (map record_of xs) → Climbs tag_of xs
+pub tags_climb : (xs : List TableRow) → RisesByKey (map record_of xs) → Climbs tag_of xs
 tags_climb [] s = tt
 tags_climb (x ∷ xs) s = (tags_above x xs s.0, tags_climb xs s.1)
 
@@ -142,7 +142,7 @@ behind_head t =
     ++ (map (λ icon. row.Icon icon) t.icons
     ++ map (λ appl. row.Appl appl) t.appls)))
 
-pub by_kind : (xs : List TableRow) → Rises (map record_of xs) → map (λ h. row.Head h) (filter_map as_head xs) ++ behind_head (tables_in xs) ≡ xs
+pub by_kind : (xs : List TableRow) → RisesByKey (map record_of xs) → map (λ h. row.Head h) (filter_map as_head xs) ++ behind_head (tables_in xs) ≡ xs
 by_kind xs s =
     sym (λ i. heads_are xs i ++ (nodes_are xs i ++ (blocks_are xs i ++ (comments_are xs i ++ (icons_are xs i ++ (ap (λ l. l ++ []) (appls_are xs) ∙ nil_behind (map (λ h. row.Appl h) (filter_map as_appl xs))) i)))))
     ∙ parted tag_of (λ n. n) tags xs (tags_climb xs s) ((refl, (refl, (refl, (refl, (refl, (refl, tt))))))) (are_tags xs)
@@ -188,15 +188,15 @@ some_head (x ∷ xs) e = cases (bytes_eq (record_of x).key head_key)
     (λ t. let h = has_head x t in (h.0, filter_map as_head xs, ap (λ o. cons_option o (filter_map as_head xs)) h.1))
     (λ f. cons_some (as_head x) (filter_map as_head xs) (some_head xs (ap (λ b. b || has_key head_key (map record_of xs)) (sym f) ∙ e)))
 
-one_only : (hs : List Head) (ys : List TableRow) → Rises (map record_of (map (λ h. row.Head h) hs ++ ys)) → IsSomeList hs → hs ≡ first_head hs ∷ []
+one_only : (hs : List Head) (ys : List TableRow) → RisesByKey (map record_of (map (λ h. row.Head h) hs ++ ys)) → IsSomeList hs → hs ≡ first_head hs ∷ []
 one_only [] ys s e = absurd (cc e.2)
 one_only (h ∷ []) ys s e = refl
 one_only (h ∷ k ∷ hs) ys s e = absurd (two_heads h k s.0.0)
 
 -- rows by rising key among which is a head are those of their tables
-pub rows_are : (xs : List TableRow) → Rises (map record_of xs) → has_key head_key (map record_of xs) ≡ true → rows_of (tables_in xs) ≡ xs
+pub rows_are : (xs : List TableRow) → RisesByKey (map record_of xs) → has_key head_key (map record_of xs) ≡ true → rows_of (tables_in xs) ≡ xs
 rows_are xs s e =
     let there = some_head xs e in
     let whole = by_kind xs s in
-    let one = one_only (filter_map as_head xs) (behind_head (tables_in xs)) (subst (λ (l : List TableRow). Rises (map record_of l)) (sym whole) s) there in
+    let one = one_only (filter_map as_head xs) (behind_head (tables_in xs)) (subst (λ (l : List TableRow). RisesByKey (map record_of l)) (sym whole) s) there in
     ap (λ (l : List Head). map (λ h. row.Head h) l ++ behind_head (tables_in xs)) (sym one) ∙ whole

@@ -16,7 +16,7 @@ use Rattle.volume_records.specs.declared.rows.ForkBlock.{ForkBlock}
 use Rattle.volume_records.specs.declared.rows.TableRow.{TableRow}
 use Rattle.volume_records.specs.declared.rows.TableRow.TheVariants as row
 use Rattle.volume_records.specs.Records.{record_of, node_record, block_record, comment_record, icon_record, appl_record, long_bytes, flag_byte}
-use Rattle.volume_records.specs.KeyOrder.{IsBelow, Rises}
+use Rattle.volume_records.specs.KeyOrder.{IsBelow, RisesByKey}
 use Rattle.volume_records.proofs.TestParts.{left_true, right_true, both_true, or_left, or_right, lt_of, le_of, lt_true, same_of, same_true}
 use Rattle.volume_records.proofs.ByteOrder.{long_less, long_of, byte_less, byte_of, front_same, turned}
 use Rattle.volume_records.proofs.Chains.{Chain}
@@ -32,7 +32,7 @@ module _ {A : Type 0} (make : A → TableRow) (R : A → A → Bool) (p : A → 
 
   -- rising keys are rows in their order
   pub in_chain : ((a b : A) → p a ≡ true → p b ≡ true → slice_cmp nat_cmp (record_of (make a)).key (record_of (make b)).key ≡ Less → R a b ≡ true)
-      → (xs : List A) → list_all p xs ≡ true → Rises (map record_of (map make xs)) → Chain R xs
+      → (xs : List A) → list_all p xs ≡ true → RisesByKey (map record_of (map make xs)) → Chain R xs
   in_chain h [] f s = tt
   in_chain h (x ∷ xs) f s = (below_each h x (left_true (p x) (list_all p xs) f) xs (right_true (p x) (list_all p xs) f) s.0, in_chain h xs (right_true (p x) (list_all p xs) f) s.1)
 
@@ -43,7 +43,7 @@ module _ {A : Type 0} (make : A → TableRow) (R : A → A → Bool) (p : A → 
 
   -- rows in their order have rising keys
   pub chain_up : ((a b : A) → p a ≡ true → p b ≡ true → R a b ≡ true → slice_cmp nat_cmp (record_of (make a)).key (record_of (make b)).key ≡ Less)
-      → (xs : List A) → list_all p xs ≡ true → Chain R xs → Rises (map record_of (map make xs))
+      → (xs : List A) → list_all p xs ≡ true → Chain R xs → RisesByKey (map record_of (map make xs))
   chain_up h [] f c = tt
   chain_up h (x ∷ xs) f c = (each_below h x (left_true (p x) (list_all p xs) f) xs (right_true (p x) (list_all p xs) f) c.0, chain_up h xs (right_true (p x) (list_all p xs) f) c.1)
 
@@ -81,16 +81,16 @@ key_of_comment : (a b : Comment) → is_long a.node ≡ true → is_long b.node 
 unfolding comment_record
 key_of_comment a b p q e = long_less a.node b.node [] [] (lt_of _ _ e) (fits b.node q)
 
-pub nodes_in_chain : (ns : List Node) → list_all (λ n. is_long n.id) ns ≡ true → Rises (map record_of (map (λ n. row.Node n) ns)) → Chain (λ a b. nat_lt a.id b.id) ns
+pub nodes_in_chain : (ns : List Node) → list_all (λ n. is_long n.id) ns ≡ true → RisesByKey (map record_of (map (λ n. row.Node n) ns)) → Chain (λ a b. nat_lt a.id b.id) ns
 nodes_in_chain = in_chain (λ n. row.Node n) (λ a b. nat_lt a.id b.id) (λ n. is_long n.id) node_of_key
 
-pub nodes_up : (ns : List Node) → list_all (λ n. is_long n.id) ns ≡ true → Chain (λ a b. nat_lt a.id b.id) ns → Rises (map record_of (map (λ n. row.Node n) ns))
+pub nodes_up : (ns : List Node) → list_all (λ n. is_long n.id) ns ≡ true → Chain (λ a b. nat_lt a.id b.id) ns → RisesByKey (map record_of (map (λ n. row.Node n) ns))
 nodes_up = chain_up (λ n. row.Node n) (λ a b. nat_lt a.id b.id) (λ n. is_long n.id) key_of_node
 
-pub comments_in_chain : (ns : List Comment) → list_all (λ (n : Comment). is_long n.node) ns ≡ true → Rises (map record_of (map (λ n. row.Comment n) ns)) → Chain (λ a b. nat_lt a.node b.node) ns
+pub comments_in_chain : (ns : List Comment) → list_all (λ (n : Comment). is_long n.node) ns ≡ true → RisesByKey (map record_of (map (λ n. row.Comment n) ns)) → Chain (λ a b. nat_lt a.node b.node) ns
 comments_in_chain = in_chain (λ n. row.Comment n) (λ a b. nat_lt a.node b.node) (λ n. is_long n.node) comment_of_key
 
-pub comments_up : (ns : List Comment) → list_all (λ (n : Comment). is_long n.node) ns ≡ true → Chain (λ a b. nat_lt a.node b.node) ns → Rises (map record_of (map (λ n. row.Comment n) ns))
+pub comments_up : (ns : List Comment) → list_all (λ (n : Comment). is_long n.node) ns ≡ true → Chain (λ a b. nat_lt a.node b.node) ns → RisesByKey (map record_of (map (λ n. row.Comment n) ns))
 comments_up = chain_up (λ n. row.Comment n) (λ a b. nat_lt a.node b.node) (λ n. is_long n.node) key_of_comment
 
 -- ---- icons and APPL mappings, by key
@@ -113,10 +113,10 @@ all_always : {A : Type 0} (xs : List A) → list_all (λ x. true) xs ≡ true
 all_always [] = refl
 all_always (x ∷ xs) = all_always xs
 
-pub icons_in_chain : (xs : List Icon) → Rises (map record_of (map (λ n. row.Icon n) xs)) → Chain icon_before xs
+pub icons_in_chain : (xs : List Icon) → RisesByKey (map record_of (map (λ n. row.Icon n) xs)) → Chain icon_before xs
 icons_in_chain xs s = in_chain (λ n. row.Icon n) icon_before (λ n. true) icon_of_key xs (all_always xs) s
 
-pub icons_up : (xs : List Icon) → Chain icon_before xs → Rises (map record_of (map (λ n. row.Icon n) xs))
+pub icons_up : (xs : List Icon) → Chain icon_before xs → RisesByKey (map record_of (map (λ n. row.Icon n) xs))
 icons_up xs c = chain_up (λ n. row.Icon n) icon_before (λ n. true) key_of_icon xs (all_always xs) c
 
 abbrev pub is_fit_appl : Appl → Bool
@@ -156,10 +156,10 @@ key_of_appl a b p q e =
       | inr r ↦ absurd (let k = r.1 in cc k)
     ]) (is_less (slice_cmp nat_cmp (appl_key a) (appl_key b)) e)
 
-pub appls_in_chain : (xs : List Appl) → list_all is_fit_appl xs ≡ true → Rises (map record_of (map (λ n. row.Appl n) xs)) → Chain appl_before xs
+pub appls_in_chain : (xs : List Appl) → list_all is_fit_appl xs ≡ true → RisesByKey (map record_of (map (λ n. row.Appl n) xs)) → Chain appl_before xs
 appls_in_chain = in_chain (λ n. row.Appl n) appl_before is_fit_appl appl_of_key
 
-pub appls_up : (xs : List Appl) → list_all is_fit_appl xs ≡ true → Chain appl_before xs → Rises (map record_of (map (λ n. row.Appl n) xs))
+pub appls_up : (xs : List Appl) → list_all is_fit_appl xs ≡ true → Chain appl_before xs → RisesByKey (map record_of (map (λ n. row.Appl n) xs))
 appls_up = chain_up (λ n. row.Appl n) appl_before is_fit_appl key_of_appl
 
 -- ---- blocks, by node, fork and index
@@ -212,10 +212,10 @@ key_of_block a b p q e =
     ap (λ n. slice_cmp nat_cmp (n ∷ long_bytes a.index) (flag_byte b.is_resource ∷ long_bytes b.index)) fork
     ∙ front_same (flag_byte b.is_resource ∷ []) (long_bytes a.index) (long_bytes b.index) ∙ long_less a.index b.index [] [] index (fits b.index (right_true (is_long b.node) _ q))))
 
-pub blocks_in_chain : (xs : List ForkBlock) → list_all is_fit_block xs ≡ true → Rises (map record_of (map (λ n. row.Block n) xs)) → Chain block_before xs
+pub blocks_in_chain : (xs : List ForkBlock) → list_all is_fit_block xs ≡ true → RisesByKey (map record_of (map (λ n. row.Block n) xs)) → Chain block_before xs
 blocks_in_chain = in_chain (λ n. row.Block n) block_before is_fit_block block_of_key
 
-pub blocks_up : (xs : List ForkBlock) → list_all is_fit_block xs ≡ true → Chain block_before xs → Rises (map record_of (map (λ n. row.Block n) xs))
+pub blocks_up : (xs : List ForkBlock) → list_all is_fit_block xs ≡ true → Chain block_before xs → RisesByKey (map record_of (map (λ n. row.Block n) xs))
 blocks_up = chain_up (λ n. row.Block n) block_before is_fit_block key_of_block
 
 -- ---- rows of several kinds
@@ -224,7 +224,7 @@ below_front : (k : List ℕ) (xs ys : List TableRow) → IsBelow k (map record_o
 below_front k [] ys b = tt
 below_front k (x ∷ xs) ys b = (b.0, below_front k xs ys b.1)
 
-pub rows_ends : (xs ys : List TableRow) → Rises (map record_of (xs ++ ys)) → Rises (map record_of xs) × Rises (map record_of ys)
+pub rows_ends : (xs ys : List TableRow) → RisesByKey (map record_of (xs ++ ys)) → RisesByKey (map record_of xs) × RisesByKey (map record_of ys)
 rows_ends [] ys s = (tt, s)
 rows_ends (x ∷ xs) ys s = let rest = rows_ends xs ys s.1 in ((below_front (record_of x).key xs ys s.0, rest.0), rest.1)
 
@@ -240,7 +240,7 @@ below_both k [] ys b c = c
 below_both k (x ∷ xs) ys b c = (b.0, below_both k xs ys b.1 c)
 
 -- rows whose first bytes are at most a number, and behind them rows whose first bytes are above it
-pub rows_both : (k : ℕ) (xs ys : List TableRow) → list_all (λ x. nat_le (tag_of x) k) xs ≡ true → list_all (λ y. nat_lt k (tag_of y)) ys ≡ true → Rises (map record_of xs) → Rises (map record_of ys) → Rises (map record_of (xs ++ ys))
+pub rows_both : (k : ℕ) (xs ys : List TableRow) → list_all (λ x. nat_le (tag_of x) k) xs ≡ true → list_all (λ y. nat_lt k (tag_of y)) ys ≡ true → RisesByKey (map record_of xs) → RisesByKey (map record_of ys) → RisesByKey (map record_of (xs ++ ys))
 rows_both k [] ys f g s r = r
 rows_both k (x ∷ xs) ys f g s r =
     (below_both (record_of x).key xs ys s.0 (below_later x k ys (le_of _ _ (left_true _ _ f)) g), rows_both k xs ys (right_true _ _ f) g s.1 r)

@@ -3,11 +3,11 @@ use Rattle.std.proofs.Common.{◌≡◌, ◌∙◌, ℕ, zero, suc, ◌-◌, ◌
 use Rattle.std.specs.Prelude.{Some, None, nat_le, ◌&&◌, ◌==◌, bytes_eq, slice_index}
 use Rattle.fork_bytes.specs.Blocks.{trimmed, before_zeros}
 use Rattle.afp_volume.specs.SoundVolume.{is_formed as is_formed_row, is_named}
-use Rattle.afp_volume.specs.TypedVolume.{is_byte, are_bytes, is_typed_row}
+use Rattle.afp_volume.specs.TypedVolume.{is_typed_row}
 use Rattle.record_keeper.specs.declared.record.Record.{Record}
 use Rattle.volume_records.specs.declared.rows.TableRow.TheVariants as row
 use Rattle.volume_records.specs.Records.{record_of}
-use Rattle.volume_records.specs.Shape.{row_in, guess, is_formed, is_formed_node, bare_row, has_fit_forks, is_root_or_other, head_in, node_in, block_in, comment_in, icon_in, appl_in, are_same}
+use Rattle.volume_records.specs.Shape.{row_in, guess, is_formed_record, is_formed_node, bare_row, has_fit_forks, is_root_or_other, head_in, node_in, block_in, comment_in, icon_in, appl_in, are_same}
 use Rattle.volume_records.proofs.TestParts.{both_true, lt_true, le_true, same_true, other_false, bytes_true}
 
 pub fits_bytes : (bs : List ℕ) → ((k : ℕ) → Fits w8 (get_or bs k 0)) → are_bytes bs ≡ true
@@ -36,7 +36,7 @@ short_node name r tag short =
     let node = node_in r.key r.value (take 32 (drop 19 r.value)) (drop 51 r.value) in
     let unnamed : is_named (bare_row node) ≡ false = right_false _ (length finder == 32) len in
     let unformed : is_formed_node name node ≡ false = right_false (is_typed_row (bare_row node)) (is_formed_row (bare_row node) && (has_fit_forks node && is_root_or_other name node)) (left_false (is_formed_row (bare_row node)) (has_fit_forks node && is_root_or_other name node) (left_false (is_named (bare_row node)) _ unnamed)) in
-    ap (λ g. cond (is_formed name g && are_same (record_of g) r) (Some g) None) (node_guess r tag)
+    ap (λ g. cond (is_formed_record name g && are_same (record_of g) r) (Some g) None) (node_guess r tag)
     ∙ ap (λ t. cond (t && are_same (record_of (row.Node node)) r) (Some (row.Node node)) None) unformed
 
 more_in_front : (b c : ℕ) (cs ts : List ℕ) → bytes_eq ts (c ∷ cs) ≡ bytes_eq (before_zeros b ts) (b ∷ c ∷ cs)

@@ -11,7 +11,7 @@ use Rattle.afp_volume.specs.TypedVolume.{is_date, is_quad, is_typed_row, is_type
 use Rattle.volume_records.specs.declared.rows.Node.{Node}
 use Rattle.volume_records.specs.declared.rows.ForkBlock.{ForkBlock}
 use Rattle.volume_records.specs.declared.rows.TableRow.TheVariants as row
-use Rattle.volume_records.specs.Shape.{bare_row, is_formed, is_formed_node, is_formed_comment, is_formed_icon, is_formed_appl, has_fit_forks, is_root_or_other}
+use Rattle.volume_records.specs.Shape.{bare_row, is_formed_record, is_formed_node, is_formed_comment, is_formed_icon, is_formed_appl, has_fit_forks, is_root_or_other}
 use Rattle.volume_records.specs.Image.{Tables}
 use Rattle.volume_records.specs.FirstBad.{tree_of, nodes_to, icons_to, appls_to}
 use Rattle.volume_records.proofs.TestParts.{left_true, right_true, both_true, cases, lt_of, lt_true, le_true, ge_of, same_of, other_false, turn_true, turn_false, not_true, neither, bytes_same, all-more, all-both, all-map, any-map, any-same, none-any, any-none, pick, then_of, and_false}
@@ -70,7 +70,7 @@ lower_differ a b e = other_false a.id b.id (λ h. absurd (let l : a.id < b.id = 
 tree_made : (name : List ℕ) (t : Tables) → IsWhole name t → is_tree (volume_of name t) ≡ true
 unfolding is_tree
 tree_made name t w =
-    let formed = each_kind (is_formed name) t w.formed in
+    let formed = each_kind (is_formed_record name) t w.formed in
     let clear = each_kind (is_clear t) t w.clear in
     let order = in_order name t w in
     let rows : List VolumeRow = map (row_from t.blocks) t.nodes in
@@ -215,7 +215,7 @@ comment_apart a b e = other_false a.node b.node (λ h. absurd (let l : a.node < 
 formed_made : ForkLaw → (name : List ℕ) (t : Tables) → IsWhole name t → is_formed_volume (volume_of name t) ≡ true
 unfolding is_formed_volume
 formed_made law name t w =
-    let formed = each_kind (is_formed name) t w.formed in
+    let formed = each_kind (is_formed_record name) t w.formed in
     let order = in_order name t w in
     let next = right_true (is_date t.head.created && (is_date t.head.modified && is_date t.head.backup)) (nat_le first_id t.head.next_id && nat_le t.head.next_id last_next_id) formed.head in
     let rows = all-map is_formed_row (row_from t.blocks) t.nodes ∙ all-more (is_formed_node name) (λ n. is_formed_row (row_from t.blocks n)) t.nodes (row_formed law name t.blocks) formed.nodes in

@@ -11,7 +11,7 @@ use Rattle.afp_volume.specs.TypedVolume.{is_byte, is_long, is_date, are_bytes, i
 use Rattle.volume_records.specs.declared.rows.Node.{Node}
 use Rattle.volume_records.specs.declared.rows.ForkBlock.{ForkBlock}
 use Rattle.volume_records.specs.declared.rows.TableRow.TheVariants as row
-use Rattle.volume_records.specs.Shape.{bare_row, is_formed, is_formed_node, is_formed_block, is_formed_comment, is_formed_icon, is_formed_appl, has_fit_forks, is_root_or_other}
+use Rattle.volume_records.specs.Shape.{bare_row, is_formed_record, is_formed_node, is_formed_block, is_formed_comment, is_formed_icon, is_formed_appl, has_fit_forks, is_root_or_other}
 use Rattle.volume_records.specs.Image.{Tables, tables_of, node_of, fork_blocks}
 use Rattle.volume_records.specs.FirstBad.{tree_of, fork_length}
 use Rattle.volume_records.proofs.TestParts.{left_true, right_true, both_true, cases, le_true, ge_of, turn_true, turn_false, bytes_same, all-more, all-both, all-map, any-map, any-more, none-any, all-swap, always, and_false, then_of}
@@ -86,7 +86,7 @@ owned t c = all-more (λ b. is_clear t (row.Block b)) (λ (b : ForkBlock). list_
 
 blocks_again : ForkLaw → (name : List ℕ) (t : Tables) → IsWhole name t → flat_map fork_blocks (map (row_from t.blocks) t.nodes) ≡ t.blocks
 blocks_again law name t w =
-    let formed = each_kind (is_formed name) t w.formed in
+    let formed = each_kind (is_formed_record name) t w.formed in
     let clear = each_kind (is_clear t) t w.clear in
     let order = in_order name t w in
     node_by_node law t.blocks order.blocks formed.blocks t.nodes (all_within t clear.blocks)
@@ -149,7 +149,7 @@ root_named name (n ∷ ns) f e = cases (n.id == root_id)
 pub volume_typed : (name : List ℕ) (t : Tables) → IsWhole name t → is_typed_volume (volume_of name t) ≡ true
 unfolding is_typed_volume
 volume_typed name t w =
-    let formed = each_kind (is_formed name) t w.formed in
+    let formed = each_kind (is_formed_record name) t w.formed in
     let dates = left_true (is_date t.head.created && (is_date t.head.modified && is_date t.head.backup)) (nat_le first_id t.head.next_id && nat_le t.head.next_id last_next_id) formed.head in
     let named = root_named name t.nodes formed.nodes w.root in
     let created = left_true (is_date t.head.created) (is_date t.head.modified && is_date t.head.backup) dates in

@@ -88,8 +88,8 @@ abbrev pub first_in : List ℕ → Tables → List Record → Option BadRecord
 first_in name t [] = None
 first_in name t (r ∷ records) = bad_or r.key (reason_of t (row_in name r)) (first_in name t records)
 
-abbrev pub first_bad : List ℕ → List Record → Option BadRecord
-first_bad name records = first_in name (tables_in (rows_in name records)) records
+abbrev pub first_bad_among : List ℕ → List Record → Option BadRecord
+first_bad_among name records = first_in name (tables_in (rows_in name records)) records
 
 -- a record with which a keeper passes that limit
 abbrev pub too_many : List Record → Option BadRecord
@@ -101,4 +101,4 @@ too_many (r ∷ records) = Some (record { key = r.key; reason = Limit })
 abbrev pub first_bad_record : List ℕ → List Record → Option BadRecord
 first_bad_record name [] = None
 first_bad_record name (r ∷ records) =
-    if nat_lt most_records (length (r ∷ records)) then too_many (drop most_records (r ∷ records)) else first_bad name (with_head_and_root (r ∷ records))
+    if nat_lt most_records (length (r ∷ records)) then too_many (drop most_records (r ∷ records)) else first_bad_among name (with_head_and_root (r ∷ records))

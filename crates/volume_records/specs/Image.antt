@@ -41,12 +41,12 @@ node_of r = record {
 }
 
 -- a block of a node's fork
-abbrev pub block_of : ℕ → Bool → Block → ForkBlock
-block_of id is_resource block = record { node = id; is_resource = is_resource; index = block.index; bytes = block.bytes }
+abbrev pub fork_block_of : ℕ → Bool → Block → ForkBlock
+fork_block_of id is_resource block = record { node = id; is_resource = is_resource; index = block.index; bytes = block.bytes }
 
 -- the blocks of both forks, the data fork's first
 abbrev pub fork_blocks : VolumeRow → List ForkBlock
-fork_blocks r = map (block_of r.id false) (blocks_of r.data_fork) ++ map (block_of r.id true) (blocks_of r.resource_fork)
+fork_blocks r = map (fork_block_of r.id false) (blocks_of r.data_fork) ++ map (fork_block_of r.id true) (blocks_of r.resource_fork)
 
 -- a volume in tables, each in the order of its records' keys
 abbrev pub tables_of : VolumeState → Tables

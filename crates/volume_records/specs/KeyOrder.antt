@@ -4,7 +4,7 @@ use Rattle.std.specs.Cmp.Lexicographic.{slice_cmp}
 use Rattle.std.specs.Ordering.{nat_cmp, match_ordering}
 use Rattle.afp_volume.specs.VolumeState.{root_id}
 use Rattle.record_keeper.specs.declared.record.Record.{Record}
-pub use Rattle.record_keeper.specs.Reading.{IsBelow, Rises}
+pub use Rattle.record_keeper.specs.Reading.{IsBelow, RisesByKey}
 use Rattle.volume_records.specs.Records.{node_key}
 pub use Rattle.volume_records.specs.Records.{head_key}
 

@@ -7,18 +7,18 @@ use Rattle.afp_volume.specs.TypedVolume.{is_typed_volume}
 use Rattle.record_keeper.specs.declared.record.Record.{Record}
 use Rattle.volume_records.specs.declared.rows.TableRow.{TableRow}
 use Rattle.volume_records.specs.Records.{record_of}
-use Rattle.volume_records.specs.Shape.{is_formed, row_in}
+use Rattle.volume_records.specs.Shape.{is_formed_record, row_in}
 use Rattle.volume_records.specs.Image.{Records, image, kept_image, records_in, tables_of}
 use Rattle.volume_records.specs.FromTables.{volume_of}
-use Rattle.volume_records.specs.KeyOrder.{Rises}
+use Rattle.volume_records.specs.KeyOrder.{RisesByKey}
 use Rattle.volume_records.specs.FirstBad.{first_bad_record}
 
 -- a row that is of a volume's shape is read from its record, and what is read is of that shape and has just that record
 abbrev pub RowsAreReadBack : Type 0
-RowsAreReadBack = (name : List ℕ) (x : TableRow) → is_formed name x ≡ true → row_in name (record_of x) ≡ Some x
+RowsAreReadBack = (name : List ℕ) (x : TableRow) → is_formed_record name x ≡ true → row_in name (record_of x) ≡ Some x
 
 abbrev pub ReadRowsAreFormed : Type 0
-ReadRowsAreFormed = (name : List ℕ) (r : Record) (x : TableRow) → row_in name r ≡ Some x → is_formed name x ≡ true
+ReadRowsAreFormed = (name : List ℕ) (r : Record) (x : TableRow) → row_in name r ≡ Some x → is_formed_record name x ≡ true
 
 abbrev pub ReadRowsAreTheirs : Type 0
 ReadRowsAreTheirs = (name : List ℕ) (r : Record) (x : TableRow) → row_in name r ≡ Some x → record_of x ≡ r
@@ -31,7 +31,7 @@ pub record IsVolume (name : List ℕ) (v : VolumeState) : Type 0 where
 
 -- the records of a sound volume rise by key
 abbrev pub ImagesRise : Type 0
-ImagesRise = (v : VolumeState) → IsSoundVolume v → Rises (image v)
+ImagesRise = (v : VolumeState) → IsSoundVolume v → RisesByKey (image v)
 
 -- where its numbers are in their ranges too, none of them is bad
 abbrev pub ImagesAreGood : Type 0
@@ -44,7 +44,7 @@ pub record HasRecords (name : List ℕ) (records : List Record) (v : VolumeState
 
 -- records by rising key of which none is bad are those of a volume
 abbrev pub GoodAreImages : Type 0
-GoodAreImages = (name : List ℕ) (records : List Record) → Rises records → (records ≡ [] → ⊥) → first_bad_record name records ≡ None → (v : VolumeState) × HasRecords name records v
+GoodAreImages = (name : List ℕ) (records : List Record) → RisesByKey records → (records ≡ [] → ⊥) → first_bad_record name records ≡ None → (v : VolumeState) × HasRecords name records v
 
 -- and of one alone
 abbrev pub ImagesDiffer : Type 0

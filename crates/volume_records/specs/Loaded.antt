@@ -15,6 +15,6 @@ pub record IsVolumeOf (name : List ℕ) (records : List Record) (rows : List Tab
   pub has_rows : rows ≡ rows_of (tables_of v)
 
 -- the first bad record; or, where none is bad, the rows of the volume whose records they are
-abbrev pub IsLoaded : List ℕ → List Record → Loaded → Type 0
-IsLoaded name records (loaded.Bad bad) = first_bad_record name records ≡ Some bad
-IsLoaded name records (loaded.Good rows) = (first_bad_record name records ≡ None) × (v : VolumeState) × IsVolumeOf name records rows.items v
+abbrev pub IsLoadedRows : List ℕ → List Record → Loaded → Type 0
+IsLoadedRows name records (loaded.Bad bad) = first_bad_record name records ≡ Some bad
+IsLoadedRows name records (loaded.Good rows) = (first_bad_record name records ≡ None) × (v : VolumeState) × IsVolumeOf name records rows.items v

@@ -61,11 +61,11 @@ node_key id = node_tag ∷ long_bytes id
 abbrev pub block_key : ℕ → Bool → ℕ → List ℕ
 block_key node is_resource index = block_tag ∷ (long_bytes node ++ (flag_byte is_resource ∷ long_bytes index))
 
-abbrev pub comment_key : ℕ → List ℕ
-comment_key node = comment_tag ∷ long_bytes node
+abbrev pub comment_record_key : ℕ → List ℕ
+comment_record_key node = comment_tag ∷ long_bytes node
 
-abbrev pub appl_key : List ℕ → ℕ → List ℕ
-appl_key creator node = appl_tag ∷ (creator ++ long_bytes node)
+abbrev pub appl_record_key : List ℕ → ℕ → List ℕ
+appl_record_key creator node = appl_tag ∷ (creator ++ long_bytes node)
 
 -- the volume's head: the version, the volume's dates, the next id
 unfoldable pub head_record : Head → Record
@@ -101,7 +101,7 @@ block_record block = record {
 -- the comment of a node
 unfoldable pub comment_record : Comment → Record
 comment_record comment = record {
-  key = comment_key comment.node;
+  key = comment_record_key comment.node;
   value = comment.text;
 }
 
@@ -115,7 +115,7 @@ icon_record icon = record {
 -- an APPL mapping of a creator and a file: its tag
 unfoldable pub appl_record : Appl → Record
 appl_record appl = record {
-  key = appl_key appl.creator appl.node;
+  key = appl_record_key appl.creator appl.node;
   value = long_bytes appl.tag;
 }
 

@@ -67,13 +67,13 @@ abbrev pub is_formed_appl : Appl → Bool
 is_formed_appl appl = is_typed_appl appl && (length appl.creator == code_size)
 
 -- a row of a volume of that name
-abbrev pub is_formed : List ℕ → TableRow → Bool
-is_formed name (row.Head head) = is_formed_head head
-is_formed name (row.Node node) = is_formed_node name node
-is_formed name (row.Block block) = is_formed_block block
-is_formed name (row.Comment comment) = is_formed_comment comment
-is_formed name (row.Icon icon) = is_formed_icon icon
-is_formed name (row.Appl appl) = is_formed_appl appl
+abbrev pub is_formed_record : List ℕ → TableRow → Bool
+is_formed_record name (row.Head head) = is_formed_head head
+is_formed_record name (row.Node node) = is_formed_node name node
+is_formed_record name (row.Block block) = is_formed_block block
+is_formed_record name (row.Comment comment) = is_formed_comment comment
+is_formed_record name (row.Icon icon) = is_formed_icon icon
+is_formed_record name (row.Appl appl) = is_formed_appl appl
 
 -- Numbers of two, four and eight bytes at a place, a date, and four bytes as they are. Bytes behind the end count as 0.
 abbrev pub word_at : List ℕ → ℕ → ℕ
@@ -139,4 +139,4 @@ are_same a b = bytes_eq a.key b.key && bytes_eq a.value b.value
 
 -- the row of a volume of that name whose record this is: the one whose record, written again, is the same
 unfoldable pub row_in : List ℕ → Record → Option TableRow
-row_in name r = if is_formed name (guess r) && are_same (record_of (guess r)) r then Some (guess r) else None
+row_in name r = if is_formed_record name (guess r) && are_same (record_of (guess r)) r then Some (guess r) else None

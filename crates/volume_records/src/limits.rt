@@ -15,6 +15,3 @@ pub(crate) const APPL: u8 = 5;
 
 /// The version of a volume's records.
 pub(crate) const VERSION: u16 = 1;
-
-/// The last next id, where the ids have ended.
-pub(crate) const LAST_NEXT_ID: u64 = 0x1_0000_0000;

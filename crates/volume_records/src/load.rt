@@ -1,8 +1,8 @@
 //! The rows of a volume from its records, or the first record that is bad.
 ghost use Rattle.std.specs.Prelude.{◌≡◌, ◌++◌, [], IfOk, OnOk};
 ghost use Rattle.std.specs.List.{cons_option};
-ghost use Rattle.volume_records.specs.KeyOrder.{Rises, with_key};
-ghost use Rattle.volume_records.specs.Loaded.{IsLoaded};
+ghost use Rattle.volume_records.specs.KeyOrder.{RisesByKey, with_key};
+ghost use Rattle.volume_records.specs.Loaded.{IsLoadedRows};
 ghost use Rattle.volume_records.specs.lemma.Judged.{said_rows};
 
 use crate::climb::push;
@@ -75,9 +75,9 @@ pub fn load_records(
     name: &[u8],
     records: &mut Vec<Record>,
 ) -> Result<Loaded, OutOfMemory>
-    requires order { Rises records.old.items }
+    requires order { RisesByKey records.old.items }
     requires some { records.old.items ≡ [] → ⊥ }
-    ensures { IfOk result (λ loaded. IsLoaded name.now records.old.items loaded) }
+    ensures { IfOk result (λ loaded. IsLoadedRows name.now records.old.items loaded) }
 {
     fork_bytes::laws::blocks_are_bytes();
     fork_bytes::laws::blocks_of_bytes_are_kept();

@@ -2,8 +2,8 @@
 ghost use Rattle.std.specs.Prelude.{◌≡◌, ◌++◌, ◌<◌, ◌^◌, [], map, length, IfOk, OnOk};
 ghost use Rattle.std.specs.List.{cons_option};
 ghost use Rattle.volume_records.specs.Shape.{row_in};
-ghost use Rattle.volume_records.specs.KeyOrder.{Rises};
-ghost use Rattle.volume_records.specs.FirstBad.{first_bad};
+ghost use Rattle.volume_records.specs.KeyOrder.{RisesByKey};
+ghost use Rattle.volume_records.specs.FirstBad.{first_bad_among};
 ghost use Rattle.volume_records.specs.lemma.Judged.{place_of, said_node, places_in, next_in};
 
 use crate::climb::push;
@@ -84,9 +84,9 @@ pub(crate) fn judge_all(
     rows: &[Option<TableRow>],
 ) -> Result<Option<BadRecord>, OutOfMemory>
     requires parsed { rows.now ≡ map (row_in name.now) records.now }
-    requires order { Rises records.now }
+    requires order { RisesByKey records.now }
     requires room { length rows.now < 2 ^ 60 }
-    ensures { IfOk result (λ bad. bad ≡ first_bad name.now records.now) }
+    ensures { IfOk result (λ bad. bad ≡ first_bad_among name.now records.now) }
 {
     let places = all_places(alloc, rows)?;
     let tree = grow(alloc, places)?;

@@ -3,15 +3,14 @@ ghost use Rattle.std.specs.Prelude.{◌≡◌, ◌==◌, ◌&&◌, nat_le, bytes
 ghost use Rattle.afp_names.specs.Name.{name_fault};
 ghost use Rattle.afp_volume.specs.TypedVolume.{are_bytes};
 ghost use Rattle.fork_bytes.specs.Blocks.{trimmed};
-ghost use Rattle.volume_records.specs.Shape.{is_formed as the_form, is_formed_head, is_formed_node, is_formed_block, is_formed_comment, is_formed_icon, is_formed_appl, is_root_or_other, has_fit_forks};
+ghost use Rattle.volume_records.specs.Shape.{is_formed_record as the_form, is_formed_head, is_formed_node, is_formed_block, is_formed_comment, is_formed_icon, is_formed_appl, is_root_or_other, has_fit_forks};
 
-use crate::limits::LAST_NEXT_ID;
 use crate::rows::{Appl, Comment, ForkBlock, Head, Icon, Node, TableRow};
 use afp_base::OutOfMemory;
 use afp_names::{Name, NameFault};
 use afp_volume::limits::{
-    DIRECTORY_ATTRIBUTES, FILE_ATTRIBUTES, FIRST_ID, LONGEST_COMMENT, LONGEST_ICON, ROOT_ID,
-    ROOT_PARENT_ID,
+    DIRECTORY_ATTRIBUTES, FILE_ATTRIBUTES, FIRST_ID, LAST_NEXT_ID, LONGEST_COMMENT, LONGEST_ICON,
+    ROOT_ID, ROOT_PARENT_ID,
 };
 use fork_bytes::BLOCK_SIZE;
 use std::alloc::Global;

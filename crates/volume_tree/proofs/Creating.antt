@@ -17,7 +17,7 @@ use Rattle.afp_volume.specs.Edits.{without}
 use Rattle.afp_volume.specs.SoundVolume.{IsSoundVolume, has_node, has_apart_names, are_named_alike}
 use Rattle.afp_volume.specs.VolumeState.{Row, VolumeState, new_row}
 use Rattle.afp_volume.specs.Walk.{Place, new_place, child_by_key}
-use Rattle.volume_tree.specs.lemma.Answered.{IsFound, option_id}
+use Rattle.volume_tree.specs.lemma.Answered.{IsFoundNode, option_id}
 use Rattle.volume_tree.specs.Planned.{IsPlan, IsNew, planned, gone_rows}
 use Rattle.volume_tree.specs.lemma.Planned.{plan_new}
 
@@ -97,6 +97,6 @@ create-file-plan v now dir path id parent name gone place id_is old s sound = re
 }
 
 -- a child, by what was answered of it
-pub child-answered : (o : Option NodeId) (wanted : Option ℕ) → IsFound o wanted → wanted ≡ option_id o
+pub child-answered : (o : Option NodeId) (wanted : Option ℕ) → IsFoundNode o wanted → wanted ≡ option_id o
 child-answered None wanted is = is
 child-answered (Some id) wanted is = is

@@ -6,7 +6,7 @@ use Rattle.std.specs.Ordering.{nat_cmp}
 use Rattle.afp_base.specs.ForkBytes.{splice, Reaches}
 use Rattle.afp_base.specs.declared.ids.NodeId.{NodeId}
 use Rattle.afp_base.specs.Limits.{block_size, most_fork_bytes}
-use Rattle.fork_bytes.specs.Plan.{PlanState as ForkPlanState, IsPlan as IsForkPlan}
+use Rattle.fork_bytes.specs.Plan.{ForkPlanState as ForkPlanState, IsForkPlan as IsForkPlan}
 use Rattle.node_rows.specs.Kept.{RowsValue}
 use Rattle.sorted_map.specs.Entries.{at}
 use Rattle.afp_volume.proofs.Formed.{limit-parts}

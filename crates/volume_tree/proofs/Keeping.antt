@@ -17,7 +17,7 @@ use Rattle.afp_volume.specs.SoundVolume.{IsSoundVolume, fork_bytes}
 use Rattle.afp_volume.specs.VolumeState.{Row, fresh_volume, never, new_row}
 use Rattle.afp_names.specs.Name.{name_fault}
 use Rattle.volume_tree.proofs.Showing.{any-shown}
-use Rattle.volume_tree.specs.lemma.Answered.{IsFound}
+use Rattle.volume_tree.specs.lemma.Answered.{IsFoundNode}
 use Rattle.volume_tree.specs.Kept.{Forks, data_of, resource_of, rows_of, state_of, spare_of}
 use Rattle.volume_tree.specs.lemma.Kept.{IsKeptVolume, IsShownAs, has_forks}
 use Rattle.volume_tree.specs.Shown.{TreeValue}
@@ -29,7 +29,7 @@ sound-is k is = subst (λ (v : TreeValue). IsSoundVolume v.state) is k.sound
 
 -- answers
 
-pub found-as : (answer : Option NodeId) (kept shown : Option ℕ) → MatchOption answer (kept ≡ None) (λ id. kept ≡ Some id.0) → shown ≡ kept → IsFound answer shown
+pub found-as : (answer : Option NodeId) (kept shown : Option ℕ) → MatchOption answer (kept ≡ None) (λ id. kept ≡ Some id.0) → shown ≡ kept → IsFoundNode answer shown
 found-as None kept shown found same = same ∙ found
 found-as (Some id) kept shown found same = same ∙ found
 

@@ -13,7 +13,7 @@ use Rattle.afp_volume.specs.Order.{in_order, put_in, rises_from, stands_before}
 use Rattle.afp_volume.specs.SoundVolume.{IsSoundVolume, has_rising_ids}
 use Rattle.afp_volume.specs.VolumeState.{Row, VolumeState}
 use Rattle.afp_volume.specs.Walk.{child_by_long_name}
-use Rattle.volume_tree.specs.lemma.Answered.{IsFound, lower, option_id}
+use Rattle.volume_tree.specs.lemma.Answered.{IsFoundNode, lower, option_id}
 
 -- whether a row has this long name
 abbrev pub has_long : List ℕ → Row → Bool
@@ -87,11 +87,11 @@ abbrev pub LowestSoFar : VolumeState → ℕ → List ℕ → ℕ → Option Nod
 LowestSoFar v dir element i found = lowest (has_long element) (drop i (listed v.rows dir)) (option_id found) ≡ lowest (has_long element) (listed v.rows dir) None
 
 module _ (v : VolumeState) (dir : ℕ) (element : List ℕ) (i : ℕ) (found : Option NodeId) (so_far : LowestSoFar v dir element i found) where
-  pub lowest-ends : IsSoundVolume v → length (listed v.rows dir) ≤ i → IsFound found (child_by_long_name v.rows dir element)
+  pub lowest-ends : IsSoundVolume v → length (listed v.rows dir) ≤ i → IsFoundNode found (child_by_long_name v.rows dir element)
   lowest-ends s behind =
       by found (sym (lowest-is v dir element s) ∙ sym so_far ∙ ap (λ l. lowest (has_long element) l (option_id found)) (drop_all i (listed v.rows dir) behind))
     where
-      by : (o : Option NodeId) → child_by_long_name v.rows dir element ≡ option_id o → IsFound o (child_by_long_name v.rows dir element)
+      by : (o : Option NodeId) → child_by_long_name v.rows dir element ≡ option_id o → IsFoundNode o (child_by_long_name v.rows dir element)
       by None is = is
       by (Some id) is = is
 

@@ -1,6 +1,6 @@
 -- A change of a fork's bytes that a volume has room for (this profile).
 use Rattle.std.specs.Prelude.{◌≡◌, ℕ, ◌+◌, ◌≤◌, Bool, List, length, Some}
-use Rattle.fork_bytes.specs.Plan.{PlanState as ForkPlanState, IsPlan as IsForkPlan}
+use Rattle.fork_bytes.specs.Plan.{ForkPlanState as ForkPlanState, IsForkPlan as IsForkPlan}
 use Rattle.afp_base.specs.Limits.{most_fork_bytes}
 use Rattle.afp_volume.specs.SoundVolume.{fork_bytes}
 use Rattle.afp_volume.specs.VolumeState.{VolumeState}

@@ -87,8 +87,8 @@ planned p v = record v {
 }
 
 -- what was planned is what a call does, whatever the volume's desktop database has
-abbrev pub Does : PlanState → VolumeState → (VolumeState → VolumeState) → Type 0
-Does p v does = (comments : List Comment) (icons : List Icon) (appls : List Appl)
+abbrev pub DoesCall : PlanState → VolumeState → (VolumeState → VolumeState) → Type 0
+DoesCall p v does = (comments : List Comment) (icons : List Icon) (appls : List Appl)
     → planned p (with_desktop v comments icons appls) ≡ does (with_desktop v comments icons appls)
 
 -- a row with the next id and no bytes, whose name is free in its directory

@@ -1,7 +1,7 @@
 //! Plans of forks carried out. None of these takes memory.
 ghost use Rattle.std.specs.Prelude.{◌≡◌, ◌==◌, ℕ, List, true, false, Some, None, length, is_some, if◌then◌else◌};
 ghost use Rattle.std.specs.Ordering.{nat_cmp};
-ghost use Rattle.fork_bytes.specs.Plan.{IsPlan as IsForkPlan};
+ghost use Rattle.fork_bytes.specs.Plan.{IsForkPlan as IsForkPlan};
 ghost use Rattle.sorted_map.specs.Entries.{at};
 ghost use Rattle.afp_volume.specs.ForkEffect.{fork_effect};
 ghost use Rattle.volume_tree.specs.ForkEffect.{IsForkChange};

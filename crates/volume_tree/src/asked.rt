@@ -8,7 +8,7 @@ ghost use Rattle.afp_volume.specs.Shared.{directory_of, has_attribute, has_no_id
 ghost use Rattle.afp_volume.specs.SoundVolume.{has_file};
 ghost use Rattle.afp_volume.specs.VolumeState.{Row};
 ghost use Rattle.afp_volume.specs.Walk.{parent_at, has_directory, child_by_key, child_by_long_name, row_at};
-ghost use Rattle.volume_tree.specs.lemma.Answered.{IsFound, lower, option_id};
+ghost use Rattle.volume_tree.specs.lemma.Answered.{IsFoundNode, lower, option_id};
 ghost use Rattle.volume_tree.specs.Shown.{opened};
 
 use crate::volume::{ROOT_PARENT, Volume};
@@ -76,7 +76,7 @@ impl Volume {
 
     /// The directory in which a node is.
     pub(crate) fn parent(&self, id: NodeId) -> Option<NodeId>
-        ensures { IsFound result (parent_at self.now.state.rows id.0) }
+        ensures { IsFoundNode result (parent_at self.now.state.rows id.0) }
     {
         match self.rows.get(id) {
             Some(node) => Some(node.parent),
@@ -126,7 +126,7 @@ impl Volume {
 
     /// The child of a directory whose name has this key.
     pub(crate) fn child(&self, dir: NodeId, key: &[u8]) -> Option<NodeId>
-        ensures { IsFound result (child_by_key self.now.state.rows dir.0 key.now) }
+        ensures { IsFoundNode result (child_by_key self.now.state.rows dir.0 key.now) }
     {
         self.rows.child(dir, key)
     }
@@ -138,7 +138,7 @@ impl Volume {
         dir: NodeId,
         name: &Name,
     ) -> Result<Option<NodeId>, OutOfMemory>
-        ensures { IfOk result (λ found. IsFound found (child_by_long_name self.now.state.rows dir.0 (element_of long_names name.now))) }
+        ensures { IfOk result (λ found. IsFoundNode found (child_by_long_name self.now.state.rows dir.0 (element_of long_names name.now))) }
     {
         let element = long_element(alloc, name)?;
         self.find_long(alloc, dir, element.as_slice())
@@ -151,7 +151,7 @@ impl Volume {
         dir: NodeId,
         element: &[u8],
     ) -> Result<Option<NodeId>, OutOfMemory>
-        ensures { IfOk result (λ found. IsFound found (child_by_long_name self.now.state.rows dir.0 element.now)) }
+        ensures { IfOk result (λ found. IsFoundNode found (child_by_long_name self.now.state.rows dir.0 element.now)) }
     {
         self.keeps_sound();
         let siblings = self.siblings(dir);

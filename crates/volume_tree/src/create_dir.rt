@@ -3,7 +3,7 @@ ghost use Rattle.std.specs.Prelude.{◌≡◌, IfOk};
 ghost use Rattle.afp_names.specs.Name.{name_key};
 ghost use Rattle.afp_volume.specs.CreateDir.{create_dir_refusal, create_dir_effect};
 ghost use Rattle.volume_tree.specs.Answered.{Refuses};
-ghost use Rattle.volume_tree.specs.Planned.{Does, IsPlan, planned};
+ghost use Rattle.volume_tree.specs.Planned.{DoesCall, IsPlan, planned};
 ghost use Rattle.volume_tree.specs.lemma.Planned.{plan_new};
 
 use crate::places::steps_are_named;
@@ -65,7 +65,7 @@ impl Volume {
     ) -> Result<Plan, PlanFault>
         ensures refused { Refuses result (create_dir_refusal self.now.state dir.0 path.now) }
         ensures effect { IfOk result (λ plan. planned plan self.now.state ≡ create_dir_effect self.now.state now dir.0 path.now) }
-        ensures whole { IfOk result (λ plan. Does plan self.now.state (λ v. create_dir_effect v now dir.0 path.now)) }
+        ensures whole { IfOk result (λ plan. DoesCall plan self.now.state (λ v. create_dir_effect v now dir.0 path.now)) }
         ensures plan { IfOk result (λ plan. IsPlan self.now.state plan) }
     {
         calls_keep_volumes_sound();

@@ -3,7 +3,7 @@ ghost use Rattle.std.specs.Prelude.{◌≡◌, Some, None, IfOk, IfErr};
 ghost use Rattle.afp_volume.specs.CreateFile.{create_file_refusal, create_file_effect, create_file_there};
 ghost use Rattle.volume_tree.specs.Answered.{Refuses};
 ghost use Rattle.volume_tree.specs.lemma.Answered.{option_id};
-ghost use Rattle.volume_tree.specs.Planned.{Does, IsPlan, planned};
+ghost use Rattle.volume_tree.specs.Planned.{DoesCall, IsPlan, planned};
 ghost use Rattle.volume_tree.specs.Shown.{opened};
 
 use crate::asked::is_busy;
@@ -33,7 +33,7 @@ impl Volume {
     ) -> Result<Plan, PlanFault>
         ensures refused { Refuses result (create_file_refusal self.now.state (opened opens.now) hard dir.0 path.now) }
         ensures effect { IfOk result (λ plan. planned plan self.now.state ≡ create_file_effect self.now.state now dir.0 path.now) }
-        ensures whole { IfOk result (λ plan. Does plan self.now.state (λ v. create_file_effect v now dir.0 path.now)) }
+        ensures whole { IfOk result (λ plan. DoesCall plan self.now.state (λ v. create_file_effect v now dir.0 path.now)) }
         ensures plan { IfOk result (λ plan. IsPlan self.now.state plan) }
     {
         calls_keep_volumes_sound();

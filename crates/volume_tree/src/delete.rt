@@ -3,7 +3,7 @@ ghost use Rattle.std.specs.Prelude.{◌≡◌, Ok, IfOk};
 ghost use Rattle.afp_volume.specs.Delete.{delete_refusal, delete_effect};
 ghost use Rattle.afp_volume.specs.Walk.{found};
 ghost use Rattle.volume_tree.specs.Answered.{Refuses};
-ghost use Rattle.volume_tree.specs.Planned.{Does, IsPlan, planned};
+ghost use Rattle.volume_tree.specs.Planned.{DoesCall, IsPlan, planned};
 ghost use Rattle.volume_tree.specs.Shown.{opened};
 
 use crate::asked::is_busy;
@@ -31,7 +31,7 @@ impl Volume {
     ) -> Result<Plan, PlanFault>
         ensures refused { Refuses result (delete_refusal self.now.state (opened opens.now) dir.0 path.now) }
         ensures effect { IfOk result (λ plan. planned plan self.now.state ≡ delete_effect self.now.state now dir.0 path.now) }
-        ensures whole { IfOk result (λ plan. Does plan self.now.state (λ v. delete_effect v now dir.0 path.now)) }
+        ensures whole { IfOk result (λ plan. DoesCall plan self.now.state (λ v. delete_effect v now dir.0 path.now)) }
         ensures plan { IfOk result (λ plan. IsPlan self.now.state plan) }
     {
         calls_keep_volumes_sound();

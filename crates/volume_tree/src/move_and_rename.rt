@@ -2,7 +2,7 @@
 ghost use Rattle.std.specs.Prelude.{◌≡◌, IfOk};
 ghost use Rattle.afp_volume.specs.MoveAndRename.{move_refusal, move_effect};
 ghost use Rattle.volume_tree.specs.Answered.{Refuses};
-ghost use Rattle.volume_tree.specs.Planned.{Does, IsPlan, planned};
+ghost use Rattle.volume_tree.specs.Planned.{DoesCall, IsPlan, planned};
 
 use crate::places::{new_name, steps_are_named};
 use crate::plan::Plan;
@@ -29,7 +29,7 @@ impl Volume {
     ) -> Result<Plan, PlanFault>
         ensures refused { Refuses result (move_refusal self.now.state dir.0 path.now to_dir.0 to_path.now new.now) }
         ensures effect { IfOk result (λ plan. planned plan self.now.state ≡ move_effect self.now.state now dir.0 path.now to_dir.0 to_path.now new.now) }
-        ensures whole { IfOk result (λ plan. Does plan self.now.state (λ v. move_effect v now dir.0 path.now to_dir.0 to_path.now new.now)) }
+        ensures whole { IfOk result (λ plan. DoesCall plan self.now.state (λ v. move_effect v now dir.0 path.now to_dir.0 to_path.now new.now)) }
         ensures plan { IfOk result (λ plan. IsPlan self.now.state plan) }
     {
         calls_keep_volumes_sound();

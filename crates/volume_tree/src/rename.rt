@@ -3,7 +3,7 @@ ghost use Rattle.std.specs.Prelude.{◌≡◌, IfOk};
 ghost use Rattle.afp_names.specs.Name.{name_key};
 ghost use Rattle.afp_volume.specs.Rename.{rename_refusal, rename_effect};
 ghost use Rattle.volume_tree.specs.Answered.{Refuses};
-ghost use Rattle.volume_tree.specs.Planned.{Does, IsPlan, planned};
+ghost use Rattle.volume_tree.specs.Planned.{DoesCall, IsPlan, planned};
 ghost use Rattle.volume_tree.specs.lemma.Planned.{plan_place};
 
 use crate::places::{only_name, steps_are_named};
@@ -69,7 +69,7 @@ impl Volume {
     ) -> Result<Plan, PlanFault>
         ensures refused { Refuses result (rename_refusal self.now.state dir.0 path.now new.now) }
         ensures effect { IfOk result (λ plan. planned plan self.now.state ≡ rename_effect self.now.state now dir.0 path.now new.now) }
-        ensures whole { IfOk result (λ plan. Does plan self.now.state (λ v. rename_effect v now dir.0 path.now new.now)) }
+        ensures whole { IfOk result (λ plan. DoesCall plan self.now.state (λ v. rename_effect v now dir.0 path.now new.now)) }
         ensures plan { IfOk result (λ plan. IsPlan self.now.state plan) }
     {
         calls_keep_volumes_sound();

@@ -3,7 +3,7 @@ ghost use Rattle.std.specs.Prelude.{◌≡◌, IfOk, IfSome, IsSome};
 ghost use Rattle.afp_volume.specs.CreateFile.{is_hard};
 ghost use Rattle.afp_volume.specs.TreeSteps.{tree_refusal, tree_effect};
 ghost use Rattle.volume_tree.specs.Answered.{Refuses};
-ghost use Rattle.volume_tree.specs.Planned.{Does, IsPlan, planned};
+ghost use Rattle.volume_tree.specs.Planned.{DoesCall, IsPlan, planned};
 ghost use Rattle.volume_tree.specs.Requests.{tree_call};
 ghost use Rattle.volume_tree.specs.Shown.{opened};
 
@@ -28,7 +28,7 @@ impl Volume {
         requires { IsSome (tree_call call.now) }
         ensures refused { IfSome (tree_call call.now) (λ call. Refuses result (tree_refusal self.now.state (opened opens.now) call)) }
         ensures effect { IfOk result (λ plan. IfSome (tree_call call.now) (λ call. planned plan self.now.state ≡ tree_effect self.now.state now call)) }
-        ensures whole { IfOk result (λ plan. IfSome (tree_call call.now) (λ call. Does plan self.now.state (λ v. tree_effect v now call))) }
+        ensures whole { IfOk result (λ plan. IfSome (tree_call call.now) (λ call. DoesCall plan self.now.state (λ v. tree_effect v now call))) }
         ensures plan { IfOk result (λ plan. IsPlan self.now.state plan) }
     {
         match call {

@@ -2,7 +2,7 @@
 ghost use Rattle.std.specs.Prelude.{◌≡◌, ◌≤◌, IfOk, length, take};
 ghost use Rattle.afp_volume.specs.Walk.{child, walk_from, walk, found};
 ghost use Rattle.volume_tree.specs.Answered.{Answers};
-ghost use Rattle.volume_tree.specs.lemma.Answered.{IsFound};
+ghost use Rattle.volume_tree.specs.lemma.Answered.{IsFoundNode};
 
 use crate::volume::{ROOT_PARENT, Volume};
 use afp_base::{Code, NodeId, OutOfMemory};
@@ -105,7 +105,7 @@ impl Volume {
         here: NodeId,
         name: &Name,
     ) -> Result<Option<NodeId>, OutOfMemory>
-        ensures { IfOk result (λ found. IsFound found (child self.now.state.rows kind here.0 name.now)) }
+        ensures { IfOk result (λ found. IsFoundNode found (child self.now.state.rows kind here.0 name.now)) }
     {
         let key = name.key(alloc)?;
         match self.child(here, key.as_slice()) {

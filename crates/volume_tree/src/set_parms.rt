@@ -2,7 +2,7 @@
 ghost use Rattle.std.specs.Prelude.{◌≡◌, Some, None, IfOk};
 ghost use Rattle.afp_volume.specs.SetFileDirParms.{set_file_parms_refusal, set_dir_parms_refusal, set_file_dir_parms_refusal, set_parms_effect};
 ghost use Rattle.volume_tree.specs.Answered.{Refuses};
-ghost use Rattle.volume_tree.specs.Planned.{Does, IsPlan, planned};
+ghost use Rattle.volume_tree.specs.Planned.{DoesCall, IsPlan, planned};
 ghost use Rattle.volume_tree.specs.lemma.Planned.{plan_set};
 
 use crate::plan::{Plan, Setting};
@@ -51,7 +51,7 @@ impl Volume {
     ) -> Result<Plan, PlanFault>
         ensures refused { Refuses result (set_file_parms_refusal self.now.state dir.0 bits path.now tail.now) }
         ensures effect { IfOk result (λ plan. planned plan self.now.state ≡ set_parms_effect self.now.state now dir.0 bits path.now tail.now) }
-        ensures whole { IfOk result (λ plan. Does plan self.now.state (λ v. set_parms_effect v now dir.0 bits path.now tail.now)) }
+        ensures whole { IfOk result (λ plan. DoesCall plan self.now.state (λ v. set_parms_effect v now dir.0 bits path.now tail.now)) }
         ensures plan { IfOk result (λ plan. IsPlan self.now.state plan) }
     {
         calls_keep_volumes_sound();
@@ -85,7 +85,7 @@ impl Volume {
     ) -> Result<Plan, PlanFault>
         ensures refused { Refuses result (set_dir_parms_refusal self.now.state dir.0 bits path.now tail.now) }
         ensures effect { IfOk result (λ plan. planned plan self.now.state ≡ set_parms_effect self.now.state now dir.0 bits path.now tail.now) }
-        ensures whole { IfOk result (λ plan. Does plan self.now.state (λ v. set_parms_effect v now dir.0 bits path.now tail.now)) }
+        ensures whole { IfOk result (λ plan. DoesCall plan self.now.state (λ v. set_parms_effect v now dir.0 bits path.now tail.now)) }
         ensures plan { IfOk result (λ plan. IsPlan self.now.state plan) }
     {
         calls_keep_volumes_sound();
@@ -119,7 +119,7 @@ impl Volume {
     ) -> Result<Plan, PlanFault>
         ensures refused { Refuses result (set_file_dir_parms_refusal self.now.state dir.0 bits path.now tail.now) }
         ensures effect { IfOk result (λ plan. planned plan self.now.state ≡ set_parms_effect self.now.state now dir.0 bits path.now tail.now) }
-        ensures whole { IfOk result (λ plan. Does plan self.now.state (λ v. set_parms_effect v now dir.0 bits path.now tail.now)) }
+        ensures whole { IfOk result (λ plan. DoesCall plan self.now.state (λ v. set_parms_effect v now dir.0 bits path.now tail.now)) }
         ensures plan { IfOk result (λ plan. IsPlan self.now.state plan) }
     {
         calls_keep_volumes_sound();

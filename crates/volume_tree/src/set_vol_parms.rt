@@ -4,7 +4,7 @@ ghost use Rattle.std.specs.Int.{w32, cast_signed};
 ghost use Rattle.byteorder.specs.Endian.{big_number};
 ghost use Rattle.afp_volume.specs.SetVolParms.{set_vol_parms_refusal, set_vol_parms_effect};
 ghost use Rattle.volume_tree.specs.Answered.{Refuses};
-ghost use Rattle.volume_tree.specs.Planned.{Does, IsPlan, planned};
+ghost use Rattle.volume_tree.specs.Planned.{DoesCall, IsPlan, planned};
 ghost use Rattle.volume_tree.specs.lemma.Planned.{plan_set};
 
 use crate::plan::Plan;
@@ -52,7 +52,7 @@ impl Volume {
     ) -> Result<Plan, PlanFault>
         ensures refused { Refuses result (set_vol_parms_refusal bits tail.now) }
         ensures effect { IfOk result (λ plan. planned plan self.now.state ≡ set_vol_parms_effect self.now.state now tail.now) }
-        ensures whole { IfOk result (λ plan. Does plan self.now.state (λ v. set_vol_parms_effect v now tail.now)) }
+        ensures whole { IfOk result (λ plan. DoesCall plan self.now.state (λ v. set_vol_parms_effect v now tail.now)) }
         ensures plan { IfOk result (λ plan. IsPlan self.now.state plan) }
     {
         calls_keep_volumes_sound();

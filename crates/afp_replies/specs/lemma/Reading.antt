@@ -10,8 +10,8 @@ use Rattle.afp_replies.specs.declared.reply.Reply.{Reply}
 use Rattle.afp_replies.specs.declared.reply.ReplyFault.{ReplyFault}
 use Rattle.afp_replies.specs.declared.reply.ReplyFault.TheVariants.{Bad, Memory}
 use Rattle.afp_replies.specs.Entry.{HasEntryLength, stated}
-use Rattle.afp_replies.specs.Words.{ReplyWord, Counted, Value, Spells, FaultAt}
-use Rattle.afp_replies.specs.Layout.{Layout, Lacks, Has, StopsAt}
+use Rattle.afp_replies.specs.Words.{ReplyWord, Counted, ReplyValue, SpellsWord, FaultAt}
+use Rattle.afp_replies.specs.Layout.{ReplyLayout, Lacks, Has, StopsAt}
 use Rattle.afp_replies.specs.Commands as commands
 
 -- the bytes that are not read yet, and the place of the first of them
@@ -20,31 +20,31 @@ pub record Rest : Type 0 where
   pub bytes : List ℕ
 
 -- a field was read, and no other stood there
-pub record Took (w : ReplyWord) (old : Rest) (x : Value w) (new : Rest) : Type 0 where
+pub record Took (w : ReplyWord) (old : Rest) (x : ReplyValue w) (new : Rest) : Type 0 where
   pub first : List ℕ
-  pub spelt : Spells w x first
+  pub spelt : SpellsWord w x first
   pub split : old.bytes ≡ first ++ new.bytes
   pub place : new.place ≡ old.place + length first
-  pub only : (y : Value w) (other rest : List ℕ) → Spells w y other → old.bytes ≡ other ++ rest → (y ≡ x) × (rest ≡ new.bytes)
+  pub only : (y : ReplyValue w) (other rest : List ℕ) → SpellsWord w y other → old.bytes ≡ other ++ rest → (y ≡ x) × (rest ≡ new.bytes)
 
 -- what reading a field answers
-abbrev pub TakesWord : (w : ReplyWord) → Rest → Result (Value w) ReplyFault → Rest → Type 0
+abbrev pub TakesWord : (w : ReplyWord) → Rest → Result (ReplyValue w) ReplyFault → Rest → Type 0
 TakesWord w old (Ok x) new = Took w old x new
 TakesWord w old (Err Memory) new = Unit {0}
 TakesWord w old (Err (Bad at)) new = Lacks w old.bytes × FaultAt w old.place old.bytes at
 
 -- the reply was read, and the bytes are no other
-pub record Found (l : Layout) (bytes : List ℕ) (r : Reply) : Type 0 where
+pub record Found (l : ReplyLayout) (bytes : List ℕ) (r : Reply) : Type 0 where
   pub has : Has l r bytes
   pub only : (s : Reply) → Has l s bytes → s ≡ r
 
 -- the bytes are no reply, and stop at this place
-pub record Missing (l : Layout) (here : Rest) (at : ℕ) : Type 0 where
+pub record Missing (l : ReplyLayout) (here : Rest) (at : ℕ) : Type 0 where
   pub stops : StopsAt l here.place here.bytes at
   pub none : (s : Reply) → Has l s here.bytes → ⊥
 
 -- what reading a layout answers
-unfoldable pub IsRead : Layout → Rest → Result Reply ReplyFault → Type 0
+unfoldable pub IsRead : ReplyLayout → Rest → Result Reply ReplyFault → Type 0
 IsRead l here (Ok r) = Found l here.bytes r
 IsRead l here (Err Memory) = Unit {0}
 IsRead l here (Err (Bad at)) = Missing l here at
@@ -74,9 +74,9 @@ abbrev pub row_of : ShapeRow → commands.ShapeRow
 row_of r = (r.0, r.1)
 
 -- what reading a part of a layout answers: it goes on with the part's value, or stops
-abbrev pub ReadsPart : {X : Type 0} → ((X → Layout) → Layout) → Rest → Result X ReplyFault → Rest → Type 0
-ReadsPart {X = X} part old (Ok x) new = (next : X → Layout) (res : Result Reply ReplyFault) → IsRead (next x) new res → IsRead (part next) old res
-ReadsPart {X = X} part old (Err e) new = (next : X → Layout) → IsRead (part next) old (Err e)
+abbrev pub ReadsPart : {X : Type 0} → ((X → ReplyLayout) → ReplyLayout) → Rest → Result X ReplyFault → Rest → Type 0
+ReadsPart {X = X} part old (Ok x) new = (next : X → ReplyLayout) (res : Result Reply ReplyFault) → IsRead (next x) new res → IsRead (part next) old res
+ReadsPart {X = X} part old (Err e) new = (next : X → ReplyLayout) → IsRead (part next) old (Err e)
 
 -- what reading the parameters of a kind for these bits answers: no other values have these bytes
 abbrev pub TakesParams : ℕ → ℕ → Rest → Result Values ReplyFault → Type 0

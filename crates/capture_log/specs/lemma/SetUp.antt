@@ -1,7 +1,7 @@
 -- The house that the first lines of a capture make, as far as they came (this profile).
 use Rattle.std.specs.Prelude.{◌≡◌, nat_le, Bool, true, false, [], length, None}
 use Rattle.afp_serial.specs.Household.{Household}
-use Rattle.afp_serial.specs.HouseFault.{is_name, first_bad, is_bad_user, is_bad_volume}
+use Rattle.afp_serial.specs.HouseFault.{is_name, first_bad_name, is_bad_user, is_bad_volume}
 use Rattle.afp_serial.specs.Limits.{longest_server, most_users, most_volumes}
 use Rattle.capture_server.specs.declared.part.Part.{Part}
 use Rattle.capture_server.specs.declared.part.Part.TheVariants as parts
@@ -30,8 +30,8 @@ has_volume parts.Nothing = true
 pub record IsSetUp (part : Part) (h : Household) : Type 0 where
   pub server : has_server part ≡ true → is_name longest_server h.server ≡ true
   pub few_users : nat_le (length h.users) most_users ≡ true
-  pub users : first_bad is_bad_user h.users ≡ None
+  pub users : first_bad_name is_bad_user h.users ≡ None
   pub some_volume : has_volume part ≡ true → nat_le 1 (length h.volumes) ≡ true
   pub few_volumes : nat_le (length h.volumes) most_volumes ≡ true
-  pub volumes : first_bad is_bad_volume h.volumes ≡ None
+  pub volumes : first_bad_name is_bad_volume h.volumes ≡ None
   pub message : h.message ≡ []

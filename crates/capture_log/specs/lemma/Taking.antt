@@ -13,7 +13,7 @@ use Rattle.capture_log.specs.Judged.{Decides}
 use Rattle.capture_log.specs.lemma.SetUp.{IsSetUp}
 use Rattle.afp_serial.specs.Limits.{most_volumes}
 use Rattle.capture_server.specs.Running.{Happened}
-use Rattle.capture_server.specs.CaptureState.{is_refused_on, CaptureState, Says, Goes, part_after, is_refused, is_bad, user_behind, start_at}
+use Rattle.capture_server.specs.CaptureState.{is_refused_on, CaptureState, Says, TakesGoodLine, part_after, is_refused, is_bad, user_behind, start_at}
 use Rattle.capture_server.specs.States.{RunningState, IsRunning}
 use Rattle.capture_server.specs.declared.difference.Difference.{Difference}
 use Rattle.capture_server.specs.declared.part.Part.{Part}
@@ -160,5 +160,5 @@ Acts s number link now what (Some verdict) r = DecidesLine s number (At link now
 
 -- A line leads to where the capture stands then, and is counted; or it decides.
 abbrev pub TakesRawLine : CaptureState → ℕ → List ℕ → Option ReplayEnd → HeldCapture → Type 0
-TakesRawLine s number raw None c = (t : CaptureState) × Goes s raw t × IsCapture c t × (c.number ≡ number)
+TakesRawLine s number raw None c = (t : CaptureState) × TakesGoodLine s raw t × IsCapture c t × (c.number ≡ number)
 TakesRawLine s number raw (Some verdict) c = Decides s number raw verdict

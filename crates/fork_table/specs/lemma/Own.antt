@@ -4,7 +4,7 @@ use Rattle.std.specs.Ordering.{nat_cmp, ordering_then}
 use Rattle.std.specs.declared.cmp.Ordering.{Ordering}
 use Rattle.fork_table.specs.declared.open_fork.OpenFork.{OpenFork}
 use Rattle.fork_table.specs.declared.own.OwnRef.{OwnRef}
-use Rattle.fork_table.specs.ForkTable.{is_of_session}
+use Rattle.fork_table.specs.ForkTable.{is_open_of_session}
 
 -- the order of sessions, and of the references of one session
 abbrev pub own_cmp : OwnRef → OwnRef → Ordering
@@ -26,7 +26,7 @@ own_entry row = (own_ref row.0 row.1, tt)
 
 -- of each session the entries are those of its opens
 abbrev pub AreOwn : List (ℕ × OpenFork) → List (OwnRef × Unit {0}) → Type 0
-AreOwn rows own = (session : ℕ) → filter (is_own session) own ≡ map own_entry (filter (λ row. is_of_session session row.1) rows)
+AreOwn rows own = (session : ℕ) → filter (is_own session) own ≡ map own_entry (filter (λ row. is_open_of_session session row.1) rows)
 
 -- the entries before the place pass, and no other does
 pub record IsSplitBy (test : OwnRef × Unit {0} → Bool) (own : List (OwnRef × Unit {0})) (place : ℕ) : Type 0 where

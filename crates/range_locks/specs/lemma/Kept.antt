@@ -8,7 +8,7 @@ use Rattle.afp_base.specs.Overlap.{Range}
 use Rattle.afp_base.specs.Apart.{are_apart}
 use Rattle.deny_modes.specs.lemma.ForkOrder.{fork_cmp}
 use Rattle.range_locks.specs.declared.rows.LockRow.{LockRow}
-use Rattle.range_locks.specs.Locks.{ForkLock, are_overlapping, AreIntervals, is_lock, has_lock}
+use Rattle.range_locks.specs.Locks.{ForkLock, are_overlapping, AreIntervals, is_fork_lock, has_fork_lock}
 
 -- the rows of a fork
 abbrev pub rows_at : List (Fork × List LockRow) → Fork → List LockRow
@@ -35,8 +35,8 @@ is_among locks fork = list_any (λ l. is_one_fork l.fork fork) locks
 
 -- the place of the lock of that reference on that fork, with exactly these ends; none where there is no such lock
 abbrev pub IsPlaceOf : List ForkLock → Fork → ℕ → Range → Option ℕ → Type 0
-IsPlaceOf locks fork reference range (Some place) = (place < length locks) × ((d : ForkLock) → is_lock fork reference range (slice_index_or locks place d) ≡ true)
-IsPlaceOf locks fork reference range None = has_lock locks fork reference range ≡ false
+IsPlaceOf locks fork reference range (Some place) = (place < length locks) × ((d : ForkLock) → is_fork_lock fork reference range (slice_index_or locks place d) ≡ true)
+IsPlaceOf locks fork reference range None = has_fork_lock locks fork reference range ≡ false
 
 -- references do not fall along the list, no two locks on one fork share a byte, and each fork has its rows
 pub record IsLockTable (locks : List ForkLock) (forks : List (Fork × List LockRow)) : Type 0 where

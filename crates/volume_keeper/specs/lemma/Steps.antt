@@ -11,10 +11,10 @@ use Rattle.record_keeper.specs.declared.record.Change.{Change}
 use Rattle.record_keeper.specs.declared.record.Change.TheVariants.{Remove}
 use Rattle.volume_records.specs.declared.rows.Node.{Node}
 use Rattle.volume_records.specs.declared.rows.TableRow.TheVariants as row
-use Rattle.volume_records.specs.Records.{node_key, block_key, comment_key, appl_key}
+use Rattle.volume_records.specs.Records.{node_key, block_key, comment_record_key, appl_record_key}
 use Rattle.volume_records.specs.Image.{node_of}
 use Rattle.volume_tree.specs.Shown.{fork_at}
-use Rattle.volume_keeper.specs.Changes.{put}
+use Rattle.volume_keeper.specs.Changes.{put_of}
 
 -- the record of a node is taken away, where the node is there
 abbrev pub node_taken : ℕ → Option VolumeRow → List Change
@@ -32,11 +32,11 @@ fork_taken id is_resource (Some bytes) = map (block_taken id is_resource) (block
 -- that of a comment, where it is there
 abbrev pub comment_taken : ℕ → Option Comment → List Change
 comment_taken id None = []
-comment_taken id (Some comment) = Remove (comment_key id) ∷ []
+comment_taken id (Some comment) = Remove (comment_record_key id) ∷ []
 
 -- those of the APPL mappings to a node
 abbrev pub appl_taken : ℕ → Appl → Change
-appl_taken id appl = Remove (appl_key appl.creator id)
+appl_taken id appl = Remove (appl_record_key appl.creator id)
 
 abbrev pub appls_taken : ℕ → List Appl → List Change
 appls_taken id appls = map (appl_taken id) (filter (λ appl. appl.node == id) appls)
@@ -50,10 +50,10 @@ all_taken id v =
     ++ (comment_taken id (comment_at id v.comments)
     ++ appls_taken id v.appls)))
 
--- the record of a node is put, where the node is there
+-- the record of a node is put_of, where the node is there
 abbrev pub node_put : Option VolumeRow → List Change
 node_put None = []
-node_put (Some r) = put (row.Node (node_of r)) ∷ []
+node_put (Some r) = put_of (row.Node (node_of r)) ∷ []
 
 -- those of the nodes of these ids that are there
 abbrev pub nodes_put : List VolumeRow → List NodeId → List Change

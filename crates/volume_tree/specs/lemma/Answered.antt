@@ -6,9 +6,9 @@ use Rattle.volume_tree.specs.declared.resolve.PlanFault.{PlanFault}
 use Rattle.volume_tree.specs.declared.resolve.PlanFault.TheVariants as fault
 
 -- the node that was found, if one was, is the one that is wanted
-abbrev pub IsFound : Option NodeId → Option ℕ → Type 0
-IsFound None wanted = wanted ≡ None
-IsFound (Some id) wanted = wanted ≡ Some id.0
+abbrev pub IsFoundNode : Option NodeId → Option ℕ → Type 0
+IsFoundNode None wanted = wanted ≡ None
+IsFoundNode (Some id) wanted = wanted ≡ Some id.0
 
 -- where an answer is a code, that is what was wanted
 abbrev pub FailsAs : {A B : Type 0} → Result A PlanFault → Result B Code → Type 0

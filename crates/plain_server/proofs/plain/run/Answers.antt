@@ -4,7 +4,7 @@ use Rattle.afp_serial.specs.Household.{Household}
 use Rattle.afp_serial.specs.HouseFault.{house_fault}
 use Rattle.plain_server.specs.Keeping.{keeping}
 use Rattle.plain_server.specs.lemma.Plain.{EndsHouse}
-use Rattle.plain_server.specs.Spoken.{spoken_of}
+use Rattle.plain_server.specs.Spoken.{values_of}
 use Rattle.plain_server.proofs.HouseEnds.{words-end}
 use Rattle.plain_server.proofs.OneHouse.{one_house}
 use Rattle.plain_server.proofs.plain.run.Goals as goal
@@ -12,7 +12,7 @@ use Rattle.plain_server.proofs.plain.run.Goals as goal
 pub returns-in-Ok : goal.returns-in-Ok
 returns-in-Ok g c = (
   λ spoken asks many.
-      let same = one_house _ c.args.token_key spoken (spoken_of c.in-Ok.words) asks.words_are c.in-Ok.ensures.found in
+      let same = one_house _ c.args.token_key spoken (values_of c.in-Ok.words) asks.words_are c.in-Ok.ensures.found in
       cc (ap house_fault same, asks.house_is, c.in-Err-house_for.ensures.fault c.in_default.not-Memory),
   refl,
 )
@@ -27,6 +27,6 @@ returns-in-Ok-house_for g c =
     let old = g.N.Listener.door_state c.args.door.now in
     let new = g.N.Listener.door_state c.serve_house.new.door in
     words-end g.N.Link.Link.link_state g.G.Gate.passed kept_by (map (λ (word : String Global). string_bytes word) c.args.words.now) c.args.keepers.items c.args.token_key clock old new
-    (spoken_of c.in-Ok.words) c.serve_house.result record { words_are = c.in-Ok.ensures.found; house_is = c.in-Ok-house_for.ensures.sound }
+    (values_of c.in-Ok.words) c.serve_house.result record { words_are = c.in-Ok.ensures.found; house_is = c.in-Ok-house_for.ensures.sound }
     (subst (λ (h : Household). EndsHouse g.N.Link.Link.link_state g.G.Gate.passed kept_by h c.args.keepers.items c.in-Ok.words.links clock old new c.serve_house.result)
     c.in-Ok-house_for.ensures.house c.serve_house.ensures)

@@ -1,6 +1,6 @@
 use Rattle.std.proofs.Common.{◌≡◌, ◌∙◌, ap, sym, refl, List, ℕ, String, Global, string_bytes}
 use Rattle.std.proofs.lemmas.Simd.{map-map}
-use Rattle.plain_server.specs.Spoken.{spoken_of}
+use Rattle.plain_server.specs.Spoken.{values_of}
 use Rattle.plain_server.specs.Words.{name_in}
 use Rattle.plain_server.specs.declared.setup.VolumePlace.TheVariants.{Memory}
 use Rattle.std.specs.Prelude.{Err}
@@ -14,7 +14,7 @@ returns-in-Err-clause-bad c = λ is.
 
 pub returns-in-Ok-places_of-clause-found : goal.returns-in-Ok-places_of-clause-found
 returns-in-Ok-places_of-clause-found c =
-    let spoken = spoken_of c.in-Ok.words in
+    let spoken = values_of c.in-Ok.words in
     record {
       spoken = spoken;
       words_are = c.in-Ok.ensures.found;

@@ -3,11 +3,11 @@ use Rattle.std.specs.Prelude.{if◌then◌else◌}
 use Rattle.afp_base.specs.declared.ids.NodeId.{NodeId}
 use Rattle.afp_volume.proofs.TestedLists.{any-map}
 use Rattle.afp_volume.specs.Shared.{Opened}
-use Rattle.afp_volume.specs.NodeValues.{is_open}
+use Rattle.afp_volume.specs.NodeValues.{has_open_fork}
 use Rattle.volume_answers.proofs.file.is_open.Goals as goal
 
 pub returns : goal.returns
-unfolding is_open
+unfolding has_open_fork
 returns c =
     c.has_fork.ensures
     ∙ sym (any-map (λ (open_fork : Opened). (open_fork.node == c.args.id.0) && (if c.args.resource then open_fork.resource else not open_fork.resource)) (λ (open_fork : NodeId × Bool). record { node = open_fork.0.0; resource = open_fork.1 }) c.args.opens.now)

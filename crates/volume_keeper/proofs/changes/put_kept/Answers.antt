@@ -7,7 +7,7 @@ use Rattle.afp_volume.specs.DesktopLaws.{with_desktop}
 use Rattle.record_keeper.specs.declared.record.Change.{Change}
 use Rattle.volume_tree.specs.Planned.{planned}
 use Rattle.volume_tree.specs.TouchedNodes.{IsTouched}
-use Rattle.volume_keeper.specs.Changes.{kept_records, put}
+use Rattle.volume_keeper.specs.Changes.{kept_records, put_of}
 use Rattle.volume_keeper.specs.lemma.Steps.{nodes_put}
 use Rattle.volume_keeper.proofs.KeptRecords.{tree_formed, kept_are_put}
 use Rattle.volume_keeper.proofs.changes.put_kept.Goals as goal
@@ -26,5 +26,5 @@ returns c =
     (ap (λ (l : List Change). l ++ nodes_put (planned c.args.plan.now c.held.inside.volume.state).rows c.as_slice.result.now) c.in_ok-put_head.ensures
     ∙ kept_are_put c.held.inside.volume.state c.held.inside.desktop.comments c.held.inside.desktop.icons c.held.inside.desktop.appls c.args.plan.now
     (subst (λ (v : VolumeState). IsSoundVolume (planned c.args.plan.now v)) is c.requires.sound) c.as_slice.result.now touched c.args.changes.now.items
-    ∙ ap (λ (v : VolumeState). c.args.changes.now.items ++ map put (kept_records c.args.plan.now (planned c.args.plan.now v))) (sym is))
+    ∙ ap (λ (v : VolumeState). c.args.changes.now.items ++ map put_of (kept_records c.args.plan.now (planned c.args.plan.now v))) (sym is))
     c.put_nodes.ensures

@@ -7,7 +7,7 @@ use Rattle.afp_volume.specs.Walk.{row_at}
 use Rattle.record_keeper.specs.declared.record.Change.{Change}
 use Rattle.record_keeper.specs.declared.record.Record.{Record}
 use Rattle.record_keeper.specs.Records.{changed}
-use Rattle.record_keeper.specs.Reading.{Rises}
+use Rattle.record_keeper.specs.Reading.{RisesByKey}
 use Rattle.std.specs.FinMap.{from_sorted}
 use Rattle.volume_records.specs.Image.{entries_of, kept_image}
 use Rattle.volume_keeper.specs.ForkChanges.{fork_changes_of}
@@ -21,8 +21,8 @@ use Rattle.volume_keeper.proofs.laws.forks_change_records.Goals as goal
 -- the records before and afterwards side by side
 record Sides (v : VolumeState) (now id : ℕ) (resource writes : Bool) (after : List ℕ) : Type 0 where
   pub steps : List Step
-  pub first : Rises (olds steps)
-  pub last : Rises (news steps)
+  pub first : RisesByKey (olds steps)
+  pub last : RisesByKey (news steps)
   pub strict : IsStrict steps
   pub changes : changes_in steps ≡ fork_changes_of v now id resource after writes
   pub old : from_sorted (entries_of (olds steps)) ≡ kept_image v
@@ -36,8 +36,8 @@ sides c v now id resource writes after file found is_file room sound =
     let old = all-olds now id resource writes after v in
     let new = all-news now id resource writes after v in
     let next = c.forks_are_given_bytes.ensures.sound v now id resource writes after file found is_file room sound in
-    let first : Rises (olds steps) = subst Rises (sym old) (c.records_are_images.ensures.rising v sound) in
-    let last : Rises (news steps) = subst Rises (sym new) (c.records_are_images.ensures.rising w next) in
+    let first : RisesByKey (olds steps) = subst RisesByKey (sym old) (c.records_are_images.ensures.rising v sound) in
+    let last : RisesByKey (news steps) = subst RisesByKey (sym new) (c.records_are_images.ensures.rising w next) in
     let was : IfSome (Some file) (λ (r : Row). length (fork_of resource r) ≤ 268435456) = c.forks_are_given_bytes.ensures.few v id resource file found sound in
     let few = subst (λ (o : Option Row). IfSome o (λ (r : Row). length (fork_of resource r) ≤ 268435456)) (sym found) was in
     let is = c.forks_are_given_bytes.ensures.room v id resource file (length after) found room in

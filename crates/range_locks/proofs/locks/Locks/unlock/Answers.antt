@@ -1,5 +1,5 @@
 use Rattle.std.proofs.Common.{◌∙◌, ap, filter, not}
-use Rattle.range_locks.specs.Locks.{are_one_row, is_lock}
+use Rattle.range_locks.specs.Locks.{are_one_row, is_fork_lock}
 use Rattle.range_locks.proofs.Keeping.{taken_rows, lock_alike, lost_kept, one_taken, is_there}
 use Rattle.range_locks.proofs.locks.Locks.unlock.Goals as goal
 
@@ -10,5 +10,5 @@ invariant_of-self c =
 pub returns : goal.returns
 returns c = (
   is_there c.args.fork.now c.args.r.0 c.args.range c.in-Some.place (c.as_slice.ensures.value ∙ c.self.view_is) c.in-Some.ensures,
-  one_taken c.args.fork.now c.args.r.0 c.args.range c.in-Some.place c.self.invariant c.as_slice.ensures.value c.in-Some.ensures c.remove.ensures.items ∙ ap (filter (λ l. not (is_lock c.args.fork.now c.args.r.0 c.args.range l))) c.self.view_is,
+  one_taken c.args.fork.now c.args.r.0 c.args.range c.in-Some.place c.self.invariant c.as_slice.ensures.value c.in-Some.ensures c.remove.ensures.items ∙ ap (filter (λ l. not (is_fork_lock c.args.fork.now c.args.r.0 c.args.range l))) c.self.view_is,
 )

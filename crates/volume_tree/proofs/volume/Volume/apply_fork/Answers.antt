@@ -1,6 +1,6 @@
 use Rattle.std.proofs.Common.{◌≡◌, ◌≤◌, ◌∙◌, ◌+◌, ◌-◌, ap, sym, subst, length, Some, None, nat_cmp, arith}
 use Rattle.std.specs.Prelude.{pos, if◌then◌else◌}
-use Rattle.fork_bytes.specs.Plan.{IsPlan as IsForkPlan}
+use Rattle.fork_bytes.specs.Plan.{IsForkPlan as IsForkPlan}
 use Rattle.sorted_map.specs.Entries.{at}
 use Rattle.afp_volume.specs.ForkEffect.{fork_effect}
 use Rattle.afp_volume.specs.SoundVolume.{fork_bytes}

@@ -1,7 +1,7 @@
 use Rattle.std.proofs.Common.{◌≤◌, ◌∙◌, ◌+◌, ◌*◌, ap, sym, subst, length, nat_cmp}
 use Rattle.afp_base.specs.ForkBytes.{splice}
 use Rattle.afp_base.specs.Limits.{most_fork_bytes}
-use Rattle.fork_bytes.specs.Plan.{IsPlan as IsForkPlan}
+use Rattle.fork_bytes.specs.Plan.{IsForkPlan as IsForkPlan}
 use Rattle.sorted_map.specs.Entries.{at}
 use Rattle.afp_volume.specs.VolumeState.{VolumeState}
 use Rattle.volume_tree.proofs.Filling.{after, ends-within, file, filled-kept, filled-state, plan-is}
