@@ -106,6 +106,16 @@ impl Bytes {
         self.0.as_mut_slice()[at..at + piece.len()].copy_from_slice(piece);
     }
 
+    /// Puts a number of 2 bytes, big-endian, in place of those from `at`.
+    pub fn put_u16(&mut self, at: usize, number: u16)
+        requires fits { at + 2 ≤ length self.old }
+        ensures { self.new ≡ take at self.old ++ big_bytes 2 number ++ drop (at + 2) self.old }
+    {
+        let mut bytes = [0; 2];
+        BigEndian::write_u16(&mut bytes, number);
+        self.put(at, &bytes);
+    }
+
     /// Takes away the bytes behind the first `len`, and gives no memory back.
     pub fn truncate(&mut self, len: usize)
         ensures { self.new ≡ take len self.old }

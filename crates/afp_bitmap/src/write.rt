@@ -135,9 +135,7 @@ fn patch(at: usize, number: u16, out: &mut Bytes)
     requires { at + 2 ≤ length out.old }
     ensures { out.new ≡ patched at number out.old }
 {
-    let mut bytes = [0; 2];
-    BigEndian::write_u16(&mut bytes, number);
-    out.put(at, &bytes);
+    out.put_u16(at, number);
 }
 
 /// Appends a name, and a zero where it is odd in length.

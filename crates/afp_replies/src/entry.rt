@@ -6,7 +6,6 @@ ghost use Rattle.afp_replies.specs.Entry.{pad_count};
 
 use crate::fields::DIRECTORY_FLAG;
 use afp_base::{Bytes, OutOfMemory};
-use byteorder::{BigEndian, ByteOrder};
 
 /// The flag of a directory or a file.
 pub fn flag_of(dir: bool) -> u8
@@ -34,9 +33,7 @@ pub fn put_length(wide: bool, at: usize, size: usize, out: &mut Bytes)
     ensures { out.new ≡ take at out.old ++ big_bytes (width wide) size ++ drop (at + width wide) out.old }
 {
     if wide {
-        let mut bytes = [0; 2];
-        BigEndian::write_u16(&mut bytes, size as u16);
-        out.put(at, &bytes);
+        out.put_u16(at, size as u16);
     } else {
         out.put(at, &[size as u8]);
     }

@@ -1,6 +1,7 @@
 //! What the types of fields say of their numbers. Each function says it, and does nothing.
 ghost use Rattle.std.specs.Prelude.{◌≡◌, ◌==◌, ◌&&◌, length, true};
 ghost use Rattle.std.specs.List.{list_all};
+ghost use Rattle.afp_base.specs.Limits.{signature_size, token_key_size};
 ghost use Rattle.afp_serial.specs.History.{entry};
 ghost use Rattle.afp_serial.specs.Ranges.{is_moment, is_typed_ask, is_typed_entry, is_typed_user};
 ghost use Rattle.afp_volume.specs.TypedVolume.{is_quad, are_bytes};
@@ -9,13 +10,7 @@ ghost use Rattle.afp_serial.specs.declared.ask.Outcome.{Outcome};
 use crate::ask::Ask;
 use crate::user::User;
 use afp_base::{LinkNumber, Moment};
-
-/// Bytes are below 256.
-fn bytes_in_range(bytes: &[u8])
-    ensures { are_bytes bytes.now ≡ true }
-{
-    let _ = bytes;
-}
+use afp_volume::bytes_in_range;
 
 /// A password has 8 bytes.
 fn user_in_range(user: &User)
@@ -37,8 +32,8 @@ fn users_in_range(users: &[User])
 /// A signature has 16 bytes, and a key of session tokens 32.
 pub fn fields_in_range(signature: &[u8; 16], users: &[User], token_key: &[u8; 32])
     ensures users { list_all is_typed_user users.now ≡ true }
-    ensures signature { (are_bytes signature.now && (length signature.now == 16)) ≡ true }
-    ensures token_key { (are_bytes token_key.now && (length token_key.now == 32)) ≡ true }
+    ensures signature { (are_bytes signature.now && (length signature.now == signature_size)) ≡ true }
+    ensures token_key { (are_bytes token_key.now && (length token_key.now == token_key_size)) ≡ true }
 {
     users_in_range(users);
     bytes_in_range(signature);

@@ -5,34 +5,14 @@ ghost use Rattle.std.specs.Prelude.{◌≡◌, false, IfOk};
 
 use afp_core::Counts;
 use afp_outside::{OpenGate, StdSink, SystemClock, TcpDoor};
+use plain_server::given::given_words;
 use plain_server::plain::{PlainEnd, afpd_plain, report_end};
 use plain_server::setup::setup;
 use plain_server::words::WordFault;
 use record_keeper::{Keeper, MemoryKeeper};
-use std::io::ErrorKind;
+use std::io;
 use std::process::ExitCode;
 use std::random::RandomSource;
-use std::{env, io};
-
-/// The words behind the program's name.
-fn spoken(rt: &HostRuntime) -> io::Result<Vec<String>> {
-    let mut words = Vec::new(rt.alloc());
-    for word in env::args(rt)?.skip(1) {
-        words.push(word)?;
-    }
-    Ok(words)
-}
-
-/// The same; none, where one of them is not UTF-8.
-fn words_of(rt: &HostRuntime) -> Result<Vec<String>, PlainEnd> {
-    match spoken(rt) {
-        Ok(words) => Ok(words),
-        Err(error) => match error.kind() {
-            ErrorKind::OutOfMemory => Err(PlainEnd::Memory),
-            _ => Ok(Vec::new(rt.alloc())),
-        },
-    }
-}
 
 /// The door that the words ask for; one that is closed, where they are others.
 fn door_of<'a>(rt: &'a HostRuntime, words: &[String]) -> Result<TcpDoor<&'a HostRuntime>, PlainEnd>
@@ -116,9 +96,8 @@ fn serve_kept(
 
 /// Serves what the words ask for, and gives the exit status.
 fn run(rt: &HostRuntime, report: &mut StdSink<&HostRuntime>) -> u8 {
-    let words = match words_of(rt) {
-        Ok(words) => words,
-        Err(end) => return report_end(end, report),
+    let Ok(words) = given_words(rt) else {
+        return report_end(PlainEnd::Memory, report);
     };
     match door_of(rt, words.as_slice()) {
         Ok(mut door) => serve(rt, words.as_slice(), &mut door, report),

@@ -6,8 +6,9 @@ ghost use Rattle.afp_volume.specs.Desktop.{is_appl, pair_key};
 ghost use Rattle.afp_volume.specs.SoundVolume.{appl_key};
 ghost use Rattle.afp_volume.specs.TypedVolume.{is_typed_appl};
 
-use crate::bytes::{bytes_in_range, long_in_range};
+use crate::bytes::long_in_range;
 use afp_base::NodeId;
+use afp_volume::bytes_in_range;
 use std::cmp::Ordering;
 use std::marker::Model;
 

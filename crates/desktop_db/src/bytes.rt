@@ -1,11 +1,6 @@
-//! What the types say of bytes and numbers.
+//! What the types say of numbers.
 ghost use Rattle.std.specs.Prelude.{◌≡◌, length, true};
-ghost use Rattle.afp_volume.specs.TypedVolume.{are_bytes, is_long};
-
-/// Bytes are in their range.
-pub(crate) fn bytes_in_range(bytes: &[u8])
-    ensures { are_bytes bytes.now ≡ true }
-{}
+ghost use Rattle.afp_volume.specs.TypedVolume.{is_long};
 
 /// A number of four bytes is in its range.
 pub(crate) fn long_in_range(number: u32)

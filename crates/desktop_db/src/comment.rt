@@ -6,8 +6,9 @@ ghost use Rattle.afp_volume.specs.Desktop.{comment_key};
 ghost use Rattle.afp_volume.specs.SoundVolume.{is_comment, longest_comment};
 ghost use Rattle.afp_volume.specs.TypedVolume.{is_typed_comment};
 
-use crate::bytes::{bytes_in_range, long_in_range};
+use crate::bytes::long_in_range;
 use afp_base::{Bytes, NodeId};
+use afp_volume::bytes_in_range;
 use afp_volume::limits::LONGEST_COMMENT;
 use std::cmp::Ordering;
 use std::marker::Model;

@@ -6,8 +6,9 @@ ghost use Rattle.afp_volume.specs.Desktop.{icon_under};
 ghost use Rattle.afp_volume.specs.SoundVolume as sound;
 ghost use Rattle.afp_volume.specs.TypedVolume.{is_typed_icon};
 
-use crate::bytes::{bytes_in_range, long_in_range, nine_bytes};
+use crate::bytes::{long_in_range, nine_bytes};
 use afp_base::Bytes;
+use afp_volume::bytes_in_range;
 use afp_volume::limits::LONGEST_ICON;
 use std::cmp::Ordering;
 use std::marker::Model;

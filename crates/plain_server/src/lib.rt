@@ -1,6 +1,7 @@
 //! The file server over one door: its words, its links one after the other, and its report.
 #![tactic(auto)]
 
+pub mod given;
 pub mod laws;
 pub mod links;
 pub mod plain;

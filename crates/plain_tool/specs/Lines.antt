@@ -84,7 +84,3 @@ reason_word reasons.Unexpected = codes "unexpected\n"
 -- a bad header at a place
 abbrev pub bad_frame_line : ℕ → Reason → List ℕ
 bad_frame_line at reason = codes "bad at " ++ decimal at ++ codes " " ++ reason_word reason
-
--- words that are no command of the tool
-abbrev pub bad_words : List ℕ
-bad_words = codes "bad words\n"

@@ -5,7 +5,8 @@ use Rattle.afp_outside.specs.Source.{SourceState}
 use Rattle.capture_log.specs.Reading.{Replays}
 use Rattle.capture_log.specs.declared.replay_end.ReplayEnd.{ReplayEnd}
 use Rattle.plain_tool.specs.Checking.{RunsCheck}
-use Rattle.plain_tool.specs.Lines.{replay_text, replay_status, bad_words}
+use Rattle.plain_server.specs.Reporting.{bad_words}
+use Rattle.plain_tool.specs.Lines.{replay_text, replay_status}
 use Rattle.plain_tool.specs.Telling.{Tells}
 use Rattle.plain_tool.specs.declared.words.Command.{Command}
 use Rattle.plain_tool.specs.declared.words.Command.TheVariants.{Replay, Check}

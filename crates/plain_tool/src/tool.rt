@@ -1,7 +1,7 @@
 //! The tool's top call.
 ghost use Rattle.std.specs.Prelude.{◌≡◌, ◌<◌, ◌^◌, false, map, string_bytes};
 ghost use Rattle.capture_server.specs.Keepers.{AreFresh};
-ghost use Rattle.plain_tool.specs.Lines.{bad_words};
+ghost use Rattle.plain_server.specs.Reporting.{bad_words};
 ghost use Rattle.plain_tool.specs.Telling.{Tells};
 ghost use Rattle.plain_tool.specs.Tool.{RunsTool, command_in};
 

@@ -4,7 +4,7 @@ use std::alloc::Global;
 use std::test::Fail;
 
 fn bytes(alloc: Global, text: &str) -> Result<Bytes, Fail> {
-    Bytes::of(alloc, text.as_bytes())
+    Ok(Bytes::of(alloc, text.as_bytes())?)
 }
 
 /// A change as text: `key=value`, or `key` alone where it is removed.

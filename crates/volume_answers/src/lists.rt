@@ -19,7 +19,6 @@ use afp_base::{Bytes, Code, NodeId, OutOfMemory};
 use afp_bitmap::{DirBits, FileBits, is_outside};
 use afp_names::Path;
 use afp_volume::laws::rows_are_changed_in_place;
-use byteorder::{BigEndian, ByteOrder};
 use deny_modes::VolumeOpens;
 use node_rows::Node;
 use std::alloc::Global;
@@ -139,16 +138,6 @@ fn start_place(volume: &Volume, asked: &ListAsked, dir: NodeId) -> Option<usize>
     }
 }
 
-/// Writes how many entries there are at the place of that number.
-fn put_count(at: usize, count: u16, out: &mut Bytes)
-    requires { at + 2 ≤ length out.old }
-    ensures { out.new ≡ take at out.old ++ big_bytes 2 count ++ drop (at + 2) out.old }
-{
-    let mut bytes = [0; 2];
-    BigEndian::write_u16(&mut bytes, count);
-    out.put(at, &bytes);
-}
-
 /// Appends a list: the bits, how many entries there are, and the entries of the children of a directory from a place on, as many
 /// as are asked and fit; and answers how many these are. After an error, any part of it may stand there.
 fn put_list(
@@ -171,7 +160,7 @@ fn put_list(
     let at = out.as_slice().len();
     out.push_u16(0)?;
     let count = fill(alloc, volume, opens, asked, dir, first, out)?;
-    put_count(at, count, out);
+    out.put_u16(at, count);
     Ok(count)
 }
 

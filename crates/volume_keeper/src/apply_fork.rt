@@ -8,15 +8,11 @@ ghost use Rattle.volume_tree.specs.ForkEffect.{IsForkChange};
 
 use crate::held::Held;
 use afp_base::{Moment, NodeId};
+use afp_volume::bytes_in_range;
 use afp_volume::laws::forks_are_given_bytes;
 use fork_bytes::ForkPlan;
 use fork_bytes::laws::blocks_are_bytes;
 use std::alloc::Global;
-
-/// Bytes are in their range. The call does nothing.
-fn bytes_in_range(bytes: &[u8])
-    ensures { are_bytes bytes.now ≡ true }
-{}
 
 /// The bytes of the blocks that a plan changes are in their range. The call changes nothing.
 fn changes_in_range(plan: &ForkPlan)

@@ -8,17 +8,13 @@ ghost use Rattle.volume_records.specs.Shape.{is_formed_record as the_form, is_fo
 use crate::rows::{Appl, Comment, ForkBlock, Head, Icon, Node, TableRow};
 use afp_base::OutOfMemory;
 use afp_names::{Name, NameFault};
+use afp_volume::bytes_in_range;
 use afp_volume::limits::{
     DIRECTORY_ATTRIBUTES, FILE_ATTRIBUTES, FIRST_ID, LAST_NEXT_ID, LONGEST_COMMENT, LONGEST_ICON,
     ROOT_ID, ROOT_PARENT_ID,
 };
 use fork_bytes::BLOCK_SIZE;
 use std::alloc::Global;
-
-/// All bytes are bytes.
-fn bytes_are_bytes(bytes: &[u8])
-    ensures { are_bytes bytes.now ≡ true }
-{}
 
 fn is_head_formed(head: &Head) -> bool
     ensures { result ≡ is_formed_head head.now }
@@ -86,8 +82,8 @@ fn is_node_formed(alloc: Global, name: &[u8], node: &Node) -> Result<bool, OutOf
     let _created = node.created;
     let _modified = node.modified;
     let _backup = node.backup;
-    bytes_are_bytes(node.finder.as_slice());
-    bytes_are_bytes(node.name.as_slice());
+    bytes_in_range(node.finder.as_slice());
+    bytes_in_range(node.name.as_slice());
     let named = is_name(alloc, node.name.as_slice())?;
     let fit = are_attributes_fit(node);
     let forks = are_forks_fit(node);
@@ -112,7 +108,7 @@ fn is_block_formed(block: &ForkBlock) -> bool
     let _node = block.node;
     let _index = block.index;
     let bytes = block.bytes.as_slice();
-    bytes_are_bytes(bytes);
+    bytes_in_range(bytes);
     ends_well(bytes) && bytes.len() <= BLOCK_SIZE
 }
 
@@ -121,7 +117,7 @@ fn is_comment_formed(comment: &Comment) -> bool
 {
     let _node = comment.node;
     let text = comment.text.as_slice();
-    bytes_are_bytes(text);
+    bytes_in_range(text);
     1 <= text.len() && text.len() <= LONGEST_COMMENT
 }
 
@@ -130,7 +126,7 @@ fn codes_are_codes(code: &[u8; 4])
     ensures size { length code.now ≡ 4 }
     ensures bytes { are_bytes code.now ≡ true }
 {
-    bytes_are_bytes(code.as_slice());
+    bytes_in_range(code.as_slice());
 }
 
 fn is_icon_formed(icon: &Icon) -> bool
@@ -141,7 +137,7 @@ fn is_icon_formed(icon: &Icon) -> bool
     let bits = icon.bits.as_slice();
     codes_are_codes(&icon.creator);
     codes_are_codes(&icon.kind);
-    bytes_are_bytes(bits);
+    bytes_in_range(bits);
     bits.len() <= LONGEST_ICON
 }
 

@@ -6,4 +6,4 @@ use Rattle.afp_bitmap.proofs.write.patch.Goals as goal
 pub returns : goal.returns
 returns c =
     rw (drop-drop 2 c.args.at c.args.out.now)
-    ((rw c.write_u16.ensures at c.put.ensures) ∙ append_assoc (take c.args.at c.args.out.now) (big_bytes 2 c.args.number) (drop (c.args.at + 2) c.args.out.now))
+    (c.put_u16.ensures ∙ append_assoc (take c.args.at c.args.out.now) (big_bytes 2 c.args.number) (drop (c.args.at + 2) c.args.out.now))

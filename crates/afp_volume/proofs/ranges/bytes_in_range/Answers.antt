@@ -3,7 +3,7 @@ use Rattle.std.proofs.lemmas.Bool.{lt-ltb}
 use Rattle.std.proofs.lemmas.List.Elements.{All-from_get_or}
 use Rattle.afp_volume.proofs.TestedLists.{all-each}
 use Rattle.afp_volume.specs.TypedVolume.{is_byte}
-use Rattle.desktop_db.proofs.bytes.bytes_in_range.Goals as goal
+use Rattle.afp_volume.proofs.ranges.bytes_in_range.Goals as goal
 
 pub returns : goal.returns
 returns c =
