@@ -21,7 +21,7 @@ abbrev pub optional_bytes : Option ℕ → List ℕ
 optional_bytes None = []
 optional_bytes (Some x) = u32_bytes x
 
--- a pad_byte byte
+-- a pad byte
 abbrev pub pad_byte : List ℕ
 pad_byte = 0 ∷ []
 

@@ -2,7 +2,7 @@
 use Rattle.std.proofs.Common.{◌≡◌, ◌≢◌, ◌==◌, ◌&&◌, ◌+◌, ◌*◌, Bor, Ok, ℕ, zero, suc, ◌<◌, ◌≤◌, Bool, true, false, not, cond, nat_lt, List, [], ◌∷◌, ◌++◌, length, take, drop, Option, Some, None, refl, sym, ap, ◌∙◌, subst, inl, inr, arith, ltb-false, le-ltb, lt-ltb}
 use Rattle.std.proofs.lemmas.Bool.{false≢true}
 use Rattle.std.proofs.lemmas.Bool.Decides.{eqb_tells}
-use Rattle.afp_base.specs.Cursor.{Cursor, ReadsNumber, ReadsBytes, behind, piece_at}
+use Rattle.afp_base.specs.Cursor.{Cursor, ReadsNumber, ReadsBytes, cursor_after, piece_at}
 use Rattle.afp_base.specs.Limits.{payload_limit}
 use Rattle.dsi_frame.specs.declared.frame.DsiCommand.{DsiCommand}
 use Rattle.dsi_frame.specs.declared.frame.DsiCommand.TheVariants as commands
@@ -133,11 +133,11 @@ pub numbers_scanned : (bytes : List ℕ) (a b c d e : ℕ) (reserved : Bor (List
     → ReadsNumber 1 s0 (Ok a) s1 → ReadsNumber 1 s1 (Ok b) s2 → ReadsNumber 2 s2 (Ok c) s3 → ReadsNumber 4 s3 (Ok d) s4 → ReadsNumber 4 s4 (Ok e) s5 → ReadsBytes 4 s5 (Ok reserved) s6
     → AreNumbers bytes (record { flags = a; command = b; id = c; word = d; length = e })
 numbers_scanned bytes a b c d e reserved s0 s1 s2 s3 s4 s5 s6 e0 h1 h2 h3 h4 h5 h6 =
-    let e1 : s1 ≡ record { bytes = bytes; place = 1 } = h1.2 ∙ ap (λ s. behind s 1) e0 in
-    let e2 : s2 ≡ record { bytes = bytes; place = 2 } = h2.2 ∙ ap (λ s. behind s 1) e1 in
-    let e3 : s3 ≡ record { bytes = bytes; place = 4 } = h3.2 ∙ ap (λ s. behind s 2) e2 in
-    let e4 : s4 ≡ record { bytes = bytes; place = 8 } = h4.2 ∙ ap (λ s. behind s 4) e3 in
-    let e5 : s5 ≡ record { bytes = bytes; place = 12 } = h5.2 ∙ ap (λ s. behind s 4) e4 in
+    let e1 : s1 ≡ record { bytes = bytes; place = 1 } = h1.2 ∙ ap (λ s. cursor_after s 1) e0 in
+    let e2 : s2 ≡ record { bytes = bytes; place = 2 } = h2.2 ∙ ap (λ s. cursor_after s 1) e1 in
+    let e3 : s3 ≡ record { bytes = bytes; place = 4 } = h3.2 ∙ ap (λ s. cursor_after s 2) e2 in
+    let e4 : s4 ≡ record { bytes = bytes; place = 8 } = h4.2 ∙ ap (λ s. cursor_after s 4) e3 in
+    let e5 : s5 ≡ record { bytes = bytes; place = 12 } = h5.2 ∙ ap (λ s. cursor_after s 4) e4 in
     let number : ℕ → Cursor → ℕ = λ n s. big_number n (piece_at s n) in
     numbers_read bytes (record { flags = a; command = b; id = c; word = d; length = e })
     (subst (λ (s : Cursor). s.place + 4 ≤ length s.bytes) e5 h6.0)

@@ -7,7 +7,7 @@ use Rattle.std.proofs.lemmas.Bool.{cases_lt}
 use Rattle.std.specs.List.{flat_map, filter_map, last_or}
 use Rattle.std.proofs.lemmas.Grind.{flat_map-append}
 use Rattle.byteorder.specs.Endian.{big_number}
-use Rattle.afp_base.specs.Cursor.{Cursor, ReadsNumber, ReadsBytes, behind, piece_at}
+use Rattle.afp_base.specs.Cursor.{Cursor, ReadsNumber, ReadsBytes, cursor_after, piece_at}
 use Rattle.afp_base.specs.declared.scan.Short.{Short}
 use Rattle.dsi_session.specs.lemma.Next.{IsNext, HasNoNext}
 use Rattle.dsi_session.specs.Options.{SessionOption, option_spelling, AreOptions, OptionsStopAt, attention_in, attention_of, default_attention_quantum}
@@ -220,8 +220,8 @@ pub next_read : (kind size n : ℕ) (value : Bor (List ℕ)) (s0 s1 s2 s3 : Curs
     → IsNext s0 (record { kind = kind; value = value.now }) s3
 next_read kind size n value s0 s1 s2 s3 same h1 h2 h =
     let h3 : ReadsBytes size s2 (Ok value) s3 = subst (λ (m : ℕ). ReadsBytes m s2 (Ok value) s3) same h in
-    let e2 : s2 ≡ behind (behind s0 1) 1 = h2.2 ∙ ap (λ s. behind s 1) h1.2 in
-    let e3 : s3 ≡ behind (behind (behind s0 1) 1) size = h3.2 ∙ ap (λ s. behind s size) e2 in
+    let e2 : s2 ≡ cursor_after (cursor_after s0 1) 1 = h2.2 ∙ ap (λ s. cursor_after s 1) h1.2 in
+    let e3 : s3 ≡ cursor_after (cursor_after (cursor_after s0 1) 1) size = h3.2 ∙ ap (λ s. cursor_after s size) e2 in
     let two : s0.place + 1 + 1 + size ≤ length s0.bytes = subst (λ (s : Cursor). s.place + size ≤ length s.bytes) e2 h3.0 in
     let rest : List ℕ = drop s0.place s0.bytes in
     let size_is : size ≡ big_number 1 (take 1 (drop 1 rest)) =
@@ -250,7 +250,7 @@ none_without_size kind s0 s1 s2 short h1 h2 =
 pub none_without_value : (kind size n : ℕ) (s0 s1 s2 s3 : Cursor) (short : Short) → n ≡ size → ReadsNumber 1 s0 (Ok kind) s1 → ReadsNumber 1 s1 (Ok size) s2 → ReadsBytes n s2 (Err short) s3 → HasNoNext s0
 none_without_value kind size n s0 s1 s2 s3 short same h1 h2 h =
     let h3 : ReadsBytes size s2 (Err short) s3 = subst (λ (m : ℕ). ReadsBytes m s2 (Err short) s3) same h in
-    let e2 : s2 ≡ behind (behind s0 1) 1 = h2.2 ∙ ap (λ s. behind s 1) h1.2 in
+    let e2 : s2 ≡ cursor_after (cursor_after s0 1) 1 = h2.2 ∙ ap (λ s. cursor_after s 1) h1.2 in
     let less : length s0.bytes < s0.place + 1 + 1 + size = subst (λ (s : Cursor). length s.bytes < s.place + size) e2 h3.0 in
     let two : s0.place + 1 + 1 ≤ length s0.bytes = subst (λ (s : Cursor). s.place + 1 ≤ length s.bytes) h1.2 h2.0 in
     let rest : List ℕ = drop s0.place s0.bytes in

@@ -65,7 +65,7 @@ module _ (make : TableRow → Change) (key_is : (x : TableRow) → key_of (make 
   rising_apart [] s = refl
   rising_apart (x ∷ xs) s = both_true (not (list_any (are_of_one_key (make x)) (map make xs))) _ (ap not (none_alike x xs s.0)) (rising_apart xs s.1)
 
--- ---- what is put_of has none of the keys that are removal_of away
+-- ---- what is put has none of the keys that are taken away
 
 abbrev EachAway : List TableRow → List TableRow → Type 0
 EachAway gone [] = Unit {0}
@@ -116,7 +116,7 @@ passing_away gone t (r ∷ rows) a = elim (t r.id) as (λ b. EachAway gone (map 
   | false ↦ passing_away gone t rows a.1
 ]
 
--- what is found among those that are left was not removal_of away
+-- what is found among those that are left was not taken away
 left_away : (b : Bool) (o p : Option (List ℕ)) → cond b None o ≡ p → is_some p ≡ true → b ≡ false
 left_away true o p e s = absurd (let h : false ≡ true = ap is_some e ∙ s in cc h)
 left_away false o p e s = refl

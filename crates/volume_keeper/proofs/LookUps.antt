@@ -143,7 +143,7 @@ after-append [] ds q o = refl
 after-append (Put k v ∷ cs) ds q o = after-append cs ds q (cond (are_one q k) (Some v) o)
 after-append (Remove k ∷ cs) ds q o = after-append cs ds q (cond (are_one q k) None o)
 
--- rows that are found in others are put_of: there is what those have
+-- rows that are found in others are put: there is what those have
 pub after_puts : (all xs : List TableRow) (q : List ℕ) (o : Option (List ℕ)) → AreFound all xs → after (map put_of xs) q o ≡ cond (any_at xs q) (found all q) o
 after_puts all [] q o f = refl
 after_puts all (x ∷ xs) q o f =
@@ -167,7 +167,7 @@ after_taken (x ∷ xs) q o = after_taken xs q (cond (are_one q (key_of_row x)) N
     joined false true o = refl
     joined false false o = refl
 
--- some rows among rising ones are removal_of away: the others are left
+-- some rows among rising ones are taken away: the others are left
 pub left_over : (p : TableRow → Bool) (xs : List TableRow) → RisesByKey (map record_of xs) → (q : List ℕ) → cond (any_at (filter p xs) q) None (found xs q) ≡ found (filter (λ x. not (p x)) xs) q
 left_over p [] s q = refl
 left_over p (x ∷ xs) s q = elim (are_one q (key_of_row x)) as (λ b. are_one q (key_of_row x) ≡ b
@@ -198,7 +198,7 @@ none_there (x ∷ xs) q = elim (are_one q (key_of_row x)) as (λ b. cond (b || a
   | false ↦ none_there xs q
 ]
 
--- rising rows that are put_of where nothing is kept are all that is kept
+-- rising rows that are put where nothing is kept are all that is kept
 pub all_put : (xs : List TableRow) → RisesByKey (map record_of xs) → (m : Records) → entries m ≡ [] → changed (map put_of xs) m ≡ from_sorted (entries_of (map record_of xs))
 all_put xs s m e = alike _ _ (λ q.
     got_changed (map put_of xs) m q

@@ -12,7 +12,7 @@ use Rattle.volume_records.specs.Image.{node_of, rows_of, tables_of}
 use Rattle.volume_tree.specs.Planned.{PlanState, planned}
 use Rattle.volume_tree.specs.TouchedNodes.{is_touched}
 
--- the record that says a row is put_of, or is removal_of away
+-- the record that says a row is put, or is taken away
 abbrev pub put_of : TableRow → Change
 put_of x = Put (record_of x).key (record_of x).value
 
@@ -37,7 +37,7 @@ gone_records (Some gone) v = filter (is_of gone.0) (rows_of (tables_of v))
 abbrev pub kept_records : PlanState → VolumeState → List TableRow
 kept_records p after = row.Head (tables_of after).head ∷ map (λ r. row.Node (node_of r)) (filter (λ r. is_touched p r.id) after.rows)
 
--- What a plan changes: the records of the node that goes are removal_of away, in the order of their keys; then the head's record is put_of, and that of each node
+-- What a plan changes: the records of the node that goes are taken away, in the order of their keys; then the head's record is put, and that of each node
 -- that is touched and there afterwards, by rising id.
 unfoldable pub tree_changes_of : VolumeState → PlanState → List Change
 tree_changes_of v p = map removal_of (gone_records p.gone v) ++ map put_of (kept_records p (planned p v))

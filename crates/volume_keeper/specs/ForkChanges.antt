@@ -19,11 +19,11 @@ use Rattle.volume_records.specs.Records.{record_of, block_key}
 use Rattle.volume_records.specs.Image.{node_of, tables_of}
 use Rattle.volume_keeper.specs.Changes.{put_of}
 
--- the record of a row is put_of, where it has another value than that of the row before
+-- the record of a row is put, where it has another value than that of the row before
 abbrev pub put_where_other : TableRow → TableRow → List Change
 put_where_other old new = if pointwise nat_eq (record_of old).value (record_of new).value then [] else put_of new ∷ []
 
--- the record of a block that differs is put_of, or taken away where nothing but zeros remains
+-- the record of a block that differs is put, or taken away where nothing but zeros remains
 abbrev pub block_change : ℕ → Bool → Block → Change
 block_change id resource block = if is_empty block.bytes then Remove (block_key id resource block.index) else Put (block_key id resource block.index) block.bytes
 

@@ -50,7 +50,7 @@ all_taken id v =
     ++ (comment_taken id (comment_at id v.comments)
     ++ appls_taken id v.appls)))
 
--- the record of a node is put_of, where the node is there
+-- the record of a node is put, where the node is there
 abbrev pub node_put : Option VolumeRow → List Change
 node_put None = []
 node_put (Some r) = put_of (row.Node (node_of r)) ∷ []
