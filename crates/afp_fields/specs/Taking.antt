@@ -1,17 +1,25 @@
 -- How the words of a request are taken from a block, one after the other.
-use Rattle.std.specs.Prelude.{◌≡◌, ℕ, List, Option, Some, None, Result, Ok, Err}
+use Rattle.std.specs.Prelude.{◌≡◌, ℕ, Bool, true, false, List, Option, Some, None, Result, Ok, Err}
 use Rattle.afp_requests.specs.declared.call.Call.{Call}
 use Rattle.afp_requests.specs.declared.call.ReadFault.{ReadFault}
 use Rattle.afp_requests.specs.declared.call.ReadFault.TheVariants as faults
-use Rattle.afp_requests.specs.Words.{Word, Value}
+use Rattle.afp_requests.specs.Words.{Word, Plain, Counted, Pathname, Tail, Value}
 use Rattle.afp_requests.specs.Reading.{Reading, Then, Alone, With, Reader, read_by}
 use Rattle.afp_fields.specs.Input.{Input, bytes_left, read_on}
 
--- The word is taken from the front: what is read of it and more is read of the more behind it. Param: it does not stand there.
+-- the words whose value copies bytes of the block, which takes memory
+abbrev pub takes_memory : Word → Bool
+takes_memory (Plain n) = true
+takes_memory (Counted n) = true
+takes_memory Pathname = true
+takes_memory Tail = true
+takes_memory _ = false
+
+-- The word is taken from the front: what is read of it and more is read of the more behind it. Param: it does not stand there. Memory: its value copies bytes.
 abbrev pub Takes : (w : Word) → Input → Result (Value w) ReadFault → Input → Type 0
 Takes w old (Ok x) new = (more : Value w → Reading) → read_on (Then w more) old ≡ read_on (more x) new
 Takes w old (Err faults.Param) new = (more : Value w → Reading) → read_on (Then w more) old ≡ None
-Takes w old (Err faults.Memory) new = Unit {0}
+Takes w old (Err faults.Memory) new = takes_memory w ≡ true
 Takes w old (Err faults.NotSupported) new = ⊥
 
 -- Nothing comes with the block, so a request that comes alone is read. Param: something comes with it.

@@ -1,7 +1,7 @@
 //! The fields of a request, one after the other.
 #![tactic(auto, using(crate::proofs::WordLemmas::words_read))]
 
-ghost use Rattle.std.specs.Prelude.{◌≡◌, ◌≤◌, length, Ok, OnErr};
+ghost use Rattle.std.specs.Prelude.{◌≡◌, ◌≤◌, length, Ok, OnErr, IsErrOf};
 ghost use Rattle.std.specs.Option.{option_copied};
 ghost use Rattle.afp_requests.specs.Words.{Literal, Pad, LastPad, Even, Number, Within, Count, Optional, Signed32, Signed64, Plain, Counted, Tail};
 ghost use Rattle.afp_fields.specs.Taking.{Takes, TakesEnclosed, StandsAlone};
@@ -202,6 +202,7 @@ impl<'a> Fields<'a> {
     pub fn four(&mut self) -> Result<[u8; 4], ReadFault>
         ensures taken { Takes (Plain 4) self.old result self.new }
         ensures err { OnErr result (self.new ≡ self.old) }
+        ensures memory { IsErrOf result ReadFault.Memory → ⊥ }
     {
         let piece = self.piece(4)?;
         let mut bytes = [0; 4];
