@@ -1,5 +1,5 @@
 -- What a link to a peer is seen as, and what its reads and writes do to it (this profile).
-use Rattle.std.specs.Prelude.{◌≡◌, ℕ, ◌≤◌, Bool, true, false, List, [], ◌∷◌, ◌++◌, length, take, Option, IfSome, option_map}
+use Rattle.std.specs.Prelude.{◌≡◌, ℕ, ◌+◌, ◌≤◌, Bool, true, false, List, [], ◌∷◌, ◌++◌, length, take, Option, IfSome, option_map}
 use Rattle.afp_base.specs.Counts.{Rises, CountsOn}
 use Rattle.afp_outside.specs.declared.link.ReadResult.{ReadResult}
 use Rattle.afp_outside.specs.declared.link.ReadResult.TheVariants.{Got, Quiet, End, Failed}
@@ -31,7 +31,7 @@ pub record LinkState : Type 0 where
   pub now : ℕ
   pub last_read : ℕ
 
--- A read that gave the n next bytes, which begin the room. Its clock may fail, so faults of reading may be counted beside it.
+-- A read that gave the n next bytes, which begin the room. Its clock may fail, so one fault of reading at most is counted beside it.
 pub record ReadsPiece (old : LinkState) (room : List ℕ) (n : ℕ) (new : LinkState) : Type 0 where
   pub least : 1 ≤ n
   pub most : n ≤ length room
@@ -40,22 +40,24 @@ pub record ReadsPiece (old : LinkState) (room : List ℕ) (n : ℕ) (new : LinkS
   pub written : new.written ≡ old.written
   pub ended : new.ended ≡ old.ended
   pub read_faults : old.read_faults ≤ new.read_faults
+  pub read_faults_most : new.read_faults ≤ old.read_faults + 1
   pub write_faults : new.write_faults ≡ old.write_faults
   pub quiets : new.quiets ≡ old.quiets
   pub last_read : new.last_read ≡ new.now
 
--- A read in whose time no byte came. Its clock may fail too.
+-- A read in whose time no byte came. Its clock may fail too, once.
 pub record ReadsQuiet (old new : LinkState) : Type 0 where
   pub events : new.events ≡ option_map (λ events. events ++ quiet old.written new.now ∷ []) old.events
   pub coming : new.coming ≡ old.coming
   pub written : new.written ≡ old.written
   pub ended : new.ended ≡ old.ended
   pub read_faults : old.read_faults ≤ new.read_faults
+  pub read_faults_most : new.read_faults ≤ old.read_faults + 1
   pub write_faults : new.write_faults ≡ old.write_faults
   pub quiets : CountsOn 1 old.quiets new.quiets
   pub last_read : new.last_read ≡ old.last_read
 
--- A read that found the end: no byte is left. Its clock may fail too.
+-- A read that found the end: no byte is left. Its clock may fail too, once.
 pub record ReadsEnd (old new : LinkState) : Type 0 where
   pub events : new.events ≡ old.events
   pub nothing_left : IfSome old.coming (λ coming. coming ≡ [])
@@ -63,17 +65,19 @@ pub record ReadsEnd (old new : LinkState) : Type 0 where
   pub written : new.written ≡ old.written
   pub ended : new.ended ≡ true
   pub read_faults : old.read_faults ≤ new.read_faults
+  pub read_faults_most : new.read_faults ≤ old.read_faults + 1
   pub write_faults : new.write_faults ≡ old.write_faults
   pub quiets : new.quiets ≡ old.quiets
   pub last_read : new.last_read ≡ old.last_read
 
--- A read that failed: it took nothing, and its fault is counted, with one of its clock where that failed too.
+-- A read that failed: it took nothing, and its fault is counted, with one of its clock where that failed too: two at most.
 pub record FailsToRead (old new : LinkState) : Type 0 where
   pub events : new.events ≡ old.events
   pub coming : new.coming ≡ old.coming
   pub written : new.written ≡ old.written
   pub ended : new.ended ≡ old.ended
   pub read_faults : Rises 1 old.read_faults new.read_faults
+  pub read_faults_most : new.read_faults ≤ old.read_faults + 2
   pub write_faults : new.write_faults ≡ old.write_faults
   pub quiets : new.quiets ≡ old.quiets
   pub last_read : new.last_read ≡ old.last_read

@@ -142,12 +142,13 @@ abbrev pub next_moment : List ℕ → ℕ → ℕ
 next_moment [] last = last
 next_moment (moment ∷ moments) last = moment
 
--- A read follows the plan; one that fails uses up a moment, and no size.
+-- A read follows the plan; one that fails uses up a moment, and no size. No clock fails beside it, so each fault counted is its own.
 pub record TapeReads (old : Tape) (room : ℕ) (gave : ReadResult) (new : Tape) : Type 0 where
   pub answer : gave ≡ (if fails old.calls then Failed else tape_gives (read_size old.reads room) old.coming)
   pub moment : new.moment ≡ next_moment old.moments old.moment
   pub moments : new.moments ≡ drop 1 old.moments
   pub reads : new.reads ≡ (if fails old.calls then old.reads else drop 1 old.reads)
+  pub read_faults : new.read_faults ≡ (if fails old.calls then counted 1 old.read_faults else old.read_faults)
   pub writes : new.writes ≡ old.writes
   pub calls : new.calls ≡ after_call old.calls
 

@@ -1,5 +1,5 @@
 -- Links and doors over TCP, which tell no bytes (this profile).
-use Rattle.std.specs.Prelude.{◌≡◌, ◌≢◌, ◌⊎◌, ℕ, ◌-◌, ℤ, pos, Option, Some, None, option_map, min, zero, suc}
+use Rattle.std.specs.Prelude.{◌≡◌, ◌≢◌, ◌⊎◌, ℕ, ◌+◌, ◌-◌, ◌/◌, ℤ, pos, Option, Some, None, option_map, min, zero, suc}
 use Rattle.afp_base.specs.Limits.{last_moment}
 use Rattle.afp_outside.specs.Link.{LinkState}
 use Rattle.afp_outside.specs.Listener.{DoorState}
@@ -9,6 +9,14 @@ use Rattle.afp_outside.specs.declared.listener.Accepted.TheVariants.{Link, Close
 -- the moment of a Unix time in seconds: that of 2000-01-01 is 946,684,800 (AFP Reference, dates)
 abbrev pub moment_of_unix : ℕ → ℕ
 moment_of_unix seconds = min (seconds - 946684800) last_moment
+
+-- the moment of a time since 1970-01-01 00:00 GMT, in nanoseconds
+abbrev pub moment_of_nanos : ℕ → ℕ
+moment_of_nanos nanos = moment_of_unix (nanos / 1000000000)
+
+-- The moment is that of a time, of which `set` is the nanoseconds since 1970-01-01 00:00 GMT, or of a later one.
+abbrev pub IsMomentFrom : ℕ → ℕ → Type 0
+IsMomentFrom set moment = (gone : ℕ) × (moment ≡ moment_of_nanos (set + gone))
 
 -- The number of an accept's error is one of a socket alone: EINTR, EPROTO, ECONNABORTED (Linux, errno.h and accept(2)).
 abbrev pub IsOneSocket : ℤ → Type 0
