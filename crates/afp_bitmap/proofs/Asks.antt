@@ -15,7 +15,7 @@ use Rattle.afp_bitmap.proofs.Filled.{cut, past, refill, filled, AreNamed, fixed_
 use Rattle.afp_bitmap.proofs.Fixed.{sizes}
 use Rattle.afp_bitmap.proofs.Formed.{NoNames, Late, Formed, fields, late_asked, no_names_asked}
 use Rattle.afp_bitmap.proofs.NamesAll.{text, OptFits}
-use Rattle.afp_bitmap.proofs.Parts.{fixed_at, pick, long_in, utf8_in, no_long, no_utf8}
+use Rattle.afp_bitmap.proofs.Parts.{fixed_at, long_in, utf8_in, no_long, no_utf8}
 
 -- the shapes of the asked fields are those of their slots
 abbrev asked_shapes : ℕ → List Slot → List Shape
@@ -60,10 +60,6 @@ typed_take (suc k) [] h = tt
 typed_take (suc k) (f ∷ fs) h = (h.0, typed_take k fs h.1)
 
 -- ---- the names
-
-pick_fits : (Fit : List ℕ → Type 0) (a b : Option (List ℕ)) → OptFits Fit a → OptFits Fit b → OptFits Fit (pick a b)
-pick_fits Fit None b ha hb = hb
-pick_fits Fit (Some a) b ha hb = ha
 
 pub long_countable : (fs : List Field) → AllByRecursion IsCountable fs → OptFits (λ l. length l < 256) (long_in fs)
 long_countable [] h = tt
@@ -115,19 +111,6 @@ filled_take zero fs rest l u = refl
 filled_take (suc k) [] rest l u = refl
 filled_take (suc k) (f ∷ fs) rest l u =
     ap (λ (x : List Field). refill f (cut (fixed_size f) rest) l u ∷ x) (filled_take k fs (past (fixed_size f) rest) l u)
-
-shape_refill : (f : Field) (p l u : List ℕ) → shape_of (refill f p l u) ≡ shape_of f
-shape_refill (Number n x) p l u = refl
-shape_refill (Date z) p l u = refl
-shape_refill (Finder info) p l u = refl
-shape_refill (LongName name) p l u = refl
-shape_refill (Utf8Name name) p l u = refl
-
-pub shapes_filled : (fs : List Field) (rest l u : List ℕ) → map shape_of (filled fs rest l u) ≡ map shape_of fs
-shapes_filled [] rest l u = refl
-shapes_filled (f ∷ fs) rest l u =
-    ap (λ (s : Shape). s ∷ map shape_of (filled fs (past (fixed_size f) rest) l u)) (shape_refill f (cut (fixed_size f) rest) l u)
-    ∙ ap (λ (x : List Shape). shape_of f ∷ x) (shapes_filled fs (past (fixed_size f) rest) l u)
 
 -- ---- the names in the rows are those of the asked fields, or empty
 

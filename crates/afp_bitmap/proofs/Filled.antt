@@ -259,7 +259,7 @@ fixed_length first place (Finder info) h = h
 fixed_length first place (LongName name) h = length-big_bytes 2 first
 fixed_length first place (Utf8Name name) h = omega (arith, length-append (big_bytes 2 place) (replicate 4 0), length-big_bytes 2 place)
 
-finder_again : (info : List ℕ) → length info ≡ 32 → finder_of info ≡ info
+pub finder_again : (info : List ℕ) → length info ≡ 32 → finder_of info ≡ info
 unfolding finder_of
 finder_again [] h = absurd (omega arith)
 finder_again (b ∷ bs) h = refl

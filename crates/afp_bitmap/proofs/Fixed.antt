@@ -15,7 +15,7 @@ use Rattle.afp_bitmap.specs.Params.{asked_of}
 use Rattle.afp_bitmap.specs.lemma.Reading.{◌>>=◌, Walk, may_stand, stands, behind_field, step, walked, size_of, finder_of}
 use Rattle.afp_bitmap.specs.Table.{FieldRow}
 use Rattle.afp_bitmap.proofs.Asked.{shape_of, slot_of, size_of-shape, asked_none, asked_yes, asked_no}
-use Rattle.afp_bitmap.proofs.Filled.{cut, past, cut_whole, past_whole, refill, filled, fixed_length}
+use Rattle.afp_bitmap.proofs.Filled.{cut, past, cut_whole, past_whole, refill, filled, fixed_length, finder_again}
 use Rattle.afp_bitmap.proofs.Formed.{by_name}
 use Rattle.afp_base.specs.Bytes.{IsBytes}
 use Rattle.afp_base.proofs.Numbers.{number_front, IsBytes-take, IsBytes-drop, big_number-lt, bytes_again, number_again, length-big_bytes}
@@ -214,11 +214,6 @@ front_is n rest len h =
 pub zeros_are : (rest : List ℕ) → 4 ≤ length rest → IsBytes rest → big_number 4 rest ≡ 0 → replicate 4 0 ≡ take 4 rest
 zeros_are rest len h e = ap (big_bytes 4) (sym e) ∙ front_is 4 rest len h
 
-finder_whole : (p : List ℕ) → length p ≡ 32 → finder_of p ≡ p
-unfolding finder_of
-finder_whole [] h = absurd (omega arith)
-finder_whole (b ∷ bs) h = refl
-
 -- the bytes of one field
 field_front : (first q : ℕ) (f : Field) (w : Walk) (l u : List ℕ) → stands first (shape_of f) w ≡ true → IsBytes w.rest
     → by_name f (Unit {0}) (Unit {0}) (big_number 2 w.rest ≡ q) → (fixed_size f ≤ length w.rest) × (fixed_at first q (refill f (cut (fixed_size f) w.rest) l u) ≡ take (fixed_size f) w.rest)
@@ -236,7 +231,7 @@ field_front first q (Date z) w l u h b c =
     )
 field_front first q (Finder info) w l u h b c =
     let len = plain_is first 32 w h in
-    (len, ap finder_of (cut_whole 32 w.rest len) ∙ finder_whole (take 32 w.rest) (length-take-le 32 w.rest len))
+    (len, ap finder_of (cut_whole 32 w.rest len) ∙ finder_again (take 32 w.rest) (length-take-le 32 w.rest len))
 field_front first q (LongName name) w l u h b c =
     let s = long_is first w h in
     (s.len, ap (big_bytes 2) (sym s.place) ∙ front_is 2 w.rest s.len b)

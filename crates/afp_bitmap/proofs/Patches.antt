@@ -75,10 +75,6 @@ abbrev utf8_spot : ℕ → List Field → Option NameSpot
 utf8_spot at [] = None
 utf8_spot at (f ∷ fs) = pick_spot (utf8_here at f) (utf8_spot (at + length (fixed_bytes 0 f)) fs)
 
-pick_none : (o : Option NameSpot) → pick_spot o None ≡ o
-pick_none None = refl
-pick_none (Some x) = refl
-
 spot_no_names : (at : ℕ) (fs : List Field) → NoNames fs → long_spot at fs ≡ None
 spot_no_names at [] h = refl
 spot_no_names at (Number n x ∷ fs) h = spot_no_names (at + length (big_bytes n x)) fs h

@@ -226,9 +226,6 @@ stand-at (s ∷ sure) (a ∷ olds) [] many stand index h = absurd (omega (arith,
 stand-at (s ∷ sure) (a ∷ olds) (b ∷ news) many stand zero h = ap Some (stand.0 (some-true s h))
 stand-at (s ∷ sure) (a ∷ olds) (b ∷ news) many stand (suc index) h = stand-at sure olds news (omega (arith, many)) stand.1 index h
 
-pub kept-none : (c : ServerState) → SureKept c c
-kept-none c = record { many = refl; sure = refl; stand = λ index h. refl }
-
 pub turn-kept : (start c d : ServerState) (e : Entry) (told : Told) → Turned c e told d → SureKept start c → SureKept start d
 turn-kept start c d e told t k =
     let many : length d.faults ≡ length c.faults = rise-many (failed_keeper (committed_of c.world e) e.outcome) c.faults d.faults t.keepers in

@@ -1,4 +1,4 @@
-//! The canonical bytes of the fields of a request, one after the other. An error changes nothing.
+//! The canonical bytes of the fields of a request, one after the other. The one error is want of memory. It changes nothing.
 ghost use Rattle.std.specs.Prelude.{◌≡◌, ◌<◌, ◌≤◌, ◌^◌, ◌++◌, length, OnOk, OnErr};
 ghost use Rattle.afp_requests.specs.Words.{IsNumberIn, command, literal, pad, last_pad, even, u8, u16, u32, count_in, optional_bytes, i32, i64, str, counted_field};
 ghost use Rattle.afp_fields.specs.Putting.{Puts, PutsIn};

@@ -102,12 +102,6 @@ runs-element [] some h = absurd (omega arith)
 runs-element (zero ∷ bytes) some h = absurd (omega arith)
 runs-element (suc b ∷ bytes) some h = rw (element_before-other b bytes, one-add) (runs-element_by (element_before bytes) b bytes refl)
 
--- an element has a byte, and no zero byte
-pub element_before-some : (bytes : List ℕ) → 0 < length bytes → zeros_before bytes ≡ 0 → 0 < element_before bytes
-element_before-some [] some h = absurd (omega arith)
-element_before-some (zero ∷ bytes) some h = absurd (omega arith)
-element_before-some (suc b ∷ bytes) some h = omega (arith, element_before-other b bytes)
-
 pub element_no_zero : (bytes : List ℕ) → list_any (λ byte. byte == 0) (take (element_before bytes) bytes) ≡ false
 element_no_zero [] = refl
 element_no_zero (zero ∷ bytes) = refl

@@ -26,7 +26,7 @@ pub const LONGEST_EXTENSION: usize = 4;
 ///
 /// It is the name in Unicode's form C where the character set has each of its characters and it
 /// has at most [`LONGEST_LONG_NAME`]. Else it is a stem, `#`, the id in upper-case hexadecimal, and
-/// the name's extension, with `?` for each character that the character set lacks.
+/// the name's extension, with `?` for each character that the character set lacks. The one error is want of memory.
 #[tactic(auto, using(crate::proofs::LongNameLemmas::ascii_long_name))]
 pub fn long_name(alloc: Global, name: &Name, id: NodeId) -> Result<Bytes, OutOfMemory>
     ensures name { IfOk result (λ long. long ≡ long_name_of name.now id.0) }
@@ -104,7 +104,7 @@ fn has_all(text: &[char]) -> bool
 }
 
 /// Appends a text in the character set of [`crate::mac_roman`], with `?` for each character that it lacks. After an
-/// error what stood in `bytes` stands there still, in front.
+/// error what stood in `bytes` stands there still, in front. The one error is want of memory.
 pub fn put_shown(alloc: Global, bytes: &mut Bytes, text: &str) -> Result<(), OutOfMemory>
     ensures ok { OnOk result (bytes.new ≡ bytes.old ++ map shown_byte (chars text.now)) }
     ensures err { OnErr result (Keeps bytes.old bytes.new) }

@@ -7,7 +7,6 @@ ghost use Rattle.afp_names.specs.LongName.{longest_long_name};
 ghost use Rattle.afp_names.specs.MacRoman.{mac_roman_text};
 ghost use Rattle.afp_names.specs.Name.{longest_name, name_fault, IsName, name_key};
 
-use crate::long_names::LONGEST_LONG_NAME;
 use crate::mac_roman::mac_roman_text;
 use afp_base::{Bytes, OutOfMemory};
 use caseless::default_case_fold_str;
@@ -86,7 +85,7 @@ impl Name {
         self.text.as_str()
     }
 
-    /// The same name once more.
+    /// The same name once more. The one error is want of memory.
     pub fn copy(&self, alloc: Global) -> Result<Name, OutOfMemory>
         ensures { IfOk result (λ name. name ≡ self.now) }
     {
@@ -96,7 +95,7 @@ impl Name {
     }
 
     /// What the names that count as this one share, and no other: the text decomposed, with full
-    /// case folding, and decomposed again, in UTF-8.
+    /// case folding, and decomposed again, in UTF-8. The one error is want of memory.
     pub fn key(&self, alloc: Global) -> Result<Bytes, OutOfMemory>
         ensures { IfOk result (λ key. key ≡ name_key self.now) }
     {

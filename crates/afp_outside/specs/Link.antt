@@ -13,10 +13,10 @@ pub data Event : Type 0 where
   quiet : Option (List ℕ) → ℕ → Event
 
 -- the bytes that reads gave, in order
-abbrev pub taken : List Event → List ℕ
-taken [] = []
-taken (piece written moment bytes ∷ events) = bytes ++ taken events
-taken (quiet written moment ∷ events) = taken events
+abbrev pub bytes_taken : List Event → List ℕ
+bytes_taken [] = []
+bytes_taken (piece written moment bytes ∷ events) = bytes ++ bytes_taken events
+bytes_taken (quiet written moment ∷ events) = bytes_taken events
 
 -- A link. The events, the bytes still coming and the bytes written are each known where the link
 -- tells them; `now` and `last_read` are seconds since 2000-01-01 00:00 GMT.

@@ -33,7 +33,7 @@ pub record Incoming : Type 0 where
   pub coming : List ℕ
 
 -- What a read gave, what had been written before it, and its moment.
-pub record Reading : Type 0 where
+pub record PastRead : Type 0 where
   pub gave : ReadResult
   pub written : List ℕ
   pub moment : ℕ
@@ -53,12 +53,12 @@ gave_size End = 0
 gave_size Failed = 0
 
 -- the events of readings, of the bytes that all of them read from
-abbrev pub events_of : List ℕ → List Reading → List Event
+abbrev pub events_of : List ℕ → List PastRead → List Event
 events_of bytes [] = []
 events_of bytes (it ∷ more) = event_of it.gave it.written it.moment bytes ++ events_of (drop (gave_size it.gave) bytes) more
 
 -- how many bytes the readings gave
-abbrev pub size_of : List Reading → ℕ
+abbrev pub size_of : List PastRead → ℕ
 size_of [] = 0
 size_of (it ∷ more) = gave_size it.gave + size_of more
 

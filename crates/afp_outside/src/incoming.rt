@@ -3,7 +3,7 @@ ghost use Rattle.std.specs.Prelude.{◌≡◌, ◌≤◌, ◌++◌, ◌∷◌, [
 ghost use Rattle.afp_outside.specs.Link.{piece, quiet};
 
 use crate::link::ReadResult;
-use crate::reading::Reading;
+use crate::reading::PastRead;
 use afp_base::{Bytes, Moment};
 use ghost_log::Log;
 use std::marker::Model;
@@ -14,7 +14,7 @@ use std::marker::Model;
 pub struct Incoming {
     bytes: Bytes,
     place: usize,
-    readings: Log<Reading>,
+    readings: Log<PastRead>,
 }
 
 impl Model for Incoming {
@@ -62,17 +62,17 @@ impl Incoming {
         self.place = end;
         self.readings = self
             .readings
-            .and(&Reading::new(ReadResult::Got(n), written, moment));
+            .and(&PastRead::new(ReadResult::Got(n), written, moment));
     }
 
     /// Gives a quiet at a moment, when so much is written.
     #[tactic(auto, using(crate::proofs::Events::quiet_events))]
-    pub fn be_quiet(&mut self, written: &Bytes, moment: Moment)
+    pub fn give_nothing(&mut self, written: &Bytes, moment: Moment)
         ensures coming { self.new.coming ≡ self.old.coming }
         ensures events { self.new.events ≡ self.old.events ++ quiet (Some written.now) moment ∷ [] }
     {
         self.readings = self
             .readings
-            .and(&Reading::new(ReadResult::Quiet, written, moment));
+            .and(&PastRead::new(ReadResult::Quiet, written, moment));
     }
 }

@@ -8,26 +8,26 @@ use std::snapshot::Snapshot;
 
 /// What a read gave, what had been written before it, and its moment.
 #[derive(Drop)]
-pub struct Reading {
+pub struct PastRead {
     gave: ReadResult,
     written: Snapshot<Bytes>,
     moment: Moment,
 }
 
-impl Model for Reading {
-    ghost use Rattle.afp_outside.specs.Tape.{Reading};
+impl Model for PastRead {
+    ghost use Rattle.afp_outside.specs.Tape.{PastRead};
 
-    ghost Value = { Reading };
+    ghost Value = { PastRead };
 
     ghost view = { λ a. record { gave = a.gave; written = a.written.value; moment = a.moment } };
 }
 
-impl Reading {
+impl PastRead {
     /// A read that gives this at a moment, when so much is written.
-    pub fn new(gave: ReadResult, written: &Bytes, moment: Moment) -> Reading
+    pub fn new(gave: ReadResult, written: &Bytes, moment: Moment) -> PastRead
         ensures { result ≡ record { gave = gave; written = written.now; moment = moment } }
     {
-        Reading {
+        PastRead {
             gave,
             written: Snapshot::of(written),
             moment,

@@ -131,7 +131,8 @@ impl Link for TapeLink {
         }
         let most = next_size(&mut self.reads, room.len());
         if most == 0 {
-            self.incoming.be_quiet(self.outgoing.written(), self.moment);
+            self.incoming
+                .give_nothing(self.outgoing.written(), self.moment);
             self.quiets = self.quiets.saturating_add(1);
             return ReadResult::Quiet;
         }

@@ -27,6 +27,7 @@ use Rattle.afp_replies.specs.Replies.{canonical_reply, volume_bytes, message_byt
 use Rattle.afp_replies.specs.Fitting.{FitsReply, FitsValues, FitsOptional, FitsText, FitsVolume}
 use Rattle.afp_base.proofs.Numbers.{date_back, date_fits}
 use Rattle.afp_replies.proofs.Entries.{dir_is}
+use Rattle.afp_replies.proofs.Steps.{volumes_none, volumes_more, entries_none, entries_more}
 
 -- a reply that has this layout fits, and its bytes have the layout
 pub record Good (l : ReplyLayout) (r : Reply) : Type 0 where
@@ -182,19 +183,11 @@ row_none {X} part bytes_of Fits before next r b e h =
       again = λ more k. subst (λ (l : ReplyLayout). Has l r more) (ap next same ∙ sym e) k;
     }
 
-pub volumes_zero : (before : List VolumeEntry) (next : List VolumeEntry → ReplyLayout) → volumes 0 before next ≡ next before
-unfolding volumes
-volumes_zero before next = refl
-
-pub volumes_suc : (more : ℕ) (before : List VolumeEntry) (next : List VolumeEntry → ReplyLayout) → volumes (suc more) before next ≡ volume (λ v. volumes more (before ++ (v ∷ [])) next)
-unfolding volumes
-volumes_suc more before next = refl
-
 pub row_of_volumes : (count : ℕ) (before : List VolumeEntry) (next : List VolumeEntry → ReplyLayout) (r : Reply) (b : List ℕ) → Has (volumes count before next) r b
     → TakesList (volumes count) volume_bytes FitsVolume count before next r
-row_of_volumes zero before next r b h = row_none (volumes 0) volume_bytes FitsVolume before next r b (volumes_zero before next) h
+row_of_volumes zero before next r b h = row_none (volumes 0) volume_bytes FitsVolume before next r b (volumes_none before next) h
 row_of_volumes (suc count) before next r b h =
-    let flags = subst (λ (l : ReplyLayout). Has l r b) (volumes_suc count before next) h in
+    let flags = subst (λ (l : ReplyLayout). Has l r b) (volumes_more count before next) h in
     let name = flags.behind in
     let v : VolumeEntry = record { flags = flags.value; name = name.value } in
     let rest = row_of_volumes count (before ++ (v ∷ [])) next r name.rest name.behind in
@@ -213,19 +206,10 @@ row_of_volumes (suc count) before next r b h =
           ap (λ (x : List ℕ). bytes.u8_bytes flags.value ++ x) (sym (append_assoc (with_count 1 name.value) (concat (map volume_bytes rest.all)) more))
           ∙ sym (append_assoc (bytes.u8_bytes flags.value) (with_count 1 name.value ++ concat (map volume_bytes rest.all)) more)
           ∙ ap (λ (x : List ℕ). x ++ more) (sym whole) in
-          subst (λ (l : ReplyLayout). Has l r (concat (map volume_bytes (v ∷ rest.all)) ++ more)) (sym (volumes_suc count before next))
+          subst (λ (l : ReplyLayout). Has l r (concat (map volume_bytes (v ∷ rest.all)) ++ more)) (sym (volumes_more count before next))
           (subst (Has (volume (λ x. volumes count (before ++ (x ∷ [])) next)) r) bytes_are
           (put_front (Number 1) _ flags.value (bytes.u8_bytes flags.value) _ (flags.spelt.0, refl) (put_front (Counted 1) _ name.value (with_count 1 name.value) _ (name.spelt.0, refl) back)));
     }
-
-pub entries_zero : (wide : Bool) (fb db : ℕ) (before : List ListEntry) (next : List ListEntry → ReplyLayout) → entries wide fb db 0 before next ≡ next before
-unfolding entries
-entries_zero wide fb db before next = refl
-
-pub entries_suc : (wide : Bool) (fb db more : ℕ) (before : List ListEntry) (next : List ListEntry → ReplyLayout)
-    → entries wide fb db (suc more) before next ≡ Then (Entry wide fb db) (λ e. entries wide fb db more (before ++ (e ∷ [])) next)
-unfolding entries
-entries_suc wide fb db more before next = refl
 
 pub entry_spelt : (wide : Bool) (fb db : ℕ) (e : ListEntry) → FitsEntry wide fb db e → SpellsWord (Entry wide fb db) e (entry_bytes wide fb db e)
 entry_spelt wide fb db e f = record { fits = f; pads = replicate (pad_count wide) 0; pads_are = length-replicate (pad_count wide) 0; bytes_are = refl }
@@ -233,9 +217,9 @@ entry_spelt wide fb db e f = record { fits = f; pads = replicate (pad_count wide
 pub row_of_entries : (wide : Bool) (fb db count : ℕ) (before : List ListEntry) (next : List ListEntry → ReplyLayout) (r : Reply) (b : List ℕ) → Has (entries wide fb db count before next) r b
     → TakesList (entries wide fb db count) (entry_bytes wide fb db) (FitsEntry wide fb db) count before next r
 row_of_entries wide fb db zero before next r b h =
-    row_none (entries wide fb db 0) (entry_bytes wide fb db) (FitsEntry wide fb db) before next r b (entries_zero wide fb db before next) h
+    row_none (entries wide fb db 0) (entry_bytes wide fb db) (FitsEntry wide fb db) before next r b (entries_none wide fb db before next) h
 row_of_entries wide fb db (suc count) before next r b h =
-    let first = subst (λ (l : ReplyLayout). Has l r b) (entries_suc wide fb db count before next) h in
+    let first = subst (λ (l : ReplyLayout). Has l r b) (entries_more wide fb db count before next) h in
     let e : ListEntry = first.value in
     let rest = row_of_entries wide fb db count (before ++ (e ∷ [])) next r first.rest first.behind in
     let same : (before ++ (e ∷ [])) ++ rest.all ≡ before ++ (e ∷ rest.all) = with_more before e rest.all in
@@ -249,7 +233,7 @@ row_of_entries wide fb db (suc count) before next r b h =
           let back = rest.again more (subst (λ (x : List ListEntry). Has (next x) r more) (sym same) k) in
           let bytes_are : entry_bytes wide fb db e ++ (concat (map (entry_bytes wide fb db) rest.all) ++ more) ≡ concat (map (entry_bytes wide fb db) (e ∷ rest.all)) ++ more =
           sym (append_assoc (entry_bytes wide fb db e) (concat (map (entry_bytes wide fb db) rest.all)) more) in
-          subst (λ (l : ReplyLayout). Has l r (concat (map (entry_bytes wide fb db) (e ∷ rest.all)) ++ more)) (sym (entries_suc wide fb db count before next))
+          subst (λ (l : ReplyLayout). Has l r (concat (map (entry_bytes wide fb db) (e ∷ rest.all)) ++ more)) (sym (entries_more wide fb db count before next))
           (subst (Has (Then (Entry wide fb db) (λ x. entries wide fb db count (before ++ (x ∷ [])) next)) r) bytes_are
           (put_front (Entry wide fb db) _ e (entry_bytes wide fb db e) _ (entry_spelt wide fb db e first.spelt.fits) back));
     }

@@ -1,5 +1,5 @@
 -- Entries: their parts, and what stands at the front of bytes that begin with one.
-use Rattle.std.proofs.Common.{◌≡◌, ◌≢◌, ℕ, ◌+◌, ◌^◌, ◌<◌, ◌≤◌, Bool, true, false, List, ◌∷◌, ◌++◌, length, take, drop, get_or, refl, sym, ap, ◌∙◌, subst, arith, append_assoc, length-append, ◌-◌, Result, Ok, Err}
+use Rattle.std.proofs.Common.{◌≡◌, ℕ, ◌+◌, ◌^◌, ◌<◌, ◌≤◌, Bool, true, false, List, ◌∷◌, ◌++◌, length, take, drop, get_or, refl, sym, ap, ◌∙◌, subst, arith, append_assoc, length-append, ◌-◌, Result, Ok, Err}
 use Rattle.std.proofs.lemmas.List.{take-append-drop, drop_at, length-take-le, get_or-drop, get_or-take, drop-drop, drop_more, length-drop}
 use Rattle.byteorder.specs.Endian.{big_number, big_bytes}
 use Rattle.afp_bitmap.specs.declared.params.Values.{Values}
@@ -12,7 +12,7 @@ use Rattle.afp_replies.specs.declared.list.ListEntry.{ListEntry}
 use Rattle.afp_replies.specs.declared.reply.ReplyFault.{ReplyFault}
 use Rattle.afp_replies.specs.declared.reply.ReplyFault.TheVariants.{Bad, Memory}
 use Rattle.afp_replies.specs.Bytes.{flag_of, width}
-use Rattle.afp_replies.specs.Entry.{is_dir, bits_for, kind_for, node_params, pad_count, head_size, IsEntry, HasEntryLength, stated, length_unfit, flag_unfit, params_unfit}
+use Rattle.afp_replies.specs.Entry.{is_dir, bits_for, kind_for, node_params, pad_count, head_size, IsEntry, HasEntryLength, stated, params_unfit}
 use Rattle.afp_replies.specs.Words.{Entry}
 use Rattle.afp_replies.specs.lemma.Reading.{Rest, Took, TakesWord, FrontIs, TakesParams, entry_result}
 use Rattle.afp_replies.proofs.Spellings.{same_piece, same_rest, piece_size, piece_split}
@@ -185,26 +185,6 @@ pub entry_takes : (wide : Bool) (fb db : ℕ) (dir : Bool) (old new : Rest) (pie
     → get_or piece (width wide) 0 ≡ flag_of dir → TakesParams (kind_for dir) (bits_for dir fb db) (inner wide old piece) res → TakesWord (Entry wide fb db) old (entry_result res) new
 entry_takes wide fb db dir old new piece (Ok v) k f flag t = entry_took wide fb db dir old new piece v k f flag t
 entry_takes wide fb db dir old new piece (Err e) k f flag t = entry_lacks wide fb db dir old new piece e k f flag t
-
--- the length of an entry is not there, or does not fit
-pub entry_uncounted : (wide : Bool) (fb db : ℕ) (old new : Rest) (at : ℕ) → (HasEntryLength wide old.bytes → ⊥) → at ≡ old.place → TakesWord (Entry wide fb db) old (Err (Bad at)) new
-entry_uncounted wide fb db old new at unfit e =
-    ((λ x first rest s split. unfit (stands wide fb db x old.bytes first rest s split).counted), length_unfit unfit e)
-
-pub entry_unflagged : (wide : Bool) (fb db : ℕ) (old new : Rest) (piece : List ℕ) (at : ℕ) → HasEntryLength wide old.bytes → FrontIs (stated wide old.bytes) old piece new
-    → ((dir : Bool) → get_or piece (width wide) 0 ≢ flag_of dir) → at ≡ old.place + width wide → TakesWord (Entry wide fb db) old (Err (Bad at)) new
-entry_unflagged wide fb db old new piece at k f unfit e =
-    let h : head_size wide ≤ stated wide old.bytes = k.enough in
-    let whole : head_size wide ≡ width wide + (1 + pad_count wide) = refl in
-    let lt : width wide < stated wide old.bytes = omega arith in
-    let here : get_or piece (width wide) 0 ≡ get_or old.bytes (width wide) 0 =
-    ap (λ (x : List ℕ). get_or x (width wide) 0) f.piece_is ∙ get_or-take (stated wide old.bytes) old.bytes (width wide) 0 lt in (
-      (λ x first rest s split.
-          let st = stands wide fb db x old.bytes first rest s split in
-          let same : first ≡ piece = same_piece (stated wide old.bytes) old new piece first rest f st.size split in
-          unfit (is_dir x.values) (ap (λ (b : List ℕ). get_or b (width wide) 0) (sym same) ∙ st.flag)),
-      flag_unfit k (λ dir g. unfit dir (here ∙ g)) e,
-    )
 
 -- what the code takes for the parameters of an entry
 inner_is : (wide : Bool) (old : Rest) (piece : List ℕ) (place head : ℕ) → place ≡ old.place → head ≡ head_size wide

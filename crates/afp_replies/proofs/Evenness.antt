@@ -1,5 +1,5 @@
 -- Blocks of parameters, and so entries, are even in size.
-use Rattle.std.proofs.Common.{◌≡◌, ℕ, ◌+◌, ◌%◌, Bool, true, false, List, [], ◌∷◌, ◌++◌, length, replicate, refl, sym, ap, ◌∙◌, arith, append_assoc, length-append, inl, inr}
+use Rattle.std.proofs.Common.{◌≡◌, ℕ, ◌+◌, ◌%◌, Bool, true, false, List, [], ◌∷◌, ◌++◌, length, replicate, refl, ap, arith, length-append, inl, inr}
 use Rattle.std.proofs.lemmas.Bool.{cases_Bool}
 use Rattle.std.proofs.lemmas.List.{append-nil, length-replicate}
 use Rattle.std.specs.List.{flat_map, concat, AllByRecursion}
@@ -10,6 +10,7 @@ use Rattle.afp_bitmap.specs.Bits.{is_asked}
 use Rattle.afp_bitmap.specs.Field.{Field, Number, Date, Finder, LongName, Utf8Name, fixed_bytes, name_parts, pad_of, long_name_bytes, utf8_name_bytes, IsTyped}
 use Rattle.afp_bitmap.specs.Params.{asked_of, fixed_parts, size_of_fixed_part, name_size, params, IsAnswer}
 use Rattle.afp_bitmap.specs.Table.{FieldRow, rows, volume_rows, file_rows, dir_rows}
+use Rattle.afp_bitmap.proofs.Loops.{concat-append}
 use Rattle.afp_replies.specs.declared.list.ListEntry.{ListEntry}
 use Rattle.afp_replies.specs.Bytes.{flag_of, width}
 use Rattle.afp_replies.specs.Entry.{is_dir, bits_for, kind_for, node_params, pad_count, head_size, entry_bytes, FitsEntry}
@@ -45,10 +46,6 @@ even_names (Date z) = refl
 even_names (Finder info) = refl
 even_names (LongName name) = even_padded (long_name_bytes name)
 even_names (Utf8Name name) = even_padded (utf8_name_bytes name)
-
-concat-append : (xs ys : List (List ℕ)) → concat (xs ++ ys) ≡ concat xs ++ concat ys
-concat-append [] ys = refl
-concat-append (x ∷ xs) ys = ap (λ (r : List ℕ). x ++ r) (concat-append xs ys) ∙ sym (append_assoc x (concat xs) (concat ys))
 
 even_both : (xs ys : List (List ℕ)) → length (concat xs) % 2 ≡ 0 → length (concat ys) % 2 ≡ 0 → length (concat (xs ++ ys)) % 2 ≡ 0
 even_both xs ys a b =

@@ -30,7 +30,8 @@ use Rattle.afp_replies.specs.Replies.{IsShown, Shows, canonical_reply, layout_fo
 use Rattle.afp_replies.specs.Requested.{FitsRequest, IsAsked, IsDenied, IsEnded, IsTold, list_shape}
 use Rattle.afp_replies.specs.lemma.Writing.{CanWrite, FitsMessage}
 use Rattle.afp_base.proofs.Numbers.{date_again, date_lt}
-use Rattle.afp_replies.proofs.Again.{put_front, has_params, node_layout, node_within, with_more, volumes_zero, volumes_suc, entries_zero, entries_suc, entry_spelt, good_reply}
+use Rattle.afp_replies.proofs.Again.{put_front, has_params, node_layout, node_within, with_more, entry_spelt, good_reply}
+use Rattle.afp_replies.proofs.Steps.{volumes_none, volumes_more, entries_none, entries_more}
 
 -- a request with this command, which asked these bits
 abbrev asked : ℕ → ℕ → ℕ → ReplyKind
@@ -152,24 +153,24 @@ shown_text wide false next r None more f h = h
 
 shown_volumes : (all before : List VolumeEntry) (next : List VolumeEntry → ReplyLayout) (r : Reply) (more : List ℕ) → AllByRecursion FitsVolume all → Has (next (before ++ all)) r more
     → Has (volumes (length all) before next) r (concat (map volume_bytes all) ++ more)
-shown_volumes [] before next r more f h = subst (λ (l : ReplyLayout). Has l r more) (ap next (append-nil before) ∙ sym (volumes_zero before next)) h
+shown_volumes [] before next r more f h = subst (λ (l : ReplyLayout). Has l r more) (ap next (append-nil before) ∙ sym (volumes_none before next)) h
 shown_volumes (v ∷ all) before next r more f h =
     let back = shown_volumes all (before ++ (v ∷ [])) next r more f.1 (subst (λ (x : List VolumeEntry). Has (next x) r more) (sym (with_more before v all)) h) in
     let tail : List ℕ = concat (map volume_bytes all) in
     let bytes_are : bytes.u8_bytes v.flags ++ (with_count 1 v.name ++ (tail ++ more)) ≡ (volume_bytes v ++ tail) ++ more =
     sym (append_assoc (bytes.u8_bytes v.flags) (with_count 1 v.name) (tail ++ more)) ∙ sym (append_assoc (volume_bytes v) tail more) in
-    subst (λ (l : ReplyLayout). Has l r ((volume_bytes v ++ tail) ++ more)) (sym (volumes_suc (length all) before next))
+    subst (λ (l : ReplyLayout). Has l r ((volume_bytes v ++ tail) ++ more)) (sym (volumes_more (length all) before next))
     (subst (Has (volume (λ x. volumes (length all) (before ++ (x ∷ [])) next)) r) bytes_are
     (put_front (Number 1) _ v.flags (bytes.u8_bytes v.flags) _ (f.0.0, refl) (put_front (Counted 1) _ v.name (with_count 1 v.name) _ (f.0.1, refl) back)))
 
 shown_entries : (wide : Bool) (fb db : ℕ) (all before : List ListEntry) (next : List ListEntry → ReplyLayout) (r : Reply) (more : List ℕ) → AllByRecursion (FitsEntry wide fb db) all
     → Has (next (before ++ all)) r more → Has (entries wide fb db (length all) before next) r (concat (map (entry_bytes wide fb db) all) ++ more)
-shown_entries wide fb db [] before next r more f h = subst (λ (l : ReplyLayout). Has l r more) (ap next (append-nil before) ∙ sym (entries_zero wide fb db before next)) h
+shown_entries wide fb db [] before next r more f h = subst (λ (l : ReplyLayout). Has l r more) (ap next (append-nil before) ∙ sym (entries_none wide fb db before next)) h
 shown_entries wide fb db (e ∷ all) before next r more f h =
     let back = shown_entries wide fb db all (before ++ (e ∷ [])) next r more f.1 (subst (λ (x : List ListEntry). Has (next x) r more) (sym (with_more before e all)) h) in
     let tail : List ℕ = concat (map (entry_bytes wide fb db) all) in
     let bytes_are : entry_bytes wide fb db e ++ (tail ++ more) ≡ (entry_bytes wide fb db e ++ tail) ++ more = sym (append_assoc (entry_bytes wide fb db e) tail more) in
-    subst (λ (l : ReplyLayout). Has l r ((entry_bytes wide fb db e ++ tail) ++ more)) (sym (entries_suc wide fb db (length all) before next))
+    subst (λ (l : ReplyLayout). Has l r ((entry_bytes wide fb db e ++ tail) ++ more)) (sym (entries_more wide fb db (length all) before next))
     (subst (Has (Then (Entry wide fb db) (λ x. entries wide fb db (length all) (before ++ (x ∷ [])) next)) r) bytes_are
     (put_front (Entry wide fb db) _ e (entry_bytes wide fb db e) _ (entry_spelt wide fb db e f.0) back))
 

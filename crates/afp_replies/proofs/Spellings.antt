@@ -56,9 +56,6 @@ number_took n old new piece f = record {
       (number_alone n y s.0 ∙ ap (big_number n) (sym s.1 ∙ same), same_rest n old new piece other rest f l e);
 }
 
-pub number_lacks : (n : ℕ) (bytes : List ℕ) → length bytes < n → Lacks (Number n) bytes
-number_lacks n bytes lt x first rest s e = too_short n bytes first rest lt (ap (length {A = ℕ}) s.1 ∙ length-big_bytes n x) e
-
 -- the bits that were asked, as the number that they must be
 -- bits that are not outside the mask are within it
 pub not_outside : (mask bits : ℕ) → is_outside mask bits ≡ false → IsWithin mask bits

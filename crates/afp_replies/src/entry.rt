@@ -15,6 +15,7 @@ pub fn flag_of(dir: bool) -> u8
 }
 
 /// Zeros where the length of an entry is to stand, narrow or wide.
+/// The one error is want of memory, and it changes nothing.
 pub fn put_place(wide: bool, out: &mut Bytes) -> Result<(), OutOfMemory>
     ensures ok { OnOk result (out.new ≡ out.old ++ replicate (width wide) 0) }
     ensures err { OnErr result (out.new ≡ out.old) }
@@ -39,7 +40,7 @@ pub fn put_length(wide: bool, at: usize, size: usize, out: &mut Bytes)
     }
 }
 
-/// The pad behind the flag of an entry, in a wide list.
+/// The pad behind the flag of an entry, in a wide list. The one error is want of memory, and it changes nothing.
 pub fn put_entry_pad(wide: bool, out: &mut Bytes) -> Result<(), OutOfMemory>
     ensures ok { OnOk result (out.new ≡ out.old ++ replicate (pad_count wide) 0) }
     ensures err { OnErr result (out.new ≡ out.old) }

@@ -19,7 +19,7 @@ mod volumes;
 mod write;
 
 pub use answer::read_reply;
-pub use entry::{flag_of, put_length, put_entry_pad, put_place};
+pub use entry::{flag_of, put_entry_pad, put_length, put_place};
 pub use laws::{
     entries_are_even, one_reply_for_each, what_fits_a_request_is_shown_to_it, what_fits_is_shown,
     what_is_written_is_shown,

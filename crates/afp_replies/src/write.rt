@@ -13,7 +13,7 @@ ghost use Rattle.afp_replies.specs.Fitting.{FitsVolume, FitsList};
 ghost use Rattle.afp_base.specs.Appended.{Keeps};
 ghost use Rattle.afp_replies.specs.lemma.Writing.{FitsParams, FitsNode, FitsMessage, CanWrite};
 
-use crate::entry::{flag_of, put_length, put_entry_pad, put_place};
+use crate::entry::{flag_of, put_entry_pad, put_length, put_place};
 use crate::fields::{UTF8_BIT, put_text};
 use crate::list::ListEntry;
 use crate::reply::Reply;

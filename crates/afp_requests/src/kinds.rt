@@ -6,6 +6,7 @@ ghost use Rattle.afp_requests.specs.Kinds.{first_function, last_function, last_u
 /// FPMapName).
 pub const FIRST_FUNCTION: u8 = 1;
 
+/// The last function of FPMapID and FPMapName.
 pub const LAST_FUNCTION: u8 = 4;
 
 /// The last function of FPMapName that maps a name in UTF-8.

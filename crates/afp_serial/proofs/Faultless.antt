@@ -1,6 +1,6 @@
 -- What a house without a fault has.
 use Rattle.std.proofs.Common.{◌≡◌, ◌≢◌, sym, ℕ, zero, suc, ◌+◌, ◌≤◌, ◌<◌, Bool, true, false, not, ◌&&◌, ◌||◌, List, [], ◌∷◌, length, get_or, take, nat_le, nat_eq, arith, refl, subst}
-use Rattle.std.specs.Prelude.{Option, Some, None, is_none, option_map, bytes_eq}
+use Rattle.std.specs.Prelude.{Option, Some, None, option_map, bytes_eq}
 use Rattle.std.specs.List.{list_any}
 use Rattle.std.proofs.Math.Seq.{length-take-le}
 use Rattle.std.proofs.lemmas.List.{get_or-take}
@@ -151,11 +151,3 @@ told_index house fault true true None true None true is_user is_volume told = le
 pub names_first_bad : (house : Household) (fault : HouseFault) → house_fault house ≡ Some fault → NamesFirstBad fault house
 unfolding house_fault
 names_first_bad house fault told = told_index house fault _ _ _ _ _ _ refl refl told
-
--- a sound world's house
-pub none-fault : (house : Household) → is_none (house_fault house) ≡ true → house_fault house ≡ None
-none-fault house h = by (house_fault house) h
-  where
-    by : (o : Option HouseFault) → is_none o ≡ true → o ≡ None
-    by None h = refl
-    by (Some fault) h = cc

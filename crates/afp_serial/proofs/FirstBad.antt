@@ -1,23 +1,14 @@
 -- The first bad element of a list.
-use Rattle.std.proofs.Common.{◌≡◌, ap, ℕ, zero, suc, ◌+◌, ◌<◌, ◌≤◌, Bool, true, false, List, [], ◌∷◌, ◌++◌, length, get_or, take, drop, add-one, refl, arith, append_assoc, below_more, subst}
+use Rattle.std.proofs.Common.{◌≡◌, ℕ, zero, suc, ◌+◌, ◌<◌, Bool, true, false, List, [], ◌∷◌, ◌++◌, length, get_or, take, drop, refl, arith, append_assoc, below_more, subst}
 use Rattle.std.specs.Prelude.{Option, Some, None, if◌then◌else◌}
-use Rattle.std.proofs.Math.Seq.{take-suc, drop-cons, length-take-le, take-append_seam, get_or-append_seam}
-use Rattle.std.proofs.lemmas.List.{drop_all, append-nil, length-append}
+use Rattle.std.proofs.Math.Seq.{take-append_seam, get_or-append_seam}
+use Rattle.std.proofs.lemmas.List.{append-nil, length-append}
 use Rattle.afp_serial.specs.HouseFault.{first_bad_name, first_bad_behind}
 use Rattle.afp_serial.specs.Faultless.{IsFirstBad}
 
 -- the search from an index on
 abbrev pub first_bad_from : {X : Type 0} → (List X → X → Bool) → List X → ℕ → Option ℕ
 first_bad_from is_bad xs i = first_bad_behind is_bad (take i xs) (drop i xs)
-
-pub from_bad : {X : Type 0} (is_bad : List X → X → Bool) (xs : List X) (i : ℕ) (x : X) → i < length xs → get_or xs i x ≡ x → is_bad (take i xs) x ≡ true → first_bad_from is_bad xs i ≡ Some i
-from_bad is_bad xs i x inside here bad = rw (drop-cons xs i x inside, here, bad) (ap Some (length-take-le i xs (omega arith)))
-
-pub from_good : {X : Type 0} (is_bad : List X → X → Bool) (xs : List X) (i : ℕ) (x : X) → i < length xs → get_or xs i x ≡ x → is_bad (take i xs) x ≡ false → first_bad_from is_bad xs i ≡ first_bad_from is_bad xs (i + 1)
-from_good is_bad xs i x inside here good = rw (add-one, take-suc xs i x inside, drop-cons xs i x inside, here, good)
-
-pub from_end : {X : Type 0} (is_bad : List X → X → Bool) (xs : List X) (i : ℕ) → length xs ≤ i → first_bad_from is_bad xs i ≡ None
-from_end is_bad xs i past = rw (drop_all i xs past)
 
 -- where none is found, none is bad
 passed : (bad : Bool) (n : ℕ) (o : Option ℕ) → (if bad then Some n else o) ≡ None → bad ≡ false

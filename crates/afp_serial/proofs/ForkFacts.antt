@@ -148,7 +148,7 @@ same-leb a b c to from = by (nat_le a b) (nat_le a c) refl refl
     by true false h k = absurd (both_ways (nat_le a c) k (le-leb a c (to (leb-true a b h))))
     by false true h k = absurd (both_ways (nat_le a b) h (le-leb a b (from (leb-true a c k))))
 
-any-same : {A : Type 0} (q p r : A → Bool) (xs : List A) → list_all q xs ≡ true → ((x : A) → q x ≡ true → p x ≡ r x) → list_any p xs ≡ list_any r xs
+pub any-same : {A : Type 0} (q p r : A → Bool) (xs : List A) → list_all q xs ≡ true → ((x : A) → q x ≡ true → p x ≡ r x) → list_any p xs ≡ list_any r xs
 any-same q p r [] all same = refl
 any-same q p r (x ∷ xs) all same =
     let e = and_parts (q x) (list_all q xs) all in

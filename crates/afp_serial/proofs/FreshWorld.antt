@@ -46,7 +46,7 @@ no-fault : (name : List ℕ) → (length name == 0) ≡ false → nat_lt LONGEST
 unfolding name_fault
 no-fault name some short no_zero text = rw (some, short, no_zero, text) refl
 
-printable-name : (name : List ℕ) → is_name longest_volume name ≡ true → name_fault name ≡ None
+pub printable-name : (name : List ℕ) → is_name longest_volume name ≡ true → name_fault name ≡ None
 printable-name name named =
     let e = and_parts (nat_le 1 (length name)) (is_text longest_volume name) named in
     let f = and_parts (nat_le (length name) longest_volume) (list_all is_printable name) e.1 in

@@ -1,5 +1,5 @@
 -- How histories grow, and what a teller's own steps are then.
-use Rattle.std.proofs.Common.{◌≡◌, ℕ, ◌+◌, ◌<◌, ◌≤◌, suc, zero, Bool, true, false, ◌&&◌, List, [], ◌∷◌, ◌++◌, length, take, drop, Option, Some, None, refl, sym, ap, ◌∙◌, subst, append_assoc, arith, length-append, append-nil}
+use Rattle.std.proofs.Common.{◌≡◌, ℕ, ◌+◌, ◌<◌, ◌≤◌, suc, zero, Bool, true, false, ◌&&◌, List, [], ◌∷◌, ◌++◌, length, take, Option, Some, None, refl, sym, ap, ◌∙◌, subst, append_assoc, arith, length-append, append-nil}
 use Rattle.std.specs.Prelude.{slice_get}
 use Rattle.std.proofs.lemmas.List.{take-append-le}
 use Rattle.afp_base.specs.Counts.{Rises}
@@ -10,7 +10,7 @@ use Rattle.afp_serial.specs.declared.ask.Told.TheVariants.{Opened, Reply, Live, 
 use Rattle.afp_serial.specs.declared.ask.Entry.{Entry}
 use Rattle.afp_serial.specs.Answer.{answer, after, is_legal}
 use Rattle.afp_serial.specs.World.{World}
-use Rattle.afp_serial.specs.History.{entry, stand, is_lawful, faults_in, fault_of, Own, own_at, own}
+use Rattle.afp_serial.specs.History.{entry, stand, is_lawful, faults_in, Own, own_at, own}
 use Rattle.afp_serial.specs.Shown.{Rising, Shown, Stays, Adds, Asked}
 use Rattle.afp_serial.specs.Went.{Step, step, step_of, steps_of, and_step, answered, Went}
 
@@ -39,10 +39,6 @@ pub faults-append : (h x : List Entry) → faults_in (h ++ x) ≡ faults_in h + 
 faults-append [] x = omega arith
 faults-append (e ∷ es) x = omega (arith, faults-append es x)
 
-pub drop-append : (h x : List Entry) → drop (length h) (h ++ x) ≡ x
-drop-append [] x = refl
-drop-append (e ∷ es) x = drop-append es x
-
 pub rises-more : (a n b m c : ℕ) → Rises n a b → Rises m b c → Rises (n + m) a c
 rises-more a n b m c p q = (omega arith, omega arith)
 
@@ -65,10 +61,6 @@ take-all (e ∷ es) x = ap (λ (l : List Entry). e ∷ l) (take-all es x)
 pub rising-bound : (from : ℕ) (ks : List ℕ) (n : ℕ) → Rising from ks n → from ≤ n
 rising-bound from [] n r = r
 rising-bound from (k ∷ ks) n r = let b = rising-bound (k + 1) ks n r.1 in omega arith
-
-pub rising-more : (from : ℕ) (ks : List ℕ) (n m : ℕ) → n ≤ m → Rising from ks n → Rising from ks m
-rising-more from [] n m l r = omega arith
-rising-more from (k ∷ ks) n m l r = (r.0, rising-more (k + 1) ks n m l r.1)
 
 pub rising-snoc : (from : ℕ) (ks : List ℕ) (n k : ℕ) → Rising from ks n → n ≤ k → Rising from (ks ++ k ∷ []) (k + 1)
 rising-snoc from [] n k r l = (omega arith, omega arith)
@@ -196,14 +188,3 @@ asked-adds a b now link ask (Live drain) not w = w
 asked-adds a b now link ask Done not w = w
 asked-adds a b now link ask Displaced not w = w
 asked-adds a b now link ask Memory not w = absurd (not refl)
-
--- want of memory: this ask is no entry
-pub asked-stays : (a b : Shown) (now : ℕ) (link : LinkNumber) (ask : Ask) → Asked a now link ask Memory b → Stays a b
-asked-stays a b now link ask w = w
-
-pub faults-one : (e : Entry) → faults_in (e ∷ []) ≡ fault_of e.outcome
-faults-one e = omega arith
-
-pub lawful-part : (w : World) (h x : List Entry) → is_lawful w (h ++ x) ≡ true → is_lawful w h ≡ true
-lawful-part w [] x l = refl
-lawful-part w (e ∷ es) x l = and_true (is_legal w e) _ (and_left _ _ l) (lawful-part (after w e) es x (and_right (is_legal w e) _ l))

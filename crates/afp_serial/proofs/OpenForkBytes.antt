@@ -1,7 +1,7 @@
 -- A call of the tree that is not refused lets the bytes of each fork be that is open.
 use Rattle.std.proofs.Common.{◌==◌, ◌≡◌, ◌∙◌, ap, sym, refl, ℕ, Bool, true, false, cond, List, [], ◌∷◌, ◌++◌, Option, Some, None}
 use Rattle.std.specs.Prelude.{Result, Ok, Err, find, not, option_map}
-use Rattle.std.proofs.lemmas.Bool.{both_ways, cond_both, eqb-true}
+use Rattle.std.proofs.lemmas.Bool.{cond_both, eqb-true}
 use Rattle.afp_base.specs.declared.code.Code.{Code}
 use Rattle.afp_base.specs.declared.code.Code.TheVariants.{AccessDenied, DirNotEmpty, DiskFull, FileBusy, ObjectExists, ObjectLocked, ObjectTypeErr}
 use Rattle.afp_names.specs.Name.{name_key}
@@ -21,6 +21,7 @@ use Rattle.afp_volume.specs.SetVolParms.{set_vol_parms_effect}
 use Rattle.afp_volume.specs.TreeSteps.{TreeCall, CreateDir, CreateFile, Delete, MoveAndRename, Rename, SetDirParms, SetFileDirParms, SetFileParms, SetVolParms, tree_effect, tree_refusal}
 use Rattle.afp_volume.specs.VolumeState.{Row as File, VolumeState, root_id, new_row}
 use Rattle.afp_volume.specs.Walk.{Place, child_by_key, found, has_directory, new_place, one_down, one_down_or, row_at}
+use Rattle.afp_volume.proofs.OpenFiles.{another}
 
 -- the fork of a node has these bytes
 abbrev pub Has : ℕ → Bool → List ℕ → VolumeState → Type 0
@@ -67,14 +68,6 @@ new-be id v row resource bytes h = by (find (λ (r : File). r.id == id) v.rows) 
     by : (o : Option File) → find (λ (r : File). r.id == id) v.rows ≡ o → option_map (fork_of resource) o ≡ Some bytes → option_map (fork_of resource) (find (λ (r : File). r.id == id) (v.rows ++ (record row { id = v.next_id }) ∷ [])) ≡ Some bytes
     by None is k = absurd (cc)
     by (Some file) is k = ap (option_map (fork_of resource)) (find-longer (λ (r : File). r.id == id) v.rows ((record row { id = v.next_id }) ∷ []) file is) ∙ k
-
--- a busy node is another than one that is not
-another : (opens : List Opened) (id gone : ℕ) → is_busy opens id ≡ true → is_busy opens gone ≡ false → (id == gone) ≡ false
-another opens id gone busy idle = by (id == gone) refl
-  where
-    by : (b : Bool) → (id == gone) ≡ b → b ≡ false
-    by false h = refl
-    by true h = absurd (both_ways (is_busy opens gone) idle (ap (is_busy opens) (sym (eqb-true id gone h)) ∙ busy))
 
 without-be : (id : ℕ) (v : VolumeState) (gone : ℕ) → (id == gone) ≡ false → LetsBe id v (without_node gone v)
 without-be id v gone other resource bytes h = ap (option_map (fork_of resource)) (gone-lets-be v.rows gone id other) ∙ h

@@ -72,7 +72,7 @@ pub struct Entry {
 }
 
 impl Ask {
-    /// The same ask once more.
+    /// The same ask once more. The one error is want of memory.
     pub fn copy(&self) -> Result<Ask, OutOfMemory>
         ensures { IfOk result (λ ask. ask ≡ self.now) }
     {

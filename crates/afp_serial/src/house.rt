@@ -84,6 +84,7 @@ impl House {
     }
 
     /// The status block, which is answered before any session (AFP Reference, FPGetSrvrInfo).
+    /// The one error is want of memory.
     #[tactic(auto, unfolding(crate::specs::StatusBlock::status_block))]
     pub fn status(&self, alloc: Global) -> Result<Bytes, OutOfMemory>
         ensures block { IfOk result (λ block. block ≡ status_block self.now) }
@@ -93,7 +94,7 @@ impl House {
         status_block(alloc, self.server.as_slice(), &self.signature)
     }
 
-    /// The same house once more.
+    /// The same house once more. The one error is want of memory.
     pub fn copy(&self, alloc: Global) -> Result<House, OutOfMemory>
         ensures value { IfOk result (λ house. house ≡ self.now) }
         ensures faultless { house_fault self.now ≡ None }

@@ -74,8 +74,8 @@ fn put_counted_words(block: &mut Bytes, words: &[&str]) -> Result<(), OutOfMemor
 
 /// The place behind a head of this size and the parts so far.
 fn place_behind(head_size: usize, parts: &Bytes) -> u16
-    requires { status_head_size + length parts.now < 2 ^ 16 }
-    ensures { result ≡ status_head_size + length parts.now }
+    requires { head_size + length parts.now < 2 ^ 16 }
+    ensures { result ≡ head_size + length parts.now }
 {
     (head_size + parts.as_slice().len()) as u16
 }
@@ -133,9 +133,9 @@ fn status_parts(
     signature: &[u8; 16],
 ) -> Result<(Bytes, Offsets), OutOfMemory>
     requires small_name { length name.now ≤ longest_server }
-    requires small_head { status_head_size ≤ 64 }
+    requires small_head { head_size ≤ 64 }
     ensures parts { IfOk result (λ both. both.0 ≡ concat (status_parts name.now signature.now)) }
-    ensures offsets { IfOk result (λ both. both.1 ≡ offsets_of status_head_size (status_parts name.now signature.now)) }
+    ensures offsets { IfOk result (λ both. both.1 ≡ offsets_of head_size (status_parts name.now signature.now)) }
 {
     let mut parts = Bytes::new(alloc);
     let machine_type = place_behind(head_size, &parts);
@@ -164,7 +164,7 @@ fn status_parts(
     Ok((parts, offsets))
 }
 
-/// The status block of a server with this name and signature.
+/// The status block of a server with this name and signature. The one error is want of memory.
 pub fn status_block(alloc: Global, name: &[u8], signature: &[u8; 16]) -> Result<Bytes, OutOfMemory>
     requires { length name.now ≤ longest_server }
     ensures block { IfOk result (λ block. block ≡ status_of name.now signature.now) }

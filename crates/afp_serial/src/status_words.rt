@@ -4,22 +4,25 @@
 /// What kind of machine the server is.
 pub const MACHINE_TYPE: &str = "Macintosh";
 
-/// The AFP versions, by their names.
+/// AFP 3.3, by its name.
 pub const VERSION_3_3: &str = "AFP3.3";
 
+/// AFP 3.2, by its name.
 pub const VERSION_3_2: &str = "AFP3.2";
 
+/// AFP 3.1, by its name.
 pub const VERSION_3_1: &str = "AFP3.1";
 
-/// Those that the server speaks, in the order in which it announces them.
+/// The versions that the server speaks, in the order in which it announces them.
 pub const VERSIONS: [&str; 3] = [VERSION_3_3, VERSION_3_2, VERSION_3_1];
 
-/// The user authentication methods (UAMs), by their names: without a user, and by name and password.
+/// The user authentication method (UAM) without a user, by its name.
 pub const NO_USER: &str = "No User Authent";
 
+/// The UAM by name and password, by its name.
 pub const CLEARTEXT: &str = "Cleartxt Passwrd";
 
-/// Those that the server announces, in this order.
+/// The UAMs that the server announces, in this order.
 pub const UAMS: [&str; 2] = [NO_USER, CLEARTEXT];
 
 /// The flag of a server that has FPCopyFile.

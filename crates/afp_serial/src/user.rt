@@ -12,7 +12,7 @@ pub struct User {
 }
 
 impl User {
-    /// The same user once more.
+    /// The same user once more. The one error is want of memory.
     pub(crate) fn copy(&self) -> Result<User, OutOfMemory>
         ensures { IfOk result (λ user. user ≡ self.now) }
     {

@@ -7,9 +7,8 @@ use Rattle.afp_outside.specs.Gate.{Passed, with_entered, with_exited}
 use Rattle.afp_outside.specs.Link.{LinkState}
 use Rattle.afp_serial.specs.Shown.{Shown}
 use Rattle.dsi_frame.specs.Buffered.{Buffered}
-use Rattle.dsi_frame.specs.Frame.{Frame, IsSpelling, frame_of, header_of}
+use Rattle.dsi_frame.specs.Frame.{Frame, IsSpelling}
 use Rattle.dsi_frame.specs.Stream.{Begins}
-use Rattle.dsi_frame.specs.declared.frame.Header.{Header}
 use Rattle.afp_server.specs.Did.{Did}
 use Rattle.afp_server.specs.Passing.{calls_in}
 use Rattle.afp_server.specs.lemma.Passing.{call_link}
@@ -24,10 +23,6 @@ use Rattle.afp_server.specs.declared.stage.FrameEnd.{FrameEnd}
 use Rattle.afp_server.specs.declared.stage.Stage.{Stage}
 use Rattle.afp_server.proofs.Passing.{does-calls}
 use Rattle.afp_server.proofs.Serving.{HandlesNext, so_far-handles, ends-frame, ends-unwritten, some_lost-replied}
-
--- the frame at the front
-pub frame_is : (header : Header) (payload : List ℕ) (f : Frame) → header ≡ header_of f → payload ≡ f.payload → frame_of header payload ≡ f
-frame_is header payload f head body = λ i. frame_of (head i) (body i)
 
 -- a frame takes some bytes
 pub spelling_takes : (first : List ℕ) (f : Frame) → IsSpelling first f → 0 < length first

@@ -2,7 +2,7 @@
 use Rattle.std.proofs.Common.{◌≡◌, ℕ, ◌+◌, ◌≤◌, ◌<◌, ◌==◌, false, rules, List, [], ◌∷◌, ◌++◌, length, refl, sym, ap, subst, ◌∙◌, append_assoc, append-nil, length-append, take, drop, ◌-◌, length-drop, arith}
 use Rattle.std.proofs.lemmas.List.{take-append-drop, take_all}
 use Rattle.std.specs.Prelude.{Option, Some, None, option_map}
-use Rattle.afp_outside.specs.Link.{Event, piece, quiet, taken, LinkState, WritesPiece, FailsToWrite}
+use Rattle.afp_outside.specs.Link.{Event, piece, quiet, bytes_taken, LinkState, WritesPiece, FailsToWrite}
 use Rattle.afp_server.specs.LinkRun.{quiets_in, cost_of, Moves}
 use Rattle.afp_server.specs.lemma.Sending.{Sends}
 
@@ -22,9 +22,9 @@ pub left-left : (o : Option (List ℕ)) (xs ys : List ℕ) → option_map (λ le
 left-left None xs ys = refl
 left-left (Some zs) xs ys = ap Some (sym (append_assoc xs ys zs))
 
-pub taken-append : (es fs : List Event) → taken (es ++ fs) ≡ taken es ++ taken fs
+pub taken-append : (es fs : List Event) → bytes_taken (es ++ fs) ≡ bytes_taken es ++ bytes_taken fs
 taken-append [] fs = refl
-taken-append (piece written now bytes ∷ es) fs = ap (λ rest. bytes ++ rest) (taken-append es fs) ∙ sym (append_assoc bytes (taken es) (taken fs))
+taken-append (piece written now bytes ∷ es) fs = ap (λ rest. bytes ++ rest) (taken-append es fs) ∙ sym (append_assoc bytes (bytes_taken es) (bytes_taken fs))
 taken-append (quiet written now ∷ es) fs = taken-append es fs
 
 pub quiets_in-append : (es fs : List Event) → quiets_in (es ++ fs) ≡ quiets_in es + quiets_in fs
@@ -33,7 +33,7 @@ quiets_in-append (piece written now bytes ∷ es) fs = quiets_in-append es fs
 quiets_in-append (quiet written now ∷ es) fs = omega (arith, quiets_in-append es fs)
 
 pub cost_of-append : (es fs : List Event) → cost_of (es ++ fs) ≡ cost_of es + cost_of fs
-cost_of-append es fs = omega (arith, quiets_in-append es fs, ap length (taken-append es fs), length-append (taken es) (taken fs))
+cost_of-append es fs = omega (arith, quiets_in-append es fs, ap length (taken-append es fs), length-append (bytes_taken es) (bytes_taken fs))
 
 pub moves-none : (a : LinkState) → Moves a [] [] 0 a
 moves-none a = record {
@@ -48,7 +48,7 @@ moves-none a = record {
 pub moves-join : (a b c : LinkState) (es fs : List Event) (wrote more : List ℕ) (failed : ℕ) → Moves a es wrote 0 b → Moves b fs more failed c → Moves a (es ++ fs) (wrote ++ more) failed c
 moves-join a b c es fs wrote more failed one two = record {
   told = two.told ∙ ap (λ o. option_map (λ before. before ++ fs) o) one.told ∙ added-added a.events es fs;
-  coming = one.coming ∙ ap (λ o. option_map (λ left. taken es ++ left) o) two.coming ∙ left-left c.coming (taken es) (taken fs)
+  coming = one.coming ∙ ap (λ o. option_map (λ left. bytes_taken es ++ left) o) two.coming ∙ left-left c.coming (bytes_taken es) (bytes_taken fs)
       ∙ ap (λ bytes. option_map (λ left. bytes ++ left) c.coming) (sym (taken-append es fs));
   written = two.written ∙ ap (λ o. option_map (λ before. before ++ more) o) one.written ∙ added-added a.written wrote more;
   quiets = (omega arith, omega (arith, quiets_in-append es fs), omega (arith, quiets_in-append es fs));

@@ -145,19 +145,6 @@ called-memory f t old new is state = (
   },
 )
 
-pub called-displaced : (f : Frame) (t : Told) (old new : SessionState) → t ≡ tells.Displaced → old.reply ≡ []
-    → new ≡ record old { stage = Closing } → (reply : Option Frame) × CalledBy f t reply old new (Some ends.Displaced)
-called-displaced f t old new is unreplied state = (
-  None,
-  record {
-    called = λ link at. subst (λ (u : Told). CallTold f link u None new.stage (Some ends.Displaced)) (sym is) (refl, ap (λ (s : SessionState). s.stage) state, refl);
-    replied = ap (λ (s : SessionState). s.reply) state ∙ unreplied;
-    block = ap (λ (s : SessionState). s.block) state;
-    tally = ap (λ (s : SessionState). s.tally) state ∙ ap (λ (u : Told). record old.tally { answered = and_told u old.tally.answered }) (sym is);
-    goes_on = tt;
-  },
-)
-
 -- what may be told
 
 pub call-told : (a : Ask) (t : Told) → IsCall a → is_answer_to a t ≡ true → IsCallAnswer t

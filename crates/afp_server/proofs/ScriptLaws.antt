@@ -106,9 +106,6 @@ idles_on-stage now Closing steps after r = absurd r
 scripted-none : (block : List ℕ) (stage : Stage) (cause : Option Cause) (last : Stage) (after : Stage) → after ≡ stage → ScriptEnds cause last after None → IsScripted block stage [] last cause
 scripted-none block stage cause last after same ends = record { after = after; end = None; script = (refl, refl, same, refl); ends = ends; are_replies = refl }
 
-scripted-trace : (block : List ℕ) (stage last : Stage) (cause : Option Cause) (trace : List Happening) → trace ≡ [] → IsScripted block stage [] last cause → IsScripted block stage trace last cause
-scripted-trace block stage last cause trace none s = subst (λ (t : List Happening). IsScripted block stage t last cause) (sym none) s
-
 -- a quiet that ends the link
 idles-ends : (block : List ℕ) (last_read now : ℕ) (stage : Stage) (steps : List Step) (after : Stage) (c : Cause) → Idles last_read now stage steps after (Some c) → IsScripted block stage [] after (Some c)
 idles-ends block last_read now stage steps after silent r = scripted-none block stage (Some silent) after stage refl (sym r.2, refl)

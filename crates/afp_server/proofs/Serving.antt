@@ -4,7 +4,7 @@ use Rattle.std.specs.Prelude.{Option, Some, None, option_map}
 use Rattle.std.specs.Option.{option_to_list}
 use Rattle.afp_base.specs.declared.ids.LinkNumber.{LinkNumber}
 use Rattle.afp_outside.specs.Gate.{Passed, none_passed, with_entered}
-use Rattle.afp_outside.specs.Link.{Event, taken, LinkState}
+use Rattle.afp_outside.specs.Link.{Event, bytes_taken, LinkState}
 use Rattle.afp_serial.specs.Shown.{Shown}
 use Rattle.afp_serial.specs.Went.{Step, Went}
 use Rattle.afp_serial.proofs.Grows.{went-none, went-join}
@@ -84,7 +84,7 @@ pub handles-reads : (start : Start) (p : Point) (cost : ℕ) (f : Frame) (did : 
 handles-reads start p cost f did first more shown h = each-snoc start.turns start.link.written [] h.so_far.trace (handled f did) h.so_far.reads tt
 
 pub handles-bytes_read : (trace : List Happening) (f : Frame) (did : Did) → bytes_read (longer trace f did) ≡ bytes_read trace
-handles-bytes_read trace f did = ap taken (events-one trace f did)
+handles-bytes_read trace f did = ap bytes_taken (events-one trace f did)
 
 pub handles-frames : (trace : List Happening) (f : Frame) (did : Did) → frames_in (longer trace f did) ≡ frames_in trace ++ f ∷ []
 handles-frames trace f did = frames_in-append trace (handled f did ∷ [])

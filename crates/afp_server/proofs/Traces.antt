@@ -1,7 +1,7 @@
 -- Traces that grow at their end.
 use Rattle.std.proofs.Common.{◌≡◌, ℕ, List, [], ◌∷◌, ◌++◌, refl, sym, ap, ◌∙◌, subst, append_assoc, append-nil}
 use Rattle.std.specs.Prelude.{Option, Some, None, MatchOption}
-use Rattle.afp_outside.specs.Link.{Event, piece, quiet, taken}
+use Rattle.afp_outside.specs.Link.{Event, piece, quiet, bytes_taken}
 use Rattle.afp_serial.specs.Went.{Step}
 use Rattle.dsi_frame.specs.Frame.{Frame, IsSpelling}
 use Rattle.dsi_frame.specs.Stream.{Spelled}
@@ -37,7 +37,7 @@ steps_in-append (was_quiet w n steps ∷ a) b = ap (λ (ss : List Step). steps +
 steps_in-append (handled f did ∷ a) b = ap (λ (ss : List Step). did.steps ++ ss) (steps_in-append a b) ∙ sym (append_assoc did.steps (steps_in a) (steps_in b))
 
 pub bytes_read-append : (a b : List Happening) → bytes_read (a ++ b) ≡ bytes_read a ++ bytes_read b
-bytes_read-append a b = ap taken (events_in-append a b) ∙ taken-append (events_in a) (events_in b)
+bytes_read-append a b = ap bytes_taken (events_in-append a b) ∙ taken-append (events_in a) (events_in b)
 
 pub spelling_of-append : (frames others : List Frame) → spelling_of (frames ++ others) ≡ spelling_of frames ++ spelling_of others
 spelling_of-append [] others = refl

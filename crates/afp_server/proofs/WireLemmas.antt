@@ -180,18 +180,6 @@ fed-header start bytes held p b s place bad = inl record {
   stopped = given-stop bytes (start.past ++ s.frames) held b.at b.reason s.given place bad;
 }
 
--- there is no memory for the frame at the front
-pub fed-part : (start : FeedStart) (bytes : List ℕ) (held : Buffered) (p q : FeedPoint) → FedSoFar start bytes held p
-    → q.stage ≡ p.stage → q.tally ≡ p.tally → q.out ≡ p.out → q.shown ≡ p.shown → FedTo start bytes wires.Memory q
-fed-part start bytes held p q s stage tally out shown =
-    let same : p ≡ q = λ i. feed_point (sym stage i) (sym tally i) (sym out i) (sym shown i) in
-    record {
-      frames = s.frames;
-      handled = subst (λ (x : FeedPoint). Handled start s.frames None x) same s.handled;
-      left = held.rest;
-      fills = given-fills bytes (start.past ++ s.frames) held s.given;
-    }
-
 -- more bytes are fed
 
 pub fed-more : (start : FeedStart) (bytes more : List ℕ) (held after : Buffered) (p : FeedPoint) → FedSoFar start bytes held p → after.rest ≡ held.rest ++ more

@@ -2,7 +2,7 @@
 use Rattle.std.specs.Prelude.{◌≡◌, ◌⊎◌, ℕ, ◌+◌, ◌<◌, ◌≤◌, Bool, true, false, List, [], ◌∷◌, ◌++◌, length, Option, Some, None, IfSome, option_map}
 use Rattle.afp_base.specs.declared.ids.LinkNumber.{LinkNumber}
 use Rattle.afp_base.specs.Counts.{CountsOn, Rises}
-use Rattle.afp_outside.specs.Link.{Event, piece, quiet, taken, LinkState}
+use Rattle.afp_outside.specs.Link.{Event, piece, quiet, bytes_taken, LinkState}
 use Rattle.afp_serial.specs.Household.{Household}
 use Rattle.afp_serial.specs.StatusBlock.{status_block}
 use Rattle.afp_serial.specs.declared.ask.Ask.TheVariants as ask
@@ -30,13 +30,13 @@ quiets_in (quiet written now ∷ events) = 1 + quiets_in events
 
 -- what reads cost: the bytes taken and the quiets
 abbrev pub cost_of : List Event → ℕ
-cost_of events = length (taken events) + quiets_in events
+cost_of events = length (bytes_taken events) + quiets_in events
 
 -- A link moved on: its reads gave these events, these bytes were written, and so many writes failed. Faults of reading may be counted
 -- beside reads that do not fail, since a read's clock may fail.
 pub record Moves (old : LinkState) (events : List Event) (wrote : List ℕ) (failed : ℕ) (new : LinkState) : Type 0 where
   pub told : new.events ≡ option_map (λ before. before ++ events) old.events
-  pub coming : old.coming ≡ option_map (λ left. taken events ++ left) new.coming
+  pub coming : old.coming ≡ option_map (λ left. bytes_taken events ++ left) new.coming
   pub written : new.written ≡ option_map (λ before. before ++ wrote) old.written
   pub quiets : CountsOn (quiets_in events) old.quiets new.quiets
   pub read_faults : old.read_faults ≤ new.read_faults
@@ -50,7 +50,7 @@ pub record Fills (bytes : List ℕ) (frames : List Frame) (left : List ℕ) : Ty
 
 -- all bytes that were read
 abbrev pub bytes_read : List Happening → List ℕ
-bytes_read trace = taken (events_in trace)
+bytes_read trace = bytes_taken (events_in trace)
 
 -- what had been written before a read
 abbrev pub written_before : Event → Option (List ℕ)

@@ -85,7 +85,7 @@ find-only alike p (row ∷ rows) s both apart h =
         (λ gone. rest)
 
 -- a name is free once the one child that had its key is gone
-freed : (v : VolumeState) (dir : ℕ) (key : List ℕ) (old : ℕ) → has_apart_names v ≡ true → child_by_key v.rows dir key ≡ Some old → child_by_key (without old v.rows) dir key ≡ None
+pub freed : (v : VolumeState) (dir : ℕ) (key : List ℕ) (old : ℕ) → has_apart_names v ≡ true → child_by_key v.rows dir key ≡ Some old → child_by_key (without old v.rows) dir key ≡ None
 unfolding child_by_key has_apart_names
 freed v dir key old apart h =
     let test : Row → Bool = λ (row : Row). (row.parent == dir) && bytes_eq (name_key row.name) key in

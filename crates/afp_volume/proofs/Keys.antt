@@ -10,10 +10,6 @@ use Rattle.afp_volume.proofs.TestedLists.{all-filter, all-kept, all-weaker, leng
 use Rattle.afp_volume.specs.Desktop.{at_key, put_at_key, without_key}
 use Rattle.afp_volume.specs.Order.{stands_before, put_in, rises, rises_from}
 
-flip : (t : Bool) → not t ≡ true → t ≡ false
-flip true h = absurd (cc)
-flip false h = refl
-
 -- keys
 
 pub same-key : (a b : List ℕ) → bytes_eq a b ≡ true → a ≡ b

@@ -44,7 +44,7 @@ new-be : (id : ℕ) (v : VolumeState) (row : Row) → LetsBe id v (with_row row 
 new-be id v row h = any-longer (λ (r : Row). r.id == id && not r.dir) v.rows ((record row { id = v.next_id }) ∷ []) h
 
 -- a busy node is another than one that is not
-another : (opens : List Opened) (id gone : ℕ) → is_busy opens id ≡ true → is_busy opens gone ≡ false → (id == gone) ≡ false
+pub another : (opens : List Opened) (id gone : ℕ) → is_busy opens id ≡ true → is_busy opens gone ≡ false → (id == gone) ≡ false
 another opens id gone busy idle = by (id == gone) refl
   where
     by : (b : Bool) → (id == gone) ≡ b → b ≡ false

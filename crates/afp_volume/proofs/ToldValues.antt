@@ -40,15 +40,15 @@ use Rattle.afp_volume.specs.Walk.{found, has_directory, row_at}
 
 -- a value that stands where its bit is asked, and is blank where not
 
-number-fits : (b : Bool) (n x : ℕ) → MatchBool b (Unit {0}) (Number n (cond b x 0) ≡ Number n 0)
+pub number-fits : (b : Bool) (n x : ℕ) → MatchBool b (Unit {0}) (Number n (cond b x 0) ≡ Number n 0)
 number-fits true n x = tt
 number-fits false n x = refl
 
-date-fits : (b : Bool) (z : ℤ) → MatchBool b (Unit {0}) (Date (cond b z (pos 0)) ≡ Date (pos 0))
+pub date-fits : (b : Bool) (z : ℤ) → MatchBool b (Unit {0}) (Date (cond b z (pos 0)) ≡ Date (pos 0))
 date-fits true z = tt
 date-fits false z = refl
 
-finder-fits : (b : Bool) (info : List ℕ) → MatchBool b (Unit {0}) (Finder (cond b info (replicate 32 0)) ≡ Finder (replicate 32 0))
+pub finder-fits : (b : Bool) (info : List ℕ) → MatchBool b (Unit {0}) (Finder (cond b info (replicate 32 0)) ≡ Finder (replicate 32 0))
 finder-fits true info = tt
 finder-fits false info = refl
 

@@ -60,18 +60,21 @@ pub fn parts_at_colon(text: &[u8]) -> (&[u8], &[u8])
     (front(text, place), behind(text, place.saturating_add(1)))
 }
 
+/// Whether the text has a space.
 fn has_space(text: &[u8]) -> bool
     ensures { result ≡ list_any is_space text.now }
 {
     text.iter().any(|byte| *byte == b' ')
 }
 
+/// Whether the text has a colon.
 pub fn has_colon(text: &[u8]) -> bool
     ensures { result ≡ list_any is_colon text.now }
 {
     text.iter().any(|byte| *byte == b':')
 }
 
+/// Whether each byte is of ASCII.
 pub fn is_ascii(text: &[u8]) -> bool
     ensures { result ≡ list_all is_ascii text.now }
 {

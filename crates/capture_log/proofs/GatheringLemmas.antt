@@ -1,40 +1,18 @@
 -- The lines of a capture, gathered from pieces of its bytes.
-use Rattle.std.proofs.Common.{◌≡◌, ◌≢◌, ◌-◌, ◌||◌, ◌&&◌, ◌==◌, not, ℕ, ◌+◌, ◌≤◌, ◌<◌, Bool, true, false, List, [], ◌∷◌, ◌++◌, suc, length, min, take, drop, refl, sym, ap, ◌∙◌, subst, inl, inr, append_assoc, append-nil, length-append, get_or, take-append-drop, arith, nat_lt}
+use Rattle.std.proofs.Common.{◌≡◌, ◌-◌, ◌||◌, ◌&&◌, ◌==◌, not, ℕ, ◌+◌, ◌≤◌, ◌<◌, Bool, true, false, List, [], ◌∷◌, ◌++◌, suc, length, min, refl, sym, ap, ◌∙◌, subst, inl, inr, append_assoc, append-nil, length-append, arith, nat_lt}
 use Rattle.std.specs.Prelude.{Option, Some, None, if◌then◌else◌}
 use Rattle.std.specs.List.{onto_first}
 use Rattle.std.proofs.lemmas.Bool.Decides.{eqb_tells, leb_tells}
-use Rattle.std.proofs.lemmas.List.{drop_more, get_or-take, length-take, take_all, length-drop}
 use Rattle.std.proofs.lemmas.List.Elements.{All-append, All-nil}
 use Rattle.std.proofs.lemmas.List.Splits.{slice_split_at, slice_split_none}
 use Rattle.capture_lines.specs.Lines.{line_in, longest_line}
 use Rattle.capture_log.specs.lemma.Gathering.{ReaderState, IsOneLine, AreLines, ended_lines, Holds, EndsLine}
 use Rattle.capture_log.specs.Judged.{Decides, DecidesEnd, JudgedAt, Judged}
 use Rattle.capture_log.specs.Reading.{is_newline, pieces, last_line, lines_of, lines_in, Undecided}
-use Rattle.capture_server.specs.CaptureState.{CaptureState, TakesGoodLine, Leads, begins, is_bad, no_house}
-use Rattle.capture_server.specs.declared.part.Part.TheVariants as parts
-use Rattle.capture_log.proofs.SetUpLemmas.{set-up-none}
+use Rattle.capture_server.specs.CaptureState.{CaptureState, TakesGoodLine, Leads, begins, is_bad}
 use Rattle.capture_log.specs.lemma.Taking.{HeldCapture, IsCapture, TakesRawLine}
 use Rattle.capture_log.specs.declared.replay_end.ReplayEnd.{ReplayEnd}
 use Rattle.capture_log.specs.declared.replay_end.ReplayEnd.TheVariants.{BadCapture}
-
--- nothing was read
-pub holds-nothing : (r : ReaderState) → r ≡ record { capture = record { part = parts.Title; house = no_house; waiting = true; running = None; number = 0 }; held = [] } → Holds r []
-holds-nothing r same =
-    let it : Holds (record { capture = record { part = parts.Title; house = no_house; waiting = true; running = None; number = 0 }; held = [] }) [] = record {
-      lines = [];
-      whole = refl;
-      are_lines = tt;
-      one_line = All-nil (λ byte. is_newline byte ≡ false);
-      size = omega arith;
-      standing = begins;
-      leads = refl;
-      is = record {
-        next = refl;
-        server = record { serves = refl; set_up = set-up-none; keepers = refl; start = refl; connections = refl; links = refl; history = refl; replies = refl };
-      };
-      number = refl;
-    } in
-    subst (λ (x : ReaderState). Holds x []) (sym same) it
 
 -- whether a line is too long
 pub too-long : (held more sum most : ℕ) → sum ≡ min (held + more) most → longest_line < most → nat_lt longest_line sum ≡ nat_lt longest_line (held + more)
@@ -47,24 +25,6 @@ too-long held more sum most e m = elim (leb_tells (suc longest_line) sum) [
     | inl u ↦ absurd (omega (arith, t.1, u.1, e, m))
     | inr u ↦ t.0 ∙ sym u.0
   ]
-]
-
--- newlines
-
-pub line-before : (bytes : List ℕ) (i : ℕ) → i < length bytes → ((k d : ℕ) → k < i → is_newline (get_or bytes k d) ≡ false) → IsOneLine (take i bytes)
-line-before bytes i within before k d lt =
-    let inside : k < i = omega (arith, lt, length-take i bytes) in
-    ap is_newline (get_or-take i bytes k d inside) ∙ before k d inside
-
-pub cut-there : (bytes : List ℕ) (i : ℕ) → i < length bytes → get_or bytes i 0 ≡ 10 → bytes ≡ take i bytes ++ 10 ∷ take (length bytes - (i + 1)) (drop (i + 1) bytes)
-cut-there bytes i within ten =
-    sym (take-append-drop i bytes) ∙ ap (λ (l : List ℕ). take i bytes ++ l) (drop_more bytes i 0 within ∙ ap (λ (b : ℕ). b ∷ drop (i + 1) bytes) ten)
-    ∙ ap (λ (l : List ℕ). take i bytes ++ 10 ∷ l) (sym (take_all (length bytes - (i + 1)) (drop (i + 1) bytes) (omega (arith, length-drop (i + 1) bytes))))
-
-pub not-newline : (byte : ℕ) → byte ≢ 10 → is_newline byte ≡ false
-not-newline byte other = elim (eqb_tells byte 10) [
-  | inl t ↦ absurd (other t.1)
-  | inr t ↦ t.0
 ]
 
 -- lines
@@ -221,9 +181,6 @@ long-rest r read more h one e =
     }
 
 -- the end
-
-last-none : last_line true [] ≡ []
-last-none = refl
 
 last-some : (held : List ℕ) → false ≡ (length held == 0) → last_line true held ≡ held ∷ []
 last-some held e = ap (λ (b : Bool). if nat_lt longest_line (length held) || (not b) then held ∷ [] else []) (sym e) ∙ or-true (nat_lt longest_line (length held))

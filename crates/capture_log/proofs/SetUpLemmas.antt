@@ -15,7 +15,7 @@ use Rattle.afp_serial.specs.declared.user.User.{User}
 use Rattle.capture_lines.specs.declared.line.Line.{Line}
 use Rattle.capture_lines.specs.declared.line.Line.TheVariants.{Title, Server, Signature, User as UserLine, Volume, Key, At, End}
 use Rattle.capture_lines.specs.declared.line.What.{What}
-use Rattle.capture_server.specs.CaptureState.{part_after, no_house, user_behind}
+use Rattle.capture_server.specs.CaptureState.{part_after, user_behind}
 use Rattle.capture_server.specs.declared.part.Part.{Part}
 use Rattle.capture_server.specs.declared.part.Part.TheVariants as parts
 use Rattle.capture_log.specs.lemma.SetUp.{IsSetUp, has_server, has_volume}
@@ -178,13 +178,6 @@ one-longer xs x most e =
 not-none : {X : Type 0} (xs : List X) (x : X) → nat_le 1 (length (xs ++ x ∷ [])) ≡ true
 not-none xs x = as_le 1 (length (xs ++ x ∷ [])) (omega (arith, length-append xs (x ∷ [])))
 
--- a user, and a volume, that was taken has room
-
-pub user-room : (h : Household) (name password : List ℕ) → refused_by h (UserLine name password) ≡ false → length h.users < most_users
-user-room h name password good =
-    let both = or_false (not (nat_lt (length h.users) most_users)) (is_bad_user h.users (user_behind h.users name password)) good in
-    from_lt (length h.users) most_users (not_false (nat_lt (length h.users) most_users) both.0)
-
 -- what stood is good still
 
 same-parts : (p q : Part) (line : Line) (h i : Household) → Adds p line q → names_server line ≡ false → names_volume line ≡ false → i.server ≡ h.server → i.users ≡ h.users → i.volumes ≡ h.volumes → i.message ≡ h.message
@@ -260,17 +253,6 @@ kept-set-up p q (Volume name) h may good is =
 kept-set-up p q (Key bytes) h may good is = same-parts p q (Key bytes) h (record h { token_key = bytes }) (adds-key p q bytes may) refl refl refl refl refl refl is
 kept-set-up p q (At link now what) h may good is = same-parts p q (At link now what) h h (adds-at p q link now what may) refl refl refl refl refl refl is
 kept-set-up p q End h may good is = same-parts p q End h h (adds-end p q may) refl refl refl refl refl refl is
-
-pub set-up-none : IsSetUp parts.Title no_house
-set-up-none = record {
-  server = λ e. absurd (cc e);
-  few_users = refl;
-  users = refl;
-  some_volume = λ e. absurd (cc e);
-  few_volumes = refl;
-  volumes = refl;
-  message = refl;
-}
 
 -- so nothing of it is refused
 

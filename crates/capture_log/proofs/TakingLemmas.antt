@@ -13,8 +13,6 @@ use Rattle.capture_lines.specs.declared.line.What.TheVariants.{In, Quiet, Lost, 
 use Rattle.afp_base.specs.declared.ids.LinkNumber.{LinkNumber}
 use Rattle.afp_server.specs.Wire.{open_link}
 use Rattle.capture_server.specs.Connections.{Connection, unused}
-use Rattle.capture_log.specs.Judged.{Decides, DecidesEnd}
-use Rattle.capture_log.specs.lemma.Judged.{IsSame}
 use Rattle.capture_server.specs.Counting.{refused_in}
 use Rattle.capture_server.specs.Running.{IsFreshRunning}
 use Rattle.capture_server.specs.Running.{HappensBy}
@@ -72,11 +70,6 @@ pub set-up-there : (there : Option RunningState) (house : Household) (waiting : 
 set-up-there there house waiting s none is at =
     let idle : IsIdle house waiting s = subst (λ (o : Option RunningState). IsServer o house waiting s) none is in
     subst (λ (p : Part). IsSetUp p house) at idle.set_up
-
-pub runs-there : (there : Option RunningState) (old : Household) (waiting : Bool) (now : ℕ) (r : RunningState) (s : CaptureState) → there ≡ Some r → IsServer there old waiting s → RunsFrom s now r
-runs-there there old waiting now r s some is =
-    let begun : IsBegun r s = subst (λ (o : Option RunningState). IsServer o old waiting s) some is in
-    subst (λ (o : Option ℕ). IsRunning r s (start_at o now)) (sym begun.start) begun.is
 
 -- the server that is there, or what waits for it, was taken out
 pub served : (c x : HeldCapture) (s : CaptureState) (waiting : Bool) (there : Option RunningState) → IsCapture c s → x ≡ c → there ≡ x.running → waiting ≡ x.waiting → IsServer there x.house waiting s
@@ -202,23 +195,6 @@ or-right : (a b : Bool) → b ≡ true → (a || b) ≡ true
 or-right true b e = refl
 or-right false b e = e
 
-bad-by : (o : Option RunningState) (house : Household) (waiting : Bool) (s : CaptureState) (line : Line) (part : Part) → IsServer o house waiting s → part_after s.part line ≡ Some part → is_event line ≡ false
-    → refused_by house line ≡ true → is_bad s (Some line) ≡ true
-bad-by None house waiting s line part i may other bad =
-    or-right (is_none (part_after s.part line)) (is_refused s line) (refused-same s line other ∙ ap (λ (h : Household). refused_by h line) (sym i.serves) ∙ bad)
-bad-by (Some r) house waiting s line part b may other bad =
-    let e : IsEnd line part = past-end s.part line part b.past other may in
-    absurd (cc (sym bad ∙ ap (λ (l : Line). refused_by house l) e.ends))
-
-pub part_refused : (old : HeldCapture) (s : CaptureState) (line : Line) (part : Part) → IsCapture old s → part_after old.part line ≡ Some part → is_event line ≡ false → true ≡ refused_by old.house line
-    → is_bad s (Some line) ≡ true
-part_refused old s line part is may other bad =
-    bad-by old.running old.house old.waiting s line part is.server (ap (λ (p : Part). part_after p line) (sym is.next) ∙ may) other (sym bad)
-
--- a line that may not come here
-pub unfit : (old : HeldCapture) (s : CaptureState) (line : Line) → IsCapture old s → part_after old.part line ≡ None → is_bad s (Some line) ≡ true
-unfit old s line is none = ap (λ (o : Option Part). is_none o || is_refused s line) (ap (λ (p : Part). part_after p line) (sym is.next) ∙ none)
-
 -- what happened on a connection
 
 feeds-part : (b : Bool) (s : CaptureState) (link now : ℕ) (bytes : List ℕ) (t : CaptureState) → FeedsUnless b s link now bytes t → t.part ≡ s.part
@@ -259,9 +235,6 @@ acts-by s number link now what r (Some d) at good h = record {
 pub begun-running : (s : CaptureState) (now : ℕ) (r : RunningState) → RunsFrom s now r → IsRunning r (begun s now) (start_at s.start now)
 begun-running s now r is = moved r s parts.Events (Some (start_at s.start now)) (start_at s.start now) is
 
-pub begun-start : (s : CaptureState) (now : ℕ) → (begun s now).start ≡ Some (start_at s.start now)
-begun-start s now = refl
-
 pub acted : (s : CaptureState) (number index link now : ℕ) (what : What) (r : RunningState) (found : Option Difference) (verdict : Option ReplayEnd) → s.part ≡ parts.Events → suc index ≡ link
     → false ≡ is_refused_on (s.connections (suc index)) what → HappensBy (begun s now) (suc index) now what (start_at s.start now) found r
     → verdict ≡ option_map (λ d. Differs link d.at d.want d.got) found → Acts s number link now what verdict r
@@ -296,29 +269,7 @@ pub event_refused : (s : CaptureState) (index link now : ℕ) (what : What) → 
 event_refused s index link now what same_link bad =
     or-right (is_none (part_after s.part (At link now what))) (is_refused_on (s.connections link) what) (ap (λ (l : ℕ). is_refused_on (s.connections l) what) (sym same_link) ∙ sym bad)
 
-pub is_at_events : (p : Part) (link now : ℕ) (what : What) (q : Part) → part_after p (At link now what) ≡ Some q → p ≡ parts.Events
-is_at_events parts.Title link now what q e = absurd (cc e)
-is_at_events parts.Server link now what q e = absurd (cc e)
-is_at_events parts.Signature link now what q e = absurd (cc e)
-is_at_events parts.Users link now what q e = absurd (cc e)
-is_at_events parts.Volumes link now what q e = absurd (cc e)
-is_at_events parts.Events link now what q e = refl
-is_at_events parts.Nothing link now what q e = absurd (cc e)
-
-pub no_event : (line : Line) → ((link now : ℕ) (what : What) → line ≡ At link now what → ⊥) → is_event line ≡ false
-no_event Title other = refl
-no_event (Server name) other = refl
-no_event (Signature bytes) other = refl
-no_event (UserLine name password) other = refl
-no_event (Volume name) other = refl
-no_event (Key bytes) other = refl
-no_event (At link now what) other = absurd (other link now what refl)
-no_event End other = refl
-
 -- a line that was read
-
-pub no_line : (s : CaptureState) (number : ℕ) (raw : List ℕ) (line : Option Line) → line ≡ line_in raw → line ≡ None → Decides s number raw (BadCapture number)
-no_line s number raw line read none = (ap (λ (o : Option Line). is_bad s o) (sym read ∙ none), refl)
 
 taken-by : (s : CaptureState) (number : ℕ) (raw : List ℕ) (line : Line) (verdict : Option ReplayEnd) (c : HeldCapture) → line_in raw ≡ Some line → TakesLine s number line verdict c
     → TakesRawLine s number raw verdict (record c { number = number })
@@ -345,21 +296,3 @@ pub line_taken : (s : CaptureState) (number : ℕ) (raw : List ℕ) (line : Line
     → TakesLine s number line verdict c → new ≡ record c { number = number } → TakesRawLine s number raw verdict new
 line_taken s number raw line found verdict c new read some h same =
     subst (λ (x : HeldCapture). TakesRawLine s number raw verdict x) (sym same) (taken-by s number raw line verdict c (sym read ∙ some) h)
-
--- the end
-
-pub ends_same : (s : CaptureState) (number : ℕ) (verdict : ReplayEnd) → s.part ≡ parts.Nothing → IsSame s verdict → DecidesEnd s number verdict
-ends_same s number (Same links entries replies refused) over same = (over, same)
-ends_same s number (Differs link at want got) over same = absurd same
-ends_same s number (BadCapture line) over same = absurd same
-ends_same s number ReadFault over same = absurd same
-ends_same s number Spent over same = absurd same
-ends_same s number Memory over same = absurd same
-
-pub idle-same : (house : Household) (waiting : Bool) (s : CaptureState) → IsIdle house waiting s → IsSame s (Same 0 0 0 0)
-idle-same house waiting s i = record {
-  fed = sym i.links;
-  asked = ap length (sym i.history);
-  replied = ap (λ l. counted (length l) 0) (sym i.replies);
-  not_ok = ap (λ l. counted (refused_in l) 0) (sym i.replies);
-}

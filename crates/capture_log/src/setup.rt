@@ -50,6 +50,7 @@ impl Setup {
         }
     }
 
+    /// Names the server. The one error is want of memory.
     pub fn set_server(&mut self, name: &Bytes) -> Result<(), OutOfMemory>
         ensures { OnOk result (self.new ≡ record self.old { server = name.now }) }
     {
@@ -57,12 +58,14 @@ impl Setup {
         Ok(())
     }
 
+    /// Gives the server's signature.
     pub fn set_signature(&mut self, signature: [u8; 16])
         ensures { self.new ≡ record self.old { signature = signature } }
     {
         self.signature = signature;
     }
 
+    /// Gives the key of the session tokens.
     pub fn set_key(&mut self, key: [u8; 32])
         ensures { self.new ≡ record self.old { token_key = key } }
     {

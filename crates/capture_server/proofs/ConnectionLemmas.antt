@@ -22,7 +22,6 @@ use Rattle.afp_server.specs.declared.stage.Stage.{Stage}
 use Rattle.afp_server.specs.declared.tally.Tally.{Tally}
 use Rattle.afp_server.proofs.Traces.{spelling_of-append}
 use Rattle.capture_server.specs.Connections.{Connection, fed_with, difference, output}
-use Rattle.capture_server.specs.declared.difference.Difference.{Difference}
 use Rattle.capture_server.specs.lemma.Moves.{Extends, FeedsConnection, IdlesConnection, LosesConnection, Compares, wire_or}
 use Rattle.capture_server.specs.CaptureState.{after_quiet, after_loss}
 use Rattle.capture_server.specs.States.{ConnectionState, IsConnection, IsLive, IsWire}
@@ -122,11 +121,6 @@ one t u now link ask a asked alone still fixed other =
     let x : Asks t (step now link ask a ∷ []) u = asks t u (step now link ask a ∷ []) alone.mine still.mine still.faults (went-one t u now link ask a asked) (told-true a other) in
     record { start = fixed; history = x.history; served = x.served }
 
--- the link that is open
-
-pub open-wire : (block : List ℕ) (w : WireState) (fed : ℕ) (s : Connection) → IsWire block (Some w) fed s → open_link w.stage ≡ open_link s.stage
-open-wire block w fed s h = ap open_link h.stage
-
 -- a connection without a wire
 
 -- bytes were compared
@@ -174,10 +168,6 @@ compared block wanted c d s named is none rest inside others sum_is =
       same_difference block wanted c s is ∙ none,
       subst (λ (x : ConnectionState). IsConnection block x (record s { named = s.named + length wanted })) (sym others) it,
     )
-
-pub differs : (block wanted : List ℕ) (c d : ConnectionState) (s : Connection) (found : Difference) → IsConnection block c s → difference c.named wanted (drop c.place c.out) ≡ Some found
-    → Compares block wanted s (Some found) d
-differs block wanted c d s found is e = same_difference block wanted c s is ∙ e
 
 -- a quiet came, or a loss
 

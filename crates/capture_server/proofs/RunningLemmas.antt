@@ -24,7 +24,7 @@ use Rattle.afp_server.specs.Wire.{open_link}
 use Rattle.capture_server.specs.declared.difference.Difference.{Difference}
 use Rattle.capture_server.specs.Counting.{refused_in}
 use Rattle.capture_server.specs.lemma.Moves.{Extends, FeedsConnection, IdlesConnection, LosesConnection}
-use Rattle.capture_server.specs.Running.{AreUnused, Happened}
+use Rattle.capture_server.specs.Running.{Happened}
 use Rattle.capture_server.specs.Running.{HappensBy}
 use Rattle.capture_server.specs.lemma.Slots.{IsFit, FeedsAt, IdlesAt, LosesAt, ComparesAt}
 use Rattle.capture_server.specs.CaptureState.{CaptureState, FeedsUnless, PulsesIf, LosesIf, after_quiet, after_loss, put, world_at, start_at}
@@ -329,22 +329,6 @@ compare-there r new s first now index wanted (Some d) slots is started at same =
     record { bytes = wanted; shows = refl; found = at.compares (status_block s.house) (s.connections (suc index)) (is.connections index at.old at.there) }
 
 -- connections that none was named of
-
-get-push : {X : Type 0} (xs : List X) (x c : X) (k : ℕ) → slice_get (xs ++ x ∷ []) k ≡ Some c → (slice_get xs k ≡ Some c) ⊎ (c ≡ x)
-get-push [] x c zero e = inr (cc e)
-get-push [] x c (suc k) e = absurd (cc e)
-get-push (y ∷ xs) x c zero e = inl e
-get-push (y ∷ xs) x c (suc k) e = get-push xs x c k e
-
-pub unused-more : (xs : List ConnectionState) (x : ConnectionState) → AreUnused xs → x ≡ unused_state → AreUnused (xs ++ x ∷ [])
-unused-more xs x all is k c e = elim (get-push xs x c k e) [
-  | inl at ↦ all k c at
-  | inr same ↦ same ∙ is
-]
-
-pub unused-none : AreUnused []
-unused-none zero c e = absurd (cc e)
-unused-none (suc k) c e = absurd (cc e)
 
 pub lost-there : (r : RunningState) (s : CaptureState) (first index : ℕ) (slots : List ConnectionState) (lost : Bool) → IsRunning r s first → index < length r.connections → slots ≡ r.connections
     → ((c : ConnectionState) → slice_get slots index ≡ Some c → lost ≡ c.lost) → lost ≡ (s.connections (suc index)).lost

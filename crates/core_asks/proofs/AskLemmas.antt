@@ -1,7 +1,7 @@
 -- Asks.
 use Rattle.std.proofs.Common.{◌≡◌, ◌∙◌, ap, sym, refl, subst, ℕ, ◌+◌, ◌<◌, ◌≤◌, Bool, true, false, ◌||◌, not, List, [], ◌∷◌, ◌++◌, length, filter, Option, Some, None, is_some}
 use Rattle.std.specs.Prelude.{Result, Ok, Err}
-use Rattle.std.proofs.lemmas.Bool.{ne_eqb, le-leb, lt-leb}
+use Rattle.std.proofs.lemmas.Bool.{le-leb, lt-leb}
 use Rattle.afp_base.specs.Cached.{Request, cached_answer, Kept}
 use Rattle.afp_base.specs.declared.bytes.OutOfMemory.{OutOfMemory}
 use Rattle.afp_base.specs.declared.code.Code.{Code}
@@ -12,7 +12,7 @@ use Rattle.afp_serial.specs.declared.ask.Ask.{Ask}
 use Rattle.afp_serial.specs.declared.ask.Ask.TheVariants as ask
 use Rattle.afp_serial.specs.declared.ask.Outcome.{Outcome}
 use Rattle.afp_serial.specs.declared.ask.Told.{Told}
-use Rattle.afp_serial.specs.declared.ask.Told.TheVariants.{Opened, Live, Done, Displaced}
+use Rattle.afp_serial.specs.declared.ask.Told.TheVariants.{Opened, Done, Displaced}
 use Rattle.afp_serial.specs.Answer.{after_at, after_call, answer_at, drain_moment, is_expired, committed_in, is_full, committed_at, link_number, new_session, refusal_reply, request, told_call, told_pulse, Verdict, block_of, refused, verdict, verdict_of_block, verdict_of_kept, verdict_of_row}
 use Rattle.afp_serial.specs.Limits.{links_end, most_sessions}
 use Rattle.afp_serial.specs.World.{plain, session_at, without_session, World, Session}
@@ -72,14 +72,6 @@ open-runs old new link attention drawn sessions next few left number is counts a
     rw room (outcome-done old new _ _ _ _ (Opened drawn) (ap (λ (n : ℕ). Opened (link_number n)) number) is
     ((λ i. record w { next_link = counts i; sessions = adds i })
     ∙ ap (λ (n : ℕ). record w { next_link = w.next_link + 1; sessions = w.sessions ++ new_session n ∷ [] }) number))
-
--- Pulse
-pub pulse-none : (w : World) (o : Option Session) → told_pulse w 0 o ≡ Live w.drain
-pulse-none w None = refl
-pulse-none w (Some s) = refl
-
-pub pulse-displaced : (w : World) (link : ℕ) → (link ≡ 0 → ⊥) → told_pulse w link None ≡ Displaced
-pulse-displaced w link h = rw (ne_eqb link 0 h) refl
 
 pub pulse-runs : (old new : KeptWorld) (link : ℕ) (told : Told) (sessions : List Session) → IsReady old.world → told ≡ told_pulse old.world link (session_at old.world link) → new ≡ with_sessions old sessions
     → sessions ≡ filter (λ s. not (is_expired old.world.latest s.place)) old.world.sessions → sessions ≡ old.world.sessions

@@ -14,7 +14,6 @@ use Rattle.afp_requests.specs.declared.call.Call.{Call}
 use Rattle.afp_requests.specs.declared.call.Call.TheVariants.{ByteRangeLock, ByteRangeLockExt, Read, ReadExt, Write, WriteExt}
 use Rattle.afp_base.specs.declared.ids.ForkRef.{ForkRef}
 use Rattle.afp_serial.specs.Lock.{lock_asked, locks}
-use Rattle.afp_volume.specs.SoundVolume.{has_file}
 use Rattle.afp_serial.specs.Answer.{refusal_reply, refused_reply}
 use Rattle.afp_serial.specs.World.{Effect, Refusal, Refused, CallRow, plain, World, Session}
 use Rattle.afp_serial.specs.ForkBytes.{ReadAsked, ahead, meets_end, most_read, read_bytes, read_refusals, read_reply, reads, stop_in, up_to, writes}
@@ -229,9 +228,6 @@ read-of k number reference own stands v there asked span is (with_ok a) block ho
     let node : row_at v.rows own.fork.node ≡ Some f.file = ap (λ (u : VolumeState). row_at u.rows own.fork.node) (sym (found-state k number reference own stands v there)) ∙ stands.node in
     let read : IsReadOf (bytes_of f) asked block a = subst (λ l. IsReadOf l asked block a) (λ i. fork_of (sym stands.fork_is i).resource f.file) (holds f.file asked node is) in
     subst (λ x. IsReadOf (bytes_of f) asked block x) (let e : a ≡ b = cc in e) read
-
-pub file-there : (k : KeptWorld) (number reference : ℕ) (own : OwnFork) (stands : IsForkAt k number reference own) (v : VolumeState) → slice_get k.world.volumes own.index ≡ Some v → has_file v.rows own.fork.node ≡ true
-file-there k number reference own stands v there = ap (λ (u : VolumeState). has_file u.rows own.fork.node) (sym (found-state k number reference own stands v there)) ∙ stands.is_file
 
 pub node-there : (k : KeptWorld) (number reference : ℕ) (own : OwnFork) (stands : IsForkAt k number reference own) (v : VolumeState) → slice_get k.world.volumes own.index ≡ Some v → row_at v.rows own.fork.node ≡ Some stands.file.file
 node-there k number reference own stands v there = ap (λ (u : VolumeState). row_at u.rows own.fork.node) (sym (found-state k number reference own stands v there)) ∙ stands.node

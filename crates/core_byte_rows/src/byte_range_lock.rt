@@ -114,7 +114,7 @@ fn told_unlocked(alloc: Global, answer: Result<(), NotLocked>, block: Bytes) -> 
     }
 }
 
-/// Locks or unlocks a range of a fork that the session has open.
+/// Locks or unlocks a range of a fork that the session has open. An error is want of memory, and nothing has changed.
 pub fn byte_range_lock<K: Keeper>(
     state: &mut State<K>,
     session: SessionNumber,
@@ -131,7 +131,7 @@ pub fn byte_range_lock<K: Keeper>(
     lock_asked(state, session, flags, reference, offset, length, false)
 }
 
-/// The same by offsets and lengths of 8 bytes.
+/// The same by offsets and lengths of 8 bytes. An error is want of memory, and nothing has changed.
 pub fn byte_range_lock_ext<K: Keeper>(
     state: &mut State<K>,
     session: SessionNumber,

@@ -150,6 +150,7 @@ fn told_read(
 }
 
 /// Reads bytes of a fork that the session has open, up to a character where the mask is not 0.
+/// The one error is want of memory.
 pub fn read<K: Keeper>(
     state: &State<K>,
     session: SessionNumber,
@@ -166,7 +167,7 @@ pub fn read<K: Keeper>(
     read_span(state, session, reference, span)
 }
 
-/// Reads bytes of a fork that the session has open.
+/// Reads bytes of a fork that the session has open. The one error is want of memory.
 pub fn read_ext<K: Keeper>(
     state: &State<K>,
     session: SessionNumber,

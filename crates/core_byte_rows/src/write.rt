@@ -34,7 +34,7 @@ fn end_block(alloc: Global, wide: bool, start: u64, piece: &[u8]) -> Result<Byte
     number_block(alloc, wide, start.saturating_add(piece.len() as u64))
 }
 
-/// Writes a piece into a fork that the session has open.
+/// Writes a piece into a fork that the session has open. An error is want of memory, and nothing has changed.
 pub fn write<K: Keeper>(
     state: &mut State<K>,
     session: SessionNumber,
@@ -58,6 +58,7 @@ pub fn write<K: Keeper>(
 }
 
 /// Writes a piece into a fork that the session has open. Its count is a number with a sign.
+/// An error is want of memory, and nothing has changed.
 pub fn write_ext<K: Keeper>(
     state: &mut State<K>,
     session: SessionNumber,

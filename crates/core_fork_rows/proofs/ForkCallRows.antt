@@ -1,6 +1,6 @@
 -- The rows of FPCloseFork, FPFlushFork, FPGetForkParms and FPSetForkParms.
 use Rattle.std.proofs.Common.{◌≡◌, ◌==◌, ◌∙◌, ap, sym, refl, ℕ, Bool, true, false, not, List, [], ◌∷◌, ◌++◌, length, Option, Some, None}
-use Rattle.std.specs.Prelude.{Result, Ok as with_ok, Err, OnOk, slice_get}
+use Rattle.std.specs.Prelude.{Result}
 use Rattle.std.proofs.lemmas.List.{append_assoc, append-nil}
 use Rattle.byteorder.specs.Endian.{big_bytes}
 use Rattle.afp_base.specs.Choice.{first_holding}
@@ -10,14 +10,13 @@ use Rattle.afp_base.specs.declared.bytes.OutOfMemory.{OutOfMemory}
 use Rattle.afp_base.specs.declared.code.Code.{Code}
 use Rattle.afp_base.specs.declared.code.Code.TheVariants.{AccessDenied, BitmapErr, DiskFull, LockErr, ParamErr}
 use Rattle.afp_base.specs.declared.ids.ForkRef.{ForkRef}
-use Rattle.afp_base.specs.declared.ids.NodeId.{NodeId}
 use Rattle.afp_bitmap.specs.Bits.{file_mask, is_outside}
 use Rattle.afp_bitmap.specs.Params.{params}
 use Rattle.afp_bitmap.specs.declared.params.Values.{Values}
 use Rattle.afp_replies.specs.Replies.{canonical_reply}
 use Rattle.afp_replies.specs.declared.reply.Reply.TheVariants.{Empty, Opened, Params}
 use Rattle.afp_requests.specs.declared.call.Call.TheVariants as call
-use Rattle.afp_serial.specs.World.{Refusal, plain, with_empty_reply, closing, World, OpenFork}
+use Rattle.afp_serial.specs.World.{Refusal, plain, with_empty_reply, closing, OpenFork}
 use Rattle.afp_serial.specs.Fork.{get_fork_parms_reply, is_locked_between, is_other_length, length_for, set_fork_parms_refusals}
 use Rattle.afp_serial.specs.OnFork.{bytes_of, keeper_if, keeps_all, own_keeper, with_bytes}
 use Rattle.afp_serial.specs.OnVolume.{opened_on}
@@ -27,9 +26,6 @@ use Rattle.afp_serial.specs.declared.ask.Told.{Told}
 use Rattle.afp_volume.specs.ForkEffect.{fork_of, would_pass}
 use Rattle.afp_volume.specs.OpenFork.{fork_values}
 use Rattle.afp_volume.specs.SetForkParms.{asks_length, has_no_length, length_in}
-use Rattle.afp_volume.specs.VolumeState.{Row as File, VolumeState}
-use Rattle.afp_volume.specs.Walk.{row_at}
-use Rattle.volume_tree.specs.Shown.{opened}
 use Rattle.core_state.specs.OnForks.{IsForkAt}
 use Rattle.core_state.specs.OnVolumes.{BecomesKept}
 use Rattle.core_state.specs.Replies.{TellsChanged}
@@ -70,15 +66,6 @@ parms-refused bits outside is same = ap (λ b. first_holding ((b, plain BitmapEr
 
 pub parms-passes : (bits : ℕ) (outside : Bool) → outside ≡ false → outside ≡ is_outside file_mask bits → first_holding ((is_outside file_mask bits, plain BitmapErr) ∷ []) ≡ None
 parms-passes bits outside is same = ap (λ b. first_holding ((b, plain BitmapErr) ∷ [])) (sym same ∙ is)
-
--- what is told of a file of a volume, with the forks that are open
-pub params-put : (w : World) (index : ℕ) (fork : Fork) (bits : ℕ) (kept : VolumeState) (opens : List (NodeId × Bool)) (answer : Result (Unit {0}) OutOfMemory) (old new : List ℕ) → slice_get w.volumes index ≡ Some kept
-    → opened opens ≡ opened_on w fork.volume → OnOk answer ((file : File) → row_at kept.rows fork.node ≡ Some file → new ≡ old ++ params bits (fork_values (opened opens) bits file))
-    → OnOk answer ((v : VolumeState) (file : File) → slice_get w.volumes index ≡ Some v → row_at v.rows fork.node ≡ Some file → new ≡ old ++ params bits (fork_values (opened_on w fork.volume) bits file))
-params-put w index fork bits kept opens (Err e) old new there are told = tt
-params-put w index fork bits kept opens (with_ok done) old new there are told = λ v file there_too found.
-    let same : v ≡ kept = cc (sym there_too ∙ there) in
-    told file (ap (λ (x : VolumeState). row_at x.rows fork.node) (sym same) ∙ found) ∙ ap (λ l. old ++ params bits (fork_values l bits file)) are
 
 -- the bytes that tell of a file
 pub params-bytes : (bits : ℕ) (values : Values) (before one two : List ℕ) → before ≡ [] → one ≡ before ++ big_bytes 2 bits → two ≡ one ++ params bits values → two ≡ canonical_reply (Params bits values)

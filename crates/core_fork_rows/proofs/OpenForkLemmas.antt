@@ -25,7 +25,6 @@ use Rattle.afp_serial.specs.declared.ask.Told.{Told}
 use Rattle.afp_serial.specs.declared.ask.Told.TheVariants.{Reply}
 use Rattle.afp_volume.specs.OpenFork.{fork_values, is_resource, open_fork_file, open_fork_refusal}
 use Rattle.afp_volume.specs.Shared.{first_or}
-use Rattle.afp_volume.specs.SoundVolume.{has_file}
 use Rattle.afp_volume.specs.VolumeState.{Row as File, VolumeState}
 use Rattle.afp_volume.specs.Walk.{row_at}
 use Rattle.core_state.specs.OnVolumes.{IsOpen, IsOpenAt}
@@ -34,7 +33,7 @@ use Rattle.core_state.specs.KeptWorld.{KeptWorld}
 use Rattle.core_state.specs.lemma.KeptWorld.{with_forks}
 use Rattle.core_state.specs.SessionList.{attached, session_of}
 use Rattle.core_state.specs.Running.{done, RunsRow}
-use Rattle.core_fork_rows.proofs.OnForkLemmas.{is_refused-with, one-of}
+use Rattle.core_fork_rows.proofs.OnForkLemmas.{is_refused-with}
 use Rattle.core_state.proofs.OnVolumeLemmas.{found-at, told-effect}
 use Rattle.core_state.proofs.RowLemmas.{has_effect}
 use Rattle.core_state.proofs.SessionLemmas.{session_of-number}
@@ -249,8 +248,3 @@ module _ (k : KeptWorld) (number flag : ℕ) (volume : VolumeId) (dir : NodeId) 
       finds-file k number (call.OpenFork flag volume dir bits mode path) _ dir.0 path (open_fork-opens flag volume dir bits mode path) index v stands there file.0
       (record { volume = volume.0; node = node.0; resource = resource }) access bits
       (ap (λ (a : Access). open_fork_refusal v bits a.write dir.0 path) (sym access_is) ∙ passes) finds (sym finds ∙ file.1) file.2 refl (sym resource_is) (sym access_is) refl
-
--- what holds of the volume at an index holds of each that is there
-pub file-there : (w : World) (index node : ℕ) (kept : VolumeState) → slice_get w.volumes index ≡ Some kept → has_file kept.rows node ≡ true
-    → (v : VolumeState) → slice_get w.volumes index ≡ Some v → has_file v.rows node ≡ true
-file-there w index node kept there file v there_too = subst (λ (x : VolumeState). has_file x.rows node ≡ true) (one-of kept v (sym there ∙ there_too)) file

@@ -7,7 +7,7 @@ use afp_serial::{Outcome, Told};
 use core_state::{State, done, refused};
 use record_keeper::Keeper;
 
-/// Closes an open fork of the session; its locks go.
+/// Closes an open fork of the session; its locks go. An error is want of memory, and nothing has changed.
 pub fn close_fork<K: Keeper>(
     state: &mut State<K>,
     session: SessionNumber,

@@ -8,6 +8,7 @@ use core_state::{State, refused, told_settled};
 use record_keeper::Keeper;
 
 /// Settles the keeper of the volume of an open fork of the session.
+/// An error is want of memory, and nothing has changed.
 pub fn flush_fork<K: Keeper>(
     state: &mut State<K>,
     session: SessionNumber,

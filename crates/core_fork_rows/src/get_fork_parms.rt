@@ -19,7 +19,7 @@ use core_state::{State, done, refused};
 use deny_modes::ForkKey;
 use record_keeper::Keeper;
 
-/// Tells what the bits ask of the file of an open fork of the session.
+/// Tells what the bits ask of the file of an open fork of the session. The one error is want of memory.
 pub fn get_fork_parms<K: Keeper>(
     state: &State<K>,
     session: SessionNumber,

@@ -40,6 +40,7 @@ const DENY_READ: u16 = 0x0010;
 const DENY_WRITE: u16 = 0x0020;
 
 /// Opens a fork of a file in a volume that the session has open, and tells what the bits ask of the file.
+/// An error is want of memory, and nothing has changed.
 pub fn open_fork<K: Keeper>(
     state: &mut State<K>,
     session: SessionNumber,

@@ -35,6 +35,7 @@ const EXT_RESOURCE_LENGTH: u16 = 0x4000;
 const NEGATIVE: u64 = 0x8000_0000_0000_0000;
 
 /// Gives an open fork of the session the length that the tail begins with.
+/// An error is want of memory, and nothing has changed.
 pub fn set_fork_parms<K: Keeper>(
     state: &mut State<K>,
     session: SessionNumber,

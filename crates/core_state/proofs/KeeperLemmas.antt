@@ -1,8 +1,6 @@
 -- What becomes of the keepers' counts.
 use Rattle.std.proofs.Common.{◌≡◌, ◌∙◌, ap, sym, refl, subst, ℕ, zero, suc, ◌<◌, ◌+◌, Bool, List, [], ◌∷◌, length, get_or, map, set, Option, Some, None, arith, add-one}
 use Rattle.std.specs.Prelude.{option_map, slice_get, slice_set}
-use Rattle.std.proofs.lemmas.List.{length-map}
-use Rattle.std.proofs.lemmas.Option.{slice_get_past}
 use Rattle.afp_serial.specs.World.{volume_at, World}
 use Rattle.afp_volume.specs.VolumeState.{VolumeState}
 use Rattle.kept_volume.specs.Kept.{KeptState}
@@ -48,11 +46,6 @@ volume-of (one ∷ kept) (suc index) d within = volume-of kept index d (omega (a
 
 pub volume_at-index : (volumes : List VolumeState) (n index : ℕ) → n ≡ index + 1 → volume_at volumes n ≡ slice_get volumes index
 volume_at-index volumes n index is = ap (volume_at volumes) (is ∙ add-one index)
-
--- no volume has an id that is zero, or more than there are
-pub volume_at-none : (kept : List KeptState) (n : ℕ) → (n ≡ 0 → ⊥) → length kept < n → volume_at (volumes_of kept) n ≡ None
-volume_at-none kept zero some past = absurd (some refl)
-volume_at-none kept (suc index) some past = slice_get_past (volumes_of kept) index (omega (arith, length-map kept (λ (k : KeptState). k.state), past))
 
 pub node-count : (volumes : List VolumeState) (n index count : ℕ) (v : VolumeState) → n ≡ index + 1 → slice_get volumes index ≡ Some v → count ≡ length v.rows
     → Some count ≡ option_map (λ v. length v.rows) (volume_at volumes n)

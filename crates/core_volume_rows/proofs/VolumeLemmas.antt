@@ -1,6 +1,5 @@
 -- The rows of FPOpenVol and FPCloseVol.
-use Rattle.std.proofs.Common.{◌≡◌, ◌∙◌, ap, sym, refl, ℕ, ◌==◌, ◌+◌, ◌<◌, zero, suc, length, arith, true, false, not, ◌&&◌, List, [], ◌∷◌, filter, Some, None}
-use Rattle.std.specs.Prelude.{slice_get}
+use Rattle.std.proofs.Common.{◌≡◌, ◌∙◌, ap, sym, refl, ℕ, ◌==◌, true, false, not, ◌&&◌, List, [], filter, Some, None}
 use Rattle.afp_base.specs.declared.code.Code.{Code}
 use Rattle.afp_base.specs.declared.code.Code.TheVariants.{Ok, ParamErr, ObjectNotFound}
 use Rattle.afp_base.specs.declared.ids.VolumeId.{VolumeId}
@@ -17,7 +16,6 @@ use Rattle.core_state.specs.SessionList.{replaced}
 use Rattle.core_state.specs.KeptWorld.{KeptWorld}
 use Rattle.core_state.specs.lemma.KeptWorld.{forks_in, with_forks, with_sessions}
 use Rattle.core_volume_rows.specs.lemma.VolumeRows.{IsNamed}
-use Rattle.core_state.proofs.KeeperLemmas.{volume_at-index}
 use Rattle.open_forks.specs.Forks.{Forks, left_of}
 use Rattle.core_state.proofs.RowLemmas.{IsRowOf, has_effect}
 
@@ -68,11 +66,3 @@ open_vol-runs old new s bits name id told block sessions h named tells bytes is 
     has_effect old new s (OpenVol bits name) told _ (open_vol-passes w s bits name id named.state h named.named named.there)
     (tells ∙ ap (λ (b : List ℕ). Reply Ok b false) (bytes ∙ ap (λ (e : Effect). canonical_reply e.reply) (sym does))) is
     (ap (λ (x : List Session). record w { sessions = x }) set ∙ ap (λ (e : Effect). e.world) (sym does))
-
-pub named-is : (w : World) (name : List ℕ) (id index : ℕ) → volume_named w name ≡ Some id → id ≡ index + 1 → index < length w.volumes → IsNamed w name id
-named-is w name id index named is within = by w.volumes index within (volume_at-index w.volumes id index is)
-  where
-    by : (volumes : List VolumeState) (i : ℕ) → i < length volumes → volume_at w.volumes id ≡ slice_get volumes i → IsNamed w name id
-    by [] i less at = absurd (omega (arith, less))
-    by (v ∷ volumes) zero less at = record { named = named; state = v; there = at }
-    by (v ∷ volumes) (suc i) less at = by volumes i (omega (arith, less)) at

@@ -2,7 +2,6 @@
 ghost use Rattle.std.specs.Prelude.{◌<◌};
 ghost use Rattle.afp_requests.specs.declared.call.Call.{Call};
 ghost use Rattle.core_state.specs.Running.{RunsRow};
-ghost use Rattle.kept_volume.specs.Changing.{Settles};
 
 use afp_base::{Code, OutOfMemory, SessionNumber, VolumeId};
 use afp_serial::{Outcome, Told};

@@ -43,10 +43,6 @@ or_swap true true c = refl
 or_swap true false c = refl
 or_swap false b c = refl
 
-or_none : (a : Bool) → (a || false) ≡ a
-or_none true = refl
-or_none false = refl
-
 -- ---- filters and tests of a list with one more
 len_new : (p : Open → Bool) (new : Open) (os : List Open) → length (filter p (with_noted new os)) ≡ bit (p new) + length (filter p os)
 len_new p new [] = elim (p new) as (λ b. length (if b then new ∷ [] else []) ≡ bit b + 0) [ true ↦ omega arith | false ↦ omega arith ]

@@ -6,7 +6,7 @@ use Rattle.std.specs.List.Sorted.{IsBinarySearchResult, IsSearchInRange}
 use Rattle.std.specs.Cmp.Lexicographic.{slice_cmp}
 use Rattle.std.specs.Ordering.{nat_cmp, is_lt, is_eq, ordering_reverse}
 use Rattle.std.specs.declared.cmp.Ordering.TheVariants.{Equal, Greater}
-use Rattle.std.proofs.lemmas.Bool.{and_parts, and_from, cases_Bool, cond-true, cond-false, le-leb, lt-leb}
+use Rattle.std.proofs.lemmas.Bool.{and_parts, and_from, cases_Bool, cond-true, cond-false, le-leb}
 use Rattle.std.proofs.lemmas.Cmp.{nat_list_cmp_total}
 use Rattle.std.proofs.lemmas.List.Sorted.{searchable_from_sorted}
 use Rattle.std.proofs.lemmas.Option.{slice_get-get_or, slice_get_read}
@@ -208,9 +208,6 @@ known-has-room {A = A} key k most xs i h p =
 
 pub new-has-no-room : {A : Type 0} (key : A → List ℕ) (k : List ℕ) (most : ℕ) (xs : List A) (i : ℕ) → most ≤ length xs → IsGapFor key k xs i → (nat_le most (length xs) && is_none (at_key key k xs)) ≡ true
 new-has-no-room key k most xs i full g = and_from (nat_le most (length xs)) (is_none (at_key key k xs)) (le-leb most (length xs) full) (ap is_none (not-found key k xs i g))
-
-pub room-below : {A : Type 0} (key : A → List ℕ) (k : List ℕ) (most : ℕ) (xs : List A) → length xs < most → (nat_le most (length xs) && is_none (at_key key k xs)) ≡ false
-room-below key k most xs free = ap (λ t. t && is_none (at_key key k xs)) (lt-leb most (length xs) free)
 
 -- whether it is there, as a search tells
 

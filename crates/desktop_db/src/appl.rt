@@ -42,12 +42,14 @@ impl Appl {
         Appl { creator, node, tag }
     }
 
+    /// The creator of the application.
     pub fn creator(&self) -> [u8; 4]
         ensures { result ≡ self.now.creator }
     {
         self.creator
     }
 
+    /// The application's file.
     pub fn node(&self) -> NodeId
         ensures { result.0 ≡ self.now.node }
     {

@@ -45,6 +45,7 @@ impl Comment {
         Comment { node, text }
     }
 
+    /// The node that it is on.
     pub fn node(&self) -> NodeId
         ensures { result.0 ≡ self.now.node }
     {

@@ -1,5 +1,5 @@
 -- What the bytes of a header say, and how they follow from its fields.
-use Rattle.std.proofs.Common.{◌≡◌, ◌≢◌, ◌==◌, ◌&&◌, ◌+◌, ◌*◌, Bor, Ok, ℕ, zero, suc, ◌<◌, ◌≤◌, Bool, true, false, not, cond, nat_lt, List, [], ◌∷◌, ◌++◌, length, take, drop, Option, Some, None, refl, sym, ap, ◌∙◌, subst, inl, inr, arith, ltb-false, le-ltb, lt-ltb}
+use Rattle.std.proofs.Common.{◌≡◌, ◌≢◌, ◌==◌, ◌&&◌, ◌+◌, ◌*◌, Bor, Ok, ℕ, zero, suc, ◌≤◌, Bool, true, false, not, cond, nat_lt, List, [], ◌∷◌, ◌++◌, length, take, drop, Option, Some, None, refl, sym, ap, ◌∙◌, subst, inl, inr, arith, ltb-false, le-ltb}
 use Rattle.std.proofs.lemmas.Bool.{false≢true}
 use Rattle.std.proofs.lemmas.Bool.Decides.{eqb_tells}
 use Rattle.afp_base.specs.Cursor.{Cursor, ReadsNumber, ReadsBytes, cursor_after, piece_at}
@@ -99,16 +99,6 @@ listed n h = elim (eqb_tells n 1) [
       ]
 ]
 
--- a command's number is listed
-pub number_listed : (c : DsiCommand) → is_listed (command_number c) ≡ true
-number_listed commands.CloseSession = refl
-number_listed commands.Command = refl
-number_listed commands.GetStatus = refl
-number_listed commands.OpenSession = refl
-number_listed commands.Tickle = refl
-number_listed commands.Write = refl
-number_listed commands.Attention = refl
-
 -- what holds of 16 bytes and more holds of each list that is so long
 pub by_header : (P : List ℕ → Type 0)
     → ((a b c d e f g h i j k l m n o p : ℕ) (tail : List ℕ) → P (a ∷ b ∷ c ∷ d ∷ e ∷ f ∷ g ∷ h ∷ i ∷ j ∷ k ∷ l ∷ m ∷ n ∷ o ∷ p ∷ tail))
@@ -166,11 +156,6 @@ flag_at zero h = refl
 flag_at (suc zero) h = refl
 flag_at (suc (suc n)) h = absurd (omega arith)
 
-and3_false : (a b c : Bool) → (a && b && c) ≡ false → a ≡ true → b ≡ true → c ≡ false
-and3_false true true c h p q = h
-and3_false true false c h p q = absurd (false≢true q)
-and3_false false b c h p q = absurd (false≢true p)
-
 word_fits : (reply : Bool) (command : DsiCommand) (word size : ℕ)
     → (flags_byte reply == 0 && command_number command == command_number commands.Write && nat_lt size word) ≡ false → WordFits reply command word size
 word_fits false commands.Write word size h = ltb-false size word h
@@ -212,42 +197,3 @@ faultless_is_good bytes h =
           (let P : ℕ → ℕ → Type 0 = λ m n. (m == 0 && n == command_number commands.Write && nat_lt (payload_length_in bytes) (word_in bytes)) ≡ false in
           subst (λ (m : ℕ). P m (command_number (command_at (command_in bytes)))) one (subst (λ (n : ℕ). P (flags_in bytes) n) (sym two) offset.0));
     }
-
--- the faults, each by its condition
-choose_first : (a : Bool) (x y : Option Reason) → a ≡ true → cond a x y ≡ x
-choose_first a x y p = rw p refl
-
-choose_second : (a b : Bool) (x y : Option Reason) (z : Option Reason) → a ≡ false → b ≡ true → cond a x (cond b y z) ≡ y
-choose_second a b x y z p q = rw (p, q) refl
-
-choose_third : (a b c : Bool) (w x y z : Option Reason) → a ≡ false → b ≡ false → c ≡ true → cond a w (cond b x (cond c y z)) ≡ y
-choose_third a b c w x y z p q r = rw (p, q, r) refl
-
-at_command : (flags command word size : ℕ) → flags ≤ 1 → is_listed command ≡ false → fault_of flags command word size ≡ Some reasons.Command
-at_command flags n word size low unlisted = choose_second (nat_lt 1 flags) (not (is_listed n)) _ _ _ (le-ltb 1 flags low) (ap not unlisted)
-
-at_length : (flags command word size : ℕ) → flags ≤ 1 → is_listed command ≡ true → payload_limit < size → fault_of flags command word size ≡ Some reasons.Length
-at_length flags n word size low is_one above =
-    choose_third (nat_lt 1 flags) (not (is_listed n)) (nat_lt payload_limit size) _ _ _ _ (le-ltb 1 flags low) (ap not is_one) (lt-ltb payload_limit size above)
-
-at_offset : (word size : ℕ) → size ≤ payload_limit → size < word → fault_of 0 6 word size ≡ Some reasons.Offset
-at_offset word size low above = rw (le-ltb payload_limit size low, lt-ltb size word above) refl
-
-pub flags_fault : (bytes : List ℕ) → 1 < flags_in bytes → header_fault bytes ≡ Some reasons.Flags
-flags_fault bytes flags = choose_first (nat_lt 1 (flags_in bytes)) _ _ (lt-ltb 1 (flags_in bytes) flags)
-
-pub command_fault : (bytes : List ℕ) → flags_in bytes ≤ 1 → is_listed (command_in bytes) ≡ false → header_fault bytes ≡ Some reasons.Command
-command_fault bytes flags unlisted =
-    let at_fields : fault_of (flags_in bytes) (command_in bytes) (word_in bytes) (payload_length_in bytes) ≡ Some reasons.Command =
-    at_command (flags_in bytes) (command_in bytes) (word_in bytes) (payload_length_in bytes) flags unlisted in
-    at_fields
-
-pub length_fault : (bytes : List ℕ) → flags_in bytes ≤ 1 → is_listed (command_in bytes) ≡ true → payload_limit < payload_length_in bytes
-    → header_fault bytes ≡ Some reasons.Length
-length_fault bytes flags command size = at_length (flags_in bytes) (command_in bytes) (word_in bytes) (payload_length_in bytes) flags command size
-
-pub offset_fault : (bytes : List ℕ) → flags_in bytes ≡ 0 → command_in bytes ≡ 6 → payload_length_in bytes ≤ payload_limit → payload_length_in bytes < word_in bytes
-    → header_fault bytes ≡ Some reasons.Offset
-offset_fault bytes flags command size word =
-    let at_fields : fault_of (flags_in bytes) (command_in bytes) (word_in bytes) (payload_length_in bytes) ≡ fault_of 0 6 (word_in bytes) (payload_length_in bytes) = rw (flags, command) refl in
-    at_fields ∙ at_offset (word_in bytes) (payload_length_in bytes) size word

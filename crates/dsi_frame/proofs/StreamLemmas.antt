@@ -20,13 +20,6 @@ spelled_push bytes first [] f e s = (first, [], ap (λ (l : List ℕ). l ++ firs
 spelled_push bytes first (g ∷ frames) f (head, rest, whole, spelling, more) s =
     (head, rest ++ first, ap (λ (l : List ℕ). l ++ first) whole ∙ append_assoc head rest first, spelling, spelled_push rest first frames f more s)
 
--- frames and then further frames
-pub spelled_append : (bytes others : List ℕ) (frames further : List Frame) → Spelled bytes frames → Spelled others further
-    → Spelled (bytes ++ others) (frames ++ further)
-spelled_append bytes others [] further e s = let P : List ℕ → Type 0 = λ l. Spelled (l ++ others) further in subst P (sym e) s
-spelled_append bytes others (g ∷ frames) further (head, rest, whole, spelling, more) s =
-    (head, rest ++ others, ap (λ (l : List ℕ). l ++ others) whole ∙ append_assoc head rest others, spelling, spelled_append rest others frames further more s)
-
 -- Two ways to take frames off the same bytes, as far as there are frames, are one.
 pub same_frames : (frames others : List Frame) (filled full rest left : List ℕ) → Spelled filled frames → Spelled full others
     → filled ++ rest ≡ full ++ left → ((f : Frame) → Begins rest f → ⊥) → ((f : Frame) → Begins left f → ⊥)
@@ -240,16 +233,6 @@ pub record Fed (was : List Frame) (held : Buffered) (piece left : List ℕ) (fra
   pub room : length b.rest < buffer_length
   pub unfinished : IsUnfinished b.rest
 
-pub fed-nothing : (frames : List Frame) (b : Buffered) (piece : List ℕ) → length b.rest < buffer_length → IsUnfinished b.rest → Fed frames b piece piece frames b
-fed-nothing frames b piece room unfinished = record {
-  done = [];
-  whole = refl;
-  given = λ bytes g. let P : List ℕ → Type 0 = λ l. GivenOut l frames b in subst P (sym (append-nil bytes)) g;
-  end = omega arith;
-  room = room;
-  unfinished = unfinished;
-}
-
 -- what stands behind `bytes` once more of the piece was fed
 fed_bytes : (bytes done left piece : List ℕ) (n : ℕ) → piece ≡ done ++ left → (bytes ++ done ++ take n left) ++ drop n left ≡ bytes ++ piece
 fed_bytes bytes done left piece n whole =
@@ -291,13 +274,6 @@ fed-more was frames further held b fed after piece left behind n f fits rest pla
   room = room;
   unfinished = unfinished;
 }
-
-pub fed-all : (was frames : List Frame) (held b : Buffered) (piece left : List ℕ) → Fed was held piece left frames b → left ≡ []
-    → (bytes : List ℕ) → GivenOut bytes was held → GivenOut (bytes ++ piece) frames b
-fed-all was frames held b piece left f nothing bytes g =
-    let all : piece ≡ f.done = f.whole ∙ ap (λ (l : List ℕ). f.done ++ l) nothing ∙ append-nil f.done in
-    let P : List ℕ → Type 0 = λ l. GivenOut (bytes ++ l) frames b in
-    subst P (sym all) (f.given bytes g)
 
 -- The pieces of a stream.
 

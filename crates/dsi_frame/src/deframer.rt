@@ -106,7 +106,7 @@ impl Model for Deframer {
 }
 
 impl Deframer {
-    /// A deframer at the first byte of a stream. It takes its whole buffer here.
+    /// A deframer at the first byte of a stream. It takes its whole buffer here. The one error is want of memory.
     pub fn new(alloc: Global) -> Result<Deframer, OutOfMemory>
         ensures { IfOk result (λ d. d ≡ record { place = 0; rest = [] }) }
     {

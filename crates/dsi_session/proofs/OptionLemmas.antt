@@ -209,12 +209,6 @@ none_cells (a ∷ b ∷ rest) size two s short = none_fits a b rest (let e : siz
 later : (n at : ℕ) (bytes : List ℕ) → drop (at + n) bytes ≡ drop n (drop at bytes)
 later n at bytes = sym (drop-drop n at bytes)
 
-left_of : (at n : ℕ) (bytes : List ℕ) → at + n ≤ length bytes → n ≤ length (drop at bytes)
-left_of at n bytes fits = omega (arith, length-drop at bytes)
-
-less_left : (at n : ℕ) (bytes : List ℕ) → at ≤ length bytes → length bytes < at + n → length (drop at bytes) < n
-less_left at n bytes within short = omega (arith, length-drop at bytes)
-
 -- reads of a type, a length and a value, as the code has them
 pub next_read : (kind size n : ℕ) (value : Bor (List ℕ)) (s0 s1 s2 s3 : Cursor) → n ≡ size → ReadsNumber 1 s0 (Ok kind) s1 → ReadsNumber 1 s1 (Ok size) s2 → ReadsBytes n s2 (Ok value) s3
     → IsNext s0 (record { kind = kind; value = value.now }) s3
@@ -238,9 +232,6 @@ next_read kind size n value s0 s1 s2 s3 same h1 h2 h =
           ∙ ap (λ xs. option_spelling (record { kind = kind; value = value.now }) ++ xs)
           (ap (drop size) (sym behind_two) ∙ drop-drop size (s0.place + 1 + 1) s0.bytes ∙ ap (λ n. drop n s0.bytes) (sym place_is));
     }
-
-pub none_without_kind : (s0 s1 : Cursor) (short : Short) → s0.place ≤ length s0.bytes → ReadsNumber 1 s0 (Err short) s1 → HasNoNext s0
-none_without_kind s0 s1 short within h = none_in_one (drop s0.place s0.bytes) (omega (arith, length-drop s0.place s0.bytes))
 
 pub none_without_size : (kind : ℕ) (s0 s1 s2 : Cursor) (short : Short) → ReadsNumber 1 s0 (Ok kind) s1 → ReadsNumber 1 s1 (Err short) s2 → HasNoNext s0
 none_without_size kind s0 s1 s2 short h1 h2 =

@@ -124,13 +124,6 @@ pub taken_past : (bytes : List ℕ) (at n : ℕ) → length bytes ≤ at → tak
 taken_past bytes at n past = same_number_lists (taken bytes at n) [] (omega (arith, length-take n (drop at bytes), length-drop at bytes))
     (λ k within. absurd (omega (arith, within, length-take n (drop at bytes), length-drop at bytes)))
 
--- no more is read than there is
-pub taken_end : (bytes : List ℕ) (at n end : ℕ) → end ≡ at + min n (length bytes - at) → taken bytes at (end - at) ≡ taken bytes at n
-taken_end bytes at n end is = same_number_lists (taken bytes at (end - at)) (taken bytes at n)
-    (omega (arith, is, length-take (end - at) (drop at bytes), length-take n (drop at bytes), length-drop at bytes))
-    (λ k within. get_or-take (end - at) (drop at bytes) k 0 (omega (arith, within, length-take (end - at) (drop at bytes)))
-    ∙ sym (get_or-take n (drop at bytes) k 0 (omega (arith, is, within, length-take (end - at) (drop at bytes)))))
-
 -- the part of a piece that the code takes for a block
 pub part_of : (piece : List ℕ) (from end i : ℕ) (part rest : List ℕ) (low high : ℕ) → 0 < length piece → end ≡ from + length piece → from / 4096 ≤ i → i ≤ (end - 1) / 4096
     → low ≡ max from (4096 * i) → high ≡ min end (4096 * i + 4096) → rest ≡ drop (low - from) piece → part ≡ take (high - low) rest

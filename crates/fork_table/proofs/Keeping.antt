@@ -18,6 +18,7 @@ use Rattle.range_locks.specs.declared.fault.LockFault.{LockFault}
 use Rattle.range_locks.specs.declared.fault.LockFault.TheVariants.{Locked, Overlap, Full, Memory}
 use Rattle.range_locks.specs.declared.fault.NotLocked.{NotLocked}
 use Rattle.range_locks.specs.Locks.{ForkLock, SetsLock, TakesLock, with_fork_lock, without_holder, is_fork_lock, exchange_lock, exchanged_locks}
+use Rattle.range_locks.proofs.Keeping.{any_filter as any_in_filter}
 use Rattle.fork_table.specs.declared.open_fork.OpenFork.{OpenFork}
 use Rattle.fork_table.specs.ForkTable.{Table, plain_open, plain_opens, is_open_reference, is_held, closing, exchange_row, forks_of}
 use Rattle.fork_table.specs.lemma.Kept.{IsTable}
@@ -114,21 +115,6 @@ filter_inner p keep (x ∷ xs) none = elim (keep x) as (λ b. ((not b && p x) ||
       let parts = or_parts (p x) (list_any (λ x. not (keep x) && p x) xs) none in
       filter_inner p keep xs parts.1 ∙ ap (λ b. if b then x ∷ filter p xs else filter p xs) (sym parts.0)
 ] none
-
-any_in_filter : {A : Type 0} (p keep : A → Bool) (xs : List A) → list_any p (filter keep xs) ≡ list_any (λ x. p x && keep x) xs
-any_in_filter p keep [] = refl
-any_in_filter p keep (x ∷ xs) = elim (keep x) as (λ b. list_any p (if b then x ∷ filter keep xs else filter keep xs) ≡ ((p x && b) || list_any (λ y. p y && keep y) xs)) [
-  | true ↦ (λ i. on (p x) i || any_in_filter p keep xs i)
-  | false ↦ any_in_filter p keep xs ∙ ap (λ b. b || list_any (λ y. p y && keep y) xs) (sym (off (p x)))
-]
-  where
-    on : (b : Bool) → b ≡ (b && true)
-    on true = refl
-    on false = refl
-
-    off : (b : Bool) → (b && false) ≡ false
-    off true = refl
-    off false = refl
 
 -- ---- an open that is new
 any_new : (p : ℕ × OpenFork → Bool) (rows : List (ℕ × OpenFork)) (r : ℕ) (v : OpenFork) → at nat_cmp rows r ≡ None → list_any p (insert_entry nat_cmp rows r v) ≡ (p (r, v) || list_any p rows)

@@ -1,5 +1,5 @@
 //! What is asked of the forks of a volume beside its keeper.
-ghost use Rattle.std.specs.Prelude.{◌≡◌, ◌≤◌, ◌++◌, Some, true, length, option_map, IfOk, OnOk, OnErr};
+ghost use Rattle.std.specs.Prelude.{◌≡◌, ◌≤◌, ◌++◌, Some, true, length, IfOk, OnOk, OnErr};
 ghost use Rattle.afp_base.specs.ForkBytes.{taken};
 ghost use Rattle.afp_bitmap.specs.Bits.{IsWithin, file_mask};
 ghost use Rattle.afp_bitmap.specs.Params.{params};
@@ -10,7 +10,7 @@ ghost use Rattle.afp_volume.specs.SoundVolume.{has_file};
 ghost use Rattle.afp_volume.specs.VolumeState.{Row};
 ghost use Rattle.afp_volume.specs.Walk.{row_at};
 ghost use Rattle.fork_bytes.specs.Line.{line_of};
-ghost use Rattle.volume_tree.specs.Shown.{fork_at, opened};
+ghost use Rattle.volume_tree.specs.Shown.{opened};
 
 use crate::kept::KeptVolume;
 use afp_base::{Bytes, NodeId, OutOfMemory};
@@ -43,17 +43,6 @@ impl<K: Keeper> KeptVolume<K> {
         match held.volume.node(id) {
             Some(node) => !node.dir,
             None => false,
-        }
-    }
-
-    /// How many bytes a fork of the file of an id has; None where the id is no file's.
-    pub fn fork_len(&self, id: NodeId, resource: bool) -> Option<u64>
-        ensures { result ≡ option_map length (fork_at self.now.state.rows id.0 resource) }
-    {
-        let held = &self.held;
-        match held.volume.fork(id, resource) {
-            Some(fork) => Some(fork.len()),
-            None => None,
         }
     }
 

@@ -15,6 +15,7 @@ use Rattle.afp_base.specs.Apart.{are_apart}
 use Rattle.afp_volume.specs.SoundVolume.{are_named_alike, has_rising_ids, last_next_id}
 use Rattle.afp_volume.specs.VolumeState.{Row}
 use Rattle.afp_volume.specs.Walk.{child_by_key}
+use Rattle.afp_volume.proofs.BareRows.{find-map}
 use Rattle.node_rows.proofs.Siblings.{is_of}
 use Rattle.node_rows.proofs.Sorting.{order-find, order-filter, order-differs}
 use Rattle.node_rows.specs.Children.{child_of, child_order, children_of, node_id}
@@ -30,14 +31,6 @@ names-apart rows children next k =
     sym (apart-map (λ (a : Child) b. bytes_eq (child_order a) (child_order b)) child_of rows) ∙ order-differs child_order (map child_of rows) (in-order rows children next k)
 
 -- a child by key
-find-map : {A B : Type 0} (f : A → B) (p : B → Bool) (xs : List A) → find p (map f xs) ≡ option_map f (find (λ x. p (f x)) xs)
-find-map f p [] = refl
-find-map f p (x ∷ xs) =
-    ap (λ o. cond (p (f x)) (Some (f x)) o) (find-map f p xs)
-    ∙ cond_both (p (f x)) (Some x) (find (λ y. p (f y)) xs) (λ o. cond (p (f x)) (Some (f x)) (option_map f (find (λ y. p (f y)) xs)) ≡ option_map f o)
-    (λ here. cond-true (p (f x)) (Some (f x)) (option_map f (find (λ y. p (f y)) xs)) here)
-    (λ other. cond-false (p (f x)) (Some (f x)) (option_map f (find (λ y. p (f y)) xs)) other)
-
 pub child-is : (rows : List Row) (children : List Child) (next dir : ℕ) (key : List ℕ) → AreKept rows children next
     → option_map (λ (child : Child). child.id) (find (λ child. bytes_eq (child_order child) (dir ∷ key)) children) ≡ option_map node_id (child_by_key rows dir key)
 unfolding child_by_key

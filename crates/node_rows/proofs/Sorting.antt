@@ -61,13 +61,6 @@ put-comm key x y (z ∷ zs) differ =
     go false true false a b c rest = let d : stands_before (key y) (key x) ≡ true = other-way (key x) (key y) false c differ in simp (a, b, c, d)
     go false false xy a b c rest = simp (a, b) (ap (λ l. z ∷ l) rest)
 
--- an element anywhere in a list is put in
-pub order-mid : {A : Type 0} (key : A → List ℕ) (x : A) (xs ys : List A) → list_all (λ y. not (bytes_eq (key x) (key y))) xs ≡ true → in_order key (xs ++ x ∷ ys) ≡ put_in key x (in_order key (xs ++ ys))
-order-mid key x [] ys h = refl
-order-mid key x (y ∷ xs) ys h =
-    let e = and_parts (not (bytes_eq (key x) (key y))) (list_all (λ z. not (bytes_eq (key x) (key z))) xs) h in
-    ap (λ l. put_in key y l) (order-mid key x xs ys e.1) ∙ sym (put-comm key x y (in_order key (xs ++ ys)) e.0)
-
 -- what rises still rises without the element that was put in, and that one's key is no other's
 
 all-put : {A : Type 0} (key : A → List ℕ) (p : A → Bool) (x : A) (l : List A) → list_all p (put_in key x l) ≡ true → (p x ≡ true) × (list_all p l ≡ true)

@@ -18,6 +18,7 @@ use Rattle.afp_serial.specs.Lock.{has_lock, has_most_locks, is_lock, is_met_by_o
 use Rattle.afp_base.specs.Limits.{last_byte}
 use Rattle.afp_serial.specs.OnFork.{is_locked, is_met_by_other, meets_lock}
 use Rattle.afp_serial.specs.Sound.{share_fork}
+use Rattle.afp_serial.proofs.ForkFacts.{any-same}
 use Rattle.fork_table.specs.ForkTable as table
 use Rattle.fork_table.specs.declared.open_fork.OpenFork.{OpenFork as Row}
 use Rattle.range_locks.specs.Locks as held
@@ -30,12 +31,6 @@ use Rattle.open_forks.specs.lemma.Kept.{AreInRange}
 use Rattle.open_forks.proofs.OpenRows.{Rise, any-map, count-map, filter-map, open-at, open-rows, row_of, told, told-at}
 
 -- ---- lists whose elements all pass a test
-
-any-where : {A : Type 0} (q p r : A → Bool) (xs : List A) → list_all q xs ≡ true → ((x : A) → q x ≡ true → p x ≡ r x) → list_any p xs ≡ list_any r xs
-any-where q p r [] all same = refl
-any-where q p r (x ∷ xs) all same =
-    let e = and_parts (q x) (list_all q xs) all in
-    λ i. same x e.0 i || any-where q p r xs e.1 same i
 
 filter-where : {A : Type 0} (q p r : A → Bool) (xs : List A) → list_all q xs ≡ true → ((x : A) → q x ≡ true → p x ≡ r x) → filter p xs ≡ filter r xs
 filter-where q p r [] all same = refl
@@ -129,7 +124,7 @@ unfolding is_met_by_other
 met-other w t x r o range f =
     ap (list_any (λ (lock : Lock). meets_lock w x range lock && not (lock.reference == x.reference))) f.has.locks
     ∙ any-map (λ (lock : Lock). meets_lock w x range lock && not (lock.reference == x.reference)) lock_of t.locks
-    ∙ any-where (table.is_held t.opens) (λ l. meets_lock w x range (lock_of l) && not (l.reference == x.reference)) (λ l. (is_one_fork l.fork o.fork && do_meet l.range range) && not (l.reference == r)) t.locks f.sound.held
+    ∙ any-same (table.is_held t.opens) (λ l. meets_lock w x range (lock_of l) && not (l.reference == x.reference)) (λ l. (is_one_fork l.fork o.fork && do_meet l.range range) && not (l.reference == r)) t.locks f.sound.held
     (λ l h. λ i. meets w t x r o range f l h i && not (l.reference == f.number i))
 
 met-own : (w : World) (t : table.Table) (x : OpenFork) (r : ℕ) (o : Row) (range : Range) → Finds w t x r o → is_met_by_own w x range ≡ held.is_met_by_own_lock t.locks o.fork r range
@@ -137,7 +132,7 @@ unfolding is_met_by_own
 met-own w t x r o range f =
     ap (list_any (λ (lock : Lock). meets_lock w x range lock && (lock.reference == x.reference))) f.has.locks
     ∙ any-map (λ (lock : Lock). meets_lock w x range lock && (lock.reference == x.reference)) lock_of t.locks
-    ∙ any-where (table.is_held t.opens) (λ l. meets_lock w x range (lock_of l) && (l.reference == x.reference)) (λ l. (is_one_fork l.fork o.fork && do_meet l.range range) && (l.reference == r)) t.locks f.sound.held
+    ∙ any-same (table.is_held t.opens) (λ l. meets_lock w x range (lock_of l) && (l.reference == x.reference)) (λ l. (is_one_fork l.fork o.fork && do_meet l.range range) && (l.reference == r)) t.locks f.sound.held
     (λ l h. λ i. meets w t x r o range f l h i && (l.reference == f.number i))
 
 most-held : (w : World) (t : table.Table) (x : OpenFork) (r : ℕ) (o : Row) → Finds w t x r o → has_most_locks w x ≡ nat_le most_locks (held.count_held r t.locks)
@@ -220,7 +215,7 @@ unfolding has_lock
 has-is w t x r o range f =
     (λ i. list_any (is_lock (f.number i) range) (f.has.locks i))
     ∙ any-map (is_lock r range) lock_of t.locks
-    ∙ any-where (table.is_held t.opens) (λ l. is_lock r range (lock_of l)) (held.is_fork_lock o.fork r range) t.locks f.sound.held (one-lock t.opens r o range f.sound.rising f.found)
+    ∙ any-same (table.is_held t.opens) (λ l. is_lock r range (lock_of l)) (held.is_fork_lock o.fork r range) t.locks f.sound.held (one-lock t.opens r o range f.sound.rising f.found)
 
 pub unlocks-range : (w : World) (t t' : table.Table) (x : OpenFork) (r : ℕ) (o : Row) (range : Range) (res : Result (Unit {0}) NotLocked) → Finds w t x r o
     → t'.opens ≡ t.opens → held.TakesLock t.locks o.fork r range res t'.locks → UnlocksRange w (forks_of t) x range res (forks_of t')

@@ -8,7 +8,7 @@ ghost use Rattle.plain_server.specs.Words.{WordValues, IsWords, IsNumberOfLinks,
 ghost use Rattle.plain_server.specs.lemma.Words.{is_memory_volume};
 ghost use Rattle.plain_server.specs.Spoken.{values_of};
 
-use std::alloc::{AllocError, Global};
+use std::alloc::Global;
 
 /// Why the words say nothing.
 #[derive(Clone, Copy)]

@@ -1,16 +1,16 @@
 -- The frames of a stream are printed one after the other.
-use Rattle.std.proofs.Common.{◌≡◌, ℕ, ◌+◌, ◌≤◌, ◌<◌, Bool, true, false, inl, inr, List, [], ◌∷◌, ◌++◌, length, take, min, ◌-◌, refl, sym, ap, ◌∙◌, subst, append_assoc, append-nil, length-append, length-take, take_all, arith}
+use Rattle.std.proofs.Common.{◌≡◌, ℕ, ◌+◌, ◌≤◌, Bool, true, false, inl, inr, List, [], ◌∷◌, ◌++◌, length, take, min, ◌-◌, refl, sym, ap, ◌∙◌, subst, append_assoc, append-nil, length-append, length-take, take_all, arith}
 use Rattle.std.specs.Prelude.{Option, Some, None, option_map}
 use Rattle.afp_base.specs.Counts.{CountsOn}
 use Rattle.afp_outside.specs.Sink.{SinkState}
-use Rattle.afp_outside.specs.Source.{SourceState, SourceGives, SourceEnds, SourceFails}
+use Rattle.afp_outside.specs.Source.{SourceState, SourceGives}
 use Rattle.dsi_frame.specs.Buffered.{Buffered, buffer_length}
 use Rattle.dsi_frame.specs.Frame.{Frame, header_of, header_length, IsBadHeader}
 use Rattle.dsi_frame.specs.Stream.{Begins, Spelled}
 use Rattle.dsi_frame.specs.declared.frame.BadFrame.{BadFrame}
 use Rattle.dsi_frame.specs.declared.frame.Header.{Header}
 use Rattle.dsi_frame.proofs.FrameLemmas.{length-spelling, short_is_unfinished}
-use Rattle.dsi_frame.proofs.StreamLemmas.{spelled_push, given-end, given-frame, given-stop, given-framed, given-feed, given-nothing}
+use Rattle.dsi_frame.proofs.StreamLemmas.{spelled_push, given-frame, given-stop, given-feed, given-nothing}
 use Rattle.plain_server.specs.Reporting.{Reports, ReportsPart, ReportsAll}
 use Rattle.plain_tool.specs.Checking.{PrintsPart, ChecksPart, TellsCheck, end_text, end_status}
 use Rattle.plain_tool.specs.lemma.Checking.{Checks, HasChecked, Prints, PrintsTo}
@@ -154,39 +154,6 @@ checked-part old start b after taken n mid new now then_is room x g p = record {
   faults = g.faults ∙ x.faults;
   printed = p;
 }
-
-pub checked-end : (turns : ℕ) (old : SourceState) (start : SinkState) (b : Buffered) (taken rest : ℕ) (mid new : SourceState) (now : SinkState)
-    (x : HasChecked old start b taken mid now) → SourceEnds mid new → taken < turns → rest ≡ length b.rest → Checks turns old new start now (ends.Rest rest)
-checked-end turns old start b taken rest mid new now x g fewer size = record {
-  read = x.read;
-  frames = x.prints.frames;
-  given = g.given ∙ x.given;
-  by = (b.rest, given-framed x.read x.prints.frames b x.prints.given x.unfinished, size, g.ended, omega (arith, fewer, x.many), g.faults ∙ x.faults);
-  printed = x.prints.printed;
-}
-
-pub checked-failed : (turns : ℕ) (old : SourceState) (start : SinkState) (b : Buffered) (taken : ℕ) (mid new : SourceState) (now : SinkState)
-    (x : HasChecked old start b taken mid now) → SourceFails mid new → taken < turns → Checks turns old new start now ends.ReadFault
-checked-failed turns old start b taken mid new now x g fewer = record {
-  read = x.read;
-  frames = x.prints.frames;
-  given = g.given ∙ x.given;
-  by = (b.rest, given-framed x.read x.prints.frames b x.prints.given x.unfinished, subst (λ (n : ℕ). CountsOn 1 n new.faults) x.faults g.faults, omega (arith, fewer, x.many));
-  printed = x.prints.printed;
-}
-
-pub checked-spent : (turns : ℕ) (old : SourceState) (start : SinkState) (b : Buffered) (taken : ℕ) (mid : SourceState) (now : SinkState)
-    (x : HasChecked old start b taken mid now) → turns ≤ taken → Checks turns old mid start now ends.Spent
-checked-spent turns old start b taken mid now x all = record {
-  read = x.read;
-  frames = x.prints.frames;
-  given = x.given;
-  by = (b.rest, given-framed x.read x.prints.frames b x.prints.given x.unfinished, omega (arith, all, x.many), x.faults);
-  printed = x.prints.printed;
-}
-
-pub place-most : (old : SourceState) (start : SinkState) (b : Buffered) (taken : ℕ) (mid : SourceState) (now : SinkState) → HasChecked old start b taken mid now → b.place + length b.rest ≡ taken
-place-most old start b taken mid now x = given-end x.read x.prints.frames b x.prints.given ∙ sym x.many
 
 -- what a report says
 

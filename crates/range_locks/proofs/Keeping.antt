@@ -395,7 +395,7 @@ listed {list} {reserved} {given} {new} {place} held b order reserved_is given_is
     above_it m n h = grind (arith, nat_tests, h)
 
 -- ---- locks that go
-any_filter : {A : Type 0} (p keep : A → Bool) (xs : List A) → list_any p (filter keep xs) ≡ list_any (λ x. p x && keep x) xs
+pub any_filter : {A : Type 0} (p keep : A → Bool) (xs : List A) → list_any p (filter keep xs) ≡ list_any (λ x. p x && keep x) xs
 any_filter p keep [] = refl
 any_filter p keep (x ∷ xs) = elim (keep x) as (λ b. list_any p (if b then x ∷ filter keep xs else filter keep xs) ≡ ((p x && b) || list_any (λ y. p y && keep y) xs)) [
   | true ↦ (λ i. on (p x) i || any_filter p keep xs i)

@@ -32,9 +32,6 @@ above a b h = grind (arith, nat_tests, h)
 is_at_most : (a b : ℕ) → a ≤ b → nat_le a b ≡ true
 is_at_most a b h = grind (arith, nat_tests)
 
-is_above : (a b : ℕ) → b < a → nat_le a b ≡ false
-is_above a b h = grind (arith, nat_tests)
-
 -- a row of a list by its place
 abbrev row_at : List LockRow → ℕ → LockRow → LockRow
 row_at rows i d = slice_index_or rows i d

@@ -1,5 +1,5 @@
 -- A teller of tests: from a fresh world it opens at most one session.
-use Rattle.std.proofs.Common.{◌≡◌, ℕ, [], ◌∷◌, ◌&&◌, true, map, replicate, take, refl, ap, sym, subst, append-nil, arith}
+use Rattle.std.proofs.Common.{◌≡◌, ℕ, [], ◌∷◌, ◌&&◌, true, map, replicate, take, refl, ap, sym, subst, arith}
 use Rattle.std.specs.Prelude.{Option, Some, None}
 use Rattle.std.specs.List.{list_all}
 use Rattle.std.specs.Option.{option_to_list}
@@ -62,14 +62,3 @@ opens at link attention o before after ask told none some is opened =
     (subst (λ a. Asked (shown_of at link attention None) (at o) (link o) a told (shown_of at link attention (Some o))) (sym is)
     (subst (λ t. Asked (shown_of at link attention None) (at o) (link o) (asks.Open (attention o)) t (shown_of at link attention (Some o))) (sym opened)
     (first at link attention o))))
-
-still : (a : Shown) (now : ℕ) (link : LinkNumber) (ask : Ask) → Asked a now link ask tells.Memory a
-still a now link ask = record { between = []; start = refl; history = sym (append-nil a.history); mine = refl; faults = (omega arith, omega arith) }
-
--- for every other ask there is no memory
-pub stays : {X : Type 0} (at : X → ℕ) (link : X → LinkNumber) (attention : X → ℕ) (before after : Option X) (now : ℕ) (l : LinkNumber) (ask : Ask) (told : Told)
-    → after ≡ before → told ≡ tells.Memory → Asked (shown_of at link attention before) now l ask told (shown_of at link attention after)
-stays at link attention before after now l ask told same memory =
-    subst (λ b. Asked (shown_of at link attention before) now l ask told (shown_of at link attention b)) (sym same)
-    (subst (λ t. Asked (shown_of at link attention before) now l ask t (shown_of at link attention before)) (sym memory)
-    (still (shown_of at link attention before) now l ask))

@@ -1,8 +1,8 @@
 -- Values that the bits ask for have a block.
-use Rattle.std.proofs.Common.{◌≡◌, sym, refl, subst, ℕ, ◌<◌, min, ℤ, pos, Bool, true, false, cond, List, [], length, replicate, arith}
+use Rattle.std.proofs.Common.{◌≡◌, sym, refl, subst, ℕ, ◌<◌, min, Bool, true, false, cond, List, [], length, arith}
 use Rattle.std.specs.Prelude.{MatchBool}
 use Rattle.afp_bitmap.specs.Bits.{is_asked}
-use Rattle.afp_bitmap.specs.Field.{Number, Date, Finder, LongName, Utf8Name}
+use Rattle.afp_bitmap.specs.Field.{LongName, Utf8Name}
 use Rattle.afp_bitmap.specs.Params.{Fits}
 use Rattle.afp_bitmap.specs.Table.{rows as table_rows, volume_rows, file_rows, dir_rows}
 use Rattle.afp_bitmap.specs.declared.directory.DirValues.{DirValues}
@@ -17,20 +17,9 @@ use Rattle.afp_volume.specs.Listing.{children}
 use Rattle.afp_volume.specs.NodeValues.{told_attributes, file_values, most_offspring, fixed_owner, fixed_group, all_rights, dir_values}
 use Rattle.afp_volume.specs.Parms.{asked_or}
 use Rattle.afp_volume.specs.VolumeState.{Row, VolumeState}
+use Rattle.afp_volume.proofs.ToldValues.{number-fits, date-fits, finder-fits}
 
 -- a value that stands where its bit is asked, and is blank where not
-
-number-fits : (b : Bool) (n x : ℕ) → MatchBool b (Unit {0}) (Number n (cond b x 0) ≡ Number n 0)
-number-fits true n x = tt
-number-fits false n x = refl
-
-date-fits : (b : Bool) (z : ℤ) → MatchBool b (Unit {0}) (Date (cond b z (pos 0)) ≡ Date (pos 0))
-date-fits true z = tt
-date-fits false z = refl
-
-finder-fits : (b : Bool) (info : List ℕ) → MatchBool b (Unit {0}) (Finder (cond b info (replicate 32 0)) ≡ Finder (replicate 32 0))
-finder-fits true info = tt
-finder-fits false info = refl
 
 long-fits : (b : Bool) (name : List ℕ) → length (cond b name []) < 256 → MatchBool b (length (cond b name []) < 256) (LongName (cond b name []) ≡ LongName [])
 long-fits true name short = short

@@ -8,7 +8,7 @@ use Rattle.std.proofs.lemmas.List.Sums.{sum_by-cons}
 use Rattle.afp_volume.proofs.Formed.{LimitParts, limit-parts}
 use Rattle.afp_volume.specs.Edits.{bare}
 use Rattle.afp_base.specs.Limits.{most_fork_bytes}
-use Rattle.afp_volume.specs.SoundVolume.{IsSoundVolume, fork_bytes}
+use Rattle.afp_volume.specs.SoundVolume.{IsSoundVolume, fork_bytes, row_bytes}
 use Rattle.afp_volume.specs.VolumeState.{Row, VolumeState}
 use Rattle.afp_volume.specs.Walk.{row_at}
 use Rattle.volume_answers.specs.lemma.Told.{bytes_at, whole}
@@ -18,19 +18,16 @@ use Rattle.volume_tree.specs.Shown.{fork_at}
 pub used-within : (v : VolumeState) → IsSoundVolume v → fork_bytes v.rows ≤ most_fork_bytes
 used-within v s = let limits : LimitParts v = limit-parts v s.limits in limits.bytes
 
-abbrev row-size : Row → ℕ
-row-size row = length row.data_fork + length row.resource_fork
-
 -- the forks of one row are no more than all
-bytes-within : (p : Row → Bool) (rows : List Row) (row : Row) → find p rows ≡ Some row → row-size row ≤ fork_bytes rows
+bytes-within : (p : Row → Bool) (rows : List Row) (row : Row) → find p rows ≡ Some row → row_bytes row ≤ fork_bytes rows
 bytes-within p [] row h = absurd (cc)
 bytes-within p (x ∷ xs) row h =
-    let sum : fork_bytes (x ∷ xs) ≡ row-size x + fork_bytes xs = sum_by-cons row-size x xs in
-    cond_both (p x) (Some x) (find p xs) (λ o. o ≡ Some row → row-size row ≤ fork_bytes (x ∷ xs))
-    (λ here h. let is : x ≡ row = cc in let same : row-size x ≡ row-size row = ap row-size is in omega arith)
-    (λ other h. let rest : row-size row ≤ fork_bytes xs = bytes-within p xs row h in omega arith) h
+    let sum : fork_bytes (x ∷ xs) ≡ row_bytes x + fork_bytes xs = sum_by-cons row_bytes x xs in
+    cond_both (p x) (Some x) (find p xs) (λ o. o ≡ Some row → row_bytes row ≤ fork_bytes (x ∷ xs))
+    (λ here h. let is : x ≡ row = cc in let same : row_bytes x ≡ row_bytes row = ap row_bytes is in omega arith)
+    (λ other h. let rest : row_bytes row ≤ fork_bytes xs = bytes-within p xs row h in omega arith) h
 
-one-fork : (resource : Bool) (row : Row) → length (fork_of resource row) ≤ row-size row
+one-fork : (resource : Bool) (row : Row) → length (fork_of resource row) ≤ row_bytes row
 one-fork true row = omega arith
 one-fork false row = omega arith
 
@@ -41,8 +38,8 @@ fork-small v id resource bytes s is = by (find (λ (r : Row). r.id == id) v.rows
     small : (row : Row) → find (λ (r : Row). r.id == id) v.rows ≡ Some row → bytes ≡ fork_of resource row → length bytes < 2 ^ 32
     small row found same =
         let all : fork_bytes v.rows ≤ most_fork_bytes = used-within v s in
-        let these : row-size row ≤ fork_bytes v.rows = bytes-within (λ (r : Row). r.id == id) v.rows row found in
-        let one : length (fork_of resource row) ≤ row-size row = one-fork resource row in
+        let these : row_bytes row ≤ fork_bytes v.rows = bytes-within (λ (r : Row). r.id == id) v.rows row found in
+        let one : length (fork_of resource row) ≤ row_bytes row = one-fork resource row in
         let size : length bytes ≡ length (fork_of resource row) = ap length same in
         omega arith
 

@@ -16,7 +16,7 @@ ghost use Rattle.volume_tree.specs.Shown.{opened};
 use crate::list_asked::ListAsked;
 use crate::node::{is_dir, put_node};
 use afp_base::{Bytes, MAX_PAYLOAD, OutOfMemory};
-use afp_replies::{flag_of, put_length, put_entry_pad, put_place};
+use afp_replies::{flag_of, put_entry_pad, put_length, put_place};
 use deny_modes::VolumeOpens;
 use node_rows::Node;
 use std::alloc::Global;

@@ -3,7 +3,6 @@ ghost use Rattle.std.specs.Prelude.{◌≡◌, ◌++◌, Some, true, IfOk, OnOk,
 ghost use Rattle.afp_bitmap.specs.Bits.{IsWithin, volume_mask, file_mask, dir_mask};
 ghost use Rattle.afp_bitmap.specs.declared.params.Values as values;
 ghost use Rattle.afp_bitmap.specs.declared.params.Values.TheVariants as told;
-ghost use Rattle.afp_replies.specs.Bytes.{flag_of};
 ghost use Rattle.afp_replies.specs.Replies.{canonical_reply};
 ghost use Rattle.afp_replies.specs.declared.reply.Reply.TheVariants as replies;
 ghost use Rattle.afp_volume.specs.GetFileDirParms.{get_file_dir_parms_refusal, get_file_dir_parms_values};

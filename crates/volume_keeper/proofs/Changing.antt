@@ -6,6 +6,7 @@ use Rattle.afp_volume.specs.VolumeState.{VolumeState}
 use Rattle.afp_volume.specs.SoundVolume.{IsSoundVolume}
 use Rattle.record_keeper.specs.Records.{changed}
 use Rattle.record_keeper.specs.Reading.{RisesByKey}
+use Rattle.record_keeper.proofs.KeptRows.{alike}
 use Rattle.volume_records.specs.declared.rows.Head.{Head}
 use Rattle.volume_records.specs.declared.rows.TableRow.{TableRow}
 use Rattle.volume_records.specs.declared.rows.TableRow.TheVariants as row
@@ -15,7 +16,7 @@ use Rattle.volume_records.specs.Laws.{ImagesRise}
 use Rattle.volume_tree.specs.Planned.{PlanState, IsPlan, planned, gone_rows, gone_comments, gone_appls}
 use Rattle.volume_tree.specs.TouchedNodes.{is_touched}
 use Rattle.volume_keeper.specs.Changes.{put_of, removal_of, is_of, gone_records, kept_records, tree_changes_of}
-use Rattle.volume_keeper.proofs.LookUps.{are_one, alike, found, found-append, or_then, any_at, key_of_row, AreFound, each_found, first_found, got, got_changed, after, after-append, after_puts, after_gone}
+use Rattle.volume_keeper.proofs.LookUps.{are_one, found, found-append, or_then, any_at, key_of_row, AreFound, each_found, first_found, got, got_changed, after, after-append, after_puts, after_gone}
 use Rattle.volume_keeper.proofs.PlanSteps.{gone_volume, left_rows, nodes_in, blocks_in, passing, blocks_stay, nodes_stay, passing_found}
 
 gone_left : (gone : Option NodeId) (v : VolumeState) → RisesByKey (image v) → (q : List ℕ) → after (map removal_of (gone_records gone v)) q (found (rows_of (tables_of v)) q) ≡ found (rows_of (tables_of (gone_volume gone v))) q

@@ -1,5 +1,5 @@
 -- The records of a node that goes, kind by kind.
-use Rattle.std.proofs.Common.{◌≡◌, ◌∙◌, ℕ, ◌<◌, Bool, true, false, cond, not, List, [], ◌∷◌, ◌++◌, map, length, refl, sym, ap, arith, append_assoc}
+use Rattle.std.proofs.Common.{◌≡◌, ◌∙◌, ℕ, ◌<◌, Bool, true, false, cond, List, [], ◌∷◌, ◌++◌, map, length, refl, sym, ap, arith, append_assoc}
 use Rattle.afp_volume.specs.ForkEffect.{fork_of}
 use Rattle.std.specs.Prelude.{Option, Some, None, IfSome, option_map, nat_lt, ◌&&◌, ◌==◌}
 use Rattle.std.specs.List.{filter, find, list_all, cons_option}
@@ -15,11 +15,13 @@ use Rattle.volume_records.specs.declared.rows.TableRow.{TableRow}
 use Rattle.volume_records.specs.declared.rows.TableRow.TheVariants as row
 use Rattle.volume_records.specs.Records.{node_key, comment_record_key, appl_record_key, node_record, block_record, comment_record, appl_record}
 use Rattle.volume_records.specs.Image.{fork_block_of, fork_blocks, node_of, rows_of, tables_of}
+use Rattle.volume_records.proofs.ImageClear.{formed_none}
+use Rattle.volume_records.proofs.ImageBlocks.{filter-append}
 use Rattle.afp_volume.specs.OpenFork.{file_of}
 use Rattle.volume_tree.specs.Shown.{fork_at}
 use Rattle.volume_keeper.specs.Changes.{is_of, removal_of}
 use Rattle.volume_keeper.specs.lemma.Steps.{all_taken, appl_taken, appls_taken, block_taken, comment_taken, fork_taken, node_taken}
-use Rattle.volume_keeper.proofs.PlanSteps.{filter-append, map-append, filter-map, same_number, nodes_by, blocks_by, nodes_in, blocks_in}
+use Rattle.volume_keeper.proofs.PlanSteps.{map-append, filter-map, same_number, nodes_by, blocks_by, nodes_in, blocks_in}
 
 pub first_true : (a b : Bool) → (a && b) ≡ true → a ≡ true
 first_true true b e = refl
@@ -51,17 +53,9 @@ no_bytes : (bytes : List ℕ) → (length bytes == 0) ≡ true → bytes ≡ []
 no_bytes [] e = refl
 no_bytes (b ∷ bs) e = absurd (let h : length (b ∷ bs) ≡ 0 = same_number (length (b ∷ bs)) 0 e in omega arith)
 
-fit_parts : (d named attr_d attr_f filed x y : Bool) → d ≡ true → (named && cond d (attr_d && (x && (y && not filed))) attr_f) ≡ true → (x ≡ true) × (y ≡ true)
-fit_parts true true true attr_f filed true true d e = (refl, refl)
-fit_parts true true true attr_f filed true false d e = absurd (cc)
-fit_parts true true true attr_f filed false y d e = absurd (cc)
-fit_parts true true false attr_f filed x y d e = absurd (cc)
-fit_parts true false attr_d attr_f filed x y d e = absurd (cc)
-fit_parts false named attr_d attr_f filed x y d e = absurd (cc)
-
 pub fit_forks : (r : VolumeRow) → is_formed r ≡ true → HasFitForks r
 fit_forks r e d =
-    let two = fit_parts r.dir (is_named r) _ _ r.filed (length r.data_fork == 0) (length r.resource_fork == 0) d e in
+    let two = formed_none r.dir (is_named r) _ _ r.filed (length r.data_fork == 0) (length r.resource_fork == 0) d e in
     (no_bytes r.data_fork two.0, no_bytes r.resource_fork two.1)
 
 -- ---- the one element of a number

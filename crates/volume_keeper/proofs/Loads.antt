@@ -11,18 +11,18 @@ use Rattle.record_keeper.specs.declared.reading.ReadAllFault.{ReadAllFault}
 use Rattle.record_keeper.specs.declared.reading.ReadAllFault.TheVariants as read
 use Rattle.record_keeper.specs.Records.{Records, Makes, changed, same_records}
 use Rattle.record_keeper.specs.Reading.{IsAll, IsFaultOf, RisesByKey, entry_of, most_records}
+use Rattle.record_keeper.proofs.KeptRows.{by_bytes}
 use Rattle.volume_records.specs.declared.rows.Reason.TheVariants.{Limit}
 use Rattle.volume_records.specs.FirstBad.{first_bad_among, first_bad_record, too_many}
 use Rattle.volume_records.specs.Image.{entries_of, image, kept_image, records_in, rows_of, tables_of}
 use Rattle.volume_records.specs.KeyOrder.{with_head_and_root}
 use Rattle.volume_records.specs.Laws.{ImagesRise}
 use Rattle.volume_keeper.specs.declared.loading.LoadFault.{LoadFault}
-use Rattle.volume_keeper.specs.declared.loading.LoadFault.TheVariants as fault
 use Rattle.volume_keeper.specs.Changes.{put_of}
 use Rattle.volume_keeper.specs.Loading.{Becomes, IsFaultIn, IsLoad}
 use Rattle.volume_keeper.specs.lemma.Loading.{IsMadeOf, IsMake, IsReadFault}
 use Rattle.volume_keeper.specs.Whole.{HeldValue}
-use Rattle.volume_keeper.proofs.LookUps.{by_bytes, all_put, sorted_entries}
+use Rattle.volume_keeper.proofs.LookUps.{all_put, sorted_entries}
 
 same_some : {A : Type 0} (x y : A) → Some x ≡ Some y → x ≡ y
 same_some x y e = cc e
@@ -79,27 +79,6 @@ pub loaded : (name : List ℕ) (now : ℕ) (records : List Record) → RisesByKe
 loaded name now records rises some result ok err old None m all = tt
 loaded name now records rises some result ok err None (Some new) m all = absurd (cc)
 loaded name now records rises some result ok err (Some old) (Some new) m all = loaded_one name now records rises some result ok err old new (same_some new old m) all
-
--- ---- a keeper that held nothing
-
-fresh_one : (name : List ℕ) (now : ℕ) (result : Result HeldValue LoadFault) → IfOk result (λ held. held.state ≡ fresh_volume name now) → (old mid new : Records) → mid ≡ old → IsAll mid [] → IsMake name now result mid new → IsLoad name now result old new
-fresh_one name now (Ok held) is old mid new same none make =
-    let empty : entries old ≡ [] = ap entries (sym same) ∙ none in
-    record {
-      good = ap (first_bad_record name) (ap (λ (es : List (List ℕ × List ℕ)). map (λ e. record { key = e.0; value = e.1 }) es) empty);
-      image = make none;
-      fresh = λ e. is;
-      same = λ n. absurd (n empty);
-    }
-fresh_one name now (Err (fault.BadRecord key reason)) is old mid new same none make = absurd make.1
-fresh_one name now (Err fault.Failed) is old mid new same none make = (make.0 ∙ same, tt)
-fresh_one name now (Err fault.Memory) is old mid new same none make = (make.0 ∙ same, tt)
-
-pub fresh_loaded : (name : List ℕ) (now : ℕ) (result : Result HeldValue LoadFault) → IfOk result (λ held. held.state ≡ fresh_volume name now) → (old mid new : Option Records) → Makes same_records old mid → IfSome mid (λ kept. IsAll kept []) → Becomes (IsMake name now result) mid new → Becomes (IsLoad name now result) old new
-fresh_loaded name now result is old mid None m none make = tt
-fresh_loaded name now result is old None (Some new) m none make = absurd make
-fresh_loaded name now result is None (Some mid) (Some new) m none make = absurd (cc)
-fresh_loaded name now result is (Some old) (Some mid) (Some new) m none make = fresh_one name now result is old mid new (same_some mid old m) none make
 
 -- ---- a keeper that was not read whole
 

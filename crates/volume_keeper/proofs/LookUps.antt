@@ -3,31 +3,22 @@ use Rattle.std.proofs.Common.{◌≡◌, ◌∙◌, ℕ, Bool, true, false, cond
 use Rattle.std.specs.Prelude.{Option, Some, None, T, ◌&&◌}
 use Rattle.std.specs.List.{filter, list_any}
 use Rattle.std.specs.Cmp.{tied_itself}
-use Rattle.std.specs.Cmp.Lexicographic.{slice_cmp, nat_list_cmp_total}
-use Rattle.std.specs.Ordering.{nat_cmp, is_eq, is_lt, eq_by_cmp, ordering_reverse}
+use Rattle.std.specs.Cmp.Lexicographic.{nat_list_cmp_total}
+use Rattle.std.specs.Ordering.{is_eq, is_lt, eq_by_cmp, ordering_reverse}
 use Rattle.std.specs.declared.cmp.Ordering.{Ordering}
 use Rattle.std.specs.declared.cmp.Ordering.TheVariants.{Less, Equal, Greater}
-use Rattle.std.specs.FinMap.{entries, get-entries, find, is_sorted, get, get-insert, get-remove, get-from_sorted, from_sorted, insert, remove, same_map, IsAntisymmetric, slice_cmp-IsAntisymmetric, nat_cmp-IsAntisymmetric}
+use Rattle.std.specs.FinMap.{entries, get-entries, find, is_sorted, get, get-insert, get-remove, get-from_sorted, from_sorted, insert, remove}
 use Rattle.std.specs.FinMap.Entries.{below_all}
 use Rattle.record_keeper.specs.declared.record.Record.{Record}
 use Rattle.record_keeper.specs.declared.record.Change.{Change}
 use Rattle.record_keeper.specs.declared.record.Change.TheVariants.{Put, Remove}
 use Rattle.record_keeper.specs.Records.{Records, changed}
 use Rattle.record_keeper.specs.Reading.{IsBelow, RisesByKey}
+use Rattle.record_keeper.proofs.KeptRows.{by_bytes, one_key, alike}
 use Rattle.volume_records.specs.declared.rows.TableRow.{TableRow}
 use Rattle.volume_records.specs.Records.{record_of}
 use Rattle.volume_records.specs.Image.{entries_of}
 use Rattle.volume_keeper.specs.Changes.{put_of, removal_of}
-
-abbrev pub by_bytes : List ℕ → List ℕ → Ordering
-by_bytes = slice_cmp nat_cmp
-
-one_key : IsAntisymmetric by_bytes
-one_key = slice_cmp-IsAntisymmetric nat_cmp-IsAntisymmetric
-
--- two maps are one where they answer alike
-pub alike : (m n : Records) → ((q : List ℕ) → get m q ≡ get n q) → m ≡ n
-alike m n h = same_map nat_list_cmp_total one_key m n h
 
 abbrev pub are_one : List ℕ → List ℕ → Bool
 are_one q k = eq_by_cmp by_bytes q k

@@ -14,19 +14,13 @@ use Rattle.volume_records.specs.declared.rows.TableRow.{TableRow}
 use Rattle.volume_records.specs.declared.rows.TableRow.TheVariants as row
 use Rattle.volume_records.specs.Records.{record_of, node_record, node_tag, long_bytes}
 use Rattle.volume_records.specs.Image.{node_of, fork_block_of, fork_blocks, rows_of, tables_of}
+use Rattle.volume_records.proofs.ImageBlocks.{filter-append}
 use Rattle.volume_tree.specs.Planned.{Move, SetNode, PlanState, IsNew, is_gone, gone_rows, gone_comments, gone_appls, come_rows, moved_rows, set_rows, modified_rows}
 use Rattle.volume_tree.specs.TouchedNodes.{is_come, is_moved, is_set, is_modified, is_touched}
 use Rattle.volume_keeper.specs.Changes.{is_of}
 use Rattle.volume_keeper.proofs.LookUps.{are_one, found, key_of_row, any_at, AreFound}
 
 -- ---- what a node's going leaves
-
-pub filter-append : {A : Type 0} (p : A → Bool) (xs ys : List A) → filter p (xs ++ ys) ≡ filter p xs ++ filter p ys
-filter-append p [] ys = refl
-filter-append p (x ∷ xs) ys = elim (p x) as (λ b. cond b (x ∷ filter p (xs ++ ys)) (filter p (xs ++ ys)) ≡ cond b (x ∷ filter p xs) (filter p xs) ++ filter p ys) [
-  | true ↦ ap (λ l. x ∷ l) (filter-append p xs ys)
-  | false ↦ filter-append p xs ys
-]
 
 pub map-append : {A B : Type 0} (f : A → B) (xs ys : List A) → map f (xs ++ ys) ≡ map f xs ++ map f ys
 map-append f [] ys = refl

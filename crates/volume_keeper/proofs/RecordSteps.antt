@@ -10,8 +10,9 @@ use Rattle.record_keeper.specs.declared.record.Change.{Change}
 use Rattle.record_keeper.specs.declared.record.Change.TheVariants.{Put, Remove}
 use Rattle.record_keeper.specs.Records.{changed}
 use Rattle.record_keeper.specs.Reading.{IsBelow, RisesByKey}
+use Rattle.record_keeper.proofs.KeptRows.{by_bytes, alike}
 use Rattle.volume_records.specs.Image.{entries_of}
-use Rattle.volume_keeper.proofs.LookUps.{alike, are_one, by_bytes, one_of, sorted_entries, after, got_changed}
+use Rattle.volume_keeper.proofs.LookUps.{are_one, one_of, sorted_entries, after, got_changed}
 
 -- a key, with what it has before and afterwards
 pub record Step : Type 0 where

@@ -10,6 +10,7 @@ use Rattle.afp_volume.specs.Order.{rises_from}
 use Rattle.afp_base.specs.Limits.{most_fork_bytes}
 use Rattle.afp_volume.specs.SoundVolume.{IsSoundVolume, is_tree, is_in_place, leads_to_root, has_node, has_apart_names, are_named_alike, has_noted_nodes, keeps_limits, fork_bytes, is_formed_volume, is_formed, is_named, is_in_order, has_rising_ids, most_nodes, last_next_id, file_attributes, dir_attributes}
 use Rattle.afp_volume.specs.Walk.{row_at}
+use Rattle.afp_volume.proofs.TestedLists.{any-map, apart-map, length-mapped}
 use Rattle.volume_records.specs.declared.rows.TableRow.{TableRow}
 use Rattle.volume_records.specs.declared.rows.TableRow.TheVariants as row
 use Rattle.volume_records.specs.Image.{node_of, rows_of, tables_of, fork_blocks}
@@ -29,10 +30,6 @@ both_true a b p q = ap (λ x. x && b) p ∙ q
 
 -- ---- tests over a list that was mapped
 
-pub any-map : {A B : Type 0} (p : B → Bool) (f : A → B) (xs : List A) → list_any p (map f xs) ≡ list_any (λ x. p (f x)) xs
-any-map p f [] = refl
-any-map p f (x ∷ xs) = ap (λ b. p (f x) || b) (any-map p f xs)
-
 all-map : {A B : Type 0} (p : B → Bool) (f : A → B) (xs : List A) → list_all p (map f xs) ≡ list_all (λ x. p (f x)) xs
 all-map p f [] = refl
 all-map p f (x ∷ xs) = ap (λ b. p (f x) && b) (all-map p f xs)
@@ -45,10 +42,6 @@ all-same : {A : Type 0} (p q : A → Bool) (xs : List A) → ((x : A) → p x �
 all-same p q [] e = refl
 all-same p q (x ∷ xs) e = λ i. e x i && all-same p q xs e i
 
-apart-map : {A B : Type 0} (p : B → B → Bool) (f : A → B) (xs : List A) → are_apart p (map f xs) ≡ are_apart (λ a b. p (f a) (f b)) xs
-apart-map p f [] = refl
-apart-map p f (x ∷ xs) = λ i. not (any-map (p (f x)) f xs i) && apart-map p f xs i
-
 rises-map : {A B : Type 0} (n : B → ℕ) (f : A → B) (low : ℕ) (xs : List A) → rises_from n low (map f xs) ≡ rises_from (λ x. n (f x)) low xs
 rises-map n f low [] = refl
 rises-map n f low (x ∷ xs) = ap (λ b. nat_lt low (n (f x)) && b) (rises-map n f (n (f x)) xs)
@@ -56,10 +49,6 @@ rises-map n f low (x ∷ xs) = ap (λ b. nat_lt low (n (f x)) && b) (rises-map n
 pub find-map : {A B : Type 0} (p : B → Bool) (f : A → B) (xs : List A) → find p (map f xs) ≡ option_map f (find (λ x. p (f x)) xs)
 find-map p f [] = refl
 find-map p f (x ∷ xs) = elim (p (f x)) as (λ b. cond b (Some (f x)) (find p (map f xs)) ≡ option_map f (cond b (Some x) (find (λ x. p (f x)) xs))) [ true ↦ refl | false ↦ find-map p f xs ]
-
-length-map : {A B : Type 0} (f : A → B) (xs : List A) → length (map f xs) ≡ length xs
-length-map f [] = refl
-length-map f (x ∷ xs) = ap suc (length-map f xs)
 
 length-zeros : (n : ℕ) → length {A = ℕ} (replicate n 0) ≡ n
 length-zeros zero = refl
@@ -80,7 +69,7 @@ leads_same rows (suc steps) id = ap (λ b. (id == root_id) || b)
 
 place_same : (v : VolumeState) (r : VolumeRow) → is_in_place (start v) (zeroed r) ≡ is_in_place v r
 place_same v r = ap (λ b. cond (r.id == root_id) (r.dir && ((r.parent == root_parent) && bytes_eq r.name v.name)) ((nat_le first_id r.id && nat_lt r.id v.next_id) && b))
-    (ap (λ n. leads_to_root (map zeroed v.rows) n r.parent) (length-map zeroed v.rows) ∙ leads_same v.rows (length v.rows) r.parent)
+    (ap (λ n. leads_to_root (map zeroed v.rows) n r.parent) (length-mapped zeroed v.rows) ∙ leads_same v.rows (length v.rows) r.parent)
 
 tree_kept : (v : VolumeState) → is_tree v ≡ true → is_tree (start v) ≡ true
 unfolding is_tree
@@ -99,7 +88,7 @@ limits_kept : (v : VolumeState) → keeps_limits v ≡ true → keeps_limits (st
 unfolding keeps_limits
 limits_kept v e =
     let rest = second_true (nat_le (length v.rows) most_nodes) _ e in
-    both_true _ _ (ap (λ n. nat_le n most_nodes) (length-map zeroed v.rows) ∙ first_true (nat_le (length v.rows) most_nodes) _ e)
+    both_true _ _ (ap (λ n. nat_le n most_nodes) (length-mapped zeroed v.rows) ∙ first_true (nat_le (length v.rows) most_nodes) _ e)
     (both_true (nat_le (fork_bytes (map zeroed v.rows)) most_fork_bytes) true
     (ap (λ n. nat_le n most_fork_bytes)
     (fold-map (λ (r : VolumeRow). length r.data_fork + length r.resource_fork) zeroed (λ (r : VolumeRow). length r.data_fork + length r.resource_fork) (λ r i. length-zeros (length r.data_fork) i + length-zeros (length r.resource_fork) i) 0 v.rows)

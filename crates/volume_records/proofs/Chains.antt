@@ -1,5 +1,5 @@
 -- Lists in which each element stands in a relation to all behind it.
-use Rattle.std.proofs.Common.{◌≡◌, ◌∙◌, ℕ, ◌+◌, ◌<◌, ◌≤◌, Bool, true, false, cond, not, List, [], ◌∷◌, map, length, refl, sym, ap, arith}
+use Rattle.std.proofs.Common.{◌≡◌, ◌∙◌, ℕ, ◌+◌, ◌<◌, ◌≤◌, Bool, true, false, cond, not, List, [], ◌∷◌, map, length, refl, ap, arith}
 use Rattle.std.specs.Prelude.{nat_lt, fold, sum_by}
 use Rattle.std.specs.List.{list_all, list_any, filter}
 use Rattle.afp_volume.specs.Order.{rises, rises_from, stands_before}
@@ -42,10 +42,6 @@ chain-filter R p (x ∷ xs) c = elim (p x) as (λ b. Chain R (cond b (x ∷ filt
 pub chain-map : {A B : Type 0} (R : B → B → Bool) (f : A → B) (xs : List A) → Chain (λ x y. R (f x) (f y)) xs → Chain R (map f xs)
 chain-map R f [] c = tt
 chain-map R f (x ∷ xs) c = (all-map (R (f x)) f xs ∙ c.0, chain-map R f xs c.1)
-
-pub map-chain : {A B : Type 0} (R : B → B → Bool) (f : A → B) (xs : List A) → Chain R (map f xs) → Chain (λ x y. R (f x) (f y)) xs
-map-chain R f [] c = tt
-map-chain R f (x ∷ xs) c = (sym (all-map (R (f x)) f xs) ∙ c.0, map-chain R f xs c.1)
 
 -- the last element: all stand at most at it
 pub top : {A : Type 0} (R le : A → A → Bool) → ((a b : A) → R a b ≡ true → le a b ≡ true) → ((a : A) → le a a ≡ true) → (x : A) (xs : List A) → Chain R (x ∷ xs)

@@ -129,15 +129,6 @@ twice up a (suc k) place h =
     ∙ twice up a k (slice_index up (slice_index up place)) (a (slice_index up place) 0 (a place 0 h))
     ∙ ap (λ n. climbed up n place) (sym e)
 
-pub begun : (steps : List ℕ) (count : ℕ) (ends : List ℕ) → All (λ x. x < length steps) steps → length ends ≡ length steps → ((place : ℕ) → place < length steps → slice_index ends place ≡ place) → Climbs steps count steps ends count
-begun steps count ends a l h = record {
-  up_length = refl;
-  ends_length = l;
-  up_in = λ place i. a place 0 i;
-  ends_in = λ place i. subst (λ x. x < length steps) (sym (h place i)) i;
-  kept = λ place i. ap (climbed steps count) (h place i);
-}
-
 module _ (steps : List ℕ) (count : ℕ) (up ends : List ℕ) (left : ℕ) (c : Climbs steps count up ends left) where
   all_in : All (λ x. x < length up) up
   all_in k d h = let y : slice_index up k < length up = omega (arith, c.up_in k (omega (arith, c.up_length)), c.up_length) in subst (λ x. x < length up) (get_or_default up k 0 d h) y

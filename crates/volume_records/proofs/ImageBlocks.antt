@@ -9,6 +9,7 @@ use Rattle.fork_bytes.specs.Blocks.{block_at, block_count, before_zeros, trimmed
 use Rattle.fork_bytes.specs.Kept.{bytes_of, are_rising, is_kept, is_empty}
 use Rattle.afp_volume.specs.VolumeState.{Row as VolumeRow}
 use Rattle.afp_volume.specs.TypedVolume.{is_byte, is_long, are_bytes}
+use Rattle.afp_volume.proofs.TestedLists.{length-mapped}
 use Rattle.volume_records.specs.declared.rows.ForkBlock.{ForkBlock}
 use Rattle.volume_records.specs.Records.{flag_byte}
 use Rattle.volume_records.specs.Shape.{is_formed_block}
@@ -145,7 +146,7 @@ all_chain law (r ∷ rs) c = chain-append block_before (fork_blocks r) (flat_map
 
 -- ---- the forks that they tell
 
-filter-append : {A : Type 0} (p : A → Bool) (xs ys : List A) → filter p (xs ++ ys) ≡ filter p xs ++ filter p ys
+pub filter-append : {A : Type 0} (p : A → Bool) (xs ys : List A) → filter p (xs ++ ys) ≡ filter p xs ++ filter p ys
 filter-append p [] ys = refl
 filter-append p (x ∷ xs) ys = elim (p x) as (λ b. cond b (x ∷ filter p (xs ++ ys)) (filter p (xs ++ ys)) ≡ cond b (x ∷ filter p xs) (filter p xs) ++ filter p ys) [
   | true ↦ ap (λ l. x ∷ l) (filter-append p xs ys)
@@ -230,15 +231,11 @@ rows_again law blocks (r ∷ rs) o = λ i. row_again law blocks r o.0 i ∷ rows
 few_one : (len n : ℕ) → n ≤ block_count len → 4096 * n ≤ len + 4095
 few_one len n h = omega (arith, h)
 
-length-map : {A B : Type 0} (f : A → B) (xs : List A) → length (map f xs) ≡ length xs
-length-map f [] = refl
-length-map f (x ∷ xs) = ap suc (length-map f xs)
-
 pub few_of_row : ForkLaw → (r : VolumeRow) → 4096 * length (fork_blocks r) ≤ (length r.data_fork + length r.resource_fork) + 8190
 few_of_row law r =
     let a = few_one (length r.data_fork) (length (blocks_of r.data_fork)) (law.few r.data_fork) in
     let b = few_one (length r.resource_fork) (length (blocks_of r.resource_fork)) (law.few r.resource_fork) in
     let s = length-append (map (fork_block_of r.id false) (blocks_of r.data_fork)) (map (fork_block_of r.id true) (blocks_of r.resource_fork)) in
-    let i = length-map (fork_block_of r.id false) (blocks_of r.data_fork) in
-    let j = length-map (fork_block_of r.id true) (blocks_of r.resource_fork) in
+    let i = length-mapped (fork_block_of r.id false) (blocks_of r.data_fork) in
+    let j = length-mapped (fork_block_of r.id true) (blocks_of r.resource_fork) in
     omega (arith, a, b, s, i, j)

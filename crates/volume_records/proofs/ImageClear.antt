@@ -10,6 +10,7 @@ use Rattle.afp_volume.specs.VolumeState.{Comment, Icon, Appl, VolumeState, root_
 use Rattle.afp_volume.specs.Order.{stands_before}
 use Rattle.afp_volume.specs.SoundVolume.{IsSoundVolume, is_named, file_attributes, dir_attributes, is_in_place, has_node, has_file, is_comment, is_icon, icon_key, appl_key, most_icons, most_appls, code_size, is_formed as is_formed_row}
 use Rattle.afp_volume.specs.TypedVolume.{is_word, is_long, is_date, are_bytes, is_typed_row, is_typed_comment, is_typed_icon, is_typed_appl, is_typed_volume}
+use Rattle.afp_volume.proofs.TestedLists.{any-map, length-mapped}
 use Rattle.volume_records.specs.declared.rows.Node.{Node}
 use Rattle.volume_records.specs.declared.rows.ForkBlock.{ForkBlock}
 use Rattle.volume_records.specs.declared.rows.TableRow.{TableRow}
@@ -18,14 +19,14 @@ use Rattle.volume_records.specs.Shape.{is_formed_record, is_formed_node, is_form
 use Rattle.volume_records.specs.Image.{Tables, rows_of, tables_of, node_of, fork_block_of, fork_blocks}
 use Rattle.record_keeper.specs.Reading.{most_records}
 use Rattle.volume_records.specs.FirstBad.{fork_length, is_out_of_range}
-use Rattle.volume_records.proofs.TestParts.{left_true, right_true, both_true, cases, le_of, lt_false, same_of, all-more, all-both, all-map, all-append, any-map, any-none, always}
+use Rattle.volume_records.proofs.TestParts.{left_true, right_true, both_true, cases, le_of, lt_false, same_of, all-more, all-both, all-map, all-append, any-none, always}
 use Rattle.volume_records.proofs.Chains.{chain-map, filter-most}
 use Rattle.volume_records.proofs.Counts.{no_more, sum_each, length-flat}
 use Rattle.volume_records.proofs.Whole.{IsWhole, is_clear}
 use Rattle.volume_records.proofs.Facts.{EachKind, all_kinds, free_clear}
 use Rattle.volume_records.proofs.ForkParts.{ForkLaw, volume_of}
 use Rattle.volume_records.proofs.VolumeTables.{reaches_past}
-use Rattle.volume_records.proofs.VolumeSound.{length-map, alike, no_twins}
+use Rattle.volume_records.proofs.VolumeSound.{alike, no_twins}
 use Rattle.volume_records.proofs.ReadBack.{node_parts}
 use Rattle.volume_records.proofs.SoundFacts.{SoundFacts, sound_facts, TypedFacts, typed_facts}
 use Rattle.volume_records.proofs.ImageBlocks.{is_whole_block, whole_blocks, one_formed, all-pass, owns_from, rows_again, few_of_row}
@@ -47,10 +48,6 @@ known_rows v s t =
 -- what is wanted of each block: its shape, and that no rule holds of it
 abbrev pub is_fine_block : Tables → ForkBlock → Bool
 is_fine_block t b = is_formed_block b && is_clear t (row.Block b)
-
-fork_length_is : (b : Bool) (r : VolumeRow) → fork_length b (node_of r) ≡ length (fork_of b r)
-fork_length_is true r = refl
-fork_length_is false r = refl
 
 long_as : (b : Bool) (r o : VolumeRow) → same_forks r o ≡ true → (o.id == r.id) ≡ true → fork_length b (node_of o) ≡ length (fork_of b r)
 long_as b r o s e =
@@ -81,7 +78,7 @@ empty : (bytes : List ℕ) → (length bytes == 0) ≡ true → bytes ≡ []
 empty [] e = refl
 empty (b ∷ bs) e = absurd (let h : length (b ∷ bs) ≡ 0 = same_of (length (b ∷ bs)) 0 e in omega arith)
 
-formed_none : (d named attr_d attr_f filed x y : Bool) → d ≡ true → (named && cond d (attr_d && (x && (y && not filed))) attr_f) ≡ true → (x ≡ true) × (y ≡ true)
+pub formed_none : (d named attr_d attr_f filed x y : Bool) → d ≡ true → (named && cond d (attr_d && (x && (y && not filed))) attr_f) ≡ true → (x ≡ true) × (y ≡ true)
 formed_none true true true attr_f filed true true d e = (refl, refl)
 formed_none true true true attr_f filed true false d e = absurd (cc)
 formed_none true true true attr_f filed false y d e = absurd (cc)
@@ -231,12 +228,12 @@ image_few law v sound =
     let two = length-append b_rows (c_rows ++ (i_rows ++ a_rows)) in
     let three = length-append c_rows (i_rows ++ a_rows) in
     let four = length-append i_rows a_rows in
-    let n = length-map (λ x. row.Node x) (map node_of v.rows) in
-    let m = length-map node_of v.rows in
-    let b = length-map (λ x. row.Block x) (flat_map fork_blocks v.rows) in
-    let c = length-map (λ x. row.Comment x) v.comments in
-    let i = length-map (λ x. row.Icon x) v.icons in
-    let a = length-map (λ x. row.Appl x) v.appls in
+    let n = length-mapped (λ x. row.Node x) (map node_of v.rows) in
+    let m = length-mapped node_of v.rows in
+    let b = length-mapped (λ x. row.Block x) (flat_map fork_blocks v.rows) in
+    let c = length-mapped (λ x. row.Comment x) v.comments in
+    let i = length-mapped (λ x. row.Icon x) v.icons in
+    let a = length-mapped (λ x. row.Appl x) v.appls in
     omega (arith, rows, bytes, icons, appls, comments, blocks, one, two, three, four, n, m, b, c, i, a)
 
 pub volume_again : ForkLaw → (v : VolumeState) → IsSoundVolume v → volume_of v.name (tables_of v) ≡ v

@@ -7,14 +7,15 @@ use Rattle.afp_base.specs.Apart.{are_apart}
 use Rattle.afp_base.specs.Limits.{most_fork_bytes}
 use Rattle.afp_volume.specs.SoundVolume.{is_in_place, are_named_alike, has_node, has_file, leads_to_root, is_named, most_nodes, file_attributes, dir_attributes, is_formed as is_formed_row}
 use Rattle.afp_volume.specs.TypedVolume.{is_word, is_long, is_date, is_quad, are_bytes, is_typed_row}
+use Rattle.afp_volume.proofs.TestedLists.{any-map, length-mapped}
 use Rattle.volume_records.specs.declared.rows.Node.{Node}
 use Rattle.volume_records.specs.declared.rows.TableRow.TheVariants as row
 use Rattle.volume_records.specs.Shape.{bare_row, is_formed_node, is_root_or_other}
 use Rattle.volume_records.specs.Image.{tables_of, node_of}
 use Rattle.volume_records.specs.FirstBad.{nodes_to, lacks_parent, is_out_of_range, passes_limit}
-use Rattle.volume_records.proofs.TestParts.{left_true, right_true, both_true, or_left, or_right, cases, lt_of, le_of, lt_true, lt_false, same_true, other_false, turn_false, not_true, either_false, neither, all-more, all-both, any-map, any-same, pick, then_of, else_of, parts}
+use Rattle.volume_records.proofs.TestParts.{left_true, right_true, both_true, or_left, or_right, cases, lt_of, le_of, lt_true, lt_false, same_true, other_false, turn_false, not_true, either_false, neither, all-more, all-both, any-same, pick, then_of, else_of, parts}
 use Rattle.volume_records.proofs.Chains.{Chain, filter-most, sum-filter, sum-map}
-use Rattle.volume_records.proofs.VolumeSound.{length-map, alike, no_twins}
+use Rattle.volume_records.proofs.VolumeSound.{alike, no_twins}
 use Rattle.volume_records.proofs.SoundFacts.{SoundFacts}
 
 -- ---- the tree is the same with no bytes in its forks
@@ -93,7 +94,7 @@ module _ (v : VolumeState) (facts : SoundFacts v) where
       let leads = right_true (nat_le first_id r.id && nat_lt r.id v.next_id) (leads_to_root v.rows (length v.rows) r.parent) (else_of (r.id == root_id) (r.dir && ((r.parent == root_parent) && bytes_eq r.name v.name)) ((nat_le first_id r.id && nat_lt r.id v.next_id) && leads_to_root v.rows (length v.rows) r.parent) e place) in
       let root = nodes_same v.rows root_id ∙ facts.root in
       let same : leads_to_root (map bare_row (map node_of v.rows)) (length (map bare_row (map node_of v.rows))) r.parent ≡ true =
-      ap (λ k. leads_to_root (map bare_row (map node_of v.rows)) k r.parent) (length-map bare_row (map node_of v.rows) ∙ length-map node_of v.rows) ∙ leads_same v.rows (length v.rows) r.parent ∙ leads in
+      ap (λ k. leads_to_root (map bare_row (map node_of v.rows)) k r.parent) (length-mapped bare_row (map node_of v.rows) ∙ length-mapped node_of v.rows) ∙ leads_same v.rows (length v.rows) r.parent ∙ leads in
       λ i. not (e i) && not (root i && same i))
 
   pub node_inside : (r : VolumeRow) → is_in_place v r ≡ true → is_out_of_range (tables_of v) (row.Node (node_of r)) ≡ false
@@ -107,7 +108,7 @@ module _ (v : VolumeState) (facts : SoundFacts v) where
 
   pub node_few : (r : VolumeRow) → passes_limit (tables_of v) (row.Node (node_of r)) ≡ false
   node_few r =
-      let count = lt_false most_nodes (length (nodes_to (node_of r) (tables_of v))) (let a = filter-most (λ (o : Node). nat_le o.id r.id) (map node_of v.rows) in let b = length-map node_of v.rows in let c = facts.few_rows in omega (arith, a, b, c)) in
+      let count = lt_false most_nodes (length (nodes_to (node_of r) (tables_of v))) (let a = filter-most (λ (o : Node). nat_le o.id r.id) (map node_of v.rows) in let b = length-mapped node_of v.rows in let c = facts.few_rows in omega (arith, a, b, c)) in
       let sum = lt_false most_fork_bytes (sum_by (λ (o : Node). o.data_length + o.resource_length) (nodes_to (node_of r) (tables_of v)))
       (let a = sum-filter (λ (o : Node). o.data_length + o.resource_length) (λ o. nat_le o.id r.id) (map node_of v.rows) in
       let b = sum-map (λ (o : Node). o.data_length + o.resource_length) node_of (λ (s : VolumeRow). length s.data_fork + length s.resource_fork) v.rows (λ s. refl) in

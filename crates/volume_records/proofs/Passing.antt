@@ -14,6 +14,7 @@ use Rattle.afp_volume.specs.VolumeState.{Icon, Appl, root_id, Row as VolumeRow}
 use Rattle.afp_volume.specs.Order.{stands_before}
 use Rattle.afp_base.specs.Limits.{most_fork_bytes}
 use Rattle.afp_volume.specs.SoundVolume.{has_node, has_file, leads_to_root, are_named_alike, icon_key, appl_key, most_nodes, most_icons, most_appls}
+use Rattle.afp_volume.proofs.TestedLists.{any-map, length-mapped}
 use Rattle.record_keeper.specs.declared.record.Record.{Record}
 use Rattle.volume_records.specs.declared.rows.Node.{Node}
 use Rattle.volume_records.specs.declared.rows.Reason.{Reason}
@@ -28,13 +29,12 @@ use Rattle.volume_records.specs.KeyOrder.{IsBelow, RisesByKey}
 use Rattle.volume_records.specs.FirstBad.{rows_in, fork_length, nodes_to, icons_to, appls_to, lacks_parent, is_twin, is_out_of_range, passes_limit, first_of, reason_of, bad_or, first_in}
 use Rattle.volume_records.specs.lemma.Climb.{id_of, climbs_to_root}
 use Rattle.volume_records.specs.lemma.Judged.{place_of, said_node, places_in, is_there, is_file_there, length_of, is_stray_here, is_outside_here, Before, is_twin_here, fork_sum, is_over_here, reason_here, and_row, next_in, next_or, said_rows, is_short_row, IsNamedRow}
-use Rattle.volume_records.proofs.TestParts.{left_true, right_true, both_true, lt_of, le_true, lt_false, same_of, same_true, other_false, bytes_same, bytes_true, cases, any-map, any-same, all-ends}
+use Rattle.volume_records.proofs.TestParts.{left_true, right_true, both_true, lt_of, le_true, lt_false, same_of, same_true, other_false, bytes_same, bytes_true, cases, any-same, all-ends}
 use Rattle.volume_records.proofs.Chains.{Chain, sum-cons}
 use Rattle.volume_records.proofs.ReadBack.{row_is}
 use Rattle.volume_records.proofs.RowKinds.{by_kind, behind_head, nil_behind}
 use Rattle.volume_records.proofs.RowOrder.{rows_ends, icon_before, appl_before, before_itself, before_turned}
 use Rattle.volume_records.proofs.Facts.{InOrder, order_behind, short_block, node_name}
-use Rattle.volume_records.proofs.VolumeSound.{length-map}
 
 -- what stands before, of some rows
 abbrev pub before_of : List TableRow → Before
@@ -159,7 +159,7 @@ leads_same ns (suc k) id = ap (λ b. (id == root_id) || b)
     ∙ sym (any-map (λ (p : Place). (p.id == id) && (p.is_directory && climbs_to_root (map place_of ns) k p.parent)) place_of ns))
 
 climbs_same : (ns : List Node) (id : ℕ) → leads_to_root (map bare_row ns) (length (map bare_row ns)) id ≡ climbs_to_root (map place_of ns) (length (map place_of ns)) id
-climbs_same ns id = ap (λ k. leads_to_root (map bare_row ns) k id) (length-map bare_row ns ∙ sym (length-map place_of ns)) ∙ leads_same ns (length (map place_of ns)) id
+climbs_same ns id = ap (λ k. leads_to_root (map bare_row ns) k id) (length-mapped bare_row ns ∙ sym (length-mapped place_of ns)) ∙ leads_same ns (length (map place_of ns)) id
 
 stray_same : (t : Tables) (x : TableRow) → lacks_parent t x ≡ is_stray_here (map place_of t.nodes) x
 stray_same t (row.Head h) = refl
@@ -320,9 +320,6 @@ named_formed name (Some (row.Appl a)) f = tt
 
 pub named_read : (name : List ℕ) (r : Record) (o : Option TableRow) → o ≡ row_in name r → IsNamedRow o
 named_read name r o e = named_formed name o (λ x h. (row_is name r x (sym e ∙ h)).0)
-
-pub rows_length : (name : List ℕ) (records : List Record) (rows : List (Option TableRow)) → rows ≡ map (row_in name) records → length rows ≡ length records
-rows_length name records rows parsed = ap length parsed ∙ length-map (row_in name) records
 
 one_more : (xs : List TableRow) (o : Option TableRow) → and_row (before_of xs) o ≡ before_of (xs ++ cons_option o [])
 one_more xs None = ap before_of (sym (nil_behind xs))

@@ -9,7 +9,6 @@ use Rattle.std.specs.declared.cmp.Ordering.TheVariants.{Less, Greater}
 use Rattle.std.proofs.lemmas.Bool.{cases_lt}
 use Rattle.afp_volume.specs.VolumeState.{Comment, Icon, Appl}
 use Rattle.afp_volume.specs.SoundVolume.{icon_key}
-use Rattle.record_keeper.specs.declared.record.Record.{Record}
 use Rattle.volume_records.specs.declared.rows.Head.{Head}
 use Rattle.volume_records.specs.declared.rows.Node.{Node}
 use Rattle.volume_records.specs.declared.rows.ForkBlock.{ForkBlock}
@@ -148,18 +147,6 @@ by_kind xs s =
     ∙ parted tag_of (λ n. n) tags xs (tags_climb xs s) ((refl, (refl, (refl, (refl, (refl, (refl, tt))))))) (are_tags xs)
 
 -- ---- there is just one head
-
-pub rises_ends : (xs ys : List Record) → Rises (xs ++ ys) → Rises xs × Rises ys
-rises_ends [] ys s = (tt, s)
-rises_ends (x ∷ xs) ys s = let rest = rises_ends xs ys s.1 in ((below_front xs s.0, rest.0), rest.1)
-  where
-    below_front : (xs : List Record) → IsBelow x.key (xs ++ ys) → IsBelow x.key xs
-    below_front [] b = tt
-    below_front (y ∷ xs) b = (b.0, below_front xs b.1)
-
-heads_key : (h : Head) → (head_record h).key ≡ head_key
-unfolding head_record
-heads_key h = refl
 
 two_heads : (h k : Head) → slice_cmp nat_cmp (head_record h).key (head_record k).key ≡ Less → ⊥
 unfolding head_record

@@ -1,5 +1,5 @@
 -- What the code sees of a row's shape.
-use Rattle.std.proofs.Common.{◌≡◌, ◌∙◌, ℕ, zero, suc, ◌-◌, ◌<◌, ◌≤◌, Bool, true, false, cond, not, List, [], ◌∷◌, length, take, drop, get_or, refl, sym, ap, arith, length-take, length-drop, Fits, w8}
+use Rattle.std.proofs.Common.{◌≡◌, ◌∙◌, ℕ, zero, suc, ◌-◌, ◌<◌, ◌≤◌, Bool, true, false, cond, not, List, [], ◌∷◌, length, take, drop, get_or, refl, sym, ap, arith, length-take, length-drop}
 use Rattle.std.specs.Prelude.{Some, None, nat_le, ◌&&◌, ◌==◌, bytes_eq, slice_index}
 use Rattle.fork_bytes.specs.Blocks.{trimmed, before_zeros}
 use Rattle.afp_volume.specs.SoundVolume.{is_formed as is_formed_row, is_named}
@@ -8,11 +8,7 @@ use Rattle.record_keeper.specs.declared.record.Record.{Record}
 use Rattle.volume_records.specs.declared.rows.TableRow.TheVariants as row
 use Rattle.volume_records.specs.Records.{record_of}
 use Rattle.volume_records.specs.Shape.{row_in, guess, is_formed_record, is_formed_node, bare_row, has_fit_forks, is_root_or_other, head_in, node_in, block_in, comment_in, icon_in, appl_in, are_same}
-use Rattle.volume_records.proofs.TestParts.{both_true, lt_true, le_true, same_true, other_false, bytes_true}
-
-pub fits_bytes : (bs : List ℕ) → ((k : ℕ) → Fits w8 (get_or bs k 0)) → are_bytes bs ≡ true
-fits_bytes [] h = refl
-fits_bytes (b ∷ bs) h = both_true (is_byte b) (are_bytes bs) (lt_true b 256 (let f : Fits w8 b = h 0 in omega arith)) (fits_bytes bs (λ k. h (suc k)))
+use Rattle.volume_records.proofs.TestParts.{le_true, same_true, other_false, bytes_true}
 
 right_false : (a b : Bool) → b ≡ false → (a && b) ≡ false
 right_false true b e = e

@@ -8,13 +8,14 @@ use Rattle.afp_base.specs.Apart.{are_apart}
 use Rattle.afp_base.specs.Limits.{most_fork_bytes}
 use Rattle.afp_volume.specs.SoundVolume.{IsSoundVolume, is_tree, is_in_place, has_apart_names, are_named_alike, has_noted_nodes, keeps_limits, is_formed_volume, is_in_order, has_rising_ids, has_node, has_file, leads_to_root, is_named, is_comment, is_icon, are_one_icon, are_one_appl, icon_key, appl_key, most_nodes, most_icons, most_appls, last_next_id, code_size, file_attributes, dir_attributes, is_formed as is_formed_row}
 use Rattle.afp_volume.specs.TypedVolume.{is_date, is_quad, is_typed_row, is_typed_comment, is_typed_icon, is_typed_appl}
+use Rattle.afp_volume.proofs.TestedLists.{any-map, length-mapped}
 use Rattle.volume_records.specs.declared.rows.Node.{Node}
 use Rattle.volume_records.specs.declared.rows.ForkBlock.{ForkBlock}
 use Rattle.volume_records.specs.declared.rows.TableRow.TheVariants as row
 use Rattle.volume_records.specs.Shape.{bare_row, is_formed_record, is_formed_node, is_formed_comment, is_formed_icon, is_formed_appl, has_fit_forks, is_root_or_other}
 use Rattle.volume_records.specs.Image.{Tables}
 use Rattle.volume_records.specs.FirstBad.{tree_of, nodes_to, icons_to, appls_to}
-use Rattle.volume_records.proofs.TestParts.{left_true, right_true, both_true, cases, lt_of, lt_true, le_true, ge_of, same_of, other_false, turn_true, turn_false, not_true, neither, bytes_same, all-more, all-both, all-map, any-map, any-same, none-any, any-none, pick, then_of, and_false}
+use Rattle.volume_records.proofs.TestParts.{left_true, right_true, both_true, cases, lt_of, lt_true, le_true, ge_of, same_of, other_false, turn_true, turn_false, not_true, neither, bytes_same, all-more, all-both, all-map, any-same, none-any, any-none, pick, then_of, and_false}
 use Rattle.volume_records.proofs.Chains.{Chain, chain-map, chain-apart, top, filter-whole, sum-map, chain-rises, all-from}
 use Rattle.volume_records.proofs.RowOrder.{icon_before, appl_before, before_itself, before_turned}
 use Rattle.volume_records.proofs.Whole.{IsWhole, is_clear}
@@ -37,10 +38,6 @@ leads_alike blocks ns (suc steps) id = ap (λ b. (id == root_id) || b)
     (λ n. ap (λ b. (n.id == id) && (n.is_directory && b)) (leads_alike blocks ns steps n.parent))
     ∙ sym (any-map (λ (r : VolumeRow). (r.id == id) && (r.dir && leads_to_root (map bare_row ns) steps r.parent)) bare_row ns))
 
-pub length-map : {A B : Type 0} (f : A → B) (xs : List A) → length (map f xs) ≡ length xs
-length-map f [] = refl
-length-map f (x ∷ xs) = ap suc (length-map f xs)
-
 not_both : (a b : Bool) → a ≡ false → (not a && not b) ≡ false → b ≡ true
 not_both true b e f = absurd (cc)
 not_both false b e f = turn_true b f
@@ -58,7 +55,7 @@ in_place_one name t n f free =
     let both = not_both (n.id == root_id) (has_node (tree_of t) root_id && leads_to_root (tree_of t) (length (tree_of t)) n.parent) e free.placed in
     let leads = right_true (has_node (tree_of t) root_id) (leads_to_root (tree_of t) (length (tree_of t)) n.parent) both in
     let same : leads_to_root (map (row_from t.blocks) t.nodes) (length (map (row_from t.blocks) t.nodes)) n.parent ≡ true =
-    ap (λ k. leads_to_root (map (row_from t.blocks) t.nodes) k n.parent) (length-map (row_from t.blocks) t.nodes ∙ sym (length-map bare_row t.nodes)) ∙ leads_alike t.blocks t.nodes (length (map bare_row t.nodes)) n.parent ∙ leads in
+    ap (λ k. leads_to_root (map (row_from t.blocks) t.nodes) k n.parent) (length-mapped (row_from t.blocks) t.nodes ∙ sym (length-mapped bare_row t.nodes)) ∙ leads_alike t.blocks t.nodes (length (map bare_row t.nodes)) n.parent ∙ leads in
     λ i. (low i && high i) && same i)
   where
     not_le : (a b : ℕ) → nat_le b a ≡ false → nat_lt a b ≡ true
@@ -165,7 +162,7 @@ limits_made law name t w =
     (all-more (λ n. is_clear t (row.Icon n)) (λ n. not (nat_lt most_icons (length (icons_to n t)))) t.icons (λ n e. not_true _ (is_free t (row.Icon n) e).few) clear.icons) in
     let appls = at_top appl_before (λ o m. not (stands_before (appl_key m) (appl_key o))) (λ a b e. not_above (appl_key a) (appl_key b) e) (λ a. not_true _ (before_itself (appl_key a))) length most_appls refl t.appls order.appls
     (all-more (λ n. is_clear t (row.Appl n)) (λ n. not (nat_lt most_appls (length (appls_to n t)))) t.appls (λ n e. not_true _ (is_free t (row.Appl n) e).few) clear.appls) in
-    let count = ap (λ k. nat_le k most_nodes) (length-map (row_from t.blocks) t.nodes) ∙ nodes in
+    let count = ap (λ k. nat_le k most_nodes) (length-mapped (row_from t.blocks) t.nodes) ∙ nodes in
     let sum = ap (λ k. nat_le k most_fork_bytes) (sum-map (λ (r : VolumeRow). length r.data_fork + length r.resource_fork) (row_from t.blocks) (λ (o : Node). o.data_length + o.resource_length) t.nodes
     (λ n. λ i. law.size n.data_length (pieces t.blocks n.id 0) i + law.size n.resource_length (pieces t.blocks n.id 1) i)) ∙ bytes in
     λ i. count i && (sum i && (icons i && appls i))

@@ -8,13 +8,14 @@ use Rattle.fork_bytes.specs.Kept.{bytes_of, bytes_in, byte_at, each_of}
 use Rattle.afp_volume.specs.VolumeState.{root_id, root_parent, first_id, Row as VolumeRow}
 use Rattle.afp_volume.specs.SoundVolume.{has_file, has_node, is_formed as is_formed_row, is_comment, is_icon, last_next_id}
 use Rattle.afp_volume.specs.TypedVolume.{is_byte, is_long, is_date, are_bytes, is_typed_row, is_typed_volume, is_typed_comment, is_typed_icon, is_typed_appl}
+use Rattle.afp_volume.proofs.TestedLists.{any-map}
 use Rattle.volume_records.specs.declared.rows.Node.{Node}
 use Rattle.volume_records.specs.declared.rows.ForkBlock.{ForkBlock}
 use Rattle.volume_records.specs.declared.rows.TableRow.TheVariants as row
 use Rattle.volume_records.specs.Shape.{bare_row, is_formed_record, is_formed_node, is_formed_block, is_formed_comment, is_formed_icon, is_formed_appl, has_fit_forks, is_root_or_other}
 use Rattle.volume_records.specs.Image.{Tables, tables_of, node_of, fork_blocks}
 use Rattle.volume_records.specs.FirstBad.{tree_of, fork_length}
-use Rattle.volume_records.proofs.TestParts.{left_true, right_true, both_true, cases, le_true, ge_of, turn_true, turn_false, bytes_same, all-more, all-both, all-map, any-map, any-more, none-any, all-swap, always, and_false, then_of}
+use Rattle.volume_records.proofs.TestParts.{left_true, right_true, both_true, cases, le_true, ge_of, turn_true, turn_false, bytes_same, all-more, all-both, all-map, any-more, none-any, all-swap, always, and_false, then_of}
 use Rattle.volume_records.proofs.Chains.{Chain, chain-more, all-filter, filter-passes}
 use Rattle.volume_records.proofs.Parted.{parted}
 use Rattle.volume_records.proofs.ReadBack.{node_parts}

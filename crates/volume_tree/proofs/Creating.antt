@@ -1,20 +1,16 @@
 -- The plans of FPCreateDir and FPCreateFile.
-use Rattle.std.proofs.Common.{◌==◌, ◌≡◌, ◌∙◌, ap, sym, subst, refl, ℕ, Bool, true, false, not, ◌&&◌, List, Option, Some, None}
-use Rattle.std.specs.Prelude.{Ok, IfSome, option_map, bytes_eq}
-use Rattle.std.specs.List.{list_all, find}
-use Rattle.std.proofs.lemmas.Bool.{and_parts, and_from, eqb-true, eq-eqb}
-use Rattle.std.proofs.lemmas.Slice.Eq.{bytes_eq-Decides}
+use Rattle.std.proofs.Common.{◌==◌, ◌≡◌, ◌∙◌, ap, sym, subst, refl, ℕ, Bool, true, false, ◌&&◌, List, Option, Some, None}
+use Rattle.std.specs.Prelude.{Ok, IfSome, bytes_eq}
+use Rattle.std.specs.List.{find}
 use Rattle.afp_base.specs.declared.ids.NodeId.{NodeId}
 use Rattle.afp_names.specs.Name.{name_key}
 use Rattle.afp_names.specs.Path.{PathValue}
-use Rattle.afp_volume.proofs.CreateFile.{find-only}
-use Rattle.afp_volume.proofs.TestedLists.{none-find}
+use Rattle.afp_volume.proofs.CreateFile.{freed}
 use Rattle.afp_volume.proofs.Walks.{MappedFrom, mapped-from, find-there}
 use Rattle.afp_volume.specs.Shared.{done_at, created}
 use Rattle.afp_volume.specs.CreateDir.{create_dir_effect}
 use Rattle.afp_volume.specs.CreateFile.{create_file_effect, without_replaced}
-use Rattle.afp_volume.specs.Edits.{without}
-use Rattle.afp_volume.specs.SoundVolume.{IsSoundVolume, has_node, has_apart_names, are_named_alike}
+use Rattle.afp_volume.specs.SoundVolume.{IsSoundVolume, has_node, has_apart_names}
 use Rattle.afp_volume.specs.VolumeState.{Row, VolumeState, new_row}
 use Rattle.afp_volume.specs.Walk.{Place, new_place, child_by_key}
 use Rattle.volume_tree.specs.lemma.Answered.{IsFoundNode, option_id}
@@ -39,23 +35,6 @@ create-dir-plan v now dir path id parent name place id_is free sound = record {
   moved = tt;
   sound = subst IsSoundVolume (sym (create-dir-planned v now dir path id parent name place id_is)) sound;
 }
-
--- a name is free once the one child that had its key is gone
-freed : (v : VolumeState) (dir : ℕ) (key : List ℕ) (old : ℕ) → has_apart_names v ≡ true → child_by_key v.rows dir key ≡ Some old → child_by_key (without old v.rows) dir key ≡ None
-unfolding child_by_key has_apart_names
-freed v dir key old apart h =
-    let test : Row → Bool = λ (row : Row). (row.parent == dir) && bytes_eq (name_key row.name) key in
-    let m : MappedFrom (λ (row : Row). row.id) (find test v.rows) old = mapped-from (λ (row : Row). row.id) (find test v.rows) old h in
-    let none : list_all (λ row. not (test row)) (without old v.rows) ≡ true =
-    subst (λ q. list_all (λ row. not (test row)) (without q v.rows) ≡ true) m.gives
-    (find-only are_named_alike test v.rows m.value (λ a b is_a is_b.
-    let e = and_parts (a.parent == dir) (bytes_eq (name_key a.name) key) is_a in
-    let f = and_parts (b.parent == dir) (bytes_eq (name_key b.name) key) is_b in
-    and_from (a.parent == b.parent) (bytes_eq (name_key a.name) (name_key b.name))
-    (eq-eqb a.parent b.parent (eqb-true a.parent dir e.0 ∙ sym (eqb-true b.parent dir f.0)))
-    ((bytes_eq-Decides (name_key a.name) (name_key b.name)).1 ((bytes_eq-Decides (name_key a.name) key).0 e.1 ∙ sym ((bytes_eq-Decides (name_key b.name) key).0 f.1))))
-    apart m.was) in
-    ap (option_map (λ (row : Row). row.id)) (none-find test (without old v.rows) none)
 
 -- a child that is found by key is a node
 child-there : (rows : List Row) (dir : ℕ) (key : List ℕ) (old : ℕ) → child_by_key rows dir key ≡ Some old → has_node rows old ≡ true

@@ -1,5 +1,5 @@
 -- The plans of FPRename and FPMoveAndRename.
-use Rattle.std.proofs.Common.{◌≡◌, ◌∙◌, ap, sym, subst, refl, ℕ, true, false, List, [], Option, Some, None}
+use Rattle.std.proofs.Common.{◌≡◌, ◌∙◌, ap, sym, subst, ℕ, true, false, List, Option, Some, None}
 use Rattle.std.specs.Prelude.{Ok, option_map, unwrap_or, ◌==◌}
 use Rattle.afp_base.specs.Apart.{are_apart}
 use Rattle.afp_base.specs.declared.ids.NodeId.{NodeId}
@@ -60,14 +60,6 @@ move-plan v now dir path to_dir to_path new id target up name at_end at_target n
   moved = free;
   sound = subst IsSoundVolume (sym (move-planned v now dir path to_dir to_path new id target up name at_end at_target name_is up_is)) sound;
 }
-
--- the name of a node that is there
-pub name-found : (rows : List Row) (id : ℕ) (row : Row) → Some row ≡ option_map bare (row_at rows id) → row.name ≡ name_of rows id
-name-found rows id row is = go (row_at rows id) refl is
-  where
-    go : (o : Option Row) → row_at rows id ≡ o → Some row ≡ option_map bare o → row.name ≡ name_of rows id
-    go None found h = absurd (cc)
-    go (Some s) found h = let same : row ≡ bare s = cc in ap (λ (r : Row). r.name) same ∙ sym (ap (λ (o : Option Row). unwrap_or (option_map (λ (r : Row). r.name) o) []) found)
 
 pub never-missing : (rows : List Row) (id : ℕ) → has_node rows id ≡ true → None ≡ option_map bare (row_at rows id) → ⊥
 never-missing rows id there none = let r = row-there rows id there in let some : option_map bare (row_at rows id) ≡ Some (bare r.0) = ap (option_map bare) r.1 in absurd (cc)

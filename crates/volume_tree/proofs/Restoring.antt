@@ -27,6 +27,7 @@ use Rattle.volume_tree.specs.declared.head.Dates.{Dates}
 use Rattle.volume_tree.specs.declared.head.VolumeHead.{VolumeHead}
 use Rattle.volume_tree.specs.declared.forks.FileForks.{FileForks}
 use Rattle.volume_tree.specs.declared.restore.LoadedNode.{LoadedNode}
+use Rattle.volume_tree.proofs.Touching.{other-way}
 
 -- one more node
 
@@ -173,12 +174,6 @@ own-shown l formed =
     or-true : (t : Bool) → (t || true) ≡ true
     or-true true = refl
     or-true false = refl
-
-other-way : (a b : ℕ) → (a == b) ≡ false → (b == a) ≡ false
-other-way a b h = cond_both (b == a) true false (λ t. (b == a) ≡ false) (λ is. absurd (never (a == b) (eq-eqb a b (sym (eqb-true b a is))) h)) (λ other. other)
-  where
-    never : (t : Bool) → t ≡ true → t ≡ false → ⊥
-    never t is isnt = cc
 
 pub all-each : (nodes : List LoadedNode) → are_apart (λ (a : LoadedNode) b. a.node.id == b.node.id) nodes ≡ true → list_all is_formed (map loaded_row nodes) ≡ true → Each (λ q. forks_in nodes q) nodes
 unfolding Each OwnShown

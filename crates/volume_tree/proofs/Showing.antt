@@ -4,10 +4,10 @@ use Rattle.std.specs.Prelude.{option_map}
 use Rattle.std.specs.List.{list_any, find}
 use Rattle.std.proofs.lemmas.Bool.{cond_both, cond-true, cond-false}
 use Rattle.afp_volume.proofs.SeenRows.{test-found}
-use Rattle.afp_volume.proofs.BareRows.{finds-bare, parents-bare, keys-bare, taken-bare}
+use Rattle.afp_volume.proofs.BareRows.{finds-bare, parents-bare, keys-bare}
 use Rattle.afp_volume.proofs.TestedLists.{length-mapped}
 use Rattle.afp_volume.proofs.Trees.{tree-parts}
-use Rattle.afp_volume.specs.Edits.{bare, is_taken}
+use Rattle.afp_volume.specs.Edits.{bare}
 use Rattle.afp_base.specs.Apart.{are_apart}
 use Rattle.afp_volume.specs.SoundVolume.{IsSoundVolume, are_named_alike, has_apart_names}
 use Rattle.afp_volume.specs.VolumeState.{Row, VolumeState}
@@ -29,9 +29,6 @@ parent-shown forks rows id = sym (parents-bare (rows_of forks rows) id) ∙ ap (
 
 pub child-shown : (forks : Forks) (rows : List Row) (dir : ℕ) (key : List ℕ) → child_by_key (rows_of forks rows) dir key ≡ child_by_key rows dir key
 child-shown forks rows dir key = sym (keys-bare (rows_of forks rows) dir key) ∙ ap (λ l. child_by_key l dir key) (shown-bare forks rows) ∙ keys-bare rows dir key
-
-pub taken-shown : (forks : Forks) (rows : List Row) (node dir : ℕ) (name : List ℕ) → is_taken (rows_of forks rows) node dir name ≡ is_taken rows node dir name
-taken-shown forks rows node dir name = sym (taken-bare (rows_of forks rows) node dir name) ∙ ap (λ l. is_taken l node dir name) (shown-bare forks rows) ∙ taken-bare rows node dir name
 
 pub bare-found : (forks : Forks) (rows : List Row) (id : ℕ) → option_map bare (row_at (rows_of forks rows) id) ≡ option_map bare (row_at rows id)
 bare-found forks rows id = sym (finds-bare (rows_of forks rows) id) ∙ ap (λ l. row_at l id) (shown-bare forks rows) ∙ finds-bare rows id

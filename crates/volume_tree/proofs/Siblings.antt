@@ -1,10 +1,10 @@
 -- The children of a directory: the same with forks and without; how many; each by its place.
-use Rattle.std.proofs.Common.{◌≡◌, ◌∙◌, ap, sym, refl, ℕ, suc, ◌+◌, ◌≤◌, ◌<◌, List, [], ◌∷◌, map, length, drop, Option, Some, None, add-one, arith}
+use Rattle.std.proofs.Common.{◌≡◌, ◌∙◌, ap, sym, refl, ℕ, suc, ◌+◌, ◌<◌, List, [], ◌∷◌, map, length, drop, Option, Some, None, add-one}
 use Rattle.std.specs.Prelude.{option_map, slice_get, slice_index_or}
 use Rattle.std.proofs.Math.Seq.{drop-cons}
 use Rattle.std.proofs.lemmas.Bool.{cond_both}
 use Rattle.std.proofs.lemmas.List.{length-map}
-use Rattle.std.proofs.lemmas.Option.{slice_get-map, slice_get_past, slice_get_read, slice_get_within, get_or_from_slice_get}
+use Rattle.std.proofs.lemmas.Option.{slice_get-map, slice_get_read, slice_get_within, get_or_from_slice_get}
 use Rattle.afp_volume.proofs.BareRows.{lists-bare}
 use Rattle.afp_volume.proofs.Counted.{listed-is-there}
 use Rattle.afp_volume.specs.Edits.{bare}
@@ -41,12 +41,6 @@ length-ordered (row ∷ rows) = length-put row (in_order row_key rows) ∙ ap su
 pub siblings-count : (rows : List Row) (dir : ℕ) → length (map child_of (listed rows dir)) ≡ length (children rows dir)
 unfolding listed
 siblings-count rows dir = length-map (listed rows dir) child_of ∙ length-ordered (children rows dir)
-
--- no child at a place behind the last
-pub none-behind : (rows : List Row) (dir i : ℕ) → length (map child_of (listed rows dir)) ≤ i → None ≡ option_map bare (slice_get (listed rows dir) i)
-none-behind rows dir i behind =
-    let past : length (listed rows dir) ≤ i = let same : length (map child_of (listed rows dir)) ≡ length (listed rows dir) = length-map (listed rows dir) child_of in omega arith in
-    ap (λ (o : Option Row). option_map bare o) (sym (slice_get_past (listed rows dir) i past))
 
 -- a child by its place is the node of its id
 

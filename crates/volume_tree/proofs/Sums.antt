@@ -11,9 +11,6 @@ use Rattle.volume_tree.specs.lemma.Tails.{size_asked, lower_bytes}
 more : (bits bit size : ℕ) (fields : List (ℕ × ℕ)) → asked_bytes bits ((bit, size) ∷ fields) ≡ size_asked bits bit size + asked_bytes bits fields
 more bits bit size fields = sum_by-cons (λ (field : ℕ × ℕ). if is_asked bits field.0 then field.1 else 0) (bit, size) fields
 
-none : (bits : ℕ) → asked_bytes bits [] ≡ 0
-none bits = refl
-
 pub all-asked : (bits : ℕ) → asked_bytes bits set_fields ≡ size_asked bits 0 2 + (size_asked bits 2 4 + (size_asked bits 3 4 + (size_asked bits 4 4 + (size_asked bits 5 32 + (size_asked bits 10 4 + (size_asked bits 11 4 + (size_asked bits 12 4 + 0)))))))
 all-asked bits =
     more bits 0 2 ((2, 4) ∷ (3, 4) ∷ (4, 4) ∷ (5, 32) ∷ (10, 4) ∷ (11, 4) ∷ (12, 4) ∷ []) ∙ ap (λ n. size_asked bits 0 2 + n) (more bits 2 4 ((3, 4) ∷ (4, 4) ∷ (5, 32) ∷ (10, 4) ∷ (11, 4) ∷ (12, 4) ∷ []) ∙ ap (λ n. size_asked bits 2 4 + n) (more bits 3 4 ((4, 4) ∷ (5, 32) ∷ (10, 4) ∷ (11, 4) ∷ (12, 4) ∷ []) ∙ ap (λ n. size_asked bits 3 4 + n) (more bits 4 4 ((5, 32) ∷ (10, 4) ∷ (11, 4) ∷ (12, 4) ∷ []) ∙ ap (λ n. size_asked bits 4 4 + n) (more bits 5 32 ((10, 4) ∷ (11, 4) ∷ (12, 4) ∷ []) ∙ ap (λ n. size_asked bits 5 32 + n) (more bits 10 4 ((11, 4) ∷ (12, 4) ∷ []) ∙ ap (λ n. size_asked bits 10 4 + n) (more bits 11 4 ((12, 4) ∷ []) ∙ ap (λ n. size_asked bits 11 4 + n) (more bits 12 4 [])))))))

@@ -135,7 +135,7 @@ pub gone-lets : (q : ℕ) (gone : Option NodeId) (rows : List Row) → is_gone g
 gone-lets q None rows h = refl
 gone-lets q (Some gone) rows h = gone-lets-be rows gone.0 q h
 
-other-way : (a b : ℕ) → (a == b) ≡ false → (b == a) ≡ false
+pub other-way : (a b : ℕ) → (a == b) ≡ false → (b == a) ≡ false
 other-way a b h = cond_both (b == a) true false (λ t. (b == a) ≡ false) (λ is. absurd (never (a == b) (eq-eqb a b (sym (eqb-true b a is))) h)) (λ other. other)
   where
     never : (t : Bool) → t ≡ true → t ≡ false → ⊥

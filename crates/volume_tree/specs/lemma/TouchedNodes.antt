@@ -1,5 +1,5 @@
 -- How the ids of touched nodes are gathered (this profile).
-use Rattle.std.specs.Prelude.{nat_lt, if◌then◌else◌, List, [], ◌∷◌, ◌++◌, Option, Some, None}
+use Rattle.std.specs.Prelude.{nat_lt, if◌then◌else◌, List, [], ◌∷◌, Option, Some, None}
 use Rattle.afp_base.specs.declared.ids.NodeId.{NodeId}
 
 -- rising ids with one more, in its place
@@ -11,8 +11,3 @@ put_id id (other ∷ ids) = if nat_lt other.0 id.0 then other ∷ put_id id ids 
 abbrev pub with_id : Option NodeId → List NodeId → List NodeId
 with_id None ids = ids
 with_id (Some id) ids = put_id id ids
-
--- ids with a last one behind them, if there is one
-abbrev pub with_last : List NodeId → Option NodeId → List NodeId
-with_last ids None = ids
-with_last ids (Some last) = ids ++ last ∷ []

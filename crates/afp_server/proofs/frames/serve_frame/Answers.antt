@@ -4,9 +4,10 @@ use Rattle.afp_base.specs.declared.ids.LinkNumber.{LinkNumber}
 use Rattle.afp_outside.specs.Gate.{with_entered}
 use Rattle.dsi_frame.specs.Frame.{frame_of}
 use Rattle.dsi_frame.specs.declared.frame.Header.{Header}
+use Rattle.dsi_frame.proofs.FrameLemmas.{frame_of-header_of}
 use Rattle.afp_server.specs.LinkRun.{carries_call}
 use Rattle.afp_server.specs.lemma.Serving.{point}
-use Rattle.afp_server.proofs.FrameSteps.{frame_is, next, frame-goes_on, frame-less, frame-ends, frame-unwritten}
+use Rattle.afp_server.proofs.FrameSteps.{next, frame-goes_on, frame-less, frame-ends, frame-unwritten}
 use Rattle.afp_server.proofs.Passing.{called-is}
 use Rattle.afp_server.proofs.Serving.{ends-uncopied}
 use Rattle.afp_server.proofs.frames.serve_frame.Goals as goal
@@ -19,7 +20,7 @@ returns-then-not-send_all-clause-serves g c = λ start cost block s.
     frame-unwritten start cost c.args.deframer.now (g.L.Link.link_state c.args.link.now) (g.L.Link.link_state c.send_all.new.link) c.args.session.now c.handle.new.self _ _ w.0 h.0 c.reply.result.now
     (g.G.Gate.passed c.args.log.now) (g.G.Gate.passed c.handle.new.log) _
     (next start cost c.args.deframer.now (g.L.Link.link_state c.args.link.now) c.args.session.now c.handle.new.self _ _ w.0 (frame_of c.args.header.now c.payload.result.now) h.0 c.now.result _ block s w.1
-    (frame_is c.args.header.now c.payload.result.now w.0 w.2 (c.payload.ensures w.0 w.1)) c.now.ensures h.1 h.2)
+    (frame_of-header_of c.args.header.now c.payload.result.now w.0 w.2 (c.payload.ensures w.0 w.1)) c.now.ensures h.1 h.2)
     call c.in-Ok.ensures.passes c.reply.ensures c.if-not-send_all.ensures
 
 pub returns-in-None-clause-less : goal.returns-in-None-clause-less
@@ -34,7 +35,7 @@ returns-in-None-clause-serves g c = λ start cost block s.
     frame-goes_on start cost c.args.deframer.now c.advance.new.self (g.L.Link.link_state c.args.link.now) (g.L.Link.link_state c.send_all.new.link) c.args.session.now c.handle.new.self _ _ w.0 h.0 c.reply.result.now
     (g.G.Gate.passed c.args.log.now) (g.G.Gate.passed c.handle.new.log) (g.G.Gate.passed c.exit_gate.new.log) c.called_link-called.result
     (next start cost c.args.deframer.now (g.L.Link.link_state c.args.link.now) c.args.session.now c.handle.new.self _ _ w.0 (frame_of c.args.header.now c.payload.result.now) h.0 c.now.result _ block s w.1
-    (frame_is c.args.header.now c.payload.result.now w.0 w.2 (c.payload.ensures w.0 w.1)) c.now.ensures h.1 h.2)
+    (frame_of-header_of c.args.header.now c.payload.result.now w.0 w.2 (c.payload.ensures w.0 w.1)) c.now.ensures h.1 h.2)
     call (passes ∙ ap (λ (o : Option LinkNumber). with_entered (g.G.Gate.passed c.args.log.now) o) (sym c.called_link-called.ensures)) c.exit_gate.ensures
     c.reply.ensures c.if-not-send_all.ensures (sym h.3 ∙ c.in-None.is) c.advance.ensures
 
@@ -47,7 +48,7 @@ returns-in-Some-clause-serves g c = λ start cost block s.
     frame-ends start cost c.args.deframer.now (g.L.Link.link_state c.args.link.now) (g.L.Link.link_state c.send_all.new.link) c.args.session.now c.handle.new.self _ _ w.0 h.0 c.reply.result.now c.in-Some.end c.place.result c.link_end.result
     (g.G.Gate.passed c.args.log.now) (g.G.Gate.passed c.handle.new.log) (g.G.Gate.passed c.exit_gate.new.log) c.called_link-called.result
     (next start cost c.args.deframer.now (g.L.Link.link_state c.args.link.now) c.args.session.now c.handle.new.self _ _ w.0 (frame_of c.args.header.now c.payload.result.now) h.0 c.now.result _ block s w.1
-    (frame_is c.args.header.now c.payload.result.now w.0 w.2 (c.payload.ensures w.0 w.1)) c.now.ensures h.1 h.2)
+    (frame_of-header_of c.args.header.now c.payload.result.now w.0 w.2 (c.payload.ensures w.0 w.1)) c.now.ensures h.1 h.2)
     call (passes ∙ ap (λ (o : Option LinkNumber). with_entered (g.G.Gate.passed c.args.log.now) o) (sym c.called_link-called.ensures)) c.exit_gate.ensures
     c.reply.ensures c.if-not-send_all.ensures (sym h.3 ∙ c.in-Some.is) c.place.ensures.place c.link_end.ensures
 
