@@ -1,5 +1,5 @@
 -- Turns, and the histories that a core stands for.
-use Rattle.std.proofs.Common.{◌≡◌, ◌∙◌, ap, sym, refl, subst, ℕ, zero, suc, ◌==◌, ◌+◌, Bool, true, false, ◌&&◌, cond, List, [], ◌∷◌, ◌++◌, length, count_by, nat_lt, arith, length-append, Option, Some, None}
+use Rattle.std.proofs.Common.{◌≡◌, ◌∙◌, ap, sym, refl, subst, ℕ, zero, suc, ◌==◌, ◌+◌, Bool, true, false, ◌&&◌, cond, List, [], ◌∷◌, ◌++◌, length, count_by, nat_lt, ◌<◌, arith, length-append, Option, Some, None}
 use Rattle.std.specs.List.{list_all}
 use Rattle.std.specs.Prelude.{Ok, slice_get, sum}
 use Rattle.std.proofs.lemmas.Bool.{and_from, and_parts, ltb-true, ne_eqb, true≢false}
@@ -173,16 +173,18 @@ fault_count (Some index) = 1
 
 sums-rise : (index : Option ℕ) (olds news : List ℕ) → KeepersRise index olds news → Rises (fault_count index) (sum olds) (sum news)
 unfolding fault_count
-sums-rise None [] [] k = (omega arith, omega arith)
-sums-rise (Some index) [] [] k = absurd k
-sums-rise None [] (b ∷ news) k = absurd k
-sums-rise (Some index) [] (b ∷ news) k = absurd k
-sums-rise None (a ∷ olds) [] k = absurd k
+sums-rise None olds news k = let same : sum news ≡ sum olds = ap sum k in (omega (arith, same), omega (arith, same))
+sums-rise (Some index) [] news k = absurd k
 sums-rise (Some zero) (a ∷ olds) [] k = absurd k
 sums-rise (Some (suc index)) (a ∷ olds) [] k = absurd k
-sums-rise None (a ∷ olds) (b ∷ news) k = let rest = sums-rise None olds news k.1 in (omega (arith, sum_by-cons (λ (n : ℕ). n) a olds, sum_by-cons (λ (n : ℕ). n) b news, k.0.0, rest.0), omega (arith, sum_by-cons (λ (n : ℕ). n) a olds, sum_by-cons (λ (n : ℕ). n) b news, k.0.0, rest.0))
-sums-rise (Some zero) (a ∷ olds) (b ∷ news) k = let rest = sums-rise None olds news k.1 in (omega (arith, sum_by-cons (λ (n : ℕ). n) a olds, sum_by-cons (λ (n : ℕ). n) b news, k.0.0, k.0.1, rest.0), omega (arith, sum_by-cons (λ (n : ℕ). n) a olds, sum_by-cons (λ (n : ℕ). n) b news, k.0.0, k.0.1, rest.0))
-sums-rise (Some (suc index)) (a ∷ olds) (b ∷ news) k = let rest = sums-rise (Some index) olds news k.1 in (omega (arith, sum_by-cons (λ (n : ℕ). n) a olds, sum_by-cons (λ (n : ℕ). n) b news, k.0.0, rest.0), omega (arith, sum_by-cons (λ (n : ℕ). n) a olds, sum_by-cons (λ (n : ℕ). n) b news, k.0.0, rest.0, rest.1))
+sums-rise (Some zero) (a ∷ olds) (b ∷ news) k =
+    let same : sum news ≡ sum olds = ap sum k.1 in
+    let less : a < b = k.0 in
+    (omega (arith, sum_by-cons (λ (n : ℕ). n) a olds, sum_by-cons (λ (n : ℕ). n) b news, same, less), omega (arith, sum_by-cons (λ (n : ℕ). n) a olds, sum_by-cons (λ (n : ℕ). n) b news, same, less))
+sums-rise (Some (suc index)) (a ∷ olds) (b ∷ news) k =
+    let same : b ≡ a = k.0 in
+    let rest = sums-rise (Some index) olds news k.1 in
+    (omega (arith, sum_by-cons (λ (n : ℕ). n) a olds, sum_by-cons (λ (n : ℕ). n) b news, same, rest.0), omega (arith, sum_by-cons (λ (n : ℕ). n) a olds, sum_by-cons (λ (n : ℕ). n) b news, same, rest.0, rest.1))
 
 -- a fault of an entry that is legal raises the sum
 fault-counted : (index : Option ℕ) (o : Outcome) → is_legal_outcome index o ≡ true → fault_count (failed_keeper index o) ≡ fault_of o
@@ -202,15 +204,11 @@ turn-faults c d e told t =
 
 -- what became of the keepers since a start
 rise-many : (index : Option ℕ) (olds news : List ℕ) → KeepersRise index olds news → length news ≡ length olds
-rise-many None [] [] k = refl
-rise-many (Some index) [] [] k = absurd k
-rise-many None [] (b ∷ news) k = absurd k
-rise-many (Some index) [] (b ∷ news) k = absurd k
-rise-many None (a ∷ olds) [] k = absurd k
+rise-many None olds news k = ap length k
+rise-many (Some index) [] news k = absurd k
 rise-many (Some zero) (a ∷ olds) [] k = absurd k
 rise-many (Some (suc index)) (a ∷ olds) [] k = absurd k
-rise-many None (a ∷ olds) (b ∷ news) k = ap suc (rise-many None olds news k.1)
-rise-many (Some zero) (a ∷ olds) (b ∷ news) k = ap suc (rise-many None olds news k.1)
+rise-many (Some zero) (a ∷ olds) (b ∷ news) k = ap (λ (l : List ℕ). suc (length l)) k.1
 rise-many (Some (suc index)) (a ∷ olds) (b ∷ news) k = ap suc (rise-many (Some index) olds news k.1)
 
 some-true : (s : Bool) → Some s ≡ Some true → s ≡ true

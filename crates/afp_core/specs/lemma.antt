@@ -1,4 +1,3 @@
 pub mod Places
 pub mod ServerState
-pub mod Telling
 pub mod Turn

@@ -27,8 +27,7 @@ pub struct ListTeller<K: Keeper> {
 }
 
 impl<K: Keeper> ListTeller<K> {
-    ghost use Rattle.afp_core.specs.Telling.{start_of, core_of, history_of};
-    ghost use Rattle.afp_core.specs.lemma.Telling.{shown_of};
+    ghost use Rattle.afp_core.specs.Telling.{start_of, core_of, history_of, shown_of};
 
     /// A teller that begins at the core's world, with no history.
     pub fn new(alloc: Global, core: Core<K>) -> ListTeller<K>
@@ -72,8 +71,7 @@ impl<K: Keeper> ListTeller<K> {
 impl<K: Keeper> Teller for ListTeller<K> {
     ghost use Rattle.std.specs.Prelude.{length};
     ghost use Rattle.afp_core.specs.lemma.Places.{upto-within};
-    ghost use Rattle.afp_core.specs.Telling.{start_of};
-    ghost use Rattle.afp_core.specs.lemma.Telling.{shown_of};
+    ghost use Rattle.afp_core.specs.Telling.{start_of, shown_of};
 
     /// The core as it was at the start.
     type Fixed = Core<K>;

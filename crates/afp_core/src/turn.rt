@@ -58,7 +58,7 @@ impl<K: Keeper> Core<K> {
             return Err(CoreFault::Count);
         }
         moment_in_range(now);
-        let kept = load_all(alloc, house.volumes(), keepers, now)?;
+        let kept = load_all(alloc, house, keepers, now)?;
         match house.copy(alloc) {
             Ok(house) => Ok(Core {
                 state: State::new(alloc, house, kept, now),

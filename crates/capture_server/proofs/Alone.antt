@@ -5,8 +5,7 @@ use Rattle.std.specs.Prelude.{slice_get}
 use Rattle.afp_core.specs.Places.{upto}
 use Rattle.afp_core.specs.ServerState.{ServerState}
 use Rattle.afp_core.specs.Sureness.{SureKept}
-use Rattle.afp_core.specs.Telling.{start_of, core_of}
-use Rattle.afp_core.specs.lemma.Telling.{shown_of}
+use Rattle.afp_core.specs.Telling.{start_of, core_of, shown_of}
 use Rattle.afp_core.specs.declared.list_teller.ListTeller.{ListTeller}
 use Rattle.afp_serial.specs.Shown.{Shown}
 use Rattle.capture_server.specs.lemma.Tellers.{NeverFails}

@@ -1,7 +1,6 @@
 //! One connection of a capture.
 ghost use Rattle.std.specs.Prelude.{◌≡◌, ◌≢◌, ◌+◌, ◌^◌, ◌<◌, ◌≤◌, List, ℕ, false, None, Some, IfOk, OnOk, length, drop};
-ghost use Rattle.afp_core.specs.Telling.{start_of};
-ghost use Rattle.afp_core.specs.lemma.Telling.{shown_of};
+ghost use Rattle.afp_core.specs.Telling.{start_of, shown_of};
 ghost use Rattle.afp_serial.specs.StatusBlock.{status_block};
 ghost use Rattle.afp_serial.specs.declared.ask.Told.{Told};
 ghost use Rattle.capture_server.specs.lemma.Moves.{wire_or};

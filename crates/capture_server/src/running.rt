@@ -34,8 +34,7 @@ pub struct Running<K: Keeper> {
 }
 
 impl<K: Keeper> Model for Running<K> {
-    ghost use Rattle.afp_core.specs.Telling.{start_of};
-    ghost use Rattle.afp_core.specs.lemma.Telling.{shown_of};
+    ghost use Rattle.afp_core.specs.Telling.{start_of, shown_of};
     ghost use Rattle.capture_server.specs.States.{RunningState};
     ghost use Rattle.capture_server.specs.lemma.Tellers.{NeverFails};
 

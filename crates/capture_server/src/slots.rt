@@ -1,7 +1,6 @@
 //! Connections by their places.
 ghost use Rattle.std.specs.Prelude.{◌≡◌, ◌<◌, Some, length, slice_get, IfOk, OnOk};
-ghost use Rattle.afp_core.specs.Telling.{start_of};
-ghost use Rattle.afp_core.specs.lemma.Telling.{shown_of};
+ghost use Rattle.afp_core.specs.Telling.{start_of, shown_of};
 ghost use Rattle.afp_serial.specs.StatusBlock.{status_block};
 ghost use Rattle.capture_server.specs.lemma.Slots.{FeedsAt, IdlesAt, LosesAt, ComparesAt, IsFit};
 ghost use Rattle.capture_server.specs.lemma.Tellers.{NeverFails};

@@ -1,16 +1,19 @@
 -- Loads of volumes, one after the other.
-use Rattle.std.proofs.Common.{◌≡◌, ◌∙◌, ap, sym, refl, subst, ℕ, zero, suc, ◌+◌, ◌<◌, ◌≤◌, Bool, true, List, [], ◌∷◌, ◌++◌, length, length-append, map, take, drop, get_or, Option, Some, arith}
-use Rattle.std.specs.Prelude.{All, bytes_eq, slice_get}
+use Rattle.std.proofs.Common.{◌≡◌, ◌∙◌, ap, sym, refl, subst, ℕ, zero, suc, ◌+◌, ◌<◌, ◌≤◌, Bool, true, List, [], ◌∷◌, ◌++◌, length, length-append, map, take, drop, get_or, Option, Some, None, arith}
+use Rattle.std.specs.Prelude.{All, bytes_eq, slice_get, slice_index_or}
 use Rattle.std.specs.Cmp.Lexicographic.{pointwise}
 use Rattle.std.specs.List.{list_all}
-use Rattle.std.proofs.lemmas.List.{length-map, take_more}
+use Rattle.std.proofs.lemmas.List.{length-drop, length-map, take_more}
 use Rattle.std.proofs.lemmas.Bool.{and_from, leb-true}
 use Rattle.std.proofs.lemmas.List.Elements.{All-cons}
 use Rattle.std.proofs.lemmas.Option.{get_or_from_slice_get, slice_get-get_or, slice_get_within}
 use Rattle.std.proofs.lemmas.Slice.Eq.{bytes_eq-Decides}
+use Rattle.afp_names.specs.Name.{name_fault}
 use Rattle.afp_volume.specs.SoundVolume.{IsSoundVolume}
 use Rattle.afp_volume.specs.TypedVolume.{is_typed_volume}
+use Rattle.afp_serial.proofs.FreshWorld.{printable-name}
 use Rattle.afp_serial.proofs.SoundParts.{limits-parts}
+use Rattle.afp_serial.specs.Faultless.{IsFaultless}
 use Rattle.afp_serial.specs.Household.{Household}
 use Rattle.afp_serial.specs.Limits.{most_volumes}
 use Rattle.afp_serial.specs.Sound.{IsSound, ServesVolumes}
@@ -29,6 +32,15 @@ first-left [] ys zero d is some = absurd (omega (arith, ap length is, some))
 first-left [] ys (suc i) d is some = absurd (omega (arith, ap length is, some))
 first-left (x ∷ xs) ys zero d is some = ap Some (sym (ap (λ l. get_or l 0 d) is))
 first-left (x ∷ xs) ys (suc i) d is some = first-left xs ys i d is some
+
+-- where something is left of a list, as many are gone as one that stands there
+pub left-within : {K : Type 0} → (xs ys : List K) (i many : ℕ) → ys ≡ drop i xs → 0 < length ys → length xs ≡ many → i < many
+left-within xs ys i many is some same = omega (arith, ap length is, length-drop i xs, some, same)
+
+-- the names of a house's volumes are names
+pub volumes-named : (house : Household) (names : List (List ℕ)) → names ≡ house.volumes → IsFaultless house → All (λ (name : List ℕ). name_fault name ≡ None) names
+volumes-named house names is has =
+    subst (λ (l : List (List ℕ)). All (λ (name : List ℕ). name_fault name ≡ None) l) (sym is) (λ k d within. printable-name (slice_index_or house.volumes k d) (has.volume_names k d within))
 
 -- there are few volumes
 pub few-volumes : (w : World) (kept : List KeptState) → IsSound w → volumes_of kept ≡ w.volumes → length kept ≤ most_volumes

@@ -1,5 +1,6 @@
 //! The volumes of a house, from their keepers.
-ghost use Rattle.std.specs.Prelude.{◌≡◌, ◌++◌, ◌∷◌, [], IfOk, IfErr, IfSome, OnOk, length};
+ghost use Rattle.std.specs.Prelude.{◌≡◌, ◌++◌, ◌∷◌, [], All, IfOk, IfErr, IfSome, None, OnOk, length};
+ghost use Rattle.afp_names.specs.Name.{name_fault};
 ghost use Rattle.kept_volume.specs.Loading.{IsLoadedFrom, IsLoadedVolume};
 ghost use Rattle.record_keeper.specs.Records.{Records};
 ghost use Rattle.core_keepers.specs.Loads.{IsCoreFault, LoadEach};
@@ -7,20 +8,37 @@ ghost use Rattle.core_keepers.specs.lemma.Loads.{IsFaultAt};
 
 use crate::core_fault::CoreFault;
 use afp_base::{Bytes, Moment, OutOfMemory};
-use afp_names::Name;
+use afp_names::{Name, NameFault};
+use afp_serial::House;
 use kept_volume::{KeptVolume, LoadFault};
 use record_keeper::Keeper;
 use std::alloc::Global;
 
-/// Loads the volumes of these names, each from its keeper. An error is that of the first load that gave none, or `Memory`;
-/// that is also the answer where a text is no name, which the names of a house all are.
+/// Loads the volumes of a house, in its order, each from its keeper. An error is that of the first load that gave none, or
+/// `Memory`.
 pub fn load_all<K: Keeper>(
+    alloc: Global,
+    house: &House,
+    keepers: Vec<K>,
+    now: Moment,
+) -> Result<Vec<KeptVolume<K>>, CoreFault>
+    requires { length keepers.items ≡ length house.now.volumes }
+    ensures loaded { IfOk result (λ kept. LoadEach K.records K.sure K.faults now house.now.volumes keepers.items kept.items) }
+    ensures fault { IfErr result (λ fault. IsCoreFault K.records K.sure K.faults now house.now.volumes keepers.items fault) }
+{
+    let names = house.volumes();
+    load_named(alloc, names, keepers, now)
+}
+
+/// The same by the volumes' names.
+fn load_named<K: Keeper>(
     alloc: Global,
     names: &[Bytes],
     keepers: Vec<K>,
     now: Moment,
 ) -> Result<Vec<KeptVolume<K>>, CoreFault>
-    requires { length keepers.items ≡ length names.now }
+    requires same { length keepers.items ≡ length names.now }
+    requires named { All (λ name. name_fault name ≡ None) names.now }
     ensures loaded { IfOk result (λ kept. LoadEach K.records K.sure K.faults now names.now keepers.items kept.items) }
     ensures fault { IfErr result (λ fault. IsCoreFault K.records K.sure K.faults now names.now keepers.items fault) }
 {
@@ -60,12 +78,12 @@ fn load_one<K: Keeper>(
     now: Moment,
     index: usize,
 ) -> Result<KeptVolume<K>, CoreFault>
+    requires { name_fault name.now ≡ None }
     ensures loaded { IfOk result (λ kept. IsLoadedVolume name.now now (K.records keeper) (K.sure keeper) (K.faults keeper) kept) }
     ensures from { IfOk result (λ kept. IfSome (K.records keeper) (λ (held : Records). IsLoadedFrom name.now held kept.state)) }
     ensures fault { IfErr result (λ fault. IsFaultAt index name.now (K.records keeper) (K.sure keeper) fault) }
 {
-    // The names of a house's volumes are names, so there was no memory.
-    let Ok(name) = Name::new(alloc, name.as_slice()) else {
+    let Ok(name) = name_of(alloc, name) else {
         return Err(CoreFault::Memory);
     };
     match KeptVolume::load(alloc, keeper, name.as_str(), now) {
@@ -79,5 +97,19 @@ fn load_one<K: Keeper>(
             fault: LoadFault::Failed,
         }),
         Err(LoadFault::Memory) => Err(CoreFault::Memory),
+    }
+}
+
+/// The name that these bytes are.
+fn name_of(alloc: Global, bytes: &Bytes) -> Result<Name, OutOfMemory>
+    requires { name_fault bytes.now ≡ None }
+    ensures { IfOk result (λ name. name ≡ bytes.now) }
+{
+    match Name::new(alloc, bytes.as_slice()) {
+        Ok(name) => Ok(name),
+        Err(fault) => match fault {
+            NameFault::Memory => Err(OutOfMemory),
+            _ => unreachable!(),
+        },
     }
 }

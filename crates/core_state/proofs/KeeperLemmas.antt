@@ -6,16 +6,12 @@ use Rattle.afp_volume.specs.VolumeState.{VolumeState}
 use Rattle.kept_volume.specs.Kept.{KeptState}
 use Rattle.afp_serial.specs.declared.ask.Outcome.TheVariants as outcome
 use Rattle.afp_serial.specs.declared.ask.Told.{Told}
-use Rattle.core_state.specs.KeeperFaults.{KeepersRise, SureStand}
+use Rattle.core_state.specs.KeeperFaults.{SureStand}
 use Rattle.core_state.specs.KeptWorld.{KeptWorld, volumes_of, kept_world}
 use Rattle.core_state.specs.OnVolumes.{BecomesKept, IsKeptAt, with_kept}
 use Rattle.core_state.specs.Running.{IsOutcomeOf}
 
 -- nothing
-pub rise-same : (xs : List ℕ) → KeepersRise None xs xs
-rise-same [] = tt
-rise-same (x ∷ xs) = ((omega arith, omega arith), rise-same xs)
-
 pub stand-same : (sure : List Bool) (xs : List ℕ) → SureStand sure xs xs
 stand-same [] xs = tt
 stand-same (s ∷ rest) [] = tt
@@ -28,7 +24,7 @@ outcome-done old new want after next index told tells is becomes = record {
   legal = refl;
   serial = tells;
   world = ap (λ (k : KeptWorld). k.world) is ∙ becomes;
-  keepers = subst (λ (xs : List ℕ). KeepersRise None old.faults xs) (sym (ap (λ (k : KeptWorld). k.faults) is)) (rise-same old.faults);
+  keepers = ap (λ (k : KeptWorld). k.faults) is;
   stand = subst (λ (xs : List ℕ). SureStand old.sure old.faults xs) (sym (ap (λ (k : KeptWorld). k.faults) is)) (stand-same old.sure old.faults);
   sure = ap (λ (k : KeptWorld). k.sure) is;
 }

@@ -19,7 +19,7 @@ use Rattle.core_state.specs.OnVolumes.{BecomesKept, IsKeptAt, IsOpen, IsOpenAt, 
 use Rattle.core_state.specs.KeptWorld.{KeptWorld}
 use Rattle.core_state.specs.SessionList.{session_of}
 use Rattle.core_state.specs.Running.{IsOutcomeOf}
-use Rattle.core_state.proofs.KeeperLemmas.{rise-same, volume_at-index}
+use Rattle.core_state.proofs.KeeperLemmas.{volume_at-index}
 use Rattle.kept_volume.specs.Changing.{FailsIn}
 use Rattle.kept_volume.specs.Kept.{KeptState}
 
@@ -46,8 +46,8 @@ set-same (x ∷ xs) (suc i) a h = ap (λ ys. x ∷ ys) (set-same xs i a h)
 
 rise-set : (xs : List ℕ) (i a b : ℕ) → slice_get xs i ≡ Some a → a < b → KeepersRise (Some i) xs (slice_set xs i b)
 rise-set [] i a b h less = cc
-rise-set (x ∷ xs) zero a b h less = let same : x ≡ a = some-is x a h in ((omega arith, omega arith), rise-same xs)
-rise-set (x ∷ xs) (suc i) a b h less = ((omega arith, omega arith), rise-set xs i a b h less)
+rise-set (x ∷ xs) zero a b h less = let same : x ≡ a = some-is x a h in (omega (arith, same, less), refl)
+rise-set (x ∷ xs) (suc i) a b h less = (refl, rise-set xs i a b h less)
 
 stand-set : (sure : List Bool) (xs : List ℕ) (i b : ℕ) → slice_get sure i ≡ Some false → SureStand sure xs (slice_set xs i b)
 stand-set [] xs i b h = tt

@@ -27,7 +27,7 @@ pub record IsReady (w : World) : Type 0 where
   pub few : length w.opens < most_opens
 
 -- An outcome that may come where this keeper or none is committed to, with what is told then, the next world, and what became of the
--- keepers' counts: a fault is one that this keeper counted.
+-- keepers' counts: a fault is one that this keeper counted, and no other count changes.
 pub record IsOutcomeOf (want : Told) (after : World) (index : Option ℕ) (o : Outcome) (told : Told) (old next : KeptWorld) : Type 0 where
   pub legal : is_legal_outcome index o ≡ true
   pub serial : told ≡ want

@@ -1,6 +1,6 @@
 use Rattle.std.proofs.Common.{sym, ap, ◌∙◌}
 use Rattle.afp_core.specs.ServerState.{ServerState}
-use Rattle.afp_core.specs.lemma.Telling.{shown_of}
+use Rattle.afp_core.specs.Telling.{shown_of}
 use Rattle.afp_server.specs.declared.tally.Tally.{Tally}
 use Rattle.capture_server.proofs.Alone.{alone, alone-after}
 use Rattle.capture_server.proofs.Feeding.{at_none, fed_wire, not_false}

@@ -1,27 +1,16 @@
-use Rattle.std.proofs.Common.{rules, ◌≡◌, ◌<◌, ◌++◌, ◌∷◌, [], ℕ, get_or, length, subst}
-use Rattle.core_keepers.specs.lemma.Loads.{IsFaultAt}
-use Rattle.core_keepers.proofs.LoadLemmas.{load-next, load-stops-first, rest-next}
+use Rattle.std.proofs.Common.{ap, subst, length, List, ℕ, ◌∙◌, sym}
+use Rattle.std.specs.Prelude.{IfErr, IfOk}
+use Rattle.core_keepers.specs.Loads.{IsCoreFault, LoadEach}
+use Rattle.core_keepers.proofs.LoadLemmas.{volumes-named}
 use Rattle.core_keepers.proofs.loading.load_all.Goals as goal
 
-pub returns-in-Err-clause-fault : goal.returns-in-Err-clause-fault
-returns-in-Err-clause-fault g c =
-    let some : 0 < length c.loop-alloc.keepers.items = search rules in
-    let index : c.len-index.result ≡ length c.loop-alloc.kept.items = search rules in
-    load-stops-first g.K.Keeper.records g.K.Keeper.sure g.K.Keeper.faults c.args.now (length c.loop-alloc.kept.items) c.args.names.now c.args.keepers.items c.loop-alloc.keepers.items c.loop-alloc.kept.items
-    c.index-names-index.result c.remove-keeper.result c.remove-keeper.result c.in-Err.fault
-    c.loop-alloc.invariant.same c.loop-alloc.invariant.loaded c.loop-alloc.invariant.rest some
-    (subst (λ (n : ℕ). c.index-names-index.result ≡ get_or c.args.names.now n c.index-names-index.result) index c.index-names-index.is) c.remove-keeper.ensures.value
-    (subst (λ (n : ℕ). IsFaultAt n c.index-names-index.result (g.K.Keeper.records c.remove-keeper.result) (g.K.Keeper.sure c.remove-keeper.result) c.in-Err.fault) index c.in-Err.ensures.fault)
+pub load_named-requires-clause-named : goal.load_named-requires-clause-named
+load_named-requires-clause-named g c = volumes-named c.args.house.now c.volumes-names.result.now c.volumes-names.ensures.value c.volumes-names.ensures.sound
 
-pub loop-alloc-preserved : goal.loop-alloc-preserved
-loop-alloc-preserved g c =
-    let some : 0 < length c.loop-alloc.keepers.items = search rules in
-    let index : c.len-index.result ≡ length c.loop-alloc.kept.items = search rules in
-    let becomes : c.push_kept.new.kept.items ≡ c.loop-alloc.kept.items ++ c.in-Ok.one ∷ [] = search rules in
-    record {
-      same = c.loop-alloc.invariant.same;
-      rest = rest-next c.args.keepers.items c.loop-alloc.keepers.items c.remove-keeper.new.self.items c.loop-alloc.kept.items c.push_kept.new.kept.items c.in-Ok.one c.loop-alloc.invariant.rest c.remove-keeper.ensures.items becomes;
-      loaded = load-next g.K.Keeper.records g.K.Keeper.sure g.K.Keeper.faults c.args.now c.args.names.now c.args.keepers.items c.loop-alloc.keepers.items c.loop-alloc.kept.items c.push_kept.new.kept.items
-          c.index-names-index.result c.remove-keeper.result c.remove-keeper.result c.in-Ok.one c.loop-alloc.invariant.same c.loop-alloc.invariant.loaded c.loop-alloc.invariant.rest some
-          (subst (λ (n : ℕ). c.index-names-index.result ≡ get_or c.args.names.now n c.index-names-index.result) index c.index-names-index.is) c.remove-keeper.ensures.value (c.in-Ok.ensures.loaded, c.in-Ok.ensures.from) becomes;
-    }
+pub returns-clause-loaded : goal.returns-clause-loaded
+returns-clause-loaded g c =
+    subst (λ (l : List (List ℕ)). IfOk c.load_named.result (λ kept. LoadEach g.K.Keeper.records g.K.Keeper.sure g.K.Keeper.faults c.args.now l c.args.keepers.items kept.items)) c.volumes-names.ensures.value c.load_named.ensures.loaded
+
+pub returns-clause-fault : goal.returns-clause-fault
+returns-clause-fault g c =
+    subst (λ (l : List (List ℕ)). IfErr c.load_named.result (λ fault. IsCoreFault g.K.Keeper.records g.K.Keeper.sure g.K.Keeper.faults c.args.now l c.args.keepers.items fault)) c.volumes-names.ensures.value c.load_named.ensures.fault

@@ -14,7 +14,7 @@ invariant_of-result g c =
     let house : Household = c.in-Ok.house in
     let none : house_fault house ≡ None = ap house_fault c.in-Ok.ensures.value ∙ c.in-Ok.ensures.faultless in
     let typed : is_typed_house house ≡ true = ap is_typed_house c.in-Ok.ensures.value ∙ c.in-Ok.ensures.typed in
-    let names = c.volumes-2.ensures.value ∙ ap (λ (h : Household). h.volumes) (sym c.in-Ok.ensures.value) in
+    let names = ap (λ (h : Household). h.volumes) (sym c.in-Ok.ensures.value) in
     let loads = subst (λ (l : List (List ℕ)). LoadEach g.K.Keeper.records g.K.Keeper.sure g.K.Keeper.faults c.args.now l c.args.keepers.items c.in_ok-kept.kept.items) names c.in_ok-kept.ensures.loaded in
     subst (λ (k : KeptWorld). IsSound k.world) (sym c.new.ensures)
     (start-sound house c.args.now (volumes_of c.in_ok-kept.kept.items) none typed c.moment_in_range.ensures

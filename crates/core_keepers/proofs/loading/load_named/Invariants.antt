@@ -1,6 +1,6 @@
 use Rattle.std.proofs.Common.{◌≡◌, length, take, drop, vec_len}
 use Rattle.core_keepers.specs.Loads.{LoadEach}
-use Rattle.core_keepers.proofs.loading.load_all.Given as goal
+use Rattle.core_keepers.proofs.loading.load_named.Given as goal
 
 abbrev pub invariant-loop-alloc : goal.invariant-loop-alloc
 invariant-loop-alloc g l = record {
