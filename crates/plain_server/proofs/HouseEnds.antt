@@ -98,13 +98,13 @@ module _ {L P K : Type 0} (state : L → LinkState) (passed : P → Passed) (kep
   core-ends (plain.Served counts) e = (e.0, core-serves doors.Done e.0 e.1, core-counts e.0 counts e.2)
 
 -- the same for the words
-pub words-end : {L P K : Type 0} → (state : L → LinkState) (passed : P → Passed) (kept_by : Keeping K) (words : List (List ℕ)) (keepers : List K) (key : List ℕ) (clock : Option ℕ) (old new : DoorState L) (spoken : WordValues) (end : PlainEnd)
-    → Asks words key spoken → EndsHouse state passed kept_by (house_of spoken key) keepers spoken.links clock old new end → EndsPlain state passed kept_by words keepers key clock old new end
-words-end state passed kept_by words keepers key clock old new spoken plain.Refused asks e =
-    (λ other others same. e.0 (same ∙ ap (λ (h : Household). length h.volumes) (one_house words key other spoken others.words_are asks.words_are)), e.1)
-words-end state passed kept_by words keepers key clock old new spoken plain.Memory asks (inl same) = inl same
-words-end state passed kept_by words keepers key clock old new spoken plain.Memory asks (inr e) = inr (e.0, record { spoken = spoken; asks = asks; serves = e.1 })
-words-end state passed kept_by words keepers key clock old new spoken (plain.BadRecord index hex reason) asks e = (e.0, (e.1.0, e.1.1, record { spoken = spoken; asks = asks; fails = e.1.2 }))
-words-end state passed kept_by words keepers key clock old new spoken (plain.LoadFailed index) asks e = (e.0, record { spoken = spoken; asks = asks; fails = e.1 })
-words-end state passed kept_by words keepers key clock old new spoken (plain.DoorFailed counts) asks e = (e.0, record { spoken = spoken; asks = asks; serves = e.1 }, e.2)
-words-end state passed kept_by words keepers key clock old new spoken (plain.Served counts) asks e = (e.0, record { spoken = spoken; asks = asks; serves = e.1 }, e.2)
+pub words-end : {L P K : Type 0} → (state : L → LinkState) (passed : P → Passed) (kept_by : Keeping K) (words : List (List ℕ)) (keepers : List K) (key : List ℕ) (clock : Option ℕ) (old new : DoorState L) (values : WordValues) (end : PlainEnd)
+    → Asks words key values → EndsHouse state passed kept_by (house_of values key) keepers values.links clock old new end → EndsPlain state passed kept_by words keepers key clock old new end
+words-end state passed kept_by words keepers key clock old new values plain.Refused asks e =
+    (λ other others same. e.0 (same ∙ ap (λ (h : Household). length h.volumes) (one_house words key other values others.words_are asks.words_are)), e.1)
+words-end state passed kept_by words keepers key clock old new values plain.Memory asks (inl same) = inl same
+words-end state passed kept_by words keepers key clock old new values plain.Memory asks (inr e) = inr (e.0, record { values = values; asks = asks; serves = e.1 })
+words-end state passed kept_by words keepers key clock old new values (plain.BadRecord index hex reason) asks e = (e.0, (e.1.0, e.1.1, record { values = values; asks = asks; fails = e.1.2 }))
+words-end state passed kept_by words keepers key clock old new values (plain.LoadFailed index) asks e = (e.0, record { values = values; asks = asks; fails = e.1 })
+words-end state passed kept_by words keepers key clock old new values (plain.DoorFailed counts) asks e = (e.0, record { values = values; asks = asks; serves = e.1 }, e.2)
+words-end state passed kept_by words keepers key clock old new values (plain.Served counts) asks e = (e.0, record { values = values; asks = asks; serves = e.1 }, e.2)

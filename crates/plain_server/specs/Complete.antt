@@ -17,8 +17,8 @@ use Rattle.plain_server.specs.Words.{WordValues}
 -- The law: where the words ask for a house that is taken, of as many volumes as there are keepers, and neither the door's count of
 -- faults nor the report's rose or stands at its last number, the status is 0, or 6 for want of memory, or 3 for a keeper whose records are no volume's.
 abbrev pub ServesGoodWords : {L P K : Type 0} → (L → LinkState) → (P → Passed) → Keeping K → Type 0
-ServesGoodWords {L} {P} {K} state passed kept_by = (words : List (List ℕ)) (keepers : List K) (key : List ℕ) (clock : Option ℕ) (spoken : WordValues) (old new : DoorState L) (before after : SinkState) (status : ℕ)
-    → IsPlainRun state passed kept_by words keepers key clock old new before after status → Asks words key spoken → length keepers ≡ length (house_of spoken key).volumes
+ServesGoodWords {L} {P} {K} state passed kept_by = (words : List (List ℕ)) (keepers : List K) (key : List ℕ) (clock : Option ℕ) (values : WordValues) (old new : DoorState L) (before after : SinkState) (status : ℕ)
+    → IsPlainRun state passed kept_by words keepers key clock old new before after status → Asks words key values → length keepers ≡ length (house_of values key).volumes
     → new.faults ≡ old.faults → old.faults < last_count → after.faults ≡ before.faults → before.faults < last_count → (status ≡ 0) ⊎ ((status ≡ 3) ⊎ (status ≡ 6))
 
 -- The law: where links were served by a house whose keepers are all sure, and whose counts stand below the last number, no ask met a fault.

@@ -4,6 +4,6 @@ pub mod Links
 pub mod Plain
 pub mod Reporting
 pub mod Setup
-pub mod Spoken
+pub mod WordValues
 pub mod Words
 pub mod lemma

@@ -33,13 +33,13 @@ abbrev pub house_of : WordValues → List ℕ → Household
 house_of s key = household s.server s.signature [] s.volumes [] key
 
 -- the words ask for a house that is taken
-pub record Asks (words : List (List ℕ)) (key : List ℕ) (spoken : WordValues) : Type 0 where
-  pub words_are : IsWords words spoken
-  pub house_is : house_fault (house_of spoken key) ≡ None
+pub record Asks (words : List (List ℕ)) (key : List ℕ) (values : WordValues) : Type 0 where
+  pub words_are : IsWords words values
+  pub house_is : house_fault (house_of values key) ≡ None
 
 -- the words are others, or the house that they ask for is refused, or the number of keepers is not that of its volumes
 abbrev pub IsRefused : List (List ℕ) → List ℕ → ℕ → Type 0
-IsRefused words key many = (spoken : WordValues) → Asks words key spoken → many ≡ length (house_of spoken key).volumes → ⊥
+IsRefused words key many = (values : WordValues) → Asks words key values → many ≡ length (house_of values key).volumes → ⊥
 
 -- what a server shows that nobody has asked yet, over a house and the volumes that were loaded at a moment
 abbrev pub before_asks : Household → ℕ → List KeptState → Shown
@@ -71,14 +71,14 @@ pub record FailsToLoad {K : Type 0} (kept_by : Keeping K) (house : Household) (k
 
 -- The same for the words: by the house that they ask for, up to as many links as they say.
 pub record ServesWords {L P K : Type 0} (state : L → LinkState) (passed : P → Passed) (kept_by : Keeping K) (words : List (List ℕ)) (keepers : List K) (key : List ℕ) (clock : Option ℕ) (old : DoorState L) (end : DoorEnd) (new : DoorState L) (shown : Shown) : Type 0 where
-  pub spoken : WordValues
-  pub asks : Asks words key spoken
-  pub serves : ServesHouse state passed kept_by (house_of spoken key) keepers spoken.links clock old end new shown
+  pub values : WordValues
+  pub asks : Asks words key values
+  pub serves : ServesHouse state passed kept_by (house_of values key) keepers values.links clock old end new shown
 
 pub record WordsFailToLoad {K : Type 0} (kept_by : Keeping K) (words : List (List ℕ)) (keepers : List K) (key : List ℕ) (clock : Option ℕ) (index : ℕ) (fault : LoadFault) : Type 0 where
-  pub spoken : WordValues
-  pub asks : Asks words key spoken
-  pub fails : FailsToLoad kept_by (house_of spoken key) keepers clock index fault
+  pub values : WordValues
+  pub asks : Asks words key values
+  pub fails : FailsToLoad kept_by (house_of values key) keepers clock index fault
 
 -- How a run ends, by its answer: the words or the number of keepers are refused; there was no memory, before a link came or for one that came;
 -- the first load that gave no volume; the door failed; or it was closed, or all links were served.

@@ -6,9 +6,9 @@ use Rattle.plain_server.specs.declared.setup.VolumePlace.TheVariants.{Memory}
 
 -- the settings that the words ask for: each volume in memory, the port, one worker and the number of links
 pub record Sets (words : List (List ℕ)) (settings : ServerSettings) : Type 0 where
-  pub spoken : WordValues
-  pub words_are : IsWords words spoken
-  pub places : settings.places.items ≡ map (λ name. Memory) spoken.volumes
-  pub port : settings.port ≡ spoken.port
+  pub values : WordValues
+  pub words_are : IsWords words values
+  pub places : settings.places.items ≡ map (λ name. Memory) values.volumes
+  pub port : settings.port ≡ values.port
   pub workers : settings.workers ≡ 1
-  pub links : settings.links ≡ spoken.links
+  pub links : settings.links ≡ values.links

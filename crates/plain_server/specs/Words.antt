@@ -40,14 +40,14 @@ pub record IsNumberOfLinks (word : List ℕ) (links : ℕ) : Type 0 where
 
 -- The words in their order: the name of the server, 32 hexadecimal digits of the signature, the
 -- port and the number of links in decimal, and volumes in memory, one at least.
-pub record IsWords (words : List (List ℕ)) (spoken : WordValues) : Type 0 where
+pub record IsWords (words : List (List ℕ)) (values : WordValues) : Type 0 where
   pub hex : List ℕ
   pub links : List ℕ
   pub places : List (List ℕ)
-  pub whole : words ≡ codes "--server" ∷ spoken.server ∷ codes "--signature" ∷ hex ∷ codes "--port" ∷ decimal spoken.port
+  pub whole : words ≡ codes "--server" ∷ values.server ∷ codes "--signature" ∷ hex ∷ codes "--port" ∷ decimal values.port
       ∷ codes "--links" ∷ links ∷ places
-  pub signature : decode_sized hex signature_size ≡ Ok spoken.signature
-  pub port : spoken.port < 2 ^ 16
-  pub links_are : IsNumberOfLinks links spoken.links
+  pub signature : decode_sized hex signature_size ≡ Ok values.signature
+  pub port : values.port < 2 ^ 16
+  pub links_are : IsNumberOfLinks links values.links
   pub some : 1 ≤ length places
-  pub volumes : AreMemoryVolumes places spoken.volumes
+  pub volumes : AreMemoryVolumes places values.volumes

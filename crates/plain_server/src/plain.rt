@@ -1,7 +1,7 @@
 //! The whole server: it reads its words, serves the links that come through its door, and reports.
 ghost use Rattle.std.specs.Prelude.{◌≡◌, ◌≢◌, Some, false, map, string_bytes, IfOk, IfErr, None};
 ghost use Rattle.afp_serial.specs.HouseFault.{house_fault};
-ghost use Rattle.plain_server.specs.Spoken.{values_of};
+ghost use Rattle.plain_server.specs.WordValues.{values_of};
 ghost use Rattle.plain_server.specs.Words.{name_in};
 ghost use Rattle.plain_server.specs.Keeping.{keeping};
 ghost use Rattle.plain_server.specs.Plain.{house_of, EndsPlain, Status, IsPlainRun};

@@ -29,7 +29,7 @@ pub struct ServerSettings {
 /// What the words of the command line say, as far as it is no matter of the house.
 pub fn setup(alloc: Global, words: &[String]) -> Result<ServerSettings, WordFault>
     ensures found { IfOk result (λ settings. Sets (map (λ word. string_bytes word) words.now) settings) }
-    ensures bad { IsErrOf result WordFault.Bad → (spoken : WordValues) → IsWords (map (λ word. string_bytes word) words.now) spoken → ⊥ }
+    ensures bad { IsErrOf result WordFault.Bad → (values : WordValues) → IsWords (map (λ word. string_bytes word) words.now) values → ⊥ }
 {
     match read_words(alloc, words) {
         Err(fault) => Err(fault),

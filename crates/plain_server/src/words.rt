@@ -6,7 +6,7 @@ ghost use Rattle.std.specs.Result.{result_ok};
 ghost use Rattle.hex.specs.Hex.{decode_sized};
 ghost use Rattle.plain_server.specs.Words.{WordValues, IsWords, IsNumberOfLinks, name_in};
 ghost use Rattle.plain_server.specs.lemma.Words.{is_memory_volume};
-ghost use Rattle.plain_server.specs.Spoken.{values_of};
+ghost use Rattle.plain_server.specs.WordValues.{values_of};
 
 use std::alloc::Global;
 
@@ -132,7 +132,7 @@ fn volume_words(words: &[String]) -> &[String]
 /// What the words say.
 pub fn read_words<'a>(alloc: Global, words: &'a [String]) -> Result<Words<'a>, WordFault>
     ensures found { IfOk result (λ w. IsWords (map (λ word. string_bytes word) words.now) (values_of w)) }
-    ensures bad { IsErrOf result WordFault.Bad → (spoken : WordValues) → IsWords (map (λ word. string_bytes word) words.now) spoken → ⊥ }
+    ensures bad { IsErrOf result WordFault.Bad → (values : WordValues) → IsWords (map (λ word. string_bytes word) words.now) values → ⊥ }
 {
     if words.len() < 9 {
         return Err(WordFault::Bad);

@@ -4,7 +4,7 @@ use Rattle.afp_serial.specs.Household.{Household, household}
 use Rattle.afp_serial.specs.HouseFault.{house_fault}
 use Rattle.afp_serial.specs.declared.house_fault.HouseFault.TheVariants.{Memory}
 use Rattle.plain_server.specs.Plain.{house_of}
-use Rattle.plain_server.specs.Spoken.{values_of}
+use Rattle.plain_server.specs.WordValues.{values_of}
 use Rattle.plain_server.proofs.plain.house_for.Goals as goal
 
 pub returns-clause-fault : goal.returns-clause-fault

@@ -4,21 +4,21 @@ use Rattle.afp_serial.specs.Household.{Household}
 use Rattle.afp_serial.specs.HouseFault.{house_fault}
 use Rattle.plain_server.specs.Keeping.{keeping}
 use Rattle.plain_server.specs.lemma.Plain.{EndsHouse}
-use Rattle.plain_server.specs.Spoken.{values_of}
+use Rattle.plain_server.specs.WordValues.{values_of}
 use Rattle.plain_server.proofs.HouseEnds.{words-end}
 use Rattle.plain_server.proofs.OneHouse.{one_house}
 use Rattle.plain_server.proofs.plain.run.Goals as goal
 
 pub returns-in-Ok : goal.returns-in-Ok
 returns-in-Ok g c = (
-  λ spoken asks many.
-      let same = one_house _ c.args.token_key spoken (values_of c.in-Ok.words) asks.words_are c.in-Ok.ensures.found in
+  λ values asks many.
+      let same = one_house _ c.args.token_key values (values_of c.in-Ok.words) asks.words_are c.in-Ok.ensures.found in
       cc (ap house_fault same, asks.house_is, c.in-Err-house_for.ensures.fault c.in_default.not-Memory),
   refl,
 )
 
 pub returns-in-Bad : goal.returns-in-Bad
-returns-in-Bad g c = (λ spoken asks many. c.in-Err.ensures.bad (ap Err c.in-Bad.is) spoken asks.words_are, refl)
+returns-in-Bad g c = (λ values asks many. c.in-Err.ensures.bad (ap Err c.in-Bad.is) values asks.words_are, refl)
 
 pub returns-in-Ok-house_for : goal.returns-in-Ok-house_for
 returns-in-Ok-house_for g c =

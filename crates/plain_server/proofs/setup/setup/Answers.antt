@@ -1,6 +1,6 @@
 use Rattle.std.proofs.Common.{◌≡◌, ◌∙◌, ap, sym, refl, List, ℕ, String, Global, string_bytes}
 use Rattle.std.proofs.lemmas.Simd.{map-map}
-use Rattle.plain_server.specs.Spoken.{values_of}
+use Rattle.plain_server.specs.WordValues.{values_of}
 use Rattle.plain_server.specs.Words.{name_in}
 use Rattle.plain_server.specs.declared.setup.VolumePlace.TheVariants.{Memory}
 use Rattle.std.specs.Prelude.{Err}
@@ -14,9 +14,9 @@ returns-in-Err-clause-bad c = λ is.
 
 pub returns-in-Ok-places_of-clause-found : goal.returns-in-Ok-places_of-clause-found
 returns-in-Ok-places_of-clause-found c =
-    let spoken = values_of c.in-Ok.words in
+    let values = values_of c.in-Ok.words in
     record {
-      spoken = spoken;
+      values = values;
       words_are = c.in-Ok.ensures.found;
       places = c.in-Ok-places_of.ensures ∙ sym (map-map (λ (name : List ℕ). Memory) (λ (word : String Global). name_in (string_bytes word)) c.in-Ok.words.places.now);
       port = refl;

@@ -39,9 +39,9 @@ returns-clause-found c =
     }
 
 pub returns-then-not-are_volumes-clause-bad : goal.returns-then-not-are_volumes-clause-bad
-returns-then-not-are_volumes-clause-bad c = λ is spoken w.
+returns-then-not-are_volumes-clause-bad c = λ is values w.
     let f = λ (word : String Global). string_bytes word in
     let behind : map f (drop 8 c.args.words.now) ≡ w.places = sym (drop-map f 8 c.args.words.now) ∙ ap (drop 8) w.whole in
-    none-memory f (drop 8 c.args.words.now) spoken.volumes
+    none-memory f (drop 8 c.args.words.now) values.volumes
     (ap (list_all (λ (word : String Global). is_memory_volume (f word))) (sym c.volume_words-places.ensures) ∙ sym c.are_volumes.ensures ∙ c.if-not-are_volumes.true)
-    (subst (λ (l : List (List ℕ)). AreMemoryVolumes l spoken.volumes) (sym behind) w.volumes)
+    (subst (λ (l : List (List ℕ)). AreMemoryVolumes l values.volumes) (sym behind) w.volumes)
