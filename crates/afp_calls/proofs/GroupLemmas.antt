@@ -1,10 +1,10 @@
 -- What is put together is the bytes of the call.
 use Rattle.std.proofs.Common.{◌≡◌, ℕ, ℤ, List, [], ◌++◌, length, refl, sym, ◌∙◌}
 use Rattle.afp_base.specs.declared.ids.ForkRef.{ForkRef}
-use Rattle.afp_requests.specs.declared.call.Call.{Call}
-use Rattle.afp_requests.specs.declared.call.Call.TheVariants.{Write, WriteExt, AddIcon}
-use Rattle.afp_requests.specs.Call.{layout_of, canonical_call, canonical_piece}
-use Rattle.afp_fields.specs.Putting.{PutTogether, put_on}
+use Rattle.afp_calls_grammar.specs.declared.call.Call.{Call}
+use Rattle.afp_calls_grammar.specs.declared.call.Call.TheVariants.{Write, WriteExt, AddIcon}
+use Rattle.afp_calls_grammar.specs.Call.{layout_of, canonical_call, canonical_piece}
+use Rattle.afp_calls_fields.specs.Putting.{PutTogether, put_on}
 
 -- no piece comes with the other requests
 pub no_piece : (call : Call) → ((flag : ℕ) (reference : ForkRef) (offset : ℤ) (count : ℕ) (piece : List ℕ) → call ≡ Write flag reference offset count piece → ⊥)

@@ -5,6 +5,6 @@
 mod read;
 mod write;
 
-pub use afp_requests::{Call, ReadFault, commands};
+pub use afp_calls_grammar::{Call, ReadFault, commands};
 pub use read::{is_command, read_call};
 pub use write::write_call;

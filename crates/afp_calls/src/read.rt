@@ -1,26 +1,26 @@
 //! Reads requests.
 ghost use Rattle.std.specs.Prelude.{◌≡◌, Some, None, MatchResult};
 ghost use Rattle.std.specs.Option.{option_copied};
-ghost use Rattle.afp_requests.specs.declared.call.Call.{Call};
-ghost use Rattle.afp_requests.specs.declared.call.ReadFault.{ReadFault};
-ghost use Rattle.afp_requests.specs.Laws.{BeginsWithCommand, BeginsWithNoCommand};
-ghost use Rattle.afp_requests.specs.Spelt.{is_command, readers, spelt_call};
+ghost use Rattle.afp_calls_grammar.specs.declared.call.Call.{Call};
+ghost use Rattle.afp_calls_grammar.specs.declared.call.ReadFault.{ReadFault};
+ghost use Rattle.afp_calls_grammar.specs.Laws.{BeginsWithCommand, BeginsWithNoCommand};
+ghost use Rattle.afp_calls_grammar.specs.Spelt.{is_command, readers, spelt_call};
 ghost use Rattle.afp_calls.specs.Answer.{IsReadAnswer, IsReadRefusal};
 ghost use Rattle.afp_calls.specs.lemma.Known.{Knows};
 
-use afp_desktop_calls::{is_desktop_call, read_desktop_call};
-use afp_directory_calls::{is_directory_call, read_directory_call};
-use afp_fields::Fields;
-use afp_file_calls::{is_file_call, read_file_call};
-use afp_fork_calls::{is_fork_call, read_fork_call};
-use afp_requests::laws::{one_request_for_each, what_is_spelt_can_be_written};
-use afp_requests::{Call, ReadFault};
-use afp_session_calls::{is_session_call, read_session_call};
-use afp_volume_calls::{is_volume_call, read_volume_call};
+use afp_calls_desktop::{is_desktop_call, read_desktop_call};
+use afp_calls_directory::{is_directory_call, read_directory_call};
+use afp_calls_fields::Fields;
+use afp_calls_file::{is_file_call, read_file_call};
+use afp_calls_fork::{is_fork_call, read_fork_call};
+use afp_calls_grammar::laws::{one_request_for_each, what_is_spelt_can_be_written};
+use afp_calls_grammar::{Call, ReadFault};
+use afp_calls_session::{is_session_call, read_session_call};
+use afp_calls_volume::{is_volume_call, read_volume_call};
 use std::alloc::Global;
 
 /// Whether a command has that number.
-#[tactic(auto, unfolding(afp_requests::specs::Spelt::is_command))]
+#[tactic(auto, unfolding(afp_calls_grammar::specs::Spelt::is_command))]
 pub fn is_command(number: u8) -> bool
     ensures { result ≡ is_command number }
 {

@@ -1,19 +1,19 @@
 //! Writes requests.
 ghost use Rattle.std.specs.Prelude.{◌≡◌, ◌++◌, OnOk, OnErr};
-ghost use Rattle.afp_requests.specs.Call.{Spells, IsSpellable, IsTypedCall, layout_of, canonical_call, canonical_data, canonical_piece};
+ghost use Rattle.afp_calls_grammar.specs.Call.{Spells, IsSpellable, IsTypedCall, layout_of, canonical_call, canonical_data, canonical_piece};
 ghost use Rattle.afp_base.specs.Appended.{Keeps};
-ghost use Rattle.afp_fields.specs.Putting.{PutsAll};
+ghost use Rattle.afp_calls_fields.specs.Putting.{PutsAll};
 
 use afp_base::{Bytes, OutOfMemory};
-use afp_desktop_calls::write_desktop_call;
-use afp_directory_calls::write_directory_call;
-use afp_fields::laws::fields_are_put_together;
-use afp_file_calls::write_file_call;
-use afp_fork_calls::write_fork_call;
-use afp_requests::Call;
-use afp_requests::laws::what_is_written_is_read_again;
-use afp_session_calls::write_session_call;
-use afp_volume_calls::write_volume_call;
+use afp_calls_desktop::write_desktop_call;
+use afp_calls_directory::write_directory_call;
+use afp_calls_fields::laws::fields_are_put_together;
+use afp_calls_file::write_file_call;
+use afp_calls_fork::write_fork_call;
+use afp_calls_grammar::Call;
+use afp_calls_grammar::laws::what_is_written_is_read_again;
+use afp_calls_session::write_session_call;
+use afp_calls_volume::write_volume_call;
 use std::alloc::Global;
 
 /// Appends the canonical spelling of a request: its block, and the bytes that come with it in a
@@ -94,7 +94,7 @@ fn put_call(alloc: Global, out: &mut Bytes, call: &Call) -> Result<(), OutOfMemo
 }
 
 /// The piece that comes with a request, or nothing.
-#[tactic(auto, unfolding(afp_requests::specs::Call::canonical_piece))]
+#[tactic(auto, unfolding(afp_calls_grammar::specs::Call::canonical_piece))]
 fn piece_of(call: &Call) -> &[u8]
     ensures { result.now ≡ canonical_piece call.now }
 {

@@ -23,13 +23,13 @@ use Rattle.afp_serial.specs.World.{has_session, session_at, World, Session, at_m
 use Rattle.afp_serial.specs.Sound.{IsSound, has_apart_sessions, is_link_below}
 use Rattle.afp_serial.proofs.Grows.{lawful-snoc, stand-append}
 use Rattle.afp_core.specs.Counted.{IsCounted}
-use Rattle.core_state.specs.KeeperFaults.{KeepersRise, SureStand, failed_keeper}
+use Rattle.afp_core_state.specs.KeeperFaults.{KeepersRise, SureStand, failed_keeper}
 use Rattle.afp_core.specs.ServerState.{ServerState}
-use Rattle.core_asks.specs.Asks.{kept_at}
+use Rattle.afp_core_dispatch.specs.Asks.{kept_at}
 use Rattle.afp_core.specs.lemma.ServerState.{kept_of}
 use Rattle.afp_core.specs.Sureness.{SureKept}
-use Rattle.core_state.specs.Running.{IsNextFree, IsReady}
-use Rattle.core_asks.specs.Asks.{RunsAsk}
+use Rattle.afp_core_state.specs.Running.{IsNextFree, IsReady}
+use Rattle.afp_core_dispatch.specs.Asks.{RunsAsk}
 use Rattle.afp_core.specs.Turn.{TakesTurn, Turned}
 
 -- the next link number is no session's

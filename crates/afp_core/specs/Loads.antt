@@ -1,10 +1,10 @@
 -- The server of a house whose volumes were loaded from their keepers (this profile).
 use Rattle.std.specs.Prelude.{◌≡◌, ℕ, Bool, List, map, Option}
 use Rattle.afp_core.specs.ServerState.{ServerState, start_server}
-use Rattle.core_keepers.specs.Loads.{LoadEach}
-use Rattle.core_state.specs.KeptWorld.{volumes_of}
+use Rattle.afp_core_keepers.specs.Loads.{LoadEach}
+use Rattle.afp_core_state.specs.KeptWorld.{volumes_of}
 use Rattle.afp_serial.specs.Household.{Household}
-use Rattle.kept_volume.specs.Kept.{KeptState}
+use Rattle.volume_keeper_commit.specs.Kept.{KeptState}
 use Rattle.record_keeper.specs.Records.{Records}
 
 -- a server that nobody has asked, over the volumes that were loaded, and their keepers' counts

@@ -5,7 +5,7 @@ mod counts;
 mod list_teller;
 mod turn;
 
-pub use core_keepers::{CoreFault, Retired};
+pub use afp_core_keepers::{CoreFault, Retired};
 pub use counts::Counts;
 pub use list_teller::ListTeller;
 pub use turn::Core;

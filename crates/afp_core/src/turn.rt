@@ -2,19 +2,19 @@
 ghost use Rattle.std.specs.Prelude.{◌≡◌, ◌≢◌, ◌↔◌, Err, IfErr, IfOk, length, option_map};
 ghost use Rattle.afp_serial.specs.World.{volume_at};
 ghost use Rattle.afp_serial.specs.Sound.{IsSound};
-ghost use Rattle.core_keepers.specs.Loads.{IsCoreFault};
+ghost use Rattle.afp_core_keepers.specs.Loads.{IsCoreFault};
 ghost use Rattle.afp_core.specs.Loads.{IsLoadedServer};
-ghost use Rattle.core_keepers.specs.Retiring.{Retires};
+ghost use Rattle.afp_core_keepers.specs.Retiring.{Retires};
 ghost use Rattle.afp_core.specs.Turn.{TakesTurn};
 ghost use Rattle.afp_core.specs.lemma.Turn.{TakesStep};
 
 use crate::counts::Counts;
 use afp_base::{LinkNumber, Moment, OutOfMemory, VolumeId};
+use afp_core_dispatch::run_ask;
+use afp_core_keepers::{CoreFault, Retired, load_all, settle_all};
+use afp_core_state::State;
 use afp_serial::fork_laws::references_are_lowest;
 use afp_serial::{Ask, House, Outcome, Told, entry_in_range, moment_in_range};
-use core_asks::run_ask;
-use core_keepers::{CoreFault, Retired, load_all, settle_all};
-use core_state::State;
 use record_keeper::Keeper;
 use std::alloc::Global;
 use std::marker::Model;

@@ -7,7 +7,7 @@ use Rattle.afp_base.specs.declared.ids.VolumeId.{VolumeId}
 use Rattle.afp_replies.specs.Commands.{rows, shape_in, shape_of}
 use Rattle.afp_replies.specs.Replies.{Shows, layout_for}
 use Rattle.afp_replies.specs.declared.reply.Reply.TheVariants.{Empty}
-use Rattle.afp_requests.specs.declared.call.Call.TheVariants.{CloseVol}
+use Rattle.afp_calls_grammar.specs.declared.call.Call.TheVariants.{CloseVol}
 use Rattle.afp_serial.proofs.Closed.{closing-sound, closing-apart}
 use Rattle.afp_serial.proofs.Replaced.{TakesPlace, replaced-apart, replaced-old, replaced-sound, volume-kept}
 use Rattle.afp_serial.proofs.SoundParts.{ApartSessions, sessions-parts, opens-parts, caches-parts}
@@ -16,7 +16,7 @@ use Rattle.afp_serial.specs.CloseVol.{close_vol_effect, close_vol_row}
 use Rattle.afp_serial.specs.ReplyKinds.{reply_kind}
 use Rattle.afp_serial.specs.World.{has_opened, volume_at, closing, with_session, World, Session, OpenFork}
 use Rattle.afp_serial.specs.Sound.{IsSound, has_volume_open, is_file_of, is_lawful_open, is_lawful_cache}
-use Rattle.afp_volume.proofs.TestedLists.{contra, all-both, all-kept, any-still, find-all}
+use Rattle.volume_spec.proofs.TestedLists.{contra, all-both, all-kept, any-still, find-all}
 
 abbrev with_volumes : Session → List ℕ → Session
 with_volumes s volumes = record s { volumes = volumes }

@@ -5,7 +5,7 @@ use Rattle.std.proofs.lemmas.Bool.{cond_both, cond-false, eqb-true, eq-eqb, not-
 use Rattle.afp_base.specs.Cached.{Request}
 use Rattle.afp_base.specs.declared.code.Code.TheVariants as code
 use Rattle.afp_base.specs.declared.ids.LinkNumber.{LinkNumber}
-use Rattle.afp_volume.proofs.TestedLists.{all-each, each-all, find-none, never, none-find}
+use Rattle.volume_spec.proofs.TestedLists.{all-each, each-all, find-none, never, none-find}
 use Rattle.afp_serial.specs.declared.ask.Ask.{Ask}
 use Rattle.afp_serial.specs.declared.ask.Ask.TheVariants as ask
 use Rattle.afp_serial.specs.declared.ask.Outcome.{Outcome}

@@ -10,8 +10,8 @@ use Rattle.afp_base.specs.ForkBytes.{resized, splice}
 use Rattle.afp_names.specs.Path.{PathValue}
 use Rattle.afp_replies.specs.declared.reply.Reply.{Reply}
 use Rattle.afp_replies.specs.declared.reply.Reply.TheVariants.{Empty, End, EndExt, Node, Start, StartExt}
-use Rattle.afp_requests.specs.declared.call.Call.{Call}
-use Rattle.afp_requests.specs.declared.call.Call.TheVariants as calls
+use Rattle.afp_calls_grammar.specs.declared.call.Call.{Call}
+use Rattle.afp_calls_grammar.specs.declared.call.Call.TheVariants as calls
 use Rattle.afp_serial.proofs.ForkCommits.{all-locks, all-reads, done-volumes, opened-volumes}
 use Rattle.afp_serial.proofs.OnForkRows.{IsHeld, IsHeldFile, held-file, sound-file}
 use Rattle.afp_serial.proofs.OnVolumeRows.{done-keeps, on-passes}
@@ -39,17 +39,17 @@ use Rattle.afp_serial.specs.GetVolParms.{get_vol_parms_row}
 use Rattle.afp_serial.specs.Login.{login_row}
 use Rattle.afp_serial.specs.OpenDir.{close_dir_row, open_dir_row}
 use Rattle.afp_base.specs.declared.code.Code.{Code}
-use Rattle.afp_volume.proofs.ForkEffects.{fork-given, fork-lets-be}
-use Rattle.afp_volume.proofs.TestedLists.{any-map, any-still, any-weaker}
-use Rattle.afp_volume.specs.Shared.{Opened, is_busy}
-use Rattle.afp_volume.specs.CreateDir.{create_dir_id}
-use Rattle.afp_volume.specs.CreateFile.{is_hard}
-use Rattle.afp_volume.specs.ForkEffect.{fork_effect, fork_of}
-use Rattle.afp_volume.specs.OpenFork.{is_resource}
-use Rattle.afp_volume.specs.TreeSteps as trees
-use Rattle.afp_volume.specs.TreeSteps.{TreeCall, tree_effect, tree_refusal}
-use Rattle.afp_volume.specs.VolumeState.{Row as File, VolumeState}
-use Rattle.afp_volume.specs.Walk.{row_at}
+use Rattle.volume_spec.proofs.ForkEffects.{fork-given, fork-lets-be}
+use Rattle.volume_spec.proofs.TestedLists.{any-map, any-still, any-weaker}
+use Rattle.volume_spec.specs.Shared.{Opened, is_busy}
+use Rattle.volume_spec.specs.CreateDir.{create_dir_id}
+use Rattle.volume_spec.specs.CreateFile.{is_hard}
+use Rattle.volume_spec.specs.ForkEffect.{fork_effect, fork_of}
+use Rattle.volume_spec.specs.OpenFork.{is_resource}
+use Rattle.volume_spec.specs.TreeSteps as trees
+use Rattle.volume_spec.specs.TreeSteps.{TreeCall, tree_effect, tree_refusal}
+use Rattle.volume_spec.specs.VolumeState.{Row as File, VolumeState}
+use Rattle.volume_spec.specs.Walk.{row_at}
 
 -- a world with the same volumes
 same-volumes : (w v : World) (fork : Fork) (bytes : List ℕ) → v.volumes ≡ w.volumes → bytes_in w fork ≡ Some bytes → bytes_in v fork ≡ Some bytes

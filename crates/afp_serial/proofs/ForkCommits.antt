@@ -12,9 +12,9 @@ use Rattle.afp_base.specs.ForkBytes.{resized}
 use Rattle.afp_base.specs.Overlap.{Range}
 use Rattle.afp_serial.specs.OnFork.{OpenFile, bytes_of, committed_with, done_with, keeper_if, open_file, with_bytes}
 use Rattle.afp_serial.specs.OnVolume.{keeper_of, with_volume_state}
-use Rattle.afp_volume.specs.ForkEffect.{fork_effect}
-use Rattle.afp_volume.specs.OpenFork.{is_resource}
-use Rattle.afp_volume.specs.VolumeState.{Row as File, VolumeState}
+use Rattle.volume_spec.specs.ForkEffect.{fork_effect}
+use Rattle.volume_spec.specs.OpenFork.{is_resource}
+use Rattle.volume_spec.specs.VolumeState.{Row as File, VolumeState}
 
 -- a volume that has no keeper is none
 no-keeper-same : (w : World) (volume : ℕ) (v : VolumeState) → keeper_of volume ≡ None → with_volume_state w volume v ≡ w

@@ -16,8 +16,8 @@ use Rattle.afp_replies.specs.Commands.{rows, shape_in, shape_of}
 use Rattle.afp_replies.specs.Replies.{Shows, canonical_reply}
 use Rattle.afp_replies.specs.Requested.{FitsRequest}
 use Rattle.afp_replies.specs.declared.reply.Reply.TheVariants.{Opened}
-use Rattle.afp_requests.specs.declared.call.Call.TheVariants as calls
-use Rattle.afp_requests.specs.declared.call.Call.TheVariants.{Read, ReadExt}
+use Rattle.afp_calls_grammar.specs.declared.call.Call.TheVariants as calls
+use Rattle.afp_calls_grammar.specs.declared.call.Call.TheVariants.{Read, ReadExt}
 use Rattle.afp_serial.proofs.ForkRows.{file-answer}
 use Rattle.afp_serial.proofs.ListShown.{within}
 use Rattle.afp_serial.proofs.OpenForkRow.{IsFileFound, found-file}
@@ -34,9 +34,9 @@ use Rattle.afp_serial.specs.OnVolume.{opened_on}
 use Rattle.afp_serial.specs.ReplyKinds.{reply_kind}
 use Rattle.afp_serial.specs.World.{volume_at, World, OpenFork, Lock}
 use Rattle.afp_serial.specs.Sound.{share_fork}
-use Rattle.afp_volume.proofs.TestedLists.{apart-places, never}
-use Rattle.afp_volume.specs.OpenFork.{fork_values}
-use Rattle.afp_volume.specs.VolumeState.{Row as File, VolumeState}
+use Rattle.volume_spec.proofs.TestedLists.{apart-places, never}
+use Rattle.volume_spec.specs.OpenFork.{fork_values}
+use Rattle.volume_spec.specs.VolumeState.{Row as File, VolumeState}
 
 -- conflicts
 

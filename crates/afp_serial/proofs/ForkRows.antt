@@ -17,8 +17,8 @@ use Rattle.afp_replies.specs.Commands.{rows, shape_in, shape_of}
 use Rattle.afp_replies.specs.Replies.{canonical_reply}
 use Rattle.afp_replies.specs.Requested.{IsTold}
 use Rattle.afp_replies.specs.declared.reply.Reply.TheVariants.{Empty, Params, Piece}
-use Rattle.afp_requests.specs.declared.call.Call.{Call}
-use Rattle.afp_requests.specs.declared.call.Call.TheVariants.{CloseFork, FlushFork, GetForkParms, Read, ReadExt}
+use Rattle.afp_calls_grammar.specs.declared.call.Call.{Call}
+use Rattle.afp_calls_grammar.specs.declared.call.Call.TheVariants.{CloseFork, FlushFork, GetForkParms, Read, ReadExt}
 use Rattle.afp_serial.proofs.Closed.{closing-sound}
 use Rattle.afp_serial.proofs.ListShown.{within}
 use Rattle.afp_serial.proofs.OnForkRows.{fork-row-sound, sound-file}
@@ -32,14 +32,14 @@ use Rattle.afp_serial.specs.ForkBytes.{ReadAsked, ahead, most_read, read_bytes, 
 use Rattle.afp_serial.specs.OnFork.{OpenFile, bytes_of}
 use Rattle.afp_serial.specs.OnVolume.{opened_on}
 use Rattle.afp_serial.specs.ReplyKinds.{command_of, reply_kind}
-use Rattle.afp_volume.proofs.ToldValues.{node-told}
-use Rattle.afp_volume.specs.Shared.{Opened}
-use Rattle.afp_volume.specs.NodeValues.{dir_values, file_values, node_values}
-use Rattle.afp_volume.specs.OpenFork.{fork_values}
-use Rattle.afp_volume.specs.SoundVolume.{IsSoundVolume}
-use Rattle.afp_volume.specs.TypedVolume.{is_typed_volume}
-use Rattle.afp_volume.specs.VolumeState.{Row as File, VolumeState}
-use Rattle.afp_volume.specs.Walk.{row_at}
+use Rattle.volume_spec.proofs.ToldValues.{node-told}
+use Rattle.volume_spec.specs.Shared.{Opened}
+use Rattle.volume_spec.specs.NodeValues.{dir_values, file_values, node_values}
+use Rattle.volume_spec.specs.OpenFork.{fork_values}
+use Rattle.volume_spec.specs.SoundVolume.{IsSoundVolume}
+use Rattle.volume_spec.specs.TypedVolume.{is_typed_volume}
+use Rattle.volume_spec.specs.VolumeState.{Row as File, VolumeState}
+use Rattle.volume_spec.specs.Walk.{row_at}
 
 -- FPCloseFork
 

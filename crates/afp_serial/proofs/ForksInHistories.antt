@@ -15,7 +15,7 @@ use Rattle.afp_base.specs.declared.code.Code.TheVariants.{AccessDenied, EOFErr, 
 use Rattle.afp_base.specs.declared.ids.ForkRef.{ForkRef}
 use Rattle.afp_replies.specs.Replies.{canonical_reply}
 use Rattle.afp_replies.specs.declared.reply.Reply.TheVariants.{Piece}
-use Rattle.afp_requests.specs.declared.call.Call.{Call}
+use Rattle.afp_calls_grammar.specs.declared.call.Call.{Call}
 use Rattle.afp_serial.proofs.CallLaws.{told-by}
 use Rattle.afp_serial.proofs.ForkChanges.{call-changes, fork-bytes}
 use Rattle.afp_serial.proofs.ForkFacts.{no-byte-twice, no-two-conflict, some-any}
@@ -39,11 +39,11 @@ use Rattle.afp_serial.specs.OnFork.{OpenFile, bytes_of, done_with, is_locked, on
 use Rattle.afp_serial.specs.Rows.{effect, ends_session, refusal, row}
 use Rattle.afp_serial.specs.Sound.{IsSound, has_volume_open, is_file_of, is_lawful_open}
 use Rattle.afp_serial.specs.WriteLaws.{ForkChange, changed_by, changed_by_all, read_of, puts}
-use Rattle.afp_volume.proofs.TestedLists.{any-at, any-weaker}
-use Rattle.afp_volume.proofs.Walks.{row-there}
-use Rattle.afp_volume.specs.ForkEffect.{fork_of}
-use Rattle.afp_volume.specs.SoundVolume.{has_node}
-use Rattle.afp_volume.specs.VolumeState.{Row as File, VolumeState}
+use Rattle.volume_spec.proofs.TestedLists.{any-at, any-weaker}
+use Rattle.volume_spec.proofs.Walks.{row-there}
+use Rattle.volume_spec.specs.ForkEffect.{fork_of}
+use Rattle.volume_spec.specs.SoundVolume.{has_node}
+use Rattle.volume_spec.specs.VolumeState.{Row as File, VolumeState}
 
 -- opens and locks
 

@@ -12,7 +12,7 @@ use Rattle.afp_serial.specs.Fork.{free_from, lowest_free}
 use Rattle.afp_serial.specs.Limits.{most_sessions}
 use Rattle.afp_serial.specs.World.{has_opened, has_session, is_open, volume_at, World, Session, OpenFork}
 use Rattle.afp_serial.specs.Sound.{IsSound, has_volume_open, is_file_of, is_lawful_open}
-use Rattle.afp_volume.proofs.TestedLists.{all-both, all-filter, all-kept, all-weaker, any-weaker, count-filter}
+use Rattle.volume_spec.proofs.TestedLists.{all-both, all-filter, all-kept, all-weaker, any-weaker, count-filter}
 
 -- how many references are a number or above it
 abbrev above : ℕ → List OpenFork → ℕ

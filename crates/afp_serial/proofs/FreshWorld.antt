@@ -11,18 +11,18 @@ use Rattle.afp_names.specs.Name.{name_fault}
 use Rattle.afp_names.specs.declared.name.TheConstants.{LONGEST_NAME}
 use Rattle.std.proofs.lemmas.List.Elements.{All-map}
 use Rattle.std.proofs.lemmas.Slice.Eq.{bytes_eq-Decides}
-use Rattle.afp_volume.specs.SoundVolume.{IsSoundVolume}
-use Rattle.afp_volume.specs.VolumeState.{VolumeState, fresh_volume}
-use Rattle.afp_volume.proofs.Fresh.{fresh-sound as volume-sound}
+use Rattle.volume_spec.specs.SoundVolume.{IsSoundVolume}
+use Rattle.volume_spec.specs.VolumeState.{VolumeState, fresh_volume}
+use Rattle.volume_spec.proofs.Fresh.{fresh-sound as volume-sound}
 use Rattle.afp_serial.proofs.Faultless.{faultless}
 use Rattle.afp_serial.proofs.SoundParts.{ApartSessions, fields-whole, sessions-whole, opens-whole, locks-whole, caches-whole, limits-whole}
-use Rattle.afp_volume.proofs.TestedLists.{all-each, all-map-where, all-weaker}
+use Rattle.volume_spec.proofs.TestedLists.{all-each, all-map-where, all-weaker}
 use Rattle.afp_serial.specs.Faultless.{IsFaultless}
 use Rattle.afp_serial.specs.Household.{Household}
 use Rattle.afp_serial.specs.HouseFault.{is_printable, is_text, is_name, house_fault}
 use Rattle.afp_serial.specs.Limits.{first_printable, last_printable, longest_volume, most_users, most_volumes}
 use Rattle.afp_serial.specs.Ranges.{is_moment, is_typed_house}
-use Rattle.afp_volume.specs.TypedVolume.{are_bytes, is_byte, is_typed_volume}
+use Rattle.volume_spec.specs.TypedVolume.{are_bytes, is_byte, is_typed_volume}
 use Rattle.afp_serial.specs.Sound.{IsSound, ServesVolumes}
 use Rattle.afp_serial.specs.World.{World, fresh_volumes, fresh_world, start_world}
 

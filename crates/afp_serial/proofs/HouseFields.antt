@@ -5,7 +5,7 @@ use Rattle.std.specs.List.{list_all}
 use Rattle.std.proofs.lemmas.Bool.{and_from}
 use Rattle.afp_serial.specs.Household.{household}
 use Rattle.afp_serial.specs.Ranges.{is_typed_house, is_typed_user}
-use Rattle.afp_volume.specs.TypedVolume.{are_bytes}
+use Rattle.volume_spec.specs.TypedVolume.{are_bytes}
 use Rattle.afp_serial.specs.declared.user.User.{User}
 
 pub house-typed : (server signature : List ℕ) (users : List User) (volumes : List (List ℕ)) (message token_key : List ℕ) → list_all is_typed_user users ≡ true

@@ -9,24 +9,24 @@ use Rattle.byteorder.specs.Endian.{big_number}
 use Rattle.byteorder.specs.Numbers.{big_from-lt}
 use Rattle.afp_names.specs.Path.{PathValue}
 use Rattle.afp_base.specs.Cached.{Request}
-use Rattle.afp_requests.proofs.SpellingLemmas.{AreBytes}
-use Rattle.afp_requests.proofs.CallLemmas.{readers_sound}
-use Rattle.afp_requests.proofs.ReaderLemmas.{spelt_spells}
-use Rattle.afp_requests.specs.Call.{Spells, layout_of}
-use Rattle.afp_requests.specs.Spelt.{spelt_call}
-use Rattle.afp_requests.specs.Words.{Word, Value, RequestField, BeginsWith, Enclosed, Nothing, Piece, IsCountedText, IsEnclosed, IsOptional, IsWordSpelling, SpellsPathname, Literal, Pad, LastPad, Even, Number, Within, Count, Optional, Signed32, Signed64, Plain, Counted, Pathname, Tail, count_size}
-use Rattle.afp_requests.specs.declared.call.Call.{Call}
+use Rattle.afp_calls_grammar.proofs.SpellingLemmas.{AreBytes}
+use Rattle.afp_calls_grammar.proofs.CallLemmas.{readers_sound}
+use Rattle.afp_calls_grammar.proofs.ReaderLemmas.{spelt_spells}
+use Rattle.afp_calls_grammar.specs.Call.{Spells, layout_of}
+use Rattle.afp_calls_grammar.specs.Spelt.{spelt_call}
+use Rattle.afp_calls_grammar.specs.Words.{Word, Value, RequestField, BeginsWith, Enclosed, Nothing, Piece, IsCountedText, IsEnclosed, IsOptional, IsWordSpelling, SpellsPathname, Literal, Pad, LastPad, Even, Number, Within, Count, Optional, Signed32, Signed64, Plain, Counted, Pathname, Tail, count_size}
+use Rattle.afp_calls_grammar.specs.declared.call.Call.{Call}
 use Rattle.afp_serial.proofs.Keeps.{IsKnown}
 use Rattle.afp_serial.specs.declared.ask.Ask.{Ask}
 use Rattle.afp_serial.specs.declared.ask.Ask.TheVariants as ask
 use Rattle.afp_serial.specs.Answer.{request, block_of, enclosed_of}
 use Rattle.afp_serial.specs.LawfulCall.{are_bytes_or_none, is_number, is_number_or_none, is_signed, is_lawful_value, is_lawful_field, is_lawful_piece, is_lawful_call}
 use Rattle.afp_serial.specs.Ranges.{is_typed_ask}
-use Rattle.afp_volume.proofs.LongPathNames.{path-named}
-use Rattle.afp_volume.proofs.TestedLists.{all-place}
-use Rattle.afp_volume.proofs.TypedEdits.{take-bytes, drop-bytes}
-use Rattle.afp_volume.specs.TypedVolume.{is_byte, is_long, is_word, are_bytes}
-use Rattle.afp_volume.specs.Walk.{is_named_path}
+use Rattle.volume_spec.proofs.LongPathNames.{path-named}
+use Rattle.volume_spec.proofs.TestedLists.{all-place}
+use Rattle.volume_spec.proofs.TypedEdits.{take-bytes, drop-bytes}
+use Rattle.volume_spec.specs.TypedVolume.{is_byte, is_long, is_word, are_bytes}
+use Rattle.volume_spec.specs.Walk.{is_named_path}
 
 small-bytes : (bytes : List ℕ) → are_bytes bytes ≡ true → AreBytes bytes
 small-bytes [] h i = omega arith

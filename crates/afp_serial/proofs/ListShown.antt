@@ -17,18 +17,18 @@ use Rattle.afp_bitmap.specs.declared.params.Values.TheVariants.{Dir, File}
 use Rattle.afp_replies.specs.Bytes.{flag_of, width}
 use Rattle.afp_replies.specs.Entry.{is_dir, bits_for, kind_for, node_params, pad_count, head_size, entry_bytes, FitsEntry}
 use Rattle.afp_serial.specs.ListReply.{list_entry, list_reply, ListHasItsSize, ListIsShown}
-use Rattle.afp_volume.proofs.CallsSound.{not-false}
-use Rattle.afp_volume.proofs.Counted.{entries-are-there}
-use Rattle.afp_volume.proofs.ListReplies.{entries-are-asked, entries-fit}
-use Rattle.afp_volume.proofs.Ordered.{is-here, is-later}
-use Rattle.afp_volume.proofs.Refusals.{none-first}
-use Rattle.afp_volume.proofs.ToldValues.{node-told}
-use Rattle.afp_volume.specs.Shared.{Opened}
-use Rattle.afp_volume.specs.Enumerate.{ListAsked, list_head, entry_head, longest_entry, entry_size, fits_reply, entries, enumerate_refusal}
-use Rattle.afp_volume.specs.NodeValues.{bits_of, node_values, dir_values, file_values}
-use Rattle.afp_volume.specs.SoundVolume.{IsSoundVolume}
-use Rattle.afp_volume.specs.TypedVolume.{is_typed_volume}
-use Rattle.afp_volume.specs.VolumeState.{Row, VolumeState}
+use Rattle.volume_spec.proofs.CallsSound.{not-false}
+use Rattle.volume_spec.proofs.Counted.{entries-are-there}
+use Rattle.volume_spec.proofs.ListReplies.{entries-are-asked, entries-fit}
+use Rattle.volume_spec.proofs.Ordered.{is-here, is-later}
+use Rattle.volume_spec.proofs.Refusals.{none-first}
+use Rattle.volume_spec.proofs.ToldValues.{node-told}
+use Rattle.volume_spec.specs.Shared.{Opened}
+use Rattle.volume_spec.specs.Enumerate.{ListAsked, list_head, entry_head, longest_entry, entry_size, fits_reply, entries, enumerate_refusal}
+use Rattle.volume_spec.specs.NodeValues.{bits_of, node_values, dir_values, file_values}
+use Rattle.volume_spec.specs.SoundVolume.{IsSoundVolume}
+use Rattle.volume_spec.specs.TypedVolume.{is_typed_volume}
+use Rattle.volume_spec.specs.VolumeState.{Row, VolumeState}
 
 -- sizes
 

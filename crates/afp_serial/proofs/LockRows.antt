@@ -13,9 +13,9 @@ use Rattle.afp_replies.specs.Commands.{rows, shape_in, shape_of}
 use Rattle.afp_replies.specs.Replies.{canonical_reply}
 use Rattle.afp_replies.specs.declared.reply.Reply.{Reply}
 use Rattle.afp_replies.specs.declared.reply.Reply.TheVariants.{Start, StartExt}
-use Rattle.afp_requests.specs.Words.{i32, i64}
-use Rattle.afp_requests.specs.declared.call.Call.{Call}
-use Rattle.afp_requests.specs.declared.call.Call.TheVariants.{ByteRangeLock, ByteRangeLockExt}
+use Rattle.afp_calls_grammar.specs.Words.{i32, i64}
+use Rattle.afp_calls_grammar.specs.declared.call.Call.{Call}
+use Rattle.afp_calls_grammar.specs.declared.call.Call.TheVariants.{ByteRangeLock, ByteRangeLockExt}
 use Rattle.afp_serial.proofs.Closed.{within}
 use Rattle.afp_serial.proofs.LawfulCalls.{field-lawful}
 use Rattle.afp_serial.proofs.OnForkRows.{IsHeld, fork-row-sound, is_own, none-refused, sound-file}
@@ -30,8 +30,8 @@ use Rattle.afp_serial.specs.LawfulCall.{is_lawful_call, is_signed}
 use Rattle.afp_serial.specs.Lock.{LockAsked, byte_range_lock_ext_row, byte_range_lock_row, has_most_locks, is_lock, is_met_by_own, lock_asked, locked, locking_refusals, locks, locks_range, range_asked, range_of, range_refusals, range_to, unlocked}
 use Rattle.afp_serial.specs.OnFork.{OpenFile, bytes_of, is_met_by_other, meets_lock, placed}
 use Rattle.afp_serial.specs.Sound.{IsSound, has_apart_sessions, has_lawful_caches, has_lawful_opens, has_typed_fields, share_fork}
-use Rattle.afp_volume.proofs.ForkEffects.{fork-few}
-use Rattle.afp_volume.proofs.TestedLists.{all-both, all-filter, all-weaker, any-weaker, apart-filter, contra, count-filter, none-all}
+use Rattle.volume_spec.proofs.ForkEffects.{fork-few}
+use Rattle.volume_spec.proofs.TestedLists.{all-both, all-filter, all-weaker, any-weaker, apart-filter, contra, count-filter, none-all}
 
 -- which of two comes first makes no difference
 

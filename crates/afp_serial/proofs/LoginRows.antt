@@ -6,12 +6,12 @@ use Rattle.afp_replies.specs.Commands.{rows, shape_in, shape_of}
 use Rattle.afp_replies.specs.Replies.{Shows, layout_for}
 use Rattle.afp_replies.specs.declared.reply.Reply.TheVariants.{Empty}
 use Rattle.afp_base.specs.declared.code.Code.TheVariants.{Ok}
-use Rattle.afp_requests.specs.declared.call.Call.TheVariants.{Login, Logout}
+use Rattle.afp_calls_grammar.specs.declared.call.Call.TheVariants.{Login, Logout}
 use Rattle.afp_serial.proofs.Closed.{ending-sound, ending-apart}
 use Rattle.afp_serial.proofs.Replaced.{TakesPlace, replaced-apart, replaced-old, replaced-sound, volume-kept}
 use Rattle.afp_serial.proofs.SoundRow.{IsSoundRow, no-keeper, no_more-refuses}
 use Rattle.afp_serial.proofs.SoundParts.{sessions-parts, opens-parts, caches-parts}
-use Rattle.afp_volume.proofs.TestedLists.{all-weaker, any-filter, find-all}
+use Rattle.volume_spec.proofs.TestedLists.{all-weaker, any-filter, find-all}
 use Rattle.afp_serial.specs.ReplyKinds.{reply_kind}
 use Rattle.afp_serial.specs.Login.{login_row, guest_id}
 use Rattle.afp_serial.specs.Logout.{logout_row}

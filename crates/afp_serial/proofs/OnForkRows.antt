@@ -7,7 +7,7 @@ use Rattle.std.proofs.lemmas.Option.{slice_get_within}
 use Rattle.afp_base.specs.Apart.{are_apart}
 use Rattle.afp_base.specs.Choice.{first_holding}
 use Rattle.afp_base.specs.declared.code.Code.TheVariants.{ParamErr}
-use Rattle.afp_requests.specs.declared.call.Call.{Call}
+use Rattle.afp_calls_grammar.specs.declared.call.Call.{Call}
 use Rattle.afp_serial.proofs.OnVolumeRows.{IsToldTo, told-shown}
 use Rattle.afp_serial.proofs.SoundParts.{ApartSessions, is_below, opens-parts, same_link, same_number}
 use Rattle.afp_serial.proofs.SoundRow.{IsRefusedTo, IsSoundRow, no_more-refuses}
@@ -17,11 +17,11 @@ use Rattle.afp_serial.specs.LawfulCall.{is_lawful_call}
 use Rattle.afp_serial.specs.OnFork.{OpenFile, committed_with, done_with, file_on, file_under, on_fork, open_file, own_fork, own_keeper, row_on_fork}
 use Rattle.afp_serial.specs.OnVolume.{keeper_of}
 use Rattle.afp_serial.specs.Sound.{IsSound, has_volume_open, is_file_of, is_lawful_open}
-use Rattle.afp_volume.proofs.SeenRows.{file-found}
-use Rattle.afp_volume.proofs.TestedLists.{find-all, find-passes}
-use Rattle.afp_volume.proofs.Trees.{tree-parts}
-use Rattle.afp_volume.specs.VolumeState.{Row as File, VolumeState}
-use Rattle.afp_volume.specs.Walk.{row_at}
+use Rattle.volume_spec.proofs.SeenRows.{file-found}
+use Rattle.volume_spec.proofs.TestedLists.{find-all, find-passes}
+use Rattle.volume_spec.proofs.Trees.{tree-parts}
+use Rattle.volume_spec.specs.VolumeState.{Row as File, VolumeState}
+use Rattle.volume_spec.specs.Walk.{row_at}
 
 abbrev pub is_own : Session → ℕ → OpenFork → Bool
 is_own s reference o = (o.reference == reference) && (o.session == s.number)

@@ -12,7 +12,7 @@ use Rattle.afp_replies.specs.Commands.{shape_of}
 use Rattle.afp_replies.specs.Replies.{Shows, canonical_reply}
 use Rattle.afp_replies.specs.Requested.{FitsRequest, IsTold}
 use Rattle.afp_replies.specs.declared.reply.Reply.{Reply}
-use Rattle.afp_requests.specs.declared.call.Call.{Call}
+use Rattle.afp_calls_grammar.specs.declared.call.Call.{Call}
 use Rattle.afp_serial.proofs.SoundParts.{ApartSessions}
 use Rattle.afp_serial.proofs.SoundRow.{IsSoundRow, is_refused, is_short, no-keeper, no_more-refuses}
 use Rattle.afp_serial.proofs.VolumeCodes.{is_refusal, tree-refuses}
@@ -22,12 +22,12 @@ use Rattle.afp_serial.specs.LawfulCall.{is_lawful_call}
 use Rattle.afp_serial.specs.OnVolume.{changes_tree, done_on, keeper_of, on_volume, opened_on, refused_on, tells_of, with_volume_state}
 use Rattle.afp_serial.specs.ReplyKinds.{command_of, reply_kind}
 use Rattle.afp_serial.specs.Sound.{IsSound}
-use Rattle.afp_volume.proofs.Later.{effect-sound}
-use Rattle.afp_volume.proofs.OpenFiles.{call-lets-be, call-named}
-use Rattle.afp_volume.proofs.TypedSteps.{call-typed}
-use Rattle.afp_volume.specs.TreeSteps.{TreeCall, TreeStep, is_named_call, is_typed_call, tree_effect, tree_refusal}
-use Rattle.afp_volume.specs.TypedVolume.{is_date}
-use Rattle.afp_volume.specs.VolumeState.{VolumeState}
+use Rattle.volume_spec.proofs.Later.{effect-sound}
+use Rattle.volume_spec.proofs.OpenFiles.{call-lets-be, call-named}
+use Rattle.volume_spec.proofs.TypedSteps.{call-typed}
+use Rattle.volume_spec.specs.TreeSteps.{TreeCall, TreeStep, is_named_call, is_typed_call, tree_effect, tree_refusal}
+use Rattle.volume_spec.specs.TypedVolume.{is_date}
+use Rattle.volume_spec.specs.VolumeState.{VolumeState}
 
 -- a call's request asks for the fields of this reply
 abbrev pub Asks : Call → Reply → Type 0

@@ -6,22 +6,22 @@ use Rattle.afp_base.specs.declared.code.Code.{Code}
 use Rattle.afp_base.specs.declared.code.Code.TheVariants.{AccessDenied, DirNotEmpty, DiskFull, FileBusy, ObjectExists, ObjectLocked, ObjectTypeErr}
 use Rattle.afp_names.specs.Name.{name_key}
 use Rattle.afp_names.specs.Path.{PathValue}
-use Rattle.afp_volume.proofs.Refusals.{at-found, none-holds}
-use Rattle.afp_volume.proofs.SeenRows.{changes-let-be, changes-seen, gone-lets-be}
-use Rattle.afp_volume.specs.Shared.{Opened, created, delete_inhibit, directory_of, done_at, has_attribute, has_no_ids, is_busy, name_of}
-use Rattle.afp_volume.specs.CreateDir.{create_dir_effect}
-use Rattle.afp_volume.specs.CreateFile.{create_file_effect, create_file_refusal, create_file_there, without_replaced}
-use Rattle.afp_volume.specs.Delete.{delete_effect, delete_refusal}
-use Rattle.afp_volume.specs.Edits.{at_place, changed_at, children_changed, has_children, modified_at, named, renamed, with_changed, with_moved, with_new, with_row, without_node}
-use Rattle.afp_volume.specs.ForkEffect.{fork_of}
-use Rattle.afp_volume.specs.MoveAndRename.{move_effect}
-use Rattle.afp_volume.specs.Rename.{rename_effect}
-use Rattle.afp_volume.specs.SetFileDirParms.{set_parms_effect, settings_in, with_node_set, with_settings}
-use Rattle.afp_volume.specs.SetVolParms.{set_vol_parms_effect}
-use Rattle.afp_volume.specs.TreeSteps.{TreeCall, CreateDir, CreateFile, Delete, MoveAndRename, Rename, SetDirParms, SetFileDirParms, SetFileParms, SetVolParms, tree_effect, tree_refusal}
-use Rattle.afp_volume.specs.VolumeState.{Row as File, VolumeState, root_id, new_row}
-use Rattle.afp_volume.specs.Walk.{Place, child_by_key, found, has_directory, new_place, one_down, one_down_or, row_at}
-use Rattle.afp_volume.proofs.OpenFiles.{another}
+use Rattle.volume_spec.proofs.Refusals.{at-found, none-holds}
+use Rattle.volume_spec.proofs.SeenRows.{changes-let-be, changes-seen, gone-lets-be}
+use Rattle.volume_spec.specs.Shared.{Opened, created, delete_inhibit, directory_of, done_at, has_attribute, has_no_ids, is_busy, name_of}
+use Rattle.volume_spec.specs.CreateDir.{create_dir_effect}
+use Rattle.volume_spec.specs.CreateFile.{create_file_effect, create_file_refusal, create_file_there, without_replaced}
+use Rattle.volume_spec.specs.Delete.{delete_effect, delete_refusal}
+use Rattle.volume_spec.specs.Edits.{at_place, changed_at, children_changed, has_children, modified_at, named, renamed, with_changed, with_moved, with_new, with_row, without_node}
+use Rattle.volume_spec.specs.ForkEffect.{fork_of}
+use Rattle.volume_spec.specs.MoveAndRename.{move_effect}
+use Rattle.volume_spec.specs.Rename.{rename_effect}
+use Rattle.volume_spec.specs.SetFileDirParms.{set_parms_effect, settings_in, with_node_set, with_settings}
+use Rattle.volume_spec.specs.SetVolParms.{set_vol_parms_effect}
+use Rattle.volume_spec.specs.TreeSteps.{TreeCall, CreateDir, CreateFile, Delete, MoveAndRename, Rename, SetDirParms, SetFileDirParms, SetFileParms, SetVolParms, tree_effect, tree_refusal}
+use Rattle.volume_spec.specs.VolumeState.{Row as File, VolumeState, root_id, new_row}
+use Rattle.volume_spec.specs.Walk.{Place, child_by_key, found, has_directory, new_place, one_down, one_down_or, row_at}
+use Rattle.volume_spec.proofs.OpenFiles.{another}
 
 -- the fork of a node has these bytes
 abbrev pub Has : ℕ → Bool → List ℕ → VolumeState → Type 0

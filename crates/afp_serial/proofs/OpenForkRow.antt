@@ -22,8 +22,8 @@ use Rattle.afp_replies.specs.Commands.{rows, shape_in, shape_of}
 use Rattle.afp_replies.specs.Replies.{canonical_reply}
 use Rattle.afp_replies.specs.Requested.{IsTold}
 use Rattle.afp_replies.specs.declared.reply.Reply.TheVariants.{Opened}
-use Rattle.afp_requests.specs.declared.call.Call.{Call}
-use Rattle.afp_requests.specs.declared.call.Call.TheVariants as calls
+use Rattle.afp_calls_grammar.specs.declared.call.Call.{Call}
+use Rattle.afp_calls_grammar.specs.declared.call.Call.TheVariants as calls
 use Rattle.afp_serial.proofs.ForkRows.{file-answer}
 use Rattle.afp_serial.proofs.FreeReferences.{lowest-free, lowest-within, opens-few}
 use Rattle.afp_serial.proofs.ListShown.{within}
@@ -41,18 +41,18 @@ use Rattle.afp_serial.specs.Fork.{OpenAsked, access_of, denied_of, file_asked, f
 use Rattle.afp_serial.specs.OnVolume.{opened_on, refused_on}
 use Rattle.afp_serial.specs.ReplyKinds.{command_of, reply_kind}
 use Rattle.afp_serial.specs.Sound.{IsSound, has_apart_sessions, has_lawful_caches, has_typed_fields, has_volume_open, is_file_of, is_lawful_open, share_fork}
-use Rattle.afp_volume.proofs.CallsSound.{not-false}
-use Rattle.afp_volume.proofs.Refusals.{none-first, none-holds}
-use Rattle.afp_volume.proofs.SeenRows.{file-found, test-found}
-use Rattle.afp_volume.proofs.TestedLists.{all-weaker, any-weaker, contra, count-none, find-passes, none-all}
-use Rattle.afp_volume.proofs.Trees.{tree-parts}
-use Rattle.afp_volume.proofs.Walks.{row-there}
-use Rattle.afp_volume.specs.Shared.{behind, done_at, has_attribute, write_inhibit}
-use Rattle.afp_volume.specs.NodeValues.{file_values}
-use Rattle.afp_volume.specs.OpenFork.{file_of, fork_values, is_resource, open_fork_file, open_fork_refusal}
-use Rattle.afp_volume.specs.SoundVolume.{IsSoundVolume, has_file, has_node}
-use Rattle.afp_volume.specs.VolumeState.{Row as File, VolumeState}
-use Rattle.afp_volume.specs.Walk.{found, row_at}
+use Rattle.volume_spec.proofs.CallsSound.{not-false}
+use Rattle.volume_spec.proofs.Refusals.{none-first, none-holds}
+use Rattle.volume_spec.proofs.SeenRows.{file-found, test-found}
+use Rattle.volume_spec.proofs.TestedLists.{all-weaker, any-weaker, contra, count-none, find-passes, none-all}
+use Rattle.volume_spec.proofs.Trees.{tree-parts}
+use Rattle.volume_spec.proofs.Walks.{row-there}
+use Rattle.volume_spec.specs.Shared.{behind, done_at, has_attribute, write_inhibit}
+use Rattle.volume_spec.specs.NodeValues.{file_values}
+use Rattle.volume_spec.specs.OpenFork.{file_of, fork_values, is_resource, open_fork_file, open_fork_refusal}
+use Rattle.volume_spec.specs.SoundVolume.{IsSoundVolume, has_file, has_node}
+use Rattle.volume_spec.specs.VolumeState.{Row as File, VolumeState}
+use Rattle.volume_spec.specs.Walk.{found, row_at}
 
 -- the file that is found
 

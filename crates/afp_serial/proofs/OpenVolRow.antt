@@ -9,7 +9,7 @@ use Rattle.afp_bitmap.specs.declared.params.Values.TheVariants.{Volume}
 use Rattle.afp_bitmap.specs.declared.volume.VolumeValues.{VolumeValues}
 use Rattle.afp_replies.specs.declared.reply.Reply.TheVariants.{Params}
 use Rattle.afp_replies.specs.Commands.{rows, shape_in, shape_of}
-use Rattle.afp_requests.specs.declared.call.Call.TheVariants.{OpenVol}
+use Rattle.afp_calls_grammar.specs.declared.call.Call.TheVariants.{OpenVol}
 use Rattle.afp_serial.proofs.OnVolumeRows.{Asks, IsToldTo, refused_before-none, refused_before-refused, told-shown}
 use Rattle.afp_serial.proofs.Replaced.{TakesPlace, replaced-apart, replaced-old, replaced-sound, volume-kept}
 use Rattle.afp_serial.proofs.SoundParts.{ApartSessions, sessions-parts, opens-parts, caches-parts}
@@ -20,9 +20,9 @@ use Rattle.afp_serial.proofs.VolumeStates.{served-at}
 use Rattle.afp_serial.specs.World.{plain, refused_before, has_opened, has_session, volume_at, with_session, World, Session}
 use Rattle.afp_serial.specs.OpenVol.{open_vol_row, opens_volume, state_named, volume_named, with_volume}
 use Rattle.afp_serial.specs.Sound.{IsSound, has_volume_open, is_file_of, is_lawful_open, is_lawful_cache}
-use Rattle.afp_volume.proofs.TestedLists.{all-weaker, any-longer, find-all}
-use Rattle.afp_volume.specs.GetVolParms.{get_vol_parms_refusal}
-use Rattle.afp_volume.specs.VolumeState.{VolumeState}
+use Rattle.volume_spec.proofs.TestedLists.{all-weaker, any-longer, find-all}
+use Rattle.volume_spec.specs.GetVolParms.{get_vol_parms_refusal}
+use Rattle.volume_spec.specs.VolumeState.{VolumeState}
 
 -- what was open stays open
 

@@ -4,7 +4,7 @@ use Rattle.std.specs.Prelude.{count_by, ◌==◌, nat_le, nat_lt}
 use Rattle.std.proofs.lemmas.Bool.{and_parts, and_from, or_parts, ltb-true, lt-ltb, leb-false, le-leb, eqb-true, ne_eqb}
 use Rattle.afp_base.specs.Limits.{most_forks}
 use Rattle.afp_serial.proofs.SoundParts.{ApartSessions, sessions-parts, sessions-whole, LawfulOpens, opens-parts, opens-whole, caches-parts, caches-whole, KeptLimits, limits-parts, limits-whole, same_number, same_link, is_below, keeps_forks}
-use Rattle.afp_volume.proofs.TestedLists.{all-weaker, all-snoc, any-at, any-longer, apart-snoc, count-none}
+use Rattle.volume_spec.proofs.TestedLists.{all-weaker, all-snoc, any-at, any-longer, apart-snoc, count-none}
 use Rattle.afp_serial.specs.declared.attachment.Attachment.{Attachment}
 use Rattle.afp_serial.specs.declared.attachment.Attachment.TheVariants.{Attached, Detached}
 use Rattle.afp_serial.specs.Answer.{is_full, link_number, new_session, with_new_session}

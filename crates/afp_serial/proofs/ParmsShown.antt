@@ -7,17 +7,17 @@ use Rattle.afp_bitmap.specs.Bits.{volume_mask, file_mask, dir_mask, is_outside}
 use Rattle.afp_replies.specs.Entry.{IsNode}
 use Rattle.afp_serial.proofs.ListShown.{node-answer, within}
 use Rattle.afp_serial.specs.ParmsReplies.{VolumeIsShown, NodeIsShown}
-use Rattle.afp_volume.proofs.CallsSound.{or-none}
-use Rattle.afp_volume.proofs.Refusals.{none-first, none-holds}
-use Rattle.afp_volume.proofs.ToldValues.{node-told, volume-told}
-use Rattle.afp_volume.specs.Shared.{Opened, done_at}
-use Rattle.afp_volume.specs.GetFileDirParms.{get_file_dir_parms_refusal, get_file_dir_parms_values}
-use Rattle.afp_volume.specs.GetVolParms.{get_vol_parms_refusal}
-use Rattle.afp_volume.specs.NodeValues.{node_values, dir_values, file_values}
-use Rattle.afp_volume.specs.SoundVolume.{IsSoundVolume}
-use Rattle.afp_volume.specs.TypedVolume.{is_typed_volume}
-use Rattle.afp_volume.specs.VolumeState.{Row, VolumeState}
-use Rattle.afp_volume.specs.Walk.{found, row_at}
+use Rattle.volume_spec.proofs.CallsSound.{or-none}
+use Rattle.volume_spec.proofs.Refusals.{none-first, none-holds}
+use Rattle.volume_spec.proofs.ToldValues.{node-told, volume-told}
+use Rattle.volume_spec.specs.Shared.{Opened, done_at}
+use Rattle.volume_spec.specs.GetFileDirParms.{get_file_dir_parms_refusal, get_file_dir_parms_values}
+use Rattle.volume_spec.specs.GetVolParms.{get_vol_parms_refusal}
+use Rattle.volume_spec.specs.NodeValues.{node_values, dir_values, file_values}
+use Rattle.volume_spec.specs.SoundVolume.{IsSoundVolume}
+use Rattle.volume_spec.specs.TypedVolume.{is_typed_volume}
+use Rattle.volume_spec.specs.VolumeState.{Row, VolumeState}
+use Rattle.volume_spec.specs.Walk.{found, row_at}
 
 pub volume-is-shown : VolumeIsShown
 unfolding get_vol_parms_refusal

@@ -13,7 +13,7 @@ use Rattle.afp_serial.proofs.Keeps.{AnyCall, Keeps, after-keeps, nothing-known}
 use Rattle.afp_serial.proofs.Opened.{opened-apart}
 use Rattle.afp_serial.proofs.RowsSound.{row-sound}
 use Rattle.afp_serial.proofs.SoundParts.{ApartSessions, same_link}
-use Rattle.afp_volume.proofs.TestedLists.{any-filter, apart-places, never}
+use Rattle.volume_spec.proofs.TestedLists.{any-filter, apart-places, never}
 use Rattle.afp_serial.specs.declared.ask.Ask.{Ask}
 use Rattle.afp_serial.specs.declared.ask.Ask.TheVariants as ask
 use Rattle.afp_serial.specs.declared.ask.Entry.{Entry}

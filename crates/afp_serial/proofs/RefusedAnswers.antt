@@ -9,7 +9,7 @@ use Rattle.afp_replies.proofs.Showing.{what_fits_a_request}
 use Rattle.afp_replies.specs.Replies.{Shows, canonical_reply}
 use Rattle.afp_replies.specs.declared.reply.Reply.TheVariants.{Empty}
 use Rattle.afp_replies.specs.declared.reply.ReplyKind.{ReplyKind}
-use Rattle.afp_requests.specs.Spelt.{spelt_call}
+use Rattle.afp_calls_grammar.specs.Spelt.{spelt_call}
 use Rattle.afp_serial.proofs.RowsSound.{row-sound}
 use Rattle.afp_serial.proofs.ShownAnswers.{block_in, code_of, ends_in}
 use Rattle.afp_serial.proofs.SoundRow.{is_refused, tells_no_more, no_more-nothing, no_more-parts}

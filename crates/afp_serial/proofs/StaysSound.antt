@@ -7,8 +7,8 @@ use Rattle.afp_base.specs.Limits.{payload_limit, replay_cache_size}
 use Rattle.afp_base.specs.Cached.{Request, Answer, Kept, is_repeat, either, cached_answer}
 use Rattle.afp_base.specs.declared.code.Code.TheVariants as code
 use Rattle.afp_base.specs.Apart.{are_apart}
-use Rattle.afp_requests.specs.Spelt.{spelt_call}
-use Rattle.afp_requests.specs.declared.call.Call.{Call}
+use Rattle.afp_calls_grammar.specs.Spelt.{spelt_call}
+use Rattle.afp_calls_grammar.specs.declared.call.Call.{Call}
 use Rattle.afp_serial.proofs.Closed.{ending-sound}
 use Rattle.afp_serial.proofs.Keeps.{IsKnown, Keeps, after-keeps}
 use Rattle.afp_serial.proofs.LawfulCalls.{ask-lawful}
@@ -17,7 +17,7 @@ use Rattle.afp_serial.proofs.RowsSound.{row-sound}
 use Rattle.afp_serial.proofs.SoundParts.{caches-parts, fields-parts, fields-whole}
 use Rattle.afp_serial.proofs.Refusals.{refuses_shortly, verdict-short}
 use Rattle.afp_serial.proofs.SoundRow.{is_ok, is_short}
-use Rattle.afp_volume.proofs.TestedLists.{find-all}
+use Rattle.volume_spec.proofs.TestedLists.{find-all}
 use Rattle.afp_serial.proofs.Verdicts.{comes-to, repeats-kept}
 use Rattle.afp_serial.specs.declared.ask.Ask.{Ask}
 use Rattle.afp_serial.specs.declared.ask.Ask.TheVariants as ask
@@ -29,7 +29,7 @@ use Rattle.afp_serial.specs.Answer.{answer, after, committed_of, drain_moment, i
 use Rattle.afp_serial.specs.History.{is_lawful, stand}
 use Rattle.afp_serial.specs.LawfulCall.{is_lawful_call}
 use Rattle.afp_serial.specs.Ranges.{is_moment, is_moment_or_none, is_typed_ask, is_typed_entry}
-use Rattle.afp_volume.specs.TypedVolume.{is_quad}
+use Rattle.volume_spec.specs.TypedVolume.{is_quad}
 use Rattle.afp_serial.specs.World.{is_on_link, session_at, World, Session, at_moment}
 use Rattle.afp_serial.specs.Shown.{fits_frame, is_answer_to, is_parting_answer}
 use Rattle.afp_serial.specs.Sound.{IsSound, has_apart_sessions, has_lawful_opens, has_lawful_locks, is_lawful_cache, has_lawful_caches, keeps_all_limits}

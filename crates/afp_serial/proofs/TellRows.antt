@@ -11,8 +11,8 @@ use Rattle.afp_replies.specs.declared.list.ListEntry.{ListEntry}
 use Rattle.afp_replies.specs.declared.reply.Reply.TheVariants as replies
 use Rattle.afp_replies.specs.declared.reply.Reply.TheVariants.{Empty, FileDirParams, Node, Params}
 use Rattle.afp_replies.specs.Commands.{rows, shape_in, shape_of}
-use Rattle.afp_requests.specs.Words.{u16}
-use Rattle.afp_requests.specs.declared.call.Call.TheVariants.{CloseDir, Enumerate, EnumerateExt, EnumerateExt2, Flush, GetFileDirParms, GetVolParms, OpenDir}
+use Rattle.afp_calls_grammar.specs.Words.{u16}
+use Rattle.afp_calls_grammar.specs.declared.call.Call.TheVariants.{CloseDir, Enumerate, EnumerateExt, EnumerateExt2, Flush, GetFileDirParms, GetVolParms, OpenDir}
 use Rattle.afp_serial.proofs.LawfulCalls.{field-lawful}
 use Rattle.afp_serial.proofs.OnVolumeRows.{Asks, keeper-there, on-refused, tells-sound, told-shown}
 use Rattle.afp_serial.proofs.SoundRow.{IsSoundRow, no-keeper, no_more-refuses}
@@ -24,7 +24,7 @@ use Rattle.afp_serial.specs.GetFileDirParms.{get_file_dir_parms_row}
 use Rattle.afp_serial.specs.GetVolParms.{get_vol_parms_row}
 use Rattle.afp_serial.specs.OnVolume.{on_volume, opened_on}
 use Rattle.afp_serial.specs.OpenDir.{close_dir_row, open_dir_row}
-use Rattle.afp_volume.specs.Enumerate.{asked_narrow, asked_wide}
+use Rattle.volume_spec.specs.Enumerate.{asked_narrow, asked_wide}
 
 -- rows that are refused where the volume is not open, and do and tell nothing else
 

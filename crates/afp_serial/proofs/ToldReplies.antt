@@ -22,7 +22,7 @@ use Rattle.afp_replies.specs.Replies.{canonical_reply}
 use Rattle.afp_replies.specs.declared.list.ListEntry.{ListEntry}
 use Rattle.afp_replies.specs.declared.reply.Reply.TheVariants as replies
 use Rattle.afp_replies.specs.declared.reply.Reply.TheVariants.{Empty, FileDirParams, Node, Params}
-use Rattle.afp_requests.specs.declared.call.Call.{Call}
+use Rattle.afp_calls_grammar.specs.declared.call.Call.{Call}
 use Rattle.afp_serial.proofs.ListShown.{list-is-shown}
 use Rattle.afp_serial.proofs.OnVolumeRows.{Asks, IsToldTo}
 use Rattle.afp_serial.proofs.ParmsShown.{node-is-shown, volume-is-shown}
@@ -33,19 +33,19 @@ use Rattle.afp_serial.specs.Enumerate.{enumerate_reply}
 use Rattle.afp_serial.specs.GetFileDirParms.{get_file_dir_parms_reply}
 use Rattle.afp_serial.specs.ListReply.{list_entry, list_reply}
 use Rattle.afp_serial.specs.OpenDir.{open_dir_reply}
-use Rattle.afp_volume.proofs.CallsSound.{or-none}
-use Rattle.afp_volume.proofs.Refusals.{none-first, none-holds}
-use Rattle.afp_volume.proofs.ToldValues.{dir-told-id, found-told}
-use Rattle.afp_volume.proofs.TypedEdits.{directory-long, typed-parts}
-use Rattle.afp_volume.specs.Shared.{Opened, behind, done_at, has_no_ids, has_no_room}
-use Rattle.afp_volume.specs.CreateDir.{create_dir_id, create_dir_refusal}
-use Rattle.afp_volume.specs.Enumerate.{ListAsked, entries, enumerate_refusal}
-use Rattle.afp_volume.specs.GetFileDirParms.{get_file_dir_parms_refusal, get_file_dir_parms_values}
-use Rattle.afp_volume.specs.GetVolParms.{get_vol_parms_refusal, volume_values}
-use Rattle.afp_volume.specs.OpenDir.{open_dir_id, open_dir_refusal}
-use Rattle.afp_volume.specs.SoundVolume.{last_next_id, most_nodes}
-use Rattle.afp_volume.specs.VolumeState.{VolumeState}
-use Rattle.afp_volume.specs.Walk.{Place, child_by_key, found, new_place}
+use Rattle.volume_spec.proofs.CallsSound.{or-none}
+use Rattle.volume_spec.proofs.Refusals.{none-first, none-holds}
+use Rattle.volume_spec.proofs.ToldValues.{dir-told-id, found-told}
+use Rattle.volume_spec.proofs.TypedEdits.{directory-long, typed-parts}
+use Rattle.volume_spec.specs.Shared.{Opened, behind, done_at, has_no_ids, has_no_room}
+use Rattle.volume_spec.specs.CreateDir.{create_dir_id, create_dir_refusal}
+use Rattle.volume_spec.specs.Enumerate.{ListAsked, entries, enumerate_refusal}
+use Rattle.volume_spec.specs.GetFileDirParms.{get_file_dir_parms_refusal, get_file_dir_parms_values}
+use Rattle.volume_spec.specs.GetVolParms.{get_vol_parms_refusal, volume_values}
+use Rattle.volume_spec.specs.OpenDir.{open_dir_id, open_dir_refusal}
+use Rattle.volume_spec.specs.SoundVolume.{last_next_id, most_nodes}
+use Rattle.volume_spec.specs.VolumeState.{VolumeState}
+use Rattle.volume_spec.specs.Walk.{Place, child_by_key, found, new_place}
 
 -- nothing
 

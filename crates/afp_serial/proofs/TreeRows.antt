@@ -6,8 +6,8 @@ use Rattle.afp_base.specs.declared.ids.VolumeId.{VolumeId}
 use Rattle.afp_names.specs.Path.{PathValue}
 use Rattle.afp_replies.specs.declared.reply.Reply.TheVariants.{Empty, Node}
 use Rattle.afp_replies.specs.Commands.{rows, shape_in, shape_of}
-use Rattle.afp_requests.specs.Words.{pathname, tail}
-use Rattle.afp_requests.specs.declared.call.Call.TheVariants as calls
+use Rattle.afp_calls_grammar.specs.Words.{pathname, tail}
+use Rattle.afp_calls_grammar.specs.declared.call.Call.TheVariants as calls
 use Rattle.afp_serial.proofs.LawfulCalls.{field-lawful}
 use Rattle.afp_serial.proofs.OnVolumeRows.{Asks, changes-sound}
 use Rattle.afp_serial.proofs.SoundRow.{IsSoundRow}
@@ -17,9 +17,9 @@ use Rattle.afp_serial.specs.CreateFile.{create_file_row}
 use Rattle.afp_serial.specs.Place.{delete_row, move_and_rename_row, rename_row}
 use Rattle.afp_serial.specs.SetFileDirParms.{set_dir_parms_row, set_file_dir_parms_row, set_file_parms_row}
 use Rattle.afp_serial.specs.SetVolParms.{set_vol_parms_row}
-use Rattle.afp_volume.specs.CreateFile.{is_hard}
-use Rattle.afp_volume.specs.TreeSteps.{CreateDir, CreateFile, Delete, MoveAndRename, Rename, SetDirParms, SetFileDirParms, SetFileParms, SetVolParms}
-use Rattle.afp_volume.specs.Walk.{is_named_path}
+use Rattle.volume_spec.specs.CreateFile.{is_hard}
+use Rattle.volume_spec.specs.TreeSteps.{CreateDir, CreateFile, Delete, MoveAndRename, Rename, SetDirParms, SetFileDirParms, SetFileParms, SetVolParms}
+use Rattle.volume_spec.specs.Walk.{is_named_path}
 
 -- FPCreateDir
 

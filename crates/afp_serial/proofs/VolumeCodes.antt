@@ -12,22 +12,22 @@ use Rattle.afp_names.specs.Path.{PathValue}
 use Rattle.afp_names.specs.declared.path.Step.{Step}
 use Rattle.afp_names.specs.declared.path.Step.TheVariants.{Down, Up}
 use Rattle.afp_serial.proofs.SoundRow.{tells_no_more}
-use Rattle.afp_volume.specs.Shared.{Opened, behind, first_or}
-use Rattle.afp_volume.specs.CreateDir.{create_dir_refusal}
-use Rattle.afp_volume.specs.CreateFile.{create_file_refusal, create_file_there}
-use Rattle.afp_volume.specs.Delete.{delete_refusal}
-use Rattle.afp_volume.specs.Enumerate.{ListAsked, counted_children, enumerate_refusal, fits_reply, from_start}
-use Rattle.afp_volume.specs.GetFileDirParms.{get_file_dir_parms_refusal}
-use Rattle.afp_volume.specs.GetVolParms.{get_vol_parms_refusal}
-use Rattle.afp_volume.specs.MoveAndRename.{move_refusal}
-use Rattle.afp_volume.specs.OpenDir.{open_dir_refusal}
-use Rattle.afp_volume.specs.OpenFork.{open_fork_refusal}
-use Rattle.afp_volume.specs.Rename.{rename_refusal}
-use Rattle.afp_volume.specs.SetFileDirParms.{set_dir_parms_refusal, set_file_dir_parms_refusal, set_file_parms_refusal}
-use Rattle.afp_volume.specs.SetVolParms.{set_vol_parms_refusal}
-use Rattle.afp_volume.specs.TreeSteps.{TreeCall, CreateDir, CreateFile, Delete, MoveAndRename, Rename, SetDirParms, SetFileDirParms, SetFileParms, SetVolParms, tree_refusal}
-use Rattle.afp_volume.specs.VolumeState.{Row, VolumeState, root_parent}
-use Rattle.afp_volume.specs.Walk.{before_down, child, child_by_key, failed_down, found, has_directory, is_start, named_in, new_place, not_above_root, one_down, one_down_or, onward, parent_at, place_behind, walk, walk_from}
+use Rattle.volume_spec.specs.Shared.{Opened, behind, first_or}
+use Rattle.volume_spec.specs.CreateDir.{create_dir_refusal}
+use Rattle.volume_spec.specs.CreateFile.{create_file_refusal, create_file_there}
+use Rattle.volume_spec.specs.Delete.{delete_refusal}
+use Rattle.volume_spec.specs.Enumerate.{ListAsked, counted_children, enumerate_refusal, fits_reply, from_start}
+use Rattle.volume_spec.specs.GetFileDirParms.{get_file_dir_parms_refusal}
+use Rattle.volume_spec.specs.GetVolParms.{get_vol_parms_refusal}
+use Rattle.volume_spec.specs.MoveAndRename.{move_refusal}
+use Rattle.volume_spec.specs.OpenDir.{open_dir_refusal}
+use Rattle.volume_spec.specs.OpenFork.{open_fork_refusal}
+use Rattle.volume_spec.specs.Rename.{rename_refusal}
+use Rattle.volume_spec.specs.SetFileDirParms.{set_dir_parms_refusal, set_file_dir_parms_refusal, set_file_parms_refusal}
+use Rattle.volume_spec.specs.SetVolParms.{set_vol_parms_refusal}
+use Rattle.volume_spec.specs.TreeSteps.{TreeCall, CreateDir, CreateFile, Delete, MoveAndRename, Rename, SetDirParms, SetFileDirParms, SetFileParms, SetVolParms, tree_refusal}
+use Rattle.volume_spec.specs.VolumeState.{Row, VolumeState, root_parent}
+use Rattle.volume_spec.specs.Walk.{before_down, child, child_by_key, failed_down, found, has_directory, is_start, named_in, new_place, not_above_root, one_down, one_down_or, onward, parent_at, place_behind, walk, walk_from}
 
 -- such a code, or none
 abbrev pub is_refusal : Option Code → Bool

@@ -15,10 +15,10 @@ use Rattle.afp_replies.specs.Commands.{rows, shape_in, shape_of}
 use Rattle.afp_replies.specs.Replies.{canonical_reply}
 use Rattle.afp_replies.specs.declared.reply.Reply.{Reply}
 use Rattle.afp_replies.specs.declared.reply.Reply.TheVariants.{Empty, End, EndExt}
-use Rattle.afp_requests.specs.Call.{layout_of}
-use Rattle.afp_requests.specs.Words.{i32, i64}
-use Rattle.afp_requests.specs.declared.call.Call.{Call}
-use Rattle.afp_requests.specs.declared.call.Call.TheVariants.{SetForkParms, Write, WriteExt}
+use Rattle.afp_calls_grammar.specs.Call.{layout_of}
+use Rattle.afp_calls_grammar.specs.Words.{i32, i64}
+use Rattle.afp_calls_grammar.specs.declared.call.Call.{Call}
+use Rattle.afp_calls_grammar.specs.declared.call.Call.TheVariants.{SetForkParms, Write, WriteExt}
 use Rattle.afp_serial.proofs.LawfulCalls.{field-lawful}
 use Rattle.afp_serial.proofs.OnForkRows.{IsHeld, IsHeldFile, fork-row-sound, none-refused, sound-file}
 use Rattle.afp_serial.proofs.OnVolumeRows.{Asks, IsToldTo}
@@ -31,12 +31,12 @@ use Rattle.afp_serial.specs.LawfulCall.{is_lawful_call, is_lawful_field, is_lawf
 use Rattle.afp_serial.specs.OnFork.{OpenFile, bytes_of, keeper_if, own_keeper, with_bytes}
 use Rattle.afp_serial.specs.Sound.{IsSound}
 use Rattle.afp_serial.specs.World.{World, Session}
-use Rattle.afp_volume.proofs.ForkEffects.{files-stay, fork-bytes-typed, fork-few, fork-sound, fork-typed, new-few}
-use Rattle.afp_volume.proofs.TypedEdits.{drop-bytes, take-bytes}
-use Rattle.afp_volume.specs.ForkEffect.{fork_effect, would_pass}
-use Rattle.afp_volume.specs.TypedVolume.{are_bytes, is_byte}
-use Rattle.afp_volume.specs.VolumeState.{VolumeState}
-use Rattle.afp_volume.specs.Walk.{row_at}
+use Rattle.volume_spec.proofs.ForkEffects.{files-stay, fork-bytes-typed, fork-few, fork-sound, fork-typed, new-few}
+use Rattle.volume_spec.proofs.TypedEdits.{drop-bytes, take-bytes}
+use Rattle.volume_spec.specs.ForkEffect.{fork_effect, would_pass}
+use Rattle.volume_spec.specs.TypedVolume.{are_bytes, is_byte}
+use Rattle.volume_spec.specs.VolumeState.{VolumeState}
+use Rattle.volume_spec.specs.Walk.{row_at}
 
 -- the world with other bytes
 

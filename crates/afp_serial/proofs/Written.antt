@@ -20,10 +20,10 @@ use Rattle.afp_serial.specs.OnFork.{OpenFile, bytes_of, done_with, file_on, file
 use Rattle.afp_serial.specs.OnVolume.{with_state}
 use Rattle.afp_serial.specs.Sound.{IsSound}
 use Rattle.afp_serial.specs.WriteLaws.{ForkChange, puts, sets_length, bytes_under, changed_by, changed_by_all, misses, read_of}
-use Rattle.afp_volume.proofs.ForkEffects.{fork-given, fork-lets-be}
-use Rattle.afp_volume.specs.ForkEffect.{fork_effect, fork_of, written}
-use Rattle.afp_volume.specs.VolumeState.{Row as File, VolumeState}
-use Rattle.afp_volume.specs.Walk.{row_at}
+use Rattle.volume_spec.proofs.ForkEffects.{fork-given, fork-lets-be}
+use Rattle.volume_spec.specs.ForkEffect.{fork_effect, fork_of, written}
+use Rattle.volume_spec.specs.VolumeState.{Row as File, VolumeState}
+use Rattle.volume_spec.specs.Walk.{row_at}
 
 -- seen under a reference
 

@@ -3,8 +3,8 @@ use Rattle.std.specs.Prelude.{ℕ}
 use Rattle.afp_base.specs.declared.ids.NodeId.{NodeId}
 use Rattle.afp_names.specs.Path.{PathValue}
 use Rattle.afp_replies.specs.declared.reply.Reply.TheVariants.{Node}
-use Rattle.afp_volume.specs.CreateDir.{create_dir_id}
-use Rattle.afp_volume.specs.TreeSteps.{CreateDir}
+use Rattle.volume_spec.specs.CreateDir.{create_dir_id}
+use Rattle.volume_spec.specs.TreeSteps.{CreateDir}
 use Rattle.afp_serial.specs.World.{CallRow}
 use Rattle.afp_serial.specs.OnVolume.{changes_tree}
 

@@ -2,8 +2,8 @@
 use Rattle.std.specs.Prelude.{ℕ}
 use Rattle.afp_names.specs.Path.{PathValue}
 use Rattle.afp_replies.specs.declared.reply.Reply.TheVariants.{Empty}
-use Rattle.afp_volume.specs.CreateFile.{is_hard}
-use Rattle.afp_volume.specs.TreeSteps.{CreateFile}
+use Rattle.volume_spec.specs.CreateFile.{is_hard}
+use Rattle.volume_spec.specs.TreeSteps.{CreateFile}
 use Rattle.afp_serial.specs.World.{CallRow}
 use Rattle.afp_serial.specs.OnVolume.{changes_tree}
 

@@ -3,10 +3,10 @@ use Rattle.std.specs.Prelude.{ℕ, List}
 use Rattle.afp_names.specs.Path.{PathValue}
 use Rattle.afp_replies.specs.declared.reply.Reply.{Reply}
 use Rattle.afp_replies.specs.declared.reply.Reply.TheVariants.{Empty}
-use Rattle.afp_volume.specs.Shared.{Opened, done_at}
-use Rattle.afp_volume.specs.Enumerate.{ListAsked, asked_narrow, asked_wide, entries, enumerate_refusal}
-use Rattle.afp_volume.specs.VolumeState.{VolumeState}
-use Rattle.afp_volume.specs.Walk.{found}
+use Rattle.volume_spec.specs.Shared.{Opened, done_at}
+use Rattle.volume_spec.specs.Enumerate.{ListAsked, asked_narrow, asked_wide, entries, enumerate_refusal}
+use Rattle.volume_spec.specs.VolumeState.{VolumeState}
+use Rattle.volume_spec.specs.Walk.{found}
 use Rattle.afp_serial.specs.World.{CallRow}
 use Rattle.afp_serial.specs.ListReply.{list_reply}
 use Rattle.afp_serial.specs.OnVolume.{opened_on, tells_of}

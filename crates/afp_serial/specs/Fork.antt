@@ -10,10 +10,10 @@ use Rattle.afp_bitmap.specs.Bits.{file_mask, is_outside}
 use Rattle.afp_names.specs.Path.{PathValue}
 use Rattle.afp_replies.specs.declared.reply.Reply.{Reply}
 use Rattle.afp_replies.specs.declared.reply.Reply.TheVariants as reply
-use Rattle.afp_volume.specs.ForkEffect.{would_pass}
-use Rattle.afp_volume.specs.OpenFork.{fork_values, is_resource, open_fork_file, open_fork_refusal}
-use Rattle.afp_volume.specs.SetForkParms.{asks_length, has_no_length, length_in}
-use Rattle.afp_volume.specs.VolumeState.{Row as File, VolumeState}
+use Rattle.volume_spec.specs.ForkEffect.{would_pass}
+use Rattle.volume_spec.specs.OpenFork.{fork_values, is_resource, open_fork_file, open_fork_refusal}
+use Rattle.volume_spec.specs.SetForkParms.{asks_length, has_no_length, length_in}
+use Rattle.volume_spec.specs.VolumeState.{Row as File, VolumeState}
 use Rattle.afp_serial.specs.World.{Effect, Refusal, CallRow, commits_nothing, plain, with_empty_reply, vol, refused_before, closing, is_open, volume_at, World, Session, OpenFork}
 use Rattle.afp_serial.specs.OnFork.{OpenFile, bytes_of, is_locked, keeper_if, keeps_all, own_keeper, placed, row_on_fork, with_bytes}
 use Rattle.afp_serial.specs.OnVolume.{opened_on, refused_on}

@@ -6,7 +6,7 @@ use Rattle.afp_base.specs.ForkBytes.{splice, taken}
 use Rattle.afp_base.specs.declared.code.Code.TheVariants.{AccessDenied, DiskFull, EOFErr, LockErr, ParamErr}
 use Rattle.afp_replies.specs.declared.reply.Reply.{Reply}
 use Rattle.afp_replies.specs.declared.reply.Reply.TheVariants.{End, EndExt, Piece}
-use Rattle.afp_volume.specs.ForkEffect.{would_pass}
+use Rattle.volume_spec.specs.ForkEffect.{would_pass}
 use Rattle.afp_serial.specs.World.{Refusal, CallRow, plain, World}
 use Rattle.afp_serial.specs.OnFork.{OpenFile, bytes_of, is_locked, keeper_if, keeps_all, row_on_fork, with_bytes}
 

@@ -5,7 +5,7 @@ use Rattle.afp_base.specs.DenyMode.{Fork}
 use Rattle.afp_base.specs.declared.code.Code.{Code}
 use Rattle.afp_base.specs.declared.code.Code.TheVariants.{AccessDenied, BitmapErr, DenyConflict, EOFErr, LockErr, NoMoreLocks, Ok, ParamErr, RangeNotLocked, RangeOverlap, TooManyFilesOpen}
 use Rattle.afp_replies.specs.Replies.{canonical_reply}
-use Rattle.afp_volume.specs.VolumeState.{Row as File, VolumeState, fresh_volume, new_row}
+use Rattle.volume_spec.specs.VolumeState.{Row as File, VolumeState, fresh_volume, new_row}
 use Rattle.afp_serial.specs.Answer.{new_session}
 use Rattle.afp_serial.specs.World.{Effect, Refused, CallRow, World, Session, OpenFork, Lock, start_world}
 use Rattle.afp_serial.specs.Fork.{OpenAsked, access_of, close_fork_row, denied_of, get_fork_parms_row, opens_fork, set_fork_parms_row}

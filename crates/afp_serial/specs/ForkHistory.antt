@@ -3,11 +3,11 @@ use Rattle.std.specs.Prelude.{ℕ, pos, Bool, true, ◌&&◌, if◌then◌else�
 use Rattle.std.specs.List.{list_any}
 use Rattle.afp_base.specs.Cached.{Request}
 use Rattle.afp_base.specs.DenyMode.{Fork, is_one_fork}
-use Rattle.afp_requests.specs.declared.call.Call.{Call}
-use Rattle.afp_requests.specs.declared.call.Call.TheVariants.{SetForkParms, Write, WriteExt}
-use Rattle.afp_volume.specs.ForkEffect.{fork_of}
-use Rattle.afp_volume.specs.VolumeState.{VolumeState}
-use Rattle.afp_volume.specs.Walk.{row_at}
+use Rattle.afp_calls_grammar.specs.declared.call.Call.{Call}
+use Rattle.afp_calls_grammar.specs.declared.call.Call.TheVariants.{SetForkParms, Write, WriteExt}
+use Rattle.volume_spec.specs.ForkEffect.{fork_of}
+use Rattle.volume_spec.specs.VolumeState.{VolumeState}
+use Rattle.volume_spec.specs.Walk.{row_at}
 use Rattle.afp_serial.specs.declared.ask.Ask.{Ask}
 use Rattle.afp_serial.specs.declared.ask.Ask.TheVariants as ask
 use Rattle.afp_serial.specs.declared.ask.Entry.{Entry}

@@ -10,14 +10,14 @@ use Rattle.afp_base.specs.declared.ids.VolumeId.{VolumeId}
 use Rattle.afp_names.specs.Path.{PathValue}
 use Rattle.afp_replies.specs.Replies.{Shows, canonical_reply}
 use Rattle.afp_replies.specs.declared.reply.Reply.{Reply}
-use Rattle.afp_requests.specs.declared.call.Call.{Call}
-use Rattle.afp_requests.specs.declared.call.Call.TheVariants as calls
-use Rattle.afp_requests.specs.declared.call.Call.TheVariants.{ByteRangeLock, ByteRangeLockExt, CloseFork, FlushFork, GetForkParms, Read, ReadExt, SetForkParms, Write, WriteExt}
+use Rattle.afp_calls_grammar.specs.declared.call.Call.{Call}
+use Rattle.afp_calls_grammar.specs.declared.call.Call.TheVariants as calls
+use Rattle.afp_calls_grammar.specs.declared.call.Call.TheVariants.{ByteRangeLock, ByteRangeLockExt, CloseFork, FlushFork, GetForkParms, Read, ReadExt, SetForkParms, Write, WriteExt}
 use Rattle.afp_serial.specs.OnFork.{OpenFile, is_met_by_other}
 use Rattle.afp_base.specs.DenyMode.{Access, Conflicts, Fork}
 use Rattle.afp_base.specs.Overlap.{Covers, Range}
 use Rattle.afp_bitmap.specs.Bits.{file_mask, is_outside}
-use Rattle.afp_volume.specs.VolumeState.{Row as File}
+use Rattle.volume_spec.specs.VolumeState.{Row as File}
 use Rattle.afp_serial.specs.World.{Refused, CallRow, is_open, volume_at, World, Session, OpenFork, Lock}
 use Rattle.afp_serial.specs.Fork.{close_fork_row, flush_fork_row, get_fork_parms_row, lowest_free, open_fork_row, set_fork_parms_row, file_asked, is_denied, opened_reply}
 use Rattle.afp_serial.specs.ForkBytes.{read_ext_row, read_row, write_ext_row, write_row, ReadAsked, read_reply}

@@ -2,7 +2,7 @@
 use Rattle.std.specs.Prelude.{ℕ}
 use Rattle.afp_bitmap.specs.declared.params.Values.TheVariants.{Volume}
 use Rattle.afp_replies.specs.declared.reply.Reply.TheVariants.{Params}
-use Rattle.afp_volume.specs.GetVolParms.{get_vol_parms_refusal, volume_values}
+use Rattle.volume_spec.specs.GetVolParms.{get_vol_parms_refusal, volume_values}
 use Rattle.afp_serial.specs.World.{CallRow}
 use Rattle.afp_serial.specs.OnVolume.{tells_of}
 

@@ -1,11 +1,11 @@
 -- What is known of a call that bytes spell: its numbers are in the ranges of their fields, its texts are bytes, and its paths go down to names (AFP Reference, "Command formats", "Pathnames").
 use Rattle.std.specs.Prelude.{ℕ, ℤ, pos, negsuc, ◌^◌, nat_lt, Bool, true, ◌&&◌, List, Option, None, Some}
 use Rattle.std.specs.List.{list_all}
-use Rattle.afp_requests.specs.Call.{layout_of}
-use Rattle.afp_requests.specs.Words.{Word, Value, RequestField, Enclosed, Nothing, Piece, Literal, Pad, LastPad, Even, Number, Within, Count, Optional, Signed32, Signed64, Plain, Counted, Pathname, Tail}
-use Rattle.afp_requests.specs.declared.call.Call.{Call}
-use Rattle.afp_volume.specs.TypedVolume.{are_bytes}
-use Rattle.afp_volume.specs.Walk.{is_named_path}
+use Rattle.afp_calls_grammar.specs.Call.{layout_of}
+use Rattle.afp_calls_grammar.specs.Words.{Word, Value, RequestField, Enclosed, Nothing, Piece, Literal, Pad, LastPad, Even, Number, Within, Count, Optional, Signed32, Signed64, Plain, Counted, Pathname, Tail}
+use Rattle.afp_calls_grammar.specs.declared.call.Call.{Call}
+use Rattle.volume_spec.specs.TypedVolume.{are_bytes}
+use Rattle.volume_spec.specs.Walk.{is_named_path}
 
 -- a number of so many bytes
 abbrev pub is_number : ℕ → ℕ → Bool

@@ -8,10 +8,10 @@ use Rattle.afp_base.specs.declared.ids.LinkNumber.{LinkNumber}
 use Rattle.afp_replies.specs.Replies.{Shows, canonical_reply}
 use Rattle.afp_replies.specs.declared.reply.Reply.TheVariants.{Empty}
 use Rattle.afp_replies.specs.declared.reply.ReplyKind.{ReplyKind}
-use Rattle.afp_requests.specs.Spelt.{is_command, spelt_call}
-use Rattle.afp_requests.specs.declared.call.Call.{Call}
-use Rattle.afp_volume.specs.TypedVolume.{are_bytes}
-use Rattle.afp_volume.specs.VolumeState.{VolumeState}
+use Rattle.afp_calls_grammar.specs.Spelt.{is_command, spelt_call}
+use Rattle.afp_calls_grammar.specs.declared.call.Call.{Call}
+use Rattle.volume_spec.specs.TypedVolume.{are_bytes}
+use Rattle.volume_spec.specs.VolumeState.{VolumeState}
 use Rattle.afp_serial.specs.declared.ask.Ask.{Ask}
 use Rattle.afp_serial.specs.declared.ask.Ask.TheVariants as ask
 use Rattle.afp_serial.specs.declared.ask.Entry.{Entry}

@@ -7,13 +7,13 @@ use Rattle.afp_replies.specs.declared.reply.Reply.{Reply}
 use Rattle.afp_replies.specs.declared.reply.Reply.TheVariants as replies
 use Rattle.afp_replies.specs.Fitting.{FitsReply}
 use Rattle.afp_replies.specs.Replies.{canonical_reply}
-use Rattle.afp_volume.specs.Shared.{Opened}
-use Rattle.afp_volume.specs.Enumerate.{ListAsked, list_head, entry_size, entries, enumerate_refusal}
-use Rattle.afp_volume.specs.NodeValues.{node_values}
-use Rattle.afp_volume.specs.SoundVolume.{IsSoundVolume}
-use Rattle.afp_volume.specs.TypedVolume.{is_typed_volume}
-use Rattle.afp_volume.specs.VolumeState.{Row, VolumeState}
-use Rattle.afp_volume.specs.Walk.{found}
+use Rattle.volume_spec.specs.Shared.{Opened}
+use Rattle.volume_spec.specs.Enumerate.{ListAsked, list_head, entry_size, entries, enumerate_refusal}
+use Rattle.volume_spec.specs.NodeValues.{node_values}
+use Rattle.volume_spec.specs.SoundVolume.{IsSoundVolume}
+use Rattle.volume_spec.specs.TypedVolume.{is_typed_volume}
+use Rattle.volume_spec.specs.VolumeState.{Row, VolumeState}
+use Rattle.volume_spec.specs.Walk.{found}
 
 -- the entry of a node (AFP Reference, "FPEnumerate")
 abbrev pub list_entry : List Row → List Opened → ListAsked → Row → ListEntry

@@ -4,9 +4,9 @@ use Rattle.std.specs.Prelude.{ℕ, zero, suc, ◌+◌, ◌==◌, nat_lt, Bool, t
 use Rattle.std.specs.List.{list_any}
 use Rattle.afp_base.specs.Overlap.{Range, do_meet}
 use Rattle.afp_base.specs.declared.code.Code.TheVariants.{ParamErr}
-use Rattle.afp_volume.specs.ForkEffect.{fork_effect, fork_of}
-use Rattle.afp_volume.specs.VolumeState.{Row as File, VolumeState}
-use Rattle.afp_volume.specs.Walk.{row_at}
+use Rattle.volume_spec.specs.ForkEffect.{fork_effect, fork_of}
+use Rattle.volume_spec.specs.VolumeState.{Row as File, VolumeState}
+use Rattle.volume_spec.specs.Walk.{row_at}
 use Rattle.afp_serial.specs.World.{Effect, Refusal, CallRow, plain, with_empty_reply, volume_at, World, Session, OpenFork, Lock}
 use Rattle.afp_serial.specs.OnVolume.{keeper_of, with_volume_state}
 use Rattle.afp_serial.specs.Sound.{share_fork}

@@ -3,9 +3,9 @@ use Rattle.std.specs.Prelude.{ℕ, zero, suc, ◌==◌, List, [], ◌∷◌, fil
 use Rattle.afp_base.specs.declared.code.Code.{Code}
 use Rattle.afp_base.specs.declared.code.Code.TheVariants.{ParamErr}
 use Rattle.afp_replies.specs.declared.reply.Reply.{Reply}
-use Rattle.afp_volume.specs.Shared.{Opened}
-use Rattle.afp_volume.specs.TreeSteps.{TreeCall, tree_refusal, tree_effect}
-use Rattle.afp_volume.specs.VolumeState.{VolumeState}
+use Rattle.volume_spec.specs.Shared.{Opened}
+use Rattle.volume_spec.specs.TreeSteps.{TreeCall, tree_refusal, tree_effect}
+use Rattle.volume_spec.specs.VolumeState.{VolumeState}
 use Rattle.afp_serial.specs.World.{Effect, Refusal, CallRow, commits_nothing, refused_before, with_empty_reply, vol, volume_at, World, Session, OpenFork}
 
 -- what is refused of a volume; one that is not there counts as not opened

@@ -3,7 +3,7 @@ use Rattle.std.specs.Prelude.{ℕ, [], ◌∷◌, Option, Some, None}
 use Rattle.afp_names.specs.Path.{PathValue}
 use Rattle.afp_replies.specs.declared.reply.Reply.{Reply}
 use Rattle.afp_replies.specs.declared.reply.Reply.TheVariants.{Empty, Node}
-use Rattle.afp_volume.specs.OpenDir.{open_dir_refusal, open_dir_id}
+use Rattle.volume_spec.specs.OpenDir.{open_dir_refusal, open_dir_id}
 use Rattle.afp_serial.specs.World.{CallRow, commits_nothing, with_empty_reply, vol}
 use Rattle.afp_serial.specs.CreateDir.{node_id}
 use Rattle.afp_serial.specs.OnVolume.{tells_of}

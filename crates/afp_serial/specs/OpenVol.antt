@@ -4,8 +4,8 @@ use Rattle.afp_base.specs.declared.code.Code.TheVariants.{ObjectNotFound}
 use Rattle.afp_bitmap.specs.declared.params.Values.TheVariants.{Volume}
 use Rattle.afp_replies.specs.declared.reply.Reply.{Reply}
 use Rattle.afp_replies.specs.declared.reply.Reply.TheVariants.{Params}
-use Rattle.afp_volume.specs.GetVolParms.{get_vol_parms_refusal, volume_values}
-use Rattle.afp_volume.specs.VolumeState.{VolumeState}
+use Rattle.volume_spec.specs.GetVolParms.{get_vol_parms_refusal, volume_values}
+use Rattle.volume_spec.specs.VolumeState.{VolumeState}
 use Rattle.afp_serial.specs.World.{Effect, CallRow, commits_nothing, plain, with_empty_reply, refused_before, has_opened, volume_at, with_session, World, Session}
 
 -- the id of the volume with exactly that name: ids count from 1, in house order

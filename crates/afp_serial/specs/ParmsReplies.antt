@@ -5,12 +5,12 @@ use Rattle.afp_bitmap.specs.declared.params.Values.TheVariants.{Volume}
 use Rattle.afp_names.specs.Path.{PathValue}
 use Rattle.afp_replies.specs.declared.reply.Reply.TheVariants.{Params, FileDirParams}
 use Rattle.afp_replies.specs.Fitting.{FitsReply}
-use Rattle.afp_volume.specs.Shared.{Opened}
-use Rattle.afp_volume.specs.GetFileDirParms.{get_file_dir_parms_refusal, get_file_dir_parms_values}
-use Rattle.afp_volume.specs.GetVolParms.{get_vol_parms_refusal, volume_values}
-use Rattle.afp_volume.specs.SoundVolume.{IsSoundVolume}
-use Rattle.afp_volume.specs.TypedVolume.{is_typed_volume}
-use Rattle.afp_volume.specs.VolumeState.{VolumeState}
+use Rattle.volume_spec.specs.Shared.{Opened}
+use Rattle.volume_spec.specs.GetFileDirParms.{get_file_dir_parms_refusal, get_file_dir_parms_values}
+use Rattle.volume_spec.specs.GetVolParms.{get_vol_parms_refusal, volume_values}
+use Rattle.volume_spec.specs.SoundVolume.{IsSoundVolume}
+use Rattle.volume_spec.specs.TypedVolume.{is_typed_volume}
+use Rattle.volume_spec.specs.VolumeState.{VolumeState}
 
 -- what is told of a volume, and of a node that was found, is shown by some bytes where it is not refused
 abbrev pub VolumeIsShown : Type 0

@@ -2,7 +2,7 @@
 use Rattle.std.specs.Prelude.{ℕ}
 use Rattle.afp_names.specs.Path.{PathValue}
 use Rattle.afp_replies.specs.declared.reply.Reply.TheVariants.{Empty}
-use Rattle.afp_volume.specs.TreeSteps.{Delete, MoveAndRename, Rename}
+use Rattle.volume_spec.specs.TreeSteps.{Delete, MoveAndRename, Rename}
 use Rattle.afp_serial.specs.World.{CallRow}
 use Rattle.afp_serial.specs.OnVolume.{changes_tree}
 

@@ -3,7 +3,7 @@ use Rattle.std.specs.Prelude.{ℕ, ◌==◌, nat_le, Bool, true, ◌&&◌, lengt
 use Rattle.std.specs.List.{list_all}
 use Rattle.afp_base.specs.Limits.{password_size, signature_size, token_key_size}
 use Rattle.afp_base.specs.Limits.{last_moment}
-use Rattle.afp_volume.specs.TypedVolume.{are_bytes, is_long, is_quad, is_word}
+use Rattle.volume_spec.specs.TypedVolume.{are_bytes, is_long, is_quad, is_word}
 use Rattle.afp_serial.specs.Household.{Household}
 use Rattle.afp_serial.specs.declared.ask.Ask.{Ask}
 use Rattle.afp_serial.specs.declared.ask.Ask.TheVariants as ask

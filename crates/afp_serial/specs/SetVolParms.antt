@@ -1,7 +1,7 @@
 -- FPSetVolParms (AFP Reference, "FPSetVolParms").
 use Rattle.std.specs.Prelude.{ℕ, List}
 use Rattle.afp_replies.specs.declared.reply.Reply.TheVariants.{Empty}
-use Rattle.afp_volume.specs.TreeSteps.{SetVolParms}
+use Rattle.volume_spec.specs.TreeSteps.{SetVolParms}
 use Rattle.afp_serial.specs.World.{CallRow}
 use Rattle.afp_serial.specs.OnVolume.{changes_tree}
 

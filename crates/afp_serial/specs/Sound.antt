@@ -6,16 +6,16 @@ use Rattle.afp_base.specs.Limits.{most_forks, most_locks, payload_limit, replay_
 use Rattle.afp_base.specs.Cached.{Kept, is_repeat}
 use Rattle.afp_base.specs.DenyMode.{is_one_fork, do_conflict}
 use Rattle.afp_base.specs.Overlap.{do_meet}
-use Rattle.afp_volume.specs.VolumeState.{VolumeState}
+use Rattle.volume_spec.specs.VolumeState.{VolumeState}
 use Rattle.afp_base.specs.Apart.{are_apart}
-use Rattle.afp_volume.specs.SoundVolume.{IsSoundVolume, has_file}
+use Rattle.volume_spec.specs.SoundVolume.{IsSoundVolume, has_file}
 use Rattle.afp_serial.specs.declared.attachment.Attachment.{Attachment}
 use Rattle.afp_serial.specs.declared.attachment.Attachment.TheVariants.{Attached, Detached}
 use Rattle.afp_serial.specs.Limits.{most_users, most_volumes, most_sessions}
 use Rattle.afp_serial.specs.HouseFault.{house_fault}
 use Rattle.afp_serial.specs.Household.{Household}
 use Rattle.afp_serial.specs.Ranges.{is_moment, is_moment_or_none, is_typed_house}
-use Rattle.afp_volume.specs.TypedVolume.{is_typed_volume}
+use Rattle.volume_spec.specs.TypedVolume.{is_typed_volume}
 use Rattle.afp_serial.specs.World.{has_opened, is_open, volume_at, World, Session, OpenFork}
 
 -- both are attached to one link

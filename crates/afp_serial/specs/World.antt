@@ -3,7 +3,7 @@ use Rattle.std.specs.Prelude.{ℕ, max, List, [], map, Option, None, zero, suc, 
 use Rattle.afp_base.specs.Cached.{Kept}
 use Rattle.afp_base.specs.DenyMode.{Access, Fork}
 use Rattle.afp_base.specs.Overlap.{Range}
-use Rattle.afp_volume.specs.VolumeState.{VolumeState, fresh_volume}
+use Rattle.volume_spec.specs.VolumeState.{VolumeState, fresh_volume}
 use Rattle.afp_serial.specs.declared.attachment.Attachment.{Attachment}
 use Rattle.afp_serial.specs.Household.{Household}
 use Rattle.std.specs.List.{list_any}

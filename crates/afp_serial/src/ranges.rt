@@ -4,13 +4,13 @@ ghost use Rattle.std.specs.List.{list_all};
 ghost use Rattle.afp_base.specs.Limits.{signature_size, token_key_size};
 ghost use Rattle.afp_serial.specs.History.{entry};
 ghost use Rattle.afp_serial.specs.Ranges.{is_moment, is_typed_ask, is_typed_entry, is_typed_user};
-ghost use Rattle.afp_volume.specs.TypedVolume.{is_quad, are_bytes};
+ghost use Rattle.volume_spec.specs.TypedVolume.{is_quad, are_bytes};
 ghost use Rattle.afp_serial.specs.declared.ask.Outcome.{Outcome};
 
 use crate::ask::Ask;
 use crate::user::User;
 use afp_base::{LinkNumber, Moment};
-use afp_volume::bytes_in_range;
+use volume_spec::bytes_in_range;
 
 /// A password has 8 bytes.
 fn user_in_range(user: &User)

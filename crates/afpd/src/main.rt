@@ -5,10 +5,10 @@ ghost use Rattle.std.specs.Prelude.{◌≡◌, false, IfOk};
 
 use afp_core::Counts;
 use afp_outside::{OpenGate, StdSink, SystemClock, TcpDoor};
-use plain_server::given::given_words;
-use plain_server::plain::{PlainEnd, afpd_plain, report_end};
-use plain_server::setup::setup;
-use plain_server::words::WordFault;
+use afpd_lib::given::given_words;
+use afpd_lib::plain::{PlainEnd, afpd_plain, report_end};
+use afpd_lib::setup::setup;
+use afpd_lib::words::WordFault;
 use record_keeper::{Keeper, MemoryKeeper};
 use std::io;
 use std::process::ExitCode;

@@ -3,9 +3,9 @@
 
 use afp_base::NO_LIMIT;
 use afp_outside::{StdSink, StdSource};
-use capture_server::memory_keepers;
-use plain_server::given::given_words;
-use plain_tool::afptool_plain;
+use afpd_lib::given::given_words;
+use afptool_lib::afptool_plain;
+use capture_log_server::memory_keepers;
 use std::process::ExitCode;
 
 /// The exit status for want of memory.

@@ -5,25 +5,25 @@ use Rattle.afp_base.specs.Counts.{counted}
 use Rattle.afp_serial.specs.Household.{Household}
 use Rattle.afp_serial.specs.StatusBlock.{status_block}
 use Rattle.afp_serial.specs.World.{fresh_world}
-use Rattle.capture_lines.specs.Lines.{line_in}
-use Rattle.capture_lines.specs.declared.line.Line.{Line}
-use Rattle.capture_lines.specs.declared.line.Line.TheVariants.{Title, Server, Signature, User as UserLine, Volume, Key, At, End}
-use Rattle.capture_lines.specs.declared.line.What.{What}
-use Rattle.capture_lines.specs.declared.line.What.TheVariants.{In, Quiet, Lost, Out}
+use Rattle.capture_log_lines.specs.Lines.{line_in}
+use Rattle.capture_log_lines.specs.declared.line.Line.{Line}
+use Rattle.capture_log_lines.specs.declared.line.Line.TheVariants.{Title, Server, Signature, User as UserLine, Volume, Key, At, End}
+use Rattle.capture_log_lines.specs.declared.line.What.{What}
+use Rattle.capture_log_lines.specs.declared.line.What.TheVariants.{In, Quiet, Lost, Out}
 use Rattle.afp_base.specs.declared.ids.LinkNumber.{LinkNumber}
 use Rattle.afp_server.specs.Wire.{open_link}
-use Rattle.capture_server.specs.Connections.{Connection, unused}
-use Rattle.capture_server.specs.Counting.{refused_in}
-use Rattle.capture_server.specs.Running.{IsFreshRunning}
-use Rattle.capture_server.specs.Running.{HappensBy}
-use Rattle.capture_server.specs.CaptureState.{CaptureState, Says, Happens, FeedsUnless, PulsesIf, LosesIf, part_after, is_refused, is_refused_on, is_bad, start_at}
-use Rattle.capture_server.specs.States.{ConnectionState, RunningState, IsConnection, IsRunning, unused_state}
+use Rattle.capture_log_server.specs.Connections.{Connection, unused}
+use Rattle.capture_log_server.specs.Counting.{refused_in}
+use Rattle.capture_log_server.specs.Running.{IsFreshRunning}
+use Rattle.capture_log_server.specs.Running.{HappensBy}
+use Rattle.capture_log_server.specs.CaptureState.{CaptureState, Says, Happens, FeedsUnless, PulsesIf, LosesIf, part_after, is_refused, is_refused_on, is_bad, start_at}
+use Rattle.capture_log_server.specs.States.{ConnectionState, RunningState, IsConnection, IsRunning, unused_state}
 use Rattle.capture_log.specs.lemma.SetUp.{IsSetUp}
 use Rattle.capture_log.specs.lemma.Taking.{Acts, begun, HeldCapture, house_with, refused_by, is_event, IsIdle, is_past_house, IsBegun, IsServer, IsCapture, RunsFrom, LeadsLine, TakesLine, TakesRawLine}
 use Rattle.capture_log.proofs.SetUpLemmas.{kept-set-up}
-use Rattle.capture_server.specs.declared.difference.Difference.{Difference}
-use Rattle.capture_server.specs.declared.part.Part.{Part}
-use Rattle.capture_server.specs.declared.part.Part.TheVariants as parts
+use Rattle.capture_log_server.specs.declared.difference.Difference.{Difference}
+use Rattle.capture_log_server.specs.declared.part.Part.{Part}
+use Rattle.capture_log_server.specs.declared.part.Part.TheVariants as parts
 use Rattle.capture_log.specs.declared.replay_end.ReplayEnd.{ReplayEnd}
 use Rattle.capture_log.specs.declared.replay_end.ReplayEnd.TheVariants.{Same, Differs, BadCapture, ReadFault, Spent, Memory}
 

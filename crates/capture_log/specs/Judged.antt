@@ -1,13 +1,13 @@
 -- The judgement of a capture, over its lines (this profile).
 use Rattle.std.specs.Prelude.{◌≡◌, ◌≢◌, ◌⊎◌, ℕ, ◌+◌, Bool, true, List, ◌∷◌, ◌++◌, length, drop, Some}
-use Rattle.capture_lines.specs.Lines.{line_in}
-use Rattle.capture_lines.specs.declared.line.Line.TheVariants.{At}
-use Rattle.capture_lines.specs.declared.line.What.TheVariants.{Out}
-use Rattle.capture_server.specs.Connections.{difference, output}
-use Rattle.capture_server.specs.Counting.{AreCaptureCounts}
-use Rattle.capture_server.specs.declared.difference.Difference.{Difference}
-use Rattle.capture_server.specs.CaptureState.{CaptureState, Leads, begins, is_bad}
-use Rattle.capture_server.specs.declared.part.Part.TheVariants as parts
+use Rattle.capture_log_lines.specs.Lines.{line_in}
+use Rattle.capture_log_lines.specs.declared.line.Line.TheVariants.{At}
+use Rattle.capture_log_lines.specs.declared.line.What.TheVariants.{Out}
+use Rattle.capture_log_server.specs.Connections.{difference, output}
+use Rattle.capture_log_server.specs.Counting.{AreCaptureCounts}
+use Rattle.capture_log_server.specs.declared.difference.Difference.{Difference}
+use Rattle.capture_log_server.specs.CaptureState.{CaptureState, Leads, begins, is_bad}
+use Rattle.capture_log_server.specs.declared.part.Part.TheVariants as parts
 use Rattle.capture_log.specs.declared.replay_end.ReplayEnd.{ReplayEnd}
 use Rattle.capture_log.specs.declared.replay_end.ReplayEnd.TheVariants.{Same, Differs, BadCapture, ReadFault, Spent, Memory}
 

@@ -3,9 +3,9 @@ use Rattle.std.specs.Prelude.{◌≡◌, ℕ, ◌≤◌, ◌<◌, ◌==◌, nat_
 use Rattle.std.specs.List.{slice_split}
 use Rattle.afp_base.specs.Counts.{CountsOn}
 use Rattle.afp_outside.specs.Source.{SourceState}
-use Rattle.capture_lines.specs.Lines.{longest_line}
+use Rattle.capture_log_lines.specs.Lines.{longest_line}
 use Rattle.capture_log.specs.Judged.{Judged, IsGoodCapture, AreTrue}
-use Rattle.capture_server.specs.CaptureState.{CaptureState, Leads, begins}
+use Rattle.capture_log_server.specs.CaptureState.{CaptureState, Leads, begins}
 use Rattle.capture_log.specs.declared.replay_end.ReplayEnd.{ReplayEnd}
 use Rattle.capture_log.specs.declared.replay_end.ReplayEnd.TheVariants as ends
 

@@ -1,21 +1,21 @@
 //! A capture, as far as its lines were taken.
 ghost use Rattle.std.specs.Prelude.{◌≡◌, ◌<◌, ◌+◌, ℕ, suc, length, true, None, IfOk, option_map, is_some};
-ghost use Rattle.capture_lines.specs.declared.line.Line.{Line};
+ghost use Rattle.capture_log_lines.specs.declared.line.Line.{Line};
 ghost use Rattle.capture_log.specs.Judged.{DecidesEnd};
-ghost use Rattle.capture_server.specs.CaptureState.{CaptureState, is_refused_on, no_house};
+ghost use Rattle.capture_log_server.specs.CaptureState.{CaptureState, is_refused_on, no_house};
 ghost use Rattle.capture_log.specs.lemma.Taking.{IsCapture, IsLink, IsLinked, IsServer, RunsFrom, Acts, TakesLine, TakesRawLine};
 ghost use Rattle.capture_log.specs.lemma.SetUp.{IsSetUp};
-ghost use Rattle.capture_server.specs.Running.{IsFreshRunning};
-ghost use Rattle.capture_server.specs.States.{IsRunning};
-ghost use Rattle.capture_server.specs.declared.part.Part.{Part};
+ghost use Rattle.capture_log_server.specs.Running.{IsFreshRunning};
+ghost use Rattle.capture_log_server.specs.States.{IsRunning};
+ghost use Rattle.capture_log_server.specs.declared.part.Part.{Part};
 ghost use Rattle.capture_log.specs.declared.replay_end.ReplayEnd.{ReplayEnd};
 
 use crate::replay_end::ReplayEnd;
 use crate::setup::Setup;
 use afp_base::{Moment, OutOfMemory};
 use afp_serial::HouseFault;
-use capture_lines::{Line, What, read_line};
-use capture_server::{Difference, NewKeepers, Part, ReplayCounts, Running, part_after};
+use capture_log_lines::{Line, What, read_line};
+use capture_log_server::{Difference, NewKeepers, Part, ReplayCounts, Running, part_after};
 use record_keeper::Keeper;
 use std::alloc::Global;
 use std::marker::Model;
@@ -142,7 +142,7 @@ fn same_of(counts: ReplayCounts) -> ReplayEnd
 impl<K: Keeper> Capture<K> {
     ghost use Rattle.std.specs.Prelude.{false, Some};
     ghost use Rattle.capture_log.specs.lemma.Judged.{IsSame};
-    ghost use Rattle.capture_server.specs.CaptureState.{part_after};
+    ghost use Rattle.capture_log_server.specs.CaptureState.{part_after};
     ghost use Rattle.capture_log.specs.lemma.Taking.{is_event};
 
     /// No line was taken.

@@ -1,6 +1,6 @@
 //! A capture whose bytes come in pieces.
 ghost use Rattle.std.specs.Prelude.{◌≡◌, ◌++◌, ◌+◌, ◌∷◌, ◌<◌, nat_lt, [], List, ℕ, length, IfOk, IfSome, IfNone, true};
-ghost use Rattle.capture_lines.specs.Lines.{longest_line};
+ghost use Rattle.capture_log_lines.specs.Lines.{longest_line};
 ghost use Rattle.capture_log.specs.Reading.{lines_in};
 ghost use Rattle.capture_log.specs.Judged.{Judged};
 ghost use Rattle.capture_log.specs.lemma.Gathering.{Holds, Gathers, EndsLine, IsOneLine};
@@ -9,8 +9,8 @@ ghost use Rattle.capture_log.specs.declared.replay_end.ReplayEnd.{ReplayEnd as E
 use crate::capture::Capture;
 use crate::replay_end::ReplayEnd;
 use afp_base::{Bytes, OutOfMemory};
-use capture_lines::LONGEST_LINE;
-use capture_server::NewKeepers;
+use capture_log_lines::LONGEST_LINE;
+use capture_log_server::NewKeepers;
 use record_keeper::Keeper;
 use std::alloc::Global;
 use std::marker::Model;

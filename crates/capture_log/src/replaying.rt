@@ -1,13 +1,13 @@
 //! Replaying a capture that is read from a source.
 ghost use Rattle.std.specs.Prelude.{◌≡◌, ◌<◌, ◌^◌, false, []};
-ghost use Rattle.capture_server.specs.Keepers.{AreFresh};
+ghost use Rattle.capture_log_server.specs.Keepers.{AreFresh};
 ghost use Rattle.capture_log.specs.lemma.Gathering.{Holds};
 ghost use Rattle.capture_log.specs.Reading.{Replays};
 
 use crate::reader::Reader;
 use crate::replay_end::ReplayEnd;
 use afp_outside::{ReadResult, Source};
-use capture_server::NewKeepers;
+use capture_log_server::NewKeepers;
 use record_keeper::Keeper;
 use std::alloc::Global;
 

@@ -4,7 +4,7 @@ ghost use Rattle.afp_serial.specs.HouseFault.{house_fault, is_bad_user, is_bad_v
 ghost use Rattle.afp_serial.specs.Household.{household};
 ghost use Rattle.afp_serial.specs.Limits.{longest_server, most_users};
 ghost use Rattle.afp_serial.specs.Limits.{most_volumes};
-ghost use Rattle.capture_server.specs.CaptureState.{no_house, user_behind};
+ghost use Rattle.capture_log_server.specs.CaptureState.{no_house, user_behind};
 ghost use Rattle.capture_log.specs.lemma.Taking.{house_with, refused_by};
 
 use afp_base::{Bytes, OutOfMemory};
@@ -12,7 +12,7 @@ use afp_serial::limits::{
     FIRST_USER_ID, LONGEST_SERVER, LONGEST_USER, LONGEST_VOLUME, MOST_USERS, MOST_VOLUMES,
 };
 use afp_serial::{House, HouseFault, User, has_user_named, has_volume_named, is_name};
-use capture_lines::Line;
+use capture_log_lines::Line;
 use std::alloc::Global;
 use std::marker::Model;
 use std::{mem, str};

@@ -5,7 +5,7 @@ ghost use Rattle.afp_outside.specs.Tape.{source_of};
 use afp_base::{Bytes, OutOfMemory};
 use afp_outside::TapeSource;
 use capture_log::{ReplayEnd, replay};
-use capture_server::memory_keepers;
+use capture_log_server::memory_keepers;
 use std::alloc::Global;
 
 /// The status of a server, and the first two bytes of the reply.

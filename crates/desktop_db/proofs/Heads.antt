@@ -5,11 +5,11 @@ use Rattle.std.specs.List.{list_all, filter, prefix_len}
 use Rattle.std.specs.List.Sorted.{IsPartitionPoint, IsPartitionedBy}
 use Rattle.std.proofs.lemmas.Bool.{and_parts, and_from, cases_Bool, cond-true, cond-false, eqb-true, eq-eqb, ne_eqb, le-ltb, ltb-true}
 use Rattle.std.proofs.lemmas.Option.{slice_get_past, slice_get_read}
-use Rattle.afp_volume.proofs.Keys.{before-differs, differ-back, same-key}
-use Rattle.afp_volume.proofs.Ordered.{before-other, before-trans}
-use Rattle.afp_volume.proofs.TestedLists.{all-both, all-weaker}
-use Rattle.afp_volume.specs.Desktop.{nth_from_one}
-use Rattle.afp_volume.specs.Order.{stands_before, rises}
+use Rattle.volume_spec.proofs.Keys.{before-differs, differ-back, same-key}
+use Rattle.volume_spec.proofs.Ordered.{before-other, before-trans}
+use Rattle.volume_spec.proofs.TestedLists.{all-both, all-weaker}
+use Rattle.volume_spec.specs.Desktop.{nth_from_one}
+use Rattle.volume_spec.specs.Order.{stands_before, rises}
 use Rattle.desktop_db.proofs.Places.{all-index}
 
 -- no head stands before one ahead of it

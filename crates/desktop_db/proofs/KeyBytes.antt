@@ -3,8 +3,8 @@ use Rattle.std.proofs.Common.{◌==◌, true, ◌&&◌, ◌≡◌, ◌∙◌, ap
 use Rattle.std.specs.Prelude.{nat_le, slice_index}
 use Rattle.std.proofs.lemmas.Bool.{and_from, eq-eqb, le-leb}
 use Rattle.std.proofs.lemmas.List.{length-drop, length-take}
-use Rattle.afp_volume.specs.Desktop.{icon_under}
-use Rattle.afp_volume.specs.SoundVolume.{is_icon, longest_icon}
+use Rattle.volume_spec.specs.Desktop.{icon_under}
+use Rattle.volume_spec.specs.SoundVolume.{is_icon, longest_icon}
 use Rattle.std.specs.Cmp.Lexicographic.{slice_cmp}
 use Rattle.std.specs.Ordering.{nat_cmp, ordering_then}
 use Rattle.std.specs.declared.cmp.Ordering.{Ordering}

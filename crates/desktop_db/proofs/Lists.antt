@@ -2,15 +2,15 @@
 use Rattle.std.proofs.Common.{◌≡◌, sym, refl, subst, ℕ, ◌==◌, Bool, true, false, not, List, Result, Ok, Err}
 use Rattle.std.specs.Prelude.{bytes_eq, OnOk, OnErr, ◌↔◌}
 use Rattle.afp_base.specs.declared.bytes.OutOfMemory.{OutOfMemory}
-use Rattle.afp_volume.proofs.Desktops.{appl-keeps, gone-node-keeps, icon-keeps, new-comment-keeps, taken-appl-keeps, taken-comment-keeps}
-use Rattle.afp_volume.proofs.Keys.{put-key-all}
-use Rattle.afp_volume.proofs.Ordered.{put-all}
-use Rattle.afp_volume.proofs.TestedLists.{all-filter}
-use Rattle.afp_volume.specs.Desktop.{comment_key, has_no_appl_room, has_no_icon_room, is_appl, pair_key, with_appl, with_icon, without_appl, without_comment, without_mappings}
-use Rattle.afp_volume.specs.Order.{put_in}
-use Rattle.afp_volume.specs.TypedVolume.{is_typed_appl, is_typed_comment, is_typed_icon}
-use Rattle.afp_volume.specs.SoundVolume.{appl_key, icon_key, is_comment, is_icon}
-use Rattle.afp_volume.specs.VolumeState.{Appl, Comment, Icon}
+use Rattle.volume_spec.proofs.Desktops.{appl-keeps, gone-node-keeps, icon-keeps, new-comment-keeps, taken-appl-keeps, taken-comment-keeps}
+use Rattle.volume_spec.proofs.Keys.{put-key-all}
+use Rattle.volume_spec.proofs.Ordered.{put-all}
+use Rattle.volume_spec.proofs.TestedLists.{all-filter}
+use Rattle.volume_spec.specs.Desktop.{comment_key, has_no_appl_room, has_no_icon_room, is_appl, pair_key, with_appl, with_icon, without_appl, without_comment, without_mappings}
+use Rattle.volume_spec.specs.Order.{put_in}
+use Rattle.volume_spec.specs.TypedVolume.{is_typed_appl, is_typed_comment, is_typed_icon}
+use Rattle.volume_spec.specs.SoundVolume.{appl_key, icon_key, is_comment, is_icon}
+use Rattle.volume_spec.specs.VolumeState.{Appl, Comment, Icon}
 use Rattle.desktop_db.specs.lemma.Kept.{AreKept}
 use Rattle.desktop_db.specs.declared.fault.DeskFault.{DeskFault}
 use Rattle.desktop_db.specs.declared.fault.DeskFault.TheVariants as fault

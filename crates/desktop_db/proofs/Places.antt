@@ -11,11 +11,11 @@ use Rattle.std.proofs.lemmas.Cmp.{nat_list_cmp_total}
 use Rattle.std.proofs.lemmas.List.Sorted.{searchable_from_sorted}
 use Rattle.std.proofs.lemmas.Option.{slice_get-get_or, slice_get_read}
 use Rattle.std.proofs.lemmas.Map.Text.{is_eq-slice_cmp}
-use Rattle.afp_volume.proofs.Keys.{before-differs, differ-back, key-same, same-key}
-use Rattle.afp_volume.proofs.Ordered.{before-one-way}
-use Rattle.afp_volume.proofs.TestedLists.{all-weaker, none-find}
-use Rattle.afp_volume.specs.Desktop.{at_key, without_key}
-use Rattle.afp_volume.specs.Order.{stands_before, put_in, rises}
+use Rattle.volume_spec.proofs.Keys.{before-differs, differ-back, key-same, same-key}
+use Rattle.volume_spec.proofs.Ordered.{before-one-way}
+use Rattle.volume_spec.proofs.TestedLists.{all-weaker, none-find}
+use Rattle.volume_spec.specs.Desktop.{at_key, without_key}
+use Rattle.volume_spec.specs.Order.{stands_before, put_in, rises}
 use Rattle.desktop_db.specs.lemma.Places.{IsPlaceOf, IsGapFor}
 
 flip : (t : Bool) → not t ≡ true → t ≡ false

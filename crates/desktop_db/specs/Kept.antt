@@ -2,7 +2,7 @@
 use Rattle.std.specs.Prelude.{ℕ, List}
 use denote.Ref.{Bor}
 use Rattle.afp_base.specs.declared.ids.NodeId.{NodeId}
-use Rattle.afp_volume.specs.VolumeState.{Comment, Icon, Appl}
+use Rattle.volume_spec.specs.VolumeState.{Comment, Icon, Appl}
 
 -- a volume's comments, icons and APPL mappings, and how many elements more each list takes with no memory
 pub record DesktopValue : Type 0 where

@@ -2,15 +2,15 @@
 ghost use Rattle.std.specs.Prelude.{◌≡◌, bytes_eq, true};
 ghost use Rattle.std.specs.Cmp.Lexicographic.{slice_cmp};
 ghost use Rattle.std.specs.Ordering.{nat_cmp};
-ghost use Rattle.afp_volume.specs.Desktop.{is_appl, pair_key};
-ghost use Rattle.afp_volume.specs.SoundVolume.{appl_key};
-ghost use Rattle.afp_volume.specs.TypedVolume.{is_typed_appl};
+ghost use Rattle.volume_spec.specs.Desktop.{is_appl, pair_key};
+ghost use Rattle.volume_spec.specs.SoundVolume.{appl_key};
+ghost use Rattle.volume_spec.specs.TypedVolume.{is_typed_appl};
 
 use crate::bytes::long_in_range;
 use afp_base::NodeId;
-use afp_volume::bytes_in_range;
 use std::cmp::Ordering;
 use std::marker::Model;
+use volume_spec::bytes_in_range;
 
 /// A file that is the application of a creator, and a tag (AFP Reference, FPAddAPPL).
 ///
@@ -23,7 +23,7 @@ pub struct Appl {
 }
 
 impl Model for Appl {
-    ghost use Rattle.afp_volume.specs.VolumeState.{Appl as Mapping};
+    ghost use Rattle.volume_spec.specs.VolumeState.{Appl as Mapping};
 
     ghost Value = { Mapping };
 

@@ -2,16 +2,16 @@
 ghost use Rattle.std.specs.Prelude.{◌≡◌, ◌≢◌, ◌↔◌, ◌<◌, ◌≤◌, ◌+◌, true, length, is_some, slice_get, IfOk, IfErr, OnOk, OnErr, vec_len, vec_capacity};
 ghost use Rattle.std.specs.Option.{option_copied};
 ghost use Rattle.std.specs.List.{list_all, prefix_len};
-ghost use Rattle.afp_volume.specs.Desktop.{appl_at, creators_of, has_no_appl_room, is_appl, pair_key, with_appl, without_appl, without_mappings, nth_appl as definition_of_nth};
-ghost use Rattle.afp_volume.specs.Order.{rises, stands_before};
-ghost use Rattle.afp_volume.specs.SoundVolume.{appl_key};
+ghost use Rattle.volume_spec.specs.Desktop.{appl_at, creators_of, has_no_appl_room, is_appl, pair_key, with_appl, without_appl, without_mappings, nth_appl as definition_of_nth};
+ghost use Rattle.volume_spec.specs.Order.{rises, stands_before};
+ghost use Rattle.volume_spec.specs.SoundVolume.{appl_key};
 ghost use Rattle.desktop_db.specs.lemma.Places.{IsPlaceOf, IsGapFor};
 
 use crate::appl::Appl;
 use crate::fault::DeskFault;
 use crate::place::insert_at;
 use afp_base::NodeId;
-use afp_volume::limits::MOST_APPLS;
+use volume_spec::limits::MOST_APPLS;
 
 /// Where the mapping of a creator and a file is, or where it would go.
 fn find(appls: &[Appl], creator: &[u8; 4], node: NodeId) -> Result<usize, usize>

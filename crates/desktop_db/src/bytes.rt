@@ -1,6 +1,6 @@
 //! What the types say of numbers.
 ghost use Rattle.std.specs.Prelude.{◌≡◌, length, true};
-ghost use Rattle.afp_volume.specs.TypedVolume.{is_long};
+ghost use Rattle.volume_spec.specs.TypedVolume.{is_long};
 
 /// A number of four bytes is in its range.
 pub(crate) fn long_in_range(number: u32)

@@ -2,16 +2,16 @@
 ghost use Rattle.std.specs.Prelude.{◌≡◌, ◌∷◌, [], ◌<◌, length, take, true};
 ghost use Rattle.std.specs.Cmp.Lexicographic.{slice_cmp};
 ghost use Rattle.std.specs.Ordering.{nat_cmp};
-ghost use Rattle.afp_volume.specs.Desktop.{comment_key};
-ghost use Rattle.afp_volume.specs.SoundVolume.{is_comment, longest_comment};
-ghost use Rattle.afp_volume.specs.TypedVolume.{is_typed_comment};
+ghost use Rattle.volume_spec.specs.Desktop.{comment_key};
+ghost use Rattle.volume_spec.specs.SoundVolume.{is_comment, longest_comment};
+ghost use Rattle.volume_spec.specs.TypedVolume.{is_typed_comment};
 
 use crate::bytes::long_in_range;
 use afp_base::{Bytes, NodeId};
-use afp_volume::bytes_in_range;
-use afp_volume::limits::LONGEST_COMMENT;
 use std::cmp::Ordering;
 use std::marker::Model;
+use volume_spec::bytes_in_range;
+use volume_spec::limits::LONGEST_COMMENT;
 
 /// The comment of a file or directory, of 1 to 199 bytes (AFP Reference, FPAddComment).
 ///
@@ -23,7 +23,7 @@ pub struct Comment {
 }
 
 impl Model for Comment {
-    ghost use Rattle.afp_volume.specs.VolumeState.{Comment as NodeComment};
+    ghost use Rattle.volume_spec.specs.VolumeState.{Comment as NodeComment};
 
     ghost Value = { NodeComment };
 

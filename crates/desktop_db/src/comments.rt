@@ -1,8 +1,8 @@
 //! Comments in a vector, by rising node.
 ghost use Rattle.std.specs.Prelude.{◌≡◌, ◌<◌, ◌≤◌, ◌+◌, ◌∷◌, [], true, is_some, IfOk, IfErr, OnOk, OnErr, IsOk, vec_len, vec_capacity};
 ghost use Rattle.std.specs.Option.{option_copied};
-ghost use Rattle.afp_volume.specs.Desktop.{comment_at, comment_key, without_comment};
-ghost use Rattle.afp_volume.specs.Order.{put_in, rises};
+ghost use Rattle.volume_spec.specs.Desktop.{comment_at, comment_key, without_comment};
+ghost use Rattle.volume_spec.specs.Order.{put_in, rises};
 ghost use Rattle.desktop_db.specs.lemma.Places.{IsPlaceOf, IsGapFor};
 
 use crate::comment::Comment;

@@ -1,9 +1,9 @@
 //! The desktop database of a volume.
 ghost use Rattle.std.specs.Prelude.{◌≡◌, ◌≢◌, ◌↔◌, ◌+◌, ◌≤◌, [], true, is_some, length, option_map, slice_get, IsOk, OnOk, OnErr};
 ghost use Rattle.std.specs.Option.{option_copied};
-ghost use Rattle.afp_volume.specs.Desktop as database;
-ghost use Rattle.afp_volume.specs.SoundVolume.{icon_key};
-ghost use Rattle.afp_volume.specs.VolumeState.{Appl as Mapping, Comment as NodeComment, Icon as DesktopIcon};
+ghost use Rattle.volume_spec.specs.Desktop as database;
+ghost use Rattle.volume_spec.specs.SoundVolume.{icon_key};
+ghost use Rattle.volume_spec.specs.VolumeState.{Appl as Mapping, Comment as NodeComment, Icon as DesktopIcon};
 ghost use Rattle.desktop_db.specs.Kept.{shown_icon, shown_appl};
 
 use crate::appl::Appl;

@@ -2,16 +2,16 @@
 ghost use Rattle.std.specs.Prelude.{◌≡◌, ◌++◌, ◌∷◌, [], bytes_eq, true};
 ghost use Rattle.std.specs.Cmp.Lexicographic.{slice_cmp};
 ghost use Rattle.std.specs.Ordering.{nat_cmp};
-ghost use Rattle.afp_volume.specs.Desktop.{icon_under};
-ghost use Rattle.afp_volume.specs.SoundVolume as sound;
-ghost use Rattle.afp_volume.specs.TypedVolume.{is_typed_icon};
+ghost use Rattle.volume_spec.specs.Desktop.{icon_under};
+ghost use Rattle.volume_spec.specs.SoundVolume as sound;
+ghost use Rattle.volume_spec.specs.TypedVolume.{is_typed_icon};
 
 use crate::bytes::{long_in_range, nine_bytes};
 use afp_base::Bytes;
-use afp_volume::bytes_in_range;
-use afp_volume::limits::LONGEST_ICON;
 use std::cmp::Ordering;
 use std::marker::Model;
+use volume_spec::bytes_in_range;
+use volume_spec::limits::LONGEST_ICON;
 
 /// The bits of an icon and its tag, under a key of nine bytes: creator, type, icon type (AFP Reference, FPAddIcon).
 ///
@@ -25,8 +25,8 @@ pub struct Icon {
 
 impl Model for Icon {
     ghost use Rattle.std.specs.Prelude.{◌≡◌, take, drop, length, slice_index};
-    ghost use Rattle.afp_volume.specs.SoundVolume.{code_size};
-    ghost use Rattle.afp_volume.specs.VolumeState.{Icon as DesktopIcon};
+    ghost use Rattle.volume_spec.specs.SoundVolume.{code_size};
+    ghost use Rattle.volume_spec.specs.VolumeState.{Icon as DesktopIcon};
 
     ghost Value = { DesktopIcon };
 

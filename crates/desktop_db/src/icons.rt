@@ -2,15 +2,15 @@
 ghost use Rattle.std.specs.Prelude.{◌≡◌, ◌≢◌, ◌↔◌, ◌<◌, ◌≤◌, ◌+◌, true, length, IfOk, IfErr, OnOk, OnErr, vec_len, vec_capacity};
 ghost use Rattle.std.specs.Option.{option_copied};
 ghost use Rattle.std.specs.List.{list_all, prefix_len};
-ghost use Rattle.afp_volume.specs.Desktop.{has_no_icon_room, icon_at, with_icon, nth_icon as definition_of_nth};
-ghost use Rattle.afp_volume.specs.Order.{rises, stands_before};
-ghost use Rattle.afp_volume.specs.SoundVolume.{icon_key, is_icon};
+ghost use Rattle.volume_spec.specs.Desktop.{has_no_icon_room, icon_at, with_icon, nth_icon as definition_of_nth};
+ghost use Rattle.volume_spec.specs.Order.{rises, stands_before};
+ghost use Rattle.volume_spec.specs.SoundVolume.{icon_key, is_icon};
 ghost use Rattle.desktop_db.specs.lemma.Places.{IsPlaceOf, IsGapFor};
 
 use crate::fault::DeskFault;
 use crate::icon::Icon;
 use crate::place::insert_at;
-use afp_volume::limits::MOST_ICONS;
+use volume_spec::limits::MOST_ICONS;
 
 /// Where the icon of a key is, or where it would go.
 fn find(icons: &[Icon], key: &[u8; 9]) -> Result<usize, usize>

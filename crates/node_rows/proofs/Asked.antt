@@ -7,15 +7,15 @@ use Rattle.std.proofs.lemmas.Option.{slice_get-map}
 use Rattle.std.proofs.lemmas.Slice.Eq.{bytes_eq-Decides}
 use Rattle.afp_base.specs.declared.ids.NodeId.{NodeId}
 use Rattle.afp_names.specs.Name.{name_key}
-use Rattle.afp_volume.proofs.Ordered.{order-map}
-use Rattle.afp_volume.proofs.TestedLists.{all-kept, apart-map}
-use Rattle.afp_volume.specs.Listing.{children as in_directory, listed, row_key}
-use Rattle.afp_volume.specs.Order.{stands_before, in_order, rises}
+use Rattle.volume_spec.proofs.Ordered.{order-map}
+use Rattle.volume_spec.proofs.TestedLists.{all-kept, apart-map}
+use Rattle.volume_spec.specs.Listing.{children as in_directory, listed, row_key}
+use Rattle.volume_spec.specs.Order.{stands_before, in_order, rises}
 use Rattle.afp_base.specs.Apart.{are_apart}
-use Rattle.afp_volume.specs.SoundVolume.{are_named_alike, has_rising_ids, last_next_id}
-use Rattle.afp_volume.specs.VolumeState.{Row}
-use Rattle.afp_volume.specs.Walk.{child_by_key}
-use Rattle.afp_volume.proofs.BareRows.{find-map}
+use Rattle.volume_spec.specs.SoundVolume.{are_named_alike, has_rising_ids, last_next_id}
+use Rattle.volume_spec.specs.VolumeState.{Row}
+use Rattle.volume_spec.specs.Walk.{child_by_key}
+use Rattle.volume_spec.proofs.BareRows.{find-map}
 use Rattle.node_rows.proofs.Siblings.{is_of}
 use Rattle.node_rows.proofs.Sorting.{order-find, order-filter, order-differs}
 use Rattle.node_rows.specs.Children.{child_of, child_order, children_of, node_id}

@@ -5,9 +5,9 @@ use Rattle.std.specs.List.{list_all, position_or_len}
 use Rattle.std.specs.List.Sorted.{IsPartitionPoint, IsPartitionedBy}
 use Rattle.std.proofs.lemmas.Bool.{and_parts, ltb-true, lt-ltb}
 use Rattle.std.proofs.lemmas.List.Sums.{position_or_len_is}
-use Rattle.afp_volume.proofs.Ordered.{before-trans}
-use Rattle.afp_volume.proofs.Rising.{above-all}
-use Rattle.afp_volume.specs.Order.{stands_before, rises, rises_from}
+use Rattle.volume_spec.proofs.Ordered.{before-trans}
+use Rattle.volume_spec.proofs.Rising.{above-all}
+use Rattle.volume_spec.specs.Order.{stands_before, rises, rises_from}
 
 -- where a halving ends is the first place at which the test fails
 pub partition-place : {A : Type 0} (p : A → Bool) (xs : List A) (i : ℕ) → i ≤ length xs → IsPartitionPoint (λ y. p y ≡ true) (λ y. p y ≡ false) xs i → i ≡ position_or_len (λ y. not (p y)) xs

@@ -5,17 +5,17 @@ use Rattle.std.specs.List.{list_all, list_any, filter, find, insert, remove}
 use Rattle.std.proofs.lemmas.Bool.{and_parts, and_from, cases_Bool, cond_both, cond-true, cond-false, ltb-true, ltb-false, lt-ltb, le-ltb, eqb-true, eqb-false, ne_eqb}
 use Rattle.std.proofs.lemmas.Option.{slice_get-get_or}
 use Rattle.afp_names.specs.Name.{name_key}
-use Rattle.afp_volume.proofs.Ordered.{put-rises, order-all}
-use Rattle.afp_volume.proofs.Orders.{gone-rises, changed-rises, rising-ids-differ}
-use Rattle.afp_volume.proofs.Places.{unchanged, nothing-gone, changed-is-set, without-is-remove}
-use Rattle.afp_volume.proofs.Rising.{keys-filter}
-use Rattle.afp_volume.proofs.TestedLists.{all-weaker, all-filter, all-map-where, none-all, none-find, find-none, find-passes}
-use Rattle.afp_volume.specs.Edits.{with_changed, change_at, without, at_place, is_taken}
-use Rattle.afp_volume.specs.Order.{put_in, in_order, rises, rises_from}
+use Rattle.volume_spec.proofs.Ordered.{put-rises, order-all}
+use Rattle.volume_spec.proofs.Orders.{gone-rises, changed-rises, rising-ids-differ}
+use Rattle.volume_spec.proofs.Places.{unchanged, nothing-gone, changed-is-set, without-is-remove}
+use Rattle.volume_spec.proofs.Rising.{keys-filter}
+use Rattle.volume_spec.proofs.TestedLists.{all-weaker, all-filter, all-map-where, none-all, none-find, find-none, find-passes}
+use Rattle.volume_spec.specs.Edits.{with_changed, change_at, without, at_place, is_taken}
+use Rattle.volume_spec.specs.Order.{put_in, in_order, rises, rises_from}
 use Rattle.afp_base.specs.Apart.{are_apart}
-use Rattle.afp_volume.specs.SoundVolume.{has_rising_ids, last_next_id}
-use Rattle.afp_volume.specs.VolumeState.{Row}
-use Rattle.afp_volume.specs.Walk.{row_at, child_by_key}
+use Rattle.volume_spec.specs.SoundVolume.{has_rising_ids, last_next_id}
+use Rattle.volume_spec.specs.VolumeState.{Row}
+use Rattle.volume_spec.specs.Walk.{row_at, child_by_key}
 use Rattle.node_rows.proofs.Sorting.{put-comm, order-filter, number_place, same-back}
 use Rattle.node_rows.specs.Children.{child_of, child_order, children_of}
 use Rattle.node_rows.specs.Kept.{admitted}

@@ -5,13 +5,13 @@ use Rattle.std.proofs.lemmas.Slice.Eq.{bytes_eq-Decides}
 use Rattle.std.proofs.lemmas.List.{length-drop}
 use Rattle.std.specs.List.{list_all, list_any, filter, find, remove, position_or_len}
 use Rattle.std.proofs.lemmas.Bool.{and_parts, and_from, cases_Bool, cond_both, cond-true, cond-false, or_right, lt-ltb, eqb-true, eq-eqb, ltb-true, ne_eqb}
-use Rattle.afp_volume.proofs.Ordered.{order-all}
-use Rattle.afp_volume.proofs.Orders.{rising-ids-differ}
-use Rattle.afp_volume.proofs.TestedLists.{all-weaker, any-at, any-map, any-weaker, none-all, apart-map}
-use Rattle.afp_volume.specs.Order.{stands_before, put_in, in_order, rises}
+use Rattle.volume_spec.proofs.Ordered.{order-all}
+use Rattle.volume_spec.proofs.Orders.{rising-ids-differ}
+use Rattle.volume_spec.proofs.TestedLists.{all-weaker, any-at, any-map, any-weaker, none-all, apart-map}
+use Rattle.volume_spec.specs.Order.{stands_before, put_in, in_order, rises}
 use Rattle.afp_base.specs.Apart.{are_apart}
-use Rattle.afp_volume.specs.VolumeState.{Row}
-use Rattle.afp_volume.specs.Walk.{row_at}
+use Rattle.volume_spec.specs.VolumeState.{Row}
+use Rattle.volume_spec.specs.Walk.{row_at}
 use Rattle.node_rows.proofs.Siblings.{parent-before}
 use Rattle.node_rows.proofs.Sorting.{before-differs, key_place, order-all-back}
 use Rattle.node_rows.specs.Children.{child_of, child_order}

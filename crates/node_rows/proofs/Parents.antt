@@ -4,8 +4,8 @@ use Rattle.std.specs.Prelude.{slice_index_or, nat_lt}
 use Rattle.std.specs.List.{list_all, filter, position_or_len}
 use Rattle.std.specs.List.Sorted.{IsPartitionedBy}
 use Rattle.std.proofs.lemmas.Bool.{and_parts, cond-true, cond-false, eqb-true, eqb-false, ne_eqb, ltb-true, ltb-false, lt-ltb, le-ltb}
-use Rattle.afp_volume.proofs.TestedLists.{all-weaker}
-use Rattle.afp_volume.specs.Order.{stands_before, rises}
+use Rattle.volume_spec.proofs.TestedLists.{all-weaker}
+use Rattle.volume_spec.specs.Order.{stands_before, rises}
 use Rattle.node_rows.proofs.Halving.{all-index}
 use Rattle.node_rows.proofs.Siblings.{is_of, parent-order, filter-none}
 use Rattle.node_rows.specs.Children.{child_order}

@@ -3,8 +3,8 @@ use Rattle.std.proofs.Common.{◌≡◌, ◌∙◌, ap, sym, refl, ℕ, zero, su
 use Rattle.std.specs.Prelude.{slice_get, slice_index_or, nat_lt, nat_le}
 use Rattle.std.specs.List.{list_all, filter}
 use Rattle.std.proofs.lemmas.Bool.{and_parts, and_from, cases_Bool, cond-true, cond-false, ltb-true, ltb-false, le-ltb, leb-true, le-leb, ne_eqb, eqb-false}
-use Rattle.afp_volume.proofs.TestedLists.{all-weaker}
-use Rattle.afp_volume.specs.Order.{stands_before, rises}
+use Rattle.volume_spec.proofs.TestedLists.{all-weaker}
+use Rattle.volume_spec.specs.Order.{stands_before, rises}
 use Rattle.node_rows.proofs.Sorting.{kept-past, kept-at, key_place}
 use Rattle.node_rows.specs.Children.{child_order}
 use Rattle.node_rows.specs.lemma.Children.{kept}

@@ -9,12 +9,12 @@ use Rattle.std.proofs.lemmas.List.MinMax.{ranks_by}
 use Rattle.std.proofs.lemmas.List.Sorted.{sorted_far, Contains-permutation, IsPermutation-sym}
 use Rattle.std.proofs.lemmas.Map.Keys.{IsDistinct-IsPermutation}
 use Rattle.std.proofs.lemmas.Slice.Eq.{bytes_eq-Decides}
-use Rattle.afp_volume.proofs.Ordered.{before-other, order-contains, order-holds, order-rises, rising-one}
-use Rattle.afp_volume.proofs.TestedLists.{apart-map, none-all}
-use Rattle.afp_volume.specs.Order.{stands_before, rises}
+use Rattle.volume_spec.proofs.Ordered.{before-other, order-contains, order-holds, order-rises, rising-one}
+use Rattle.volume_spec.proofs.TestedLists.{apart-map, none-all}
+use Rattle.volume_spec.specs.Order.{stands_before, rises}
 use Rattle.afp_base.specs.Apart.{are_apart}
-use Rattle.afp_volume.specs.SoundVolume.{are_named_alike, has_rising_ids, last_next_id}
-use Rattle.afp_volume.specs.VolumeState.{Row}
+use Rattle.volume_spec.specs.SoundVolume.{are_named_alike, has_rising_ids, last_next_id}
+use Rattle.volume_spec.specs.VolumeState.{Row}
 use Rattle.node_rows.proofs.Sorting.{same-back}
 use Rattle.node_rows.specs.Children.{child_of, child_order, children_of}
 use Rattle.node_rows.specs.lemma.Kept.{AreKept}

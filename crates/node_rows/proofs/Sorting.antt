@@ -5,10 +5,10 @@ use Rattle.std.proofs.lemmas.Option.{slice_get_past, slice_get_read}
 use Rattle.std.specs.List.{list_all, list_any, filter, find, insert, position_or_len}
 use Rattle.std.proofs.lemmas.Bool.{and_parts, and_from, cases_Bool, cond_both, cond-true, cond-false, ltb-true, ltb-false, ne_eqb}
 use Rattle.std.proofs.lemmas.Slice.Eq.{bytes_eq-Decides}
-use Rattle.afp_volume.proofs.Ordered.{before-trans, before-other, before-one-way}
-use Rattle.afp_volume.proofs.Rising.{above-all}
-use Rattle.afp_volume.proofs.TestedLists.{all-weaker, all-filter, none-find}
-use Rattle.afp_volume.specs.Order.{stands_before, put_in, in_order, rises, rises_from}
+use Rattle.volume_spec.proofs.Ordered.{before-trans, before-other, before-one-way}
+use Rattle.volume_spec.proofs.Rising.{above-all}
+use Rattle.volume_spec.proofs.TestedLists.{all-weaker, all-filter, none-find}
+use Rattle.volume_spec.specs.Order.{stands_before, put_in, in_order, rises, rises_from}
 use Rattle.afp_base.specs.Apart.{are_apart}
 use Rattle.node_rows.specs.lemma.Children.{kept}
 

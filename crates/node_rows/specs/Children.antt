@@ -2,8 +2,8 @@
 use Rattle.std.specs.Prelude.{ℕ, List, ◌∷◌, map}
 use Rattle.afp_base.specs.declared.ids.NodeId.{NodeId}
 use Rattle.afp_names.specs.Name.{name_key}
-use Rattle.afp_volume.specs.Order.{in_order}
-use Rattle.afp_volume.specs.VolumeState.{Row}
+use Rattle.volume_spec.specs.Order.{in_order}
+use Rattle.volume_spec.specs.VolumeState.{Row}
 use Rattle.node_rows.specs.declared.child.Child.{Child}
 
 abbrev pub node_id : ℕ → NodeId

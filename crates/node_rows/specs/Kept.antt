@@ -1,6 +1,6 @@
 -- What is kept of a volume's nodes (AFP Reference, "Catalog node IDs"; the form is this profile's).
 use Rattle.std.specs.Prelude.{ℕ, nat_lt, List, [], ◌∷◌, if◌then◌else◌}
-use Rattle.afp_volume.specs.VolumeState.{Row}
+use Rattle.volume_spec.specs.VolumeState.{Row}
 use Rattle.node_rows.specs.declared.node.Marks.{Marks}
 
 -- a volume's rows, with no bytes in their forks; the next id; and room for so many rows more

@@ -1,12 +1,12 @@
 //! One node or child more, less or changed, at its place. None of these takes memory.
 ghost use Rattle.std.specs.Prelude.{◌≡◌, ◌+◌, ◌<◌, ◌≤◌, ◌==◌, true, None, slice_set, slice_index_or, vec_len, vec_capacity};
 ghost use Rattle.std.specs.List.{list_any, list_all, filter};
-ghost use Rattle.afp_volume.specs.Edits.{at_place};
-ghost use Rattle.afp_volume.specs.Order.{put_in, rises};
+ghost use Rattle.volume_spec.specs.Edits.{at_place};
+ghost use Rattle.volume_spec.specs.Order.{put_in, rises};
 ghost use Rattle.afp_base.specs.Apart.{are_apart};
-ghost use Rattle.afp_volume.specs.SoundVolume.{has_rising_ids};
-ghost use Rattle.afp_volume.specs.VolumeState.{Row};
-ghost use Rattle.afp_volume.specs.Walk.{row_at};
+ghost use Rattle.volume_spec.specs.SoundVolume.{has_rising_ids};
+ghost use Rattle.volume_spec.specs.VolumeState.{Row};
+ghost use Rattle.volume_spec.specs.Walk.{row_at};
 ghost use Rattle.node_rows.specs.Children.{child_order};
 ghost use Rattle.node_rows.specs.Kept.{admitted, marked};
 ghost use Rattle.node_rows.specs.lemma.Places.{is_apart, is_child, is_other};

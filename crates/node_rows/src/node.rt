@@ -23,7 +23,7 @@ pub struct Node {
 
 impl Model for Node {
     ghost use Rattle.std.specs.Prelude.{[]};
-    ghost use Rattle.afp_volume.specs.VolumeState.{Row};
+    ghost use Rattle.volume_spec.specs.VolumeState.{Row};
 
     ghost Value = { Row };
 

@@ -2,7 +2,7 @@
 ghost use Rattle.std.specs.Prelude.{◌≡◌};
 ghost use Rattle.std.specs.List.Sorted.{IsPermutation, IsSortedBy};
 ghost use Rattle.std.specs.Ordering.{is_lt};
-ghost use Rattle.afp_volume.specs.Order.{stands_before};
+ghost use Rattle.volume_spec.specs.Order.{stands_before};
 ghost use Rattle.node_rows.specs.Children.{child_order};
 
 use crate::child::Child;

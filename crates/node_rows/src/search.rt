@@ -1,9 +1,9 @@
 //! Places in sorted lists, found by halving.
 ghost use Rattle.std.specs.Prelude.{◌≡◌, ◌∷◌, ◌≤◌, ◌<◌, true, not, nat_lt, length, option_map, slice_get, bytes_eq, position, ◌==◌};
 ghost use Rattle.std.specs.List.{position_or_len, find, filter, list_any, remove};
-ghost use Rattle.afp_volume.specs.Order.{stands_before, rises};
+ghost use Rattle.volume_spec.specs.Order.{stands_before, rises};
 ghost use Rattle.afp_base.specs.Apart.{are_apart};
-ghost use Rattle.afp_volume.specs.SoundVolume.{has_rising_ids};
+ghost use Rattle.volume_spec.specs.SoundVolume.{has_rising_ids};
 ghost use Rattle.node_rows.specs.Children.{child_order};
 ghost use Rattle.node_rows.specs.lemma.Places.{IsPart, IsPlaceOf, is_child, is_child_at, is_other};
 

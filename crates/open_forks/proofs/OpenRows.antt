@@ -21,7 +21,7 @@ use Rattle.afp_serial.specs.ForkLaws.{ReferenceCounts, ReferenceIsFree, Referenc
 use Rattle.afp_serial.specs.OnFork.{own_fork}
 use Rattle.afp_serial.specs.OnVolume.{opened_on}
 use Rattle.afp_serial.specs.World.{is_open, World, Session, OpenFork}
-use Rattle.afp_volume.specs.Shared.{Opened}
+use Rattle.volume_spec.specs.Shared.{Opened}
 use Rattle.deny_modes.specs.Opens.{Open, has_conflict}
 use Rattle.fork_table.specs.ForkTable as table
 use Rattle.fork_table.specs.declared.open_fork.OpenFork.{OpenFork as Row}

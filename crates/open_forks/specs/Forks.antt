@@ -10,7 +10,7 @@ use Rattle.afp_base.specs.declared.ids.NodeId.{NodeId}
 use Rattle.afp_serial.specs.World.{plain, is_open, World, Session, OpenFork, Lock}
 use Rattle.afp_serial.specs.Fork.{has_most_forks, is_denied, lowest_free, with_open}
 use Rattle.afp_serial.specs.Lock.{has_lock, is_lock, locking_refusals, with_lock}
-use Rattle.afp_volume.specs.Shared.{Opened}
+use Rattle.volume_spec.specs.Shared.{Opened}
 use Rattle.fork_table.specs.ForkTable.{Table}
 use Rattle.fork_table.specs.declared.open_fork.OpenFault.{OpenFault}
 use Rattle.fork_table.specs.declared.open_fork.OpenFault.TheVariants.{Deny, TooMany, Memory}

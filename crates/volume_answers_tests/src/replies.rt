@@ -2,13 +2,13 @@ ghost use Rattle.std.specs.Prelude.{IsSome};
 ghost use Rattle.volume_tree.specs.Requests.{tree_call};
 
 use afp_base::{Bytes, Code, Moment, NodeId, VolumeId};
+use afp_calls_grammar::Call;
 use afp_names::{Name, Path, UTF8_NAMES};
-use afp_requests::Call;
 use deny_modes::{Opens, VolumeOpens};
 use std::alloc::Global;
 use std::test::Fail;
-use volume_answers::{ListAsked, get_file_dir_parms, get_vol_parms, list, open_dir};
 use volume_tree::{PlanFault, Volume};
+use volume_tree_replies::{ListAsked, get_file_dir_parms, get_vol_parms, list, open_dir};
 
 fn path(alloc: Global, name: &[u8; 1]) -> Result<Path, Fail> {
     match Path::read(alloc, UTF8_NAMES, name) {

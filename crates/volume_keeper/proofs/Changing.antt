@@ -2,17 +2,17 @@
 use Rattle.std.proofs.Common.{◌≡◌, ◌∙◌, ℕ, Bool, true, false, cond, List, ◌++◌, ◌||◌, map, refl, sym, ap}
 use Rattle.std.specs.Prelude.{Option, Some, None}
 use Rattle.afp_base.specs.declared.ids.NodeId.{NodeId}
-use Rattle.afp_volume.specs.VolumeState.{VolumeState}
-use Rattle.afp_volume.specs.SoundVolume.{IsSoundVolume}
+use Rattle.volume_spec.specs.VolumeState.{VolumeState}
+use Rattle.volume_spec.specs.SoundVolume.{IsSoundVolume}
 use Rattle.record_keeper.specs.Records.{changed}
 use Rattle.record_keeper.specs.Reading.{RisesByKey}
 use Rattle.record_keeper.proofs.KeptRows.{alike}
-use Rattle.volume_records.specs.declared.rows.Head.{Head}
-use Rattle.volume_records.specs.declared.rows.TableRow.{TableRow}
-use Rattle.volume_records.specs.declared.rows.TableRow.TheVariants as row
-use Rattle.volume_records.specs.Records.{record_of, head_record}
-use Rattle.volume_records.specs.Image.{image, kept_image, rows_of, tables_of}
-use Rattle.volume_records.specs.Laws.{ImagesRise}
+use Rattle.volume_keeper_records.specs.declared.rows.Head.{Head}
+use Rattle.volume_keeper_records.specs.declared.rows.TableRow.{TableRow}
+use Rattle.volume_keeper_records.specs.declared.rows.TableRow.TheVariants as row
+use Rattle.volume_keeper_records.specs.Records.{record_of, head_record}
+use Rattle.volume_keeper_records.specs.Image.{image, kept_image, rows_of, tables_of}
+use Rattle.volume_keeper_records.specs.Laws.{ImagesRise}
 use Rattle.volume_tree.specs.Planned.{PlanState, IsPlan, planned, gone_rows, gone_comments, gone_appls}
 use Rattle.volume_tree.specs.TouchedNodes.{is_touched}
 use Rattle.volume_keeper.specs.Changes.{put_of, removal_of, is_of, gone_records, kept_records, tree_changes_of}

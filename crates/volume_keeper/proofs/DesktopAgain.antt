@@ -8,14 +8,14 @@ use Rattle.std.specs.Ordering.{nat_cmp, is_lt, ordering_reverse}
 use Rattle.std.specs.declared.cmp.Ordering.{Ordering}
 use Rattle.std.specs.declared.cmp.Ordering.TheVariants.{Less, Equal, Greater}
 use Rattle.std.proofs.lemmas.Slice.Eq.{bytes_eq-Decides}
-use Rattle.afp_volume.specs.VolumeState.{Comment, Icon, Appl, VolumeState}
-use Rattle.afp_volume.specs.Order.{put_in, rises, stands_before}
-use Rattle.afp_volume.specs.SoundVolume.{appl_key, code_size, icon_key, is_comment, is_icon, longest_comment, longest_icon}
-use Rattle.afp_volume.specs.Desktop.{IsDesktop, comment_key, icon_under, with_appl, with_comment, with_icon}
-use Rattle.afp_volume.specs.DesktopLaws.{IconHasParts}
-use Rattle.volume_records.specs.declared.rows.TableRow.{TableRow}
-use Rattle.volume_records.specs.declared.rows.TableRow.TheVariants as row
-use Rattle.volume_records.specs.Image.{fork_blocks, node_of, rows_of, tables_of}
+use Rattle.volume_spec.specs.VolumeState.{Comment, Icon, Appl, VolumeState}
+use Rattle.volume_spec.specs.Order.{put_in, rises, stands_before}
+use Rattle.volume_spec.specs.SoundVolume.{appl_key, code_size, icon_key, is_comment, is_icon, longest_comment, longest_icon}
+use Rattle.volume_spec.specs.Desktop.{IsDesktop, comment_key, icon_under, with_appl, with_comment, with_icon}
+use Rattle.volume_spec.specs.DesktopLaws.{IconHasParts}
+use Rattle.volume_keeper_records.specs.declared.rows.TableRow.{TableRow}
+use Rattle.volume_keeper_records.specs.declared.rows.TableRow.TheVariants as row
+use Rattle.volume_keeper_records.specs.Image.{fork_blocks, node_of, rows_of, tables_of}
 use Rattle.volume_keeper.specs.lemma.Rebuilt.{appls_with, comments_with, icons_with, with_all}
 use Rattle.volume_keeper.proofs.GoneRecords.{first_true, second_true}
 use Rattle.volume_keeper.proofs.PlanSteps.{same_number}

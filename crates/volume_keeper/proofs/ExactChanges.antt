@@ -7,13 +7,13 @@ use Rattle.std.specs.FinMap.{from_sorted, get}
 use Rattle.std.specs.Ordering.{nat_cmp, is_eq, is_lt}
 use Rattle.std.specs.declared.cmp.Ordering.TheVariants.{Less}
 use Rattle.std.proofs.lemmas.Bool.{and_from}
-use Rattle.afp_volume.specs.Order.{rises, stands_before}
+use Rattle.volume_spec.specs.Order.{rises, stands_before}
 use Rattle.record_keeper.specs.declared.record.Change.{Change}
 use Rattle.record_keeper.specs.declared.record.Change.TheVariants.{Put, Remove}
 use Rattle.record_keeper.specs.declared.record.Record.{Record}
 use Rattle.record_keeper.specs.Records.{Records, key_of}
 use Rattle.record_keeper.specs.Reading.{IsBelow, RisesByKey}
-use Rattle.volume_records.specs.Image.{entries_of}
+use Rattle.volume_keeper_records.specs.Image.{entries_of}
 use Rattle.volume_keeper.specs.ForkChanges.{names}
 use Rattle.volume_keeper.proofs.LookUps.{are_one, itself, one_of, after}
 use Rattle.volume_keeper.proofs.RecordSteps.{Beneath, IsStrict, Step, after_steps, changes_in, got_seen, news, none_seen, olds, seen, turned, with_value}

@@ -13,22 +13,22 @@ use Rattle.afp_base.specs.Limits.{block_size}
 use Rattle.fork_bytes.specs.Blocks.{blocks_of, trimmed}
 use Rattle.fork_bytes.specs.Kept.{are_rising, byte_at, bytes_in, bytes_of, each_of, is_empty, is_kept}
 use Rattle.fork_bytes.specs.Laws.{BytesFromBlocks, HasItsLength, BlocksRise, BlocksAreKept}
-use Rattle.afp_volume.specs.VolumeState.{Row as VolumeRow, VolumeState}
-use Rattle.afp_volume.specs.Edits.{change_at, with_changed}
-use Rattle.afp_volume.specs.Order.{rises_from}
-use Rattle.afp_volume.specs.SoundVolume.{IsSoundVolume, is_formed}
-use Rattle.afp_volume.specs.Walk.{row_at}
+use Rattle.volume_spec.specs.VolumeState.{Row as VolumeRow, VolumeState}
+use Rattle.volume_spec.specs.Edits.{change_at, with_changed}
+use Rattle.volume_spec.specs.Order.{rises_from}
+use Rattle.volume_spec.specs.SoundVolume.{IsSoundVolume, is_formed}
+use Rattle.volume_spec.specs.Walk.{row_at}
 use Rattle.record_keeper.specs.Reading.{IsBelow, RisesByKey}
-use Rattle.volume_records.specs.declared.rows.ForkBlock.{ForkBlock}
-use Rattle.volume_records.specs.declared.rows.TableRow.{TableRow}
-use Rattle.volume_records.specs.declared.rows.TableRow.TheVariants as row
-use Rattle.volume_records.specs.Records.{record_of, block_record, block_tag, flag_byte, long_bytes}
-use Rattle.volume_records.specs.Laws.{ImagesRise, TablesSayVolumes}
-use Rattle.volume_records.specs.Image.{fork_block_of, fork_blocks, node_of, rows_of, tables_of}
-use Rattle.volume_records.specs.FromTables.{own, fork_part, piece_of, pieces, row_from}
+use Rattle.volume_keeper_records.specs.declared.rows.ForkBlock.{ForkBlock}
+use Rattle.volume_keeper_records.specs.declared.rows.TableRow.{TableRow}
+use Rattle.volume_keeper_records.specs.declared.rows.TableRow.TheVariants as row
+use Rattle.volume_keeper_records.specs.Records.{record_of, block_record, block_tag, flag_byte, long_bytes}
+use Rattle.volume_keeper_records.specs.Laws.{ImagesRise, TablesSayVolumes}
+use Rattle.volume_keeper_records.specs.Image.{fork_block_of, fork_blocks, node_of, rows_of, tables_of}
+use Rattle.volume_keeper_records.specs.FromTables.{own, fork_part, piece_of, pieces, row_from}
 use Rattle.volume_tree.specs.Filled.{filled, filled_row, FitsFork}
-use Rattle.afp_volume.specs.OpenFork.{file_of}
-use Rattle.afp_volume.specs.ForkEffect.{fork_of}
+use Rattle.volume_spec.specs.OpenFork.{file_of}
+use Rattle.volume_spec.specs.ForkEffect.{fork_of}
 use Rattle.volume_tree.specs.Shown.{fork_at}
 use Rattle.volume_keeper.specs.lemma.Rebuilt.{FitRows, FitsRow, with_block, with_blocks}
 use Rattle.volume_keeper.specs.Whole.{without_desktop}

@@ -5,23 +5,23 @@ use Rattle.std.specs.List.{find}
 use Rattle.std.specs.Cmp.Lexicographic.{pointwise, slice_cmp}
 use Rattle.std.specs.Ordering.{nat_cmp}
 use Rattle.std.specs.declared.cmp.Ordering.TheVariants.{Less}
-use Rattle.afp_volume.specs.Edits.{change_at, with_changed}
-use Rattle.afp_volume.specs.ForkEffect.{fork_effect, fork_of, written}
-use Rattle.afp_volume.specs.Order.{rises_from}
-use Rattle.afp_volume.specs.VolumeState.{Row as VolumeRow, VolumeState}
-use Rattle.afp_volume.specs.Walk.{row_at}
+use Rattle.volume_spec.specs.Edits.{change_at, with_changed}
+use Rattle.volume_spec.specs.ForkEffect.{fork_effect, fork_of, written}
+use Rattle.volume_spec.specs.Order.{rises_from}
+use Rattle.volume_spec.specs.VolumeState.{Row as VolumeRow, VolumeState}
+use Rattle.volume_spec.specs.Walk.{row_at}
 use Rattle.fork_bytes.specs.declared.block.Block.{Block}
 use Rattle.fork_bytes.specs.Blocks.{block_at, block_count, blocks_from, blocks_of, trimmed, with_block}
 use Rattle.fork_bytes.specs.Plan.{changes_from, changes_of, with_change}
 use Rattle.record_keeper.specs.declared.record.Record.{Record}
 use Rattle.record_keeper.specs.declared.record.Change.{Change}
 use Rattle.record_keeper.specs.declared.record.Change.TheVariants.{Put}
-use Rattle.volume_records.proofs.ByteOrder.{front_same, long_less}
-use Rattle.volume_records.specs.declared.rows.Head.{Head}
-use Rattle.volume_records.specs.declared.rows.TableRow.{TableRow}
-use Rattle.volume_records.specs.declared.rows.TableRow.TheVariants as row
-use Rattle.volume_records.specs.Records.{record_of, block_key, block_record, flag_byte, head_record, long_bytes, node_record}
-use Rattle.volume_records.specs.Image.{fork_block_of, fork_blocks, image, node_of, tables_of}
+use Rattle.volume_keeper_records.proofs.ByteOrder.{front_same, long_less}
+use Rattle.volume_keeper_records.specs.declared.rows.Head.{Head}
+use Rattle.volume_keeper_records.specs.declared.rows.TableRow.{TableRow}
+use Rattle.volume_keeper_records.specs.declared.rows.TableRow.TheVariants as row
+use Rattle.volume_keeper_records.specs.Records.{record_of, block_key, block_record, flag_byte, head_record, long_bytes, node_record}
+use Rattle.volume_keeper_records.specs.Image.{fork_block_of, fork_blocks, image, node_of, tables_of}
 use Rattle.volume_keeper.specs.ForkChanges.{block_change, file_changes, fork_changes_of, put_where_other}
 use Rattle.volume_keeper.proofs.GoneRecords.{first_true, second_true, nil_behind}
 use Rattle.volume_keeper.proofs.PlanSteps.{map-append, same_number}

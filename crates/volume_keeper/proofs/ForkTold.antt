@@ -2,19 +2,19 @@
 use Rattle.std.proofs.Common.{◌≡◌, ◌∙◌, ℕ, zero, suc, ◌+◌, ◌<◌, ◌≤◌, Bool, true, false, cond, List, [], ◌∷◌, ◌++◌, map, length, take, refl, sym, ap, arith}
 use Rattle.std.specs.Prelude.{Option, Some, None, IfSome, pos, option_map, slice_index_or, if◌then◌else◌, ◌==◌}
 use Rattle.std.specs.List.{find}
-use Rattle.afp_volume.specs.DesktopLaws.{with_desktop}
-use Rattle.afp_volume.specs.Edits.{bare}
-use Rattle.afp_volume.specs.ForkEffect.{fork_effect, fork_of, would_pass, written}
-use Rattle.afp_volume.specs.OpenFork.{file_of}
+use Rattle.volume_spec.specs.DesktopLaws.{with_desktop}
+use Rattle.volume_spec.specs.Edits.{bare}
+use Rattle.volume_spec.specs.ForkEffect.{fork_effect, fork_of, would_pass, written}
+use Rattle.volume_spec.specs.OpenFork.{file_of}
 use Rattle.afp_base.specs.Limits.{most_fork_bytes}
-use Rattle.afp_volume.specs.SoundVolume.{fork_bytes}
-use Rattle.afp_volume.specs.VolumeState.{Row as VolumeRow, Comment, Icon, Appl, VolumeState}
-use Rattle.afp_volume.specs.Walk.{row_at}
+use Rattle.volume_spec.specs.SoundVolume.{fork_bytes}
+use Rattle.volume_spec.specs.VolumeState.{Row as VolumeRow, Comment, Icon, Appl, VolumeState}
+use Rattle.volume_spec.specs.Walk.{row_at}
 use Rattle.fork_bytes.specs.declared.block.Block.{Block}
 use Rattle.fork_bytes.specs.Plan.{ForkPlanState, IsForkPlan, changes_of}
 use Rattle.record_keeper.specs.declared.record.Change.{Change}
-use Rattle.volume_records.specs.declared.rows.TableRow.TheVariants as row
-use Rattle.volume_records.specs.Image.{node_of, tables_of}
+use Rattle.volume_keeper_records.specs.declared.rows.TableRow.TheVariants as row
+use Rattle.volume_keeper_records.specs.Image.{node_of, tables_of}
 use Rattle.volume_tree.specs.Shown.{fork_at}
 use Rattle.volume_keeper.specs.ForkChanges.{block_change, file_changes, fork_changes_of, put_where_other}
 use Rattle.volume_keeper.specs.lemma.ForkChanges.{modified_head, modified_node, node_changes}

@@ -5,15 +5,15 @@ use Rattle.std.specs.List.{list_all}
 use Rattle.std.specs.Cmp.Lexicographic.{pointwise, bytes_decides}
 use Rattle.std.proofs.lemmas.Bool.{and_from, le-leb}
 use Rattle.afp_base.specs.ForkBytes.{taken}
-use Rattle.afp_volume.proofs.ForkEffects.{fork-bytes-typed}
-use Rattle.afp_volume.proofs.TypedEdits.{drop-bytes, take-bytes}
-use Rattle.afp_volume.specs.DesktopLaws.{with_desktop}
-use Rattle.afp_volume.specs.ForkEffect.{fork_effect, fork_of}
-use Rattle.afp_volume.specs.ForkLaws.{ForkKeepsSound, ForkKeepsTyped}
+use Rattle.volume_spec.proofs.ForkEffects.{fork-bytes-typed}
+use Rattle.volume_spec.proofs.TypedEdits.{drop-bytes, take-bytes}
+use Rattle.volume_spec.specs.DesktopLaws.{with_desktop}
+use Rattle.volume_spec.specs.ForkEffect.{fork_effect, fork_of}
+use Rattle.volume_spec.specs.ForkLaws.{ForkKeepsSound, ForkKeepsTyped}
 use Rattle.afp_base.specs.Limits.{most_fork_bytes}
-use Rattle.afp_volume.specs.SoundVolume.{fork_bytes}
-use Rattle.afp_volume.specs.TypedVolume.{are_bytes, is_byte}
-use Rattle.afp_volume.specs.VolumeState.{Comment, Icon, Appl, VolumeState}
+use Rattle.volume_spec.specs.SoundVolume.{fork_bytes}
+use Rattle.volume_spec.specs.TypedVolume.{are_bytes, is_byte}
+use Rattle.volume_spec.specs.VolumeState.{Comment, Icon, Appl, VolumeState}
 use Rattle.fork_bytes.specs.declared.block.Block.{Block}
 use Rattle.fork_bytes.specs.Blocks.{before_zeros, block_at, block_count, blocks_from, blocks_of, trimmed, with_block}
 use Rattle.fork_bytes.specs.Kept.{byte_at, bytes_in, each_of}

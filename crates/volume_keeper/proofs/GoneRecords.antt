@@ -1,23 +1,23 @@
 -- The records of a node that goes, kind by kind.
 use Rattle.std.proofs.Common.{◌≡◌, ◌∙◌, ℕ, ◌<◌, Bool, true, false, cond, List, [], ◌∷◌, ◌++◌, map, length, refl, sym, ap, arith, append_assoc}
-use Rattle.afp_volume.specs.ForkEffect.{fork_of}
+use Rattle.volume_spec.specs.ForkEffect.{fork_of}
 use Rattle.std.specs.Prelude.{Option, Some, None, IfSome, option_map, nat_lt, ◌&&◌, ◌==◌}
 use Rattle.std.specs.List.{filter, find, list_all, cons_option}
 use Rattle.fork_bytes.specs.Blocks.{blocks_of}
 use Rattle.fork_bytes.specs.declared.block.Block.{Block}
-use Rattle.afp_volume.specs.VolumeState.{Row as VolumeRow, Comment, Appl, VolumeState}
-use Rattle.afp_volume.specs.Order.{rises_from}
-use Rattle.afp_volume.specs.SoundVolume.{IsSoundVolume, is_formed, is_formed_volume, is_in_order, has_rising_ids, is_named}
-use Rattle.afp_volume.specs.Walk.{row_at}
+use Rattle.volume_spec.specs.VolumeState.{Row as VolumeRow, Comment, Appl, VolumeState}
+use Rattle.volume_spec.specs.Order.{rises_from}
+use Rattle.volume_spec.specs.SoundVolume.{IsSoundVolume, is_formed, is_formed_volume, is_in_order, has_rising_ids, is_named}
+use Rattle.volume_spec.specs.Walk.{row_at}
 use Rattle.record_keeper.specs.declared.record.Change.TheVariants.{Remove}
-use Rattle.volume_records.specs.declared.rows.ForkBlock.{ForkBlock}
-use Rattle.volume_records.specs.declared.rows.TableRow.{TableRow}
-use Rattle.volume_records.specs.declared.rows.TableRow.TheVariants as row
-use Rattle.volume_records.specs.Records.{node_key, comment_record_key, appl_record_key, node_record, block_record, comment_record, appl_record}
-use Rattle.volume_records.specs.Image.{fork_block_of, fork_blocks, node_of, rows_of, tables_of}
-use Rattle.volume_records.proofs.ImageClear.{formed_none}
-use Rattle.volume_records.proofs.ImageBlocks.{filter-append}
-use Rattle.afp_volume.specs.OpenFork.{file_of}
+use Rattle.volume_keeper_records.specs.declared.rows.ForkBlock.{ForkBlock}
+use Rattle.volume_keeper_records.specs.declared.rows.TableRow.{TableRow}
+use Rattle.volume_keeper_records.specs.declared.rows.TableRow.TheVariants as row
+use Rattle.volume_keeper_records.specs.Records.{node_key, comment_record_key, appl_record_key, node_record, block_record, comment_record, appl_record}
+use Rattle.volume_keeper_records.specs.Image.{fork_block_of, fork_blocks, node_of, rows_of, tables_of}
+use Rattle.volume_keeper_records.proofs.ImageClear.{formed_none}
+use Rattle.volume_keeper_records.proofs.ImageBlocks.{filter-append}
+use Rattle.volume_spec.specs.OpenFork.{file_of}
 use Rattle.volume_tree.specs.Shown.{fork_at}
 use Rattle.volume_keeper.specs.Changes.{is_of, removal_of}
 use Rattle.volume_keeper.specs.lemma.Steps.{all_taken, appl_taken, appls_taken, block_taken, comment_taken, fork_taken, node_taken}

@@ -2,12 +2,12 @@
 use Rattle.std.proofs.Common.{◌≡◌, ◌∙◌, true, List, [], ◌∷◌, ◌++◌, map, ap, append_assoc}
 use Rattle.std.specs.List.{list_all}
 use Rattle.afp_base.specs.declared.ids.NodeId.{NodeId}
-use Rattle.afp_volume.specs.VolumeState.{Comment, Icon, Appl, VolumeState}
-use Rattle.afp_volume.specs.SoundVolume.{IsSoundVolume, is_formed}
-use Rattle.afp_volume.specs.DesktopLaws.{with_desktop}
+use Rattle.volume_spec.specs.VolumeState.{Comment, Icon, Appl, VolumeState}
+use Rattle.volume_spec.specs.SoundVolume.{IsSoundVolume, is_formed}
+use Rattle.volume_spec.specs.DesktopLaws.{with_desktop}
 use Rattle.record_keeper.specs.declared.record.Change.{Change}
-use Rattle.volume_records.specs.declared.rows.TableRow.TheVariants as row
-use Rattle.volume_records.specs.Image.{tables_of}
+use Rattle.volume_keeper_records.specs.declared.rows.TableRow.TheVariants as row
+use Rattle.volume_keeper_records.specs.Image.{tables_of}
 use Rattle.volume_tree.specs.Planned.{PlanState, planned}
 use Rattle.volume_tree.specs.TouchedNodes.{IsTouched}
 use Rattle.volume_keeper.specs.Changes.{kept_records, put_of}

@@ -8,18 +8,18 @@ use Rattle.std.proofs.lemmas.Nat.{from_be_bytes-to_be_bytes_4}
 use Rattle.std.proofs.lemmas.Slice.Eq.{bytes_eq-Decides}
 use Rattle.afp_base.specs.Apart.{are_apart}
 use Rattle.afp_base.specs.declared.ids.NodeId.{NodeId}
-use Rattle.afp_volume.specs.VolumeState.{Row as VolumeRow, Comment, Icon, Appl, VolumeState, root_id, first_id}
-use Rattle.afp_volume.specs.SoundVolume.{IsSoundVolume, is_formed_volume, is_in_place, is_tree, has_node, last_next_id}
+use Rattle.volume_spec.specs.VolumeState.{Row as VolumeRow, Comment, Icon, Appl, VolumeState, root_id, first_id}
+use Rattle.volume_spec.specs.SoundVolume.{IsSoundVolume, is_formed_volume, is_in_place, is_tree, has_node, last_next_id}
 use Rattle.record_keeper.specs.declared.record.Change.{Change}
 use Rattle.record_keeper.specs.Records.{key_of}
 use Rattle.record_keeper.specs.Reading.{IsBelow, RisesByKey}
-use Rattle.volume_records.specs.declared.rows.ForkBlock.{ForkBlock}
-use Rattle.volume_records.specs.declared.rows.Head.{Head}
-use Rattle.volume_records.specs.declared.rows.TableRow.{TableRow}
-use Rattle.volume_records.specs.declared.rows.TableRow.TheVariants as row
-use Rattle.volume_records.specs.Records.{record_of, head_record, node_record, block_record, comment_record, icon_record, appl_record, node_key, long_bytes}
-use Rattle.volume_records.specs.Image.{image, node_of, rows_of, tables_of, fork_blocks}
-use Rattle.volume_records.specs.Laws.{ImagesRise}
+use Rattle.volume_keeper_records.specs.declared.rows.ForkBlock.{ForkBlock}
+use Rattle.volume_keeper_records.specs.declared.rows.Head.{Head}
+use Rattle.volume_keeper_records.specs.declared.rows.TableRow.{TableRow}
+use Rattle.volume_keeper_records.specs.declared.rows.TableRow.TheVariants as row
+use Rattle.volume_keeper_records.specs.Records.{record_of, head_record, node_record, block_record, comment_record, icon_record, appl_record, node_key, long_bytes}
+use Rattle.volume_keeper_records.specs.Image.{image, node_of, rows_of, tables_of, fork_blocks}
+use Rattle.volume_keeper_records.specs.Laws.{ImagesRise}
 use Rattle.volume_tree.specs.Planned.{PlanState, IsPlan, IsNew, planned, gone_rows, come_rows, next_after}
 use Rattle.volume_tree.specs.TouchedNodes.{is_touched}
 use Rattle.volume_keeper.specs.Changes.{is_of, put_of, removal_of, gone_records, kept_records, tree_changes_of}

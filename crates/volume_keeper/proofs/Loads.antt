@@ -3,8 +3,8 @@ use Rattle.std.proofs.Common.{◌≡◌, ◌∙◌, ℕ, zero, suc, true, cond, 
 use Rattle.std.specs.Prelude.{Option, Some, None, IfSome, option_map, Result, Ok, Err, IfOk, IfErr, nat_lt}
 use Rattle.std.specs.List.{slice_get}
 use Rattle.std.specs.FinMap.{entries, from_sorted, entries-from_sorted, same_entries_map}
-use Rattle.afp_volume.specs.VolumeState.{VolumeState, fresh_volume}
-use Rattle.afp_volume.specs.SoundVolume.{IsSoundVolume}
+use Rattle.volume_spec.specs.VolumeState.{VolumeState, fresh_volume}
+use Rattle.volume_spec.specs.SoundVolume.{IsSoundVolume}
 use Rattle.record_keeper.specs.declared.record.Record.{Record}
 use Rattle.record_keeper.specs.declared.record.Change.{Change}
 use Rattle.record_keeper.specs.declared.reading.ReadAllFault.{ReadAllFault}
@@ -12,11 +12,11 @@ use Rattle.record_keeper.specs.declared.reading.ReadAllFault.TheVariants as read
 use Rattle.record_keeper.specs.Records.{Records, Makes, changed, same_records}
 use Rattle.record_keeper.specs.Reading.{IsAll, IsFaultOf, RisesByKey, entry_of, most_records}
 use Rattle.record_keeper.proofs.KeptRows.{by_bytes}
-use Rattle.volume_records.specs.declared.rows.Reason.TheVariants.{Limit}
-use Rattle.volume_records.specs.FirstBad.{first_bad_among, first_bad_record, too_many}
-use Rattle.volume_records.specs.Image.{entries_of, image, kept_image, records_in, rows_of, tables_of}
-use Rattle.volume_records.specs.KeyOrder.{with_head_and_root}
-use Rattle.volume_records.specs.Laws.{ImagesRise}
+use Rattle.volume_keeper_records.specs.declared.rows.Reason.TheVariants.{Limit}
+use Rattle.volume_keeper_records.specs.FirstBad.{first_bad_among, first_bad_record, too_many}
+use Rattle.volume_keeper_records.specs.Image.{entries_of, image, kept_image, records_in, rows_of, tables_of}
+use Rattle.volume_keeper_records.specs.KeyOrder.{with_head_and_root}
+use Rattle.volume_keeper_records.specs.Laws.{ImagesRise}
 use Rattle.volume_keeper.specs.declared.loading.LoadFault.{LoadFault}
 use Rattle.volume_keeper.specs.Changes.{put_of}
 use Rattle.volume_keeper.specs.Loading.{Becomes, IsFaultIn, IsLoad}

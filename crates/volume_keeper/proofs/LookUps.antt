@@ -15,9 +15,9 @@ use Rattle.record_keeper.specs.declared.record.Change.TheVariants.{Put, Remove}
 use Rattle.record_keeper.specs.Records.{Records, changed}
 use Rattle.record_keeper.specs.Reading.{IsBelow, RisesByKey}
 use Rattle.record_keeper.proofs.KeptRows.{by_bytes, one_key, alike}
-use Rattle.volume_records.specs.declared.rows.TableRow.{TableRow}
-use Rattle.volume_records.specs.Records.{record_of}
-use Rattle.volume_records.specs.Image.{entries_of}
+use Rattle.volume_keeper_records.specs.declared.rows.TableRow.{TableRow}
+use Rattle.volume_keeper_records.specs.Records.{record_of}
+use Rattle.volume_keeper_records.specs.Image.{entries_of}
 use Rattle.volume_keeper.specs.Changes.{put_of, removal_of}
 
 abbrev pub are_one : List ℕ → List ℕ → Bool

@@ -5,16 +5,16 @@ use Rattle.std.specs.List.{filter}
 use Rattle.afp_base.specs.declared.ids.NodeId.{NodeId}
 use Rattle.fork_bytes.specs.declared.block.Block.{Block}
 use Rattle.fork_bytes.specs.Blocks.{blocks_of}
-use Rattle.afp_volume.specs.VolumeState.{Row as VolumeRow, VolumeState}
-use Rattle.afp_volume.specs.Edits.{bare, with_changed, without, change_at, at_place, modified_at}
-use Rattle.afp_volume.specs.SetFileDirParms.{Settings, with_settings}
-use Rattle.volume_records.specs.declared.rows.Node.{Node}
-use Rattle.volume_records.specs.declared.rows.ForkBlock.{ForkBlock}
-use Rattle.volume_records.specs.declared.rows.TableRow.{TableRow}
-use Rattle.volume_records.specs.declared.rows.TableRow.TheVariants as row
-use Rattle.volume_records.specs.Records.{record_of, node_record, node_tag, long_bytes}
-use Rattle.volume_records.specs.Image.{node_of, fork_block_of, fork_blocks, rows_of, tables_of}
-use Rattle.volume_records.proofs.ImageBlocks.{filter-append}
+use Rattle.volume_spec.specs.VolumeState.{Row as VolumeRow, VolumeState}
+use Rattle.volume_spec.specs.Edits.{bare, with_changed, without, change_at, at_place, modified_at}
+use Rattle.volume_spec.specs.SetFileDirParms.{Settings, with_settings}
+use Rattle.volume_keeper_records.specs.declared.rows.Node.{Node}
+use Rattle.volume_keeper_records.specs.declared.rows.ForkBlock.{ForkBlock}
+use Rattle.volume_keeper_records.specs.declared.rows.TableRow.{TableRow}
+use Rattle.volume_keeper_records.specs.declared.rows.TableRow.TheVariants as row
+use Rattle.volume_keeper_records.specs.Records.{record_of, node_record, node_tag, long_bytes}
+use Rattle.volume_keeper_records.specs.Image.{node_of, fork_block_of, fork_blocks, rows_of, tables_of}
+use Rattle.volume_keeper_records.proofs.ImageBlocks.{filter-append}
 use Rattle.volume_tree.specs.Planned.{Move, SetNode, PlanState, IsNew, is_gone, gone_rows, gone_comments, gone_appls, come_rows, moved_rows, set_rows, modified_rows}
 use Rattle.volume_tree.specs.TouchedNodes.{is_come, is_moved, is_set, is_modified, is_touched}
 use Rattle.volume_keeper.specs.Changes.{is_of}

@@ -11,7 +11,7 @@ use Rattle.record_keeper.specs.declared.record.Change.TheVariants.{Put, Remove}
 use Rattle.record_keeper.specs.Records.{changed}
 use Rattle.record_keeper.specs.Reading.{IsBelow, RisesByKey}
 use Rattle.record_keeper.proofs.KeptRows.{by_bytes, alike}
-use Rattle.volume_records.specs.Image.{entries_of}
+use Rattle.volume_keeper_records.specs.Image.{entries_of}
 use Rattle.volume_keeper.proofs.LookUps.{are_one, one_of, sorted_entries, after, got_changed}
 
 -- a key, with what it has before and afterwards

@@ -1,20 +1,20 @@
 -- The nodes that a plan touches, one after the other.
 use Rattle.std.proofs.Common.{◌≡◌, ◌∙◌, ℕ, ◌<◌, Bool, true, false, cond, List, [], ◌∷◌, ◌++◌, ◌||◌, map, length, refl, sym, ap, arith}
-use Rattle.afp_volume.specs.ForkEffect.{fork_of}
+use Rattle.volume_spec.specs.ForkEffect.{fork_of}
 use Rattle.std.specs.Prelude.{Option, Some, None, IfSome, option_map, nat_lt, ◌==◌}
 use Rattle.std.specs.List.{filter, find, list_all, list_any}
 use Rattle.afp_base.specs.declared.ids.NodeId.{NodeId}
-use Rattle.afp_volume.specs.VolumeState.{Row as VolumeRow}
-use Rattle.afp_volume.specs.Edits.{bare}
-use Rattle.afp_volume.specs.Order.{rises_from}
-use Rattle.afp_volume.specs.Walk.{row_at}
+use Rattle.volume_spec.specs.VolumeState.{Row as VolumeRow}
+use Rattle.volume_spec.specs.Edits.{bare}
+use Rattle.volume_spec.specs.Order.{rises_from}
+use Rattle.volume_spec.specs.Walk.{row_at}
 use Rattle.record_keeper.specs.declared.record.Change.{Change}
-use Rattle.volume_records.specs.declared.rows.TableRow.TheVariants as row
-use Rattle.volume_records.specs.Image.{node_of}
+use Rattle.volume_keeper_records.specs.declared.rows.TableRow.TheVariants as row
+use Rattle.volume_keeper_records.specs.Image.{node_of}
 use Rattle.volume_tree.specs.Planned.{PlanState}
 use Rattle.volume_tree.specs.TouchedNodes.{is_touched, are_rising, IsTouched}
 use Rattle.volume_keeper.specs.Changes.{put_of}
-use Rattle.afp_volume.specs.OpenFork.{file_of}
+use Rattle.volume_spec.specs.OpenFork.{file_of}
 use Rattle.volume_tree.specs.Shown.{fork_at}
 use Rattle.volume_keeper.specs.lemma.Steps.{length_of, node_put, nodes_put, sized}
 use Rattle.volume_keeper.proofs.PlanSteps.{same_number}

@@ -3,12 +3,12 @@ use Rattle.std.proofs.Common.{◌≡◌, ◌∙◌, ℕ, Bool, true, false, cond
 use Rattle.std.specs.Prelude.{Option, Some, None, ◌&&◌, ◌==◌}
 use Rattle.std.specs.List.{filter, list_all, list_any}
 use Rattle.afp_base.specs.declared.ids.NodeId.{NodeId}
-use Rattle.afp_volume.specs.VolumeState.{Row as VolumeRow, Comment, Icon, Appl, VolumeState}
-use Rattle.afp_volume.specs.Edits.{with_changed, without, change_at, at_place, modified_at}
-use Rattle.afp_volume.specs.SetFileDirParms.{Settings, with_settings}
-use Rattle.afp_volume.specs.SoundVolume.{IsSoundVolume, has_node, has_file, has_noted_nodes}
-use Rattle.afp_volume.specs.Desktop.{IsDesktop}
-use Rattle.afp_volume.specs.DesktopLaws.{GoneNodeKeepsDesktop, SoundHasDesktop, DesktopStands, with_desktop}
+use Rattle.volume_spec.specs.VolumeState.{Row as VolumeRow, Comment, Icon, Appl, VolumeState}
+use Rattle.volume_spec.specs.Edits.{with_changed, without, change_at, at_place, modified_at}
+use Rattle.volume_spec.specs.SetFileDirParms.{Settings, with_settings}
+use Rattle.volume_spec.specs.SoundVolume.{IsSoundVolume, has_node, has_file, has_noted_nodes}
+use Rattle.volume_spec.specs.Desktop.{IsDesktop}
+use Rattle.volume_spec.specs.DesktopLaws.{GoneNodeKeepsDesktop, SoundHasDesktop, DesktopStands, with_desktop}
 use Rattle.volume_tree.specs.Planned.{Move, SetNode, PlanState, IsPlan, planned, gone_rows, gone_comments, gone_appls, come_rows, moved_rows, set_rows, modified_rows}
 use Rattle.volume_keeper.specs.Whole.{without_desktop}
 use Rattle.volume_keeper.proofs.PlanSteps.{later_rows, same_number}

@@ -3,20 +3,20 @@ use Rattle.std.proofs.Common.{◌≡◌, ◌∙◌, ap, sym, refl, subst, ℕ, �
 use Rattle.std.specs.Prelude.{Result, Ok, Err, IfOk, IfSome, IsSome, nat_le}
 use Rattle.std.proofs.lemmas.Bool.{and_from, le-leb}
 use Rattle.afp_base.specs.declared.ids.NodeId.{NodeId}
-use Rattle.afp_volume.specs.Shared.{Opened, has_no_ids, has_no_room}
-use Rattle.afp_volume.specs.CreateDir.{create_dir_refusal}
-use Rattle.afp_volume.specs.CreateFile.{create_file_refusal}
-use Rattle.afp_volume.specs.Delete.{delete_refusal}
-use Rattle.afp_volume.specs.Desktop.{IsDesktop}
-use Rattle.afp_volume.specs.DesktopLaws.{DesktopStands, with_desktop}
-use Rattle.afp_volume.specs.Laws.{CallsKeepTyped, StepsKeepSound}
-use Rattle.afp_volume.specs.MoveAndRename.{move_refusal}
-use Rattle.afp_volume.specs.Rename.{rename_refusal}
-use Rattle.afp_volume.specs.SetFileDirParms.{set_file_parms_refusal, set_dir_parms_refusal, set_file_dir_parms_refusal}
-use Rattle.afp_volume.specs.SoundVolume.{IsSoundVolume, has_noted_nodes}
-use Rattle.afp_volume.specs.TreeSteps.{TreeCall, CreateDir, CreateFile, Delete, Rename, MoveAndRename, SetFileParms, SetDirParms, SetFileDirParms, SetVolParms, tree_refusal, tree_effect, is_named_call, is_typed_call, unless_refused}
-use Rattle.afp_volume.specs.TypedVolume.{is_typed_volume}
-use Rattle.afp_volume.specs.VolumeState.{Appl, Comment, Icon, VolumeState}
+use Rattle.volume_spec.specs.Shared.{Opened, has_no_ids, has_no_room}
+use Rattle.volume_spec.specs.CreateDir.{create_dir_refusal}
+use Rattle.volume_spec.specs.CreateFile.{create_file_refusal}
+use Rattle.volume_spec.specs.Delete.{delete_refusal}
+use Rattle.volume_spec.specs.Desktop.{IsDesktop}
+use Rattle.volume_spec.specs.DesktopLaws.{DesktopStands, with_desktop}
+use Rattle.volume_spec.specs.Laws.{CallsKeepTyped, StepsKeepSound}
+use Rattle.volume_spec.specs.MoveAndRename.{move_refusal}
+use Rattle.volume_spec.specs.Rename.{rename_refusal}
+use Rattle.volume_spec.specs.SetFileDirParms.{set_file_parms_refusal, set_dir_parms_refusal, set_file_dir_parms_refusal}
+use Rattle.volume_spec.specs.SoundVolume.{IsSoundVolume, has_noted_nodes}
+use Rattle.volume_spec.specs.TreeSteps.{TreeCall, CreateDir, CreateFile, Delete, Rename, MoveAndRename, SetFileParms, SetDirParms, SetFileDirParms, SetVolParms, tree_refusal, tree_effect, is_named_call, is_typed_call, unless_refused}
+use Rattle.volume_spec.specs.TypedVolume.{is_typed_volume}
+use Rattle.volume_spec.specs.VolumeState.{Appl, Comment, Icon, VolumeState}
 use Rattle.volume_tree.specs.Answered.{Refuses}
 use Rattle.volume_tree.specs.Planned.{PlanState, DoesCall, IsPlan, planned, gone_comments, gone_appls}
 use Rattle.volume_tree.specs.declared.resolve.PlanFault.{PlanFault}

@@ -4,16 +4,16 @@ use Rattle.std.specs.Prelude.{Option, Some, None, IfSome, is_some, option_map, u
 use Rattle.std.specs.List.{find, list_all, list_any}
 use Rattle.std.proofs.lemmas.Slice.Eq.{bytes_eq-Decides}
 use Rattle.afp_base.specs.Apart.{are_apart}
-use Rattle.afp_volume.specs.VolumeState.{Row as VolumeRow, VolumeState, root_id, root_parent, first_id}
-use Rattle.afp_volume.specs.Shared.{name_of}
-use Rattle.afp_volume.specs.Order.{rises_from}
+use Rattle.volume_spec.specs.VolumeState.{Row as VolumeRow, VolumeState, root_id, root_parent, first_id}
+use Rattle.volume_spec.specs.Shared.{name_of}
+use Rattle.volume_spec.specs.Order.{rises_from}
 use Rattle.afp_base.specs.Limits.{most_fork_bytes}
-use Rattle.afp_volume.specs.SoundVolume.{IsSoundVolume, is_tree, is_in_place, leads_to_root, has_node, has_apart_names, are_named_alike, has_noted_nodes, keeps_limits, fork_bytes, is_formed_volume, is_formed, is_named, is_in_order, has_rising_ids, most_nodes, last_next_id, file_attributes, dir_attributes}
-use Rattle.afp_volume.specs.Walk.{row_at}
-use Rattle.afp_volume.proofs.TestedLists.{any-map, apart-map, length-mapped}
-use Rattle.volume_records.specs.declared.rows.TableRow.{TableRow}
-use Rattle.volume_records.specs.declared.rows.TableRow.TheVariants as row
-use Rattle.volume_records.specs.Image.{node_of, rows_of, tables_of, fork_blocks}
+use Rattle.volume_spec.specs.SoundVolume.{IsSoundVolume, is_tree, is_in_place, leads_to_root, has_node, has_apart_names, are_named_alike, has_noted_nodes, keeps_limits, fork_bytes, is_formed_volume, is_formed, is_named, is_in_order, has_rising_ids, most_nodes, last_next_id, file_attributes, dir_attributes}
+use Rattle.volume_spec.specs.Walk.{row_at}
+use Rattle.volume_spec.proofs.TestedLists.{any-map, apart-map, length-mapped}
+use Rattle.volume_keeper_records.specs.declared.rows.TableRow.{TableRow}
+use Rattle.volume_keeper_records.specs.declared.rows.TableRow.TheVariants as row
+use Rattle.volume_keeper_records.specs.Image.{node_of, rows_of, tables_of, fork_blocks}
 use Rattle.volume_tree.specs.Restored.{loaded_row, restored}
 use Rattle.volume_keeper.specs.lemma.Rebuilt.{head_said, nodes_said}
 use Rattle.volume_keeper.proofs.GoneRecords.{first_true, second_true}

@@ -5,18 +5,18 @@ use Rattle.std.specs.List.{list_any}
 use Rattle.fork_bytes.specs.declared.block.Block.{Block}
 use Rattle.fork_bytes.specs.Kept.{is_empty}
 use Rattle.fork_bytes.specs.Plan.{changes_of}
-use Rattle.afp_volume.specs.ForkEffect.{fork_effect, fork_of, written}
-use Rattle.afp_volume.specs.VolumeState.{Row as VolumeRow, VolumeState}
-use Rattle.afp_volume.specs.Walk.{row_at}
+use Rattle.volume_spec.specs.ForkEffect.{fork_effect, fork_of, written}
+use Rattle.volume_spec.specs.VolumeState.{Row as VolumeRow, VolumeState}
+use Rattle.volume_spec.specs.Walk.{row_at}
 use Rattle.record_keeper.specs.declared.record.Change.{Change}
 use Rattle.record_keeper.specs.declared.record.Change.TheVariants.{Put, Remove}
 use Rattle.record_keeper.specs.Records.{key_of}
-use Rattle.volume_records.specs.declared.rows.Head.{Head}
-use Rattle.volume_records.specs.declared.rows.Node.{Node}
-use Rattle.volume_records.specs.declared.rows.TableRow.{TableRow}
-use Rattle.volume_records.specs.declared.rows.TableRow.TheVariants as row
-use Rattle.volume_records.specs.Records.{record_of, block_key}
-use Rattle.volume_records.specs.Image.{node_of, tables_of}
+use Rattle.volume_keeper_records.specs.declared.rows.Head.{Head}
+use Rattle.volume_keeper_records.specs.declared.rows.Node.{Node}
+use Rattle.volume_keeper_records.specs.declared.rows.TableRow.{TableRow}
+use Rattle.volume_keeper_records.specs.declared.rows.TableRow.TheVariants as row
+use Rattle.volume_keeper_records.specs.Records.{record_of, block_key}
+use Rattle.volume_keeper_records.specs.Image.{node_of, tables_of}
 use Rattle.volume_keeper.specs.Changes.{put_of}
 
 -- the record of a row is put, where it has another value than that of the row before

@@ -1,16 +1,16 @@
 -- The laws of a volume's records in a keeper, in the subject's own words (this profile).
 use Rattle.std.specs.Prelude.{◌≡◌, ◌≢◌, ℕ, Bool, true, false, List, length, Some, bytes_eq}
 use Rattle.std.specs.FinMap.{get}
-use Rattle.afp_volume.specs.ForkEffect.{fork_effect, fork_of, would_pass}
-use Rattle.afp_volume.specs.Order.{rises}
-use Rattle.afp_volume.specs.VolumeState.{Comment, Icon, Appl, Row, VolumeState}
-use Rattle.afp_volume.specs.Walk.{row_at}
-use Rattle.afp_volume.specs.SoundVolume.{IsSoundVolume}
-use Rattle.afp_volume.specs.DesktopLaws.{with_desktop}
+use Rattle.volume_spec.specs.ForkEffect.{fork_effect, fork_of, would_pass}
+use Rattle.volume_spec.specs.Order.{rises}
+use Rattle.volume_spec.specs.VolumeState.{Comment, Icon, Appl, Row, VolumeState}
+use Rattle.volume_spec.specs.Walk.{row_at}
+use Rattle.volume_spec.specs.SoundVolume.{IsSoundVolume}
+use Rattle.volume_spec.specs.DesktopLaws.{with_desktop}
 use Rattle.record_keeper.specs.declared.record.Change.{Change}
 use Rattle.record_keeper.specs.Records.{Records, changed, key_of}
 use Rattle.afp_base.specs.Apart.{are_apart}
-use Rattle.volume_records.specs.Image.{kept_image}
+use Rattle.volume_keeper_records.specs.Image.{kept_image}
 use Rattle.volume_tree.specs.Planned.{PlanState, IsPlan, planned, gone_comments, gone_appls}
 use Rattle.volume_keeper.specs.Changes.{tree_changes_of}
 use Rattle.volume_keeper.specs.ForkChanges.{fork_changes_of, names}

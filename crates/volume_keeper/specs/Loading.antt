@@ -1,11 +1,11 @@
 -- What a load answers, and what it does to the records of a keeper (this profile).
 use Rattle.std.specs.Prelude.{◌≡◌, ℕ, ◌<◌, ◌≤◌, Bool, true, List, [], Option, Some, None, IfSome, Result, Ok, Err, OnOk, IfErr}
 use Rattle.std.specs.FinMap.{entries}
-use Rattle.afp_volume.specs.VolumeState.{VolumeState, fresh_volume}
+use Rattle.volume_spec.specs.VolumeState.{VolumeState, fresh_volume}
 use Rattle.record_keeper.specs.declared.record.Record.{Record}
 use Rattle.record_keeper.specs.Records.{Records}
-use Rattle.volume_records.specs.FirstBad.{first_bad_record}
-use Rattle.volume_records.specs.Image.{image, kept_image, records_in}
+use Rattle.volume_keeper_records.specs.FirstBad.{first_bad_record}
+use Rattle.volume_keeper_records.specs.Image.{image, kept_image, records_in}
 use Rattle.volume_keeper.specs.declared.loading.LoadFault.{LoadFault}
 use Rattle.volume_keeper.specs.declared.loading.LoadFault.TheVariants.{BadRecord, Failed, Memory}
 use Rattle.volume_keeper.specs.Whole.{HeldValue}

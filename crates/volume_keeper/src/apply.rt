@@ -1,13 +1,13 @@
 //! Plans carried out on a whole volume.
 ghost use Rattle.std.specs.Prelude.{◌≡◌, ◌≤◌, true, OnOk};
-ghost use Rattle.afp_volume.specs.TypedVolume.{is_typed_volume};
+ghost use Rattle.volume_spec.specs.TypedVolume.{is_typed_volume};
 ghost use Rattle.volume_tree.specs.Planned.{IsPlan, planned, gone_comments, gone_appls};
 
 use crate::held::Held;
 use afp_base::{NodeId, OutOfMemory};
-use afp_volume::desktop_laws::desktops_keep_volumes_sound;
 use desktop_db::Desktop;
 use std::alloc::Global;
+use volume_spec::desktop_laws::desktops_keep_volumes_sound;
 use volume_tree::Plan;
 
 /// Takes out what stands on the node that goes.

@@ -1,18 +1,18 @@
 //! Plans of forks carried out on a whole volume.
 ghost use Rattle.std.specs.Prelude.{◌≡◌, true};
 ghost use Rattle.std.specs.List.{list_all};
-ghost use Rattle.afp_volume.specs.ForkEffect.{fork_effect};
-ghost use Rattle.afp_volume.specs.TypedVolume.{are_bytes};
+ghost use Rattle.volume_spec.specs.ForkEffect.{fork_effect};
+ghost use Rattle.volume_spec.specs.TypedVolume.{are_bytes};
 ghost use Rattle.fork_bytes.specs.declared.block.Block.{Block as BlockValue};
 ghost use Rattle.volume_tree.specs.ForkEffect.{IsForkChange};
 
 use crate::held::Held;
 use afp_base::{Moment, NodeId};
-use afp_volume::bytes_in_range;
-use afp_volume::laws::forks_are_given_bytes;
 use fork_bytes::ForkPlan;
 use fork_bytes::laws::blocks_are_bytes;
 use std::alloc::Global;
+use volume_spec::bytes_in_range;
+use volume_spec::laws::forks_are_given_bytes;
 
 /// The bytes of the blocks that a plan changes are in their range. The call changes nothing.
 fn changes_in_range(plan: &ForkPlan)

@@ -1,12 +1,12 @@
 //! What a plan changes in the records of a volume.
 ghost use Rattle.std.specs.Prelude.{◌≡◌, ◌++◌, ◌∷◌, [], map, IfOk, OnOk, true};
 ghost use Rattle.std.specs.List.{list_all};
-ghost use Rattle.afp_volume.specs.SoundVolume.{is_formed};
-ghost use Rattle.afp_volume.specs.Walk.{row_at};
+ghost use Rattle.volume_spec.specs.SoundVolume.{is_formed};
+ghost use Rattle.volume_spec.specs.Walk.{row_at};
 ghost use Rattle.record_keeper.specs.declared.record.Change.TheVariants.{Put};
 ghost use Rattle.record_keeper.specs.Records.{changed};
-ghost use Rattle.volume_records.specs.declared.rows.TableRow.TheVariants as row;
-ghost use Rattle.volume_records.specs.Image.{kept_image, tables_of};
+ghost use Rattle.volume_keeper_records.specs.declared.rows.TableRow.TheVariants as row;
+ghost use Rattle.volume_keeper_records.specs.Image.{kept_image, tables_of};
 ghost use Rattle.volume_tree.specs.Planned.{planned, IsPlan};
 ghost use Rattle.volume_tree.specs.Shown.{fork_at};
 ghost use Rattle.volume_keeper.specs.Changes.{gone_records, kept_records, put_of as the_put, removal_of, tree_changes_of};
@@ -18,7 +18,7 @@ use crate::laws::plans_change_records;
 use afp_base::{Bytes, NodeId, OutOfMemory};
 use record_keeper::{Change, Record};
 use std::alloc::Global;
-use volume_records::{Head, Node, head_record, node_record};
+use volume_keeper_records::{Head, Node, head_record, node_record};
 use volume_tree::{NodeAfter, Plan, Volume};
 
 /// Puts a record.

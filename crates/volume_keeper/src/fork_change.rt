@@ -1,15 +1,15 @@
 //! What other bytes of a fork change in the records of a volume.
 ghost use Rattle.std.specs.Prelude.{◌≡◌, ◌++◌, ◌∷◌, [], nat_eq, pos, map, IfOk, OnOk, if◌then◌else◌, option_map, false, true};
 ghost use Rattle.std.specs.Cmp.Lexicographic.{pointwise};
-ghost use Rattle.afp_volume.specs.Edits.{bare};
-ghost use Rattle.afp_volume.specs.ForkEffect.{fork_effect};
-ghost use Rattle.afp_volume.specs.Walk.{row_at};
+ghost use Rattle.volume_spec.specs.Edits.{bare};
+ghost use Rattle.volume_spec.specs.ForkEffect.{fork_effect};
+ghost use Rattle.volume_spec.specs.Walk.{row_at};
 ghost use Rattle.fork_bytes.specs.Kept.{is_empty};
 ghost use Rattle.record_keeper.specs.declared.record.Change.TheVariants.{Put, Remove};
 ghost use Rattle.record_keeper.specs.Records.{changed};
-ghost use Rattle.volume_records.specs.declared.rows.TableRow.TheVariants as row;
-ghost use Rattle.volume_records.specs.Image.{kept_image, tables_of};
-ghost use Rattle.volume_records.specs.Records.{record_of};
+ghost use Rattle.volume_keeper_records.specs.declared.rows.TableRow.TheVariants as row;
+ghost use Rattle.volume_keeper_records.specs.Image.{kept_image, tables_of};
+ghost use Rattle.volume_keeper_records.specs.Records.{record_of};
 ghost use Rattle.volume_tree.specs.ForkEffect.{IsForkChange};
 ghost use Rattle.volume_tree.specs.Shown.{fork_at};
 ghost use Rattle.volume_keeper.specs.ForkChanges.{block_change, fork_changes_of, put_where_other};
@@ -25,7 +25,7 @@ use fork_bytes::ForkPlan;
 use node_rows::Node as TreeNode;
 use record_keeper::{Change, Record, RecordKey};
 use std::alloc::Global;
-use volume_records::{Head, Node, block_key, head_record, node_record};
+use volume_keeper_records::{Head, Node, block_key, head_record, node_record};
 use volume_tree::Volume;
 
 /// Puts a record, where it has another value than the one before it.

@@ -1,9 +1,9 @@
 //! A volume that nobody has used, and its records.
 ghost use Rattle.std.specs.Prelude.{◌≡◌, None, map, IfOk, true, List, ℕ};
 ghost use Rattle.afp_names.specs.Name.{name_fault};
-ghost use Rattle.afp_volume.specs.VolumeState.{fresh_volume, new_row, root_id, root_parent};
+ghost use Rattle.volume_spec.specs.VolumeState.{fresh_volume, new_row, root_id, root_parent};
 ghost use Rattle.record_keeper.specs.Records.{TellsOn};
-ghost use Rattle.volume_records.specs.Image.{node_of, rows_of, tables_of};
+ghost use Rattle.volume_keeper_records.specs.Image.{node_of, rows_of, tables_of};
 ghost use Rattle.volume_keeper.specs.Changes.{put_of as the_put};
 ghost use Rattle.volume_keeper.specs.Loading.{Becomes, HasLoadCause};
 ghost use Rattle.volume_keeper.specs.lemma.Loading.{IsMake};
@@ -12,13 +12,13 @@ use crate::changes::put;
 use crate::held::Held;
 use crate::loading::LoadFault;
 use afp_base::{Bytes, Moment, OutOfMemory};
-use afp_volume::laws::{fresh_volumes_are_sound, numbers_stay_in_their_ranges};
-use afp_volume::limits::{FIRST_ID, NEVER, ROOT_ID, ROOT_PARENT_ID};
 use desktop_db::Desktop;
 use record_keeper::{Change, Keeper, KeeperFault};
 use std::alloc::Global;
-use volume_records::laws::records_are_images;
-use volume_records::{Head, Node, head_record, node_record};
+use volume_keeper_records::laws::records_are_images;
+use volume_keeper_records::{Head, Node, head_record, node_record};
+use volume_spec::laws::{fresh_volumes_are_sound, numbers_stay_in_their_ranges};
+use volume_spec::limits::{FIRST_ID, NEVER, ROOT_ID, ROOT_PARENT_ID};
 use volume_tree::Volume;
 
 /// The head of a volume that is made at a moment.

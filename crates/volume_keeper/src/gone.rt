@@ -1,8 +1,8 @@
 //! The records of a node that goes.
 ghost use Rattle.std.specs.Prelude.{◌≡◌, ◌++◌, ◌∷◌, [], map, OnOk, if◌then◌else◌, ◌==◌};
-ghost use Rattle.afp_volume.specs.Desktop.{comment_at};
-ghost use Rattle.afp_volume.specs.DesktopLaws.{with_desktop};
-ghost use Rattle.afp_volume.specs.Walk.{row_at};
+ghost use Rattle.volume_spec.specs.Desktop.{comment_at};
+ghost use Rattle.volume_spec.specs.DesktopLaws.{with_desktop};
+ghost use Rattle.volume_spec.specs.Walk.{row_at};
 ghost use Rattle.record_keeper.specs.declared.record.Change.TheVariants.{Remove};
 ghost use Rattle.volume_tree.specs.Shown.{fork_at};
 ghost use Rattle.volume_keeper.specs.lemma.Steps.{all_taken, appl_taken, appls_taken, block_taken, comment_taken, fork_taken, node_taken};
@@ -12,7 +12,7 @@ use desktop_db::{Appl, Desktop};
 use fork_bytes::Block;
 use record_keeper::{Change, RecordKey};
 use std::alloc::Global;
-use volume_records::{appl_key, block_key, comment_key, node_key};
+use volume_keeper_records::{appl_key, block_key, comment_key, node_key};
 use volume_tree::Volume;
 
 pub(crate) fn push(changes: &mut Vec<Change>, change: Change) -> Result<(), OutOfMemory>

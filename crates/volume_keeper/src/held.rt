@@ -1,7 +1,7 @@
 //! A volume with its desktop database.
 ghost use Rattle.std.specs.Prelude.{◌≡◌, true};
-ghost use Rattle.afp_volume.specs.SoundVolume.{IsSoundVolume};
-ghost use Rattle.afp_volume.specs.TypedVolume.{is_typed_volume};
+ghost use Rattle.volume_spec.specs.SoundVolume.{IsSoundVolume};
+ghost use Rattle.volume_spec.specs.TypedVolume.{is_typed_volume};
 
 use desktop_db::Desktop;
 use std::marker::Model;
@@ -19,7 +19,7 @@ pub struct Held {
 
 impl Model for Held {
     ghost use Rattle.std.specs.Prelude.{min};
-    ghost use Rattle.afp_volume.specs.DesktopLaws.{with_desktop};
+    ghost use Rattle.volume_spec.specs.DesktopLaws.{with_desktop};
     ghost use Rattle.volume_keeper.specs.Whole.{HeldValue};
     ghost use Rattle.volume_keeper.specs.lemma.Whole.{IsHeld};
 

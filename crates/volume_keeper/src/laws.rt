@@ -6,7 +6,7 @@ pub fn plans_change_records()
     ensures records { laws.PlansChangeRecords }
     ensures once { laws.PlansChangeKeysOnce }
 {
-    volume_records::laws::records_are_images();
+    volume_keeper_records::laws::records_are_images();
 }
 
 /// A plan of a volume's tree is a plan of the volume with its desktop database: what stands on the node that goes, goes with it. The tree of
@@ -16,8 +16,8 @@ pub fn plans_of_trees_are_plans()
     ensures planned { laws.PlannedWhole }
     ensures trees { laws.TreesAreSound }
 {
-    afp_volume::desktop_laws::calls_keep_desktops();
-    afp_volume::desktop_laws::desktops_keep_volumes_sound();
+    volume_spec::desktop_laws::calls_keep_desktops();
+    volume_spec::desktop_laws::desktops_keep_volumes_sound();
 }
 
 /// The changes of other bytes in a fork of a file make the records of the volume before them those of the volume after them. They name exactly the
@@ -26,6 +26,6 @@ pub fn forks_change_records()
     ensures image { laws.ForksChangeRecords }
     ensures exact { laws.ForkChangesAreExact }
 {
-    afp_volume::laws::forks_are_given_bytes();
-    volume_records::laws::records_are_images();
+    volume_spec::laws::forks_are_given_bytes();
+    volume_keeper_records::laws::records_are_images();
 }

@@ -12,7 +12,7 @@ use crate::rebuild::held_of;
 use afp_base::Moment;
 use record_keeper::{Keeper, ReadAllFault, Record, RecordKey, read_all};
 use std::alloc::Global;
-use volume_records::{Loaded, Reason, load_records};
+use volume_keeper_records::{Loaded, Reason, load_records};
 
 /// Why a volume was not loaded.
 #[derive(Drop)]

@@ -1,7 +1,7 @@
 //! Calls on a whole volume.
 ghost use Rattle.std.specs.Prelude.{◌≡◌, true, IfOk, IfSome, IsSome};
-ghost use Rattle.afp_volume.specs.TreeSteps.{tree_refusal, tree_effect};
-ghost use Rattle.afp_volume.specs.TypedVolume.{is_typed_volume};
+ghost use Rattle.volume_spec.specs.TreeSteps.{tree_refusal, tree_effect};
+ghost use Rattle.volume_spec.specs.TypedVolume.{is_typed_volume};
 ghost use Rattle.volume_tree.specs.Answered.{Refuses};
 ghost use Rattle.volume_tree.specs.Planned.{IsPlan, planned};
 ghost use Rattle.volume_tree.specs.Requests.{tree_call};
@@ -9,10 +9,10 @@ ghost use Rattle.volume_tree.specs.Shown.{opened};
 
 use crate::held::Held;
 use afp_base::Moment;
-use afp_requests::Call;
-use afp_volume::laws::{calls_keep_volumes_sound_for_ever, numbers_stay_in_their_ranges};
+use afp_calls_grammar::Call;
 use deny_modes::VolumeOpens;
 use std::alloc::Global;
+use volume_spec::laws::{calls_keep_volumes_sound_for_ever, numbers_stay_in_their_ranges};
 use volume_tree::{Plan, PlanFault, requests_are_typed};
 
 impl Held {

@@ -1,9 +1,9 @@
 //! The volume that rows say.
 ghost use Rattle.std.specs.Prelude.{◌≡◌, ◌<◌, ◌++◌, ◌∷◌, [], List, length, flat_map, IfOk, OnOk};
-ghost use Rattle.afp_volume.specs.VolumeState.{VolumeState};
-ghost use Rattle.volume_records.specs.declared.rows.TableRow.{TableRow};
-ghost use Rattle.volume_records.specs.declared.rows.TableRow.TheVariants as row;
-ghost use Rattle.volume_records.specs.Image.{rows_of, tables_of};
+ghost use Rattle.volume_spec.specs.VolumeState.{VolumeState};
+ghost use Rattle.volume_keeper_records.specs.declared.rows.TableRow.{TableRow};
+ghost use Rattle.volume_keeper_records.specs.declared.rows.TableRow.TheVariants as row;
+ghost use Rattle.volume_keeper_records.specs.Image.{rows_of, tables_of};
 ghost use Rattle.volume_keeper.specs.lemma.Rebuilt.{FitRows, FitsRow, appls_with, comments_with, head_said, icons_with, nodes_said, with_all, with_block, with_blocks};
 ghost use Rattle.volume_keeper.specs.Whole.{without_desktop};
 ghost use Rattle.volume_keeper.specs.lemma.Whole.{IsHeld};
@@ -12,13 +12,13 @@ use crate::held::Held;
 use afp_base::laws::splice_puts_between;
 use afp_base::{NodeId, OutOfMemory};
 use afp_names::Name;
-use afp_volume::desktop_laws::{desktops_keep_volumes_sound, icons_have_their_keys};
 use desktop_db::{Desktop, icon_key};
 use fork_bytes::laws::{blocks_are_bytes, blocks_of_bytes_are_kept};
 use node_rows::Node as TreeNode;
 use std::alloc::Global;
-use volume_records::laws::{records_are_images, tables_say_volumes};
-use volume_records::{Appl, Comment, ForkBlock, Icon, Node, TableRow};
+use volume_keeper_records::laws::{records_are_images, tables_say_volumes};
+use volume_keeper_records::{Appl, Comment, ForkBlock, Icon, Node, TableRow};
+use volume_spec::desktop_laws::{desktops_keep_volumes_sound, icons_have_their_keys};
 use volume_tree::{LoadedNode, Volume, VolumeHead};
 
 const NO_HEAD: VolumeHead = VolumeHead {

@@ -4,11 +4,11 @@ use Rattle.std.specs.Prelude.{option_map, if◌then◌else◌}
 use Rattle.std.specs.List.{find}
 use Rattle.std.proofs.lemmas.Bool.{cond_both, cond-true, cond-false, eqb-true}
 use Rattle.afp_base.specs.declared.ids.NodeId.{NodeId}
-use Rattle.afp_volume.proofs.SeenRows.{gone-unseen}
-use Rattle.afp_volume.specs.Edits.{bare, change_at, with_changed, at_place, modified_at}
-use Rattle.afp_volume.specs.SetFileDirParms.{with_settings}
-use Rattle.afp_volume.specs.VolumeState.{Row, VolumeState}
-use Rattle.afp_volume.specs.Walk.{row_at}
+use Rattle.volume_spec.proofs.SeenRows.{gone-unseen}
+use Rattle.volume_spec.specs.Edits.{bare, change_at, with_changed, at_place, modified_at}
+use Rattle.volume_spec.specs.SetFileDirParms.{with_settings}
+use Rattle.volume_spec.specs.VolumeState.{Row, VolumeState}
+use Rattle.volume_spec.specs.Walk.{row_at}
 use Rattle.volume_tree.proofs.Touching.{gone-lets}
 use Rattle.volume_tree.specs.lemma.After.{moved_row, set_row, modified_row, after_row, come_row}
 use Rattle.volume_tree.specs.Planned.{Move, SetNode, PlanState, planned, is_gone, gone_rows, come_rows, moved_rows, set_rows, modified_rows}

@@ -8,16 +8,16 @@ use Rattle.std.proofs.lemmas.List.Sums.{sum_by-cons, sum_by-append}
 use Rattle.afp_base.specs.declared.ids.NodeId.{NodeId}
 use Rattle.node_rows.specs.Kept.{RowsValue}
 use Rattle.sorted_map.specs.Entries.{at}
-use Rattle.afp_volume.proofs.Formed.{formed-parts}
-use Rattle.afp_volume.proofs.Places.{nothing-gone}
-use Rattle.afp_volume.proofs.TestedLists.{all-weaker, all-both, all-filter, all-kept, all-snoc, any-at, none-all}
-use Rattle.afp_volume.proofs.Trees.{drawn, tree-parts}
-use Rattle.afp_volume.specs.Edits.{bare, with_changed, change_at, without, at_place, modified_at}
-use Rattle.afp_volume.specs.SetFileDirParms.{with_settings}
+use Rattle.volume_spec.proofs.Formed.{formed-parts}
+use Rattle.volume_spec.proofs.Places.{nothing-gone}
+use Rattle.volume_spec.proofs.TestedLists.{all-weaker, all-both, all-filter, all-kept, all-snoc, any-at, none-all}
+use Rattle.volume_spec.proofs.Trees.{drawn, tree-parts}
+use Rattle.volume_spec.specs.Edits.{bare, with_changed, change_at, without, at_place, modified_at}
+use Rattle.volume_spec.specs.SetFileDirParms.{with_settings}
 use Rattle.afp_base.specs.Apart.{are_apart}
-use Rattle.afp_volume.specs.SoundVolume.{IsSoundVolume, has_node, fork_bytes, row_bytes, is_in_place}
-use Rattle.afp_volume.specs.VolumeState.{Row, VolumeState, root_id, first_id}
-use Rattle.afp_volume.specs.Walk.{row_at}
+use Rattle.volume_spec.specs.SoundVolume.{IsSoundVolume, has_node, fork_bytes, row_bytes, is_in_place}
+use Rattle.volume_spec.specs.VolumeState.{Row, VolumeState, root_id, first_id}
+use Rattle.volume_spec.specs.Walk.{row_at}
 use Rattle.volume_tree.proofs.Showing.{ids-differ}
 use Rattle.volume_tree.specs.Kept.{Forks, data_of, resource_of, with_forks, rows_of, state_of, spare_of}
 use Rattle.volume_tree.specs.lemma.Kept.{IsKeptVolume, at_gone, bytes_of, has_forks}

@@ -3,10 +3,10 @@ use Rattle.std.proofs.Common.{◌≡◌, ◌∙◌, ap, sym, refl, ℕ, false, L
 use Rattle.std.specs.Prelude.{IfSome}
 use Rattle.afp_base.specs.declared.ids.NodeId.{NodeId}
 use Rattle.afp_names.specs.Name.{name_key}
-use Rattle.afp_volume.proofs.BareRows.{keys-bare, taken-bare, gone-bare}
-use Rattle.afp_volume.specs.Edits.{bare, is_taken}
-use Rattle.afp_volume.specs.VolumeState.{Row}
-use Rattle.afp_volume.specs.Walk.{child_by_key}
+use Rattle.volume_spec.proofs.BareRows.{keys-bare, taken-bare, gone-bare}
+use Rattle.volume_spec.specs.Edits.{bare, is_taken}
+use Rattle.volume_spec.specs.VolumeState.{Row}
+use Rattle.volume_spec.specs.Walk.{child_by_key}
 use Rattle.volume_tree.proofs.Showing.{shown-bare}
 use Rattle.volume_tree.specs.Kept.{Forks, rows_of}
 use Rattle.volume_tree.specs.Planned.{Move, IsNew, gone_rows, come_rows}

@@ -5,14 +5,14 @@ use Rattle.std.specs.List.{find}
 use Rattle.afp_base.specs.declared.ids.NodeId.{NodeId}
 use Rattle.afp_names.specs.Name.{name_key}
 use Rattle.afp_names.specs.Path.{PathValue}
-use Rattle.afp_volume.proofs.CreateFile.{freed}
-use Rattle.afp_volume.proofs.Walks.{MappedFrom, mapped-from, find-there}
-use Rattle.afp_volume.specs.Shared.{done_at, created}
-use Rattle.afp_volume.specs.CreateDir.{create_dir_effect}
-use Rattle.afp_volume.specs.CreateFile.{create_file_effect, without_replaced}
-use Rattle.afp_volume.specs.SoundVolume.{IsSoundVolume, has_node, has_apart_names}
-use Rattle.afp_volume.specs.VolumeState.{Row, VolumeState, new_row}
-use Rattle.afp_volume.specs.Walk.{Place, new_place, child_by_key}
+use Rattle.volume_spec.proofs.CreateFile.{freed}
+use Rattle.volume_spec.proofs.Walks.{MappedFrom, mapped-from, find-there}
+use Rattle.volume_spec.specs.Shared.{done_at, created}
+use Rattle.volume_spec.specs.CreateDir.{create_dir_effect}
+use Rattle.volume_spec.specs.CreateFile.{create_file_effect, without_replaced}
+use Rattle.volume_spec.specs.SoundVolume.{IsSoundVolume, has_node, has_apart_names}
+use Rattle.volume_spec.specs.VolumeState.{Row, VolumeState, new_row}
+use Rattle.volume_spec.specs.Walk.{Place, new_place, child_by_key}
 use Rattle.volume_tree.specs.lemma.Answered.{IsFoundNode, option_id}
 use Rattle.volume_tree.specs.Planned.{IsPlan, IsNew, planned, gone_rows}
 use Rattle.volume_tree.specs.lemma.Planned.{plan_new}

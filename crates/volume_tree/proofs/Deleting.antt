@@ -3,12 +3,12 @@ use Rattle.std.proofs.Common.{◌≡◌, ◌∙◌, ap, sym, subst, ℕ, true, S
 use Rattle.std.specs.Prelude.{Ok}
 use Rattle.afp_base.specs.declared.ids.NodeId.{NodeId}
 use Rattle.afp_names.specs.Path.{PathValue}
-use Rattle.afp_volume.specs.Shared.{done_at, directory_of}
-use Rattle.afp_volume.specs.Delete.{delete_effect}
-use Rattle.afp_volume.specs.Edits.{changed_at, children_changed, without_node}
-use Rattle.afp_volume.specs.SoundVolume.{IsSoundVolume, has_node}
-use Rattle.afp_volume.specs.VolumeState.{VolumeState}
-use Rattle.afp_volume.specs.Walk.{found}
+use Rattle.volume_spec.specs.Shared.{done_at, directory_of}
+use Rattle.volume_spec.specs.Delete.{delete_effect}
+use Rattle.volume_spec.specs.Edits.{changed_at, children_changed, without_node}
+use Rattle.volume_spec.specs.SoundVolume.{IsSoundVolume, has_node}
+use Rattle.volume_spec.specs.VolumeState.{VolumeState}
+use Rattle.volume_spec.specs.Walk.{found}
 use Rattle.volume_tree.specs.Planned.{PlanState, IsPlan, planned}
 
 abbrev pub delete_plan : ℕ → NodeId → NodeId → PlanState

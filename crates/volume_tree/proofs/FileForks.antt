@@ -5,14 +5,14 @@ use Rattle.std.specs.List.{list_all}
 use Rattle.std.specs.Ordering.{nat_cmp}
 use Rattle.std.proofs.lemmas.Bool.{eqb-true}
 use Rattle.sorted_map.specs.Entries.{at}
-use Rattle.afp_volume.proofs.TestedLists.{find-all, find-passes}
-use Rattle.afp_volume.specs.ForkEffect.{fork_of}
-use Rattle.afp_volume.specs.VolumeState.{Row}
-use Rattle.afp_volume.specs.Walk.{row_at}
+use Rattle.volume_spec.proofs.TestedLists.{find-all, find-passes}
+use Rattle.volume_spec.specs.ForkEffect.{fork_of}
+use Rattle.volume_spec.specs.VolumeState.{Row}
+use Rattle.volume_spec.specs.Walk.{row_at}
 use Rattle.volume_tree.proofs.Showing.{found-shown, missing-shown}
 use Rattle.volume_tree.specs.Kept.{Forks, data_of, resource_of, with_forks, rows_of}
 use Rattle.volume_tree.specs.lemma.Kept.{has_forks}
-use Rattle.afp_volume.specs.OpenFork.{file_of}
+use Rattle.volume_spec.specs.OpenFork.{file_of}
 use Rattle.volume_tree.specs.Shown.{fork_at}
 use Rattle.volume_tree.specs.declared.forks.FileForks.{FileForks as Kept}
 

@@ -1,6 +1,6 @@
 -- What is kept of a volume after a block of a fork was filled.
 use Rattle.std.proofs.Common.{◌==◌, ◌≡◌, ◌∙◌, ap, sym, refl, subst, ℕ, ◌+◌, ◌*◌, ◌≤◌, arith, Bool, true, false, List, [], ◌∷◌, length}
-use Rattle.afp_volume.specs.ForkEffect.{fork_effect, written, fork_of}
+use Rattle.volume_spec.specs.ForkEffect.{fork_effect, written, fork_of}
 use Rattle.std.specs.Prelude.{max}
 use Rattle.std.specs.Ordering.{nat_cmp}
 use Rattle.afp_base.specs.ForkBytes.{splice, Reaches}
@@ -9,12 +9,12 @@ use Rattle.afp_base.specs.Limits.{block_size, most_fork_bytes}
 use Rattle.fork_bytes.specs.Plan.{ForkPlanState as ForkPlanState, IsForkPlan as IsForkPlan}
 use Rattle.node_rows.specs.Kept.{RowsValue}
 use Rattle.sorted_map.specs.Entries.{at}
-use Rattle.afp_volume.proofs.Formed.{limit-parts}
-use Rattle.afp_volume.proofs.SoundEdits.{changed-same}
-use Rattle.afp_volume.specs.SoundVolume.{fork_bytes}
-use Rattle.afp_volume.specs.VolumeState.{Row, VolumeState}
-use Rattle.afp_volume.specs.Edits.{with_changed}
-use Rattle.afp_volume.specs.Walk.{row_at}
+use Rattle.volume_spec.proofs.Formed.{limit-parts}
+use Rattle.volume_spec.proofs.SoundEdits.{changed-same}
+use Rattle.volume_spec.specs.SoundVolume.{fork_bytes}
+use Rattle.volume_spec.specs.VolumeState.{Row, VolumeState}
+use Rattle.volume_spec.specs.Edits.{with_changed}
+use Rattle.volume_spec.specs.Walk.{row_at}
 use Rattle.volume_tree.proofs.FileForks.{found-id}
 use Rattle.volume_tree.proofs.Showing.{found-shown, ids-differ}
 use Rattle.volume_tree.proofs.Writing.{FileThere, Written, file-there, before-within, written-kept, written-state}

@@ -1,16 +1,16 @@
 -- What a plan leaves of a fork.
 use Rattle.std.proofs.Common.{◌≡◌, ◌∙◌, ap, sym, refl, ℕ, ◌==◌, Bool, true, false, List, Option, Some, None}
-use Rattle.afp_volume.specs.ForkEffect.{fork_of}
+use Rattle.volume_spec.specs.ForkEffect.{fork_of}
 use Rattle.std.specs.Prelude.{option_map, if◌then◌else◌}
 use Rattle.afp_base.specs.declared.ids.NodeId.{NodeId}
-use Rattle.afp_volume.specs.Edits.{bare, change_at, at_place, modified_at}
-use Rattle.afp_volume.specs.SetFileDirParms.{with_settings}
-use Rattle.afp_volume.specs.VolumeState.{Row, VolumeState}
-use Rattle.afp_volume.specs.Walk.{row_at}
+use Rattle.volume_spec.specs.Edits.{bare, change_at, at_place, modified_at}
+use Rattle.volume_spec.specs.SetFileDirParms.{with_settings}
+use Rattle.volume_spec.specs.VolumeState.{Row, VolumeState}
+use Rattle.volume_spec.specs.Walk.{row_at}
 use Rattle.volume_tree.proofs.Afters.{or_row, after-found, stays-gone, stays-here}
 use Rattle.volume_tree.specs.lemma.After.{moved_row, set_row, modified_row, after_row, come_row}
 use Rattle.volume_tree.specs.Planned.{Move, SetNode, PlanState, planned, is_gone, gone_rows, come_rows}
-use Rattle.afp_volume.specs.OpenFork.{file_of}
+use Rattle.volume_spec.specs.OpenFork.{file_of}
 use Rattle.volume_tree.specs.Shown.{fork_at}
 
 -- what a fork is told of a row stays

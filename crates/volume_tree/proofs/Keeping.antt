@@ -6,15 +6,15 @@ use Rattle.std.specs.Ordering.{nat_cmp}
 use Rattle.afp_base.specs.declared.ids.NodeId.{NodeId}
 use Rattle.sorted_map.specs.Entries.{at}
 use Rattle.node_rows.specs.Kept.{RowsValue}
-use Rattle.afp_volume.proofs.Fresh.{fresh-sound}
-use Rattle.afp_volume.proofs.SoundEdits.{sound-changed}
-use Rattle.afp_volume.proofs.TestedLists.{all-weaker}
+use Rattle.volume_spec.proofs.Fresh.{fresh-sound}
+use Rattle.volume_spec.proofs.SoundEdits.{sound-changed}
+use Rattle.volume_spec.proofs.TestedLists.{all-weaker}
 use Rattle.std.proofs.lemmas.Bool.{ne_eqb}
-use Rattle.afp_volume.specs.Edits.{has_children, changed_at}
-use Rattle.afp_volume.specs.Listing.{listed, children, row_key}
-use Rattle.afp_volume.specs.Order.{in_order, put_in, stands_before}
-use Rattle.afp_volume.specs.SoundVolume.{IsSoundVolume, fork_bytes}
-use Rattle.afp_volume.specs.VolumeState.{Row, fresh_volume, never, new_row}
+use Rattle.volume_spec.specs.Edits.{has_children, changed_at}
+use Rattle.volume_spec.specs.Listing.{listed, children, row_key}
+use Rattle.volume_spec.specs.Order.{in_order, put_in, stands_before}
+use Rattle.volume_spec.specs.SoundVolume.{IsSoundVolume, fork_bytes}
+use Rattle.volume_spec.specs.VolumeState.{Row, fresh_volume, never, new_row}
 use Rattle.afp_names.specs.Name.{name_fault}
 use Rattle.volume_tree.proofs.Showing.{any-shown}
 use Rattle.volume_tree.specs.lemma.Answered.{IsFoundNode}

@@ -6,13 +6,13 @@ use Rattle.std.proofs.lemmas.Bool.{and_parts, cond_both, ltb-true}
 use Rattle.std.proofs.lemmas.List.{drop_all}
 use Rattle.afp_base.specs.declared.ids.NodeId.{NodeId}
 use Rattle.afp_names.specs.LongName.{long_name_of}
-use Rattle.afp_volume.proofs.Orders.{order-parts}
-use Rattle.afp_volume.proofs.Rising.{above-all}
-use Rattle.afp_volume.specs.Listing.{children, listed, row_key}
-use Rattle.afp_volume.specs.Order.{in_order, put_in, rises_from, stands_before}
-use Rattle.afp_volume.specs.SoundVolume.{IsSoundVolume, has_rising_ids}
-use Rattle.afp_volume.specs.VolumeState.{Row, VolumeState}
-use Rattle.afp_volume.specs.Walk.{child_by_long_name}
+use Rattle.volume_spec.proofs.Orders.{order-parts}
+use Rattle.volume_spec.proofs.Rising.{above-all}
+use Rattle.volume_spec.specs.Listing.{children, listed, row_key}
+use Rattle.volume_spec.specs.Order.{in_order, put_in, rises_from, stands_before}
+use Rattle.volume_spec.specs.SoundVolume.{IsSoundVolume, has_rising_ids}
+use Rattle.volume_spec.specs.VolumeState.{Row, VolumeState}
+use Rattle.volume_spec.specs.Walk.{child_by_long_name}
 use Rattle.volume_tree.specs.lemma.Answered.{IsFoundNode, lower, option_id}
 
 -- whether a row has this long name

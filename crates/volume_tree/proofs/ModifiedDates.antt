@@ -5,13 +5,13 @@ use Rattle.std.specs.List.{find}
 use Rattle.std.proofs.lemmas.Bool.{cond_both, cond-false}
 use Rattle.node_rows.specs.Kept.{marked}
 use Rattle.node_rows.specs.declared.node.Marks.{Marks}
-use Rattle.afp_volume.proofs.Orders.{rising-ids-differ}
-use Rattle.afp_volume.proofs.SoundEdits.{changed-same}
-use Rattle.afp_volume.specs.Edits.{with_changed, change_at, modified_at}
-use Rattle.afp_volume.specs.SetFileDirParms.{Settings, with_settings}
-use Rattle.afp_volume.specs.SoundVolume.{has_rising_ids}
-use Rattle.afp_volume.specs.VolumeState.{Row}
-use Rattle.afp_volume.specs.Walk.{row_at}
+use Rattle.volume_spec.proofs.Orders.{rising-ids-differ}
+use Rattle.volume_spec.proofs.SoundEdits.{changed-same}
+use Rattle.volume_spec.specs.Edits.{with_changed, change_at, modified_at}
+use Rattle.volume_spec.specs.SetFileDirParms.{Settings, with_settings}
+use Rattle.volume_spec.specs.SoundVolume.{has_rising_ids}
+use Rattle.volume_spec.specs.VolumeState.{Row}
+use Rattle.volume_spec.specs.Walk.{row_at}
 use Rattle.volume_tree.specs.lemma.Kept.{IsMarks, IsMarksSet}
 
 -- where no row has the id, nothing changes

@@ -5,7 +5,7 @@ use Rattle.std.specs.List.{list_all}
 use Rattle.std.proofs.lemmas.Bool.{and_parts, and_from}
 use Rattle.afp_names.specs.declared.path.Step.{Step}
 use Rattle.afp_names.specs.declared.path.Step.TheVariants.{Up, Down}
-use Rattle.afp_volume.specs.Walk.{before_down}
+use Rattle.volume_spec.specs.Walk.{before_down}
 
 down-at : (steps : List Step) (n : ℕ) (name : List ℕ) → length steps ≡ suc n → slice_get steps n ≡ Some (Down name) → before_down steps ≡ Some (take n steps, name)
 down-at [] n name long is = absurd (cc)

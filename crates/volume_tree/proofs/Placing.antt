@@ -4,15 +4,15 @@ use Rattle.std.specs.Prelude.{Ok, option_map, unwrap_or, ◌==◌}
 use Rattle.afp_base.specs.Apart.{are_apart}
 use Rattle.afp_base.specs.declared.ids.NodeId.{NodeId}
 use Rattle.afp_names.specs.Path.{PathValue}
-use Rattle.afp_volume.proofs.SoundEdits.{changed-same}
-use Rattle.afp_volume.proofs.Walks.{row-there}
-use Rattle.afp_volume.specs.Shared.{done_at, directory_of, name_of}
-use Rattle.afp_volume.specs.MoveAndRename.{move_effect}
-use Rattle.afp_volume.specs.Rename.{rename_effect}
-use Rattle.afp_volume.specs.Edits.{changed_at, children_changed, renamed, named, at_place, with_moved, with_changed, is_taken, bare}
-use Rattle.afp_volume.specs.SoundVolume.{IsSoundVolume, has_node}
-use Rattle.afp_volume.specs.VolumeState.{Row, VolumeState}
-use Rattle.afp_volume.specs.Walk.{found, one_down, one_down_or, row_at, parent_at}
+use Rattle.volume_spec.proofs.SoundEdits.{changed-same}
+use Rattle.volume_spec.proofs.Walks.{row-there}
+use Rattle.volume_spec.specs.Shared.{done_at, directory_of, name_of}
+use Rattle.volume_spec.specs.MoveAndRename.{move_effect}
+use Rattle.volume_spec.specs.Rename.{rename_effect}
+use Rattle.volume_spec.specs.Edits.{changed_at, children_changed, renamed, named, at_place, with_moved, with_changed, is_taken, bare}
+use Rattle.volume_spec.specs.SoundVolume.{IsSoundVolume, has_node}
+use Rattle.volume_spec.specs.VolumeState.{Row, VolumeState}
+use Rattle.volume_spec.specs.Walk.{found, one_down, one_down_or, row_at, parent_at}
 use Rattle.volume_tree.proofs.Showing.{ids-differ}
 use Rattle.volume_tree.specs.Planned.{IsPlan, planned}
 use Rattle.volume_tree.specs.lemma.Planned.{plan_place}

@@ -7,16 +7,16 @@ use Rattle.std.proofs.lemmas.Bool.{and_parts, and_from, cond_both, cond-true, co
 use Rattle.std.proofs.lemmas.List.{length-replicate, take_more}
 use Rattle.std.proofs.lemmas.List.Sums.{sum_by-cons}
 use Rattle.afp_base.specs.Apart.{are_apart}
-use Rattle.afp_volume.specs.Shared.{name_of}
-use Rattle.afp_volume.specs.Order.{rises_from}
+use Rattle.volume_spec.specs.Shared.{name_of}
+use Rattle.volume_spec.specs.Order.{rises_from}
 use Rattle.afp_base.specs.Limits.{most_fork_bytes}
-use Rattle.afp_volume.specs.SoundVolume.{IsSoundVolume, are_named_alike, fork_bytes, has_apart_names, has_node, has_rising_ids, is_formed, is_in_place, is_named, dir_attributes, file_attributes, row_bytes, last_next_id}
-use Rattle.afp_volume.specs.VolumeState.{Row, VolumeState, root_id, first_id}
-use Rattle.afp_volume.specs.Walk.{row_at}
-use Rattle.afp_volume.proofs.TestedLists.{any-at, apart-map, find-none, none-all}
-use Rattle.afp_volume.proofs.Formed.{formed-parts, limit-parts}
-use Rattle.afp_volume.proofs.Orders.{order-parts}
-use Rattle.afp_volume.proofs.Trees.{drawn, tree-parts}
+use Rattle.volume_spec.specs.SoundVolume.{IsSoundVolume, are_named_alike, fork_bytes, has_apart_names, has_node, has_rising_ids, is_formed, is_in_place, is_named, dir_attributes, file_attributes, row_bytes, last_next_id}
+use Rattle.volume_spec.specs.VolumeState.{Row, VolumeState, root_id, first_id}
+use Rattle.volume_spec.specs.Walk.{row_at}
+use Rattle.volume_spec.proofs.TestedLists.{any-at, apart-map, find-none, none-all}
+use Rattle.volume_spec.proofs.Formed.{formed-parts, limit-parts}
+use Rattle.volume_spec.proofs.Orders.{order-parts}
+use Rattle.volume_spec.proofs.Trees.{drawn, tree-parts}
 use Rattle.node_rows.specs.Kept.{RowsValue}
 use Rattle.sorted_map.specs.Entries.{at}
 use Rattle.volume_tree.specs.Kept.{Forks, data_of, resource_of, rows_of, state_of}

@@ -2,13 +2,13 @@
 use Rattle.std.proofs.Common.{◌≡◌, ◌∙◌, ap, sym, subst, refl, ℕ, List, Some, None}
 use Rattle.std.specs.Prelude.{Ok}
 use Rattle.afp_names.specs.Path.{PathValue}
-use Rattle.afp_volume.specs.Shared.{done_at}
-use Rattle.afp_volume.specs.Parms.{date_in}
-use Rattle.afp_volume.specs.SetFileDirParms.{Settings, settings_in, with_node_set, set_parms_effect}
-use Rattle.afp_volume.specs.SetVolParms.{set_vol_parms_effect}
-use Rattle.afp_volume.specs.SoundVolume.{IsSoundVolume}
-use Rattle.afp_volume.specs.VolumeState.{VolumeState}
-use Rattle.afp_volume.specs.Walk.{found}
+use Rattle.volume_spec.specs.Shared.{done_at}
+use Rattle.volume_spec.specs.Parms.{date_in}
+use Rattle.volume_spec.specs.SetFileDirParms.{Settings, settings_in, with_node_set, set_parms_effect}
+use Rattle.volume_spec.specs.SetVolParms.{set_vol_parms_effect}
+use Rattle.volume_spec.specs.SoundVolume.{IsSoundVolume}
+use Rattle.volume_spec.specs.VolumeState.{VolumeState}
+use Rattle.volume_spec.specs.Walk.{found}
 use Rattle.volume_tree.specs.Planned.{PlanState, IsPlan, planned}
 use Rattle.volume_tree.specs.lemma.Planned.{plan_set}
 

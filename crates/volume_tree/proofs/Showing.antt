@@ -3,15 +3,15 @@ use Rattle.std.proofs.Common.{◌==◌, ◌≡◌, ◌∙◌, ap, sym, refl, ℕ
 use Rattle.std.specs.Prelude.{option_map}
 use Rattle.std.specs.List.{list_any, find}
 use Rattle.std.proofs.lemmas.Bool.{cond_both, cond-true, cond-false}
-use Rattle.afp_volume.proofs.SeenRows.{test-found}
-use Rattle.afp_volume.proofs.BareRows.{finds-bare, parents-bare, keys-bare}
-use Rattle.afp_volume.proofs.TestedLists.{length-mapped}
-use Rattle.afp_volume.proofs.Trees.{tree-parts}
-use Rattle.afp_volume.specs.Edits.{bare}
+use Rattle.volume_spec.proofs.SeenRows.{test-found}
+use Rattle.volume_spec.proofs.BareRows.{finds-bare, parents-bare, keys-bare}
+use Rattle.volume_spec.proofs.TestedLists.{length-mapped}
+use Rattle.volume_spec.proofs.Trees.{tree-parts}
+use Rattle.volume_spec.specs.Edits.{bare}
 use Rattle.afp_base.specs.Apart.{are_apart}
-use Rattle.afp_volume.specs.SoundVolume.{IsSoundVolume, are_named_alike, has_apart_names}
-use Rattle.afp_volume.specs.VolumeState.{Row, VolumeState}
-use Rattle.afp_volume.specs.Walk.{row_at, parent_at, child_by_key}
+use Rattle.volume_spec.specs.SoundVolume.{IsSoundVolume, are_named_alike, has_apart_names}
+use Rattle.volume_spec.specs.VolumeState.{Row, VolumeState}
+use Rattle.volume_spec.specs.Walk.{row_at, parent_at, child_by_key}
 use Rattle.volume_tree.specs.Kept.{Forks, with_forks, rows_of}
 
 -- without their forks they are the same rows

@@ -5,14 +5,14 @@ use Rattle.std.proofs.Math.Seq.{drop-cons}
 use Rattle.std.proofs.lemmas.Bool.{cond_both}
 use Rattle.std.proofs.lemmas.List.{length-map}
 use Rattle.std.proofs.lemmas.Option.{slice_get-map, slice_get_read, slice_get_within, get_or_from_slice_get}
-use Rattle.afp_volume.proofs.BareRows.{lists-bare}
-use Rattle.afp_volume.proofs.Counted.{listed-is-there}
-use Rattle.afp_volume.specs.Edits.{bare}
-use Rattle.afp_volume.specs.Listing.{children, listed, row_key}
-use Rattle.afp_volume.specs.Order.{stands_before, put_in, in_order}
-use Rattle.afp_volume.specs.SoundVolume.{IsSoundVolume}
-use Rattle.afp_volume.specs.VolumeState.{Row, VolumeState}
-use Rattle.afp_volume.specs.Walk.{row_at}
+use Rattle.volume_spec.proofs.BareRows.{lists-bare}
+use Rattle.volume_spec.proofs.Counted.{listed-is-there}
+use Rattle.volume_spec.specs.Edits.{bare}
+use Rattle.volume_spec.specs.Listing.{children, listed, row_key}
+use Rattle.volume_spec.specs.Order.{stands_before, put_in, in_order}
+use Rattle.volume_spec.specs.SoundVolume.{IsSoundVolume}
+use Rattle.volume_spec.specs.VolumeState.{Row, VolumeState}
+use Rattle.volume_spec.specs.Walk.{row_at}
 use Rattle.node_rows.specs.Children.{child_of}
 use Rattle.node_rows.specs.declared.child.Child.{Child}
 use Rattle.volume_tree.proofs.Showing.{shown-bare}

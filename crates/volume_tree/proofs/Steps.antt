@@ -6,8 +6,8 @@ use Rattle.afp_base.specs.declared.code.Code.{Code}
 use Rattle.afp_base.specs.declared.code.Code.TheVariants.{ObjectNotFound, DirNotFound}
 use Rattle.afp_names.specs.declared.path.Step.{Step}
 use Rattle.afp_names.specs.declared.path.Step.TheVariants.{Up, Down}
-use Rattle.afp_volume.specs.VolumeState.{Row}
-use Rattle.afp_volume.specs.Walk.{parent_at, child, failed_down, onward, walk_from}
+use Rattle.volume_spec.specs.VolumeState.{Row}
+use Rattle.volume_spec.specs.Walk.{parent_at, child, failed_down, onward, walk_from}
 
 -- the steps from a place are the step there and those behind it
 at-place : {A : Type 0} (steps : List A) (i : ℕ) (step : A) → slice_get steps i ≡ Some step → drop i steps ≡ step ∷ drop (i + 1) steps

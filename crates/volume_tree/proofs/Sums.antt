@@ -5,7 +5,7 @@ use Rattle.std.specs.List.{filter}
 use Rattle.std.proofs.lemmas.Bool.{ltb-false, cond-true}
 use Rattle.std.proofs.lemmas.List.Sums.{sum_by-cons}
 use Rattle.afp_bitmap.specs.Bits.{is_asked}
-use Rattle.afp_volume.specs.SetFileDirParms.{asked_bytes, set_fields, is_short_tail, field_in}
+use Rattle.volume_spec.specs.SetFileDirParms.{asked_bytes, set_fields, is_short_tail, field_in}
 use Rattle.volume_tree.specs.lemma.Tails.{size_asked, lower_bytes}
 
 more : (bits bit size : ℕ) (fields : List (ℕ × ℕ)) → asked_bytes bits ((bit, size) ∷ fields) ≡ size_asked bits bit size + asked_bytes bits fields

@@ -4,12 +4,12 @@ use Rattle.std.specs.Prelude.{nat_lt, option_map}
 use Rattle.std.specs.List.{list_all, list_any}
 use Rattle.std.proofs.lemmas.Bool.{and_parts, and_from, cond_both, cond-false, lt-ltb, ltb-true, ltb-false, eqb-true, eq-eqb}
 use Rattle.afp_base.specs.declared.ids.NodeId.{NodeId}
-use Rattle.afp_volume.proofs.SeenRows.{changes-let-be, gone-lets-be}
-use Rattle.afp_volume.proofs.TestedLists.{all-weaker}
-use Rattle.afp_volume.specs.SetFileDirParms.{with_settings}
-use Rattle.afp_volume.specs.VolumeState.{Row}
-use Rattle.afp_volume.specs.Edits.{at_place, modified_at}
-use Rattle.afp_volume.specs.Walk.{row_at}
+use Rattle.volume_spec.proofs.SeenRows.{changes-let-be, gone-lets-be}
+use Rattle.volume_spec.proofs.TestedLists.{all-weaker}
+use Rattle.volume_spec.specs.SetFileDirParms.{with_settings}
+use Rattle.volume_spec.specs.VolumeState.{Row}
+use Rattle.volume_spec.specs.Edits.{at_place, modified_at}
+use Rattle.volume_spec.specs.Walk.{row_at}
 use Rattle.volume_tree.specs.lemma.Answered.{option_id}
 use Rattle.volume_tree.specs.Planned.{Move, SetNode, PlanState, planned, is_gone, gone_rows, come_rows, moved_rows, set_rows, modified_rows}
 use Rattle.volume_tree.specs.TouchedNodes.{is_come, is_moved, is_set, is_modified, is_touched, are_rising, IsTouched}

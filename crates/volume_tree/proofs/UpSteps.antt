@@ -1,10 +1,10 @@
 -- One step up.
 use Rattle.std.proofs.Common.{◌==◌, ◌≡◌, ◌∙◌, ap, ℕ, zero, suc, ◌+◌, ◌-◌, ◌<◌, true, false, ◌||◌, List, Some, None, arith}
 use Rattle.std.proofs.lemmas.Bool.{or_left}
-use Rattle.afp_volume.proofs.ByIndex.{below-by-parent}
-use Rattle.afp_volume.specs.Edits.{is_below, above}
-use Rattle.afp_volume.specs.VolumeState.{Row}
-use Rattle.afp_volume.specs.Walk.{parent_at}
+use Rattle.volume_spec.proofs.ByIndex.{below-by-parent}
+use Rattle.volume_spec.specs.Edits.{is_below, above}
+use Rattle.volume_spec.specs.VolumeState.{Row}
+use Rattle.volume_spec.specs.Walk.{parent_at}
 use Rattle.afp_base.specs.Apart.{are_apart}
 
 pub is-itself : (rows : List Row) (n node id : ℕ) → (id == node) ≡ true → is_below rows n node id ≡ true

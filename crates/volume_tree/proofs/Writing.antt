@@ -7,15 +7,15 @@ use Rattle.std.proofs.lemmas.Bool.{or_right, cases_Bool, cond_both, cond-true, c
 use Rattle.afp_base.specs.declared.ids.NodeId.{NodeId}
 use Rattle.node_rows.specs.Kept.{RowsValue}
 use Rattle.sorted_map.specs.Entries.{at}
-use Rattle.afp_volume.proofs.ForkEffects.{bytes-written, written-sound}
-use Rattle.afp_volume.proofs.TestedLists.{all-weaker}
-use Rattle.afp_volume.proofs.Walks.{find-there}
-use Rattle.afp_volume.specs.Edits.{with_changed, change_at, modified_at}
-use Rattle.afp_volume.specs.ForkEffect.{fork_effect, fork_of, written}
+use Rattle.volume_spec.proofs.ForkEffects.{bytes-written, written-sound}
+use Rattle.volume_spec.proofs.TestedLists.{all-weaker}
+use Rattle.volume_spec.proofs.Walks.{find-there}
+use Rattle.volume_spec.specs.Edits.{with_changed, change_at, modified_at}
+use Rattle.volume_spec.specs.ForkEffect.{fork_effect, fork_of, written}
 use Rattle.afp_base.specs.Limits.{most_fork_bytes}
-use Rattle.afp_volume.specs.SoundVolume.{IsSoundVolume, has_node, fork_bytes}
-use Rattle.afp_volume.specs.VolumeState.{Row}
-use Rattle.afp_volume.specs.Walk.{row_at}
+use Rattle.volume_spec.specs.SoundVolume.{IsSoundVolume, has_node, fork_bytes}
+use Rattle.volume_spec.specs.VolumeState.{Row}
+use Rattle.volume_spec.specs.Walk.{row_at}
 use Rattle.volume_tree.proofs.Applied.{gone-drawn, all-modified}
 use Rattle.volume_tree.proofs.FileForks.{found-id, found-kept}
 use Rattle.volume_tree.proofs.Showing.{found-shown, missing-shown}
@@ -23,7 +23,7 @@ use Rattle.volume_tree.specs.lemma.ForkEffect.{IsChanged, kept_fork}
 use Rattle.volume_tree.specs.Kept.{Forks, data_of, resource_of, with_forks, rows_of, state_of}
 use Rattle.volume_tree.specs.lemma.Kept.{IsKeptVolume, has_forks}
 use Rattle.volume_tree.specs.Planned.{modified_rows}
-use Rattle.afp_volume.specs.OpenFork.{file_of}
+use Rattle.volume_spec.specs.OpenFork.{file_of}
 use Rattle.volume_tree.specs.Shown.{fork_at}
 use Rattle.volume_tree.specs.declared.head.Dates.{Dates}
 

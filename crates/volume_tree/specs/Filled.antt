@@ -2,8 +2,8 @@
 use Rattle.afp_base.specs.Limits.{block_size}
 use Rattle.std.specs.Prelude.{◌≡◌, ℕ, ◌+◌, ◌*◌, ◌≤◌, Bool, if◌then◌else◌, List, length, Some}
 use Rattle.afp_base.specs.ForkBytes.{splice}
-use Rattle.afp_volume.specs.Edits.{with_changed}
-use Rattle.afp_volume.specs.VolumeState.{Row, VolumeState}
+use Rattle.volume_spec.specs.Edits.{with_changed}
+use Rattle.volume_spec.specs.VolumeState.{Row, VolumeState}
 use Rattle.volume_tree.specs.Shown.{fork_at}
 
 -- a row with bytes in a fork, from the block with an index on

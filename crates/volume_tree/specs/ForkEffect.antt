@@ -2,8 +2,8 @@
 use Rattle.std.specs.Prelude.{◌≡◌, ℕ, ◌+◌, ◌≤◌, Bool, List, length, Some}
 use Rattle.fork_bytes.specs.Plan.{ForkPlanState as ForkPlanState, IsForkPlan as IsForkPlan}
 use Rattle.afp_base.specs.Limits.{most_fork_bytes}
-use Rattle.afp_volume.specs.SoundVolume.{fork_bytes}
-use Rattle.afp_volume.specs.VolumeState.{VolumeState}
+use Rattle.volume_spec.specs.SoundVolume.{fork_bytes}
+use Rattle.volume_spec.specs.VolumeState.{VolumeState}
 use Rattle.volume_tree.specs.Shown.{fork_at}
 
 -- a plan of a fork of a file as it is, for which the volume has room

@@ -3,7 +3,7 @@ use Rattle.std.specs.Prelude.{ℕ, if◌then◌else◌, List, [], map, Option, S
 use Rattle.std.specs.Ordering.{nat_cmp}
 use Rattle.sorted_map.specs.Entries.{at}
 use Rattle.node_rows.specs.Kept.{RowsValue}
-use Rattle.afp_volume.specs.VolumeState.{Row, VolumeState}
+use Rattle.volume_spec.specs.VolumeState.{Row, VolumeState}
 use Rattle.volume_tree.specs.declared.forks.FileForks.{FileForks}
 use Rattle.volume_tree.specs.declared.head.Dates.{Dates}
 

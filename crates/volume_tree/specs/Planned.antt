@@ -3,12 +3,12 @@ use Rattle.std.specs.Prelude.{◌≡◌, ℕ, ℤ, pos, unwrap_or, ◌+◌, ◌=
 use Rattle.std.specs.List.{filter}
 use Rattle.afp_base.specs.declared.ids.NodeId.{NodeId}
 use Rattle.afp_names.specs.Name.{name_key}
-use Rattle.afp_volume.specs.DesktopLaws.{with_desktop}
-use Rattle.afp_volume.specs.VolumeState.{Row, VolumeState, Comment, Icon, Appl}
-use Rattle.afp_volume.specs.SoundVolume.{IsSoundVolume, has_node}
-use Rattle.afp_volume.specs.Walk.{child_by_key}
-use Rattle.afp_volume.specs.SetFileDirParms.{Settings, with_settings}
-use Rattle.afp_volume.specs.Edits.{bare, is_taken, with_changed, without, at_place, modified_at}
+use Rattle.volume_spec.specs.DesktopLaws.{with_desktop}
+use Rattle.volume_spec.specs.VolumeState.{Row, VolumeState, Comment, Icon, Appl}
+use Rattle.volume_spec.specs.SoundVolume.{IsSoundVolume, has_node}
+use Rattle.volume_spec.specs.Walk.{child_by_key}
+use Rattle.volume_spec.specs.SetFileDirParms.{Settings, with_settings}
+use Rattle.volume_spec.specs.Edits.{bare, is_taken, with_changed, without, at_place, modified_at}
 
 -- the new place of a node
 pub record Move : Type 0 where

@@ -1,9 +1,9 @@
 -- Which requests a volume plans, and what they are on one volume (AFP Reference, under their names).
 use Rattle.std.specs.Prelude.{Option, Some, None}
-use Rattle.afp_requests.specs.declared.call.Call.{Call}
-use Rattle.afp_requests.specs.declared.call.Call.TheVariants as request
-use Rattle.afp_volume.specs.CreateFile.{is_hard}
-use Rattle.afp_volume.specs.TreeSteps.{TreeCall, CreateDir, CreateFile, Delete, Rename, MoveAndRename, SetFileParms, SetDirParms, SetFileDirParms, SetVolParms}
+use Rattle.afp_calls_grammar.specs.declared.call.Call.{Call}
+use Rattle.afp_calls_grammar.specs.declared.call.Call.TheVariants as request
+use Rattle.volume_spec.specs.CreateFile.{is_hard}
+use Rattle.volume_spec.specs.TreeSteps.{TreeCall, CreateDir, CreateFile, Delete, Rename, MoveAndRename, SetFileParms, SetDirParms, SetFileDirParms, SetVolParms}
 
 -- the request as a call on one volume, where it is one that a volume plans
 abbrev pub tree_call : Call → Option TreeCall

@@ -1,8 +1,8 @@
 -- Volumes made from what is kept of them elsewhere (this profile).
 use Rattle.std.specs.Prelude.{List, [], map, replicate}
-use Rattle.afp_volume.specs.Shared.{name_of}
-use Rattle.afp_volume.specs.SoundVolume.{IsSoundVolume}
-use Rattle.afp_volume.specs.VolumeState.{Row, VolumeState, root_id}
+use Rattle.volume_spec.specs.Shared.{name_of}
+use Rattle.volume_spec.specs.SoundVolume.{IsSoundVolume}
+use Rattle.volume_spec.specs.VolumeState.{Row, VolumeState, root_id}
 use Rattle.volume_tree.specs.declared.head.VolumeHead.{VolumeHead}
 use Rattle.volume_tree.specs.declared.restore.LoadedNode.{LoadedNode}
 

@@ -1,11 +1,11 @@
 -- A volume's tree as contracts see it (the form is this profile's).
 use Rattle.std.specs.Prelude.{ℕ, Bool, List, map, Option, option_map}
 use Rattle.afp_base.specs.declared.ids.NodeId.{NodeId}
-use Rattle.afp_volume.specs.Shared.{Opened}
-use Rattle.afp_volume.specs.ForkEffect.{fork_of}
-use Rattle.afp_volume.specs.OpenFork.{file_of}
-use Rattle.afp_volume.specs.VolumeState.{Row, VolumeState}
-use Rattle.afp_volume.specs.Walk.{row_at}
+use Rattle.volume_spec.specs.Shared.{Opened}
+use Rattle.volume_spec.specs.ForkEffect.{fork_of}
+use Rattle.volume_spec.specs.OpenFork.{file_of}
+use Rattle.volume_spec.specs.VolumeState.{Row, VolumeState}
+use Rattle.volume_spec.specs.Walk.{row_at}
 
 -- a volume, which has no comments, icons and APPL rows here; and room for so many nodes more
 pub record TreeValue : Type 0 where

@@ -2,7 +2,7 @@
 use Rattle.std.specs.Prelude.{◌≡◌, ℕ, ◌==◌, nat_lt, Bool, true, false, ◌&&◌, ◌||◌, List, [], ◌∷◌, Option, Some, None}
 use Rattle.std.specs.List.{list_all, list_any}
 use Rattle.afp_base.specs.declared.ids.NodeId.{NodeId}
-use Rattle.afp_volume.specs.VolumeState.{Row}
+use Rattle.volume_spec.specs.VolumeState.{Row}
 use Rattle.volume_tree.specs.Planned.{Move, SetNode, PlanState, is_gone}
 
 -- whether this id is that of the node that comes, of the one that gets another place, of the one that is set

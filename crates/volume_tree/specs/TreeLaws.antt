@@ -1,7 +1,7 @@
 -- Laws of what plans do, in the subject's own words (this profile).
 use Rattle.std.specs.Prelude.{◌≡◌, ℕ, false}
-use Rattle.afp_volume.specs.VolumeState.{VolumeState}
-use Rattle.afp_volume.specs.Walk.{row_at}
+use Rattle.volume_spec.specs.VolumeState.{VolumeState}
+use Rattle.volume_spec.specs.Walk.{row_at}
 use Rattle.volume_tree.specs.Planned.{PlanState, planned}
 use Rattle.volume_tree.specs.TouchedNodes.{is_touched}
 

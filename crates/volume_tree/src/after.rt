@@ -1,11 +1,11 @@
 //! What a plan leaves of a volume, told before it is carried out. None of these takes memory.
 ghost use Rattle.std.specs.Prelude.{◌≡◌, Bool, option_map, option_copied};
-ghost use Rattle.afp_volume.specs.ForkEffect.{fork_of};
-ghost use Rattle.afp_volume.specs.Edits.{bare, at_place, modified_at};
-ghost use Rattle.afp_volume.specs.SetFileDirParms.{with_settings};
-ghost use Rattle.afp_volume.specs.Walk.{row_at};
+ghost use Rattle.volume_spec.specs.ForkEffect.{fork_of};
+ghost use Rattle.volume_spec.specs.Edits.{bare, at_place, modified_at};
+ghost use Rattle.volume_spec.specs.SetFileDirParms.{with_settings};
+ghost use Rattle.volume_spec.specs.Walk.{row_at};
 ghost use Rattle.volume_tree.specs.lemma.After.{moved_row, set_row, modified_row, come_row};
-ghost use Rattle.afp_volume.specs.OpenFork.{file_of};
+ghost use Rattle.volume_spec.specs.OpenFork.{file_of};
 ghost use Rattle.volume_tree.specs.Shown.{fork_at};
 ghost use Rattle.volume_tree.specs.Planned.{is_gone, gone_rows, come_rows, planned, next_after};
 
@@ -15,10 +15,10 @@ use crate::settings::Settings;
 use crate::volume::{Volume, next_of};
 use afp_base::{Moment, NodeId};
 use afp_names::Name;
-use afp_volume::limits::LAST_NEXT_ID;
 use fork_bytes::Fork;
 use node_rows::{Marks, Node, Rows};
 use std::marker::Model;
+use volume_spec::limits::LAST_NEXT_ID;
 
 /// A node as a plan leaves it, without its forks (AFP Reference, "File and directory parameters").
 ///
@@ -34,7 +34,7 @@ pub struct NodeAfter<'a> {
 
 impl<'a> Model for NodeAfter<'a> {
     ghost use Rattle.std.specs.Prelude.{[]};
-    ghost use Rattle.afp_volume.specs.VolumeState.{Row};
+    ghost use Rattle.volume_spec.specs.VolumeState.{Row};
 
     ghost Value = { Row };
 

@@ -1,11 +1,11 @@
 //! Plans carried out. None of these takes memory.
 ghost use Rattle.std.specs.Prelude.{◌≡◌, ◌≤◌, ◌<◌, ◌^◌, ℕ, false, IfSome, pos};
 ghost use Rattle.std.specs.Ordering.{nat_cmp};
-ghost use Rattle.afp_volume.specs.Edits.{is_taken, with_changed, modified_at};
-ghost use Rattle.afp_volume.specs.Walk.{row_at};
+ghost use Rattle.volume_spec.specs.Edits.{is_taken, with_changed, modified_at};
+ghost use Rattle.volume_spec.specs.Walk.{row_at};
 ghost use Rattle.sorted_map.specs.Entries.{at};
 ghost use Rattle.volume_tree.specs.lemma.Kept.{bytes_of, at_gone, IsMarks, IsMarksSet};
-ghost use Rattle.afp_volume.specs.SetFileDirParms.{with_settings};
+ghost use Rattle.volume_spec.specs.SetFileDirParms.{with_settings};
 ghost use Rattle.volume_tree.specs.Planned.{Move, IsNew, IsPlan, planned, gone_rows, come_rows, next_after, moved_rows, set_rows, modified_rows};
 
 use crate::forks::{FileForks, forget};

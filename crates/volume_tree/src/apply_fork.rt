@@ -3,7 +3,7 @@ ghost use Rattle.std.specs.Prelude.{◌≡◌, ◌==◌, ℕ, List, true, false,
 ghost use Rattle.std.specs.Ordering.{nat_cmp};
 ghost use Rattle.fork_bytes.specs.Plan.{IsForkPlan as IsForkPlan};
 ghost use Rattle.sorted_map.specs.Entries.{at};
-ghost use Rattle.afp_volume.specs.ForkEffect.{fork_effect};
+ghost use Rattle.volume_spec.specs.ForkEffect.{fork_effect};
 ghost use Rattle.volume_tree.specs.ForkEffect.{IsForkChange};
 ghost use Rattle.volume_tree.specs.lemma.ForkEffect.{IsChanged, kept_fork};
 

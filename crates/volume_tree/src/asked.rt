@@ -3,21 +3,21 @@ ghost use Rattle.std.specs.Prelude.{true, false, MatchOption, ◌≡◌, Some, l
 ghost use Rattle.afp_names.specs.LongName.{long_name_of};
 ghost use Rattle.afp_names.specs.Name.{name_key};
 ghost use Rattle.afp_names.specs.Path.{element_of, long_names};
-ghost use Rattle.afp_volume.specs.Edits.{has_children, is_below, is_taken};
-ghost use Rattle.afp_volume.specs.Shared.{directory_of, has_attribute, has_no_ids, has_no_room, is_busy};
-ghost use Rattle.afp_volume.specs.SoundVolume.{has_file};
-ghost use Rattle.afp_volume.specs.VolumeState.{Row};
-ghost use Rattle.afp_volume.specs.Walk.{parent_at, has_directory, child_by_key, child_by_long_name, row_at};
+ghost use Rattle.volume_spec.specs.Edits.{has_children, is_below, is_taken};
+ghost use Rattle.volume_spec.specs.Shared.{directory_of, has_attribute, has_no_ids, has_no_room, is_busy};
+ghost use Rattle.volume_spec.specs.SoundVolume.{has_file};
+ghost use Rattle.volume_spec.specs.VolumeState.{Row};
+ghost use Rattle.volume_spec.specs.Walk.{parent_at, has_directory, child_by_key, child_by_long_name, row_at};
 ghost use Rattle.volume_tree.specs.lemma.Answered.{IsFoundNode, lower, option_id};
 ghost use Rattle.volume_tree.specs.Shown.{opened};
 
 use crate::volume::{ROOT_PARENT, Volume};
 use afp_base::{Bytes, NodeId, OutOfMemory};
 use afp_names::{Name, long_name, put_shown};
-use afp_volume::limits::MOST_NODES;
 use deny_modes::VolumeOpens;
 use node_rows::Node;
 use std::alloc::Global;
+use volume_spec::limits::MOST_NODES;
 
 /// The element by which a path of long names spells a name.
 #[tactic(auto, unfolding(afp_names::specs::Path::element_of))]
@@ -56,7 +56,7 @@ pub(crate) fn is_busy(opens: &VolumeOpens<'_>, id: NodeId) -> bool
 
 impl Volume {
     /// The id of the next new node; `None` where the ids have ended.
-    #[tactic(auto, unfolding(afp_volume::specs::Shared::has_no_ids))]
+    #[tactic(auto, unfolding(volume_spec::specs::Shared::has_no_ids))]
     pub(crate) fn next(&self) -> Option<NodeId>
         ensures { MatchOption result (has_no_ids self.now.state ≡ true) (λ id. (has_no_ids self.now.state ≡ false) × (id.0 ≡ self.now.state.next_id)) }
     {
@@ -64,7 +64,7 @@ impl Volume {
     }
 
     /// The id of the next new node; `None` where the volume is full or the ids have ended.
-    #[tactic(auto, unfolding(afp_volume::specs::Shared::has_no_room))]
+    #[tactic(auto, unfolding(volume_spec::specs::Shared::has_no_room))]
     pub(crate) fn room(&self) -> Option<NodeId>
         ensures { MatchOption result (has_no_room self.now.state ≡ true) (λ id. (has_no_room self.now.state ≡ false) × (id.0 ≡ self.now.state.next_id)) }
     {

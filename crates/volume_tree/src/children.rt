@@ -1,7 +1,7 @@
 //! The children of directories, in the order of their lists.
 ghost use Rattle.std.specs.Prelude.{◌≡◌, length, map, option_copied, option_map, slice_get};
-ghost use Rattle.afp_volume.specs.Edits.{bare};
-ghost use Rattle.afp_volume.specs.Listing.{children, listed};
+ghost use Rattle.volume_spec.specs.Edits.{bare};
+ghost use Rattle.volume_spec.specs.Listing.{children, listed};
 ghost use Rattle.node_rows.specs.Children.{child_of};
 
 use crate::volume::Volume;

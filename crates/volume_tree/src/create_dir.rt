@@ -1,7 +1,7 @@
 //! FPCreateDir, and new nodes.
 ghost use Rattle.std.specs.Prelude.{◌≡◌, IfOk};
 ghost use Rattle.afp_names.specs.Name.{name_key};
-ghost use Rattle.afp_volume.specs.CreateDir.{create_dir_refusal, create_dir_effect};
+ghost use Rattle.volume_spec.specs.CreateDir.{create_dir_refusal, create_dir_effect};
 ghost use Rattle.volume_tree.specs.Answered.{Refuses};
 ghost use Rattle.volume_tree.specs.Planned.{DoesCall, IsPlan, planned};
 ghost use Rattle.volume_tree.specs.lemma.Planned.{plan_new};
@@ -12,9 +12,9 @@ use crate::resolve::PlanFault;
 use crate::volume::{Volume, new_node};
 use afp_base::{Bytes, Code, Moment, NodeId, OutOfMemory};
 use afp_names::{Name, Path};
-use afp_volume::laws::calls_keep_volumes_sound;
 use fork_bytes::Fork;
 use std::alloc::Global;
+use volume_spec::laws::calls_keep_volumes_sound;
 
 /// A new node's id, the directory that it comes into, and its kind.
 #[derive(Clone, Copy)]
@@ -55,7 +55,7 @@ pub(crate) fn plan_new(
 
 impl Volume {
     /// Why FPCreateDir is refused, or the plan of it.
-    #[tactic(auto, unfolding(afp_volume::specs::CreateDir::create_dir_refusal))]
+    #[tactic(auto, unfolding(volume_spec::specs::CreateDir::create_dir_refusal))]
     pub(crate) fn plan_create_dir(
         &self,
         alloc: Global,

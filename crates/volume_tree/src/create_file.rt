@@ -1,6 +1,6 @@
 //! FPCreateFile.
 ghost use Rattle.std.specs.Prelude.{◌≡◌, Some, None, IfOk, IfErr};
-ghost use Rattle.afp_volume.specs.CreateFile.{create_file_refusal, create_file_effect, create_file_there};
+ghost use Rattle.volume_spec.specs.CreateFile.{create_file_refusal, create_file_effect, create_file_there};
 ghost use Rattle.volume_tree.specs.Answered.{Refuses};
 ghost use Rattle.volume_tree.specs.lemma.Answered.{option_id};
 ghost use Rattle.volume_tree.specs.Planned.{DoesCall, IsPlan, planned};
@@ -15,13 +15,13 @@ use crate::resolve::PlanFault;
 use crate::volume::Volume;
 use afp_base::{Code, Moment, NodeId};
 use afp_names::Path;
-use afp_volume::laws::calls_keep_volumes_sound;
 use deny_modes::VolumeOpens;
 use std::alloc::Global;
+use volume_spec::laws::calls_keep_volumes_sound;
 
 impl Volume {
     /// Why FPCreateFile is refused, or the plan of it. A hard create replaces an old file.
-    #[tactic(auto, unfolding(afp_volume::specs::CreateFile::create_file_refusal))]
+    #[tactic(auto, unfolding(volume_spec::specs::CreateFile::create_file_refusal))]
     pub(crate) fn plan_create_file(
         &self,
         alloc: Global,

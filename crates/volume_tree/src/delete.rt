@@ -1,7 +1,7 @@
 //! FPDelete.
 ghost use Rattle.std.specs.Prelude.{◌≡◌, Ok, IfOk};
-ghost use Rattle.afp_volume.specs.Delete.{delete_refusal, delete_effect};
-ghost use Rattle.afp_volume.specs.Walk.{found};
+ghost use Rattle.volume_spec.specs.Delete.{delete_refusal, delete_effect};
+ghost use Rattle.volume_spec.specs.Walk.{found};
 ghost use Rattle.volume_tree.specs.Answered.{Refuses};
 ghost use Rattle.volume_tree.specs.Planned.{DoesCall, IsPlan, planned};
 ghost use Rattle.volume_tree.specs.Shown.{opened};
@@ -12,9 +12,9 @@ use crate::resolve::PlanFault;
 use crate::volume::{ROOT, Volume};
 use afp_base::{Code, Moment, NodeId};
 use afp_names::Path;
-use afp_volume::laws::{calls_keep_volumes_sound, rows_are_changed_in_place};
 use deny_modes::VolumeOpens;
 use std::alloc::Global;
+use volume_spec::laws::{calls_keep_volumes_sound, rows_are_changed_in_place};
 
 /// The attribute of a node that may not be deleted (AFP Reference, "File attributes").
 pub(crate) const DELETE_INHIBIT: u16 = 0x0100;
@@ -54,7 +54,7 @@ impl Volume {
     }
 
     /// What FPDelete deletes, or why it is refused.
-    #[tactic(auto, unfolding(afp_volume::specs::Delete::delete_refusal))]
+    #[tactic(auto, unfolding(volume_spec::specs::Delete::delete_refusal))]
     fn deleted(
         &self,
         alloc: Global,

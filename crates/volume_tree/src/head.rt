@@ -1,9 +1,9 @@
 //! The dates of a volume, and its next node id.
 ghost use Rattle.std.specs.Prelude.{◌≡◌, pos, unwrap_or, if◌then◌else◌};
-ghost use Rattle.afp_volume.specs.VolumeState.{never};
+ghost use Rattle.volume_spec.specs.VolumeState.{never};
 
 use afp_base::Moment;
-use afp_volume::limits::NEVER;
+use volume_spec::limits::NEVER;
 
 /// The dates of a volume, in seconds from 2000-01-01 00:00 GMT (AFP Reference, "Volume parameters").
 #[derive(Clone, Copy)]

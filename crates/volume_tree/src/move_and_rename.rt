@@ -1,6 +1,6 @@
 //! FPMoveAndRename.
 ghost use Rattle.std.specs.Prelude.{◌≡◌, IfOk};
-ghost use Rattle.afp_volume.specs.MoveAndRename.{move_refusal, move_effect};
+ghost use Rattle.volume_spec.specs.MoveAndRename.{move_refusal, move_effect};
 ghost use Rattle.volume_tree.specs.Answered.{Refuses};
 ghost use Rattle.volume_tree.specs.Planned.{DoesCall, IsPlan, planned};
 
@@ -11,12 +11,12 @@ use crate::resolve::PlanFault;
 use crate::volume::{ROOT, Volume};
 use afp_base::{Code, Moment, NodeId};
 use afp_names::Path;
-use afp_volume::laws::{calls_keep_volumes_sound, rows_are_changed_in_place};
 use std::alloc::Global;
+use volume_spec::laws::{calls_keep_volumes_sound, rows_are_changed_in_place};
 
 impl Volume {
     /// Why FPMoveAndRename is refused, or the plan of it.
-    #[tactic(auto, unfolding(afp_volume::specs::MoveAndRename::move_refusal))]
+    #[tactic(auto, unfolding(volume_spec::specs::MoveAndRename::move_refusal))]
     pub(crate) fn plan_move_and_rename(
         &self,
         alloc: Global,

@@ -1,15 +1,15 @@
 //! New places and new names that paths name.
 ghost use Rattle.std.specs.Prelude.{◌≡◌, ◌-◌, true, None, Some, Ok, Err, take, length, IfOk, MatchOption};
-ghost use Rattle.afp_volume.specs.Shared.{name_of};
-ghost use Rattle.afp_volume.specs.Walk.{found, before_down, new_place, one_down, one_down_or, is_named_path, is_named_step};
+ghost use Rattle.volume_spec.specs.Shared.{name_of};
+ghost use Rattle.volume_spec.specs.Walk.{found, before_down, new_place, one_down, one_down_or, is_named_path, is_named_step};
 ghost use Rattle.volume_tree.specs.lemma.Answered.{FailsAs};
 
 use crate::resolve::PlanFault;
 use crate::volume::Volume;
 use afp_base::{Code, NodeId};
 use afp_names::{Name, Path, Step};
-use afp_volume::laws::rows_are_changed_in_place;
 use std::alloc::Global;
+use volume_spec::laws::rows_are_changed_in_place;
 
 /// The name to which the last step of a path goes down.
 fn last_name(path: &Path) -> Option<&Name>
@@ -88,7 +88,7 @@ impl Volume {
     }
 
     /// The new place that a path names: a directory, and the name in it.
-    #[tactic(auto, unfolding(afp_volume::specs::Walk::new_place))]
+    #[tactic(auto, unfolding(volume_spec::specs::Walk::new_place))]
     pub(crate) fn new_place<'a>(
         &self,
         alloc: Global,

@@ -19,7 +19,7 @@ pub(crate) struct Comer {
 impl Model for Comer {
     ghost use Rattle.std.specs.Prelude.{◌≡◌, []};
     ghost use Rattle.afp_names.specs.Name.{name_key};
-    ghost use Rattle.afp_volume.specs.VolumeState.{Row};
+    ghost use Rattle.volume_spec.specs.VolumeState.{Row};
 
     ghost Value = { Row };
 

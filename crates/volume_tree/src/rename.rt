@@ -1,7 +1,7 @@
 //! FPRename.
 ghost use Rattle.std.specs.Prelude.{◌≡◌, IfOk};
 ghost use Rattle.afp_names.specs.Name.{name_key};
-ghost use Rattle.afp_volume.specs.Rename.{rename_refusal, rename_effect};
+ghost use Rattle.volume_spec.specs.Rename.{rename_refusal, rename_effect};
 ghost use Rattle.volume_tree.specs.Answered.{Refuses};
 ghost use Rattle.volume_tree.specs.Planned.{DoesCall, IsPlan, planned};
 ghost use Rattle.volume_tree.specs.lemma.Planned.{plan_place};
@@ -12,8 +12,8 @@ use crate::resolve::PlanFault;
 use crate::volume::{ROOT, Volume};
 use afp_base::{Bytes, Code, Moment, NodeId, OutOfMemory};
 use afp_names::{Name, Path};
-use afp_volume::laws::{calls_keep_volumes_sound, rows_are_changed_in_place};
 use std::alloc::Global;
+use volume_spec::laws::{calls_keep_volumes_sound, rows_are_changed_in_place};
 
 /// The attribute of a node that may not get another name or place (AFP Reference, "File attributes").
 pub(crate) const RENAME_INHIBIT: u16 = 0x0080;
@@ -58,7 +58,7 @@ pub(crate) fn plan_place(
 
 impl Volume {
     /// Why FPRename is refused, or the plan of it.
-    #[tactic(auto, unfolding(afp_volume::specs::Rename::rename_refusal))]
+    #[tactic(auto, unfolding(volume_spec::specs::Rename::rename_refusal))]
     pub(crate) fn plan_rename(
         &self,
         alloc: Global,

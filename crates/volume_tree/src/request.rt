@@ -1,7 +1,7 @@
 //! Calls that change a volume's tree.
 ghost use Rattle.std.specs.Prelude.{◌≡◌, IfOk, IfSome, IsSome};
-ghost use Rattle.afp_volume.specs.CreateFile.{is_hard};
-ghost use Rattle.afp_volume.specs.TreeSteps.{tree_refusal, tree_effect};
+ghost use Rattle.volume_spec.specs.CreateFile.{is_hard};
+ghost use Rattle.volume_spec.specs.TreeSteps.{tree_refusal, tree_effect};
 ghost use Rattle.volume_tree.specs.Answered.{Refuses};
 ghost use Rattle.volume_tree.specs.Planned.{DoesCall, IsPlan, planned};
 ghost use Rattle.volume_tree.specs.Requests.{tree_call};
@@ -11,7 +11,7 @@ use crate::plan::Plan;
 use crate::resolve::PlanFault;
 use crate::volume::Volume;
 use afp_base::Moment;
-use afp_requests::Call;
+use afp_calls_grammar::Call;
 use deny_modes::VolumeOpens;
 use std::alloc::Global;
 

@@ -1,6 +1,6 @@
 //! Walking a path through the tree.
 ghost use Rattle.std.specs.Prelude.{◌≡◌, ◌≤◌, IfOk, length, take};
-ghost use Rattle.afp_volume.specs.Walk.{child, walk_from, walk, found};
+ghost use Rattle.volume_spec.specs.Walk.{child, walk_from, walk, found};
 ghost use Rattle.volume_tree.specs.Answered.{Answers};
 ghost use Rattle.volume_tree.specs.lemma.Answered.{IsFoundNode};
 
@@ -36,7 +36,7 @@ impl Volume {
     }
 
     /// Where the first steps of a path lead from a directory. Where the last of them fails, `missing` is answered.
-    #[tactic(auto, unfolding(afp_volume::specs::Walk::walk))]
+    #[tactic(auto, unfolding(volume_spec::specs::Walk::walk))]
     pub(crate) fn walk(
         &self,
         alloc: Global,
@@ -97,7 +97,7 @@ impl Volume {
 
     /// The child to which a step down leads: that with the name's key; where there is none and names are
     /// long names, that with the long name.
-    #[tactic(auto, unfolding(afp_volume::specs::Walk::child))]
+    #[tactic(auto, unfolding(volume_spec::specs::Walk::child))]
     fn step_down(
         &self,
         alloc: Global,

@@ -4,9 +4,9 @@ ghost use Rattle.std.specs.List.{list_all};
 ghost use Rattle.std.specs.Ordering.{nat_cmp};
 ghost use Rattle.afp_base.specs.Limits.{most_fork_bytes};
 ghost use Rattle.sorted_map.specs.Entries.{at};
-ghost use Rattle.afp_volume.specs.Shared.{name_of};
-ghost use Rattle.afp_volume.specs.SoundVolume.{has_node};
-ghost use Rattle.afp_volume.specs.VolumeState.{root_id};
+ghost use Rattle.volume_spec.specs.Shared.{name_of};
+ghost use Rattle.volume_spec.specs.SoundVolume.{has_node};
+ghost use Rattle.volume_spec.specs.VolumeState.{root_id};
 ghost use Rattle.volume_tree.specs.Restored.{IsRestorable, restored};
 ghost use Rattle.volume_tree.specs.lemma.Restored.{forks_in, has_short_forks, loaded_bytes, loaded_node, or_forks, own_forks};
 

@@ -1,6 +1,6 @@
 //! FPSetFileParms, FPSetDirParms and FPSetFileDirParms.
 ghost use Rattle.std.specs.Prelude.{◌≡◌, Some, None, IfOk};
-ghost use Rattle.afp_volume.specs.SetFileDirParms.{set_file_parms_refusal, set_dir_parms_refusal, set_file_dir_parms_refusal, set_parms_effect};
+ghost use Rattle.volume_spec.specs.SetFileDirParms.{set_file_parms_refusal, set_dir_parms_refusal, set_file_dir_parms_refusal, set_parms_effect};
 ghost use Rattle.volume_tree.specs.Answered.{Refuses};
 ghost use Rattle.volume_tree.specs.Planned.{DoesCall, IsPlan, planned};
 ghost use Rattle.volume_tree.specs.lemma.Planned.{plan_set};
@@ -13,8 +13,8 @@ use crate::volume::Volume;
 use afp_base::{Code, Moment, NodeId};
 use afp_bitmap::is_outside;
 use afp_names::Path;
-use afp_volume::laws::calls_keep_volumes_sound;
 use std::alloc::Global;
+use volume_spec::laws::calls_keep_volumes_sound;
 
 /// The bits that may be set, and those of FPSetDirParms (AFP Reference, "File Bitmap", "Directory Bitmap").
 const SETTABLE_BITS: u16 = 0x003d;
@@ -39,7 +39,7 @@ pub(crate) fn plan_set(now: Moment, id: NodeId, settings: Settings) -> Plan
 
 impl Volume {
     /// Why FPSetFileParms is refused, or the plan of it.
-    #[tactic(auto, unfolding(afp_volume::specs::SetFileDirParms::set_file_parms_refusal))]
+    #[tactic(auto, unfolding(volume_spec::specs::SetFileDirParms::set_file_parms_refusal))]
     pub(crate) fn plan_set_file_parms(
         &self,
         alloc: Global,
@@ -73,7 +73,7 @@ impl Volume {
     }
 
     /// Why FPSetDirParms is refused, or the plan of it.
-    #[tactic(auto, unfolding(afp_volume::specs::SetFileDirParms::set_dir_parms_refusal))]
+    #[tactic(auto, unfolding(volume_spec::specs::SetFileDirParms::set_dir_parms_refusal))]
     pub(crate) fn plan_set_dir_parms(
         &self,
         alloc: Global,
@@ -107,7 +107,7 @@ impl Volume {
     }
 
     /// Why FPSetFileDirParms is refused, or the plan of it.
-    #[tactic(auto, unfolding(afp_volume::specs::SetFileDirParms::set_file_dir_parms_refusal))]
+    #[tactic(auto, unfolding(volume_spec::specs::SetFileDirParms::set_file_dir_parms_refusal))]
     pub(crate) fn plan_set_file_dir_parms(
         &self,
         alloc: Global,

@@ -2,7 +2,7 @@
 ghost use Rattle.std.specs.Prelude.{◌≡◌, ◌<◌, ◌≤◌, length, Some, None, IfOk, OnErr};
 ghost use Rattle.std.specs.Int.{w32, cast_signed};
 ghost use Rattle.byteorder.specs.Endian.{big_number};
-ghost use Rattle.afp_volume.specs.SetVolParms.{set_vol_parms_refusal, set_vol_parms_effect};
+ghost use Rattle.volume_spec.specs.SetVolParms.{set_vol_parms_refusal, set_vol_parms_effect};
 ghost use Rattle.volume_tree.specs.Answered.{Refuses};
 ghost use Rattle.volume_tree.specs.Planned.{DoesCall, IsPlan, planned};
 ghost use Rattle.volume_tree.specs.lemma.Planned.{plan_set};
@@ -11,7 +11,7 @@ use crate::plan::Plan;
 use crate::resolve::PlanFault;
 use crate::volume::Volume;
 use afp_base::{Code, Moment, Scan, Short};
-use afp_volume::laws::calls_keep_volumes_sound;
+use volume_spec::laws::calls_keep_volumes_sound;
 
 /// The bits that may be set: the backup date alone (AFP Reference, "Volume Bitmap").
 const BACKUP_DATE_ALONE: u16 = 0x0010;
@@ -43,7 +43,7 @@ fn plan_backup(now: Moment, number: u32) -> Plan
 
 impl Volume {
     /// Why FPSetVolParms is refused, or the plan of it.
-    #[tactic(auto, unfolding(afp_volume::specs::SetVolParms::set_vol_parms_refusal))]
+    #[tactic(auto, unfolding(volume_spec::specs::SetVolParms::set_vol_parms_refusal))]
     pub(crate) fn plan_set_vol_parms(
         &self,
         now: Moment,

@@ -1,13 +1,13 @@
 //! What calls set of nodes.
 ghost use Rattle.std.specs.Prelude.{◌≡◌, unwrap_or, option_map};
-ghost use Rattle.afp_volume.specs.SetFileDirParms.{attributes_by, with_settings};
+ghost use Rattle.volume_spec.specs.SetFileDirParms.{attributes_by, with_settings};
 ghost use Rattle.node_rows.specs.Kept.{marked};
 ghost use Rattle.volume_tree.specs.lemma.After.{marks_after};
 ghost use Rattle.volume_tree.specs.lemma.Kept.{marks_in};
 
-use afp_volume::limits::{DIRECTORY_ATTRIBUTES, FILE_ATTRIBUTES};
 use node_rows::{Marks, Node};
 use std::marker::Model;
+use volume_spec::limits::{DIRECTORY_ATTRIBUTES, FILE_ATTRIBUTES};
 
 /// The bit of an attributes word that says that its others are to be set; without it they are to be
 /// cleared (AFP Reference, "File attributes").
@@ -26,7 +26,7 @@ pub(crate) struct Settings {
 }
 
 impl Model for Settings {
-    ghost use Rattle.afp_volume.specs.SetFileDirParms.{Settings as SettingsValue};
+    ghost use Rattle.volume_spec.specs.SetFileDirParms.{Settings as SettingsValue};
 
     ghost Value = { SettingsValue };
 
@@ -35,7 +35,7 @@ impl Model for Settings {
 
 impl Settings {
     /// The marks of a node with these settings.
-    #[tactic(auto, unfolding(afp_volume::specs::SetFileDirParms::with_settings))]
+    #[tactic(auto, unfolding(volume_spec::specs::SetFileDirParms::with_settings))]
     pub fn marks(&self, node: &Node) -> Marks
         ensures { marked result node.now ≡ with_settings self.now node.now }
     {
@@ -81,7 +81,7 @@ fn with_attributes(marks: Marks, dir: bool, word: Option<u16>) -> Marks
 }
 
 /// Attributes with those of a word set or cleared, as far as a node of that kind has them.
-#[tactic(auto, unfolding(afp_volume::specs::SetFileDirParms::attributes_by))]
+#[tactic(auto, unfolding(volume_spec::specs::SetFileDirParms::attributes_by))]
 fn attributes_by(dir: bool, word: u16, old: u16) -> u16
     ensures { result ≡ attributes_by dir word old }
 {

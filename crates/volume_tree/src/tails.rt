@@ -1,8 +1,8 @@
 //! What the tails of set calls hold.
 ghost use Rattle.std.specs.Prelude.{◌≡◌, ◌≤◌, ◌+◌, true, false, None, Some, take, drop, length, option_map, MatchOption, nat_lt};
 ghost use Rattle.byteorder.specs.Endian.{big_number};
-ghost use Rattle.afp_volume.specs.Parms.{date_in};
-ghost use Rattle.afp_volume.specs.SetFileDirParms.{asked_bytes, field_in, is_short_tail, set_fields, settings_in};
+ghost use Rattle.volume_spec.specs.Parms.{date_in};
+ghost use Rattle.volume_spec.specs.SetFileDirParms.{asked_bytes, field_in, is_short_tail, set_fields, settings_in};
 ghost use Rattle.volume_tree.specs.lemma.Tails.{lower_bytes, size_asked};
 
 use crate::settings::Settings;
@@ -30,7 +30,7 @@ fn piece_at(bytes: &[u8], at: usize, size: usize) -> &[u8]
 }
 
 /// The bytes of the field of this bit and size, which begins at a place, where it is asked.
-#[tactic(auto, unfolding(afp_volume::specs::SetFileDirParms::field_in))]
+#[tactic(auto, unfolding(volume_spec::specs::SetFileDirParms::field_in))]
 fn field(bits: u16, tail: &[u8], bit: u32, at: usize, size: usize) -> Option<&[u8]>
     requires bit { nat_lt bit 16 ≡ true }
     requires at { at ≡ lower_bytes bits bit }
@@ -93,7 +93,7 @@ fn bytes_asked(bits: u16) -> usize
 }
 
 /// Whether a tail has fewer bytes than the fields that are asked.
-#[tactic(auto, unfolding(afp_volume::specs::SetFileDirParms::is_short_tail))]
+#[tactic(auto, unfolding(volume_spec::specs::SetFileDirParms::is_short_tail))]
 pub(crate) fn is_short_tail(bits: u16, tail: &[u8]) -> bool
     ensures { result ≡ is_short_tail bits tail.now }
 {

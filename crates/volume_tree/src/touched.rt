@@ -1,6 +1,6 @@
 //! The nodes that a plan touches.
 ghost use Rattle.std.specs.Prelude.{◌≡◌, ◌≤◌, ◌<◌, ◌+◌, [], take, length, true, option_map};
-ghost use Rattle.afp_volume.specs.VolumeState.{Row};
+ghost use Rattle.volume_spec.specs.VolumeState.{Row};
 ghost use Rattle.volume_tree.specs.lemma.Answered.{option_id};
 ghost use Rattle.volume_tree.specs.Planned.{Move, SetNode};
 ghost use Rattle.volume_tree.specs.TouchedNodes.{are_rising, IsTouched};

@@ -1,11 +1,11 @@
 //! What holds of the requests that a volume plans.
 ghost use Rattle.std.specs.Prelude.{◌≡◌, IfSome, true};
-ghost use Rattle.afp_volume.specs.TreeSteps.{is_named_call, is_typed_call};
+ghost use Rattle.volume_spec.specs.TreeSteps.{is_named_call, is_typed_call};
 ghost use Rattle.volume_tree.specs.Requests.{tree_call};
 
 use crate::places::steps_are_named;
-use afp_requests::Call;
-use afp_volume::bytes_in_range;
+use afp_calls_grammar::Call;
+use volume_spec::bytes_in_range;
 
 /// The paths of a request that a volume plans go down to names, and its numbers are in their ranges. The call does nothing.
 pub fn requests_are_typed(call: &Call)

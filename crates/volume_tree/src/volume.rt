@@ -1,25 +1,25 @@
 //! A volume's tree.
 ghost use Rattle.std.specs.Prelude.{◌≡◌, ◌≤◌, [], None, length, is_some, IfOk, OnOk, option_map, option_copied};
 ghost use Rattle.afp_names.specs.Name.{name_fault};
-ghost use Rattle.afp_volume.specs.DesktopLaws.{with_desktop};
-ghost use Rattle.afp_volume.specs.Edits.{bare, changed_at};
-ghost use Rattle.afp_volume.specs.SoundVolume.{IsSoundVolume, fork_bytes};
-ghost use Rattle.afp_volume.specs.VolumeState.{fresh_volume, new_row};
-ghost use Rattle.afp_volume.specs.Walk.{row_at};
-ghost use Rattle.afp_volume.specs.OpenFork.{file_of};
+ghost use Rattle.volume_spec.specs.DesktopLaws.{with_desktop};
+ghost use Rattle.volume_spec.specs.Edits.{bare, changed_at};
+ghost use Rattle.volume_spec.specs.SoundVolume.{IsSoundVolume, fork_bytes};
+ghost use Rattle.volume_spec.specs.VolumeState.{fresh_volume, new_row};
+ghost use Rattle.volume_spec.specs.Walk.{row_at};
+ghost use Rattle.volume_spec.specs.OpenFork.{file_of};
 ghost use Rattle.volume_tree.specs.Shown.{fork_at};
 
 use crate::forks::{FileForks, keep};
 use crate::head::{Dates, VolumeHead};
 use afp_base::{Moment, NodeId, OutOfMemory};
 use afp_names::Name;
-use afp_volume::laws::fresh_volumes_are_sound;
-use afp_volume::limits::{LAST_NEXT_ID, NEVER, ROOT_ID, ROOT_PARENT_ID};
 use fork_bytes::Fork;
 use node_rows::{Node, Rows};
 use sorted_map::SortedMap;
 use std::alloc::Global;
 use std::marker::Model;
+use volume_spec::laws::fresh_volumes_are_sound;
+use volume_spec::limits::{LAST_NEXT_ID, NEVER, ROOT_ID, ROOT_PARENT_ID};
 
 /// The id of the root directory, and that of its parent (AFP Reference, "Directory IDs").
 pub(crate) const ROOT: NodeId = NodeId(ROOT_ID);

@@ -1,5 +1,5 @@
 -- What the code and the proofs go by beside ServerState; no public contract cites it.
-use Rattle.core_state.specs.KeptWorld.{KeptWorld}
+use Rattle.afp_core_state.specs.KeptWorld.{KeptWorld}
 use Rattle.afp_core.specs.ServerState.{ServerState}
 
 -- the world of a core, beside its keepers

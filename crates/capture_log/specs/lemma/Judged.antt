@@ -1,6 +1,6 @@
 -- What the code and the proofs go by beside Judged; no public contract cites it.
-use Rattle.capture_server.specs.Counting.{AreCaptureCounts}
-use Rattle.capture_server.specs.CaptureState.{CaptureState}
+use Rattle.capture_log_server.specs.Counting.{AreCaptureCounts}
+use Rattle.capture_log_server.specs.CaptureState.{CaptureState}
 use Rattle.capture_log.specs.declared.replay_end.ReplayEnd.{ReplayEnd}
 use Rattle.capture_log.specs.declared.replay_end.ReplayEnd.TheVariants.{Same, Differs, BadCapture, ReadFault, Spent, Memory}
 

@@ -3,8 +3,8 @@ use Rattle.std.specs.Prelude.{◌≡◌, nat_le, Bool, true, false, [], length, 
 use Rattle.afp_serial.specs.Household.{Household}
 use Rattle.afp_serial.specs.HouseFault.{is_name, first_bad_name, is_bad_user, is_bad_volume}
 use Rattle.afp_serial.specs.Limits.{longest_server, most_users, most_volumes}
-use Rattle.capture_server.specs.declared.part.Part.{Part}
-use Rattle.capture_server.specs.declared.part.Part.TheVariants as parts
+use Rattle.capture_log_server.specs.declared.part.Part.{Part}
+use Rattle.capture_log_server.specs.declared.part.Part.TheVariants as parts
 
 -- whether the server was named by now
 abbrev pub has_server : Part → Bool

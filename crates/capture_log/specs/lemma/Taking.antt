@@ -3,21 +3,21 @@ use Rattle.std.specs.Prelude.{◌≡◌, ◌≢◌, ℕ, ◌≤◌, nat_lt, not,
 use Rattle.afp_serial.specs.Household.{Household}
 use Rattle.afp_serial.specs.HouseFault.{is_name, is_bad_user, is_bad_volume}
 use Rattle.afp_serial.specs.Limits.{longest_server, most_users}
-use Rattle.capture_lines.specs.Lines.{last_link}
-use Rattle.capture_lines.specs.declared.line.Line.{Line}
-use Rattle.capture_lines.specs.declared.line.Line.TheVariants.{Title, Server, Signature, User as UserLine, Volume, Key, At, End}
-use Rattle.capture_lines.specs.declared.line.What.{What}
-use Rattle.capture_lines.specs.declared.line.What.TheVariants.{Out}
-use Rattle.capture_server.specs.Connections.{difference, output, unused}
+use Rattle.capture_log_lines.specs.Lines.{last_link}
+use Rattle.capture_log_lines.specs.declared.line.Line.{Line}
+use Rattle.capture_log_lines.specs.declared.line.Line.TheVariants.{Title, Server, Signature, User as UserLine, Volume, Key, At, End}
+use Rattle.capture_log_lines.specs.declared.line.What.{What}
+use Rattle.capture_log_lines.specs.declared.line.What.TheVariants.{Out}
+use Rattle.capture_log_server.specs.Connections.{difference, output, unused}
 use Rattle.capture_log.specs.Judged.{Decides}
 use Rattle.capture_log.specs.lemma.SetUp.{IsSetUp}
 use Rattle.afp_serial.specs.Limits.{most_volumes}
-use Rattle.capture_server.specs.Running.{Happened}
-use Rattle.capture_server.specs.CaptureState.{is_refused_on, CaptureState, Says, TakesGoodLine, part_after, is_refused, is_bad, user_behind, start_at}
-use Rattle.capture_server.specs.States.{RunningState, IsRunning}
-use Rattle.capture_server.specs.declared.difference.Difference.{Difference}
-use Rattle.capture_server.specs.declared.part.Part.{Part}
-use Rattle.capture_server.specs.declared.part.Part.TheVariants as parts
+use Rattle.capture_log_server.specs.Running.{Happened}
+use Rattle.capture_log_server.specs.CaptureState.{is_refused_on, CaptureState, Says, TakesGoodLine, part_after, is_refused, is_bad, user_behind, start_at}
+use Rattle.capture_log_server.specs.States.{RunningState, IsRunning}
+use Rattle.capture_log_server.specs.declared.difference.Difference.{Difference}
+use Rattle.capture_log_server.specs.declared.part.Part.{Part}
+use Rattle.capture_log_server.specs.declared.part.Part.TheVariants as parts
 use Rattle.capture_log.specs.declared.replay_end.ReplayEnd.{ReplayEnd}
 use Rattle.capture_log.specs.declared.replay_end.ReplayEnd.TheVariants.{Same, Differs, BadCapture, ReadFault, Spent, Memory}
 

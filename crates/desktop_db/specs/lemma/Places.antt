@@ -1,7 +1,7 @@
 -- Where a key stands in a list whose keys rise (this profile).
 use Rattle.std.specs.Prelude.{◌≡◌, ℕ, ◌<◌, ◌≤◌, true, List, length, slice_index_or}
 use Rattle.std.specs.List.{AllWithin}
-use Rattle.afp_volume.specs.Order.{stands_before}
+use Rattle.volume_spec.specs.Order.{stands_before}
 
 -- the element at place i has the key
 pub record IsPlaceOf {A : Type 0} (key : A → List ℕ) (k : List ℕ) (list : List A) (i : ℕ) : Type 0 where

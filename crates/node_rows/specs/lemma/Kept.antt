@@ -1,9 +1,9 @@
 -- What the code and the proofs go by beside Kept; no public contract cites it.
 use Rattle.std.specs.Prelude.{◌≡◌, ℕ, ◌≤◌, nat_lt, true, List}
 use Rattle.std.specs.List.{list_all}
-use Rattle.afp_volume.specs.Order.{rises}
-use Rattle.afp_volume.specs.SoundVolume.{has_rising_ids, last_next_id}
-use Rattle.afp_volume.specs.VolumeState.{Row, first_id}
+use Rattle.volume_spec.specs.Order.{rises}
+use Rattle.volume_spec.specs.SoundVolume.{has_rising_ids, last_next_id}
+use Rattle.volume_spec.specs.VolumeState.{Row, first_id}
 use Rattle.node_rows.specs.Children.{child_order, children_of}
 use Rattle.node_rows.specs.declared.child.Child.{Child}
 

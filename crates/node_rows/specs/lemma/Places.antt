@@ -1,8 +1,8 @@
 -- Places of rows and of children, as the search finds them.
 use Rattle.std.specs.Prelude.{◌≡◌, ℕ, ◌≤◌, ◌<◌, Bool, not, ◌&&◌, ◌==◌, bytes_eq, List, length, ◌-◌, take, drop, Option, Some, None, slice_get}
 use Rattle.std.specs.List.{filter}
-use Rattle.afp_volume.specs.VolumeState.{Row}
-use Rattle.afp_volume.specs.Walk.{row_at}
+use Rattle.volume_spec.specs.VolumeState.{Row}
+use Rattle.volume_spec.specs.Walk.{row_at}
 use Rattle.node_rows.specs.Children.{child_of, child_order}
 use Rattle.node_rows.specs.declared.child.Child.{Child}
 

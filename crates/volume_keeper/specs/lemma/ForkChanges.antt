@@ -1,10 +1,10 @@
 -- What the code and the proofs go by beside ForkChanges; no public contract cites it.
 use Rattle.std.specs.Prelude.{ℕ, ℤ, pos, Bool, if◌then◌else◌, List, [], Option, Some, None}
-use Rattle.afp_volume.specs.VolumeState.{Row as VolumeRow}
+use Rattle.volume_spec.specs.VolumeState.{Row as VolumeRow}
 use Rattle.record_keeper.specs.declared.record.Change.{Change}
-use Rattle.volume_records.specs.declared.rows.Head.{Head}
-use Rattle.volume_records.specs.declared.rows.Node.{Node}
-use Rattle.volume_records.specs.declared.rows.TableRow.TheVariants as row
+use Rattle.volume_keeper_records.specs.declared.rows.Head.{Head}
+use Rattle.volume_keeper_records.specs.declared.rows.Node.{Node}
+use Rattle.volume_keeper_records.specs.declared.rows.TableRow.TheVariants as row
 use Rattle.volume_keeper.specs.lemma.Steps.{sized}
 use Rattle.volume_keeper.specs.ForkChanges.{put_where_other}
 

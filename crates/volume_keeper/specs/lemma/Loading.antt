@@ -1,14 +1,14 @@
 -- What the code and the proofs go by beside Loading; no public contract cites it.
 use Rattle.std.specs.Prelude.{◌≡◌, ℕ, List, [], None, Result, Ok, Err}
 use Rattle.std.specs.FinMap.{entries}
-use Rattle.afp_volume.specs.VolumeState.{VolumeState}
+use Rattle.volume_spec.specs.VolumeState.{VolumeState}
 use Rattle.record_keeper.specs.declared.record.Record.{Record}
 use Rattle.record_keeper.specs.declared.reading.ReadAllFault.{ReadAllFault}
 use Rattle.record_keeper.specs.declared.reading.ReadAllFault.TheVariants as read
 use Rattle.record_keeper.specs.Records.{Records}
-use Rattle.volume_records.specs.declared.rows.Reason.TheVariants.{Shape, Limit}
-use Rattle.volume_records.specs.FirstBad.{first_bad_record}
-use Rattle.volume_records.specs.Image.{image, kept_image}
+use Rattle.volume_keeper_records.specs.declared.rows.Reason.TheVariants.{Shape, Limit}
+use Rattle.volume_keeper_records.specs.FirstBad.{first_bad_record}
+use Rattle.volume_keeper_records.specs.Image.{image, kept_image}
 use Rattle.volume_keeper.specs.declared.loading.LoadFault.{LoadFault}
 use Rattle.volume_keeper.specs.declared.loading.LoadFault.TheVariants.{BadRecord, Failed, Memory}
 use Rattle.volume_keeper.specs.Whole.{HeldValue}

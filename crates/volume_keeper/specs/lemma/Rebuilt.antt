@@ -1,11 +1,11 @@
 -- A volume made of its rows, one after the other: what the code does, for private contracts.
 use Rattle.std.specs.Prelude.{pos, List, [], ◌∷◌}
-use Rattle.afp_volume.specs.VolumeState.{Comment, Icon, Appl, VolumeState}
-use Rattle.afp_volume.specs.SoundVolume.{icon_key}
-use Rattle.afp_volume.specs.Desktop.{icon_under, with_appl, with_comment, with_icon}
-use Rattle.volume_records.specs.declared.rows.TableRow.{TableRow}
-use Rattle.volume_records.specs.declared.rows.TableRow.TheVariants as row
-use Rattle.volume_records.specs.Shape.{bare_row}
+use Rattle.volume_spec.specs.VolumeState.{Comment, Icon, Appl, VolumeState}
+use Rattle.volume_spec.specs.SoundVolume.{icon_key}
+use Rattle.volume_spec.specs.Desktop.{icon_under, with_appl, with_comment, with_icon}
+use Rattle.volume_keeper_records.specs.declared.rows.TableRow.{TableRow}
+use Rattle.volume_keeper_records.specs.declared.rows.TableRow.TheVariants as row
+use Rattle.volume_keeper_records.specs.Shape.{bare_row}
 use Rattle.volume_tree.specs.declared.head.VolumeHead.{VolumeHead}
 use Rattle.volume_tree.specs.declared.restore.LoadedNode.{LoadedNode}
 use Rattle.volume_tree.specs.Filled.{filled, FitsFork}

@@ -4,15 +4,15 @@ use Rattle.std.specs.List.{filter}
 use Rattle.afp_base.specs.declared.ids.NodeId.{NodeId}
 use Rattle.fork_bytes.specs.declared.block.Block.{Block}
 use Rattle.fork_bytes.specs.Blocks.{blocks_of}
-use Rattle.afp_volume.specs.VolumeState.{Row as VolumeRow, Appl, Comment, VolumeState}
-use Rattle.afp_volume.specs.Desktop.{comment_at}
-use Rattle.afp_volume.specs.Walk.{row_at}
+use Rattle.volume_spec.specs.VolumeState.{Row as VolumeRow, Appl, Comment, VolumeState}
+use Rattle.volume_spec.specs.Desktop.{comment_at}
+use Rattle.volume_spec.specs.Walk.{row_at}
 use Rattle.record_keeper.specs.declared.record.Change.{Change}
 use Rattle.record_keeper.specs.declared.record.Change.TheVariants.{Remove}
-use Rattle.volume_records.specs.declared.rows.Node.{Node}
-use Rattle.volume_records.specs.declared.rows.TableRow.TheVariants as row
-use Rattle.volume_records.specs.Records.{node_key, block_key, comment_record_key, appl_record_key}
-use Rattle.volume_records.specs.Image.{node_of}
+use Rattle.volume_keeper_records.specs.declared.rows.Node.{Node}
+use Rattle.volume_keeper_records.specs.declared.rows.TableRow.TheVariants as row
+use Rattle.volume_keeper_records.specs.Records.{node_key, block_key, comment_record_key, appl_record_key}
+use Rattle.volume_keeper_records.specs.Image.{node_of}
 use Rattle.volume_tree.specs.Shown.{fork_at}
 use Rattle.volume_keeper.specs.Changes.{put_of}
 

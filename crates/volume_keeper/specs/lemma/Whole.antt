@@ -1,8 +1,8 @@
 -- What the code and the proofs go by beside Whole; no public contract cites it.
 use Rattle.std.specs.Prelude.{◌≡◌, true}
-use Rattle.afp_volume.specs.VolumeState.{VolumeState}
-use Rattle.afp_volume.specs.SoundVolume.{IsSoundVolume}
-use Rattle.afp_volume.specs.TypedVolume.{is_typed_volume}
+use Rattle.volume_spec.specs.VolumeState.{VolumeState}
+use Rattle.volume_spec.specs.SoundVolume.{IsSoundVolume}
+use Rattle.volume_spec.specs.TypedVolume.{is_typed_volume}
 
 -- what holds of a volume that is held
 pub record IsHeld (v : VolumeState) : Type 0 where

@@ -2,9 +2,9 @@
 use Rattle.std.specs.Prelude.{ℕ, ◌==◌, Bool, Option, Some, None, option_map, unwrap_or, if◌then◌else◌}
 use Rattle.node_rows.specs.declared.node.Marks.{Marks}
 use Rattle.afp_base.specs.declared.ids.NodeId.{NodeId}
-use Rattle.afp_volume.specs.VolumeState.{Row}
-use Rattle.afp_volume.specs.SetFileDirParms.{Settings, attributes_by, with_settings}
-use Rattle.afp_volume.specs.Edits.{change_at, at_place, modified_at}
+use Rattle.volume_spec.specs.VolumeState.{Row}
+use Rattle.volume_spec.specs.SetFileDirParms.{Settings, attributes_by, with_settings}
+use Rattle.volume_spec.specs.Edits.{change_at, at_place, modified_at}
 use Rattle.volume_tree.specs.Planned.{Move, SetNode, PlanState}
 
 -- a row at its new place, with its settings, with another modified date, where it is the one of that id

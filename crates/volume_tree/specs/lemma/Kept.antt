@@ -6,9 +6,9 @@ use Rattle.sorted_map.specs.Entries.{at}
 use Rattle.afp_base.specs.declared.ids.NodeId.{NodeId}
 use Rattle.node_rows.specs.Kept.{RowsValue, marked}
 use Rattle.node_rows.specs.declared.node.Marks.{Marks}
-use Rattle.afp_volume.specs.VolumeState.{Row}
-use Rattle.afp_volume.specs.SetFileDirParms.{Settings, with_settings}
-use Rattle.afp_volume.specs.SoundVolume.{IsSoundVolume, fork_bytes}
+use Rattle.volume_spec.specs.VolumeState.{Row}
+use Rattle.volume_spec.specs.SetFileDirParms.{Settings, with_settings}
+use Rattle.volume_spec.specs.SoundVolume.{IsSoundVolume, fork_bytes}
 use Rattle.volume_tree.specs.Planned.{is_gone}
 use Rattle.volume_tree.specs.declared.forks.FileForks.{FileForks}
 use Rattle.volume_tree.specs.declared.head.Dates.{Dates}

@@ -1,7 +1,7 @@
 -- What the code and the proofs go by beside Planned; no public contract cites it.
 use Rattle.std.specs.Prelude.{ℕ, ℤ, Bool, List, Option, Some, None}
 use Rattle.afp_base.specs.declared.ids.NodeId.{NodeId}
-use Rattle.afp_volume.specs.VolumeState.{new_row}
+use Rattle.volume_spec.specs.VolumeState.{new_row}
 use Rattle.volume_tree.specs.Planned.{SetNode, PlanState}
 
 -- a new file or directory, in the place of a node that goes

@@ -2,7 +2,7 @@
 use Rattle.std.specs.Prelude.{ℕ, nat_lt, if◌then◌else◌}
 use Rattle.std.specs.List.{filter}
 use Rattle.afp_bitmap.specs.Bits.{is_asked}
-use Rattle.afp_volume.specs.SetFileDirParms.{asked_bytes, set_fields}
+use Rattle.volume_spec.specs.SetFileDirParms.{asked_bytes, set_fields}
 
 -- the size of a field, where it is asked
 abbrev pub size_asked : ℕ → ℕ → ℕ → ℕ

@@ -2,11 +2,11 @@ use Rattle.std.proofs.Common.{refl}
 use Rattle.afp_bitmap.specs.Bits.{is_asked}
 use Rattle.afp_bitmap.specs.Params.{asked_of}
 use Rattle.afp_bitmap.specs.Table.{file_rows, rows}
-use Rattle.afp_volume.specs.Edits.{with_changed}
-use Rattle.afp_volume.specs.ForkEffect.{fork_effect, would_pass}
-use Rattle.afp_volume.specs.NodeValues.{file_values, has_open_fork, told_attributes}
-use Rattle.afp_volume.specs.SetForkParms.{has_no_length, length_in}
-use Rattle.afp_volume.specs.Walk.{row_at}
+use Rattle.volume_spec.specs.Edits.{with_changed}
+use Rattle.volume_spec.specs.ForkEffect.{fork_effect, would_pass}
+use Rattle.volume_spec.specs.NodeValues.{file_values, has_open_fork, told_attributes}
+use Rattle.volume_spec.specs.SetForkParms.{has_no_length, length_in}
+use Rattle.volume_spec.specs.Walk.{row_at}
 use Rattle.afp_serial.specs.Fork.{has_most_forks, is_denied, lowest_free, opened_reply}
 use Rattle.afp_serial.specs.ForkBytes.{meets_end, read_bytes}
 use Rattle.afp_serial.specs.Lock.{has_lock, has_most_locks, is_met_by_own, range_asked}

@@ -1,7 +1,7 @@
 use Rattle.std.proofs.Common.{◌&&◌}
 use Rattle.std.proofs.lemmas.Bool.{and_from}
 use Rattle.afp_serial.specs.Ranges.{is_moment, is_typed_ask, is_typed_entry}
-use Rattle.afp_volume.specs.TypedVolume.{is_quad}
+use Rattle.volume_spec.specs.TypedVolume.{is_quad}
 use Rattle.afp_serial.proofs.ranges.entry_in_range.Goals as goal
 
 pub returns : goal.returns

@@ -1,5 +1,5 @@
 use Rattle.std.specs.Prelude.{is_some}
-use Rattle.capture_server.proofs.RunningLemmas.{ok_with}
+use Rattle.capture_log_server.proofs.RunningLemmas.{ok_with}
 use Rattle.capture_log.proofs.TakingLemmas.{runs-new, waits-there, set-up-there}
 use Rattle.capture_log.proofs.capture.running_from.Goals as goal
 

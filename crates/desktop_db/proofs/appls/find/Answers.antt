@@ -2,8 +2,8 @@ use Rattle.std.proofs.Common.{rules}
 use Rattle.std.specs.Cmp.Lexicographic.{slice_cmp}
 use Rattle.std.specs.Ordering.{nat_cmp}
 use Rattle.std.proofs.lemmas.Fn.{always_returns_same}
-use Rattle.afp_volume.specs.Desktop.{pair_key}
-use Rattle.afp_volume.specs.SoundVolume.{appl_key}
+use Rattle.volume_spec.specs.Desktop.{pair_key}
+use Rattle.volume_spec.specs.SoundVolume.{appl_key}
 use Rattle.desktop_db.proofs.Places.{searched}
 use Rattle.desktop_db.proofs.appls.find.Goals as goal
 

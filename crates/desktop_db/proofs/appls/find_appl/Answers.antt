@@ -1,6 +1,6 @@
 use Rattle.std.proofs.Common.{sym}
-use Rattle.afp_volume.specs.Desktop.{pair_key}
-use Rattle.afp_volume.specs.SoundVolume.{appl_key}
+use Rattle.volume_spec.specs.Desktop.{pair_key}
+use Rattle.volume_spec.specs.SoundVolume.{appl_key}
 use Rattle.desktop_db.proofs.Places.{not-found, place-read}
 use Rattle.desktop_db.proofs.appls.find_appl.Goals as goal
 

@@ -1,6 +1,6 @@
 use Rattle.std.proofs.Common.{rules}
 use Rattle.std.proofs.lemmas.List.Sorted.{IsPartitionPoint-from_clause}
-use Rattle.afp_volume.specs.Order.{stands_before}
+use Rattle.volume_spec.specs.Order.{stands_before}
 use Rattle.desktop_db.proofs.Heads.{heads-partition, partition-place}
 use Rattle.desktop_db.proofs.Creators.{appls-climb}
 use Rattle.desktop_db.proofs.appls.first_of.Goals as goal

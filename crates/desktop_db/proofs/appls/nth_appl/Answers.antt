@@ -1,5 +1,5 @@
 use Rattle.std.proofs.Common.{◌≡◌, ◌∙◌, ap, sym, cond, Some, None, true, arith}
-use Rattle.afp_volume.specs.VolumeState.{Appl}
+use Rattle.volume_spec.specs.VolumeState.{Appl}
 use Rattle.desktop_db.proofs.Creators.{appls-climb}
 use Rattle.desktop_db.proofs.Heads.{climbs, nth-at, nth-past}
 use Rattle.desktop_db.proofs.appls.nth_appl.Goals as goal

@@ -1,6 +1,6 @@
 use Rattle.std.proofs.Common.{◌≡◌, drop}
 use Rattle.std.specs.Prelude.{slice_get}
-use Rattle.afp_volume.specs.Desktop.{creators_of}
+use Rattle.volume_spec.specs.Desktop.{creators_of}
 use Rattle.desktop_db.proofs.appls.nth_creator.Given as goal
 
 abbrev pub invariant-loop-appl : goal.invariant-loop-appl

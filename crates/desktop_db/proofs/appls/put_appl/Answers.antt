@@ -1,6 +1,6 @@
 use Rattle.std.proofs.Common.{◌≡◌, ◌∙◌, ap, sym, refl, ◌++◌, ◌∷◌, [], ◌≤◌, List, length, slice_set, arith}
-use Rattle.afp_volume.specs.SoundVolume.{appl_key, most_appls}
-use Rattle.afp_volume.specs.VolumeState.{Appl}
+use Rattle.volume_spec.specs.SoundVolume.{appl_key, most_appls}
+use Rattle.volume_spec.specs.VolumeState.{Appl}
 use Rattle.desktop_db.specs.lemma.Places.{IsPlaceOf, IsGapFor}
 use Rattle.desktop_db.proofs.Places.{gap-moved, known-has-room, new-has-no-room, place-moved, put-new, replaced}
 use Rattle.desktop_db.proofs.appls.put_appl.Goals as goal

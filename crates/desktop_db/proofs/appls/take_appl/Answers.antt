@@ -1,8 +1,8 @@
 use Rattle.std.proofs.Common.{◌∙◌, ap, sym, refl, List}
 use Rattle.std.specs.Prelude.{is_some}
-use Rattle.afp_volume.specs.Desktop.{pair_key}
-use Rattle.afp_volume.specs.SoundVolume.{appl_key}
-use Rattle.afp_volume.specs.VolumeState.{Appl}
+use Rattle.volume_spec.specs.Desktop.{pair_key}
+use Rattle.volume_spec.specs.SoundVolume.{appl_key}
+use Rattle.volume_spec.specs.VolumeState.{Appl}
 use Rattle.desktop_db.specs.lemma.Places.{IsPlaceOf, IsGapFor}
 use Rattle.desktop_db.proofs.Places.{gap-moved, not-found, not-taken, place-moved, place-there, taken}
 use Rattle.desktop_db.proofs.appls.take_appl.Goals as goal

@@ -2,7 +2,7 @@ use Rattle.std.proofs.Common.{rules, ◌∷◌, []}
 use Rattle.std.specs.Cmp.Lexicographic.{slice_cmp}
 use Rattle.std.specs.Ordering.{nat_cmp}
 use Rattle.std.proofs.lemmas.Fn.{always_returns_same}
-use Rattle.afp_volume.specs.Desktop.{comment_key}
+use Rattle.volume_spec.specs.Desktop.{comment_key}
 use Rattle.desktop_db.proofs.Places.{searched}
 use Rattle.desktop_db.proofs.comments.find.Goals as goal
 

@@ -1,5 +1,5 @@
 use Rattle.std.proofs.Common.{◌∙◌, sym, ◌∷◌, []}
-use Rattle.afp_volume.specs.Desktop.{comment_key}
+use Rattle.volume_spec.specs.Desktop.{comment_key}
 use Rattle.desktop_db.proofs.Numbers.{comments-at}
 use Rattle.desktop_db.proofs.Places.{not-found, place-read}
 use Rattle.desktop_db.proofs.comments.find_comment.Goals as goal

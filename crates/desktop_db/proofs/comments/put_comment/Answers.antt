@@ -1,7 +1,7 @@
 use Rattle.std.proofs.Common.{◌∙◌, ap, sym, refl, ◌∷◌, [], List, slice_set}
-use Rattle.afp_volume.specs.Desktop.{comment_key}
-use Rattle.afp_volume.specs.Order.{put_in}
-use Rattle.afp_volume.specs.VolumeState.{Comment}
+use Rattle.volume_spec.specs.Desktop.{comment_key}
+use Rattle.volume_spec.specs.Order.{put_in}
+use Rattle.volume_spec.specs.VolumeState.{Comment}
 use Rattle.desktop_db.specs.lemma.Places.{IsPlaceOf, IsGapFor}
 use Rattle.desktop_db.proofs.Numbers.{comments-without}
 use Rattle.desktop_db.proofs.Places.{gap-moved, on-ok, place-moved, put-new, replaced}

@@ -1,5 +1,5 @@
 use Rattle.std.proofs.Common.{sym}
-use Rattle.afp_volume.specs.SoundVolume.{icon_key}
+use Rattle.volume_spec.specs.SoundVolume.{icon_key}
 use Rattle.desktop_db.proofs.Places.{not-found, place-read}
 use Rattle.desktop_db.proofs.icons.find_icon.Goals as goal
 

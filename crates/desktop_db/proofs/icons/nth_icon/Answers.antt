@@ -1,5 +1,5 @@
 use Rattle.std.proofs.Common.{◌≡◌, ◌∙◌, ap, sym, cond, Some, None, true, arith}
-use Rattle.afp_volume.specs.VolumeState.{Icon}
+use Rattle.volume_spec.specs.VolumeState.{Icon}
 use Rattle.desktop_db.proofs.Creators.{icons-climb}
 use Rattle.desktop_db.proofs.Heads.{climbs, nth-at, nth-past}
 use Rattle.desktop_db.proofs.icons.nth_icon.Goals as goal

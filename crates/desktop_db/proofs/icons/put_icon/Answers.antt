@@ -1,6 +1,6 @@
 use Rattle.std.proofs.Common.{◌≡◌, ◌∙◌, ap, sym, refl, ◌≤◌, List, length, slice_set, arith}
-use Rattle.afp_volume.specs.SoundVolume.{icon_key, most_icons}
-use Rattle.afp_volume.specs.VolumeState.{Icon}
+use Rattle.volume_spec.specs.SoundVolume.{icon_key, most_icons}
+use Rattle.volume_spec.specs.VolumeState.{Icon}
 use Rattle.desktop_db.specs.lemma.Places.{IsPlaceOf, IsGapFor}
 use Rattle.desktop_db.proofs.Places.{gap-moved, known-has-room, new-has-no-room, place-moved, put-new, replaced}
 use Rattle.desktop_db.proofs.icons.put_icon.Goals as goal

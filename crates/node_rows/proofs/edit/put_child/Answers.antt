@@ -1,7 +1,7 @@
 use Rattle.std.proofs.Common.{◌∙◌, ap, ◌∷◌, not, cond}
 use Rattle.std.specs.Prelude.{insert}
 use Rattle.std.specs.List.{position_or_len}
-use Rattle.afp_volume.specs.Order.{stands_before}
+use Rattle.volume_spec.specs.Order.{stands_before}
 use Rattle.node_rows.specs.Children.{child_order}
 use Rattle.node_rows.specs.declared.child.Child.{Child}
 use Rattle.node_rows.proofs.Sorting.{put-at}

@@ -1,7 +1,7 @@
 use Rattle.std.proofs.Common.{◌≡◌, ◌∙◌, ap, not, true, cond, List}
 use Rattle.std.specs.Prelude.{insert, nat_lt, ◌==◌}
 use Rattle.std.specs.List.{position_or_len, list_all}
-use Rattle.afp_volume.specs.VolumeState.{Row}
+use Rattle.volume_spec.specs.VolumeState.{Row}
 use Rattle.node_rows.proofs.Keeping.{admitted-at, none-there}
 use Rattle.node_rows.proofs.edit.put_node.Goals as goal
 

@@ -3,7 +3,7 @@ use Rattle.std.specs.Ordering.{is_lt}
 use Rattle.std.proofs.lemmas.Cmp.{nat_list_cmp_total}
 use Rattle.std.proofs.lemmas.Fn.{always_returns_same}
 use Rattle.std.proofs.lemmas.List.MinMax.{ranks_by}
-use Rattle.afp_volume.specs.Order.{stands_before}
+use Rattle.volume_spec.specs.Order.{stands_before}
 use Rattle.node_rows.specs.Children.{child_order}
 use Rattle.node_rows.specs.declared.child.Child.{Child}
 use Rattle.node_rows.proofs.order.sort.Goals as goal

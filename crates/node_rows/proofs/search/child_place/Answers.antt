@@ -1,6 +1,6 @@
 use Rattle.std.proofs.Common.{rules, ◌∷◌}
 use Rattle.std.proofs.lemmas.List.Sorted.{IsPartitionPoint-from_clause}
-use Rattle.afp_volume.specs.Order.{stands_before}
+use Rattle.volume_spec.specs.Order.{stands_before}
 use Rattle.node_rows.specs.Children.{child_order}
 use Rattle.node_rows.proofs.Halving.{partition-place, keys-partition}
 use Rattle.node_rows.proofs.search.child_place.Goals as goal

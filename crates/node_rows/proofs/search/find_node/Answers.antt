@@ -1,8 +1,8 @@
 use Rattle.std.proofs.Common.{◌∙◌, ap, sym, refl, cond, Some, None, length, arith}
 use Rattle.std.proofs.lemmas.Option.{slice_get_read}
-use Rattle.afp_volume.specs.SoundVolume.{has_rising_ids}
-use Rattle.afp_volume.specs.VolumeState.{Row}
-use Rattle.afp_volume.specs.Walk.{row_at}
+use Rattle.volume_spec.specs.SoundVolume.{has_rising_ids}
+use Rattle.volume_spec.specs.VolumeState.{Row}
+use Rattle.volume_spec.specs.Walk.{row_at}
 use Rattle.node_rows.proofs.Sorting.{number-past, number-at}
 use Rattle.node_rows.proofs.search.find_node.Goals as goal
 

@@ -1,8 +1,8 @@
 use Rattle.std.proofs.Common.{rules}
 use Rattle.std.specs.Prelude.{nat_lt}
 use Rattle.std.proofs.lemmas.List.Sorted.{IsPartitionPoint-from_clause}
-use Rattle.afp_volume.specs.SoundVolume.{has_rising_ids}
-use Rattle.afp_volume.specs.VolumeState.{Row}
+use Rattle.volume_spec.specs.SoundVolume.{has_rising_ids}
+use Rattle.volume_spec.specs.VolumeState.{Row}
 use Rattle.node_rows.proofs.Halving.{partition-place, numbers-partition}
 use Rattle.node_rows.proofs.search.node_place.Goals as goal
 

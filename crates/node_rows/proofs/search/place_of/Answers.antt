@@ -1,6 +1,6 @@
 use Rattle.std.proofs.Common.{◌∙◌, ap, ◌∷◌, take}
 use Rattle.std.specs.List.{list_any}
-use Rattle.afp_volume.specs.VolumeState.{Row}
+use Rattle.volume_spec.specs.VolumeState.{Row}
 use Rattle.node_rows.specs.Children.{child_of, child_order}
 use Rattle.node_rows.specs.lemma.Places.{is_child_at}
 use Rattle.node_rows.proofs.Leaving.{among, found-by-key}

@@ -1,6 +1,6 @@
 use Rattle.std.proofs.Common.{rules, arith, ◌≡◌, ◌∙◌, ℕ, suc, ◌+◌, ◌<◌, true, [], length, take, ap, sym, subst, slice_index_or}
 use Rattle.std.specs.List.{list_all}
-use Rattle.afp_volume.specs.TypedVolume.{are_bytes}
+use Rattle.volume_spec.specs.TypedVolume.{are_bytes}
 use Rattle.fork_bytes.specs.declared.block.Block.{Block}
 use Rattle.volume_keeper.proofs.ForkTyped.{all_next, has_bytes}
 use Rattle.volume_keeper.proofs.apply_fork.changes_in_range.Goals as goal

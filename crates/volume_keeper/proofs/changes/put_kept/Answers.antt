@@ -1,9 +1,9 @@
 use Rattle.std.proofs.Common.{◌≡◌, ◌∙◌, ◌++◌, List, map, sym, ap, subst, rules}
 use Rattle.std.specs.Prelude.{OnOk}
 use Rattle.afp_base.specs.declared.ids.NodeId.{NodeId}
-use Rattle.afp_volume.specs.VolumeState.{VolumeState}
-use Rattle.afp_volume.specs.SoundVolume.{IsSoundVolume}
-use Rattle.afp_volume.specs.DesktopLaws.{with_desktop}
+use Rattle.volume_spec.specs.VolumeState.{VolumeState}
+use Rattle.volume_spec.specs.SoundVolume.{IsSoundVolume}
+use Rattle.volume_spec.specs.DesktopLaws.{with_desktop}
 use Rattle.record_keeper.specs.declared.record.Change.{Change}
 use Rattle.volume_tree.specs.Planned.{planned}
 use Rattle.volume_tree.specs.TouchedNodes.{IsTouched}

@@ -1,11 +1,11 @@
 use Rattle.std.proofs.Common.{◌≡◌, ◌∙◌, ◌++◌, ◌∷◌, [], List, ap, subst, rules}
 use Rattle.std.specs.Prelude.{OnOk, Some, true, false, option_map}
-use Rattle.afp_volume.specs.Edits.{bare}
-use Rattle.afp_volume.specs.Walk.{row_at}
+use Rattle.volume_spec.specs.Edits.{bare}
+use Rattle.volume_spec.specs.Walk.{row_at}
 use Rattle.record_keeper.specs.declared.record.Change.{Change}
 use Rattle.record_keeper.specs.declared.record.Change.TheVariants.{Put}
 use Rattle.record_keeper.specs.declared.record.Record.{Record}
-use Rattle.volume_records.specs.Records.{node_record}
+use Rattle.volume_keeper_records.specs.Records.{node_record}
 use Rattle.volume_tree.specs.Planned.{planned}
 use Rattle.volume_tree.specs.Shown.{fork_at}
 use Rattle.volume_keeper.specs.lemma.Steps.{length_of, sized}

@@ -1,9 +1,9 @@
 use Rattle.std.proofs.Common.{◌≡◌, ◌∙◌, ◌++◌, List, map, sym, ap, subst, rules}
 use Rattle.std.specs.Prelude.{OnOk}
 use Rattle.std.specs.List.{filter}
-use Rattle.afp_volume.specs.DesktopLaws.{with_desktop}
+use Rattle.volume_spec.specs.DesktopLaws.{with_desktop}
 use Rattle.record_keeper.specs.declared.record.Change.{Change}
-use Rattle.volume_records.specs.Image.{rows_of, tables_of}
+use Rattle.volume_keeper_records.specs.Image.{rows_of, tables_of}
 use Rattle.volume_keeper.specs.Changes.{gone_records, is_of, removal_of}
 use Rattle.volume_keeper.specs.lemma.Steps.{all_taken}
 use Rattle.volume_keeper.proofs.GoneRecords.{all_are_taken}

@@ -1,16 +1,16 @@
 use Rattle.std.proofs.Common.{rules, ◌≡◌, ◌∙◌, ◌+◌, ◌≤◌, ◌++◌, Bool, List, map, length, ap, sym, subst, false, true, append_assoc}
 use Rattle.std.specs.Prelude.{Some, option_map}
-use Rattle.afp_volume.specs.DesktopLaws.{with_desktop}
-use Rattle.afp_volume.specs.Edits.{bare}
-use Rattle.afp_volume.specs.ForkEffect.{fork_effect, fork_of}
+use Rattle.volume_spec.specs.DesktopLaws.{with_desktop}
+use Rattle.volume_spec.specs.Edits.{bare}
+use Rattle.volume_spec.specs.ForkEffect.{fork_effect, fork_of}
 use Rattle.afp_base.specs.Limits.{most_fork_bytes}
-use Rattle.afp_volume.specs.SoundVolume.{fork_bytes}
-use Rattle.afp_volume.specs.VolumeState.{VolumeState}
-use Rattle.afp_volume.specs.Walk.{row_at}
+use Rattle.volume_spec.specs.SoundVolume.{fork_bytes}
+use Rattle.volume_spec.specs.VolumeState.{VolumeState}
+use Rattle.volume_spec.specs.Walk.{row_at}
 use Rattle.record_keeper.specs.declared.record.Change.{Change}
 use Rattle.record_keeper.specs.Records.{changed}
-use Rattle.volume_records.specs.declared.rows.TableRow.TheVariants as row
-use Rattle.volume_records.specs.Image.{kept_image, tables_of}
+use Rattle.volume_keeper_records.specs.declared.rows.TableRow.TheVariants as row
+use Rattle.volume_keeper_records.specs.Image.{kept_image, tables_of}
 use Rattle.volume_tree.specs.Shown.{fork_at}
 use Rattle.volume_keeper.specs.ForkChanges.{block_change, fork_changes_of, put_where_other}
 use Rattle.volume_keeper.specs.lemma.ForkChanges.{modified_head, node_changes}

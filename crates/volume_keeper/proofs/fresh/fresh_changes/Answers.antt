@@ -1,6 +1,6 @@
 use Rattle.std.proofs.Common.{◌∙◌, ◌++◌, ◌∷◌, [], ap}
 use Rattle.record_keeper.specs.declared.record.Change.TheVariants.{Put}
-use Rattle.volume_records.specs.Records.{head_record, node_record}
+use Rattle.volume_keeper_records.specs.Records.{head_record, node_record}
 use Rattle.volume_keeper.proofs.fresh.fresh_changes.Goals as goal
 
 pub returns : goal.returns

@@ -1,15 +1,15 @@
 use Rattle.std.proofs.Common.{◌≡◌, ◌∙◌, ◌≤◌, ℕ, Bool, false, List, ap, sym, subst, length}
 use Rattle.std.specs.Prelude.{Option, Some, IfSome}
-use Rattle.afp_volume.specs.ForkEffect.{fork_effect, fork_of, would_pass}
-use Rattle.afp_volume.specs.SoundVolume.{IsSoundVolume}
-use Rattle.afp_volume.specs.VolumeState.{Row, VolumeState}
-use Rattle.afp_volume.specs.Walk.{row_at}
+use Rattle.volume_spec.specs.ForkEffect.{fork_effect, fork_of, would_pass}
+use Rattle.volume_spec.specs.SoundVolume.{IsSoundVolume}
+use Rattle.volume_spec.specs.VolumeState.{Row, VolumeState}
+use Rattle.volume_spec.specs.Walk.{row_at}
 use Rattle.record_keeper.specs.declared.record.Change.{Change}
 use Rattle.record_keeper.specs.declared.record.Record.{Record}
 use Rattle.record_keeper.specs.Records.{changed}
 use Rattle.record_keeper.specs.Reading.{RisesByKey}
 use Rattle.std.specs.FinMap.{from_sorted}
-use Rattle.volume_records.specs.Image.{entries_of, kept_image}
+use Rattle.volume_keeper_records.specs.Image.{entries_of, kept_image}
 use Rattle.volume_keeper.specs.ForkChanges.{fork_changes_of}
 use Rattle.volume_keeper.specs.Laws.{IsExact}
 use Rattle.volume_keeper.proofs.ExactChanges.{keys_rise, named_differ, others_same}

@@ -1,7 +1,7 @@
 use Rattle.std.proofs.Common.{◌≡◌, ◌∙◌, ap, rules}
-use Rattle.afp_volume.specs.VolumeState.{Icon}
-use Rattle.afp_volume.specs.SoundVolume.{icon_key}
-use Rattle.afp_volume.specs.Desktop.{icon_under, with_icon}
+use Rattle.volume_spec.specs.VolumeState.{Icon}
+use Rattle.volume_spec.specs.SoundVolume.{icon_key}
+use Rattle.volume_spec.specs.Desktop.{icon_under, with_icon}
 use Rattle.volume_keeper.proofs.rebuild.put_icon.Goals as goal
 
 pub returns-in-Ok-clause-icons : goal.returns-in-Ok-clause-icons

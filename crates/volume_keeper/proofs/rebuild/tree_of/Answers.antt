@@ -1,8 +1,8 @@
 use Rattle.std.proofs.Common.{◌∙◌, List, sym, ap, subst}
 use Rattle.std.specs.Prelude.{flat_map}
-use Rattle.afp_volume.specs.SoundVolume.{IsSoundVolume}
-use Rattle.volume_records.specs.declared.rows.TableRow.{TableRow}
-use Rattle.volume_records.specs.Image.{rows_of, tables_of}
+use Rattle.volume_spec.specs.SoundVolume.{IsSoundVolume}
+use Rattle.volume_keeper_records.specs.declared.rows.TableRow.{TableRow}
+use Rattle.volume_keeper_records.specs.Image.{rows_of, tables_of}
 use Rattle.volume_tree.specs.Restored.{restored}
 use Rattle.volume_keeper.specs.lemma.Rebuilt.{FitRows, nodes_said, with_blocks}
 use Rattle.volume_keeper.proofs.Zeroed.{restored_is, start_sound}

@@ -1,5 +1,5 @@
 use Rattle.std.proofs.Common.{◌∙◌, sym}
-use Rattle.afp_volume.specs.Edits.{modified_at}
+use Rattle.volume_spec.specs.Edits.{modified_at}
 use Rattle.volume_tree.proofs.ModifiedDates.{changed-missing, modified-same}
 use Rattle.volume_tree.proofs.apply.date_node.Goals as goal
 

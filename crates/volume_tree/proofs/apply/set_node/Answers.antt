@@ -1,5 +1,5 @@
 use Rattle.std.proofs.Common.{◌∙◌, sym}
-use Rattle.afp_volume.specs.SetFileDirParms.{with_settings}
+use Rattle.volume_spec.specs.SetFileDirParms.{with_settings}
 use Rattle.volume_tree.proofs.ModifiedDates.{changed-missing, set-same}
 use Rattle.volume_tree.proofs.apply.set_node.Goals as goal
 

@@ -1,7 +1,7 @@
 use Rattle.std.proofs.Common.{◌∙◌, ◌==◌, Bool, sym}
 use Rattle.afp_base.specs.declared.ids.NodeId.{NodeId}
-use Rattle.afp_volume.proofs.TestedLists.{any-map}
-use Rattle.afp_volume.specs.Shared.{Opened, is_busy}
+use Rattle.volume_spec.proofs.TestedLists.{any-map}
+use Rattle.volume_spec.specs.Shared.{Opened, is_busy}
 use Rattle.volume_tree.proofs.asked.is_busy.Goals as goal
 
 pub returns : goal.returns

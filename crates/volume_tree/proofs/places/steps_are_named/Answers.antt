@@ -1,7 +1,7 @@
 use Rattle.std.proofs.Common.{◌≡◌, true, subst, arith}
 use Rattle.std.specs.List.{list_all}
 use Rattle.std.proofs.lemmas.List.{take_all}
-use Rattle.afp_volume.specs.Walk.{is_named_step}
+use Rattle.volume_spec.specs.Walk.{is_named_step}
 use Rattle.volume_tree.proofs.Paths.{all-next}
 use Rattle.volume_tree.proofs.places.steps_are_named.Goals as goal
 

@@ -1,5 +1,5 @@
 use Rattle.std.proofs.Common.{arith}
-use Rattle.afp_volume.specs.SetFileDirParms.{settings_in}
+use Rattle.volume_spec.specs.SetFileDirParms.{settings_in}
 use Rattle.volume_tree.proofs.Sums.{all-asked, lower-0, lower-2, lower-3, lower-4, lower-5, long-enough}
 use Rattle.volume_tree.proofs.tails.settings_in.Goals as goal
 

@@ -4,9 +4,9 @@ use Rattle.afp_serial.specs.Household.{Household}
 use Rattle.afp_serial.specs.HouseFault.{house_fault}
 use Rattle.afp_serial.specs.Ranges.{is_typed_house}
 use Rattle.afp_serial.specs.Sound.{IsSound}
-use Rattle.core_keepers.specs.Loads.{LoadEach}
-use Rattle.core_state.specs.KeptWorld.{KeptWorld, volumes_of}
-use Rattle.core_keepers.proofs.LoadLemmas.{loaded-serve}
+use Rattle.afp_core_keepers.specs.Loads.{LoadEach}
+use Rattle.afp_core_state.specs.KeptWorld.{KeptWorld, volumes_of}
+use Rattle.afp_core_keepers.proofs.LoadLemmas.{loaded-serve}
 use Rattle.afp_core.proofs.turn.Core.new.Goals as goal
 
 pub invariant_of-result : goal.invariant_of-result

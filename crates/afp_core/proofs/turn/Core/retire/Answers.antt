@@ -1,5 +1,5 @@
 use Rattle.std.proofs.Common.{ap}
-use Rattle.core_keepers.proofs.LoadLemmas.{few-volumes}
+use Rattle.afp_core_keepers.proofs.LoadLemmas.{few-volumes}
 use Rattle.afp_core.proofs.turn.Core.retire.Goals as goal
 
 pub settle_all-requires : goal.settle_all-requires

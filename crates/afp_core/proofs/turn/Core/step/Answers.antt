@@ -5,9 +5,9 @@ use Rattle.afp_serial.specs.History.{entry, is_opened}
 use Rattle.afp_serial.specs.Sound.{IsSound}
 use Rattle.afp_serial.specs.declared.ask.Told.{Told}
 use Rattle.afp_core.specs.ServerState.{ServerState}
-use Rattle.core_asks.specs.Asks.{kept_at}
+use Rattle.afp_core_dispatch.specs.Asks.{kept_at}
 use Rattle.afp_core.specs.lemma.ServerState.{kept_of}
-use Rattle.core_asks.specs.Asks.{RunsAsk}
+use Rattle.afp_core_dispatch.specs.Asks.{RunsAsk}
 use Rattle.afp_core.proofs.TurnLemmas.{legal-entry, not-opened, ready, turned}
 use Rattle.afp_core.proofs.turn.Core.step.Goals as goal
 use Rattle.afp_core.proofs.turn.Core.step.Goals.{in-Opened, in_default}

@@ -1,6 +1,6 @@
 use Rattle.std.proofs.Common.{sym, ap, ◌∙◌, refl}
 use Rattle.std.specs.Prelude.{is_some}
-use Rattle.capture_server.proofs.RunningLemmas.{ok_with}
+use Rattle.capture_log_server.proofs.RunningLemmas.{ok_with}
 use Rattle.capture_log.specs.lemma.Taking.{HeldCapture}
 use Rattle.capture_log.proofs.TakingLemmas.{event_taken, served}
 use Rattle.capture_log.proofs.capture.Capture.take_event.Goals as goal

@@ -4,7 +4,7 @@ use Rattle.capture_log.specs.lemma.Gathering.{Holds, Gathers, EndsLine}
 use Rattle.capture_log.specs.Judged.{JudgedAt}
 use Rattle.capture_log.specs.Reading.{lines_in}
 use Rattle.capture_log.specs.declared.replay_end.ReplayEnd.{ReplayEnd}
-use Rattle.capture_server.proofs.RunningLemmas.{ok_with}
+use Rattle.capture_log_server.proofs.RunningLemmas.{ok_with}
 use Rattle.capture_log.proofs.reader.Reader.feed.Goals as goal
 
 pub end_line-requires-clause-is : goal.end_line-requires-clause-is

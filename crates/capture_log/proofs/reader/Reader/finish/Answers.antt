@@ -3,7 +3,7 @@ use Rattle.capture_log.specs.lemma.Gathering.{ReaderState}
 use Rattle.capture_log.specs.Judged.{DecidesEnd}
 use Rattle.capture_log.specs.lemma.Taking.{IsCapture}
 use Rattle.capture_log.proofs.GatheringLemmas.{none-held, ended-empty}
-use Rattle.capture_server.proofs.RunningLemmas.{ok_with}
+use Rattle.capture_log_server.proofs.RunningLemmas.{ok_with}
 use Rattle.capture_log.proofs.reader.Reader.finish.Goals as goal
 
 pub returns-then-as_slice-eq0 : goal.returns-then-as_slice-eq0

@@ -4,7 +4,7 @@ use Rattle.capture_log.specs.lemma.Gathering.{ReaderState}
 use Rattle.capture_log.specs.lemma.Taking.{IsCapture, TakesRawLine}
 use Rattle.capture_log.specs.declared.replay_end.ReplayEnd.{ReplayEnd}
 use Rattle.capture_log.proofs.GatheringLemmas.{some-held, ended-last, ended-line}
-use Rattle.capture_server.proofs.RunningLemmas.{ok_with}
+use Rattle.capture_log_server.proofs.RunningLemmas.{ok_with}
 use Rattle.capture_log.proofs.reader.Reader.finish_line.Goals as goal
 
 pub returns-in-Some : goal.returns-in-Some

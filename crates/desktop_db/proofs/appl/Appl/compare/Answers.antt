@@ -1,6 +1,6 @@
 use Rattle.std.proofs.Common.{◌≡◌, ◌∙◌, ap, sym, length}
 use Rattle.std.specs.Ordering.{nat_cmp, ordering_then}
-use Rattle.afp_volume.specs.VolumeState.{Appl}
+use Rattle.volume_spec.specs.VolumeState.{Appl}
 use Rattle.desktop_db.proofs.KeyBytes.{compare-pairs}
 use Rattle.desktop_db.proofs.appl.Appl.compare.Goals as goal
 

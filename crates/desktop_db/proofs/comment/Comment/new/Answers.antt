@@ -1,7 +1,7 @@
 use Rattle.std.proofs.Common.{◌∙◌, ap, length, arith}
 use Rattle.std.proofs.lemmas.Bool.{ne_eqb}
-use Rattle.afp_volume.proofs.Desktops.{cut-formed}
-use Rattle.afp_volume.specs.SoundVolume.{is_comment}
+use Rattle.volume_spec.proofs.Desktops.{cut-formed}
+use Rattle.volume_spec.specs.SoundVolume.{is_comment}
 use Rattle.desktop_db.proofs.comment.Comment.new.Goals as goal
 
 pub returns-clause-formed : goal.returns-clause-formed

@@ -1,5 +1,5 @@
 use Rattle.std.proofs.Common.{◌∙◌, ap, sym}
-use Rattle.afp_volume.specs.SoundVolume.{icon_key}
+use Rattle.volume_spec.specs.SoundVolume.{icon_key}
 use Rattle.desktop_db.proofs.KeyBytes.{nine}
 use Rattle.desktop_db.proofs.icon.Icon.key.Goals as goal
 

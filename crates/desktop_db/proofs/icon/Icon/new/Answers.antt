@@ -1,6 +1,6 @@
 use Rattle.std.proofs.Common.{◌∙◌, ap, take, drop}
 use Rattle.std.specs.Prelude.{slice_index}
-use Rattle.afp_volume.specs.SoundVolume.{is_icon}
+use Rattle.volume_spec.specs.SoundVolume.{is_icon}
 use Rattle.desktop_db.proofs.KeyBytes.{icon-formed}
 use Rattle.desktop_db.proofs.icon.Icon.new.Goals as goal
 

@@ -1,7 +1,7 @@
 use Rattle.std.proofs.Common.{◌∙◌, ap, ◌∷◌}
 use Rattle.std.specs.Prelude.{option_map, bytes_eq}
 use Rattle.std.specs.List.{find}
-use Rattle.afp_volume.specs.Walk.{child_by_key}
+use Rattle.volume_spec.specs.Walk.{child_by_key}
 use Rattle.node_rows.proofs.Asked.{child-is, answered-child}
 use Rattle.node_rows.specs.Children.{child_order, node_id}
 use Rattle.node_rows.specs.Kept.{RowsValue}

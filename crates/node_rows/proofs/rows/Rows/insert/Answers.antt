@@ -1,9 +1,9 @@
 use Rattle.std.proofs.Common.{◌≡◌, ◌∙◌, ap, sym, subst, ◌+◌, ◌<◌, ◌≤◌, List, [], ◌∷◌, ◌++◌, None, arith}
 use Rattle.std.specs.Prelude.{nat_lt}
 use Rattle.std.specs.List.{list_all}
-use Rattle.afp_volume.specs.SoundVolume.{last_next_id}
-use Rattle.afp_volume.specs.VolumeState.{Row}
-use Rattle.afp_volume.specs.Walk.{child_by_key, row_at}
+use Rattle.volume_spec.specs.SoundVolume.{last_next_id}
+use Rattle.volume_spec.specs.VolumeState.{Row}
+use Rattle.volume_spec.specs.Walk.{child_by_key, row_at}
 use Rattle.node_rows.specs.Kept.{RowsValue, admitted}
 use Rattle.node_rows.specs.lemma.Kept.{AreKept}
 use Rattle.node_rows.specs.declared.child.Child.{Child}

@@ -1,6 +1,6 @@
 use Rattle.std.proofs.Common.{◌≡◌, ◌∙◌, ap, sym, subst, List, [], Some, refl, true}
-use Rattle.afp_volume.specs.Edits.{with_changed}
-use Rattle.afp_volume.specs.VolumeState.{Row, new_row}
+use Rattle.volume_spec.specs.Edits.{with_changed}
+use Rattle.volume_spec.specs.VolumeState.{Row, new_row}
 use Rattle.node_rows.specs.Kept.{RowsValue, marked}
 use Rattle.node_rows.specs.lemma.Kept.{AreKept}
 use Rattle.node_rows.specs.lemma.Places.{IsPlaceOf}

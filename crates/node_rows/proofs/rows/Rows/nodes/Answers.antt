@@ -1,6 +1,6 @@
 use Rattle.std.proofs.Common.{◌∙◌, ap, sym}
 use Rattle.afp_base.specs.Apart.{are_apart}
-use Rattle.afp_volume.specs.SoundVolume.{are_named_alike}
+use Rattle.volume_spec.specs.SoundVolume.{are_named_alike}
 use Rattle.node_rows.proofs.Asked.{names-apart}
 use Rattle.node_rows.specs.Kept.{RowsValue}
 use Rattle.node_rows.proofs.rows.Rows.nodes.Goals as goal

@@ -1,8 +1,8 @@
 use Rattle.std.proofs.Common.{◌∙◌, ap}
 use Rattle.std.specs.Prelude.{option_map, slice_get}
 use Rattle.std.specs.List.{filter}
-use Rattle.afp_volume.specs.Listing.{listed}
-use Rattle.afp_volume.specs.VolumeState.{Row}
+use Rattle.volume_spec.specs.Listing.{listed}
+use Rattle.volume_spec.specs.VolumeState.{Row}
 use Rattle.node_rows.proofs.Asked.{nth-is, answered-nth}
 use Rattle.node_rows.proofs.Siblings.{is_of}
 use Rattle.node_rows.specs.Children.{node_id}

@@ -1,5 +1,5 @@
 use Rattle.std.proofs.Common.{◌∙◌, ap, subst, map, List}
-use Rattle.afp_volume.specs.VolumeState.{Row}
+use Rattle.volume_spec.specs.VolumeState.{Row}
 use Rattle.std.specs.List.Sorted.{IsPermutation}
 use Rattle.node_rows.proofs.SortedOnce.{keeps-sorted}
 use Rattle.node_rows.specs.Children.{child_of}

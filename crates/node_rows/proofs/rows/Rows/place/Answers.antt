@@ -1,9 +1,9 @@
 use Rattle.std.proofs.Common.{◌≡◌, ◌∙◌, ap, sym, subst, refl, List, Some, false}
 use Rattle.std.specs.List.{list_all, filter}
-use Rattle.afp_volume.proofs.Rising.{keys-filter}
-use Rattle.afp_volume.specs.Edits.{with_changed, without, at_place, is_taken}
-use Rattle.afp_volume.specs.Order.{rises, put_in}
-use Rattle.afp_volume.specs.VolumeState.{Row}
+use Rattle.volume_spec.proofs.Rising.{keys-filter}
+use Rattle.volume_spec.specs.Edits.{with_changed, without, at_place, is_taken}
+use Rattle.volume_spec.specs.Order.{rises, put_in}
+use Rattle.volume_spec.specs.VolumeState.{Row}
 use Rattle.node_rows.specs.Children.{child_order, node_id}
 use Rattle.node_rows.specs.Kept.{RowsValue}
 use Rattle.node_rows.specs.lemma.Kept.{AreKept}

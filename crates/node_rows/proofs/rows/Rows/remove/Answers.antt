@@ -1,7 +1,7 @@
 use Rattle.std.proofs.Common.{◌≡◌, ◌∙◌, ap, sym, subst, List, Some}
 use Rattle.std.specs.List.{filter}
-use Rattle.afp_volume.specs.Edits.{without}
-use Rattle.afp_volume.specs.VolumeState.{Row}
+use Rattle.volume_spec.specs.Edits.{without}
+use Rattle.volume_spec.specs.VolumeState.{Row}
 use Rattle.node_rows.specs.Kept.{RowsValue}
 use Rattle.node_rows.specs.lemma.Kept.{AreKept}
 use Rattle.node_rows.specs.lemma.Places.{IsPlaceOf, is_other}

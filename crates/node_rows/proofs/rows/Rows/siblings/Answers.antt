@@ -1,6 +1,6 @@
 use Rattle.std.proofs.Common.{◌∙◌, ap, map}
 use Rattle.std.specs.List.{filter}
-use Rattle.afp_volume.specs.Listing.{listed}
+use Rattle.volume_spec.specs.Listing.{listed}
 use Rattle.node_rows.proofs.Asked.{siblings-are}
 use Rattle.node_rows.proofs.Siblings.{is_of}
 use Rattle.node_rows.specs.Children.{child_of}

@@ -1,6 +1,6 @@
 use Rattle.std.proofs.Common.{◌≡◌, sym, subst, rules}
-use Rattle.afp_volume.specs.DesktopLaws.{with_desktop}
-use Rattle.afp_volume.specs.VolumeState.{VolumeState}
+use Rattle.volume_spec.specs.DesktopLaws.{with_desktop}
+use Rattle.volume_spec.specs.VolumeState.{VolumeState}
 use Rattle.volume_keeper.specs.lemma.Whole.{IsHeld}
 use Rattle.volume_keeper.proofs.WholePlans.{plan_of_tree, planned_whole}
 use Rattle.volume_keeper.proofs.held.Held.apply.Goals as goal

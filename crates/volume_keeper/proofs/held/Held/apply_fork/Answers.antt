@@ -1,6 +1,6 @@
 use Rattle.std.proofs.Common.{◌≡◌, ◌≤◌, ℕ, sym, subst, rules}
-use Rattle.afp_volume.specs.DesktopLaws.{with_desktop}
-use Rattle.afp_volume.specs.VolumeState.{VolumeState}
+use Rattle.volume_spec.specs.DesktopLaws.{with_desktop}
+use Rattle.volume_spec.specs.VolumeState.{VolumeState}
 use Rattle.volume_keeper.specs.lemma.Whole.{IsHeld}
 use Rattle.volume_keeper.proofs.ForkTyped.{fork_held, tree_change, whole_effect}
 use Rattle.volume_keeper.proofs.held.Held.apply_fork.Goals as goal

@@ -1,6 +1,6 @@
 use Rattle.std.proofs.Common.{◌≡◌, ◌≤◌, ℕ, subst, rules}
 use Rattle.std.specs.Prelude.{IfOk}
-use Rattle.afp_volume.specs.DesktopLaws.{with_desktop}
+use Rattle.volume_spec.specs.DesktopLaws.{with_desktop}
 use Rattle.volume_tree.specs.Planned.{planned}
 use Rattle.volume_tree.specs.Requests.{tree_call}
 use Rattle.volume_tree.specs.Shown.{opened}

@@ -1,6 +1,6 @@
 use Rattle.std.proofs.Common.{◌∙◌, ap, []}
-use Rattle.afp_volume.specs.SetFileDirParms.{with_settings}
-use Rattle.afp_volume.specs.VolumeState.{Row}
+use Rattle.volume_spec.specs.SetFileDirParms.{with_settings}
+use Rattle.volume_spec.specs.VolumeState.{Row}
 use Rattle.node_rows.specs.declared.node.Marks.{Marks}
 use Rattle.volume_tree.proofs.after.NodeAfter.with.Goals as goal
 

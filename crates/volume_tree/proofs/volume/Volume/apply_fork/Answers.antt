@@ -2,8 +2,8 @@ use Rattle.std.proofs.Common.{◌≡◌, ◌≤◌, ◌∙◌, ◌+◌, ◌-◌,
 use Rattle.std.specs.Prelude.{pos, if◌then◌else◌}
 use Rattle.fork_bytes.specs.Plan.{IsForkPlan as IsForkPlan}
 use Rattle.sorted_map.specs.Entries.{at}
-use Rattle.afp_volume.specs.ForkEffect.{fork_effect}
-use Rattle.afp_volume.specs.SoundVolume.{fork_bytes}
+use Rattle.volume_spec.specs.ForkEffect.{fork_effect}
+use Rattle.volume_spec.specs.SoundVolume.{fork_bytes}
 use Rattle.volume_tree.proofs.Writing.{Written, written-state, written-kept, file-there, before-within}
 use Rattle.volume_tree.specs.ForkEffect.{IsForkChange}
 use Rattle.volume_tree.specs.lemma.ForkEffect.{kept_fork}

@@ -1,5 +1,5 @@
 use Rattle.std.proofs.Common.{◌∙◌, ap, sym}
-use Rattle.afp_volume.specs.Walk.{child_by_key}
+use Rattle.volume_spec.specs.Walk.{child_by_key}
 use Rattle.volume_tree.proofs.Showing.{child-shown}
 use Rattle.volume_tree.proofs.Keeping.{found-as}
 use Rattle.volume_tree.specs.Shown.{TreeValue}

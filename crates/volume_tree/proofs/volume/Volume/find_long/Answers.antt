@@ -1,5 +1,5 @@
 use Rattle.std.proofs.Common.{◌∙◌, ap, sym, subst, ◌+◌, ◌≤◌, length, arith}
-use Rattle.afp_volume.specs.Listing.{listed}
+use Rattle.volume_spec.specs.Listing.{listed}
 use Rattle.node_rows.specs.Children.{child_of}
 use Rattle.std.proofs.lemmas.List.{length-map}
 use Rattle.node_rows.specs.declared.child.Child.{Child}

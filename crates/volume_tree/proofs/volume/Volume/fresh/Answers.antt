@@ -1,5 +1,5 @@
 use Rattle.std.proofs.Common.{◌∙◌, ap, subst, sym, true}
-use Rattle.afp_volume.specs.VolumeState.{new_row}
+use Rattle.volume_spec.specs.VolumeState.{new_row}
 use Rattle.volume_tree.specs.Kept.{state_of}
 use Rattle.volume_tree.specs.lemma.Kept.{IsKeptVolume}
 use Rattle.volume_tree.proofs.Keeping.{fresh-kept, fresh-state}

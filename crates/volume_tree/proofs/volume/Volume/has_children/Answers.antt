@@ -1,5 +1,5 @@
 use Rattle.std.proofs.Common.{◌∙◌, ap}
-use Rattle.afp_volume.specs.Edits.{has_children}
+use Rattle.volume_spec.specs.Edits.{has_children}
 use Rattle.volume_tree.proofs.Keeping.{children-are}
 use Rattle.volume_tree.specs.Shown.{TreeValue}
 use Rattle.volume_tree.proofs.volume.Volume.has_children.Goals as goal

@@ -1,5 +1,5 @@
 use Rattle.std.proofs.Common.{◌≡◌, ◌-◌, length}
-use Rattle.afp_volume.specs.Edits.{is_below}
+use Rattle.volume_spec.specs.Edits.{is_below}
 use Rattle.volume_tree.proofs.volume.Volume.is_below.Given as goal
 
 -- the answer is that from here, in the steps that are left

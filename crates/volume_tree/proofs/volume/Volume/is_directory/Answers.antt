@@ -1,6 +1,6 @@
 use Rattle.std.proofs.Common.{◌∙◌, ap, sym}
 use Rattle.std.specs.Option.{option_copied}
-use Rattle.afp_volume.specs.VolumeState.{Row}
+use Rattle.volume_spec.specs.VolumeState.{Row}
 use Rattle.volume_tree.proofs.Showing.{said-of, said-of-none}
 use Rattle.volume_tree.proofs.Keeping.{sound-is}
 use Rattle.volume_tree.specs.Shown.{TreeValue}

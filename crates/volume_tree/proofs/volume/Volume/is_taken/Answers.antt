@@ -1,7 +1,7 @@
 use Rattle.std.proofs.Common.{◌∙◌, ap, sym}
-use Rattle.afp_volume.proofs.ByIndex.{taken-by-key}
-use Rattle.afp_volume.specs.Edits.{is_another}
-use Rattle.afp_volume.specs.Walk.{child_by_key}
+use Rattle.volume_spec.proofs.ByIndex.{taken-by-key}
+use Rattle.volume_spec.specs.Edits.{is_another}
+use Rattle.volume_spec.specs.Walk.{child_by_key}
 use Rattle.volume_tree.proofs.Showing.{names-differ}
 use Rattle.volume_tree.proofs.volume.Volume.is_taken.Goals as goal
 

@@ -1,8 +1,8 @@
 use Rattle.std.proofs.Common.{◌∙◌, ap, sym}
 use Rattle.std.specs.Prelude.{option_map}
 use Rattle.std.specs.Option.{option_copied}
-use Rattle.afp_volume.specs.Edits.{bare}
-use Rattle.afp_volume.specs.Walk.{row_at}
+use Rattle.volume_spec.specs.Edits.{bare}
+use Rattle.volume_spec.specs.Walk.{row_at}
 use Rattle.volume_tree.proofs.Showing.{node-shown, no-node-shown}
 use Rattle.volume_tree.specs.Shown.{TreeValue}
 use Rattle.volume_tree.proofs.volume.Volume.node.Goals as goal

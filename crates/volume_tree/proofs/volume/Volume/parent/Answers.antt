@@ -1,7 +1,7 @@
 use Rattle.std.proofs.Common.{◌∙◌, ap, sym, Some}
 use Rattle.std.specs.Option.{option_copied}
-use Rattle.afp_volume.specs.VolumeState.{Row}
-use Rattle.afp_volume.specs.Walk.{parent_at}
+use Rattle.volume_spec.specs.VolumeState.{Row}
+use Rattle.volume_spec.specs.Walk.{parent_at}
 use Rattle.volume_tree.proofs.Showing.{parent-shown, parent-found, no-parent-found}
 use Rattle.volume_tree.specs.Shown.{TreeValue}
 use Rattle.volume_tree.proofs.volume.Volume.parent.Goals as goal

@@ -1,11 +1,11 @@
 use Rattle.std.proofs.Common.{◌≡◌, ◌∙◌, ap, sym, subst, None, rules}
-use Rattle.afp_volume.specs.CreateFile.{create_file_refusal}
-use Rattle.afp_volume.specs.Walk.{child_by_key}
+use Rattle.volume_spec.specs.CreateFile.{create_file_refusal}
+use Rattle.volume_spec.specs.Walk.{child_by_key}
 use Rattle.volume_tree.proofs.Creating.{create-file-planned, create-file-plan, child-answered}
 use Rattle.volume_tree.specs.Planned.{PlanState, IsPlan, planned}
 use Rattle.volume_tree.specs.Shown.{opened}
 use Rattle.volume_tree.proofs.volume.Volume.plan_create_file.Goals as goal
-use Rattle.afp_volume.specs.DesktopLaws.{with_desktop}
+use Rattle.volume_spec.specs.DesktopLaws.{with_desktop}
 
 pub returns-in-Ok-plan_new-clause-effect : goal.returns-in-Ok-plan_new-clause-effect
 returns-in-Ok-plan_new-clause-effect c =

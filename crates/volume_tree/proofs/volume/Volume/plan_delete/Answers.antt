@@ -1,7 +1,7 @@
 use Rattle.volume_tree.specs.Shown.{opened}
 use Rattle.volume_tree.proofs.Deleting.{delete-planned, delete-plan}
 use Rattle.volume_tree.proofs.volume.Volume.plan_delete.Goals as goal
-use Rattle.afp_volume.specs.DesktopLaws.{with_desktop}
+use Rattle.volume_spec.specs.DesktopLaws.{with_desktop}
 
 pub returns-clause-effect : goal.returns-clause-effect
 returns-clause-effect c = delete-planned c.args.self.now.state c.args.now c.args.dir.0 c.args.path.now c.in-Ok.id c.directory.result c.in-Ok.ensures.found c.directory.ensures

@@ -1,13 +1,13 @@
 use Rattle.std.proofs.Common.{◌≡◌, ◌∙◌, ap, sym, subst, None, false, rules}
 use Rattle.std.specs.Prelude.{Ok}
-use Rattle.afp_volume.specs.Shared.{name_of}
-use Rattle.afp_volume.specs.Edits.{is_taken}
-use Rattle.afp_volume.specs.MoveAndRename.{move_refusal}
-use Rattle.afp_volume.specs.Walk.{one_down_or}
+use Rattle.volume_spec.specs.Shared.{name_of}
+use Rattle.volume_spec.specs.Edits.{is_taken}
+use Rattle.volume_spec.specs.MoveAndRename.{move_refusal}
+use Rattle.volume_spec.specs.Walk.{one_down_or}
 use Rattle.volume_tree.proofs.Placing.{move-planned, move-plan}
 use Rattle.volume_tree.specs.Planned.{PlanState, IsPlan, planned}
 use Rattle.volume_tree.proofs.volume.Volume.plan_move_and_rename.Goals as goal
-use Rattle.afp_volume.specs.DesktopLaws.{with_desktop}
+use Rattle.volume_spec.specs.DesktopLaws.{with_desktop}
 
 pub returns-in-Ok-plan_place-clause-effect : goal.returns-in-Ok-plan_place-clause-effect
 returns-in-Ok-plan_place-clause-effect c =

@@ -1,10 +1,10 @@
 use Rattle.std.proofs.Common.{◌≡◌, ◌∙◌, ap, sym, subst, None, false, rules}
-use Rattle.afp_volume.specs.Edits.{is_taken}
-use Rattle.afp_volume.specs.Rename.{rename_refusal}
+use Rattle.volume_spec.specs.Edits.{is_taken}
+use Rattle.volume_spec.specs.Rename.{rename_refusal}
 use Rattle.volume_tree.proofs.Placing.{rename-planned, rename-plan}
 use Rattle.volume_tree.specs.Planned.{PlanState, IsPlan, planned}
 use Rattle.volume_tree.proofs.volume.Volume.plan_rename.Goals as goal
-use Rattle.afp_volume.specs.DesktopLaws.{with_desktop}
+use Rattle.volume_spec.specs.DesktopLaws.{with_desktop}
 use Rattle.volume_tree.proofs.Showing.{ids-differ}
 
 pub returns-in-Ok-plan_place-clause-effect : goal.returns-in-Ok-plan_place-clause-effect

@@ -1,9 +1,9 @@
 use Rattle.std.proofs.Common.{◌≡◌, ◌∙◌, ap, Some, None, rules}
-use Rattle.afp_volume.specs.SetFileDirParms.{Settings, set_dir_parms_refusal}
+use Rattle.volume_spec.specs.SetFileDirParms.{Settings, set_dir_parms_refusal}
 use Rattle.volume_tree.proofs.Setting.{set-planned, set-plan}
 use Rattle.volume_tree.specs.lemma.Planned.{plan_set}
 use Rattle.volume_tree.proofs.volume.Volume.plan_set_dir_parms.Goals as goal
-use Rattle.afp_volume.specs.DesktopLaws.{with_desktop}
+use Rattle.volume_spec.specs.DesktopLaws.{with_desktop}
 
 pub returns-clause-effect : goal.returns-clause-effect
 returns-clause-effect c =

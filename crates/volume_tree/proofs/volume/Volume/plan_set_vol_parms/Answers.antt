@@ -3,7 +3,7 @@ use Rattle.std.specs.Int.{w32, cast_signed}
 use Rattle.volume_tree.specs.lemma.Planned.{plan_set}
 use Rattle.volume_tree.proofs.Setting.{backup-planned, backup-plan}
 use Rattle.volume_tree.proofs.volume.Volume.plan_set_vol_parms.Goals as goal
-use Rattle.afp_volume.specs.DesktopLaws.{with_desktop}
+use Rattle.volume_spec.specs.DesktopLaws.{with_desktop}
 
 pub returns-clause-effect : goal.returns-clause-effect
 returns-clause-effect c = backup-planned c.args.self.now.state c.args.now c.args.tail.now c.plan_backup.result (c.plan_backup.ensures ∙ ap (λ number. plan_set c.args.now None (Some (cast_signed w32 number))) c.in-Ok.ensures.ok.1)

@@ -1,7 +1,7 @@
 use Rattle.std.proofs.Common.{◌∙◌, ap, take, subst}
 use Rattle.std.proofs.Math.Seq.{take-length}
 use Rattle.afp_base.specs.declared.code.Code.TheVariants.{ObjectNotFound}
-use Rattle.afp_volume.specs.Walk.{walk}
+use Rattle.volume_spec.specs.Walk.{walk}
 use Rattle.volume_tree.specs.Answered.{Answers}
 use Rattle.volume_tree.proofs.volume.Volume.resolve.Goals as goal
 

@@ -3,8 +3,8 @@ use Rattle.std.specs.Prelude.{nat_lt, sum_by}
 use Rattle.std.specs.List.{list_all}
 use Rattle.afp_base.specs.Apart.{are_apart}
 use Rattle.afp_base.specs.Limits.{most_fork_bytes}
-use Rattle.afp_volume.specs.SoundVolume.{are_named_alike, has_node, has_rising_ids}
-use Rattle.afp_volume.specs.VolumeState.{Row, root_id}
+use Rattle.volume_spec.specs.SoundVolume.{are_named_alike, has_node, has_rising_ids}
+use Rattle.volume_spec.specs.VolumeState.{Row, root_id}
 use Rattle.volume_tree.proofs.Restoring.{Restored, RestoreParts, all-short, restore-parts, restored-kept, restored-state}
 use Rattle.volume_tree.specs.lemma.Restored.{forks_in, has_short_forks, loaded_bytes}
 use Rattle.volume_tree.specs.declared.restore.LoadedNode.{LoadedNode}

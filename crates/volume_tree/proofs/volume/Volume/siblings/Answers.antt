@@ -1,5 +1,5 @@
 use Rattle.std.proofs.Common.{◌∙◌, ap, sym, map}
-use Rattle.afp_volume.specs.Listing.{listed}
+use Rattle.volume_spec.specs.Listing.{listed}
 use Rattle.node_rows.specs.Children.{child_of}
 use Rattle.volume_tree.proofs.Siblings.{siblings-shown}
 use Rattle.volume_tree.specs.Shown.{TreeValue}

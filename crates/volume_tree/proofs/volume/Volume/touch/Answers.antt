@@ -1,5 +1,5 @@
 use Rattle.std.proofs.Common.{◌∙◌, ap}
-use Rattle.afp_volume.specs.Edits.{changed_at}
+use Rattle.volume_spec.specs.Edits.{changed_at}
 use Rattle.volume_tree.proofs.Keeping.{touched-kept, touched-state}
 use Rattle.volume_tree.specs.Shown.{TreeValue}
 use Rattle.volume_tree.proofs.volume.Volume.touch.Goals as goal

@@ -1,6 +1,6 @@
 use Rattle.std.proofs.Common.{◌≡◌, ◌∙◌, ap, sym, subst, take, Some, None, arith}
 use Rattle.std.proofs.lemmas.List.{length-take-le}
-use Rattle.afp_volume.specs.Walk.{child, parent_at}
+use Rattle.volume_spec.specs.Walk.{child, parent_at}
 use Rattle.volume_tree.proofs.Steps.{step-in, goes-up, stops-up, goes-down, stops-down, stops-early, no-steps}
 use Rattle.volume_tree.proofs.volume.Volume.walk_steps.Goals as goal
 use Rattle.volume_tree.proofs.volume.Volume.walk_steps.Goals.{in-Up+in-Some, in-Down+in-Ok-Some}

@@ -1,5 +1,5 @@
 use Rattle.std.proofs.Common.{◌≡◌, take, drop}
-use Rattle.afp_volume.specs.Walk.{walk_from}
+use Rattle.volume_spec.specs.Walk.{walk_from}
 use Rattle.volume_tree.proofs.volume.Volume.walk_steps.Given as goal
 
 -- from here the steps that are left lead where all lead from the start

@@ -1,0 +1,65 @@
+use Rattle.std.proofs.Common.{◌≡◌, ◌∙◌, ap, of_z, rules, refl, sym, to_z, w32, w64}
+use Rattle.afp_base.specs.declared.code.Code.TheVariants.{CallNotSupported}
+use Rattle.afp_calls_grammar.specs.declared.call.Call.TheVariants.{Login, SetForkParms, Write, WriteExt}
+use Rattle.afp_serial.specs.Rows.{row}
+use Rattle.afp_core_volumes.proofs.CallRows.{create_file-changes, delete-changes, move_and_rename-changes, rename-changes, set_dir_parms-changes, set_file_dir_parms-changes, set_file_parms-changes, set_vol_parms-changes}
+use Rattle.afp_core_state.proofs.RowLemmas.{call-as, is_refused, row-as}
+use Rattle.afp_core_dispatch.proofs.call.row.Goals as goal
+
+pub returns-in-CopyFile : goal.returns-in-CopyFile
+unfolding row
+returns-in-CopyFile g c = λ s at. is_refused c.args.state.now _ s c.args.call.now CallNotSupported _ (search rules) c.refused.ensures refl
+
+pub returns-in-Login : goal.returns-in-Login
+returns-in-Login g c =
+    let version = sym c.as_slice.ensures in
+    let uam = sym c.as_slice-in-Login.ensures in
+    let tail = sym c.as_slice-in-Login-2.ensures in
+    row-as c.args.state.now _ c.args.session.0 _ _ _ (c.in-Login.is ∙ (λ i. Login (version i) (uam i) (tail i))) c.login.ensures
+
+pub returns-in-Logout : goal.returns-in-Logout
+returns-in-Logout g c = row-as c.args.state.now _ c.args.session.0 _ _ _ c.in-Logout.is c.logout.ensures
+
+pub returns-in-SetForkParms : goal.returns-in-SetForkParms
+returns-in-SetForkParms g c =
+    let x = c.in-SetForkParms in
+    call-as c.args.state.now _ c.args.session.0 _ _ _ (x.is ∙ ap (SetForkParms x.reference x.bits) (sym c.as_slice-in-SetForkParms.ensures)) c.set_fork_parms.ensures
+
+pub returns-in-Write : goal.returns-in-Write
+returns-in-Write g c =
+    let x = c.in-Write in
+    let offset : to_z w32 (of_z w32 x.offset) ≡ x.offset = search rules in
+    let piece = c.as_slice-in-Write.ensures in
+    call-as c.args.state.now _ c.args.session.0 _ _ _ (x.is ∙ (λ i. Write x.flag x.reference (sym offset i) x.count (sym piece i))) (c.write.ensures x.count)
+
+pub returns-in-WriteExt : goal.returns-in-WriteExt
+returns-in-WriteExt g c =
+    let x = c.in-WriteExt in
+    let offset : to_z w64 (of_z w64 x.offset) ≡ x.offset = search rules in
+    let count : to_z w64 (of_z w64 x.count) ≡ x.count = search rules in
+    let piece = c.as_slice-in-WriteExt.ensures in
+    call-as c.args.state.now _ c.args.session.0 _ _ _ (x.is ∙ (λ i. WriteExt x.flag x.reference (sym offset i) (sym count i) (sym piece i))) c.write_ext.ensures
+
+pub change_alone-requires : goal.change_alone-requires
+change_alone-requires g c = let x = c.in-CreateFile in create_file-changes c.args.call.now x.flag x.volume x.dir x.path x.is
+
+pub change_alone-requires-in-Delete : goal.change_alone-requires-in-Delete
+change_alone-requires-in-Delete g c = let x = c.in-Delete in delete-changes c.args.call.now x.volume x.dir x.path x.is
+
+pub change_alone-requires-in-MoveAndRename : goal.change_alone-requires-in-MoveAndRename
+change_alone-requires-in-MoveAndRename g c = let x = c.in-MoveAndRename in move_and_rename-changes c.args.call.now x.volume x.dir x.target_dir x.path x.target_path x.new_path x.is
+
+pub change_alone-requires-in-Rename : goal.change_alone-requires-in-Rename
+change_alone-requires-in-Rename g c = let x = c.in-Rename in rename-changes c.args.call.now x.volume x.dir x.path x.new_path x.is
+
+pub change_alone-requires-in-SetDirParms : goal.change_alone-requires-in-SetDirParms
+change_alone-requires-in-SetDirParms g c = let x = c.in-SetDirParms in set_dir_parms-changes c.args.call.now x.volume x.dir x.bits x.path x.tail x.is
+
+pub change_alone-requires-in-SetFileDirParms : goal.change_alone-requires-in-SetFileDirParms
+change_alone-requires-in-SetFileDirParms g c = let x = c.in-SetFileDirParms in set_file_dir_parms-changes c.args.call.now x.volume x.dir x.bits x.path x.tail x.is
+
+pub change_alone-requires-in-SetFileParms : goal.change_alone-requires-in-SetFileParms
+change_alone-requires-in-SetFileParms g c = let x = c.in-SetFileParms in set_file_parms-changes c.args.call.now x.volume x.dir x.bits x.path x.tail x.is
+
+pub change_alone-requires-in-SetVolParms : goal.change_alone-requires-in-SetVolParms
+change_alone-requires-in-SetVolParms g c = let x = c.in-SetVolParms in set_vol_parms-changes c.args.call.now x.volume x.bits x.tail x.is

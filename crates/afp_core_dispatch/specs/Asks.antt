@@ -1,0 +1,35 @@
+-- What an ask comes to (this profile).
+use Rattle.std.specs.Prelude.{◌≡◌, ℕ, Bool, true, false, Result, Ok, Err}
+use Rattle.afp_base.specs.declared.bytes.OutOfMemory.{OutOfMemory}
+use Rattle.afp_base.specs.declared.ids.LinkNumber.{LinkNumber}
+use Rattle.afp_core_state.specs.KeptWorld.{KeptWorld}
+use Rattle.afp_core_state.specs.Running.{IsOutcomeOf}
+use Rattle.afp_serial.specs.Answer.{after_at, answer_at, committed_at}
+use Rattle.afp_serial.specs.World.{at_moment}
+use Rattle.afp_serial.specs.declared.ask.Ask.{Ask}
+use Rattle.afp_serial.specs.declared.ask.Ask.TheVariants as ask
+use Rattle.afp_serial.specs.declared.ask.Outcome.{Outcome}
+use Rattle.afp_serial.specs.declared.ask.Told.{Told}
+
+-- the asks that take memory
+abbrev pub takes_memory : Ask → Bool
+takes_memory (ask.Open attention) = true
+takes_memory (ask.Call id write offset payload) = true
+takes_memory ask.Pulse = false
+takes_memory ask.Bye = false
+takes_memory ask.Lost = false
+takes_memory ask.Drain = false
+
+-- a world beside its keepers, at a moment
+abbrev pub kept_at : KeptWorld → ℕ → KeptWorld
+kept_at k now = record k { world = at_moment k.world now }
+
+-- An ask at the latest moment: an outcome that may come, with what is told then and the world after it; or there is no memory, and nothing changes.
+abbrev pub RunsAsk : KeptWorld → ℕ → Ask → Result (Told × Outcome) OutOfMemory → KeptWorld → Type 0
+RunsAsk k link ask (Ok r) new = IsOutcomeOf (answer_at k.world link ask r.1) (after_at k.world link ask r.1) (committed_at k.world link ask) r.1 r.0 k new
+RunsAsk k link ask (Err e) new = (takes_memory ask ≡ true) × (new ≡ k)
+
+-- An ask at its moment: an outcome that may come, or there is no memory and nothing changes.
+abbrev pub RunsAskAt : KeptWorld → ℕ → LinkNumber → Ask → Result (Told × Outcome) OutOfMemory → KeptWorld → Type 0
+RunsAskAt old now link ask (Ok r) new = RunsAsk (kept_at old now) link.0 ask (Ok r) new
+RunsAskAt old now link ask (Err e) new = (takes_memory ask ≡ true) × (new ≡ old)

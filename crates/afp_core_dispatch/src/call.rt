@@ -1,0 +1,261 @@
+//! A call of a session: its steps in their order, and its row.
+ghost use Rattle.afp_core_dispatch.specs.lemma.Requests.{as_request};
+ghost use Rattle.afp_core_state.specs.Running.{IsReady, RunsRow};
+ghost use Rattle.afp_core_dispatch.specs.lemma.Asks.{RunsCall};
+
+use crate::login::login;
+use crate::logout::logout;
+use crate::request::Request;
+use crate::spelling::{Stop, spelled_call};
+use afp_base::{Code, LinkNumber, OutOfMemory, SessionNumber};
+use afp_calls::Call;
+use afp_core_bytes::byte_range_lock::{byte_range_lock, byte_range_lock_ext};
+use afp_core_bytes::read::{read, read_ext};
+use afp_core_bytes::write::{write, write_ext};
+use afp_core_forks::close_fork::close_fork;
+use afp_core_forks::flush_fork::flush_fork;
+use afp_core_forks::get_fork_parms::get_fork_parms;
+use afp_core_forks::open_fork::open_fork;
+use afp_core_forks::set_fork_parms::set_fork_parms;
+use afp_core_state::{State, refused};
+use afp_core_volumes::close_vol::close_vol;
+use afp_core_volumes::create_dir::create_dir;
+use afp_core_volumes::enumerate::{enumerate, enumerate_ext, enumerate_ext2};
+use afp_core_volumes::flush::flush;
+use afp_core_volumes::get_file_dir_parms::get_file_dir_parms;
+use afp_core_volumes::get_vol_parms::get_vol_parms;
+use afp_core_volumes::open_dir::{close_dir, open_dir};
+use afp_core_volumes::open_vol::open_vol;
+use afp_core_volumes::tree_changes::change_alone;
+use afp_serial::{Outcome, Told};
+use record_keeper::Keeper;
+use volume_keeper_commit::ListAsked;
+
+/// Answers a request on a link: its session is found, the call that it spells, and its row.
+pub fn call<K: Keeper>(
+    state: &mut State<K>,
+    link: LinkNumber,
+    request: Request,
+) -> Result<(Told, Outcome), OutOfMemory>
+    requires { IsReady state.old.world }
+    ensures { RunsCall state.old link.0 (as_request request) result state.new }
+{
+    let Some(session) = state.sessions.at(link) else {
+        return Ok((Told::Displaced, Outcome::Done));
+    };
+    let has_user = state.sessions.has_user(session);
+    match spelled_call(state.alloc, has_user, &request) {
+        Ok(call) => run(state, session, call),
+        Err(Stop::Refused(code)) => Ok((refused(state.alloc, code), Outcome::Done)),
+        Err(Stop::Memory) => Err(OutOfMemory),
+    }
+}
+
+/// Runs the row of a call of a session, and lets go of the call.
+fn run<K: Keeper>(
+    state: &mut State<K>,
+    session: SessionNumber,
+    call: Call,
+) -> Result<(Told, Outcome), OutOfMemory>
+    requires { IsReady state.old.world }
+    ensures { RunsRow state.old session.0 call result state.new }
+{
+    row(state, session, &call)
+}
+
+/// The row of a call of a session. A call whose row is not there yet is not supported.
+fn row<K: Keeper>(
+    state: &mut State<K>,
+    session: SessionNumber,
+    call: &Call,
+) -> Result<(Told, Outcome), OutOfMemory>
+    requires { IsReady state.old.world }
+    ensures { RunsRow state.old session.0 call.now result state.new }
+{
+    match call {
+        Call::CloseDir { volume, dir } => close_dir(state, session, *volume, *dir),
+        Call::CloseVol { volume } => close_vol(state, session, *volume),
+        Call::CreateDir { volume, .. } => create_dir(state, session, *volume, call),
+        Call::CreateFile { volume, .. } => change_alone(state, session, *volume, call),
+        Call::Delete { volume, .. } => change_alone(state, session, *volume, call),
+        Call::Enumerate {
+            volume,
+            dir,
+            file_bits,
+            dir_bits,
+            count,
+            start,
+            size,
+            path,
+        } => {
+            let asked = ListAsked {
+                wide: false,
+                file_bits: *file_bits,
+                dir_bits: *dir_bits,
+                count: *count,
+                start: u32::from(*start),
+                size: u32::from(*size),
+            };
+            enumerate(state, session, *volume, *dir, asked, path)
+        }
+        Call::EnumerateExt {
+            volume,
+            dir,
+            file_bits,
+            dir_bits,
+            count,
+            start,
+            size,
+            path,
+        } => {
+            let asked = ListAsked {
+                wide: true,
+                file_bits: *file_bits,
+                dir_bits: *dir_bits,
+                count: *count,
+                start: u32::from(*start),
+                size: u32::from(*size),
+            };
+            enumerate_ext(state, session, *volume, *dir, asked, path)
+        }
+        Call::EnumerateExt2 {
+            volume,
+            dir,
+            file_bits,
+            dir_bits,
+            count,
+            start,
+            size,
+            path,
+        } => {
+            let asked = ListAsked {
+                wide: true,
+                file_bits: *file_bits,
+                dir_bits: *dir_bits,
+                count: *count,
+                start: *start,
+                size: *size,
+            };
+            enumerate_ext2(state, session, *volume, *dir, asked, path)
+        }
+        Call::Flush { volume } => flush(state, session, *volume),
+        Call::GetFileDirParms {
+            volume,
+            dir,
+            file_bits,
+            dir_bits,
+            path,
+        } => get_file_dir_parms(state, session, *volume, *dir, *file_bits, *dir_bits, path),
+        Call::GetVolParms { volume, bits } => get_vol_parms(state, session, *volume, *bits),
+        Call::Login { version, uam, tail } => {
+            Ok((
+                login(
+                    state,
+                    session,
+                    version.as_slice(),
+                    uam.as_slice(),
+                    tail.as_slice(),
+                ),
+                Outcome::Done,
+            ))
+        }
+        Call::Logout => Ok((logout(state, session), Outcome::Done)),
+        Call::MoveAndRename { volume, .. } => change_alone(state, session, *volume, call),
+        Call::OpenDir { volume, dir, path } => open_dir(state, session, *volume, *dir, path),
+        Call::OpenVol { bits, name } => open_vol(state, session, *bits, name.as_slice()),
+        Call::Rename { volume, .. } => change_alone(state, session, *volume, call),
+        Call::SetDirParms { volume, .. } => change_alone(state, session, *volume, call),
+        Call::SetFileDirParms { volume, .. } => change_alone(state, session, *volume, call),
+        Call::SetFileParms { volume, .. } => change_alone(state, session, *volume, call),
+        Call::SetVolParms { volume, .. } => change_alone(state, session, *volume, call),
+        Call::ByteRangeLock {
+            flags,
+            reference,
+            offset,
+            length,
+        } => byte_range_lock(state, session, *flags, *reference, *offset, *length),
+        Call::ByteRangeLockExt {
+            flags,
+            reference,
+            offset,
+            length,
+        } => byte_range_lock_ext(state, session, *flags, *reference, *offset, *length),
+        Call::CloseFork { reference } => close_fork(state, session, *reference),
+        Call::FlushFork { reference } => flush_fork(state, session, *reference),
+        Call::GetForkParms { reference, bits } => get_fork_parms(state, session, *reference, *bits),
+        Call::OpenFork {
+            flag,
+            volume,
+            dir,
+            bits,
+            mode,
+            path,
+        } => open_fork(state, session, *flag, *volume, *dir, *bits, *mode, path),
+        Call::Read {
+            reference,
+            offset,
+            count,
+            mask,
+            character,
+        } => read(
+            state, session, *reference, *offset, *count, *mask, *character,
+        ),
+        Call::ReadExt {
+            reference,
+            offset,
+            count,
+        } => read_ext(state, session, *reference, *offset, *count),
+        Call::SetForkParms {
+            reference,
+            bits,
+            tail,
+        } => set_fork_parms(state, session, *reference, *bits, tail.as_slice()),
+        Call::Write {
+            flag,
+            reference,
+            offset,
+            piece,
+            ..
+        } => write(state, session, *flag, *reference, *offset, piece.as_slice()),
+        Call::WriteExt {
+            flag,
+            reference,
+            offset,
+            count,
+            piece,
+        } => write_ext(
+            state,
+            session,
+            *flag,
+            *reference,
+            *offset,
+            *count,
+            piece.as_slice(),
+        ),
+        Call::CopyFile { .. }
+        | Call::GetSrvrInfo
+        | Call::GetSrvrParms
+        | Call::MapID { .. }
+        | Call::MapName { .. }
+        | Call::GetUserInfo { .. }
+        | Call::GetSrvrMsg { .. }
+        | Call::CreateID { .. }
+        | Call::DeleteID { .. }
+        | Call::ResolveID { .. }
+        | Call::ExchangeFiles { .. }
+        | Call::OpenDT { .. }
+        | Call::CloseDT { .. }
+        | Call::GetIcon { .. }
+        | Call::GetIconInfo { .. }
+        | Call::AddAPPL { .. }
+        | Call::RemoveAPPL { .. }
+        | Call::GetAPPL { .. }
+        | Call::AddComment { .. }
+        | Call::RemoveComment { .. }
+        | Call::GetComment { .. }
+        | Call::LoginExt { .. }
+        | Call::GetSessionToken { .. }
+        | Call::DisconnectOldSession { .. }
+        | Call::AddIcon { .. } => Ok((refused(state.alloc, Code::CallNotSupported), Outcome::Done)),
+    }
+}

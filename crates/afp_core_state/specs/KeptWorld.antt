@@ -1,0 +1,34 @@
+-- A world whose volumes stand beside their keepers (this profile).
+use Rattle.afp_serial.specs.Household.{Household}
+use Rattle.afp_serial.specs.World.{World, Session}
+use Rattle.volume_spec.specs.VolumeState.{VolumeState}
+use Rattle.volume_keeper_commit.specs.Kept.{KeptState}
+use Rattle.open_forks.specs.Forks.{Forks}
+use Rattle.std.specs.Prelude.{ℕ, Bool, List, map, Option}
+
+-- A world, and of each volume's keeper the count of its faults and whether it is sure: a sure keeper never fails.
+pub record KeptWorld : Type 0 where
+  pub world : World
+  pub faults : List ℕ
+  pub sure : List Bool
+
+-- the volumes alone
+abbrev pub volumes_of : List KeptState → List VolumeState
+volumes_of kept = map (λ k. k.state) kept
+
+-- the world of these parts
+abbrev pub world_of : Household → ℕ → Option ℕ → ℕ → List Session → Forks → List VolumeState → World
+world_of house latest drain next_link sessions forks volumes = record {
+  house = house;
+  latest = latest;
+  drain = drain;
+  next_link = next_link;
+  sessions = sessions;
+  opens = forks.opens;
+  locks = forks.locks;
+  volumes = volumes;
+}
+
+-- a world over volumes beside their keepers
+abbrev pub kept_world : World → List KeptState → KeptWorld
+kept_world w kept = record { world = w; faults = map (λ k. k.faults) kept; sure = map (λ k. k.sure) kept }

@@ -1,0 +1,208 @@
+-- Rows of calls on a volume that the session has open.
+use Rattle.std.proofs.Common.{◌≡◌, ◌∙◌, ap, sym, refl, subst, ℕ, true, false, List, [], ◌++◌, Option, Some, None}
+use Rattle.std.specs.Prelude.{IfOk, OnOk, Result, Ok as with_ok, Err, option_map, slice_get}
+use Rattle.afp_base.specs.Choice.{first_holding}
+use Rattle.afp_base.specs.declared.bytes.OutOfMemory.{OutOfMemory}
+use Rattle.afp_base.specs.declared.code.Code.{Code}
+use Rattle.afp_base.specs.declared.code.Code.TheVariants.{Ok, MiscErr, ParamErr}
+use Rattle.afp_replies.specs.Replies.{canonical_reply}
+use Rattle.afp_replies.specs.declared.reply.Reply.{Reply as AfpReply}
+use Rattle.afp_replies.specs.declared.reply.Reply.TheVariants.{Empty, Node}
+use Rattle.afp_calls_grammar.specs.declared.call.Call.{Call}
+use Rattle.afp_calls_grammar.specs.declared.call.Call.TheVariants.{CloseDir, Flush}
+use Rattle.afp_base.specs.declared.ids.NodeId.{NodeId}
+use Rattle.afp_base.specs.declared.ids.VolumeId.{VolumeId}
+use Rattle.afp_serial.specs.Answer.{refusal_reply}
+use Rattle.afp_serial.specs.World.{Effect, CallRow, plain, has_opened, World, Session}
+use Rattle.afp_serial.specs.OnVolume.{done_on, opened_on, with_volume_state}
+use Rattle.afp_serial.specs.Rows.{committed, effect, refusal, row}
+use Rattle.afp_serial.specs.declared.ask.Outcome.{Outcome}
+use Rattle.afp_serial.specs.declared.ask.Outcome.TheVariants as outcome
+use Rattle.afp_serial.specs.declared.ask.Told.{Told}
+use Rattle.afp_serial.specs.declared.ask.Told.TheVariants.{Reply}
+use Rattle.volume_spec.specs.TreeSteps.{TreeCall, tree_effect, tree_refusal}
+use Rattle.volume_spec.specs.VolumeState.{VolumeState}
+use Rattle.afp_core_volumes.specs.lemma.VolumeRows.{AreToldOf, TellsNode, TellsOf}
+use Rattle.afp_core_volumes.specs.VolumeRows.{ChangesTree}
+use Rattle.afp_core_state.specs.OnVolumes.{BecomesKept, IsOpen, IsOpenAt, with_kept}
+use Rattle.afp_core_state.specs.Replies.{Tells, TellsChanged, TellsSettled}
+use Rattle.afp_core_state.specs.KeptWorld.{KeptWorld}
+use Rattle.afp_core_state.specs.SessionList.{session_of}
+use Rattle.afp_core_state.specs.Running.{done, RunsRow}
+use Rattle.afp_core_state.proofs.RowLemmas.{IsRowOf, has_effect, is_refused}
+use Rattle.volume_keeper_commit.specs.Changing.{Changes, Settles}
+use Rattle.volume_keeper_commit.specs.declared.change.ChangeFault.{ChangeFault}
+use Rattle.volume_keeper_commit.specs.declared.change.ChangeFault.TheVariants as change
+use Rattle.record_keeper.specs.declared.keeper.KeeperFault.{KeeperFault}
+use Rattle.record_keeper.specs.declared.keeper.KeeperFault.TheVariants as keeper
+use Rattle.volume_tree.specs.Answered.{Refuses}
+use Rattle.volume_tree.specs.declared.resolve.PlanFault.{PlanFault}
+use Rattle.volume_tree.specs.declared.resolve.PlanFault.TheVariants as fault
+use Rattle.afp_core_state.proofs.OnVolumeLemmas.{found-at, keeper-at, keeper-fails, kept-stays, refused-on, state-at, state-changes, told-effect}
+
+-- a call that tells something of a volume
+module _ (k : KeptWorld) (number : ℕ) (call : Call) (volume : ℕ) (refuses : World → VolumeState → Option Code) (reply : World → VolumeState → AfpReply) (tells : TellsOf call volume refuses reply) where
+  pub tells-unopened : (told : Told) → IsOpen k number volume None → told ≡ refusal_reply ParamErr → RunsRow k number call (with_ok (done told)) k
+  tells-unopened told stands is = λ s at.
+      is_refused k k s call ParamErr told (ap (λ (r : CallRow). first_holding (r.refusals k.world s)) tells.row_is ∙ stands s at (refuses k.world)) is refl
+
+  tells-refuses : (index : ℕ) (v : VolumeState) → IsOpenAt k number volume index → slice_get k.world.volumes index ≡ Some v → (s : Session) → session_of k.world.sessions number ≡ Some s
+      → refusal k.world s call ≡ option_map plain (refuses k.world v)
+  tells-refuses index v stands there s at =
+      ap (λ (r : CallRow). first_holding (r.refusals k.world s)) tells.row_is
+      ∙ refused-on k.world s volume v (refuses k.world) (stands.opened s at) (found-at k number volume index v stands there)
+
+  tells-refused : (index : ℕ) (v : VolumeState) (code : Code) (told : Told) → IsOpenAt k number volume index → slice_get k.world.volumes index ≡ Some v → refuses k.world v ≡ Some code
+      → told ≡ refusal_reply code → RunsRow k number call (with_ok (done told)) k
+  tells-refused index v code told stands there refused is = λ s at.
+      is_refused k k s call code told (tells-refuses index v stands there s at ∙ ap (option_map plain) refused) is refl
+
+  tells-done : (index : ℕ) (v : VolumeState) (block : List ℕ) (told : Told) → IsOpenAt k number volume index → slice_get k.world.volumes index ≡ Some v → refuses k.world v ≡ None
+      → block ≡ canonical_reply (reply k.world v) → told ≡ Reply Ok block false → RunsRow k number call (with_ok (done told)) k
+  tells-done index v block told stands there passes bytes is = λ s at.
+      let of : Effect = record { world = k.world; reply = reply k.world v } in
+      let does : effect k.world s call ≡ of =
+      ap (λ (r : CallRow). r.effect k.world s) tells.row_is
+      ∙ ap (λ (o : Option VolumeState). done_on o k.world (λ x. record { world = k.world; reply = reply k.world x })) (found-at k number volume index v stands there) in
+      has_effect k k s call told k.world (tells-refuses index v stands there s at ∙ ap (option_map plain) passes)
+      (is ∙ told-effect call (effect k.world s call) of block does tells.goes_on bytes) refl (ap (λ (e : Effect). e.world) (sym does))
+
+  pub tells-runs : (index : ℕ) (v : VolumeState) (code : Option Code) (shown : AfpReply) (answer : Result (Unit {0}) PlanFault) (before block : List ℕ) (result : Result (Told × Outcome) OutOfMemory)
+      → IsOpenAt k number volume index → slice_get k.world.volumes index ≡ Some v → refuses k.world v ≡ code → reply k.world v ≡ shown → Refuses answer code
+      → before ≡ [] → OnOk answer (block ≡ before ++ canonical_reply shown) → Tells answer block result → RunsRow k number call result k
+  tells-runs index v code shown (with_ok read) before block (with_ok r) stands there refuse show refused none bytes told =
+      subst (λ (x : Told × Outcome). RunsRow k number call (with_ok x) k) (sym told)
+      (tells-done index v block (Reply Ok block false) stands there (refuse ∙ refused) (bytes ∙ ap (λ (l : List ℕ). l ++ canonical_reply shown) none ∙ ap canonical_reply (sym show)) refl)
+  tells-runs index v code shown (with_ok read) before block (Err e) stands there refuse show refused none bytes told = absurd told
+  tells-runs index v code shown (Err (fault.Code c)) before block (with_ok r) stands there refuse show refused none bytes told =
+      subst (λ (x : Told × Outcome). RunsRow k number call (with_ok x) k) (sym told) (tells-refused index v c (refusal_reply c) stands there (refuse ∙ refused) refl)
+  tells-runs index v code shown (Err (fault.Code c)) before block (Err e) stands there refuse show refused none bytes told = absurd told
+  tells-runs index v code shown (Err fault.Memory) before block (with_ok r) stands there refuse show refused none bytes told = absurd told
+  tells-runs index v code shown (Err fault.Memory) before block (Err e) stands there refuse show refused none bytes told = refl
+
+  -- the same of a node that was found
+  pub tells-node : (index : ℕ) (v : VolumeState) (answer : Result NodeId PlanFault) (result : Result (Told × Outcome) OutOfMemory) → IsOpenAt k number volume index
+      → slice_get k.world.volumes index ≡ Some v → Refuses answer (refuses k.world v) → IfOk answer (λ id. reply k.world v ≡ Node id) → TellsNode answer result → RunsRow k number call result k
+  tells-node index v (with_ok id) (with_ok r) stands there refused shown told =
+      subst (λ (x : Told × Outcome). RunsRow k number call (with_ok x) k) (sym told)
+      (tells-done index v (canonical_reply (Node id)) (Reply Ok (canonical_reply (Node id)) false) stands there refused (ap canonical_reply (sym shown)) refl)
+  tells-node index v (with_ok id) (Err e) stands there refused shown told = refl
+  tells-node index v (Err (fault.Code c)) (with_ok r) stands there refused shown told =
+      subst (λ (x : Told × Outcome). RunsRow k number call (with_ok x) k) (sym told) (tells-refused index v c (refusal_reply c) stands there refused refl)
+  tells-node index v (Err (fault.Code c)) (Err e) stands there refused shown told = absurd told
+  tells-node index v (Err fault.Memory) (with_ok r) stands there refused shown told = absurd told
+  tells-node index v (Err fault.Memory) (Err e) stands there refused shown told = refl
+
+-- a call that changes a volume's tree
+module _ (k : KeptWorld) (number : ℕ) (call : Call) (volume : ℕ) (asked : TreeCall) (reply : VolumeState → AfpReply) (changes : ChangesTree call volume asked reply) where
+  pub changes-unopened : (told : Told) → IsOpen k number volume None → told ≡ refusal_reply ParamErr → RunsRow k number call (with_ok (done told)) k
+  changes-unopened told stands is = λ s at.
+      is_refused k k s call ParamErr told (ap (λ (r : CallRow). first_holding (r.refusals k.world s)) changes.row_is ∙ stands s at (λ v. tree_refusal v (opened_on k.world volume) asked)) is refl
+
+  changes-refuses : (index : ℕ) (v : VolumeState) → IsOpenAt k number volume index → slice_get k.world.volumes index ≡ Some v → (s : Session) → session_of k.world.sessions number ≡ Some s
+      → refusal k.world s call ≡ option_map plain (tree_refusal v (opened_on k.world volume) asked)
+  changes-refuses index v stands there s at =
+      ap (λ (r : CallRow). first_holding (r.refusals k.world s)) changes.row_is
+      ∙ refused-on k.world s volume v (λ x. tree_refusal x (opened_on k.world volume) asked) (stands.opened s at) (found-at k number volume index v stands there)
+
+  changes-refused : (new : KeptWorld) (index : ℕ) (code : Code) (told : Told) → IsOpenAt k number volume index
+      → BecomesKept k index (λ old one. Changes old k.world.latest (opened_on k.world volume) asked (Err (change.Refused code)) one) new → told ≡ refusal_reply code → RunsRow k number call (with_ok (done told)) new
+  changes-refused new index code told stands b is = λ s at.
+      is_refused k new s call code told (changes-refuses index b.old.state stands b.was.state s at ∙ ap (option_map plain) b.is.0) is
+      (b.now ∙ ap (with_kept k index) b.is.1 ∙ kept-stays k index b.old b.was)
+
+  changes-done : (new : KeptWorld) (index : ℕ) (block : List ℕ) (told : Told) → IsOpenAt k number volume index → AreToldOf k volume asked reply block
+      → BecomesKept k index (λ old one. Changes old k.world.latest (opened_on k.world volume) asked (with_ok tt) one) new → told ≡ Reply Ok block false → RunsRow k number call (with_ok (done told)) new
+  changes-done new index block told stands tells b is = λ s at.
+      let v = b.old.state in
+      let there = found-at k number volume index v stands b.was.state in
+      let next = with_volume_state k.world volume (tree_effect v k.world.latest asked) in
+      let of : Effect = record { world = next; reply = reply v } in
+      let does : effect k.world s call ≡ of =
+      ap (λ (r : CallRow). r.effect k.world s) changes.row_is
+      ∙ ap (λ (o : Option VolumeState). done_on o k.world (λ x. record { world = with_volume_state k.world volume (tree_effect x k.world.latest asked); reply = reply x })) there in
+      has_effect k new s call told next (changes-refuses index v stands b.was.state s at ∙ ap (option_map plain) b.is.0)
+      (is ∙ told-effect call (effect k.world s call) of block does changes.goes_on (tells v there b.is.0))
+      (b.now ∙ ap (with_kept k index) b.is.1 ∙ state-changes k index b.old (tree_effect v k.world.latest asked) b.was
+      ∙ ap (λ (l : List VolumeState). record k { world = record k.world { volumes = l } }) (sym (state-at k.world.volumes volume index (tree_effect v k.world.latest asked) stands.id)))
+      (ap (λ (e : Effect). e.world) (sym does))
+
+  changes-fails : (new : KeptWorld) (index : ℕ) (told : Told) → IsOpenAt k number volume index
+      → BecomesKept k index (λ old one. Changes old k.world.latest (opened_on k.world volume) asked (Err change.Failed) one) new → told ≡ refusal_reply MiscErr → RunsRow k number call (with_ok (told, outcome.Fault)) new
+  changes-fails new index told stands b is = λ s at.
+      rw (changes-refuses index b.old.state stands b.was.state s at ∙ ap (option_map plain) b.is.0)
+      (keeper-fails k new _ _ _ told index (ap (λ (r : CallRow). r.committed k.world s) changes.row_is ∙ keeper-at volume index stands.id) is refl
+      record { old = b.old; one = b.one; was = b.was; is = b.is.1; now = b.now })
+
+  changes-memory : (new : KeptWorld) (index : ℕ) → BecomesKept k index (λ old one. Changes old k.world.latest (opened_on k.world volume) asked (Err change.Memory) one) new → new ≡ k
+  changes-memory new index b = b.now ∙ ap (with_kept k index) b.is ∙ kept-stays k index b.old b.was
+
+  pub changes-runs : (new : KeptWorld) (index : ℕ) (answer : Result (Unit {0}) ChangeFault) (block : List ℕ) (result : Result (Told × Outcome) OutOfMemory) → IsOpenAt k number volume index
+      → AreToldOf k volume asked reply block → BecomesKept k index (λ old one. Changes old k.world.latest (opened_on k.world volume) asked answer one) new → TellsChanged answer block result → RunsRow k number call result new
+  changes-runs new index (with_ok changed) block (with_ok r) stands bytes b told =
+      subst (λ (x : Told × Outcome). RunsRow k number call (with_ok x) new) (sym told) (changes-done new index block (Reply Ok block false) stands bytes b refl)
+  changes-runs new index (with_ok changed) block (Err e) stands bytes b told = absurd told
+  changes-runs new index (Err (change.Refused code)) block (with_ok r) stands bytes b told =
+      subst (λ (x : Told × Outcome). RunsRow k number call (with_ok x) new) (sym told) (changes-refused new index code (refusal_reply code) stands b refl)
+  changes-runs new index (Err (change.Refused code)) block (Err e) stands bytes b told = absurd told
+  changes-runs new index (Err change.Failed) block (with_ok r) stands bytes b told =
+      subst (λ (x : Told × Outcome). RunsRow k number call (with_ok x) new) (sym told) (changes-fails new index (refusal_reply MiscErr) stands b refl)
+  changes-runs new index (Err change.Failed) block (Err e) stands bytes b told = absurd told
+  changes-runs new index (Err change.Memory) block (with_ok r) stands bytes b told = absurd told
+  changes-runs new index (Err change.Memory) block (Err e) stands bytes b told = changes-memory new index b
+
+-- FPFlush
+module _ (k : KeptWorld) (number : ℕ) (volume : VolumeId) where
+  pub flush-unopened : (told : Told) → IsOpen k number volume.0 None → told ≡ refusal_reply ParamErr → RunsRow k number (Flush volume) (with_ok (done told)) k
+  unfolding row
+  flush-unopened told stands is = λ s at. is_refused k k s (Flush volume) ParamErr told (stands s at (λ v. None)) is refl
+
+  flush-passes : (index : ℕ) (v : VolumeState) → IsOpenAt k number volume.0 index → slice_get k.world.volumes index ≡ Some v → (s : Session) → session_of k.world.sessions number ≡ Some s
+      → refusal k.world s (Flush volume) ≡ None
+  unfolding row
+  flush-passes index v stands there s at = refused-on k.world s volume.0 v (λ x. None) (stands.opened s at) (found-at k number volume.0 index v stands there)
+
+  flush-commits : (index : ℕ) → IsOpenAt k number volume.0 index → (s : Session) → committed k.world s (Flush volume) ≡ Some index
+  unfolding row
+  flush-commits index stands s = keeper-at volume.0 index stands.id
+
+  flush-does : (s : Session) → effect k.world s (Flush volume) ≡ record { world = k.world; reply = Empty }
+  unfolding row
+  flush-does s = refl
+
+  flush-done : (new : KeptWorld) (index : ℕ) (told : Told) → IsOpenAt k number volume.0 index → BecomesKept k index (λ old one. Settles old (with_ok tt) one) new
+      → told ≡ Reply Ok [] false → RunsRow k number (Flush volume) (with_ok (done told)) new
+  flush-done new index told stands b is = λ s at.
+      has_effect k new s (Flush volume) told k.world (flush-passes index b.old.state stands b.was.state s at)
+      (is ∙ told-effect (Flush volume) (effect k.world s (Flush volume)) (record { world = k.world; reply = Empty }) [] (flush-does s) refl refl)
+      (b.now ∙ ap (with_kept k index) b.is ∙ kept-stays k index b.old b.was) (ap (λ (e : Effect). e.world) (sym (flush-does s)))
+
+  flush-fails : (new : KeptWorld) (index : ℕ) (told : Told) → IsOpenAt k number volume.0 index → BecomesKept k index (λ old one. Settles old (Err keeper.Failed) one) new
+      → told ≡ refusal_reply MiscErr → RunsRow k number (Flush volume) (with_ok (told, outcome.Fault)) new
+  flush-fails new index told stands b is = λ s at.
+      rw (flush-passes index b.old.state stands b.was.state s at)
+      (keeper-fails k new _ _ _ told index (flush-commits index stands s) is refl record { old = b.old; one = b.one; was = b.was; is = b.is; now = b.now })
+
+  flush-memory : (new : KeptWorld) (index : ℕ) → BecomesKept k index (λ old one. Settles old (Err keeper.Memory) one) new → new ≡ k
+  flush-memory new index b = b.now ∙ ap (with_kept k index) b.is ∙ kept-stays k index b.old b.was
+
+  pub flush-runs : (new : KeptWorld) (index : ℕ) (answer : Result (Unit {0}) KeeperFault) (result : Result (Told × Outcome) OutOfMemory) → IsOpenAt k number volume.0 index
+      → BecomesKept k index (λ old one. Settles old answer one) new → TellsSettled answer result → RunsRow k number (Flush volume) result new
+  flush-runs new index (with_ok settled) (with_ok r) stands b told =
+      subst (λ (x : Told × Outcome). RunsRow k number (Flush volume) (with_ok x) new) (sym told) (flush-done new index (Reply Ok [] false) stands b refl)
+  flush-runs new index (with_ok settled) (Err e) stands b told = absurd told
+  flush-runs new index (Err keeper.Failed) (with_ok r) stands b told =
+      subst (λ (x : Told × Outcome). RunsRow k number (Flush volume) (with_ok x) new) (sym told) (flush-fails new index (refusal_reply MiscErr) stands b refl)
+  flush-runs new index (Err keeper.Failed) (Err e) stands b told = absurd told
+  flush-runs new index (Err keeper.Memory) (with_ok r) stands b told = absurd told
+  flush-runs new index (Err keeper.Memory) (Err e) stands b told = flush-memory new index b
+
+-- FPCloseDir
+module _ (k : KeptWorld) (s : Session) (volume : VolumeId) (dir : NodeId) where
+  pub close_dir-unopened : has_opened s volume.0 ≡ false → refusal k.world s (CloseDir volume dir) ≡ Some (plain ParamErr)
+  unfolding row
+  close_dir-unopened h = rw h refl
+
+  pub close_dir-runs : (told : Told) → has_opened s volume.0 ≡ true → told ≡ Reply Ok [] false → IsRowOf k s (CloseDir volume dir) told k
+  unfolding row
+  close_dir-runs told h is = has_effect k k s (CloseDir volume dir) told k.world (rw h refl) is refl refl

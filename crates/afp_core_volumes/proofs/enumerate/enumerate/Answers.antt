@@ -1,0 +1,9 @@
+use Rattle.std.proofs.Common.{refl}
+use Rattle.afp_calls_grammar.specs.declared.call.Call.TheVariants.{Enumerate}
+use Rattle.afp_core_volumes.proofs.CallRows.{enumerate-lists}
+use Rattle.afp_core_volumes.proofs.enumerate.enumerate.Goals as goal
+
+pub returns : goal.returns
+returns g c =
+    let a = c.args.asked in
+    c.list.ensures (Enumerate c.args.volume c.args.dir a.file_bits a.dir_bits a.count a.start a.size c.args.path.now) (enumerate-lists c.args.volume c.args.dir a c.args.path.now c.requires) refl

@@ -1,0 +1,16 @@
+use Rattle.std.proofs.Common.{refl, subst}
+use Rattle.afp_core_state.specs.OnVolumes.{IsOpen}
+use Rattle.afp_core_volumes.proofs.CallRows.{get_vol_parms-tells}
+use Rattle.afp_core_volumes.proofs.OnVolumeRows.{tells-runs, tells-unopened}
+use Rattle.afp_core_volumes.proofs.get_vol_parms.get_vol_parms.Goals as goal
+
+pub returns-in_default : goal.returns-in_default
+returns-in_default g c =
+    tells-unopened c.args.state.now c.args.session.0 _ c.args.volume.0 _ _ (get_vol_parms-tells c.args.volume c.args.bits) _
+    (subst (IsOpen c.args.state.now c.args.session.0 c.args.volume.0) c.in_default.is c.opened.ensures) c.refused.ensures
+
+pub returns : goal.returns
+returns g c =
+    let answer = c.get_vol_parms-answer in
+    tells-runs c.args.state.now c.args.session.0 _ c.args.volume.0 _ _ (get_vol_parms-tells c.args.volume c.args.bits) c.in-Some.index c.kept_at.result.now.state _ _ answer.result c.new-block.result answer.new.out
+    c.told_of.result c.in-Some.ensures c.kept_at.ensures refl refl answer.ensures.refused c.new-block.ensures answer.ensures.ok c.told_of.ensures

@@ -1,8 +1,0 @@
-use Rattle.afp_volume.proofs.OpenFiles.{call-lets-be, call-named}
-use Rattle.afp_volume.proofs.laws.open_files_stay.Goals as goal
-
-pub returns-clause-name : goal.returns-clause-name
-returns-clause-name c = call-named
-
-pub returns-clause-files : goal.returns-clause-files
-returns-clause-files c = call-lets-be

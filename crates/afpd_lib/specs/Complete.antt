@@ -1,0 +1,27 @@
+-- The server serves where nothing is in the way (this profile).
+use Rattle.std.specs.Prelude.{◌≡◌, ◌⊎◌, ℕ, ◌<◌, true, List, length, Option, All}
+use Rattle.std.specs.List.{list_all}
+use Rattle.afp_base.specs.Counts.{last_count}
+use Rattle.afp_outside.specs.Gate.{Passed}
+use Rattle.afp_outside.specs.Link.{LinkState}
+use Rattle.afp_outside.specs.Listener.{DoorState}
+use Rattle.afp_outside.specs.Sink.{SinkState}
+use Rattle.afp_serial.specs.Household.{Household}
+use Rattle.afp_serial.specs.Shown.{Shown}
+use Rattle.afp_serial.specs.declared.ask.Outcome.TheVariants.{Done}
+use Rattle.afpd_lib.specs.Keeping.{Keeping}
+use Rattle.afpd_lib.specs.Plain.{Asks, IsPlainRun, ServesHouse, house_of, before_asks}
+use Rattle.afpd_lib.specs.declared.links.DoorEnd.{DoorEnd}
+use Rattle.afpd_lib.specs.Words.{WordValues}
+
+-- The law: where the words ask for a house that is taken, of as many volumes as there are keepers, and neither the door's count of
+-- faults nor the report's rose or stands at its last number, the status is 0, or 6 for want of memory, or 3 for a keeper whose records are no volume's.
+abbrev pub ServesGoodWords : {L P K : Type 0} → (L → LinkState) → (P → Passed) → Keeping K → Type 0
+ServesGoodWords {L} {P} {K} state passed kept_by = (words : List (List ℕ)) (keepers : List K) (key : List ℕ) (clock : Option ℕ) (values : WordValues) (old new : DoorState L) (before after : SinkState) (status : ℕ)
+    → IsPlainRun state passed kept_by words keepers key clock old new before after status → Asks words key values → length keepers ≡ length (house_of values key).volumes
+    → new.faults ≡ old.faults → old.faults < last_count → after.faults ≡ before.faults → before.faults < last_count → (status ≡ 0) ⊎ ((status ≡ 3) ⊎ (status ≡ 6))
+
+-- The law: where links were served by a house whose keepers are all sure, and whose counts stand below the last number, no ask met a fault.
+abbrev pub MeetsNoFault : {L P K : Type 0} → (L → LinkState) → (P → Passed) → Keeping K → Type 0
+MeetsNoFault {L} {P} {K} state passed kept_by = (house : Household) (keepers : List K) (limit : ℕ) (clock : Option ℕ) (old : DoorState L) (end : DoorEnd) (new : DoorState L) (shown : Shown)
+    → (s : ServesHouse state passed kept_by house keepers limit clock old end new shown) → list_all kept_by.sure keepers ≡ true → (before_asks house s.now s.kept).faults < last_count → All (λ e. e.outcome ≡ Done) shown.history

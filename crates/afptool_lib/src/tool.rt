@@ -1,0 +1,52 @@
+//! The tool's top call.
+ghost use Rattle.std.specs.Prelude.{◌≡◌, ◌<◌, ◌^◌, false, map, string_bytes};
+ghost use Rattle.capture_log_server.specs.Keepers.{AreFresh};
+ghost use Rattle.afpd_lib.specs.Reporting.{bad_words};
+ghost use Rattle.afptool_lib.specs.Telling.{Tells};
+ghost use Rattle.afptool_lib.specs.Tool.{RunsTool, command_in};
+
+use crate::checking::run_check;
+use crate::replays::run_replay;
+use crate::words::{Command, asked};
+use afp_outside::{Sink, Source};
+use afpd_lib::report::report_all;
+use record_keeper::Keeper;
+use std::alloc::Global;
+
+/// Prints that the words are bad.
+fn refuse<O: Sink>(out: &mut O) -> u8
+    ensures { Tells bad_words 2 (O.sink_state out.old) (O.sink_state out.new) result }
+{
+    if report_all(out, b"bad words\n") {
+        2
+    } else {
+        5
+    }
+}
+
+/// Does what the one word behind the program's name asks, over what the source gives, and gives the exit status.
+///
+/// `replay` replays a capture, over the first of eight keepers that hold nothing and never fail. It prints `links L entries E same` with status 0, `differs link L at P want XX got YY` with
+/// status 1, or `bad line N` with status 3. `check` prints a line for each frame of a stream of the Data Stream Interface, and
+/// then `rest N`, with status 0 where N is 0 and else 3, or `bad at A REASON` with status 3. The status is 2 for other words,
+/// with the line `bad words`; 4 where a read failed; 5 where a write failed; 6 for want of memory; and 8 where it would read
+/// again and `turns` bytes were taken.
+pub fn afptool_plain<K: Keeper, S: Source, O: Sink>(
+    alloc: Global,
+    words: &[String],
+    fresh: Vec<K>,
+    source: &mut S,
+    out: &mut O,
+    turns: u64,
+) -> u8
+    requires keepers { AreFresh K.records K.sure K.faults fresh.items }
+    requires turns { turns < 2 ^ 63 }
+    requires fresh { (S.source_state source.old).ended ≡ false }
+    ensures { RunsTool (command_in (map (λ word. string_bytes word) words.now)) turns (S.source_state source.old) (S.source_state source.new) (O.sink_state out.old) (O.sink_state out.new) result }
+{
+    match asked(words) {
+        Some(Command::Replay) => run_replay(alloc, fresh, source, out, turns),
+        Some(Command::Check) => run_check(alloc, source, out, turns),
+        None => refuse(out),
+    }
+}

@@ -1,8 +1,0 @@
-use Rattle.std.proofs.Common.{subst, sym}
-use Rattle.core_state.specs.KeptWorld.{KeptWorld}
-use Rattle.core_state.specs.Running.{IsReady}
-use Rattle.core_asks.proofs.AskLemmas.{ready-at}
-use Rattle.core_asks.proofs.asks.run_ask.Goals as goal
-
-pub run_ask_now-requires : goal.run_ask_now-requires
-run_ask_now-requires g c = ready-at _ _ (subst (λ (k : KeptWorld). IsReady k.world) (sym c.state.view_is) c.requires)

@@ -1,9 +1,0 @@
-use Rattle.std.proofs.Common.{refl}
-use Rattle.afp_requests.specs.declared.call.Call.TheVariants.{EnumerateExt}
-use Rattle.core_volume_rows.proofs.CallRows.{enumerate_ext-lists}
-use Rattle.core_volume_rows.proofs.enumerate.enumerate_ext.Goals as goal
-
-pub returns : goal.returns
-returns g c =
-    let a = c.args.asked in
-    c.list.ensures (EnumerateExt c.args.volume c.args.dir a.file_bits a.dir_bits a.count a.start a.size c.args.path.now) (enumerate_ext-lists c.args.volume c.args.dir a c.args.path.now c.requires) refl

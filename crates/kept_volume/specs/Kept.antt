@@ -1,9 +1,0 @@
--- A volume beside its keeper (this profile).
-use Rattle.std.specs.Prelude.{ℕ, Bool}
-use Rattle.afp_volume.specs.VolumeState.{VolumeState}
-
--- the volume, the count of its keeper's faults, and whether the keeper is sure: a sure one never fails
-pub record KeptState : Type 0 where
-  pub state : VolumeState
-  pub faults : ℕ
-  pub sure : Bool

@@ -1,6 +1,0 @@
-use Rattle.plain_server.specs.Keeping.{keeping}
-use Rattle.plain_server.proofs.PlainLaws.{serves_good_words}
-use Rattle.plain_server.proofs.laws.good_words_are_served.Goals as goal
-
-pub returns : goal.returns
-returns g c = serves_good_words g.N.Link.Link.link_state g.G.Gate.passed (keeping g.K.Keeper.records g.K.Keeper.sure g.K.Keeper.faults)

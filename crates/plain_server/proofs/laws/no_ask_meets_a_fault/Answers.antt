@@ -1,6 +1,0 @@
-use Rattle.plain_server.specs.Keeping.{keeping}
-use Rattle.plain_server.proofs.Faultless.{meets_no_fault}
-use Rattle.plain_server.proofs.laws.no_ask_meets_a_fault.Goals as goal
-
-pub returns : goal.returns
-returns g c = meets_no_fault g.N.Link.Link.link_state g.G.Gate.passed (keeping g.K.Keeper.records g.K.Keeper.sure g.K.Keeper.faults)

@@ -1,0 +1,151 @@
+//! What comes of lines.
+use crate::line::{Kind, Line};
+use crate::rows::{bytes_of, node, row_of};
+use afp_base::{Bytes, Moment, OutOfMemory};
+use afp_names::Name;
+use record_keeper::{Change, Keeper, KeeperFault, MemoryKeeper, Record, RecordKey, read_all};
+use std::alloc::Global;
+use volume_keeper::{Held, LoadFault, load};
+use volume_keeper_records::{Reason, TableRow, record_of};
+
+/// A keeper, whose records lines put.
+#[derive(Drop)]
+pub struct Run {
+    keeper: MemoryKeeper,
+}
+
+/// What comes of a line.
+#[derive(Drop)]
+pub enum LineResult {
+    Nothing,
+    Number(u64),
+    Word(&'static str),
+    Bytes(Bytes),
+    Bad(RecordKey, &'static str),
+}
+
+fn word_of(fault: KeeperFault) -> LineResult {
+    match fault {
+        KeeperFault::Failed => LineResult::Word("failed"),
+        KeeperFault::Memory => LineResult::Word("memory"),
+    }
+}
+
+fn reason_word(reason: Reason) -> &'static str {
+    match reason {
+        Reason::Shape => "shape",
+        Reason::Parent => "parent",
+        Reason::Twin => "twin",
+        Reason::Range => "range",
+        Reason::Limit => "limit",
+    }
+}
+
+fn put(alloc: Global, changes: &mut Vec<Change>, row: &TableRow) -> Result<(), OutOfMemory> {
+    let Record { key, value } = record_of(alloc, row)?;
+    changes.push(Change::Put { key, value })?;
+    Ok(())
+}
+
+/// So many directories, each in the one behind it; the last in this one.
+fn put_chain(
+    alloc: Global,
+    changes: &mut Vec<Change>,
+    count: u32,
+    last: u32,
+) -> Result<(), OutOfMemory> {
+    for i in 0..count {
+        let id = i.wrapping_add(17);
+        let parent = if i.wrapping_add(1) == count {
+            last
+        } else {
+            id.wrapping_add(1)
+        };
+        put(alloc, changes, &node(alloc, id, parent, None, "n")?)?;
+    }
+    Ok(())
+}
+
+/// The changes that a line tells.
+fn changes_of(alloc: Global, line: &Line<'_>) -> Result<Vec<Change>, OutOfMemory> {
+    let mut changes = Vec::new(alloc);
+    match line.kind {
+        Kind::Put => changes.push(Change::Put {
+            key: RecordKey::new(bytes_of(alloc, line.second)?),
+            value: bytes_of(alloc, line.text)?,
+        })?,
+        Kind::Remove => changes.push(Change::Remove {
+            key: RecordKey::new(bytes_of(alloc, line.text)?),
+        })?,
+        Kind::Chain => put_chain(alloc, &mut changes, line.numbers[0], 2)?,
+        Kind::Ring => put_chain(alloc, &mut changes, line.numbers[0], 17)?,
+        _ => put(alloc, &mut changes, &row_of(alloc, line)?)?,
+    }
+    Ok(changes)
+}
+
+/// The result of a load: how many nodes there are, or why there are none.
+fn of_load(loaded: Result<Held, LoadFault>) -> LineResult {
+    match loaded {
+        Ok(held) => LineResult::Number(held.volume.count() as u64),
+        Err(LoadFault::BadRecord { key, reason }) => LineResult::Bad(key, reason_word(reason)),
+        Err(LoadFault::Failed) => LineResult::Word("failed"),
+        Err(LoadFault::Memory) => LineResult::Word("memory"),
+    }
+}
+
+impl Run {
+    pub fn new(alloc: Global) -> Run {
+        Run {
+            keeper: MemoryKeeper::new(alloc, Vec::new(alloc)),
+        }
+    }
+
+    fn change(&mut self, alloc: Global, line: &Line<'_>) -> Result<LineResult, OutOfMemory> {
+        let changes = changes_of(alloc, line)?;
+        match self.keeper.commit(alloc, changes.as_slice()) {
+            Ok(()) => Ok(LineResult::Nothing),
+            Err(fault) => Ok(word_of(fault)),
+        }
+    }
+
+    fn load(&mut self, alloc: Global, line: &Line<'_>) -> LineResult {
+        let Some(now) = Moment::new(line.numbers[0]) else {
+            return LineResult::Word("no moment");
+        };
+        match Name::new(alloc, line.text.as_bytes()) {
+            Ok(_) => of_load(load(alloc, &mut self.keeper, line.text, now)),
+            Err(_) => LineResult::Word("no name"),
+        }
+    }
+
+    fn read(&mut self, alloc: Global, line: &Line<'_>) -> Result<LineResult, OutOfMemory> {
+        let key = RecordKey::new(bytes_of(alloc, line.text)?);
+        match self.keeper.read(alloc, &key) {
+            Ok(Some(value)) => Ok(LineResult::Bytes(value)),
+            Ok(None) => Ok(LineResult::Word("none")),
+            Err(fault) => Ok(word_of(fault)),
+        }
+    }
+
+    fn count(&mut self, alloc: Global) -> LineResult {
+        match read_all(alloc, &mut self.keeper) {
+            Ok(records) => LineResult::Number(records.len() as u64),
+            Err(_) => LineResult::Word("unread"),
+        }
+    }
+
+    /// What comes of a line.
+    pub fn answer(&mut self, alloc: Global, line: &Line<'_>) -> Result<LineResult, OutOfMemory> {
+        match line.kind {
+            Kind::New => {
+                *self = Run::new(alloc);
+                Ok(LineResult::Nothing)
+            }
+            Kind::Load => Ok(self.load(alloc, line)),
+            Kind::Read => self.read(alloc, line),
+            Kind::Count => Ok(self.count(alloc)),
+            _ => self.change(alloc, line),
+        }
+    }
+}

@@ -1,0 +1,30 @@
+-- What becomes of a volume and its keeper in a call (this profile).
+use Rattle.std.specs.Prelude.{◌≡◌, ◌<◌, ℕ, false, List, Some, None, Result, Ok, Err}
+use Rattle.volume_spec.specs.Shared.{Opened}
+use Rattle.volume_spec.specs.TreeSteps.{TreeCall, tree_effect, tree_refusal}
+use Rattle.volume_keeper_commit.specs.Kept.{KeptState}
+use Rattle.volume_keeper_commit.specs.declared.change.ChangeFault.{ChangeFault}
+use Rattle.volume_keeper_commit.specs.declared.change.ChangeFault.TheVariants.{Refused, Failed, Memory}
+use Rattle.record_keeper.specs.declared.keeper.KeeperFault.{KeeperFault}
+use Rattle.record_keeper.specs.declared.keeper.KeeperFault.TheVariants as keeper
+
+-- the keeper failed, and counted it; the volume is as before
+pub record FailsIn (old new : KeptState) : Type 0 where
+  pub state : new.state ≡ old.state
+  pub faults : old.faults < new.faults
+  pub unsure : old.sure ≡ false
+  pub sure : new.sure ≡ old.sure
+
+-- A call that changes a volume: it is refused with its first refusal, and nothing changes; or it has its effect, which the keeper holds; or
+-- the keeper failed, or there is no memory, and the volume is as before.
+abbrev pub Changes : KeptState → ℕ → List Opened → TreeCall → Result (Unit {0}) ChangeFault → KeptState → Type 0
+Changes old now opens call (Ok done) new = (tree_refusal old.state opens call ≡ None) × (new ≡ record old { state = tree_effect old.state now call })
+Changes old now opens call (Err (Refused code)) new = (tree_refusal old.state opens call ≡ Some code) × (new ≡ old)
+Changes old now opens call (Err Failed) new = (tree_refusal old.state opens call ≡ None) × FailsIn old new
+Changes old now opens call (Err Memory) new = new ≡ old
+
+-- A volume whose keeper settles: it did, or it failed and counted that, or there was no memory.
+abbrev pub Settles : KeptState → Result (Unit {0}) KeeperFault → KeptState → Type 0
+Settles old (Ok done) new = new ≡ old
+Settles old (Err keeper.Failed) new = FailsIn old new
+Settles old (Err keeper.Memory) new = new ≡ old

@@ -1,0 +1,56 @@
+//! A volume beside its keeper.
+ghost use Rattle.std.specs.Prelude.{◌≡◌, IfSome, length};
+ghost use Rattle.record_keeper.specs.Records.{Records};
+ghost use Rattle.volume_keeper_records.specs.Image.{kept_image};
+
+use record_keeper::Keeper;
+use std::marker::Model;
+use volume_keeper::Held;
+
+/// A volume, and the keeper that holds its records.
+///
+/// Contracts see the volume, the count of the keeper's faults, and whether the keeper is sure.
+#[derive(Drop)]
+pub struct KeptVolume<K: Keeper> {
+    pub(crate) keeper: K,
+    pub(crate) held: Held,
+}
+
+impl<K: Keeper> Model for KeptVolume<K> {
+    ghost use Rattle.std.specs.Prelude.{◌≡◌, IfSome};
+    ghost use Rattle.volume_keeper_commit.specs.Kept.{KeptState};
+    ghost use Rattle.record_keeper.specs.Records.{Records};
+    ghost use Rattle.volume_keeper_records.specs.Image.{kept_image};
+
+    ghost Value = { KeptState };
+
+    ghost view = { λ a. record { state = a.held.state; faults = K.faults a.keeper; sure = K.sure a.keeper } };
+
+    ghost invariant = { λ a. IfSome (K.records a.keeper) (λ (kept : Records). kept ≡ kept_image a.held.state) };
+}
+
+impl<K: Keeper> KeptVolume<K> {
+    /// The keeper, which holds the volume's records, and no others.
+    pub fn keeper(&self) -> &K
+        ensures records { IfSome (K.records result.now) (λ (kept : Records). kept ≡ kept_image self.now.state) }
+        ensures faults { K.faults result.now ≡ self.now.faults }
+        ensures sure { K.sure result.now ≡ self.now.sure }
+    {
+        &self.keeper
+    }
+
+    /// The id that the next new node draws, 4,294,967,296 where the ids have ended.
+    pub fn next_id(&self) -> u64
+        ensures { result ≡ self.now.state.next_id }
+    {
+        let head = self.held.volume.head();
+        head.next_id
+    }
+
+    /// How many nodes there are, the root among them.
+    pub fn count(&self) -> usize
+        ensures { result ≡ length self.now.state.rows }
+    {
+        self.held.volume.count()
+    }
+}

@@ -1,0 +1,121 @@
+//! What is asked of a volume beside its keeper.
+ghost use Rattle.std.specs.Prelude.{◌≡◌, ◌++◌, true, option_map, IfOk, OnOk, OnErr, Some};
+ghost use Rattle.afp_bitmap.specs.declared.params.Values.TheVariants.{Volume as VolumeOf};
+ghost use Rattle.afp_replies.specs.Replies.{canonical_reply};
+ghost use Rattle.afp_replies.specs.declared.reply.Reply.TheVariants.{Params};
+ghost use Rattle.afp_serial.specs.Enumerate.{enumerate_reply};
+ghost use Rattle.afp_serial.specs.GetFileDirParms.{get_file_dir_parms_reply};
+ghost use Rattle.volume_spec.specs.Enumerate.{enumerate_refusal};
+ghost use Rattle.volume_spec.specs.GetFileDirParms.{get_file_dir_parms_refusal, get_file_dir_parms_values};
+ghost use Rattle.volume_spec.specs.GetVolParms.{get_vol_parms_refusal, volume_values};
+ghost use Rattle.volume_spec.specs.OpenDir.{open_dir_refusal, open_dir_id};
+ghost use Rattle.volume_spec.specs.OpenFork.{open_fork_file, open_fork_refusal};
+ghost use Rattle.volume_spec.specs.SoundVolume.{has_file};
+ghost use Rattle.volume_spec.specs.VolumeState.{Row};
+ghost use Rattle.volume_spec.specs.Walk.{row_at};
+ghost use Rattle.volume_tree.specs.Answered.{Refuses};
+ghost use Rattle.volume_tree.specs.Shown.{opened};
+
+use crate::kept::KeptVolume;
+use afp_base::{Bytes, NodeId, VolumeId};
+use afp_names::Path;
+use deny_modes::VolumeOpens;
+use record_keeper::Keeper;
+use std::alloc::Global;
+use volume_spec::laws::values_are_those_asked_for;
+use volume_tree::PlanFault;
+use volume_tree_replies::ListAsked;
+
+impl<K: Keeper> KeptVolume<K> {
+    /// FPGetVolParms on the volume, as the one of this id: its reply's bytes, at the end of `out`. An error leaves `out`.
+    pub fn get_vol_parms(
+        &self,
+        alloc: Global,
+        id: VolumeId,
+        bits: u16,
+        out: &mut Bytes,
+    ) -> Result<(), PlanFault>
+        ensures refused { Refuses result (get_vol_parms_refusal bits) }
+        ensures ok { OnOk result (out.new ≡ out.old ++ canonical_reply (Params bits (VolumeOf (volume_values self.now.state id.0 bits)))) }
+        ensures err { OnErr result (out.new ≡ out.old) }
+    {
+        let held = &self.held;
+        volume_tree_replies::get_vol_parms(alloc, &held.volume, id, bits, out)
+    }
+
+    /// FPOpenDir on the volume.
+    pub fn open_dir(&self, alloc: Global, dir: NodeId, path: &Path) -> Result<NodeId, PlanFault>
+        ensures refused { Refuses result (open_dir_refusal self.now.state dir.0 path.now) }
+        ensures id { IfOk result (λ id. open_dir_id self.now.state dir.0 path.now ≡ Some id.0) }
+    {
+        let held = &self.held;
+        volume_tree_replies::open_dir(alloc, &held.volume, dir, path)
+    }
+
+    /// The id of the file that FPOpenFork finds on the volume, or why the volume refuses that. `bits` are those of what is to be told of the file, and
+    /// `writes` says whether the fork is to be written.
+    pub fn open_fork(
+        &self,
+        alloc: Global,
+        bits: u16,
+        writes: bool,
+        dir: NodeId,
+        path: &Path,
+    ) -> Result<NodeId, PlanFault>
+        ensures refused { Refuses result (open_fork_refusal self.now.state bits writes dir.0 path.now) }
+        ensures file { IfOk result (λ id. has_file self.now.state.rows id.0 ≡ true) }
+        ensures found { IfOk result (λ id. open_fork_file self.now.state dir.0 path.now ≡ row_at self.now.state.rows id.0) }
+        ensures id { IfOk result (λ id. option_map (λ (file : Row). file.id) (open_fork_file self.now.state dir.0 path.now) ≡ Some id.0) }
+    {
+        let held = &self.held;
+        volume_tree_replies::open_fork(alloc, &held.volume, bits, writes, dir, path)
+    }
+
+    /// FPGetFileDirParms on the volume with these open forks: its reply's bytes, at the end of `out`. An error leaves `out`.
+    pub fn get_file_dir_parms(
+        &self,
+        alloc: Global,
+        opens: &VolumeOpens<'_>,
+        file_bits: u16,
+        dir_bits: u16,
+        dir: NodeId,
+        path: &Path,
+        out: &mut Bytes,
+    ) -> Result<(), PlanFault>
+        ensures refused { Refuses result (get_file_dir_parms_refusal self.now.state file_bits dir_bits dir.0 path.now) }
+        ensures ok { OnOk result (out.new ≡ out.old ++ canonical_reply (get_file_dir_parms_reply file_bits dir_bits (get_file_dir_parms_values self.now.state (opened opens.now) file_bits dir_bits dir.0 path.now))) }
+        ensures err { OnErr result (out.new ≡ out.old) }
+    {
+        values_are_those_asked_for();
+        let held = &self.held;
+        held.volume.keeps_sound();
+        volume_tree_replies::get_file_dir_parms(
+            alloc,
+            &held.volume,
+            opens,
+            file_bits,
+            dir_bits,
+            dir,
+            path,
+            out,
+        )
+    }
+
+    /// FPEnumerate, FPEnumerateExt or FPEnumerateExt2 on the volume with these open forks: its reply's bytes, at the end of `out`. An error leaves `out`.
+    pub fn list(
+        &self,
+        alloc: Global,
+        opens: &VolumeOpens<'_>,
+        asked: ListAsked,
+        dir: NodeId,
+        path: &Path,
+        out: &mut Bytes,
+    ) -> Result<(), PlanFault>
+        ensures refused { Refuses result (enumerate_refusal self.now.state (opened opens.now) asked dir.0 path.now) }
+        ensures ok { OnOk result (out.new ≡ out.old ++ canonical_reply (enumerate_reply self.now.state (opened opens.now) asked dir.0 path.now)) }
+        ensures err { OnErr result (out.new ≡ out.old) }
+    {
+        let held = &self.held;
+        volume_tree_replies::list(alloc, &held.volume, opens, &asked, dir, path, out)
+    }
+}

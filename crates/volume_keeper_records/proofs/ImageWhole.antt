@@ -1,0 +1,188 @@
+-- The tables of a sound volume are whole.
+use Rattle.std.proofs.Common.{◌≡◌, ◌∙◌, ℕ, zero, suc, ◌+◌, ◌<◌, ◌≤◌, Bool, true, false, cond, not, List, [], ◌∷◌, map, length, refl, sym, ap, arith}
+use Rattle.std.specs.Prelude.{nat_le, nat_lt, ◌&&◌, ◌||◌, ◌==◌, bytes_eq, bit_and, sum_by}
+use Rattle.std.specs.List.{list_all, list_any}
+use Rattle.volume_spec.specs.VolumeState.{VolumeState, root_id, root_parent, first_id, Row as VolumeRow}
+use Rattle.afp_base.specs.Apart.{are_apart}
+use Rattle.afp_base.specs.Limits.{most_fork_bytes}
+use Rattle.volume_spec.specs.SoundVolume.{is_in_place, are_named_alike, has_node, has_file, leads_to_root, is_named, most_nodes, file_attributes, dir_attributes, is_formed as is_formed_row}
+use Rattle.volume_spec.specs.TypedVolume.{is_word, is_long, is_date, is_quad, are_bytes, is_typed_row}
+use Rattle.volume_spec.proofs.TestedLists.{any-map, length-mapped}
+use Rattle.volume_keeper_records.specs.declared.rows.Node.{Node}
+use Rattle.volume_keeper_records.specs.declared.rows.TableRow.TheVariants as row
+use Rattle.volume_keeper_records.specs.Shape.{bare_row, is_formed_node, is_root_or_other}
+use Rattle.volume_keeper_records.specs.Image.{tables_of, node_of}
+use Rattle.volume_keeper_records.specs.FirstBad.{nodes_to, lacks_parent, is_out_of_range, passes_limit}
+use Rattle.volume_keeper_records.proofs.TestParts.{left_true, right_true, both_true, or_left, or_right, cases, lt_of, le_of, lt_true, lt_false, same_true, other_false, turn_false, not_true, either_false, neither, all-more, all-both, any-same, pick, then_of, else_of, parts}
+use Rattle.volume_keeper_records.proofs.Chains.{Chain, filter-most, sum-filter, sum-map}
+use Rattle.volume_keeper_records.proofs.VolumeSound.{alike, no_twins}
+use Rattle.volume_keeper_records.proofs.SoundFacts.{SoundFacts}
+
+-- ---- the tree is the same with no bytes in its forks
+
+pub nodes_same : (rs : List VolumeRow) (id : ℕ) → has_node (map bare_row (map node_of rs)) id ≡ has_node rs id
+nodes_same rs id = any-map (λ (r : VolumeRow). r.id == id) bare_row (map node_of rs) ∙ any-map (λ (n : Node). n.id == id) node_of rs
+
+pub files_same : (rs : List VolumeRow) (id : ℕ) → has_file (map bare_row (map node_of rs)) id ≡ has_file rs id
+files_same rs id = any-map (λ (r : VolumeRow). r.id == id && not r.dir) bare_row (map node_of rs) ∙ any-map (λ (n : Node). n.id == id && not n.is_directory) node_of rs
+
+leads_same : (rs : List VolumeRow) (steps id : ℕ) → leads_to_root (map bare_row (map node_of rs)) steps id ≡ leads_to_root rs steps id
+leads_same rs zero id = refl
+leads_same rs (suc steps) id = ap (λ b. (id == root_id) || b)
+    (any-map (λ (r : VolumeRow). (r.id == id) && (r.dir && leads_to_root (map bare_row (map node_of rs)) steps r.parent)) bare_row (map node_of rs)
+    ∙ any-map (λ (n : Node). (n.id == id) && (n.is_directory && leads_to_root (map bare_row (map node_of rs)) steps n.parent)) node_of rs
+    ∙ any-same (λ (r : VolumeRow). (r.id == id) && (r.dir && leads_to_root (map bare_row (map node_of rs)) steps r.parent)) (λ (r : VolumeRow). (r.id == id) && (r.dir && leads_to_root rs steps r.parent)) rs
+    (λ r. ap (λ b. (r.id == id) && (r.dir && b)) (leads_same rs steps r.parent)))
+
+-- ---- the shape of nodes
+
+typed_bare : (a b c d e f g h x y : Bool) → (a && (b && (c && (d && (e && (f && (g && (h && (x && y))))))))) ≡ true → (a && (b && (c && (d && (e && (f && (g && (h && (true && true))))))))) ≡ true
+typed_bare true true true true true true true true x y p = refl
+typed_bare false b c d e f g h x y p = absurd (cc)
+typed_bare true false c d e f g h x y p = absurd (cc)
+typed_bare true true false d e f g h x y p = absurd (cc)
+typed_bare true true true false e f g h x y p = absurd (cc)
+typed_bare true true true true false f g h x y p = absurd (cc)
+typed_bare true true true true true false g h x y p = absurd (cc)
+typed_bare true true true true true true false h x y p = absurd (cc)
+typed_bare true true true true true true true false x y p = absurd (cc)
+
+formed_bare : (d named attr_d attr_f filed x y : Bool) → (named && cond d (attr_d && (x && (y && not filed))) attr_f) ≡ true → ((named && cond d (attr_d && (true && (true && not filed))) attr_f) ≡ true) × (cond d (x && y) true ≡ true)
+formed_bare true true true attr_f false true true e = (refl, refl)
+formed_bare true true true attr_f true true true e = absurd (cc)
+formed_bare true true true attr_f filed true false e = absurd (cc)
+formed_bare true true true attr_f filed false y e = absurd (cc)
+formed_bare true true false attr_f filed x y e = absurd (cc)
+formed_bare true false attr_d attr_f filed x y e = absurd (cc)
+formed_bare false named attr_d attr_f filed x y e = (e, refl)
+
+small_fork : (k m : ℕ) → k ≤ m → m ≤ 268435456 → is_quad k ≡ true
+small_fork k m h l = lt_true k 18446744073709551616 (omega (arith, h, l))
+
+-- what is known of each row
+abbrev pub is_good_row : VolumeState → VolumeRow → Bool
+is_good_row v r = (is_typed_row r && is_formed_row r) && (is_in_place v r && nat_le (length r.data_fork + length r.resource_fork) most_fork_bytes)
+
+pub node_formed : (v : VolumeState) (r : VolumeRow) → is_good_row v r ≡ true → is_formed_node v.name (node_of r) ≡ true
+node_formed v r g =
+    let first = left_true (is_typed_row r && is_formed_row r) (is_in_place v r && nat_le (length r.data_fork + length r.resource_fork) most_fork_bytes) g in
+    let second = right_true (is_typed_row r && is_formed_row r) (is_in_place v r && nat_le (length r.data_fork + length r.resource_fork) most_fork_bytes) g in
+    let place = left_true (is_in_place v r) (nat_le (length r.data_fork + length r.resource_fork) most_fork_bytes) second in
+    let small : length r.data_fork + length r.resource_fork ≤ 268435456 = le_of _ _ (right_true (is_in_place v r) (nat_le (length r.data_fork + length r.resource_fork) most_fork_bytes) second) in
+    let typed : is_typed_row (bare_row (node_of r)) ≡ true = typed_bare (is_long r.id) (is_long r.parent) (is_word r.attributes) (is_date r.created) (is_date r.modified) (is_date r.backup) (are_bytes r.finder) (are_bytes r.name) (are_bytes r.data_fork) (are_bytes r.resource_fork)
+    (left_true (is_typed_row r) (is_formed_row r) first) in
+    let formed = formed_bare r.dir (is_named r) (bit_and r.attributes dir_attributes == r.attributes) (bit_and r.attributes file_attributes == r.attributes) r.filed (length r.data_fork == 0) (length r.resource_fork == 0) (right_true (is_typed_row r) (is_formed_row r) first) in
+    let data_length = small_fork (length r.data_fork) 268435456 (omega (arith, small)) (omega arith) in
+    let resource_length = small_fork (length r.resource_fork) 268435456 (omega (arith, small)) (omega arith) in
+    let root : is_root_or_other v.name (node_of r) ≡ true = pick (r.id == root_id) (r.dir && ((r.parent == root_parent) && bytes_eq r.name v.name)) true
+    (λ e. then_of (r.id == root_id) (r.dir && ((r.parent == root_parent) && bytes_eq r.name v.name)) ((nat_le first_id r.id && nat_lt r.id v.next_id) && leads_to_root v.rows (length v.rows) r.parent) e place) (λ e. refl) in
+    λ i. typed i && (formed.0 i && (((data_length i && resource_length i) && formed.1 i) && root i))
+
+-- ---- no rule holds of a node
+
+not_below : (a b : ℕ) → nat_lt a b ≡ true → nat_le b a ≡ false
+not_below a b e = grind (arith, e)
+
+root_low : (id next : ℕ) → (id == root_id) ≡ true → (not (id == root_id) && (nat_lt id first_id || nat_le next id)) ≡ false
+root_low id next e = ap (λ b. not b && (nat_lt id first_id || nat_le next id)) e
+
+module _ (v : VolumeState) (facts : SoundFacts v) where
+  pub node_placed : (r : VolumeRow) → is_in_place v r ≡ true → lacks_parent (tables_of v) (row.Node (node_of r)) ≡ false
+  node_placed r place = cases (r.id == root_id)
+      (λ e. ap (λ b. not b && not (has_node (map bare_row (map node_of v.rows)) root_id && leads_to_root (map bare_row (map node_of v.rows)) (length (map bare_row (map node_of v.rows))) r.parent)) e)
+      (λ e.
+      let leads = right_true (nat_le first_id r.id && nat_lt r.id v.next_id) (leads_to_root v.rows (length v.rows) r.parent) (else_of (r.id == root_id) (r.dir && ((r.parent == root_parent) && bytes_eq r.name v.name)) ((nat_le first_id r.id && nat_lt r.id v.next_id) && leads_to_root v.rows (length v.rows) r.parent) e place) in
+      let root = nodes_same v.rows root_id ∙ facts.root in
+      let same : leads_to_root (map bare_row (map node_of v.rows)) (length (map bare_row (map node_of v.rows))) r.parent ≡ true =
+      ap (λ k. leads_to_root (map bare_row (map node_of v.rows)) k r.parent) (length-mapped bare_row (map node_of v.rows) ∙ length-mapped node_of v.rows) ∙ leads_same v.rows (length v.rows) r.parent ∙ leads in
+      λ i. not (e i) && not (root i && same i))
+
+  pub node_inside : (r : VolumeRow) → is_in_place v r ≡ true → is_out_of_range (tables_of v) (row.Node (node_of r)) ≡ false
+  node_inside r place = cases (r.id == root_id)
+      (λ e. root_low r.id v.next_id e)
+      (λ e.
+      let range = left_true (nat_le first_id r.id && nat_lt r.id v.next_id) (leads_to_root v.rows (length v.rows) r.parent) (else_of (r.id == root_id) (r.dir && ((r.parent == root_parent) && bytes_eq r.name v.name)) ((nat_le first_id r.id && nat_lt r.id v.next_id) && leads_to_root v.rows (length v.rows) r.parent) e place) in
+      let low = lt_false r.id first_id (le_of _ _ (left_true (nat_le first_id r.id) (nat_lt r.id v.next_id) range)) in
+      let high = not_below r.id v.next_id (right_true (nat_le first_id r.id) (nat_lt r.id v.next_id) range) in
+      λ i. not (e i) && (low i || high i))
+
+  pub node_few : (r : VolumeRow) → passes_limit (tables_of v) (row.Node (node_of r)) ≡ false
+  node_few r =
+      let count = lt_false most_nodes (length (nodes_to (node_of r) (tables_of v))) (let a = filter-most (λ (o : Node). nat_le o.id r.id) (map node_of v.rows) in let b = length-mapped node_of v.rows in let c = facts.few_rows in omega (arith, a, b, c)) in
+      let sum = lt_false most_fork_bytes (sum_by (λ (o : Node). o.data_length + o.resource_length) (nodes_to (node_of r) (tables_of v)))
+      (let a = sum-filter (λ (o : Node). o.data_length + o.resource_length) (λ o. nat_le o.id r.id) (map node_of v.rows) in
+      let b = sum-map (λ (o : Node). o.data_length + o.resource_length) node_of (λ (s : VolumeRow). length s.data_fork + length s.resource_fork) v.rows (λ s. refl) in
+      let c = facts.few_bytes in omega (arith, a, b, c)) in
+      either_false _ _ count sum
+
+-- nodes whose names are apart have no twins
+later_none : (x : Node) (xs : List Node) → list_all (λ (n : Node). nat_lt x.id n.id) xs ≡ true → list_all (λ (o : Node). not (nat_lt o.id x.id && alike o x)) xs ≡ true
+later_none x xs c = all-more (λ (n : Node). nat_lt x.id n.id) (λ (o : Node). not (nat_lt o.id x.id && alike o x)) xs
+    (λ o e. let low : nat_lt o.id x.id ≡ false = lt_false _ _ (let l : x.id < o.id = lt_of _ _ e in omega arith) in ap (λ b. not (b && alike o x)) low) c
+
+not_and : (a b : Bool) → b ≡ false → not (a && b) ≡ true
+not_and true b e = not_true b e
+not_and false b e = refl
+
+pub no_twins_apart : (ns : List Node) → Chain (λ (a : Node) b. nat_lt a.id b.id) ns → are_apart alike ns ≡ true → no_twins ns ns ≡ true
+no_twins_apart [] c e = refl
+no_twins_apart (x ∷ xs) c e =
+    let two = parts (not (list_any (alike x) xs)) (are_apart alike xs) e in
+    let itself : not (nat_lt x.id x.id && alike x x) ≡ true = ap (λ b. not (b && alike x x)) (lt_false x.id x.id (omega arith)) in
+    let rest = no_twins_apart xs c.1 two.1 in
+    both_true (list_all (λ (o : Node). not (nat_lt o.id x.id && alike o x)) (x ∷ xs)) (no_twins (x ∷ xs) xs)
+    (both_true (not (nat_lt x.id x.id && alike x x)) (list_all (λ (o : Node). not (nat_lt o.id x.id && alike o x)) xs) itself (later_none x xs c.0))
+    (all-more (λ (n : Node). not (alike x n) && list_all (λ (o : Node). not (nat_lt o.id n.id && alike o n)) xs) (λ (n : Node). list_all (λ (o : Node). not (nat_lt o.id n.id && alike o n)) (x ∷ xs)) xs
+    (λ n h. both_true (not (nat_lt x.id n.id && alike x n)) (list_all (λ (o : Node). not (nat_lt o.id n.id && alike o n)) xs)
+    (not_and (nat_lt x.id n.id) (alike x n) (turn_false (alike x n) (left_true (not (alike x n)) (list_all (λ (o : Node). not (nat_lt o.id n.id && alike o n)) xs) h)))
+    (right_true (not (alike x n)) (list_all (λ (o : Node). not (nat_lt o.id n.id && alike o n)) xs) h))
+    (all-both (λ (n : Node). not (alike x n)) (λ (n : Node). list_all (λ (o : Node). not (nat_lt o.id n.id && alike o n)) xs) xs (none_of (alike x) xs (turn_false (list_any (alike x) xs) two.0)) rest))
+  where
+    none_of : (p : Node → Bool) (ys : List Node) → list_any p ys ≡ false → list_all (λ y. not (p y)) ys ≡ true
+    none_of p [] h = refl
+    none_of p (y ∷ ys) h = let t = neither (p y) (list_any p ys) h in both_true (not (p y)) (list_all (λ y. not (p y)) ys) (not_true (p y) t.0) (none_of p ys t.1)
+
+pub apart_nodes : (rs : List VolumeRow) → are_apart alike (map node_of rs) ≡ are_apart are_named_alike rs
+apart_nodes [] = refl
+apart_nodes (r ∷ rs) = λ i. not (any-map (alike (node_of r)) node_of rs i) && apart_nodes rs i
+
+-- ---- no rule holds of a block
+
+-- the forks of rows with one id are equally long
+abbrev pub same_forks : VolumeRow → VolumeRow → Bool
+same_forks r o = not (o.id == r.id) || ((length o.data_fork == length r.data_fork) && (length o.resource_fork == length r.resource_fork))
+
+other_id : (r o : VolumeRow) → (o.id ≡ r.id → ⊥) → same_forks r o ≡ true
+other_id r o h = or_left (not (o.id == r.id)) ((length o.data_fork == length r.data_fork) && (length o.resource_fork == length r.resource_fork)) (ap not (other_false o.id r.id h))
+
+pub one_row : (rs : List VolumeRow) → Chain (λ (a : VolumeRow) b. nat_lt a.id b.id) rs → list_all (λ r. list_all (same_forks r) rs) rs ≡ true
+one_row [] c = refl
+one_row (x ∷ xs) c =
+    let itself : same_forks x x ≡ true = or_right (not (x.id == x.id)) ((length x.data_fork == length x.data_fork) && (length x.resource_fork == length x.resource_fork))
+    (both_true (length x.data_fork == length x.data_fork) (length x.resource_fork == length x.resource_fork) (same_true (length x.data_fork) (length x.data_fork) refl) (same_true (length x.resource_fork) (length x.resource_fork) refl)) in
+    both_true (list_all (same_forks x) (x ∷ xs)) (list_all (λ r. list_all (same_forks r) (x ∷ xs)) xs)
+    (both_true (same_forks x x) (list_all (same_forks x) xs) itself (all-more (λ (o : VolumeRow). nat_lt x.id o.id) (same_forks x) xs (λ o e. other_id x o (λ h. absurd (let l : x.id < o.id = lt_of _ _ e in omega arith))) c.0))
+    (all-more (λ (r : VolumeRow). nat_lt x.id r.id && list_all (same_forks r) xs) (λ r. list_all (same_forks r) (x ∷ xs)) xs
+    (λ r h. both_true (same_forks r x) (list_all (same_forks r) xs)
+    (other_id r x (λ k. absurd (let l : x.id < r.id = lt_of _ _ (left_true (nat_lt x.id r.id) (list_all (same_forks r) xs) h) in omega arith)))
+    (right_true (nat_lt x.id r.id) (list_all (same_forks r) xs) h))
+    (all-both (λ (r : VolumeRow). nat_lt x.id r.id) (λ r. list_all (same_forks r) xs) xs c.0 (one_row xs c.1)))
+
+-- a row is a directory, or its file is there
+pub each_there : (rs : List VolumeRow) → list_all (λ (r : VolumeRow). r.dir || has_file rs r.id) rs ≡ true
+each_there [] = refl
+each_there (x ∷ xs) =
+    both_true (x.dir || has_file (x ∷ xs) x.id) (list_all (λ (r : VolumeRow). r.dir || has_file (x ∷ xs) r.id) xs)
+    (cases x.dir (λ d. or_left x.dir (has_file (x ∷ xs) x.id) d)
+    (λ d. or_right x.dir (has_file (x ∷ xs) x.id) (or_left (x.id == x.id && not x.dir) (has_file xs x.id) (both_true (x.id == x.id) (not x.dir) (same_true x.id x.id refl) (not_true x.dir d)))))
+    (all-more (λ (r : VolumeRow). r.dir || has_file xs r.id) (λ (r : VolumeRow). r.dir || has_file (x ∷ xs) r.id) xs
+    (λ r e. cases r.dir (λ d. or_left r.dir (has_file (x ∷ xs) r.id) d)
+    (λ d. or_right r.dir (has_file (x ∷ xs) r.id) (or_right (x.id == r.id && not x.dir) (has_file xs r.id) (ap (λ b. b || has_file xs r.id) (sym d) ∙ e)))) (each_there xs))
+
+-- what is known of each row with all others
+abbrev pub is_known_row : VolumeState → VolumeRow → Bool
+is_known_row v r = is_good_row v r && (list_all (same_forks r) v.rows && (r.dir || has_file v.rows r.id))
+
+abbrev pub fork_of : Bool → VolumeRow → List ℕ
+fork_of true r = r.resource_fork
+fork_of false r = r.data_fork

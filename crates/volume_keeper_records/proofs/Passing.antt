@@ -1,0 +1,365 @@
+-- The reasons of a pass by rising key are those among all records.
+use Rattle.std.proofs.Common.{◌≡◌, ◌∙◌, ℕ, zero, suc, ◌+◌, ◌*◌, ◌<◌, ◌≤◌, Bool, true, false, cond, not, List, [], ◌∷◌, ◌++◌, map, length, take, drop, get_or, refl, sym, ap, subst, arith, Option, length-append}
+use Rattle.std.specs.Prelude.{Some, None, nat_le, nat_lt, ◌&&◌, ◌||◌, ◌==◌, bytes_eq, sum_by}
+use Rattle.std.specs.List.{list_all, list_any, filter, filter_map, cons_option, AllByRecursion}
+use Rattle.std.specs.List.Sorted.{IsStrictlySortedBy}
+use Rattle.std.specs.Cmp.{nat_cmp_is}
+use Rattle.std.specs.Cmp.Lexicographic.{slice_cmp}
+use Rattle.std.specs.Ordering.{nat_cmp}
+use Rattle.std.specs.declared.cmp.Ordering.TheVariants.{Less}
+use Rattle.std.proofs.lemmas.List.{take_more, take-append-drop, get_or-map, map-append}
+use Rattle.std.proofs.Math.Seq.{drop-cons}
+use Rattle.afp_names.specs.Name.{name_key}
+use Rattle.volume_spec.specs.VolumeState.{Icon, Appl, root_id, Row as VolumeRow}
+use Rattle.volume_spec.specs.Order.{stands_before}
+use Rattle.afp_base.specs.Limits.{most_fork_bytes}
+use Rattle.volume_spec.specs.SoundVolume.{has_node, has_file, leads_to_root, are_named_alike, icon_key, appl_key, most_nodes, most_icons, most_appls}
+use Rattle.volume_spec.proofs.TestedLists.{any-map, length-mapped}
+use Rattle.record_keeper.specs.declared.record.Record.{Record}
+use Rattle.volume_keeper_records.specs.declared.rows.Node.{Node}
+use Rattle.volume_keeper_records.specs.declared.rows.Reason.{Reason}
+use Rattle.volume_keeper_records.specs.declared.rows.Reason.TheVariants.{Parent, Twin, Range, Limit}
+use Rattle.volume_keeper_records.specs.declared.rows.TableRow.{TableRow}
+use Rattle.volume_keeper_records.specs.declared.rows.TableRow.TheVariants as row
+use Rattle.volume_keeper_records.specs.declared.tree.Place.{Place}
+use Rattle.volume_keeper_records.specs.Records.{record_of}
+use Rattle.volume_keeper_records.specs.Shape.{row_in, bare_row, is_formed_record}
+use Rattle.volume_keeper_records.specs.Image.{Tables, tables_in, first_head, as_head, as_node, as_icon, as_appl}
+use Rattle.volume_keeper_records.specs.KeyOrder.{IsBelow, RisesByKey}
+use Rattle.volume_keeper_records.specs.FirstBad.{rows_in, fork_length, nodes_to, icons_to, appls_to, lacks_parent, is_twin, is_out_of_range, passes_limit, first_of, reason_of, bad_or, first_in}
+use Rattle.volume_keeper_records.specs.lemma.Climb.{id_of, climbs_to_root}
+use Rattle.volume_keeper_records.specs.lemma.Judged.{place_of, said_node, places_in, is_there, is_file_there, length_of, is_stray_here, is_outside_here, Before, is_twin_here, fork_sum, is_over_here, reason_here, and_row, next_in, next_or, said_rows, is_short_row, IsNamedRow}
+use Rattle.volume_keeper_records.proofs.TestParts.{left_true, right_true, both_true, lt_of, le_true, lt_false, same_of, same_true, other_false, bytes_same, bytes_true, cases, any-same, all-ends}
+use Rattle.volume_keeper_records.proofs.Chains.{Chain, sum-cons}
+use Rattle.volume_keeper_records.proofs.ReadBack.{row_is}
+use Rattle.volume_keeper_records.proofs.RowKinds.{by_kind, behind_head, nil_behind}
+use Rattle.volume_keeper_records.proofs.RowOrder.{rows_ends, icon_before, appl_before, before_itself, before_turned}
+use Rattle.volume_keeper_records.proofs.Facts.{InOrder, order_behind, short_block, node_name}
+
+-- what stands before, of some rows
+abbrev pub before_of : List TableRow → Before
+before_of rows = record { nodes = filter_map as_node rows; icons = length (filter_map as_icon rows); appls = length (filter_map as_appl rows) }
+
+-- ---- rows that are there
+
+module _ {X Y : Type 0} (f : X → Option Y) where
+  first_and : (o : Option Y) (xs ys : List Y) → cons_option o (xs ++ ys) ≡ cons_option o xs ++ ys
+  first_and None xs ys = refl
+  first_and (Some x) xs ys = refl
+
+  pub of_both : (xs ys : List X) → filter_map f (xs ++ ys) ≡ filter_map f xs ++ filter_map f ys
+  of_both [] ys = refl
+  of_both (x ∷ xs) ys = ap (cons_option (f x)) (of_both xs ys) ∙ first_and (f x) (filter_map f xs) (filter_map f ys)
+
+pub said_none : [] ≡ said_rows []
+unfolding said_rows
+said_none = refl
+
+pub said_push : (rows : List (Option TableRow)) (o : Option TableRow) → said_rows (rows ++ o ∷ []) ≡ said_rows rows ++ cons_option o []
+unfolding said_rows
+said_push rows o = of_both (λ o. o) rows (o ∷ [])
+
+pub said_all : (name : List ℕ) (records : List Record) → said_rows (map (row_in name) records) ≡ rows_in name records
+unfolding said_rows
+said_all name [] = refl
+said_all name (r ∷ records) = unfold said_rows in ap (cons_option (row_in name r)) (said_all name records)
+
+pub pushed_places : (rows : List (Option TableRow)) (i : ℕ) (o : Option TableRow) → i < length rows → o ≡ get_or rows i o → places_in (take (i + 1) rows) ≡ places_in (take i rows) ++ map place_of (cons_option (said_node o) [])
+pushed_places rows i o h e =
+    ap places_in (take_more rows i o h ∙ ap (λ (x : Option TableRow). take i rows ++ x ∷ []) (sym e))
+    ∙ ap (map place_of) (of_both said_node (take i rows) (o ∷ [])) ∙ map-append place_of (filter_map said_node (take i rows)) (cons_option (said_node o) [])
+
+said_as : (x : TableRow) → said_node (Some x) ≡ as_node x
+said_as (row.Head h) = refl
+said_as (row.Node n) = refl
+said_as (row.Block b) = refl
+said_as (row.Comment c) = refl
+said_as (row.Icon i) = refl
+said_as (row.Appl a) = refl
+
+one_said : (o : Option TableRow) (ns : List Node) (xs : List TableRow) → ns ≡ filter_map as_node xs → cons_option (said_node o) ns ≡ filter_map as_node (cons_option o xs)
+one_said None ns xs e = e
+one_said (Some x) ns xs e = λ i. cons_option (said_as x i) (e i)
+
+nodes_said : (name : List ℕ) (records : List Record) → filter_map said_node (map (row_in name) records) ≡ filter_map as_node (rows_in name records)
+nodes_said name [] = refl
+nodes_said name (r ∷ records) = one_said (row_in name r) (filter_map said_node (map (row_in name) records)) (rows_in name records) (nodes_said name records)
+
+one_next : (o : Option TableRow) (next : ℕ) (xs : List TableRow) → next ≡ (first_head (filter_map as_head xs)).next_id → next_or o next ≡ (first_head (filter_map as_head (cons_option o xs))).next_id
+one_next None next xs e = e
+one_next (Some (row.Head h)) next xs e = refl
+one_next (Some (row.Node n)) next xs e = e
+one_next (Some (row.Block b)) next xs e = e
+one_next (Some (row.Comment c)) next xs e = e
+one_next (Some (row.Icon i)) next xs e = e
+one_next (Some (row.Appl a)) next xs e = e
+
+next_said : (name : List ℕ) (records : List Record) → next_in (map (row_in name) records) ≡ (first_head (filter_map as_head (rows_in name records))).next_id
+next_said name [] = refl
+next_said name (r ∷ records) = one_next (row_in name r) (next_in (map (row_in name) records)) (rows_in name records) (next_said name records)
+
+-- ---- what was read stands in order
+
+below_read : (k : List ℕ) (name : List ℕ) (o : Option TableRow) (r : Record) (xs : List TableRow) → ((x : TableRow) → o ≡ Some x → record_of x ≡ r) → slice_cmp nat_cmp k r.key ≡ Less → IsBelow k (map record_of xs) → IsBelow k (map record_of (cons_option o xs))
+below_read k name None r xs is e b = b
+below_read k name (Some x) r xs is e b = (ap (λ (q : Record). slice_cmp nat_cmp k q.key) (is x refl) ∙ e, b)
+
+below_rows : (k : List ℕ) (name : List ℕ) (records : List Record) → IsBelow k records → IsBelow k (map record_of (rows_in name records))
+below_rows k name [] b = tt
+below_rows k name (r ∷ records) b = below_read k name (row_in name r) r (rows_in name records) (λ x e. (row_is name r x e).1) b.0 (below_rows k name records b.1)
+
+rises_read : (name : List ℕ) (o : Option TableRow) (r : Record) (xs : List TableRow) → ((x : TableRow) → o ≡ Some x → record_of x ≡ r) → IsBelow r.key (map record_of xs) → RisesByKey (map record_of xs) → RisesByKey (map record_of (cons_option o xs))
+rises_read name None r xs is b s = s
+rises_read name (Some x) r xs is b s = (subst (λ (q : Record). IsBelow q.key (map record_of xs)) (sym (is x refl)) b, s)
+
+rows_rise : (name : List ℕ) (records : List Record) → RisesByKey records → RisesByKey (map record_of (rows_in name records))
+rows_rise name [] s = tt
+rows_rise name (r ∷ records) s = rises_read name (row_in name r) r (rows_in name records) (λ x e. (row_is name r x e).1) (below_rows r.key name records s.0) (rows_rise name records s.1)
+
+formed_read : (name : List ℕ) (o : Option TableRow) (xs : List TableRow) → ((x : TableRow) → o ≡ Some x → is_formed_record name x ≡ true) → list_all (is_formed_record name) xs ≡ true → list_all (is_formed_record name) (cons_option o xs) ≡ true
+formed_read name None xs is e = e
+formed_read name (Some x) xs is e = both_true (is_formed_record name x) (list_all (is_formed_record name) xs) (is x refl) e
+
+rows_formed : (name : List ℕ) (records : List Record) → list_all (is_formed_record name) (rows_in name records) ≡ true
+rows_formed name [] = refl
+rows_formed name (r ∷ records) = formed_read name (row_in name r) (rows_in name records) (λ x e. (row_is name r x e).0) (rows_formed name records)
+
+order_read : (name : List ℕ) (records : List Record) → RisesByKey records → InOrder (tables_in (rows_in name records))
+order_read name records s =
+    let rows : List TableRow = rows_in name records in
+    let whole = by_kind (rows_in name records) (rows_rise name records s) in
+    let heads : List TableRow = map (λ h. row.Head h) (filter_map as_head (rows_in name records)) in
+    let rest = (rows_ends heads (behind_head (tables_in (rows_in name records))) (subst (λ (l : List TableRow). RisesByKey (map record_of l)) (sym whole) (rows_rise name records s))).1 in
+    let formed = (all-ends (is_formed_record name) heads (behind_head (tables_in (rows_in name records))) (ap (list_all (is_formed_record name)) whole ∙ rows_formed name records)).1 in
+    order_behind name (tables_in (rows_in name records)) rest formed
+
+below_each : (id : ℕ) (ns : List Node) → list_all (λ (n : Node). nat_lt id n.id) ns ≡ true → AllByRecursion (λ y. nat_cmp id y ≡ Less) (map id_of (map place_of ns))
+below_each id [] b = tt
+below_each id (n ∷ ns) b = (sym (nat_cmp_is id n.id Less (lt_of _ _ (left_true (nat_lt id n.id) (list_all (λ (n : Node). nat_lt id n.id) ns) b))), below_each id ns (right_true (nat_lt id n.id) (list_all (λ (n : Node). nat_lt id n.id) ns) b))
+
+ids_sorted : (ns : List Node) → Chain (λ (a : Node) b. nat_lt a.id b.id) ns → IsStrictlySortedBy nat_cmp (map id_of (map place_of ns))
+unfolding IsStrictlySortedBy
+ids_sorted [] c = tt
+ids_sorted (n ∷ ns) c = (below_each n.id ns c.0, ids_sorted ns c.1)
+
+-- ---- what is asked by places
+
+there_same : (ns : List Node) (id : ℕ) → has_node (map bare_row ns) id ≡ is_there (map place_of ns) id
+there_same ns id = any-map (λ (r : VolumeRow). r.id == id) bare_row ns ∙ sym (any-map (λ (p : Place). p.id == id) place_of ns)
+
+file_same : (ns : List Node) (id : ℕ) → has_file (map bare_row ns) id ≡ is_file_there (map place_of ns) id
+file_same ns id = any-map (λ (r : VolumeRow). r.id == id && not r.dir) bare_row ns ∙ sym (any-map (λ (p : Place). (p.id == id) && not p.is_directory) place_of ns)
+
+leads_same : (ns : List Node) (k id : ℕ) → leads_to_root (map bare_row ns) k id ≡ climbs_to_root (map place_of ns) k id
+leads_same ns zero id = refl
+leads_same ns (suc k) id = ap (λ b. (id == root_id) || b)
+    (any-map (λ (r : VolumeRow). (r.id == id) && (r.dir && leads_to_root (map bare_row ns) k r.parent)) bare_row ns
+    ∙ any-same (λ (n : Node). (n.id == id) && (n.is_directory && leads_to_root (map bare_row ns) k n.parent)) (λ (n : Node). (n.id == id) && (n.is_directory && climbs_to_root (map place_of ns) k n.parent)) ns
+    (λ n. ap (λ b. (n.id == id) && (n.is_directory && b)) (leads_same ns k n.parent))
+    ∙ sym (any-map (λ (p : Place). (p.id == id) && (p.is_directory && climbs_to_root (map place_of ns) k p.parent)) place_of ns))
+
+climbs_same : (ns : List Node) (id : ℕ) → leads_to_root (map bare_row ns) (length (map bare_row ns)) id ≡ climbs_to_root (map place_of ns) (length (map place_of ns)) id
+climbs_same ns id = ap (λ k. leads_to_root (map bare_row ns) k id) (length-mapped bare_row ns ∙ sym (length-mapped place_of ns)) ∙ leads_same ns (length (map place_of ns)) id
+
+stray_same : (t : Tables) (x : TableRow) → lacks_parent t x ≡ is_stray_here (map place_of t.nodes) x
+stray_same t (row.Head h) = refl
+stray_same t (row.Node n) = λ i. not (n.id == root_id) && not (there_same t.nodes root_id i && climbs_same t.nodes n.parent i)
+stray_same t (row.Block b) = ap not (file_same t.nodes b.node)
+stray_same t (row.Comment c) = ap not (there_same t.nodes c.node)
+stray_same t (row.Icon j) = refl
+stray_same t (row.Appl a) = ap not (file_same t.nodes a.node)
+
+length_same : (r : Bool) (n : Node) → fork_length r n ≡ length_of r (place_of n)
+length_same true n = refl
+length_same false n = refl
+
+outside_same : (t : Tables) (x : TableRow) → is_out_of_range t x ≡ is_outside_here (map place_of t.nodes) t.head.next_id x
+outside_same t (row.Head h) = refl
+outside_same t (row.Node n) = refl
+outside_same t (row.Block b) =
+    any-same (λ (n : Node). (n.id == b.node) && nat_lt (fork_length b.is_resource n) (4096 * b.index + length b.bytes)) (λ (n : Node). (n.id == b.node) && nat_lt (length_of b.is_resource (place_of n)) (4096 * b.index + length b.bytes)) t.nodes
+    (λ n. ap (λ k. (n.id == b.node) && nat_lt k (4096 * b.index + length b.bytes)) (length_same b.is_resource n))
+    ∙ sym (any-map (λ (p : Place). (p.id == b.node) && nat_lt (length_of b.is_resource p) (4096 * b.index + length b.bytes)) place_of t.nodes)
+outside_same t (row.Comment c) = refl
+outside_same t (row.Icon j) = refl
+outside_same t (row.Appl a) = refl
+
+-- ---- what is asked of the lower is asked of those before
+
+all-middle : {A : Type 0} (p : A → Bool) (xs : List A) (n : A) (ys : List A) → list_all p (xs ++ n ∷ ys) ≡ true → p n ≡ true
+all-middle p [] n ys e = left_true (p n) (list_all p ys) e
+all-middle p (x ∷ xs) n ys e = all-middle p xs n ys (right_true (p x) (list_all p (xs ++ n ∷ ys)) e)
+
+module _ {A : Type 0} (R le : A → A → Bool) (up : (a b : A) → R a b ≡ true → le a b ≡ true) (itself : (a : A) → le a a ≡ true) (down : (a b : A) → R a b ≡ true → le b a ≡ false) where
+  none_to : (n : A) (ys : List A) → list_all (R n) ys ≡ true → filter (λ o. le o n) ys ≡ []
+  none_to n [] e = refl
+  none_to n (y ∷ ys) e = ap (λ b. cond b (y ∷ filter (λ o. le o n) ys) (filter (λ o. le o n) ys)) (down n y (left_true (R n y) (list_all (R n) ys) e)) ∙ none_to n ys (right_true (R n y) (list_all (R n) ys) e)
+
+  pub up_to : (xs : List A) (n : A) (ys : List A) → Chain R (xs ++ n ∷ ys) → filter (λ o. le o n) (xs ++ n ∷ ys) ≡ xs ++ n ∷ []
+  up_to [] n ys c = ap (λ b. cond b (n ∷ filter (λ o. le o n) ys) (filter (λ o. le o n) ys)) (itself n) ∙ ap (λ l. n ∷ l) (none_to n ys c.0)
+  up_to (x ∷ xs) n ys c = ap (λ b. cond b (x ∷ filter (λ o. le o n) (xs ++ n ∷ ys)) (filter (λ o. le o n) (xs ++ n ∷ ys))) (up x n (all-middle (R x) xs n ys c.0)) ∙ ap (λ l. x ∷ l) (up_to xs n ys c.1)
+
+none_lower : (n : Node) (p : Node → Bool) (ys : List Node) → list_all (λ (m : Node). nat_lt n.id m.id) ys ≡ true → list_any (λ o. nat_lt o.id n.id && p o) ys ≡ false
+none_lower n p [] e = refl
+none_lower n p (y ∷ ys) e =
+    let high : n.id < y.id = lt_of _ _ (left_true (nat_lt n.id y.id) (list_all (λ (m : Node). nat_lt n.id m.id) ys) e) in
+    ap (λ b. (b && p y) || list_any (λ o. nat_lt o.id n.id && p o) ys) (lt_false y.id n.id (omega arith)) ∙ none_lower n p ys (right_true (nat_lt n.id y.id) (list_all (λ (m : Node). nat_lt n.id m.id) ys) e)
+
+lower_before : (p : Node → Bool) (xs : List Node) (n : Node) (ys : List Node) → Chain (λ (a : Node) b. nat_lt a.id b.id) (xs ++ n ∷ ys) → list_any (λ o. nat_lt o.id n.id && p o) (xs ++ n ∷ ys) ≡ list_any p xs
+lower_before p [] n ys c = ap (λ b. (b && p n) || list_any (λ o. nat_lt o.id n.id && p o) ys) (lt_false n.id n.id (omega arith)) ∙ none_lower n p ys c.0
+lower_before p (x ∷ xs) n ys c =
+    ap (λ b. (b && p x) || list_any (λ o. nat_lt o.id n.id && p o) (xs ++ n ∷ ys)) (all-middle (λ (m : Node). nat_lt x.id m.id) xs n ys c.0) ∙ ap (λ b. p x || b) (lower_before p xs n ys c.1)
+
+eq_turned : (a b : ℕ) → (a == b) ≡ (b == a)
+eq_turned a b = cases (a == b) (λ t. t ∙ sym (same_true b a (sym (same_of a b t)))) (λ t. t ∙ sym (other_false b a (λ h. absurd (let k : true ≡ false = sym (same_true a b (sym h)) ∙ t in cc))))
+
+bytes_turned : (a b : List ℕ) → bytes_eq a b ≡ bytes_eq b a
+bytes_turned a b = cases (bytes_eq a b) (λ t. t ∙ sym (bytes_true b a (sym (bytes_same a b t))))
+    (λ t. cases (bytes_eq b a) (λ u. absurd (let k : true ≡ false = sym (bytes_true a b (sym (bytes_same b a u))) ∙ t in cc)) (λ u. t ∙ sym u))
+
+alike_turned : (n o : Node) → are_named_alike (bare_row o) (bare_row n) ≡ ((n.parent == o.parent) && bytes_eq (name_key n.name) (name_key o.name))
+alike_turned n o = λ i. eq_turned o.parent n.parent i && bytes_turned (name_key o.name) (name_key n.name) i
+
+pushed_length : {A : Type 0} (xs : List A) (n : A) → length (xs ++ n ∷ []) ≡ length xs + 1
+pushed_length xs n = omega (arith, length-append xs (n ∷ []))
+
+pushed_sum : {A : Type 0} (f : A → ℕ) (xs : List A) (n : A) → sum_by f (xs ++ n ∷ []) ≡ sum_by f xs + f n
+pushed_sum f [] n = refl
+pushed_sum f (x ∷ xs) n =
+    let rest = pushed_sum f xs n in
+    let a = sum-cons f (xs ++ n ∷ []) (0 + f x) in
+    let b = sum-cons f xs (0 + f x) in
+    omega (arith, rest, a, b)
+
+below_le : (a b : Node) → nat_lt a.id b.id ≡ true → nat_le a.id b.id ≡ true
+below_le a b e = let l : a.id < b.id = lt_of _ _ e in le_true _ _ (omega arith)
+
+below_not_le : (a b : Node) → nat_lt a.id b.id ≡ true → nat_le b.id a.id ≡ false
+below_not_le a b e = grind (arith, e)
+
+nodes_up_to : (xs : List Node) (n : Node) (ys : List Node) → Chain (λ (a : Node) b. nat_lt a.id b.id) (xs ++ n ∷ ys) → filter (λ (o : Node). nat_le o.id n.id) (xs ++ n ∷ ys) ≡ xs ++ n ∷ []
+nodes_up_to = up_to (λ (a : Node) b. nat_lt a.id b.id) (λ o m. nat_le o.id m.id) below_le (λ a. le_true _ _ (let l : a.id ≤ a.id = omega arith in l)) below_not_le
+
+key_not_above : (a b : List ℕ) → stands_before a b ≡ true → not (stands_before b a) ≡ true
+key_not_above a b e = ap not (before_turned a b e)
+
+icons_up_to : (xs : List Icon) (n : Icon) (ys : List Icon) → Chain icon_before (xs ++ n ∷ ys) → filter (λ (o : Icon). not (stands_before (icon_key n) (icon_key o))) (xs ++ n ∷ ys) ≡ xs ++ n ∷ []
+icons_up_to = up_to icon_before (λ o m. not (stands_before (icon_key m) (icon_key o))) (λ a b e. key_not_above (icon_key a) (icon_key b) e) (λ a. ap not (before_itself (icon_key a))) (λ a b e. ap not e)
+
+appls_up_to : (xs : List Appl) (n : Appl) (ys : List Appl) → Chain appl_before (xs ++ n ∷ ys) → filter (λ (o : Appl). not (stands_before (appl_key n) (appl_key o))) (xs ++ n ∷ ys) ≡ xs ++ n ∷ []
+appls_up_to = up_to appl_before (λ o m. not (stands_before (appl_key m) (appl_key o))) (λ a b e. key_not_above (appl_key a) (appl_key b) e) (λ a. ap not (before_itself (appl_key a))) (λ a b e. ap not e)
+
+-- the reason among all rows is the reason by what stands before
+same_reason : (t : Tables) (xs ys : List TableRow) (x : TableRow) → t ≡ tables_in (xs ++ x ∷ ys) → InOrder t → reason_of t (Some x) ≡ reason_here (map place_of t.nodes) t.head.next_id (before_of xs) (Some x)
+same_reason t xs ys x e order = λ i. first_of (stray_same t x i) Parent (first_of (twin x e i) Twin (first_of (outside_same t x i) Range (first_of (over x e i) Limit None)))
+  where
+    twin : (x : TableRow) → t ≡ tables_in (xs ++ x ∷ ys) → is_twin t x ≡ is_twin_here (before_of xs) x
+    twin (row.Node n) e =
+        let split : t.nodes ≡ filter_map as_node xs ++ n ∷ filter_map as_node ys = ap (λ (u : Tables). u.nodes) e ∙ of_both as_node xs (row.Node n ∷ ys) in
+        ap (list_any (λ (o : Node). nat_lt o.id n.id && are_named_alike (bare_row o) (bare_row n))) split
+        ∙ lower_before (λ o. are_named_alike (bare_row o) (bare_row n)) (filter_map as_node xs) n (filter_map as_node ys) (subst (Chain (λ (a : Node) b. nat_lt a.id b.id)) split order.nodes)
+        ∙ any-same (λ (o : Node). are_named_alike (bare_row o) (bare_row n)) (λ (o : Node). (n.parent == o.parent) && bytes_eq (name_key n.name) (name_key o.name)) (filter_map as_node xs) (alike_turned n)
+    twin (row.Head h) e = refl
+    twin (row.Block b) e = refl
+    twin (row.Comment c) e = refl
+    twin (row.Icon j) e = refl
+    twin (row.Appl a) e = refl
+
+    over : (x : TableRow) → t ≡ tables_in (xs ++ x ∷ ys) → passes_limit t x ≡ is_over_here (before_of xs) x
+    over (row.Node n) e =
+        let split : t.nodes ≡ filter_map as_node xs ++ n ∷ filter_map as_node ys = ap (λ (u : Tables). u.nodes) e ∙ of_both as_node xs (row.Node n ∷ ys) in
+        let to : nodes_to n t ≡ filter_map as_node xs ++ n ∷ [] = ap (filter (λ (o : Node). nat_le o.id n.id)) split ∙ nodes_up_to (filter_map as_node xs) n (filter_map as_node ys) (subst (Chain (λ (a : Node) b. nat_lt a.id b.id)) split order.nodes) in
+        let count : length (nodes_to n t) ≡ length (filter_map as_node xs) + 1 = ap length to ∙ pushed_length (filter_map as_node xs) n in
+        let sum : sum_by (λ (o : Node). o.data_length + o.resource_length) (nodes_to n t) ≡ fork_sum (filter_map as_node xs) + (n.data_length + n.resource_length) =
+        ap (sum_by (λ (o : Node). o.data_length + o.resource_length)) to ∙ pushed_sum (λ (o : Node). o.data_length + o.resource_length) (filter_map as_node xs) n in
+        λ i. nat_lt most_nodes (count i) || nat_lt most_fork_bytes (sum i)
+    over (row.Icon j) e =
+        let split : t.icons ≡ filter_map as_icon xs ++ j ∷ filter_map as_icon ys = ap (λ (u : Tables). u.icons) e ∙ of_both as_icon xs (row.Icon j ∷ ys) in
+        let to : icons_to j t ≡ filter_map as_icon xs ++ j ∷ [] = ap (filter (λ (o : Icon). not (stands_before (icon_key j) (icon_key o)))) split ∙ icons_up_to (filter_map as_icon xs) j (filter_map as_icon ys) (subst (Chain icon_before) split order.icons) in
+        ap (nat_lt most_icons) (ap length to ∙ pushed_length (filter_map as_icon xs) j)
+    over (row.Appl a) e =
+        let split : t.appls ≡ filter_map as_appl xs ++ a ∷ filter_map as_appl ys = ap (λ (u : Tables). u.appls) e ∙ of_both as_appl xs (row.Appl a ∷ ys) in
+        let to : appls_to a t ≡ filter_map as_appl xs ++ a ∷ [] = ap (filter (λ (o : Appl). not (stands_before (appl_key a) (appl_key o)))) split ∙ appls_up_to (filter_map as_appl xs) a (filter_map as_appl ys) (subst (Chain appl_before) split order.appls) in
+        ap (nat_lt most_appls) (ap length to ∙ pushed_length (filter_map as_appl xs) a)
+    over (row.Head h) e = refl
+    over (row.Block b) e = refl
+    over (row.Comment c) e = refl
+
+-- ---- the pass
+
+around : (records : List Record) (i : ℕ) (r : Record) → i < length records → r ≡ get_or records i r → records ≡ take i records ++ r ∷ drop (suc i) records
+around records i r h e = sym (take-append-drop i records) ∙ ap (λ (x : List Record). take i records ++ x) (drop-cons records i r h ∙ ap (λ (x : Record). x ∷ drop (suc i) records) (sym e))
+
+pub row_read : (name : List ℕ) (records : List Record) (rows : List (Option TableRow)) → rows ≡ map (row_in name) records → (i : ℕ) (r : Record) (o : Option TableRow) → i < length records → r ≡ get_or records i r → o ≡ get_or rows i o → o ≡ row_in name r
+row_read name records rows parsed i r o h e f = f ∙ ap (λ (x : List (Option TableRow)). get_or x i o) parsed ∙ get_or-map (row_in name) records i r o h ∙ ap (row_in name) (sym e)
+
+pub places_sorted : (name : List ℕ) (records : List Record) (rows : List (Option TableRow)) → rows ≡ map (row_in name) records → RisesByKey records → IsStrictlySortedBy nat_cmp (map id_of (places_in rows))
+places_sorted name records rows parsed s =
+    subst (λ (ns : List Node). IsStrictlySortedBy nat_cmp (map id_of (map place_of ns))) (sym (ap (filter_map said_node) parsed ∙ nodes_said name records)) (ids_sorted (filter_map as_node (rows_in name records)) (order_read name records s).nodes)
+
+short_formed : (name : List ℕ) (o : Option TableRow) → ((x : TableRow) → o ≡ Some x → is_formed_record name x ≡ true) → is_short_row o ≡ true
+short_formed name None f = refl
+short_formed name (Some (row.Head h)) f = refl
+short_formed name (Some (row.Node n)) f = refl
+short_formed name (Some (row.Block b)) f = short_block b (f (row.Block b) refl)
+short_formed name (Some (row.Comment c)) f = refl
+short_formed name (Some (row.Icon i)) f = refl
+short_formed name (Some (row.Appl a)) f = refl
+
+pub short_read : (name : List ℕ) (r : Record) (o : Option TableRow) → o ≡ row_in name r → is_short_row o ≡ true
+short_read name r o e = short_formed name o (λ x h. (row_is name r x (sym e ∙ h)).0)
+
+named_formed : (name : List ℕ) (o : Option TableRow) → ((x : TableRow) → o ≡ Some x → is_formed_record name x ≡ true) → IsNamedRow o
+named_formed name None f = tt
+named_formed name (Some (row.Head h)) f = tt
+named_formed name (Some (row.Node n)) f = node_name name n (f (row.Node n) refl)
+named_formed name (Some (row.Block b)) f = tt
+named_formed name (Some (row.Comment c)) f = tt
+named_formed name (Some (row.Icon i)) f = tt
+named_formed name (Some (row.Appl a)) f = tt
+
+pub named_read : (name : List ℕ) (r : Record) (o : Option TableRow) → o ≡ row_in name r → IsNamedRow o
+named_read name r o e = named_formed name o (λ x h. (row_is name r x (sym e ∙ h)).0)
+
+one_more : (xs : List TableRow) (o : Option TableRow) → and_row (before_of xs) o ≡ before_of (xs ++ cons_option o [])
+one_more xs None = ap before_of (sym (nil_behind xs))
+one_more xs (Some (row.Head h)) = λ i. record { nodes = sym (of_both as_node xs (row.Head h ∷ []) ∙ nil_behind (filter_map as_node xs)) i; icons = length (sym (of_both as_icon xs (row.Head h ∷ []) ∙ nil_behind (filter_map as_icon xs)) i); appls = length (sym (of_both as_appl xs (row.Head h ∷ []) ∙ nil_behind (filter_map as_appl xs)) i) }
+one_more xs (Some (row.Node n)) = λ i. record { nodes = sym (of_both as_node xs (row.Node n ∷ [])) i; icons = length (sym (of_both as_icon xs (row.Node n ∷ []) ∙ nil_behind (filter_map as_icon xs)) i); appls = length (sym (of_both as_appl xs (row.Node n ∷ []) ∙ nil_behind (filter_map as_appl xs)) i) }
+one_more xs (Some (row.Block h)) = λ i. record { nodes = sym (of_both as_node xs (row.Block h ∷ []) ∙ nil_behind (filter_map as_node xs)) i; icons = length (sym (of_both as_icon xs (row.Block h ∷ []) ∙ nil_behind (filter_map as_icon xs)) i); appls = length (sym (of_both as_appl xs (row.Block h ∷ []) ∙ nil_behind (filter_map as_appl xs)) i) }
+one_more xs (Some (row.Comment h)) = λ i. record { nodes = sym (of_both as_node xs (row.Comment h ∷ []) ∙ nil_behind (filter_map as_node xs)) i; icons = length (sym (of_both as_icon xs (row.Comment h ∷ []) ∙ nil_behind (filter_map as_icon xs)) i); appls = length (sym (of_both as_appl xs (row.Comment h ∷ []) ∙ nil_behind (filter_map as_appl xs)) i) }
+one_more xs (Some (row.Icon n)) = λ i. record { nodes = sym (of_both as_node xs (row.Icon n ∷ []) ∙ nil_behind (filter_map as_node xs)) i; icons = sym (ap length (of_both as_icon xs (row.Icon n ∷ [])) ∙ pushed_length (filter_map as_icon xs) n) i; appls = length (sym (of_both as_appl xs (row.Icon n ∷ []) ∙ nil_behind (filter_map as_appl xs)) i) }
+one_more xs (Some (row.Appl n)) = λ i. record { nodes = sym (of_both as_node xs (row.Appl n ∷ []) ∙ nil_behind (filter_map as_node xs)) i; icons = length (sym (of_both as_icon xs (row.Appl n ∷ []) ∙ nil_behind (filter_map as_icon xs)) i); appls = sym (ap length (of_both as_appl xs (row.Appl n ∷ [])) ∙ pushed_length (filter_map as_appl xs) n) i }
+
+pub pushed_before : (name : List ℕ) (records : List Record) (i : ℕ) (r : Record) (o : Option TableRow) → i < length records → r ≡ get_or records i r → o ≡ row_in name r → before_of (rows_in name (take (i + 1) records)) ≡ and_row (before_of (rows_in name (take i records))) o
+pushed_before name records i r o h e f =
+    ap (λ (x : List Record). before_of (rows_in name x)) (take_more records i r h ∙ ap (λ (x : Record). take i records ++ x ∷ []) (sym e))
+    ∙ ap before_of (of_both (row_in name) (take i records) (r ∷ []))
+    ∙ ap (λ (p : Option TableRow). before_of (rows_in name (take i records) ++ cons_option p [])) (sym f)
+    ∙ sym (one_more (rows_in name (take i records)) o)
+
+reason_read : (name : List ℕ) (records : List Record) → RisesByKey records → (xs : List Record) (r : Record) (ys : List Record) → records ≡ xs ++ r ∷ ys → (o : Option TableRow) → o ≡ row_in name r
+    → reason_of (tables_in (rows_in name records)) o ≡ reason_here (map place_of (tables_in (rows_in name records)).nodes) (tables_in (rows_in name records)).head.next_id (before_of (rows_in name xs)) o
+reason_read name records s xs r ys e None f = refl
+reason_read name records s xs r ys e (Some x) f =
+    same_reason (tables_in (rows_in name records)) (rows_in name xs) (rows_in name ys) x
+    (ap (λ (l : List Record). tables_in (rows_in name l)) e ∙ ap tables_in (of_both (row_in name) xs (r ∷ ys) ∙ ap (λ (p : Option TableRow). rows_in name xs ++ cons_option p (rows_in name ys)) (sym f)))
+    (order_read name records s)
+
+pub one_judged : (name : List ℕ) (records : List Record) (rows : List (Option TableRow)) → rows ≡ map (row_in name) records → RisesByKey records → (i : ℕ) (r : Record) (o : Option TableRow) (reason : Option Reason) → i < length records → r ≡ get_or records i r → o ≡ get_or rows i o
+    → reason ≡ reason_here (places_in rows) (next_in rows) (before_of (rows_in name (take i records))) o
+    → first_in name (tables_in (rows_in name records)) (drop i records) ≡ bad_or r.key reason (first_in name (tables_in (rows_in name records)) (drop (i + 1) records))
+one_judged name records rows parsed s i r o reason h e f why =
+    let t : Tables = tables_in (rows_in name records) in
+    let read = row_read name records rows parsed i r o h e f in
+    let nodes : filter_map said_node rows ≡ filter_map as_node (rows_in name records) = ap (filter_map said_node) parsed ∙ nodes_said name records in
+    let next : next_in rows ≡ (first_head (filter_map as_head (rows_in name records))).next_id = ap next_in parsed ∙ next_said name records in
+    ap (first_in name (tables_in (rows_in name records))) (drop-cons records i r h ∙ ap (λ (x : Record). x ∷ drop (suc i) records) (sym e))
+    ∙ ap (λ w. bad_or r.key w (first_in name (tables_in (rows_in name records)) (drop (suc i) records)))
+    (ap (reason_of (tables_in (rows_in name records))) (sym read)
+    ∙ reason_read name records s (take i records) r (drop (suc i) records) (around records i r h e) o read
+    ∙ (λ k. reason_here (map place_of (sym nodes k)) (sym next k) (before_of (rows_in name (take i records))) o) ∙ sym why)
+    ∙ ap (λ n. bad_or r.key reason (first_in name (tables_in (rows_in name records)) (drop n records))) (let n : suc i ≡ i + 1 = omega arith in n)
+
+-- the same reason with equal places and next ids
+pub why_among : (reason : Option Reason) (places there : List Place) (next here : ℕ) (before : Before) (o : Option TableRow) → reason ≡ reason_here places next before o → places ≡ there → next ≡ here → reason ≡ reason_here there here before o
+why_among reason places there next here before o w p n = w ∙ ap (λ (x : List Place). reason_here x next before o) p ∙ ap (λ x. reason_here there x before o) n

@@ -1,6 +1,0 @@
-use Rattle.std.proofs.Common.{◌≡◌, take, map}
-use Rattle.volume_records.specs.lemma.Climb.{id_of}
-use Rattle.volume_records.proofs.tree.grow.Given as goal
-
-abbrev pub invariant-loop-place : goal.invariant-loop-place
-invariant-loop-place l = l.ids.items ≡ map id_of (take l.place-index l.place-items)

@@ -1,0 +1,150 @@
+-- FPCreateFile that is not refused keeps a sound volume sound, also where a file goes for it.
+use Rattle.std.proofs.Common.{◌==◌, ◌≡◌, ◌∙◌, ap, sym, refl, subst, ℕ, zero, suc, ◌≤◌, ◌<◌, Bool, true, false, not, ◌&&◌, ◌||◌, List, [], ◌∷◌, length, inl, inr, Option, Some, None, arith}
+use Rattle.std.specs.Prelude.{option_map, nat_le, nat_lt, bytes_eq}
+use Rattle.std.specs.List.{list_any, list_all, find}
+use Rattle.std.proofs.lemmas.Bool.{and_parts, and_from, or_cases, or_left, or_right, cond_both, eqb-true, eq-eqb, cases_Bool, both_ways, leb-false, ne_eqb}
+use Rattle.std.proofs.lemmas.Slice.Eq.{bytes_eq-Decides}
+use Rattle.afp_base.specs.declared.code.Code.TheVariants.{ObjectExists, DiskFull, ObjectLocked, FileBusy, ObjectTypeErr}
+use Rattle.afp_names.specs.Name.{name_key}
+use Rattle.afp_names.specs.Path.{PathValue}
+use Rattle.volume_spec.proofs.CallsSound.{created-sound, or-none}
+use Rattle.volume_spec.proofs.Formed.{limit-parts}
+use Rattle.volume_spec.proofs.Leading.{goes_up, without-shorter}
+use Rattle.volume_spec.specs.SoundVolume.{are_named_alike, IsSoundVolume, has_apart_names, has_node, is_in_place, leads_to_root, most_nodes, last_next_id}
+use Rattle.volume_spec.proofs.Refusals.{none-holds, at-found, IsPlaceThere, place-there}
+use Rattle.volume_spec.proofs.SoundEdits.{sound-without}
+use Rattle.volume_spec.proofs.TestedLists.{contra, never, find-all, any-still, any-weaker, none-find, any-at}
+use Rattle.volume_spec.proofs.Trees.{TreeParts, tree-parts, drawn, any-with}
+use Rattle.volume_spec.proofs.Walks.{find-there, mapped-from, MappedFrom}
+use Rattle.volume_spec.specs.Edits.{has_children, without, without_node}
+use Rattle.afp_base.specs.Apart.{are_apart}
+use Rattle.volume_spec.specs.Shared.{Opened, has_no_room, has_no_ids, has_attribute, is_busy, delete_inhibit, created}
+use Rattle.volume_spec.specs.CreateFile.{create_file_there, without_replaced, create_file_refusal, create_file_effect}
+use Rattle.volume_spec.specs.VolumeState.{Row, VolumeState, root_id, root_parent, first_id}
+use Rattle.volume_spec.specs.Walk.{Place, new_place, has_directory, child_by_key, is_named_path}
+
+-- the root is a directory, in the root's parent
+root-place : (v : VolumeState) (row : Row) → (row.id == root_id) ≡ true → is_in_place v row ≡ true → (row.dir ≡ true) × ((row.parent == root_parent) ≡ true)
+root-place v row root placed =
+    cond_both (row.id == root_id) (row.dir && ((row.parent == root_parent) && bytes_eq row.name v.name)) ((nat_le first_id row.id && nat_lt row.id v.next_id) && leads_to_root v.rows (length v.rows) row.parent)
+    (λ b. b ≡ true → (row.dir ≡ true) × ((row.parent == root_parent) ≡ true))
+    (λ is h. let e = and_parts (row.dir) ((row.parent == root_parent) && bytes_eq row.name v.name) h in (e.0, (and_parts (row.parent == root_parent) (bytes_eq row.name v.name) e.1).0))
+    (λ other h. absurd (both_ways (row.id == root_id) other root)) placed
+
+root-directory : (v : VolumeState) → TreeParts v → has_directory v.rows root_id ≡ true
+root-directory v t = any-with (λ row. row.id == root_id) (is_in_place v) (λ row. (row.id == root_id) && row.dir) v.rows
+    (λ row root placed. and_from (row.id == root_id) (row.dir) root (root-place v row root placed).0) t.root t.placed
+
+-- what leads to the root is a directory
+leads-directory : (v : VolumeState) (n id : ℕ) → TreeParts v → leads_to_root v.rows n id ≡ true → has_directory v.rows id ≡ true
+leads-directory v zero id t h = ap (λ q. has_directory v.rows q) (eqb-true id root_id h) ∙ root-directory v t
+leads-directory v (suc n) id t h = elim (or_cases (id == root_id) (list_any (goes_up v.rows n id) v.rows) h) [
+  | inl is ↦ ap (λ q. has_directory v.rows q) (eqb-true id root_id is) ∙ root-directory v t
+  | inr some ↦ any-weaker (goes_up v.rows n id) (λ row. (row.id == id) && row.dir) v.rows (λ row step.
+      let e = and_parts (row.id == id) (row.dir && leads_to_root v.rows n row.parent) step in
+      and_from (row.id == id) (row.dir) e.0 (and_parts (row.dir) (leads_to_root v.rows n row.parent) e.1).0) some
+]
+
+-- a file has no children
+pub file-childless : (v : VolumeState) (id : ℕ) → TreeParts v → (id == root_parent) ≡ false → has_directory v.rows id ≡ false → has_children v.rows id ≡ false
+unfolding has_children
+file-childless v id t other file = elim (cases_Bool (list_any (λ row. row.parent == id) v.rows)) [
+  | inr none ↦ none
+  | inl some ↦ absurd (any-at (λ row. row.parent == id) (is_in_place v) v.rows some t.placed (λ row child placed. elim (cases_Bool (row.id == root_id)) [
+    | inl root ↦ both_ways (id == root_parent) other (ap (λ q. q == root_parent) (sym (eqb-true row.parent id child)) ∙ (root-place v row root placed).1)
+    | inr below ↦ both_ways (has_directory v.rows id) file
+        (ap (λ q. has_directory v.rows q) (sym (eqb-true row.parent id child)) ∙ leads-directory v (length v.rows) row.parent t (drawn v row below placed).way)
+  ]))
+]
+
+-- without the one element that passes none does
+pub find-only : (alike : Row → Row → Bool) (p : Row → Bool) (rows : List Row) (s : Row) → ((a b : Row) → p a ≡ true → p b ≡ true → alike a b ≡ true) → are_apart alike rows ≡ true → find p rows ≡ Some s
+    → list_all (λ row. not (p row)) (without s.id rows) ≡ true
+unfolding without
+find-only alike p [] s both apart h = absurd (cc)
+find-only alike p (row ∷ rows) s both apart h =
+    let e = and_parts (not (list_any (alike row) rows)) (are_apart alike rows) apart in
+    cond_both (p row) (Some row) (find p rows) (λ o. o ≡ Some s → list_all (λ r. not (p r)) (without s.id (row ∷ rows)) ≡ true)
+    (λ here h. let is : row ≡ s = cc in
+    cond_both (not (row.id == s.id)) (row ∷ without s.id rows) (without s.id rows) (λ l. list_all (λ r. not (p r)) l ≡ true)
+    (λ kept. absurd (never (row.id == s.id) (eq-eqb row.id s.id (ap (λ (r : Row). r.id) is)) kept))
+    (λ gone. others row here rows e.0))
+    (λ other h.
+    let rest : list_all (λ r. not (p r)) (without s.id rows) ≡ true = find-only alike p rows s both e.1 h in
+    cond_both (not (row.id == s.id)) (row ∷ without s.id rows) (without s.id rows) (λ l. list_all (λ r. not (p r)) l ≡ true)
+    (λ kept. and_from (not (p row)) (list_all (λ r. not (p r)) (without s.id rows)) (ap not other) rest)
+    (λ gone. rest)) h
+  where
+    others : (x : Row) → p x ≡ true → (ys : List Row) → not (list_any (alike x) ys) ≡ true → list_all (λ r. not (p r)) (without s.id ys) ≡ true
+    others x here [] none = refl
+    others x here (y ∷ ys) none =
+        let rest : list_all (λ r. not (p r)) (without s.id ys) ≡ true = others x here ys (contra (alike x y || list_any (alike x) ys) (list_any (alike x) ys) (or_right (alike x y) (list_any (alike x) ys)) none) in
+        cond_both (not (y.id == s.id)) (y ∷ without s.id ys) (without s.id ys) (λ l. list_all (λ r. not (p r)) l ≡ true)
+        (λ kept. and_from (not (p y)) (list_all (λ r. not (p r)) (without s.id ys))
+        (contra (alike x y || list_any (alike x) ys) (p y) (λ passes. or_left (alike x y) (list_any (alike x) ys) (both x y here passes)) none) rest)
+        (λ gone. rest)
+
+-- a name is free once the one child that had its key is gone
+pub freed : (v : VolumeState) (dir : ℕ) (key : List ℕ) (old : ℕ) → has_apart_names v ≡ true → child_by_key v.rows dir key ≡ Some old → child_by_key (without old v.rows) dir key ≡ None
+unfolding child_by_key has_apart_names
+freed v dir key old apart h =
+    let test : Row → Bool = λ (row : Row). (row.parent == dir) && bytes_eq (name_key row.name) key in
+    let m : MappedFrom (λ (row : Row). row.id) (find test v.rows) old = mapped-from (λ (row : Row). row.id) (find test v.rows) old h in
+    let none : list_all (λ row. not (test row)) (without old v.rows) ≡ true =
+    subst (λ q. list_all (λ row. not (test row)) (without q v.rows) ≡ true) m.gives
+    (find-only are_named_alike test v.rows m.value (λ a b is_a is_b.
+    let e = and_parts (a.parent == dir) (bytes_eq (name_key a.name) key) is_a in
+    let f = and_parts (b.parent == dir) (bytes_eq (name_key b.name) key) is_b in
+    and_from (a.parent == b.parent) (bytes_eq (name_key a.name) (name_key b.name))
+    (eq-eqb a.parent b.parent (eqb-true a.parent dir e.0 ∙ sym (eqb-true b.parent dir f.0)))
+    ((bytes_eq-Decides (name_key a.name) (name_key b.name)).1 ((bytes_eq-Decides (name_key a.name) key).0 e.1 ∙ sym ((bytes_eq-Decides (name_key b.name) key).0 f.1))))
+    apart m.was) in
+    ap (option_map (λ (row : Row). row.id)) (none-find test (without old v.rows) none)
+
+-- the directory of a place stays where a file goes
+stays : (v : VolumeState) (place : Place) → has_directory v.rows place.dir ≡ true → (old : ℕ) → has_directory v.rows old ≡ false → has_directory (without old v.rows) place.dir ≡ true
+unfolding without
+stays v place there old file = any-still (λ row. (row.id == place.dir) && row.dir) (λ row. not (row.id == old)) v.rows
+    (λ row is. ap not (ne_eqb row.id old (λ same. both_ways (has_directory v.rows old) file
+    (ap (λ q. has_directory v.rows q) (sym same ∙ eqb-true row.id place.dir (and_parts (row.id == place.dir) (row.dir) is).0) ∙ there)))) there
+
+pub create-file-sound : (v : VolumeState) (opens : List Opened) (hard : Bool) (now dir : ℕ) (path : PathValue) → is_named_path path ≡ true → create_file_refusal v opens hard dir path ≡ None → IsSoundVolume v → IsSoundVolume (create_file_effect v now dir path)
+unfolding create_file_refusal create_file_effect has_no_room has_no_ids child_by_key
+create-file-sound v opens hard now dir path named passes s =
+    at-found IsSoundVolume (new_place v.rows dir path) _ v _ passes (λ place is clear.
+    by-old place (place-there v.rows dir path place named is) (child_by_key v.rows place.dir (name_key place.name)) refl clear)
+  where
+    t : TreeParts v
+    t = tree-parts v s.tree
+
+    by-old : (place : Place) → IsPlaceThere v.rows place → (o : Option ℕ) → child_by_key v.rows place.dir (name_key place.name) ≡ o → create_file_there v opens hard o ≡ None → IsSoundVolume (created false now (without_replaced v o) place)
+    by-old place there None free clear =
+        let none = none-holds ((nat_le most_nodes (length v.rows) || nat_le last_next_id v.next_id, DiskFull) ∷ []) clear in
+        let room = or-none (nat_le most_nodes (length v.rows)) (nat_le last_next_id v.next_id) none.0 in
+        created-sound v false now place (record {
+          directory = there.directory;
+          named = there.named;
+          free = free;
+          few = leb-false most_nodes (length v.rows) room.0;
+          left = leb-false last_next_id v.next_id room.1;
+        }) s
+    by-old place there (Some old) is_old clear =
+        let none = none-holds ((has_directory v.rows old, ObjectTypeErr) ∷ (not hard, ObjectExists) ∷ (is_busy opens old, FileBusy) ∷ (has_attribute v.rows delete_inhibit old, ObjectLocked) ∷ (nat_le last_next_id v.next_id, DiskFull) ∷ []) clear in
+        let file : has_directory v.rows old ≡ false = none.0 in
+        let test : Row → Bool = λ (row : Row). (row.parent == place.dir) && bytes_eq (name_key row.name) (name_key place.name) in
+        let m : MappedFrom (λ (row : Row). row.id) (find test v.rows) old = mapped-from (λ (row : Row). row.id) (find test v.rows) old is_old in
+        let there_is : has_node v.rows old ≡ true = subst (λ q. has_node v.rows q ≡ true) m.gives (find-there test v.rows m.value m.was) in
+        let not_root : (old == root_id) ≡ false = ne_eqb old root_id (λ same. both_ways (has_directory v.rows old) file (ap (λ q. has_directory v.rows q) same ∙ root-directory v t)) in
+        let not_above : (old == root_parent) ≡ false = ne_eqb old root_parent (λ same.
+        let d = drawn v m.value (ap (λ q. q == root_id) m.gives ∙ not_root) (find-all test (is_in_place v) v.rows m.value m.was t.placed) in
+        let low : first_id ≤ m.value.id = d.low in let gives : m.value.id ≡ old = m.gives in absurd (omega arith)) in
+        let w : VolumeState = without_node old v in
+        let shorter : length (without old v.rows) < length v.rows = without-shorter v.rows old (λ row. row.id == old) (λ row h. h) there_is in
+        let few : length v.rows ≤ most_nodes = (limit-parts v s.limits).nodes in
+        created-sound w false now place (record {
+          directory = stays v place there.directory old file;
+          named = there.named;
+          free = freed v place.dir (name_key place.name) old s.names is_old;
+          few = omega arith;
+          left = leb-false last_next_id v.next_id none.1.1.1.1.0;
+        }) (sound-without v old not_root (file-childless v old t not_above file) s)

@@ -1,0 +1,23 @@
+use Rattle.volume_spec.proofs.Worked.{fresh-volume-is-told, tail-is-read, tail-is-long-enough, tail-is-too-short, attributes-are-set, attributes-are-cleared, attributes-are-masked}
+use Rattle.volume_spec.proofs.laws.worked_examples_hold.Goals as goal
+
+pub returns-clause-volume : goal.returns-clause-volume
+returns-clause-volume c = fresh-volume-is-told
+
+pub returns-clause-tail : goal.returns-clause-tail
+returns-clause-tail c = tail-is-read
+
+pub returns-clause-long_enough : goal.returns-clause-long_enough
+returns-clause-long_enough c = tail-is-long-enough
+
+pub returns-clause-too_short : goal.returns-clause-too_short
+returns-clause-too_short c = tail-is-too-short
+
+pub returns-clause-set : goal.returns-clause-set
+returns-clause-set c = attributes-are-set
+
+pub returns-clause-cleared : goal.returns-clause-cleared
+returns-clause-cleared c = attributes-are-cleared
+
+pub returns-clause-masked : goal.returns-clause-masked
+returns-clause-masked c = attributes-are-masked

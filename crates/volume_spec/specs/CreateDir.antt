@@ -1,0 +1,25 @@
+-- FPCreateDir (AFP Reference, "FPCreateDir"; the order of refusals is this profile's).
+use Rattle.std.specs.Prelude.{ℕ, true, [], ◌∷◌, Option, is_some}
+use Rattle.afp_base.specs.Choice.{first_holding}
+use Rattle.afp_base.specs.declared.code.Code.{Code}
+use Rattle.afp_base.specs.declared.code.Code.TheVariants.{ObjectExists, DiskFull}
+use Rattle.afp_names.specs.Name.{name_key}
+use Rattle.afp_names.specs.Path.{PathValue}
+use Rattle.volume_spec.specs.VolumeState.{VolumeState}
+use Rattle.volume_spec.specs.Walk.{new_place, child_by_key}
+use Rattle.volume_spec.specs.Shared.{behind, done_at, has_no_room, created}
+
+-- why it is refused (this profile)
+unfoldable pub create_dir_refusal : VolumeState → ℕ → PathValue → Option Code
+create_dir_refusal v dir path = behind (new_place v.rows dir path) (λ place. first_holding (
+    (is_some (child_by_key v.rows place.dir (name_key place.name)), ObjectExists)
+    ∷ (has_no_room v, DiskFull)
+    ∷ []))
+
+-- the volume with the new directory (AFP Reference, "FPCreateDir")
+unfoldable pub create_dir_effect : VolumeState → ℕ → ℕ → PathValue → VolumeState
+create_dir_effect v now dir path = done_at (new_place v.rows dir path) v (created true now v)
+
+-- the id that is told: that of the new directory (AFP Reference, "FPCreateDir")
+unfoldable pub create_dir_id : VolumeState → ℕ
+create_dir_id v = v.next_id

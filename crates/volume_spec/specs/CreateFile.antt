@@ -1,0 +1,41 @@
+-- FPCreateFile (AFP Reference, "FPCreateFile"; the order of refusals is this profile's). A hard create first deletes the old file.
+use Rattle.std.specs.Prelude.{ℕ, ◌==◌, Bool, false, not, List, [], ◌∷◌, Option, Some, None, bit_and}
+use Rattle.afp_base.specs.Choice.{first_holding}
+use Rattle.afp_base.specs.declared.code.Code.{Code}
+use Rattle.afp_base.specs.declared.code.Code.TheVariants.{ObjectExists, ObjectTypeErr, DiskFull, ObjectLocked, FileBusy}
+use Rattle.afp_names.specs.Name.{name_key}
+use Rattle.afp_names.specs.Path.{PathValue}
+use Rattle.volume_spec.specs.VolumeState.{VolumeState}
+use Rattle.volume_spec.specs.Walk.{new_place, has_directory, child_by_key}
+use Rattle.volume_spec.specs.Edits.{without_node}
+use Rattle.volume_spec.specs.Shared.{Opened, behind, done_at, delete_inhibit, has_attribute, is_busy, has_no_ids, has_no_room, created}
+
+-- whether a create is hard: bit 7 of its flag (AFP Reference, "FPCreateFile")
+abbrev pub is_hard : ℕ → Bool
+is_hard flag = not (bit_and flag 0x80 == 0)
+
+-- what is refused of a file's new place, by the node that has its name there
+abbrev pub create_file_there : VolumeState → List Opened → Bool → Option ℕ → Option Code
+create_file_there v opens hard None = first_holding ((has_no_room v, DiskFull) ∷ [])
+create_file_there v opens hard (Some old) = first_holding (
+    (has_directory v.rows old, ObjectTypeErr)
+    ∷ (not hard, ObjectExists)
+    ∷ (is_busy opens old, FileBusy)
+    ∷ (has_attribute v.rows delete_inhibit old, ObjectLocked)
+    ∷ (has_no_ids v, DiskFull)
+    ∷ [])
+
+-- a volume without the node that is replaced, if there is one
+abbrev pub without_replaced : VolumeState → Option ℕ → VolumeState
+without_replaced v None = v
+without_replaced v (Some old) = without_node old v
+
+-- why it is refused (this profile)
+unfoldable pub create_file_refusal : VolumeState → List Opened → Bool → ℕ → PathValue → Option Code
+create_file_refusal v opens hard dir path = behind (new_place v.rows dir path) (λ place.
+    create_file_there v opens hard (child_by_key v.rows place.dir (name_key place.name)))
+
+-- the volume with the new file, and without the old one (AFP Reference, "FPCreateFile")
+unfoldable pub create_file_effect : VolumeState → ℕ → ℕ → PathValue → VolumeState
+create_file_effect v now dir path = done_at (new_place v.rows dir path) v (λ place.
+    created false now (without_replaced v (child_by_key v.rows place.dir (name_key place.name))) place)

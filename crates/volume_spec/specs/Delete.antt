@@ -1,0 +1,24 @@
+-- FPDelete (AFP Reference, "FPDelete"; the order of refusals is this profile's).
+use Rattle.std.specs.Prelude.{ℕ, ◌==◌, List, [], ◌∷◌, Option}
+use Rattle.afp_base.specs.Choice.{first_holding}
+use Rattle.afp_base.specs.declared.code.Code.{Code}
+use Rattle.afp_base.specs.declared.code.Code.TheVariants.{AccessDenied, ObjectLocked, FileBusy, DirNotEmpty}
+use Rattle.afp_names.specs.Path.{PathValue}
+use Rattle.volume_spec.specs.VolumeState.{VolumeState, root_id}
+use Rattle.volume_spec.specs.Walk.{found}
+use Rattle.volume_spec.specs.Edits.{has_children, changed_at, children_changed, without_node}
+use Rattle.volume_spec.specs.Shared.{Opened, behind, done_at, delete_inhibit, has_attribute, is_busy, directory_of}
+
+-- why it is refused (this profile)
+unfoldable pub delete_refusal : VolumeState → List Opened → ℕ → PathValue → Option Code
+delete_refusal v opens dir path = behind (found v.rows dir path) (λ id. first_holding (
+    (id == root_id, AccessDenied)
+    ∷ (has_attribute v.rows delete_inhibit id, ObjectLocked)
+    ∷ (is_busy opens id, FileBusy)
+    ∷ (has_children v.rows id, DirNotEmpty)
+    ∷ []))
+
+-- the volume without the node (AFP Reference, "FPDelete")
+unfoldable pub delete_effect : VolumeState → ℕ → ℕ → PathValue → VolumeState
+delete_effect v now dir path = done_at (found v.rows dir path) v (λ id.
+    changed_at now (children_changed now (directory_of v.rows id) (without_node id v)))

@@ -1,0 +1,23 @@
+-- FPRename (AFP Reference, "FPRename"; the order of refusals is this profile's).
+use Rattle.std.specs.Prelude.{ℕ, ◌==◌, [], ◌∷◌, Option}
+use Rattle.afp_base.specs.Choice.{first_holding}
+use Rattle.afp_base.specs.declared.code.Code.{Code}
+use Rattle.afp_base.specs.declared.code.Code.TheVariants.{ObjectExists, ObjectLocked, CantRename}
+use Rattle.afp_names.specs.Path.{PathValue}
+use Rattle.volume_spec.specs.VolumeState.{VolumeState, root_id}
+use Rattle.volume_spec.specs.Walk.{found, one_down}
+use Rattle.volume_spec.specs.Edits.{is_taken, changed_at, children_changed, renamed}
+use Rattle.volume_spec.specs.Shared.{behind, done_at, first_or, rename_inhibit, has_attribute, directory_of}
+
+-- why it is refused (this profile)
+unfoldable pub rename_refusal : VolumeState → ℕ → PathValue → PathValue → Option Code
+rename_refusal v dir path new = behind (found v.rows dir path) (λ id. first_or ((id == root_id, CantRename) ∷ [])
+    (behind (one_down new.steps) (λ name. first_holding (
+    (has_attribute v.rows rename_inhibit id, ObjectLocked)
+    ∷ (is_taken v.rows id (directory_of v.rows id) name, ObjectExists)
+    ∷ []))))
+
+-- the volume with the node's new name (AFP Reference, "FPRename")
+unfoldable pub rename_effect : VolumeState → ℕ → ℕ → PathValue → PathValue → VolumeState
+rename_effect v now dir path new = done_at (found v.rows dir path) v (λ id. done_at (one_down new.steps) v (λ name.
+    changed_at now (children_changed now (directory_of v.rows id) (renamed id name v))))
