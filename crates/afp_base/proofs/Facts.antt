@@ -1,6 +1,6 @@
 -- Small facts on tests, numbers, bytes and options that std does not have. `search (facts, ..)` applies those of `facts` with no name given.
 use Rattle.std.proofs.Common.{◌≡◌, ◌∙◌, ℕ, ◌<◌, ◌≤◌, ℤ, pos, Bool, true, false, cond, not, List, [], ◌∷◌, ◌++◌, refl, sym, ap, arith, append_assoc, append-nil, inl, inr, Ordering, Less, Equal, Greater}
-use Rattle.std.specs.Prelude.{Option, Some, None, is_none, nat_lt, ◌&&◌, ◌||◌, ◌==◌, bytes_eq, option_map, T}
+use Rattle.std.specs.Prelude.{Option, Some, None, is_none, ◌&&◌, ◌||◌, ◌==◌, bytes_eq, option_map, T}
 use Rattle.std.specs.Bool.{beq}
 use Rattle.std.specs.Int.{is_negative}
 use Rattle.std.specs.Ordering.{is_lt, nat_cmp}

@@ -2,7 +2,7 @@
 use Rattle.std.proofs.Common.{◌≡◌, ◌∙◌, ap, sym, refl, subst, ℕ, zero, suc, ◌+◌, ◌-◌, ◌≤◌, ◌<◌, Bool, true, false, not, ◌&&◌, ◌||◌, cond, List, [], ◌∷◌, ◌++◌, length, map, take, drop, take_all, take-append-drop, length-drop, arith, inl, inr, eqb, Option, Some, None}
 use Rattle.std.specs.Prelude.{slice_get, slice_index_or}
 use Rattle.std.specs.List.{All, list_all, list_any, filter, find, count_by, cons_option}
-use Rattle.std.proofs.lemmas.Bool.{and_parts, and_from, or_parts, or_from, or_cases, or_left, or_right, not-true, not_from_false, cond_both, cond-true, cond-false, eqb-true, eq-eqb, cases_Bool, both_ways}
+use Rattle.std.proofs.lemmas.Bool.{and_parts, and_from, or_from, or_cases, or_left, or_right, not-true, cond_both, cond-true, cond-false, eqb-true, eq-eqb, cases_Bool, both_ways}
 use Rattle.std.proofs.lemmas.List.{nil_from_length}
 use Rattle.std.proofs.lemmas.List.Folds.{list_any-append, list_all-append, list_all-map}
 use Rattle.std.proofs.lemmas.List.Sums.{sum_by-cons}
