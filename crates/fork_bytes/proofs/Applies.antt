@@ -14,11 +14,12 @@ use Rattle.fork_bytes.specs.lemma.Kept.{with_put, with_puts, Fits, IsForkKept}
 use Rattle.fork_bytes.specs.Plan.{changes_from, changes_of, added_by, HasRoom, ForkPlanState, IsForkPlan}
 use Rattle.fork_bytes.proofs.Trimmed.{get_or-block, length-block, length-trimmed, trimmed-trimmed}
 use Rattle.fork_bytes.proofs.Blocks.{whole, get_or-bytes, length-bytes, block_is}
-use Rattle.fork_bytes.proofs.Places.{cases, rises, none-above}
+use Rattle.fork_bytes.proofs.Places.{rises, none-above}
 use Rattle.fork_bytes.proofs.Puts.{bytes_in-put, rising-put, length-put, one_more}
-use Rattle.fork_bytes.proofs.Listed.{blocks_are}
+use Rattle.fork_bytes.proofs.Listed.{blocks_are, some-length}
 use Rattle.fork_bytes.proofs.Plans.{changes-none}
 use Rattle.fork_bytes.proofs.Writes.{past_all}
+use Rattle.afp_base.proofs.Facts.{cases}
 
 -- blocks as they are before a block, and as they are from there on
 pub record Between (a b : List ℕ) (i : ℕ) (blocks : List Block) : Type 0 where
@@ -116,11 +117,7 @@ within-bytes after i some =
     let low = length-trimmed (taken after (4096 * i) 4096) in
     let all = length-take 4096 (drop (4096 * i) after) in
     let behind_ = length-drop (4096 * i) after in
-    omega (arith, low, all, behind_, positive (block_at after i) some)
-  where
-    positive : (l : List ℕ) → is_empty l ≡ false → 0 < length l
-    positive [] is = absurd (cc is)
-    positive (x ∷ xs) is = omega arith
+    omega (arith, low, all, behind_, some-length (block_at after i) some)
 
 pub kept-told : (after : List ℕ) (blocks : List Block) → are_rising blocks ≡ true → ((k : ℕ) → is_empty (bytes_in blocks k) ≡ false → bytes_in blocks k ≡ block_at after k)
     → list_all (is_kept (length after)) blocks ≡ true
@@ -282,7 +279,3 @@ no_changes a = sym (changes-none a a 0 (all_blocks a a) (λ k low high. refl))
 pub if_writes : {E : Type 0} (r : Result ForkPlanState E) (v w : Bool) → v ≡ w → IfOk r (λ p. p.writes ≡ v) → IfOk r (λ p. p.writes ≡ w)
 if_writes (Ok p) v w same h = h ∙ same
 if_writes (Err e) v w same h = tt
-
-pub no_piece : (piece : List ℕ) → length piece ≡ 0 → piece ≡ []
-no_piece [] none = refl
-no_piece (b ∷ bs) none = absurd (omega arith)

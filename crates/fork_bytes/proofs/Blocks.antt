@@ -8,6 +8,7 @@ use Rattle.fork_bytes.specs.declared.block.Block.{Block}
 use Rattle.fork_bytes.specs.Blocks.{trimmed, block_at}
 use Rattle.fork_bytes.specs.Kept.{bytes_in, byte_at, each_of, bytes_of, is_kept}
 use Rattle.fork_bytes.proofs.Trimmed.{is_block}
+use Rattle.afp_base.proofs.Facts.{cases}
 
 -- each byte of a list that is told by places
 pub get_or-each : (n : ℕ) (byte : ℕ → ℕ) (k : ℕ) → k < n → get_or (each_of n byte) k 0 ≡ byte k
@@ -57,14 +58,10 @@ kept-in len (b ∷ bs) i kept =
     let sizes = (parts (pointwise nat_eq (trimmed b.bytes) b.bytes) (nat_le (length b.bytes) 4096 && nat_le (4096 * b.index + length b.bytes) len) first).1 in
     let small = leb-true (length b.bytes) 4096 (parts (nat_le (length b.bytes) 4096) (nat_le (4096 * b.index + length b.bytes) len) sizes).0 in
     let within = leb-true (4096 * b.index + length b.bytes) len (parts (nat_le (length b.bytes) 4096) (nat_le (4096 * b.index + length b.bytes) len) sizes).1 in
-    both_ways (b.index == i) (λ is.
+    cases (b.index == i) (λ is.
     subst (IsBlockIn len i) (sym (cond-true (b.index == i) b.bytes (bytes_in bs i) is))
     (record { trim = same_text (trimmed b.bytes) b.bytes (sym trim); small = small; within = λ j past. get_or_past b.bytes j 0 (omega (arith, eqb-true b.index i is, within)) }))
     (λ other. subst (IsBlockIn len i) (sym (cond-false (b.index == i) b.bytes (bytes_in bs i) other)) (kept-in len bs i rest))
-  where
-    both_ways : {P : Type 0} → (t : Bool) → (t ≡ true → P) → (t ≡ false → P) → P
-    both_ways true yes_ no_ = yes_ refl
-    both_ways false yes_ no_ = no_ refl
 
 -- the blocks that a fork keeps are the blocks of its bytes
 pub block_is : (len : ℕ) (blocks : List Block) (i : ℕ) → list_all (is_kept len) blocks ≡ true → block_at (bytes_of len blocks) i ≡ bytes_in blocks i

@@ -7,7 +7,8 @@ use Rattle.fork_bytes.specs.declared.block.Block.{Block}
 use Rattle.fork_bytes.specs.Blocks.{trimmed, block_at, block_count, with_block, blocks_from, blocks_of}
 use Rattle.fork_bytes.specs.Kept.{bytes_in, bytes_of, is_empty, are_rising, is_kept}
 use Rattle.fork_bytes.proofs.Blocks.{parts, whole, block_is, length-bytes}
-use Rattle.fork_bytes.proofs.Places.{cases, rises, none-above}
+use Rattle.fork_bytes.proofs.Places.{rises, none-above}
+use Rattle.afp_base.proofs.Facts.{cases}
 
 -- the first of some blocks, where there is one, stands at an index or behind it
 abbrev pub Starts : ℕ → List Block → Type 0
@@ -48,7 +49,7 @@ listed bytes (b ∷ bs) end i (suc n) e rising low high same =
     (same i (omega arith) ∙ cond-false (b.index == i) b.bytes (bytes_in bs i) other ∙ none-above bs i b.index (omega arith) r.above)
     ∙ listed bytes (b ∷ bs) end (i + 1) n (omega (arith, e)) rising (omega (arith, over)) high (λ k past. same k (omega arith)))
 
-some-length : (bytes : List ℕ) → is_empty bytes ≡ false → 0 < length bytes
+pub some-length : (bytes : List ℕ) → is_empty bytes ≡ false → 0 < length bytes
 some-length [] some = absurd (cc some)
 some-length (b ∷ bs) some = omega arith
 

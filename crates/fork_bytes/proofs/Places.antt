@@ -1,6 +1,6 @@
 -- Looking a block up by halving.
 use Rattle.std.proofs.Common.{◌≡◌, ◌≢◌, ◌∙◌, ◌==◌, refl, ℕ, zero, suc, ◌<◌, ◌≤◌, Bool, true, false, ◌&&◌, not, List, [], ◌∷◌, length, get_or, arith, nat_lt}
-use Rattle.std.proofs.lemmas.Bool.{cond-true, cond-false, eq-eqb, ne_eqb, ltb-true, ltb-false, lt-ltb}
+use Rattle.std.proofs.lemmas.Bool.{cond-true, cond-false, eq-eqb, ne_eqb, ltb-true, ltb-false, lt-ltb, not-true}
 use Rattle.std.specs.List.{list_all}
 use Rattle.std.specs.List.Sorted.{IsPartitionedBy}
 use Rattle.fork_bytes.specs.declared.block.Block.{Block}
@@ -8,20 +8,11 @@ use Rattle.fork_bytes.specs.Kept.{bytes_in, is_empty, are_rising}
 use Rattle.fork_bytes.specs.lemma.Kept.{IsPlace}
 use Rattle.fork_bytes.proofs.Blocks.{parts}
 
--- both cases of a test
-pub cases : {P : Type 0} → (t : Bool) → (t ≡ true → P) → (t ≡ false → P) → P
-cases true yes_ no_ = yes_ refl
-cases false yes_ no_ = no_ refl
-
 -- the parts of what rises
 pub record Rises (b : Block) (bs : List Block) : Type 0 where
   pub filled : is_empty b.bytes ≡ false
   pub above : list_all (λ c. nat_lt b.index c.index) bs ≡ true
   pub rest : are_rising bs ≡ true
-
-not-true : (t : Bool) → not t ≡ true → t ≡ false
-not-true true h = absurd (cc h)
-not-true false h = refl
 
 pub rises : (b : Block) (bs : List Block) → are_rising (b ∷ bs) ≡ true → Rises b bs
 rises b bs h =

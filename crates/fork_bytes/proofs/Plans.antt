@@ -9,7 +9,7 @@ use Rattle.fork_bytes.specs.Kept.{is_empty}
 use Rattle.fork_bytes.specs.Plan.{with_change, changes_from, changes_of, added_by}
 use Rattle.fork_bytes.proofs.Trimmed.{get_or-block, get_or-trimmed, length-block, same_trimmed}
 use Rattle.afp_base.specs.ForkBytes.{taken}
-use Rattle.fork_bytes.proofs.Places.{cases}
+use Rattle.afp_base.proofs.Facts.{cases}
 
 -- blocks with the same bytes
 pub same_block : (a b : List ℕ) (i : ℕ) → ((j : ℕ) → j < 4096 → get_or a (4096 * i + j) 0 ≡ get_or b (4096 * i + j) 0) → block_at a i ≡ block_at b i

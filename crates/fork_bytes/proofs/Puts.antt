@@ -7,7 +7,8 @@ use Rattle.fork_bytes.specs.declared.block.Block.{Block}
 use Rattle.fork_bytes.specs.Kept.{bytes_in, is_empty, are_rising}
 use Rattle.fork_bytes.specs.lemma.Kept.{in_front, behind, with_put, IsPlace}
 use Rattle.fork_bytes.proofs.Blocks.{parts, whole}
-use Rattle.fork_bytes.proofs.Places.{cases, rises, none-above, behind-place}
+use Rattle.fork_bytes.proofs.Places.{rises, none-above, behind-place}
+use Rattle.afp_base.proofs.Facts.{cases}
 
 no_bytes : (bytes : List ℕ) → is_empty bytes ≡ true → bytes ≡ []
 no_bytes [] h = refl
