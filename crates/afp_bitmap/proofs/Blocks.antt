@@ -4,6 +4,7 @@ use Rattle.std.specs.List.{concat, AllByRecursion}
 use Rattle.std.proofs.Math.Seq.{take-append-add}
 use Rattle.std.proofs.lemmas.Bool.{eq-eqb, eqb-true}
 use Rattle.std.proofs.lemmas.List.{take-append-le, take_all, take-map, length-map, append_assoc}
+use Rattle.std.proofs.lemmas.List.Folds.{concat-append}
 use Rattle.afp_bitmap.specs.declared.params.Values.{Values}
 use Rattle.afp_bitmap.specs.declared.table.Shape.{Shape}
 use Rattle.afp_bitmap.specs.declared.table.Slot.{Slot}
@@ -17,7 +18,6 @@ use Rattle.afp_bitmap.proofs.Claims.{valid_formed, passed_long, claim, passed_ut
 use Rattle.afp_bitmap.proofs.Filled.{filled, taken_rows, asked_taken, off_formed, taken_fits, taken_typed}
 use Rattle.afp_bitmap.proofs.Fixed.{walk, passed, passed_place, Passes, walk_passes}
 use Rattle.afp_bitmap.proofs.Formed.{Formed, fields, formed_asked}
-use Rattle.afp_bitmap.proofs.Loops.{concat-append}
 use Rattle.afp_bitmap.proofs.NamesAll.{OptFits, NamesFit}
 use Rattle.afp_bitmap.proofs.NamesStage.{LongFits}
 use Rattle.afp_base.specs.Bytes.{IsBytes}

@@ -2,6 +2,7 @@
 use Rattle.std.proofs.Common.{◌≡◌, ℕ, suc, ◌+◌, ◌%◌, ◌<◌, ◌≤◌, Bool, true, false, List, [], ◌++◌, length, take, map, Option, Some, None, is_some, Result, Ok, Err, refl, sym, ap, subst, ◌∙◌, arith, inl, inr}
 use Rattle.std.specs.List.{concat}
 use Rattle.std.proofs.lemmas.List.{take_all, take-map, length-append, length-map, append_assoc, append-nil}
+use Rattle.std.proofs.lemmas.List.Folds.{concat-append}
 use Rattle.afp_bitmap.specs.declared.params.Values.{Values}
 use Rattle.afp_bitmap.specs.declared.table.Shape.{Shape}
 use Rattle.afp_bitmap.specs.declared.table.Slot.{Slot}
@@ -15,7 +16,6 @@ use Rattle.afp_bitmap.proofs.Claims.{first_from_may, if_long, filler, Fine, fine
 use Rattle.afp_bitmap.proofs.Filled.{filled, taken_again}
 use Rattle.afp_bitmap.proofs.Fixed.{walk, walked_is, passed, walk_passed, sizes, passed_place, passed_rest, Faults, walk_faults, Claimed, walk_front}
 use Rattle.afp_bitmap.proofs.Formed.{Formed, formed_asked}
-use Rattle.afp_bitmap.proofs.Loops.{concat-append}
 use Rattle.afp_bitmap.proofs.NamesAll.{text, OptFits, NamesFit, NamesRead, NamesStop, NamesEnd, NamesAre, names_are, names_again, names_same}
 use Rattle.afp_bitmap.proofs.NamesStage.{LongFits, Utf8Fits}
 use Rattle.afp_base.specs.Bytes.{IsBytes}

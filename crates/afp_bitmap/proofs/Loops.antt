@@ -11,10 +11,6 @@ use Rattle.afp_base.specs.Appended.{Keeps}
 use Rattle.afp_bitmap.specs.lemma.Writing.{NameSpots, noted, all_noted}
 use Rattle.afp_bitmap.proofs.Asked.{asked_none, asked_yes, asked_no}
 
-pub concat-append : (xs ys : List (List ℕ)) → concat (xs ++ ys) ≡ concat xs ++ concat ys
-concat-append [] ys = refl
-concat-append (x ∷ xs) ys = ap (λ (r : List ℕ). x ++ r) (concat-append xs ys) ∙ sym (append_assoc x (concat xs) (concat ys))
-
 pub noted_none : (at : ℕ) (s : NameSpots) → all_noted at [] s ≡ s
 unfolding all_noted
 noted_none at s = refl

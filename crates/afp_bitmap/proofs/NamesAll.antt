@@ -5,10 +5,10 @@ use Rattle.std.specs.List.{concat}
 use Rattle.std.proofs.Math.Seq.{take-append-add}
 use Rattle.std.proofs.lemmas.Bool.{cases_Bool, eqb-true, eqb-false}
 use Rattle.std.proofs.lemmas.List.{take-append-le, length-append, append_assoc, append-nil, nil_from_length, take-append-drop, get_or-append-add}
+use Rattle.std.proofs.lemmas.List.Folds.{concat-append}
 use Rattle.afp_bitmap.specs.Field.{long_name_bytes, utf8_name_bytes}
 use Rattle.afp_bitmap.specs.lemma.Reading.{◌>>=◌, Walk, long_name_at, utf8_name_at, long_name_of, utf8_name_of, names_at}
 use Rattle.afp_bitmap.specs.lemma.Spot.{Spot}
-use Rattle.afp_bitmap.proofs.Loops.{concat-append}
 use Rattle.afp_bitmap.proofs.NamesStage.{same_front, pad, IsFormat, Stops, NameIs, name_cases, LongFits, long_format, long_cases, Utf8Fits, utf8_format, utf8_cases}
 use Rattle.afp_base.specs.Bytes.{IsBytes}
 use Rattle.afp_bitmap.proofs.Parts.{opt, names_of}

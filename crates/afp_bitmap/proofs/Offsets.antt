@@ -2,6 +2,7 @@
 use Rattle.std.proofs.Common.{◌≡◌, ℕ, ◌+◌, ◌^◌, ◌<◌, ◌≤◌, List, [], ◌∷◌, ◌++◌, length, take, drop, map, replicate, Option, Some, None, refl, sym, ap, subst, ◌∙◌, arith, append_assoc, length-append}
 use Rattle.std.specs.List.{concat, AllByRecursion}
 use Rattle.std.proofs.lemmas.List.{take_at, drop_at}
+use Rattle.std.proofs.lemmas.List.Folds.{concat-append}
 use Rattle.byteorder.specs.Endian.{big_bytes, big_number}
 use Rattle.afp_bitmap.specs.declared.params.Values.{Values}
 use Rattle.afp_bitmap.specs.declared.params.Values.TheVariants.{Volume, File, Dir}
@@ -11,12 +12,12 @@ use Rattle.afp_bitmap.specs.Params.{asked_of, asked, parts, size_of_fixed_part, 
 use Rattle.afp_bitmap.specs.Table.{FieldRow, volume_rows, file_rows, dir_rows, rows}
 use Rattle.afp_bitmap.proofs.Asks.{sizes_are, fixed_total, typed_asked, long_countable}
 use Rattle.afp_bitmap.proofs.Blocks.{fits_rows}
-use Rattle.afp_bitmap.proofs.Formed.{NoNames, Late, Formed, formed_asked, long_name_size}
-use Rattle.afp_bitmap.proofs.Loops.{concat-append}
+use Rattle.afp_bitmap.proofs.Formed.{NoNames, Late, Formed, formed_asked}
 use Rattle.afp_bitmap.proofs.NamesAll.{OptFits}
 use Rattle.afp_base.proofs.Numbers.{number_again}
 use Rattle.afp_bitmap.proofs.Parts.{fixed_at, gap, long_in, utf8_in, opt, names_of, parts_formed}
 use Rattle.afp_bitmap.proofs.Tables.{fits_countable, volume_formed, volume_fixed, volume_rows_is, file_formed, file_fixed, file_rows_is, dir_formed, dir_fixed, dir_rows_is}
+use Rattle.afp_bitmap.proofs.Patches.{opt_gap}
 
 -- ---- which name is the first of its sort
 
@@ -97,10 +98,6 @@ from_field p q before after f names block typed is =
     ap (drop {A = ℕ} (size_of_fixed_part before)) whole ∙ drop_at front (here ++ (behind ++ names)) (size_of_fixed_part before) (fixed_size_is p q before typed)
 
 -- ---- the names
-
-gap_size : (o : Option (List ℕ)) → length (concat (opt long_name_bytes o)) ≡ gap o
-gap_size None = refl
-gap_size (Some name) = long_name_size name
 
 gap_small : (o : Option (List ℕ)) → OptFits (λ l. length l < 256) o → gap o ≤ 257
 gap_small None h = omega arith
@@ -191,7 +188,7 @@ utf8_stands_in before after name k =
     ap (big_number 2) (from_field p q before after (Utf8Name name) names block (typed_before before (Utf8Name name ∷ after) k.typed) is
     ∙ append_assoc (big_bytes 2 q) (replicate 4 0) behind)
     ∙ number_again 2 q (replicate 4 0 ++ behind) small in
-    let front_size : length (fixed ++ long) ≡ q = length-append fixed long ∙ ap (λ (n : ℕ). n + length long) (fixed_size_is p q fs k.typed) ∙ ap (λ (n : ℕ). p + n) (gap_size (long_in fs)) in
+    let front_size : length (fixed ++ long) ≡ q = length-append fixed long ∙ ap (λ (n : ℕ). n + length long) (fixed_size_is p q fs k.typed) ∙ ap (λ (n : ℕ). p + n) (opt_gap (long_in fs)) in
     let whole : block ≡ (fixed ++ long) ++ (utf8_name_bytes name ++ pads) = is ∙ ap (λ (x : List ℕ). fixed ++ x) names_are ∙ sym (append_assoc fixed long (utf8_name_bytes name ++ pads)) in
     utf8_at q (fixed ++ long) block name pads (size_of_fixed_part before) front_size whole offset
 

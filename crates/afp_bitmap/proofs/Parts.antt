@@ -1,5 +1,5 @@
 -- The parts of a block: the fixed part with the places of the names, then the names.
-use Rattle.std.proofs.Common.{◌≡◌, ℕ, ◌+◌, ◌%◌, List, [], ◌∷◌, ◌++◌, length, map, replicate, Option, Some, None, refl, ap, ◌∙◌, arith}
+use Rattle.std.proofs.Common.{◌≡◌, ℕ, ◌+◌, ◌%◌, List, [], ◌∷◌, ◌++◌, length, map, replicate, Option, Some, None, refl, ap, ◌∙◌, arith, add-zero}
 use Rattle.std.specs.List.{flat_map}
 use Rattle.byteorder.specs.Endian.{big_bytes}
 use Rattle.std.specs.Int.{w32, cast_unsigned}
@@ -76,22 +76,19 @@ fixed_plain place p q (Finder info ∷ fs) h = push info (fixed_plain (place + 0
 fixed_plain place p q (LongName name ∷ fs) h = absurd h
 fixed_plain place p q (Utf8Name name ∷ fs) h = absurd h
 
-same_place : (q : ℕ) → q + 0 ≡ q
-same_place q = omega arith
-
 fixed_late : (p q : ℕ) (fs : List Field) → Late fs → fixed_parts q fs ≡ map (fixed_at p q) fs
 fixed_late p q [] h = refl
-fixed_late p q (Number n x ∷ fs) h = push (big_bytes n x) (ap (λ (r : ℕ). fixed_parts r fs) (same_place q) ∙ fixed_late p q fs h)
-fixed_late p q (Date z ∷ fs) h = push (big_bytes 4 (cast_unsigned w32 z)) (ap (λ (r : ℕ). fixed_parts r fs) (same_place q) ∙ fixed_late p q fs h)
-fixed_late p q (Finder info ∷ fs) h = push info (ap (λ (r : ℕ). fixed_parts r fs) (same_place q) ∙ fixed_late p q fs h)
+fixed_late p q (Number n x ∷ fs) h = push (big_bytes n x) (ap (λ (r : ℕ). fixed_parts r fs) (add-zero q) ∙ fixed_late p q fs h)
+fixed_late p q (Date z ∷ fs) h = push (big_bytes 4 (cast_unsigned w32 z)) (ap (λ (r : ℕ). fixed_parts r fs) (add-zero q) ∙ fixed_late p q fs h)
+fixed_late p q (Finder info ∷ fs) h = push info (ap (λ (r : ℕ). fixed_parts r fs) (add-zero q) ∙ fixed_late p q fs h)
 fixed_late p q (LongName name ∷ fs) h = absurd h
 fixed_late p q (Utf8Name name ∷ fs) h = push (big_bytes 2 q ++ replicate 4 0) (fixed_plain (q + name_size (Utf8Name name)) p q fs h)
 
 pub fixed_formed : (p : ℕ) (fs : List Field) → Formed fs → fixed_parts p fs ≡ map (fixed_at p (p + gap (long_in fs))) fs
 fixed_formed p [] h = refl
-fixed_formed p (Number n x ∷ fs) h = push (big_bytes n x) (ap (λ (r : ℕ). fixed_parts r fs) (same_place p) ∙ fixed_formed p fs h)
-fixed_formed p (Date z ∷ fs) h = push (big_bytes 4 (cast_unsigned w32 z)) (ap (λ (r : ℕ). fixed_parts r fs) (same_place p) ∙ fixed_formed p fs h)
-fixed_formed p (Finder info ∷ fs) h = push info (ap (λ (r : ℕ). fixed_parts r fs) (same_place p) ∙ fixed_formed p fs h)
+fixed_formed p (Number n x ∷ fs) h = push (big_bytes n x) (ap (λ (r : ℕ). fixed_parts r fs) (add-zero p) ∙ fixed_formed p fs h)
+fixed_formed p (Date z ∷ fs) h = push (big_bytes 4 (cast_unsigned w32 z)) (ap (λ (r : ℕ). fixed_parts r fs) (add-zero p) ∙ fixed_formed p fs h)
+fixed_formed p (Finder info ∷ fs) h = push info (ap (λ (r : ℕ). fixed_parts r fs) (add-zero p) ∙ fixed_formed p fs h)
 fixed_formed p (LongName name ∷ fs) h =
     push (big_bytes 2 p) (ap (λ (r : ℕ). fixed_parts (p + r) fs) (long_name_size name) ∙ fixed_late p (p + gap (Some name)) fs h)
 fixed_formed p (Utf8Name name ∷ fs) h =

@@ -5,6 +5,7 @@ use Rattle.std.specs.List.{concat, AllByRecursion}
 use Rattle.std.specs.Int.{w32, cast_unsigned}
 use Rattle.std.proofs.lemmas.Bool.{cases_Bool}
 use Rattle.std.proofs.lemmas.List.{take_at, drop_at, append-nil, length-replicate}
+use Rattle.std.proofs.lemmas.List.Folds.{concat-append}
 use Rattle.byteorder.specs.Endian.{big_bytes}
 use Rattle.afp_bitmap.specs.Bits.{is_asked}
 use Rattle.afp_bitmap.specs.Field.{Field, Number, Date, Finder, LongName, Utf8Name, fixed_size, fixed_bytes, long_name_bytes, utf8_name_bytes, pad_of, IsCountable}
@@ -13,7 +14,7 @@ use Rattle.afp_bitmap.specs.Table.{FieldRow}
 use Rattle.afp_bitmap.specs.lemma.Writing.{NameSpot, NameSpots, no_spots, noted, all_noted, padded, patched, CanName, with_long_name, with_utf8_name, IsSized}
 use Rattle.afp_bitmap.proofs.Asked.{asked_none, asked_yes, asked_no}
 use Rattle.afp_bitmap.proofs.Formed.{NoNames, Late, Formed, late_formed}
-use Rattle.afp_bitmap.proofs.Loops.{concat-append, noted_none, noted_more}
+use Rattle.afp_bitmap.proofs.Loops.{noted_none, noted_more}
 use Rattle.afp_base.proofs.Numbers.{length-big_bytes}
 use Rattle.afp_bitmap.proofs.Parts.{fixed_at, gap, long_in, utf8_in, opt, names_of, parts_formed}
 
@@ -269,7 +270,7 @@ long_written fs (Some s) h z e =
     ∙ ap (λ (x : List ℕ). concat (map (fixed_at first 0) fs) ++ x) (opt_padded long_name_bytes s.1)
     ∙ ap (λ (o : Option (List ℕ)). concat (map (fixed_at first 0) fs) ++ concat (opt long_name_bytes o)) (sym p.name)
 
-opt_gap : (o : Option (List ℕ)) → length (concat (opt long_name_bytes o)) ≡ gap o
+pub opt_gap : (o : Option (List ℕ)) → length (concat (opt long_name_bytes o)) ≡ gap o
 opt_gap None = refl
 opt_gap (Some name) =
     let pad : List ℕ = pad_of (long_name_bytes name) in

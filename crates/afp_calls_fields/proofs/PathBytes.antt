@@ -1,11 +1,8 @@
 -- The bytes of a path, step by step.
-use Rattle.std.proofs.Common.{◌≡◌, ℕ, zero, suc, ◌+◌, ◌≤◌, List, [], ◌∷◌, ◌++◌, length, drop, Option, Some, None, refl, sym, ◌∙◌, arith, slice_get}
+use Rattle.std.proofs.Common.{◌≡◌, ℕ, zero, suc, ◌+◌, ◌≤◌, List, [], ◌∷◌, ◌++◌, length, drop, Option, Some, None, refl, sym, ◌∙◌, slice_get, add-one}
 use Rattle.std.proofs.lemmas.List.{append-nil, append_assoc, drop_all}
 use Rattle.afp_names.specs.declared.path.Step.{Step}
 use Rattle.afp_names.specs.Path.{PathValue, step_bytes, steps_bytes, canonical_path}
-
-one_more : (i : ℕ) → i + 1 ≡ suc i
-one_more i = omega arith
 
 step_first : (steps : List Step) (i : ℕ) (step : Step) → slice_get steps i ≡ Some step → drop i steps ≡ step ∷ drop (suc i) steps
 step_first [] i step h = absurd cc
@@ -17,7 +14,7 @@ pub step_put : (kind : ℕ) (before : Option Step) (steps : List Step) (i : ℕ)
 step_put kind before steps i step bytes out whole is put so_far =
     let first : drop i steps ≡ step ∷ drop (suc i) steps = step_first steps i step is in
     let all : bytes ++ (step_bytes kind before step ++ steps_bytes kind (Some step) (drop (suc i) steps)) ≡ whole = rw first at so_far in
-    rw (put, one_more i, append_assoc) all
+    rw (put, add-one i, append_assoc) all
 
 pub none_put : (p : PathValue) (kind : ℕ) (bytes : List ℕ) → kind ≡ p.kind → bytes ≡ [] → bytes ++ steps_bytes kind None (drop 0 p.steps) ≡ canonical_path p
 unfolding canonical_path

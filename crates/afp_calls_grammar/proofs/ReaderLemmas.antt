@@ -1,7 +1,7 @@
 -- What a reader reads is what its fields spell.
-use Rattle.std.proofs.Common.{◌≡◌, ◌==◌, ℕ, zero, suc, ◌+◌, ◌||◌, nat_le, Bool, true, false, cond, List, [], ◌∷◌, ◌++◌, length, take, drop, Option, Some, None, refl, sym, ◌∙◌, ap, subst, arith}
+use Rattle.std.proofs.Common.{◌≡◌, ◌==◌, ℕ, zero, suc, ◌+◌, nat_le, Bool, true, false, cond, List, [], ◌∷◌, ◌++◌, length, take, drop, Option, Some, None, refl, sym, ◌∙◌, ap, subst, arith}
 use Rattle.std.specs.List.{AllByRecursion}
-use Rattle.std.proofs.lemmas.Bool.{eqb-true, leb-true, le-leb}
+use Rattle.std.proofs.lemmas.Bool.{eqb-true, leb-true, le-leb, or_parts}
 use Rattle.std.proofs.lemmas.Option.{option_and_then_some}
 use Rattle.std.proofs.Math.Seq.{drop-append_seam, take-append_seam}
 use Rattle.std.proofs.lemmas.List.{append-nil, length-take-le, length-append, take-append-drop}
@@ -122,15 +122,11 @@ unfolding spelt_call
 reader_read r vs block enclosed found h k =
     rw (h.2, h.3) (found h.1 ∙ begins_read r.reading vs 1 h.1 enclosed (let size : 0 + length h.0 ≡ 1 = rw h.3 refl in rw (← size) h.4) k)
 
-or_false : (x y : Bool) → (x || y) ≡ false → (x ≡ false) × (y ≡ false)
-or_false true y h = absurd cc
-or_false false y h = (refl, h)
-
 -- no reader has this number
 pub no_reader : (rs : List Reader) (n : ℕ) (bytes : List ℕ) (enclosed : Option (List ℕ)) → has_reader rs n ≡ false → read_by rs n 1 enclosed bytes ≡ None
 no_reader [] n bytes enclosed h = refl
 no_reader (r ∷ rs) n bytes enclosed h =
-    let parts = or_false (r.number == n) _ h in
+    let parts = or_parts (r.number == n) _ h in
     rw parts.0 (no_reader rs n bytes enclosed parts.1)
 
 -- the request that is spelt, where one is

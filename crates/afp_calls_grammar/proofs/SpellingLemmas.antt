@@ -1,8 +1,8 @@
 -- What is read of a word is its spelling, and the canonical bytes are a spelling.
-use Rattle.std.proofs.Common.{◌≡◌, ◌==◌, ◌&&◌, ℕ, suc, ℤ, pos, negsuc, ◌+◌, ◌%◌, ◌^◌, ◌<◌, ◌≤◌, Bool, true, false, cond, nat_le, is_none, List, [], ◌∷◌, ◌++◌, length, take, drop, get_or, replicate, Option, Some, None, refl, sym, ◌∙◌, ap, subst, inl, inr, arith, w32, w64, FitsSigned}
+use Rattle.std.proofs.Common.{◌≡◌, ◌==◌, ◌&&◌, ℕ, suc, ℤ, pos, negsuc, ◌+◌, ◌%◌, ◌^◌, ◌<◌, ◌≤◌, Bool, true, false, cond, nat_le, is_none, List, [], ◌∷◌, ◌++◌, length, take, drop, get_or, replicate, Some, None, refl, sym, ◌∙◌, ap, subst, inl, inr, arith, w32, w64, FitsSigned}
 use Rattle.std.specs.Int.{cast_signed, cast_unsigned}
 use Rattle.std.proofs.lemmas.Int.{ints, to_z-of_z}
-use Rattle.std.proofs.lemmas.Bool.{le-leb, leb-true, eqb-true, eq-eqb}
+use Rattle.std.proofs.lemmas.Bool.{le-leb, leb-true, eqb-true, eq-eqb, and_parts}
 use Rattle.std.proofs.Math.Seq.{drop-append_seam, take-append_seam, take-add}
 use Rattle.std.proofs.lemmas.List.{append-nil, append_assoc, drop-append-le, drop-drop, drop-take, length-drop, length-take-le, length-replicate, take_all, drop_all, length-append}
 use Rattle.byteorder.specs.Endian.{big_number, big_bytes}
@@ -10,14 +10,7 @@ use Rattle.byteorder.specs.Numbers.{big_from-take, big_from-append, big_from-lt,
 use Rattle.afp_names.specs.Path.{PathValue, canonical_path, longest_path, path_fault, path_steps}
 use Rattle.afp_calls_grammar.specs.Words.{Word, Literal, Pad, LastPad, Even, Number, Within, Count, Optional, Signed32, Signed64, Plain, Counted, Pathname, Tail, Value, IsCountedText, SpellsPathname, IsWordSpelling, IsTypedValue, CanSpell, canonical, hint_size, count_size}
 use Rattle.afp_calls_grammar.specs.Reading.{Taken, next, path_count, path_size, path_text}
-
-and_true : (a b : Bool) → (a && b) ≡ true → (a ≡ true) × (b ≡ true)
-and_true true b h = (refl, h)
-and_true false b h = absurd cc
-
-none_is : {A : Type 0} (o : Option A) → is_none o ≡ true → o ≡ None
-none_is None h = refl
-none_is (Some x) h = absurd cc
+use Rattle.afp_base.proofs.Facts.{none_from_is_none}
 
 -- what was taken under a condition
 taken_if : {w : Word} (P : Taken w → Type 0) (b : Bool) (x t : Taken w) → (b ≡ true → P x) → cond b (Some x) None ≡ Some t → P t
@@ -70,8 +63,8 @@ next_spells Even place bytes t h = taken_if (IsTaken Even place bytes) (nat_le (
 next_spells (Number n) place bytes t h = taken_if (IsTaken (Number n) place bytes) (nat_le n (length bytes)) _ t (λ e. let some = leb-true n _ e in record { within = some; spells = (length-take-le n bytes some, big_from-take 0 n n bytes (omega arith)) }) h
 next_spells (Within n low high) place bytes t h = taken_if (IsTaken (Within n low high) place bytes) (nat_le n (length bytes) && (nat_le low (big_number n bytes) && nat_le (big_number n bytes) high)) _ t
     (λ e.
-    let all = and_true (nat_le n (length bytes)) _ e in
-    let range = and_true (nat_le low (big_number n bytes)) _ all.1 in
+    let all = and_parts (nat_le n (length bytes)) _ e in
+    let range = and_parts (nat_le low (big_number n bytes)) _ all.1 in
     let some = leb-true n _ all.0 in
     record { within = some; spells = (length-take-le n bytes some, big_from-take 0 n n bytes (omega arith), leb-true low _ range.0, leb-true _ high range.1) }) h
 next_spells (Count n) place bytes t h = taken_if (IsTaken (Count n) place bytes) (nat_le n (length bytes)) _ t (λ e. let some = leb-true n _ e in record { within = some; spells = (length-take-le n bytes some, big_from-take 0 n n bytes (omega arith)) }) h
@@ -84,8 +77,8 @@ next_spells (Counted n) place bytes t h = taken_if (IsTaken (Counted n) place by
 next_spells Pathname place [] t h = absurd (cc)
 next_spells Pathname place (kind ∷ bytes) t h = taken_if (IsTaken Pathname place (kind ∷ bytes)) (nat_le (path_size kind bytes) (length bytes) && is_none (path_fault kind (path_text kind bytes))) _ t
     (λ e.
-    let both = and_true (nat_le (path_size kind bytes) (length bytes)) _ e in
-    pathname_taken kind place bytes (leb-true _ _ both.0) (none_is (path_fault kind (path_text kind bytes)) both.1)) h
+    let both = and_parts (nat_le (path_size kind bytes) (length bytes)) _ e in
+    pathname_taken kind place bytes (leb-true _ _ both.0) (none_from_is_none (path_fault kind (path_text kind bytes)) both.1)) h
 next_spells Tail place bytes t h = let e : record { value = bytes; size = length bytes } ≡ t = cc in subst (IsTaken Tail place bytes) e (record { within = omega arith; spells = (take_all (length bytes) bytes (omega arith), drop_all (length bytes) bytes (omega arith)) })
 
 -- what spells a word is taken

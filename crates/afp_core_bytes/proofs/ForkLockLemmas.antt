@@ -29,7 +29,7 @@ use Rattle.afp_core_state.specs.Running.{done, RunsRow}
 use Rattle.afp_core_state.specs.declared.on_fork.OwnFork.{OwnFork}
 use Rattle.afp_core_bytes.proofs.ForkBytesLemmas.{fork-done, fork-none, fork-refused, row-told}
 use Rattle.afp_core_bytes.proofs.ForkWriteLemmas.{start-fits}
-use Rattle.open_forks.specs.Forks.{Forks, LocksRange, UnlocksRange}
+use Rattle.afp_core_state.specs.Forks.{Forks, LocksRange, UnlocksRange}
 use Rattle.range_locks.specs.declared.fault.LockFault.{LockFault}
 use Rattle.range_locks.specs.declared.fault.LockFault.TheVariants as fault
 use Rattle.range_locks.specs.declared.fault.NotLocked.{NotLocked}

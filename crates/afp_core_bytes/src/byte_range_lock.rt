@@ -13,7 +13,7 @@ ghost use Rattle.volume_spec.specs.Walk.{row_at};
 ghost use Rattle.afp_core_bytes.specs.lemma.OnForkBytes.{BecomesForks, IsFew, IsOffset, IsPlace, TellsLocked, TellsUnlocked, start_reply};
 ghost use Rattle.afp_core_state.specs.lemma.KeptWorld.{forks_in};
 ghost use Rattle.afp_core_state.specs.Running.{IsReady, RunsRow};
-ghost use Rattle.open_forks.specs.Forks.{LocksRange, UnlocksRange};
+ghost use Rattle.afp_core_state.specs.Forks.{LocksRange, UnlocksRange};
 
 use crate::on_bytes::{is_from_end, number_block, start_on};
 use afp_base::{Bytes, Code, ForkRef, LAST_BYTE, OutOfMemory, SessionNumber};

@@ -39,7 +39,7 @@ use Rattle.afp_core_state.proofs.RowLemmas.{has_effect}
 use Rattle.afp_core_state.proofs.SessionLemmas.{session_of-number}
 use Rattle.fork_table.specs.declared.open_fork.OpenFault.{OpenFault}
 use Rattle.fork_table.specs.declared.open_fork.OpenFault.TheVariants as fault
-use Rattle.open_forks.specs.Forks.{AllHeld, ClosingUndoes, Forks, HasForks, OpensFork, left_of, new_open, with_opens}
+use Rattle.afp_core_state.specs.Forks.{AllHeld, ClosingUndoes, Forks, HasForks, OpensFork, left_of, new_open, with_opens}
 
 -- what is refused first is refused first before more rows
 first-before : {A : Type 0} → (b : Bool) (r : A) (first : List (Bool × A)) (rest : List (Bool × A)) (t : A) → first_holding ((b, r) ∷ first) ≡ Some t → ((more : first_holding first ≡ Some t) → first_holding rest ≡ Some t)

@@ -17,13 +17,13 @@ ghost use Rattle.afp_core_state.specs.Running.{IsReady, done as with_done, RunsR
 
 use crate::get_fork_parms::put_file_params;
 use afp_base::{Bytes, Code, ForkRef, NodeId, OutOfMemory, SessionNumber, VolumeId};
+use afp_core_state::laws::closing_undoes_an_open;
 use afp_core_state::{State, done, refused};
 use afp_names::Path;
 use afp_serial::fork_laws::references_are_lowest;
 use afp_serial::{Outcome, Told};
 use deny_modes::{ForkKey, Mode};
 use fork_table::OpenFault;
-use open_forks::laws::closing_undoes_an_open;
 use record_keeper::Keeper;
 use volume_tree::PlanFault;
 

@@ -16,7 +16,7 @@ use Rattle.afp_core_state.specs.KeptWorld.{KeptWorld}
 use Rattle.afp_core_state.specs.lemma.KeptWorld.{forks_in, with_forks, with_sessions}
 use Rattle.afp_core_state.specs.declared.on_fork.OwnFork.{OwnFork}
 use Rattle.afp_core_state.proofs.KeeperLemmas.{volume_at-index}
-use Rattle.open_forks.specs.Forks.{Forks, HasForks, left_of}
+use Rattle.afp_core_state.specs.Forks.{Forks, HasForks, left_of}
 
 -- a world has its own open forks and locks
 pub has-forks : (w : World) (f : Forks) → f ≡ forks_in w → HasForks w f

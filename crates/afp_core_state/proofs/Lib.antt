@@ -1,3 +1,5 @@
+pub mod HeldLocks
+pub mod OpenRows
 pub mod SessionLemmas
 pub mod KeeperLemmas
 pub mod ForkLemmas

@@ -3,7 +3,7 @@ use Rattle.afp_serial.specs.Household.{Household}
 use Rattle.afp_serial.specs.World.{World, Session}
 use Rattle.volume_spec.specs.VolumeState.{VolumeState}
 use Rattle.volume_keeper_commit.specs.Kept.{KeptState}
-use Rattle.open_forks.specs.Forks.{Forks}
+use Rattle.afp_core_state.specs.Forks.{Forks}
 use Rattle.std.specs.Prelude.{ℕ, Bool, List, map, Option}
 
 -- A world, and of each volume's keeper the count of its faults and whether it is sure: a sure keeper never fails.

@@ -1,3 +1,4 @@
+pub mod Forks
 pub mod KeeperFaults
 pub mod KeptWorld
 pub mod SessionList

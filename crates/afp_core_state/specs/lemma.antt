@@ -1,1 +1,2 @@
 pub mod KeptWorld
+pub mod LockRanges

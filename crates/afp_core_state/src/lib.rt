@@ -1,6 +1,8 @@
 //! The state of the core: volumes beside their keepers, sessions, links and open forks, and what calls on them are told.
 #![tactic(auto)]
 
+mod forks;
+pub mod laws;
 mod link_numbers;
 mod on_fork;
 mod on_volume;
@@ -9,6 +11,7 @@ mod replies;
 mod sessions;
 mod state;
 
+pub use forks::OpenForks;
 pub use link_numbers::LinkNumbers;
 pub use on_fork::OwnFork;
 pub use replies::{done, refused, told_changed, told_of, told_settled};

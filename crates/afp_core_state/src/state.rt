@@ -4,11 +4,11 @@ ghost use Rattle.afp_serial.specs.World.{without_session, start_world};
 ghost use Rattle.afp_core_state.specs.KeptWorld.{volumes_of, kept_world};
 ghost use Rattle.afp_core_state.specs.Running.{IsReady};
 
+use crate::forks::OpenForks;
 use crate::link_numbers::LinkNumbers;
 use crate::sessions::Sessions;
 use afp_base::{Moment, SessionNumber};
 use afp_serial::House;
-use open_forks::OpenForks;
 use record_keeper::Keeper;
 use std::alloc::Global;
 use std::marker::Model;

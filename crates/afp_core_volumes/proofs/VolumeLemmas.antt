@@ -16,7 +16,7 @@ use Rattle.afp_core_state.specs.SessionList.{replaced}
 use Rattle.afp_core_state.specs.KeptWorld.{KeptWorld}
 use Rattle.afp_core_state.specs.lemma.KeptWorld.{forks_in, with_forks, with_sessions}
 use Rattle.afp_core_volumes.specs.lemma.VolumeRows.{IsNamed}
-use Rattle.open_forks.specs.Forks.{Forks, left_of}
+use Rattle.afp_core_state.specs.Forks.{Forks, left_of}
 use Rattle.afp_core_state.proofs.RowLemmas.{IsRowOf, has_effect}
 
 -- FPCloseVol

@@ -1,11 +1,11 @@
 -- Reading and writing with a table of characters agree: each has one place, and none is ASCII.
-use Rattle.std.proofs.Common.{◌≡◌, ℕ, suc, zero, ◌<◌, ◌≤◌, ◌+◌, ◌-◌, ◌==◌, ◌&&◌, ◌||◌, ◌++◌, ◌*◌, take, encode_utf8, Bool, true, false, not, nat_lt, nat_le, List, [], ◌∷◌, length, get_or, Option, Some, None, option_map, position, if◌then◌else◌, IfSome, refl, sym, ◌∙◌, ap, arith}
+use Rattle.std.proofs.Common.{◌≡◌, ℕ, suc, zero, ◌<◌, ◌≤◌, ◌+◌, ◌-◌, ◌==◌, ◌&&◌, ◌++◌, ◌*◌, take, encode_utf8, Bool, true, false, not, nat_lt, nat_le, List, [], ◌∷◌, length, get_or, Option, Some, None, option_map, position, if◌then◌else◌, IfSome, refl, sym, ◌∙◌, ap, arith}
 use Rattle.std.specs.List.{list_all, list_any, position_or_len}
 use Rattle.std.proofs.lemmas.List.{append-nil, append_assoc, take_more, length-append}
 use Rattle.std.proofs.lemmas.List.Elements.{All-from_get_or}
 use Rattle.std.proofs.lemmas.List.Folds.{list_any_none, list_any-append}
 use Rattle.std.proofs.lemmas.Str.{inside_one, length-encode, len_utf8_bounds}
-use Rattle.std.proofs.lemmas.Bool.{and_parts, not-true, eqb-true, ltb-false, ltb-true, leb-true, lt-ltb, le-ltb, eq-eqb, ne_eqb, eqb-false, both_ways}
+use Rattle.std.proofs.lemmas.Bool.{and_parts, not-true, eqb-true, ltb-false, ltb-true, leb-true, lt-ltb, le-ltb, eq-eqb, ne_eqb, eqb-false, or_parts}
 use Rattle.std.proofs.lemmas.List.Quantifiers.{position-Some}
 use Rattle.std.proofs.lemmas.List.Sums.{position_or_len_is}
 use Rattle.afp_names.specs.Name.{longest_name}
@@ -125,14 +125,10 @@ encode_no_zero c some =
 mac_roman_text-no_zero : (bytes : List ℕ) → ((k : ℕ) → get_or bytes k 0 < 256) → list_any (λ byte. byte == 0) bytes ≡ false → list_any (λ byte. byte == 0) (mac_roman_text bytes) ≡ false
 mac_roman_text-no_zero [] small none = refl
 mac_roman_text-no_zero (b ∷ bytes) small none =
-    let parts = or_false (b == 0) (list_any (λ byte. byte == 0) bytes) none in
+    let parts = or_parts (b == 0) (list_any (λ byte. byte == 0) bytes) none in
     let here = encode_no_zero (mac_roman_char b) (mac_roman_char-some b (small 0) (eqb-false b 0 parts.0)) in
     let rest = mac_roman_text-no_zero bytes (λ k. small (suc k)) parts.1 in
     rw (list_any-append (λ byte. byte == 0) (encode_utf8 (mac_roman_char b)) (mac_roman_text bytes), here) rest
-  where
-    or_false : (x y : Bool) → (x || y) ≡ false → (x ≡ false) × (y ≡ false)
-    or_false true y h = absurd (both_ways true h refl)
-    or_false false y h = (refl, h)
 
 -- what a name's type keeps, of the text of 1 to 31 bytes of the character set
 pub mac_roman_text-name : (bytes : List ℕ) → ((k : ℕ) → get_or bytes k 0 < 256) → 0 < length bytes → length bytes ≤ longest_long_name → list_any (λ byte. byte == 0) bytes ≡ false → (0 < length (mac_roman_text bytes)) × (length (mac_roman_text bytes) ≤ longest_name) × (list_any (λ byte. byte == 0) (mac_roman_text bytes) ≡ false)

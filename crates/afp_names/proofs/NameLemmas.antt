@@ -2,7 +2,7 @@
 use Rattle.std.proofs.Common.{◌≡◌, ℕ, ◌<◌, ◌≤◌, ◌==◌, ◌↔◌, Bool, true, false, nat_lt, List, length, map, All, get_or, Some, None, IsUtf8, chars, encode_utf8_all, refl, sym, ap, ◌∙◌, arith}
 use Rattle.std.specs.List.{list_any}
 use Rattle.std.specs.Str.{IsAscii, is_utf8}
-use Rattle.std.proofs.lemmas.Bool.{both_ways, eq-eqb, ne_eqb}
+use Rattle.std.proofs.lemmas.Bool.{both_ways, eq-eqb, ne_eqb, false_from_ne_true}
 use Rattle.std.proofs.lemmas.Bool.Decides.{nat_tests}
 use Rattle.std.proofs.lemmas.List.Elements.{All-from_get_or, All-weaker}
 use Rattle.std.proofs.lemmas.List.Folds.{list_any_at, list_any_none}
@@ -35,12 +35,8 @@ pub name_fault-none : (bs : List ℕ) → (length bs == 0) ≡ false → length 
 unfolding name_fault
 name_fault-none bs some short no_zero text = let within : nat_lt longest_name (length bs) ≡ false = grind (arith, nat_tests) in rw (some, within, no_zero, text) refl
 
-false_from : (b : Bool) → (b ≡ true → ⊥) → b ≡ false
-false_from true h = absurd (h refl)
-false_from false h = refl
-
 pub is_utf8-not : (bs : List ℕ) → (IsUtf8 bs → ⊥) → is_utf8 bs ≡ false
-is_utf8-not bs h = false_from (is_utf8 bs) (λ e. h (IsUtf8-from_is_utf8 bs e))
+is_utf8-not bs h = false_from_ne_true (is_utf8 bs) (λ e. h (IsUtf8-from_is_utf8 bs e))
 
 -- the key of n in three steps, each over the text that the step before made
 pub name_key-steps : (n d f k : List ℕ) → IsUtf8 d → IsUtf8 f → d ≡ encode_utf8_all (nfd (chars n)) → f ≡ encode_utf8_all (default_case_fold (chars d)) → k ≡ encode_utf8_all (nfd (chars f)) → k ≡ name_key n

@@ -1,7 +1,7 @@
 -- The shortest spelling of a path that was read is read as it again, and is no longer than the bytes that it was read from.
 use Rattle.std.proofs.Common.{◌≡◌, ℕ, suc, zero, ◌<◌, ◌≤◌, ◌+◌, ◌-◌, ◌==◌, ◌||◌, Bool, true, false, not, nat_lt, List, [], ◌∷◌, ◌++◌, length, map, replicate, flat_map, get_or, Option, Some, None, refl, ◌∙◌, ap, arith}
 use Rattle.std.specs.List.{list_any}
-use Rattle.std.proofs.lemmas.Bool.{ne_eqb, eqb-true, both_ways, and_from, ltb-false, ltb-true}
+use Rattle.std.proofs.lemmas.Bool.{ne_eqb, eqb-true, both_ways, and_from, ltb-false, ltb-true, or_parts, not-false}
 use Rattle.std.proofs.lemmas.List.{length-append}
 use Rattle.std.proofs.lemmas.Str.{chars-encodes}
 use lib.Utf8.{scalar, scalars, low_scalar}
@@ -28,10 +28,6 @@ abbrev AreRuns : List Run → Type 0
 AreRuns [] = Unit {0}
 AreRuns (ZeroRun k ∷ rest) = (0 < k) × BeginsNoZeroRun rest × AreRuns rest
 AreRuns (ElementRun bytes ∷ rest) = IsElement bytes × BeginsNoElement rest × AreRuns rest
-
-or_false : (x y : Bool) → (x || y) ≡ false → (x ≡ false) × (y ≡ false)
-or_false true y h = absurd (both_ways true h refl)
-or_false false y h = (refl, h)
 
 one_byte : (b : ℕ) → suc b < 256 → IsElement (suc b ∷ [])
 one_byte b small = record { some = omega arith; no_zero = rw (ne_eqb (suc b) 0 (λ e. cc)) refl; small = λ k. at k }
@@ -126,16 +122,12 @@ run_step kind bytes element good =
     let same : element_of kind (element_name kind bytes) ≡ bytes = element_of-name kind bytes element.small in
     record { element = rw same element; good = rw same good; again = rw same refl }
 
-not_false : (b : Bool) → not b ≡ false → b ≡ true
-not_false true h = refl
-not_false false h = absurd (both_ways true h refl)
-
 steps_of_runs : (kind : ℕ) (rs : List Run) → AreRuns rs → list_any (is_bad_run kind) rs ≡ false → AreSteps kind (flat_map (run_steps kind) rs)
 steps_of_runs kind [] h good = tt
 steps_of_runs kind (ZeroRun k ∷ rest) h good = ups_are_steps kind (k - 1) (flat_map (run_steps kind) rest) (steps_of_runs kind rest h.2 good)
 steps_of_runs kind (ElementRun bytes ∷ rest) h good =
-    let parts = or_false (not (is_element kind bytes)) (list_any (is_bad_run kind) rest) good in
-    (run_step kind bytes h.0 (not_false (is_element kind bytes) parts.0), steps_of_runs kind rest h.2 parts.1)
+    let parts = or_parts (not (is_element kind bytes)) (list_any (is_bad_run kind) rest) good in
+    (run_step kind bytes h.0 (not-false (is_element kind bytes) parts.0), steps_of_runs kind rest h.2 parts.1)
 
 -- these bytes are read as these steps
 record ReadAs (kind : ℕ) (bytes : List ℕ) (steps : List Step) : Type 0 where
@@ -168,7 +160,7 @@ runs-append [] rest some none h = absurd (omega arith)
 runs-append (zero ∷ bytes) rest some none h = absurd (both_ways true none refl)
 runs-append (suc b ∷ []) rest some none h = byte_onto b (runs rest) h
 runs-append (suc b ∷ c ∷ bytes) rest some none h =
-    let parts = or_false (suc b == 0) (list_any (λ byte. byte == 0) (c ∷ bytes)) none in
+    let parts = or_parts (suc b == 0) (list_any (λ byte. byte == 0) (c ∷ bytes)) none in
     rw (runs-append (c ∷ bytes) rest (omega arith) parts.1 h) refl
 
 down_read : (kind : ℕ) (name bytes : List ℕ) (steps : List Step) → IsStep kind (Down name) → BeginsNoElement (runs bytes) → ReadAs kind bytes steps → ReadAs kind (element_of kind name ++ bytes) (Down name ∷ steps)

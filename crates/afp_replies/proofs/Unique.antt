@@ -13,7 +13,7 @@ use Rattle.afp_replies.specs.Entry.{is_dir, bits_for, kind_for, head_size, IsEnt
 use Rattle.afp_replies.specs.Words.{ReplyWord, Number, Exactly, Asked, Raw, Pad, Counted, Flag, Entry, ReplyValue, SpellsWord}
 use Rattle.afp_replies.specs.Layout.{ReplyLayout, Is, Never, Then, Remaining, Params, Has}
 use Rattle.afp_base.specs.Bytes.{IsBytes}
-use Rattle.afp_base.proofs.Numbers.{IsBytes-take, IsBytes-drop, length-big_bytes}
+use Rattle.afp_base.proofs.Numbers.{IsBytes-take, IsBytes-drop, length-big_bytes, IsBytes-behind}
 use Rattle.afp_replies.proofs.Spellings.{number_alone}
 use Rattle.afp_replies.proofs.Entries.{flag_tells, stands}
 
@@ -33,9 +33,6 @@ same_number n x y lx ly e = number_alone n x lx ∙ ap (big_number n) e ∙ sym 
 
 bytes_front : (f r : List ℕ) → IsBytes (f ++ r) → IsBytes f
 bytes_front f r b = subst IsBytes (take_at f r (length f) refl) (IsBytes-take (length f) (f ++ r) b)
-
-bytes_behind : (f r : List ℕ) → IsBytes (f ++ r) → IsBytes r
-bytes_behind f r b = subst IsBytes (drop_at f r (length f) refl) (IsBytes-drop (length f) (f ++ r) b)
 
 kind_small : (v : Values) → kind_of v ≤ 2
 kind_small (kinds.Volume v) = omega arith
@@ -112,7 +109,7 @@ one_reply law Never r s b bytes h k = absurd h
 one_reply law (Then w next) r s b bytes h k =
     let here : IsBytes (h.first ++ h.rest) = subst IsBytes h.split bytes in
     let same = one_value law w h.value k.value h.first k.first h.rest k.rest here h.spelt k.spelt (sym h.split ∙ k.split) in
-    one_reply law (next h.value) r s h.rest (bytes_behind h.first h.rest here) h.behind
+    one_reply law (next h.value) r s h.rest (IsBytes-behind h.first h.rest here) h.behind
     (subst (λ (x : ReplyValue w). Has (next x) s h.rest) (sym same.value) (subst (λ (z : List ℕ). Has (next k.value) s z) (sym same.rest) k.behind))
 one_reply law (Remaining reply) r s b bytes h k = h ∙ sym k
 one_reply law (Params kind bits reply) r s b bytes h k =

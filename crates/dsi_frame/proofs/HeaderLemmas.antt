@@ -1,6 +1,6 @@
 -- What the bytes of a header say, and how they follow from its fields.
 use Rattle.std.proofs.Common.{◌≡◌, ◌≢◌, ◌==◌, ◌&&◌, ◌+◌, ◌*◌, Bor, Ok, ℕ, zero, suc, ◌≤◌, Bool, true, false, not, cond, nat_lt, List, [], ◌∷◌, ◌++◌, length, take, drop, Option, Some, None, refl, sym, ap, ◌∙◌, subst, inl, inr, arith, ltb-false, le-ltb}
-use Rattle.std.proofs.lemmas.Bool.{false≢true}
+use Rattle.std.proofs.lemmas.Bool.{false≢true, not-false}
 use Rattle.std.proofs.lemmas.Bool.Decides.{eqb_tells}
 use Rattle.afp_base.specs.Cursor.{Cursor, ReadsNumber, ReadsBytes, cursor_after, piece_at}
 use Rattle.afp_base.specs.Limits.{payload_limit}
@@ -13,6 +13,7 @@ use Rattle.dsi_frame.specs.declared.frame.Header.{Header}
 use Rattle.dsi_frame.specs.declared.frame.HeaderNumbers.{HeaderNumbers}
 use Rattle.dsi_frame.specs.Frame.{WordFits, header_fault, first_found, flags_byte, flags_in, command_number, command_in, word_in, payload_length_in, is_listed}
 use Rattle.dsi_frame.specs.lemma.GoodHeader.{AreNumbers, IsGoodHeader, id_in}
+use Rattle.afp_base.proofs.Facts.{some-none}
 
 -- the fault that four fields of a header show
 abbrev pub fault_of : ℕ → ℕ → ℕ → ℕ → Option Reason
@@ -138,17 +139,10 @@ pub header_fault-append : (bytes more : List ℕ) → 16 ≤ length bytes → he
 header_fault-append bytes more long =
     by_header (λ bs. header_fault (bs ++ more) ≡ header_fault bs) (λ a b c d e f g h i j k l m n o p tail. refl) bytes long
 
-some_is_not_none : (r : Reason) → Some r ≡ None → ⊥
-some_is_not_none r h = cc
-
 -- what follows from a header without fault
 cut_if : (b : Bool) (r : Reason) (o : Option Reason) → cond b (Some r) o ≡ None → (b ≡ false) × (o ≡ None)
-cut_if true r o h = absurd (some_is_not_none r h)
+cut_if true r o h = absurd (some-none r h)
 cut_if false r o h = (refl, h)
-
-not_false : (b : Bool) → not b ≡ false → b ≡ true
-not_false true h = refl
-not_false false h = absurd (false≢true (sym h))
 
 -- the flag that the first byte says
 flag_at : (n : ℕ) → n ≤ 1 → n ≡ flags_byte (n == 1)
@@ -185,7 +179,7 @@ faultless_is_good bytes h =
     let size = cut_if _ _ _ command.1 in
     let offset = cut_if _ _ _ size.1 in
     let one : flags_in bytes ≡ flags_byte (flags_in bytes == 1) = flag_at (flags_in bytes) (ltb-false 1 (flags_in bytes) flags.0) in
-    let two : command_number (command_at (command_in bytes)) ≡ command_in bytes = listed (command_in bytes) (not_false (is_listed (command_in bytes)) command.0) in
+    let two : command_number (command_at (command_in bytes)) ≡ command_in bytes = listed (command_in bytes) (not-false (is_listed (command_in bytes)) command.0) in
     record {
       flags = one;
       command = sym two;

@@ -1,6 +1,6 @@
 -- Spellings of frames one after another.
 use Rattle.std.proofs.Common.{◌≡◌, ◌⊎◌, ℕ, zero, suc, ◌+◌, ◌<◌, ◌≤◌, List, [], ◌∷◌, ◌++◌, length, take, drop, get_or, Option, Some, None, refl, sym, ap, ◌∙◌, subst, inl, inr, arith, length-append, append_assoc}
-use Rattle.std.proofs.lemmas.List.{append-nil, get_or-append-add, take-append-drop, take_more, take_all}
+use Rattle.std.proofs.lemmas.List.{append-nil, take-append-drop, take_more, take_all}
 use Rattle.std.proofs.lemmas.List.Concat.{flat_map-append}
 use Rattle.std.specs.List.{flat_map}
 use Rattle.std.proofs.lemmas.Bool.{cases_lt}
@@ -12,6 +12,7 @@ use Rattle.dsi_frame.specs.Buffered.{Buffered, buffer_length}
 use Rattle.dsi_frame.specs.Deframe.{GivenOut}
 use Rattle.dsi_frame.proofs.HeaderLemmas.{header_in, faultless_is_good}
 use Rattle.dsi_frame.proofs.FrameLemmas.{begins, length-spelling, one_spelling, short_is_unfinished, cut_is_unfinished, bad_is_no_frame, bad_header-append}
+use Rattle.afp_base.proofs.Numbers.{IsBytes-behind}
 
 -- frames and then one frame more
 pub spelled_push : (bytes first : List ℕ) (frames : List Frame) (f : Frame) → Spelled bytes frames → IsSpelling first f
@@ -98,11 +99,6 @@ judged bytes fits = elim (cases_lt (length bytes) 16) [
   | inr long ↦ by_fault bytes fits long (header_fault bytes) refl
 ]
 
--- the rest of bytes are bytes
-pub bytes-drop : (first more : List ℕ) → IsBytes (first ++ more) → IsBytes more
-bytes-drop first more fits i = let at : get_or (first ++ more) (length first + i) 0 ≡ get_or more i 0 = get_or-append-add first more i 0 in
-    let low = fits (length first + i) in omega (arith, at, low)
-
 -- what one more frame in front makes of a stream
 framed-cons : (first more rest : List ℕ) (f : Frame) (frames : List Frame) → IsSpelling first f → Framed more frames rest → Framed (first ++ more) (f ∷ frames) rest
 framed-cons first more rest f frames s framed = record {
@@ -145,7 +141,7 @@ has_frames_up_to (suc n) bytes size fits = elim (judged bytes fits) [
       let whole = ap length b.whole ∙ length-append b.first b.more in
       let first = length-spelling b.first found.0 b.spelling in
       let shorter : length b.more ≤ n = omega (arith, whole, first) in
-      let fit : IsBytes b.more = bytes-drop b.first b.more (subst IsBytes b.whole fits) in
+      let fit : IsBytes b.more = IsBytes-behind b.first b.more (subst IsBytes b.whole fits) in
       subst HasFrames (sym b.whole) (has_frames-cons b.first b.more found.0 b.spelling (has_frames_up_to n b.more shorter fit))
   | inr (inl bad) ↦ inr ([], 0, bad.0, bad-stopped bytes bad.0 bad.1)
   | inr (inr u) ↦ inl ([], bytes, unfinished-framed bytes u)

@@ -167,6 +167,15 @@ impl Deframer {
         self.place += length as u64;
     }
 
+    /// Begins another stream, at its first byte, in the same buffer: what was held is dropped.
+    pub fn restart(&mut self)
+        ensures { self.new ≡ record { place = 0; rest = [] } }
+    {
+        self.start = 0;
+        self.held = 0;
+        self.place = 0;
+    }
+
     /// How many bytes stand behind the frames given out.
     pub fn rest(&self) -> usize
         ensures rest { result ≡ length self.now.rest }

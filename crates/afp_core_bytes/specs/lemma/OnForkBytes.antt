@@ -22,7 +22,7 @@ use Rattle.volume_spec.specs.ForkEffect.{fork_of}
 use Rattle.afp_base.specs.Limits.{most_fork_bytes}
 use Rattle.volume_spec.specs.VolumeState.{Row as File}
 use Rattle.fork_bytes.specs.Line.{Line, line_of}
-use Rattle.open_forks.specs.Forks.{Forks}
+use Rattle.afp_core_state.specs.Forks.{Forks}
 use Rattle.range_locks.specs.declared.fault.LockFault.{LockFault}
 use Rattle.range_locks.specs.declared.fault.LockFault.TheVariants as fault
 use Rattle.range_locks.specs.declared.fault.NotLocked.{NotLocked}

@@ -1,6 +1,6 @@
 -- What the code and the proofs go by beside KeptWorld; no public contract cites it.
 use Rattle.afp_serial.specs.World.{World, Session}
-use Rattle.open_forks.specs.Forks.{Forks}
+use Rattle.afp_core_state.specs.Forks.{Forks}
 use Rattle.std.specs.Prelude.{List}
 use Rattle.afp_core_state.specs.KeptWorld.{KeptWorld}
 

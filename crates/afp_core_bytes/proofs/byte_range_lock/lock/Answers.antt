@@ -2,7 +2,7 @@ use Rattle.std.proofs.Common.{ap, subst, sym}
 use Rattle.afp_core_state.specs.KeptWorld.{KeptWorld}
 use Rattle.afp_core_state.specs.lemma.KeptWorld.{forks_in, with_forks}
 use Rattle.afp_core_bytes.proofs.byte_range_lock.lock.Goals as goal
-use Rattle.open_forks.specs.Forks.{Forks, LocksRange}
+use Rattle.afp_core_state.specs.Forks.{Forks, LocksRange}
 
 pub returns : goal.returns
 returns g c = λ o is.

@@ -4,7 +4,7 @@ use Rattle.afp_core_state.specs.KeptWorld.{KeptWorld}
 use Rattle.afp_core_state.specs.lemma.KeptWorld.{forks_in, with_forks}
 use Rattle.afp_core_forks.proofs.ForkCallRows.{close_fork-row}
 use Rattle.afp_core_forks.proofs.OnForkLemmas.{fork-done, fork-unopened}
-use Rattle.open_forks.specs.Forks.{left_of}
+use Rattle.afp_core_state.specs.Forks.{left_of}
 use Rattle.afp_core_forks.proofs.close_fork.close_fork.Goals as goal
 
 pub returns-in_default : goal.returns-in_default

@@ -1,7 +1,7 @@
 use Rattle.std.proofs.Common.{◌∙◌, ap, sym, subst}
 use Rattle.std.specs.Prelude.{Err, Ok as with_ok, slice_get}
 use Rattle.fork_table.specs.declared.open_fork.OpenFault.{OpenFault}
-use Rattle.open_forks.specs.Forks.{OpensFork}
+use Rattle.afp_core_state.specs.Forks.{OpensFork}
 use Rattle.afp_core_state.specs.KeptWorld.{KeptWorld}
 use Rattle.afp_core_state.specs.lemma.KeptWorld.{forks_in, with_forks}
 use Rattle.afp_core_state.specs.Running.{done, RunsRow}

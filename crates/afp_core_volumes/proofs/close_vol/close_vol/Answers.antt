@@ -8,7 +8,7 @@ use Rattle.afp_core_state.specs.SessionList.{replaced, session_of}
 use Rattle.afp_core_state.proofs.RowLemmas.{is_refused}
 use Rattle.afp_core_volumes.proofs.VolumeLemmas.{close_vol-not_open, close_vol-runs}
 use Rattle.afp_core_state.proofs.SessionLemmas.{session_of-number}
-use Rattle.open_forks.specs.Forks.{left_of}
+use Rattle.afp_core_state.specs.Forks.{left_of}
 use Rattle.afp_core_volumes.proofs.close_vol.close_vol.Goals as goal
 
 pub returns-then-not-has_volume : goal.returns-then-not-has_volume

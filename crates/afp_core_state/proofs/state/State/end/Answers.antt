@@ -3,7 +3,7 @@ use Rattle.afp_core_state.specs.KeptWorld.{KeptWorld}
 use Rattle.afp_core_state.specs.lemma.KeptWorld.{forks_in, with_forks, with_sessions}
 use Rattle.afp_core_state.proofs.ForkLemmas.{end-runs}
 use Rattle.afp_core_state.proofs.state.State.end.Goals as goal
-use Rattle.open_forks.specs.Forks.{left_of}
+use Rattle.afp_core_state.specs.Forks.{left_of}
 
 pub returns : goal.returns
 returns g c =

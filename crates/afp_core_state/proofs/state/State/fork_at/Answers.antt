@@ -5,7 +5,7 @@ use Rattle.afp_core_state.specs.KeptWorld.{KeptWorld}
 use Rattle.afp_core_state.specs.lemma.KeptWorld.{forks_in}
 use Rattle.afp_core_state.proofs.ForkLemmas.{fork-found, fork-none, fork-unfound, has-forks}
 use Rattle.afp_core_state.proofs.state.State.fork_at.Goals as goal
-use Rattle.open_forks.specs.Forks.{open_of}
+use Rattle.afp_core_state.specs.Forks.{open_of}
 
 pub returns-in_default : goal.returns-in_default
 returns-in_default g c =

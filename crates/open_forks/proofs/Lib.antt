@@ -1,2 +1,0 @@
-pub mod HeldLocks
-pub mod OpenRows
