@@ -20,7 +20,7 @@ use Rattle.afp_serial.specs.declared.ask.Outcome.{Outcome}
 use Rattle.afp_serial.specs.declared.ask.Outcome.TheVariants as outcome
 use Rattle.afp_serial.specs.declared.ask.Told.{Told}
 use Rattle.afp_serial.specs.declared.ask.Told.TheVariants.{Reply}
-use Rattle.volume_spec.proofs.TestedLists.{find-passes}
+use Rattle.afp_base.proofs.ListFacts.{find-passes}
 use Rattle.volume_spec.specs.ForkEffect.{fork_effect, would_pass}
 use Rattle.volume_spec.specs.SoundVolume.{has_file}
 use Rattle.volume_spec.specs.VolumeState.{Row as File, VolumeState}

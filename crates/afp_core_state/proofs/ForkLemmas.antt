@@ -7,7 +7,7 @@ use Rattle.afp_serial.specs.Answer.{new_session}
 use Rattle.afp_serial.specs.OnFork.{open_file, own_fork}
 use Rattle.afp_serial.specs.World.{closing, has_opened, has_session, is_open, volume_at, without_session, World, Session, OpenFork, Lock}
 use Rattle.afp_serial.specs.Sound.{has_lawful_locks, has_lawful_opens, has_volume_open, is_file_of, is_lawful_open}
-use Rattle.volume_spec.proofs.TestedLists.{all-weaker, find-all, find-passes}
+use Rattle.afp_base.proofs.ListFacts.{all-weaker, find-all, find-passes}
 use Rattle.volume_spec.specs.SoundVolume.{has_file}
 use Rattle.volume_spec.specs.VolumeState.{Row, VolumeState}
 use Rattle.volume_spec.specs.Walk.{row_at}

@@ -10,7 +10,7 @@ use Rattle.volume_spec.specs.Order.{rises_from}
 use Rattle.afp_base.specs.Limits.{most_fork_bytes}
 use Rattle.volume_spec.specs.SoundVolume.{IsSoundVolume, is_tree, is_in_place, leads_to_root, has_node, has_apart_names, are_named_alike, has_noted_nodes, keeps_limits, fork_bytes, is_formed_volume, is_formed, is_named, is_in_order, has_rising_ids, most_nodes, last_next_id, file_attributes, dir_attributes}
 use Rattle.volume_spec.specs.Walk.{row_at}
-use Rattle.volume_spec.proofs.TestedLists.{any-map, apart-map, length-mapped}
+use Rattle.afp_base.proofs.ListFacts.{any-map, apart-map, length-mapped}
 use Rattle.volume_keeper_records.specs.declared.rows.TableRow.{TableRow}
 use Rattle.volume_keeper_records.specs.declared.rows.TableRow.TheVariants as row
 use Rattle.volume_keeper_records.specs.Image.{node_of, rows_of, tables_of, fork_blocks}

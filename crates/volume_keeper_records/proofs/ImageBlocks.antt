@@ -9,7 +9,7 @@ use Rattle.fork_bytes.specs.Blocks.{block_at, block_count, before_zeros, trimmed
 use Rattle.fork_bytes.specs.Kept.{bytes_of, are_rising, is_kept, is_empty}
 use Rattle.volume_spec.specs.VolumeState.{Row as VolumeRow}
 use Rattle.volume_spec.specs.TypedVolume.{is_byte, is_long, are_bytes}
-use Rattle.volume_spec.proofs.TestedLists.{length-mapped}
+use Rattle.afp_base.proofs.ListFacts.{length-mapped}
 use Rattle.volume_keeper_records.specs.declared.rows.ForkBlock.{ForkBlock}
 use Rattle.volume_keeper_records.specs.Records.{flag_byte}
 use Rattle.volume_keeper_records.specs.Shape.{is_formed_block}

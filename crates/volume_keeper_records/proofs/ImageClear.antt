@@ -10,7 +10,7 @@ use Rattle.volume_spec.specs.VolumeState.{Comment, Icon, Appl, VolumeState, root
 use Rattle.volume_spec.specs.Order.{stands_before}
 use Rattle.volume_spec.specs.SoundVolume.{IsSoundVolume, is_named, file_attributes, dir_attributes, is_in_place, has_node, has_file, is_comment, is_icon, icon_key, appl_key, most_icons, most_appls, code_size, is_formed as is_formed_row}
 use Rattle.volume_spec.specs.TypedVolume.{is_word, is_long, is_date, are_bytes, is_typed_row, is_typed_comment, is_typed_icon, is_typed_appl, is_typed_volume}
-use Rattle.volume_spec.proofs.TestedLists.{any-map, length-mapped}
+use Rattle.afp_base.proofs.ListFacts.{any-map, length-mapped}
 use Rattle.volume_keeper_records.specs.declared.rows.Node.{Node}
 use Rattle.volume_keeper_records.specs.declared.rows.ForkBlock.{ForkBlock}
 use Rattle.volume_keeper_records.specs.declared.rows.TableRow.{TableRow}

@@ -7,7 +7,7 @@ use Rattle.afp_base.specs.Apart.{are_apart}
 use Rattle.afp_base.specs.Limits.{most_fork_bytes}
 use Rattle.volume_spec.specs.SoundVolume.{is_in_place, are_named_alike, has_node, has_file, leads_to_root, is_named, most_nodes, file_attributes, dir_attributes, is_formed as is_formed_row}
 use Rattle.volume_spec.specs.TypedVolume.{is_word, is_long, is_date, is_quad, are_bytes, is_typed_row}
-use Rattle.volume_spec.proofs.TestedLists.{any-map, length-mapped}
+use Rattle.afp_base.proofs.ListFacts.{any-map, length-mapped}
 use Rattle.volume_keeper_records.specs.declared.rows.Node.{Node}
 use Rattle.volume_keeper_records.specs.declared.rows.TableRow.TheVariants as row
 use Rattle.volume_keeper_records.specs.Shape.{bare_row, is_formed_node, is_root_or_other}

@@ -14,7 +14,7 @@ use Rattle.volume_spec.specs.VolumeState.{Icon, Appl, root_id, Row as VolumeRow}
 use Rattle.volume_spec.specs.Order.{stands_before}
 use Rattle.afp_base.specs.Limits.{most_fork_bytes}
 use Rattle.volume_spec.specs.SoundVolume.{has_node, has_file, leads_to_root, are_named_alike, icon_key, appl_key, most_nodes, most_icons, most_appls}
-use Rattle.volume_spec.proofs.TestedLists.{any-map, length-mapped}
+use Rattle.afp_base.proofs.ListFacts.{any-map, length-mapped}
 use Rattle.record_keeper.specs.declared.record.Record.{Record}
 use Rattle.volume_keeper_records.specs.declared.rows.Node.{Node}
 use Rattle.volume_keeper_records.specs.declared.rows.Reason.{Reason}

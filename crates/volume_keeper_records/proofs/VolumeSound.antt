@@ -8,7 +8,7 @@ use Rattle.afp_base.specs.Apart.{are_apart}
 use Rattle.afp_base.specs.Limits.{most_fork_bytes}
 use Rattle.volume_spec.specs.SoundVolume.{IsSoundVolume, is_tree, is_in_place, has_apart_names, are_named_alike, has_noted_nodes, keeps_limits, is_formed_volume, is_in_order, has_rising_ids, has_node, has_file, leads_to_root, is_named, is_comment, is_icon, are_one_icon, are_one_appl, icon_key, appl_key, most_nodes, most_icons, most_appls, last_next_id, code_size, file_attributes, dir_attributes, is_formed as is_formed_row}
 use Rattle.volume_spec.specs.TypedVolume.{is_date, is_quad, is_typed_row, is_typed_comment, is_typed_icon, is_typed_appl}
-use Rattle.volume_spec.proofs.TestedLists.{any-map, length-mapped}
+use Rattle.afp_base.proofs.ListFacts.{any-map, length-mapped}
 use Rattle.volume_keeper_records.specs.declared.rows.Node.{Node}
 use Rattle.volume_keeper_records.specs.declared.rows.ForkBlock.{ForkBlock}
 use Rattle.volume_keeper_records.specs.declared.rows.TableRow.TheVariants as row

@@ -8,7 +8,7 @@ use Rattle.fork_bytes.specs.Kept.{bytes_of, bytes_in, byte_at, each_of}
 use Rattle.volume_spec.specs.VolumeState.{root_id, root_parent, first_id, Row as VolumeRow}
 use Rattle.volume_spec.specs.SoundVolume.{has_file, has_node, is_formed as is_formed_row, is_comment, is_icon, last_next_id}
 use Rattle.volume_spec.specs.TypedVolume.{is_byte, is_long, is_date, are_bytes, is_typed_row, is_typed_volume, is_typed_comment, is_typed_icon, is_typed_appl}
-use Rattle.volume_spec.proofs.TestedLists.{any-map}
+use Rattle.afp_base.proofs.ListFacts.{any-map}
 use Rattle.volume_keeper_records.specs.declared.rows.Node.{Node}
 use Rattle.volume_keeper_records.specs.declared.rows.ForkBlock.{ForkBlock}
 use Rattle.volume_keeper_records.specs.declared.rows.TableRow.TheVariants as row
