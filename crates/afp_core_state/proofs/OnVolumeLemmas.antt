@@ -1,6 +1,7 @@
 -- Calls on a volume that the session has open: what they share.
 use Rattle.std.proofs.Common.{◌≡◌, ◌∙◌, ap, sym, refl, subst, ℕ, zero, suc, ◌+◌, ◌<◌, Bool, true, false, not, List, [], ◌∷◌, length, Option, Some, None, is_some, arith, add-one}
 use Rattle.std.specs.Prelude.{IfSome, MatchOption, option_map, slice_get, slice_set}
+use Rattle.std.proofs.lemmas.Option.{same_Some}
 use Rattle.afp_base.specs.Choice.{first_holding}
 use Rattle.afp_base.specs.declared.code.Code.{Code}
 use Rattle.afp_base.specs.declared.code.Code.TheVariants.{Ok, ParamErr}
@@ -19,7 +20,7 @@ use Rattle.afp_core_state.specs.OnVolumes.{BecomesKept, IsKeptAt, IsOpen, IsOpen
 use Rattle.afp_core_state.specs.KeptWorld.{KeptWorld}
 use Rattle.afp_core_state.specs.SessionList.{session_of}
 use Rattle.afp_core_state.specs.Running.{IsOutcomeOf}
-use Rattle.afp_core_state.proofs.KeeperLemmas.{volume_at-index}
+use Rattle.afp_core_state.proofs.KeeperLemmas.{volume_at-index, stand-same}
 use Rattle.volume_keeper_commit.specs.Changing.{FailsIn}
 use Rattle.volume_keeper_commit.specs.Kept.{KeptState}
 
@@ -31,33 +32,20 @@ if-some P Q (Some a) holds more = more a holds
 pub some-holds : {A : Type 0} → (P : A → Type 0) → (o : Option A) (a : A) → o ≡ Some a → IfSome o P → P a
 some-holds P o a is holds = subst (λ o. IfSome o P) is holds
 
--- lists with another element
-some-is : {A : Type 0} → (x a : A) → Some x ≡ Some a → x ≡ a
-some-is {A = A} x a h = ap (λ o. from o) h
-  where
-    from : Option A → A
-    from None = a
-    from (Some y) = y
-
 pub set-same : {A : Type 0} → (xs : List A) (i : ℕ) (a : A) → slice_get xs i ≡ Some a → slice_set xs i a ≡ xs
 set-same [] i a h = refl
-set-same (x ∷ xs) zero a h = ap (λ y. y ∷ xs) (sym (some-is x a h))
+set-same (x ∷ xs) zero a h = ap (λ y. y ∷ xs) (sym (same_Some x a h))
 set-same (x ∷ xs) (suc i) a h = ap (λ ys. x ∷ ys) (set-same xs i a h)
 
 rise-set : (xs : List ℕ) (i a b : ℕ) → slice_get xs i ≡ Some a → a < b → KeepersRise (Some i) xs (slice_set xs i b)
 rise-set [] i a b h less = cc
-rise-set (x ∷ xs) zero a b h less = let same : x ≡ a = some-is x a h in (omega (arith, same, less), refl)
+rise-set (x ∷ xs) zero a b h less = let same : x ≡ a = same_Some x a h in (omega (arith, same, less), refl)
 rise-set (x ∷ xs) (suc i) a b h less = (refl, rise-set xs i a b h less)
 
 stand-set : (sure : List Bool) (xs : List ℕ) (i b : ℕ) → slice_get sure i ≡ Some false → SureStand sure xs (slice_set xs i b)
 stand-set [] xs i b h = tt
 stand-set (s ∷ sure) [] i b h = tt
-stand-set (s ∷ sure) (x ∷ xs) zero b h = ((λ is. cc), stand-rest sure xs)
-  where
-    stand-rest : (s : List Bool) (ys : List ℕ) → SureStand s ys ys
-    stand-rest [] ys = tt
-    stand-rest (y ∷ s) [] = tt
-    stand-rest (y ∷ s) (z ∷ ys) = ((λ e. refl), stand-rest s ys)
+stand-set (s ∷ sure) (x ∷ xs) zero b h = ((λ is. cc), stand-same sure xs)
 stand-set (s ∷ sure) (x ∷ xs) (suc i) b h = ((λ e. refl), stand-set sure xs i b h)
 
 -- the volume is not opened, or is not there
