@@ -32,6 +32,7 @@ if-some P Q (Some a) holds more = more a holds
 pub some-holds : {A : Type 0} → (P : A → Type 0) → (o : Option A) (a : A) → o ≡ Some a → IfSome o P → P a
 some-holds P o a is holds = subst (λ o. IfSome o P) is holds
 
+-- lists with another element
 pub set-same : {A : Type 0} → (xs : List A) (i : ℕ) (a : A) → slice_get xs i ≡ Some a → slice_set xs i a ≡ xs
 set-same [] i a h = refl
 set-same (x ∷ xs) zero a h = ap (λ y. y ∷ xs) (sym (same_Some x a h))

@@ -47,6 +47,7 @@ rising_pieces (b ∷ bs) c e =
     (and_from (list_all (λ c. nat_lt b.index c.index) (map piece_of bs)) (are_rising (map piece_of bs)) (list_all-map (λ (c : Block). nat_lt b.index c.index) piece_of bs ∙ c.0)
     (rising_pieces bs c.1 (right_true (nat_le 1 (length b.bytes)) (list_all (λ b. nat_le 1 (length b.bytes)) bs) e)))
 
+-- blocks of one node climb by fork, and those of one fork rise by index
 pub by_node : (a b : ForkBlock) → block_before a b ≡ true → nat_le a.node b.node ≡ true
 by_node a b e = either (nat_lt a.node b.node) ((a.node == b.node) && fork_before a b) e
     (λ l. let h : a.node < b.node = ltb-true _ _ l in le-leb _ _ (omega arith))
