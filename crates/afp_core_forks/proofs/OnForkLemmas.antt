@@ -1,7 +1,8 @@
 -- Rows of calls on an open fork of the session.
-use Rattle.std.proofs.Common.{◌≡◌, ◌==◌, ◌∙◌, ap, sym, refl, subst, ℕ, Bool, true, false, not, List, [], length, Option, Some, None, add-one}
+use Rattle.std.proofs.Common.{◌≡◌, ◌==◌, ◌∙◌, ap, sym, refl, subst, ℕ, Bool, true, false, List, [], length, Option, Some, None, add-one}
 use Rattle.std.specs.Prelude.{Result, Ok as with_ok, Err, bit_and, slice_get, slice_set}
-use Rattle.std.proofs.lemmas.Bool.{eqb-true}
+use Rattle.std.proofs.lemmas.Bool.{eqb-true, not-false}
+use Rattle.std.proofs.lemmas.Option.{same_Some}
 use Rattle.afp_base.specs.Choice.{first_holding}
 use Rattle.afp_base.specs.DenyMode.{Fork}
 use Rattle.afp_base.specs.declared.bytes.OutOfMemory.{OutOfMemory}
@@ -20,7 +21,6 @@ use Rattle.afp_serial.specs.declared.ask.Outcome.{Outcome}
 use Rattle.afp_serial.specs.declared.ask.Outcome.TheVariants as outcome
 use Rattle.afp_serial.specs.declared.ask.Told.{Told}
 use Rattle.afp_serial.specs.declared.ask.Told.TheVariants.{Reply}
-use Rattle.afp_base.proofs.ListFacts.{find-passes}
 use Rattle.volume_spec.specs.ForkEffect.{fork_effect, would_pass}
 use Rattle.volume_spec.specs.SoundVolume.{has_file}
 use Rattle.volume_spec.specs.VolumeState.{Row as File, VolumeState}
@@ -43,14 +43,12 @@ use Rattle.volume_keeper_commit.specs.declared.change.ChangeFault.{ChangeFault}
 use Rattle.volume_keeper_commit.specs.declared.change.ChangeFault.TheVariants as change
 use Rattle.record_keeper.specs.declared.keeper.KeeperFault.{KeeperFault}
 use Rattle.record_keeper.specs.declared.keeper.KeeperFault.TheVariants as keeper
+use Rattle.afp_base.proofs.ListFacts.{find-passes}
 
 -- a row that is found by an id has it
 pub row_at-id : (rows : List File) (id : ℕ) (file : File) → row_at rows id ≡ Some file → file.id ≡ id
 unfolding row_at
 row_at-id rows id file there = eqb-true file.id id (find-passes (λ (r : File). r.id == id) rows file there)
-
-pub one-of : {A : Type 0} → (a b : A) → Some a ≡ Some b → a ≡ b
-one-of a b e = cc e
 
 -- a call that is refused, with all that it is told then
 pub is_refused-with : (k new : KeptWorld) (s : Session) (call : Call) (r : Refused) (told : Told) → refusal k.world s call ≡ Some r → told ≡ refused_reply r → new ≡ k
@@ -73,19 +71,15 @@ own-state k number reference own here v =
 
 -- the volume that is changed is the fork's
 pub same-volume : (k : KeptWorld) (number reference : ℕ) (own : OwnFork) (here : IsForkAt k number reference own) (old : KeptState) → IsKeptAt k own.index old → old.state ≡ here.file.volume
-same-volume k number reference own here old was = one-of old.state here.file.volume (sym was.state ∙ here.volume)
+same-volume k number reference own here old was = same_Some old.state here.file.volume (sym was.state ∙ here.volume)
 
 -- its node is a file of that volume
 pub own-file : (k : KeptWorld) (number reference : ℕ) (own : OwnFork) (here : IsForkAt k number reference own) (v : VolumeState) → slice_get k.world.volumes own.index ≡ Some v → has_file v.rows own.fork.node ≡ true
-own-file k number reference own here v there = subst (λ (x : VolumeState). has_file x.rows own.fork.node ≡ true) (one-of here.file.volume v (sym here.volume ∙ there)) here.is_file
+own-file k number reference own here v there = subst (λ (x : VolumeState). has_file x.rows own.fork.node ≡ true) (same_Some here.file.volume v (sym here.volume ∙ there)) here.is_file
 
 -- bits that are all a file's
 pub within-mask : (bits : ℕ) (outside : Bool) → outside ≡ false → outside ≡ is_outside file_mask bits → IsWithin file_mask bits
-within-mask bits outside none is = eqb-true (bit_and bits file_mask) bits (turned (bit_and bits file_mask == bits) (sym is ∙ none))
-  where
-    turned : (b : Bool) → not b ≡ false → b ≡ true
-    turned true h = refl
-    turned false h = absurd (cc h)
+within-mask bits outside none is = eqb-true (bit_and bits file_mask) bits (not-false (bit_and bits file_mask == bits) (sym is ∙ none))
 
 -- what becomes of that volume, told for the file that it has there
 pub own-becomes : (k new : KeptWorld) (number reference : ℕ) (own : OwnFork) (here : IsForkAt k number reference own) (becomes : File → KeptState → KeptState → Type 0)

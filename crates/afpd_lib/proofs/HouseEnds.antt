@@ -1,9 +1,10 @@
 -- Serving a house over keepers, from serving its core.
-use Rattle.std.proofs.Common.{◌≡◌, ◌∙◌, ap, sym, refl, subst, ℕ, suc, Bool, true, inl, inr, List, [], ◌∷◌, length, map, Some, None, arith}
+use Rattle.std.proofs.Common.{◌≡◌, ◌∙◌, ap, sym, refl, subst, ℕ, suc, Bool, true, inl, inr, List, [], ◌∷◌, length, map, Some, arith}
 use Rattle.std.specs.Prelude.{IfSome, Option, slice_get, sum}
 use Rattle.std.specs.List.{list_all}
 use Rattle.std.proofs.lemmas.Bool.{and_from, and_parts}
 use Rattle.std.proofs.lemmas.List.{length-map}
+use Rattle.std.proofs.lemmas.Option.{same_Some}
 use Rattle.afp_base.specs.Counts.{counted}
 use Rattle.afp_core.specs.Loads.{IsLoadedServer}
 use Rattle.afp_core_keepers.specs.Loads.{LoadEach}
@@ -29,13 +30,6 @@ use Rattle.afpd_lib.specs.declared.plain.PlainEnd.{PlainEnd}
 use Rattle.afpd_lib.specs.declared.plain.PlainEnd.TheVariants as plain
 
 -- where all are sure, no count has moved
-some-is : (x a : ℕ) → Some x ≡ Some a → x ≡ a
-some-is x a h = ap (λ o. from o) h
-  where
-    from : Option ℕ → ℕ
-    from None = a
-    from (Some y) = y
-
 all-stand : (sure : List Bool) (xs ys : List ℕ) → length ys ≡ length xs → length sure ≡ length xs → list_all (λ b. b) sure ≡ true
     → ((index : ℕ) → slice_get sure index ≡ Some true → slice_get ys index ≡ slice_get xs index) → ys ≡ xs
 all-stand sure [] [] many same all stand = refl
@@ -44,7 +38,7 @@ all-stand sure (x ∷ xs) [] many same all stand = absurd (omega (arith, many))
 all-stand [] (x ∷ xs) (y ∷ ys) many same all stand = absurd (omega (arith, same))
 all-stand (s ∷ sure) (x ∷ xs) (y ∷ ys) many same all stand =
     let both = and_parts s (list_all (λ b. b) sure) all in
-    let first = some-is y x (stand 0 (ap Some both.0)) in
+    let first = same_Some y x (stand 0 (ap Some both.0)) in
     let rest = all-stand sure xs ys (omega (arith, many)) (omega (arith, same)) both.1 (λ index h. stand (suc index) h) in
     λ i. first i ∷ rest i
 

@@ -1,6 +1,6 @@
 -- The frames of a stream are printed one after the other.
 use Rattle.std.proofs.Common.{◌≡◌, ℕ, ◌+◌, ◌≤◌, Bool, true, false, inl, inr, List, [], ◌∷◌, ◌++◌, length, take, min, ◌-◌, refl, sym, ap, ◌∙◌, subst, append_assoc, append-nil, length-append, length-take, take_all, arith}
-use Rattle.std.specs.Prelude.{Option, Some, None, option_map}
+use Rattle.std.specs.Prelude.{Option, option_map}
 use Rattle.afp_base.specs.Counts.{CountsOn}
 use Rattle.afp_outside.specs.Sink.{SinkState}
 use Rattle.afp_outside.specs.Source.{SourceState, SourceGives}
@@ -19,6 +19,8 @@ use Rattle.afptool_lib.specs.Lines.{frame_line, frame_lines}
 use Rattle.afptool_lib.specs.declared.checking.CheckEnd.{CheckEnd}
 use Rattle.afptool_lib.specs.declared.checking.CheckEnd.TheVariants as ends
 use Rattle.afptool_lib.specs.declared.checking.FramesEnd.TheVariants as frames_ends
+use Rattle.afp_base.proofs.Facts.{added-added, nothing-added}
+use Rattle.capture_log.proofs.SoFar.{more-given}
 
 -- lines behind lines
 
@@ -33,14 +35,6 @@ lines-last at filled (g ∷ frames) f (first, rest, whole, spelling, more) =
     let same : next + length rest ≡ at + length filled = omega (arith, size, ap length whole, length-append first rest) in
     ap (λ (l : List ℕ). frame_line at (header_of g) ++ l) (lines-last next rest frames f more ∙ ap (λ (n : ℕ). frame_lines next frames ++ frame_line n (header_of f)) same)
     ∙ sym (append_assoc (frame_line at (header_of g)) (frame_lines next frames) (frame_line (at + length filled) (header_of f)))
-
-added-added : (o : Option (List ℕ)) (xs ys : List ℕ) → option_map (λ before. before ++ ys) (option_map (λ before. before ++ xs) o) ≡ option_map (λ before. before ++ (xs ++ ys)) o
-added-added None xs ys = refl
-added-added (Some zs) xs ys = ap Some (append_assoc zs xs ys)
-
-nothing-added : (o : Option (List ℕ)) → o ≡ option_map (λ before. before ++ []) o
-nothing-added None = refl
-nothing-added (Some zs) = ap Some (sym (append-nil zs))
 
 pub reports-both : (a b c : SinkState) (x y : List ℕ) → Reports a x b → Reports b y c → Reports a (x ++ y) c
 reports-both a b c x y r s = record {
@@ -118,10 +112,6 @@ fed-whole start now bytes piece b fed taken p size room rest place =
       given = given-feed bytes piece p.frames b fed p.given (rest ∙ ap (λ (l : List ℕ). b.rest ++ l) all) place;
       printed = p.printed;
     }
-
-more-given : (old mid new : SourceState) (read more : List ℕ) → mid.given ≡ option_map (λ given. given ++ read) old.given → new.given ≡ option_map (λ given. given ++ more) mid.given
-    → new.given ≡ option_map (λ given. given ++ (read ++ more)) old.given
-more-given old mid new read more e f = f ∙ ap (λ (o : Option (List ℕ)). option_map (λ given. given ++ more) o) e ∙ added-added old.given read more
 
 pub checked-more : (old : SourceState) (start : SinkState) (b after : Buffered) (taken n : ℕ) (mid new : SourceState) (now then_is : SinkState) (room : List ℕ) (x : HasChecked old start b taken mid now)
     → SourceGives mid room n new → PrintsTo start (x.read ++ take n room) frames_ends.More after then_is → HasChecked old start after (taken + n) new then_is

@@ -1,6 +1,6 @@
 -- What a replay has read, from one read to the next.
-use Rattle.std.proofs.Common.{◌≡◌, ℕ, ◌+◌, ◌≤◌, ◌<◌, Bool, true, false, List, [], ◌++◌, length, take, append-nil, refl, sym, ap, ◌∙◌, subst, inl, inr, append_assoc, length-append, length-take, arith}
-use Rattle.std.specs.Prelude.{Option, Some, None, option_map}
+use Rattle.std.proofs.Common.{◌≡◌, ℕ, ◌+◌, ◌≤◌, ◌<◌, Bool, true, false, List, [], ◌++◌, length, take, refl, ap, ◌∙◌, subst, inl, inr, length-append, length-take, arith}
+use Rattle.std.specs.Prelude.{Option, option_map}
 use Rattle.afp_base.specs.Counts.{CountsOn}
 use Rattle.afp_outside.specs.Source.{SourceState, SourceGives, SourceEnds, SourceFails}
 use Rattle.capture_log.specs.lemma.Gathering.{ReaderState, Holds}
@@ -9,6 +9,7 @@ use Rattle.capture_log.specs.Reading.{lines_in, IsJudged, Replays, ReplaysBy, Is
 use Rattle.capture_log.specs.declared.replay_end.ReplayEnd.{ReplayEnd}
 use Rattle.capture_log.specs.declared.replay_end.ReplayEnd.TheVariants as ends
 use Rattle.capture_log.proofs.GatheringLemmas.{undecided}
+use Rattle.afp_base.proofs.Facts.{added-added, nothing-added}
 
 -- So many bytes were read, and no line of them decides.
 pub record HasRead (old : SourceState) (r : ReaderState) (taken : ℕ) (now : SourceState) : Type 0 where
@@ -19,18 +20,10 @@ pub record HasRead (old : SourceState) (r : ReaderState) (taken : ℕ) (now : So
   pub many : taken ≡ length read
   pub holds : Holds r read
 
-nothing-added : (o : Option (List ℕ)) → o ≡ option_map (λ given. given ++ []) o
-nothing-added None = refl
-nothing-added (Some given) = ap Some (sym (append-nil given))
-
-added-added : (o : Option (List ℕ)) (xs ys : List ℕ) → option_map (λ given. given ++ ys) (option_map (λ given. given ++ xs) o) ≡ option_map (λ given. given ++ (xs ++ ys)) o
-added-added None xs ys = refl
-added-added (Some given) xs ys = ap Some (append_assoc given xs ys)
-
 pub so_far-none : (old : SourceState) (r : ReaderState) → Holds r [] → HasRead old r 0 old
 so_far-none old r h = record { read = []; given = nothing-added old.given; ended = refl; faults = refl; many = refl; holds = h }
 
-more-given : (old mid new : SourceState) (read more : List ℕ) → mid.given ≡ option_map (λ given. given ++ read) old.given → new.given ≡ option_map (λ given. given ++ more) mid.given
+pub more-given : (old mid new : SourceState) (read more : List ℕ) → mid.given ≡ option_map (λ given. given ++ read) old.given → new.given ≡ option_map (λ given. given ++ more) mid.given
     → new.given ≡ option_map (λ given. given ++ (read ++ more)) old.given
 more-given old mid new read more e f = f ∙ ap (λ (o : Option (List ℕ)). option_map (λ given. given ++ more) o) e ∙ added-added old.given read more
 

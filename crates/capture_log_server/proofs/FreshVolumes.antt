@@ -5,6 +5,7 @@ use Rattle.std.specs.FinMap.{len-empty, len-entries}
 use Rattle.std.specs.Prelude.{map as mapped, slice_get, Option, IfSome}
 use Rattle.std.specs.Cmp.Lexicographic.{slice_cmp}
 use Rattle.std.specs.Ordering.{nat_cmp}
+use Rattle.std.proofs.lemmas.List.{nil_from_length}
 use Rattle.afp_core_keepers.specs.Loads.{LoadEach, IsCoreFault, IsLoadFaultOf, LoadsStopAt}
 use Rattle.afp_core.specs.Loads.{IsLoadedServer}
 use Rattle.afp_core.specs.ServerState.{ServerState}
@@ -96,14 +97,10 @@ new-sure records sure faults house now keepers s is new = subst (λ (x : ServerS
 
 -- there is one, or no memory
 
-no_entries : {A : Type 0} (xs : List A) → length xs ≡ 0 → xs ≡ []
-no_entries [] e = refl
-no_entries (x ∷ xs) e = absurd (omega (arith, e))
-
 none-held : records_in map.empty ≡ []
 none-held =
     let size : length (map.entries {X = List ℕ} {R = slice_cmp nat_cmp} map.empty) ≡ 0 = sym (len-entries map.empty) ∙ len-empty (slice_cmp nat_cmp) (List ℕ) in
-    ap (λ (es : List (List ℕ × List ℕ)). mapped (λ e. record { key = e.0; value = e.1 }) es) (no_entries _ size)
+    ap (λ (es : List (List ℕ × List ℕ)). mapped (λ e. record { key = e.0; value = e.1 }) es) (nil_from_length _ size)
 
 loads-one : (name : List ℕ) (records : Option Records) (sure : Bool) (count : ℕ) (fault : LoadFault) → IsNew records sure count → IsLoadFaultOf name records sure fault → ⊥
 loads-one name records sure count (loads.BadRecord key reason) new cause =
