@@ -7,6 +7,7 @@ ghost use Rattle.afp_core.specs.Loads.{IsLoadedServer};
 ghost use Rattle.afp_core_keepers.specs.Retiring.{Retires};
 ghost use Rattle.afp_core.specs.Turn.{TakesTurn};
 ghost use Rattle.afp_core.specs.lemma.Turn.{TakesStep};
+ghost use Rattle.record_keeper.specs.Records.{steadily};
 
 use crate::counts::Counts;
 use afp_base::{LinkNumber, Moment, OutOfMemory, VolumeId};
@@ -50,9 +51,9 @@ impl<K: Keeper> Core<K> {
         keepers: Vec<K>,
         now: Moment,
     ) -> Result<Core<K>, CoreFault>
-        ensures start { IfOk result (λ core. IsLoadedServer K.records K.sure K.faults house.now now keepers.items core) }
+        ensures start { IfOk result (λ core. IsLoadedServer (steadily K.steady K.records) K.sure K.faults house.now now keepers.items core) }
         ensures count { (result ≡ Err CoreFault.Count) ↔ (length keepers.items ≢ length house.now.volumes) }
-        ensures fault { IfErr result (λ fault. IsCoreFault K.records K.sure K.faults now house.now.volumes keepers.items fault) }
+        ensures fault { IfErr result (λ fault. IsCoreFault (steadily K.steady K.records) K.sure K.faults now house.now.volumes keepers.items fault) }
     {
         if keepers.len() != house.volumes().len() {
             return Err(CoreFault::Count);

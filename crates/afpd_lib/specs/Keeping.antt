@@ -2,7 +2,7 @@
 use Rattle.std.specs.Prelude.{ℕ, Bool, Option}
 use Rattle.record_keeper.specs.Records.{Records}
 
--- the records of a keeper, where it tells them; whether it never fails; and how often it has failed
+-- the records that a keeper goes on telling, where it tells them; whether it never fails; and how often it has failed
 pub record Keeping (K : Type 0) : Type 0 where
   pub records : K → Option Records
   pub sure : K → Bool

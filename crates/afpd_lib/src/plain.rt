@@ -4,6 +4,7 @@ ghost use Rattle.afp_serial.specs.HouseFault.{house_fault};
 ghost use Rattle.afpd_lib.specs.WordValues.{values_of};
 ghost use Rattle.afpd_lib.specs.Words.{name_in};
 ghost use Rattle.afpd_lib.specs.Keeping.{keeping};
+ghost use Rattle.record_keeper.specs.Records.{steadily};
 ghost use Rattle.afpd_lib.specs.Plain.{house_of, EndsPlain, Status, IsPlainRun};
 ghost use Rattle.afpd_lib.specs.lemma.Plain.{EndsCore, EndsLoad, EndsHouse};
 
@@ -127,7 +128,7 @@ fn serve_house<K: Keeper, N: Listener, C: Clock, G: Gate>(
     gate: &G,
 ) -> PlainEnd
     requires { (N.door_state door.old).closed ≡ false }
-    ensures { EndsHouse N.Link.link_state G.passed (keeping K.records K.sure K.faults) house.now keepers.items links (C.moment_told clock.now) (N.door_state door.old) (N.door_state door.new) result }
+    ensures { EndsHouse N.Link.link_state G.passed (keeping (steadily K.steady K.records) K.sure K.faults) house.now keepers.items links (C.moment_told clock.now) (N.door_state door.old) (N.door_state door.new) result }
 {
     match Core::new(alloc, house, keepers, clock.now()) {
         Ok(core) => serve_core(alloc, house, core, links, door, gate),
@@ -148,7 +149,7 @@ fn run<K: Keeper, N: Listener, C: Clock, G: Gate>(
     token_key: [u8; 32],
 ) -> PlainEnd
     requires { (N.door_state door.old).closed ≡ false }
-    ensures { EndsPlain N.Link.link_state G.passed (keeping K.records K.sure K.faults) (map (λ word. string_bytes word) words.now) keepers.items token_key (C.moment_told clock.now) (N.door_state door.old) (N.door_state door.new) result }
+    ensures { EndsPlain N.Link.link_state G.passed (keeping (steadily K.steady K.records) K.sure K.faults) (map (λ word. string_bytes word) words.now) keepers.items token_key (C.moment_told clock.now) (N.door_state door.old) (N.door_state door.new) result }
 {
     match read_words(alloc, words) {
         Ok(words) => match house_for(alloc, &words, token_key) {
@@ -218,7 +219,7 @@ fn serve_all<K: Keeper, N: Listener, C: Clock, G: Gate, O: Sink>(
     report: &mut O,
 ) -> u8
     requires { (N.door_state door.old).closed ≡ false }
-    ensures { IsPlainRun N.Link.link_state G.passed (keeping K.records K.sure K.faults) (map (λ word. string_bytes word) words.now) keepers.items token_key (C.moment_told clock.now) (N.door_state door.old) (N.door_state door.new) (O.sink_state report.old) (O.sink_state report.new) result }
+    ensures { IsPlainRun N.Link.link_state G.passed (keeping (steadily K.steady K.records) K.sure K.faults) (map (λ word. string_bytes word) words.now) keepers.items token_key (C.moment_told clock.now) (N.door_state door.old) (N.door_state door.new) (O.sink_state report.old) (O.sink_state report.new) result }
 {
     let end = run(alloc, words, keepers, door, clock, gate, token_key);
     report_end(end, report)
@@ -244,7 +245,7 @@ pub fn afpd_plain<N: Listener, C: Clock, G: Gate, O: Sink>(
     report: &mut O,
 ) -> u8
     requires { (N.door_state door.old).closed ≡ false }
-    ensures { IsPlainRun N.Link.link_state G.passed (keeping records sure faults) (map (λ word. string_bytes word) words.now) keepers.items token_key (C.moment_told clock.now) (N.door_state door.old) (N.door_state door.new) (O.sink_state report.old) (O.sink_state report.new) result }
+    ensures { IsPlainRun N.Link.link_state G.passed (keeping (steadily steady records) sure faults) (map (λ word. string_bytes word) words.now) keepers.items token_key (C.moment_told clock.now) (N.door_state door.old) (N.door_state door.new) (O.sink_state report.old) (O.sink_state report.new) result }
 {
     serve_all(alloc, words, keepers, door, clock, gate, token_key, report)
 }

@@ -1,6 +1,7 @@
 use afp_base::Bytes;
 use record_keeper::{Change, Keeper, KeeperFault, ReadAllFault, RecordKey, read_all};
 use std::alloc::Global;
+use std::test::Fail;
 
 /// A keeper that does not tell its records, and gives one key for ever.
 #[derive(Drop)]
@@ -14,6 +15,8 @@ impl Keeper for OneKey {
     ghost faults = { λ _. 0 };
 
     ghost sure = { λ _. true };
+
+    ghost steady = { λ _. true };
 
     fn read(&mut self, alloc: Global, _key: &RecordKey) -> Result<Option<Bytes>, KeeperFault> {
         Ok(Some(Bytes::new(alloc)))
@@ -40,4 +43,53 @@ impl Keeper for OneKey {
 fn keys_that_do_not_rise_are_refused(rt: HostRuntime) {
     let answer = read_all(rt.alloc(), &mut OneKey);
     assert!(rt; matches!(&answer, Err(ReadAllFault::Inconsistent { key: _ })));
+}
+
+/// A keeper that holds nothing, and tells it up to its first commit. It drops what is committed, so it is not steady.
+#[derive(Drop)]
+struct Forgetful {
+    tells: bool,
+}
+
+impl Keeper for Forgetful {
+    ghost use Rattle.std.specs.Prelude.{None, Some, false, true, if◌then◌else◌};
+    ghost use Rattle.std.specs.FinMap as map;
+
+    ghost records = { λ k. if k.tells then Some map.empty else None };
+
+    ghost faults = { λ _. 0 };
+
+    ghost sure = { λ _. true };
+
+    ghost steady = { λ _. false };
+
+    fn read(&mut self, _alloc: Global, _key: &RecordKey) -> Result<Option<Bytes>, KeeperFault> {
+        Ok(None)
+    }
+
+    fn next_key(
+        &mut self,
+        _alloc: Global,
+        _after: Option<&RecordKey>,
+    ) -> Result<Option<RecordKey>, KeeperFault> {
+        Ok(None)
+    }
+
+    fn commit(&mut self, _alloc: Global, _changes: &[Change]) -> Result<(), KeeperFault> {
+        self.tells = false;
+        Ok(())
+    }
+
+    fn settle(&mut self) -> Result<(), KeeperFault> {
+        Ok(())
+    }
+}
+
+#[test]
+fn a_keeper_that_is_not_steady_may_stop_telling(rt: HostRuntime) -> Result<(), Fail> {
+    let mut keeper = Forgetful { tells: true };
+    keeper.commit(rt.alloc(), &[])?;
+    let answer = read_all(rt.alloc(), &mut keeper);
+    assert!(rt; matches!(&answer, Ok(records) if records.is_empty()));
+    Ok(())
 }

@@ -7,6 +7,7 @@ use Rattle.afpd_lib.specs.lemma.Plain.{EndsHouse}
 use Rattle.afpd_lib.specs.WordValues.{values_of}
 use Rattle.afpd_lib.proofs.HouseEnds.{words-end}
 use Rattle.afpd_lib.proofs.OneHouse.{one_house}
+use Rattle.record_keeper.specs.Records.{steadily}
 use Rattle.afpd_lib.proofs.plain.run.Goals as goal
 
 pub returns-in-Ok : goal.returns-in-Ok
@@ -22,7 +23,7 @@ returns-in-Bad g c = (λ values asks many. c.in-Err.ensures.bad (ap Err c.in-Bad
 
 pub returns-in-Ok-house_for : goal.returns-in-Ok-house_for
 returns-in-Ok-house_for g c =
-    let kept_by = keeping g.K.Keeper.records g.K.Keeper.sure g.K.Keeper.faults in
+    let kept_by = keeping (steadily g.K.Keeper.steady g.K.Keeper.records) g.K.Keeper.sure g.K.Keeper.faults in
     let clock = g.C.Clock.moment_told c.args.clock.now in
     let old = g.N.Listener.door_state c.args.door.now in
     let new = g.N.Listener.door_state c.serve_house.new.door in
