@@ -4,7 +4,7 @@ ghost use Rattle.afp_serial.specs.World.{volume_at};
 ghost use Rattle.afp_serial.specs.Sound.{IsSound};
 ghost use Rattle.afp_core_keepers.specs.Loads.{IsCoreFault};
 ghost use Rattle.afp_core.specs.Loads.{IsLoadedServer};
-ghost use Rattle.afp_core_keepers.specs.Retiring.{Retires};
+ghost use Rattle.afp_core.specs.Retiring.{RetiresServer};
 ghost use Rattle.afp_core.specs.Turn.{TakesTurn};
 ghost use Rattle.afp_core.specs.lemma.Turn.{TakesStep};
 ghost use Rattle.record_keeper.specs.Records.{steadily};
@@ -36,7 +36,7 @@ impl<K: Keeper> Model for Core<K> {
 
     ghost Value = { ServerState };
 
-    ghost view = { λ c. record { world = c.state.world; entries = c.entries; opened = c.opened; faults = c.state.faults; sure = c.state.sure } };
+    ghost view = { λ c. record { world = c.state.world; entries = c.entries; opened = c.opened; faults = c.state.faults; sure = c.state.sure; settled = c.state.settled } };
 
     ghost invariant = { λ c. IsSound c.state.world };
 }
@@ -118,9 +118,9 @@ impl<K: Keeper> Core<K> {
         self.state.nodes(v)
     }
 
-    /// Settles each keeper, in order, and lets it go. `failed` is at most the number of keepers that are not sure.
+    /// Asks each keeper to settle, once, in order, and lets it go. Of their answers `failed` and `memory` are counts. A sure keeper does not fail.
     pub fn retire(self) -> Retired
-        ensures { Retires self.sure result }
+        ensures { RetiresServer K.faults K.sure K.settles self result }
     {
         settle_all(self.state.kept)
     }

@@ -3,6 +3,7 @@ use Rattle.std.proofs.Common.{◌≡◌, ◌∙◌, ap, sym, refl, subst, ℕ, z
 use Rattle.std.specs.Prelude.{option_map, slice_get, slice_set}
 use Rattle.afp_serial.specs.World.{volume_at, World}
 use Rattle.volume_spec.specs.VolumeState.{VolumeState}
+use Rattle.record_keeper.specs.Settling.{settled_in}
 use Rattle.volume_keeper_commit.specs.Kept.{KeptState}
 use Rattle.afp_serial.specs.declared.ask.Outcome.TheVariants as outcome
 use Rattle.afp_serial.specs.declared.ask.Told.{Told}
@@ -68,11 +69,13 @@ becomes-kept w kept index d one becomes k new is within does becomes_is = record
     state = list-get (λ x. x.state) kept index d within;
     faults = list-get (λ x. x.faults) kept index d within;
     sure = list-get (λ x. x.sure) kept index d within;
+    settled = list-get (λ x. settled_in x.settles) kept index d within;
   };
   is = does;
   now =
       let v = list-set (λ x. x.state) kept index one in
       let f = list-set (λ x. x.faults) kept index one in
       let s = list-set (λ x. x.sure) kept index one in
-      becomes_is ∙ (λ i. record { world = record w { volumes = v i }; faults = f i; sure = s i }) ∙ ap (λ (x : KeptWorld). with_kept x index one) is;
+      let n = list-set (λ x. settled_in x.settles) kept index one in
+      becomes_is ∙ (λ i. record { world = record w { volumes = v i }; faults = f i; sure = s i; settled = n i }) ∙ ap (λ (x : KeptWorld). with_kept x index one) is;
 }

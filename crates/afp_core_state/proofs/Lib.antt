@@ -3,3 +3,4 @@ pub mod KeeperLemmas
 pub mod ForkLemmas
 pub mod RowLemmas
 pub mod OnVolumeLemmas
+pub mod SettleLemmas

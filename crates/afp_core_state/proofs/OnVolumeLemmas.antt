@@ -20,6 +20,7 @@ use Rattle.afp_core_state.specs.KeptWorld.{KeptWorld}
 use Rattle.afp_core_state.specs.SessionList.{session_of}
 use Rattle.afp_core_state.specs.Running.{IsOutcomeOf}
 use Rattle.afp_core_state.proofs.KeeperLemmas.{volume_at-index}
+use Rattle.record_keeper.specs.Settling.{settled_in}
 use Rattle.volume_keeper_commit.specs.Changing.{FailsIn}
 use Rattle.volume_keeper_commit.specs.Kept.{KeptState}
 
@@ -32,7 +33,7 @@ pub some-holds : {A : Type 0} → (P : A → Type 0) → (o : Option A) (a : A) 
 some-holds P o a is holds = subst (λ o. IfSome o P) is holds
 
 -- lists with another element
-some-is : {A : Type 0} → (x a : A) → Some x ≡ Some a → x ≡ a
+pub some-is : {A : Type 0} → (x a : A) → Some x ≡ Some a → x ≡ a
 some-is {A = A} x a h = ap (λ o. from o) h
   where
     from : Option A → A
@@ -102,7 +103,8 @@ kept-stays k index one was =
     let v = set-same k.world.volumes index one.state was.state in
     let f = set-same k.faults index one.faults was.faults in
     let s = set-same k.sure index one.sure was.sure in
-    λ i. record { world = record k.world { volumes = v i }; faults = f i; sure = s i }
+    let n = set-same k.settled index (settled_in one.settles) was.settled in
+    λ i. record { world = record k.world { volumes = v i }; faults = f i; sure = s i; settled = n i }
 
 -- another state of a volume whose keeper stays
 pub state-changes : (k : KeptWorld) (index : ℕ) (one : KeptState) (v : VolumeState) → IsKeptAt k index one
@@ -110,18 +112,19 @@ pub state-changes : (k : KeptWorld) (index : ℕ) (one : KeptState) (v : VolumeS
 state-changes k index one v was =
     let f = set-same k.faults index one.faults was.faults in
     let s = set-same k.sure index one.sure was.sure in
-    λ i. record { world = record k.world { volumes = slice_set k.world.volumes index v }; faults = f i; sure = s i }
+    let n = set-same k.settled index (settled_in one.settles) was.settled in
+    λ i. record { world = record k.world { volumes = slice_set k.world.volumes index v }; faults = f i; sure = s i; settled = n i }
 
 -- a keeper that failed
 pub keeper-fails : (k new : KeptWorld) (want : Told) (after : World) (committed_to : Option ℕ) (told : Told) (index : ℕ) → committed_to ≡ Some index → told ≡ want → k.world ≡ after
     → BecomesKept k index (λ old one. FailsIn old one) new → IsOutcomeOf want after committed_to outcome.Fault told k new
 keeper-fails k new want after committed_to told index commits tells same b =
     let f = b.is in
-    let states : with_kept k index b.one ≡ record k { faults = slice_set k.faults index b.one.faults } =
+    let states : with_kept k index b.one ≡ record k { faults = slice_set k.faults index b.one.faults; settled = slice_set k.settled index (settled_in b.one.settles) } =
     (let v = ap (slice_set k.world.volumes index) f.state ∙ set-same k.world.volumes index b.old.state b.was.state in
     let s = ap (slice_set k.sure index) f.sure ∙ set-same k.sure index b.old.sure b.was.sure in
-    λ i. record { world = record k.world { volumes = v i }; faults = slice_set k.faults index b.one.faults; sure = s i }) in
-    let is : new ≡ record k { faults = slice_set k.faults index b.one.faults } = b.now ∙ states in
+    λ i. record { world = record k.world { volumes = v i }; faults = slice_set k.faults index b.one.faults; sure = s i; settled = slice_set k.settled index (settled_in b.one.settles) }) in
+    let is : new ≡ record k { faults = slice_set k.faults index b.one.faults; settled = slice_set k.settled index (settled_in b.one.settles) } = b.now ∙ states in
     record {
       legal = ap is_some commits;
       serial = tells;

@@ -1,4 +1,5 @@
 pub mod KeeperFaults
+pub mod KeeperSettles
 pub mod KeptWorld
 pub mod SessionList
 pub mod Running

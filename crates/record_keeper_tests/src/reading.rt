@@ -1,11 +1,14 @@
 use afp_base::Bytes;
+use ghost_log::Log;
 use record_keeper::{Change, Keeper, KeeperFault, ReadAllFault, RecordKey, read_all};
 use std::alloc::Global;
 use std::test::Fail;
 
 /// A keeper that does not tell its records, and gives one key for ever.
 #[derive(Drop)]
-struct OneKey;
+struct OneKey {
+    settles: Log<Result<(), KeeperFault>>,
+}
 
 impl Keeper for OneKey {
     ghost use Rattle.std.specs.Prelude.{None, true};
@@ -17,6 +20,8 @@ impl Keeper for OneKey {
     ghost sure = { λ _. true };
 
     ghost steady = { λ _. true };
+
+    ghost settles = { λ k. k.settles.items };
 
     fn read(&mut self, alloc: Global, _key: &RecordKey) -> Result<Option<Bytes>, KeeperFault> {
         Ok(Some(Bytes::new(alloc)))
@@ -35,13 +40,17 @@ impl Keeper for OneKey {
     }
 
     fn settle(&mut self) -> Result<(), KeeperFault> {
+        self.settles = self.settles.and(&Ok(()));
         Ok(())
     }
 }
 
 #[test]
 fn keys_that_do_not_rise_are_refused(rt: HostRuntime) {
-    let answer = read_all(rt.alloc(), &mut OneKey);
+    let mut keeper = OneKey {
+        settles: Log::new(),
+    };
+    let answer = read_all(rt.alloc(), &mut keeper);
     assert!(rt; matches!(&answer, Err(ReadAllFault::Inconsistent { key: _ })));
 }
 
@@ -49,6 +58,7 @@ fn keys_that_do_not_rise_are_refused(rt: HostRuntime) {
 #[derive(Drop)]
 struct Forgetful {
     tells: bool,
+    settles: Log<Result<(), KeeperFault>>,
 }
 
 impl Keeper for Forgetful {
@@ -62,6 +72,8 @@ impl Keeper for Forgetful {
     ghost sure = { λ _. true };
 
     ghost steady = { λ _. false };
+
+    ghost settles = { λ k. k.settles.items };
 
     fn read(&mut self, _alloc: Global, _key: &RecordKey) -> Result<Option<Bytes>, KeeperFault> {
         Ok(None)
@@ -81,13 +93,17 @@ impl Keeper for Forgetful {
     }
 
     fn settle(&mut self) -> Result<(), KeeperFault> {
+        self.settles = self.settles.and(&Ok(()));
         Ok(())
     }
 }
 
 #[test]
 fn a_keeper_that_is_not_steady_may_stop_telling(rt: HostRuntime) -> Result<(), Fail> {
-    let mut keeper = Forgetful { tells: true };
+    let mut keeper = Forgetful {
+        tells: true,
+        settles: Log::new(),
+    };
     keeper.commit(rt.alloc(), &[])?;
     let answer = read_all(rt.alloc(), &mut keeper);
     assert!(rt; matches!(&answer, Ok(records) if records.is_empty()));

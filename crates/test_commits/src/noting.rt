@@ -50,6 +50,8 @@ impl Keeper for NotingKeeper {
 
     ghost steady = { λ _. true };
 
+    ghost settles = { λ k. k.keeper.settles };
+
     fn read(&mut self, alloc: Global, key: &RecordKey) -> Result<Option<Bytes>, KeeperFault> {
         self.keeper.read(alloc, key)
     }
