@@ -50,7 +50,7 @@ pub committed_given : (old : KeptState) (now id : ℕ) (resource writes told : B
 committed_given old now id resource writes told before after some is room (Ok done) new c =
     (room, c ∙ ap (λ b. record old { state = fork_effect now id resource after b old.state }) is ∙ ap (λ b. record old { state = given now id resource b after old.state }) (sym some))
 committed_given old now id resource writes told before after some is room (Err (Refused code)) new c = absurd c
-committed_given old now id resource writes told before after some is room (Err Failed) new c = (room, some, c)
+committed_given old now id resource writes told before after some is room (Err Failed) new c = (room, some, c.0, c.1)
 committed_given old now id resource writes told before after some is room (Err Memory) new c = c
 
 -- a plan of a fork for which there is room
