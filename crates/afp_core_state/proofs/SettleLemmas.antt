@@ -1,13 +1,15 @@
 -- Calls that have a keeper settle.
-use Rattle.std.proofs.Common.{◌≡◌, ◌∙◌, ap, sym, refl, subst, ℕ, zero, suc, ◌+◌, List, [], ◌∷◌, ◌++◌, Option, Some, None, arith}
+use Rattle.std.proofs.Common.{◌≡◌, ◌∙◌, ap, sym, refl, subst, ℕ, zero, suc, ◌+◌, false, List, [], ◌∷◌, ◌++◌, Option, Some, None, arith}
 use Rattle.std.specs.Prelude.{Result, Ok as with_ok, Err, slice_get, slice_set}
 use Rattle.afp_base.specs.declared.bytes.OutOfMemory.{OutOfMemory}
+use Rattle.afp_base.specs.declared.code.Code.TheVariants as code
 use Rattle.afp_calls_grammar.specs.declared.call.Call.{Call}
 use Rattle.afp_serial.specs.Rows.{committed, refusal}
 use Rattle.afp_serial.specs.World.{Refused, World, Session}
 use Rattle.afp_serial.specs.declared.ask.Outcome.{Outcome}
 use Rattle.afp_serial.specs.declared.ask.Outcome.TheVariants as outcome
 use Rattle.afp_serial.specs.declared.ask.Told.{Told}
+use Rattle.afp_serial.specs.declared.ask.Told.TheVariants.{Reply}
 use Rattle.afp_core_state.specs.KeeperSettles.{KeepersSettle, SettlesRow}
 use Rattle.afp_core_state.specs.KeptWorld.{KeptWorld}
 use Rattle.afp_core_state.specs.OnVolumes.{BecomesKept, IsKeptAt, with_kept}
@@ -22,14 +24,17 @@ use Rattle.volume_keeper_commit.specs.Changing.{FailsIn, Settles}
 use Rattle.volume_keeper_commit.specs.Kept.{KeptState}
 
 -- one answer more
+one_more : (n : ℕ) → suc (n + 1) ≡ suc n + 1
+one_more n = omega arith
+
 settled-ok : (answers : Answers) → settled_in (answers ++ with_ok tt ∷ []) ≡ settled_in answers + 1
 settled-ok [] = refl
-settled-ok (with_ok done ∷ answers) = ap suc (settled-ok answers)
+settled-ok (with_ok went ∷ answers) = let rest : settled_in (answers ++ with_ok tt ∷ []) ≡ settled_in answers + 1 = settled-ok answers in ap suc rest ∙ one_more (settled_in answers)
 settled-ok (Err fault ∷ answers) = settled-ok answers
 
 settled-err : (answers : Answers) (fault : KeeperFault) → settled_in (answers ++ Err fault ∷ []) ≡ settled_in answers
 settled-err [] fault = refl
-settled-err (with_ok done ∷ answers) fault = ap suc (settled-err answers fault)
+settled-err (with_ok went ∷ answers) fault = ap suc (settled-err answers fault)
 settled-err (Err other ∷ answers) fault = settled-err answers fault
 
 settle-set : (xs : List ℕ) (i a b : ℕ) → slice_get xs i ≡ Some a → b ≡ a + 1 → KeepersSettle (Some i) xs (slice_set xs i b)
@@ -98,7 +103,7 @@ module _ (k new : KeptWorld) (number : ℕ) (call : Call) (index : ℕ) (passes 
 
   pub settles-row : (answer : Result (Unit {0}) KeeperFault) (result : Result (Told × Outcome) OutOfMemory) → BecomesKept k index (λ old one. Settles old answer one) new → TellsSettled answer result
       → SettlesRow k number call result new
-  settles-row (with_ok settled) (with_ok r) b tells = subst (λ (x : Told × Outcome). SettlesRow k number call (with_ok x) new) (sym tells) (done-settles _ b)
+  settles-row (with_ok settled) (with_ok r) b tells = subst (λ (x : Told × Outcome). SettlesRow k number call (with_ok x) new) (sym tells) (done-settles (Reply code.Ok [] false) b)
   settles-row (with_ok settled) (Err e) b tells = absurd tells
   settles-row (Err keeper.Failed) (with_ok r) b tells = failed-settles r (ap (λ (x : Told × Outcome). x.1) tells) b
   settles-row (Err keeper.Failed) (Err e) b tells = absurd tells
