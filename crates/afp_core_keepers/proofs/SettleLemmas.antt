@@ -1,5 +1,6 @@
 -- Keepers that are asked to settle, one after the other.
-use Rattle.std.proofs.Common.{◌≡◌, ◌∙◌, ap, sym, refl, subst, ℕ, suc, ◌+◌, ◌<◌, Bool, List, [], ◌∷◌, length, drop, get_or, arith}
+use Rattle.std.proofs.Common.{◌≡◌, ◌∙◌, ap, sym, refl, subst, ℕ, ◌+◌, ◌<◌, ◌≤◌, Bool, false, not, cond, List, [], ◌∷◌, length, map, count_by, drop, get_or, arith}
+use Rattle.std.proofs.lemmas.List.Sums.{sum_by-cons}
 use Rattle.std.specs.Prelude.{Result, Ok, Err}
 use Rattle.afp_core_keepers.specs.Retiring.{AsksEach, AsksOne}
 use Rattle.record_keeper.specs.Settling.{Answers, failed_in, wanting_in}
@@ -21,9 +22,21 @@ asks-by old new (Err Memory) faults sure settles f s a is =
     (λ i. record old { faults = f i; sure = s i; settles = a i }) ∙ ap (λ (n : KeptState). record old { faults = n.faults; sure = n.sure; settles = n.settles }) is
 
 -- the first of what is left
-first-rest : (xs ys : List KeptState) (x : KeptState) → 0 < length xs → x ≡ get_or xs 0 x → ys ≡ drop 1 xs → xs ≡ x ∷ ys
+pub first-rest : (xs ys : List KeptState) (x : KeptState) → 0 < length xs → x ≡ get_or xs 0 x → ys ≡ drop 1 xs → xs ≡ x ∷ ys
 first-rest [] ys x some is rest = absurd (omega (arith, some))
 first-rest (y ∷ xs) ys x some is rest = λ i. sym is i ∷ sym rest i
+
+-- how many of the rest are not sure
+pub fewer : (rest left : List KeptState) (one : KeptState) → rest ≡ one ∷ left → count_by not (map (λ k. k.sure) left) ≤ count_by not (map (λ k. k.sure) rest)
+fewer rest left one is =
+    let all = ap (λ (l : List KeptState). count_by not (map (λ k. k.sure) l)) is ∙ sum_by-cons (λ (s : Bool). cond (not s) 1 0) one.sure (map (λ k. k.sure) left) in
+    omega (arith, all)
+
+pub fewer-unsure : (rest left : List KeptState) (one : KeptState) → rest ≡ one ∷ left → one.sure ≡ false → count_by not (map (λ k. k.sure) left) + 1 ≤ count_by not (map (λ k. k.sure) rest)
+fewer-unsure rest left one is unsure =
+    let all = ap (λ (l : List KeptState). count_by not (map (λ k. k.sure) l)) is ∙ sum_by-cons (λ (s : Bool). cond (not s) 1 0) one.sure (map (λ k. k.sure) left) in
+    let this : cond (not one.sure) 1 0 ≡ 1 = ap (λ (s : Bool). cond {A = ℕ} (not s) 1 0) unsure in
+    omega (arith, all, this)
 
 module _ {K : Type 0} (faults : K → ℕ) (sure : K → Bool) (settles : K → Answers) where
   -- Whatever the rest will answer, all have answers: these and that many failed, and found no memory, before them.
@@ -31,8 +44,11 @@ module _ {K : Type 0} (faults : K → ℕ) (sure : K → Bool) (settles : K → 
   Asked all rest failed memory = (answers : Answers) → AsksEach faults sure settles rest answers
       → (whole : Answers) × AsksEach faults sure settles all whole × (failed_in whole ≡ failed + failed_in answers) × (wanting_in whole ≡ memory + wanting_in answers)
 
+  zero_more : (n : ℕ) → n ≡ 0 + n
+  zero_more n = omega arith
+
   pub none-asked : (all : List KeptState) → Asked all all 0 0
-  none-asked all answers asked = (answers, asked, refl, refl)
+  none-asked all answers asked = (answers, asked, zero_more (failed_in answers), zero_more (wanting_in answers))
 
   -- one more was asked
   one-more : (all rest left : List KeptState) (one : KeptState) (failed memory : ℕ) → rest ≡ one ∷ left → Asked all rest failed memory
@@ -57,3 +73,9 @@ module _ {K : Type 0} (faults : K → ℕ) (sure : K → Bool) (settles : K → 
   asked-wanting all rest left one failed memory some is others before asks answers asked =
       let m = one-more all rest left one failed memory (first-rest rest left one some is others) before (Err Memory) asks answers asked in
       (m.0, m.1, m.2, omega (arith, m.3))
+
+  -- none is left
+  pub all-asked : (all rest : List KeptState) (failed memory : ℕ) → Asked all rest failed memory → length rest ≡ 0
+      → (whole : Answers) × AsksEach faults sure settles all whole × (failed ≡ failed_in whole) × (memory ≡ wanting_in whole)
+  all-asked all [] failed memory before none = let m = before [] tt in (m.0, m.1, omega (arith, m.2), omega (arith, m.3))
+  all-asked all (x ∷ rest) failed memory before none = absurd (omega (arith, none))
