@@ -14,7 +14,7 @@ returns-in_default-clause-runs g c =
 
 pub returns-in_default-clause-settles : goal.returns-in_default-clause-settles
 returns-in_default-clause-settles g c =
-    fork-unasked c.args.state.now c.args.session.0 _ c.args.reference.0 _ _ _ (flush_fork-row c.args.reference) _
+    fork-unasked c.args.state.now c.args.session.0 _ c.args.reference.0 _ _ _ (flush_fork-row c.args.reference) c.refused.result
     (subst (IsFork c.args.state.now c.args.session.0 c.args.reference.0) c.in_default.is c.fork_at.ensures)
 
 pub returns-clause-runs : goal.returns-clause-runs
