@@ -53,7 +53,7 @@ list-set f [] index one = refl
 list-set f (k ∷ kept) zero one = refl
 list-set f (k ∷ kept) (suc index) one = ap (λ l. f k ∷ l) (list-set f kept index one)
 
-list-get : {A : Type 0} → (f : KeptState → A) (kept : List KeptState) (index : ℕ) (d : KeptState) → index < length kept → slice_get (map f kept) index ≡ Some (f (get_or kept index d))
+pub list-get : {A : Type 0} → (f : KeptState → A) (kept : List KeptState) (index : ℕ) (d : KeptState) → index < length kept → slice_get (map f kept) index ≡ Some (f (get_or kept index d))
 list-get f [] index d within = absurd (omega (arith, within))
 list-get f (k ∷ kept) zero d within = refl
 list-get f (k ∷ kept) (suc index) d within = list-get f kept index d (omega (arith, within))

@@ -5,3 +5,4 @@ pub mod KeeperLemmas
 pub mod ForkLemmas
 pub mod RowLemmas
 pub mod OnVolumeLemmas
+pub mod HoldingLemmas

@@ -5,5 +5,6 @@ pub mod SessionList
 pub mod Running
 pub mod OnVolumes
 pub mod OnForks
+pub mod Holding
 pub mod Replies
 pub mod lemma
