@@ -1,7 +1,10 @@
 //! The core, and its turns.
-ghost use Rattle.std.specs.Prelude.{◌≡◌, ◌≢◌, ◌↔◌, Err, IfErr, IfOk, length, option_map};
+ghost use Rattle.std.specs.Prelude.{◌≡◌, ◌≢◌, ◌↔◌, ◌-◌, Err, IfErr, IfOk, IfSome, Some, is_some, length, option_map, slice_get};
 ghost use Rattle.afp_serial.specs.World.{volume_at};
 ghost use Rattle.afp_serial.specs.Sound.{IsSound};
+ghost use Rattle.afp_core_state.specs.Holding.{AreHeld};
+ghost use Rattle.record_keeper.specs.Records.{Records};
+ghost use Rattle.volume_keeper_records.specs.Image.{kept_image};
 ghost use Rattle.afp_core_keepers.specs.Loads.{IsCoreFault};
 ghost use Rattle.afp_core.specs.Loads.{IsLoadedServer};
 ghost use Rattle.afp_core_keepers.specs.Retiring.{Retires};
@@ -115,6 +118,23 @@ impl<K: Keeper> Core<K> {
         ensures { result ≡ option_map (λ volume. length volume.rows) (volume_at self.now.world.volumes v.0) }
     {
         self.state.nodes(v)
+    }
+
+    /// The keeper of the volume of an id, which holds that volume's records, and no others. `None`: there is no such volume.
+    pub fn keeper(&self, v: VolumeId) -> Option<&K>
+        ensures there { is_some result ≡ is_some (volume_at self.now.world.volumes v.0) }
+        ensures records { IfSome result (λ keeper. IfSome (K.records keeper.now) (λ (held : Records). option_map kept_image (volume_at self.now.world.volumes v.0) ≡ Some held)) }
+        ensures faults { IfSome result (λ keeper. slice_get self.now.faults (v.0 - 1) ≡ Some (K.faults keeper.now)) }
+        ensures sure { IfSome result (λ keeper. slice_get self.now.sure (v.0 - 1) ≡ Some (K.sure keeper.now)) }
+    {
+        self.state.keeper(v)
+    }
+
+    /// What is kept true: each keeper holds the volume at its place. The call does nothing.
+    pub fn keepers_hold(&self)
+        ensures { AreHeld K.records K.sure K.faults self.now.world.volumes self.now.faults self.now.sure }
+    {
+        self.state.keepers_hold();
     }
 
     /// Settles each keeper, in order, and lets it go. `failed` is at most the number of keepers that are not sure.
