@@ -16,6 +16,8 @@ use Rattle.afp_outside.specs.Listener.{DoorState}
 use Rattle.afp_serial.specs.History.{opened_in}
 use Rattle.afp_serial.specs.Household.{Household}
 use Rattle.afp_serial.specs.Shown.{Shown}
+use Rattle.afp_serial.specs.World.{World}
+use Rattle.afp_core_state.specs.Holding.{HoldEach}
 use Rattle.volume_keeper_commit.specs.Kept.{KeptState}
 use Rattle.afpd_lib.proofs.OneHouse.{one_house}
 use Rattle.afpd_lib.specs.Keeping.{Keeping}
@@ -60,6 +62,19 @@ module _ {K : Type 0} (kept_by : Keeping K) (now : ℕ) where
       let both = and_parts (kept_by.sure keeper) (list_all kept_by.sure keepers) all in
       and_from one.sure (list_all (λ b. b) (map (λ k. k.sure) kept)) (loads.0.0.sure_is ∙ both.0) (all-kept names keepers kept loads.1 both.1)
 
+-- volumes are loaded beside keepers that are so sure
+sures-kept : {K : Type 0} (kept_by : Keeping K) (now : ℕ) (names : List (List ℕ)) (keepers : List K) (kept : List KeptState) → LoadEach kept_by.records kept_by.sure kept_by.faults now names keepers kept
+    → map (λ k. k.sure) kept ≡ map kept_by.sure keepers
+sures-kept kept_by now [] [] [] loads = refl
+sures-kept kept_by now [] [] (one ∷ kept) loads = absurd loads
+sures-kept kept_by now [] (keeper ∷ keepers) kept loads = absurd loads
+sures-kept kept_by now (name ∷ names) [] kept loads = absurd loads
+sures-kept kept_by now (name ∷ names) (keeper ∷ keepers) [] loads = absurd loads
+sures-kept kept_by now (name ∷ names) (keeper ∷ keepers) (one ∷ kept) loads =
+    let first = loads.0.0.sure_is in
+    let rest = sures-kept kept_by now names keepers kept loads.1 in
+    λ i. first i ∷ rest i
+
 -- where all keepers are sure, their counts stand
 stands : {K : Type 0} → (kept_by : Keeping K) (house : Household) (now : ℕ) (keepers : List K) (core done : ServerState)
     → (l : IsLoadedServer kept_by.records kept_by.sure kept_by.faults house now keepers core) → SureKept core done → list_all kept_by.sure keepers ≡ true → sum done.faults ≡ sum (map (λ k. k.faults) l.kept)
@@ -71,7 +86,7 @@ stands kept_by house now keepers core done l k all =
     ap sum (all-stand core.sure core.faults done.faults k.many many each k.stand ∙ faults)
 
 module _ {L P K : Type 0} (state : L → LinkState) (passed : P → Passed) (kept_by : Keeping K) (house : Household) (keepers : List K) (limit : ℕ) (clock : Option ℕ) (old new : DoorState L) (now : ℕ) (core : ServerState) (l : IsLoadedServer kept_by.records kept_by.sure kept_by.faults house now keepers core) (told : IfSome clock (λ moment. now ≡ moment)) where
-  core-serves : (end : DoorEnd) (shown : Shown) → ServesCore state passed house core limit old end new shown → ServesHouse state passed kept_by house keepers limit clock old end new shown
+  core-serves : (end : DoorEnd) (shown : Shown) → ServesCore state passed kept_by house core limit old end new shown → ServesHouse state passed kept_by house keepers limit clock old end new shown
   core-serves end shown s = record {
     now = now;
     told = told;
@@ -80,7 +95,11 @@ module _ {L P K : Type 0} (state : L → LinkState) (passed : P → Passed) (kep
     serves = subst (λ (c : ServerState). ServesUpTo state passed house limit old (shown_at c) end new shown) l.start s.serves;
     sound = s.sound;
     own = s.own;
-    faultless = λ all. s.keeps.2 ∙ stands kept_by house now keepers core s.keeps.0 l s.keeps.1 all;
+    faultless = λ all. s.counted ∙ stands kept_by house now keepers core s.done l s.keeps all;
+    last = s.held.keepers;
+    hold = subst (λ (w : World). HoldEach kept_by.records s.held.keepers w.volumes) s.stands s.held.hold;
+    counted = ap sum s.held.counted ∙ sym s.counted;
+    so_sure = s.held.so_sure ∙ s.keeps.sure ∙ ap (λ (c : ServerState). c.sure) l.start ∙ sures-kept kept_by now house.volumes keepers l.kept l.loaded;
   }
 
   core-counts : (shown : Shown) (counts : Counts) → CoreCounts core shown counts → AreCounts shown counts
@@ -89,7 +108,7 @@ module _ {L P K : Type 0} (state : L → LinkState) (passed : P → Passed) (kep
     sessions = c.sessions ∙ ap (λ (s : ServerState). counted (opened_in shown.start shown.history) s.opened) l.start;
   }
 
-  pub core-ends : (end : PlainEnd) → EndsCore state passed house core limit old new end → EndsHouse state passed kept_by house keepers limit clock old new end
+  pub core-ends : (end : PlainEnd) → EndsCore state passed kept_by house core limit old new end → EndsHouse state passed kept_by house keepers limit clock old new end
   core-ends plain.Refused e = absurd e
   core-ends (plain.BadRecord index hex reason) e = absurd e
   core-ends (plain.LoadFailed index) e = absurd e

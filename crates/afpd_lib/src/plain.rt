@@ -88,11 +88,13 @@ fn serve_core<K: Keeper, N: Listener, G: Gate>(
     gate: &G,
 ) -> PlainEnd
     requires { (N.door_state door.old).closed ≡ false }
-    ensures { EndsCore N.Link.link_state G.passed house.now core links (N.door_state door.old) (N.door_state door.new) result }
+    ensures { EndsCore N.Link.link_state G.passed (keeping K.records K.sure K.faults) house.now core links (N.door_state door.old) (N.door_state door.new) result }
 {
     let mut teller = ListTeller::new(alloc, core);
     let end = serve_links(alloc, house, door, &mut teller, gate, links);
-    let counts = teller.core().counts();
+    let served = teller.core();
+    let counts = served.counts();
+    served.keepers_hold();
     // A settle that fails has no place in the report.
     let _retired = teller.into_core().retire();
     match end {
