@@ -1,3 +1,4 @@
+//! Reading all that a keeper holds.
 use afp_base::Bytes;
 use record_keeper::{Change, Keeper, KeeperFault, ReadAllFault, RecordKey, read_all};
 use std::alloc::Global;

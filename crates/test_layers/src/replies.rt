@@ -1,3 +1,4 @@
+//! What a volume tells, and the replies in bytes.
 ghost use Rattle.std.specs.Prelude.{IsSome};
 ghost use Rattle.volume_tree.specs.Requests.{tree_call};
 

@@ -1,3 +1,4 @@
+//! Keepers in memory, plain and in a box: what commits leave, and which calls fail.
 use afp_base::Bytes;
 use record_keeper::{Change, Keeper, KeeperFault, MemoryKeeper, Record, RecordKey, read_all};
 use std::alloc::Global;

@@ -1,16 +1,11 @@
 //! Runs of the tool over files.
-//!
-//! Each line of the standard input has the tool's words, and behind them the name of the file that the tool reads. The line is
-//! printed, then what the tool prints, and its exit status.
-#![tactic(auto)]
-
 use afp_base::NO_LIMIT;
 use afp_outside::{StdSink, StdSource};
 use afptool_lib::afptool_plain;
 use capture_log_server::memory_keepers;
 use std::fs::File;
 use std::io;
-use std::io::{BufRead, BufReader, ErrorKind};
+use std::io::ErrorKind;
 
 /// The words of a line.
 fn words_of(rt: &HostRuntime, line: &str) -> io::Result<Vec<String>> {
@@ -26,25 +21,19 @@ fn run(rt: &HostRuntime, words: &[String], name: &str) -> io::Result<u8> {
     let Ok(keepers) = memory_keepers(rt.alloc()) else {
         return Err(io::Error::from(ErrorKind::OutOfMemory));
     };
-    let mut source = StdSource::new(File::open(rt, name)?);
+    let path = format!(in rt.alloc(); "tool/{name}")?;
+    let mut source = StdSource::new(File::open(rt, path.as_str())?);
     let mut out = StdSink::new(rt);
     Ok(afptool_plain(rt.alloc(), words, keepers, &mut source, &mut out, NO_LIMIT))
 }
 
-/// Prints a line, what the tool prints, and its exit status.
-fn run_line(rt: &HostRuntime, line: &str) -> io::Result<()> {
+/// Prints a line, what the tool prints with these words over the file that the last of them names, and its exit status.
+pub fn run_tool(rt: &HostRuntime, line: &str, words: &str) -> io::Result<()> {
     println!(rt; "{line}")?;
-    let mut words = words_of(rt, line)?;
+    let mut words = words_of(rt, words)?;
     let Some(name) = words.pop() else {
         return Ok(());
     };
     let status = run(rt, words.as_slice(), name.as_str())?;
     println!(rt; "status {status}")
-}
-
-fn main(rt: HostRuntime) -> io::Result<()> {
-    for line in BufReader::new(rt.alloc(), rt.reader())?.lines(rt.alloc()) {
-        run_line(&rt, line?.as_str())?;
-    }
-    Ok(())
 }
