@@ -21,13 +21,13 @@ use Rattle.afp_serial.specs.History.{answers, entry, fault_of, faults_in, is_law
 use Rattle.afp_serial.specs.Ranges.{is_typed_entry}
 use Rattle.afp_serial.specs.World.{has_session, session_at, World, Session, at_moment}
 use Rattle.afp_serial.specs.Sound.{IsSound, has_apart_sessions, is_link_below}
-use Rattle.afp_serial.proofs.Grows.{lawful-snoc, stand-append}
+use Rattle.afp_serial.proofs.Grows.{faults-append, lawful-snoc, stand-append}
 use Rattle.afp_core.specs.Counted.{IsCounted}
 use Rattle.afp_core_state.specs.KeeperFaults.{KeepersRise, SureStand, failed_keeper}
 use Rattle.afp_core.specs.ServerState.{ServerState}
 use Rattle.afp_core_dispatch.specs.Asks.{kept_at}
 use Rattle.afp_core.specs.lemma.ServerState.{kept_of}
-use Rattle.afp_core.specs.Sureness.{SureKept}
+use Rattle.afp_core.specs.Sureness.{MeetsNoFaults, SureKept}
 use Rattle.afp_core_state.specs.Running.{IsNextFree, IsReady}
 use Rattle.afp_core_dispatch.specs.Asks.{RunsAsk}
 use Rattle.afp_core.specs.Turn.{TakesTurn, Turned}
@@ -232,3 +232,36 @@ turn-kept start c d e told t k =
       sure = t.sure ∙ k.sure;
       stand = λ index h. stand-at c.sure c.faults d.faults many t.stand index (ap (λ (l : List Bool). slice_get l index) k.sure ∙ h) ∙ k.stand index h;
     }
+
+-- where all keepers are sure, no entry meets a fault
+rise-within : (index : ℕ) (olds news : List ℕ) → KeepersRise (Some index) olds news → index < length olds
+rise-within index [] news k = absurd k
+rise-within zero (a ∷ olds) [] k = absurd k
+rise-within (suc index) (a ∷ olds) [] k = absurd k
+rise-within zero (a ∷ olds) (b ∷ news) k = omega arith
+rise-within (suc index) (a ∷ olds) (b ∷ news) k = let rest = rise-within index olds news k.1 in omega (arith, rest)
+
+some-number : (x y : ℕ) → Some x ≡ Some y → x ≡ y
+some-number x y h = cc h
+
+no-rise : (index : ℕ) (olds news : List ℕ) → KeepersRise (Some index) olds news → slice_get news index ≡ slice_get olds index → ⊥
+no-rise index [] news k same = k
+no-rise zero (a ∷ olds) [] k same = k
+no-rise (suc index) (a ∷ olds) [] k same = k
+no-rise zero (a ∷ olds) (b ∷ news) k same = let e = some-number b a same in let less : a < b = k.0 in omega (arith, e, less)
+no-rise (suc index) (a ∷ olds) (b ∷ news) k same = no-rise index olds news k.1 same
+
+stood-faultless : (index : Option ℕ) (o : Outcome) (olds news : List ℕ) → is_legal_outcome index o ≡ true → KeepersRise (failed_keeper index o) olds news
+    → ((i : ℕ) → i < length olds → slice_get news i ≡ slice_get olds i) → fault_of o ≡ 0
+stood-faultless index outcome.Done olds news legal k stand = refl
+stood-faultless (Some index) outcome.Fault olds news legal k stand = absurd (no-rise index olds news k (stand index (rise-within index olds news k)))
+stood-faultless None outcome.Fault olds news legal k stand = cc
+
+pub turn-faultless : (start c d : ServerState) (h : List Entry) (e : Entry) (told : Told) → Turned c e told d → SureKept start c → MeetsNoFaults start h → MeetsNoFaults start (h ++ e ∷ [])
+turn-faultless start c d h e told t k none sure =
+    let legal = (and_parts (is_typed_entry e) (is_legal_outcome (committed_of c.world e) e.outcome) t.legal).1 in
+    let many : length d.faults ≡ length c.faults = rise-many (failed_keeper (committed_of c.world e) e.outcome) c.faults d.faults t.keepers in
+    let last : fault_of e.outcome ≡ 0 = stood-faultless (committed_of c.world e) e.outcome c.faults d.faults legal t.keepers
+    (λ index within. stand-at c.sure c.faults d.faults many t.stand index (ap (λ (l : List Bool). slice_get l index) k.sure ∙ sure index (omega (arith, within, k.many)))) in
+    let before : faults_in h ≡ 0 = none sure in
+    omega (arith, faults-append h (e ∷ []), before, last)

@@ -5,4 +5,5 @@ pub mod Counted
 pub mod Sureness
 pub mod Places
 pub mod Telling
+pub mod Retiring
 pub mod lemma

@@ -3,7 +3,7 @@ ghost use Rattle.std.specs.Prelude.{◌≡◌, ℕ, [], take, true};
 ghost use Rattle.afp_serial.specs.History.{is_lawful, stand};
 ghost use Rattle.afp_serial.specs.Sound.{IsSound};
 ghost use Rattle.afp_core.specs.Counted.{IsCounted};
-ghost use Rattle.afp_core.specs.Sureness.{SureKept};
+ghost use Rattle.afp_core.specs.Sureness.{MeetsNoFaults, SureKept};
 
 use crate::turn::Core;
 use afp_base::{LinkNumber, Moment};
@@ -24,6 +24,7 @@ pub struct ListTeller<K: Keeper> {
     pub ghost stands: { core.world ≡ stand start.value.world entries.items },
     pub ghost counted: { IsCounted start.value entries.items core },
     pub ghost keepers: { SureKept start.value core },
+    pub ghost faultless: { MeetsNoFaults start.value entries.items },
 }
 
 impl<K: Keeper> ListTeller<K> {

@@ -1,12 +1,16 @@
 //! The core, and its turns.
-ghost use Rattle.std.specs.Prelude.{◌≡◌, ◌≢◌, ◌↔◌, Err, IfErr, IfOk, length, option_map};
+ghost use Rattle.std.specs.Prelude.{◌≡◌, ◌≢◌, ◌↔◌, ◌-◌, Err, IfErr, IfOk, IfSome, Some, is_some, length, option_map, slice_get};
 ghost use Rattle.afp_serial.specs.World.{volume_at};
 ghost use Rattle.afp_serial.specs.Sound.{IsSound};
+ghost use Rattle.afp_core_state.specs.Holding.{AreHeld};
+ghost use Rattle.record_keeper.specs.Records.{Records};
+ghost use Rattle.volume_keeper_records.specs.Image.{kept_image};
 ghost use Rattle.afp_core_keepers.specs.Loads.{IsCoreFault};
 ghost use Rattle.afp_core.specs.Loads.{IsLoadedServer};
-ghost use Rattle.afp_core_keepers.specs.Retiring.{Retires};
+ghost use Rattle.afp_core.specs.Retiring.{RetiresServer};
 ghost use Rattle.afp_core.specs.Turn.{TakesTurn};
 ghost use Rattle.afp_core.specs.lemma.Turn.{TakesStep};
+ghost use Rattle.record_keeper.specs.Records.{steadily};
 
 use crate::counts::Counts;
 use afp_base::{LinkNumber, Moment, OutOfMemory, VolumeId};
@@ -35,7 +39,7 @@ impl<K: Keeper> Model for Core<K> {
 
     ghost Value = { ServerState };
 
-    ghost view = { λ c. record { world = c.state.world; entries = c.entries; opened = c.opened; faults = c.state.faults; sure = c.state.sure } };
+    ghost view = { λ c. record { world = c.state.world; entries = c.entries; opened = c.opened; faults = c.state.faults; sure = c.state.sure; settled = c.state.settled } };
 
     ghost invariant = { λ c. IsSound c.state.world };
 }
@@ -50,9 +54,9 @@ impl<K: Keeper> Core<K> {
         keepers: Vec<K>,
         now: Moment,
     ) -> Result<Core<K>, CoreFault>
-        ensures start { IfOk result (λ core. IsLoadedServer K.records K.sure K.faults house.now now keepers.items core) }
+        ensures start { IfOk result (λ core. IsLoadedServer (steadily K.steady K.records) K.sure K.faults house.now now keepers.items core) }
         ensures count { (result ≡ Err CoreFault.Count) ↔ (length keepers.items ≢ length house.now.volumes) }
-        ensures fault { IfErr result (λ fault. IsCoreFault K.records K.sure K.faults now house.now.volumes keepers.items fault) }
+        ensures fault { IfErr result (λ fault. IsCoreFault (steadily K.steady K.records) K.sure K.faults now house.now.volumes keepers.items fault) }
     {
         if keepers.len() != house.volumes().len() {
             return Err(CoreFault::Count);
@@ -117,9 +121,26 @@ impl<K: Keeper> Core<K> {
         self.state.nodes(v)
     }
 
-    /// Settles each keeper, in order, and lets it go. `failed` is at most the number of keepers that are not sure.
+    /// The keeper of the volume of an id, which holds that volume's records, and no others. `None`: there is no such volume.
+    pub fn keeper(&self, v: VolumeId) -> Option<&K>
+        ensures there { is_some result ≡ is_some (volume_at self.now.world.volumes v.0) }
+        ensures records { IfSome result (λ keeper. IfSome (K.records keeper.now) (λ (held : Records). option_map kept_image (volume_at self.now.world.volumes v.0) ≡ Some held)) }
+        ensures faults { IfSome result (λ keeper. slice_get self.now.faults (v.0 - 1) ≡ Some (K.faults keeper.now)) }
+        ensures sure { IfSome result (λ keeper. slice_get self.now.sure (v.0 - 1) ≡ Some (K.sure keeper.now)) }
+    {
+        self.state.keeper(v)
+    }
+
+    /// What is kept true: each keeper holds the volume at its place. The call does nothing.
+    pub fn keepers_hold(&self)
+        ensures { AreHeld K.records K.sure K.faults self.now.world.volumes self.now.faults self.now.sure }
+    {
+        self.state.keepers_hold();
+    }
+
+    /// Asks each keeper to settle, once, in order, and lets it go. Of their answers `failed` and `memory` are counts. A sure keeper does not fail.
     pub fn retire(self) -> Retired
-        ensures { Retires self.sure result }
+        ensures { RetiresServer K.faults K.sure K.settles self result }
     {
         settle_all(self.state.kept)
     }

@@ -2,6 +2,7 @@
 use Rattle.std.proofs.Common.{◌≡◌, ◌∙◌, ap, sym, refl, subst, ℕ, ℤ, pos, ◌==◌, Bool, true, false, not, ◌&&◌, List, [], ◌∷◌, length, Option, Some, None}
 use Rattle.std.specs.Prelude.{IfOk, OnOk, Result, Ok as with_ok, Err, is_none, is_some, nat_abs, nat_lt, option_map, position, bit_and, slice_get}
 use Rattle.std.proofs.lemmas.List.{append-nil}
+use Rattle.std.proofs.lemmas.Option.{same_Some}
 use Rattle.afp_base.specs.Choice.{first_holding}
 use Rattle.afp_base.specs.ForkBytes.{taken}
 use Rattle.afp_base.specs.declared.bytes.OutOfMemory.{OutOfMemory}
@@ -212,10 +213,7 @@ module _ (rows : List File) (node : ℕ) (resource : Bool) (span : ReadSpan) (ou
 
 -- the volume at an index
 pub found-state : (k : KeptWorld) (number reference : ℕ) (own : OwnFork) (stands : IsForkAt k number reference own) (v : VolumeState) → slice_get k.world.volumes own.index ≡ Some v → stands.file.volume ≡ v
-found-state k number reference own stands v there = unsome stands.file.volume v (sym stands.volume ∙ there)
-  where
-    unsome : (x y : VolumeState) → Some x ≡ Some y → x ≡ y
-    unsome x y e = cc
+found-state k number reference own stands v there = same_Some stands.file.volume v (sym stands.volume ∙ there)
 
 -- what was read of the volume at the index was read of the open fork
 pub read-of : (k : KeptWorld) (number reference : ℕ) (own : OwnFork) (stands : IsForkAt k number reference own) (v : VolumeState) → slice_get k.world.volumes own.index ≡ Some v

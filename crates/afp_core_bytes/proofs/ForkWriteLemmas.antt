@@ -40,6 +40,7 @@ use Rattle.volume_keeper_commit.specs.ForkChanging.{GivesBytes, given}
 use Rattle.volume_keeper_commit.specs.Kept.{KeptState}
 use Rattle.volume_keeper_commit.specs.declared.change.ChangeFault.{ChangeFault}
 use Rattle.volume_keeper_commit.specs.declared.change.ChangeFault.TheVariants as change
+use Rattle.afp_base.proofs.Facts.{is_negative-pos}
 
 -- the start of a write or of a lock has room in the reply
 pub start-fits : (wide : Bool) (bytes : List ℕ) (from_end : Bool) (offset : ℤ) (start : ℕ) → length bytes ≤ most_fork_bytes → IsOffset wide offset → start_in bytes from_end offset ≡ pos start → HasRoom wide start
@@ -79,9 +80,6 @@ own-id rows id file is = by rows is
     by [] h = absurd (cc)
     by (r ∷ rest) h = grind (arith, h, by rest)
 
-pub negative-none : (n : ℕ) → is_negative (pos n) ≡ false
-negative-none n = grind arith
-
 -- the refusals of a write, by its start
 module _ (w : World) (f : OpenFile) (asked : WriteAsked) (start : ℕ) (count : is_negative asked.count ≡ false) (is : write_start f asked ≡ pos start) where
   abbrev write-rest : List Refusal
@@ -91,7 +89,7 @@ module _ (w : World) (f : OpenFile) (asked : WriteAsked) (start : ℕ) (count : 
   write-as =
       (λ i. first_holding ((count i || is_negative (is i), plain ParamErr) ∷ (not f.fork.access.write, plain AccessDenied) ∷ (is_locked w f.fork (nat_abs (is i)) (length asked.piece), plain LockErr)
       ∷ (would_pass f.volume (length (bytes_of f)) (length (splice (bytes_of f) (nat_abs (is i)) asked.piece)), plain DiskFull) ∷ []))
-      ∙ ap (λ (b : Bool). first_holding ((false || b, plain ParamErr) ∷ (not f.fork.access.write, plain AccessDenied) ∷ (is_locked w f.fork start (length asked.piece), plain LockErr) ∷ write-rest)) (negative-none start)
+      ∙ ap (λ (b : Bool). first_holding ((false || b, plain ParamErr) ∷ (not f.fork.access.write, plain AccessDenied) ∷ (is_locked w f.fork start (length asked.piece), plain LockErr) ∷ write-rest)) (is_negative-pos start)
 
   pub write-refuses : (code : Code) → first_holding (write_checks w f.fork start (length asked.piece)) ≡ Some code → first_holding (write_refusals asked w f) ≡ Some (plain code)
   write-refuses code holds = write-as ∙ two-refuse (not f.fork.access.write) (is_locked w f.fork start (length asked.piece)) AccessDenied LockErr code write-rest holds

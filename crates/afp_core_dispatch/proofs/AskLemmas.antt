@@ -1,7 +1,7 @@
 -- Asks.
-use Rattle.std.proofs.Common.{◌≡◌, ◌∙◌, ap, sym, refl, subst, ℕ, ◌+◌, ◌<◌, ◌≤◌, Bool, true, false, ◌||◌, not, List, [], ◌∷◌, ◌++◌, length, filter, Option, Some, None, is_some}
+use Rattle.std.proofs.Common.{◌≡◌, ◌∙◌, ap, sym, refl, subst, ℕ, ◌+◌, ◌<◌, ◌≤◌, Bool, true, false, not, List, [], ◌∷◌, ◌++◌, length, filter, Option, Some, None, is_some}
 use Rattle.std.specs.Prelude.{Result, Ok, Err}
-use Rattle.std.proofs.lemmas.Bool.{le-leb, lt-leb}
+use Rattle.std.proofs.lemmas.Bool.{le-leb, lt-leb, or_from, or_left, or_right}
 use Rattle.afp_base.specs.Cached.{Request, cached_answer, Kept}
 use Rattle.afp_base.specs.declared.bytes.OutOfMemory.{OutOfMemory}
 use Rattle.afp_base.specs.declared.code.Code.{Code}
@@ -38,18 +38,6 @@ abbrev pub with_drain : KeptWorld → Option ℕ → KeptWorld
 with_drain k drain = record k { world = record k.world { drain = drain } }
 
 -- Open
-or_right : (a b : Bool) → b ≡ true → (a || b) ≡ true
-or_right true b h = refl
-or_right false b h = h
-
-or_left : (a b : Bool) → a ≡ true → (a || b) ≡ true
-or_left true b h = refl
-or_left false b h = cc
-
-or_neither : (a b : Bool) → a ≡ false → b ≡ false → (a || b) ≡ false
-or_neither true b h k = cc
-or_neither false b h k = k
-
 pub full-links : (w : World) → links_end ≤ w.next_link → is_full w ≡ true
 full-links w h = or_right _ _ (le-leb links_end w.next_link h)
 
@@ -68,7 +56,7 @@ pub open-runs : (old new : KeptWorld) (link attention : ℕ) (drawn : LinkNumber
 unfolding answer_at after_at committed_at
 open-runs old new link attention drawn sessions next few left number is counts adds =
     let w = old.world in
-    let room : is_full w ≡ false = or_neither _ _ (lt-leb most_sessions (length w.sessions) few) (lt-leb links_end w.next_link left) in
+    let room : is_full w ≡ false = or_from _ _ (lt-leb most_sessions (length w.sessions) few) (lt-leb links_end w.next_link left) in
     rw room (outcome-done old new _ _ _ _ (Opened drawn) (ap (λ (n : ℕ). Opened (link_number n)) number) is
     ((λ i. record w { next_link = counts i; sessions = adds i })
     ∙ ap (λ (n : ℕ). record w { next_link = w.next_link + 1; sessions = w.sessions ++ new_session n ∷ [] }) number))

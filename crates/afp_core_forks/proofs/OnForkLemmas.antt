@@ -1,7 +1,8 @@
 -- Rows of calls on an open fork of the session.
-use Rattle.std.proofs.Common.{◌≡◌, ◌==◌, ◌∙◌, ap, sym, refl, subst, ℕ, Bool, true, false, not, List, [], length, Option, Some, None, add-one}
+use Rattle.std.proofs.Common.{◌≡◌, ◌==◌, ◌∙◌, ap, sym, refl, subst, ℕ, Bool, true, false, List, [], length, Option, Some, None, add-one}
 use Rattle.std.specs.Prelude.{Result, Ok as with_ok, Err, bit_and, slice_get, slice_set}
-use Rattle.std.proofs.lemmas.Bool.{eqb-true}
+use Rattle.std.proofs.lemmas.Bool.{eqb-true, not-false}
+use Rattle.std.proofs.lemmas.Option.{same_Some}
 use Rattle.afp_base.specs.Choice.{first_holding}
 use Rattle.afp_base.specs.DenyMode.{Fork}
 use Rattle.afp_base.specs.declared.bytes.OutOfMemory.{OutOfMemory}
@@ -20,12 +21,12 @@ use Rattle.afp_serial.specs.declared.ask.Outcome.{Outcome}
 use Rattle.afp_serial.specs.declared.ask.Outcome.TheVariants as outcome
 use Rattle.afp_serial.specs.declared.ask.Told.{Told}
 use Rattle.afp_serial.specs.declared.ask.Told.TheVariants.{Reply}
-use Rattle.volume_spec.proofs.TestedLists.{find-passes}
 use Rattle.volume_spec.specs.ForkEffect.{fork_effect, would_pass}
 use Rattle.volume_spec.specs.SoundVolume.{has_file}
 use Rattle.volume_spec.specs.VolumeState.{Row as File, VolumeState}
 use Rattle.volume_spec.specs.Walk.{row_at}
 use Rattle.afp_core_state.specs.OnForks.{IsFork, IsForkAt}
+use Rattle.afp_core_state.specs.KeeperSettles.{SettlesRow}
 use Rattle.afp_core_state.specs.OnVolumes.{BecomesKept, IsKeptAt, with_kept}
 use Rattle.afp_core_state.specs.Replies.{TellsChanged, TellsSettled}
 use Rattle.afp_core_state.specs.KeptWorld.{KeptWorld}
@@ -35,22 +36,22 @@ use Rattle.afp_core_state.specs.declared.on_fork.OwnFork.{OwnFork}
 use Rattle.afp_core_state.proofs.KeeperLemmas.{outcome-same}
 use Rattle.afp_core_state.proofs.OnVolumeLemmas.{keeper-fails, kept-stays, state-changes, told-effect}
 use Rattle.afp_core_state.proofs.RowLemmas.{has_effect}
+use Rattle.afp_core_state.proofs.SettleLemmas.{fails-alone, refused-settles, settled-apart, settled-one, settles-row, wanting-stays}
 use Rattle.afp_core_state.proofs.SessionLemmas.{session_of-number}
 use Rattle.volume_keeper_commit.specs.Changing.{FailsIn, Settles}
 use Rattle.volume_keeper_commit.specs.ForkChanging.{GivesBytes, given}
 use Rattle.volume_keeper_commit.specs.Kept.{KeptState}
 use Rattle.volume_keeper_commit.specs.declared.change.ChangeFault.{ChangeFault}
 use Rattle.volume_keeper_commit.specs.declared.change.ChangeFault.TheVariants as change
+use Rattle.record_keeper.specs.Settling.{settled_in}
 use Rattle.record_keeper.specs.declared.keeper.KeeperFault.{KeeperFault}
 use Rattle.record_keeper.specs.declared.keeper.KeeperFault.TheVariants as keeper
+use Rattle.afp_base.proofs.ListFacts.{find-passes}
 
 -- a row that is found by an id has it
 pub row_at-id : (rows : List File) (id : ℕ) (file : File) → row_at rows id ≡ Some file → file.id ≡ id
 unfolding row_at
 row_at-id rows id file there = eqb-true file.id id (find-passes (λ (r : File). r.id == id) rows file there)
-
-pub one-of : {A : Type 0} → (a b : A) → Some a ≡ Some b → a ≡ b
-one-of a b e = cc e
 
 -- a call that is refused, with all that it is told then
 pub is_refused-with : (k new : KeptWorld) (s : Session) (call : Call) (r : Refused) (told : Told) → refusal k.world s call ≡ Some r → told ≡ refused_reply r → new ≡ k
@@ -73,19 +74,15 @@ own-state k number reference own here v =
 
 -- the volume that is changed is the fork's
 pub same-volume : (k : KeptWorld) (number reference : ℕ) (own : OwnFork) (here : IsForkAt k number reference own) (old : KeptState) → IsKeptAt k own.index old → old.state ≡ here.file.volume
-same-volume k number reference own here old was = one-of old.state here.file.volume (sym was.state ∙ here.volume)
+same-volume k number reference own here old was = same_Some old.state here.file.volume (sym was.state ∙ here.volume)
 
 -- its node is a file of that volume
 pub own-file : (k : KeptWorld) (number reference : ℕ) (own : OwnFork) (here : IsForkAt k number reference own) (v : VolumeState) → slice_get k.world.volumes own.index ≡ Some v → has_file v.rows own.fork.node ≡ true
-own-file k number reference own here v there = subst (λ (x : VolumeState). has_file x.rows own.fork.node ≡ true) (one-of here.file.volume v (sym here.volume ∙ there)) here.is_file
+own-file k number reference own here v there = subst (λ (x : VolumeState). has_file x.rows own.fork.node ≡ true) (same_Some here.file.volume v (sym here.volume ∙ there)) here.is_file
 
 -- bits that are all a file's
 pub within-mask : (bits : ℕ) (outside : Bool) → outside ≡ false → outside ≡ is_outside file_mask bits → IsWithin file_mask bits
-within-mask bits outside none is = eqb-true (bit_and bits file_mask) bits (turned (bit_and bits file_mask == bits) (sym is ∙ none))
-  where
-    turned : (b : Bool) → not b ≡ false → b ≡ true
-    turned true h = refl
-    turned false h = absurd (cc h)
+within-mask bits outside none is = eqb-true (bit_and bits file_mask) bits (not-false (bit_and bits file_mask == bits) (sym is ∙ none))
 
 -- what becomes of that volume, told for the file that it has there
 pub own-becomes : (k new : KeptWorld) (number reference : ℕ) (own : OwnFork) (here : IsForkAt k number reference own) (becomes : File → KeptState → KeptState → Type 0)
@@ -127,6 +124,10 @@ module _ (k : KeptWorld) (number : ℕ) (call : Call) (reference : ℕ) (refuses
       let no : open_file k.world s reference ≡ None = none s (session_of-number k.world.sessions number s at) in
       is_refused-with k k s call (plain ParamErr) told
       (ap (λ (r : CallRow). first_holding (r.refusals k.world s)) is.row_is ∙ ap (λ (o : Option OpenFile). first_holding (on_fork o (refuses k.world))) no) tells refl
+
+  pub fork-unasked : (told : Told) → IsFork k number reference None → SettlesRow k number call (with_ok (done told)) k
+  fork-unasked told none = refused-settles k number call (plain ParamErr) told (λ s at.
+      ap (λ (r : CallRow). first_holding (r.refusals k.world s)) is.row_is ∙ ap (λ (o : Option OpenFile). first_holding (on_fork o (refuses k.world))) (none s (session_of-number k.world.sessions number s at)))
 
   module _ (own : OwnFork) (here : IsForkAt k number reference own) where
     found-at : (s : Session) → session_of k.world.sessions number ≡ Some s → open_file k.world s reference ≡ Some here.file
@@ -171,14 +172,20 @@ module _ (k : KeptWorld) (number : ℕ) (call : Call) (reference : ℕ) (refuses
         → RunsRow k number call result new
     fork-settles new (with_ok settled) (with_ok r) passes effect_is names b tells =
         subst (λ (x : Told × Outcome). RunsRow k number call (with_ok x) new) (sym tells)
-        (fork-done new (with_empty_reply k.world) [] (Reply Ok [] false) passes effect_is (b.now ∙ ap (with_kept k own.index) b.is ∙ kept-stays k own.index b.old b.was) refl refl)
+        (λ s at. settled-apart _ _ _ _ _ k k new (slice_set k.settled own.index (settled_in b.one.settles)) (settled-one k new own.index b)
+        (fork-done k (with_empty_reply k.world) [] (Reply Ok [] false) passes effect_is refl refl refl s at))
     fork-settles new (with_ok settled) (Err e) passes effect_is names b tells = absurd tells
     fork-settles new (Err keeper.Failed) (with_ok r) passes effect_is names b tells =
         subst (λ (x : Told × Outcome). RunsRow k number call (with_ok x) new) (sym tells)
-        (fork-fails new (refusal_reply MiscErr) passes names record { old = b.old; one = b.one; was = b.was; is = b.is; now = b.now } refl)
+        (fork-fails new (refusal_reply MiscErr) passes names (fails-alone k new own.index b) refl)
     fork-settles new (Err keeper.Failed) (Err e) passes effect_is names b tells = absurd tells
     fork-settles new (Err keeper.Memory) (with_ok r) passes effect_is names b tells = absurd tells
-    fork-settles new (Err keeper.Memory) (Err e) passes effect_is names b tells = b.now ∙ ap (with_kept k own.index) b.is ∙ kept-stays k own.index b.old b.was
+    fork-settles new (Err keeper.Memory) (Err e) passes effect_is names b tells = wanting-stays k new own.index b
+
+    pub fork-asks : (new : KeptWorld) (answer : Result (Unit {0}) KeeperFault) (result : Result (Told × Outcome) OutOfMemory) → first_holding (refuses k.world here.file) ≡ None
+        → commits k.world here.file ≡ own_keeper here.file → BecomesKept k own.index (λ old one. Settles old answer one) new → TellsSettled answer result → SettlesRow k number call result new
+    fork-asks new answer result passes names b tells =
+        settles-row k new number call own.index (λ s at. fork-refuses s at ∙ passes) (λ s at. fork-commits s at ∙ names ∙ own-keeper k number reference own here) answer result b tells
 
     -- the fork is given other bytes, of some that it has; `reply` is what is told where that is done
     module _ (writes : Bool) (before after : List ℕ) (reply : AfpReply)

@@ -1,5 +1,6 @@
 //! FPFlushFork (AFP Reference, "FPFlushFork"): the keeper of the fork's volume settles what was committed to it.
 ghost use Rattle.afp_calls_grammar.specs.declared.call.Call.{Call};
+ghost use Rattle.afp_core_state.specs.KeeperSettles.{SettlesRow};
 ghost use Rattle.afp_core_state.specs.Running.{IsReady, RunsRow};
 
 use afp_base::{Code, ForkRef, OutOfMemory, SessionNumber};
@@ -15,7 +16,8 @@ pub fn flush_fork<K: Keeper>(
     reference: ForkRef,
 ) -> Result<(Told, Outcome), OutOfMemory>
     requires { IsReady state.old.world }
-    ensures { RunsRow state.old session.0 (Call.FlushFork reference) result state.new }
+    ensures runs { RunsRow state.old session.0 (Call.FlushFork reference) result state.new }
+    ensures settles { SettlesRow state.old session.0 (Call.FlushFork reference) result state.new }
 {
     let Some(own) = state.fork_at(session, reference) else {
         return Ok((refused(state.alloc, Code::ParamErr), Outcome::Done));

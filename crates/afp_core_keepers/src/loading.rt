@@ -2,7 +2,7 @@
 ghost use Rattle.std.specs.Prelude.{◌≡◌, ◌++◌, ◌∷◌, [], All, IfOk, IfErr, IfSome, None, OnOk, length};
 ghost use Rattle.afp_names.specs.Name.{name_fault};
 ghost use Rattle.volume_keeper_commit.specs.Loading.{IsLoadedFrom, IsLoadedVolume};
-ghost use Rattle.record_keeper.specs.Records.{Records};
+ghost use Rattle.record_keeper.specs.Records.{Records, steadily};
 ghost use Rattle.afp_core_keepers.specs.Loads.{IsCoreFault, LoadEach};
 ghost use Rattle.afp_core_keepers.specs.lemma.Loads.{IsFaultAt};
 
@@ -23,8 +23,8 @@ pub fn load_all<K: Keeper>(
     now: Moment,
 ) -> Result<Vec<KeptVolume<K>>, CoreFault>
     requires { length keepers.items ≡ length house.now.volumes }
-    ensures loaded { IfOk result (λ kept. LoadEach K.records K.sure K.faults now house.now.volumes keepers.items kept.items) }
-    ensures fault { IfErr result (λ fault. IsCoreFault K.records K.sure K.faults now house.now.volumes keepers.items fault) }
+    ensures loaded { IfOk result (λ kept. LoadEach (steadily K.steady K.records) K.sure K.faults now house.now.volumes keepers.items kept.items) }
+    ensures fault { IfErr result (λ fault. IsCoreFault (steadily K.steady K.records) K.sure K.faults now house.now.volumes keepers.items fault) }
 {
     let names = house.volumes();
     load_named(alloc, names, keepers, now)
@@ -39,8 +39,8 @@ fn load_named<K: Keeper>(
 ) -> Result<Vec<KeptVolume<K>>, CoreFault>
     requires same { length keepers.items ≡ length names.now }
     requires named { All (λ name. name_fault name ≡ None) names.now }
-    ensures loaded { IfOk result (λ kept. LoadEach K.records K.sure K.faults now names.now keepers.items kept.items) }
-    ensures fault { IfErr result (λ fault. IsCoreFault K.records K.sure K.faults now names.now keepers.items fault) }
+    ensures loaded { IfOk result (λ kept. LoadEach (steadily K.steady K.records) K.sure K.faults now names.now keepers.items kept.items) }
+    ensures fault { IfErr result (λ fault. IsCoreFault (steadily K.steady K.records) K.sure K.faults now names.now keepers.items fault) }
 {
     let mut keepers = keepers;
     let mut kept = Vec::new(alloc);
@@ -79,9 +79,9 @@ fn load_one<K: Keeper>(
     index: usize,
 ) -> Result<KeptVolume<K>, CoreFault>
     requires { name_fault name.now ≡ None }
-    ensures loaded { IfOk result (λ kept. IsLoadedVolume name.now now (K.records keeper) (K.sure keeper) (K.faults keeper) kept) }
-    ensures from { IfOk result (λ kept. IfSome (K.records keeper) (λ (held : Records). IsLoadedFrom name.now held kept.state)) }
-    ensures fault { IfErr result (λ fault. IsFaultAt index name.now (K.records keeper) (K.sure keeper) fault) }
+    ensures loaded { IfOk result (λ kept. IsLoadedVolume name.now now (steadily K.steady K.records keeper) (K.sure keeper) (K.faults keeper) kept) }
+    ensures from { IfOk result (λ kept. IfSome (steadily K.steady K.records keeper) (λ (held : Records). IsLoadedFrom name.now held kept.state)) }
+    ensures fault { IfErr result (λ fault. IsFaultAt index name.now (steadily K.steady K.records keeper) (K.sure keeper) fault) }
 {
     let Ok(name) = name_of(alloc, name) else {
         return Err(CoreFault::Memory);

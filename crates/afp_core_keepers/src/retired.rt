@@ -1,7 +1,7 @@
 //! Settling all keepers at the end.
-ghost use Rattle.std.specs.Prelude.{◌≡◌, ◌≤◌, IsErrOf, false, length, map};
+ghost use Rattle.std.specs.Prelude.{◌≡◌, ◌≤◌, IsErrOf, false, length};
 ghost use Rattle.afp_serial.specs.Limits.{most_volumes};
-ghost use Rattle.afp_core_keepers.specs.Retiring.{Retires};
+ghost use Rattle.afp_core_keepers.specs.Retiring.{AsksOne, Retires};
 
 use record_keeper::{Keeper, KeeperFault};
 use volume_keeper_commit::KeptVolume;
@@ -16,16 +16,19 @@ pub struct Retired {
 
 /// Settles the keeper of a volume, and lets both go.
 fn settle_one<K: Keeper>(kept: KeptVolume<K>) -> Result<(), KeeperFault>
-    ensures { IsErrOf result KeeperFault.Failed → kept.sure ≡ false }
+    ensures asks { AsksOne K.faults K.sure K.settles kept result }
+    ensures failed { IsErrOf result KeeperFault.Failed → kept.sure ≡ false }
 {
     let mut kept = kept;
-    kept.settle()
+    let answer = kept.settle();
+    let _after = kept.keeper();
+    answer
 }
 
-/// Settles each keeper, in order, and lets it go.
+/// Asks each keeper to settle, once, in order, and lets it go.
 pub fn settle_all<K: Keeper>(kept: Vec<KeptVolume<K>>) -> Retired
     requires { length kept.items ≤ most_volumes }
-    ensures { Retires (map (λ k. k.sure) kept.items) result }
+    ensures { Retires K.faults K.sure K.settles kept.items result }
 {
     let mut kept = kept;
     let mut retired = Retired {

@@ -7,7 +7,6 @@ use Rattle.afp_serial.specs.Answer.{new_session}
 use Rattle.afp_serial.specs.OnFork.{open_file, own_fork}
 use Rattle.afp_serial.specs.World.{closing, has_opened, has_session, is_open, volume_at, without_session, World, Session, OpenFork, Lock}
 use Rattle.afp_serial.specs.Sound.{has_lawful_locks, has_lawful_opens, has_volume_open, is_file_of, is_lawful_open}
-use Rattle.volume_spec.proofs.TestedLists.{all-weaker, find-all, find-passes}
 use Rattle.volume_spec.specs.SoundVolume.{has_file}
 use Rattle.volume_spec.specs.VolumeState.{Row, VolumeState}
 use Rattle.volume_spec.specs.Walk.{row_at}
@@ -17,6 +16,7 @@ use Rattle.afp_core_state.specs.lemma.KeptWorld.{forks_in, with_forks, with_sess
 use Rattle.afp_core_state.specs.declared.on_fork.OwnFork.{OwnFork}
 use Rattle.afp_core_state.proofs.KeeperLemmas.{volume_at-index}
 use Rattle.afp_core_state.specs.Forks.{Forks, HasForks, left_of}
+use Rattle.afp_base.proofs.ListFacts.{all-weaker, filter-all, find-all, find-passes}
 
 -- a world has its own open forks and locks
 pub has-forks : (w : World) (f : Forks) → f ≡ forks_in w → HasForks w f
@@ -50,13 +50,6 @@ filter-agree p q t (x ∷ xs) agree h =
     let both = and_parts (t x) (list_all t xs) h in
     let rest = filter-agree p q t xs agree both.1 in
     λ i. cond (agree x both.0 i) (x ∷ rest i) (rest i)
-
-filter-all : {A : Type 0} (p : A → Bool) (xs : List A) → list_all p xs ≡ true → filter p xs ≡ xs
-filter-all p [] h = refl
-filter-all p (x ∷ xs) h =
-    let both = and_parts (p x) (list_all p xs) h in
-    let rest = filter-all p xs both.1 in
-    λ i. cond (both.0 i) (x ∷ rest i) (rest i)
 
 -- closing none
 pub closing-none : (w : World) (stays : OpenFork → Bool) → list_all stays w.opens ≡ true → list_all (λ lock. is_open w.opens lock.reference) w.locks ≡ true → closing w stays ≡ w

@@ -1,7 +1,6 @@
 -- The locks of the table, and those that a world has; and what goes with open forks that are closed.
 use Rattle.std.proofs.Common.{◌≡◌, ◌∙◌, refl, sym, ap, subst, ℕ, zero, suc, ◌+◌, ◌-◌, ◌<◌, ◌≤◌, Bool, true, false, cond, not, ◌||◌, ◌&&◌, ◌==◌, if◌then◌else◌, List, [], ◌∷◌, map, filter, Option, Some, None, min, arith}
 use Rattle.std.specs.Prelude.{Result, Ok, Err, IfSome, IsSome, count_by, nat_le, nat_lt}
-use Rattle.std.specs.Bool.{beq}
 use Rattle.std.specs.List.{list_any, list_all}
 use Rattle.std.specs.Ordering.{nat_cmp}
 use Rattle.std.proofs.lemmas.Bool.{and_parts, eq-eqb, eqb-false, eqb-true, le-leb, ne_eqb}
@@ -28,7 +27,10 @@ use Rattle.range_locks.specs.declared.fault.NotLocked.{NotLocked}
 use Rattle.sorted_map.specs.Entries.{at}
 use Rattle.afp_core_state.specs.Forks.{AllHeld, ClosingUndoes, Forks, HasForks, LocksRange, UnlocksRange, forks_of, left_of, lock_of, with_locks}
 use Rattle.afp_core_state.specs.lemma.LockRanges.{AreInRange}
-use Rattle.afp_core_state.proofs.OpenRows.{Rise, any-map, count-map, filter-map, open-at, open-rows, row_of, told, told-at}
+use Rattle.afp_core_state.proofs.OpenRows.{Rise, count-map, open-at, open-rows, row_of, told, told-at}
+use Rattle.afp_base.proofs.Facts.{and-false}
+use Rattle.afp_base.proofs.ListFacts.{all-filter, any-map, filter-map}
+use Rattle.afp_base.proofs.Forks.{one_fork-itself, same_fork}
 
 -- ---- lists whose elements all pass a test
 
@@ -44,42 +46,14 @@ all-where q p (x ∷ xs) all gives =
     let e = and_parts (q x) (list_all q xs) all in
     λ i. gives x e.0 i && all-where q p xs e.1 gives i
 
-all-left : {A : Type 0} (p keep : A → Bool) (xs : List A) → list_all p xs ≡ true → list_all p (filter keep xs) ≡ true
-all-left p keep [] all = refl
-all-left p keep (x ∷ xs) all =
-    let e = and_parts (p x) (list_all p xs) all in
-    elim (keep x) as (λ b. list_all p (if b then x ∷ filter keep xs else filter keep xs) ≡ true) [
-      | true ↦ (λ i. e.0 i && all-left p keep xs e.1 i)
-      | false ↦ all-left p keep xs e.1
-    ]
-
 -- ---- the fork of a lock
-
-one-fork : (a b : Fork) → is_one_fork a b ≡ true → a ≡ b
-one-fork a b h =
-    let e = and_parts (a.volume == b.volume) ((a.node == b.node) && beq a.resource b.resource) h in
-    let f = and_parts (a.node == b.node) (beq a.resource b.resource) e.1 in
-    λ i. record { volume = eqb-true a.volume b.volume e.0 i; node = eqb-true a.node b.node f.0 i; resource = alike a.resource b.resource f.1 i }
-  where
-    alike : (x y : Bool) → beq x y ≡ true → x ≡ y
-    alike true true h = refl
-    alike true false h = absurd (cc h)
-    alike false true h = absurd (cc h)
-    alike false false h = refl
-
-itself : (a : Fork) → is_one_fork a a ≡ true
-itself a = λ i. eq-eqb a.volume a.volume refl i && (eq-eqb a.node a.node refl i && same a.resource i)
-  where
-    same : (b : Bool) → beq b b ≡ true
-    same true = refl
-    same false = refl
 
 -- the open fork at a reference of a lock is of the lock's fork
 held-at : (rows : List (ℕ × Row)) (l : held.ForkLock) → Rise rows → table.is_held rows l ≡ true → told (λ o. is_one_fork o.fork l.fork) (at nat_cmp rows l.reference) ≡ true
 held-at rows l rise h = sym (told-at (λ o. is_one_fork o.fork l.fork) rows l.reference rise) ∙ h
 
 held-fork : (rows : List (ℕ × Row)) (l : held.ForkLock) (o : Row) → Rise rows → table.is_held rows l ≡ true → at nat_cmp rows l.reference ≡ Some o → o.fork ≡ l.fork
-held-fork rows l o rise h found = one-fork o.fork l.fork (sym (ap (told (λ (x : Row). is_one_fork x.fork l.fork)) found) ∙ held-at rows l rise h)
+held-fork rows l o rise h found = same_fork o.fork l.fork (sym (ap (told (λ (x : Row). is_one_fork x.fork l.fork)) found) ∙ held-at rows l rise h)
 
 held-open : (rows : List (ℕ × Row)) (l : held.ForkLock) → Rise rows → table.is_held rows l ≡ true → is_open (map row_of rows) l.reference ≡ true
 held-open rows l rise h = open-rows rows l.reference ∙ more rows h
@@ -103,7 +77,7 @@ shares rows l r o rise h found =
 
     by : (q : Option Row) → told (λ x. is_one_fork x.fork l.fork) q ≡ true → told (λ x. list_any (λ (y : OpenFork). (y.reference == r) && is_one_fork x.fork y.fork) (map row_of rows)) q ≡ is_one_fork l.fork o.fork
     by None k = absurd (cc k)
-    by (Some x) k = inner x.fork ∙ ap (λ f. is_one_fork f o.fork) (one-fork x.fork l.fork k)
+    by (Some x) k = inner x.fork ∙ ap (λ f. is_one_fork f o.fork) (same_fork x.fork l.fork k)
 
 -- What is known of a world and the table, and of the open fork of a reference.
 pub record Finds (w : World) (t : table.Table) (x : OpenFork) (r : ℕ) (o : Row) : Type 0 where
@@ -196,18 +170,14 @@ locks-range w t t' x r o range (Err Memory) f opens is = no-change t t' opens is
 one-lock : (rows : List (ℕ × Row)) (r : ℕ) (o : Row) (range : Range) → Rise rows → at nat_cmp rows r ≡ Some o → (l : held.ForkLock) → table.is_held rows l ≡ true → is_lock r range (lock_of l) ≡ held.is_fork_lock o.fork r range l
 one-lock rows r o range rise found l h = by (l.reference == r) refl
   where
-    off : (b : Bool) → (b && false) ≡ false
-    off true = refl
-    off false = refl
-
     by : (b : Bool) → (l.reference == r) ≡ b → ((l.reference == r) && ((l.range.from == range.from) && (l.range.to == range.to))) ≡ (is_one_fork l.fork o.fork && ((l.reference == r) && ((l.range.from == range.from) && (l.range.to == range.to))))
     by true same =
         let there : at nat_cmp rows l.reference ≡ Some o = ap (at nat_cmp rows) (eqb-true l.reference r same) ∙ found in
-        let fork : is_one_fork l.fork o.fork ≡ true = ap (is_one_fork l.fork) (held-fork rows l o rise h there) ∙ itself l.fork in
+        let fork : is_one_fork l.fork o.fork ≡ true = ap (is_one_fork l.fork) (held-fork rows l o rise h there) ∙ one_fork-itself l.fork in
         ap (λ b. b && ((l.reference == r) && ((l.range.from == range.from) && (l.range.to == range.to)))) (sym fork)
     by false other =
         ap (λ b. b && ((l.range.from == range.from) && (l.range.to == range.to))) other
-        ∙ sym (off (is_one_fork l.fork o.fork))
+        ∙ sym (and-false (is_one_fork l.fork o.fork))
         ∙ ap (λ b. is_one_fork l.fork o.fork && (b && ((l.range.from == range.from) && (l.range.to == range.to)))) (sym other)
 
 has-is : (w : World) (t : table.Table) (x : OpenFork) (r : ℕ) (o : Row) (range : Range) → Finds w t x r o → has_lock w x range ≡ held.has_fork_lock t.locks o.fork r range
@@ -314,7 +284,7 @@ all-held t sound =
     ∙ all-where (table.is_held t.opens) (λ l. is_open (map row_of t.opens) l.reference) t.locks sound.held (λ l h. held-open t.opens l sound.rising h)
 
 pub left-in-range : (keep : held.ForkLock → Bool) (ls : List held.ForkLock) → AreInRange ls → AreInRange (filter keep ls)
-left-in-range keep ls all = all-left (λ (l : held.ForkLock). is_lock_range l.range) keep ls all
+left-in-range keep ls all = all-filter (λ (l : held.ForkLock). is_lock_range l.range) keep ls all
 
 pub closed-in-range : (goes : Row → Bool) (t t' : table.Table) → t' ≡ table.closing goes t → AreInRange t.locks → AreInRange t'.locks
 closed-in-range goes t t' is all =

@@ -3,6 +3,7 @@ use Rattle.std.proofs.Common.{◌≡◌, ◌∙◌, ap, sym, refl, subst, ℕ, z
 use Rattle.std.specs.Prelude.{option_map, slice_get, slice_set}
 use Rattle.afp_serial.specs.World.{volume_at, World}
 use Rattle.volume_spec.specs.VolumeState.{VolumeState}
+use Rattle.record_keeper.specs.Settling.{settled_in}
 use Rattle.volume_keeper_commit.specs.Kept.{KeptState}
 use Rattle.afp_serial.specs.declared.ask.Outcome.TheVariants as outcome
 use Rattle.afp_serial.specs.declared.ask.Told.{Told}
@@ -53,7 +54,7 @@ list-set f [] index one = refl
 list-set f (k ∷ kept) zero one = refl
 list-set f (k ∷ kept) (suc index) one = ap (λ l. f k ∷ l) (list-set f kept index one)
 
-list-get : {A : Type 0} → (f : KeptState → A) (kept : List KeptState) (index : ℕ) (d : KeptState) → index < length kept → slice_get (map f kept) index ≡ Some (f (get_or kept index d))
+pub list-get : {A : Type 0} → (f : KeptState → A) (kept : List KeptState) (index : ℕ) (d : KeptState) → index < length kept → slice_get (map f kept) index ≡ Some (f (get_or kept index d))
 list-get f [] index d within = absurd (omega (arith, within))
 list-get f (k ∷ kept) zero d within = refl
 list-get f (k ∷ kept) (suc index) d within = list-get f kept index d (omega (arith, within))
@@ -68,11 +69,13 @@ becomes-kept w kept index d one becomes k new is within does becomes_is = record
     state = list-get (λ x. x.state) kept index d within;
     faults = list-get (λ x. x.faults) kept index d within;
     sure = list-get (λ x. x.sure) kept index d within;
+    settled = list-get (λ x. settled_in x.settles) kept index d within;
   };
   is = does;
   now =
       let v = list-set (λ x. x.state) kept index one in
       let f = list-set (λ x. x.faults) kept index one in
       let s = list-set (λ x. x.sure) kept index one in
-      becomes_is ∙ (λ i. record { world = record w { volumes = v i }; faults = f i; sure = s i }) ∙ ap (λ (x : KeptWorld). with_kept x index one) is;
+      let n = list-set (λ x. settled_in x.settles) kept index one in
+      becomes_is ∙ (λ i. record { world = record w { volumes = v i }; faults = f i; sure = s i; settled = n i }) ∙ ap (λ (x : KeptWorld). with_kept x index one) is;
 }

@@ -5,3 +5,5 @@ pub mod KeeperLemmas
 pub mod ForkLemmas
 pub mod RowLemmas
 pub mod OnVolumeLemmas
+pub mod HoldingLemmas
+pub mod SettleLemmas

@@ -1,6 +1,7 @@
 -- Calls on a volume that the session has open: what they share.
 use Rattle.std.proofs.Common.{◌≡◌, ◌∙◌, ap, sym, refl, subst, ℕ, zero, suc, ◌+◌, ◌<◌, Bool, true, false, not, List, [], ◌∷◌, length, Option, Some, None, is_some, arith, add-one}
 use Rattle.std.specs.Prelude.{IfSome, MatchOption, option_map, slice_get, slice_set}
+use Rattle.std.proofs.lemmas.Option.{same_Some}
 use Rattle.afp_base.specs.Choice.{first_holding}
 use Rattle.afp_base.specs.declared.code.Code.{Code}
 use Rattle.afp_base.specs.declared.code.Code.TheVariants.{Ok, ParamErr}
@@ -19,7 +20,8 @@ use Rattle.afp_core_state.specs.OnVolumes.{BecomesKept, IsKeptAt, IsOpen, IsOpen
 use Rattle.afp_core_state.specs.KeptWorld.{KeptWorld}
 use Rattle.afp_core_state.specs.SessionList.{session_of}
 use Rattle.afp_core_state.specs.Running.{IsOutcomeOf}
-use Rattle.afp_core_state.proofs.KeeperLemmas.{volume_at-index}
+use Rattle.afp_core_state.proofs.KeeperLemmas.{volume_at-index, stand-same}
+use Rattle.record_keeper.specs.Settling.{settled_in}
 use Rattle.volume_keeper_commit.specs.Changing.{FailsIn}
 use Rattle.volume_keeper_commit.specs.Kept.{KeptState}
 
@@ -32,32 +34,20 @@ pub some-holds : {A : Type 0} → (P : A → Type 0) → (o : Option A) (a : A) 
 some-holds P o a is holds = subst (λ o. IfSome o P) is holds
 
 -- lists with another element
-some-is : {A : Type 0} → (x a : A) → Some x ≡ Some a → x ≡ a
-some-is {A = A} x a h = ap (λ o. from o) h
-  where
-    from : Option A → A
-    from None = a
-    from (Some y) = y
-
 pub set-same : {A : Type 0} → (xs : List A) (i : ℕ) (a : A) → slice_get xs i ≡ Some a → slice_set xs i a ≡ xs
 set-same [] i a h = refl
-set-same (x ∷ xs) zero a h = ap (λ y. y ∷ xs) (sym (some-is x a h))
+set-same (x ∷ xs) zero a h = ap (λ y. y ∷ xs) (sym (same_Some x a h))
 set-same (x ∷ xs) (suc i) a h = ap (λ ys. x ∷ ys) (set-same xs i a h)
 
 rise-set : (xs : List ℕ) (i a b : ℕ) → slice_get xs i ≡ Some a → a < b → KeepersRise (Some i) xs (slice_set xs i b)
 rise-set [] i a b h less = cc
-rise-set (x ∷ xs) zero a b h less = let same : x ≡ a = some-is x a h in (omega (arith, same, less), refl)
+rise-set (x ∷ xs) zero a b h less = let same : x ≡ a = same_Some x a h in (omega (arith, same, less), refl)
 rise-set (x ∷ xs) (suc i) a b h less = (refl, rise-set xs i a b h less)
 
 stand-set : (sure : List Bool) (xs : List ℕ) (i b : ℕ) → slice_get sure i ≡ Some false → SureStand sure xs (slice_set xs i b)
 stand-set [] xs i b h = tt
 stand-set (s ∷ sure) [] i b h = tt
-stand-set (s ∷ sure) (x ∷ xs) zero b h = ((λ is. cc), stand-rest sure xs)
-  where
-    stand-rest : (s : List Bool) (ys : List ℕ) → SureStand s ys ys
-    stand-rest [] ys = tt
-    stand-rest (y ∷ s) [] = tt
-    stand-rest (y ∷ s) (z ∷ ys) = ((λ e. refl), stand-rest s ys)
+stand-set (s ∷ sure) (x ∷ xs) zero b h = ((λ is. cc), stand-same sure xs)
 stand-set (s ∷ sure) (x ∷ xs) (suc i) b h = ((λ e. refl), stand-set sure xs i b h)
 
 -- the volume is not opened, or is not there
@@ -102,7 +92,8 @@ kept-stays k index one was =
     let v = set-same k.world.volumes index one.state was.state in
     let f = set-same k.faults index one.faults was.faults in
     let s = set-same k.sure index one.sure was.sure in
-    λ i. record { world = record k.world { volumes = v i }; faults = f i; sure = s i }
+    let n = set-same k.settled index (settled_in one.settles) was.settled in
+    λ i. record { world = record k.world { volumes = v i }; faults = f i; sure = s i; settled = n i }
 
 -- another state of a volume whose keeper stays
 pub state-changes : (k : KeptWorld) (index : ℕ) (one : KeptState) (v : VolumeState) → IsKeptAt k index one
@@ -110,18 +101,19 @@ pub state-changes : (k : KeptWorld) (index : ℕ) (one : KeptState) (v : VolumeS
 state-changes k index one v was =
     let f = set-same k.faults index one.faults was.faults in
     let s = set-same k.sure index one.sure was.sure in
-    λ i. record { world = record k.world { volumes = slice_set k.world.volumes index v }; faults = f i; sure = s i }
+    let n = set-same k.settled index (settled_in one.settles) was.settled in
+    λ i. record { world = record k.world { volumes = slice_set k.world.volumes index v }; faults = f i; sure = s i; settled = n i }
 
 -- a keeper that failed
 pub keeper-fails : (k new : KeptWorld) (want : Told) (after : World) (committed_to : Option ℕ) (told : Told) (index : ℕ) → committed_to ≡ Some index → told ≡ want → k.world ≡ after
     → BecomesKept k index (λ old one. FailsIn old one) new → IsOutcomeOf want after committed_to outcome.Fault told k new
 keeper-fails k new want after committed_to told index commits tells same b =
     let f = b.is in
-    let states : with_kept k index b.one ≡ record k { faults = slice_set k.faults index b.one.faults } =
+    let states : with_kept k index b.one ≡ record k { faults = slice_set k.faults index b.one.faults; settled = slice_set k.settled index (settled_in b.one.settles) } =
     (let v = ap (slice_set k.world.volumes index) f.state ∙ set-same k.world.volumes index b.old.state b.was.state in
     let s = ap (slice_set k.sure index) f.sure ∙ set-same k.sure index b.old.sure b.was.sure in
-    λ i. record { world = record k.world { volumes = v i }; faults = slice_set k.faults index b.one.faults; sure = s i }) in
-    let is : new ≡ record k { faults = slice_set k.faults index b.one.faults } = b.now ∙ states in
+    λ i. record { world = record k.world { volumes = v i }; faults = slice_set k.faults index b.one.faults; sure = s i; settled = slice_set k.settled index (settled_in b.one.settles) }) in
+    let is : new ≡ record k { faults = slice_set k.faults index b.one.faults; settled = slice_set k.settled index (settled_in b.one.settles) } = b.now ∙ states in
     record {
       legal = ap is_some commits;
       serial = tells;

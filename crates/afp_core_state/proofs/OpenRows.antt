@@ -1,5 +1,5 @@
 -- The rows of the table, and the open forks that a world has.
-use Rattle.std.proofs.Common.{◌≡◌, ◌∙◌, refl, sym, ap, subst, ℕ, suc, ◌<◌, ◌⊎◌, inl, inr, Bool, true, false, cond, ◌||◌, ◌&&◌, ◌==◌, if◌then◌else◌, List, [], ◌∷◌, length, map, filter, Option, Some, None, arith}
+use Rattle.std.proofs.Common.{◌≡◌, ◌∙◌, refl, sym, ap, subst, ℕ, ◌<◌, ◌⊎◌, inl, inr, Bool, true, false, cond, ◌||◌, ◌&&◌, ◌==◌, if◌then◌else◌, List, [], ◌∷◌, length, map, filter, Option, Some, None, arith}
 use Rattle.std.specs.Prelude.{Result, Ok, Err, count_by, find, nat_le, nat_lt, option_map}
 use Rattle.std.specs.List.{AllByRecursion, list_any}
 use Rattle.std.specs.List.Sorted.{IsStrictlySortedBy}
@@ -29,27 +29,14 @@ use Rattle.fork_table.specs.declared.open_fork.OpenFault.{OpenFault}
 use Rattle.fork_table.specs.declared.open_fork.OpenFault.TheVariants.{Deny, TooMany, Memory}
 use Rattle.sorted_map.specs.Entries.{at}
 use Rattle.afp_core_state.specs.Forks.{HasForks, OpensFork, forks_of, new_open, open_of, shown_opens, with_opens}
+use Rattle.afp_base.proofs.Facts.{or-false}
+use Rattle.afp_base.proofs.ListFacts.{any-map, filter-map, length-mapped}
 
 -- ---- lists
 
-pub any-map : {A B : Type 0} (p : B → Bool) (f : A → B) (xs : List A) → list_any p (map f xs) ≡ list_any (λ x. p (f x)) xs
-any-map p f [] = refl
-any-map p f (x ∷ xs) = ap (λ t. p (f x) || t) (any-map p f xs)
-
-pub filter-map : {A B : Type 0} (p : B → Bool) (f : A → B) (xs : List A) → filter p (map f xs) ≡ map f (filter (λ x. p (f x)) xs)
-filter-map p f [] = refl
-filter-map p f (x ∷ xs) = elim (p (f x)) as (λ b. (if b then f x ∷ filter p (map f xs) else filter p (map f xs)) ≡ map f (if b then x ∷ filter (λ x. p (f x)) xs else filter (λ x. p (f x)) xs)) [
-  | true ↦ ap (λ l. f x ∷ l) (filter-map p f xs)
-  | false ↦ filter-map p f xs
-]
-
 -- how many of the images pass
 pub count-map : {A B : Type 0} (p : B → Bool) (f : A → B) (xs : List A) → count_by p (map f xs) ≡ length (filter (λ x. p (f x)) xs)
-count-map p f xs = sym (length-filter p (map f xs)) ∙ ap length (filter-map p f xs) ∙ long f (filter (λ x. p (f x)) xs)
-  where
-    long : {A B : Type 0} (f : A → B) (xs : List A) → length (map f xs) ≡ length xs
-    long f [] = refl
-    long f (x ∷ xs) = ap suc (long f xs)
+count-map p f xs = sym (length-filter p (map f xs)) ∙ ap length (filter-map p f xs) ∙ length-mapped f (filter (λ x. p (f x)) xs)
 
 -- ---- rows
 
@@ -101,13 +88,9 @@ told-at p (e ∷ es) k s = elim (nat_cmp k e.0) as (λ o. nat_cmp k e.0 ≡ o �
       let one : e.0 ≡ k = same-number k e.0 is in
       let none : at nat_cmp es k ≡ None = none-above k es (subst (λ n. Above n es) one s.0) in
       let rest : list_any (λ row. (row.0 == k) && p row.1) es ≡ false = told-at p es k s.1 ∙ ap (told p) none in
-      (λ i. (eq-eqb e.0 k one i && p e.1) || rest i) ∙ off (p e.1)
+      (λ i. (eq-eqb e.0 k one i && p e.1) || rest i) ∙ or-false (p e.1)
   | Greater ↦ λ is. ap (λ b. (b && p e.1) || list_any (λ row. (row.0 == k) && p row.1) es) (differs-more k e.0 is) ∙ told-at p es k s.1
 ] refl
-  where
-    off : (b : Bool) → (b || false) ≡ b
-    off true = refl
-    off false = refl
 
 -- ---- the open fork of a reference
 

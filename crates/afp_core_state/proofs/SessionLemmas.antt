@@ -4,22 +4,18 @@ use Rattle.std.specs.Prelude.{OnErr, Result, Ok, Err, find, option_map, nat_eq, 
 use Rattle.std.specs.List.{AllByRecursion, IsDistinct, position_or_len}
 use Rattle.std.specs.Map.{keys_of, values_of, lookup, remove_entry, set_value}
 use Rattle.std.proofs.lemmas.Bool.{cases_eq, eq-eqb, ne_eqb, eqb-false, ltb-false, true≢false}
+use Rattle.std.proofs.lemmas.Option.{same_Some}
 use Rattle.afp_serial.specs.Answer.{is_expired}
 use Rattle.afp_serial.specs.World.{has_session, is_on_link, Session}
 use Rattle.afp_core_state.specs.SessionList.{attached, session_of, replaced, IsAt}
 use Rattle.afp_core_state.specs.declared.sessions.Linked.{Linked}
+use Rattle.afp_base.proofs.Facts.{some-none}
 
 abbrev pub seen : ℕ → Linked → Session
 seen n x = attached n x.link x.user x.volumes
 
 abbrev pub shown : List (ℕ × Linked) → List Session
 shown es = map (λ e. seen e.0 e.1) es
-
-some_none : {X : Type 0} (x : X) → Some x ≡ None → ⊥
-some_none x e = cc
-
-unsome : {X : Type 0} (x y : X) → Some x ≡ Some y → x ≡ y
-unsome x y e = cc
 
 pub on_err : {A E P : Type 0} (r : Result A E) → P → OnErr r P
 on_err (Ok a) p = tt
@@ -51,7 +47,7 @@ filter-absent [] n h = refl
 filter-absent (e ∷ es) n h = by (cases_eq n e.0) (filter-absent es n)
   where
     by : (n ≡ e.0) ⊎ (n ≡ e.0 → ⊥) → (lookup (nat_eq n) es ≡ None → filter (λ s. not (nat_eq s.number n)) (shown es) ≡ shown es) → filter (λ s. not (nat_eq s.number n)) (shown (e ∷ es)) ≡ shown (e ∷ es)
-    by (inl same) rest = absurd (some_none e.1 (rw (eq-eqb n e.0 same) at h))
+    by (inl same) rest = absurd (some-none e.1 (rw (eq-eqb n e.0 same) at h))
     by (inr ne) rest = rw (ne_eqb e.0 n (λ q. ne (sym q))) (ap (λ (l : List Session). seen e.0 e.1 ∷ l) (rest (rw (ne_eqb n e.0 ne) at h)))
 
 -- another value under a number
@@ -84,7 +80,7 @@ set_value-same (e ∷ es) n x h = by (nat_eq n e.0) h (set_value-same es n x)
   where
     by : (b : Bool) → cond b (Some e.1) (lookup (nat_eq n) es) ≡ Some x → (lookup (nat_eq n) es ≡ Some x → set_value (nat_eq n) es x ≡ es)
         → cond b ((e.0, x) ∷ es) (e ∷ set_value (nat_eq n) es x) ≡ e ∷ es
-    by true h rest = ap (λ (y : Linked). (e.0, y) ∷ es) (unsome x e.1 (sym h))
+    by true h rest = ap (λ (y : Linked). (e.0, y) ∷ es) (same_Some x e.1 (sym h))
     by false h rest = ap (λ (l : List (ℕ × Linked)). e ∷ l) (rest h)
 
 -- a number that no session has is under no entry
@@ -112,10 +108,10 @@ module _ (old : List Session) (es : List (ℕ × Linked)) (is : shown es ≡ old
   entry_of = sym at ∙ ap (λ (l : List Session). session_of l n) (sym is) ∙ session_of-shown es n
 
   pub there : lookup (nat_eq n) es ≡ None → ⊥
-  there none = some_none s (entry_of ∙ ap (option_map (seen n)) none)
+  there none = some-none s (entry_of ∙ ap (option_map (seen n)) none)
 
   pub session_at_entry : (x : Linked) → Some x ≡ lookup (nat_eq n) es → s ≡ seen n x
-  session_at_entry x found = unsome s (seen n x) (entry_of ∙ ap (option_map (seen n)) (sym found))
+  session_at_entry x found = same_Some s (seen n x) (entry_of ∙ ap (option_map (seen n)) (sym found))
 
   -- the entry takes another value
   pub replaced_entry : IsDistinct nat_eq (keys_of es) → (x w : Linked) (new : List (ℕ × Linked)) → Some x ≡ lookup (nat_eq n) es → new ≡ set_value (nat_eq n) es w
@@ -140,7 +136,7 @@ get-past (e ∷ es) zero h = absurd (omega arith)
 get-past (e ∷ es) (suc i) h = get-past es i (omega arith)
 
 some_place : (b : Bool) (n i : ℕ) → cond b (Some n) None ≡ Some i → n ≡ i
-some_place true n i h = unsome n i h
+some_place true n i h = same_Some n i h
 some_place false n i h = cc
 
 no_place : (b : Bool) (n : ℕ) → cond b (Some n) None ≡ None → b ≡ false
@@ -170,5 +166,5 @@ session_of-number [] n s h = cc
 session_of-number (x ∷ xs) n s h = by (cases_eq x.number n) (session_of-number xs n s)
   where
     by : (x.number ≡ n) ⊎ (x.number ≡ n → ⊥) → (session_of xs n ≡ Some s → s.number ≡ n) → s.number ≡ n
-    by (inl same) rest = ap (λ (t : Session). t.number) (sym (unsome x s (rw (eq-eqb x.number n same) at h))) ∙ same
+    by (inl same) rest = ap (λ (t : Session). t.number) (sym (same_Some x s (rw (eq-eqb x.number n same) at h))) ∙ same
     by (inr ne) rest = rest (rw (ne_eqb x.number n ne) at h)

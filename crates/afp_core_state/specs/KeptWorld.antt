@@ -4,13 +4,15 @@ use Rattle.afp_serial.specs.World.{World, Session}
 use Rattle.volume_spec.specs.VolumeState.{VolumeState}
 use Rattle.volume_keeper_commit.specs.Kept.{KeptState}
 use Rattle.afp_core_state.specs.Forks.{Forks}
+use Rattle.record_keeper.specs.Settling.{settled_in}
 use Rattle.std.specs.Prelude.{ℕ, Bool, List, map, Option}
 
--- A world, and of each volume's keeper the count of its faults and whether it is sure: a sure keeper never fails.
+-- A world, and of each volume's keeper the count of its faults, whether it is sure (a sure keeper never fails), and how many of its settles went well.
 pub record KeptWorld : Type 0 where
   pub world : World
   pub faults : List ℕ
   pub sure : List Bool
+  pub settled : List ℕ
 
 -- the volumes alone
 abbrev pub volumes_of : List KeptState → List VolumeState
@@ -31,4 +33,4 @@ world_of house latest drain next_link sessions forks volumes = record {
 
 -- a world over volumes beside their keepers
 abbrev pub kept_world : World → List KeptState → KeptWorld
-kept_world w kept = record { world = w; faults = map (λ k. k.faults) kept; sure = map (λ k. k.sure) kept }
+kept_world w kept = record { world = w; faults = map (λ k. k.faults) kept; sure = map (λ k. k.sure) kept; settled = map (λ k. settled_in k.settles) kept }

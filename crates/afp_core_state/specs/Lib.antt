@@ -1,9 +1,11 @@
 pub mod Forks
 pub mod KeeperFaults
+pub mod KeeperSettles
 pub mod KeptWorld
 pub mod SessionList
 pub mod Running
 pub mod OnVolumes
 pub mod OnForks
+pub mod Holding
 pub mod Replies
 pub mod lemma

@@ -9,6 +9,7 @@ use Rattle.afp_serial.specs.World.{plain, has_opened, Session}
 use Rattle.afp_serial.specs.OnVolume.{on_volume}
 use Rattle.volume_spec.specs.VolumeState.{VolumeState}
 use Rattle.volume_keeper_commit.specs.Kept.{KeptState}
+use Rattle.record_keeper.specs.Settling.{settled_in}
 
 -- the session has opened the volume, which is at this index: ids count from 1
 pub record IsOpenAt (k : KeptWorld) (number volume index : ℕ) : Type 0 where
@@ -23,11 +24,12 @@ IsOpen k number volume None =
     → first_holding (on_volume k.world s volume refuses) ≡ Some (plain code.ParamErr)
 IsOpen k number volume (Some index) = IsOpenAt k number volume index
 
--- the volume at an index, with its keeper's count and whether the keeper is sure
+-- the volume at an index, with its keeper's count, whether the keeper is sure, and how many of its settles went well
 pub record IsKeptAt (k : KeptWorld) (index : ℕ) (one : KeptState) : Type 0 where
   pub state : slice_get k.world.volumes index ≡ Some one.state
   pub faults : slice_get k.faults index ≡ Some one.faults
   pub sure : slice_get k.sure index ≡ Some one.sure
+  pub settled : slice_get k.settled index ≡ Some (settled_in one.settles)
 
 -- another one in its place
 abbrev pub with_kept : KeptWorld → ℕ → KeptState → KeptWorld
@@ -35,6 +37,7 @@ with_kept k index one = record {
   world = record k.world { volumes = slice_set k.world.volumes index one.state };
   faults = slice_set k.faults index one.faults;
   sure = slice_set k.sure index one.sure;
+  settled = slice_set k.settled index (settled_in one.settles);
 }
 
 -- the volume at an index and its keeper came to this, and all else is as before

@@ -1,2 +1,3 @@
 pub mod KeptWorld
 pub mod LockRanges
+pub mod Holding

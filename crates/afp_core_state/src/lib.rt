@@ -2,6 +2,7 @@
 #![tactic(auto)]
 
 mod forks;
+mod keepers;
 pub mod laws;
 mod link_numbers;
 mod on_fork;

@@ -1,5 +1,5 @@
 -- The rows of calls by their names.
-use Rattle.std.proofs.Common.{◌≡◌, ap, sym, refl, subst, ℕ, ◌<◌, ◌||◌, Bool, true, false, List, [], ◌∷◌, length, Some, None, is_some}
+use Rattle.std.proofs.Common.{◌≡◌, ap, sym, refl, subst, ℕ, ◌<◌, Bool, true, false, List, [], ◌∷◌, length, Some, None, is_some}
 use Rattle.afp_base.specs.declared.ids.NodeId.{NodeId}
 use Rattle.afp_base.specs.declared.ids.VolumeId.{VolumeId}
 use Rattle.afp_bitmap.specs.declared.params.Values.TheVariants.{Volume}
@@ -33,6 +33,7 @@ use Rattle.volume_spec.specs.OpenDir.{open_dir_id, open_dir_refusal}
 use Rattle.volume_spec.specs.TreeSteps as tree
 use Rattle.afp_core_volumes.specs.VolumeRows.{ChangesAlone, ChangesTree}
 use Rattle.afp_core_volumes.specs.lemma.VolumeRows.{TellsOf}
+use Rattle.afp_base.proofs.Facts.{right_false, some-none}
 
 pub get_vol_parms-tells : (volume : VolumeId) (bits : ℕ) → TellsOf (call.GetVolParms volume bits) volume.0 (λ w v. get_vol_parms_refusal bits) (λ w v. Params bits (Volume (volume_values v volume.0 bits)))
 unfolding row
@@ -113,26 +114,19 @@ unfolding row
 enumerate_ext2-lists volume dir asked path wide = ap (λ (b : Bool). lists volume.0 (record asked { wide = b }) dir.0 path) (sym wide)
 
 -- where a directory is made, the ids have not ended
-some-not-none : {A : Type 0} → (a : A) → Some a ≡ None → ⊥
-some-not-none a h = cc
-
 ids-left : (a full : Bool) → first_holding ((a, ObjectExists) ∷ (full, DiskFull) ∷ []) ≡ None → full ≡ false
-ids-left true full h = absurd (some-not-none _ h)
-ids-left false true h = absurd (some-not-none _ h)
+ids-left true full h = absurd (some-none _ h)
+ids-left false true h = absurd (some-none _ h)
 ids-left false false h = refl
-
-or-false : (a b : Bool) → (a || b) ≡ false → b ≡ false
-or-false true b h = cc
-or-false false b h = h
 
 behind-ids : (v : VolumeState) (found : Result Place Code) → behind found (λ place. first_holding ((is_some (child_by_key v.rows place.dir (name_key place.name)), ObjectExists) ∷ (has_no_room v, DiskFull) ∷ [])) ≡ None
     → has_no_room v ≡ false
 behind-ids v (Ok place) h = ids-left (is_some (child_by_key v.rows place.dir (name_key place.name))) (has_no_room v) h
-behind-ids v (Err code) h = absurd (some-not-none code h)
+behind-ids v (Err code) h = absurd (some-none code h)
 
 room-ids : (v : VolumeState) → has_no_room v ≡ false → v.next_id < last_next_id
 unfolding has_no_room has_no_ids
-room-ids v h = leb-false last_next_id v.next_id (or-false (nat_le most_nodes (length v.rows)) (nat_le last_next_id v.next_id) h)
+room-ids v h = leb-false last_next_id v.next_id (right_false (nat_le most_nodes (length v.rows)) (nat_le last_next_id v.next_id) h)
 
 pub create_dir-ids : (v : VolumeState) (dir : ℕ) (path : PathValue) → create_dir_refusal v dir path ≡ None → v.next_id < last_next_id
 unfolding create_dir_refusal

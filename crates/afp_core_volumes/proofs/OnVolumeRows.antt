@@ -1,6 +1,6 @@
 -- Rows of calls on a volume that the session has open.
 use Rattle.std.proofs.Common.{◌≡◌, ◌∙◌, ap, sym, refl, subst, ℕ, true, false, List, [], ◌++◌, Option, Some, None}
-use Rattle.std.specs.Prelude.{IfOk, OnOk, Result, Ok as with_ok, Err, option_map, slice_get}
+use Rattle.std.specs.Prelude.{IfOk, OnOk, Result, Ok as with_ok, Err, option_map, slice_get, slice_set}
 use Rattle.afp_base.specs.Choice.{first_holding}
 use Rattle.afp_base.specs.declared.bytes.OutOfMemory.{OutOfMemory}
 use Rattle.afp_base.specs.declared.code.Code.{Code}
@@ -24,15 +24,18 @@ use Rattle.volume_spec.specs.TreeSteps.{TreeCall, tree_effect, tree_refusal}
 use Rattle.volume_spec.specs.VolumeState.{VolumeState}
 use Rattle.afp_core_volumes.specs.lemma.VolumeRows.{AreToldOf, TellsNode, TellsOf}
 use Rattle.afp_core_volumes.specs.VolumeRows.{ChangesTree}
+use Rattle.afp_core_state.specs.KeeperSettles.{SettlesRow}
 use Rattle.afp_core_state.specs.OnVolumes.{BecomesKept, IsOpen, IsOpenAt, with_kept}
 use Rattle.afp_core_state.specs.Replies.{Tells, TellsChanged, TellsSettled}
 use Rattle.afp_core_state.specs.KeptWorld.{KeptWorld}
 use Rattle.afp_core_state.specs.SessionList.{session_of}
 use Rattle.afp_core_state.specs.Running.{done, RunsRow}
 use Rattle.afp_core_state.proofs.RowLemmas.{IsRowOf, has_effect, is_refused}
+use Rattle.afp_core_state.proofs.SettleLemmas.{fails-alone, refused-settles, settled-apart, settled-one, settles-row, wanting-stays}
 use Rattle.volume_keeper_commit.specs.Changing.{Changes, Settles}
 use Rattle.volume_keeper_commit.specs.declared.change.ChangeFault.{ChangeFault}
 use Rattle.volume_keeper_commit.specs.declared.change.ChangeFault.TheVariants as change
+use Rattle.record_keeper.specs.Settling.{settled_in}
 use Rattle.record_keeper.specs.declared.keeper.KeeperFault.{KeeperFault}
 use Rattle.record_keeper.specs.declared.keeper.KeeperFault.TheVariants as keeper
 use Rattle.volume_tree.specs.Answered.{Refuses}
@@ -173,18 +176,16 @@ module _ (k : KeptWorld) (number : ℕ) (volume : VolumeId) where
   flush-done : (new : KeptWorld) (index : ℕ) (told : Told) → IsOpenAt k number volume.0 index → BecomesKept k index (λ old one. Settles old (with_ok tt) one) new
       → told ≡ Reply Ok [] false → RunsRow k number (Flush volume) (with_ok (done told)) new
   flush-done new index told stands b is = λ s at.
-      has_effect k new s (Flush volume) told k.world (flush-passes index b.old.state stands b.was.state s at)
+      settled-apart _ _ _ _ _ k k new (slice_set k.settled index (settled_in b.one.settles)) (settled-one k new index b)
+      (has_effect k k s (Flush volume) told k.world (flush-passes index b.old.state stands b.was.state s at)
       (is ∙ told-effect (Flush volume) (effect k.world s (Flush volume)) (record { world = k.world; reply = Empty }) [] (flush-does s) refl refl)
-      (b.now ∙ ap (with_kept k index) b.is ∙ kept-stays k index b.old b.was) (ap (λ (e : Effect). e.world) (sym (flush-does s)))
+      refl (ap (λ (e : Effect). e.world) (sym (flush-does s))))
 
   flush-fails : (new : KeptWorld) (index : ℕ) (told : Told) → IsOpenAt k number volume.0 index → BecomesKept k index (λ old one. Settles old (Err keeper.Failed) one) new
       → told ≡ refusal_reply MiscErr → RunsRow k number (Flush volume) (with_ok (told, outcome.Fault)) new
   flush-fails new index told stands b is = λ s at.
       rw (flush-passes index b.old.state stands b.was.state s at)
-      (keeper-fails k new _ _ _ told index (flush-commits index stands s) is refl record { old = b.old; one = b.one; was = b.was; is = b.is; now = b.now })
-
-  flush-memory : (new : KeptWorld) (index : ℕ) → BecomesKept k index (λ old one. Settles old (Err keeper.Memory) one) new → new ≡ k
-  flush-memory new index b = b.now ∙ ap (with_kept k index) b.is ∙ kept-stays k index b.old b.was
+      (keeper-fails k new _ _ _ told index (flush-commits index stands s) is refl (fails-alone k new index b))
 
   pub flush-runs : (new : KeptWorld) (index : ℕ) (answer : Result (Unit {0}) KeeperFault) (result : Result (Told × Outcome) OutOfMemory) → IsOpenAt k number volume.0 index
       → BecomesKept k index (λ old one. Settles old answer one) new → TellsSettled answer result → RunsRow k number (Flush volume) result new
@@ -195,7 +196,16 @@ module _ (k : KeptWorld) (number : ℕ) (volume : VolumeId) where
       subst (λ (x : Told × Outcome). RunsRow k number (Flush volume) (with_ok x) new) (sym told) (flush-fails new index (refusal_reply MiscErr) stands b refl)
   flush-runs new index (Err keeper.Failed) (Err e) stands b told = absurd told
   flush-runs new index (Err keeper.Memory) (with_ok r) stands b told = absurd told
-  flush-runs new index (Err keeper.Memory) (Err e) stands b told = flush-memory new index b
+  flush-runs new index (Err keeper.Memory) (Err e) stands b told = wanting-stays k new index b
+
+  pub flush-unsettled : (told : Told) → IsOpen k number volume.0 None → SettlesRow k number (Flush volume) (with_ok (done told)) k
+  unfolding row
+  flush-unsettled told stands = refused-settles k number (Flush volume) (plain ParamErr) told (λ s at. stands s at (λ v. None))
+
+  pub flush-settles : (new : KeptWorld) (index : ℕ) (answer : Result (Unit {0}) KeeperFault) (result : Result (Told × Outcome) OutOfMemory) → IsOpenAt k number volume.0 index
+      → BecomesKept k index (λ old one. Settles old answer one) new → TellsSettled answer result → SettlesRow k number (Flush volume) result new
+  flush-settles new index answer result stands b told =
+      settles-row k new number (Flush volume) index (λ s at. flush-passes index b.old.state stands b.was.state s at) (λ s at. flush-commits index stands s) answer result b told
 
 -- FPCloseDir
 module _ (k : KeptWorld) (s : Session) (volume : VolumeId) (dir : NodeId) where

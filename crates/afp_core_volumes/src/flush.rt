@@ -1,6 +1,7 @@
 //! FPFlush (AFP Reference, "FPFlush"): the volume's keeper settles what was committed to it.
 ghost use Rattle.std.specs.Prelude.{◌<◌};
 ghost use Rattle.afp_calls_grammar.specs.declared.call.Call.{Call};
+ghost use Rattle.afp_core_state.specs.KeeperSettles.{SettlesRow};
 ghost use Rattle.afp_core_state.specs.Running.{RunsRow};
 
 use afp_base::{Code, OutOfMemory, SessionNumber, VolumeId};
@@ -14,7 +15,8 @@ pub fn flush<K: Keeper>(
     session: SessionNumber,
     volume: VolumeId,
 ) -> Result<(Told, Outcome), OutOfMemory>
-    ensures { RunsRow state.old session.0 (Call.Flush volume) result state.new }
+    ensures runs { RunsRow state.old session.0 (Call.Flush volume) result state.new }
+    ensures settles { SettlesRow state.old session.0 (Call.Flush volume) result state.new }
 {
     let Some(index) = state.opened(session, volume) else {
         return Ok((refused(state.alloc, Code::ParamErr), Outcome::Done));

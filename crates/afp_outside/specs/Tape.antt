@@ -209,14 +209,16 @@ pub record TapeAccepts (old : TapeDoor) (result : Accepted Tape) (new : TapeDoor
   pub coming : new.coming ≡ (if fails old.calls then old.coming else drop 1 old.coming)
   pub calls : new.calls ≡ after_call old.calls
 
--- The bytes that reads gave, and those that they have left.
+-- The bytes that reads gave, those that they had given when the last one was made, and those that they have left.
 pub record Remaining : Type 0 where
   pub given : List ℕ
+  pub given_before : List ℕ
   pub coming : List ℕ
 
 -- A source in memory, and its plan: `reads` are the most bytes that each read to come takes.
 pub record SourceTape : Type 0 where
   pub given : List ℕ
+  pub given_before : List ℕ
   pub coming : List ℕ
   pub ended : Bool
   pub faults : ℕ
@@ -225,11 +227,11 @@ pub record SourceTape : Type 0 where
 
 -- it tells all
 abbrev pub source_of : SourceTape → SourceState
-source_of source = record { given = Some source.given; coming = Some source.coming; ended = source.ended; faults = source.faults }
+source_of source = record { given = Some source.given; given_before = Some source.given_before; coming = Some source.coming; ended = source.ended; faults = source.faults }
 
 -- a source in memory that was not read
 abbrev pub fresh_source : List ℕ → List ℕ → List ℕ → SourceTape
-fresh_source bytes reads failing = record { given = []; coming = bytes; ended = false; faults = 0; reads = reads; calls = record { failing = failing; made = 0 } }
+fresh_source bytes reads failing = record { given = []; given_before = []; coming = bytes; ended = false; faults = 0; reads = reads; calls = record { failing = failing; made = 0 } }
 
 -- the most bytes that the next read into a room takes: 1 at least, and all that fits where the sizes have ended
 abbrev pub source_read_size : List ℕ → ℕ → ℕ

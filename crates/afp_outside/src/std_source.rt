@@ -19,7 +19,7 @@ impl<R> Model for StdSource<R> {
 
     ghost Value = { SourceState };
 
-    ghost view = { λ a. record { given = None; coming = None; ended = a.ended; faults = a.faults } };
+    ghost view = { λ a. record { given = None; given_before = None; coming = None; ended = a.ended; faults = a.faults } };
 }
 
 impl<R> StdSource<R> {
@@ -27,7 +27,7 @@ impl<R> StdSource<R> {
 
     /// A source that was not read.
     pub fn new(reader: R) -> StdSource<R>
-        ensures { result ≡ record { given = None; coming = None; ended = false; faults = 0 } }
+        ensures { result ≡ record { given = None; given_before = None; coming = None; ended = false; faults = 0 } }
     {
         StdSource {
             reader,

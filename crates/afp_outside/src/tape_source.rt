@@ -10,11 +10,12 @@ use afp_base::{Bytes, OutOfMemory};
 use std::collections::VecDeque;
 use std::marker::Model;
 
-/// Bytes that reads take from the first on.
+/// Bytes that reads take from the first on, and the place where the last one was made.
 #[derive(Drop)]
 struct Remaining {
     bytes: Bytes,
     place: usize,
+    last: usize,
 }
 
 impl Model for Remaining {
@@ -23,7 +24,7 @@ impl Model for Remaining {
 
     ghost Value = { Remaining };
 
-    ghost view = { λ a. record { given = take a.place a.bytes; coming = drop a.place a.bytes } };
+    ghost view = { λ a. record { given = take a.place a.bytes; given_before = take a.last a.bytes; coming = drop a.place a.bytes } };
 
     ghost invariant = { λ a. a.place ≤ length a.bytes };
 }
@@ -31,9 +32,20 @@ impl Model for Remaining {
 impl Remaining {
     /// These bytes, none of which was read.
     fn new(bytes: Bytes) -> Remaining
-        ensures { result ≡ record { given = []; coming = bytes } }
+        ensures { result ≡ record { given = []; given_before = []; coming = bytes } }
     {
-        Remaining { bytes, place: 0 }
+        Remaining {
+            bytes,
+            place: 0,
+            last: 0,
+        }
+    }
+
+    /// A read is made here.
+    fn note(&mut self)
+        ensures { self.new ≡ record self.old { given_before = self.old.given } }
+    {
+        self.last = self.place;
     }
 
     /// How many bytes are left.
@@ -52,6 +64,7 @@ impl Remaining {
         ensures given { self.new.given ≡ self.old.given ++ take n self.old.coming }
         ensures coming { self.old.coming ≡ take n self.old.coming ++ self.new.coming }
         ensures behind { self.new.coming ≡ drop n self.old.coming }
+        ensures given_before { self.new.given_before ≡ self.old.given_before }
     {
         let bytes = self.bytes.as_slice();
         let end = self.place + n;
@@ -77,6 +90,7 @@ impl Model for TapeSource {
 
     ghost view = { λ a. record {
       given = a.bytes.given;
+      given_before = a.bytes.given_before;
       coming = a.bytes.coming;
       ended = a.ended;
       faults = a.faults;
@@ -131,6 +145,7 @@ impl Source for TapeSource {
         ensures reads { SourceReads (source_of self.old) room.new result (source_of self.new) }
         ensures tape { TapeSourceReads self.old (length room.old) result self.new }
     {
+        self.bytes.note();
         if self.calls.fails() {
             self.faults = self.faults.saturating_add(1);
             return ReadResult::Failed;

@@ -16,7 +16,8 @@ use Rattle.afp_serial.specs.CloseVol.{close_vol_effect, close_vol_row}
 use Rattle.afp_serial.specs.ReplyKinds.{reply_kind}
 use Rattle.afp_serial.specs.World.{has_opened, volume_at, closing, with_session, World, Session, OpenFork}
 use Rattle.afp_serial.specs.Sound.{IsSound, has_volume_open, is_file_of, is_lawful_open, is_lawful_cache}
-use Rattle.volume_spec.proofs.TestedLists.{contra, all-both, all-kept, any-still, find-all}
+use Rattle.afp_base.proofs.Facts.{contra}
+use Rattle.afp_base.proofs.ListFacts.{all-both, all-kept, any-still, find-all}
 
 abbrev with_volumes : Session → List ℕ → Session
 with_volumes s volumes = record s { volumes = volumes }

@@ -4,13 +4,13 @@ use Rattle.std.specs.Prelude.{count_by, ◌==◌, filter}
 use Rattle.std.specs.List.{list_all, list_any}
 use Rattle.std.proofs.lemmas.Bool.{and_parts, and_from, leb-true, le-leb}
 use Rattle.afp_serial.proofs.SoundParts.{ApartSessions, sessions-parts, sessions-whole, LawfulOpens, opens-parts, opens-whole, LawfulLocks, locks-parts, locks-whole, caches-parts, caches-whole, KeptLimits, limits-parts, limits-whole, same_number, same_link, is_below, same_reference, do_clash, do_overlap, keeps_forks, keeps_locks}
-use Rattle.volume_spec.proofs.TestedLists.{all-weaker, all-both, all-filter, all-kept, any-weaker, any-filter, any-left, apart-filter, apart-weaker, count-filter, length-filter-le}
 use Rattle.afp_serial.specs.Limits.{most_sessions}
 use Rattle.afp_base.specs.DenyMode.{is_one_fork}
 use Rattle.afp_base.specs.Limits.{most_forks, most_locks}
 use Rattle.afp_base.specs.Overlap.{do_meet}
 use Rattle.afp_serial.specs.World.{has_session, is_open, volume_at, closing, ending, World, Session, OpenFork, Lock}
 use Rattle.afp_serial.specs.Sound.{IsSound, share_fork, has_volume_open, is_file_of, is_lawful_open, is_lawful_cache, has_typed_fields, has_apart_sessions, has_lawful_locks, has_lawful_caches}
+use Rattle.afp_base.proofs.ListFacts.{all-both, all-filter, all-kept, all-weaker, any-filter, any-left, any-weaker, apart-filter, apart-weaker, count-filter, length-filter-le}
 
 -- a smaller number is within the limit too
 pub within : (m n k : ℕ) → m ≤ n → leb n k ≡ true → leb m k ≡ true

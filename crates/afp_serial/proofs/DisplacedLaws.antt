@@ -5,7 +5,6 @@ use Rattle.std.proofs.lemmas.Bool.{cond_both, cond-false, eqb-true, eq-eqb, not-
 use Rattle.afp_base.specs.Cached.{Request}
 use Rattle.afp_base.specs.declared.code.Code.TheVariants as code
 use Rattle.afp_base.specs.declared.ids.LinkNumber.{LinkNumber}
-use Rattle.volume_spec.proofs.TestedLists.{all-each, each-all, find-none, never, none-find}
 use Rattle.afp_serial.specs.declared.ask.Ask.{Ask}
 use Rattle.afp_serial.specs.declared.ask.Ask.TheVariants as ask
 use Rattle.afp_serial.specs.declared.ask.Outcome.{Outcome}
@@ -16,6 +15,8 @@ use Rattle.afp_serial.specs.declared.attachment.Attachment.TheVariants.{Attached
 use Rattle.afp_serial.specs.Answer.{answer_at, after_at, after_call, after_parting, is_full, link_number, refusal_reply, request, told_call, told_parting, told_pulse, told_verdict, Verdict, repeats, refused, runs, verdict}
 use Rattle.afp_serial.specs.Laws.{HasNoSession, is_session_ask, TellsDisplaced, LeavesDisplaced, OnlyEndsExpired}
 use Rattle.afp_serial.specs.World.{is_on_link, session_at, World, Session, at_moment}
+use Rattle.afp_base.proofs.Facts.{never}
+use Rattle.afp_base.proofs.ListFacts.{all-each, each-all, find-none, none-find}
 
 -- no session has the link
 

@@ -6,6 +6,7 @@ use Rattle.std.proofs.Math.Seq.{length-take-le}
 use Rattle.std.proofs.lemmas.List.{get_or-take}
 use Rattle.std.proofs.lemmas.Bool.Decides.{nat_tests}
 use Rattle.std.proofs.lemmas.Slice.Eq.{bytes_eq-Decides}
+use Rattle.std.proofs.lemmas.Bool.{and_parts, leb-true, not-false, or_parts}
 use Rattle.afp_serial.specs.declared.house_fault.HouseFault.{HouseFault}
 use Rattle.afp_serial.specs.declared.house_fault.HouseFault.TheVariants.{Server, Users, User as UserAt, Volumes, Volume as VolumeAt, Message}
 use Rattle.afp_serial.specs.declared.user.User.{User}
@@ -15,29 +16,14 @@ use Rattle.afp_serial.specs.HouseFault.{first_bad_name, is_name, is_text, is_bad
 use Rattle.afp_serial.specs.Faultless.{IsFaultless, NamesFirstBad}
 use Rattle.afp_serial.proofs.FirstBad.{none_bad, is_first_bad}
 
-neither : (a b : Bool) → (a || b) ≡ false → (a ≡ false) × (b ≡ false)
-neither true b fails = (cc, cc)
-neither false b fails = (refl, fails)
-
-not_not : (a : Bool) → not a ≡ false → a ≡ true
-not_not true fails = refl
-not_not false fails = cc
-
-both : (a b : Bool) → (a && b) ≡ true → (a ≡ true) × (b ≡ true)
-both true b holds = (refl, holds)
-both false b holds = (cc, cc)
-
 -- where no element passes a test, the one at an index does not
 none_passes : {X : Type 0} (test : X → Bool) (xs : List X) → list_any test xs ≡ false → (k : ℕ) (d : X) → k < length xs → test (get_or xs k d) ≡ false
 none_passes test [] none k d h = absurd (omega arith)
-none_passes test (x ∷ xs) none zero d h = (neither (test x) (list_any test xs) none).0
-none_passes test (x ∷ xs) none (suc k) d h = none_passes test xs (neither (test x) (list_any test xs) none).1 k d (omega arith)
+none_passes test (x ∷ xs) none zero d h = (or_parts (test x) (list_any test xs) none).0
+none_passes test (x ∷ xs) none (suc k) d h = none_passes test xs (or_parts (test x) (list_any test xs) none).1 k d (omega arith)
 
 differ : (a b : List ℕ) → bytes_eq a b ≡ false → a ≢ b
 differ a b unequal same = cc (unequal, (bytes_eq-Decides a b).1 same)
-
-at_most : (m n : ℕ) → nat_le m n ≡ true → m ≤ n
-at_most m n holds = grind (arith, nat_tests)
 
 equal : (m n : ℕ) → nat_eq m n ≡ true → m ≡ n
 equal m n holds = grind (arith, nat_tests)
@@ -50,9 +36,9 @@ pub record IsGoodUser (before : List User) (user : User) : Type 0 where
 
 good_user : (before : List User) (user : User) → is_bad_user before user ≡ false → IsGoodUser before user
 good_user before user good =
-    let outer : ((not (is_name longest_user user.name) || list_any (λ other. bytes_eq other.name user.name) before) ≡ false) × (not (nat_eq user.id (first_user_id + length before)) ≡ false) = neither _ _ good in
-    let inner : (not (is_name longest_user user.name) ≡ false) × (list_any (λ other. bytes_eq other.name user.name) before ≡ false) = neither _ _ outer.0 in
-    record { named = not_not _ inner.0; new = inner.1; follows = equal _ _ (not_not _ outer.1) }
+    let outer : ((not (is_name longest_user user.name) || list_any (λ other. bytes_eq other.name user.name) before) ≡ false) × (not (nat_eq user.id (first_user_id + length before)) ≡ false) = or_parts _ _ good in
+    let inner : (not (is_name longest_user user.name) ≡ false) × (list_any (λ other. bytes_eq other.name user.name) before ≡ false) = or_parts _ _ outer.0 in
+    record { named = not-false _ inner.0; new = inner.1; follows = equal _ _ (not-false _ outer.1) }
 
 pub record IsGoodVolume (before : List (List ℕ)) (name : List ℕ) : Type 0 where
   pub named : is_name longest_volume name ≡ true
@@ -60,8 +46,8 @@ pub record IsGoodVolume (before : List (List ℕ)) (name : List ℕ) : Type 0 wh
 
 good_volume : (before : List (List ℕ)) (name : List ℕ) → is_bad_volume before name ≡ false → IsGoodVolume before name
 good_volume before name good =
-    let parts : (not (is_name longest_volume name) ≡ false) × (list_any (λ other. bytes_eq other name) before ≡ false) = neither _ _ good in
-    record { named = not_not _ parts.0; new = parts.1 }
+    let parts : (not (is_name longest_volume name) ≡ false) × (list_any (λ other. bytes_eq other name) before ≡ false) = or_parts _ _ good in
+    record { named = not-false _ parts.0; new = parts.1 }
 
 -- the users and the volumes where none is bad
 user_at : (users : List User) → first_bad_name is_bad_user users ≡ None → (k : ℕ) (d : User) → k < length users → IsGoodUser (take k users) (get_or users k d)
@@ -102,15 +88,15 @@ pub faultless : (house : Household) → house_fault house ≡ None → IsFaultle
 unfolding house_fault
 faultless house none =
     let each : (is_name longest_server house.server ≡ true) × (nat_le (length house.users) most_users ≡ true) × (first_bad_name is_bad_user house.users ≡ None) × ((nat_le 1 (length house.volumes) && nat_le (length house.volumes) most_volumes) ≡ true) × (first_bad_name is_bad_volume house.volumes ≡ None) × (is_text longest_message house.message ≡ true) = clear _ _ _ _ _ _ none in
-    let number : (nat_le 1 (length house.volumes) ≡ true) × (nat_le (length house.volumes) most_volumes ≡ true) = both _ _ each.3 in
+    let number : (nat_le 1 (length house.volumes) ≡ true) × (nat_le (length house.volumes) most_volumes ≡ true) = and_parts _ _ each.3 in
     record {
       server = each.0;
-      few_users = at_most _ _ each.1;
+      few_users = leb-true _ _ each.1;
       user_names = λ k d h. (user_at house.users each.2 k d h).named;
       user_ids = id_at house.users each.2;
       users_differ = users_differ house.users each.2;
-      some_volume = at_most _ _ number.0;
-      few_volumes = at_most _ _ number.1;
+      some_volume = leb-true _ _ number.0;
+      few_volumes = leb-true _ _ number.1;
       volume_names = λ k d h. (volume_at house.volumes each.4 k d h).named;
       volumes_differ = volumes_differ house.volumes each.4;
       message = each.5;
@@ -119,8 +105,8 @@ faultless house none =
 pub server_fits : (house : Household) → house_fault house ≡ None → length house.server ≤ longest_server
 server_fits house none =
     let named : is_name longest_server house.server ≡ true = (faultless house none).server in
-    let text : is_text longest_server house.server ≡ true = (both _ _ named).1 in
-    at_most _ _ (both _ _ text).0
+    let text : is_text longest_server house.server ≡ true = (and_parts _ _ named).1 in
+    leb-true _ _ (and_parts _ _ text).0
 
 -- a fault with an index names the first bad element
 told_index :

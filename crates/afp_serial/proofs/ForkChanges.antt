@@ -40,7 +40,6 @@ use Rattle.afp_serial.specs.Login.{login_row}
 use Rattle.afp_serial.specs.OpenDir.{close_dir_row, open_dir_row}
 use Rattle.afp_base.specs.declared.code.Code.{Code}
 use Rattle.volume_spec.proofs.ForkEffects.{fork-given, fork-lets-be}
-use Rattle.volume_spec.proofs.TestedLists.{any-map, any-still, any-weaker}
 use Rattle.volume_spec.specs.Shared.{Opened, is_busy}
 use Rattle.volume_spec.specs.CreateDir.{create_dir_id}
 use Rattle.volume_spec.specs.CreateFile.{is_hard}
@@ -50,6 +49,8 @@ use Rattle.volume_spec.specs.TreeSteps as trees
 use Rattle.volume_spec.specs.TreeSteps.{TreeCall, tree_effect, tree_refusal}
 use Rattle.volume_spec.specs.VolumeState.{Row as File, VolumeState}
 use Rattle.volume_spec.specs.Walk.{row_at}
+use Rattle.afp_base.proofs.ListFacts.{any-map, any-still, any-weaker}
+use Rattle.afp_base.proofs.Forks.{one_fork-itself}
 
 -- a world with the same volumes
 same-volumes : (w v : World) (fork : Fork) (bytes : List ℕ) → v.volumes ≡ w.volumes → bytes_in w fork ≡ Some bytes → bytes_in v fork ≡ Some bytes
@@ -129,14 +130,11 @@ pub fork-bytes : (w : World) (s : Session) (reference : ℕ) (f : OpenFile) (for
 fork-bytes w s reference f fork bytes is one h =
     let same : Some (bytes_of f) ≡ Some bytes = sym (held-bytes w s reference f is) ∙ ap (bytes_in w) ((one_fork f.fork.fork fork).0 one) ∙ h in cc
 
-own-one : (f : Fork) → is_one_fork f f ≡ true
-own-one f = (one_fork f f).1 refl
-
 new-bytes : (w : World) (s : Session) (reference : ℕ) (f : OpenFile) (fork : Fork) (new : List ℕ) → IsSound w → open_file w s reference ≡ Some f → is_one_fork f.fork.fork fork ≡ true → bytes_in (with_bytes w f true new) fork ≡ Some new
 new-bytes w s reference f fork new h is one =
     ap (bytes_in (with_bytes w f true new)) (sym ((one_fork f.fork.fork fork).0 one))
     ∙ sym (under-in (with_bytes w f true new) s reference f.fork (held-file w s reference f is).found)
-    ∙ bytes-seen w s s reference reference f f new h is is (own-one f.fork.fork)
+    ∙ bytes-seen w s s reference reference f f new h is is (one_fork-itself f.fork.fork)
 
 -- another fork
 old-bytes : (w : World) (s : Session) (reference : ℕ) (f : OpenFile) (fork : Fork) (some : Bool) (new bytes : List ℕ) → IsSound w → open_file w s reference ≡ Some f → is_one_fork f.fork.fork fork ≡ false → bytes_in w fork ≡ Some bytes → bytes_in (with_bytes w f some new) fork ≡ Some bytes

@@ -21,7 +21,6 @@ use Rattle.afp_calls_grammar.specs.declared.call.Call.TheVariants.{Read, ReadExt
 use Rattle.afp_serial.proofs.ForkRows.{file-answer}
 use Rattle.afp_serial.proofs.ListShown.{within}
 use Rattle.afp_serial.proofs.OpenForkRow.{IsFileFound, found-file}
-use Rattle.afp_serial.proofs.PlacedLists.{or-split}
 use Rattle.afp_serial.proofs.SoundParts.{do_clash, do_overlap, locks-parts, opens-parts, same_reference}
 use Rattle.afp_serial.proofs.VolumeStates.{IsServed, served-at}
 use Rattle.afp_serial.specs.Fork.{OpenAsked, file_asked, fork_ref, is_denied, opened_reply}
@@ -34,16 +33,17 @@ use Rattle.afp_serial.specs.OnVolume.{opened_on}
 use Rattle.afp_serial.specs.ReplyKinds.{reply_kind}
 use Rattle.afp_serial.specs.World.{volume_at, World, OpenFork, Lock}
 use Rattle.afp_serial.specs.Sound.{share_fork}
-use Rattle.volume_spec.proofs.TestedLists.{apart-places, never}
 use Rattle.volume_spec.specs.OpenFork.{fork_values}
 use Rattle.volume_spec.specs.VolumeState.{Row as File, VolumeState}
+use Rattle.afp_base.proofs.Facts.{either, never}
+use Rattle.afp_base.proofs.ListFacts.{apart-places}
 
 -- conflicts
 
 any-some : {A : Type 0} (p : A → Bool) (xs : List A) → list_any p xs ≡ true → (x : A) × Contains xs x × (p x ≡ true)
 any-some p [] h = absurd (cc)
 any-some p (x ∷ xs) h =
-    or-split (p x) (list_any p xs) h
+    either (p x) (list_any p xs) h
     (λ here. (x, (0, omega arith, refl), here))
     (λ later. let r = any-some p xs later in (r.0, (suc r.1.0, omega (arith, r.1.1), r.1.2), r.2))
 

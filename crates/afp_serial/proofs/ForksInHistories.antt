@@ -3,7 +3,7 @@ use Rattle.std.proofs.Common.{◌==◌, ◌≡◌, Bool, ◌∙◌, ap, sym, ref
 use Rattle.std.specs.Prelude.{nat_abs, not, option_map}
 use Rattle.std.specs.Int.{is_negative}
 use Rattle.std.specs.List.{list_any}
-use Rattle.std.proofs.lemmas.Bool.{and_from, and_parts, cond_both, eq-eqb, false_from_ne_true, ltb-true}
+use Rattle.std.proofs.lemmas.Bool.{and_from, and_parts, cond_both, eq-eqb}
 use Rattle.std.proofs.lemmas.List.{append-nil}
 use Rattle.afp_base.specs.Limits.{payload_limit}
 use Rattle.afp_base.proofs.DefinitionLaws.{one_fork}
@@ -39,11 +39,12 @@ use Rattle.afp_serial.specs.OnFork.{OpenFile, bytes_of, done_with, is_locked, on
 use Rattle.afp_serial.specs.Rows.{effect, ends_session, refusal, row}
 use Rattle.afp_serial.specs.Sound.{IsSound, has_volume_open, is_file_of, is_lawful_open}
 use Rattle.afp_serial.specs.WriteLaws.{ForkChange, changed_by, changed_by_all, read_of, puts}
-use Rattle.volume_spec.proofs.TestedLists.{any-at, any-weaker}
 use Rattle.volume_spec.proofs.Walks.{row-there}
 use Rattle.volume_spec.specs.ForkEffect.{fork_of}
 use Rattle.volume_spec.specs.SoundVolume.{has_node}
 use Rattle.volume_spec.specs.VolumeState.{Row as File, VolumeState}
+use Rattle.afp_base.proofs.Facts.{is_negative-pos}
+use Rattle.afp_base.proofs.ListFacts.{any-at, any-weaker}
 
 -- opens and locks
 
@@ -164,9 +165,6 @@ writes-put w e s f fork at id place write payload reference from_end offset piec
 four-pass : (a b c d : Refusal) → a.0 ≡ false → b.0 ≡ false → c.0 ≡ false → d.0 ≡ false → first_holding (a ∷ b ∷ c ∷ d ∷ []) ≡ None
 four-pass a b c d no_a no_b no_c no_d = λ i. cond (no_a i) (Some a.1) (cond (no_b i) (Some b.1) (cond (no_c i) (Some c.1) (cond (no_d i) (Some d.1) None)))
 
-no-sign : (n : ℕ) → is_negative (pos n) ≡ false
-no-sign n = false_from_ne_true (is_negative (pos n)) (λ low. let less = ltb-true n 0 low in absurd (omega (arith, less)))
-
 record ReadsIt (w : World) (s : Session) (call : Call) (piece : List ℕ) : Type 0 where
   passes : refusal w s call ≡ None
   reply : (effect w s call).reply ≡ Piece piece
@@ -182,7 +180,7 @@ module _ (w : World) (s : Session) (fork : Fork) (at : ℕ) (piece bytes : List 
       let pass : first_holding (read_refusals asked w may.file) ≡ None =
       four-pass (is_negative asked.offset || is_negative asked.count, plain ParamErr) (not may.file.fork.access.read, plain AccessDenied) (is_locked w may.file.fork (nat_abs asked.offset) (most_read asked), plain LockErr)
       (meets_end (bytes_of may.file) asked, record { code = EOFErr; reply = read_reply asked may.file })
-      (λ i. no-sign at i || no-sign (length piece) i) (ap not may.reads) (ap (is_locked w may.file.fork at) most ∙ may.free) (ap (λ b. meets_end b asked) same ∙ its.1) in (
+      (λ i. is_negative-pos at i || is_negative-pos (length piece) i) (ap not may.reads) (ap (is_locked w may.file.fork at) most ∙ may.free) (ap (λ b. meets_end b asked) same ∙ its.1) in (
         ap (λ q. first_holding (on_fork q (read_refusals asked w))) may.is ∙ pass,
         ap (λ q. (done_with q w (λ f. record { world = w; reply = read_reply asked f })).reply) may.is ∙ ap (λ b. Piece (read_bytes b asked)) same ∙ ap Piece its.0,
       )

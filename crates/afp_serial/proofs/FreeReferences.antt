@@ -1,18 +1,19 @@
 -- The lowest number that is no reference, and how many forks are open.
-use Rattle.std.proofs.Common.{◌==◌, ◌≡◌, ◌∙◌, ap, sym, refl, ℕ, zero, suc, ◌+◌, ◌*◌, ◌<◌, ◌≤◌, arith, inl, inr, Bool, true, false, not, ◌&&◌, cond, List, [], ◌∷◌, length}
+use Rattle.std.proofs.Common.{◌==◌, ◌≡◌, ◌∙◌, ap, sym, refl, ℕ, zero, suc, ◌+◌, ◌*◌, ◌<◌, ◌≤◌, arith, inl, inr, Bool, true, false, not, ◌&&◌, cond, List, [], ◌∷◌, length, add-one}
 use Rattle.std.specs.Prelude.{count_by, filter, nat_le}
 use Rattle.std.specs.List.{list_all}
 use Rattle.std.proofs.lemmas.Bool.{and_parts, cases_Bool, cond_both, eq-eqb, eqb-false, eqb-true, false_from_ne_true, le-leb, leb-true}
 use Rattle.std.proofs.lemmas.List.Sums.{sum_by-cons}
 use Rattle.afp_base.specs.Limits.{most_forks}
 use Rattle.afp_serial.proofs.Closed.{within}
-use Rattle.afp_serial.proofs.PlacedLists.{one_if, or-split}
+use Rattle.afp_serial.proofs.PlacedLists.{one_if}
 use Rattle.afp_serial.proofs.SoundParts.{keeps_forks, limits-parts, opens-parts}
 use Rattle.afp_serial.specs.Fork.{free_from, lowest_free}
 use Rattle.afp_serial.specs.Limits.{most_sessions}
 use Rattle.afp_serial.specs.World.{has_opened, has_session, is_open, volume_at, World, Session, OpenFork}
 use Rattle.afp_serial.specs.Sound.{IsSound, has_volume_open, is_file_of, is_lawful_open}
-use Rattle.volume_spec.proofs.TestedLists.{all-both, all-filter, all-kept, all-weaker, any-weaker, count-filter}
+use Rattle.afp_base.proofs.Facts.{either}
+use Rattle.afp_base.proofs.ListFacts.{all-both, all-filter, all-kept, all-weaker, any-weaker, count-filter}
 
 -- how many references are a number or above it
 abbrev above : ℕ → List OpenFork → ℕ
@@ -48,12 +49,9 @@ gone-above n [] h = absurd (cc)
 gone-above n (o ∷ os) h =
     let a = above-cons (suc n) o os in
     let b = above-cons n o os in
-    or-split (o.reference == n) (is_open os n) h
+    either (o.reference == n) (is_open os n) h
     (λ here. let rest = fewer-above n os in let one = one-gone n o.reference here in omega (arith, rest, one, a, b))
     (λ later. let rest = gone-above n os later in let one = one-fewer n o.reference in omega (arith, rest, one, a, b))
-
-one-more : (n : ℕ) → n + 1 ≡ suc n
-one-more n = omega arith
 
 free-is : (opens : List OpenFork) (n more : ℕ) → above n opens ≤ more → is_open opens (free_from opens n more) ≡ false
 free-is opens n zero few = false_from_ne_true (is_open opens n) (λ taken. let gone = gone-above n opens taken in absurd (omega (arith, gone, few)))
@@ -61,7 +59,7 @@ free-is opens n (suc more) few =
     cond_both (is_open opens n) (free_from opens (n + 1) more) n (λ r. is_open opens r ≡ false)
     (λ taken.
     let gone = gone-above n opens taken in
-    let same : above (n + 1) opens ≡ above (suc n) opens = ap (λ k. above k opens) (one-more n) in
+    let same : above (n + 1) opens ≡ above (suc n) opens = ap (λ k. above k opens) (add-one n) in
     free-is opens (n + 1) more (omega (arith, gone, few, same)))
     (λ free. free)
 
@@ -143,7 +141,7 @@ few-of (s ∷ ss) opens all kept =
   where
     later : (o : OpenFork) → has_session (s ∷ ss) o.session ≡ true → not (o.session == s.number) ≡ true → has_session ss o.session ≡ true
     later o has other =
-        or-split (s.number == o.session) (has_session ss o.session) has
+        either (s.number == o.session) (has_session ss o.session) has
         (λ here. let bad : not (o.session == s.number) ≡ false = ap not (eq-eqb o.session s.number (sym (eqb-true s.number o.session here))) in absurd (cc))
         (λ there. there)
 

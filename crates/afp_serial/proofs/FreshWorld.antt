@@ -16,7 +16,6 @@ use Rattle.volume_spec.specs.VolumeState.{VolumeState, fresh_volume}
 use Rattle.volume_spec.proofs.Fresh.{fresh-sound as volume-sound}
 use Rattle.afp_serial.proofs.Faultless.{faultless}
 use Rattle.afp_serial.proofs.SoundParts.{ApartSessions, fields-whole, sessions-whole, opens-whole, locks-whole, caches-whole, limits-whole}
-use Rattle.volume_spec.proofs.TestedLists.{all-each, all-map-where, all-weaker}
 use Rattle.afp_serial.specs.Faultless.{IsFaultless}
 use Rattle.afp_serial.specs.Household.{Household}
 use Rattle.afp_serial.specs.HouseFault.{is_printable, is_text, is_name, house_fault}
@@ -25,6 +24,7 @@ use Rattle.afp_serial.specs.Ranges.{is_moment, is_typed_house}
 use Rattle.volume_spec.specs.TypedVolume.{are_bytes, is_byte, is_typed_volume}
 use Rattle.afp_serial.specs.Sound.{IsSound, ServesVolumes}
 use Rattle.afp_serial.specs.World.{World, fresh_volumes, fresh_world, start_world}
+use Rattle.afp_base.proofs.ListFacts.{all-each, all-map-where, all-weaker}
 
 -- printable characters are a name
 

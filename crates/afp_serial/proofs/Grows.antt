@@ -1,7 +1,9 @@
 -- How histories grow, and what a teller's own steps are then.
-use Rattle.std.proofs.Common.{◌≡◌, ℕ, ◌+◌, ◌<◌, ◌≤◌, suc, zero, Bool, true, false, ◌&&◌, List, [], ◌∷◌, ◌++◌, length, take, Option, Some, None, refl, sym, ap, ◌∙◌, subst, append_assoc, arith, length-append, append-nil}
+use Rattle.std.proofs.Common.{◌≡◌, ℕ, ◌+◌, ◌<◌, ◌≤◌, suc, zero, true, List, [], ◌∷◌, ◌++◌, length, take, Option, Some, None, refl, sym, ap, ◌∙◌, subst, append_assoc, arith, length-append, append-nil}
 use Rattle.std.specs.Prelude.{slice_get}
 use Rattle.std.proofs.lemmas.List.{take-append-le}
+use Rattle.std.proofs.lemmas.Bool.{and_from}
+use Rattle.std.proofs.lemmas.List.Prefix.{front_fits}
 use Rattle.afp_base.specs.Counts.{Rises}
 use Rattle.afp_base.specs.declared.ids.LinkNumber.{LinkNumber}
 use Rattle.afp_serial.specs.declared.ask.Ask.{Ask}
@@ -13,27 +15,15 @@ use Rattle.afp_serial.specs.World.{World}
 use Rattle.afp_serial.specs.History.{entry, stand, is_lawful, faults_in, Own, own_at, own}
 use Rattle.afp_serial.specs.Shown.{Rising, Shown, Stays, Adds, Asked}
 use Rattle.afp_serial.specs.Went.{Step, step, step_of, steps_of, and_step, answered, Went}
+use Rattle.afp_base.proofs.Facts.{left_true, right_true}
 
 pub stand-append : (w : World) (h x : List Entry) → stand w (h ++ x) ≡ stand (stand w h) x
 stand-append w [] x = refl
 stand-append w (e ∷ es) x = stand-append (after w e) es x
 
-and_true : (a b : Bool) → a ≡ true → b ≡ true → (a && b) ≡ true
-and_true true true p q = refl
-and_true true false p q = q
-and_true false b p q = p
-
-and_left : (a b : Bool) → (a && b) ≡ true → a ≡ true
-and_left true b e = refl
-and_left false b e = e
-
-and_right : (a b : Bool) → (a && b) ≡ true → b ≡ true
-and_right true b e = e
-and_right false b e = absurd (cc)
-
 pub lawful-snoc : (w : World) (h : List Entry) (e : Entry) → is_lawful w h ≡ true → is_legal (stand w h) e ≡ true → is_lawful w (h ++ e ∷ []) ≡ true
-lawful-snoc w [] e l t = and_true (is_legal w e) true t refl
-lawful-snoc w (x ∷ xs) e l t = and_true (is_legal w x) _ (and_left _ _ l) (lawful-snoc (after w x) xs e (and_right (is_legal w x) _ l) t)
+lawful-snoc w [] e l t = and_from (is_legal w e) true t refl
+lawful-snoc w (x ∷ xs) e l t = and_from (is_legal w x) _ (left_true _ _ l) (lawful-snoc (after w x) xs e (right_true (is_legal w x) _ l) t)
 
 pub faults-append : (h x : List Entry) → faults_in (h ++ x) ≡ faults_in h + faults_in x
 faults-append [] x = omega arith
@@ -110,9 +100,6 @@ own-last start h e =
     ap (λ (o : Option Entry). own_at start (h ++ e ∷ []) (length h) o []) (get-last h e)
     ∙ ap (λ (l : List Entry). (e, answer (stand start l) e) ∷ []) (take-all h (e ∷ []))
 
-longer : (a b c : List Entry) → a ≡ b ++ c → length b ≤ length a
-longer a b c e = omega (arith, ap length e, length-append b c)
-
 pub rising-join : (from : ℕ) (ks : List ℕ) (n : ℕ) (js : List ℕ) (m : ℕ) → Rising from ks n → Rising n js m → Rising from (ks ++ js) m
 rising-join from [] n js m r s = lower js m s
   where
@@ -148,7 +135,7 @@ went-stays a b s w none = record {
   start = w.start;
   history = w.history;
   mine = w.mine ∙ sym (append-nil a.mine);
-  within = longer b.history a.history w.between w.history;
+  within = front_fits b.history a.history w.between w.history;
   told = sym none;
   faults = w.faults;
 }

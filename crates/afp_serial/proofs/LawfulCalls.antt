@@ -23,10 +23,10 @@ use Rattle.afp_serial.specs.Answer.{request, block_of, enclosed_of}
 use Rattle.afp_serial.specs.LawfulCall.{are_bytes_or_none, is_number, is_number_or_none, is_signed, is_lawful_value, is_lawful_field, is_lawful_piece, is_lawful_call}
 use Rattle.afp_serial.specs.Ranges.{is_typed_ask}
 use Rattle.volume_spec.proofs.LongPathNames.{path-named}
-use Rattle.volume_spec.proofs.TestedLists.{all-place}
 use Rattle.volume_spec.proofs.TypedEdits.{take-bytes, drop-bytes}
 use Rattle.volume_spec.specs.TypedVolume.{is_byte, is_long, is_word, are_bytes}
 use Rattle.volume_spec.specs.Walk.{is_named_path}
+use Rattle.afp_base.proofs.ListFacts.{all-place}
 
 small-bytes : (bytes : List ℕ) → are_bytes bytes ≡ true → AreBytes bytes
 small-bytes [] h i = omega arith

@@ -2,7 +2,7 @@
 use Rattle.std.proofs.Common.{◌==◌, ◌≡◌, ◌∙◌, ap, sym, refl, ℕ, suc, ◌+◌, ◌<◌, ◌≤◌, ◌^◌, arith, Bool, true, false, ◌&&◌, cond, List, [], ◌∷◌, ◌++◌, length, map, replicate, min, subst}
 use Rattle.std.specs.Prelude.{bit_and, nat_le, sum_by}
 use Rattle.std.specs.List.{AllByRecursion, Contains, concat, list_all}
-use Rattle.std.proofs.lemmas.Bool.{and_parts, eqb-true, leb-true}
+use Rattle.std.proofs.lemmas.Bool.{and_parts, eqb-true, leb-true, not-false}
 use Rattle.std.proofs.lemmas.List.{length-append, length-map}
 use Rattle.std.proofs.lemmas.List.Sums.{sum_by-cons}
 use Rattle.afp_base.specs.Limits.{payload_limit}
@@ -17,7 +17,6 @@ use Rattle.afp_bitmap.specs.declared.params.Values.TheVariants.{Dir, File}
 use Rattle.afp_replies.specs.Bytes.{flag_of, width}
 use Rattle.afp_replies.specs.Entry.{is_dir, bits_for, kind_for, node_params, pad_count, head_size, entry_bytes, FitsEntry}
 use Rattle.afp_serial.specs.ListReply.{list_entry, list_reply, ListHasItsSize, ListIsShown}
-use Rattle.volume_spec.proofs.CallsSound.{not-false}
 use Rattle.volume_spec.proofs.Counted.{entries-are-there}
 use Rattle.volume_spec.proofs.ListReplies.{entries-are-asked, entries-fit}
 use Rattle.volume_spec.proofs.Ordered.{is-here, is-later}

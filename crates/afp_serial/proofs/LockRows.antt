@@ -31,7 +31,8 @@ use Rattle.afp_serial.specs.Lock.{LockAsked, byte_range_lock_ext_row, byte_range
 use Rattle.afp_serial.specs.OnFork.{OpenFile, bytes_of, is_met_by_other, meets_lock, placed}
 use Rattle.afp_serial.specs.Sound.{IsSound, has_apart_sessions, has_lawful_caches, has_lawful_opens, has_typed_fields, share_fork}
 use Rattle.volume_spec.proofs.ForkEffects.{fork-few}
-use Rattle.volume_spec.proofs.TestedLists.{all-both, all-filter, all-weaker, any-weaker, apart-filter, contra, count-filter, none-all}
+use Rattle.afp_base.proofs.Facts.{contra}
+use Rattle.afp_base.proofs.ListFacts.{all-both, all-filter, all-weaker, any-weaker, apart-filter, count-filter, none-all}
 
 -- which of two comes first makes no difference
 

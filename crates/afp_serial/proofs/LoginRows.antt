@@ -11,12 +11,12 @@ use Rattle.afp_serial.proofs.Closed.{ending-sound, ending-apart}
 use Rattle.afp_serial.proofs.Replaced.{TakesPlace, replaced-apart, replaced-old, replaced-sound, volume-kept}
 use Rattle.afp_serial.proofs.SoundRow.{IsSoundRow, no-keeper, no_more-refuses}
 use Rattle.afp_serial.proofs.SoundParts.{sessions-parts, opens-parts, caches-parts}
-use Rattle.volume_spec.proofs.TestedLists.{all-weaker, any-filter, find-all}
 use Rattle.afp_serial.specs.ReplyKinds.{reply_kind}
 use Rattle.afp_serial.specs.Login.{login_row, guest_id}
 use Rattle.afp_serial.specs.Logout.{logout_row}
 use Rattle.afp_serial.specs.World.{volume_at, with_session, World, Session}
 use Rattle.afp_serial.specs.Sound.{IsSound, has_volume_open, is_file_of, is_lawful_open, is_lawful_cache}
+use Rattle.afp_base.proofs.ListFacts.{all-weaker, any-filter, find-all}
 
 abbrev with_user : Session → ℕ → Session
 with_user s user = record s { user = Some user }

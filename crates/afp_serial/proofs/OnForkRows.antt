@@ -18,10 +18,10 @@ use Rattle.afp_serial.specs.OnFork.{OpenFile, committed_with, done_with, file_on
 use Rattle.afp_serial.specs.OnVolume.{keeper_of}
 use Rattle.afp_serial.specs.Sound.{IsSound, has_volume_open, is_file_of, is_lawful_open}
 use Rattle.volume_spec.proofs.SeenRows.{file-found}
-use Rattle.volume_spec.proofs.TestedLists.{find-all, find-passes}
 use Rattle.volume_spec.proofs.Trees.{tree-parts}
 use Rattle.volume_spec.specs.VolumeState.{Row as File, VolumeState}
 use Rattle.volume_spec.specs.Walk.{row_at}
+use Rattle.afp_base.proofs.ListFacts.{find-all, find-passes}
 
 abbrev pub is_own : Session → ℕ → OpenFork → Bool
 is_own s reference o = (o.reference == reference) && (o.session == s.number)

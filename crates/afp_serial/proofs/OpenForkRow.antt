@@ -2,7 +2,7 @@
 use Rattle.std.proofs.Common.{◌==◌, ◌≡◌, ◌∙◌, ap, sym, refl, subst, ℕ, suc, ◌+◌, ◌<◌, ◌≤◌, arith, Bool, true, false, not, ◌&&◌, cond, List, [], ◌∷◌, ◌++◌, length, Option, Some, None}
 use Rattle.std.specs.Prelude.{Result, Ok, Err, count_by, find, nat_le}
 use Rattle.std.specs.List.{list_all, list_any}
-use Rattle.std.proofs.lemmas.Bool.{and_parts, and_from, both_ways, eq-eqb, eqb-true, leb-false, leb-true, le-leb, or_left, or_right}
+use Rattle.std.proofs.lemmas.Bool.{and_parts, and_from, both_ways, eq-eqb, eqb-true, leb-false, leb-true, le-leb, or_left, or_right, not-false}
 use Rattle.std.proofs.lemmas.List.{length-append}
 use Rattle.afp_base.specs.Limits.{most_forks, most_locks, payload_limit}
 use Rattle.afp_base.specs.Choice.{first_holding}
@@ -31,7 +31,7 @@ use Rattle.afp_serial.proofs.LockRows.{fork-sym}
 use Rattle.afp_serial.proofs.OnForkRows.{none-refused}
 use Rattle.afp_serial.proofs.OnVolumeRows.{Asks, IsToldTo, refused_before-none, told-shown}
 use Rattle.afp_serial.proofs.ParamsSize.{params-size}
-use Rattle.afp_serial.proofs.PlacedLists.{all-placed, any-placed, apart-placed, apart-where, count-placed, find-any, one_if, or-split}
+use Rattle.afp_serial.proofs.PlacedLists.{all-placed, any-placed, apart-placed, apart-where, count-placed, find-any, one_if}
 use Rattle.afp_serial.proofs.SoundParts.{ApartSessions, KeptLimits, LawfulLocks, LawfulOpens, do_clash, do_overlap, keeps_forks, keeps_locks, limits-parts, limits-whole, locks-parts, locks-whole, opens-parts, opens-whole, same_reference}
 use Rattle.afp_serial.proofs.SoundRow.{IsRefusedTo, IsSoundRow, behind-first, first-told, is_short, no-keeper, no_more-refuses, no_more-told}
 use Rattle.afp_serial.proofs.VolumeCodes.{is_refusal, open-fork-refuses}
@@ -41,10 +41,8 @@ use Rattle.afp_serial.specs.Fork.{OpenAsked, access_of, denied_of, file_asked, f
 use Rattle.afp_serial.specs.OnVolume.{opened_on, refused_on}
 use Rattle.afp_serial.specs.ReplyKinds.{command_of, reply_kind}
 use Rattle.afp_serial.specs.Sound.{IsSound, has_apart_sessions, has_lawful_caches, has_typed_fields, has_volume_open, is_file_of, is_lawful_open, share_fork}
-use Rattle.volume_spec.proofs.CallsSound.{not-false}
 use Rattle.volume_spec.proofs.Refusals.{none-first, none-holds}
 use Rattle.volume_spec.proofs.SeenRows.{file-found, test-found}
-use Rattle.volume_spec.proofs.TestedLists.{all-weaker, any-weaker, contra, count-none, find-passes, none-all}
 use Rattle.volume_spec.proofs.Trees.{tree-parts}
 use Rattle.volume_spec.proofs.Walks.{row-there}
 use Rattle.volume_spec.specs.Shared.{behind, done_at, has_attribute, write_inhibit}
@@ -53,6 +51,8 @@ use Rattle.volume_spec.specs.OpenFork.{file_of, fork_values, is_resource, open_f
 use Rattle.volume_spec.specs.SoundVolume.{IsSoundVolume, has_file, has_node}
 use Rattle.volume_spec.specs.VolumeState.{Row as File, VolumeState}
 use Rattle.volume_spec.specs.Walk.{found, row_at}
+use Rattle.afp_base.proofs.Facts.{contra, either}
+use Rattle.afp_base.proofs.ListFacts.{all-weaker, any-weaker, count-none, find-passes, none-all}
 
 -- the file that is found
 
@@ -146,7 +146,7 @@ conflict-sym : (f g : Fork) (a b : Access) → do_conflict f a g b ≡ true → 
 conflict-sym f g a b h =
     let e = and_parts (is_one_fork f g) (is_clash a b) h in
     and_from (is_one_fork g f) (is_clash b a) (fork-sym f g e.0)
-    (or-split (is_denied_by a b) (is_denied_by b a) e.1
+    (either (is_denied_by a b) (is_denied_by b a) e.1
     (λ left. or_right (is_denied_by b a) (is_denied_by a b) left)
     (λ right. or_left (is_denied_by b a) (is_denied_by a b) right))
 
@@ -182,7 +182,7 @@ module _ (w : World) (s : Session) (asked : OpenAsked) (file : File) where
 
   old-any : (r : ℕ) (q : OpenFork → Bool) → is_open w.opens r ≡ true → list_any (λ o. (o.reference == r) && q o) (with_open (new_fork w s asked file) w.opens) ≡ true → list_any (λ o. (o.reference == r) && q o) w.opens ≡ true
   old-any r q there h =
-      or-split ((lowest_free w.opens == r) && q (new_fork w s asked file)) (list_any (λ o. (o.reference == r) && q o) w.opens)
+      either ((lowest_free w.opens == r) && q (new_fork w s asked file)) (list_any (λ o. (o.reference == r) && q o) w.opens)
       (sym (any-placed (λ (o : OpenFork). o.reference) (new_fork w s asked file) (λ o. (o.reference == r) && q o) w.opens) ∙ h)
       (λ here. absurd (another r there (and_parts (lowest_free w.opens == r) (q (new_fork w s asked file)) here).0))
       (λ later. later)

@@ -20,9 +20,9 @@ use Rattle.afp_serial.proofs.VolumeStates.{served-at}
 use Rattle.afp_serial.specs.World.{plain, refused_before, has_opened, has_session, volume_at, with_session, World, Session}
 use Rattle.afp_serial.specs.OpenVol.{open_vol_row, opens_volume, state_named, volume_named, with_volume}
 use Rattle.afp_serial.specs.Sound.{IsSound, has_volume_open, is_file_of, is_lawful_open, is_lawful_cache}
-use Rattle.volume_spec.proofs.TestedLists.{all-weaker, any-longer, find-all}
 use Rattle.volume_spec.specs.GetVolParms.{get_vol_parms_refusal}
 use Rattle.volume_spec.specs.VolumeState.{VolumeState}
+use Rattle.afp_base.proofs.ListFacts.{all-weaker, any-longer, find-all}
 
 -- what was open stays open
 

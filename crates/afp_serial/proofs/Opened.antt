@@ -4,13 +4,13 @@ use Rattle.std.specs.Prelude.{count_by, ◌==◌, nat_le, nat_lt}
 use Rattle.std.proofs.lemmas.Bool.{and_parts, and_from, or_parts, ltb-true, lt-ltb, leb-false, le-leb, eqb-true, ne_eqb}
 use Rattle.afp_base.specs.Limits.{most_forks}
 use Rattle.afp_serial.proofs.SoundParts.{ApartSessions, sessions-parts, sessions-whole, LawfulOpens, opens-parts, opens-whole, caches-parts, caches-whole, KeptLimits, limits-parts, limits-whole, same_number, same_link, is_below, keeps_forks}
-use Rattle.volume_spec.proofs.TestedLists.{all-weaker, all-snoc, any-at, any-longer, apart-snoc, count-none}
 use Rattle.afp_serial.specs.declared.attachment.Attachment.{Attachment}
 use Rattle.afp_serial.specs.declared.attachment.Attachment.TheVariants.{Attached, Detached}
 use Rattle.afp_serial.specs.Answer.{is_full, link_number, new_session, with_new_session}
 use Rattle.afp_serial.specs.Limits.{most_sessions, links_end}
 use Rattle.afp_serial.specs.World.{has_opened, volume_at, World, Session, OpenFork}
 use Rattle.afp_serial.specs.Sound.{IsSound, share_link, is_link_below, has_volume_open, is_file_of, is_lawful_open, is_lawful_cache, has_lawful_locks, has_typed_fields}
+use Rattle.afp_base.proofs.ListFacts.{all-snoc, all-weaker, any-at, any-longer, apart-snoc, count-none}
 
 differs : (m n : ℕ) → m < n → not (eqb m n) ≡ true
 differs m n less = ap not (ne_eqb m n (λ same. omega arith))

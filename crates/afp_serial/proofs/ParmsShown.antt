@@ -1,13 +1,13 @@
 -- What is told of a volume and of a node is shown.
 use Rattle.std.proofs.Common.{◌==◌, ◌≡◌, refl, ℕ, arith, true, ◌||◌, List, [], ◌∷◌, Option, Some, None, subst}
 use Rattle.std.specs.Prelude.{Result, Ok, Err, option_map}
+use Rattle.std.proofs.lemmas.Bool.{or_parts}
 use Rattle.afp_base.specs.declared.code.Code.{Code}
 use Rattle.afp_base.specs.declared.code.Code.TheVariants.{BitmapErr}
 use Rattle.afp_bitmap.specs.Bits.{volume_mask, file_mask, dir_mask, is_outside}
 use Rattle.afp_replies.specs.Entry.{IsNode}
 use Rattle.afp_serial.proofs.ListShown.{node-answer, within}
 use Rattle.afp_serial.specs.ParmsReplies.{VolumeIsShown, NodeIsShown}
-use Rattle.volume_spec.proofs.CallsSound.{or-none}
 use Rattle.volume_spec.proofs.Refusals.{none-first, none-holds}
 use Rattle.volume_spec.proofs.ToldValues.{node-told, volume-told}
 use Rattle.volume_spec.specs.Shared.{Opened, done_at}
@@ -23,7 +23,7 @@ pub volume-is-shown : VolumeIsShown
 unfolding get_vol_parms_refusal
 volume-is-shown v id bits small passes s t =
     let none = none-holds ((is_outside volume_mask bits || (bits == 0), BitmapErr) ∷ []) passes in
-    (omega arith, record { within = within volume_mask bits (or-none (is_outside volume_mask bits) (bits == 0) none.0).0; answer = volume-told v id bits small s t })
+    (omega arith, record { within = within volume_mask bits (or_parts (is_outside volume_mask bits) (bits == 0) none.0).0; answer = volume-told v id bits small s t })
 
 one-node : (v : VolumeState) (opens : List Opened) (file_bits dir_bits id : ℕ) (row : Row) → row_at v.rows id ≡ Some row → IsSoundVolume v → is_typed_volume v ≡ true → IsNode file_bits dir_bits (node_values v.rows opens file_bits dir_bits row)
 unfolding node_values

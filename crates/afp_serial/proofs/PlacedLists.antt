@@ -6,24 +6,15 @@ use Rattle.std.proofs.lemmas.Bool.{and_parts, and_from, cond_both, or_left, or_r
 use Rattle.std.proofs.lemmas.List.Sums.{sum_by-cons}
 use Rattle.afp_base.specs.Apart.{are_apart}
 use Rattle.afp_serial.specs.OnFork.{placed}
-
--- one of two tests
-pub or-split : (a b : Bool) {G : Type 0} → (a || b) ≡ true → (a ≡ true → G) → (b ≡ true → G) → G
-or-split true b h left right = left refl
-or-split false b h left right = right h
-
-swap-any : (a b c : Bool) → (a || (b || c)) ≡ (b || (a || c))
-swap-any true true c = refl
-swap-any true false c = refl
-swap-any false true c = refl
-swap-any false false c = refl
+use Rattle.afp_base.proofs.Facts.{contra, either, or_swap}
+use Rattle.afp_base.proofs.ListFacts.{not-any}
 
 pub any-placed : {A : Type 0} (number : A → ℕ) (new : A) (p : A → Bool) (xs : List A) → list_any p (placed number new xs) ≡ (p new || list_any p xs)
 any-placed number new p [] = refl
 any-placed number new p (x ∷ xs) =
     cond_both (nat_lt (number new) (number x)) (new ∷ x ∷ xs) (x ∷ placed number new xs) (λ l. list_any p l ≡ (p new || (p x || list_any p xs)))
     (λ before. refl)
-    (λ behind. ap (λ b. p x || b) (any-placed number new p xs) ∙ swap-any (p x) (p new) (list_any p xs))
+    (λ behind. ap (λ b. p x || b) (any-placed number new p xs) ∙ or_swap (p x) (p new) (list_any p xs))
 
 pub all-placed : {A : Type 0} (number : A → ℕ) (new : A) (p : A → Bool) (xs : List A) → p new ≡ true → list_all p xs ≡ true → list_all p (placed number new xs) ≡ true
 all-placed number new p [] here h = and_from (p new) true here refl
@@ -37,11 +28,6 @@ not-or : (a b : Bool) → not a ≡ true → not b ≡ true → not (a || b) ≡
 not-or true b p q = cc
 not-or false b p q = q
 
--- none is like those of which no one is
-all-none : {A : Type 0} (p : A → Bool) (xs : List A) → list_all (λ x. not (p x)) xs ≡ true → not (list_any p xs) ≡ true
-all-none p [] h = refl
-all-none p (x ∷ xs) h = let e = and_parts (not (p x)) (list_all (λ y. not (p y)) xs) h in not-or (p x) (list_any p xs) e.0 (all-none p xs e.1)
-
 pub apart-placed : {A : Type 0} (number : A → ℕ) (new : A) (r : A → A → Bool) (xs : List A)
     → list_all (λ x. not (r new x)) xs ≡ true → list_all (λ x. not (r x new)) xs ≡ true → are_apart r xs ≡ true → are_apart r (placed number new xs) ≡ true
 apart-placed number new r [] to from h = refl
@@ -50,7 +36,7 @@ apart-placed number new r (x ∷ xs) to from h =
     let t = and_parts (not (r new x)) (list_all (λ y. not (r new y)) xs) to in
     let f = and_parts (not (r x new)) (list_all (λ y. not (r y new)) xs) from in
     cond_both (nat_lt (number new) (number x)) (new ∷ x ∷ xs) (x ∷ placed number new xs) (λ l. are_apart r l ≡ true)
-    (λ before. and_from (not (r new x || list_any (r new) xs)) (not (list_any (r x) xs) && are_apart r xs) (not-or (r new x) (list_any (r new) xs) t.0 (all-none (r new) xs t.1)) h)
+    (λ before. and_from (not (r new x || list_any (r new) xs)) (not (list_any (r x) xs) && are_apart r xs) (not-or (r new x) (list_any (r new) xs) t.0 (not-any (r new) xs t.1)) h)
     (λ behind. and_from (not (list_any (r x) (placed number new xs))) (are_apart r (placed number new xs))
     (ap not (any-placed number new (r x) xs) ∙ not-or (r x new) (list_any (r x) xs) f.0 e.0)
     (apart-placed number new r xs t.1 f.1 e.1))
@@ -75,14 +61,9 @@ pub any-where : {A : Type 0} (p q r : A → Bool) (xs : List A) → list_all q x
 any-where p q r [] all gives h = absurd (cc)
 any-where p q r (x ∷ xs) all gives h =
     let e = and_parts (q x) (list_all q xs) all in
-    or-split (p x) (list_any p xs) h
+    either (p x) (list_any p xs) h
     (λ here. or_left (r x) (list_any r xs) (gives x e.0 here))
     (λ later. or_right (r x) (list_any r xs) (any-where p q r xs e.1 gives later))
-
-not-where : (b c : Bool) → (c ≡ true → b ≡ true) → not b ≡ true → not c ≡ true
-not-where true c gives h = cc
-not-where false true gives h = gives refl
-not-where false false gives h = refl
 
 pub apart-where : {A : Type 0} (q : A → Bool) (r s : A → A → Bool) (xs : List A) → list_all q xs ≡ true → ((a b : A) → q a ≡ true → q b ≡ true → s a b ≡ true → r a b ≡ true) → are_apart r xs ≡ true → are_apart s xs ≡ true
 apart-where q r s [] all gives h = refl
@@ -90,7 +71,7 @@ apart-where q r s (x ∷ xs) all gives h =
     let e = and_parts (q x) (list_all q xs) all in
     let f = and_parts (not (list_any (r x) xs)) (are_apart r xs) h in
     and_from (not (list_any (s x) xs)) (are_apart s xs)
-    (not-where (list_any (r x) xs) (list_any (s x) xs) (λ some. any-where (s x) q (r x) xs e.1 (λ y its is. gives x y e.0 its is) some) f.0)
+    (contra (list_any (r x) xs) (list_any (s x) xs) (λ some. any-where (s x) q (r x) xs e.1 (λ y its is. gives x y e.0 its is) some) f.0)
     (apart-where q r s xs e.1 gives f.1)
 
 -- a pair of two lists, from either side
@@ -98,7 +79,7 @@ pub any-pair : {A B : Type 0} (p : A → Bool) (q : B → Bool) (r : A → B →
     → list_any (λ x. p x && list_any (λ y. q y && r x y) ys) xs ≡ true → list_any (λ y. q y && list_any (λ x. p x && r x y) xs) ys ≡ true
 any-pair p q r [] ys h = absurd (cc)
 any-pair {B = B} p q r (x ∷ xs) ys h =
-    or-split (p x && list_any (λ y. q y && r x y) ys) (list_any (λ a. p a && list_any (λ y. q y && r a y) ys) xs) h
+    either (p x && list_any (λ y. q y && r x y) ys) (list_any (λ a. p a && list_any (λ y. q y && r a y) ys) xs) h
     (λ here.
     let e = and_parts (p x) (list_any (λ y. q y && r x y) ys) here in
     weaker (λ y. q y && r x y) ys
@@ -111,7 +92,7 @@ any-pair {B = B} p q r (x ∷ xs) ys h =
     weaker : (old : B → Bool) (zs : List B) → ((y : B) → old y ≡ true → (q y && ((p x && r x y) || list_any (λ a. p a && r a y) xs)) ≡ true) → list_any old zs ≡ true → list_any (λ y. q y && ((p x && r x y) || list_any (λ a. p a && r a y) xs)) zs ≡ true
     weaker old [] gives k = absurd (cc)
     weaker old (z ∷ zs) gives k =
-        or-split (old z) (list_any old zs) k
+        either (old z) (list_any old zs) k
         (λ here. or_left (q z && ((p x && r x z) || list_any (λ a. p a && r a z) xs)) _ (gives z here))
         (λ later. or_right (q z && ((p x && r x z) || list_any (λ a. p a && r a z) xs)) _ (weaker old zs gives later))
 

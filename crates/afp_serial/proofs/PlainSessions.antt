@@ -13,7 +13,6 @@ use Rattle.afp_serial.proofs.Keeps.{AnyCall, Keeps, after-keeps, nothing-known}
 use Rattle.afp_serial.proofs.Opened.{opened-apart}
 use Rattle.afp_serial.proofs.RowsSound.{row-sound}
 use Rattle.afp_serial.proofs.SoundParts.{ApartSessions, same_link}
-use Rattle.volume_spec.proofs.TestedLists.{any-filter, apart-places, never}
 use Rattle.afp_serial.specs.declared.ask.Ask.{Ask}
 use Rattle.afp_serial.specs.declared.ask.Ask.TheVariants as ask
 use Rattle.afp_serial.specs.declared.ask.Entry.{Entry}
@@ -26,6 +25,8 @@ use Rattle.afp_serial.specs.History.{answers, is_opened, opened_in, stand}
 use Rattle.afp_serial.specs.Laws.{LinksDiffer, CountsSessions, NeverTwice, OnlyOpens, OpensNew}
 use Rattle.afp_serial.specs.World.{has_session, session_at, World, Session, at_moment, start_world}
 use Rattle.afp_serial.specs.Sound.{share_link}
+use Rattle.afp_base.proofs.Facts.{never}
+use Rattle.afp_base.proofs.ListFacts.{any-filter, apart-places}
 
 -- no two sessions have one link
 

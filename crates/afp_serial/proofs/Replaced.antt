@@ -4,12 +4,12 @@ use Rattle.std.specs.Prelude.{count_by, ◌==◌, nat_le, nat_lt, find}
 use Rattle.std.specs.List.{list_all, list_any}
 use Rattle.std.proofs.lemmas.Bool.{and_parts, and_from, cond_both, eqb-true}
 use Rattle.afp_serial.proofs.SoundParts.{ApartSessions, sessions-parts, sessions-whole, LawfulOpens, opens-parts, opens-whole, caches-parts, caches-whole, KeptLimits, limits-parts, limits-whole, same_number, same_link, is_below, keeps_forks}
-use Rattle.volume_spec.proofs.TestedLists.{all-both, all-put, any-map, any-weaker, apart-map, apart-weaker, find-all, length-mapped, put_by, put-found}
 use Rattle.afp_serial.specs.Limits.{most_sessions}
 use Rattle.afp_serial.specs.World.{has_opened, has_session, volume_at, with_session, World, Session, OpenFork}
 use Rattle.afp_serial.specs.Sound.{IsSound, share_link, is_link_below, has_volume_open, is_file_of, is_lawful_open, is_lawful_cache, has_lawful_locks, has_typed_fields}
 use Rattle.afp_base.specs.Apart.{are_apart}
 use Rattle.afp_base.specs.Limits.{most_forks}
+use Rattle.afp_base.proofs.ListFacts.{all-both, all-put, any-map, any-weaker, apart-map, apart-weaker, find-all, length-mapped, put-found, put_by}
 
 abbrev number_of : Session → ℕ
 number_of s = s.number

@@ -1,7 +1,7 @@
 -- An answer Ok is a kept one, or is shown by its row's reply.
 use Rattle.std.proofs.Common.{◌≡◌, ◌∙◌, ap, sym, refl, subst, ℕ, Bool, true, false, not, List, [], inl, inr, ◌⊎◌, Option, Some, None}
 use Rattle.std.specs.Prelude.{◌==◌}
-use Rattle.std.proofs.lemmas.Bool.{and_parts, cond_both}
+use Rattle.std.proofs.lemmas.Bool.{and_parts, cond_both, not-true}
 use Rattle.afp_base.specs.declared.code.Code.{Code}
 use Rattle.afp_base.specs.declared.code.Code.TheVariants as code
 use Rattle.afp_replies.specs.Replies.{Shows, canonical_reply}
@@ -61,11 +61,7 @@ module _ (w : World) (e : Entry) (block : List ℕ) (ends : Bool) (knows : IsKno
     ends_not = ap ends_in (sym tells);
   })
   verdict-shown id write offset payload s (refused r) o asked attached is went tells =
-      absurd (told_ok (told_verdict (at_moment w e.at) s (refused r) o) block ends (not_ok (is_ok r.code) (and_parts (is_short r.reply) (not (is_ok r.code)) (ap refuses_shortly (sym is) ∙ verdict-short (at_moment w e.at) s (request id write offset payload) h)).1) tells)
-    where
-      not_ok : (b : Bool) → not b ≡ true → b ≡ false
-      not_ok true h = cc
-      not_ok false h = refl
+      absurd (told_ok (told_verdict (at_moment w e.at) s (refused r) o) block ends (not-true (is_ok r.code) (and_parts (is_short r.reply) (not (is_ok r.code)) (ap refuses_shortly (sym is) ∙ verdict-short (at_moment w e.at) s (request id write offset payload) h)).1) tells)
   verdict-shown id write offset payload s (runs call) outcome.Fault asked attached is went tells = absurd (told_ok (refusal_reply code.MiscErr) block ends refl tells)
   verdict-shown id write offset payload s (runs call) outcome.Done asked attached is went tells =
       let runs_to = comes-to (at_moment w e.at) s (request id write offset payload) call is in

@@ -17,7 +17,6 @@ use Rattle.afp_serial.proofs.RowsSound.{row-sound}
 use Rattle.afp_serial.proofs.SoundParts.{caches-parts, fields-parts, fields-whole}
 use Rattle.afp_serial.proofs.Refusals.{refuses_shortly, verdict-short}
 use Rattle.afp_serial.proofs.SoundRow.{is_ok, is_short}
-use Rattle.volume_spec.proofs.TestedLists.{find-all}
 use Rattle.afp_serial.proofs.Verdicts.{comes-to, repeats-kept}
 use Rattle.afp_serial.specs.declared.ask.Ask.{Ask}
 use Rattle.afp_serial.specs.declared.ask.Ask.TheVariants as ask
@@ -33,6 +32,7 @@ use Rattle.volume_spec.specs.TypedVolume.{is_quad}
 use Rattle.afp_serial.specs.World.{is_on_link, session_at, World, Session, at_moment}
 use Rattle.afp_serial.specs.Shown.{fits_frame, is_answer_to, is_parting_answer}
 use Rattle.afp_serial.specs.Sound.{IsSound, has_apart_sessions, has_lawful_opens, has_lawful_locks, is_lawful_cache, has_lawful_caches, keeps_all_limits}
+use Rattle.afp_base.proofs.ListFacts.{find-all}
 
 -- a later moment, and a drain moment, in their ranges
 is_moment-max : (m n : ℕ) → is_moment m ≡ true → is_moment n ≡ true → is_moment (max m n) ≡ true

@@ -1,7 +1,7 @@
 -- Replies that are told: each fits in a frame, and has what its call asks for.
 use Rattle.std.proofs.Common.{◌==◌, ◌≡◌, ◌∙◌, ap, sym, refl, subst, ℕ, suc, ◌+◌, ◌<◌, ◌≤◌, arith, Bool, true, ◌&&◌, ◌||◌, map, List, [], ◌∷◌, ◌++◌, length, Option, Some, None}
 use Rattle.std.specs.Prelude.{Result, Ok, Err, is_some, nat_le}
-use Rattle.std.proofs.lemmas.Bool.{le-leb, leb-false, ltb-true}
+use Rattle.std.proofs.lemmas.Bool.{le-leb, leb-false, ltb-true, or_parts}
 use Rattle.std.proofs.lemmas.List.{length-append}
 use Rattle.afp_base.specs.Limits.{payload_limit}
 use Rattle.afp_base.specs.Choice.{first_holding}
@@ -33,7 +33,6 @@ use Rattle.afp_serial.specs.Enumerate.{enumerate_reply}
 use Rattle.afp_serial.specs.GetFileDirParms.{get_file_dir_parms_reply}
 use Rattle.afp_serial.specs.ListReply.{list_entry, list_reply}
 use Rattle.afp_serial.specs.OpenDir.{open_dir_reply}
-use Rattle.volume_spec.proofs.CallsSound.{or-none}
 use Rattle.volume_spec.proofs.Refusals.{none-first, none-holds}
 use Rattle.volume_spec.proofs.ToldValues.{dir-told-id, found-told}
 use Rattle.volume_spec.proofs.TypedEdits.{directory-long, typed-parts}
@@ -80,7 +79,7 @@ next-small v dir path passes = by (new_place v.rows dir path) passes
     by : (r : Result Place Code) → behind r (λ place. first_holding (rows place)) ≡ None → v.next_id < 4294967296
     by (Ok place) h =
         let none = none-holds (rows place) h in
-        let room = or-none (nat_le most_nodes (length v.rows)) (nat_le last_next_id v.next_id) none.1.0 in
+        let room = or_parts (nat_le most_nodes (length v.rows)) (nat_le last_next_id v.next_id) none.1.0 in
         let left = leb-false last_next_id v.next_id room.1 in
         omega (arith, left)
     by (Err code) h = absurd (cc)

@@ -12,11 +12,11 @@ use Rattle.afp_serial.specs.Limits.{most_volumes}
 use Rattle.afp_serial.specs.OnVolume.{opened_on, with_state, with_volume_state}
 use Rattle.afp_serial.specs.World.{volume_at, World, OpenFork}
 use Rattle.afp_serial.specs.Sound.{IsSound, ServesVolumes, has_apart_sessions, has_lawful_caches, has_lawful_locks, has_typed_fields, has_volume_open, is_file_of, is_lawful_open}
-use Rattle.volume_spec.proofs.TestedLists.{all-both, all-place, all-weaker, any-map, any-still, any-weaker}
 use Rattle.volume_spec.specs.Shared.{Opened, is_busy}
 use Rattle.volume_spec.specs.SoundVolume.{IsSoundVolume, has_file}
 use Rattle.volume_spec.specs.TypedVolume.{is_date, is_typed_volume}
 use Rattle.volume_spec.specs.VolumeState.{VolumeState}
+use Rattle.afp_base.proofs.ListFacts.{all-both, all-place, all-weaker, any-map, any-still, any-weaker}
 
 -- lists with another element
 

@@ -2,10 +2,9 @@
 use Rattle.std.proofs.Common.{◌≡◌, ◌∙◌, ap, refl, ℕ, zero, suc, ℤ, pos, negsuc, ◌+ℤ◌, ◌+◌, ◌-◌, ◌≤◌, arith, Bool, true, false, List, [], ◌∷◌, ◌++◌, length, take, drop, replicate, Some, None}
 use Rattle.std.specs.Prelude.{nat_abs}
 use Rattle.std.specs.List.{list_all}
-use Rattle.std.proofs.lemmas.Bool.{and_parts, and_from, le-leb, ltb-true}
+use Rattle.std.proofs.lemmas.Bool.{and_parts, le-leb, ltb-true}
 use Rattle.std.proofs.lemmas.Int.{ints}
 use Rattle.std.proofs.lemmas.List.{length-append}
-use Rattle.std.proofs.lemmas.List.Folds.{list_all-append}
 use Rattle.afp_base.specs.Limits.{payload_limit, most_fork_bytes}
 use Rattle.afp_base.proofs.DefinitionLaws.{length-resized}
 use Rattle.afp_base.specs.Choice.{first_holding}
@@ -34,9 +33,10 @@ use Rattle.afp_serial.specs.World.{World, Session}
 use Rattle.volume_spec.proofs.ForkEffects.{files-stay, fork-bytes-typed, fork-few, fork-sound, fork-typed, new-few}
 use Rattle.volume_spec.proofs.TypedEdits.{drop-bytes, take-bytes}
 use Rattle.volume_spec.specs.ForkEffect.{fork_effect, would_pass}
-use Rattle.volume_spec.specs.TypedVolume.{are_bytes, is_byte}
+use Rattle.volume_spec.specs.TypedVolume.{are_bytes}
 use Rattle.volume_spec.specs.VolumeState.{VolumeState}
 use Rattle.volume_spec.specs.Walk.{row_at}
+use Rattle.volume_spec.proofs.NameBytes.{bytes-append}
 
 -- the world with other bytes
 
@@ -75,20 +75,17 @@ keeper-is f false index names = absurd (cc)
 
 -- bytes
 
-both-bytes : (a b : List ℕ) → are_bytes a ≡ true → are_bytes b ≡ true → are_bytes (a ++ b) ≡ true
-both-bytes a b p q = list_all-append is_byte a b ∙ and_from (are_bytes a) (are_bytes b) p q
-
 zero-bytes : (n : ℕ) → are_bytes (replicate n 0) ≡ true
 zero-bytes zero = refl
 zero-bytes (suc n) = zero-bytes n
 
 resized-bytes : (old : List ℕ) (n : ℕ) → are_bytes old ≡ true → are_bytes (resized old n) ≡ true
-resized-bytes old n h = both-bytes (take n old) (replicate (n - length old) 0) (take-bytes n old h) (zero-bytes (n - length old))
+resized-bytes old n h = bytes-append (take n old) (replicate (n - length old) 0) (take-bytes n old h) (zero-bytes (n - length old))
 
 spliced-bytes : (old : List ℕ) (at : ℕ) (piece : List ℕ) → are_bytes old ≡ true → are_bytes piece ≡ true → are_bytes (splice old at piece) ≡ true
 spliced-bytes old at [] h new = h
 spliced-bytes old at (b ∷ bs) h new =
-    both-bytes (resized old at ++ (b ∷ bs)) (drop (at + length (b ∷ bs)) old) (both-bytes (resized old at) (b ∷ bs) (resized-bytes old at h) new) (drop-bytes (at + length (b ∷ bs)) old h)
+    bytes-append (resized old at ++ (b ∷ bs)) (drop (at + length (b ∷ bs)) old) (bytes-append (resized old at) (b ∷ bs) (resized-bytes old at h) new) (drop-bytes (at + length (b ∷ bs)) old h)
 
 old-bytes : (w : World) (s : Session) (reference : ℕ) (f : OpenFile) → IsHeld w s reference f → IsSound w → are_bytes (bytes_of f) ≡ true
 old-bytes w s reference f held h =

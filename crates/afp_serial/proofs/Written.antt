@@ -11,7 +11,6 @@ use Rattle.afp_base.specs.DenyMode.{Fork, is_one_fork}
 use Rattle.afp_base.specs.ForkBytes.{HasLength, KeepsFront, LeavesBefore, LeavesBehind, PutsBetween, Reaches, resized, splice, taken}
 use Rattle.afp_replies.specs.declared.reply.Reply.{Reply}
 use Rattle.afp_serial.proofs.OnForkRows.{IsHeld, IsHeldFile, held-file, sound-file}
-use Rattle.afp_serial.proofs.PlacedLists.{or-split}
 use Rattle.afp_serial.proofs.VolumeStates.{state-at, state-other}
 use Rattle.afp_serial.specs.World.{with_empty_reply, volume_at, World, Session, OpenFork}
 use Rattle.afp_serial.specs.Fork.{is_other_length, length_for, set_fork_parms_row}
@@ -24,6 +23,7 @@ use Rattle.volume_spec.proofs.ForkEffects.{fork-given, fork-lets-be}
 use Rattle.volume_spec.specs.ForkEffect.{fork_effect, fork_of, written}
 use Rattle.volume_spec.specs.VolumeState.{Row as File, VolumeState}
 use Rattle.volume_spec.specs.Walk.{row_at}
+use Rattle.afp_base.proofs.Facts.{beq-itself, either}
 
 -- seen under a reference
 
@@ -44,10 +44,6 @@ other-bytes now false bytes file false = refl
 pub one-kind : (f g : Fork) → is_one_fork g f ≡ true → g ≡ f
 one-kind f g h = (one_fork g f).0 h
 
-pub beq-own : (b : Bool) → beq b b ≡ true
-beq-own true = refl
-beq-own false = refl
-
 -- the volume of the fork, after its bytes are others
 given-at : (w : World) (s : Session) (reference : ℕ) (f : OpenFile) (bytes : List ℕ) → IsHeld w s reference f → volume_at (with_state w.volumes f.fork.fork.volume (fork_effect w.latest f.file.id f.fork.fork.resource bytes true f.volume)) f.fork.fork.volume ≡ Some (fork_effect w.latest f.file.id f.fork.fork.resource bytes true f.volume)
 given-at w s reference f bytes held = state-at w.volumes f.fork.fork.volume f.volume (fork_effect w.latest f.file.id f.fork.fork.resource bytes true f.volume) held.there
@@ -65,7 +61,7 @@ bytes-seen w s t reference other f g bytes h is_f is_g same =
     (ap (λ (k : Fork). row_at new.rows k.node) one ∙ ap (row_at new.rows) (sym its.node) ∙ fork-given f.volume w.latest f.file.id f.fork.fork.resource true bytes f.file row)
     ∙ ap Some (ap (λ (k : Fork). fork_of k.resource (written w.latest f.fork.fork.resource bytes true f.file)) one
     ∙ other-bytes w.latest f.fork.fork.resource bytes f.file f.fork.fork.resource
-    ∙ ap (λ b. cond b bytes (fork_of f.fork.fork.resource f.file)) (beq-own f.fork.fork.resource))
+    ∙ ap (λ b. cond b bytes (fork_of f.fork.fork.resource f.file)) (beq-itself f.fork.fork.resource))
 
 pub writes-seen : (w : World) (s t : Session) (reference other : ℕ) (f g : OpenFile) (asked : WriteAsked) (reply : ℕ → Reply) → IsSound w → open_file w s reference ≡ Some f → open_file w t other ≡ Some g → is_one_fork g.fork.fork f.fork.fork ≡ true → writes_some asked ≡ true
     → bytes_under ((writes reference asked reply).effect w s).world t other ≡ Some (written_bytes f asked)
@@ -176,7 +172,7 @@ change-holds s bytes at piece (puts place (b ∷ bs)) missed h =
     let reach : at + length piece ≤ length bytes = h.reach in
     record {
       reach = omega (arith, len, reach);
-      same = λ k low. or-split (nat_le (place + length (b ∷ bs)) at) (nat_le (at + length piece) place) (not-empty (length (b ∷ bs) == 0) refl missed)
+      same = λ k low. either (nat_le (place + length (b ∷ bs)) at) (nat_le (at + length piece) place) (not-empty (length (b ∷ bs) == 0) refl missed)
           (λ ends. let far = leb-true (place + length (b ∷ bs)) at ends in s.behind bytes (b ∷ bs) place (at + k) (omega (arith, far)) ∙ h.same k low)
           (λ begins. let far = leb-true (at + length piece) place begins in s.before bytes (b ∷ bs) place (at + k) (omega (arith, far, low)) ∙ h.same k low);
     }

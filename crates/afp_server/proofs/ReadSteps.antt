@@ -20,10 +20,11 @@ use Rattle.afp_server.specs.declared.serve.LinkEnd.{LinkEnd}
 use Rattle.afp_server.specs.declared.serve.LinkEnd.TheVariants as links
 use Rattle.afp_server.specs.declared.stage.Stage.{Stage}
 use Rattle.afp_server.specs.declared.stage.Stage.TheVariants as stages
-use Rattle.afp_server.proofs.Moving.{moves-join, added-none, left-none, cost_of-append}
+use Rattle.afp_server.proofs.Moving.{moves-join, left-none, cost_of-append}
 use Rattle.afp_server.proofs.Passing.{passed-more, idles-calls, through-all}
 use Rattle.afp_server.proofs.Serving.{moves-events}
 use Rattle.afp_server.proofs.Traces.{events_in-append, frames_in-append, replies_in-append, steps_in-append, bytes_read-append, follows-snoc, each-snoc, fills-later}
+use Rattle.afp_base.proofs.Facts.{nothing-added}
 
 -- The link waits for more: less than a frame is left, and it may read.
 pub record Waits (start : Start) (p : Point) (cost : ℕ) : Type 0 where
@@ -50,7 +51,7 @@ pub moves-read : (a b : LinkState) (room : List ℕ) (n : ℕ) → ReadsPiece a 
 moves-read a b room n r = record {
   told = r.events;
   coming = r.coming ∙ ap (λ (bytes : List ℕ). option_map (λ left. bytes ++ left) b.coming) (sym (append-nil (take n room)));
-  written = r.written ∙ added-none a.written;
+  written = r.written ∙ nothing-added a.written;
   quiets = (omega (arith, r.quiets), omega (arith, r.quiets), omega (arith, r.quiets));
   read_faults = r.read_faults;
   write_faults = (omega (arith, r.write_faults), omega (arith, r.write_faults), omega (arith, r.write_faults));
@@ -60,7 +61,7 @@ pub moves-quiet : (a b : LinkState) → ReadsQuiet a b → Moves a (quiet a.writ
 moves-quiet a b r = record {
   told = r.events;
   coming = sym r.coming ∙ left-none b.coming;
-  written = r.written ∙ added-none a.written;
+  written = r.written ∙ nothing-added a.written;
   quiets = r.quiets;
   read_faults = r.read_faults;
   write_faults = (omega (arith, r.write_faults), omega (arith, r.write_faults), omega (arith, r.write_faults));
@@ -68,9 +69,9 @@ moves-quiet a b r = record {
 
 pub moves-end : (a b : LinkState) → ReadsEnd a b → Moves a [] [] 0 b
 moves-end a b r = record {
-  told = r.events ∙ added-none a.events;
+  told = r.events ∙ nothing-added a.events;
   coming = sym r.coming ∙ left-none b.coming;
-  written = r.written ∙ added-none a.written;
+  written = r.written ∙ nothing-added a.written;
   quiets = (omega (arith, r.quiets), omega (arith, r.quiets), omega (arith, r.quiets));
   read_faults = r.read_faults;
   write_faults = (omega (arith, r.write_faults), omega (arith, r.write_faults), omega (arith, r.write_faults));
@@ -78,9 +79,9 @@ moves-end a b r = record {
 
 pub moves-fault : (a b : LinkState) → FailsToRead a b → Moves a [] [] 0 b
 moves-fault a b r = record {
-  told = r.events ∙ added-none a.events;
+  told = r.events ∙ nothing-added a.events;
   coming = sym r.coming ∙ left-none b.coming;
-  written = r.written ∙ added-none a.written;
+  written = r.written ∙ nothing-added a.written;
   quiets = (omega (arith, r.quiets), omega (arith, r.quiets), omega (arith, r.quiets));
   read_faults = r.read_faults.0;
   write_faults = (omega (arith, r.write_faults), omega (arith, r.write_faults), omega (arith, r.write_faults));

@@ -54,5 +54,5 @@ all_done [] none = All-nil (λ (e : Entry). e.outcome ≡ Done)
 all_done (e ∷ es) none = All-cons (λ (x : Entry). x.outcome ≡ Done) e es (is_done e.outcome (omega arith)) (all_done es (omega arith))
 
 pub meets_no_fault : {L P K : Type 0} (state : L → LinkState) (passed : P → Passed) (kept_by : Keeping K) → MeetsNoFault state passed kept_by
-meets_no_fault state passed kept_by house keepers limit clock old end new shown s all low =
-    all_done shown.history (by_end state passed house limit old (before_asks house s.now s.kept) end new shown s.serves (s.faultless all) low refl)
+meets_no_fault state passed kept_by house keepers limit clock old end new shown s same low =
+    all_done shown.history (by_end state passed house limit old (before_asks house s.now s.kept) end new shown s.serves same (omega (arith, same, low)) refl)

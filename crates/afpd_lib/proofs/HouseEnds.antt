@@ -1,9 +1,10 @@
 -- Serving a house over keepers, from serving its core.
-use Rattle.std.proofs.Common.{◌≡◌, ◌∙◌, ap, sym, refl, subst, ℕ, suc, Bool, true, inl, inr, List, [], ◌∷◌, length, map, Some, None, arith}
+use Rattle.std.proofs.Common.{◌≡◌, ◌∙◌, ap, sym, refl, subst, ℕ, suc, Bool, true, inl, inr, List, [], ◌∷◌, length, map, Some, arith}
 use Rattle.std.specs.Prelude.{IfSome, Option, slice_get, sum}
 use Rattle.std.specs.List.{list_all}
 use Rattle.std.proofs.lemmas.Bool.{and_from, and_parts}
 use Rattle.std.proofs.lemmas.List.{length-map}
+use Rattle.std.proofs.lemmas.Option.{same_Some}
 use Rattle.afp_base.specs.Counts.{counted}
 use Rattle.afp_core.specs.Loads.{IsLoadedServer}
 use Rattle.afp_core_keepers.specs.Loads.{LoadEach}
@@ -16,9 +17,11 @@ use Rattle.afp_outside.specs.Listener.{DoorState}
 use Rattle.afp_serial.specs.History.{opened_in}
 use Rattle.afp_serial.specs.Household.{Household}
 use Rattle.afp_serial.specs.Shown.{Shown}
+use Rattle.afp_serial.specs.World.{World}
+use Rattle.afp_core_state.specs.Holding.{HoldEach}
 use Rattle.volume_keeper_commit.specs.Kept.{KeptState}
 use Rattle.afpd_lib.proofs.OneHouse.{one_house}
-use Rattle.afpd_lib.specs.Keeping.{Keeping}
+use Rattle.afpd_lib.specs.Keeping.{Keeping, steady_in}
 use Rattle.afpd_lib.specs.Links.{ServesUpTo}
 use Rattle.afpd_lib.specs.Plain.{AreCounts, Asks, EndsPlain, ServesHouse, house_of}
 use Rattle.afpd_lib.specs.lemma.Plain.{CoreCounts, EndsCore, EndsHouse, ServesCore, shown_at}
@@ -29,13 +32,6 @@ use Rattle.afpd_lib.specs.declared.plain.PlainEnd.{PlainEnd}
 use Rattle.afpd_lib.specs.declared.plain.PlainEnd.TheVariants as plain
 
 -- where all are sure, no count has moved
-some-is : (x a : ℕ) → Some x ≡ Some a → x ≡ a
-some-is x a h = ap (λ o. from o) h
-  where
-    from : Option ℕ → ℕ
-    from None = a
-    from (Some y) = y
-
 all-stand : (sure : List Bool) (xs ys : List ℕ) → length ys ≡ length xs → length sure ≡ length xs → list_all (λ b. b) sure ≡ true
     → ((index : ℕ) → slice_get sure index ≡ Some true → slice_get ys index ≡ slice_get xs index) → ys ≡ xs
 all-stand sure [] [] many same all stand = refl
@@ -44,12 +40,12 @@ all-stand sure (x ∷ xs) [] many same all stand = absurd (omega (arith, many))
 all-stand [] (x ∷ xs) (y ∷ ys) many same all stand = absurd (omega (arith, same))
 all-stand (s ∷ sure) (x ∷ xs) (y ∷ ys) many same all stand =
     let both = and_parts s (list_all (λ b. b) sure) all in
-    let first = some-is y x (stand 0 (ap Some both.0)) in
+    let first = same_Some y x (stand 0 (ap Some both.0)) in
     let rest = all-stand sure xs ys (omega (arith, many)) (omega (arith, same)) both.1 (λ index h. stand (suc index) h) in
     λ i. first i ∷ rest i
 
 module _ {K : Type 0} (kept_by : Keeping K) (now : ℕ) where
-  all-kept : (names : List (List ℕ)) (keepers : List K) (kept : List KeptState) → LoadEach kept_by.records kept_by.sure kept_by.faults now names keepers kept → list_all kept_by.sure keepers ≡ true
+  all-kept : (names : List (List ℕ)) (keepers : List K) (kept : List KeptState) → LoadEach (steady_in kept_by) kept_by.sure kept_by.faults now names keepers kept → list_all kept_by.sure keepers ≡ true
       → list_all (λ b. b) (map (λ k. k.sure) kept) ≡ true
   all-kept [] [] [] loads all = refl
   all-kept [] [] (one ∷ kept) loads all = absurd loads
@@ -60,9 +56,22 @@ module _ {K : Type 0} (kept_by : Keeping K) (now : ℕ) where
       let both = and_parts (kept_by.sure keeper) (list_all kept_by.sure keepers) all in
       and_from one.sure (list_all (λ b. b) (map (λ k. k.sure) kept)) (loads.0.0.sure_is ∙ both.0) (all-kept names keepers kept loads.1 both.1)
 
+-- volumes are loaded beside keepers that are so sure
+sures-kept : {K : Type 0} (kept_by : Keeping K) (now : ℕ) (names : List (List ℕ)) (keepers : List K) (kept : List KeptState) → LoadEach (steady_in kept_by) kept_by.sure kept_by.faults now names keepers kept
+    → map (λ k. k.sure) kept ≡ map kept_by.sure keepers
+sures-kept kept_by now [] [] [] loads = refl
+sures-kept kept_by now [] [] (one ∷ kept) loads = absurd loads
+sures-kept kept_by now [] (keeper ∷ keepers) kept loads = absurd loads
+sures-kept kept_by now (name ∷ names) [] kept loads = absurd loads
+sures-kept kept_by now (name ∷ names) (keeper ∷ keepers) [] loads = absurd loads
+sures-kept kept_by now (name ∷ names) (keeper ∷ keepers) (one ∷ kept) loads =
+    let first = loads.0.0.sure_is in
+    let rest = sures-kept kept_by now names keepers kept loads.1 in
+    λ i. first i ∷ rest i
+
 -- where all keepers are sure, their counts stand
 stands : {K : Type 0} → (kept_by : Keeping K) (house : Household) (now : ℕ) (keepers : List K) (core done : ServerState)
-    → (l : IsLoadedServer kept_by.records kept_by.sure kept_by.faults house now keepers core) → SureKept core done → list_all kept_by.sure keepers ≡ true → sum done.faults ≡ sum (map (λ k. k.faults) l.kept)
+    → (l : IsLoadedServer (steady_in kept_by) kept_by.sure kept_by.faults house now keepers core) → SureKept core done → list_all kept_by.sure keepers ≡ true → sum done.faults ≡ sum (map (λ k. k.faults) l.kept)
 stands kept_by house now keepers core done l k all =
     let faults : core.faults ≡ map (λ k. k.faults) l.kept = ap (λ (c : ServerState). c.faults) l.start in
     let sure : core.sure ≡ map (λ k. k.sure) l.kept = ap (λ (c : ServerState). c.sure) l.start in
@@ -70,8 +79,8 @@ stands kept_by house now keepers core done l k all =
     let each : list_all (λ b. b) core.sure ≡ true = ap (list_all (λ b. b)) sure ∙ all-kept kept_by now house.volumes keepers l.kept l.loaded all in
     ap sum (all-stand core.sure core.faults done.faults k.many many each k.stand ∙ faults)
 
-module _ {L P K : Type 0} (state : L → LinkState) (passed : P → Passed) (kept_by : Keeping K) (house : Household) (keepers : List K) (limit : ℕ) (clock : Option ℕ) (old new : DoorState L) (now : ℕ) (core : ServerState) (l : IsLoadedServer kept_by.records kept_by.sure kept_by.faults house now keepers core) (told : IfSome clock (λ moment. now ≡ moment)) where
-  core-serves : (end : DoorEnd) (shown : Shown) → ServesCore state passed house core limit old end new shown → ServesHouse state passed kept_by house keepers limit clock old end new shown
+module _ {L P K : Type 0} (state : L → LinkState) (passed : P → Passed) (kept_by : Keeping K) (house : Household) (keepers : List K) (limit : ℕ) (clock : Option ℕ) (old new : DoorState L) (now : ℕ) (core : ServerState) (l : IsLoadedServer (steady_in kept_by) kept_by.sure kept_by.faults house now keepers core) (told : IfSome clock (λ moment. now ≡ moment)) where
+  core-serves : (end : DoorEnd) (shown : Shown) → ServesCore state passed kept_by house core limit old end new shown → ServesHouse state passed kept_by house keepers limit clock old end new shown
   core-serves end shown s = record {
     now = now;
     told = told;
@@ -80,7 +89,11 @@ module _ {L P K : Type 0} (state : L → LinkState) (passed : P → Passed) (kep
     serves = subst (λ (c : ServerState). ServesUpTo state passed house limit old (shown_at c) end new shown) l.start s.serves;
     sound = s.sound;
     own = s.own;
-    faultless = λ all. s.keeps.2 ∙ stands kept_by house now keepers core s.keeps.0 l s.keeps.1 all;
+    faultless = λ all. s.counted ∙ stands kept_by house now keepers core s.done l s.keeps all;
+    last = s.held.keepers;
+    hold = subst (λ (w : World). HoldEach kept_by.records s.held.keepers w.volumes) s.stands s.held.hold;
+    counted = ap sum s.held.counted ∙ sym s.counted;
+    so_sure = s.held.so_sure ∙ s.keeps.sure ∙ ap (λ (c : ServerState). c.sure) l.start ∙ sures-kept kept_by now house.volumes keepers l.kept l.loaded;
   }
 
   core-counts : (shown : Shown) (counts : Counts) → CoreCounts core shown counts → AreCounts shown counts
@@ -89,7 +102,7 @@ module _ {L P K : Type 0} (state : L → LinkState) (passed : P → Passed) (kep
     sessions = c.sessions ∙ ap (λ (s : ServerState). counted (opened_in shown.start shown.history) s.opened) l.start;
   }
 
-  pub core-ends : (end : PlainEnd) → EndsCore state passed house core limit old new end → EndsHouse state passed kept_by house keepers limit clock old new end
+  pub core-ends : (end : PlainEnd) → EndsCore state passed kept_by house core limit old new end → EndsHouse state passed kept_by house keepers limit clock old new end
   core-ends plain.Refused e = absurd e
   core-ends (plain.BadRecord index hex reason) e = absurd e
   core-ends (plain.LoadFailed index) e = absurd e

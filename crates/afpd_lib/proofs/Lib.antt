@@ -7,3 +7,4 @@ pub mod PlainLaws
 pub mod Ports
 pub mod VolumeWords
 pub mod ReportLemmas
+pub mod CoreEnds

@@ -1,17 +1,11 @@
 -- A report is written from step to step.
-use Rattle.std.proofs.Common.{◌≡◌, ℕ, ◌-◌, ◌≤◌, List, ◌++◌, length, take, drop, length-drop, length-append, Bool, true, false, refl, sym, ap, subst, ◌∙◌, append_assoc, arith}
+use Rattle.std.proofs.Common.{◌≡◌, ℕ, ◌-◌, List, ◌++◌, length, take, drop, length-append, Bool, true, false, sym, ap, subst, ◌∙◌, append_assoc, arith}
 use Rattle.afp_base.specs.Counts.{CountsOn}
-use Rattle.std.proofs.lemmas.List.{take-append-drop, take_all}
-use Rattle.std.specs.Prelude.{Option, Some, None, option_map}
+use Rattle.std.specs.Prelude.{option_map}
 use Rattle.afp_outside.specs.Sink.{SinkState, SinkTakes}
 use Rattle.afpd_lib.specs.Reporting.{Reports, ReportsAll}
-
-added-added : (o : Option (List ℕ)) (xs ys : List ℕ) → option_map (λ before. before ++ ys) (option_map (λ before. before ++ xs) o) ≡ option_map (λ before. before ++ (xs ++ ys)) o
-added-added None xs ys = refl
-added-added (Some zs) xs ys = ap Some (append_assoc zs xs ys)
-
-cut_at : (xs : List ℕ) (n : ℕ) → n ≤ length xs → xs ≡ take n xs ++ take (length xs - n) (drop n xs)
-cut_at xs n h = sym (take-append-drop n xs) ∙ ap (λ ys. take n xs ++ ys) (sym (take_all (length xs - n) (drop n xs) (omega (arith, length-drop n xs))))
+use Rattle.afp_base.proofs.Facts.{added-added}
+use Rattle.afp_base.proofs.ListFacts.{cut_at}
 
 pub reports-more : (a b c : SinkState) (text sent left : List ℕ) (n : ℕ) → text ≡ sent ++ left → Reports a sent b → SinkTakes b left n c
     → (x : List ℕ) × (text ≡ x ++ take (length left - n) (drop n left)) × Reports a x c

@@ -1,12 +1,17 @@
 -- What keepers tell proofs (this profile).
 use Rattle.std.specs.Prelude.{ℕ, Bool, Option}
-use Rattle.record_keeper.specs.Records.{Records}
+use Rattle.record_keeper.specs.Records.{Records, steadily}
 
--- the records of a keeper, where it tells them; whether it never fails; and how often it has failed
+-- the records of a keeper, where it tells them; whether it goes on telling them; whether it never fails; and how often it has failed
 pub record Keeping (K : Type 0) : Type 0 where
   pub records : K → Option Records
+  pub steady : K → Bool
   pub sure : K → Bool
   pub faults : K → ℕ
 
-abbrev pub keeping : {K : Type 0} → (K → Option Records) → (K → Bool) → (K → ℕ) → Keeping K
-keeping records sure faults = record { records = records; sure = sure; faults = faults }
+abbrev pub keeping : {K : Type 0} → (K → Option Records) → (K → Bool) → (K → Bool) → (K → ℕ) → Keeping K
+keeping records steady sure faults = record { records = records; steady = steady; sure = sure; faults = faults }
+
+-- the records of a keeper that goes on telling them
+abbrev pub steady_in : {K : Type 0} → Keeping K → K → Option Records
+steady_in kept_by = steadily kept_by.steady kept_by.records

@@ -6,6 +6,7 @@ use Rattle.volume_keeper_commit.specs.Kept.{KeptState}
 use Rattle.volume_keeper.specs.declared.loading.LoadFault.{LoadFault}
 use Rattle.volume_keeper.specs.declared.loading.LoadFault.TheVariants as load
 use Rattle.afp_core_keepers.specs.Loads.{LoadEach, LoadsStopAt}
+use Rattle.afp_core_state.specs.Holding.{HoldEach}
 use Rattle.afp_core_state.specs.KeptWorld.{volumes_of}
 use Rattle.afp_core.specs.Places.{upto}
 use Rattle.afp_core.specs.declared.counts.Counts.{Counts}
@@ -14,12 +15,12 @@ use Rattle.afp_outside.specs.Gate.{Passed}
 use Rattle.afp_outside.specs.Link.{LinkState}
 use Rattle.afp_outside.specs.Listener.{DoorState}
 use Rattle.afp_outside.specs.Sink.{SinkState}
-use Rattle.afp_serial.specs.History.{opened_in}
+use Rattle.afp_serial.specs.History.{opened_in, stand}
 use Rattle.afp_serial.specs.Household.{Household, household}
 use Rattle.afp_serial.specs.HouseFault.{house_fault}
 use Rattle.afp_serial.specs.Shown.{Shown, IsSoundShown}
 use Rattle.afp_serial.specs.World.{start_world}
-use Rattle.afpd_lib.specs.Keeping.{Keeping}
+use Rattle.afpd_lib.specs.Keeping.{Keeping, steady_in}
 use Rattle.afpd_lib.specs.Links.{ServesUpTo}
 use Rattle.afpd_lib.specs.Reporting.{Reports, ReportsPart, bad_line, bad_words, counts_line, fault_line, no_memory}
 use Rattle.afpd_lib.specs.Words.{WordValues, IsWords}
@@ -52,22 +53,27 @@ pub record AreCounts (shown : Shown) (counts : Counts) : Type 0 where
 
 -- The volumes of a house were loaded from their keepers at a moment of the clock, and the links of a door were served, out of a history that
 -- began with them, up to so many; and they ended so. The history is lawful from a sound start. Each of its entries is an ask of one of the links,
--- and where all keepers are sure, none has failed.
+-- and where all keepers are sure, none has failed. There are keepers at the end, as sure as those at the start, which counted its faults, and each holds
+-- the volume at its place of the last world.
 pub record ServesHouse {L P K : Type 0} (state : L → LinkState) (passed : P → Passed) (kept_by : Keeping K) (house : Household) (keepers : List K) (limit : ℕ) (clock : Option ℕ) (old : DoorState L) (end : DoorEnd) (new : DoorState L) (shown : Shown) : Type 0 where
   pub now : ℕ
   pub told : IfSome clock (λ moment. now ≡ moment)
   pub kept : List KeptState
-  pub loaded : LoadEach kept_by.records kept_by.sure kept_by.faults now house.volumes keepers kept
+  pub loaded : LoadEach (steady_in kept_by) kept_by.sure kept_by.faults now house.volumes keepers kept
   pub serves : ServesUpTo state passed house limit old (before_asks house now kept) end new shown
   pub sound : IsSoundShown shown
   pub own : shown.mine ≡ upto (length shown.history)
   pub faultless : list_all kept_by.sure keepers ≡ true → shown.faults ≡ (before_asks house now kept).faults
+  pub last : List K
+  pub hold : HoldEach kept_by.records last (stand shown.start shown.history).volumes
+  pub counted : sum (map kept_by.faults last) ≡ shown.faults
+  pub so_sure : map kept_by.sure last ≡ map kept_by.sure keepers
 
 -- The load of the volume at an index was the first that gave none. A bad record is the first of those of its keeper, where they are told.
 pub record FailsToLoad {K : Type 0} (kept_by : Keeping K) (house : Household) (keepers : List K) (clock : Option ℕ) (index : ℕ) (fault : LoadFault) : Type 0 where
   pub now : ℕ
   pub told : IfSome clock (λ moment. now ≡ moment)
-  pub stops : LoadsStopAt kept_by.records kept_by.sure kept_by.faults now house.volumes keepers index fault
+  pub stops : LoadsStopAt (steady_in kept_by) kept_by.sure kept_by.faults now house.volumes keepers index fault
 
 -- The same for the words: by the house that they ask for, up to as many links as they say.
 pub record ServesWords {L P K : Type 0} (state : L → LinkState) (passed : P → Passed) (kept_by : Keeping K) (words : List (List ℕ)) (keepers : List K) (key : List ℕ) (clock : Option ℕ) (old : DoorState L) (end : DoorEnd) (new : DoorState L) (shown : Shown) : Type 0 where

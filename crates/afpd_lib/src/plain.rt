@@ -88,11 +88,13 @@ fn serve_core<K: Keeper, N: Listener, G: Gate>(
     gate: &G,
 ) -> PlainEnd
     requires { (N.door_state door.old).closed ≡ false }
-    ensures { EndsCore N.Link.link_state G.passed house.now core links (N.door_state door.old) (N.door_state door.new) result }
+    ensures { EndsCore N.Link.link_state G.passed (keeping K.records K.steady K.sure K.faults) house.now core links (N.door_state door.old) (N.door_state door.new) result }
 {
     let mut teller = ListTeller::new(alloc, core);
     let end = serve_links(alloc, house, door, &mut teller, gate, links);
-    let counts = teller.core().counts();
+    let served = teller.core();
+    let counts = served.counts();
+    served.keepers_hold();
     // A settle that fails has no place in the report.
     let _retired = teller.into_core().retire();
     match end {
@@ -127,7 +129,7 @@ fn serve_house<K: Keeper, N: Listener, C: Clock, G: Gate>(
     gate: &G,
 ) -> PlainEnd
     requires { (N.door_state door.old).closed ≡ false }
-    ensures { EndsHouse N.Link.link_state G.passed (keeping K.records K.sure K.faults) house.now keepers.items links (C.moment_told clock.now) (N.door_state door.old) (N.door_state door.new) result }
+    ensures { EndsHouse N.Link.link_state G.passed (keeping K.records K.steady K.sure K.faults) house.now keepers.items links (C.moment_told clock.now) (N.door_state door.old) (N.door_state door.new) result }
 {
     match Core::new(alloc, house, keepers, clock.now()) {
         Ok(core) => serve_core(alloc, house, core, links, door, gate),
@@ -148,7 +150,7 @@ fn run<K: Keeper, N: Listener, C: Clock, G: Gate>(
     token_key: [u8; 32],
 ) -> PlainEnd
     requires { (N.door_state door.old).closed ≡ false }
-    ensures { EndsPlain N.Link.link_state G.passed (keeping K.records K.sure K.faults) (map (λ word. string_bytes word) words.now) keepers.items token_key (C.moment_told clock.now) (N.door_state door.old) (N.door_state door.new) result }
+    ensures { EndsPlain N.Link.link_state G.passed (keeping K.records K.steady K.sure K.faults) (map (λ word. string_bytes word) words.now) keepers.items token_key (C.moment_told clock.now) (N.door_state door.old) (N.door_state door.new) result }
 {
     match read_words(alloc, words) {
         Ok(words) => match house_for(alloc, &words, token_key) {
@@ -218,7 +220,7 @@ fn serve_all<K: Keeper, N: Listener, C: Clock, G: Gate, O: Sink>(
     report: &mut O,
 ) -> u8
     requires { (N.door_state door.old).closed ≡ false }
-    ensures { IsPlainRun N.Link.link_state G.passed (keeping K.records K.sure K.faults) (map (λ word. string_bytes word) words.now) keepers.items token_key (C.moment_told clock.now) (N.door_state door.old) (N.door_state door.new) (O.sink_state report.old) (O.sink_state report.new) result }
+    ensures { IsPlainRun N.Link.link_state G.passed (keeping K.records K.steady K.sure K.faults) (map (λ word. string_bytes word) words.now) keepers.items token_key (C.moment_told clock.now) (N.door_state door.old) (N.door_state door.new) (O.sink_state report.old) (O.sink_state report.new) result }
 {
     let end = run(alloc, words, keepers, door, clock, gate, token_key);
     report_end(end, report)
@@ -244,7 +246,7 @@ pub fn afpd_plain<N: Listener, C: Clock, G: Gate, O: Sink>(
     report: &mut O,
 ) -> u8
     requires { (N.door_state door.old).closed ≡ false }
-    ensures { IsPlainRun N.Link.link_state G.passed (keeping records sure faults) (map (λ word. string_bytes word) words.now) keepers.items token_key (C.moment_told clock.now) (N.door_state door.old) (N.door_state door.new) (O.sink_state report.old) (O.sink_state report.new) result }
+    ensures { IsPlainRun N.Link.link_state G.passed (keeping records steady sure faults) (map (λ word. string_bytes word) words.now) keepers.items token_key (C.moment_told clock.now) (N.door_state door.old) (N.door_state door.new) (O.sink_state report.old) (O.sink_state report.new) result }
 {
     serve_all(alloc, words, keepers, door, clock, gate, token_key, report)
 }

@@ -1,9 +1,9 @@
 -- The frames of a stream are printed one after the other.
 use Rattle.std.proofs.Common.{◌≡◌, ℕ, ◌+◌, ◌≤◌, Bool, true, false, inl, inr, List, [], ◌∷◌, ◌++◌, length, take, min, ◌-◌, refl, sym, ap, ◌∙◌, subst, append_assoc, append-nil, length-append, length-take, take_all, arith}
-use Rattle.std.specs.Prelude.{Option, Some, None, option_map}
+use Rattle.std.specs.Prelude.{Option, option_map}
 use Rattle.afp_base.specs.Counts.{CountsOn}
 use Rattle.afp_outside.specs.Sink.{SinkState}
-use Rattle.afp_outside.specs.Source.{SourceState, SourceGives}
+use Rattle.afp_outside.specs.Source.{SourceState, SourceGives, LastReadWithin}
 use Rattle.dsi_frame.specs.Buffered.{Buffered, buffer_length}
 use Rattle.dsi_frame.specs.Frame.{Frame, header_of, header_length, IsBadHeader}
 use Rattle.dsi_frame.specs.Stream.{Begins, Spelled}
@@ -19,6 +19,8 @@ use Rattle.afptool_lib.specs.Lines.{frame_line, frame_lines}
 use Rattle.afptool_lib.specs.declared.checking.CheckEnd.{CheckEnd}
 use Rattle.afptool_lib.specs.declared.checking.CheckEnd.TheVariants as ends
 use Rattle.afptool_lib.specs.declared.checking.FramesEnd.TheVariants as frames_ends
+use Rattle.afp_base.proofs.Facts.{added-added, nothing-added}
+use Rattle.capture_log.proofs.SoFar.{more-given}
 
 -- lines behind lines
 
@@ -33,14 +35,6 @@ lines-last at filled (g ∷ frames) f (first, rest, whole, spelling, more) =
     let same : next + length rest ≡ at + length filled = omega (arith, size, ap length whole, length-append first rest) in
     ap (λ (l : List ℕ). frame_line at (header_of g) ++ l) (lines-last next rest frames f more ∙ ap (λ (n : ℕ). frame_lines next frames ++ frame_line n (header_of f)) same)
     ∙ sym (append_assoc (frame_line at (header_of g)) (frame_lines next frames) (frame_line (at + length filled) (header_of f)))
-
-added-added : (o : Option (List ℕ)) (xs ys : List ℕ) → option_map (λ before. before ++ ys) (option_map (λ before. before ++ xs) o) ≡ option_map (λ before. before ++ (xs ++ ys)) o
-added-added None xs ys = refl
-added-added (Some zs) xs ys = ap Some (append_assoc zs xs ys)
-
-nothing-added : (o : Option (List ℕ)) → o ≡ option_map (λ before. before ++ []) o
-nothing-added None = refl
-nothing-added (Some zs) = ap Some (sym (append-nil zs))
 
 pub reports-both : (a b c : SinkState) (x y : List ℕ) → Reports a x b → Reports b y c → Reports a (x ++ y) c
 reports-both a b c x y r s = record {
@@ -95,12 +89,13 @@ prints-bad start bytes b now bad p place is = (p.frames, given-stop bytes p.fram
 
 -- the stream, from one read to the next
 
-pub checked-none : (old : SourceState) (start : SinkState) (b : Buffered) → b ≡ record { place = 0; rest = [] } → HasChecked old start b 0 old start
-checked-none old start b e =
+pub checked-none : (turns : ℕ) (old : SourceState) (start : SinkState) (b : Buffered) → b ≡ record { place = 0; rest = [] } → HasChecked turns old start b 0 old start
+checked-none turns old start b e =
     let empty : b.rest ≡ [] = ap (λ (x : Buffered). x.rest) e in
     record {
       read = [];
       given = nothing-added old.given;
+      within = inl (refl, refl);
       ended = refl;
       faults = refl;
       many = refl;
@@ -119,15 +114,18 @@ fed-whole start now bytes piece b fed taken p size room rest place =
       printed = p.printed;
     }
 
-more-given : (old mid new : SourceState) (read more : List ℕ) → mid.given ≡ option_map (λ given. given ++ read) old.given → new.given ≡ option_map (λ given. given ++ more) mid.given
-    → new.given ≡ option_map (λ given. given ++ (read ++ more)) old.given
-more-given old mid new read more e f = f ∙ ap (λ (o : Option (List ℕ)). option_map (λ given. given ++ more) o) e ∙ added-added old.given read more
+last-within : (turns : ℕ) (old : SourceState) (start : SinkState) (b : Buffered) (taken n : ℕ) (mid new : SourceState) (now : SinkState) (room : List ℕ) (x : HasChecked turns old start b taken mid now)
+    → SourceGives mid room n new → taken < turns → LastReadWithin turns (x.read ++ take n room) old new
+last-within turns old start b taken n mid new now room x g fewer =
+    record { before = x.read; last = take n room; whole = refl; fewer = omega (arith, fewer, x.many); told = g.given_before ∙ x.given }
 
-pub checked-more : (old : SourceState) (start : SinkState) (b after : Buffered) (taken n : ℕ) (mid new : SourceState) (now then_is : SinkState) (room : List ℕ) (x : HasChecked old start b taken mid now)
-    → SourceGives mid room n new → PrintsTo start (x.read ++ take n room) frames_ends.More after then_is → HasChecked old start after (taken + n) new then_is
-checked-more old start b after taken n mid new now then_is room x g p = record {
+pub checked-more : (turns : ℕ) (old : SourceState) (start : SinkState) (b after : Buffered) (taken n : ℕ) (mid new : SourceState) (now then_is : SinkState) (room : List ℕ)
+    (x : HasChecked turns old start b taken mid now) → SourceGives mid room n new → taken < turns → PrintsTo start (x.read ++ take n room) frames_ends.More after then_is
+    → HasChecked turns old start after (taken + n) new then_is
+checked-more turns old start b after taken n mid new now then_is room x g fewer p = record {
   read = x.read ++ take n room;
   given = more-given old mid new x.read (take n room) x.given g.given;
+  within = inr (last-within turns old start b taken n mid new now room x g fewer);
   ended = g.ended ∙ x.ended;
   faults = g.faults ∙ x.faults;
   many = omega (arith, x.many, g.most, length-append x.read (take n room), length-take n room);
@@ -137,20 +135,22 @@ checked-more old start b after taken n mid new now then_is room x g p = record {
 }
 
 pub checked-bad : (turns : ℕ) (old : SourceState) (start : SinkState) (b after : Buffered) (taken n : ℕ) (mid new : SourceState) (now then_is : SinkState) (room : List ℕ) (bad : BadFrame)
-    (x : HasChecked old start b taken mid now) → SourceGives mid room n new → PrintsTo start (x.read ++ take n room) (frames_ends.Bad bad) after then_is → Checks turns old new start then_is (ends.Bad bad)
-checked-bad turns old start b after taken n mid new now then_is room bad x g p = record {
+    (x : HasChecked turns old start b taken mid now) → SourceGives mid room n new → taken < turns → PrintsTo start (x.read ++ take n room) (frames_ends.Bad bad) after then_is → Checks turns old new start then_is (ends.Bad bad)
+checked-bad turns old start b after taken n mid new now then_is room bad x g fewer p = record {
   read = x.read ++ take n room;
   frames = p.0;
   given = more-given old mid new x.read (take n room) x.given g.given;
-  by = (p.1, g.ended ∙ x.ended, g.faults ∙ x.faults);
+  by = (p.1, g.ended ∙ x.ended, last-within turns old start b taken n mid new now room x g fewer, g.faults ∙ x.faults);
   printed = p.2;
 }
 
-pub checked-part : (old : SourceState) (start : SinkState) (b after : Buffered) (taken n : ℕ) (mid new : SourceState) (now then_is : SinkState) (room : List ℕ)
-    (x : HasChecked old start b taken mid now) → SourceGives mid room n new → PrintsTo start (x.read ++ take n room) frames_ends.WriteFault after then_is → ChecksPart old new start then_is
-checked-part old start b after taken n mid new now then_is room x g p = record {
+pub checked-part : (turns : ℕ) (old : SourceState) (start : SinkState) (b after : Buffered) (taken n : ℕ) (mid new : SourceState) (now then_is : SinkState) (room : List ℕ)
+    (x : HasChecked turns old start b taken mid now) → SourceGives mid room n new → taken < turns → PrintsTo start (x.read ++ take n room) frames_ends.WriteFault after then_is
+    → ChecksPart turns old new start then_is
+checked-part turns old start b after taken n mid new now then_is room x g fewer p = record {
   read = x.read ++ take n room;
   given = more-given old mid new x.read (take n room) x.given g.given;
+  within = last-within turns old start b taken n mid new now room x g fewer;
   faults = g.faults ∙ x.faults;
   printed = p;
 }

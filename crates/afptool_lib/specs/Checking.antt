@@ -2,7 +2,7 @@
 use Rattle.std.specs.Prelude.{◌≡◌, ◌⊎◌, ℕ, zero, suc, ◌≤◌, ◌<◌, true, List, [], ◌++◌, length, option_map}
 use Rattle.afp_base.specs.Counts.{CountsOn}
 use Rattle.afp_outside.specs.Sink.{SinkState}
-use Rattle.afp_outside.specs.Source.{SourceState}
+use Rattle.afp_outside.specs.Source.{SourceState, LastReadWithin, ReadWithin}
 use Rattle.dsi_frame.specs.Frame.{Frame}
 use Rattle.dsi_frame.specs.Stream.{Spelled, Framed, Stopped}
 use Rattle.afpd_lib.specs.Reporting.{ReportsPart}
@@ -12,12 +12,12 @@ use Rattle.afptool_lib.specs.declared.checking.CheckEnd.{CheckEnd}
 use Rattle.afptool_lib.specs.declared.checking.CheckEnd.TheVariants as ends
 
 -- The bytes that were read are these frames, and end so: in less than a frame, where the source has ended; at a bad header; or nothing
--- decides, and the read failed, or as many bytes were taken as may be.
+-- decides, and the read failed, or as many bytes were taken as may be. No read is made where as many were taken.
 abbrev pub ChecksBy : ℕ → List ℕ → SourceState → SourceState → List Frame → CheckEnd → Type 0
 ChecksBy turns read old new frames (ends.Rest n) = (rest : List ℕ) × Framed read frames rest × (n ≡ length rest) × (new.ended ≡ true) × (length read < turns) × (new.faults ≡ old.faults)
-ChecksBy turns read old new frames (ends.Bad bad) = Stopped read frames bad.at bad.reason × (new.ended ≡ old.ended) × (new.faults ≡ old.faults)
+ChecksBy turns read old new frames (ends.Bad bad) = Stopped read frames bad.at bad.reason × (new.ended ≡ old.ended) × LastReadWithin turns read old new × (new.faults ≡ old.faults)
 ChecksBy turns read old new frames ends.ReadFault = (rest : List ℕ) × Framed read frames rest × CountsOn 1 old.faults new.faults × (length read < turns)
-ChecksBy turns read old new frames ends.Spent = (rest : List ℕ) × Framed read frames rest × (turns ≤ length read) × (new.faults ≡ old.faults)
+ChecksBy turns read old new frames ends.Spent = (rest : List ℕ) × Framed read frames rest × (turns ≤ length read) × ReadWithin turns read old new × (new.faults ≡ old.faults)
 
 -- what is printed behind the lines of the frames
 abbrev pub end_text : CheckEnd → List ℕ
@@ -44,9 +44,10 @@ pub record PrintsPart (start : SinkState) (bytes : List ℕ) (now : SinkState) :
   pub printed : ReportsPart start (frame_lines 0 frames) now
 
 -- A write failed in the lines of frames that were read.
-pub record ChecksPart (old new : SourceState) (start now : SinkState) : Type 0 where
+pub record ChecksPart (turns : ℕ) (old new : SourceState) (start now : SinkState) : Type 0 where
   pub read : List ℕ
   pub given : new.given ≡ option_map (λ given. given ++ read) old.given
+  pub within : LastReadWithin turns read old new
   pub faults : new.faults ≡ old.faults
   pub printed : PrintsPart start read now
 
@@ -62,4 +63,4 @@ pub record TellsCheck (turns : ℕ) (old new : SourceState) (before after : Sink
 -- A check is told; or a write failed in the lines of the frames; or there was no memory, and nothing was read.
 abbrev pub RunsCheck : ℕ → SourceState → SourceState → SinkState → SinkState → ℕ → Type 0
 RunsCheck turns old new before after status =
-    TellsCheck turns old new before after status ⊎ ((status ≡ 5) × ChecksPart old new before after) ⊎ ((status ≡ 6) × (new ≡ old) × (after ≡ before))
+    TellsCheck turns old new before after status ⊎ ((status ≡ 5) × ChecksPart turns old new before after) ⊎ ((status ≡ 6) × (new ≡ old) × (after ≡ before))

@@ -1,6 +1,7 @@
 //! Replaying a capture, and saying how it ended.
 ghost use Rattle.std.specs.Prelude.{◌≡◌, ◌<◌, ◌^◌, false};
 ghost use Rattle.capture_log_server.specs.Keepers.{AreFresh};
+ghost use Rattle.record_keeper.specs.Records.{steadily};
 ghost use Rattle.afpd_lib.specs.Reporting.{ReportsAll};
 ghost use Rattle.afptool_lib.specs.Lines.{replay_text, replay_status};
 ghost use Rattle.afptool_lib.specs.Tool.{RunsReplay};
@@ -52,7 +53,7 @@ pub fn run_replay<K: Keeper, S: Source, O: Sink>(
     out: &mut O,
     turns: u64,
 ) -> u8
-    requires keepers { AreFresh K.records K.sure K.faults fresh.items }
+    requires keepers { AreFresh (steadily K.steady K.records) K.sure fresh.items }
     requires turns { turns < 2 ^ 63 }
     requires fresh { (S.source_state source.old).ended ≡ false }
     ensures { RunsReplay turns (S.source_state source.old) (S.source_state source.new) (O.sink_state out.old) (O.sink_state out.new) result }

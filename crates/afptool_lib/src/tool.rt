@@ -1,6 +1,7 @@
 //! The tool's top call.
 ghost use Rattle.std.specs.Prelude.{◌≡◌, ◌<◌, ◌^◌, false, map, string_bytes};
 ghost use Rattle.capture_log_server.specs.Keepers.{AreFresh};
+ghost use Rattle.record_keeper.specs.Records.{steadily};
 ghost use Rattle.afpd_lib.specs.Reporting.{bad_words};
 ghost use Rattle.afptool_lib.specs.Telling.{Tells};
 ghost use Rattle.afptool_lib.specs.Tool.{RunsTool, command_in};
@@ -39,7 +40,7 @@ pub fn afptool_plain<K: Keeper, S: Source, O: Sink>(
     out: &mut O,
     turns: u64,
 ) -> u8
-    requires keepers { AreFresh K.records K.sure K.faults fresh.items }
+    requires keepers { AreFresh (steadily K.steady K.records) K.sure fresh.items }
     requires turns { turns < 2 ^ 63 }
     requires fresh { (S.source_state source.old).ended ≡ false }
     ensures { RunsTool (command_in (map (λ word. string_bytes word) words.now)) turns (S.source_state source.old) (S.source_state source.new) (O.sink_state out.old) (O.sink_state out.new) result }

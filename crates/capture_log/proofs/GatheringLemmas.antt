@@ -235,10 +235,6 @@ some-held held some = elim (eqb_tells (length held) 0) [
   | inr t ↦ sym t.0
 ]
 
-pub none-held : (held : List ℕ) → length held ≡ 0 → held ≡ []
-none-held [] e = refl
-none-held (b ∷ held) e = absurd (omega (arith, e))
-
 -- what is held is no line yet
 last-short : (held : List ℕ) → length held ≤ longest_line → last_line false held ≡ []
 last-short held size = elim (leb_tells (suc longest_line) (length held)) [

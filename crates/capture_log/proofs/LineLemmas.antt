@@ -2,7 +2,7 @@
 use Rattle.std.proofs.Common.{◌≡◌, ◌≢◌, ◌==◌, ◌&&◌, ◌||◌, not, ℕ, ◌+◌, ◌*◌, ◌-◌, ◌≤◌, Bool, true, false, List, [], ◌∷◌, length, codes, nat_le, nat_lt, refl, sym, ap, ◌∙◌, subst, inl, inr, arith}
 use Rattle.std.specs.Prelude.{Option, Some, None, option_map, bytes_eq, if◌then◌else◌}
 use Rattle.std.specs.List.{before_first, after_first, list_any, list_all, slice_index}
-use Rattle.std.proofs.lemmas.Bool.{leb-true}
+use Rattle.std.proofs.lemmas.Bool.{leb-true, and_parts}
 use Rattle.std.proofs.lemmas.Bool.Decides.{eqb_tells}
 use Rattle.capture_log_lines.specs.Fields.{is_space, is_colon, is_ascii, is_digit, is_text_word, is_decimal, number_in, sized_in, value_behind, filled}
 use Rattle.capture_log_lines.specs.Lines.{line_in, headed, event_in, title_in, name_in, user_in, link_in, link_then, moment_then, what_in, last_link, longest_line}
@@ -10,6 +10,7 @@ use Rattle.afp_base.specs.Limits.{last_moment}
 use Rattle.capture_log_lines.specs.declared.line.Line.{Line}
 use Rattle.capture_log_lines.specs.declared.line.Line.TheVariants.{Title, Server, Signature, User as UserLine, Volume, Key, At, End}
 use Rattle.capture_log.specs.lemma.Taking.{IsLink, IsLinked}
+use Rattle.capture_log_lines.proofs.Values.{value-least}
 
 -- something that may be read, if it names a connection that there may be
 abbrev IsGoodLine : Option Line → Type 0
@@ -24,12 +25,6 @@ map_good : {X : Type 0} (f : X → Line) → ((x : X) → IsLinked (f x)) → (o
 map_good f each None = tt
 map_good f each (Some x) = each x
 
-value_grows : (v : ℕ) (word : List ℕ) → v ≤ value_behind v word
-value_grows v [] = omega arith
-value_grows v (d ∷ word) =
-    let rest = value_grows (v * 10 + (d - 48)) word in
-    omega (arith, rest)
-
 if_none_some : {X : Type 0} (b : Bool) (x : Option X) (l : X) → (if b then None else x) ≡ Some l → (b ≡ false) × (x ≡ Some l)
 if_none_some true x l e = absurd (cc e)
 if_none_some false x l e = (refl, e)
@@ -37,10 +32,6 @@ if_none_some false x l e = (refl, e)
 if_some_none : {X : Type 0} (b : Bool) (v l : X) → (if b then Some v else None) ≡ Some l → (b ≡ true) × (v ≡ l)
 if_some_none true v l e = (refl, cc e)
 if_some_none false v l e = absurd (cc e)
-
-both_true : (a b : Bool) → (a && b) ≡ true → (a ≡ true) × (b ≡ true)
-both_true true b e = (refl, e)
-both_true false b e = absurd (cc e)
 
 right_true : (a b : Bool) → a ≡ false → (a || b) ≡ true → b ≡ true
 right_true true b e f = absurd (cc e)
@@ -53,7 +44,7 @@ not_zero d e = elim (eqb_tells d 48) [
 ]
 
 is_digit-least : (d : ℕ) → is_digit d ≡ true → 48 ≤ d
-is_digit-least d e = leb-true 48 d (both_true (nat_le 48 d) (nat_le d 57) e).0
+is_digit-least d e = leb-true 48 d (and_parts (nat_le 48 d) (nat_le d 57) e).0
 
 -- a number of a connection is at least 1
 first_digit : (d : ℕ) (ds : List ℕ) → bytes_eq (d ∷ ds) (codes "0") ≡ false → (length (d ∷ ds) == 1 || not (slice_index (d ∷ ds) 0 == 48)) ≡ true → d ≢ 48
@@ -68,13 +59,13 @@ number-good [] l other e = absurd (cc e)
 number-good (d ∷ ds) l other e =
     let v = value_behind 0 (d ∷ ds) in
     let h = if_some_none (is_decimal (d ∷ ds) && nat_le v last_link) v l e in
-    let k = both_true (is_decimal (d ∷ ds)) (nat_le v last_link) h.0 in
-    let parts = both_true (not (length (d ∷ ds) == 0) && list_all is_digit (d ∷ ds)) (length (d ∷ ds) == 1 || not (slice_index (d ∷ ds) 0 == 48)) k.0 in
-    let digits = both_true (not (length (d ∷ ds) == 0)) (list_all is_digit (d ∷ ds)) parts.0 in
-    let first = both_true (is_digit d) (list_all is_digit ds) digits.1 in
+    let k = and_parts (is_decimal (d ∷ ds)) (nat_le v last_link) h.0 in
+    let parts = and_parts (not (length (d ∷ ds) == 0) && list_all is_digit (d ∷ ds)) (length (d ∷ ds) == 1 || not (slice_index (d ∷ ds) 0 == 48)) k.0 in
+    let digits = and_parts (not (length (d ∷ ds) == 0)) (list_all is_digit (d ∷ ds)) parts.0 in
+    let first = and_parts (is_digit d) (list_all is_digit ds) digits.1 in
     let other_digit : d ≢ 48 = first_digit d ds other parts.1 in
     let least : 48 ≤ d = is_digit-least d first.0 in
-    let grows : 0 * 10 + (d - 48) ≤ v = value_grows (0 * 10 + (d - 48)) ds in
+    let grows : 0 * 10 + (d - 48) ≤ v = value-least (0 * 10 + (d - 48)) ds in
     let most : v ≤ last_link = leb-true v last_link k.1 in
     let same : v ≡ l = h.1 in
     (omega (arith, other_digit, least, grows, same), omega (arith, most, same))

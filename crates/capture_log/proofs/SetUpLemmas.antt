@@ -1,7 +1,6 @@
 -- A house whose lines were good is one that a house refuses nothing of.
-use Rattle.std.proofs.Common.{◌≡◌, ◌||◌, ◌&&◌, not, zero, ℕ, ◌≤◌, ◌<◌, Bool, true, false, List, [], ◌∷◌, ◌++◌, suc, length, get_or, nat_le, nat_lt, refl, sym, ap, ◌∙◌, subst, inl, inr, ◌⊎◌, append-nil, append_assoc, length-append, arith}
-use Rattle.std.proofs.lemmas.Bool.Decides.{leb_tells}
-use Rattle.std.proofs.lemmas.Bool.{leb-true}
+use Rattle.std.proofs.Common.{◌≡◌, ◌&&◌, not, zero, ℕ, ◌<◌, Bool, true, false, List, [], ◌∷◌, ◌++◌, suc, length, get_or, nat_le, nat_lt, refl, sym, ap, ◌∙◌, subst, inl, inr, ◌⊎◌, append-nil, append_assoc, length-append, arith}
+use Rattle.std.proofs.lemmas.Bool.{leb-true, and_parts, ltb-true, not-false, or_parts, false_from_ne_true, le-leb}
 use Rattle.std.proofs.lemmas.Str.{IsUtf8-from_ascii}
 use Rattle.std.specs.List.{list_all}
 use Rattle.std.specs.Prelude.{Option, Some, None, option_map, if◌then◌else◌}
@@ -150,33 +149,13 @@ bad-more bad before (y ∷ xs) x none good =
     let rest = bad-more bad (before ++ y ∷ []) xs x first.1 (ap (λ (l : List _). bad l x) (append_assoc before (y ∷ []) xs) ∙ good) in
     ap (λ (b : Bool). if b then Some (length before) else first_bad_behind bad (before ++ y ∷ []) (xs ++ x ∷ [])) first.0 ∙ rest
 
-or_false : (a b : Bool) → (a || b) ≡ false → (a ≡ false) × (b ≡ false)
-or_false true b e = absurd (cc e)
-or_false false b e = (refl, e)
-
-not_false : (b : Bool) → not b ≡ false → b ≡ true
-not_false true e = refl
-not_false false e = absurd (cc e)
-
-as_le : (m n : ℕ) → m ≤ n → nat_le m n ≡ true
-as_le m n h = elim (leb_tells m n) [
-  | inl t ↦ t.0
-  | inr t ↦ absurd (omega (arith, t.1, h))
-]
-
-from_lt : (m n : ℕ) → nat_lt m n ≡ true → m < n
-from_lt m n e = elim (leb_tells (suc m) n) [
-  | inl t ↦ omega (arith, t.1)
-  | inr t ↦ absurd (cc (sym e ∙ t.0))
-]
-
 one-longer : {X : Type 0} (xs : List X) (x : X) (most : ℕ) → nat_lt (length xs) most ≡ true → nat_le (length (xs ++ x ∷ [])) most ≡ true
 one-longer xs x most e =
-    let below = from_lt (length xs) most e in
-    as_le (length (xs ++ x ∷ [])) most (omega (arith, below, length-append xs (x ∷ [])))
+    let below = ltb-true (length xs) most e in
+    le-leb (length (xs ++ x ∷ [])) most (omega (arith, below, length-append xs (x ∷ [])))
 
 not-none : {X : Type 0} (xs : List X) (x : X) → nat_le 1 (length (xs ++ x ∷ [])) ≡ true
-not-none xs x = as_le 1 (length (xs ++ x ∷ [])) (omega (arith, length-append xs (x ∷ [])))
+not-none xs x = le-leb 1 (length (xs ++ x ∷ [])) (omega (arith, length-append xs (x ∷ [])))
 
 -- what stood is good still
 
@@ -204,7 +183,7 @@ kept-set-up p q Title h may good is = same-parts p q Title h h (adds-title p q m
 kept-set-up p q (Server name) h may good is =
     let adds = adds-server p q name may in
     record {
-      server = λ e. not_false (is_name longest_server name) good;
+      server = λ e. not-false (is_name longest_server name) good;
       few_users = is.few_users;
       users = is.users;
       some_volume = λ e. elim (adds.volume e) [
@@ -219,13 +198,13 @@ kept-set-up p q (Signature bytes) h may good is = same-parts p q (Signature byte
 kept-set-up p q (UserLine name password) h may good is =
     let adds = adds-user p q name password may in
     let user : User = user_behind h.users name password in
-    let both = or_false (not (nat_lt (length h.users) most_users)) (is_bad_user h.users user) good in
+    let both = or_parts (not (nat_lt (length h.users) most_users)) (is_bad_user h.users user) good in
     record {
       server = λ e. elim (adds.server e) [
         | inl there ↦ is.server there
         | inr named ↦ absurd (cc named)
       ];
-      few_users = one-longer h.users user most_users (not_false (nat_lt (length h.users) most_users) both.0);
+      few_users = one-longer h.users user most_users (not-false (nat_lt (length h.users) most_users) both.0);
       users = bad-more is_bad_user [] h.users user is.users both.1;
       some_volume = λ e. elim (adds.volume e) [
         | inl there ↦ is.some_volume there
@@ -237,7 +216,7 @@ kept-set-up p q (UserLine name password) h may good is =
     }
 kept-set-up p q (Volume name) h may good is =
     let adds = adds-volume p q name may in
-    let both = or_false (not (nat_lt (length h.volumes) most_volumes)) (is_bad_volume h.volumes name) good in
+    let both = or_parts (not (nat_lt (length h.volumes) most_volumes)) (is_bad_volume h.volumes name) good in
     record {
       server = λ e. elim (adds.server e) [
         | inl there ↦ is.server there
@@ -246,7 +225,7 @@ kept-set-up p q (Volume name) h may good is =
       few_users = is.few_users;
       users = is.users;
       some_volume = λ e. not-none h.volumes name;
-      few_volumes = one-longer h.volumes name most_volumes (not_false (nat_lt (length h.volumes) most_volumes) both.0);
+      few_volumes = one-longer h.volumes name most_volumes (not-false (nat_lt (length h.volumes) most_volumes) both.0);
       volumes = bad-more is_bad_volume [] h.volumes name is.volumes both.1;
       message = is.message;
     }
@@ -282,28 +261,20 @@ first-holds : (a : Bool) (rest : List (Option HouseFault)) → a ≡ false → f
 first-holds true rest e = absurd (cc e)
 first-holds false rest e = refl
 
-and_both : (a b : Bool) → (a && b) ≡ true → (a ≡ true) × (b ≡ true)
-and_both true b e = (refl, e)
-and_both false b e = absurd (cc e)
-
 printable-ascii : (bs : List ℕ) → list_all is_printable bs ≡ true → (i : ℕ) → get_or bs i 0 < 128
 printable-ascii [] e i = omega arith
 printable-ascii (b ∷ bs) e zero =
-    let first = and_both (is_printable b) (list_all is_printable bs) e in
-    let most = leb-true b 126 (and_both (nat_le 32 b) (nat_le b 126) first.0).1 in
+    let first = and_parts (is_printable b) (list_all is_printable bs) e in
+    let most = leb-true b 126 (and_parts (nat_le 32 b) (nat_le b 126) first.0).1 in
     omega (arith, most)
-printable-ascii (b ∷ bs) e (suc i) = printable-ascii bs (and_both (is_printable b) (list_all is_printable bs) e).1 i
+printable-ascii (b ∷ bs) e (suc i) = printable-ascii bs (and_parts (is_printable b) (list_all is_printable bs) e).1 i
 
 name-utf8 : (longest : ℕ) (bs : List ℕ) → is_name longest bs ≡ true → IsUtf8 bs
 name-utf8 longest bs e =
-    let text = (and_both (nat_le 1 (length bs)) (is_text longest bs) e).1 in
-    IsUtf8-from_ascii bs (printable-ascii bs (and_both (nat_le (length bs) longest) (list_all is_printable bs) text).1)
-
-other-false : (b : Bool) → (b ≡ true → ⊥) → b ≡ false
-other-false true other = absurd (other refl)
-other-false false other = refl
+    let text = (and_parts (nat_le 1 (length bs)) (is_text longest bs) e).1 in
+    IsUtf8-from_ascii bs (printable-ascii bs (and_parts (nat_le (length bs) longest) (list_all is_printable bs) text).1)
 
 pub server-refused : (h : Household) (server : List ℕ) → server ≡ h.server → (IsUtf8 server → ⊥) → house_fault h ≡ Some faults.Server
 unfolding house_fault
 server-refused h server same other =
-    first-holds (is_name longest_server h.server) _ (other-false (is_name longest_server h.server) (λ e. other (subst IsUtf8 (sym same) (name-utf8 longest_server h.server e))))
+    first-holds (is_name longest_server h.server) _ (false_from_ne_true (is_name longest_server h.server) (λ e. other (subst IsUtf8 (sym same) (name-utf8 longest_server h.server e))))

@@ -1,44 +1,44 @@
 -- What a replay has read, from one read to the next.
-use Rattle.std.proofs.Common.{◌≡◌, ℕ, ◌+◌, ◌≤◌, ◌<◌, Bool, true, false, List, [], ◌++◌, length, take, append-nil, refl, sym, ap, ◌∙◌, subst, inl, inr, append_assoc, length-append, length-take, arith}
-use Rattle.std.specs.Prelude.{Option, Some, None, option_map}
+use Rattle.std.proofs.Common.{◌≡◌, ℕ, ◌+◌, ◌≤◌, ◌<◌, Bool, true, false, List, [], ◌++◌, length, take, refl, ap, ◌∙◌, subst, inl, inr, length-append, length-take, arith}
+use Rattle.std.specs.Prelude.{Option, option_map}
 use Rattle.afp_base.specs.Counts.{CountsOn}
-use Rattle.afp_outside.specs.Source.{SourceState, SourceGives, SourceEnds, SourceFails}
+use Rattle.afp_outside.specs.Source.{SourceState, SourceGives, SourceEnds, SourceFails, LastReadWithin, ReadWithin}
 use Rattle.capture_log.specs.lemma.Gathering.{ReaderState, Holds}
 use Rattle.capture_log.specs.Judged.{Judged, JudgedAt, AreTrue}
 use Rattle.capture_log.specs.Reading.{lines_in, IsJudged, Replays, ReplaysBy, IsReadWell, IsCompared, IsTheSame}
 use Rattle.capture_log.specs.declared.replay_end.ReplayEnd.{ReplayEnd}
 use Rattle.capture_log.specs.declared.replay_end.ReplayEnd.TheVariants as ends
 use Rattle.capture_log.proofs.GatheringLemmas.{undecided}
+use Rattle.afp_base.proofs.Facts.{added-added, nothing-added}
 
 -- So many bytes were read, and no line of them decides.
-pub record HasRead (old : SourceState) (r : ReaderState) (taken : ℕ) (now : SourceState) : Type 0 where
+pub record HasRead (turns : ℕ) (old : SourceState) (r : ReaderState) (taken : ℕ) (now : SourceState) : Type 0 where
   pub read : List ℕ
   pub given : now.given ≡ option_map (λ given. given ++ read) old.given
+  pub within : ReadWithin turns read old now
   pub ended : now.ended ≡ old.ended
   pub faults : now.faults ≡ old.faults
   pub many : taken ≡ length read
   pub holds : Holds r read
 
-nothing-added : (o : Option (List ℕ)) → o ≡ option_map (λ given. given ++ []) o
-nothing-added None = refl
-nothing-added (Some given) = ap Some (sym (append-nil given))
+pub so_far-none : (turns : ℕ) (old : SourceState) (r : ReaderState) → Holds r [] → HasRead turns old r 0 old
+so_far-none turns old r h = record { read = []; given = nothing-added old.given; within = inl (refl, refl); ended = refl; faults = refl; many = refl; holds = h }
 
-added-added : (o : Option (List ℕ)) (xs ys : List ℕ) → option_map (λ given. given ++ ys) (option_map (λ given. given ++ xs) o) ≡ option_map (λ given. given ++ (xs ++ ys)) o
-added-added None xs ys = refl
-added-added (Some given) xs ys = ap Some (append_assoc given xs ys)
-
-pub so_far-none : (old : SourceState) (r : ReaderState) → Holds r [] → HasRead old r 0 old
-so_far-none old r h = record { read = []; given = nothing-added old.given; ended = refl; faults = refl; many = refl; holds = h }
-
-more-given : (old mid new : SourceState) (read more : List ℕ) → mid.given ≡ option_map (λ given. given ++ read) old.given → new.given ≡ option_map (λ given. given ++ more) mid.given
+pub more-given : (old mid new : SourceState) (read more : List ℕ) → mid.given ≡ option_map (λ given. given ++ read) old.given → new.given ≡ option_map (λ given. given ++ more) mid.given
     → new.given ≡ option_map (λ given. given ++ (read ++ more)) old.given
 more-given old mid new read more e f = f ∙ ap (λ (o : Option (List ℕ)). option_map (λ given. given ++ more) o) e ∙ added-added old.given read more
 
-pub so_far-more : (old mid new : SourceState) (r s : ReaderState) (taken n : ℕ) (room : List ℕ) (x : HasRead old r taken mid) → SourceGives mid room n new → Holds s (x.read ++ take n room)
-    → HasRead old s (taken + n) new
-so_far-more old mid new r s taken n room x g h = record {
+last-within : (turns : ℕ) (old mid new : SourceState) (r : ReaderState) (taken n : ℕ) (room : List ℕ) (x : HasRead turns old r taken mid) → SourceGives mid room n new → taken < turns
+    → LastReadWithin turns (x.read ++ take n room) old new
+last-within turns old mid new r taken n room x g fewer =
+    record { before = x.read; last = take n room; whole = refl; fewer = omega (arith, fewer, x.many); told = g.given_before ∙ x.given }
+
+pub so_far-more : (turns : ℕ) (old mid new : SourceState) (r s : ReaderState) (taken n : ℕ) (room : List ℕ) (x : HasRead turns old r taken mid) → SourceGives mid room n new → taken < turns
+    → Holds s (x.read ++ take n room) → HasRead turns old s (taken + n) new
+so_far-more turns old mid new r s taken n room x g fewer h = record {
   read = x.read ++ take n room;
   given = more-given old mid new x.read (take n room) x.given g.given;
+  within = inr (last-within turns old mid new r taken n room x g fewer);
   ended = g.ended ∙ x.ended;
   faults = g.faults ∙ x.faults;
   many = omega (arith, x.many, g.most, length-append x.read (take n room), length-take n room);
@@ -89,7 +89,7 @@ by-verdict turns read old new ended ends.ReadFault j h = absurd (elim j [ inl x 
 by-verdict turns read old new ended ends.Spent j h = absurd (elim j [ inl x ↦ x.decides | inr x ↦ x.0.decides ])
 by-verdict turns read old new ended ends.Memory j h = tt
 
-pub decided : (turns : ℕ) (old mid new : SourceState) (r : ReaderState) (taken n : ℕ) (room : List ℕ) (verdict : ReplayEnd) (x : HasRead old r taken mid) → SourceGives mid room n new → taken < turns
+pub decided : (turns : ℕ) (old mid new : SourceState) (r : ReaderState) (taken n : ℕ) (room : List ℕ) (verdict : ReplayEnd) (x : HasRead turns old r taken mid) → SourceGives mid room n new → taken < turns
     → JudgedAt (lines_in false (x.read ++ take n room)) verdict → Replays turns old verdict new
 decided turns old mid new r taken n room verdict x g fewer j =
     let last : List ℕ = take n room in
@@ -97,28 +97,28 @@ decided turns old mid new r taken n room verdict x g fewer j =
     record {
       ended = false;
       judged = inl j;
-      ends = (g.ended ∙ x.ended, record { before = x.read; last = last; whole = refl; fewer = omega (arith, fewer, x.many) });
+      ends = (g.ended ∙ x.ended, last-within turns old mid new r taken n room x g fewer);
       faults = g.faults ∙ x.faults;
     })
 
-pub finished : (turns : ℕ) (old mid new : SourceState) (r : ReaderState) (taken : ℕ) (verdict : ReplayEnd) (x : HasRead old r taken mid) → SourceEnds mid new → taken < turns
+pub finished : (turns : ℕ) (old mid new : SourceState) (r : ReaderState) (taken : ℕ) (verdict : ReplayEnd) (x : HasRead turns old r taken mid) → SourceEnds mid new → taken < turns
     → Judged (lines_in true x.read) true verdict → Replays turns old verdict new
 finished turns old mid new r taken verdict x g fewer j =
     replayed turns old new verdict x.read (g.given ∙ x.given) (by-verdict turns x.read old new true verdict j
     record { ended = true; judged = j; ends = (g.ended, omega (arith, fewer, x.many)); faults = g.faults ∙ x.faults })
 
-pub failed : (turns : ℕ) (old mid new : SourceState) (r : ReaderState) (taken : ℕ) → HasRead old r taken mid → SourceFails mid new → taken < turns → Replays turns old ends.ReadFault new
+pub failed : (turns : ℕ) (old mid new : SourceState) (r : ReaderState) (taken : ℕ) → HasRead turns old r taken mid → SourceFails mid new → taken < turns → Replays turns old ends.ReadFault new
 failed turns old mid new r taken x g fewer =
     replayed turns old new ends.ReadFault x.read (g.given ∙ x.given) (subst (λ (n : ℕ). CountsOn 1 n new.faults) x.faults g.faults, omega (arith, fewer, x.many), undecided r x.read x.holds)
 
-pub spent : (turns : ℕ) (old now : SourceState) (r : ReaderState) (taken : ℕ) → HasRead old r taken now → turns ≤ taken → Replays turns old ends.Spent now
-spent turns old now r taken x all = replayed turns old now ends.Spent x.read x.given (omega (arith, all, x.many), undecided r x.read x.holds, x.faults)
+pub spent : (turns : ℕ) (old now : SourceState) (r : ReaderState) (taken : ℕ) → HasRead turns old r taken now → turns ≤ taken → Replays turns old ends.Spent now
+spent turns old now r taken x all = replayed turns old now ends.Spent x.read x.given (omega (arith, all, x.many), x.within, undecided r x.read x.holds, x.faults)
 
 pub no_memory : (turns : ℕ) (old now : SourceState) (read : List ℕ) → now.given ≡ option_map (λ given. given ++ read) old.given → Replays turns old ends.Memory now
 no_memory turns old now read e = replayed turns old now ends.Memory read e tt
 
-pub no_memory-more : (turns : ℕ) (old mid new : SourceState) (r : ReaderState) (taken n : ℕ) (room : List ℕ) → HasRead old r taken mid → SourceGives mid room n new → Replays turns old ends.Memory new
+pub no_memory-more : (turns : ℕ) (old mid new : SourceState) (r : ReaderState) (taken n : ℕ) (room : List ℕ) → HasRead turns old r taken mid → SourceGives mid room n new → Replays turns old ends.Memory new
 no_memory-more turns old mid new r taken n room x g = no_memory turns old new (x.read ++ take n room) (more-given old mid new x.read (take n room) x.given g.given)
 
-pub no_memory-ended : (turns : ℕ) (old mid new : SourceState) (r : ReaderState) (taken : ℕ) → HasRead old r taken mid → SourceEnds mid new → Replays turns old ends.Memory new
+pub no_memory-ended : (turns : ℕ) (old mid new : SourceState) (r : ReaderState) (taken : ℕ) → HasRead turns old r taken mid → SourceEnds mid new → Replays turns old ends.Memory new
 no_memory-ended turns old mid new r taken x g = no_memory turns old new x.read (g.given ∙ x.given)

@@ -1,6 +1,7 @@
 -- Where a capture stands, from one line to the next.
 use Rattle.std.proofs.Common.{◌≡◌, ◌||◌, ℕ, Bool, true, false, List, suc, length, refl, sym, ap, ◌∙◌, subst, arith}
 use Rattle.std.specs.Prelude.{Option, Some, None, is_none, option_map}
+use Rattle.std.proofs.lemmas.Bool.{or_right}
 use Rattle.afp_base.specs.Counts.{counted}
 use Rattle.afp_serial.specs.Household.{Household}
 use Rattle.afp_serial.specs.StatusBlock.{status_block}
@@ -191,10 +192,6 @@ part_taken old new s line part is may other good same =
     subst (λ (x : HeldCapture). LeadsLine s line x) (sym same)
     (leads-by old.running old.house old.waiting old.number s line part is.server (ap (λ (p : Part). part_after p line) (sym is.next) ∙ may) other (sym good))
 
-or-right : (a b : Bool) → b ≡ true → (a || b) ≡ true
-or-right true b e = refl
-or-right false b e = e
-
 -- what happened on a connection
 
 feeds-part : (b : Bool) (s : CaptureState) (link now : ℕ) (bytes : List ℕ) (t : CaptureState) → FeedsUnless b s link now bytes t → t.part ≡ s.part
@@ -267,7 +264,7 @@ event_taken old new s house waiting number count link now what r part verdict is
 
 pub event_refused : (s : CaptureState) (index link now : ℕ) (what : What) → suc index ≡ link → true ≡ is_refused_on (s.connections (suc index)) what → is_bad s (Some (At link now what)) ≡ true
 event_refused s index link now what same_link bad =
-    or-right (is_none (part_after s.part (At link now what))) (is_refused_on (s.connections link) what) (ap (λ (l : ℕ). is_refused_on (s.connections l) what) (sym same_link) ∙ sym bad)
+    or_right (is_none (part_after s.part (At link now what))) (is_refused_on (s.connections link) what) (ap (λ (l : ℕ). is_refused_on (s.connections l) what) (sym same_link) ∙ sym bad)
 
 -- a line that was read
 

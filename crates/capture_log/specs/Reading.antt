@@ -2,7 +2,7 @@
 use Rattle.std.specs.Prelude.{◌≡◌, ℕ, ◌≤◌, ◌<◌, ◌==◌, nat_lt, not, ◌&&◌, ◌||◌, Bool, true, false, List, [], ◌∷◌, ◌++◌, length, option_map, if◌then◌else◌}
 use Rattle.std.specs.List.{slice_split}
 use Rattle.afp_base.specs.Counts.{CountsOn}
-use Rattle.afp_outside.specs.Source.{SourceState}
+use Rattle.afp_outside.specs.Source.{SourceState, LastReadWithin, ReadWithin}
 use Rattle.capture_log_lines.specs.Lines.{longest_line}
 use Rattle.capture_log.specs.Judged.{Judged, IsGoodCapture, AreTrue}
 use Rattle.capture_log_server.specs.CaptureState.{CaptureState, Leads, begins}
@@ -34,17 +34,10 @@ lines_in ended bytes = lines_of ended (pieces bytes)
 abbrev pub Undecided : List ℕ → Type 0
 Undecided read = (s : CaptureState) × Leads begins (lines_in false read) s
 
--- The last read was made where fewer bytes than `turns` had been taken.
-pub record ReadWithin (turns : ℕ) (read : List ℕ) : Type 0 where
-  pub before : List ℕ
-  pub last : List ℕ
-  pub whole : read ≡ before ++ last
-  pub fewer : length before < turns
-
 -- whether the source had ended when the capture was judged
 abbrev pub Ends : ℕ → List ℕ → SourceState → SourceState → Bool → Type 0
 Ends turns read old new true = (new.ended ≡ true) × (length read < turns)
-Ends turns read old new false = (new.ended ≡ old.ended) × ReadWithin turns read
+Ends turns read old new false = (new.ended ≡ old.ended) × LastReadWithin turns read old new
 
 -- The bytes read are judged so.
 pub record IsJudged (turns : ℕ) (read : List ℕ) (old new : SourceState) (verdict : ReplayEnd) : Type 0 where
@@ -59,7 +52,7 @@ ReplaysBy turns read old new (ends.Same links entries replies refused) = IsJudge
 ReplaysBy turns read old new (ends.Differs link at want got) = IsJudged turns read old new (ends.Differs link at want got)
 ReplaysBy turns read old new (ends.BadCapture line) = IsJudged turns read old new (ends.BadCapture line)
 ReplaysBy turns read old new ends.ReadFault = CountsOn 1 old.faults new.faults × (length read < turns) × Undecided read
-ReplaysBy turns read old new ends.Spent = (turns ≤ length read) × Undecided read × (new.faults ≡ old.faults)
+ReplaysBy turns read old new ends.Spent = (turns ≤ length read) × ReadWithin turns read old new × Undecided read × (new.faults ≡ old.faults)
 ReplaysBy turns read old new ends.Memory = Unit {0}
 
 -- it was compared to its end, or up to a byte that differs, or there was no memory

@@ -1,6 +1,7 @@
 //! Replaying a capture that is read from a source.
 ghost use Rattle.std.specs.Prelude.{◌≡◌, ◌<◌, ◌^◌, false, []};
 ghost use Rattle.capture_log_server.specs.Keepers.{AreFresh};
+ghost use Rattle.record_keeper.specs.Records.{steadily};
 ghost use Rattle.capture_log.specs.lemma.Gathering.{Holds};
 ghost use Rattle.capture_log.specs.Reading.{Replays};
 
@@ -55,7 +56,7 @@ pub fn replay<K: Keeper, S: Source>(
     source: &mut S,
     turns: u64,
 ) -> ReplayEnd
-    requires keepers { AreFresh K.records K.sure K.faults fresh.items }
+    requires keepers { AreFresh (steadily K.steady K.records) K.sure fresh.items }
     requires turns { turns < 2 ^ 63 }
     requires fresh { (S.source_state source.old).ended ≡ false }
     ensures { Replays turns (S.source_state source.old) result (S.source_state source.new) }

@@ -4,7 +4,7 @@ use Rattle.std.specs.Prelude.{Some, None, nat_le, if◌then◌else◌}
 use Rattle.std.proofs.lemmas.Bool.{lt-leb}
 use Rattle.capture_log_lines.specs.Fields.{value_behind}
 
-value-least : (value : ℕ) (digits : List ℕ) → value ≤ value_behind value digits
+pub value-least : (value : ℕ) (digits : List ℕ) → value ≤ value_behind value digits
 value-least value [] = omega arith
 value-least value (digit ∷ digits) = let more = value-least (value * 10 + (digit - 48)) digits in omega (arith, more)
 

@@ -1,5 +1,5 @@
 -- What a wire does with the bytes that are fed to it, over a teller that stores its history.
-use Rattle.std.proofs.Common.{◌≡◌, ◌≢◌, ℕ, Bool, true, false, not, List, [], ◌∷◌, ◌++◌, refl, sym, ap, ◌∙◌, subst, inl, inr, append_assoc}
+use Rattle.std.proofs.Common.{◌≡◌, ◌≢◌, ℕ, Bool, true, false, List, [], ◌∷◌, ◌++◌, refl, sym, ap, ◌∙◌, subst, inl, inr, append_assoc}
 use Rattle.std.specs.Prelude.{Option, Some, None, Result, Ok, Err, IfOk, IfNone}
 use Rattle.afp_base.specs.declared.bytes.OutOfMemory.{OutOfMemory}
 use Rattle.afp_serial.specs.Shown.{Shown}
@@ -80,7 +80,3 @@ pub fed_wire : (now : ℕ) (piece : List ℕ) (old : WireState) (out : List ℕ)
     → IfOk r (λ over. (bytes : List ℕ) (past : List Frame) → GivenOut bytes past old.held → FeedsWire now bytes past piece old out t over new sent u)
 fed_wire now piece old out t new sent u end (Ok over) feeds answered alone still fixed (is, not_memory) = λ bytes past given. fed now bytes past piece old out t over new sent u end is not_memory (feeds bytes past given) answered alone still fixed
 fed_wire now piece old out t new sent u end (Err e) feeds answered alone still fixed is = tt
-
-pub not_false : (b : Bool) → not b ≡ false → b ≡ true
-not_false true e = refl
-not_false false e = absurd (cc e)

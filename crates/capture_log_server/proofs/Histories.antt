@@ -2,7 +2,6 @@
 use Rattle.std.proofs.Common.{◌≡◌, ℕ, ◌+◌, Bool, true, false, List, [], ◌∷◌, ◌++◌, zero, suc, length, map, refl, sym, ap, ◌∙◌, append-nil, append_assoc, length-append, arith}
 use Rattle.std.specs.Prelude.{Option, Some, slice_get}
 use Rattle.std.proofs.lemmas.List.{append_cancel_left}
-use Rattle.afp_base.specs.Counts.{Rises}
 use Rattle.afp_core.specs.Places.{upto}
 use Rattle.afp_serial.specs.Answer.{answer, after}
 use Rattle.afp_serial.specs.History.{Own, own, own_at, stand, answers, fault_of, faults_in}
@@ -14,7 +13,7 @@ use Rattle.afp_serial.specs.declared.ask.Outcome.{Outcome}
 use Rattle.afp_serial.specs.declared.ask.Outcome.TheVariants.{Done, Fault}
 use Rattle.afp_serial.specs.declared.ask.Told.{Told}
 use Rattle.afp_serial.specs.declared.ask.Told.TheVariants.{Opened, Reply, Live, Done as ToldDone, Displaced, Memory}
-use Rattle.afp_serial.proofs.Grows.{stand-append, take-all}
+use Rattle.afp_serial.proofs.Grows.{faults-append, stand-append, take-all}
 use Rattle.afp_server.specs.Tally.{and_told, answered_after}
 use Rattle.capture_log_server.specs.Connections.{entries_of, told_of, AreServed}
 
@@ -118,15 +117,12 @@ unfolding owned
 told-owned w [] = refl
 told-owned w (e ∷ es) = ap (λ (l : List Told). answer w e ∷ l) (told-owned (after w e) es)
 
-no_faults : (a b n : ℕ) → b ≡ 0 → Rises n a b → n ≡ 0
-no_faults a b n none rises = let most = rises.1 in omega (arith, none, most)
-
--- A teller that alone asks, and whose keepers have not failed, has asked these steps, each of which was answered.
+-- A teller that alone asks, and whose asks met no fault, has asked these steps, each of which was answered.
 pub record Asks (a : Shown) (steps : List Step) (b : Shown) : Type 0 where
   pub history : b.history ≡ a.history ++ entries_of steps
   pub served : AreServed (stand a.start a.history) steps
 
-pub asks : (a b : Shown) (steps : List Step) → a.mine ≡ upto (length a.history) → b.mine ≡ upto (length b.history) → b.faults ≡ 0 → Went a steps b → answered_after true steps ≡ true
+pub asks : (a b : Shown) (steps : List Step) → a.mine ≡ upto (length a.history) → b.mine ≡ upto (length b.history) → faults_in b.history ≡ 0 → Went a steps b → answered_after true steps ≡ true
     → Asks a steps b
 asks a b steps mine theirs none went all =
     let size : length b.history ≡ length a.history + length went.between = ap length went.history ∙ length-append a.history went.between in
@@ -138,7 +134,7 @@ asks a b steps mine theirs none went all =
     ∙ ap (λ (l : List ℕ). own a.start (a.history ++ went.between) l) (sym places)
     ∙ ap (λ (l : List Entry). own a.start l went.places) (sym went.history))
     ∙ went.told ∙ all-answered steps all in
-    let faultless : faults_in went.between ≡ 0 = no_faults a.faults b.faults (faults_in went.between) none went.faults in
+    let faultless : faults_in went.between ≡ 0 = omega (arith, ap faults_in went.history, faults-append a.history went.between, none) in
     let entries : entries_of steps ≡ went.between = ap entries_of (sym steps_are) ∙ entries-owned (stand a.start a.history) went.between faultless in
     record {
       history = went.history ∙ ap (λ (l : List Entry). a.history ++ l) (sym entries);

@@ -2,7 +2,7 @@
 use Rattle.std.proofs.Common.{◌≡◌, ◌≢◌, ℕ, ◌+◌, ◌≤◌, ◌<◌, Bool, true, false, List, [], ◌∷◌, ◌++◌, zero, suc, length, length-append, min, take, drop, refl, sym, ap, ◌∙◌, subst, inl, inr, ◌⊎◌, arith}
 use Rattle.std.proofs.lemmas.Bool.Decides.{eqb_tells}
 use Rattle.std.proofs.lemmas.List.{take-append-le, take_all}
-use Rattle.std.specs.Prelude.{◌==◌, Option, Some, None, slice_get, slice_set, if◌then◌else◌, Result, Ok, Err, IfOk, OnOk}
+use Rattle.std.specs.Prelude.{◌==◌, Option, Some, None, slice_get, slice_set, if◌then◌else◌, Result, Ok, Err, OnOk}
 use Rattle.std.proofs.lemmas.Option.{slice_get-get_or}
 use Rattle.std.proofs.Math.ListN.{length-set}
 use Rattle.afp_serial.specs.Shown.{Shown}
@@ -29,10 +29,6 @@ use Rattle.capture_log_server.specs.Running.{HappensBy}
 use Rattle.capture_log_server.specs.lemma.Slots.{IsFit, FeedsAt, IdlesAt, LosesAt, ComparesAt}
 use Rattle.capture_log_server.specs.CaptureState.{CaptureState, FeedsUnless, PulsesIf, LosesIf, after_quiet, after_loss, put, world_at, start_at}
 use Rattle.capture_log_server.specs.States.{ConnectionState, RunningState, IsConnection, IsRunning, IsTeller, unused_state}
-
-pub ok_with : {X E : Type 0} (r : Result X E) (P Q : X → Type 0) → ((x : X) → P x → Q x) → IfOk r P → IfOk r Q
-ok_with (Ok x) P Q f h = f x h
-ok_with (Err e) P Q f h = tt
 
 pub on_ok_with : {X E : Type 0} (r : Result X E) (P Q : Type 0) → (P → Q) → OnOk r P → OnOk r Q
 on_ok_with (Ok x) P Q f h = f h

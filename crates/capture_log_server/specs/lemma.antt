@@ -1,4 +1,3 @@
 pub mod Moves
 pub mod Slots
 pub mod States
-pub mod Tellers

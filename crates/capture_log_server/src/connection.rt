@@ -4,7 +4,7 @@ ghost use Rattle.afp_core.specs.Telling.{start_of, shown_of};
 ghost use Rattle.afp_serial.specs.StatusBlock.{status_block};
 ghost use Rattle.afp_serial.specs.declared.ask.Told.{Told};
 ghost use Rattle.capture_log_server.specs.lemma.Moves.{wire_or};
-ghost use Rattle.capture_log_server.specs.lemma.Tellers.{NeverFails};
+ghost use Rattle.afp_core.specs.Sureness.{AreSure};
 ghost use Rattle.capture_log_server.specs.CaptureState.{after_quiet, after_loss};
 ghost use Rattle.afp_server.specs.declared.stage.Stage.{Stage};
 ghost use Rattle.dsi_frame.specs.Deframe.{GivenOut};
@@ -73,7 +73,7 @@ fn feed_wire<K: Keeper>(
 ) -> Result<bool, OutOfMemory>
     requires goes_on { wire.old.end ≡ None }
     requires live { wire.old.stage ≢ Stage.Closing }
-    requires sure { NeverFails (start_of teller.old) }
+    requires sure { AreSure (start_of teller.old) }
     requires total { wire.old.held.place + length wire.old.held.rest + length piece.now < 2 ^ 64 }
     ensures fed { IfOk result (λ over. (bytes : List ℕ) (past : List Frame) → GivenOut bytes past wire.old.held
         → FeedsWire now bytes past piece.now wire.old out.old (shown_of teller.old) over wire.new out.new (shown_of teller.new)) }
@@ -159,7 +159,7 @@ impl Connection {
         requires is { (s : Peer) × IsConnection (status_block house.now) self.old s }
         requires takes { self.old.over ≡ false }
         requires there { self.old.lost ≡ false }
-        requires sure { NeverFails (start_of teller.old) }
+        requires sure { AreSure (start_of teller.old) }
         ensures fixed { start_of teller.new ≡ start_of teller.old }
         ensures fed { IfOk result (λ tally. (s : Peer) → IsConnection (status_block house.now) self.old s
             → FeedsConnection (status_block house.now) now piece.now s (shown_of teller.old) tally self.new (shown_of teller.new)) }
@@ -216,7 +216,7 @@ impl Connection {
         now: Moment,
         teller: &mut ListTeller<K>,
     ) -> Result<(), OutOfMemory>
-        requires sure { NeverFails (start_of teller.old) }
+        requires sure { AreSure (start_of teller.old) }
         ensures fixed { start_of teller.new ≡ start_of teller.old }
         ensures idles { OnOk result ((block : List ℕ) (s : Peer) → IsConnection block self.old s
             → IdlesConnection (open_link s.stage) block now s (shown_of teller.old) self.new (shown_of teller.new)) }
@@ -244,7 +244,7 @@ impl Connection {
         now: Moment,
         teller: &mut ListTeller<K>,
     ) -> Result<(), OutOfMemory>
-        requires sure { NeverFails (start_of teller.old) }
+        requires sure { AreSure (start_of teller.old) }
         ensures fixed { start_of teller.new ≡ start_of teller.old }
         ensures loses { OnOk result ((block : List ℕ) (s : Peer) → IsConnection block self.old s
             → LosesConnection (open_link s.stage) block now s (shown_of teller.old) self.new (shown_of teller.new)) }

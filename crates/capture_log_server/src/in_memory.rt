@@ -10,7 +10,7 @@ use std::alloc::Global;
 
 /// Eight keepers in memory that hold nothing and never fail.
 pub fn memory_keepers(alloc: Global) -> Result<Vec<MemoryKeeper>, OutOfMemory>
-    ensures { IfOk result (λ keepers. AreFresh (λ k. Some k.records) (λ k. never_fails k.planned) (λ k. k.planned.faults) keepers.items) }
+    ensures { IfOk result (λ keepers. AreFresh (λ k. Some k.records) (λ k. never_fails k.planned) keepers.items) }
 {
     let mut keepers = Vec::new(alloc);
     while keepers.len() < MOST_VOLUMES {

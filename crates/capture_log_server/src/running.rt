@@ -4,7 +4,7 @@ ghost use Rattle.capture_log_lines.specs.declared.line.What.{What};
 ghost use Rattle.capture_log_server.specs.Running.{AreUnused, Happened};
 ghost use Rattle.capture_log_server.specs.Running.{HappensBy};
 ghost use Rattle.capture_log_server.specs.CaptureState.{CaptureState, is_refused_on};
-ghost use Rattle.capture_log_server.specs.lemma.Tellers.{NeverFails};
+ghost use Rattle.afp_core.specs.Sureness.{AreSure};
 ghost use Rattle.afp_serial.specs.World.{fresh_world};
 
 use crate::connection::Connection;
@@ -36,7 +36,7 @@ pub struct Running<K: Keeper> {
 impl<K: Keeper> Model for Running<K> {
     ghost use Rattle.afp_core.specs.Telling.{start_of, shown_of};
     ghost use Rattle.capture_log_server.specs.States.{RunningState};
-    ghost use Rattle.capture_log_server.specs.lemma.Tellers.{NeverFails};
+    ghost use Rattle.afp_core.specs.Sureness.{AreSure};
 
     ghost Value = { RunningState };
 
@@ -49,7 +49,7 @@ impl<K: Keeper> Model for Running<K> {
       refused = r.refused;
     } };
 
-    ghost invariant = { λ r. NeverFails (start_of r.teller) };
+    ghost invariant = { λ r. AreSure (start_of r.teller) };
 }
 
 /// As many connections as there may be, one of each number.
@@ -75,7 +75,7 @@ fn core_of<K: Keeper>(
     now: Moment,
 ) -> Result<Core<K>, OutOfMemory>
     ensures world { IfOk result (λ core. core.world ≡ fresh_world house.now now) }
-    ensures sure { IfOk result (λ core. NeverFails core) }
+    ensures sure { IfOk result (λ core. AreSure core) }
 {
     let keepers = fresh.first(house.volumes().len());
     match Core::new(alloc, house, keepers, now) {

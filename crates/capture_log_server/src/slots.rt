@@ -3,7 +3,7 @@ ghost use Rattle.std.specs.Prelude.{◌≡◌, ◌<◌, Some, length, slice_get,
 ghost use Rattle.afp_core.specs.Telling.{start_of, shown_of};
 ghost use Rattle.afp_serial.specs.StatusBlock.{status_block};
 ghost use Rattle.capture_log_server.specs.lemma.Slots.{FeedsAt, IdlesAt, LosesAt, ComparesAt, IsFit};
-ghost use Rattle.capture_log_server.specs.lemma.Tellers.{NeverFails};
+ghost use Rattle.afp_core.specs.Sureness.{AreSure};
 ghost use Rattle.capture_log_server.specs.States.{ConnectionState};
 
 use crate::connection::Connection;
@@ -57,7 +57,7 @@ pub fn feed_at<K: Keeper>(
 ) -> Result<Tally, OutOfMemory>
     requires within { index < length slots.old }
     requires fit { (c : ConnectionState) → slice_get slots.old index ≡ Some c → IsFit (status_block house.now) c }
-    requires sure { NeverFails (start_of teller.old) }
+    requires sure { AreSure (start_of teller.old) }
     ensures fixed { start_of teller.new ≡ start_of teller.old }
     ensures feeds { IfOk result (λ tally. FeedsAt (status_block house.now) now piece.now slots.old index (shown_of teller.old) tally slots.new (shown_of teller.new)) }
 {
@@ -72,7 +72,7 @@ pub fn idle_at<K: Keeper>(
     teller: &mut ListTeller<K>,
 ) -> Result<(), OutOfMemory>
     requires within { index < length slots.old }
-    requires sure { NeverFails (start_of teller.old) }
+    requires sure { AreSure (start_of teller.old) }
     ensures fixed { start_of teller.new ≡ start_of teller.old }
     ensures idles { OnOk result (IdlesAt now slots.old index (shown_of teller.old) slots.new (shown_of teller.new)) }
 {
@@ -87,7 +87,7 @@ pub fn lose_at<K: Keeper>(
     teller: &mut ListTeller<K>,
 ) -> Result<(), OutOfMemory>
     requires within { index < length slots.old }
-    requires sure { NeverFails (start_of teller.old) }
+    requires sure { AreSure (start_of teller.old) }
     ensures fixed { start_of teller.new ≡ start_of teller.old }
     ensures loses { OnOk result (LosesAt now slots.old index (shown_of teller.old) slots.new (shown_of teller.new)) }
 {

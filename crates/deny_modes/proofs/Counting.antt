@@ -9,6 +9,7 @@ use Rattle.std.proofs.lemmas.Bool.Decides.{nat_tests}
 use Rattle.std.proofs.lemmas.List.Edits.{map_over_more}
 use Rattle.std.proofs.lemmas.List.Elements.{All-from_recursion}
 use Rattle.std.proofs.lemmas.Map.Views.{length-le_from_below}
+use Rattle.std.proofs.lemmas.Bool.{and_from, and_parts, not-true, or_parts}
 use mathlib.Core.Bool.{false≢true}
 use Rattle.afp_base.specs.DenyMode.{Access, Fork, is_one_fork, is_clash}
 use Rattle.sorted_map.specs.Entries.{at, exchanged, with_new_value}
@@ -19,29 +20,11 @@ use Rattle.deny_modes.specs.lemma.ForkOrder.{fork_cmp}
 use Rattle.deny_modes.specs.Opens.{Open, has_reference, has_conflict, is_fork_open, with_noted, without_reference, in_exchange, exchange_open, exchanged_opens, count_of, counts_of, are_in_conflict}
 use Rattle.deny_modes.specs.Counters.{open_of, opens_of}
 use Rattle.deny_modes.specs.lemma.Counters.{tally_of, IsTallied, clash_with, bit, tally_with, tally_without, no_tally, CanCount, HasOpen, exchange_row}
-use Rattle.deny_modes.proofs.Forks.{order_tells, same_fork, itself, either_way, crosses, both_cross, found_crossed}
+use Rattle.deny_modes.proofs.Forks.{order_tells, either_way, crosses, both_cross, found_crossed}
 use Rattle.deny_modes.proofs.Rows.{Rise, put_back, out_again, fresh_row, shows_new, shows_less, nothing_out, low_new, low_less}
-
--- ---- tests
-or_parts : (a b : Bool) → (a || b) ≡ false → (a ≡ false) × (b ≡ false)
-or_parts true b h = absurd (cc h)
-or_parts false b h = (refl, h)
-
-and_parts : (a b : Bool) → (a && b) ≡ true → (a ≡ true) × (b ≡ true)
-and_parts true b h = (refl, h)
-and_parts false b h = absurd (cc h)
-
-and_from : (a b : Bool) → a ≡ true → b ≡ true → (a && b) ≡ true
-and_from a b h k = λ i. h i && k i
-
-not_true : (a : Bool) → not a ≡ true → a ≡ false
-not_true true h = absurd (cc h)
-not_true false h = refl
-
-or_swap : (a b c : Bool) → (a || (b || c)) ≡ (b || (a || c))
-or_swap true true c = refl
-or_swap true false c = refl
-or_swap false b c = refl
+use Rattle.afp_base.proofs.Facts.{and-false, or_swap}
+use Rattle.afp_base.proofs.ListFacts.{any-same, apart-filter, length-filter-le, any-map}
+use Rattle.afp_base.proofs.Forks.{one_fork-itself, same_fork}
 
 -- ---- filters and tests of a list with one more
 len_new : (p : Open → Bool) (new : Open) (os : List Open) → length (filter p (with_noted new os)) ≡ bit (p new) + length (filter p os)
@@ -72,10 +55,6 @@ none_left p os none = let n = length (filter p os) in let t : nat_lt 0 n ≡ fal
 none_both : (p q : Open → Bool) (os : List Open) → list_any p os ≡ false → list_any (λ o. p o && q o) os ≡ false
 none_both p q [] none = refl
 none_both p q (o ∷ os) none = let parts = or_parts (p o) (list_any p os) none in (λ i. (parts.0 i && q o) || none_both p q os parts.1 i)
-
-len_le : (p : Open → Bool) (os : List Open) → length (filter p os) ≤ length os
-len_le p [] = omega arith
-len_le p (o ∷ os) = let more = len_le p os in elim (p o) as (λ b. length (if b then o ∷ filter p os else filter p os) ≤ length (o ∷ os)) [ true ↦ omega (arith, more) | false ↦ omega (arith, more) ]
 
 -- ---- what a fork's opens come to
 abbrev full : List Open → Fork → ForkTally
@@ -186,11 +165,7 @@ clash_is : (os : List Open) (q : Fork) (a : Access) → clash_any os q a ≡ has
 clash_is [] q a = none a.deny_read a.deny_write a.read a.write
   where
     none : (w x y z : Bool) → ((((w && false) || (x && false)) || (y && false)) || (z && false)) ≡ false
-    none w x y z = λ i. (((off w i || off x i) || off y i) || off z i)
-      where
-        off : (b : Bool) → (b && false) ≡ false
-        off true = refl
-        off false = refl
+    none w x y z = λ i. (((and-false w i || and-false x i) || and-false y i) || and-false z i)
 clash_is (o ∷ os) q a = elim (is_one_fork o.fork q) as (λ b.
     ((((a.deny_read && ((b && o.access.read) || uses (λ m. m.read) q os)) || (a.deny_write && ((b && o.access.write) || uses (λ m. m.write) q os))) || (a.read && ((b && o.access.deny_read) || uses (λ m. m.deny_read) q os))) || (a.write && ((b && o.access.deny_write) || uses (λ m. m.deny_write) q os)))
     ≡ ((b && is_clash o.access a) || has_conflict os q a)) [
@@ -235,17 +210,14 @@ module _ {rows : List (ℕ × Opened)} {tallies : List (Fork × ForkTally)} (w :
   can_count f s =
       let room = len_rows s in
       subst CanCount (sym (ap (λ o. unwrap_or o no_tally) (w.tallied f) ∙ unwrapped (opens_of rows) f)) (record {
-        readers = omega (arith, room, len_le (λ o. is_one_fork o.fork f && o.access.read) (opens_of rows));
-        writers = omega (arith, room, len_le (λ o. is_one_fork o.fork f && o.access.write) (opens_of rows));
-        read_deniers = omega (arith, room, len_le (λ o. is_one_fork o.fork f && o.access.deny_read) (opens_of rows));
-        write_deniers = omega (arith, room, len_le (λ o. is_one_fork o.fork f && o.access.deny_write) (opens_of rows));
-        all = omega (arith, room, len_le (λ o. is_one_fork o.fork f) (opens_of rows));
+        readers = omega (arith, room, length-filter-le (λ o. is_one_fork o.fork f && o.access.read) (opens_of rows));
+        writers = omega (arith, room, length-filter-le (λ o. is_one_fork o.fork f && o.access.write) (opens_of rows));
+        read_deniers = omega (arith, room, length-filter-le (λ o. is_one_fork o.fork f && o.access.deny_read) (opens_of rows));
+        write_deniers = omega (arith, room, length-filter-le (λ o. is_one_fork o.fork f && o.access.deny_write) (opens_of rows));
+        all = omega (arith, room, length-filter-le (λ o. is_one_fork o.fork f) (opens_of rows));
       })
 
 -- ---- no two conflict
-any_gives : (r s : Open → Bool) (os : List Open) → ((o : Open) → r o ≡ s o) → list_any r os ≡ list_any s os
-any_gives r s [] same = refl
-any_gives r s (o ∷ os) same = λ i. same o i || any_gives r s os same i
 
 apart_new : (alike : Open → Open → Bool) (new : Open) (os : List Open) → ((a b : Open) → alike a b ≡ alike b a) → list_any (λ o. alike o new) os ≡ false → are_apart alike os ≡ true → are_apart alike (with_noted new os) ≡ true
 apart_new alike new [] either none h = refl
@@ -253,8 +225,8 @@ apart_new alike new (o ∷ os) either none h =
     let parts = or_parts (alike o new) (list_any (λ x. alike x new) os) none in
     let rest = and_parts (not (list_any (alike o) os)) (are_apart alike os) h in
     elim (nat_lt new.reference o.reference) as (λ b. are_apart alike (if b then new ∷ o ∷ os else o ∷ with_noted new os) ≡ true) [
-      | true ↦ and_from _ _ (ap not (any_gives (alike new) (λ x. alike x new) (o ∷ os) (λ x. either new x) ∙ none)) h
-      | false ↦ and_from _ _ (ap not (any_new (alike o) new os ∙ (λ i. parts.0 i || not_true (list_any (alike o) os) rest.0 i))) (apart_new alike new os either parts.1 rest.1)
+      | true ↦ and_from _ _ (ap not (any-same (alike new) (λ x. alike x new) (o ∷ os) (λ x. either new x) ∙ none)) h
+      | false ↦ and_from _ _ (ap not (any_new (alike o) new os ∙ (λ i. parts.0 i || not-true (list_any (alike o) os) rest.0 i))) (apart_new alike new os either parts.1 rest.1)
     ]
 
 any_filter : (p keep : Open → Bool) (os : List Open) → list_any p os ≡ false → list_any p (filter keep os) ≡ false
@@ -263,22 +235,9 @@ any_filter p keep (o ∷ os) none =
     let parts = or_parts (p o) (list_any p os) none in
     elim (keep o) as (λ b. list_any p (if b then o ∷ filter keep os else filter keep os) ≡ false) [ true ↦ (λ i. parts.0 i || any_filter p keep os parts.1 i) | false ↦ any_filter p keep os parts.1 ]
 
-apart_filter : (alike : Open → Open → Bool) (keep : Open → Bool) (os : List Open) → are_apart alike os ≡ true → are_apart alike (filter keep os) ≡ true
-apart_filter alike keep [] h = refl
-apart_filter alike keep (o ∷ os) h =
-    let parts = and_parts (not (list_any (alike o) os)) (are_apart alike os) h in
-    elim (keep o) as (λ b. are_apart alike (if b then o ∷ filter keep os else filter keep os) ≡ true) [
-      | true ↦ and_from _ _ (ap not (any_filter (alike o) keep os (not_true (list_any (alike o) os) parts.0))) (apart_filter alike keep os parts.1)
-      | false ↦ apart_filter alike keep os parts.1
-    ]
-
-any_map : (p : Open → Bool) (f : Open → Open) (os : List Open) → list_any p (map f os) ≡ list_any (λ o. p (f o)) os
-any_map p f [] = refl
-any_map p f (o ∷ os) = ap (λ t. p (f o) || t) (any_map p f os)
-
 apart_map : (alike : Open → Open → Bool) (f : Open → Open) (os : List Open) → ((a b : Open) → alike (f a) (f b) ≡ alike a b) → are_apart alike (map f os) ≡ are_apart alike os
 apart_map alike f [] same = refl
-apart_map alike f (o ∷ os) same = λ i. not ((any_map (alike (f o)) f os ∙ any_gives (λ x. alike (f o) (f x)) (alike o) os (same o)) i) && apart_map alike f os same i
+apart_map alike f (o ∷ os) same = λ i. not ((any-map (alike (f o)) f os ∙ any-same (λ x. alike (f o) (f x)) (alike o) os (same o)) i) && apart_map alike f os same i
 
 clash_turns : (a b : Access) → is_clash a b ≡ is_clash b a
 clash_turns a b = or_turns ((a.read && b.deny_read) || (a.write && b.deny_write)) ((b.read && a.deny_read) || (b.write && a.deny_write))
@@ -360,10 +319,10 @@ module _ {rows rows' : List (ℕ × Opened)} {tallies : List (Fork × ForkTally)
   shown_old = ap opens_of (put_back rows r v g.rise g.found ∙ ap (λ l. insert_entry nat_cmp l r v) (sym g.new_rows)) ∙ shows_new rows' r v g.absent
 
   was_open : is_fork_open (opens_of rows) v.fork ≡ true
-  was_open = ap (λ l. is_fork_open l v.fork) shown_old ∙ any_new (λ o. is_one_fork o.fork v.fork) (open_of (r, v)) (opens_of rows') ∙ ap (λ b. b || is_fork_open (opens_of rows') v.fork) (itself v.fork)
+  was_open = ap (λ l. is_fork_open l v.fork) shown_old ∙ any_new (λ o. is_one_fork o.fork v.fork) (open_of (r, v)) (opens_of rows') ∙ ap (λ b. b || is_fork_open (opens_of rows') v.fork) (one_fork-itself v.fork)
 
   was_full : full (opens_of rows) v.fork ≡ tally_with (full (opens_of rows') v.fork) v.mode
-  was_full = ap (λ l. full l v.fork) shown_old ∙ full_new (open_of (r, v)) (opens_of rows') v.fork (itself v.fork)
+  was_full = ap (λ l. full l v.fork) shown_old ∙ full_new (open_of (r, v)) (opens_of rows') v.fork (one_fork-itself v.fork)
 
   pub no_tally_is_wrong : None ≡ at fork_cmp tallies v.fork → ⊥
   no_tally_is_wrong none = false≢true (sym (none_is (opens_of rows) v.fork (none ∙ g.was.tallied v.fork)) ∙ was_open)
@@ -390,7 +349,7 @@ module _ {rows rows' : List (ℕ × Opened)} {tallies : List (Fork × ForkTally)
       | true ↦ λ same. o_is ∙ ap (tally_of (opens_of rows')) (same_fork v.fork q same)
       | false ↦ λ other. others q other
     ] refl;
-    apart = ap (are_apart are_in_conflict) (ap opens_of g.new_rows ∙ shows_less rows r g.rise) ∙ apart_filter are_in_conflict (λ o. not (o.reference == r)) (opens_of rows) g.was.apart;
+    apart = ap (are_apart are_in_conflict) (ap opens_of g.new_rows ∙ shows_less rows r g.rise) ∙ apart-filter are_in_conflict (λ o. not (o.reference == r)) (opens_of rows) g.was.apart;
   }
 
   pub last_gone : {tallies' : List (Fork × ForkTally)} (t left : ForkTally) → Some t ≡ at fork_cmp tallies v.fork → left ≡ tally_without t v.mode → left.opens ≡ 0 → ((q : Fork) → at fork_cmp tallies' q ≡ update (eq_by_cmp fork_cmp) (at fork_cmp tallies) v.fork None q) → IsTallied rows' tallies'
@@ -433,7 +392,7 @@ all_exchanged a b q (o ∷ os) =
 
 tally_exchanged : (a b q : Fork) (os : List Open) → tally_of (exchanged_opens a b os) q ≡ tally_of os (in_exchange a b q)
 tally_exchanged a b q os =
-    let there : is_fork_open (exchanged_opens a b os) q ≡ is_fork_open os (in_exchange a b q) = any_map (λ o. is_one_fork o.fork q) (exchange_open a b) os ∙ any_gives (λ o. is_one_fork (in_exchange a b o.fork) q) (λ o. is_one_fork o.fork (in_exchange a b q)) os (λ o. crosses a b o.fork q) in
+    let there : is_fork_open (exchanged_opens a b os) q ≡ is_fork_open os (in_exchange a b q) = any-map (λ o. is_one_fork o.fork q) (exchange_open a b) os ∙ any-same (λ o. is_one_fork (in_exchange a b o.fork) q) (λ o. is_one_fork o.fork (in_exchange a b q)) os (λ o. crosses a b o.fork q) in
     λ i. if there i then Some (record {
       counts = len_exchanged a b q (λ m. m.read) os i ∷ len_exchanged a b q (λ m. m.write) os i ∷ len_exchanged a b q (λ m. m.deny_read) os i ∷ len_exchanged a b q (λ m. m.deny_write) os i ∷ [];
       opens = all_exchanged a b q os i;

@@ -11,6 +11,7 @@ use Rattle.afp_base.proofs.DefinitionLaws.{one_fork}
 use Rattle.sorted_map.specs.Entries.{exchanged}
 use Rattle.deny_modes.specs.lemma.ForkOrder.{fork_cmp}
 use Rattle.deny_modes.specs.Opens.{in_exchange}
+use Rattle.afp_base.proofs.Forks.{one_fork-itself, same_fork}
 
 then_equal : (x y : Ordering) → is_eq (ordering_then x y) ≡ (is_eq x && is_eq y)
 then_equal Less y = refl
@@ -32,12 +33,6 @@ order_tells f g =
     then_equal (nat_cmp f.volume g.volume) (ordering_then (nat_cmp f.node g.node) (bool_cmp f.resource g.resource))
     ∙ (λ i. number_equal f.volume g.volume i && (then_equal (nat_cmp f.node g.node) (bool_cmp f.resource g.resource) ∙ (λ j. number_equal f.node g.node j && kind_equal f.resource g.resource j)) i)
 
-pub same_fork : (f g : Fork) → is_one_fork f g ≡ true → f ≡ g
-same_fork f g = (one_fork f g).0
-
-pub itself : (f : Fork) → is_one_fork f f ≡ true
-itself f = (one_fork f f).1 refl
-
 pub either_way : (f g : Fork) → is_one_fork f g ≡ is_one_fork g f
 either_way f g = both_ways (is_one_fork f g) (is_one_fork g f) (λ h. (one_fork g f).1 (sym (same_fork f g h))) (λ h. (one_fork f g).1 (sym (same_fork g f h)))
 
@@ -46,7 +41,7 @@ pub back : (a b f : Fork) → in_exchange a b (in_exchange a b f) ≡ f
 back a b f = elim (is_one_fork a f) as (λ t. is_one_fork a f ≡ t → in_exchange a b (if t then b else if is_one_fork b f then a else f) ≡ f) [
   | true ↦ λ is. at_b is
   | false ↦ λ other. elim (is_one_fork b f) as (λ u. is_one_fork b f ≡ u → in_exchange a b (if u then a else f) ≡ f) [
-    | true ↦ λ is. ap (λ t. if t then b else if is_one_fork b a then a else a) (itself a) ∙ same_fork b f is
+    | true ↦ λ is. ap (λ t. if t then b else if is_one_fork b a then a else a) (one_fork-itself a) ∙ same_fork b f is
     | false ↦ λ third. ap (λ t. if t then b else if is_one_fork b f then a else f) other ∙ ap (λ t. if t then a else f) third
   ] refl
 ] refl
@@ -54,7 +49,7 @@ back a b f = elim (is_one_fork a f) as (λ t. is_one_fork a f ≡ t → in_excha
     at_b : is_one_fork a f ≡ true → in_exchange a b b ≡ f
     at_b is = elim (is_one_fork a b) as (λ t. is_one_fork a b ≡ t → (if t then b else if is_one_fork b b then a else b) ≡ f) [
       | true ↦ λ one. sym (same_fork a b one) ∙ same_fork a f is
-      | false ↦ λ other. ap (λ t. if t then a else b) (itself b) ∙ same_fork a f is
+      | false ↦ λ other. ap (λ t. if t then a else b) (one_fork-itself b) ∙ same_fork a f is
     ] refl
 
 -- a fork in exchange is g where the fork is g in exchange

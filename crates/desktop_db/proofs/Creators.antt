@@ -3,12 +3,12 @@ use Rattle.std.proofs.Common.{◌≡◌, refl, ◌==◌, ◌++◌, ◌∷◌, []
 use Rattle.std.specs.Prelude.{nat_le}
 use Rattle.std.specs.List.{list_all}
 use Rattle.std.proofs.lemmas.Bool.{and_parts}
-use Rattle.volume_spec.proofs.TestedLists.{all-weaker}
 use Rattle.volume_spec.specs.Desktop.{is_appl}
 use Rattle.volume_spec.specs.Order.{rises}
 use Rattle.volume_spec.specs.SoundVolume.{appl_key, icon_key, is_icon, longest_icon}
 use Rattle.volume_spec.specs.VolumeState.{Appl, Icon}
 use Rattle.desktop_db.proofs.Heads.{climbs, heads-climb}
+use Rattle.afp_base.proofs.ListFacts.{all-weaker}
 
 pub icons-climb : (icons : List Icon) → list_all is_icon icons ≡ true → rises icon_key icons ≡ true → climbs (λ (icon : Icon). icon.creator) icons ≡ true
 icons-climb icons formed up =

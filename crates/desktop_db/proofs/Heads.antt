@@ -3,23 +3,19 @@ use Rattle.std.proofs.Common.{◌≡◌, ◌∙◌, ap, sym, refl, ℕ, zero, su
 use Rattle.std.specs.Prelude.{bytes_eq, nat_lt, slice_get, slice_index_or}
 use Rattle.std.specs.List.{list_all, filter, prefix_len}
 use Rattle.std.specs.List.Sorted.{IsPartitionPoint, IsPartitionedBy}
-use Rattle.std.proofs.lemmas.Bool.{and_parts, and_from, cases_Bool, cond-true, cond-false, eqb-true, eq-eqb, ne_eqb, le-ltb, ltb-true}
+use Rattle.std.proofs.lemmas.Bool.{and_parts, and_from, cases_Bool, cond-true, cond-false, eqb-true, eq-eqb, ne_eqb, le-ltb, ltb-true, not-true}
 use Rattle.std.proofs.lemmas.Option.{slice_get_past, slice_get_read}
-use Rattle.volume_spec.proofs.Keys.{before-differs, differ-back, same-key}
+use Rattle.volume_spec.proofs.Keys.{before-differs}
 use Rattle.volume_spec.proofs.Ordered.{before-other, before-trans}
-use Rattle.volume_spec.proofs.TestedLists.{all-both, all-weaker}
 use Rattle.volume_spec.specs.Desktop.{nth_from_one}
 use Rattle.volume_spec.specs.Order.{stands_before, rises}
-use Rattle.desktop_db.proofs.Places.{all-index}
+use Rattle.afp_base.proofs.Facts.{bytes_differ_turn, bytes_same, never_both}
+use Rattle.afp_base.proofs.ListFacts.{all-both, all-index, all-weaker, filter-none}
 
 -- no head stands before one ahead of it
 abbrev pub climbs : {A : Type 0} → (A → List ℕ) → List A → Bool
 climbs head [] = true
 climbs head (x ∷ xs) = list_all (λ y. not (stands_before (head y) (head x))) xs && climbs head xs
-
-flip : (t : Bool) → not t ≡ true → t ≡ false
-flip true h = absurd (cc)
-flip false h = refl
 
 -- of two keys the heads of one length stand as the keys do, or are one
 pub head-order : (a b r s : List ℕ) → length a ≡ length b → stands_before (a ++ r) (b ++ s) ≡ true → stands_before b a ≡ false
@@ -59,13 +55,13 @@ not-behind a b after differ = before-other b a after differ
 
 pub below-trans : (a b c : List ℕ) → stands_before b a ≡ false → stands_before b c ≡ true → stands_before a c ≡ true
 below-trans a b c after before = elim (cases_Bool (bytes_eq b a)) [
-  | inl same ↦ ap (λ q. stands_before q c) (sym (same-key b a same)) ∙ before
+  | inl same ↦ ap (λ q. stands_before q c) (sym (bytes_same b a same)) ∙ before
   | inr differ ↦ before-trans a b c (not-behind a b after (ap not differ)) before
 ]
 
 pub above-trans : (c a b : List ℕ) → stands_before c a ≡ true → stands_before b a ≡ false → stands_before c b ≡ true
 above-trans c a b before after = elim (cases_Bool (bytes_eq b a)) [
-  | inl same ↦ ap (λ q. stands_before c q) (same-key b a same) ∙ before
+  | inl same ↦ ap (λ q. stands_before c q) (bytes_same b a same) ∙ before
   | inr differ ↦ before-trans c a b before (not-behind a b after (ap not differ))
 ]
 
@@ -87,7 +83,7 @@ heads-partition {A} head bound (x ∷ xs) h = let e = and_parts (list_all (λ y.
     go all rest zero zero d before inside passes = passes
     go all rest zero (suc j) d before inside passes =
         below-trans (head x) (head (slice_index_or xs j d)) bound
-        (flip (stands_before (head (slice_index_or xs j d)) (head x)) (all-index (λ y. not (stands_before (head y) (head x))) xs j d all (omega arith))) passes
+        (not-true (stands_before (head (slice_index_or xs j d)) (head x)) (all-index (λ y. not (stands_before (head y) (head x))) xs j d all (omega arith))) passes
     go all rest (suc i) zero d before inside passes = absurd (omega arith)
     go all rest (suc i) (suc j) d before inside passes = rest i j d (omega arith) (omega arith) passes
 
@@ -98,15 +94,9 @@ abbrev pub kept : {A : Type 0} → (A → Bool) → Option A → Option A
 kept test None = None
 kept test (Some x) = cond (test x) (Some x) None
 
-filter-none : {A : Type 0} (test : A → Bool) (l : List A) → list_all (λ x. not (test x)) l ≡ true → filter test l ≡ []
-filter-none test [] h = refl
-filter-none test (x ∷ xs) h =
-    let e = and_parts (not (test x)) (list_all (λ y. not (test y)) xs) h in
-    cond-false (test x) (x ∷ filter test xs) (filter test xs) (flip (test x) e.0) ∙ filter-none test xs e.1
-
 kept-none : {A : Type 0} (test : A → Bool) (l : List A) (i : ℕ) → list_all (λ x. not (test x)) l ≡ true → kept test (slice_get l i) ≡ None
 kept-none test [] i h = refl
-kept-none test (x ∷ xs) zero h = cond-false (test x) (Some x) None (flip (test x) (and_parts (not (test x)) (list_all (λ y. not (test y)) xs) h).0)
+kept-none test (x ∷ xs) zero h = cond-false (test x) (Some x) None (not-true (test x) (and_parts (not (test x)) (list_all (λ y. not (test y)) xs) h).0)
 kept-none test (x ∷ xs) (suc i) h = kept-none test xs i (and_parts (not (test x)) (list_all (λ y. not (test y)) xs) h).1
 
 -- where no head stands before it, those of a head stand first
@@ -130,9 +120,9 @@ from-first {A} head c (x ∷ xs) i low h =
 
     none : (i : ℕ) → is x ≡ false → not (stands_before (head x) c) ≡ true → list_all (λ y. not (stands_before (head y) (head x))) xs ≡ true → slice_get (filter is (x ∷ xs)) i ≡ kept is (slice_get (x ∷ xs) i)
     none i other after up =
-        let above : stands_before c (head x) ≡ true = before-other (head x) c (flip (stands_before (head x) c) after) (ap not other) in
+        let above : stands_before c (head x) ≡ true = before-other (head x) c (not-true (stands_before (head x) c) after) (ap not other) in
         let behind : list_all (λ y. not (is y)) xs ≡ true = all-weaker (λ y. not (stands_before (head y) (head x))) (λ y. not (is y)) xs
-        (λ y later. differ-back c (head y) (before-differs c (head y) (above-trans c (head x) (head y) above (flip (stands_before (head y) (head x)) later)))) up in
+        (λ y later. bytes_differ_turn c (head y) (before-differs c (head y) (above-trans c (head x) (head y) above (not-true (stands_before (head y) (head x)) later)))) up in
         let all : list_all (λ y. not (is y)) (x ∷ xs) ≡ true = ap (λ t. not t && list_all (λ y. not (is y)) xs) other ∙ behind in
         ap (λ l. slice_get l i) (filter-none is (x ∷ xs) all) ∙ sym (kept-none is (x ∷ xs) i all)
 
@@ -152,7 +142,7 @@ nth-of {A} head c (x ∷ xs) i h =
     go : (less : Bool) → stands_before (head x) c ≡ less → (n : ℕ) → list_all (λ y. not (stands_before (head y) (head x))) xs ≡ true → slice_get (filter is xs) i ≡ kept is (slice_get xs (n + i))
         → slice_get (filter is (x ∷ xs)) i ≡ kept is (slice_get (x ∷ xs) (place n + i))
     go true a n up rest =
-        let other : is x ≡ false = flip (is x) (before-differs (head x) c a) in
+        let other : is x ≡ false = not-true (is x) (before-differs (head x) c a) in
         let at_place : place n ≡ 1 + n = ap (λ t. cond t (1 + n) 0) a in
         let more : place n + i ≡ suc (n + i) = omega arith in
         ap (λ l. slice_get l i) (cond-false (is x) (x ∷ filter is xs) (filter is xs) other) ∙ rest ∙ ap (λ k. kept is (slice_get (x ∷ xs) k)) (sym more)
@@ -162,13 +152,10 @@ nth-of {A} head c (x ∷ xs) i h =
         let all : list_all (λ y. not (stands_before (head y) c)) (x ∷ xs) ≡ true = and_from (not (stands_before (head x) c)) (list_all (λ y. not (stands_before (head y) c)) xs) (ap not a)
         (all-weaker (λ y. not (stands_before (head y) (head x))) (λ y. not (stands_before (head y) c)) xs
         (λ y later. elim (cases_Bool (stands_before (head y) c)) [
-          | inl before ↦ absurd (both (stands_before (head x) c) (below-trans (head x) (head y) c (flip (stands_before (head y) (head x)) later) before) a)
+          | inl before ↦ absurd (never_both (stands_before (head x) c) (below-trans (head x) (head y) c (not-true (stands_before (head y) (head x)) later) before) a)
           | inr after ↦ ap not after
         ]) up) in
         from-first head c (x ∷ xs) i all h ∙ ap (λ k. kept is (slice_get (x ∷ xs) k)) (sym more)
-      where
-        both : (t : Bool) → t ≡ true → t ≡ false → ⊥
-        both t is isnt = cc
 
 -- a place behind the end, and a place with an element, counted from 1
 module _ {A : Type 0} (head : A → List ℕ) (c : List ℕ) (l : List A) (first n : ℕ) where

@@ -5,7 +5,6 @@ use Rattle.afp_base.specs.declared.bytes.OutOfMemory.{OutOfMemory}
 use Rattle.volume_spec.proofs.Desktops.{appl-keeps, gone-node-keeps, icon-keeps, new-comment-keeps, taken-appl-keeps, taken-comment-keeps}
 use Rattle.volume_spec.proofs.Keys.{put-key-all}
 use Rattle.volume_spec.proofs.Ordered.{put-all}
-use Rattle.volume_spec.proofs.TestedLists.{all-filter}
 use Rattle.volume_spec.specs.Desktop.{comment_key, has_no_appl_room, has_no_icon_room, is_appl, pair_key, with_appl, with_icon, without_appl, without_comment, without_mappings}
 use Rattle.volume_spec.specs.Order.{put_in}
 use Rattle.volume_spec.specs.TypedVolume.{is_typed_appl, is_typed_comment, is_typed_icon}
@@ -14,6 +13,7 @@ use Rattle.volume_spec.specs.VolumeState.{Appl, Comment, Icon}
 use Rattle.desktop_db.specs.lemma.Kept.{AreKept}
 use Rattle.desktop_db.specs.declared.fault.DeskFault.{DeskFault}
 use Rattle.desktop_db.specs.declared.fault.DeskFault.TheVariants as fault
+use Rattle.afp_base.proofs.ListFacts.{all-filter}
 
 -- an answer that is not Full comes where there is room
 has-room : (room : Bool) (u : Unit {0}) (e : DeskFault) → (room ≡ true → (let r : Result (Unit {0}) DeskFault = Ok u in r ≡ Err e)) → room ≡ false

@@ -1,35 +1,23 @@
 -- Where a key stands in a list whose keys rise: what is found there, and what an edit at that place does.
-use Rattle.std.proofs.Common.{◌≡◌, ◌∙◌, ap, sym, refl, subst, ℕ, zero, suc, ◌+◌, ◌≤◌, ◌<◌, Bool, true, false, not, ◌&&◌, List, [], ◌∷◌, length, inl, inr, Some, None, Result, Ok, Err, IfOk, IfErr, arith}
+use Rattle.std.proofs.Common.{◌≡◌, ◌∙◌, ap, sym, refl, subst, ℕ, zero, suc, ◌+◌, ◌≤◌, ◌<◌, true, false, not, ◌&&◌, List, [], ◌∷◌, length, Some, None, Result, Ok, Err, IfOk, IfErr, arith}
 use Rattle.std.specs.Prelude.{OnOk, bytes_eq, is_none, is_some, nat_le, slice_get, slice_index_or, slice_set}
 use Rattle.std.specs.List.{list_all, insert, remove}
 use Rattle.std.specs.List.Sorted.{IsBinarySearchResult, IsSearchInRange}
 use Rattle.std.specs.Cmp.Lexicographic.{slice_cmp}
 use Rattle.std.specs.Ordering.{nat_cmp, is_lt, is_eq, ordering_reverse}
 use Rattle.std.specs.declared.cmp.Ordering.TheVariants.{Equal, Greater}
-use Rattle.std.proofs.lemmas.Bool.{and_parts, and_from, cases_Bool, cond-true, cond-false, le-leb}
+use Rattle.std.proofs.lemmas.Bool.{and_parts, and_from, cond-true, cond-false, le-leb, not-true}
 use Rattle.std.proofs.lemmas.Cmp.{nat_list_cmp_total}
 use Rattle.std.proofs.lemmas.List.Sorted.{searchable_from_sorted}
 use Rattle.std.proofs.lemmas.Option.{slice_get-get_or, slice_get_read}
 use Rattle.std.proofs.lemmas.Map.Text.{is_eq-slice_cmp}
-use Rattle.volume_spec.proofs.Keys.{before-differs, differ-back, key-same, same-key}
-use Rattle.volume_spec.proofs.Ordered.{before-one-way}
-use Rattle.volume_spec.proofs.TestedLists.{all-weaker, none-find}
+use Rattle.volume_spec.proofs.Keys.{before-differs}
+use Rattle.volume_spec.proofs.Ordered.{not-back}
 use Rattle.volume_spec.specs.Desktop.{at_key, without_key}
 use Rattle.volume_spec.specs.Order.{stands_before, put_in, rises}
 use Rattle.desktop_db.specs.lemma.Places.{IsPlaceOf, IsGapFor}
-
-flip : (t : Bool) → not t ≡ true → t ≡ false
-flip true h = absurd (cc)
-flip false h = refl
-
-pub not-back : (a b : List ℕ) → stands_before a b ≡ true → stands_before b a ≡ false
-not-back a b before = elim (cases_Bool (stands_before b a)) [ inl back ↦ absurd (before-one-way a b before back) | inr none ↦ none ]
-
--- an element that passes, if all do
-pub all-index : {A : Type 0} (p : A → Bool) (xs : List A) (j : ℕ) (d : A) → list_all p xs ≡ true → j < length xs → p (slice_index_or xs j d) ≡ true
-all-index p [] j d h inside = absurd (omega arith)
-all-index p (x ∷ xs) zero d h inside = (and_parts (p x) (list_all p xs) h).0
-all-index p (x ∷ xs) (suc j) d h inside = all-index p xs j d (and_parts (p x) (list_all p xs) h).1 (omega arith)
+use Rattle.afp_base.proofs.Facts.{and-false, bytes_differ_turn, bytes_same, bytes_true}
+use Rattle.afp_base.proofs.ListFacts.{all-index, all-weaker, none-find}
 
 -- the halving
 
@@ -44,7 +32,7 @@ neighbours key (x ∷ xs) h (suc j) (suc n) d next inside =
     neighbours key xs (and_parts (list_all (λ y. stands_before (key x) (key y)) xs) (rises key xs) h).1 j n d (omega arith) (omega arith)
 
 equal-keys : (a b : List ℕ) → slice_cmp nat_cmp a b ≡ Equal → a ≡ b
-equal-keys a b h = same-key a b (sym (is_eq-slice_cmp a b) ∙ ap is_eq h)
+equal-keys a b h = bytes_same a b (sym (is_eq-slice_cmp a b) ∙ ap is_eq h)
 
 greater-back : (a b : List ℕ) → slice_cmp nat_cmp a b ≡ Greater → stands_before b a ≡ true
 greater-back a b h = ap is_lt (nat_list_cmp_total.antisymm b a ∙ ap ordering_reverse h)
@@ -101,16 +89,16 @@ module _ {A : Type 0} (key : A → List ℕ) (k : List ℕ) where
   gap-for xs i g = at-gap xs i g.within (λ j d less. g.lower j d (omega arith) less) (λ j d more less. g.higher j d more less)
 
   lower-other : (x : A) → stands_before (key x) k ≡ true → bytes_eq (key x) k ≡ false
-  lower-other x before = flip (bytes_eq (key x) k) (before-differs (key x) k before)
+  lower-other x before = not-true (bytes_eq (key x) k) (before-differs (key x) k before)
 
   higher-others : (xs : List A) → list_all (λ y. stands_before k (key y)) xs ≡ true → list_all (λ y. not (bytes_eq (key y) k)) xs ≡ true
-  higher-others xs h = all-weaker (λ y. stands_before k (key y)) (λ y. not (bytes_eq (key y) k)) xs (λ y up. differ-back k (key y) (before-differs k (key y) up)) h
+  higher-others xs h = all-weaker (λ y. stands_before k (key y)) (λ y. not (bytes_eq (key y) k)) xs (λ y up. bytes_differ_turn k (key y) (before-differs k (key y) up)) h
 
   -- what is found
 
   place-find : (xs : List A) (i : ℕ) → AtPlace xs i → at_key key k xs ≡ slice_get xs i
   place-find [] i p = absurd p
-  place-find (x ∷ xs) zero p = cond-true (bytes_eq (key x) k) (Some x) (at_key key k xs) (key-same (key x) k p.0)
+  place-find (x ∷ xs) zero p = cond-true (bytes_eq (key x) k) (Some x) (at_key key k xs) (bytes_true (key x) k p.0)
   place-find (x ∷ xs) (suc i) p = cond-false (bytes_eq (key x) k) (Some x) (at_key key k xs) (lower-other x p.0) ∙ place-find xs i p.1
 
   gap-find : (xs : List A) (i : ℕ) → AtGap xs i → at_key key k xs ≡ None
@@ -130,7 +118,7 @@ module _ {A : Type 0} (key : A → List ℕ) (k : List ℕ) where
   first-left x xs before = cond-true (not (bytes_eq (key x) k)) (x ∷ without_key key k xs) (without_key key k xs) (before-differs (key x) k before)
 
   first-gone : (x : A) (xs : List A) → key x ≡ k → without_key key k (x ∷ xs) ≡ without_key key k xs
-  first-gone x xs is = cond-false (not (bytes_eq (key x) k)) (x ∷ without_key key k xs) (without_key key k xs) (ap not (key-same (key x) k is))
+  first-gone x xs is = cond-false (not (bytes_eq (key x) k)) (x ∷ without_key key k xs) (without_key key k xs) (ap not (bytes_true (key x) k is))
 
   place-gone : (xs : List A) (i : ℕ) → AtPlace xs i → without_key key k xs ≡ remove xs i
   place-gone [] i p = absurd p
@@ -196,12 +184,8 @@ gap-moved key {l = l} {xs = xs} {i = i} is same p = subst (λ zs. IsGapFor key l
 
 pub known-has-room : {A : Type 0} (key : A → List ℕ) (k : List ℕ) (most : ℕ) (xs : List A) (i : ℕ) → rises key xs ≡ true → IsPlaceOf key k xs i → (nat_le most (length xs) && is_none (at_key key k xs)) ≡ false
 known-has-room {A = A} key k most xs i h p =
-    ap (λ o. nat_le most (length xs) && is_none o) (found key k xs i h p ∙ slice_get-get_or xs i (first xs i p) p.within) ∙ none (nat_le most (length xs))
+    ap (λ o. nat_le most (length xs) && is_none o) (found key k xs i h p ∙ slice_get-get_or xs i (first xs i p) p.within) ∙ and-false (nat_le most (length xs))
   where
-    none : (t : Bool) → (t && false) ≡ false
-    none true = refl
-    none false = refl
-
     first : (xs : List A) (i : ℕ) → IsPlaceOf key k xs i → A
     first [] i q = absurd (omega (arith, q.within))
     first (x ∷ xs) i q = x

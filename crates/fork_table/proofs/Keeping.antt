@@ -8,12 +8,14 @@ use Rattle.std.specs.BTreeMap.{insert_entry, is_at}
 use Rattle.std.specs.Ordering.{nat_cmp, is_eq, match_ordering}
 use Rattle.std.specs.declared.cmp.Ordering.TheVariants.{Less, Equal, Greater}
 use Rattle.std.proofs.lemmas.Bool.Decides.{nat_tests}
+use Rattle.std.proofs.lemmas.Bool.{and_parts, eqb-true, or_parts, or_right}
+use Rattle.std.proofs.lemmas.List.Folds.{list_all-map}
 use Rattle.afp_base.specs.DenyMode.{Fork, is_one_fork}
 use Rattle.afp_base.specs.Overlap.{Range}
 use Rattle.afp_base.specs.declared.ids.NodeId.{NodeId}
 use Rattle.sorted_map.specs.Entries.{at}
 use Rattle.deny_modes.specs.Opens.{Open, opens_on, has_reference, in_exchange, exchange_open, exchanged_opens, with_noted, without_reference}
-use Rattle.deny_modes.proofs.Forks.{itself, both_cross}
+use Rattle.deny_modes.proofs.Forks.{both_cross}
 use Rattle.range_locks.specs.declared.fault.LockFault.{LockFault}
 use Rattle.range_locks.specs.declared.fault.LockFault.TheVariants.{Locked, Overlap, Full, Memory}
 use Rattle.range_locks.specs.declared.fault.NotLocked.{NotLocked}
@@ -25,42 +27,12 @@ use Rattle.fork_table.specs.lemma.Kept.{IsTable}
 use Rattle.fork_table.specs.lemma.Own.{AreOwn}
 use Rattle.fork_table.specs.declared.own.OwnRef.{OwnRef}
 use Rattle.fork_table.proofs.Owning.{own_exchanged}
-use Rattle.fork_table.proofs.References.{Rise, Above, lower, higher, same_number, shows_new, shows_less, fresh_row}
+use Rattle.fork_table.proofs.References.{Rise, Above, shows_new, shows_less, fresh_row}
+use Rattle.afp_base.proofs.Facts.{eqb-itself, nat_cmp_equal, nat_cmp_greater, nat_cmp_less, or_swap}
+use Rattle.afp_base.proofs.ListFacts.{all-weaker, any-map, any-same, any-weaker, filter-all}
+use Rattle.afp_base.proofs.Forks.{one_fork-itself}
 
 -- ---- tests
-and_parts : (a b : Bool) → (a && b) ≡ true → (a ≡ true) × (b ≡ true)
-and_parts true b h = (refl, h)
-and_parts false b h = absurd (cc h)
-
-or_parts : (a b : Bool) → (a || b) ≡ false → (a ≡ false) × (b ≡ false)
-or_parts true b h = absurd (cc h)
-or_parts false b h = (refl, h)
-
-or_right : (a b : Bool) → b ≡ true → (a || b) ≡ true
-or_right true b h = refl
-or_right false b h = h
-
-or_swap : (a b c : Bool) → (a || (b || c)) ≡ (b || (a || c))
-or_swap true true c = refl
-or_swap true false c = refl
-or_swap false b c = refl
-
-one_number : (m n : ℕ) → (m == n) ≡ true → m ≡ n
-one_number m n h = grind (arith, nat_tests, h)
-
-number_itself : (m : ℕ) → (m == m) ≡ true
-number_itself m = grind (arith, nat_tests)
-
-any_more : {A : Type 0} (p q : A → Bool) (xs : List A) → ((x : A) → p x ≡ true → q x ≡ true) → list_any p xs ≡ true → list_any q xs ≡ true
-any_more p q [] gives h = absurd (cc h)
-any_more p q (x ∷ xs) gives h = elim (p x) as (λ b. p x ≡ b → (b || list_any p xs) ≡ true → (q x || list_any q xs) ≡ true) [
-  | true ↦ λ is h. ap (λ b. b || list_any q xs) (gives x is)
-  | false ↦ λ is h. or_right (q x) (list_any q xs) (any_more p q xs gives h)
-] refl h
-
-all_more : {A : Type 0} (p q : A → Bool) (xs : List A) → ((x : A) → p x ≡ true → q x ≡ true) → list_all p xs ≡ true → list_all q xs ≡ true
-all_more p q [] gives h = refl
-all_more p q (x ∷ xs) gives h = let parts = and_parts (p x) (list_all p xs) h in λ i. gives x parts.0 i && all_more p q xs gives parts.1 i
 
 all_filter : {A : Type 0} (p q keep : A → Bool) (xs : List A) → ((x : A) → keep x ≡ true → p x ≡ true → q x ≡ true) → list_all p xs ≡ true → list_all q (filter keep xs) ≡ true
 all_filter p q keep [] gives h = refl
@@ -81,24 +53,6 @@ any_filter p q keep (x ∷ xs) gives h = elim (p x) as (λ b. p x ≡ b → (b |
       let more = any_filter p q keep xs gives h in
       elim (keep x) as (λ b. list_any q (if b then x ∷ filter keep xs else filter keep xs) ≡ true) [ true ↦ or_right (q x) (list_any q (filter keep xs)) more | false ↦ more ]
 ] refl h
-
-any_map : {A B : Type 0} (p : B → Bool) (f : A → B) (xs : List A) → list_any p (map f xs) ≡ list_any (λ x. p (f x)) xs
-any_map p f [] = refl
-any_map p f (x ∷ xs) = ap (λ t. p (f x) || t) (any_map p f xs)
-
-all_map : {A B : Type 0} (p : B → Bool) (f : A → B) (xs : List A) → list_all p (map f xs) ≡ list_all (λ x. p (f x)) xs
-all_map p f [] = refl
-all_map p f (x ∷ xs) = ap (λ t. p (f x) && t) (all_map p f xs)
-
-any_gives : {A : Type 0} (r s : A → Bool) (xs : List A) → ((x : A) → r x ≡ s x) → list_any r xs ≡ list_any s xs
-any_gives r s [] same = refl
-any_gives r s (x ∷ xs) same = λ i. same x i || any_gives r s xs same i
-
-all_stay : {A : Type 0} (p : A → Bool) (xs : List A) → list_all p xs ≡ true → filter p xs ≡ xs
-all_stay p [] h = refl
-all_stay p (x ∷ xs) h =
-    let parts = and_parts (p x) (list_all p xs) h in
-    ap (λ b. if b then x ∷ filter p xs else filter p xs) parts.0 ∙ ap (λ l. x ∷ l) (all_stay p xs parts.1)
 
 none_go : {A : Type 0} (p : A → Bool) (xs : List A) → list_any p xs ≡ false → filter (λ x. not (p x)) xs ≡ xs
 none_go p [] h = refl
@@ -134,7 +88,7 @@ all_new p (e ∷ es) r v none here h = elim (nat_cmp r e.0) as (λ o. cond (is_e
 ] none
 
 pub fresh : (rows : List (ℕ × OpenFork)) (r : ℕ) → is_open_reference rows r ≡ false → has_reference (plain_opens rows) r ≡ false
-fresh rows r free = any_map (λ (o : Open). o.reference == r) plain_open rows ∙ free
+fresh rows r free = any-map (λ (o : Open). o.reference == r) plain_open rows ∙ free
 
 pub no_row : (rows : List (ℕ × OpenFork)) (r : ℕ) → is_open_reference rows r ≡ false → at nat_cmp rows r ≡ None
 no_row rows r free = fresh_row rows r (fresh rows r free)
@@ -147,17 +101,17 @@ table_opened {rows = rows} {rows' = rows'} {locks = locks} r v t from_one free r
       from_one = ap (list_all (λ (row : ℕ × OpenFork). nat_lt 0 row.0)) rows_are ∙ all_new (λ row. nat_lt 0 row.0) rows r v absent positive t.from_one;
       sessions = own_are;
       shown = opens_are ∙ ap (with_noted (plain_open (r, v))) t.shown ∙ sym (shows_new rows r v absent) ∙ ap plain_opens (sym rows_are);
-      held = ap (λ l. list_all (is_held l) locks) rows_are ∙ all_more (is_held rows) (is_held (insert_entry nat_cmp rows r v)) locks (λ l h.
+      held = ap (λ l. list_all (is_held l) locks) rows_are ∙ all-weaker (is_held rows) (is_held (insert_entry nat_cmp rows r v)) locks (λ l h.
           any_new (λ (row : ℕ × OpenFork). (row.0 == l.reference) && is_one_fork row.1.fork l.fork) rows r v absent ∙ or_right _ _ h) t.held;
     }
 
 -- an open that is noted and forgotten
 pub forgotten : (opens : List Open) (new : Open) → has_reference opens new.reference ≡ false → without_reference new.reference (with_noted new opens) ≡ opens
-forgotten [] new none = ap (λ b. if not b then new ∷ [] else []) (number_itself new.reference)
+forgotten [] new none = ap (λ b. if not b then new ∷ [] else []) (eqb-itself new.reference)
 forgotten (o ∷ os) new none =
     let parts = or_parts (o.reference == new.reference) (has_reference os new.reference) none in
     elim (nat_lt new.reference o.reference) as (λ b. without_reference new.reference (if b then new ∷ o ∷ os else o ∷ with_noted new os) ≡ o ∷ os) [
-      | true ↦ ap (λ b. if not b then new ∷ without_reference new.reference (o ∷ os) else without_reference new.reference (o ∷ os)) (number_itself new.reference) ∙ none_go (λ (x : Open). x.reference == new.reference) (o ∷ os) none
+      | true ↦ ap (λ b. if not b then new ∷ without_reference new.reference (o ∷ os) else without_reference new.reference (o ∷ os)) (eqb-itself new.reference) ∙ none_go (λ (x : Open). x.reference == new.reference) (o ∷ os) none
       | false ↦ ap (λ b. if not b then o ∷ without_reference new.reference (with_noted new os) else without_reference new.reference (with_noted new os)) parts.0 ∙ ap (λ l. o ∷ l) (forgotten os new parts.1)
     ]
 
@@ -175,10 +129,10 @@ found_held [] r f found = absurd (cc found)
 found_held (e ∷ es) r f found = elim (nat_cmp r e.0) as (λ o. nat_cmp r e.0 ≡ o → Some f ≡ option_map (λ o. o.fork) (cond (is_eq o) (Some e.1) (at nat_cmp es r)) → (((e.0 == r) && is_one_fork e.1.fork f) || list_any (λ row. (row.0 == r) && is_one_fork row.1.fork f) es) ≡ true) [
   | Less ↦ λ is found. or_right _ _ (found_held es r f found)
   | Equal ↦ λ is found.
-      let one = same_number r e.0 is in
+      let one = nat_cmp_equal r e.0 is in
       let same : f ≡ e.1.fork = cc found in
       let number : (e.0 == r) ≡ true = grind (arith, nat_tests, one) in
-      let fork : is_one_fork e.1.fork f ≡ true = ap (is_one_fork e.1.fork) same ∙ itself e.1.fork in
+      let fork : is_one_fork e.1.fork f ≡ true = ap (is_one_fork e.1.fork) same ∙ one_fork-itself e.1.fork in
       (λ i. (number i && fork i) || list_any (λ row. (row.0 == r) && is_one_fork row.1.fork f) es)
   | Greater ↦ λ is found. or_right _ _ (found_held es r f found)
 ] refl found
@@ -213,19 +167,19 @@ table_unlocked {rows = rows} {locks = locks} {locks' = locks'} f r range res t t
 none_less : (r : ℕ) (rows : List (ℕ × OpenFork)) → Above r rows → filter (λ row. not (row.0 == r)) rows ≡ rows
 none_less r [] a = refl
 none_less r (e ∷ es) a =
-    ap (λ b. if not b then e ∷ filter (λ row. not (row.0 == r)) es else filter (λ row. not (row.0 == r)) es) (let h = lower r e.0 a.0 in let t : (e.0 == r) ≡ false = grind (arith, nat_tests) in t)
+    ap (λ b. if not b then e ∷ filter (λ row. not (row.0 == r)) es else filter (λ row. not (row.0 == r)) es) (let h = nat_cmp_less r e.0 a.0 in let t : (e.0 == r) ≡ false = grind (arith, nat_tests) in t)
     ∙ ap (λ l. e ∷ l) (none_less r es a.1)
 
 pub less_is : (rows : List (ℕ × OpenFork)) (r : ℕ) → Rise rows → remove_entry (is_at (nat_cmp r)) rows ≡ filter (λ row. not (row.0 == r)) rows
 unfolding IsStrictlySortedBy
 less_is [] r s = refl
 less_is (e ∷ es) r s = elim (nat_cmp r e.0) as (λ o. nat_cmp r e.0 ≡ o → cond (is_eq o) es (e ∷ remove_entry (is_at (nat_cmp r)) es) ≡ filter (λ row. not (row.0 == r)) (e ∷ es)) [
-  | Less ↦ λ is. ap (λ l. e ∷ l) (less_is es r s.1) ∙ kept (let h = lower r e.0 is in let t : (e.0 == r) ≡ false = grind (arith, nat_tests) in t)
+  | Less ↦ λ is. ap (λ l. e ∷ l) (less_is es r s.1) ∙ kept (let h = nat_cmp_less r e.0 is in let t : (e.0 == r) ≡ false = grind (arith, nat_tests) in t)
   | Equal ↦ λ is.
-      let one = same_number r e.0 is in
+      let one = nat_cmp_equal r e.0 is in
       sym (none_less r es (subst (λ k. Above k es) (sym one) s.0))
       ∙ ap (λ b. if not b then e ∷ filter (λ row. not (row.0 == r)) es else filter (λ row. not (row.0 == r)) es) (let t : true ≡ (e.0 == r) = grind (arith, nat_tests, one) in t)
-  | Greater ↦ λ is. ap (λ l. e ∷ l) (less_is es r s.1) ∙ kept (let h = higher r e.0 is in let t : (e.0 == r) ≡ false = grind (arith, nat_tests) in t)
+  | Greater ↦ λ is. ap (λ l. e ∷ l) (less_is es r s.1) ∙ kept (let h = nat_cmp_greater r e.0 is in let t : (e.0 == r) ≡ false = grind (arith, nat_tests) in t)
 ] refl
   where
     kept : (e.0 == r) ≡ false → e ∷ filter (λ row. not (row.0 == r)) es ≡ filter (λ row. not (row.0 == r)) (e ∷ es)
@@ -239,7 +193,7 @@ table_closed {rows = rows} {rows' = rows'} {locks = locks} r t rise rows_are own
   held = (λ i. list_all (is_held ((rows_are ∙ less_is rows r rise) i)) (locks_are i))
       ∙ all_filter (is_held rows) (is_held (filter (λ row. not (row.0 == r)) rows)) (λ l. not (l.reference == r)) locks (λ l stays h.
       any_filter (λ (row : ℕ × OpenFork). (row.0 == l.reference) && is_one_fork row.1.fork l.fork) (λ row. (row.0 == l.reference) && is_one_fork row.1.fork l.fork) (λ row. not (row.0 == r)) rows
-      (λ row p. (let same = one_number row.0 l.reference (and_parts _ _ p).0 in ap (λ n. not (n == r)) same ∙ stays, p)) h) t.held;
+      (λ row p. (let same = eqb-true row.0 l.reference (and_parts _ _ p).0 in ap (λ n. not (n == r)) same ∙ stays, p)) h) t.held;
 }
 
 -- ---- all opens of a session, or of a session on a volume, go
@@ -248,7 +202,7 @@ unfolding IsStrictlySortedBy
 alone goes [] r s h = refl
 alone goes (e ∷ es) r s h = elim (e.0 == r) as (λ b. (e.0 == r) ≡ b → ((b && goes e.1) || list_any (λ row. (row.0 == r) && goes row.1) es) ≡ true → ((not (not b) && not (goes e.1)) || list_any (λ row. not (not (row.0 == r)) && not (goes row.1)) es) ≡ false) [
   | true ↦ λ is h.
-      let above : Above r es = subst (λ k. Above k es) (one_number e.0 r is) s.0 in
+      let above : Above r es = subst (λ k. Above k es) (eqb-true e.0 r is) s.0 in
       let here : goes e.1 ≡ true = or_left (goes e.1) _ (none_there (λ row. goes row.1) es above) h in
       (λ i. not (here i) || none_twice es above i)
   | false ↦ λ is h. alone goes es r s.1 h
@@ -261,13 +215,13 @@ alone goes (e ∷ es) r s h = elim (e.0 == r) as (λ b. (e.0 == r) ≡ b → ((b
     none_there : (p : ℕ × OpenFork → Bool) (rows : List (ℕ × OpenFork)) → Above r rows → list_any (λ row. (row.0 == r) && p row) rows ≡ false
     none_there p [] a = refl
     none_there p (x ∷ xs) a =
-        let other : (x.0 == r) ≡ false = (let k = lower r x.0 a.0 in grind (arith, nat_tests)) in
+        let other : (x.0 == r) ≡ false = (let k = nat_cmp_less r x.0 a.0 in grind (arith, nat_tests)) in
         (λ i. (other i && p x) || none_there p xs a.1 i)
 
     none_twice : (rows : List (ℕ × OpenFork)) → Above r rows → list_any (λ row. not (not (row.0 == r)) && not (goes row.1)) rows ≡ false
     none_twice [] a = refl
     none_twice (x ∷ xs) a =
-        let other : (x.0 == r) ≡ false = (let k = lower r x.0 a.0 in grind (arith, nat_tests)) in
+        let other : (x.0 == r) ≡ false = (let k = nat_cmp_less r x.0 a.0 in grind (arith, nat_tests)) in
         (λ i. (not (not (other i)) && not (goes x.1)) || none_twice xs a.1 i)
 
 pub closing_more : (goes : OpenFork → Bool) (t t' : Table) (r : ℕ) → Rise t.opens → list_any (λ row. (row.0 == r) && goes row.1) t.opens ≡ true
@@ -276,7 +230,7 @@ closing_more goes t t' r rise there opens_are locks_are =
     let stays = λ (row : ℕ × OpenFork). not (goes row.1) in
     let no_stay = alone goes t.opens r rise there in
     let same : filter stays t'.opens ≡ filter stays t.opens = ap (filter stays) opens_are ∙ filter_inner stays (λ row. not (row.0 == r)) t.opens no_stay in
-    let closed : is_open_reference (filter stays t.opens) r ≡ false = any_in_filter (λ row. row.0 == r) stays t.opens ∙ any_gives (λ (row : ℕ × OpenFork). (row.0 == r) && stays row) (λ row. not (not (row.0 == r)) && stays row) t.opens (λ row. ap (λ b. b && stays row) (twice (row.0 == r))) ∙ no_stay in
+    let closed : is_open_reference (filter stays t.opens) r ≡ false = any_in_filter (λ row. row.0 == r) stays t.opens ∙ any-same (λ (row : ℕ × OpenFork). (row.0 == r) && stays row) (λ row. not (not (row.0 == r)) && stays row) t.opens (λ row. ap (λ b. b && stays row) (twice (row.0 == r))) ∙ no_stay in
     λ i. record {
       opens = same i;
       locks = ((λ j. filter (λ l. is_open_reference (same j) l.reference) (locks_are j)) ∙ filter_inner (λ (l : ForkLock). is_open_reference (filter stays t.opens) l.reference) (λ l. not (l.reference == r)) t.locks (no_lock (filter stays t.opens) closed t.locks)) i;
@@ -289,15 +243,15 @@ closing_more goes t t' r rise there opens_are locks_are =
     no_lock : (rows : List (ℕ × OpenFork)) → is_open_reference rows r ≡ false → (ls : List ForkLock) → list_any (λ (l : ForkLock). not (not (l.reference == r)) && is_open_reference rows l.reference) ls ≡ false
     no_lock rows closed [] = refl
     no_lock rows closed (l ∷ ls) = elim (l.reference == r) as (λ b. (l.reference == r) ≡ b → ((not (not b) && is_open_reference rows l.reference) || list_any (λ l. not (not (l.reference == r)) && is_open_reference rows l.reference) ls) ≡ false) [
-      | true ↦ λ is. (λ i. (ap (is_open_reference rows) (one_number l.reference r is) ∙ closed) i || no_lock rows closed ls i)
+      | true ↦ λ is. (λ i. (ap (is_open_reference rows) (eqb-true l.reference r is) ∙ closed) i || no_lock rows closed ls i)
       | false ↦ λ is. no_lock rows closed ls
     ] refl
 
 pub closing_done : (goes : OpenFork → Bool) (t : Table) → list_all (is_held t.opens) t.locks ≡ true → list_any (λ row. goes row.1) t.opens ≡ false → closing goes t ≡ t
 closing_done goes t held none =
     let same : filter (λ (row : ℕ × OpenFork). not (goes row.1)) t.opens ≡ t.opens = none_go (λ (row : ℕ × OpenFork). goes row.1) t.opens none in
-    let open_all : list_all (λ (l : ForkLock). is_open_reference t.opens l.reference) t.locks ≡ true = all_more (is_held t.opens) (λ l. is_open_reference t.opens l.reference) t.locks (λ l h. any_more (λ (row : ℕ × OpenFork). (row.0 == l.reference) && is_one_fork row.1.fork l.fork) (λ row. row.0 == l.reference) t.opens (λ row p. (and_parts _ _ p).0) h) held in
-    λ i. record { opens = same i; locks = ((λ j. filter (λ l. is_open_reference (same j) l.reference) t.locks) ∙ all_stay (λ (l : ForkLock). is_open_reference t.opens l.reference) t.locks open_all) i }
+    let open_all : list_all (λ (l : ForkLock). is_open_reference t.opens l.reference) t.locks ≡ true = all-weaker (is_held t.opens) (λ l. is_open_reference t.opens l.reference) t.locks (λ l h. any-weaker (λ (row : ℕ × OpenFork). (row.0 == l.reference) && is_one_fork row.1.fork l.fork) (λ row. row.0 == l.reference) t.opens (λ row p. (and_parts _ _ p).0) h) held in
+    λ i. record { opens = same i; locks = ((λ j. filter (λ l. is_open_reference (same j) l.reference) t.locks) ∙ filter-all (λ (l : ForkLock). is_open_reference t.opens l.reference) t.locks open_all) i }
 
 pub shorter : (p : ℕ × OpenFork → Bool) (rows : List (ℕ × OpenFork)) (r : ℕ) → list_any (λ row. (row.0 == r) && p row) rows ≡ true → length (filter (λ row. not (row.0 == r)) rows) < length rows
 shorter p [] r h = absurd (cc h)
@@ -313,13 +267,13 @@ shorter p (e ∷ es) r h = elim (e.0 == r) as (λ b. ((b && p e) || list_any (λ
 -- ---- two forks change places
 pub table_exchanged : {rows rows' : List (ℕ × OpenFork)} {own : List (OwnRef × Unit {0})} {opens opens' : List Open} {locks locks' : List ForkLock} (a b : Fork) → IsTable rows own opens locks → rows' ≡ map (exchange_row a b) rows → opens' ≡ exchanged_opens a b opens → locks' ≡ exchanged_locks a b locks → IsTable rows' own opens' locks'
 table_exchanged {rows = rows} {rows' = rows'} {own = own} {locks = locks} a b t rows_are opens_are locks_are = record {
-  from_one = ap (list_all (λ (row : ℕ × OpenFork). nat_lt 0 row.0)) rows_are ∙ all_map (λ (row : ℕ × OpenFork). nat_lt 0 row.0) (exchange_row a b) rows ∙ t.from_one;
+  from_one = ap (list_all (λ (row : ℕ × OpenFork). nat_lt 0 row.0)) rows_are ∙ list_all-map (λ (row : ℕ × OpenFork). nat_lt 0 row.0) (exchange_row a b) rows ∙ t.from_one;
   sessions = own_exchanged rows own t.sessions a b rows_are;
   shown = opens_are ∙ ap (exchanged_opens a b) t.shown ∙ shows rows ∙ ap plain_opens (sym rows_are);
-  held = (λ i. list_all (is_held (rows_are i)) (locks_are i)) ∙ all_map (is_held (map (exchange_row a b) rows)) (exchange_lock a b) locks
-      ∙ all_more (is_held rows) (λ l. is_held (map (exchange_row a b) rows) (exchange_lock a b l)) locks (λ l h.
-      any_map (λ (row : ℕ × OpenFork). (row.0 == l.reference) && is_one_fork row.1.fork (in_exchange a b l.fork)) (exchange_row a b) rows
-      ∙ any_gives (λ (row : ℕ × OpenFork). (row.0 == l.reference) && is_one_fork (in_exchange a b row.1.fork) (in_exchange a b l.fork)) (λ row. (row.0 == l.reference) && is_one_fork row.1.fork l.fork) rows (λ row. ap (λ t. (row.0 == l.reference) && t) (both_cross a b row.1.fork l.fork)) ∙ h) t.held;
+  held = (λ i. list_all (is_held (rows_are i)) (locks_are i)) ∙ list_all-map (is_held (map (exchange_row a b) rows)) (exchange_lock a b) locks
+      ∙ all-weaker (is_held rows) (λ l. is_held (map (exchange_row a b) rows) (exchange_lock a b l)) locks (λ l h.
+      any-map (λ (row : ℕ × OpenFork). (row.0 == l.reference) && is_one_fork row.1.fork (in_exchange a b l.fork)) (exchange_row a b) rows
+      ∙ any-same (λ (row : ℕ × OpenFork). (row.0 == l.reference) && is_one_fork (in_exchange a b row.1.fork) (in_exchange a b l.fork)) (λ row. (row.0 == l.reference) && is_one_fork row.1.fork l.fork) rows (λ row. ap (λ t. (row.0 == l.reference) && t) (both_cross a b row.1.fork l.fork)) ∙ h) t.held;
 }
   where
     shows : (rows : List (ℕ × OpenFork)) → exchanged_opens a b (plain_opens rows) ≡ plain_opens (map (exchange_row a b) rows)

@@ -9,7 +9,7 @@ use Rattle.std.specs.BTreeMap.{insert_entry, is_at}
 use Rattle.std.specs.Ordering.{nat_cmp, is_eq, match_ordering, ordering_then}
 use Rattle.std.specs.declared.cmp.Ordering.{Ordering}
 use Rattle.std.specs.declared.cmp.Ordering.TheVariants.{Less, Equal, Greater}
-use Rattle.std.proofs.lemmas.Bool.{cases_Bool}
+use Rattle.std.proofs.lemmas.Bool.{cases_Bool, or_right, or_parts}
 use Rattle.std.proofs.lemmas.Bool.Decides.{nat_tests}
 use Rattle.std.proofs.lemmas.Cmp.{nat_cmp_total, then_total}
 use Rattle.afp_base.specs.DenyMode.{Fork}
@@ -21,7 +21,8 @@ use Rattle.fork_table.specs.ForkTable.{is_open_of_session, exchange_row}
 use Rattle.fork_table.specs.lemma.Kept.{FindsOne, does_pass}
 use Rattle.fork_table.specs.lemma.Own.{own_cmp, own_entry, own_ref, is_own, session_of, AreOwn, IsOwnPart, IsSplitBy}
 use Rattle.fork_table.proofs.Entries.{other_put, own_put, other_taken, own_taken, found_passing, none_passing, out_again, nothing_taken}
-use Rattle.fork_table.proofs.References.{Rise, Above, lower, same_number}
+use Rattle.fork_table.proofs.References.{Rise, Above}
+use Rattle.afp_base.proofs.Facts.{nat_cmp_equal, nat_cmp_less}
 
 abbrev Entry : Type 0
 Entry = OwnRef × Unit {0}
@@ -42,7 +43,7 @@ own_itself k = λ i. ordering_then (number_itself k.session.0 i) (number_itself 
 same_session : (k : OwnRef) (e : OwnRef) → is_eq (own_cmp k e) ≡ true → k.session.0 ≡ e.session.0
 same_session k e h = elim (nat_cmp k.session.0 e.session.0) as (λ r. nat_cmp k.session.0 e.session.0 ≡ r → is_eq (ordering_then r (nat_cmp k.reference.0 e.reference.0)) ≡ true → k.session.0 ≡ e.session.0) [
   | Less ↦ λ is h. absurd (cc h)
-  | Equal ↦ λ is h. same_number k.session.0 e.session.0 is
+  | Equal ↦ λ is h. nat_cmp_equal k.session.0 e.session.0 is
   | Greater ↦ λ is h. absurd (cc h)
 ] refl h
 
@@ -191,10 +192,6 @@ first_found s (e ∷ es) = elim (is_open_of_session s e.1) as (λ b. is_open_of_
   | false ↦ λ other. further (option_map (λ (x : Entry). x.0.reference) (slice_get (map own_entry (of_rows s es)) 0)) other (first_found s es)
 ] refl
   where
-    or_right : (a b : Bool) → b ≡ true → (a || b) ≡ true
-    or_right true b h = refl
-    or_right false b h = h
-
     further : (o : Option ForkRef) → is_open_of_session s e.1 ≡ false → FindsOne (is_open_of_session s) es o → FindsOne (is_open_of_session s) (e ∷ es) o
     further (Some r) other h = or_right _ _ h
     further None other h = λ i. other i || h i
@@ -202,22 +199,14 @@ first_found s (e ∷ es) = elim (is_open_of_session s e.1) as (λ b. is_open_of_
 pub finds_first : (rows : List (ℕ × OpenFork)) (s : ℕ) {mine : List Entry} → mine ≡ map own_entry (of_rows s rows) → FindsOne (is_open_of_session s) rows (option_map (λ (e : Entry). e.0.reference) (slice_get mine 0))
 finds_first rows s is = subst (λ l. FindsOne (is_open_of_session s) rows (option_map (λ (e : Entry). e.0.reference) (slice_get l 0))) (sym is) (first_found s rows)
 
-pub first_part : (a b : Bool) → (a && b) ≡ true → a ≡ true
-first_part true b h = refl
-first_part false b h = absurd (cc h)
-
 -- an open that passes
 pub finds_passing : (p : OpenFork → Bool) (rows : List (ℕ × OpenFork)) (r : ℕ) → does_pass p (at nat_cmp rows r) ≡ true → list_any (λ row. (row.0 == r) && p row.1) rows ≡ true
 finds_passing p [] r h = absurd (cc h)
 finds_passing p (e ∷ es) r h = elim (nat_cmp r e.0) as (λ o. nat_cmp r e.0 ≡ o → does_pass p (cond (is_eq o) (Some e.1) (at nat_cmp es r)) ≡ true → (((e.0 == r) && p e.1) || list_any (λ row. (row.0 == r) && p row.1) es) ≡ true) [
   | Less ↦ λ is h. or_right _ _ (finds_passing p es r h)
-  | Equal ↦ λ is h. let one = same_number r e.0 is in let number : (e.0 == r) ≡ true = grind (arith, nat_tests, one) in (λ i. (number i && h i) || list_any (λ row. (row.0 == r) && p row.1) es)
+  | Equal ↦ λ is h. let one = nat_cmp_equal r e.0 is in let number : (e.0 == r) ≡ true = grind (arith, nat_tests, one) in (λ i. (number i && h i) || list_any (λ row. (row.0 == r) && p row.1) es)
   | Greater ↦ λ is h. or_right _ _ (finds_passing p es r h)
 ] refl h
-  where
-    or_right : (a b : Bool) → b ≡ true → (a || b) ≡ true
-    or_right true b h = refl
-    or_right false b h = h
 
 -- where no entry of the session has an open that passes, no open passes
 pub finds_none : (s : ℕ) (p : OpenFork → Bool) (rows : List (ℕ × OpenFork)) → Rise rows → ((o : OpenFork) → p o ≡ true → is_open_of_session s o ≡ true)
@@ -233,15 +222,11 @@ finds_none s p (e ∷ es) rise own none = elim (is_open_of_session s e.1) as (λ
       | false ↦ λ other none. (λ i. not_own other i || finds_none s p es rise.1 own (sym (behind es rise.0) ∙ none) i)
     ] refl none
   where
-    or_parts : (a b : Bool) → (a || b) ≡ false → (a ≡ false) × (b ≡ false)
-    or_parts true b h = absurd (cc h)
-    or_parts false b h = (refl, h)
-
     not_own : is_open_of_session s e.1 ≡ false → p e.1 ≡ false
     not_own other = elim (cases_Bool (p e.1)) [ inl passes ↦ absurd (let one = own e.1 passes in cc (one, other)) | inr fails ↦ fails ]
 
     above_not : (n : ℕ) → nat_cmp e.0 n ≡ Less → is_eq (nat_cmp n e.0) ≡ false
-    above_not n less = let low = lower e.0 n less in grind (arith, nat_tests)
+    above_not n less = let low = nat_cmp_less e.0 n less in grind (arith, nat_tests)
 
     behind : (l : List (ℕ × OpenFork)) → Above e.0 l → list_any (λ (x : Entry). does_pass p (at nat_cmp (e ∷ es) x.0.reference.0)) (map own_entry (of_rows s l)) ≡ list_any (λ (x : Entry). does_pass p (at nat_cmp es x.0.reference.0)) (map own_entry (of_rows s l))
     behind [] a = refl
@@ -258,8 +243,8 @@ all_at (e ∷ es) (suc i) P a h d = all_at es i P a.1 (omega arith) d
 
 not_falling : (a b : OwnRef) → own_cmp a b ≡ Less → a.session.0 ≤ b.session.0
 not_falling a b h = elim (nat_cmp a.session.0 b.session.0) as (λ o. nat_cmp a.session.0 b.session.0 ≡ o → ordering_then o (nat_cmp a.reference.0 b.reference.0) ≡ Less → a.session.0 ≤ b.session.0) [
-  | Less ↦ λ is h. let low = lower a.session.0 b.session.0 is in omega (arith, low)
-  | Equal ↦ λ is h. let one = same_number a.session.0 b.session.0 is in omega (arith, one)
+  | Less ↦ λ is h. let low = nat_cmp_less a.session.0 b.session.0 is in omega (arith, low)
+  | Equal ↦ λ is h. let one = nat_cmp_equal a.session.0 b.session.0 is in omega (arith, one)
   | Greater ↦ λ is h. absurd (cc h)
 ] refl h
 

@@ -8,7 +8,6 @@ use Rattle.std.proofs.lemmas.Slice.Eq.{bytes_eq-Decides}
 use Rattle.afp_base.specs.declared.ids.NodeId.{NodeId}
 use Rattle.afp_names.specs.Name.{name_key}
 use Rattle.volume_spec.proofs.Ordered.{order-map}
-use Rattle.volume_spec.proofs.TestedLists.{all-kept, apart-map}
 use Rattle.volume_spec.specs.Listing.{children as in_directory, listed, row_key}
 use Rattle.volume_spec.specs.Order.{stands_before, in_order, rises}
 use Rattle.afp_base.specs.Apart.{are_apart}
@@ -21,6 +20,7 @@ use Rattle.node_rows.proofs.Sorting.{order-find, order-filter, order-differs}
 use Rattle.node_rows.specs.Children.{child_of, child_order, children_of, node_id}
 use Rattle.node_rows.specs.lemma.Kept.{AreKept}
 use Rattle.node_rows.specs.declared.child.Child.{Child}
+use Rattle.afp_base.proofs.ListFacts.{all-kept, apart-map}
 
 in-order : (rows : List Row) (children : List Child) (next : ℕ) → AreKept rows children next → rises child_order (in_order child_order (map child_of rows)) ≡ true
 in-order rows children next k = ap (λ l. rises child_order l) (sym k.sorted) ∙ k.order

@@ -8,18 +8,13 @@ use Rattle.std.proofs.lemmas.List.Sums.{position_or_len_is}
 use Rattle.volume_spec.proofs.Ordered.{before-trans}
 use Rattle.volume_spec.proofs.Rising.{above-all}
 use Rattle.volume_spec.specs.Order.{stands_before, rises, rises_from}
+use Rattle.afp_base.proofs.ListFacts.{all-index}
 
 -- where a halving ends is the first place at which the test fails
 pub partition-place : {A : Type 0} (p : A → Bool) (xs : List A) (i : ℕ) → i ≤ length xs → IsPartitionPoint (λ y. p y ≡ true) (λ y. p y ≡ false) xs i → i ≡ position_or_len (λ y. not (p y)) xs
 partition-place p [] i within parts = omega arith
 partition-place p (x ∷ xs) i within parts =
     sym (position_or_len_is (λ y. not (p y)) (x ∷ xs) i x within (λ k below. ap not (parts.0 k x (omega arith) below)) (λ inside. ap not (parts.1 i x (omega arith) inside)))
-
--- an element that passes, if all do
-pub all-index : {A : Type 0} (p : A → Bool) (xs : List A) (j : ℕ) (d : A) → list_all p xs ≡ true → j < length xs → p (slice_index_or xs j d) ≡ true
-all-index p [] j d h inside = absurd (omega arith)
-all-index p (x ∷ xs) zero d h inside = (and_parts (p x) (list_all p xs) h).0
-all-index p (x ∷ xs) (suc j) d h inside = all-index p xs j d (and_parts (p x) (list_all p xs) h).1 (omega arith)
 
 -- what a halving by keys asks of a list whose keys rise
 pub keys-partition : {A : Type 0} (key : A → List ℕ) (bound : List ℕ) (xs : List A) → rises key xs ≡ true → IsPartitionedBy (λ x. stands_before (key x) bound) xs

@@ -2,39 +2,36 @@
 use Rattle.std.proofs.Common.{◌≡◌, ◌∙◌, ap, sym, refl, subst, ℕ, zero, suc, ◌+◌, ◌==◌, ◌≤◌, ◌<◌, Bool, true, false, not, ◌&&◌, ◌||◌, cond, List, [], ◌∷◌, ◌++◌, length, map, take, drop, inl, inr, Option, Some, None, arith}
 use Rattle.std.specs.Prelude.{slice_get, slice_index_or, slice_set, nat_lt, bytes_eq, option_map}
 use Rattle.std.specs.List.{list_all, list_any, filter, find, insert, remove}
-use Rattle.std.proofs.lemmas.Bool.{and_parts, and_from, cases_Bool, cond_both, cond-true, cond-false, ltb-true, ltb-false, lt-ltb, le-ltb, eqb-true, eqb-false, ne_eqb}
+use Rattle.std.proofs.lemmas.Bool.{and_parts, and_from, cases_Bool, cond_both, cond-true, cond-false, ltb-true, ltb-false, lt-ltb, le-ltb, eqb-true, eqb-false, ne_eqb, not-true}
 use Rattle.std.proofs.lemmas.Option.{slice_get-get_or}
 use Rattle.afp_names.specs.Name.{name_key}
 use Rattle.volume_spec.proofs.Ordered.{put-rises, order-all}
 use Rattle.volume_spec.proofs.Orders.{gone-rises, changed-rises, rising-ids-differ}
 use Rattle.volume_spec.proofs.Places.{unchanged, nothing-gone, changed-is-set, without-is-remove}
 use Rattle.volume_spec.proofs.Rising.{keys-filter}
-use Rattle.volume_spec.proofs.TestedLists.{all-weaker, all-filter, all-map-where, none-all, none-find, find-none, find-passes}
 use Rattle.volume_spec.specs.Edits.{with_changed, change_at, without, at_place, is_taken}
 use Rattle.volume_spec.specs.Order.{put_in, in_order, rises, rises_from}
 use Rattle.afp_base.specs.Apart.{are_apart}
 use Rattle.volume_spec.specs.SoundVolume.{has_rising_ids, last_next_id}
 use Rattle.volume_spec.specs.VolumeState.{Row}
 use Rattle.volume_spec.specs.Walk.{row_at, child_by_key}
-use Rattle.node_rows.proofs.Sorting.{put-comm, order-filter, number_place, same-back}
+use Rattle.node_rows.proofs.Sorting.{put-comm, order-filter, number_place}
 use Rattle.node_rows.specs.Children.{child_of, child_order, children_of}
 use Rattle.node_rows.specs.Kept.{admitted}
 use Rattle.node_rows.specs.lemma.Kept.{AreKept}
 use Rattle.node_rows.specs.lemma.Places.{IsPlaceOf, is_other, is_apart}
 use Rattle.node_rows.specs.declared.child.Child.{Child}
+use Rattle.afp_base.proofs.Facts.{bytes_differ_turn}
+use Rattle.afp_base.proofs.ListFacts.{all-filter, all-map-where, all-weaker, find-none, find-passes, none-all, none-find}
 
 -- a row admitted
-
-flip : (t : Bool) → not t ≡ true → t ≡ false
-flip true h = absurd (cc)
-flip false h = refl
 
 -- an insertion at the place of its id
 pub admitted-at : (node : Row) (rows : List Row) → list_all (λ (row : Row). not (row.id == node.id)) rows ≡ true → insert rows (number_place (λ (row : Row). row.id) node.id rows) node ≡ admitted node rows
 admitted-at node [] h = refl
 admitted-at node (r ∷ rs) h =
     let e = and_parts (not (r.id == node.id)) (list_all (λ (row : Row). not (row.id == node.id)) rs) h in
-    go (nat_lt node.id r.id) refl (number_place (λ (row : Row). row.id) node.id rs) (eqb-false r.id node.id (flip (r.id == node.id) e.0)) (admitted-at node rs e.1)
+    go (nat_lt node.id r.id) refl (number_place (λ (row : Row). row.id) node.id rs) (eqb-false r.id node.id (not-true (r.id == node.id) e.0)) (admitted-at node rs e.1)
   where
     further : (n : ℕ) → insert (r ∷ rs) (1 + n) node ≡ r ∷ insert rs n node
     further n = let more : 1 + n ≡ suc n = omega arith in ap (λ k. take k (r ∷ rs) ++ node ∷ drop k (r ∷ rs)) more
@@ -75,7 +72,7 @@ admitted-rises node low (r ∷ rs) above others h =
     (λ first. and_from (nat_lt low node.id) (rises_from (λ (row : Row). row.id) node.id (r ∷ rs)) (lt-ltb low node.id above) (and_from (nat_lt node.id r.id) (rises_from (λ (row : Row). row.id) r.id rs) first e.1))
     (λ later.
     let low_r : r.id ≤ node.id = ltb-false node.id r.id later in
-    let differ : (r.id ≡ node.id → ⊥) = eqb-false r.id node.id (flip (r.id == node.id) o.0) in
+    let differ : (r.id ≡ node.id → ⊥) = eqb-false r.id node.id (not-true (r.id == node.id) o.0) in
     and_from (nat_lt low r.id) (rises_from (λ (row : Row). row.id) r.id (admitted node rs)) e.0 (admitted-rises node r.id rs (omega (arith, differ)) o.1 e.1))
 
 -- its child is put in
@@ -110,7 +107,7 @@ unfolding child_by_key
 free-apart node rows key is free =
     let test : Row → Bool = λ (row : Row). (row.parent == node.parent) && bytes_eq (name_key row.name) key in
     all-weaker (λ row. not (test row)) (λ row. is_apart (child_of node) (child_of row)) rows
-    (λ row other. ap (λ k. not (bytes_eq (node.parent ∷ k) (child_order (child_of row)))) (sym is) ∙ same-back (child_order (child_of row)) (node.parent ∷ key) other)
+    (λ row other. ap (λ k. not (bytes_eq (node.parent ∷ k) (child_order (child_of row)))) (sym is) ∙ bytes_differ_turn (child_order (child_of row)) (node.parent ∷ key) other)
     (find-none test rows (gone (find test rows) free))
   where
     gone : (o : Option Row) → option_map (λ (row : Row). row.id) o ≡ None → o ≡ None
@@ -182,7 +179,7 @@ untaken-apart rows id parent name child is_parent is_key free =
 
     apart : (row : Row) → test row ≡ false → is_apart child (child_of row) ≡ true
     apart row other =
-        (λ i. not (bytes_eq (is_parent i ∷ is_key i) (child_order (child_of row)))) ∙ same-back (child_order (child_of row)) (parent ∷ name_key name) (ap not other)
+        (λ i. not (bytes_eq (is_parent i ∷ is_key i) (child_order (child_of row)))) ∙ bytes_differ_turn (child_order (child_of row)) (parent ∷ name_key name) (ap not other)
 
     both : (a b : Bool) → not (a && b) ≡ true → a ≡ true → b ≡ false
     both true true h is = absurd (cc)
@@ -285,7 +282,7 @@ changed-nowhere change rows id none = by rows (none-there rows id none)
     by [] h = refl
     by (r ∷ rs) h =
         let e = and_parts (not (r.id == id)) (list_all (λ (row : Row). not (row.id == id)) rs) h in
-        λ i. cond-false (r.id == id) (change r) r (flip (r.id == id) e.0) i ∷ by rs e.1 i
+        λ i. cond-false (r.id == id) (change r) r (not-true (r.id == id) e.0) i ∷ by rs e.1 i
 
 pub gone-nowhere : (rows : List Row) (id : ℕ) → row_at rows id ≡ None → without id rows ≡ rows
 unfolding without

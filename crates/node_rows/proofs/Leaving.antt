@@ -7,21 +7,19 @@ use Rattle.std.specs.List.{list_all, list_any, filter, find, remove, position_or
 use Rattle.std.proofs.lemmas.Bool.{and_parts, and_from, cases_Bool, cond_both, cond-true, cond-false, or_right, lt-ltb, eqb-true, eq-eqb, ltb-true, ne_eqb}
 use Rattle.volume_spec.proofs.Ordered.{order-all}
 use Rattle.volume_spec.proofs.Orders.{rising-ids-differ}
-use Rattle.volume_spec.proofs.TestedLists.{all-weaker, any-at, any-map, any-weaker, none-all, apart-map}
 use Rattle.volume_spec.specs.Order.{stands_before, put_in, in_order, rises}
 use Rattle.afp_base.specs.Apart.{are_apart}
 use Rattle.volume_spec.specs.VolumeState.{Row}
 use Rattle.volume_spec.specs.Walk.{row_at}
 use Rattle.node_rows.proofs.Siblings.{parent-before}
-use Rattle.node_rows.proofs.Sorting.{before-differs, key_place, order-all-back}
+use Rattle.node_rows.proofs.Sorting.{key_place, order-all-back}
 use Rattle.node_rows.specs.Children.{child_of, child_order}
 use Rattle.node_rows.specs.lemma.Kept.{AreKept}
 use Rattle.node_rows.specs.lemma.Places.{is_child, is_child_at, is_other}
 use Rattle.node_rows.specs.declared.child.Child.{Child}
-
-flip : (t : Bool) → not t ≡ true → t ≡ false
-flip true h = absurd (cc)
-flip false h = refl
+use Rattle.afp_base.proofs.Facts.{right_true}
+use Rattle.afp_base.proofs.ListFacts.{all-weaker, any-at, any-map, any-weaker, apart-map, none-all, not-any}
+use Rattle.volume_spec.proofs.Keys.{before-differs}
 
 -- order leaves elements apart, and each that passes
 
@@ -31,15 +29,9 @@ put-apart {A} key r x (y ∷ ys) back h apart =
     let e = and_parts (not (r x y)) (list_all (λ z. not (r x z)) ys) h in
     let f = and_parts (not (list_any (r y) ys)) (are_apart r ys) apart in
     cond_both (stands_before (key x) (key y)) (x ∷ y ∷ ys) (y ∷ put_in key x ys) (λ l. are_apart r l ≡ true)
-    (λ first. and_from (not (list_any (r x) (y ∷ ys))) (are_apart r (y ∷ ys)) (none (r x) (y ∷ ys) h) apart)
-    (λ later. and_from (not (list_any (r y) (put_in key x ys))) (are_apart r (put_in key x ys)) (none (r y) (put_in key x ys) (put-all (λ z. not (r y z)) ys (turned e.0) (none-all (r y) ys f.0))) (put-apart key r x ys back e.1 f.1))
+    (λ first. and_from (not (list_any (r x) (y ∷ ys))) (are_apart r (y ∷ ys)) (not-any (r x) (y ∷ ys) h) apart)
+    (λ later. and_from (not (list_any (r y) (put_in key x ys))) (are_apart r (put_in key x ys)) (not-any (r y) (put_in key x ys) (put-all (λ z. not (r y z)) ys (turned e.0) (none-all (r y) ys f.0))) (put-apart key r x ys back e.1 f.1))
   where
-    none : (p : A → Bool) (l : List A) → list_all (λ z. not (p z)) l ≡ true → not (list_any p l) ≡ true
-    none p [] h = refl
-    none p (z ∷ zs) h =
-        let e = and_parts (not (p z)) (list_all (λ q. not (p q)) zs) h in
-        ap (λ t. not (t || list_any p zs)) (flip (p z) e.0) ∙ none p zs e.1
-
     turned : not (r x y) ≡ true → not (r y x) ≡ true
     turned differ = elim (cases_Bool (r y x)) [ inl same ↦ absurd (cc (ap not (back y x same))) | inr other ↦ ap not other ]
 
@@ -138,13 +130,9 @@ gone-first id (c ∷ cs) apart there =
           )
     ]
 
-right : (a b : Bool) → (a && b) ≡ true → b ≡ true
-right true b h = h
-right false b h = absurd (cc)
-
 apart-from : (dir id : ℕ) (c : Child) (cs : List Child) → list_any (is_child_at dir id) cs ≡ true → not (list_any (λ (b : Child). c.id.0 == b.id.0) cs) ≡ true → has_id id c ≡ false
 apart-from dir id c cs later none = elim (cases_Bool (has_id id c)) [
-  | inl here ↦ absurd (any-at (is_child_at dir id) (λ d. not (has_id id d)) cs later (others-behind id c cs here (none-all (λ (b : Child). c.id.0 == b.id.0) cs none)) (λ d both isnt. cc (ap not (right (d.parent.0 == dir) (d.id.0 == id) both))))
+  | inl here ↦ absurd (any-at (is_child_at dir id) (λ d. not (has_id id d)) cs later (others-behind id c cs here (none-all (λ (b : Child). c.id.0 == b.id.0) cs none)) (λ d both isnt. cc (ap not (right_true (d.parent.0 == dir) (d.id.0 == id) both))))
   | inr other ↦ other
 ]
 
@@ -173,7 +161,7 @@ from dir id (c ∷ cs) apart there =
           )
       | inr after ↦
           let place : key_place child_order (dir ∷ []) (c ∷ cs) ≡ 0 = cond-false (not (not (stands_before (child_order c) (dir ∷ [])))) (1 + key_place child_order (dir ∷ []) cs) 0 (ap (λ t. not (not t)) after) in
-          let whole = gone-first id (c ∷ cs) apart (any-weaker (is_child_at dir id) (has_id id) (c ∷ cs) (λ d both. right (d.parent.0 == dir) (d.id.0 == id) both) there) in
+          let whole = gone-first id (c ∷ cs) apart (any-weaker (is_child_at dir id) (has_id id) (c ∷ cs) (λ d both. right_true (d.parent.0 == dir) (d.id.0 == id) both) there) in
           subst (λ m. (m + position_or_len (has_id id) (drop m (c ∷ cs)) < length (c ∷ cs)) × (filter (is_other id) (c ∷ cs) ≡ remove (c ∷ cs) (m + position_or_len (has_id id) (drop m (c ∷ cs))))) (sym place)
           (let q : 0 + position_or_len (has_id id) (c ∷ cs) ≡ position_or_len (has_id id) (c ∷ cs) = omega arith in subst (λ m. (m < length (c ∷ cs)) × (filter (is_other id) (c ∷ cs) ≡ remove (c ∷ cs) m)) (sym q) whole)
     ]
@@ -220,7 +208,7 @@ gone-by-key row (c ∷ cs) h apart there =
           )
       | inr after ↦
           let place : key_place child_order k (c ∷ cs) ≡ 0 = cond-false (not (not (stands_before (child_order c) k))) (1 + key_place child_order k cs) 0 (ap (λ t. not (not t)) after) in
-          let here : has_id row.id c ≡ true = right (c.parent.0 == row.parent) (c.id.0 == row.id) (and_parts (is_child_at row.parent row.id c) (bytes_eq (child_order c) k) (first r.0 after)).0 in
+          let here : has_id row.id c ≡ true = right_true (c.parent.0 == row.parent) (c.id.0 == row.id) (and_parts (is_child_at row.parent row.id c) (bytes_eq (child_order c) k) (first r.0 after)).0 in
           let whole = gone-first row.id (c ∷ cs) apart (ap (λ t. t || list_any (has_id row.id) cs) here) in
           let at_first : position_or_len (has_id row.id) (c ∷ cs) ≡ 0 = cond-false (not (has_id row.id c)) (1 + position_or_len (has_id row.id) cs) 0 (ap not here) in (
             omega arith,
@@ -230,7 +218,7 @@ gone-by-key row (c ∷ cs) h apart there =
   where
     passed : stands_before (child_order c) (child_order (child_of row)) ≡ true → is_child row c ≡ false
     passed before = elim (cases_Bool (is_child row c)) [
-      | inl is ↦ absurd (cc (ap not (right (is_child_at row.parent row.id c) (bytes_eq (child_order c) (child_order (child_of row))) is), before-differs (child_order c) (child_order (child_of row)) before))
+      | inl is ↦ absurd (cc (ap not (right_true (is_child_at row.parent row.id c) (bytes_eq (child_order c) (child_order (child_of row))) is), before-differs (child_order c) (child_order (child_of row)) before))
       | inr isnt ↦ isnt
     ]
 
@@ -238,7 +226,7 @@ gone-by-key row (c ∷ cs) h apart there =
     first all after = elim (cases_Bool (is_child row c)) [
       | inl is ↦ is
       | inr isnt ↦ absurd (any-at (is_child row) (λ y. stands_before (child_order c) (child_order y)) cs (ap (λ t. t || list_any (is_child row) cs) (sym isnt) ∙ there) all (λ y is above.
-          cc (sym after ∙ ap (λ q. stands_before (child_order c) q) (sym ((bytes_eq-Decides (child_order y) (child_order (child_of row))).0 (right (is_child_at row.parent row.id y) (bytes_eq (child_order y) (child_order (child_of row))) is))) ∙ above)))
+          cc (sym after ∙ ap (λ q. stands_before (child_order c) q) (sym ((bytes_eq-Decides (child_order y) (child_order (child_of row))).0 (right_true (is_child_at row.parent row.id y) (bytes_eq (child_order y) (child_order (child_of row))) is))) ∙ above)))
     ]
 
 -- the same, as it is sought: at the place of a key that is the node's

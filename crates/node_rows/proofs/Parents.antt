@@ -4,13 +4,12 @@ use Rattle.std.specs.Prelude.{slice_index_or, nat_lt}
 use Rattle.std.specs.List.{list_all, filter, position_or_len}
 use Rattle.std.specs.List.Sorted.{IsPartitionedBy}
 use Rattle.std.proofs.lemmas.Bool.{and_parts, cond-true, cond-false, eqb-true, eqb-false, ne_eqb, ltb-true, ltb-false, lt-ltb, le-ltb}
-use Rattle.volume_spec.proofs.TestedLists.{all-weaker}
 use Rattle.volume_spec.specs.Order.{stands_before, rises}
-use Rattle.node_rows.proofs.Halving.{all-index}
-use Rattle.node_rows.proofs.Siblings.{is_of, parent-order, filter-none}
+use Rattle.node_rows.proofs.Siblings.{is_of, parent-order}
 use Rattle.node_rows.specs.Children.{child_order}
 use Rattle.node_rows.specs.lemma.Places.{IsPart}
 use Rattle.node_rows.specs.declared.child.Child.{Child}
+use Rattle.afp_base.proofs.ListFacts.{all-index, all-weaker, filter-none}
 
 -- what a halving by parents asks of children in order
 pub parents-partition : (bound : ℕ) (l : List Child) → rises child_order l ≡ true → IsPartitionedBy (λ (child : Child). nat_lt child.parent.0 bound) l

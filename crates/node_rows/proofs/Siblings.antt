@@ -2,13 +2,13 @@
 use Rattle.std.proofs.Common.{◌≡◌, ◌∙◌, ap, sym, refl, ℕ, zero, suc, ◌+◌, ◌==◌, ◌≤◌, ◌<◌, Bool, true, false, not, ◌&&◌, cond, List, [], ◌∷◌, length, inl, inr, Some, None, arith}
 use Rattle.std.specs.Prelude.{slice_get, slice_index_or, nat_lt, nat_le}
 use Rattle.std.specs.List.{list_all, filter}
-use Rattle.std.proofs.lemmas.Bool.{and_parts, and_from, cases_Bool, cond-true, cond-false, ltb-true, ltb-false, le-ltb, leb-true, le-leb, ne_eqb, eqb-false}
-use Rattle.volume_spec.proofs.TestedLists.{all-weaker}
+use Rattle.std.proofs.lemmas.Bool.{and_parts, and_from, cases_Bool, cond-true, cond-false, ltb-true, ltb-false, le-ltb, leb-true, le-leb, ne_eqb, eqb-false, not-true}
 use Rattle.volume_spec.specs.Order.{stands_before, rises}
 use Rattle.node_rows.proofs.Sorting.{kept-past, kept-at, key_place}
 use Rattle.node_rows.specs.Children.{child_order}
 use Rattle.node_rows.specs.lemma.Children.{kept}
 use Rattle.node_rows.specs.declared.child.Child.{Child}
+use Rattle.afp_base.proofs.ListFacts.{all-weaker, filter-none}
 
 -- whether a child is this parent's
 abbrev pub is_of : ℕ → Child → Bool
@@ -37,24 +37,10 @@ parent-order p q k l h = go (nat_lt q p) refl
         cc
     go false a = ltb-false q p a
 
-pub filter-none : {A : Type 0} (test : A → Bool) (l : List A) → list_all (λ x. not (test x)) l ≡ true → filter test l ≡ []
-filter-none test [] h = refl
-filter-none test (x ∷ xs) h =
-    let e = and_parts (not (test x)) (list_all (λ y. not (test y)) xs) h in
-    cond-false (test x) (x ∷ filter test xs) (filter test xs) (flip (test x) e.0) ∙ filter-none test xs e.1
-  where
-    flip : (t : Bool) → not t ≡ true → t ≡ false
-    flip true k = absurd (cc)
-    flip false k = refl
-
 kept-none : {A : Type 0} (test : A → Bool) (l : List A) (i : ℕ) → list_all (λ x. not (test x)) l ≡ true → kept test (slice_get l i) ≡ None
 kept-none test [] i h = refl
 kept-none test (x ∷ xs) zero h =
-    cond-false (test x) (Some x) None (flip (test x) (and_parts (not (test x)) (list_all (λ y. not (test y)) xs) h).0)
-  where
-    flip : (t : Bool) → not t ≡ true → t ≡ false
-    flip true k = absurd (cc)
-    flip false k = refl
+    cond-false (test x) (Some x) None (not-true (test x) (and_parts (not (test x)) (list_all (λ y. not (test y)) xs) h).0)
 kept-none test (x ∷ xs) (suc i) h = kept-none test xs i (and_parts (not (test x)) (list_all (λ y. not (test y)) xs) h).1
 
 -- from the first child whose parent is no lower, a parent's children stand first

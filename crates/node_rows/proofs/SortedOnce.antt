@@ -1,24 +1,23 @@
 -- Children that one sort has put in order.
-use Rattle.std.proofs.Common.{◌≡◌, ◌∙◌, ap, sym, refl, ℕ, suc, ◌≤◌, ◌<◌, Bool, true, false, not, List, [], ◌∷◌, length, map, inl, inr, arith}
+use Rattle.std.proofs.Common.{◌≡◌, ◌∙◌, ap, refl, ℕ, suc, ◌≤◌, ◌<◌, Bool, true, false, not, List, [], ◌∷◌, length, map, arith}
 use Rattle.std.specs.Prelude.{slice_index_or, nat_lt, bytes_eq}
 use Rattle.std.specs.List.{list_all, list_any, AllByRecursion, IsDistinct}
 use Rattle.std.specs.List.Sorted.{IsPermutation, IsSortedBy}
-use Rattle.std.proofs.lemmas.Bool.{and_parts, and_from, cases_Bool}
+use Rattle.std.proofs.lemmas.Bool.{and_parts, and_from, not-true}
 use Rattle.std.proofs.lemmas.Cmp.{nat_list_cmp_total}
 use Rattle.std.proofs.lemmas.List.MinMax.{ranks_by}
 use Rattle.std.proofs.lemmas.List.Sorted.{sorted_far, Contains-permutation, IsPermutation-sym}
 use Rattle.std.proofs.lemmas.Map.Keys.{IsDistinct-IsPermutation}
-use Rattle.std.proofs.lemmas.Slice.Eq.{bytes_eq-Decides}
 use Rattle.volume_spec.proofs.Ordered.{before-other, order-contains, order-holds, order-rises, rising-one}
-use Rattle.volume_spec.proofs.TestedLists.{apart-map, none-all}
 use Rattle.volume_spec.specs.Order.{stands_before, rises}
 use Rattle.afp_base.specs.Apart.{are_apart}
 use Rattle.volume_spec.specs.SoundVolume.{are_named_alike, has_rising_ids, last_next_id}
 use Rattle.volume_spec.specs.VolumeState.{Row}
-use Rattle.node_rows.proofs.Sorting.{same-back}
 use Rattle.node_rows.specs.Children.{child_of, child_order, children_of}
 use Rattle.node_rows.specs.lemma.Kept.{AreKept}
 use Rattle.node_rows.specs.declared.child.Child.{Child}
+use Rattle.afp_base.proofs.Facts.{bytes_turn}
+use Rattle.afp_base.proofs.ListFacts.{apart-map, none-all}
 
 abbrev alike : Child → Child → Bool
 alike a b = bytes_eq (child_order a) (child_order b)
@@ -26,22 +25,12 @@ alike a b = bytes_eq (child_order a) (child_order b)
 abbrev before : Child → Child → Bool
 before a b = stands_before (child_order a) (child_order b)
 
-flip : (t : Bool) → not t ≡ true → t ≡ false
-flip true h = absurd (cc)
-flip false h = refl
-
-both-ways : (a b : List ℕ) → bytes_eq a b ≡ bytes_eq b a
-both-ways a b = elim (cases_Bool (bytes_eq a b)) [
-  | inl same ↦ same ∙ sym ((bytes_eq-Decides b a).1 (sym ((bytes_eq-Decides a b).0 same)))
-  | inr other ↦ other ∙ sym (flip (bytes_eq b a) (same-back a b (ap not other)))
-]
-
 -- no two are alike
 apart-others : (x : Child) (xs : List Child) → list_all (λ (y : Child). not (alike x y)) xs ≡ true → AllByRecursion (λ y. alike x y ≡ false) xs
 apart-others x [] h = tt
 apart-others x (y ∷ ys) h =
     let e = and_parts (not (alike x y)) (list_all (λ (z : Child). not (alike x z)) ys) h in
-    (flip (alike x y) e.0, apart-others x ys e.1)
+    (not-true (alike x y) e.0, apart-others x ys e.1)
 
 apart-distinct : (xs : List Child) → are_apart alike xs ≡ true → IsDistinct alike xs
 unfolding IsDistinct
@@ -56,7 +45,7 @@ above-first : (x : Child) (xs : List Child) → ((j : ℕ) (d : Child) → j < l
 above-first x [] up apart = refl
 above-first x (y ∷ ys) up apart =
     and_from (before x y) (list_all (λ z. stands_before (child_order x) (child_order z)) ys)
-    (before-other (child_order y) (child_order x) (up 0 x (omega arith)) (ap not (both-ways (child_order y) (child_order x) ∙ apart.0)))
+    (before-other (child_order y) (child_order x) (up 0 x (omega arith)) (ap not (bytes_turn (child_order y) (child_order x) ∙ apart.0)))
     (above-first x ys (λ j d within. up (suc j) d (omega arith)) apart.1)
 
 far-rises : (xs : List Child) → ((i j : ℕ) (d : Child) → i ≤ j → j < length xs → before (slice_index_or xs j d) (slice_index_or xs i d) ≡ false) → IsDistinct alike xs → rises child_order xs ≡ true
@@ -75,7 +64,7 @@ pub keeps-sorted : (rows : List Row) (children : List Child) (next : ℕ) → ha
 keeps-sorted rows children next rising below names low high same sorted =
     let apart : are_apart alike (map child_of rows) ≡ true = apart-map alike child_of rows ∙ names in
     let up : rises child_order children ≡ true = sorted-rises children sorted
-    (IsDistinct-IsPermutation alike (λ a b. both-ways (child_order a) (child_order b)) (map child_of rows) children same (apart-distinct (map child_of rows) apart)) in
+    (IsDistinct-IsPermutation alike (λ a b. bytes_turn (child_order a) (child_order b)) (map child_of rows) children same (apart-distinct (map child_of rows) apart)) in
     record {
       rising = rising;
       order = up;

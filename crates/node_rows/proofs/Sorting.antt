@@ -1,16 +1,18 @@
 -- Lists in the order of their keys: one element more, elements less, and what is found.
-use Rattle.std.proofs.Common.{◌≡◌, ◌∙◌, ap, sym, refl, ℕ, suc, ◌+◌, ◌==◌, ◌≤◌, ◌<◌, Bool, true, false, not, ◌||◌, cond, List, [], ◌∷◌, ◌++◌, length, take, drop, inl, inr, Option, Some, None, arith}
+use Rattle.std.proofs.Common.{◌≡◌, ◌∙◌, ap, sym, refl, ℕ, suc, ◌+◌, ◌==◌, ◌≤◌, ◌<◌, Bool, true, false, not, cond, List, [], ◌∷◌, ◌++◌, length, take, drop, inl, inr, Option, Some, None, arith}
 use Rattle.std.specs.Prelude.{slice_get, slice_index_or, nat_lt, bytes_eq}
 use Rattle.std.proofs.lemmas.Option.{slice_get_past, slice_get_read}
 use Rattle.std.specs.List.{list_all, list_any, filter, find, insert, position_or_len}
-use Rattle.std.proofs.lemmas.Bool.{and_parts, and_from, cases_Bool, cond_both, cond-true, cond-false, ltb-true, ltb-false, ne_eqb}
+use Rattle.std.proofs.lemmas.Bool.{and_parts, and_from, cases_Bool, cond_both, cond-true, cond-false, ltb-true, ltb-false, ne_eqb, not-true}
 use Rattle.std.proofs.lemmas.Slice.Eq.{bytes_eq-Decides}
 use Rattle.volume_spec.proofs.Ordered.{before-trans, before-other, before-one-way}
 use Rattle.volume_spec.proofs.Rising.{above-all}
-use Rattle.volume_spec.proofs.TestedLists.{all-weaker, all-filter, none-find}
 use Rattle.volume_spec.specs.Order.{stands_before, put_in, in_order, rises, rises_from}
 use Rattle.afp_base.specs.Apart.{are_apart}
 use Rattle.node_rows.specs.lemma.Children.{kept}
+use Rattle.afp_base.proofs.Facts.{bytes_differ_turn, never_both}
+use Rattle.afp_base.proofs.ListFacts.{all-filter, all-weaker, none-find, not-any}
+use Rattle.volume_spec.proofs.Keys.{before-differs}
 
 -- keys
 
@@ -19,25 +21,10 @@ not-itself a b before same =
     let is : a ≡ b = (bytes_eq-Decides a b).0 same in
     before-one-way a b before (ap (λ q. stands_before q a) (sym is) ∙ ap (λ q. stands_before a q) is ∙ before)
 
-pub before-differs : (a b : List ℕ) → stands_before a b ≡ true → not (bytes_eq a b) ≡ true
-before-differs a b before = elim (cases_Bool (bytes_eq a b)) [ inl same ↦ absurd (not-itself a b before same) | inr other ↦ ap not other ]
-
-pub same-back : (a b : List ℕ) → not (bytes_eq a b) ≡ true → not (bytes_eq b a) ≡ true
-same-back a b differ = elim (cases_Bool (bytes_eq b a)) [
-  | inl same ↦ absurd (both (bytes_eq a b) ((bytes_eq-Decides a b).1 (sym ((bytes_eq-Decides b a).0 same))) differ)
-  | inr other ↦ ap not other
-]
-  where
-    both : (t : Bool) → t ≡ true → not t ≡ true → ⊥
-    both t is isnt = cc (ap not is)
-
 -- of two keys that differ just one stands before the other
 other-way : (a b : List ℕ) (t : Bool) → stands_before a b ≡ t → not (bytes_eq a b) ≡ true → stands_before b a ≡ not t
 other-way a b true before differ = elim (cases_Bool (stands_before b a)) [ inl back ↦ absurd (before-one-way a b before back) | inr none ↦ none ]
 other-way a b false after differ = before-other a b after differ
-
-never : (t : Bool) → t ≡ true → t ≡ false → ⊥
-never t is isnt = cc
 
 -- two elements are put in one way or the other
 pub put-comm : {A : Type 0} (key : A → List ℕ) (x y : A) (l : List A) → not (bytes_eq (key x) (key y)) ≡ true → put_in key x (put_in key y l) ≡ put_in key y (put_in key x l)
@@ -56,8 +43,8 @@ put-comm key x y (z ∷ zs) differ =
     go true false true a b c rest = let d : stands_before (key y) (key x) ≡ false = other-way (key x) (key y) true c differ in simp (a, b, c, d)
     go true false false a b c rest =
         let d : stands_before (key y) (key x) ≡ true = other-way (key x) (key y) false c differ in
-        absurd (never (stands_before (key y) (key z)) (before-trans (key y) (key x) (key z) d a) b)
-    go false true true a b c rest = absurd (never (stands_before (key x) (key z)) (before-trans (key x) (key y) (key z) c b) a)
+        absurd (never_both (stands_before (key y) (key z)) (before-trans (key y) (key x) (key z) d a) b)
+    go false true true a b c rest = absurd (never_both (stands_before (key x) (key z)) (before-trans (key x) (key y) (key z) c b) a)
     go false true false a b c rest = let d : stands_before (key y) (key x) ≡ true = other-way (key x) (key y) false c differ in simp (a, b, c, d)
     go false false xy a b c rest = simp (a, b) (ap (λ l. z ∷ l) rest)
 
@@ -92,7 +79,7 @@ put-back key x (y ∷ ys) h =
     let a = all-put key (λ z. stands_before (key y) (key z)) x ys e.0 in
     let r = put-back key x ys e.1 in (
       and_from (list_all (λ z. stands_before (key y) (key z)) ys) (rises key ys) a.1 r.0,
-      and_from (not (bytes_eq (key x) (key y))) (list_all (λ z. not (bytes_eq (key x) (key z))) ys) (same-back (key y) (key x) (before-differs (key y) (key x) a.0)) r.1,
+      and_from (not (bytes_eq (key x) (key y))) (list_all (λ z. not (bytes_eq (key x) (key z))) ys) (bytes_differ_turn (key y) (key x) (before-differs (key y) (key x) a.0)) r.1,
     )) h
 
 -- a filter of what is in order
@@ -193,18 +180,14 @@ find-key {A} key k (x ∷ xs) h =
     further : (n : ℕ) → slice_get (x ∷ xs) (1 + n) ≡ slice_get xs n
     further n = let more : 1 + n ≡ suc n = omega arith in ap (λ j. slice_get (x ∷ xs) j) more
 
-    flip : (t : Bool) → not t ≡ true → t ≡ false
-    flip true h = absurd (cc)
-    flip false h = refl
-
     behind : stands_before (key x) k ≡ false → test x ≡ false → list_all (λ y. stands_before (key x) (key y)) xs ≡ true → find test xs ≡ None
     behind after other all = none-find test xs (all-weaker (λ y. stands_before (key x) (key y)) (λ y. not (test y)) xs
-        (λ y up. same-back k (key y) (before-differs k (key y) (before-trans k (key x) (key y) (before-other (key x) k after (ap not other)) up))) all)
+        (λ y up. bytes_differ_turn k (key y) (before-differs k (key y) (before-trans k (key x) (key y) (before-other (key x) k after (ap not other)) up))) all)
 
     go : (below : Bool) → stands_before (key x) k ≡ below → (n : ℕ) → list_all (λ y. stands_before (key x) (key y)) xs ≡ true → find test xs ≡ kept test (slice_get xs n)
         → find test (x ∷ xs) ≡ kept test (slice_get (x ∷ xs) (cond (not (not (stands_before (key x) k))) (1 + n) 0))
     go true a n all rest =
-        cond-false (test x) (Some x) (find test xs) (flip (test x) (before-differs (key x) k a)) ∙ rest ∙ ap (λ o. kept test o) (sym (further n))
+        cond-false (test x) (Some x) (find test xs) (not-true (test x) (before-differs (key x) k a)) ∙ rest ∙ ap (λ o. kept test o) (sym (further n))
         ∙ ap (λ t. kept test (slice_get (x ∷ xs) (cond (not (not t)) (1 + n) 0))) (sym a)
     go false a n all rest =
         cond_both (test x) (Some x) (find test xs) (λ o. o ≡ cond (test x) (Some x) None)
@@ -273,18 +256,10 @@ module _ {A : Type 0} (number : A → ℕ) (n : ℕ) (l : List A) (i : ℕ) wher
 
 -- elements whose keys rise in order have keys that differ
 
-pub all-none : {A : Type 0} (p : A → Bool) (l : List A) → list_all (λ x. not (p x)) l ≡ true → not (list_any p l) ≡ true
-all-none p [] h = refl
-all-none p (x ∷ xs) h = by (p x) (and_parts (not (p x)) (list_all (λ y. not (p y)) xs) h).0 (all-none p xs (and_parts (not (p x)) (list_all (λ y. not (p y)) xs) h).1)
-  where
-    by : (t : Bool) → not t ≡ true → not (list_any p xs) ≡ true → not (t || list_any p xs) ≡ true
-    by true isnt rest = isnt
-    by false isnt rest = rest
-
 pub order-differs : {A : Type 0} (key : A → List ℕ) (xs : List A) → rises key (in_order key xs) ≡ true → are_apart (λ a b. bytes_eq (key a) (key b)) xs ≡ true
 order-differs key [] h = refl
 order-differs key (x ∷ xs) h =
     let r = put-back key x (in_order key xs) h in
     and_from (not (list_any (λ b. bytes_eq (key x) (key b)) xs)) (are_apart (λ a b. bytes_eq (key a) (key b)) xs)
-    (all-none (λ b. bytes_eq (key x) (key b)) xs (order-all-back key (λ y. not (bytes_eq (key x) (key y))) xs r.1))
+    (not-any (λ b. bytes_eq (key x) (key b)) xs (order-all-back key (λ y. not (bytes_eq (key x) (key y))) xs r.1))
     (order-differs key xs r.0)

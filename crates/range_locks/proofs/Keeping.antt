@@ -4,7 +4,7 @@ use Rattle.std.specs.Prelude.{nat_lt, nat_le, slice_index_or, slice_range, slice
 use Rattle.std.specs.Cmp.{both_ways}
 use Rattle.std.specs.List.{list_any, insert, remove, position, position_or_len}
 use Rattle.std.specs.List.Sorted.{IsNonDecreasingBy}
-use Rattle.std.proofs.lemmas.Bool.{cases_lt}
+use Rattle.std.proofs.lemmas.Bool.{cases_lt, and_parts, eqb-true, leb-true, or_parts, le-leb, not-true, and_from}
 use Rattle.std.proofs.lemmas.Bool.Decides.{nat_tests}
 use Rattle.std.proofs.lemmas.List.Folds.{Any-from_list_any, list_any_at, list_any_more}
 use Rattle.std.proofs.lemmas.List.{take-append-drop}
@@ -19,7 +19,7 @@ use Rattle.afp_base.specs.DenyMode.{Fork, is_one_fork}
 use Rattle.afp_base.specs.Limits.{most_locks}
 use Rattle.afp_base.specs.Overlap.{Range, do_meet, do_overlap}
 use Rattle.afp_base.specs.Apart.{are_apart}
-use Rattle.deny_modes.proofs.Forks.{same_fork, itself, either_way, crosses, both_cross, found_crossed}
+use Rattle.deny_modes.proofs.Forks.{either_way, crosses, both_cross, found_crossed}
 use Rattle.deny_modes.specs.lemma.ForkOrder.{fork_cmp}
 use Rattle.deny_modes.specs.Opens.{in_exchange}
 use Rattle.sorted_map.specs.Entries.{at, exchanged}
@@ -29,47 +29,21 @@ use Rattle.range_locks.specs.declared.rows.Seen.{Seen}
 use Rattle.range_locks.specs.Locks.{ForkLock, are_overlapping, is_met_by_other_lock, is_met_by_own_lock, count_held, lock_refusal, with_fork_lock, is_fork_lock, has_fork_lock, exchange_lock, exchanged_locks, without_holder, is_row, are_one_row, AreInOrder, AreIntervals}
 use Rattle.range_locks.specs.lemma.Kept.{rows_at, holder_of, is_among, IsBehind, IsBefore, IsPlaceOf, IsLockTable}
 use Rattle.range_locks.specs.lemma.Seen.{IsSeen}
+use Rattle.afp_base.proofs.Facts.{and-false, and-true, eqb-itself, eqb_turn, or-false, or-true, or_swap}
+use Rattle.afp_base.proofs.ListFacts.{any-same}
+use Rattle.afp_base.proofs.Forks.{one_fork-itself, same_fork}
 
 -- ---- tests
-or_parts : (a b : Bool) → (a || b) ≡ false → (a ≡ false) × (b ≡ false)
-or_parts true b h = absurd (cc h)
-or_parts false b h = (refl, h)
-
-and_parts : (a b : Bool) → (a && b) ≡ true → (a ≡ true) × (b ≡ true)
-and_parts true b h = (refl, h)
-and_parts false b h = absurd (cc h)
-
-and_from : (a b : Bool) → a ≡ true → b ≡ true → (a && b) ≡ true
-and_from a b h k = λ i. h i && k i
 
 and_assoc : (a b c : Bool) → ((a && b) && c) ≡ (a && (b && c))
 and_assoc true b c = refl
 and_assoc false b c = refl
-
-not_true : (a : Bool) → not a ≡ true → a ≡ false
-not_true true h = absurd (cc h)
-not_true false h = refl
-
-or_swap : (a b c : Bool) → (a || (b || c)) ≡ (b || (a || c))
-or_swap true true c = refl
-or_swap true false c = refl
-or_swap false b c = refl
 
 and_turns : (a b : Bool) → (a && b) ≡ (b && a)
 and_turns true true = refl
 and_turns true false = refl
 and_turns false true = refl
 and_turns false false = refl
-
-one_number : (m n : ℕ) → (m == n) ≡ true → m ≡ n
-one_number m n h = grind (arith, nat_tests, h)
-
-number_itself : (m : ℕ) → (m == m) ≡ true
-number_itself m = grind (arith, nat_tests)
-
-any_gives : {A : Type 0} (r s : A → Bool) (xs : List A) → ((x : A) → r x ≡ s x) → list_any r xs ≡ list_any s xs
-any_gives r s [] same = refl
-any_gives r s (x ∷ xs) same = λ i. same x i || any_gives r s xs same i
 
 any_new : (p : ForkLock → Bool) (new : ForkLock) (ls : List ForkLock) → list_any p (with_fork_lock new ls) ≡ (p new || list_any p ls)
 any_new p new [] = refl
@@ -91,13 +65,13 @@ same_row : (a b : LockRow) → are_one_row a b ≡ true → a ≡ b
 same_row a b h =
     let first = and_parts (a.reference.0 == b.reference.0) ((a.range.from == b.range.from) && (a.range.to == b.range.to)) h in
     let ends = and_parts (a.range.from == b.range.from) (a.range.to == b.range.to) first.1 in
-    let reference = one_number a.reference.0 b.reference.0 first.0 in
-    let from = one_number a.range.from b.range.from ends.0 in
-    let to = one_number a.range.to b.range.to ends.1 in
+    let reference = eqb-true a.reference.0 b.reference.0 first.0 in
+    let from = eqb-true a.range.from b.range.from ends.0 in
+    let to = eqb-true a.range.to b.range.to ends.1 in
     λ i. record { range = record { from = from i; to = to i }; reference = record { 0 = reference i } }
 
 row_itself : (a : LockRow) → are_one_row a a ≡ true
-row_itself a = λ i. number_itself a.reference.0 i && (number_itself a.range.from i && number_itself a.range.to i)
+row_itself a = λ i. eqb-itself a.reference.0 i && (eqb-itself a.range.from i && eqb-itself a.range.to i)
 
 rows_tell : (locks : List ForkLock) (fork : Fork) (rows : List LockRow) (p : LockRow → Bool) → ((row : LockRow) → list_any (are_one_row row) rows ≡ list_any (λ l. is_one_fork l.fork fork && is_row row l) locks)
     → list_any p rows ≡ list_any (λ l. is_one_fork l.fork fork && p (row_of l)) locks
@@ -119,12 +93,12 @@ rows_tell locks fork rows p same = both_ways _ _
 pub seen_other : {locks : List ForkLock} {fork : Fork} {rows : List LockRow} {r : ℕ} {range : Range} {seen : Seen} → AreIntervals locks fork rows → IsSeen rows r range seen → seen.other ≡ is_met_by_other_lock locks fork r range
 seen_other {locks} {fork} {rows} {r} {range} i s =
     s.other ∙ rows_tell locks fork rows (λ row. do_meet row.range range && not (row.reference.0 == r)) i.same
-    ∙ any_gives (λ l. is_one_fork l.fork fork && (do_meet l.range range && not (l.reference == r))) (λ l. do_overlap l.fork l.range fork range && not (l.reference == r)) locks (λ l. sym (and_assoc (is_one_fork l.fork fork) (do_meet l.range range) (not (l.reference == r))))
+    ∙ any-same (λ l. is_one_fork l.fork fork && (do_meet l.range range && not (l.reference == r))) (λ l. do_overlap l.fork l.range fork range && not (l.reference == r)) locks (λ l. sym (and_assoc (is_one_fork l.fork fork) (do_meet l.range range) (not (l.reference == r))))
 
 pub seen_own : {locks : List ForkLock} {fork : Fork} {rows : List LockRow} {r : ℕ} {range : Range} {seen : Seen} → AreIntervals locks fork rows → IsSeen rows r range seen → seen.other ≡ false → seen.own ≡ is_met_by_own_lock locks fork r range
 seen_own {locks} {fork} {rows} {r} {range} i s none =
     s.own none ∙ rows_tell locks fork rows (λ row. do_meet row.range range && (row.reference.0 == r)) i.same
-    ∙ any_gives (λ l. is_one_fork l.fork fork && (do_meet l.range range && (l.reference == r))) (λ l. do_overlap l.fork l.range fork range && (l.reference == r)) locks (λ l. sym (and_assoc (is_one_fork l.fork fork) (do_meet l.range range) (l.reference == r)))
+    ∙ any-same (λ l. is_one_fork l.fork fork && (do_meet l.range range && (l.reference == r))) (λ l. do_overlap l.fork l.range fork range && (l.reference == r)) locks (λ l. sym (and_assoc (is_one_fork l.fork fork) (do_meet l.range range) (l.reference == r)))
 
 -- ---- places by reference
 pub put_behind : (ls : List ForkLock) (new : ForkLock) (place : ℕ) → IsBehind ls new.reference place → insert ls place new ≡ with_fork_lock new ls
@@ -205,8 +179,8 @@ apart_new new (l ∷ ls) none h =
     let parts = or_parts (are_overlapping l new) (list_any (λ x. are_overlapping x new) ls) none in
     let rest = and_parts (not (list_any (are_overlapping l) ls)) (are_apart are_overlapping ls) h in
     elim (nat_lt new.reference l.reference) as (λ b. are_apart are_overlapping (if b then new ∷ l ∷ ls else l ∷ with_fork_lock new ls) ≡ true) [
-      | true ↦ and_from _ _ (ap not (any_gives (are_overlapping new) (λ x. are_overlapping x new) (l ∷ ls) (λ x. turns new x) ∙ none)) h
-      | false ↦ and_from _ _ (ap not (any_new (are_overlapping l) new ls ∙ (λ i. parts.0 i || not_true (list_any (are_overlapping l) ls) rest.0 i))) (apart_new new ls parts.1 rest.1)
+      | true ↦ and_from _ _ (ap not (any-same (are_overlapping new) (λ x. are_overlapping x new) (l ∷ ls) (λ x. turns new x) ∙ none)) h
+      | false ↦ and_from _ _ (ap not (any_new (are_overlapping l) new ls ∙ (λ i. parts.0 i || not-true (list_any (are_overlapping l) ls) rest.0 i))) (apart_new new ls parts.1 rest.1)
     ]
   where
     turns : (a b : ForkLock) → are_overlapping a b ≡ are_overlapping b a
@@ -384,13 +358,10 @@ listed {list} {reserved} {given} {new} {place} held b order reserved_is given_is
     let put : new ≡ insert list place held = new_is ∙ (λ i. if b_is i then insert (reserved_is i) place held else reserved_is i) in (
       put ∙ put_behind list held place there,
       subst (IsNonDecreasingBy holder_of) (sym put) (IsNonDecreasingBy-insert holder_of list place held order there.within
-          (λ k d less. let f = there.front k d less in at_most (holder_of (slice_index_or list k d)) held.reference f)
+          (λ k d less. let f = there.front k d less in leb-true (holder_of (slice_index_or list k d)) held.reference f)
           (λ k d low high. let f = there.rest k d low high in above_it (holder_of (slice_index_or list k d)) held.reference f)),
     )
   where
-    at_most : (m n : ℕ) → nat_le m n ≡ true → m ≤ n
-    at_most m n h = grind (arith, nat_tests, h)
-
     above_it : (m n : ℕ) → nat_le m n ≡ false → n ≤ m
     above_it m n h = grind (arith, nat_tests, h)
 
@@ -398,17 +369,9 @@ listed {list} {reserved} {given} {new} {place} held b order reserved_is given_is
 pub any_filter : {A : Type 0} (p keep : A → Bool) (xs : List A) → list_any p (filter keep xs) ≡ list_any (λ x. p x && keep x) xs
 any_filter p keep [] = refl
 any_filter p keep (x ∷ xs) = elim (keep x) as (λ b. list_any p (if b then x ∷ filter keep xs else filter keep xs) ≡ ((p x && b) || list_any (λ y. p y && keep y) xs)) [
-  | true ↦ (λ i. on (p x) i || any_filter p keep xs i)
-  | false ↦ any_filter p keep xs ∙ ap (λ b. b || list_any (λ y. p y && keep y) xs) (sym (off (p x)))
+  | true ↦ (λ i. and-true (p x) i || any_filter p keep xs i)
+  | false ↦ any_filter p keep xs ∙ ap (λ b. b || list_any (λ y. p y && keep y) xs) (sym (and-false (p x)))
 ]
-  where
-    on : (b : Bool) → b ≡ (b && true)
-    on true = refl
-    on false = refl
-
-    off : (b : Bool) → (b && false) ≡ false
-    off true = refl
-    off false = refl
 
 none_filter : (p keep : ForkLock → Bool) (ls : List ForkLock) → list_any p ls ≡ false → list_any p (filter keep ls) ≡ false
 none_filter p keep [] h = refl
@@ -421,7 +384,7 @@ apart_filter keep [] h = refl
 apart_filter keep (l ∷ ls) h =
     let parts = and_parts (not (list_any (are_overlapping l) ls)) (are_apart are_overlapping ls) h in
     elim (keep l) as (λ b. are_apart are_overlapping (if b then l ∷ filter keep ls else filter keep ls) ≡ true) [
-      | true ↦ and_from _ _ (ap not (none_filter (are_overlapping l) keep ls (not_true (list_any (are_overlapping l) ls) parts.0))) (apart_filter keep ls parts.1)
+      | true ↦ and_from _ _ (ap not (none_filter (are_overlapping l) keep ls (not-true (list_any (are_overlapping l) ls) parts.0))) (apart_filter keep ls parts.1)
       | false ↦ apart_filter keep ls parts.1
     ]
 
@@ -461,7 +424,7 @@ lost_kept {locks} {new_locks} {forks} {new_forks} {keep} {stays} l = record {
     same = λ x.
         any_filter (are_one_row x) (stays q) (rows_at forks q)
         ∙ rows_tell locks q (rows_at forks q) (λ y. are_one_row x y && stays q y) (l.was.intervals q).same
-        ∙ any_gives (λ y. is_one_fork y.fork q && (is_row x y && stays q (row_of y))) (λ y. (is_one_fork y.fork q && is_row x y) && keep y) locks (λ y. regroup (is_one_fork y.fork q) (is_row x y) (stays q (row_of y)) (keep y) (l.alike q y))
+        ∙ any-same (λ y. is_one_fork y.fork q && (is_row x y && stays q (row_of y))) (λ y. (is_one_fork y.fork q && is_row x y) && keep y) locks (λ y. regroup (is_one_fork y.fork q) (is_row x y) (stays q (row_of y)) (keep y) (l.alike q y))
         ∙ sym (any_filter (λ y. is_one_fork y.fork q && is_row x y) keep locks)
         ∙ sym (ap (list_any (λ y. is_one_fork y.fork q && is_row x y)) l.new_list);
   });
@@ -475,12 +438,9 @@ lost_kept {locks} {new_locks} {forks} {new_forks} {keep} {stays} l = record {
 pub lock_alike : (fork : Fork) (row : LockRow) (q : Fork) (l : ForkLock) → is_one_fork l.fork q ≡ true → (if is_one_fork fork q then not (are_one_row row (row_of l)) else true) ≡ not (is_fork_lock fork row.reference.0 row.range l)
 lock_alike fork row q l on = ap (λ f. if is_one_fork fork f then not (are_one_row row (row_of l)) else true) (sym (same_fork l.fork q on)) ∙ ap (λ t. if t then not (are_one_row row (row_of l)) else true) (either_way fork l.fork)
     ∙ elim (is_one_fork l.fork fork) as (λ t. (if t then not (are_one_row row (row_of l)) else true) ≡ not (t && ((l.reference == row.reference.0) && ((l.range.from == row.range.from) && (l.range.to == row.range.to))))) [
-      | true ↦ ap not (λ i. turn row.reference.0 l.reference i && (turn row.range.from l.range.from i && turn row.range.to l.range.to i))
+      | true ↦ ap not (λ i. eqb_turn row.reference.0 l.reference i && (eqb_turn row.range.from l.range.from i && eqb_turn row.range.to l.range.to i))
       | false ↦ refl
     ]
-  where
-    turn : (m n : ℕ) → (m == n) ≡ (n == m)
-    turn m n = both_ways (m == n) (n == m) (λ h. let e = one_number m n h in grind (arith, nat_tests, e)) (λ h. let e = one_number n m h in grind (arith, nat_tests, e))
 
 filter_if : (b : Bool) (keep : LockRow → Bool) (rows : List LockRow) → (if b then filter keep rows else rows) ≡ filter (λ x. if b then keep x else true) rows
 filter_if true keep rows = refl
@@ -501,20 +461,17 @@ alike_overlap fork r range a b ordered is_a is_b =
     let p_ends = and_parts (a.range.from == range.from) (a.range.to == range.to) (and_parts (a.reference == r) _ p.1).1 in
     let q = and_parts (is_one_fork b.fork fork) ((b.reference == r) && ((b.range.from == range.from) && (b.range.to == range.to))) is_b in
     let q_ends = and_parts (b.range.from == range.from) (b.range.to == range.to) (and_parts (b.reference == r) _ q.1).1 in
-    let a_from = one_number a.range.from range.from p_ends.0 in
-    let a_to = one_number a.range.to range.to p_ends.1 in
-    let b_from = one_number b.range.from range.from q_ends.0 in
-    let b_to = one_number b.range.to range.to q_ends.1 in
+    let a_from = eqb-true a.range.from range.from p_ends.0 in
+    let a_to = eqb-true a.range.to range.to p_ends.1 in
+    let b_from = eqb-true b.range.from range.from q_ends.0 in
+    let b_to = eqb-true b.range.to range.to q_ends.1 in
     and_from _ _ (ap (is_one_fork a.fork) (same_fork b.fork fork q.0) ∙ p.0)
-    (and_from _ _ (is_at_most a.range.from b.range.to (omega (arith, a_from, b_to))) (is_at_most b.range.from a.range.to (omega (arith, b_from, a_to))))
-  where
-    is_at_most : (m n : ℕ) → m ≤ n → nat_le m n ≡ true
-    is_at_most m n h = grind (arith, nat_tests)
+    (and_from _ _ (le-leb a.range.from b.range.to (omega (arith, a_from, b_to))) (le-leb b.range.from a.range.to (omega (arith, b_from, a_to))))
 
 pub remove_one : (fork : Fork) (r : ℕ) (range : Range) (ls : List ForkLock) (place : ℕ) → range.from ≤ range.to → are_apart are_overlapping ls ≡ true → place < length ls → ((d : ForkLock) → is_fork_lock fork r range (slice_index_or ls place d) ≡ true) → remove ls place ≡ filter (λ l. not (is_fork_lock fork r range l)) ls
 remove_one fork r range [] place ordered apart within is = absurd (omega arith)
 remove_one fork r range (l ∷ ls) zero ordered apart within is =
-    others ls (not_true (list_any (are_overlapping l) ls) (and_parts (not (list_any (are_overlapping l) ls)) (are_apart are_overlapping ls) apart).0)
+    others ls (not-true (list_any (are_overlapping l) ls) (and_parts (not (list_any (are_overlapping l) ls)) (are_apart are_overlapping ls) apart).0)
     ∙ ap (λ b. if not b then l ∷ filter (λ x. not (is_fork_lock fork r range x)) ls else filter (λ x. not (is_fork_lock fork r range x)) ls) (sym (is l))
   where
     others : (xs : List ForkLock) → list_any (are_overlapping l) xs ≡ false → xs ≡ filter (λ x. not (is_fork_lock fork r range x)) xs
@@ -525,7 +482,7 @@ remove_one fork r range (l ∷ ls) zero ordered apart within is =
         ap (λ rest. x ∷ rest) (others xs parts.1) ∙ ap (λ b. if not b then x ∷ filter (λ y. not (is_fork_lock fork r range y)) xs else filter (λ y. not (is_fork_lock fork r range y)) xs) (sym other)
 remove_one fork r range (l ∷ ls) (suc place) ordered apart within is =
     let parts = and_parts (not (list_any (are_overlapping l) ls)) (are_apart are_overlapping ls) apart in
-    let alone = not_true (list_any (are_overlapping l) ls) parts.0 in
+    let alone = not-true (list_any (are_overlapping l) ls) parts.0 in
     let other : is_fork_lock fork r range l ≡ false = elim (is_fork_lock fork r range l) as (λ b. is_fork_lock fork r range l ≡ b → b ≡ false) [
       | true ↦ λ same. sym (list_any_at (are_overlapping l) ls place l (omega arith) (alike_overlap fork r range l (slice_index_or ls place l) ordered same (is l))) ∙ alone
       | false ↦ λ _. refl
@@ -540,7 +497,7 @@ bytes_in_order {locks} {forks} place d k within =
     elim (nat_le (slice_index_or locks place d).range.from (slice_index_or locks place d).range.to) as (λ b. nat_le (slice_index_or locks place d).range.from (slice_index_or locks place d).range.to ≡ b → b ≡ true) [
       | true ↦ λ _. refl
       | false ↦ λ is.
-          let there = list_any_at (λ l. is_one_fork l.fork q && falls (row_of l)) locks place d within (and_from _ _ (itself q) (ap not is)) in
+          let there = list_any_at (λ l. is_one_fork l.fork q && falls (row_of l)) locks place d within (and_from _ _ (one_fork-itself q) (ap not is)) in
           let f = Any-from_list_any falls (rows_at forks q) (rows_tell locks q (rows_at forks q) falls (k.intervals q).same ∙ there) in
           sym (ap not ((k.intervals q).order.valid f.0 f.1 f.2)) ∙ ap falls f.3 ∙ f.4
     ] refl
@@ -557,7 +514,7 @@ one_taken {locks} {given} fork r range place k same is new_is =
     new_is ∙ remove_one fork r range locks place (in_order _ _ _ _ (bytes_in_order place any k there.0) ends.0 ends.1) k.apart there.0 there.1
   where
     in_order : (a b m n : ℕ) → nat_le a b ≡ true → (a == m) ≡ true → (b == n) ≡ true → m ≤ n
-    in_order a b m n h from to = let e = one_number a m from in let f = one_number b n to in grind (arith, nat_tests, h, e, f)
+    in_order a b m n h from to = let e = eqb-true a m from in let f = eqb-true b n to in grind (arith, nat_tests, h, e, f)
 
 pub is_there : {given whole : List ForkLock} (fork : Fork) (r : ℕ) (range : Range) (place : ℕ) → given ≡ whole → IsPlaceOf given fork r range (Some place) → has_fork_lock whole fork r range ≡ true
 is_there {given} {whole} fork r range place same is =
@@ -590,7 +547,7 @@ found {list} {own} fork r range first last place before behind given is =
 pub not_found : {list own : List ForkLock} (fork : Fork) (r : ℕ) (range : Range) (first last : ℕ) → IsBefore list r first → IsBehind list r last → own ≡ slice_range list first last → IsPlaceOf own fork r range None → IsPlaceOf list fork r range None
 not_found {list} {own} fork r range first last before behind given is =
     sym (ap (list_any (is_fork_lock fork r range)) (given ∙ (own_part list r first last before behind).0) ∙ any_filter (is_fork_lock fork r range) (λ l. l.reference == r) list
-    ∙ any_gives (λ l. is_fork_lock fork r range l && (l.reference == r)) (is_fork_lock fork r range) list (λ l. again (is_one_fork l.fork fork) (l.reference == r) ((l.range.from == range.from) && (l.range.to == range.to))))
+    ∙ any-same (λ l. is_fork_lock fork r range l && (l.reference == r)) (is_fork_lock fork r range) list (λ l. again (is_one_fork l.fork fork) (l.reference == r) ((l.range.from == range.from) && (l.range.to == range.to))))
     ∙ is
   where
     again : (a b c : Bool) → ((a && (b && c)) && b) ≡ (a && (b && c))
@@ -634,14 +591,6 @@ cleared {locks} {own} {forks} new_forks r first last k before behind given new_i
       ∙ sym (ap (λ ls. is_among ls q) (given ∙ (own_part locks r first last before behind).0) ∙ any_filter (λ l. is_one_fork l.fork q) (λ l. l.reference == r) locks) ∙ is)
 ] refl
 
-or_nothing : (b : Bool) → (b || false) ≡ b
-or_nothing true = refl
-or_nothing false = refl
-
-or_all : (b : Bool) → (b || true) ≡ true
-or_all true = refl
-or_all false = refl
-
 -- the rows of a reference after the first so many of its locks
 abbrev pub are_cleared : ℕ → List ForkLock → List (Fork × List LockRow) → Fork → List LockRow
 are_cleared r ls forks q = if is_among ls q then filter (stays_of r) (rows_at forks q) else rows_at forks q
@@ -658,8 +607,8 @@ clear_step ls i x r first mid after fork within read fork_is before now_is q =
       | true ↦ λ same.
           ap (λ f. filter (stays_of r) (rows_at mid f)) (same_fork x.fork q same) ∙ ap (filter (stays_of r)) (before q)
           ∙ elim (is_among (take i ls) q) as (λ h. filter (stays_of r) (if h then filter (stays_of r) (rows_at first q) else rows_at first q) ≡ filter (stays_of r) (rows_at first q)) [ true ↦ stay_twice r (rows_at first q) | false ↦ refl ]
-          ∙ ap (λ t. if t then filter (stays_of r) (rows_at first q) else rows_at first q) (sym (or_all (is_among (take i ls) q)))
-      | false ↦ λ other. before q ∙ ap (λ t. if t then filter (stays_of r) (rows_at first q) else rows_at first q) (sym (or_nothing (is_among (take i ls) q)))
+          ∙ ap (λ t. if t then filter (stays_of r) (rows_at first q) else rows_at first q) (sym (or-true (is_among (take i ls) q)))
+      | false ↦ λ other. before q ∙ ap (λ t. if t then filter (stays_of r) (rows_at first q) else rows_at first q) (sym (or-false (is_among (take i ls) q)))
     ] refl
     ∙ ap (λ t. if t then filter (stays_of r) (rows_at first q) else rows_at first q) (sym (among_more ls i x q within read))
 
@@ -669,8 +618,8 @@ pub clear_skip : (ls : List ForkLock) (i : ℕ) (x : ForkLock) (r : ℕ) (first 
 clear_skip ls i x r first mid fork within read fork_is earlier before q =
     before q ∙ ap (λ t. if t then filter (stays_of r) (rows_at first q) else rows_at first q)
     (sym (among_more ls i x q within read ∙ elim (is_one_fork x.fork q) as (λ b. is_one_fork x.fork q ≡ b → (is_among (take i ls) q || b) ≡ is_among (take i ls) q) [
-      | true ↦ λ same. or_all (is_among (take i ls) q) ∙ sym (sym (ap (is_among (take i ls)) (fork_is ∙ same_fork x.fork q same)) ∙ earlier)
-      | false ↦ λ _. or_nothing (is_among (take i ls) q)
+      | true ↦ λ same. or-true (is_among (take i ls) q) ∙ sym (sym (ap (is_among (take i ls)) (fork_is ∙ same_fork x.fork q same)) ∙ earlier)
+      | false ↦ λ _. or-false (is_among (take i ls) q)
     ] refl))
 
 -- ---- two forks change places

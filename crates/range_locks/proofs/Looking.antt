@@ -4,7 +4,7 @@ use Rattle.std.specs.Prelude.{nat_lt, nat_le, slice_index_or, slice_range}
 use Rattle.std.specs.Cmp.{both_ways}
 use Rattle.std.specs.List.{list_any, remove}
 use Rattle.std.specs.List.Sorted.{IsPartitionedBy, IsPartitionPoint}
-use Rattle.std.proofs.lemmas.Bool.{cases_lt}
+use Rattle.std.proofs.lemmas.Bool.{cases_lt, ltb-true, leb-true, lt-ltb, and_parts, eqb-true, or_parts, le-leb, ltb-false, leb-false}
 use Rattle.std.proofs.lemmas.Bool.Decides.{nat_tests}
 use Rattle.std.proofs.lemmas.List.Folds.{Any-from_list_any, list_any_at}
 use Rattle.std.proofs.lemmas.List.{get_or_default}
@@ -14,44 +14,26 @@ use Rattle.range_locks.specs.declared.rows.LockRow.{LockRow}
 use Rattle.range_locks.specs.Locks.{AreInOrder, are_one_row}
 use Rattle.range_locks.specs.lemma.Seen.{IsSeen, IsRowPlace}
 
-below : (a b : ℕ) → nat_lt a b ≡ true → a < b
-below a b h = grind (arith, nat_tests, h)
-
-not_below : (a b : ℕ) → nat_lt a b ≡ false → b ≤ a
-not_below a b h = grind (arith, nat_tests, h)
-
-is_below : (a b : ℕ) → a < b → nat_lt a b ≡ true
-is_below a b h = grind (arith, nat_tests)
-
-at_most : (a b : ℕ) → nat_le a b ≡ true → a ≤ b
-at_most a b h = grind (arith, nat_tests, h)
-
-above : (a b : ℕ) → nat_le a b ≡ false → b < a
-above a b h = grind (arith, nat_tests, h)
-
-is_at_most : (a b : ℕ) → a ≤ b → nat_le a b ≡ true
-is_at_most a b h = grind (arith, nat_tests)
-
 -- a row of a list by its place
 abbrev row_at : List LockRow → ℕ → LockRow → LockRow
 row_at rows i d = slice_index_or rows i d
 
 module _ (rows : List LockRow) (o : AreInOrder rows) where
   rising : (i j : ℕ) (d : LockRow) → i < j → j < length rows → (row_at rows i d).range.to < (row_at rows j d).range.from
-  rising i j d h k = below _ _ (o.rising i j d h k)
+  rising i j d h k = ltb-true _ _ (o.rising i j d h k)
 
   valid : (i : ℕ) (d : LockRow) → i < length rows → (row_at rows i d).range.from ≤ (row_at rows i d).range.to
-  valid i d h = at_most _ _ (o.valid i d h)
+  valid i d h = leb-true _ _ (o.valid i d h)
 
   pub parted_ends : (x : ℕ) → IsPartitionedBy (λ row. nat_lt row.range.to x) rows
   parted_ends x i j d le within passes = elim (cases_lt i j) [
-    | inl less ↦ is_below _ _ (let a = below _ _ passes in let b = rising i j d less within in let c = valid j d within in omega (arith, a, b, c))
+    | inl less ↦ lt-ltb _ _ (let a = ltb-true _ _ passes in let b = rising i j d less within in let c = valid j d within in omega (arith, a, b, c))
     | inr other ↦ let same : j ≡ i = omega arith in subst (λ k. nat_lt (row_at rows k d).range.to x ≡ true) same passes
   ]
 
   pub parted_starts : (x : ℕ) → IsPartitionedBy (λ row. nat_le row.range.from x) rows
   parted_starts x i j d le within passes = elim (cases_lt i j) [
-    | inl less ↦ is_at_most _ _ (let a = at_most _ _ passes in let b = rising i j d less within in let c = valid i d (omega arith) in omega (arith, a, b, c))
+    | inl less ↦ le-leb _ _ (let a = leb-true _ _ passes in let b = rising i j d less within in let c = valid i d (omega arith) in omega (arith, a, b, c))
     | inr other ↦ let same : j ≡ i = omega arith in subst (λ k. nat_le (row_at rows k d).range.from x ≡ true) same passes
   ]
 
@@ -62,8 +44,8 @@ module _ (rows : List LockRow) (o : AreInOrder rows) where
     pub in_turn : LockRow → from ≤ to
     in_turn d = elim (cases_lt to from) [
       | inl less ↦ absurd (
-          let a = below _ _ (ends.0 to d (omega arith) less) in
-          let b = above _ _ (starts.1 to d (omega arith) (omega arith)) in
+          let a = ltb-true _ _ (ends.0 to d (omega arith) less) in
+          let b = leb-false _ _ (starts.1 to d (omega arith) (omega arith)) in
           let c = valid to d (omega arith) in omega (arith, a, b, c))
       | inr other ↦ other
     ]
@@ -74,29 +56,21 @@ module _ (rows : List LockRow) (o : AreInOrder rows) where
     met_between : (k : ℕ) (d : LockRow) → k < length rows → meets (row_at rows k d) ≡ true → (from ≤ k) × (k < to)
     met_between k d within met =
         let parts = and_parts (nat_le (row_at rows k d).range.from range.to) (nat_le range.from (row_at rows k d).range.to) met in (
-          elim (cases_lt k from) [ inl less ↦ absurd (let a = below _ _ (ends.0 k d (omega arith) less) in let b = at_most _ _ parts.1 in omega (arith, a, b)) | inr other ↦ other ],
-          elim (cases_lt k to) [ inl less ↦ less | inr other ↦ absurd (let a = above _ _ (starts.1 k d other within) in let b = at_most _ _ parts.0 in omega (arith, a, b)) ],
+          elim (cases_lt k from) [ inl less ↦ absurd (let a = ltb-true _ _ (ends.0 k d (omega arith) less) in let b = leb-true _ _ parts.1 in omega (arith, a, b)) | inr other ↦ other ],
+          elim (cases_lt k to) [ inl less ↦ less | inr other ↦ absurd (let a = leb-false _ _ (starts.1 k d other within) in let b = leb-true _ _ parts.0 in omega (arith, a, b)) ],
         )
-      where
-        and_parts : (a b : Bool) → (a && b) ≡ true → (a ≡ true) × (b ≡ true)
-        and_parts true b h = (refl, h)
-        and_parts false b h = absurd (cc h)
 
     between_meets : (k : ℕ) (d : LockRow) → from ≤ k → k < to → meets (row_at rows k d) ≡ true
     between_meets k d low high =
         let a = starts.0 k d (omega arith) high in
-        let b = is_at_most _ _ (not_below _ _ (ends.1 k d low (omega arith))) in
+        let b = le-leb _ _ (ltb-false _ _ (ends.1 k d low (omega arith))) in
         λ i. a i && b i
-
-    both_true : (a b : Bool) → (a && b) ≡ true → (a ≡ true) × (b ≡ true)
-    both_true true b h = (refl, h)
-    both_true false b h = absurd (cc h)
 
     pub any_met : (p : LockRow → Bool) → list_any (λ row. meets row && p row) rows ≡ list_any p (slice_range rows from to)
     any_met p = both_ways _ _
         (λ h.
         let f = Any-from_list_any (λ row. meets row && p row) rows h in
-        let both = both_true (meets f.1) (p f.1) f.4 in
+        let both = and_parts (meets f.1) (p f.1) f.4 in
         let here : meets (row_at rows f.0 f.1) ≡ true = ap meets f.3 ∙ both.0 in
         let place = met_between f.0 f.1 f.2 here in
         let len = length-between rows from to to_in in
@@ -140,21 +114,14 @@ module _ (rows : List LockRow) (o : AreInOrder rows) where
 -- ---- a row that is there
 ends_of : (row x : LockRow) → are_one_row row x ≡ true → (row.range.from ≡ x.range.from) × (row.range.to ≡ x.range.to)
 ends_of row x h =
-    let first = both (row.reference.0 == x.reference.0) ((row.range.from == x.range.from) && (row.range.to == x.range.to)) h in
-    let ends = both (row.range.from == x.range.from) (row.range.to == x.range.to) first.1 in
-    (one row.range.from x.range.from ends.0, one row.range.to x.range.to ends.1)
-  where
-    both : (a b : Bool) → (a && b) ≡ true → (a ≡ true) × (b ≡ true)
-    both true b h = (refl, h)
-    both false b h = absurd (cc h)
-
-    one : (m n : ℕ) → (m == n) ≡ true → m ≡ n
-    one m n h = grind (arith, nat_tests, h)
+    let first = and_parts (row.reference.0 == x.reference.0) ((row.range.from == x.range.from) && (row.range.to == x.range.to)) h in
+    let ends = and_parts (row.range.from == x.range.from) (row.range.to == x.range.to) first.1 in
+    (eqb-true row.range.from x.range.from ends.0, eqb-true row.range.to x.range.to ends.1)
 
 module _ (rows : List LockRow) (o : AreInOrder rows) (row : LockRow) (ordered : row.range.from ≤ row.range.to) (place : ℕ) (ends : IsPartitionPoint (λ x. nat_lt x.range.to row.range.from ≡ true) (λ x. nat_lt x.range.to row.range.from ≡ false) rows place) where
   not_before : (k : ℕ) (x : LockRow) → k < length rows → slice_index_or rows k x ≡ x → are_one_row row x ≡ true → place ≤ k
   not_before k x within is same = elim (cases_lt k place) [
-    | inl less ↦ absurd (let e = ends_of row x same in let a = below _ _ (sym (ap (λ (y : LockRow). nat_lt y.range.to row.range.from) is) ∙ ends.0 k x (omega arith) less) in omega (arith, a, e.1))
+    | inl less ↦ absurd (let e = ends_of row x same in let a = ltb-true _ _ (sym (ap (λ (y : LockRow). nat_lt y.range.to row.range.from) is) ∙ ends.0 k x (omega arith) less) in omega (arith, a, e.1))
     | inr other ↦ other
   ]
 
@@ -174,7 +141,7 @@ module _ (rows : List LockRow) (o : AreInOrder rows) (row : LockRow) (ordered : 
         | inl less ↦ absurd (
             let e = ends_of row f.1 f.4 in
             let a = rising rows o place f.0 f.1 less f.2 in
-            let b = not_below _ _ (ends.1 place f.1 (omega arith) within) in
+            let b = ltb-false _ _ (ends.1 place f.1 (omega arith) within) in
             let c : (slice_index_or rows f.0 f.1).range.from ≡ f.1.range.from = ap (λ (y : LockRow). y.range.from) f.3 in
             omega (arith, a, b, c, e.0))
         | inr other ↦ omega (arith, low, other)
@@ -188,12 +155,8 @@ rows_stay {rows} {whole} row same none = each whole (sym (ap (list_any (are_one_
     each : (rows : List LockRow) → list_any (are_one_row row) rows ≡ false → rows ≡ filter (λ x. not (are_one_row row x)) rows
     each [] h = refl
     each (x ∷ xs) h =
-        let parts = neither (are_one_row row x) (list_any (are_one_row row) xs) h in
+        let parts = or_parts (are_one_row row x) (list_any (are_one_row row) xs) h in
         ap (λ rest. x ∷ rest) (each xs parts.1) ∙ ap (λ b. if not b then x ∷ filter (λ y. not (are_one_row row y)) xs else filter (λ y. not (are_one_row row y)) xs) (sym parts.0)
-      where
-        neither : (a b : Bool) → (a || b) ≡ false → (a ≡ false) × (b ≡ false)
-        neither true b h = absurd (cc h)
-        neither false b h = (refl, h)
 
 -- of rows that end before the next ones begin, no two are one
 one_alone : (rows : List LockRow) (row : LockRow) (i j : ℕ) (d : LockRow) → AreInOrder rows → i < j → j < length rows → are_one_row row (slice_index_or rows i d) ≡ true → are_one_row row (slice_index_or rows j d) ≡ true → ⊥

@@ -1,48 +1,28 @@
-//! Captures that are files, each replayed on a server of its own.
+//! Runs over files: captures that are replayed, and what the tool says of others.
 //!
-//! Each line of the standard input is the name of one. A line is printed for it: its name, the counts of the replay, and
-//! `same`; or how else the replay ended.
+//! Each line of the standard input is the name of a file in `captures`, or `afptool`, the tool's words, and the name of a file in `tool`.
 #![tactic(auto)]
 
-use afp_base::NO_LIMIT;
-use afp_outside::StdSource;
-use capture_log::{ReplayEnd, replay};
-use capture_log_server::memory_keepers;
-use std::fs::File;
+mod replays;
+mod runs;
+
+use replays::replay_capture;
+use runs::run_tool;
 use std::io;
-use std::io::{BufRead, BufReader};
+use test_lines::{TakesLines, take_lines};
 
-/// Replays the capture in a file, over keepers in memory.
-fn replay_file(rt: &HostRuntime, name: &str) -> io::Result<ReplayEnd> {
-    let mut source = StdSource::new(File::open(rt, name)?);
-    match memory_keepers(rt.alloc()) {
-        Ok(keepers) => Ok(replay(rt.alloc(), keepers, &mut source, NO_LIMIT)),
-        Err(_) => Ok(ReplayEnd::Memory),
-    }
-}
+/// The files beside the program.
+struct Files;
 
-/// Prints how a replay ended.
-fn print_end(rt: &HostRuntime, name: &str, end: ReplayEnd) -> io::Result<()> {
-    match end {
-        ReplayEnd::Same {
-            links,
-            entries,
-            replies,
-            refused,
-        } => {
-            println!(rt;
-                "{name} links {links} entries {entries} replies {replies} refused {refused} same"
-            )
+impl TakesLines for Files {
+    fn take(&mut self, rt: &HostRuntime, _number: u64, line: &str) -> io::Result<()> {
+        match line.split_once(' ') {
+            None => replay_capture(rt, line),
+            Some((_, words)) => run_tool(rt, line, words),
         }
-        other => println!(rt; "{name} {other:?}"),
     }
 }
 
 fn main(rt: HostRuntime) -> io::Result<()> {
-    for line in BufReader::new(rt.alloc(), rt.reader())?.lines(rt.alloc()) {
-        let name = line?;
-        let end = replay_file(&rt, name.as_str())?;
-        print_end(&rt, name.as_str(), end)?;
-    }
-    Ok(())
+    take_lines(&rt, &mut Files)
 }

@@ -25,7 +25,8 @@ use fault::CaseFault;
 use kinds::KINDS;
 use run::Run;
 use std::io;
-use std::io::{BufRead, BufReader, ErrorKind};
+use std::io::ErrorKind;
+use test_lines::{TakesLines, take_lines};
 
 /// The error of a program that cannot go on.
 fn error_of(fault: CaseFault) -> io::Error {
@@ -35,22 +36,15 @@ fn error_of(fault: CaseFault) -> io::Error {
     }
 }
 
-/// Takes a line, and prints it where its result is another.
-fn take_line(rt: &HostRuntime, run: &mut Run, number: u64, line: &str) -> io::Result<()> {
-    match run.take(rt.alloc(), line) {
-        Ok(None) => Ok(()),
-        Ok(Some(got)) => println!(rt; "line {number}: {line}\n  but got: {got}"),
-        Err(fault) => Err(error_of(fault)),
+impl TakesLines for Run {
+    /// Prints the line where its result is another.
+    fn take(&mut self, rt: &HostRuntime, number: u64, line: &str) -> io::Result<()> {
+        match self.other(rt.alloc(), line) {
+            Ok(None) => Ok(()),
+            Ok(Some(got)) => println!(rt; "line {number}: {line}\n  but got: {got}"),
+            Err(fault) => Err(error_of(fault)),
+        }
     }
-}
-
-fn take_lines(rt: &HostRuntime, run: &mut Run) -> io::Result<()> {
-    let mut number: u64 = 0;
-    for line in BufReader::new(rt.alloc(), rt.reader())?.lines(rt.alloc()) {
-        number = number.saturating_add(1);
-        take_line(rt, run, number, line?.as_str())?;
-    }
-    Ok(())
 }
 
 fn print_counts(rt: &HostRuntime, run: &Run) -> io::Result<()> {

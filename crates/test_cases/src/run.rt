@@ -60,7 +60,7 @@ impl Run {
     }
 
     /// The result of a case, where it is not what is wanted.
-    fn other(
+    fn other_than(
         &mut self,
         alloc: Global,
         case_words: &str,
@@ -79,15 +79,11 @@ impl Run {
         }
     }
 
-    /// Takes a line: nothing, a comment behind `#`, or a case, with what is wanted behind ` -> `. It tells the result of the
-    /// case, where it is another.
-    pub fn take(&mut self, alloc: Global, line: &str) -> Result<Option<String>, CaseFault> {
-        if line.is_empty() || line.starts_with('#') {
-            return Ok(None);
-        }
+    /// Runs the case of a line, with what is wanted behind ` -> `. It tells the result of the case, where it is another.
+    pub fn other(&mut self, alloc: Global, line: &str) -> Result<Option<String>, CaseFault> {
         match line.split_once(" -> ") {
-            Some((case_words, wanted)) => self.other(alloc, case_words, wanted),
-            None => self.other(alloc, line, ""),
+            Some((case_words, wanted)) => self.other_than(alloc, case_words, wanted),
+            None => self.other_than(alloc, line, ""),
         }
     }
 }

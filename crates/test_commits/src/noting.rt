@@ -39,7 +39,7 @@ fn copies_of(alloc: Global, changes: &[Change]) -> Result<Vec<Change>, OutOfMemo
 }
 
 impl Keeper for NotingKeeper {
-    ghost use Rattle.std.specs.Prelude.{Some};
+    ghost use Rattle.std.specs.Prelude.{Some, true};
     ghost use Rattle.record_keeper.specs.Planned.{never_fails};
 
     ghost records = { λ k. Some k.keeper.records };
@@ -47,6 +47,10 @@ impl Keeper for NotingKeeper {
     ghost faults = { λ k. k.keeper.planned.faults };
 
     ghost sure = { λ k. never_fails k.keeper.planned };
+
+    ghost steady = { λ _. true };
+
+    ghost settles = { λ k. k.keeper.settles };
 
     fn read(&mut self, alloc: Global, key: &RecordKey) -> Result<Option<Bytes>, KeeperFault> {
         self.keeper.read(alloc, key)

@@ -10,6 +10,7 @@ use afp_names::{LONGEST_PATH, Name, Path, UTF8_NAMES};
 use deny_modes::Opens;
 use record_keeper::{Change, KeeperFault, MemoryKeeper};
 use std::alloc::Global;
+use test_lines::LineResult;
 use volume_keeper_commit::{ChangeFault, KeptVolume};
 use volume_tree::PlanFault;
 
@@ -18,14 +19,6 @@ use volume_tree::PlanFault;
 pub struct Run {
     kept: KeptVolume<NotingKeeper>,
     now: Moment,
-}
-
-/// What comes of a line: a number, or a word.
-#[derive(Clone, Copy)]
-pub enum LineResult {
-    Number(u64),
-    Code(i32),
-    Word(&'static str),
 }
 
 /// The path that a word is, in UTF-8.

@@ -1,4 +1,5 @@
 //! The lines of a run.
+use test_lines::{kind_of, last_word, number_at, word_at};
 
 /// What a line does. A word of two parts names what it is done to: the bytes of a fork, the opens, the locks, or the table of open
 /// forks.
@@ -84,15 +85,6 @@ const KINDS: [(&str, Kind); 37] = [
     ("table_blocked", Kind::OwnBlocked),
 ];
 
-fn kind_of(word: &str) -> Option<Kind> {
-    for (known, kind) in &KINDS {
-        if *known == word {
-            return Some(*kind);
-        }
-    }
-    None
-}
-
 /// A line: what it does, the numbers behind it, 0 where there are none, and the last word.
 #[derive(Clone, Copy)]
 pub struct Line<'a> {
@@ -101,23 +93,9 @@ pub struct Line<'a> {
     pub text: &'a str,
 }
 
-/// The number that a word of a line spells, 0 where there is none.
-fn number_at(words: &[&str], i: usize) -> u64 {
-    if i >= words.len() {
-        return 0;
-    }
-    match words[i].parse::<u64>() {
-        Ok(number) => number,
-        Err(_) => 0,
-    }
-}
-
 /// The line of some words.
 pub fn line_of<'a>(words: &[&'a str]) -> Option<Line<'a>> {
-    if words.is_empty() {
-        return None;
-    }
-    let Some(kind) = kind_of(words[0]) else {
+    let Some(kind) = kind_of(&KINDS, word_at(words, 0)) else {
         return None;
     };
     Some(Line {
@@ -128,6 +106,6 @@ pub fn line_of<'a>(words: &[&'a str]) -> Option<Line<'a>> {
             number_at(words, 3),
             number_at(words, 4),
         ],
-        text: words[words.len() - 1],
+        text: last_word(words),
     })
 }

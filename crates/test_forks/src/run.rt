@@ -1,12 +1,13 @@
 //! What comes of lines.
-use crate::line::{Kind, Line};
+use crate::line::{Kind, Line, line_of};
 use crate::{forks, locks, opens, tables};
-use afp_base::{Bytes, OutOfMemory};
+use afp_base::OutOfMemory;
 use deny_modes::Opens;
 use fork_bytes::Fork;
 use fork_table::ForkTable;
 use range_locks::Locks;
 use std::alloc::Global;
+use test_lines::{AnswersLines, LineResult};
 
 /// A fork, opens, locks and a table of open forks. None knows of another.
 #[derive(Drop)]
@@ -15,15 +16,6 @@ pub struct Run {
     opens: Opens,
     locks: Locks,
     table: ForkTable,
-}
-
-/// What comes of a line.
-#[derive(Drop)]
-pub enum LineResult {
-    Nothing,
-    Number(u64),
-    Word(&'static str),
-    Bytes(Bytes),
 }
 
 fn yes(holds: bool) -> LineResult {
@@ -100,7 +92,7 @@ impl Run {
     }
 
     /// What comes of a line.
-    pub fn answer(&mut self, alloc: Global, line: &Line<'_>) -> Result<LineResult, OutOfMemory> {
+    fn run(&mut self, alloc: Global, line: &Line<'_>) -> Result<LineResult, OutOfMemory> {
         match line.kind {
             Kind::New => {
                 *self = Run::new(alloc);
@@ -128,6 +120,15 @@ impl Run {
             | Kind::Blocks
             | Kind::CopyLength => of_fork(alloc, &mut self.fork, line),
             _ => Ok(of_table(&mut self.table, line)),
+        }
+    }
+}
+
+impl AnswersLines for Run {
+    fn answer(&mut self, alloc: Global, words: &[&str]) -> Result<Option<LineResult>, OutOfMemory> {
+        match line_of(words) {
+            Some(line) => Ok(Some(self.run(alloc, &line)?)),
+            None => Ok(None),
         }
     }
 }

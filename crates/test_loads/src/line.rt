@@ -1,4 +1,5 @@
 //! The lines of a run.
+use test_lines::{kind_of, last_word, small_number_at, word_at};
 
 /// What a line does: it takes a new keeper, puts a record or takes one away, puts the records of many directories, one in the other,
 /// loads the volume, or reads a value.
@@ -38,15 +39,6 @@ const KINDS: [(&str, Kind); 14] = [
     ("count", Kind::Count),
 ];
 
-fn kind_of(word: &str) -> Option<Kind> {
-    for (known, kind) in &KINDS {
-        if *known == word {
-            return Some(*kind);
-        }
-    }
-    None
-}
-
 /// A line: what it does, the numbers behind it, 0 where there are none, its second word, and its last.
 #[derive(Clone, Copy)]
 pub struct Line<'a> {
@@ -56,33 +48,19 @@ pub struct Line<'a> {
     pub text: &'a str,
 }
 
-/// The number that a word of a line spells, 0 where there is none.
-fn number_at(words: &[&str], i: usize) -> u32 {
-    if i >= words.len() {
-        return 0;
-    }
-    match words[i].parse::<u32>() {
-        Ok(number) => number,
-        Err(_) => 0,
-    }
-}
-
 /// The line of some words.
 pub fn line_of<'a>(words: &[&'a str]) -> Option<Line<'a>> {
-    if words.is_empty() {
-        return None;
-    }
-    let Some(kind) = kind_of(words[0]) else {
+    let Some(kind) = kind_of(&KINDS, word_at(words, 0)) else {
         return None;
     };
     Some(Line {
         kind,
         numbers: [
-            number_at(words, 1),
-            number_at(words, 2),
-            number_at(words, 3),
+            small_number_at(words, 1),
+            small_number_at(words, 2),
+            small_number_at(words, 3),
         ],
-        second: words[1.min(words.len() - 1)],
-        text: words[words.len() - 1],
+        second: word_at(words, 1),
+        text: last_word(words),
     })
 }

@@ -2,14 +2,12 @@
 use crate::line::{Kind, Line};
 use afp_base::{Bytes, OutOfMemory};
 use std::alloc::Global;
+use test_lines::bytes_of;
 use volume_keeper_records::{Appl, Comment, ForkBlock, Head, Node, TableRow};
 
 /// The bytes that hexadecimal digits spell; none, where they spell none.
-pub fn bytes_of(alloc: Global, digits: &str) -> Result<Bytes, OutOfMemory> {
-    match hex::decode(alloc, digits) {
-        Ok(bytes) => Bytes::of(alloc, bytes.as_slice()),
-        Err(_) => Ok(Bytes::new(alloc)),
-    }
+pub fn owned(alloc: Global, digits: &str) -> Result<Bytes, OutOfMemory> {
+    Bytes::of(alloc, bytes_of(alloc, digits).as_slice())
 }
 
 /// A head of zeros with this next id.
@@ -63,7 +61,7 @@ pub fn row_of(alloc: Global, line: &Line<'_>) -> Result<TableRow, OutOfMemory> {
             node: first,
             is_resource: second == 1,
             index: third,
-            bytes: bytes_of(alloc, line.text)?,
+            bytes: owned(alloc, line.text)?,
         })),
         Kind::Comment => Ok(TableRow::Comment(Comment {
             node: first,

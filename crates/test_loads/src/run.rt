@@ -1,10 +1,11 @@
 //! What comes of lines.
-use crate::line::{Kind, Line};
-use crate::rows::{bytes_of, node, row_of};
-use afp_base::{Bytes, Moment, OutOfMemory};
+use crate::line::{Kind, Line, line_of};
+use crate::rows::{node, owned, row_of};
+use afp_base::{Moment, OutOfMemory};
 use afp_names::Name;
 use record_keeper::{Change, Keeper, KeeperFault, MemoryKeeper, Record, RecordKey, read_all};
 use std::alloc::Global;
+use test_lines::{AnswersLines, LineResult};
 use volume_keeper::{Held, LoadFault, load};
 use volume_keeper_records::{Reason, TableRow, record_of};
 
@@ -12,16 +13,6 @@ use volume_keeper_records::{Reason, TableRow, record_of};
 #[derive(Drop)]
 pub struct Run {
     keeper: MemoryKeeper,
-}
-
-/// What comes of a line.
-#[derive(Drop)]
-pub enum LineResult {
-    Nothing,
-    Number(u64),
-    Word(&'static str),
-    Bytes(Bytes),
-    Bad(RecordKey, &'static str),
 }
 
 fn word_of(fault: KeeperFault) -> LineResult {
@@ -71,11 +62,11 @@ fn changes_of(alloc: Global, line: &Line<'_>) -> Result<Vec<Change>, OutOfMemory
     let mut changes = Vec::new(alloc);
     match line.kind {
         Kind::Put => changes.push(Change::Put {
-            key: RecordKey::new(bytes_of(alloc, line.second)?),
-            value: bytes_of(alloc, line.text)?,
+            key: RecordKey::new(owned(alloc, line.second)?),
+            value: owned(alloc, line.text)?,
         })?,
         Kind::Remove => changes.push(Change::Remove {
-            key: RecordKey::new(bytes_of(alloc, line.text)?),
+            key: RecordKey::new(owned(alloc, line.text)?),
         })?,
         Kind::Chain => put_chain(alloc, &mut changes, line.numbers[0], 2)?,
         Kind::Ring => put_chain(alloc, &mut changes, line.numbers[0], 17)?,
@@ -84,13 +75,20 @@ fn changes_of(alloc: Global, line: &Line<'_>) -> Result<Vec<Change>, OutOfMemory
     Ok(changes)
 }
 
+/// The result of a bad record: its key, and why it is bad.
+fn of_bad(alloc: Global, key: &RecordKey, reason: Reason) -> Result<LineResult, OutOfMemory> {
+    let digits = hex::encode(alloc, key.as_slice())?;
+    let word = reason_word(reason);
+    Ok(LineResult::Text(format!(in alloc; "bad {digits} {word}")?))
+}
+
 /// The result of a load: how many nodes there are, or why there are none.
-fn of_load(loaded: Result<Held, LoadFault>) -> LineResult {
+fn of_load(alloc: Global, loaded: Result<Held, LoadFault>) -> Result<LineResult, OutOfMemory> {
     match loaded {
-        Ok(held) => LineResult::Number(held.volume.count() as u64),
-        Err(LoadFault::BadRecord { key, reason }) => LineResult::Bad(key, reason_word(reason)),
-        Err(LoadFault::Failed) => LineResult::Word("failed"),
-        Err(LoadFault::Memory) => LineResult::Word("memory"),
+        Ok(held) => Ok(LineResult::Number(held.volume.count() as u64)),
+        Err(LoadFault::BadRecord { key, reason }) => of_bad(alloc, &key, reason),
+        Err(LoadFault::Failed) => Ok(LineResult::Word("failed")),
+        Err(LoadFault::Memory) => Ok(LineResult::Word("memory")),
     }
 }
 
@@ -109,18 +107,18 @@ impl Run {
         }
     }
 
-    fn load(&mut self, alloc: Global, line: &Line<'_>) -> LineResult {
+    fn load(&mut self, alloc: Global, line: &Line<'_>) -> Result<LineResult, OutOfMemory> {
         let Some(now) = Moment::new(line.numbers[0]) else {
-            return LineResult::Word("no moment");
+            return Ok(LineResult::Word("no moment"));
         };
         match Name::new(alloc, line.text.as_bytes()) {
-            Ok(_) => of_load(load(alloc, &mut self.keeper, line.text, now)),
-            Err(_) => LineResult::Word("no name"),
+            Ok(_) => of_load(alloc, load(alloc, &mut self.keeper, line.text, now)),
+            Err(_) => Ok(LineResult::Word("no name")),
         }
     }
 
     fn read(&mut self, alloc: Global, line: &Line<'_>) -> Result<LineResult, OutOfMemory> {
-        let key = RecordKey::new(bytes_of(alloc, line.text)?);
+        let key = RecordKey::new(owned(alloc, line.text)?);
         match self.keeper.read(alloc, &key) {
             Ok(Some(value)) => Ok(LineResult::Bytes(value)),
             Ok(None) => Ok(LineResult::Word("none")),
@@ -136,16 +134,25 @@ impl Run {
     }
 
     /// What comes of a line.
-    pub fn answer(&mut self, alloc: Global, line: &Line<'_>) -> Result<LineResult, OutOfMemory> {
+    fn run(&mut self, alloc: Global, line: &Line<'_>) -> Result<LineResult, OutOfMemory> {
         match line.kind {
             Kind::New => {
                 *self = Run::new(alloc);
                 Ok(LineResult::Nothing)
             }
-            Kind::Load => Ok(self.load(alloc, line)),
+            Kind::Load => self.load(alloc, line),
             Kind::Read => self.read(alloc, line),
             Kind::Count => Ok(self.count(alloc)),
             _ => self.change(alloc, line),
+        }
+    }
+}
+
+impl AnswersLines for Run {
+    fn answer(&mut self, alloc: Global, words: &[&str]) -> Result<Option<LineResult>, OutOfMemory> {
+        match line_of(words) {
+            Some(line) => Ok(Some(self.run(alloc, &line)?)),
+            None => Ok(None),
         }
     }
 }

@@ -4,10 +4,11 @@ use crate::volume::{add, admit, move_to, share};
 use afp_base::{NodeId, OutOfMemory};
 use node_rows::{Marks, Node, Rows};
 use std::alloc::Global;
+use test_lines::{AnswersLines, LineResult, kind_of, last_word, small_number_at, word_at};
 
 /// What a line does: it changes one node or many, or it asks.
 #[derive(Clone, Copy, PartialEq, Eq)]
-pub enum Kind {
+enum Kind {
     New,
     Make,
     Admit,
@@ -62,49 +63,26 @@ const KINDS: [(&str, Kind); 24] = [
     ("parent", Kind::Parent),
 ];
 
-fn kind_of(word: &str) -> Option<Kind> {
-    for (known, kind) in &KINDS {
-        if *known == word {
-            return Some(*kind);
-        }
-    }
-    None
-}
-
 /// A line: what it does, the ids or numbers behind it, 0 where there are none, and the last word.
 #[derive(Clone, Copy)]
-pub struct Line<'a> {
-    pub kind: Kind,
-    pub id: NodeId,
-    pub number: u32,
-    pub text: &'a str,
-}
-
-/// The number that a word of a line spells, 0 where there is none.
-fn number_at(words: &[&str], i: usize) -> u32 {
-    if i >= words.len() {
-        return 0;
-    }
-    match words[i].parse::<u32>() {
-        Ok(number) => number,
-        Err(_) => 0,
-    }
+struct Line<'a> {
+    kind: Kind,
+    id: NodeId,
+    number: u32,
+    text: &'a str,
 }
 
 /// The line of some words.
-pub fn line_of<'a>(words: &[&'a str]) -> Option<Line<'a>> {
-    if words.is_empty() {
-        return None;
+fn line_of<'a>(words: &[&'a str]) -> Option<Line<'a>> {
+    match kind_of(&KINDS, word_at(words, 0)) {
+        Some(kind) => Some(Line {
+            kind,
+            id: NodeId(small_number_at(words, 1)),
+            number: small_number_at(words, 2),
+            text: last_word(words),
+        }),
+        None => None,
     }
-    let Some(kind) = kind_of(words[0]) else {
-        return None;
-    };
-    Some(Line {
-        kind,
-        id: NodeId(number_at(words, 1)),
-        number: number_at(words, 2),
-        text: words[words.len() - 1],
-    })
 }
 
 /// Marks that no node has at first, with these attributes.
@@ -223,7 +201,7 @@ fn one(alloc: Global, rows: &mut Rows, line: &Line<'_>) -> Result<Option<NodeId>
 }
 
 /// What comes of a line: a number, or none.
-pub fn answer(alloc: Global, rows: &mut Rows, line: &Line<'_>) -> Result<Option<u64>, OutOfMemory> {
+fn answer(alloc: Global, rows: &mut Rows, line: &Line<'_>) -> Result<Option<u64>, OutOfMemory> {
     match line.kind {
         Kind::New => {
             *rows = share(alloc, line.id.0)?;
@@ -236,5 +214,32 @@ pub fn answer(alloc: Global, rows: &mut Rows, line: &Line<'_>) -> Result<Option<
             alloc, rows, line,
         )?))),
         _ => counted(alloc, rows, line),
+    }
+}
+
+/// The nodes that lines have left.
+#[derive(Drop)]
+pub struct Run {
+    rows: Rows,
+}
+
+impl Run {
+    /// The root alone, and the next id 17.
+    pub fn new(alloc: Global) -> Result<Run, OutOfMemory> {
+        Ok(Run {
+            rows: share(alloc, 17)?,
+        })
+    }
+}
+
+impl AnswersLines for Run {
+    fn answer(&mut self, alloc: Global, words: &[&str]) -> Result<Option<LineResult>, OutOfMemory> {
+        let Some(line) = line_of(words) else {
+            return Ok(None);
+        };
+        match answer(alloc, &mut self.rows, &line)? {
+            Some(number) => Ok(Some(LineResult::Number(number))),
+            None => Ok(Some(LineResult::Word("none"))),
+        }
     }
 }

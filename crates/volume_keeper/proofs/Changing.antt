@@ -1,6 +1,7 @@
 -- The changes of a plan make the records of the volume before it those of the volume after it.
-use Rattle.std.proofs.Common.{◌≡◌, ◌∙◌, ℕ, Bool, true, false, cond, List, ◌++◌, ◌||◌, map, refl, sym, ap}
+use Rattle.std.proofs.Common.{◌≡◌, ◌∙◌, ℕ, Bool, true, false, cond, List, ◌++◌, map, refl, sym, ap}
 use Rattle.std.specs.Prelude.{Option, Some, None}
+use Rattle.std.proofs.lemmas.Bool.{or_parts}
 use Rattle.afp_base.specs.declared.ids.NodeId.{NodeId}
 use Rattle.volume_spec.specs.VolumeState.{VolumeState}
 use Rattle.volume_spec.specs.SoundVolume.{IsSoundVolume}
@@ -46,16 +47,12 @@ module _ (v : VolumeState) (p : PlanState) (plan : IsPlan v p) where
   untouched q n =
       let old : Head = (tables_of (gone_volume p.gone v)).head in
       let new : Head = (tables_of (planned p v)).head in
-      let two = neither (are_one q (key_of_row (row.Head new))) (any_at (passing (is_touched p) (planned p v).rows) q) n in
+      let two = or_parts (are_one q (key_of_row (row.Head new))) (any_at (passing (is_touched p) (planned p v).rows) q) n in
       ap (λ b. cond b (Some (record_of (row.Head old)).value) (found (nodes_in (gone_rows p.gone v.rows) ++ behind (gone_volume p.gone v)) q)) (ap (are_one q) (head_keys old new) ∙ two.0)
       ∙ found-append (nodes_in (gone_rows p.gone v.rows)) (behind (gone_volume p.gone v)) q
       ∙ (λ i. or_then (nodes_same q two.1 i) (found (behind_stays i) q))
       ∙ sym (found-append (nodes_in (planned p v).rows) (behind (planned p v)) q)
       ∙ sym (ap (λ b. cond b (Some (record_of (row.Head new)).value) (found (nodes_in (planned p v).rows ++ behind (planned p v)) q)) two.0)
-    where
-      neither : (a b : Bool) → (a || b) ≡ false → (a ≡ false) × (b ≡ false)
-      neither true b e = absurd (cc)
-      neither false b e = (refl, e)
 
   kept_found : RisesByKey (image (planned p v)) → AreFound (rows_of (tables_of (planned p v))) (kept_records p (planned p v))
   kept_found rises =

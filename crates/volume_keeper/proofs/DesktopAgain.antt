@@ -1,13 +1,13 @@
 -- The desktop database of a volume, put in again one after the other.
 use Rattle.std.proofs.Common.{◌≡◌, ◌∙◌, ℕ, zero, suc, ◌≤◌, Bool, true, false, cond, not, List, [], ◌∷◌, ◌++◌, map, length, take, refl, sym, ap, arith, append_assoc}
-use Rattle.std.specs.Prelude.{nat_le, ◌&&◌, ◌==◌, bytes_eq, flat_map}
+use Rattle.std.specs.Prelude.{nat_le, ◌==◌, bytes_eq, flat_map}
 use Rattle.std.specs.List.{filter, list_all}
 use Rattle.std.specs.Cmp.{tied_itself}
-use Rattle.std.specs.Cmp.Lexicographic.{slice_cmp, nat_list_cmp_total}
-use Rattle.std.specs.Ordering.{nat_cmp, is_lt, ordering_reverse}
-use Rattle.std.specs.declared.cmp.Ordering.{Ordering}
-use Rattle.std.specs.declared.cmp.Ordering.TheVariants.{Less, Equal, Greater}
+use Rattle.std.specs.Cmp.Lexicographic.{nat_list_cmp_total}
+use Rattle.std.specs.Ordering.{is_lt}
 use Rattle.std.proofs.lemmas.Slice.Eq.{bytes_eq-Decides}
+use Rattle.std.proofs.lemmas.Bool.{and_from, eqb-true}
+use Rattle.std.proofs.lemmas.List.{append-nil}
 use Rattle.volume_spec.specs.VolumeState.{Comment, Icon, Appl, VolumeState}
 use Rattle.volume_spec.specs.Order.{put_in, rises, stands_before}
 use Rattle.volume_spec.specs.SoundVolume.{appl_key, code_size, icon_key, is_comment, is_icon, longest_comment, longest_icon}
@@ -17,21 +17,11 @@ use Rattle.volume_keeper_records.specs.declared.rows.TableRow.{TableRow}
 use Rattle.volume_keeper_records.specs.declared.rows.TableRow.TheVariants as row
 use Rattle.volume_keeper_records.specs.Image.{fork_blocks, node_of, rows_of, tables_of}
 use Rattle.volume_keeper.specs.lemma.Rebuilt.{appls_with, comments_with, icons_with, with_all}
-use Rattle.volume_keeper.proofs.GoneRecords.{first_true, second_true}
-use Rattle.volume_keeper.proofs.PlanSteps.{same_number}
-
-both_true : (a b : Bool) → a ≡ true → b ≡ true → (a && b) ≡ true
-both_true a b p q = ap (λ x. x && b) p ∙ q
+use Rattle.afp_base.proofs.Facts.{left_true, right_true}
+use Rattle.afp_base.proofs.ListFacts.{all-always, all-snoc, all-weaker, filter-all}
+use Rattle.volume_spec.proofs.Ordered.{not-back}
 
 -- ---- the order of keys
-
-less_of : (o : Ordering) → is_lt o ≡ true → o ≡ Less
-less_of Less e = refl
-less_of Equal e = absurd (cc)
-less_of Greater e = absurd (cc)
-
-turned : (a b : List ℕ) → stands_before a b ≡ true → stands_before b a ≡ false
-turned a b e = ap is_lt (nat_list_cmp_total.antisymm b a ∙ ap ordering_reverse (less_of (slice_cmp nat_cmp a b) e))
 
 apart : (a b : List ℕ) → stands_before a b ≡ true → a ≡ b → ⊥
 apart a b e h = absurd (let k : true ≡ false = sym e ∙ ap (λ x. stands_before x b) h ∙ ap is_lt (tied_itself nat_list_cmp_total b) in cc k)
@@ -43,18 +33,6 @@ not_equal a b e = elim (bytes_eq a b) as (λ t. bytes_eq a b ≡ t → t ≡ fal
 ] refl
 
 -- ---- lists
-
-kept : {A : Type 0} (t : A → Bool) (xs : List A) → list_all t xs ≡ true → filter t xs ≡ xs
-kept t [] e = refl
-kept t (x ∷ xs) e = ap (λ b. cond b (x ∷ filter t xs) (filter t xs)) (first_true (t x) _ e) ∙ ap (λ l. x ∷ l) (kept t xs (second_true (t x) _ e))
-
-all-more : {A : Type 0} (p q : A → Bool) (xs : List A) → ((x : A) → p x ≡ true → q x ≡ true) → list_all p xs ≡ true → list_all q xs ≡ true
-all-more p q [] h e = refl
-all-more p q (x ∷ xs) h e = both_true (q x) _ (h x (first_true (p x) _ e)) (all-more p q xs h (second_true (p x) _ e))
-
-all-behind : {A : Type 0} (p : A → Bool) (xs : List A) (y : A) → list_all p xs ≡ true → p y ≡ true → list_all p (xs ++ y ∷ []) ≡ true
-all-behind p [] y e h = both_true (p y) true h refl
-all-behind p (x ∷ xs) y e h = both_true (p x) _ (first_true (p x) _ e) (all-behind p xs y (second_true (p x) _ e) h)
 
 whole : (n : ℕ) (xs : List ℕ) → length xs ≤ n → take n xs ≡ xs
 whole zero [] h = refl
@@ -68,31 +46,27 @@ module _ {A : Type 0} (key : A → List ℕ) where
   at_end : (x : A) (xs : List A) → list_all (λ d. stands_before (key d) (key x)) xs ≡ true → put_in key x xs ≡ xs ++ x ∷ []
   at_end x [] e = refl
   at_end x (y ∷ ys) e =
-      ap (λ b. cond b (x ∷ y ∷ ys) (y ∷ put_in key x ys)) (turned (key y) (key x) (first_true (stands_before (key y) (key x)) _ e))
-      ∙ ap (λ l. y ∷ l) (at_end x ys (second_true (stands_before (key y) (key x)) _ e))
+      ap (λ b. cond b (x ∷ y ∷ ys) (y ∷ put_in key x ys)) (not-back (key y) (key x) (left_true (stands_before (key y) (key x)) _ e))
+      ∙ ap (λ l. y ∷ l) (at_end x ys (right_true (stands_before (key y) (key x)) _ e))
 
   without_none : (x : A) (xs : List A) → list_all (λ d. stands_before (key d) (key x)) xs ≡ true → filter (λ d. not (bytes_eq (key d) (key x))) xs ≡ xs
-  without_none x xs e = kept (λ d. not (bytes_eq (key d) (key x))) xs (all-more (λ d. stands_before (key d) (key x)) (λ d. not (bytes_eq (key d) (key x))) xs (λ d h. ap not (not_equal (key d) (key x) h)) e)
+  without_none x xs e = filter-all (λ d. not (bytes_eq (key d) (key x))) xs (all-weaker (λ d. stands_before (key d) (key x)) (λ d. not (bytes_eq (key d) (key x))) xs (λ d h. ap not (not_equal (key d) (key x) h)) e)
 
   later_too : (x : A) (done xs : List A) → list_all (λ y. list_all (λ d. stands_before (key d) (key y)) done) xs ≡ true → list_all (λ y. stands_before (key x) (key y)) xs ≡ true
       → list_all (λ y. list_all (λ d. stands_before (key d) (key y)) (done ++ x ∷ [])) xs ≡ true
   later_too x done [] e h = refl
-  later_too x done (y ∷ ys) e h = both_true _ _
-      (all-behind (λ d. stands_before (key d) (key y)) done x (first_true (list_all (λ d. stands_before (key d) (key y)) done) _ e) (first_true (stands_before (key x) (key y)) _ h))
-      (later_too x done ys (second_true (list_all (λ d. stands_before (key d) (key y)) done) _ e) (second_true (stands_before (key x) (key y)) _ h))
+  later_too x done (y ∷ ys) e h = and_from _ _
+      (all-snoc (λ d. stands_before (key d) (key y)) done x (left_true (list_all (λ d. stands_before (key d) (key y)) done) _ e) (left_true (stands_before (key x) (key y)) _ h))
+      (later_too x done ys (right_true (list_all (λ d. stands_before (key d) (key y)) done) _ e) (right_true (stands_before (key x) (key y)) _ h))
 
   module _ (put : TableRow → List A → List A) (make : A → TableRow) (good : A → Bool)
       (step : (x : A) (done : List A) → good x ≡ true → list_all (λ d. stands_before (key d) (key x)) done ≡ true → put (make x) done ≡ done ++ x ∷ []) where
     all_in : (done xs : List A) → list_all good xs ≡ true → rises key xs ≡ true → list_all (λ y. list_all (λ d. stands_before (key d) (key y)) done) xs ≡ true → with_all put (map make xs) done ≡ done ++ xs
-    all_in done [] g r e = sym (nil_behind done)
-      where
-        nil_behind : (xs : List A) → xs ++ [] ≡ xs
-        nil_behind [] = refl
-        nil_behind (x ∷ xs) = ap (λ l. x ∷ l) (nil_behind xs)
+    all_in done [] g r e = sym (append-nil done)
     all_in done (x ∷ xs) g r e =
-        ap (with_all put (map make xs)) (step x done (first_true (good x) _ g) (first_true (list_all (λ d. stands_before (key d) (key x)) done) _ e))
-        ∙ all_in (done ++ x ∷ []) xs (second_true (good x) _ g) (second_true (list_all (λ y. stands_before (key x) (key y)) xs) _ r)
-        (later_too x done xs (second_true (list_all (λ d. stands_before (key d) (key x)) done) _ e) (first_true (list_all (λ y. stands_before (key x) (key y)) xs) _ r))
+        ap (with_all put (map make xs)) (step x done (left_true (good x) _ g) (left_true (list_all (λ d. stands_before (key d) (key x)) done) _ e))
+        ∙ all_in (done ++ x ∷ []) xs (right_true (good x) _ g) (right_true (list_all (λ y. stands_before (key x) (key y)) xs) _ r)
+        (later_too x done xs (right_true (list_all (λ d. stands_before (key d) (key x)) done) _ e) (left_true (list_all (λ y. stands_before (key x) (key y)) xs) _ r))
         ∙ append_assoc done (x ∷ []) xs
 
     none_done : (xs : List A) → list_all (λ y. list_all (λ d. stands_before (key d) (key y)) []) xs ≡ true
@@ -106,19 +80,19 @@ module _ {A : Type 0} (key : A → List ℕ) where
 
 comment_in : (c : Comment) (done : List Comment) → is_comment c ≡ true → list_all (λ d. stands_before (comment_key d) (comment_key c)) done ≡ true → with_comment c.node c.text done ≡ done ++ c ∷ []
 comment_in c done g e =
-    let some : nat_le 1 (length c.text) ≡ true = first_true (nat_le 1 (length c.text)) _ g in
-    let short : nat_le (length c.text) longest_comment ≡ true = second_true (nat_le 1 (length c.text)) _ g in
+    let some : nat_le 1 (length c.text) ≡ true = left_true (nat_le 1 (length c.text)) _ g in
+    let short : nat_le (length c.text) longest_comment ≡ true = right_true (nat_le 1 (length c.text)) _ g in
     let few : length c.text ≤ 199 = grind (arith, short) in
     let not_empty : (length c.text == 0) ≡ false = grind (arith, some) in
-    let others : filter (λ (d : Comment). not (d.node == c.node)) done ≡ done = kept (λ (d : Comment). not (d.node == c.node)) done
-    (all-more (λ d. stands_before (comment_key d) (comment_key c)) (λ (d : Comment). not (d.node == c.node)) done (λ d h. ap not (differ d h)) e) in
+    let others : filter (λ (d : Comment). not (d.node == c.node)) done ≡ done = filter-all (λ (d : Comment). not (d.node == c.node)) done
+    (all-weaker (λ d. stands_before (comment_key d) (comment_key c)) (λ (d : Comment). not (d.node == c.node)) done (λ d h. ap not (differ d h)) e) in
     ap (λ b. cond b (filter (λ (d : Comment). not (d.node == c.node)) done) (put_in comment_key (record { node = c.node; text = take longest_comment c.text }) (filter (λ (d : Comment). not (d.node == c.node)) done))) not_empty
     ∙ (λ i. put_in comment_key (record { node = c.node; text = whole 199 c.text few i }) (others i))
     ∙ at_end comment_key c done e
   where
     differ : (d : Comment) → stands_before (comment_key d) (comment_key c) ≡ true → (d.node == c.node) ≡ false
     differ d h = elim (d.node == c.node) as (λ t. d.node == c.node ≡ t → t ≡ false) [
-      | true ↦ λ t. absurd (apart (comment_key d) (comment_key c) h (ap (λ (n : ℕ). n ∷ []) (same_number d.node c.node t)))
+      | true ↦ λ t. absurd (apart (comment_key d) (comment_key c) h (ap (λ (n : ℕ). n ∷ []) (eqb-true d.node c.node t)))
       | false ↦ λ t. refl
     ] refl
 
@@ -128,10 +102,10 @@ appl_in a done e = ap (put_in appl_key a) (without_none appl_key a done e) ∙ a
 module _ (parts : IconHasParts) where
   icon_is : (x : Icon) → is_icon x ≡ true → icon_under (icon_key x) x.tag x.bits ≡ x
   icon_is x g =
-      let creator : length x.creator ≡ code_size = same_number (length x.creator) code_size (first_true (length x.creator == code_size) _ g) in
-      let rest = second_true (length x.creator == code_size) _ g in
-      let kind : length x.kind ≡ code_size = same_number (length x.kind) code_size (first_true (length x.kind == code_size) _ rest) in
-      let short : nat_le (length x.bits) longest_icon ≡ true = second_true (length x.kind == code_size) _ rest in
+      let creator : length x.creator ≡ code_size = eqb-true (length x.creator) code_size (left_true (length x.creator == code_size) _ g) in
+      let rest = right_true (length x.creator == code_size) _ g in
+      let kind : length x.kind ≡ code_size = eqb-true (length x.kind) code_size (left_true (length x.kind == code_size) _ rest) in
+      let short : nat_le (length x.bits) longest_icon ≡ true = right_true (length x.kind == code_size) _ rest in
       let few : length x.bits ≤ 65535 = grind (arith, short) in
       parts x.creator x.kind x.bits x.icon_kind x.tag creator kind ∙ (λ i. record x { bits = whole 65535 x.bits few i })
 
@@ -147,10 +121,6 @@ with-append put (x ∷ xs) ys a = with-append put xs ys (put x a)
 with-none : {A B : Type 0} (put : TableRow → A → A) (make : B → TableRow) → ((b : B) (a : A) → put (make b) a ≡ a) → (xs : List B) (a : A) → with_all put (map make xs) a ≡ a
 with-none put make none [] a = refl
 with-none put make none (x ∷ xs) a = ap (with_all put (map make xs)) (none x a) ∙ with-none put make none xs a
-
-always : {A : Type 0} (xs : List A) → list_all (λ x. true) xs ≡ true
-always [] = refl
-always (x ∷ xs) = always xs
 
 module _ (v : VolumeState) where
   abbrev nodes : List TableRow
@@ -197,4 +167,4 @@ module _ (v : VolumeState) where
     appls_again =
         parts_of appls_with refl
         ∙ ap (with_all appls_with appls) (with-none appls_with (λ i. row.Icon i) (λ i l. refl) v.icons _ ∙ with-none appls_with (λ c. row.Comment c) (λ c l. refl) v.comments _ ∙ with-none appls_with (λ b. row.Block b) (λ b l. refl) (flat_map fork_blocks v.rows) _ ∙ with-none appls_with (λ n. row.Node n) (λ n l. refl) (map node_of v.rows) [])
-        ∙ list_again appl_key appls_with (λ a. row.Appl a) (λ a. true) (λ a done g e. appl_in a done e) v.appls (always v.appls) desktop.appls_rise
+        ∙ list_again appl_key appls_with (λ a. row.Appl a) (λ a. true) (λ a done g e. appl_in a done e) v.appls (all-always v.appls) desktop.appls_rise

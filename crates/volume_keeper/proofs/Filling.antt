@@ -6,7 +6,8 @@ use Rattle.std.specs.Cmp.{tied_itself}
 use Rattle.std.specs.Cmp.Lexicographic.{pointwise, slice_cmp, nat_list_cmp_total}
 use Rattle.std.specs.Ordering.{nat_cmp, is_lt}
 use Rattle.std.specs.declared.cmp.Ordering.TheVariants.{Less}
-use Rattle.std.proofs.lemmas.Bool.{cases_lt}
+use Rattle.std.proofs.lemmas.Bool.{cases_lt, eqb-true, leb-true, and_from}
+use Rattle.std.proofs.lemmas.List.{append-nil}
 use Rattle.afp_base.specs.ForkBytes.{splice, LeavesBefore, PutsBetween, LeavesBehind, Reaches}
 use Rattle.fork_bytes.specs.declared.block.Block.{Block}
 use Rattle.afp_base.specs.Limits.{block_size}
@@ -32,9 +33,11 @@ use Rattle.volume_spec.specs.ForkEffect.{fork_of}
 use Rattle.volume_tree.specs.Shown.{fork_at}
 use Rattle.volume_keeper.specs.lemma.Rebuilt.{FitRows, FitsRow, with_block, with_blocks}
 use Rattle.volume_keeper.specs.Whole.{without_desktop}
-use Rattle.volume_keeper.proofs.GoneRecords.{HasFitForks, first_true, second_true, fit_forks, ids_rise, rows_formed}
-use Rattle.volume_keeper.proofs.PlanSteps.{equal_itself, first_false, same_number, second_false}
+use Rattle.volume_keeper.proofs.GoneRecords.{HasFitForks, fit_forks, ids_rise, rows_formed}
 use Rattle.volume_keeper.proofs.Zeroed.{find-map, start, zeroed}
+use Rattle.afp_base.proofs.Facts.{eqb-itself, left_false, left_true, right_false, right_true}
+use Rattle.afp_base.proofs.ListFacts.{all-snoc, any-none}
+use Rattle.volume_keeper_records.proofs.RowOrder.{rows_ends}
 
 pub record Laws : Type 0 where
   pub say : TablesSayVolumes
@@ -47,13 +50,6 @@ pub record Laws : Type 0 where
   pub behind : LeavesBehind
   pub reaches : Reaches
   pub image : ImagesRise
-
-both_true : (a b : Bool) → a ≡ true → b ≡ true → (a && b) ≡ true
-both_true a b p q = ap (λ x. x && b) p ∙ q
-
-nil_behind : {A : Type 0} (xs : List A) → xs ++ [] ≡ xs
-nil_behind [] = refl
-nil_behind (x ∷ xs) = ap (λ l. x ∷ l) (nil_behind xs)
 
 -- ---- bytes by their places
 
@@ -83,11 +79,11 @@ zeros (suc n) f h = λ i. h 0 i ∷ zeros n (λ k. f (suc k)) (λ k. h (suc k)) 
 
 in_absent : (bs : List Block) (i : ℕ) → list_any (λ (c : Block). c.index == i) bs ≡ false → bytes_in bs i ≡ []
 in_absent [] i e = refl
-in_absent (c ∷ bs) i e = ap (λ b. cond b c.bytes (bytes_in bs i)) (first_false (c.index == i) _ e) ∙ in_absent bs i (second_false (c.index == i) _ e)
+in_absent (c ∷ bs) i e = ap (λ b. cond b c.bytes (bytes_in bs i)) (left_false (c.index == i) _ e) ∙ in_absent bs i (right_false (c.index == i) _ e)
 
 in_last : (bs : List Block) (b : Block) → list_any (λ (c : Block). c.index == b.index) bs ≡ false → bytes_in (bs ++ b ∷ []) b.index ≡ b.bytes
-in_last [] b e = ap (λ t. cond t b.bytes []) (equal_itself b.index)
-in_last (c ∷ bs) b e = ap (λ t. cond t c.bytes (bytes_in (bs ++ b ∷ []) b.index)) (first_false (c.index == b.index) _ e) ∙ in_last bs b (second_false (c.index == b.index) _ e)
+in_last [] b e = ap (λ t. cond t b.bytes []) (eqb-itself b.index)
+in_last (c ∷ bs) b e = ap (λ t. cond t c.bytes (bytes_in (bs ++ b ∷ []) b.index)) (left_false (c.index == b.index) _ e) ∙ in_last bs b (right_false (c.index == b.index) _ e)
 
 in_other : (bs : List Block) (b : Block) (j : ℕ) → (b.index == j) ≡ false → bytes_in (bs ++ b ∷ []) j ≡ bytes_in bs j
 in_other [] b j e = ap (λ t. cond t b.bytes []) e
@@ -125,7 +121,7 @@ module _ (laws : Laws) (n : ℕ) (bs : List Block) (b : Block) (new : list_any (
       ∙ sym (each_at n (byte_at (bs ++ b ∷ [])) k h
       ∙ elim (b.index == k / 4096) as (λ t. b.index == k / 4096 ≡ t → byte_at (bs ++ b ∷ []) k ≡ byte_at bs k) [
         | true ↦ λ e.
-            let is : b.index ≡ k / 4096 = same_number b.index (k / 4096) e in
+            let is : b.index ≡ k / 4096 = eqb-true b.index (k / 4096) e in
             let past : length b.bytes ≤ k % 4096 = omega (arith, is, l) in
             ap (λ x. slice_index x (k % 4096)) (ap (bytes_in (bs ++ b ∷ [])) (sym is) ∙ in_last bs b new)
             ∙ past_end b.bytes (k % 4096) past
@@ -175,14 +171,14 @@ pieces_put (c ∷ bs) b id k h g = elim (id == c.node) as (λ t. map piece_of (f
 pieces_new : (bs : List ForkBlock) (b : ForkBlock) → list_any (same_place b) bs ≡ false → list_any (λ (c : Block). c.index == b.index) (pieces bs b.node (flag_byte b.is_resource)) ≡ false
 pieces_new [] b e = refl
 pieces_new (c ∷ bs) b e =
-    let rest = pieces_new bs b (second_false (same_place b c) _ e) in
+    let rest = pieces_new bs b (right_false (same_place b c) _ e) in
     elim (b.node == c.node) as (λ t. ((t && (flag_byte b.is_resource == flag_byte c.is_resource)) && (c.index == b.index)) ≡ false → list_any (λ (c : Block). c.index == b.index) (map piece_of (fork_part (cond t (c ∷ own bs b.node) (own bs b.node)) (flag_byte b.is_resource))) ≡ false) [
       | true ↦ elim (flag_byte b.is_resource == flag_byte c.is_resource) as (λ t. (t && (c.index == b.index)) ≡ false → list_any (λ (c : Block). c.index == b.index) (map piece_of (cond t (c ∷ fork_part (own bs b.node) (flag_byte b.is_resource)) (fork_part (own bs b.node) (flag_byte b.is_resource)))) ≡ false) [
         | true ↦ λ h. ap (λ t. t || list_any (λ (c : Block). c.index == b.index) (pieces bs b.node (flag_byte b.is_resource))) h ∙ rest
         | false ↦ λ h. rest
       ]
       | false ↦ λ h. rest
-    ] (first_false (same_place b c) _ e)
+    ] (left_false (same_place b c) _ e)
 
 -- ---- one block more of a volume
 
@@ -208,7 +204,7 @@ module _ (laws : Laws) (bs : List ForkBlock) (b : ForkBlock) (new : list_any (sa
   data_more : (x : VolumeRow) → (x.id == b.node) ≡ true → b.is_resource ≡ false → 4096 * b.index + length b.bytes ≤ length x.data_fork
       → splice (bytes_of (length x.data_fork) (pieces bs x.id 0)) (block_size * b.index) b.bytes ≡ bytes_of (length x.data_fork) (pieces (bs ++ b ∷ []) x.id 0)
   data_more x e f w =
-      let is : x.id ≡ b.node = same_number x.id b.node e in
+      let is : x.id ≡ b.node = eqb-true x.id b.node e in
       let flag : flag_byte b.is_resource ≡ 0 = ap flag_byte f in
       let free : list_any (λ (c : Block). c.index == b.index) (pieces bs x.id 0) ≡ false = (λ i. list_any (λ (c : Block). c.index == b.index) (pieces bs (is i) (sym flag i))) ∙ pieces_new bs b new in
       splice_one laws (length x.data_fork) (pieces bs x.id 0) (piece_of b) free w short some
@@ -217,7 +213,7 @@ module _ (laws : Laws) (bs : List ForkBlock) (b : ForkBlock) (new : list_any (sa
   resource_more : (x : VolumeRow) → (x.id == b.node) ≡ true → b.is_resource ≡ true → 4096 * b.index + length b.bytes ≤ length x.resource_fork
       → splice (bytes_of (length x.resource_fork) (pieces bs x.id 1)) (block_size * b.index) b.bytes ≡ bytes_of (length x.resource_fork) (pieces (bs ++ b ∷ []) x.id 1)
   resource_more x e f w =
-      let is : x.id ≡ b.node = same_number x.id b.node e in
+      let is : x.id ≡ b.node = eqb-true x.id b.node e in
       let flag : flag_byte b.is_resource ≡ 1 = ap flag_byte f in
       let free : list_any (λ (c : Block). c.index == b.index) (pieces bs x.id 1) ≡ false = (λ i. list_any (λ (c : Block). c.index == b.index) (pieces bs (is i) (sym flag i))) ∙ pieces_new bs b new in
       splice_one laws (length x.resource_fork) (pieces bs x.id 1) (piece_of b) free w short some
@@ -282,7 +278,7 @@ AllNew done (b ∷ bs) = (list_any (same_place b) done ≡ false) × AllNew (don
 
 fill_from : (laws : Laws) (v : VolumeState) (done bs : List ForkBlock) → EachPlace v bs → AllNew done bs
     → FitRows (map (λ b. row.Block b) bs) (with_some v done) × (with_blocks (map (λ b. row.Block b) bs) (with_some v done) ≡ with_some v (done ++ bs))
-fill_from laws v done [] p n = (tt, ap (with_some v) (sym (nil_behind done)))
+fill_from laws v done [] p n = (tt, ap (with_some v) (sym (append-nil done)))
 fill_from laws v done (b ∷ bs) p n =
     let step = block_more laws done b n.0 p.0.short p.0.some v p.0.rows in
     let rest = fill_from laws v (done ++ b ∷ []) bs p.1 n.1 in (
@@ -299,10 +295,10 @@ Apart (b ∷ bs) = (list_all (λ c. not (same_place c b)) bs ≡ true) × Apart 
 key_same : (b c : ForkBlock) → same_place c b ≡ true → (record_of (row.Block b)).key ≡ (record_of (row.Block c)).key
 unfolding block_record
 key_same b c e =
-    let two = first_true ((c.node == b.node) && (flag_byte c.is_resource == flag_byte b.is_resource)) _ e in
-    let node : c.node ≡ b.node = same_number _ _ (first_true (c.node == b.node) _ two) in
-    let flag : flag_byte c.is_resource ≡ flag_byte b.is_resource = same_number _ _ (second_true (c.node == b.node) _ two) in
-    let index : b.index ≡ c.index = same_number _ _ (second_true ((c.node == b.node) && (flag_byte c.is_resource == flag_byte b.is_resource)) _ e) in
+    let two = left_true ((c.node == b.node) && (flag_byte c.is_resource == flag_byte b.is_resource)) _ e in
+    let node : c.node ≡ b.node = eqb-true _ _ (left_true (c.node == b.node) _ two) in
+    let flag : flag_byte c.is_resource ≡ flag_byte b.is_resource = eqb-true _ _ (right_true (c.node == b.node) _ two) in
+    let index : b.index ≡ c.index = eqb-true _ _ (right_true ((c.node == b.node) && (flag_byte c.is_resource == flag_byte b.is_resource)) _ e) in
     λ i. block_tag ∷ (long_bytes (sym node i) ++ (sym flag i ∷ long_bytes (index i)))
 
 not_there : (b c : ForkBlock) → slice_cmp nat_cmp (record_of (row.Block b)).key (record_of (row.Block c)).key ≡ Less → not (same_place c b) ≡ true
@@ -313,45 +309,26 @@ not_there b c less = elim (same_place c b) as (λ t. same_place c b ≡ t → no
 
 all_later : (b : ForkBlock) (bs : List ForkBlock) → IsBelow (record_of (row.Block b)).key (map record_of (map (λ b. row.Block b) bs)) → list_all (λ c. not (same_place c b)) bs ≡ true
 all_later b [] s = refl
-all_later b (c ∷ bs) s = both_true (not (same_place c b)) _ (not_there b c s.0) (all_later b bs s.1)
+all_later b (c ∷ bs) s = and_from (not (same_place c b)) _ (not_there b c s.0) (all_later b bs s.1)
 
 apart_blocks : (bs : List ForkBlock) → RisesByKey (map record_of (map (λ b. row.Block b) bs)) → Apart bs
 apart_blocks [] s = tt
 apart_blocks (b ∷ bs) s = (all_later b bs s.0, apart_blocks bs s.1)
-
-none_of : {A : Type 0} (p : A → Bool) (xs : List A) → list_all (λ x. not (p x)) xs ≡ true → list_any p xs ≡ false
-none_of p [] e = refl
-none_of p (x ∷ xs) e = elim (p x) as (λ t. (not t && list_all (λ x. not (p x)) xs) ≡ true → (t || list_any p xs) ≡ false) [
-  | true ↦ λ h. absurd (cc)
-  | false ↦ λ h. none_of p xs h
-] e
-
-all-behind : {A : Type 0} (p : A → Bool) (xs : List A) (y : A) → list_all p xs ≡ true → p y ≡ true → list_all p (xs ++ y ∷ []) ≡ true
-all-behind p [] y e h = both_true (p y) true h refl
-all-behind p (x ∷ xs) y e h = both_true (p x) _ (first_true (p x) _ e) (all-behind p xs y (second_true (p x) _ e) h)
 
 abbrev free_of : List ForkBlock → ForkBlock → Bool
 free_of done c = list_all (λ d. not (same_place c d)) done
 
 later_free : (b : ForkBlock) (done bs : List ForkBlock) → list_all (free_of done) bs ≡ true → list_all (λ c. not (same_place c b)) bs ≡ true → list_all (free_of (done ++ b ∷ [])) bs ≡ true
 later_free b done [] e h = refl
-later_free b done (c ∷ bs) e h = both_true _ _ (all-behind (λ d. not (same_place c d)) done b (first_true (free_of done c) _ e) (first_true (not (same_place c b)) _ h)) (later_free b done bs (second_true (free_of done c) _ e) (second_true (not (same_place c b)) _ h))
+later_free b done (c ∷ bs) e h = and_from _ _ (all-snoc (λ d. not (same_place c d)) done b (left_true (free_of done c) _ e) (left_true (not (same_place c b)) _ h)) (later_free b done bs (right_true (free_of done c) _ e) (right_true (not (same_place c b)) _ h))
 
 all_new : (done bs : List ForkBlock) → list_all (free_of done) bs ≡ true → Apart bs → AllNew done bs
 all_new done [] e a = tt
-all_new done (b ∷ bs) e a = (none_of (same_place b) done (first_true (free_of done b) _ e), all_new (done ++ b ∷ []) bs (later_free b done bs (second_true (free_of done b) _ e) a.0) a.1)
+all_new done (b ∷ bs) e a = (any-none (same_place b) done (left_true (free_of done b) _ e), all_new (done ++ b ∷ []) bs (later_free b done bs (right_true (free_of done b) _ e) a.0) a.1)
 
 none_done : (bs : List ForkBlock) → list_all (free_of []) bs ≡ true
 none_done [] = refl
 none_done (b ∷ bs) = none_done bs
-
-pub below_front : (k : List ℕ) (xs ys : List TableRow) → IsBelow k (map record_of (xs ++ ys)) → IsBelow k (map record_of xs)
-below_front k [] ys b = tt
-below_front k (x ∷ xs) ys b = (b.0, below_front k xs ys b.1)
-
-pub rises_parts : (xs ys : List TableRow) → RisesByKey (map record_of (xs ++ ys)) → RisesByKey (map record_of xs) × RisesByKey (map record_of ys)
-rises_parts [] ys s = (tt, s)
-rises_parts (x ∷ xs) ys s = let rest = rises_parts xs ys s.1 in ((below_front (record_of x).key xs ys s.0, rest.0), rest.1)
 
 -- ---- each block has its place
 
@@ -366,26 +343,26 @@ EachOne all (r ∷ rows) = (find (λ (x : VolumeRow). x.id == r.id) all ≡ Some
 only_low : (r : VolumeRow) (low : ℕ) (rows : List VolumeRow) → r.id ≤ low → rises_from (λ (x : VolumeRow). x.id) low rows ≡ true → OnlyAt r rows
 only_low r low [] h e = tt
 only_low r low (x ∷ rows) h e =
-    let up : nat_lt low x.id ≡ true = first_true (nat_lt low x.id) _ e in
+    let up : nat_lt low x.id ≡ true = left_true (nat_lt low x.id) _ e in
     let far : r.id < x.id = grind (arith, h, up) in
-    (λ t. absurd (let same = same_number x.id r.id t in omega (arith, far, same)), only_low r x.id rows (omega (arith, far)) (second_true (nat_lt low x.id) _ e))
+    (λ t. absurd (let same = eqb-true x.id r.id t in omega (arith, far, same)), only_low r x.id rows (omega (arith, far)) (right_true (nat_lt low x.id) _ e))
 
 one_behind : (x : VolumeRow) (all : List VolumeRow) (low : ℕ) (rows : List VolumeRow) → x.id ≤ low → rises_from (λ (y : VolumeRow). y.id) low rows ≡ true → EachOne all rows → EachOne (x ∷ all) rows
 one_behind x all low [] h e o = tt
 one_behind x all low (r ∷ rows) h e o =
-    let up : nat_lt low r.id ≡ true = first_true (nat_lt low r.id) _ e in
+    let up : nat_lt low r.id ≡ true = left_true (nat_lt low r.id) _ e in
     let far : x.id < r.id = grind (arith, h, up) in
     let differs : (x.id == r.id) ≡ false = grind (arith, far) in (
       ap (λ b. cond b (Some x) (find (λ (y : VolumeRow). y.id == r.id) all)) differs ∙ o.0,
-      (λ t. absurd (let same = same_number x.id r.id t in omega (arith, far, same)), o.1),
-      one_behind x all r.id rows (omega (arith, far)) (second_true (nat_lt low r.id) _ e) o.2,
+      (λ t. absurd (let same = eqb-true x.id r.id t in omega (arith, far, same)), o.1),
+      one_behind x all r.id rows (omega (arith, far)) (right_true (nat_lt low r.id) _ e) o.2,
     )
 
 each_one : (low : ℕ) (rows : List VolumeRow) → rises_from (λ (x : VolumeRow). x.id) low rows ≡ true → EachOne rows rows
 each_one low [] e = tt
 each_one low (r ∷ rows) e =
-    let rest = second_true (nat_lt low r.id) _ e in (
-      ap (λ b. cond b (Some r) (find (λ (x : VolumeRow). x.id == r.id) rows)) (equal_itself r.id),
+    let rest = right_true (nat_lt low r.id) _ e in (
+      ap (λ b. cond b (Some r) (find (λ (x : VolumeRow). x.id == r.id) rows)) (eqb-itself r.id),
       (λ t. refl, only_low r r.id rows (omega arith) rest),
       one_behind r rows r.id rows (omega arith) rest (each_one r.id rows rest),
     )
@@ -401,28 +378,25 @@ some_bytes (b ∷ bs) e = omega arith
 module _ (v : VolumeState) (r : VolumeRow) (here : row_at v.rows r.id ≡ Some r) (only : OnlyAt r v.rows) (file : r.dir ≡ false) where
   one_place : (f : Bool) (b : Block) → not (is_empty b.bytes) ≡ true → is_kept (length (fork_of f r)) b ≡ true → HasPlace v (fork_block_of r.id f b)
   one_place f b some kept =
-      let sizes = second_true (pointwise (λ m n. m == n) (trimmed b.bytes) b.bytes) _ kept in
-      let short : nat_le (length b.bytes) block_size ≡ true = first_true (nat_le (length b.bytes) block_size) _ sizes in
-      let inside : nat_le (block_size * b.index + length b.bytes) (length (fork_of f r)) ≡ true = second_true (nat_le (length b.bytes) block_size) _ sizes in
-      let within : 4096 * b.index + length b.bytes ≤ length (fork_of f r) = le_of _ _ inside in
+      let sizes = right_true (pointwise (λ m n. m == n) (trimmed b.bytes) b.bytes) _ kept in
+      let short : nat_le (length b.bytes) block_size ≡ true = left_true (nat_le (length b.bytes) block_size) _ sizes in
+      let inside : nat_le (block_size * b.index + length b.bytes) (length (fork_of f r)) ≡ true = right_true (nat_le (length b.bytes) block_size) _ sizes in
+      let within : 4096 * b.index + length b.bytes ≤ length (fork_of f r) = leb-true _ _ inside in
       record {
         found = r;
         here = here;
         file = file;
         within = within;
         rows = rows_fit r (fork_block_of r.id f b) refl within v.rows only;
-        short = le_of _ _ short;
+        short = leb-true _ _ short;
         some = some_bytes b.bytes some;
       }
-    where
-      le_of : (a b : ℕ) → nat_le a b ≡ true → a ≤ b
-      le_of a b e = grind (arith, e)
 
   fork_places : (f : Bool) (bs : List Block) → are_rising bs ≡ true → list_all (is_kept (length (fork_of f r))) bs ≡ true → (rest : List ForkBlock) → EachPlace v rest → EachPlace v (map (fork_block_of r.id f) bs ++ rest)
   fork_places f [] s k rest p = p
   fork_places f (b ∷ bs) s k rest p = (
-    one_place f b (first_true (not (is_empty b.bytes)) _ s) (first_true (is_kept (length (fork_of f r)) b) _ k),
-    fork_places f bs (second_true (list_all (λ (c : Block). nat_lt b.index c.index) bs) _ (second_true (not (is_empty b.bytes)) _ s)) (second_true (is_kept (length (fork_of f r)) b) _ k) rest p,
+    one_place f b (left_true (not (is_empty b.bytes)) _ s) (left_true (is_kept (length (fork_of f r)) b) _ k),
+    fork_places f bs (right_true (list_all (λ (c : Block). nat_lt b.index c.index) bs) _ (right_true (not (is_empty b.bytes)) _ s)) (right_true (is_kept (length (fork_of f r)) b) _ k) rest p,
   )
 
 row_places : (laws : Laws) (v : VolumeState) (r : VolumeRow) → row_at v.rows r.id ≡ Some r → OnlyAt r v.rows → HasFitForks r → (rest : List ForkBlock) → EachPlace v rest → EachPlace v (fork_blocks r ++ rest)
@@ -436,7 +410,7 @@ row_places laws v r here only fit rest p = elim r.dir as (λ d. r.dir ≡ d → 
 all_places : (laws : Laws) (v : VolumeState) (rows : List VolumeRow) → EachOne v.rows rows → list_all is_formed rows ≡ true → EachPlace v (flat_map fork_blocks rows)
 unfolding row_at
 all_places laws v [] o f = tt
-all_places laws v (r ∷ rows) o f = row_places laws v r o.0 o.1 (fit_forks r (first_true (is_formed r) _ f)) (flat_map fork_blocks rows) (all_places laws v rows o.2 (second_true (is_formed r) _ f))
+all_places laws v (r ∷ rows) o f = row_places laws v r o.0 o.1 (fit_forks r (left_true (is_formed r) _ f)) (flat_map fork_blocks rows) (all_places laws v rows o.2 (right_true (is_formed r) _ f))
 
 -- ---- all rows
 
@@ -481,7 +455,7 @@ module _ (laws : Laws) (v : VolumeState) (sound : IsSoundVolume v) where
   others = map (λ c. row.Comment c) v.comments ++ (map (λ i. row.Icon i) v.icons ++ map (λ a. row.Appl a) v.appls)
 
   rising_blocks : RisesByKey (map record_of block_rows)
-  rising_blocks = (rises_parts block_rows others (rises_parts nodes_rows (block_rows ++ others) (laws.image v sound).1).1).0
+  rising_blocks = (rows_ends block_rows others (rows_ends nodes_rows (block_rows ++ others) (laws.image v sound).1).1).0
 
   pub filled_from : FitRows block_rows (with_some v []) × (with_blocks block_rows (with_some v []) ≡ with_some v blocks)
   filled_from = fill_from laws v [] blocks (all_places laws v v.rows (each_one 0 v.rows (ids_rise v sound)) (rows_formed v sound)) (all_new [] blocks (none_done blocks) (apart_blocks blocks rising_blocks))

@@ -5,6 +5,8 @@ use Rattle.std.specs.List.{find}
 use Rattle.std.specs.Cmp.Lexicographic.{pointwise, slice_cmp}
 use Rattle.std.specs.Ordering.{nat_cmp}
 use Rattle.std.specs.declared.cmp.Ordering.TheVariants.{Less}
+use Rattle.std.proofs.lemmas.Bool.{eqb-true}
+use Rattle.std.proofs.lemmas.List.{append-nil}
 use Rattle.volume_spec.specs.Edits.{change_at, with_changed}
 use Rattle.volume_spec.specs.ForkEffect.{fork_effect, fork_of, written}
 use Rattle.volume_spec.specs.Order.{rises_from}
@@ -23,9 +25,9 @@ use Rattle.volume_keeper_records.specs.declared.rows.TableRow.TheVariants as row
 use Rattle.volume_keeper_records.specs.Records.{record_of, block_key, block_record, flag_byte, head_record, long_bytes, node_record}
 use Rattle.volume_keeper_records.specs.Image.{fork_block_of, fork_blocks, image, node_of, tables_of}
 use Rattle.volume_keeper.specs.ForkChanges.{block_change, file_changes, fork_changes_of, put_where_other}
-use Rattle.volume_keeper.proofs.GoneRecords.{first_true, second_true, nil_behind}
-use Rattle.volume_keeper.proofs.PlanSteps.{map-append, same_number}
+use Rattle.volume_keeper.proofs.PlanSteps.{map-append}
 use Rattle.volume_keeper.proofs.RecordSteps.{Step, olds, news, turned, changes_in, with_value, olds-append, news-append, changes-append, turned-same, is_steady, AreSteady, IsBeneath, AreCrossed, steady_both, crossed_behind, crossed_before}
+use Rattle.afp_base.proofs.Facts.{left_true, right_true}
 
 -- ---- the blocks of one fork
 
@@ -188,7 +190,7 @@ module _ (now id : ℕ) (resource writes : Bool) (bytes : List ℕ) where
       by true = λ k. none-from r.id false r.data_fork 0 (count_of r.data_fork r.data_fork) k ++ fork-changes r.id true r.resource_fork bytes k
       by false =
           (λ k. fork-changes r.id false r.data_fork bytes k ++ none-from r.id true r.resource_fork 0 (count_of r.resource_fork r.resource_fork) k)
-          ∙ nil_behind (map (block_change r.id false) (changes_of r.data_fork bytes))
+          ∙ append-nil (map (block_change r.id false) (changes_of r.data_fork bytes))
 
   written-crossed : (r : VolumeRow) → length (fork_of resource r) ≤ 268435456 → length bytes ≤ 268435456 → AreCrossed (row_steps r (written now resource bytes writes r))
   written-crossed r was is = by resource was
@@ -214,17 +216,17 @@ module _ (now id : ℕ) (resource writes : Bool) (bytes : List ℕ) where
     none-above : (low : ℕ) (rows : List VolumeRow) → id ≤ low → rises_from (λ (r : VolumeRow). r.id) low rows ≡ true → flat_map g rows ≡ []
     none-above low [] h e = refl
     none-above low (r ∷ rows) h e =
-        let up : nat_lt low r.id ≡ true = first_true (nat_lt low r.id) _ e in
-        λ k. other r (above_other low r.id h up) k ++ none-above r.id rows (grind (arith, h, up)) (second_true (nat_lt low r.id) _ e) k
+        let up : nat_lt low r.id ≡ true = left_true (nat_lt low r.id) _ e in
+        λ k. other r (above_other low r.id h up) k ++ none-above r.id rows (grind (arith, h, up)) (right_true (nat_lt low r.id) _ e) k
 
     only-own : (low : ℕ) (rows : List VolumeRow) → rises_from (λ (r : VolumeRow). r.id) low rows ≡ true → flat_map g rows ≡ of_found x (find (λ (r : VolumeRow). r.id == id) rows)
     only-own low [] e = refl
     only-own low (r ∷ rows) e =
-        let rest = second_true (nat_lt low r.id) _ e in
+        let rest = right_true (nat_lt low r.id) _ e in
         elim (r.id == id) as (λ b. (r.id == id) ≡ b → flat_map g (r ∷ rows) ≡ of_found x (cond b (Some r) (find (λ (r : VolumeRow). r.id == id) rows))) [
           | true ↦ λ h.
-              let same : r.id ≡ id = same_number r.id id h in
-              (λ k. own r h k ++ none-above r.id rows (omega (arith, same)) rest k) ∙ nil_behind (x r)
+              let same : r.id ≡ id = eqb-true r.id id h in
+              (λ k. own r h k ++ none-above r.id rows (omega (arith, same)) rest k) ∙ append-nil (x r)
           | false ↦ λ h. (λ k. other r h k ++ only-own r.id rows rest k)
         ] refl
 
@@ -248,18 +250,18 @@ module _ (now id : ℕ) (resource writes : Bool) (bytes : List ℕ) where
   rows-steady : (low : ℕ) (rows : List VolumeRow) → id ≤ low → rises_from (λ (r : VolumeRow). r.id) low rows ≡ true → AreSteady (rows_steps rows)
   rows-steady low [] h e = tt
   rows-steady low (r ∷ rows) h e =
-      let up : nat_lt low r.id ≡ true = first_true (nat_lt low r.id) _ e in
+      let up : nat_lt low r.id ≡ true = left_true (nat_lt low r.id) _ e in
       steady_both (row_steps r (later r)) (rows_steps rows) (subst (λ (s : VolumeRow). AreSteady (row_steps r s)) (sym (other_row r (above_other low r.id h up))) (row-steady r))
-      (rows-steady r.id rows (grind (arith, h, up)) (second_true (nat_lt low r.id) _ e))
+      (rows-steady r.id rows (grind (arith, h, up)) (right_true (nat_lt low r.id) _ e))
 
   rows-crossed : (low : ℕ) (rows : List VolumeRow) → rises_from (λ (r : VolumeRow). r.id) low rows ≡ true → IfSome (find (λ (r : VolumeRow). r.id == id) rows) (λ r. length (fork_of resource r) ≤ 268435456) → length bytes ≤ 268435456
       → AreCrossed (rows_steps rows)
   rows-crossed low [] e few is = tt
   rows-crossed low (r ∷ rows) e few is =
-      let rest = second_true (nat_lt low r.id) _ e in
+      let rest = right_true (nat_lt low r.id) _ e in
       elim (r.id == id) as (λ b. (r.id == id) ≡ b → IfSome (cond b (Some r) (find (λ (r : VolumeRow). r.id == id) rows)) (λ r. length (fork_of resource r) ≤ 268435456) → AreCrossed (row_steps r (later r) ++ rows_steps rows)) [
         | true ↦ λ h was.
-            let same : r.id ≡ id = same_number r.id id h in
+            let same : r.id ≡ id = eqb-true r.id id h in
             crossed_before (row_steps r (later r)) (rows_steps rows)
             (subst (λ (s : VolumeRow). AreCrossed (row_steps r s)) (sym (own_row r h)) (written-crossed r was is))
             (rows-steady r.id rows (omega (arith, same)) rest)
@@ -319,7 +321,7 @@ module _ (now id : ℕ) (resource writes : Bool) (bytes : List ℕ) where
       ∙ only-own (λ r. changes_in (node_step r)) (λ r. put_where_other (row.Node (node_of r)) (row.Node (node_of (written now resource bytes writes r))))
       (λ r h. ap (λ s. changes_in (pair (row.Node (node_of r)) (row.Node (node_of s)) ∷ [])) (other_row r h) ∙ node-none r)
       (λ r h.
-      nil_behind (turned (record_of (row.Node (node_of r))).key (Some (record_of (row.Node (node_of r))).value) (Some (record_of (row.Node (node_of (later r)))).value))
+      append-nil (turned (record_of (row.Node (node_of r))).key (Some (record_of (row.Node (node_of r))).value) (Some (record_of (row.Node (node_of (later r)))).value))
       ∙ (λ k. cond (pointwise nat_eq (record_of (row.Node (node_of r))).value (record_of (row.Node (node_of (later r)))).value) [] (Put (node-key r k) (record_of (row.Node (node_of (later r)))).value ∷ []))
       ∙ ap (λ s. put_where_other (row.Node (node_of r)) (row.Node (node_of s))) (own_row r h))
       0 rows e
@@ -407,7 +409,7 @@ module _ (now id : ℕ) (resource writes : Bool) (bytes : List ℕ) where
   found-changes : (o : Option VolumeRow) → of_found (λ r. put_where_other (row.Node (node_of r)) (row.Node (node_of (written now resource bytes writes r)))) o
       ++ (of_found (λ r. map (block_change r.id resource) (changes_of (fork_of resource r) bytes)) o ++ []) ≡ file_changes now resource bytes writes o
   found-changes None = refl
-  found-changes (Some r) = ap (λ l. put_where_other (row.Node (node_of r)) (row.Node (node_of (written now resource bytes writes r))) ++ l) (nil_behind (map (block_change r.id resource) (changes_of (fork_of resource r) bytes)))
+  found-changes (Some r) = ap (λ l. put_where_other (row.Node (node_of r)) (row.Node (node_of (written now resource bytes writes r))) ++ l) (append-nil (map (block_change r.id resource) (changes_of (fork_of resource r) bytes)))
 
   pub all-changes : (v : VolumeState) → rises_from (λ (r : VolumeRow). r.id) 0 v.rows ≡ true → changes_in (all_steps v) ≡ fork_changes_of v now id resource bytes writes
   unfolding fork_changes_of row_at

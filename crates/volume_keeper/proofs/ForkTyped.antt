@@ -15,8 +15,8 @@ use Rattle.volume_spec.specs.SoundVolume.{fork_bytes}
 use Rattle.volume_spec.specs.TypedVolume.{are_bytes, is_byte}
 use Rattle.volume_spec.specs.VolumeState.{Comment, Icon, Appl, VolumeState}
 use Rattle.fork_bytes.specs.declared.block.Block.{Block}
-use Rattle.fork_bytes.specs.Blocks.{before_zeros, block_at, block_count, blocks_from, blocks_of, trimmed, with_block}
-use Rattle.fork_bytes.specs.Kept.{byte_at, bytes_in, each_of}
+use Rattle.fork_bytes.specs.Blocks.{block_at, block_count, blocks_from, blocks_of, with_block}
+use Rattle.fork_bytes.specs.Kept.{byte_at, bytes_in}
 use Rattle.fork_bytes.specs.Laws.{BytesFromBlocks}
 use Rattle.fork_bytes.specs.Plan.{ForkPlanState, changes_from, changes_of, with_change}
 use Rattle.volume_tree.specs.ForkEffect.{IsForkChange}
@@ -24,19 +24,12 @@ use Rattle.volume_tree.specs.Shown.{fork_at}
 use Rattle.volume_keeper.specs.lemma.Whole.{IsHeld}
 use Rattle.volume_keeper.proofs.ForkSteps.{longer}
 use Rattle.volume_keeper.proofs.ForkTold.{FileAt, file_at, has_room}
-use Rattle.volume_keeper.proofs.GoneRecords.{first_true, second_true}
+use Rattle.afp_base.proofs.Facts.{left_true, right_true}
+use Rattle.volume_keeper_records.proofs.ImageBlocks.{trimmed_typed}
+use Rattle.volume_keeper_records.proofs.VolumeTables.{each_byte}
 
 abbrev pub has_bytes : Block → Bool
 has_bytes block = are_bytes block.bytes
-
-trimmed_typed : (bs : List ℕ) → are_bytes bs ≡ true → are_bytes (trimmed bs) ≡ true
-trimmed_typed [] e = refl
-trimmed_typed (b ∷ bs) e = before b (trimmed bs) (first_true (is_byte b) (are_bytes bs) e) (trimmed_typed bs (second_true (is_byte b) (are_bytes bs) e))
-  where
-    before : (b : ℕ) (bs : List ℕ) → is_byte b ≡ true → are_bytes bs ≡ true → are_bytes (before_zeros b bs) ≡ true
-    before zero [] p q = refl
-    before (suc b) [] p q = and_from (is_byte (suc b)) true p refl
-    before b (c ∷ cs) p q = and_from (is_byte b) (are_bytes (c ∷ cs)) p q
 
 block_typed : (bytes : List ℕ) (index : ℕ) → are_bytes bytes ≡ true → are_bytes (block_at bytes index) ≡ true
 block_typed bytes index e = trimmed_typed (taken bytes (4096 * index) 4096) (take-bytes 4096 (drop (4096 * index) bytes) (drop-bytes (4096 * index) bytes e))
@@ -45,7 +38,7 @@ block_typed bytes index e = trimmed_typed (taken bytes (4096 * index) 4096) (tak
 next_typed : (index : ℕ) (old new : List ℕ) (rest : List Block) → are_bytes old ≡ true → list_all has_bytes (with_change index old new rest) ≡ true → (are_bytes new ≡ true) × (list_all has_bytes rest ≡ true)
 next_typed index old new rest e all = elim (pointwise nat_eq old new) as (λ b. pointwise nat_eq old new ≡ b → list_all has_bytes (cond b rest (record { index = index; bytes = new } ∷ rest)) ≡ true → (are_bytes new ≡ true) × (list_all has_bytes rest ≡ true)) [
   | true ↦ λ same h. (ap are_bytes (sym ((bytes_decides old new).0 same)) ∙ e, h)
-  | false ↦ λ other h. (first_true (are_bytes new) (list_all has_bytes rest) h, second_true (are_bytes new) (list_all has_bytes rest) h)
+  | false ↦ λ other h. (left_true (are_bytes new) (list_all has_bytes rest) h, right_true (are_bytes new) (list_all has_bytes rest) h)
 ] refl all
 
 with_typed : (index : ℕ) (bytes : List ℕ) (rest : List Block) → are_bytes bytes ≡ true → list_all has_bytes rest ≡ true → list_all has_bytes (with_block index bytes rest) ≡ true
@@ -62,30 +55,26 @@ blocks_typed a b index (suc n) e all =
 in_typed : (blocks : List Block) (index : ℕ) → list_all has_bytes blocks ≡ true → are_bytes (bytes_in blocks index) ≡ true
 in_typed [] index e = refl
 in_typed (b ∷ blocks) index e = elim (b.index == index) as (λ t. are_bytes (cond t b.bytes (bytes_in blocks index)) ≡ true) [
-  | true ↦ first_true (are_bytes b.bytes) (list_all has_bytes blocks) e
-  | false ↦ in_typed blocks index (second_true (are_bytes b.bytes) (list_all has_bytes blocks) e)
+  | true ↦ left_true (are_bytes b.bytes) (list_all has_bytes blocks) e
+  | false ↦ in_typed blocks index (right_true (are_bytes b.bytes) (list_all has_bytes blocks) e)
 ]
 
 place_typed : (bytes : List ℕ) (k : ℕ) → are_bytes bytes ≡ true → is_byte (slice_index bytes k) ≡ true
 place_typed [] k e = refl
-place_typed (b ∷ bytes) zero e = first_true (is_byte b) (are_bytes bytes) e
-place_typed (b ∷ bytes) (suc k) e = place_typed bytes k (second_true (is_byte b) (are_bytes bytes) e)
-
-each_typed : (n : ℕ) (byte : ℕ → ℕ) → ((k : ℕ) → is_byte (byte k) ≡ true) → are_bytes (each_of n byte) ≡ true
-each_typed zero byte h = refl
-each_typed (suc n) byte h = and_from (is_byte (byte 0)) (are_bytes (each_of n (λ k. byte (suc k)))) (h 0) (each_typed n (λ k. byte (suc k)) (λ k. h (suc k)))
+place_typed (b ∷ bytes) zero e = left_true (is_byte b) (are_bytes bytes) e
+place_typed (b ∷ bytes) (suc k) e = place_typed bytes k (right_true (is_byte b) (are_bytes bytes) e)
 
 pub after_typed : BytesFromBlocks → (before after : List ℕ) → are_bytes before ≡ true → list_all has_bytes (changes_of before after) ≡ true → are_bytes after ≡ true
 after_typed law before after e all =
     let most : ℕ = max (block_count (length before)) (block_count (length after)) in
     let blocks : list_all has_bytes (blocks_of after) ≡ true = ap (list_all has_bytes) (sym (longer after 0 (block_count (length after)) most (omega arith) (omega arith))) ∙ blocks_typed before after 0 most e all in
-    ap are_bytes (sym (law after)) ∙ each_typed (length after) (byte_at (blocks_of after)) (λ k. place_typed (bytes_in (blocks_of after) (k / 4096)) (k % 4096) (in_typed (blocks_of after) (k / 4096) blocks))
+    ap are_bytes (sym (law after)) ∙ each_byte (length after) (byte_at (blocks_of after)) (λ k. place_typed (bytes_in (blocks_of after) (k / 4096)) (k % 4096) (in_typed (blocks_of after) (k / 4096) blocks))
 
 -- one block more
 pub all_next : (xs : List Block) (k : ℕ) (d : Block) → k < length xs → list_all has_bytes (take k xs) ≡ true → has_bytes (slice_index_or xs k d) ≡ true → list_all has_bytes (take (suc k) xs) ≡ true
 all_next [] k d h e f = absurd (omega arith)
 all_next (x ∷ xs) zero d h e f = and_from (has_bytes x) true f refl
-all_next (x ∷ xs) (suc k) d h e f = and_from (has_bytes x) (list_all has_bytes (take (suc k) xs)) (first_true (has_bytes x) (list_all has_bytes (take k xs)) e) (all_next xs k d (omega arith) (second_true (has_bytes x) (list_all has_bytes (take k xs)) e) f)
+all_next (x ∷ xs) (suc k) d h e f = and_from (has_bytes x) (list_all has_bytes (take (suc k) xs)) (left_true (has_bytes x) (list_all has_bytes (take k xs)) e) (all_next xs k d (omega arith) (right_true (has_bytes x) (list_all has_bytes (take k xs)) e) f)
 
 -- the volume with these bytes can be held
 pub fork_held : ForkKeepsSound → ForkKeepsTyped → BytesFromBlocks → (v : VolumeState) → IsHeld v → (now id : ℕ) (resource : Bool) (plan : ForkPlanState) → now ≤ 2147483647 → list_all has_bytes plan.changes ≡ true

@@ -1,8 +1,11 @@
 -- The records of a node that goes, kind by kind.
 use Rattle.std.proofs.Common.{◌≡◌, ◌∙◌, ℕ, ◌<◌, Bool, true, false, cond, List, [], ◌∷◌, ◌++◌, map, length, refl, sym, ap, arith, append_assoc}
 use Rattle.volume_spec.specs.ForkEffect.{fork_of}
-use Rattle.std.specs.Prelude.{Option, Some, None, IfSome, option_map, nat_lt, ◌&&◌, ◌==◌}
+use Rattle.std.specs.Prelude.{Option, Some, None, IfSome, option_map, nat_lt, ◌==◌}
 use Rattle.std.specs.List.{filter, find, list_all, cons_option}
+use Rattle.std.proofs.lemmas.Bool.{eqb-true}
+use Rattle.std.proofs.lemmas.List.{append-nil}
+use Rattle.std.proofs.lemmas.List.Elements.{filter-append}
 use Rattle.fork_bytes.specs.Blocks.{blocks_of}
 use Rattle.fork_bytes.specs.declared.block.Block.{Block}
 use Rattle.volume_spec.specs.VolumeState.{Row as VolumeRow, Comment, Appl, VolumeState}
@@ -16,94 +19,83 @@ use Rattle.volume_keeper_records.specs.declared.rows.TableRow.TheVariants as row
 use Rattle.volume_keeper_records.specs.Records.{node_key, comment_record_key, appl_record_key, node_record, block_record, comment_record, appl_record}
 use Rattle.volume_keeper_records.specs.Image.{fork_block_of, fork_blocks, node_of, rows_of, tables_of}
 use Rattle.volume_keeper_records.proofs.ImageClear.{formed_none}
-use Rattle.volume_keeper_records.proofs.ImageBlocks.{filter-append}
 use Rattle.volume_spec.specs.OpenFork.{file_of}
 use Rattle.volume_tree.specs.Shown.{fork_at}
 use Rattle.volume_keeper.specs.Changes.{is_of, removal_of}
 use Rattle.volume_keeper.specs.lemma.Steps.{all_taken, appl_taken, appls_taken, block_taken, comment_taken, fork_taken, node_taken}
-use Rattle.volume_keeper.proofs.PlanSteps.{map-append, filter-map, same_number, nodes_by, blocks_by, nodes_in, blocks_in}
-
-pub first_true : (a b : Bool) → (a && b) ≡ true → a ≡ true
-first_true true b e = refl
-first_true false b e = absurd (cc)
-
-pub second_true : (a b : Bool) → (a && b) ≡ true → b ≡ true
-second_true true b e = e
-second_true false b e = absurd (cc)
+use Rattle.volume_keeper.proofs.PlanSteps.{map-append, nodes_by, blocks_by, nodes_in, blocks_in}
+use Rattle.afp_base.proofs.Facts.{left_true, right_true}
+use Rattle.afp_base.proofs.ListFacts.{filter-map, nil_from_no_length}
 
 -- ---- what a sound volume's tests say of its rows
 
 pub ids_rise : (v : VolumeState) → IsSoundVolume v → rises_from (λ (r : VolumeRow). r.id) 0 v.rows ≡ true
 unfolding is_in_order has_rising_ids
-ids_rise v sound = first_true (rises_from (λ (r : VolumeRow). r.id) 0 v.rows) _ sound.order
+ids_rise v sound = left_true (rises_from (λ (r : VolumeRow). r.id) 0 v.rows) _ sound.order
 
 pub nodes_rise : (v : VolumeState) → IsSoundVolume v → rises_from (λ (c : Comment). c.node) 0 v.comments ≡ true
 unfolding is_in_order has_rising_ids
-nodes_rise v sound = first_true (rises_from (λ (c : Comment). c.node) 0 v.comments) _ (second_true (rises_from (λ (r : VolumeRow). r.id) 0 v.rows) _ sound.order)
+nodes_rise v sound = left_true (rises_from (λ (c : Comment). c.node) 0 v.comments) _ (right_true (rises_from (λ (r : VolumeRow). r.id) 0 v.rows) _ sound.order)
 
 pub rows_formed : (v : VolumeState) → IsSoundVolume v → list_all is_formed v.rows ≡ true
 unfolding is_formed_volume
-rows_formed v sound = first_true (list_all is_formed v.rows) _ (second_true _ _ sound.formed)
+rows_formed v sound = left_true (list_all is_formed v.rows) _ (right_true _ _ sound.formed)
 
 -- a directory has no bytes
 abbrev pub HasFitForks : VolumeRow → Type 0
 HasFitForks r = r.dir ≡ true → (r.data_fork ≡ []) × (r.resource_fork ≡ [])
 
-no_bytes : (bytes : List ℕ) → (length bytes == 0) ≡ true → bytes ≡ []
-no_bytes [] e = refl
-no_bytes (b ∷ bs) e = absurd (let h : length (b ∷ bs) ≡ 0 = same_number (length (b ∷ bs)) 0 e in omega arith)
-
 pub fit_forks : (r : VolumeRow) → is_formed r ≡ true → HasFitForks r
 fit_forks r e d =
     let two = formed_none r.dir (is_named r) _ _ r.filed (length r.data_fork == 0) (length r.resource_fork == 0) d e in
-    (no_bytes r.data_fork two.0, no_bytes r.resource_fork two.1)
+    (nil_from_no_length r.data_fork two.0, nil_from_no_length r.resource_fork two.1)
 
 -- ---- the one element of a number
 
 pub higher : {A : Type 0} (f : A → ℕ) (low n : ℕ) (xs : List A) → n < low → rises_from f low xs ≡ true → find (λ x. f x == n) xs ≡ None
 higher f low n [] h e = refl
 higher f low n (x ∷ xs) h e =
-    let above : nat_lt low (f x) ≡ true = first_true (nat_lt low (f x)) _ e in
+    let above : nat_lt low (f x) ≡ true = left_true (nat_lt low (f x)) _ e in
     let far : n < f x = grind (arith, h, above) in
     let differs : (f x == n) ≡ false = grind (arith, far) in
-    ap (λ b. cond b (Some x) (find (λ x. f x == n) xs)) differs ∙ higher f (f x) n xs far (second_true (nat_lt low (f x)) _ e)
+    ap (λ b. cond b (Some x) (find (λ x. f x == n) xs)) differs ∙ higher f (f x) n xs far (right_true (nat_lt low (f x)) _ e)
 
 none_higher : {A : Type 0} (f : A → ℕ) (low n : ℕ) (xs : List A) → n < low → rises_from f low xs ≡ true → filter (λ x. f x == n) xs ≡ []
 none_higher f low n [] h e = refl
 none_higher f low n (x ∷ xs) h e =
-    let above : nat_lt low (f x) ≡ true = first_true (nat_lt low (f x)) _ e in
+    let above : nat_lt low (f x) ≡ true = left_true (nat_lt low (f x)) _ e in
     let far : n < f x = grind (arith, h, above) in
     let differs : (f x == n) ≡ false = grind (arith, far) in
-    ap (λ b. cond b (x ∷ filter (λ x. f x == n) xs) (filter (λ x. f x == n) xs)) differs ∙ none_higher f (f x) n xs far (second_true (nat_lt low (f x)) _ e)
+    ap (λ b. cond b (x ∷ filter (λ x. f x == n) xs) (filter (λ x. f x == n) xs)) differs ∙ none_higher f (f x) n xs far (right_true (nat_lt low (f x)) _ e)
 
 none_at : {A : Type 0} (f : A → ℕ) (n : ℕ) (xs : List A) → rises_from f n xs ≡ true → filter (λ x. f x == n) xs ≡ []
 none_at f n [] e = refl
 none_at f n (x ∷ xs) e =
-    let above : nat_lt n (f x) ≡ true = first_true (nat_lt n (f x)) _ e in
+    let above : nat_lt n (f x) ≡ true = left_true (nat_lt n (f x)) _ e in
     let far : n < f x = grind (arith, above) in
     let differs : (f x == n) ≡ false = grind (arith, far) in
-    ap (λ b. cond b (x ∷ filter (λ x. f x == n) xs) (filter (λ x. f x == n) xs)) differs ∙ none_higher f (f x) n xs far (second_true (nat_lt n (f x)) _ e)
+    ap (λ b. cond b (x ∷ filter (λ x. f x == n) xs) (filter (λ x. f x == n) xs)) differs ∙ none_higher f (f x) n xs far (right_true (nat_lt n (f x)) _ e)
 
 only_one : {A : Type 0} (f : A → ℕ) (low n : ℕ) (xs : List A) → rises_from f low xs ≡ true → filter (λ x. f x == n) xs ≡ cons_option (find (λ x. f x == n) xs) []
 only_one f low n [] e = refl
 only_one f low n (x ∷ xs) e = elim (f x == n) as (λ b. f x == n ≡ b → cond b (x ∷ filter (λ x. f x == n) xs) (filter (λ x. f x == n) xs) ≡ cons_option (cond b (Some x) (find (λ x. f x == n) xs)) []) [
-  | true ↦ λ h. ap (λ l. x ∷ l) (none_at f n xs (ap (λ k. rises_from f k xs) (sym (same_number (f x) n h)) ∙ second_true (nat_lt low (f x)) _ e))
-  | false ↦ λ h. only_one f (f x) n xs (second_true (nat_lt low (f x)) _ e)
+  | true ↦ λ h. ap (λ l. x ∷ l) (none_at f n xs (ap (λ k. rises_from f k xs) (sym (eqb-true (f x) n h)) ∙ right_true (nat_lt low (f x)) _ e))
+  | false ↦ λ h. only_one f (f x) n xs (right_true (nat_lt low (f x)) _ e)
 ] refl
 
 -- what is found has the number
 pub found_number : {A : Type 0} (f : A → ℕ) (n : ℕ) (xs : List A) (y : A) → find (λ x. f x == n) xs ≡ Some y → f y ≡ n
 found_number f n [] y e = absurd (cc)
 found_number f n (x ∷ xs) y e = elim (f x == n) as (λ b. f x == n ≡ b → cond b (Some x) (find (λ x. f x == n) xs) ≡ Some y → f y ≡ n) [
-  | true ↦ λ h g. let is : x ≡ y = cc g in ap f (sym is) ∙ same_number (f x) n h
+  | true ↦ λ h g. let is : x ≡ y = cc g in ap f (sym is) ∙ eqb-true (f x) n h
   | false ↦ λ h g. found_number f n xs y g
 ] refl e
 
 found_passes : {A : Type 0} (p q : A → Bool) (xs : List A) → list_all q xs ≡ true → IfSome (find p xs) (λ x. q x ≡ true)
 found_passes p q [] a = tt
 found_passes p q (x ∷ xs) a = elim (p x) as (λ b. IfSome (cond b (Some x) (find p xs)) (λ x. q x ≡ true)) [
-  | true ↦ first_true (q x) _ a
-  | false ↦ found_passes p q xs (second_true (q x) _ a)
+  | true ↦ left_true (q x) _ a
+  | false ↦ found_passes p q xs (right_true (q x) _ a)
 ]
 
 pub row_is_fit : (rows : List VolumeRow) → list_all is_formed rows ≡ true → (id : ℕ) → IfSome (row_at rows id) HasFitForks
@@ -140,19 +132,15 @@ appls_are_taken : (id : ℕ) (xs : List Appl) → map removal_of (map (λ a. row
 appls_are_taken id [] = refl
 appls_are_taken id (a ∷ xs) = elim (a.node == id) as (λ b. a.node == id ≡ b
     → map removal_of (map (λ a. row.Appl a) (cond b (a ∷ filter (λ (a : Appl). a.node == id) xs) (filter (λ (a : Appl). a.node == id) xs))) ≡ map (appl_taken id) (cond b (a ∷ filter (λ (a : Appl). a.node == id) xs) (filter (λ (a : Appl). a.node == id) xs))) [
-      | true ↦ λ e. let here = appl_is_taken a ∙ ap (λ n. Remove (appl_record_key a.creator n)) (same_number a.node id e) in λ i. here i ∷ appls_are_taken id xs i
+      | true ↦ λ e. let here = appl_is_taken a ∙ ap (λ n. Remove (appl_record_key a.creator n)) (eqb-true a.node id e) in λ i. here i ∷ appls_are_taken id xs i
       | false ↦ λ e. appls_are_taken id xs
     ] refl
-
-pub nil_behind : {A : Type 0} (xs : List A) → xs ++ [] ≡ xs
-nil_behind [] = refl
-nil_behind (x ∷ xs) = ap (λ l. x ∷ l) (nil_behind xs)
 
 both_forks : (r : VolumeRow) → map removal_of (blocks_in (r ∷ [])) ≡ map (block_taken r.id false) (blocks_of r.data_fork) ++ map (block_taken r.id true) (blocks_of r.resource_fork)
 both_forks r =
     let one : List ForkBlock = map (fork_block_of r.id false) (blocks_of r.data_fork) in
     let two : List ForkBlock = map (fork_block_of r.id true) (blocks_of r.resource_fork) in
-    ap (λ l. map removal_of (map (λ b. row.Block b) l)) (nil_behind (fork_blocks r))
+    ap (λ l. map removal_of (map (λ b. row.Block b) l)) (append-nil (fork_blocks r))
     ∙ ap (map removal_of) (map-append (λ b. row.Block b) one two)
     ∙ map-append removal_of (map (λ b. row.Block b) one) (map (λ b. row.Block b) two)
     ∙ (λ i. blocks_are_taken r.id false (blocks_of r.data_fork) i ++ blocks_are_taken r.id true (blocks_of r.resource_fork) i)

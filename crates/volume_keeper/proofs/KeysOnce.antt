@@ -6,6 +6,7 @@ use Rattle.std.specs.Int.{from_be_bytes, w32}
 use Rattle.std.specs.Ordering.{is_lt}
 use Rattle.std.proofs.lemmas.Nat.{from_be_bytes-to_be_bytes_4}
 use Rattle.std.proofs.lemmas.Slice.Eq.{bytes_eq-Decides}
+use Rattle.std.proofs.lemmas.Bool.{and_from, eqb-true, not-true}
 use Rattle.afp_base.specs.Apart.{are_apart}
 use Rattle.afp_base.specs.declared.ids.NodeId.{NodeId}
 use Rattle.volume_spec.specs.VolumeState.{Row as VolumeRow, Comment, Icon, Appl, VolumeState, root_id, first_id}
@@ -25,13 +26,11 @@ use Rattle.volume_tree.specs.TouchedNodes.{is_touched}
 use Rattle.volume_keeper.specs.Changes.{is_of, put_of, removal_of, gone_records, kept_records, tree_changes_of}
 use Rattle.volume_keeper.specs.Laws.{are_of_one_key}
 use Rattle.volume_keeper.proofs.LookUps.{are_one, any_at, below_filter, each_found, first_found, found, itself, key_of_row, left_over, one_of, AreFound}
-use Rattle.volume_keeper.proofs.PlanSteps.{SameBut, gone_volume, later_rows, later_same, left_rows, is_other, nodes_in, blocks_in, passing, same_number, first_false, second_false}
-use Rattle.volume_keeper.proofs.GoneRecords.{first_true, second_true}
+use Rattle.volume_keeper.proofs.PlanSteps.{SameBut, gone_volume, later_rows, later_same, left_rows, is_other, nodes_in, blocks_in, passing}
 use Rattle.volume_keeper.proofs.DesktopAgain.{not_equal}
-use Rattle.volume_keeper.proofs.Filling.{below_front, rises_parts}
-
-both_true : (a b : Bool) → a ≡ true → b ≡ true → (a && b) ≡ true
-both_true a b p q = ap (λ x. x && b) p ∙ q
+use Rattle.afp_base.proofs.Facts.{left_false, left_true, right_false, right_true}
+use Rattle.afp_base.proofs.ListFacts.{all-weaker}
+use Rattle.volume_keeper_records.proofs.RowOrder.{below_front, rows_ends}
 
 -- ---- rising keys are apart
 
@@ -44,17 +43,13 @@ rises_filter p (x ∷ xs) s = elim (p x) as (λ t. RisesByKey (map record_of (co
 
 any-append : {A : Type 0} (p : A → Bool) (xs ys : List A) → list_any p xs ≡ false → list_any p ys ≡ false → list_any p (xs ++ ys) ≡ false
 any-append p [] ys e f = f
-any-append p (x ∷ xs) ys e f = ap (λ b. b || list_any p (xs ++ ys)) (first_false (p x) _ e) ∙ any-append p xs ys (second_false (p x) _ e) f
-
-turn_false : (b : Bool) → not b ≡ true → b ≡ false
-turn_false true e = absurd (cc)
-turn_false false e = refl
+any-append p (x ∷ xs) ys e f = ap (λ b. b || list_any p (xs ++ ys)) (left_false (p x) _ e) ∙ any-append p xs ys (right_false (p x) _ e) f
 
 apart-append : {A : Type 0} (alike : A → A → Bool) (xs ys : List A) → are_apart alike xs ≡ true → are_apart alike ys ≡ true → list_all (λ x. not (list_any (alike x) ys)) xs ≡ true → are_apart alike (xs ++ ys) ≡ true
 apart-append alike [] ys e f g = f
-apart-append alike (x ∷ xs) ys e f g = both_true (not (list_any (alike x) (xs ++ ys))) _
-    (ap not (any-append (alike x) xs ys (turn_false _ (first_true (not (list_any (alike x) xs)) _ e)) (turn_false _ (first_true (not (list_any (alike x) ys)) _ g))))
-    (apart-append alike xs ys (second_true (not (list_any (alike x) xs)) _ e) f (second_true (not (list_any (alike x) ys)) _ g))
+apart-append alike (x ∷ xs) ys e f g = and_from (not (list_any (alike x) (xs ++ ys))) _
+    (ap not (any-append (alike x) xs ys (not-true _ (left_true (not (list_any (alike x) xs)) _ e)) (not-true _ (left_true (not (list_any (alike x) ys)) _ g))))
+    (apart-append alike xs ys (right_true (not (list_any (alike x) xs)) _ e) f (right_true (not (list_any (alike x) ys)) _ g))
 
 module _ (make : TableRow → Change) (key_is : (x : TableRow) → key_of (make x) ≡ key_of_row x) where
   none_alike : (x : TableRow) (xs : List TableRow) → IsBelow (key_of_row x) (map record_of xs) → list_any (are_of_one_key (make x)) (map make xs) ≡ false
@@ -63,7 +58,7 @@ module _ (make : TableRow → Change) (key_is : (x : TableRow) → key_of (make 
 
   rising_apart : (xs : List TableRow) → RisesByKey (map record_of xs) → are_apart are_of_one_key (map make xs) ≡ true
   rising_apart [] s = refl
-  rising_apart (x ∷ xs) s = both_true (not (list_any (are_of_one_key (make x)) (map make xs))) _ (ap not (none_alike x xs s.0)) (rising_apart xs s.1)
+  rising_apart (x ∷ xs) s = and_from (not (list_any (are_of_one_key (make x)) (map make xs))) _ (ap not (none_alike x xs s.0)) (rising_apart xs s.1)
 
 -- ---- what is put has none of the keys that are taken away
 
@@ -79,15 +74,15 @@ not_bytes k q e = elim (bytes_eq k q) as (λ t. bytes_eq k q ≡ t → t ≡ fal
 
 front_away : (y : TableRow) (gone xs : List TableRow) → EachAway (y ∷ gone) xs → list_any (are_of_one_key (removal_of y)) (map put_of xs) ≡ false
 front_away y gone [] a = refl
-front_away y gone (x ∷ xs) a = ap (λ b. b || list_any (are_of_one_key (removal_of y)) (map put_of xs)) (not_bytes (key_of_row y) (key_of_row x) (first_false (are_one (key_of_row x) (key_of_row y)) _ a.0)) ∙ front_away y gone xs a.1
+front_away y gone (x ∷ xs) a = ap (λ b. b || list_any (are_of_one_key (removal_of y)) (map put_of xs)) (not_bytes (key_of_row y) (key_of_row x) (left_false (are_one (key_of_row x) (key_of_row y)) _ a.0)) ∙ front_away y gone xs a.1
 
 rest_away : (y : TableRow) (gone xs : List TableRow) → EachAway (y ∷ gone) xs → EachAway gone xs
 rest_away y gone [] a = tt
-rest_away y gone (x ∷ xs) a = (second_false (are_one (key_of_row x) (key_of_row y)) _ a.0, rest_away y gone xs a.1)
+rest_away y gone (x ∷ xs) a = (right_false (are_one (key_of_row x) (key_of_row y)) _ a.0, rest_away y gone xs a.1)
 
 all_away : (gone xs : List TableRow) → EachAway gone xs → list_all (λ c. not (list_any (are_of_one_key c) (map put_of xs))) (map removal_of gone) ≡ true
 all_away [] xs a = refl
-all_away (y ∷ gone) xs a = both_true (not (list_any (are_of_one_key (removal_of y)) (map put_of xs))) _ (ap not (front_away y gone xs a)) (all_away gone xs (rest_away y gone xs a))
+all_away (y ∷ gone) xs a = and_from (not (list_any (are_of_one_key (removal_of y)) (map put_of xs))) _ (ap not (front_away y gone xs a)) (all_away gone xs (rest_away y gone xs a))
 
 nothing_away : (xs : List TableRow) → EachAway [] xs
 nothing_away [] = tt
@@ -147,8 +142,8 @@ module _ (v : VolumeState) (id : NodeId) (rises : RisesByKey (image v)) where
 any-none : (p : TableRow → Bool) (xs : List TableRow) (q : List ℕ) → any_at xs q ≡ false → any_at (filter p xs) q ≡ false
 any-none p [] q e = refl
 any-none p (x ∷ xs) q e = elim (p x) as (λ t. any_at (cond t (x ∷ filter p xs) (filter p xs)) q ≡ false) [
-  | true ↦ ap (λ b. b || any_at (filter p xs) q) (first_false (are_one q (key_of_row x)) _ e) ∙ any-none p xs q (second_false (are_one q (key_of_row x)) _ e)
-  | false ↦ any-none p xs q (second_false (are_one q (key_of_row x)) _ e)
+  | true ↦ ap (λ b. b || any_at (filter p xs) q) (left_false (are_one q (key_of_row x)) _ e) ∙ any-none p xs q (right_false (are_one q (key_of_row x)) _ e)
+  | false ↦ any-none p xs q (right_false (are_one q (key_of_row x)) _ e)
 ]
 
 of_kind : {A : Type 0} (make : A → TableRow) (q : List ℕ) → ((a : A) → are_one q (key_of_row (make a)) ≡ false) → (xs : List A) → any_at (map make xs) q ≡ false
@@ -194,9 +189,9 @@ node_other n r h l = elim (are_one (node_key n) (node_key r.id)) as (λ t. are_o
 lower_nodes : (n : ℕ) (rows : List VolumeRow) → n < 2 ^ 32 → list_all (λ (r : VolumeRow). nat_lt r.id n) rows ≡ true → any_at (nodes_in rows) (node_key n) ≡ false
 lower_nodes n [] l e = refl
 lower_nodes n (r ∷ rows) l e =
-    let low : nat_lt r.id n ≡ true = first_true (nat_lt r.id n) _ e in
+    let low : nat_lt r.id n ≡ true = left_true (nat_lt r.id n) _ e in
     let lower : r.id < n = grind (arith, low) in
-    ap (λ b. b || any_at (nodes_in rows) (node_key n)) (node_other n r lower l) ∙ lower_nodes n rows l (second_true (nat_lt r.id n) _ e)
+    ap (λ b. b || any_at (nodes_in rows) (node_key n)) (node_other n r lower l) ∙ lower_nodes n rows l (right_true (nat_lt r.id n) _ e)
 
 no_row : (v : VolumeState) (n : ℕ) → n < 2 ^ 32 → list_all (λ (r : VolumeRow). nat_lt r.id n) v.rows ≡ true → any_at (rows_of (tables_of v)) (node_key n) ≡ false
 no_row v n l e =
@@ -207,27 +202,23 @@ no_row v n l e =
     ap (λ b. b || any_at (nodes_in v.rows ++ (blocks_in v.rows ++ (map (λ c. row.Comment c) v.comments ++ (map (λ i. row.Icon i) v.icons ++ map (λ a. row.Appl a) v.appls)))) q) (head_other n (tables_of v).head)
     ∙ any-append (λ x. are_one q (key_of_row x)) (nodes_in v.rows) _ (lower_nodes n v.rows l e) two
 
-all-more : {A : Type 0} (p q : A → Bool) (xs : List A) → ((x : A) → p x ≡ true → q x ≡ true) → list_all p xs ≡ true → list_all q xs ≡ true
-all-more p q [] h e = refl
-all-more p q (x ∷ xs) h e = both_true (q x) _ (h x (first_true (p x) _ e)) (all-more p q xs h (second_true (p x) _ e))
-
 then_else : (b x y : Bool) {P : Type 0} → (b ≡ true → P) → (y ≡ true → P) → cond b x y ≡ true → P
 then_else true x y f g e = f refl
 then_else false x y f g e = g e
 
 placed : (v : VolumeState) → is_tree v ≡ true → list_all (is_in_place v) v.rows ≡ true
 unfolding is_tree
-placed v e = second_true (has_node v.rows root_id) _ (second_true (are_apart (λ (a : VolumeRow) b. a.id == b.id) v.rows) _ e)
+placed v e = right_true (has_node v.rows root_id) _ (right_true (are_apart (λ (a : VolumeRow) b. a.id == b.id) v.rows) _ e)
 
 next_range : (v : VolumeState) → is_formed_volume v ≡ true → (nat_le first_id v.next_id && nat_le v.next_id last_next_id) ≡ true
 unfolding is_formed_volume
-next_range v e = first_true (nat_le first_id v.next_id && nat_le v.next_id last_next_id) _ e
+next_range v e = left_true (nat_le first_id v.next_id && nat_le v.next_id last_next_id) _ e
 
 ids_below : (v : VolumeState) → IsSoundVolume v → list_all (λ (r : VolumeRow). nat_lt r.id v.next_id) v.rows ≡ true
-ids_below v s = all-more (is_in_place v) (λ (r : VolumeRow). nat_lt r.id v.next_id) v.rows
+ids_below v s = all-weaker (is_in_place v) (λ (r : VolumeRow). nat_lt r.id v.next_id) v.rows
     (λ r e. then_else (r.id == root_id) _ _
-    (λ t. let is : r.id ≡ 2 = same_number r.id root_id t in let next : nat_le first_id v.next_id ≡ true = first_true (nat_le first_id v.next_id) _ (next_range v s.formed) in grind (arith, is, next))
-    (λ f. second_true (nat_le first_id r.id) (nat_lt r.id v.next_id) (first_true (nat_le first_id r.id && nat_lt r.id v.next_id) _ f)) e) (placed v s.tree)
+    (λ t. let is : r.id ≡ 2 = eqb-true r.id root_id t in let next : nat_le first_id v.next_id ≡ true = left_true (nat_le first_id v.next_id) _ (next_range v s.formed) in grind (arith, is, next))
+    (λ f. right_true (nat_le first_id r.id) (nat_lt r.id v.next_id) (left_true (nat_le first_id r.id && nat_lt r.id v.next_id) _ f)) e) (placed v s.tree)
 
 behind_away : (gone : List TableRow) (rows : List VolumeRow) (r : VolumeRow) → RowsAway gone rows → any_at gone (key_of_row (row.Node (node_of r))) ≡ false → RowsAway gone (rows ++ r ∷ [])
 behind_away gone [] r a e = (e, tt)
@@ -248,7 +239,7 @@ comes_away v p rows (Some r) new l e = ap (any_at (filter p (rows_of (tables_of 
 
 small_next : (v : VolumeState) (p : PlanState) → IsPlan v p → IfSome p.come (λ r. v.next_id < 2 ^ 32)
 unfolding planned
-small_next v p plan = small p.come v.next_id (second_true (nat_le first_id (planned p v).next_id) _ (next_range (planned p v) plan.sound.formed))
+small_next v p plan = small p.come v.next_id (right_true (nat_le first_id (planned p v).next_id) _ (next_range (planned p v) plan.sound.formed))
   where
     small : (o : Option VolumeRow) (next : ℕ) → nat_le (next_after o next) last_next_id ≡ true → IfSome o (λ r. next < 2 ^ 32)
     small None next e = tt
@@ -276,7 +267,7 @@ behind w = blocks_in w.rows ++ (map (λ c. row.Comment c) w.comments ++ (map (λ
 kept_rise : (p : PlanState) (w : VolumeState) → RisesByKey (image w) → RisesByKey (map record_of (kept_records p w))
 kept_rise p w s = (
   below_passing (key_of_row (row.Head (tables_of w).head)) (is_touched p) w.rows (below_front (key_of_row (row.Head (tables_of w).head)) (nodes_in w.rows) (behind w) s.0),
-  rises_passing (is_touched p) w.rows (rises_parts (nodes_in w.rows) (behind w) s.1).0,
+  rises_passing (is_touched p) w.rows (rows_ends (nodes_in w.rows) (behind w) s.1).0,
 )
 
 -- ---- all keys

@@ -3,6 +3,7 @@ use Rattle.std.proofs.Common.{◌≡◌, ◌∙◌, ℕ, zero, suc, true, cond, 
 use Rattle.std.specs.Prelude.{Option, Some, None, IfSome, option_map, Result, Ok, Err, IfOk, IfErr, nat_lt}
 use Rattle.std.specs.List.{slice_get}
 use Rattle.std.specs.FinMap.{entries, from_sorted, entries-from_sorted, same_entries_map}
+use Rattle.std.proofs.lemmas.Option.{same_Some}
 use Rattle.volume_spec.specs.VolumeState.{VolumeState, fresh_volume}
 use Rattle.volume_spec.specs.SoundVolume.{IsSoundVolume}
 use Rattle.record_keeper.specs.declared.record.Record.{Record}
@@ -24,9 +25,6 @@ use Rattle.volume_keeper.specs.lemma.Loading.{IsMadeOf, IsMake, IsReadFault}
 use Rattle.volume_keeper.specs.Whole.{HeldValue}
 use Rattle.volume_keeper.proofs.LookUps.{all_put, sorted_entries}
 
-same_some : {A : Type 0} (x y : A) → Some x ≡ Some y → x ≡ y
-same_some x y e = cc e
-
 -- ---- a fresh volume
 
 made_one : ImagesRise → (name : List ℕ) (now : ℕ) → IsSoundVolume (fresh_volume name now) → (held : HeldValue) → held.state ≡ fresh_volume name now → (cs : List Change) → cs ≡ map put_of (rows_of (tables_of (fresh_volume name now)))
@@ -40,7 +38,7 @@ pub made : ImagesRise → (name : List ℕ) (now : ℕ) → IsSoundVolume (fresh
     → (old new : Option Records) → Makes (changed cs) old new → Becomes (IsMake name now (Ok held)) old new
 made rising name now sound held is cs all old None m = tt
 made rising name now sound held is cs all None (Some new) m = absurd (cc)
-made rising name now sound held is cs all (Some old) (Some new) m = made_one rising name now sound held is cs all old new (same_some new (changed cs old) m)
+made rising name now sound held is cs all (Some old) (Some new) m = made_one rising name now sound held is cs all old new (same_Some new (changed cs old) m)
 
 -- ---- records and entries
 
@@ -78,7 +76,7 @@ pub loaded : (name : List ℕ) (now : ℕ) (records : List Record) → RisesByKe
     → (old new : Option Records) → Makes same_records old new → IfSome new (λ kept. IsAll kept records) → Becomes (IsLoad name now result) old new
 loaded name now records rises some result ok err old None m all = tt
 loaded name now records rises some result ok err None (Some new) m all = absurd (cc)
-loaded name now records rises some result ok err (Some old) (Some new) m all = loaded_one name now records rises some result ok err old new (same_some new old m) all
+loaded name now records rises some result ok err (Some old) (Some new) m all = loaded_one name now records rises some result ok err old new (same_Some new old m) all
 
 -- ---- a keeper that was not read whole
 
@@ -90,7 +88,7 @@ record_by e = record { key = e.0; value = e.1 }
 
 one_over : (k : ℕ) (es : List (List ℕ × List ℕ)) (key : List ℕ) → option_map first_key (slice_get es k) ≡ Some key → (nat_lt k (length (map record_by es)) ≡ true) × (too_many (drop k (map record_by es)) ≡ Some (record { key = key; reason = Limit }))
 one_over k [] key e = absurd (cc)
-one_over zero (x ∷ es) key e = (grind arith, ap (λ (k : List ℕ). Some (record { key = k; reason = Limit })) (same_some x.0 key e))
+one_over zero (x ∷ es) key e = (grind arith, ap (λ (k : List ℕ). Some (record { key = k; reason = Limit })) (same_Some x.0 key e))
 one_over (suc k) (x ∷ es) key e =
     let rest = one_over k es key e in
     let more : nat_lt k (length (map record_by es)) ≡ true = rest.0 in
@@ -112,5 +110,5 @@ pub refused : (name : List ℕ) (now : ℕ) (f : ReadAllFault) (g : LoadFault) �
 refused name now f g is old None m e = tt
 refused name now f g is None (Some new) m e = absurd (cc)
 refused name now f g is (Some old) (Some new) m e =
-    let same = same_some new old m in
+    let same = same_Some new old m in
     (same, subst (λ (kept : Records). IsFaultIn name (records_in kept) g) same (refused_one name f g is new e))

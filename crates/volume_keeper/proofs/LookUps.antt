@@ -1,6 +1,6 @@
 -- What is found at a key in the records of rows, and after changes.
 use Rattle.std.proofs.Common.{◌≡◌, ◌∙◌, ℕ, Bool, true, false, cond, not, List, [], ◌∷◌, ◌++◌, ◌||◌, map, refl, sym, ap, subst}
-use Rattle.std.specs.Prelude.{Option, Some, None, T, ◌&&◌}
+use Rattle.std.specs.Prelude.{Option, Some, None, T}
 use Rattle.std.specs.List.{filter, list_any}
 use Rattle.std.specs.Cmp.{tied_itself}
 use Rattle.std.specs.Cmp.Lexicographic.{nat_list_cmp_total}
@@ -19,6 +19,7 @@ use Rattle.volume_keeper_records.specs.declared.rows.TableRow.{TableRow}
 use Rattle.volume_keeper_records.specs.Records.{record_of}
 use Rattle.volume_keeper_records.specs.Image.{entries_of}
 use Rattle.volume_keeper.specs.Changes.{put_of, removal_of}
+use Rattle.afp_base.proofs.Facts.{T_both}
 
 abbrev pub are_one : List ℕ → List ℕ → Bool
 are_one q k = eq_by_cmp by_bytes q k
@@ -60,17 +61,13 @@ found_entries : (xs : List TableRow) (q : List ℕ) → find by_bytes q (entries
 found_entries [] q = refl
 found_entries (x ∷ xs) q = ap (cond (are_one q (key_of_row x)) (Some (record_of x).value)) (found_entries xs q)
 
-both : (a b : Bool) → T a → T b → T (a && b)
-both true b p q = q
-both false b p q = p
-
 below_entries : (k : List ℕ) (rs : List Record) → IsBelow k rs → T (below_all by_bytes k (entries_of rs))
 below_entries k [] b = tt
-below_entries k (r ∷ rs) b = both _ _ (subst (λ o. T (is_lt o)) (sym b.0) tt) (below_entries k rs b.1)
+below_entries k (r ∷ rs) b = T_both _ _ (subst (λ o. T (is_lt o)) (sym b.0) tt) (below_entries k rs b.1)
 
 pub sorted_entries : (rs : List Record) → RisesByKey rs → T (is_sorted by_bytes (entries_of rs))
 sorted_entries [] s = tt
-sorted_entries (r ∷ rs) s = both _ _ (below_entries r.key rs s.0) (sorted_entries rs s.1)
+sorted_entries (r ∷ rs) s = T_both _ _ (below_entries r.key rs s.0) (sorted_entries rs s.1)
 
 -- the map of rising records has at a key what they have
 pub got : (xs : List TableRow) (q : List ℕ) → RisesByKey (map record_of xs) → get (from_sorted {R = by_bytes} (entries_of (map record_of xs))) q ≡ found xs q

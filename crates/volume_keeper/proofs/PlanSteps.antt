@@ -1,7 +1,9 @@
 -- What the steps of a plan leave of rows and of their records.
-use Rattle.std.proofs.Common.{◌≡◌, ◌∙◌, ℕ, Bool, true, false, cond, not, List, [], ◌∷◌, ◌++◌, ◌||◌, map, refl, sym, ap, subst, arith}
+use Rattle.std.proofs.Common.{◌≡◌, ◌∙◌, ℕ, Bool, true, false, cond, not, List, [], ◌∷◌, ◌++◌, ◌||◌, map, refl, sym, ap, subst}
 use Rattle.std.specs.Prelude.{Option, Some, None, IfSome, ◌==◌, flat_map}
 use Rattle.std.specs.List.{filter}
+use Rattle.std.proofs.lemmas.Bool.{eqb-true, or_left, or_right}
+use Rattle.std.proofs.lemmas.List.Elements.{filter-append}
 use Rattle.afp_base.specs.declared.ids.NodeId.{NodeId}
 use Rattle.fork_bytes.specs.declared.block.Block.{Block}
 use Rattle.fork_bytes.specs.Blocks.{blocks_of}
@@ -14,24 +16,18 @@ use Rattle.volume_keeper_records.specs.declared.rows.TableRow.{TableRow}
 use Rattle.volume_keeper_records.specs.declared.rows.TableRow.TheVariants as row
 use Rattle.volume_keeper_records.specs.Records.{record_of, node_record, node_tag, long_bytes}
 use Rattle.volume_keeper_records.specs.Image.{node_of, fork_block_of, fork_blocks, rows_of, tables_of}
-use Rattle.volume_keeper_records.proofs.ImageBlocks.{filter-append}
 use Rattle.volume_tree.specs.Planned.{Move, SetNode, PlanState, IsNew, is_gone, gone_rows, gone_comments, gone_appls, come_rows, moved_rows, set_rows, modified_rows}
 use Rattle.volume_tree.specs.TouchedNodes.{is_come, is_moved, is_set, is_modified, is_touched}
 use Rattle.volume_keeper.specs.Changes.{is_of}
 use Rattle.volume_keeper.proofs.LookUps.{are_one, found, key_of_row, any_at, AreFound}
+use Rattle.afp_base.proofs.Facts.{eqb-itself, left_false, right_false}
+use Rattle.afp_base.proofs.ListFacts.{filter-map}
 
 -- ---- what a node's going leaves
 
 pub map-append : {A B : Type 0} (f : A → B) (xs ys : List A) → map f (xs ++ ys) ≡ map f xs ++ map f ys
 map-append f [] ys = refl
 map-append f (x ∷ xs) ys = ap (λ l. f x ∷ l) (map-append f xs ys)
-
-pub filter-map : {A B : Type 0} (p : B → Bool) (f : A → B) (xs : List A) → filter p (map f xs) ≡ map f (filter (λ x. p (f x)) xs)
-filter-map p f [] = refl
-filter-map p f (x ∷ xs) = elim (p (f x)) as (λ b. cond b (f x ∷ filter p (map f xs)) (filter p (map f xs)) ≡ map f (cond b (x ∷ filter (λ x. p (f x)) xs) (filter (λ x. p (f x)) xs))) [
-  | true ↦ ap (λ l. f x ∷ l) (filter-map p f xs)
-  | false ↦ filter-map p f xs
-]
 
 pub filter-always : {A : Type 0} (xs : List A) → filter (λ x. true) xs ≡ xs
 filter-always [] = refl
@@ -136,19 +132,13 @@ same_then t (x ∷ xs) [] zs p q = absurd p
 same_then t (x ∷ xs) (y ∷ ys) [] p q = absurd q
 same_then t (x ∷ xs) (y ∷ ys) (z ∷ zs) p q = (p.0 ∙ q.0, λ e. p.1 e ∙ q.1 (ap t (sym p.0) ∙ e), same_then t xs ys zs p.2 q.2)
 
-pub same_number : (a b : ℕ) → (a == b) ≡ true → a ≡ b
-same_number a b e = grind (arith, e)
-
-pub equal_itself : (a : ℕ) → (a == a) ≡ true
-equal_itself a = grind arith
-
 same_changed : (t : ℕ → Bool) (id : ℕ) (change : VolumeRow → VolumeRow) → ((r : VolumeRow) → (change r).id ≡ r.id) → t id ≡ true → (rows : List VolumeRow) → SameBut t rows (with_changed id change rows)
 unfolding with_changed
 same_changed t id change keeps e [] = tt
 same_changed t id change keeps e (r ∷ rows) = (
   elim (r.id == id) as (λ b. r.id ≡ (cond b (change r) r).id) [ true ↦ sym (keeps r) | false ↦ refl ],
   λ f. elim (r.id == id) as (λ b. r.id == id ≡ b → r ≡ cond b (change r) r) [
-    | true ↦ λ h. absurd (let k : true ≡ false = sym e ∙ ap t (sym (same_number r.id id h)) ∙ f in cc k)
+    | true ↦ λ h. absurd (let k : true ≡ false = sym e ∙ ap t (sym (eqb-true r.id id h)) ∙ f in cc k)
     | false ↦ λ h. refl
   ] refl,
   same_changed t id change keeps e rows,
@@ -156,7 +146,7 @@ same_changed t id change keeps e (r ∷ rows) = (
 
 moved_same : (t : ℕ → Bool) (o : Option Move) → ((id : ℕ) → is_moved o id ≡ true → t id ≡ true) → (rows : List VolumeRow) → SameBut t rows (moved_rows o rows)
 moved_same t None h rows = same_all t rows
-moved_same t (Some m) h rows = same_changed t m.id (at_place m.parent m.name) (λ r. refl) (h m.id (equal_itself m.id)) rows
+moved_same t (Some m) h rows = same_changed t m.id (at_place m.parent m.name) (λ r. refl) (h m.id (eqb-itself m.id)) rows
 
 settings_keep_id : (s : Settings) (r : VolumeRow) → (with_settings s r).id ≡ r.id
 unfolding with_settings
@@ -168,43 +158,36 @@ settings_keep_forks s r = refl
 
 set_same : (t : ℕ → Bool) (o : Option SetNode) → ((id : ℕ) → is_set o id ≡ true → t id ≡ true) → (rows : List VolumeRow) → SameBut t rows (set_rows o rows)
 set_same t None h rows = same_all t rows
-set_same t (Some s) h rows = same_changed t s.id (with_settings s.settings) (settings_keep_id s.settings) (h s.id (equal_itself s.id)) rows
+set_same t (Some s) h rows = same_changed t s.id (with_settings s.settings) (settings_keep_id s.settings) (h s.id (eqb-itself s.id)) rows
 
 modified_same : (t : ℕ → Bool) (now : ℕ) (o : Option NodeId) → ((id : ℕ) → is_modified o id ≡ true → t id ≡ true) → (rows : List VolumeRow) → SameBut t rows (modified_rows now o rows)
 modified_same t now None h rows = same_all t rows
-modified_same t now (Some dir) h rows = same_changed t dir.0 (modified_at now) (λ r. refl) (h dir.0 (equal_itself dir.0)) rows
+modified_same t now (Some dir) h rows = same_changed t dir.0 (modified_at now) (λ r. refl) (h dir.0 (eqb-itself dir.0)) rows
 
 -- the rows behind those that come, as a plan leaves them
 abbrev pub later_rows : PlanState → List VolumeRow → List VolumeRow
 later_rows p rows = modified_rows p.moment p.modified_dir_too (modified_rows p.moment p.modified_dir (set_rows p.set (moved_rows p.moved rows)))
 
-or_true : (a b : Bool) → b ≡ true → (a || b) ≡ true
-or_true true b e = refl
-or_true false b e = e
-
-or_first : (a b : Bool) → a ≡ true → (a || b) ≡ true
-or_first a b e = ap (λ x. x || b) e
-
 module _ (p : PlanState) where
   come_touched : (id : ℕ) → is_come p.come id ≡ true → is_touched p id ≡ true
   unfolding is_touched
-  come_touched id e = or_true (is_gone p.gone id) _ (or_first (is_come p.come id) _ e)
+  come_touched id e = or_right (is_gone p.gone id) _ (or_left (is_come p.come id) _ e)
 
   moved_touched : (id : ℕ) → is_moved p.moved id ≡ true → is_touched p id ≡ true
   unfolding is_touched
-  moved_touched id e = or_true (is_gone p.gone id) _ (or_true (is_come p.come id) _ (or_first (is_moved p.moved id) _ e))
+  moved_touched id e = or_right (is_gone p.gone id) _ (or_right (is_come p.come id) _ (or_left (is_moved p.moved id) _ e))
 
   set_touched : (id : ℕ) → is_set p.set id ≡ true → is_touched p id ≡ true
   unfolding is_touched
-  set_touched id e = or_true (is_gone p.gone id) _ (or_true (is_come p.come id) _ (or_true (is_moved p.moved id) _ (or_first (is_set p.set id) _ e)))
+  set_touched id e = or_right (is_gone p.gone id) _ (or_right (is_come p.come id) _ (or_right (is_moved p.moved id) _ (or_left (is_set p.set id) _ e)))
 
   modified_touched : (id : ℕ) → is_modified p.modified_dir id ≡ true → is_touched p id ≡ true
   unfolding is_touched
-  modified_touched id e = or_true (is_gone p.gone id) _ (or_true (is_come p.come id) _ (or_true (is_moved p.moved id) _ (or_true (is_set p.set id) _ (or_first (is_modified p.modified_dir id) _ e))))
+  modified_touched id e = or_right (is_gone p.gone id) _ (or_right (is_come p.come id) _ (or_right (is_moved p.moved id) _ (or_right (is_set p.set id) _ (or_left (is_modified p.modified_dir id) _ e))))
 
   modified_too_touched : (id : ℕ) → is_modified p.modified_dir_too id ≡ true → is_touched p id ≡ true
   unfolding is_touched
-  modified_too_touched id e = or_true (is_gone p.gone id) _ (or_true (is_come p.come id) _ (or_true (is_moved p.moved id) _ (or_true (is_set p.set id) _ (or_true (is_modified p.modified_dir id) _ e))))
+  modified_too_touched id e = or_right (is_gone p.gone id) _ (or_right (is_come p.come id) _ (or_right (is_moved p.moved id) _ (or_right (is_set p.set id) _ (or_right (is_modified p.modified_dir id) _ e))))
 
   pub later_same : (rows : List VolumeRow) → SameBut (is_touched p) rows (later_rows p rows)
   later_same rows =
@@ -272,24 +255,16 @@ same_key : (x y : VolumeRow) → x.id ≡ y.id → key_of_row (node_row x) ≡ k
 unfolding node_record
 same_key x y e = ap (λ n. node_tag ∷ long_bytes n) e
 
-pub first_false : (a b : Bool) → (a || b) ≡ false → a ≡ false
-first_false true b e = absurd (cc)
-first_false false b e = refl
-
-pub second_false : (a b : Bool) → (a || b) ≡ false → b ≡ false
-second_false true b e = absurd (cc)
-second_false false b e = e
-
 same_nodes : (t : ℕ → Bool) (q : List ℕ) (xs ys : List VolumeRow) → SameBut t xs ys → any_at (passing t ys) q ≡ false → found (nodes_in xs) q ≡ found (nodes_in ys) q
 same_nodes t q [] [] s n = refl
 same_nodes t q [] (y ∷ ys) s n = absurd s
 same_nodes t q (x ∷ xs) [] s n = absurd s
 same_nodes t q (x ∷ xs) (y ∷ ys) s n = elim (t x.id) as (λ b. t x.id ≡ b → any_at (map node_row (cond b (y ∷ filter (λ r. t r.id) ys) (filter (λ r. t r.id) ys))) q ≡ false → found (nodes_in (x ∷ xs)) q ≡ found (nodes_in (y ∷ ys)) q) [
   | true ↦ λ e m.
-      let there = first_false (are_one q (key_of_row (node_row y))) (any_at (passing t ys) q) m in
+      let there = left_false (are_one q (key_of_row (node_row y))) (any_at (passing t ys) q) m in
       let here = ap (are_one q) (same_key x y s.0) ∙ there in
       ap (λ b. cond b (Some (record_of (node_row x)).value) (found (nodes_in xs) q)) here
-      ∙ same_nodes t q xs ys s.2 (second_false (are_one q (key_of_row (node_row y))) (any_at (passing t ys) q) m)
+      ∙ same_nodes t q xs ys s.2 (right_false (are_one q (key_of_row (node_row y))) (any_at (passing t ys) q) m)
       ∙ sym (ap (λ b. cond b (Some (record_of (node_row y)).value) (found (nodes_in ys) q)) there)
   | false ↦ λ e m.
       ap (cond (are_one q (key_of_row (node_row x))) (Some (record_of (node_row x)).value)) (same_nodes t q xs ys s.2 m)
@@ -308,9 +283,9 @@ same_passing t q (x ∷ xs) (y ∷ ys) s =
     ∙ ap (λ n. any_at (map node_row (cond (t n) (y ∷ filter (λ r. t r.id) ys) (filter (λ r. t r.id) ys))) q) s.0
 
 last_passes : (t : ℕ → Bool) (q : List ℕ) (rows : List VolumeRow) (r : VolumeRow) → t r.id ≡ true → any_at (passing t (rows ++ r ∷ [])) q ≡ false → are_one q (key_of_row (node_row r)) ≡ false
-last_passes t q [] r e n = first_false (are_one q (key_of_row (node_row r))) false (subst (λ b. any_at (map node_row (cond b (r ∷ []) [])) q ≡ false) e n)
+last_passes t q [] r e n = left_false (are_one q (key_of_row (node_row r))) false (subst (λ b. any_at (map node_row (cond b (r ∷ []) [])) q ≡ false) e n)
 last_passes t q (x ∷ rows) r e n = last_passes t q rows r e (elim (t x.id) as (λ b. any_at (map node_row (cond b (x ∷ filter (λ r. t r.id) (rows ++ r ∷ [])) (filter (λ r. t r.id) (rows ++ r ∷ [])))) q ≡ false → any_at (passing t (rows ++ r ∷ [])) q ≡ false) [
-  | true ↦ λ m. second_false (are_one q (key_of_row (node_row x))) (any_at (passing t (rows ++ r ∷ [])) q) m
+  | true ↦ λ m. right_false (are_one q (key_of_row (node_row x))) (any_at (passing t (rows ++ r ∷ [])) q) m
   | false ↦ λ m. m
 ] n)
 
@@ -320,7 +295,7 @@ last_missed q (x ∷ rows) r e = ap (cond (are_one q (key_of_row (node_row x))) 
 
 come_nodes : (t : ℕ → Bool) (q : List ℕ) (o : Option VolumeRow) (rows : List VolumeRow) → ((id : ℕ) → is_come o id ≡ true → t id ≡ true) → any_at (passing t (come_rows o rows)) q ≡ false → found (nodes_in rows) q ≡ found (nodes_in (come_rows o rows)) q
 come_nodes t q None rows h n = refl
-come_nodes t q (Some r) rows h n = sym (last_missed q rows r (last_passes t q rows r (h r.id (equal_itself r.id)) n))
+come_nodes t q (Some r) rows h n = sym (last_missed q rows r (last_passes t q rows r (h r.id (eqb-itself r.id)) n))
 
 -- at a key that no touched node has, the nodes have the same
 pub nodes_stay : (p : PlanState) (rows : List VolumeRow) (q : List ℕ) → any_at (passing (is_touched p) (later_rows p (come_rows p.come rows))) q ≡ false → found (nodes_in rows) q ≡ found (nodes_in (later_rows p (come_rows p.come rows))) q

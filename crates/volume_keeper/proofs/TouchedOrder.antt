@@ -3,6 +3,7 @@ use Rattle.std.proofs.Common.{◌≡◌, ◌∙◌, ℕ, ◌<◌, Bool, true, fa
 use Rattle.volume_spec.specs.ForkEffect.{fork_of}
 use Rattle.std.specs.Prelude.{Option, Some, None, IfSome, option_map, nat_lt, ◌==◌}
 use Rattle.std.specs.List.{filter, find, list_all, list_any}
+use Rattle.std.proofs.lemmas.Bool.{eqb-true}
 use Rattle.afp_base.specs.declared.ids.NodeId.{NodeId}
 use Rattle.volume_spec.specs.VolumeState.{Row as VolumeRow}
 use Rattle.volume_spec.specs.Edits.{bare}
@@ -17,8 +18,8 @@ use Rattle.volume_keeper.specs.Changes.{put_of}
 use Rattle.volume_spec.specs.OpenFork.{file_of}
 use Rattle.volume_tree.specs.Shown.{fork_at}
 use Rattle.volume_keeper.specs.lemma.Steps.{length_of, node_put, nodes_put, sized}
-use Rattle.volume_keeper.proofs.PlanSteps.{same_number}
-use Rattle.volume_keeper.proofs.GoneRecords.{HasFitForks, first_true, second_true, higher}
+use Rattle.volume_keeper.proofs.GoneRecords.{HasFitForks, higher}
+use Rattle.afp_base.proofs.Facts.{left_true, right_true}
 
 -- whether an id is among some
 abbrev among : List NodeId → ℕ → Bool
@@ -34,27 +35,27 @@ those ids rows = filter (λ r. among ids r.id) rows
 above : (i : NodeId) (ids : List NodeId) (x : ℕ) → list_all (λ (t : NodeId). nat_lt i.0 t.0) ids ≡ true → among ids x ≡ true → i.0 < x
 above i [] x a e = absurd (cc)
 above i (t ∷ ids) x a e = elim (x == t.0) as (λ b. x == t.0 ≡ b → (b || among ids x) ≡ true → i.0 < x) [
-  | true ↦ λ h g. let low : nat_lt i.0 t.0 ≡ true = first_true (nat_lt i.0 t.0) _ a in grind (arith, h, low)
-  | false ↦ λ h g. above i ids x (second_true (nat_lt i.0 t.0) _ a) g
+  | true ↦ λ h g. let low : nat_lt i.0 t.0 ≡ true = left_true (nat_lt i.0 t.0) _ a in grind (arith, h, low)
+  | false ↦ λ h g. above i ids x (right_true (nat_lt i.0 t.0) _ a) g
 ] refl e
 
 -- where an id is none of the rows', it does not matter
 skipped : (i : NodeId) (ids : List NodeId) (low : ℕ) (rows : List VolumeRow) → i.0 < low → rises_from (λ (r : VolumeRow). r.id) low rows ≡ true → those (i ∷ ids) rows ≡ those ids rows
 skipped i ids low [] h e = refl
 skipped i ids low (r ∷ rows) h e =
-    let up : nat_lt low r.id ≡ true = first_true (nat_lt low r.id) _ e in
+    let up : nat_lt low r.id ≡ true = left_true (nat_lt low r.id) _ e in
     let far : i.0 < r.id = grind (arith, h, up) in
     let differs : (r.id == i.0) ≡ false = grind (arith, far) in
-    let rest = skipped i ids r.id rows far (second_true (nat_lt low r.id) _ e) in
+    let rest = skipped i ids r.id rows far (right_true (nat_lt low r.id) _ e) in
     (λ k. cond (differs k || among ids r.id) (r ∷ rest k) (rest k))
 
 skipped_here : (i : NodeId) (ids : List NodeId) (rows : List VolumeRow) → rises_from (λ (r : VolumeRow). r.id) i.0 rows ≡ true → those (i ∷ ids) rows ≡ those ids rows
 skipped_here i ids [] e = refl
 skipped_here i ids (r ∷ rows) e =
-    let up : nat_lt i.0 r.id ≡ true = first_true (nat_lt i.0 r.id) _ e in
+    let up : nat_lt i.0 r.id ≡ true = left_true (nat_lt i.0 r.id) _ e in
     let far : i.0 < r.id = grind (arith, up) in
     let differs : (r.id == i.0) ≡ false = grind (arith, far) in
-    let rest = skipped i ids r.id rows far (second_true (nat_lt i.0 r.id) _ e) in
+    let rest = skipped i ids r.id rows far (right_true (nat_lt i.0 r.id) _ e) in
     (λ k. cond (differs k || among ids r.id) (r ∷ rest k) (rest k))
 
 -- the row of an id comes before those of higher ids
@@ -62,10 +63,10 @@ first_of : (i : NodeId) (ids : List NodeId) (low : ℕ) (rows : List VolumeRow) 
     → puts (those (i ∷ ids) rows) ≡ node_put (find (λ (r : VolumeRow). r.id == i.0) rows) ++ puts (those ids rows)
 first_of i ids low [] a e = refl
 first_of i ids low (r ∷ rows) a e =
-    let rest = second_true (nat_lt low r.id) _ e in
+    let rest = right_true (nat_lt low r.id) _ e in
     elim (r.id == i.0) as (λ b. r.id == i.0 ≡ b → puts (cond (b || among ids r.id) (r ∷ those (i ∷ ids) rows) (those (i ∷ ids) rows)) ≡ node_put (cond b (Some r) (find (λ (r : VolumeRow). r.id == i.0) rows)) ++ puts (cond (among ids r.id) (r ∷ those ids rows) (those ids rows))) [
       | true ↦ λ h.
-          let same = same_number r.id i.0 h in
+          let same = eqb-true r.id i.0 h in
           let absent : among ids r.id ≡ false = not_among (among ids r.id) (λ t. absurd (let far = above i ids r.id a t in omega (arith, far, same))) in
           ap (λ l. put_of (row.Node (node_of r)) ∷ puts l) (skipped_here i ids rows (ap (λ k. rises_from (λ (r : VolumeRow). r.id) k rows) (sym same) ∙ rest))
           ∙ ap (λ b. put_of (row.Node (node_of r)) ∷ puts (cond b (r ∷ those ids rows) (those ids rows))) (sym absent)
@@ -94,8 +95,8 @@ by_ids [] rows a e = ap puts (none rows)
     none [] = refl
     none (r ∷ rows) = none rows
 by_ids (i ∷ ids) rows a e =
-    first_of i ids 0 rows (first_true (list_all (λ (t : NodeId). nat_lt i.0 t.0) ids) _ a) e
-    ∙ ap (λ l. node_put (find (λ (r : VolumeRow). r.id == i.0) rows) ++ l) (by_ids ids rows (second_true (list_all (λ (t : NodeId). nat_lt i.0 t.0) ids) _ a) e)
+    first_of i ids 0 rows (left_true (list_all (λ (t : NodeId). nat_lt i.0 t.0) ids) _ a) e
+    ∙ ap (λ l. node_put (find (λ (r : VolumeRow). r.id == i.0) rows) ++ l) (by_ids ids rows (right_true (list_all (λ (t : NodeId). nat_lt i.0 t.0) ids) _ a) e)
 
 -- the records of the nodes that a plan touches, one after the other
 pub touched_are_put : (p : PlanState) (ids : List NodeId) → IsTouched p ids → (rows : List VolumeRow) → rises_from (λ (r : VolumeRow). r.id) 0 rows ≡ true

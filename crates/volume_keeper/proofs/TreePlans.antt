@@ -2,6 +2,7 @@
 use Rattle.std.proofs.Common.{◌≡◌, ◌∙◌, ℕ, Bool, true, false, cond, not, List, [], ◌∷◌, ◌++◌, ◌||◌, refl, ap}
 use Rattle.std.specs.Prelude.{Option, Some, None, ◌&&◌, ◌==◌}
 use Rattle.std.specs.List.{filter, list_all, list_any}
+use Rattle.std.proofs.lemmas.Bool.{and_from, eqb-true, or_right}
 use Rattle.afp_base.specs.declared.ids.NodeId.{NodeId}
 use Rattle.volume_spec.specs.VolumeState.{Row as VolumeRow, Comment, Icon, Appl, VolumeState}
 use Rattle.volume_spec.specs.Edits.{with_changed, without, change_at, at_place, modified_at}
@@ -11,15 +12,8 @@ use Rattle.volume_spec.specs.Desktop.{IsDesktop}
 use Rattle.volume_spec.specs.DesktopLaws.{GoneNodeKeepsDesktop, SoundHasDesktop, DesktopStands, with_desktop}
 use Rattle.volume_tree.specs.Planned.{Move, SetNode, PlanState, IsPlan, planned, gone_rows, gone_comments, gone_appls, come_rows, moved_rows, set_rows, modified_rows}
 use Rattle.volume_keeper.specs.Whole.{without_desktop}
-use Rattle.volume_keeper.proofs.PlanSteps.{later_rows, same_number}
-use Rattle.volume_keeper.proofs.GoneRecords.{first_true, second_true}
-
-both_true : (a b : Bool) → a ≡ true → b ≡ true → (a && b) ≡ true
-both_true a b p q = ap (λ x. x && b) p ∙ q
-
-or_true : (a b : Bool) → b ≡ true → (a || b) ≡ true
-or_true true b e = refl
-or_true false b e = e
+use Rattle.volume_keeper.proofs.PlanSteps.{later_rows}
+use Rattle.afp_base.proofs.Facts.{left_true, right_true}
 
 -- ---- a test of rows that asks for what the steps of a plan leave
 
@@ -61,7 +55,7 @@ module _ (t : VolumeRow → Bool) where
     | true ↦ λ h g. ap (λ b. list_any t (cond (not b) (r ∷ filter (λ r. not (r.id == gone)) rows) (filter (λ r. not (r.id == gone)) rows))) (ap (λ n. n == gone) (of_id r h) ∙ other) ∙ ap (λ b. b || list_any t (filter (λ r. not (r.id == gone)) rows)) h
     | false ↦ λ h g. elim (r.id == gone) as (λ b. list_any t (cond (not b) (r ∷ filter (λ r. not (r.id == gone)) rows) (filter (λ r. not (r.id == gone)) rows)) ≡ true) [
       | true ↦ stays_any id gone of_id other rows g
-      | false ↦ or_true (t r) (list_any t (filter (λ r. not (r.id == gone)) rows)) (stays_any id gone of_id other rows g)
+      | false ↦ or_right (t r) (list_any t (filter (λ r. not (r.id == gone)) rows)) (stays_any id gone of_id other rows g)
     ]
   ] refl e
 
@@ -86,37 +80,37 @@ file_set id s r = refl
 
 module _ (p : PlanState) (rows : List VolumeRow) where
   node_after : (id : ℕ) → has_node (gone_rows p.gone rows) id ≡ true → has_node (later_rows p (come_rows p.come (gone_rows p.gone rows))) id ≡ true
-  node_after id e = after_any (λ r. r.id == id) p id (λ a b r. refl) (node_set id) (λ r. refl) (λ r h. same_number r.id id h) rows e
+  node_after id e = after_any (λ r. r.id == id) p id (λ a b r. refl) (node_set id) (λ r. refl) (λ r h. eqb-true r.id id h) rows e
 
   file_after : (id : ℕ) → has_file (gone_rows p.gone rows) id ≡ true → has_file (later_rows p (come_rows p.come (gone_rows p.gone rows))) id ≡ true
-  file_after id e = after_any (λ r. (r.id == id) && not r.dir) p id (λ a b r. refl) (file_set id) (λ r. refl) (λ r h. same_number r.id id (first_true (r.id == id) (not r.dir) h)) rows e
+  file_after id e = after_any (λ r. (r.id == id) && not r.dir) p id (λ a b r. refl) (file_set id) (λ r. refl) (λ r h. eqb-true r.id id (left_true (r.id == id) (not r.dir) h)) rows e
 
 -- what stands on nodes, without what stands on the node that goes, stands on those that are left
 module _ {A : Type 0} (node : A → ℕ) (there later : ℕ → Bool) (gone : ℕ) (step : (id : ℕ) → (id == gone) ≡ false → there id ≡ true → later id ≡ true) where
   left_noted : (xs : List A) → list_all (λ x. there (node x)) xs ≡ true → list_all (λ x. later (node x)) (filter (λ x. not (node x == gone)) xs) ≡ true
   left_noted [] e = refl
   left_noted (x ∷ xs) e =
-      let rest = left_noted xs (second_true (there (node x)) _ e) in
+      let rest = left_noted xs (right_true (there (node x)) _ e) in
       elim (node x == gone) as (λ b. node x == gone ≡ b → list_all (λ x. later (node x)) (cond (not b) (x ∷ filter (λ x. not (node x == gone)) xs) (filter (λ x. not (node x == gone)) xs)) ≡ true) [
         | true ↦ λ h. rest
-        | false ↦ λ h. both_true (later (node x)) _ (step (node x) h (first_true (there (node x)) _ e)) rest
+        | false ↦ λ h. and_from (later (node x)) _ (step (node x) h (left_true (there (node x)) _ e)) rest
       ] refl
 
 each_noted : {A : Type 0} (node : A → ℕ) (there later : ℕ → Bool) → ((id : ℕ) → there id ≡ true → later id ≡ true) → (xs : List A) → list_all (λ x. there (node x)) xs ≡ true → list_all (λ x. later (node x)) xs ≡ true
 each_noted node there later step [] e = refl
-each_noted node there later step (x ∷ xs) e = both_true (later (node x)) _ (step (node x) (first_true (there (node x)) _ e)) (each_noted node there later step xs (second_true (there (node x)) _ e))
+each_noted node there later step (x ∷ xs) e = and_from (later (node x)) _ (step (node x) (left_true (there (node x)) _ e)) (each_noted node there later step xs (right_true (there (node x)) _ e))
 
 comments_left : (gone : Option NodeId) (rows : List VolumeRow) (xs : List Comment) → list_all (λ (c : Comment). has_node rows c.node) xs ≡ true → list_all (λ (c : Comment). has_node (gone_rows gone rows) c.node) (gone_comments gone xs) ≡ true
 comments_left None rows xs e = e
-comments_left (Some g) rows xs e = left_noted (λ (c : Comment). c.node) (has_node rows) (has_node (without g.0 rows)) g.0 (λ id h. stays_any (λ r. r.id == id) id g.0 (λ r k. same_number r.id id k) h rows) xs e
+comments_left (Some g) rows xs e = left_noted (λ (c : Comment). c.node) (has_node rows) (has_node (without g.0 rows)) g.0 (λ id h. stays_any (λ r. r.id == id) id g.0 (λ r k. eqb-true r.id id k) h rows) xs e
 
 appls_left : (gone : Option NodeId) (rows : List VolumeRow) (xs : List Appl) → list_all (λ (a : Appl). has_file rows a.node) xs ≡ true → list_all (λ (a : Appl). has_file (gone_rows gone rows) a.node) (gone_appls gone xs) ≡ true
 appls_left None rows xs e = e
-appls_left (Some g) rows xs e = left_noted (λ (a : Appl). a.node) (has_file rows) (has_file (without g.0 rows)) g.0 (λ id h. stays_any (λ r. (r.id == id) && not r.dir) id g.0 (λ r k. same_number r.id id (first_true (r.id == id) (not r.dir) k)) h rows) xs e
+appls_left (Some g) rows xs e = left_noted (λ (a : Appl). a.node) (has_file rows) (has_file (without g.0 rows)) g.0 (λ id h. stays_any (λ r. (r.id == id) && not r.dir) id g.0 (λ r k. eqb-true r.id id (left_true (r.id == id) (not r.dir) k)) h rows) xs e
 
 noted : (v : VolumeState) → IsSoundVolume v → (list_all (λ (c : Comment). has_node v.rows c.node) v.comments ≡ true) × (list_all (λ (a : Appl). has_file v.rows a.node) v.appls ≡ true)
 unfolding has_noted_nodes
-noted v sound = (first_true _ _ sound.notes, second_true (list_all (λ (c : Comment). has_node v.rows c.node) v.comments) _ sound.notes)
+noted v sound = (left_true _ _ sound.notes, right_true (list_all (λ (c : Comment). has_node v.rows c.node) v.comments) _ sound.notes)
 
 gone_desktop : GoneNodeKeepsDesktop → (gone : Option NodeId) (comments : List Comment) (icons : List Icon) (appls : List Appl) → IsDesktop comments icons appls → IsDesktop (gone_comments gone comments) icons (gone_appls gone appls)
 gone_desktop law None comments icons appls d = d
@@ -127,7 +121,7 @@ module _ (goes : GoneNodeKeepsDesktop) (has : SoundHasDesktop) (stands : Desktop
   unfolding has_noted_nodes planned
   noted_after v p sound =
       let two = noted v sound in
-      both_true _ _
+      and_from _ _
       (each_noted (λ (c : Comment). c.node) (has_node (gone_rows p.gone v.rows)) (has_node (later_rows p (come_rows p.come (gone_rows p.gone v.rows)))) (node_after p v.rows) (gone_comments p.gone v.comments) (comments_left p.gone v.rows v.comments two.0))
       (each_noted (λ (a : Appl). a.node) (has_file (gone_rows p.gone v.rows)) (has_file (later_rows p (come_rows p.come (gone_rows p.gone v.rows)))) (file_after p v.rows) (gone_appls p.gone v.appls) (appls_left p.gone v.rows v.appls two.1))
 

@@ -1,8 +1,12 @@
 -- A volume whose forks have zeros alone, and whose desktop database is empty, is sound where the volume is.
-use Rattle.std.proofs.Common.{◌≡◌, ◌∙◌, ℕ, zero, suc, ◌+◌, Bool, true, false, cond, not, List, [], ◌∷◌, ◌++◌, ◌||◌, map, length, refl, sym, ap, append_assoc}
+use Rattle.std.proofs.Common.{◌≡◌, ◌∙◌, ℕ, zero, suc, ◌+◌, Bool, true, false, cond, not, List, [], ◌∷◌, ◌++◌, ◌||◌, map, length, refl, ap}
 use Rattle.std.specs.Prelude.{Option, Some, None, IfSome, is_some, option_map, unwrap_or, nat_le, nat_lt, ◌&&◌, ◌==◌, bit_and, bytes_eq, fold, flat_map, replicate}
 use Rattle.std.specs.List.{find, list_all, list_any}
 use Rattle.std.proofs.lemmas.Slice.Eq.{bytes_eq-Decides}
+use Rattle.std.proofs.lemmas.Bool.{and_from}
+use Rattle.std.proofs.lemmas.List.{append-nil}
+use Rattle.std.proofs.lemmas.List.Concat.{flat_map-append}
+use Rattle.std.proofs.lemmas.List.Folds.{list_all-map}
 use Rattle.afp_base.specs.Apart.{are_apart}
 use Rattle.volume_spec.specs.VolumeState.{Row as VolumeRow, VolumeState, root_id, root_parent, first_id}
 use Rattle.volume_spec.specs.Shared.{name_of}
@@ -10,13 +14,13 @@ use Rattle.volume_spec.specs.Order.{rises_from}
 use Rattle.afp_base.specs.Limits.{most_fork_bytes}
 use Rattle.volume_spec.specs.SoundVolume.{IsSoundVolume, is_tree, is_in_place, leads_to_root, has_node, has_apart_names, are_named_alike, has_noted_nodes, keeps_limits, fork_bytes, is_formed_volume, is_formed, is_named, is_in_order, has_rising_ids, most_nodes, last_next_id, file_attributes, dir_attributes}
 use Rattle.volume_spec.specs.Walk.{row_at}
-use Rattle.volume_spec.proofs.TestedLists.{any-map, apart-map, length-mapped}
 use Rattle.volume_keeper_records.specs.declared.rows.TableRow.{TableRow}
 use Rattle.volume_keeper_records.specs.declared.rows.TableRow.TheVariants as row
 use Rattle.volume_keeper_records.specs.Image.{node_of, rows_of, tables_of, fork_blocks}
 use Rattle.volume_tree.specs.Restored.{loaded_row, restored}
 use Rattle.volume_keeper.specs.lemma.Rebuilt.{head_said, nodes_said}
-use Rattle.volume_keeper.proofs.GoneRecords.{first_true, second_true}
+use Rattle.afp_base.proofs.Facts.{left_true, right_true, then_of}
+use Rattle.afp_base.proofs.ListFacts.{any-map, any-same, apart-map, length-mapped}
 
 -- a row with zeros for the bytes of its forks
 abbrev pub zeroed : VolumeRow → VolumeRow
@@ -25,18 +29,7 @@ zeroed r = record r { data_fork = replicate (length r.data_fork) 0; resource_for
 abbrev pub start : VolumeState → VolumeState
 start v = record v { rows = map zeroed v.rows; comments = []; icons = []; appls = [] }
 
-both_true : (a b : Bool) → a ≡ true → b ≡ true → (a && b) ≡ true
-both_true a b p q = ap (λ x. x && b) p ∙ q
-
 -- ---- tests over a list that was mapped
-
-all-map : {A B : Type 0} (p : B → Bool) (f : A → B) (xs : List A) → list_all p (map f xs) ≡ list_all (λ x. p (f x)) xs
-all-map p f [] = refl
-all-map p f (x ∷ xs) = ap (λ b. p (f x) && b) (all-map p f xs)
-
-any-same : {A : Type 0} (p q : A → Bool) (xs : List A) → ((x : A) → p x ≡ q x) → list_any p xs ≡ list_any q xs
-any-same p q [] e = refl
-any-same p q (x ∷ xs) e = λ i. e x i || any-same p q xs e i
 
 all-same : {A : Type 0} (p q : A → Bool) (xs : List A) → ((x : A) → p x ≡ q x) → list_all p xs ≡ list_all q xs
 all-same p q [] e = refl
@@ -74,7 +67,7 @@ place_same v r = ap (λ b. cond (r.id == root_id) (r.dir && ((r.parent == root_p
 tree_kept : (v : VolumeState) → is_tree v ≡ true → is_tree (start v) ≡ true
 unfolding is_tree
 tree_kept v e =
-    (λ i. apart-map (λ (a : VolumeRow) b. a.id == b.id) zeroed v.rows i && (any-map (λ (r : VolumeRow). r.id == root_id) zeroed v.rows i && (all-map (is_in_place (start v)) zeroed v.rows ∙ all-same (λ r. is_in_place (start v) (zeroed r)) (is_in_place v) v.rows (place_same v)) i)) ∙ e
+    (λ i. apart-map (λ (a : VolumeRow) b. a.id == b.id) zeroed v.rows i && (any-map (λ (r : VolumeRow). r.id == root_id) zeroed v.rows i && (list_all-map (is_in_place (start v)) zeroed v.rows ∙ all-same (λ r. is_in_place (start v) (zeroed r)) (is_in_place v) v.rows (place_same v)) i)) ∙ e
 
 names_kept : (v : VolumeState) → has_apart_names v ≡ true → has_apart_names (start v) ≡ true
 unfolding has_apart_names
@@ -87,12 +80,12 @@ notes_kept v = refl
 limits_kept : (v : VolumeState) → keeps_limits v ≡ true → keeps_limits (start v) ≡ true
 unfolding keeps_limits
 limits_kept v e =
-    let rest = second_true (nat_le (length v.rows) most_nodes) _ e in
-    both_true _ _ (ap (λ n. nat_le n most_nodes) (length-mapped zeroed v.rows) ∙ first_true (nat_le (length v.rows) most_nodes) _ e)
-    (both_true (nat_le (fork_bytes (map zeroed v.rows)) most_fork_bytes) true
+    let rest = right_true (nat_le (length v.rows) most_nodes) _ e in
+    and_from _ _ (ap (λ n. nat_le n most_nodes) (length-mapped zeroed v.rows) ∙ left_true (nat_le (length v.rows) most_nodes) _ e)
+    (and_from (nat_le (fork_bytes (map zeroed v.rows)) most_fork_bytes) true
     (ap (λ n. nat_le n most_fork_bytes)
     (fold-map (λ (r : VolumeRow). length r.data_fork + length r.resource_fork) zeroed (λ (r : VolumeRow). length r.data_fork + length r.resource_fork) (λ r i. length-zeros (length r.data_fork) i + length-zeros (length r.resource_fork) i) 0 v.rows)
-    ∙ first_true (nat_le (fork_bytes v.rows) most_fork_bytes) _ rest) refl)
+    ∙ left_true (nat_le (fork_bytes v.rows) most_fork_bytes) _ rest) refl)
 
 row_formed : (r : VolumeRow) → is_formed (zeroed r) ≡ is_formed r
 row_formed r = λ i. is_named r && cond r.dir ((bit_and r.attributes dir_attributes == r.attributes) && ((length-zeros (length r.data_fork) i == 0) && ((length-zeros (length r.resource_fork) i == 0) && not r.filed))) (bit_and r.attributes file_attributes == r.attributes)
@@ -100,13 +93,13 @@ row_formed r = λ i. is_named r && cond r.dir ((bit_and r.attributes dir_attribu
 formed_kept : (v : VolumeState) → is_formed_volume v ≡ true → is_formed_volume (start v) ≡ true
 unfolding is_formed_volume
 formed_kept v e =
-    let rest = second_true (nat_le first_id v.next_id && nat_le v.next_id last_next_id) _ e in
-    both_true _ _ (first_true (nat_le first_id v.next_id && nat_le v.next_id last_next_id) _ e)
-    (both_true (list_all is_formed (map zeroed v.rows)) true (all-map is_formed zeroed v.rows ∙ all-same (λ r. is_formed (zeroed r)) is_formed v.rows row_formed ∙ first_true (list_all is_formed v.rows) _ rest) refl)
+    let rest = right_true (nat_le first_id v.next_id && nat_le v.next_id last_next_id) _ e in
+    and_from _ _ (left_true (nat_le first_id v.next_id && nat_le v.next_id last_next_id) _ e)
+    (and_from (list_all is_formed (map zeroed v.rows)) true (list_all-map is_formed zeroed v.rows ∙ all-same (λ r. is_formed (zeroed r)) is_formed v.rows row_formed ∙ left_true (list_all is_formed v.rows) _ rest) refl)
 
 order_kept : (v : VolumeState) → is_in_order v ≡ true → is_in_order (start v) ≡ true
 unfolding is_in_order has_rising_ids
-order_kept v e = both_true (rises_from (λ (r : VolumeRow). r.id) 0 (map zeroed v.rows)) true (rises-map (λ (r : VolumeRow). r.id) zeroed 0 v.rows ∙ first_true (rises_from (λ (r : VolumeRow). r.id) 0 v.rows) _ e) refl
+order_kept v e = and_from (rises_from (λ (r : VolumeRow). r.id) 0 (map zeroed v.rows)) true (rises-map (λ (r : VolumeRow). r.id) zeroed 0 v.rows ∙ left_true (rises_from (λ (r : VolumeRow). r.id) 0 v.rows) _ e) refl
 
 pub start_sound : (v : VolumeState) → IsSoundVolume v → IsSoundVolume (start v)
 start_sound v s = record {
@@ -119,10 +112,6 @@ start_sound v s = record {
 }
 
 -- ---- the volume that is restored
-
-flat-append : {A B : Type 0} (f : A → List B) (xs ys : List A) → flat_map f (xs ++ ys) ≡ flat_map f xs ++ flat_map f ys
-flat-append f [] ys = refl
-flat-append f (x ∷ xs) ys = ap (λ l. f x ++ l) (flat-append f xs ys) ∙ sym (append_assoc (f x) (flat_map f xs) (flat_map f ys))
 
 flat-none : {A : Type 0} (make : A → TableRow) → ((a : A) → nodes_said (make a) ≡ []) → (xs : List A) → flat_map nodes_said (map make xs) ≡ []
 flat-none make none [] = refl
@@ -140,17 +129,13 @@ said v =
     let icons : List TableRow = map (λ i. row.Icon i) v.icons in
     let appls : List TableRow = map (λ a. row.Appl a) v.appls in
     let none : flat_map nodes_said (blocks ++ (comments ++ (icons ++ appls))) ≡ [] =
-    flat-append nodes_said blocks (comments ++ (icons ++ appls))
+    flat_map-append nodes_said blocks (comments ++ (icons ++ appls))
     ∙ (λ i. flat-none (λ b. row.Block b) (λ b. refl) (flat_map fork_blocks v.rows) i
-    ++ (flat-append nodes_said comments (icons ++ appls)
+    ++ (flat_map-append nodes_said comments (icons ++ appls)
     ∙ (λ j. flat-none (λ c. row.Comment c) (λ c. refl) v.comments j
-    ++ (flat-append nodes_said icons appls ∙ (λ k. flat-none (λ x. row.Icon x) (λ x. refl) v.icons k ++ flat-none (λ a. row.Appl a) (λ a. refl) v.appls k)) j)) i) in
-    ap (map loaded_row) (flat-append nodes_said nodes (blocks ++ (comments ++ (icons ++ appls))) ∙ ap (λ l. flat_map nodes_said nodes ++ l) none ∙ nil_behind (flat_map nodes_said nodes))
+    ++ (flat_map-append nodes_said icons appls ∙ (λ k. flat-none (λ x. row.Icon x) (λ x. refl) v.icons k ++ flat-none (λ a. row.Appl a) (λ a. refl) v.appls k)) j)) i) in
+    ap (map loaded_row) (flat_map-append nodes_said nodes (blocks ++ (comments ++ (icons ++ appls))) ∙ ap (λ l. flat_map nodes_said nodes ++ l) none ∙ append-nil (flat_map nodes_said nodes))
     ∙ flat-nodes v.rows
-  where
-    nil_behind : {A : Type 0} (xs : List A) → xs ++ [] ≡ xs
-    nil_behind [] = refl
-    nil_behind (x ∷ xs) = ap (λ l. x ∷ l) (nil_behind xs)
 
 -- the root has the volume's name
 some_found : {A : Type 0} (p : A → Bool) (xs : List A) → is_some (find p xs) ≡ list_any p xs
@@ -160,25 +145,21 @@ some_found p (x ∷ xs) = elim (p x) as (λ b. is_some (cond b (Some x) (find p 
 found_both : {A : Type 0} (p q : A → Bool) (xs : List A) → list_all q xs ≡ true → IfSome (find p xs) (λ x. (p x ≡ true) × (q x ≡ true))
 found_both p q [] a = tt
 found_both p q (x ∷ xs) a = elim (p x) as (λ b. p x ≡ b → IfSome (cond b (Some x) (find p xs)) (λ x. (p x ≡ true) × (q x ≡ true))) [
-  | true ↦ λ e. (e, first_true (q x) _ a)
-  | false ↦ λ e. found_both p q xs (second_true (q x) _ a)
+  | true ↦ λ e. (e, left_true (q x) _ a)
+  | false ↦ λ e. found_both p q xs (right_true (q x) _ a)
 ] refl
-
-then_of : (b x y : Bool) → b ≡ true → (cond b x y) ≡ true → x ≡ true
-then_of true x y e h = h
-then_of false x y e h = absurd (cc)
 
 named_root : (v : VolumeState) (o : Option VolumeRow) → IfSome o (λ r. ((r.id == root_id) ≡ true) × (is_in_place v r ≡ true)) → is_some o ≡ true → unwrap_or (option_map (λ (r : VolumeRow). r.name) (option_map zeroed o)) [] ≡ v.name
 named_root v None two some = absurd (cc)
 named_root v (Some r) two some =
     let place = then_of (r.id == root_id) (r.dir && ((r.parent == root_parent) && bytes_eq r.name v.name)) _ two.0 two.1 in
-    (bytes_eq-Decides r.name v.name).0 (second_true (r.parent == root_parent) _ (second_true r.dir _ place))
+    (bytes_eq-Decides r.name v.name).0 (right_true (r.parent == root_parent) _ (right_true r.dir _ place))
 
 rooted : (v : VolumeState) → is_tree v ≡ true → (has_node v.rows root_id ≡ true) × (list_all (is_in_place v) v.rows ≡ true)
 unfolding is_tree
 rooted v e =
-    let two = second_true (are_apart (λ (a : VolumeRow) b. a.id == b.id) v.rows) _ e in
-    (first_true (has_node v.rows root_id) _ two, second_true (has_node v.rows root_id) _ two)
+    let two = right_true (are_apart (λ (a : VolumeRow) b. a.id == b.id) v.rows) _ e in
+    (left_true (has_node v.rows root_id) _ two, right_true (has_node v.rows root_id) _ two)
 
 root_name : (v : VolumeState) → IsSoundVolume v → name_of (map zeroed v.rows) root_id ≡ v.name
 unfolding row_at

@@ -93,8 +93,9 @@ pub(crate) fn make_fresh<K: Keeper>(
     ensures fresh { IfOk result (λ held. held.state ≡ fresh_volume name.now now) }
     ensures records { Becomes (IsMake name.now now result) (K.records keeper.old) (K.records keeper.new) }
     ensures cause { HasLoadCause (K.sure keeper.old) (K.faults keeper.old) (K.faults keeper.new) result }
-    ensures told { TellsOn (K.faults keeper.old) (K.faults keeper.new) (K.records keeper.old) (K.records keeper.new) }
+    ensures told { TellsOn (K.steady keeper.old) (K.faults keeper.old) (K.faults keeper.new) (K.records keeper.old) (K.records keeper.new) }
     ensures sure { K.sure keeper.new ≡ K.sure keeper.old }
+    ensures steady { K.steady keeper.new ≡ K.steady keeper.old }
 {
     fresh_volumes_are_sound();
     records_are_images();

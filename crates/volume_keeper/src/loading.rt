@@ -77,8 +77,9 @@ pub fn load<K: Keeper>(
     ensures named { IfOk result (λ held. held.state.name ≡ name.now) }
     ensures records { Becomes (IsLoad name.now now result) (K.records keeper.old) (K.records keeper.new) }
     ensures cause { HasLoadCause (K.sure keeper.old) (K.faults keeper.old) (K.faults keeper.new) result }
-    ensures told { TellsOn (K.faults keeper.old) (K.faults keeper.new) (K.records keeper.old) (K.records keeper.new) }
+    ensures told { TellsOn (K.steady keeper.old) (K.faults keeper.old) (K.faults keeper.new) (K.records keeper.old) (K.records keeper.new) }
     ensures sure { K.sure keeper.new ≡ K.sure keeper.old }
+    ensures steady { K.steady keeper.new ≡ K.steady keeper.old }
 {
     match read_all(alloc, keeper) {
         Ok(records) => {

@@ -3,6 +3,7 @@ use Rattle.std.proofs.Common.{◌==◌, ◌≡◌, ◌∙◌, ap, sym, refl, sub
 use Rattle.std.specs.Prelude.{Result, Ok, Err, IfSome, nat_lt}
 use Rattle.std.proofs.Math.Seq.{take-length}
 use Rattle.std.proofs.lemmas.Bool.{cases_lt, eq-eqb, lt-ltb}
+use Rattle.std.proofs.lemmas.Option.{same_Some}
 use Rattle.afp_base.proofs.DefinitionLaws.{length-resized}
 use Rattle.afp_base.specs.ForkBytes.{Reaches, resized, splice}
 use Rattle.volume_spec.proofs.Formed.{limit-parts}
@@ -50,7 +51,7 @@ pub committed_given : (old : KeptState) (now id : ℕ) (resource writes told : B
 committed_given old now id resource writes told before after some is room (Ok done) new c =
     (room, c ∙ ap (λ b. record old { state = fork_effect now id resource after b old.state }) is ∙ ap (λ b. record old { state = given now id resource b after old.state }) (sym some))
 committed_given old now id resource writes told before after some is room (Err (Refused code)) new c = absurd c
-committed_given old now id resource writes told before after some is room (Err Failed) new c = (room, some, c)
+committed_given old now id resource writes told before after some is room (Err Failed) new c = (room, some, c.0, c.1)
 committed_given old now id resource writes told before after some is room (Err Memory) new c = c
 
 -- a plan of a fork for which there is room
@@ -112,10 +113,7 @@ same_change v w is id resource plan change = record {
 pub held_after : (old new : Option Records) (cs : List Change) (first last : Records) → IfSome old (λ (kept : Records). kept ≡ first) → Makes (changed cs) old new → changed cs first ≡ last → IfSome new (λ (kept : Records). kept ≡ last)
 held_after old None cs first last is makes turns = tt
 held_after None (Some n) cs first last is makes turns = absurd (cc)
-held_after (Some o) (Some n) cs first last is makes turns = of_some n (changed cs o) makes ∙ ap (changed cs) is ∙ turns
-  where
-    of_some : (a b : Records) → Some a ≡ Some b → a ≡ b
-    of_some a b e = cc e
+held_after (Some o) (Some n) cs first last is makes turns = same_Some n (changed cs o) makes ∙ ap (changed cs) is ∙ turns
 
 -- the file whose fork is changed
 pub file_few : ForksAreFew → (v : VolumeState) → IsSoundVolume v → (id : ℕ) (resource : Bool) (bytes : List ℕ) → has_file v.rows id ≡ true → ((file : Row) → row_at v.rows id ≡ Some file → bytes ≡ fork_of resource file) → length bytes ≤ most_fork_bytes

@@ -1,12 +1,12 @@
 -- A volume that was loaded.
-use Rattle.std.proofs.Common.{◌≡◌, ◌∙◌, refl, sym, ap, ℕ, List, [], ◌∷◌, length, Option, Some, None}
+use Rattle.std.proofs.Common.{Bool, true, false, ◌≡◌, ◌∙◌, refl, sym, ap, ℕ, List, [], ◌∷◌, length, Option, Some, None}
 use Rattle.std.specs.Prelude.{Ok, IfSome, IsSome}
 use Rattle.std.specs.FinMap as map
 use Rattle.std.specs.Cmp.Lexicographic.{slice_cmp}
 use Rattle.std.specs.Ordering.{nat_cmp}
 use Rattle.volume_spec.specs.VolumeState.{fresh_volume}
 use Rattle.volume_keeper_commit.specs.Loading.{IsLoadedFrom}
-use Rattle.record_keeper.specs.Records.{Records}
+use Rattle.record_keeper.specs.Records.{Records, steady_records}
 use Rattle.volume_keeper.specs.Loading.{Becomes, IsLoad}
 use Rattle.volume_keeper.specs.Whole.{HeldValue}
 
@@ -39,3 +39,14 @@ loaded_from name now held (Some old) (Some new) becomes told = record {
   good = becomes.good;
   image = λ some. becomes.image ∙ becomes.same (λ none. some (empty_of_none old none));
 }
+
+-- the same of the records of a keeper that goes on telling them
+pub fresh_where_steady : (steady : Bool) (name : List ℕ) (now : ℕ) (held : HeldValue) (old new : Option Records) → Becomes (IsLoad name now (Ok held)) old new → (steady ≡ true → IsSome old → IsSome new)
+    → IfSome (steady_records steady old) (λ (kept : Records). kept ≡ map.empty → held.state ≡ fresh_volume name now)
+fresh_where_steady true name now held old new becomes told = fresh_where_empty name now held old new becomes (told refl)
+fresh_where_steady false name now held old new becomes told = tt
+
+pub loaded_steady : (steady : Bool) (name : List ℕ) (now : ℕ) (held : HeldValue) (old new : Option Records) → Becomes (IsLoad name now (Ok held)) old new → (steady ≡ true → IsSome old → IsSome new)
+    → IfSome (steady_records steady old) (λ (kept : Records). IsLoadedFrom name kept held.state)
+loaded_steady true name now held old new becomes told = loaded_from name now held old new becomes (told refl)
+loaded_steady false name now held old new becomes told = tt

@@ -1,5 +1,5 @@
 -- What becomes of a volume and its keeper in a call (this profile).
-use Rattle.std.specs.Prelude.{◌≡◌, ◌<◌, ℕ, false, List, Some, None, Result, Ok, Err}
+use Rattle.std.specs.Prelude.{◌≡◌, ◌<◌, ◌++◌, ◌∷◌, [], ℕ, false, List, Some, None, Result, Ok, Err}
 use Rattle.volume_spec.specs.Shared.{Opened}
 use Rattle.volume_spec.specs.TreeSteps.{TreeCall, tree_effect, tree_refusal}
 use Rattle.volume_keeper_commit.specs.Kept.{KeptState}
@@ -20,11 +20,11 @@ pub record FailsIn (old new : KeptState) : Type 0 where
 abbrev pub Changes : KeptState → ℕ → List Opened → TreeCall → Result (Unit {0}) ChangeFault → KeptState → Type 0
 Changes old now opens call (Ok done) new = (tree_refusal old.state opens call ≡ None) × (new ≡ record old { state = tree_effect old.state now call })
 Changes old now opens call (Err (Refused code)) new = (tree_refusal old.state opens call ≡ Some code) × (new ≡ old)
-Changes old now opens call (Err Failed) new = (tree_refusal old.state opens call ≡ None) × FailsIn old new
+Changes old now opens call (Err Failed) new = (tree_refusal old.state opens call ≡ None) × FailsIn old new × (new.settles ≡ old.settles)
 Changes old now opens call (Err Memory) new = new ≡ old
 
--- A volume whose keeper settles: it did, or it failed and counted that, or there was no memory.
+-- A volume whose keeper was asked to settle, once, with its answer: it did, or it failed and counted that, or there was no memory.
 abbrev pub Settles : KeptState → Result (Unit {0}) KeeperFault → KeptState → Type 0
-Settles old (Ok done) new = new ≡ old
-Settles old (Err keeper.Failed) new = FailsIn old new
-Settles old (Err keeper.Memory) new = new ≡ old
+Settles old (Ok done) new = new ≡ record old { settles = old.settles ++ Ok done ∷ [] }
+Settles old (Err keeper.Failed) new = FailsIn old new × (new.settles ≡ old.settles ++ Err keeper.Failed ∷ [])
+Settles old (Err keeper.Memory) new = new ≡ record old { settles = old.settles ++ Err keeper.Memory ∷ [] }

@@ -18,5 +18,5 @@ given now id resource writes bytes v = if writes then fork_effect now id resourc
 abbrev pub GivesBytes : KeptState → ℕ → ℕ → Bool → Bool → List ℕ → List ℕ → Result (Unit {0}) ChangeFault → KeptState → Type 0
 GivesBytes old now id resource writes before after (Ok done) new = (would_pass old.state (length before) (length after) ≡ false) × (new ≡ record old { state = given now id resource writes after old.state })
 GivesBytes old now id resource writes before after (Err (Refused code)) new = (would_pass old.state (length before) (length after) ≡ true) × (code ≡ DiskFull) × (new ≡ old)
-GivesBytes old now id resource writes before after (Err Failed) new = (would_pass old.state (length before) (length after) ≡ false) × (writes ≡ true) × FailsIn old new
+GivesBytes old now id resource writes before after (Err Failed) new = (would_pass old.state (length before) (length after) ≡ false) × (writes ≡ true) × FailsIn old new × (new.settles ≡ old.settles)
 GivesBytes old now id resource writes before after (Err Memory) new = new ≡ old

@@ -9,7 +9,7 @@ use volume_keeper::Held;
 
 /// A volume, and the keeper that holds its records.
 ///
-/// Contracts see the volume, the count of the keeper's faults, and whether the keeper is sure.
+/// Contracts see the volume, the count of the keeper's faults, whether the keeper is sure, and what its settles answered.
 #[derive(Drop)]
 pub struct KeptVolume<K: Keeper> {
     pub(crate) keeper: K,
@@ -24,7 +24,7 @@ impl<K: Keeper> Model for KeptVolume<K> {
 
     ghost Value = { KeptState };
 
-    ghost view = { λ a. record { state = a.held.state; faults = K.faults a.keeper; sure = K.sure a.keeper } };
+    ghost view = { λ a. record { state = a.held.state; faults = K.faults a.keeper; sure = K.sure a.keeper; settles = K.settles a.keeper } };
 
     ghost invariant = { λ a. IfSome (K.records a.keeper) (λ (kept : Records). kept ≡ kept_image a.held.state) };
 }
@@ -35,6 +35,7 @@ impl<K: Keeper> KeptVolume<K> {
         ensures records { IfSome (K.records result.now) (λ (kept : Records). kept ≡ kept_image self.now.state) }
         ensures faults { K.faults result.now ≡ self.now.faults }
         ensures sure { K.sure result.now ≡ self.now.sure }
+        ensures settles { K.settles result.now ≡ self.now.settles }
     {
         &self.keeper
     }

@@ -2,7 +2,7 @@
 ghost use Rattle.std.specs.Prelude.{◌≡◌, false, None, IfOk, IfErr, IfSome, IsErrOf};
 ghost use Rattle.afp_names.specs.Name.{name_fault};
 ghost use Rattle.volume_keeper_commit.specs.Loading.{IsLoadedFrom, IsLoadedVolume};
-ghost use Rattle.record_keeper.specs.Records.{Records};
+ghost use Rattle.record_keeper.specs.Records.{Records, steadily};
 ghost use Rattle.volume_keeper.specs.Loading.{IsFaultIn};
 ghost use Rattle.volume_keeper_records.specs.Image.{records_in};
 
@@ -22,9 +22,9 @@ impl<K: Keeper> KeptVolume<K> {
         now: Moment,
     ) -> Result<KeptVolume<K>, LoadFault>
         requires { name_fault name.now ≡ None }
-        ensures loaded { IfOk result (λ kept. IsLoadedVolume name.now now (K.records keeper) (K.sure keeper) (K.faults keeper) kept) }
-        ensures from { IfOk result (λ kept. IfSome (K.records keeper) (λ (held : Records). IsLoadedFrom name.now held kept.state)) }
-        ensures fault { IfErr result (λ fault. IfSome (K.records keeper) (λ (held : Records). IsFaultIn name.now (records_in held) fault)) }
+        ensures loaded { IfOk result (λ kept. IsLoadedVolume name.now now (steadily K.steady K.records keeper) (K.sure keeper) (K.faults keeper) kept) }
+        ensures from { IfOk result (λ kept. IfSome (steadily K.steady K.records keeper) (λ (held : Records). IsLoadedFrom name.now held kept.state)) }
+        ensures fault { IfErr result (λ fault. IfSome (steadily K.steady K.records keeper) (λ (held : Records). IsFaultIn name.now (records_in held) fault)) }
         ensures failed { IsErrOf result LoadFault.Failed → K.sure keeper ≡ false }
     {
         let mut keeper = keeper;

@@ -6,8 +6,7 @@ use Rattle.std.specs.List.Sorted.{IsStrictlySortedBy, IsBinarySearchResult}
 use Rattle.std.specs.Ordering.{nat_cmp}
 use Rattle.std.specs.declared.cmp.Ordering.TheVariants.{Less}
 use Rattle.std.proofs.lemmas.List.{get_or-map, get_or_default}
-use Rattle.std.proofs.lemmas.Bool.{cases_eq, cases_lt}
-use Rattle.std.specs.Cmp.{ranked}
+use Rattle.std.proofs.lemmas.Bool.{cases_lt, ne_eqb, eq-eqb}
 use Rattle.std.proofs.lemmas.List.Sums.{position_or_len_is, prefix_len-le-length}
 use Rattle.std.proofs.lemmas.List.Sorted.{searched}
 use Rattle.std.proofs.lemmas.Map.Keys.{below_from_sorted, sorted_head, non_decreasing_from_sorted}
@@ -15,12 +14,7 @@ use Rattle.std.proofs.lemmas.Grind.{common_steps}
 use Rattle.volume_keeper_records.specs.declared.tree.Place.{Place}
 use Rattle.volume_spec.specs.VolumeState.{root_id}
 use Rattle.volume_keeper_records.specs.lemma.Climb.{climbs_to_root, id_of, place_in, stands, next_of, steps_of, climbed, through, Climbs, EndsAt}
-
-pub not_same : (a b : ℕ) → (a ≡ b → ⊥) → (a == b) ≡ false
-not_same a b n = ⊎_elim (λ (e : a ≡ b). absurd (n e)) (λ (e : a ≡ b → ⊥). grind (arith, e)) (cases_eq a b)
-
-pub less_of : (a b : ℕ) → nat_cmp a b ≡ Less → a < b
-less_of a b e = ranked a b Less (sym e)
+use Rattle.afp_base.proofs.Facts.{and-true, nat_cmp_less, or-false}
 
 -- what a binary search finds among rising numbers
 abbrev pub place_told : List ℕ → Result ℕ ℕ → ℕ
@@ -33,7 +27,7 @@ found_place ids id (Ok place) s b =
     sym (position_or_len_is (λ x. x == id) ids place 0 (omega (arith, f.0)) (λ k h. let less = below_from_sorted ids k place 0 s h f.0 in grind (arith, less, f.1)) (λ h. grind (arith, f.1)))
 found_place ids id (Err place) s b =
     let f = searched ids id (Err place) b (λ i j h l. non_decreasing_from_sorted ids s i j 0 h l) in
-    sym (position_or_len_is (λ x. x == id) ids (length ids) 0 (omega arith) (λ k h. let less = f.1 k in let more = f.2 k in let apart : get_or ids k 0 ≡ id → ⊥ = λ e. ⊎_elim (λ (l : k < place). absurd (let y = f.1 k l in omega arith)) (λ (g : place ≤ k). absurd (let y = f.2 k g h in omega arith)) (cases_lt k place) in not_same (get_or ids k 0) id apart) (λ h. absurd (omega arith)))
+    sym (position_or_len_is (λ x. x == id) ids (length ids) 0 (omega arith) (λ k h. let less = f.1 k in let more = f.2 k in let apart : get_or ids k 0 ≡ id → ⊥ = λ e. ⊎_elim (λ (l : k < place). absurd (let y = f.1 k l in omega arith)) (λ (g : place ≤ k). absurd (let y = f.2 k g h in omega arith)) (cases_lt k place) in ne_eqb (get_or ids k 0) id apart) (λ h. absurd (omega arith)))
 
 sorted_tail : (x : ℕ) (xs : List ℕ) → IsStrictlySortedBy nat_cmp (x ∷ xs) → IsStrictlySortedBy nat_cmp xs
 unfolding IsStrictlySortedBy
@@ -43,12 +37,8 @@ sorted_tail x xs s = s.1
 not_later : (id : ℕ) (q : Place → Bool) (ns : List Place) → AllByRecursion (λ y. nat_cmp id y ≡ Less) (map id_of ns) → list_any (λ node. (node.id == id) && q node) ns ≡ false
 not_later id q [] a = refl
 not_later id q (n ∷ ns) a =
-    let differs : (n.id == id) ≡ false = not_same n.id id (λ e. absurd (let l = less_of id n.id a.0 in omega arith)) in
+    let differs : (n.id == id) ≡ false = ne_eqb n.id id (λ e. absurd (let l = nat_cmp_less id n.id a.0 in omega arith)) in
     ap (λ b. (b && q n) || list_any (λ node. (node.id == id) && q node) ns) differs ∙ not_later id q ns a.1
-
-or_false : (b : Bool) → (b || false) ≡ b
-or_false true = refl
-or_false false = refl
 
 behind : (x : ℕ) (xs : List ℕ) (i : ℕ) → slice_index xs i ≡ slice_index (x ∷ xs) (1 + i)
 behind x xs i = let e : suc i ≡ 1 + i = omega arith in ap (λ k. slice_index (x ∷ xs) k) e
@@ -61,16 +51,13 @@ picked id q f h rest tail same none [] s = sym none
 picked id q f h rest tail same none (n ∷ ns) s =
     elim (n.id == id) as (λ b. n.id == id ≡ b → ((b && q n) || list_any (λ node. (node.id == id) && q node) ns) ≡ h (slice_index (f n ∷ (map f ns ++ rest ∷ tail)) (cond (not b) (1 + place_in (map id_of ns) id) 0))) [
       | true ↦ λ e. let i : id ≡ n.id = grind (arith, e) in
-          ap (λ b. q n || b) (ap (λ x. list_any (λ node. (node.id == x) && q node) ns) i ∙ not_later n.id q ns (sorted_head nat_cmp n.id (map id_of ns) s)) ∙ or_false (q n) ∙ same n
+          ap (λ b. q n || b) (ap (λ x. list_any (λ node. (node.id == x) && q node) ns) i ∙ not_later n.id q ns (sorted_head nat_cmp n.id (map id_of ns) s)) ∙ or-false (q n) ∙ same n
       | false ↦ λ e. picked id q f h rest tail same none ns (sorted_tail n.id (map id_of ns) s)
           ∙ ap h (behind (f n) (map f ns ++ rest ∷ tail) (place_in (map id_of ns) id))
     ] refl
 
 after : (xs ys : List ℕ) (i : ℕ) → slice_index (xs ++ ys) (length xs + i) ≡ slice_index ys i
 after xs ys i = grind (arith, common_steps)
-
-pub same_as : (a b : ℕ) → a ≡ b → (a == b) ≡ true
-same_as a b e = grind (arith, e)
 
 module _ (nodes : List Place) (s : IsStrictlySortedBy nat_cmp (map id_of nodes)) where
   abbrev pub ids : List ℕ
@@ -97,17 +84,17 @@ module _ (nodes : List Place) (s : IsStrictlySortedBy nat_cmp (map id_of nodes))
   stays_root (suc k) = ap (climbed up k) at_root ∙ stays_root k
 
   nowhere : (k : ℕ) → (climbed up k (length ids) == length ids + 1) ≡ false
-  nowhere k = not_same _ _ (λ e. absurd (let x = stays_none k in omega arith))
+  nowhere k = ne_eqb _ _ (λ e. absurd (let x = stays_none k in omega arith))
 
   -- an id leads to the root where the climb ends there
   pub leads_climbs : (k id : ℕ) → climbs_to_root nodes k id ≡ (climbed up k (stands ids id) == length ids + 1)
   leads_climbs zero id = elim (id == root_id) as (λ b. b ≡ (cond b (length ids + 1) (place_in ids id) == length ids + 1)) [
-    | true ↦ sym (same_as (length ids + 1) (length ids + 1) refl)
-    | false ↦ sym (not_same (place_in ids id) (length ids + 1) (λ e. absurd (let x = prefix_len-le-length (λ x. not (x == id)) ids in omega arith)))
+    | true ↦ sym (eq-eqb (length ids + 1) (length ids + 1) refl)
+    | false ↦ sym (ne_eqb (place_in ids id) (length ids + 1) (λ e. absurd (let x = prefix_len-le-length (λ x. not (x == id)) ids in omega arith)))
   ]
   leads_climbs (suc k) id = elim (id == root_id) as (λ b. (b || list_any (λ node. (node.id == id) && (node.is_directory && climbs_to_root nodes k node.parent)) nodes)
       ≡ (climbed up (suc k) (cond b (length ids + 1) (place_in ids id)) == length ids + 1)) [
-        | true ↦ sym (same_as _ (length ids + 1) (stays_root (suc k)))
+        | true ↦ sym (eq-eqb _ (length ids + 1) (stays_root (suc k)))
         | false ↦ picked id (λ node. node.is_directory && climbs_to_root nodes k node.parent) (next_of ids) (λ place. climbed up k place == length ids + 1) (length ids) ((length ids + 1) ∷ [])
             (λ n. elim n.is_directory as (λ d. (d && climbs_to_root nodes k n.parent) ≡ (climbed up k (cond d (stands ids n.parent) (length ids)) == length ids + 1)) [
               | true ↦ leads_climbs k n.parent
@@ -228,8 +215,4 @@ module _ (id : ℕ) (q : Place → Bool) (places : List Place) (s : IsStrictlySo
 
 pub there_told : (places : List Place) (id : ℕ) → list_any (λ (place : Place). place.id == id) places ≡ list_any (λ (place : Place). (place.id == id) && true) places
 there_told [] id = refl
-there_told (p ∷ ps) id = λ i. and_true (p.id == id) i || there_told ps id i
-  where
-    and_true : (b : Bool) → b ≡ (b && true)
-    and_true true = refl
-    and_true false = refl
+there_told (p ∷ ps) id = λ i. and-true (p.id == id) i || there_told ps id i

@@ -1,7 +1,9 @@
 -- What is known of each table of whole tables.
-use Rattle.std.proofs.Common.{◌≡◌, ◌∙◌, ℕ, ◌≤◌, Bool, true, false, List, ◌++◌, map, length, refl, sym, ap, arith, Option}
-use Rattle.std.specs.Prelude.{Some, None, is_none, nat_le, nat_lt, ◌&&◌, ◌==◌, bytes_eq}
+use Rattle.std.proofs.Common.{◌≡◌, ◌∙◌, ℕ, ◌≤◌, Bool, true, false, List, ◌++◌, map, length, refl, sym, ap, arith}
+use Rattle.std.specs.Prelude.{None, is_none, nat_le, nat_lt, ◌&&◌, ◌==◌, bytes_eq}
 use Rattle.std.specs.List.{list_all}
+use Rattle.std.proofs.lemmas.Bool.{and_from, leb-true, lt-ltb}
+use Rattle.std.proofs.lemmas.List.Folds.{list_all-map}
 use Rattle.volume_spec.specs.VolumeState.{Comment, Appl}
 use Rattle.volume_spec.specs.SoundVolume.{is_comment, is_formed as is_formed_row, is_named}
 use Rattle.volume_spec.specs.TypedVolume.{is_typed_row, is_long, are_bytes, is_typed_comment, is_typed_appl}
@@ -15,7 +17,6 @@ use Rattle.volume_keeper_records.specs.Records.{record_of}
 use Rattle.volume_keeper_records.specs.KeyOrder.{RisesByKey}
 use Rattle.volume_keeper_records.specs.Image.{Tables, rows_of}
 use Rattle.volume_keeper_records.specs.FirstBad.{first_of, lacks_parent, is_twin, is_out_of_range, passes_limit}
-use Rattle.volume_keeper_records.proofs.TestParts.{lt_true, le_of, left_true, right_true, both_true, all-ends, all-append, all-map, all-more}
 use Rattle.volume_keeper_records.proofs.ReadBack.{node_parts}
 use Rattle.volume_keeper_records.proofs.Chains.{Chain}
 use Rattle.volume_keeper_records.proofs.RowOrder.{rows_ends, nodes_in_chain, comments_in_chain, icons_in_chain, appls_in_chain, blocks_in_chain, block_before, icon_before, appl_before, is_fit_block, is_fit_appl}
@@ -24,6 +25,8 @@ use Rattle.volume_keeper_records.proofs.RowKinds.{behind_head}
 use Rattle.afp_base.specs.Limits.{block_size}
 use Rattle.fork_bytes.specs.Blocks.{trimmed}
 use Rattle.afp_names.specs.Name.{name_fault}
+use Rattle.afp_base.proofs.Facts.{left_true, none_from_is_none, right_true}
+use Rattle.afp_base.proofs.ListFacts.{all-append, all-ends, all-weaker}
 
 -- no rule holds
 pub record IsFree (t : Tables) (x : TableRow) : Type 0 where
@@ -72,11 +75,11 @@ each_kind p t e =
     let four = all-ends p icons appls three.1 in
     record {
       head = left_true (p (row.Head t.head)) (list_all p (nodes ++ (blocks ++ (comments ++ (icons ++ appls))))) e;
-      nodes = sym (all-map p (λ x. row.Node x) t.nodes) ∙ one.0;
-      blocks = sym (all-map p (λ x. row.Block x) t.blocks) ∙ two.0;
-      comments = sym (all-map p (λ x. row.Comment x) t.comments) ∙ three.0;
-      icons = sym (all-map p (λ x. row.Icon x) t.icons) ∙ four.0;
-      appls = sym (all-map p (λ x. row.Appl x) t.appls) ∙ four.1;
+      nodes = sym (list_all-map p (λ x. row.Node x) t.nodes) ∙ one.0;
+      blocks = sym (list_all-map p (λ x. row.Block x) t.blocks) ∙ two.0;
+      comments = sym (list_all-map p (λ x. row.Comment x) t.comments) ∙ three.0;
+      icons = sym (list_all-map p (λ x. row.Icon x) t.icons) ∙ four.0;
+      appls = sym (list_all-map p (λ x. row.Appl x) t.appls) ∙ four.1;
     }
 
 pub all_kinds : (p : TableRow → Bool) (t : Tables) → EachKind p t → list_all p (rows_of t) ≡ true
@@ -86,11 +89,11 @@ all_kinds p t k =
     let comments : List TableRow = map (λ x. row.Comment x) t.comments in
     let blocks : List TableRow = map (λ x. row.Block x) t.blocks in
     let nodes : List TableRow = map (λ x. row.Node x) t.nodes in
-    both_true (p (row.Head t.head)) (list_all p (nodes ++ (blocks ++ (comments ++ (icons ++ appls))))) k.head
-    (all-append p nodes (blocks ++ (comments ++ (icons ++ appls))) (all-map p (λ x. row.Node x) t.nodes ∙ k.nodes)
-    (all-append p blocks (comments ++ (icons ++ appls)) (all-map p (λ x. row.Block x) t.blocks ∙ k.blocks)
-    (all-append p comments (icons ++ appls) (all-map p (λ x. row.Comment x) t.comments ∙ k.comments)
-    (all-append p icons appls (all-map p (λ x. row.Icon x) t.icons ∙ k.icons) (all-map p (λ x. row.Appl x) t.appls ∙ k.appls)))))
+    and_from (p (row.Head t.head)) (list_all p (nodes ++ (blocks ++ (comments ++ (icons ++ appls))))) k.head
+    (all-append p nodes (blocks ++ (comments ++ (icons ++ appls))) (list_all-map p (λ x. row.Node x) t.nodes ∙ k.nodes)
+    (all-append p blocks (comments ++ (icons ++ appls)) (list_all-map p (λ x. row.Block x) t.blocks ∙ k.blocks)
+    (all-append p comments (icons ++ appls) (list_all-map p (λ x. row.Comment x) t.comments ∙ k.comments)
+    (all-append p icons appls (list_all-map p (λ x. row.Icon x) t.icons ∙ k.icons) (list_all-map p (λ x. row.Appl x) t.appls ∙ k.appls)))))
 
 -- the orders of the tables
 pub record InOrder (t : Tables) : Type 0 where
@@ -103,13 +106,13 @@ pub record InOrder (t : Tables) : Type 0 where
 pub fit_block : (b : ForkBlock) → is_formed_block b ≡ true → is_fit_block b ≡ true
 fit_block b f =
     let numbers = left_true (is_long b.node && (is_long b.index && are_bytes b.bytes)) _ f in
-    both_true (is_long b.node) (is_long b.index) (left_true (is_long b.node) (is_long b.index && are_bytes b.bytes) numbers)
+    and_from (is_long b.node) (is_long b.index) (left_true (is_long b.node) (is_long b.index && are_bytes b.bytes) numbers)
     (left_true (is_long b.index) (are_bytes b.bytes) (right_true (is_long b.node) (is_long b.index && are_bytes b.bytes) numbers))
 
 pub fit_appl : (a : Appl) → is_formed_appl a ≡ true → is_fit_appl a ≡ true
 fit_appl a f =
     let typed = right_true (are_bytes a.creator) (is_long a.node && is_long a.tag) (left_true (is_typed_appl a) _ f) in
-    both_true (is_long a.node) _ (left_true (is_long a.node) (is_long a.tag) typed) (right_true (is_typed_appl a) _ f)
+    and_from (is_long a.node) _ (left_true (is_long a.node) (is_long a.tag) typed) (right_true (is_typed_appl a) _ f)
 
 -- what stands behind the head, where its rows are formed and rise
 pub order_behind : (name : List ℕ) (t : Tables) → RisesByKey (map record_of (behind_head t)) → list_all (is_formed_record name) (behind_head t) ≡ true → InOrder t
@@ -128,16 +131,16 @@ order_behind name t rises e =
     let f2 = all-ends (is_formed_record name) blocks (comments ++ (icons ++ appls)) f1.1 in
     let f3 = all-ends (is_formed_record name) comments (icons ++ appls) f2.1 in
     let f4 = all-ends (is_formed_record name) icons appls f3.1 in
-    let fn : list_all (is_formed_node name) t.nodes ≡ true = sym (all-map (is_formed_record name) (λ x. row.Node x) t.nodes) ∙ f1.0 in
-    let fb : list_all is_formed_block t.blocks ≡ true = sym (all-map (is_formed_record name) (λ x. row.Block x) t.blocks) ∙ f2.0 in
-    let fc : list_all is_formed_comment t.comments ≡ true = sym (all-map (is_formed_record name) (λ x. row.Comment x) t.comments) ∙ f3.0 in
-    let fa : list_all is_formed_appl t.appls ≡ true = sym (all-map (is_formed_record name) (λ x. row.Appl x) t.appls) ∙ f4.1 in
+    let fn : list_all (is_formed_node name) t.nodes ≡ true = sym (list_all-map (is_formed_record name) (λ x. row.Node x) t.nodes) ∙ f1.0 in
+    let fb : list_all is_formed_block t.blocks ≡ true = sym (list_all-map (is_formed_record name) (λ x. row.Block x) t.blocks) ∙ f2.0 in
+    let fc : list_all is_formed_comment t.comments ≡ true = sym (list_all-map (is_formed_record name) (λ x. row.Comment x) t.comments) ∙ f3.0 in
+    let fa : list_all is_formed_appl t.appls ≡ true = sym (list_all-map (is_formed_record name) (λ x. row.Appl x) t.appls) ∙ f4.1 in
     record {
-      nodes = nodes_in_chain t.nodes (all-more (is_formed_node name) (λ n. is_long n.id) t.nodes (λ n f. (node_parts name n f).id) fn) one.0;
-      blocks = blocks_in_chain t.blocks (all-more is_formed_block is_fit_block t.blocks fit_block fb) two.0;
-      comments = comments_in_chain t.comments (all-more is_formed_comment (λ c. is_long c.node) t.comments (λ c f. left_true (is_long c.node) (are_bytes c.text) (left_true (is_typed_comment c) (is_comment c) f)) fc) three.0;
+      nodes = nodes_in_chain t.nodes (all-weaker (is_formed_node name) (λ n. is_long n.id) t.nodes (λ n f. (node_parts name n f).id) fn) one.0;
+      blocks = blocks_in_chain t.blocks (all-weaker is_formed_block is_fit_block t.blocks fit_block fb) two.0;
+      comments = comments_in_chain t.comments (all-weaker is_formed_comment (λ c. is_long c.node) t.comments (λ c f. left_true (is_long c.node) (are_bytes c.text) (left_true (is_typed_comment c) (is_comment c) f)) fc) three.0;
       icons = icons_in_chain t.icons four.0;
-      appls = appls_in_chain t.appls (all-more is_formed_appl is_fit_appl t.appls fit_appl fa) four.1;
+      appls = appls_in_chain t.appls (all-weaker is_formed_appl is_fit_appl t.appls fit_appl fa) four.1;
     }
 
 pub in_order : (name : List ℕ) (t : Tables) → IsWhole name t → InOrder t
@@ -148,13 +151,9 @@ pub short_block : (b : ForkBlock) → is_formed_block b ≡ true → nat_lt (len
 short_block b f =
     let rest = right_true (is_long b.node && (is_long b.index && are_bytes b.bytes)) (nat_le 1 (length b.bytes) && (nat_le (length b.bytes) block_size && bytes_eq (trimmed b.bytes) b.bytes)) f in
     let short = left_true (nat_le (length b.bytes) block_size) (bytes_eq (trimmed b.bytes) b.bytes) (right_true (nat_le 1 (length b.bytes)) (nat_le (length b.bytes) block_size && bytes_eq (trimmed b.bytes) b.bytes) rest) in
-    lt_true (length b.bytes) 5000 (let l : length b.bytes ≤ 4096 = le_of _ _ short in omega arith)
-
-none_is : {A : Type 0} (o : Option A) → is_none o ≡ true → o ≡ None
-none_is None e = refl
-none_is (Some x) e = absurd (cc)
+    lt-ltb (length b.bytes) 5000 (let l : length b.bytes ≤ 4096 = leb-true _ _ short in omega arith)
 
 pub node_name : (name : List ℕ) (n : Node) → is_formed_node name n ≡ true → name_fault n.name ≡ None
 node_name name n f =
     let formed = left_true (is_formed_row (bare_row n)) (has_fit_forks n && is_root_or_other name n) (right_true (is_typed_row (bare_row n)) (is_formed_row (bare_row n) && (has_fit_forks n && is_root_or_other name n)) f) in
-    none_is (name_fault n.name) (left_true (is_none (name_fault n.name)) (length n.finder == 32) (left_true (is_named (bare_row n)) _ formed))
+    none_from_is_none (name_fault n.name) (left_true (is_none (name_fault n.name)) (length n.finder == 32) (left_true (is_named (bare_row n)) _ formed))

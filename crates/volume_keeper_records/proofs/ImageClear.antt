@@ -2,6 +2,8 @@
 use Rattle.std.proofs.Common.{◌≡◌, ◌∙◌, ℕ, ◌+◌, ◌*◌, ◌≤◌, Bool, true, false, cond, not, List, [], ◌∷◌, ◌++◌, map, length, refl, sym, ap, arith, length-append}
 use Rattle.std.specs.Prelude.{nat_le, nat_lt, ◌&&◌, ◌||◌, ◌==◌, bytes_eq, bit_and, flat_map}
 use Rattle.std.specs.List.{list_all, filter}
+use Rattle.std.proofs.lemmas.Bool.{and_from, eqb-true, le-ltb, leb-true}
+use Rattle.std.proofs.lemmas.List.Folds.{list_all-map}
 use Rattle.fork_bytes.specs.declared.block.Block.{Block}
 use Rattle.afp_base.specs.Limits.{block_size, most_fork_bytes}
 use Rattle.fork_bytes.specs.Blocks.{blocks_of, trimmed}
@@ -10,7 +12,6 @@ use Rattle.volume_spec.specs.VolumeState.{Comment, Icon, Appl, VolumeState, root
 use Rattle.volume_spec.specs.Order.{stands_before}
 use Rattle.volume_spec.specs.SoundVolume.{IsSoundVolume, is_named, file_attributes, dir_attributes, is_in_place, has_node, has_file, is_comment, is_icon, icon_key, appl_key, most_icons, most_appls, code_size, is_formed as is_formed_row}
 use Rattle.volume_spec.specs.TypedVolume.{is_word, is_long, is_date, are_bytes, is_typed_row, is_typed_comment, is_typed_icon, is_typed_appl, is_typed_volume}
-use Rattle.volume_spec.proofs.TestedLists.{any-map, length-mapped}
 use Rattle.volume_keeper_records.specs.declared.rows.Node.{Node}
 use Rattle.volume_keeper_records.specs.declared.rows.ForkBlock.{ForkBlock}
 use Rattle.volume_keeper_records.specs.declared.rows.TableRow.{TableRow}
@@ -19,8 +20,7 @@ use Rattle.volume_keeper_records.specs.Shape.{is_formed_record, is_formed_node, 
 use Rattle.volume_keeper_records.specs.Image.{Tables, rows_of, tables_of, node_of, fork_block_of, fork_blocks}
 use Rattle.record_keeper.specs.Reading.{most_records}
 use Rattle.volume_keeper_records.specs.FirstBad.{fork_length, is_out_of_range}
-use Rattle.volume_keeper_records.proofs.TestParts.{left_true, right_true, both_true, cases, le_of, lt_false, same_of, all-more, all-both, all-map, all-append, any-none, always}
-use Rattle.volume_keeper_records.proofs.Chains.{chain-map, filter-most}
+use Rattle.volume_keeper_records.proofs.Chains.{chain-map}
 use Rattle.volume_keeper_records.proofs.Counts.{no_more, sum_each, length-flat}
 use Rattle.volume_keeper_records.proofs.Whole.{IsWhole, is_clear}
 use Rattle.volume_keeper_records.proofs.Facts.{EachKind, all_kinds, free_clear}
@@ -32,16 +32,18 @@ use Rattle.volume_keeper_records.proofs.SoundFacts.{SoundFacts, sound_facts, Typ
 use Rattle.volume_keeper_records.proofs.ImageBlocks.{is_whole_block, whole_blocks, one_formed, all-pass, owns_from, rows_again, few_of_row}
 use Rattle.volume_keeper_records.proofs.ImageRises.{image_rises}
 use Rattle.volume_keeper_records.proofs.ImageWhole.{is_good_row, is_known_row, same_forks, fork_of, node_formed, nodes_same, files_same, node_placed, node_inside, node_few, no_twins_apart, apart_nodes, one_row, each_there}
+use Rattle.afp_base.proofs.Facts.{cases, left_true, right_true}
+use Rattle.afp_base.proofs.ListFacts.{all-always, all-and, all-append, all-weaker, any-map, any-none, length-filter-le, length-mapped, nil_from_no_length}
 
 -- ---- each row is known
 
 pub known_rows : (v : VolumeState) → SoundFacts v → TypedFacts v → list_all (is_known_row v) v.rows ≡ true
 known_rows v s t =
-    all-both (is_good_row v) (λ r. list_all (same_forks r) v.rows && (r.dir || has_file v.rows r.id)) v.rows
-    (all-both (λ r. is_typed_row r && is_formed_row r) (λ r. is_in_place v r && nat_le (length r.data_fork + length r.resource_fork) most_fork_bytes) v.rows
-    (all-both is_typed_row is_formed_row v.rows t.rows s.formed)
-    (all-both (is_in_place v) (λ r. nat_le (length r.data_fork + length r.resource_fork) most_fork_bytes) v.rows s.places (sum_each (λ (r : VolumeRow). length r.data_fork + length r.resource_fork) v.rows most_fork_bytes s.few_bytes)))
-    (all-both (λ r. list_all (same_forks r) v.rows) (λ r. r.dir || has_file v.rows r.id) v.rows (one_row v.rows s.ids) (each_there v.rows))
+    all-and (is_good_row v) (λ r. list_all (same_forks r) v.rows && (r.dir || has_file v.rows r.id)) v.rows
+    (all-and (λ r. is_typed_row r && is_formed_row r) (λ r. is_in_place v r && nat_le (length r.data_fork + length r.resource_fork) most_fork_bytes) v.rows
+    (all-and is_typed_row is_formed_row v.rows t.rows s.formed)
+    (all-and (is_in_place v) (λ r. nat_le (length r.data_fork + length r.resource_fork) most_fork_bytes) v.rows s.places (sum_each (λ (r : VolumeRow). length r.data_fork + length r.resource_fork) v.rows most_fork_bytes s.few_bytes)))
+    (all-and (λ r. list_all (same_forks r) v.rows) (λ r. r.dir || has_file v.rows r.id) v.rows (one_row v.rows s.ids) (each_there v.rows))
 
 -- ---- the blocks of a row
 
@@ -53,8 +55,8 @@ long_as : (b : Bool) (r o : VolumeRow) → same_forks r o ≡ true → (o.id == 
 long_as b r o s e =
     let both : ((length o.data_fork == length r.data_fork) && (length o.resource_fork == length r.resource_fork)) ≡ true = ap (λ t. not t || ((length o.data_fork == length r.data_fork) && (length o.resource_fork == length r.resource_fork))) (sym e) ∙ s in
     elim b as (λ b. fork_length b (node_of o) ≡ length (fork_of b r)) [
-      | true ↦ same_of _ _ (right_true (length o.data_fork == length r.data_fork) (length o.resource_fork == length r.resource_fork) both)
-      | false ↦ same_of _ _ (left_true (length o.data_fork == length r.data_fork) (length o.resource_fork == length r.resource_fork) both)
+      | true ↦ eqb-true _ _ (right_true (length o.data_fork == length r.data_fork) (length o.resource_fork == length r.resource_fork) both)
+      | false ↦ eqb-true _ _ (left_true (length o.data_fork == length r.data_fork) (length o.resource_fork == length r.resource_fork) both)
     ]
 
 last_two : (a b c d e f g h x y : Bool) → (a && (b && (c && (d && (e && (f && (g && (h && (x && y))))))))) ≡ true → (x ≡ true) × (y ≡ true)
@@ -74,10 +76,6 @@ fork_typed r f t =
     let two = last_two (is_long r.id) (is_long r.parent) (is_word r.attributes) (is_date r.created) (is_date r.modified) (is_date r.backup) (are_bytes r.finder) (are_bytes r.name) (are_bytes r.data_fork) (are_bytes r.resource_fork) t in
     elim f as (λ f. are_bytes (fork_of f r) ≡ true) [ true ↦ two.1 | false ↦ two.0 ]
 
-empty : (bytes : List ℕ) → (length bytes == 0) ≡ true → bytes ≡ []
-empty [] e = refl
-empty (b ∷ bs) e = absurd (let h : length (b ∷ bs) ≡ 0 = same_of (length (b ∷ bs)) 0 e in omega arith)
-
 pub formed_none : (d named attr_d attr_f filed x y : Bool) → d ≡ true → (named && cond d (attr_d && (x && (y && not filed))) attr_f) ≡ true → (x ≡ true) × (y ≡ true)
 formed_none true true true attr_f filed true true d e = (refl, refl)
 formed_none true true true attr_f filed true false d e = absurd (cc)
@@ -89,17 +87,17 @@ formed_none false named attr_d attr_f filed x y d e = absurd (cc)
 no_bytes : (r : VolumeRow) → r.dir ≡ true → is_formed_row r ≡ true → (r.data_fork ≡ []) × (r.resource_fork ≡ [])
 no_bytes r d f =
     let two = formed_none r.dir (is_named r) (bit_and r.attributes dir_attributes == r.attributes) (bit_and r.attributes file_attributes == r.attributes) r.filed (length r.data_fork == 0) (length r.resource_fork == 0) d f in
-    (empty r.data_fork two.0, empty r.resource_fork two.1)
+    (nil_from_no_length r.data_fork two.0, nil_from_no_length r.resource_fork two.1)
 
 module _ (v : VolumeState) where
   block_inside : (r : VolumeRow) (f : Bool) (b : Block) → list_all (same_forks r) v.rows ≡ true → 4096 * b.index + length b.bytes ≤ length (fork_of f r) → is_out_of_range (tables_of v) (row.Block (fork_block_of r.id f b)) ≡ false
   block_inside r f b s w = any-map (λ (n : Node). (n.id == r.id) && reaches_past n (fork_block_of r.id f b)) node_of v.rows
       ∙ any-none (λ (o : VolumeRow). (o.id == r.id) && reaches_past (node_of o) (fork_block_of r.id f b)) v.rows
-      (all-more (same_forks r) (λ (o : VolumeRow). not ((o.id == r.id) && reaches_past (node_of o) (fork_block_of r.id f b))) v.rows
+      (all-weaker (same_forks r) (λ (o : VolumeRow). not ((o.id == r.id) && reaches_past (node_of o) (fork_block_of r.id f b))) v.rows
       (λ o e. cases (o.id == r.id)
       (λ i.
       let len = long_as f r o e i in
-      let past : reaches_past (node_of o) (fork_block_of r.id f b) ≡ false = lt_false (fork_length f (node_of o)) (block_size * b.index + length b.bytes) (omega (arith, len, w)) in
+      let past : reaches_past (node_of o) (fork_block_of r.id f b) ≡ false = le-ltb (fork_length f (node_of o)) (block_size * b.index + length b.bytes) (omega (arith, len, w)) in
       λ k. not (i k && past k))
       (λ i. ap (λ t. not (t && reaches_past (node_of o) (fork_block_of r.id f b))) i)) s)
 
@@ -110,12 +108,12 @@ module _ (v : VolumeState) where
       let same = left_true (list_all (same_forks r) v.rows) (r.dir || has_file v.rows r.id) rest in
       let there : has_file v.rows r.id ≡ true = ap (λ t. t || has_file v.rows r.id) (sym d) ∙ right_true (list_all (same_forks r) v.rows) (r.dir || has_file v.rows r.id) rest in
       let id = (node_parts v.name (node_of r) (node_formed v r good)).id in
-      let small : length r.data_fork + length r.resource_fork ≤ 268435456 = le_of _ _ (right_true (is_in_place v r) (nat_le (length r.data_fork + length r.resource_fork) most_fork_bytes) (right_true (is_typed_row r && is_formed_row r) (is_in_place v r && nat_le (length r.data_fork + length r.resource_fork) most_fork_bytes) good)) in
+      let small : length r.data_fork + length r.resource_fork ≤ 268435456 = leb-true _ _ (right_true (is_in_place v r) (nat_le (length r.data_fork + length r.resource_fork) most_fork_bytes) (right_true (is_typed_row r && is_formed_row r) (is_in_place v r && nat_le (length r.data_fork + length r.resource_fork) most_fork_bytes) good)) in
       let fits : length (fork_of f r) ≤ 268435456 = elim f as (λ f. length (fork_of f r) ≤ 268435456) [ true ↦ omega (arith, small) | false ↦ omega (arith, small) ] in
       let kept = left_true (is_kept (length (fork_of f r)) b) (not (is_empty b.bytes) && are_bytes b.bytes) w in
       let sizes = right_true (bytes_eq (trimmed b.bytes) b.bytes) (nat_le (length b.bytes) block_size && nat_le (block_size * b.index + length b.bytes) (length (fork_of f r))) kept in
-      let within = le_of _ _ (right_true (nat_le (length b.bytes) block_size) (nat_le (block_size * b.index + length b.bytes) (length (fork_of f r))) sizes) in
-      both_true (is_formed_block (fork_block_of r.id f b)) (is_clear (tables_of v) (row.Block (fork_block_of r.id f b))) (one_formed r.id (length (fork_of f r)) f b id fits w)
+      let within = leb-true _ _ (right_true (nat_le (length b.bytes) block_size) (nat_le (block_size * b.index + length b.bytes) (length (fork_of f r))) sizes) in
+      and_from (is_formed_block (fork_block_of r.id f b)) (is_clear (tables_of v) (row.Block (fork_block_of r.id f b))) (one_formed r.id (length (fork_of f r)) f b id fits w)
       (free_clear (tables_of v) (row.Block (fork_block_of r.id f b)) (record { placed = ap not (files_same v.rows r.id ∙ there); lone = refl; inside = block_inside r f b same within; few = refl }))
 
   fork_fine : ForkLaw → (r : VolumeRow) (f : Bool) → is_known_row v r ≡ true → r.dir ≡ false → list_all (is_fine_block (tables_of v)) (map (fork_block_of r.id f) (blocks_of (fork_of f r))) ≡ true
@@ -123,8 +121,8 @@ module _ (v : VolumeState) where
       let good = left_true (is_good_row v r) (list_all (same_forks r) v.rows && (r.dir || has_file v.rows r.id)) k in
       let typed = left_true (is_typed_row r) (is_formed_row r) (left_true (is_typed_row r && is_formed_row r) (is_in_place v r && nat_le (length r.data_fork + length r.resource_fork) most_fork_bytes) good) in
       let bytes = fork_typed r f typed in
-      all-map (is_fine_block (tables_of v)) (fork_block_of r.id f) (blocks_of (fork_of f r))
-      ∙ all-more (is_whole_block (length (fork_of f r))) (λ b. is_fine_block (tables_of v) (fork_block_of r.id f b)) (blocks_of (fork_of f r)) (λ b w. one_fine r f b k d w) (whole_blocks law (fork_of f r) bytes)
+      list_all-map (is_fine_block (tables_of v)) (fork_block_of r.id f) (blocks_of (fork_of f r))
+      ∙ all-weaker (is_whole_block (length (fork_of f r))) (λ b. is_fine_block (tables_of v) (fork_block_of r.id f b)) (blocks_of (fork_of f r)) (λ b w. one_fine r f b k d w) (whole_blocks law (fork_of f r) bytes)
 
   -- a directory has no bytes, so no blocks
   pub row_fine : ForkLaw → (r : VolumeRow) → is_known_row v r ≡ true → list_all (is_fine_block (tables_of v)) (fork_blocks r) ≡ true
@@ -157,7 +155,7 @@ node_free v s r g =
     })
 
 few_to : {A : Type 0} (p : A → Bool) (xs : List A) (most : ℕ) → length xs ≤ most → nat_lt most (length (filter p xs)) ≡ false
-few_to p xs most h = let a = filter-most p xs in lt_false most (length (filter p xs)) (omega (arith, a, h))
+few_to p xs most h = let a = length-filter-le p xs in le-ltb most (length (filter p xs)) (omega (arith, a, h))
 
 rows_formed : (v : VolumeState) → SoundFacts v → TypedFacts v → ForkLaw → EachKind (is_formed_record v.name) (tables_of v)
 rows_formed v s t law =
@@ -165,31 +163,31 @@ rows_formed v s t law =
     let fine = all_fine v law v.rows known in
     record {
       head = λ i. (t.created i && (t.modified i && t.backup i)) && s.next i;
-      nodes = all-map (is_formed_node v.name) node_of v.rows
-          ∙ all-more (is_known_row v) (λ r. is_formed_node v.name (node_of r)) v.rows (λ r e. node_formed v r (left_true (is_good_row v r) (list_all (same_forks r) v.rows && (r.dir || has_file v.rows r.id)) e)) known;
-      blocks = all-more (is_fine_block (tables_of v)) is_formed_block (flat_map fork_blocks v.rows) (λ b e. left_true (is_formed_block b) (is_clear (tables_of v) (row.Block b)) e) fine;
-      comments = all-both is_typed_comment is_comment v.comments t.comments s.texts;
-      icons = all-both is_typed_icon is_icon v.icons t.icons s.icons;
-      appls = all-both is_typed_appl (λ (a : Appl). length a.creator == code_size) v.appls t.appls s.creators;
+      nodes = list_all-map (is_formed_node v.name) node_of v.rows
+          ∙ all-weaker (is_known_row v) (λ r. is_formed_node v.name (node_of r)) v.rows (λ r e. node_formed v r (left_true (is_good_row v r) (list_all (same_forks r) v.rows && (r.dir || has_file v.rows r.id)) e)) known;
+      blocks = all-weaker (is_fine_block (tables_of v)) is_formed_block (flat_map fork_blocks v.rows) (λ b e. left_true (is_formed_block b) (is_clear (tables_of v) (row.Block b)) e) fine;
+      comments = all-and is_typed_comment is_comment v.comments t.comments s.texts;
+      icons = all-and is_typed_icon is_icon v.icons t.icons s.icons;
+      appls = all-and is_typed_appl (λ (a : Appl). length a.creator == code_size) v.appls t.appls s.creators;
     }
 
 rows_clear : (v : VolumeState) → SoundFacts v → TypedFacts v → ForkLaw → EachKind (is_clear (tables_of v)) (tables_of v)
 rows_clear v s t law =
     let known = known_rows v s t in
     let fine = all_fine v law v.rows known in
-    let twins = sym (all-map (λ (n : Node). list_all (λ (o : Node). not (nat_lt o.id n.id && alike o n)) (map node_of v.rows)) node_of v.rows) ∙ node_names v s in
+    let twins = sym (list_all-map (λ (n : Node). list_all (λ (o : Node). not (nat_lt o.id n.id && alike o n)) (map node_of v.rows)) node_of v.rows) ∙ node_names v s in
     record {
       head = refl;
-      nodes = all-map (λ n. is_clear (tables_of v) (row.Node n)) node_of v.rows
-          ∙ all-more (λ r. is_good_row v r && list_all (λ (o : Node). not (nat_lt o.id r.id && alike o (node_of r))) (map node_of v.rows)) (λ r. is_clear (tables_of v) (row.Node (node_of r))) v.rows (node_free v s)
-          (all-both (is_good_row v) (λ r. list_all (λ (o : Node). not (nat_lt o.id r.id && alike o (node_of r))) (map node_of v.rows)) v.rows
-          (all-more (is_known_row v) (is_good_row v) v.rows (λ r e. left_true (is_good_row v r) (list_all (same_forks r) v.rows && (r.dir || has_file v.rows r.id)) e) known) twins);
-      blocks = all-more (is_fine_block (tables_of v)) (λ b. is_clear (tables_of v) (row.Block b)) (flat_map fork_blocks v.rows) (λ b e. right_true (is_formed_block b) (is_clear (tables_of v) (row.Block b)) e) fine;
-      comments = all-more (λ (c : Comment). has_node v.rows c.node) (λ c. is_clear (tables_of v) (row.Comment c)) v.comments
+      nodes = list_all-map (λ n. is_clear (tables_of v) (row.Node n)) node_of v.rows
+          ∙ all-weaker (λ r. is_good_row v r && list_all (λ (o : Node). not (nat_lt o.id r.id && alike o (node_of r))) (map node_of v.rows)) (λ r. is_clear (tables_of v) (row.Node (node_of r))) v.rows (node_free v s)
+          (all-and (is_good_row v) (λ r. list_all (λ (o : Node). not (nat_lt o.id r.id && alike o (node_of r))) (map node_of v.rows)) v.rows
+          (all-weaker (is_known_row v) (is_good_row v) v.rows (λ r e. left_true (is_good_row v r) (list_all (same_forks r) v.rows && (r.dir || has_file v.rows r.id)) e) known) twins);
+      blocks = all-weaker (is_fine_block (tables_of v)) (λ b. is_clear (tables_of v) (row.Block b)) (flat_map fork_blocks v.rows) (λ b e. right_true (is_formed_block b) (is_clear (tables_of v) (row.Block b)) e) fine;
+      comments = all-weaker (λ (c : Comment). has_node v.rows c.node) (λ c. is_clear (tables_of v) (row.Comment c)) v.comments
           (λ c e. free_clear (tables_of v) (row.Comment c) (record { placed = ap not (nodes_same v.rows c.node ∙ e); lone = refl; inside = refl; few = refl })) s.commented;
-      icons = all-more (λ x. true) (λ c. is_clear (tables_of v) (row.Icon c)) v.icons
-          (λ c e. free_clear (tables_of v) (row.Icon c) (record { placed = refl; lone = refl; inside = refl; few = few_to (λ (o : Icon). not (stands_before (icon_key c) (icon_key o))) v.icons most_icons s.few_icons })) (always v.icons);
-      appls = all-more (λ (a : Appl). has_file v.rows a.node) (λ c. is_clear (tables_of v) (row.Appl c)) v.appls
+      icons = all-weaker (λ x. true) (λ c. is_clear (tables_of v) (row.Icon c)) v.icons
+          (λ c e. free_clear (tables_of v) (row.Icon c) (record { placed = refl; lone = refl; inside = refl; few = few_to (λ (o : Icon). not (stands_before (icon_key c) (icon_key o))) v.icons most_icons s.few_icons })) (all-always v.icons);
+      appls = all-weaker (λ (a : Appl). has_file v.rows a.node) (λ c. is_clear (tables_of v) (row.Appl c)) v.appls
           (λ c e. free_clear (tables_of v) (row.Appl c) (record { placed = ap not (files_same v.rows c.node ∙ e); lone = refl; inside = refl; few = few_to (λ (o : Appl). not (stands_before (appl_key c) (appl_key o))) v.appls most_appls s.few_appls })) s.filed;
     }
 

@@ -1,12 +1,11 @@
 -- Records are good exactly where they are those of a volume, and of one alone.
 use Rattle.std.proofs.Common.{◌≡◌, ◌∙◌, ℕ, zero, suc, ◌<◌, arith, Bool, true, false, cond, List, [], ◌∷◌, map, length, drop, refl, sym, ap, subst}
-use Rattle.std.specs.Prelude.{None, T, nat_lt, ◌&&◌}
+use Rattle.std.specs.Prelude.{None, T, nat_lt}
 use Rattle.std.specs.FinMap.{entries, entries_sorted, entries-from_sorted, same_entries_map}
 use Rattle.std.specs.FinMap.Entries.{is_sorted, below_all}
 use Rattle.std.specs.Cmp.Lexicographic.{slice_cmp}
 use Rattle.std.specs.Ordering.{nat_cmp, is_lt}
-use Rattle.std.specs.declared.cmp.Ordering.{Ordering}
-use Rattle.std.specs.declared.cmp.Ordering.TheVariants.{Less, Equal, Greater}
+use Rattle.std.proofs.lemmas.Bool.{ltb-true}
 use Rattle.volume_spec.specs.VolumeState.{VolumeState}
 use Rattle.volume_spec.specs.SoundVolume.{IsSoundVolume}
 use Rattle.record_keeper.specs.declared.record.Record.{Record}
@@ -16,13 +15,13 @@ use Rattle.volume_keeper_records.specs.KeyOrder.{IsBelow, RisesByKey, with_head_
 use Rattle.record_keeper.specs.Reading.{most_records}
 use Rattle.volume_keeper_records.specs.FirstBad.{rows_in, first_bad_among, first_bad_record, too_many}
 use Rattle.volume_keeper_records.specs.Laws.{IsVolume, HasRecords, HasKeptRecords}
-use Rattle.volume_keeper_records.proofs.TestParts.{lt_of}
 use Rattle.volume_keeper_records.proofs.Whole.{IsWhole, counted_made, whole_good, tables_read}
 use Rattle.volume_keeper_records.proofs.ForkParts.{ForkLaw, volume_of}
 use Rattle.volume_keeper_records.proofs.VolumeTables.{tables_again, volume_typed}
 use Rattle.volume_keeper_records.proofs.VolumeSound.{volume_sound}
 use Rattle.volume_keeper_records.proofs.ImageClear.{image_whole, image_few, volume_again}
 use Rattle.volume_keeper_records.proofs.ImageRises.{image_rises}
+use Rattle.afp_base.proofs.Facts.{T_both, T_is_lt_less, T_left, T_right}
 
 -- where there are more records than so many, one stands behind them
 none_over : (k : ℕ) (rs : List Record) → k < length rs → too_many (drop k rs) ≡ None → ⊥
@@ -46,7 +45,7 @@ module _ (law : ForkLaw) where
 
   few_only : (name : List ℕ) (r : Record) (records : List Record) (b : Bool) → cond b (too_many (drop most_records (r ∷ records))) (first_bad_among name (with_head_and_root (r ∷ records))) ≡ None → nat_lt most_records (length (r ∷ records)) ≡ b → first_bad_among name (with_head_and_root (r ∷ records)) ≡ None
   few_only name r records false e h = e
-  few_only name r records true e h = absurd (none_over most_records (r ∷ records) (lt_of _ _ h) e)
+  few_only name r records true e h = absurd (none_over most_records (r ∷ records) (ltb-true _ _ h) e)
 
   pub good_images : (name : List ℕ) (records : List Record) → RisesByKey records → (records ≡ [] → ⊥) → first_bad_record name records ≡ None → (v : VolumeState) × HasRecords name records v
   good_images name [] s n e = absurd (n refl)
@@ -68,41 +67,24 @@ module _ (law : ForkLaw) where
 
 -- ---- maps
 
-both : (a b : Bool) → T a → T b → T (a && b)
-both true b p q = q
-both false b p q = p
-
-first : (a b : Bool) → T (a && b) → T a
-first true b p = tt
-first false b p = p
-
-second : (a b : Bool) → T (a && b) → T b
-second true b p = p
-second false b p = absurd p
-
-less : (o : Ordering) → T (is_lt o) → o ≡ Less
-less Less p = refl
-less Equal p = absurd p
-less Greater p = absurd p
-
 below_entries : (k : List ℕ) (rs : List Record) → IsBelow k rs → T (below_all (slice_cmp nat_cmp) k (entries_of rs))
 below_entries k [] b = tt
-below_entries k (r ∷ rs) b = both _ _ (subst (λ o. T (is_lt o)) (sym b.0) tt) (below_entries k rs b.1)
+below_entries k (r ∷ rs) b = T_both _ _ (subst (λ o. T (is_lt o)) (sym b.0) tt) (below_entries k rs b.1)
 
 sorted_entries : (rs : List Record) → RisesByKey rs → T (is_sorted (slice_cmp nat_cmp) (entries_of rs))
 sorted_entries [] s = tt
-sorted_entries (r ∷ rs) s = both _ _ (below_entries r.key rs s.0) (sorted_entries rs s.1)
+sorted_entries (r ∷ rs) s = T_both _ _ (below_entries r.key rs s.0) (sorted_entries rs s.1)
 
 abbrev pub records_by : List (List ℕ × List ℕ) → List Record
 records_by es = map (λ e. record { key = e.0; value = e.1 }) es
 
 below_records : (k : List ℕ) (es : List (List ℕ × List ℕ)) → T (below_all (slice_cmp nat_cmp) k es) → IsBelow k (records_by es)
 below_records k [] b = tt
-below_records k (e ∷ es) b = (less _ (first _ _ b), below_records k es (second _ _ b))
+below_records k (e ∷ es) b = (T_is_lt_less _ (T_left _ _ b), below_records k es (T_right _ _ b))
 
 rising_records : (es : List (List ℕ × List ℕ)) → T (is_sorted (slice_cmp nat_cmp) es) → RisesByKey (records_by es)
 rising_records [] s = tt
-rising_records (e ∷ es) s = (below_records e.0 es (first _ _ s), rising_records es (second _ _ s))
+rising_records (e ∷ es) s = (below_records e.0 es (T_left _ _ s), rising_records es (T_right _ _ s))
 
 there_and_back : (rs : List Record) → records_by (entries_of rs) ≡ rs
 there_and_back [] = refl

@@ -2,6 +2,8 @@
 use Rattle.std.proofs.Common.{◌≡◌, ◌∙◌, ℕ, ◌+◌, ◌*◌, ◌<◌, ◌≤◌, Bool, true, false, not, List, [], ◌∷◌, ◌++◌, map, length, refl, sym, ap, arith}
 use Rattle.std.specs.Prelude.{nat_le, nat_lt, ◌&&◌, ◌||◌, ◌==◌, bytes_eq, flat_map}
 use Rattle.std.specs.List.{list_all, list_any}
+use Rattle.std.proofs.lemmas.Bool.{and_from, eqb-true, leb-true, lt-ltb, ltb-true}
+use Rattle.std.proofs.lemmas.List.Folds.{list_all-map}
 use Rattle.fork_bytes.specs.declared.block.Block.{Block}
 use Rattle.afp_base.specs.Limits.{block_size, most_fork_bytes}
 use Rattle.fork_bytes.specs.Blocks.{blocks_of, trimmed}
@@ -15,7 +17,6 @@ use Rattle.volume_keeper_records.specs.declared.rows.TableRow.TheVariants as row
 use Rattle.volume_keeper_records.specs.Records.{record_of}
 use Rattle.volume_keeper_records.specs.Image.{Tables, image, rows_of, tables_of, node_of, fork_block_of, fork_blocks}
 use Rattle.volume_keeper_records.specs.KeyOrder.{RisesByKey}
-use Rattle.volume_keeper_records.proofs.TestParts.{left_true, right_true, both_true, cases, le_of, lt_of, lt_true, same_of, else_of, all-more, all-both, all-map, all-append}
 use Rattle.volume_keeper_records.proofs.Chains.{chain-map}
 use Rattle.volume_keeper_records.proofs.Counts.{sum_each}
 use Rattle.volume_keeper_records.proofs.RowKinds.{tag_of}
@@ -23,14 +24,16 @@ use Rattle.volume_keeper_records.proofs.RowOrder.{rows_both, nodes_up, comments_
 use Rattle.volume_keeper_records.proofs.ForkParts.{ForkLaw}
 use Rattle.volume_keeper_records.proofs.SoundFacts.{SoundFacts, sound_facts}
 use Rattle.volume_keeper_records.proofs.ImageBlocks.{all_chain, all-pass}
+use Rattle.afp_base.proofs.Facts.{cases, else_of, left_true, right_true}
+use Rattle.afp_base.proofs.ListFacts.{all-and, all-append, all-weaker}
 
 -- ---- rows of several kinds
 
 tags_at_most : {A : Type 0} (make : A → TableRow) (k : ℕ) → ((a : A) → nat_le (tag_of (make a)) k ≡ true) → (xs : List A) → list_all (λ x. nat_le (tag_of x) k) (map make xs) ≡ true
-tags_at_most make k h xs = all-map (λ x. nat_le (tag_of x) k) make xs ∙ all-pass (λ a. nat_le (tag_of (make a)) k) h xs
+tags_at_most make k h xs = list_all-map (λ x. nat_le (tag_of x) k) make xs ∙ all-pass (λ a. nat_le (tag_of (make a)) k) h xs
 
 tags_over : {A : Type 0} (make : A → TableRow) (k : ℕ) → ((a : A) → nat_lt k (tag_of (make a)) ≡ true) → (xs : List A) → list_all (λ x. nat_lt k (tag_of x)) (map make xs) ≡ true
-tags_over make k h xs = all-map (λ x. nat_lt k (tag_of x)) make xs ∙ all-pass (λ a. nat_lt k (tag_of (make a))) h xs
+tags_over make k h xs = list_all-map (λ x. nat_lt k (tag_of x)) make xs ∙ all-pass (λ a. nat_lt k (tag_of (make a))) h xs
 
 pub rows_rise : (t : Tables) → RisesByKey (map record_of (map (λ x. row.Node x) t.nodes)) → RisesByKey (map record_of (map (λ x. row.Block x) t.blocks)) → RisesByKey (map record_of (map (λ x. row.Comment x) t.comments))
     → RisesByKey (map record_of (map (λ x. row.Icon x) t.icons)) → RisesByKey (map record_of (map (λ x. row.Appl x) t.appls)) → RisesByKey (map record_of (rows_of t))
@@ -59,15 +62,15 @@ rows_rise t n b c i a =
 -- an id is the root's, or one that was drawn
 long_id : (v : VolumeState) → SoundFacts v → (r : VolumeRow) → is_in_place v r ≡ true → is_long r.id ≡ true
 long_id v s r place = cases (r.id == root_id)
-    (λ e. let is : r.id ≡ 2 = same_of r.id root_id e in lt_true r.id 4294967296 (omega (arith, is)))
+    (λ e. let is : r.id ≡ 2 = eqb-true r.id root_id e in lt-ltb r.id 4294967296 (omega (arith, is)))
     (λ e.
     let range = left_true (nat_le first_id r.id && nat_lt r.id v.next_id) (leads_to_root v.rows (length v.rows) r.parent) (else_of (r.id == root_id) (r.dir && ((r.parent == root_parent) && bytes_eq r.name v.name)) ((nat_le first_id r.id && nat_lt r.id v.next_id) && leads_to_root v.rows (length v.rows) r.parent) e place) in
-    let below : r.id < v.next_id = lt_of _ _ (right_true (nat_le first_id r.id) (nat_lt r.id v.next_id) range) in
-    let most : v.next_id ≤ 4294967296 = le_of _ _ (right_true (nat_le first_id v.next_id) (nat_le v.next_id last_next_id) s.next) in
-    lt_true r.id 4294967296 (omega (arith, below, most)))
+    let below : r.id < v.next_id = ltb-true _ _ (right_true (nat_le first_id r.id) (nat_lt r.id v.next_id) range) in
+    let most : v.next_id ≤ 4294967296 = leb-true _ _ (right_true (nat_le first_id v.next_id) (nat_le v.next_id last_next_id) s.next) in
+    lt-ltb r.id 4294967296 (omega (arith, below, most)))
 
 long_rows : (v : VolumeState) → SoundFacts v → list_all (λ (r : VolumeRow). is_long r.id) v.rows ≡ true
-long_rows v s = all-more (is_in_place v) (λ (r : VolumeRow). is_long r.id) v.rows (long_id v s) s.places
+long_rows v s = all-weaker (is_in_place v) (λ (r : VolumeRow). is_long r.id) v.rows (long_id v s) s.places
 
 -- what stands on a row has its id
 on_row : (p : VolumeRow → Bool) (rs : List VolumeRow) (id : ℕ) → ((r : VolumeRow) → p r ≡ true → r.id ≡ id) → list_all (λ (r : VolumeRow). is_long r.id) rs ≡ true → list_any p rs ≡ true → is_long id ≡ true
@@ -79,11 +82,11 @@ on_row p (r ∷ rs) id h e a = cases (p r)
 fit_index : (id len : ℕ) (f : Bool) (b : Block) → is_long id ≡ true → len ≤ 268435456 → is_kept len b ≡ true → is_fit_block (fork_block_of id f b) ≡ true
 fit_index id len f b i small kept =
     let sizes = right_true (bytes_eq (trimmed b.bytes) b.bytes) (nat_le (length b.bytes) block_size && nat_le (block_size * b.index + length b.bytes) len) kept in
-    let within : 4096 * b.index + length b.bytes ≤ len = le_of _ _ (right_true (nat_le (length b.bytes) block_size) (nat_le (block_size * b.index + length b.bytes) len) sizes) in
-    both_true (is_long id) (is_long b.index) i (lt_true b.index 4294967296 (omega (arith, within, small)))
+    let within : 4096 * b.index + length b.bytes ≤ len = leb-true _ _ (right_true (nat_le (length b.bytes) block_size) (nat_le (block_size * b.index + length b.bytes) len) sizes) in
+    and_from (is_long id) (is_long b.index) i (lt-ltb b.index 4294967296 (omega (arith, within, small)))
 
 fit_fork : ForkLaw → (id : ℕ) (f : Bool) (bytes : List ℕ) → is_long id ≡ true → length bytes ≤ 268435456 → list_all is_fit_block (map (fork_block_of id f) (blocks_of bytes)) ≡ true
-fit_fork law id f bytes i small = all-map is_fit_block (fork_block_of id f) (blocks_of bytes) ∙ all-more (is_kept (length bytes)) (λ b. is_fit_block (fork_block_of id f b)) (blocks_of bytes) (λ b k. fit_index id (length bytes) f b i small k) (law.kept bytes)
+fit_fork law id f bytes i small = list_all-map is_fit_block (fork_block_of id f) (blocks_of bytes) ∙ all-weaker (is_kept (length bytes)) (λ b. is_fit_block (fork_block_of id f b)) (blocks_of bytes) (λ b k. fit_index id (length bytes) f b i small k) (law.kept bytes)
 
 abbrev pub is_small : VolumeRow → Bool
 is_small r = is_long r.id && nat_le (length r.data_fork + length r.resource_fork) most_fork_bytes
@@ -93,7 +96,7 @@ fit_blocks law [] e = refl
 fit_blocks law (r ∷ rs) e =
     let here = left_true (is_small r) (list_all is_small rs) e in
     let id = left_true (is_long r.id) (nat_le (length r.data_fork + length r.resource_fork) most_fork_bytes) here in
-    let small : length r.data_fork + length r.resource_fork ≤ 268435456 = le_of _ _ (right_true (is_long r.id) (nat_le (length r.data_fork + length r.resource_fork) most_fork_bytes) here) in
+    let small : length r.data_fork + length r.resource_fork ≤ 268435456 = leb-true _ _ (right_true (is_long r.id) (nat_le (length r.data_fork + length r.resource_fork) most_fork_bytes) here) in
     all-append is_fit_block (fork_blocks r) (flat_map fork_blocks rs)
     (all-append is_fit_block (map (fork_block_of r.id false) (blocks_of r.data_fork)) (map (fork_block_of r.id true) (blocks_of r.resource_fork))
     (fit_fork law r.id false r.data_fork id (omega (arith, small))) (fit_fork law r.id true r.resource_fork id (omega (arith, small))))
@@ -103,15 +106,15 @@ pub image_rises : ForkLaw → (v : VolumeState) → IsSoundVolume v → RisesByK
 image_rises law v sound =
     let s = sound_facts v sound in
     let ids = long_rows v s in
-    let small = all-both (λ (r : VolumeRow). is_long r.id) (λ r. nat_le (length r.data_fork + length r.resource_fork) most_fork_bytes) v.rows ids (sum_each (λ (r : VolumeRow). length r.data_fork + length r.resource_fork) v.rows most_fork_bytes s.few_bytes) in
-    let on_node : (id : ℕ) → has_node v.rows id ≡ true → is_long id ≡ true = λ id. on_row (λ (r : VolumeRow). r.id == id) v.rows id (λ r t. same_of r.id id t) ids in
-    let on_file : (id : ℕ) → has_file v.rows id ≡ true → is_long id ≡ true = λ id. on_row (λ (r : VolumeRow). (r.id == id) && not r.dir) v.rows id (λ r t. same_of r.id id (left_true (r.id == id) (not r.dir) t)) ids in
+    let small = all-and (λ (r : VolumeRow). is_long r.id) (λ r. nat_le (length r.data_fork + length r.resource_fork) most_fork_bytes) v.rows ids (sum_each (λ (r : VolumeRow). length r.data_fork + length r.resource_fork) v.rows most_fork_bytes s.few_bytes) in
+    let on_node : (id : ℕ) → has_node v.rows id ≡ true → is_long id ≡ true = λ id. on_row (λ (r : VolumeRow). r.id == id) v.rows id (λ r t. eqb-true r.id id t) ids in
+    let on_file : (id : ℕ) → has_file v.rows id ≡ true → is_long id ≡ true = λ id. on_row (λ (r : VolumeRow). (r.id == id) && not r.dir) v.rows id (λ r t. eqb-true r.id id (left_true (r.id == id) (not r.dir) t)) ids in
     rows_rise (tables_of v)
-    (nodes_up (map node_of v.rows) (all-map (λ (n : Node). is_long n.id) node_of v.rows ∙ ids) (chain-map (λ (a : Node) b. nat_lt a.id b.id) node_of v.rows s.ids))
+    (nodes_up (map node_of v.rows) (list_all-map (λ (n : Node). is_long n.id) node_of v.rows ∙ ids) (chain-map (λ (a : Node) b. nat_lt a.id b.id) node_of v.rows s.ids))
     (blocks_up (flat_map fork_blocks v.rows) (fit_blocks law v.rows small) (all_chain law v.rows s.ids))
-    (comments_up v.comments (all-more (λ (c : Comment). has_node v.rows c.node) (λ (c : Comment). is_long c.node) v.comments (λ c e. on_node c.node e) s.commented) s.comment_order)
+    (comments_up v.comments (all-weaker (λ (c : Comment). has_node v.rows c.node) (λ (c : Comment). is_long c.node) v.comments (λ c e. on_node c.node e) s.commented) s.comment_order)
     (icons_up v.icons s.icon_order)
     (appls_up v.appls
-    (all-both (λ (a : Appl). is_long a.node) (λ (a : Appl). length a.creator == code_size) v.appls
-    (all-more (λ (a : Appl). has_file v.rows a.node) (λ (a : Appl). is_long a.node) v.appls (λ a e. on_file a.node e) s.filed) s.creators)
+    (all-and (λ (a : Appl). is_long a.node) (λ (a : Appl). length a.creator == code_size) v.appls
+    (all-weaker (λ (a : Appl). has_file v.rows a.node) (λ (a : Appl). is_long a.node) v.appls (λ a e. on_file a.node e) s.filed) s.creators)
     s.appl_order)

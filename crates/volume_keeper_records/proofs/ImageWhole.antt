@@ -2,21 +2,22 @@
 use Rattle.std.proofs.Common.{◌≡◌, ◌∙◌, ℕ, zero, suc, ◌+◌, ◌<◌, ◌≤◌, Bool, true, false, cond, not, List, [], ◌∷◌, map, length, refl, sym, ap, arith}
 use Rattle.std.specs.Prelude.{nat_le, nat_lt, ◌&&◌, ◌||◌, ◌==◌, bytes_eq, bit_and, sum_by}
 use Rattle.std.specs.List.{list_all, list_any}
+use Rattle.std.proofs.lemmas.Bool.{and_from, and_parts, eq-eqb, le-ltb, leb-true, lt-ltb, ltb-true, ne_eqb, not-true, not_from_false, or_from, or_left, or_right}
 use Rattle.volume_spec.specs.VolumeState.{VolumeState, root_id, root_parent, first_id, Row as VolumeRow}
 use Rattle.afp_base.specs.Apart.{are_apart}
 use Rattle.afp_base.specs.Limits.{most_fork_bytes}
 use Rattle.volume_spec.specs.SoundVolume.{is_in_place, are_named_alike, has_node, has_file, leads_to_root, is_named, most_nodes, file_attributes, dir_attributes, is_formed as is_formed_row}
 use Rattle.volume_spec.specs.TypedVolume.{is_word, is_long, is_date, is_quad, are_bytes, is_typed_row}
-use Rattle.volume_spec.proofs.TestedLists.{any-map, length-mapped}
 use Rattle.volume_keeper_records.specs.declared.rows.Node.{Node}
 use Rattle.volume_keeper_records.specs.declared.rows.TableRow.TheVariants as row
 use Rattle.volume_keeper_records.specs.Shape.{bare_row, is_formed_node, is_root_or_other}
 use Rattle.volume_keeper_records.specs.Image.{tables_of, node_of}
 use Rattle.volume_keeper_records.specs.FirstBad.{nodes_to, lacks_parent, is_out_of_range, passes_limit}
-use Rattle.volume_keeper_records.proofs.TestParts.{left_true, right_true, both_true, or_left, or_right, cases, lt_of, le_of, lt_true, lt_false, same_true, other_false, turn_false, not_true, either_false, neither, all-more, all-both, any-same, pick, then_of, else_of, parts}
-use Rattle.volume_keeper_records.proofs.Chains.{Chain, filter-most, sum-filter, sum-map}
+use Rattle.volume_keeper_records.proofs.Chains.{Chain, sum-filter, sum-map}
 use Rattle.volume_keeper_records.proofs.VolumeSound.{alike, no_twins}
 use Rattle.volume_keeper_records.proofs.SoundFacts.{SoundFacts}
+use Rattle.afp_base.proofs.Facts.{cases, else_of, left_true, pick, right_true, then_of}
+use Rattle.afp_base.proofs.ListFacts.{all-and, all-weaker, any-map, any-same, length-filter-le, length-mapped, none-any}
 
 -- ---- the tree is the same with no bytes in its forks
 
@@ -57,7 +58,7 @@ formed_bare true false attr_d attr_f filed x y e = absurd (cc)
 formed_bare false named attr_d attr_f filed x y e = (e, refl)
 
 small_fork : (k m : ℕ) → k ≤ m → m ≤ 268435456 → is_quad k ≡ true
-small_fork k m h l = lt_true k 18446744073709551616 (omega (arith, h, l))
+small_fork k m h l = lt-ltb k 18446744073709551616 (omega (arith, h, l))
 
 -- what is known of each row
 abbrev pub is_good_row : VolumeState → VolumeRow → Bool
@@ -68,7 +69,7 @@ node_formed v r g =
     let first = left_true (is_typed_row r && is_formed_row r) (is_in_place v r && nat_le (length r.data_fork + length r.resource_fork) most_fork_bytes) g in
     let second = right_true (is_typed_row r && is_formed_row r) (is_in_place v r && nat_le (length r.data_fork + length r.resource_fork) most_fork_bytes) g in
     let place = left_true (is_in_place v r) (nat_le (length r.data_fork + length r.resource_fork) most_fork_bytes) second in
-    let small : length r.data_fork + length r.resource_fork ≤ 268435456 = le_of _ _ (right_true (is_in_place v r) (nat_le (length r.data_fork + length r.resource_fork) most_fork_bytes) second) in
+    let small : length r.data_fork + length r.resource_fork ≤ 268435456 = leb-true _ _ (right_true (is_in_place v r) (nat_le (length r.data_fork + length r.resource_fork) most_fork_bytes) second) in
     let typed : is_typed_row (bare_row (node_of r)) ≡ true = typed_bare (is_long r.id) (is_long r.parent) (is_word r.attributes) (is_date r.created) (is_date r.modified) (is_date r.backup) (are_bytes r.finder) (are_bytes r.name) (are_bytes r.data_fork) (are_bytes r.resource_fork)
     (left_true (is_typed_row r) (is_formed_row r) first) in
     let formed = formed_bare r.dir (is_named r) (bit_and r.attributes dir_attributes == r.attributes) (bit_and r.attributes file_attributes == r.attributes) r.filed (length r.data_fork == 0) (length r.resource_fork == 0) (right_true (is_typed_row r) (is_formed_row r) first) in
@@ -102,45 +103,41 @@ module _ (v : VolumeState) (facts : SoundFacts v) where
       (λ e. root_low r.id v.next_id e)
       (λ e.
       let range = left_true (nat_le first_id r.id && nat_lt r.id v.next_id) (leads_to_root v.rows (length v.rows) r.parent) (else_of (r.id == root_id) (r.dir && ((r.parent == root_parent) && bytes_eq r.name v.name)) ((nat_le first_id r.id && nat_lt r.id v.next_id) && leads_to_root v.rows (length v.rows) r.parent) e place) in
-      let low = lt_false r.id first_id (le_of _ _ (left_true (nat_le first_id r.id) (nat_lt r.id v.next_id) range)) in
+      let low = le-ltb r.id first_id (leb-true _ _ (left_true (nat_le first_id r.id) (nat_lt r.id v.next_id) range)) in
       let high = not_below r.id v.next_id (right_true (nat_le first_id r.id) (nat_lt r.id v.next_id) range) in
       λ i. not (e i) && (low i || high i))
 
   pub node_few : (r : VolumeRow) → passes_limit (tables_of v) (row.Node (node_of r)) ≡ false
   node_few r =
-      let count = lt_false most_nodes (length (nodes_to (node_of r) (tables_of v))) (let a = filter-most (λ (o : Node). nat_le o.id r.id) (map node_of v.rows) in let b = length-mapped node_of v.rows in let c = facts.few_rows in omega (arith, a, b, c)) in
-      let sum = lt_false most_fork_bytes (sum_by (λ (o : Node). o.data_length + o.resource_length) (nodes_to (node_of r) (tables_of v)))
+      let count = le-ltb most_nodes (length (nodes_to (node_of r) (tables_of v))) (let a = length-filter-le (λ (o : Node). nat_le o.id r.id) (map node_of v.rows) in let b = length-mapped node_of v.rows in let c = facts.few_rows in omega (arith, a, b, c)) in
+      let sum = le-ltb most_fork_bytes (sum_by (λ (o : Node). o.data_length + o.resource_length) (nodes_to (node_of r) (tables_of v)))
       (let a = sum-filter (λ (o : Node). o.data_length + o.resource_length) (λ o. nat_le o.id r.id) (map node_of v.rows) in
       let b = sum-map (λ (o : Node). o.data_length + o.resource_length) node_of (λ (s : VolumeRow). length s.data_fork + length s.resource_fork) v.rows (λ s. refl) in
       let c = facts.few_bytes in omega (arith, a, b, c)) in
-      either_false _ _ count sum
+      or_from _ _ count sum
 
 -- nodes whose names are apart have no twins
 later_none : (x : Node) (xs : List Node) → list_all (λ (n : Node). nat_lt x.id n.id) xs ≡ true → list_all (λ (o : Node). not (nat_lt o.id x.id && alike o x)) xs ≡ true
-later_none x xs c = all-more (λ (n : Node). nat_lt x.id n.id) (λ (o : Node). not (nat_lt o.id x.id && alike o x)) xs
-    (λ o e. let low : nat_lt o.id x.id ≡ false = lt_false _ _ (let l : x.id < o.id = lt_of _ _ e in omega arith) in ap (λ b. not (b && alike o x)) low) c
+later_none x xs c = all-weaker (λ (n : Node). nat_lt x.id n.id) (λ (o : Node). not (nat_lt o.id x.id && alike o x)) xs
+    (λ o e. let low : nat_lt o.id x.id ≡ false = le-ltb _ _ (let l : x.id < o.id = ltb-true _ _ e in omega arith) in ap (λ b. not (b && alike o x)) low) c
 
 not_and : (a b : Bool) → b ≡ false → not (a && b) ≡ true
-not_and true b e = not_true b e
+not_and true b e = not_from_false b e
 not_and false b e = refl
 
 pub no_twins_apart : (ns : List Node) → Chain (λ (a : Node) b. nat_lt a.id b.id) ns → are_apart alike ns ≡ true → no_twins ns ns ≡ true
 no_twins_apart [] c e = refl
 no_twins_apart (x ∷ xs) c e =
-    let two = parts (not (list_any (alike x) xs)) (are_apart alike xs) e in
-    let itself : not (nat_lt x.id x.id && alike x x) ≡ true = ap (λ b. not (b && alike x x)) (lt_false x.id x.id (omega arith)) in
+    let two = and_parts (not (list_any (alike x) xs)) (are_apart alike xs) e in
+    let itself : not (nat_lt x.id x.id && alike x x) ≡ true = ap (λ b. not (b && alike x x)) (le-ltb x.id x.id (omega arith)) in
     let rest = no_twins_apart xs c.1 two.1 in
-    both_true (list_all (λ (o : Node). not (nat_lt o.id x.id && alike o x)) (x ∷ xs)) (no_twins (x ∷ xs) xs)
-    (both_true (not (nat_lt x.id x.id && alike x x)) (list_all (λ (o : Node). not (nat_lt o.id x.id && alike o x)) xs) itself (later_none x xs c.0))
-    (all-more (λ (n : Node). not (alike x n) && list_all (λ (o : Node). not (nat_lt o.id n.id && alike o n)) xs) (λ (n : Node). list_all (λ (o : Node). not (nat_lt o.id n.id && alike o n)) (x ∷ xs)) xs
-    (λ n h. both_true (not (nat_lt x.id n.id && alike x n)) (list_all (λ (o : Node). not (nat_lt o.id n.id && alike o n)) xs)
-    (not_and (nat_lt x.id n.id) (alike x n) (turn_false (alike x n) (left_true (not (alike x n)) (list_all (λ (o : Node). not (nat_lt o.id n.id && alike o n)) xs) h)))
+    and_from (list_all (λ (o : Node). not (nat_lt o.id x.id && alike o x)) (x ∷ xs)) (no_twins (x ∷ xs) xs)
+    (and_from (not (nat_lt x.id x.id && alike x x)) (list_all (λ (o : Node). not (nat_lt o.id x.id && alike o x)) xs) itself (later_none x xs c.0))
+    (all-weaker (λ (n : Node). not (alike x n) && list_all (λ (o : Node). not (nat_lt o.id n.id && alike o n)) xs) (λ (n : Node). list_all (λ (o : Node). not (nat_lt o.id n.id && alike o n)) (x ∷ xs)) xs
+    (λ n h. and_from (not (nat_lt x.id n.id && alike x n)) (list_all (λ (o : Node). not (nat_lt o.id n.id && alike o n)) xs)
+    (not_and (nat_lt x.id n.id) (alike x n) (not-true (alike x n) (left_true (not (alike x n)) (list_all (λ (o : Node). not (nat_lt o.id n.id && alike o n)) xs) h)))
     (right_true (not (alike x n)) (list_all (λ (o : Node). not (nat_lt o.id n.id && alike o n)) xs) h))
-    (all-both (λ (n : Node). not (alike x n)) (λ (n : Node). list_all (λ (o : Node). not (nat_lt o.id n.id && alike o n)) xs) xs (none_of (alike x) xs (turn_false (list_any (alike x) xs) two.0)) rest))
-  where
-    none_of : (p : Node → Bool) (ys : List Node) → list_any p ys ≡ false → list_all (λ y. not (p y)) ys ≡ true
-    none_of p [] h = refl
-    none_of p (y ∷ ys) h = let t = neither (p y) (list_any p ys) h in both_true (not (p y)) (list_all (λ y. not (p y)) ys) (not_true (p y) t.0) (none_of p ys t.1)
+    (all-and (λ (n : Node). not (alike x n)) (λ (n : Node). list_all (λ (o : Node). not (nat_lt o.id n.id && alike o n)) xs) xs (none-any (alike x) xs (not-true (list_any (alike x) xs) two.0)) rest))
 
 pub apart_nodes : (rs : List VolumeRow) → are_apart alike (map node_of rs) ≡ are_apart are_named_alike rs
 apart_nodes [] = refl
@@ -153,29 +150,29 @@ abbrev pub same_forks : VolumeRow → VolumeRow → Bool
 same_forks r o = not (o.id == r.id) || ((length o.data_fork == length r.data_fork) && (length o.resource_fork == length r.resource_fork))
 
 other_id : (r o : VolumeRow) → (o.id ≡ r.id → ⊥) → same_forks r o ≡ true
-other_id r o h = or_left (not (o.id == r.id)) ((length o.data_fork == length r.data_fork) && (length o.resource_fork == length r.resource_fork)) (ap not (other_false o.id r.id h))
+other_id r o h = or_left (not (o.id == r.id)) ((length o.data_fork == length r.data_fork) && (length o.resource_fork == length r.resource_fork)) (ap not (ne_eqb o.id r.id h))
 
 pub one_row : (rs : List VolumeRow) → Chain (λ (a : VolumeRow) b. nat_lt a.id b.id) rs → list_all (λ r. list_all (same_forks r) rs) rs ≡ true
 one_row [] c = refl
 one_row (x ∷ xs) c =
     let itself : same_forks x x ≡ true = or_right (not (x.id == x.id)) ((length x.data_fork == length x.data_fork) && (length x.resource_fork == length x.resource_fork))
-    (both_true (length x.data_fork == length x.data_fork) (length x.resource_fork == length x.resource_fork) (same_true (length x.data_fork) (length x.data_fork) refl) (same_true (length x.resource_fork) (length x.resource_fork) refl)) in
-    both_true (list_all (same_forks x) (x ∷ xs)) (list_all (λ r. list_all (same_forks r) (x ∷ xs)) xs)
-    (both_true (same_forks x x) (list_all (same_forks x) xs) itself (all-more (λ (o : VolumeRow). nat_lt x.id o.id) (same_forks x) xs (λ o e. other_id x o (λ h. absurd (let l : x.id < o.id = lt_of _ _ e in omega arith))) c.0))
-    (all-more (λ (r : VolumeRow). nat_lt x.id r.id && list_all (same_forks r) xs) (λ r. list_all (same_forks r) (x ∷ xs)) xs
-    (λ r h. both_true (same_forks r x) (list_all (same_forks r) xs)
-    (other_id r x (λ k. absurd (let l : x.id < r.id = lt_of _ _ (left_true (nat_lt x.id r.id) (list_all (same_forks r) xs) h) in omega arith)))
+    (and_from (length x.data_fork == length x.data_fork) (length x.resource_fork == length x.resource_fork) (eq-eqb (length x.data_fork) (length x.data_fork) refl) (eq-eqb (length x.resource_fork) (length x.resource_fork) refl)) in
+    and_from (list_all (same_forks x) (x ∷ xs)) (list_all (λ r. list_all (same_forks r) (x ∷ xs)) xs)
+    (and_from (same_forks x x) (list_all (same_forks x) xs) itself (all-weaker (λ (o : VolumeRow). nat_lt x.id o.id) (same_forks x) xs (λ o e. other_id x o (λ h. absurd (let l : x.id < o.id = ltb-true _ _ e in omega arith))) c.0))
+    (all-weaker (λ (r : VolumeRow). nat_lt x.id r.id && list_all (same_forks r) xs) (λ r. list_all (same_forks r) (x ∷ xs)) xs
+    (λ r h. and_from (same_forks r x) (list_all (same_forks r) xs)
+    (other_id r x (λ k. absurd (let l : x.id < r.id = ltb-true _ _ (left_true (nat_lt x.id r.id) (list_all (same_forks r) xs) h) in omega arith)))
     (right_true (nat_lt x.id r.id) (list_all (same_forks r) xs) h))
-    (all-both (λ (r : VolumeRow). nat_lt x.id r.id) (λ r. list_all (same_forks r) xs) xs c.0 (one_row xs c.1)))
+    (all-and (λ (r : VolumeRow). nat_lt x.id r.id) (λ r. list_all (same_forks r) xs) xs c.0 (one_row xs c.1)))
 
 -- a row is a directory, or its file is there
 pub each_there : (rs : List VolumeRow) → list_all (λ (r : VolumeRow). r.dir || has_file rs r.id) rs ≡ true
 each_there [] = refl
 each_there (x ∷ xs) =
-    both_true (x.dir || has_file (x ∷ xs) x.id) (list_all (λ (r : VolumeRow). r.dir || has_file (x ∷ xs) r.id) xs)
+    and_from (x.dir || has_file (x ∷ xs) x.id) (list_all (λ (r : VolumeRow). r.dir || has_file (x ∷ xs) r.id) xs)
     (cases x.dir (λ d. or_left x.dir (has_file (x ∷ xs) x.id) d)
-    (λ d. or_right x.dir (has_file (x ∷ xs) x.id) (or_left (x.id == x.id && not x.dir) (has_file xs x.id) (both_true (x.id == x.id) (not x.dir) (same_true x.id x.id refl) (not_true x.dir d)))))
-    (all-more (λ (r : VolumeRow). r.dir || has_file xs r.id) (λ (r : VolumeRow). r.dir || has_file (x ∷ xs) r.id) xs
+    (λ d. or_right x.dir (has_file (x ∷ xs) x.id) (or_left (x.id == x.id && not x.dir) (has_file xs x.id) (and_from (x.id == x.id) (not x.dir) (eq-eqb x.id x.id refl) (not_from_false x.dir d)))))
+    (all-weaker (λ (r : VolumeRow). r.dir || has_file xs r.id) (λ (r : VolumeRow). r.dir || has_file (x ∷ xs) r.id) xs
     (λ r e. cases r.dir (λ d. or_left r.dir (has_file (x ∷ xs) r.id) d)
     (λ d. or_right r.dir (has_file (x ∷ xs) r.id) (or_right (x.id == r.id && not x.dir) (has_file xs r.id) (ap (λ b. b || has_file xs r.id) (sym d) ∙ e)))) (each_there xs))
 

@@ -1,4 +1,3 @@
-pub mod TestParts
 pub mod ByteOrder
 pub mod ReadBack
 pub mod Parted

@@ -2,6 +2,7 @@
 use Rattle.std.proofs.Common.{◌≡◌, ◌∙◌, ℕ, ◌<◌, ◌≤◌, cond, List, [], ◌∷◌, map, length, drop, get_or, refl, sym, ap, arith, Option}
 use Rattle.std.specs.Prelude.{Some, None}
 use Rattle.std.proofs.Math.Seq.{drop-cons}
+use Rattle.std.proofs.lemmas.Bool.{le-ltb, lt-ltb}
 use Rattle.volume_spec.specs.VolumeState.{VolumeState}
 use Rattle.record_keeper.specs.declared.record.Record.{Record}
 use Rattle.volume_keeper_records.specs.declared.rows.Reason.TheVariants.{Limit}
@@ -14,7 +15,6 @@ use Rattle.record_keeper.specs.Reading.{most_records}
 use Rattle.volume_keeper_records.specs.FirstBad.{rows_in, first_bad_among, first_bad_record, too_many}
 use Rattle.volume_keeper_records.specs.lemma.Judged.{said_rows}
 use Rattle.volume_keeper_records.specs.Loaded.{IsVolumeOf}
-use Rattle.volume_keeper_records.proofs.TestParts.{lt_true, lt_false}
 use Rattle.volume_keeper_records.proofs.MissingKeys.{rises_with}
 use Rattle.volume_keeper_records.proofs.Whole.{counted_made}
 use Rattle.volume_keeper_records.proofs.ForkParts.{ForkLaw, volume_of}
@@ -26,12 +26,12 @@ use Rattle.volume_keeper_records.proofs.Passing.{said_all}
 pub over_many : (name : List ℕ) (records : List Record) (r : Record) → 480000 < length records → r ≡ get_or records 480000 r → first_bad_record name records ≡ Some (record { key = r.key; reason = Limit })
 over_many name [] r h e = absurd (omega arith)
 over_many name (x ∷ xs) r h e =
-    ap (λ b. cond b (too_many (drop most_records (x ∷ xs))) (first_bad_among name (with_head_and_root (x ∷ xs)))) (lt_true most_records (length (x ∷ xs)) h)
+    ap (λ b. cond b (too_many (drop most_records (x ∷ xs))) (first_bad_among name (with_head_and_root (x ∷ xs)))) (lt-ltb most_records (length (x ∷ xs)) h)
     ∙ ap too_many (drop-cons (x ∷ xs) 480000 r h) ∙ ap (λ (q : Record). Some (record { key = q.key; reason = Limit })) (sym e)
 
 pub judged_counted : (name : List ℕ) (records : List Record) → (records ≡ [] → ⊥) → length records ≤ 480000 → first_bad_record name records ≡ first_bad_among name (with_head_and_root records)
 judged_counted name [] n h = absurd (n refl)
-judged_counted name (x ∷ xs) n h = ap (λ b. cond b (too_many (drop most_records (x ∷ xs))) (first_bad_among name (with_head_and_root (x ∷ xs)))) (lt_false most_records (length (x ∷ xs)) h)
+judged_counted name (x ∷ xs) n h = ap (λ b. cond b (too_many (drop most_records (x ∷ xs))) (first_bad_among name (with_head_and_root (x ∷ xs)))) (le-ltb most_records (length (x ∷ xs)) h)
 
 pub counted_rises : (records : List Record) → RisesByKey records → RisesByKey (with_head_and_root records)
 counted_rises records s = rises_with head_key (with_key root_key records) (rises_with root_key records s)

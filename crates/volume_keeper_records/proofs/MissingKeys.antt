@@ -8,12 +8,12 @@ use Rattle.std.specs.FinMap.{slice_cmp-IsAntisymmetric, nat_cmp-IsAntisymmetric}
 use Rattle.std.specs.declared.cmp.Ordering.{Ordering}
 use Rattle.std.specs.declared.cmp.Ordering.TheVariants.{Less, Equal, Greater}
 use Rattle.std.proofs.lemmas.Slice.Eq.{bytes_eq-Decides}
+use Rattle.std.proofs.lemmas.Bool.{or_right}
 use Rattle.record_keeper.specs.declared.record.Record.{Record}
 use Rattle.volume_keeper_records.specs.Shape.{row_in}
 use Rattle.volume_keeper_records.specs.KeyOrder.{IsBelow, RisesByKey, with_key, root_key}
 use Rattle.volume_keeper_records.specs.Records.{head_key}
 use Rattle.volume_keeper_records.specs.lemma.KeyOrder.{has_key}
-use Rattle.volume_keeper_records.proofs.TestParts.{or_right}
 use Rattle.afp_names.specs.Name.{name_fault}
 
 -- no record is of another shape than a volume's

@@ -1,5 +1,5 @@
 -- The reasons of a pass by rising key are those among all records.
-use Rattle.std.proofs.Common.{◌≡◌, ◌∙◌, ℕ, zero, suc, ◌+◌, ◌*◌, ◌<◌, ◌≤◌, Bool, true, false, cond, not, List, [], ◌∷◌, ◌++◌, map, length, take, drop, get_or, refl, sym, ap, subst, arith, Option, length-append}
+use Rattle.std.proofs.Common.{◌≡◌, ◌∙◌, ℕ, zero, suc, ◌+◌, ◌*◌, ◌<◌, ◌≤◌, Bool, true, false, cond, not, List, [], ◌∷◌, ◌++◌, map, length, take, drop, get_or, refl, sym, ap, subst, arith, Option}
 use Rattle.std.specs.Prelude.{Some, None, nat_le, nat_lt, ◌&&◌, ◌||◌, ◌==◌, bytes_eq, sum_by}
 use Rattle.std.specs.List.{list_all, list_any, filter, filter_map, cons_option, AllByRecursion}
 use Rattle.std.specs.List.Sorted.{IsStrictlySortedBy}
@@ -7,14 +7,16 @@ use Rattle.std.specs.Cmp.{nat_cmp_is}
 use Rattle.std.specs.Cmp.Lexicographic.{slice_cmp}
 use Rattle.std.specs.Ordering.{nat_cmp}
 use Rattle.std.specs.declared.cmp.Ordering.TheVariants.{Less}
-use Rattle.std.proofs.lemmas.List.{take_more, take-append-drop, get_or-map, map-append}
+use Rattle.std.proofs.lemmas.List.Elements.{filter_map-append}
+use Rattle.std.proofs.lemmas.List.{take_more, take-append-drop, get_or-map, map-append, length_push, append-nil}
 use Rattle.std.proofs.Math.Seq.{drop-cons}
+use Rattle.std.proofs.lemmas.Bool.{and_from, le-leb, le-ltb, ltb-true}
+use Rattle.std.proofs.lemmas.List.Sums.{sum_by_push}
 use Rattle.afp_names.specs.Name.{name_key}
 use Rattle.volume_spec.specs.VolumeState.{Icon, Appl, root_id, Row as VolumeRow}
 use Rattle.volume_spec.specs.Order.{stands_before}
 use Rattle.afp_base.specs.Limits.{most_fork_bytes}
 use Rattle.volume_spec.specs.SoundVolume.{has_node, has_file, leads_to_root, are_named_alike, icon_key, appl_key, most_nodes, most_icons, most_appls}
-use Rattle.volume_spec.proofs.TestedLists.{any-map, length-mapped}
 use Rattle.record_keeper.specs.declared.record.Record.{Record}
 use Rattle.volume_keeper_records.specs.declared.rows.Node.{Node}
 use Rattle.volume_keeper_records.specs.declared.rows.Reason.{Reason}
@@ -29,12 +31,14 @@ use Rattle.volume_keeper_records.specs.KeyOrder.{IsBelow, RisesByKey}
 use Rattle.volume_keeper_records.specs.FirstBad.{rows_in, fork_length, nodes_to, icons_to, appls_to, lacks_parent, is_twin, is_out_of_range, passes_limit, first_of, reason_of, bad_or, first_in}
 use Rattle.volume_keeper_records.specs.lemma.Climb.{id_of, climbs_to_root}
 use Rattle.volume_keeper_records.specs.lemma.Judged.{place_of, said_node, places_in, is_there, is_file_there, length_of, is_stray_here, is_outside_here, Before, is_twin_here, fork_sum, is_over_here, reason_here, and_row, next_in, next_or, said_rows, is_short_row, IsNamedRow}
-use Rattle.volume_keeper_records.proofs.TestParts.{left_true, right_true, both_true, lt_of, le_true, lt_false, same_of, same_true, other_false, bytes_same, bytes_true, cases, any-same, all-ends}
-use Rattle.volume_keeper_records.proofs.Chains.{Chain, sum-cons}
+use Rattle.volume_keeper_records.proofs.Chains.{Chain}
 use Rattle.volume_keeper_records.proofs.ReadBack.{row_is}
-use Rattle.volume_keeper_records.proofs.RowKinds.{by_kind, behind_head, nil_behind}
-use Rattle.volume_keeper_records.proofs.RowOrder.{rows_ends, icon_before, appl_before, before_itself, before_turned}
+use Rattle.volume_keeper_records.proofs.RowKinds.{by_kind, behind_head}
+use Rattle.volume_keeper_records.proofs.RowOrder.{rows_ends, icon_before, appl_before, before_itself}
 use Rattle.volume_keeper_records.proofs.Facts.{InOrder, order_behind, short_block, node_name}
+use Rattle.afp_base.proofs.Facts.{bytes_turn, eqb_turn, left_true, right_true}
+use Rattle.afp_base.proofs.ListFacts.{all-ends, any-map, any-same, length-mapped}
+use Rattle.volume_spec.proofs.Ordered.{before-not-back}
 
 -- what stands before, of some rows
 abbrev pub before_of : List TableRow → Before
@@ -42,22 +46,13 @@ before_of rows = record { nodes = filter_map as_node rows; icons = length (filte
 
 -- ---- rows that are there
 
-module _ {X Y : Type 0} (f : X → Option Y) where
-  first_and : (o : Option Y) (xs ys : List Y) → cons_option o (xs ++ ys) ≡ cons_option o xs ++ ys
-  first_and None xs ys = refl
-  first_and (Some x) xs ys = refl
-
-  pub of_both : (xs ys : List X) → filter_map f (xs ++ ys) ≡ filter_map f xs ++ filter_map f ys
-  of_both [] ys = refl
-  of_both (x ∷ xs) ys = ap (cons_option (f x)) (of_both xs ys) ∙ first_and (f x) (filter_map f xs) (filter_map f ys)
-
 pub said_none : [] ≡ said_rows []
 unfolding said_rows
 said_none = refl
 
 pub said_push : (rows : List (Option TableRow)) (o : Option TableRow) → said_rows (rows ++ o ∷ []) ≡ said_rows rows ++ cons_option o []
 unfolding said_rows
-said_push rows o = of_both (λ o. o) rows (o ∷ [])
+said_push rows o = filter_map-append (λ o. o) rows (o ∷ [])
 
 pub said_all : (name : List ℕ) (records : List Record) → said_rows (map (row_in name) records) ≡ rows_in name records
 unfolding said_rows
@@ -67,7 +62,7 @@ said_all name (r ∷ records) = unfold said_rows in ap (cons_option (row_in name
 pub pushed_places : (rows : List (Option TableRow)) (i : ℕ) (o : Option TableRow) → i < length rows → o ≡ get_or rows i o → places_in (take (i + 1) rows) ≡ places_in (take i rows) ++ map place_of (cons_option (said_node o) [])
 pushed_places rows i o h e =
     ap places_in (take_more rows i o h ∙ ap (λ (x : Option TableRow). take i rows ++ x ∷ []) (sym e))
-    ∙ ap (map place_of) (of_both said_node (take i rows) (o ∷ [])) ∙ map-append place_of (filter_map said_node (take i rows)) (cons_option (said_node o) [])
+    ∙ ap (map place_of) (filter_map-append said_node (take i rows) (o ∷ [])) ∙ map-append place_of (filter_map said_node (take i rows)) (cons_option (said_node o) [])
 
 said_as : (x : TableRow) → said_node (Some x) ≡ as_node x
 said_as (row.Head h) = refl
@@ -118,7 +113,7 @@ rows_rise name (r ∷ records) s = rises_read name (row_in name r) r (rows_in na
 
 formed_read : (name : List ℕ) (o : Option TableRow) (xs : List TableRow) → ((x : TableRow) → o ≡ Some x → is_formed_record name x ≡ true) → list_all (is_formed_record name) xs ≡ true → list_all (is_formed_record name) (cons_option o xs) ≡ true
 formed_read name None xs is e = e
-formed_read name (Some x) xs is e = both_true (is_formed_record name x) (list_all (is_formed_record name) xs) (is x refl) e
+formed_read name (Some x) xs is e = and_from (is_formed_record name x) (list_all (is_formed_record name) xs) (is x refl) e
 
 rows_formed : (name : List ℕ) (records : List Record) → list_all (is_formed_record name) (rows_in name records) ≡ true
 rows_formed name [] = refl
@@ -135,7 +130,7 @@ order_read name records s =
 
 below_each : (id : ℕ) (ns : List Node) → list_all (λ (n : Node). nat_lt id n.id) ns ≡ true → AllByRecursion (λ y. nat_cmp id y ≡ Less) (map id_of (map place_of ns))
 below_each id [] b = tt
-below_each id (n ∷ ns) b = (sym (nat_cmp_is id n.id Less (lt_of _ _ (left_true (nat_lt id n.id) (list_all (λ (n : Node). nat_lt id n.id) ns) b))), below_each id ns (right_true (nat_lt id n.id) (list_all (λ (n : Node). nat_lt id n.id) ns) b))
+below_each id (n ∷ ns) b = (sym (nat_cmp_is id n.id Less (ltb-true _ _ (left_true (nat_lt id n.id) (list_all (λ (n : Node). nat_lt id n.id) ns) b))), below_each id ns (right_true (nat_lt id n.id) (list_all (λ (n : Node). nat_lt id n.id) ns) b))
 
 ids_sorted : (ns : List Node) → Chain (λ (a : Node) b. nat_lt a.id b.id) ns → IsStrictlySortedBy nat_cmp (map id_of (map place_of ns))
 unfolding IsStrictlySortedBy
@@ -202,52 +197,31 @@ module _ {A : Type 0} (R le : A → A → Bool) (up : (a b : A) → R a b ≡ tr
 none_lower : (n : Node) (p : Node → Bool) (ys : List Node) → list_all (λ (m : Node). nat_lt n.id m.id) ys ≡ true → list_any (λ o. nat_lt o.id n.id && p o) ys ≡ false
 none_lower n p [] e = refl
 none_lower n p (y ∷ ys) e =
-    let high : n.id < y.id = lt_of _ _ (left_true (nat_lt n.id y.id) (list_all (λ (m : Node). nat_lt n.id m.id) ys) e) in
-    ap (λ b. (b && p y) || list_any (λ o. nat_lt o.id n.id && p o) ys) (lt_false y.id n.id (omega arith)) ∙ none_lower n p ys (right_true (nat_lt n.id y.id) (list_all (λ (m : Node). nat_lt n.id m.id) ys) e)
+    let high : n.id < y.id = ltb-true _ _ (left_true (nat_lt n.id y.id) (list_all (λ (m : Node). nat_lt n.id m.id) ys) e) in
+    ap (λ b. (b && p y) || list_any (λ o. nat_lt o.id n.id && p o) ys) (le-ltb y.id n.id (omega arith)) ∙ none_lower n p ys (right_true (nat_lt n.id y.id) (list_all (λ (m : Node). nat_lt n.id m.id) ys) e)
 
 lower_before : (p : Node → Bool) (xs : List Node) (n : Node) (ys : List Node) → Chain (λ (a : Node) b. nat_lt a.id b.id) (xs ++ n ∷ ys) → list_any (λ o. nat_lt o.id n.id && p o) (xs ++ n ∷ ys) ≡ list_any p xs
-lower_before p [] n ys c = ap (λ b. (b && p n) || list_any (λ o. nat_lt o.id n.id && p o) ys) (lt_false n.id n.id (omega arith)) ∙ none_lower n p ys c.0
+lower_before p [] n ys c = ap (λ b. (b && p n) || list_any (λ o. nat_lt o.id n.id && p o) ys) (le-ltb n.id n.id (omega arith)) ∙ none_lower n p ys c.0
 lower_before p (x ∷ xs) n ys c =
     ap (λ b. (b && p x) || list_any (λ o. nat_lt o.id n.id && p o) (xs ++ n ∷ ys)) (all-middle (λ (m : Node). nat_lt x.id m.id) xs n ys c.0) ∙ ap (λ b. p x || b) (lower_before p xs n ys c.1)
 
-eq_turned : (a b : ℕ) → (a == b) ≡ (b == a)
-eq_turned a b = cases (a == b) (λ t. t ∙ sym (same_true b a (sym (same_of a b t)))) (λ t. t ∙ sym (other_false b a (λ h. absurd (let k : true ≡ false = sym (same_true a b (sym h)) ∙ t in cc))))
-
-bytes_turned : (a b : List ℕ) → bytes_eq a b ≡ bytes_eq b a
-bytes_turned a b = cases (bytes_eq a b) (λ t. t ∙ sym (bytes_true b a (sym (bytes_same a b t))))
-    (λ t. cases (bytes_eq b a) (λ u. absurd (let k : true ≡ false = sym (bytes_true a b (sym (bytes_same b a u))) ∙ t in cc)) (λ u. t ∙ sym u))
-
 alike_turned : (n o : Node) → are_named_alike (bare_row o) (bare_row n) ≡ ((n.parent == o.parent) && bytes_eq (name_key n.name) (name_key o.name))
-alike_turned n o = λ i. eq_turned o.parent n.parent i && bytes_turned (name_key o.name) (name_key n.name) i
+alike_turned n o = λ i. eqb_turn o.parent n.parent i && bytes_turn (name_key o.name) (name_key n.name) i
 
-pushed_length : {A : Type 0} (xs : List A) (n : A) → length (xs ++ n ∷ []) ≡ length xs + 1
-pushed_length xs n = omega (arith, length-append xs (n ∷ []))
-
-pushed_sum : {A : Type 0} (f : A → ℕ) (xs : List A) (n : A) → sum_by f (xs ++ n ∷ []) ≡ sum_by f xs + f n
-pushed_sum f [] n = refl
-pushed_sum f (x ∷ xs) n =
-    let rest = pushed_sum f xs n in
-    let a = sum-cons f (xs ++ n ∷ []) (0 + f x) in
-    let b = sum-cons f xs (0 + f x) in
-    omega (arith, rest, a, b)
-
-below_le : (a b : Node) → nat_lt a.id b.id ≡ true → nat_le a.id b.id ≡ true
-below_le a b e = let l : a.id < b.id = lt_of _ _ e in le_true _ _ (omega arith)
+pub below_le : (a b : Node) → nat_lt a.id b.id ≡ true → nat_le a.id b.id ≡ true
+below_le a b e = let l : a.id < b.id = ltb-true _ _ e in le-leb _ _ (omega arith)
 
 below_not_le : (a b : Node) → nat_lt a.id b.id ≡ true → nat_le b.id a.id ≡ false
 below_not_le a b e = grind (arith, e)
 
 nodes_up_to : (xs : List Node) (n : Node) (ys : List Node) → Chain (λ (a : Node) b. nat_lt a.id b.id) (xs ++ n ∷ ys) → filter (λ (o : Node). nat_le o.id n.id) (xs ++ n ∷ ys) ≡ xs ++ n ∷ []
-nodes_up_to = up_to (λ (a : Node) b. nat_lt a.id b.id) (λ o m. nat_le o.id m.id) below_le (λ a. le_true _ _ (let l : a.id ≤ a.id = omega arith in l)) below_not_le
-
-key_not_above : (a b : List ℕ) → stands_before a b ≡ true → not (stands_before b a) ≡ true
-key_not_above a b e = ap not (before_turned a b e)
+nodes_up_to = up_to (λ (a : Node) b. nat_lt a.id b.id) (λ o m. nat_le o.id m.id) below_le (λ a. le-leb _ _ (let l : a.id ≤ a.id = omega arith in l)) below_not_le
 
 icons_up_to : (xs : List Icon) (n : Icon) (ys : List Icon) → Chain icon_before (xs ++ n ∷ ys) → filter (λ (o : Icon). not (stands_before (icon_key n) (icon_key o))) (xs ++ n ∷ ys) ≡ xs ++ n ∷ []
-icons_up_to = up_to icon_before (λ o m. not (stands_before (icon_key m) (icon_key o))) (λ a b e. key_not_above (icon_key a) (icon_key b) e) (λ a. ap not (before_itself (icon_key a))) (λ a b e. ap not e)
+icons_up_to = up_to icon_before (λ o m. not (stands_before (icon_key m) (icon_key o))) (λ a b e. before-not-back (icon_key a) (icon_key b) e) (λ a. ap not (before_itself (icon_key a))) (λ a b e. ap not e)
 
 appls_up_to : (xs : List Appl) (n : Appl) (ys : List Appl) → Chain appl_before (xs ++ n ∷ ys) → filter (λ (o : Appl). not (stands_before (appl_key n) (appl_key o))) (xs ++ n ∷ ys) ≡ xs ++ n ∷ []
-appls_up_to = up_to appl_before (λ o m. not (stands_before (appl_key m) (appl_key o))) (λ a b e. key_not_above (appl_key a) (appl_key b) e) (λ a. ap not (before_itself (appl_key a))) (λ a b e. ap not e)
+appls_up_to = up_to appl_before (λ o m. not (stands_before (appl_key m) (appl_key o))) (λ a b e. before-not-back (appl_key a) (appl_key b) e) (λ a. ap not (before_itself (appl_key a))) (λ a b e. ap not e)
 
 -- the reason among all rows is the reason by what stands before
 same_reason : (t : Tables) (xs ys : List TableRow) (x : TableRow) → t ≡ tables_in (xs ++ x ∷ ys) → InOrder t → reason_of t (Some x) ≡ reason_here (map place_of t.nodes) t.head.next_id (before_of xs) (Some x)
@@ -255,7 +229,7 @@ same_reason t xs ys x e order = λ i. first_of (stray_same t x i) Parent (first_
   where
     twin : (x : TableRow) → t ≡ tables_in (xs ++ x ∷ ys) → is_twin t x ≡ is_twin_here (before_of xs) x
     twin (row.Node n) e =
-        let split : t.nodes ≡ filter_map as_node xs ++ n ∷ filter_map as_node ys = ap (λ (u : Tables). u.nodes) e ∙ of_both as_node xs (row.Node n ∷ ys) in
+        let split : t.nodes ≡ filter_map as_node xs ++ n ∷ filter_map as_node ys = ap (λ (u : Tables). u.nodes) e ∙ filter_map-append as_node xs (row.Node n ∷ ys) in
         ap (list_any (λ (o : Node). nat_lt o.id n.id && are_named_alike (bare_row o) (bare_row n))) split
         ∙ lower_before (λ o. are_named_alike (bare_row o) (bare_row n)) (filter_map as_node xs) n (filter_map as_node ys) (subst (Chain (λ (a : Node) b. nat_lt a.id b.id)) split order.nodes)
         ∙ any-same (λ (o : Node). are_named_alike (bare_row o) (bare_row n)) (λ (o : Node). (n.parent == o.parent) && bytes_eq (name_key n.name) (name_key o.name)) (filter_map as_node xs) (alike_turned n)
@@ -267,20 +241,20 @@ same_reason t xs ys x e order = λ i. first_of (stray_same t x i) Parent (first_
 
     over : (x : TableRow) → t ≡ tables_in (xs ++ x ∷ ys) → passes_limit t x ≡ is_over_here (before_of xs) x
     over (row.Node n) e =
-        let split : t.nodes ≡ filter_map as_node xs ++ n ∷ filter_map as_node ys = ap (λ (u : Tables). u.nodes) e ∙ of_both as_node xs (row.Node n ∷ ys) in
+        let split : t.nodes ≡ filter_map as_node xs ++ n ∷ filter_map as_node ys = ap (λ (u : Tables). u.nodes) e ∙ filter_map-append as_node xs (row.Node n ∷ ys) in
         let to : nodes_to n t ≡ filter_map as_node xs ++ n ∷ [] = ap (filter (λ (o : Node). nat_le o.id n.id)) split ∙ nodes_up_to (filter_map as_node xs) n (filter_map as_node ys) (subst (Chain (λ (a : Node) b. nat_lt a.id b.id)) split order.nodes) in
-        let count : length (nodes_to n t) ≡ length (filter_map as_node xs) + 1 = ap length to ∙ pushed_length (filter_map as_node xs) n in
+        let count : length (nodes_to n t) ≡ length (filter_map as_node xs) + 1 = ap length to ∙ length_push (filter_map as_node xs) n in
         let sum : sum_by (λ (o : Node). o.data_length + o.resource_length) (nodes_to n t) ≡ fork_sum (filter_map as_node xs) + (n.data_length + n.resource_length) =
-        ap (sum_by (λ (o : Node). o.data_length + o.resource_length)) to ∙ pushed_sum (λ (o : Node). o.data_length + o.resource_length) (filter_map as_node xs) n in
+        ap (sum_by (λ (o : Node). o.data_length + o.resource_length)) to ∙ sum_by_push (λ (o : Node). o.data_length + o.resource_length) (filter_map as_node xs) n in
         λ i. nat_lt most_nodes (count i) || nat_lt most_fork_bytes (sum i)
     over (row.Icon j) e =
-        let split : t.icons ≡ filter_map as_icon xs ++ j ∷ filter_map as_icon ys = ap (λ (u : Tables). u.icons) e ∙ of_both as_icon xs (row.Icon j ∷ ys) in
+        let split : t.icons ≡ filter_map as_icon xs ++ j ∷ filter_map as_icon ys = ap (λ (u : Tables). u.icons) e ∙ filter_map-append as_icon xs (row.Icon j ∷ ys) in
         let to : icons_to j t ≡ filter_map as_icon xs ++ j ∷ [] = ap (filter (λ (o : Icon). not (stands_before (icon_key j) (icon_key o)))) split ∙ icons_up_to (filter_map as_icon xs) j (filter_map as_icon ys) (subst (Chain icon_before) split order.icons) in
-        ap (nat_lt most_icons) (ap length to ∙ pushed_length (filter_map as_icon xs) j)
+        ap (nat_lt most_icons) (ap length to ∙ length_push (filter_map as_icon xs) j)
     over (row.Appl a) e =
-        let split : t.appls ≡ filter_map as_appl xs ++ a ∷ filter_map as_appl ys = ap (λ (u : Tables). u.appls) e ∙ of_both as_appl xs (row.Appl a ∷ ys) in
+        let split : t.appls ≡ filter_map as_appl xs ++ a ∷ filter_map as_appl ys = ap (λ (u : Tables). u.appls) e ∙ filter_map-append as_appl xs (row.Appl a ∷ ys) in
         let to : appls_to a t ≡ filter_map as_appl xs ++ a ∷ [] = ap (filter (λ (o : Appl). not (stands_before (appl_key a) (appl_key o)))) split ∙ appls_up_to (filter_map as_appl xs) a (filter_map as_appl ys) (subst (Chain appl_before) split order.appls) in
-        ap (nat_lt most_appls) (ap length to ∙ pushed_length (filter_map as_appl xs) a)
+        ap (nat_lt most_appls) (ap length to ∙ length_push (filter_map as_appl xs) a)
     over (row.Head h) e = refl
     over (row.Block b) e = refl
     over (row.Comment c) e = refl
@@ -322,18 +296,18 @@ pub named_read : (name : List ℕ) (r : Record) (o : Option TableRow) → o ≡ 
 named_read name r o e = named_formed name o (λ x h. (row_is name r x (sym e ∙ h)).0)
 
 one_more : (xs : List TableRow) (o : Option TableRow) → and_row (before_of xs) o ≡ before_of (xs ++ cons_option o [])
-one_more xs None = ap before_of (sym (nil_behind xs))
-one_more xs (Some (row.Head h)) = λ i. record { nodes = sym (of_both as_node xs (row.Head h ∷ []) ∙ nil_behind (filter_map as_node xs)) i; icons = length (sym (of_both as_icon xs (row.Head h ∷ []) ∙ nil_behind (filter_map as_icon xs)) i); appls = length (sym (of_both as_appl xs (row.Head h ∷ []) ∙ nil_behind (filter_map as_appl xs)) i) }
-one_more xs (Some (row.Node n)) = λ i. record { nodes = sym (of_both as_node xs (row.Node n ∷ [])) i; icons = length (sym (of_both as_icon xs (row.Node n ∷ []) ∙ nil_behind (filter_map as_icon xs)) i); appls = length (sym (of_both as_appl xs (row.Node n ∷ []) ∙ nil_behind (filter_map as_appl xs)) i) }
-one_more xs (Some (row.Block h)) = λ i. record { nodes = sym (of_both as_node xs (row.Block h ∷ []) ∙ nil_behind (filter_map as_node xs)) i; icons = length (sym (of_both as_icon xs (row.Block h ∷ []) ∙ nil_behind (filter_map as_icon xs)) i); appls = length (sym (of_both as_appl xs (row.Block h ∷ []) ∙ nil_behind (filter_map as_appl xs)) i) }
-one_more xs (Some (row.Comment h)) = λ i. record { nodes = sym (of_both as_node xs (row.Comment h ∷ []) ∙ nil_behind (filter_map as_node xs)) i; icons = length (sym (of_both as_icon xs (row.Comment h ∷ []) ∙ nil_behind (filter_map as_icon xs)) i); appls = length (sym (of_both as_appl xs (row.Comment h ∷ []) ∙ nil_behind (filter_map as_appl xs)) i) }
-one_more xs (Some (row.Icon n)) = λ i. record { nodes = sym (of_both as_node xs (row.Icon n ∷ []) ∙ nil_behind (filter_map as_node xs)) i; icons = sym (ap length (of_both as_icon xs (row.Icon n ∷ [])) ∙ pushed_length (filter_map as_icon xs) n) i; appls = length (sym (of_both as_appl xs (row.Icon n ∷ []) ∙ nil_behind (filter_map as_appl xs)) i) }
-one_more xs (Some (row.Appl n)) = λ i. record { nodes = sym (of_both as_node xs (row.Appl n ∷ []) ∙ nil_behind (filter_map as_node xs)) i; icons = length (sym (of_both as_icon xs (row.Appl n ∷ []) ∙ nil_behind (filter_map as_icon xs)) i); appls = sym (ap length (of_both as_appl xs (row.Appl n ∷ [])) ∙ pushed_length (filter_map as_appl xs) n) i }
+one_more xs None = ap before_of (sym (append-nil xs))
+one_more xs (Some (row.Head h)) = λ i. record { nodes = sym (filter_map-append as_node xs (row.Head h ∷ []) ∙ append-nil (filter_map as_node xs)) i; icons = length (sym (filter_map-append as_icon xs (row.Head h ∷ []) ∙ append-nil (filter_map as_icon xs)) i); appls = length (sym (filter_map-append as_appl xs (row.Head h ∷ []) ∙ append-nil (filter_map as_appl xs)) i) }
+one_more xs (Some (row.Node n)) = λ i. record { nodes = sym (filter_map-append as_node xs (row.Node n ∷ [])) i; icons = length (sym (filter_map-append as_icon xs (row.Node n ∷ []) ∙ append-nil (filter_map as_icon xs)) i); appls = length (sym (filter_map-append as_appl xs (row.Node n ∷ []) ∙ append-nil (filter_map as_appl xs)) i) }
+one_more xs (Some (row.Block h)) = λ i. record { nodes = sym (filter_map-append as_node xs (row.Block h ∷ []) ∙ append-nil (filter_map as_node xs)) i; icons = length (sym (filter_map-append as_icon xs (row.Block h ∷ []) ∙ append-nil (filter_map as_icon xs)) i); appls = length (sym (filter_map-append as_appl xs (row.Block h ∷ []) ∙ append-nil (filter_map as_appl xs)) i) }
+one_more xs (Some (row.Comment h)) = λ i. record { nodes = sym (filter_map-append as_node xs (row.Comment h ∷ []) ∙ append-nil (filter_map as_node xs)) i; icons = length (sym (filter_map-append as_icon xs (row.Comment h ∷ []) ∙ append-nil (filter_map as_icon xs)) i); appls = length (sym (filter_map-append as_appl xs (row.Comment h ∷ []) ∙ append-nil (filter_map as_appl xs)) i) }
+one_more xs (Some (row.Icon n)) = λ i. record { nodes = sym (filter_map-append as_node xs (row.Icon n ∷ []) ∙ append-nil (filter_map as_node xs)) i; icons = sym (ap length (filter_map-append as_icon xs (row.Icon n ∷ [])) ∙ length_push (filter_map as_icon xs) n) i; appls = length (sym (filter_map-append as_appl xs (row.Icon n ∷ []) ∙ append-nil (filter_map as_appl xs)) i) }
+one_more xs (Some (row.Appl n)) = λ i. record { nodes = sym (filter_map-append as_node xs (row.Appl n ∷ []) ∙ append-nil (filter_map as_node xs)) i; icons = length (sym (filter_map-append as_icon xs (row.Appl n ∷ []) ∙ append-nil (filter_map as_icon xs)) i); appls = sym (ap length (filter_map-append as_appl xs (row.Appl n ∷ [])) ∙ length_push (filter_map as_appl xs) n) i }
 
 pub pushed_before : (name : List ℕ) (records : List Record) (i : ℕ) (r : Record) (o : Option TableRow) → i < length records → r ≡ get_or records i r → o ≡ row_in name r → before_of (rows_in name (take (i + 1) records)) ≡ and_row (before_of (rows_in name (take i records))) o
 pushed_before name records i r o h e f =
     ap (λ (x : List Record). before_of (rows_in name x)) (take_more records i r h ∙ ap (λ (x : Record). take i records ++ x ∷ []) (sym e))
-    ∙ ap before_of (of_both (row_in name) (take i records) (r ∷ []))
+    ∙ ap before_of (filter_map-append (row_in name) (take i records) (r ∷ []))
     ∙ ap (λ (p : Option TableRow). before_of (rows_in name (take i records) ++ cons_option p [])) (sym f)
     ∙ sym (one_more (rows_in name (take i records)) o)
 
@@ -342,7 +316,7 @@ reason_read : (name : List ℕ) (records : List Record) → RisesByKey records �
 reason_read name records s xs r ys e None f = refl
 reason_read name records s xs r ys e (Some x) f =
     same_reason (tables_in (rows_in name records)) (rows_in name xs) (rows_in name ys) x
-    (ap (λ (l : List Record). tables_in (rows_in name l)) e ∙ ap tables_in (of_both (row_in name) xs (r ∷ ys) ∙ ap (λ (p : Option TableRow). rows_in name xs ++ cons_option p (rows_in name ys)) (sym f)))
+    (ap (λ (l : List Record). tables_in (rows_in name l)) e ∙ ap tables_in (filter_map-append (row_in name) xs (r ∷ ys) ∙ ap (λ (p : Option TableRow). rows_in name xs ++ cons_option p (rows_in name ys)) (sym f)))
     (order_read name records s)
 
 pub one_judged : (name : List ℕ) (records : List Record) (rows : List (Option TableRow)) → rows ≡ map (row_in name) records → RisesByKey records → (i : ℕ) (r : Record) (o : Option TableRow) (reason : Option Reason) → i < length records → r ≡ get_or records i r → o ≡ get_or rows i o

@@ -5,6 +5,8 @@ use Rattle.std.specs.Int.{from_be_bytes, cast_signed, cast_unsigned}
 use Rattle.std.proofs.lemmas.Nat.{from_be_bytes-to_be_bytes_2, from_be_bytes-to_be_bytes_4, from_be_bytes-to_be_bytes_8}
 use Rattle.std.proofs.lemmas.Int.{ints, to_z-of_z}
 use Rattle.std.proofs.Math.Seq.{take-append_seam, drop-append_seam}
+use Rattle.std.proofs.lemmas.Bool.{and_from, eqb-true, leb-true, ltb-true}
+use Rattle.std.proofs.lemmas.Option.{cond_some}
 use Rattle.byteorder.specs.Endian.{big_bytes, big_number}
 use Rattle.volume_spec.specs.VolumeState.{Comment, Icon, Appl}
 use Rattle.volume_spec.specs.SoundVolume.{is_formed as is_formed_row, is_named, is_comment, is_icon, longest_icon}
@@ -17,7 +19,8 @@ use Rattle.volume_keeper_records.specs.declared.rows.TableRow.{TableRow}
 use Rattle.volume_keeper_records.specs.declared.rows.TableRow.TheVariants as row
 use Rattle.volume_keeper_records.specs.Records.{record_of, head_record, node_record, block_record, comment_record, icon_record, appl_record, flag_byte, long_bytes, word_bytes, quad_bytes, date_bytes}
 use Rattle.volume_keeper_records.specs.Shape.{row_in, guess, are_same, is_formed_record, is_formed_head, is_formed_node, is_formed_block, is_formed_comment, is_formed_icon, is_formed_appl, bare_row, has_fit_forks, node_in}
-use Rattle.volume_keeper_records.proofs.TestParts.{left_true, right_true, lt_of, le_of, same_of, bytes_same, bytes_true, both_true}
+use Rattle.afp_base.proofs.Facts.{bytes_same, bytes_true, left_true, right_true}
+use Rattle.afp_base.proofs.Numbers.{date_lt}
 
 pub same_records : (a b : Record) → are_same a b ≡ true → a ≡ b
 same_records a b e =
@@ -25,31 +28,23 @@ same_records a b e =
     let v : a.value ≡ b.value = bytes_same a.value b.value (right_true _ _ e) in
     λ i. record { key = k i; value = v i }
 
-kept_is : (b : Bool) (g x : TableRow) → cond b (Some g) None ≡ Some x → (b ≡ true) × (g ≡ x)
-kept_is true g x e = (refl, cc)
-kept_is false g x e = absurd (cc)
-
 -- a row that is read is formed, and the record is the one that says it
 pub row_is : (name : List ℕ) (r : Record) (x : TableRow) → row_in name r ≡ Some x → (is_formed_record name x ≡ true) × (record_of x ≡ r)
 unfolding row_in
 row_is name r x e =
-    let k = kept_is (is_formed_record name (guess r) && are_same (record_of (guess r)) r) (guess r) x e in
+    let k = cond_some (is_formed_record name (guess r) && are_same (record_of (guess r)) r) (guess r) x e in
     (ap (is_formed_record name) (sym k.1) ∙ left_true _ _ k.0, ap record_of (sym k.1) ∙ same_records (record_of (guess r)) r (right_true _ _ k.0))
 
 same_itself : (r : Record) → are_same r r ≡ true
-same_itself r = both_true _ _ (bytes_true r.key r.key refl) (bytes_true r.value r.value refl)
+same_itself r = and_from _ _ (bytes_true r.key r.key refl) (bytes_true r.value r.value refl)
 
 flag_back : (b : Bool) → (flag_byte b == 1) ≡ b
 flag_back true = refl
 flag_back false = refl
 
 date_fits : (z : ℤ) → is_date z ≡ true → FitsSigned w32 z
-date_fits (pos n) h = let l : n ≤ 2147483647 = le_of _ _ h in omega (arith, ints, l)
-date_fits (negsuc n) h = let l : n ≤ 2147483647 = le_of _ _ h in omega (arith, ints, l)
-
-date_lt : (z : ℤ) → FitsSigned w32 z → cast_unsigned w32 z < 2 ^ 32
-date_lt (pos n) h = omega (arith, ints, h)
-date_lt (negsuc n) h = omega (arith, ints, h)
+date_fits (pos n) h = let l : n ≤ 2147483647 = leb-true _ _ h in omega (arith, ints, l)
+date_fits (negsuc n) h = let l : n ≤ 2147483647 = leb-true _ _ h in omega (arith, ints, l)
 
 number_back_2 : (n : ℕ) → n < 2 ^ 16 → big_number 2 (big_bytes 2 n) ≡ n
 number_back_2 n fits = let same : big_number 2 (big_bytes 2 n) ≡ from_be_bytes w16 (big_bytes 2 n) = omega arith in same ∙ from_be_bytes-to_be_bytes_2 n fits
@@ -65,13 +60,13 @@ date_back : (z : ℤ) → is_date z ≡ true → cast_signed w32 (big_number 4 (
 date_back z h = let f = date_fits z h in ap (cast_signed w32) (number_back_4 (cast_unsigned w32 z) (date_lt z f)) ∙ to_z-of_z w32 z f
 
 long_back : (n : ℕ) → is_long n ≡ true → big_number 4 (long_bytes n) ≡ n
-long_back n h = let l : n < 4294967296 = lt_of _ _ h in number_back_4 n (omega (arith, l))
+long_back n h = let l : n < 4294967296 = ltb-true _ _ h in number_back_4 n (omega (arith, l))
 
 word_back : (n : ℕ) → is_word n ≡ true → big_number 2 (word_bytes n) ≡ n
-word_back n h = let l : n < 65536 = lt_of _ _ h in number_back_2 n (omega (arith, l))
+word_back n h = let l : n < 65536 = ltb-true _ _ h in number_back_2 n (omega (arith, l))
 
 quad_back : (n : ℕ) → is_quad n ≡ true → big_number 8 (quad_bytes n) ≡ n
-quad_back n h = let l : n < 18446744073709551616 = lt_of _ _ h in number_back_8 n (omega (arith, l))
+quad_back n h = let l : n < 18446744073709551616 = ltb-true _ _ h in number_back_8 n (omega (arith, l))
 
 guess_head : (h : Head) → is_formed_head h ≡ true → guess (head_record h) ≡ row.Head h
 unfolding head_record
@@ -80,7 +75,7 @@ guess_head h f =
     let created = date_back h.created (left_true _ _ dates) in
     let modified = date_back h.modified (left_true _ _ (right_true _ _ dates)) in
     let backup = date_back h.backup (right_true _ _ (right_true _ _ dates)) in
-    let below : h.next_id ≤ 2 ^ 32 = le_of _ _ (right_true _ _ (right_true _ _ f)) in
+    let below : h.next_id ≤ 2 ^ 32 = leb-true _ _ (right_true _ _ (right_true _ _ f)) in
     let next = number_back_8 h.next_id (omega (arith, below)) in
     λ k. row.Head (record { created = created k; modified = modified k; backup = backup k; next_id = next k })
 
@@ -118,7 +113,7 @@ node_parts name n f =
       backup = left_true _ _ five;
       finder = left_true _ _ six;
       name = left_true _ _ (right_true _ _ six);
-      size = same_of _ _ (right_true _ _ (left_true (is_named (bare_row n)) _ formed));
+      size = eqb-true _ _ (right_true _ _ (left_true (is_named (bare_row n)) _ formed));
       data_length = left_true _ _ (left_true _ _ forks);
       resource_length = right_true _ _ (left_true _ _ forks);
     }
@@ -195,8 +190,8 @@ guess_icon i f =
     let tag = right_true (is_byte i.icon_kind) (is_long i.tag && are_bytes i.bits) numbers in
     let sizes = right_true (length i.creator == 4) ((length i.kind == 4) && nat_le (length i.bits) longest_icon) formed in
     icon_back i.kind i.icon_kind i.tag i.bits (left_true (is_long i.tag) (are_bytes i.bits) tag)
-    (same_of _ _ (left_true (length i.kind == 4) (nat_le (length i.bits) longest_icon) sizes)) i.creator
-    (same_of _ _ (left_true (length i.creator == 4) ((length i.kind == 4) && nat_le (length i.bits) longest_icon) formed))
+    (eqb-true _ _ (left_true (length i.kind == 4) (nat_le (length i.bits) longest_icon) sizes)) i.creator
+    (eqb-true _ _ (left_true (length i.creator == 4) ((length i.kind == 4) && nat_le (length i.bits) longest_icon) formed))
 
 appl_back : (node tag : ℕ) → is_long node ≡ true → is_long tag ≡ true → (creator : List ℕ) → length creator ≡ 4
     → guess (appl_record (record { creator = creator; node = node; tag = tag })) ≡ row.Appl (record { creator = creator; node = node; tag = tag })
@@ -208,7 +203,7 @@ appl_back node tag n t creator e =
 guess_appl : (a : Appl) → is_formed_appl a ≡ true → guess (appl_record a) ≡ row.Appl a
 guess_appl a f =
     let typed = right_true _ _ (left_true (is_typed_appl a) _ f) in
-    appl_back a.node a.tag (left_true _ _ typed) (right_true _ _ typed) a.creator (same_of _ _ (right_true (is_typed_appl a) _ f))
+    appl_back a.node a.tag (left_true _ _ typed) (right_true _ _ typed) a.creator (eqb-true _ _ (right_true (is_typed_appl a) _ f))
 
 guess_back : (name : List ℕ) (x : TableRow) → is_formed_record name x ≡ true → guess (record_of x) ≡ x
 guess_back name (row.Head h) f = guess_head h f
@@ -223,4 +218,4 @@ pub read_back : (name : List ℕ) (x : TableRow) → is_formed_record name x ≡
 unfolding row_in
 read_back name x f =
     ap (λ g. cond (is_formed_record name g && are_same (record_of g) (record_of x)) (Some g) None) (guess_back name x f)
-    ∙ ap (λ t. cond t (Some x) None) (both_true _ _ f (same_itself (record_of x)))
+    ∙ ap (λ t. cond t (Some x) None) (and_from _ _ f (same_itself (record_of x)))

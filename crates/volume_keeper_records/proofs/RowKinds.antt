@@ -6,7 +6,8 @@ use Rattle.std.specs.Cmp.{nat_cmp_is}
 use Rattle.std.specs.Cmp.Lexicographic.{slice_cmp}
 use Rattle.std.specs.Ordering.{nat_cmp, ordering_then}
 use Rattle.std.specs.declared.cmp.Ordering.TheVariants.{Less, Greater}
-use Rattle.std.proofs.lemmas.Bool.{cases_lt}
+use Rattle.std.proofs.lemmas.Bool.{cases_lt, and_from, le-leb}
+use Rattle.std.proofs.lemmas.List.{append-nil}
 use Rattle.volume_spec.specs.VolumeState.{Comment, Icon, Appl}
 use Rattle.volume_spec.specs.SoundVolume.{icon_key}
 use Rattle.volume_keeper_records.specs.declared.rows.Head.{Head}
@@ -18,8 +19,8 @@ use Rattle.volume_keeper_records.specs.Records.{record_of, head_record, node_rec
 use Rattle.volume_keeper_records.specs.KeyOrder.{IsBelow, RisesByKey}
 use Rattle.volume_keeper_records.specs.lemma.KeyOrder.{has_key}
 use Rattle.volume_keeper_records.specs.Image.{Tables, rows_of, tables_in, first_head, as_head, as_node, as_block, as_comment, as_icon, as_appl}
-use Rattle.volume_keeper_records.proofs.TestParts.{both_true, le_true, cases}
 use Rattle.volume_keeper_records.proofs.Parted.{Climbs, parted}
+use Rattle.afp_base.proofs.Facts.{cases}
 
 -- the first byte of a row's key, and what stands behind it
 abbrev pub tag_of : TableRow → ℕ
@@ -59,7 +60,7 @@ tags_le x y e = first_le (tag_of x) (tag_of y) (key_rest x) (key_rest y) ((λ i.
 
 tags_above : (x : TableRow) (xs : List TableRow) → IsBelow (record_of x).key (map record_of xs) → list_all (λ y. nat_le (tag_of x) (tag_of y)) xs ≡ true
 tags_above x [] b = refl
-tags_above x (y ∷ xs) b = both_true _ _ (le_true _ _ (tags_le x y b.0)) (tags_above x xs b.1)
+tags_above x (y ∷ xs) b = and_from _ _ (le-leb _ _ (tags_le x y b.0)) (tags_above x xs b.1)
 
 pub tags_climb : (xs : List TableRow) → RisesByKey (map record_of xs) → Climbs tag_of xs
 tags_climb [] s = tt
@@ -78,7 +79,7 @@ is_tag (row.Appl a) = refl
 
 are_tags : (xs : List TableRow) → list_all (λ x. list_any (λ n. n == tag_of x) tags) xs ≡ true
 are_tags [] = refl
-are_tags (x ∷ xs) = both_true _ _ (is_tag x) (are_tags xs)
+are_tags (x ∷ xs) = and_from _ _ (is_tag x) (are_tags xs)
 
 one_head : (x : TableRow) (rest : List TableRow) (hs : List Head) → rest ≡ map (λ h. row.Head h) hs → cond (0 == tag_of x) (x ∷ rest) rest ≡ map (λ h. row.Head h) (cons_option (as_head x) hs)
 one_head (row.Head h) rest hs e = ap (λ l. row.Head h ∷ l) e
@@ -128,10 +129,6 @@ appls_are : (xs : List TableRow) → filter (λ x. 5 == tag_of x) xs ≡ map (λ
 appls_are [] = refl
 appls_are (x ∷ xs) = one_appl x _ _ (appls_are xs)
 
-pub nil_behind : {A : Type 0} (xs : List A) → xs ++ [] ≡ xs
-nil_behind [] = refl
-nil_behind (x ∷ xs) = ap (λ ys. x ∷ ys) (nil_behind xs)
-
 -- what stands behind the head
 abbrev pub behind_head : Tables → List TableRow
 behind_head t =
@@ -143,7 +140,7 @@ behind_head t =
 
 pub by_kind : (xs : List TableRow) → RisesByKey (map record_of xs) → map (λ h. row.Head h) (filter_map as_head xs) ++ behind_head (tables_in xs) ≡ xs
 by_kind xs s =
-    sym (λ i. heads_are xs i ++ (nodes_are xs i ++ (blocks_are xs i ++ (comments_are xs i ++ (icons_are xs i ++ (ap (λ l. l ++ []) (appls_are xs) ∙ nil_behind (map (λ h. row.Appl h) (filter_map as_appl xs))) i)))))
+    sym (λ i. heads_are xs i ++ (nodes_are xs i ++ (blocks_are xs i ++ (comments_are xs i ++ (icons_are xs i ++ (ap (λ l. l ++ []) (appls_are xs) ∙ append-nil (map (λ h. row.Appl h) (filter_map as_appl xs))) i)))))
     ∙ parted tag_of (λ n. n) tags xs (tags_climb xs s) ((refl, (refl, (refl, (refl, (refl, (refl, tt))))))) (are_tags xs)
 
 -- ---- there is just one head

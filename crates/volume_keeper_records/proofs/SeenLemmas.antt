@@ -1,5 +1,5 @@
 -- A set of keys with one key more.
-use Rattle.std.proofs.Common.{◌≡◌, ℕ, Bool, true, false, List, [], ◌∷◌, refl, sym, ap, ◌∙◌, ◌<◌, ◌≤◌, ⊎_elim, arith}
+use Rattle.std.proofs.Common.{◌≡◌, ℕ, Bool, List, [], ◌∷◌, refl, sym, ap, ◌∙◌, ◌<◌, ◌≤◌, ⊎_elim, arith}
 use Rattle.std.specs.Prelude.{◌||◌, ◌&&◌, ◌==◌, bytes_eq, Vec}
 use Rattle.std.specs.List.{list_any}
 use Rattle.std.specs.BTreeSet.{BTreeSet, insert_key}
@@ -8,31 +8,20 @@ use Rattle.std.specs.Cmp.Lexicographic.{slice_cmp}
 use Rattle.std.specs.Ordering.{nat_cmp, ordering_then, is_eq, match_ordering}
 use Rattle.std.specs.FinMap.{slice_cmp-IsAntisymmetric, nat_cmp-IsAntisymmetric}
 use Rattle.volume_keeper_records.specs.lemma.Judged.{has_seen}
-use Rattle.volume_keeper_records.proofs.Climbing.{same_as, not_same}
 use Rattle.std.specs.Cmp.{nat_cmp_is}
 use Rattle.std.proofs.lemmas.Map.Text.{is_eq-slice_cmp}
-use Rattle.std.proofs.lemmas.Bool.{cases_eq, cases_lt}
+use Rattle.std.proofs.lemmas.Bool.{cases_eq, cases_lt, eq-eqb, ne_eqb}
 use Rattle.std.specs.declared.cmp.Ordering.{Ordering}
 use Rattle.std.specs.declared.cmp.Ordering.TheVariants.{Less, Equal, Greater}
-
-later : (a b c : Bool) → (a || (b || c)) ≡ (b || (a || c))
-later true true c = refl
-later true false c = refl
-later false b c = refl
-
-covered : (a b c : Bool) → a ≡ b → (a || c) ≡ (b || (a || c))
-covered true true c e = refl
-covered true false c e = refl
-covered false true c e = absurd (cc)
-covered false false c e = refl
+use Rattle.afp_base.proofs.Facts.{or_swap, or_twice}
 
 pub any_insert : {K : Type 0} (cmp : K → K → Ordering) (test : K → Bool) (k : K) → ((x : K) → cmp k x ≡ Equal → test x ≡ test k) → (ks : List K)
     → list_any test (insert_key cmp ks k) ≡ (test k || list_any test ks)
 any_insert cmp test k same [] = refl
 any_insert cmp test k same (x ∷ xs) = elim (cmp k x) as (λ o. cmp k x ≡ o → list_any test (match_ordering o (k ∷ x ∷ xs) (x ∷ xs) (x ∷ insert_key cmp xs k)) ≡ (test k || (test x || list_any test xs))) [
   | Less ↦ λ e. refl
-  | Equal ↦ λ e. covered (test x) (test k) (list_any test xs) (same x e)
-  | Greater ↦ λ e. ap (λ b. test x || b) (any_insert cmp test k same xs) ∙ later (test x) (test k) (list_any test xs)
+  | Equal ↦ λ e. or_twice (test x) (test k) (list_any test xs) (same x e)
+  | Greater ↦ λ e. ap (λ b. test x || b) (any_insert cmp test k same xs) ∙ or_swap (test x) (test k) (list_any test xs)
 ] refl
 
 abbrev pub Key : Type 0
@@ -48,10 +37,10 @@ then_equal Greater b e = absurd (cc)
 
 test_is : (p q : ℕ) (xs ys : List ℕ) → is_eq (ordering_then (nat_cmp p q) (slice_cmp nat_cmp xs ys)) ≡ ((p == q) && bytes_eq xs ys)
 test_is p q xs ys = ⊎_elim
-    (λ (h : p < q). ap (λ o. is_eq (ordering_then o (slice_cmp nat_cmp xs ys))) (sym (nat_cmp_is p q Less h)) ∙ sym (ap (λ b. b && bytes_eq xs ys) (not_same p q (λ e. absurd (omega arith)))))
+    (λ (h : p < q). ap (λ o. is_eq (ordering_then o (slice_cmp nat_cmp xs ys))) (sym (nat_cmp_is p q Less h)) ∙ sym (ap (λ b. b && bytes_eq xs ys) (ne_eqb p q (λ e. absurd (omega arith)))))
     (λ (h : q ≤ p). ⊎_elim
-    (λ (e : p ≡ q). ap (λ o. is_eq (ordering_then o (slice_cmp nat_cmp xs ys))) (sym (nat_cmp_is p q Equal e)) ∙ is_eq-slice_cmp xs ys ∙ sym (ap (λ b. b && bytes_eq xs ys) (same_as p q e)))
-    (λ (n : p ≡ q → ⊥). ap (λ o. is_eq (ordering_then o (slice_cmp nat_cmp xs ys))) (sym (nat_cmp_is p q Greater (⊎_elim (λ (l : q < p). l) (λ (g : p ≤ q). absurd (n (omega arith))) (cases_lt q p)))) ∙ sym (ap (λ b. b && bytes_eq xs ys) (not_same p q n)))
+    (λ (e : p ≡ q). ap (λ o. is_eq (ordering_then o (slice_cmp nat_cmp xs ys))) (sym (nat_cmp_is p q Equal e)) ∙ is_eq-slice_cmp xs ys ∙ sym (ap (λ b. b && bytes_eq xs ys) (eq-eqb p q e)))
+    (λ (n : p ≡ q → ⊥). ap (λ o. is_eq (ordering_then o (slice_cmp nat_cmp xs ys))) (sym (nat_cmp_is p q Greater (⊎_elim (λ (l : q < p). l) (λ (g : p ≤ q). absurd (n (omega arith))) (cases_lt q p)))) ∙ sym (ap (λ b. b && bytes_eq xs ys) (ne_eqb p q n)))
     (cases_eq p q)) (cases_lt p q)
 
 pub seen_more : (old new : BTreeSet Key) (k : Key) → new.keys ≡ insert_key by_key old.keys k → (p : ℕ) (key : List ℕ) → has_seen new p key ≡ (((p == k.0) && bytes_eq key k.1.items) || has_seen old p key)

@@ -1,6 +1,7 @@
 -- What the code sees of a row's shape.
-use Rattle.std.proofs.Common.{◌≡◌, ◌∙◌, ℕ, zero, suc, ◌-◌, ◌<◌, ◌≤◌, Bool, true, false, cond, not, List, [], ◌∷◌, length, take, drop, get_or, refl, sym, ap, arith, length-take, length-drop}
+use Rattle.std.proofs.Common.{◌≡◌, ◌∙◌, ℕ, zero, suc, ◌-◌, ◌<◌, ◌≤◌, false, cond, not, List, [], ◌∷◌, length, take, drop, get_or, refl, sym, ap, arith, length-take, length-drop}
 use Rattle.std.specs.Prelude.{Some, None, nat_le, ◌&&◌, ◌==◌, bytes_eq, slice_index}
+use Rattle.std.proofs.lemmas.Bool.{and_left, and_right, eq-eqb, le-leb, ne_eqb}
 use Rattle.fork_bytes.specs.Blocks.{trimmed, before_zeros}
 use Rattle.volume_spec.specs.SoundVolume.{is_formed as is_formed_row, is_named}
 use Rattle.volume_spec.specs.TypedVolume.{is_typed_row}
@@ -8,14 +9,7 @@ use Rattle.record_keeper.specs.declared.record.Record.{Record}
 use Rattle.volume_keeper_records.specs.declared.rows.TableRow.TheVariants as row
 use Rattle.volume_keeper_records.specs.Records.{record_of}
 use Rattle.volume_keeper_records.specs.Shape.{row_in, guess, is_formed_record, is_formed_node, bare_row, has_fit_forks, is_root_or_other, head_in, node_in, block_in, comment_in, icon_in, appl_in, are_same}
-use Rattle.volume_keeper_records.proofs.TestParts.{le_true, same_true, other_false, bytes_true}
-
-right_false : (a b : Bool) → b ≡ false → (a && b) ≡ false
-right_false true b e = e
-right_false false b e = refl
-
-left_false : (a b : Bool) → a ≡ false → (a && b) ≡ false
-left_false a b e = ap (λ x. x && b) e
+use Rattle.afp_base.proofs.Facts.{bytes_true}
 
 -- a record under a node's key is guessed as a node
 pub node_guess : (r : Record) → slice_index r.key 0 ≡ 1 → guess r ≡ row.Node (node_in r.key r.value (take 32 (drop 19 r.value)) (drop 51 r.value))
@@ -28,23 +22,23 @@ pub short_node : (name : List ℕ) (r : Record) → slice_index r.key 0 ≡ 1 �
 unfolding row_in
 short_node name r tag short =
     let finder : List ℕ = take 32 (drop 19 r.value) in
-    let len : (length finder == 32) ≡ false = other_false (length finder) 32 (λ e. absurd (let a = length-take 32 (drop 19 r.value) in let b = length-drop 19 r.value in omega arith)) in
+    let len : (length finder == 32) ≡ false = ne_eqb (length finder) 32 (λ e. absurd (let a = length-take 32 (drop 19 r.value) in let b = length-drop 19 r.value in omega arith)) in
     let node = node_in r.key r.value (take 32 (drop 19 r.value)) (drop 51 r.value) in
-    let unnamed : is_named (bare_row node) ≡ false = right_false _ (length finder == 32) len in
-    let unformed : is_formed_node name node ≡ false = right_false (is_typed_row (bare_row node)) (is_formed_row (bare_row node) && (has_fit_forks node && is_root_or_other name node)) (left_false (is_formed_row (bare_row node)) (has_fit_forks node && is_root_or_other name node) (left_false (is_named (bare_row node)) _ unnamed)) in
+    let unnamed : is_named (bare_row node) ≡ false = and_right _ (length finder == 32) len in
+    let unformed : is_formed_node name node ≡ false = and_right (is_typed_row (bare_row node)) (is_formed_row (bare_row node) && (has_fit_forks node && is_root_or_other name node)) (and_left (is_formed_row (bare_row node)) (has_fit_forks node && is_root_or_other name node) (and_left (is_named (bare_row node)) _ unnamed)) in
     ap (λ g. cond (is_formed_record name g && are_same (record_of g) r) (Some g) None) (node_guess r tag)
     ∙ ap (λ t. cond (t && are_same (record_of (row.Node node)) r) (Some (row.Node node)) None) unformed
 
 more_in_front : (b c : ℕ) (cs ts : List ℕ) → bytes_eq ts (c ∷ cs) ≡ bytes_eq (before_zeros b ts) (b ∷ c ∷ cs)
 more_in_front zero c cs [] = refl
-more_in_front (suc b) c cs [] = sym (right_false (suc b == suc b) false refl)
-more_in_front b c cs (t ∷ ts) = ap (λ x. x && bytes_eq (t ∷ ts) (c ∷ cs)) (sym (same_true b b refl))
+more_in_front (suc b) c cs [] = sym (and_right (suc b == suc b) false refl)
+more_in_front b c cs (t ∷ ts) = ap (λ x. x && bytes_eq (t ∷ ts) (c ∷ cs)) (sym (eq-eqb b b refl))
 
 -- bytes without a zero at their end
 pub kept_end : (bs : List ℕ) (n : ℕ) → length bs ≡ suc n → not (get_or bs n 0 == 0) ≡ bytes_eq (trimmed bs) bs
 kept_end [] n e = absurd (omega arith)
 kept_end (zero ∷ []) zero e = refl
-kept_end (suc b ∷ []) zero e = ap not (other_false (suc b) 0 (λ h. absurd (omega arith))) ∙ sym (bytes_true (suc b ∷ []) (suc b ∷ []) refl)
+kept_end (suc b ∷ []) zero e = ap not (ne_eqb (suc b) 0 (λ h. absurd (omega arith))) ∙ sym (bytes_true (suc b ∷ []) (suc b ∷ []) refl)
 kept_end (b ∷ []) (suc n) e = absurd (omega arith)
 kept_end (b ∷ c ∷ cs) zero e = absurd (omega arith)
 kept_end (b ∷ c ∷ cs) (suc n) e = kept_end (c ∷ cs) n (omega arith) ∙ more_in_front b c cs (trimmed (c ∷ cs))
@@ -54,4 +48,4 @@ ends bs some =
     let n : ℕ = length bs - 1 in
     let positive : 1 ≤ length bs = omega (arith, some) in
     let there : length bs ≡ suc (length bs - 1) = omega arith in
-    kept_end bs (length bs - 1) there ∙ ap (λ x. x && bytes_eq (trimmed bs) bs) (sym (le_true 1 (length bs) positive))
+    kept_end bs (length bs - 1) there ∙ ap (λ x. x && bytes_eq (trimmed bs) bs) (sym (le-leb 1 (length bs) positive))

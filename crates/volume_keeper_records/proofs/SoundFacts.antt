@@ -2,15 +2,16 @@
 use Rattle.std.proofs.Common.{◌≡◌, ◌≤◌, Bool, true, false, length, refl}
 use Rattle.std.specs.Prelude.{nat_le, nat_lt, ◌&&◌, ◌==◌}
 use Rattle.std.specs.List.{list_all}
+use Rattle.std.proofs.lemmas.Bool.{and_parts, leb-true}
 use Rattle.volume_spec.specs.VolumeState.{Comment, Appl, VolumeState, root_id, first_id, Row as VolumeRow}
 use Rattle.volume_spec.specs.Order.{rises, rises_from}
 use Rattle.afp_base.specs.Apart.{are_apart}
 use Rattle.afp_base.specs.Limits.{most_fork_bytes}
 use Rattle.volume_spec.specs.SoundVolume.{IsSoundVolume, is_tree, is_in_place, has_apart_names, are_named_alike, has_noted_nodes, keeps_limits, is_formed_volume, is_in_order, has_rising_ids, has_node, has_file, is_comment, is_icon, are_one_icon, are_one_appl, icon_key, appl_key, fork_bytes, most_nodes, most_icons, most_appls, last_next_id, code_size, is_formed as is_formed_row}
 use Rattle.volume_spec.specs.TypedVolume.{is_date, are_bytes, is_typed_row, is_typed_comment, is_typed_icon, is_typed_appl, is_typed_volume}
-use Rattle.volume_keeper_records.proofs.TestParts.{right_true, parts, le_of}
 use Rattle.volume_keeper_records.proofs.Chains.{Chain, from-all, rises-chain}
 use Rattle.volume_keeper_records.proofs.RowOrder.{icon_before, appl_before}
+use Rattle.afp_base.proofs.Facts.{right_true}
 
 pub record SoundFacts (v : VolumeState) : Type 0 where
   pub root : has_node v.rows root_id ≡ true
@@ -34,7 +35,7 @@ pub record SoundFacts (v : VolumeState) : Type 0 where
 
 tree_facts : (v : VolumeState) → is_tree v ≡ true → (has_node v.rows root_id ≡ true) × (list_all (is_in_place v) v.rows ≡ true)
 unfolding is_tree
-tree_facts v e = parts (has_node v.rows root_id) (list_all (is_in_place v) v.rows) (right_true (are_apart (λ (a : VolumeRow) b. a.id == b.id) v.rows) (has_node v.rows root_id && list_all (is_in_place v) v.rows) e)
+tree_facts v e = and_parts (has_node v.rows root_id) (list_all (is_in_place v) v.rows) (right_true (are_apart (λ (a : VolumeRow) b. a.id == b.id) v.rows) (has_node v.rows root_id && list_all (is_in_place v) v.rows) e)
 
 name_facts : (v : VolumeState) → has_apart_names v ≡ true → are_apart are_named_alike v.rows ≡ true
 unfolding has_apart_names
@@ -42,15 +43,15 @@ name_facts v e = e
 
 note_facts : (v : VolumeState) → has_noted_nodes v ≡ true → (list_all (λ (c : Comment). has_node v.rows c.node) v.comments ≡ true) × (list_all (λ (a : Appl). has_file v.rows a.node) v.appls ≡ true)
 unfolding has_noted_nodes
-note_facts v e = parts (list_all (λ (c : Comment). has_node v.rows c.node) v.comments) (list_all (λ (a : Appl). has_file v.rows a.node) v.appls) e
+note_facts v e = and_parts (list_all (λ (c : Comment). has_node v.rows c.node) v.comments) (list_all (λ (a : Appl). has_file v.rows a.node) v.appls) e
 
 limit_facts : (v : VolumeState) → keeps_limits v ≡ true → (length v.rows ≤ most_nodes) × (fork_bytes v.rows ≤ most_fork_bytes) × (length v.icons ≤ most_icons) × (length v.appls ≤ most_appls)
 unfolding keeps_limits
 limit_facts v e =
-    let one = parts (nat_le (length v.rows) most_nodes) (nat_le (fork_bytes v.rows) most_fork_bytes && (nat_le (length v.icons) most_icons && nat_le (length v.appls) most_appls)) e in
-    let two = parts (nat_le (fork_bytes v.rows) most_fork_bytes) (nat_le (length v.icons) most_icons && nat_le (length v.appls) most_appls) one.1 in
-    let three = parts (nat_le (length v.icons) most_icons) (nat_le (length v.appls) most_appls) two.1 in
-    (le_of _ _ one.0, le_of _ _ two.0, le_of _ _ three.0, le_of _ _ three.1)
+    let one = and_parts (nat_le (length v.rows) most_nodes) (nat_le (fork_bytes v.rows) most_fork_bytes && (nat_le (length v.icons) most_icons && nat_le (length v.appls) most_appls)) e in
+    let two = and_parts (nat_le (fork_bytes v.rows) most_fork_bytes) (nat_le (length v.icons) most_icons && nat_le (length v.appls) most_appls) one.1 in
+    let three = and_parts (nat_le (length v.icons) most_icons) (nat_le (length v.appls) most_appls) two.1 in
+    (leb-true _ _ one.0, leb-true _ _ two.0, leb-true _ _ three.0, leb-true _ _ three.1)
 
 -- eight tests one after the other
 eight : (a b c d e f g h : Bool) → (a && (b && (c && (d && (e && (f && (g && h))))))) ≡ true → (a ≡ true) × (b ≡ true) × (c ≡ true) × (d ≡ true) × (e ≡ true) × (f ≡ true) × (g ≡ true) × (h ≡ true)
@@ -74,9 +75,9 @@ form_facts v e =
 order_facts : (v : VolumeState) → is_in_order v ≡ true → Chain (λ (a : VolumeRow) b. nat_lt a.id b.id) v.rows × Chain (λ (a : Comment) b. nat_lt a.node b.node) v.comments × Chain icon_before v.icons × Chain appl_before v.appls
 unfolding is_in_order has_rising_ids
 order_facts v e =
-    let one = parts (has_rising_ids v.rows) (rises_from (λ (c : Comment). c.node) 0 v.comments && (rises icon_key v.icons && rises appl_key v.appls)) e in
-    let two = parts (rises_from (λ (c : Comment). c.node) 0 v.comments) (rises icon_key v.icons && rises appl_key v.appls) one.1 in
-    let three = parts (rises icon_key v.icons) (rises appl_key v.appls) two.1 in
+    let one = and_parts (has_rising_ids v.rows) (rises_from (λ (c : Comment). c.node) 0 v.comments && (rises icon_key v.icons && rises appl_key v.appls)) e in
+    let two = and_parts (rises_from (λ (c : Comment). c.node) 0 v.comments) (rises icon_key v.icons && rises appl_key v.appls) one.1 in
+    let three = and_parts (rises icon_key v.icons) (rises appl_key v.appls) two.1 in
     ((from-all (λ (r : VolumeRow). r.id) 0 v.rows one.0).1, (from-all (λ (c : Comment). c.node) 0 v.comments two.0).1, rises-chain icon_key v.icons three.0, rises-chain appl_key v.appls three.1)
 
 pub sound_facts : (v : VolumeState) → IsSoundVolume v → SoundFacts v

@@ -2,20 +2,14 @@
 use Rattle.std.proofs.Common.{◌≡◌, ◌∙◌, List, [], ◌∷◌, ◌++◌, map, refl, ap, Option}
 use Rattle.std.specs.Prelude.{Some, None}
 use Rattle.std.specs.List.{filter_map, cons_option}
+use Rattle.std.proofs.lemmas.List.{append-nil}
+use Rattle.std.proofs.lemmas.List.Elements.{filter_map-append}
 use Rattle.volume_keeper_records.specs.declared.rows.TableRow.{TableRow}
 use Rattle.volume_keeper_records.specs.declared.rows.TableRow.TheVariants as row
 use Rattle.volume_keeper_records.specs.Image.{Tables, rows_of, tables_in, as_node, as_block, as_comment, as_icon, as_appl}
-use Rattle.volume_keeper_records.proofs.RowKinds.{behind_head, nil_behind}
+use Rattle.volume_keeper_records.proofs.RowKinds.{behind_head}
 
 module _ {A : Type 0} (as_one : TableRow → Option A) where
-  first_and : (o : Option A) (xs ys : List A) → cons_option o (xs ++ ys) ≡ cons_option o xs ++ ys
-  first_and None xs ys = refl
-  first_and (Some x) xs ys = refl
-
-  of_both : (xs ys : List TableRow) → filter_map as_one (xs ++ ys) ≡ filter_map as_one xs ++ filter_map as_one ys
-  of_both [] ys = refl
-  of_both (x ∷ xs) ys = ap (cons_option (as_one x)) (of_both xs ys) ∙ first_and (as_one x) (filter_map as_one xs) (filter_map as_one ys)
-
   of_others : {B : Type 0} (make : B → TableRow) → ((b : B) → as_one (make b) ≡ None) → (bs : List B) → filter_map as_one (map make bs) ≡ []
   of_others make other [] = refl
   of_others make other (b ∷ bs) = (λ i. cons_option (other b i) (of_others make other bs i))
@@ -33,38 +27,38 @@ module _ {A : Type 0} (as_one : TableRow → Option A) where
       let comments : List TableRow = map (λ x. row.Comment x) t.comments in
       let blocks : List TableRow = map (λ x. row.Block x) t.blocks in
       let nodes : List TableRow = map (λ x. row.Node x) t.nodes in
-      of_both nodes (blocks ++ (comments ++ (icons ++ appls)))
-      ∙ ap (λ l. filter_map as_one nodes ++ l) (of_both blocks (comments ++ (icons ++ appls))
-      ∙ ap (λ l. filter_map as_one blocks ++ l) (of_both comments (icons ++ appls)
-      ∙ ap (λ l. filter_map as_one comments ++ l) (of_both icons appls)))
+      filter_map-append as_one nodes (blocks ++ (comments ++ (icons ++ appls)))
+      ∙ ap (λ l. filter_map as_one nodes ++ l) (filter_map-append as_one blocks (comments ++ (icons ++ appls))
+      ∙ ap (λ l. filter_map as_one blocks ++ l) (filter_map-append as_one comments (icons ++ appls)
+      ∙ ap (λ l. filter_map as_one comments ++ l) (filter_map-append as_one icons appls)))
 
 pub nodes_back : (t : Tables) → filter_map as_node (rows_of t) ≡ t.nodes
 nodes_back t =
     of_parts as_node t
     ∙ (λ i. of_these as_node (λ x. row.Node x) (λ x. refl) t.nodes i ++ (of_others as_node (λ x. row.Block x) (λ x. refl) t.blocks i ++ (of_others as_node (λ x. row.Comment x) (λ x. refl) t.comments i
     ++ (of_others as_node (λ x. row.Icon x) (λ x. refl) t.icons i ++ of_others as_node (λ x. row.Appl x) (λ x. refl) t.appls i))))
-    ∙ nil_behind t.nodes
+    ∙ append-nil t.nodes
 
 blocks_back : (t : Tables) → filter_map as_block (rows_of t) ≡ t.blocks
 blocks_back t =
     of_parts as_block t
     ∙ (λ i. of_others as_block (λ x. row.Node x) (λ x. refl) t.nodes i ++ (of_these as_block (λ x. row.Block x) (λ x. refl) t.blocks i ++ (of_others as_block (λ x. row.Comment x) (λ x. refl) t.comments i
     ++ (of_others as_block (λ x. row.Icon x) (λ x. refl) t.icons i ++ of_others as_block (λ x. row.Appl x) (λ x. refl) t.appls i))))
-    ∙ nil_behind t.blocks
+    ∙ append-nil t.blocks
 
 comments_back : (t : Tables) → filter_map as_comment (rows_of t) ≡ t.comments
 comments_back t =
     of_parts as_comment t
     ∙ (λ i. of_others as_comment (λ x. row.Node x) (λ x. refl) t.nodes i ++ (of_others as_comment (λ x. row.Block x) (λ x. refl) t.blocks i ++ (of_these as_comment (λ x. row.Comment x) (λ x. refl) t.comments i
     ++ (of_others as_comment (λ x. row.Icon x) (λ x. refl) t.icons i ++ of_others as_comment (λ x. row.Appl x) (λ x. refl) t.appls i))))
-    ∙ nil_behind t.comments
+    ∙ append-nil t.comments
 
 icons_back : (t : Tables) → filter_map as_icon (rows_of t) ≡ t.icons
 icons_back t =
     of_parts as_icon t
     ∙ (λ i. of_others as_icon (λ x. row.Node x) (λ x. refl) t.nodes i ++ (of_others as_icon (λ x. row.Block x) (λ x. refl) t.blocks i ++ (of_others as_icon (λ x. row.Comment x) (λ x. refl) t.comments i
     ++ (of_these as_icon (λ x. row.Icon x) (λ x. refl) t.icons i ++ of_others as_icon (λ x. row.Appl x) (λ x. refl) t.appls i))))
-    ∙ nil_behind t.icons
+    ∙ append-nil t.icons
 
 appls_back : (t : Tables) → filter_map as_appl (rows_of t) ≡ t.appls
 appls_back t =

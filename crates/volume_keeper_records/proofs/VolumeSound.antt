@@ -2,25 +2,29 @@
 use Rattle.std.proofs.Common.{◌≡◌, ◌∙◌, ℕ, zero, suc, ◌+◌, ◌<◌, ◌≤◌, Bool, true, false, cond, not, List, [], ◌∷◌, ◌++◌, map, length, refl, sym, ap, arith}
 use Rattle.std.specs.Prelude.{nat_le, nat_lt, ◌&&◌, ◌||◌, ◌==◌, bytes_eq, bit_and, sum_by}
 use Rattle.std.specs.List.{list_all, list_any, filter}
+use Rattle.std.proofs.lemmas.Bool.{and_from, eqb-true, le-leb, lt-ltb, ltb-false, ltb-true, ne_eqb, not-false, not-true, not_from_false, or_parts}
+use Rattle.std.proofs.lemmas.List.Folds.{list_all-map}
 use Rattle.volume_spec.specs.VolumeState.{Comment, Icon, Appl, root_id, root_parent, first_id, Row as VolumeRow}
 use Rattle.volume_spec.specs.Order.{stands_before}
 use Rattle.afp_base.specs.Apart.{are_apart}
 use Rattle.afp_base.specs.Limits.{most_fork_bytes}
 use Rattle.volume_spec.specs.SoundVolume.{IsSoundVolume, is_tree, is_in_place, has_apart_names, are_named_alike, has_noted_nodes, keeps_limits, is_formed_volume, is_in_order, has_rising_ids, has_node, has_file, leads_to_root, is_named, is_comment, is_icon, are_one_icon, are_one_appl, icon_key, appl_key, most_nodes, most_icons, most_appls, last_next_id, code_size, file_attributes, dir_attributes, is_formed as is_formed_row}
 use Rattle.volume_spec.specs.TypedVolume.{is_date, is_quad, is_typed_row, is_typed_comment, is_typed_icon, is_typed_appl}
-use Rattle.volume_spec.proofs.TestedLists.{any-map, length-mapped}
 use Rattle.volume_keeper_records.specs.declared.rows.Node.{Node}
 use Rattle.volume_keeper_records.specs.declared.rows.ForkBlock.{ForkBlock}
 use Rattle.volume_keeper_records.specs.declared.rows.TableRow.TheVariants as row
 use Rattle.volume_keeper_records.specs.Shape.{bare_row, is_formed_record, is_formed_node, is_formed_comment, is_formed_icon, is_formed_appl, has_fit_forks, is_root_or_other}
 use Rattle.volume_keeper_records.specs.Image.{Tables}
 use Rattle.volume_keeper_records.specs.FirstBad.{tree_of, nodes_to, icons_to, appls_to}
-use Rattle.volume_keeper_records.proofs.TestParts.{left_true, right_true, both_true, cases, lt_of, lt_true, le_true, ge_of, same_of, other_false, turn_true, turn_false, not_true, neither, bytes_same, all-more, all-both, all-map, any-same, none-any, any-none, pick, then_of, and_false}
-use Rattle.volume_keeper_records.proofs.Chains.{Chain, chain-map, chain-apart, top, filter-whole, sum-map, chain-rises, all-from}
-use Rattle.volume_keeper_records.proofs.RowOrder.{icon_before, appl_before, before_itself, before_turned}
+use Rattle.volume_keeper_records.proofs.Chains.{Chain, chain-map, chain-apart, top, sum-map, chain-rises, all-from}
+use Rattle.volume_keeper_records.proofs.RowOrder.{icon_before, appl_before, before_itself}
 use Rattle.volume_keeper_records.proofs.Whole.{IsWhole, is_clear}
 use Rattle.volume_keeper_records.proofs.Facts.{each_kind, IsFree, is_free, in_order}
 use Rattle.volume_keeper_records.proofs.ForkParts.{ForkLaw, pieces, row_from, volume_of}
+use Rattle.afp_base.proofs.Facts.{bytes_same, cases, left_true, pick, rest_false, right_true, then_of}
+use Rattle.afp_base.proofs.ListFacts.{all-and, all-weaker, any-map, any-none, any-same, filter-all, length-mapped, none-any}
+use Rattle.volume_keeper_records.proofs.Passing.{below_le}
+use Rattle.volume_spec.proofs.Ordered.{before-not-back}
 
 -- ---- the tree
 
@@ -40,7 +44,7 @@ leads_alike blocks ns (suc steps) id = ap (λ b. (id == root_id) || b)
 
 not_both : (a b : Bool) → a ≡ false → (not a && not b) ≡ false → b ≡ true
 not_both true b e f = absurd (cc)
-not_both false b e f = turn_true b f
+not_both false b e f = not-false b f
 
 in_place_one : (name : List ℕ) (t : Tables) (n : Node) → is_formed_node name n ≡ true → IsFree t (row.Node n) → is_in_place (volume_of name t) (row_from t.blocks n) ≡ true
 in_place_one name t n f free =
@@ -49,8 +53,8 @@ in_place_one name t n f free =
     ((nat_le first_id n.id && nat_lt n.id t.head.next_id) && leads_to_root (map (row_from t.blocks) t.nodes) (length (map (row_from t.blocks) t.nodes)) n.parent)
     (λ e. then_of (n.id == root_id) (n.is_directory && ((n.parent == root_parent) && bytes_eq n.name name)) true e formed)
     (λ e.
-    let range = neither (nat_lt n.id first_id) (nat_le t.head.next_id n.id) (and_false (not (n.id == root_id)) (nat_lt n.id first_id || nat_le t.head.next_id n.id) (ap not e) free.inside) in
-    let low : nat_le first_id n.id ≡ true = le_true _ _ (ge_of n.id first_id range.0) in
+    let range = or_parts (nat_lt n.id first_id) (nat_le t.head.next_id n.id) (rest_false (not (n.id == root_id)) (nat_lt n.id first_id || nat_le t.head.next_id n.id) (ap not e) free.inside) in
+    let low : nat_le first_id n.id ≡ true = le-leb _ _ (ltb-false n.id first_id range.0) in
     let high : nat_lt n.id t.head.next_id ≡ true = not_le n.id t.head.next_id range.1 in
     let both = not_both (n.id == root_id) (has_node (tree_of t) root_id && leads_to_root (tree_of t) (length (tree_of t)) n.parent) e free.placed in
     let leads = right_true (has_node (tree_of t) root_id) (leads_to_root (tree_of t) (length (tree_of t)) n.parent) both in
@@ -62,7 +66,7 @@ in_place_one name t n f free =
     not_le a b e = grind (arith, e)
 
 lower_differ : (a b : VolumeRow) → nat_lt a.id b.id ≡ true → (a.id == b.id) ≡ false
-lower_differ a b e = other_false a.id b.id (λ h. absurd (let l : a.id < b.id = lt_of _ _ e in omega arith))
+lower_differ a b e = ne_eqb a.id b.id (λ h. absurd (let l : a.id < b.id = ltb-true _ _ e in omega arith))
 
 tree_made : (name : List ℕ) (t : Tables) → IsWhole name t → is_tree (volume_of name t) ≡ true
 unfolding is_tree
@@ -73,10 +77,10 @@ tree_made name t w =
     let rows : List VolumeRow = map (row_from t.blocks) t.nodes in
     let apart = chain-apart (λ (a : VolumeRow) b. nat_lt a.id b.id) (λ a b. a.id == b.id) lower_differ (map (row_from t.blocks) t.nodes) (chain-map (λ (a : VolumeRow) b. nat_lt a.id b.id) (row_from t.blocks) t.nodes order.nodes) in
     let root = nodes_alike t.blocks t.nodes root_id ∙ w.root in
-    let places = all-map (is_in_place (volume_of name t)) (row_from t.blocks) t.nodes
-    ∙ all-more (λ n. is_formed_node name n && is_clear t (row.Node n)) (λ n. is_in_place (volume_of name t) (row_from t.blocks n)) t.nodes
+    let places = list_all-map (is_in_place (volume_of name t)) (row_from t.blocks) t.nodes
+    ∙ all-weaker (λ n. is_formed_node name n && is_clear t (row.Node n)) (λ n. is_in_place (volume_of name t) (row_from t.blocks n)) t.nodes
     (λ n e. in_place_one name t n (left_true (is_formed_node name n) (is_clear t (row.Node n)) e) (is_free t (row.Node n) (right_true (is_formed_node name n) (is_clear t (row.Node n)) e)))
-    (all-both (is_formed_node name) (λ n. is_clear t (row.Node n)) t.nodes formed.nodes clear.nodes) in
+    (all-and (is_formed_node name) (λ n. is_clear t (row.Node n)) t.nodes formed.nodes clear.nodes) in
     λ i. apart i && (root i && places i)
 
 -- ---- names
@@ -89,23 +93,23 @@ abbrev pub no_twins : List Node → List Node → Bool
 no_twins os ns = list_all (λ (n : Node). list_all (λ (o : Node). not (nat_lt o.id n.id && alike o n)) os) ns
 
 drop_first : (x : Node) (os ns : List Node) → no_twins (x ∷ os) ns ≡ true → no_twins os ns ≡ true
-drop_first x os ns e = all-more (λ (n : Node). list_all (λ (o : Node). not (nat_lt o.id n.id && alike o n)) (x ∷ os)) (λ (n : Node). list_all (λ (o : Node). not (nat_lt o.id n.id && alike o n)) os) ns
+drop_first x os ns e = all-weaker (λ (n : Node). list_all (λ (o : Node). not (nat_lt o.id n.id && alike o n)) (x ∷ os)) (λ (n : Node). list_all (λ (o : Node). not (nat_lt o.id n.id && alike o n)) os) ns
     (λ n h. right_true (not (nat_lt x.id n.id && alike x n)) (list_all (λ (o : Node). not (nat_lt o.id n.id && alike o n)) os) h) e
 
 first_apart : (x : Node) (os ns : List Node) → list_all (λ (n : Node). nat_lt x.id n.id) ns ≡ true → no_twins (x ∷ os) ns ≡ true → list_all (λ n. not (alike x n)) ns ≡ true
 first_apart x os ns c e =
-    all-more (λ (n : Node). nat_lt x.id n.id && list_all (λ (o : Node). not (nat_lt o.id n.id && alike o n)) (x ∷ os)) (λ n. not (alike x n)) ns
+    all-weaker (λ (n : Node). nat_lt x.id n.id && list_all (λ (o : Node). not (nat_lt o.id n.id && alike o n)) (x ∷ os)) (λ n. not (alike x n)) ns
     (λ n h.
     let lower = left_true (nat_lt x.id n.id) (list_all (λ (o : Node). not (nat_lt o.id n.id && alike o n)) (x ∷ os)) h in
     let none = left_true (not (nat_lt x.id n.id && alike x n)) (list_all (λ (o : Node). not (nat_lt o.id n.id && alike o n)) os) (right_true (nat_lt x.id n.id) (list_all (λ (o : Node). not (nat_lt o.id n.id && alike o n)) (x ∷ os)) h) in
-    not_true (alike x n) (and_false (nat_lt x.id n.id) (alike x n) lower (turn_false _ none)))
-    (all-both (λ (n : Node). nat_lt x.id n.id) (λ (n : Node). list_all (λ (o : Node). not (nat_lt o.id n.id && alike o n)) (x ∷ os)) ns c e)
+    not_from_false (alike x n) (rest_false (nat_lt x.id n.id) (alike x n) lower (not-true _ none)))
+    (all-and (λ (n : Node). nat_lt x.id n.id) (λ (n : Node). list_all (λ (o : Node). not (nat_lt o.id n.id && alike o n)) (x ∷ os)) ns c e)
 
 pub apart_made : (ns : List Node) → Chain (λ (a : Node) b. nat_lt a.id b.id) ns → no_twins ns ns ≡ true → are_apart alike ns ≡ true
 apart_made [] c e = refl
 apart_made (x ∷ xs) c e =
     let behind = right_true (list_all (λ (o : Node). not (nat_lt o.id x.id && alike o x)) (x ∷ xs)) (no_twins (x ∷ xs) xs) e in
-    both_true (not (list_any (alike x) xs)) (are_apart alike xs) (not_true (list_any (alike x) xs) (any-none (alike x) xs (first_apart x xs xs c.0 behind))) (apart_made xs c.1 (drop_first x xs xs behind))
+    and_from (not (list_any (alike x) xs)) (are_apart alike xs) (not_from_false (list_any (alike x) xs) (any-none (alike x) xs (first_apart x xs xs c.0 behind))) (apart_made xs c.1 (drop_first x xs xs behind))
 
 apart_map : (f : Node → VolumeRow) → ((a b : Node) → are_named_alike (f a) (f b) ≡ alike a b) → (ns : List Node) → are_apart are_named_alike (map f ns) ≡ are_apart alike ns
 apart_map f h [] = refl
@@ -116,7 +120,7 @@ unfolding has_apart_names
 names_made name t w =
     let clear = each_kind (is_clear t) t w.clear in
     let order = in_order name t w in
-    let twins = all-more (λ n. is_clear t (row.Node n)) (λ (n : Node). list_all (λ (o : Node). not (nat_lt o.id n.id && alike o n)) t.nodes) t.nodes
+    let twins = all-weaker (λ n. is_clear t (row.Node n)) (λ (n : Node). list_all (λ (o : Node). not (nat_lt o.id n.id && alike o n)) t.nodes) t.nodes
     (λ n e. none-any (λ (o : Node). nat_lt o.id n.id && alike o n) t.nodes (is_free t (row.Node n) e).lone) clear.nodes in
     apart_map (row_from t.blocks) (λ a b. refl) t.nodes ∙ apart_made t.nodes order.nodes twins
 
@@ -126,10 +130,10 @@ notes_made : (name : List ℕ) (t : Tables) → IsWhole name t → has_noted_nod
 unfolding has_noted_nodes
 notes_made name t w =
     let clear = each_kind (is_clear t) t w.clear in
-    let comments = all-more (λ c. is_clear t (row.Comment c)) (λ (c : Comment). has_node (map (row_from t.blocks) t.nodes) c.node) t.comments
-    (λ c e. nodes_alike t.blocks t.nodes c.node ∙ turn_true _ (is_free t (row.Comment c) e).placed) clear.comments in
-    let appls = all-more (λ c. is_clear t (row.Appl c)) (λ (c : Appl). has_file (map (row_from t.blocks) t.nodes) c.node) t.appls
-    (λ c e. files_alike t.blocks t.nodes c.node ∙ turn_true _ (is_free t (row.Appl c) e).placed) clear.appls in
+    let comments = all-weaker (λ c. is_clear t (row.Comment c)) (λ (c : Comment). has_node (map (row_from t.blocks) t.nodes) c.node) t.comments
+    (λ c e. nodes_alike t.blocks t.nodes c.node ∙ not-false _ (is_free t (row.Comment c) e).placed) clear.comments in
+    let appls = all-weaker (λ c. is_clear t (row.Appl c)) (λ (c : Appl). has_file (map (row_from t.blocks) t.nodes) c.node) t.appls
+    (λ c e. files_alike t.blocks t.nodes c.node ∙ not-false _ (is_free t (row.Appl c) e).placed) clear.appls in
     λ i. comments i && appls i
 
 -- ---- limits
@@ -140,28 +144,22 @@ at_top R le h s count most none [] c e = none
 at_top R le h s count most none (x ∷ xs) c e =
     let t = top R le h s x xs c in
     let last = t.2 (λ m. not (nat_lt most (count (filter (λ o. le o m) (x ∷ xs))))) e in
-    le_true _ _ (ge_of most (count (x ∷ xs)) (ap (λ l. nat_lt most (count l)) (sym (filter-whole (λ o. le o t.0) (x ∷ xs) t.1)) ∙ turn_false _ last))
-
-below_not : (a b : Node) → nat_lt a.id b.id ≡ true → nat_le a.id b.id ≡ true
-below_not a b e = let l : a.id < b.id = lt_of _ _ e in le_true _ _ (omega arith)
-
-not_above : (a b : List ℕ) → stands_before a b ≡ true → not (stands_before b a) ≡ true
-not_above a b e = not_true _ (before_turned a b e)
+    le-leb _ _ (ltb-false most (count (x ∷ xs)) (ap (λ l. nat_lt most (count l)) (sym (filter-all (λ o. le o t.0) (x ∷ xs) t.1)) ∙ not-true _ last))
 
 limits_made : ForkLaw → (name : List ℕ) (t : Tables) → IsWhole name t → keeps_limits (volume_of name t) ≡ true
 unfolding keeps_limits
 limits_made law name t w =
     let clear = each_kind (is_clear t) t w.clear in
     let order = in_order name t w in
-    let both = λ (n : Node) (e : is_clear t (row.Node n) ≡ true). neither (nat_lt most_nodes (length (nodes_to n t))) (nat_lt most_fork_bytes (sum_by (λ (o : Node). o.data_length + o.resource_length) (nodes_to n t))) (is_free t (row.Node n) e).few in
-    let nodes = at_top (λ (a : Node) b. nat_lt a.id b.id) (λ a b. nat_le a.id b.id) below_not (λ a. le_true _ _ (let l : a.id ≤ a.id = omega arith in l)) length most_nodes refl t.nodes order.nodes
-    (all-more (λ n. is_clear t (row.Node n)) (λ n. not (nat_lt most_nodes (length (nodes_to n t)))) t.nodes (λ n e. not_true _ (both n e).0) clear.nodes) in
-    let bytes = at_top (λ (a : Node) b. nat_lt a.id b.id) (λ a b. nat_le a.id b.id) below_not (λ a. le_true _ _ (let l : a.id ≤ a.id = omega arith in l)) (sum_by (λ (o : Node). o.data_length + o.resource_length)) most_fork_bytes refl t.nodes order.nodes
-    (all-more (λ n. is_clear t (row.Node n)) (λ n. not (nat_lt most_fork_bytes (sum_by (λ (o : Node). o.data_length + o.resource_length) (nodes_to n t)))) t.nodes (λ n e. not_true _ (both n e).1) clear.nodes) in
-    let icons = at_top icon_before (λ o m. not (stands_before (icon_key m) (icon_key o))) (λ a b e. not_above (icon_key a) (icon_key b) e) (λ a. not_true _ (before_itself (icon_key a))) length most_icons refl t.icons order.icons
-    (all-more (λ n. is_clear t (row.Icon n)) (λ n. not (nat_lt most_icons (length (icons_to n t)))) t.icons (λ n e. not_true _ (is_free t (row.Icon n) e).few) clear.icons) in
-    let appls = at_top appl_before (λ o m. not (stands_before (appl_key m) (appl_key o))) (λ a b e. not_above (appl_key a) (appl_key b) e) (λ a. not_true _ (before_itself (appl_key a))) length most_appls refl t.appls order.appls
-    (all-more (λ n. is_clear t (row.Appl n)) (λ n. not (nat_lt most_appls (length (appls_to n t)))) t.appls (λ n e. not_true _ (is_free t (row.Appl n) e).few) clear.appls) in
+    let both = λ (n : Node) (e : is_clear t (row.Node n) ≡ true). or_parts (nat_lt most_nodes (length (nodes_to n t))) (nat_lt most_fork_bytes (sum_by (λ (o : Node). o.data_length + o.resource_length) (nodes_to n t))) (is_free t (row.Node n) e).few in
+    let nodes = at_top (λ (a : Node) b. nat_lt a.id b.id) (λ a b. nat_le a.id b.id) below_le (λ a. le-leb _ _ (let l : a.id ≤ a.id = omega arith in l)) length most_nodes refl t.nodes order.nodes
+    (all-weaker (λ n. is_clear t (row.Node n)) (λ n. not (nat_lt most_nodes (length (nodes_to n t)))) t.nodes (λ n e. not_from_false _ (both n e).0) clear.nodes) in
+    let bytes = at_top (λ (a : Node) b. nat_lt a.id b.id) (λ a b. nat_le a.id b.id) below_le (λ a. le-leb _ _ (let l : a.id ≤ a.id = omega arith in l)) (sum_by (λ (o : Node). o.data_length + o.resource_length)) most_fork_bytes refl t.nodes order.nodes
+    (all-weaker (λ n. is_clear t (row.Node n)) (λ n. not (nat_lt most_fork_bytes (sum_by (λ (o : Node). o.data_length + o.resource_length) (nodes_to n t)))) t.nodes (λ n e. not_from_false _ (both n e).1) clear.nodes) in
+    let icons = at_top icon_before (λ o m. not (stands_before (icon_key m) (icon_key o))) (λ a b e. before-not-back (icon_key a) (icon_key b) e) (λ a. not_from_false _ (before_itself (icon_key a))) length most_icons refl t.icons order.icons
+    (all-weaker (λ n. is_clear t (row.Icon n)) (λ n. not (nat_lt most_icons (length (icons_to n t)))) t.icons (λ n e. not_from_false _ (is_free t (row.Icon n) e).few) clear.icons) in
+    let appls = at_top appl_before (λ o m. not (stands_before (appl_key m) (appl_key o))) (λ a b e. before-not-back (appl_key a) (appl_key b) e) (λ a. not_from_false _ (before_itself (appl_key a))) length most_appls refl t.appls order.appls
+    (all-weaker (λ n. is_clear t (row.Appl n)) (λ n. not (nat_lt most_appls (length (appls_to n t)))) t.appls (λ n e. not_from_false _ (is_free t (row.Appl n) e).few) clear.appls) in
     let count = ap (λ k. nat_le k most_nodes) (length-mapped (row_from t.blocks) t.nodes) ∙ nodes in
     let sum = ap (λ k. nat_le k most_fork_bytes) (sum-map (λ (r : VolumeRow). length r.data_fork + length r.resource_fork) (row_from t.blocks) (λ (o : Node). o.data_length + o.resource_length) t.nodes
     (λ n. λ i. law.size n.data_length (pieces t.blocks n.id 0) i + law.size n.resource_length (pieces t.blocks n.id 1) i)) ∙ bytes in
@@ -192,7 +190,7 @@ icon_apart a b e = cases (are_one_icon a b)
     let c : a.creator ≡ b.creator = bytes_same _ _ (left_true (bytes_eq a.creator b.creator) (bytes_eq a.kind b.kind && (a.icon_kind == b.icon_kind)) h) in
     let r = right_true (bytes_eq a.creator b.creator) (bytes_eq a.kind b.kind && (a.icon_kind == b.icon_kind)) h in
     let k : a.kind ≡ b.kind = bytes_same _ _ (left_true (bytes_eq a.kind b.kind) (a.icon_kind == b.icon_kind) r) in
-    let i : a.icon_kind ≡ b.icon_kind = same_of _ _ (right_true (bytes_eq a.kind b.kind) (a.icon_kind == b.icon_kind) r) in
+    let i : a.icon_kind ≡ b.icon_kind = eqb-true _ _ (right_true (bytes_eq a.kind b.kind) (a.icon_kind == b.icon_kind) r) in
     let same : icon_key a ≡ icon_key b = λ j. c j ++ k j ++ i j ∷ [] in
     absurd (let x : true ≡ false = sym e ∙ ap (λ l. stands_before l (icon_key b)) same ∙ before_itself (icon_key b) in cc))
     (λ h. h)
@@ -201,13 +199,13 @@ appl_apart : (a b : Appl) → appl_before a b ≡ true → are_one_appl a b ≡ 
 appl_apart a b e = cases (are_one_appl a b)
     (λ h.
     let c : a.creator ≡ b.creator = bytes_same _ _ (left_true (bytes_eq a.creator b.creator) (a.node == b.node) h) in
-    let i : a.node ≡ b.node = same_of _ _ (right_true (bytes_eq a.creator b.creator) (a.node == b.node) h) in
+    let i : a.node ≡ b.node = eqb-true _ _ (right_true (bytes_eq a.creator b.creator) (a.node == b.node) h) in
     let same : appl_key a ≡ appl_key b = λ j. c j ++ i j ∷ [] in
     absurd (let x : true ≡ false = sym e ∙ ap (λ l. stands_before l (appl_key b)) same ∙ before_itself (appl_key b) in cc))
     (λ h. h)
 
 comment_apart : (a b : Comment) → nat_lt a.node b.node ≡ true → (a.node == b.node) ≡ false
-comment_apart a b e = other_false a.node b.node (λ h. absurd (let l : a.node < b.node = lt_of _ _ e in omega arith))
+comment_apart a b e = ne_eqb a.node b.node (λ h. absurd (let l : a.node < b.node = ltb-true _ _ e in omega arith))
 
 formed_made : ForkLaw → (name : List ℕ) (t : Tables) → IsWhole name t → is_formed_volume (volume_of name t) ≡ true
 unfolding is_formed_volume
@@ -215,28 +213,28 @@ formed_made law name t w =
     let formed = each_kind (is_formed_record name) t w.formed in
     let order = in_order name t w in
     let next = right_true (is_date t.head.created && (is_date t.head.modified && is_date t.head.backup)) (nat_le first_id t.head.next_id && nat_le t.head.next_id last_next_id) formed.head in
-    let rows = all-map is_formed_row (row_from t.blocks) t.nodes ∙ all-more (is_formed_node name) (λ n. is_formed_row (row_from t.blocks n)) t.nodes (row_formed law name t.blocks) formed.nodes in
+    let rows = list_all-map is_formed_row (row_from t.blocks) t.nodes ∙ all-weaker (is_formed_node name) (λ n. is_formed_row (row_from t.blocks n)) t.nodes (row_formed law name t.blocks) formed.nodes in
     let comments = chain-apart (λ (a : Comment) b. nat_lt a.node b.node) (λ a b. a.node == b.node) comment_apart t.comments order.comments in
-    let texts = all-more is_formed_comment is_comment t.comments (λ c f. right_true (is_typed_comment c) (is_comment c) f) formed.comments in
+    let texts = all-weaker is_formed_comment is_comment t.comments (λ c f. right_true (is_typed_comment c) (is_comment c) f) formed.comments in
     let icons = chain-apart icon_before are_one_icon icon_apart t.icons order.icons in
-    let bits = all-more is_formed_icon is_icon t.icons (λ c f. right_true (is_typed_icon c) (is_icon c) f) formed.icons in
+    let bits = all-weaker is_formed_icon is_icon t.icons (λ c f. right_true (is_typed_icon c) (is_icon c) f) formed.icons in
     let appls = chain-apart appl_before are_one_appl appl_apart t.appls order.appls in
-    let creators = all-more is_formed_appl (λ (a : Appl). length a.creator == code_size) t.appls (λ c f. right_true (is_typed_appl c) (length c.creator == code_size) f) formed.appls in
+    let creators = all-weaker is_formed_appl (λ (a : Appl). length a.creator == code_size) t.appls (λ c f. right_true (is_typed_appl c) (length c.creator == code_size) f) formed.appls in
     λ i. next i && (rows i && (comments i && (texts i && (icons i && (bits i && (appls i && creators i))))))
 
 -- ids are above 0, and so are those of comments
 id_above : (t : Tables) (n : Node) → IsFree t (row.Node n) → nat_lt 0 n.id ≡ true
 id_above t n free = cases (n.id == root_id)
-    (λ e. let s : n.id ≡ root_id = same_of _ _ e in lt_true _ _ (omega arith))
+    (λ e. let s : n.id ≡ root_id = eqb-true _ _ e in lt-ltb _ _ (omega arith))
     (λ e.
-    let range = neither (nat_lt n.id first_id) (nat_le t.head.next_id n.id) (and_false (not (n.id == root_id)) (nat_lt n.id first_id || nat_le t.head.next_id n.id) (ap not e) free.inside) in
-    let low : first_id ≤ n.id = ge_of n.id first_id range.0 in
-    lt_true _ _ (omega arith))
+    let range = or_parts (nat_lt n.id first_id) (nat_le t.head.next_id n.id) (rest_false (not (n.id == root_id)) (nat_lt n.id first_id || nat_le t.head.next_id n.id) (ap not e) free.inside) in
+    let low : first_id ≤ n.id = ltb-false n.id first_id range.0 in
+    lt-ltb _ _ (omega arith))
 
 above_there : (ns : List Node) (id : ℕ) → list_all (λ (n : Node). nat_lt 0 n.id) ns ≡ true → has_node (map bare_row ns) id ≡ true → nat_lt 0 id ≡ true
 above_there [] id e h = absurd (cc)
 above_there (n ∷ ns) id e h = cases (n.id == id)
-    (λ t. ap (nat_lt 0) (sym (same_of n.id id t)) ∙ left_true (nat_lt 0 n.id) (list_all (λ (n : Node). nat_lt 0 n.id) ns) e)
+    (λ t. ap (nat_lt 0) (sym (eqb-true n.id id t)) ∙ left_true (nat_lt 0 n.id) (list_all (λ (n : Node). nat_lt 0 n.id) ns) e)
     (λ t. above_there ns id (right_true (nat_lt 0 n.id) (list_all (λ (n : Node). nat_lt 0 n.id) ns) e) (ap (λ b. b || has_node (map bare_row ns) id) (sym t) ∙ h))
 
 order_made : (name : List ℕ) (t : Tables) → IsWhole name t → is_in_order (volume_of name t) ≡ true
@@ -244,10 +242,10 @@ unfolding is_in_order has_rising_ids
 order_made name t w =
     let clear = each_kind (is_clear t) t w.clear in
     let order = in_order name t w in
-    let low = all-more (λ n. is_clear t (row.Node n)) (λ (n : Node). nat_lt 0 n.id) t.nodes (λ n e. id_above t n (is_free t (row.Node n) e)) clear.nodes in
-    let rows = all-from (λ (r : VolumeRow). r.id) 0 (map (row_from t.blocks) t.nodes) (all-map (λ (r : VolumeRow). nat_lt 0 r.id) (row_from t.blocks) t.nodes ∙ low) (chain-map (λ (a : VolumeRow) b. nat_lt a.id b.id) (row_from t.blocks) t.nodes order.nodes) in
+    let low = all-weaker (λ n. is_clear t (row.Node n)) (λ (n : Node). nat_lt 0 n.id) t.nodes (λ n e. id_above t n (is_free t (row.Node n) e)) clear.nodes in
+    let rows = all-from (λ (r : VolumeRow). r.id) 0 (map (row_from t.blocks) t.nodes) (list_all-map (λ (r : VolumeRow). nat_lt 0 r.id) (row_from t.blocks) t.nodes ∙ low) (chain-map (λ (a : VolumeRow) b. nat_lt a.id b.id) (row_from t.blocks) t.nodes order.nodes) in
     let comments = all-from (λ (c : Comment). c.node) 0 t.comments
-    (all-more (λ c. is_clear t (row.Comment c)) (λ (c : Comment). nat_lt 0 c.node) t.comments (λ c e. above_there t.nodes c.node low (turn_true _ (is_free t (row.Comment c) e).placed)) clear.comments) order.comments in
+    (all-weaker (λ c. is_clear t (row.Comment c)) (λ (c : Comment). nat_lt 0 c.node) t.comments (λ c e. above_there t.nodes c.node low (not-false _ (is_free t (row.Comment c) e).placed)) clear.comments) order.comments in
     let icons = chain-rises icon_key t.icons order.icons in
     let appls = chain-rises appl_key t.appls order.appls in
     λ i. rows i && (comments i && (icons i && appls i))

@@ -2,21 +2,21 @@
 use Rattle.std.proofs.Common.{◌≡◌, ◌∙◌, ℕ, zero, suc, ◌+◌, ◌*◌, ◌/◌, ◌%◌, Bool, true, false, cond, not, List, [], ◌∷◌, ◌++◌, map, length, get_or, refl, sym, ap}
 use Rattle.std.specs.Prelude.{nat_le, nat_lt, ◌&&◌, ◌||◌, ◌==◌, bytes_eq, flat_map}
 use Rattle.std.specs.List.{list_all, list_any}
+use Rattle.std.proofs.lemmas.Bool.{and_from, le-leb, ltb-false, not-false, not-true}
+use Rattle.std.proofs.lemmas.List.Folds.{list_all-map}
 use Rattle.fork_bytes.specs.declared.block.Block.{Block}
 use Rattle.afp_base.specs.Limits.{block_size}
 use Rattle.fork_bytes.specs.Kept.{bytes_of, bytes_in, byte_at, each_of}
 use Rattle.volume_spec.specs.VolumeState.{root_id, root_parent, first_id, Row as VolumeRow}
 use Rattle.volume_spec.specs.SoundVolume.{has_file, has_node, is_formed as is_formed_row, is_comment, is_icon, last_next_id}
 use Rattle.volume_spec.specs.TypedVolume.{is_byte, is_long, is_date, are_bytes, is_typed_row, is_typed_volume, is_typed_comment, is_typed_icon, is_typed_appl}
-use Rattle.volume_spec.proofs.TestedLists.{any-map}
 use Rattle.volume_keeper_records.specs.declared.rows.Node.{Node}
 use Rattle.volume_keeper_records.specs.declared.rows.ForkBlock.{ForkBlock}
 use Rattle.volume_keeper_records.specs.declared.rows.TableRow.TheVariants as row
 use Rattle.volume_keeper_records.specs.Shape.{bare_row, is_formed_record, is_formed_node, is_formed_block, is_formed_comment, is_formed_icon, is_formed_appl, has_fit_forks, is_root_or_other}
 use Rattle.volume_keeper_records.specs.Image.{Tables, tables_of, node_of, fork_blocks}
 use Rattle.volume_keeper_records.specs.FirstBad.{tree_of, fork_length}
-use Rattle.volume_keeper_records.proofs.TestParts.{left_true, right_true, both_true, cases, le_true, ge_of, turn_true, turn_false, bytes_same, all-more, all-both, all-map, any-more, none-any, all-swap, always, and_false, then_of}
-use Rattle.volume_keeper_records.proofs.Chains.{Chain, chain-more, all-filter, filter-passes}
+use Rattle.volume_keeper_records.proofs.Chains.{Chain, chain-more, all-filter}
 use Rattle.volume_keeper_records.proofs.Parted.{parted}
 use Rattle.volume_keeper_records.proofs.ReadBack.{node_parts}
 use Rattle.volume_keeper_records.proofs.RowOrder.{block_before}
@@ -24,6 +24,8 @@ use Rattle.volume_keeper_records.specs.Records.{flag_byte}
 use Rattle.volume_keeper_records.proofs.Whole.{IsWhole, is_clear}
 use Rattle.volume_keeper_records.proofs.Facts.{each_kind, is_free, in_order}
 use Rattle.volume_keeper_records.proofs.ForkParts.{ForkLaw, piece_of, own, fork_part, pieces, row_from, volume_of, is_good_block, blocks_of_node, by_node}
+use Rattle.afp_base.proofs.Facts.{bytes_same, cases, left_true, rest_false, right_true, then_of}
+use Rattle.afp_base.proofs.ListFacts.{all-always, all-and, all-kept, all-swap, all-weaker, any-map, any-weaker, none-any}
 
 -- ---- the nodes
 
@@ -55,21 +57,21 @@ reaches_past n b = nat_lt (fork_length b.is_resource n) (block_size * b.index + 
 
 all_within : (t : Tables) → list_all (λ b. is_clear t (row.Block b)) t.blocks ≡ true → list_all (λ n. list_all (λ b. not ((n.id == b.node) && reaches_past n b)) t.blocks) t.nodes ≡ true
 all_within t c = all-swap (λ (n : Node) (b : ForkBlock). not ((n.id == b.node) && reaches_past n b)) t.nodes t.blocks
-    (all-more (λ b. is_clear t (row.Block b)) (λ b. list_all (λ n. not ((n.id == b.node) && reaches_past n b)) t.nodes) t.blocks
+    (all-weaker (λ b. is_clear t (row.Block b)) (λ b. list_all (λ n. not ((n.id == b.node) && reaches_past n b)) t.nodes) t.blocks
     (λ b e. none-any (λ n. (n.id == b.node) && reaches_past n b) t.nodes (is_free t (row.Block b) e).inside) c)
 
 good_one : (n : Node) (b : ForkBlock) → (is_formed_block b && not ((n.id == b.node) && reaches_past n b)) ≡ true → (n.id == b.node) ≡ true → is_good_block n b ≡ true
 good_one n b f i =
-    both_true (is_formed_block b) (nat_le (block_size * b.index + length b.bytes) (fork_length b.is_resource n)) (left_true (is_formed_block b) (not ((n.id == b.node) && reaches_past n b)) f)
-    (le_true _ _ (ge_of (fork_length b.is_resource n) (block_size * b.index + length b.bytes)
-    (and_false (n.id == b.node) (reaches_past n b) i (turn_false _ (right_true (is_formed_block b) (not ((n.id == b.node) && reaches_past n b)) f)))))
+    and_from (is_formed_block b) (nat_le (block_size * b.index + length b.bytes) (fork_length b.is_resource n)) (left_true (is_formed_block b) (not ((n.id == b.node) && reaches_past n b)) f)
+    (le-leb _ _ (ltb-false (fork_length b.is_resource n) (block_size * b.index + length b.bytes)
+    (rest_false (n.id == b.node) (reaches_past n b) i (not-true _ (right_true (is_formed_block b) (not ((n.id == b.node) && reaches_past n b)) f)))))
 
 good_own : (n : Node) (blocks : List ForkBlock) → list_all is_formed_block blocks ≡ true → list_all (λ b. not ((n.id == b.node) && reaches_past n b)) blocks ≡ true → list_all (is_good_block n) (own blocks n.id) ≡ true
 good_own n blocks f w =
-    let both = all-both is_formed_block (λ b. not ((n.id == b.node) && reaches_past n b)) blocks f w in
-    let mine = all-both (λ b. is_formed_block b && not ((n.id == b.node) && reaches_past n b)) (λ b. n.id == b.node) (own blocks n.id)
-    (all-filter (λ (b : ForkBlock). n.id == b.node) (λ b. is_formed_block b && not ((n.id == b.node) && reaches_past n b)) blocks both) (filter-passes (λ (b : ForkBlock). n.id == b.node) blocks) in
-    all-more (λ b. (is_formed_block b && not ((n.id == b.node) && reaches_past n b)) && (n.id == b.node)) (is_good_block n) (own blocks n.id)
+    let both = all-and is_formed_block (λ b. not ((n.id == b.node) && reaches_past n b)) blocks f w in
+    let mine = all-and (λ b. is_formed_block b && not ((n.id == b.node) && reaches_past n b)) (λ b. n.id == b.node) (own blocks n.id)
+    (all-filter (λ (b : ForkBlock). n.id == b.node) (λ b. is_formed_block b && not ((n.id == b.node) && reaches_past n b)) blocks both) (all-kept (λ (b : ForkBlock). n.id == b.node) blocks) in
+    all-weaker (λ b. (is_formed_block b && not ((n.id == b.node) && reaches_past n b)) && (n.id == b.node)) (is_good_block n) (own blocks n.id)
     (λ b e. good_one n b (left_true (is_formed_block b && not ((n.id == b.node) && reaches_past n b)) (n.id == b.node) e) (right_true (is_formed_block b && not ((n.id == b.node) && reaches_past n b)) (n.id == b.node) e)) mine
 
 node_by_node : ForkLaw → (blocks : List ForkBlock) → Chain block_before blocks → list_all is_formed_block blocks ≡ true → (ns : List Node)
@@ -81,9 +83,9 @@ node_by_node law blocks c f (n ∷ ns) w = λ i.
 
 -- each block's node is there
 owned : (t : Tables) → list_all (λ b. is_clear t (row.Block b)) t.blocks ≡ true → list_all (λ (b : ForkBlock). list_any (λ (n : Node). n.id == b.node) t.nodes) t.blocks ≡ true
-owned t c = all-more (λ b. is_clear t (row.Block b)) (λ (b : ForkBlock). list_any (λ (n : Node). n.id == b.node) t.nodes) t.blocks
-    (λ b e. any-more (λ n. (n.id == b.node) && not n.is_directory) (λ n. n.id == b.node) t.nodes (λ n h. left_true (n.id == b.node) (not n.is_directory) h)
-    (sym (any-map (λ (r : VolumeRow). r.id == b.node && not r.dir) bare_row t.nodes) ∙ turn_true (has_file (tree_of t) b.node) (is_free t (row.Block b) e).placed)) c
+owned t c = all-weaker (λ b. is_clear t (row.Block b)) (λ (b : ForkBlock). list_any (λ (n : Node). n.id == b.node) t.nodes) t.blocks
+    (λ b e. any-weaker (λ n. (n.id == b.node) && not n.is_directory) (λ n. n.id == b.node) t.nodes (λ n h. left_true (n.id == b.node) (not n.is_directory) h)
+    (sym (any-map (λ (r : VolumeRow). r.id == b.node && not r.dir) bare_row t.nodes) ∙ not-false (has_file (tree_of t) b.node) (is_free t (row.Block b) e).placed)) c
 
 blocks_again : ForkLaw → (name : List ℕ) (t : Tables) → IsWhole name t → flat_map fork_blocks (map (row_from t.blocks) t.nodes) ≡ t.blocks
 blocks_again law name t w =
@@ -92,7 +94,7 @@ blocks_again law name t w =
     let order = in_order name t w in
     node_by_node law t.blocks order.blocks formed.blocks t.nodes (all_within t clear.blocks)
     ∙ parted (λ (b : ForkBlock). b.node) (λ (n : Node). n.id) t.nodes t.blocks
-    (chain-more block_before (λ a b. nat_le a.node b.node) (λ b. true) t.blocks (λ a b p q e. by_node a b e) (always t.blocks) order.blocks)
+    (chain-more block_before (λ a b. nat_le a.node b.node) (λ b. true) t.blocks (λ a b p q e. by_node a b e) (all-always t.blocks) order.blocks)
     order.nodes (owned t clear.blocks)
 
 pub tables_again : ForkLaw → (name : List ℕ) (t : Tables) → IsWhole name t → tables_of (volume_of name t) ≡ t
@@ -105,9 +107,9 @@ byte_in [] k e = refl
 byte_in (b ∷ bs) zero e = left_true (is_byte b) (are_bytes bs) e
 byte_in (b ∷ bs) (suc k) e = byte_in bs k (right_true (is_byte b) (are_bytes bs) e)
 
-each_byte : (n : ℕ) (byte : ℕ → ℕ) → ((k : ℕ) → is_byte (byte k) ≡ true) → are_bytes (each_of n byte) ≡ true
+pub each_byte : (n : ℕ) (byte : ℕ → ℕ) → ((k : ℕ) → is_byte (byte k) ≡ true) → are_bytes (each_of n byte) ≡ true
 each_byte zero byte h = refl
-each_byte (suc n) byte h = both_true (is_byte (byte 0)) (are_bytes (each_of n (λ k. byte (suc k)))) (h 0) (each_byte n (λ k. byte (suc k)) (λ k. h (suc k)))
+each_byte (suc n) byte h = and_from (is_byte (byte 0)) (are_bytes (each_of n (λ k. byte (suc k)))) (h 0) (each_byte n (λ k. byte (suc k)) (λ k. h (suc k)))
 
 block_bytes : (bs : List Block) (i : ℕ) → list_all (λ (b : Block). are_bytes b.bytes) bs ≡ true → are_bytes (bytes_in bs i) ≡ true
 block_bytes [] i e = refl
@@ -124,9 +126,9 @@ block_typed b f = right_true (is_long b.index) (are_bytes b.bytes) (right_true (
 
 pieces_typed : (blocks : List ForkBlock) (id fork : ℕ) → list_all is_formed_block blocks ≡ true → list_all (λ (b : Block). are_bytes b.bytes) (pieces blocks id fork) ≡ true
 pieces_typed blocks id fork f =
-    all-map (λ (b : Block). are_bytes b.bytes) piece_of (fork_part (own blocks id) fork)
+    list_all-map (λ (b : Block). are_bytes b.bytes) piece_of (fork_part (own blocks id) fork)
     ∙ all-filter (λ (b : ForkBlock). fork == flag_byte b.is_resource) (λ (b : ForkBlock). are_bytes b.bytes) (own blocks id)
-    (all-filter (λ (b : ForkBlock). id == b.node) (λ (b : ForkBlock). are_bytes b.bytes) blocks (all-more is_formed_block (λ (b : ForkBlock). are_bytes b.bytes) blocks block_typed f))
+    (all-filter (λ (b : ForkBlock). id == b.node) (λ (b : ForkBlock). are_bytes b.bytes) blocks (all-weaker is_formed_block (λ (b : ForkBlock). are_bytes b.bytes) blocks block_typed f))
 
 row_typed : (name : List ℕ) (blocks : List ForkBlock) → list_all is_formed_block blocks ≡ true → (n : Node) → is_formed_node name n ≡ true → is_typed_row (row_from blocks n) ≡ true
 row_typed name blocks f n g =
@@ -158,8 +160,8 @@ volume_typed name t w =
     let modified = left_true (is_date t.head.modified) (is_date t.head.backup) later in
     let backup = right_true (is_date t.head.modified) (is_date t.head.backup) later in
     let next = right_true (nat_le first_id t.head.next_id) (nat_le t.head.next_id last_next_id) (right_true (is_date t.head.created && (is_date t.head.modified && is_date t.head.backup)) (nat_le first_id t.head.next_id && nat_le t.head.next_id last_next_id) formed.head) in
-    let rows = all-map is_typed_row (row_from t.blocks) t.nodes ∙ all-more (is_formed_node name) (λ n. is_typed_row (row_from t.blocks n)) t.nodes (row_typed name t.blocks formed.blocks) formed.nodes in
-    let comments = all-more is_formed_comment is_typed_comment t.comments (λ c f. left_true (is_typed_comment c) (is_comment c) f) formed.comments in
-    let icons = all-more is_formed_icon is_typed_icon t.icons (λ c f. left_true (is_typed_icon c) (is_icon c) f) formed.icons in
-    let appls = all-more is_formed_appl is_typed_appl t.appls (λ c f. left_true (is_typed_appl c) (length c.creator == 4) f) formed.appls in
+    let rows = list_all-map is_typed_row (row_from t.blocks) t.nodes ∙ all-weaker (is_formed_node name) (λ n. is_typed_row (row_from t.blocks n)) t.nodes (row_typed name t.blocks formed.blocks) formed.nodes in
+    let comments = all-weaker is_formed_comment is_typed_comment t.comments (λ c f. left_true (is_typed_comment c) (is_comment c) f) formed.comments in
+    let icons = all-weaker is_formed_icon is_typed_icon t.icons (λ c f. left_true (is_typed_icon c) (is_icon c) f) formed.icons in
+    let appls = all-weaker is_formed_appl is_typed_appl t.appls (λ c f. left_true (is_typed_appl c) (length c.creator == 4) f) formed.appls in
     λ i. named i && (created i && (modified i && (backup i && (next i && (rows i && (comments i && (icons i && appls i)))))))

@@ -1,7 +1,8 @@
 -- Records of which none is bad are those of whole tables, and those of whole tables have none that is bad.
-use Rattle.std.proofs.Common.{◌≡◌, ◌∙◌, ℕ, suc, ◌<◌, ◌≤◌, Bool, true, false, cond, List, [], ◌∷◌, ◌++◌, map, length, drop, refl, sym, ap, subst, arith, Option}
+use Rattle.std.proofs.Common.{◌≡◌, ◌∙◌, ℕ, ◌<◌, ◌≤◌, Bool, true, false, cond, List, [], ◌∷◌, ◌++◌, map, length, drop, refl, sym, ap, subst, arith, Option}
 use Rattle.std.specs.Prelude.{Some, None, is_none, nat_lt, ◌||◌, ◌==◌, bytes_eq}
 use Rattle.std.specs.List.{list_all, filter_map, cons_option}
+use Rattle.std.proofs.lemmas.Bool.{and_from, eq-eqb, eqb-true, le-ltb, ltb-true, or_left, or_right}
 use Rattle.byteorder.specs.Endian.{big_number}
 use Rattle.volume_spec.specs.VolumeState.{root_id}
 use Rattle.volume_spec.specs.SoundVolume.{has_node}
@@ -18,11 +19,12 @@ use Rattle.volume_keeper_records.specs.KeyOrder.{RisesByKey, with_key, with_head
 use Rattle.volume_keeper_records.specs.lemma.KeyOrder.{has_key}
 use Rattle.record_keeper.specs.Reading.{most_records}
 use Rattle.volume_keeper_records.specs.FirstBad.{rows_in, tree_of, reason_of, bad_or, first_in, first_bad_among, first_bad_record, too_many}
-use Rattle.volume_keeper_records.proofs.TestParts.{both_true, left_true, right_true, cases, lt_of, same_true, same_of, bytes_same, or_left, or_right, lt_false}
 use Rattle.volume_keeper_records.proofs.ReadBack.{row_is, read_back, node_parts, number_back_4}
 use Rattle.volume_keeper_records.proofs.RowKinds.{rows_are}
 use Rattle.volume_keeper_records.proofs.TablesBack.{tables_back}
 use Rattle.volume_keeper_records.proofs.MissingKeys.{AllShaped, rises_with, has_with, still_has, none_missing, empty_head, empty_root, present_same}
+use Rattle.afp_base.proofs.Facts.{bytes_same, cases, left_true, right_true}
+use Rattle.afp_base.proofs.ListFacts.{length-mapped}
 
 -- no rule refuses a row
 abbrev pub is_clear : Tables → TableRow → Bool
@@ -54,8 +56,8 @@ module _ (name : List ℕ) (t : Tables) where
       let is = row_is name r x e in
       record {
         same = ap (λ o. map record_of (cons_option o (rows_in name records))) e ∙ (λ i. is.1 i ∷ s.same i);
-        formed = ap (λ o. list_all (is_formed_record name) (cons_option o (rows_in name records))) e ∙ both_true _ _ is.0 s.formed;
-        clear = ap (λ o. list_all (is_clear t) (cons_option o (rows_in name records))) e ∙ both_true _ _ c s.clear;
+        formed = ap (λ o. list_all (is_formed_record name) (cons_option o (rows_in name records))) e ∙ and_from _ _ is.0 s.formed;
+        clear = ap (λ o. list_all (is_clear t) (cons_option o (rows_in name records))) e ∙ and_from _ _ c s.clear;
         shaped = (λ n. absurd (let k : None ≡ Some x = sym n ∙ e in cc), s.shaped);
       }
 
@@ -71,7 +73,7 @@ unfolding head_record node_record block_record comment_record icon_record appl_r
 is_root name (row.Head h) f e = absurd (cc)
 is_root name (row.Node n) f e =
     let k : 1 ∷ long_bytes n.id ≡ root_key = bytes_same (1 ∷ long_bytes n.id) root_key e in
-    let small : n.id < 4294967296 = lt_of _ _ (node_parts name n f).id in
+    let small : n.id < 4294967296 = ltb-true _ _ (node_parts name n f).id in
     (n, refl, sym (number_back_4 n.id (omega (arith, small))) ∙ ap (λ bytes. big_number 4 (drop 1 bytes)) k)
 is_root name (row.Block b) f e = absurd (cc)
 is_root name (row.Comment c) f e = absurd (cc)
@@ -87,7 +89,7 @@ rooted name [] f e = absurd (cc)
 rooted name (x ∷ xs) f e = cases (bytes_eq (record_of x).key root_key)
     (λ t.
     let n = is_root name x (left_true _ _ f) t in
-    ap (λ o. has_node (map bare_row (cons_option o (filter_map as_node xs))) root_id) n.1 ∙ or_left (n.0.id == root_id) _ (same_true _ _ n.2))
+    ap (λ o. has_node (map bare_row (cons_option o (filter_map as_node xs))) root_id) n.1 ∙ or_left (n.0.id == root_id) _ (eq-eqb _ _ n.2))
     (λ t. one_more (as_node x) (filter_map as_node xs) (rooted name xs (right_true _ _ f) (ap (λ b. b || has_key root_key (map record_of xs)) (sym t) ∙ e)))
 
 pub whole_made : (name : List ℕ) (records : List Record) → RisesByKey records → has_key head_key records ≡ true → has_key root_key records ≡ true → first_bad_among name records ≡ None
@@ -150,7 +152,7 @@ has_head_key t = refl
 
 root_bytes : (n : Node) → (n.id == root_id) ≡ true → bytes_eq (node_record n).key root_key ≡ true
 unfolding node_record
-root_bytes n e = let i : n.id ≡ root_id = same_of _ _ e in ap (λ id. bytes_eq (1 ∷ long_bytes id) root_key) i
+root_bytes n e = let i : n.id ≡ root_id = eqb-true _ _ e in ap (λ id. bytes_eq (1 ∷ long_bytes id) root_key) i
 
 nodes_have_root : (ns : List Node) (xs : List TableRow) → has_node (map bare_row ns) root_id ≡ true → has_key root_key (map record_of (map (λ n. row.Node n) ns ++ xs)) ≡ true
 nodes_have_root [] xs e = absurd (cc)
@@ -166,10 +168,6 @@ whole_good name t w few =
     let all : List Record = map record_of (rows_of t) in
     let same : with_head_and_root (map record_of (rows_of t)) ≡ map record_of (rows_of t) =
     ap (with_key head_key) (present_same root_key (map record_of (rows_of t)) w.rises (has_root_key name t w)) ∙ present_same head_key (map record_of (rows_of t)) w.rises (has_head_key t) in
-    let fits : nat_lt most_records (length (map record_of (rows_of t))) ≡ false = lt_false _ _ (omega (arith, few, length-map record_of (rows_of t))) in
+    let fits : nat_lt most_records (length (map record_of (rows_of t))) ≡ false = le-ltb _ _ (omega (arith, few, length-mapped record_of (rows_of t))) in
     ap (λ b. cond b (too_many (drop most_records (map record_of (rows_of t)))) (first_bad_among name (with_head_and_root (map record_of (rows_of t))))) fits
     ∙ ap (first_bad_among name) same ∙ whole_clear name t w
-  where
-    length-map : {A B : Type 0} (f : A → B) (xs : List A) → length (map f xs) ≡ length xs
-    length-map f [] = refl
-    length-map f (x ∷ xs) = ap suc (length-map f xs)

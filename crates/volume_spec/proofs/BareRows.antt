@@ -1,7 +1,7 @@
 -- Rows with no bytes in their forks answer as those with them.
 use Rattle.std.proofs.Common.{◌==◌, ◌≡◌, ◌∙◌, ap, sym, refl, ℕ, zero, suc, Bool, true, not, ◌&&◌, ◌||◌, cond, List, [], ◌∷◌, map, Option, Some, None}
 use Rattle.std.specs.Prelude.{option_map, bytes_eq, Result, Err}
-use Rattle.std.specs.List.{list_any, list_all, filter, find}
+use Rattle.std.specs.List.{filter, find}
 use Rattle.std.proofs.lemmas.Bool.{cond_both, cond-true, cond-false}
 use Rattle.afp_base.specs.declared.code.Code.{Code}
 use Rattle.afp_base.specs.declared.code.Code.TheVariants.{ObjectNotFound, DirNotFound}
@@ -11,12 +11,12 @@ use Rattle.afp_names.specs.Path.{long_names, PathValue, element_of}
 use Rattle.afp_names.specs.declared.path.Step.{Step}
 use Rattle.afp_names.specs.declared.path.Step.TheVariants.{Up, Down}
 use Rattle.volume_spec.proofs.Ordered.{order-map}
-use Rattle.volume_spec.proofs.TestedLists.{any-map}
 use Rattle.volume_spec.specs.Edits.{bare, is_taken, is_below, with_changed, change_at, without}
 use Rattle.volume_spec.specs.Listing.{children, listed, row_key}
 use Rattle.volume_spec.specs.Order.{in_order}
 use Rattle.volume_spec.specs.VolumeState.{Row, root_parent}
 use Rattle.volume_spec.specs.Walk.{row_at, parent_at, child_by_key, child_by_long_name, child, or_else, onward, failed_down, walk_from, not_above_root, walk, found}
+use Rattle.afp_base.proofs.ListFacts.{all-always, any-map, any-same}
 
 pub find-map : {A B : Type 0} (f : A → B) (p : B → Bool) (xs : List A) → find p (map f xs) ≡ option_map f (find (λ x. p (f x)) xs)
 find-map f p [] = refl
@@ -78,10 +78,6 @@ pub taken-bare : (rows : List Row) (node dir : ℕ) (name : List ℕ) → is_tak
 unfolding is_taken
 taken-bare rows node dir name = any-map (λ row. not (row.id == node) && ((row.parent == dir) && bytes_eq (name_key row.name) (name_key name))) bare rows
 
-any-same : (p q : Row → Bool) (rows : List Row) → ((row : Row) → p row ≡ q row) → list_any p rows ≡ list_any q rows
-any-same p q [] same = refl
-any-same p q (row ∷ rows) same = λ i. same row i || any-same p q rows same i
-
 pub below-bare : (rows : List Row) (steps node id : ℕ) → is_below (map bare rows) steps node id ≡ is_below rows steps node id
 below-bare rows zero node id = refl
 below-bare rows (suc steps) node id =
@@ -119,8 +115,4 @@ pub lists-bare : (rows : List Row) (dir : ℕ) → listed (map bare rows) dir �
 unfolding listed children
 lists-bare rows dir =
     ap (λ l. in_order row_key l) (filter-bare dir rows)
-    ∙ order-map bare row_key row_key (λ row. true) (filter (λ (row : Row). row.parent == dir) rows) (λ a b in_a in_b. refl) (all (filter (λ (row : Row). row.parent == dir) rows))
-  where
-    all : (rows : List Row) → list_all (λ row. true) rows ≡ true
-    all [] = refl
-    all (row ∷ rows) = all rows
+    ∙ order-map bare row_key row_key (λ row. true) (filter (λ (row : Row). row.parent == dir) rows) (λ a b in_a in_b. refl) (all-always (filter (λ (row : Row). row.parent == dir) rows))

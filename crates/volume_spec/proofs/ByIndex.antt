@@ -1,25 +1,18 @@
 -- What is asked by parent or by key.
-use Rattle.std.proofs.Common.{◌==◌, ◌≡◌, ◌∙◌, ap, sym, refl, ℕ, suc, Bool, true, false, not, ◌&&◌, ◌||◌, List, [], ◌∷◌, Option, Some, None, inl, inr}
+use Rattle.std.proofs.Common.{◌==◌, ◌≡◌, ◌∙◌, ap, sym, refl, ℕ, suc, Bool, true, not, ◌&&◌, ◌||◌, List, [], ◌∷◌, Option, Some, None, inl, inr}
 use Rattle.std.specs.Prelude.{bytes_eq, option_map}
 use Rattle.std.specs.List.{list_any, list_all, find, filter}
-use Rattle.std.proofs.lemmas.Bool.{and_parts, and_from, or_left, or_right, or_cases, cond_both, cases_Bool, eqb-true, eq-eqb}
+use Rattle.std.proofs.lemmas.Bool.{and_parts, and_from, or_left, or_right, or_cases, cond_both, cases_Bool, eqb-true, eq-eqb, false_from_ne_true}
 use Rattle.std.proofs.lemmas.Slice.Eq.{bytes_eq-Decides}
 use Rattle.afp_names.specs.Name.{name_key}
 use Rattle.volume_spec.proofs.CreateFile.{find-only}
 use Rattle.volume_spec.specs.SoundVolume.{are_named_alike}
-use Rattle.volume_spec.proofs.TestedLists.{never, any-at, find-none, find-passes, none-all}
 use Rattle.volume_spec.specs.Edits.{is_below, is_taken, above, is_another, without}
 use Rattle.afp_base.specs.Apart.{are_apart}
 use Rattle.volume_spec.specs.VolumeState.{Row}
 use Rattle.volume_spec.specs.Walk.{row_at, parent_at, child_by_key}
-
-or-false : (b c : Bool) → c ≡ false → (b || c) ≡ b
-or-false true c h = refl
-or-false false c h = h
-
-not-true-is : (b : Bool) → (b ≡ true → ⊥) → b ≡ false
-not-true-is true h = absurd (h refl)
-not-true-is false h = refl
+use Rattle.afp_base.proofs.Facts.{never, or_without}
+use Rattle.afp_base.proofs.ListFacts.{any-at, find-none, find-passes, none-all}
 
 -- where ids differ, what holds of some row of an id holds of the one that is found
 pub by-parent : (rows : List Row) (id : ℕ) (said : ℕ → Bool) → are_apart (λ (a : Row) b. a.id == b.id) rows ≡ true → list_any (λ row. (row.id == id) && said row.parent) rows ≡ above (parent_at rows id) said
@@ -30,7 +23,7 @@ by-parent (row ∷ rows) id said apart =
     cond_both (row.id == id) (Some row) (find (λ (r : Row). r.id == id) rows)
     (λ o. (((row.id == id) && said row.parent) || list_any (λ r. (r.id == id) && said r.parent) rows) ≡ above (option_map (λ (r : Row). r.parent) o) said)
     (λ here. ap (λ b. (b && said row.parent) || list_any (λ r. (r.id == id) && said r.parent) rows) here
-    ∙ or-false (said row.parent) (list_any (λ r. (r.id == id) && said r.parent) rows) (not-true-is (list_any (λ r. (r.id == id) && said r.parent) rows) (λ some.
+    ∙ or_without (said row.parent) (list_any (λ r. (r.id == id) && said r.parent) rows) (false_from_ne_true (list_any (λ r. (r.id == id) && said r.parent) rows) (λ some.
     any-at (λ r. (r.id == id) && said r.parent) (λ (b : Row). not (row.id == b.id)) rows some (none-all (λ (b : Row). row.id == b.id) rows e.0)
     (λ r is other. never (row.id == r.id) (eq-eqb row.id r.id (eqb-true row.id id here ∙ sym (eqb-true r.id id (and_parts (r.id == id) (said r.parent) is).0))) other))))
     (λ other. ap (λ b. (b && said row.parent) || list_any (λ r. (r.id == id) && said r.parent) rows) other ∙ by-parent rows id said e.1)
@@ -74,10 +67,10 @@ taken-by-key rows node dir name apart = by (find pick rows) refl
         ((bytes_eq-Decides (name_key a.name) (name_key b.name)).1 ((bytes_eq-Decides (name_key a.name) (name_key name)).0 e.1 ∙ sym ((bytes_eq-Decides (name_key b.name) (name_key name)).0 f.1)))
 
     by : (o : Option Row) → find pick rows ≡ o → list_any taken rows ≡ is_another node (option_map (λ (row : Row). row.id) o)
-    by None h = not-true-is (list_any taken rows) (λ some. any-at taken (λ row. not (pick row)) rows some (find-none pick rows h)
+    by None h = false_from_ne_true (list_any taken rows) (λ some. any-at taken (λ row. not (pick row)) rows some (find-none pick rows h)
         (λ row is other. never (pick row) (and_parts (not (row.id == node)) (pick row) is).1 other))
     by (Some r) h = elim (cases_Bool (r.id == node)) [
-      | inl same ↦ not-true-is (list_any taken rows) (λ some.
+      | inl same ↦ false_from_ne_true (list_any taken rows) (λ some.
           any-at taken (λ row. not (not (row.id == r.id)) || not (pick row)) rows some
           (all-unless (λ row. not (pick row)) (λ row. not (row.id == r.id)) rows (find-only are_named_alike pick rows r alike apart h))
           (λ row is only. let e = and_parts (not (row.id == node)) (pick row) is in

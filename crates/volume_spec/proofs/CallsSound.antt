@@ -2,14 +2,13 @@
 use Rattle.std.proofs.Common.{◌==◌, ◌≡◌, ◌∙◌, ap, sym, refl, ℕ, Bool, true, false, not, ◌||◌, List, [], ◌∷◌, length, Option, Some, None}
 use Rattle.std.specs.Prelude.{option_map, is_some, is_none, nat_le, unwrap_or}
 use Rattle.std.specs.List.{list_all}
-use Rattle.std.proofs.lemmas.Bool.{and_parts, leb-false}
+use Rattle.std.proofs.lemmas.Bool.{and_parts, leb-false, or_parts, not-false}
 use Rattle.afp_base.specs.declared.code.Code.TheVariants.{ObjectExists, DiskFull, AccessDenied, ObjectLocked, FileBusy, DirNotEmpty, CantRename, CantMove, ObjectTypeErr, ObjectNotFound}
 use Rattle.afp_names.specs.Name.{name_key, name_fault}
 use Rattle.afp_names.specs.Path.{PathValue}
 use Rattle.volume_spec.proofs.Formed.{formed-parts}
 use Rattle.volume_spec.proofs.Refusals.{none-holds, none-first, at-found, IsPlaceThere, place-there, down-named, down-or-named}
 use Rattle.volume_spec.proofs.SoundEdits.{IsNewPlace, sound-changed, sound-children, sound-new, sound-without, sound-moved, sound-renamed}
-use Rattle.volume_spec.proofs.TestedLists.{find-all}
 use Rattle.volume_spec.proofs.Trees.{tree-parts}
 use Rattle.volume_spec.proofs.Walks.{walk-there, row-there}
 use Rattle.volume_spec.specs.Edits.{is_taken, is_below, has_children, changed_at, children_changed, without_node, with_moved, renamed, with_new}
@@ -21,14 +20,12 @@ use Rattle.volume_spec.specs.Rename.{rename_refusal, rename_effect}
 use Rattle.volume_spec.specs.MoveAndRename.{move_refusal, move_effect}
 use Rattle.volume_spec.specs.VolumeState.{Row, VolumeState, root_id, root_parent}
 use Rattle.volume_spec.specs.Walk.{Place, found, new_place, one_down, one_down_or, has_directory, row_at, parent_at, child_by_key, is_named_path}
+use Rattle.afp_base.proofs.Facts.{none_from_is_none}
+use Rattle.afp_base.proofs.ListFacts.{find-all}
 
 pub is-none : {A : Type 0} (o : Option A) → is_some o ≡ false → o ≡ None
 is-none None h = refl
 is-none (Some a) h = absurd (cc)
-
-pub or-none : (a b : Bool) → (a || b) ≡ false → (a ≡ false) × (b ≡ false)
-or-none true b h = absurd (cc)
-or-none false b h = (refl, h)
 
 -- the last touches: the date of a directory, and of the volume
 touched : (v : VolumeState) (now dir : ℕ) → IsSoundVolume v → IsSoundVolume (changed_at now (children_changed now dir v))
@@ -44,7 +41,7 @@ create-dir-sound v now dir path named passes s =
     at-found IsSoundVolume (new_place v.rows dir path) _ v (created true now v) passes (λ place is clear.
     let there : IsPlaceThere v.rows place = place-there v.rows dir path place named is in
     let none = none-holds ((is_some (child_by_key v.rows place.dir (name_key place.name)), ObjectExists) ∷ (nat_le most_nodes (length v.rows) || nat_le last_next_id v.next_id, DiskFull) ∷ []) clear in
-    let room = or-none (nat_le most_nodes (length v.rows)) (nat_le last_next_id v.next_id) none.1.0 in
+    let room = or_parts (nat_le most_nodes (length v.rows)) (nat_le last_next_id v.next_id) none.1.0 in
     created-sound v true now place (record {
       directory = there.directory;
       named = there.named;
@@ -84,15 +81,7 @@ unfolding row_at
 name-good v id s is formed =
     let good : is_formed s ≡ true = find-all (λ (row : Row). row.id == id) is_formed v.rows s is formed in
     ap (λ o. name_fault (unwrap_or (option_map (λ (row : Row). row.name) o) [])) is
-    ∙ no-fault (name_fault s.name) (and_parts (is_none (name_fault s.name)) (length s.finder == 32) (and_parts (is_named s) _ good).0).0
-  where
-    no-fault : {F : Type 0} (o : Option F) → is_none o ≡ true → o ≡ None
-    no-fault None h = refl
-    no-fault (Some f) h = absurd (cc)
-
-pub not-false : (b : Bool) → not b ≡ false → b ≡ true
-not-false true h = refl
-not-false false h = absurd (cc)
+    ∙ none_from_is_none (name_fault s.name) (and_parts (is_none (name_fault s.name)) (length s.finder == 32) (and_parts (is_named s) _ good).0).0
 
 -- FPMoveAndRename
 pub move-sound : (v : VolumeState) (now dir : ℕ) (path : PathValue) (to_dir : ℕ) (to_path new : PathValue) → is_named_path new ≡ true → move_refusal v dir path to_dir to_path new ≡ None → IsSoundVolume v → IsSoundVolume (move_effect v now dir path to_dir to_path new)

@@ -5,7 +5,6 @@ use Rattle.std.proofs.lemmas.Bool.{and_parts, cond_both, cond-true, cond-false, 
 use Rattle.std.proofs.lemmas.List.{length-map}
 use Rattle.volume_spec.proofs.BareRows.{filter-bare, lists-bare}
 use Rattle.volume_spec.proofs.Ordered.{is-here, is-later, contains-cases, all-at, order-contains}
-use Rattle.volume_spec.proofs.TestedLists.{none-all}
 use Rattle.volume_spec.proofs.Trees.{tree-parts}
 use Rattle.volume_spec.specs.Edits.{bare}
 use Rattle.volume_spec.proofs.ListReplies.{entries-are-page}
@@ -16,6 +15,7 @@ use Rattle.afp_base.specs.Apart.{are_apart}
 use Rattle.volume_spec.specs.SoundVolume.{IsSoundVolume}
 use Rattle.volume_spec.specs.VolumeState.{Row, VolumeState}
 use Rattle.volume_spec.specs.Walk.{row_at}
+use Rattle.afp_base.proofs.ListFacts.{none-all}
 
 filter-all : {A : Type 0} (keep : A → Bool) (xs : List A) → ((x : A) → keep x ≡ true) → filter keep xs ≡ xs
 filter-all keep [] each = refl

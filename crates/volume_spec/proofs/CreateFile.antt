@@ -2,18 +2,17 @@
 use Rattle.std.proofs.Common.{◌==◌, ◌≡◌, ◌∙◌, ap, sym, refl, subst, ℕ, zero, suc, ◌≤◌, ◌<◌, Bool, true, false, not, ◌&&◌, ◌||◌, List, [], ◌∷◌, length, inl, inr, Option, Some, None, arith}
 use Rattle.std.specs.Prelude.{option_map, nat_le, nat_lt, bytes_eq}
 use Rattle.std.specs.List.{list_any, list_all, find}
-use Rattle.std.proofs.lemmas.Bool.{and_parts, and_from, or_cases, or_left, or_right, cond_both, eqb-true, eq-eqb, cases_Bool, both_ways, leb-false, ne_eqb}
+use Rattle.std.proofs.lemmas.Bool.{and_parts, and_from, or_cases, or_left, or_right, cond_both, eqb-true, eq-eqb, cases_Bool, both_ways, leb-false, ne_eqb, or_parts}
 use Rattle.std.proofs.lemmas.Slice.Eq.{bytes_eq-Decides}
 use Rattle.afp_base.specs.declared.code.Code.TheVariants.{ObjectExists, DiskFull, ObjectLocked, FileBusy, ObjectTypeErr}
 use Rattle.afp_names.specs.Name.{name_key}
 use Rattle.afp_names.specs.Path.{PathValue}
-use Rattle.volume_spec.proofs.CallsSound.{created-sound, or-none}
+use Rattle.volume_spec.proofs.CallsSound.{created-sound}
 use Rattle.volume_spec.proofs.Formed.{limit-parts}
 use Rattle.volume_spec.proofs.Leading.{goes_up, without-shorter}
 use Rattle.volume_spec.specs.SoundVolume.{are_named_alike, IsSoundVolume, has_apart_names, has_node, is_in_place, leads_to_root, most_nodes, last_next_id}
 use Rattle.volume_spec.proofs.Refusals.{none-holds, at-found, IsPlaceThere, place-there}
 use Rattle.volume_spec.proofs.SoundEdits.{sound-without}
-use Rattle.volume_spec.proofs.TestedLists.{contra, never, find-all, any-still, any-weaker, none-find, any-at}
 use Rattle.volume_spec.proofs.Trees.{TreeParts, tree-parts, drawn, any-with}
 use Rattle.volume_spec.proofs.Walks.{find-there, mapped-from, MappedFrom}
 use Rattle.volume_spec.specs.Edits.{has_children, without, without_node}
@@ -22,6 +21,8 @@ use Rattle.volume_spec.specs.Shared.{Opened, has_no_room, has_no_ids, has_attrib
 use Rattle.volume_spec.specs.CreateFile.{create_file_there, without_replaced, create_file_refusal, create_file_effect}
 use Rattle.volume_spec.specs.VolumeState.{Row, VolumeState, root_id, root_parent, first_id}
 use Rattle.volume_spec.specs.Walk.{Place, new_place, has_directory, child_by_key, is_named_path}
+use Rattle.afp_base.proofs.Facts.{contra, never}
+use Rattle.afp_base.proofs.ListFacts.{any-at, any-still, any-weaker, find-all, none-find}
 
 -- the root is a directory, in the root's parent
 root-place : (v : VolumeState) (row : Row) → (row.id == root_id) ≡ true → is_in_place v row ≡ true → (row.dir ≡ true) × ((row.parent == root_parent) ≡ true)
@@ -120,7 +121,7 @@ create-file-sound v opens hard now dir path named passes s =
     by-old : (place : Place) → IsPlaceThere v.rows place → (o : Option ℕ) → child_by_key v.rows place.dir (name_key place.name) ≡ o → create_file_there v opens hard o ≡ None → IsSoundVolume (created false now (without_replaced v o) place)
     by-old place there None free clear =
         let none = none-holds ((nat_le most_nodes (length v.rows) || nat_le last_next_id v.next_id, DiskFull) ∷ []) clear in
-        let room = or-none (nat_le most_nodes (length v.rows)) (nat_le last_next_id v.next_id) none.0 in
+        let room = or_parts (nat_le most_nodes (length v.rows)) (nat_le last_next_id v.next_id) none.0 in
         created-sound v false now place (record {
           directory = there.directory;
           named = there.named;

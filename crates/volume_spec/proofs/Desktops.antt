@@ -5,12 +5,11 @@ use Rattle.std.specs.List.{list_all, list_any, filter}
 use Rattle.std.proofs.lemmas.Bool.{and_parts, and_from, cases_Bool, cond_both, cond-true, cond-false, eqb-true, eq-eqb, leb-true, le-leb, ltb-true, lt-ltb, ne_eqb, eqb-false}
 use Rattle.std.proofs.lemmas.List.{length-take}
 use Rattle.volume_spec.proofs.Formed.{FormedParts, LimitParts, formed-parts, formed-whole, limit-parts, limit-whole}
-use Rattle.volume_spec.proofs.Keys.{before-differs, differ-back, key-same, one-before, one-same, put-few, put-key-all, put-key-rises, rises-by-key, rises-by-number, same-key, finds-put, finds-gone}
+use Rattle.volume_spec.proofs.Keys.{before-differs, one-before, one-same, put-few, put-key-all, put-key-rises, rises-by-key, rises-by-number, finds-put, finds-gone}
 use Rattle.volume_spec.proofs.Notes.{NoteParts, note-parts, note-whole}
 use Rattle.volume_spec.proofs.Ordered.{put-all, put-rises}
 use Rattle.volume_spec.proofs.Orders.{OrderParts, order-parts, order-whole}
 use Rattle.volume_spec.proofs.Rising.{keys-filter}
-use Rattle.volume_spec.proofs.TestedLists.{all-filter, all-kept, all-place, all-weaker, any-at, length-filter-le, never}
 use Rattle.volume_spec.proofs.Trees.{TreeParts, tree-parts, drawn}
 use Rattle.volume_spec.specs.Desktop.{IsDesktop, at_key, comment_at, comment_key, creators_of, has_no_appl_room, has_no_icon_room, icon_at, icon_under, icons_of, is_appl, nth_icon, pair_key, with_appl, with_comment, with_icon, without_appl, without_comment, without_mappings}
 use Rattle.volume_spec.specs.DesktopLaws.{with_desktop}
@@ -18,6 +17,8 @@ use Rattle.volume_spec.specs.Order.{stands_before, put_in, rises}
 use Rattle.afp_base.specs.Apart.{are_apart}
 use Rattle.volume_spec.specs.SoundVolume.{IsSoundVolume, appl_key, are_one_appl, are_one_icon, code_size, has_apart_names, has_file, has_node, has_noted_nodes, icon_key, is_comment, is_icon, is_in_place, is_tree, keeps_limits, longest_comment, longest_icon, most_appls, most_icons}
 use Rattle.volume_spec.specs.VolumeState.{Appl, Comment, Icon, VolumeState, first_id, root_id}
+use Rattle.afp_base.proofs.Facts.{bytes_differ_turn, bytes_same, bytes_true, never}
+use Rattle.afp_base.proofs.ListFacts.{all-filter, all-kept, all-place, all-weaker, any-at, length-filter-le}
 
 -- icons
 
@@ -94,7 +95,7 @@ cut-formed node text some =
 others-apart : (comment : Comment) (cs : List Comment) → list_all (λ y. not (bytes_eq (comment_key comment) (comment_key y))) (without_comment comment.node cs) ≡ true
 others-apart comment cs =
     all-weaker (λ y. not (y.node == comment.node)) (λ y. not (bytes_eq (comment_key comment) (comment_key y))) (without_comment comment.node cs)
-    (λ y other. differ-back (comment_key y) (comment_key comment) (ap not (one-same y.node comment.node) ∙ other))
+    (λ y other. bytes_differ_turn (comment_key y) (comment_key comment) (ap not (one-same y.node comment.node) ∙ other))
     (all-kept (λ y. not (y.node == comment.node)) cs)
 
 pub new-comment-keeps : (cs : List Comment) (is : List Icon) (ms : List Appl) (comment : Comment) → is_comment comment ≡ true → IsDesktop cs is ms → IsDesktop (put_in comment_key comment (without_comment comment.node cs)) is ms
@@ -144,7 +145,7 @@ key-apart {A} key alike (x ∷ xs) same h =
     (elim (cases_Bool (list_any (alike x) xs)) [
       | inr none ↦ ap not none
       | inl some ↦ absurd (any-at (alike x) (λ y. stands_before (key x) (key y)) xs some e.0
-          (λ y is before. never (bytes_eq (key x) (key y)) (key-same (key x) (key y) (same x y is)) (before-differs (key x) (key y) before)))
+          (λ y is before. never (bytes_eq (key x) (key y)) (bytes_true (key x) (key y) (same x y is)) (before-differs (key x) (key y) before)))
     ])
     (key-apart key alike xs same e.1)
 
@@ -152,12 +153,12 @@ one-icon-key : (a b : Icon) → are_one_icon a b ≡ true → icon_key a ≡ ico
 one-icon-key a b h =
     let e = and_parts (bytes_eq a.creator b.creator) (bytes_eq a.kind b.kind && (a.icon_kind == b.icon_kind)) h in
     let f = and_parts (bytes_eq a.kind b.kind) (a.icon_kind == b.icon_kind) e.1 in
-    λ i. same-key a.creator b.creator e.0 i ++ same-key a.kind b.kind f.0 i ++ eqb-true a.icon_kind b.icon_kind f.1 i ∷ []
+    λ i. bytes_same a.creator b.creator e.0 i ++ bytes_same a.kind b.kind f.0 i ++ eqb-true a.icon_kind b.icon_kind f.1 i ∷ []
 
 one-appl-key : (a b : Appl) → are_one_appl a b ≡ true → appl_key a ≡ appl_key b
 one-appl-key a b h =
     let e = and_parts (bytes_eq a.creator b.creator) (a.node == b.node) h in
-    λ i. same-key a.creator b.creator e.0 i ++ eqb-true a.node b.node e.1 i ∷ []
+    λ i. bytes_same a.creator b.creator e.0 i ++ eqb-true a.node b.node e.1 i ∷ []
 
 one-comment-key : (a b : Comment) → (a.node == b.node) ≡ true → comment_key a ≡ comment_key b
 one-comment-key a b h = λ i. eqb-true a.node b.node h i ∷ []
@@ -346,7 +347,7 @@ listed-found {A} key of (x ∷ xs) i s up listed =
         (λ other. rest)
 
     first : (j : ℕ) → slice_get (x ∷ filter of xs) j ≡ Some s → ((j : ℕ) → slice_get (filter of xs) j ≡ Some s → at_key key (key s) xs ≡ Some s) → list_all (λ y. stands_before (key x) (key y)) xs ≡ true → at_key key (key s) (x ∷ xs) ≡ Some s
-    first zero at rest all = let same : x ≡ s = cc in cond-true (bytes_eq (key x) (key s)) (Some x) (at_key key (key s) xs) (key-same (key x) (key s) (ap key same)) ∙ at
+    first zero at rest all = let same : x ≡ s = cc in cond-true (bytes_eq (key x) (key s)) (Some x) (at_key key (key s) xs) (bytes_true (key x) (key s) (ap key same)) ∙ at
     first (suc j) at rest all = behind j at (rest j at) all
 
 pub icon-listed : (icons : List Icon) (creator : List ℕ) (n : ℕ) (icon : Icon) → rises icon_key icons ≡ true → nth_icon creator n icons ≡ Some icon → icon_at (icon_key icon) icons ≡ Some icon

@@ -8,7 +8,6 @@ use Rattle.volume_spec.proofs.Formed.{formed-parts, limit-parts}
 use Rattle.volume_spec.proofs.SeenRows.{changes-seen, changes-let-be}
 use Rattle.volume_spec.proofs.SoundEdits.{sound-changed, changed-same}
 use Rattle.volume_spec.proofs.SoundPut.{sound-put, put-sizes}
-use Rattle.volume_spec.proofs.TestedLists.{find-all}
 use Rattle.volume_spec.proofs.Trees.{tree-parts}
 use Rattle.volume_spec.proofs.TypedEdits.{TypedParts, row-parts, row-whole, typed-at, typed-parts, typed-whole}
 use Rattle.volume_spec.specs.Edits.{change_at, put, with_changed}
@@ -18,6 +17,7 @@ use Rattle.volume_spec.specs.SoundVolume.{IsSoundVolume, TakesRow, is_formed, is
 use Rattle.volume_spec.specs.TypedVolume.{are_bytes, is_date, is_typed_row, is_typed_volume}
 use Rattle.volume_spec.specs.VolumeState.{Row, VolumeState}
 use Rattle.volume_spec.specs.Walk.{row_at}
+use Rattle.afp_base.proofs.ListFacts.{find-all}
 
 -- the row with other bytes
 
@@ -158,7 +158,7 @@ row-within (row ∷ rows) id s found =
     (λ other h. let rest = row-within rows id s h in omega (arith, whole, rest))
     found
 
-fork-within : (resource : Bool) (file : Row) → length (fork_of resource file) ≤ row_bytes file
+pub fork-within : (resource : Bool) (file : Row) → length (fork_of resource file) ≤ row_bytes file
 fork-within true file = omega arith
 fork-within false file = omega arith
 

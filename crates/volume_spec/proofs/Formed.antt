@@ -6,12 +6,12 @@ use Rattle.std.proofs.lemmas.Bool.{and_parts, and_from, cond_both, leb-true, le-
 use Rattle.std.proofs.lemmas.List.Sums.{sum_by-append, sum_by-cons}
 use Rattle.std.proofs.lemmas.List.{length-append}
 use Rattle.afp_names.specs.Name.{name_fault}
-use Rattle.volume_spec.proofs.TestedLists.{all-filter, all-snoc, all-map-where, apart-filter, length-filter-le, length-mapped}
 use Rattle.volume_spec.specs.Edits.{without, with_row, without_node}
 use Rattle.afp_base.specs.Apart.{are_apart}
 use Rattle.afp_base.specs.Limits.{most_fork_bytes}
 use Rattle.volume_spec.specs.SoundVolume.{is_formed, is_comment, is_icon, are_one_icon, are_one_appl, is_formed_volume, keeps_limits, fork_bytes, last_next_id, most_nodes, most_icons, most_appls, code_size, row_bytes}
 use Rattle.volume_spec.specs.VolumeState.{Row, Comment, Appl, VolumeState, first_id, new_row}
+use Rattle.afp_base.proofs.ListFacts.{all-filter, all-map-where, all-snoc, apart-filter, length-filter-le, length-mapped}
 
 pub record FormedParts (v : VolumeState) : Type 0 where
   pub low : first_id ≤ v.next_id

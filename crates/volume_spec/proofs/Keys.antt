@@ -3,31 +3,19 @@ use Rattle.std.proofs.Common.{◌≡◌, ◌∙◌, ap, sym, refl, ℕ, suc, ◌
 use Rattle.std.specs.Prelude.{bytes_eq, nat_le, nat_lt, is_none}
 use Rattle.std.specs.List.{list_all, filter, find}
 use Rattle.std.proofs.lemmas.Bool.{and_parts, and_from, cases_Bool, cond_both, cond-true, cond-false, leb-true, leb-false, le-leb}
-use Rattle.std.proofs.lemmas.Slice.Eq.{bytes_eq-Decides}
 use Rattle.volume_spec.proofs.Ordered.{before-one-way, put-all, put-rises}
 use Rattle.volume_spec.proofs.Rising.{above-all, keys-filter}
-use Rattle.volume_spec.proofs.TestedLists.{all-filter, all-kept, all-weaker, length-filter-le, never}
 use Rattle.volume_spec.specs.Desktop.{at_key, put_at_key, without_key}
 use Rattle.volume_spec.specs.Order.{stands_before, put_in, rises, rises_from}
+use Rattle.afp_base.proofs.Facts.{bytes_differ_turn, bytes_same, bytes_true, never}
+use Rattle.afp_base.proofs.ListFacts.{all-filter, all-kept, all-weaker, length-filter-le}
 
 -- keys
-
-pub same-key : (a b : List ℕ) → bytes_eq a b ≡ true → a ≡ b
-same-key a b h = (bytes_eq-Decides a b).0 h
-
-pub key-same : (a b : List ℕ) → a ≡ b → bytes_eq a b ≡ true
-key-same a b is = (bytes_eq-Decides a b).1 is
-
-pub differ-back : (a b : List ℕ) → not (bytes_eq a b) ≡ true → not (bytes_eq b a) ≡ true
-differ-back a b h = elim (cases_Bool (bytes_eq b a)) [
-  | inl same ↦ absurd (never (bytes_eq a b) (key-same a b (sym (same-key b a same))) h)
-  | inr other ↦ ap not other
-]
 
 -- a key that stands before another is another
 pub before-differs : (a b : List ℕ) → stands_before a b ≡ true → not (bytes_eq a b) ≡ true
 before-differs a b before = elim (cases_Bool (bytes_eq a b)) [
-  | inl same ↦ absurd (before-one-way a b before (ap (λ q. stands_before q a) (sym (same-key a b same)) ∙ ap (λ q. stands_before a q) (same-key a b same) ∙ before))
+  | inl same ↦ absurd (before-one-way a b before (ap (λ q. stands_before q a) (sym (bytes_same a b same)) ∙ ap (λ q. stands_before a q) (bytes_same a b same) ∙ before))
   | inr other ↦ ap not other
 ]
 
@@ -50,7 +38,7 @@ one-before a b = go (nat_lt a b) (a == b) refl refl
 -- one more under a key, and one less
 
 others-apart : {A : Type 0} (key : A → List ℕ) (k : List ℕ) (xs : List A) → list_all (λ y. not (bytes_eq k (key y))) (without_key key k xs) ≡ true
-others-apart key k xs = all-weaker (λ y. not (bytes_eq (key y) k)) (λ y. not (bytes_eq k (key y))) (without_key key k xs) (λ y h. differ-back (key y) k h) (all-kept (λ y. not (bytes_eq (key y) k)) xs)
+others-apart key k xs = all-weaker (λ y. not (bytes_eq (key y) k)) (λ y. not (bytes_eq k (key y))) (without_key key k xs) (λ y h. bytes_differ_turn (key y) k h) (all-kept (λ y. not (bytes_eq (key y) k)) xs)
 
 pub without-rises : {A : Type 0} (key : A → List ℕ) (k : List ℕ) (xs : List A) → rises key xs ≡ true → rises key (without_key key k xs) ≡ true
 without-rises key k xs h = keys-filter key (λ y. not (bytes_eq (key y) k)) xs h
@@ -159,18 +147,18 @@ finds-put {A} key p q new xs same other =
 pub put-key-found : {A : Type 0} (key : A → List ℕ) (new : A) (xs : List A) (k : List ℕ) → at_key key k (put_at_key key new xs) ≡ cond (bytes_eq (key new) k) (Some new) (at_key key k xs)
 put-key-found {A} key new xs k =
     finds-put key (λ x. bytes_eq (key x) k) (λ x. bytes_eq (key x) (key new)) new xs
-    (λ here x there. key-same (key x) (key new) (same-key (key x) k there ∙ sym (same-key (key new) k here)))
+    (λ here x there. bytes_true (key x) (key new) (bytes_same (key x) k there ∙ sym (bytes_same (key new) k here)))
     (λ other x there. elim (cases_Bool (bytes_eq (key x) (key new))) [
-      | inl same ↦ absurd (never (bytes_eq (key new) k) (key-same (key new) k (sym (same-key (key x) (key new) same) ∙ same-key (key x) k there)) (ap not other))
+      | inl same ↦ absurd (never (bytes_eq (key new) k) (bytes_true (key new) k (sym (bytes_same (key x) (key new) same) ∙ bytes_same (key x) k there)) (ap not other))
       | inr differs ↦ differs
     ])
 
 pub gone-key-found : {A : Type 0} (key : A → List ℕ) (xs : List A) (k l : List ℕ) → at_key key l (without_key key k xs) ≡ cond (bytes_eq k l) None (at_key key l xs)
 gone-key-found {A} key xs k l =
     finds-gone (λ x. bytes_eq (key x) l) (λ x. bytes_eq (key x) k) (bytes_eq k l) xs
-    (λ is x there. key-same (key x) k (same-key (key x) l there ∙ sym (same-key k l is)))
+    (λ is x there. bytes_true (key x) k (bytes_same (key x) l there ∙ sym (bytes_same k l is)))
     (λ other x there. elim (cases_Bool (bytes_eq (key x) k)) [
-      | inl same ↦ absurd (never (bytes_eq k l) (key-same k l (sym (same-key (key x) k same) ∙ same-key (key x) l there)) (ap not other))
+      | inl same ↦ absurd (never (bytes_eq k l) (bytes_true k l (sym (bytes_same (key x) k same) ∙ bytes_same (key x) l there)) (ap not other))
       | inr differs ↦ differs
     ])
 

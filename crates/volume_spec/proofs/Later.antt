@@ -9,7 +9,6 @@ use Rattle.afp_names.specs.Name.{name_key}
 use Rattle.volume_spec.proofs.CallsSound.{create-dir-sound, delete-sound, rename-sound, move-sound}
 use Rattle.volume_spec.proofs.CreateFile.{create-file-sound}
 use Rattle.volume_spec.proofs.SoundSet.{set-file-sound, set-dir-sound, set-file-dir-sound, set-volume-sound}
-use Rattle.volume_spec.proofs.TestedLists.{any-filter, any-map, any-weaker}
 use Rattle.volume_spec.specs.Edits.{with_changed, change_at, at_place, named, modified_at, changed_at, children_changed, with_row, with_new, without, without_node, with_moved, renamed}
 use Rattle.volume_spec.specs.SoundVolume.{has_node, IsSoundVolume}
 use Rattle.volume_spec.specs.Shared.{done_at, created, directory_of, name_of}
@@ -24,6 +23,7 @@ use Rattle.afp_names.specs.Path.{PathValue}
 use Rattle.volume_spec.specs.TreeSteps.{TreeCall, CreateDir, CreateFile, Delete, Rename, MoveAndRename, SetFileParms, SetDirParms, SetFileDirParms, SetVolParms, TreeStep, tree_refusal, tree_effect, is_named_call, unless_refused, after_step, after_steps}
 use Rattle.volume_spec.specs.VolumeState.{Row, VolumeState, new_row}
 use Rattle.volume_spec.specs.Walk.{Place, found, new_place, one_down, one_down_or, child_by_key, is_named_path}
+use Rattle.afp_base.proofs.ListFacts.{any-filter, any-map, any-weaker}
 
 -- a later state: the next id does not fall, and a node with an id that was drawn before was there before
 pub record IsLater (v w : VolumeState) : Type 0 where

@@ -2,10 +2,11 @@
 use Rattle.std.proofs.Common.{◌==◌, ◌≡◌, ◌∙◌, ap, refl, subst, ℕ, zero, suc, ◌≤◌, ◌<◌, Bool, true, false, not, ◌&&◌, List, [], ◌∷◌, length, arith, ◌⊎◌, inl, inr}
 use Rattle.std.specs.List.{list_any}
 use Rattle.std.proofs.lemmas.Bool.{and_parts, and_from, or_cases, or_left, or_right, cond_both, eqb-true, cases_Bool}
-use Rattle.volume_spec.proofs.TestedLists.{never, any-weaker, any-filter, any-still, length-filter-le}
 use Rattle.volume_spec.specs.Edits.{is_below, without}
 use Rattle.volume_spec.specs.SoundVolume.{leads_to_root}
 use Rattle.volume_spec.specs.VolumeState.{Row, root_id}
+use Rattle.afp_base.proofs.Facts.{never}
+use Rattle.afp_base.proofs.ListFacts.{any-filter, any-still, any-weaker, length-filter-le}
 
 -- where some row passes, and each that does gives another test or a further test with a fact
 pub any-either : {A : Type 0} {B : Type 0} (p q s : A → Bool) (xs : List A) → list_any p xs ≡ true

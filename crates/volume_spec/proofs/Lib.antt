@@ -1,4 +1,3 @@
-pub mod TestedLists
 pub mod Leading
 pub mod Trees
 pub mod NamesApart

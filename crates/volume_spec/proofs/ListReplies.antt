@@ -2,7 +2,7 @@
 use Rattle.std.proofs.Common.{◌==◌, ◌≡◌, ◌∙◌, ap, sym, refl, ℕ, zero, suc, ◌+◌, ◌-◌, ◌≤◌, ◌<◌, arith, Bool, true, false, not, ◌&&◌, ◌||◌, cond, List, [], ◌∷◌, ◌++◌, length, take, drop, Option, None, inl, inr, subst}
 use Rattle.std.specs.Prelude.{Result, Ok, Err, min, nat_le, nat_lt, sum_by}
 use Rattle.std.specs.List.{count_by, filter, list_all}
-use Rattle.std.proofs.lemmas.Bool.{and_parts, and_from, cond_both, cases_Bool, both_ways, or_cases, eqb-true, eqb-false, le-leb, leb-true, ltb-true, ltb-false, not-true}
+use Rattle.std.proofs.lemmas.Bool.{and_parts, and_from, cond_both, cases_Bool, both_ways, or_cases, eqb-true, eqb-false, le-leb, leb-true, ltb-true, ltb-false, not-true, not-false}
 use Rattle.std.proofs.lemmas.List.{length-append, length-drop, length-take, take_min, drop-drop}
 use Rattle.std.proofs.lemmas.List.Sums.{sum_by-cons, sum_by-take-le}
 use Rattle.std.proofs.Math.Seq.{take-add, take-length}
@@ -11,20 +11,20 @@ use Rattle.afp_base.specs.declared.code.Code.{Code}
 use Rattle.afp_base.specs.declared.code.Code.TheVariants.{BitmapErr, ObjectTypeErr, ObjectNotFound, ParamErr}
 use Rattle.afp_bitmap.specs.Bits.{file_mask, dir_mask, is_outside}
 use Rattle.afp_names.specs.Path.{PathValue}
-use Rattle.volume_spec.proofs.CallsSound.{not-false}
 use Rattle.volume_spec.proofs.Listings.{count-once, lists-by-key}
 use Rattle.volume_spec.proofs.Ordered.{order-count}
 use Rattle.volume_spec.proofs.Refusals.{none-holds, none-first}
-use Rattle.volume_spec.proofs.TestedLists.{all-filter, apart-filter}
 use Rattle.volume_spec.proofs.Trees.{tree-parts}
 use Rattle.volume_spec.specs.Shared.{Opened, behind}
 use Rattle.volume_spec.specs.Enumerate.{ListAsked, is_counted, counted_children, list_head, longest_entry, entry_size, fits_reply, longest_front, from_start, entries, enumerate_refusal}
 use Rattle.volume_spec.specs.Listing.{row_key, children, listed, page}
 use Rattle.volume_spec.specs.ListLaws.{is_counted_child, PageAsked, asked_from, entries_in_turn}
-use Rattle.volume_spec.specs.Order.{rises, stands_before, in_order}
+use Rattle.volume_spec.specs.Order.{rises, in_order}
 use Rattle.volume_spec.specs.SoundVolume.{IsSoundVolume}
 use Rattle.volume_spec.specs.VolumeState.{Row, VolumeState}
 use Rattle.volume_spec.specs.Walk.{found, has_directory}
+use Rattle.afp_base.proofs.ListFacts.{apart-filter}
+use Rattle.volume_spec.proofs.Rising.{keys-filter}
 
 -- what is counted
 
@@ -54,18 +54,9 @@ counts-once v asked dir id s =
     ∙ sym (count-kept is keep (filter child v.rows))
     ∙ count-once (filter child v.rows) keep id (apart-filter (λ (a : Row) b. a.id == b.id) child v.rows (tree-parts v s.tree).apart)
 
-rises-filter : {A : Type 0} (key : A → List ℕ) (keep : A → Bool) (xs : List A) → rises key xs ≡ true → rises key (filter keep xs) ≡ true
-rises-filter key keep [] h = refl
-rises-filter key keep (x ∷ xs) h =
-    let e = and_parts (list_all (λ y. stands_before (key x) (key y)) xs) (rises key xs) h in
-    let rest = rises-filter key keep xs e.1 in
-    cond_both (keep x) (x ∷ filter keep xs) (filter keep xs) (λ l. rises key l ≡ true)
-    (λ kept. and_from (list_all (λ y. stands_before (key x) (key y)) (filter keep xs)) (rises key (filter keep xs)) (all-filter (λ y. stands_before (key x) (key y)) keep xs e.0) rest)
-    (λ gone. rest)
-
 pub counts-by-key : (v : VolumeState) (asked : ListAsked) (dir : ℕ) → IsSoundVolume v → rises row_key (counted_children v.rows asked dir) ≡ true
 unfolding counted_children
-counts-by-key v asked dir s = rises-filter row_key (is_counted asked) (listed v.rows dir) (lists-by-key v dir s)
+counts-by-key v asked dir s = keys-filter row_key (is_counted asked) (listed v.rows dir) (lists-by-key v dir s)
 
 -- the longest first part that passes
 

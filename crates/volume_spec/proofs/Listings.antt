@@ -2,21 +2,17 @@
 use Rattle.std.proofs.Common.{◌==◌, ◌≡◌, ◌∙◌, ap, sym, refl, ℕ, ◌+◌, Bool, true, false, not, ◌&&◌, ◌||◌, cond, List, [], ◌∷◌, take, inl, inr, arith}
 use Rattle.std.specs.Prelude.{sum, bytes_eq, ◌↔◌}
 use Rattle.std.specs.List.{list_any, list_all, filter, count_by, Contains}
-use Rattle.std.proofs.lemmas.Bool.{and_parts, and_from, cond_both, cases_Bool, both_ways, eqb-true, eq-eqb}
+use Rattle.std.proofs.lemmas.Bool.{and_parts, and_from, cond_both, cases_Bool, both_ways, eqb-true, eq-eqb, not-true, and_right}
 use Rattle.std.proofs.lemmas.List.Sums.{sum_by-cons}
 use Rattle.volume_spec.proofs.NamesApart.{apart-by}
 use Rattle.volume_spec.proofs.Ordered.{order-count, order-rises, order-contains, order-holds, rising-one, pages-are}
-use Rattle.volume_spec.proofs.TestedLists.{all-kept, all-filter, all-weaker, none-all, count-none, apart-filter}
 use Rattle.volume_spec.proofs.Trees.{tree-parts}
 use Rattle.volume_spec.specs.Listing.{row_key, children, listed, is_child, pages}
 use Rattle.volume_spec.specs.Order.{rises, in_order}
 use Rattle.afp_base.specs.Apart.{are_apart}
 use Rattle.volume_spec.specs.SoundVolume.{are_named_alike, has_apart_names, IsSoundVolume}
 use Rattle.volume_spec.specs.VolumeState.{Row, VolumeState}
-
-not-false : (b : Bool) → not b ≡ true → b ≡ false
-not-false true h = absurd (cc)
-not-false false h = refl
+use Rattle.afp_base.proofs.ListFacts.{all-filter, all-kept, all-weaker, apart-filter, count-none, none-all}
 
 -- an id is in a filtered list once or not at all
 pub count-once : (rows : List Row) (keep : Row → Bool) (id : ℕ) → are_apart (λ (a : Row) b. a.id == b.id) rows ≡ true
@@ -32,7 +28,7 @@ count-once (row ∷ rows) keep id apart =
           ∙ sym (ap (λ b. cond (b || list_any there rows) 1 0) (and_from (is row) (keep row) here kept))
       | inr other ↦ (λ i. cond (other i) 1 0 + rest i) ∙ plus (list_any there rows) ∙ sym (ap (λ b. cond ((b && keep row) || list_any there rows) 1 0) other)
     ])
-    (λ gone. rest ∙ sym (ap (λ b. cond (b || list_any there rows) 1 0) (and-false (is row) (keep row) gone)))
+    (λ gone. rest ∙ sym (ap (λ b. cond (b || list_any there rows) 1 0) (and_right (is row) (keep row) gone)))
   where
     is : Row → Bool
     is r = r.id == id
@@ -44,14 +40,10 @@ count-once (row ∷ rows) keep id apart =
     plus true = refl
     plus false = refl
 
-    and-false : (a b : Bool) → b ≡ false → (a && b) ≡ false
-    and-false true b h = h
-    and-false false b h = refl
-
     others : (row.id == id) ≡ true → not (list_any (λ (b : Row). row.id == b.id) rows) ≡ true → list_all (λ r. not (r.id == id)) rows ≡ true
     others here none = all-weaker (λ b. not (row.id == b.id)) (λ r. not (r.id == id)) rows
         (λ b other. elim (cases_Bool (b.id == id)) [
-          | inl same ↦ absurd (both_ways (row.id == b.id) (not-false (row.id == b.id) other) (eq-eqb row.id b.id (eqb-true row.id id here ∙ sym (eqb-true b.id id same))))
+          | inl same ↦ absurd (both_ways (row.id == b.id) (not-true (row.id == b.id) other) (eq-eqb row.id b.id (eqb-true row.id id here ∙ sym (eqb-true b.id id same))))
           | inr differs ↦ ap not differs
         ])
         (none-all (λ b. row.id == b.id) rows none)

@@ -4,7 +4,7 @@ use Rattle.std.specs.Prelude.{is_none, flat_map, replicate, nat_le, nat_lt}
 use Rattle.std.specs.List.{list_any, list_all}
 use Rattle.std.specs.Str.{is_utf8}
 use Rattle.std.proofs.Math.Utf8.{scalar, scalars}
-use Rattle.std.proofs.lemmas.Bool.{and_parts, and_from, cond_both, not-true, ne_eqb, ltb-true, leb-true, lt-ltb}
+use Rattle.std.proofs.lemmas.Bool.{and_parts, and_from, cond_both, not-true, ne_eqb, ltb-true, leb-true, lt-ltb, or_parts, not-false}
 use Rattle.std.proofs.lemmas.Str.{is_utf8-from_IsUtf8}
 use Rattle.afp_names.proofs.MacRomanLemmas.{mac_roman_text-name, passes_at}
 use Rattle.afp_names.proofs.NameLemmas.{name_fault-none}
@@ -12,7 +12,7 @@ use Rattle.afp_names.specs.MacRoman.{mac_roman_char, mac_roman_text, upper_chara
 use Rattle.afp_names.specs.Name.{name_fault}
 use Rattle.afp_names.specs.Path.{PathValue, Run, ZeroRun, ElementRun, onto_runs, runs, is_element, element_name, is_bad_run, has_bad_element, run_steps, path_steps, SpellsPath}
 use Rattle.afp_names.specs.declared.path.Step.TheVariants.{Up}
-use Rattle.volume_spec.proofs.PathNames.{steps-append, ups, or-none, not-no, no-bad, utf8-path-named}
+use Rattle.volume_spec.proofs.PathNames.{steps-append, ups, no-bad, utf8-path-named}
 use Rattle.volume_spec.specs.TypedVolume.{is_byte, are_bytes}
 use Rattle.volume_spec.specs.Walk.{is_named_step, is_named_path}
 
@@ -84,8 +84,8 @@ runs-named-long kind (ZeroRun k ∷ rs) long whole h =
     steps-append (replicate (k - 1) Up) (flat_map (run_steps kind) rs) (ups (k - 1)) (runs-named-long kind rs long whole h)
 runs-named-long kind (ElementRun bytes ∷ rs) long whole h =
     let w = and_parts (is-whole-run (ElementRun bytes)) (list_all is-whole-run rs) whole in
-    let e = or-none (not (is_element kind bytes)) (list_any (is_bad_run kind) rs) h in
-    let short : nat_le (length bytes) 31 ≡ true = ap (λ b. cond b (nat_le (length bytes) 31) (is_none (name_fault bytes))) (sym long) ∙ not-no (is_element kind bytes) e.0 in
+    let e = or_parts (not (is_element kind bytes)) (list_any (is_bad_run kind) rs) h in
+    let short : nat_le (length bytes) 31 ≡ true = ap (λ b. cond b (nat_le (length bytes) 31) (is_none (name_fault bytes))) (sym long) ∙ not-false (is_element kind bytes) e.0 in
     let same : element_name kind bytes ≡ mac_roman_text bytes = ap (λ b. cond b (mac_roman_text bytes) bytes) long in
     and_from (is_none (name_fault (element_name kind bytes))) (list_all is_named_step (flat_map (run_steps kind) rs))
     (ap (λ n. is_none (name_fault n)) same ∙ text-named bytes w.0 short) (runs-named-long kind rs long w.1 e.1)

@@ -5,13 +5,14 @@ use Rattle.std.specs.List.{list_any, list_all, find}
 use Rattle.std.proofs.lemmas.Bool.{and_parts, and_from, or_cases, or_left, or_right, cond_both, eqb-true, eq-eqb, cases_Bool}
 use Rattle.std.proofs.lemmas.Slice.Eq.{bytes_eq-Decides}
 use Rattle.afp_names.specs.Name.{name_key}
-use Rattle.volume_spec.proofs.TestedLists.{contra, never, apart-filter, apart-map, apart-weaker, apart-snoc, none-all, find-none}
 use Rattle.volume_spec.proofs.Trees.{KeepsPlace}
 use Rattle.volume_spec.specs.Edits.{is_taken, without, with_changed, change_at, at_place, with_row, without_node, with_moved}
 use Rattle.afp_base.specs.Apart.{are_apart}
 use Rattle.volume_spec.specs.SoundVolume.{are_named_alike, has_apart_names}
 use Rattle.volume_spec.specs.VolumeState.{Row, VolumeState}
 use Rattle.volume_spec.specs.Walk.{child_by_key}
+use Rattle.afp_base.proofs.Facts.{contra, never}
+use Rattle.afp_base.proofs.ListFacts.{apart-filter, apart-map, apart-snoc, apart-weaker, find-none, none-all}
 
 bytes-eq-sym : (xs ys : List ℕ) → bytes_eq xs ys ≡ true → bytes_eq ys xs ≡ true
 bytes-eq-sym xs ys h = (bytes_eq-Decides ys xs).1 (sym ((bytes_eq-Decides xs ys).0 h))

@@ -2,10 +2,10 @@
 use Rattle.std.proofs.Common.{◌==◌, ◌≡◌, ◌∙◌, ap, ℕ, true, not, ◌&&◌, List, [], ◌∷◌, ◌++◌, map}
 use Rattle.std.specs.List.{list_all, filter}
 use Rattle.std.proofs.lemmas.Bool.{and_parts, and_from, eqb-true}
-use Rattle.volume_spec.proofs.TestedLists.{all-weaker, all-both, all-filter, all-kept, any-weaker, any-still, any-map, any-longer}
 use Rattle.volume_spec.specs.Edits.{without, with_row, without_node}
 use Rattle.volume_spec.specs.SoundVolume.{has_node, has_file, has_noted_nodes}
 use Rattle.volume_spec.specs.VolumeState.{Row, Comment, Appl, VolumeState}
+use Rattle.afp_base.proofs.ListFacts.{all-both, all-filter, all-kept, all-weaker, any-longer, any-map, any-still, any-weaker}
 
 pub record NoteParts (v : VolumeState) : Type 0 where
   pub comments : list_all (λ (comment : Comment). has_node v.rows comment.node) v.comments ≡ true

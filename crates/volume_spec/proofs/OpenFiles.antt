@@ -7,7 +7,6 @@ use Rattle.afp_base.specs.declared.code.Code.TheVariants.{ObjectExists, DiskFull
 use Rattle.afp_names.specs.Name.{name_key}
 use Rattle.afp_names.specs.Path.{PathValue}
 use Rattle.volume_spec.proofs.Refusals.{none-holds, at-found}
-use Rattle.volume_spec.proofs.TestedLists.{any-longer, any-map, any-still, any-weaker}
 use Rattle.volume_spec.specs.Shared.{Opened, done_at, created, delete_inhibit, directory_of, has_attribute, has_no_ids, is_busy, name_of}
 use Rattle.volume_spec.specs.CreateDir.{create_dir_effect}
 use Rattle.volume_spec.specs.CreateFile.{create_file_there, without_replaced, create_file_refusal, create_file_effect}
@@ -21,6 +20,7 @@ use Rattle.volume_spec.specs.SoundVolume.{has_file}
 use Rattle.volume_spec.specs.TreeSteps.{TreeCall, CreateDir, CreateFile, Delete, Rename, MoveAndRename, SetFileParms, SetDirParms, SetFileDirParms, SetVolParms, TreeStep, tree_refusal, tree_effect}
 use Rattle.volume_spec.specs.VolumeState.{Row, VolumeState, root_id, new_row}
 use Rattle.volume_spec.specs.Walk.{Place, child_by_key, found, has_directory, new_place, one_down, one_down_or}
+use Rattle.afp_base.proofs.ListFacts.{any-longer, any-map, any-still, any-weaker}
 
 -- this file stays
 abbrev pub LetsBe : ℕ → VolumeState → VolumeState → Type 0

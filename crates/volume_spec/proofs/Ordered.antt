@@ -6,26 +6,22 @@ use Rattle.std.specs.Cmp.Lexicographic.{slice_cmp}
 use Rattle.std.specs.declared.cmp.Ordering.{Ordering}
 use Rattle.std.specs.Ordering.{nat_cmp, is_lt, is_eq, ordering_reverse}
 use Rattle.std.specs.declared.cmp.Ordering.TheVariants.{Less, Equal, Greater}
-use Rattle.std.proofs.lemmas.Bool.{and_parts, and_from, cond_both, cond-true, cond-false}
+use Rattle.std.proofs.lemmas.Bool.{and_parts, and_from, false_from_ne_true, cond_both, cond-true, cond-false}
 use Rattle.std.proofs.lemmas.Cmp.{nat_list_cmp_total}
 use Rattle.std.proofs.lemmas.List.Sums.{sum_by-cons}
 use Rattle.std.proofs.Math.Seq.{take-add}
 use Rattle.std.proofs.lemmas.List.{drop-drop}
 use Rattle.std.proofs.lemmas.Map.Text.{is_eq-slice_cmp}
-use Rattle.volume_spec.proofs.TestedLists.{all-weaker, none-all}
 use Rattle.volume_spec.specs.Listing.{pages}
 use Rattle.volume_spec.specs.Order.{stands_before, put_in, in_order, rises}
 use Rattle.afp_base.specs.Apart.{are_apart}
+use Rattle.afp_base.proofs.Facts.{is_lt_less}
+use Rattle.afp_base.proofs.ListFacts.{all-weaker, none-all}
 
 -- the order of keys
 
-is-less : (o : Ordering) → is_lt o ≡ true → o ≡ Less
-is-less Less h = refl
-is-less Equal h = absurd (cc)
-is-less Greater h = absurd (cc)
-
 pub before-trans : (a b c : List ℕ) → stands_before a b ≡ true → stands_before b c ≡ true → stands_before a c ≡ true
-before-trans a b c h k = ap is_lt (nat_list_cmp_total.trans a b c (is-less (slice_cmp nat_cmp a b) h) (is-less (slice_cmp nat_cmp b c) k))
+before-trans a b c h k = ap is_lt (nat_list_cmp_total.trans a b c (is_lt_less (slice_cmp nat_cmp a b) h) (is_lt_less (slice_cmp nat_cmp b c) k))
 
 -- of two different keys one stands before the other
 pub before-other : (a b : List ℕ) → stands_before a b ≡ false → not (bytes_eq a b) ≡ true → stands_before b a ≡ true
@@ -44,6 +40,13 @@ before-one-way a b h k = turned (slice_cmp nat_cmp a b) h (ap is_lt (sym (nat_li
     turned Less h k = cc
     turned Equal h k = cc
     turned Greater h k = cc
+
+-- what stands before another does not stand behind it
+pub not-back : (a b : List ℕ) → stands_before a b ≡ true → stands_before b a ≡ false
+not-back a b before = false_from_ne_true (stands_before b a) (before-one-way a b before)
+
+pub before-not-back : (a b : List ℕ) → stands_before a b ≡ true → not (stands_before b a) ≡ true
+before-not-back a b before = ap not (not-back a b before)
 
 -- what is put in is there, and what all have stays
 

@@ -3,13 +3,13 @@ use Rattle.std.proofs.Common.{◌==◌, ◌≡◌, refl, ℕ, ◌≤◌, true, n
 use Rattle.std.specs.Prelude.{nat_lt}
 use Rattle.std.proofs.lemmas.Bool.{and_parts, and_from, cases_Bool, cond_both, eqb-true, lt-ltb}
 use Rattle.volume_spec.proofs.Rising.{rises-new, rises-filter, rises-mapped, rising-apart, keys-filter}
-use Rattle.volume_spec.proofs.TestedLists.{all-weaker}
 use Rattle.volume_spec.proofs.Trees.{TreeParts, drawn}
 use Rattle.volume_spec.specs.Edits.{with_row, with_changed, change_at, without, without_node}
 use Rattle.volume_spec.specs.Order.{rises, rises_from}
 use Rattle.afp_base.specs.Apart.{are_apart}
 use Rattle.volume_spec.specs.SoundVolume.{has_rising_ids, is_in_order, icon_key, appl_key, is_in_place}
 use Rattle.volume_spec.specs.VolumeState.{Row, Comment, Appl, VolumeState, root_id, first_id}
+use Rattle.afp_base.proofs.ListFacts.{all-weaker}
 
 pub record OrderParts (v : VolumeState) : Type 0 where
   pub rows : has_rising_ids v.rows ≡ true

@@ -2,7 +2,7 @@
 use Rattle.std.proofs.Common.{◌≡◌, ◌∙◌, ap, sym, refl, ℕ, zero, suc, ◌-◌, ◌==◌, Bool, true, false, not, ◌||◌, cond, List, [], ◌∷◌, ◌++◌, length, Some, None}
 use Rattle.std.specs.Prelude.{is_none, flat_map, replicate, nat_le}
 use Rattle.std.specs.List.{list_any, list_all}
-use Rattle.std.proofs.lemmas.Bool.{and_parts, and_from}
+use Rattle.std.proofs.lemmas.Bool.{and_parts, and_from, or_parts, not-false}
 use Rattle.afp_names.specs.MacRoman.{mac_roman_text}
 use Rattle.afp_names.specs.Name.{name_fault}
 use Rattle.afp_names.specs.Path.{PathValue, Run, ZeroRun, ElementRun, runs, is_element, element_name, is_bad_run, has_bad_element, run_steps, path_fault, path_steps, SpellsPath}
@@ -19,14 +19,6 @@ pub ups : (n : ℕ) → list_all is_named_step (replicate n Up) ≡ true
 ups zero = refl
 ups (suc n) = ups n
 
-pub or-none : (a b : Bool) → (a || b) ≡ false → (a ≡ false) × (b ≡ false)
-or-none true b h = absurd (cc)
-or-none false b h = (refl, h)
-
-pub not-no : (b : Bool) → not b ≡ false → b ≡ true
-not-no true h = refl
-not-no false h = absurd (cc)
-
 -- in kind 3 an element is a name
 runs-named : (kind : ℕ) (rs : List Run) → (kind == 2) ≡ false → list_any (is_bad_run kind) rs ≡ false → list_all is_named_step (flat_map (run_steps kind) rs) ≡ true
 unfolding is_element element_name
@@ -34,8 +26,8 @@ runs-named kind [] utf8 h = refl
 runs-named kind (ZeroRun k ∷ rs) utf8 h =
     steps-append (replicate (k - 1) Up) (flat_map (run_steps kind) rs) (ups (k - 1)) (runs-named kind rs utf8 h)
 runs-named kind (ElementRun bytes ∷ rs) utf8 h =
-    let e = or-none (not (is_element kind bytes)) (list_any (is_bad_run kind) rs) h in
-    let good : is_none (name_fault bytes) ≡ true = ap (λ b. cond b (nat_le (length bytes) 31) (is_none (name_fault bytes))) (sym utf8) ∙ not-no (is_element kind bytes) e.0 in
+    let e = or_parts (not (is_element kind bytes)) (list_any (is_bad_run kind) rs) h in
+    let good : is_none (name_fault bytes) ≡ true = ap (λ b. cond b (nat_le (length bytes) 31) (is_none (name_fault bytes))) (sym utf8) ∙ not-false (is_element kind bytes) e.0 in
     let same : element_name kind bytes ≡ bytes = ap (λ b. cond b (mac_roman_text bytes) bytes) utf8 in
     and_from (is_none (name_fault (element_name kind bytes))) (list_all is_named_step (flat_map (run_steps kind) rs))
     (ap (λ n. is_none (name_fault n)) same ∙ good) (runs-named kind rs utf8 e.1)

@@ -1,12 +1,12 @@
 -- What is done to a row by its id is done at its place.
-use Rattle.std.proofs.Common.{◌==◌, ◌≡◌, ◌∙◌, ap, sym, refl, ℕ, zero, suc, Bool, true, false, not, List, [], ◌∷◌, map, Some}
+use Rattle.std.proofs.Common.{◌==◌, ◌≡◌, ◌∙◌, ap, sym, refl, ℕ, zero, suc, true, false, not, List, [], ◌∷◌, map, Some}
 use Rattle.std.specs.Prelude.{slice_get, slice_set}
 use Rattle.std.specs.List.{list_any, list_all, remove}
-use Rattle.std.proofs.lemmas.Bool.{and_parts, cond-true, cond-false, eq-eqb}
-use Rattle.volume_spec.proofs.TestedLists.{none-all, not-equal}
+use Rattle.std.proofs.lemmas.Bool.{and_parts, cond-true, cond-false, eq-eqb, not-true}
 use Rattle.volume_spec.specs.Edits.{with_changed, change_at, without}
 use Rattle.afp_base.specs.Apart.{are_apart}
 use Rattle.volume_spec.specs.VolumeState.{Row}
+use Rattle.afp_base.proofs.ListFacts.{none-all, not-equal}
 
 -- the place of a row
 
@@ -24,17 +24,13 @@ nothing-gone x id (y ∷ ys) is others =
     let e = and_parts (not (x.id == y.id)) (list_all (λ (b : Row). not (x.id == b.id)) ys) others in
     cond-true (not (y.id == id)) (y ∷ without id ys) (without id ys) (ap not (ap (λ n. y.id == n) (sym is) ∙ not-equal x.id y.id e.0)) ∙ ap (λ l. y ∷ l) (nothing-gone x id ys is e.1)
 
-flip : (b : Bool) → not b ≡ true → b ≡ false
-flip true h = absurd (cc)
-flip false h = refl
-
 -- a row that is not the first has another id
 first-other : (x s : Row) (rows : List Row) (i : ℕ) → not (list_any (λ (b : Row). x.id == b.id) rows) ≡ true → slice_get rows i ≡ Some s → (x.id == s.id) ≡ false
 first-other x s rows i none at_i = at rows i (none-all (λ (b : Row). x.id == b.id) rows none) at_i
   where
     at : (ys : List Row) (i : ℕ) → list_all (λ (b : Row). not (x.id == b.id)) ys ≡ true → slice_get ys i ≡ Some s → (x.id == s.id) ≡ false
     at [] i others at_i = absurd (cc)
-    at (y ∷ ys) zero others at_i = let same : y ≡ s = cc in ap (λ (r : Row). x.id == r.id) (sym same) ∙ flip (x.id == y.id) (and_parts (not (x.id == y.id)) (list_all (λ (b : Row). not (x.id == b.id)) ys) others).0
+    at (y ∷ ys) zero others at_i = let same : y ≡ s = cc in ap (λ (r : Row). x.id == r.id) (sym same) ∙ not-true (x.id == y.id) (and_parts (not (x.id == y.id)) (list_all (λ (b : Row). not (x.id == b.id)) ys) others).0
     at (y ∷ ys) (suc i) others at_i = at ys i (and_parts (not (x.id == y.id)) (list_all (λ (b : Row). not (x.id == b.id)) ys) others).1 at_i
 
 -- a change by id is a write at the place of the row with that id

@@ -13,6 +13,7 @@ use Rattle.volume_spec.specs.Shared.{behind, done_at, first_or}
 use Rattle.volume_spec.specs.Walk.{Place, new_place, place_behind, named_in, before_down, one_down, one_down_or, has_directory, walk, is_named_step, is_named_path}
 use Rattle.volume_spec.specs.VolumeState.{Row}
 use Rattle.afp_base.specs.declared.code.Code.TheVariants.{DirNotFound}
+use Rattle.afp_base.proofs.Facts.{none_from_is_none}
 
 -- each condition fails
 abbrev pub NoneHolds : List (Bool × Code) → Type 0
@@ -46,15 +47,11 @@ at-found P (Err code) refused old does h gives = absurd (cc)
 split-named : (steps : List Step) (split : List Step × List ℕ) → list_all is_named_step steps ≡ true → before_down steps ≡ Some split → name_fault split.1 ≡ None
 split-named [] split named h = absurd (cc)
 split-named (Up ∷ []) split named h = absurd (cc)
-split-named (Down name ∷ []) split named h = let same : name ≡ split.1 = ap last h in ap name_fault (sym same) ∙ no-fault (name_fault name) (and_parts (is_none (name_fault name)) true named).0
+split-named (Down name ∷ []) split named h = let same : name ≡ split.1 = ap last h in ap name_fault (sym same) ∙ none_from_is_none (name_fault name) (and_parts (is_none (name_fault name)) true named).0
   where
     last : Option (List Step × List ℕ) → List ℕ
     last None = name
     last (Some s) = s.1
-
-    no-fault : {F : Type 0} (o : Option F) → is_none o ≡ true → o ≡ None
-    no-fault None h = refl
-    no-fault (Some f) h = absurd (cc)
 split-named (step ∷ next ∷ steps) split named h = longer (before_down (next ∷ steps)) h (λ s. split-named (next ∷ steps) s (and_parts (is_named_step step) (list_all is_named_step (next ∷ steps)) named).1)
   where
     longer : (o : Option (List Step × List ℕ)) → option_map (λ (s : List Step × List ℕ). (step ∷ s.0, s.1)) o ≡ Some split → ((s : List Step × List ℕ) → o ≡ Some s → name_fault s.1 ≡ None) → name_fault split.1 ≡ None
@@ -88,11 +85,7 @@ place-there rows dir path place named h = by-split (before_down path.steps) (λ 
 pub down-named : (steps : List Step) (name : List ℕ) → list_all is_named_step steps ≡ true → one_down steps ≡ Ok name → name_fault name ≡ None
 down-named [] name named h = absurd (cc)
 down-named (Up ∷ steps) name named h = absurd (cc)
-down-named (Down n ∷ []) name named h = let same : n ≡ name = cc in ap name_fault (sym same) ∙ no-fault (name_fault n) (and_parts (is_none (name_fault n)) true named).0
-  where
-    no-fault : {F : Type 0} (o : Option F) → is_none o ≡ true → o ≡ None
-    no-fault None h = refl
-    no-fault (Some f) h = absurd (cc)
+down-named (Down n ∷ []) name named h = let same : n ≡ name = cc in ap name_fault (sym same) ∙ none_from_is_none (name_fault n) (and_parts (is_none (name_fault n)) true named).0
 down-named (Down n ∷ step ∷ steps) name named h = absurd (cc)
 
 pub down-or-named : (old : List ℕ) (steps : List Step) (name : List ℕ) → name_fault old ≡ None → list_all is_named_step steps ≡ true → one_down_or old steps ≡ Ok name → name_fault name ≡ None

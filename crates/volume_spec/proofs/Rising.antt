@@ -3,9 +3,9 @@ use Rattle.std.proofs.Common.{◌==◌, ◌≡◌, ◌∙◌, ap, refl, ℕ, ◌
 use Rattle.std.specs.Prelude.{nat_lt}
 use Rattle.std.specs.List.{list_any, list_all, filter}
 use Rattle.std.proofs.lemmas.Bool.{and_parts, and_from, cases_Bool, cond_both, eqb-true, ltb-true, lt-ltb}
-use Rattle.volume_spec.proofs.TestedLists.{all-weaker, all-filter, any-at}
 use Rattle.volume_spec.specs.Order.{rises, rises_from, stands_before}
 use Rattle.afp_base.specs.Apart.{are_apart}
+use Rattle.afp_base.proofs.ListFacts.{all-filter, all-weaker, any-at}
 
 -- a lower start
 rises-lower : {A : Type 0} (number : A → ℕ) (low from : ℕ) (xs : List A) → low ≤ from → rises_from number from xs ≡ true → rises_from number low xs ≡ true

@@ -2,15 +2,15 @@
 use Rattle.std.proofs.Common.{◌==◌, ◌≡◌, ◌∙◌, ap, sym, refl, ℕ, Bool, true, false, not, ◌&&◌, ◌||◌, cond, List, [], ◌∷◌, Option, Some, None}
 use Rattle.std.specs.Prelude.{option_map}
 use Rattle.std.specs.List.{filter, find, list_any}
-use Rattle.std.proofs.lemmas.Bool.{and_parts, cond_both, cond-true, cond-false, both_ways, eqb-true, eq-eqb}
+use Rattle.std.proofs.lemmas.Bool.{and_parts, cond_both, cond-true, cond-false, both_ways, eqb-true, eq-eqb, not-false, false_from_ne_true, not-true}
 use Rattle.afp_base.specs.Apart.{are_apart}
-use Rattle.volume_spec.proofs.CallsSound.{not-false}
 use Rattle.volume_spec.proofs.BareRows.{find-map}
-use Rattle.volume_spec.proofs.TestedLists.{all-kept, any-at, find-passes, never, none-all, none-find}
 use Rattle.volume_spec.specs.Edits.{with_changed, change_at, without}
 use Rattle.volume_spec.specs.SoundVolume.{has_file}
 use Rattle.volume_spec.specs.VolumeState.{Row}
 use Rattle.volume_spec.specs.Walk.{row_at}
+use Rattle.afp_base.proofs.Facts.{never, or_without}
+use Rattle.afp_base.proofs.ListFacts.{all-kept, any-at, find-passes, none-all, none-find}
 
 find-same : (p q : Row → Bool) (xs : List Row) → ((x : Row) → p x ≡ q x) → find p xs ≡ find q xs
 find-same p q [] same = refl
@@ -63,14 +63,6 @@ gone-lets-be (row ∷ rows) id other differ =
         let same : (row.id == id) ≡ false = ap (λ n. n == id) (eqb-true row.id other h) ∙ differ in
         absurd (both_ways (row.id == id) same (not-false (row.id == id) gone))
 
-or-false : (b c : Bool) → c ≡ false → (b || c) ≡ b
-or-false true c h = refl
-or-false false c h = h
-
-not-true-is : (b : Bool) → (b ≡ true → ⊥) → b ≡ false
-not-true-is true h = absurd (h refl)
-not-true-is false h = refl
-
 -- where ids differ, a test of the row of an id is the test of the one that is found
 pub test-found : (rows : List Row) (id : ℕ) (p : Row → Bool) (s : Row) → are_apart (λ (a : Row) b. a.id == b.id) rows ≡ true → row_at rows id ≡ Some s → list_any (λ row. (row.id == id) && p row) rows ≡ p s
 unfolding row_at
@@ -80,7 +72,7 @@ test-found (row ∷ rows) id p s apart found =
     cond_both (row.id == id) (Some row) (find (λ (r : Row). r.id == id) rows)
     (λ o. o ≡ Some s → (((row.id == id) && p row) || list_any (λ r. (r.id == id) && p r) rows) ≡ p s)
     (λ here h. let same : row ≡ s = cc in ap (λ b. (b && p row) || list_any (λ r. (r.id == id) && p r) rows) here
-    ∙ or-false (p row) (list_any (λ r. (r.id == id) && p r) rows) (not-true-is (list_any (λ r. (r.id == id) && p r) rows) (λ some.
+    ∙ or_without (p row) (list_any (λ r. (r.id == id) && p r) rows) (false_from_ne_true (list_any (λ r. (r.id == id) && p r) rows) (λ some.
     any-at (λ r. (r.id == id) && p r) (λ (b : Row). not (row.id == b.id)) rows some (none-all (λ (b : Row). row.id == b.id) rows e.0)
     (λ r is other. never (row.id == r.id) (eq-eqb row.id r.id (eqb-true row.id id here ∙ sym (eqb-true r.id id (and_parts (r.id == id) (p r) is).0))) other)))
     ∙ ap p same)
@@ -89,8 +81,4 @@ test-found (row ∷ rows) id p s apart found =
 
 -- so the one that is found is a file, where the id is a file's
 pub file-found : (rows : List Row) (id : ℕ) (s : Row) → are_apart (λ (a : Row) b. a.id == b.id) rows ≡ true → row_at rows id ≡ Some s → has_file rows id ≡ true → s.dir ≡ false
-file-found rows id s apart found there = by s.dir (sym (test-found rows id (λ row. not row.dir) s apart found) ∙ there)
-  where
-    by : (b : Bool) → not b ≡ true → b ≡ false
-    by false h = refl
-    by true h = absurd (cc)
+file-found rows id s apart found there = not-true s.dir (sym (test-found rows id (λ row. not row.dir) s apart found) ∙ there)

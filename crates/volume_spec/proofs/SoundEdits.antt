@@ -8,7 +8,6 @@ use Rattle.volume_spec.proofs.Formed.{FormedParts, LimitParts, formed-parts, for
 use Rattle.volume_spec.proofs.NamesApart.{names-new, names-without, names-mapped, names-moved}
 use Rattle.volume_spec.proofs.Notes.{note-parts, note-whole, notes-new, notes-mapped, notes-without}
 use Rattle.volume_spec.proofs.Orders.{order-parts, order-whole, order-new, order-mapped, order-without}
-use Rattle.volume_spec.proofs.TestedLists.{none-all, not-equal}
 use Rattle.volume_spec.proofs.Trees.{TreeParts, KeepsPlace, KeepsTree, keeps-tree, tree-parts, tree-whole, tree-new, tree-without, tree-mapped, tree-moved, keeps-at}
 use Rattle.volume_spec.specs.Edits.{is_taken, is_below, has_children, with_changed, change_at, at_place, modified_at, changed_at, children_changed, with_row, with_new, without_node, with_moved, named, renamed}
 use Rattle.afp_base.specs.Apart.{are_apart}
@@ -16,6 +15,8 @@ use Rattle.afp_base.specs.Limits.{most_fork_bytes}
 use Rattle.volume_spec.specs.SoundVolume.{fork_bytes, row_bytes, IsSoundVolume, is_tree, has_apart_names, has_noted_nodes, keeps_limits, is_formed_volume, is_in_order, is_formed, is_named, most_nodes, last_next_id, file_attributes, dir_attributes}
 use Rattle.volume_spec.specs.VolumeState.{Row, VolumeState, root_id, new_row}
 use Rattle.volume_spec.specs.Walk.{has_directory, child_by_key, row_at}
+use Rattle.afp_base.proofs.ListFacts.{none-all}
+use Rattle.volume_spec.proofs.Places.{unchanged}
 
 -- the volume's own date
 pub sound-changed : (v : VolumeState) (now : ℕ) → IsSoundVolume v → IsSoundVolume (changed_at now v)
@@ -168,13 +169,6 @@ changed-same (x ∷ xs) id f g s apart at_id same =
     let g_here : change_at id g x ≡ x = cond-false (x.id == id) (g x) x other in
     λ i. (f_here ∙ sym g_here) i ∷ changed-same xs id f g s e.1 h same i)
     at_id
-  where
-    unchanged : (f : Row → Row) (x : Row) (id : ℕ) (ys : List Row) → x.id ≡ id → list_all (λ (b : Row). not (x.id == b.id)) ys ≡ true → map (change_at id f) ys ≡ ys
-    unchanged f x id [] is others = refl
-    unchanged f x id (y ∷ ys) is others =
-        let e = and_parts (not (x.id == y.id)) (list_all (λ (b : Row). not (x.id == b.id)) ys) others in
-        let here : change_at id f y ≡ y = cond-false (y.id == id) (f y) y (ap (λ n. y.id == n) (sym is) ∙ not-equal x.id y.id e.0) in
-        λ i. here i ∷ unchanged f x id ys is e.1 i
 
 pub sound-renamed : (v : VolumeState) (id : ℕ) (s : Row) (name : List ℕ) → (id == root_id) ≡ false → row_at v.rows id ≡ Some s → is_taken v.rows id s.parent name ≡ false → name_fault name ≡ None → IsSoundVolume v → IsSoundVolume (renamed id name v)
 unfolding with_changed row_at has_apart_names

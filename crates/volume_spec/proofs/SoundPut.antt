@@ -10,7 +10,6 @@ use Rattle.volume_spec.proofs.Notes.{NoteParts, note-parts, note-whole, notes-ma
 use Rattle.volume_spec.proofs.Orders.{OrderParts, order-parts, order-whole, order-mapped}
 use Rattle.volume_spec.proofs.Places.{unchanged}
 use Rattle.volume_spec.proofs.SoundEdits.{changed-same}
-use Rattle.volume_spec.proofs.TestedLists.{find-all, find-passes, none-all, length-mapped}
 use Rattle.volume_spec.proofs.Trees.{TreeParts, KeepsPlace, tree-parts, tree-whole, tree-mapped, keeps-tree, keeps-at}
 use Rattle.volume_spec.specs.Edits.{with_changed, change_at, put, with_forks_of, exchanged}
 use Rattle.afp_base.specs.Apart.{are_apart}
@@ -18,6 +17,7 @@ use Rattle.afp_base.specs.Limits.{most_fork_bytes}
 use Rattle.volume_spec.specs.SoundVolume.{is_named, dir_attributes, file_attributes, TakesRow, row_bytes, IsSoundVolume, has_apart_names, is_formed, fork_bytes, most_nodes}
 use Rattle.volume_spec.specs.VolumeState.{Row, VolumeState}
 use Rattle.volume_spec.specs.Walk.{row_at}
+use Rattle.afp_base.proofs.ListFacts.{find-all, find-passes, length-mapped, none-all}
 
 -- the row with all fields of another but those of its place
 abbrev marked : Row → Row → Row

@@ -1,10 +1,10 @@
 -- A set call takes what FPGetFileDirParms tells.
-use Rattle.std.proofs.Common.{◌==◌, ◌≡◌, ◌∙◌, ap, sym, refl, ℕ, ◌+◌, ◌≤◌, ◌<◌, ◌^◌, min, arith, ℤ, Bool, true, false, not, ◌||◌, cond, List, [], ◌∷◌, ◌++◌, length, take, drop, map, Some, None, FitsSigned}
+use Rattle.std.proofs.Common.{◌==◌, ◌≡◌, ◌∙◌, ap, sym, refl, ℕ, ◌+◌, ◌≤◌, ◌<◌, ◌^◌, min, arith, ℤ, Bool, true, false, not, ◌||◌, cond, List, [], ◌∷◌, ◌++◌, length, take, drop, map, Some, None, FitsSigned, add-zero}
 use Rattle.std.specs.Prelude.{bit_and, option_map, flat_map}
 use Rattle.std.specs.Int.{bit_at, w32, cast_signed, cast_unsigned}
 use Rattle.std.specs.List.{concat, filter, list_all}
 use Rattle.std.proofs.Math.Seq.{drop-append_seam, take-append_seam}
-use Rattle.std.proofs.lemmas.Bool.{and_parts, and_from, cond_both, cond-true, eqb-true, le-ltb}
+use Rattle.std.proofs.lemmas.Bool.{and_parts, and_from, cond_both, cond-true, eqb-true, le-ltb, not-false}
 use Rattle.std.proofs.lemmas.List.{append-nil, append_assoc, length-append}
 use Rattle.std.proofs.lemmas.Nat.Bits.{bit_at_and}
 use Rattle.byteorder.specs.Endian.{big_bytes, big_number}
@@ -93,15 +93,11 @@ chunks bits table h = block-plain (asked_of bits table) (asked-plain bits table 
 not_asked : (mask bits k : ℕ) → is_outside mask bits ≡ false → bit_at mask k ≡ 0 → is_asked bits k ≡ false
 unfolding is_asked
 not_asked mask bits k within none =
-    let same : bit_and bits mask ≡ bits = eqb-true (bit_and bits mask) bits (by (bit_and bits mask == bits) within) in
+    let same : bit_and bits mask ≡ bits = eqb-true (bit_and bits mask) bits (not-false (bit_and bits mask == bits) within) in
     let at_mask : bit_at (bit_and bits mask) k ≡ min (bit_at bits k) (bit_at mask k) = bit_at_and bits mask k in
     let zero : bit_at bits k ≡ 0 = ap (λ n. bit_at n k) (sym same) ∙ at_mask ∙ ap (λ n. min (bit_at bits k) n) none ∙ none-left (bit_at bits k) in
     ap (λ n. n == 1) zero
   where
-    by : (b : Bool) → not b ≡ false → b ≡ true
-    by true h = refl
-    by false h = absurd (cc)
-
     none-left : (n : ℕ) → min n 0 ≡ 0
     none-left n = omega arith
 
@@ -158,14 +154,11 @@ record Places (bits : ℕ) (k0 k1 k2 k3 k4 k5 : List ℕ) : Type 0 where
 places : (bits : ℕ) (k0 k1 k2 k3 k4 k5 : List ℕ) → length k0 ≡ cond (is_asked bits 0) 2 0 → length k1 ≡ 0 → length k2 ≡ cond (is_asked bits 2) 4 0 → length k3 ≡ cond (is_asked bits 3) 4 0 → length k4 ≡ cond (is_asked bits 4) 4 0 → length k5 ≡ cond (is_asked bits 5) 32 0
     → Places bits k0 k1 k2 k3 k4 k5
 places bits k0 k1 k2 k3 k4 k5 l0 l1 l2 l3 l4 l5 =
-    let two = length-append k0 k1 ∙ (λ i. l0 i + l1 i) ∙ plus-none (cond (is_asked bits 0) 2 0) in
+    let two = length-append k0 k1 ∙ (λ i. l0 i + l1 i) ∙ add-zero (cond (is_asked bits 0) 2 0) in
     let three = length-append (k0 ++ k1) k2 ∙ (λ i. two i + l2 i) in
     let four = length-append ((k0 ++ k1) ++ k2) k3 ∙ (λ i. three i + l3 i) in
     let five = length-append (((k0 ++ k1) ++ k2) ++ k3) k4 ∙ (λ i. four i + l4 i) in
     record { one = l0; two = two; three = three; four = four; five = five; six = length-append ((((k0 ++ k1) ++ k2) ++ k3) ++ k4) k5 ∙ (λ i. five i + l5 i) }
-  where
-    plus-none : (n : ℕ) → n + 0 ≡ n
-    plus-none n = omega arith
 
 none-before : (n : ℕ) → n ≡ 0 + n
 none-before n = omega arith

@@ -3,7 +3,7 @@ use Rattle.std.proofs.Common.{◌==◌, ◌≡◌, ◌∙◌, ap, refl, ℕ, ◌
 use Rattle.std.specs.Prelude.{Result, Ok, Err, is_none, is_some, option_map, nat_le, nat_lt, bytes_eq, MatchBool, FitsSigned}
 use Rattle.std.specs.Int.{w32}
 use Rattle.std.specs.List.{find}
-use Rattle.std.proofs.lemmas.Bool.{and_parts, both_ways, cond_both, eqb-true, ltb-true, leb-true}
+use Rattle.std.proofs.lemmas.Bool.{and_parts, both_ways, cond_both, eqb-true, ltb-true, leb-true, not-false}
 use Rattle.std.proofs.lemmas.Slice.Eq.{bytes_eq-Decides}
 use Rattle.std.proofs.lemmas.List.Sums.{sum_by-cons}
 use Rattle.std.proofs.lemmas.Nat.{or_lt}
@@ -19,11 +19,9 @@ use Rattle.afp_names.proofs.NameLemmas.{name_fault-parts}
 use Rattle.afp_names.specs.LongName.{long_name_of}
 use Rattle.afp_names.specs.Name.{name_fault}
 use Rattle.volume_spec.proofs.Formed.{LimitParts, formed-parts, limit-parts}
-use Rattle.volume_spec.proofs.TestedLists.{find-all, find-passes}
 use Rattle.volume_spec.proofs.TypedEdits.{TypedRow, TypedParts, row-parts, typed-parts}
 use Rattle.volume_spec.proofs.Trees.{TreeParts, tree-parts}
 use Rattle.volume_spec.proofs.Walks.{row-there, walk-there}
-use Rattle.volume_spec.proofs.CallsSound.{not-false}
 use Rattle.volume_spec.proofs.Refusals.{none-first, none-holds}
 use Rattle.volume_spec.specs.Shared.{Opened, behind, done_at}
 use Rattle.volume_spec.specs.GetFileDirParms.{get_file_dir_parms_refusal, get_file_dir_parms_values}
@@ -37,6 +35,8 @@ use Rattle.volume_spec.specs.SoundVolume.{IsSoundVolume, is_formed, is_named, fo
 use Rattle.volume_spec.specs.TypedVolume.{is_date, is_typed_row, is_typed_volume}
 use Rattle.volume_spec.specs.VolumeState.{Row, VolumeState, root_id, root_parent, first_id}
 use Rattle.volume_spec.specs.Walk.{found, has_directory, row_at}
+use Rattle.afp_base.proofs.Facts.{none_from_is_none}
+use Rattle.afp_base.proofs.ListFacts.{find-all, find-passes}
 
 -- a value that stands where its bit is asked, and is blank where not
 
@@ -83,7 +83,7 @@ pub record RowFacts (row : Row) : Type 0 where
   pub resource_fork : length row.resource_fork < 2 ^ 32
 
 -- the forks of one row are no more than all
-bytes-within : (p : Row → Bool) (rows : List Row) (row : Row) → find p rows ≡ Some row → row_bytes row ≤ fork_bytes rows
+pub bytes-within : (p : Row → Bool) (rows : List Row) (row : Row) → find p rows ≡ Some row → row_bytes row ≤ fork_bytes rows
 bytes-within p [] row h = absurd (cc)
 bytes-within p (x ∷ xs) row h =
     let sum : fork_bytes (x ∷ xs) ≡ row_bytes x + fork_bytes xs = sum_by-cons row_bytes x xs in
@@ -94,12 +94,8 @@ bytes-within p (x ∷ xs) row h =
 formed-short : (row : Row) → is_formed row ≡ true → length row.name < 256
 formed-short row formed =
     let e = and_parts (is_none (name_fault row.name)) (length row.finder == 32) (and_parts (is_named row) _ formed).0 in
-    let named = (name_fault-parts row.name (no-fault (name_fault row.name) e.0)).1 in
+    let named = (name_fault-parts row.name (none_from_is_none (name_fault row.name) e.0)).1 in
     omega arith
-  where
-    no-fault : {F : Type 0} (o : Option F) → is_none o ≡ true → o ≡ None
-    no-fault None h = refl
-    no-fault (Some f) h = absurd (cc)
 
 row-facts : (v : VolumeState) (id : ℕ) (row : Row) → row_at v.rows id ≡ Some row → IsSoundVolume v → is_typed_volume v ≡ true → RowFacts row
 unfolding row_at

@@ -2,14 +2,15 @@
 use Rattle.std.proofs.Common.{◌==◌, ◌≡◌, ◌∙◌, ap, sym, refl, subst, ℕ, zero, suc, ◌+◌, ◌≤◌, ◌<◌, Bool, true, false, not, ◌&&◌, ◌||◌, cond, List, [], ◌∷◌, length, map, arith, inl, inr}
 use Rattle.std.specs.Prelude.{nat_le, nat_lt, bytes_eq}
 use Rattle.std.specs.List.{list_any, list_all, filter}
-use Rattle.std.proofs.lemmas.Bool.{and_parts, and_from, or_cases, or_left, or_right, cond_both, cond-false, eqb-true, cases_Bool, both_ways, leb-true, le-leb, ltb-true, lt-ltb, ne_eqb}
+use Rattle.std.proofs.lemmas.Bool.{and_parts, and_from, or_cases, or_left, or_right, cond_both, cond-false, eqb-true, cases_Bool, both_ways, leb-true, le-leb, ltb-true, lt-ltb, ne_eqb, not-true}
 use Rattle.volume_spec.proofs.Leading.{goes_up, leads-more, cut, leads-carried, leads-short}
-use Rattle.volume_spec.proofs.TestedLists.{never, all-weaker, all-both, all-filter, all-snoc, all-map-where, any-at, any-weaker, any-still, any-map, any-longer, apart-filter, apart-map, apart-weaker, apart-snoc, none-all}
 use Rattle.volume_spec.specs.Edits.{is_below, without, has_children, with_changed, change_at, at_place, with_row, without_node, with_moved}
 use Rattle.afp_base.specs.Apart.{are_apart}
 use Rattle.volume_spec.specs.SoundVolume.{has_node, leads_to_root, is_in_place, is_tree}
 use Rattle.volume_spec.specs.VolumeState.{Row, VolumeState, root_id, root_parent, first_id}
 use Rattle.volume_spec.specs.Walk.{has_directory}
+use Rattle.afp_base.proofs.Facts.{never}
+use Rattle.afp_base.proofs.ListFacts.{all-both, all-filter, all-map-where, all-snoc, all-weaker, any-at, any-longer, any-map, any-still, any-weaker, apart-filter, apart-map, apart-snoc, apart-weaker, none-all}
 
 -- the parts of a tree
 
@@ -222,10 +223,6 @@ any-carried p keep change (x ∷ xs) leaves h =
     ])
     (λ gone h. or_right (p (change x)) (list_any p (map change xs)) (any-carried p keep change xs leaves h))
     h
-
-not-true : (b : Bool) → not b ≡ true → b ≡ false
-not-true true h = cc
-not-true false h = refl
 
 -- what leads to the root without the moved node leads there after the move
 moved-apart : (rows : List Row) (node target : ℕ) (name : List ℕ) (n id : ℕ) → leads_to_root (without node rows) n id ≡ true → leads_to_root (with_changed node (at_place target name) rows) n id ≡ true

@@ -1,12 +1,12 @@
 -- Each call that is not refused keeps a volume's numbers in their ranges.
 use Rattle.std.proofs.Common.{◌==◌, ◌≡◌, refl, ℕ, ◌<◌, pos, Bool, true, false, not, ◌||◌, List, [], ◌∷◌, length, Option, Some, None}
 use Rattle.std.specs.Prelude.{Result, Ok, Err, is_some, nat_le}
-use Rattle.std.proofs.lemmas.Bool.{leb-false}
+use Rattle.std.proofs.lemmas.Bool.{leb-false, or_parts, not-false}
 use Rattle.afp_base.specs.declared.code.Code.{Code}
 use Rattle.afp_base.specs.declared.code.Code.TheVariants.{ObjectExists, ObjectTypeErr, DiskFull, ObjectLocked, FileBusy, CantMove, ObjectNotFound}
 use Rattle.afp_names.specs.Name.{name_key}
 use Rattle.afp_names.specs.Path.{PathValue}
-use Rattle.volume_spec.proofs.CallsSound.{or-none, not-false, name-good}
+use Rattle.volume_spec.proofs.CallsSound.{name-good}
 use Rattle.volume_spec.proofs.Formed.{formed-parts}
 use Rattle.volume_spec.proofs.NameBytes.{name-bytes}
 use Rattle.volume_spec.proofs.Refusals.{none-holds, none-first, at-found, IsPlaceThere, place-there, down-named, down-or-named}
@@ -43,7 +43,7 @@ unfolding create_dir_refusal create_dir_effect has_no_room has_no_ids
 create-dir-typed v now dir path moment named passes t =
     at-found TypedParts (new_place v.rows dir path) _ v (created true now v) passes (λ place is clear.
     let none = none-holds ((is_some (child_by_key v.rows place.dir (name_key place.name)), ObjectExists) ∷ (nat_le most_nodes (length v.rows) || nat_le last_next_id v.next_id, DiskFull) ∷ []) clear in
-    let room = or-none (nat_le most_nodes (length v.rows)) (nat_le last_next_id v.next_id) none.1.0 in
+    let room = or_parts (nat_le most_nodes (length v.rows)) (nat_le last_next_id v.next_id) none.1.0 in
     created-typed v v true now place (place-there v.rows dir path place named is) moment (leb-false last_next_id v.next_id room.1) t t)
 
 -- FPCreateFile
@@ -56,7 +56,7 @@ create-file-typed v opens hard now dir path moment named passes t =
     by-old : (place : Place) → IsPlaceThere v.rows place → (o : Option ℕ) → create_file_there v opens hard o ≡ None → TypedParts (created false now (without_replaced v o) place)
     by-old place there None clear =
         let none = none-holds ((nat_le most_nodes (length v.rows) || nat_le last_next_id v.next_id, DiskFull) ∷ []) clear in
-        let room = or-none (nat_le most_nodes (length v.rows)) (nat_le last_next_id v.next_id) none.0 in
+        let room = or_parts (nat_le most_nodes (length v.rows)) (nat_le last_next_id v.next_id) none.0 in
         created-typed v v false now place there moment (leb-false last_next_id v.next_id room.1) t t
     by-old place there (Some old) clear =
         let none = none-holds ((has_directory v.rows old, ObjectTypeErr) ∷ (not hard, ObjectExists) ∷ (is_busy opens old, FileBusy) ∷ (has_attribute v.rows delete_inhibit old, ObjectLocked) ∷ (nat_le last_next_id v.next_id, DiskFull) ∷ []) clear in

@@ -7,7 +7,6 @@ use Rattle.std.proofs.lemmas.Bool.{and_parts, and_from, cond_both, eqb-true, le-
 use Rattle.std.proofs.lemmas.Nat.{and_le_l}
 use Rattle.byteorder.specs.Endian.{big_number}
 use Rattle.afp_bitmap.specs.Bits.{is_asked}
-use Rattle.volume_spec.proofs.TestedLists.{all-filter, all-snoc, all-map-where, any-at}
 use Rattle.volume_spec.specs.Edits.{with_changed, change_at, at_place, modified_at, changed_at, children_changed, with_new, without, without_node, with_moved, named, renamed}
 use Rattle.volume_spec.specs.Parms.{date_in}
 use Rattle.volume_spec.specs.SetFileDirParms.{Settings, set_fields, asked_bytes, field_in, settings_in, attributes_by, with_settings, with_node_set}
@@ -15,6 +14,7 @@ use Rattle.volume_spec.specs.SoundVolume.{file_attributes, dir_attributes, last_
 use Rattle.volume_spec.specs.TypedVolume.{is_byte, is_word, is_long, are_bytes, is_date, is_typed_row, is_typed_comment, is_typed_icon, is_typed_appl, is_typed_volume}
 use Rattle.volume_spec.specs.VolumeState.{Row, Comment, Appl, VolumeState, new_row}
 use Rattle.volume_spec.specs.Walk.{has_directory}
+use Rattle.afp_base.proofs.ListFacts.{all-filter, all-map-where, all-snoc, any-at}
 
 -- a row's numbers, each apart
 pub record TypedRow (row : Row) : Type 0 where

@@ -6,7 +6,6 @@ use Rattle.afp_base.specs.declared.code.Code.{Code}
 use Rattle.afp_names.specs.Name.{name_fault}
 use Rattle.volume_spec.proofs.Later.{step-sound}
 use Rattle.volume_spec.proofs.NameBytes.{name-bytes}
-use Rattle.volume_spec.proofs.TestedLists.{find-all}
 use Rattle.volume_spec.proofs.TypedCalls.{create-dir-typed, create-file-typed, delete-typed, rename-typed, move-typed, set-typed, set-volume-typed}
 use Rattle.volume_spec.proofs.TypedEdits.{TypedParts, typed-parts, typed-whole, typed-at, row-parts, row-whole}
 use Rattle.volume_spec.specs.Edits.{with_changed, put, with_forks_of, exchanged}
@@ -15,6 +14,7 @@ use Rattle.volume_spec.specs.TreeSteps.{TreeCall, CreateDir, CreateFile, Delete,
 use Rattle.volume_spec.specs.TypedVolume.{is_date, is_typed_row, is_typed_volume}
 use Rattle.volume_spec.specs.VolumeState.{Row, VolumeState, fresh_volume, new_row, root_id, root_parent}
 use Rattle.volume_spec.specs.Walk.{row_at, is_named_path}
+use Rattle.afp_base.proofs.ListFacts.{find-all}
 
 pub call-typed : (v : VolumeState) (step : TreeStep) → is_typed_step step ≡ true → is_named_call step.call ≡ true → tree_refusal v step.opens step.call ≡ None → IsSoundVolume v → is_typed_volume v ≡ true → is_typed_volume (tree_effect v step.now step.call) ≡ true
 call-typed v step typed named passes s h =

@@ -11,11 +11,11 @@ use Rattle.afp_names.specs.Path.{long_names, element_of}
 use Rattle.afp_names.specs.declared.path.Step.{Step}
 use Rattle.afp_names.specs.declared.path.Step.TheVariants.{Up, Down}
 use Rattle.volume_spec.proofs.Leading.{goes_up}
-use Rattle.volume_spec.proofs.TestedLists.{any-weaker, find-all}
 use Rattle.volume_spec.proofs.Trees.{TreeParts, drawn}
 use Rattle.volume_spec.specs.SoundVolume.{has_node, leads_to_root, is_in_place}
 use Rattle.volume_spec.specs.VolumeState.{Row, VolumeState, root_id, root_parent, first_id}
 use Rattle.volume_spec.specs.Walk.{row_at, parent_at, child_by_key, child_by_long_name, child, or_else, has_directory, failed_down, onward, walk_from, not_above_root, is_start, walk}
+use Rattle.afp_base.proofs.ListFacts.{any-weaker, find-all}
 
 -- what an option that is mapped to something was
 pub record MappedFrom {A B : Type 0} (f : A → B) (o : Option A) (b : B) : Type 0 where

@@ -3,14 +3,13 @@ use Rattle.std.proofs.Common.{◌==◌, ◌≡◌, ◌∙◌, ap, sym, refl, sub
 use Rattle.std.specs.Prelude.{pos, unwrap_or, is_some, sum_by, if◌then◌else◌, IfSome}
 use Rattle.std.specs.List.{list_any, list_all, find, filter}
 use Rattle.std.specs.Ordering.{nat_cmp}
-use Rattle.std.proofs.lemmas.Bool.{and_parts, or_right, cases_Bool, cond_both, cond-true, cond-false, eqb-true, ne_eqb}
+use Rattle.std.proofs.lemmas.Bool.{and_parts, or_right, cases_Bool, cond_both, cond-true, cond-false, eqb-true, ne_eqb, not-true}
 use Rattle.std.proofs.lemmas.List.Sums.{sum_by-cons, sum_by-append}
 use Rattle.afp_base.specs.declared.ids.NodeId.{NodeId}
 use Rattle.node_rows.specs.Kept.{RowsValue}
 use Rattle.sorted_map.specs.Entries.{at}
 use Rattle.volume_spec.proofs.Formed.{formed-parts}
 use Rattle.volume_spec.proofs.Places.{nothing-gone}
-use Rattle.volume_spec.proofs.TestedLists.{all-weaker, all-both, all-filter, all-kept, all-snoc, any-at, none-all}
 use Rattle.volume_spec.proofs.Trees.{drawn, tree-parts}
 use Rattle.volume_spec.specs.Edits.{bare, with_changed, change_at, without, at_place, modified_at}
 use Rattle.volume_spec.specs.SetFileDirParms.{with_settings}
@@ -24,10 +23,7 @@ use Rattle.volume_tree.specs.lemma.Kept.{IsKeptVolume, at_gone, bytes_of, has_fo
 use Rattle.volume_tree.specs.Planned.{Move, SetNode, PlanState, IsNew, IsPlan, planned, is_gone, gone_rows, gone_comments, gone_appls, come_rows, next_after, moved_rows, set_rows, modified_rows}
 use Rattle.volume_tree.specs.declared.forks.FileForks.{FileForks}
 use Rattle.volume_tree.specs.declared.head.Dates.{Dates}
-
-not-false : (b : Bool) → not b ≡ true → b ≡ false
-not-false true h = absurd (cc)
-not-false false h = refl
+use Rattle.afp_base.proofs.ListFacts.{all-both, all-filter, all-kept, all-snoc, all-weaker, any-at, none-all}
 
 -- edits of rows beside their forks
 
@@ -70,7 +66,7 @@ shown-left old new gone [] same = refl
 shown-left old new gone (row ∷ rows) same =
     let keep : Row → Bool = λ (r : Row). not (r.id == gone) in
     cond_both (keep row) (row ∷ filter keep rows) (filter keep rows) (λ l. map (with_forks new) l ≡ cond (keep row) (with_forks old row ∷ filter keep (map (with_forks old) rows)) (filter keep (map (with_forks old) rows)))
-    (λ kept. (λ i. with-same old new row (same row.id (not-false (row.id == gone) kept)) i ∷ shown-left old new gone rows same i)
+    (λ kept. (λ i. with-same old new row (same row.id (not-true (row.id == gone) kept)) i ∷ shown-left old new gone rows same i)
     ∙ sym (cond-true (keep row) (with_forks old row ∷ filter keep (map (with_forks old) rows)) (filter keep (map (with_forks old) rows)) kept))
     (λ left. shown-left old new gone rows same ∙ sym (cond-false (keep row) (with_forks old row ∷ filter keep (map (with_forks old) rows)) (filter keep (map (with_forks old) rows)) left))
 
@@ -128,7 +124,7 @@ all-gone old new None rows are h = all-weaker (has_forks old) (has_forks new) ro
 all-gone old new (Some gone) rows are h =
     let keep : Row → Bool = λ (r : Row). not (r.id == gone.0) in
     all-both (has_forks old) keep (has_forks new) (filter keep rows)
-    (λ row had kept. still row.dir (at nat_cmp old row.id) (at nat_cmp new row.id) (are row.id ∙ cond-false (row.id == gone.0) None (at nat_cmp old row.id) (not-false (row.id == gone.0) kept)) had)
+    (λ row had kept. still row.dir (at nat_cmp old row.id) (at nat_cmp new row.id) (are row.id ∙ cond-false (row.id == gone.0) None (at nat_cmp old row.id) (not-true (row.id == gone.0) kept)) had)
     (all-filter (has_forks old) keep rows h) (all-kept keep rows)
 
 -- the bytes of forks after edits

@@ -5,7 +5,6 @@ use Rattle.std.specs.List.{list_all}
 use Rattle.std.specs.Ordering.{nat_cmp}
 use Rattle.std.proofs.lemmas.Bool.{eqb-true}
 use Rattle.sorted_map.specs.Entries.{at}
-use Rattle.volume_spec.proofs.TestedLists.{find-all, find-passes}
 use Rattle.volume_spec.specs.ForkEffect.{fork_of}
 use Rattle.volume_spec.specs.VolumeState.{Row}
 use Rattle.volume_spec.specs.Walk.{row_at}
@@ -15,6 +14,7 @@ use Rattle.volume_tree.specs.lemma.Kept.{has_forks}
 use Rattle.volume_spec.specs.OpenFork.{file_of}
 use Rattle.volume_tree.specs.Shown.{fork_at}
 use Rattle.volume_tree.specs.declared.forks.FileForks.{FileForks as Kept}
+use Rattle.afp_base.proofs.ListFacts.{find-all, find-passes}
 
 -- the row of an id has that id
 pub found-id : (rows : List Row) (id : ℕ) (row : Row) → row_at rows id ≡ Some row → row.id ≡ id

@@ -8,7 +8,6 @@ use Rattle.sorted_map.specs.Entries.{at}
 use Rattle.node_rows.specs.Kept.{RowsValue}
 use Rattle.volume_spec.proofs.Fresh.{fresh-sound}
 use Rattle.volume_spec.proofs.SoundEdits.{sound-changed}
-use Rattle.volume_spec.proofs.TestedLists.{all-weaker}
 use Rattle.std.proofs.lemmas.Bool.{ne_eqb}
 use Rattle.volume_spec.specs.Edits.{has_children, changed_at}
 use Rattle.volume_spec.specs.Listing.{listed, children, row_key}
@@ -22,6 +21,7 @@ use Rattle.volume_tree.specs.Kept.{Forks, data_of, resource_of, rows_of, state_o
 use Rattle.volume_tree.specs.lemma.Kept.{IsKeptVolume, IsShownAs, has_forks}
 use Rattle.volume_tree.specs.Shown.{TreeValue}
 use Rattle.volume_tree.specs.declared.head.Dates.{Dates}
+use Rattle.afp_base.proofs.ListFacts.{all-weaker}
 
 -- a volume as it is shown is sound
 pub sound-is : {name : List ℕ} {dates : Dates} {rows : RowsValue} {forks : Forks} {used : ℕ} {v : TreeValue} → IsKeptVolume name dates rows forks used → record { state = state_of name dates rows forks; spare = spare_of rows forks } ≡ v → IsSoundVolume v.state

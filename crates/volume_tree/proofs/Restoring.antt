@@ -3,7 +3,7 @@ use Rattle.std.proofs.Common.{◌==◌, ◌≡◌, ◌∙◌, ap, sym, refl, sub
 use Rattle.std.specs.Prelude.{bit_and, is_some, nat_le, nat_lt, option_map, replicate, slice_index_or, sum_by, unwrap_or}
 use Rattle.std.specs.List.{list_any, list_all, find}
 use Rattle.std.specs.Ordering.{nat_cmp}
-use Rattle.std.proofs.lemmas.Bool.{and_parts, and_from, cond_both, cond-true, cond-false, eqb-true, eq-eqb, ne_eqb, lt-ltb, ltb-true, le-leb}
+use Rattle.std.proofs.lemmas.Bool.{and_parts, and_from, cond_both, cond-true, cond-false, eqb-true, eq-eqb, ne_eqb, lt-ltb, ltb-true, le-leb, not-true}
 use Rattle.std.proofs.lemmas.List.{length-replicate, take_more}
 use Rattle.std.proofs.lemmas.List.Sums.{sum_by-cons}
 use Rattle.afp_base.specs.Apart.{are_apart}
@@ -13,7 +13,6 @@ use Rattle.afp_base.specs.Limits.{most_fork_bytes}
 use Rattle.volume_spec.specs.SoundVolume.{IsSoundVolume, are_named_alike, fork_bytes, has_apart_names, has_node, has_rising_ids, is_formed, is_in_place, is_named, dir_attributes, file_attributes, row_bytes, last_next_id}
 use Rattle.volume_spec.specs.VolumeState.{Row, VolumeState, root_id, first_id}
 use Rattle.volume_spec.specs.Walk.{row_at}
-use Rattle.volume_spec.proofs.TestedLists.{any-at, apart-map, find-none, none-all}
 use Rattle.volume_spec.proofs.Formed.{formed-parts, limit-parts}
 use Rattle.volume_spec.proofs.Orders.{order-parts}
 use Rattle.volume_spec.proofs.Trees.{drawn, tree-parts}
@@ -28,6 +27,8 @@ use Rattle.volume_tree.specs.declared.head.VolumeHead.{VolumeHead}
 use Rattle.volume_tree.specs.declared.forks.FileForks.{FileForks}
 use Rattle.volume_tree.specs.declared.restore.LoadedNode.{LoadedNode}
 use Rattle.volume_tree.proofs.Touching.{other-way}
+use Rattle.afp_base.proofs.Facts.{never, or-true}
+use Rattle.afp_base.proofs.ListFacts.{any-at, apart-map, find-none, none-all}
 
 -- one more node
 
@@ -115,15 +116,11 @@ none-own l q other =
     let here : Option FileForks = cond (q == l.node.id) (Some kept) None in
     elim l.node.dir as (λ t. cond t None here ≡ None) [ true ↦ refl | false ↦ cond-false (q == l.node.id) (Some kept) None other ]
 
-not-is : (t : Bool) → not t ≡ true → t ≡ false
-not-is true h = absurd (cc)
-not-is false h = refl
-
 pub absent : (nodes : List LoadedNode) (q : ℕ) → list_all (λ (l : LoadedNode). not (q == l.node.id)) nodes ≡ true → forks_in nodes q ≡ None
 absent [] q h = refl
 absent (l ∷ nodes) q h =
     let e = and_parts (not (q == l.node.id)) (list_all (λ (l : LoadedNode). not (q == l.node.id)) nodes) h in
-    ap (λ o. or_forks o (own_forks l q)) (absent nodes q e.1) ∙ none-own l q (not-is (q == l.node.id) e.0)
+    ap (λ o. or_forks o (own_forks l q)) (absent nodes q e.1) ∙ none-own l q (not-true (q == l.node.id) e.0)
 
 -- the forks of one more node, in front, are seen at its id alone
 before : (l : LoadedNode) (nodes : List LoadedNode) (q : ℕ) → (q == l.node.id) ≡ false → forks_in (l ∷ nodes) q ≡ forks_in nodes q
@@ -170,10 +167,6 @@ own-shown l formed =
     let none = empty-dir l formed dir in
     (ap (λ n. replicate n 0) (sym none.0), ap (λ n. replicate n 0) (sym none.1), ap (λ t. t || false) dir))
     (λ file. subst (λ o. OwnShown l o) (sym is) (refl, refl, or-true l.node.dir))
-  where
-    or-true : (t : Bool) → (t || true) ≡ true
-    or-true true = refl
-    or-true false = refl
 
 pub all-each : (nodes : List LoadedNode) → are_apart (λ (a : LoadedNode) b. a.node.id == b.node.id) nodes ≡ true → list_all is_formed (map loaded_row nodes) ≡ true → Each (λ q. forks_in nodes q) nodes
 unfolding Each OwnShown
@@ -188,7 +181,7 @@ all-each (l ∷ nodes) apart formed =
       ap resource_of is ∙ own.1,
       ap (λ o. l.node.dir || is_some o) is ∙ own.2,
       each-same (λ q. forks_in nodes q) (λ q. forks_in (l ∷ nodes) q) (λ (b : LoadedNode). not (l.node.id == b.node.id)) nodes
-          (λ b other. before l nodes b.node.id (other-way l.node.id b.node.id (not-is (l.node.id == b.node.id) other))) others (all-each nodes e.1 f.1),
+          (λ b other. before l nodes b.node.id (other-way l.node.id b.node.id (not-true (l.node.id == b.node.id) other))) others (all-each nodes e.1 f.1),
     )
 
 -- so the rows are the nodes with their lengths, and each file's forks are kept
@@ -226,10 +219,6 @@ pub found-there : (rows : List Row) (id : ℕ) → row_at rows id ≡ None → h
 unfolding row_at
 found-there rows id none there =
     any-at (λ (row : Row). row.id == id) (λ (row : Row). not (row.id == id)) rows there (find-none (λ (row : Row). row.id == id) rows none) (λ row is other. never (row.id == id) is other)
-  where
-    never : (t : Bool) → t ≡ true → not t ≡ true → ⊥
-    never true is isnt = cc
-    never false is isnt = cc
 
 -- all that is needed of what is to be restored
 pub record RestoreParts (head : VolumeHead) (nodes : List LoadedNode) : Type 0 where

@@ -5,7 +5,6 @@ use Rattle.std.specs.List.{list_any, find}
 use Rattle.std.proofs.lemmas.Bool.{cond_both, cond-true, cond-false}
 use Rattle.volume_spec.proofs.SeenRows.{test-found}
 use Rattle.volume_spec.proofs.BareRows.{finds-bare, parents-bare, keys-bare}
-use Rattle.volume_spec.proofs.TestedLists.{length-mapped}
 use Rattle.volume_spec.proofs.Trees.{tree-parts}
 use Rattle.volume_spec.specs.Edits.{bare}
 use Rattle.afp_base.specs.Apart.{are_apart}
@@ -13,6 +12,7 @@ use Rattle.volume_spec.specs.SoundVolume.{IsSoundVolume, are_named_alike, has_ap
 use Rattle.volume_spec.specs.VolumeState.{Row, VolumeState}
 use Rattle.volume_spec.specs.Walk.{row_at, parent_at, child_by_key}
 use Rattle.volume_tree.specs.Kept.{Forks, with_forks, rows_of}
+use Rattle.afp_base.proofs.ListFacts.{length-mapped}
 
 -- without their forks they are the same rows
 pub shown-bare : (forks : Forks) (rows : List Row) → map bare (rows_of forks rows) ≡ map bare rows

@@ -2,10 +2,9 @@
 use Rattle.std.proofs.Common.{◌≡◌, ◌∙◌, ap, sym, refl, ℕ, ◌==◌, ◌≤◌, ◌<◌, Bool, true, false, ◌||◌, cond, List, [], ◌∷◌, ◌++◌, Option, Some, None, arith}
 use Rattle.std.specs.Prelude.{nat_lt, option_map}
 use Rattle.std.specs.List.{list_all, list_any}
-use Rattle.std.proofs.lemmas.Bool.{and_parts, and_from, cond_both, cond-false, lt-ltb, ltb-true, ltb-false, eqb-true, eq-eqb}
+use Rattle.std.proofs.lemmas.Bool.{and_parts, and_from, cond_both, cond-false, lt-ltb, ltb-true, ltb-false, eqb-true, eq-eqb, or_parts}
 use Rattle.afp_base.specs.declared.ids.NodeId.{NodeId}
 use Rattle.volume_spec.proofs.SeenRows.{changes-let-be, gone-lets-be}
-use Rattle.volume_spec.proofs.TestedLists.{all-weaker}
 use Rattle.volume_spec.specs.SetFileDirParms.{with_settings}
 use Rattle.volume_spec.specs.VolumeState.{Row}
 use Rattle.volume_spec.specs.Edits.{at_place, modified_at}
@@ -15,20 +14,10 @@ use Rattle.volume_tree.specs.Planned.{Move, SetNode, PlanState, planned, is_gone
 use Rattle.volume_tree.specs.TouchedNodes.{is_come, is_moved, is_set, is_modified, is_touched, are_rising, IsTouched}
 use Rattle.volume_tree.specs.lemma.TouchedNodes.{put_id, with_id}
 use Rattle.volume_tree.specs.TreeLaws.{UntouchedStay}
+use Rattle.afp_base.proofs.Facts.{never_both, or-false, or_swap, or_twice}
+use Rattle.afp_base.proofs.ListFacts.{all-weaker}
 
 -- what is put in is there, and all else as before
-
-or-swap : (a b c : Bool) → (a || (b || c)) ≡ (b || (a || c))
-or-swap true true c = refl
-or-swap true false c = refl
-or-swap false true c = refl
-or-swap false false c = refl
-
-or-twice : (a b c : Bool) → a ≡ b → (a || c) ≡ (b || (a || c))
-or-twice true true c same = refl
-or-twice false false c same = refl
-or-twice true false c same = absurd (cc)
-or-twice false true c same = absurd (cc)
 
 put-any : (q : ℕ) (id : NodeId) (ids : List NodeId) → list_any (λ (t : NodeId). q == t.0) (put_id id ids) ≡ ((q == id.0) || list_any (λ (t : NodeId). q == t.0) ids)
 put-any q id [] = refl
@@ -36,14 +25,14 @@ put-any q id (other ∷ ids) =
     let test : NodeId → Bool = λ (t : NodeId). q == t.0 in
     let later : List NodeId = cond (nat_lt id.0 other.0) (id ∷ other ∷ ids) (other ∷ ids) in
     cond_both (nat_lt other.0 id.0) (other ∷ put_id id ids) later (λ l. list_any test l ≡ ((q == id.0) || list_any test (other ∷ ids)))
-    (λ less. ap (λ t. (q == other.0) || t) (put-any q id ids) ∙ or-swap (q == other.0) (q == id.0) (list_any test ids))
+    (λ less. ap (λ t. (q == other.0) || t) (put-any q id ids) ∙ or_swap (q == other.0) (q == id.0) (list_any test ids))
     (λ not_less. cond_both (nat_lt id.0 other.0) (id ∷ other ∷ ids) (other ∷ ids) (λ l. list_any test l ≡ ((q == id.0) || list_any test (other ∷ ids)))
     (λ more. refl)
     (λ not_more.
     let low : id.0 ≤ other.0 = ltb-false other.0 id.0 not_less in
     let high : other.0 ≤ id.0 = ltb-false id.0 other.0 not_more in
     let same : other.0 ≡ id.0 = omega arith in
-    or-twice (q == other.0) (q == id.0) (list_any test ids) (ap (λ n. q == n) same)))
+    or_twice (q == other.0) (q == id.0) (list_any test ids) (ap (λ n. q == n) same)))
 
 put-all : (p : NodeId → Bool) (id : NodeId) (ids : List NodeId) → p id ≡ true → list_all p ids ≡ true → list_all p (put_id id ids) ≡ true
 put-all p id [] here h = and_from (p id) true here refl
@@ -100,10 +89,6 @@ is-modified : (q : ℕ) (id : Option NodeId) → is_gone id q ≡ is_modified id
 is-modified q None = refl
 is-modified q (Some id) = refl
 
-or-none : (a : Bool) → (a || false) ≡ a
-or-none true = refl
-or-none false = refl
-
 -- all six, one after the other
 pub six-touched : (p : PlanState) (come moved set : Option NodeId) → option_id come ≡ option_map (λ (row : Row). row.id) p.come → option_id moved ≡ option_map (λ (move : Move). move.id) p.moved
     → option_id set ≡ option_map (λ (set : SetNode). set.id) p.set
@@ -122,24 +107,17 @@ six-touched p come moved set is_come_ is_moved_ is_set_ =
           (with-any q moved three (is_moved p.moved q) (is_set p.set q || (is_modified p.modified_dir q || is_modified p.modified_dir_too q)) (is-moved q moved p.moved is_moved_)
           (with-any q set two (is_set p.set q) (is_modified p.modified_dir q || is_modified p.modified_dir_too q) (is-set q set p.set is_set_)
           (with-any q p.modified_dir one (is_modified p.modified_dir q) (is_modified p.modified_dir_too q) (is-modified q p.modified_dir)
-          (with-any q p.modified_dir_too [] (is_modified p.modified_dir_too q) false (is-modified q p.modified_dir_too) refl ∙ or-none (is_modified p.modified_dir_too q))))));
+          (with-any q p.modified_dir_too [] (is_modified p.modified_dir_too q) false (is-modified q p.modified_dir_too) refl ∙ or-false (is_modified p.modified_dir_too q))))));
     }
 
 -- what is not touched stays
-
-neither : (a b : Bool) → (a || b) ≡ false → (a ≡ false) × (b ≡ false)
-neither true b h = absurd (cc)
-neither false b h = (refl, h)
 
 pub gone-lets : (q : ℕ) (gone : Option NodeId) (rows : List Row) → is_gone gone q ≡ false → row_at (gone_rows gone rows) q ≡ row_at rows q
 gone-lets q None rows h = refl
 gone-lets q (Some gone) rows h = gone-lets-be rows gone.0 q h
 
 pub other-way : (a b : ℕ) → (a == b) ≡ false → (b == a) ≡ false
-other-way a b h = cond_both (b == a) true false (λ t. (b == a) ≡ false) (λ is. absurd (never (a == b) (eq-eqb a b (sym (eqb-true b a is))) h)) (λ other. other)
-  where
-    never : (t : Bool) → t ≡ true → t ≡ false → ⊥
-    never t is isnt = cc
+other-way a b h = cond_both (b == a) true false (λ t. (b == a) ≡ false) (λ is. absurd (never_both (a == b) (eq-eqb a b (sym (eqb-true b a is))) h)) (λ other. other)
 
 pub last-other : (q : ℕ) (row : Row) (rows : List Row) → (q == row.id) ≡ false → row_at (rows ++ row ∷ []) q ≡ row_at rows q
 unfolding row_at
@@ -166,11 +144,11 @@ modified-lets q now (Some dir) rows h = changes-let-be rows dir.0 q (modified_at
 pub untouched-stay : UntouchedStay
 unfolding planned is_touched
 untouched-stay = λ v p q h.
-    let a = neither (is_gone p.gone q) (is_come p.come q || (is_moved p.moved q || (is_set p.set q || (is_modified p.modified_dir q || is_modified p.modified_dir_too q)))) h in
-    let b = neither (is_come p.come q) (is_moved p.moved q || (is_set p.set q || (is_modified p.modified_dir q || is_modified p.modified_dir_too q))) a.1 in
-    let c = neither (is_moved p.moved q) (is_set p.set q || (is_modified p.modified_dir q || is_modified p.modified_dir_too q)) b.1 in
-    let d = neither (is_set p.set q) (is_modified p.modified_dir q || is_modified p.modified_dir_too q) c.1 in
-    let e = neither (is_modified p.modified_dir q) (is_modified p.modified_dir_too q) d.1 in
+    let a = or_parts (is_gone p.gone q) (is_come p.come q || (is_moved p.moved q || (is_set p.set q || (is_modified p.modified_dir q || is_modified p.modified_dir_too q)))) h in
+    let b = or_parts (is_come p.come q) (is_moved p.moved q || (is_set p.set q || (is_modified p.modified_dir q || is_modified p.modified_dir_too q))) a.1 in
+    let c = or_parts (is_moved p.moved q) (is_set p.set q || (is_modified p.modified_dir q || is_modified p.modified_dir_too q)) b.1 in
+    let d = or_parts (is_set p.set q) (is_modified p.modified_dir q || is_modified p.modified_dir_too q) c.1 in
+    let e = or_parts (is_modified p.modified_dir q) (is_modified p.modified_dir_too q) d.1 in
     let one : List Row = gone_rows p.gone v.rows in
     let two : List Row = come_rows p.come one in
     let three : List Row = moved_rows p.moved two in

@@ -8,7 +8,6 @@ use Rattle.afp_base.specs.declared.ids.NodeId.{NodeId}
 use Rattle.node_rows.specs.Kept.{RowsValue}
 use Rattle.sorted_map.specs.Entries.{at}
 use Rattle.volume_spec.proofs.ForkEffects.{bytes-written, written-sound}
-use Rattle.volume_spec.proofs.TestedLists.{all-weaker}
 use Rattle.volume_spec.proofs.Walks.{find-there}
 use Rattle.volume_spec.specs.Edits.{with_changed, change_at, modified_at}
 use Rattle.volume_spec.specs.ForkEffect.{fork_effect, fork_of, written}
@@ -26,6 +25,7 @@ use Rattle.volume_tree.specs.Planned.{modified_rows}
 use Rattle.volume_spec.specs.OpenFork.{file_of}
 use Rattle.volume_tree.specs.Shown.{fork_at}
 use Rattle.volume_tree.specs.declared.head.Dates.{Dates}
+use Rattle.afp_base.proofs.ListFacts.{all-weaker}
 
 -- a file that is there, as it is kept
 pub record FileThere (forks : Forks) (rows : List Row) (id : ℕ) (resource : Bool) (bytes : List ℕ) : Type 0 where

@@ -4,7 +4,7 @@ use Rattle.std.specs.Prelude.{nat_le, option_map, slice_get, slice_index_or, if�
 use Rattle.std.specs.List.{Contains, filter, find, list_any}
 use Rattle.std.proofs.Math.Seq.{drop-cons, take-length}
 use Rattle.std.proofs.lemmas.Bool.{and_parts, cond-true, cond-false, leb-true}
-use Rattle.std.proofs.lemmas.List.{append_assoc, append-nil, length-take, take-append-le}
+use Rattle.std.proofs.lemmas.List.{append_assoc, append-nil, length-take, take-append-le, drop_all}
 use Rattle.std.proofs.lemmas.Option.{slice_get-map, slice_get_read, slice_get_within, get_or_from_slice_get}
 use Rattle.afp_base.specs.Limits.{payload_limit}
 use Rattle.afp_replies.specs.Entry.{entry_bytes}
@@ -104,13 +104,7 @@ module _ (rows : List Row) (opens : List Opened) (asked : ListAsked) (dir first 
 
   -- no more are there
   pub none-there : (i used count : ℕ) → length (listed rows dir) ≤ i → filled rows opens asked dir i used (asked.count - count) ≡ []
-  none-there i used count behind = ap (λ l. front (entry_size rows opens asked) asked used (asked.count - count) (filter (is_counted asked) l)) (drop-past i (listed rows dir) behind)
-    where
-      drop-past : (n : ℕ) (l : List Row) → length l ≤ n → drop n l ≡ []
-      drop-past zero [] h = refl
-      drop-past zero (row ∷ l) h = absurd (omega arith)
-      drop-past (suc n) [] h = refl
-      drop-past (suc n) (row ∷ l) h = drop-past n l (omega arith)
+  none-there i used count behind = ap (λ l. front (entry_size rows opens asked) asked used (asked.count - count) (filter (is_counted asked) l)) (drop_all i (listed rows dir) behind)
 
   module _ (i used count : ℕ) (row : Row) (rest : drop i (listed rows dir) ≡ row ∷ drop (suc i) (listed rows dir)) where
     next : (counts : Bool) → is_counted asked row ≡ counts → counted_from rows asked dir i ≡ cond counts (row ∷ counted_from rows asked dir (suc i)) (counted_from rows asked dir (suc i))

@@ -5,7 +5,6 @@ use Rattle.std.proofs.lemmas.Bool.{eqb-true}
 use Rattle.afp_base.specs.declared.code.Code.{Code}
 use Rattle.afp_names.specs.Path.{PathValue}
 use Rattle.volume_spec.proofs.SeenRows.{file-found, test-found}
-use Rattle.volume_spec.proofs.TestedLists.{find-passes}
 use Rattle.volume_spec.proofs.Walks.{row-there}
 use Rattle.volume_spec.specs.Shared.{done_at, has_attribute}
 use Rattle.volume_spec.specs.OpenFork.{file_of, open_fork_file}
@@ -14,6 +13,7 @@ use Rattle.volume_spec.specs.VolumeState.{Row, VolumeState}
 use Rattle.volume_spec.specs.Walk.{found, row_at}
 use Rattle.volume_tree_replies.specs.lemma.Told.{IsRowOf}
 use Rattle.volume_tree.proofs.Showing.{ids-differ}
+use Rattle.afp_base.proofs.ListFacts.{find-passes}
 
 -- what a node that is there says of itself
 pub file-is : (v : VolumeState) (id : ℕ) (node : Row) (dir : Bool) → IsSoundVolume v → has_node v.rows id ≡ true → ((row : Row) → row_at v.rows id ≡ Some row → IsRowOf v.rows node row) → dir ≡ node.dir

@@ -1,8 +1,8 @@
 -- The entries that fit one after the other are those of the list.
-use Rattle.std.proofs.Common.{◌≡◌, ◌∙◌, ◌⊎◌, ap, sym, refl, ℕ, zero, suc, ◌+◌, ◌-◌, ◌==◌, ◌≤◌, ◌<◌, min, arith, Bool, true, false, not, ◌&&◌, ◌||◌, List, [], ◌∷◌, length, take, inl, inr}
+use Rattle.std.proofs.Common.{◌≡◌, ◌∙◌, ◌⊎◌, ap, sym, refl, ℕ, zero, suc, ◌+◌, ◌-◌, ◌==◌, ◌≤◌, ◌<◌, min, arith, Bool, true, false, not, ◌&&◌, ◌||◌, List, [], ◌∷◌, length, take, inl, inr, add-zero}
 use Rattle.std.specs.Prelude.{nat_le, nat_lt, sum_by}
 use Rattle.std.specs.List.{list_all}
-use Rattle.std.proofs.lemmas.Bool.{and_parts, and_from, cond_both, eq-eqb, ltb-false}
+use Rattle.std.proofs.lemmas.Bool.{and_parts, and_from, cond_both, eq-eqb, ltb-false, or_left, or_right}
 use Rattle.std.proofs.lemmas.List.{length-drop}
 use Rattle.std.proofs.lemmas.List.Sums.{sum_by-cons}
 use Rattle.afp_base.specs.Limits.{payload_limit}
@@ -79,12 +79,9 @@ module _ (size : Row → ℕ) (asked : ListAsked) where
   -- one that cannot follow does not fit
   one-not : (used : ℕ) (row : Row) → can_follow asked used (size row) ≡ false → fits_from used (row ∷ []) ≡ false
   one-not used row cannot =
-      let sum : sum_by size (row ∷ []) ≡ size row = sum_by-cons size row [] ∙ plus-none (size row) in
+      let sum : sum_by size (row ∷ []) ≡ size row = sum_by-cons size row [] ∙ add-zero (size row) in
       ap (λ n. nat_le (used + n) (min asked.size payload_limit) && (short row && true)) sum ∙ swap (nat_le (used + size row) (min asked.size payload_limit)) (short row) cannot
     where
-      plus-none : (n : ℕ) → n + 0 ≡ n
-      plus-none n = omega arith
-
       swap : (a b : Bool) → (b && a) ≡ false → (a && (b && true)) ≡ false
       swap true true h = absurd (cc)
       swap true false h = refl
@@ -144,17 +141,10 @@ filled-entries rows opens asked dir place begins =
     n : ℕ
     n = length (front size asked list_head asked.count list)
 
-    or-left : (a b : Bool) → a ≡ true → (a || b) ≡ true
-    or-left a b h = ap (λ t. t || b) h
-
-    or-right : (a b : Bool) → b ≡ true → (a || b) ≡ true
-    or-right true b h = refl
-    or-right false b h = h
-
     passes : ((n == 0) || fits_reply rows opens asked (take n list)) ≡ true
     passes = elim (front-fits size asked list_head asked.count list) [
-      | inl none ↦ or-left (n == 0) (fits_reply rows opens asked (take n list)) (eq-eqb n 0 none)
-      | inr fits ↦ or-right (n == 0) (fits_reply rows opens asked (take n list)) (ap (fits_reply rows opens asked) (sym (front-is size asked list_head asked.count list)) ∙ fits)
+      | inl none ↦ or_left (n == 0) (fits_reply rows opens asked (take n list)) (eq-eqb n 0 none)
+      | inr fits ↦ or_right (n == 0) (fits_reply rows opens asked (take n list)) (ap (fits_reply rows opens asked) (sym (front-is size asked list_head asked.count list)) ∙ fits)
     ]
 
     one-more : n + 1 ≡ suc n
@@ -162,10 +152,10 @@ filled-entries rows opens asked dir place begins =
 
     stops : ((n == asked.count) || ((n == length list) || not (fits_reply rows opens asked (take (n + 1) list)))) ≡ true
     stops = elim (front-stops size asked list_head asked.count list) [
-      | inl all ↦ or-left (n == asked.count) ((n == length list) || not (fits_reply rows opens asked (take (n + 1) list))) (eq-eqb n asked.count all)
-      | inr rest ↦ or-right (n == asked.count) ((n == length list) || not (fits_reply rows opens asked (take (n + 1) list))) (elim rest [
-        | inl there ↦ or-left (n == length list) (not (fits_reply rows opens asked (take (n + 1) list))) (eq-eqb n (length list) there)
-        | inr unfit ↦ or-right (n == length list) (not (fits_reply rows opens asked (take (n + 1) list))) (ap not (ap (λ k. fits_reply rows opens asked (take k list)) one-more ∙ unfit))
+      | inl all ↦ or_left (n == asked.count) ((n == length list) || not (fits_reply rows opens asked (take (n + 1) list))) (eq-eqb n asked.count all)
+      | inr rest ↦ or_right (n == asked.count) ((n == length list) || not (fits_reply rows opens asked (take (n + 1) list))) (elim rest [
+        | inl there ↦ or_left (n == length list) (not (fits_reply rows opens asked (take (n + 1) list))) (eq-eqb n (length list) there)
+        | inr unfit ↦ or_right (n == length list) (not (fits_reply rows opens asked (take (n + 1) list))) (ap not (ap (λ k. fits_reply rows opens asked (take k list)) one-more ∙ unfit))
       ])
     ]
 

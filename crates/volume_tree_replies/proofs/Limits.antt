@@ -1,10 +1,9 @@
 -- The bytes of forks keep their limits.
-use Rattle.std.proofs.Common.{◌≡◌, ◌∙◌, ◌==◌, ap, refl, ℕ, ◌+◌, ◌≤◌, ◌<◌, ◌^◌, Bool, true, false, cond, List, [], ◌∷◌, length, Option, Some, None, arith}
+use Rattle.std.proofs.Common.{◌≡◌, ◌∙◌, ◌==◌, ap, refl, ℕ, ◌≤◌, ◌<◌, ◌^◌, Bool, true, false, cond, List, [], length, Option, Some, None, arith}
 use Rattle.volume_spec.specs.ForkEffect.{fork_of}
 use Rattle.std.specs.Prelude.{option_map, unwrap_or}
 use Rattle.std.specs.List.{find}
 use Rattle.std.proofs.lemmas.Bool.{cond_both}
-use Rattle.std.proofs.lemmas.List.Sums.{sum_by-cons}
 use Rattle.volume_spec.proofs.Formed.{LimitParts, limit-parts}
 use Rattle.volume_spec.specs.Edits.{bare}
 use Rattle.afp_base.specs.Limits.{most_fork_bytes}
@@ -14,22 +13,11 @@ use Rattle.volume_spec.specs.Walk.{row_at}
 use Rattle.volume_tree_replies.specs.lemma.Told.{bytes_at, whole}
 use Rattle.volume_spec.specs.OpenFork.{file_of}
 use Rattle.volume_tree.specs.Shown.{fork_at}
+use Rattle.volume_spec.proofs.ForkEffects.{fork-within}
+use Rattle.volume_spec.proofs.ToldValues.{bytes-within}
 
 pub used-within : (v : VolumeState) → IsSoundVolume v → fork_bytes v.rows ≤ most_fork_bytes
 used-within v s = let limits : LimitParts v = limit-parts v s.limits in limits.bytes
-
--- the forks of one row are no more than all
-bytes-within : (p : Row → Bool) (rows : List Row) (row : Row) → find p rows ≡ Some row → row_bytes row ≤ fork_bytes rows
-bytes-within p [] row h = absurd (cc)
-bytes-within p (x ∷ xs) row h =
-    let sum : fork_bytes (x ∷ xs) ≡ row_bytes x + fork_bytes xs = sum_by-cons row_bytes x xs in
-    cond_both (p x) (Some x) (find p xs) (λ o. o ≡ Some row → row_bytes row ≤ fork_bytes (x ∷ xs))
-    (λ here h. let is : x ≡ row = cc in let same : row_bytes x ≡ row_bytes row = ap row_bytes is in omega arith)
-    (λ other h. let rest : row_bytes row ≤ fork_bytes xs = bytes-within p xs row h in omega arith) h
-
-one-fork : (resource : Bool) (row : Row) → length (fork_of resource row) ≤ row_bytes row
-one-fork true row = omega arith
-one-fork false row = omega arith
 
 pub fork-small : (v : VolumeState) (id : ℕ) (resource : Bool) (bytes : List ℕ) → IsSoundVolume v → Some bytes ≡ fork_at v.rows id resource → length bytes < 2 ^ 32
 unfolding fork_at row_at
@@ -39,7 +27,7 @@ fork-small v id resource bytes s is = by (find (λ (r : Row). r.id == id) v.rows
     small row found same =
         let all : fork_bytes v.rows ≤ most_fork_bytes = used-within v s in
         let these : row_bytes row ≤ fork_bytes v.rows = bytes-within (λ (r : Row). r.id == id) v.rows row found in
-        let one : length (fork_of resource row) ≤ row_bytes row = one-fork resource row in
+        let one : length (fork_of resource row) ≤ row_bytes row = fork-within resource row in
         let size : length bytes ≡ length (fork_of resource row) = ap length same in
         omega arith
 

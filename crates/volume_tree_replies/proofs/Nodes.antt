@@ -1,23 +1,17 @@
 -- A node that a volume has, as it is found.
-use Rattle.std.proofs.Common.{◌≡◌, ◌∙◌, ap, sym, ℕ, ◌==◌, true, false, cond, List, ◌++◌, Option, Some, None}
+use Rattle.std.proofs.Common.{◌≡◌, ◌∙◌, ap, sym, ℕ, ◌==◌, true, false, cond, List, ◌++◌, Option, Some}
 use Rattle.std.specs.Prelude.{option_map, Result, Ok, Err, OnOk}
 use Rattle.std.proofs.lemmas.Bool.{eqb-true}
 use Rattle.afp_bitmap.specs.Params.{params}
 use Rattle.afp_bitmap.specs.declared.params.Values.TheVariants.{File, Dir}
-use Rattle.volume_spec.proofs.TestedLists.{find-passes}
-use Rattle.volume_spec.proofs.Walks.{row-there}
 use Rattle.volume_spec.specs.Shared.{Opened}
 use Rattle.volume_spec.specs.Edits.{bare}
 use Rattle.volume_spec.specs.NodeValues.{bits_of, dir_values, file_values, node_values}
-use Rattle.volume_spec.specs.SoundVolume.{has_node}
 use Rattle.volume_spec.specs.VolumeState.{Row}
 use Rattle.volume_spec.specs.Walk.{row_at}
 use Rattle.volume_tree_replies.proofs.Limits.{whole-is}
 use Rattle.volume_tree_replies.specs.lemma.Told.{IsRowOf, whole}
-
--- where an id is a node's, it is found
-pub never-missing : (rows : List Row) (id : ℕ) → has_node rows id ≡ true → None ≡ option_map bare (row_at rows id) → ⊥
-never-missing rows id there none = let found = row-there rows id there in let same : option_map bare (row_at rows id) ≡ Some (bare found.0) = ap (λ (o : Option Row). option_map bare o) found.1 in cc
+use Rattle.afp_base.proofs.ListFacts.{find-passes}
 
 -- a node that is shown is its row without its forks
 pub row-of : (rows : List Row) (id : ℕ) (node row : Row) → Some node ≡ option_map bare (row_at rows id) → row_at rows id ≡ Some row → IsRowOf rows node row

@@ -2,7 +2,7 @@
 use Rattle.std.proofs.Common.{◌≡◌, ◌∙◌, ap, sym, refl, subst, ℕ, zero, suc, ◌-◌, ◌==◌, ◌≤◌, ◌<◌, arith, Bool, true, false, not, ◌&&◌, cond, List, [], ◌∷◌, length, drop, Option, Some, None}
 use Rattle.std.specs.List.{filter}
 use Rattle.std.proofs.lemmas.Bool.{and_parts, le-ltb, lt-ltb}
-use Rattle.std.proofs.lemmas.List.{length-drop}
+use Rattle.std.proofs.lemmas.List.{length-drop, drop_all}
 use Rattle.volume_spec.specs.Enumerate.{ListAsked, is_counted, counted_children}
 use Rattle.volume_spec.specs.Listing.{listed}
 use Rattle.volume_spec.specs.VolumeState.{Row}
@@ -20,17 +20,11 @@ module _ (rows : List Row) (asked : ListAsked) (dir skip left i : ℕ) (so_far :
   -- behind the last none is left
   pub passed-all : length (listed rows dir) ≤ i → IsBehind rows asked dir skip None
   passed-all behind =
-      let none : counted_from rows asked dir i ≡ [] = ap (λ l. filter (is_counted asked) l) (drop-past i (listed rows dir) behind) in
+      let none : counted_from rows asked dir i ≡ [] = ap (λ l. filter (is_counted asked) l) (drop_all i (listed rows dir) behind) in
       let gone : length (drop skip (counted_children rows asked dir)) ≡ 0 = ap length (so_far.1 ∙ ap (λ l. drop left l) none) ∙ no-drop left in
       let size : length (drop skip (counted_children rows asked dir)) ≡ length (counted_children rows asked dir) - skip = length-drop skip (counted_children rows asked dir) in
       omega arith
     where
-      drop-past : (n : ℕ) (l : List Row) → length l ≤ n → drop n l ≡ []
-      drop-past zero [] h = refl
-      drop-past zero (row ∷ l) h = absurd (omega arith)
-      drop-past (suc n) [] h = refl
-      drop-past (suc n) (row ∷ l) h = drop-past n l (omega arith)
-
       no-drop : (n : ℕ) → length (drop {A = Row} n []) ≡ 0
       no-drop zero = refl
       no-drop (suc n) = refl

@@ -4,4 +4,4 @@ use Rattle.afp_core.specs.ServerState.{ServerState}
 
 -- the world of a core, beside its keepers
 abbrev pub kept_of : ServerState → KeptWorld
-kept_of c = record { world = c.world; faults = c.faults; sure = c.sure }
+kept_of c = record { world = c.world; faults = c.faults; sure = c.sure; settled = c.settled }

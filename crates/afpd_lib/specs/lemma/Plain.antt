@@ -3,6 +3,7 @@ use Rattle.std.specs.Prelude.{◌≡◌, ◌⊎◌, ℕ, List, [], length, Optio
 use Rattle.hex.specs.Hex.{encode_lower}
 use Rattle.volume_keeper.specs.declared.loading.LoadFault.{LoadFault}
 use Rattle.volume_keeper.specs.declared.loading.LoadFault.TheVariants as load
+use Rattle.afp_core_state.specs.Holding.{AreHeld}
 use Rattle.afp_core.specs.ServerState.{ServerState}
 use Rattle.afp_core.specs.Sureness.{SureKept}
 use Rattle.afp_core.specs.Places.{upto}
@@ -11,7 +12,7 @@ use Rattle.afp_base.specs.Counts.{counted}
 use Rattle.afp_outside.specs.Gate.{Passed}
 use Rattle.afp_outside.specs.Link.{LinkState}
 use Rattle.afp_outside.specs.Listener.{DoorState}
-use Rattle.afp_serial.specs.History.{opened_in}
+use Rattle.afp_serial.specs.History.{opened_in, stand}
 use Rattle.afp_serial.specs.Household.{Household}
 use Rattle.afp_serial.specs.Shown.{Shown, IsSoundShown}
 use Rattle.afpd_lib.specs.Keeping.{Keeping}
@@ -26,25 +27,29 @@ use Rattle.afpd_lib.specs.Plain.{AreCounts, ServesHouse, FailsToLoad}
 abbrev pub shown_at : ServerState → Shown
 shown_at core = record { start = core.world; history = []; mine = []; faults = sum core.faults }
 
--- The links of a door were served by a core, which nobody had asked before, as it says.
-pub record ServesCore {L P : Type 0} (state : L → LinkState) (passed : P → Passed) (house : Household) (core : ServerState) (limit : ℕ) (old : DoorState L) (end : DoorEnd) (new : DoorState L) (shown : Shown) : Type 0 where
+-- The links of a door were served by a core, which nobody had asked before, as it says, and this is what came of it.
+pub record ServesCore {L P K : Type 0} (state : L → LinkState) (passed : P → Passed) (kept_by : Keeping K) (house : Household) (core : ServerState) (limit : ℕ) (old : DoorState L) (end : DoorEnd) (new : DoorState L) (shown : Shown) : Type 0 where
   pub serves : ServesUpTo state passed house limit old (shown_at core) end new shown
   pub sound : IsSoundShown shown
   pub own : shown.mine ≡ upto (length shown.history)
-  pub keeps : (done : ServerState) × SureKept core done × (shown.faults ≡ sum done.faults)
+  pub done : ServerState
+  pub keeps : SureKept core done
+  pub counted : shown.faults ≡ sum done.faults
+  pub stands : done.world ≡ stand shown.start shown.history
+  pub held : AreHeld kept_by.records kept_by.sure kept_by.faults done.world.volumes done.faults done.sure
 
 -- its counts went on by the history
 pub record CoreCounts (core : ServerState) (shown : Shown) (counts : Counts) : Type 0 where
   pub entries : counts.entries ≡ counted (length shown.history) core.entries
   pub sessions : counts.sessions ≡ counted (opened_in shown.start shown.history) core.opened
 
-abbrev pub EndsCore : {L P : Type 0} → (L → LinkState) → (P → Passed) → Household → ServerState → ℕ → DoorState L → DoorState L → PlainEnd → Type 0
-EndsCore state passed house core limit old new plain.Memory = (shown : Shown) × ServesCore state passed house core limit old doors.Memory new shown
-EndsCore state passed house core limit old new (plain.DoorFailed counts) = (shown : Shown) × ServesCore state passed house core limit old doors.Failed new shown × CoreCounts core shown counts
-EndsCore state passed house core limit old new (plain.Served counts) = (shown : Shown) × ServesCore state passed house core limit old doors.Done new shown × CoreCounts core shown counts
-EndsCore state passed house core limit old new plain.Refused = ⊥
-EndsCore state passed house core limit old new (plain.BadRecord index hex reason) = ⊥
-EndsCore state passed house core limit old new (plain.LoadFailed index) = ⊥
+abbrev pub EndsCore : {L P K : Type 0} → (L → LinkState) → (P → Passed) → Keeping K → Household → ServerState → ℕ → DoorState L → DoorState L → PlainEnd → Type 0
+EndsCore state passed kept_by house core limit old new plain.Memory = (shown : Shown) × ServesCore state passed kept_by house core limit old doors.Memory new shown
+EndsCore state passed kept_by house core limit old new (plain.DoorFailed counts) = (shown : Shown) × ServesCore state passed kept_by house core limit old doors.Failed new shown × CoreCounts core shown counts
+EndsCore state passed kept_by house core limit old new (plain.Served counts) = (shown : Shown) × ServesCore state passed kept_by house core limit old doors.Done new shown × CoreCounts core shown counts
+EndsCore state passed kept_by house core limit old new plain.Refused = ⊥
+EndsCore state passed kept_by house core limit old new (plain.BadRecord index hex reason) = ⊥
+EndsCore state passed kept_by house core limit old new (plain.LoadFailed index) = ⊥
 
 -- how a run ends, by why a load gave no volume
 abbrev pub EndsLoad : ℕ → LoadFault → PlainEnd → Type 0

@@ -1,7 +1,7 @@
 -- What the code and the proofs go by beside Checking; no public contract cites it.
 use Rattle.std.specs.Prelude.{◌≡◌, ℕ, ◌<◌, List, ◌++◌, length, option_map}
 use Rattle.afp_outside.specs.Sink.{SinkState}
-use Rattle.afp_outside.specs.Source.{SourceState}
+use Rattle.afp_outside.specs.Source.{SourceState, ReadWithin}
 use Rattle.dsi_frame.specs.Buffered.{Buffered, buffer_length}
 use Rattle.dsi_frame.specs.Deframe.{GivenOut}
 use Rattle.dsi_frame.specs.Frame.{Frame}
@@ -22,9 +22,10 @@ pub record Prints (start : SinkState) (bytes : List ℕ) (b : Buffered) (now : S
   pub printed : Reports start (frame_lines 0 frames) now
 
 -- A stream was read so far, and its frames were printed.
-pub record HasChecked (old : SourceState) (start : SinkState) (b : Buffered) (taken : ℕ) (new : SourceState) (now : SinkState) : Type 0 where
+pub record HasChecked (turns : ℕ) (old : SourceState) (start : SinkState) (b : Buffered) (taken : ℕ) (new : SourceState) (now : SinkState) : Type 0 where
   pub read : List ℕ
   pub given : new.given ≡ option_map (λ given. given ++ read) old.given
+  pub within : ReadWithin turns read old new
   pub ended : new.ended ≡ old.ended
   pub faults : new.faults ≡ old.faults
   pub many : taken ≡ length read
@@ -48,4 +49,4 @@ PrintsTo start bytes frames_ends.WriteFault b now = PrintsPart start bytes now
 
 abbrev pub ChecksTo : ℕ → SourceState → SourceState → SinkState → SinkState → CheckStop → Type 0
 ChecksTo turns old new start now (stops.Ended end) = Checks turns old new start now end
-ChecksTo turns old new start now stops.WriteFault = ChecksPart old new start now
+ChecksTo turns old new start now stops.WriteFault = ChecksPart turns old new start now

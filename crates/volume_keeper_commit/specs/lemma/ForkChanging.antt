@@ -10,5 +10,5 @@ use Rattle.volume_keeper_commit.specs.declared.change.ChangeFault.TheVariants.{R
 abbrev pub Commits : KeptState → VolumeState → Result (Unit {0}) ChangeFault → KeptState → Type 0
 Commits old after (Ok done) new = new ≡ record old { state = after }
 Commits old after (Err (Refused code)) new = ⊥
-Commits old after (Err Failed) new = FailsIn old new
+Commits old after (Err Failed) new = FailsIn old new × (new.settles ≡ old.settles)
 Commits old after (Err Memory) new = new ≡ old

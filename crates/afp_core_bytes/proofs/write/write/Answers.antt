@@ -3,8 +3,8 @@ use Rattle.afp_calls_grammar.specs.declared.call.Call.TheVariants.{Write}
 use Rattle.afp_serial.specs.ForkBytes.{writes}
 use Rattle.afp_core_bytes.specs.lemma.OnForkBytes.{IsOffset, end_reply, write_asked}
 use Rattle.afp_core_bytes.proofs.ForkBytesLemmas.{write-row}
-use Rattle.afp_core_bytes.proofs.ForkWriteLemmas.{negative-none}
 use Rattle.afp_core_bytes.proofs.write.write.Goals as goal
+use Rattle.afp_base.proofs.Facts.{is_negative-pos}
 
 pub returns : goal.returns
 returns g c = λ count.
@@ -13,4 +13,4 @@ returns g c = λ count.
     let small : a.offset <ℤ pos 2147483648 = search rules in
     c.write_piece.ensures (Write a.flag a.reference a.offset count a.piece.now) (pos count)
     (write-row a.flag a.reference a.offset count a.piece.now ∙ ap (λ (z : ℤ). writes a.reference.0 (write_asked a.flag z (pos count) a.piece.now) (end_reply false)) (sym offset))
-    refl (negative-none count) (subst (λ (z : ℤ). IsOffset false z) (sym offset) small)
+    refl (is_negative-pos count) (subst (λ (z : ℤ). IsOffset false z) (sym offset) small)

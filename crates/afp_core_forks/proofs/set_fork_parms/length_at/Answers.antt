@@ -1,7 +1,7 @@
 use Rattle.std.proofs.Common.{◌≡◌, ◌∙◌, ap, sym}
+use Rattle.std.proofs.lemmas.Option.{same_Some}
 use Rattle.volume_spec.specs.VolumeState.{VolumeState}
 use Rattle.volume_spec.specs.Walk.{row_at}
-use Rattle.afp_core_forks.proofs.OnForkLemmas.{one-of}
 use Rattle.afp_core_forks.proofs.set_fork_parms.length_at.Goals as goal
 
 pub fork_size-requires : goal.fork_size-requires
@@ -9,5 +9,5 @@ fork_size-requires g c = c.requires.file c.kept_at-volume.result.now.state c.kep
 
 pub returns : goal.returns
 returns g c = λ v file there found.
-    let same : v ≡ c.kept_at-volume.result.now.state = one-of v c.kept_at-volume.result.now.state (sym there ∙ c.kept_at-volume.ensures) in
+    let same : v ≡ c.kept_at-volume.result.now.state = same_Some v c.kept_at-volume.result.now.state (sym there ∙ c.kept_at-volume.ensures) in
     c.fork_size.ensures.size file (ap (λ (x : VolumeState). row_at x.rows c.args.node.0) (sym same) ∙ found)

@@ -22,7 +22,7 @@ returns-in-Bad g c = (λ values asks many. c.in-Err.ensures.bad (ap Err c.in-Bad
 
 pub returns-in-Ok-house_for : goal.returns-in-Ok-house_for
 returns-in-Ok-house_for g c =
-    let kept_by = keeping g.K.Keeper.records g.K.Keeper.sure g.K.Keeper.faults in
+    let kept_by = keeping g.K.Keeper.records g.K.Keeper.steady g.K.Keeper.sure g.K.Keeper.faults in
     let clock = g.C.Clock.moment_told c.args.clock.now in
     let old = g.N.Listener.door_state c.args.door.now in
     let new = g.N.Listener.door_state c.serve_house.new.door in

@@ -1,5 +1,5 @@
 use Rattle.std.specs.Prelude.{is_some}
-use Rattle.capture_log_server.proofs.RunningLemmas.{ok_with}
+use Rattle.std.proofs.lemmas.Result.{IfOk-weaker}
 use Rattle.capture_log.proofs.TakingLemmas.{runs-new, waits-there, set-up-there}
 use Rattle.capture_log.proofs.capture.running_from.Goals as goal
 
@@ -11,4 +11,4 @@ begin_running-requires-clause-set_up g c = set-up-there c.args.there c.args.setu
 
 pub returns-in-None : goal.returns-in-None
 returns-in-None g c =
-    ok_with c.begin_running.result _ _ (λ r fresh s is. runs-new c.args.there c.args.setup.now (is_some c.args.fresh) c.args.now r s c.in-None.is fresh is) c.begin_running.ensures
+    IfOk-weaker c.begin_running.result _ _ (λ r fresh s is. runs-new c.args.there c.args.setup.now (is_some c.args.fresh) c.args.now r s c.in-None.is fresh is) c.begin_running.ensures

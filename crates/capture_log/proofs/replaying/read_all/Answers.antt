@@ -6,12 +6,12 @@ use Rattle.capture_log.proofs.SoFar.{so_far-none, so_far-more, decided, finished
 use Rattle.capture_log.proofs.replaying.read_all.Goals as goal
 
 pub loop-taken-init : goal.loop-taken-init
-loop-taken-init g c = so_far-none (g.S.Source.source_state c.args.source.now) c.args.reader.now c.requires.new
+loop-taken-init g c = so_far-none c.args.turns (g.S.Source.source_state c.args.source.now) c.args.reader.now c.requires.new
 
 pub loop-taken-preserved : goal.loop-taken-preserved
 loop-taken-preserved g c =
     let x = c.loop-taken.invariant in
-    so_far-more _ _ _ _ _ _ c.in-Got.n c.read.new.room x c.in-Got.ensures
+    so_far-more c.args.turns _ _ _ _ _ _ c.in-Got.n c.read.new.room x c.in-Got.ensures c.loop-taken-test.true
     (subst (λ (v : Option ReplayEnd). Gathers (x.read ++ take c.in-Got.n c.read.new.room) v c.feed.new.self) c.in-Ok-None.field-0-is (c.in-Ok-None.ensures x.read x.holds))
 
 pub returns-in-Ok-Some : goal.returns-in-Ok-Some

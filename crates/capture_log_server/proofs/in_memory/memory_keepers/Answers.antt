@@ -1,6 +1,6 @@
-use Rattle.std.proofs.Common.{rules, ◌≡◌, ap, ◌∙◌, sym, subst, [], ◌∷◌, ◌++◌, List, ℕ, Bool}
+use Rattle.std.proofs.Common.{rules, ◌≡◌, ap, ◌∙◌, sym, subst, [], ◌∷◌, ◌++◌, List, Bool}
 use Rattle.std.specs.Prelude.{Some, Option}
-use Rattle.record_keeper.specs.Planned.{Planned, MemoryState, never_fails}
+use Rattle.record_keeper.specs.Planned.{MemoryState, never_fails}
 use Rattle.record_keeper.specs.Records.{Records}
 use Rattle.capture_log_server.specs.Keepers.{AreNew, IsNew}
 use Rattle.capture_log_server.proofs.FreshVolumes.{one-more}
@@ -11,14 +11,12 @@ loop-alloc-preserved c =
     let items : c.push.new.self.items ≡ c.loop-alloc.keepers.items ++ c.new-in-loop-alloc.result ∷ [] = search rules in
     let records : MemoryState → Option Records = λ k. Some k.records in
     let sure : MemoryState → Bool = λ k. never_fails k.planned in
-    let faults : MemoryState → ℕ = λ k. k.planned.faults in
     let one : MemoryState = c.new-in-loop-alloc.result in
-    let is : IsNew (records one) (sure one) (faults one) = record {
+    let is : IsNew (records one) (sure one) = record {
       empty = ap Some c.new-in-loop-alloc.ensures.empty;
       never_fails = ap never_fails c.new-in-loop-alloc.ensures.planned ∙ search rules;
-      faultless = ap (λ (p : Planned). p.faults) c.new-in-loop-alloc.ensures.planned;
     } in
     record {
       most = search rules;
-      new = subst (λ (l : List MemoryState). AreNew records sure faults l) (sym items) (one-more records sure faults c.loop-alloc.keepers.items one c.loop-alloc.invariant.new is);
+      new = subst (λ (l : List MemoryState). AreNew records sure l) (sym items) (one-more records sure c.loop-alloc.keepers.items one c.loop-alloc.invariant.new is);
     }

@@ -7,7 +7,7 @@ use Rattle.capture_log_server.proofs.in_memory.memory_keepers.Given as goal
 abbrev pub invariant-loop-alloc : goal.invariant-loop-alloc
 invariant-loop-alloc l = record {
   most : length l.keepers.items ≤ 8;
-  new : AreNew (λ (k : MemoryState). Some k.records) (λ (k : MemoryState). never_fails k.planned) (λ (k : MemoryState). k.planned.faults) l.keepers.items;
+  new : AreNew (λ (k : MemoryState). Some k.records) (λ (k : MemoryState). never_fails k.planned) l.keepers.items;
 }
 
 abbrev pub decreases-loop-alloc : goal.decreases-loop-alloc

@@ -1,6 +1,6 @@
 use Rattle.std.proofs.Common.{refl}
 use Rattle.std.proofs.lemmas.Option.{slice_get-get_or}
-use Rattle.capture_log_server.proofs.RunningLemmas.{ok_with}
+use Rattle.std.proofs.lemmas.Result.{IfOk-weaker}
 use Rattle.capture_log_server.proofs.slots.feed_at.Goals as goal
 
 pub feed-requires-clause-is : goal.feed-requires-clause-is
@@ -15,6 +15,6 @@ feed-requires-clause-there g c = (c.requires.fit _ (slice_get-get_or c.args.slot
 
 pub returns-clause-feeds : goal.returns-clause-feeds
 returns-clause-feeds g c =
-    ok_with c.feed.result _ _
+    IfOk-weaker c.feed.result _ _
     (λ tally h. record { old = _; then_is = c.feed.new.self; there = slice_get-get_or c.args.slots.now c.args.index c.index-slots-index.result c.requires.within; set = refl; feeds = h })
     c.feed.ensures.fed

@@ -1,7 +1,7 @@
 use Rattle.std.proofs.Common.{sym, length}
+use Rattle.std.proofs.lemmas.Bool.{eqb-false}
 use Rattle.volume_keeper_records.proofs.shape.ends_well.Goals as goal
-use Rattle.volume_keeper_records.proofs.TestParts.{other_of}
 use Rattle.volume_keeper_records.proofs.ShapeCode.{ends}
 
 pub returns-else-is_empty : goal.returns-else-is_empty
-returns-else-is_empty c = ends c.args.bytes.now (λ none. other_of (length c.args.bytes.now) 0 (sym c.if-is_empty.ensures) none)
+returns-else-is_empty c = ends c.args.bytes.now (λ none. eqb-false (length c.args.bytes.now) 0 (sym c.if-is_empty.ensures) none)

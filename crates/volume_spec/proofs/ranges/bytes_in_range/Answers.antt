@@ -1,9 +1,9 @@
 use Rattle.std.proofs.Common.{◌≡◌, true, get_or, arith}
 use Rattle.std.proofs.lemmas.Bool.{lt-ltb}
 use Rattle.std.proofs.lemmas.List.Elements.{All-from_get_or}
-use Rattle.volume_spec.proofs.TestedLists.{all-each}
 use Rattle.volume_spec.specs.TypedVolume.{is_byte}
 use Rattle.volume_spec.proofs.ranges.bytes_in_range.Goals as goal
+use Rattle.afp_base.proofs.ListFacts.{all-each}
 
 pub returns : goal.returns
 returns c =

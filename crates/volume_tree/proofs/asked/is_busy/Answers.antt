@@ -1,8 +1,8 @@
 use Rattle.std.proofs.Common.{◌∙◌, ◌==◌, Bool, sym}
 use Rattle.afp_base.specs.declared.ids.NodeId.{NodeId}
-use Rattle.volume_spec.proofs.TestedLists.{any-map}
 use Rattle.volume_spec.specs.Shared.{Opened, is_busy}
 use Rattle.volume_tree.proofs.asked.is_busy.Goals as goal
+use Rattle.afp_base.proofs.ListFacts.{any-map}
 
 pub returns : goal.returns
 unfolding is_busy

@@ -1,10 +1,10 @@
 use Rattle.std.proofs.Common.{◌==◌, ◌&&◌, ◌∙◌, Bool, not, sym}
 use Rattle.std.specs.Prelude.{if◌then◌else◌}
 use Rattle.afp_base.specs.declared.ids.NodeId.{NodeId}
-use Rattle.volume_spec.proofs.TestedLists.{any-map}
 use Rattle.volume_spec.specs.Shared.{Opened}
 use Rattle.volume_spec.specs.NodeValues.{has_open_fork}
 use Rattle.volume_tree_replies.proofs.file.is_open.Goals as goal
+use Rattle.afp_base.proofs.ListFacts.{any-map}
 
 pub returns : goal.returns
 unfolding has_open_fork

@@ -1,7 +1,8 @@
 use Rattle.std.proofs.Common.{◌∙◌, ap, sym}
 use Rattle.std.specs.Option.{option_copied}
-use Rattle.volume_tree_replies.proofs.Nodes.{never-missing, row-of}
+use Rattle.volume_tree_replies.proofs.Nodes.{row-of}
 use Rattle.volume_tree_replies.proofs.node.node_at.Goals as goal
+use Rattle.volume_tree.proofs.Placing.{never-missing}
 
 pub unreachable-requires : goal.unreachable-requires
 unreachable-requires c = never-missing c.args.volume.now.state.rows c.args.id.0 c.requires (ap option_copied (sym c.in-None.is) ∙ c.node.ensures)

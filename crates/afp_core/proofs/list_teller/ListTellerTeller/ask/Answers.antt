@@ -9,8 +9,9 @@ use Rattle.afp_serial.proofs.Grows.{asked-adds}
 use Rattle.afp_serial.proofs.StaysSound.{answer-fits, answer-kind, stand-sound, stood-sound}
 use Rattle.afp_core.specs.Counted.{IsCounted}
 use Rattle.afp_core.specs.Places.{upto}
+use Rattle.afp_core.specs.Sureness.{MeetsNoFaults}
 use Rattle.afp_core.specs.lemma.Places.{upto-longer}
-use Rattle.afp_core.proofs.TurnLemmas.{answer-told, turn-counted, turn-faults, turn-lawful, turn-stands, turn-tells, turn-kept}
+use Rattle.afp_core.proofs.TurnLemmas.{answer-told, turn-counted, turn-faultless, turn-faults, turn-lawful, turn-stands, turn-tells, turn-kept}
 use Rattle.afp_core.proofs.list_teller.ListTellerTeller.ask.Goals as goal
 
 pub invariant_of-self-in-Ok-step : goal.invariant_of-self-in-Ok-step
@@ -29,6 +30,7 @@ invariant_of-self-in-Ok-step g c =
       stands = turn-stands begin.world h c.args.self.now.core c.step.new.self e c.in-Ok-step.told stands c.in-Ok-step.ensures ∙ ap (stand begin.world) (sym items);
       counted = subst (λ (l : List Entry). IsCounted begin l c.step.new.self) (sym items)
           (turn-counted begin c.args.self.now.core c.step.new.self h e c.in-Ok-step.told stands c.in-Ok-step.ensures c.args.self.now.counted);
+      faultless = subst (λ (l : List Entry). MeetsNoFaults begin l) (sym items) (turn-faultless begin c.args.self.now.core c.step.new.self h e c.in-Ok-step.told c.in-Ok-step.ensures c.args.self.now.keepers c.args.self.now.faultless);
       keepers = turn-kept begin c.args.self.now.core c.step.new.self e c.in-Ok-step.told c.in-Ok-step.ensures c.args.self.now.keepers;
     }
 

@@ -7,6 +7,7 @@ use Rattle.afp_serial.specs.Sound.{IsSound}
 use Rattle.afp_core_keepers.specs.Loads.{LoadEach}
 use Rattle.afp_core_state.specs.KeptWorld.{KeptWorld, volumes_of}
 use Rattle.afp_core_keepers.proofs.LoadLemmas.{loaded-serve}
+use Rattle.record_keeper.specs.Records.{steadily}
 use Rattle.afp_core.proofs.turn.Core.new.Goals as goal
 
 pub invariant_of-result : goal.invariant_of-result
@@ -15,7 +16,7 @@ invariant_of-result g c =
     let none : house_fault house ≡ None = ap house_fault c.in-Ok.ensures.value ∙ c.in-Ok.ensures.faultless in
     let typed : is_typed_house house ≡ true = ap is_typed_house c.in-Ok.ensures.value ∙ c.in-Ok.ensures.typed in
     let names = ap (λ (h : Household). h.volumes) (sym c.in-Ok.ensures.value) in
-    let loads = subst (λ (l : List (List ℕ)). LoadEach g.K.Keeper.records g.K.Keeper.sure g.K.Keeper.faults c.args.now l c.args.keepers.items c.in_ok-kept.kept.items) names c.in_ok-kept.ensures.loaded in
+    let loads = subst (λ (l : List (List ℕ)). LoadEach (steadily g.K.Keeper.steady g.K.Keeper.records) g.K.Keeper.sure g.K.Keeper.faults c.args.now l c.args.keepers.items c.in_ok-kept.kept.items) names c.in_ok-kept.ensures.loaded in
     subst (λ (k : KeptWorld). IsSound k.world) (sym c.new.ensures)
     (start-sound house c.args.now (volumes_of c.in_ok-kept.kept.items) none typed c.moment_in_range.ensures
-    (loaded-serve g.K.Keeper.records g.K.Keeper.sure g.K.Keeper.faults c.args.now house c.args.keepers.items c.in_ok-kept.kept.items loads))
+    (loaded-serve (steadily g.K.Keeper.steady g.K.Keeper.records) g.K.Keeper.sure g.K.Keeper.faults c.args.now house c.args.keepers.items c.in_ok-kept.kept.items loads))

@@ -1,6 +1,6 @@
 use Rattle.std.proofs.Common.{sym, ap, ◌∙◌, refl}
 use Rattle.std.specs.Prelude.{is_some}
-use Rattle.capture_log_server.proofs.RunningLemmas.{ok_with}
+use Rattle.std.proofs.lemmas.Result.{IfOk-weaker}
 use Rattle.capture_log.specs.lemma.Taking.{HeldCapture}
 use Rattle.capture_log.proofs.TakingLemmas.{event_taken, served}
 use Rattle.capture_log.proofs.capture.Capture.take_event.Goals as goal
@@ -18,7 +18,7 @@ act-verdict-requires-clause-is g c =
 
 pub returns : goal.returns
 returns g c =
-    ok_with c.act-verdict.result _ _
+    IfOk-weaker c.act-verdict.result _ _
     (λ verdict acts s is.
     let there = served c.args.self.now _ s (is_some c.take-fresh.result) c.take-there.result is c.self.view_is c.take-there.ensures.value (ap is_some c.take-fresh.ensures.value) in
     event_taken c.args.self.now _ s c.running_from.new.setup _ c.args.number c.self.inside.number c.args.link c.args.now c.args.what.now c.act-verdict.new.running c.self.inside.part verdict is c.requires.may

@@ -1,10 +1,10 @@
 use Rattle.std.proofs.Common.{◌≡◌, ℕ, List, [], ◌∷◌, ◌++◌, false, sym, ap, ◌∙◌, subst, append_assoc}
 use Rattle.std.specs.Prelude.{Option}
+use Rattle.std.proofs.lemmas.Result.{IfOk-weaker}
 use Rattle.capture_log.specs.lemma.Gathering.{Holds, Gathers, EndsLine}
 use Rattle.capture_log.specs.Judged.{JudgedAt}
 use Rattle.capture_log.specs.Reading.{lines_in}
 use Rattle.capture_log.specs.declared.replay_end.ReplayEnd.{ReplayEnd}
-use Rattle.capture_log_server.proofs.RunningLemmas.{ok_with}
 use Rattle.capture_log.proofs.reader.Reader.feed.Goals as goal
 
 pub end_line-requires-clause-is : goal.end_line-requires-clause-is
@@ -34,7 +34,7 @@ loop-line-preserved g c = λ read h.
 
 pub returns : goal.returns
 returns g c =
-    ok_with c.hold.result _ _
+    IfOk-weaker c.hold.result _ _
     (λ verdict f read h.
     let i = c.loop-line.invariant read h in
     subst (λ (l : List ℕ). Gathers l verdict c.hold.new.self) (append_assoc read i.0 c.loop-line.left.now ∙ ap (λ (l : List ℕ). read ++ l) (sym i.1)) (f (read ++ i.0) i.2))

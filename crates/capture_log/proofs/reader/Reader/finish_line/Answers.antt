@@ -1,10 +1,10 @@
 use Rattle.std.proofs.Common.{ℕ, ◌+◌, List, sym, ap, ◌∙◌, subst}
 use Rattle.std.specs.Prelude.{Option, Some, None}
+use Rattle.std.proofs.lemmas.Result.{IfOk-weaker}
 use Rattle.capture_log.specs.lemma.Gathering.{ReaderState}
 use Rattle.capture_log.specs.lemma.Taking.{IsCapture, TakesRawLine}
 use Rattle.capture_log.specs.declared.replay_end.ReplayEnd.{ReplayEnd}
 use Rattle.capture_log.proofs.GatheringLemmas.{some-held, ended-last, ended-line}
-use Rattle.capture_log_server.proofs.RunningLemmas.{ok_with}
 use Rattle.capture_log.proofs.reader.Reader.finish_line.Goals as goal
 
 pub returns-in-Some : goal.returns-in-Some
@@ -18,7 +18,7 @@ returns-in-Some g c = λ read h.
 
 pub returns : goal.returns
 returns g c =
-    ok_with c.end.result _ _
+    IfOk-weaker c.end.result _ _
     (λ verdict f read h.
     let held = c.as_slice.ensures ∙ ap (λ (x : ReaderState). x.held) c.self.view_is in
     let takes = c.in_ok-end.ensures h.standing (subst (λ (x : ReaderState). IsCapture x.capture h.standing) (sym c.self.view_is) h.is) in

@@ -1,9 +1,10 @@
 use Rattle.std.proofs.Common.{List, sym, subst}
 use Rattle.capture_log_server.specs.Keepers.{AreNew}
 use Rattle.capture_log_server.proofs.FreshVolumes.{some-new}
+use Rattle.record_keeper.specs.Records.{steadily}
 use Rattle.capture_log_server.proofs.new_keepers.NewKeepers.first.Goals as goal
 
 pub returns-clause-new : goal.returns-clause-new
 returns-clause-new g c =
-    subst (λ (l : List _). AreNew g.K.Keeper.records g.K.Keeper.sure g.K.Keeper.faults l) (sym c.truncate.ensures.items)
-    (some-new g.K.Keeper.records g.K.Keeper.sure g.K.Keeper.faults c.args.count c.self.inside.keepers.items c.self.invariant.new)
+    subst (λ (l : List _). AreNew (steadily g.K.Keeper.steady g.K.Keeper.records) g.K.Keeper.sure l) (sym c.truncate.ensures.items)
+    (some-new (steadily g.K.Keeper.steady g.K.Keeper.records) g.K.Keeper.sure c.args.count c.self.inside.keepers.items c.self.invariant.new)

@@ -1,15 +1,16 @@
 use Rattle.std.proofs.Common.{List, length, arith, ap, ◌∙◌, subst}
+use Rattle.std.proofs.lemmas.Result.{IfOk-weaker}
 use Rattle.afp_core.specs.Telling.{shown_of}
 use Rattle.capture_log_server.specs.States.{ConnectionState, RunningState}
 use Rattle.capture_log_server.specs.lemma.Slots.{ComparesAt}
-use Rattle.capture_log_server.proofs.RunningLemmas.{lent_back, ok_with, compare-there}
+use Rattle.capture_log_server.proofs.RunningLemmas.{lent_back, compare-there}
 use Rattle.capture_log_server.proofs.running.Running.compare.Goals as goal
 
 pub returns : goal.returns
 returns g c =
     let slots = c.compare_at.new.slots in
     let back = lent_back c.self.inside.connections.len slots c.self.inside.connections.items (omega (arith, c.compare_at.auto.slots, ap length c.as_mut_slice.ensures.value)) (omega (arith, c.as_mut_slice.ensures.len, ap length c.as_mut_slice.ensures.value)) in
-    ok_with c.compare_at.result _ _
+    IfOk-weaker c.compare_at.result _ _
     (λ found at s first now is started.
     compare-there c.args.self.now _ s first now c.args.index c.args.wanted.now found slots is started
     (subst (λ (x : RunningState). ComparesAt c.args.wanted.now x.connections c.args.index found slots) c.self.view_is

@@ -1,10 +1,10 @@
 use Rattle.std.proofs.Common.{ap, ◌∙◌, sym, subst, refl}
 use Rattle.afp_core.specs.ServerState.{ServerState}
-use Rattle.capture_log_server.specs.lemma.Tellers.{NeverFails}
+use Rattle.afp_core.specs.Sureness.{AreSure}
 use Rattle.capture_log_server.proofs.running.Running.new.Goals as goal
 
 pub invariant_of-result : goal.invariant_of-result
-invariant_of-result g c = subst (λ (s : ServerState). NeverFails s) (sym c.new.ensures.start) c.in_ok-core.ensures.sure
+invariant_of-result g c = subst (λ (s : ServerState). AreSure s) (sym c.new.ensures.start) c.in_ok-core.ensures.sure
 
 pub returns : goal.returns
 returns g c = record {

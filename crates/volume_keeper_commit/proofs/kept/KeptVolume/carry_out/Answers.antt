@@ -20,5 +20,5 @@ returns-in-Ok-commit g c = λ change.
     let held = c.self.inside.held.state in
     let is : held ≡ c.args.self.now.state = λ i. (c.self.view_is i).state in
     let own : IsForkChange held c.args.id.0 c.args.resource c.args.plan = same_change held c.args.self.now.state is c.args.id.0 c.args.resource c.args.plan change in
-    (λ i. record { state = c.apply_fork.ensures own i; faults = c.in-Ok-commit.ensures.cause.answered i; sure = c.in-Ok-commit.ensures.sure i })
-    ∙ (λ i. record { state = fork_effect c.args.now c.args.id.0 c.args.resource change.after c.args.plan.writes (c.self.view_is i).state; faults = (c.self.view_is i).faults; sure = (c.self.view_is i).sure })
+    (λ i. record { state = c.apply_fork.ensures own i; faults = c.in-Ok-commit.ensures.cause.answered i; sure = c.in-Ok-commit.ensures.sure i; settles = c.in-Ok-commit.ensures.settles i })
+    ∙ (λ i. record { state = fork_effect c.args.now c.args.id.0 c.args.resource change.after c.args.plan.writes (c.self.view_is i).state; faults = (c.self.view_is i).faults; sure = (c.self.view_is i).sure; settles = (c.self.view_is i).settles })

@@ -1,4 +1,4 @@
-use Rattle.volume_keeper_commit.proofs.Loads.{fresh_where_empty, loaded_from}
+use Rattle.volume_keeper_commit.proofs.Loads.{fresh_where_steady, loaded_steady}
 use Rattle.volume_keeper_commit.proofs.kept.KeptVolume.load.Goals as goal
 
 pub returns-in-Ok-clause-loaded : goal.returns-in-Ok-clause-loaded
@@ -6,10 +6,10 @@ returns-in-Ok-clause-loaded g c = record {
   name_is = c.in-Ok.ensures.named;
   sound = c.keeps_sound.ensures.sound;
   typed = c.keeps_sound.ensures.typed;
-  fresh = fresh_where_empty c.args.name.now c.args.now c.in-Ok.held (g.K.Keeper.records c.args.keeper) (g.K.Keeper.records c.load.new.keeper) c.in-Ok.ensures.records (c.in-Ok.ensures.told c.in-Ok.ensures.cause.answered);
+  fresh = fresh_where_steady (g.K.Keeper.steady c.args.keeper) c.args.name.now c.args.now c.in-Ok.held (g.K.Keeper.records c.args.keeper) (g.K.Keeper.records c.load.new.keeper) c.in-Ok.ensures.records (λ s. c.in-Ok.ensures.told s c.in-Ok.ensures.cause.answered);
   sure_is = c.in-Ok.ensures.sure;
   faults_are = c.in-Ok.ensures.cause.answered;
 }
 
 pub returns-in-Ok-clause-from : goal.returns-in-Ok-clause-from
-returns-in-Ok-clause-from g c = loaded_from c.args.name.now c.args.now c.in-Ok.held (g.K.Keeper.records c.args.keeper) (g.K.Keeper.records c.load.new.keeper) c.in-Ok.ensures.records (c.in-Ok.ensures.told c.in-Ok.ensures.cause.answered)
+returns-in-Ok-clause-from g c = loaded_steady (g.K.Keeper.steady c.args.keeper) c.args.name.now c.args.now c.in-Ok.held (g.K.Keeper.records c.args.keeper) (g.K.Keeper.records c.load.new.keeper) c.in-Ok.ensures.records (λ s. c.in-Ok.ensures.told s c.in-Ok.ensures.cause.answered)

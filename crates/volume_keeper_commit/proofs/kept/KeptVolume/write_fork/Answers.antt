@@ -1,12 +1,11 @@
 use Rattle.std.proofs.Common.{◌≡◌, ◌<◌, ◌≤◌, ◌∙◌, ℕ, false, List, length, ap, sym, subst, nat_lt, Some}
-use Rattle.std.proofs.lemmas.Bool.{lt-ltb}
+use Rattle.std.proofs.lemmas.Bool.{lt-ltb, eqb-true}
 use Rattle.afp_base.specs.ForkBytes.{splice}
 use Rattle.volume_spec.specs.ForkEffect.{fork_of, would_pass}
 use Rattle.afp_base.specs.Limits.{most_fork_bytes}
 use Rattle.volume_spec.specs.SoundVolume.{IsSoundVolume}
 use Rattle.volume_spec.specs.VolumeState.{Row, VolumeState}
 use Rattle.volume_spec.specs.Walk.{row_at}
-use Rattle.volume_keeper.proofs.PlanSteps.{same_number}
 use Rattle.volume_keeper_commit.specs.ForkChanging.{GivesBytes}
 use Rattle.volume_keeper_commit.proofs.GivenForks.{committed_given, file_few, is_written, new_few, no_bytes, no_piece, nothing_given, own_change, piece_passes, piece_within, some_bytes}
 use Rattle.volume_keeper_commit.proofs.kept.KeptVolume.write_fork.Goals as goal
@@ -14,7 +13,7 @@ use Rattle.volume_keeper_commit.proofs.kept.KeptVolume.write_fork.Goals as goal
 pub returns-then-is_empty : goal.returns-then-is_empty
 returns-then-is_empty g c = λ file found.
     let sound : IsSoundVolume c.args.self.now.state = subst IsSoundVolume (λ i. (c.self.view_is i).state) c.keeps_sound.ensures.sound in
-    let none : length c.args.piece.now ≡ 0 = same_number (length c.args.piece.now) 0 (sym c.is_empty.ensures ∙ c.if-is_empty.true) in
+    let none : length c.args.piece.now ≡ 0 = eqb-true (length c.args.piece.now) 0 (sym c.is_empty.ensures ∙ c.if-is_empty.true) in
     nothing_given c.args.self.now sound c.args.now c.args.id.0 c.args.resource (nat_lt 0 (length c.args.piece.now)) (fork_of c.args.resource file) (splice (fork_of c.args.resource file) c.args.start c.args.piece.now)
     (no_bytes (length c.args.piece.now) none) (no_piece (fork_of c.args.resource file) c.args.piece.now c.args.start none)
 

@@ -1,7 +1,0 @@
-//! Tests of keepers with ample memory: what no clause says, since want of memory may come at any time.
-#![tactic(auto)]
-
-#[cfg(test)]
-mod keepers;
-#[cfg(test)]
-mod reading;
