@@ -1,0 +1,69 @@
+//! As whom a client logs in.
+ghost use Rattle.std.specs.Prelude.{◌≡◌, ◌≤◌, length, IfOk};
+ghost use Rattle.afp_base.specs.Limits.{payload_limit};
+ghost use Rattle.afp_calls_grammar.specs.Call.{canonical_call};
+ghost use Rattle.afp_calls_grammar.specs.declared.call.Call.{Call};
+ghost use Rattle.afp_client.specs.Opening.{version_3_3, no_user, cleartext, login_call, login_tail, FitsLogin};
+
+use afp_base::{Bytes, OutOfMemory};
+use afp_calls_grammar::Call;
+use std::alloc::Global;
+
+/// AFP 3.3, by its name.
+const VERSION_3_3: &str = "AFP3.3";
+
+/// The user authentication method (UAM) without a user, by its name.
+const NO_USER: &str = "No User Authent";
+
+/// The UAM by name and password, by its name.
+const CLEARTEXT: &str = "Cleartxt Passwrd";
+
+/// A user's name and password; without a user a client logs in as a guest.
+#[derive(Debug, Drop)]
+pub struct Login {
+    pub user: Option<(Bytes, [u8; 8])>,
+}
+
+// The tail of a login by name and password: the name with its count, a pad where it is needed for an even place, and
+// the password.
+fn tail_of(alloc: Global, name: &[u8], password: &[u8]) -> Result<Bytes, OutOfMemory>
+    requires name { length name.now ≤ 255 }
+    requires password { length password.now ≡ 8 }
+    ensures tail { IfOk result (λ tail. tail ≡ login_tail name.now password.now) }
+    ensures password { length password.now ≡ 8 }
+{
+    let mut tail = Bytes::new(alloc);
+    tail.push_u8(name.len() as u8)?;
+    tail.extend(name)?;
+    if name.len() % 2 == 1 {
+        tail.push_u8(0)?;
+    }
+    tail.extend(password)?;
+    Ok(tail)
+}
+
+impl Login {
+    /// The FPLogin request.
+    pub(crate) fn call(&self, alloc: Global) -> Result<Call, OutOfMemory>
+        requires { FitsLogin self.now }
+        ensures call { IfOk result (λ call. call ≡ login_call self.now) }
+        ensures fits { IfOk result (λ call. length (canonical_call call) ≤ payload_limit) }
+    {
+        let version = Bytes::of(alloc, VERSION_3_3.as_bytes())?;
+        match &self.user {
+            None => Ok(Call::Login {
+                version,
+                uam: Bytes::of(alloc, NO_USER.as_bytes())?,
+                tail: Bytes::new(alloc),
+            }),
+            Some(user) => {
+                let password = user.1;
+                Ok(Call::Login {
+                    version,
+                    uam: Bytes::of(alloc, CLEARTEXT.as_bytes())?,
+                    tail: tail_of(alloc, user.0.as_slice(), password.as_slice())?,
+                })
+            }
+        }
+    }
+}
