@@ -1,11 +1,11 @@
 -- How long the requests of an opening are.
-use Rattle.std.proofs.Common.{◌≡◌, ℕ, ◌+◌, ◌%◌, ◌≤◌, List, [], ◌∷◌, ◌++◌, length, Option, Some, None, refl, ap, ◌∙◌, arith, length-append, lit≤}
+use Rattle.std.proofs.Common.{◌≡◌, ℕ, ◌+◌, ◌%◌, ◌≤◌, List, [], ◌∷◌, ◌++◌, length, None, arith, length-append, lit≤}
 use Rattle.std.specs.Prelude.{replicate}
-use Rattle.std.proofs.lemmas.List.{append-nil, length-replicate}
+use Rattle.std.proofs.lemmas.List.{length-replicate}
 use Rattle.std.specs.Int.{byte_at}
 use Rattle.afp_base.specs.Limits.{payload_limit}
 use Rattle.afp_calls_grammar.specs.Call.{canonical_call}
-use Rattle.afp_calls_grammar.specs.declared.call.Call.TheVariants.{Login as LoginCall, GetSessionToken, DisconnectOldSession}
+use Rattle.afp_calls_grammar.specs.declared.call.Call.TheVariants.{Login as LoginCall, DisconnectOldSession}
 use Rattle.afp_client.specs.Opening.{session_call, login_tail}
 use Rattle.afp_client.specs.Takes.{most_token}
 

@@ -1,7 +1,7 @@
 -- The frame of a call.
 use Rattle.std.proofs.lemmas.List.{append-nil}
-use Rattle.std.proofs.Common.{◌≡◌, ℕ, Bool, true, false, List, ◌++◌, length, is_some, refl, ap, sym, ◌∙◌}
-use Rattle.dsi_frame.specs.Frame.{Frame, frame_of}
+use Rattle.std.proofs.Common.{◌≡◌, ℕ, Bool, true, false, List, ◌++◌, length, is_some, refl, ap}
+use Rattle.dsi_frame.specs.Frame.{frame_of}
 use Rattle.dsi_frame.specs.declared.frame.Header.{Header}
 use Rattle.afp_calls_grammar.specs.Call.{canonical_call, canonical_data, canonical_piece, layout_of}
 use Rattle.afp_calls_grammar.specs.Words.{Enclosed, Nothing, Piece, canonical_enclosed, enclosed_bytes}

@@ -1,5 +1,5 @@
 -- The requests by which a client opens a link (AFP over TCP; AFP Reference, "Login Commands"; their order is this profile's).
-use Rattle.std.specs.Prelude.{◌≡◌, ℕ, ◌+◌, ◌%◌, ◌≤◌, Bool, true, false, List, [], ◌∷◌, ◌++◌, length, replicate, codes, Option, Some, None}
+use Rattle.std.specs.Prelude.{ℕ, ◌%◌, ◌≤◌, false, List, [], ◌++◌, length, replicate, codes, Option, Some, None}
 use Rattle.byteorder.specs.Endian.{big_bytes}
 use Rattle.dsi_frame.specs.Frame.{Frame}
 use Rattle.dsi_frame.specs.declared.frame.DsiCommand.TheVariants as commands
@@ -34,10 +34,14 @@ login_of (Some user) = LoginCall version_3_3 cleartext (login_tail user.0 user.1
 abbrev pub login_call : Login → Call
 login_call login = login_of login.user
 
--- a name that its count can tell, and a password of 8 bytes
+-- the most bytes that a count of 1 byte tells
+abbrev pub most_user_name : ℕ
+most_user_name = 255
+
+-- the user's name fits its count
 abbrev pub FitsUser : Option (List ℕ × List ℕ) → Type 0
 FitsUser None = Unit {0}
-FitsUser (Some user) = (length user.0 ≤ 255) × (length user.1 ≡ 8)
+FitsUser (Some user) = length user.0 ≤ most_user_name
 
 abbrev pub FitsLogin : Login → Type 0
 FitsLogin login = FitsUser login.user

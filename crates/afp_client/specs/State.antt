@@ -1,9 +1,9 @@
 -- The state of a client (this profile).
-use Rattle.std.specs.Prelude.{◌≡◌, ℕ, ◌==◌, ◌+◌, ◌≤◌, Bool, true, false, List, [], ◌++◌, length, Option, Some, None, is_some, option_map}
+use Rattle.std.specs.Prelude.{◌≡◌, ℕ, Bool, true, false, List, ◌++◌, length, Option, Some, None}
 use Rattle.dsi_frame.specs.Buffered.{Buffered}
 use Rattle.dsi_frame.specs.Frame.{Frame}
 use Rattle.dsi_frame.specs.declared.frame.DsiCommand.TheVariants as commands
-use Rattle.afp_calls_grammar.specs.Call.{canonical_call, canonical_data, canonical_piece}
+use Rattle.afp_calls_grammar.specs.Call.{canonical_call, canonical_data}
 use Rattle.afp_calls_grammar.specs.declared.call.Call.{Call}
 use Rattle.afp_calls_grammar.specs.declared.call.Call.TheVariants.{Login as LoginCall, LoginExt, GetSessionToken, DisconnectOldSession}
 use Rattle.afp_client.specs.Opening.{command_frame}

@@ -1,5 +1,5 @@
 //! A client, over the bytes of its links.
-ghost use Rattle.std.specs.Prelude.{◌≡◌, ◌+◌, ◌-◌, ◌<◌, ◌≤◌, ◌^◌, ◌↔◌, ◌++◌, [], Some, None, length, take, min, IfOk, OnOk, OnErr, IsTrue, true, false};
+ghost use Rattle.std.specs.Prelude.{◌≡◌, ◌≢◌, ◌+◌, ◌-◌, ◌<◌, ◌≤◌, ◌^◌, ◌↔◌, ◌++◌, [], Some, None, length, take, min, IfOk, OnOk, OnErr, IsTrue, false};
 ghost use Rattle.afp_base.specs.Limits.{payload_limit};
 ghost use Rattle.dsi_frame.specs.Buffered.{buffer_length};
 ghost use Rattle.dsi_frame.specs.Frame.{Frame, canonical_frame, header_of};
@@ -121,7 +121,8 @@ impl ClientCore {
 
     /// What the next frame does, and what it writes.
     pub fn event(&mut self, out: &mut Bytes) -> Event
-        ensures { Happens self.old out.old result self.new out.new }
+        ensures happens { Happens self.old out.old result self.new out.new }
+        ensures room { result ≡ Event.NotYet → is_lost self.new.state.stage ≡ false → length self.new.held.rest < buffer_length }
     {
         take_next(&mut self.deframer, &mut self.machine, out)
     }
@@ -137,7 +138,8 @@ impl ClientCore {
 
 /// What the next frame does, and what it writes.
 fn take_next(deframer: &mut Deframer, machine: &mut ClientMachine, out: &mut Bytes) -> Event
-    ensures { Happens (record { state = machine.old; held = deframer.old }) out.old result (record { state = machine.new; held = deframer.new }) out.new }
+    ensures happens { Happens (record { state = machine.old; held = deframer.old }) out.old result (record { state = machine.new; held = deframer.new }) out.new }
+    ensures room { result ≡ Event.NotYet → is_lost machine.new.stage ≡ false → length deframer.new.rest < buffer_length }
 {
     if machine.is_lost() {
         return Event::NotYet;
@@ -158,7 +160,8 @@ fn take_whole(
 ) -> Event
     requires live { is_lost machine.old.stage ≡ false }
     requires whole { (f : Frame) × Begins deframer.old.rest f × (header.now ≡ header_of f) }
-    ensures { Happens (record { state = machine.old; held = deframer.old }) out.old result (record { state = machine.new; held = deframer.new }) out.new }
+    ensures happens { Happens (record { state = machine.old; held = deframer.old }) out.old result (record { state = machine.new; held = deframer.new }) out.new }
+    ensures some { result ≢ Event.NotYet }
 {
     match machine.take(header, deframer.payload(), out) {
         Err(_) => Event::Memory,

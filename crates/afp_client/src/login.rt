@@ -1,9 +1,9 @@
 //! As whom a client logs in.
 ghost use Rattle.std.specs.Prelude.{◌≡◌, ◌≤◌, length, IfOk};
-ghost use Rattle.afp_base.specs.Limits.{payload_limit};
+ghost use Rattle.afp_base.specs.Limits.{password_size, payload_limit};
 ghost use Rattle.afp_calls_grammar.specs.Call.{canonical_call};
 ghost use Rattle.afp_calls_grammar.specs.declared.call.Call.{Call};
-ghost use Rattle.afp_client.specs.Opening.{version_3_3, no_user, cleartext, login_call, login_tail, FitsLogin};
+ghost use Rattle.afp_client.specs.Opening.{login_call, login_tail, most_user_name, FitsLogin};
 
 use afp_base::{Bytes, OutOfMemory};
 use afp_calls_grammar::Call;
@@ -19,18 +19,17 @@ const NO_USER: &str = "No User Authent";
 const CLEARTEXT: &str = "Cleartxt Passwrd";
 
 /// A user's name and password; without a user a client logs in as a guest.
-#[derive(Debug, Drop)]
+#[derive(Drop)]
 pub struct Login {
     pub user: Option<(Bytes, [u8; 8])>,
 }
 
 // The tail of a login by name and password: the name with its count, a pad where it is needed for an even place, and
 // the password.
-fn tail_of(alloc: Global, name: &[u8], password: &[u8]) -> Result<Bytes, OutOfMemory>
-    requires name { length name.now ≤ 255 }
-    requires password { length password.now ≡ 8 }
-    ensures tail { IfOk result (λ tail. tail ≡ login_tail name.now password.now) }
-    ensures password { length password.now ≡ 8 }
+fn tail_of(alloc: Global, name: &[u8], password: [u8; 8]) -> Result<Bytes, OutOfMemory>
+    requires { length name.now ≤ most_user_name }
+    ensures tail { IfOk result (λ tail. tail ≡ login_tail name.now password) }
+    ensures password { length password ≡ password_size }
 {
     let mut tail = Bytes::new(alloc);
     tail.push_u8(name.len() as u8)?;
@@ -38,7 +37,7 @@ fn tail_of(alloc: Global, name: &[u8], password: &[u8]) -> Result<Bytes, OutOfMe
     if name.len() % 2 == 1 {
         tail.push_u8(0)?;
     }
-    tail.extend(password)?;
+    tail.extend(&password)?;
     Ok(tail)
 }
 
@@ -57,11 +56,10 @@ impl Login {
                 tail: Bytes::new(alloc),
             }),
             Some(user) => {
-                let password = user.1;
                 Ok(Call::Login {
                     version,
                     uam: Bytes::of(alloc, CLEARTEXT.as_bytes())?,
-                    tail: tail_of(alloc, user.0.as_slice(), password.as_slice())?,
+                    tail: tail_of(alloc, user.0.as_slice(), user.1)?,
                 })
             }
         }

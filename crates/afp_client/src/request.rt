@@ -108,12 +108,20 @@ impl Request {
         self.retries
     }
 
-    /// Appends its frame. An error changes nothing.
-    pub(crate) fn write(&self, out: &mut Bytes) -> Result<(), OutOfMemory>
-        ensures ok { OnOk result (out.new ≡ out.old ++ canonical_frame self.now.request) }
+    /// Its id.
+    pub(crate) fn id(&self) -> u16
+        ensures { result ≡ self.now.request.id }
+    {
+        self.header.id
+    }
+
+    /// Appends its frame under this id. An error changes nothing.
+    pub(crate) fn write(&self, id: u16, out: &mut Bytes) -> Result<(), OutOfMemory>
+        ensures ok { OnOk result (out.new ≡ out.old ++ canonical_frame (with_id self.now.request id)) }
         ensures err { OnErr result (out.new ≡ out.old) }
     {
-        write_frame(&self.header, self.payload.as_slice(), out)
+        let header = Header { id, ..self.header };
+        write_frame(&header, self.payload.as_slice(), out)
     }
 
     /// Appends its frame under another id, which is its own from now on. An error changes nothing.
@@ -124,9 +132,8 @@ impl Request {
         ensures err { OnErr result (out.new ≡ out.old) }
         ensures same { OnErr result (self.new ≡ self.old) }
     {
-        let header = Header { id, ..self.header };
-        write_frame(&header, self.payload.as_slice(), out)?;
-        self.header = header;
+        self.write(id, out)?;
+        self.header = Header { id, ..self.header };
         self.retries += 1;
         Ok(())
     }

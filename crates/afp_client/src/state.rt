@@ -1,5 +1,5 @@
 //! A client's state, which knows no bytes of a link.
-ghost use Rattle.std.specs.Prelude.{◌≡◌, ◌+◌, ◌<◌, ◌≤◌, ◌++◌, [], ℕ, List, Option, Some, None, length, option_map, IfOk, IfSome, OnOk, OnErr, IsTrue, ◌↔◌, true, false};
+ghost use Rattle.std.specs.Prelude.{◌≡◌, ◌+◌, ◌<◌, ◌≤◌, ◌++◌, [], Option, Some, None, length, option_map, IfOk, IfSome, OnOk, OnErr, IsTrue, ◌↔◌, true, false};
 ghost use Rattle.afp_base.specs.Limits.{payload_limit};
 ghost use Rattle.afp_base.specs.declared.code.Code.{Code};
 ghost use Rattle.dsi_frame.specs.Frame.{canonical_frame, frame_of};
@@ -7,7 +7,7 @@ ghost use Rattle.dsi_session.specs.RequestIds.{first_request_id, id_after};
 ghost use Rattle.afp_calls_grammar.specs.Call.{IsSpellable, canonical_call, canonical_piece};
 ghost use Rattle.afp_client.specs.Opening.{FitsLogin, command_frame, login_call, open_session_frame, opening_frame, session_call};
 ghost use Rattle.afp_client.specs.State.{ClientState, IsReady, Waiting, call_frame, is_lost, is_opened};
-ghost use Rattle.afp_client.specs.Takes.{IsCodeIn, asked, begun, broken, is_retried, most_retries, opened, opening_command, opening_replied, opening_told, refusal, session_told, takes, takes_reply, takes_request, token_in, waiting_replied, writes_opening, written, ready_reply, if_answers};
+ghost use Rattle.afp_client.specs.Takes.{IsCodeIn, asked, begun, broken, is_retried, opened, opening_command, opening_replied, refusal, session_told, takes, takes_reply, takes_request, token_in, writes_opening, written, ready_reply};
 ghost use Rattle.afp_client.specs.lemma.Steps.{IsTaken, Makes};
 
 use crate::event::Event;
@@ -242,7 +242,7 @@ impl ClientMachine {
     {
         match &self.waiting {
             None => Ok(()),
-            Some(request) => request.write(out),
+            Some(request) => request.write(request.id(), out),
         }
     }
 
@@ -285,7 +285,7 @@ impl ClientMachine {
         ensures err { OnErr result (out.new ≡ out.old) }
     {
         let request = Request::of(self.alloc, self.next_id, call)?;
-        request.write(out)?;
+        request.write(self.next_id, out)?;
         self.waiting = Some(request);
         self.next_id = id_after(self.next_id);
         Ok(())

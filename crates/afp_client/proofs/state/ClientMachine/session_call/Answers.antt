@@ -1,4 +1,4 @@
-use Rattle.std.proofs.Common.{◌≡◌, ◌≤◌, ℕ, List, length, None, subst, sym}
+use Rattle.std.proofs.Common.{◌≤◌, ℕ, List, length, None, subst, sym}
 use Rattle.afp_base.specs.Limits.{payload_limit}
 use Rattle.afp_calls_grammar.specs.Call.{canonical_call}
 use Rattle.afp_calls_grammar.specs.declared.call.Call.TheVariants.{GetSessionToken, DisconnectOldSession}
