@@ -1,0 +1,5 @@
+pub mod FirstFound
+pub mod Pieces
+pub mod Names
+pub mod Faults
+pub mod Placed

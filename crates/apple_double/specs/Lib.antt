@@ -1,0 +1,6 @@
+pub mod Contents
+pub mod Faults
+pub mod Format
+pub mod Parcel
+pub mod Written
+pub mod lemma
