@@ -3,3 +3,5 @@ pub mod Pieces
 pub mod Names
 pub mod Faults
 pub mod Placed
+pub mod BothWays
+pub mod OneFile

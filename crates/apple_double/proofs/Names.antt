@@ -1,10 +1,9 @@
 -- Names in entries.
-use Rattle.std.proofs.Common.{◌≡◌, ◌∙◌, ℕ, ◌+◌, ◌<◌, ◌≤◌, Bool, true, false, cond, List, [], ◌∷◌, length, map, refl, sym, ap, arith, inl, inr}
-use Rattle.std.specs.Prelude.{Option, Some, None, is_none, encode_utf8_all}
+use Rattle.std.proofs.Common.{◌≡◌, ℕ, ◌<◌, ◌≤◌, Bool, true, false, cond, List, length, map, refl, arith}
+use Rattle.std.specs.Prelude.{Option, Some, None, is_none}
 use Rattle.std.proofs.lemmas.Str.{length-le-encodes}
 use Rattle.afp_base.proofs.ListFacts.{length-mapped}
 use Rattle.afp_names.specs.declared.name.NameFault.{NameFault}
-use Rattle.afp_names.specs.declared.name.NameFault.TheVariants.{Memory}
 use Rattle.afp_names.specs.MacRoman.{mac_roman_char, mac_roman_text}
 use Rattle.afp_names.specs.Name.{name_fault, longest_name}
 use Rattle.afp_names.proofs.NameLemmas.{name_fault-parts}

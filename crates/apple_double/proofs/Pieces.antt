@@ -1,14 +1,13 @@
 -- Pieces that are put one behind the other.
-use Rattle.std.proofs.Common.{◌≡◌, ◌∙◌, ℕ, ◌+◌, ◌*◌, ◌≤◌, List, [], ◌∷◌, ◌++◌, length, take, refl, sym, ap, subst, arith, append_assoc, append-nil}
+use Rattle.std.proofs.Common.{◌≡◌, ◌∙◌, ℕ, ◌+◌, ◌*◌, ◌≤◌, List, [], ◌∷◌, ◌++◌, length, take, refl, sym, ap, arith, append_assoc, append-nil}
 use Rattle.std.proofs.lemmas.List.{length-append, take-take, take-append-le}
 use Rattle.std.proofs.Math.Seq.{take-length}
 use Rattle.std.proofs.lemmas.Result.{on_ok_weaker}
 use Rattle.std.specs.Prelude.{Result, Ok, Err, OnOk, OnErr}
-use Rattle.std.specs.Int.{w32, cast_unsigned}
 use Rattle.afp_base.specs.Appended.{Keeps}
 use Rattle.apple_double.specs.declared.parcel.Parcel.{Parcel}
 use Rattle.apple_double.specs.declared.parcel.Shape.{Shape}
-use Rattle.apple_double.specs.Written.{Entry, entry, described, descriptor_bytes, contents, contents_place, header, file_of, dates_bytes, entries}
+use Rattle.apple_double.specs.Written.{Entry, entry, described, descriptor_bytes, contents, contents_place, header, file_of, dates_bytes}
 
 -- a piece behind what stands behind o
 pub behind : (o m n a b : List ℕ) → m ≡ o ++ a → n ≡ m ++ b → n ≡ o ++ (a ++ b)
@@ -80,11 +79,11 @@ descriptor-length : (id offset size : ℕ) → length (descriptor_bytes id offse
 unfolding descriptor_bytes
 descriptor-length id offset size = refl
 
-header-length : (shape : Shape) (count : ℕ) → length (header shape count) ≡ 26
+pub header-length : (shape : Shape) (count : ℕ) → length (header shape count) ≡ 26
 unfolding header
 header-length shape count = refl
 
-described-length : (offset : ℕ) (es : List Entry) → length (described offset es) ≡ 12 * length es
+pub described-length : (offset : ℕ) (es : List Entry) → length (described offset es) ≡ 12 * length es
 described-length offset [] = refl
 described-length offset (e ∷ es) =
     let one = descriptor-length e.id offset (length e.bytes) in

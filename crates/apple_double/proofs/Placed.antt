@@ -1,5 +1,5 @@
 -- The descriptors of a file that is written, and what they name.
-use Rattle.std.proofs.Common.{◌≡◌, ◌∙◌, ℕ, zero, suc, ◌+◌, ◌*◌, ◌^◌, ◌<◌, ◌≤◌, Bool, true, false, cond, not, List, [], ◌∷◌, ◌++◌, length, take, drop, map, refl, sym, ap, subst, arith, append_assoc, inl, inr}
+use Rattle.std.proofs.Common.{◌≡◌, ◌∙◌, ℕ, zero, suc, ◌+◌, ◌*◌, ◌^◌, ◌<◌, ◌≤◌, Bool, true, false, cond, List, [], ◌∷◌, ◌++◌, length, take, drop, map, refl, sym, ap, subst, arith, append_assoc, inl, inr}
 use Rattle.std.specs.Prelude.{Option, Some, None, ◌&&◌, ◌||◌, ◌==◌, nat_lt, is_none, is_some}
 use Rattle.std.specs.List.{find, range_with_len}
 use Rattle.std.proofs.Math.Seq.{take-append_seam, drop-append_seam}
@@ -30,7 +30,7 @@ Small (e ∷ es) = (e.id < 2 ^ 32) × Small es
 -- a descriptor that stands at a place
 one-read : (bytes rest : List ℕ) (place id offset size : ℕ) → drop place bytes ≡ descriptor_bytes id offset size ++ rest → id < 2 ^ 32 → offset < 2 ^ 32 → size < 2 ^ 32
     → descriptor_from place bytes ≡ record { id = id; offset = offset; size = size }
-unfolding (number_at, descriptor_bytes)
+unfolding number_at descriptor_bytes
 one-read bytes rest place id offset size at i o s =
     let first : big_number 4 (drop place bytes) ≡ id = ap (λ (z : List ℕ). big_number 4 z) at ∙ number_again 4 id (big_bytes 4 offset ++ big_bytes 4 size ++ rest) i in
     let behind4 : drop (place + 4) bytes ≡ big_bytes 4 offset ++ (big_bytes 4 size ++ rest) = sym (drop-drop 4 place bytes) ∙ ap (λ (z : List ℕ). drop 4 z) at in
@@ -49,7 +49,7 @@ all-placed bytes k o [] tail at small fits = refl
 all-placed bytes k o (e ∷ es) tail at small fits =
     let size : length (contents (e ∷ es)) ≡ length e.bytes + length (contents es) = length-append e.bytes (contents es) in
     let here : drop (26 + 12 * k) bytes ≡ descriptor_bytes e.id o (length e.bytes) ++ (described (o + length e.bytes) es ++ tail) =
-        at ∙ append_assoc (descriptor_bytes e.id o (length e.bytes)) (described (o + length e.bytes) es) tail in
+    at ∙ append_assoc (descriptor_bytes e.id o (length e.bytes)) (described (o + length e.bytes) es) tail in
     let rest : List ℕ = described (o + length e.bytes) es ++ tail in
     let low : o < 2 ^ 32 = omega (arith, size, fits) in
     let short : length e.bytes < 2 ^ 32 = omega (arith, size, fits) in
@@ -121,8 +121,9 @@ all-good bytes o (e ∷ es) earlier at fits good =
     let size : length (contents (e ∷ es)) ≡ length e.bytes + length (contents es) = length-append e.bytes (contents es) in
     let slice : slice_of bytes (one_placed o e) ≡ e.bytes = slice-one bytes e.bytes (contents es) o at in
     let content : is_bad_content bytes (one_placed o e) ≡ false =
-        ap (λ (z : List ℕ). (e.id == dates_id && nat_lt (length e.bytes) dates_size) || (e.id == finder_id && nat_lt (length e.bytes) finder_size) || (e.id == name_id && is_none (name_in z))) slice ∙ good.1 in
+    ap (λ (z : List ℕ). (e.id == dates_id && nat_lt (length e.bytes) dates_size) || (e.id == finder_id && nat_lt (length e.bytes) finder_size) || (e.id == name_id && is_none (name_in z))) slice ∙ good.1 in
     let within : o + length e.bytes ≤ length bytes = omega (arith, size, fits) in
-    let below : (o + length e.bytes) + length (contents es) ≤ length bytes = omega (arith, size, fits) in
-    (not_bad (is_read e.id) bytes (length e.bytes) o (is_bad_content bytes (one_placed o e)) (with_id e.id earlier) good.0 within content,
-      all-good bytes (o + length e.bytes) es (earlier ++ one_placed o e ∷ []) (slice-rest bytes e.bytes (contents es) o at) below good.2)
+    let below : (o + length e.bytes) + length (contents es) ≤ length bytes = omega (arith, size, fits) in (
+      not_bad (is_read e.id) bytes (length e.bytes) o (is_bad_content bytes (one_placed o e)) (with_id e.id earlier) good.0 within content,
+      all-good bytes (o + length e.bytes) es (earlier ++ one_placed o e ∷ []) (slice-rest bytes e.bytes (contents es) o at) below good.2,
+    )

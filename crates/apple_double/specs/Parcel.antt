@@ -1,5 +1,5 @@
 -- A parcel: one file that holds a Macintosh file (RFC 1740; this profile).
-use Rattle.std.specs.Prelude.{◌≡◌, List, ℕ, None, Some, Result, Ok, Err}
+use Rattle.std.specs.Prelude.{◌≡◌, List, ℕ, None, Some}
 use Rattle.apple_double.specs.declared.parcel.Parcel.{Parcel}
 use Rattle.apple_double.specs.declared.parcel.ParcelFault.{ParcelFault}
 use Rattle.apple_double.specs.declared.parcel.ParcelFault.TheVariants as faults

@@ -1,4 +1,4 @@
-use Rattle.std.proofs.Common.{arith, sym, ap, ◌∙◌, ℕ}
+use Rattle.std.proofs.Common.{arith, sym, ap, ◌∙◌}
 use Rattle.std.specs.Prelude.{Some}
 use Rattle.apple_double.specs.declared.descriptor.Descriptor.{Descriptor}
 use Rattle.apple_double.proofs.Faults.{found, not-found}

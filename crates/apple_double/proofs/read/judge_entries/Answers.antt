@@ -1,5 +1,4 @@
-use Rattle.std.proofs.Common.{arith, sym, ap, ◌∙◌, ℕ, below_more}
-use Rattle.std.specs.Prelude.{Some}
+use Rattle.std.proofs.Common.{arith, sym, ◌∙◌, below_more}
 use Rattle.apple_double.proofs.Faults.{entries-good, entries-bad}
 use Rattle.apple_double.proofs.read.judge_entries.Goals as goal
 

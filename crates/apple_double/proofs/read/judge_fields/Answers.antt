@@ -1,4 +1,4 @@
-use Rattle.std.proofs.Common.{arith, subst}
+use Rattle.std.proofs.Common.{arith}
 use Rattle.apple_double.proofs.Faults.{fields-whole, fields-short}
 use Rattle.apple_double.proofs.read.judge_fields.Goals as goal
 

@@ -1,4 +1,4 @@
-use Rattle.std.proofs.Common.{refl, sym, ap, length, ℕ, List, ◌∙◌, ◌++◌}
+use Rattle.std.proofs.Common.{sym, ap, length, ℕ, List, ◌∙◌, ◌++◌}
 use Rattle.apple_double.specs.Contents.{data_id}
 use Rattle.apple_double.specs.Written.{descriptor_bytes}
 use Rattle.apple_double.proofs.Pieces.{one-described}

@@ -1,4 +1,4 @@
-use Rattle.std.proofs.Common.{refl, sym, ap, length, ℕ, List, ◌∙◌, ◌+◌, ◌≡◌, ◌++◌, arith}
+use Rattle.std.proofs.Common.{refl, sym, ap, length, ℕ, List, ◌+◌, ◌≡◌, ◌++◌, arith}
 use Rattle.apple_double.specs.Contents.{name_id, comment_id, dates_id, finder_id, resource_id}
 use Rattle.apple_double.specs.Written.{Entry, contents, data_entry, dates_bytes, entry, entry_if}
 use Rattle.apple_double.proofs.Pieces.{AreDescribed, described-one, described-more, dates-length, one-size, sizes}

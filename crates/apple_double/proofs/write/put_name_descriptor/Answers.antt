@@ -1,4 +1,4 @@
-use Rattle.std.proofs.Common.{refl, sym, ap, length, ℕ, ◌∙◌}
+use Rattle.std.proofs.Common.{ap, length, ℕ}
 use Rattle.apple_double.specs.Contents.{name_id}
 use Rattle.apple_double.proofs.Pieces.{one-put}
 use Rattle.apple_double.proofs.write.put_name_descriptor.Goals as goal

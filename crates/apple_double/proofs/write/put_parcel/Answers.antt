@@ -1,4 +1,4 @@
-use Rattle.std.proofs.Common.{refl, sym, ap, length, ℕ, List, ◌∙◌, ◌+◌, ◌*◌, ◌≡◌, ◌++◌, arith}
+use Rattle.std.proofs.Common.{ap, length, ℕ, List, ◌∙◌, ◌++◌, arith}
 use Rattle.apple_double.specs.Written.{contents, contents_place, described, entries, file_of, header}
 use Rattle.apple_double.proofs.Pieces.{behind, file-length}
 use Rattle.apple_double.proofs.write.put_parcel.Goals as goal
