@@ -10,4 +10,4 @@ mod write;
 
 pub use parcel::{LONGEST_COMMENT, Parcel, ParcelFault, Shape};
 pub use read::read_parcel;
-pub use write::write_parcel;
+pub use write::{parcel_size, write_parcel};

@@ -202,9 +202,54 @@ fn put_parcel(p: &Parcel, shape: Shape, out: &mut Bytes) -> Result<(), OutOfMemo
     Ok(())
 }
 
+/// Bytes of a name that there is.
+fn name_size(name: &Option<Name>) -> usize
+    ensures { result ≡ length (contents (entry_if name_id name.now)) }
+{
+    match name {
+        Some(name) => name.as_str().len(),
+        None => 0,
+    }
+}
+
+/// Bytes of a comment that there is.
+fn comment_size(comment: &Option<Bytes>) -> usize
+    ensures { result ≡ length (contents (entry_if comment_id comment.now)) }
+{
+    match comment {
+        Some(comment) => comment.as_slice().len(),
+        None => 0,
+    }
+}
+
+/// Bytes of the data, where the file holds them.
+fn data_size(shape: Shape, fork: &Bytes) -> usize
+    ensures { result ≡ length (contents (data_entry shape fork.now)) }
+{
+    match shape {
+        Shape::Single => fork.as_slice().len(),
+        Shape::Double => 0,
+    }
+}
+
+/// Bytes of the parcel of a file.
+pub fn parcel_size(p: &Parcel, shape: Shape) -> u128
+    ensures { result ≡ length (parcel_bytes shape p.now) }
+{
+    finder_is_whole(&p.finder);
+    let place = HEADER + DESCRIPTOR * count_of(p, shape) as usize;
+    place as u128
+        + name_size(&p.name) as u128
+        + DATES_SIZE as u128
+        + FINDER_SIZE as u128
+        + comment_size(&p.comment) as u128
+        + p.resource_fork.as_slice().len() as u128
+        + data_size(shape, &p.data_fork) as u128
+}
+
 /// Appends the parcel of a file: its name and its comment where it has them, its dates, the Finder's information, its
 /// resource fork, and in an AppleSingle file its data fork. Offsets count from the parcel's first byte. The parcel must
-/// be shorter than 4 GB. An error changes nothing.
+/// be shorter than 2^32 bytes, which [`parcel_size`] tells. An error changes nothing.
 pub fn write_parcel(p: &Parcel, shape: Shape, out: &mut Bytes) -> Result<(), OutOfMemory>
     requires comment { IfSome p.now.comment IsComment }
     requires size { length (parcel_bytes shape p.now) < 2 ^ 32 }

@@ -1,0 +1,13 @@
+//! Reads and writes parcels, over lines of the standard input. Behind each line it prints its result. A line that is empty or begins
+//! with `#` is passed over.
+#![tactic(auto)]
+
+mod run;
+
+use run::Run;
+use std::io;
+use test_lines::answer_lines;
+
+fn main(rt: HostRuntime) -> io::Result<()> {
+    answer_lines(&rt, Run)
+}
