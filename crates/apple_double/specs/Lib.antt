@@ -3,4 +3,3 @@ pub mod Faults
 pub mod Format
 pub mod Parcel
 pub mod Written
-pub mod lemma

@@ -6,7 +6,6 @@ ghost use Rattle.apple_double.specs.Contents.{is_read, if_name, name_in, date_in
 ghost use Rattle.apple_double.specs.Faults.{header_faults, field_faults, entry_faults, entry_fault, is_bad_content, parcel_fault};
 ghost use Rattle.apple_double.specs.Format.{magic_in, magic_of, count_in, header_size, descriptor_size, descriptor_at, part};
 ghost use Rattle.apple_double.specs.Parcel.{Parcels, Refuses};
-ghost use Rattle.apple_double.specs.lemma.Taken.{IsTaken};
 
 use crate::descriptor::{
     Descriptor, count_in, descriptor_at, first_with_id, front_of, number_at, part, slice_of,
@@ -231,9 +230,11 @@ fn data_in(alloc: Global, shape: Shape, bytes: &[u8]) -> Result<Bytes, OutOfMemo
 
 /// The file that is held by bytes without a fault.
 fn take_parcel(alloc: Global, shape: Shape, bytes: &[u8]) -> Result<Parcel, OutOfMemory>
+    requires good { parcel_fault bytes.now ≡ None }
+    requires format { magic_in bytes.now ≡ magic_of shape }
     requires header { header_size ≤ length bytes.now }
     requires descriptors { header_size + descriptor_size * count_in bytes.now ≤ length bytes.now }
-    ensures { IfOk result (λ p. IsTaken bytes.now shape p) }
+    ensures { IfOk result (λ p. Parcels bytes.now shape p) }
 {
     let dates = part(bytes, DATES);
     let name = name_in(alloc, part(bytes, NAME))?;
