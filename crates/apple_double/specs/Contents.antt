@@ -46,7 +46,7 @@ dates_size = 16
 abbrev pub never : ℕ
 never = 0x80000000
 
--- the date at a place of the dates; never, where there are none
+-- the date at a place of the dates; never, where it is not all there
 abbrev pub date_in : ℕ → List ℕ → ℤ
 date_in place bytes = cast_signed w32 (if nat_lt (length bytes) (place + 4) then never else number_at 4 place bytes)
 
@@ -54,7 +54,7 @@ date_in place bytes = cast_signed w32 (if nat_lt (length bytes) (place + 4) then
 abbrev pub finder_size : ℕ
 finder_size = 32
 
--- the Finder's information: the first 32 bytes, and zeros where there are none
+-- the Finder's information: the first 32 bytes, and zeros where there are fewer
 abbrev pub finder_in : List ℕ → List ℕ
 finder_in bytes = if nat_lt (length bytes) finder_size then replicate finder_size 0 else take finder_size bytes
 

@@ -13,7 +13,7 @@ use Rattle.apple_double.specs.Contents.{is_read, name_id, dates_id, finder_id, d
 abbrev pub has_no_magic : List ℕ → Bool
 has_no_magic bytes = not (magic_in bytes == magic_of shapes.Single || magic_in bytes == magic_of shapes.Double)
 
--- the fields of the header: each is there, and the two that are fixed have their values
+-- what is wrong with the header, in the order of its fields: one is not all there, or one of the two that are fixed has another value
 abbrev pub header_faults : List ℕ → List (Bool × ParcelFault)
 header_faults bytes =
     (nat_lt (length bytes) 4, Short 0)
@@ -24,7 +24,7 @@ header_faults bytes =
     ∷ (nat_lt (length bytes) header_size, Short 24)
     ∷ []
 
--- the fields of the descriptors, of 4 bytes each: they are there
+-- a field of a descriptor, of 4 bytes, that is not all there
 abbrev pub field_fault : List ℕ → ℕ → Bool × ParcelFault
 field_fault bytes k = (nat_lt (length bytes) (header_size + 4 * k + 4), Short (header_size + 4 * k))
 

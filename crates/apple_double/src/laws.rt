@@ -13,7 +13,7 @@ pub fn one_file_for_each_parcel()
     ensures { (bytes : List ℕ) (s t : Shape) (p q : Parcel) → Parcels bytes s p → Parcels bytes t q → (s ≡ t) × (p ≡ q) }
 {}
 
-// A name is one.
+// A name in a parcel has no fault.
 fn name_is_good(name: &Option<Name>)
     ensures { IfSome name.now (λ name. name_fault name ≡ None) }
 {

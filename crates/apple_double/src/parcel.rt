@@ -22,7 +22,7 @@ pub struct Parcel {
     pub backup: i32,
     /// The Finder's information.
     pub finder: [u8; 32],
-    /// At most [`LONGEST_COMMENT`] bytes, and not empty.
+    /// One that is read has 1 to [`LONGEST_COMMENT`] bytes, and only such a one can be written.
     pub comment: Option<Bytes>,
     pub data_fork: Bytes,
     pub resource_fork: Bytes,
@@ -37,9 +37,10 @@ pub enum ParcelFault {
     Magic,
     /// Their version is another than 2.
     Version,
-    /// The entry with this index, from 0, repeats an id, passes the end of the bytes, is too short, or is no name.
+    /// The entry with this index, from 0, is one of those that are read, and its id stands earlier, it passes the end of the bytes, it is
+    /// dates of fewer than 16 or Finder's information of fewer than 32 bytes, or it is a name that is none.
     Entry { index: usize },
-    /// There is no memory, which comes for no other reason.
+    /// There is no memory.
     Memory,
 }
 

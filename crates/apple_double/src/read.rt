@@ -104,7 +104,7 @@ fn name_in(alloc: Global, bytes: &[u8]) -> Result<Option<Name>, OutOfMemory>
     }
 }
 
-/// The name that these bytes are in the character set of long names. What is too long before it is spelt out is not spelt out.
+/// The name that these bytes are in the character set of long names. Bytes that are too long as they stand are no name, and are not spelt out.
 fn mac_roman_name(alloc: Global, bytes: &[u8]) -> Result<Option<Name>, OutOfMemory>
     ensures { IfOk result (λ name. name ≡ if_name (mac_roman_text bytes.now)) }
 {
@@ -258,7 +258,8 @@ fn take_parcel(alloc: Global, shape: Shape, bytes: &[u8]) -> Result<Parcel, OutO
 ///
 /// Entries of other ids, the filler and the date of the last access are skipped, and so is what follows the 32 bytes of the
 /// Finder's information. Entries may share bytes. A comment is cut to [`LONGEST_COMMENT`] bytes, and an empty one is none.
-/// Parts that are not there are empty, zeros, the date "never", or none. Of a header file the data are empty.
+/// Parts that are not there are empty, zeros, the date "never", or none. Of a header file the data are empty. A name is
+/// taken as UTF-8, or else by the character set of long names.
 pub fn read_parcel(alloc: Global, bytes: &[u8]) -> Result<(Shape, Parcel), ParcelFault>
     ensures parcel { IfOk result (λ found. Parcels bytes.now found.0 found.1) }
     ensures fault { IfErr result (Refuses bytes.now) }

@@ -247,9 +247,10 @@ pub fn parcel_size(p: &Parcel, shape: Shape) -> u128
         + data_size(shape, &p.data_fork) as u128
 }
 
-/// Appends the parcel of a file: its name and its comment where it has them, its dates, the Finder's information, its
-/// resource fork, and in an AppleSingle file its data fork. Offsets count from the parcel's first byte. The parcel must
-/// be shorter than 2^32 bytes, which [`parcel_size`] tells. An error changes nothing.
+/// Appends the parcel of a file: its name where it has one, its dates, the Finder's information, its comment where it has
+/// one, its resource fork, and in an AppleSingle file its data fork, in this order and without gaps. The filler is zeros,
+/// and the date of the last access is "never". Offsets count from the parcel's first byte. A comment must have 1 to 199
+/// bytes, and the parcel fewer than 2^32, which [`parcel_size`] tells. An error changes nothing.
 pub fn write_parcel(p: &Parcel, shape: Shape, out: &mut Bytes) -> Result<(), OutOfMemory>
     requires comment { IfSome p.now.comment IsComment }
     requires size { length (parcel_bytes shape p.now) < 2 ^ 32 }
