@@ -12,6 +12,7 @@ use std::io;
 use test_lines::{TakesLines, take_lines};
 
 /// The files beside the program.
+#[derive(Drop)]
 struct Files;
 
 impl TakesLines for Files {

@@ -3,7 +3,6 @@ use afp_base::Bytes;
 use ghost_log::Log;
 use record_keeper::{Change, Keeper, KeeperFault, ReadAllFault, RecordKey, read_all};
 use std::alloc::Global;
-use std::test::Fail;
 
 /// A keeper that does not tell its records, and gives one key for ever.
 #[derive(Drop)]
@@ -53,60 +52,4 @@ fn keys_that_do_not_rise_are_refused(rt: HostRuntime) {
     };
     let answer = read_all(rt.alloc(), &mut keeper);
     assert!(rt; matches!(&answer, Err(ReadAllFault::Inconsistent { key: _ })));
-}
-
-/// A keeper that holds nothing, and tells it up to its first commit. It drops what is committed, so it is not steady.
-#[derive(Drop)]
-struct Forgetful {
-    tells: bool,
-    settles: Log<Result<(), KeeperFault>>,
-}
-
-impl Keeper for Forgetful {
-    ghost use Rattle.std.specs.Prelude.{None, Some, false, true, if◌then◌else◌};
-    ghost use Rattle.std.specs.FinMap as map;
-
-    ghost records = { λ k. if k.tells then Some map.empty else None };
-
-    ghost faults = { λ _. 0 };
-
-    ghost sure = { λ _. true };
-
-    ghost steady = { λ _. false };
-
-    ghost settles = { λ k. k.settles.items };
-
-    fn read(&mut self, _alloc: Global, _key: &RecordKey) -> Result<Option<Bytes>, KeeperFault> {
-        Ok(None)
-    }
-
-    fn next_key(
-        &mut self,
-        _alloc: Global,
-        _after: Option<&RecordKey>,
-    ) -> Result<Option<RecordKey>, KeeperFault> {
-        Ok(None)
-    }
-
-    fn commit(&mut self, _alloc: Global, _changes: &[Change]) -> Result<(), KeeperFault> {
-        self.tells = false;
-        Ok(())
-    }
-
-    fn settle(&mut self) -> Result<(), KeeperFault> {
-        self.settles = self.settles.and(&Ok(()));
-        Ok(())
-    }
-}
-
-#[test]
-fn a_keeper_that_is_not_steady_may_stop_telling(rt: HostRuntime) -> Result<(), Fail> {
-    let mut keeper = Forgetful {
-        tells: true,
-        settles: Log::new(),
-    };
-    keeper.commit(rt.alloc(), &[])?;
-    let answer = read_all(rt.alloc(), &mut keeper);
-    assert!(rt; matches!(&answer, Ok(records) if records.is_empty()));
-    Ok(())
 }
