@@ -11,8 +11,8 @@ use Rattle.afp_client.specs.declared.login.Login.{Login}
 use Rattle.afp_client.specs.declared.stage.Stage.{Stage}
 use Rattle.afp_client.specs.declared.stage.Stage.TheVariants as stages
 
--- A request that waits for its reply, as it was written last; and how often it was written again since it was told that there was no
--- memory.
+-- A request that waits for its reply, as it was written last; and how often it was written again because it was told that there was
+-- no memory.
 pub record Waiting : Type 0 where
   pub request : Frame
   pub retries : ℕ
@@ -26,7 +26,7 @@ pub record ClientState : Type 0 where
   pub waiting : Option Waiting
   pub next_id : ℕ
 
--- the same, with the bytes of its link that are no whole frame yet, and their place on the link
+-- the same, with the bytes of its link that no event has taken, and the place of the first
 pub record Client : Type 0 where
   pub state : ClientState
   pub held : Buffered

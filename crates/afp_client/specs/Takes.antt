@@ -39,7 +39,7 @@ abbrev pub listed : Option Frame → List Frame
 listed None = []
 listed (Some f) = f ∷ []
 
--- how often a request is written again, under a new id, since it was told that there was no memory
+-- how often at most a request is written again, under a new id, because it was told that there was no memory
 abbrev pub most_retries : ℕ
 most_retries = 3
 

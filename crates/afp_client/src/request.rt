@@ -52,7 +52,7 @@ pub(crate) fn answers(header: &Header, command: DsiCommand, id: u16) -> bool
     header.command == command && header.id == id
 }
 
-/// A request that waits, and how often it was written again since it was told that there was no memory.
+/// A request that waits, and how often it was written again because it was told that there was no memory.
 #[derive(Drop)]
 pub(crate) struct Request {
     header: Header,
@@ -101,7 +101,7 @@ impl Request {
         answers(header, self.header.command, self.header.id)
     }
 
-    /// How often it was written again since it was told that there was no memory.
+    /// How often it was written again because it was told that there was no memory.
     pub(crate) fn retries(&self) -> u8
         ensures { result ≡ self.now.retries }
     {

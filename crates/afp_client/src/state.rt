@@ -22,7 +22,7 @@ use dsi_frame::{DsiCommand, Header, write_frame};
 use std::alloc::Global;
 use std::marker::Model;
 
-/// How often a request is written again since it was told that there was no memory.
+/// How often at most a request is written again because it was told that there was no memory.
 const MOST_RETRIES: u8 = 3;
 
 /// The most bytes of a token.
