@@ -5,11 +5,13 @@ use Rattle.afp_base.proofs.ListFacts.{all-snoc}
 use Rattle.dsi_frame.specs.Deframe.{GivenOut}
 use Rattle.dsi_frame.specs.Frame.{Frame}
 use Rattle.dsi_frame.proofs.StreamLemmas.{given-feed, given-frame, given-nothing}
+use Rattle.dsi_session.specs.RequestIds.{first_request_id}
+use Rattle.afp_client.specs.Opening.{open_session_frame}
 use Rattle.afp_client.specs.State.{ClientState}
-use Rattle.afp_client.specs.Takes.{asked, step}
+use Rattle.afp_client.specs.Takes.{asked, begun, broken, step}
 use Rattle.afp_client.specs.Takes as S
 use Rattle.afp_client.specs.Run.{Action, Does, Follows, asks, begins, breaks, is_on_link, taken_in, takes_frame, writes_of}
-use Rattle.afp_client.specs.Laws.{LinkAsks, LinkBegins, LinkIsFed, LinkTakes}
+use Rattle.afp_client.specs.Laws.{LinkAsks, LinkBegins, LinkBreaks, LinkIsFed, LinkTakes}
 use Rattle.afp_client.proofs.RunLemmas.{follows_join}
 
 -- one action more
@@ -54,5 +56,12 @@ link_takes start bytes actions frames old new out out_after event on next =
       given = subst (λ (fs : List Frame). GivenOut bytes fs new.held) (sym (taken-join actions (takes_frame next.frame st ∷ [])))
           (given-frame bytes (taken_in actions) old.held new.held next.frame (record { first = next.first; more = new.held.rest; whole = next.whole; spelling = next.spelling }) on.given
           (ap (λ (place : ℕ). record { place = place; rest = new.held.rest }) next.place));
-      follows = follows_one start old.state new.state actions frames (takes_frame next.frame st) on.follows (next.found, next.tells, next.taken, refl);
+      follows = follows_one start old.state new.state actions frames (takes_frame next.frame st) on.follows (next.live, next.found, next.tells, next.taken, refl);
     }
+
+pub link_breaks : LinkBreaks
+link_breaks s start earlier actions bytes first frames old before on =
+    let next : ClientState = begun (broken old.state) in
+    let opens : List Frame = open_session_frame first_request_id ∷ [] in
+    let ends : Follows old.state (breaks ∷ begins ∷ []) next opens = (broken old.state, opens, refl, refl, (next, [], refl, refl, (refl, refl))) in
+    follows_join s old.state next (earlier ++ actions) (breaks ∷ begins ∷ []) (first ++ frames) opens (follows_join s start old.state earlier actions first frames before on.follows) ends

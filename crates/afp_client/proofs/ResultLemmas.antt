@@ -171,8 +171,8 @@ have_results call s t (asks next ∷ actions) frames m f =
     subst (λ (o : Option Call). HaveResults (waiting_call o ++ next ∷ asked_in actions) (results_by (Some next) actions) t.waiting) (sym none)
     (have_results (Some next) f.0 t actions f.1 waits f.4)
 have_results call s t (takes_frame g st ∷ actions) frames m f =
-    let goes : Goes call st = subst (λ (o : Option S.Step). IfSome o (Goes call)) f.2.2 (frame_goes call s g.reply f.2.0 g m) in
-    let mid_is : f.0 ≡ st.state = f.2.3 in
+    let goes : Goes call st = subst (λ (o : Option S.Step). IfSome o (Goes call)) f.2.3 (frame_goes call s g.reply f.2.1 g m) in
+    let mid_is : f.0 ≡ st.state = f.2.4 in
     elim goes [
       | inl h ↦
           let r : Result = record { call = h.0; code = h.1; block = h.2 } in

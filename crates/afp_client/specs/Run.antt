@@ -7,7 +7,7 @@ use Rattle.dsi_frame.specs.Frame.{Frame}
 use Rattle.dsi_session.specs.RequestIds.{first_request_id}
 use Rattle.afp_calls_grammar.specs.declared.call.Call.{Call}
 use Rattle.afp_client.specs.Opening.{open_session_frame}
-use Rattle.afp_client.specs.State.{Client, ClientState, IsReady, call_frame}
+use Rattle.afp_client.specs.State.{Client, ClientState, IsReady, call_frame, is_lost}
 use Rattle.afp_client.specs.Takes.{IsCodeIn, asked, begun, broken, takes}
 use Rattle.afp_client.specs.Takes as S
 use Rattle.afp_client.specs.declared.event.Event.{Event}
@@ -20,12 +20,12 @@ pub data Action : Type 0 where
   asks : Call → Action
   takes_frame : Frame → S.Step → Action
 
--- what an action does to the state
+-- what an action does to the state; a client that is lost takes no frame
 abbrev pub Does : ClientState → Action → ClientState → Type 0
 Does s breaks t = t ≡ broken s
 Does s begins t = t ≡ begun s
 Does s (asks call) t = IsReady s × (t ≡ asked s call)
-Does s (takes_frame f st) t = (found : Option Code) × IsCodeIn f.word found × (takes s found f ≡ Some st) × (t ≡ st.state)
+Does s (takes_frame f st) t = (is_lost s.stage ≡ false) × (found : Option Code) × IsCodeIn f.word found × (takes s found f ≡ Some st) × (t ≡ st.state)
 
 -- what it writes
 abbrev pub writes_of : ClientState → Action → List Frame
@@ -81,9 +81,10 @@ is_on_link begins = false
 is_on_link (asks call) = true
 is_on_link (takes_frame f st) = true
 
--- A client on one link, which it began in the state `start`: of the bytes that came it took these frames, and it holds the rest. Into
--- which pieces the bytes were cut does not occur.
-pub record OnLink (start : ClientState) (bytes : List ℕ) (actions : List Action) (frames : List Frame) (c : Client) : Type 0 where
+-- A client goes on one link, by these actions: from the state `start`, which it had once OpenSession was written, to its state now, and it
+-- wrote these frames behind that one. Of the bytes that came it took the frames of its actions, and it holds the rest. Into which pieces the
+-- bytes were cut does not occur.
+pub record GoesOnLink (start : ClientState) (bytes : List ℕ) (actions : List Action) (frames : List Frame) (c : Client) : Type 0 where
   pub one_link : list_all is_on_link actions ≡ true
   pub given : GivenOut bytes (taken_in actions) c.held
   pub follows : Follows start actions c.state frames

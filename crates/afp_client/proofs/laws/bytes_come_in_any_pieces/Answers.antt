@@ -1,4 +1,4 @@
-use Rattle.afp_client.proofs.LinkLemmas.{link_asks, link_begins, link_is_fed, link_takes}
+use Rattle.afp_client.proofs.LinkLemmas.{link_asks, link_begins, link_breaks, link_is_fed, link_takes}
 use Rattle.afp_client.proofs.laws.bytes_come_in_any_pieces.Goals as goal
 
 pub returns-clause-begin : goal.returns-clause-begin
@@ -12,3 +12,6 @@ returns-clause-ask c = link_asks
 
 pub returns-clause-take : goal.returns-clause-take
 returns-clause-take c = link_takes
+
+pub returns-clause-breaks : goal.returns-clause-breaks
+returns-clause-breaks c = link_breaks
