@@ -15,6 +15,7 @@ pub mod Kinds
 pub mod Laws
 pub mod Lock
 pub mod Login
+pub mod LoginNames
 pub mod Parameters
 pub mod Place
 pub mod Readers

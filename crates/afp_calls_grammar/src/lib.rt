@@ -6,5 +6,6 @@ mod call;
 pub mod commands;
 pub mod kinds;
 pub mod laws;
+pub mod login_names;
 
 pub use call::{Call, ReadFault};
