@@ -1,3 +1,4 @@
+pub mod Dialer
 pub mod Gate
 pub mod Link
 pub mod Listener

@@ -11,6 +11,9 @@ use Rattle.afp_outside.specs.declared.link.ReadResult.TheVariants.{Got, Quiet, E
 use Rattle.afp_outside.specs.declared.link.Wrote.{Wrote}
 use Rattle.afp_outside.specs.declared.link.Wrote.TheVariants.{Took, Failed as WriteFailed}
 use Rattle.afp_outside.specs.Listener.{DoorState}
+use Rattle.afp_outside.specs.Dialer.{DialerState}
+use Rattle.afp_outside.specs.declared.dialer.DialFault.{DialFault}
+use Rattle.afp_outside.specs.declared.dialer.DialFault.TheVariants.{Failed as DialFailed}
 use Rattle.afp_outside.specs.declared.listener.Accepted.{Accepted}
 use Rattle.afp_outside.specs.declared.listener.Accepted.TheVariants.{Link, Closed, Failed as AcceptFailed}
 
@@ -206,6 +209,28 @@ accepted_of (link ∷ links) = Link link
 -- An accept follows the plan; one that fails hands out no link.
 pub record TapeAccepts (old : TapeDoor) (result : Accepted Tape) (new : TapeDoor) : Type 0 where
   pub answer : result ≡ (if fails old.calls then AcceptFailed else accepted_of old.coming)
+  pub coming : new.coming ≡ (if fails old.calls then old.coming else drop 1 old.coming)
+  pub calls : new.calls ≡ after_call old.calls
+
+-- A dialer in memory: the links still to come, all that it is seen as, and its plan. Dials are numbered.
+pub record DialTape : Type 0 where
+  pub coming : List Tape
+  pub handed : ℕ
+  pub back : List Tape
+  pub faults : ℕ
+  pub calls : PlannedCalls
+
+abbrev pub dialer_of : DialTape → DialerState Tape
+dialer_of dialer = record { handed = dialer.handed; back = dialer.back; faults = dialer.faults }
+
+-- the next link, or none is left
+abbrev pub dialled_of : List Tape → Result Tape DialFault
+dialled_of [] = Err DialFailed
+dialled_of (link ∷ links) = Ok link
+
+-- A dial follows the plan; one that fails hands out no link.
+pub record TapeDials (old : DialTape) (result : Result Tape DialFault) (new : DialTape) : Type 0 where
+  pub answer : result ≡ (if fails old.calls then Err DialFailed else dialled_of old.coming)
   pub coming : new.coming ≡ (if fails old.calls then old.coming else drop 1 old.coming)
   pub calls : new.calls ≡ after_call old.calls
 
