@@ -1,28 +1,20 @@
--- FPCreateFile that is not refused keeps a sound volume sound, also where a file goes for it.
-use Rattle.std.proofs.Common.{◌==◌, ◌≡◌, ◌∙◌, ap, sym, refl, subst, ℕ, zero, suc, ◌≤◌, ◌<◌, Bool, true, false, not, ◌&&◌, ◌||◌, List, [], ◌∷◌, length, inl, inr, Option, Some, None, arith}
+-- A file that goes for a new one of its name: it has no children, its name is free then, and its directory stays.
+use Rattle.std.proofs.Common.{◌==◌, ◌≡◌, ◌∙◌, ap, sym, refl, subst, ℕ, zero, suc, Bool, true, false, not, ◌&&◌, ◌||◌, List, [], ◌∷◌, length, inl, inr, Some, None}
 use Rattle.std.specs.Prelude.{option_map, nat_le, nat_lt, bytes_eq}
 use Rattle.std.specs.List.{list_any, list_all, find}
-use Rattle.std.proofs.lemmas.Bool.{and_parts, and_from, or_cases, or_left, or_right, cond_both, eqb-true, eq-eqb, cases_Bool, both_ways, leb-false, ne_eqb, or_parts}
+use Rattle.std.proofs.lemmas.Bool.{and_parts, and_from, or_cases, or_left, or_right, cond_both, eqb-true, eq-eqb, cases_Bool, both_ways, ne_eqb}
 use Rattle.std.proofs.lemmas.Slice.Eq.{bytes_eq-Decides}
-use Rattle.afp_base.specs.declared.code.Code.TheVariants.{ObjectExists, DiskFull, ObjectLocked, FileBusy, ObjectTypeErr}
 use Rattle.afp_names.specs.Name.{name_key}
-use Rattle.afp_names.specs.Path.{PathValue}
-use Rattle.volume_spec.proofs.CallsSound.{created-sound}
-use Rattle.volume_spec.proofs.Formed.{limit-parts}
-use Rattle.volume_spec.proofs.Leading.{goes_up, without-shorter}
-use Rattle.volume_spec.specs.SoundVolume.{are_named_alike, IsSoundVolume, has_apart_names, has_node, is_in_place, leads_to_root, most_nodes, last_next_id}
-use Rattle.volume_spec.proofs.Refusals.{none-holds, at-found, IsPlaceThere, place-there}
-use Rattle.volume_spec.proofs.SoundEdits.{sound-without}
-use Rattle.volume_spec.proofs.Trees.{TreeParts, tree-parts, drawn, any-with}
-use Rattle.volume_spec.proofs.Walks.{find-there, mapped-from, MappedFrom}
-use Rattle.volume_spec.specs.Edits.{has_children, without, without_node}
+use Rattle.volume_spec.proofs.Leading.{goes_up}
+use Rattle.volume_spec.specs.SoundVolume.{are_named_alike, has_apart_names, is_in_place, leads_to_root}
+use Rattle.volume_spec.proofs.Trees.{TreeParts, drawn, any-with}
+use Rattle.volume_spec.proofs.Walks.{mapped-from, MappedFrom}
+use Rattle.volume_spec.specs.Edits.{has_children, without}
 use Rattle.afp_base.specs.Apart.{are_apart}
-use Rattle.volume_spec.specs.Shared.{Opened, has_no_room, has_no_ids, has_attribute, is_busy, delete_inhibit, created}
-use Rattle.volume_spec.specs.CreateFile.{create_file_there, without_replaced, create_file_refusal, create_file_effect}
 use Rattle.volume_spec.specs.VolumeState.{Row, VolumeState, root_id, root_parent, first_id}
-use Rattle.volume_spec.specs.Walk.{Place, new_place, has_directory, child_by_key, is_named_path}
+use Rattle.volume_spec.specs.Walk.{Place, has_directory, child_by_key}
 use Rattle.afp_base.proofs.Facts.{contra, never}
-use Rattle.afp_base.proofs.ListFacts.{any-at, any-still, any-weaker, find-all, none-find}
+use Rattle.afp_base.proofs.ListFacts.{any-at, any-still, any-weaker, none-find}
 
 -- the root is a directory, in the root's parent
 root-place : (v : VolumeState) (row : Row) → (row.id == root_id) ≡ true → is_in_place v row ≡ true → (row.dir ≡ true) × ((row.parent == root_parent) ≡ true)
@@ -32,7 +24,7 @@ root-place v row root placed =
     (λ is h. let e = and_parts (row.dir) ((row.parent == root_parent) && bytes_eq row.name v.name) h in (e.0, (and_parts (row.parent == root_parent) (bytes_eq row.name v.name) e.1).0))
     (λ other h. absurd (both_ways (row.id == root_id) other root)) placed
 
-root-directory : (v : VolumeState) → TreeParts v → has_directory v.rows root_id ≡ true
+pub root-directory : (v : VolumeState) → TreeParts v → has_directory v.rows root_id ≡ true
 root-directory v t = any-with (λ row. row.id == root_id) (is_in_place v) (λ row. (row.id == root_id) && row.dir) v.rows
     (λ row root placed. and_from (row.id == root_id) (row.dir) root (root-place v row root placed).0) t.root t.placed
 
@@ -103,49 +95,8 @@ freed v dir key old apart h =
     ap (option_map (λ (row : Row). row.id)) (none-find test (without old v.rows) none)
 
 -- the directory of a place stays where a file goes
-stays : (v : VolumeState) (place : Place) → has_directory v.rows place.dir ≡ true → (old : ℕ) → has_directory v.rows old ≡ false → has_directory (without old v.rows) place.dir ≡ true
+pub stays : (v : VolumeState) (place : Place) → has_directory v.rows place.dir ≡ true → (old : ℕ) → has_directory v.rows old ≡ false → has_directory (without old v.rows) place.dir ≡ true
 unfolding without
 stays v place there old file = any-still (λ row. (row.id == place.dir) && row.dir) (λ row. not (row.id == old)) v.rows
     (λ row is. ap not (ne_eqb row.id old (λ same. both_ways (has_directory v.rows old) file
     (ap (λ q. has_directory v.rows q) (sym same ∙ eqb-true row.id place.dir (and_parts (row.id == place.dir) (row.dir) is).0) ∙ there)))) there
-
-pub create-file-sound : (v : VolumeState) (opens : List Opened) (hard : Bool) (now dir : ℕ) (path : PathValue) → is_named_path path ≡ true → create_file_refusal v opens hard dir path ≡ None → IsSoundVolume v → IsSoundVolume (create_file_effect v now dir path)
-unfolding create_file_refusal create_file_effect has_no_room has_no_ids child_by_key
-create-file-sound v opens hard now dir path named passes s =
-    at-found IsSoundVolume (new_place v.rows dir path) _ v _ passes (λ place is clear.
-    by-old place (place-there v.rows dir path place named is) (child_by_key v.rows place.dir (name_key place.name)) refl clear)
-  where
-    t : TreeParts v
-    t = tree-parts v s.tree
-
-    by-old : (place : Place) → IsPlaceThere v.rows place → (o : Option ℕ) → child_by_key v.rows place.dir (name_key place.name) ≡ o → create_file_there v opens hard o ≡ None → IsSoundVolume (created false now (without_replaced v o) place)
-    by-old place there None free clear =
-        let none = none-holds ((nat_le most_nodes (length v.rows) || nat_le last_next_id v.next_id, DiskFull) ∷ []) clear in
-        let room = or_parts (nat_le most_nodes (length v.rows)) (nat_le last_next_id v.next_id) none.0 in
-        created-sound v false now place (record {
-          directory = there.directory;
-          named = there.named;
-          free = free;
-          few = leb-false most_nodes (length v.rows) room.0;
-          left = leb-false last_next_id v.next_id room.1;
-        }) s
-    by-old place there (Some old) is_old clear =
-        let none = none-holds ((has_directory v.rows old, ObjectTypeErr) ∷ (not hard, ObjectExists) ∷ (is_busy opens old, FileBusy) ∷ (has_attribute v.rows delete_inhibit old, ObjectLocked) ∷ (nat_le last_next_id v.next_id, DiskFull) ∷ []) clear in
-        let file : has_directory v.rows old ≡ false = none.0 in
-        let test : Row → Bool = λ (row : Row). (row.parent == place.dir) && bytes_eq (name_key row.name) (name_key place.name) in
-        let m : MappedFrom (λ (row : Row). row.id) (find test v.rows) old = mapped-from (λ (row : Row). row.id) (find test v.rows) old is_old in
-        let there_is : has_node v.rows old ≡ true = subst (λ q. has_node v.rows q ≡ true) m.gives (find-there test v.rows m.value m.was) in
-        let not_root : (old == root_id) ≡ false = ne_eqb old root_id (λ same. both_ways (has_directory v.rows old) file (ap (λ q. has_directory v.rows q) same ∙ root-directory v t)) in
-        let not_above : (old == root_parent) ≡ false = ne_eqb old root_parent (λ same.
-        let d = drawn v m.value (ap (λ q. q == root_id) m.gives ∙ not_root) (find-all test (is_in_place v) v.rows m.value m.was t.placed) in
-        let low : first_id ≤ m.value.id = d.low in let gives : m.value.id ≡ old = m.gives in absurd (omega arith)) in
-        let w : VolumeState = without_node old v in
-        let shorter : length (without old v.rows) < length v.rows = without-shorter v.rows old (λ row. row.id == old) (λ row h. h) there_is in
-        let few : length v.rows ≤ most_nodes = (limit-parts v s.limits).nodes in
-        created-sound w false now place (record {
-          directory = stays v place there.directory old file;
-          named = there.named;
-          free = freed v place.dir (name_key place.name) old s.names is_old;
-          few = omega arith;
-          left = leb-false last_next_id v.next_id none.1.1.1.1.0;
-        }) (sound-without v old not_root (file-childless v old t not_above file) s)

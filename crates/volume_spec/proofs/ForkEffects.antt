@@ -9,7 +9,7 @@ use Rattle.volume_spec.proofs.SeenRows.{changes-seen, changes-let-be}
 use Rattle.volume_spec.proofs.SoundEdits.{sound-changed, changed-same}
 use Rattle.volume_spec.proofs.SoundPut.{sound-put, put-sizes}
 use Rattle.volume_spec.proofs.Trees.{tree-parts}
-use Rattle.volume_spec.proofs.TypedEdits.{TypedParts, row-parts, row-whole, typed-at, typed-parts, typed-whole}
+use Rattle.volume_spec.proofs.TypedEdits.{KeepsTyped, TypedParts, row-parts, row-whole, typed-at, typed-parts, typed-whole}
 use Rattle.volume_spec.specs.Edits.{change_at, put, with_changed}
 use Rattle.volume_spec.specs.ForkEffect.{fork_effect, fork_of, would_pass, written}
 use Rattle.afp_base.specs.Limits.{most_fork_bytes}
@@ -99,10 +99,8 @@ bytes-either : (first : Bool) (a b : List ℕ) → are_bytes a ≡ true → are_
 bytes-either true a b p q = p
 bytes-either false a b p q = q
 
-pub fork-typed : (v : VolumeState) (now id : ℕ) (resource writes : Bool) (bytes : List ℕ) → is_date (pos now) ≡ true → are_bytes bytes ≡ true → is_typed_volume v ≡ true → is_typed_volume (fork_effect now id resource bytes writes v) ≡ true
-unfolding fork_effect
-fork-typed v now id resource writes bytes moment small typed =
-    typed-whole (record v { modified = if writes then pos now else v.modified; rows = with_changed id (written now resource bytes writes) v.rows }) (with_date (typed-at v id (written now resource bytes writes) (λ row h.
+pub written-typed : (now : ℕ) (resource writes : Bool) (bytes : List ℕ) → is_date (pos now) ≡ true → are_bytes bytes ≡ true → KeepsTyped (written now resource bytes writes)
+written-typed now resource writes bytes moment small row h =
     let r = row-parts row h in
     row-whole (written now resource bytes writes row) (record {
       id = r.id;
@@ -115,7 +113,13 @@ fork-typed v now id resource writes bytes moment small typed =
       name = r.name;
       data_fork = bytes-either resource row.data_fork bytes r.data_fork small;
       resource_fork = bytes-either resource bytes row.resource_fork small r.resource_fork;
-    })) (typed-parts v typed)))
+    })
+
+pub fork-typed : (v : VolumeState) (now id : ℕ) (resource writes : Bool) (bytes : List ℕ) → is_date (pos now) ≡ true → are_bytes bytes ≡ true → is_typed_volume v ≡ true → is_typed_volume (fork_effect now id resource bytes writes v) ≡ true
+unfolding fork_effect
+fork-typed v now id resource writes bytes moment small typed =
+    typed-whole (record v { modified = if writes then pos now else v.modified; rows = with_changed id (written now resource bytes writes) v.rows })
+    (with_date (typed-at v id (written now resource bytes writes) (written-typed now resource writes bytes moment small) (typed-parts v typed)))
   where
     with_date : TypedParts (record v { rows = with_changed id (written now resource bytes writes) v.rows }) → TypedParts (record v { modified = if writes then pos now else v.modified; rows = with_changed id (written now resource bytes writes) v.rows })
     with_date t = record { name = t.name; created = t.created; modified = date-either now writes v.modified moment t.modified; backup = t.backup; next = t.next; rows = t.rows; comments = t.comments; icons = t.icons; appls = t.appls }

@@ -25,7 +25,6 @@ pub mod PathNames
 pub mod LongPathNames
 pub mod NameBytes
 pub mod TypedEdits
-pub mod TypedCalls
 pub mod TypedSteps
 pub mod OpenFiles
 pub mod Orders
@@ -35,3 +34,13 @@ pub mod SeenRows
 pub mod Counted
 pub mod Keys
 pub mod Desktops
+pub mod EditsSound
+pub mod EffectEdits
+pub mod NewCalls
+pub mod CallsMay
+pub mod EditsLater
+pub mod EditsTyped
+pub mod CallsBring
+pub mod WorkedKeys
+pub mod WorkedCallCases
+pub mod WorkedDesktopCases

@@ -1,26 +1,32 @@
--- A call lets the volume's name be; one that is not refused lets each file be of which a fork is open.
-use Rattle.std.proofs.Common.{◌==◌, ◌≡◌, ◌∙◌, ap, sym, refl, ℕ, Bool, true, false, not, ◌&&◌, List, [], ◌∷◌, Option, Some, None}
+-- An edit lets the volume's name be; one of a call that is not refused lets each file be of which a fork is open.
+use Rattle.std.proofs.Common.{◌==◌, ◌≡◌, ◌∙◌, ap, sym, refl, subst, ℕ, Bool, true, false, not, ◌&&◌, cond, List, [], ◌∷◌, ◌++◌, Option, Some, None}
 use Rattle.std.specs.Prelude.{Result, Ok, Err}
-use Rattle.std.proofs.lemmas.Bool.{and_parts, cond_both, eqb-true, both_ways}
+use Rattle.std.proofs.lemmas.Bool.{and_parts, and_from, cond_both, eq-eqb, eqb-true, both_ways}
 use Rattle.afp_base.specs.declared.code.Code.{Code}
 use Rattle.afp_base.specs.declared.code.Code.TheVariants.{ObjectExists, DiskFull, AccessDenied, ObjectLocked, FileBusy, DirNotEmpty, ObjectTypeErr}
 use Rattle.afp_names.specs.Name.{name_key}
 use Rattle.afp_names.specs.Path.{PathValue}
-use Rattle.volume_spec.proofs.Refusals.{none-holds, at-found}
-use Rattle.volume_spec.specs.Shared.{Opened, done_at, created, delete_inhibit, directory_of, has_attribute, has_no_ids, is_busy, name_of}
-use Rattle.volume_spec.specs.CreateDir.{create_dir_effect}
-use Rattle.volume_spec.specs.CreateFile.{create_file_there, without_replaced, create_file_refusal, create_file_effect}
-use Rattle.volume_spec.specs.Delete.{delete_refusal, delete_effect}
-use Rattle.volume_spec.specs.Edits.{at_place, change_at, changed_at, children_changed, has_children, modified_at, named, renamed, with_changed, with_moved, with_new, with_row, without, without_node}
-use Rattle.volume_spec.specs.MoveAndRename.{move_effect}
-use Rattle.volume_spec.specs.Rename.{rename_effect}
-use Rattle.volume_spec.specs.SetFileDirParms.{settings_in, with_node_set, with_settings, set_parms_effect}
-use Rattle.volume_spec.specs.SetVolParms.{set_vol_parms_effect}
-use Rattle.volume_spec.specs.SoundVolume.{has_file}
-use Rattle.volume_spec.specs.TreeSteps.{TreeCall, CreateDir, CreateFile, Delete, Rename, MoveAndRename, SetFileParms, SetDirParms, SetFileDirParms, SetVolParms, TreeStep, tree_refusal, tree_effect}
-use Rattle.volume_spec.specs.VolumeState.{Row, VolumeState, root_id, new_row}
-use Rattle.volume_spec.specs.Walk.{Place, child_by_key, found, has_directory, new_place, one_down, one_down_or}
-use Rattle.afp_base.proofs.ListFacts.{any-longer, any-map, any-still, any-weaker}
+use Rattle.volume_spec.proofs.EffectEdits.{effects-are}
+use Rattle.volume_spec.proofs.NewCalls.{exchange-may}
+use Rattle.volume_spec.proofs.Refusals.{none-holds, at-each, at-found}
+use Rattle.volume_spec.specs.Comments.{does_comment}
+use Rattle.volume_spec.specs.CreateFile.{create_file_there, create_file_refusal}
+use Rattle.volume_spec.specs.Delete.{delete_refusal}
+use Rattle.volume_spec.specs.Edit.{Edit, Comes, Goes, Renames, Moves, Sets, Files, Writes, Exchanges, PutsIcon, PutsAppl, TakesAppl, Comments, BacksUp, after_call, after_edits, edited}
+use Rattle.volume_spec.specs.EditLaws.{LetsFilesBe, LetFilesBe, MayEditAll, MayExchange, volume_call}
+use Rattle.volume_spec.specs.Edits.{at_place, change_at, has_children, named, put, with_changed, with_forks_of, with_row, without, without_node, exchanged_at, filed_as}
+use Rattle.volume_spec.specs.ForkEffect.{written}
+use Rattle.volume_spec.specs.SetFileDirParms.{with_settings}
+use Rattle.volume_spec.specs.Shared.{Opened, delete_inhibit, has_attribute, has_no_ids, is_busy, name_of}
+use Rattle.volume_spec.specs.SoundVolume.{has_file, IsSoundVolume}
+use Rattle.volume_spec.specs.TreeSteps as tree
+use Rattle.volume_spec.specs.TreeSteps.{TreeCall, TreeStep, tree_refusal, tree_effect}
+use Rattle.volume_spec.specs.Edit.{creates, edits_at}
+use Rattle.volume_spec.specs.CreateFile.{replaces}
+use Rattle.volume_spec.specs.VolumeCalls.{VolumeCall, CreateDir, CreateFile, Delete, Rename, MoveAndRename, SetFileParms, SetDirParms, SetFileDirParms, SetVolParms, CopyFile, ExchangeFiles, CreateID, DeleteID, AddIcon, AddAPPL, RemoveAPPL, AddComment, RemoveComment, call_edits, volume_refusal}
+use Rattle.volume_spec.specs.VolumeState.{Row, VolumeState, root_id}
+use Rattle.volume_spec.specs.Walk.{Place, child_by_key, found, has_directory, new_place, one_down, one_down_or, row_at}
+use Rattle.afp_base.proofs.ListFacts.{any-longer, any-map, any-still, any-weaker, find-passes}
 
 -- this file stays
 abbrev pub LetsBe : ℕ → VolumeState → VolumeState → Type 0
@@ -57,100 +63,151 @@ without-be id v gone other h =
     any-still (λ (row : Row). row.id == id && not row.dir) (λ (row : Row). not (row.id == gone)) v.rows
     (λ row is. ap (λ (n : ℕ). not (n == gone)) (eqb-true row.id id (and_parts (row.id == id) (not row.dir) is).0) ∙ ap not other) h
 
--- the dates of a directory and of the volume
-touched-be : (id : ℕ) (v w : VolumeState) (now dir : ℕ) → LetsBe id v w → LetsBe id v (changed_at now (children_changed now dir w))
-touched-be id v w now dir l h = changed-be id w dir (modified_at now) (λ row. refl) (λ row. refl) (l h)
+-- another file in the place of what has that id
+put-be : (id : ℕ) (v : VolumeState) (at_id : ℕ) (t : Row) → t.id ≡ at_id → t.dir ≡ false → LetsBe id v (record v { rows = with_changed at_id (put t) v.rows })
+unfolding with_changed
+put-be id v at_id t is file h =
+    any-map (λ (row : Row). row.id == id && not row.dir) (change_at at_id (put t)) v.rows
+    ∙ any-weaker (λ (row : Row). row.id == id && not row.dir) (λ (row : Row). (change_at at_id (put t) row).id == id && not (change_at at_id (put t) row).dir) v.rows
+    (λ row there. cond_both (row.id == at_id) t row (λ r. (r.id == id && not r.dir) ≡ true)
+    (λ here. and_from (t.id == id) (not t.dir) (eq-eqb t.id id (is ∙ sym (eqb-true row.id at_id here) ∙ eqb-true row.id id (and_parts (row.id == id) (not row.dir) there).0)) (ap not file))
+    (λ stays. there)) h
 
-created-be : (id : ℕ) (v w : VolumeState) (dir : Bool) (now : ℕ) (place : Place) → LetsBe id v w → LetsBe id v (created dir now w place)
-created-be id v w dir now place l =
-    touched-be id v (with_new dir place.dir place.name now w) now place.dir (λ h. new-be id w (new_row dir w.next_id place.dir place.name now) (l h))
+exchange-be : (id : ℕ) (v : VolumeState) (a b : ℕ) → MayExchange v a b → LetsBe id v (exchanged_at a b (row_at v.rows a) (row_at v.rows b) v)
+unfolding row_at
+exchange-be id v a b m =
+    let s : Row = m.first in
+    let t : Row = m.second in
+    let one : s.id ≡ a = eqb-true s.id a (find-passes (λ (r : Row). r.id == a) v.rows s m.first_found) in
+    let two : t.id ≡ b = eqb-true t.id b (find-passes (λ (r : Row). r.id == b) v.rows t m.second_found) in
+    let u : VolumeState = record v { rows = with_changed a (put (with_forks_of t s)) v.rows } in
+    subst (LetsBe id v) (λ i. exchanged_at a b (sym m.first_found i) (sym m.second_found i) v)
+    (λ h. put-be id u b (with_forks_of s t) two m.second_file (put-be id v a (with_forks_of t s) one m.first_file h))
 
--- what is done with what was found, if something was
-done-be : {A : Type 0} (id : ℕ) (v : VolumeState) (r : Result A Code) (does : A → VolumeState) → ((a : A) → LetsBe id v (does a)) → LetsBe id v (done_at r v does)
-done-be id v (Ok a) does gives = gives a
-done-be id v (Err code) does gives = λ h. h
+pub edit-lets-be : (v : VolumeState) (opens : List Opened) (e : Edit) (id : ℕ) → LetsFilesBe v opens e → is_busy opens id ≡ true → LetsBe id v (edited v e)
+unfolding edited with_settings
+edit-lets-be v opens (Comes row) id l busy = new-be id v row
+edit-lets-be v opens (Goes gone) id l busy = without-be id v gone (another opens id gone busy l)
+edit-lets-be v opens (Renames at_id name) id l busy = changed-be id v at_id (named name) (λ row. refl) (λ row. refl)
+edit-lets-be v opens (Moves at_id parent name) id l busy = changed-be id v at_id (at_place parent name) (λ row. refl) (λ row. refl)
+edit-lets-be v opens (Sets at_id settings) id l busy = changed-be id v at_id (with_settings settings) (λ row. refl) (λ row. refl)
+edit-lets-be v opens (Files at_id filed) id l busy = changed-be id v at_id (filed_as filed) (λ row. refl) (λ row. refl)
+edit-lets-be v opens (Writes now at_id resource bytes) id l busy = changed-be id v at_id (written now resource bytes true) (λ row. refl) (λ row. refl)
+edit-lets-be v opens (Exchanges a b) id l busy = exchange-be id v a b l
+edit-lets-be v opens (PutsIcon icon) id l busy = λ h. h
+edit-lets-be v opens (PutsAppl appl) id l busy = λ h. h
+edit-lets-be v opens (TakesAppl creator node) id l busy = λ h. h
+edit-lets-be v opens (Comments node text) id l busy = λ h. h
+edit-lets-be v opens (BacksUp date) id l busy = λ h. h
 
-create-file-be : (id : ℕ) (v : VolumeState) (opens : List Opened) (hard : Bool) (now dir : ℕ) (path : PathValue) → is_busy opens id ≡ true → create_file_refusal v opens hard dir path ≡ None → LetsBe id v (create_file_effect v now dir path)
-unfolding create_file_refusal create_file_effect
-create-file-be id v opens hard now dir path busy passes =
-    at-found (LetsBe id v) (new_place v.rows dir path) _ v _ passes (λ place is clear. by-old place (child_by_key v.rows place.dir (name_key place.name)) clear)
+edits-let-be : (v : VolumeState) (opens : List Opened) (edits : List Edit) (id : ℕ) → LetFilesBe v opens edits → is_busy opens id ≡ true → LetsBe id v (after_edits v edits)
+edits-let-be v opens [] id l busy h = h
+edits-let-be v opens (e ∷ es) id l busy h = edits-let-be (edited v e) opens es id l.1 busy (edit-lets-be v opens e id l.0 busy h)
+
+pub edits-of-call-let-be : (v : VolumeState) (opens : List Opened) (now : ℕ) (edits : List Edit) (id : ℕ) → LetFilesBe v opens edits → is_busy opens id ≡ true → LetsBe id v (after_call v now edits)
+edits-of-call-let-be v opens now [] id l busy h = h
+edits-of-call-let-be v opens now (e ∷ es) id l busy h = edits-let-be v opens (e ∷ es) id l busy h
+
+-- the edits of calls
+
+create-file-lets : (v : VolumeState) (opens : List Opened) (hard : Bool) (now dir : ℕ) (path : PathValue) → create_file_refusal v opens hard dir path ≡ None → LetFilesBe v opens (call_edits v now (CreateFile hard dir path))
+unfolding create_file_refusal call_edits
+create-file-lets v opens hard now dir path passes =
+    at-found (LetFilesBe v opens) (new_place v.rows dir path) _ [] _ passes (λ place is clear. by-old place (child_by_key v.rows place.dir (name_key place.name)) clear)
   where
-    by-old : (place : Place) (o : Option ℕ) → create_file_there v opens hard o ≡ None → LetsBe id v (created false now (without_replaced v o) place)
-    by-old place None clear = created-be id v v false now place (λ h. h)
+    by-old : (place : Place) (o : Option ℕ) → create_file_there v opens hard o ≡ None → LetFilesBe v opens (replaces o ++ creates false now v place)
+    by-old place None clear = (tt, (tt, tt))
     by-old place (Some old) clear =
         let none = none-holds ((has_directory v.rows old, ObjectTypeErr) ∷ (not hard, ObjectExists) ∷ (is_busy opens old, FileBusy) ∷ (has_attribute v.rows delete_inhibit old, ObjectLocked) ∷ (has_no_ids v, DiskFull) ∷ []) clear in
-        created-be id v (without_node old v) false now place (without-be id v old (another opens id old busy none.1.1.0))
+        (none.1.1.0, (tt, (tt, tt)))
 
-delete-be : (id : ℕ) (v : VolumeState) (opens : List Opened) (now dir : ℕ) (path : PathValue) → is_busy opens id ≡ true → delete_refusal v opens dir path ≡ None → LetsBe id v (delete_effect v now dir path)
-unfolding delete_refusal delete_effect
-delete-be id v opens now dir path busy passes =
-    at-found (LetsBe id v) (found v.rows dir path) _ v _ passes (λ gone is clear.
+delete-lets : (v : VolumeState) (opens : List Opened) (now dir : ℕ) (path : PathValue) → delete_refusal v opens dir path ≡ None → LetFilesBe v opens (call_edits v now (Delete dir path))
+unfolding delete_refusal call_edits
+delete-lets v opens now dir path passes =
+    at-found (LetFilesBe v opens) (found v.rows dir path) _ [] _ passes (λ gone is clear.
     let none = none-holds ((gone == root_id, AccessDenied) ∷ (has_attribute v.rows delete_inhibit gone, ObjectLocked) ∷ (is_busy opens gone, FileBusy) ∷ (has_children v.rows gone, DirNotEmpty) ∷ []) clear in
-    touched-be id v (without_node gone v) now (directory_of v.rows gone) (without-be id v gone (another opens id gone busy none.1.1.0)))
+    (none.1.1.0, (tt, tt)))
 
-create-dir-be : (id : ℕ) (v : VolumeState) (now dir : ℕ) (path : PathValue) → LetsBe id v (create_dir_effect v now dir path)
-unfolding create_dir_effect
-create-dir-be id v now dir path = done-be id v (new_place v.rows dir path) (created true now v) (λ place. created-be id v v true now place (λ h. h))
+tree-lets : (v : VolumeState) (opens : List Opened) (now : ℕ) (call : TreeCall) → tree_refusal v opens call ≡ None → LetFilesBe v opens (call_edits v now (volume_call call))
+unfolding call_edits
+tree-lets v opens now (tree.CreateDir dir path) passes = at-each (LetFilesBe v opens) (new_place v.rows dir path) [] _ tt (λ place is. (tt, (tt, tt)))
+tree-lets v opens now (tree.CreateFile hard dir path) passes = create-file-lets v opens hard now dir path passes
+tree-lets v opens now (tree.Delete dir path) passes = delete-lets v opens now dir path passes
+tree-lets v opens now (tree.Rename dir path new) passes = at-each (LetFilesBe v opens) (found v.rows dir path) [] _ tt (λ id is. at-each (LetFilesBe v opens) (one_down new.steps) [] _ tt (λ name down. (tt, (tt, tt))))
+tree-lets v opens now (tree.MoveAndRename dir path to_dir to_path new) passes =
+    at-each (LetFilesBe v opens) (found v.rows dir path) [] _ tt (λ id is. at-each (LetFilesBe v opens) (found v.rows to_dir to_path) [] _ tt (λ target to.
+    at-each (LetFilesBe v opens) (one_down_or (name_of v.rows id) new.steps) [] _ tt (λ name down. (tt, (tt, (tt, tt))))))
+tree-lets v opens now (tree.SetFileParms dir bits path tail) passes = at-each (LetFilesBe v opens) (found v.rows dir path) [] _ tt (λ id is. (tt, tt))
+tree-lets v opens now (tree.SetDirParms dir bits path tail) passes = at-each (LetFilesBe v opens) (found v.rows dir path) [] _ tt (λ id is. (tt, tt))
+tree-lets v opens now (tree.SetFileDirParms dir bits path tail) passes = at-each (LetFilesBe v opens) (found v.rows dir path) [] _ tt (λ id is. (tt, tt))
+tree-lets v opens now (tree.SetVolParms bits tail) passes = (tt, tt)
 
-rename-be : (id : ℕ) (v : VolumeState) (now dir : ℕ) (path new : PathValue) → LetsBe id v (rename_effect v now dir path new)
-unfolding rename_effect
-rename-be id v now dir path new =
-    done-be id v (found v.rows dir path) _ (λ node. done-be id v (one_down new.steps) _ (λ name.
-    touched-be id v (renamed node name v) now (directory_of v.rows node) (changed-be id v node (named name) (λ row. refl) (λ row. refl))))
+-- two files that may change their forks
+exchange-lets : (v : VolumeState) (opens : List Opened) (one two : Result ℕ Code) → MayEditAll v (edits_at one (λ a. edits_at two (λ b. Exchanges a b ∷ []))) → LetFilesBe v opens (edits_at one (λ a. edits_at two (λ b. Exchanges a b ∷ [])))
+exchange-lets v opens (Ok a) (Ok b) m = (m.0, tt)
+exchange-lets v opens (Ok a) (Err code) m = tt
+exchange-lets v opens (Err code) two m = tt
 
-move-be : (id : ℕ) (v : VolumeState) (now dir : ℕ) (path : PathValue) (to_dir : ℕ) (to_path new : PathValue) → LetsBe id v (move_effect v now dir path to_dir to_path new)
-unfolding move_effect
-move-be id v now dir path to_dir to_path new =
-    done-be id v (found v.rows dir path) _ (λ node. done-be id v (found v.rows to_dir to_path) _ (λ target. done-be id v (one_down_or (name_of v.rows node) new.steps) _ (λ name.
-    touched-be id v (children_changed now (directory_of v.rows node) (with_moved node target name v)) now target
-    (λ h. changed-be id (with_moved node target name v) (directory_of v.rows node) (modified_at now) (λ row. refl) (λ row. refl)
-    (changed-be id v node (at_place target name) (λ row. refl) (λ row. refl) h)))))
-
-set-be : (id : ℕ) (v : VolumeState) (now dir bits : ℕ) (path : PathValue) (tail : List ℕ) → LetsBe id v (set_parms_effect v now dir bits path tail)
-unfolding set_parms_effect with_node_set with_settings
-set-be id v now dir bits path tail =
-    done-be id v (found v.rows dir path) _ (λ node. changed-be id v node (with_settings (settings_in bits tail)) (λ row. refl) (λ row. refl))
-
-set-volume-be : (id : ℕ) (v : VolumeState) (now : ℕ) (tail : List ℕ) → LetsBe id v (set_vol_parms_effect v now tail)
-unfolding set_vol_parms_effect
-set-volume-be id v now tail h = h
+pub calls-let : (v : VolumeState) (opens : List Opened) (now : ℕ) (call : VolumeCall) → volume_refusal v opens call ≡ None → IsSoundVolume v → LetFilesBe v opens (call_edits v now call)
+unfolding call_edits
+calls-let v opens now (CreateDir dir path) passes s = tree-lets v opens now (tree.CreateDir dir path) passes
+calls-let v opens now (CreateFile hard dir path) passes s = tree-lets v opens now (tree.CreateFile hard dir path) passes
+calls-let v opens now (Delete dir path) passes s = tree-lets v opens now (tree.Delete dir path) passes
+calls-let v opens now (Rename dir path new) passes s = tree-lets v opens now (tree.Rename dir path new) passes
+calls-let v opens now (MoveAndRename dir path to_dir to_path new) passes s = tree-lets v opens now (tree.MoveAndRename dir path to_dir to_path new) passes
+calls-let v opens now (SetFileParms dir bits path tail) passes s = tree-lets v opens now (tree.SetFileParms dir bits path tail) passes
+calls-let v opens now (SetDirParms dir bits path tail) passes s = tree-lets v opens now (tree.SetDirParms dir bits path tail) passes
+calls-let v opens now (SetFileDirParms dir bits path tail) passes s = tree-lets v opens now (tree.SetFileDirParms dir bits path tail) passes
+calls-let v opens now (SetVolParms bits tail) passes s = (tt, tt)
+calls-let v opens now (CopyFile source dir path new) passes s = at-each (LetFilesBe v opens) (found v.rows dir path) [] _ tt (λ target is. at-each (LetFilesBe v opens) (one_down_or source.file.name new.steps) [] _ tt (λ name down. (tt, (tt, tt))))
+calls-let v opens now (ExchangeFiles dir path second_dir second_path) passes s = exchange-lets v opens (found v.rows dir path) (found v.rows second_dir second_path) (exchange-may v now dir path second_dir second_path passes s)
+calls-let v opens now (CreateID dir path) passes s = at-each (LetFilesBe v opens) (found v.rows dir path) [] _ tt (λ id is. (tt, tt))
+calls-let v opens now (DeleteID id) passes s = (tt, tt)
+calls-let v opens now (AddIcon icon) passes s = (tt, tt)
+calls-let v opens now (AddAPPL dir creator tag path) passes s = at-each (LetFilesBe v opens) (found v.rows dir path) [] _ tt (λ id is. (tt, tt))
+calls-let v opens now (RemoveAPPL dir creator path) passes s = at-each (LetFilesBe v opens) (found v.rows dir path) [] _ tt (λ id is. (tt, tt))
+calls-let v opens now (AddComment dir path text) passes s = at-each (LetFilesBe v opens) (found v.rows dir path) [] _ tt (λ id is. by id (does_comment v id text))
+  where
+    by : (id : ℕ) (b : Bool) → LetFilesBe v opens (cond b (Comments id text ∷ []) [])
+    by id true = (tt, tt)
+    by id false = tt
+calls-let v opens now (RemoveComment dir path) passes s = at-each (LetFilesBe v opens) (found v.rows dir path) [] _ tt (λ id is. (tt, tt))
 
 pub call-lets-be : (v : VolumeState) (step : TreeStep) (id : ℕ) → tree_refusal v step.opens step.call ≡ None → is_busy step.opens id ≡ true → LetsBe id v (tree_effect v step.now step.call)
-call-lets-be v step id passes busy = go step.call passes
-  where
-    go : (call : TreeCall) → tree_refusal v step.opens call ≡ None → LetsBe id v (tree_effect v step.now call)
-    go (CreateDir dir path) passes = create-dir-be id v step.now dir path
-    go (CreateFile hard dir path) passes = create-file-be id v step.opens hard step.now dir path busy passes
-    go (Delete dir path) passes = delete-be id v step.opens step.now dir path busy passes
-    go (Rename dir path new) passes = rename-be id v step.now dir path new
-    go (MoveAndRename dir path to_dir to_path new) passes = move-be id v step.now dir path to_dir to_path new
-    go (SetFileParms dir bits path tail) passes = set-be id v step.now dir bits path tail
-    go (SetDirParms dir bits path tail) passes = set-be id v step.now dir bits path tail
-    go (SetFileDirParms dir bits path tail) passes = set-be id v step.now dir bits path tail
-    go (SetVolParms bits tail) passes = set-volume-be id v step.now tail
+call-lets-be v step id passes busy =
+    subst (LetsBe id v) (effects-are v step.now step.call)
+    (edits-of-call-let-be v step.opens step.now (call_edits v step.now (volume_call step.call)) id (tree-lets v step.opens step.now step.call passes) busy)
 
 -- the name of the volume
 
-done-named : {A : Type 0} (v : VolumeState) (r : Result A Code) (does : A → VolumeState) → ((a : A) → (does a).name ≡ v.name) → (done_at r v does).name ≡ v.name
-done-named v (Ok a) does gives = gives a
-done-named v (Err code) does gives = refl
+exchange-named : (v : VolumeState) (a b : ℕ) (s t : Option Row) → (exchanged_at a b s t v).name ≡ v.name
+exchange-named v a b None t = refl
+exchange-named v a b (Some s) None = refl
+exchange-named v a b (Some s) (Some t) = refl
 
-replaced-named : (v : VolumeState) (o : Option ℕ) → (without_replaced v o).name ≡ v.name
-replaced-named v None = refl
-replaced-named v (Some old) = refl
+pub edit-named : (v : VolumeState) (e : Edit) → (edited v e).name ≡ v.name
+unfolding edited
+edit-named v (Comes row) = refl
+edit-named v (Goes id) = refl
+edit-named v (Renames id name) = refl
+edit-named v (Moves id parent name) = refl
+edit-named v (Sets id settings) = refl
+edit-named v (Files id filed) = refl
+edit-named v (Writes now id resource bytes) = refl
+edit-named v (Exchanges a b) = exchange-named v a b (row_at v.rows a) (row_at v.rows b)
+edit-named v (PutsIcon icon) = refl
+edit-named v (PutsAppl appl) = refl
+edit-named v (TakesAppl creator node) = refl
+edit-named v (Comments node text) = refl
+edit-named v (BacksUp date) = refl
+
+edits-named : (v : VolumeState) (edits : List Edit) → (after_edits v edits).name ≡ v.name
+edits-named v [] = refl
+edits-named v (e ∷ es) = edits-named (edited v e) es ∙ edit-named v e
+
+pub edits-of-call-named : (v : VolumeState) (now : ℕ) (edits : List Edit) → (after_call v now edits).name ≡ v.name
+edits-of-call-named v now [] = refl
+edits-of-call-named v now (e ∷ es) = edits-named v (e ∷ es)
 
 pub call-named : (v : VolumeState) (step : TreeStep) → (tree_effect v step.now step.call).name ≡ v.name
-unfolding create_dir_effect create_file_effect delete_effect rename_effect move_effect set_parms_effect with_node_set set_vol_parms_effect
-call-named v step = go step.call
-  where
-    go : (call : TreeCall) → (tree_effect v step.now call).name ≡ v.name
-    go (CreateDir dir path) = done-named v (new_place v.rows dir path) _ (λ place. refl)
-    go (CreateFile hard dir path) = done-named v (new_place v.rows dir path) _ (λ place. replaced-named v (child_by_key v.rows place.dir (name_key place.name)))
-    go (Delete dir path) = done-named v (found v.rows dir path) _ (λ id. refl)
-    go (Rename dir path new) = done-named v (found v.rows dir path) _ (λ id. done-named v (one_down new.steps) _ (λ name. refl))
-    go (MoveAndRename dir path to_dir to_path new) =
-        done-named v (found v.rows dir path) _ (λ id. done-named v (found v.rows to_dir to_path) _ (λ target. done-named v (one_down_or (name_of v.rows id) new.steps) _ (λ name. refl)))
-    go (SetFileParms dir bits path tail) = done-named v (found v.rows dir path) _ (λ id. refl)
-    go (SetDirParms dir bits path tail) = done-named v (found v.rows dir path) _ (λ id. refl)
-    go (SetFileDirParms dir bits path tail) = done-named v (found v.rows dir path) _ (λ id. refl)
-    go (SetVolParms bits tail) = refl
+call-named v step = ap (λ (w : VolumeState). w.name) (sym (effects-are v step.now step.call)) ∙ edits-of-call-named v step.now (call_edits v step.now (volume_call step.call))

@@ -1,6 +1,6 @@
 -- What follows where nothing is refused.
 use Rattle.std.proofs.Common.{◌≡◌, ◌∙◌, ap, sym, refl, ℕ, Bool, true, false, List, [], ◌∷◌, Option, Some, None}
-use Rattle.std.specs.Prelude.{Result, Ok, Err, is_none, option_map, cond}
+use Rattle.std.specs.Prelude.{Result, Ok, Err, is_none, is_some, option_map, cond}
 use Rattle.std.specs.List.{list_all}
 use Rattle.std.proofs.lemmas.Bool.{and_parts, cond_both}
 use Rattle.afp_base.specs.Choice.{first_holding}
@@ -41,6 +41,16 @@ pub at-found : {A B : Type 0} (P : B → Type 0) (r : Result A Code) (refused : 
     → ((a : A) → r ≡ Ok a → refused a ≡ None → P (does a)) → P (done_at r old does)
 at-found P (Ok a) refused old does h gives = gives a refl h
 at-found P (Err code) refused old does h gives = absurd (cc)
+
+-- a fact of what is done holds where it does of each thing found, and of the old
+pub at-each : {A B : Type 0} (P : B → Type 0) (r : Result A Code) (old : B) (does : A → B) → P old → ((a : A) → r ≡ Ok a → P (does a)) → P (done_at r old does)
+at-each P (Ok a) old does h gives = gives a refl
+at-each P (Err code) old does h gives = h
+
+-- what is not there is none
+pub is-none : {A : Type 0} (o : Option A) → is_some o ≡ false → o ≡ None
+is-none None h = refl
+is-none (Some a) h = absurd (cc)
 
 -- a new place is in a directory, under a name
 

@@ -1,20 +1,20 @@
 -- Each edit of a volume keeps it sound.
-use Rattle.std.proofs.Common.{◌==◌, ◌≡◌, ◌∙◌, ap, sym, refl, ℕ, ◌+◌, ◌≤◌, ◌<◌, arith, Bool, true, false, not, ◌&&◌, cond, List, [], ◌∷◌, length, map, Some, None, subst}
+use Rattle.std.proofs.Common.{◌==◌, ◌≡◌, ◌∙◌, ap, sym, refl, ℕ, ◌+◌, Bool, true, false, not, ◌&&◌, cond, List, [], ◌∷◌, length, map, Some, None, subst}
 use Rattle.std.specs.List.{list_any, list_all, find}
 use Rattle.std.specs.Prelude.{is_none, bit_and}
 use Rattle.std.proofs.lemmas.Bool.{and_parts, and_from, cond_both, cond-true, cond-false, eqb-true, both_ways}
-use Rattle.afp_names.specs.Name.{name_key, name_fault}
-use Rattle.volume_spec.proofs.Formed.{FormedParts, LimitParts, formed-parts, formed-whole, formed-new, new-formed, formed-mapped, formed-without, limit-parts, limit-whole, limits-new, limits-mapped, limits-without}
+use Rattle.afp_names.specs.Name.{name_fault}
+use Rattle.volume_spec.proofs.Formed.{FormedParts, formed-parts, formed-whole, formed-new, formed-mapped, formed-without, limit-parts, limit-whole, limits-new, limits-mapped, limits-without}
 use Rattle.volume_spec.proofs.NamesApart.{names-new, names-without, names-mapped, names-moved}
 use Rattle.volume_spec.proofs.Notes.{note-parts, note-whole, notes-new, notes-mapped, notes-without}
 use Rattle.volume_spec.proofs.Orders.{order-parts, order-whole, order-new, order-mapped, order-without}
 use Rattle.volume_spec.proofs.Trees.{TreeParts, KeepsPlace, KeepsTree, keeps-tree, tree-parts, tree-whole, tree-new, tree-without, tree-mapped, tree-moved, keeps-at}
-use Rattle.volume_spec.specs.Edits.{is_taken, is_below, has_children, with_changed, change_at, at_place, modified_at, changed_at, children_changed, with_row, with_new, without_node, with_moved, named, renamed}
+use Rattle.volume_spec.specs.EditLaws.{MayCome}
+use Rattle.volume_spec.specs.Edits.{is_taken, is_below, has_children, with_changed, change_at, at_place, changed_at, with_row, without_node, with_moved, named, renamed}
 use Rattle.afp_base.specs.Apart.{are_apart}
-use Rattle.afp_base.specs.Limits.{most_fork_bytes}
-use Rattle.volume_spec.specs.SoundVolume.{fork_bytes, row_bytes, IsSoundVolume, is_tree, has_apart_names, has_noted_nodes, keeps_limits, is_formed_volume, is_in_order, is_formed, is_named, most_nodes, last_next_id, file_attributes, dir_attributes}
-use Rattle.volume_spec.specs.VolumeState.{Row, VolumeState, root_id, new_row}
-use Rattle.volume_spec.specs.Walk.{has_directory, child_by_key, row_at}
+use Rattle.volume_spec.specs.SoundVolume.{IsSoundVolume, is_tree, has_apart_names, has_noted_nodes, keeps_limits, is_formed_volume, is_in_order, is_formed, is_named, file_attributes, dir_attributes}
+use Rattle.volume_spec.specs.VolumeState.{Row, VolumeState, root_id}
+use Rattle.volume_spec.specs.Walk.{has_directory, row_at}
 use Rattle.afp_base.proofs.ListFacts.{none-all}
 use Rattle.volume_spec.proofs.Places.{unchanged}
 
@@ -52,27 +52,8 @@ pub sound-at : (v : VolumeState) (id : ℕ) (change : Row → Row) → KeepsRow 
 unfolding with_changed
 sound-at v id change k s = sound-mapped v (change_at id change) (row-keeps-at id change k) s
 
--- a modified date
-date-keeps : (now : ℕ) → KeepsRow (modified_at now)
-date-keeps now = record {
-  place = record { id = λ row. refl; parent = λ row. refl; dir = λ row. refl; name = λ row. refl };
-  formed = λ row h. h;
-  bytes = λ row. refl;
-}
-
-pub sound-children : (v : VolumeState) (now dir : ℕ) → IsSoundVolume v → IsSoundVolume (children_changed now dir v)
-sound-children v now dir s = sound-at v dir (modified_at now) (date-keeps now) s
-
 -- one row more
-pub record IsNewRow (v : VolumeState) (row : Row) : Type 0 where
-  pub directory : has_directory v.rows row.parent ≡ true
-  pub free : child_by_key v.rows row.parent (name_key row.name) ≡ None
-  pub formed : is_formed row ≡ true
-  pub few : length v.rows < most_nodes
-  pub left : v.next_id < last_next_id
-  pub bytes : fork_bytes v.rows + row_bytes row ≤ most_fork_bytes
-
-pub sound-row : (v : VolumeState) (row : Row) → IsNewRow v row → IsSoundVolume v → IsSoundVolume (with_row row v)
+pub sound-row : (v : VolumeState) (row : Row) → MayCome v row → IsSoundVolume v → IsSoundVolume (with_row row v)
 sound-row v row p s =
     let w : VolumeState = with_row row v in
     let f : FormedParts v = formed-parts v s.formed in
@@ -84,27 +65,6 @@ sound-row v row p s =
       formed = formed-whole w (formed-new v row p.left p.formed f);
       order = order-whole w (order-new v row f.low (tree-parts v s.tree) (order-parts v s.order));
     }
-
--- a new node
-pub record IsNewPlace (v : VolumeState) (parent : ℕ) (name : List ℕ) : Type 0 where
-  pub directory : has_directory v.rows parent ≡ true
-  pub named : name_fault name ≡ None
-  pub free : child_by_key v.rows parent (name_key name) ≡ None
-  pub few : length v.rows < most_nodes
-  pub left : v.next_id < last_next_id
-
-pub sound-new : (v : VolumeState) (dir : Bool) (parent : ℕ) (name : List ℕ) (now : ℕ) → IsNewPlace v parent name → IsSoundVolume v → IsSoundVolume (with_new dir parent name now v)
-sound-new v dir parent name now p s =
-    let limits : LimitParts v = limit-parts v s.limits in
-    let bytes : fork_bytes v.rows ≤ most_fork_bytes = limits.bytes in
-    sound-row v (new_row dir v.next_id parent name now) (record {
-      directory = p.directory;
-      free = p.free;
-      formed = new-formed dir v.next_id parent name now p.named;
-      few = p.few;
-      left = p.left;
-      bytes = omega arith;
-    }) s
 
 -- a node less
 pub sound-without : (v : VolumeState) (id : ℕ) → (id == root_id) ≡ false → has_children v.rows id ≡ false → IsSoundVolume v → IsSoundVolume (without_node id v)
@@ -120,7 +80,7 @@ sound-without v id other childless s =
     }
 
 -- a node at another place
-renamed-formed : (parent : ℕ) (name : List ℕ) → name_fault name ≡ None → (row : Row) → is_formed row ≡ true → is_formed (at_place parent name row) ≡ true
+pub renamed-formed : (parent : ℕ) (name : List ℕ) → name_fault name ≡ None → (row : Row) → is_formed row ≡ true → is_formed (at_place parent name row) ≡ true
 renamed-formed parent name good row h =
     let form : Bool = cond row.dir ((bit_and row.attributes dir_attributes == row.attributes) && ((length row.data_fork == 0) && ((length row.resource_fork == 0) && not row.filed))) (bit_and row.attributes file_attributes == row.attributes) in
     let e : (is_named row ≡ true) × (form ≡ true) = and_parts (is_named row) form h in

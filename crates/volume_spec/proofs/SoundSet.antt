@@ -1,4 +1,4 @@
--- What the set calls do keeps a volume sound.
+-- What is set of a node keeps its row formed.
 use Rattle.std.proofs.Common.{◌==◌, ◌≡◌, ◌∙◌, ap, sym, refl, ℕ, ◌+◌, ◌-◌, ◌≤◌, arith, Bool, true, false, not, ◌&&◌, cond, List, [], ◌∷◌, length, take, drop, Option, Some, None, subst}
 use Rattle.std.specs.Prelude.{is_none, bit_and, bit_or, nat_le, option_map, unwrap_or}
 use Rattle.std.specs.Int.{bit_not, w16}
@@ -6,18 +6,12 @@ use Rattle.std.proofs.lemmas.Bool.{and_parts, and_from, cond_both, cond-true, eq
 use Rattle.std.proofs.lemmas.List.{length-drop, length-take-le}
 use Rattle.std.proofs.lemmas.Nat.{and_assoc, and_comm}
 use Rattle.std.specs.Int.Bits.{and_self}
-use Rattle.afp_base.specs.declared.code.Code.TheVariants.{BitmapErr, ObjectTypeErr, ParamErr}
-use Rattle.afp_bitmap.specs.Bits.{is_asked, is_outside}
+use Rattle.afp_bitmap.specs.Bits.{is_asked}
 use Rattle.afp_names.specs.Name.{name_fault}
-use Rattle.afp_names.specs.Path.{PathValue}
-use Rattle.volume_spec.proofs.Refusals.{none-holds, none-first, at-found}
-use Rattle.volume_spec.proofs.SoundEdits.{KeepsRow, sound-at, sound-changed}
-use Rattle.volume_spec.specs.Edits.{with_changed}
-use Rattle.volume_spec.specs.SetFileDirParms.{Settings, has_sized_finder, set_fields, asked_bytes, is_short_tail, field_in, settings_in, attributes_by, with_settings, settable_bits, settable_dir_bits, set_file_parms_refusal, set_dir_parms_refusal, set_file_dir_parms_refusal, with_node_set, set_parms_effect}
-use Rattle.volume_spec.specs.SetVolParms.{set_vol_parms_effect}
-use Rattle.volume_spec.specs.SoundVolume.{IsSoundVolume, is_tree, has_apart_names, has_noted_nodes, keeps_limits, is_formed_volume, is_in_order, is_formed, is_named, has_file, file_attributes, dir_attributes}
-use Rattle.volume_spec.specs.VolumeState.{Row, VolumeState}
-use Rattle.volume_spec.specs.Walk.{found, has_directory}
+use Rattle.volume_spec.proofs.SoundEdits.{KeepsRow}
+use Rattle.volume_spec.specs.SetFileDirParms.{Settings, has_sized_finder, set_fields, asked_bytes, is_short_tail, field_in, settings_in, attributes_by, with_settings}
+use Rattle.volume_spec.specs.SoundVolume.{is_formed, is_named, file_attributes, dir_attributes}
+use Rattle.volume_spec.specs.VolumeState.{Row}
 
 masked : (mask word : ℕ) → bit_and (bit_and mask word) mask ≡ bit_and mask word
 masked mask word = ap (λ n. bit_and n mask) (and_comm mask word) ∙ and_assoc mask word mask ∙ ap (λ n. bit_and word n) (and_self mask) ∙ and_comm word mask
@@ -45,7 +39,7 @@ some-sized : (o : Option (List ℕ)) (old : List ℕ) → unwrap_or (option_map 
 some-sized None old sized h = h
 some-sized (Some info) old sized h = sized
 
-settings-keep : (s : Settings) → has_sized_finder s ≡ true → KeepsRow (with_settings s)
+pub settings-keep : (s : Settings) → has_sized_finder s ≡ true → KeepsRow (with_settings s)
 unfolding with_settings
 settings-keep s sized = record {
   place = record { id = λ row. refl; parent = λ row. refl; dir = λ row. refl; name = λ row. refl };
@@ -62,16 +56,12 @@ settings-keep s sized = record {
         (and_from (is_none (name_fault row.name)) (length (unwrap_or s.finder row.finder) == 32) n.0 (some-sized s.finder row.finder sized n.1))
         (some-may-have row.dir rest s.attributes row.attributes e.1)
 
-pub node-set-sound : (v : VolumeState) (now id : ℕ) (s : Settings) → has_sized_finder s ≡ true → IsSoundVolume v → IsSoundVolume (with_node_set now id s v)
-unfolding with_node_set
-node-set-sound v now id s sized h = sound-changed (record v { rows = with_changed id (with_settings s) v.rows }) now (sound-at v id (with_settings s) (settings-keep s sized) h)
-
 -- where eight fields are there, of which the fifth has 32 bytes, so many bytes are behind the four before it
 room : (a b c d e f g h n : ℕ) → e ≡ 32 → 0 + a + b + c + d + e + f + g + h ≤ n → 32 ≤ n - (0 + a + b + c + d)
 room a b c d e f g h n size there = omega arith
 
 -- a tail that is not short holds all of the Finder info
-not-short : (bits : ℕ) (tail : List ℕ) → is_short_tail bits tail ≡ false → has_sized_finder (settings_in bits tail) ≡ true
+pub not-short : (bits : ℕ) (tail : List ℕ) → is_short_tail bits tail ≡ false → has_sized_finder (settings_in bits tail) ≡ true
 unfolding is_short_tail settings_in field_in
 not-short bits tail h =
     let place : ℕ = asked_bytes bits ((0, 2) ∷ (2, 4) ∷ (3, 4) ∷ (4, 4) ∷ []) in
@@ -82,38 +72,3 @@ not-short bits tail h =
     let behind : 32 ≤ length tail - place = room _ _ _ _ _ _ _ _ (length tail) (cond-true {A = ℕ} (is_asked bits 5) 32 0 asked) long in
     eq-eqb (length info) 32 (length-take-le 32 (drop place tail) (subst (λ n. 32 ≤ n) (sym (length-drop place tail)) behind)))
     (λ other. refl)
-
-set-sound : (v : VolumeState) (now bits id : ℕ) (tail : List ℕ) → is_short_tail bits tail ≡ false → IsSoundVolume v → IsSoundVolume (with_node_set now id (settings_in bits tail) v)
-set-sound v now bits id tail long s = node-set-sound v now id (settings_in bits tail) (not-short bits tail long) s
-
--- FPSetFileParms
-pub set-file-sound : (v : VolumeState) (now dir bits : ℕ) (path : PathValue) (tail : List ℕ) → set_file_parms_refusal v dir bits path tail ≡ None → IsSoundVolume v → IsSoundVolume (set_parms_effect v now dir bits path tail)
-unfolding set_file_parms_refusal set_parms_effect
-set-file-sound v now dir bits path tail passes s =
-    let first = none-first ((is_outside settable_bits bits, BitmapErr) ∷ []) _ passes in
-    at-found IsSoundVolume (found v.rows dir path) _ v _ first.1 (λ id is clear.
-    let none = none-holds ((not (has_file v.rows id), ObjectTypeErr) ∷ (is_short_tail bits tail, ParamErr) ∷ []) clear in
-    set-sound v now bits id tail none.1.0 s)
-
--- FPSetDirParms
-pub set-dir-sound : (v : VolumeState) (now dir bits : ℕ) (path : PathValue) (tail : List ℕ) → set_dir_parms_refusal v dir bits path tail ≡ None → IsSoundVolume v → IsSoundVolume (set_parms_effect v now dir bits path tail)
-unfolding set_dir_parms_refusal set_parms_effect
-set-dir-sound v now dir bits path tail passes s =
-    let first = none-first ((is_outside settable_dir_bits bits, BitmapErr) ∷ []) _ passes in
-    at-found IsSoundVolume (found v.rows dir path) _ v _ first.1 (λ id is clear.
-    let none = none-holds ((not (has_directory v.rows id), ObjectTypeErr) ∷ (is_short_tail bits tail, ParamErr) ∷ []) clear in
-    set-sound v now bits id tail none.1.0 s)
-
--- FPSetFileDirParms
-pub set-file-dir-sound : (v : VolumeState) (now dir bits : ℕ) (path : PathValue) (tail : List ℕ) → set_file_dir_parms_refusal v dir bits path tail ≡ None → IsSoundVolume v → IsSoundVolume (set_parms_effect v now dir bits path tail)
-unfolding set_file_dir_parms_refusal set_parms_effect
-set-file-dir-sound v now dir bits path tail passes s =
-    let first = none-first ((is_outside settable_bits bits, BitmapErr) ∷ []) _ passes in
-    at-found IsSoundVolume (found v.rows dir path) _ v _ first.1 (λ id is clear.
-    let none = none-holds ((is_short_tail bits tail, ParamErr) ∷ []) clear in
-    set-sound v now bits id tail none.0 s)
-
--- FPSetVolParms
-pub set-volume-sound : (v : VolumeState) (now : ℕ) (tail : List ℕ) → IsSoundVolume v → IsSoundVolume (set_vol_parms_effect v now tail)
-unfolding set_vol_parms_effect is_tree has_apart_names has_noted_nodes keeps_limits is_formed_volume is_in_order
-set-volume-sound v now tail s = record { tree = s.tree; names = s.names; notes = s.notes; limits = s.limits; formed = s.formed; order = s.order }

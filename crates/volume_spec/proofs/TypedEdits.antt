@@ -7,12 +7,12 @@ use Rattle.std.proofs.lemmas.Bool.{and_parts, and_from, cond_both, eqb-true, le-
 use Rattle.std.proofs.lemmas.Nat.{and_le_l}
 use Rattle.byteorder.specs.Endian.{big_number}
 use Rattle.afp_bitmap.specs.Bits.{is_asked}
-use Rattle.volume_spec.specs.Edits.{with_changed, change_at, at_place, modified_at, changed_at, children_changed, with_new, without, without_node, with_moved, named, renamed}
+use Rattle.volume_spec.specs.Edits.{with_changed, change_at, at_place, changed_at, with_row, without, without_node, with_moved, named, renamed}
 use Rattle.volume_spec.specs.Parms.{date_in}
-use Rattle.volume_spec.specs.SetFileDirParms.{Settings, set_fields, asked_bytes, field_in, settings_in, attributes_by, with_settings, with_node_set}
+use Rattle.volume_spec.specs.SetFileDirParms.{Settings, set_fields, asked_bytes, field_in, settings_in, attributes_by, with_settings}
 use Rattle.volume_spec.specs.SoundVolume.{file_attributes, dir_attributes, last_next_id}
 use Rattle.volume_spec.specs.TypedVolume.{is_byte, is_word, is_long, are_bytes, is_date, is_typed_row, is_typed_comment, is_typed_icon, is_typed_appl, is_typed_volume}
-use Rattle.volume_spec.specs.VolumeState.{Row, Comment, Appl, VolumeState, new_row}
+use Rattle.volume_spec.specs.VolumeState.{Row, Comment, Appl, VolumeState}
 use Rattle.volume_spec.specs.Walk.{has_directory}
 use Rattle.afp_base.proofs.ListFacts.{all-filter, all-map-where, all-snoc, any-at}
 
@@ -106,36 +106,30 @@ typed-at v id change keeps t = record { name = t.name; created = t.created; modi
 pub typed-changed : (v : VolumeState) (now : ℕ) → is_date (pos now) ≡ true → TypedParts v → TypedParts (changed_at now v)
 typed-changed v now moment t = record { name = t.name; created = t.created; modified = moment; backup = t.backup; next = t.next; rows = t.rows; comments = t.comments; icons = t.icons; appls = t.appls }
 
-pub typed-children : (v : VolumeState) (now dir : ℕ) → is_date (pos now) ≡ true → TypedParts v → TypedParts (children_changed now dir v)
-typed-children v now dir moment t = typed-at v dir (modified_at now) (λ row h.
-    let r = row-parts row h in
-    row-whole (modified_at now row) (record { id = r.id; parent = r.parent; attributes = r.attributes; created = r.created; modified = moment; backup = r.backup; finder = r.finder; name = r.name; data_fork = r.data_fork; resource_fork = r.resource_fork })) t
-
--- the last touches: the date of a directory, and of the volume
-pub typed-touched : (v : VolumeState) (now dir : ℕ) → is_date (pos now) ≡ true → TypedParts v → TypedParts (changed_at now (children_changed now dir v))
-typed-touched v now dir moment t = typed-changed (children_changed now dir v) now moment (typed-children v now dir moment t)
-
 -- a directory's id
 pub directory-long : (rows : List Row) (id : ℕ) → has_directory rows id ≡ true → list_all is_typed_row rows ≡ true → is_long id ≡ true
 directory-long rows id there typed = any-at (λ (row : Row). (row.id == id) && row.dir) is_typed_row rows there typed
     (λ row is t. ap is_long (sym (eqb-true row.id id (and_parts (row.id == id) row.dir is).0)) ∙ (row-parts row t).id)
 
--- a new node
-pub typed-new : (v : VolumeState) (dir : Bool) (parent : ℕ) (name : List ℕ) (now : ℕ) → is_date (pos now) ≡ true → is_long parent ≡ true → are_bytes name ≡ true → v.next_id < last_next_id → TypedParts v → TypedParts (with_new dir parent name now v)
-typed-new v dir parent name now moment long bytes left t = record {
+-- a node more
+pub typed-come : (v : VolumeState) (row : Row) → is_typed_row row ≡ true → v.next_id < last_next_id → TypedParts v → TypedParts (with_row row v)
+typed-come v row typed left t = record {
   name = t.name;
   created = t.created;
   modified = t.modified;
   backup = t.backup;
   next = le-leb (v.next_id + 1) 4294967296 (omega arith);
-  rows = all-snoc is_typed_row v.rows row t.rows (row-whole row (record { id = lt-ltb v.next_id 4294967296 left; parent = long; attributes = refl; created = moment; modified = moment; backup = refl; finder = refl; name = bytes; data_fork = refl; resource_fork = refl }));
+  rows = all-snoc is_typed_row v.rows new t.rows (row-whole new (record { id = lt-ltb v.next_id 4294967296 left; parent = r.parent; attributes = r.attributes; created = r.created; modified = r.modified; backup = r.backup; finder = r.finder; name = r.name; data_fork = r.data_fork; resource_fork = r.resource_fork }));
   comments = t.comments;
   icons = t.icons;
   appls = t.appls;
 }
   where
-    row : Row
-    row = record (new_row dir v.next_id parent name now) { id = v.next_id }
+    new : Row
+    new = record row { id = v.next_id }
+
+    r : TypedRow row
+    r = row-parts row typed
 
 -- a node less
 pub typed-without : (v : VolumeState) (id : ℕ) → TypedParts v → TypedParts (without_node id v)
@@ -211,7 +205,7 @@ attributes-word : (dir : Bool) (o : Option ℕ) (old : ℕ) → is_word old ≡ 
 attributes-word dir None old h = h
 attributes-word dir (Some word) old h = settable-word dir word old
 
-settings-typed : (s : Settings) → TypedSettings s → KeepsTyped (with_settings s)
+pub settings-typed : (s : Settings) → TypedSettings s → KeepsTyped (with_settings s)
 unfolding with_settings
 settings-typed s t row h =
     let r = row-parts row h in
@@ -229,7 +223,7 @@ settings-typed s t row h =
     })
 
 -- what a tail of bytes holds
-tail-typed : (bits : ℕ) (tail : List ℕ) → are_bytes tail ≡ true → TypedSettings (settings_in bits tail)
+pub tail-typed : (bits : ℕ) (tail : List ℕ) → are_bytes tail ≡ true → TypedSettings (settings_in bits tail)
 unfolding settings_in field_in
 tail-typed bits tail bytes = record { created = a-date 2; modified = a-date 3; backup = a-date 4; finder = info }
   where
@@ -245,9 +239,3 @@ tail-typed bits tail bytes = record { created = a-date 2; modified = a-date 3; b
     info : unwrap_or (option_map are_bytes (cond (is_asked bits 5) (Some (piece 5 32)) None)) true ≡ true
     info = cond_both (is_asked bits 5) (Some (piece 5 32)) None (λ o. unwrap_or (option_map are_bytes o) true ≡ true)
         (λ asked. take-bytes 32 (drop (place 5) tail) (drop-bytes (place 5) tail bytes)) (λ other. refl)
-
-pub typed-set : (v : VolumeState) (now id bits : ℕ) (tail : List ℕ) → is_date (pos now) ≡ true → are_bytes tail ≡ true → TypedParts v → TypedParts (with_node_set now id (settings_in bits tail) v)
-unfolding with_node_set
-typed-set v now id bits tail moment bytes t =
-    typed-changed (record v { rows = with_changed id (with_settings (settings_in bits tail)) v.rows }) now moment
-    (typed-at v id (with_settings (settings_in bits tail)) (settings-typed (settings_in bits tail) (tail-typed bits tail bytes)) t)

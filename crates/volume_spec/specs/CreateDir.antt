@@ -1,10 +1,11 @@
 -- FPCreateDir (AFP Reference, "FPCreateDir"; the order of refusals is this profile's).
-use Rattle.std.specs.Prelude.{ℕ, true, [], ◌∷◌, Option, is_some}
+use Rattle.std.specs.Prelude.{ℕ, true, List, [], ◌∷◌, Option, is_some}
 use Rattle.afp_base.specs.Choice.{first_holding}
 use Rattle.afp_base.specs.declared.code.Code.{Code}
 use Rattle.afp_base.specs.declared.code.Code.TheVariants.{ObjectExists, DiskFull}
 use Rattle.afp_names.specs.Name.{name_key}
 use Rattle.afp_names.specs.Path.{PathValue}
+use Rattle.volume_spec.specs.Edit.{Edit, creates, edits_at}
 use Rattle.volume_spec.specs.VolumeState.{VolumeState}
 use Rattle.volume_spec.specs.Walk.{new_place, child_by_key}
 use Rattle.volume_spec.specs.Shared.{behind, done_at, has_no_room, created}
@@ -19,6 +20,10 @@ create_dir_refusal v dir path = behind (new_place v.rows dir path) (λ place. fi
 -- the volume with the new directory (AFP Reference, "FPCreateDir")
 unfoldable pub create_dir_effect : VolumeState → ℕ → ℕ → PathValue → VolumeState
 create_dir_effect v now dir path = done_at (new_place v.rows dir path) v (created true now v)
+
+-- the new directory comes
+abbrev pub create_dir_edits : VolumeState → ℕ → ℕ → PathValue → List Edit
+create_dir_edits v now dir path = edits_at (new_place v.rows dir path) (creates true now v)
 
 -- the id that is told: that of the new directory (AFP Reference, "FPCreateDir")
 unfoldable pub create_dir_id : VolumeState → ℕ

@@ -1,10 +1,11 @@
 -- FPCreateFile (AFP Reference, "FPCreateFile"; the order of refusals is this profile's). A hard create first deletes the old file.
-use Rattle.std.specs.Prelude.{ℕ, ◌==◌, Bool, false, not, List, [], ◌∷◌, Option, Some, None, bit_and}
+use Rattle.std.specs.Prelude.{ℕ, ◌==◌, Bool, false, not, List, [], ◌∷◌, ◌++◌, Option, Some, None, bit_and}
 use Rattle.afp_base.specs.Choice.{first_holding}
 use Rattle.afp_base.specs.declared.code.Code.{Code}
 use Rattle.afp_base.specs.declared.code.Code.TheVariants.{ObjectExists, ObjectTypeErr, DiskFull, ObjectLocked, FileBusy}
 use Rattle.afp_names.specs.Name.{name_key}
 use Rattle.afp_names.specs.Path.{PathValue}
+use Rattle.volume_spec.specs.Edit.{Edit, Goes, creates, edits_at}
 use Rattle.volume_spec.specs.VolumeState.{VolumeState}
 use Rattle.volume_spec.specs.Walk.{new_place, has_directory, child_by_key}
 use Rattle.volume_spec.specs.Edits.{without_node}
@@ -39,3 +40,12 @@ create_file_refusal v opens hard dir path = behind (new_place v.rows dir path) (
 unfoldable pub create_file_effect : VolumeState → ℕ → ℕ → PathValue → VolumeState
 create_file_effect v now dir path = done_at (new_place v.rows dir path) v (λ place.
     created false now (without_replaced v (child_by_key v.rows place.dir (name_key place.name))) place)
+
+-- the file that is replaced goes, if there is one
+abbrev pub replaces : Option ℕ → List Edit
+replaces None = []
+replaces (Some old) = Goes old ∷ []
+
+-- the old file goes, and the new one comes
+abbrev pub create_file_edits : VolumeState → ℕ → ℕ → PathValue → List Edit
+create_file_edits v now dir path = edits_at (new_place v.rows dir path) (λ place. replaces (child_by_key v.rows place.dir (name_key place.name)) ++ creates false now v place)

@@ -4,6 +4,7 @@ use Rattle.afp_base.specs.Choice.{first_holding}
 use Rattle.afp_base.specs.declared.code.Code.{Code}
 use Rattle.afp_base.specs.declared.code.Code.TheVariants.{AccessDenied, ObjectLocked, FileBusy, DirNotEmpty}
 use Rattle.afp_names.specs.Path.{PathValue}
+use Rattle.volume_spec.specs.Edit.{Edit, Goes, dated, edits_at}
 use Rattle.volume_spec.specs.VolumeState.{VolumeState, root_id}
 use Rattle.volume_spec.specs.Walk.{found}
 use Rattle.volume_spec.specs.Edits.{has_children, changed_at, children_changed, without_node}
@@ -22,3 +23,7 @@ delete_refusal v opens dir path = behind (found v.rows dir path) (λ id. first_h
 unfoldable pub delete_effect : VolumeState → ℕ → ℕ → PathValue → VolumeState
 delete_effect v now dir path = done_at (found v.rows dir path) v (λ id.
     changed_at now (children_changed now (directory_of v.rows id) (without_node id v)))
+
+-- the node goes, and its directory is dated
+abbrev pub delete_edits : VolumeState → ℕ → ℕ → PathValue → List Edit
+delete_edits v now dir path = edits_at (found v.rows dir path) (λ id. Goes id ∷ dated now (directory_of v.rows id) ∷ [])

@@ -23,15 +23,13 @@ nth_from_one list n = if n == 0 then None else slice_get list (n - 1)
 
 -- FPAddIcon, FPGetIcon, FPGetIconInfo
 
--- an icon under a key of nine bytes, creator, type and icon type; of its bits the first 65,535 are kept (this profile)
+-- an icon as it is asked to be put: of its bits the first 65,535 are kept (this profile)
+abbrev pub icon_of : List ℕ → List ℕ → ℕ → ℕ → List ℕ → Icon
+icon_of creator kind icon_kind tag bits = record { creator = creator; kind = kind; icon_kind = icon_kind; tag = tag; bits = take longest_icon bits }
+
+-- the same under a key of nine bytes, creator, type and icon type
 abbrev pub icon_under : List ℕ → ℕ → List ℕ → Icon
-icon_under key tag bits = record {
-  creator = take code_size key;
-  kind = take code_size (drop code_size key);
-  icon_kind = slice_index key (8);
-  tag = tag;
-  bits = take longest_icon bits;
-}
+icon_under key tag bits = icon_of (take code_size key) (take code_size (drop code_size key)) (slice_index key (8)) tag bits
 
 -- the icon under a creator, type and icon type
 abbrev pub icon_at : List ℕ → List Icon → Option Icon

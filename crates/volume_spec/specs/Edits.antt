@@ -93,6 +93,15 @@ with_forks_of from to = record to { modified = from.modified; data_fork = from.d
 abbrev pub exchanged : ℕ → ℕ → Row → Row → VolumeState → VolumeState
 exchanged a b s t v = record v { rows = with_changed b (put (with_forks_of s t)) (with_changed a (put (with_forks_of t s)) v.rows) }
 
+-- two files that are there have changed forks and modified dates
+abbrev pub exchanged_at : ℕ → ℕ → Option Row → Option Row → VolumeState → VolumeState
+exchanged_at a b (Some s) (Some t) v = exchanged a b s t v
+exchanged_at a b s t v = v
+
+-- a row that is filed, or not
+abbrev pub filed_as : Bool → Row → Row
+filed_as filed row = record row { filed = filed }
+
 -- a row with no bytes in its forks
 abbrev pub bare : Row → Row
 bare row = record row { data_fork = []; resource_fork = [] }

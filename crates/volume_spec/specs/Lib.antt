@@ -30,3 +30,14 @@ pub mod Listing
 pub mod TreeSteps
 pub mod Desktop
 pub mod DesktopLaws
+pub mod CopyFile
+pub mod ExchangeFiles
+pub mod FileIds
+pub mod Icons
+pub mod Appls
+pub mod Comments
+pub mod Edit
+pub mod VolumeCalls
+pub mod EditLaws
+pub mod EditRanges
+pub mod WorkedCalls

@@ -1,9 +1,10 @@
 -- FPMoveAndRename (AFP Reference, "FPMoveAndRename"; the order of refusals is this profile's).
-use Rattle.std.specs.Prelude.{ℕ, ◌==◌, not, [], ◌∷◌, length, Option}
+use Rattle.std.specs.Prelude.{ℕ, ◌==◌, not, List, [], ◌∷◌, length, Option}
 use Rattle.afp_base.specs.Choice.{first_holding}
 use Rattle.afp_base.specs.declared.code.Code.{Code}
 use Rattle.afp_base.specs.declared.code.Code.TheVariants.{ObjectExists, ObjectTypeErr, ObjectLocked, CantMove}
 use Rattle.afp_names.specs.Path.{PathValue}
+use Rattle.volume_spec.specs.Edit.{Edit, Moves, dated, edits_at}
 use Rattle.volume_spec.specs.VolumeState.{VolumeState, root_id}
 use Rattle.volume_spec.specs.Walk.{found, one_down_or, has_directory}
 use Rattle.volume_spec.specs.Edits.{is_taken, is_below, changed_at, children_changed, with_moved}
@@ -24,3 +25,9 @@ unfoldable pub move_effect : VolumeState → ℕ → ℕ → PathValue → ℕ �
 move_effect v now dir path to_dir to_path new = done_at (found v.rows dir path) v (λ id. done_at (found v.rows to_dir to_path) v (λ target.
     done_at (one_down_or (name_of v.rows id) new.steps) v (λ name.
     changed_at now (children_changed now target (children_changed now (directory_of v.rows id) (with_moved id target name v))))))
+
+-- the node gets the new place, and both directories are dated
+abbrev pub move_edits : VolumeState → ℕ → ℕ → PathValue → ℕ → PathValue → PathValue → List Edit
+move_edits v now dir path to_dir to_path new = edits_at (found v.rows dir path) (λ id. edits_at (found v.rows to_dir to_path) (λ target.
+    edits_at (one_down_or (name_of v.rows id) new.steps) (λ name.
+    Moves id target name ∷ dated now (directory_of v.rows id) ∷ dated now target ∷ [])))

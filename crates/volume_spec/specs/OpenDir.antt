@@ -1,12 +1,12 @@
 -- FPOpenDir (AFP Reference, "FPOpenDir"; the order of refusals is this profile's). It opens nothing: directory ids are fixed.
-use Rattle.std.specs.Prelude.{ℕ, not, [], ◌∷◌, Option, Some, None}
+use Rattle.std.specs.Prelude.{ℕ, not, [], ◌∷◌, Option}
 use Rattle.afp_base.specs.Choice.{first_holding}
 use Rattle.afp_base.specs.declared.code.Code.{Code}
 use Rattle.afp_base.specs.declared.code.Code.TheVariants.{ObjectTypeErr}
 use Rattle.afp_names.specs.Path.{PathValue}
 use Rattle.volume_spec.specs.VolumeState.{VolumeState}
 use Rattle.volume_spec.specs.Walk.{found, has_directory}
-use Rattle.volume_spec.specs.Shared.{behind, done_at}
+use Rattle.volume_spec.specs.Shared.{behind, found_id}
 
 -- why it is refused (this profile)
 unfoldable pub open_dir_refusal : VolumeState → ℕ → PathValue → Option Code
@@ -14,4 +14,4 @@ open_dir_refusal v dir path = behind (found v.rows dir path) (λ id. first_holdi
 
 -- the id that is told: that of the directory that was found, if one was (AFP Reference, "FPOpenDir")
 unfoldable pub open_dir_id : VolumeState → ℕ → PathValue → Option ℕ
-open_dir_id v dir path = done_at (found v.rows dir path) None Some
+open_dir_id v dir path = found_id v dir path

@@ -1,9 +1,10 @@
 -- FPRename (AFP Reference, "FPRename"; the order of refusals is this profile's).
-use Rattle.std.specs.Prelude.{ℕ, ◌==◌, [], ◌∷◌, Option}
+use Rattle.std.specs.Prelude.{ℕ, ◌==◌, List, [], ◌∷◌, Option}
 use Rattle.afp_base.specs.Choice.{first_holding}
 use Rattle.afp_base.specs.declared.code.Code.{Code}
 use Rattle.afp_base.specs.declared.code.Code.TheVariants.{ObjectExists, ObjectLocked, CantRename}
 use Rattle.afp_names.specs.Path.{PathValue}
+use Rattle.volume_spec.specs.Edit.{Edit, Renames, dated, edits_at}
 use Rattle.volume_spec.specs.VolumeState.{VolumeState, root_id}
 use Rattle.volume_spec.specs.Walk.{found, one_down}
 use Rattle.volume_spec.specs.Edits.{is_taken, changed_at, children_changed, renamed}
@@ -21,3 +22,8 @@ rename_refusal v dir path new = behind (found v.rows dir path) (λ id. first_or 
 unfoldable pub rename_effect : VolumeState → ℕ → ℕ → PathValue → PathValue → VolumeState
 rename_effect v now dir path new = done_at (found v.rows dir path) v (λ id. done_at (one_down new.steps) v (λ name.
     changed_at now (children_changed now (directory_of v.rows id) (renamed id name v))))
+
+-- the node gets the new name, and its directory is dated
+abbrev pub rename_edits : VolumeState → ℕ → ℕ → PathValue → PathValue → List Edit
+rename_edits v now dir path new = edits_at (found v.rows dir path) (λ id. edits_at (one_down new.steps) (λ name.
+    Renames id name ∷ dated now (directory_of v.rows id) ∷ []))

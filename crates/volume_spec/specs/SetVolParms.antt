@@ -3,6 +3,7 @@ use Rattle.std.specs.Prelude.{ℕ, ◌==◌, not, List, [], ◌∷◌, length, O
 use Rattle.afp_base.specs.Choice.{first_holding}
 use Rattle.afp_base.specs.declared.code.Code.{Code}
 use Rattle.afp_base.specs.declared.code.Code.TheVariants.{BitmapErr, ParamErr}
+use Rattle.volume_spec.specs.Edit.{Edit, BacksUp}
 use Rattle.volume_spec.specs.VolumeState.{VolumeState}
 use Rattle.volume_spec.specs.Edits.{changed_at}
 use Rattle.volume_spec.specs.Parms.{date_in}
@@ -25,3 +26,7 @@ set_vol_parms_refusal bits tail = first_holding (
 -- the volume with the backup date that the tail begins with (AFP Reference, "FPSetVolParms")
 unfoldable pub set_vol_parms_effect : VolumeState → ℕ → List ℕ → VolumeState
 set_vol_parms_effect v now tail = changed_at now (record v { backup = date_in tail })
+
+-- the backup date that the tail begins with is set
+abbrev pub set_vol_parms_edits : List ℕ → List Edit
+set_vol_parms_edits tail = BacksUp (date_in tail) ∷ []

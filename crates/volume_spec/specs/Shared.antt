@@ -1,11 +1,12 @@
 -- What the calls on one volume share: how refusals stand behind one another, open forks, attributes, room (AFP Reference, "Directory
 -- commands", "File commands"; the order of refusals is this profile's). `opens` are the volume's open forks.
-use Rattle.std.specs.Prelude.{ℕ, ◌==◌, Bool, not, ◌&&◌, ◌||◌, List, [], ◌∷◌, length, Option, Some, Result, Ok, Err, option_map, unwrap_or, nat_le, bit_and, if◌then◌else◌}
+use Rattle.std.specs.Prelude.{ℕ, ◌==◌, Bool, not, ◌&&◌, ◌||◌, List, [], ◌∷◌, length, Option, Some, None, Result, Ok, Err, option_map, unwrap_or, nat_le, bit_and, if◌then◌else◌}
 use Rattle.std.specs.List.{list_any}
 use Rattle.afp_base.specs.declared.code.Code.{Code}
+use Rattle.afp_names.specs.Path.{PathValue}
 use Rattle.volume_spec.specs.VolumeState.{Row, VolumeState, root_parent}
 use Rattle.volume_spec.specs.SoundVolume.{most_nodes, last_next_id}
-use Rattle.volume_spec.specs.Walk.{Place, row_at, parent_at}
+use Rattle.volume_spec.specs.Walk.{Place, found, row_at, parent_at}
 use Rattle.volume_spec.specs.Edits.{changed_at, children_changed, with_new}
 
 -- an open fork of a volume
@@ -22,6 +23,10 @@ behind (Err code) refused = Some code
 abbrev pub done_at : {A B : Type 0} → Result A Code → B → (A → B) → B
 done_at (Ok at_end) old does = does at_end
 done_at (Err code) old does = old
+
+-- the id of the node to which a path leads from a directory, if it leads to one
+abbrev pub found_id : VolumeState → ℕ → PathValue → Option ℕ
+found_id v dir path = done_at (found v.rows dir path) None Some
 
 -- the code of the first of these rows that holds, or what is refused behind them
 abbrev pub first_or : List (Bool × Code) → Option Code → Option Code

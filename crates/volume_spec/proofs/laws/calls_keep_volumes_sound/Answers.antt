@@ -1,6 +1,4 @@
-use Rattle.volume_spec.proofs.CallsSound.{create-dir-sound, delete-sound, rename-sound, move-sound}
-use Rattle.volume_spec.proofs.SoundSet.{node-set-sound, set-file-sound, set-dir-sound, set-file-dir-sound, set-volume-sound}
-use Rattle.volume_spec.proofs.CreateFile.{create-file-sound}
+use Rattle.volume_spec.proofs.CallsSound.{create-dir-sound, create-file-sound, delete-sound, move-sound, node-set-sound, rename-sound, set-dir-sound, set-file-dir-sound, set-file-sound, set-volume-sound}
 use Rattle.volume_spec.proofs.laws.calls_keep_volumes_sound.Goals as goal
 
 pub returns-clause-create_dir : goal.returns-clause-create_dir

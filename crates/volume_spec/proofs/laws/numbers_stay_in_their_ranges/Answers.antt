@@ -1,4 +1,5 @@
-use Rattle.volume_spec.proofs.TypedSteps.{call-typed, steps-typed, fresh-typed, put-typed, exchanged-typed}
+use Rattle.volume_spec.proofs.EditsTyped.{exchanged-typed}
+use Rattle.volume_spec.proofs.TypedSteps.{call-typed, steps-typed, fresh-typed, put-typed}
 use Rattle.volume_spec.proofs.laws.numbers_stay_in_their_ranges.Goals as goal
 
 pub returns-clause-call : goal.returns-clause-call
