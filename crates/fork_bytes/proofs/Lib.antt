@@ -8,3 +8,4 @@ pub mod Puts
 pub mod Trimmed
 pub mod Writes
 pub mod BlocksOf
+pub mod PlanBytes

@@ -4,6 +4,7 @@ use Rattle.std.specs.List.{list_all}
 use Rattle.fork_bytes.specs.declared.block.Block.{Block}
 use Rattle.fork_bytes.specs.Blocks.{block_count, blocks_of}
 use Rattle.fork_bytes.specs.Kept.{bytes_of, are_rising, is_kept}
+use Rattle.fork_bytes.specs.Plan.{bytes_after, ForkPlanState, IsForkPlan}
 
 -- bytes are those that their length and their blocks stand for
 abbrev pub BytesFromBlocks : Type 0
@@ -25,3 +26,7 @@ BlocksAreKept = (bytes : List ℕ) → list_all (is_kept (length bytes)) (blocks
 
 abbrev pub BlocksAreFew : Type 0
 BlocksAreFew = (bytes : List ℕ) → length (blocks_of bytes) ≤ block_count (length bytes)
+
+-- a plan that turns some bytes into others says these others
+abbrev pub PlansSayBytes : Type 0
+PlansSayBytes = (before after : List ℕ) (plan : ForkPlanState) → IsForkPlan before after plan → bytes_after before plan ≡ after

@@ -1,9 +1,10 @@
 -- What a change of a fork's bytes will do (this profile).
-use Rattle.std.specs.Prelude.{◌≡◌, ◌⊎◌, ℕ, zero, suc, ◌+◌, ◌≤◌, Bool, nat_eq, max, if◌then◌else◌, List, [], ◌∷◌, length}
+use Rattle.std.specs.Prelude.{◌≡◌, ◌⊎◌, ℕ, zero, suc, ◌+◌, ◌/◌, ◌%◌, ◌==◌, ◌≤◌, Bool, nat_eq, max, if◌then◌else◌, List, [], ◌∷◌, length, slice_index}
 use Rattle.std.specs.Cmp.Lexicographic.{pointwise}
+use Rattle.afp_base.specs.Limits.{block_size}
 use Rattle.fork_bytes.specs.declared.block.Block.{Block}
 use Rattle.fork_bytes.specs.Blocks.{block_at, block_count, blocks_of}
-use Rattle.fork_bytes.specs.Kept.{is_empty, room_of}
+use Rattle.fork_bytes.specs.Kept.{each_of, is_empty, room_of}
 
 -- a block's new bytes in front of other changes, where they differ from the old ones
 abbrev pub with_change : ℕ → List ℕ → List ℕ → List Block → List Block
@@ -39,3 +40,17 @@ pub record IsForkPlan (before after : List ℕ) (plan : ForkPlanState) : Type 0 
   pub len : plan.len ≡ length after
   pub changes : plan.changes ≡ changes_of before after
   pub room : HasRoom (length (blocks_of before)) (added_by before plan.changes) plan.room
+
+-- the bytes of a block after changes: those of the change of its index, and else as they were
+abbrev pub block_after : List ℕ → List Block → ℕ → List ℕ
+block_after before [] index = block_at before index
+block_after before (c ∷ cs) index = if c.index == index then c.bytes else block_after before cs index
+
+-- the bytes that a plan leaves of some bytes, each by its place
+abbrev pub bytes_after : List ℕ → ForkPlanState → List ℕ
+bytes_after before plan = each_of plan.len (λ k. slice_index (block_after before plan.changes (k / block_size)) (k % block_size))
+
+-- a fork's bytes before a plan of it and afterwards
+pub record ForkWriteState : Type 0 where
+  pub before : List ℕ
+  pub after : List ℕ

@@ -108,7 +108,7 @@ pub(crate) fn room_for(n: usize) -> usize
 }
 
 /// The same blocks once more, with room.
-fn copied(alloc: Global, blocks: &[Block]) -> Result<Vec<Block>, OutOfMemory>
+pub(crate) fn copied(alloc: Global, blocks: &[Block]) -> Result<Vec<Block>, OutOfMemory>
     ensures items { IfOk result (λ list. list.items ≡ blocks.now) }
     ensures room { IfOk result (λ list. room_of (length blocks.now) ≤ vec_capacity list) }
 {

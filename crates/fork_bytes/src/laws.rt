@@ -14,3 +14,8 @@ pub fn blocks_of_bytes_are_kept()
     ensures kept { laws.BlocksAreKept }
     ensures few { laws.BlocksAreFew }
 {}
+
+/// A plan says, with the bytes before it, those afterwards: so it turns some bytes into no two others.
+pub fn plans_say_bytes()
+    ensures { laws.PlansSayBytes }
+{}

@@ -4,6 +4,7 @@
 mod apply;
 mod block;
 mod fork;
+mod fork_write;
 pub mod laws;
 mod plan;
 mod read;
@@ -11,4 +12,5 @@ mod write;
 
 pub use block::{BLOCK_SIZE, Block};
 pub use fork::Fork;
+pub use fork_write::ForkWrite;
 pub use plan::ForkPlan;

@@ -1,7 +1,10 @@
 //! What a change of a fork will do.
-ghost use Rattle.std.specs.Prelude.{◌≡◌, ◌<◌, length, slice_index_or};
+ghost use Rattle.std.specs.Prelude.{◌≡◌, ◌<◌, length, slice_index_or, IfOk};
 
 use crate::block::Block;
+use crate::fork::copied;
+use afp_base::OutOfMemory;
+use std::alloc::Global;
 use std::marker::Model;
 
 /// What a write, or a new length, will do to a fork: the blocks that differ, as they are afterwards, and the room that they need.
@@ -41,6 +44,13 @@ impl ForkPlan {
     {
         let block = &self.changes[k];
         (block.index, block.bytes.as_slice())
+    }
+
+    /// The blocks that differ, as they are afterwards, copied. The one error is want of memory.
+    pub fn blocks(&self, alloc: Global) -> Result<Vec<Block>, OutOfMemory>
+        ensures { IfOk result (λ list. list.items ≡ self.now.changes) }
+    {
+        copied(alloc, self.changes.as_slice())
     }
 
     /// The fork's length afterwards.

@@ -3,7 +3,7 @@ ghost use Rattle.std.specs.Prelude.{◌≡◌, ◌+◌, ◌/◌, ◌≤◌, ◌<
 ghost use Rattle.std.specs.Cmp.Lexicographic.{pointwise};
 ghost use Rattle.afp_base.specs.ForkBytes.{splice, resized};
 ghost use Rattle.afp_base.specs.Limits.{most_fork_bytes, block_size};
-ghost use Rattle.fork_bytes.specs.Blocks.{trimmed, blocks_of};
+ghost use Rattle.fork_bytes.specs.Blocks.{trimmed, block_count, blocks_of};
 ghost use Rattle.fork_bytes.specs.Kept.{is_empty};
 ghost use Rattle.fork_bytes.specs.Plan.{IsForkPlan, HasRoom, added_by, changes_of, with_change};
 
@@ -145,6 +145,28 @@ impl Fork {
     }
 }
 
+/// How many blocks so many bytes reach into.
+fn blocks_for(len: u64) -> u32
+    requires { len ≤ most_fork_bytes }
+    ensures { result ≡ block_count len }
+{
+    ((len + 4095) / BLOCK_SIZE as u64) as u32
+}
+
+impl Fork {
+    /// The blocks that differ between this fork and another, by rising index, as they are in the other: what changes where this one's bytes
+    /// become the other's. A fork of no bytes stands for one that is not there. The one error is want of memory.
+    pub fn differing(&self, alloc: Global, other: &Fork) -> Result<Vec<Block>, OutOfMemory>
+        ensures { IfOk result (λ list. list.items ≡ changes_of self.now other.now) }
+    {
+        let mut changes = Changes::new(alloc);
+        for index in 0..blocks_for(self.len.max(other.len)) {
+            changes.note_copy(alloc, index, self.block(index), other.block(index))?;
+        }
+        Ok(changes.list)
+    }
+}
+
 impl Changes {
     fn new(alloc: Global) -> Changes
         ensures list { result.list.items ≡ [] }
@@ -171,6 +193,27 @@ impl Changes {
             self.added += 1;
         }
         Ok(())
+    }
+}
+
+impl Changes {
+    /// Adds a copy of a block's new bytes, where they differ from the old ones.
+    fn note_copy(
+        &mut self,
+        alloc: Global,
+        index: u32,
+        old: &[u8],
+        new: &[u8],
+    ) -> Result<(), OutOfMemory>
+        requires { self.old.added ≤ 65536 }
+        ensures list { OnOk result (self.new.list.items ≡ self.old.list.items ++ with_change index old.now new.now []) }
+        ensures added { OnOk result (self.new.added ≡ self.old.added + (if pointwise nat_eq old.now new.now then 0 else (if is_empty old.now then 1 else 0))) }
+    {
+        if old == new {
+            return Ok(());
+        }
+        let copy = Bytes::of(alloc, new)?;
+        self.note(index, old, copy)
     }
 }
 
