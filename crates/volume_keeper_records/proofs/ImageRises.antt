@@ -69,11 +69,11 @@ long_id v s r place = cases (r.id == root_id)
     let most : v.next_id ≤ 4294967296 = leb-true _ _ (right_true (nat_le first_id v.next_id) (nat_le v.next_id last_next_id) s.next) in
     lt-ltb r.id 4294967296 (omega (arith, below, most)))
 
-long_rows : (v : VolumeState) → SoundFacts v → list_all (λ (r : VolumeRow). is_long r.id) v.rows ≡ true
+pub long_rows : (v : VolumeState) → SoundFacts v → list_all (λ (r : VolumeRow). is_long r.id) v.rows ≡ true
 long_rows v s = all-weaker (is_in_place v) (λ (r : VolumeRow). is_long r.id) v.rows (long_id v s) s.places
 
 -- what stands on a row has its id
-on_row : (p : VolumeRow → Bool) (rs : List VolumeRow) (id : ℕ) → ((r : VolumeRow) → p r ≡ true → r.id ≡ id) → list_all (λ (r : VolumeRow). is_long r.id) rs ≡ true → list_any p rs ≡ true → is_long id ≡ true
+pub on_row : (p : VolumeRow → Bool) (rs : List VolumeRow) (id : ℕ) → ((r : VolumeRow) → p r ≡ true → r.id ≡ id) → list_all (λ (r : VolumeRow). is_long r.id) rs ≡ true → list_any p rs ≡ true → is_long id ≡ true
 on_row p [] id h e a = absurd (cc)
 on_row p (r ∷ rs) id h e a = cases (p r)
     (λ t. ap is_long (sym (h r t)) ∙ left_true (is_long r.id) (list_all (λ (r : VolumeRow). is_long r.id) rs) e)
@@ -91,7 +91,7 @@ fit_fork law id f bytes i small = list_all-map is_fit_block (fork_block_of id f)
 abbrev pub is_small : VolumeRow → Bool
 is_small r = is_long r.id && nat_le (length r.data_fork + length r.resource_fork) most_fork_bytes
 
-fit_blocks : ForkLaw → (rs : List VolumeRow) → list_all is_small rs ≡ true → list_all is_fit_block (flat_map fork_blocks rs) ≡ true
+pub fit_blocks : ForkLaw → (rs : List VolumeRow) → list_all is_small rs ≡ true → list_all is_fit_block (flat_map fork_blocks rs) ≡ true
 fit_blocks law [] e = refl
 fit_blocks law (r ∷ rs) e =
     let here = left_true (is_small r) (list_all is_small rs) e in

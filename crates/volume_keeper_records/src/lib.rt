@@ -19,5 +19,5 @@ pub use read::read_row;
 pub use rows::{Appl, BadRecord, Comment, ForkBlock, Head, Icon, Node, Reason, TableRow};
 pub use write::{
     appl_key, appl_record, block_key, block_record, comment_key, comment_record, head_record,
-    icon_record, node_key, node_record, record_of,
+    icon_key, icon_record, node_key, node_record, record_of,
 };

@@ -1,6 +1,6 @@
 //! The record of a row.
 ghost use Rattle.std.specs.Prelude.{◌≡◌, ◌∷◌, ◌++◌, IfOk};
-ghost use Rattle.volume_keeper_records.specs.Records.{head_record as the_head, node_record as the_node, block_record as the_block, comment_record as the_comment, icon_record as the_icon, appl_record as the_appl, node_key as the_node_key, block_key as the_block_key, comment_record_key as the_comment_key, appl_record_key as the_appl_key, record_of as the_record, flag_byte, word_bytes, long_bytes, quad_bytes, date_bytes};
+ghost use Rattle.volume_keeper_records.specs.Records.{head_record as the_head, node_record as the_node, block_record as the_block, comment_record as the_comment, icon_record as the_icon, appl_record as the_appl, node_key as the_node_key, block_key as the_block_key, comment_record_key as the_comment_key, appl_record_key as the_appl_key, record_of as the_record, icon_tag, flag_byte, word_bytes, long_bytes, quad_bytes, date_bytes};
 
 use crate::limits::{APPL, BLOCK, COMMENT, HEAD, ICON, NODE, VERSION};
 use crate::rows::{Appl, Comment, ForkBlock, Head, Icon, Node, TableRow};
@@ -46,6 +46,15 @@ pub fn comment_key(alloc: Global, node: u32) -> Result<RecordKey, OutOfMemory>
     let mut key = Bytes::of(alloc, &[COMMENT])?;
     key.push_u32(node)?;
     Ok(RecordKey::new(key))
+}
+
+/// The key of the record of an icon, by its creator, type and icon type.
+pub fn icon_key(alloc: Global, key: &[u8; 9]) -> Result<RecordKey, OutOfMemory>
+    ensures { IfOk result (λ k. k ≡ icon_tag ∷ key.now) }
+{
+    let mut bytes = Bytes::of(alloc, &[ICON])?;
+    bytes.extend(key.as_slice())?;
+    Ok(RecordKey::new(bytes))
 }
 
 /// The key of the record of the APPL mapping of a creator and a file.
