@@ -13,9 +13,9 @@ use Rattle.afp_serial.specs.declared.ask.Ask.TheVariants as ask
 use Rattle.afp_serial.specs.declared.ask.Outcome.{Outcome}
 use Rattle.afp_serial.specs.declared.ask.Told.{Told}
 use Rattle.afp_serial.specs.declared.ask.Told.TheVariants.{Opened, Done, Displaced}
-use Rattle.afp_serial.specs.Answer.{after_at, after_call, answer_at, drain_moment, is_expired, committed_in, is_full, committed_at, link_number, new_session, refusal_reply, request, told_call, told_pulse, Verdict, block_of, refused, verdict, verdict_of_block, verdict_of_kept, verdict_of_row}
+use Rattle.afp_serial.specs.Answer.{after_at, after_call, answer_at, drain_moment, committed_in, is_full, committed_at, link_number, new_session, refusal_reply, request, told_call, told_pulse, Verdict, block_of, refused, verdict, verdict_of_block, verdict_of_kept, verdict_of_row}
 use Rattle.afp_serial.specs.Limits.{links_end, most_sessions}
-use Rattle.afp_serial.specs.World.{plain, session_at, without_session, World, Session}
+use Rattle.afp_serial.specs.World.{is_expired, plain, session_at, without_session, World, Session}
 use Rattle.afp_serial.specs.Rows.{refusal}
 use Rattle.afp_core_state.specs.SessionList.{IsAt, session_of}
 use Rattle.afp_core_dispatch.specs.lemma.Spelling.{IsSpelled}

@@ -9,7 +9,8 @@ use Rattle.afp_serial.specs.declared.ask.Told.TheVariants.{Reply}
 use Rattle.afp_serial.specs.Login.{guest_id}
 use Rattle.afp_serial.specs.World.{plain, without_session, World, Session}
 use Rattle.afp_serial.specs.Rows.{row, refusal}
-use Rattle.afp_serial.specs.StatusWords.{no_user, versions}
+use Rattle.afp_calls_grammar.specs.LoginNames.{no_user}
+use Rattle.afp_serial.specs.StatusWords.{versions}
 use Rattle.afp_core_state.specs.SessionList.{replaced}
 use Rattle.afp_core_state.specs.KeptWorld.{KeptWorld}
 use Rattle.afp_core_state.specs.lemma.KeptWorld.{with_sessions}

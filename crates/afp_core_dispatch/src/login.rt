@@ -6,9 +6,9 @@ ghost use Rattle.afp_serial.specs.StatusWords.{versions};
 ghost use Rattle.afp_core_state.specs.Running.{done as with_done, RunsRow};
 
 use afp_base::{Bytes, Code, SessionNumber};
+use afp_calls_grammar::login_names::{NO_USER, VERSION_3_1, VERSION_3_2, VERSION_3_3};
 use afp_core_state::{State, done, refused};
 use afp_serial::Told;
-use afp_serial::status_words::{NO_USER, VERSION_3_1, VERSION_3_2, VERSION_3_3};
 use record_keeper::Keeper;
 
 /// The id of the user that logs in without a name.

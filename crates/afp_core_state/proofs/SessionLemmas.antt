@@ -5,8 +5,7 @@ use Rattle.std.specs.List.{AllByRecursion, IsDistinct, position_or_len}
 use Rattle.std.specs.Map.{keys_of, values_of, lookup, remove_entry, set_value}
 use Rattle.std.proofs.lemmas.Bool.{cases_eq, eq-eqb, ne_eqb, eqb-false, ltb-false, true≢false}
 use Rattle.std.proofs.lemmas.Option.{same_Some}
-use Rattle.afp_serial.specs.Answer.{is_expired}
-use Rattle.afp_serial.specs.World.{has_session, is_on_link, Session}
+use Rattle.afp_serial.specs.World.{has_session, is_expired, is_on_link, Session}
 use Rattle.afp_core_state.specs.SessionList.{attached, session_of, replaced, IsAt}
 use Rattle.afp_core_state.specs.declared.sessions.Linked.{Linked}
 use Rattle.afp_base.proofs.Facts.{some-none}

@@ -2,9 +2,9 @@
 ghost use Rattle.std.specs.Prelude.{◌≡◌, ◌==◌, [], ◌∷◌, ◌++◌, None, Some, false, filter, find, is_some, length, not, position, MatchOption, OnOk, OnErr};
 ghost use Rattle.std.specs.List.{list_any};
 ghost use Rattle.indexmap.specs.IndexMap.{values};
-ghost use Rattle.afp_serial.specs.Answer.{new_session, is_expired};
+ghost use Rattle.afp_serial.specs.Answer.{new_session};
 ghost use Rattle.afp_serial.specs.OpenVol.{with_volume};
-ghost use Rattle.afp_serial.specs.World.{has_session, is_on_link, Session};
+ghost use Rattle.afp_serial.specs.World.{has_session, is_expired, is_on_link, Session};
 ghost use Rattle.afp_core_state.specs.SessionList.{session_of, replaced, IsAt};
 
 use crate::open_volumes::OpenVolumes;

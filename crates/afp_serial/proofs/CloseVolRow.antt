@@ -9,15 +9,16 @@ use Rattle.afp_replies.specs.Replies.{Shows, layout_for}
 use Rattle.afp_replies.specs.declared.reply.Reply.TheVariants.{Empty}
 use Rattle.afp_calls_grammar.specs.declared.call.Call.TheVariants.{CloseVol}
 use Rattle.afp_serial.proofs.Closed.{closing-sound, closing-apart}
-use Rattle.afp_serial.proofs.Replaced.{TakesPlace, replaced-apart, replaced-old, replaced-sound, volume-kept}
+use Rattle.afp_serial.proofs.Replaced.{TakesPlace, number_of, numbered, replaced-apart, replaced-old, replaced-sound, volume-kept}
 use Rattle.afp_serial.proofs.SoundParts.{ApartSessions, sessions-parts, opens-parts, caches-parts}
 use Rattle.afp_serial.proofs.SoundRow.{IsSoundRow, no-keeper, no_more-refuses}
+use Rattle.afp_serial.specs.SessionLaws.{asking_changes}
 use Rattle.afp_serial.specs.CloseVol.{close_vol_effect, close_vol_row}
 use Rattle.afp_serial.specs.ReplyKinds.{reply_kind}
 use Rattle.afp_serial.specs.World.{has_opened, volume_at, closing, with_session, World, Session, OpenFork}
 use Rattle.afp_serial.specs.Sound.{IsSound, has_volume_open, is_file_of, is_lawful_open, is_lawful_cache}
 use Rattle.afp_base.proofs.Facts.{contra}
-use Rattle.afp_base.proofs.ListFacts.{all-both, all-kept, any-still, find-all}
+use Rattle.afp_base.proofs.ListFacts.{all-both, all-kept, all-put, any-still, find-all}
 
 abbrev with_volumes : Session → List ℕ → Session
 with_volumes s volumes = record s { volumes = volumes }
@@ -63,7 +64,7 @@ close-vol-keeps w s test volume found h =
     replaced-sound v s t closed way
     (find-all test (λ x. is_lawful_cache x.cache) w.sessions s found (caches-parts w h.caches))
     (all-both (is_lawful_open v) (is_elsewhere s volume) (λ o. has_volume_open (with_session v t).sessions o.session o.fork.volume) v.opens
-    (λ o stood elsewhere. volume-kept v s t o.session o.fork.volume (sessions-parts v closed.sessions) way
+    (λ o stood elsewhere. volume-kept v s t o.session o.fork.volume (sessions-parts v closed.sessions) (numbered way)
     (still-there s volume o elsewhere)
     (and_parts (has_volume_open v.sessions o.session o.fork.volume) (is_file_of (volume_at v.volumes o.fork.volume) o.fork.node) stood).0)
     (opens-parts v closed.opens).stand
@@ -83,4 +84,6 @@ close-vol-sound volume = record {
   next = λ w s. refl;
   keeper = λ w s index passes commits. no-keeper w index commits;
   old = λ w s n h. replaced-old w (with_volumes s (without s.volumes volume.0)) n h;
+  cached = λ w s test found p h. all-put number_of (λ x. p x.number x.cache) (with_volumes s (without s.volumes volume.0)) w.sessions h (find-all test (λ x. p x.number x.cache) w.sessions s found h);
+  leaves = λ stays w s. asking_changes (with_volumes s (without s.volumes volume.0)) refl refl refl (λ same. refl) refl;
 }

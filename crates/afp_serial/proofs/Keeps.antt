@@ -12,9 +12,9 @@ use Rattle.afp_serial.specs.declared.ask.Entry.{Entry}
 use Rattle.afp_serial.specs.declared.ask.Outcome.{Outcome}
 use Rattle.afp_serial.specs.declared.ask.Outcome.TheVariants as outcome
 use Rattle.afp_serial.specs.declared.ask.Told.{Told}
-use Rattle.afp_serial.specs.Answer.{request, is_full, with_new_session, after_verdict, after_call, is_expired, after_parting, drain_moment, kept_in, told_verdict, after_at, after, Verdict, repeats, refused, runs, block_of, enclosed_of, verdict}
+use Rattle.afp_serial.specs.Answer.{request, is_full, with_new_session, after_verdict, after_call, after_parting, drain_moment, kept_in, told_verdict, after_at, after, Verdict, repeats, refused, runs, block_of, enclosed_of, verdict}
 use Rattle.afp_serial.specs.Rows.{refusal, effect}
-use Rattle.afp_serial.specs.World.{is_on_link, session_at, ending, World, Session, at_moment}
+use Rattle.afp_serial.specs.World.{is_expired, is_on_link, session_at, ending, World, Session, at_moment}
 
 -- what is known of each call that an ask spells
 abbrev pub IsKnown : (Call → Type 0) → Ask → Type 0

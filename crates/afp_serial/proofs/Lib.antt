@@ -6,6 +6,7 @@ pub mod Grows
 pub mod SoundParts
 pub mod Closed
 pub mod Replaced
+pub mod OtherPlaces
 pub mod Opened
 pub mod SoundRow
 pub mod VolumeCodes
@@ -30,6 +31,7 @@ pub mod ForkCommits
 pub mod OpenForkRow
 pub mod LawfulRows
 pub mod RowsSound
+pub mod SessionsLeft
 pub mod RefusalsShown
 pub mod Refusals
 pub mod Verdicts
@@ -47,3 +49,6 @@ pub mod ForksInHistories
 pub mod PlainSessions
 pub mod ListShown
 pub mod ParmsShown
+pub mod LongAnswers
+pub mod EndsOneByOne
+pub mod Tokens

@@ -8,15 +8,16 @@ use Rattle.afp_replies.specs.declared.reply.Reply.TheVariants.{Empty}
 use Rattle.afp_base.specs.declared.code.Code.TheVariants.{Ok}
 use Rattle.afp_calls_grammar.specs.declared.call.Call.TheVariants.{Login, Logout}
 use Rattle.afp_serial.proofs.Closed.{ending-sound, ending-apart}
-use Rattle.afp_serial.proofs.Replaced.{TakesPlace, replaced-apart, replaced-old, replaced-sound, volume-kept}
+use Rattle.afp_serial.proofs.Replaced.{TakesPlace, number_of, numbered, replaced-apart, replaced-old, replaced-sound, volume-kept}
 use Rattle.afp_serial.proofs.SoundRow.{IsSoundRow, no-keeper, no_more-refuses}
 use Rattle.afp_serial.proofs.SoundParts.{sessions-parts, opens-parts, caches-parts}
+use Rattle.afp_serial.specs.SessionLaws.{asking_changes}
 use Rattle.afp_serial.specs.ReplyKinds.{reply_kind}
 use Rattle.afp_serial.specs.Login.{login_row, guest_id}
 use Rattle.afp_serial.specs.Logout.{logout_row}
 use Rattle.afp_serial.specs.World.{volume_at, with_session, World, Session}
 use Rattle.afp_serial.specs.Sound.{IsSound, has_volume_open, is_file_of, is_lawful_open, is_lawful_cache}
-use Rattle.afp_base.proofs.ListFacts.{all-weaker, any-filter, find-all}
+use Rattle.afp_base.proofs.ListFacts.{all-filter, all-put, all-weaker, any-filter, find-all}
 
 abbrev with_user : Session → ℕ → Session
 with_user s user = record s { user = Some user }
@@ -31,7 +32,7 @@ login-keeps w s test found h =
     replaced-sound w s t h way
     (find-all test (λ x. is_lawful_cache x.cache) w.sessions s found (caches-parts w h.caches))
     (all-weaker (is_lawful_open w) (λ o. has_volume_open (with_session w t).sessions o.session o.fork.volume) w.opens
-    (λ o stood. volume-kept w s t o.session o.fork.volume (sessions-parts w h.sessions) way (λ had. had)
+    (λ o stood. volume-kept w s t o.session o.fork.volume (sessions-parts w h.sessions) (numbered way) (λ had. had)
     (and_parts (has_volume_open w.sessions o.session o.fork.volume) (is_file_of (volume_at w.volumes o.fork.volume) o.fork.node) stood).0)
     (opens-parts w h.opens).stand)
 
@@ -49,6 +50,8 @@ login-sound version uam tail = record {
   next = λ w s. refl;
   keeper = λ w s index passes commits. no-keeper w index commits;
   old = λ w s n h. replaced-old w (with_user s guest_id) n h;
+  cached = λ w s test found p h. all-put number_of (λ x. p x.number x.cache) (with_user s guest_id) w.sessions h (find-all test (λ x. p x.number x.cache) w.sessions s found h);
+  leaves = λ stays w s. asking_changes (with_user s guest_id) refl refl refl (λ same. absurd (cc)) refl;
 }
 
 logout-shown : Shows Empty (reply_kind Logout) Ok []
@@ -65,4 +68,6 @@ logout-sound = record {
   next = λ w s. refl;
   keeper = λ w s index passes commits. no-keeper w index commits;
   old = λ w s n h. any-filter (λ x. x.number == n) (λ x. not (x.number == s.number)) w.sessions h;
+  cached = λ w s test found p h. all-filter (λ x. p x.number x.cache) (λ x. not (x.number == s.number)) w.sessions h;
+  leaves = λ stays. absurd (cc);
 }

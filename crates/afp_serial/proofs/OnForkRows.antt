@@ -12,6 +12,7 @@ use Rattle.afp_serial.proofs.OnVolumeRows.{IsToldTo, told-shown}
 use Rattle.afp_serial.proofs.SoundParts.{ApartSessions, is_below, opens-parts, same_link, same_number}
 use Rattle.afp_serial.proofs.SoundRow.{IsRefusedTo, IsSoundRow, no_more-refuses}
 use Rattle.afp_serial.proofs.VolumeStates.{IsServed, served-at}
+use Rattle.afp_serial.specs.SessionLaws.{all_stay}
 use Rattle.afp_serial.specs.World.{Effect, Refusal, Refused, plain, has_session, volume_at, World, Session, OpenFork}
 use Rattle.afp_serial.specs.LawfulCall.{is_lawful_call}
 use Rattle.afp_serial.specs.OnFork.{OpenFile, committed_with, done_with, file_on, file_under, on_fork, open_file, own_fork, own_keeper, row_on_fork}
@@ -123,6 +124,8 @@ fork-row-sound call reference refuses does commits owes = record {
   next = λ w s. next w (open_file w s reference);
   keeper = λ w s index passes names. keeper w s index (open_file w s reference) refl names;
   old = λ w s n h. ap (λ list. has_session list n) (sym (sessions w (open_file w s reference))) ∙ h;
+  cached = λ w s test found p h. ap (list_all (λ x. p x.number x.cache)) (sessions w (open_file w s reference)) ∙ h;
+  leaves = λ stays w s. all_stay (sessions w (open_file w s reference));
 }
   where
     refused : (w : World) (q : Option OpenFile) (r : Refused) → first_holding (on_fork q (refuses w)) ≡ Some r → IsRefusedTo call r

@@ -17,6 +17,7 @@ use Rattle.afp_serial.proofs.SoundParts.{ApartSessions}
 use Rattle.afp_serial.proofs.SoundRow.{IsSoundRow, is_refused, is_short, no-keeper, no_more-refuses}
 use Rattle.afp_serial.proofs.VolumeCodes.{is_refusal, tree-refuses}
 use Rattle.afp_serial.proofs.VolumeStates.{IsServed, moment-date, served-at, state-sound}
+use Rattle.afp_serial.specs.SessionLaws.{SessionsAfter, all_stay, logs_in}
 use Rattle.afp_serial.specs.World.{Effect, Refusal, plain, refused_before, has_opened, has_session, volume_at, World, Session}
 use Rattle.afp_serial.specs.LawfulCall.{is_lawful_call}
 use Rattle.afp_serial.specs.OnVolume.{changes_tree, done_on, keeper_of, on_volume, opened_on, refused_on, tells_of, with_volume_state}
@@ -101,6 +102,8 @@ tells-sound call volume refuses reply rightly tells = record {
   next = λ w s. done-keeps (λ x. x.next_link ≡ w.next_link) (volume_at w.volumes volume) w (λ v. record { world = w; reply = reply w v }) refl (λ v. refl);
   keeper = λ w s index passes commits. no-keeper w index commits;
   old = λ w s n h. done-keeps (λ x. has_session x.sessions n ≡ true → has_session w.sessions n ≡ true) (volume_at w.volumes volume) w (λ v. record { world = w; reply = reply w v }) (λ h. h) (λ v h. h) h;
+  cached = λ w s test found p h. done-keeps (λ x. list_all (λ y. p y.number y.cache) x.sessions ≡ true) (volume_at w.volumes volume) w (λ v. record { world = w; reply = reply w v }) h (λ v. h);
+  leaves = λ stays w s. done-keeps (SessionsAfter (logs_in call) w s) (volume_at w.volumes volume) w (λ v. record { world = w; reply = reply w v }) (all_stay refl) (λ v. all_stay refl);
 }
   where
     told : (w : World) (s : Session) → is_lawful_call call ≡ true → first_holding (on_volume w s volume (refuses w)) ≡ None → IsSound w
@@ -140,6 +143,8 @@ changes-sound call volume tree reply ranges tells = record {
   next = λ w s. done-keeps (λ x. x.next_link ≡ w.next_link) (volume_at w.volumes volume) w (does w) refl (λ v. refl);
   keeper = λ w s index passes commits. keeper-there w s volume index (λ v. tree_refusal v (opened_on w volume) tree) passes commits;
   old = λ w s n h. done-keeps (λ x. has_session x.sessions n ≡ true → has_session w.sessions n ≡ true) (volume_at w.volumes volume) w (does w) (λ h. h) (λ v h. h) h;
+  cached = λ w s test found p h. done-keeps (λ x. list_all (λ y. p y.number y.cache) x.sessions ≡ true) (volume_at w.volumes volume) w (does w) h (λ v. h);
+  leaves = λ stays w s. done-keeps (SessionsAfter (logs_in call) w s) (volume_at w.volumes volume) w (does w) (all_stay refl) (λ v. all_stay refl);
 }
   where
     does : World → VolumeState → Effect

@@ -4,6 +4,7 @@ use Rattle.std.specs.Prelude.{Result, Ok, Err, count_by, find, nat_le}
 use Rattle.std.specs.List.{list_all, list_any}
 use Rattle.std.proofs.lemmas.Bool.{and_parts, and_from, both_ways, eq-eqb, eqb-true, leb-false, leb-true, le-leb, or_left, or_right, not-false}
 use Rattle.std.proofs.lemmas.List.{length-append}
+use Rattle.afp_base.specs.Cached.{Kept}
 use Rattle.afp_base.specs.Limits.{most_forks, most_locks, payload_limit}
 use Rattle.afp_base.specs.Choice.{first_holding}
 use Rattle.afp_base.specs.DenyMode.{Access, Fork, do_conflict, is_clash, is_denied_by, is_one_fork}
@@ -36,6 +37,7 @@ use Rattle.afp_serial.proofs.SoundParts.{ApartSessions, KeptLimits, LawfulLocks,
 use Rattle.afp_serial.proofs.SoundRow.{IsRefusedTo, IsSoundRow, behind-first, first-told, is_short, no-keeper, no_more-refuses, no_more-told}
 use Rattle.afp_serial.proofs.VolumeCodes.{is_refusal, open-fork-refuses}
 use Rattle.afp_serial.proofs.VolumeStates.{IsServed, served-at}
+use Rattle.afp_serial.specs.SessionLaws.{SessionsAfter, all_stay, logs_in}
 use Rattle.afp_serial.specs.World.{Refused, plain, refused_before, has_opened, has_session, is_open, volume_at, World, Session, OpenFork, Lock}
 use Rattle.afp_serial.specs.Fork.{OpenAsked, access_of, denied_of, file_asked, fork_in, fork_ref, has_most_forks, is_denied, lowest_free, new_fork, open_fork_row, opened_reply, opens_asked, opens_fork, with_fork, with_open}
 use Rattle.afp_serial.specs.OnVolume.{opened_on, refused_on}
@@ -345,6 +347,14 @@ old-after : (w : World) (s : Session) (asked : OpenAsked) (q : Option File) (n :
 old-after w s asked None n h = h
 old-after w s asked (Some file) n h = h
 
+cached-after : (w : World) (s : Session) (asked : OpenAsked) (q : Option File) (p : ℕ → List Kept → Bool) → list_all (λ x. p x.number x.cache) w.sessions ≡ true → list_all (λ x. p x.number x.cache) (opens_fork w s asked q).world.sessions ≡ true
+cached-after w s asked None p h = h
+cached-after w s asked (Some file) p h = h
+
+sessions-after : (logs : Bool) (w : World) (s : Session) (asked : OpenAsked) (q : Option File) → SessionsAfter logs w s (opens_fork w s asked q).world
+sessions-after logs w s asked None = all_stay refl
+sessions-after logs w s asked (Some file) = all_stay refl
+
 opens-sound : (call : Call) (asked : OpenAsked) (dir : ℕ) (path : PathValue) → ((r : ℕ) (values : FileValues) → Asks call (Opened asked.bits (fork_ref r) (FileParams values))) → Denies call asked.bits → IsSoundRow call (opens_asked asked dir path)
 opens-sound call asked dir path asks denies = record {
   refuses = λ w s r is h. open-refused call asked dir path w s r denies h is;
@@ -357,6 +367,8 @@ opens-sound call asked dir path asks denies = record {
   next = λ w s. next-after w s asked (file_asked (volume_at w.volumes asked.volume) dir path);
   keeper = λ w s index passes commits. no-keeper w index commits;
   old = λ w s n h. old-after w s asked (file_asked (volume_at w.volumes asked.volume) dir path) n h;
+  cached = λ w s test found p h. cached-after w s asked (file_asked (volume_at w.volumes asked.volume) dir path) p h;
+  leaves = λ stays w s. sessions-after (logs_in call) w s asked (file_asked (volume_at w.volumes asked.volume) dir path);
 }
   where
     told : (w : World) (s : Session) → first_holding ((opens_asked asked dir path).refusals w s) ≡ None → IsSound w → IsToldTo call (opens_fork w s asked (file_asked (volume_at w.volumes asked.volume) dir path)).reply

@@ -1,7 +1,7 @@
 -- What OpenVol does keeps a sound world sound.
-use Rattle.std.proofs.Common.{◌≡◌, sym, refl, subst, ℕ, Bool, true, List, [], ◌∷◌, ◌++◌, Option, Some, None}
+use Rattle.std.proofs.Common.{◌≡◌, sym, refl, subst, ℕ, Bool, true, false, List, [], ◌∷◌, ◌++◌, Option, Some, None}
 use Rattle.std.specs.Prelude.{◌==◌, find, is_none}
-use Rattle.std.specs.List.{list_any}
+use Rattle.std.specs.List.{list_all, list_any}
 use Rattle.std.proofs.lemmas.Bool.{and_parts, and_from, cond_both}
 use Rattle.afp_base.specs.Choice.{first_holding}
 use Rattle.afp_base.specs.declared.code.Code.TheVariants.{ObjectNotFound}
@@ -11,18 +11,19 @@ use Rattle.afp_replies.specs.declared.reply.Reply.TheVariants.{Params}
 use Rattle.afp_replies.specs.Commands.{rows, shape_in, shape_of}
 use Rattle.afp_calls_grammar.specs.declared.call.Call.TheVariants.{OpenVol}
 use Rattle.afp_serial.proofs.OnVolumeRows.{Asks, IsToldTo, refused_before-none, refused_before-refused, told-shown}
-use Rattle.afp_serial.proofs.Replaced.{TakesPlace, replaced-apart, replaced-old, replaced-sound, volume-kept}
+use Rattle.afp_serial.proofs.Replaced.{TakesPlace, number_of, numbered, replaced-apart, replaced-old, replaced-sound, volume-kept}
 use Rattle.afp_serial.proofs.SoundParts.{ApartSessions, sessions-parts, opens-parts, caches-parts}
 use Rattle.afp_serial.proofs.SoundRow.{IsSoundRow, no-keeper, no_more-refuses}
 use Rattle.afp_serial.proofs.ToldReplies.{volume-told-to}
 use Rattle.afp_serial.proofs.VolumeCodes.{volume-refuses}
 use Rattle.afp_serial.proofs.VolumeStates.{served-at}
+use Rattle.afp_serial.specs.SessionLaws.{SessionsAfter, all_stay, asking_changes}
 use Rattle.afp_serial.specs.World.{plain, refused_before, has_opened, has_session, volume_at, with_session, World, Session}
 use Rattle.afp_serial.specs.OpenVol.{open_vol_row, opens_volume, state_named, volume_named, with_volume}
 use Rattle.afp_serial.specs.Sound.{IsSound, has_volume_open, is_file_of, is_lawful_open, is_lawful_cache}
 use Rattle.volume_spec.specs.GetVolParms.{get_vol_parms_refusal}
 use Rattle.volume_spec.specs.VolumeState.{VolumeState}
-use Rattle.afp_base.proofs.ListFacts.{all-weaker, any-longer, find-all}
+use Rattle.afp_base.proofs.ListFacts.{all-put, all-weaker, any-longer, find-all}
 
 -- what was open stays open
 
@@ -42,7 +43,7 @@ with-volume-sound w s test v found h =
     replaced-sound w s t h way
     (find-all test (λ x. is_lawful_cache x.cache) w.sessions s found (caches-parts w h.caches))
     (all-weaker (is_lawful_open w) (λ o. has_volume_open (with_session w t).sessions o.session o.fork.volume) w.opens
-    (λ o stood. volume-kept w s t o.session o.fork.volume (sessions-parts w h.sessions) way
+    (λ o stood. volume-kept w s t o.session o.fork.volume (sessions-parts w h.sessions) (numbered way)
     (λ had.
     let e = and_parts (s.number == o.session) (has_opened s o.fork.volume) had in
     and_from (s.number == o.session) (has_opened (with_volume s v) o.fork.volume) e.0 (still-open s v o.fork.volume e.1))
@@ -97,4 +98,6 @@ open-vol-sound bits name = record {
   next = λ w s. opens-keeps (λ x. x.next_link ≡ w.next_link) w s bits (volume_named w name) (state_named w (volume_named w name)) refl (λ v. refl);
   keeper = λ w s index passes commits. no-keeper w index commits;
   old = λ w s n h. opens-keeps (λ x. has_session x.sessions n ≡ true → has_session w.sessions n ≡ true) w s bits (volume_named w name) (state_named w (volume_named w name)) (λ h. h) (λ v. replaced-old w (with_volume s v) n) h;
+  cached = λ w s test found p h. opens-keeps (λ x. list_all (λ y. p y.number y.cache) x.sessions ≡ true) w s bits (volume_named w name) (state_named w (volume_named w name)) h (λ v. all-put number_of (λ x. p x.number x.cache) (with_volume s v) w.sessions h (find-all test (λ x. p x.number x.cache) w.sessions s found h));
+  leaves = λ stays w s. opens-keeps (SessionsAfter false w s) w s bits (volume_named w name) (state_named w (volume_named w name)) (all_stay refl) (λ v. asking_changes (with_volume s v) refl refl refl (λ same. refl) refl);
 }

@@ -20,10 +20,10 @@ use Rattle.afp_serial.specs.declared.ask.Outcome.{Outcome}
 use Rattle.afp_serial.specs.declared.ask.Outcome.TheVariants as outcome
 use Rattle.afp_serial.specs.declared.ask.Told.{Told}
 use Rattle.afp_serial.specs.declared.ask.Told.TheVariants as told
-use Rattle.afp_serial.specs.Answer.{answer, after, answer_at, after_at, after_call, after_parting, after_verdict, is_expired, is_full, link_number, new_session, refusal_reply, request, told_call, told_parting, told_pulse, told_verdict, with_new_session, Verdict, repeats, refused, runs, verdict}
+use Rattle.afp_serial.specs.Answer.{answer, after, answer_at, after_at, after_call, after_parting, after_verdict, is_full, link_number, new_session, refusal_reply, request, told_call, told_parting, told_pulse, told_verdict, with_new_session, Verdict, repeats, refused, runs, verdict}
 use Rattle.afp_serial.specs.History.{answers, is_opened, opened_in, stand}
 use Rattle.afp_serial.specs.Laws.{LinksDiffer, CountsSessions, NeverTwice, OnlyOpens, OpensNew}
-use Rattle.afp_serial.specs.World.{has_session, session_at, World, Session, at_moment, start_world}
+use Rattle.afp_serial.specs.World.{is_expired, has_session, session_at, World, Session, at_moment, start_world}
 use Rattle.afp_serial.specs.Sound.{share_link}
 use Rattle.afp_base.proofs.Facts.{never}
 use Rattle.afp_base.proofs.ListFacts.{any-filter, apart-places}

@@ -11,24 +11,33 @@ use Rattle.afp_base.specs.Apart.{are_apart}
 use Rattle.afp_base.specs.Limits.{most_forks}
 use Rattle.afp_base.proofs.ListFacts.{all-both, all-put, any-map, any-weaker, apart-map, apart-weaker, find-all, length-mapped, put-found, put_by}
 
-abbrev number_of : Session → ℕ
+abbrev pub number_of : Session → ℕ
 number_of s = s.number
 
-abbrev put : Session → Session → Session
+abbrev pub put : Session → Session → Session
 put t x = put_by number_of t x
 
--- the session t may stand in place of the session s, which was found in the world
+-- the session t has the number of the session s, which was found in the world
+pub record HasNumber (w : World) (s t : Session) : Type 0 where
+  pub test : Session → Bool
+  pub found : find test w.sessions ≡ Some s
+  pub number : t.number ≡ s.number
+
+-- the session t may stand in place of that session
 pub record TakesPlace (w : World) (s t : Session) : Type 0 where
   pub test : Session → Bool
   pub found : find test w.sessions ≡ Some s
   pub number : t.number ≡ s.number
   pub place : t.place ≡ s.place
 
-put-number : (t x : Session) → (put t x).number ≡ x.number
+abbrev pub numbered : {w : World} {s t : Session} → TakesPlace w s t → HasNumber w s t
+numbered takes = record { test = takes.test; found = takes.found; number = takes.number }
+
+pub put-number : (t x : Session) → (put t x).number ≡ x.number
 put-number t x = cond_both (eqb x.number t.number) t x (λ y. y.number ≡ x.number) (λ same. sym (eqb-true x.number t.number same)) (λ other. refl)
 
 -- of two elements in place of one, what they share stays
-put-like : {B : Type 0} (f : Session → B) (s t x : Session) → t.number ≡ s.number → f t ≡ f s → f (put t x) ≡ f (put s x)
+pub put-like : {B : Type 0} (f : Session → B) (s t x : Session) → t.number ≡ s.number → f t ≡ f s → f (put t x) ≡ f (put s x)
 put-like f s t x number like = ap (λ (n : ℕ). f (cond (eqb x.number n) t x)) number ∙ chosen (eqb x.number s.number)
   where
     chosen : (b : Bool) → f (cond b t x) ≡ f (cond b s x)
@@ -42,7 +51,7 @@ replaced-old w t n h =
     (λ x is. ap (λ (m : ℕ). m == n) (sym (put-number t x)) ∙ is)
     (sym (any-map (λ (x : Session). x.number == n) (put t) w.sessions) ∙ h)
 
-put-same : (w : World) (s t : Session) → ApartSessions w → TakesPlace w s t → map (put s) w.sessions ≡ w.sessions
+pub put-same : (w : World) (s t : Session) → ApartSessions w → HasNumber w s t → map (put s) w.sessions ≡ w.sessions
 put-same w s t apart takes = put-found number_of takes.test w.sessions s apart.numbers takes.found
 
 pub replaced-apart : (w : World) (s t : Session) → ApartSessions w → TakesPlace w s t → ApartSessions (with_session w t)
@@ -54,7 +63,7 @@ replaced-apart w s t apart takes = record {
   links = apart-map same_link (put t) w.sessions
       ∙ apart-weaker (λ a b. same_link (put s a) (put s b)) (λ a b. same_link (put t a) (put t b)) w.sessions
       (λ a b same. (λ i. share_link (sym (like a) i) (sym (like b) i)) ∙ same)
-      (sym (apart-map same_link (put s) w.sessions) ∙ ap (are_apart same_link) (put-same w s t apart takes) ∙ apart.links);
+      (sym (apart-map same_link (put s) w.sessions) ∙ ap (are_apart same_link) (put-same w s t apart (numbered takes)) ∙ apart.links);
   below = all-put number_of (is_below w.next_link) t w.sessions apart.below
       ((λ i. nat_lt (takes.number i) w.next_link && is_link_below w.next_link (takes.place i)) ∙ find-all takes.test (is_below w.next_link) w.sessions s takes.found apart.below);
 }
@@ -63,7 +72,7 @@ replaced-apart w s t apart takes = record {
     like x = put-like (λ (y : Session). y.place) s t x takes.number takes.place
 
 -- a volume that is open stays so, where it stays in the session that is another
-pub volume-kept : (w : World) (s t : Session) (n v : ℕ) → ApartSessions w → TakesPlace w s t
+pub volume-kept : (w : World) (s t : Session) (n v : ℕ) → ApartSessions w → HasNumber w s t
     → (((s.number == n) && has_opened s v) ≡ true → ((t.number == n) && has_opened t v) ≡ true)
     → has_volume_open w.sessions n v ≡ true → has_volume_open (with_session w t).sessions n v ≡ true
 volume-kept w s t n v apart takes keeps h =
@@ -90,7 +99,7 @@ replaced-opens w t p keeps = record {
   clashes = p.clashes;
 }
 
-replaced-limits : (w : World) (s t : Session) → KeptLimits w → TakesPlace w s t → KeptLimits (with_session w t)
+replaced-limits : (w : World) (s t : Session) → KeptLimits w → HasNumber w s t → KeptLimits (with_session w t)
 replaced-limits w s t p takes = record {
   users = p.users;
   volumes = p.volumes;
@@ -100,17 +109,22 @@ replaced-limits w s t p takes = record {
   locks = p.locks;
 }
 
-pub replaced-sound : (w : World) (s t : Session) → IsSound w → TakesPlace w s t → is_lawful_cache t.cache ≡ true
+pub numbered-sound : (w : World) (s t : Session) → IsSound w → HasNumber w s t → ApartSessions (with_session w t) → is_lawful_cache t.cache ≡ true
     → list_all (λ o. has_volume_open (with_session w t).sessions o.session o.fork.volume) w.opens ≡ true
     → IsSound (with_session w t)
 unfolding has_lawful_locks has_typed_fields
-replaced-sound w s t h takes cache keeps = record {
+numbered-sound w s t h takes apart cache keeps = record {
   house = h.house;
   typed = h.typed;
   volumes = h.volumes;
-  sessions = sessions-whole (with_session w t) (replaced-apart w s t (sessions-parts w h.sessions) takes);
+  sessions = sessions-whole (with_session w t) apart;
   opens = opens-whole (with_session w t) (replaced-opens w t (opens-parts w h.opens) keeps);
   locks = h.locks;
   caches = caches-whole (with_session w t) (all-put number_of (λ x. is_lawful_cache x.cache) t w.sessions (caches-parts w h.caches) cache);
   limits = limits-whole (with_session w t) (replaced-limits w s t (limits-parts w h.limits) takes);
 }
+
+pub replaced-sound : (w : World) (s t : Session) → IsSound w → TakesPlace w s t → is_lawful_cache t.cache ≡ true
+    → list_all (λ o. has_volume_open (with_session w t).sessions o.session o.fork.volume) w.opens ≡ true
+    → IsSound (with_session w t)
+replaced-sound w s t h takes cache keeps = numbered-sound w s t h (numbered takes) (replaced-apart w s t (sessions-parts w h.sessions) takes) cache keeps

@@ -12,6 +12,7 @@ use Rattle.afp_serial.proofs.SoundRow.{IsSoundRow, no-keeper, no_more-refuses}
 use Rattle.afp_serial.proofs.TellRows.{close-dir-sound, enumerate-ext-sound, enumerate-ext2-sound, enumerate-sound, flush-sound, get-file-dir-parms-sound, get-vol-parms-sound, open-dir-sound}
 use Rattle.afp_serial.proofs.TreeRows.{create-dir-sound, create-file-sound, delete-sound, move-and-rename-sound, rename-sound, set-dir-parms-sound, set-file-dir-parms-sound, set-file-parms-sound, set-vol-parms-sound}
 use Rattle.afp_serial.proofs.WriteRows.{set-fork-parms-sound, write-ext-sound, write-sound}
+use Rattle.afp_serial.specs.SessionLaws.{all_stay}
 use Rattle.afp_serial.specs.Rows.{row, unsupported_row}
 
 -- it is always refused
@@ -25,6 +26,8 @@ unsupported-sound call = record {
   next = λ w s. refl;
   keeper = λ w s index passes commits. no-keeper w index commits;
   old = λ w s n h. h;
+  cached = λ w s test found p h. h;
+  leaves = λ stays w s. all_stay refl;
 }
 
 pub row-sound : (call : Call) → IsSoundRow call (row call)

@@ -3,6 +3,7 @@ use Rattle.std.proofs.Common.{◌≡◌, ap, sym, refl, subst, ℕ, ◌<◌, Boo
 use Rattle.std.specs.Prelude.{find, nat_le}
 use Rattle.std.specs.List.{list_all}
 use Rattle.std.proofs.lemmas.Bool.{and_parts, cond_both}
+use Rattle.afp_base.specs.Cached.{Kept}
 use Rattle.afp_base.specs.Limits.{payload_limit}
 use Rattle.afp_base.specs.Choice.{first_holding}
 use Rattle.afp_base.specs.declared.code.Code.{Code}
@@ -18,6 +19,7 @@ use Rattle.afp_serial.proofs.SoundParts.{ApartSessions}
 use Rattle.afp_serial.specs.World.{Refusal, Refused, CallRow, has_session, World, Session}
 use Rattle.afp_serial.specs.LawfulCall.{is_lawful_call}
 use Rattle.afp_serial.specs.ReplyKinds.{command_of, reply_kind}
+use Rattle.afp_serial.specs.SessionLaws.{RowLeavesSessions}
 use Rattle.afp_serial.specs.Sound.{IsSound}
 
 -- the bytes of a reply fit in a frame
@@ -104,7 +106,8 @@ no_more-refuses call rows r is all = first-told call rows r is (no_more-all call
 
 -- What the row of a call owes in a sound world. What it is refused with can be told to its requests, and is never told Ok. Where it is not refused, and its fields are those
 -- that bytes give, its effect keeps the world sound; its reply fits in a frame, and is shown by its bytes. In any world its effect keeps sessions
--- apart, draws no link number, and makes no session; and the volume of the keeper that it names is there.
+-- apart, draws no link number, makes no session, and leaves to each its kept answers; where it moves no session, it leaves the other sessions alone;
+-- and the volume of the keeper that it names is there.
 pub record IsSoundRow (call : Call) (row : CallRow) : Type 0 where
   pub refuses : (w : World) (s : Session) (r : Refused) → first_holding (row.refusals w s) ≡ Some r → IsSound w → IsRefusedTo call r
   pub sound : (w : World) (s : Session) (test : Session → Bool) → is_lawful_call call ≡ true → find test w.sessions ≡ Some s → first_holding (row.refusals w s) ≡ None → IsSound w → IsSound (row.effect w s).world
@@ -114,6 +117,8 @@ pub record IsSoundRow (call : Call) (row : CallRow) : Type 0 where
   pub next : (w : World) (s : Session) → (row.effect w s).world.next_link ≡ w.next_link
   pub keeper : (w : World) (s : Session) (index : ℕ) → first_holding (row.refusals w s) ≡ None → row.committed w s ≡ Some index → index < length w.volumes
   pub old : (w : World) (s : Session) (n : ℕ) → has_session (row.effect w s).world.sessions n ≡ true → has_session w.sessions n ≡ true
+  pub cached : (w : World) (s : Session) (test : Session → Bool) → find test w.sessions ≡ Some s → (p : ℕ → List Kept → Bool) → list_all (λ x. p x.number x.cache) w.sessions ≡ true → list_all (λ x. p x.number x.cache) (row.effect w s).world.sessions ≡ true
+  pub leaves : RowLeavesSessions call row
 
 -- a row that names no keeper
 pub no-keeper : (w : World) (index : ℕ) → None ≡ Some index → index < length w.volumes

@@ -18,6 +18,7 @@ use Rattle.afp_serial.proofs.OnVolumeRows.{Asks, keeper-there, on-refused, tells
 use Rattle.afp_serial.proofs.SoundRow.{IsSoundRow, no-keeper, no_more-refuses}
 use Rattle.afp_serial.proofs.ToldReplies.{dir-told-to, empty-told, list-told-to, node-values-told-to, volume-told-to}
 use Rattle.afp_serial.proofs.VolumeCodes.{list-refuses, node-refuses, open-dir-refuses, volume-refuses}
+use Rattle.afp_serial.specs.SessionLaws.{all_stay}
 use Rattle.afp_serial.specs.Enumerate.{enumerate_ext2_row, enumerate_ext_row, enumerate_row}
 use Rattle.afp_serial.specs.Flush.{flush_row}
 use Rattle.afp_serial.specs.GetFileDirParms.{get_file_dir_parms_row}
@@ -42,6 +43,8 @@ close-dir-sound volume dir = record {
   next = λ w s. refl;
   keeper = λ w s index passes commits. no-keeper w index commits;
   old = λ w s n h. h;
+  cached = λ w s test found p h. h;
+  leaves = λ stays w s. all_stay refl;
 }
 
 flush-asks : (volume : VolumeId) → Asks (Flush volume) Empty
@@ -58,6 +61,8 @@ flush-sound volume = record {
   next = λ w s. refl;
   keeper = λ w s index passes commits. keeper-there w s volume.0 index (λ v. None) passes commits;
   old = λ w s n h. h;
+  cached = λ w s test found p h. h;
+  leaves = λ stays w s. all_stay refl;
 }
 
 -- of a volume

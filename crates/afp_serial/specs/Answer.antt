@@ -1,6 +1,6 @@
 -- The serial answer to an ask, and the world after it (this profile). In all of these the world's latest moment is already the ask's.
 use Rattle.std.specs.Prelude.{ℕ, ◌+◌, ◌==◌, nat_le, Bool, true, false, not, ◌&&◌, ◌||◌, if◌then◌else◌, List, [], ◌∷◌, ◌++◌, length, Option, None, Some, is_some, take, drop, is_none}
-use Rattle.afp_base.specs.Cached.{Request, Answer, cached_answer}
+use Rattle.afp_base.specs.Cached.{Request, Answer, cached_answer, with_kept}
 use Rattle.afp_base.specs.declared.code.Code.{Code}
 use Rattle.afp_base.specs.declared.code.Code.TheVariants as code
 use Rattle.afp_base.specs.declared.ids.LinkNumber.{LinkNumber}
@@ -11,13 +11,12 @@ use Rattle.afp_serial.specs.declared.ask.Outcome.{Outcome}
 use Rattle.afp_serial.specs.declared.ask.Outcome.TheVariants as outcome
 use Rattle.afp_serial.specs.declared.ask.Told.{Told}
 use Rattle.afp_serial.specs.declared.ask.Told.TheVariants as told
-use Rattle.afp_serial.specs.declared.attachment.Attachment.{Attachment}
-use Rattle.afp_serial.specs.declared.attachment.Attachment.TheVariants.{Attached, Detached}
+use Rattle.afp_serial.specs.declared.attachment.Attachment.TheVariants.{Attached}
 use Rattle.afp_replies.specs.Replies.{canonical_reply}
 use Rattle.afp_calls_grammar.specs.Commands.{get_srvr_info_command, login_command, login_ext_command, logout_command}
 use Rattle.afp_calls_grammar.specs.declared.call.Call.{Call}
-use Rattle.afp_serial.specs.World.{Effect, Refused, session_at, ending, without_session, World, Session, at_moment, plain}
-use Rattle.afp_serial.specs.Limits.{most_sessions, links_end, detached_time}
+use Rattle.afp_serial.specs.World.{Effect, Refused, session_at, ending, is_expired, without_session, World, Session, at_moment, plain}
+use Rattle.afp_serial.specs.Limits.{most_sessions, links_end}
 use Rattle.afp_serial.specs.Ranges.{is_typed_entry}
 use Rattle.afp_serial.specs.Rows.{effect, committed, ends_session, refusal}
 use Rattle.std.specs.List.{list_any}
@@ -129,6 +128,10 @@ abbrev pub told_call : World → Option Session → Request → Outcome → Told
 told_call w None r o = told.Displaced
 told_call w (Some s) r o = told_verdict w s (verdict w s r) o
 
+-- the session with one more answer kept
+abbrev pub with_answer : Request → Answer → Session → Session
+with_answer r answer s = record s { cache = with_kept s.cache (record { request = r; answer = answer }) }
+
 -- The world with what a request of the session is told kept for it, where it is to be kept (this profile). None is kept yet.
 abbrev pub kept_in : Session → Request → Told → World → World
 kept_in s r told w = w
@@ -149,11 +152,6 @@ committed_in w None r = None
 committed_in w (Some s) r = committed_by w s (verdict w s r)
 
 -- Pulse
-
--- a session that lost its link 600 seconds ago or before
-abbrev pub is_expired : ℕ → Attachment → Bool
-is_expired now (Attached link) = false
-is_expired now (Detached moment) = nat_le (moment + detached_time) now
 
 abbrev pub without_expired : World → World
 without_expired w = ending w (λ s. not (is_expired w.latest s.place))

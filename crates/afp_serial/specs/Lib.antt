@@ -13,6 +13,8 @@ pub mod OnFork
 pub mod ListReply
 pub mod Login
 pub mod Logout
+pub mod Token
+pub mod SessionToken
 pub mod OpenVol
 pub mod CloseVol
 pub mod GetVolParms
@@ -29,6 +31,9 @@ pub mod Fork
 pub mod ForkBytes
 pub mod Lock
 pub mod Rows
+pub mod SessionLaws
+pub mod ToldAtMost
+pub mod SweepLaws
 pub mod LawfulCall
 pub mod Answer
 pub mod History

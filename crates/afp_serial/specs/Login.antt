@@ -3,7 +3,8 @@ use Rattle.std.specs.Prelude.{ℕ, not, List, [], ◌∷◌, Some, is_some, byte
 use Rattle.std.specs.List.{list_any}
 use Rattle.afp_base.specs.declared.code.Code.TheVariants.{ParamErr, BadVersNum, BadUAM}
 use Rattle.afp_serial.specs.World.{CallRow, commits_nothing, plain, with_empty_reply, with_session}
-use Rattle.afp_serial.specs.StatusWords.{no_user, versions}
+use Rattle.afp_calls_grammar.specs.LoginNames.{no_user}
+use Rattle.afp_serial.specs.StatusWords.{versions}
 
 -- the id of the user that logs in without a name
 abbrev pub guest_id : ℕ

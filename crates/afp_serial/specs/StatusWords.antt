@@ -1,32 +1,16 @@
 -- The words by which a server announces itself in its status block, and by which it takes logins (AFP Reference, FPGetSrvrInfo, FPLogin).
 use Rattle.std.specs.Prelude.{ℕ, ◌+◌, List, [], ◌∷◌, codes}
+use Rattle.afp_calls_grammar.specs.LoginNames.{version_3_3, version_3_2, version_3_1, no_user, cleartext}
 
 -- what kind of machine the server is
 abbrev pub machine_type : List ℕ
 machine_type = codes "Macintosh"
 
--- the AFP versions, by their names (AFP Reference, FPLogin)
-abbrev pub version_3_3 : List ℕ
-version_3_3 = codes "AFP3.3"
-
-abbrev pub version_3_2 : List ℕ
-version_3_2 = codes "AFP3.2"
-
-abbrev pub version_3_1 : List ℕ
-version_3_1 = codes "AFP3.1"
-
--- those that the server speaks: it announces them in this order, and takes a login with any of them
+-- the AFP versions that the server speaks: it announces them in this order, and takes a login with any of them
 abbrev pub versions : List (List ℕ)
 versions = version_3_3 ∷ version_3_2 ∷ version_3_1 ∷ []
 
--- the user authentication methods (UAMs), by their names: without a user, and by name and password (AFP Reference, "User Authentication Methods")
-abbrev pub no_user : List ℕ
-no_user = codes "No User Authent"
-
-abbrev pub cleartext : List ℕ
-cleartext = codes "Cleartxt Passwrd"
-
--- those that the server announces, in this order
+-- the user authentication methods (UAMs) that it announces, in this order
 abbrev pub uams : List (List ℕ)
 uams = no_user ∷ cleartext ∷ []
 

@@ -1,11 +1,12 @@
 -- The world of the serial file server: one record of lists (this profile, after the AFP Reference's sessions, volumes, forks and desktop database).
-use Rattle.std.specs.Prelude.{ℕ, max, List, [], map, Option, None, zero, suc, ◌==◌, Bool, false, not, if◌then◌else◌, filter, find, slice_get, true, ◌∷◌, Some}
+use Rattle.std.specs.Prelude.{ℕ, max, List, [], map, Option, None, zero, suc, ◌+◌, nat_le, ◌==◌, Bool, false, not, if◌then◌else◌, filter, find, slice_get, true, ◌∷◌, Some}
 use Rattle.afp_base.specs.Cached.{Kept}
 use Rattle.afp_base.specs.DenyMode.{Access, Fork}
 use Rattle.afp_base.specs.Overlap.{Range}
 use Rattle.volume_spec.specs.VolumeState.{VolumeState, fresh_volume}
 use Rattle.afp_serial.specs.declared.attachment.Attachment.{Attachment}
 use Rattle.afp_serial.specs.Household.{Household}
+use Rattle.afp_serial.specs.Limits.{detached_time}
 use Rattle.std.specs.List.{list_any}
 use Rattle.afp_serial.specs.declared.attachment.Attachment.TheVariants.{Attached, Detached}
 use Rattle.afp_base.specs.declared.code.Code.{Code}
@@ -76,6 +77,11 @@ at_moment w now = record w { latest = max w.latest now }
 abbrev pub is_on_link : ℕ → Attachment → Bool
 is_on_link link (Attached l) = l.0 == link
 is_on_link link (Detached moment) = false
+
+-- a session that lost its link 600 seconds ago or before
+abbrev pub is_expired : ℕ → Attachment → Bool
+is_expired now (Attached link) = false
+is_expired now (Detached moment) = nat_le (moment + detached_time) now
 
 -- the session that has the link
 abbrev pub session_at : World → ℕ → Option Session

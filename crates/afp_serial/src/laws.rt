@@ -2,6 +2,10 @@
 ghost use Rattle.afp_serial.specs.Laws as laws;
 ghost use Rattle.afp_serial.specs.ListReply as list_reply;
 ghost use Rattle.afp_serial.specs.ParmsReplies as parms_replies;
+ghost use Rattle.afp_serial.specs.SessionLaws as session_laws;
+ghost use Rattle.afp_serial.specs.SweepLaws as sweep_laws;
+ghost use Rattle.afp_serial.specs.Token as token;
+ghost use Rattle.afp_serial.specs.ToldAtMost as told_at_most;
 
 /// A world at the start is sound over sound volumes of its house, as are those that nobody has used. A legal entry keeps a sound world
 /// sound, so a lawful history is sound at each of its places. What is told is an answer to the ask, and a reply's block fits in a frame:
@@ -70,4 +74,30 @@ pub fn lists_are_shown()
 pub fn parameters_are_shown()
     ensures volume { parms_replies.VolumeIsShown }
     ensures node { parms_replies.NodeIsShown }
+{}
+
+/// A call but Logout and DisconnectOldSession leaves each session's number, its link or the moment at which it lost it, and its kept answers. The
+/// sessions that did not ask stay as they are; the one that asked has other volumes at most, and another user only where the call logs in.
+pub fn calls_leave_other_sessions()
+    ensures leaves { session_laws.LeavesSessions }
+    ensures others { session_laws.LeavesOthers }
+    ensures marks { session_laws.LeavesMarks }
+    ensures users { session_laws.LeavesUsers }
+{}
+
+/// In a sound world the sessions that are gone by then may end one by one: where the first of them ends, the sweep behind it comes to the same.
+/// Where none is gone, the sweep changes nothing.
+pub fn sessions_that_are_gone_end_one_by_one()
+    ensures one { sweep_laws.EndsOneByOne }
+    ensures none { sweep_laws.EndsNone }
+{}
+
+/// In a sound world a call that is told more than `told_at_most` says of it changes nothing, and commits to no volume's keeper and settles none.
+pub fn what_tells_much_changes_nothing()
+    ensures { told_at_most.LongTellsAlone }
+{}
+
+/// No two sessions have one token.
+pub fn tokens_tell_sessions_apart()
+    ensures { token.TokensDiffer }
 {}

@@ -14,6 +14,7 @@ mod ranges;
 mod status;
 pub mod status_words;
 mod teller;
+mod told_size;
 mod user;
 
 pub use ask::{Ask, Entry, Outcome, Told};
@@ -23,4 +24,5 @@ pub use house::House;
 pub use house_fault::HouseFault;
 pub use ranges::{entry_in_range, moment_in_range};
 pub use teller::Teller;
+pub use told_size::told_at_most;
 pub use user::User;

@@ -1,28 +1,14 @@
 //! The words by which a server announces itself in its status block, and by which it takes logins (AFP
 //! Reference, "FPGetSrvrInfo", "FPLogin").
+use afp_calls_grammar::login_names::{CLEARTEXT, NO_USER, VERSION_3_1, VERSION_3_2, VERSION_3_3};
 
 /// What kind of machine the server is.
 pub const MACHINE_TYPE: &str = "Macintosh";
 
-/// AFP 3.3, by its name.
-pub const VERSION_3_3: &str = "AFP3.3";
-
-/// AFP 3.2, by its name.
-pub const VERSION_3_2: &str = "AFP3.2";
-
-/// AFP 3.1, by its name.
-pub const VERSION_3_1: &str = "AFP3.1";
-
 /// The versions that the server speaks, in the order in which it announces them.
 pub const VERSIONS: [&str; 3] = [VERSION_3_3, VERSION_3_2, VERSION_3_1];
 
-/// The user authentication method (UAM) without a user, by its name.
-pub const NO_USER: &str = "No User Authent";
-
-/// The UAM by name and password, by its name.
-pub const CLEARTEXT: &str = "Cleartxt Passwrd";
-
-/// The UAMs that the server announces, in this order.
+/// The user authentication methods (UAMs) that the server announces, in this order.
 pub const UAMS: [&str; 2] = [NO_USER, CLEARTEXT];
 
 /// The flag of a server that has FPCopyFile.

@@ -1,5 +1,5 @@
 use Rattle.std.proofs.Common.{◌∙◌, ap, not, filter}
-use Rattle.afp_serial.specs.Answer.{is_expired}
+use Rattle.afp_serial.specs.World.{is_expired}
 use Rattle.afp_core_state.specs.KeptWorld.{KeptWorld}
 use Rattle.afp_core_state.specs.lemma.KeptWorld.{with_sessions}
 use Rattle.afp_core_dispatch.proofs.AskLemmas.{pulse-runs}
