@@ -1,0 +1,7 @@
+mod Texts
+mod ReadLemmas
+mod ShapeLemmas
+mod RowLemmas
+mod TakeLemmas
+mod AddLemmas
+mod LeastLemmas

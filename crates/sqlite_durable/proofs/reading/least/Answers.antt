@@ -1,0 +1,58 @@
+use Rattle.std.proofs.Common.{rules, ◌≡◌, [], ◌∷◌, IfOk, OnOk, IsTrue, sym, subst, ap, not, ◌∙◌, ℕ, List, refl, Ok, Err, Result, Option, None, Some, length, slice_get, option_map, ◌≤◌}
+use Rattle.sqlite.specs.Held.{state}
+use Rattle.sqlite.specs.State.{HasCleanDisk, IsUnchanged, Shown}
+use Rattle.sqlite_value.specs.declared.value.Value.TheVariants.{Blob}
+use Rattle.sqlite_value.specs.Order.{Row, column}
+use Rattle.sqlite.specs.Listing.{understood}
+use Rattle.sqlite.specs.Values.{bound_value}
+use Rattle.sqlite_value.specs.Value.{owned}
+use Rattle.sqlite.proofs.Callers.{IsPlain}
+use Rattle.record_keeper.specs.Records.{IsNextKey}
+use Rattle.sqlite_durable.specs.Table.{records_schema, least_text}
+use Rattle.sqlite_durable.specs.Kept.{records_of}
+use Rattle.sqlite_durable.proofs.Texts.{least_plain}
+use Rattle.sqlite_durable.proofs.ReadLemmas.{key_row}
+use Rattle.sqlite_durable.proofs.LeastLemmas.{least_told}
+use Rattle.sqlite_durable.proofs.ShapeLemmas.{rows_are, shown_same, shown_open, open_clean, fails_now, on_err, leaves_as_before, commits_nothing, if_ok}
+use Rattle.sqlite_durable.proofs.reading.least.Goals as goal
+
+pub returns-clause-same : goal.returns-clause-same
+returns-clause-same g c on =
+    let clean : HasCleanDisk (state g.S.Store c.query_all.new.self) = open_clean _ _ (g.met.S.Store.shut_if_dirty c.query_all.new.self.store) on in
+    let schema = c.requires.schema (shown_open least_text _ _ _ _ (c.in_ok-rows.ensures.ok clean)) in
+    let old = state g.S.Store c.args.connection.now in
+    let plain = subst (λ s. IsPlain (understood s least_text)) (sym schema) least_plain in
+    let same : IsUnchanged old (state g.S.Store c.query_all.new.self) = shown_same least_text _ old _ _ plain (c.in_ok-rows.ensures.ok clean) in
+    search rules
+
+pub returns-clause-key : goal.returns-clause-key
+returns-clause-key g c on =
+    let clean : HasCleanDisk (state g.S.Store c.query_all.new.self) = open_clean _ _ (g.met.S.Store.shut_if_dirty c.query_all.new.self.store) on in
+    let schema = c.requires.schema (shown_open least_text _ _ _ _ (c.in_ok-rows.ensures.ok clean)) in
+    let old = state g.S.Store c.args.connection.now in
+    let now = state g.S.Store c.query_all.new.self in
+    let plain = subst (λ s. IsPlain (understood s least_text)) (sym schema) least_plain in
+    let shown : Shown least_text [] old now c.in_ok-rows.rows.items = c.in_ok-rows.ensures.ok clean in
+    let same = shown_same least_text _ old now _ plain shown in
+    let all = rows_are old.now schema (c.schema-live.ensures.live same.0.was_open).0 in
+    if_ok c.only_bytes.result (rw c.as_slice.ensures.value at c.only_bytes.ensures.first) (λ b first. least_told old now c.in_ok-rows.rows.items b schema all shown first)
+
+pub returns-in_err-rows-clause-err : goal.returns-in_err-rows-clause-err
+returns-in_err-rows-clause-err g c on =
+    let clean : HasCleanDisk (state g.S.Store c.query_all.new.self) = open_clean _ _ (g.met.S.Store.shut_if_dirty c.query_all.new.self.store) on in
+    on_err _ (fails_now least_text _ (state g.S.Store c.args.connection.now) (state g.S.Store c.query_all.new.self) _ (c.is_autocommit-alone.ensures.settled (c.is_autocommit-alone.ensures.value ∙ ap not c.requires.mode)) (c.in_err-rows.ensures.err clean) on)
+
+pub returns-clause-err : goal.returns-clause-err
+returns-clause-err g c on =
+    let clean : HasCleanDisk (state g.S.Store c.query_all.new.self) = open_clean _ _ (g.met.S.Store.shut_if_dirty c.query_all.new.self.store) on in
+    let was = shown_open least_text _ _ _ _ (c.in_ok-rows.ensures.ok clean) in
+    let schema = c.requires.schema was in
+    let plain = subst (λ s. IsPlain (understood s least_text)) (sym schema) least_plain in
+    let same : IsUnchanged (state g.S.Store c.args.connection.now) (state g.S.Store c.query_all.new.self) = shown_same least_text _ _ _ _ plain (c.in_ok-rows.ensures.ok clean) in
+    on_err c.only_bytes.result (was, same.0.now_is)
+
+pub returns-in_err-rows-clause-crash : goal.returns-in_err-rows-clause-crash
+returns-in_err-rows-clause-crash g c on = leaves_as_before _ _ (commits_nothing least_text _ (state g.S.Store c.args.connection.now) (state g.S.Store c.query_all.new.self) (c.requires.schema on) least_plain c.query_all.ensures.survives)
+
+pub returns-clause-crash : goal.returns-clause-crash
+returns-clause-crash g c on = leaves_as_before _ _ (commits_nothing least_text _ (state g.S.Store c.args.connection.now) (state g.S.Store c.query_all.new.self) (c.requires.schema on) least_plain c.query_all.ensures.survives)

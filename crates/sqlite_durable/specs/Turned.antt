@@ -1,0 +1,34 @@
+-- What changes make of a database that has the table.
+use Rattle.std.specs.Prelude.{◌≡◌, ◌⊎◌, ℕ, List, IsTrue}
+use Rattle.sqlite_trees.specs.Tree.{Trees}
+use Rattle.sqlite_trees.specs.declared.store.Store.{Ghosts}
+use Rattle.sqlite.specs.Effect.{Database, IsDatabase}
+use Rattle.sqlite.specs.State.{State, HasCleanDisk}
+use Rattle.sqlite.specs.Held.{Held, state}
+use Rattle.record_keeper.specs.Records.{Records}
+use Rattle.sqlite_durable.specs.Table.{records_schema}
+use Rattle.sqlite_durable.specs.Kept.{records_of}
+
+-- the records of a database
+abbrev pub records_in : Database → Records
+records_in db = records_of (db.trees 0)
+
+-- the database has the table of the records and no other, and its rows obey that
+abbrev pub HasTable : Database → Type 0
+HasTable db = (db.schema ≡ records_schema) × IsDatabase db
+
+-- it has the table, and these records
+abbrev pub Holds : Database → Records → Type 0
+Holds db kept = HasTable db × (records_in db ≡ kept)
+
+-- the records before, changed so, are those of the database after
+abbrev pub Turns : (Records → Records) → Database → Database → Type 0
+Turns change old new = Holds new (change (records_in old))
+
+-- a crash leaves what it could leave before, or the records after this change
+abbrev pub LeavesOr : (Records → Records) → State → State → Type 0
+LeavesOr change old new = HasCleanDisk new → (db : Trees) → new.may_leave db → old.may_leave db ⊎ (records_of (db 0) ≡ change (records_in old.now))
+
+-- a crash leaves what it could leave before
+abbrev pub LeavesAsBefore : State → State → Type 0
+LeavesAsBefore old new = HasCleanDisk new → (db : Trees) → new.may_leave db → old.may_leave db

@@ -1,0 +1,172 @@
+//! The keeper, how it starts, and its count of faults.
+ghost use Rattle.std.specs.Prelude.{◌≡◌, ◌++◌, ◌∷◌, [], IfOk, IfSome, OnOk, OnErr, Err, true, false};
+ghost use Rattle.std.specs.FinMap.{get};
+ghost use Rattle.std.specs.Option.{option_copied};
+ghost use Rattle.record_keeper.specs.Causes.{HasCause};
+ghost use Rattle.record_keeper.specs.Records.{Makes, same_records, changed, IsNextKey};
+ghost use Rattle.sqlite.specs.Held.{state};
+ghost use Rattle.sqlite_durable.specs.Durable.{told_of, IsFoundIn, IsOpen, LeavesSame, LeavesChanged, LeavesTold};
+
+use crate::{reading, schema, writing};
+use afp_base::Bytes;
+use ghost_log::Log;
+use record_keeper::{Change, Keeper, KeeperFault, RecordKey};
+use sqlite::{Alter, Connection};
+use sqlite_keeper::counted;
+use std::alloc::Global;
+use std::marker::Model;
+
+/// Keeps its records in the table `records` of a database, and tells them: they are the rows of the table, as long as the
+/// database is open. A fault of its disk shuts it, and it may do so unseen; from then on the keeper tells none.
+///
+/// Each commit is one transaction. Each statement that is refused for anything but want of memory is a fault. At 2^64 - 1
+/// faults the count stands still, and what is refused then is told as want of memory.
+#[derive(Drop)]
+pub struct DurableKeeper<S: Alter + Drop> {
+    connection: Connection<S>,
+    faults: u64,
+    settles: Log<Result<(), KeeperFault>>,
+}
+
+impl<S: Alter + Drop> Model for DurableKeeper<S> {
+    ghost use Rattle.sqlite_durable.specs.Durable.{Durable};
+    ghost use Rattle.sqlite_durable.specs.lemma.Stored.{durable_code, IsReady};
+
+    ghost Value = { Durable S };
+
+    ghost coded = { durable_code S.code };
+
+    ghost view = { λ k. record { database = k.connection; faults = k.faults; settles = k.settles.items } };
+
+    ghost invariant = { λ k. IsReady S.Store k.connection };
+}
+
+/// Why a keeper does not start over a database.
+#[derive(Clone, Copy, Debug, PartialEq, Eq)]
+pub enum StartFault {
+    /// A transaction is open in it.
+    InTransaction,
+    /// It has another table, another index or a view, or the table of the records with other columns.
+    OtherTables,
+    /// The table of the records could not be made.
+    Failed,
+    /// There is no memory.
+    Memory,
+}
+
+impl<S: Alter + Drop> DurableKeeper<S> {
+    /// A keeper over a database. Where that has no table at all, the table is made, by a commit of its own.
+    pub fn new(mut connection: Connection<S>) -> Result<DurableKeeper<S>, StartFault>
+        ensures found { IfOk result (λ keeper. IsOpen S.Store keeper → IsFoundIn (state S.Store connection).now (state S.Store keeper.database).now) }
+        ensures faults { IfOk result (λ keeper. keeper.faults ≡ 0) }
+        ensures settles { IfOk result (λ keeper. keeper.settles ≡ []) }
+        ensures busy { result ≡ Err StartFault.InTransaction → connection.in_transaction ≡ true }
+    {
+        if !connection.is_autocommit() {
+            return Err(StartFault::InTransaction);
+        }
+        if !schema::is_records(connection.schema()) {
+            if !schema::is_blank(connection.schema()) {
+                return Err(StartFault::OtherTables);
+            }
+            if let Err(error) = writing::make_table(&mut connection) {
+                return Err(match counted(&mut 0, error) {
+                    KeeperFault::Failed => StartFault::Failed,
+                    KeeperFault::Memory => StartFault::Memory,
+                });
+            }
+        }
+        Ok(DurableKeeper {
+            connection,
+            faults: 0,
+            settles: Log::new(),
+        })
+    }
+
+    /// While the database is open, a crash between two calls leaves the records that are told, and nothing else.
+    pub fn leaves_what_it_tells(&self)
+        ensures { LeavesTold S.Store self.now }
+    {
+        let _alone = self.connection.is_autocommit();
+    }
+
+    /// The database, given back.
+    pub fn into_connection(self) -> Connection<S>
+        ensures { result ≡ self.database }
+    {
+        let DurableKeeper {
+            connection,
+            faults: _,
+            settles: _,
+        } = self;
+        connection
+    }
+}
+
+impl<S: Alter + Drop> Keeper for DurableKeeper<S> {
+    ghost records = { λ k. told_of S.Store k };
+
+    ghost faults = { λ k. k.faults };
+
+    ghost sure = { λ _. false };
+
+    ghost steady = { λ _. false };
+
+    ghost settles = { λ k. k.settles };
+
+    fn read(&mut self, alloc: Global, key: &RecordKey) -> Result<Option<Bytes>, KeeperFault>
+        ensures value { IfOk result (λ value. IfSome (told_of S.Store self.new) (λ kept. value ≡ get kept key.now)) }
+        ensures records { Makes same_records (told_of S.Store self.old) (told_of S.Store self.new) }
+        ensures cause { HasCause false self.old.faults self.new.faults result }
+        ensures settles { self.new.settles ≡ self.old.settles }
+        ensures crash { LeavesSame S.Store self.old self.new }
+    {
+        match reading::value_at(alloc, &mut self.connection, key) {
+            Ok(value) => Ok(value),
+            Err(error) => Err(counted(&mut self.faults, error)),
+        }
+    }
+
+    fn next_key(
+        &mut self,
+        alloc: Global,
+        after: Option<&RecordKey>,
+    ) -> Result<Option<RecordKey>, KeeperFault>
+        ensures key { IfOk result (λ key. IfSome (told_of S.Store self.new) (λ kept. IsNextKey kept (option_copied after.entry) key)) }
+        ensures records { Makes same_records (told_of S.Store self.old) (told_of S.Store self.new) }
+        ensures cause { HasCause false self.old.faults self.new.faults result }
+        ensures settles { self.new.settles ≡ self.old.settles }
+        ensures crash { LeavesSame S.Store self.old self.new }
+    {
+        match reading::key_after(alloc, &mut self.connection, after) {
+            Ok(key) => Ok(key),
+            Err(error) => Err(counted(&mut self.faults, error)),
+        }
+    }
+
+    fn commit(&mut self, _alloc: Global, changes: &[Change]) -> Result<(), KeeperFault>
+        ensures ok { OnOk result (Makes (changed changes.now) (told_of S.Store self.old) (told_of S.Store self.new)) }
+        ensures err { OnErr result (Makes same_records (told_of S.Store self.old) (told_of S.Store self.new)) }
+        ensures cause { HasCause false self.old.faults self.new.faults result }
+        ensures settles { self.new.settles ≡ self.old.settles }
+        ensures crash { LeavesChanged S.Store (changed changes.now) self.old self.new }
+    {
+        match writing::make_all(&mut self.connection, changes) {
+            Ok(()) => Ok(()),
+            Err(error) => Err(counted(&mut self.faults, error)),
+        }
+    }
+
+    /// Each commit is on the disk before it is told, so nothing is left to do.
+    fn settle(&mut self) -> Result<(), KeeperFault>
+        ensures done { OnErr result ⊥ }
+        ensures same { self.new.database ≡ self.old.database }
+        ensures records { Makes same_records (told_of S.Store self.old) (told_of S.Store self.new) }
+        ensures cause { HasCause false self.old.faults self.new.faults result }
+        ensures settles { self.new.settles ≡ self.old.settles ++ result ∷ [] }
+    {
+        let answer = Ok(());
+        self.settles = self.settles.and(&answer);
+        answer
+    }
+}

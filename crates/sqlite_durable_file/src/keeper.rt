@@ -1,0 +1,101 @@
+//! A keeper over a database file.
+ghost use Rattle.std.specs.Prelude.{◌≡◌, IfOk, []};
+
+use afp_base::Bytes;
+use record_keeper::{Change, Keeper, KeeperFault, RecordKey};
+use sqlite::{Connection, Error, File, FileStore};
+use sqlite_durable::{DurableKeeper, StartFault};
+use std::alloc::Global;
+
+/// Keeps its records in a database file. It tells them as the keeper does that it is made of.
+#[derive(Drop)]
+pub struct FileKeeper {
+    inner: DurableKeeper<FileStore<File>>,
+}
+
+/// Why a file is not taken.
+#[derive(Debug, Drop)]
+pub enum OpenFault {
+    /// It is not opened: it cannot be read or written, it is no database, or another has it open.
+    File(Error),
+    /// It is a database in which no keeper starts.
+    Start(StartFault),
+}
+
+impl FileKeeper {
+    /// A keeper over the database in a file, which is made where it is not there. Beside it lies its log, `PATH-wal`.
+    pub fn open(rt: &HostRuntime, path: &str) -> Result<FileKeeper, OpenFault>
+        ensures faults { IfOk result (λ keeper. keeper.inner.faults ≡ 0) }
+        ensures settles { IfOk result (λ keeper. keeper.inner.settles ≡ []) }
+    {
+        match Connection::open(rt, path) {
+            Ok(connection) => started(connection),
+            Err(error) => Err(OpenFault::File(error)),
+        }
+    }
+}
+
+fn started(connection: Connection<FileStore<File>>) -> Result<FileKeeper, OpenFault>
+    ensures faults { IfOk result (λ keeper. keeper.inner.faults ≡ 0) }
+    ensures settles { IfOk result (λ keeper. keeper.inner.settles ≡ []) }
+{
+    match DurableKeeper::new(connection) {
+        Ok(inner) => Ok(FileKeeper { inner }),
+        Err(fault) => Err(OpenFault::Start(fault)),
+    }
+}
+
+impl Keeper for FileKeeper {
+    ghost use Rattle.std.specs.Prelude.{false};
+    ghost use Rattle.sqlite.specs.Files.{file_state};
+    ghost use Rattle.sqlite_durable.specs.Turned.{records_in};
+    ghost use Rattle.sqlite_durable.specs.Durable.{while_open};
+
+    ghost records = { λ k. while_open (file_state k.inner.database).is_open (records_in (file_state k.inner.database).now) };
+
+    ghost faults = { λ k. k.inner.faults };
+
+    ghost sure = { λ _. false };
+
+    ghost steady = { λ _. false };
+
+    ghost settles = { λ k. k.inner.settles };
+
+    fn read(&mut self, alloc: Global, key: &RecordKey) -> Result<Option<Bytes>, KeeperFault> {
+        self.inner.read(alloc, key)
+    }
+
+    fn next_key(
+        &mut self,
+        alloc: Global,
+        after: Option<&RecordKey>,
+    ) -> Result<Option<RecordKey>, KeeperFault> {
+        self.inner.next_key(alloc, after)
+    }
+
+    fn commit(&mut self, alloc: Global, changes: &[Change]) -> Result<(), KeeperFault> {
+        self.inner.commit(alloc, changes)
+    }
+
+    fn settle(&mut self) -> Result<(), KeeperFault> {
+        self.inner.settle()
+    }
+}
+
+fn settle_each(keepers: &mut Vec<Box<dyn Keeper + Send>>) {
+    for keeper in keepers.iter_mut() {
+        let _ = keeper.settle();
+    }
+}
+
+/// Has a keeper over a file settle in a box, as a server holds it in its list.
+pub fn settle_boxed(alloc: Global, inner: FileKeeper) {
+    let mut keepers: Vec<Box<dyn Keeper + Send>> = Vec::new(alloc);
+    let Ok(keeper) = Box::new(alloc, inner) else {
+        return;
+    };
+    if keepers.push(keeper).is_err() {
+        return;
+    }
+    settle_each(&mut keepers);
+}

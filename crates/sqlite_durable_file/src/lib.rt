@@ -1,0 +1,6 @@
+//! The keeper over a database in a file, as a type without parameters that goes into a box.
+#![tactic(auto)]
+
+mod keeper;
+
+pub use keeper::{FileKeeper, OpenFault, settle_boxed};
