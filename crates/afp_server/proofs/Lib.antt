@@ -10,5 +10,8 @@ pub mod Scripts
 pub mod WireLemmas
 pub mod FrameSteps
 pub mod ReadSteps
+pub mod Requesting
 pub mod ScriptLaws
 pub mod Completeness
+pub mod Written
+pub mod Idling

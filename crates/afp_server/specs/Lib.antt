@@ -6,9 +6,10 @@ pub mod GetStatus
 pub mod LinkRun
 pub mod OpenSession
 pub mod Passing
-pub mod Replies
+pub mod Requests
 pub mod Script
 pub mod Trace
 pub mod Tally
 pub mod Wire
+pub mod Written
 pub mod lemma

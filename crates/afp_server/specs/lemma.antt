@@ -2,6 +2,7 @@
 pub mod Feeding
 pub mod Passing
 pub mod Reading
+pub mod Requesting
 pub mod Sending
 pub mod Serving
 pub mod SessionState

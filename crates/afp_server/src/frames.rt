@@ -5,6 +5,7 @@ ghost use Rattle.dsi_frame.specs.Frame.{Frame, header_of};
 ghost use Rattle.dsi_frame.specs.Stream.{Begins};
 ghost use Rattle.afp_server.specs.lemma.Serving.{Start, SoFar, ServesFrame, ServesFrames, point, end_of_frame};
 
+use crate::requests::LinkRequests;
 use crate::send::send_all;
 use crate::serve::LinkEnd;
 use crate::session::LinkSession;
@@ -18,6 +19,7 @@ use dsi_frame::{BadFrame, Deframer, Head, Header};
 pub fn serve_frames<L: Link, T: Teller, G: Gate>(
     deframer: &mut Deframer,
     session: &mut LinkSession,
+    requests: &mut LinkRequests,
     link: &mut L,
     teller: &mut T,
     gate: &G,
@@ -28,8 +30,8 @@ pub fn serve_frames<L: Link, T: Teller, G: Gate>(
     ensures block { session.new.block ≡ session.old.block }
     ensures live { IfNone result (session.new.stage ≢ Stage.Closing) }
     ensures serves { (start : Start) (cost : ℕ) → start.block ≡ session.old.block
-        → SoFar start (point deframer.old session.old.stage (L.link_state link.old) (T.shown teller.old) (G.passed log.old)) cost
-        → ServesFrames start cost result (point deframer.new session.new.stage (L.link_state link.new) (T.shown teller.new) (G.passed log.new)) }
+        → SoFar start (point deframer.old session.old.stage requests.old (L.link_state link.old) (T.shown teller.old) (G.passed log.old)) cost
+        → ServesFrames start cost result (point deframer.new session.new.stage requests.new (L.link_state link.new) (T.shown teller.new) (G.passed log.new)) }
 {
     loop {
         match deframer.head() {
@@ -37,7 +39,7 @@ pub fn serve_frames<L: Link, T: Teller, G: Gate>(
             Head::Bad(bad) => return Some(LinkEnd::Bad(bad)),
             Head::Whole(header) => {
                 if let Some(end) = serve_frame(
-                    &header, deframer, session, link, teller, gate, log,
+                    &header, deframer, session, requests, link, teller, gate, log,
                 ) {
                     return Some(end);
                 }
@@ -51,6 +53,7 @@ fn serve_frame<L: Link, T: Teller, G: Gate>(
     header: &Header,
     deframer: &mut Deframer,
     session: &mut LinkSession,
+    requests: &mut LinkRequests,
     link: &mut L,
     teller: &mut T,
     gate: &G,
@@ -63,14 +66,17 @@ fn serve_frame<L: Link, T: Teller, G: Gate>(
     ensures live { IfNone result (session.new.stage ≢ Stage.Closing) }
     ensures less { IfNone result (length deframer.new.rest < length deframer.old.rest) }
     ensures serves { (start : Start) (cost : ℕ) → start.block ≡ session.old.block
-        → SoFar start (point deframer.old session.old.stage (L.link_state link.old) (T.shown teller.old) (G.passed log.old)) cost
-        → ServesFrame start cost result (point deframer.new session.new.stage (L.link_state link.new) (T.shown teller.new) (G.passed log.new)) }
+        → SoFar start (point deframer.old session.old.stage requests.old (L.link_state link.old) (T.shown teller.old) (G.passed log.old)) cost
+        → ServesFrame start cost result (point deframer.new session.new.stage requests.new (L.link_state link.new) (T.shown teller.new) (G.passed log.new)) }
 {
+    let now = link.now();
     let called = session.called_link(header);
-    let Ok(end) = session.handle(header, deframer.payload(), link.now(), teller, gate, log) else {
+    let Ok(end) = session.handle(header, deframer.payload(), now, teller, gate, log) else {
         return Some(LinkEnd::Memory);
     };
-    if !send_all(link, session.reply()) {
+    let reply = session.reply();
+    requests.note_reply(reply, now);
+    if !send_all(link, reply) {
         return Some(LinkEnd::WriteFault);
     }
     exit_gate(gate, called, log);

@@ -2,8 +2,10 @@
 #![tactic(auto)]
 
 mod frames;
+mod idle;
 mod laws;
 mod reply;
+mod requests;
 mod script_laws;
 mod send;
 mod serve;
@@ -12,7 +14,9 @@ mod stage;
 mod tally;
 mod wire;
 
-pub use laws::{each_request_has_its_reply, what_happens_follows_the_script};
+pub use laws::{
+    each_request_has_its_reply, what_happens_follows_the_script, what_is_written_beside_replies,
+};
 pub use script_laws::{a_frame_is_timely, scripts_join};
 pub use serve::{LinkEnd, LinkRoom, serve_link};
 pub use stage::{FrameEnd, Idle, Stage};

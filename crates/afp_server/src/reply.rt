@@ -1,7 +1,7 @@
 //! Replies, as frames in a buffer.
 ghost use Rattle.std.specs.Prelude.{◌≡◌, ◌≤◌, [], length, take};
 ghost use Rattle.dsi_frame.specs.Frame.{canonical_frame, frame_of, header_of};
-ghost use Rattle.afp_server.specs.Replies.{reply_to};
+ghost use Rattle.dsi_frame.specs.Replies.{reply_to};
 
 use afp_base::{Code, MAX_PAYLOAD};
 use dsi_frame::{HEADER_LENGTH, Header, header_bytes};

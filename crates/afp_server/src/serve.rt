@@ -1,5 +1,5 @@
 //! Serving one link.
-ghost use Rattle.std.specs.Prelude.{◌≡◌, ◌≢◌, ◌⊎◌, ◌+◌, ◌<◌, ◌^◌, List, [], length, false, IfOk, IfNone};
+ghost use Rattle.std.specs.Prelude.{◌≡◌, ◌⊎◌, ◌+◌, ◌<◌, ◌^◌, List, [], length, false, IfOk};
 ghost use Rattle.dsi_frame.specs.Buffered.{buffer_length};
 ghost use Rattle.afp_serial.specs.StatusBlock.{status_block};
 ghost use Rattle.afp_serial.specs.Went.{Step, Went};
@@ -7,11 +7,13 @@ ghost use Rattle.afp_server.specs.LinkRun.{IsRun, IsServed};
 ghost use Rattle.afp_outside.specs.Gate.{none_passed};
 ghost use Rattle.afp_server.specs.Passing.{Passes};
 ghost use Rattle.afp_server.specs.lemma.Reading.{ReadsMore, TakesAtMost};
-ghost use Rattle.afp_server.specs.lemma.Serving.{Ended, IdlesLink};
+ghost use Rattle.afp_server.specs.lemma.Serving.{Ended};
 
 use crate::frames::serve_frames;
+use crate::idle::idle;
+use crate::requests::LinkRequests;
 use crate::session::LinkSession;
-use crate::stage::{Idle, Stage};
+use crate::stage::Stage;
 use afp_base::{Moment, OutOfMemory};
 use afp_outside::{Gate, Link, ReadResult};
 use afp_serial::{House, Teller};
@@ -37,7 +39,7 @@ pub enum LinkEnd {
     Silent { last: Moment, now: Moment },
     /// The session has another link.
     Displaced,
-    /// The server is about to stop.
+    /// The server is about to stop: the moment of its drain lies 60 seconds or more before now.
     Drained,
     /// A read failed.
     ReadFault,
@@ -82,7 +84,10 @@ impl LinkRoom {
 
     /// Serves a link until it ends. Each frame is handled, and its reply written, before the next one; it reads
     /// again only where all frames that came were handled, and while the bytes taken and the quiets are fewer than
-    /// `turns`. `Memory` comes here only where there is none for a copy of a call, which then was not asked.
+    /// `turns`. A quiet on an open session asks Pulse. It writes an Attention where a drain is told for the first time,
+    /// and else a Tickle where nothing was written for 30 seconds; 60 seconds after the drain's moment it asks Bye, and
+    /// the link ends `Drained`. `Memory` comes here only where there is none for a copy of a call, which then was not
+    /// asked.
     pub fn serve<L: Link, T: Teller, G: Gate>(
         self,
         link: &mut L,
@@ -185,9 +190,10 @@ fn serve_session<L: Link, T: Teller, G: Gate>(
         result session.new.stage (L.link_state link.new) (T.shown teller.new) (G.passed log.new) }
 {
     let mut room = [0u8; READ_SIZE];
+    let mut requests = LinkRequests::new(link.now());
     let mut cost: u64 = 0;
     loop {
-        if let Some(end) = serve_frames(deframer, session, link, teller, gate, log) {
+        if let Some(end) = serve_frames(deframer, session, &mut requests, link, teller, gate, log) {
             return end;
         }
         if cost >= turns {
@@ -197,27 +203,12 @@ fn serve_session<L: Link, T: Teller, G: Gate>(
             ReadResult::Got(n) => cost += n as u64,
             ReadResult::Quiet => {
                 cost += 1;
-                if let Some(end) = idle(session, link, teller) {
+                if let Some(end) = idle(session, &mut requests, link, teller) {
                     return end;
                 }
             }
             ReadResult::End => return end_of(deframer),
             ReadResult::Failed => return LinkEnd::ReadFault,
         }
-    }
-}
-
-/// A quiet: why it ends the link, where it does.
-fn idle<L: Link, T: Teller>(session: &mut LinkSession, link: &L, teller: &mut T) -> Option<LinkEnd>
-    requires { session.old.stage ≢ Stage.Closing }
-    ensures fixed { T.fixed teller.new ≡ T.fixed teller.old }
-    ensures idles { IdlesLink (L.link_state link.now) session.old (T.shown teller.old) result session.new (T.shown teller.new) }
-    ensures live { IfNone result (session.new.stage ≢ Stage.Closing) }
-{
-    let (last, now) = (link.last_read(), link.now());
-    match session.idle(last, now, teller) {
-        Idle::On => None,
-        Idle::Silent => Some(LinkEnd::Silent { last, now }),
-        Idle::Displaced => Some(LinkEnd::Displaced),
     }
 }

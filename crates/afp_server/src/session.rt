@@ -19,9 +19,9 @@ ghost use Rattle.afp_server.specs.OpenSession.{OpensSession};
 ghost use Rattle.afp_server.specs.lemma.Passing.{PassesIn, call_link, if_call};
 ghost use Rattle.afp_serial.specs.Shown.{fits_frame};
 ghost use Rattle.afp_server.specs.OpenSession.{OpenTold};
-ghost use Rattle.afp_server.specs.Replies.{code_word, reply_to};
+ghost use Rattle.dsi_frame.specs.Replies.{code_word, reply_to};
 ghost use Rattle.afp_server.specs.Script.{FreshDoes, ReplyDoes};
-ghost use Rattle.afp_server.specs.lemma.SessionState.{Acts, Handles, HandlesOpen, CalledBy, IdlesBy, PulseTold, IsCall, IsCallAnswer, IsOpenAnswer};
+ghost use Rattle.afp_server.specs.lemma.SessionState.{Acts, Handles, HandlesOpen, CalledBy, AsksPulse, PulseTold, LeavesBy, IsCall, IsCallAnswer, IsOpenAnswer};
 ghost use Rattle.afp_server.specs.Wire.{PartsBy};
 ghost use Rattle.afp_server.specs.Tally.{no_tally, and_reply, and_told};
 ghost use Rattle.afp_server.specs.Wire.{open_link};
@@ -463,8 +463,7 @@ impl LinkSession {
     pub fn idle<T: Teller>(&mut self, last_read: Moment, now: Moment, teller: &mut T) -> Idle
         requires { self.old.stage ≢ Stage.Closing }
         ensures fixed { T.fixed teller.new ≡ T.fixed teller.old }
-        ensures idles { IdlesBy last_read now self.old (T.shown teller.old) result self.new (T.shown teller.new) }
-        ensures live { result ≡ Idle.On → self.new.stage ≢ Stage.Closing }
+        ensures asks { AsksPulse last_read now self.old (T.shown teller.old) result self.new (T.shown teller.new) }
     {
         if is_silent(last_read, now) {
             return Idle::Silent;
@@ -480,27 +479,40 @@ impl LinkSession {
     fn pulse<T: Teller>(&mut self, link: LinkNumber, now: Moment, teller: &mut T) -> Idle
         requires session { self.old.stage ≡ Stage.Open link }
         ensures fixed { T.fixed teller.new ≡ T.fixed teller.old }
-        ensures pulses { (answer : Told) × PulseTold answer self.old result self.new × Went (T.shown teller.old) (step now link Ask.Pulse answer ∷ []) (T.shown teller.new) }
+        ensures pulses { (answer : Told) × PulseTold link answer self.old result self.new × Went (T.shown teller.old) (step now link Ask.Pulse answer ∷ []) (T.shown teller.new) }
     {
         let told = teller.ask(now, link, Ask::Pulse);
-        self.pulsed(told)
+        self.pulsed(link, &told)
     }
 
     /// What a Pulse's answer does.
-    fn pulsed(&mut self, told: Told) -> Idle
-        ensures { PulseTold told self.old result self.new }
+    fn pulsed(&mut self, link: LinkNumber, told: &Told) -> Idle
+        ensures { PulseTold link told.now self.old result self.new }
     {
         match told {
             Told::Displaced => {
                 self.close();
                 Idle::Displaced
             }
-            Told::Opened { .. } => Idle::On,
-            Told::Reply { .. } => Idle::On,
-            Told::Live { .. } => Idle::On,
-            Told::Done => Idle::On,
-            Told::Memory => Idle::On,
+            Told::Live { drain } => Idle::Live {
+                link,
+                drain: *drain,
+            },
+            Told::Opened { .. } => Idle::Live { link, drain: None },
+            Told::Reply { .. } => Idle::Live { link, drain: None },
+            Told::Done => Idle::Live { link, drain: None },
+            Told::Memory => Idle::Live { link, drain: None },
         }
+    }
+
+    /// The server ends the session of an open link: a Bye, whatever it is told.
+    pub fn leave<T: Teller>(&mut self, link: LinkNumber, now: Moment, teller: &mut T)
+        ensures fixed { T.fixed teller.new ≡ T.fixed teller.old }
+        ensures leaves { LeavesBy now link (T.shown teller.old) (T.shown teller.new) }
+        ensures closed { self.new ≡ record self.old { stage = Stage.Closing } }
+    {
+        teller.ask(now, link, Ask::Bye);
+        self.close();
     }
 
     /// The link ended: an open session asks Lost.

@@ -1,6 +1,6 @@
 //! What a link has answered, counted.
 ghost use Rattle.std.specs.Prelude.{◌≡◌, false};
-ghost use Rattle.afp_server.specs.Replies.{code_word};
+ghost use Rattle.dsi_frame.specs.Replies.{code_word};
 ghost use Rattle.afp_server.specs.Tally.{no_tally, and_reply, and_told};
 
 use afp_base::Code;

@@ -14,7 +14,7 @@ use Rattle.afp_serial.specs.declared.ask.Told.TheVariants as told
 use Rattle.afp_serial.proofs.Grows.{went-one}
 use Rattle.dsi_frame.specs.Deframe.{GivenOut}
 use Rattle.dsi_frame.specs.Frame.{Frame}
-use Rattle.afp_server.specs.Replies.{spelling_of}
+use Rattle.dsi_frame.specs.Replies.{spelling_of}
 use Rattle.afp_server.specs.Script.{Script}
 use Rattle.afp_server.specs.Tally.{and_told}
 use Rattle.afp_server.specs.Wire.{WireState, open_link}

@@ -10,7 +10,7 @@ use Rattle.dsi_frame.specs.Frame.{Frame}
 use Rattle.dsi_frame.specs.Stream.{Framed, Stopped}
 use Rattle.dsi_frame.specs.declared.frame.Reason.{Reason}
 use Rattle.afp_server.specs.LinkRun.{Fills}
-use Rattle.afp_server.specs.Replies.{spelling_of}
+use Rattle.dsi_frame.specs.Replies.{spelling_of}
 use Rattle.afp_server.specs.Script.{Script}
 use Rattle.afp_server.specs.declared.stage.FrameEnd.{FrameEnd}
 use Rattle.afp_server.specs.declared.stage.Stage.{Stage}

@@ -1,5 +1,5 @@
 -- What the session machine of a link does (this profile).
-use Rattle.std.specs.Prelude.{◌≡◌, ℕ, true, false, List, [], Option, Some, None, Result, Ok, Err, IfNone}
+use Rattle.std.specs.Prelude.{◌≡◌, ◌≢◌, ℕ, ◌<◌, ◌≤◌, true, false, List, [], ◌∷◌, Option, None, Result, Ok, Err, IfNone}
 use Rattle.afp_base.specs.declared.bytes.OutOfMemory.{OutOfMemory}
 use Rattle.afp_base.specs.declared.ids.LinkNumber.{LinkNumber}
 use Rattle.afp_serial.specs.declared.ask.Ask.{Ask}
@@ -7,16 +7,17 @@ use Rattle.afp_serial.specs.declared.ask.Ask.TheVariants as asks
 use Rattle.afp_serial.specs.declared.ask.Told.{Told}
 use Rattle.afp_serial.specs.declared.ask.Told.TheVariants as tells
 use Rattle.afp_serial.specs.Shown.{Shown, is_answer_to}
-use Rattle.afp_serial.specs.Went.{Step, Went}
+use Rattle.afp_serial.specs.Went.{step, Went}
 use Rattle.dsi_frame.specs.Frame.{Frame}
 use Rattle.afp_server.specs.Did.{Did}
 use Rattle.afp_server.specs.LinkRun.{carries_call}
-use Rattle.afp_server.specs.Replies.{listed, spelling_of}
+use Rattle.dsi_frame.specs.Replies.{listed, spelling_of}
 use Rattle.afp_server.specs.Calls.{CallTold}
 use Rattle.dsi_frame.specs.declared.frame.DsiCommand.{DsiCommand}
 use Rattle.afp_server.specs.Script.{Does, OpenDoes}
 use Rattle.afp_server.specs.Tally.{tallied, and_told, replies_after, refused_after}
-use Rattle.afp_server.specs.Trace.{Cause, displaced, silent, Idles}
+use Rattle.dsi_session.specs.Pulse.{silence_limit, seconds_between}
+use Rattle.afp_server.specs.Requests.{drain_in}
 use Rattle.afp_server.specs.declared.stage.FrameEnd.{FrameEnd}
 use Rattle.afp_server.specs.declared.stage.Idle.{Idle}
 use Rattle.afp_server.specs.declared.stage.Idle.TheVariants as idles
@@ -52,27 +53,37 @@ HandlesOpen now link command f old before (Ok end) new after =
 HandlesOpen now link command f old before (Err fault) new after =
     (carries_call command ≡ true) × (new.stage ≡ old.stage) × (new.block ≡ old.block) × (after ≡ before) × (new.tally ≡ old.tally)
 
--- what a quiet comes to, as a cause
-abbrev pub idle_cause : Idle → Option Cause
-idle_cause idles.On = None
-idle_cause idles.Silent = Some silent
-idle_cause idles.Displaced = Some displaced
+-- A Pulse was asked at this link, told that it was not displaced, and told this drain's moment, or none.
+pub record PulsesLive (now : ℕ) (link : LinkNumber) (before : Shown) (drain : Option ℕ) (after : Shown) : Type 0 where
+  pub answer : Told
+  pub lives : answer ≢ tells.Displaced
+  pub drain_is : drain ≡ drain_in answer
+  pub went : Went before (step now link asks.Pulse answer ∷ []) after
 
--- A quiet, with what was asked in it.
-pub record IdlesBy (last_read now : ℕ) (old : SessionState) (before : Shown) (idle : Idle) (new : SessionState) (after : Shown) : Type 0 where
-  pub steps : List Step
-  pub idles : Idles last_read now old.stage steps new.stage (idle_cause idle)
-  pub block : new.block ≡ old.block
-  pub went : Went before steps after
+-- What the machine does at a quiet: silence, and a link that has no session, ask nothing; an open session asks Pulse, and closes where
+-- it was displaced.
+abbrev pub AsksPulse : ℕ → ℕ → SessionState → Shown → Idle → SessionState → Shown → Type 0
+AsksPulse last_read now old before idles.Silent new after = (silence_limit ≤ seconds_between last_read now) × (new ≡ old) × (after ≡ before)
+AsksPulse last_read now old before idles.On new after = (seconds_between last_read now < silence_limit) × (old.stage ≡ stages.Fresh) × (new ≡ old) × (after ≡ before)
+AsksPulse last_read now old before idles.Displaced new after =
+    (seconds_between last_read now < silence_limit) × (link : LinkNumber) × (old.stage ≡ stages.Open link) × (new ≡ record old { stage = stages.Closing })
+    × Went before (step now link asks.Pulse tells.Displaced ∷ []) after
+AsksPulse last_read now old before (idles.Live link drain) new after =
+    (seconds_between last_read now < silence_limit) × (old.stage ≡ stages.Open link) × (new ≡ old) × PulsesLive now link before drain after
 
 -- What a Pulse's answer does: a session that was displaced closes its link.
-abbrev pub PulseTold : Told → SessionState → Idle → SessionState → Type 0
-PulseTold tells.Displaced old idle new = (idle ≡ idles.Displaced) × (new ≡ record old { stage = stages.Closing })
-PulseTold (tells.Opened link) old idle new = (idle ≡ idles.On) × (new ≡ old)
-PulseTold (tells.Reply c block ends) old idle new = (idle ≡ idles.On) × (new ≡ old)
-PulseTold (tells.Live drain) old idle new = (idle ≡ idles.On) × (new ≡ old)
-PulseTold tells.Done old idle new = (idle ≡ idles.On) × (new ≡ old)
-PulseTold tells.Memory old idle new = (idle ≡ idles.On) × (new ≡ old)
+abbrev pub PulseTold : LinkNumber → Told → SessionState → Idle → SessionState → Type 0
+PulseTold link tells.Displaced old idle new = (idle ≡ idles.Displaced) × (new ≡ record old { stage = stages.Closing })
+PulseTold link (tells.Opened other) old idle new = (idle ≡ idles.Live link None) × (new ≡ old)
+PulseTold link (tells.Reply c block ends) old idle new = (idle ≡ idles.Live link None) × (new ≡ old)
+PulseTold link (tells.Live drain) old idle new = (idle ≡ idles.Live link drain) × (new ≡ old)
+PulseTold link tells.Done old idle new = (idle ≡ idles.Live link None) × (new ≡ old)
+PulseTold link tells.Memory old idle new = (idle ≡ idles.Live link None) × (new ≡ old)
+
+-- A Bye was asked at this link, whatever it was told.
+pub record LeavesBy (now : ℕ) (link : LinkNumber) (before after : Shown) : Type 0 where
+  pub answer : Told
+  pub went : Went before (step now link asks.Bye answer ∷ []) after
 
 -- A call was replied to, or not, and the link goes on or ends, by what it was told.
 pub record CalledBy (f : Frame) (told : Told) (reply : Option Frame) (old new : SessionState) (end : Option FrameEnd) : Type 0 where

@@ -5,7 +5,7 @@ use Rattle.afp_serial.specs.History.{stand}
 use Rattle.afp_serial.specs.Went.{Step}
 use Rattle.dsi_frame.specs.Deframe.{GivenOut}
 use Rattle.dsi_frame.specs.Frame.{Frame}
-use Rattle.afp_server.specs.Replies.{spelling_of}
+use Rattle.dsi_frame.specs.Replies.{spelling_of}
 use Rattle.afp_server.specs.Script.{Script}
 use Rattle.afp_server.specs.Tally.{no_tally, tallied}
 use Rattle.afp_server.specs.Wire.{WireState}

@@ -1,7 +1,7 @@
 use Rattle.std.proofs.Common.{ap, ◌∙◌, []}
 use Rattle.afp_base.specs.declared.code.Code.TheVariants as code
 use Rattle.dsi_frame.specs.Frame.{canonical_frame, frame_of}
-use Rattle.afp_server.specs.Replies.{code_word, reply_to}
+use Rattle.dsi_frame.specs.Replies.{code_word, reply_to}
 use Rattle.afp_server.specs.Tally.{and_reply}
 use Rattle.afp_server.specs.lemma.SessionState.{SessionState}
 use Rattle.afp_server.proofs.Rows.{called-ends, called-goes_on, called-memory}

@@ -10,7 +10,7 @@ use Rattle.dsi_frame.specs.Frame.{Frame, frame_of}
 use Rattle.dsi_session.specs.Options.{attention_of}
 use Rattle.afp_server.specs.Did.{Did, replies}
 use Rattle.afp_server.specs.OpenSession.{no_link}
-use Rattle.afp_server.specs.Replies.{reply_to}
+use Rattle.dsi_frame.specs.Replies.{reply_to}
 use Rattle.afp_server.specs.lemma.SessionState.{SessionState}
 use Rattle.afp_server.specs.Tally.{and_reply, and_told}
 use Rattle.afp_server.specs.declared.stage.Stage.TheVariants.{Fresh}

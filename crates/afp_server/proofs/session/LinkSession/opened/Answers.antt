@@ -1,7 +1,7 @@
 use Rattle.std.proofs.Common.{[], ap, ◌∙◌}
 use Rattle.dsi_frame.specs.Frame.{frame_of}
 use Rattle.afp_base.specs.declared.code.Code.TheVariants as code
-use Rattle.afp_server.specs.Replies.{code_word}
+use Rattle.dsi_frame.specs.Replies.{code_word}
 use Rattle.afp_server.specs.lemma.SessionState.{SessionState}
 use Rattle.afp_server.specs.Tally.{and_reply}
 use Rattle.afp_server.proofs.Rows.{opened-session, opened-refused, opened-memory}
