@@ -2,13 +2,14 @@
 use Rattle.std.specs.Prelude.{◌≡◌, ◌⊎◌, ℕ, true, false, List, [], ◌∷◌, ◌++◌, map, Option, Some, None, IfSome, option_map}
 use Rattle.afp_base.specs.declared.code.Code.{Code}
 use Rattle.dsi_frame.specs.Frame.{Frame, IsBadHeader}
+use Rattle.dsi_frame.specs.Replies.{listed}
 use Rattle.dsi_frame.specs.Stream.{Begins, IsUnfinished}
 use Rattle.dsi_frame.specs.declared.frame.Reason.{Reason}
 use Rattle.afp_calls_grammar.specs.declared.call.Call.{Call}
 use Rattle.dsi_session.specs.RequestIds.{first_request_id}
 use Rattle.afp_client.specs.Opening.{open_session_frame}
 use Rattle.afp_client.specs.State.{Client, ClientState, IsReady, Waiting, call_frame, is_lost}
-use Rattle.afp_client.specs.Takes.{IsCodeIn, asked, begun, broken, listed, step, takes, written}
+use Rattle.afp_client.specs.Takes.{IsCodeIn, asked, begun, broken, step, takes, written}
 use Rattle.afp_client.specs.Takes as S
 use Rattle.afp_client.specs.Happens.{Happens, TakesNext}
 use Rattle.afp_client.specs.Run.{Action, Follows, GoesOnLink, Result, asks, begins, breaks, takes_frame, asked_in, results_by}

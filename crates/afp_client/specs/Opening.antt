@@ -1,25 +1,16 @@
 -- The requests by which a client opens a link (AFP over TCP; AFP Reference, "Login Commands"; their order is this profile's).
-use Rattle.std.specs.Prelude.{ℕ, ◌%◌, ◌≤◌, false, List, [], ◌++◌, length, replicate, codes, Option, Some, None}
+use Rattle.std.specs.Prelude.{ℕ, ◌%◌, ◌≤◌, false, List, [], ◌++◌, length, replicate, Option, Some, None}
 use Rattle.byteorder.specs.Endian.{big_bytes}
 use Rattle.dsi_frame.specs.Frame.{Frame}
 use Rattle.dsi_frame.specs.declared.frame.DsiCommand.TheVariants as commands
 use Rattle.dsi_session.specs.Options.{option_spelling, number_option, attention_quantum_type}
 use Rattle.afp_calls_grammar.specs.Call.{canonical_call}
+use Rattle.afp_calls_grammar.specs.LoginNames.{version_3_3, no_user, cleartext}
 use Rattle.afp_calls_grammar.specs.declared.call.Call.{Call}
 use Rattle.afp_calls_grammar.specs.declared.call.Call.TheVariants.{Login as LoginCall, GetSessionToken, DisconnectOldSession}
 use Rattle.afp_client.specs.declared.login.Login.{Login}
 use Rattle.afp_client.specs.declared.stage.OpeningStep.{OpeningStep}
 use Rattle.afp_client.specs.declared.stage.OpeningStep.TheVariants as steps
-
--- the AFP version and the user authentication methods, by their names
-abbrev pub version_3_3 : List ℕ
-version_3_3 = codes "AFP3.3"
-
-abbrev pub no_user : List ℕ
-no_user = codes "No User Authent"
-
-abbrev pub cleartext : List ℕ
-cleartext = codes "Cleartxt Passwrd"
 
 -- what follows version and UAM in a login by name and password: the name with its count, a pad where it is needed for an even place from
 -- the command byte, and the password. The count stands at the odd place 25, so a name of odd length is followed by a pad.

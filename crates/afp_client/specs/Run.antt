@@ -4,6 +4,7 @@ use Rattle.std.specs.List.{list_all}
 use Rattle.afp_base.specs.declared.code.Code.{Code}
 use Rattle.dsi_frame.specs.Deframe.{GivenOut}
 use Rattle.dsi_frame.specs.Frame.{Frame}
+use Rattle.dsi_frame.specs.Replies.{listed}
 use Rattle.dsi_session.specs.RequestIds.{first_request_id}
 use Rattle.afp_calls_grammar.specs.declared.call.Call.{Call}
 use Rattle.afp_client.specs.Opening.{open_session_frame}
@@ -32,7 +33,7 @@ abbrev pub writes_of : ClientState → Action → List Frame
 writes_of s breaks = []
 writes_of s begins = open_session_frame first_request_id ∷ []
 writes_of s (asks call) = call_frame s.next_id call ∷ []
-writes_of s (takes_frame f st) = S.listed st.writes
+writes_of s (takes_frame f st) = listed st.writes
 
 -- The actions lead from one state to another, and write these frames.
 abbrev pub Follows : ClientState → List Action → ClientState → List Frame → Type 0

@@ -1,12 +1,11 @@
 -- What a client does (this profile): it opens its link, writes one request at a time, and writes it again where its link broke or the
 -- server found no memory.
 use Rattle.std.specs.Prelude.{◌≡◌, ◌≢◌, ℕ, ◌+◌, ◌==◌, ◌&&◌, nat_lt, Bool, true, false, List, [], ◌∷◌, length, drop, Option, Some, None, option_map, if◌then◌else◌}
-use Rattle.std.specs.Int.{w32, cast_unsigned}
 use Rattle.byteorder.specs.Endian.{big_number}
-use Rattle.afp_base.specs.Code.{number_of}
 use Rattle.afp_base.specs.declared.code.Code.{Code}
 use Rattle.afp_base.specs.declared.code.Code.TheVariants as code
 use Rattle.dsi_frame.specs.Frame.{Frame, canonical_frame, command_number}
+use Rattle.dsi_frame.specs.Replies.{code_word, reply_to}
 use Rattle.dsi_frame.specs.declared.frame.DsiCommand.{DsiCommand}
 use Rattle.dsi_frame.specs.declared.frame.DsiCommand.TheVariants as commands
 use Rattle.dsi_session.specs.RequestIds.{first_request_id, id_after}
@@ -34,18 +33,9 @@ abbrev pub written : Option Frame → List ℕ
 written None = []
 written (Some f) = canonical_frame f
 
--- a frame as a list of one, or none
-abbrev pub listed : Option Frame → List Frame
-listed None = []
-listed (Some f) = f ∷ []
-
 -- how often at most a request is written again, under a new id, because it was told that there was no memory
 abbrev pub most_retries : ℕ
 most_retries = 3
-
--- the word of a reply with this code
-abbrev pub code_word : Code → ℕ
-code_word c = cast_unsigned w32 (number_of c)
 
 -- the code whose number a word is, where it is one
 abbrev pub IsCodeIn : ℕ → Option Code → Type 0
@@ -176,7 +166,7 @@ takes_reply s stages.Lost c f = None
 
 -- the reply to an Attention (AFP over TCP, "DSIAttention")
 abbrev pub attention_reply : Frame → Frame
-attention_reply f = record { reply = true; command = f.command; id = f.id; word = code_word code.Ok; payload = [] }
+attention_reply f = reply_to f code.Ok []
 
 -- a request comes: three kinds are taken
 abbrev pub takes_request : ClientState → DsiCommand → Frame → Option Step

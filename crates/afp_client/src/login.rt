@@ -7,16 +7,8 @@ ghost use Rattle.afp_client.specs.Opening.{login_call, login_tail, most_user_nam
 
 use afp_base::{Bytes, OutOfMemory};
 use afp_calls_grammar::Call;
+use afp_calls_grammar::login_names::{CLEARTEXT, NO_USER, VERSION_3_3};
 use std::alloc::Global;
-
-/// AFP 3.3, by its name.
-const VERSION_3_3: &str = "AFP3.3";
-
-/// The user authentication method (UAM) without a user, by its name.
-const NO_USER: &str = "No User Authent";
-
-/// The UAM by name and password, by its name.
-const CLEARTEXT: &str = "Cleartxt Passwrd";
 
 /// A user's name and password; without a user a client logs in as a guest.
 #[derive(Drop)]

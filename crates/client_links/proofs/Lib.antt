@@ -1,0 +1,9 @@
+pub mod LinkLemmas
+pub mod SendLemmas
+pub mod TellLemmas
+pub mod NextLemmas
+pub mod GoingLemmas
+pub mod RoundLemmas
+pub mod JoinLemmas
+pub mod TalkLemmas
+pub mod LawLemmas

@@ -1,0 +1,6 @@
+pub mod History
+pub mod OnLink
+pub mod lemma
+pub mod Links
+pub mod Talk
+pub mod Laws
