@@ -1,0 +1,14 @@
+//! Scripts of a client: the lines that they have.
+#![tactic(auto)]
+
+mod element;
+mod escape;
+mod limits;
+mod line;
+mod number;
+mod read;
+mod words;
+
+pub use limits::{LONGEST_LINE, LONGEST_TEXT};
+pub use line::{LineFault, ScriptLine};
+pub use read::read_line;
