@@ -1,0 +1,4 @@
+pub mod FirstParts
+pub mod Numbers
+pub mod ReadUsers
+pub mod ReadVolumes

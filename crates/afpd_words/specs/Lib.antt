@@ -1,0 +1,5 @@
+pub mod Command
+pub mod Users
+pub mod Places
+pub mod Words
+pub mod lemma
