@@ -2,13 +2,19 @@
 ghost use Rattle.std.specs.Prelude.{◌≤◌, ◌<◌, ◌^◌, length};
 
 use crate::fault::CaseFault;
-use crate::words::{bytes_of, put_word, text_of};
+use crate::words::{bytes_of, put_word, text_of, word_of};
 use afp_base::{Bytes, OutOfMemory};
-use dsi_frame::{BadFrame, OwnedFrame, Reason, Stream, StreamEnd, header_bytes, read_stream};
+use dsi_frame::{
+    BadFrame, Deframer, DsiCommand, Head, Header, OwnedFrame, Reason, Stream, StreamEnd,
+    header_bytes, read_stream, write_frame,
+};
 use std::alloc::Global;
 
 /// The most bytes of a stream of these cases.
 const MOST: usize = 1 << 20;
+
+/// The most bytes of a payload.
+const MOST_PAYLOAD: usize = 131_072;
 
 /// Why a frame is bad.
 pub fn reason_of(reason: Reason) -> &'static str {
@@ -137,4 +143,77 @@ pub fn frames_cut(alloc: Global, words: &[&str]) -> Result<String, CaseFault> {
         return text_of(alloc, "too long to be cut at each place");
     }
     always(alloc, bytes.as_slice())
+}
+
+/// The bytes of a reply to GetStatus with this payload.
+fn write_reply(alloc: Global, id: u16, payload: &[u8]) -> Result<Bytes, CaseFault> {
+    if payload.len() > MOST_PAYLOAD {
+        return Err(CaseFault::Word);
+    }
+    let Ok(length) = u32::try_from(payload.len()) else {
+        return Err(CaseFault::Word);
+    };
+    let header = Header {
+        reply: true,
+        command: DsiCommand::GetStatus,
+        id,
+        word: 0,
+        length,
+    };
+    let mut out = Bytes::new(alloc);
+    write_frame(&header, payload, &mut out)?;
+    Ok(out)
+}
+
+/// `written ID PAYLOAD`: the frame of a reply to GetStatus.
+pub fn written(alloc: Global, words: &[&str]) -> Result<String, CaseFault> {
+    let [id, payload] = words else {
+        return Err(CaseFault::Word);
+    };
+    let payload = bytes_of(alloc, payload)?;
+    word_of(
+        alloc,
+        write_reply(alloc, id.parse::<u16>()?, payload.as_slice())?.as_slice(),
+    )
+}
+
+/// Appends how many bytes of a piece were taken, the room and the rest behind it, and what then stands in front.
+fn feed(text: &mut String, deframer: &mut Deframer, piece: &[u8]) -> Result<(), CaseFault> {
+    if deframer.place() > MOST as u64 {
+        return Err(CaseFault::Word);
+    }
+    if deframer.rest() > MOST {
+        return Err(CaseFault::Word);
+    }
+    if piece.len() > MOST {
+        return Err(CaseFault::Word);
+    }
+    let taken = deframer.feed(piece);
+    let (room, rest) = (deframer.room(), deframer.rest());
+    write!(text, "took {taken} room {room} rest {rest} ")?;
+    match deframer.head() {
+        Head::NotYet => text.push_str("not yet")?,
+        Head::Bad(bad) => put_bad(text, bad)?,
+        Head::Whole(_) => {
+            let length = deframer.payload().len();
+            deframer.advance();
+            let (place, rest) = (deframer.place(), deframer.rest());
+            write!(text, "whole {length}, then place {place} rest {rest}")?
+        }
+    }
+    Ok(())
+}
+
+/// `fed PIECE..`: pieces that are fed one after the other; a whole frame in front is passed.
+pub fn fed(alloc: Global, words: &[&str]) -> Result<String, CaseFault> {
+    let mut deframer = Deframer::new(alloc)?;
+    let mut text = String::new(alloc);
+    for word in words {
+        if !text.as_str().is_empty() {
+            text.push_str(" | ")?;
+        }
+        let piece = bytes_of(alloc, word)?;
+        feed(&mut text, &mut deframer, piece.as_slice())?;
+    }
+    Ok(text)
 }

@@ -1,6 +1,6 @@
 //! What a file server is set up with.
 use crate::fault::CaseFault;
-use crate::words::{bytes_of, owned, text_of, word_of};
+use crate::words::{bytes_of, owned, put_word, text_of, word_of};
 use afp_base::{Bytes, Moment};
 use afp_core::{Core, CoreFault};
 use afp_serial::{House, HouseFault, User};
@@ -106,6 +106,57 @@ pub fn house(alloc: Global, words: &[&str]) -> Result<String, CaseFault> {
     let server = bytes_of(alloc, server)?;
     let message = bytes_of(alloc, message)?;
     tried(alloc, server.as_slice(), message.as_slice(), users, volumes)
+}
+
+fn put_users(alloc: Global, text: &mut String, users: &[User]) -> Result<(), CaseFault> {
+    for user in users {
+        let id = user.id;
+        write!(text, "user {id} ")?;
+        put_word(alloc, text, user.name.as_slice())?;
+        text.push(' ')?;
+        put_word(alloc, text, &user.password)?;
+        text.push(' ')?;
+    }
+    Ok(())
+}
+
+/// What a house tells of its parts.
+fn parts_of(alloc: Global, house: &House) -> Result<String, CaseFault> {
+    let mut text = String::new(alloc);
+    put_users(alloc, &mut text, house.users())?;
+    for volume in house.volumes() {
+        text.push_str("volume ")?;
+        put_word(alloc, &mut text, volume.as_slice())?;
+        text.push(' ')?;
+    }
+    text.push_str("message ")?;
+    put_word(alloc, &mut text, house.message())?;
+    text.push_str(" key ")?;
+    put_word(alloc, &mut text, &house.token_key())?;
+    Ok(text)
+}
+
+fn copied(alloc: Global, house: &House) -> Result<String, CaseFault> {
+    let first = parts_of(alloc, house)?;
+    let copy = house.copy(alloc)?;
+    let second = parts_of(alloc, &copy)?;
+    if first.as_str() != second.as_str() {
+        return text_of(alloc, "another house");
+    }
+    Ok(second)
+}
+
+/// `house_copied SERVER USERS VOLUMES MESSAGE`: what the house and its copy tell of their parts.
+pub fn house_copied(alloc: Global, words: &[&str]) -> Result<String, CaseFault> {
+    let [server, users, volumes, message] = words else {
+        return Err(CaseFault::Word);
+    };
+    let server = bytes_of(alloc, server)?;
+    let message = bytes_of(alloc, message)?;
+    match house_of(alloc, server.as_slice(), message.as_slice(), users, volumes)? {
+        Ok(house) => copied(alloc, &house),
+        Err(_) => Err(CaseFault::Word),
+    }
 }
 
 /// A server of this name, without users, with these volumes.

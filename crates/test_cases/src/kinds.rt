@@ -2,13 +2,19 @@
 use crate::fault::CaseFault;
 use crate::server::{Server, ask, at, counts, new_server};
 use crate::whole::served;
-use crate::{frames, houses, names, parameters, replies, requests, sessions};
+use crate::{base, frames, houses, names, parameters, replies, requests, sessions};
 use std::alloc::Global;
 
 /// The words that begin a case.
-pub const KINDS: [&str; 24] = [
+pub const KINDS: [&str; 31] = [
+    "code",
+    "moment",
+    "bytes",
+    "scan",
     "frames",
     "frames_cut",
+    "written",
+    "fed",
     "options",
     "pulse",
     "ids",
@@ -24,6 +30,7 @@ pub const KINDS: [&str; 24] = [
     "reply",
     "entries",
     "house",
+    "house_copied",
     "status",
     "volumes",
     "server",
@@ -33,11 +40,24 @@ pub const KINDS: [&str; 24] = [
     "served",
 ];
 
+/// What comes of a case of codes, moments, bytes and cursors.
+fn base_case(alloc: Global, kind: &str, words: &[&str]) -> Result<String, CaseFault> {
+    match kind {
+        "code" => base::code(alloc, words),
+        "moment" => base::moment(alloc, words),
+        "bytes" => base::bytes(alloc, words),
+        "scan" => base::scan(alloc, words),
+        _ => frame_case(alloc, kind, words),
+    }
+}
+
 /// What comes of a case of frames, or of a whole link.
 fn frame_case(alloc: Global, kind: &str, words: &[&str]) -> Result<String, CaseFault> {
     match kind {
         "frames" => frames::frames(alloc, words),
         "frames_cut" => frames::frames_cut(alloc, words),
+        "written" => frames::written(alloc, words),
+        "fed" => frames::fed(alloc, words),
         "served" => served(alloc, words),
         _ => session_case(alloc, kind, words),
     }
@@ -82,6 +102,7 @@ fn call_case(alloc: Global, kind: &str, words: &[&str]) -> Result<String, CaseFa
 fn house_case(alloc: Global, kind: &str, words: &[&str]) -> Result<String, CaseFault> {
     match kind {
         "house" => houses::house(alloc, words),
+        "house_copied" => houses::house_copied(alloc, words),
         "status" => houses::status(alloc, words),
         "volumes" => houses::volumes(alloc, words),
         _ => Err(CaseFault::Word),
@@ -100,6 +121,6 @@ pub fn case(
         "at" => at(alloc, state, words),
         "ask" => ask(alloc, state, words),
         "counts" => counts(alloc, state, words),
-        _ => frame_case(alloc, kind, words),
+        _ => base_case(alloc, kind, words),
     }
 }

@@ -6,6 +6,7 @@
 //! kind.
 #![tactic(auto)]
 
+mod base;
 mod fault;
 mod fields;
 mod frames;

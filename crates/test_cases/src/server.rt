@@ -136,13 +136,14 @@ fn told_text(alloc: Global, told: &Told) -> Result<String, CaseFault> {
 }
 
 /// `ask LINK open ATTENTION`, `.. call ID PAYLOAD`, `.. pulse`, `.. bye`, `.. lost` or `.. drain`: what
-/// the server tells, asked past any link's frames.
+/// the server tells that is asked a copy of this, past any link's frames.
 pub fn ask(alloc: Global, server: &mut Server, words: &[&str]) -> Result<String, CaseFault> {
     let [link, words @ ..] = words else {
         return Err(CaseFault::Word);
     };
     let link = LinkNumber(link.parse::<u64>()?);
     let ask = ask_of(alloc, words)?;
-    let told = server.teller.ask(server.now, link, ask);
+    let copy = ask.copy()?;
+    let told = server.teller.ask(server.now, link, copy);
     told_text(alloc, &told)
 }

@@ -1,7 +1,6 @@
 //! Tests of single layers with ample memory: what no clause says, since want of memory may come at any time.
 //!
-//! Of the bottom layer keepers and the reading of all that they hold, of a volume what it tells, of captures those that come in pieces or
-//! whose source fails.
+//! Of the bottom layer keepers and the reading of all that they hold, of captures those that come in pieces or whose source fails.
 #![tactic(auto)]
 
 #[cfg(test)]
@@ -10,5 +9,3 @@ mod keepers;
 mod pieces;
 #[cfg(test)]
 mod reading;
-#[cfg(test)]
-mod replies;

@@ -39,22 +39,27 @@ fn replayed(alloc: Global, reads: &[usize], failing: &[u64]) -> Result<ReplayEnd
     Ok(replay(alloc, keepers, &mut source, 1000))
 }
 
-#[test]
-fn a_capture_in_pieces_is_the_same(rt: HostRuntime) -> Result<(), OutOfMemory> {
-    let end = replayed(rt.alloc(), &[1, 30, 2, 90, 7], &[])?;
-    let same = ReplayEnd::Same {
-        links: 1,
-        entries: 0,
-        replies: 1,
-        refused: 0,
-    };
-    assert!(rt; end == same);
-    Ok(())
+/// The most bytes of each read, the reads that fail, and how the replay ends.
+fn ends() -> &'static [(&'static [usize], &'static [u64], ReplayEnd)] {
+    &[
+        (
+            &[1, 30, 2, 90, 7],
+            &[],
+            ReplayEnd::Same {
+                links: 1,
+                entries: 0,
+                replies: 1,
+                refused: 0,
+            },
+        ),
+        (&[30, 90], &[2], ReplayEnd::ReadFault),
+    ]
 }
 
 #[test]
-fn a_source_that_fails_in_mid_stream_is_a_read_fault(rt: HostRuntime) -> Result<(), OutOfMemory> {
-    let end = replayed(rt.alloc(), &[30, 90], &[2])?;
-    assert!(rt; end == ReplayEnd::ReadFault);
+fn a_capture_comes_in_pieces_or_its_source_fails(rt: HostRuntime) -> Result<(), OutOfMemory> {
+    for (reads, failing, end) in ends() {
+        assert!(rt; replayed(rt.alloc(), reads, failing)? == *end);
+    }
     Ok(())
 }

@@ -1,6 +1,9 @@
 use afp_base::laws as base;
 use afp_calls_grammar::laws as requests;
+use afp_outside::{OpenGate, TapeListener};
 use afp_serial::laws as serial;
+use afpd_lib::laws as server;
+use record_keeper::MemoryKeeper;
 use volume_spec::laws as volume;
 
 #[test]
@@ -42,8 +45,10 @@ fn laws_return(rt: HostRuntime) {
     serial::session_numbers_are_given_once();
     afp_server::what_happens_follows_the_script();
     afp_server::each_request_has_its_reply();
+    afp_server::what_is_written_beside_replies();
     afp_server::scripts_join();
     afp_server::a_frame_is_timely();
+    server::good_words_are_served::<TapeListener, OpenGate, MemoryKeeper>();
     let known = afp_calls::is_command(1);
     let unknown = afp_calls::is_command(12);
     assert!(rt; known && !unknown);

@@ -1,9 +1,9 @@
-//! Links, doors, sinks, clocks and gates, as the server's crates meet them.
+//! Links, doors, sinks, sources and clocks, as the server's crates meet them.
 use crate::taped::{Plan, link_of, moment};
-use afp_base::{Bytes, LinkNumber, OutOfMemory};
+use afp_base::{Bytes, OutOfMemory};
 use afp_outside::{
-    Accepted, Clock, Gate, Link, Listener, OpenGate, ReadResult, Sink, Source, SteadyClock,
-    SystemClock, TapeClock, TapeLink, TapeListener, TapeSink, TapeSource, TcpDoor, Wrote,
+    Accepted, Clock, Link, Listener, ReadResult, Sink, Source, SteadyClock, SystemClock, TapeClock,
+    TapeLink, TapeListener, TapeSink, TapeSource, TcpDoor, Wrote,
 };
 use std::alloc::Global;
 use std::cell::Cell;
@@ -63,7 +63,7 @@ fn planned_link(alloc: Global) -> Result<TapeLink, OutOfMemory> {
         moments: &[110, 120, 130],
         failing: &[1, 8],
     };
-    link_of(alloc, &[b"abcdef"], &plan)
+    link_of(alloc, b"abcdef", &plan)
 }
 
 #[test]
@@ -124,7 +124,7 @@ fn planned_door(alloc: Global) -> Result<TapeListener, OutOfMemory> {
         moments: &[],
         failing: &[],
     };
-    let link = link_of(alloc, &[b"a"], &plan)?;
+    let link = link_of(alloc, b"a", &plan)?;
     TapeListener::new(alloc, vec![in alloc; link]?, failing)
 }
 
@@ -241,17 +241,4 @@ fn clocks_tell_their_moments(rt: HostRuntime) {
     }
     assert!(rt; tell(None, 0, None));
     assert!(rt; told_going() == Some(2) && told(&TapeClock::new(moment(100))) == 100);
-}
-
-// Goes through a gate, for a link.
-fn passes<G: Gate>(gate: &G, link: LinkNumber) -> LinkNumber {
-    let mut log = gate.log();
-    gate.before(link, &mut log);
-    gate.after(link, &mut log);
-    link
-}
-
-#[test]
-fn an_open_gate_lets_each_link_pass(rt: HostRuntime) {
-    assert_eq!(rt; passes(&OpenGate, LinkNumber(7)), LinkNumber(7));
 }

@@ -4,9 +4,9 @@ use Rattle.afp_serial.specs.Ranges.{is_typed_entry}
 use Rattle.afp_serial.specs.declared.ask.Ask.{Ask}
 use Rattle.afp_serial.specs.declared.ask.Outcome.TheVariants as outcomes
 use Rattle.afp_serial.specs.declared.ask.Told.TheVariants as tells
-use Rattle.test_server.specs.declared.one_session.Opened.{Opened}
-use Rattle.test_server.proofs.Telling.{link_one, opens, sound-at}
-use Rattle.test_server.proofs.one_session.OneSessionTeller.ask.Goals as goal
+use Rattle.test_runs.specs.declared.one_session.Opened.{Opened}
+use Rattle.test_runs.proofs.Telling.{link_one, opens, sound-at}
+use Rattle.test_runs.proofs.one_session.OneSessionTeller.ask.Goals as goal
 
 pub invariant_of-self : goal.invariant_of-self
 invariant_of-self c =

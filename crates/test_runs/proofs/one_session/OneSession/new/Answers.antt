@@ -1,7 +1,7 @@
 use Rattle.std.proofs.Common.{None, refl}
-use Rattle.test_server.specs.declared.one_session.Opened.{Opened}
-use Rattle.test_server.proofs.Telling.{sound-at}
-use Rattle.test_server.proofs.one_session.OneSession.new.Goals as goal
+use Rattle.test_runs.specs.declared.one_session.Opened.{Opened}
+use Rattle.test_runs.proofs.Telling.{sound-at}
+use Rattle.test_runs.proofs.one_session.OneSession.new.Goals as goal
 
 pub invariant_of-result : goal.invariant_of-result
 invariant_of-result c = record {
