@@ -72,19 +72,6 @@ fn words_of(alloc: Global, words: &[&str]) -> Result<Vec<String>, OutOfMemory> {
     Ok(all)
 }
 
-fn keepers_of(
-    alloc: Global,
-    count: u64,
-    failing: &str,
-) -> Result<Vec<Box<dyn Keeper + Send>>, OutOfMemory> {
-    let mut keepers: Vec<Box<dyn Keeper + Send>> = Vec::new(alloc);
-    for _ in 0..count {
-        let keeper = MemoryKeeper::new(alloc, numbers_of(alloc, failing)?);
-        keepers.push(Box::new(alloc, keeper)?)?;
-    }
-    Ok(keepers)
-}
-
 /// Appends a report, the end of each line as `/`.
 fn put_report(text: &mut String, report: &[u8]) -> Result<(), OutOfMemory> {
     for byte in report {
@@ -129,10 +116,12 @@ fn serve(
     )
 }
 
+/// Over so many keepers in memory that hold nothing, and whose calls of these numbers fail.
 fn run_over(
     alloc: Global,
     waiting: &[Waiting],
-    keepers: Vec<Box<dyn Keeper + Send>>,
+    count: u64,
+    failing: &str,
     accepts: &str,
     report: &str,
     words: &[&str],
@@ -140,6 +129,11 @@ fn run_over(
     let words = words_of(alloc, words)?;
     let mut door = door_of(alloc, waiting, accepts)?;
     let mut sink = TapeSink::new(alloc, Vec::new(alloc), numbers_of(alloc, report)?)?;
+    let mut keepers: Vec<Box<dyn Keeper + Send>> = Vec::new(alloc);
+    for _ in 0..count {
+        let keeper = MemoryKeeper::new(alloc, numbers_of(alloc, failing)?);
+        keepers.push(Box::new(alloc, keeper)?)?;
+    }
     let status = serve(alloc, words.as_slice(), keepers, &mut door, &mut sink);
     ran(alloc, status, sink.written(), door.returned())
 }
@@ -153,8 +147,8 @@ pub fn run(
     let [_, keepers, failing, accepts, report, words @ ..] = words else {
         return Ok(None);
     };
-    let keepers = keepers_of(alloc, number_of(keepers), failing)?;
-    let text = run_over(alloc, waiting, keepers, accepts, report, words)?;
+    let count = number_of(keepers);
+    let text = run_over(alloc, waiting, count, failing, accepts, report, words)?;
     Ok(Some(LineResult::Text(text)))
 }
 
