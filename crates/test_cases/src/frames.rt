@@ -1,40 +1,19 @@
 //! Frames of the Data Stream Interface.
 ghost use Rattle.std.specs.Prelude.{◌≤◌, ◌<◌, ◌^◌, length};
 
-use crate::fault::CaseFault;
-use crate::words::{bytes_of, put_word, text_of, word_of};
 use afp_base::{Bytes, OutOfMemory};
 use dsi_frame::{
-    BadFrame, Deframer, DsiCommand, Head, Header, OwnedFrame, Reason, Stream, StreamEnd,
-    header_bytes, read_stream, write_frame,
+    Deframer, DsiCommand, Head, Header, OwnedFrame, Stream, StreamEnd, header_bytes, read_stream,
+    write_frame,
 };
 use std::alloc::Global;
+use test_case_lines::{CaseFault, bytes_of, put_bad, put_word, text_of, word_of};
 
 /// The most bytes of a stream of these cases.
 const MOST: usize = 1 << 20;
 
 /// The most bytes of a payload.
 const MOST_PAYLOAD: usize = 131_072;
-
-/// Why a frame is bad.
-pub fn reason_of(reason: Reason) -> &'static str {
-    match reason {
-        Reason::Flags => "flags",
-        Reason::Command => "command",
-        Reason::Length => "length",
-        Reason::Offset => "offset",
-        Reason::Unexpected => "unexpected",
-        Reason::Phase => "phase",
-    }
-}
-
-/// Appends the place of a bad frame, and why it is bad.
-pub fn put_bad(text: &mut String, bad: BadFrame) -> Result<(), CaseFault> {
-    let at = bad.at;
-    let reason = reason_of(bad.reason);
-    write!(text, "bad {at} {reason}")?;
-    Ok(())
-}
 
 fn put_end(text: &mut String, end: StreamEnd) -> Result<(), CaseFault> {
     match end {

@@ -1,12 +1,10 @@
 //! The kinds of cases.
-use crate::fault::CaseFault;
-use crate::server::{Server, ask, at, counts, new_server};
-use crate::whole::served;
-use crate::{base, frames, houses, names, parameters, replies, requests, sessions};
+use crate::{base, frames, names, parameters, replies, requests, sessions};
 use std::alloc::Global;
+use test_case_lines::{CaseFault, TriesCases};
 
 /// The words that begin a case.
-pub const KINDS: [&str; 31] = [
+pub const KINDS: [&str; 22] = [
     "code",
     "moment",
     "bytes",
@@ -29,15 +27,6 @@ pub const KINDS: [&str; 31] = [
     "fields",
     "reply",
     "entries",
-    "house",
-    "house_copied",
-    "status",
-    "volumes",
-    "server",
-    "at",
-    "ask",
-    "counts",
-    "served",
 ];
 
 /// What comes of a case of codes, moments, bytes and cursors.
@@ -51,14 +40,13 @@ fn base_case(alloc: Global, kind: &str, words: &[&str]) -> Result<String, CaseFa
     }
 }
 
-/// What comes of a case of frames, or of a whole link.
+/// What comes of a case of frames.
 fn frame_case(alloc: Global, kind: &str, words: &[&str]) -> Result<String, CaseFault> {
     match kind {
         "frames" => frames::frames(alloc, words),
         "frames_cut" => frames::frames_cut(alloc, words),
         "written" => frames::written(alloc, words),
         "fed" => frames::fed(alloc, words),
-        "served" => served(alloc, words),
         _ => session_case(alloc, kind, words),
     }
 }
@@ -94,33 +82,16 @@ fn call_case(alloc: Global, kind: &str, words: &[&str]) -> Result<String, CaseFa
         "fields" => requests::fields(alloc, words),
         "reply" => replies::reply(alloc, words),
         "entries" => replies::entries(alloc, words),
-        _ => house_case(alloc, kind, words),
-    }
-}
-
-/// What comes of a case of what a server is set up with.
-fn house_case(alloc: Global, kind: &str, words: &[&str]) -> Result<String, CaseFault> {
-    match kind {
-        "house" => houses::house(alloc, words),
-        "house_copied" => houses::house_copied(alloc, words),
-        "status" => houses::status(alloc, words),
-        "volumes" => houses::volumes(alloc, words),
         _ => Err(CaseFault::Word),
     }
 }
 
-/// What comes of a case.
-pub fn case(
-    alloc: Global,
-    state: &mut Server,
-    kind: &str,
-    words: &[&str],
-) -> Result<String, CaseFault> {
-    match kind {
-        "server" => new_server(alloc, state, words),
-        "at" => at(alloc, state, words),
-        "ask" => ask(alloc, state, words),
-        "counts" => counts(alloc, state, words),
-        _ => base_case(alloc, kind, words),
+/// The cases of the protocol, which leave nothing behind.
+#[derive(Drop)]
+pub struct Protocol;
+
+impl TriesCases for Protocol {
+    fn case(&mut self, alloc: Global, kind: &str, words: &[&str]) -> Result<String, CaseFault> {
+        base_case(alloc, kind, words)
     }
 }

@@ -2,12 +2,11 @@
 ghost use Rattle.std.specs.Prelude.{◌≤◌};
 ghost use Rattle.afp_bitmap.specs.Bits.{IsWithin, mask_of};
 
-use crate::fault::CaseFault;
 use crate::fields::values_text;
-use crate::words::{bits_of, bytes_of, text_of, word_of};
 use afp_base::{Bytes, Code};
 use afp_bitmap::{DirBits, FileBits, ParamFault, Values, VolumeBits, put_params, read_params};
 use std::alloc::Global;
+use test_case_lines::{CaseFault, bits_of, bytes_of, text_of, word_of};
 
 /// What is asked of a volume (kind 0), a file (1) or a directory (2).
 #[derive(Clone, Copy)]

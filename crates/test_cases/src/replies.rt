@@ -1,12 +1,11 @@
 //! Replies of the Apple Filing Protocol.
 ghost use Rattle.afp_replies.specs.Replies.{IsShown};
 
-use crate::fault::CaseFault;
 use crate::fields::values_text;
-use crate::words::{bits_of, bytes_of, text_of, word_of};
 use afp_base::{Bytes, Code};
 use afp_replies::{ListEntry, Reply, ReplyFault, ReplyKind, read_reply, write_reply};
 use std::alloc::Global;
+use test_case_lines::{CaseFault, bits_of, bytes_of, text_of, word_of};
 
 fn fault_of(alloc: Global, fault: ReplyFault) -> Result<String, CaseFault> {
     match fault {

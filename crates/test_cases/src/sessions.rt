@@ -1,9 +1,8 @@
 //! Sessions of the Data Stream Interface: their options, their silence, their ids, and attentions.
-use crate::fault::CaseFault;
-use crate::words::{bytes_of, moment_of, text_of, word_of};
 use afp_base::Moment;
 use dsi_session::{Attention, Due, Pulse, RequestIds, option_bytes, read_options};
 use std::alloc::Global;
+use test_case_lines::{CaseFault, bits_of, bytes_of, moment_of, text_of, word_of};
 
 /// `options BYTES`: the attention quantum, or where an option does not fit. `options`: those of the server.
 pub fn options(alloc: Global, words: &[&str]) -> Result<String, CaseFault> {
@@ -85,7 +84,7 @@ pub fn attention(alloc: Global, words: &[&str]) -> Result<String, CaseFault> {
     let [bits] = words else {
         return Err(CaseFault::Word);
     };
-    let attention = Attention(crate::words::bits_of(bits)?);
+    let attention = Attention(bits_of(bits)?);
     let mut text = text_of(alloc, "tells")?;
     for (bit, name) in [
         (Attention::SHUTDOWN, " shutdown"),

@@ -1,12 +1,11 @@
 //! A server in memory, and what it is asked.
-use crate::fault::CaseFault;
 use crate::houses::{keepers_of, server_of};
-use crate::words::{moment_of, owned, put_word, text_of};
 use afp_base::{LinkNumber, Moment};
 use afp_core::{Core, ListTeller};
 use afp_serial::{Ask, House, Teller, Told};
 use record_keeper::MemoryKeeper;
 use std::alloc::Global;
+use test_case_lines::{CaseFault, moment_of, owned, put_word, text_of};
 
 /// A server `Mac` with the volume `Share`, begun at 100, and the moment of what follows.
 #[derive(Drop)]

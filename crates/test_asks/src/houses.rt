@@ -1,11 +1,10 @@
 //! What a file server is set up with.
-use crate::fault::CaseFault;
-use crate::words::{bytes_of, owned, put_word, text_of, word_of};
 use afp_base::{Bytes, Moment};
 use afp_core::{Core, CoreFault};
 use afp_serial::{House, HouseFault, User};
 use record_keeper::MemoryKeeper;
 use std::alloc::Global;
+use test_case_lines::{CaseFault, bytes_of, moment_of, owned, put_word, text_of, word_of};
 
 /// The server's signature.
 const SIGNATURE: [u8; 16] = [0, 1, 2, 3, 4, 5, 6, 7, 8, 9, 10, 11, 12, 13, 14, 15];
@@ -206,6 +205,6 @@ pub fn volumes(alloc: Global, words: &[&str]) -> Result<String, CaseFault> {
     };
     let house = server_of(alloc, b"Mac", volumes)?;
     let keepers = keepers_of(alloc, count.parse::<usize>()?)?;
-    let now = crate::words::moment_of("100")?;
+    let now = moment_of("100")?;
     text_of(alloc, core_of(&house, alloc, keepers, now)?)
 }

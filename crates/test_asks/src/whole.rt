@@ -2,14 +2,12 @@
 ghost use Rattle.std.specs.Prelude.{◌≤◌, length, IfOk};
 ghost use Rattle.afp_outside.specs.Tape.{IsFreshTape};
 
-use crate::fault::CaseFault;
-use crate::frames::put_bad;
 use crate::server::{Server, put_counts};
-use crate::words::{bytes_of, word_of};
 use afp_base::{Bytes, Moment, NO_LIMIT, OutOfMemory};
 use afp_outside::{OpenGate, TapeLink};
 use afp_server::{LinkEnd, serve_link};
 use std::alloc::Global;
+use test_case_lines::{CaseFault, bytes_of, put_bad, word_of};
 
 /// A link in memory through which the bytes come, in a first read of so many, and then as many as there is room for.
 fn tape_of(alloc: Global, made: Moment, bytes: &[u8], first: usize) -> Result<TapeLink, OutOfMemory>
