@@ -1,6 +1,6 @@
 -- The serial answer to an ask, and the world after it (this profile). In all of these the world's latest moment is already the ask's.
-use Rattle.std.specs.Prelude.{ℕ, ◌+◌, ◌==◌, nat_le, Bool, true, false, not, ◌&&◌, ◌||◌, if◌then◌else◌, List, [], ◌∷◌, ◌++◌, length, Option, None, Some, is_some, take, drop, is_none}
-use Rattle.afp_base.specs.Cached.{Request, Answer, cached_answer, with_kept}
+use Rattle.std.specs.Prelude.{ℕ, ◌+◌, ◌==◌, nat_le, Bool, true, false, not, ◌&&◌, ◌||◌, if◌then◌else◌, List, [], ◌∷◌, ◌++◌, length, Option, None, Some, is_some, is_none}
+use Rattle.afp_base.specs.Cached.{Request, Answer, cached_answer}
 use Rattle.afp_base.specs.declared.code.Code.{Code}
 use Rattle.afp_base.specs.declared.code.Code.TheVariants as code
 use Rattle.afp_base.specs.declared.ids.LinkNumber.{LinkNumber}
@@ -11,11 +11,12 @@ use Rattle.afp_serial.specs.declared.ask.Outcome.{Outcome}
 use Rattle.afp_serial.specs.declared.ask.Outcome.TheVariants as outcome
 use Rattle.afp_serial.specs.declared.ask.Told.{Told}
 use Rattle.afp_serial.specs.declared.ask.Told.TheVariants as told
-use Rattle.afp_serial.specs.declared.attachment.Attachment.TheVariants.{Attached}
+use Rattle.afp_serial.specs.declared.attachment.Attachment.TheVariants.{Attached, Detached}
 use Rattle.afp_replies.specs.Replies.{canonical_reply}
 use Rattle.afp_calls_grammar.specs.Commands.{get_srvr_info_command, login_command, login_ext_command, logout_command}
 use Rattle.afp_calls_grammar.specs.declared.call.Call.{Call}
-use Rattle.afp_serial.specs.World.{Effect, Refused, session_at, ending, is_expired, without_session, World, Session, at_moment, plain}
+use Rattle.afp_serial.specs.KeptAnswers.{block_of, enclosed_of, keeping, kept_answer}
+use Rattle.afp_serial.specs.World.{Effect, Refused, session_at, ending, is_expired, with_session, without_session, World, Session, at_moment, plain}
 use Rattle.afp_serial.specs.Limits.{most_sessions, links_end}
 use Rattle.afp_serial.specs.Ranges.{is_typed_entry}
 use Rattle.afp_serial.specs.Rows.{effect, committed, ends_session, refusal}
@@ -26,14 +27,6 @@ use Rattle.afp_calls_grammar.specs.Spelt.{is_command, spelt_call}
 -- The steps by which a call of a session is decided (this profile). The first of these that applies gives the answer:
 -- an equal request whose answer is kept; no command; a command that is none; no user, where the command asks for one; no spelling
 -- of the command's row; the refusals of its row; its effect.
-
--- The block of a request: the whole payload, or in a Write what stands before the offset.
-abbrev pub block_of : Request → List ℕ
-block_of r = if r.write then take r.offset r.payload else r.payload
-
--- The bytes that a Write encloses: the rest of its payload.
-abbrev pub enclosed_of : Request → Option (List ℕ)
-enclosed_of r = if r.write then Some (drop r.offset r.payload) else None
 
 -- the commands that ask for no user
 abbrev pub commands_without_user : List ℕ
@@ -128,17 +121,15 @@ abbrev pub told_call : World → Option Session → Request → Outcome → Told
 told_call w None r o = told.Displaced
 told_call w (Some s) r o = told_verdict w s (verdict w s r) o
 
--- the session with one more answer kept
-abbrev pub with_answer : Request → Answer → Session → Session
-with_answer r answer s = record s { cache = with_kept s.cache (record { request = r; answer = answer }) }
-
--- The world with what a request of the session is told kept for it, where it is to be kept (this profile). None is kept yet.
-abbrev pub kept_in : Session → Request → Told → World → World
-kept_in s r told w = w
+-- what is newly kept, by what the request comes to: an answer that is told again is kept already
+abbrev pub newly_kept : Request → Verdict → Told → Option Answer
+newly_kept r (repeats answer) t = None
+newly_kept r (refused refusal) t = kept_answer r t
+newly_kept r (runs call) t = kept_answer r t
 
 abbrev pub after_call : World → Option Session → Request → Outcome → World
 after_call w None r o = w
-after_call w (Some s) r o = kept_in s r (told_verdict w s (verdict w s r) o) (after_verdict w s (verdict w s r) o)
+after_call w (Some s) r o = keeping (after_verdict w s (verdict w s r) o) s.number r (newly_kept r (verdict w s r) (told_verdict w s (verdict w s r) o))
 
 -- The index of the volume whose keeper a call commits to or settles: that of its row, where the call would have its effect. So a
 -- fault of that keeper hides no refusal.
@@ -167,10 +158,19 @@ abbrev pub told_parting : Option Session → Told
 told_parting None = told.Displaced
 told_parting (Some s) = told.Done
 
--- The session ends, with its open forks and locks; so does one whose link was lost, since none can come back.
+-- The session ends, with its open forks and locks.
 abbrev pub after_parting : World → Option Session → World
 after_parting w None = w
 after_parting w (Some s) = without_session w s.number
+
+-- A session that lost its link waits for its client where it has a user; else it ends.
+abbrev pub losing : World → Session → Option ℕ → World
+losing w s None = without_session w s.number
+losing w s (Some user) = with_session w (record s { place = Detached w.latest })
+
+abbrev pub after_lost : World → Option Session → World
+after_lost w None = w
+after_lost w (Some s) = losing w s s.user
 
 -- Drain
 
@@ -194,7 +194,7 @@ after_at w link (ask.Open attention) o = if is_full w then w else with_new_sessi
 after_at w link (ask.Call id write offset payload) o = after_call w (session_at w link) (request id write offset payload) o
 after_at w link ask.Pulse o = without_expired w
 after_at w link ask.Bye o = after_parting w (session_at w link)
-after_at w link ask.Lost o = after_parting w (session_at w link)
+after_at w link ask.Lost o = after_lost w (session_at w link)
 after_at w link ask.Drain o = record w { drain = drain_moment w.latest w.drain }
 
 -- the index of the volume whose keeper it commits to or settles, or none

@@ -18,7 +18,8 @@ use Rattle.afp_serial.specs.declared.ask.Entry.{Entry}
 use Rattle.afp_serial.specs.declared.ask.Outcome.TheVariants.{Done, Fault}
 use Rattle.afp_serial.specs.declared.ask.Told.TheVariants as told
 use Rattle.afp_serial.specs.declared.attachment.Attachment.TheVariants.{Attached}
-use Rattle.afp_serial.specs.Answer.{answer, after, is_legal, link_number, new_session, request, without_expired, block_of, enclosed_of, needs_user}
+use Rattle.afp_serial.specs.Answer.{answer, after, is_legal, link_number, new_session, request, without_expired, needs_user}
+use Rattle.afp_serial.specs.KeptAnswers.{block_of, enclosed_of}
 use Rattle.afp_serial.specs.World.{Refused, has_session, session_at, World, Session, at_moment, fresh_volumes, start_world}
 use Rattle.afp_serial.specs.History.{answers, is_lawful, opened_in, stand}
 use Rattle.afp_serial.specs.Household.{Household}

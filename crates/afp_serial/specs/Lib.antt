@@ -6,6 +6,7 @@ pub mod StatusWords
 pub mod StatusBlock
 pub mod World
 pub mod Ranges
+pub mod KeptAnswers
 pub mod Sound
 pub mod ReplyKinds
 pub mod OnVolume

@@ -6,6 +6,7 @@ use Rattle.afp_replies.specs.declared.reply.Reply.{Reply}
 use Rattle.afp_replies.specs.declared.reply.Reply.TheVariants.{Params}
 use Rattle.volume_spec.specs.GetVolParms.{get_vol_parms_refusal, volume_values}
 use Rattle.volume_spec.specs.VolumeState.{VolumeState}
+use Rattle.afp_serial.specs.OnFork.{placed}
 use Rattle.afp_serial.specs.World.{Effect, CallRow, commits_nothing, plain, with_empty_reply, refused_before, has_opened, volume_at, with_session, World, Session}
 
 -- the id of the volume with exactly that name: ids count from 1, in house order
@@ -17,9 +18,9 @@ abbrev pub state_named : World → Option ℕ → Option VolumeState
 state_named w None = None
 state_named w (Some id) = volume_at w.volumes id
 
--- the session with that volume open too; twice is once
+-- the session with that volume open too, by rising ids; twice is once
 abbrev pub with_volume : Session → ℕ → Session
-with_volume s volume = record s { volumes = if has_opened s volume then s.volumes else s.volumes ++ volume ∷ [] }
+with_volume s volume = record s { volumes = if has_opened s volume then s.volumes else placed (λ other. other) volume s.volumes }
 
 -- the bits, and what they ask of the volume
 abbrev pub open_vol_reply : ℕ → ℕ → VolumeState → Reply

@@ -2,7 +2,7 @@
 use Rattle.std.specs.Prelude.{ℕ, Bool, true, false, [], ◌∷◌, Option}
 use Rattle.afp_base.specs.declared.code.Code.TheVariants.{CallNotSupported}
 use Rattle.afp_calls_grammar.specs.declared.call.Call.{Call}
-use Rattle.afp_calls_grammar.specs.declared.call.Call.TheVariants.{ByteRangeLock, ByteRangeLockExt, CloseDir, CloseFork, CloseVol, CreateDir, CreateFile, Delete, Enumerate, EnumerateExt, EnumerateExt2, Flush, FlushFork, GetFileDirParms, GetForkParms, GetVolParms, Login, Logout, MoveAndRename, OpenDir, OpenFork, OpenVol, Read, ReadExt, Rename, SetDirParms, SetFileDirParms, SetFileParms, SetForkParms, SetVolParms, Write, WriteExt}
+use Rattle.afp_calls_grammar.specs.declared.call.Call.TheVariants.{ByteRangeLock, ByteRangeLockExt, CloseDir, CloseFork, CloseVol, CreateDir, CreateFile, Delete, DisconnectOldSession, Enumerate, EnumerateExt, EnumerateExt2, Flush, FlushFork, GetFileDirParms, GetForkParms, GetSessionToken, GetVolParms, Login, Logout, MoveAndRename, OpenDir, OpenFork, OpenVol, Read, ReadExt, Rename, SetDirParms, SetFileDirParms, SetFileParms, SetForkParms, SetVolParms, Write, WriteExt}
 use Rattle.afp_base.specs.Choice.{first_holding}
 use Rattle.afp_serial.specs.World.{Effect, Refused, CallRow, commits_nothing, plain, with_empty_reply, World, Session}
 use Rattle.afp_serial.specs.CloseVol.{close_vol_row}
@@ -20,6 +20,7 @@ use Rattle.afp_serial.specs.Logout.{logout_row}
 use Rattle.afp_serial.specs.OpenDir.{close_dir_row, open_dir_row}
 use Rattle.afp_serial.specs.OpenVol.{open_vol_row}
 use Rattle.afp_serial.specs.Place.{delete_row, move_and_rename_row, rename_row}
+use Rattle.afp_serial.specs.SessionToken.{disconnect_old_session_row, get_session_token_row}
 use Rattle.afp_serial.specs.SetFileDirParms.{set_dir_parms_row, set_file_dir_parms_row, set_file_parms_row}
 use Rattle.afp_serial.specs.SetVolParms.{set_vol_parms_row}
 
@@ -36,6 +37,7 @@ row (CloseVol volume) = close_vol_row volume.0
 row (CreateDir volume dir path) = create_dir_row volume.0 dir.0 path
 row (CreateFile flag volume dir path) = create_file_row flag volume.0 dir.0 path
 row (Delete volume dir path) = delete_row volume.0 dir.0 path
+row (DisconnectOldSession kind token) = disconnect_old_session_row token
 row (Enumerate volume dir file_bits dir_bits count start size path) = enumerate_row volume.0 dir.0 file_bits dir_bits count start size path
 row (EnumerateExt volume dir file_bits dir_bits count start size path) = enumerate_ext_row volume.0 dir.0 file_bits dir_bits count start size path
 row (EnumerateExt2 volume dir file_bits dir_bits count start size path) = enumerate_ext2_row volume.0 dir.0 file_bits dir_bits count start size path
@@ -43,6 +45,7 @@ row (Flush volume) = flush_row volume.0
 row (FlushFork reference) = flush_fork_row reference.0
 row (GetFileDirParms volume dir file_bits dir_bits path) = get_file_dir_parms_row volume.0 dir.0 file_bits dir_bits path
 row (GetForkParms reference bits) = get_fork_parms_row reference.0 bits
+row (GetSessionToken kind stamp id) = get_session_token_row
 row (GetVolParms volume bits) = get_vol_parms_row volume.0 bits
 row (Login version uam tail) = login_row version uam
 row Logout = logout_row

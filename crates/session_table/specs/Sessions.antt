@@ -6,7 +6,8 @@ use Rattle.afp_base.specs.Choice.{first_holding}
 use Rattle.afp_base.specs.declared.code.Code.{Code}
 use Rattle.afp_base.specs.declared.ids.LinkNumber.{LinkNumber}
 use Rattle.afp_base.specs.declared.ids.SessionNumber.{SessionNumber}
-use Rattle.afp_serial.specs.Answer.{new_session, with_answer}
+use Rattle.afp_serial.specs.Answer.{new_session}
+use Rattle.afp_serial.specs.KeptAnswers.{with_answer}
 use Rattle.afp_serial.specs.Limits.{links_end, most_sessions}
 use Rattle.afp_serial.specs.OnFork.{placed}
 use Rattle.afp_serial.specs.SessionToken.{old_session, old_session_refusals}

@@ -1,6 +1,6 @@
 use Rattle.std.proofs.Common.{◌∙◌, ap, sym, List}
 use Rattle.afp_base.specs.Cached.{Kept}
-use Rattle.afp_serial.specs.Answer.{with_answer}
+use Rattle.afp_serial.specs.KeptAnswers.{with_answer}
 use Rattle.afp_serial.specs.World.{Session}
 use Rattle.std.specs.Prelude.{option_map}
 use Rattle.session_table.specs.Sessions.{Table, session_of}
