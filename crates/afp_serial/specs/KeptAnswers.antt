@@ -32,9 +32,13 @@ is_kept_code code.MiscErr = false
 is_kept_code code.NoMemory = false
 is_kept_code other = true
 
+-- whether what a request is told under a code is kept
+abbrev pub is_kept : Request → Code → Bool
+is_kept r c = is_kept_code c && is_kept_command (block_of r)
+
 -- what a request is told, where it is kept
 abbrev pub kept_answer : Request → Told → Option Answer
-kept_answer r (told.Reply c block ends) = if is_kept_code c && is_kept_command (block_of r) then Some (record { code = c; block = block }) else None
+kept_answer r (told.Reply c block ends) = if is_kept r c then Some (record { code = c; block = block }) else None
 kept_answer r (told.Opened link) = None
 kept_answer r (told.Live drain) = None
 kept_answer r told.Done = None

@@ -11,7 +11,7 @@ use Rattle.afp_base.specs.Apart.{are_apart}
 use Rattle.volume_spec.specs.SoundVolume.{IsSoundVolume, has_file}
 use Rattle.afp_serial.specs.declared.attachment.Attachment.{Attachment}
 use Rattle.afp_serial.specs.declared.attachment.Attachment.TheVariants.{Attached, Detached}
-use Rattle.afp_serial.specs.KeptAnswers.{block_of, is_kept_command}
+use Rattle.afp_serial.specs.KeptAnswers.{is_kept}
 use Rattle.afp_serial.specs.Limits.{most_users, most_volumes, most_sessions}
 use Rattle.afp_serial.specs.HouseFault.{house_fault}
 use Rattle.afp_serial.specs.Household.{Household}
@@ -65,13 +65,13 @@ has_lawful_locks w =
     list_all (λ lock. is_open w.opens lock.reference) w.locks
     && are_apart (λ a b. share_fork w.opens a.reference b.reference && do_meet a.range b.range) w.locks
 
--- at most as many answers as the replay cache holds, of requests that differ and whose answers are kept, each short enough for a frame
+-- at most as many answers as the replay cache holds, of requests that differ, each one that is kept, and short enough for a frame
 abbrev pub is_lawful_cache : List Kept → Bool
 is_lawful_cache cache =
     nat_le (length cache) replay_cache_size
     && (are_apart (λ a b. is_repeat a.request b.request) cache
     && (list_all (λ kept. nat_le (length kept.answer.block) payload_limit) cache
-    && list_all (λ kept. is_kept_command (block_of kept.request)) cache))
+    && list_all (λ kept. is_kept kept.request kept.answer.code) cache))
 
 unfoldable pub has_lawful_caches : World → Bool
 has_lawful_caches w = list_all (λ s. is_lawful_cache s.cache) w.sessions
