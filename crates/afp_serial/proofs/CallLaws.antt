@@ -11,7 +11,8 @@ use Rattle.afp_serial.specs.declared.ask.Ask.TheVariants as ask
 use Rattle.afp_serial.specs.declared.ask.Entry.{Entry}
 use Rattle.afp_serial.specs.declared.ask.Outcome.{Outcome}
 use Rattle.afp_serial.specs.declared.ask.Outcome.TheVariants as outcome
-use Rattle.afp_serial.specs.Answer.{answer, after, answer_at, after_at, after_call, after_verdict, committed_at, committed_by, committed_in, committed_of, is_legal_outcome, request, told_call, told_verdict, Verdict, repeats, refused, runs, verdict}
+use Rattle.afp_serial.specs.Answer.{answer, after, answer_at, after_at, after_call, after_verdict, committed_at, committed_by, committed_in, committed_of, is_legal_outcome, newly_kept, request, told_call, told_verdict, Verdict, repeats, refused, runs, verdict}
+use Rattle.afp_serial.specs.KeptAnswers.{keeping}
 use Rattle.afp_serial.specs.Laws.{FailsInPlace, FitsFrame, HidesNoRefusal, MayFail, TellsKept}
 use Rattle.afp_serial.specs.Ranges.{is_typed_entry}
 use Rattle.afp_serial.specs.Rows.{committed}
@@ -30,12 +31,12 @@ told-by w e id write offset payload s v o asked attached is went =
     ∙ ap (λ (session : Option Session). told_call (at_moment w e.at) session (request id write offset payload) o) attached
     ∙ ap (λ (x : Verdict). told_verdict (at_moment w e.at) s x o) is
 
-left-by : (w : World) (e : Entry) (id : ℕ) (write : Bool) (offset : ℕ) (payload : List ℕ) (s : Session) (v : Verdict) (o : Outcome) → e.ask ≡ ask.Call id write offset payload → session_at w e.link.0 ≡ Some s → verdict (at_moment w e.at) s (request id write offset payload) ≡ v → e.outcome ≡ o → after w e ≡ after_verdict (at_moment w e.at) s v o
+left-by : (w : World) (e : Entry) (id : ℕ) (write : Bool) (offset : ℕ) (payload : List ℕ) (s : Session) (v : Verdict) (o : Outcome) → e.ask ≡ ask.Call id write offset payload → session_at w e.link.0 ≡ Some s → verdict (at_moment w e.at) s (request id write offset payload) ≡ v → e.outcome ≡ o → after w e ≡ keeping (after_verdict (at_moment w e.at) s v o) s.number (request id write offset payload) (newly_kept (request id write offset payload) v (told_verdict (at_moment w e.at) s v o))
 unfolding after_at
 left-by w e id write offset payload s v o asked attached is went =
     (λ i. after_at (at_moment w e.at) e.link.0 (asked i) (went i))
     ∙ ap (λ (session : Option Session). after_call (at_moment w e.at) session (request id write offset payload) o) attached
-    ∙ ap (λ (x : Verdict). after_verdict (at_moment w e.at) s x o) is
+    ∙ ap (λ (x : Verdict). keeping (after_verdict (at_moment w e.at) s x o) s.number (request id write offset payload) (newly_kept (request id write offset payload) x (told_verdict (at_moment w e.at) s x o))) is
 
 pub tells-kept : TellsKept
 tells-kept w e id write offset payload s a asked attached kept =

@@ -12,7 +12,7 @@ use Rattle.afp_serial.specs.declared.ask.Outcome.TheVariants as outcome
 use Rattle.afp_serial.specs.declared.ask.Told.TheVariants as told
 use Rattle.afp_serial.specs.declared.attachment.Attachment.{Attachment}
 use Rattle.afp_serial.specs.declared.attachment.Attachment.TheVariants.{Attached, Detached}
-use Rattle.afp_serial.specs.Answer.{answer_at, after_at, after_call, after_parting, is_full, link_number, refusal_reply, request, told_call, told_parting, told_pulse, told_verdict, Verdict, repeats, refused, runs, verdict}
+use Rattle.afp_serial.specs.Answer.{answer_at, after_at, after_call, after_lost, after_parting, is_full, link_number, refusal_reply, request, told_call, told_parting, told_pulse, told_verdict, Verdict, repeats, refused, runs, verdict}
 use Rattle.afp_serial.specs.Laws.{HasNoSession, is_session_ask, TellsDisplaced, LeavesDisplaced, OnlyEndsExpired}
 use Rattle.afp_serial.specs.World.{is_on_link, session_at, World, Session, at_moment}
 use Rattle.afp_base.proofs.Facts.{never}
@@ -101,7 +101,7 @@ leaves-at w link (ask.Open attention) o is none other = absurd (cc)
 leaves-at w link (ask.Call id write offset payload) o is none other = ap (λ (s : Option Session). after_call w s (request id write offset payload) o) none
 leaves-at w link ask.Pulse o is none other = absurd (other refl)
 leaves-at w link ask.Bye o is none other = ap (after_parting w) none
-leaves-at w link ask.Lost o is none other = ap (after_parting w) none
+leaves-at w link ask.Lost o is none other = ap (after_lost w) none
 leaves-at w link ask.Drain o is none other = absurd (cc)
 
 pub leaves-displaced : LeavesDisplaced

@@ -27,6 +27,7 @@ use Rattle.afp_serial.specs.Lock.{byte_range_lock_ext_row, byte_range_lock_row, 
 use Rattle.afp_serial.specs.OnFork.{OpenFile, bytes_of, done_with, file_on, file_under, open_file, own_fork, with_bytes}
 use Rattle.afp_serial.specs.OnVolume.{changes_tree, done_on, opened_on, tells_of, with_state, with_volume_state}
 use Rattle.afp_serial.specs.OpenVol.{open_vol_row, state_named, volume_named}
+use Rattle.afp_serial.specs.SessionToken.{disconnect_old_session_row, old_session_in, rejoins}
 use Rattle.afp_serial.specs.Rows.{effect, refusal, row}
 use Rattle.afp_serial.specs.Sound.{IsSound}
 use Rattle.afp_serial.specs.WriteLaws.{bytes_under, changed_by_all, sets_length}
@@ -253,6 +254,10 @@ lock-leaves flags reference offset length = keeps-volumes (byte_range_lock_row f
 lock-ext-leaves : (flags reference : ℕ) (offset length : ℤ) → LeavesForks (byte_range_lock_ext_row flags reference offset length)
 lock-ext-leaves flags reference offset length = keeps-volumes (byte_range_lock_ext_row flags reference offset length) (λ w s. all-locks reference (lock_asked flags offset length) (λ start. StartExt start) w s)
 
+rejoins-volumes : (w : World) (s : Session) (old : Option Session) → (rejoins w s old).world.volumes ≡ w.volumes
+rejoins-volumes w s None = refl
+rejoins-volumes w s (Some o) = refl
+
 pub call-changes : (w : World) (s : Session) (fork : Fork) (bytes : List ℕ) → IsSound w → has_open w fork ≡ true → bytes_in w fork ≡ Some bytes → (call : Call) → refusal w s call ≡ None → bytes_in (effect w s call).world fork ≡ Some (changed_by_all (changes_by w s fork call) bytes)
 unfolding row
 call-changes w s fork bytes h there had (calls.ByteRangeLock flags reference offset length) passes = (lock-leaves flags reference.0 offset length).leaves w s fork bytes there passes had
@@ -263,6 +268,7 @@ call-changes w s fork bytes h there had (calls.CloseVol volume) passes = let l :
 call-changes w s fork bytes h there had (calls.CreateDir volume dir path) passes = (tree-leaves volume.0 (trees.CreateDir dir.0 path) (λ v. Node (node_id (create_dir_id v)))).leaves w s fork bytes there passes had
 call-changes w s fork bytes h there had (calls.CreateFile flag volume dir path) passes = (tree-leaves volume.0 (trees.CreateFile (is_hard flag) dir.0 path) (λ v. Empty)).leaves w s fork bytes there passes had
 call-changes w s fork bytes h there had (calls.Delete volume dir path) passes = (tree-leaves volume.0 (trees.Delete dir.0 path) (λ v. Empty)).leaves w s fork bytes there passes had
+call-changes w s fork bytes h there had (calls.DisconnectOldSession kind token) passes = let l : LeavesForks (disconnect_old_session_row token) = keeps-volumes (disconnect_old_session_row token) (λ w s. rejoins-volumes w s (old_session_in w s token)) in l.leaves w s fork bytes there passes had
 call-changes w s fork bytes h there had (calls.Enumerate volume dir file_bits dir_bits count start size path) passes = let l : LeavesForks (enumerate_row volume.0 dir.0 file_bits dir_bits count start size path) = tells-leave volume.0 _ _ in l.leaves w s fork bytes there passes had
 call-changes w s fork bytes h there had (calls.EnumerateExt volume dir file_bits dir_bits count start size path) passes = let l : LeavesForks (enumerate_ext_row volume.0 dir.0 file_bits dir_bits count start size path) = tells-leave volume.0 _ _ in l.leaves w s fork bytes there passes had
 call-changes w s fork bytes h there had (calls.EnumerateExt2 volume dir file_bits dir_bits count start size path) passes = let l : LeavesForks (enumerate_ext2_row volume.0 dir.0 file_bits dir_bits count start size path) = tells-leave volume.0 _ _ in l.leaves w s fork bytes there passes had

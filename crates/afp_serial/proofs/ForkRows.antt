@@ -138,7 +138,7 @@ Ends call = (piece : List ℕ) → IsTold (shape_of (command_of call)) EOFErr (r
 reads-sound : (call : Call) (reference : ℕ) (asked : ReadAsked) → ((piece : List ℕ) → Asks call (Piece piece)) → Ends call → IsSoundRow call (reads reference asked)
 reads-sound call reference asked asks ends = fork-row-sound call reference _ _ _ (record {
   refused = λ w f r is.
-      let at_end : IsRefusedTo call (record { code = EOFErr; reply = read_reply asked f }) = record { code = refl; short = piece-short asked f; fits = record { fits = tt; told = ends (read_bytes (bytes_of f) asked) } } in
+      let at_end : IsRefusedTo call (record { code = EOFErr; reply = read_reply asked f }) = record { code = refl; kept = refl; short = piece-short asked f; fits = record { fits = tt; told = ends (read_bytes (bytes_of f) asked) } } in
       first-told call (read_refusals asked w f) r is (no_more-told call (plain ParamErr) refl, (no_more-told call (plain AccessDenied) refl, (no_more-told call (plain LockErr) refl, (at_end, tt))));
   sound = λ w s f lawful held passes h. h;
   told = λ w s f lawful held passes h. record { short = piece-short asked f; fits = record { fits = tt; told = asks (read_bytes (bytes_of f) asked) } };

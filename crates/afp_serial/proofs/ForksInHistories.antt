@@ -8,7 +8,7 @@ use Rattle.std.proofs.lemmas.List.{append-nil}
 use Rattle.afp_base.specs.Limits.{payload_limit}
 use Rattle.afp_base.proofs.DefinitionLaws.{one_fork}
 use Rattle.afp_base.specs.Choice.{first_holding}
-use Rattle.afp_base.specs.Cached.{Request}
+use Rattle.afp_base.specs.Cached.{Request, Answer}
 use Rattle.afp_base.specs.DenyMode.{Fork, is_one_fork}
 use Rattle.afp_base.specs.ForkBytes.{splice, taken}
 use Rattle.afp_base.specs.declared.code.Code.TheVariants.{AccessDenied, EOFErr, LockErr, Ok, ParamErr}
@@ -29,7 +29,8 @@ use Rattle.afp_serial.specs.declared.ask.Entry.{Entry}
 use Rattle.afp_serial.specs.declared.ask.Outcome.{Outcome}
 use Rattle.afp_serial.specs.declared.ask.Outcome.TheVariants as outcome
 use Rattle.afp_serial.specs.declared.ask.Told.TheVariants as told
-use Rattle.afp_serial.specs.Answer.{after, after_at, after_call, after_parting, after_verdict, is_full, is_legal, request, with_new_session, Verdict, refused, repeats, runs, verdict}
+use Rattle.afp_serial.specs.Answer.{after, after_at, after_call, after_lost, after_parting, after_verdict, losing, newly_kept, told_verdict, is_full, is_legal, request, with_new_session, Verdict, refused, repeats, runs, verdict}
+use Rattle.afp_serial.specs.KeptAnswers.{keeping}
 use Rattle.afp_serial.specs.World.{Refusal, plain, session_at, volume_at, World, Session, OpenFork, at_moment}
 use Rattle.afp_serial.specs.ForkBytes.{ReadAsked, meets_end, most_read, read_bytes, read_refusals, read_reply, reads, WriteAsked, is_from_end, start_in, write_start}
 use Rattle.afp_serial.specs.ForkHistory.{all_changes, bytes_in, bytes_on, changes_asked, changes_at, changes_by, changes_in, changes_of, has_open, put_of, stays_open, through}
@@ -83,6 +84,10 @@ open-bytes w fork h there =
 
 -- what an entry does
 
+keeping-leaves : (w : World) (number : ℕ) (r : Request) (a : Option Answer) (fork : Fork) → bytes_in (keeping w number r a) fork ≡ bytes_in w fork
+keeping-leaves w number r None fork = refl
+keeping-leaves w number r (Some a) fork = refl
+
 module _ (w : World) (fork : Fork) (bytes : List ℕ) (h : IsSound w) (there : has_open w fork ≡ true) (had : bytes_in w fork ≡ Some bytes) where
   verdict-changes : (s : Session) (r : Request) (v : Verdict) (o : Outcome) → verdict w s r ≡ v → bytes_in (after_verdict w s v o) fork ≡ Some (changed_by_all (changes_of w s fork v o) bytes)
   verdict-changes s r (repeats a) o is = had
@@ -92,11 +97,20 @@ module _ (w : World) (fork : Fork) (bytes : List ℕ) (h : IsSound w) (there : h
 
   asked-changes : (session : Option Session) (r : Request) (o : Outcome) → bytes_in (after_call w session r o) fork ≡ Some (changed_by_all (changes_asked w session fork r o) bytes)
   asked-changes None r o = had
-  asked-changes (Some s) r o = verdict-changes s r (verdict w s r) o refl
+  asked-changes (Some s) r o =
+      keeping-leaves (after_verdict w s (verdict w s r) o) s.number r (newly_kept r (verdict w s r) (told_verdict w s (verdict w s r) o)) fork ∙ verdict-changes s r (verdict w s r) o refl
 
   parting-changes : (session : Option Session) → bytes_in (after_parting w session) fork ≡ Some bytes
   parting-changes None = had
   parting-changes (Some s) = had
+
+  losing-changes : (s : Session) (user : Option ℕ) → bytes_in (losing w s user) fork ≡ Some bytes
+  losing-changes s None = had
+  losing-changes s (Some user) = had
+
+  lost-changes : (session : Option Session) → bytes_in (after_lost w session) fork ≡ Some bytes
+  lost-changes None = had
+  lost-changes (Some s) = losing-changes s s.user
 
   ask-changes : (link : ℕ) (a : Ask) (o : Outcome) → bytes_in (after_at w link a o) fork ≡ Some (changed_by_all (changes_at w link fork a o) bytes)
   unfolding after_at
@@ -104,7 +118,7 @@ module _ (w : World) (fork : Fork) (bytes : List ℕ) (h : IsSound w) (there : h
   ask-changes link (ask.Call id write offset payload) o = asked-changes (session_at w link) (request id write offset payload) o
   ask-changes link ask.Pulse o = had
   ask-changes link ask.Bye o = parting-changes (session_at w link)
-  ask-changes link ask.Lost o = parting-changes (session_at w link)
+  ask-changes link ask.Lost o = lost-changes (session_at w link)
   ask-changes link ask.Drain o = had
 
 entry-changes : (w : World) (e : Entry) (fork : Fork) (bytes : List ℕ) → IsSound w → is_legal w e ≡ true → has_open w fork ≡ true → bytes_in w fork ≡ Some bytes → bytes_in (after w e) fork ≡ Some (changed_by_all (changes_in w e fork) bytes)

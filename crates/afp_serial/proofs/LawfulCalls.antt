@@ -19,7 +19,8 @@ use Rattle.afp_calls_grammar.specs.declared.call.Call.{Call}
 use Rattle.afp_serial.proofs.Keeps.{IsKnown}
 use Rattle.afp_serial.specs.declared.ask.Ask.{Ask}
 use Rattle.afp_serial.specs.declared.ask.Ask.TheVariants as ask
-use Rattle.afp_serial.specs.Answer.{request, block_of, enclosed_of}
+use Rattle.afp_serial.specs.Answer.{request}
+use Rattle.afp_serial.specs.KeptAnswers.{block_of, enclosed_of}
 use Rattle.afp_serial.specs.LawfulCall.{are_bytes_or_none, is_number, is_number_or_none, is_signed, is_lawful_value, is_lawful_field, is_lawful_piece, is_lawful_call}
 use Rattle.afp_serial.specs.Ranges.{is_typed_ask}
 use Rattle.volume_spec.proofs.LongPathNames.{path-named}

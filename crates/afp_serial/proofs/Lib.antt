@@ -7,6 +7,7 @@ pub mod SoundParts
 pub mod Closed
 pub mod Replaced
 pub mod OtherPlaces
+pub mod KeptAnswers
 pub mod Opened
 pub mod SoundRow
 pub mod VolumeCodes
@@ -15,6 +16,7 @@ pub mod OnVolumeRows
 pub mod ParamsSize
 pub mod ToldReplies
 pub mod LoginRows
+pub mod SessionTokenRows
 pub mod OpenVolRow
 pub mod CloseVolRow
 pub mod TellRows

@@ -19,7 +19,7 @@ use Rattle.afp_replies.specs.Replies.{canonical_reply}
 use Rattle.afp_replies.specs.declared.reply.Reply.{Reply}
 use Rattle.afp_replies.specs.declared.reply.Reply.TheVariants.{Opened, Start, StartExt}
 use Rattle.afp_calls_grammar.specs.declared.call.Call.{Call}
-use Rattle.afp_calls_grammar.specs.declared.call.Call.TheVariants.{ByteRangeLock, ByteRangeLockExt, CloseDir, CloseFork, CloseVol, CreateDir, CreateFile, Delete, Enumerate, EnumerateExt, EnumerateExt2, Flush, FlushFork, GetFileDirParms, GetForkParms, GetVolParms, Login, Logout, MoveAndRename, OpenDir, OpenFork, OpenVol, Read, ReadExt, Rename, SetDirParms, SetFileDirParms, SetFileParms, SetForkParms, SetVolParms, Write, WriteExt}
+use Rattle.afp_calls_grammar.specs.declared.call.Call.TheVariants.{ByteRangeLock, ByteRangeLockExt, CloseDir, CloseFork, CloseVol, CreateDir, CreateFile, Delete, DisconnectOldSession, Enumerate, EnumerateExt, EnumerateExt2, Flush, FlushFork, GetFileDirParms, GetForkParms, GetSessionToken, GetVolParms, Login, Logout, MoveAndRename, OpenDir, OpenFork, OpenVol, Read, ReadExt, Rename, SetDirParms, SetFileDirParms, SetFileParms, SetForkParms, SetVolParms, Write, WriteExt}
 use Rattle.afp_serial.proofs.ForkRows.{file-answer}
 use Rattle.afp_serial.proofs.OnVolumeRows.{refused_before-none}
 use Rattle.afp_serial.proofs.OpenForkRow.{IsFileFound, found-file, opens-passed}
@@ -33,6 +33,7 @@ use Rattle.afp_serial.specs.OnFork.{OpenFile, committed_with, done_with, open_fi
 use Rattle.afp_serial.specs.OnVolume.{done_on, opened_on}
 use Rattle.afp_serial.specs.OpenVol.{open_vol_reply, opens_volume, state_named, volume_named}
 use Rattle.afp_serial.specs.Rows.{effect, row}
+use Rattle.afp_serial.specs.SessionToken.{old_session_in, rejoins}
 use Rattle.afp_serial.specs.Sound.{IsSound}
 use Rattle.afp_serial.specs.World.{Effect, plain, refused_before, volume_at, World, Session}
 use Rattle.volume_spec.proofs.Formed.{formed-parts}
@@ -154,6 +155,11 @@ locks-short most w asked f reply (Some range) short = short range.from
 short-row : (w : World) (s : Session) (call : Call) (most : ℕ) → Within most (effect w s call).reply → most < length (canonical_reply (effect w s call).reply) → TellsAlone w s call
 short-row w s call most short long = absurd (passes-not most (effect w s call).reply short long)
 
+-- the old session comes back with no bytes
+rejoins-short : (w : World) (s : Session) (old : Option Session) → Within 0 (rejoins w s old).reply
+rejoins-short w s None = omega arith
+rejoins-short w s (Some old) = omega arith
+
 keeps : (o : Option OpenFile) → committed_with o (λ f. None) ≡ None
 keeps None = refl
 keeps (Some f) = refl
@@ -170,6 +176,7 @@ long-tells w s (CloseVol volume) h passes = short-row w s (CloseVol volume) 0 (o
 long-tells w s (CreateDir volume dir path) h passes = short-row w s (CreateDir volume dir path) 4 (on-volume-short 4 w (volume_at w.volumes volume.0) _ (λ v. u32-short 4 (create_dir_id v) (omega arith)))
 long-tells w s (CreateFile flag volume dir path) h passes = short-row w s (CreateFile flag volume dir path) 0 (on-volume-short 0 w (volume_at w.volumes volume.0) _ (λ v. omega arith))
 long-tells w s (Delete volume dir path) h passes = short-row w s (Delete volume dir path) 0 (on-volume-short 0 w (volume_at w.volumes volume.0) _ (λ v. omega arith))
+long-tells w s (DisconnectOldSession kind token) h passes = short-row w s (DisconnectOldSession kind token) 0 (rejoins-short w s (old_session_in w s token))
 long-tells w s (Enumerate volume dir file_bits dir_bits count start size path) h passes = λ long. record { world = on-volume-stands w (volume_at w.volumes volume.0) _ (λ v. refl); keeper = refl }
 long-tells w s (EnumerateExt volume dir file_bits dir_bits count start size path) h passes = λ long. record { world = on-volume-stands w (volume_at w.volumes volume.0) _ (λ v. refl); keeper = refl }
 long-tells w s (EnumerateExt2 volume dir file_bits dir_bits count start size path) h passes = λ long. record { world = on-volume-stands w (volume_at w.volumes volume.0) _ (λ v. refl); keeper = refl }
@@ -177,6 +184,7 @@ long-tells w s (Flush volume) h passes = short-row w s (Flush volume) 0 (omega a
 long-tells w s (FlushFork reference) h passes = short-row w s (FlushFork reference) 0 (on-fork-short 0 w (open_file w s reference.0) _ (λ f. omega arith))
 long-tells w s (GetFileDirParms volume dir file_bits dir_bits path) h passes = λ long. record { world = on-volume-stands w (volume_at w.volumes volume.0) _ (λ v. refl); keeper = refl }
 long-tells w s (GetForkParms reference bits) h passes = λ long. record { world = on-fork-stands w (open_file w s reference.0) _ (λ f. refl); keeper = keeps (open_file w s reference.0) }
+long-tells w s (GetSessionToken kind stamp id) h passes = λ long. record { world = refl; keeper = refl }
 long-tells w s (GetVolParms volume bits) h passes = λ long. record { world = on-volume-stands w (volume_at w.volumes volume.0) _ (λ v. refl); keeper = refl }
 long-tells w s (Login version uam tail) h passes = short-row w s (Login version uam tail) 0 (omega arith)
 long-tells w s Logout h passes = short-row w s Logout 0 (omega arith)

@@ -296,6 +296,7 @@ denial-told : (call : Call) (w : World) (asked : OpenAsked) (v : VolumeState) (f
 unfolding opened_reply
 denial-told call w asked v file denies served f inside = record {
   code = refl;
+  kept = refl;
   short = reply-short w asked 0 v file served f;
   fits = record {
     fits = (omega arith, record { within = within file_mask asked.bits inside; answer = file-answer v (opened_on w asked.volume) asked.bits f.id file f.row f.kind served.sound served.typed });

@@ -1,8 +1,8 @@
 -- What OpenVol does keeps a sound world sound.
-use Rattle.std.proofs.Common.{◌≡◌, sym, refl, subst, ℕ, Bool, true, false, List, [], ◌∷◌, ◌++◌, Option, Some, None}
+use Rattle.std.proofs.Common.{◌≡◌, sym, refl, subst, ℕ, Bool, true, false, List, [], ◌∷◌, ◌∙◌, Option, Some, None}
 use Rattle.std.specs.Prelude.{◌==◌, find, is_none}
 use Rattle.std.specs.List.{list_all, list_any}
-use Rattle.std.proofs.lemmas.Bool.{and_parts, and_from, cond_both}
+use Rattle.std.proofs.lemmas.Bool.{and_parts, and_from, cond_both, or_right}
 use Rattle.afp_base.specs.Choice.{first_holding}
 use Rattle.afp_base.specs.declared.code.Code.TheVariants.{ObjectNotFound}
 use Rattle.afp_bitmap.specs.declared.params.Values.TheVariants.{Volume}
@@ -11,6 +11,7 @@ use Rattle.afp_replies.specs.declared.reply.Reply.TheVariants.{Params}
 use Rattle.afp_replies.specs.Commands.{rows, shape_in, shape_of}
 use Rattle.afp_calls_grammar.specs.declared.call.Call.TheVariants.{OpenVol}
 use Rattle.afp_serial.proofs.OnVolumeRows.{Asks, IsToldTo, refused_before-none, refused_before-refused, told-shown}
+use Rattle.afp_serial.proofs.PlacedLists.{any-placed}
 use Rattle.afp_serial.proofs.Replaced.{TakesPlace, number_of, numbered, replaced-apart, replaced-old, replaced-sound, volume-kept}
 use Rattle.afp_serial.proofs.SoundParts.{ApartSessions, sessions-parts, opens-parts, caches-parts}
 use Rattle.afp_serial.proofs.SoundRow.{IsSoundRow, no-keeper, no_more-refuses}
@@ -19,11 +20,12 @@ use Rattle.afp_serial.proofs.VolumeCodes.{volume-refuses}
 use Rattle.afp_serial.proofs.VolumeStates.{served-at}
 use Rattle.afp_serial.specs.SessionLaws.{SessionsAfter, all_stay, asking_changes}
 use Rattle.afp_serial.specs.World.{plain, refused_before, has_opened, has_session, volume_at, with_session, World, Session}
+use Rattle.afp_serial.specs.OnFork.{placed}
 use Rattle.afp_serial.specs.OpenVol.{open_vol_row, opens_volume, state_named, volume_named, with_volume}
 use Rattle.afp_serial.specs.Sound.{IsSound, has_volume_open, is_file_of, is_lawful_open, is_lawful_cache}
 use Rattle.volume_spec.specs.GetVolParms.{get_vol_parms_refusal}
 use Rattle.volume_spec.specs.VolumeState.{VolumeState}
-use Rattle.afp_base.proofs.ListFacts.{all-put, all-weaker, any-longer, find-all}
+use Rattle.afp_base.proofs.ListFacts.{all-put, all-weaker, find-all}
 
 -- what was open stays open
 
@@ -32,9 +34,9 @@ opened-way w s test volume found = record { test = test; found = found; number =
 
 still-open : (s : Session) (v u : ℕ) → has_opened s u ≡ true → has_opened (with_volume s v) u ≡ true
 still-open s v u had =
-    cond_both (has_opened s v) s.volumes (s.volumes ++ v ∷ []) (λ l. list_any (λ other. other == u) l ≡ true)
+    cond_both (has_opened s v) s.volumes (placed (λ n. n) v s.volumes) (λ l. list_any (λ other. other == u) l ≡ true)
     (λ twice. had)
-    (λ new. any-longer (λ other. other == u) s.volumes (v ∷ []) had)
+    (λ new. any-placed (λ n. n) v (λ other. other == u) s.volumes ∙ or_right (v == u) (list_any (λ other. other == u) s.volumes) had)
 
 with-volume-sound : (w : World) (s : Session) (test : Session → Bool) (v : ℕ) → find test w.sessions ≡ Some s → IsSound w → IsSound (with_session w (with_volume s v))
 with-volume-sound w s test v found h =

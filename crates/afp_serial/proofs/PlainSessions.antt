@@ -4,13 +4,16 @@ use Rattle.std.specs.Prelude.{slice_get, ◌==◌, ◌||◌}
 use Rattle.std.proofs.lemmas.Bool.{cond_both, eq-eqb, eqb-true, false≢true, or_cases}
 use Rattle.std.proofs.lemmas.List.Folds.{list_any-append}
 use Rattle.std.proofs.lemmas.List.Sums.{sum_by-cons}
-use Rattle.afp_base.specs.Cached.{Request}
+use Rattle.afp_base.specs.Cached.{Request, Answer}
 use Rattle.afp_base.specs.declared.code.Code.TheVariants as code
 use Rattle.afp_base.specs.declared.ids.LinkNumber.{LinkNumber}
 use Rattle.afp_serial.proofs.Closed.{ending-apart}
 use Rattle.afp_serial.proofs.FreshWorld.{start-apart}
 use Rattle.afp_serial.proofs.Keeps.{AnyCall, Keeps, after-keeps, nothing-known}
+use Rattle.afp_serial.proofs.KeptAnswers.{kept-apart, kept-old}
 use Rattle.afp_serial.proofs.Opened.{opened-apart}
+use Rattle.afp_serial.proofs.OtherPlaces.{waiting, waits-apart}
+use Rattle.afp_serial.proofs.Replaced.{replaced-old}
 use Rattle.afp_serial.proofs.RowsSound.{row-sound}
 use Rattle.afp_serial.proofs.SoundParts.{ApartSessions, same_link}
 use Rattle.afp_serial.specs.declared.ask.Ask.{Ask}
@@ -20,7 +23,8 @@ use Rattle.afp_serial.specs.declared.ask.Outcome.{Outcome}
 use Rattle.afp_serial.specs.declared.ask.Outcome.TheVariants as outcome
 use Rattle.afp_serial.specs.declared.ask.Told.{Told}
 use Rattle.afp_serial.specs.declared.ask.Told.TheVariants as told
-use Rattle.afp_serial.specs.Answer.{answer, after, answer_at, after_at, after_call, after_parting, after_verdict, is_full, link_number, new_session, refusal_reply, request, told_call, told_parting, told_pulse, told_verdict, with_new_session, Verdict, repeats, refused, runs, verdict}
+use Rattle.afp_serial.specs.Answer.{answer, after, answer_at, after_at, after_call, after_lost, after_parting, after_verdict, losing, newly_kept, is_full, link_number, new_session, refusal_reply, request, told_call, told_parting, told_pulse, told_verdict, with_new_session, Verdict, repeats, refused, runs, verdict}
+use Rattle.afp_serial.specs.KeptAnswers.{keeping}
 use Rattle.afp_serial.specs.History.{answers, is_opened, opened_in, stand}
 use Rattle.afp_serial.specs.Laws.{LinksDiffer, CountsSessions, NeverTwice, OnlyOpens, OpensNew}
 use Rattle.afp_serial.specs.World.{is_expired, has_session, session_at, World, Session, at_moment, start_world}
@@ -36,7 +40,8 @@ apart-keeps = record {
   calls = λ w s call test none found passes a. (row-sound call).apart w s test found a;
   ends = ending-apart;
   drains = λ w a. record { numbers = a.numbers; links = a.links; below = a.below };
-  stores = λ w s r told a. a;
+  loses = λ w s test found a. waits-apart w s test found a;
+  stores = λ w s r test o a knows found is h q. kept-apart (after_verdict w s (verdict w s r) o) s.number r a q;
 }
 
 stand-apart : (w : World) (h : List Entry) → ApartSessions w → ApartSessions (stand w h)
@@ -65,9 +70,15 @@ verdict-draws w s (refused c) o = record { told = refl; next = refl; old = λ n 
 verdict-draws w s (runs call) outcome.Fault = record { told = refl; next = refl; old = λ n h. h }
 verdict-draws w s (runs call) outcome.Done = record { told = refl; next = (row-sound call).next w s; old = (row-sound call).old w s }
 
+keeping-draws : (w : World) (t : Told) (v : World) (number : ℕ) (r : Request) (a : Option Answer) → DrawsNone w t v → DrawsNone w t (keeping v number r a)
+keeping-draws w t v number r None d = d
+keeping-draws w t v number r (Some a) d = record { told = d.told; next = d.next; old = λ n h. d.old n (kept-old v number r a n h) }
+
 call-draws : (w : World) (session : Option Session) (r : Request) (o : Outcome) → DrawsNone w (told_call w session r o) (after_call w session r o)
 call-draws w None r o = record { told = refl; next = refl; old = λ n h. h }
-call-draws w (Some s) r o = verdict-draws w s (verdict w s r) o
+call-draws w (Some s) r o =
+    let v : Verdict = verdict w s r in
+    keeping-draws w (told_verdict w s v o) (after_verdict w s v o) s.number r (newly_kept r v (told_verdict w s v o)) (verdict-draws w s v o)
 
 pulse-told : (w : World) (link : ℕ) (session : Option Session) → is_opened (told_pulse w link session) ≡ false
 pulse-told w link None = cond_both (eqb link 0) (told.Live w.drain) told.Displaced (λ t. is_opened t ≡ false) (λ none. refl) (λ other. refl)
@@ -76,6 +87,14 @@ pulse-told w link (Some s) = refl
 parting-draws : (w : World) (session : Option Session) → DrawsNone w (told_parting session) (after_parting w session)
 parting-draws w None = record { told = refl; next = refl; old = λ n h. h }
 parting-draws w (Some s) = record { told = refl; next = refl; old = λ n h. any-filter (λ x. x.number == n) (λ x. not (x.number == s.number)) w.sessions h }
+
+losing-draws : (w : World) (s : Session) (user : Option ℕ) → DrawsNone w told.Done (losing w s user)
+losing-draws w s None = record { told = refl; next = refl; old = λ n h. any-filter (λ x. x.number == n) (λ x. not (x.number == s.number)) w.sessions h }
+losing-draws w s (Some user) = record { told = refl; next = refl; old = λ n h. replaced-old w (waiting s w.latest) n h }
+
+lost-draws : (w : World) (session : Option Session) → DrawsNone w (told_parting session) (after_lost w session)
+lost-draws w None = record { told = refl; next = refl; old = λ n h. h }
+lost-draws w (Some s) = losing-draws w s s.user
 
 -- an entry is told the next number and adds a session of it, or draws none
 data Draws (w : World) (t : Told) (v : World) : Type 0 where
@@ -92,7 +111,7 @@ at-draws w link (ask.Open attention) o = opened (is_full w)
 at-draws w link (ask.Call id write offset payload) o = none_new (call-draws w (session_at w link) (request id write offset payload) o)
 at-draws w link ask.Pulse o = none_new (record { told = pulse-told w link (session_at w link); next = refl; old = λ n h. any-filter (λ x. x.number == n) (λ x. not (is_expired w.latest x.place)) w.sessions h })
 at-draws w link ask.Bye o = none_new (parting-draws w (session_at w link))
-at-draws w link ask.Lost o = none_new (parting-draws w (session_at w link))
+at-draws w link ask.Lost o = none_new (lost-draws w (session_at w link))
 at-draws w link ask.Drain o = none_new (record { told = refl; next = refl; old = λ n h. h })
 
 -- the number that is told, and the next one

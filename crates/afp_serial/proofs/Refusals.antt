@@ -11,7 +11,8 @@ use Rattle.afp_serial.proofs.SoundRow.{IsRefusedTo, is_ok, is_short}
 use Rattle.afp_serial.specs.World.{Refused, plain, World, Session}
 use Rattle.afp_serial.specs.Rows.{refusal}
 use Rattle.afp_serial.specs.Sound.{IsSound}
-use Rattle.afp_serial.specs.Answer.{Verdict, repeats, refused, runs, block_of, enclosed_of, needs_user, verdict_of_row, verdict_of_spelling, verdict_of_block, verdict_of_kept, verdict}
+use Rattle.afp_serial.specs.Answer.{Verdict, repeats, refused, runs, needs_user, verdict_of_row, verdict_of_spelling, verdict_of_block, verdict_of_kept, verdict}
+use Rattle.afp_serial.specs.KeptAnswers.{block_of, enclosed_of}
 
 abbrev pub refuses_shortly : Verdict → Bool
 refuses_shortly (repeats answer) = true

@@ -6,13 +6,15 @@ use Rattle.afp_base.specs.declared.code.Code.{Code}
 use Rattle.afp_base.specs.declared.code.Code.TheVariants as code
 use Rattle.afp_replies.proofs.Asking.{nothing_fits}
 use Rattle.afp_replies.proofs.Showing.{what_fits_a_request}
+use Rattle.afp_replies.specs.Commands.{shape_of}
 use Rattle.afp_replies.specs.Replies.{Shows, canonical_reply}
+use Rattle.afp_replies.specs.Requested.{tells_nothing}
 use Rattle.afp_replies.specs.declared.reply.Reply.TheVariants.{Empty}
 use Rattle.afp_replies.specs.declared.reply.ReplyKind.{ReplyKind}
 use Rattle.afp_calls_grammar.specs.Spelt.{spelt_call}
 use Rattle.afp_serial.proofs.RowsSound.{row-sound}
 use Rattle.afp_serial.proofs.ShownAnswers.{block_in, code_of, ends_in}
-use Rattle.afp_serial.proofs.SoundRow.{is_refused, tells_no_more, no_more-nothing, no_more-parts}
+use Rattle.afp_serial.proofs.SoundRow.{is_refused, no_more-nothing, no_more-parts}
 use Rattle.afp_serial.proofs.StaysSound.{legal-moment, moment-sound}
 use Rattle.afp_serial.proofs.Verdicts.{Refuses, refused-by, repeats-kept}
 use Rattle.afp_serial.specs.declared.ask.Ask.{Ask}
@@ -22,7 +24,8 @@ use Rattle.afp_serial.specs.declared.ask.Outcome.{Outcome}
 use Rattle.afp_serial.specs.declared.ask.Outcome.TheVariants as outcome
 use Rattle.afp_serial.specs.declared.ask.Told.{Told}
 use Rattle.afp_serial.specs.declared.ask.Told.TheVariants as told
-use Rattle.afp_serial.specs.Answer.{answer_at, is_full, link_number, refusal_reply, refused_reply, request, told_call, told_parting, told_pulse, told_verdict, Verdict, block_of, enclosed_of, refused, repeats, runs, verdict}
+use Rattle.afp_serial.specs.Answer.{answer_at, is_full, link_number, refusal_reply, refused_reply, request, told_call, told_parting, told_pulse, told_verdict, Verdict, refused, repeats, runs, verdict}
+use Rattle.afp_serial.specs.KeptAnswers.{block_of, enclosed_of}
 use Rattle.afp_serial.specs.World.{Refused, session_at, World, Session, at_moment}
 use Rattle.afp_serial.specs.Laws.{IsKeptAnswer, IsRowRefusal, RefusesShown, TellsNothing}
 use Rattle.afp_serial.specs.ReplyKinds.{reply_kind}
@@ -32,8 +35,12 @@ abbrev is_reply : Told → Bool
 is_reply (told.Reply c block ends) = true
 is_reply t = false
 
-nothing-shown : (c : Code) (kind : ReplyKind) → tells_no_more c ≡ true → Shows Empty kind c []
-nothing-shown c kind no_more = what_fits_a_request Empty kind c (nothing_fits kind c (no_more-nothing kind.command c no_more))
+-- no request is told more under the code
+abbrev IsBare : Code → Type 0
+IsBare c = (command : ℕ) → tells_nothing (shape_of command) c ≡ true
+
+nothing-shown : (c : Code) (kind : ReplyKind) → IsBare c → Shows Empty kind c []
+nothing-shown c kind bare = what_fits_a_request Empty kind c (nothing_fits kind c (bare kind.command))
 
 -- what an answer says that is not Ok
 abbrev Says : World → Entry → Code → List ℕ → Bool → Type 0
@@ -43,19 +50,19 @@ module _ (w : World) (e : Entry) (c : Code) (block : List ℕ) (ends : Bool) (ot
   no-reply : (t : Told) → is_reply t ≡ false → t ≡ told.Reply c block ends → Says w e c block ends
   no-reply t none tells = let bad : true ≡ false = sym (ap is_reply tells) ∙ none in absurd (cc)
 
-  says-nothing : (x : Code) → tells_no_more x ≡ true → refusal_reply x ≡ told.Reply c block ends → Says w e c block ends
-  says-nothing x no_more tells = (
+  says-nothing : (x : Code) → IsBare x → refusal_reply x ≡ told.Reply c block ends → Says w e c block ends
+  says-nothing x bare tells = (
     sym (ap ends_in tells),
     inr (inr (record {
       bytes = sym (ap block_in tells);
-      shows = λ kind. subst (λ (t : Told). Shows Empty kind (code_of t) (block_in t)) tells (nothing-shown x kind no_more);
+      shows = λ kind. subst (λ (t : Told). Shows Empty kind (code_of t) (block_in t)) tells (nothing-shown x kind bare);
     })),
   )
 
   says-no_more : (x : Refused) → is_refused x ≡ true → refused_reply x ≡ told.Reply c block ends → Says w e c block ends
   says-no_more x no_more tells =
       let parts = no_more-parts x no_more in
-      says-nothing x.code parts.1 (ap (λ r. told.Reply x.code (canonical_reply r) false) (sym parts.0) ∙ tells)
+      says-nothing x.code (λ command. no_more-nothing command x.code parts.1) (ap (λ r. told.Reply x.code (canonical_reply r) false) (sym parts.0) ∙ tells)
 
   module _ (id : ℕ) (write : Bool) (offset : ℕ) (payload : List ℕ) (asked : e.ask ≡ ask.Call id write offset payload) where
     says-refused : (s : Session) (x : Refused) → session_at w e.link.0 ≡ Some s → Refuses (at_moment w e.at) s (spelt_call (block_of (request id write offset payload)) (enclosed_of (request id write offset payload))) x → refused_reply x ≡ told.Reply c block ends → Says w e c block ends
@@ -96,7 +103,7 @@ module _ (w : World) (e : Entry) (c : Code) (block : List ℕ) (ends : Bool) (ot
       }),
     )
     verdict-refused s (refused x) o attached is tells = says-refused s x attached (refused-by (at_moment w e.at) s (request id write offset payload) x is) tells
-    verdict-refused s (runs call) outcome.Fault attached is tells = says-nothing code.MiscErr refl tells
+    verdict-refused s (runs call) outcome.Fault attached is tells = says-nothing code.MiscErr (λ command. refl) tells
     verdict-refused s (runs call) outcome.Done attached is tells = absurd (other (sym (ap code_of tells)))
 
     call-refused : (session : Option Session) (o : Outcome) → session_at w e.link.0 ≡ session → told_call (at_moment w e.at) session (request id write offset payload) o ≡ told.Reply c block ends → Says w e c block ends
@@ -104,7 +111,7 @@ module _ (w : World) (e : Entry) (c : Code) (block : List ℕ) (ends : Bool) (ot
     call-refused (Some s) o at tells = verdict-refused s (verdict (at_moment w e.at) s (request id write offset payload)) o at refl tells
 
   open-refused : (full : Bool) (l : ℕ) → cond full (refusal_reply code.NoMoreSessions) (told.Opened (link_number l)) ≡ told.Reply c block ends → Says w e c block ends
-  open-refused true l tells = says-nothing code.NoMoreSessions refl tells
+  open-refused true l tells = says-nothing code.NoMoreSessions (λ command. refl) tells
   open-refused false l tells = no-reply (told.Opened (link_number l)) refl tells
 
   pulse-refused : (v : World) (link : ℕ) (session : Option Session) → told_pulse v link session ≡ told.Reply c block ends → Says w e c block ends

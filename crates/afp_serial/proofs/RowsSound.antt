@@ -1,13 +1,14 @@
 -- What each call's row owes; here it is only dispatched.
 use Rattle.std.proofs.Common.{refl}
 use Rattle.afp_calls_grammar.specs.declared.call.Call.{Call}
-use Rattle.afp_calls_grammar.specs.declared.call.Call.TheVariants.{ByteRangeLock, ByteRangeLockExt, CloseDir, CloseFork, CloseVol, CreateDir, CreateFile, Delete, Enumerate, EnumerateExt, EnumerateExt2, Flush, FlushFork, GetFileDirParms, GetForkParms, GetVolParms, Login, Logout, MoveAndRename, OpenDir, OpenFork, OpenVol, Read, ReadExt, Rename, SetDirParms, SetFileDirParms, SetFileParms, SetForkParms, SetVolParms, Write, WriteExt}
+use Rattle.afp_calls_grammar.specs.declared.call.Call.TheVariants.{ByteRangeLock, ByteRangeLockExt, CloseDir, CloseFork, CloseVol, CreateDir, CreateFile, Delete, DisconnectOldSession, Enumerate, EnumerateExt, EnumerateExt2, Flush, FlushFork, GetFileDirParms, GetForkParms, GetSessionToken, GetVolParms, Login, Logout, MoveAndRename, OpenDir, OpenFork, OpenVol, Read, ReadExt, Rename, SetDirParms, SetFileDirParms, SetFileParms, SetForkParms, SetVolParms, Write, WriteExt}
 use Rattle.afp_serial.proofs.CloseVolRow.{close-vol-sound}
 use Rattle.afp_serial.proofs.ForkRows.{close-fork-sound, flush-fork-sound, get-fork-parms-sound, read-ext-sound, read-sound}
 use Rattle.afp_serial.proofs.LockRows.{byte-range-lock-ext-sound, byte-range-lock-sound}
 use Rattle.afp_serial.proofs.LoginRows.{login-sound, logout-sound}
 use Rattle.afp_serial.proofs.OpenForkRow.{open-fork-sound}
 use Rattle.afp_serial.proofs.OpenVolRow.{open-vol-sound}
+use Rattle.afp_serial.proofs.SessionTokenRows.{disconnect-old-session-sound, get-session-token-sound}
 use Rattle.afp_serial.proofs.SoundRow.{IsSoundRow, no-keeper, no_more-refuses}
 use Rattle.afp_serial.proofs.TellRows.{close-dir-sound, enumerate-ext-sound, enumerate-ext2-sound, enumerate-sound, flush-sound, get-file-dir-parms-sound, get-vol-parms-sound, open-dir-sound}
 use Rattle.afp_serial.proofs.TreeRows.{create-dir-sound, create-file-sound, delete-sound, move-and-rename-sound, rename-sound, set-dir-parms-sound, set-file-dir-parms-sound, set-file-parms-sound, set-vol-parms-sound}
@@ -40,6 +41,7 @@ row-sound (CloseVol volume) = close-vol-sound volume
 row-sound (CreateDir volume dir path) = create-dir-sound volume dir path
 row-sound (CreateFile flag volume dir path) = create-file-sound flag volume dir path
 row-sound (Delete volume dir path) = delete-sound volume dir path
+row-sound (DisconnectOldSession kind token) = disconnect-old-session-sound kind token
 row-sound (Enumerate volume dir file_bits dir_bits count start size path) = enumerate-sound volume dir file_bits dir_bits count start size path
 row-sound (EnumerateExt volume dir file_bits dir_bits count start size path) = enumerate-ext-sound volume dir file_bits dir_bits count start size path
 row-sound (EnumerateExt2 volume dir file_bits dir_bits count start size path) = enumerate-ext2-sound volume dir file_bits dir_bits count start size path
@@ -47,6 +49,7 @@ row-sound (Flush volume) = flush-sound volume
 row-sound (FlushFork reference) = flush-fork-sound reference
 row-sound (GetFileDirParms volume dir file_bits dir_bits path) = get-file-dir-parms-sound volume dir file_bits dir_bits path
 row-sound (GetForkParms reference bits) = get-fork-parms-sound reference bits
+row-sound (GetSessionToken kind stamp id) = get-session-token-sound kind stamp id
 row-sound (GetVolParms volume bits) = get-vol-parms-sound volume bits
 row-sound (Login version uam tail) = login-sound version uam tail
 row-sound Logout = logout-sound

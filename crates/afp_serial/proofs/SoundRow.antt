@@ -7,7 +7,7 @@ use Rattle.afp_base.specs.Cached.{Kept}
 use Rattle.afp_base.specs.Limits.{payload_limit}
 use Rattle.afp_base.specs.Choice.{first_holding}
 use Rattle.afp_base.specs.declared.code.Code.{Code}
-use Rattle.afp_base.specs.declared.code.Code.TheVariants.{DenyConflict, EOFErr, Ok}
+use Rattle.afp_base.specs.declared.code.Code.TheVariants.{DenyConflict, EOFErr, MiscErr, NoMemory, Ok}
 use Rattle.afp_replies.proofs.Asking.{nothing_fits}
 use Rattle.afp_replies.specs.Commands.{shape_of}
 use Rattle.afp_replies.specs.Replies.{Shows, canonical_reply}
@@ -17,6 +17,7 @@ use Rattle.afp_replies.specs.declared.reply.Reply.TheVariants.{Empty}
 use Rattle.afp_calls_grammar.specs.declared.call.Call.{Call}
 use Rattle.afp_serial.proofs.SoundParts.{ApartSessions}
 use Rattle.afp_serial.specs.World.{Refusal, Refused, CallRow, has_session, World, Session}
+use Rattle.afp_serial.specs.KeptAnswers.{is_kept_code}
 use Rattle.afp_serial.specs.LawfulCall.{is_lawful_call}
 use Rattle.afp_serial.specs.ReplyKinds.{command_of, reply_kind}
 use Rattle.afp_serial.specs.SessionLaws.{RowLeavesSessions}
@@ -30,9 +31,11 @@ abbrev pub is_ok : Code → Bool
 is_ok Ok = true
 is_ok code = false
 
--- the codes under which no request is told more
+-- the codes of rows under which no request is told more
 abbrev pub tells_no_more : Code → Bool
 tells_no_more Ok = false
+tells_no_more MiscErr = false
+tells_no_more NoMemory = false
 tells_no_more DenyConflict = false
 tells_no_more EOFErr = false
 tells_no_more code = true
@@ -45,9 +48,11 @@ is_nothing reply = false
 abbrev pub is_refused : Refused → Bool
 is_refused r = is_nothing r.reply && tells_no_more r.code
 
--- What a request of a call is told by a refusal: its code is not Ok, and the reply fits in a frame and can be told under that code.
+-- What a request of a call is told by a refusal: its code is not Ok nor that of a fault or of want of memory, and the reply fits in a frame and
+-- can be told under that code.
 pub record IsRefusedTo (call : Call) (r : Refused) : Type 0 where
   pub code : is_ok r.code ≡ false
+  pub kept : is_kept_code r.code ≡ true
   pub short : is_short r.reply ≡ true
   pub fits : FitsRequest (reply_kind call) r.code r.reply
 
@@ -58,6 +63,11 @@ nothing-is reply h = absurd (cc)
 no_more-not-ok : (code : Code) → tells_no_more code ≡ true → is_ok code ≡ false
 no_more-not-ok Ok h = absurd (cc)
 no_more-not-ok code h = refl
+
+no_more-kept : (code : Code) → tells_no_more code ≡ true → is_kept_code code ≡ true
+no_more-kept MiscErr h = absurd (cc)
+no_more-kept NoMemory h = absurd (cc)
+no_more-kept code h = refl
 
 pub no_more-nothing : (command : ℕ) (code : Code) → tells_no_more code ≡ true → tells_nothing (shape_of command) code ≡ true
 no_more-nothing command Ok h = absurd (cc)
@@ -74,6 +84,7 @@ no_more-told call r h =
     let e = no_more-parts r h in
     record {
       code = no_more-not-ok r.code e.1;
+      kept = no_more-kept r.code e.1;
       short = ap is_short e.0;
       fits = subst (FitsRequest (reply_kind call) r.code) (sym e.0) (nothing_fits (reply_kind call) r.code (no_more-nothing (command_of call) r.code e.1));
     }

@@ -1,6 +1,6 @@
 -- A sound world stays sound, and what is told there is an answer to the ask and fits in a frame.
 use Rattle.std.proofs.Common.{◌≡◌, ◌∙◌, ap, sym, refl, ℕ, ◌≤◌, zero, suc, max, arith, Bool, true, not, ◌&&◌, cond, List, [], ◌∷◌, length, take, Option, Some, None}
-use Rattle.std.specs.Prelude.{nat_le, ◌==◌}
+use Rattle.std.specs.Prelude.{find, is_none, nat_le, ◌==◌, ◌||◌}
 use Rattle.std.specs.List.{list_all}
 use Rattle.std.proofs.lemmas.Bool.{and_parts, cond_both, le-leb, leb-true}
 use Rattle.afp_base.specs.Limits.{payload_limit, replay_cache_size}
@@ -11,20 +11,24 @@ use Rattle.afp_calls_grammar.specs.Spelt.{spelt_call}
 use Rattle.afp_calls_grammar.specs.declared.call.Call.{Call}
 use Rattle.afp_serial.proofs.Closed.{ending-sound}
 use Rattle.afp_serial.proofs.Keeps.{IsKnown, Keeps, after-keeps}
+use Rattle.afp_serial.proofs.KeptAnswers.{has_none, kept-sound}
+use Rattle.afp_serial.proofs.OtherPlaces.{only-number, waits-sound}
 use Rattle.afp_serial.proofs.LawfulCalls.{ask-lawful}
 use Rattle.afp_serial.proofs.Opened.{opened-sound}
 use Rattle.afp_serial.proofs.RowsSound.{row-sound}
-use Rattle.afp_serial.proofs.SoundParts.{caches-parts, fields-parts, fields-whole}
+use Rattle.afp_serial.proofs.SoundParts.{caches-parts, fields-parts, fields-whole, sessions-parts}
 use Rattle.afp_serial.proofs.Refusals.{refuses_shortly, verdict-short}
 use Rattle.afp_serial.proofs.SoundRow.{is_ok, is_short}
-use Rattle.afp_serial.proofs.Verdicts.{comes-to, repeats-kept}
+use Rattle.afp_serial.proofs.Verdicts.{comes-to, kept-verdict, repeats-kept}
 use Rattle.afp_serial.specs.declared.ask.Ask.{Ask}
 use Rattle.afp_serial.specs.declared.ask.Ask.TheVariants as ask
 use Rattle.afp_serial.specs.declared.ask.Entry.{Entry}
 use Rattle.afp_serial.specs.declared.ask.Outcome.{Outcome}
 use Rattle.afp_serial.specs.declared.ask.Outcome.TheVariants as outcome
+use Rattle.afp_serial.specs.declared.ask.Told.{Told}
 use Rattle.afp_serial.specs.declared.ask.Told.TheVariants as told
-use Rattle.afp_serial.specs.Answer.{answer, after, committed_of, drain_moment, is_legal, is_legal_outcome, request, refusal_reply, link_number, is_full, told_verdict, told_call, told_pulse, told_parting, answer_at, Verdict, repeats, refused, runs, block_of, enclosed_of, verdict}
+use Rattle.afp_serial.specs.Answer.{answer, after, committed_of, drain_moment, is_legal, is_legal_outcome, request, refusal_reply, link_number, is_full, after_verdict, newly_kept, told_verdict, told_call, told_pulse, told_parting, answer_at, Verdict, repeats, refused, runs, verdict}
+use Rattle.afp_serial.specs.KeptAnswers.{block_of, enclosed_of, is_kept, kept_answer}
 use Rattle.afp_serial.specs.History.{is_lawful, stand}
 use Rattle.afp_serial.specs.LawfulCall.{is_lawful_call}
 use Rattle.afp_serial.specs.Ranges.{is_moment, is_moment_or_none, is_typed_ask, is_typed_entry}
@@ -79,13 +83,104 @@ drain-sound w h =
 abbrev pub IsLawful : Call → Type 0
 IsLawful call = is_lawful_call call ≡ true
 
+-- what a call is told fits in a frame
+
+abbrev is_short_answer : Kept → Bool
+is_short_answer kept = nat_le (length kept.answer.block) payload_limit
+
+abbrev is_kept_one : Kept → Bool
+is_kept_one kept = is_kept kept.request kept.answer.code
+
+either-fits : (a b : Option Answer) (x : Answer) → ((y : Answer) → a ≡ Some y → nat_le (length y.block) payload_limit ≡ true) → ((y : Answer) → b ≡ Some y → nat_le (length y.block) payload_limit ≡ true) → either a b ≡ Some x → nat_le (length x.block) payload_limit ≡ true
+either-fits (Some a) b x p q h = p x h
+either-fits None b x p q h = q x h
+
+kept-fits : (cache : List Kept) (r : Request) (x : Answer) → list_all is_short_answer cache ≡ true → cached_answer cache r ≡ Some x → nat_le (length x.block) payload_limit ≡ true
+kept-fits [] r x short h = absurd (cc)
+kept-fits (k ∷ ks) r x short h =
+    let e = and_parts (is_short_answer k) (list_all is_short_answer ks) short in
+    either-fits (cached_answer ks r) (cond (is_repeat k.request r) (Some k.answer) None) x
+    (λ y is. kept-fits ks r y e.1 is)
+    (λ y. cond_both (is_repeat k.request r) (Some k.answer) None (λ o. o ≡ Some y → nat_le (length y.block) payload_limit ≡ true)
+    (λ same is. let this : k.answer ≡ y = cc in ap (λ (a : Answer). nat_le (length a.block) payload_limit) (sym this) ∙ e.0)
+    (λ other is. absurd (cc)))
+    h
+
+short-cache : (cache : List Kept) → is_lawful_cache cache ≡ true → list_all is_short_answer cache ≡ true
+short-cache cache h =
+    let e = and_parts (nat_le (length cache) replay_cache_size) (are_apart (λ a b. is_repeat a.request b.request) cache && (list_all is_short_answer cache && list_all is_kept_one cache)) h in
+    let f = and_parts (are_apart (λ a b. is_repeat a.request b.request) cache) (list_all is_short_answer cache && list_all is_kept_one cache) e.1 in
+    (and_parts (list_all is_short_answer cache) (list_all is_kept_one cache) f.1).0
+
+verdict-fits : (w : World) (s : Session) (r : Request) → ((call : Call) → spelt_call (block_of r) (enclosed_of r) ≡ Some call → IsLawful call) → IsSound w → is_lawful_cache s.cache ≡ true → (v : Verdict) (o : Outcome) → verdict w s r ≡ v → fits_frame (told_verdict w s v o) ≡ true
+verdict-fits w s r knows h lawful (repeats answer) o is = kept-fits s.cache r answer (short-cache s.cache lawful) (repeats-kept w s r answer is)
+verdict-fits w s r knows h lawful (refused x) o is = (and_parts (is_short x.reply) (not (is_ok x.code)) (ap refuses_shortly (sym is) ∙ verdict-short w s r h)).0
+verdict-fits w s r knows h lawful (runs call) outcome.Fault is = refl
+verdict-fits w s r knows h lawful (runs call) outcome.Done is = let c = comes-to w s r call is in (row-sound call).fits w s (knows call c.spelt) c.passes h
+
+-- what is newly kept is short, and nothing was kept before
+
+newly-answer : (r : Request) (t : Told) (a : Answer) → kept_answer r t ≡ Some a → fits_frame t ≡ true → nat_le (length a.block) payload_limit ≡ true
+newly-answer r (told.Reply c block ends) a is fits =
+    cond_both (is_kept r c) (Some (record { code = c; block = block })) None (λ o. o ≡ Some a → nat_le (length a.block) payload_limit ≡ true)
+    (λ kept h. let same : block ≡ a.block = cc in ap (λ (b : List ℕ). nat_le (length b) payload_limit) (sym same) ∙ fits)
+    (λ not_kept h. absurd (cc))
+    is
+newly-answer r (told.Opened l) a is fits = absurd (cc)
+newly-answer r (told.Live d) a is fits = absurd (cc)
+newly-answer r told.Done a is fits = absurd (cc)
+newly-answer r told.Displaced a is fits = absurd (cc)
+newly-answer r told.Memory a is fits = absurd (cc)
+
+newly-short : (r : Request) (v : Verdict) (t : Told) (a : Answer) → newly_kept r v t ≡ Some a → fits_frame t ≡ true → nat_le (length a.block) payload_limit ≡ true
+newly-short r (repeats answer) t a is fits = absurd (cc)
+newly-short r (refused x) t a is fits = newly-answer r t a is fits
+newly-short r (runs call) t a is fits = newly-answer r t a is fits
+
+kept-answer-kept : (r : Request) (t : Told) (a : Answer) → kept_answer r t ≡ Some a → is_kept r a.code ≡ true
+kept-answer-kept r (told.Reply c block ends) a is =
+    cond_both (is_kept r c) (Some (record { code = c; block = block })) None (λ o. o ≡ Some a → is_kept r a.code ≡ true)
+    (λ kept h. let same : c ≡ a.code = cc in ap (is_kept r) (sym same) ∙ kept)
+    (λ not_kept h. absurd (cc))
+    is
+kept-answer-kept r (told.Opened l) a is = absurd (cc)
+kept-answer-kept r (told.Live d) a is = absurd (cc)
+kept-answer-kept r told.Done a is = absurd (cc)
+kept-answer-kept r told.Displaced a is = absurd (cc)
+kept-answer-kept r told.Memory a is = absurd (cc)
+
+newly-is-kept : (r : Request) (v : Verdict) (t : Told) (a : Answer) → newly_kept r v t ≡ Some a → is_kept r a.code ≡ true
+newly-is-kept r (repeats answer) t a is = absurd (cc)
+newly-is-kept r (refused x) t a is = kept-answer-kept r t a is
+newly-is-kept r (runs call) t a is = kept-answer-kept r t a is
+
+newly-none : (w : World) (s : Session) (r : Request) (v : Verdict) (t : Told) (a : Answer) → verdict w s r ≡ v → newly_kept r v t ≡ Some a → is_none (cached_answer s.cache r) ≡ true
+newly-none w s r v t a comes is = by (cached_answer s.cache r) refl
+  where
+    by : (o : Option Answer) → cached_answer s.cache r ≡ o → is_none o ≡ true
+    by None kept = refl
+    by (Some x) kept = let again : v ≡ repeats x = sym comes ∙ kept-verdict w s r x kept in absurd (let e : newly_kept r (repeats x) t ≡ Some a = ap (λ (y : Verdict). newly_kept r y t) (sym again) ∙ is in cc)
+
+none-after : (w : World) (s : Session) (r : Request) (test : Session → Bool) (v : Verdict) (o : Outcome) → find test w.sessions ≡ Some s → list_all (has_none s.number r) w.sessions ≡ true → list_all (has_none s.number r) (after_verdict w s v o).sessions ≡ true
+none-after w s r test (repeats a) o found h = h
+none-after w s r test (refused x) o found h = h
+none-after w s r test (runs call) outcome.Fault found h = h
+none-after w s r test (runs call) outcome.Done found h = (row-sound call).cached w s test found (λ n c. not (n == s.number) || is_none (cached_answer c r)) h
+
 pub sound-keeps : Keeps IsLawful IsSound
 sound-keeps = record {
   opens = opened-sound;
   calls = λ w s call test lawful found passes h. (row-sound call).sound w s test lawful found passes h;
   ends = ending-sound;
   drains = drain-sound;
-  stores = λ w s r told h. h;
+  loses = λ w s test found h. waits-sound w s test found h;
+  stores = λ w s r test o a knows found is h q.
+      kept-sound (after_verdict w s (verdict w s r) o) s.number r a
+      (newly-short r (verdict w s r) (told_verdict w s (verdict w s r) o) a is
+      (verdict-fits w s r knows h (find-all test (λ x. is_lawful_cache x.cache) w.sessions s found (caches-parts w h.caches)) (verdict w s r) o refl))
+      (newly-is-kept r (verdict w s r) (told_verdict w s (verdict w s r) o) a is)
+      (none-after w s r test (verdict w s r) o found (only-number test (λ x. is_none (cached_answer x.cache r)) w.sessions s (sessions-parts w h.sessions).numbers found (newly-none w s r (verdict w s r) (told_verdict w s (verdict w s r) o) a refl is)))
+      q;
 }
 
 -- a legal entry's moment
@@ -119,35 +214,6 @@ stand-sound start (e ∷ es) sound lawful (suc k) =
     stand-sound (after start e) es (after-sound start e sound both.0) both.1 k
 
 -- what is told fits in a frame
-
-abbrev is_short_answer : Kept → Bool
-is_short_answer kept = nat_le (length kept.answer.block) payload_limit
-
-either-fits : (a b : Option Answer) (x : Answer) → ((y : Answer) → a ≡ Some y → nat_le (length y.block) payload_limit ≡ true) → ((y : Answer) → b ≡ Some y → nat_le (length y.block) payload_limit ≡ true) → either a b ≡ Some x → nat_le (length x.block) payload_limit ≡ true
-either-fits (Some a) b x p q h = p x h
-either-fits None b x p q h = q x h
-
-kept-fits : (cache : List Kept) (r : Request) (x : Answer) → list_all is_short_answer cache ≡ true → cached_answer cache r ≡ Some x → nat_le (length x.block) payload_limit ≡ true
-kept-fits [] r x short h = absurd (cc)
-kept-fits (k ∷ ks) r x short h =
-    let e = and_parts (is_short_answer k) (list_all is_short_answer ks) short in
-    either-fits (cached_answer ks r) (cond (is_repeat k.request r) (Some k.answer) None) x
-    (λ y is. kept-fits ks r y e.1 is)
-    (λ y. cond_both (is_repeat k.request r) (Some k.answer) None (λ o. o ≡ Some y → nat_le (length y.block) payload_limit ≡ true)
-    (λ same is. let this : k.answer ≡ y = cc in ap (λ (a : Answer). nat_le (length a.block) payload_limit) (sym this) ∙ e.0)
-    (λ other is. absurd (cc)))
-    h
-
-short-cache : (cache : List Kept) → is_lawful_cache cache ≡ true → list_all is_short_answer cache ≡ true
-short-cache cache h =
-    let e = and_parts (nat_le (length cache) replay_cache_size) (are_apart (λ a b. is_repeat a.request b.request) cache && list_all is_short_answer cache) h in
-    (and_parts (are_apart (λ a b. is_repeat a.request b.request) cache) (list_all is_short_answer cache) e.1).1
-
-verdict-fits : (w : World) (s : Session) (r : Request) → ((call : Call) → spelt_call (block_of r) (enclosed_of r) ≡ Some call → IsLawful call) → IsSound w → is_lawful_cache s.cache ≡ true → (v : Verdict) (o : Outcome) → verdict w s r ≡ v → fits_frame (told_verdict w s v o) ≡ true
-verdict-fits w s r knows h lawful (repeats answer) o is = kept-fits s.cache r answer (short-cache s.cache lawful) (repeats-kept w s r answer is)
-verdict-fits w s r knows h lawful (refused x) o is = (and_parts (is_short x.reply) (not (is_ok x.code)) (ap refuses_shortly (sym is) ∙ verdict-short w s r h)).0
-verdict-fits w s r knows h lawful (runs call) outcome.Fault is = refl
-verdict-fits w s r knows h lawful (runs call) outcome.Done is = let c = comes-to w s r call is in (row-sound call).fits w s (knows call c.spelt) c.passes h
 
 call-fits : (w : World) (link : ℕ) (session : Option Session) (r : Request) (o : Outcome) → ((call : Call) → spelt_call (block_of r) (enclosed_of r) ≡ Some call → IsLawful call) → IsSound w → session_at w link ≡ session → fits_frame (told_call w session r o) ≡ true
 call-fits w link None r o knows h is = refl

@@ -10,7 +10,8 @@ use Rattle.afp_serial.proofs.SoundRow.{is_refused}
 use Rattle.afp_serial.specs.Laws.{ComesToCall}
 use Rattle.afp_serial.specs.World.{Refused, plain, World, Session}
 use Rattle.afp_serial.specs.Rows.{refusal}
-use Rattle.afp_serial.specs.Answer.{Verdict, repeats, refused, runs, block_of, enclosed_of, needs_user, verdict_of_row, verdict_of_spelling, verdict_of_block, verdict_of_kept, verdict}
+use Rattle.afp_serial.specs.Answer.{Verdict, repeats, refused, runs, needs_user, verdict_of_row, verdict_of_spelling, verdict_of_block, verdict_of_kept, verdict}
+use Rattle.afp_serial.specs.KeptAnswers.{block_of, enclosed_of}
 
 row-runs : (c call : Call) (code : Option Refused) → verdict_of_row c code ≡ runs call → (c ≡ call) × (code ≡ None)
 row-runs c call (Some code) h = absurd (cc)
