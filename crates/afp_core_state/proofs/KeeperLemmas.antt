@@ -28,6 +28,7 @@ outcome-done old new want after next index told tells is becomes = record {
   keepers = ap (λ (k : KeptWorld). k.faults) is;
   stand = subst (λ (xs : List ℕ). SureStand old.sure old.faults xs) (sym (ap (λ (k : KeptWorld). k.faults) is)) (stand-same old.sure old.faults);
   sure = ap (λ (k : KeptWorld). k.sure) is;
+  settled = λ none. ap (λ (k : KeptWorld). k.settled) is;
 }
 
 -- one that changes nothing

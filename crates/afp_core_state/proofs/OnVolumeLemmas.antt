@@ -2,6 +2,7 @@
 use Rattle.std.proofs.Common.{◌≡◌, ◌∙◌, ap, sym, refl, subst, ℕ, zero, suc, ◌+◌, ◌<◌, Bool, true, false, not, List, [], ◌∷◌, length, Option, Some, None, is_some, arith, add-one}
 use Rattle.std.specs.Prelude.{IfSome, MatchOption, option_map, slice_get, slice_set}
 use Rattle.std.proofs.lemmas.Option.{same_Some}
+use Rattle.afp_base.proofs.Facts.{some-none}
 use Rattle.afp_base.specs.Choice.{first_holding}
 use Rattle.afp_base.specs.declared.code.Code.{Code}
 use Rattle.afp_base.specs.declared.code.Code.TheVariants.{Ok, ParamErr}
@@ -18,7 +19,7 @@ use Rattle.volume_spec.specs.VolumeState.{VolumeState}
 use Rattle.afp_core_state.specs.KeeperFaults.{KeepersRise, SureStand}
 use Rattle.afp_core_state.specs.OnVolumes.{BecomesKept, IsKeptAt, IsOpen, IsOpenAt, with_kept}
 use Rattle.afp_core_state.specs.KeptWorld.{KeptWorld}
-use Rattle.afp_core_state.specs.SessionList.{session_of}
+use Rattle.session_table.specs.Sessions.{session_of}
 use Rattle.afp_core_state.specs.Running.{IsOutcomeOf}
 use Rattle.afp_core_state.proofs.KeeperLemmas.{volume_at-index, stand-same}
 use Rattle.record_keeper.specs.Settling.{settled_in}
@@ -123,6 +124,7 @@ keeper-fails k new want after committed_to told index commits tells same b =
       stand = subst (λ (l : List ℕ). SureStand k.sure k.faults l) (sym (ap (λ (x : KeptWorld). x.faults) is))
           (stand-set k.sure k.faults index b.one.faults (b.was.sure ∙ ap Some f.unsure));
       sure = ap (λ (x : KeptWorld). x.sure) is;
+      settled = λ none. absurd (some-none index (sym commits ∙ none));
     }
 
 pub keeper-at : (volume index : ℕ) → volume ≡ index + 1 → keeper_of volume ≡ Some index

@@ -4,6 +4,8 @@ use Rattle.std.specs.Prelude.{Result, Ok as with_ok, Err, slice_get, slice_set}
 use Rattle.afp_base.specs.declared.bytes.OutOfMemory.{OutOfMemory}
 use Rattle.afp_base.specs.declared.code.Code.TheVariants as code
 use Rattle.afp_calls_grammar.specs.declared.call.Call.{Call}
+use Rattle.afp_base.proofs.Facts.{some-none}
+use Rattle.afp_serial.specs.Answer.{committed_by, verdict_of_row}
 use Rattle.afp_serial.specs.Rows.{committed, refusal}
 use Rattle.afp_serial.specs.World.{Refused, World, Session}
 use Rattle.afp_serial.specs.declared.ask.Outcome.{Outcome}
@@ -15,7 +17,7 @@ use Rattle.afp_core_state.specs.KeptWorld.{KeptWorld}
 use Rattle.afp_core_state.specs.OnVolumes.{BecomesKept, IsKeptAt, with_kept}
 use Rattle.afp_core_state.specs.Replies.{TellsSettled}
 use Rattle.afp_core_state.specs.Running.{IsOutcomeOf, done}
-use Rattle.afp_core_state.specs.SessionList.{session_of}
+use Rattle.session_table.specs.Sessions.{session_of}
 use Rattle.std.proofs.lemmas.Option.{same_Some}
 use Rattle.afp_core_state.proofs.OnVolumeLemmas.{set-same}
 use Rattle.record_keeper.specs.Settling.{Answers, settled_in}
@@ -71,16 +73,21 @@ failed-stays k new index b =
 pub fails-alone : (k new : KeptWorld) (index : ℕ) → BecomesKept k index (λ old one. Settles old (Err keeper.Failed) one) new → BecomesKept k index (λ old one. FailsIn old one) new
 fails-alone k new index b = record { old = b.old; one = b.one; was = b.was; is = b.is.0; now = b.now }
 
--- what is said of world and faults does not speak of settles
-pub settled-apart : (want : Told) (after : World) (committed_to : Option ℕ) (o : Outcome) (told : Told) (k next new : KeptWorld) (settled : List ℕ) → new ≡ record next { settled = settled }
-    → IsOutcomeOf want after committed_to o told k next → IsOutcomeOf want after committed_to o told k new
-settled-apart want after committed_to o told k next new settled same is = subst (λ (x : KeptWorld). IsOutcomeOf want after committed_to o told k x) (sym same) (record {
+-- the keeper that a call names which is not refused
+pub names-keeper : (w : World) (s : Session) (call : Call) (index : ℕ) → refusal w s call ≡ None → committed w s call ≡ Some index → committed_by w s (verdict_of_row call (refusal w s call)) ≡ Some index
+names-keeper w s call index passes names = ap (λ (o : Option Refused). committed_by w s (verdict_of_row call o)) passes ∙ names
+
+-- what is said of world and faults does not speak of settles, where a keeper is named
+pub settled-apart : (want : Told) (after : World) (committed_to : Option ℕ) (o : Outcome) (told : Told) (k next new : KeptWorld) (settled : List ℕ) (index : ℕ) → committed_to ≡ Some index
+    → new ≡ record next { settled = settled } → IsOutcomeOf want after committed_to o told k next → IsOutcomeOf want after committed_to o told k new
+settled-apart want after committed_to o told k next new settled index names same is = subst (λ (x : KeptWorld). IsOutcomeOf want after committed_to o told k x) (sym same) (record {
   legal = is.legal;
   serial = is.serial;
   world = is.world;
   keepers = is.keepers;
   stand = is.stand;
   sure = is.sure;
+  settled = λ none. absurd (some-none index (sym names ∙ none));
 })
 
 -- a call that is refused has none settle

@@ -3,7 +3,7 @@ use Rattle.std.specs.Prelude.{◌≡◌, ◌+◌, ℕ, zero, suc, List, [], ◌�
 use Rattle.afp_base.specs.declared.bytes.OutOfMemory.{OutOfMemory}
 use Rattle.afp_calls_grammar.specs.declared.call.Call.{Call}
 use Rattle.afp_core_state.specs.KeptWorld.{KeptWorld}
-use Rattle.afp_core_state.specs.SessionList.{session_of}
+use Rattle.session_table.specs.Sessions.{session_of}
 use Rattle.afp_serial.specs.Answer.{committed_by, verdict_of_row}
 use Rattle.afp_serial.specs.Rows.{refusal}
 use Rattle.afp_serial.specs.World.{Session}

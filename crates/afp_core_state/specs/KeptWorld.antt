@@ -18,6 +18,10 @@ pub record KeptWorld : Type 0 where
 abbrev pub volumes_of : List KeptState → List VolumeState
 volumes_of kept = map (λ k. k.state) kept
 
+-- the setup with this key of tokens
+abbrev pub with_token_key : Household → List ℕ → Household
+with_token_key house key = record house { token_key = key }
+
 -- the world of these parts
 abbrev pub world_of : Household → ℕ → Option ℕ → ℕ → List Session → Forks → List VolumeState → World
 world_of house latest drain next_link sessions forks volumes = record {

@@ -2,7 +2,6 @@ pub mod Forks
 pub mod KeeperFaults
 pub mod KeeperSettles
 pub mod KeptWorld
-pub mod SessionList
 pub mod Running
 pub mod OnVolumes
 pub mod OnForks

@@ -4,7 +4,7 @@ use Rattle.afp_base.specs.Choice.{first_holding}
 use Rattle.afp_base.specs.declared.code.Code.{Code}
 use Rattle.afp_base.specs.declared.code.Code.TheVariants as code
 use Rattle.afp_core_state.specs.KeptWorld.{KeptWorld}
-use Rattle.afp_core_state.specs.SessionList.{session_of}
+use Rattle.session_table.specs.Sessions.{session_of}
 use Rattle.afp_serial.specs.World.{plain, has_opened, Session}
 use Rattle.afp_serial.specs.OnVolume.{on_volume}
 use Rattle.volume_spec.specs.VolumeState.{VolumeState}

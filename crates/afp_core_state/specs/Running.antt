@@ -3,7 +3,7 @@ use Rattle.afp_base.specs.Limits.{most_opens}
 use Rattle.afp_base.specs.declared.bytes.OutOfMemory.{OutOfMemory}
 use Rattle.afp_core_state.specs.KeeperFaults.{KeepersRise, SureStand, failed_keeper}
 use Rattle.afp_core_state.specs.KeptWorld.{KeptWorld}
-use Rattle.afp_core_state.specs.SessionList.{session_of}
+use Rattle.session_table.specs.Sessions.{session_of}
 use Rattle.afp_calls_grammar.specs.declared.call.Call.{Call}
 use Rattle.afp_serial.specs.Answer.{after_verdict, committed_by, told_verdict, Verdict, verdict_of_row, is_legal_outcome}
 use Rattle.afp_serial.specs.Rows.{refusal}
@@ -12,7 +12,7 @@ use Rattle.afp_serial.specs.World.{has_session, World, Session}
 use Rattle.afp_serial.specs.declared.ask.Outcome.TheVariants as outcome
 use Rattle.afp_serial.specs.declared.ask.Outcome.{Outcome}
 use Rattle.afp_serial.specs.declared.ask.Told.{Told}
-use Rattle.std.specs.Prelude.{◌≡◌, ℕ, true, Some, Result, Ok, Err, ◌<◌, false, length, Option}
+use Rattle.std.specs.Prelude.{◌≡◌, ℕ, true, None, Some, Result, Ok, Err, ◌<◌, false, length, Option}
 
 -- no session has the next link's number
 abbrev pub IsNextFree : World → Type 0
@@ -27,7 +27,7 @@ pub record IsReady (w : World) : Type 0 where
   pub few : length w.opens < most_opens
 
 -- An outcome that may come where this keeper or none is committed to, with what is told then, the next world, and what became of the
--- keepers' counts: a fault is one that this keeper counted, and no other count changes.
+-- keepers' counts: a fault is one that this keeper counted, and no other count changes. Where none is committed to or settled, none settled.
 pub record IsOutcomeOf (want : Told) (after : World) (index : Option ℕ) (o : Outcome) (told : Told) (old next : KeptWorld) : Type 0 where
   pub legal : is_legal_outcome index o ≡ true
   pub serial : told ≡ want
@@ -35,6 +35,7 @@ pub record IsOutcomeOf (want : Told) (after : World) (index : Option ℕ) (o : O
   pub keepers : KeepersRise (failed_keeper index o) old.faults next.faults
   pub stand : SureStand old.sure old.faults next.faults
   pub sure : next.sure ≡ old.sure
+  pub settled : index ≡ None → next.settled ≡ old.settled
 
 -- what is told where no keeper failed
 abbrev pub done : Told → Told × Outcome

@@ -1,6 +1,6 @@
 use Rattle.std.proofs.Common.{◌∙◌, ap, sym}
 use Rattle.afp_core_state.specs.KeptWorld.{KeptWorld}
-use Rattle.afp_core_state.specs.SessionList.{session_of}
+use Rattle.session_table.specs.Sessions.{session_of}
 use Rattle.afp_core_state.proofs.OnVolumeLemmas.{index-opens, refused-unopened}
 use Rattle.afp_core_state.proofs.state.State.opened.Goals as goal
 
