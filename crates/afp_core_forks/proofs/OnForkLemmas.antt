@@ -30,13 +30,13 @@ use Rattle.afp_core_state.specs.KeeperSettles.{SettlesRow}
 use Rattle.afp_core_state.specs.OnVolumes.{BecomesKept, IsKeptAt, with_kept}
 use Rattle.afp_core_state.specs.Replies.{TellsChanged, TellsSettled}
 use Rattle.afp_core_state.specs.KeptWorld.{KeptWorld}
-use Rattle.afp_core_state.specs.SessionList.{session_of}
+use Rattle.session_table.specs.Sessions.{session_of}
 use Rattle.afp_core_state.specs.Running.{done, RunsRow, RunsVerdict}
 use Rattle.afp_core_state.specs.declared.on_fork.OwnFork.{OwnFork}
 use Rattle.afp_core_state.proofs.KeeperLemmas.{outcome-same}
 use Rattle.afp_core_state.proofs.OnVolumeLemmas.{keeper-fails, kept-stays, state-changes, told-effect}
 use Rattle.afp_core_state.proofs.RowLemmas.{has_effect}
-use Rattle.afp_core_state.proofs.SettleLemmas.{fails-alone, refused-settles, settled-apart, settled-one, settles-row, wanting-stays}
+use Rattle.afp_core_state.proofs.SettleLemmas.{fails-alone, names-keeper, refused-settles, settled-apart, settled-one, settles-row, wanting-stays}
 use Rattle.afp_core_state.proofs.SessionLemmas.{session_of-number}
 use Rattle.volume_keeper_commit.specs.Changing.{FailsIn, Settles}
 use Rattle.volume_keeper_commit.specs.ForkChanging.{GivesBytes, given}
@@ -172,7 +172,8 @@ module _ (k : KeptWorld) (number : ℕ) (call : Call) (reference : ℕ) (refuses
         → RunsRow k number call result new
     fork-settles new (with_ok settled) (with_ok r) passes effect_is names b tells =
         subst (λ (x : Told × Outcome). RunsRow k number call (with_ok x) new) (sym tells)
-        (λ s at. settled-apart _ _ _ _ _ k k new (slice_set k.settled own.index (settled_in b.one.settles)) (settled-one k new own.index b)
+        (λ s at. settled-apart _ _ _ _ _ k k new (slice_set k.settled own.index (settled_in b.one.settles)) own.index
+        (names-keeper k.world s call own.index (fork-refuses s at ∙ passes) (fork-commits s at ∙ names ∙ own-keeper k number reference own here)) (settled-one k new own.index b)
         (fork-done k (with_empty_reply k.world) [] (Reply Ok [] false) passes effect_is refl refl refl s at))
     fork-settles new (with_ok settled) (Err e) passes effect_is names b tells = absurd tells
     fork-settles new (Err keeper.Failed) (with_ok r) passes effect_is names b tells =

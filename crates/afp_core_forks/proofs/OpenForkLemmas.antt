@@ -15,7 +15,7 @@ use Rattle.afp_replies.specs.Replies.{canonical_reply}
 use Rattle.afp_replies.specs.declared.reply.Reply.TheVariants.{Opened}
 use Rattle.afp_calls_grammar.specs.declared.call.Call.{Call}
 use Rattle.afp_calls_grammar.specs.declared.call.Call.TheVariants as call
-use Rattle.afp_serial.specs.Answer.{link_number, refusal_reply}
+use Rattle.afp_serial.specs.Answer.{link_number, refusal_reply, new_session}
 use Rattle.afp_serial.specs.World.{Effect, Refusal, Refused, CallRow, plain, refused_before, has_opened, is_open, volume_at, World, Session, OpenFork}
 use Rattle.afp_serial.specs.Fork.{OpenAsked, access_of, denied_of, file_asked, fork_in, fork_ref, has_most_forks, is_denied, lowest_free, new_fork, opened_reply, opens_asked, opens_fork, with_fork, with_open}
 use Rattle.afp_serial.specs.OnVolume.{opened_on, refused_on}
@@ -31,7 +31,7 @@ use Rattle.afp_core_state.specs.OnVolumes.{IsOpen, IsOpenAt}
 use Rattle.afp_core_forks.specs.lemma.Opening.{FindsFile}
 use Rattle.afp_core_state.specs.KeptWorld.{KeptWorld}
 use Rattle.afp_core_state.specs.lemma.KeptWorld.{with_forks}
-use Rattle.afp_core_state.specs.SessionList.{attached, session_of}
+use Rattle.session_table.specs.Sessions.{session_of}
 use Rattle.afp_core_state.specs.Running.{done, RunsRow}
 use Rattle.afp_core_forks.proofs.OnForkLemmas.{is_refused-with}
 use Rattle.afp_core_state.proofs.OnVolumeLemmas.{found-at, told-effect}
@@ -108,7 +108,7 @@ module _ (k : KeptWorld) (number : ℕ) (call : Call) (asked : OpenAsked) (dir :
 
 -- a session of that number
 abbrev some_session : ℕ → Session
-some_session number = attached number (link_number 0) None []
+some_session number = new_session number
 
 -- where the file is found
 module _ (k : KeptWorld) (number : ℕ) (call : Call) (asked : OpenAsked) (index : ℕ) (fork : Fork) (access : Access) (bits : ℕ) (f : FindsFile k number call asked index fork access bits) where

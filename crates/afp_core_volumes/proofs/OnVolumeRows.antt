@@ -28,10 +28,10 @@ use Rattle.afp_core_state.specs.KeeperSettles.{SettlesRow}
 use Rattle.afp_core_state.specs.OnVolumes.{BecomesKept, IsOpen, IsOpenAt, with_kept}
 use Rattle.afp_core_state.specs.Replies.{Tells, TellsChanged, TellsSettled}
 use Rattle.afp_core_state.specs.KeptWorld.{KeptWorld}
-use Rattle.afp_core_state.specs.SessionList.{session_of}
+use Rattle.session_table.specs.Sessions.{session_of}
 use Rattle.afp_core_state.specs.Running.{done, RunsRow}
 use Rattle.afp_core_state.proofs.RowLemmas.{IsRowOf, has_effect, is_refused}
-use Rattle.afp_core_state.proofs.SettleLemmas.{fails-alone, refused-settles, settled-apart, settled-one, settles-row, wanting-stays}
+use Rattle.afp_core_state.proofs.SettleLemmas.{fails-alone, names-keeper, refused-settles, settled-apart, settled-one, settles-row, wanting-stays}
 use Rattle.volume_keeper_commit.specs.Changing.{Changes, Settles}
 use Rattle.volume_keeper_commit.specs.declared.change.ChangeFault.{ChangeFault}
 use Rattle.volume_keeper_commit.specs.declared.change.ChangeFault.TheVariants as change
@@ -176,7 +176,8 @@ module _ (k : KeptWorld) (number : ℕ) (volume : VolumeId) where
   flush-done : (new : KeptWorld) (index : ℕ) (told : Told) → IsOpenAt k number volume.0 index → BecomesKept k index (λ old one. Settles old (with_ok tt) one) new
       → told ≡ Reply Ok [] false → RunsRow k number (Flush volume) (with_ok (done told)) new
   flush-done new index told stands b is = λ s at.
-      settled-apart _ _ _ _ _ k k new (slice_set k.settled index (settled_in b.one.settles)) (settled-one k new index b)
+      settled-apart _ _ _ _ _ k k new (slice_set k.settled index (settled_in b.one.settles)) index
+      (names-keeper k.world s (Flush volume) index (flush-passes index b.old.state stands b.was.state s at) (flush-commits index stands s)) (settled-one k new index b)
       (has_effect k k s (Flush volume) told k.world (flush-passes index b.old.state stands b.was.state s at)
       (is ∙ told-effect (Flush volume) (effect k.world s (Flush volume)) (record { world = k.world; reply = Empty }) [] (flush-does s) refl refl)
       refl (ap (λ (e : Effect). e.world) (sym (flush-does s))))

@@ -12,7 +12,7 @@ use Rattle.volume_spec.specs.GetVolParms.{get_vol_parms_refusal}
 use Rattle.volume_spec.specs.VolumeState.{VolumeState}
 use Rattle.afp_serial.specs.World.{Effect, plain, volume_at, with_session, closing, has_opened, World, Session, OpenFork}
 use Rattle.afp_serial.specs.Rows.{row, refusal, effect}
-use Rattle.afp_core_state.specs.SessionList.{replaced}
+use Rattle.session_table.specs.Sessions.{replaced}
 use Rattle.afp_core_state.specs.KeptWorld.{KeptWorld}
 use Rattle.afp_core_state.specs.lemma.KeptWorld.{forks_in, with_forks, with_sessions}
 use Rattle.afp_core_volumes.specs.lemma.VolumeRows.{IsNamed}

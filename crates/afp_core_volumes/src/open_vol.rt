@@ -33,13 +33,14 @@ pub fn open_vol<K: Keeper>(
         return Ok((refused(state.alloc, Code::ObjectNotFound), Outcome::Done));
     };
     let block = volume_block(state, volume, bits)?;
-    state.sessions.open_volume(session, volume)?;
+    state.sessions.open_volume(session, volume);
     Ok((done(block), Outcome::Done))
 }
 
 /// The id of the volume with exactly that name.
 fn named<K: Keeper>(state: &State<K>, name: &[u8]) -> Option<VolumeId>
-    ensures { MatchOption result (state_named state.now.world (volume_named state.now.world name.now) ≡ None) (λ id. IsNamed state.now.world name.now id.0) }
+    ensures small { IfSome result (λ id. (1 ≤ id.0) × (id.0 ≤ most_volumes)) }
+    ensures named { MatchOption result (state_named state.now.world (volume_named state.now.world name.now) ≡ None) (λ id. IsNamed state.now.world name.now id.0) }
 {
     let volume = volume_named(state.house.volumes(), name)?;
     match state.index(volume) {
@@ -82,7 +83,8 @@ fn are_refused(bits: u16) -> bool
 /// The id of the volume with exactly that name. Ids count from 1, in the house's order.
 fn volume_named(volumes: &[Bytes], name: &[u8]) -> Option<VolumeId>
     requires { length volumes.now ≤ most_volumes }
-    ensures { option_map (λ id. id.0) result ≡ option_map (λ index. index + 1) (position (λ other. bytes_eq other name.now) volumes.now) }
+    ensures small { IfSome result (λ id. (1 ≤ id.0) × (id.0 ≤ most_volumes)) }
+    ensures value { option_map (λ id. id.0) result ≡ option_map (λ index. index + 1) (position (λ other. bytes_eq other name.now) volumes.now) }
 {
     match index_of(volumes, name) {
         Some(index) => Some(VolumeId(index as u16 + 1)),

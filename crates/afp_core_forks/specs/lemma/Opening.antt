@@ -9,7 +9,7 @@ use Rattle.afp_serial.specs.World.{Session}
 use Rattle.volume_spec.specs.VolumeState.{Row, VolumeState}
 use Rattle.volume_spec.specs.Walk.{row_at}
 use Rattle.afp_core_state.specs.KeptWorld.{KeptWorld}
-use Rattle.afp_core_state.specs.SessionList.{session_of}
+use Rattle.session_table.specs.Sessions.{session_of}
 
 -- The call asks for this fork with this access, and for these bits of its file, which is in the volume at the index; what is left of its row speaks of
 -- that file.

@@ -10,7 +10,7 @@ use Rattle.volume_keeper_commit.specs.ForkChanging.{GivesBytes}
 use Rattle.afp_core_state.specs.OnVolumes.{BecomesKept}
 use Rattle.afp_core_bytes.proofs.ForkWriteLemmas.{GivesAll}
 use Rattle.volume_keeper_commit.specs.Kept.{KeptState}
-use Rattle.afp_core_state.specs.KeptWorld.{KeptWorld, world_of}
+use Rattle.afp_core_state.specs.KeptWorld.{KeptWorld, with_token_key, world_of}
 use Rattle.afp_core_state.proofs.KeeperLemmas.{becomes-kept, volume-of}
 use Rattle.afp_core_bytes.proofs.write.write_at.Goals as goal
 
@@ -42,7 +42,7 @@ returns g c =
     let within : index < length kept = omega (arith, at, c.requires.within, ap (λ (k : KeptWorld). length k.world.volumes) c.state.view_is, length-map kept (λ (k : KeptState). k.state)) in
     kept-at c.args.state.now _ index c.args.own.now.index
     (λ old one. GivesAll c.args.state.now c.args.own.now (nat_lt 0 (length c.args.piece.now)) (λ (l : List ℕ). splice l c.args.start c.args.piece.now) c.write_fork.result old one) at
-    (becomes-kept (world_of a.house a.latest a.drain a.links a.sessions a.forks []) kept index c.index_mut.result.now c.write_fork.new.self
+    (becomes-kept (world_of (with_token_key a.house a.sessions.token_key) a.latest a.drain a.sessions.next_link a.sessions.sessions a.forks []) kept index c.index_mut.result.now c.write_fork.new.self
     (λ old one. GivesAll c.args.state.now c.args.own.now (nat_lt 0 (length c.args.piece.now)) (λ (l : List ℕ). splice l c.args.start c.args.piece.now) c.write_fork.result old one) c.args.state.now _ c.state.view_is within
     (subst (λ (n : ℕ). (file : File) → row_at (get_or kept index c.index_mut.result.now).state.rows c.args.own.now.fork.node ≡ Some file
     → GivesBytes (get_or kept index c.index_mut.result.now) n c.args.own.now.fork.node c.args.own.now.fork.resource (nat_lt 0 (length c.args.piece.now)) (fork_of c.args.own.now.fork.resource file)

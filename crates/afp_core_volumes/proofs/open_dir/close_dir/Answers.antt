@@ -3,7 +3,7 @@ use Rattle.afp_base.specs.declared.code.Code.TheVariants.{Ok, ParamErr}
 use Rattle.afp_calls_grammar.specs.declared.call.Call.TheVariants.{CloseDir}
 use Rattle.afp_serial.specs.declared.ask.Told.TheVariants.{Reply}
 use Rattle.afp_core_state.specs.KeptWorld.{KeptWorld}
-use Rattle.afp_core_state.specs.SessionList.{session_of}
+use Rattle.session_table.specs.Sessions.{session_of}
 use Rattle.afp_core_volumes.proofs.OnVolumeRows.{close_dir-runs, close_dir-unopened}
 use Rattle.afp_core_state.proofs.RowLemmas.{is_refused}
 use Rattle.afp_core_volumes.proofs.open_dir.close_dir.Goals as goal

@@ -7,7 +7,7 @@ use Rattle.volume_keeper_commit.specs.Changing.{Changes}
 use Rattle.volume_keeper_commit.specs.Kept.{KeptState}
 use Rattle.volume_tree.specs.Requests.{tree_call}
 use Rattle.volume_tree.specs.Shown.{opened}
-use Rattle.afp_core_state.specs.KeptWorld.{KeptWorld, world_of}
+use Rattle.afp_core_state.specs.KeptWorld.{KeptWorld, with_token_key, world_of}
 use Rattle.afp_core_state.specs.lemma.KeptWorld.{forks_in}
 use Rattle.afp_core_state.proofs.ForkLemmas.{has-forks}
 use Rattle.afp_core_state.proofs.KeeperLemmas.{becomes-kept}
@@ -23,7 +23,7 @@ returns g c =
     let opens : opened c.on-opens.result ≡ opened_on k.world c.args.volume.0 =
     c.on-opens.ensures k.world (has-forks k.world a.forks (ap (λ (x : KeptWorld). forks_in x.world) c.state.view_is)) in
     if-some (λ (t : TreeCall). Changes c.index_mut.result.now a.latest (opened c.on-opens.result) t c.change.result c.change.new.self) _ (tree_call c.args.call.now) c.change.ensures
-    (λ t does. becomes-kept (world_of a.house a.latest a.drain a.links a.sessions a.forks []) kept c.args.index c.index_mut.result.now c.change.new.self
+    (λ t does. becomes-kept (world_of (with_token_key a.house a.sessions.token_key) a.latest a.drain a.sessions.next_link a.sessions.sessions a.forks []) kept c.args.index c.index_mut.result.now c.change.new.self
     (λ old one. Changes old k.world.latest (opened_on k.world c.args.volume.0) t c.change.result one) k _ c.state.view_is within
     (subst (λ (l : List Opened). Changes (get_or kept c.args.index c.index_mut.result.now) k.world.latest l t c.change.result c.change.new.self) opens
     (subst (λ (n : ℕ). Changes (get_or kept c.args.index c.index_mut.result.now) n (opened c.on-opens.result) t c.change.result c.change.new.self) (ap (λ (k : KeptWorld). k.world.latest) c.state.view_is)
