@@ -11,9 +11,10 @@ use Rattle.afp_serial.specs.World.{plain, without_session, World, Session}
 use Rattle.afp_serial.specs.Rows.{row, refusal}
 use Rattle.afp_calls_grammar.specs.LoginNames.{no_user}
 use Rattle.afp_serial.specs.StatusWords.{versions}
-use Rattle.afp_core_state.specs.SessionList.{replaced}
+use Rattle.session_table.specs.Sessions.{session_of}
+use Rattle.session_table.specs.Sessions.{Becomes, Table}
 use Rattle.afp_core_state.specs.KeptWorld.{KeptWorld}
-use Rattle.afp_core_state.specs.lemma.KeptWorld.{with_sessions}
+use Rattle.afp_core_state.specs.lemma.KeptWorld.{table_in, with_table}
 use Rattle.afp_core_state.proofs.RowLemmas.{IsRowOf, has_effect}
 
 -- FPLogin
@@ -34,14 +35,14 @@ module _ (w : World) (s : Session) (version uam tail : List ℕ) where
   unfolding row
   login-passes h v u = rw (h, v, u) refl
 
-pub login-runs : (old new : KeptWorld) (s : Session) (version uam tail : List ℕ) (told : Told) (sessions : List Session)
+pub login-runs : (old new : KeptWorld) (s : Session) (n : ℕ) (version uam tail : List ℕ) (told : Told) (t : Table)
     → is_some s.user ≡ false → list_any (bytes_eq version) versions ≡ true → bytes_eq uam no_user ≡ true
-    → told ≡ Reply Ok [] false → new ≡ with_sessions old sessions → sessions ≡ replaced old.world.sessions (record s { user = Some guest_id })
+    → told ≡ Reply Ok [] false → new ≡ with_table old t → session_of old.world.sessions n ≡ Some s → Becomes (table_in old.world) n (λ x. record x { user = Some guest_id }) t
     → IsRowOf old s (Login version uam tail) told new
 unfolding row
-login-runs old new s version uam tail told sessions h v u tells is set =
-    has_effect old new s (Login version uam tail) told _ (login-passes old.world s version uam tail h v u) tells is
-    (ap (λ (l : List Session). record old.world { sessions = l }) set)
+login-runs old new s n version uam tail told t h v u tells is at becomes =
+    has_effect old new s (Login version uam tail) told (with_table old t).world (login-passes old.world s version uam tail h v u) tells is
+    (ap (λ (x : Table). (with_table old x).world) (becomes s at))
 
 -- FPLogout
 pub logout-runs : (old new : KeptWorld) (s : Session) (told : Told) (n : ℕ) → s.number ≡ n → told ≡ Reply Ok [] true → new ≡ record old { world = without_session old.world n }

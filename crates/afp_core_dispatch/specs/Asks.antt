@@ -1,15 +1,22 @@
 -- What an ask comes to (this profile).
-use Rattle.std.specs.Prelude.{◌≡◌, ℕ, Bool, true, false, Result, Ok, Err}
+use Rattle.std.specs.Prelude.{◌≡◌, ◌<◌, ℕ, length, Bool, true, false, Result, Ok, Err}
 use Rattle.afp_base.specs.declared.bytes.OutOfMemory.{OutOfMemory}
 use Rattle.afp_base.specs.declared.ids.LinkNumber.{LinkNumber}
 use Rattle.afp_core_state.specs.KeptWorld.{KeptWorld}
 use Rattle.afp_core_state.specs.Running.{IsOutcomeOf}
 use Rattle.afp_serial.specs.Answer.{after_at, answer_at, committed_at}
-use Rattle.afp_serial.specs.World.{at_moment}
+use Rattle.afp_base.specs.Limits.{most_opens}
+use Rattle.afp_serial.specs.Sound.{IsSound}
+use Rattle.afp_serial.specs.World.{World, at_moment}
 use Rattle.afp_serial.specs.declared.ask.Ask.{Ask}
 use Rattle.afp_serial.specs.declared.ask.Ask.TheVariants as ask
 use Rattle.afp_serial.specs.declared.ask.Outcome.{Outcome}
 use Rattle.afp_serial.specs.declared.ask.Told.{Told}
+
+-- What an ask takes as given of the world: it is sound, and there are references for more open forks.
+pub record IsReadyToAsk (w : World) : Type 0 where
+  pub sound : IsSound w
+  pub few : length w.opens < most_opens
 
 -- the asks that take memory
 abbrev pub takes_memory : Ask → Bool

@@ -1,22 +1,20 @@
 //! An ask of the server, at its moment: sessions open and end, and calls are answered.
 ghost use Rattle.std.specs.Prelude.{◌≡◌, ℕ, Ok};
-ghost use Rattle.afp_serial.specs.Answer.{told_pulse};
+ghost use Rattle.afp_serial.specs.Answer.{told_pulse, without_expired};
 ghost use Rattle.afp_serial.specs.World.{session_at};
 ghost use Rattle.afp_serial.specs.declared.ask.Ask.{Ask};
-ghost use Rattle.afp_core_state.specs.Running.{IsNextFree, IsReady, done};
-ghost use Rattle.afp_core_dispatch.specs.Asks.{RunsAsk, RunsAskAt};
-ghost use Rattle.afp_core_dispatch.specs.lemma.Asks.{RunsOpen, RunsEndAt};
+ghost use Rattle.afp_core_state.specs.Running.{done};
+ghost use Rattle.afp_core_dispatch.specs.Asks.{IsReadyToAsk, RunsAsk, RunsAskAt};
+ghost use Rattle.afp_core_dispatch.specs.lemma.Asks.{RunsOpen};
 
 use crate::call::call;
 use crate::request::Request;
 use afp_base::{Code, LinkNumber, Moment, OutOfMemory};
 use afp_core_state::{State, refused};
-use afp_serial::{Ask, Outcome, Told};
+use afp_serial::{Ask, Outcome, Told, moment_in_range};
 use record_keeper::Keeper;
+use session_table::SessionFault;
 use std::marker::Model;
-
-/// The most sessions.
-const MOST_SESSIONS: usize = 64;
 
 /// Answers an ask. Without memory nothing changes; only `Open` and `Call` take some.
 pub fn run_ask<K: Keeper>(
@@ -25,9 +23,10 @@ pub fn run_ask<K: Keeper>(
     link: LinkNumber,
     ask: Ask,
 ) -> Result<(Told, Outcome), OutOfMemory>
-    requires { IsReady state.old.world }
+    requires { IsReadyToAsk state.old.world }
     ensures { RunsAskAt state.old now link ask result state.new }
 {
+    moment_in_range(now);
     let before = state.latest;
     state.latest = before.later(now);
     match run_ask_now(state, link, ask) {
@@ -45,7 +44,7 @@ fn run_ask_now<K: Keeper>(
     link: LinkNumber,
     ask: Ask,
 ) -> Result<(Told, Outcome), OutOfMemory>
-    requires { IsReady state.old.world }
+    requires { IsReadyToAsk state.old.world }
     ensures { RunsAsk state.old link.0 ask result state.new }
 {
     match ask {
@@ -66,36 +65,43 @@ fn run_ask_now<K: Keeper>(
             },
         ),
         Ask::Pulse => Ok((pulse(state, link), Outcome::Done)),
-        Ask::Bye | Ask::Lost => Ok((end_at(state, link), Outcome::Done)),
+        Ask::Bye => Ok((end_at(state, link), Outcome::Done)),
+        Ask::Lost => Ok((lose_at(state, link), Outcome::Done)),
         Ask::Drain => Ok((drain(state), Outcome::Done)),
     }
 }
 
 /// Opens a session on the next link.
 fn open<K: Keeper>(state: &mut State<K>) -> Result<Told, OutOfMemory>
-    requires { IsNextFree state.old.world }
+    requires { IsReadyToAsk state.old.world }
     ensures { RunsOpen state.old result state.new }
 {
-    let Some(link) = state.links.next() else {
-        return Ok(refused(state.alloc, Code::NoMoreSessions));
-    };
-    if state.sessions.len() >= MOST_SESSIONS {
-        return Ok(refused(state.alloc, Code::NoMoreSessions));
+    match state.sessions.open() {
+        Ok(link) => Ok(Told::Opened { link }),
+        Err(SessionFault::Full) => Ok(refused(state.alloc, Code::NoMoreSessions)),
+        Err(SessionFault::Memory) => Err(OutOfMemory),
     }
-    state.sessions.open(link)?;
-    state.links.draw();
-    Ok(Told::Opened { link })
 }
 
 /// Ends the sessions that lost their links too long ago, and tells whether the link's session lives.
 /// Link 0 is no link of a session.
 fn pulse<K: Keeper>(state: &mut State<K>, link: LinkNumber) -> Told
-    requires { IsReady state.old.world }
+    requires { IsReadyToAsk state.old.world }
     ensures { RunsAsk state.old link.0 Ask.Pulse (Ok (done result)) state.new }
 {
     let told = told_pulse(state, link);
-    state.sessions.sweep(state.latest);
+    sweep(state);
     told
+}
+
+/// Ends the sessions that lost their links 600 seconds ago or before.
+fn sweep<K: Keeper>(state: &mut State<K>)
+    requires { IsReadyToAsk state.old.world }
+    ensures { state.new ≡ record state.old { world = without_expired state.old.world } }
+{
+    while let Some(session) = state.sessions.next_expired(state.latest) {
+        state.end(session);
+    }
 }
 
 /// Whether the link's session lives, and since when the server is about to stop.
@@ -105,7 +111,7 @@ fn told_pulse<K: Keeper>(state: &State<K>, link: LinkNumber) -> Told
     if link.0 == 0 {
         return Told::Live { drain: state.drain };
     }
-    match state.sessions.at(link) {
+    match state.sessions.by_link(link) {
         Some(_) => Told::Live { drain: state.drain },
         None => Told::Displaced,
     }
@@ -113,16 +119,32 @@ fn told_pulse<K: Keeper>(state: &State<K>, link: LinkNumber) -> Told
 
 /// Ends the link's session, and closes its forks.
 fn end_at<K: Keeper>(state: &mut State<K>, link: LinkNumber) -> Told
-    requires { IsReady state.old.world }
-    ensures { RunsEndAt state.old link.0 result state.new }
+    requires { IsReadyToAsk state.old.world }
+    ensures { RunsAsk state.old link.0 Ask.Bye (Ok (done result)) state.new }
 {
-    match state.sessions.at(link) {
+    match state.sessions.by_link(link) {
         Some(session) => {
             state.end(session);
             Told::Done
         }
         None => Told::Displaced,
     }
+}
+
+/// The link was lost: its session waits for its client where it has a user, and ends else.
+fn lose_at<K: Keeper>(state: &mut State<K>, link: LinkNumber) -> Told
+    requires { IsReadyToAsk state.old.world }
+    ensures { RunsAsk state.old link.0 Ask.Lost (Ok (done result)) state.new }
+{
+    let Some(session) = state.sessions.by_link(link) else {
+        return Told::Displaced;
+    };
+    if state.sessions.user(session).is_none() {
+        state.end(session);
+        return Told::Done;
+    }
+    state.sessions.detach(session, state.latest);
+    Told::Done
 }
 
 /// The server is about to stop: the first such moment counts.

@@ -1,13 +1,25 @@
 //! A call of a session: its steps in their order, and its row.
-ghost use Rattle.afp_core_dispatch.specs.lemma.Requests.{as_request};
+ghost use Rattle.std.specs.Prelude.{◌≡◌, Some, IfOk};
+ghost use Rattle.afp_base.specs.Cached.{cached_answer};
+ghost use Rattle.afp_serial.specs.Answer.{verdict_of_block, verdict_of_row};
+ghost use Rattle.afp_serial.specs.KeptAnswers.{block_of};
+ghost use Rattle.afp_serial.specs.Rows.{refusal};
+ghost use Rattle.afp_serial.specs.World.{Session};
 ghost use Rattle.afp_core_state.specs.Running.{IsReady, RunsRow};
+ghost use Rattle.afp_core_state.specs.lemma.KeptWorld.{table_in};
+ghost use Rattle.session_table.specs.Sessions.{AreBelow, HasNone, session_of};
+ghost use Rattle.afp_core_dispatch.specs.Asks.{IsReadyToAsk};
 ghost use Rattle.afp_core_dispatch.specs.lemma.Asks.{RunsCall};
+ghost use Rattle.afp_core_dispatch.specs.lemma.Keeping.{IsThere, IsToldAgain, RunsKept};
+ghost use Rattle.afp_core_dispatch.specs.lemma.Requests.{as_request};
 
+use crate::keeping::{copied, keep};
 use crate::login::login;
 use crate::logout::logout;
 use crate::request::Request;
+use crate::session_token::{disconnect_old_session, get_session_token};
 use crate::spelling::{Stop, spelled_call};
-use afp_base::{Code, LinkNumber, OutOfMemory, SessionNumber};
+use afp_base::{Bytes, Code, LinkNumber, OutOfMemory, Room, SessionNumber};
 use afp_calls::Call;
 use afp_core_bytes::byte_range_lock::{byte_range_lock, byte_range_lock_ext};
 use afp_core_bytes::read::{read, read_ext};
@@ -27,40 +39,108 @@ use afp_core_volumes::get_vol_parms::get_vol_parms;
 use afp_core_volumes::open_dir::{close_dir, open_dir};
 use afp_core_volumes::open_vol::open_vol;
 use afp_core_volumes::tree_changes::change_alone;
-use afp_serial::{Outcome, Told};
+use afp_serial::{Outcome, Told, told_at_most};
 use record_keeper::Keeper;
 use volume_keeper_commit::ListAsked;
 
-/// Answers a request on a link: its session is found, the call that it spells, and its row.
+/// Answers a request on a link: its session is found, what is kept for it, the call that it spells, and its row.
 pub fn call<K: Keeper>(
     state: &mut State<K>,
     link: LinkNumber,
     request: Request,
 ) -> Result<(Told, Outcome), OutOfMemory>
-    requires { IsReady state.old.world }
+    requires { IsReadyToAsk state.old.world }
     ensures { RunsCall state.old link.0 (as_request request) result state.new }
 {
-    let Some(session) = state.sessions.at(link) else {
+    let Some(session) = state.sessions.by_link(link) else {
         return Ok((Told::Displaced, Outcome::Done));
     };
-    let has_user = state.sessions.has_user(session);
+    match kept_answer(state, session, &request)? {
+        Some(told) => Ok((told, Outcome::Done)),
+        None => answer(state, session, request),
+    }
+}
+
+/// What is told again to an equal request of the session.
+fn kept_answer<K: Keeper>(
+    state: &State<K>,
+    session: SessionNumber,
+    request: &Request,
+) -> Result<Option<Told>, OutOfMemory>
+    ensures { IfOk result (λ told. (x : Session) → session_of state.now.world.sessions session.0 ≡ Some x → IsToldAgain (cached_answer x.cache (as_request request.now)) told) }
+{
+    match state.sessions.kept(
+        session,
+        request.id,
+        request.write,
+        request.offset,
+        request.payload.as_slice(),
+    ) {
+        Some(answer) => Ok(Some(Told::Reply {
+            code: answer.code,
+            block: answer.block.copy()?,
+            ends: false,
+        })),
+        None => Ok(None),
+    }
+}
+
+/// Answers a request of a session that keeps no answer for it.
+fn answer<K: Keeper>(
+    state: &mut State<K>,
+    session: SessionNumber,
+    request: Request,
+) -> Result<(Told, Outcome), OutOfMemory>
+    requires ready { IsReadyToAsk state.old.world }
+    requires there { IsThere state.old session.0 }
+    requires fresh { HasNone (table_in state.old.world) session.0 (as_request request) }
+    ensures { RunsKept state.old session.0 (as_request request) (λ w s. verdict_of_block w s (as_request request) (block_of (as_request request))) result state.new }
+{
+    let has_user = state.sessions.user(session).is_some();
     match spelled_call(state.alloc, has_user, &request) {
-        Ok(call) => run(state, session, call),
-        Err(Stop::Refused(code)) => Ok((refused(state.alloc, code), Outcome::Done)),
+        Ok(call) => run(state, session, request, call),
+        Err(Stop::Refused(code)) => {
+            let told = refused(state.alloc, code);
+            let block = Bytes::new(state.alloc);
+            keep(state, session, request, &told, block);
+            Ok((told, Outcome::Done))
+        }
         Err(Stop::Memory) => Err(OutOfMemory),
     }
 }
 
-/// Runs the row of a call of a session, and lets go of the call.
+/// Runs the row of a call of a session, keeps what it tells, and lets go of the call.
 fn run<K: Keeper>(
     state: &mut State<K>,
     session: SessionNumber,
+    request: Request,
     call: Call,
 ) -> Result<(Told, Outcome), OutOfMemory>
-    requires { IsReady state.old.world }
-    ensures { RunsRow state.old session.0 call result state.new }
+    requires ready { IsReadyToAsk state.old.world }
+    requires there { IsThere state.old session.0 }
+    requires fresh { HasNone (table_in state.old.world) session.0 (as_request request) }
+    ensures { RunsKept state.old session.0 (as_request request) (λ w s. verdict_of_row call (refusal w s call)) result state.new }
 {
-    row(state, session, &call)
+    run_kept(state, session, request, &call)
+}
+
+/// The same. A copy of what a row tells that changes something goes into room that was taken before.
+fn run_kept<K: Keeper>(
+    state: &mut State<K>,
+    session: SessionNumber,
+    request: Request,
+    call: &Call,
+) -> Result<(Told, Outcome), OutOfMemory>
+    requires ready { IsReadyToAsk state.old.world }
+    requires there { IsThere state.old session.0 }
+    requires fresh { HasNone (table_in state.old.world) session.0 (as_request request) }
+    ensures { RunsKept state.old session.0 (as_request request) (λ w s. verdict_of_row call.now (refusal w s call.now)) result state.new }
+{
+    let room = Room::new(state.alloc, told_at_most(call))?;
+    let (told, outcome) = row(state, session, call)?;
+    let block = copied(state.alloc, room, &told)?;
+    keep(state, session, request, &told, block);
+    Ok((told, outcome))
 }
 
 /// The row of a call of a session. A call whose row is not there yet is not supported.
@@ -69,7 +149,8 @@ fn row<K: Keeper>(
     session: SessionNumber,
     call: &Call,
 ) -> Result<(Told, Outcome), OutOfMemory>
-    requires { IsReady state.old.world }
+    requires ready { IsReady state.old.world }
+    requires below { AreBelow (table_in state.old.world) }
     ensures { RunsRow state.old session.0 call.now result state.new }
 {
     match call {
@@ -160,6 +241,11 @@ fn row<K: Keeper>(
             ))
         }
         Call::Logout => Ok((logout(state, session), Outcome::Done)),
+        Call::GetSessionToken { .. } => get_session_token(state, session),
+        Call::DisconnectOldSession { token, .. } => Ok((
+            disconnect_old_session(state, session, token.as_slice()),
+            Outcome::Done,
+        )),
         Call::MoveAndRename { volume, .. } => change_alone(state, session, *volume, call),
         Call::OpenDir { volume, dir, path } => open_dir(state, session, *volume, *dir, path),
         Call::OpenVol { bits, name } => open_vol(state, session, *bits, name.as_slice()),
@@ -254,8 +340,6 @@ fn row<K: Keeper>(
         | Call::RemoveComment { .. }
         | Call::GetComment { .. }
         | Call::LoginExt { .. }
-        | Call::GetSessionToken { .. }
-        | Call::DisconnectOldSession { .. }
         | Call::AddIcon { .. } => Ok((refused(state.alloc, Code::CallNotSupported), Outcome::Done)),
     }
 }

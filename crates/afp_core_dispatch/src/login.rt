@@ -24,7 +24,7 @@ pub fn login<K: Keeper>(
 ) -> Told
     ensures { RunsRow state.old session.0 (Call.Login version.now uam.now _tail.now) (Ok (with_done result)) state.new }
 {
-    if state.sessions.has_user(session) {
+    if state.sessions.user(session).is_some() {
         return refused(state.alloc, Code::ParamErr);
     }
     if !is_version(version) {

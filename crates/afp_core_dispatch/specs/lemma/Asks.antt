@@ -24,8 +24,3 @@ RunsCall k link q (Ok r) new =
     IsOutcomeOf (told_call k.world (session_at k.world link) q r.1) (after_call k.world (session_at k.world link) q r.1)
     (committed_in k.world (session_at k.world link) q) r.1 r.0 k new
 RunsCall k link q (Err e) new = new ≡ k
-
--- a Bye or a Lost
-pub record RunsEndAt (k : KeptWorld) (link : ℕ) (told : Told) (new : KeptWorld) : Type 0 where
-  pub bye : RunsAsk k link ask.Bye (Ok (done told)) new
-  pub lost : RunsAsk k link ask.Lost (Ok (done told)) new

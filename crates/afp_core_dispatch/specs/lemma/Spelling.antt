@@ -6,7 +6,8 @@ use Rattle.afp_core_dispatch.specs.declared.spelling.Stop.{Stop}
 use Rattle.afp_core_dispatch.specs.declared.spelling.Stop.TheVariants.{Refused, Memory}
 use Rattle.afp_serial.specs.World.{plain, World, Session}
 use Rattle.afp_serial.specs.Rows.{refusal}
-use Rattle.afp_serial.specs.Answer.{block_of, enclosed_of, refused, verdict_of_block, verdict_of_row}
+use Rattle.afp_serial.specs.Answer.{refused, verdict_of_block, verdict_of_row}
+use Rattle.afp_serial.specs.KeptAnswers.{block_of, enclosed_of}
 
 -- The request comes to the row of this call, or is refused before; want of memory may take the place of each.
 abbrev pub ComesToRow : World → Session → Request → List ℕ → Result Call Stop → Type 0

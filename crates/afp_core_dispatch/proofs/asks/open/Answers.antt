@@ -1,25 +1,29 @@
-use Rattle.std.proofs.Common.{◌∙◌, ap, ◌+◌, ◌++◌, ◌∷◌, [], length, subst, ◌≤◌, ◌<◌, arith}
-use Rattle.afp_serial.specs.Answer.{new_session}
-use Rattle.afp_serial.specs.Limits.{links_end, most_sessions}
+use Rattle.std.proofs.Common.{◌∙◌, ap, sym, subst}
+use Rattle.std.specs.Prelude.{Ok, Err}
 use Rattle.afp_core_state.specs.KeptWorld.{KeptWorld}
-use Rattle.afp_core_dispatch.proofs.AskLemmas.{full-links, full-sessions, open-refused, open-runs, with_opened}
+use Rattle.afp_core_state.specs.lemma.KeptWorld.{table_in, with_table}
+use Rattle.session_table.specs.Sessions.{AreBelow, Opens}
+use Rattle.session_table.specs.declared.sessions.SessionFault.TheVariants.{Full, Memory}
+use Rattle.afp_core_dispatch.proofs.AskLemmas.{open-refused, open-runs}
+use Rattle.afp_core_dispatch.proofs.ReadyLemmas.{are-below}
 use Rattle.afp_core_dispatch.proofs.asks.open.Goals as goal
+use Rattle.afp_core_dispatch.proofs.asks.open.Goals.{in-Ok, in-Err-Full, in-Err-Memory}
 
-pub returns-in_default : goal.returns-in_default
-returns-in_default g c = λ link attention.
-    open-refused c.args.state.now link attention _
-    (full-links c.args.state.now.world (subst (λ (k : KeptWorld). links_end ≤ k.world.next_link) c.state.view_is c.in_default.ensures)) c.refused.ensures
-
-pub returns-then-len-ge-MOST_SESSIONS : goal.returns-then-len-ge-MOST_SESSIONS
-returns-then-len-ge-MOST_SESSIONS g c = λ link attention.
-    open-refused c.args.state.now link attention _
-    (full-sessions c.args.state.now.world (subst (λ (k : KeptWorld). most_sessions ≤ length k.world.sessions) c.state.view_is (omega (arith, c.len.ensures, c.if-len-ge-MOST_SESSIONS.true)))) c.refused-then-len-ge-MOST_SESSIONS.ensures
+pub open-requires : goal.open-requires
+open-requires g c = subst (λ (k : KeptWorld). AreBelow (table_in k.world)) (sym c.state.view_is) (are-below c.args.state.now.world c.requires)
 
 pub returns : goal.returns
-returns g c = λ link attention.
-    open-runs c.args.state.now _ link attention c.in-Some.link c.open.new.self c.draw.new.self
-    (subst (λ (k : KeptWorld). length k.world.sessions < most_sessions) c.state.view_is (omega (arith, c.len.ensures, c.if-len-ge-MOST_SESSIONS.false)))
-    (subst (λ (k : KeptWorld). k.world.next_link < links_end) c.state.view_is c.in-Some.ensures.1) (c.in-Some.ensures.0 ∙ ap (λ (k : KeptWorld). k.world.next_link) c.state.view_is)
-    (ap (λ (k : KeptWorld). with_opened k c.draw.new.self c.open.new.self) c.state.view_is)
-    (c.draw.ensures ∙ ap (λ (k : KeptWorld). k.world.next_link + 1) c.state.view_is)
-    (c.in_ok-open.ensures.ok ∙ ap (λ (k : KeptWorld). k.world.sessions ++ new_session c.in-Some.link.0 ∷ []) c.state.view_is)
+returns g c =
+    let old = c.args.state.now in
+    let is = ap (λ (k : KeptWorld). with_table k c.open.new.self) c.state.view_is in
+    elim c.match-open.branch [
+      | in-Ok w ↦
+          rw w.result-is
+          (λ link attention. open-runs old _ link attention c.open.new.self w.in-Ok.link (subst (λ (k : KeptWorld). Opens (table_in k.world) (Ok w.in-Ok.link) c.open.new.self) c.state.view_is w.in-Ok.ensures) is)
+      | in-Err-Full w ↦
+          rw w.result-is
+          (λ link attention. open-refused old _ link attention c.open.new.self _ (subst (λ (k : KeptWorld). Opens (table_in k.world) (Err Full) c.open.new.self) c.state.view_is (rw w.in-Err-Full.field-0-is at w.in-Err-Full.ensures)) is w.refused.ensures)
+      | in-Err-Memory w ↦
+          rw w.result-is
+          (is ∙ ap (with_table old) (subst (λ (k : KeptWorld). Opens (table_in k.world) (Err Memory) c.open.new.self) c.state.view_is (rw w.in-Err-Memory.field-0-is at w.in-Err-Memory.ensures)))
+    ]

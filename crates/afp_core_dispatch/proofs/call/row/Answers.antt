@@ -1,6 +1,6 @@
 use Rattle.std.proofs.Common.{◌≡◌, ◌∙◌, ap, of_z, rules, refl, sym, to_z, w32, w64}
 use Rattle.afp_base.specs.declared.code.Code.TheVariants.{CallNotSupported}
-use Rattle.afp_calls_grammar.specs.declared.call.Call.TheVariants.{Login, SetForkParms, Write, WriteExt}
+use Rattle.afp_calls_grammar.specs.declared.call.Call.TheVariants.{DisconnectOldSession, Login, SetForkParms, Write, WriteExt}
 use Rattle.afp_serial.specs.Rows.{row}
 use Rattle.afp_core_volumes.proofs.CallRows.{create_file-changes, delete-changes, move_and_rename-changes, rename-changes, set_dir_parms-changes, set_file_dir_parms-changes, set_file_parms-changes, set_vol_parms-changes}
 use Rattle.afp_core_state.proofs.RowLemmas.{call-as, is_refused, row-as}
@@ -9,6 +9,16 @@ use Rattle.afp_core_dispatch.proofs.call.row.Goals as goal
 pub returns-in-CopyFile : goal.returns-in-CopyFile
 unfolding row
 returns-in-CopyFile g c = λ s at. is_refused c.args.state.now _ s c.args.call.now CallNotSupported _ (search rules) c.refused.ensures refl
+
+pub returns-in-GetSessionToken : goal.returns-in-GetSessionToken
+returns-in-GetSessionToken g c =
+    let x = c.in-GetSessionToken in
+    call-as c.args.state.now _ c.args.session.0 _ _ _ x.is (c.get_session_token.ensures x.kind x.stamp x.id)
+
+pub returns-in-DisconnectOldSession : goal.returns-in-DisconnectOldSession
+returns-in-DisconnectOldSession g c =
+    let x = c.in-DisconnectOldSession in
+    row-as c.args.state.now _ c.args.session.0 _ _ _ (x.is ∙ ap (DisconnectOldSession x.kind) (sym c.as_slice-in-DisconnectOldSession.ensures)) (c.disconnect_old_session.ensures x.kind)
 
 pub returns-in-Login : goal.returns-in-Login
 returns-in-Login g c =
