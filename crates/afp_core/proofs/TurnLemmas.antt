@@ -1,8 +1,7 @@
 -- Turns, and the histories that a core stands for.
-use Rattle.std.proofs.Common.{◌≡◌, ◌∙◌, ap, sym, refl, subst, ℕ, zero, suc, ◌==◌, ◌+◌, Bool, true, false, ◌&&◌, cond, List, [], ◌∷◌, ◌++◌, length, count_by, nat_lt, ◌<◌, arith, length-append, Option, Some, None}
-use Rattle.std.specs.List.{list_all}
+use Rattle.std.proofs.Common.{◌≡◌, ◌∙◌, ap, sym, refl, subst, ℕ, zero, suc, ◌==◌, ◌+◌, Bool, true, false, cond, List, [], ◌∷◌, ◌++◌, length, count_by, ◌<◌, arith, length-append, Option, Some, None}
 use Rattle.std.specs.Prelude.{Ok, slice_get, sum}
-use Rattle.std.proofs.lemmas.Bool.{and_from, and_parts, ltb-true, ne_eqb, true≢false}
+use Rattle.std.proofs.lemmas.Bool.{and_from, and_parts, true≢false}
 use Rattle.std.proofs.lemmas.List.Sums.{sum_by-append, sum_by-cons}
 use Rattle.afp_base.specs.Counts.{Rises, counted}
 use Rattle.afp_base.specs.Cached.{Request}
@@ -19,35 +18,21 @@ use Rattle.afp_serial.specs.Answer.{after, answer, answer_at, committed_at, comm
 use Rattle.afp_base.specs.declared.code.Code.TheVariants.{NoMoreSessions}
 use Rattle.afp_serial.specs.History.{answers, entry, fault_of, faults_in, is_lawful, is_opened, opened_in, stand}
 use Rattle.afp_serial.specs.Ranges.{is_typed_entry}
-use Rattle.afp_serial.specs.World.{has_session, session_at, World, Session, at_moment}
-use Rattle.afp_serial.specs.Sound.{IsSound, has_apart_sessions, is_link_below}
+use Rattle.afp_serial.specs.World.{session_at, World, Session, at_moment}
+use Rattle.afp_serial.specs.Sound.{IsSound}
 use Rattle.afp_serial.proofs.Grows.{faults-append, lawful-snoc, stand-append}
 use Rattle.afp_core.specs.Counted.{IsCounted}
 use Rattle.afp_core_state.specs.KeeperFaults.{KeepersRise, SureStand, failed_keeper}
 use Rattle.afp_core.specs.ServerState.{ServerState}
-use Rattle.afp_core_dispatch.specs.Asks.{kept_at}
+use Rattle.afp_core_dispatch.specs.Asks.{IsReadyToAsk, kept_at}
 use Rattle.afp_core.specs.lemma.ServerState.{kept_of}
 use Rattle.afp_core.specs.Sureness.{MeetsNoFaults, SureKept}
-use Rattle.afp_core_state.specs.Running.{IsNextFree, IsReady}
 use Rattle.afp_core_dispatch.specs.Asks.{RunsAsk}
 use Rattle.afp_core.specs.Turn.{TakesTurn, Turned}
 
--- the next link number is no session's
-below-fresh : (xs : List Session) (n : ℕ) → list_all (λ s. nat_lt s.number n && is_link_below n s.place) xs ≡ true → has_session xs n ≡ false
-below-fresh [] n h = refl
-below-fresh (s ∷ xs) n h =
-    let both = and_parts _ _ h in
-    let lower = and_parts _ _ both.0 in
-    let less = ltb-true s.number n lower.0 in
-    rw (ne_eqb s.number n (λ e. omega (arith, less, e))) (below-fresh xs n both.1)
-
-next-free : (w : World) → IsSound w → IsNextFree w
-unfolding has_apart_sessions
-next-free w sound = below-fresh w.sessions w.next_link (and_parts _ _ (and_parts _ _ sound.sessions).1).1
-
 -- a sound world is ready for a turn; no field of it is the latest moment
-pub ready : (w : World) → OpensAreFew → IsSound w → IsReady w
-ready w few sound = record { link = next-free w sound; opens = sound.opens; locks = sound.locks; few = omega (arith, few w sound) }
+pub ready : (w : World) → OpensAreFew → IsSound w → IsReadyToAsk w
+ready w few sound = record { sound = sound; few = omega (arith, few w sound) }
 
 -- an entry is never told Memory
 abbrev pub is_memory : Told → Bool

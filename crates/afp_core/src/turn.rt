@@ -63,9 +63,12 @@ impl<K: Keeper> Core<K> {
         }
         moment_in_range(now);
         let kept = load_all(alloc, house, keepers, now)?;
-        match house.copy(alloc) {
-            Ok(house) => Ok(Core {
-                state: State::new(alloc, house, kept, now),
+        let Ok(house) = house.copy(alloc) else {
+            return Err(CoreFault::Memory);
+        };
+        match State::new(alloc, house, kept, now) {
+            Ok(state) => Ok(Core {
+                state,
                 entries: 0,
                 opened: 0,
             }),
