@@ -54,3 +54,9 @@ pub mod ParmsShown
 pub mod LongAnswers
 pub mod EndsOneByOne
 pub mod Tokens
+pub mod SessionLists
+pub mod KeptWishes
+pub mod SessionViews
+pub mod SessionSteps
+pub mod SessionLaw
+pub mod FaultsTold

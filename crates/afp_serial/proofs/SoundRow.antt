@@ -64,7 +64,7 @@ no_more-not-ok : (code : Code) → tells_no_more code ≡ true → is_ok code �
 no_more-not-ok Ok h = absurd (cc)
 no_more-not-ok code h = refl
 
-no_more-kept : (code : Code) → tells_no_more code ≡ true → is_kept_code code ≡ true
+pub no_more-kept : (code : Code) → tells_no_more code ≡ true → is_kept_code code ≡ true
 no_more-kept MiscErr h = absurd (cc)
 no_more-kept NoMemory h = absurd (cc)
 no_more-kept code h = refl

@@ -88,7 +88,7 @@ IsLawful call = is_lawful_call call ≡ true
 abbrev is_short_answer : Kept → Bool
 is_short_answer kept = nat_le (length kept.answer.block) payload_limit
 
-abbrev is_kept_one : Kept → Bool
+abbrev pub is_kept_one : Kept → Bool
 is_kept_one kept = is_kept kept.request kept.answer.code
 
 either-fits : (a b : Option Answer) (x : Answer) → ((y : Answer) → a ≡ Some y → nat_le (length y.block) payload_limit ≡ true) → ((y : Answer) → b ≡ Some y → nat_le (length y.block) payload_limit ≡ true) → either a b ≡ Some x → nat_le (length x.block) payload_limit ≡ true
@@ -111,6 +111,12 @@ short-cache cache h =
     let e = and_parts (nat_le (length cache) replay_cache_size) (are_apart (λ a b. is_repeat a.request b.request) cache && (list_all is_short_answer cache && list_all is_kept_one cache)) h in
     let f = and_parts (are_apart (λ a b. is_repeat a.request b.request) cache) (list_all is_short_answer cache && list_all is_kept_one cache) e.1 in
     (and_parts (list_all is_short_answer cache) (list_all is_kept_one cache) f.1).0
+
+pub kept-cache : (cache : List Kept) → is_lawful_cache cache ≡ true → list_all is_kept_one cache ≡ true
+kept-cache cache h =
+    let e = and_parts (nat_le (length cache) replay_cache_size) (are_apart (λ a b. is_repeat a.request b.request) cache && (list_all is_short_answer cache && list_all is_kept_one cache)) h in
+    let f = and_parts (are_apart (λ a b. is_repeat a.request b.request) cache) (list_all is_short_answer cache && list_all is_kept_one cache) e.1 in
+    (and_parts (list_all is_short_answer cache) (list_all is_kept_one cache) f.1).1
 
 verdict-fits : (w : World) (s : Session) (r : Request) → ((call : Call) → spelt_call (block_of r) (enclosed_of r) ≡ Some call → IsLawful call) → IsSound w → is_lawful_cache s.cache ≡ true → (v : Verdict) (o : Outcome) → verdict w s r ≡ v → fits_frame (told_verdict w s v o) ≡ true
 verdict-fits w s r knows h lawful (repeats answer) o is = kept-fits s.cache r answer (short-cache s.cache lawful) (repeats-kept w s r answer is)

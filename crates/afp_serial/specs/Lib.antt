@@ -41,6 +41,7 @@ pub mod History
 pub mod Shown
 pub mod Went
 pub mod ParmsReplies
+pub mod SessionViews
 pub mod Laws
 pub mod ForkExamples
 pub mod ForkLaws

@@ -1,6 +1,6 @@
 -- The laws of rows on sessions, in the subject's own words: what a call leaves of them (this profile).
-use Rattle.std.specs.Prelude.{◌≡◌, ℕ, ◌==◌, Bool, true, false, not, List, find, filter, map, Option, Some}
-use Rattle.afp_base.specs.Cached.{Kept}
+use Rattle.std.specs.Prelude.{◌≡◌, ℕ, ◌==◌, Bool, true, false, not, List, find, filter, map, Option, None, Some}
+use Rattle.afp_base.specs.Cached.{Request, Kept, cached_answer}
 use Rattle.afp_calls_grammar.specs.declared.call.Call.{Call}
 use Rattle.afp_calls_grammar.specs.declared.call.Call.TheVariants.{DisconnectOldSession, Login, LoginExt, Logout}
 use Rattle.afp_serial.specs.declared.attachment.Attachment.{Attachment}
@@ -63,3 +63,13 @@ LeavesMarks = (w : World) (s : Session) (test : Session → Bool) (call : Call) 
 -- and each user, but where one may log in
 abbrev pub LeavesUsers : Type 0
 LeavesUsers = (w : World) (s : Session) (test : Session → Bool) (call : Call) → IsSound w → find test w.sessions ≡ Some s → moves_sessions call ≡ false → logs_in call ≡ false → users (effect w s call).world ≡ users w
+
+-- an answer that was not kept for a request is not kept behind a call's effect either
+abbrev pub KeepsNoneNew : Type 0
+KeepsNoneNew =
+    (w : World) (s x : Session) (test : Session → Bool) (call : Call) (r : Request)
+    → IsSound w
+    → find test w.sessions ≡ Some s
+    → cached_answer s.cache r ≡ None
+    → find (λ y. y.number == s.number) (effect w s call).world.sessions ≡ Some x
+    → cached_answer x.cache r ≡ None

@@ -3,6 +3,7 @@ ghost use Rattle.afp_serial.specs.Laws as laws;
 ghost use Rattle.afp_serial.specs.ListReply as list_reply;
 ghost use Rattle.afp_serial.specs.ParmsReplies as parms_replies;
 ghost use Rattle.afp_serial.specs.SessionLaws as session_laws;
+ghost use Rattle.afp_serial.specs.SessionViews as session_views;
 ghost use Rattle.afp_serial.specs.SweepLaws as sweep_laws;
 ghost use Rattle.afp_serial.specs.Token as token;
 ghost use Rattle.afp_serial.specs.ToldAtMost as told_at_most;
@@ -77,12 +78,27 @@ pub fn parameters_are_shown()
 {}
 
 /// A call but Logout and DisconnectOldSession leaves each session's number, its link or the moment at which it lost it, and its kept answers. The
-/// sessions that did not ask stay as they are; the one that asked has other volumes at most, and another user only where the call logs in.
+/// sessions that did not ask stay as they are; the one that asked has other volumes at most, and another user only where the call logs in. No call
+/// brings an answer for a request of its session that had none.
 pub fn calls_leave_other_sessions()
     ensures leaves { session_laws.LeavesSessions }
     ensures others { session_laws.LeavesOthers }
     ensures marks { session_laws.LeavesMarks }
     ensures users { session_laws.LeavesUsers }
+    ensures new { session_laws.KeepsNoneNew }
+{}
+
+/// Each legal ask changes what is seen of a session in few ways, and is told what goes with them: it opens the next session, ends or detaches that of its
+/// link, sweeps one without a link, keeps one more answer, or gives its link to the session of a token. A session with a link is there.
+pub fn asks_change_sessions_in_few_ways()
+    ensures changes { session_views.ChangesViews }
+    ensures there { session_views.HolderIsThere }
+{}
+
+/// MiscErr is told of a fault in that very ask alone, and NoMemory of no entry: neither is kept, and no row refuses with them.
+pub fn faults_are_told_of_this_ask()
+    ensures faults { session_views.FaultsAlone }
+    ensures memory { session_views.NeverNoMemory }
 {}
 
 /// In a sound world the sessions that are gone by then may end one by one: where the first of them ends, the sweep behind it comes to the same.
