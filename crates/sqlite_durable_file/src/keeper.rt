@@ -28,7 +28,7 @@ impl FileKeeper {
         ensures faults { IfOk result (λ keeper. keeper.inner.faults ≡ 0) }
         ensures settles { IfOk result (λ keeper. keeper.inner.settles ≡ []) }
     {
-        match Connection::open(rt, path) {
+        match Connection::open_with_sums(rt, path) {
             Ok(connection) => started(connection),
             Err(error) => Err(OpenFault::File(error)),
         }
