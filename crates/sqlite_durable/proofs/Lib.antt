@@ -4,4 +4,5 @@ mod ShapeLemmas
 mod RowLemmas
 mod TakeLemmas
 mod AddLemmas
+mod SetLemmas
 mod LeastLemmas

@@ -1,5 +1,5 @@
 -- The table of the records, and the texts of the statements on it.
-use Rattle.std.specs.Prelude.{true, false, [], ◌∷◌, Some, None, codes, List, ℕ}
+use Rattle.std.specs.Prelude.{true, false, [], ◌∷◌, None, codes, List, ℕ}
 use Rattle.sqlite_value.specs.declared.value.Value.TheVariants.{Null}
 use Rattle.sqlite_value.specs.declared.keys.Collation.TheVariants.{Binary}
 use Rattle.sqlite_schema.specs.declared.schema.Column.{Column}
@@ -27,6 +27,9 @@ find_text = codes "SELECT rowid FROM records WHERE key = ?1"
 
 abbrev pub take_text : List ℕ
 take_text = codes "DELETE FROM records WHERE rowid = ?1"
+
+abbrev pub set_text : List ℕ
+set_text = codes "UPDATE records SET value = ?2 WHERE rowid = ?1"
 
 abbrev pub add_text : List ℕ
 add_text = codes "INSERT INTO records (key, value) VALUES (?1, ?2)"

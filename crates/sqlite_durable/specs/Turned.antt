@@ -1,10 +1,8 @@
 -- What changes make of a database that has the table.
-use Rattle.std.specs.Prelude.{◌≡◌, ◌⊎◌, ℕ, List, IsTrue}
+use Rattle.std.specs.Prelude.{◌≡◌, ◌⊎◌}
 use Rattle.sqlite_trees.specs.Tree.{Trees}
-use Rattle.sqlite_trees.specs.declared.store.Store.{Ghosts}
 use Rattle.sqlite.specs.Effect.{Database, IsDatabase}
 use Rattle.sqlite.specs.State.{State, HasCleanDisk}
-use Rattle.sqlite.specs.Held.{Held, state}
 use Rattle.record_keeper.specs.Records.{Records}
 use Rattle.sqlite_durable.specs.Table.{records_schema}
 use Rattle.sqlite_durable.specs.Kept.{records_of}

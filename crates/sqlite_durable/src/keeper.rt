@@ -1,10 +1,11 @@
 //! The keeper, how it starts, and its count of faults.
-ghost use Rattle.std.specs.Prelude.{◌≡◌, ◌++◌, ◌∷◌, [], IfOk, IfSome, OnOk, OnErr, Err, true, false};
+ghost use Rattle.std.specs.Prelude.{◌≡◌, ◌≢◌, ◌+◌, ◌++◌, ◌∷◌, [], IfOk, IfSome, OnOk, OnErr, IsErrOf, Err, true, false};
 ghost use Rattle.std.specs.FinMap.{get};
 ghost use Rattle.std.specs.Option.{option_copied};
 ghost use Rattle.record_keeper.specs.Causes.{HasCause};
 ghost use Rattle.record_keeper.specs.Records.{Makes, same_records, changed, IsNextKey};
 ghost use Rattle.sqlite.specs.Held.{state};
+ghost use Rattle.sqlite_durable.specs.Table.{no_schema};
 ghost use Rattle.sqlite_durable.specs.Durable.{told_of, IsFoundIn, IsOpen, LeavesSame, LeavesChanged, LeavesTold};
 
 use crate::{reading, schema, writing};
@@ -61,6 +62,8 @@ impl<S: Alter + Drop> DurableKeeper<S> {
         ensures faults { IfOk result (λ keeper. keeper.faults ≡ 0) }
         ensures settles { IfOk result (λ keeper. keeper.settles ≡ []) }
         ensures busy { result ≡ Err StartFault.InTransaction → connection.in_transaction ≡ true }
+        ensures others { result ≡ Err StartFault.OtherTables → connection.schema ≢ no_schema }
+        ensures unmade { result ≡ Err StartFault.Failed → connection.schema ≡ no_schema }
     {
         if !connection.is_autocommit() {
             return Err(StartFault::InTransaction);
@@ -118,6 +121,7 @@ impl<S: Alter + Drop> Keeper for DurableKeeper<S> {
         ensures value { IfOk result (λ value. IfSome (told_of S.Store self.new) (λ kept. value ≡ get kept key.now)) }
         ensures records { Makes same_records (told_of S.Store self.old) (told_of S.Store self.new) }
         ensures cause { HasCause false self.old.faults self.new.faults result }
+        ensures one { IsErrOf result KeeperFault.Failed → self.new.faults ≡ self.old.faults + 1 }
         ensures settles { self.new.settles ≡ self.old.settles }
         ensures crash { LeavesSame S.Store self.old self.new }
     {
@@ -135,6 +139,7 @@ impl<S: Alter + Drop> Keeper for DurableKeeper<S> {
         ensures key { IfOk result (λ key. IfSome (told_of S.Store self.new) (λ kept. IsNextKey kept (option_copied after.entry) key)) }
         ensures records { Makes same_records (told_of S.Store self.old) (told_of S.Store self.new) }
         ensures cause { HasCause false self.old.faults self.new.faults result }
+        ensures one { IsErrOf result KeeperFault.Failed → self.new.faults ≡ self.old.faults + 1 }
         ensures settles { self.new.settles ≡ self.old.settles }
         ensures crash { LeavesSame S.Store self.old self.new }
     {
@@ -148,6 +153,7 @@ impl<S: Alter + Drop> Keeper for DurableKeeper<S> {
         ensures ok { OnOk result (Makes (changed changes.now) (told_of S.Store self.old) (told_of S.Store self.new)) }
         ensures err { OnErr result (Makes same_records (told_of S.Store self.old) (told_of S.Store self.new)) }
         ensures cause { HasCause false self.old.faults self.new.faults result }
+        ensures one { IsErrOf result KeeperFault.Failed → self.new.faults ≡ self.old.faults + 1 }
         ensures settles { self.new.settles ≡ self.old.settles }
         ensures crash { LeavesChanged S.Store (changed changes.now) self.old self.new }
     {

@@ -5,8 +5,6 @@ mod keeper;
 mod reading;
 mod rows;
 mod schema;
-#[cfg(test)]
-mod tests;
 mod writing;
 
 pub use keeper::{DurableKeeper, StartFault};

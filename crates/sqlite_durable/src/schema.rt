@@ -14,7 +14,8 @@ use sqlite_value::value::Value;
 
 /// Whether there is no table, no index and no view.
 pub(crate) fn is_blank(schema: &Schema) -> bool
-    ensures { IsTrue result → schema.now ≡ no_schema }
+    ensures blank { IsTrue result → schema.now ≡ no_schema }
+    ensures other { schema.now ≡ no_schema → IsTrue result }
 {
     schema.tables.is_empty() && schema.indexes.is_empty() && schema.views.is_empty()
 }

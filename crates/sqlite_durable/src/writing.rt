@@ -20,6 +20,8 @@ const FIND: &str = "SELECT rowid FROM records WHERE key = ?1";
 
 const TAKE: &str = "DELETE FROM records WHERE rowid = ?1";
 
+const SET: &str = "UPDATE records SET value = ?2 WHERE rowid = ?1";
+
 const ADD: &str = "INSERT INTO records (key, value) VALUES (?1, ?2)";
 
 /// The number of the row that has the key.
@@ -52,6 +54,25 @@ fn take<S: Alter>(transaction: &mut Transaction<'_, S>, id: i64) -> Result<(), E
     ensures crash { Survives (state S.Store transaction.old.conn.now) (state S.Store transaction.new.conn.now) (λ _. ⊥) }
 {
     let count = transaction.execute(TAKE, params![id])?;
+    if count == 1 {
+        Ok(())
+    } else {
+        Err(Error::InvalidQuery)
+    }
+}
+
+/// Gives the one row of a number another value. Another count of rows is refused. So it is the value of whichever key had this number.
+fn set<S: Alter>(transaction: &mut Transaction<'_, S>, id: i64, value: &Bytes) -> Result<(), Error>
+    ensures same_reference { transaction.new.conn.ghost_name ≡ transaction.old.conn.ghost_name }
+    ensures turns { HasCleanDisk (state S.Store transaction.new.conn.now) → IsTrue (state S.Store transaction.old.conn.now).in_transaction → HasTable (state S.Store transaction.old.conn.now).now
+        → (key : List ℕ) → IsPlaceOf key ((state S.Store transaction.old.conn.now).now.trees 0) (Some id)
+        → OnOk result (Turns (λ kept. insert kept key value.now) (state S.Store transaction.old.conn.now).now (state S.Store transaction.new.conn.now).now) }
+    ensures inside { HasCleanDisk (state S.Store transaction.new.conn.now) → IsTrue (state S.Store transaction.old.conn.now).in_transaction → OnOk result (IsTrue (state S.Store transaction.new.conn.now).in_transaction) }
+    ensures kept { HasCleanDisk (state S.Store transaction.new.conn.now) → IsTrue (state S.Store transaction.old.conn.now).in_transaction
+        → KeepsCommit (state S.Store transaction.old.conn.now) (state S.Store transaction.new.conn.now) }
+    ensures crash { Survives (state S.Store transaction.old.conn.now) (state S.Store transaction.new.conn.now) (λ _. ⊥) }
+{
+    let count = transaction.execute(SET, params![id, value.as_slice()])?;
     if count == 1 {
         Ok(())
     } else {
@@ -107,8 +128,10 @@ fn put<S: Alter>(
         → KeepsCommit (state S.Store transaction.old.conn.now) (state S.Store transaction.new.conn.now) }
     ensures crash { Survives (state S.Store transaction.old.conn.now) (state S.Store transaction.new.conn.now) (λ _. ⊥) }
 {
-    clear(transaction, key)?;
-    add(transaction, key, value)
+    match find(transaction, key)? {
+        Some(id) => set(transaction, id, value),
+        None => add(transaction, key, value),
+    }
 }
 
 fn make_one<S: Alter>(transaction: &mut Transaction<'_, S>, change: &Change) -> Result<(), Error>

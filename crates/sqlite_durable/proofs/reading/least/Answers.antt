@@ -1,17 +1,10 @@
-use Rattle.std.proofs.Common.{rules, ◌≡◌, [], ◌∷◌, IfOk, OnOk, IsTrue, sym, subst, ap, not, ◌∙◌, ℕ, List, refl, Ok, Err, Result, Option, None, Some, length, slice_get, option_map, ◌≤◌}
+use Rattle.std.proofs.Common.{rules, [], sym, subst, ap, not, ◌∙◌}
 use Rattle.sqlite.specs.Held.{state}
 use Rattle.sqlite.specs.State.{HasCleanDisk, IsUnchanged, Shown}
-use Rattle.sqlite_value.specs.declared.value.Value.TheVariants.{Blob}
-use Rattle.sqlite_value.specs.Order.{Row, column}
 use Rattle.sqlite.specs.Listing.{understood}
-use Rattle.sqlite.specs.Values.{bound_value}
-use Rattle.sqlite_value.specs.Value.{owned}
 use Rattle.sqlite.proofs.Callers.{IsPlain}
-use Rattle.record_keeper.specs.Records.{IsNextKey}
-use Rattle.sqlite_durable.specs.Table.{records_schema, least_text}
-use Rattle.sqlite_durable.specs.Kept.{records_of}
+use Rattle.sqlite_durable.specs.Table.{least_text}
 use Rattle.sqlite_durable.proofs.Texts.{least_plain}
-use Rattle.sqlite_durable.proofs.ReadLemmas.{key_row}
 use Rattle.sqlite_durable.proofs.LeastLemmas.{least_told}
 use Rattle.sqlite_durable.proofs.ShapeLemmas.{rows_are, shown_same, shown_open, open_clean, fails_now, on_err, leaves_as_before, commits_nothing, if_ok}
 use Rattle.sqlite_durable.proofs.reading.least.Goals as goal

@@ -1,15 +1,12 @@
-use Rattle.std.proofs.Common.{rules, ◌≡◌, [], ◌∷◌, IfOk, OnOk, IsTrue, sym, subst, ap, not, ◌∙◌, ℕ, List, refl, Ok, Err, Result, Option}
+use Rattle.std.proofs.Common.{rules, [], ◌∷◌, sym, subst, ap, not, ◌∙◌}
 use Rattle.sqlite.specs.Held.{state}
-use Rattle.sqlite.specs.State.{HasCleanDisk, Survives, IsUnchanged, Shown}
-use Rattle.sqlite_value.specs.declared.value.Value.TheVariants.{Blob}
-use Rattle.sqlite_value.specs.Order.{Row}
+use Rattle.sqlite.specs.State.{HasCleanDisk, IsUnchanged, Shown}
 use Rattle.std.specs.FinMap.{get}
 use Rattle.sqlite.specs.Listing.{understood}
 use Rattle.sqlite.specs.Values.{bound_value}
 use Rattle.sqlite_value.specs.Value.{owned}
 use Rattle.sqlite.proofs.Callers.{IsPlain}
-use Rattle.sqlite_durable.specs.Table.{records_schema, read_text}
-use Rattle.sqlite_durable.specs.Turned.{records_in, LeavesAsBefore}
+use Rattle.sqlite_durable.specs.Table.{read_text}
 use Rattle.sqlite_durable.specs.Kept.{records_of}
 use Rattle.sqlite_durable.proofs.Texts.{read_plain}
 use Rattle.sqlite_durable.proofs.ReadLemmas.{key_row, reads_one}

@@ -1,4 +1,4 @@
-use Rattle.std.proofs.Common.{rules, ◌≡◌, ◌∷◌, [], IsTrue, sym, ◌∙◌}
+use Rattle.std.proofs.Common.{rules, ◌≡◌, ◌∷◌, []}
 use Rattle.sqlite_durable.specs.Table.{records_table, records_index}
 use Rattle.sqlite_durable.proofs.Texts.{schema_from}
 use Rattle.sqlite_durable.proofs.schema.is_records.Goals as goal

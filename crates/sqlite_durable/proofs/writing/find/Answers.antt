@@ -1,13 +1,11 @@
-use Rattle.std.proofs.Common.{rules, ◌≡◌, [], ◌∷◌, IfOk, OnOk, IsTrue, sym, subst, ap, ◌∙◌, ℕ, List, refl, Option, length, ◌≤◌, slice_get, option_map}
+use Rattle.std.proofs.Common.{rules, [], ◌∷◌, sym, subst}
 use Rattle.sqlite.specs.Held.{state}
-use Rattle.sqlite.specs.State.{HasCleanDisk, IsUnchanged, Shown, KeepsCommit}
-use Rattle.sqlite_value.specs.declared.value.Value.TheVariants.{Int}
-use Rattle.sqlite_value.specs.Order.{Row, column}
+use Rattle.sqlite.specs.State.{IsUnchanged, Shown}
 use Rattle.sqlite.specs.Listing.{understood}
 use Rattle.sqlite.specs.Values.{bound_value}
 use Rattle.sqlite_value.specs.Value.{owned}
 use Rattle.sqlite.proofs.Callers.{IsPlain}
-use Rattle.sqlite_durable.specs.Table.{records_schema, find_text}
+use Rattle.sqlite_durable.specs.Table.{find_text}
 use Rattle.sqlite_durable.proofs.Texts.{find_plain}
 use Rattle.sqlite_durable.proofs.ReadLemmas.{key_row}
 use Rattle.sqlite_durable.proofs.TakeLemmas.{finds}

@@ -1,4 +1,4 @@
-use Rattle.std.proofs.Common.{rules, ◌≡◌, [], ◌∷◌, IfOk, OnOk, OnErr, IsTrue, sym, subst, ap, not, ◌∙◌, ℕ, List, refl, Option, Some, None, drop, arith, true, false}
+use Rattle.std.proofs.Common.{rules, ◌≡◌, OnOk, OnErr, IsTrue, sym, subst, ap, not, ◌∙◌, arith, true}
 use Rattle.sqlite.specs.Held.{state}
 use Rattle.sqlite_trees.specs.Tree.{Trees}
 use Rattle.sqlite.specs.State.{HasCleanDisk, Survives, KeepsCommit}
