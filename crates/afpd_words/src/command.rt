@@ -105,7 +105,7 @@ fn server_command<'a>(alloc: Global) -> Result<Command<'a>, AllocError>
             "N",
             "4",
             ValueParser::Unsigned(1, 16),
-            "How many links are served side by side",
+            "How many links are to be served side by side; until then they are served one after the other",
         ))?;
     let command = command
         .arg(option(
