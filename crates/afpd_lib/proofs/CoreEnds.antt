@@ -30,13 +30,13 @@ shown-before begun now core history starts stands none =
     ap (λ (s : ServerState). shown_by s now history) starts ∙ (ap (λ (s : ServerState). shown_by core s history) stands ∙ ap (λ (h : List Entry). shown_by core core h) none)
 
 -- where the teller goes on from the same start, its core serves what it serves
-pub core-served : {L P K : Type 0} (state : L → LinkState) (passed : P → Passed) (kept_by : Keeping K) (house : Household) (core : ServerState) (limit : ℕ) (old new : DoorState L) (end : DoorEnd) (begun now begins stands done : ServerState) (none history : List Entry)
+pub core-served : {L P K : Type 0} (state : L → LinkState) (passed : P → Passed) (kept_by : Keeping K) (house : Household) (core : ServerState) (limit turns : ℕ) (old new : DoorState L) (end : DoorEnd) (begun now begins stands done : ServerState) (none history : List Entry)
     → begun ≡ core → now ≡ core → none ≡ [] → begins ≡ begun
-    → ServesUpTo state passed house limit old (shown_by begun now none) end new (shown_by begins stands history) → IsSoundShown (shown_by begins stands history)
+    → ServesUpTo state passed house turns limit old (shown_by begun now none) end new (shown_by begins stands history) → IsSoundShown (shown_by begins stands history)
     → done ≡ stands → done.world ≡ stand begins.world history → SureKept begins done → AreHeld kept_by.records kept_by.sure kept_by.faults done.world.volumes done.faults done.sure
-    → ServesCore state passed kept_by house core limit old end new (shown_by begins stands history)
-core-served state passed kept_by house core limit old new end begun now begins stands done none history starts is_now is_none fixed serves sound is_done world sure held = record {
-  serves = subst (λ (a : Shown). ServesUpTo state passed house limit old a end new (shown_by begins stands history)) (shown-before begun now core none starts is_now is_none) serves;
+    → ServesCore state passed kept_by house core limit turns old end new (shown_by begins stands history)
+core-served state passed kept_by house core limit turns old new end begun now begins stands done none history starts is_now is_none fixed serves sound is_done world sure held = record {
+  serves = subst (λ (a : Shown). ServesUpTo state passed house turns limit old a end new (shown_by begins stands history)) (shown-before begun now core none starts is_now is_none) serves;
   sound = sound;
   own = refl;
   done = done;

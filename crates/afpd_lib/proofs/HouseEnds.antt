@@ -22,10 +22,11 @@ use Rattle.afp_core_state.specs.Holding.{HoldEach}
 use Rattle.volume_keeper_commit.specs.Kept.{KeptState}
 use Rattle.afpd_lib.proofs.OneHouse.{one_house}
 use Rattle.afpd_lib.specs.Keeping.{Keeping, steady_in}
-use Rattle.afpd_lib.specs.Links.{ServesUpTo}
-use Rattle.afpd_lib.specs.Plain.{AreCounts, Asks, EndsPlain, ServesHouse, house_of}
-use Rattle.afpd_lib.specs.lemma.Plain.{CoreCounts, EndsCore, EndsHouse, ServesCore, shown_at}
-use Rattle.afpd_lib.specs.Words.{WordValues}
+use Rattle.afpd_lib.specs.AskedHouse.{Asks, house_of}
+use Rattle.afpd_lib.specs.Links.{ServesUpTo, most_links}
+use Rattle.afpd_lib.specs.Plain.{AreCounts, EndsPlain, ServesHouse}
+use Rattle.afpd_lib.specs.lemma.Plain.{CoreCounts, EndsCore, EndsHouse, EndsUnread, ServesCore, shown_at}
+use Rattle.afpd_words.specs.Words.{SaysWords, WordValues}
 use Rattle.afpd_lib.specs.declared.links.DoorEnd.{DoorEnd}
 use Rattle.afpd_lib.specs.declared.links.DoorEnd.TheVariants as doors
 use Rattle.afpd_lib.specs.declared.plain.PlainEnd.{PlainEnd}
@@ -79,14 +80,14 @@ stands kept_by house now keepers core done l k all =
     let each : list_all (λ b. b) core.sure ≡ true = ap (list_all (λ b. b)) sure ∙ all-kept kept_by now house.volumes keepers l.kept l.loaded all in
     ap sum (all-stand core.sure core.faults done.faults k.many many each k.stand ∙ faults)
 
-module _ {L P K : Type 0} (state : L → LinkState) (passed : P → Passed) (kept_by : Keeping K) (house : Household) (keepers : List K) (limit : ℕ) (clock : Option ℕ) (old new : DoorState L) (now : ℕ) (core : ServerState) (l : IsLoadedServer (steady_in kept_by) kept_by.sure kept_by.faults house now keepers core) (told : IfSome clock (λ moment. now ≡ moment)) where
-  core-serves : (end : DoorEnd) (shown : Shown) → ServesCore state passed kept_by house core limit old end new shown → ServesHouse state passed kept_by house keepers limit clock old end new shown
+module _ {L P K : Type 0} (state : L → LinkState) (passed : P → Passed) (kept_by : Keeping K) (house : Household) (keepers : List K) (limit turns : ℕ) (clock : Option ℕ) (old new : DoorState L) (now : ℕ) (core : ServerState) (l : IsLoadedServer (steady_in kept_by) kept_by.sure kept_by.faults house now keepers core) (told : IfSome clock (λ moment. now ≡ moment)) where
+  core-serves : (end : DoorEnd) (shown : Shown) → ServesCore state passed kept_by house core limit turns old end new shown → ServesHouse state passed kept_by house keepers limit turns clock old end new shown
   core-serves end shown s = record {
     now = now;
     told = told;
     kept = l.kept;
     loaded = l.loaded;
-    serves = subst (λ (c : ServerState). ServesUpTo state passed house limit old (shown_at c) end new shown) l.start s.serves;
+    serves = subst (λ (c : ServerState). ServesUpTo state passed house turns limit old (shown_at c) end new shown) l.start s.serves;
     sound = s.sound;
     own = s.own;
     faultless = λ all. s.counted ∙ stands kept_by house now keepers core s.done l s.keeps all;
@@ -102,8 +103,9 @@ module _ {L P K : Type 0} (state : L → LinkState) (passed : P → Passed) (kep
     sessions = c.sessions ∙ ap (λ (s : ServerState). counted (opened_in shown.start shown.history) s.opened) l.start;
   }
 
-  pub core-ends : (end : PlainEnd) → EndsCore state passed kept_by house core limit old new end → EndsHouse state passed kept_by house keepers limit clock old new end
+  pub core-ends : (end : PlainEnd) → EndsCore state passed kept_by house core limit turns old new end → EndsHouse state passed kept_by house keepers limit turns clock old new end
   core-ends plain.Refused e = absurd e
+  core-ends (plain.Helped text) e = absurd e
   core-ends (plain.BadRecord index hex reason) e = absurd e
   core-ends (plain.LoadFailed index) e = absurd e
   core-ends plain.Memory e = inr (e.0, core-serves doors.Memory e.0 e.1)
@@ -112,12 +114,24 @@ module _ {L P K : Type 0} (state : L → LinkState) (passed : P → Passed) (kep
 
 -- the same for the words
 pub words-end : {L P K : Type 0} → (state : L → LinkState) (passed : P → Passed) (kept_by : Keeping K) (words : List (List ℕ)) (keepers : List K) (key : List ℕ) (clock : Option ℕ) (old new : DoorState L) (values : WordValues) (end : PlainEnd)
-    → Asks words key values → EndsHouse state passed kept_by (house_of values key) keepers values.links clock old new end → EndsPlain state passed kept_by words keepers key clock old new end
+    → Asks words key values → EndsHouse state passed kept_by (house_of values key) keepers (most_links values.links) values.turns clock old new end → EndsPlain state passed kept_by words keepers key clock old new end
 words-end state passed kept_by words keepers key clock old new values plain.Refused asks e =
     (λ other others same. e.0 (same ∙ ap (λ (h : Household). length h.volumes) (one_house words key other values others.words_are asks.words_are)), e.1)
+words-end state passed kept_by words keepers key clock old new values (plain.Helped text) asks e = absurd e
 words-end state passed kept_by words keepers key clock old new values plain.Memory asks (inl same) = inl same
 words-end state passed kept_by words keepers key clock old new values plain.Memory asks (inr e) = inr (e.0, record { values = values; asks = asks; serves = e.1 })
 words-end state passed kept_by words keepers key clock old new values (plain.BadRecord index hex reason) asks e = (e.0, (e.1.0, e.1.1, record { values = values; asks = asks; fails = e.1.2 }))
 words-end state passed kept_by words keepers key clock old new values (plain.LoadFailed index) asks e = (e.0, record { values = values; asks = asks; fails = e.1 })
 words-end state passed kept_by words keepers key clock old new values (plain.DoorFailed counts) asks e = (e.0, record { values = values; asks = asks; serves = e.1 }, e.2)
 words-end state passed kept_by words keepers key clock old new values (plain.Served counts) asks e = (e.0, record { values = values; asks = asks; serves = e.1 }, e.2)
+
+-- the same where they say nothing
+pub unread-end : {L P K : Type 0} → (state : L → LinkState) (passed : P → Passed) (kept_by : Keeping K) (words : List (List ℕ)) (keepers : List K) (key : List ℕ) (clock : Option ℕ) (door : DoorState L) (end : PlainEnd)
+    → ((values : WordValues) → SaysWords words values → ⊥) → EndsUnread words end → EndsPlain state passed kept_by words keepers key clock door door end
+unread-end state passed kept_by words keepers key clock door (plain.Helped text) none e = (e, λ values asks many. none values asks.words_are, refl)
+unread-end state passed kept_by words keepers key clock door plain.Refused none e = (λ values asks many. none values asks.words_are, refl)
+unread-end state passed kept_by words keepers key clock door plain.Memory none e = inl refl
+unread-end state passed kept_by words keepers key clock door (plain.BadRecord index hex reason) none e = absurd e
+unread-end state passed kept_by words keepers key clock door (plain.LoadFailed index) none e = absurd e
+unread-end state passed kept_by words keepers key clock door (plain.DoorFailed counts) none e = absurd e
+unread-end state passed kept_by words keepers key clock door (plain.Served counts) none e = absurd e

@@ -1,10 +1,7 @@
 pub mod Faultless
 pub mod HouseEnds
 pub mod LinksLemmas
-pub mod EightWords
 pub mod OneHouse
 pub mod PlainLaws
-pub mod Ports
-pub mod VolumeWords
 pub mod ReportLemmas
 pub mod CoreEnds

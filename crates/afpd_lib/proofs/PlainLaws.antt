@@ -15,9 +15,10 @@ use Rattle.volume_keeper_records.specs.FirstBad.{first_bad_record}
 use Rattle.volume_keeper_records.specs.Image.{records_in}
 use Rattle.afpd_lib.proofs.OneHouse.{one_house}
 use Rattle.afpd_lib.specs.Complete.{HoldGood, ServesGoodKeepers, ServesGoodWords}
-use Rattle.afpd_lib.specs.Plain.{Asks, EndsPlain, FailsToLoad, Status, WordsFailToLoad, house_of}
+use Rattle.afpd_lib.specs.AskedHouse.{Asks, house_of}
+use Rattle.afpd_lib.specs.Plain.{EndsPlain, FailsToLoad, Status, WordsFailToLoad}
 use Rattle.afpd_lib.specs.Reporting.{Reports, ReportsPart}
-use Rattle.afpd_lib.specs.Words.{WordValues}
+use Rattle.afpd_words.specs.Words.{WordValues}
 use Rattle.afpd_lib.specs.declared.plain.PlainEnd.{PlainEnd}
 use Rattle.afpd_lib.specs.declared.plain.PlainEnd.TheVariants as plain
 
@@ -30,6 +31,7 @@ still before after text status good (inr told) same low = absurd (omega (arith, 
 pub by_end : {L P K : Type 0} (state : L → LinkState) (passed : P → Passed) (kept_by : Keeping K) (words : List (List ℕ)) (keepers : List K) (key : List ℕ) (clock : Option ℕ) (values : WordValues) (old new : DoorState L) (before after : SinkState) (status : ℕ) (end : PlainEnd)
     → EndsPlain state passed kept_by words keepers key clock old new end → Status end before after status → Asks words key values → length keepers ≡ length (house_of values key).volumes → new.faults ≡ old.faults → old.faults < last_count
     → after.faults ≡ before.faults → before.faults < last_count → (status ≡ 0) ⊎ ((status ≡ 3) ⊎ (status ≡ 6))
+by_end state passed kept_by words keepers key clock values old new before after status (plain.Helped text) e s asks many same low same_report low_report = absurd (e.1 values asks many)
 by_end state passed kept_by words keepers key clock values old new before after status plain.Refused e s asks many same low same_report low_report = absurd (e.0 values asks many)
 by_end state passed kept_by words keepers key clock values old new before after status plain.Memory e s asks many same low same_report low_report = inr (inr s.0)
 by_end state passed kept_by words keepers key clock values old new before after status (plain.BadRecord index hex reason) e s asks many same low same_report low_report =
@@ -69,6 +71,7 @@ words-load kept_by words keepers key clock values index fault asks good f =
 pub by_good_end : {L P K : Type 0} (state : L → LinkState) (passed : P → Passed) (kept_by : Keeping K) (words : List (List ℕ)) (keepers : List K) (key : List ℕ) (clock : Option ℕ) (values : WordValues) (old new : DoorState L) (before after : SinkState) (status : ℕ) (end : PlainEnd)
     → EndsPlain state passed kept_by words keepers key clock old new end → Status end before after status → Asks words key values → length keepers ≡ length (house_of values key).volumes → new.faults ≡ old.faults → old.faults < last_count
     → after.faults ≡ before.faults → before.faults < last_count → HoldGood kept_by (house_of values key).volumes keepers → (status ≡ 0) ⊎ (status ≡ 6)
+by_good_end state passed kept_by words keepers key clock values old new before after status (plain.Helped text) e s asks many same low same_report low_report good = absurd (e.1 values asks many)
 by_good_end state passed kept_by words keepers key clock values old new before after status plain.Refused e s asks many same low same_report low_report good = absurd (e.0 values asks many)
 by_good_end state passed kept_by words keepers key clock values old new before after status plain.Memory e s asks many same low same_report low_report good = inr s.0
 by_good_end state passed kept_by words keepers key clock values old new before after status (plain.BadRecord index hex reason) e s asks many same low same_report low_report good =

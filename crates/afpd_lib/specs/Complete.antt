@@ -12,9 +12,10 @@ use Rattle.record_keeper.specs.Records.{Records}
 use Rattle.volume_keeper_records.specs.FirstBad.{first_bad_record}
 use Rattle.volume_keeper_records.specs.Image.{records_in}
 use Rattle.afpd_lib.specs.Keeping.{Keeping, steady_in}
-use Rattle.afpd_lib.specs.Plain.{Asks, IsPlainRun, ServesHouse, house_of, before_asks}
+use Rattle.afpd_lib.specs.AskedHouse.{Asks, house_of}
+use Rattle.afpd_lib.specs.Plain.{IsPlainRun, ServesHouse, before_asks}
 use Rattle.afpd_lib.specs.declared.links.DoorEnd.{DoorEnd}
-use Rattle.afpd_lib.specs.Words.{WordValues}
+use Rattle.afpd_words.specs.Words.{WordValues}
 
 -- The law: where the words ask for a house that is taken, of as many volumes as there are keepers, and neither the door's count of
 -- faults nor the report's rose or stands at its last number, the status is 0, or 6 for want of memory, or 3 for a keeper whose records are no volume's.
@@ -43,5 +44,5 @@ ServesGoodKeepers {L} {P} {K} state passed kept_by = (words : List (List ℕ)) (
 -- The law: where links were served by a house, and the sum of its keepers' counts did not rise and stands below the last number, no ask met a fault. That sum
 -- never rises where all keepers are sure.
 abbrev pub MeetsNoFault : {L P K : Type 0} → (L → LinkState) → (P → Passed) → Keeping K → Type 0
-MeetsNoFault {L} {P} {K} state passed kept_by = (house : Household) (keepers : List K) (limit : ℕ) (clock : Option ℕ) (old : DoorState L) (end : DoorEnd) (new : DoorState L) (shown : Shown)
-    → (s : ServesHouse state passed kept_by house keepers limit clock old end new shown) → shown.faults ≡ (before_asks house s.now s.kept).faults → shown.faults < last_count → All (λ e. e.outcome ≡ Done) shown.history
+MeetsNoFault {L} {P} {K} state passed kept_by = (house : Household) (keepers : List K) (limit turns : ℕ) (clock : Option ℕ) (old : DoorState L) (end : DoorEnd) (new : DoorState L) (shown : Shown)
+    → (s : ServesHouse state passed kept_by house keepers limit turns clock old end new shown) → shown.faults ≡ (before_asks house s.now s.kept).faults → shown.faults < last_count → All (λ e. e.outcome ≡ Done) shown.history

@@ -1,9 +1,8 @@
+pub mod AskedHouse
 pub mod Keeping
 pub mod Complete
 pub mod Links
 pub mod Plain
 pub mod Reporting
 pub mod Setup
-pub mod WordValues
-pub mod Words
 pub mod lemma

@@ -2,9 +2,11 @@
 #![tactic(auto)]
 
 pub mod given;
+pub mod house;
 pub mod laws;
 pub mod links;
+pub mod notes;
 pub mod plain;
 pub mod report;
 pub mod setup;
-pub mod words;
+pub mod unopened;

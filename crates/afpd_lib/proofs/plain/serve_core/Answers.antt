@@ -7,7 +7,7 @@ use Rattle.afpd_lib.proofs.plain.serve_core.Goals as goal
 pub returns-in-Done : goal.returns-in-Done
 returns-in-Done g c = (
   shown_of c.serve_links-end.new.teller,
-  core-served g.N.Link.Link.link_state g.G.Gate.passed (keeping g.K.Keeper.records g.K.Keeper.steady g.K.Keeper.sure g.K.Keeper.faults) c.args.house.now c.args.core c.args.links
+  core-served g.N.Link.Link.link_state g.G.Gate.passed (keeping g.K.Keeper.records g.K.Keeper.steady g.K.Keeper.sure g.K.Keeper.faults) c.args.house.now c.args.core c.args.links c.args.turns
       (g.N.Listener.door_state c.args.door.now) (g.N.Listener.door_state c.serve_links-end.new.door) doors.Done (start_of c.new-teller.result) (core_of c.new-teller.result)
       (start_of c.serve_links-end.new.teller) (core_of c.serve_links-end.new.teller) c.core-served.result.now (history_of c.new-teller.result) (history_of c.serve_links-end.new.teller)
       c.new-teller.ensures.start c.new-teller.ensures.core c.new-teller.ensures.history c.in-Done.ensures.fixed c.in-Done.ensures.serves c.in-Done.ensures.sound
@@ -20,7 +20,7 @@ returns-in-Done g c = (
 pub returns-in-Failed : goal.returns-in-Failed
 returns-in-Failed g c = (
   shown_of c.serve_links-end.new.teller,
-  core-served g.N.Link.Link.link_state g.G.Gate.passed (keeping g.K.Keeper.records g.K.Keeper.steady g.K.Keeper.sure g.K.Keeper.faults) c.args.house.now c.args.core c.args.links
+  core-served g.N.Link.Link.link_state g.G.Gate.passed (keeping g.K.Keeper.records g.K.Keeper.steady g.K.Keeper.sure g.K.Keeper.faults) c.args.house.now c.args.core c.args.links c.args.turns
       (g.N.Listener.door_state c.args.door.now) (g.N.Listener.door_state c.serve_links-end.new.door) doors.Failed (start_of c.new-teller.result) (core_of c.new-teller.result)
       (start_of c.serve_links-end.new.teller) (core_of c.serve_links-end.new.teller) c.core-served.result.now (history_of c.new-teller.result) (history_of c.serve_links-end.new.teller)
       c.new-teller.ensures.start c.new-teller.ensures.core c.new-teller.ensures.history c.in-Failed.ensures.fixed c.in-Failed.ensures.serves c.in-Failed.ensures.sound
@@ -33,7 +33,7 @@ returns-in-Failed g c = (
 pub returns-in-Memory : goal.returns-in-Memory
 returns-in-Memory g c = (
   shown_of c.serve_links-end.new.teller,
-  core-served g.N.Link.Link.link_state g.G.Gate.passed (keeping g.K.Keeper.records g.K.Keeper.steady g.K.Keeper.sure g.K.Keeper.faults) c.args.house.now c.args.core c.args.links
+  core-served g.N.Link.Link.link_state g.G.Gate.passed (keeping g.K.Keeper.records g.K.Keeper.steady g.K.Keeper.sure g.K.Keeper.faults) c.args.house.now c.args.core c.args.links c.args.turns
       (g.N.Listener.door_state c.args.door.now) (g.N.Listener.door_state c.serve_links-end.new.door) doors.Memory (start_of c.new-teller.result) (core_of c.new-teller.result)
       (start_of c.serve_links-end.new.teller) (core_of c.serve_links-end.new.teller) c.core-served.result.now (history_of c.new-teller.result) (history_of c.serve_links-end.new.teller)
       c.new-teller.ensures.start c.new-teller.ensures.core c.new-teller.ensures.history c.in-Memory.ensures.fixed c.in-Memory.ensures.serves c.in-Memory.ensures.sound

@@ -1,11 +1,20 @@
-use Rattle.std.proofs.Common.{◌≡◌, ◌∙◌, ap, sym, refl, List, ℕ, String, Global, string_bytes}
+use Rattle.std.proofs.Common.{◌≡◌, ◌∙◌, List, ap, map, sym, refl, rules}
 use Rattle.std.proofs.lemmas.Simd.{map-map}
-use Rattle.afpd_lib.specs.WordValues.{values_of}
-use Rattle.afpd_lib.specs.Words.{name_in}
-use Rattle.afpd_lib.specs.declared.setup.VolumePlace.TheVariants.{Memory}
 use Rattle.std.specs.Prelude.{Err}
-use Rattle.afpd_lib.specs.declared.words.WordFault.TheVariants.{Bad}
+use Rattle.afpd_words.specs.Places.{VolumeValue}
+use Rattle.afpd_words.specs.declared.read.WordFault.TheVariants.{Bad}
+use Rattle.afpd_words.specs.declared.place.VolumeWord.{VolumeWord}
+use Rattle.afpd_words.specs.declared.read.ServerWords.{ServerWords}
+use Rattle.afpd_words.specs.lemma.Values.{place_value, values_of, volume_value}
+use Rattle.afpd_lib.specs.Setup.{kept_at}
+use Rattle.afpd_lib.specs.declared.setup.VolumePlace.{VolumePlace}
 use Rattle.afpd_lib.proofs.setup.setup.Goals as goal
+
+-- the places of what was read are those that the words say
+same_places : (said : ServerWords) (made : List VolumePlace) (volumes : List VolumeWord) → volumes ≡ said.volumes.items → made ≡ map (λ volume. kept_at (place_value volume.place)) volumes
+    → made ≡ map (λ volume. kept_at volume.place) (map volume_value said.volumes.items)
+same_places said made volumes same are =
+    are ∙ ap (map (λ (volume : VolumeWord). kept_at (place_value volume.place))) same ∙ sym (map-map (λ (volume : VolumeValue). kept_at volume.place) volume_value said.volumes.items)
 
 pub returns-in-Err-clause-bad : goal.returns-in-Err-clause-bad
 returns-in-Err-clause-bad c = λ is.
@@ -13,13 +22,11 @@ returns-in-Err-clause-bad c = λ is.
     c.in-Err.ensures.bad (ap Err same)
 
 pub returns-in-Ok-places_of-clause-found : goal.returns-in-Ok-places_of-clause-found
-returns-in-Ok-places_of-clause-found c =
-    let values = values_of c.in-Ok.words in
-    record {
-      values = values;
-      words_are = c.in-Ok.ensures.found;
-      places = c.in-Ok-places_of.ensures ∙ sym (map-map (λ (name : List ℕ). Memory) (λ (word : String Global). name_in (string_bytes word)) c.in-Ok.words.places.now);
-      port = refl;
-      workers = refl;
-      links = refl;
-    }
+returns-in-Ok-places_of-clause-found c = record {
+  values = values_of c.in-Ok.said;
+  words_are = c.in-Ok.ensures.found;
+  places = same_places c.in-Ok.said _ _ (search rules) c.in-Ok-places_of.ensures;
+  port = refl;
+  workers = refl;
+  links = refl;
+}
