@@ -1,5 +1,6 @@
 //! A keeper over a database file.
-ghost use Rattle.std.specs.Prelude.{◌≡◌, IfOk, []};
+ghost use Rattle.std.specs.Prelude.{◌≡◌, ◌≢◌, IfOk, IfErr, IsTrue, Err, true, []};
+ghost use Rattle.sqlite.specs.Opening.{is_open_error};
 
 use afp_base::Bytes;
 use record_keeper::{Change, Keeper, KeeperFault, RecordKey};
@@ -24,9 +25,13 @@ pub enum OpenFault {
 
 impl FileKeeper {
     /// A keeper over the database in a file, which is made where it is not there. Beside it lies its log, `PATH-wal`.
+    /// Each page of a file that is made here ends in a sum, so a file that was changed between two runs is refused. A program
+    /// that writes no such sums spoils them. A file that was made without sums stays without them.
     pub fn open(rt: &HostRuntime, path: &str) -> Result<FileKeeper, OpenFault>
         ensures faults { IfOk result (λ keeper. keeper.inner.faults ≡ 0) }
         ensures settles { IfOk result (λ keeper. keeper.inner.settles ≡ []) }
+        ensures named { IfErr result (λ fault. (error : _) → fault ≡ OpenFault.File error → IsTrue (is_open_error error)) }
+        ensures alone { result ≢ Err (OpenFault.Start StartFault.InTransaction) }
     {
         match Connection::open_with_sums(rt, path) {
             Ok(connection) => started(connection),
@@ -38,6 +43,8 @@ impl FileKeeper {
 fn started(connection: Connection<FileStore<File>>) -> Result<FileKeeper, OpenFault>
     ensures faults { IfOk result (λ keeper. keeper.inner.faults ≡ 0) }
     ensures settles { IfOk result (λ keeper. keeper.inner.settles ≡ []) }
+    ensures named { IfErr result (λ fault. (error : _) → fault ≢ OpenFault.File error) }
+    ensures busy { result ≡ Err (OpenFault.Start StartFault.InTransaction) → connection.in_transaction ≡ true }
 {
     match DurableKeeper::new(connection) {
         Ok(inner) => Ok(FileKeeper { inner }),
