@@ -1,0 +1,25 @@
+//! What comes of a line.
+use afp_base::Bytes;
+use std::io;
+
+/// What comes of a line: nothing, a word, bytes, or a text of its own.
+#[derive(Drop)]
+pub enum LineResult {
+    Nothing,
+    Word(&'static str),
+    Bytes(Bytes),
+    Text(String),
+}
+
+/// Prints a line, and what comes of it; bytes in hexadecimal digits, and nothing as `-`.
+pub fn print_result(rt: &HostRuntime, line: &str, told: &LineResult) -> io::Result<()> {
+    match told {
+        LineResult::Nothing => println!(rt; "{line} -> -"),
+        LineResult::Word(word) => println!(rt; "{line} -> {word}"),
+        LineResult::Bytes(bytes) => {
+            let digits = hex::encode(rt.alloc(), bytes.as_slice())?;
+            println!(rt; "{line} -> {digits}")
+        }
+        LineResult::Text(text) => println!(rt; "{line} -> {text}"),
+    }
+}
