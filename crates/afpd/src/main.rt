@@ -1,37 +1,23 @@
 //! The file server: it serves sessions of the Apple Filing Protocol over TCP.
 #![tactic(auto)]
 
-ghost use Rattle.std.specs.Prelude.{◌≡◌, false, IfOk};
+ghost use Rattle.std.specs.Prelude.{◌≡◌, false};
+
+mod opening;
 
 use afp_core::Counts;
-use afp_outside::{OpenGate, StdSink, SystemClock, TcpDoor};
+use afp_outside::{OpenGate, Sink, StdSink, SystemClock, TcpDoor};
 use afpd_lib::given::given_words;
+use afpd_lib::notes::NoNotes;
 use afpd_lib::plain::{PlainEnd, afpd_plain, report_end};
-use afpd_lib::setup::setup;
-use afpd_lib::words::WordFault;
-use record_keeper::{Keeper, MemoryKeeper};
+use afpd_lib::setup::{ServerSettings, VolumePlace, setup};
+use afpd_words::WordFault;
+use opening::{PlaceKeeper, open_place};
+use record_keeper::Keeper;
 use std::io;
+use std::net::{Ipv4Addr, TcpListener};
 use std::process::ExitCode;
 use std::random::RandomSource;
-
-/// The door that the words ask for; one that is closed, where they are others.
-fn door_of<'a>(rt: &'a HostRuntime, words: &[String]) -> Result<TcpDoor<&'a HostRuntime>, PlainEnd>
-    ensures { IfOk result (λ door. door.door.closed ≡ false) }
-{
-    match setup(rt.alloc(), words) {
-        Ok(settings) => Ok(TcpDoor::bind(rt, settings.port, settings.links)),
-        Err(WordFault::Bad) => Ok(TcpDoor::closed(rt)),
-        Err(WordFault::Memory) => Err(PlainEnd::Memory),
-    }
-}
-
-/// How many volumes the words name; none, where they are others or there was no memory.
-fn volumes_of(rt: &HostRuntime, words: &[String]) -> usize {
-    match setup(rt.alloc(), words) {
-        Ok(settings) => settings.places.len(),
-        Err(_) => 0,
-    }
-}
 
 /// A key of session tokens, from the system's randomness.
 fn token_key(rt: &HostRuntime) -> io::Result<[u8; 32]> {
@@ -40,58 +26,98 @@ fn token_key(rt: &HostRuntime) -> io::Result<[u8; 32]> {
     Ok(key)
 }
 
-/// Serves the links that come through a door, and gives the exit status. Without a key none is served.
-fn serve(
+/// Whether a port can be opened; where it cannot, a person is told why.
+fn is_port_free(rt: &HostRuntime, port: u16) -> bool {
+    match TcpListener::bind(rt, (Ipv4Addr::UNSPECIFIED, port)) {
+        Ok(_) => true,
+        Err(error) => {
+            let _told = eprintln!(rt; "error: port {port}: {error}");
+            false
+        }
+    }
+}
+
+/// Serves the links that come through a door, over a keeper for each place, and gives the exit status. Without a key of session tokens none is
+/// served.
+fn serve<P: Sink>(
     rt: &HostRuntime,
     words: &[String],
+    places: &[VolumePlace],
     door: &mut TcpDoor<&HostRuntime>,
     report: &mut StdSink<&HostRuntime>,
+    notes: &mut P,
 ) -> u8
     requires { door.old.door.closed ≡ false }
 {
     let Ok(key) = token_key(rt) else {
-        return report_end(
-            PlainEnd::DoorFailed(Counts {
-                entries: 0,
-                sessions: 0,
-            }),
-            report,
-        );
+        let counts = Counts {
+            entries: 0,
+            sessions: 0,
+        };
+        return report_end(PlainEnd::DoorFailed(counts), report);
     };
-    serve_kept(rt, words, door, key, report)
+    serve_kept(rt, words, places, door, key, report, notes)
 }
 
-/// The same with this key, over one new keeper in memory for each volume.
-fn serve_kept(
+/// The same with this key.
+fn serve_kept<P: Sink>(
     rt: &HostRuntime,
     words: &[String],
+    places: &[VolumePlace],
     door: &mut TcpDoor<&HostRuntime>,
     key: [u8; 32],
     report: &mut StdSink<&HostRuntime>,
+    notes: &mut P,
 ) -> u8
     requires { door.old.door.closed ≡ false }
 {
-    let mut keepers: Vec<Box<dyn Keeper + Send>> = Vec::new(rt.alloc());
-    for _ in 0..volumes_of(rt, words) {
-        let inner = MemoryKeeper::new(rt.alloc(), Vec::new(rt.alloc()));
-        let Ok(keeper) = Box::new(rt.alloc(), inner) else {
+    let alloc = rt.alloc();
+    let mut keepers: Vec<Box<dyn Keeper + Send>> = Vec::new(alloc);
+    for place in places {
+        let Ok(opened) = open_place(rt, place) else {
             return report_end(PlainEnd::Memory, report);
         };
-        if keepers.push(keeper).is_err() {
-            return report_end(PlainEnd::Memory, report);
+        match opened {
+            PlaceKeeper::Memory(inner) | PlaceKeeper::Unopened(inner) => {
+                let Ok(keeper) = Box::new(alloc, inner) else {
+                    return report_end(PlainEnd::Memory, report);
+                };
+                if keepers.push(keeper).is_err() {
+                    return report_end(PlainEnd::Memory, report);
+                }
+            }
+            PlaceKeeper::File(inner) => {
+                let Ok(keeper) = Box::new(alloc, inner) else {
+                    return report_end(PlainEnd::Memory, report);
+                };
+                if keepers.push(keeper).is_err() {
+                    return report_end(PlainEnd::Memory, report);
+                }
+            }
         }
     }
     let clock = SystemClock::new(rt);
     afpd_plain(
-        rt.alloc(),
-        words,
-        keepers,
-        door,
-        &clock,
-        &OpenGate,
-        key,
-        report,
+        alloc, words, keepers, door, &clock, &OpenGate, key, report, notes,
     )
+}
+
+/// Serves as the words set it. Nobody is told that it listens where the port cannot be opened.
+fn serve_set(
+    rt: &HostRuntime,
+    words: &[String],
+    settings: &ServerSettings,
+    report: &mut StdSink<&HostRuntime>,
+) -> u8 {
+    let is_free = is_port_free(rt, settings.port);
+    let mut door = TcpDoor::bind(rt, settings.port, settings.links);
+    let places = settings.places.as_slice();
+    if is_free {
+        let mut notes = StdSink::new(rt.stderr());
+        serve(rt, words, places, &mut door, report, &mut notes)
+    } else {
+        serve(rt, words, places, &mut door, report, &mut NoNotes)
+    }
 }
 
 /// Serves what the words ask for, and gives the exit status.
@@ -99,9 +125,14 @@ fn run(rt: &HostRuntime, report: &mut StdSink<&HostRuntime>) -> u8 {
     let Ok(words) = given_words(rt) else {
         return report_end(PlainEnd::Memory, report);
     };
-    match door_of(rt, words.as_slice()) {
-        Ok(mut door) => serve(rt, words.as_slice(), &mut door, report),
-        Err(end) => report_end(end, report),
+    let words = words.as_slice();
+    match setup(rt.alloc(), words) {
+        Ok(settings) => serve_set(rt, words, &settings, report),
+        Err(WordFault::Bad) => {
+            let mut notes = StdSink::new(rt.stderr());
+            serve(rt, words, &[], &mut TcpDoor::closed(rt), report, &mut notes)
+        }
+        Err(WordFault::Memory) => report_end(PlainEnd::Memory, report),
     }
 }
 
