@@ -57,10 +57,10 @@ shown-come : (forks : Forks) (come : Option Row) (rows : List Row) → IfSome co
 shown-come forks None rows same = refl
 shown-come forks (Some row) rows same = shown-last forks row rows same
 
-with-same : (old new : Forks) (row : Row) → at nat_cmp new row.id ≡ at nat_cmp old row.id → with_forks new row ≡ with_forks old row
+pub with-same : (old new : Forks) (row : Row) → at nat_cmp new row.id ≡ at nat_cmp old row.id → with_forks new row ≡ with_forks old row
 with-same old new row same = λ i. record row { data_fork = data_of (same i); resource_fork = resource_of (same i) }
 
-shown-left : (old new : Forks) (gone : ℕ) (rows : List Row) → ((q : ℕ) → (q == gone) ≡ false → at nat_cmp new q ≡ at nat_cmp old q) → rows_of new (without gone rows) ≡ without gone (rows_of old rows)
+pub shown-left : (old new : Forks) (gone : ℕ) (rows : List Row) → ((q : ℕ) → (q == gone) ≡ false → at nat_cmp new q ≡ at nat_cmp old q) → rows_of new (without gone rows) ≡ without gone (rows_of old rows)
 unfolding rows_of without
 shown-left old new gone [] same = refl
 shown-left old new gone (row ∷ rows) same =
@@ -81,18 +81,18 @@ shown-gone old new (Some gone) rows are = shown-left old new gone.0 rows (λ q o
 
 -- forks that are none
 
-blank-gone : (gone : Option NodeId) (q : ℕ) (kept : Option FileForks) → data_of kept ≡ [] → data_of (at_gone gone q kept) ≡ []
+pub blank-gone : (gone : Option NodeId) (q : ℕ) (kept : Option FileForks) → data_of kept ≡ [] → data_of (at_gone gone q kept) ≡ []
 blank-gone gone q kept blank = elim (is_gone gone q) as (λ b. data_of (if b then None else kept) ≡ []) [ true ↦ refl | false ↦ blank ]
 
-blank-gone-resource : (gone : Option NodeId) (q : ℕ) (kept : Option FileForks) → resource_of kept ≡ [] → resource_of (at_gone gone q kept) ≡ []
+pub blank-gone-resource : (gone : Option NodeId) (q : ℕ) (kept : Option FileForks) → resource_of kept ≡ [] → resource_of (at_gone gone q kept) ≡ []
 blank-gone-resource gone q kept blank = elim (is_gone gone q) as (λ b. resource_of (if b then None else kept) ≡ []) [ true ↦ refl | false ↦ blank ]
 
-none-gone : (gone : Option NodeId) (q : ℕ) (kept : Option FileForks) → kept ≡ None → at_gone gone q kept ≡ None
+pub none-gone : (gone : Option NodeId) (q : ℕ) (kept : Option FileForks) → kept ≡ None → at_gone gone q kept ≡ None
 none-gone gone q kept none = elim (is_gone gone q) as (λ b. (if b then None else kept) ≡ None) [ true ↦ refl | false ↦ none ]
 
 -- tests of rows after edits
 
-all-changed : (p : Row → Bool) (id : ℕ) (change : Row → Row) (rows : List Row) → ((row : Row) → p (change row) ≡ p row) → list_all p (with_changed id change rows) ≡ list_all p rows
+pub all-changed : (p : Row → Bool) (id : ℕ) (change : Row → Row) (rows : List Row) → ((row : Row) → p (change row) ≡ p row) → list_all p (with_changed id change rows) ≡ list_all p rows
 unfolding with_changed
 all-changed p id change [] same = refl
 all-changed p id change (row ∷ rows) same =
@@ -118,7 +118,7 @@ all-come forks (Some row) rows here h = all-snoc (has_forks forks) rows row h he
 still : (dir : Bool) (old new : Option FileForks) → new ≡ old → (dir || is_some old) ≡ true → (dir || is_some new) ≡ true
 still dir old new same h = ap (λ o. dir || is_some o) same ∙ h
 
-all-gone : (old new : Forks) (gone : Option NodeId) (rows : List Row) → ((q : ℕ) → at nat_cmp new q ≡ at_gone gone q (at nat_cmp old q)) → list_all (has_forks old) rows ≡ true → list_all (has_forks new) (gone_rows gone rows) ≡ true
+pub all-gone : (old new : Forks) (gone : Option NodeId) (rows : List Row) → ((q : ℕ) → at nat_cmp new q ≡ at_gone gone q (at nat_cmp old q)) → list_all (has_forks old) rows ≡ true → list_all (has_forks new) (gone_rows gone rows) ≡ true
 unfolding without
 all-gone old new None rows are h = all-weaker (has_forks old) (has_forks new) rows (λ row. still row.dir (at nat_cmp old row.id) (at nat_cmp new row.id) (are row.id)) h
 all-gone old new (Some gone) rows are h =
@@ -129,7 +129,7 @@ all-gone old new (Some gone) rows are h =
 
 -- the bytes of forks after edits
 
-bytes-changed : (id : ℕ) (change : Row → Row) (rows : List Row) → ((row : Row) → row_bytes (change row) ≡ row_bytes row) → fork_bytes (with_changed id change rows) ≡ fork_bytes rows
+pub bytes-changed : (id : ℕ) (change : Row → Row) (rows : List Row) → ((row : Row) → row_bytes (change row) ≡ row_bytes row) → fork_bytes (with_changed id change rows) ≡ fork_bytes rows
 unfolding with_changed
 bytes-changed id change [] same = refl
 bytes-changed id change (row ∷ rows) same =

@@ -7,6 +7,7 @@ pub mod Keeping
 pub mod ModifiedDates
 pub mod Applied
 pub mod Beside
+pub mod Edited
 pub mod Deleting
 pub mod Paths
 pub mod Creating
@@ -15,6 +16,7 @@ pub mod FileForks
 pub mod Sums
 pub mod Setting
 pub mod Writing
+pub mod ForksEdited
 pub mod Carrying
 pub mod Touching
 pub mod Afters

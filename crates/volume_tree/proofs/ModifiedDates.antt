@@ -1,17 +1,18 @@
 -- Another modified date of a row that was found.
 use Rattle.std.proofs.Common.{◌==◌, ◌≡◌, ◌∙◌, ap, refl, ℕ, true, List, [], ◌∷◌, map, Some, None}
-use Rattle.std.specs.Prelude.{pos}
+use Rattle.std.specs.Prelude.{ℤ, Bool, pos}
 use Rattle.std.specs.List.{find}
 use Rattle.std.proofs.lemmas.Bool.{cond_both, cond-false}
 use Rattle.node_rows.specs.Kept.{marked}
 use Rattle.node_rows.specs.declared.node.Marks.{Marks}
 use Rattle.volume_spec.proofs.Orders.{rising-ids-differ}
 use Rattle.volume_spec.proofs.SoundEdits.{changed-same}
-use Rattle.volume_spec.specs.Edits.{with_changed, change_at, modified_at}
+use Rattle.volume_spec.specs.Edits.{with_changed, change_at, filed_as, modified_at}
 use Rattle.volume_spec.specs.SetFileDirParms.{Settings, with_settings}
 use Rattle.volume_spec.specs.SoundVolume.{has_rising_ids}
 use Rattle.volume_spec.specs.VolumeState.{Row}
 use Rattle.volume_spec.specs.Walk.{row_at}
+use Rattle.volume_tree.specs.lemma.Edited.{modified_on}
 use Rattle.volume_tree.specs.lemma.Kept.{IsMarks, IsMarksSet}
 
 -- where no row has the id, nothing changes
@@ -33,6 +34,14 @@ marked-same rows id marks change s rising found same = changed-same rows id (mar
 pub modified-same : (rows : List Row) (id now : ℕ) (marks new : Marks) → has_rising_ids rows ≡ true → IsMarks (Some marks) (row_at rows id) → new ≡ record marks { modified = pos now } → with_changed id (marked new) rows ≡ with_changed id (modified_at now) rows
 modified-same rows id now marks new rising found is =
     marked-same rows id new (modified_at now) found.0 rising found.1 (ap (λ (m : Marks). marked m found.0) (is ∙ ap (λ (m : Marks). let n : Marks = record m { modified = pos now } in n) found.2))
+
+pub filed-same : (rows : List Row) (id : ℕ) (filed : Bool) (marks new : Marks) → has_rising_ids rows ≡ true → IsMarks (Some marks) (row_at rows id) → new ≡ record marks { filed = filed } → with_changed id (marked new) rows ≡ with_changed id (filed_as filed) rows
+filed-same rows id filed marks new rising found is =
+    marked-same rows id new (filed_as filed) found.0 rising found.1 (ap (λ (m : Marks). marked m found.0) (is ∙ ap (λ (m : Marks). let n : Marks = record m { filed = filed } in n) found.2))
+
+pub dated-same : (rows : List Row) (id : ℕ) (date : ℤ) (marks new : Marks) → has_rising_ids rows ≡ true → IsMarks (Some marks) (row_at rows id) → new ≡ record marks { modified = date } → with_changed id (marked new) rows ≡ with_changed id (modified_on date) rows
+dated-same rows id date marks new rising found is =
+    marked-same rows id new (modified_on date) found.0 rising found.1 (ap (λ (m : Marks). marked m found.0) (is ∙ ap (λ (m : Marks). let n : Marks = record m { modified = date } in n) found.2))
 
 pub set-same : (rows : List Row) (id : ℕ) (settings : Settings) (marks : Marks) → has_rising_ids rows ≡ true → IsMarksSet settings (Some marks) (row_at rows id) → with_changed id (marked marks) rows ≡ with_changed id (with_settings settings) rows
 set-same rows id settings marks rising found = marked-same rows id marks (with_settings settings) found.0 rising found.1 found.2

@@ -18,7 +18,7 @@ use Rattle.volume_tree.specs.Planned.{IsPlan, planned}
 use Rattle.volume_tree.specs.lemma.Planned.{plan_place}
 
 -- another name in its directory is the same place with another name
-renamed-is : (v : VolumeState) (id : ℕ) (name : List ℕ) → are_apart (λ (a b : Row). a.id == b.id) v.rows ≡ true → has_node v.rows id ≡ true → with_changed id (at_place (directory_of v.rows id) name) v.rows ≡ with_changed id (named name) v.rows
+pub renamed-is : (v : VolumeState) (id : ℕ) (name : List ℕ) → are_apart (λ (a b : Row). a.id == b.id) v.rows ≡ true → has_node v.rows id ≡ true → with_changed id (at_place (directory_of v.rows id) name) v.rows ≡ with_changed id (named name) v.rows
 unfolding with_changed row_at parent_at
 renamed-is v id name s there =
     let r = row-there v.rows id there in

@@ -1,7 +1,7 @@
 //! What a plan leaves of a volume, told before it is carried out. None of these takes memory.
 ghost use Rattle.std.specs.Prelude.{◌≡◌, Bool, option_map, option_copied};
 ghost use Rattle.volume_spec.specs.ForkEffect.{fork_of};
-ghost use Rattle.volume_spec.specs.Edits.{bare, at_place, modified_at};
+ghost use Rattle.volume_spec.specs.Edits.{bare, at_place, filed_as, modified_at, named};
 ghost use Rattle.volume_spec.specs.SetFileDirParms.{with_settings};
 ghost use Rattle.volume_spec.specs.Walk.{row_at};
 ghost use Rattle.volume_tree.specs.lemma.After.{moved_row, set_row, modified_row, come_row};
@@ -10,6 +10,7 @@ ghost use Rattle.volume_tree.specs.Shown.{fork_at};
 ghost use Rattle.volume_tree.specs.Planned.{is_gone, gone_rows, come_rows, planned, next_after};
 
 use crate::head::VolumeHead;
+use crate::marks::{filed_marks, modified_marks};
 use crate::plan::{Comer, Mover, Plan, Setting};
 use crate::settings::Settings;
 use crate::volume::{Volume, next_of};
@@ -43,7 +44,7 @@ impl<'a> Model for NodeAfter<'a> {
 
 impl<'a> NodeAfter<'a> {
     /// A node as it is.
-    fn of(node: &'a Node) -> NodeAfter<'a>
+    pub fn of(node: &'a Node) -> NodeAfter<'a>
         ensures { result ≡ node.now }
     {
         NodeAfter {
@@ -62,7 +63,8 @@ impl<'a> NodeAfter<'a> {
         }
     }
 
-    fn at(self, parent: NodeId, name: &'a Name) -> NodeAfter<'a>
+    /// The node at another place.
+    pub fn at(self, parent: NodeId, name: &'a Name) -> NodeAfter<'a>
         ensures { result ≡ at_place parent.0 name.now self.entry }
     {
         NodeAfter {
@@ -72,7 +74,42 @@ impl<'a> NodeAfter<'a> {
         }
     }
 
-    fn with(self, settings: &Settings) -> NodeAfter<'a>
+    /// The node under another id, which it draws.
+    pub fn with_id(self, id: NodeId) -> NodeAfter<'a>
+        ensures { result ≡ record self.entry { id = id.0 } }
+    {
+        NodeAfter { id, ..self }
+    }
+
+    /// The node under another name.
+    pub fn named(self, name: &'a Name) -> NodeAfter<'a>
+        ensures { result ≡ named name.now self.entry }
+    {
+        NodeAfter { name, ..self }
+    }
+
+    /// The file, filed or not.
+    pub fn filed(self, filed: bool) -> NodeAfter<'a>
+        ensures { result ≡ filed_as filed self.entry }
+    {
+        NodeAfter {
+            marks: filed_marks(self.marks, filed),
+            ..self
+        }
+    }
+
+    /// The node with a modified date.
+    pub fn dated(self, date: i32) -> NodeAfter<'a>
+        ensures { result ≡ record self.entry { modified = date } }
+    {
+        NodeAfter {
+            marks: modified_marks(self.marks, date),
+            ..self
+        }
+    }
+
+    /// The node with these settings.
+    pub fn with(self, settings: &Settings) -> NodeAfter<'a>
         ensures { result ≡ with_settings settings.now self.entry }
     {
         NodeAfter {

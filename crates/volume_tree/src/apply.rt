@@ -45,7 +45,7 @@ impl Volume {
 }
 
 /// How many bytes the forks of the node that goes have.
-fn used_by(forks: &SortedMap<u64, FileForks>, gone: Option<NodeId>) -> u64
+pub(crate) fn used_by(forks: &SortedMap<u64, FileForks>, gone: Option<NodeId>) -> u64
     requires { bytes_of gone forks.now < 2 ^ 64 }
     ensures { result ≡ bytes_of gone forks.now }
 {
@@ -59,7 +59,7 @@ fn used_by(forks: &SortedMap<u64, FileForks>, gone: Option<NodeId>) -> u64
 }
 
 /// Takes the node that goes out, with its forks.
-fn take_out(rows: &mut Rows, forks: &mut SortedMap<u64, FileForks>, gone: Option<NodeId>)
+pub(crate) fn take_out(rows: &mut Rows, forks: &mut SortedMap<u64, FileForks>, gone: Option<NodeId>)
     ensures rows { rows.new.rows ≡ gone_rows gone rows.old.rows }
     ensures next { rows.new.next_id ≡ rows.old.next_id }
     ensures spare { rows.old.spare ≤ rows.new.spare }
@@ -122,9 +122,10 @@ fn put_settings(rows: &mut Rows, set: Option<Setting>)
 }
 
 /// Gives the node of an id its settings.
-fn set_node(rows: &mut Rows, id: NodeId, settings: &Settings)
+pub(crate) fn set_node(rows: &mut Rows, id: NodeId, settings: &Settings)
     ensures rows { rows.new.rows ≡ with_changed id.0 (with_settings settings.now) rows.old.rows }
     ensures next { rows.new.next_id ≡ rows.old.next_id }
+    ensures spare { rows.old.spare ≤ rows.new.spare }
 {
     let _nodes = rows.nodes();
     match marks_set(rows, id, settings) {
@@ -167,7 +168,7 @@ fn date_node(rows: &mut Rows, now: Moment, id: NodeId)
 }
 
 /// The marks of the node of an id.
-fn marks_at(rows: &Rows, id: NodeId) -> Option<Marks>
+pub(crate) fn marks_at(rows: &Rows, id: NodeId) -> Option<Marks>
     ensures { IsMarks result (row_at rows.now.rows id.0) }
 {
     match rows.get(id) {

@@ -45,7 +45,7 @@ fn id_if(writes: bool, id: NodeId) -> Option<NodeId>
 }
 
 /// How many bytes a fork has that is kept.
-fn kept_len(forks: &SortedMap<u64, FileForks>, id: NodeId, resource: bool) -> u64
+pub(crate) fn kept_len(forks: &SortedMap<u64, FileForks>, id: NodeId, resource: bool) -> u64
     ensures { result ≡ length (kept_fork resource (at nat_cmp forks.now id.0)) }
 {
     match forks.get(u64::from(id.0)) {
@@ -74,7 +74,7 @@ pub(crate) fn change_fork(
 }
 
 /// Takes forks that are kept, and leaves some of no bytes in their place.
-fn lift(forks: &mut SortedMap<u64, FileForks>, alloc: Global, key: u64) -> FileForks
+pub(crate) fn lift(forks: &mut SortedMap<u64, FileForks>, alloc: Global, key: u64) -> FileForks
     requires { is_some (at nat_cmp forks.old key) ≡ true }
     ensures forks { Some result ≡ at nat_cmp forks.old key }
     ensures kept { is_some (at nat_cmp forks.new key) ≡ true }
@@ -88,7 +88,7 @@ fn lift(forks: &mut SortedMap<u64, FileForks>, alloc: Global, key: u64) -> FileF
 }
 
 /// Puts forks in place of others.
-fn put_back(forks: &mut SortedMap<u64, FileForks>, key: u64, kept: FileForks)
+pub(crate) fn put_back(forks: &mut SortedMap<u64, FileForks>, key: u64, kept: FileForks)
     requires { is_some (at nat_cmp forks.old key) ≡ true }
     ensures { (q : ℕ) → at nat_cmp forks.new q ≡ (if q == key then Some kept else at nat_cmp forks.old q) }
 {

@@ -6,7 +6,7 @@ ghost use Rattle.sorted_map.specs.Entries.{at};
 ghost use Rattle.volume_tree.specs.lemma.Kept.{IsShownAs};
 
 use afp_base::OutOfMemory;
-use fork_bytes::{Fork, ForkPlan};
+use fork_bytes::{Fork, ForkPlan, ForkWrite};
 use sorted_map::SortedMap;
 use std::alloc::Global;
 
@@ -53,6 +53,20 @@ impl FileForks {
             self.resource_fork.apply(plan);
         } else {
             self.data_fork.apply(plan);
+        }
+    }
+}
+
+impl FileForks {
+    /// The one fork or the other gets the bytes of a write of it as it is. It takes no memory.
+    pub fn write(&mut self, resource: bool, write: ForkWrite)
+        requires { write.before ≡ (if resource then self.old.resource_fork else self.old.data_fork) }
+        ensures { self.new ≡ (record self.old { data_fork = (if resource then self.old.data_fork else write.after); resource_fork = (if resource then write.after else self.old.resource_fork) }) }
+    {
+        if resource {
+            self.resource_fork.apply_write(write);
+        } else {
+            self.data_fork.apply_write(write);
         }
     }
 }

@@ -40,6 +40,19 @@ impl Dates {
 }
 
 impl Dates {
+    /// The dates of a volume that is backed up on a date.
+    pub fn backed_up(self, date: i32) -> Dates
+        ensures { result ≡ record self { backup = date } }
+    {
+        Dates {
+            created: self.created,
+            modified: self.modified,
+            backup: date,
+        }
+    }
+}
+
+impl Dates {
     /// The dates of a volume that is changed at a moment, or not at all.
     pub fn touched_if(self, now: Moment, changed: bool) -> Dates
         ensures { result ≡ (if changed then (record self { modified = pos now }) else self) }

@@ -1,10 +1,11 @@
 //! What calls set of nodes.
-ghost use Rattle.std.specs.Prelude.{◌≡◌, unwrap_or, option_map};
+ghost use Rattle.std.specs.Prelude.{◌≡◌, pos, Some, None, unwrap_or, option_map};
 ghost use Rattle.volume_spec.specs.SetFileDirParms.{attributes_by, with_settings};
 ghost use Rattle.node_rows.specs.Kept.{marked};
 ghost use Rattle.volume_tree.specs.lemma.After.{marks_after};
 ghost use Rattle.volume_tree.specs.lemma.Kept.{marks_in};
 
+use afp_base::Moment;
 use node_rows::{Marks, Node};
 use std::marker::Model;
 use volume_spec::limits::{DIRECTORY_ATTRIBUTES, FILE_ATTRIBUTES};
@@ -17,7 +18,7 @@ const SET_OR_CLEAR: u16 = 0x8000;
 ///
 /// Contracts see the definition's settings.
 #[derive(Drop)]
-pub(crate) struct Settings {
+pub struct Settings {
     pub attributes: Option<u16>,
     pub created: Option<i32>,
     pub modified: Option<i32>,
@@ -34,16 +35,29 @@ impl Model for Settings {
 }
 
 impl Settings {
+    /// The modified date alone, which is a moment.
+    pub fn dated(now: Moment) -> Settings
+        ensures { result ≡ record { attributes = None; created = None; modified = Some (pos now); backup = None; finder = None } }
+    {
+        Settings {
+            attributes: None,
+            created: None,
+            modified: Some(now.seconds() as i32),
+            backup: None,
+            finder: None,
+        }
+    }
+
     /// The marks of a node with these settings.
     #[tactic(auto, unfolding(volume_spec::specs::SetFileDirParms::with_settings))]
-    pub fn marks(&self, node: &Node) -> Marks
+    pub(crate) fn marks(&self, node: &Node) -> Marks
         ensures { marked result node.now ≡ with_settings self.now node.now }
     {
         self.marks_after(node.dir, marks_of(node))
     }
 
     /// Marks with these settings, of a node of that kind.
-    pub fn marks_after(&self, dir: bool, marks: Marks) -> Marks
+    pub(crate) fn marks_after(&self, dir: bool, marks: Marks) -> Marks
         ensures { result ≡ marks_after self.now dir marks }
     {
         let marks = with_attributes(marks, dir, self.attributes);
