@@ -1,7 +1,7 @@
 //! The lines of a script.
 use crate::text::digits_of;
 use afp_base::{Bytes, OutOfMemory};
-use client_script::{LineFault, ScriptLine, read_line};
+use client_script_lines::{LineFault, ScriptLine, read_line};
 use std::alloc::Global;
 use test_lines::{LineResult, bytes_of};
 

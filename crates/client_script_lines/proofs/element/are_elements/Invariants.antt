@@ -1,7 +1,7 @@
 use Rattle.std.proofs.Common.{◌≡◌, length}
 use Rattle.std.specs.List.{list_all, slice_split}
-use Rattle.client_script.specs.Words.{is_element, is_slash}
-use Rattle.client_script.proofs.element.are_elements.Given as goal
+use Rattle.client_script_lines.specs.Words.{is_element, is_slash}
+use Rattle.client_script_lines.proofs.element.are_elements.Given as goal
 
 abbrev pub invariant-loop-alloc : goal.invariant-loop-alloc
 invariant-loop-alloc l = list_all is_element (slice_split is_slash l.text) ≡ list_all is_element (slice_split is_slash l.left)

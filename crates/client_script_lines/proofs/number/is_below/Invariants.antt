@@ -1,6 +1,6 @@
 use Rattle.std.proofs.Common.{◌≡◌, ◌<◌, drop}
-use Rattle.client_script.specs.Words.{value_behind}
-use Rattle.client_script.proofs.number.is_below.Given as goal
+use Rattle.client_script_lines.specs.Words.{value_behind}
+use Rattle.client_script_lines.proofs.number.is_below.Given as goal
 
 abbrev pub invariant-loop-digit : goal.invariant-loop-digit
 invariant-loop-digit l = record {

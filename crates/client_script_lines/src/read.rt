@@ -1,8 +1,8 @@
 //! A line, read.
 ghost use Rattle.std.specs.Prelude.{◌≡◌, ◌<◌, ◌≤◌, ◌^◌, List, ℕ, None, Some, IfOk, if◌then◌else◌, Err};
-ghost use Rattle.client_script.specs.declared.line.LineFault.{LineFault};
-ghost use Rattle.client_script.specs.declared.line.ScriptLine.TheVariants as lines;
-ghost use Rattle.client_script.specs.Lines.{path_in, target_in, bytes_in, text_in, number_in, first, rest, moves_in, put_in, note_in, range_in, path_line, headed, line_in};
+ghost use Rattle.client_script_lines.specs.declared.line.LineFault.{LineFault};
+ghost use Rattle.client_script_lines.specs.declared.line.ScriptLine.TheVariants as lines;
+ghost use Rattle.client_script_lines.specs.Lines.{path_in, target_in, bytes_in, text_in, number_in, first, rest, moves_in, put_in, note_in, range_in, path_line, headed, line_in};
 
 use crate::element::{is_bytes, is_deep_path, is_path, is_text};
 use crate::limits::LONGEST_LINE;

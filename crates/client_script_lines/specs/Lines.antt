@@ -1,11 +1,11 @@
 -- The forms of a script's lines (this profile).
 use Rattle.std.specs.Prelude.{ℕ, ◌^◌, nat_lt, if◌then◌else◌, List, length, codes, bytes_eq, Option, Some, None, option_map}
 use Rattle.std.specs.List.{before_first, after_first}
-use Rattle.client_script.specs.declared.line.ScriptLine.{ScriptLine}
-use Rattle.client_script.specs.declared.line.ScriptLine.TheVariants as lines
-use Rattle.client_script.specs.declared.read.Moves.{Moves}
-use Rattle.client_script.specs.declared.read.Range.{Range}
-use Rattle.client_script.specs.Words.{longest_line, is_space, is_path, is_deep_path, is_bytes, is_text, is_number}
+use Rattle.client_script_lines.specs.declared.line.ScriptLine.{ScriptLine}
+use Rattle.client_script_lines.specs.declared.line.ScriptLine.TheVariants as lines
+use Rattle.client_script_lines.specs.declared.read.Moves.{Moves}
+use Rattle.client_script_lines.specs.declared.read.Range.{Range}
+use Rattle.client_script_lines.specs.Words.{longest_line, is_space, is_path, is_deep_path, is_bytes, is_text, is_number}
 
 -- the word in front of the first space, and what stands behind that space
 abbrev pub first : List ℕ → List ℕ

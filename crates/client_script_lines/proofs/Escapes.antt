@@ -3,7 +3,7 @@ use Rattle.std.proofs.Common.{◌≡◌, ℕ, ◌<◌, ◌≤◌, Bool, true, fa
 use Rattle.std.specs.Prelude.{if◌then◌else◌}
 use Rattle.std.specs.Result.{result_ok}
 use Rattle.hex.specs.Hex.{decode_sized}
-use Rattle.client_script.specs.Words.{plain, onto, onto_escaped, is_percent}
+use Rattle.client_script_lines.specs.Words.{plain, onto, onto_escaped, is_percent}
 
 pub literal : (word : List ℕ) → 0 < length word → is_percent (slice_index word 0) ≡ false → plain word ≡ onto (slice_index word 0) (plain (drop 1 word))
 unfolding plain

@@ -2,7 +2,7 @@
 ghost use Rattle.std.specs.Prelude.{◌≡◌, ◌<◌, ◌∷◌, [], None, length, IfOk, IfSome, MatchOption};
 ghost use Rattle.std.specs.Result.{result_ok};
 ghost use Rattle.hex.specs.Hex.{decode_sized};
-ghost use Rattle.client_script.specs.Words.{plain, onto};
+ghost use Rattle.client_script_lines.specs.Words.{plain, onto};
 
 use afp_base::{Bytes, OutOfMemory, rest_of};
 use std::alloc::Global;

@@ -1,7 +1,7 @@
 //! Words, and what stands behind them.
 ghost use Rattle.std.specs.Prelude.{◌≡◌, ◌==◌, ℕ, length, nat_lt, take, drop};
 ghost use Rattle.std.specs.List.{before_first, after_first, position, position_or_len, list_any};
-ghost use Rattle.client_script.specs.Words.{is_space, is_slash, is_word};
+ghost use Rattle.client_script_lines.specs.Words.{is_space, is_slash, is_word};
 
 fn position_of(text: &[u8], sought: u8) -> Option<usize>
     ensures { result ≡ position (λ (byte : ℕ). byte == sought) text.now }

@@ -1,7 +1,7 @@
 //! Paths, and the other words.
 ghost use Rattle.std.specs.Prelude.{◌≡◌, IfOk};
 ghost use Rattle.std.specs.List.{list_all, slice_split};
-ghost use Rattle.client_script.specs.Words.{is_name, is_short, is_element, is_slash, is_deep_path, is_path, is_bytes, is_text, longest_text, plain};
+ghost use Rattle.client_script_lines.specs.Words.{is_name, is_short, is_element, is_slash, is_deep_path, is_path, is_bytes, is_text, longest_text, plain};
 
 use crate::escape::plain;
 use crate::limits::LONGEST_TEXT;

@@ -1,7 +1,7 @@
 //! Decimal numbers.
 ghost use Rattle.std.specs.Prelude.{◌≡◌, ◌<◌, ◌≤◌, ◌^◌, nat_lt};
 ghost use Rattle.std.specs.List.{list_all};
-ghost use Rattle.client_script.specs.Words.{is_digit, is_number, value_behind};
+ghost use Rattle.client_script_lines.specs.Words.{is_digit, is_number, value_behind};
 
 fn is_digit(byte: u8) -> bool
     ensures { result ≡ is_digit byte }

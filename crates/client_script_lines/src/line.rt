@@ -100,7 +100,7 @@ pub enum LineFault {
 
 impl From<OutOfMemory> for LineFault {
     ghost use Rattle.std.specs.Prelude.{◌≡◌};
-    ghost use Rattle.client_script.specs.declared.line.LineFault.{LineFault};
+    ghost use Rattle.client_script_lines.specs.declared.line.LineFault.{LineFault};
 
     ghost from_gives = { λ _ fault. fault ≡ LineFault.Memory };
 

@@ -1,6 +1,6 @@
 -- the number that digits spell is at least that of a first part of them
 use Rattle.std.proofs.Common.{◌≡◌, ℕ, ◌+◌, ◌*◌, ◌-◌, ◌≤◌, ◌<◌, false, List, [], ◌∷◌, suc, length, drop, get_or, sym, ap, ◌∙◌, arith, drop-cons, nat_lt, rules}
-use Rattle.client_script.specs.Words.{value_behind}
+use Rattle.client_script_lines.specs.Words.{value_behind}
 
 pub value-least : (value : ℕ) (digits : List ℕ) → value ≤ value_behind value digits
 value-least value [] = omega arith

@@ -1,6 +1,6 @@
 use Rattle.std.proofs.Common.{◌∙◌, sym}
-use Rattle.client_script.proofs.Elements.{last_element, bad_element, good_element}
-use Rattle.client_script.proofs.element.are_elements.Goals as goal
+use Rattle.client_script_lines.proofs.Elements.{last_element, bad_element, good_element}
+use Rattle.client_script_lines.proofs.element.are_elements.Goals as goal
 
 pub returns-then-not-has_slash : goal.returns-then-not-has_slash
 returns-then-not-has_slash c = rw (c.loop-alloc.invariant ∙ last_element c.loop-alloc.left.now (sym c.has_slash.ensures ∙ c.if-not-has_slash.true)) c.is_element.ensures

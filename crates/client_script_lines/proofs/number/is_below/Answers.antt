@@ -1,6 +1,6 @@
 use Rattle.std.proofs.Common.{arith, sym}
-use Rattle.client_script.proofs.Values.{too_large}
-use Rattle.client_script.proofs.number.is_below.Goals as goal
+use Rattle.client_script_lines.proofs.Values.{too_large}
+use Rattle.client_script_lines.proofs.number.is_below.Goals as goal
 
 pub returns-then-value-from : goal.returns-then-value-from
 returns-then-value-from c =

@@ -1,7 +1,7 @@
 use Rattle.std.proofs.Common.{rules, ◌∙◌, arith, drop}
-use Rattle.client_script.specs.Words.{plain}
-use Rattle.client_script.proofs.Escapes.{literal, short_escape, long_escape, none_escaped, some_escaped}
-use Rattle.client_script.proofs.escape.first_byte.Goals as goal
+use Rattle.client_script_lines.specs.Words.{plain}
+use Rattle.client_script_lines.proofs.Escapes.{literal, short_escape, long_escape, none_escaped, some_escaped}
+use Rattle.client_script_lines.proofs.escape.first_byte.Goals as goal
 
 pub returns-then-byte-ne37-clause-plain : goal.returns-then-byte-ne37-clause-plain
 returns-then-byte-ne37-clause-plain c = rw c.rest_of.ensures (literal c.args.word.now c.requires (search rules))
