@@ -13,7 +13,9 @@
 //! - `run KEEPERS FAILING ACCEPTS REPORT WORD..`: the whole server over so many keepers in memory. FAILING are the calls of each keeper
 //!   that fail, ACCEPTS and REPORT those of the door and of the report. A word that begins with `0x` is spelt by bytes. Printed: the status,
 //!   the report, and what was written to each link that was handed back.
-//! - `settings WORD..`: how many volumes, the port, the workers and the links that the words set.
+//! - `notes KEEPERS WORD..`: the whole server over so many keepers and no link. Printed: the status, the report, and what a person is told
+//!   beside.
+//! - `settings WORD..`: the volumes' places, the port, the workers and the links that the words set.
 #![tactic(auto)]
 
 mod gate;

@@ -1,6 +1,6 @@
 //! What comes of lines.
 use crate::link::{cut, link, room};
-use crate::server::{Waiting, run, settings};
+use crate::server::{Waiting, notes, run, settings};
 use afp_base::OutOfMemory;
 use std::alloc::Global;
 use std::mem::replace;
@@ -43,6 +43,7 @@ impl AnswersLines for Run {
                 let waiting = replace(&mut self.waiting, Vec::new(alloc));
                 run(alloc, waiting.as_slice(), words)
             }
+            Some(&"notes") => notes(alloc, words),
             Some(&"settings") => settings(alloc, words),
             _ => Ok(None),
         }

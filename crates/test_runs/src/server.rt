@@ -6,7 +6,7 @@ use crate::numbers::{digits_of, moment_of, number_of, numbers_of, owned, sizes_o
 use afp_base::OutOfMemory;
 use afp_outside::{OpenGate, TapeClock, TapeLink, TapeListener, TapeSink};
 use afpd_lib::plain::afpd_plain;
-use afpd_lib::setup::setup;
+use afpd_lib::setup::{VolumePlace, setup};
 use record_keeper::{Keeper, MemoryKeeper};
 use std::alloc::Global;
 use test_lines::{LineResult, bytes_of};
@@ -107,16 +107,42 @@ fn serve(
     keepers: Vec<Box<dyn Keeper + Send>>,
     door: &mut TapeListener,
     report: &mut TapeSink,
+    notes: &mut TapeSink,
 ) -> u8
     requires { door.old.closed ≡ false }
 {
     let clock = TapeClock::new(moment_of(100));
     afpd_plain(
-        alloc, words, keepers, door, &clock, &OpenGate, [0; 32], report,
+        alloc, words, keepers, door, &clock, &OpenGate, [0; 32], report, notes,
     )
 }
 
-/// Over so many keepers in memory that hold nothing, and whose calls of these numbers fail.
+/// So many keepers in memory that hold nothing, and whose calls of these numbers fail; the run over them.
+fn serve_over(
+    alloc: Global,
+    count: u64,
+    failing: &str,
+    words: &[String],
+    door: &mut TapeListener,
+    report: &mut TapeSink,
+    notes: &mut TapeSink,
+) -> Result<u8, OutOfMemory>
+    requires { door.old.closed ≡ false }
+{
+    let mut keepers: Vec<Box<dyn Keeper + Send>> = Vec::new(alloc);
+    for _ in 0..count {
+        let keeper = MemoryKeeper::new(alloc, numbers_of(alloc, failing)?);
+        keepers.push(Box::new(alloc, keeper)?)?;
+    }
+    Ok(serve(alloc, words, keepers, door, report, notes))
+}
+
+/// A sink that takes all.
+fn sink(alloc: Global) -> Result<TapeSink, OutOfMemory> {
+    TapeSink::new(alloc, Vec::new(alloc), Vec::new(alloc))
+}
+
+/// What came of a run over such keepers.
 fn run_over(
     alloc: Global,
     waiting: &[Waiting],
@@ -128,14 +154,18 @@ fn run_over(
 ) -> Result<String, OutOfMemory> {
     let words = words_of(alloc, words)?;
     let mut door = door_of(alloc, waiting, accepts)?;
-    let mut sink = TapeSink::new(alloc, Vec::new(alloc), numbers_of(alloc, report)?)?;
-    let mut keepers: Vec<Box<dyn Keeper + Send>> = Vec::new(alloc);
-    for _ in 0..count {
-        let keeper = MemoryKeeper::new(alloc, numbers_of(alloc, failing)?);
-        keepers.push(Box::new(alloc, keeper)?)?;
-    }
-    let status = serve(alloc, words.as_slice(), keepers, &mut door, &mut sink);
-    ran(alloc, status, sink.written(), door.returned())
+    let mut told = TapeSink::new(alloc, Vec::new(alloc), numbers_of(alloc, report)?)?;
+    let mut notes = sink(alloc)?;
+    let status = serve_over(
+        alloc,
+        count,
+        failing,
+        words.as_slice(),
+        &mut door,
+        &mut told,
+        &mut notes,
+    )?;
+    ran(alloc, status, told.written(), door.returned())
 }
 
 /// `run KEEPERS FAILING ACCEPTS REPORT WORD..`, over the links that wait.
@@ -152,6 +182,38 @@ pub fn run(
     Ok(Some(LineResult::Text(text)))
 }
 
+/// `notes KEEPERS WORD..`, over no link.
+pub fn notes(alloc: Global, words: &[&str]) -> Result<Option<LineResult>, OutOfMemory> {
+    let [_, keepers, words @ ..] = words else {
+        return Ok(None);
+    };
+    let count = number_of(keepers);
+    let words = words_of(alloc, words)?;
+    let mut door = door_of(alloc, &[], "-")?;
+    let (mut told, mut noted) = (sink(alloc)?, sink(alloc)?);
+    let words = words.as_slice();
+    let status = serve_over(alloc, count, "-", words, &mut door, &mut told, &mut noted)?;
+    let mut text = ran(alloc, status, told.written(), &[])?;
+    text.push_str(" and ")?;
+    put_report(&mut text, noted.written())?;
+    Ok(Some(LineResult::Text(text)))
+}
+
+/// Appends the places of volumes.
+fn put_places(text: &mut String, places: &[VolumePlace]) -> Result<(), OutOfMemory> {
+    for place in places {
+        match place {
+            VolumePlace::Memory => text.push_str("memory ")?,
+            VolumePlace::File(name) => {
+                text.push_str("file ")?;
+                put_report(text, name.as_slice())?;
+                text.push(' ')?;
+            }
+        }
+    }
+    Ok(())
+}
+
 /// `settings WORD..`.
 pub fn settings(alloc: Global, words: &[&str]) -> Result<Option<LineResult>, OutOfMemory> {
     let [_, words @ ..] = words else {
@@ -160,11 +222,10 @@ pub fn settings(alloc: Global, words: &[&str]) -> Result<Option<LineResult>, Out
     let words = words_of(alloc, words)?;
     match setup(alloc, words.as_slice()) {
         Ok(settings) => {
-            let volumes = settings.places.len();
+            let mut text = String::new(alloc);
+            put_places(&mut text, settings.places.as_slice())?;
             let (port, workers, links) = (settings.port, settings.workers, settings.links);
-            let text = format!(in alloc;
-                "volumes {volumes} port {port} workers {workers} links {links}"
-            )?;
+            write!(text, "port {port} workers {workers} links {links}")?;
             Ok(Some(LineResult::Text(text)))
         }
         Err(_) => Ok(Some(LineResult::Word("none"))),
