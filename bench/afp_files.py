@@ -1,0 +1,114 @@
+"""The file server over database files: starting and ending it, and a client of the calls on files and directories."""
+import os
+import select
+import signal
+import struct
+import subprocess
+import tempfile
+import time
+
+import afp
+
+MISC_ERR, DISK_FULL, OBJECT_NOT_FOUND = -5014, -5008, -5018
+PROGRAM = os.path.join(afp.TOP, "crates", "afpd", "out", "afpd")
+
+
+def build():
+    subprocess.run([os.path.join(afp.TOP, "run"), "afpd"], stdin=subprocess.DEVNULL, stdout=subprocess.DEVNULL, stderr=subprocess.DEVNULL)
+
+
+class Server:
+    """A file server that was started with these words. Its standard error goes to a file, its report to a pipe."""
+
+    def __init__(self, words, program=PROGRAM):
+        self.errors = tempfile.TemporaryFile()
+        self.process = subprocess.Popen([program] + words, stdin=subprocess.DEVNULL, stdout=subprocess.PIPE, stderr=self.errors)
+
+    def told(self):
+        """What a person was told so far."""
+        self.errors.seek(0)
+        return self.errors.read().decode()
+
+    def wait_listening(self, seconds=60):
+        """Waits until it listens; false where it ended before."""
+        until = time.monotonic() + seconds
+        while time.monotonic() < until:
+            if "listens on" in self.told():
+                return True
+            if self.process.poll() is not None:
+                return False
+            time.sleep(0.002)
+        raise TimeoutError("the server does not listen")
+
+    def kill(self):
+        self.process.send_signal(signal.SIGKILL)
+        self.process.wait()
+
+    def ended(self, seconds=60):
+        """The status and the report of a server that ends by itself."""
+        report, _ = self.process.communicate(timeout=seconds)
+        return self.process.returncode, report.decode()
+
+
+def words_for(port, *volumes, links=0):
+    return ["--port", str(port), "--links", str(links)] + list(volumes)
+
+
+class Files(afp.Session):
+    """A session with the calls on files and directories of the root."""
+
+    @staticmethod
+    def name3(name):
+        return struct.pack(">BIH", 3, 0, len(name)) + name
+
+    def create_dir(self, name):
+        return self.ask(2, struct.pack(">BBHI", 6, 0, afp.SHARE, afp.ROOT) + self.path(name))[0]
+
+    def rename(self, old, new):
+        return self.ask(2, struct.pack(">BBHI", 28, 0, afp.SHARE, afp.ROOT) + self.path(old) + self.path(new))[0]
+
+    def set_length(self, fork, length):
+        return self.ask(2, struct.pack(">BBHHI", 31, 0, fork, 0x0200, length))[0]
+
+    def names(self):
+        """The long names of the root, and whether each is a directory."""
+        found, start = {}, 1
+        while True:
+            head = struct.pack(">BBHIHHHII", 68, 0, afp.SHARE, afp.ROOT, 0x0040, 0x0040, 64, start, 60000)
+            code, reply = self.ask(2, head + self.name3(b""))
+            if code == OBJECT_NOT_FOUND:
+                return found
+            if code != afp.OK:
+                raise ValueError(f"a listing was refused with {code}")
+            count, at = struct.unpack(">H", reply[4:6])[0], 6
+            for _ in range(count):
+                size, is_dir = struct.unpack(">HB", reply[at:at + 3])
+                name_at = at + 4 + struct.unpack(">H", reply[at + 4:at + 6])[0]
+                found[reply[name_at + 1:name_at + 1 + reply[name_at]]] = bool(is_dir & 0x80)
+                at += size
+            start += count
+
+    def content(self, name):
+        """The bytes of a file's data fork."""
+        code, fork = self.open_fork(name, 0x0001)
+        if code != afp.OK:
+            raise ValueError(f"{name} is not opened: {code}")
+        parts, at = [], 0
+        while True:
+            code, part = self.read(fork, at, 65536)
+            parts.append(part)
+            at += len(part)
+            if code == afp.EOF_ERR:
+                break
+            if code != afp.OK:
+                raise ValueError(f"{name} is not read: {code}")
+        self.close_fork(fork)
+        return b"".join(parts)
+
+    def state(self):
+        """All that the root holds: None for a directory, else the bytes of the file."""
+        return {name: None if is_dir else self.content(name) for name, is_dir in self.names().items()}
+
+
+def session(port):
+    return Files(afp.connect(port))
