@@ -1,7 +1,7 @@
 -- What is kept of a volume's tree after one edit.
-use Rattle.std.proofs.Common.{◌==◌, ◌≡◌, ◌∙◌, ap, sym, refl, subst, ℕ, ◌+◌, ◌≤◌, ◌<◌, arith, Bool, true, false, not, ◌&&◌, ◌||◌, cond, List, [], ◌∷◌, ◌++◌, map, length, Option, Some, None, inl, inr, eq-eqb}
-use Rattle.std.specs.Prelude.{ℤ, bytes_eq, is_some, option_map, sum_by, unwrap_or, if◌then◌else◌}
-use Rattle.std.specs.List.{list_any, list_all, filter, find}
+use Rattle.std.proofs.Common.{◌==◌, ◌≡◌, ◌∙◌, ap, sym, refl, subst, ℕ, ◌+◌, ◌≤◌, ◌<◌, arith, Bool, true, false, not, ◌&&◌, ◌||◌, List, [], ◌∷◌, ◌++◌, Option, Some, None, inl, inr, eq-eqb}
+use Rattle.std.specs.Prelude.{ℤ, bytes_eq, is_some, option_map, unwrap_or, if◌then◌else◌}
+use Rattle.std.specs.List.{list_all, find}
 use Rattle.std.specs.Ordering.{nat_cmp}
 use Rattle.std.proofs.lemmas.Bool.{and_parts, or_right, cases_Bool, cond_both, cond-true, cond-false, eqb-true, ne_eqb, not-true}
 use Rattle.std.proofs.lemmas.List.Sums.{sum_by-append}
@@ -12,13 +12,13 @@ use Rattle.node_rows.specs.Kept.{RowsValue}
 use Rattle.sorted_map.specs.Entries.{at}
 use Rattle.volume_spec.proofs.Formed.{formed-parts}
 use Rattle.volume_spec.proofs.Trees.{drawn, tree-parts}
-use Rattle.volume_spec.specs.Edits.{at_place, bare, change_at, filed_as, is_taken, named, renamed, with_changed, with_moved, with_row, without, without_node}
+use Rattle.volume_spec.specs.Edits.{at_place, bare, filed_as, is_taken, named, renamed, with_changed, with_moved, with_row, without, without_node}
 use Rattle.volume_spec.specs.DesktopLaws.{with_desktop}
 use Rattle.volume_spec.specs.SetFileDirParms.{Settings, with_settings}
 use Rattle.volume_spec.specs.Shared.{directory_of}
 use Rattle.volume_spec.specs.SoundVolume.{IsSoundVolume, fork_bytes, has_node, is_in_place, row_bytes}
 use Rattle.volume_spec.specs.VolumeState.{Row, VolumeState, first_id, root_id}
-use Rattle.volume_tree.proofs.Applied.{all-changed, all-gone, blank-gone, blank-gone-resource, bytes-changed, bytes-gone, gone-drawn, none-gone, shown-changed, shown-left, spare-kept, with-same}
+use Rattle.volume_tree.proofs.Applied.{all-changed, all-gone, blank-gone, blank-gone-resource, bytes-changed, bytes-gone, gone-drawn, none-gone, shown-changed, shown-left, with-same}
 use Rattle.volume_spec.specs.Walk.{parent_at, row_at}
 use Rattle.volume_tree.proofs.Placing.{renamed-is}
 use Rattle.volume_tree.proofs.Showing.{any-shown, ids-differ}

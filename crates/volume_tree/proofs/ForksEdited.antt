@@ -1,5 +1,5 @@
 -- What is kept of a volume's tree after a write of a fork, and after an exchange of forks.
-use Rattle.std.proofs.Common.{◌==◌, ◌≡◌, ◌∙◌, ap, sym, refl, subst, ℕ, ◌+◌, ◌≤◌, ◌<◌, arith, Bool, true, false, not, ◌&&◌, ◌||◌, cond, List, [], ◌∷◌, map, length, Option, Some, None, inl, inr, eq-eqb}
+use Rattle.std.proofs.Common.{◌==◌, ◌≡◌, ◌∙◌, ap, sym, refl, subst, ℕ, ◌+◌, ◌≤◌, ◌<◌, arith, Bool, true, false, not, ◌||◌, cond, List, [], ◌∷◌, map, length, Option, Some, None, inl, inr, eq-eqb}
 use Rattle.std.specs.Prelude.{pos, is_some, option_map, if◌then◌else◌}
 use Rattle.std.specs.List.{list_any, list_all, find}
 use Rattle.std.specs.Ordering.{nat_cmp}

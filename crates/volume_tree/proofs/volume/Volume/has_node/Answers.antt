@@ -1,4 +1,4 @@
-use Rattle.std.proofs.Common.{Some, None}
+use Rattle.std.proofs.Common.{None}
 use Rattle.volume_tree.proofs.Edited.{looked-up}
 use Rattle.volume_tree.proofs.volume.Volume.has_node.Goals as goal
 

@@ -1,4 +1,4 @@
-use Rattle.std.proofs.Common.{◌≡◌, ◌∙◌, ℕ, List, ap, sym, subst, false}
+use Rattle.std.proofs.Common.{◌≡◌, ◌∙◌, ℕ, List, sym, subst, false}
 use Rattle.volume_spec.specs.Edits.{at_place, is_taken, with_moved}
 use Rattle.volume_spec.specs.SoundVolume.{IsSoundVolume}
 use Rattle.volume_tree.proofs.Edited.{Changed, changed-kept, changed-state, free-under, placed-changed}
