@@ -1,10 +1,11 @@
 #!/usr/bin/env python3
 """Starts the file server over a database file with one bit turned, for many places of the bit, and says what comes of it.
 
-turned_bits.py [--places N] [--seed N] [--program PATH]
+turned_bits.py [--places N] [--pieces N] [--seed N] [--program PATH]
 
-A start may be refused (`load 1 fault`, `load 1 bad KEY REASON`), or the volume is as it was; what is neither is counted as another volume, and a server that
-ends in any other way as a crash. It ends with status 1 where there was a crash or another volume.
+A start may be refused (`load 1 fault`, `load 1 bad KEY REASON`), or the volume is as it was; or it is the volume behind some first calls, which lacks the
+last ones though they were acknowledged (lost calls); what is none of these is counted as another volume, and a server that ends in any other way as a crash.
+It ends with status 1 where there was a crash, another volume or lost calls.
 """
 import argparse
 import collections
@@ -19,22 +20,33 @@ import afp_files
 from afp_files import Server, words_for
 
 
-def make(program, path):
-    """A file with a volume of some files and directories, and what it holds."""
+def make(program, path, pieces):
+    """A file with a volume of some files and directories, and what it held behind each call; of each file so many pieces of 64 KiB are written."""
     port = afp.free_port()
     server = Server(words_for(port, "Share=" + path, links=1), program)
     server.wait_listening()
-    client = afp_files.session(port)
+    client, state, states = afp_files.session(port), {}, [{}]
     for number in range(12):
         client.create_dir(b"directory %d" % number)
-        client.create_file(b"file %d" % number)
-        code, fork = client.open_fork(b"file %d" % number, 0x0003)
-        client.write(fork, 0, b"content of file %d\r" % number * 300)
+        state[b"directory %d" % number] = None
+        states.append(dict(state))
+        name, content = b"file %d" % number, b""
+        client.create_file(name)
+        state[name] = b""
+        states.append(dict(state))
+        code, fork = client.open_fork(name, 0x0003)
+        for piece in range(pieces):
+            part = bytes([number * 16 + piece]) * 65536
+            client.write(fork, len(content), part)
+            content += part
+            state[name] = content
+            states.append(dict(state))
         client.close_fork(fork)
-    state = client.state()
+    if client.state() != state:
+        raise ValueError("the volume is not the one that was made")
     client.close_session()
     server.ended()
-    return state
+    return states
 
 
 def turn(path, at, bit):
@@ -45,7 +57,7 @@ def turn(path, at, bit):
         file.write(bytes([byte ^ (1 << bit)]))
 
 
-def outcome(program, path, state):
+def outcome(program, path, states):
     port = afp.free_port()
     server = Server(words_for(port, "Share=" + path), program)
     if not server.wait_listening():
@@ -56,17 +68,22 @@ def outcome(program, path, state):
             return "load 1 bad KEY " + report.split()[-1]
         return f"crash: {status} {report!r}"
     try:
-        same = afp_files.session(port).state() == state
-        what = "as it was" if same else "another volume"
+        found = afp_files.session(port).state()
+        what = "as it was" if found == states[-1] else "lost calls" if found in states else "another volume"
     except (OSError, EOFError, ValueError) as error:
         what = "another volume" if isinstance(error, ValueError) else f"crash: {error}"
     server.kill()
     return what
 
 
+def is_bad(what):
+    return "crash" in what or "another" in what or "lost" in what
+
+
 def main():
     parser = argparse.ArgumentParser()
     parser.add_argument("--places", type=int, default=300)
+    parser.add_argument("--pieces", type=int, default=8)
     parser.add_argument("--seed", type=int, default=1)
     parser.add_argument("--program", default=afp_files.PROGRAM)
     arguments = parser.parse_args()
@@ -74,7 +91,7 @@ def main():
     outcomes = collections.defaultdict(list)
     with tempfile.TemporaryDirectory() as folder:
         path = os.path.join(folder, "share.db")
-        state = make(arguments.program, path)
+        states = make(arguments.program, path, arguments.pieces)
         parts = [name for name in (path, path + "-wal") if os.path.exists(name) and os.path.getsize(name)]
         for number in range(arguments.places):
             with tempfile.TemporaryDirectory() as trial:
@@ -83,14 +100,14 @@ def main():
                 part = parts[number % len(parts)]
                 at, bit = chance.randrange(os.path.getsize(part)), chance.randrange(8)
                 turn(os.path.join(trial, os.path.basename(part)), at, bit)
-                what = outcome(arguments.program, os.path.join(trial, "share.db"), state)
+                what = outcome(arguments.program, os.path.join(trial, "share.db"), states)
                 outcomes[(os.path.basename(part), what)].append((at, bit))
         for part in parts:
             print(f"{os.path.basename(part)}: {os.path.getsize(part)} bytes")
     bad = 0
     for (part, what), places in sorted(outcomes.items()):
-        print(f"{part}: {what}: {len(places)}" + (f", as at byte {places[0][0]} bit {places[0][1]}" if "crash" in what or "another" in what else ""))
-        bad += len(places) * ("crash" in what or "another" in what)
+        print(f"{part}: {what}: {len(places)}" + (f", as at byte {places[0][0]} bit {places[0][1]}" if is_bad(what) else ""))
+        bad += len(places) * is_bad(what)
     sys.exit(bad > 0)
 
 
