@@ -1,0 +1,4 @@
+mod Gathering
+mod Staffing
+mod Linking
+mod HouseLemmas
