@@ -23,7 +23,7 @@ def start_server(port, links, program=None):
     """Starts the file server. Without a program it is `./run afpd`'s, which is built first."""
     if program is None:
         subprocess.run([os.path.join(TOP, "run"), "afpd"], stdin=subprocess.DEVNULL, stdout=subprocess.DEVNULL)
-        program = os.path.join(TOP, "crates", "afpd", "out", "afpd")
+        program = os.path.join(TOP, ".run", "afpd")
     words = ["--server", "Mac", "--signature", SIGNATURE, "--port", str(port), "--links", str(links), "Share=memory"]
     return subprocess.Popen([program] + words, stdin=subprocess.DEVNULL, stdout=subprocess.PIPE)
 

@@ -10,7 +10,7 @@ import time
 import afp
 
 MISC_ERR, DISK_FULL, OBJECT_NOT_FOUND = -5014, -5008, -5018
-PROGRAM = os.path.join(afp.TOP, "crates", "afpd", "out", "afpd")
+PROGRAM = os.path.join(afp.TOP, ".run", "afpd")
 
 
 def build():
