@@ -1,0 +1,4 @@
+pub mod After
+pub mod Planned
+pub mod Whole
+pub mod lemma
