@@ -1,3 +1,4 @@
+pub mod Behind
 pub mod ByNode
 pub mod Left
 pub mod Seen

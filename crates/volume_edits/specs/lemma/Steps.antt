@@ -1,0 +1,45 @@
+-- What an edit does to a node by itself, part by part; no public contract cites it.
+use Rattle.std.specs.Prelude.{ℕ, ◌==◌, Bool, true, false, Option, Some, None, option_map, if◌then◌else◌}
+use Rattle.volume_spec.specs.Edit.{Edit, Comes, Goes, Renames, Moves, Sets, Files, Writes, Exchanges}
+use Rattle.volume_spec.specs.Edits.{at_place, change_at, filed_as, named}
+use Rattle.volume_spec.specs.ForkEffect.{written}
+use Rattle.volume_spec.specs.SetFileDirParms.{with_settings}
+use Rattle.volume_spec.specs.VolumeState.{Row}
+
+-- the file with which a node exchanges its forks
+abbrev pub partner_of : Edit → ℕ → Option ℕ
+partner_of (Exchanges a b) id = if id == a then Some b else if id == b then Some a else None
+partner_of e id = None
+
+-- whether a node comes
+abbrev pub does_come : Edit → Bool
+does_come (Comes row) = true
+does_come e = false
+
+-- the node that comes, where the next id that it draws is this one
+abbrev pub coming_row : Edit → ℕ → ℕ → Option Row
+coming_row (Comes row) next id = if id == next then Some (record row { id = id }) else None
+coming_row e next id = None
+
+-- whether a node goes
+abbrev pub does_go : Edit → ℕ → Bool
+does_go (Goes gone) id = id == gone
+does_go e id = false
+
+-- a node that stays, and exchanges its forks with none
+abbrev pub changed_row : Edit → Row → Row
+changed_row (Renames node name) row = change_at node (named name) row
+changed_row (Moves node parent name) row = change_at node (at_place parent name) row
+changed_row (Sets node settings) row = change_at node (with_settings settings) row
+changed_row (Files node filed) row = change_at node (filed_as filed) row
+changed_row (Writes now node resource bytes) row = change_at node (written now resource bytes true) row
+changed_row e row = row
+
+-- the first row, or else the second
+abbrev pub row_or : Option Row → Option Row → Option Row
+row_or (Some row) other = Some row
+row_or None other = other
+
+-- what an edit leaves of a node that exchanges its forks with none
+abbrev pub left_row : Edit → ℕ → ℕ → Option Row → Option Row
+left_row e next id row = row_or (coming_row e next id) (if does_go e id then None else option_map (changed_row e) row)

@@ -1,0 +1,66 @@
+//! A fork as edits leave it.
+ghost use Rattle.std.specs.Prelude.{◌≡◌, [], length, unwrap_or};
+ghost use Rattle.std.specs.Option.{option_copied};
+
+use fork_bytes::{Fork, ForkWrite};
+use std::marker::Model;
+
+/// Where the bytes of a fork stand.
+#[derive(Drop)]
+enum Source<'a> {
+    Nowhere,
+    Kept { fork: &'a Fork },
+    Written { write: &'a ForkWrite },
+}
+
+/// A fork as edits leave it, lent from the volume or from the edits.
+///
+/// Contracts see its bytes.
+#[derive(Drop)]
+pub struct ForkAfter<'a>(Source<'a>);
+
+impl<'a> Model for ForkAfter<'a> {
+    ghost use Rattle.std.specs.Prelude.{ℕ, List, []};
+    ghost use Rattle.volume_edits.specs.declared.fork_after.Source.TheVariants as source;
+
+    ghost Value = { List ℕ };
+
+    ghost view = { λ a. elim a.0 [ source.Nowhere ↦ [] | source.Kept fork ↦ fork.now | source.Written write ↦ write.now.after ] };
+}
+
+impl<'a> ForkAfter<'a> {
+    /// A fork as it is.
+    pub(crate) fn kept(fork: &'a Fork) -> ForkAfter<'a>
+        ensures { result ≡ fork.now }
+    {
+        ForkAfter(Source::Kept { fork })
+    }
+
+    /// A fork as it is, of no bytes where there is none.
+    pub(crate) fn kept_or_none(fork: Option<&'a Fork>) -> ForkAfter<'a>
+        ensures { result ≡ unwrap_or (option_copied fork.entry) [] }
+    {
+        match fork {
+            Some(fork) => ForkAfter::kept(fork),
+            None => ForkAfter(Source::Nowhere),
+        }
+    }
+
+    /// A fork as a write leaves it.
+    pub(crate) fn written(write: &'a ForkWrite) -> ForkAfter<'a>
+        ensures { result ≡ write.now.after }
+    {
+        ForkAfter(Source::Written { write })
+    }
+
+    /// How many bytes it has.
+    pub fn len(&self) -> u64
+        ensures { result ≡ length self.now }
+    {
+        match &self.0 {
+            Source::Nowhere => 0,
+            Source::Kept { fork } => fork.len(),
+            Source::Written { write } => write.plan().len(),
+        }
+    }
+}
