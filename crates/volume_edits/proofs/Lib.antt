@@ -1,4 +1,5 @@
 pub mod Behind
 pub mod ByNode
+pub mod HeadAndComments
 pub mod Left
 pub mod Seen

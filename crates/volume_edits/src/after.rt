@@ -167,7 +167,7 @@ impl WholeVolume {
     }
 
     /// The next id behind so many edits.
-    fn next_behind(&self, edits: &[Edit], count: usize) -> u64
+    pub(crate) fn next_behind(&self, edits: &[Edit], count: usize) -> u64
         requires within { count ≤ length edits.now }
         requires may { MayEditAll self.now.state (edits_of (take count edits.now)) }
         ensures { result ≡ (after_edits self.now.state (edits_of (take count edits.now))).next_id }

@@ -4,8 +4,10 @@
 mod after;
 mod apply;
 mod carry_out;
+mod comment_after;
 mod edit;
 mod fork_after;
+mod head_after;
 mod kinds;
 pub mod laws;
 mod plan;

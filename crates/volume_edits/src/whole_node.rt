@@ -30,7 +30,7 @@ impl<'a> Model for WholeNode<'a> {
 }
 
 /// A moment as a date.
-fn date_of(now: Moment) -> i32
+pub(crate) fn date_of(now: Moment) -> i32
     ensures { result ≡ pos now }
 {
     now.seconds() as i32

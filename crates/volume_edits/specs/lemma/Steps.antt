@@ -1,9 +1,10 @@
 -- What an edit does to a node by itself, part by part; no public contract cites it.
-use Rattle.std.specs.Prelude.{ℕ, ◌==◌, Bool, true, false, Option, Some, None, option_map, if◌then◌else◌}
-use Rattle.volume_spec.specs.Edit.{Edit, Comes, Goes, Renames, Moves, Sets, Files, Writes, Exchanges}
+use Rattle.std.specs.Prelude.{ℕ, ℤ, ◌==◌, Bool, true, false, List, length, take, Option, Some, None, option_map, unwrap_or, if◌then◌else◌}
+use Rattle.volume_spec.specs.Edit.{Edit, Comes, Goes, Renames, Moves, Sets, Files, Writes, Exchanges, Comments, BacksUp}
 use Rattle.volume_spec.specs.Edits.{at_place, change_at, filed_as, named}
 use Rattle.volume_spec.specs.ForkEffect.{written}
 use Rattle.volume_spec.specs.SetFileDirParms.{with_settings}
+use Rattle.volume_spec.specs.SoundVolume.{longest_comment}
 use Rattle.volume_spec.specs.VolumeState.{Row}
 
 -- the file with which a node exchanges its forks
@@ -43,3 +44,22 @@ row_or None other = other
 -- what an edit leaves of a node that exchanges its forks with none
 abbrev pub left_row : Edit → ℕ → ℕ → Option Row → Option Row
 left_row e next id row = row_or (coming_row e next id) (if does_go e id then None else option_map (changed_row e) row)
+
+-- the volume's backup date that an edit sets
+abbrev pub backup_set : Edit → Option ℤ
+backup_set (BacksUp date) = Some date
+backup_set e = None
+
+-- what an edit leaves of the volume's backup date
+abbrev pub backup_left : Edit → ℤ → ℤ
+backup_left e backup = unwrap_or (backup_set e) backup
+
+-- what is kept of a comment's text, where it is not empty
+abbrev pub text_of : List ℕ → Option (List ℕ)
+text_of text = if length text == 0 then None else Some (take longest_comment text)
+
+-- what an edit leaves of the text of a node's comment
+abbrev pub comment_left : Edit → ℕ → Option (List ℕ) → Option (List ℕ)
+comment_left (Goes id) node text = if id == node then None else text
+comment_left (Comments commented new) node text = if commented == node then text_of new else text
+comment_left e node text = text
