@@ -4,6 +4,7 @@ import select
 import signal
 import struct
 import subprocess
+import sys
 import tempfile
 import time
 
@@ -15,6 +16,14 @@ PROGRAM = os.path.join(afp.TOP, ".run", "afpd")
 
 def build():
     subprocess.run([os.path.join(afp.TOP, "run"), "afpd"], stdin=subprocess.DEVNULL, stdout=subprocess.DEVNULL, stderr=subprocess.DEVNULL)
+
+
+def step(what, got, want):
+    """Prints what was done and what came of it, and ends with status 1 where something else was wanted."""
+    print(f"{what}: {got!r:.220}")
+    if got != want:
+        print(f"wanted {want!r:.220}")
+        sys.exit(1)
 
 
 class Server:

@@ -12,14 +12,7 @@ import tempfile
 
 import afp
 import afp_files
-from afp_files import Server, words_for
-
-
-def step(what, got, want):
-    print(f"{what}: {got!r:.220}")
-    if got != want:
-        print(f"wanted {want!r:.220}")
-        sys.exit(1)
+from afp_files import Server, step, words_for
 
 
 def contains(what, text, part):
