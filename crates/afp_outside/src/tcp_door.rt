@@ -80,6 +80,19 @@ impl<R: Net<Listener = TcpListener, Stream = TcpStream>> TcpDoor<R> {
         let left = if limit == 0 { None } else { Some(limit) };
         TcpDoor::with(rt, listener, left)
     }
+
+    /// Another door at the same port, which is closed once it has handed out `limit` links, and never where that is 0. Where
+    /// the port is not open, or can't be opened again, each accept fails.
+    pub fn beside(&self, rt: R, limit: u64) -> TcpDoor<R>
+        ensures { result ≡ record { door = record { handed = 0; back = []; closed = false; faults = 0 }; left = limit_of limit } }
+    {
+        let listener = match &self.listener {
+            Some(listener) => listener.try_clone().ok(),
+            None => None,
+        };
+        let left = if limit == 0 { None } else { Some(limit) };
+        TcpDoor::with(rt, listener, left)
+    }
 }
 
 impl<R: Clock + Clone + Drop> TcpDoor<R> {
