@@ -48,6 +48,7 @@ pub mod CallLaws
 pub mod OpenForkBytes
 pub mod ForkChanges
 pub mod ForksInHistories
+pub mod DrawnOnce
 pub mod PlainSessions
 pub mod ListShown
 pub mod ParmsShown

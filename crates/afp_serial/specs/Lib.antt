@@ -48,3 +48,4 @@ pub mod ForkLaws
 pub mod WriteLaws
 pub mod ForkHistory
 pub mod HistoryLaws
+pub mod IdLaws

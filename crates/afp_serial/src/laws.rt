@@ -1,4 +1,5 @@
 //! Laws of the serial answer. Each function says one, and does nothing.
+ghost use Rattle.afp_serial.specs.IdLaws as id_laws;
 ghost use Rattle.afp_serial.specs.Laws as laws;
 ghost use Rattle.afp_serial.specs.ListReply as list_reply;
 ghost use Rattle.afp_serial.specs.ParmsReplies as parms_replies;
@@ -7,6 +8,8 @@ ghost use Rattle.afp_serial.specs.SessionViews as session_views;
 ghost use Rattle.afp_serial.specs.SweepLaws as sweep_laws;
 ghost use Rattle.afp_serial.specs.Token as token;
 ghost use Rattle.afp_serial.specs.ToldAtMost as told_at_most;
+
+use volume_spec::edit_laws::{edits_draw_ids_once, effects_are_edits};
 
 /// A world at the start is sound over sound volumes of its house, as are those that nobody has used. A legal entry keeps a sound world
 /// sound, so a lawful history is sound at each of its places. What is told is an answer to the ask, and a reply's block fits in a frame:
@@ -117,3 +120,12 @@ pub fn what_tells_much_changes_nothing()
 pub fn tokens_tell_sessions_apart()
     ensures { token.TokensDiffer }
 {}
+
+/// Between any two places of a history, lawful or not, the next id of each volume does not fall, and an id that was drawn before, and that no
+/// node had, no node has: so no id is drawn twice.
+pub fn ids_are_drawn_once()
+    ensures { id_laws.IdsAreDrawnOnce }
+{
+    edits_draw_ids_once();
+    effects_are_edits();
+}
