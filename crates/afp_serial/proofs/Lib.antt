@@ -49,6 +49,7 @@ pub mod OpenForkBytes
 pub mod ForkChanges
 pub mod ForksInHistories
 pub mod DrawnOnce
+pub mod KeptFound
 pub mod PlainSessions
 pub mod ListShown
 pub mod ParmsShown

@@ -7,6 +7,7 @@ pub mod StatusBlock
 pub mod World
 pub mod Ranges
 pub mod KeptAnswers
+pub mod KeptLaws
 pub mod Sound
 pub mod ReplyKinds
 pub mod OnVolume

@@ -1,5 +1,6 @@
 //! Laws of the serial answer. Each function says one, and does nothing.
 ghost use Rattle.afp_serial.specs.IdLaws as id_laws;
+ghost use Rattle.afp_serial.specs.KeptLaws as kept_laws;
 ghost use Rattle.afp_serial.specs.Laws as laws;
 ghost use Rattle.afp_serial.specs.ListReply as list_reply;
 ghost use Rattle.afp_serial.specs.ParmsReplies as parms_replies;
@@ -9,6 +10,7 @@ ghost use Rattle.afp_serial.specs.SweepLaws as sweep_laws;
 ghost use Rattle.afp_serial.specs.Token as token;
 ghost use Rattle.afp_serial.specs.ToldAtMost as told_at_most;
 
+use afp_base::laws::repeat_finds_newest;
 use volume_spec::edit_laws::{edits_draw_ids_once, effects_are_edits};
 
 /// A world at the start is sound over sound volumes of its house, as are those that nobody has used. A legal entry keeps a sound world
@@ -35,6 +37,17 @@ pub fn displaced_changes_nothing()
 pub fn kept_answer_is_told_again()
     ensures { laws.TellsKept }
 {}
+
+/// Of the answers that a session keeps the last 32 are found: the newest by a repeat of its request; any other as before, or, where 32 were kept, as
+/// among all but the oldest. No other answer comes in.
+pub fn last_answers_are_found()
+    ensures newest { kept_laws.FindsKept }
+    ensures others { kept_laws.KeepsOthers }
+    ensures oldest { kept_laws.LosesOldest }
+    ensures none { kept_laws.BringsNoOther }
+{
+    repeat_finds_newest();
+}
 
 /// An answer Ok is one that was kept, or the reply of the call's row, which its block shows to a request of that kind. So no refusal is
 /// told Ok. Any other answer is one that was kept, or what the call's row refuses it with, which its block shows in the same way under its code,
