@@ -1,7 +1,10 @@
 /* Answers frames of the sizes that the file server answers, and does nothing else: a read with as many bytes as it asks for, any other
-   request with four bytes. It serves one link: echo PORT LARGEST, where a read of the link takes at most LARGEST bytes. */
+   request with four bytes. echo PORT LARGEST serves one link, where a read of the link takes at most LARGEST bytes. echo PORT LARGEST WORKERS serves
+   links until it is killed, so many at once, each worker one after the other. With a fourth word it keeps the bytes of writes in a store of 1 MiB for
+   each worker, and answers reads with those, which is the one copy that no file server can do without. */
 #include <netinet/in.h>
 #include <netinet/tcp.h>
+#include <pthread.h>
 #include <stdint.h>
 #include <stdio.h>
 #include <stdlib.h>
@@ -9,8 +12,13 @@
 #include <sys/socket.h>
 #include <unistd.h>
 
-enum { HEADER = 16, PAYLOAD = 131072, FPREAD = 27 };
-static unsigned char in[HEADER + PAYLOAD], out[HEADER + PAYLOAD];
+enum { HEADER = 16, PAYLOAD = 131072, FPREAD = 27, FPWRITE = 33, STORE = 1 << 20 };
+
+struct worker {
+  int door;
+  size_t largest;
+  unsigned char in[HEADER + PAYLOAD], out[HEADER + PAYLOAD], *store;
+};
 
 static uint32_t word(const unsigned char *at) {
   return (uint32_t)at[0] << 24 | (uint32_t)at[1] << 16 | (uint32_t)at[2] << 8 | at[3];
@@ -29,23 +37,30 @@ static int write_all(int link, const unsigned char *at, size_t left) {
   return 0;
 }
 
-/* The size of the reply to the frame in `in`. */
-static uint32_t reply_size(uint32_t length) {
-  if (length >= 12 && in[HEADER] == FPREAD) {
-    uint32_t count = word(in + HEADER + 8);
-    return count > PAYLOAD ? PAYLOAD : count;
+/* Where a piece of so many bytes stands in the store. */
+static unsigned char *place_of(struct worker *w, uint32_t at, uint32_t size) { return w->store + (at <= STORE - size ? at : 0); }
+
+/* The size of the reply to the frame in `in`; its bytes come from the store, where there is one, and those of a write go there. */
+static uint32_t reply_size(struct worker *w, uint32_t length) {
+  unsigned char *block = w->in + HEADER;
+  if (length >= 12 && block[0] == FPREAD) {
+    uint32_t count = word(block + 8), size = count > PAYLOAD ? PAYLOAD : count;
+    if (w->store) memcpy(w->out + HEADER, place_of(w, word(block + 4), size), size);
+    return size;
   }
+  if (w->store && length > 12 && block[0] == FPWRITE) memcpy(place_of(w, word(block + 4), length - 12), block + 12, length - 12);
   return 4;
 }
 
-static int serve(int link, size_t largest) {
-  size_t have = 0;
+static int serve(struct worker *w, int link) {
+  unsigned char *in = w->in, *out = w->out;
+  size_t have = 0, largest = w->largest;
   for (;;) {
     while (have >= HEADER) {
       uint32_t length = word(in + 8);
       if (length > PAYLOAD) return 1;
       if (have < HEADER + length) break;
-      uint32_t size = reply_size(length);
+      uint32_t size = reply_size(w, length);
       memcpy(out, in, 4);
       out[0] = 1;
       memset(out + 4, 0, 12);
@@ -54,7 +69,7 @@ static int serve(int link, size_t largest) {
       have -= HEADER + length;
       memmove(in, in + HEADER + length, have);
     }
-    size_t room = sizeof in - have;
+    size_t room = sizeof w->in - have;
     ssize_t got = read(link, in + have, room < largest ? room : largest);
     if (got == 0) return 0;
     if (got < 0) return 1;
@@ -62,14 +77,41 @@ static int serve(int link, size_t largest) {
   }
 }
 
+static int next_link(int door) {
+  int one = 1, link = accept(door, NULL, NULL);
+  if (link >= 0) setsockopt(link, IPPROTO_TCP, TCP_NODELAY, &one, sizeof one);
+  return link;
+}
+
+static void *work(void *given) {
+  struct worker *w = given;
+  for (;;) {
+    int link = next_link(w->door);
+    if (link < 0) return NULL;
+    serve(w, link);
+    close(link);
+  }
+}
+
+static struct worker *worker_at(int door, size_t largest, int stores) {
+  struct worker *w = calloc(1, sizeof *w);
+  w->door = door, w->largest = largest, w->store = stores ? calloc(1, STORE) : NULL;
+  return w;
+}
+
 int main(int count, char **words) {
-  if (count != 3) return 2;
-  int one = 1, door = socket(AF_INET, SOCK_STREAM, 0);
+  if (count < 3) return 2;
+  int one = 1, door = socket(AF_INET, SOCK_STREAM, 0), workers = count > 3 ? atoi(words[3]) : 0;
   struct sockaddr_in place = {.sin_family = AF_INET, .sin_port = htons((uint16_t)atoi(words[1])), .sin_addr.s_addr = htonl(INADDR_LOOPBACK)};
   setsockopt(door, SOL_SOCKET, SO_REUSEADDR, &one, sizeof one);
-  if (bind(door, (struct sockaddr *)&place, sizeof place) != 0 || listen(door, 1) != 0) return 4;
-  int link = accept(door, NULL, NULL);
-  if (link < 0) return 4;
-  setsockopt(link, IPPROTO_TCP, TCP_NODELAY, &one, sizeof one);
-  return serve(link, (size_t)atoi(words[2]));
+  if (bind(door, (struct sockaddr *)&place, sizeof place) != 0 || listen(door, 128) != 0) return 4;
+  size_t largest = (size_t)atoi(words[2]);
+  if (workers == 0) {
+    int link = next_link(door);
+    return link < 0 ? 4 : serve(worker_at(door, largest, 0), link);
+  }
+  pthread_t last;
+  for (int i = 0; i < workers; i++) pthread_create(&last, NULL, work, worker_at(door, largest, count > 4));
+  pthread_join(last, NULL);
+  return 4;
 }

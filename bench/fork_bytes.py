@@ -65,7 +65,7 @@ class Side:
 def start_echo(folder, largest):
     program = os.path.join(folder, "echo")
     if not os.path.exists(program):
-        subprocess.run(["gcc", "-O2", "-o", program, os.path.join(afp.TOP, "bench", "echo.c")], check=True)
+        subprocess.run(["gcc", "-O2", "-pthread", "-o", program, os.path.join(afp.TOP, "bench", "echo.c")], check=True)
     port = afp.free_port()
     process = subprocess.Popen([program, str(port), str(largest)])
     return Side(f"echo, {largest:,} a read", process, afp.Link(afp.connect(port)), 1)
