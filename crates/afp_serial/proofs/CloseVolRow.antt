@@ -10,11 +10,12 @@ use Rattle.afp_replies.specs.declared.reply.Reply.TheVariants.{Empty}
 use Rattle.afp_calls_grammar.specs.declared.call.Call.TheVariants.{CloseVol}
 use Rattle.afp_serial.proofs.Closed.{closing-sound, closing-apart}
 use Rattle.afp_serial.proofs.Replaced.{TakesPlace, number_of, numbered, replaced-apart, replaced-old, replaced-sound, volume-kept}
-use Rattle.afp_serial.proofs.SoundParts.{ApartSessions, sessions-parts, opens-parts, caches-parts}
+use Rattle.afp_serial.proofs.SoundParts.{ApartSessions, sessions-parts, opens-parts, caches-parts, users-parts}
 use Rattle.afp_serial.proofs.SoundRow.{IsSoundRow, no-keeper, no_more-refuses}
 use Rattle.afp_serial.specs.SessionLaws.{asking_changes}
 use Rattle.afp_serial.specs.CloseVol.{close_vol_effect, close_vol_row}
 use Rattle.afp_serial.specs.ReplyKinds.{reply_kind}
+use Rattle.afp_serial.specs.Users.{is_user_of}
 use Rattle.afp_serial.specs.World.{has_opened, volume_at, closing, with_session, World, Session, OpenFork}
 use Rattle.afp_serial.specs.Sound.{IsSound, has_volume_open, is_file_of, is_lawful_open, is_lawful_cache}
 use Rattle.afp_base.proofs.Facts.{contra}
@@ -62,6 +63,7 @@ close-vol-keeps w s test volume found h =
     let t : Session = with_volumes s (without s.volumes volume) in
     let way : TakesPlace v s t = takes v s test (without s.volumes volume) found in
     replaced-sound v s t closed way
+    (find-all test (λ x. is_user_of w.house.users x.user) w.sessions s found (users-parts w h.users))
     (find-all test (λ x. is_lawful_cache x.cache) w.sessions s found (caches-parts w h.caches))
     (all-both (is_lawful_open v) (is_elsewhere s volume) (λ o. has_volume_open (with_session v t).sessions o.session o.fork.volume) v.opens
     (λ o stood elsewhere. volume-kept v s t o.session o.fork.volume (sessions-parts v closed.sessions) (numbered way)
@@ -79,7 +81,7 @@ close-vol-sound volume = record {
   refuses = λ w s r is h. no_more-refuses (CloseVol volume) ((close_vol_row volume.0).refusals w s) r is refl;
   sound = λ w s test lawful found passes h. close-vol-keeps w s test volume.0 found h;
   fits = λ w s lawful passes h. refl;
-  shown = λ w s lawful passes h. close-vol-shown volume;
+  shown = λ w s lawful passes h known. close-vol-shown volume;
   apart = λ w s test found a. close-vol-apart w s test volume.0 found a;
   next = λ w s. refl;
   keeper = λ w s index passes commits. no-keeper w index commits;

@@ -3,13 +3,14 @@ use Rattle.std.proofs.Common.{◌≡◌, ℕ, ◌≤◌, Bool, true, ◌&&◌, L
 use Rattle.std.specs.Prelude.{count_by, ◌==◌, filter}
 use Rattle.std.specs.List.{list_all, list_any}
 use Rattle.std.proofs.lemmas.Bool.{and_parts, and_from, leb-true, le-leb}
-use Rattle.afp_serial.proofs.SoundParts.{ApartSessions, sessions-parts, sessions-whole, LawfulOpens, opens-parts, opens-whole, LawfulLocks, locks-parts, locks-whole, caches-parts, caches-whole, KeptLimits, limits-parts, limits-whole, same_number, same_link, is_below, same_reference, do_clash, do_overlap, keeps_forks, keeps_locks}
+use Rattle.afp_serial.proofs.SoundParts.{ApartSessions, sessions-parts, sessions-whole, LawfulOpens, opens-parts, opens-whole, LawfulLocks, locks-parts, locks-whole, caches-parts, caches-whole, KeptLimits, limits-parts, limits-whole, same_number, same_link, is_below, same_reference, do_clash, do_overlap, keeps_forks, keeps_locks, users-parts, users-whole}
 use Rattle.afp_serial.specs.Limits.{most_sessions}
 use Rattle.afp_base.specs.DenyMode.{is_one_fork}
 use Rattle.afp_base.specs.Limits.{most_forks, most_locks}
 use Rattle.afp_base.specs.Overlap.{do_meet}
+use Rattle.afp_serial.specs.Users.{is_user_of}
 use Rattle.afp_serial.specs.World.{has_session, is_open, volume_at, closing, ending, World, Session, OpenFork, Lock}
-use Rattle.afp_serial.specs.Sound.{IsSound, share_fork, has_volume_open, is_file_of, is_lawful_open, is_lawful_cache, has_typed_fields, has_apart_sessions, has_lawful_locks, has_lawful_caches}
+use Rattle.afp_serial.specs.Sound.{IsSound, share_fork, has_volume_open, is_file_of, is_lawful_open, is_lawful_cache, has_typed_fields, has_apart_sessions, has_lawful_locks, has_lawful_caches, has_known_users}
 use Rattle.afp_base.proofs.ListFacts.{all-both, all-filter, all-kept, all-weaker, any-filter, any-left, any-weaker, apart-filter, apart-weaker, count-filter, length-filter-le}
 
 -- a smaller number is within the limit too
@@ -65,12 +66,13 @@ closed-limits w stays p =
     }
 
 pub closing-sound : (w : World) (stays : OpenFork → Bool) → IsSound w → IsSound (closing w stays)
-unfolding has_apart_sessions has_lawful_caches has_typed_fields
+unfolding has_apart_sessions has_known_users has_lawful_caches has_typed_fields
 closing-sound w stays h = record {
   house = h.house;
   typed = h.typed;
   volumes = h.volumes;
   sessions = h.sessions;
+  users = h.users;
   opens = opens-whole (closing w stays) (closed-opens w stays (opens-parts w h.opens));
   locks = locks-whole (closing w stays) (closed-locks w stays (locks-parts w h.locks));
   caches = h.caches;
@@ -121,6 +123,7 @@ fewer-sound w stays h left =
       typed = h.typed;
       volumes = h.volumes;
       sessions = sessions-whole (leaving w stays) (fewer-apart w stays apart);
+      users = users-whole (leaving w stays) (all-filter (λ s. is_user_of w.house.users s.user) stays w.sessions (users-parts w h.users));
       opens = opens-whole (leaving w stays) (fewer-opens w stays apart (opens-parts w h.opens) left);
       locks = h.locks;
       caches = caches-whole (leaving w stays) (all-filter (λ s. is_lawful_cache s.cache) stays w.sessions (caches-parts w h.caches));

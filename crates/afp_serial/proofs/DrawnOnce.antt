@@ -24,7 +24,7 @@ use Rattle.afp_serial.specs.Enumerate.{enumerate_ext2_row, enumerate_ext_row, en
 use Rattle.afp_serial.specs.Flush.{flush_row}
 use Rattle.afp_serial.specs.GetFileDirParms.{get_file_dir_parms_row}
 use Rattle.afp_serial.specs.GetVolParms.{get_vol_parms_row}
-use Rattle.afp_serial.specs.Login.{login_row}
+use Rattle.afp_serial.specs.Login.{login_ext_row, login_row}
 use Rattle.afp_serial.specs.Logout.{logout_row}
 use Rattle.afp_serial.specs.OpenDir.{close_dir_row, open_dir_row}
 use Rattle.afp_serial.specs.Lock.{byte_range_lock_ext_row, byte_range_lock_row, lock_asked}
@@ -163,8 +163,15 @@ call-draws laws w s (calls.Flush volume) = let r : RowDraws (flush_row volume.0)
 call-draws laws w s (calls.FlushFork reference) = let r : RowDraws (flush_fork_row reference.0) = keeps-volumes (flush_fork_row reference.0) (λ w s. (done-volumes w (open_file w s reference.0) (λ f. with_empty_reply w) (λ f. refl))) in r.draws w s
 call-draws laws w s (calls.GetFileDirParms volume dir file_bits dir_bits path) = let r : RowDraws (get_file_dir_parms_row volume.0 dir.0 file_bits dir_bits path) = tells volume.0 _ _ in r.draws w s
 call-draws laws w s (calls.GetForkParms reference bits) = let r : RowDraws (get_fork_parms_row reference.0 bits) = keeps-volumes (get_fork_parms_row reference.0 bits) (λ w s. (done-volumes w (open_file w s reference.0) (λ f. record { world = w; reply = get_fork_parms_reply bits w f }) (λ f. refl))) in r.draws w s
+call-draws laws w s calls.GetSrvrInfo = same-draws w w refl
+call-draws laws w s (calls.GetSrvrMsg kind bits) = same-draws w w refl
+call-draws laws w s calls.GetSrvrParms = same-draws w w refl
+call-draws laws w s (calls.GetUserInfo flag id bits) = same-draws w w refl
 call-draws laws w s (calls.GetVolParms volume bits) = let r : RowDraws (get_vol_parms_row volume.0 bits) = tells volume.0 _ _ in r.draws w s
-call-draws laws w s (calls.Login version uam rest) = let r : RowDraws (login_row version uam) = keeps-volumes (login_row version uam) (λ w s. refl) in r.draws w s
+call-draws laws w s (calls.Login version uam rest) = let r : RowDraws (login_row version uam rest) = keeps-volumes (login_row version uam rest) (λ w s. refl) in r.draws w s
+call-draws laws w s (calls.LoginExt flags version uam name path_kind path rest) = let r : RowDraws (login_ext_row version uam name rest) = keeps-volumes (login_ext_row version uam name rest) (λ w s. refl) in r.draws w s
+call-draws laws w s (calls.MapID function id) = same-draws w w refl
+call-draws laws w s (calls.MapName function name) = same-draws w w refl
 call-draws laws w s (calls.MoveAndRename volume dir target_dir path target_path new_path) = tree laws volume.0 (trees.MoveAndRename dir.0 path target_dir.0 target_path new_path) (λ v. Empty) w s
 call-draws laws w s (calls.OpenDir volume dir path) = let r : RowDraws (open_dir_row volume.0 dir.0 path) = tells volume.0 _ _ in r.draws w s
 call-draws laws w s (calls.OpenFork flag volume dir bits mode path) = let r : RowDraws (open_fork_row flag volume.0 dir.0 bits mode path) = keeps-volumes (open_fork_row flag volume.0 dir.0 bits mode path) (λ w s. (opened-volumes w s (record { volume = volume.0; bits = bits; resource = is_resource flag; access = access_of mode }) (file_asked (volume_at w.volumes volume.0) dir.0 path))) in r.draws w s

@@ -37,7 +37,7 @@ use Rattle.afp_serial.specs.Enumerate.{enumerate_ext2_row, enumerate_ext_row, en
 use Rattle.afp_serial.specs.Flush.{flush_row}
 use Rattle.afp_serial.specs.GetFileDirParms.{get_file_dir_parms_row}
 use Rattle.afp_serial.specs.GetVolParms.{get_vol_parms_row}
-use Rattle.afp_serial.specs.Login.{login_row}
+use Rattle.afp_serial.specs.Login.{login_ext_row, login_row}
 use Rattle.afp_serial.specs.OpenDir.{close_dir_row, open_dir_row}
 use Rattle.afp_base.specs.declared.code.Code.{Code}
 use Rattle.volume_spec.proofs.ForkEffects.{fork-given, fork-lets-be}
@@ -277,7 +277,14 @@ call-changes w s fork bytes h there had (calls.FlushFork reference) passes = (fl
 call-changes w s fork bytes h there had (calls.GetFileDirParms volume dir file_bits dir_bits path) passes = let l : LeavesForks (get_file_dir_parms_row volume.0 dir.0 file_bits dir_bits path) = tells-leave volume.0 _ _ in l.leaves w s fork bytes there passes had
 call-changes w s fork bytes h there had (calls.GetForkParms reference bits) passes = (get-fork-parms-leaves reference.0 bits).leaves w s fork bytes there passes had
 call-changes w s fork bytes h there had (calls.GetVolParms volume bits) passes = let l : LeavesForks (get_vol_parms_row volume.0 bits) = tells-leave volume.0 _ _ in l.leaves w s fork bytes there passes had
-call-changes w s fork bytes h there had (calls.Login version uam rest) passes = let l : LeavesForks (login_row version uam) = keeps-volumes (login_row version uam) (λ w s. refl) in l.leaves w s fork bytes there passes had
+call-changes w s fork bytes h there had calls.GetSrvrInfo passes = had
+call-changes w s fork bytes h there had (calls.GetSrvrMsg kind bits) passes = had
+call-changes w s fork bytes h there had calls.GetSrvrParms passes = had
+call-changes w s fork bytes h there had (calls.GetUserInfo flag id bits) passes = had
+call-changes w s fork bytes h there had (calls.Login version uam rest) passes = let l : LeavesForks (login_row version uam rest) = keeps-volumes (login_row version uam rest) (λ w s. refl) in l.leaves w s fork bytes there passes had
+call-changes w s fork bytes h there had (calls.LoginExt flags version uam name path_kind path rest) passes = let l : LeavesForks (login_ext_row version uam name rest) = keeps-volumes (login_ext_row version uam name rest) (λ w s. refl) in l.leaves w s fork bytes there passes had
+call-changes w s fork bytes h there had (calls.MapID function id) passes = had
+call-changes w s fork bytes h there had (calls.MapName function name) passes = had
 call-changes w s fork bytes h there had (calls.MoveAndRename volume dir target_dir path target_path new_path) passes = (tree-leaves volume.0 (trees.MoveAndRename dir.0 path target_dir.0 target_path new_path) (λ v. Empty)).leaves w s fork bytes there passes had
 call-changes w s fork bytes h there had (calls.OpenDir volume dir path) passes = let l : LeavesForks (open_dir_row volume.0 dir.0 path) = tells-leave volume.0 _ _ in l.leaves w s fork bytes there passes had
 call-changes w s fork bytes h there had (calls.OpenFork flag volume dir bits mode path) passes = (open-fork-leaves flag volume.0 dir.0 bits mode path).leaves w s fork bytes there passes had

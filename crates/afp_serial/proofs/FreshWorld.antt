@@ -15,7 +15,7 @@ use Rattle.volume_spec.specs.SoundVolume.{IsSoundVolume}
 use Rattle.volume_spec.specs.VolumeState.{VolumeState, fresh_volume}
 use Rattle.volume_spec.proofs.Fresh.{fresh-sound as volume-sound}
 use Rattle.afp_serial.proofs.Faultless.{faultless}
-use Rattle.afp_serial.proofs.SoundParts.{ApartSessions, fields-whole, sessions-whole, opens-whole, locks-whole, caches-whole, limits-whole}
+use Rattle.afp_serial.proofs.SoundParts.{ApartSessions, fields-whole, sessions-whole, opens-whole, locks-whole, caches-whole, limits-whole, users-whole}
 use Rattle.afp_serial.specs.Faultless.{IsFaultless}
 use Rattle.afp_serial.specs.Household.{Household}
 use Rattle.afp_serial.specs.HouseFault.{is_printable, is_text, is_name, house_fault}
@@ -110,6 +110,7 @@ start-sound house now volumes none typed moment serves =
       typed = fields-whole w (record { latest = moment; drain = refl; house = typed });
       volumes = serves;
       sessions = sessions-whole w (start-apart house now volumes);
+      users = users-whole w refl;
       opens = opens-whole w (record { references = refl; stand = refl; clashes = refl });
       locks = locks-whole w (record { held = refl; overlaps = refl });
       caches = caches-whole w refl;

@@ -6,11 +6,12 @@ use Rattle.std.proofs.lemmas.Bool.{and_parts, and_from, cond_both, eqb-true, eq-
 use Rattle.afp_base.specs.Apart.{are_apart}
 use Rattle.afp_base.specs.Cached.{Request, Answer, Kept, cached_answer, either, is_repeat, with_kept}
 use Rattle.afp_base.specs.Limits.{payload_limit, replay_cache_size, most_forks}
-use Rattle.afp_serial.proofs.SoundParts.{ApartSessions, sessions-parts, sessions-whole, LawfulOpens, opens-parts, opens-whole, caches-parts, caches-whole, KeptLimits, limits-parts, limits-whole, same_number, same_link, is_below, keeps_forks}
+use Rattle.afp_serial.proofs.SoundParts.{ApartSessions, sessions-parts, sessions-whole, LawfulOpens, opens-parts, opens-whole, caches-parts, caches-whole, KeptLimits, limits-parts, limits-whole, same_number, same_link, is_below, keeps_forks, users-parts, users-whole}
 use Rattle.afp_base.proofs.ListFacts.{all-both, all-map-where, all-snoc, all-weaker, any-map, any-weaker, apart-map, apart-snoc, apart-weaker, length-mapped}
 use Rattle.afp_serial.specs.KeptAnswers.{is_kept, kept_in, with_answer}
 use Rattle.afp_serial.specs.Limits.{most_sessions}
 use Rattle.afp_serial.specs.Sound.{IsSound, share_link, is_link_below, has_volume_open, is_file_of, is_lawful_open, is_lawful_cache, has_lawful_locks, has_typed_fields}
+use Rattle.afp_serial.specs.Users.{is_user_of}
 use Rattle.afp_serial.specs.World.{has_opened, has_session, volume_at, World, Session, OpenFork}
 
 -- the cache
@@ -88,6 +89,9 @@ module _ (w : World) (number : ℕ) (r : Request) (a : Answer) where
   its-place : (x : Session) → (with_it x).place ≡ x.place
   its-place = same (λ y. y.place) (λ x. refl)
 
+  its-user : (x : Session) → (with_it x).user ≡ x.user
+  its-user = same (λ y. y.user) (λ x. refl)
+
   its-volumes : (x : Session) → (with_it x).volumes ≡ x.volumes
   its-volumes = same (λ y. y.volumes) (λ x. refl)
 
@@ -145,6 +149,7 @@ module _ (w : World) (number : ℕ) (r : Request) (a : Answer) where
     typed = h.typed;
     volumes = h.volumes;
     sessions = sessions-whole new (kept-apart (sessions-parts w h.sessions));
+    users = users-whole new (all-map-where (λ x. is_user_of w.house.users x.user) (λ x. is_user_of w.house.users x.user) with_it w.sessions (λ x is. ap (is_user_of w.house.users) (its-user x) ∙ is) (users-parts w h.users));
     opens = opens-whole new (kept-opens (opens-parts w h.opens));
     locks = h.locks;
     caches = caches-whole new (all-map-where (λ x. is_lawful_cache x.cache && has_none number r x) (λ x. is_lawful_cache x.cache) with_it w.sessions (cache-with short stays)

@@ -17,6 +17,7 @@ pub mod ParamsSize
 pub mod ToldReplies
 pub mod LoginRows
 pub mod SessionTokenRows
+pub mod SessionRows
 pub mod OpenVolRow
 pub mod CloseVolRow
 pub mod TellRows
@@ -61,4 +62,5 @@ pub mod KeptWishes
 pub mod SessionViews
 pub mod SessionSteps
 pub mod SessionLaw
+pub mod UserLaws
 pub mod FaultsTold

@@ -29,7 +29,7 @@ use Rattle.afp_serial.specs.ForkBytes.{start_in}
 use Rattle.afp_serial.specs.LawfulCall.{is_lawful_call, is_signed}
 use Rattle.afp_serial.specs.Lock.{LockAsked, byte_range_lock_ext_row, byte_range_lock_row, has_most_locks, is_lock, is_met_by_own, lock_asked, locked, locking_refusals, locks, locks_range, range_asked, range_of, range_refusals, range_to, unlocked}
 use Rattle.afp_serial.specs.OnFork.{OpenFile, bytes_of, is_met_by_other, meets_lock, placed}
-use Rattle.afp_serial.specs.Sound.{IsSound, has_apart_sessions, has_lawful_caches, has_lawful_opens, has_typed_fields, share_fork}
+use Rattle.afp_serial.specs.Sound.{IsSound, has_apart_sessions, has_lawful_caches, has_lawful_opens, has_typed_fields, share_fork, has_known_users}
 use Rattle.volume_spec.proofs.ForkEffects.{fork-few}
 use Rattle.afp_base.proofs.Facts.{contra}
 use Rattle.afp_base.proofs.ListFacts.{all-both, all-filter, all-weaker, any-weaker, apart-filter, count-filter, none-all}
@@ -111,12 +111,13 @@ locked-limits w o range room p = record {
         (leb-true (count_by (λ (lock : Lock). lock.reference == x.reference) w.locks) most_locks h)
 
 locked-sound : (w : World) (o : OpenFork) (range : Range) → is_open w.opens o.reference ≡ true → is_met_by_other w o range ≡ false → is_met_by_own w o range ≡ false → has_most_locks w o ≡ false → IsSound w → IsSound (locked w o range)
-unfolding has_apart_sessions has_lawful_opens has_lawful_caches has_typed_fields
+unfolding has_apart_sessions has_known_users has_lawful_opens has_lawful_caches has_typed_fields
 locked-sound w o range there other own room h = record {
   house = h.house;
   typed = h.typed;
   volumes = h.volumes;
   sessions = h.sessions;
+  users = h.users;
   opens = h.opens;
   locks = locks-whole (locked w o range) (locked-locks w o range there (none-met w o range other own) (locks-parts w h.locks));
   caches = h.caches;
@@ -126,7 +127,7 @@ locked-sound w o range there other own room h = record {
 -- a lock less
 
 unlocked-sound : (w : World) (o : OpenFork) (range : Range) → IsSound w → IsSound (unlocked w o range)
-unfolding has_apart_sessions has_lawful_opens has_lawful_caches has_typed_fields
+unfolding has_apart_sessions has_known_users has_lawful_opens has_lawful_caches has_typed_fields
 unlocked-sound w o range h =
     let stays : Lock → Bool = λ lock. not (is_lock o.reference range lock) in
     let p = locks-parts w h.locks in
@@ -136,6 +137,7 @@ unlocked-sound w o range h =
       typed = h.typed;
       volumes = h.volumes;
       sessions = h.sessions;
+      users = h.users;
       opens = h.opens;
       locks = locks-whole (unlocked w o range) (record { held = all-filter (λ (lock : Lock). is_open w.opens lock.reference) stays w.locks p.held; overlaps = apart-filter (do_overlap w.opens) stays w.locks p.overlaps });
       caches = h.caches;

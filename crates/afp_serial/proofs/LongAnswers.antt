@@ -19,7 +19,7 @@ use Rattle.afp_replies.specs.Replies.{canonical_reply}
 use Rattle.afp_replies.specs.declared.reply.Reply.{Reply}
 use Rattle.afp_replies.specs.declared.reply.Reply.TheVariants.{Opened, Start, StartExt}
 use Rattle.afp_calls_grammar.specs.declared.call.Call.{Call}
-use Rattle.afp_calls_grammar.specs.declared.call.Call.TheVariants.{ByteRangeLock, ByteRangeLockExt, CloseDir, CloseFork, CloseVol, CreateDir, CreateFile, Delete, DisconnectOldSession, Enumerate, EnumerateExt, EnumerateExt2, Flush, FlushFork, GetFileDirParms, GetForkParms, GetSessionToken, GetVolParms, Login, Logout, MoveAndRename, OpenDir, OpenFork, OpenVol, Read, ReadExt, Rename, SetDirParms, SetFileDirParms, SetFileParms, SetForkParms, SetVolParms, Write, WriteExt}
+use Rattle.afp_calls_grammar.specs.declared.call.Call.TheVariants.{ByteRangeLock, ByteRangeLockExt, CloseDir, CloseFork, CloseVol, CreateDir, CreateFile, Delete, DisconnectOldSession, Enumerate, EnumerateExt, EnumerateExt2, Flush, FlushFork, GetFileDirParms, GetForkParms, GetSessionToken, GetSrvrInfo, GetSrvrMsg, GetSrvrParms, GetUserInfo, GetVolParms, Login, LoginExt, Logout, MapID, MapName, MoveAndRename, OpenDir, OpenFork, OpenVol, Read, ReadExt, Rename, SetDirParms, SetFileDirParms, SetFileParms, SetForkParms, SetVolParms, Write, WriteExt}
 use Rattle.afp_serial.proofs.ForkRows.{file-answer}
 use Rattle.afp_serial.proofs.OnVolumeRows.{refused_before-none}
 use Rattle.afp_serial.proofs.OpenForkRow.{IsFileFound, found-file, opens-passed}
@@ -185,9 +185,16 @@ long-tells w s (FlushFork reference) h passes = short-row w s (FlushFork referen
 long-tells w s (GetFileDirParms volume dir file_bits dir_bits path) h passes = λ long. record { world = on-volume-stands w (volume_at w.volumes volume.0) _ (λ v. refl); keeper = refl }
 long-tells w s (GetForkParms reference bits) h passes = λ long. record { world = on-fork-stands w (open_file w s reference.0) _ (λ f. refl); keeper = keeps (open_file w s reference.0) }
 long-tells w s (GetSessionToken kind stamp id) h passes = λ long. record { world = refl; keeper = refl }
+long-tells w s GetSrvrInfo h passes = λ long. record { world = refl; keeper = refl }
+long-tells w s (GetSrvrMsg kind bits) h passes = λ long. record { world = refl; keeper = refl }
+long-tells w s GetSrvrParms h passes = λ long. record { world = refl; keeper = refl }
+long-tells w s (GetUserInfo flag id bits) h passes = λ long. record { world = refl; keeper = refl }
 long-tells w s (GetVolParms volume bits) h passes = λ long. record { world = on-volume-stands w (volume_at w.volumes volume.0) _ (λ v. refl); keeper = refl }
 long-tells w s (Login version uam tail) h passes = short-row w s (Login version uam tail) 0 (omega arith)
+long-tells w s (LoginExt flags version uam name path_kind path tail) h passes = short-row w s (LoginExt flags version uam name path_kind path tail) 0 (omega arith)
 long-tells w s Logout h passes = short-row w s Logout 0 (omega arith)
+long-tells w s (MapID function id) h passes = λ long. record { world = refl; keeper = refl }
+long-tells w s (MapName function name) h passes = λ long. record { world = refl; keeper = refl }
 long-tells w s (MoveAndRename volume dir target_dir path target_path new_path) h passes = short-row w s (MoveAndRename volume dir target_dir path target_path new_path) 0 (on-volume-short 0 w (volume_at w.volumes volume.0) _ (λ v. omega arith))
 long-tells w s (OpenDir volume dir path) h passes = λ long. record { world = on-volume-stands w (volume_at w.volumes volume.0) _ (λ v. refl); keeper = refl }
 long-tells w s (OpenFork flag volume dir bits mode path) h passes = short-row w s (OpenFork flag volume dir bits mode path) 612 (open-short w s (record { volume = volume.0; bits = bits; resource = is_resource flag; access = access_of mode }) dir.0 path h passes)

@@ -97,7 +97,7 @@ tells-sound call volume refuses reply rightly tells = record {
   refuses = λ w s r is h. no_more-refuses call (on_volume w s volume (refuses w)) r is (on-refused w s volume (refuses w) (rightly w));
   sound = λ w s test lawful found passes h. done-keeps IsSound (volume_at w.volumes volume) w (λ v. record { world = w; reply = reply w v }) h (λ v. h);
   fits = λ w s lawful passes h. (told w s lawful passes h).short;
-  shown = λ w s lawful passes h. told-shown call (done_on (volume_at w.volumes volume) w (λ v. record { world = w; reply = reply w v })).reply (told w s lawful passes h);
+  shown = λ w s lawful passes h known. told-shown call (done_on (volume_at w.volumes volume) w (λ v. record { world = w; reply = reply w v })).reply (told w s lawful passes h);
   apart = λ w s test found a. done-keeps ApartSessions (volume_at w.volumes volume) w (λ v. record { world = w; reply = reply w v }) a (λ v. a);
   next = λ w s. done-keeps (λ x. x.next_link ≡ w.next_link) (volume_at w.volumes volume) w (λ v. record { world = w; reply = reply w v }) refl (λ v. refl);
   keeper = λ w s index passes commits. no-keeper w index commits;
@@ -138,7 +138,7 @@ changes-sound call volume tree reply ranges tells = record {
   refuses = λ w s r is h. no_more-refuses call (on_volume w s volume (λ v. tree_refusal v (opened_on w volume) tree)) r is (on-refused w s volume (λ v. tree_refusal v (opened_on w volume) tree) (λ v. tree-refuses v (opened_on w volume) tree));
   sound = λ w s test lawful found passes h. sound w s lawful passes h;
   fits = λ w s lawful passes h. (told w s passes h).short;
-  shown = λ w s lawful passes h. told-shown call (done_on (volume_at w.volumes volume) w (does w)).reply (told w s passes h);
+  shown = λ w s lawful passes h known. told-shown call (done_on (volume_at w.volumes volume) w (does w)).reply (told w s passes h);
   apart = λ w s test found a. done-keeps ApartSessions (volume_at w.volumes volume) w (does w) a (λ v. record { numbers = a.numbers; links = a.links; below = a.below });
   next = λ w s. done-keeps (λ x. x.next_link ≡ w.next_link) (volume_at w.volumes volume) w (does w) refl (λ v. refl);
   keeper = λ w s index passes commits. keeper-there w s volume index (λ v. tree_refusal v (opened_on w volume) tree) passes commits;

@@ -42,7 +42,7 @@ use Rattle.afp_serial.specs.World.{Refused, plain, refused_before, has_opened, h
 use Rattle.afp_serial.specs.Fork.{OpenAsked, access_of, denied_of, file_asked, fork_in, fork_ref, has_most_forks, is_denied, lowest_free, new_fork, open_fork_row, opened_reply, opens_asked, opens_fork, with_fork, with_open}
 use Rattle.afp_serial.specs.OnVolume.{opened_on, refused_on}
 use Rattle.afp_serial.specs.ReplyKinds.{command_of, reply_kind}
-use Rattle.afp_serial.specs.Sound.{IsSound, has_apart_sessions, has_lawful_caches, has_typed_fields, has_volume_open, is_file_of, is_lawful_open, share_fork}
+use Rattle.afp_serial.specs.Sound.{IsSound, has_apart_sessions, has_lawful_caches, has_typed_fields, has_volume_open, is_file_of, is_lawful_open, share_fork, has_known_users}
 use Rattle.volume_spec.proofs.Refusals.{none-first, none-holds}
 use Rattle.volume_spec.proofs.SeenRows.{file-found, test-found}
 use Rattle.volume_spec.proofs.Trees.{tree-parts}
@@ -248,12 +248,13 @@ module _ (w : World) (s : Session) (asked : OpenAsked) (file : File) where
       none-of r there true is = absurd (another r there (eq-eqb (lowest_free w.opens) r (sym (eqb-true r (lowest_free w.opens) is))))
 
   new-sound : is_lawful_open w (new_fork w s asked file) ≡ true → is_denied w (fork_in asked file) asked.access ≡ false → has_most_forks w s ≡ false → IsSound w → IsSound (with_fork w (new_fork w s asked file))
-  unfolding has_apart_sessions has_lawful_caches has_typed_fields with_new
+  unfolding has_apart_sessions has_known_users has_lawful_caches has_typed_fields with_new
   new-sound lawful agrees room h = record {
     house = h.house;
     typed = h.typed;
     volumes = h.volumes;
     sessions = h.sessions;
+    users = h.users;
     opens = opens-whole with_new (new-opens lawful agrees (opens-parts w h.opens));
     locks = locks-whole with_new (new-locks (locks-parts w h.locks));
     caches = h.caches;
@@ -363,7 +364,7 @@ opens-sound call asked dir path asks denies = record {
       let o = opens-passed w s asked dir path h passes in
       subst (λ q. IsSound (opens_fork w s asked q).world) (sym (asked-is w s asked dir path o)) (new-sound w s asked o.file (lawful-new w s test asked dir path found h o) o.agrees o.room h);
   fits = λ w s lawful passes h. (told w s passes h).short;
-  shown = λ w s lawful passes h. told-shown call (opens_fork w s asked (file_asked (volume_at w.volumes asked.volume) dir path)).reply (told w s passes h);
+  shown = λ w s lawful passes h known. told-shown call (opens_fork w s asked (file_asked (volume_at w.volumes asked.volume) dir path)).reply (told w s passes h);
   apart = λ w s test found a. apart-after w s asked (file_asked (volume_at w.volumes asked.volume) dir path) a;
   next = λ w s. next-after w s asked (file_asked (volume_at w.volumes asked.volume) dir path);
   keeper = λ w s index passes commits. no-keeper w index commits;

@@ -13,12 +13,13 @@ use Rattle.afp_calls_grammar.specs.declared.call.Call.TheVariants.{OpenVol}
 use Rattle.afp_serial.proofs.OnVolumeRows.{Asks, IsToldTo, refused_before-none, refused_before-refused, told-shown}
 use Rattle.afp_serial.proofs.PlacedLists.{any-placed}
 use Rattle.afp_serial.proofs.Replaced.{TakesPlace, number_of, numbered, replaced-apart, replaced-old, replaced-sound, volume-kept}
-use Rattle.afp_serial.proofs.SoundParts.{ApartSessions, sessions-parts, opens-parts, caches-parts}
+use Rattle.afp_serial.proofs.SoundParts.{ApartSessions, sessions-parts, opens-parts, caches-parts, users-parts}
 use Rattle.afp_serial.proofs.SoundRow.{IsSoundRow, no-keeper, no_more-refuses}
 use Rattle.afp_serial.proofs.ToldReplies.{volume-told-to}
 use Rattle.afp_serial.proofs.VolumeCodes.{volume-refuses}
 use Rattle.afp_serial.proofs.VolumeStates.{served-at}
 use Rattle.afp_serial.specs.SessionLaws.{SessionsAfter, all_stay, asking_changes}
+use Rattle.afp_serial.specs.Users.{is_user_of}
 use Rattle.afp_serial.specs.World.{plain, refused_before, has_opened, has_session, volume_at, with_session, World, Session}
 use Rattle.afp_serial.specs.OnFork.{placed}
 use Rattle.afp_serial.specs.OpenVol.{open_vol_row, opens_volume, state_named, volume_named, with_volume}
@@ -43,6 +44,7 @@ with-volume-sound w s test v found h =
     let t : Session = with_volume s v in
     let way : TakesPlace w s t = opened-way w s test v found in
     replaced-sound w s t h way
+    (find-all test (λ x. is_user_of w.house.users x.user) w.sessions s found (users-parts w h.users))
     (find-all test (λ x. is_lawful_cache x.cache) w.sessions s found (caches-parts w h.caches))
     (all-weaker (is_lawful_open w) (λ o. has_volume_open (with_session w t).sessions o.session o.fork.volume) w.opens
     (λ o stood. volume-kept w s t o.session o.fork.volume (sessions-parts w h.sessions) (numbered way)
@@ -94,7 +96,7 @@ open-vol-sound bits name = record {
   refuses = λ w s r is h. no_more-refuses (OpenVol bits name) ((open_vol_row bits name).refusals w s) r is (refused_before-refused (get_vol_parms_refusal bits) ((is_none (state_named w (volume_named w name)), plain ObjectNotFound) ∷ []) (volume-refuses bits) refl);
   sound = λ w s test lawful found passes h. opens-keeps IsSound w s bits (volume_named w name) (state_named w (volume_named w name)) h (λ v. with-volume-sound w s test v found h);
   fits = λ w s lawful passes h. (opens-told w s bits name (volume_named w name) h (opens-passed w bits (volume_named w name) passes)).short;
-  shown = λ w s lawful passes h. told-shown (OpenVol bits name) (opens_volume w s bits (volume_named w name) (state_named w (volume_named w name))).reply
+  shown = λ w s lawful passes h known. told-shown (OpenVol bits name) (opens_volume w s bits (volume_named w name) (state_named w (volume_named w name))).reply
       (opens-told w s bits name (volume_named w name) h (opens-passed w bits (volume_named w name) passes));
   apart = λ w s test found a. opens-keeps ApartSessions w s bits (volume_named w name) (state_named w (volume_named w name)) a (λ v. replaced-apart w s (with_volume s v) a (opened-way w s test v found));
   next = λ w s. opens-keeps (λ x. x.next_link ≡ w.next_link) w s bits (volume_named w name) (state_named w (volume_named w name)) refl (λ v. refl);

@@ -3,11 +3,12 @@ use Rattle.std.proofs.Common.{◌≡◌, ap, refl, ℕ, ◌+◌, ◌<◌, true, 
 use Rattle.std.specs.Prelude.{count_by, ◌==◌, nat_le, nat_lt}
 use Rattle.std.proofs.lemmas.Bool.{and_parts, and_from, or_parts, ltb-true, lt-ltb, leb-false, le-leb, eqb-true, ne_eqb}
 use Rattle.afp_base.specs.Limits.{most_forks}
-use Rattle.afp_serial.proofs.SoundParts.{ApartSessions, sessions-parts, sessions-whole, LawfulOpens, opens-parts, opens-whole, caches-parts, caches-whole, KeptLimits, limits-parts, limits-whole, same_number, same_link, is_below, keeps_forks}
+use Rattle.afp_serial.proofs.SoundParts.{ApartSessions, sessions-parts, sessions-whole, LawfulOpens, opens-parts, opens-whole, caches-parts, caches-whole, KeptLimits, limits-parts, limits-whole, same_number, same_link, is_below, keeps_forks, users-parts, users-whole}
 use Rattle.afp_serial.specs.declared.attachment.Attachment.{Attachment}
 use Rattle.afp_serial.specs.declared.attachment.Attachment.TheVariants.{Attached, Detached}
 use Rattle.afp_serial.specs.Answer.{is_full, link_number, new_session, with_new_session}
 use Rattle.afp_serial.specs.Limits.{most_sessions, links_end}
+use Rattle.afp_serial.specs.Users.{is_user_of}
 use Rattle.afp_serial.specs.World.{has_opened, volume_at, World, Session, OpenFork}
 use Rattle.afp_serial.specs.Sound.{IsSound, share_link, is_link_below, has_volume_open, is_file_of, is_lawful_open, is_lawful_cache, has_lawful_locks, has_typed_fields}
 use Rattle.afp_base.proofs.ListFacts.{all-snoc, all-weaker, any-at, any-longer, apart-snoc, count-none}
@@ -100,6 +101,7 @@ opened-sound w room h =
       typed = h.typed;
       volumes = h.volumes;
       sessions = sessions-whole (with_new_session w) (opened-apart w apart);
+      users = users-whole (with_new_session w) (all-snoc (λ s. is_user_of w.house.users s.user) w.sessions (new_session w.next_link) (users-parts w h.users) refl);
       opens = opens-whole (with_new_session w) (opened-opens w opens);
       locks = h.locks;
       caches = caches-whole (with_new_session w) (all-snoc (λ s. is_lawful_cache s.cache) w.sessions (new_session w.next_link) (caches-parts w h.caches) refl);

@@ -5,13 +5,14 @@ use Rattle.std.specs.List.{list_all, list_any}
 use Rattle.std.proofs.lemmas.Bool.{and_parts, and_from, eqb-true, eq-eqb, or_cases, or_left, or_right, false_from_ne_true}
 use Rattle.afp_serial.proofs.Closed.{ending-apart, ending-sound}
 use Rattle.afp_serial.proofs.Replaced.{HasNumber, number_of, numbered-sound, put, put-number, volume-kept}
-use Rattle.afp_serial.proofs.SoundParts.{ApartSessions, sessions-parts, opens-parts, caches-parts, same_link, same_number, is_below}
+use Rattle.afp_serial.proofs.SoundParts.{ApartSessions, sessions-parts, opens-parts, caches-parts, same_link, same_number, is_below, users-parts}
 use Rattle.afp_base.proofs.ListFacts.{all-both, all-filter, all-kept, all-put, all-weaker, any-at, apart-map, apart-weaker, find-all, none-all}
 use Rattle.afp_base.proofs.Facts.{never}
 use Rattle.afp_base.specs.Apart.{are_apart}
 use Rattle.afp_serial.specs.declared.attachment.Attachment.{Attachment}
 use Rattle.afp_serial.specs.declared.attachment.Attachment.TheVariants.{Attached, Detached}
 use Rattle.afp_serial.specs.Sound.{IsSound, share_link, is_link_below, has_volume_open, is_file_of, is_lawful_open, is_lawful_cache}
+use Rattle.afp_serial.specs.Users.{is_user_of}
 use Rattle.afp_serial.specs.World.{volume_at, with_session, without_session, World, Session}
 
 -- one has the link of the other, in whichever order
@@ -72,9 +73,10 @@ placed-apart w s t apart has off below = record {
 }
 
 -- it has the same volumes open, and the same answers kept
-pub placed-sound : (w : World) (s t : Session) → IsSound w → HasNumber w s t → t.volumes ≡ s.volumes → t.cache ≡ s.cache → ApartSessions (with_session w t) → IsSound (with_session w t)
-placed-sound w s t h has volumes cache apart =
+pub placed-sound : (w : World) (s t : Session) → IsSound w → HasNumber w s t → t.user ≡ s.user → t.volumes ≡ s.volumes → t.cache ≡ s.cache → ApartSessions (with_session w t) → IsSound (with_session w t)
+placed-sound w s t h has user volumes cache apart =
     numbered-sound w s t h has apart
+    (ap (is_user_of w.house.users) user ∙ find-all has.test (λ x. is_user_of w.house.users x.user) w.sessions s has.found (users-parts w h.users))
     (ap is_lawful_cache cache ∙ find-all has.test (λ x. is_lawful_cache x.cache) w.sessions s has.found (caches-parts w h.caches))
     (all-weaker (is_lawful_open w) (λ o. has_volume_open (with_session w t).sessions o.session o.fork.volume) w.opens
     (λ o stood. volume-kept w s t o.session o.fork.volume (sessions-parts w h.sessions) has
@@ -100,7 +102,7 @@ waits-apart w s test found a = placed-apart w s (waiting s w.latest) a (record {
 
 pub waits-sound : (w : World) (s : Session) (test : Session → Bool) → find test w.sessions ≡ Some s → IsSound w → IsSound (with_session w (waiting s w.latest))
 waits-sound w s test found h =
-    placed-sound w s (waiting s w.latest) h (record { test = test; found = found; number = refl }) refl refl (waits-apart w s test found (sessions-parts w h.sessions))
+    placed-sound w s (waiting s w.latest) h (record { test = test; found = found; number = refl }) refl refl refl (waits-apart w s test found (sessions-parts w h.sessions))
 
 -- a session with the link of one that has ended
 
@@ -163,7 +165,7 @@ rejoins-apart w s old test is_old found there other a =
 pub rejoins-sound : (w : World) (s old : Session) (test is_old : Session → Bool) → find test w.sessions ≡ Some s → find is_old w.sessions ≡ Some old → ((x : Session) → is_old x ≡ true → not (x.number == s.number) ≡ true)
     → IsSound w → IsSound (with_session (without_session w s.number) (rejoined s old))
 rejoins-sound w s old test is_old found there other h =
-    placed-sound (without_session w s.number) old (rejoined s old) (ending-sound w (others s) h) (rejoins-number w s old is_old there other) refl refl
+    placed-sound (without_session w s.number) old (rejoined s old) (ending-sound w (others s) h) (rejoins-number w s old is_old there other) refl refl refl
     (rejoins-apart w s old test is_old found there other (sessions-parts w h.sessions))
 
 -- a test of the session that was found is one of all sessions of its number

@@ -3,8 +3,9 @@ use Rattle.std.proofs.Common.{◌≡◌, ◌∙◌, ap, sym, refl, ℕ, Bool, tr
 use Rattle.std.specs.Prelude.{count_by, ◌==◌, nat_le, nat_lt, find}
 use Rattle.std.specs.List.{list_all, list_any}
 use Rattle.std.proofs.lemmas.Bool.{and_parts, and_from, cond_both, eqb-true}
-use Rattle.afp_serial.proofs.SoundParts.{ApartSessions, sessions-parts, sessions-whole, LawfulOpens, opens-parts, opens-whole, caches-parts, caches-whole, KeptLimits, limits-parts, limits-whole, same_number, same_link, is_below, keeps_forks}
+use Rattle.afp_serial.proofs.SoundParts.{ApartSessions, sessions-parts, sessions-whole, LawfulOpens, opens-parts, opens-whole, caches-parts, caches-whole, KeptLimits, limits-parts, limits-whole, same_number, same_link, is_below, keeps_forks, users-parts, users-whole}
 use Rattle.afp_serial.specs.Limits.{most_sessions}
+use Rattle.afp_serial.specs.Users.{is_user_of}
 use Rattle.afp_serial.specs.World.{has_opened, has_session, volume_at, with_session, World, Session, OpenFork}
 use Rattle.afp_serial.specs.Sound.{IsSound, share_link, is_link_below, has_volume_open, is_file_of, is_lawful_open, is_lawful_cache, has_lawful_locks, has_typed_fields}
 use Rattle.afp_base.specs.Apart.{are_apart}
@@ -109,22 +110,23 @@ replaced-limits w s t p takes = record {
   locks = p.locks;
 }
 
-pub numbered-sound : (w : World) (s t : Session) → IsSound w → HasNumber w s t → ApartSessions (with_session w t) → is_lawful_cache t.cache ≡ true
+pub numbered-sound : (w : World) (s t : Session) → IsSound w → HasNumber w s t → ApartSessions (with_session w t) → is_user_of w.house.users t.user ≡ true → is_lawful_cache t.cache ≡ true
     → list_all (λ o. has_volume_open (with_session w t).sessions o.session o.fork.volume) w.opens ≡ true
     → IsSound (with_session w t)
 unfolding has_lawful_locks has_typed_fields
-numbered-sound w s t h takes apart cache keeps = record {
+numbered-sound w s t h takes apart user cache keeps = record {
   house = h.house;
   typed = h.typed;
   volumes = h.volumes;
   sessions = sessions-whole (with_session w t) apart;
+  users = users-whole (with_session w t) (all-put number_of (λ x. is_user_of w.house.users x.user) t w.sessions (users-parts w h.users) user);
   opens = opens-whole (with_session w t) (replaced-opens w t (opens-parts w h.opens) keeps);
   locks = h.locks;
   caches = caches-whole (with_session w t) (all-put number_of (λ x. is_lawful_cache x.cache) t w.sessions (caches-parts w h.caches) cache);
   limits = limits-whole (with_session w t) (replaced-limits w s t (limits-parts w h.limits) takes);
 }
 
-pub replaced-sound : (w : World) (s t : Session) → IsSound w → TakesPlace w s t → is_lawful_cache t.cache ≡ true
+pub replaced-sound : (w : World) (s t : Session) → IsSound w → TakesPlace w s t → is_user_of w.house.users t.user ≡ true → is_lawful_cache t.cache ≡ true
     → list_all (λ o. has_volume_open (with_session w t).sessions o.session o.fork.volume) w.opens ≡ true
     → IsSound (with_session w t)
-replaced-sound w s t h takes cache keeps = numbered-sound w s t h (numbered takes) (replaced-apart w s t (sessions-parts w h.sessions) takes) cache keeps
+replaced-sound w s t h takes user cache keeps = numbered-sound w s t h (numbered takes) (replaced-apart w s t (sessions-parts w h.sessions) takes) user cache keeps

@@ -1,13 +1,14 @@
 -- What each call's row owes; here it is only dispatched.
 use Rattle.std.proofs.Common.{refl}
 use Rattle.afp_calls_grammar.specs.declared.call.Call.{Call}
-use Rattle.afp_calls_grammar.specs.declared.call.Call.TheVariants.{ByteRangeLock, ByteRangeLockExt, CloseDir, CloseFork, CloseVol, CreateDir, CreateFile, Delete, DisconnectOldSession, Enumerate, EnumerateExt, EnumerateExt2, Flush, FlushFork, GetFileDirParms, GetForkParms, GetSessionToken, GetVolParms, Login, Logout, MoveAndRename, OpenDir, OpenFork, OpenVol, Read, ReadExt, Rename, SetDirParms, SetFileDirParms, SetFileParms, SetForkParms, SetVolParms, Write, WriteExt}
+use Rattle.afp_calls_grammar.specs.declared.call.Call.TheVariants.{ByteRangeLock, ByteRangeLockExt, CloseDir, CloseFork, CloseVol, CreateDir, CreateFile, Delete, DisconnectOldSession, Enumerate, EnumerateExt, EnumerateExt2, Flush, FlushFork, GetFileDirParms, GetForkParms, GetSessionToken, GetSrvrInfo, GetSrvrMsg, GetSrvrParms, GetUserInfo, GetVolParms, Login, LoginExt, Logout, MapID, MapName, MoveAndRename, OpenDir, OpenFork, OpenVol, Read, ReadExt, Rename, SetDirParms, SetFileDirParms, SetFileParms, SetForkParms, SetVolParms, Write, WriteExt}
 use Rattle.afp_serial.proofs.CloseVolRow.{close-vol-sound}
 use Rattle.afp_serial.proofs.ForkRows.{close-fork-sound, flush-fork-sound, get-fork-parms-sound, read-ext-sound, read-sound}
 use Rattle.afp_serial.proofs.LockRows.{byte-range-lock-ext-sound, byte-range-lock-sound}
-use Rattle.afp_serial.proofs.LoginRows.{login-sound, logout-sound}
+use Rattle.afp_serial.proofs.LoginRows.{login-ext-sound, login-sound, logout-sound}
 use Rattle.afp_serial.proofs.OpenForkRow.{open-fork-sound}
 use Rattle.afp_serial.proofs.OpenVolRow.{open-vol-sound}
+use Rattle.afp_serial.proofs.SessionRows.{get-srvr-info-sound, get-srvr-msg-sound, get-srvr-parms-sound, get-user-info-sound, map-id-sound, map-name-sound}
 use Rattle.afp_serial.proofs.SessionTokenRows.{disconnect-old-session-sound, get-session-token-sound}
 use Rattle.afp_serial.proofs.SoundRow.{IsSoundRow, no-keeper, no_more-refuses}
 use Rattle.afp_serial.proofs.TellRows.{close-dir-sound, enumerate-ext-sound, enumerate-ext2-sound, enumerate-sound, flush-sound, get-file-dir-parms-sound, get-vol-parms-sound, open-dir-sound}
@@ -22,7 +23,7 @@ unsupported-sound call = record {
   refuses = λ w s r is h. no_more-refuses call (unsupported_row.refusals w s) r is refl;
   sound = λ w s test lawful found passes h. h;
   fits = λ w s lawful passes h. refl;
-  shown = λ w s lawful passes h. absurd (cc);
+  shown = λ w s lawful passes h known. absurd (cc);
   apart = λ w s test found a. a;
   next = λ w s. refl;
   keeper = λ w s index passes commits. no-keeper w index commits;
@@ -50,9 +51,16 @@ row-sound (FlushFork reference) = flush-fork-sound reference
 row-sound (GetFileDirParms volume dir file_bits dir_bits path) = get-file-dir-parms-sound volume dir file_bits dir_bits path
 row-sound (GetForkParms reference bits) = get-fork-parms-sound reference bits
 row-sound (GetSessionToken kind stamp id) = get-session-token-sound kind stamp id
+row-sound GetSrvrInfo = get-srvr-info-sound
+row-sound (GetSrvrMsg kind bits) = get-srvr-msg-sound kind bits
+row-sound GetSrvrParms = get-srvr-parms-sound
+row-sound (GetUserInfo flag id bits) = get-user-info-sound flag id bits
 row-sound (GetVolParms volume bits) = get-vol-parms-sound volume bits
 row-sound (Login version uam tail) = login-sound version uam tail
+row-sound (LoginExt flags version uam name path_kind path tail) = login-ext-sound flags version uam name path_kind path tail
 row-sound Logout = logout-sound
+row-sound (MapID function id) = map-id-sound function id
+row-sound (MapName function name) = map-name-sound function name
 row-sound (MoveAndRename volume dir target_dir path target_path new_path) = move-and-rename-sound volume dir target_dir path target_path new_path
 row-sound (OpenDir volume dir path) = open-dir-sound volume dir path
 row-sound (OpenFork flag volume dir bits mode path) = open-fork-sound flag volume dir bits mode path

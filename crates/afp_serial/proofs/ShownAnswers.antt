@@ -9,6 +9,9 @@ use Rattle.afp_serial.proofs.Refusals.{refuses_shortly, verdict-short}
 use Rattle.afp_serial.proofs.Keeps.{IsKnown}
 use Rattle.afp_serial.proofs.RowsSound.{row-sound}
 use Rattle.afp_serial.proofs.SoundRow.{is_ok, is_short}
+use Rattle.afp_base.proofs.ListFacts.{find-all}
+use Rattle.afp_serial.proofs.SoundParts.{users-parts}
+use Rattle.afp_serial.specs.Users.{is_user_of}
 use Rattle.afp_serial.proofs.StaysSound.{IsLawful, legal-lawful, legal-moment, moment-sound}
 use Rattle.afp_serial.proofs.Verdicts.{comes-to, repeats-kept}
 use Rattle.afp_serial.specs.declared.ask.Ask.{Ask}
@@ -22,7 +25,7 @@ use Rattle.afp_serial.specs.Answer.{answer_at, is_full, link_number, refusal_rep
 use Rattle.afp_serial.specs.Laws.{IsEffectAnswer, IsKeptAnswer, TellsShown}
 use Rattle.afp_serial.specs.ReplyKinds.{reply_kind}
 use Rattle.afp_serial.specs.Rows.{effect}
-use Rattle.afp_serial.specs.World.{session_at, World, Session, at_moment}
+use Rattle.afp_serial.specs.World.{is_on_link, session_at, World, Session, at_moment}
 use Rattle.afp_serial.specs.Sound.{IsSound}
 
 -- a reply's parts
@@ -78,7 +81,8 @@ module _ (w : World) (e : Entry) (block : List ℕ) (ends : Bool) (knows : IsKno
         runs = runs_to;
         done = went;
         block_is = sym same;
-        shows = subst (λ (b : List ℕ). Shows (effect (at_moment w e.at) s call).reply (reply_kind call) code.Ok b) same ((row-sound call).shown (at_moment w e.at) s (knows-of id write offset payload asked call runs_to.spelt) runs_to.passes h);
+        shows = subst (λ (b : List ℕ). Shows (effect (at_moment w e.at) s call).reply (reply_kind call) code.Ok b) same ((row-sound call).shown (at_moment w e.at) s (knows-of id write offset payload asked call runs_to.spelt) runs_to.passes h
+            (λ asks. find-all (λ x. is_on_link e.link.0 x.place) (λ x. is_user_of w.house.users x.user) w.sessions s attached (users-parts (at_moment w e.at) h.users)));
         ends_is = ap ends_in (sym tells);
       })
 

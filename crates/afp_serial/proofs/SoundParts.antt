@@ -10,7 +10,8 @@ use Rattle.afp_base.specs.Limits.{most_forks, most_locks}
 use Rattle.afp_serial.specs.Limits.{most_users, most_volumes, most_sessions}
 use Rattle.afp_serial.specs.Ranges.{is_moment, is_moment_or_none, is_typed_house}
 use Rattle.afp_serial.specs.World.{is_open, World, Session, OpenFork, Lock}
-use Rattle.afp_serial.specs.Sound.{share_link, is_link_below, has_apart_sessions, is_lawful_open, has_lawful_opens, share_fork, has_lawful_locks, is_lawful_cache, has_lawful_caches, has_typed_fields, keeps_all_limits}
+use Rattle.afp_serial.specs.Sound.{share_link, is_link_below, has_apart_sessions, is_lawful_open, has_lawful_opens, share_fork, has_lawful_locks, is_lawful_cache, has_known_users, has_lawful_caches, has_typed_fields, keeps_all_limits}
+use Rattle.afp_serial.specs.Users.{is_user_of}
 
 -- the tests of the elements, each under a name
 
@@ -89,6 +90,14 @@ locks-parts w h =
 pub locks-whole : (w : World) → LawfulLocks w → has_lawful_locks w ≡ true
 unfolding has_lawful_locks
 locks-whole w p = and_from (list_all (λ lock. is_open w.opens lock.reference) w.locks) (are_apart (do_overlap w.opens) w.locks) p.held p.overlaps
+
+pub users-parts : (w : World) → has_known_users w ≡ true → list_all (λ s. is_user_of w.house.users s.user) w.sessions ≡ true
+unfolding has_known_users
+users-parts w h = h
+
+pub users-whole : (w : World) → list_all (λ s. is_user_of w.house.users s.user) w.sessions ≡ true → has_known_users w ≡ true
+unfolding has_known_users
+users-whole w h = h
 
 pub caches-parts : (w : World) → has_lawful_caches w ≡ true → list_all (λ s. is_lawful_cache s.cache) w.sessions ≡ true
 unfolding has_lawful_caches

@@ -15,6 +15,7 @@ use Rattle.afp_replies.specs.Requested.{FitsRequest, tells_nothing}
 use Rattle.afp_replies.specs.declared.reply.Reply.{Reply}
 use Rattle.afp_replies.specs.declared.reply.Reply.TheVariants.{Empty}
 use Rattle.afp_calls_grammar.specs.declared.call.Call.{Call}
+use Rattle.afp_calls_grammar.specs.declared.call.Call.TheVariants.{GetUserInfo}
 use Rattle.afp_serial.proofs.SoundParts.{ApartSessions}
 use Rattle.afp_serial.specs.World.{Refusal, Refused, CallRow, has_session, World, Session}
 use Rattle.afp_serial.specs.KeptAnswers.{is_kept_code}
@@ -22,6 +23,7 @@ use Rattle.afp_serial.specs.LawfulCall.{is_lawful_call}
 use Rattle.afp_serial.specs.ReplyKinds.{command_of, reply_kind}
 use Rattle.afp_serial.specs.SessionLaws.{RowLeavesSessions}
 use Rattle.afp_serial.specs.Sound.{IsSound}
+use Rattle.afp_serial.specs.Users.{is_user_of}
 
 -- the bytes of a reply fit in a frame
 abbrev pub is_short : Reply → Bool
@@ -115,15 +117,22 @@ no_more-all call (row ∷ rows) all =
 pub no_more-refuses : (call : Call) (rows : List Refusal) (r : Refused) → first_holding rows ≡ Some r → list_all (λ (row : Refusal). is_refused row.1) rows ≡ true → IsRefusedTo call r
 no_more-refuses call rows r is all = first-told call rows r is (no_more-all call rows all)
 
+-- the call that is told of its session's user
+abbrev pub tells_user : Call → Bool
+tells_user (GetUserInfo flag id bits) = true
+tells_user call = false
+
 -- What the row of a call owes in a sound world. What it is refused with can be told to its requests, and is never told Ok. Where it is not refused, and its fields are those
--- that bytes give, its effect keeps the world sound; its reply fits in a frame, and is shown by its bytes. In any world its effect keeps sessions
+-- that bytes give, its effect keeps the world sound; its reply fits in a frame, and is shown by its bytes, where what it tells of the session's user is that of one
+-- whom the house knows. In any world its effect keeps sessions
 -- apart, draws no link number, makes no session, and leaves to each its kept answers; where it moves no session, it leaves the other sessions alone;
 -- and the volume of the keeper that it names is there.
 pub record IsSoundRow (call : Call) (row : CallRow) : Type 0 where
   pub refuses : (w : World) (s : Session) (r : Refused) → first_holding (row.refusals w s) ≡ Some r → IsSound w → IsRefusedTo call r
   pub sound : (w : World) (s : Session) (test : Session → Bool) → is_lawful_call call ≡ true → find test w.sessions ≡ Some s → first_holding (row.refusals w s) ≡ None → IsSound w → IsSound (row.effect w s).world
   pub fits : (w : World) (s : Session) → is_lawful_call call ≡ true → first_holding (row.refusals w s) ≡ None → IsSound w → is_short (row.effect w s).reply ≡ true
-  pub shown : (w : World) (s : Session) → is_lawful_call call ≡ true → first_holding (row.refusals w s) ≡ None → IsSound w → Shows (row.effect w s).reply (reply_kind call) Ok (canonical_reply (row.effect w s).reply)
+  pub shown : (w : World) (s : Session) → is_lawful_call call ≡ true → first_holding (row.refusals w s) ≡ None → IsSound w → (tells_user call ≡ true → is_user_of w.house.users s.user ≡ true)
+      → Shows (row.effect w s).reply (reply_kind call) Ok (canonical_reply (row.effect w s).reply)
   pub apart : (w : World) (s : Session) (test : Session → Bool) → find test w.sessions ≡ Some s → ApartSessions w → ApartSessions (row.effect w s).world
   pub next : (w : World) (s : Session) → (row.effect w s).world.next_link ≡ w.next_link
   pub keeper : (w : World) (s : Session) (index : ℕ) → first_holding (row.refusals w s) ≡ None → row.committed w s ≡ Some index → index < length w.volumes

@@ -29,7 +29,7 @@ found size head parts sized k d h =
     let split : head ++ concat parts ≡ (head ++ concat (take k parts)) ++ (get_or parts k d ++ concat (drop (suc k) parts)) = ap (λ (xs : List ℕ). head ++ xs) (parted parts k ∙ ap (λ (xs : List ℕ). concat (take k parts) ++ xs) (concat-drop parts k d h)) ∙ sym (append_assoc head (concat (take k parts)) (get_or parts k d ++ concat (drop (suc k) parts))) in
     rw (← before, split, drop-append_seam (head ++ concat (take k parts)) (get_or parts k d ++ concat (drop (suc k) parts))) (take-append_seam (get_or parts k d) (concat (drop (suc k) parts)))
 
-head_length : (name : List ℕ) (offsets : StatusOffsets) → length (status_head name offsets) ≡ status_head_size name
+pub head_length : (name : List ℕ) (offsets : StatusOffsets) → length (status_head name offsets) ≡ status_head_size name
 head_length name offsets = simp length-append (omega arith)
 
 offsets_find_parts : (house : Household) → OffsetsFindParts house (status_of house.server house.signature)

@@ -35,7 +35,7 @@ use Rattle.afp_serial.specs.Ranges.{is_moment, is_moment_or_none, is_typed_ask, 
 use Rattle.volume_spec.specs.TypedVolume.{is_quad}
 use Rattle.afp_serial.specs.World.{is_on_link, session_at, World, Session, at_moment}
 use Rattle.afp_serial.specs.Shown.{fits_frame, is_answer_to, is_parting_answer}
-use Rattle.afp_serial.specs.Sound.{IsSound, has_apart_sessions, has_lawful_opens, has_lawful_locks, is_lawful_cache, has_lawful_caches, keeps_all_limits}
+use Rattle.afp_serial.specs.Sound.{IsSound, has_apart_sessions, has_lawful_opens, has_lawful_locks, is_lawful_cache, has_lawful_caches, keeps_all_limits, has_known_users}
 use Rattle.afp_base.proofs.ListFacts.{find-all}
 
 -- a later moment, and a drain moment, in their ranges
@@ -46,7 +46,7 @@ is_moment-max m n p q =
     le-leb (max m n) 2147483647 (omega arith)
 
 pub moment-sound : (w : World) (now : ℕ) → is_moment now ≡ true → IsSound w → IsSound (at_moment w now)
-unfolding has_apart_sessions has_lawful_opens has_lawful_locks has_lawful_caches keeps_all_limits
+unfolding has_apart_sessions has_known_users has_lawful_opens has_lawful_locks has_lawful_caches keeps_all_limits
 moment-sound w now typed h =
     let fields = fields-parts w h.typed in
     record {
@@ -54,6 +54,7 @@ moment-sound w now typed h =
       typed = fields-whole (at_moment w now) (record { latest = is_moment-max w.latest now fields.latest typed; drain = fields.drain; house = fields.house });
       volumes = h.volumes;
       sessions = h.sessions;
+      users = h.users;
       opens = h.opens;
       locks = h.locks;
       caches = h.caches;
@@ -65,7 +66,7 @@ drained moment None p q = p
 drained moment (Some first) p q = q
 
 drain-sound : (w : World) → IsSound w → IsSound (record w { drain = drain_moment w.latest w.drain })
-unfolding has_apart_sessions has_lawful_opens has_lawful_locks has_lawful_caches keeps_all_limits
+unfolding has_apart_sessions has_known_users has_lawful_opens has_lawful_locks has_lawful_caches keeps_all_limits
 drain-sound w h =
     let fields = fields-parts w h.typed in
     record {
@@ -73,6 +74,7 @@ drain-sound w h =
       typed = fields-whole (record w { drain = drain_moment w.latest w.drain }) (record { latest = fields.latest; drain = drained w.latest w.drain fields.latest fields.drain; house = fields.house });
       volumes = h.volumes;
       sessions = h.sessions;
+      users = h.users;
       opens = h.opens;
       locks = h.locks;
       caches = h.caches;

@@ -11,7 +11,7 @@ use Rattle.afp_serial.proofs.SoundParts.{KeptLimits, LawfulOpens, fields-parts, 
 use Rattle.afp_serial.specs.Limits.{most_volumes}
 use Rattle.afp_serial.specs.OnVolume.{opened_on, with_state, with_volume_state}
 use Rattle.afp_serial.specs.World.{volume_at, World, OpenFork}
-use Rattle.afp_serial.specs.Sound.{IsSound, ServesVolumes, has_apart_sessions, has_lawful_caches, has_lawful_locks, has_typed_fields, has_volume_open, is_file_of, is_lawful_open}
+use Rattle.afp_serial.specs.Sound.{IsSound, ServesVolumes, has_apart_sessions, has_lawful_caches, has_lawful_locks, has_typed_fields, has_volume_open, is_file_of, is_lawful_open, has_known_users}
 use Rattle.volume_spec.specs.Shared.{Opened, is_busy}
 use Rattle.volume_spec.specs.SoundVolume.{IsSoundVolume, has_file}
 use Rattle.volume_spec.specs.TypedVolume.{is_date, is_typed_volume}
@@ -160,12 +160,13 @@ state-limits w volume new p = record {
 }
 
 pub state-sound : (w : World) (volume : ℕ) (old new : VolumeState) → IsSound w → TakesState w volume old new → IsSound (with_volume_state w volume new)
-unfolding has_apart_sessions has_lawful_locks has_lawful_caches has_typed_fields
+unfolding has_apart_sessions has_known_users has_lawful_locks has_lawful_caches has_typed_fields
 state-sound w volume old new h t = record {
   house = h.house;
   typed = h.typed;
   volumes = state-served w volume old new h.volumes t.there t.named t.sound t.typed;
   sessions = h.sessions;
+  users = h.users;
   opens = opens-whole (with_volume_state w volume new) (state-opens w volume old new t (opens-parts w h.opens));
   locks = h.locks;
   caches = h.caches;

@@ -8,6 +8,7 @@ pub mod World
 pub mod Ranges
 pub mod KeptAnswers
 pub mod KeptLaws
+pub mod Users
 pub mod Sound
 pub mod ReplyKinds
 pub mod OnVolume
@@ -15,6 +16,12 @@ pub mod OnFork
 pub mod ListReply
 pub mod Login
 pub mod Logout
+pub mod GetSrvrInfo
+pub mod GetSrvrParms
+pub mod GetUserInfo
+pub mod MapID
+pub mod MapName
+pub mod GetSrvrMsg
 pub mod Token
 pub mod SessionToken
 pub mod OpenVol
@@ -45,6 +52,8 @@ pub mod ParmsReplies
 pub mod SessionViews
 pub mod Laws
 pub mod ForkExamples
+pub mod SessionExamples
+pub mod LoginLaws
 pub mod ForkLaws
 pub mod WriteLaws
 pub mod ForkHistory

@@ -2,7 +2,7 @@
 use Rattle.std.specs.Prelude.{ℕ, Bool, true, false, [], ◌∷◌, Option}
 use Rattle.afp_base.specs.declared.code.Code.TheVariants.{CallNotSupported}
 use Rattle.afp_calls_grammar.specs.declared.call.Call.{Call}
-use Rattle.afp_calls_grammar.specs.declared.call.Call.TheVariants.{ByteRangeLock, ByteRangeLockExt, CloseDir, CloseFork, CloseVol, CreateDir, CreateFile, Delete, DisconnectOldSession, Enumerate, EnumerateExt, EnumerateExt2, Flush, FlushFork, GetFileDirParms, GetForkParms, GetSessionToken, GetVolParms, Login, Logout, MoveAndRename, OpenDir, OpenFork, OpenVol, Read, ReadExt, Rename, SetDirParms, SetFileDirParms, SetFileParms, SetForkParms, SetVolParms, Write, WriteExt}
+use Rattle.afp_calls_grammar.specs.declared.call.Call.TheVariants.{ByteRangeLock, ByteRangeLockExt, CloseDir, CloseFork, CloseVol, CreateDir, CreateFile, Delete, DisconnectOldSession, Enumerate, EnumerateExt, EnumerateExt2, Flush, FlushFork, GetFileDirParms, GetForkParms, GetSessionToken, GetSrvrInfo, GetSrvrMsg, GetSrvrParms, GetUserInfo, GetVolParms, Login, LoginExt, Logout, MapID, MapName, MoveAndRename, OpenDir, OpenFork, OpenVol, Read, ReadExt, Rename, SetDirParms, SetFileDirParms, SetFileParms, SetForkParms, SetVolParms, Write, WriteExt}
 use Rattle.afp_base.specs.Choice.{first_holding}
 use Rattle.afp_serial.specs.World.{Effect, Refused, CallRow, commits_nothing, plain, with_empty_reply, World, Session}
 use Rattle.afp_serial.specs.CloseVol.{close_vol_row}
@@ -13,10 +13,16 @@ use Rattle.afp_serial.specs.Flush.{flush_row}
 use Rattle.afp_serial.specs.Fork.{close_fork_row, flush_fork_row, get_fork_parms_row, open_fork_row, set_fork_parms_row}
 use Rattle.afp_serial.specs.ForkBytes.{read_ext_row, read_row, write_ext_row, write_row}
 use Rattle.afp_serial.specs.GetFileDirParms.{get_file_dir_parms_row}
+use Rattle.afp_serial.specs.GetSrvrInfo.{get_srvr_info_row}
+use Rattle.afp_serial.specs.GetSrvrMsg.{get_srvr_msg_row}
+use Rattle.afp_serial.specs.GetSrvrParms.{get_srvr_parms_row}
+use Rattle.afp_serial.specs.GetUserInfo.{get_user_info_row}
 use Rattle.afp_serial.specs.GetVolParms.{get_vol_parms_row}
 use Rattle.afp_serial.specs.Lock.{byte_range_lock_ext_row, byte_range_lock_row}
-use Rattle.afp_serial.specs.Login.{login_row}
+use Rattle.afp_serial.specs.Login.{login_ext_row, login_row}
 use Rattle.afp_serial.specs.Logout.{logout_row}
+use Rattle.afp_serial.specs.MapID.{map_id_row}
+use Rattle.afp_serial.specs.MapName.{map_name_row}
 use Rattle.afp_serial.specs.OpenDir.{close_dir_row, open_dir_row}
 use Rattle.afp_serial.specs.OpenVol.{open_vol_row}
 use Rattle.afp_serial.specs.Place.{delete_row, move_and_rename_row, rename_row}
@@ -46,9 +52,16 @@ row (FlushFork reference) = flush_fork_row reference.0
 row (GetFileDirParms volume dir file_bits dir_bits path) = get_file_dir_parms_row volume.0 dir.0 file_bits dir_bits path
 row (GetForkParms reference bits) = get_fork_parms_row reference.0 bits
 row (GetSessionToken kind stamp id) = get_session_token_row
+row GetSrvrInfo = get_srvr_info_row
+row (GetSrvrMsg kind bits) = get_srvr_msg_row kind bits
+row GetSrvrParms = get_srvr_parms_row
+row (GetUserInfo flag id bits) = get_user_info_row flag id bits
 row (GetVolParms volume bits) = get_vol_parms_row volume.0 bits
-row (Login version uam tail) = login_row version uam
+row (Login version uam tail) = login_row version uam tail
+row (LoginExt flags version uam name path_kind path tail) = login_ext_row version uam name tail
 row Logout = logout_row
+row (MapID function id) = map_id_row function id
+row (MapName function name) = map_name_row function name
 row (MoveAndRename volume dir target_dir path target_path new_path) = move_and_rename_row volume.0 dir.0 path target_dir.0 target_path new_path
 row (OpenDir volume dir path) = open_dir_row volume.0 dir.0 path
 row (OpenFork flag volume dir bits mode path) = open_fork_row flag volume.0 dir.0 bits mode path

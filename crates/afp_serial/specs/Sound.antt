@@ -17,6 +17,7 @@ use Rattle.afp_serial.specs.HouseFault.{house_fault}
 use Rattle.afp_serial.specs.Household.{Household}
 use Rattle.afp_serial.specs.Ranges.{is_moment, is_moment_or_none, is_typed_house}
 use Rattle.volume_spec.specs.TypedVolume.{is_typed_volume}
+use Rattle.afp_serial.specs.Users.{is_user_of}
 use Rattle.afp_serial.specs.World.{has_opened, is_open, volume_at, World, Session, OpenFork}
 
 -- both are attached to one link
@@ -65,6 +66,10 @@ has_lawful_locks w =
     list_all (λ lock. is_open w.opens lock.reference) w.locks
     && are_apart (λ a b. share_fork w.opens a.reference b.reference && do_meet a.range b.range) w.locks
 
+-- Each session is nobody's yet, the one's without a name, or that of a user of the house.
+unfoldable pub has_known_users : World → Bool
+has_known_users w = list_all (λ s. is_user_of w.house.users s.user) w.sessions
+
 -- at most as many answers as the replay cache holds, of requests that differ, each one that is kept, and short enough for a frame
 abbrev pub is_lawful_cache : List Kept → Bool
 is_lawful_cache cache =
@@ -101,6 +106,7 @@ pub record IsSound (w : World) : Type 0 where
   pub typed : has_typed_fields w ≡ true
   pub volumes : ServesVolumes w.house w.volumes
   pub sessions : has_apart_sessions w ≡ true
+  pub users : has_known_users w ≡ true
   pub opens : has_lawful_opens w ≡ true
   pub locks : has_lawful_locks w ≡ true
   pub caches : has_lawful_caches w ≡ true

@@ -163,3 +163,7 @@ pub record CallRow : Type 0 where
 -- it commits and settles nothing
 abbrev pub commits_nothing : World → Session → Option ℕ
 commits_nothing w s = None
+
+-- a row that changes nothing: why it is refused, and what it tells else
+abbrev pub only_tells : (World → Session → List Refusal) → (World → Session → Reply) → CallRow
+only_tells refusals reply = record { refusals = refusals; effect = λ w s. record { world = w; reply = reply w s }; committed = commits_nothing }

@@ -11,6 +11,7 @@ mod house_fault;
 pub mod laws;
 pub mod limits;
 mod ranges;
+pub mod session_laws;
 mod status;
 pub mod status_words;
 mod teller;
