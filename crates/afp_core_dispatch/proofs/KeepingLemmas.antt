@@ -28,7 +28,7 @@ use Rattle.afp_core_state.specs.Running.{IsOutcomeOf, RunsRow, RunsVerdict, done
 use Rattle.afp_core_state.specs.lemma.KeptWorld.{table_in}
 use Rattle.afp_core_state.proofs.KeeperLemmas.{outcome-same}
 use Rattle.afp_core_state.proofs.SessionLemmas.{session_of-number}
-use Rattle.session_table.specs.Sessions.{HasNone, IsAt, keeping, session_of}
+use Rattle.session_table.specs.Sessions.{HasNone, IsAt, session_of}
 use Rattle.afp_core_dispatch.specs.lemma.Asks.{RunsCall}
 use Rattle.afp_core_dispatch.specs.lemma.Keeping.{IsThere, IsToldAgain, RunsKept, block_in, keeps}
 use Rattle.afp_core_dispatch.specs.lemma.Spelling.{IsSpelled}

@@ -14,11 +14,13 @@ ghost use Rattle.afp_core_dispatch.specs.lemma.Keeping.{IsThere, IsToldAgain, Ru
 ghost use Rattle.afp_core_dispatch.specs.lemma.Requests.{as_request};
 
 use crate::keeping::{copied, keep};
-use crate::login::login;
+use crate::login::{login, login_ext};
 use crate::logout::logout;
 use crate::request::Request;
+use crate::server::{get_srvr_info, get_srvr_msg, get_srvr_parms};
 use crate::session_token::{disconnect_old_session, get_session_token};
 use crate::spelling::{Stop, spelled_call};
+use crate::user_calls::{get_user_info, map_id, map_name};
 use afp_base::{Bytes, Code, LinkNumber, OutOfMemory, Room, SessionNumber};
 use afp_calls::Call;
 use afp_core_bytes::byte_range_lock::{byte_range_lock, byte_range_lock_ext};
@@ -240,7 +242,32 @@ fn row<K: Keeper>(
                 Outcome::Done,
             ))
         }
+        Call::LoginExt {
+            version,
+            uam,
+            name,
+            tail,
+            ..
+        } => {
+            Ok((
+                login_ext(
+                    state,
+                    session,
+                    version.as_slice(),
+                    uam.as_slice(),
+                    name.as_slice(),
+                    tail.as_slice(),
+                ),
+                Outcome::Done,
+            ))
+        }
         Call::Logout => Ok((logout(state, session), Outcome::Done)),
+        Call::GetSrvrInfo => get_srvr_info(state),
+        Call::GetSrvrParms => get_srvr_parms(state),
+        Call::GetSrvrMsg { kind, bits } => get_srvr_msg(state, *kind, *bits),
+        Call::GetUserInfo { flag, id, bits } => get_user_info(state, session, *flag, *id, *bits),
+        Call::MapID { function, id } => map_id(state, *function, *id),
+        Call::MapName { function, name } => map_name(state, *function, name.as_slice()),
         Call::GetSessionToken { .. } => get_session_token(state, session),
         Call::DisconnectOldSession { token, .. } => Ok((
             disconnect_old_session(state, session, token.as_slice()),
@@ -319,12 +346,6 @@ fn row<K: Keeper>(
             piece.as_slice(),
         ),
         Call::CopyFile { .. }
-        | Call::GetSrvrInfo
-        | Call::GetSrvrParms
-        | Call::MapID { .. }
-        | Call::MapName { .. }
-        | Call::GetUserInfo { .. }
-        | Call::GetSrvrMsg { .. }
         | Call::CreateID { .. }
         | Call::DeleteID { .. }
         | Call::ResolveID { .. }
@@ -339,7 +360,6 @@ fn row<K: Keeper>(
         | Call::AddComment { .. }
         | Call::RemoveComment { .. }
         | Call::GetComment { .. }
-        | Call::LoginExt { .. }
         | Call::AddIcon { .. } => Ok((refused(state.alloc, Code::CallNotSupported), Outcome::Done)),
     }
 }

@@ -1,6 +1,6 @@
 use Rattle.std.proofs.Common.{◌≡◌, ◌∙◌, ap, of_z, rules, refl, sym, to_z, w32, w64}
 use Rattle.afp_base.specs.declared.code.Code.TheVariants.{CallNotSupported}
-use Rattle.afp_calls_grammar.specs.declared.call.Call.TheVariants.{DisconnectOldSession, Login, SetForkParms, Write, WriteExt}
+use Rattle.afp_calls_grammar.specs.declared.call.Call.TheVariants.{DisconnectOldSession, Login, LoginExt, MapName, SetForkParms, Write, WriteExt}
 use Rattle.afp_serial.specs.Rows.{row}
 use Rattle.afp_core_volumes.proofs.CallRows.{create_file-changes, delete-changes, move_and_rename-changes, rename-changes, set_dir_parms-changes, set_file_dir_parms-changes, set_file_parms-changes, set_vol_parms-changes}
 use Rattle.afp_core_state.proofs.RowLemmas.{call-as, is_refused, row-as}
@@ -26,6 +26,35 @@ returns-in-Login g c =
     let uam = sym c.as_slice-in-Login.ensures in
     let tail = sym c.as_slice-in-Login-2.ensures in
     row-as c.args.state.now _ c.args.session.0 _ _ _ (c.in-Login.is ∙ (λ i. Login (version i) (uam i) (tail i))) c.login.ensures
+
+pub returns-in-LoginExt : goal.returns-in-LoginExt
+returns-in-LoginExt g c =
+    let x = c.in-LoginExt in
+    let version = sym c.as_slice-in-LoginExt.ensures in
+    let uam = sym c.as_slice-in-LoginExt-2.ensures in
+    let name = sym c.as_slice-in-LoginExt-3.ensures in
+    let tail = sym c.as_slice-in-LoginExt-4.ensures in
+    row-as c.args.state.now _ c.args.session.0 _ _ _ (x.is ∙ (λ i. LoginExt x.flags (version i) (uam i) (name i) x.path_kind x.path (tail i))) (c.login_ext.ensures x.flags x.path_kind x.path)
+
+pub returns-in-GetSrvrInfo : goal.returns-in-GetSrvrInfo
+returns-in-GetSrvrInfo g c = call-as c.args.state.now _ c.args.session.0 _ _ _ c.in-GetSrvrInfo.is (c.get_srvr_info.ensures c.args.session.0)
+
+pub returns-in-GetSrvrParms : goal.returns-in-GetSrvrParms
+returns-in-GetSrvrParms g c = call-as c.args.state.now _ c.args.session.0 _ _ _ c.in-GetSrvrParms.is (c.get_srvr_parms.ensures c.args.session.0)
+
+pub returns-in-GetSrvrMsg : goal.returns-in-GetSrvrMsg
+returns-in-GetSrvrMsg g c = call-as c.args.state.now _ c.args.session.0 _ _ _ c.in-GetSrvrMsg.is (c.get_srvr_msg.ensures c.args.session.0)
+
+pub returns-in-GetUserInfo : goal.returns-in-GetUserInfo
+returns-in-GetUserInfo g c = call-as c.args.state.now _ c.args.session.0 _ _ _ c.in-GetUserInfo.is c.get_user_info.ensures
+
+pub returns-in-MapID : goal.returns-in-MapID
+returns-in-MapID g c = call-as c.args.state.now _ c.args.session.0 _ _ _ c.in-MapID.is (c.map_id.ensures c.args.session.0)
+
+pub returns-in-MapName : goal.returns-in-MapName
+returns-in-MapName g c =
+    let x = c.in-MapName in
+    call-as c.args.state.now _ c.args.session.0 _ _ _ (x.is ∙ ap (MapName x.function) (sym c.as_slice-in-MapName.ensures)) (c.map_name.ensures c.args.session.0)
 
 pub returns-in-Logout : goal.returns-in-Logout
 returns-in-Logout g c = row-as c.args.state.now _ c.args.session.0 _ _ _ c.in-Logout.is c.logout.ensures
