@@ -1,5 +1,5 @@
 """The words that requests and replies are made of: each is read from a block, written to one, and shown."""
-from afp.tables import BITS, CALLS, SIZES
+from afp.tables import BITS, CALLS, CLEARTEXT, PASSWORD_SIZE, SIZES
 from afp.texts import BadText, LONG_NAMES, NEVER, UTF8_NAMES, bytes_of, data_of, data_text, number_of, path_of, path_text, quoted, unquote
 
 
@@ -218,6 +218,38 @@ class Count:
         return [Shown(self.name, str(fields[self.name]), usual=fields[self.name] == len(fields[self.counts]))]
 
 
+def password(name):
+    """A password: 8 bytes, shown without the zeros at its end."""
+    def put(given, value):
+        if len(value) > PASSWORD_SIZE:
+            raise BadText(f"{name} has more than {PASSWORD_SIZE} bytes")
+        given.block += value.ljust(PASSWORD_SIZE, b"\0")
+    return Word(name, lambda block: block.take(PASSWORD_SIZE, name).rstrip(b"\0"), put, quoted, unquote)
+
+
+class LoginTail:
+    """What stands behind the other fields of a log-in: by name and password these words, and bytes as they are by another UAM, or where they are cut."""
+
+    def __init__(self, name, words):
+        self.name, self.words, self.tail = name, words, tail(name)
+
+    def read(self, block):
+        place = block.place
+        try:
+            for word in self.words if block.fields["uam"] == CLEARTEXT else [self.tail]:
+                word.read(block)
+        except Unread:
+            block.place = place
+            self.tail.read(block)
+
+    def write(self, given):
+        for word in self.words if "password" in given.named else [self.tail]:
+            word.write(given)
+
+    def show(self, fields):
+        return [it for word in ([self.tail] if self.name in fields else self.words) for it in word.show(fields)]
+
+
 def identity(name):
     """The id of a session token, as many bytes as were counted."""
     def put(given, value):
@@ -404,6 +436,8 @@ SORTS = {
     "typed_path": lambda name: text(name, lambda fields: fields["path_type"] - 1),
     "message_text": lambda name: text(name, lambda fields: 2 if fields["bits"] & 2 else 1, there=has_bit(0)),
     "asked_user": lambda name: number(name, 4, there=has_bit(0)), "asked_group": lambda name: number(name, 4, there=has_bit(1)),
+    "login": lambda name: LoginTail(name, [text("user", 1), Pad("even"), password("password")]),
+    "login_ext": lambda name: LoginTail(name, [password("password")]),
     "narrow": lambda name: Entries(1), "wide": lambda name: Entries(2), "volumes": lambda name: Volumes(),
     "node_values": lambda name: Values(name, node_asked),
     "volume_values": lambda name: Values(name, lambda fields: ("volume", fields["bits"])),

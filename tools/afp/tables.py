@@ -17,6 +17,9 @@ DSI_NAMES = {number: name for name, number in DSI.items()}
 COMMAND, GET_STATUS, OPEN_SESSION, WRITE = 2, 3, 4, 6
 ANSWERED = (COMMAND, GET_STATUS, OPEN_SESSION, WRITE)
 
+# The UAM by name and password, and how many bytes a password has.
+CLEARTEXT, PASSWORD_SIZE = b"Cleartxt Passwrd", 8
+
 # Each call: its number, its name, its request behind the command byte, and behind > its reply. A field is NAME:WORD; the words are in
 # blocks.py. Numbers are sizes in bytes, s4 and s8 are signed.
 CALLS = """
@@ -35,7 +38,7 @@ CALLS = """
 15 FPGetSrvrInfo lastpad > status:tail
 16 FPGetSrvrParms lastpad > time:date volumes:volumes
 17 FPGetVolParms pad vol:2 bits:volume > bits:volume values:volume_values
-18 FPLogin version:str uam:str tail:tail >
+18 FPLogin version:str uam:str tail:login >
 20 FPLogout lastpad >
 21 FPMapID function:function mapped_id:4 > name:id_name
 22 FPMapName function:function name:name_of > mapped_id:4
@@ -71,7 +74,7 @@ CALLS = """
 59 FPByteRangeLockExt flags:lock ref:2 offset:s8 length:s8 > start:8
 60 FPReadExt pad ref:2 offset:s8 count:s8 > data:tail
 61 FPWriteExt flag:from_end ref:2 offset:s8 count:count8 data:data > end:8
-63 FPLoginExt pad flags:word version:str uam:str utf8 user:long path_type:path_type path_name:typed_path even tail:tail >
+63 FPLoginExt pad flags:word version:str uam:str utf8 user:long path_type:path_type path_name:typed_path even tail:login_ext >
 64 FPGetSessionToken pad type:token_type id_length:id_count stamp:stamp token_id:identity > token:quad
 65 FPDisconnectOldSession pad type:2 token:quad >
 66 FPEnumerateExt pad vol:2 dir:4 file_bits:file dir_bits:dir count:2 start:2 size:2 path:path > file_bits:file dir_bits:dir entries:wide
