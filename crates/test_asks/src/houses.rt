@@ -158,12 +158,23 @@ pub fn house_copied(alloc: Global, words: &[&str]) -> Result<String, CaseFault> 
     }
 }
 
-/// A server of this name, without users, with these volumes.
-pub fn server_of(alloc: Global, server: &[u8], volumes: &str) -> Result<House, CaseFault> {
-    match house_of(alloc, server, b"", "none", volumes)? {
+/// A server of this name, with this message, these users and these volumes.
+pub fn server_with(
+    alloc: Global,
+    server: &[u8],
+    message: &[u8],
+    users: &str,
+    volumes: &str,
+) -> Result<House, CaseFault> {
+    match house_of(alloc, server, message, users, volumes)? {
         Ok(house) => Ok(house),
         Err(_) => Err(CaseFault::Word),
     }
+}
+
+/// A server of this name, without message or users, with these volumes.
+pub fn server_of(alloc: Global, server: &[u8], volumes: &str) -> Result<House, CaseFault> {
+    server_with(alloc, server, b"", "none", volumes)
 }
 
 /// `status SERVER`: the status block of a server of that name.

@@ -1,11 +1,11 @@
 //! A server in memory, and what it is asked.
-use crate::houses::{keepers_of, server_of};
+use crate::houses::{keepers_of, server_with};
 use afp_base::{LinkNumber, Moment};
 use afp_core::{Core, ListTeller};
 use afp_serial::{Ask, House, Teller, Told};
 use record_keeper::MemoryKeeper;
 use std::alloc::Global;
-use test_case_lines::{CaseFault, moment_of, owned, put_word, text_of};
+use test_case_lines::{CaseFault, bytes_of, moment_of, owned, put_word, text_of};
 
 /// A server `Mac` with the volume `Share`, begun at 100, and the moment of what follows.
 #[derive(Drop)]
@@ -29,8 +29,13 @@ fn teller_of(
 
 impl Server {
     pub fn new(alloc: Global) -> Result<Server, CaseFault> {
+        Server::with(alloc, "none", b"")
+    }
+
+    /// The same with these users, and with this message.
+    pub fn with(alloc: Global, users: &str, message: &[u8]) -> Result<Server, CaseFault> {
         let now = moment_of("100")?;
-        let house = server_of(alloc, b"Mac", "5368617265")?;
+        let house = server_with(alloc, b"Mac", message, users, "5368617265")?;
         let teller = teller_of(alloc, &house, now)?;
         Ok(Server { house, teller, now })
     }
@@ -45,12 +50,17 @@ pub fn at(alloc: Global, server: &mut Server, words: &[&str]) -> Result<String, 
     text_of(alloc, "")
 }
 
-/// `server`: a new server follows.
+fn server_named(alloc: Global, words: &[&str]) -> Result<Server, CaseFault> {
+    match words {
+        [] => Server::new(alloc),
+        [users, message] => { Server::with(alloc, users, bytes_of(alloc, message)?.as_slice()) }
+        _ => Err(CaseFault::Word),
+    }
+}
+
+/// `server` or `server USERS MESSAGE`: a new server follows, with users `ID:NAME,..` and a message, or without. The password of each user is `secret`.
 pub fn new_server(alloc: Global, server: &mut Server, words: &[&str]) -> Result<String, CaseFault> {
-    let [] = words else {
-        return Err(CaseFault::Word);
-    };
-    *server = Server::new(alloc)?;
+    *server = server_named(alloc, words)?;
     text_of(alloc, "")
 }
 
