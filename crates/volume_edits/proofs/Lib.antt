@@ -1,5 +1,7 @@
 pub mod Behind
+pub mod BlocksBehind
 pub mod ByNode
+pub mod DesktopBehind
 pub mod HeadAndComments
 pub mod Left
 pub mod Seen

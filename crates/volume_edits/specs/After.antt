@@ -1,9 +1,9 @@
 -- What an edit does to one node, told of the nodes before it (this profile).
-use Rattle.std.specs.Prelude.{◌≡◌, ℕ, ◌==◌, true, Option, Some, None, option_map, if◌then◌else◌}
+use Rattle.std.specs.Prelude.{◌≡◌, ℕ, ◌==◌, Bool, true, List, [], Option, Some, None, option_map, unwrap_or, if◌then◌else◌}
 use Rattle.volume_spec.specs.Edit.{Edit, Comes, Goes, Renames, Moves, Sets, Files, Writes, Exchanges, edited}
 use Rattle.volume_spec.specs.EditLaws.{MayEdit}
 use Rattle.volume_spec.specs.Edits.{at_place, change_at, filed_as, named, with_forks_of}
-use Rattle.volume_spec.specs.ForkEffect.{written}
+use Rattle.volume_spec.specs.ForkEffect.{fork_of, written}
 use Rattle.volume_spec.specs.SetFileDirParms.{with_settings}
 use Rattle.volume_spec.specs.SoundVolume.{IsSoundVolume}
 use Rattle.volume_spec.specs.VolumeState.{Row, VolumeState}
@@ -29,3 +29,7 @@ row_then v e id = row_at v.rows id
 -- each node behind an edit that may be made is what the edit does to it
 abbrev pub EditsByNode : Type 0
 EditsByNode = (v : VolumeState) (e : Edit) (id : ℕ) → IsSoundVolume v → MayEdit v e → row_at (edited v e).rows id ≡ row_then v e id
+
+-- the bytes of a fork of a node, none where the node is not there
+abbrev pub bytes_of : Bool → Option Row → List ℕ
+bytes_of resource row = unwrap_or (option_map (fork_of resource) row) []

@@ -1,5 +1,6 @@
 -- Edits that are planned (this profile).
-use Rattle.std.specs.Prelude.{◌≡◌, ℕ, ◌+◌, List, [], ◌∷◌, map, Some}
+use Rattle.std.specs.Prelude.{◌≡◌, ℕ, ◌+◌, Bool, true, false, not, List, [], ◌∷◌, map, Some}
+use Rattle.std.specs.List.{list_all}
 use Rattle.volume_spec.specs.Edit.{Edit, Comes, Writes, PutsIcon, PutsAppl, Comments, edited}
 use Rattle.volume_spec.specs.VolumeState.{VolumeState}
 use Rattle.volume_tree.specs.Shown.{fork_at}
@@ -38,6 +39,21 @@ takes e = 0
 abbrev pub all_take : List EditValue → ℕ
 all_take [] = 0
 all_take (e ∷ es) = takes e.edit + all_take es
+
+-- whether an edit writes a fork
+abbrev pub does_write : Edit → Bool
+does_write (Writes now id resource bytes) = true
+does_write e = false
+
+-- none of these edits writes a fork
+abbrev pub write_none : List EditValue → Bool
+write_none edits = list_all (λ (e : EditValue). not (does_write e.edit)) edits
+
+-- no other edit stands beside a write of a fork
+abbrev pub writes_alone : List EditValue → Bool
+writes_alone [] = true
+writes_alone (e ∷ []) = true
+writes_alone (e ∷ f ∷ es) = write_none (e ∷ f ∷ es)
 
 -- a moment, and the edits that are made one after the other
 pub record PlanValue : Type 0 where

@@ -20,7 +20,7 @@ use volume_tree::NodeAfter;
 
 impl Edit {
     /// The file with which a node exchanges its forks.
-    fn partner(&self, id: NodeId) -> Option<NodeId>
+    pub(crate) fn partner(&self, id: NodeId) -> Option<NodeId>
         ensures { option_map (λ (node : Id). node.0) result ≡ partner_of self.now.edit id.0 }
     {
         match &self.0 {
@@ -64,7 +64,7 @@ impl Edit {
     }
 
     /// Whether a node goes.
-    fn does_go(&self, id: NodeId) -> bool
+    pub(crate) fn does_go(&self, id: NodeId) -> bool
         ensures { result ≡ does_go self.now.edit id.0 }
     {
         match &self.0 {
@@ -152,7 +152,7 @@ fn exchanged<'a>(from: Option<WholeNode<'a>>, to: Option<WholeNode<'a>>) -> Opti
 
 impl WholeVolume {
     /// A node with its forks, as it is.
-    fn node_before<'a>(&'a self, id: NodeId) -> Option<WholeNode<'a>>
+    pub fn node_before<'a>(&'a self, id: NodeId) -> Option<WholeNode<'a>>
         ensures { result ≡ row_at self.now.state.rows id.0 }
     {
         self.tree.keeps_sound();
@@ -166,8 +166,8 @@ impl WholeVolume {
         }
     }
 
-    /// The next id behind so many edits.
-    pub(crate) fn next_behind(&self, edits: &[Edit], count: usize) -> u64
+    /// The next id behind so many edits of this volume as it is.
+    pub fn next_behind(&self, edits: &[Edit], count: usize) -> u64
         requires within { count ≤ length edits.now }
         requires may { MayEditAll self.now.state (edits_of (take count edits.now)) }
         ensures { result ≡ (after_edits self.now.state (edits_of (take count edits.now))).next_id }

@@ -1,8 +1,11 @@
 //! Edits of a volume.
-ghost use Rattle.std.specs.Prelude.{◌≡◌, []};
+ghost use Rattle.std.specs.Prelude.{◌≡◌, [], option_map};
+ghost use Rattle.std.specs.Option.{option_copied};
 ghost use Rattle.volume_spec.specs.Desktop.{icon_under};
 ghost use Rattle.volume_spec.specs.Edit as spec;
 ghost use Rattle.volume_edits.specs.Planned.{plain};
+ghost use Rattle.volume_edits.specs.lemma.Steps.{write_of};
+ghost use Rattle.volume_edits.specs.lemma.Writes.{write_value};
 
 use afp_base::{Bytes, Moment, NodeId};
 use fork_bytes::ForkWrite;
@@ -195,5 +198,15 @@ impl Edit {
         ensures { result ≡ plain (spec.BacksUp date) }
     {
         Edit(Kind::BacksUp { date })
+    }
+
+    /// The write of a fork, where the edit is one.
+    pub(crate) fn write(&self) -> Option<&DatedWrite>
+        ensures { option_map write_value (option_copied result) ≡ write_of self.now }
+    {
+        match &self.0 {
+            Kind::Writes { write } => Some(write),
+            _ => None,
+        }
     }
 }

@@ -15,7 +15,7 @@ use std::alloc::Global;
 use volume_tree::{NewName, NodeWithForks, Settings, Volume};
 
 /// A key of an icon has nine bytes. The call does nothing.
-fn nine_bytes(key: &[u8; 9])
+pub(crate) fn nine_bytes(key: &[u8; 9])
     ensures { length key.now ≡ 9 }
 {}
 

@@ -2,12 +2,17 @@
 #![tactic(auto)]
 
 mod after;
+mod appl_after;
 mod apply;
+mod before;
+mod blocks_after;
 mod carry_out;
+mod changed;
 mod comment_after;
 mod edit;
 mod fork_after;
 mod head_after;
+mod icon_after;
 mod kinds;
 pub mod laws;
 mod plan;

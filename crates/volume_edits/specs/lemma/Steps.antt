@@ -1,21 +1,19 @@
 -- What an edit does to a node by itself, part by part; no public contract cites it.
-use Rattle.std.specs.Prelude.{ℕ, ℤ, ◌==◌, Bool, true, false, List, length, take, Option, Some, None, option_map, unwrap_or, if◌then◌else◌}
-use Rattle.volume_spec.specs.Edit.{Edit, Comes, Goes, Renames, Moves, Sets, Files, Writes, Exchanges, Comments, BacksUp}
+use Rattle.std.specs.Prelude.{ℕ, ℤ, ◌==◌, Bool, true, false, List, length, take, Option, Some, None, option_map, unwrap_or, bytes_eq, if◌then◌else◌}
+use Rattle.volume_spec.specs.Desktop.{pair_key}
+use Rattle.volume_spec.specs.Edit.{Edit, Comes, Goes, Renames, Moves, Sets, Files, Writes, Exchanges, PutsIcon, PutsAppl, TakesAppl, Comments, BacksUp}
 use Rattle.volume_spec.specs.Edits.{at_place, change_at, filed_as, named}
 use Rattle.volume_spec.specs.ForkEffect.{written}
 use Rattle.volume_spec.specs.SetFileDirParms.{with_settings}
-use Rattle.volume_spec.specs.SoundVolume.{longest_comment}
+use Rattle.volume_spec.specs.SoundVolume.{appl_key, icon_key, longest_comment}
 use Rattle.volume_spec.specs.VolumeState.{Row}
+pub use Rattle.volume_edits.specs.Changed.{does_come}
+use Rattle.volume_edits.specs.Planned.{EditValue, does_write}
 
 -- the file with which a node exchanges its forks
 abbrev pub partner_of : Edit → ℕ → Option ℕ
 partner_of (Exchanges a b) id = if id == a then Some b else if id == b then Some a else None
 partner_of e id = None
-
--- whether a node comes
-abbrev pub does_come : Edit → Bool
-does_come (Comes row) = true
-does_come e = false
 
 -- the node that comes, where the next id that it draws is this one
 abbrev pub coming_row : Edit → ℕ → ℕ → Option Row
@@ -63,3 +61,19 @@ abbrev pub comment_left : Edit → ℕ → Option (List ℕ) → Option (List �
 comment_left (Goes id) node text = if id == node then None else text
 comment_left (Comments commented new) node text = if commented == node then text_of new else text
 comment_left e node text = text
+
+-- the tag and the bits of the icon that an edit puts under a key
+abbrev pub icon_put : Edit → List ℕ → Option (ℕ × List ℕ)
+icon_put (PutsIcon icon) key = if bytes_eq (icon_key icon) key then Some (icon.tag, icon.bits) else None
+icon_put e key = None
+
+-- what an edit leaves of the tag of the mapping of a creator and a file
+abbrev pub tag_left : Edit → List ℕ → ℕ → Option ℕ → Option ℕ
+tag_left (Goes id) creator node tag = if id == node then None else tag
+tag_left (PutsAppl appl) creator node tag = if bytes_eq (appl_key appl) (pair_key creator node) then Some appl.tag else tag
+tag_left (TakesAppl taken from) creator node tag = if bytes_eq (pair_key taken from) (pair_key creator node) then None else tag
+tag_left e creator node tag = tag
+
+-- an edit, where it writes a fork
+abbrev pub write_of : EditValue → Option EditValue
+write_of e = if does_write e.edit then Some e else None
