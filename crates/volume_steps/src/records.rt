@@ -1,0 +1,104 @@
+//! Records of a volume from what is lent of it. The one error is want of memory.
+ghost use Rattle.std.specs.Prelude.{◌≡◌, option_map, IfOk};
+ghost use Rattle.std.specs.Option.{option_copied};
+ghost use Rattle.desktop_db.specs.Kept.{shown_icon};
+ghost use Rattle.volume_keeper_records.specs.Image as image;
+ghost use Rattle.volume_steps.specs.lemma.Records as bytes;
+
+use afp_base::{Bytes, OutOfMemory};
+use std::alloc::Global;
+use volume_edits::WholeNode;
+use volume_keeper_records::{Head, Node};
+use volume_tree::{NodeAfter, VolumeHead};
+
+/// The head of a volume.
+pub(crate) fn head_of(head: VolumeHead) -> Head
+    ensures { result ≡ record { created = head.created; modified = head.modified; backup = head.backup; next_id = head.next_id } }
+{
+    Head {
+        created: head.created,
+        modified: head.modified,
+        backup: head.backup,
+        next_id: head.next_id,
+    }
+}
+
+/// A node with the lengths of its forks.
+fn sized(
+    alloc: Global,
+    node: &NodeAfter<'_>,
+    data_length: u64,
+    resource_length: u64,
+) -> Result<Node, OutOfMemory>
+    ensures { IfOk result (λ made. made ≡ bytes.sized node.now data_length resource_length) }
+{
+    Ok(Node {
+        id: node.id.0,
+        is_directory: node.dir,
+        parent: node.parent.0,
+        attributes: node.marks.attributes,
+        created: node.marks.created,
+        modified: node.marks.modified,
+        backup: node.marks.backup,
+        finder: node.marks.finder,
+        is_filed: node.marks.filed,
+        data_length,
+        resource_length,
+        name: Bytes::of(alloc, node.name.as_str().as_bytes())?,
+    })
+}
+
+/// A node with the lengths of its forks in place of these.
+fn node_made(alloc: Global, node: &WholeNode<'_>) -> Result<Node, OutOfMemory>
+    ensures { IfOk result (λ made. made ≡ image.node_of node.now) }
+{
+    let data_length = node.data_fork.len();
+    let resource_length = node.resource_fork.len();
+    sized(alloc, &node.node, data_length, resource_length)
+}
+
+/// The same, where the node is there.
+pub(crate) fn node_of(
+    alloc: Global,
+    node: Option<WholeNode<'_>>,
+) -> Result<Option<Node>, OutOfMemory>
+    ensures { IfOk result (λ made. made ≡ option_map image.node_of node.entry) }
+{
+    match node {
+        Some(node) => Ok(Some(node_made(alloc, &node)?)),
+        None => Ok(None),
+    }
+}
+
+/// A text, copied.
+pub(crate) fn copied_text(alloc: Global, text: Option<&[u8]>) -> Result<Option<Bytes>, OutOfMemory>
+    ensures { IfOk result (λ copy. copy ≡ option_copied text.entry) }
+{
+    match text {
+        Some(text) => Ok(Some(Bytes::of(alloc, text)?)),
+        None => Ok(None),
+    }
+}
+
+/// The value of an icon's record: its tag and its bits.
+fn icon_made(alloc: Global, tag: u32, bits: &[u8]) -> Result<Bytes, OutOfMemory>
+    ensures { IfOk result (λ value. value ≡ bytes.icon_bytes (tag, bits.now)) }
+{
+    let mut value = Bytes::new(alloc);
+    value.push_u32(tag)?;
+    value.extend(bits)?;
+    Ok(value)
+}
+
+/// The same, where the icon is there.
+pub(crate) fn icon_bytes(
+    alloc: Global,
+    icon: Option<(u32, &[u8])>,
+) -> Result<Option<Bytes>, OutOfMemory>
+    ensures { IfOk result (λ value. value ≡ option_map bytes.icon_bytes (option_map shown_icon icon.entry)) }
+{
+    match icon {
+        Some((tag, bits)) => Ok(Some(icon_made(alloc, tag, bits)?)),
+        None => Ok(None),
+    }
+}
