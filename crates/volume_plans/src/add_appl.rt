@@ -1,0 +1,58 @@
+//! FPAddAPPL.
+ghost use Rattle.std.specs.Prelude.{◌≡◌, true, length, IfOk};
+ghost use Rattle.volume_spec.specs.Appls.{add_appl_refusal};
+ghost use Rattle.volume_spec.specs.TypedVolume.{are_bytes, is_long};
+ghost use Rattle.volume_spec.specs.VolumeCalls as call;
+ghost use Rattle.volume_tree.specs.Answered.{Refuses};
+ghost use Rattle.volume_plans.specs.Plans.{Plans};
+
+use crate::asked::{has_no_appl_room, is_file};
+use crate::one::{date_in_range, plan_one};
+use afp_base::{Code, Moment, NodeId};
+use afp_names::Path;
+use std::alloc::Global;
+use volume_edits::{Edit, Plan, WholeVolume};
+use volume_spec::bytes_in_range;
+use volume_spec::edit_laws::{calls_may_edit, edits_keep_numbers_in_ranges};
+use volume_tree::PlanFault;
+
+/// What the types say of a mapping. The call does nothing.
+fn creator_in_range(creator: &[u8; 4], tag: u32)
+    ensures size { length creator.now ≡ 4 }
+    ensures bytes { are_bytes creator.now ≡ true }
+    ensures tag { is_long tag ≡ true }
+{
+    bytes_in_range(creator);
+}
+
+/// Why FPAddAPPL is refused, or the plan of it: the mapping of a creator and a file is put. Want of memory comes for no other reason.
+#[tactic(auto, unfolding(volume_spec::specs::Appls::add_appl_refusal))]
+pub fn plan_add_appl(
+    alloc: Global,
+    whole: &WholeVolume,
+    now: Moment,
+    dir: NodeId,
+    creator: [u8; 4],
+    tag: u32,
+    path: &Path,
+) -> Result<Plan, PlanFault>
+    ensures refused { Refuses result (add_appl_refusal whole.now.state dir.0 creator path.now) }
+    ensures plan { IfOk result (Plans whole.now.state now (call.AddAPPL dir.0 creator tag path.now)) }
+{
+    calls_may_edit();
+    edits_keep_numbers_in_ranges();
+    whole.keeps_sound();
+    date_in_range(now);
+    creator_in_range(&creator, tag);
+    let id = match whole.resolve(alloc, dir, path) {
+        Ok(id) => id,
+        Err(fault) => return Err(fault),
+    };
+    if !is_file(whole, id) {
+        return Err(PlanFault::Code(Code::ObjectTypeErr));
+    }
+    if has_no_appl_room(whole, &creator, id) {
+        return Err(PlanFault::Code(Code::DiskFull));
+    }
+    plan_one(alloc, now, Edit::puts_appl(creator, id, tag))
+}

@@ -1,0 +1,55 @@
+//! FPAddComment.
+ghost use Rattle.std.specs.Prelude.{◌≡◌, IfOk};
+ghost use Rattle.volume_spec.specs.Comments.{add_comment_refusal, does_comment};
+ghost use Rattle.volume_spec.specs.VolumeCalls as call;
+ghost use Rattle.volume_tree.specs.Answered.{Refuses};
+ghost use Rattle.volume_plans.specs.Plans.{Plans};
+
+use crate::asked::has_comment;
+use crate::one::{date_in_range, plan_none, plan_one};
+use afp_base::{Bytes, Moment, NodeId};
+use afp_names::Path;
+use std::alloc::Global;
+use volume_edits::{Edit, Plan, WholeVolume};
+use volume_spec::bytes_in_range;
+use volume_spec::edit_laws::{calls_may_edit, edits_keep_numbers_in_ranges};
+use volume_tree::PlanFault;
+
+/// Whether a text changes the comment of a node.
+fn does_comment(whole: &WholeVolume, id: NodeId, text: &Bytes) -> bool
+    ensures { result ≡ does_comment whole.now.state id.0 text.now }
+{
+    if !text.as_slice().is_empty() {
+        return true;
+    }
+    has_comment(whole, id)
+}
+
+/// Why FPAddComment is refused, or the plan of it: the comment of a node is put. An empty text takes it away, and does nothing where there is none. Want of memory comes for no
+/// other reason.
+#[tactic(auto, unfolding(volume_spec::specs::Comments::add_comment_refusal))]
+pub fn plan_add_comment(
+    alloc: Global,
+    whole: &WholeVolume,
+    now: Moment,
+    dir: NodeId,
+    path: &Path,
+    text: Bytes,
+) -> Result<Plan, PlanFault>
+    ensures refused { Refuses result (add_comment_refusal whole.now.state dir.0 path.now) }
+    ensures plan { IfOk result (Plans whole.now.state now (call.AddComment dir.0 path.now text)) }
+{
+    calls_may_edit();
+    edits_keep_numbers_in_ranges();
+    whole.keeps_sound();
+    date_in_range(now);
+    bytes_in_range(text.as_slice());
+    let id = match whole.resolve(alloc, dir, path) {
+        Ok(id) => id,
+        Err(fault) => return Err(fault),
+    };
+    if !does_comment(whole, id, &text) {
+        return Ok(plan_none(alloc, now));
+    }
+    plan_one(alloc, now, Edit::comments(id, text))
+}

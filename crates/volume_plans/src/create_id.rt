@@ -1,0 +1,44 @@
+//! FPCreateID.
+ghost use Rattle.std.specs.Prelude.{◌≡◌, IfOk};
+ghost use Rattle.volume_spec.specs.FileIds.{create_id_refusal};
+ghost use Rattle.volume_spec.specs.VolumeCalls as call;
+ghost use Rattle.volume_tree.specs.Answered.{Refuses};
+ghost use Rattle.volume_plans.specs.Plans.{Plans};
+
+use crate::asked::{is_file, is_filed};
+use crate::one::{date_in_range, plan_one};
+use afp_base::{Code, Moment, NodeId};
+use afp_names::Path;
+use std::alloc::Global;
+use volume_edits::{Edit, Plan, WholeVolume};
+use volume_spec::edit_laws::{calls_may_edit, edits_keep_numbers_in_ranges};
+use volume_tree::PlanFault;
+
+/// Why FPCreateID is refused, or the plan of it: the file is filed. Want of memory comes for no other reason.
+#[tactic(auto, unfolding(volume_spec::specs::FileIds::create_id_refusal))]
+pub fn plan_create_id(
+    alloc: Global,
+    whole: &WholeVolume,
+    now: Moment,
+    dir: NodeId,
+    path: &Path,
+) -> Result<Plan, PlanFault>
+    ensures refused { Refuses result (create_id_refusal whole.now.state dir.0 path.now) }
+    ensures plan { IfOk result (Plans whole.now.state now (call.CreateID dir.0 path.now)) }
+{
+    calls_may_edit();
+    edits_keep_numbers_in_ranges();
+    whole.keeps_sound();
+    date_in_range(now);
+    let id = match whole.resolve(alloc, dir, path) {
+        Ok(id) => id,
+        Err(fault) => return Err(fault),
+    };
+    if !is_file(whole, id) {
+        return Err(PlanFault::Code(Code::ObjectTypeErr));
+    }
+    if is_filed(whole, id) {
+        return Err(PlanFault::Code(Code::IDExists));
+    }
+    plan_one(alloc, now, Edit::files(id, true))
+}

@@ -1,0 +1,45 @@
+//! FPRemoveAPPL.
+ghost use Rattle.std.specs.Prelude.{◌≡◌, IfOk};
+ghost use Rattle.volume_spec.specs.Appls.{remove_appl_refusal};
+ghost use Rattle.volume_spec.specs.VolumeCalls as call;
+ghost use Rattle.volume_tree.specs.Answered.{Refuses};
+ghost use Rattle.volume_plans.specs.Plans.{Plans};
+
+use crate::asked::{has_no_appl, is_file};
+use crate::one::{date_in_range, plan_one};
+use afp_base::{Code, Moment, NodeId};
+use afp_names::Path;
+use std::alloc::Global;
+use volume_edits::{Edit, Plan, WholeVolume};
+use volume_spec::edit_laws::{calls_may_edit, edits_keep_numbers_in_ranges};
+use volume_tree::PlanFault;
+
+/// Why FPRemoveAPPL is refused, or the plan of it: the mapping of a creator and a file is taken. Want of memory comes for no other reason.
+#[tactic(auto, unfolding(volume_spec::specs::Appls::remove_appl_refusal))]
+pub fn plan_remove_appl(
+    alloc: Global,
+    whole: &WholeVolume,
+    now: Moment,
+    dir: NodeId,
+    creator: [u8; 4],
+    path: &Path,
+) -> Result<Plan, PlanFault>
+    ensures refused { Refuses result (remove_appl_refusal whole.now.state dir.0 creator path.now) }
+    ensures plan { IfOk result (Plans whole.now.state now (call.RemoveAPPL dir.0 creator path.now)) }
+{
+    calls_may_edit();
+    edits_keep_numbers_in_ranges();
+    whole.keeps_sound();
+    date_in_range(now);
+    let id = match whole.resolve(alloc, dir, path) {
+        Ok(id) => id,
+        Err(fault) => return Err(fault),
+    };
+    if !is_file(whole, id) {
+        return Err(PlanFault::Code(Code::ObjectTypeErr));
+    }
+    if has_no_appl(whole, &creator, id) {
+        return Err(PlanFault::Code(Code::ItemNotFound));
+    }
+    plan_one(alloc, now, Edit::takes_appl(creator, id))
+}
