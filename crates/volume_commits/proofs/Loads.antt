@@ -1,0 +1,52 @@
+-- A volume that was loaded.
+use Rattle.std.proofs.Common.{Bool, true, false, ◌≡◌, ◌∙◌, refl, sym, ap, ℕ, List, [], ◌∷◌, length, Option, Some, None}
+use Rattle.std.specs.Prelude.{Ok, IfSome, IsSome}
+use Rattle.std.specs.FinMap as map
+use Rattle.std.specs.Cmp.Lexicographic.{slice_cmp}
+use Rattle.std.specs.Ordering.{nat_cmp}
+use Rattle.volume_spec.specs.VolumeState.{fresh_volume}
+use Rattle.volume_commits.specs.Loading.{IsLoadedFrom}
+use Rattle.record_keeper.specs.Records.{Records, steady_records}
+use Rattle.volume_keeper.specs.Loading.{Becomes, IsLoad}
+use Rattle.volume_keeper.specs.Whole.{HeldValue}
+
+none_there : (entries : List (List ℕ × List ℕ)) → length entries ≡ 0 → entries ≡ []
+none_there [] none = refl
+none_there (entry ∷ entries) none = absurd (cc)
+
+empty_has_none : (kept : Records) → kept ≡ map.empty → map.entries kept ≡ []
+empty_has_none kept is = none_there (map.entries kept) (sym (map.len-entries kept) ∙ ap (λ (kept : Records). map.len kept) is ∙ map.len-empty (slice_cmp nat_cmp) (List ℕ))
+
+told_no_more : IsSome {T = Records} None → ⊥
+told_no_more there = absurd (cc)
+
+-- where the keeper held nothing, it is one that nobody has used
+pub fresh_where_empty : (name : List ℕ) (now : ℕ) (held : HeldValue) (old new : Option Records) → Becomes (IsLoad name now (Ok held)) old new → (IsSome old → IsSome new)
+    → IfSome old (λ (kept : Records). kept ≡ map.empty → held.state ≡ fresh_volume name now)
+fresh_where_empty name now held None new becomes told = tt
+fresh_where_empty name now held (Some old) None becomes told = absurd (told_no_more (told refl))
+fresh_where_empty name now held (Some old) (Some new) becomes told = λ is. becomes.fresh (empty_has_none old is)
+
+empty_of_none : (kept : Records) → map.entries kept ≡ [] → kept ≡ map.empty
+empty_of_none kept none = map.empty_of_len kept (map.len-entries kept ∙ ap length none)
+
+-- and where it held records, they are those of the volume
+pub loaded_from : (name : List ℕ) (now : ℕ) (held : HeldValue) (old new : Option Records) → Becomes (IsLoad name now (Ok held)) old new → (IsSome old → IsSome new)
+    → IfSome old (λ (kept : Records). IsLoadedFrom name kept held.state)
+loaded_from name now held None new becomes told = tt
+loaded_from name now held (Some old) None becomes told = absurd (told_no_more (told refl))
+loaded_from name now held (Some old) (Some new) becomes told = record {
+  good = becomes.good;
+  image = λ some. becomes.image ∙ becomes.same (λ none. some (empty_of_none old none));
+}
+
+-- the same of the records of a keeper that goes on telling them
+pub fresh_where_steady : (steady : Bool) (name : List ℕ) (now : ℕ) (held : HeldValue) (old new : Option Records) → Becomes (IsLoad name now (Ok held)) old new → (steady ≡ true → IsSome old → IsSome new)
+    → IfSome (steady_records steady old) (λ (kept : Records). kept ≡ map.empty → held.state ≡ fresh_volume name now)
+fresh_where_steady true name now held old new becomes told = fresh_where_empty name now held old new becomes (told refl)
+fresh_where_steady false name now held old new becomes told = tt
+
+pub loaded_steady : (steady : Bool) (name : List ℕ) (now : ℕ) (held : HeldValue) (old new : Option Records) → Becomes (IsLoad name now (Ok held)) old new → (steady ≡ true → IsSome old → IsSome new)
+    → IfSome (steady_records steady old) (λ (kept : Records). IsLoadedFrom name kept held.state)
+loaded_steady true name now held old new becomes told = loaded_from name now held old new becomes (told refl)
+loaded_steady false name now held old new becomes told = tt
