@@ -1,0 +1,4 @@
+pub mod Asked
+pub mod Places
+pub mod Requests
+pub mod lemma

@@ -1,0 +1,105 @@
+//! Requests about open forks.
+ghost use Rattle.std.specs.Prelude.{◌≡◌, ◌<◌, ◌≤◌, ◌^◌, length, IfOk};
+ghost use Rattle.client_script_calls.specs.Asked.{IsAskable};
+ghost use Rattle.client_script_calls.specs.Places.{IsPlace, longest_place};
+ghost use Rattle.client_script_calls.specs.Requests.{close_fork, lock, open_fork, read, unlock, write};
+
+use crate::path::{ROOT, path_of};
+use afp_base::{Bytes, ForkRef, OutOfMemory, VolumeId};
+use afp_calls_grammar::Call;
+use std::alloc::Global;
+
+/// FPOpenFork of a data fork.
+#[tactic(auto, using(crate::proofs::AskableLemmas::askable_open_fork))]
+pub fn open_fork(
+    alloc: Global,
+    volume: VolumeId,
+    mode: u16,
+    path: &[u8],
+) -> Result<Call, OutOfMemory>
+    requires { IsPlace path.now }
+    ensures call { IfOk result (λ call. call ≡ open_fork volume mode path.now) }
+    ensures askable { IfOk result (λ call. IsAskable call) }
+{
+    Ok(Call::OpenFork {
+        flag: 0,
+        volume,
+        dir: ROOT,
+        bits: 0,
+        mode,
+        path: path_of(alloc, path)?,
+    })
+}
+
+/// FPWrite at a fork's start.
+#[tactic(auto, using(crate::proofs::AskableLemmas::askable_write))]
+pub fn write(alloc: Global, reference: ForkRef, piece: &[u8]) -> Result<Call, OutOfMemory>
+    requires { length piece.now ≤ longest_place }
+    ensures call { IfOk result (λ call. call ≡ write reference piece.now) }
+    ensures askable { IfOk result (λ call. IsAskable call) }
+{
+    Ok(Call::Write {
+        flag: 0,
+        reference,
+        offset: 0,
+        count: piece.len() as u32,
+        piece: Bytes::of(alloc, piece)?,
+    })
+}
+
+/// FPRead of 65,536 bytes from this one on.
+#[tactic(auto, using(crate::proofs::AskableLemmas::askable_read))]
+pub fn read(reference: ForkRef, from: u32) -> Call
+    requires { from < 2 ^ 31 }
+    ensures call { result ≡ read reference from }
+    ensures askable { IsAskable result }
+{
+    Call::Read {
+        reference,
+        offset: from as i32,
+        count: 65_536,
+        mask: 0,
+        character: 0,
+    }
+}
+
+/// FPCloseFork.
+#[tactic(auto, using(crate::proofs::AskableLemmas::askable_close_fork))]
+pub fn close_fork(reference: ForkRef) -> Call
+    ensures call { result ≡ close_fork reference }
+    ensures askable { IsAskable result }
+{
+    Call::CloseFork { reference }
+}
+
+/// FPByteRangeLockExt of a range from the fork's start.
+#[tactic(auto, using(crate::proofs::AskableLemmas::askable_lock))]
+pub fn lock(reference: ForkRef, from: u64, size: u64) -> Call
+    requires from { from < 2 ^ 63 }
+    requires size { size < 2 ^ 63 }
+    ensures call { result ≡ lock reference from size }
+    ensures askable { IsAskable result }
+{
+    Call::ByteRangeLockExt {
+        flags: 0,
+        reference,
+        offset: from as i64,
+        length: size as i64,
+    }
+}
+
+/// The same, which unlocks it.
+#[tactic(auto, using(crate::proofs::AskableLemmas::askable_lock))]
+pub fn unlock(reference: ForkRef, from: u64, size: u64) -> Call
+    requires from { from < 2 ^ 63 }
+    requires size { size < 2 ^ 63 }
+    ensures call { result ≡ unlock reference from size }
+    ensures askable { IsAskable result }
+{
+    Call::ByteRangeLockExt {
+        flags: 1,
+        reference,
+        offset: from as i64,
+        length: size as i64,
+    }
+}
