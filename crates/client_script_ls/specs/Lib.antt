@@ -1,0 +1,2 @@
+pub mod Ls
+pub mod lemma

@@ -1,0 +1,144 @@
+//! `ls PATH`.
+ghost use Rattle.std.specs.Prelude.{◌≡◌, ◌+◌, ◌<◌, ◌≤◌, ◌^◌, List, ℕ, true, OnOk, Ok, Err, Result};
+ghost use Rattle.afp_base.specs.declared.ids.VolumeId.{VolumeId};
+ghost use Rattle.client_script_calls.specs.Places.{IsPlace};
+ghost use Rattle.client_script_ls.specs.Ls.{lists, lists_behind, ls};
+ghost use Rattle.client_script_ls.specs.lemma.Listing.{ListsOnce, ListsPage};
+ghost use Rattle.client_script_parts.specs.Parts.{Comes, Exchange};
+ghost use Rattle.client_script_parts.specs.declared.asker.Stop.{Stop};
+
+use crate::rows::put_answer;
+use afp_base::{Bytes, Code, VolumeId};
+use client_script_calls as calls;
+use client_script_parts::{Answer, Asker, Stop, ask, parts_end};
+use client_script_texts::{error_text, numbered};
+use std::alloc::Global;
+
+/// What a list gave.
+#[derive(Drop)]
+enum Page {
+    /// So many entries, whose lines were appended.
+    Listed(u64),
+    /// There are no more.
+    Ended,
+    /// It was refused.
+    Refused(Code),
+}
+
+/// Lets an answer go.
+fn let_go(_answer: Answer) {}
+
+/// Lists once, behind so many entries.
+#[tactic(auto, using(crate::proofs::ListLemmas::lists_more, crate::proofs::ListLemmas::lists_bad, crate::proofs::ListLemmas::lists_end, crate::proofs::ListLemmas::lists_refused, crate::proofs::ListLemmas::lists_stop, crate::proofs::ListLemmas::lists_lack))]
+fn list_page<A: Asker>(
+    alloc: Global,
+    asker: &mut A,
+    volume: VolumeId,
+    path: &[u8],
+    count: u32,
+    text: &mut Bytes,
+) -> Result<Page, Stop<A::End>>
+    requires place { IsPlace path.now }
+    requires within { count + 1 < 2 ^ 32 }
+    ensures page { ListsPage volume path.now count text.old (A.exchanges asker.old) result text.new (A.exchanges asker.new) }
+    ensures falls { OnOk result (A.left asker.new < A.left asker.old) }
+{
+    parts_end::<A>();
+    let call = match calls::list(alloc, volume, path, count + 1) {
+        Ok(call) => call,
+        Err(_) => return Err(Stop::Memory),
+    };
+    match ask(asker, call) {
+        Ok(answer) => match answer.code {
+            Code::Ok => match put_answer(alloc, text, answer) {
+                Ok(Some(size)) => Ok(Page::Listed(size)),
+                Ok(None) => Err(Stop::BadReply),
+                Err(_) => Err(Stop::Memory),
+            },
+            Code::ObjectNotFound => {
+                let_go(answer);
+                Ok(Page::Ended)
+            }
+            _ => {
+                let code = answer.code;
+                let_go(answer);
+                Ok(Page::Refused(code))
+            }
+        },
+        Err(stop) => Err(stop),
+    }
+}
+
+/// Where the next list may begin: a law of lists.
+fn lists_go_on<A: Asker>()
+    ensures within { (before final : List Exchange) (volume : VolumeId) (path : List ℕ) (count : ℕ) (text : List ℕ) (result : Result (List ℕ) (Stop A.End)) → count + 1 < 2 ^ 32
+        → Comes before (lists volume path count text) result final → Comes before (lists_behind volume path count text) result final }
+    ensures past { (before : List Exchange) (volume : VolumeId) (path : List ℕ) (count : ℕ) (text : List ℕ) (result : Result (List ℕ) (Stop A.End)) → 2 ^ 32 ≤ count + 1 → result ≡ Err Stop.BadReply
+        → Comes before (lists_behind volume path count text) result before }
+{
+    parts_end::<A>();
+}
+
+/// Lists once, behind the entries that were listed. `false`: the text is whole.
+fn list_once<A: Asker>(
+    alloc: Global,
+    asker: &mut A,
+    volume: VolumeId,
+    path: &[u8],
+    count: &mut u32,
+    text: &mut Bytes,
+) -> Result<bool, Stop<A::End>>
+    requires place { IsPlace path.now }
+    requires within { count.old + 1 < 2 ^ 32 }
+    ensures lists { ListsOnce volume path.now count.old text.old (A.exchanges asker.old) result count.new text.new (A.exchanges asker.new) }
+    ensures within { result ≡ Ok true → count.new + 1 < 2 ^ 32 }
+    ensures falls { OnOk result (A.left asker.new < A.left asker.old) }
+{
+    parts_end::<A>();
+    lists_go_on::<A>();
+    match list_page(alloc, asker, volume, path, *count, text)? {
+        Page::Listed(size) => {
+            if size >= (1 << 32) {
+                return Err(Stop::BadReply);
+            }
+            let next = u64::from(*count) + size;
+            if next + 1 >= (1 << 32) {
+                return Err(Stop::BadReply);
+            }
+            *count = next as u32;
+            Ok(true)
+        }
+        Page::Ended => {
+            let last = numbered(alloc, b"listed ", u64::from(*count))?;
+            text.extend(last.as_slice())?;
+            Ok(false)
+        }
+        Page::Refused(code) => {
+            let last = error_text(alloc, code)?;
+            text.extend(last.as_slice())?;
+            Ok(false)
+        }
+    }
+}
+
+/// `ls PATH`: a line for each entry, and how many there are; or a refusal behind those that came before it.
+pub fn ls<A: Asker>(
+    alloc: Global,
+    asker: &mut A,
+    volume: VolumeId,
+    path: &[u8],
+) -> Result<Bytes, Stop<A::End>>
+    requires { IsPlace path.now }
+    ensures { Comes (A.exchanges asker.old) (ls volume path.now) result (A.exchanges asker.new) }
+{
+    parts_end::<A>();
+    let mut text = Bytes::new(alloc);
+    let mut count = 0;
+    loop {
+        match list_once(alloc, asker, volume, path, &mut count, &mut text) {
+            Ok(true) => {}
+            Ok(false) => return Ok(text),
+            Err(stop) => return Err(stop),
+        }
+    }
+}
