@@ -1,9 +1,5 @@
 -- A house served, from what its core served.
-use Rattle.std.proofs.Common.{◌≡◌, ℕ, suc, List, [], ◌∷◌, Bool, Option, length, refl, sym, ap, subst, ◌∙◌}
-use Rattle.std.specs.Prelude.{Result, Ok, Err, IfOk, IfErr}
-use Rattle.afp_core_keepers.specs.Loads.{IsCoreFault, LoadEach}
-use Rattle.afp_core_keepers.specs.declared.core_fault.CoreFault.TheVariants as faults_of
-use Rattle.afp_workers.specs.declared.house.Unserved.{Unserved}
+use Rattle.std.proofs.Common.{◌≡◌, ℕ, List, length, sym, ap, subst, ◌∙◌}
 use Rattle.afp_base.specs.Counts.{counted}
 use Rattle.afp_core.specs.Loads.{IsLoadedServer}
 use Rattle.afp_core.specs.Retiring.{RetiresServer}
@@ -15,8 +11,6 @@ use Rattle.afp_outside.specs.Link.{LinkState}
 use Rattle.afp_outside.specs.Listener.{DoorState}
 use Rattle.afp_serial.specs.History.{opened_in}
 use Rattle.afp_serial.specs.Household.{Household}
-use Rattle.record_keeper.specs.Records.{Records}
-use Rattle.volume_keeper_commit.specs.Kept.{KeptState}
 use Rattle.afp_workers.specs.Doors.{DoorsServed}
 use Rattle.afp_workers.specs.House.{ServesCore, ServesHouse, ended_of, history_of, run_end}
 use Rattle.afp_workers.specs.Keeping.{Keeping, steady_in}
@@ -49,27 +43,3 @@ module _ {L P Y K : Type 0} (state : L → LinkState) (passed : P → Passed) (d
     entries = s.entries ∙ (s.serves.stands.counted.entries ∙ ap (λ (x : ServerState). counted (length (history_of f)) x.entries) loaded.start);
     sessions = s.sessions ∙ (s.serves.stands.counted.opened ∙ ap (λ (x : ServerState). counted (opened_in start.world (history_of f)) x.opened) loaded.start);
   }
-
--- where each volume was loaded, there are as many keepers as names
-pub loaded-many : {K : Type 0} (records : K → Option Records) (sure : K → Bool) (faults : K → ℕ) (now : ℕ) (names : List (List ℕ)) (keepers : List K) (kept : List KeptState)
-    → LoadEach records sure faults now names keepers kept → length keepers ≡ length names
-loaded-many records sure faults now [] [] [] l = refl
-loaded-many records sure faults now [] [] (x ∷ kept) l = refl
-loaded-many records sure faults now [] (k ∷ keepers) [] l = absurd l
-loaded-many records sure faults now [] (k ∷ keepers) (x ∷ kept) l = absurd l
-loaded-many records sure faults now (n ∷ names) [] [] l = absurd l
-loaded-many records sure faults now (n ∷ names) [] (x ∷ kept) l = absurd l
-loaded-many records sure faults now (n ∷ names) (k ∷ keepers) [] l = absurd l
-loaded-many records sure faults now (n ∷ names) (k ∷ keepers) (x ∷ kept) l = ap suc (loaded-many records sure faults now names keepers kept l.1)
-
--- a house, by what its core's run gave
-pub house-ok : {L P Y K : Type 0} (state : L → LinkState) (passed : P → Passed) (door : Y → DoorState L) (kept_by : Keeping K) (house : Household) (turns : ℕ) (start : ServerState) (doors : List Y) (now : ℕ) (keepers : List K) (r : Result (Closing Y) (Unserved Y))
-    → IsLoadedServer (steady_in kept_by) kept_by.sure kept_by.faults house now keepers start → IfOk r (λ f. ServesCore state passed door kept_by house turns start doors f) → IfOk r (λ f. ServesHouse state passed door kept_by house turns now keepers doors f)
-house-ok state passed door kept_by house turns start doors now keepers (Ok f) loaded s = house-served state passed door kept_by house turns start doors f now keepers loaded s
-house-ok state passed door kept_by house turns start doors now keepers (Err u) loaded s = s
-
--- there was no memory for what serves a core that was loaded
-pub house-fault : {Y K : Type 0} (records : K → Option Records) (sure : K → Bool) (faults : K → ℕ) (now : ℕ) (names : List (List ℕ)) (keepers : List K) (r : Result (Closing Y) (Unserved Y))
-    → length keepers ≡ length names → IfErr r (λ u. u.fault ≡ faults_of.Memory) → IfErr r (λ u. IsCoreFault records sure faults now names keepers u.fault)
-house-fault records sure faults now names keepers (Ok f) many e = e
-house-fault records sure faults now names keepers (Err u) many e = subst (IsCoreFault records sure faults now names keepers) (sym e) many
