@@ -1,7 +1,6 @@
+pub mod Failing
 pub mod Faultless
 pub mod HouseEnds
-pub mod LinksLemmas
 pub mod OneHouse
-pub mod PlainLaws
 pub mod ReportLemmas
-pub mod CoreEnds
+pub mod RunLaws

@@ -25,6 +25,6 @@ pub record Asks (words : List (List ℕ)) (key : List ℕ) (values : WordValues)
   pub words_are : SaysWords words values
   pub house_is : house_fault (house_of values key) ≡ None
 
--- the words are others, or the house that they ask for is refused, or the number of keepers is not that of its volumes
-abbrev pub IsRefused : List (List ℕ) → List ℕ → ℕ → Type 0
-IsRefused words key many = (values : WordValues) → Asks words key values → many ≡ length (house_of values key).volumes → ⊥
+-- the words are others, or the house that they ask for is refused, or the number of keepers is not that of its volumes, or that of doors not that of the workers
+abbrev pub IsRefused : List (List ℕ) → List ℕ → ℕ → ℕ → Type 0
+IsRefused words key keepers doors = (values : WordValues) → Asks words key values → keepers ≡ length (house_of values key).volumes → doors ≡ values.workers → ⊥
