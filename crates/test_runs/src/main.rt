@@ -10,10 +10,11 @@
 //!   all places from the one that is told on.
 //! - `room BYTES`: the same in a room that was taken before.
 //! - `come READS BYTES`: a link that waits for the next `run`.
-//! - `run KEEPERS FAILING ACCEPTS REPORT WORD..`: the whole server over so many keepers in memory. FAILING are the calls of each keeper
-//!   that fail, ACCEPTS and REPORT those of the door and of the report. A word that begins with `0x` is spelt by bytes. Printed: the status,
-//!   the report, and what was written to each link that was handed back.
-//! - `notes KEEPERS WORD..`: the whole server over so many keepers and no link. Printed: the status, the report, and what a person is told
+//! - `run KEEPERS FAILING ACCEPTS REPORT WORD..`: the whole server over so many keepers in memory, and as many doors as the words say workers, among which the
+//!   links that wait are dealt out in turn, up to so many a door as the words say. FAILING are the calls of each keeper that fail, ACCEPTS and REPORT those of
+//!   each door and of the report. A word that begins with `0x` is spelt by bytes. Printed: the status, the report, and what was written to each link that was
+//!   handed back, door by door.
+//! - `notes KEEPERS WORD..`: the whole server over so many keepers, and doors without a link. Printed: the status, the report, and what a person is told
 //!   beside.
 //! - `settings WORD..`: the volumes' places, the port, the workers and the links that the words set.
 #![tactic(auto)]
@@ -30,5 +31,5 @@ use std::io;
 use test_lines::answer_lines;
 
 fn main(rt: HostRuntime) -> io::Result<()> {
-    answer_lines(&rt, Run::new(rt.alloc()))
+    answer_lines(&rt, Run::new(&rt, rt.alloc()))
 }

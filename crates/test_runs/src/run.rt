@@ -4,17 +4,21 @@ use crate::server::{Waiting, notes, run, settings};
 use afp_base::OutOfMemory;
 use std::alloc::Global;
 use std::mem::replace;
+use std::sync::Wait;
+use std::thread::Threads;
 use test_lines::{AnswersLines, LineResult};
 
-/// The links that wait for a run of the server.
+/// The links that wait for a run of the server, and what gives its workers threads.
 #[derive(Drop)]
-pub struct Run {
+pub struct Run<'a, R> {
+    threads: &'a R,
     waiting: Vec<Waiting>,
 }
 
-impl Run {
-    pub fn new(alloc: Global) -> Run {
+impl<'a, R> Run<'a, R> {
+    pub fn new(threads: &'a R, alloc: Global) -> Run<'a, R> {
         Run {
+            threads,
             waiting: Vec::new(alloc),
         }
     }
@@ -32,7 +36,7 @@ impl Run {
     }
 }
 
-impl AnswersLines for Run {
+impl<'a, R: Threads + Wait + Sync> AnswersLines for Run<'a, R> {
     fn answer(&mut self, alloc: Global, words: &[&str]) -> Result<Option<LineResult>, OutOfMemory> {
         match words.first() {
             Some(&"link") => link(alloc, words),
@@ -41,9 +45,9 @@ impl AnswersLines for Run {
             Some(&"come") => self.come(alloc, words),
             Some(&"run") => {
                 let waiting = replace(&mut self.waiting, Vec::new(alloc));
-                run(alloc, waiting.as_slice(), words)
+                run(self.threads, alloc, waiting.as_slice(), words)
             }
-            Some(&"notes") => notes(alloc, words),
+            Some(&"notes") => notes(self.threads, alloc, words),
             Some(&"settings") => settings(alloc, words),
             _ => Ok(None),
         }

@@ -1,14 +1,16 @@
 //! Runs of the whole server.
-ghost use Rattle.std.specs.Prelude.{◌≡◌, false, All, IfOk};
+ghost use Rattle.std.specs.Prelude.{◌≡◌, ◌<◌, false, All, IfOk};
 ghost use Rattle.afp_outside.specs.Tape.{IsFreshTape};
 
 use crate::numbers::{digits_of, moment_of, number_of, numbers_of, owned, sizes_of};
 use afp_base::OutOfMemory;
 use afp_outside::{OpenGate, TapeClock, TapeLink, TapeListener, TapeSink};
-use afpd_lib::plain::afpd_plain;
+use afpd_lib::server::{Finish, afpd};
 use afpd_lib::setup::{VolumePlace, setup};
 use record_keeper::{Keeper, MemoryKeeper};
 use std::alloc::Global;
+use std::sync::Wait;
+use std::thread::Threads;
 use test_lines::{LineResult, bytes_of};
 
 /// A link that waits: the most bytes of each read, and what comes.
@@ -35,22 +37,67 @@ fn link_of(alloc: Global, waiting: &Waiting) -> Result<TapeLink, OutOfMemory>
     )
 }
 
-fn links_of(alloc: Global, waiting: &[Waiting]) -> Result<Vec<TapeLink>, OutOfMemory>
+/// The links that come through a door, of so many doors, among which those that wait are dealt out in turn, up to so many a door.
+fn links_of(
+    alloc: Global,
+    waiting: &[Waiting],
+    door: usize,
+    doors: usize,
+    limit: usize,
+) -> Result<Vec<TapeLink>, OutOfMemory>
+    requires { 0 < doors }
     ensures { IfOk result (λ links. All IsFreshTape links.items) }
 {
     let mut links = Vec::new(alloc);
-    for one in waiting {
+    for one in waiting.iter().skip(door).step_by(doors).take(limit) {
         links.push(link_of(alloc, one)?)?;
     }
     Ok(links)
 }
 
-fn door_of(alloc: Global, waiting: &[Waiting], accepts: &str) -> Result<TapeListener, OutOfMemory>
+fn door_of(alloc: Global, links: Vec<TapeLink>, accepts: &str) -> Result<TapeListener, OutOfMemory>
+    requires { All IsFreshTape links.items }
     ensures { IfOk result (λ door. door.closed ≡ false) }
 {
-    let links = links_of(alloc, waiting)?;
     let failing = numbers_of(alloc, accepts)?;
     TapeListener::new(alloc, links, failing)
+}
+
+/// So many doors, through which the links that wait come.
+fn doors_of(
+    alloc: Global,
+    waiting: &[Waiting],
+    accepts: &str,
+    doors: usize,
+    limit: usize,
+) -> Result<Vec<TapeListener>, OutOfMemory>
+    ensures { IfOk result (λ made. All (λ door. door.closed ≡ false) made.items) }
+{
+    let mut made = Vec::new(alloc);
+    for door in 0..doors {
+        let links = links_of(alloc, waiting, door, doors, limit)?;
+        made.push(door_of(alloc, links, accepts)?)?;
+    }
+    Ok(made)
+}
+
+/// The doors that the words ask for; one, where they say nothing.
+fn doors_for(
+    alloc: Global,
+    waiting: &[Waiting],
+    accepts: &str,
+    words: &[String],
+) -> Result<Vec<TapeListener>, OutOfMemory>
+    ensures { IfOk result (λ made. All (λ door. door.closed ≡ false) made.items) }
+{
+    let (mut doors, mut limit) = (1, usize::MAX);
+    if let Ok(settings) = setup(alloc, words) {
+        doors = usize::from(settings.workers);
+        if settings.links > 0 {
+            limit = settings.links as usize;
+        }
+    }
+    doors_of(alloc, waiting, accepts, doors, limit)
 }
 
 fn word_of(alloc: Global, word: &str) -> Result<String, OutOfMemory> {
@@ -89,52 +136,48 @@ fn ran(
     alloc: Global,
     status: u8,
     report: &[u8],
-    returned: &[TapeLink],
+    doors: &[TapeListener],
 ) -> Result<String, OutOfMemory> {
     let mut text = String::new(alloc);
     write!(text, "{status} ")?;
     put_report(&mut text, report)?;
-    for link in returned {
-        let digits = digits_of(alloc, link.written())?;
-        write!(text, " {digits}")?;
+    for door in doors {
+        put_links(alloc, &mut text, door.returned())?;
     }
     Ok(text)
 }
 
-fn serve(
-    alloc: Global,
-    words: &[String],
-    keepers: Vec<Box<dyn Keeper + Send>>,
-    door: &mut TapeListener,
-    report: &mut TapeSink,
-    notes: &mut TapeSink,
-) -> u8
-    requires { door.old.closed ≡ false }
-{
-    let clock = TapeClock::new(moment_of(100));
-    afpd_plain(
-        alloc, words, keepers, door, &clock, &OpenGate, [0; 32], report, notes,
-    )
+/// Appends what was written to each link.
+fn put_links(alloc: Global, text: &mut String, links: &[TapeLink]) -> Result<(), OutOfMemory> {
+    for link in links {
+        let digits = digits_of(alloc, link.written())?;
+        write!(text, " {digits}")?;
+    }
+    Ok(())
 }
 
 /// So many keepers in memory that hold nothing, and whose calls of these numbers fail; the run over them.
-fn serve_over(
+fn serve_over<R: Threads + Wait + Sync>(
+    threads: &R,
     alloc: Global,
     count: u64,
     failing: &str,
     words: &[String],
-    door: &mut TapeListener,
+    doors: Vec<TapeListener>,
     report: &mut TapeSink,
     notes: &mut TapeSink,
-) -> Result<u8, OutOfMemory>
-    requires { door.old.closed ≡ false }
+) -> Result<Finish<TapeListener>, OutOfMemory>
+    requires { All (λ door. door.closed ≡ false) doors.items }
 {
     let mut keepers: Vec<Box<dyn Keeper + Send>> = Vec::new(alloc);
     for _ in 0..count {
         let keeper = MemoryKeeper::new(alloc, numbers_of(alloc, failing)?);
         keepers.push(Box::new(alloc, keeper)?)?;
     }
-    Ok(serve(alloc, words, keepers, door, report, notes))
+    let clock = TapeClock::new(moment_of(100));
+    Ok(afpd(
+        threads, alloc, words, keepers, doors, &clock, &OpenGate, [0; 32], report, notes,
+    ))
 }
 
 /// A sink that takes all.
@@ -143,7 +186,8 @@ fn sink(alloc: Global) -> Result<TapeSink, OutOfMemory> {
 }
 
 /// What came of a run over such keepers.
-fn run_over(
+fn run_over<R: Threads + Wait + Sync>(
+    threads: &R,
     alloc: Global,
     waiting: &[Waiting],
     count: u64,
@@ -153,23 +197,30 @@ fn run_over(
     words: &[&str],
 ) -> Result<String, OutOfMemory> {
     let words = words_of(alloc, words)?;
-    let mut door = door_of(alloc, waiting, accepts)?;
+    let doors = doors_for(alloc, waiting, accepts, words.as_slice())?;
     let mut told = TapeSink::new(alloc, Vec::new(alloc), numbers_of(alloc, report)?)?;
     let mut notes = sink(alloc)?;
-    let status = serve_over(
+    let finish = serve_over(
+        threads,
         alloc,
         count,
         failing,
         words.as_slice(),
-        &mut door,
+        doors,
         &mut told,
         &mut notes,
     )?;
-    ran(alloc, status, told.written(), door.returned())
+    ran(
+        alloc,
+        finish.status,
+        told.written(),
+        finish.doors.as_slice(),
+    )
 }
 
 /// `run KEEPERS FAILING ACCEPTS REPORT WORD..`, over the links that wait.
-pub fn run(
+pub fn run<R: Threads + Wait + Sync>(
+    threads: &R,
     alloc: Global,
     waiting: &[Waiting],
     words: &[&str],
@@ -178,22 +229,30 @@ pub fn run(
         return Ok(None);
     };
     let count = number_of(keepers);
-    let text = run_over(alloc, waiting, count, failing, accepts, report, words)?;
+    let text = run_over(
+        threads, alloc, waiting, count, failing, accepts, report, words,
+    )?;
     Ok(Some(LineResult::Text(text)))
 }
 
 /// `notes KEEPERS WORD..`, over no link.
-pub fn notes(alloc: Global, words: &[&str]) -> Result<Option<LineResult>, OutOfMemory> {
+pub fn notes<R: Threads + Wait + Sync>(
+    threads: &R,
+    alloc: Global,
+    words: &[&str],
+) -> Result<Option<LineResult>, OutOfMemory> {
     let [_, keepers, words @ ..] = words else {
         return Ok(None);
     };
     let count = number_of(keepers);
     let words = words_of(alloc, words)?;
-    let mut door = door_of(alloc, &[], "-")?;
-    let (mut told, mut noted) = (sink(alloc)?, sink(alloc)?);
     let words = words.as_slice();
-    let status = serve_over(alloc, count, "-", words, &mut door, &mut told, &mut noted)?;
-    let mut text = ran(alloc, status, told.written(), &[])?;
+    let doors = doors_for(alloc, &[], "-", words)?;
+    let (mut told, mut noted) = (sink(alloc)?, sink(alloc)?);
+    let finish = serve_over(
+        threads, alloc, count, "-", words, doors, &mut told, &mut noted,
+    )?;
+    let mut text = ran(alloc, finish.status, told.written(), &[])?;
     text.push_str(" and ")?;
     put_report(&mut text, noted.written())?;
     Ok(Some(LineResult::Text(text)))
