@@ -24,7 +24,7 @@ def start_server(port, links, program=None):
     if program is None:
         subprocess.run([os.path.join(TOP, "run"), "afpd"], stdin=subprocess.DEVNULL, stdout=subprocess.DEVNULL)
         program = os.path.join(TOP, ".run", "afpd")
-    words = ["--server", "Mac", "--signature", SIGNATURE, "--port", str(port), "--links", str(links), "Share=memory"]
+    words = ["--server", "Mac", "--signature", SIGNATURE, "--port", str(port), "--workers", "1", "--links", str(links), "Share=memory"]
     return subprocess.Popen([program] + words, stdin=subprocess.DEVNULL, stdout=subprocess.PIPE)
 
 

@@ -60,7 +60,7 @@ class Server:
 
 
 def words_for(port, *volumes, links=0):
-    return ["--port", str(port), "--links", str(links)] + list(volumes)
+    return ["--port", str(port), "--workers", "1", "--links", str(links)] + list(volumes)
 
 
 class Files(afp.Session):
