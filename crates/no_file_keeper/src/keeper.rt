@@ -1,14 +1,15 @@
 //! A keeper over a file that is never there.
-ghost use Rattle.std.specs.Prelude.{◌≡◌, IfOk};
+ghost use Rattle.std.specs.Prelude.{IfOk};
 
 use afp_base::Bytes;
-use record_keeper::{Change, Keeper, KeeperFault, RecordKey};
+use record_keeper::{Change, Keeper, KeeperFault, MemoryKeeper, RecordKey};
 use std::alloc::Global;
-use std::convert::Infallible;
 
-/// No value: no file is opened.
+/// Would keep its records in a file; no value is made, since no file is opened. It has a keeper in memory, so that its calls mean something.
 #[derive(Drop)]
-pub enum FileKeeper {}
+pub struct FileKeeper {
+    kept: MemoryKeeper,
+}
 
 /// Why a file is not taken.
 #[derive(Debug, Drop)]
@@ -16,7 +17,7 @@ pub enum OpenFault {
     /// Nothing is kept in files. The text tells a person so.
     File(&'static str),
     /// No open answers it.
-    Start(Infallible),
+    Start(&'static str),
 }
 
 impl FileKeeper {
@@ -29,35 +30,36 @@ impl FileKeeper {
 }
 
 impl Keeper for FileKeeper {
-    ghost use Rattle.std.specs.Prelude.{None, false, []};
+    ghost use Rattle.std.specs.Prelude.{Some, true};
+    ghost use Rattle.record_keeper.specs.Planned.{never_fails};
 
-    ghost records = { λ _. None };
+    ghost records = { λ k. Some k.kept.records };
 
-    ghost faults = { λ _. 0 };
+    ghost faults = { λ k. k.kept.planned.faults };
 
-    ghost sure = { λ _. false };
+    ghost sure = { λ k. never_fails k.kept.planned };
 
-    ghost steady = { λ _. false };
+    ghost steady = { λ _. true };
 
-    ghost settles = { λ _. [] };
+    ghost settles = { λ k. k.kept.settles };
 
-    fn read(&mut self, _alloc: Global, _key: &RecordKey) -> Result<Option<Bytes>, KeeperFault> {
-        match *self {}
+    fn read(&mut self, alloc: Global, key: &RecordKey) -> Result<Option<Bytes>, KeeperFault> {
+        self.kept.read(alloc, key)
     }
 
     fn next_key(
         &mut self,
-        _alloc: Global,
-        _after: Option<&RecordKey>,
+        alloc: Global,
+        after: Option<&RecordKey>,
     ) -> Result<Option<RecordKey>, KeeperFault> {
-        match *self {}
+        self.kept.next_key(alloc, after)
     }
 
-    fn commit(&mut self, _alloc: Global, _changes: &[Change]) -> Result<(), KeeperFault> {
-        match *self {}
+    fn commit(&mut self, alloc: Global, changes: &[Change]) -> Result<(), KeeperFault> {
+        self.kept.commit(alloc, changes)
     }
 
     fn settle(&mut self) -> Result<(), KeeperFault> {
-        match *self {}
+        self.kept.settle()
     }
 }
