@@ -12,25 +12,29 @@ use crate::{reading, schema, writing};
 use afp_base::Bytes;
 use ghost_log::Log;
 use record_keeper::{Change, Keeper, KeeperFault, RecordKey};
-use sqlite::{Alter, Connection};
+use sqlite::{Alter, Connection, Row};
 use sqlite_keeper::counted;
 use std::alloc::Global;
+use std::collections::VecDeque;
 use std::marker::Model;
 
 /// Keeps its records in the table `records` of a database, and tells them: they are the rows of the table, as long as the
 /// database is open. A fault of its disk shuts it, and it may do so unseen; from then on the keeper tells none.
 ///
-/// Each commit is one transaction. Each statement that is refused for anything but want of memory is a fault. At 2^64 - 1
+/// It reads up to 255 records ahead of the one that is asked for, so that all of them by rising keys take one statement for so many. Each
+/// commit forgets them, and is one transaction. Each statement that is refused for anything but want of memory is a fault. At 2^64 - 1
 /// faults the count stands still, and what is refused then is told as want of memory.
 #[derive(Drop)]
 pub struct DurableKeeper<S: Alter + Drop> {
     connection: Connection<S>,
+    ahead: Option<VecDeque<Row>>,
     faults: u64,
     settles: Log<Result<(), KeeperFault>>,
 }
 
 impl<S: Alter + Drop> Model for DurableKeeper<S> {
     ghost use Rattle.sqlite_durable.specs.Durable.{Durable};
+    ghost use Rattle.sqlite_durable.specs.lemma.Ahead.{rows_in};
     ghost use Rattle.sqlite_durable.specs.lemma.Stored.{durable_code, IsReady};
 
     ghost Value = { Durable S };
@@ -39,7 +43,7 @@ impl<S: Alter + Drop> Model for DurableKeeper<S> {
 
     ghost view = { λ k. record { database = k.connection; faults = k.faults; settles = k.settles.items } };
 
-    ghost invariant = { λ k. IsReady S.Store k.connection };
+    ghost invariant = { λ k. IsReady S.Store k.connection (rows_in k.ahead) };
 }
 
 /// Why a keeper does not start over a database.
@@ -81,6 +85,7 @@ impl<S: Alter + Drop> DurableKeeper<S> {
         }
         Ok(DurableKeeper {
             connection,
+            ahead: None,
             faults: 0,
             settles: Log::new(),
         })
@@ -99,6 +104,7 @@ impl<S: Alter + Drop> DurableKeeper<S> {
     {
         let DurableKeeper {
             connection,
+            ahead: _,
             faults: _,
             settles: _,
         } = self;
@@ -125,7 +131,7 @@ impl<S: Alter + Drop> Keeper for DurableKeeper<S> {
         ensures settles { self.new.settles ≡ self.old.settles }
         ensures crash { LeavesSame S.Store self.old self.new }
     {
-        match reading::value_at(alloc, &mut self.connection, key) {
+        match reading::value_of(alloc, &mut self.connection, &self.ahead, key) {
             Ok(value) => Ok(value),
             Err(error) => Err(counted(&mut self.faults, error)),
         }
@@ -143,7 +149,7 @@ impl<S: Alter + Drop> Keeper for DurableKeeper<S> {
         ensures settles { self.new.settles ≡ self.old.settles }
         ensures crash { LeavesSame S.Store self.old self.new }
     {
-        match reading::key_after(alloc, &mut self.connection, after) {
+        match reading::key_after(alloc, &mut self.connection, &mut self.ahead, after) {
             Ok(key) => Ok(key),
             Err(error) => Err(counted(&mut self.faults, error)),
         }
@@ -157,6 +163,7 @@ impl<S: Alter + Drop> Keeper for DurableKeeper<S> {
         ensures settles { self.new.settles ≡ self.old.settles }
         ensures crash { LeavesChanged S.Store (changed changes.now) self.old self.new }
     {
+        self.ahead = None;
         match writing::make_all(&mut self.connection, changes) {
             Ok(()) => Ok(()),
             Err(error) => Err(counted(&mut self.faults, error)),

@@ -7,21 +7,24 @@ ghost use Rattle.sqlite.specs.State.{IsUnchanged};
 ghost use Rattle.record_keeper.specs.Records.{IsNextKey};
 ghost use Rattle.sqlite_durable.specs.Table.{records_schema};
 ghost use Rattle.sqlite_durable.specs.Turned.{records_in, LeavesAsBefore};
+ghost use Rattle.sqlite_durable.specs.lemma.Ahead.{first_key, rows_in, IsPage, IsRun};
 
-use crate::rows::only_bytes;
+use crate::ahead::{goes_on, key_ahead, value_ahead};
+use crate::rows::{only_bytes, page_of};
 use afp_base::Bytes;
 use record_keeper::RecordKey;
-use sqlite::{Alter, Connection, Error, params};
+use sqlite::{Alter, Connection, Error, Row, params};
 use std::alloc::Global;
+use std::collections::VecDeque;
 
 const READ: &str = "SELECT value FROM records WHERE key = ?1";
 
-const LEAST: &str = "SELECT key FROM records ORDER BY key LIMIT 1";
+const PAGE: &str = "SELECT key, value FROM records ORDER BY key LIMIT 256";
 
-const LEAST_ABOVE: &str = "SELECT key FROM records WHERE key > ?1 ORDER BY key LIMIT 1";
+const PAGE_ABOVE: &str = "SELECT key, value FROM records WHERE key > ?1 ORDER BY key LIMIT 256";
 
-/// The value at the key.
-pub(crate) fn value_at<S: Alter>(
+/// The value at the key, asked of the table.
+fn value_at<S: Alter>(
     alloc: Global,
     connection: &mut Connection<S>,
     key: &RecordKey,
@@ -40,14 +43,11 @@ pub(crate) fn value_at<S: Alter>(
     only_bytes(alloc, rows.as_slice())
 }
 
-/// The bytes of the least key of all.
-pub(crate) fn least<S: Alter>(
-    alloc: Global,
-    connection: &mut Connection<S>,
-) -> Result<Option<Bytes>, Error>
+/// The first records.
+fn first_page<S: Alter>(connection: &mut Connection<S>) -> Result<Vec<Row>, Error>
     requires schema { IsTrue (state S.Store connection.old).is_open → (state S.Store connection.old).now.schema ≡ records_schema }
     requires mode { connection.old.in_transaction ≡ false }
-    ensures key { IsTrue (state S.Store connection.new).is_open → IfOk result (IsNextKey (records_in (state S.Store connection.old).now) None) }
+    ensures page { IsTrue (state S.Store connection.new).is_open → IfOk result (λ rows. IsPage (records_in (state S.Store connection.old).now) None rows.items) }
     ensures same { IsTrue (state S.Store connection.new).is_open → OnOk result (IsUnchanged (state S.Store connection.old) (state S.Store connection.new)) }
     ensures err { IsTrue (state S.Store connection.new).is_open → OnErr result (IsTrue (state S.Store connection.old).is_open × ((state S.Store connection.new).now ≡ (state S.Store connection.old).now)) }
     ensures mode { connection.new.in_transaction ≡ false }
@@ -55,19 +55,15 @@ pub(crate) fn least<S: Alter>(
 {
     let _alone = connection.is_autocommit();
     let _live = connection.schema();
-    let rows = connection.query_all(LEAST, &[])?;
-    only_bytes(alloc, rows.as_slice())
+    let rows = connection.query_all(PAGE, &[])?;
+    page_of(rows)
 }
 
-/// The bytes of the least key above one.
-pub(crate) fn least_above<S: Alter>(
-    alloc: Global,
-    connection: &mut Connection<S>,
-    key: &RecordKey,
-) -> Result<Option<Bytes>, Error>
+/// The records behind a key.
+fn page_above<S: Alter>(connection: &mut Connection<S>, key: &RecordKey) -> Result<Vec<Row>, Error>
     requires schema { IsTrue (state S.Store connection.old).is_open → (state S.Store connection.old).now.schema ≡ records_schema }
     requires mode { connection.old.in_transaction ≡ false }
-    ensures key { IsTrue (state S.Store connection.new).is_open → IfOk result (IsNextKey (records_in (state S.Store connection.old).now) (Some key.now)) }
+    ensures page { IsTrue (state S.Store connection.new).is_open → IfOk result (λ rows. IsPage (records_in (state S.Store connection.old).now) (Some key.now) rows.items) }
     ensures same { IsTrue (state S.Store connection.new).is_open → OnOk result (IsUnchanged (state S.Store connection.old) (state S.Store connection.new)) }
     ensures err { IsTrue (state S.Store connection.new).is_open → OnErr result (IsTrue (state S.Store connection.old).is_open × ((state S.Store connection.new).now ≡ (state S.Store connection.old).now)) }
     ensures mode { connection.new.in_transaction ≡ false }
@@ -75,31 +71,88 @@ pub(crate) fn least_above<S: Alter>(
 {
     let _alone = connection.is_autocommit();
     let _live = connection.schema();
-    let rows = connection.query_all(LEAST_ABOVE, params![key.as_slice()])?;
-    only_bytes(alloc, rows.as_slice())
+    let rows = connection.query_all(PAGE_ABOVE, params![key.as_slice()])?;
+    page_of(rows)
+}
+
+/// The records behind a key, or the first ones.
+fn page_after<S: Alter>(
+    connection: &mut Connection<S>,
+    after: Option<&RecordKey>,
+) -> Result<Vec<Row>, Error>
+    requires schema { IsTrue (state S.Store connection.old).is_open → (state S.Store connection.old).now.schema ≡ records_schema }
+    requires mode { connection.old.in_transaction ≡ false }
+    ensures page { IsTrue (state S.Store connection.new).is_open → IfOk result (λ rows. IsPage (records_in (state S.Store connection.old).now) (option_copied after.entry) rows.items) }
+    ensures kept { IsTrue (state S.Store connection.new).is_open → IsTrue (state S.Store connection.old).is_open × ((state S.Store connection.new).now ≡ (state S.Store connection.old).now) }
+    ensures mode { connection.new.in_transaction ≡ false }
+    ensures crash { IsTrue (state S.Store connection.old).is_open → LeavesAsBefore (state S.Store connection.old) (state S.Store connection.new) }
+{
+    match after {
+        None => first_page(connection),
+        Some(key) => page_above(connection, key),
+    }
+}
+
+/// Has the record behind a key, or the first one, stand first among those that were read ahead.
+fn turn_to<S: Alter>(
+    connection: &mut Connection<S>,
+    ahead: &mut Option<VecDeque<Row>>,
+    after: Option<&RecordKey>,
+) -> Result<(), Error>
+    requires schema { IsTrue (state S.Store connection.old).is_open → (state S.Store connection.old).now.schema ≡ records_schema }
+    requires mode { connection.old.in_transaction ≡ false }
+    requires run { IsTrue (state S.Store connection.old).is_open → IsRun (records_in (state S.Store connection.old).now) (rows_in ahead.old) }
+    ensures next { IsTrue (state S.Store connection.new).is_open → OnOk result (IsNextKey (records_in (state S.Store connection.old).now) (option_copied after.entry) (first_key (rows_in ahead.new))) }
+    ensures run { IsTrue (state S.Store connection.new).is_open → IsRun (records_in (state S.Store connection.old).now) (rows_in ahead.new) }
+    ensures kept { IsTrue (state S.Store connection.new).is_open → IsTrue (state S.Store connection.old).is_open × ((state S.Store connection.new).now ≡ (state S.Store connection.old).now) }
+    ensures mode { connection.new.in_transaction ≡ false }
+    ensures crash { IsTrue (state S.Store connection.old).is_open → LeavesAsBefore (state S.Store connection.old) (state S.Store connection.new) }
+{
+    if goes_on(ahead, after) {
+        return Ok(());
+    }
+    let rows = page_after(connection, after)?;
+    *ahead = Some(VecDeque::from(rows));
+    Ok(())
 }
 
 /// The least key above one, or the least of all.
 pub(crate) fn key_after<S: Alter>(
     alloc: Global,
     connection: &mut Connection<S>,
+    ahead: &mut Option<VecDeque<Row>>,
     after: Option<&RecordKey>,
 ) -> Result<Option<RecordKey>, Error>
     requires schema { IsTrue (state S.Store connection.old).is_open → (state S.Store connection.old).now.schema ≡ records_schema }
     requires mode { connection.old.in_transaction ≡ false }
+    requires run { IsTrue (state S.Store connection.old).is_open → IsRun (records_in (state S.Store connection.old).now) (rows_in ahead.old) }
     ensures key { IsTrue (state S.Store connection.new).is_open → IfOk result (IsNextKey (records_in (state S.Store connection.old).now) (option_copied after.entry)) }
-    ensures same { IsTrue (state S.Store connection.new).is_open → OnOk result (IsUnchanged (state S.Store connection.old) (state S.Store connection.new)) }
-    ensures err { IsTrue (state S.Store connection.new).is_open → OnErr result (IsTrue (state S.Store connection.old).is_open × ((state S.Store connection.new).now ≡ (state S.Store connection.old).now)) }
+    ensures run { IsTrue (state S.Store connection.new).is_open → IsRun (records_in (state S.Store connection.old).now) (rows_in ahead.new) }
+    ensures kept { IsTrue (state S.Store connection.new).is_open → IsTrue (state S.Store connection.old).is_open × ((state S.Store connection.new).now ≡ (state S.Store connection.old).now) }
     ensures mode { connection.new.in_transaction ≡ false }
     ensures crash { IsTrue (state S.Store connection.old).is_open → LeavesAsBefore (state S.Store connection.old) (state S.Store connection.new) }
 {
-    let found = match after {
-        None => least(alloc, connection),
-        Some(key) => least_above(alloc, connection, key),
-    };
-    match found {
-        Ok(Some(bytes)) => Ok(Some(RecordKey::new(bytes))),
-        Ok(None) => Ok(None),
-        Err(error) => Err(error),
+    turn_to(connection, ahead, after)?;
+    key_ahead(alloc, ahead)
+}
+
+/// The value at the key.
+pub(crate) fn value_of<S: Alter>(
+    alloc: Global,
+    connection: &mut Connection<S>,
+    ahead: &Option<VecDeque<Row>>,
+    key: &RecordKey,
+) -> Result<Option<Bytes>, Error>
+    requires schema { IsTrue (state S.Store connection.old).is_open → (state S.Store connection.old).now.schema ≡ records_schema }
+    requires mode { connection.old.in_transaction ≡ false }
+    requires run { IsTrue (state S.Store connection.old).is_open → IsRun (records_in (state S.Store connection.old).now) (rows_in ahead.now) }
+    ensures value { IsTrue (state S.Store connection.new).is_open → IfOk result (λ value. value ≡ get (records_in (state S.Store connection.old).now) key.now) }
+    ensures kept { IsTrue (state S.Store connection.new).is_open → IsTrue (state S.Store connection.old).is_open × ((state S.Store connection.new).now ≡ (state S.Store connection.old).now) }
+    ensures mode { connection.new.in_transaction ≡ false }
+    ensures crash { IsTrue (state S.Store connection.old).is_open → LeavesAsBefore (state S.Store connection.old) (state S.Store connection.new) }
+{
+    match value_ahead(alloc, ahead, key)? {
+        Some(value) => Ok(Some(value)),
+        None => value_at(alloc, connection, key),
     }
 }
