@@ -1,11 +1,11 @@
 //! The keeper, how it starts, and its count of faults.
-ghost use Rattle.std.specs.Prelude.{◌≡◌, ◌≢◌, ◌+◌, ◌++◌, ◌∷◌, [], IfOk, IfSome, OnOk, OnErr, IsErrOf, Err, true, false};
+ghost use Rattle.std.specs.Prelude.{◌≡◌, ◌≢◌, ◌⊎◌, ◌+◌, ◌++◌, ◌∷◌, [], IfOk, IfSome, OnOk, OnErr, IsErrOf, Err, true, false};
 ghost use Rattle.std.specs.FinMap.{get};
 ghost use Rattle.std.specs.Option.{option_copied};
 ghost use Rattle.record_keeper.specs.Causes.{HasCause};
 ghost use Rattle.record_keeper.specs.Records.{Makes, same_records, changed, IsNextKey};
 ghost use Rattle.sqlite.specs.Held.{state};
-ghost use Rattle.sqlite_durable.specs.Table.{no_schema};
+ghost use Rattle.sqlite_durable.specs.Table.{no_schema, records_schema};
 ghost use Rattle.sqlite_durable.specs.Durable.{told_of, IsFoundIn, IsOpen, LeavesSame, LeavesChanged, LeavesTold};
 
 use crate::{reading, schema, writing};
@@ -66,7 +66,8 @@ impl<S: Alter + Drop> DurableKeeper<S> {
         ensures faults { IfOk result (λ keeper. keeper.faults ≡ 0) }
         ensures settles { IfOk result (λ keeper. keeper.settles ≡ []) }
         ensures busy { result ≡ Err StartFault.InTransaction → connection.in_transaction ≡ true }
-        ensures others { result ≡ Err StartFault.OtherTables → connection.schema ≢ no_schema }
+        ensures others { result ≡ Err StartFault.OtherTables → (connection.schema ≢ records_schema) × (connection.schema ≢ no_schema) }
+        ensures tables { OnOk result ((connection.schema ≡ records_schema) ⊎ (connection.schema ≡ no_schema)) }
         ensures unmade { result ≡ Err StartFault.Failed → connection.schema ≡ no_schema }
     {
         if !connection.is_autocommit() {
