@@ -263,7 +263,7 @@ answer_send : IsSend (result.the_row unit fault.the_row)
 answer_send = recorded_send _ _ _ (result.the_type unit fault.the_row).to_one (enum_send (variants_of (result.the_type unit fault.the_row)) ((search sendable, tt), ((fault_send, tt), tt)))
 
 durable_send : (S : RattleType) (g : trees.Ghosts S.Denot) → IsSend S → IsSend (durable.the_row S g)
-durable_send S g d = view_send _ _ _ _ _ (recorded_send _ _ _ (durable_inside.the_type S g).to_one (struct_send (shape (durable_inside.the_type S g)) (connection_send S g d, (search sendable, (log_send _ answer_send, tt)))))
+durable_send S g d = view_send _ _ _ _ _ (recorded_send _ _ _ (durable_inside.the_type S g).to_one (struct_send (shape (durable_inside.the_type S g)) (connection_send S g d, (search (shown_send, crosses, sendable) depth 30 fits 2000, (search sendable, (log_send _ answer_send, tt))))))
 
 unknown_send : IsSend unknown.the_row
 unknown_send = search sendable depth 12

@@ -1,6 +1,7 @@
 //! A keeper over a database file.
-ghost use Rattle.std.specs.Prelude.{◌≡◌, ◌≢◌, IfOk, IfErr, IsTrue, Err, true, []};
+ghost use Rattle.std.specs.Prelude.{◌≡◌, ◌≢◌, ◌⊎◌, IfOk, IfErr, IsTrue, Err, true, []};
 ghost use Rattle.sqlite.specs.Opening.{is_open_error};
+ghost use Rattle.sqlite.specs.State.{store_error};
 
 use afp_base::Bytes;
 use record_keeper::{Change, Keeper, KeeperFault, RecordKey};
@@ -86,6 +87,19 @@ impl Keeper for FileKeeper {
 
     fn settle(&mut self) -> Result<(), KeeperFault> {
         self.inner.settle()
+    }
+}
+
+/// Copies what the log beside a file holds into the file, and leaves the log empty. No keeper may have the file open. A file
+/// that is not there is made.
+///
+/// An error is one of an open, or the store's as it copies; the log then keeps what it held.
+pub fn empty_log(rt: &HostRuntime, path: &str) -> Result<(), Error>
+    ensures named { IfErr result (λ error. IsTrue (is_open_error error) ⊎ ((cause : _) × (error ≡ store_error cause))) }
+{
+    match Connection::open_with_sums(rt, path) {
+        Ok(connection) => connection.close(),
+        Err(error) => Err(error),
     }
 }
 
