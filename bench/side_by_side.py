@@ -12,7 +12,6 @@ links   5,000 links that come and go
 silent  a peer that asks and reads nothing, beside three others on the same server
 """
 import os
-import socket
 import statistics
 import struct
 import subprocess
@@ -30,7 +29,7 @@ OBJECT_EXISTS = -5017
 
 def start(workers, program, *volumes):
     port = afp.free_port()
-    server = afp_files.Server(["--workers", str(workers)] + afp_files.words_for(port, *(volumes or ("Share=memory",))), program)
+    server = afp_files.Server(["--port", str(port), "--workers", str(workers)] + list(volumes or ("Share=memory",)), program)
     if not server.wait_listening():
         print(server.told())
         sys.exit(1)
@@ -231,22 +230,14 @@ def show_silent(program):
     since = time.monotonic()
     step("three others beside it, the first wrong answer of each", at_once(3, lambda number: own_files(port, number)), [None] * 3)
     print(f"they took {time.monotonic() - since:.1f} s")
-    silent.link.setblocking(True)
-    silent.link.settimeout(300)
+    held = [afp_files.session(port) for _ in range(3)]
     since = time.monotonic()
-    # The server ends a link that takes nothing for its time; then what is sent fails.
-    ended = False
-    while time.monotonic() - since < 300 and not ended:
-        time.sleep(1)
-        try:
-            silent.link.send(b"")
-            state = struct.unpack("B", silent.link.getsockopt(socket.IPPROTO_TCP, socket.TCP_INFO, 1))[0]
-            ended = state != 1
-        except OSError:
-            ended = True
-    print(f"the server ended its link: {ended}, after {time.monotonic() - since:.0f} s")
+    fourth = afp_files.Files(afp.connect(port, 400))
+    print(f"a fourth session beside three was served after {time.monotonic() - since:.0f} s: the server had ended the link that takes nothing")
+    step("and makes a file", fourth.create_file(b"fourth"), afp.OK)
+    for it in held + [fourth]:
+        it.close_session()
     silent.link.close()
-    step("a session on its worker", [s.create_file(b"n%d" % n) for n, s in enumerate([afp_files.session(port) for _ in range(4)])], [afp.OK] * 4)
     server.kill()
 
 

@@ -10,7 +10,6 @@ use afp_outside::{OpenGate, TapeLink};
 use afp_serial::House;
 use afp_server::{LinkEnd, LinkRoom, serve_link};
 use std::alloc::Global;
-use test_lines::LineResult;
 
 /// A server `Mac` with one volume.
 fn house(alloc: Global) -> Result<House, OutOfMemory> {
@@ -123,14 +122,14 @@ fn turns_of(word: &str) -> u32 {
 }
 
 /// `link TURNS READS WRITES MOMENTS FAILING BYTES`.
-pub fn link(alloc: Global, words: &[&str]) -> Result<Option<LineResult>, OutOfMemory> {
+pub fn link(alloc: Global, words: &[&str]) -> Result<Option<String>, OutOfMemory> {
     let [_, turns, reads, writes, moments, failing, bytes] = words else {
         return Ok(None);
     };
     let reads = sizes_of(alloc, reads)?;
     let mut link = link_of(alloc, reads, writes, moments, failing, bytes)?;
     let text = serve(alloc, &mut link, turns_of(turns))?;
-    Ok(Some(LineResult::Text(text)))
+    Ok(Some(text))
 }
 
 /// The reads of a link whose first read ends at this place, with a quiet there or none.
@@ -156,7 +155,7 @@ fn cut_at(
 }
 
 /// `cut QUIET WRITES BYTES`.
-pub fn cut(alloc: Global, words: &[&str]) -> Result<Option<LineResult>, OutOfMemory> {
+pub fn cut(alloc: Global, words: &[&str]) -> Result<Option<String>, OutOfMemory> {
     let [_, quiet, writes, bytes] = words else {
         return Ok(None);
     };
@@ -171,7 +170,7 @@ pub fn cut(alloc: Global, words: &[&str]) -> Result<Option<LineResult>, OutOfMem
         }
     }
     write!(text, "to {size}")?;
-    Ok(Some(LineResult::Text(text)))
+    Ok(Some(text))
 }
 
 fn serve_in_room(alloc: Global, link: &mut TapeLink) -> Result<LinkEnd, OutOfMemory>
@@ -184,7 +183,7 @@ fn serve_in_room(alloc: Global, link: &mut TapeLink) -> Result<LinkEnd, OutOfMem
 }
 
 /// `room BYTES`.
-pub fn room(alloc: Global, words: &[&str]) -> Result<Option<LineResult>, OutOfMemory> {
+pub fn room(alloc: Global, words: &[&str]) -> Result<Option<String>, OutOfMemory> {
     let [_, bytes] = words else {
         return Ok(None);
     };
@@ -194,5 +193,5 @@ pub fn room(alloc: Global, words: &[&str]) -> Result<Option<LineResult>, OutOfMe
     put_end(&mut text, end)?;
     let digits = digits_of(alloc, link.written())?;
     write!(text, ", wrote {digits}")?;
-    Ok(Some(LineResult::Text(text)))
+    Ok(Some(text))
 }

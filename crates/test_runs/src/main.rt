@@ -26,10 +26,9 @@ mod one_session;
 mod run;
 mod server;
 
-use run::Run;
+use run::answer_all;
 use std::io;
-use test_lines::answer_lines;
 
 fn main(rt: HostRuntime) -> io::Result<()> {
-    answer_lines(&rt, Run::new(&rt, rt.alloc()))
+    answer_all(&rt, &rt)
 }

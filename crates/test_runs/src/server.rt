@@ -11,7 +11,7 @@ use record_keeper::{Keeper, MemoryKeeper};
 use std::alloc::Global;
 use std::sync::Wait;
 use std::thread::Threads;
-use test_lines::{LineResult, bytes_of};
+use test_lines::bytes_of;
 
 /// A link that waits: the most bytes of each read, and what comes.
 #[derive(Drop)]
@@ -224,7 +224,7 @@ pub fn run<R: Threads + Wait + Sync>(
     alloc: Global,
     waiting: &[Waiting],
     words: &[&str],
-) -> Result<Option<LineResult>, OutOfMemory> {
+) -> Result<Option<String>, OutOfMemory> {
     let [_, keepers, failing, accepts, report, words @ ..] = words else {
         return Ok(None);
     };
@@ -232,7 +232,7 @@ pub fn run<R: Threads + Wait + Sync>(
     let text = run_over(
         threads, alloc, waiting, count, failing, accepts, report, words,
     )?;
-    Ok(Some(LineResult::Text(text)))
+    Ok(Some(text))
 }
 
 /// `notes KEEPERS WORD..`, over no link.
@@ -240,7 +240,7 @@ pub fn notes<R: Threads + Wait + Sync>(
     threads: &R,
     alloc: Global,
     words: &[&str],
-) -> Result<Option<LineResult>, OutOfMemory> {
+) -> Result<Option<String>, OutOfMemory> {
     let [_, keepers, words @ ..] = words else {
         return Ok(None);
     };
@@ -255,7 +255,7 @@ pub fn notes<R: Threads + Wait + Sync>(
     let mut text = ran(alloc, finish.status, told.written(), &[])?;
     text.push_str(" and ")?;
     put_report(&mut text, noted.written())?;
-    Ok(Some(LineResult::Text(text)))
+    Ok(Some(text))
 }
 
 /// Appends the places of volumes.
@@ -274,7 +274,7 @@ fn put_places(text: &mut String, places: &[VolumePlace]) -> Result<(), OutOfMemo
 }
 
 /// `settings WORD..`.
-pub fn settings(alloc: Global, words: &[&str]) -> Result<Option<LineResult>, OutOfMemory> {
+pub fn settings(alloc: Global, words: &[&str]) -> Result<Option<String>, OutOfMemory> {
     let [_, words @ ..] = words else {
         return Ok(None);
     };
@@ -285,8 +285,8 @@ pub fn settings(alloc: Global, words: &[&str]) -> Result<Option<LineResult>, Out
             put_places(&mut text, settings.places.as_slice())?;
             let (port, workers, links) = (settings.port, settings.workers, settings.links);
             write!(text, "port {port} workers {workers} links {links}")?;
-            Ok(Some(LineResult::Text(text)))
+            Ok(Some(text))
         }
-        Err(_) => Ok(Some(LineResult::Word("none"))),
+        Err(_) => Ok(Some(String::from_str(alloc, "none")?)),
     }
 }
