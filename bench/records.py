@@ -43,7 +43,7 @@ def make(path, records, table=TABLE, more=()):
     database.execute(table)
     for statement in more:
         database.execute(statement)
-    database.executemany("INSERT INTO records VALUES (?, ?)", records)
+    database.executemany("INSERT INTO records (key, value) VALUES (?, ?)", records)
     database.commit()
     database.close()
 
@@ -77,7 +77,7 @@ def show_bad(program, folder, records):
     make(stock, records)
     step("the same records in a file of another program", served_once(program, stock), ("(nodes 1)", 0))
     step("are the same afterwards", records_of(stock)[1], records)
-    for at, (key, value, report) in enumerate([("020000001100000000", "01", "load 1 bad 020000001100000000 parent\n"), ("06", "", "load 1 bad 06 shape\n")]):
+    for at, (key, value, report) in enumerate([("02000000110000000000", "01", "load 1 bad 02000000110000000000 parent\n"), ("06", "", "load 1 bad 06 shape\n")]):
         bad = os.path.join(folder, f"bad{at}.db")
         make(bad, records + [(bytes.fromhex(key), bytes.fromhex(value))])
         step(f"with a record at {key}", served_once(program, bad), (3, report))
