@@ -35,7 +35,7 @@ def main():
     parser.add_argument("--place", default="memory")
     place = parser.parse_args().place
     port, since = afp.free_port(), time.monotonic()
-    words = [os.path.join(afp.TOP, "run"), "--try", "afpd", "--port", str(port), "--links", "1", f"Share={place}"]
+    words = [os.path.join(afp.TOP, "run"), "--try", "afpd", "--port", str(port), "--workers", "1", "--links", "1", f"Share={place}"]
     server = subprocess.Popen(words, stdin=subprocess.DEVNULL, start_new_session=True)
     head = first_reply(port, server)
     seconds = time.monotonic() - since
