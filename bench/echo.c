@@ -2,6 +2,7 @@
    request with four bytes. echo PORT LARGEST serves one link, where a read of the link takes at most LARGEST bytes. echo PORT LARGEST WORKERS serves
    links until it is killed, so many at once, each worker one after the other. With a fourth word it keeps the bytes of writes in a store of 1 MiB for
    each worker, and answers reads with those, which is the one copy that no file server can do without. */
+#include "frames.h"
 #include <netinet/in.h>
 #include <netinet/tcp.h>
 #include <pthread.h>
@@ -12,30 +13,13 @@
 #include <sys/socket.h>
 #include <unistd.h>
 
-enum { HEADER = 16, PAYLOAD = 131072, FPREAD = 27, FPWRITE = 33, STORE = 1 << 20 };
+enum { FPREAD = 27, FPWRITE = 33, STORE = 1 << 20 };
 
 struct worker {
   int door;
   size_t largest;
   unsigned char in[HEADER + PAYLOAD], out[HEADER + PAYLOAD], *store;
 };
-
-static uint32_t word(const unsigned char *at) {
-  return (uint32_t)at[0] << 24 | (uint32_t)at[1] << 16 | (uint32_t)at[2] << 8 | at[3];
-}
-
-static void put_word(unsigned char *at, uint32_t value) {
-  at[0] = value >> 24, at[1] = value >> 16, at[2] = value >> 8, at[3] = value;
-}
-
-static int write_all(int link, const unsigned char *at, size_t left) {
-  while (left > 0) {
-    ssize_t done = write(link, at, left);
-    if (done <= 0) return -1;
-    at += done, left -= (size_t)done;
-  }
-  return 0;
-}
 
 /* Where a piece of so many bytes stands in the store. */
 static unsigned char *place_of(struct worker *w, uint32_t at, uint32_t size) { return w->store + (at <= STORE - size ? at : 0); }

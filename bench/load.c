@@ -2,6 +2,7 @@
    volume Share open, and a file of its own where KIND is read or write; it makes CALLS calls, one after the other, and closes. KIND is parms
    (FPGetVolParms), read or write (64 KiB of its file, which is 1 MiB, at one place after another; what is written differs each time).
    It prints the seconds from the first connection to the last reply, and ends with status 1 at the first answer that is not the wanted one. */
+#include "frames.h"
 #include <netinet/in.h>
 #include <netinet/tcp.h>
 #include <pthread.h>
@@ -13,7 +14,7 @@
 #include <time.h>
 #include <unistd.h>
 
-enum { HEADER = 16, PIECE = 65536, PIECES = 16, ROOM = HEADER + 131072 };
+enum { PIECE = 65536, PIECES = 16, ROOM = HEADER + PAYLOAD };
 enum kind { PARMS, READ, WRITE };
 
 struct peer {
@@ -27,17 +28,6 @@ static int port, calls;
 static enum kind kind;
 
 static void put16(unsigned char *at, uint32_t value) { at[0] = (unsigned char)(value >> 8), at[1] = (unsigned char)value; }
-static void put32(unsigned char *at, uint32_t value) { put16(at, value >> 16), put16(at + 2, value & 0xffff); }
-static uint32_t word(const unsigned char *at) { return (uint32_t)at[0] << 24 | (uint32_t)at[1] << 16 | (uint32_t)at[2] << 8 | at[3]; }
-
-static int write_all(int link, const unsigned char *at, size_t left) {
-  while (left > 0) {
-    ssize_t done = write(link, at, left);
-    if (done <= 0) return -1;
-    at += done, left -= (size_t)done;
-  }
-  return 0;
-}
 
 static int read_all(int link, unsigned char *at, size_t left) {
   while (left > 0) {
@@ -52,7 +42,7 @@ static int read_all(int link, unsigned char *at, size_t left) {
 static int ask(struct peer *p, int command, uint32_t enclosed_at, uint32_t length) {
   memset(p->out, 0, HEADER);
   p->out[1] = (unsigned char)command;
-  put16(p->out + 2, p->id), put32(p->out + 4, enclosed_at), put32(p->out + 8, length);
+  put16(p->out + 2, p->id), put_word(p->out + 4, enclosed_at), put_word(p->out + 8, length);
   if (write_all(p->link, p->out, HEADER + length) != 0 || read_all(p->link, p->in, HEADER) != 0) return -1;
   p->code = word(p->in + 4), p->size = word(p->in + 8);
   if (p->in[0] != 1 || p->in[1] != command || p->in[2] != p->out[2] || p->in[3] != p->out[3] || p->size > ROOM - HEADER) return -1;
@@ -74,14 +64,14 @@ static uint32_t put_path(unsigned char *at, int number) {
 static int write_piece(struct peer *p, int turn) {
   unsigned char *block = p->out + HEADER;
   block[0] = 33, block[1] = 0, put16(block + 2, p->fork);
-  put32(block + 4, (uint32_t)(turn % PIECES) * PIECE), put32(block + 8, PIECE);
+  put_word(block + 4, (uint32_t)(turn % PIECES) * PIECE), put_word(block + 8, PIECE);
   memset(block + 12, turn, PIECE);
   return ask(p, 6, 12, 12 + PIECE) != 0 || p->code != 0 || p->size != 4 ? -1 : 0;
 }
 
 static int read_piece(struct peer *p, int turn) {
   unsigned char block[14] = {27, 0};
-  put16(block + 2, p->fork), put32(block + 4, (uint32_t)(turn % PIECES) * PIECE), put32(block + 8, PIECE);
+  put16(block + 2, p->fork), put_word(block + 4, (uint32_t)(turn % PIECES) * PIECE), put_word(block + 8, PIECE);
   return ask_block(p, block, sizeof block) != 0 || p->size != PIECE ? -1 : 0;
 }
 

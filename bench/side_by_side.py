@@ -183,32 +183,29 @@ def show_rates(program):
 # memory, links, a peer that reads nothing
 
 
-def show_memory(program):
+def grows(program, what, links, times, calls, kind):
+    """Prints what a server of four workers holds before and behind so many loads, with a first one before; gives the server and its port."""
     with tempfile.TemporaryDirectory() as folder:
         loads = built(folder, "load")
         server, port = start(4, program)
-        load(loads, port, 4, 1000, "parms")
+        load(loads, port, links, min(calls, 1000), kind)
         before = resident(server)
-        took = load(loads, port, 4, 500000, "parms")
-        print(f"two million calls on four links, {took:.0f} s: {before:,} KiB before, {resident(server):,} KiB behind")
-        before = resident(server)
-        took = load(loads, port, 4, 5000, "write")
-        print(f"20,000 writes of 64 KiB, {took:.0f} s: {before:,} KiB before, {resident(server):,} KiB behind")
-        server.kill()
+        took = sum(load(loads, port, links, calls, kind) for _ in range(times))
+        print(f"{what}, {took:.1f} s: {before:,} KiB before, {resident(server):,} KiB behind")
+        return server, port
+
+
+def show_memory(program):
+    grows(program, "two million calls on four links", 4, 1, 500000, "parms")[0].kill()
+    grows(program, "20,000 writes of 64 KiB on four links", 4, 1, 5000, "write")[0].kill()
 
 
 def show_links(program):
-    with tempfile.TemporaryDirectory() as folder:
-        loads = built(folder, "load")
-        server, port = start(4, program)
-        load(loads, port, 50, 1, "parms")
-        before = resident(server)
-        took = sum(load(loads, port, 50, 1, "parms") for _ in range(100))
-        print(f"5,000 links that come and go, 50 at a time, {took:.1f} s: {before:,} KiB before, {resident(server):,} KiB behind")
-        session = afp_files.session(port)
-        step("a session behind them", session.create_file(b"behind"), afp.OK)
-        session.close_session()
-        server.kill()
+    server, port = grows(program, "5,000 links that come and go, 50 at a time", 50, 100, 1, "parms")
+    session = afp_files.session(port)
+    step("a session behind them", session.create_file(b"behind"), afp.OK)
+    session.close_session()
+    server.kill()
 
 
 def show_silent(program):
