@@ -48,7 +48,7 @@ fn lower(found: Option<NodeId>, id: NodeId) -> NodeId
 }
 
 /// Whether a fork of a node is open.
-pub(crate) fn is_busy(opens: &VolumeOpens<'_>, id: NodeId) -> bool
+pub fn is_busy(opens: &VolumeOpens<'_>, id: NodeId) -> bool
     ensures { result ≡ is_busy (opened opens.now) id.0 }
 {
     opens.has_node(id)
@@ -57,7 +57,7 @@ pub(crate) fn is_busy(opens: &VolumeOpens<'_>, id: NodeId) -> bool
 impl Volume {
     /// The id of the next new node; `None` where the ids have ended.
     #[tactic(auto, unfolding(volume_spec::specs::Shared::has_no_ids))]
-    pub(crate) fn next(&self) -> Option<NodeId>
+    pub fn next(&self) -> Option<NodeId>
         ensures { MatchOption result (has_no_ids self.now.state ≡ true) (λ id. (has_no_ids self.now.state ≡ false) × (id.0 ≡ self.now.state.next_id)) }
     {
         self.rows.next_id()
@@ -65,7 +65,7 @@ impl Volume {
 
     /// The id of the next new node; `None` where the volume is full or the ids have ended.
     #[tactic(auto, unfolding(volume_spec::specs::Shared::has_no_room))]
-    pub(crate) fn room(&self) -> Option<NodeId>
+    pub fn room(&self) -> Option<NodeId>
         ensures { MatchOption result (has_no_room self.now.state ≡ true) (λ id. (has_no_room self.now.state ≡ false) × (id.0 ≡ self.now.state.next_id)) }
     {
         if self.count() >= MOST_NODES {
@@ -75,7 +75,7 @@ impl Volume {
     }
 
     /// The directory in which a node is.
-    pub(crate) fn parent(&self, id: NodeId) -> Option<NodeId>
+    pub fn parent(&self, id: NodeId) -> Option<NodeId>
         ensures { IsFoundNode result (parent_at self.now.state.rows id.0) }
     {
         match self.rows.get(id) {
@@ -85,7 +85,7 @@ impl Volume {
     }
 
     /// The directory in which a node is; the root's parent where there is no such node.
-    pub(crate) fn directory(&self, id: NodeId) -> NodeId
+    pub fn directory(&self, id: NodeId) -> NodeId
         ensures { result.0 ≡ directory_of self.now.state.rows id.0 }
     {
         match self.parent(id) {
@@ -95,7 +95,7 @@ impl Volume {
     }
 
     /// Whether an id is a directory's.
-    pub(crate) fn is_directory(&self, id: NodeId) -> bool
+    pub fn is_directory(&self, id: NodeId) -> bool
         ensures { result ≡ has_directory self.now.state.rows id.0 }
     {
         match self.rows.get(id) {
@@ -105,7 +105,7 @@ impl Volume {
     }
 
     /// Whether an id is a file's.
-    pub(crate) fn is_file(&self, id: NodeId) -> bool
+    pub fn is_file(&self, id: NodeId) -> bool
         ensures { result ≡ has_file self.now.state.rows id.0 }
     {
         match self.rows.get(id) {
@@ -115,7 +115,7 @@ impl Volume {
     }
 
     /// Whether the node of an id has an attribute.
-    pub(crate) fn has(&self, bit: u16, id: NodeId) -> bool
+    pub fn has(&self, bit: u16, id: NodeId) -> bool
         ensures { result ≡ has_attribute self.now.state.rows bit id.0 }
     {
         match self.rows.get(id) {
@@ -125,14 +125,14 @@ impl Volume {
     }
 
     /// The child of a directory whose name has this key.
-    pub(crate) fn child(&self, dir: NodeId, key: &[u8]) -> Option<NodeId>
+    pub fn child(&self, dir: NodeId, key: &[u8]) -> Option<NodeId>
         ensures { IsFoundNode result (child_by_key self.now.state.rows dir.0 key.now) }
     {
         self.rows.child(dir, key)
     }
 
     /// The child of a directory whose long name a name spells.
-    pub(crate) fn long_child(
+    pub fn long_child(
         &self,
         alloc: Global,
         dir: NodeId,
@@ -176,14 +176,14 @@ impl Volume {
     }
 
     /// Whether a directory has children.
-    pub(crate) fn has_children(&self, dir: NodeId) -> bool
+    pub fn has_children(&self, dir: NodeId) -> bool
         ensures { result ≡ has_children self.now.state.rows dir.0 }
     {
         self.rows.nth(dir, 0).is_some()
     }
 
     /// Whether a node is another one, or below it.
-    pub(crate) fn is_below(&self, node: NodeId, id: NodeId) -> bool
+    pub fn is_below(&self, node: NodeId, id: NodeId) -> bool
         ensures { result ≡ is_below self.now.state.rows (length self.now.state.rows) node.0 id.0 }
     {
         self.keeps_sound();
@@ -201,7 +201,7 @@ impl Volume {
     }
 
     /// Whether another node of a directory has a name with this key.
-    pub(crate) fn is_taken(&self, node: NodeId, dir: NodeId, name: &Name, key: &[u8]) -> bool
+    pub fn is_taken(&self, node: NodeId, dir: NodeId, name: &Name, key: &[u8]) -> bool
         requires { key.now ≡ name_key name.now }
         ensures { result ≡ is_taken self.now.state.rows node.0 dir.0 name.now }
     {

@@ -17,7 +17,7 @@ use std::alloc::Global;
 use volume_spec::laws::{calls_keep_volumes_sound, rows_are_changed_in_place};
 
 /// The attribute of a node that may not be deleted (AFP Reference, "File attributes").
-pub(crate) const DELETE_INHIBIT: u16 = 0x0100;
+pub const DELETE_INHIBIT: u16 = 0x0100;
 
 impl Volume {
     /// Why FPDelete is refused, or the plan of it.

@@ -33,12 +33,17 @@ mod typed;
 mod volume;
 
 pub use after::NodeAfter;
+pub use asked::is_busy;
+pub use delete::DELETE_INHIBIT;
 pub use head::VolumeHead;
 pub use parts::{NewName, NodeWithForks};
+pub use places::{last_name, new_name, only_name, steps_are_named};
 pub use plan::Plan;
+pub use rename::RENAME_INHIBIT;
 pub use resolve::PlanFault;
 pub use restore::LoadedNode;
 pub use settings::Settings;
+pub use tails::{is_short_tail, settings_in};
 pub use touched::Touched;
 pub use typed::requests_are_typed;
 pub use volume::Volume;

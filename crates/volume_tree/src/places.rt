@@ -12,7 +12,7 @@ use std::alloc::Global;
 use volume_spec::laws::rows_are_changed_in_place;
 
 /// The name to which the last step of a path goes down.
-fn last_name(path: &Path) -> Option<&Name>
+pub fn last_name(path: &Path) -> Option<&Name>
     ensures { MatchOption result (before_down path.now.steps ≡ None) (λ name. before_down path.now.steps ≡ Some (take (length path.now.steps - 1) path.now.steps, name.now)) }
 {
     if path.len() == 0 {
@@ -25,7 +25,7 @@ fn last_name(path: &Path) -> Option<&Name>
 }
 
 /// A new name: that of a path of just one step down.
-pub(crate) fn only_name(path: &Path) -> Option<&Name>
+pub fn only_name(path: &Path) -> Option<&Name>
     ensures { MatchOption result (one_down path.now.steps ≡ Err Code.ParamErr) (λ name. one_down path.now.steps ≡ Ok name.now) }
 {
     if path.len() != 1 {
@@ -38,7 +38,7 @@ pub(crate) fn only_name(path: &Path) -> Option<&Name>
 }
 
 /// A new name, or the old one where the path is empty.
-pub(crate) fn new_name<'a>(old: &'a Name, path: &'a Path) -> Option<&'a Name>
+pub fn new_name<'a>(old: &'a Name, path: &'a Path) -> Option<&'a Name>
     ensures { MatchOption result (one_down_or old.now path.now.steps ≡ Err Code.ParamErr) (λ name. one_down_or old.now path.now.steps ≡ Ok name.now) }
 {
     if path.len() == 0 {
@@ -54,7 +54,7 @@ pub(crate) fn new_name<'a>(old: &'a Name, path: &'a Path) -> Option<&'a Name>
 }
 
 /// The steps down of a path are to names. The call does nothing.
-pub(crate) fn steps_are_named(path: &Path)
+pub fn steps_are_named(path: &Path)
     ensures { is_named_path path.now ≡ true }
 {
     for i in 0..path.len() {
@@ -75,7 +75,7 @@ fn is_named(step: &Step)
 
 impl Volume {
     /// The name of a node to which a path leads.
-    pub(crate) fn name_at(&self, dir: NodeId, path: &Path, id: NodeId) -> &Name
+    pub fn name_at(&self, dir: NodeId, path: &Path, id: NodeId) -> &Name
         requires { found self.now.state.rows dir.0 path.now ≡ Ok id.0 }
         ensures { result.now ≡ name_of self.now.state.rows id.0 }
     {
@@ -89,7 +89,7 @@ impl Volume {
 
     /// The new place that a path names: a directory, and the name in it.
     #[tactic(auto, unfolding(volume_spec::specs::Walk::new_place))]
-    pub(crate) fn new_place<'a>(
+    pub fn new_place<'a>(
         &self,
         alloc: Global,
         dir: NodeId,

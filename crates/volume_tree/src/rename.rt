@@ -16,7 +16,7 @@ use std::alloc::Global;
 use volume_spec::laws::{calls_keep_volumes_sound, rows_are_changed_in_place};
 
 /// The attribute of a node that may not get another name or place (AFP Reference, "File attributes").
-pub(crate) const RENAME_INHIBIT: u16 = 0x0080;
+pub const RENAME_INHIBIT: u16 = 0x0080;
 
 /// A node's new place, and the two directories whose children change, which may be one.
 #[derive(Clone, Copy)]

@@ -37,7 +37,7 @@ impl Volume {
 
     /// Where the first steps of a path lead from a directory. Where the last of them fails, `missing` is answered.
     #[tactic(auto, unfolding(volume_spec::specs::Walk::walk))]
-    pub(crate) fn walk(
+    pub fn walk(
         &self,
         alloc: Global,
         missing: Code,

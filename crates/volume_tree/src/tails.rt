@@ -94,14 +94,14 @@ fn bytes_asked(bits: u16) -> usize
 
 /// Whether a tail has fewer bytes than the fields that are asked.
 #[tactic(auto, unfolding(volume_spec::specs::SetFileDirParms::is_short_tail))]
-pub(crate) fn is_short_tail(bits: u16, tail: &[u8]) -> bool
+pub fn is_short_tail(bits: u16, tail: &[u8]) -> bool
     ensures { result ≡ is_short_tail bits tail.now }
 {
     tail.len() < bytes_asked(bits)
 }
 
 /// The settings that a tail holds.
-pub(crate) fn settings_in(bits: u16, tail: &[u8]) -> Settings
+pub fn settings_in(bits: u16, tail: &[u8]) -> Settings
     requires { is_short_tail bits tail.now ≡ false }
     ensures { result ≡ settings_in bits tail.now }
 {
