@@ -1,4 +1,3 @@
 pub mod FirstParts
-pub mod Numbers
 pub mod ReadUsers
 pub mod ReadVolumes

@@ -1,6 +1,6 @@
 -- What the words of the server's command line say (this profile).
 use Rattle.std.specs.Prelude.{◌≡◌, ℕ, ◌≤◌, ◌<◌, ◌^◌, List, [], Option, Some, None, Ok, codes}
-use Rattle.std.specs.Fmt.{decimal}
+use Rattle.std.specs.Str.Parse.{IsNumeral, digits_value, without_leading_plus}
 use Rattle.hex.specs.Hex.{decode_sized}
 use Rattle.afp_base.specs.Limits.{signature_size}
 use Rattle.clap.specs.Simple.{matches_of}
@@ -39,9 +39,15 @@ most_links = 1000000
 abbrev pub turns_limit : ℕ
 turns_limit = 2 ^ 63
 
--- The word behind a name is this number in decimal, without a sign or leading zeros.
-abbrev pub IsNumber : List Row → List ℕ → ℕ → Type 0
-IsNumber rows name number = first_of name rows ≡ Some (decimal number)
+-- decimal digits that are this number: leading zeros and a plus sign before them count for nothing
+abbrev pub SpellsNumber : List ℕ → ℕ → Type 0
+SpellsNumber text number = IsNumeral 10 (without_leading_plus text) × (digits_value 10 (without_leading_plus text) ≡ number)
+
+-- the word behind a name spells this number
+pub record IsNumber (rows : List Row) (name : List ℕ) (number : ℕ) : Type 0 where
+  pub text : List ℕ
+  pub found : first_of name rows ≡ Some text
+  pub spells : SpellsNumber text number
 
 -- no word names users, or one lists them
 abbrev pub SaysUsers : Option (List ℕ) → List UserValue → Type 0

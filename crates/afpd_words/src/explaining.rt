@@ -33,9 +33,6 @@ fn wrong_value(alloc: Global, matches: &ArgMatches<'_>) -> &'static str {
     if signature_in(matches).is_err() {
         return "error: --signature takes 32 hexadecimal digits\n";
     }
-    if numbers_in(alloc, matches).is_err() {
-        return "error: a number is spelt by decimal digits, without a sign or leading zeros\n";
-    }
     if users_in(alloc, matches).is_err() {
         return "error: --users takes NAME:PASSWORD,.. with passwords of at most 8 bytes\n";
     }

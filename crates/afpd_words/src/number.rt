@@ -1,24 +1,16 @@
 //! Numbers, as words spell them.
-ghost use Rattle.std.specs.Prelude.{◌≡◌, ℕ, ◌<◌, ◌^◌, IfOk, IsErrOf};
-ghost use Rattle.std.specs.Fmt.{decimal};
+ghost use Rattle.std.specs.Prelude.{ℕ, ◌<◌, ◌^◌, IfOk, IsErrOf};
+ghost use Rattle.afpd_words.specs.Words.{SpellsNumber};
 
 use crate::read::WordFault;
-use std::alloc::Global;
 
-/// The number that decimal digits spell, without a sign or leading zeros.
-pub fn number_of(alloc: Global, text: &str) -> Result<u64, WordFault>
-    ensures found { IfOk result (λ number. text.now ≡ decimal number) }
-    ensures bad { IsErrOf result WordFault.Bad → (number : ℕ) → number < 2 ^ 64 → text.now ≡ decimal number → ⊥ }
+/// The number that decimal digits spell; leading zeros and a plus sign before them count for nothing.
+pub fn number_of(text: &str) -> Result<u64, WordFault>
+    ensures found { IfOk result (λ number. SpellsNumber text.now number) }
+    ensures bad { IsErrOf result WordFault.Bad → (number : ℕ) → number < 2 ^ 64 → SpellsNumber text.now number → ⊥ }
 {
-    let Ok(number) = text.parse::<u64>() else {
-        return Err(WordFault::Bad);
-    };
-    let Ok(printed) = number.to_string(alloc) else {
-        return Err(WordFault::Memory);
-    };
-    if printed.as_str() == text {
-        Ok(number)
-    } else {
-        Err(WordFault::Bad)
+    match text.parse::<u64>() {
+        Ok(number) => Ok(number),
+        Err(_) => Err(WordFault::Bad),
     }
 }

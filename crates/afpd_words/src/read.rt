@@ -63,18 +63,12 @@ fn text_in<'a>(matches: &ArgMatches<'a>, name: &str) -> Result<&'a str, WordFaul
 }
 
 /// The number of a name, within its range.
-fn number_in(
-    alloc: Global,
-    matches: &ArgMatches<'_>,
-    name: &str,
-    least: u64,
-    most: u64,
-) -> Result<u64, WordFault>
+fn number_in(matches: &ArgMatches<'_>, name: &str, least: u64, most: u64) -> Result<u64, WordFault>
     ensures found { IfOk result (λ number. IsNumber (rows_of (found_of matches.now)) name.now number × (least ≤ number) × (number ≤ most)) }
     ensures bad { IsErrOf result WordFault.Bad → (number : ℕ) → IsNumber (rows_of (found_of matches.now)) name.now number → least ≤ number → number ≤ most → ⊥ }
 {
     let text = text_in(matches, name)?;
-    let number = number_of(alloc, text)?;
+    let number = number_of(text)?;
     if number < least || number > most {
         return Err(WordFault::Bad);
     }
@@ -82,14 +76,14 @@ fn number_in(
 }
 
 /// The numbers.
-pub(crate) fn numbers_in(alloc: Global, matches: &ArgMatches<'_>) -> Result<Numbers, WordFault>
+pub(crate) fn numbers_in(matches: &ArgMatches<'_>) -> Result<Numbers, WordFault>
     ensures found { IfOk result (λ numbers. SaysNumbers (rows_of (found_of matches.now)) (record { port = numbers.port; workers = numbers.workers; links = numbers.links; turns = numbers.turns })) }
     ensures bad { IsErrOf result WordFault.Bad → (values : NumberValues) → SaysNumbers (rows_of (found_of matches.now)) values → ⊥ }
 {
-    let port = number_in(alloc, matches, "port", 0, 65_535)?;
-    let workers = number_in(alloc, matches, "workers", 1, 16)?;
-    let links = number_in(alloc, matches, "links", 0, 1_000_000)?;
-    let turns = number_in(alloc, matches, "turns", 0, 9_223_372_036_854_775_807)?;
+    let port = number_in(matches, "port", 0, 65_535)?;
+    let workers = number_in(matches, "workers", 1, 16)?;
+    let links = number_in(matches, "links", 0, 1_000_000)?;
+    let turns = number_in(matches, "turns", 0, 9_223_372_036_854_775_807)?;
     Ok(Numbers {
         port: port as u16,
         workers: workers as u8,
@@ -154,7 +148,7 @@ fn words_in<'a>(alloc: Global, matches: &ArgMatches<'a>) -> Result<ServerWords<'
     let server = text_in(matches, "server")?;
     let message = text_in(matches, "message")?;
     let signature = signature_in(matches)?;
-    let numbers = numbers_in(alloc, matches)?;
+    let numbers = numbers_in(matches)?;
     let users = users_in(alloc, matches)?;
     let volumes = volumes_in(alloc, matches)?;
     Ok(ServerWords {
