@@ -4,7 +4,8 @@ ghost use Rattle.std.specs.List.{list_all};
 ghost use Rattle.volume_spec.specs.EditLaws.{MayEditAll};
 ghost use Rattle.volume_spec.specs.EditRanges.{is_typed_edit};
 ghost use Rattle.volume_edits.specs.Planned.{StandOn, edits_of};
-ghost use Rattle.volume_commits.specs.Commits.{Commits, Settles};
+ghost use Rattle.volume_keeper_commit.specs.Changing.{Settles};
+ghost use Rattle.volume_keeper_commit.specs.Commits.{Commits};
 
 use crate::kept::KeptVolume;
 use record_keeper::{Keeper, KeeperFault};
