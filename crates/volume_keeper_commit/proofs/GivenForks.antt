@@ -1,36 +1,31 @@
 -- What is owed where a fork gets other bytes.
 use Rattle.std.proofs.Common.{◌==◌, ◌≡◌, ◌∙◌, ap, sym, refl, subst, ℕ, ◌+◌, ◌<◌, ◌≤◌, arith, Bool, true, false, not, List, [], ◌∷◌, ◌++◌, ◌-◌, length, max, min, replicate, take, append-nil, Option, Some, None, inl, inr}
-use Rattle.std.specs.Prelude.{Result, Ok, Err, IfSome, nat_lt}
+use Rattle.std.specs.Prelude.{Result, Ok, Err, nat_lt}
 use Rattle.std.proofs.Math.Seq.{take-length}
-use Rattle.std.proofs.lemmas.Bool.{cases_lt, eq-eqb, lt-ltb}
+use Rattle.std.proofs.lemmas.Bool.{cases_lt, eq-eqb, le-ltb, lt-ltb}
 use Rattle.std.proofs.lemmas.Option.{same_Some}
 use Rattle.afp_base.proofs.DefinitionLaws.{length-resized}
 use Rattle.afp_base.specs.ForkBytes.{Reaches, resized, splice}
+use Rattle.fork_bytes.specs.Plan.{ForkWriteState}
 use Rattle.volume_spec.proofs.Formed.{limit-parts}
-use Rattle.volume_spec.proofs.ForkEffects.{room-left}
 use Rattle.volume_spec.specs.ForkEffect.{fork_effect, fork_of, would_pass}
 use Rattle.afp_base.specs.Limits.{most_fork_bytes}
 use Rattle.volume_spec.specs.SoundVolume.{IsSoundVolume, fork_bytes, has_file}
+use Rattle.volume_spec.specs.TypedVolume.{are_bytes}
 use Rattle.volume_spec.specs.VolumeState.{Row, VolumeState}
 use Rattle.volume_spec.specs.Walk.{row_at}
 use Rattle.volume_spec.specs.ForkLaws.{ForksAreFew, RoomIsFew}
-use Rattle.fork_bytes.specs.Kept.{is_empty}
-use Rattle.fork_bytes.specs.Plan.{ForkPlanState, IsForkPlan}
-use Rattle.volume_keeper_commit.proofs.Files.{file_kind, fork_is, found_in}
+use Rattle.volume_keeper_commit.proofs.Files.{fork_is, found_in}
 use Rattle.volume_keeper_commit.specs.ForkChanging.{GivesBytes, given}
-use Rattle.volume_keeper_commit.specs.lemma.ForkChanging.{Commits}
+use Rattle.volume_keeper_commit.specs.lemma.CarriedOut.{IsCarriedOut, IsWriteOf}
 use Rattle.volume_keeper_commit.specs.Kept.{KeptState}
 use Rattle.volume_keeper_commit.specs.declared.change.ChangeFault.{ChangeFault}
 use Rattle.volume_keeper_commit.specs.declared.change.ChangeFault.TheVariants.{Refused, Failed, Memory}
-use Rattle.record_keeper.specs.declared.record.Change.{Change}
-use Rattle.record_keeper.specs.Records.{Makes, Records, changed}
-use Rattle.volume_keeper.proofs.ForkTold.{has_room}
-use Rattle.volume_tree.specs.ForkEffect.{IsForkChange}
-use Rattle.volume_tree.specs.Shown.{fork_at}
 
 -- as many bytes pass no total
 same_fits : (v : VolumeState) → IsSoundVolume v → (n : ℕ) → would_pass v n n ≡ false
-same_fits v sound n = has_room v n n (let few : fork_bytes v.rows ≤ most_fork_bytes = (limit-parts v sound.limits).bytes in omega (arith, few))
+unfolding would_pass
+same_fits v sound n = le-ltb (most_fork_bytes + n) (fork_bytes v.rows + n) (let few : fork_bytes v.rows ≤ most_fork_bytes = (limit-parts v sound.limits).bytes in omega (arith, few))
 
 -- nothing is given
 pub nothing_given : (old : KeptState) → IsSoundVolume old.state → (now id : ℕ) (resource writes : Bool) (before after : List ℕ) → writes ≡ false → after ≡ before
@@ -45,25 +40,30 @@ no_piece old (b ∷ bs) start e = absurd (omega (arith, e))
 pub no_bytes : (n : ℕ) → n ≡ 0 → nat_lt 0 n ≡ false
 no_bytes n e = ap (nat_lt 0) e
 
--- what was committed is given
-pub committed_given : (old : KeptState) (now id : ℕ) (resource writes told : Bool) (before after : List ℕ) → writes ≡ true → told ≡ true → would_pass old.state (length before) (length after) ≡ false → (result : Result (Unit {0}) ChangeFault) (new : KeptState)
-    → Commits old (fork_effect now id resource after told old.state) result new → GivesBytes old now id resource writes before after result new
-committed_given old now id resource writes told before after some is room (Ok done) new c =
-    (room, c ∙ ap (λ b. record old { state = fork_effect now id resource after b old.state }) is ∙ ap (λ b. record old { state = given now id resource b after old.state }) (sym some))
-committed_given old now id resource writes told before after some is room (Err (Refused code)) new c = absurd c
-committed_given old now id resource writes told before after some is room (Err Failed) new c = (room, some, c.0, c.1)
-committed_given old now id resource writes told before after some is room (Err Memory) new c = c
+-- what was carried out is given
+pub carried_given : (old : KeptState) (now id : ℕ) (resource writes : Bool) (before after : List ℕ) → writes ≡ true → would_pass old.state (length before) (length after) ≡ false → (result : Result (Unit {0}) ChangeFault) (new : KeptState)
+    → IsCarriedOut old (fork_effect now id resource after true old.state) result new → GivesBytes old now id resource writes before after result new
+carried_given old now id resource writes before after some room (Ok done) new c = (room, c ∙ ap (λ b. record old { state = given now id resource b after old.state }) (sym some))
+carried_given old now id resource writes before after some room (Err (Refused code)) new c = absurd c
+carried_given old now id resource writes before after some room (Err Failed) new c = (room, some, c.0, c.1)
+carried_given old now id resource writes before after some room (Err Memory) new c = c
 
--- a plan of a fork for which there is room
-abbrev pub as_change : (v : VolumeState) → IsSoundVolume v → (id : ℕ) (resource : Bool) (file : Row) → has_file v.rows id ≡ true → row_at v.rows id ≡ Some file → (before after : List ℕ) (plan : ForkPlanState) → before ≡ fork_of resource file
-    → would_pass v (length before) (length after) ≡ false → IsForkPlan before after plan → IsForkChange v id resource plan
-as_change v sound id resource file e found before after plan is room plans = record {
-  before = before;
-  after = after;
-  there = fork_is v.rows id resource file found (file_kind v sound id file e found) ∙ ap (λ (l : List ℕ). Some l) (sym is);
-  plans = plans;
-  fits = room-left v (length before) (length after) room;
-}
+-- what is written is a write of the file's fork as it is
+pub write_of : (v : VolumeState) → IsSoundVolume v → (id : ℕ) (resource : Bool) → has_file v.rows id ≡ true → (bytes wanted : List ℕ) → ((file : Row) → row_at v.rows id ≡ Some file → bytes ≡ fork_of resource file)
+    → would_pass v (length bytes) (length wanted) ≡ false → are_bytes wanted ≡ true → (write : ForkWriteState) → write.before ≡ bytes → write.after ≡ wanted → IsWriteOf v id resource write
+write_of v sound id resource e bytes wanted told room small write before after =
+    let it = found_in v sound id e in
+    let own : bytes ≡ fork_of resource it.file = told it.file it.found in
+    record {
+      may = record {
+        file = it.file;
+        found = it.found;
+        is_file = it.is_file;
+        room = (λ i. would_pass v (length (sym own i)) (length (after i))) ∙ room;
+      };
+      before = fork_is v.rows id resource it.file it.found it.is_file ∙ ap (λ (l : List ℕ). Some l) (sym (before ∙ own));
+      typed = ap are_bytes after ∙ small;
+    }
 
 -- the place behind a piece, where numbers of 64 bits end below it, passes as the place itself does
 pub same_pass : Reaches → (v : VolumeState) (before piece : List ℕ) (start : ℕ) → (0 < length piece) → length before ≤ most_fork_bytes
@@ -99,22 +99,6 @@ saturated v old new used sum used_is sum_is few = ap (nat_lt (most_fork_bytes + 
       | inr near ↦ let same : min (used + new) 18446744073709551615 ≡ used + new = omega (arith, near) in ap (nat_lt (most_fork_bytes + old)) same
     ]
 
--- the change of a volume is one of the same volume
-abbrev pub same_change : (v w : VolumeState) → v ≡ w → (id : ℕ) (resource : Bool) (plan : ForkPlanState) → IsForkChange w id resource plan → IsForkChange v id resource plan
-same_change v w is id resource plan change = record {
-  before = change.before;
-  after = change.after;
-  there = ap (λ (u : VolumeState). fork_at u.rows id resource) is ∙ change.there;
-  plans = change.plans;
-  fits = subst (λ (u : VolumeState). fork_bytes u.rows + length change.after ≤ most_fork_bytes + length change.before) (sym is) change.fits;
-}
-
--- what a keeper holds after changes
-pub held_after : (old new : Option Records) (cs : List Change) (first last : Records) → IfSome old (λ (kept : Records). kept ≡ first) → Makes (changed cs) old new → changed cs first ≡ last → IfSome new (λ (kept : Records). kept ≡ last)
-held_after old None cs first last is makes turns = tt
-held_after None (Some n) cs first last is makes turns = absurd (cc)
-held_after (Some o) (Some n) cs first last is makes turns = same_Some n (changed cs o) makes ∙ ap (changed cs) is ∙ turns
-
 -- the file whose fork is changed
 pub file_few : ForksAreFew → (v : VolumeState) → IsSoundVolume v → (id : ℕ) (resource : Bool) (bytes : List ℕ) → has_file v.rows id ≡ true → ((file : Row) → row_at v.rows id ≡ Some file → bytes ≡ fork_of resource file) → length bytes ≤ most_fork_bytes
 file_few law v sound id resource bytes e told =
@@ -126,19 +110,9 @@ new_few law v sound id resource bytes new e told room =
     let it = found_in v sound id e in
     law v id resource it.file new it.found (ap (λ (l : List ℕ). would_pass v (length l) new) (sym (told it.file it.found)) ∙ room)
 
-abbrev pub own_change : (v : VolumeState) → IsSoundVolume v → (id : ℕ) (resource : Bool) → has_file v.rows id ≡ true → (before after : List ℕ) (plan : ForkPlanState) → ((file : Row) → row_at v.rows id ≡ Some file → before ≡ fork_of resource file)
-    → would_pass v (length before) (length after) ≡ false → IsForkPlan before after plan → IsForkChange v id resource plan
-own_change v sound id resource e before after plan told room plans =
-    let it = found_in v sound id e in
-    as_change v sound id resource it.file e it.found before after plan (told it.file it.found) room plans
-
 pub some_bytes : (piece : List ℕ) → (length piece == 0) ≡ false → 0 < length piece
 some_bytes [] e = absurd (cc)
 some_bytes (b ∷ bs) e = omega arith
-
-pub is_written : (piece : List ℕ) → (0 < length piece) → not (is_empty piece) ≡ true
-is_written [] e = absurd (omega arith)
-is_written (b ∷ bs) e = refl
 
 -- another length
 pub length_passes : (v : VolumeState) (bytes : List ℕ) (len : ℕ) → would_pass v (length bytes) (length (resized bytes len)) ≡ would_pass v (length bytes) len

@@ -2,4 +2,5 @@ mod Telling
 mod Loads
 mod Files
 mod GivenForks
+mod WrittenBytes
 mod Lines

@@ -1,5 +1,6 @@
 pub mod Kept
 pub mod Changing
+pub mod Commits
 pub mod Loading
 pub mod ForkChanging
 pub mod LineLaws

@@ -1,6 +1,12 @@
-//! Calls that change a volume, and settling.
-ghost use Rattle.std.specs.Prelude.{IfSome, IsSome};
-ghost use Rattle.volume_keeper_commit.specs.Changing.{Changes, Settles};
+//! Calls that change a volume.
+ghost use Rattle.std.specs.Prelude.{◌≡◌, true, IfSome, IsSome};
+ghost use Rattle.std.specs.List.{list_all};
+ghost use Rattle.volume_spec.specs.Edit.{after_call};
+ghost use Rattle.volume_spec.specs.EditLaws.{MayEditAll};
+ghost use Rattle.volume_spec.specs.EditRanges.{is_typed_edit};
+ghost use Rattle.volume_edits.specs.Planned.{StandOn, edits_of};
+ghost use Rattle.volume_keeper_commit.specs.Changing.{Changes};
+ghost use Rattle.volume_keeper_commit.specs.lemma.CarriedOut.{IsCarriedOut};
 ghost use Rattle.volume_tree.specs.Requests.{tree_call};
 ghost use Rattle.volume_tree.specs.Shown.{opened};
 
@@ -10,7 +16,8 @@ use afp_calls_grammar::Call;
 use deny_modes::VolumeOpens;
 use record_keeper::{Keeper, KeeperFault};
 use std::alloc::Global;
-use volume_keeper::tree_changes;
+use volume_edits::Plan;
+use volume_plans::plan_tree_call;
 use volume_tree::PlanFault;
 
 /// Why a call changed nothing.
@@ -25,6 +32,20 @@ pub enum ChangeFault {
 }
 
 impl<K: Keeper> KeptVolume<K> {
+    /// Commits the plan of a call.
+    pub(crate) fn carry_out(&mut self, alloc: Global, plan: Plan) -> Result<(), ChangeFault>
+        requires may { MayEditAll self.old.state (edits_of plan.edits) }
+        requires before { StandOn self.old.state plan.edits }
+        requires typed { list_all is_typed_edit (edits_of plan.edits) ≡ true }
+        ensures { IsCarriedOut self.old (after_call self.old.state plan.moment (edits_of plan.edits)) result self.new }
+    {
+        match self.commit(alloc, plan) {
+            Ok(()) => Ok(()),
+            Err(KeeperFault::Failed) => Err(ChangeFault::Failed),
+            Err(KeeperFault::Memory) => Err(ChangeFault::Memory),
+        }
+    }
+
     /// Carries a call out that changes the volume's tree: its changes are committed to the keeper, then the volume changes, for
     /// which no memory is taken. `opens` tells which forks of the volume are open. At an error nothing has changed but, beside `Failed`, the
     /// keeper's count.
@@ -38,31 +59,11 @@ impl<K: Keeper> KeptVolume<K> {
         requires { IsSome (tree_call call.now) }
         ensures { IfSome (tree_call call.now) (λ call. Changes self.old now (opened opens.now) call result self.new) }
     {
-        let plan = match self.held.plan(alloc, now, opens, call) {
+        let plan = match plan_tree_call(alloc, &self.whole, now, opens, call) {
             Ok(plan) => plan,
             Err(PlanFault::Code(code)) => return Err(ChangeFault::Refused(code)),
             Err(PlanFault::Memory) => return Err(ChangeFault::Memory),
         };
-        let Ok(changes) = tree_changes(alloc, &self.held, &plan) else {
-            return Err(ChangeFault::Memory);
-        };
-        if self.held.reserve(alloc).is_err() {
-            return Err(ChangeFault::Memory);
-        }
-        match self.keeper.commit(alloc, changes.as_slice()) {
-            Ok(()) => {
-                self.held.apply(plan);
-                Ok(())
-            }
-            Err(KeeperFault::Failed) => Err(ChangeFault::Failed),
-            Err(KeeperFault::Memory) => Err(ChangeFault::Memory),
-        }
-    }
-
-    /// Has what was committed outlast the keeper.
-    pub fn settle(&mut self) -> Result<(), KeeperFault>
-        ensures { Settles self.old result self.new }
-    {
-        self.keeper.settle()
+        self.carry_out(alloc, plan)
     }
 }

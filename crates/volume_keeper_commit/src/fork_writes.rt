@@ -1,58 +1,77 @@
 //! Other bytes of a fork of a volume beside its keeper.
-ghost use Rattle.std.specs.Prelude.{◌≡◌, ◌==◌, ◌≤◌, nat_lt, not, Some, true, length};
+ghost use Rattle.std.specs.Prelude.{◌≡◌, ◌==◌, ◌≤◌, nat_lt, not, pos, Some, true, length, IfOk};
 ghost use Rattle.afp_base.specs.ForkBytes.{resized, splice};
-ghost use Rattle.volume_spec.specs.ForkEffect.{fork_effect, fork_of, would_pass};
 ghost use Rattle.afp_base.specs.Limits.{most_fork_bytes};
+ghost use Rattle.volume_spec.specs.ForkEffect.{fork_effect, fork_of, would_pass};
 ghost use Rattle.volume_spec.specs.SoundVolume.{has_file};
+ghost use Rattle.volume_spec.specs.TypedVolume.{is_date};
 ghost use Rattle.volume_spec.specs.VolumeState.{Row};
 ghost use Rattle.volume_spec.specs.Walk.{row_at};
 ghost use Rattle.volume_keeper_commit.specs.ForkChanging.{GivesBytes};
-ghost use Rattle.volume_keeper_commit.specs.lemma.ForkChanging.{Commits};
-ghost use Rattle.volume_tree.specs.ForkEffect.{IsForkChange};
+ghost use Rattle.volume_keeper_commit.specs.lemma.CarriedOut.{IsCarriedOut, IsWriteOf, plan_of_write};
 
 use crate::change::ChangeFault;
 use crate::forks::fork_in;
 use crate::kept::KeptVolume;
 use afp_base::laws::splice_puts_between;
-use afp_base::{Code, MOST_FORK_BYTES, Moment, NodeId};
-use fork_bytes::ForkPlan;
-use record_keeper::{Keeper, KeeperFault};
+use afp_base::{Code, MOST_FORK_BYTES, Moment, NodeId, OutOfMemory};
+use fork_bytes::ForkWrite;
+use record_keeper::Keeper;
 use std::alloc::Global;
-use volume_keeper::{Held, fork_changes};
+use volume_edits::{Edit, Plan, WholeVolume};
+use volume_spec::bytes_in_range;
+use volume_spec::edit_laws::effects_are_edits;
 use volume_spec::laws::forks_are_given_bytes;
 
 /// Whether the bytes of all forks would pass the total, if a fork of so many bytes had so many others.
-fn would_pass(held: &Held, old: u64, new: u64) -> bool
+fn would_pass(whole: &WholeVolume, old: u64, new: u64) -> bool
     requires { old ≤ most_fork_bytes }
-    ensures { result ≡ would_pass held.now.state old new }
+    ensures { result ≡ would_pass whole.now.state old new }
 {
-    held.volume.used().saturating_add(new) > MOST_FORK_BYTES + old
+    whole.tree.used().saturating_add(new) > MOST_FORK_BYTES + old
+}
+
+/// A moment is a date. The call does nothing.
+fn date_in_range(now: Moment)
+    ensures { is_date (pos now) ≡ true }
+{
+    let _ = now.seconds();
+}
+
+/// The plan of a write of a fork of a file, at a moment. The one error is want of memory.
+fn plan_of_write(
+    alloc: Global,
+    now: Moment,
+    id: NodeId,
+    resource: bool,
+    write: ForkWrite,
+) -> Result<Plan, OutOfMemory>
+    ensures { IfOk result (λ plan. plan ≡ plan_of_write now id.0 resource write) }
+{
+    let mut edits = Vec::new(alloc);
+    edits.push(Edit::writes(now, id, resource, write))?;
+    Ok(Plan::new(now, edits))
 }
 
 impl<K: Keeper> KeptVolume<K> {
-    /// Commits the changes of a plan of a fork of a file to the keeper, and then carries it out, for which no memory is taken.
-    fn carry_out(
+    /// Commits a write of a fork of a file.
+    fn write_out(
         &mut self,
         alloc: Global,
         now: Moment,
         id: NodeId,
         resource: bool,
-        plan: ForkPlan,
+        write: ForkWrite,
     ) -> Result<(), ChangeFault>
-        requires { IsForkChange self.old.state id.0 resource plan }
-        ensures { (change : IsForkChange self.old.state id.0 resource plan) → Commits self.old (fork_effect now id.0 resource change.after plan.writes self.old.state) result self.new }
+        requires { IsWriteOf self.old.state id.0 resource write }
+        ensures { IsCarriedOut self.old (fork_effect now id.0 resource write.after true self.old.state) result self.new }
     {
-        let Ok(changes) = fork_changes(alloc, &self.held, now, id, resource, &plan) else {
+        effects_are_edits();
+        date_in_range(now);
+        let Ok(plan) = plan_of_write(alloc, now, id, resource, write) else {
             return Err(ChangeFault::Memory);
         };
-        match self.keeper.commit(alloc, changes.as_slice()) {
-            Ok(()) => {
-                self.held.apply_fork(alloc, now, id, resource, plan);
-                Ok(())
-            }
-            Err(KeeperFault::Failed) => Err(ChangeFault::Failed),
-            Err(KeeperFault::Memory) => Err(ChangeFault::Memory),
-        }
+        self.carry_out(alloc, plan)
     }
 
     /// Gives a file's fork a piece from `start` on, a byte from the fork's start: the change is committed to the keeper, then the volume changes.
@@ -73,19 +92,21 @@ impl<K: Keeper> KeptVolume<K> {
     {
         forks_are_given_bytes();
         splice_puts_between();
-        self.held.keeps_sound();
+        self.whole.keeps_sound();
         if piece.is_empty() {
             return Ok(());
         }
-        let fork = fork_in(&self.held, id, resource);
+        let fork = fork_in(&self.whole, id, resource);
         let end = start.saturating_add(piece.len() as u64);
-        if would_pass(&self.held, fork.len(), fork.len().max(end)) {
+        if would_pass(&self.whole, fork.len(), fork.len().max(end)) {
             return Err(ChangeFault::Refused(Code::DiskFull));
         }
         let Ok(plan) = fork.plan_write(alloc, start, piece) else {
             return Err(ChangeFault::Memory);
         };
-        self.carry_out(alloc, now, id, resource, plan)
+        let write = ForkWrite::of(fork, plan);
+        bytes_in_range(piece);
+        self.write_out(alloc, now, id, resource, write)
     }
 
     /// Gives a file's fork another length: the change is committed to the keeper, then the volume changes. Bytes behind the length go, and new ones
@@ -103,17 +124,18 @@ impl<K: Keeper> KeptVolume<K> {
             → GivesBytes self.old now id.0 resource (not (len == length (fork_of resource file))) (fork_of resource file) (resized (fork_of resource file) len) result self.new }
     {
         forks_are_given_bytes();
-        self.held.keeps_sound();
-        let fork = fork_in(&self.held, id, resource);
+        self.whole.keeps_sound();
+        let fork = fork_in(&self.whole, id, resource);
         if len == fork.len() {
             return Ok(());
         }
-        if would_pass(&self.held, fork.len(), len) {
+        if would_pass(&self.whole, fork.len(), len) {
             return Err(ChangeFault::Refused(Code::DiskFull));
         }
         let Ok(plan) = fork.plan_set_length(alloc, len) else {
             return Err(ChangeFault::Memory);
         };
-        self.carry_out(alloc, now, id, resource, plan)
+        let write = ForkWrite::of(fork, plan);
+        self.write_out(alloc, now, id, resource, write)
     }
 }

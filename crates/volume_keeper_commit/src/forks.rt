@@ -18,16 +18,16 @@ use deny_modes::VolumeOpens;
 use fork_bytes::Fork;
 use record_keeper::Keeper;
 use std::alloc::Global;
-use volume_keeper::Held;
+use volume_edits::WholeVolume;
 use volume_spec::laws::forks_are_given_bytes;
 
 /// The fork of an id that is a file's.
-pub(crate) fn fork_in(held: &Held, id: NodeId, resource: bool) -> &Fork
-    requires { has_file held.now.state.rows id.0 ≡ true }
-    ensures { (file : Row) → row_at held.now.state.rows id.0 ≡ Some file → result.now ≡ fork_of resource file }
+pub(crate) fn fork_in(whole: &WholeVolume, id: NodeId, resource: bool) -> &Fork
+    requires { has_file whole.now.state.rows id.0 ≡ true }
+    ensures { (file : Row) → row_at whole.now.state.rows id.0 ≡ Some file → result.now ≡ fork_of resource file }
 {
-    held.keeps_sound();
-    match held.volume.fork(id, resource) {
+    whole.keeps_sound();
+    match whole.tree.fork(id, resource) {
         Some(fork) => fork,
         None => unreachable!(),
     }
@@ -38,9 +38,9 @@ impl<K: Keeper> KeptVolume<K> {
     pub fn has_file(&self, id: NodeId) -> bool
         ensures { result ≡ has_file self.now.state.rows id.0 }
     {
-        let held = &self.held;
-        held.keeps_sound();
-        match held.volume.node(id) {
+        let whole = &self.whole;
+        whole.keeps_sound();
+        match whole.tree.node(id) {
             Some(node) => !node.dir,
             None => false,
         }
@@ -53,8 +53,8 @@ impl<K: Keeper> KeptVolume<K> {
         ensures few { result ≤ most_fork_bytes }
     {
         forks_are_given_bytes();
-        self.held.keeps_sound();
-        let fork = fork_in(&self.held, id, resource);
+        self.whole.keeps_sound();
+        let fork = fork_in(&self.whole, id, resource);
         fork.len()
     }
 
@@ -71,7 +71,7 @@ impl<K: Keeper> KeptVolume<K> {
         ensures ok { OnOk result ((file : Row) → row_at self.now.state.rows id.0 ≡ Some file → out.new ≡ out.old ++ taken (fork_of resource file) from count) }
         ensures err { OnErr result (out.new ≡ out.old) }
     {
-        let fork = fork_in(&self.held, id, resource);
+        let fork = fork_in(&self.whole, id, resource);
         fork.read(from, count, out)
     }
 
@@ -92,7 +92,7 @@ impl<K: Keeper> KeptVolume<K> {
         ensures ok { OnOk result ((file : Row) → row_at self.now.state.rows id.0 ≡ Some file → out.new ≡ out.old ++ (line_of mask end (taken (fork_of resource file) from count)).bytes) }
         ensures err { OnErr result (out.new ≡ out.old) }
     {
-        let fork = fork_in(&self.held, id, resource);
+        let fork = fork_in(&self.whole, id, resource);
         fork.read_line(from, count, mask, end, out)
     }
 
@@ -110,9 +110,9 @@ impl<K: Keeper> KeptVolume<K> {
         ensures ok { OnOk result ((file : Row) → row_at self.now.state.rows id.0 ≡ Some file → out.new ≡ out.old ++ params bits (fork_values (opened opens.now) bits file)) }
         ensures err { OnErr result (out.new ≡ out.old) }
     {
-        let held = &self.held;
-        held.keeps_sound();
-        match volume_tree_replies::node_params(alloc, &held.volume, id, opens, bits, 0, out) {
+        let whole = &self.whole;
+        whole.keeps_sound();
+        match volume_tree_replies::node_params(alloc, &whole.tree, id, opens, bits, 0, out) {
             Ok(_) => Ok(()),
             Err(fault) => Err(fault),
         }

@@ -5,15 +5,15 @@ ghost use Rattle.volume_keeper_records.specs.Image.{kept_image};
 
 use record_keeper::Keeper;
 use std::marker::Model;
-use volume_keeper::Held;
+use volume_edits::WholeVolume;
 
-/// A volume, and the keeper that holds its records.
+/// A volume with its desktop database, and the keeper that holds its records.
 ///
 /// Contracts see the volume, the count of the keeper's faults, whether the keeper is sure, and what its settles answered.
 #[derive(Drop)]
 pub struct KeptVolume<K: Keeper> {
     pub(crate) keeper: K,
-    pub(crate) held: Held,
+    pub(crate) whole: WholeVolume,
 }
 
 impl<K: Keeper> Model for KeptVolume<K> {
@@ -24,9 +24,9 @@ impl<K: Keeper> Model for KeptVolume<K> {
 
     ghost Value = { KeptState };
 
-    ghost view = { λ a. record { state = a.held.state; faults = K.faults a.keeper; sure = K.sure a.keeper; settles = K.settles a.keeper } };
+    ghost view = { λ a. record { state = a.whole.state; faults = K.faults a.keeper; sure = K.sure a.keeper; settles = K.settles a.keeper } };
 
-    ghost invariant = { λ a. IfSome (K.records a.keeper) (λ (kept : Records). kept ≡ kept_image a.held.state) };
+    ghost invariant = { λ a. IfSome (K.records a.keeper) (λ (kept : Records). kept ≡ kept_image a.whole.state) };
 }
 
 impl<K: Keeper> KeptVolume<K> {
@@ -40,11 +40,18 @@ impl<K: Keeper> KeptVolume<K> {
         &self.keeper
     }
 
+    /// The volume, of which plans are made.
+    pub fn whole(&self) -> &WholeVolume
+        ensures { result.now.state ≡ self.now.state }
+    {
+        &self.whole
+    }
+
     /// The id that the next new node draws, 4,294,967,296 where the ids have ended.
     pub fn next_id(&self) -> u64
         ensures { result ≡ self.now.state.next_id }
     {
-        let head = self.held.volume.head();
+        let head = self.whole.tree.head();
         head.next_id
     }
 
@@ -52,6 +59,6 @@ impl<K: Keeper> KeptVolume<K> {
     pub fn count(&self) -> usize
         ensures { result ≡ length self.now.state.rows }
     {
-        self.held.volume.count()
+        self.whole.tree.count()
     }
 }

@@ -2,6 +2,7 @@
 #![tactic(auto)]
 
 mod change;
+mod commit;
 mod fork_writes;
 mod forks;
 mod kept;

@@ -10,7 +10,20 @@ use crate::kept::KeptVolume;
 use afp_base::Moment;
 use record_keeper::Keeper;
 use std::alloc::Global;
-use volume_keeper::{LoadFault, load};
+use volume_edits::WholeVolume;
+use volume_keeper::{Held, LoadFault, load};
+
+/// A held volume as a whole.
+fn whole_of(held: Held) -> WholeVolume
+    ensures { result.state ≡ held.state }
+{
+    held.keeps_sound();
+    let Held { volume, desktop } = held;
+    WholeVolume {
+        tree: volume,
+        desktop,
+    }
+}
 
 impl<K: Keeper> KeptVolume<K> {
     /// The volume of that name that the keeper holds, or a new one, made at the moment, where it holds nothing. `BadRecord` comes exactly where a
@@ -30,8 +43,9 @@ impl<K: Keeper> KeptVolume<K> {
         let mut keeper = keeper;
         match load(alloc, &mut keeper, name, now) {
             Ok(held) => {
-                held.keeps_sound();
-                Ok(KeptVolume { keeper, held })
+                let whole = whole_of(held);
+                whole.keeps_sound();
+                Ok(KeptVolume { keeper, whole })
             }
             Err(fault) => Err(fault),
         }

@@ -39,8 +39,8 @@ impl<K: Keeper> KeptVolume<K> {
         ensures ok { OnOk result (out.new ≡ out.old ++ canonical_reply (Params bits (VolumeOf (volume_values self.now.state id.0 bits)))) }
         ensures err { OnErr result (out.new ≡ out.old) }
     {
-        let held = &self.held;
-        volume_tree_replies::get_vol_parms(alloc, &held.volume, id, bits, out)
+        let whole = &self.whole;
+        volume_tree_replies::get_vol_parms(alloc, &whole.tree, id, bits, out)
     }
 
     /// FPOpenDir on the volume.
@@ -48,8 +48,8 @@ impl<K: Keeper> KeptVolume<K> {
         ensures refused { Refuses result (open_dir_refusal self.now.state dir.0 path.now) }
         ensures id { IfOk result (λ id. open_dir_id self.now.state dir.0 path.now ≡ Some id.0) }
     {
-        let held = &self.held;
-        volume_tree_replies::open_dir(alloc, &held.volume, dir, path)
+        let whole = &self.whole;
+        volume_tree_replies::open_dir(alloc, &whole.tree, dir, path)
     }
 
     /// The id of the file that FPOpenFork finds on the volume, or why the volume refuses that. `bits` are those of what is to be told of the file, and
@@ -67,8 +67,8 @@ impl<K: Keeper> KeptVolume<K> {
         ensures found { IfOk result (λ id. open_fork_file self.now.state dir.0 path.now ≡ row_at self.now.state.rows id.0) }
         ensures id { IfOk result (λ id. option_map (λ (file : Row). file.id) (open_fork_file self.now.state dir.0 path.now) ≡ Some id.0) }
     {
-        let held = &self.held;
-        volume_tree_replies::open_fork(alloc, &held.volume, bits, writes, dir, path)
+        let whole = &self.whole;
+        volume_tree_replies::open_fork(alloc, &whole.tree, bits, writes, dir, path)
     }
 
     /// FPGetFileDirParms on the volume with these open forks: its reply's bytes, at the end of `out`. An error leaves `out`.
@@ -87,11 +87,11 @@ impl<K: Keeper> KeptVolume<K> {
         ensures err { OnErr result (out.new ≡ out.old) }
     {
         values_are_those_asked_for();
-        let held = &self.held;
-        held.volume.keeps_sound();
+        let whole = &self.whole;
+        whole.tree.keeps_sound();
         volume_tree_replies::get_file_dir_parms(
             alloc,
-            &held.volume,
+            &whole.tree,
             opens,
             file_bits,
             dir_bits,
@@ -115,7 +115,7 @@ impl<K: Keeper> KeptVolume<K> {
         ensures ok { OnOk result (out.new ≡ out.old ++ canonical_reply (enumerate_reply self.now.state (opened opens.now) asked dir.0 path.now)) }
         ensures err { OnErr result (out.new ≡ out.old) }
     {
-        let held = &self.held;
-        volume_tree_replies::list(alloc, &held.volume, opens, &asked, dir, path, out)
+        let whole = &self.whole;
+        volume_tree_replies::list(alloc, &whole.tree, opens, &asked, dir, path, out)
     }
 }

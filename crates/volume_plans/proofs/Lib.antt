@@ -1,3 +1,5 @@
 pub mod Calls
 pub mod Passing
+pub mod TreeCalls
+pub mod TreeEdits
 pub mod Typed

@@ -1,11 +1,13 @@
-//! Plans of one edit.
-ghost use Rattle.std.specs.Prelude.{◌≡◌, ◌∷◌, [], pos, true};
+//! Plans of a few edits.
+ghost use Rattle.std.specs.Prelude.{◌≡◌, ◌≤◌, ◌∷◌, [], pos, true};
 ghost use Rattle.volume_spec.specs.TypedVolume.{is_date};
-ghost use Rattle.volume_plans.specs.lemma.One.{HasEdits, IsPlanOf};
+ghost use Rattle.volume_edits.specs.Planned.{all_take, writes_alone};
+ghost use Rattle.volume_plans.specs.lemma.One.{HasEdits, Holds, IsPlanOf};
 
 use afp_base::Moment;
 use std::alloc::Global;
-use volume_edits::{Edit, Plan};
+use volume_edits::{Edit, Plan, WholeVolume};
+use volume_spec::edit_laws::{calls_may_edit, edits_keep_numbers_in_ranges};
 use volume_tree::PlanFault;
 
 /// A moment is a date. The call does nothing.
@@ -15,6 +17,16 @@ pub(crate) fn date_in_range(now: Moment)
     let _ = now.seconds();
 }
 
+/// What plans of calls go by. The call does nothing.
+pub(crate) fn laws_hold(whole: &WholeVolume, now: Moment)
+    ensures { Holds whole.now.state now }
+{
+    calls_may_edit();
+    edits_keep_numbers_in_ranges();
+    whole.keeps_sound();
+    date_in_range(now);
+}
+
 /// The plan of one edit. The one error is want of memory.
 pub(crate) fn plan_one(alloc: Global, now: Moment, edit: Edit) -> Result<Plan, PlanFault>
     ensures { IsPlanOf now (edit ∷ []) result }
@@ -22,6 +34,41 @@ pub(crate) fn plan_one(alloc: Global, now: Moment, edit: Edit) -> Result<Plan, P
     let mut edits = Vec::new(alloc);
     match edits.push(edit) {
         Ok(()) => Ok(Plan::new(now, edits)),
+        Err(_) => Err(PlanFault::Memory),
+    }
+}
+
+/// The plan of two edits. The one error is want of memory.
+pub(crate) fn plan_two(
+    alloc: Global,
+    now: Moment,
+    first: Edit,
+    second: Edit,
+) -> Result<Plan, PlanFault>
+    requires few { all_take (first ∷ second ∷ []) ≤ 1 }
+    requires alone { writes_alone (first ∷ second ∷ []) ≡ true }
+    ensures { IsPlanOf now (first ∷ second ∷ []) result }
+{
+    match vec![in alloc; first, second] {
+        Ok(edits) => Ok(Plan::new(now, edits)),
+        Err(_) => Err(PlanFault::Memory),
+    }
+}
+
+/// The plan of three edits. The one error is want of memory.
+pub(crate) fn plan_three(
+    alloc: Global,
+    now: Moment,
+    first: Edit,
+    second: Edit,
+    third: Edit,
+) -> Result<Plan, PlanFault>
+    requires few { all_take (first ∷ second ∷ third ∷ []) ≤ 1 }
+    requires alone { writes_alone (first ∷ second ∷ third ∷ []) ≡ true }
+    ensures { IsPlanOf now (first ∷ second ∷ third ∷ []) result }
+{
+    match vec![in alloc; first, second, third] {
+        Ok(edits) => Ok(Plan::new(now, edits)),
         Err(_) => Err(PlanFault::Memory),
     }
 }

@@ -6,5 +6,5 @@ use Rattle.volume_keeper_commit.proofs.fork_writes.would_pass.Goals as goal
 
 pub returns : goal.returns
 returns c =
-    let rows : c.held.inside.volume.state.rows ≡ c.args.held.now.state.rows = search rules in
-    saturated c.args.held.now.state c.args.old c.args.new c.used.result c.saturating_add.result (c.used.ensures ∙ ap (λ (l : List Row). fork_bytes l) rows) c.saturating_add.ensures c.requires
+    let rows : c.whole.inside.tree.state.rows ≡ c.args.whole.now.state.rows = search rules in
+    saturated c.args.whole.now.state c.args.old c.args.new c.used.result c.saturating_add.result (c.used.ensures ∙ ap (λ (l : List Row). fork_bytes l) rows) c.saturating_add.ensures c.requires

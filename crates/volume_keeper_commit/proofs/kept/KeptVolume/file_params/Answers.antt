@@ -8,12 +8,12 @@ use Rattle.volume_keeper_commit.proofs.kept.KeptVolume.file_params.Goals as goal
 
 pub node_params-requires-clause-there : goal.node_params-requires-clause-there
 node_params-requires-clause-there g c =
-    let rows : c.args.self.now.state.rows ≡ c.held.inside.volume.state.rows = search rules in
+    let rows : c.args.self.now.state.rows ≡ c.whole.inside.tree.state.rows = search rules in
     subst (λ (l : List Row). has_node l c.args.id.0 ≡ true) rows (node_there c.args.self.now.state.rows c.args.id.0 c.requires.file)
 
 pub returns-in-Ok-clause-ok : goal.returns-in-Ok-clause-ok
 returns-in-Ok-clause-ok g c = λ file found.
-    let rows : c.held.inside.volume.state.rows ≡ c.args.self.now.state.rows = search rules in
+    let rows : c.whole.inside.tree.state.rows ≡ c.args.self.now.state.rows = search rules in
     let sound : IsSoundVolume c.args.self.now.state = search rules in
     c.in-Ok.ensures.ok file (ap (λ (l : List Row). row_at l c.args.id.0) rows ∙ found)
-    ∙ ap (λ (l : List ℕ). c.args.out.now ++ l) (file_told c.held.inside.volume.state.rows (opened c.args.opens.now) c.args.bits file (file_kind c.args.self.now.state sound c.args.id.0 file c.requires.file found))
+    ∙ ap (λ (l : List ℕ). c.args.out.now ++ l) (file_told c.whole.inside.tree.state.rows (opened c.args.opens.now) c.args.bits file (file_kind c.args.self.now.state sound c.args.id.0 file c.requires.file found))

@@ -10,6 +10,6 @@ use Rattle.volume_keeper_commit.proofs.kept.KeptVolume.get_vol_parms.Goals as go
 
 pub returns-clause-ok : goal.returns-clause-ok
 returns-clause-ok g c =
-    let is : with_desktop c.held.inside.volume.state c.held.inside.desktop.comments c.held.inside.desktop.icons c.held.inside.desktop.appls ≡ c.args.self.now.state = search rules in
+    let is : with_desktop c.whole.inside.tree.state c.whole.inside.desktop.comments c.whole.inside.desktop.icons c.whole.inside.desktop.appls ≡ c.args.self.now.state = search rules in
     subst (λ (values : VolumeValues). OnOk c.get_vol_parms.result (c.get_vol_parms.new.out ≡ c.args.out.now ++ canonical_reply (Params c.args.bits (VolumeOf values))))
-    (volume_same c.held.inside.volume.state c.args.self.now.state c.held.inside.desktop.comments c.held.inside.desktop.icons c.held.inside.desktop.appls is c.args.id.0 c.args.bits) c.get_vol_parms.ensures.ok
+    (volume_same c.whole.inside.tree.state c.args.self.now.state c.whole.inside.desktop.comments c.whole.inside.desktop.icons c.whole.inside.desktop.appls is c.args.id.0 c.args.bits) c.get_vol_parms.ensures.ok

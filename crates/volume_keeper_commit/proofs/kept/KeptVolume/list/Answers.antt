@@ -11,12 +11,12 @@ use Rattle.volume_keeper_commit.proofs.kept.KeptVolume.list.Goals as goal
 
 pub returns-clause-refused : goal.returns-clause-refused
 returns-clause-refused g c =
-    let is : with_desktop c.held.inside.volume.state c.held.inside.desktop.comments c.held.inside.desktop.icons c.held.inside.desktop.appls ≡ c.args.self.now.state = search rules in
-    subst (λ (refused : Option Code). Refuses c.list.result refused) (list_same c.held.inside.volume.state c.args.self.now.state c.held.inside.desktop.comments c.held.inside.desktop.icons c.held.inside.desktop.appls is (opened c.args.opens.now) c.args.asked c.args.dir.0 c.args.path.now) c.list.ensures.refused
+    let is : with_desktop c.whole.inside.tree.state c.whole.inside.desktop.comments c.whole.inside.desktop.icons c.whole.inside.desktop.appls ≡ c.args.self.now.state = search rules in
+    subst (λ (refused : Option Code). Refuses c.list.result refused) (list_same c.whole.inside.tree.state c.args.self.now.state c.whole.inside.desktop.comments c.whole.inside.desktop.icons c.whole.inside.desktop.appls is (opened c.args.opens.now) c.args.asked c.args.dir.0 c.args.path.now) c.list.ensures.refused
 
 pub returns-clause-ok : goal.returns-clause-ok
 returns-clause-ok g c =
-    let is : with_desktop c.held.inside.volume.state c.held.inside.desktop.comments c.held.inside.desktop.icons c.held.inside.desktop.appls ≡ c.args.self.now.state = search rules in
+    let is : with_desktop c.whole.inside.tree.state c.whole.inside.desktop.comments c.whole.inside.desktop.icons c.whole.inside.desktop.appls ≡ c.args.self.now.state = search rules in
     subst (λ (reply : Reply). OnOk c.list.result (c.list.new.out ≡ c.args.out.now ++ canonical_reply reply))
-    (reply_same c.held.inside.volume.state c.args.self.now.state c.held.inside.desktop.comments c.held.inside.desktop.icons c.held.inside.desktop.appls is (opened c.args.opens.now) c.args.asked c.args.dir.0 c.args.path.now)
-    (list_told c.held.inside.volume.state (opened c.args.opens.now) c.args.asked c.args.dir.0 c.args.path.now c.list.result c.list.ensures.refused c.list.new.out c.args.out.now c.list.ensures.ok)
+    (reply_same c.whole.inside.tree.state c.args.self.now.state c.whole.inside.desktop.comments c.whole.inside.desktop.icons c.whole.inside.desktop.appls is (opened c.args.opens.now) c.args.asked c.args.dir.0 c.args.path.now)
+    (list_told c.whole.inside.tree.state (opened c.args.opens.now) c.args.asked c.args.dir.0 c.args.path.now c.list.result c.list.ensures.refused c.list.new.out c.args.out.now c.list.ensures.ok)

@@ -1,13 +1,16 @@
-use Rattle.std.proofs.Common.{◌≡◌, ◌<◌, ◌≤◌, ◌∙◌, ℕ, false, List, length, ap, sym, subst, nat_lt, Some}
+use Rattle.std.proofs.Common.{◌≡◌, ◌<◌, ◌≤◌, ◌∙◌, ℕ, true, false, List, length, ap, sym, subst, nat_lt, Some}
 use Rattle.std.proofs.lemmas.Bool.{lt-ltb, eqb-true}
 use Rattle.afp_base.specs.ForkBytes.{splice}
-use Rattle.volume_spec.specs.ForkEffect.{fork_of, would_pass}
 use Rattle.afp_base.specs.Limits.{most_fork_bytes}
+use Rattle.volume_spec.specs.ForkEffect.{fork_effect, fork_of, would_pass}
 use Rattle.volume_spec.specs.SoundVolume.{IsSoundVolume}
+use Rattle.volume_spec.specs.TypedVolume.{are_bytes, is_typed_volume}
 use Rattle.volume_spec.specs.VolumeState.{Row, VolumeState}
 use Rattle.volume_spec.specs.Walk.{row_at}
 use Rattle.volume_keeper_commit.specs.ForkChanging.{GivesBytes}
-use Rattle.volume_keeper_commit.proofs.GivenForks.{committed_given, file_few, is_written, new_few, no_bytes, no_piece, nothing_given, own_change, piece_passes, piece_within, some_bytes}
+use Rattle.volume_keeper_commit.specs.lemma.CarriedOut.{IsCarriedOut}
+use Rattle.volume_keeper_commit.proofs.GivenForks.{carried_given, file_few, new_few, no_bytes, no_piece, nothing_given, piece_passes, piece_within, some_bytes, write_of}
+use Rattle.volume_keeper_commit.proofs.WrittenBytes.{own_bytes, spliced_bytes}
 use Rattle.volume_keeper_commit.proofs.kept.KeptVolume.write_fork.Goals as goal
 
 pub returns-then-is_empty : goal.returns-then-is_empty
@@ -20,7 +23,7 @@ returns-then-is_empty g c = λ file found.
 pub would_pass-requires : goal.would_pass-requires
 would_pass-requires g c =
     let v = c.args.self.now.state in
-    let is : c.self.inside.held.state ≡ v = λ i. (c.self.view_is i).state in
+    let is : c.self.inside.whole.state ≡ v = λ i. (c.self.view_is i).state in
     let sound : IsSoundVolume v = subst IsSoundVolume is c.keeps_sound.ensures.sound in
     let told : (file : Row) → row_at v.rows c.args.id.0 ≡ Some file → c.fork_in-fork.result.now ≡ fork_of c.args.resource file = λ file found. c.fork_in-fork.ensures file (ap (λ (u : VolumeState). row_at u.rows c.args.id.0) is ∙ found) in
     subst (λ (n : ℕ). n ≤ most_fork_bytes) (sym c.len.ensures) (file_few c.forks_are_given_bytes.ensures.few v sound c.args.id.0 c.args.resource c.fork_in-fork.result.now c.requires told)
@@ -28,7 +31,7 @@ would_pass-requires g c =
 pub plan_write-requires : goal.plan_write-requires
 plan_write-requires g c =
     let v = c.args.self.now.state in
-    let is : c.self.inside.held.state ≡ v = λ i. (c.self.view_is i).state in
+    let is : c.self.inside.whole.state ≡ v = λ i. (c.self.view_is i).state in
     let sound : IsSoundVolume v = subst IsSoundVolume is c.keeps_sound.ensures.sound in
     let bytes : List ℕ = c.fork_in-fork.result.now in
     let told : (file : Row) → row_at v.rows c.args.id.0 ≡ Some file → bytes ≡ fork_of c.args.resource file = λ file found. c.fork_in-fork.ensures file (ap (λ (u : VolumeState). row_at u.rows c.args.id.0) is ∙ found) in
@@ -40,24 +43,30 @@ plan_write-requires g c =
     piece_within c.splice_puts_between.ensures.reaches bytes c.args.piece.now c.args.start some
     (new_few c.forks_are_given_bytes.ensures.room v sound c.args.id.0 c.args.resource bytes (length (splice bytes c.args.start c.args.piece.now)) c.requires told room)
 
-pub carry_out-requires : goal.carry_out-requires
-carry_out-requires g c =
+pub of-write-requires : goal.of-write-requires
+of-write-requires g c = (splice c.fork_in-fork.result.now c.args.start c.args.piece.now, c.in-Ok.ensures.plan)
+
+pub write_out-requires : goal.write_out-requires
+write_out-requires g c =
     let v = c.args.self.now.state in
-    let is : c.self.inside.held.state ≡ v = λ i. (c.self.view_is i).state in
+    let is : c.self.inside.whole.state ≡ v = λ i. (c.self.view_is i).state in
     let sound : IsSoundVolume v = subst IsSoundVolume is c.keeps_sound.ensures.sound in
+    let typed : is_typed_volume v ≡ true = subst (λ (u : VolumeState). is_typed_volume u ≡ true) is c.keeps_sound.ensures.typed in
     let bytes : List ℕ = c.fork_in-fork.result.now in
+    let after : List ℕ = splice bytes c.args.start c.args.piece.now in
     let told : (file : Row) → row_at v.rows c.args.id.0 ≡ Some file → bytes ≡ fork_of c.args.resource file = λ file found. c.fork_in-fork.ensures file (ap (λ (u : VolumeState). row_at u.rows c.args.id.0) is ∙ found) in
     let few : length bytes ≤ most_fork_bytes = file_few c.forks_are_given_bytes.ensures.few v sound c.args.id.0 c.args.resource bytes c.requires told in
     let some : 0 < length c.args.piece.now = some_bytes c.args.piece.now (sym c.is_empty.ensures ∙ c.if-is_empty.false) in
-    let room : would_pass v (length bytes) (length (splice bytes c.args.start c.args.piece.now)) ≡ false =
+    let room : would_pass v (length bytes) (length after) ≡ false =
     piece_passes c.splice_puts_between.ensures.reaches v bytes c.args.piece.now c.args.start c.len.result c.len-2.result c.saturating_add-end.result c.max.result c.would_pass.result some few c.len.ensures c.len-2.ensures c.saturating_add-end.ensures c.max.ensures
     (c.would_pass.ensures ∙ ap (λ (u : VolumeState). would_pass u c.len.result c.max.result) is) ∙ c.if-would_pass.false in
-    own_change v sound c.args.id.0 c.args.resource c.requires bytes (splice bytes c.args.start c.args.piece.now) c.in-Ok.plan told room c.in-Ok.ensures.plan
+    let small : are_bytes after ≡ true = spliced_bytes bytes c.args.start c.args.piece.now (own_bytes v sound typed c.args.id.0 c.args.resource bytes c.requires told) c.bytes_in_range.ensures in
+    write_of v sound c.args.id.0 c.args.resource c.requires bytes after told room small c.of-write.result c.of-write.ensures.before (c.of-write.ensures.after after c.in-Ok.ensures.plan)
 
 pub returns : goal.returns
 returns g c = λ file found.
     let v = c.args.self.now.state in
-    let is : c.self.inside.held.state ≡ v = λ i. (c.self.view_is i).state in
+    let is : c.self.inside.whole.state ≡ v = λ i. (c.self.view_is i).state in
     let sound : IsSoundVolume v = subst IsSoundVolume is c.keeps_sound.ensures.sound in
     let bytes : List ℕ = c.fork_in-fork.result.now in
     let told : (file : Row) → row_at v.rows c.args.id.0 ≡ Some file → bytes ≡ fork_of c.args.resource file = λ file found. c.fork_in-fork.ensures file (ap (λ (u : VolumeState). row_at u.rows c.args.id.0) is ∙ found) in
@@ -66,7 +75,8 @@ returns g c = λ file found.
     let room : would_pass v (length bytes) (length (splice bytes c.args.start c.args.piece.now)) ≡ false =
     piece_passes c.splice_puts_between.ensures.reaches v bytes c.args.piece.now c.args.start c.len.result c.len-2.result c.saturating_add-end.result c.max.result c.would_pass.result some few c.len.ensures c.len-2.ensures c.saturating_add-end.ensures c.max.ensures
     (c.would_pass.ensures ∙ ap (λ (u : VolumeState). would_pass u c.len.result c.max.result) is) ∙ c.if-would_pass.false in
-    let own = own_change v sound c.args.id.0 c.args.resource c.requires bytes (splice bytes c.args.start c.args.piece.now) c.in-Ok.plan told room c.in-Ok.ensures.plan in
-    subst (λ (l : List ℕ). GivesBytes c.args.self.now c.args.now c.args.id.0 c.args.resource (nat_lt 0 (length c.args.piece.now)) l (splice l c.args.start c.args.piece.now) c.carry_out.result c.carry_out.new.self) (told file found)
-    (committed_given c.args.self.now c.args.now c.args.id.0 c.args.resource (nat_lt 0 (length c.args.piece.now)) c.in-Ok.plan.writes bytes (splice bytes c.args.start c.args.piece.now) (lt-ltb 0 (length c.args.piece.now) some)
-    (c.in-Ok.ensures.writes ∙ is_written c.args.piece.now some) room c.carry_out.result c.carry_out.new.self (c.carry_out.ensures own))
+    let after : c.of-write.result.after ≡ splice bytes c.args.start c.args.piece.now = c.of-write.ensures.after (splice bytes c.args.start c.args.piece.now) c.in-Ok.ensures.plan in
+    let carried : IsCarriedOut c.args.self.now (fork_effect c.args.now c.args.id.0 c.args.resource (splice bytes c.args.start c.args.piece.now) true v) c.write_out.result c.write_out.new.self
+    = subst (λ (l : List ℕ). IsCarriedOut c.args.self.now (fork_effect c.args.now c.args.id.0 c.args.resource l true v) c.write_out.result c.write_out.new.self) after c.write_out.ensures in
+    subst (λ (l : List ℕ). GivesBytes c.args.self.now c.args.now c.args.id.0 c.args.resource (nat_lt 0 (length c.args.piece.now)) l (splice l c.args.start c.args.piece.now) c.write_out.result c.write_out.new.self) (told file found)
+    (carried_given c.args.self.now c.args.now c.args.id.0 c.args.resource (nat_lt 0 (length c.args.piece.now)) bytes (splice bytes c.args.start c.args.piece.now) (lt-ltb 0 (length c.args.piece.now) some) room c.write_out.result c.write_out.new.self carried)

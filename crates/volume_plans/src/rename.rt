@@ -1,0 +1,77 @@
+//! FPRename.
+ghost use Rattle.std.specs.Prelude.{◌≡◌, Ok, IfOk};
+ghost use Rattle.volume_spec.specs.Rename.{rename_refusal};
+ghost use Rattle.volume_spec.specs.VolumeCalls as call;
+ghost use Rattle.volume_spec.specs.Walk.{found, one_down};
+ghost use Rattle.volume_tree.specs.Answered.{Refuses};
+ghost use Rattle.volume_plans.specs.Plans.{Plans};
+
+use crate::one::{laws_hold, plan_two};
+use crate::tree_asked::{directory, has_attribute, is_taken};
+use afp_base::{Code, Moment, NodeId};
+use afp_names::{Name, Path};
+use std::alloc::Global;
+use volume_edits::{Edit, Plan, WholeVolume};
+use volume_spec::limits::ROOT_ID;
+use volume_tree::{NewName, PlanFault, RENAME_INHIBIT, only_name, steps_are_named};
+
+/// What FPRename renames and the new name, or why it is refused.
+#[tactic(auto, unfolding(volume_spec::specs::Rename::rename_refusal))]
+fn renamed<'a>(
+    alloc: Global,
+    whole: &WholeVolume,
+    dir: NodeId,
+    path: &Path,
+    new: &'a Path,
+) -> Result<(NodeId, &'a Name), PlanFault>
+    ensures refused { Refuses result (rename_refusal whole.now.state dir.0 path.now new.now) }
+    ensures found { IfOk result (λ at. found whole.now.state.rows dir.0 path.now ≡ Ok at.0.0) }
+    ensures name { IfOk result (λ at. one_down new.now.steps ≡ Ok at.1.now) }
+{
+    let id = match whole.resolve(alloc, dir, path) {
+        Ok(id) => id,
+        Err(fault) => return Err(fault),
+    };
+    if id.0 == ROOT_ID {
+        return Err(PlanFault::Code(Code::CantRename));
+    }
+    let name = match only_name(new) {
+        Some(name) => name,
+        None => return Err(PlanFault::Code(Code::ParamErr)),
+    };
+    if has_attribute(whole, RENAME_INHIBIT, id) {
+        return Err(PlanFault::Code(Code::ObjectLocked));
+    }
+    let Ok(key) = name.key(alloc) else {
+        return Err(PlanFault::Memory);
+    };
+    if is_taken(whole, id, directory(whole, id), name, key.as_slice()) {
+        return Err(PlanFault::Code(Code::ObjectExists));
+    }
+    Ok((id, name))
+}
+
+/// Why FPRename is refused, or the plan of it: the node gets another name. Want of memory comes for no other reason.
+pub fn plan_rename(
+    alloc: Global,
+    whole: &WholeVolume,
+    now: Moment,
+    dir: NodeId,
+    path: &Path,
+    new: &Path,
+) -> Result<Plan, PlanFault>
+    ensures refused { Refuses result (rename_refusal whole.now.state dir.0 path.now new.now) }
+    ensures plan { IfOk result (Plans whole.now.state now (call.Rename dir.0 path.now new.now)) }
+{
+    laws_hold(whole, now);
+    steps_are_named(new);
+    let (id, name) = match renamed(alloc, whole, dir, path, new) {
+        Ok(at) => at,
+        Err(fault) => return Err(fault),
+    };
+    let Ok(name) = NewName::of(alloc, name) else {
+        return Err(PlanFault::Memory);
+    };
+    let up = directory(whole, id);
+    plan_two(alloc, now, Edit::renames(id, name), Edit::dated(now, up))
+}
