@@ -35,24 +35,27 @@ OtherForksStay =
     → open_file w s reference ≡ Some f → open_file w t other ≡ Some g → is_one_fork g.fork.fork f.fork.fork ≡ false
     → bytes_under (with_bytes w f some bytes) t other ≡ Some (bytes_of g)
 
--- a change of a fork's bytes: some are put at a place, or the fork is cut or filled up to a length
+-- a change of a fork's bytes: some are put at a place, the fork is cut or filled up to a length, or it gets all the bytes of another fork
 pub data ForkChange : Type 0 where
   puts : ℕ → List ℕ → ForkChange
   sets_length : ℕ → ForkChange
+  becomes : List ℕ → ForkChange
 
 abbrev pub changed_by : ForkChange → List ℕ → List ℕ
 changed_by (puts at piece) bytes = splice bytes at piece
 changed_by (sets_length n) bytes = resized bytes n
+changed_by (becomes others) bytes = others
 
 -- the changes one after another
 abbrev pub changed_by_all : List ForkChange → List ℕ → List ℕ
 changed_by_all [] bytes = bytes
 changed_by_all (change ∷ changes) bytes = changed_by_all changes (changed_by change bytes)
 
--- the change meets none of so many bytes from a place on: it puts none, ends before them, begins behind them, or cuts behind them
+-- the change meets none of so many bytes from a place on: it puts none, ends before them, begins behind them, or cuts behind them; all bytes of another fork meet them
 abbrev pub misses : ℕ → ℕ → ForkChange → Bool
 misses at n (puts place piece) = (length piece == 0) || (nat_le (place + length piece) at || nat_le (at + n) place)
 misses at n (sets_length len) = nat_le (at + n) len
+misses at n (becomes others) = false
 
 -- bytes that were written are there, after any changes that miss them
 abbrev pub WrittenBytesStay : Type 0
