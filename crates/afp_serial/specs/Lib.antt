@@ -60,6 +60,7 @@ pub mod ParmsReplies
 pub mod SessionViews
 pub mod Laws
 pub mod ForkExamples
+pub mod DeskExamples
 pub mod SessionExamples
 pub mod LoginLaws
 pub mod ForkLaws
