@@ -14,25 +14,32 @@ use Rattle.afp_serial.proofs.OpenVolRow.{opens-keeps}
 use Rattle.afp_serial.proofs.VolumeStates.{state-at, state-other}
 use Rattle.afp_serial.specs.declared.ask.Entry.{Entry}
 use Rattle.afp_serial.specs.Answer.{after, with_new_session}
+use Rattle.afp_serial.specs.Appls.{get_appl_row}
 use Rattle.afp_serial.specs.CloseVol.{close_vol_row}
+use Rattle.afp_serial.specs.Comments.{get_comment_row}
+use Rattle.afp_serial.specs.CopyFile.{CopyAsked, copies, copy_edits, source_of}
 use Rattle.afp_serial.specs.CreateDir.{node_id}
 use Rattle.afp_serial.specs.Fork.{access_of, close_fork_row, file_asked, flush_fork_row, get_fork_parms_reply, get_fork_parms_row, is_other_length, length_for, open_fork_row, set_fork_parms_row}
 use Rattle.afp_serial.specs.ForkBytes.{WriteAsked, is_from_end, read_ext_row, read_row, write_end, writes, writes_some, written_bytes}
 use Rattle.afp_serial.specs.History.{stand}
 use Rattle.afp_serial.specs.IdLaws.{DrawsOnce, DrawIdsOnce, IdsAreDrawnOnce}
 use Rattle.afp_serial.specs.Enumerate.{enumerate_ext2_row, enumerate_ext_row, enumerate_row}
+use Rattle.afp_serial.specs.FileIds.{resolve_id_row}
 use Rattle.afp_serial.specs.Flush.{flush_row}
 use Rattle.afp_serial.specs.GetFileDirParms.{get_file_dir_parms_row}
 use Rattle.afp_serial.specs.GetVolParms.{get_vol_parms_row}
 use Rattle.afp_serial.specs.Login.{login_ext_row, login_row}
 use Rattle.afp_serial.specs.Logout.{logout_row}
-use Rattle.afp_serial.specs.OpenDir.{close_dir_row, open_dir_row}
+use Rattle.afp_serial.specs.Icons.{get_icon_info_row, get_icon_row}
+use Rattle.afp_serial.specs.OpenDT.{close_dt_row, open_dt_row}
+use Rattle.afp_serial.specs.OpenDir.{close_dir_row, open_dir_reply, open_dir_row}
 use Rattle.afp_serial.specs.Lock.{byte_range_lock_ext_row, byte_range_lock_row, lock_asked}
 use Rattle.afp_serial.specs.OnFork.{OpenFile, bytes_of, done_with, open_file, with_bytes}
 use Rattle.afp_serial.specs.OnVolume.{changes_tree, done_on, tells_of, with_state, with_volume_state}
 use Rattle.afp_serial.specs.OpenVol.{open_vol_row, state_named, volume_named}
 use Rattle.afp_serial.specs.Rows.{effect, row}
 use Rattle.afp_serial.specs.SessionToken.{old_session_in, rejoins}
+use Rattle.afp_serial.specs.VolumeRows.{changes_volume, with_edits}
 use Rattle.afp_serial.specs.World.{CallRow, at_moment, closing, ending, volume_at, with_empty_reply, World, Session}
 use Rattle.afp_base.specs.declared.code.Code.{Code}
 use Rattle.volume_spec.specs.CreateDir.{create_dir_id}
@@ -44,7 +51,10 @@ use Rattle.volume_spec.specs.OpenFork.{is_resource}
 use Rattle.volume_spec.specs.SoundVolume.{has_node}
 use Rattle.volume_spec.specs.TreeSteps as trees
 use Rattle.volume_spec.specs.TreeSteps.{TreeCall, tree_effect}
-use Rattle.volume_spec.specs.VolumeCalls.{call_edits}
+use Rattle.volume_spec.specs.Desktop.{icon_of}
+use Rattle.volume_spec.specs.FileIds.{created_id}
+use Rattle.volume_spec.specs.VolumeCalls as volumes
+use Rattle.volume_spec.specs.VolumeCalls.{VolumeCall, call_edits}
 use Rattle.volume_spec.specs.VolumeState.{VolumeState}
 
 -- what a volume's own laws say
@@ -120,6 +130,25 @@ tree laws volume call reply w s = by (volume_at w.volumes volume) refl
     by None is = same-draws w w refl
     by (Some v) is = state-draws w volume v (tree_effect v w.latest call) is (tree-draws laws v w.latest call)
 
+-- edits of a volume
+edited-draws : DrawLaws → (w : World) (volume : ℕ) (v : VolumeState) (edits : List Edit) → volume_at w.volumes volume ≡ Some v → DrawIdsOnce w (with_edits w volume v edits)
+edited-draws laws w volume v [] is = same-draws w w refl
+edited-draws laws w volume v (e ∷ es) is = state-draws w volume v (after_call v w.latest (e ∷ es)) is (edits-draw laws v w.latest (e ∷ es))
+
+edits : DrawLaws → (volume : ℕ) (change : VolumeCall) (reply : VolumeState → Reply) (w : World) (s : Session) → DrawIdsOnce w ((changes_volume volume change reply).effect w s).world
+edits laws volume change reply w s = by (volume_at w.volumes volume) refl
+  where
+    by : (q : Option VolumeState) → volume_at w.volumes volume ≡ q → DrawIdsOnce w (done_on q w (λ v. record { world = with_edits w volume v (call_edits v w.latest change); reply = reply v })).world
+    by None is = same-draws w w refl
+    by (Some v) is = edited-draws laws w volume v (call_edits v w.latest change) is
+
+copy : DrawLaws → (asked : CopyAsked) (w : World) (s : Session) → DrawIdsOnce w ((copies asked).effect w s).world
+copy laws asked w s = by (volume_at w.volumes asked.target) refl
+  where
+    by : (q : Option VolumeState) → volume_at w.volumes asked.target ≡ q → DrawIdsOnce w (done_on q w (λ v. with_empty_reply (with_edits w asked.target v (copy_edits w asked (source_of w asked) v)))).world
+    by None is = same-draws w w refl
+    by (Some v) is = edited-draws laws w asked.target v (copy_edits w asked (source_of w asked) v) is
+
 -- other bytes in a fork that is open
 bytes-draw : DrawLaws → (w : World) (s : Session) (reference : ℕ) (f : OpenFile) (some : Bool) (bytes : List ℕ) → open_file w s reference ≡ Some f → DrawIdsOnce w (with_bytes w f some bytes)
 bytes-draw laws w s reference f false bytes is = same-draws w w refl
@@ -186,6 +215,22 @@ call-draws laws w s (calls.SetForkParms reference bits rest) = set-length laws r
 call-draws laws w s (calls.SetVolParms volume bits rest) = tree laws volume.0 (trees.SetVolParms bits rest) (λ v. Empty) w s
 call-draws laws w s (calls.Write flag reference offset count piece) = write laws reference.0 (record { from_end = is_from_end flag; offset = offset; count = pos count; piece = piece }) (λ end. End end) w s
 call-draws laws w s (calls.WriteExt flag reference offset count piece) = write laws reference.0 (record { from_end = is_from_end flag; offset = offset; count = count; piece = piece }) (λ end. EndExt end) w s
+call-draws laws w s (calls.AddAPPL dt dir creator tag path) = edits laws dt (volumes.AddAPPL dir.0 creator tag path) (λ v. Empty) w s
+call-draws laws w s (calls.AddComment dt dir path comment) = edits laws dt (volumes.AddComment dir.0 path comment) (λ v. Empty) w s
+call-draws laws w s (calls.AddIcon dt creator kind icon_kind tag size piece) = edits laws dt (volumes.AddIcon (icon_of creator kind icon_kind tag piece)) (λ v. Empty) w s
+call-draws laws w s (calls.CloseDT dt) = let r : RowDraws (close_dt_row dt) = tells dt _ _ in r.draws w s
+call-draws laws w s (calls.CopyFile volume dir target_volume target_dir path target_path new_path) = copy laws (record { volume = volume.0; dir = dir.0; path = path; target = target_volume.0; target_dir = target_dir.0; target_path = target_path; new_path = new_path }) w s
+call-draws laws w s (calls.CreateID volume dir path) = edits laws volume.0 (volumes.CreateID dir.0 path) (λ v. open_dir_reply (created_id v dir.0 path)) w s
+call-draws laws w s (calls.DeleteID volume id) = edits laws volume.0 (volumes.DeleteID id.0) (λ v. Empty) w s
+call-draws laws w s (calls.ExchangeFiles volume dir second_dir path second_path) = edits laws volume.0 (volumes.ExchangeFiles dir.0 path second_dir.0 second_path) (λ v. Empty) w s
+call-draws laws w s (calls.GetAPPL dt creator index bits) = let r : RowDraws (get_appl_row dt creator index bits) = tells dt _ _ in r.draws w s
+call-draws laws w s (calls.GetComment dt dir path) = let r : RowDraws (get_comment_row dt dir.0 path) = tells dt _ _ in r.draws w s
+call-draws laws w s (calls.GetIcon dt creator kind icon_kind count) = let r : RowDraws (get_icon_row dt creator kind icon_kind count) = tells dt _ _ in r.draws w s
+call-draws laws w s (calls.GetIconInfo dt creator index) = let r : RowDraws (get_icon_info_row dt creator index) = tells dt _ _ in r.draws w s
+call-draws laws w s (calls.OpenDT volume) = let r : RowDraws (open_dt_row volume.0) = tells volume.0 _ _ in r.draws w s
+call-draws laws w s (calls.RemoveAPPL dt dir creator path) = edits laws dt (volumes.RemoveAPPL dir.0 creator path) (λ v. Empty) w s
+call-draws laws w s (calls.RemoveComment dt dir path) = edits laws dt (volumes.RemoveComment dir.0 path) (λ v. Empty) w s
+call-draws laws w s (calls.ResolveID volume id bits) = let r : RowDraws (resolve_id_row volume.0 id.0 bits) = tells volume.0 _ _ in r.draws w s
 call-draws laws w s calls.Logout = let r : RowDraws logout_row = keeps-volumes logout_row (λ w s. refl) in r.draws w s
 call-draws laws w s call = same-draws w w refl
 

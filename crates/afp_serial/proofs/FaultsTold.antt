@@ -1,12 +1,11 @@
 -- MiscErr is told of a fault alone, and NoMemory never.
-use Rattle.std.proofs.Common.{◌≡◌, ◌≢◌, ◌∙◌, ◌⊎◌, inl, inr, ap, sym, refl, ℕ, Bool, true, false, cond, List, [], Option, Some, None}
-use Rattle.std.specs.Prelude.{find, is_none, not, ◌==◌, ◌||◌}
+use Rattle.std.proofs.Common.{◌≡◌, ◌∙◌, ◌⊎◌, inl, inr, ap, sym, refl, ℕ, Bool, true, false, [], Option, Some, None}
+use Rattle.std.specs.Prelude.{is_none, not, ◌==◌, ◌||◌}
 use Rattle.std.specs.List.{list_all}
 use Rattle.std.proofs.lemmas.Bool.{cond_both, false≢true, or_cases}
-use Rattle.afp_base.proofs.Facts.{eqb-itself, never}
+use Rattle.afp_base.proofs.Facts.{never}
 use Rattle.afp_base.proofs.ListFacts.{find-all, find-passes}
 use Rattle.afp_base.specs.Cached.{Request, Answer, cached_answer}
-use Rattle.afp_base.specs.declared.code.Code.{Code}
 use Rattle.afp_base.specs.declared.code.Code.TheVariants as code
 use Rattle.afp_serial.proofs.KeptAnswers.{has_none}
 use Rattle.afp_serial.proofs.KeptWishes.{kept-parts, lawful-kept, refused-kept}

@@ -2,6 +2,7 @@
 use Rattle.std.proofs.Common.{◌==◌, ◌≡◌, ◌∙◌, ap, sym, refl, subst, arith, ℕ, suc, ℤ, pos, ◌-◌, ◌++◌, take, replicate, Bool, true, false, not, ◌&&◌, cond, List, [], ◌∷◌, length, Option, Some, None}
 use Rattle.std.specs.Prelude.{filter, nat_abs, nat_lt, option_map}
 use Rattle.std.specs.Bool.{beq}
+use Rattle.std.specs.List.{list_all}
 use Rattle.std.proofs.lemmas.Bool.{and_from, and_parts, both_ways, eq-eqb, eqb-false, eqb-true, lt-ltb}
 use Rattle.afp_base.proofs.DefinitionLaws.{one_fork}
 use Rattle.afp_base.specs.Choice.{first_holding}
@@ -12,6 +13,9 @@ use Rattle.afp_replies.specs.declared.reply.Reply.{Reply}
 use Rattle.afp_replies.specs.declared.reply.Reply.TheVariants.{Empty, End, EndExt, Node, Start, StartExt}
 use Rattle.afp_calls_grammar.specs.declared.call.Call.{Call}
 use Rattle.afp_calls_grammar.specs.declared.call.Call.TheVariants as calls
+use Rattle.afp_serial.proofs.EditedForks.{IsExchanged, IsGentle, add-appl-gentle, add-comment-gentle, add-icon-gentle, copy-gentle, create-id-gentle, delete-id-gentle, gentle-be, is_gentle, pair-exchanged, remove-appl-gentle, remove-comment-gentle}
+use Rattle.afp_serial.proofs.ExchangeRow.{Exchanged, exchanged-left}
+use Rattle.afp_serial.proofs.ExchangedForks.{exchanged-elsewhere, exchanged-first, exchanged-neither, exchanged-second}
 use Rattle.afp_serial.proofs.ForkCommits.{all-locks, all-reads, done-volumes, opened-volumes}
 use Rattle.afp_serial.proofs.OnForkRows.{IsHeld, IsHeldFile, held-file, sound-file}
 use Rattle.afp_serial.proofs.OnVolumeRows.{done-keeps, on-passes}
@@ -22,7 +26,13 @@ use Rattle.afp_serial.proofs.Written.{bytes-seen, other-bytes}
 use Rattle.afp_serial.specs.World.{CallRow, with_empty_reply, closing, volume_at, World, Session, OpenFork}
 use Rattle.afp_serial.specs.Fork.{access_of, close_fork_row, file_asked, flush_fork_row, get_fork_parms_reply, get_fork_parms_row, is_other_length, length_for, open_fork_row, set_fork_parms_row}
 use Rattle.afp_serial.specs.ForkBytes.{WriteAsked, is_from_end, read_ext_row, read_row, write_end, write_start, writes, writes_some, written_bytes}
-use Rattle.afp_serial.specs.ForkHistory.{bytes_in, bytes_on, changes_by, has_open, put_of, through}
+use Rattle.afp_serial.specs.Appls.{get_appl_row}
+use Rattle.afp_serial.specs.Comments.{get_comment_row}
+use Rattle.afp_serial.specs.CopyFile.{CopyAsked, copies, copy_call, copy_edits, source_of}
+use Rattle.afp_serial.specs.ExchangeFiles.{exchange_files_row, in_exchange, pair_on}
+use Rattle.afp_serial.specs.FileIds.{resolve_id_row}
+use Rattle.afp_serial.specs.ForkHistory.{becomes_all, bytes_in, bytes_on, changes_by, exchanged_for, has_open, put_of, through}
+use Rattle.afp_serial.specs.Icons.{get_icon_info_row, get_icon_row}
 use Rattle.afp_serial.specs.Lock.{byte_range_lock_ext_row, byte_range_lock_row, lock_asked}
 use Rattle.afp_serial.specs.OnFork.{OpenFile, bytes_of, done_with, file_on, file_under, open_file, own_fork, with_bytes}
 use Rattle.afp_serial.specs.OnVolume.{changes_tree, done_on, opened_on, tells_of, with_state, with_volume_state}
@@ -38,16 +48,26 @@ use Rattle.afp_serial.specs.Flush.{flush_row}
 use Rattle.afp_serial.specs.GetFileDirParms.{get_file_dir_parms_row}
 use Rattle.afp_serial.specs.GetVolParms.{get_vol_parms_row}
 use Rattle.afp_serial.specs.Login.{login_ext_row, login_row}
-use Rattle.afp_serial.specs.OpenDir.{close_dir_row, open_dir_row}
+use Rattle.afp_serial.specs.OpenDT.{close_dt_row, open_dt_row}
+use Rattle.afp_serial.specs.OpenDir.{close_dir_row, open_dir_reply, open_dir_row}
+use Rattle.afp_serial.specs.VolumeRows.{changes_volume, with_edits}
 use Rattle.afp_base.specs.declared.code.Code.{Code}
 use Rattle.volume_spec.proofs.ForkEffects.{fork-given, fork-lets-be}
 use Rattle.volume_spec.specs.Shared.{Opened, is_busy}
+use Rattle.volume_spec.specs.CopyFile.{Source}
 use Rattle.volume_spec.specs.CreateDir.{create_dir_id}
 use Rattle.volume_spec.specs.CreateFile.{is_hard}
+use Rattle.volume_spec.specs.Desktop.{icon_of}
+use Rattle.volume_spec.specs.Edit.{Edit, Exchanges, after_call}
+use Rattle.volume_spec.specs.EditLaws.{MayExchange}
+use Rattle.volume_spec.specs.ExchangeFiles.{Pair}
+use Rattle.volume_spec.specs.FileIds.{created_id}
 use Rattle.volume_spec.specs.ForkEffect.{fork_effect, fork_of}
 use Rattle.volume_spec.specs.OpenFork.{is_resource}
 use Rattle.volume_spec.specs.TreeSteps as trees
 use Rattle.volume_spec.specs.TreeSteps.{TreeCall, tree_effect, tree_refusal}
+use Rattle.volume_spec.specs.VolumeCalls as volumes
+use Rattle.volume_spec.specs.VolumeCalls.{VolumeCall, call_edits}
 use Rattle.volume_spec.specs.VolumeState.{Row as File, VolumeState}
 use Rattle.volume_spec.specs.Walk.{row_at}
 use Rattle.afp_base.proofs.ListFacts.{any-map, any-still, any-weaker}
@@ -105,13 +125,35 @@ tree-leaves volume tree reply = record {
       (λ same had. tree-lets-be p.state (opened_on w volume) w.latest tree fork.node p.passes (ap (λ n. is_busy (opened_on w n) fork.node) (sym same) ∙ busy-open w fork there) fork.resource bytes had) h);
 }
 
+edits-leave : (w : World) (volume : ℕ) (v : VolumeState) (edits : List Edit) (fork : Fork) (bytes : List ℕ) → list_all is_gentle edits ≡ true → volume_at w.volumes volume ≡ Some v → bytes_in w fork ≡ Some bytes → bytes_in (with_edits w volume v edits) fork ≡ Some bytes
+edits-leave w volume v [] fork bytes gentle is h = h
+edits-leave w volume v (e ∷ es) fork bytes gentle is h = state-bytes w volume v (after_call v w.latest (e ∷ es)) fork bytes is (λ same had. gentle-be fork.node v w.latest (e ∷ es) gentle fork.resource bytes had) h
+
+changes-leave : (volume : ℕ) (change : VolumeCall) (reply : VolumeState → Reply) → IsGentle change → LeavesForks (changes_volume volume change reply)
+changes-leave volume change reply gentle = record { leaves = λ w s fork bytes there passes h. by w fork bytes h (volume_at w.volumes volume) refl }
+  where
+    by : (w : World) (fork : Fork) (bytes : List ℕ) → bytes_in w fork ≡ Some bytes → (q : Option VolumeState) → volume_at w.volumes volume ≡ q
+        → bytes_in (done_on q w (λ v. record { world = with_edits w volume v (call_edits v w.latest change); reply = reply v })).world fork ≡ Some bytes
+    by w fork bytes h None is = h
+    by w fork bytes h (Some v) is = edits-leave w volume v (call_edits v w.latest change) fork bytes (gentle v w.latest) is h
+
+copies-leave : (asked : CopyAsked) → LeavesForks (copies asked)
+copies-leave asked = record { leaves = λ w s fork bytes there passes h. by w fork bytes h (source_of w asked) (volume_at w.volumes asked.target) refl }
+  where
+    by : (w : World) (fork : Fork) (bytes : List ℕ) → bytes_in w fork ≡ Some bytes → (source : Option Source) (q : Option VolumeState) → volume_at w.volumes asked.target ≡ q
+        → bytes_in (done_on q w (λ v. with_empty_reply (with_edits w asked.target v (copy_edits w asked source v)))).world fork ≡ Some bytes
+    by w fork bytes h source None is = h
+    by w fork bytes h None (Some v) is = h
+    by w fork bytes h (Some source) (Some v) is =
+        edits-leave w asked.target v (call_edits v w.latest (copy_call asked source)) fork bytes (copy-gentle source asked.target_dir asked.target_path asked.new_path v w.latest) is h
+
 open-vol-leaves : (bits : ℕ) (name : List ℕ) → LeavesForks (open_vol_row bits name)
 open-vol-leaves bits name = keeps-volumes (open_vol_row bits name) (λ w s. opens-keeps (λ x. x.volumes ≡ w.volumes) w s bits (volume_named w name) (state_named w (volume_named w name)) refl (λ v. refl))
 
 -- calls through an open fork
 
 -- what is seen under a reference is the fork's
-under-in : (w : World) (s : Session) (reference : ℕ) (o : OpenFork) → own_fork w s reference ≡ Some o → bytes_under w s reference ≡ bytes_in w o.fork
+pub under-in : (w : World) (s : Session) (reference : ℕ) (o : OpenFork) → own_fork w s reference ≡ Some o → bytes_under w s reference ≡ bytes_in w o.fork
 unfolding open_file
 under-in w s reference o own = ap (λ q. option_map bytes_of (file_under w q)) own ∙ by (volume_at w.volumes o.fork.volume)
   where
@@ -254,6 +296,85 @@ lock-leaves flags reference offset length = keeps-volumes (byte_range_lock_row f
 lock-ext-leaves : (flags reference : ℕ) (offset length : ℤ) → LeavesForks (byte_range_lock_ext_row flags reference offset length)
 lock-ext-leaves flags reference offset length = keeps-volumes (byte_range_lock_ext_row flags reference offset length) (λ w s. all-locks reference (lock_asked flags offset length) (λ start. StartExt start) w s)
 
+-- FPExchangeFiles
+
+module _ (w : World) (volume : ℕ) (v new : VolumeState) (pair : Pair) (one two : File) (there : volume_at w.volumes volume ≡ Some v) (first_is : row_at v.rows pair.first ≡ Some one) (second_is : row_at v.rows pair.second ≡ Some two) (x : IsExchanged v new pair one two) where
+  before : (fork : Fork) → (fork.volume == volume) ≡ true → bytes_in w fork ≡ option_map (fork_of fork.resource) (row_at v.rows fork.node)
+  before fork here = ap (λ q. bytes_on q fork) (ap (volume_at w.volumes) (eqb-true fork.volume volume here) ∙ there)
+
+  behind : (fork : Fork) → (fork.volume == volume) ≡ true → bytes_in (with_volume_state w volume new) fork ≡ option_map (fork_of fork.resource) (row_at new.rows fork.node)
+  behind fork here = ap (λ q. bytes_on q fork) (ap (volume_at (with_state w.volumes volume new)) (eqb-true fork.volume volume here) ∙ state-at w.volumes volume v new there)
+
+  -- each fork has the bytes that the other had
+  pub exchanged-bytes : (fork : Fork) → bytes_in (with_volume_state w volume new) fork ≡ bytes_in w (in_exchange volume pair fork)
+  exchanged-bytes fork = by-volume (fork.volume == volume) refl
+    where
+      by-second : (fork.volume == volume) ≡ true → (fork.node == pair.first) ≡ false → (b : Bool) → (fork.node == pair.second) ≡ b → bytes_in (with_volume_state w volume new) fork ≡ bytes_in w (in_exchange volume pair fork)
+      by-second here away true that =
+          behind fork here
+          ∙ ap (λ n. option_map (fork_of fork.resource) (row_at new.rows n)) (eqb-true fork.node pair.second that)
+          ∙ x.second fork.resource
+          ∙ sym (before (record fork { node = pair.first }) here ∙ ap (option_map (fork_of fork.resource)) first_is)
+          ∙ ap (bytes_in w) (sym (exchanged-second volume pair fork here away that))
+      by-second here away false neither =
+          behind fork here
+          ∙ ap (option_map (fork_of fork.resource)) (x.others fork.node away neither)
+          ∙ sym (before fork here)
+          ∙ ap (bytes_in w) (sym (exchanged-neither volume pair fork here away neither))
+
+      by-first : (fork.volume == volume) ≡ true → (b : Bool) → (fork.node == pair.first) ≡ b → bytes_in (with_volume_state w volume new) fork ≡ bytes_in w (in_exchange volume pair fork)
+      by-first here true that =
+          behind fork here
+          ∙ ap (λ n. option_map (fork_of fork.resource) (row_at new.rows n)) (eqb-true fork.node pair.first that)
+          ∙ x.first fork.resource
+          ∙ sym (before (record fork { node = pair.second }) here ∙ ap (option_map (fork_of fork.resource)) second_is)
+          ∙ ap (bytes_in w) (sym (exchanged-first volume pair fork here that))
+      by-first here false away = by-second here away (fork.node == pair.second) refl
+
+      by-volume : (b : Bool) → (fork.volume == volume) ≡ b → bytes_in (with_volume_state w volume new) fork ≡ bytes_in w (in_exchange volume pair fork)
+      by-volume true here = by-first here (fork.node == pair.first) refl
+      by-volume false other =
+          ap (λ q. bytes_on q fork) (state-other w.volumes volume fork.volume new (eqb-false fork.volume volume other))
+          ∙ ap (bytes_in w) (sym (exchanged-elsewhere volume pair fork other))
+
+  -- and where one has bytes, so has the other
+  other-has : (fork : Fork) (bytes : List ℕ) → bytes_in w fork ≡ Some bytes → (others : List ℕ) × (bytes_in w (in_exchange volume pair fork) ≡ Some others)
+  other-has fork bytes had = by-volume (fork.volume == volume) refl
+    where
+      by-second : (fork.volume == volume) ≡ true → (fork.node == pair.first) ≡ false → (b : Bool) → (fork.node == pair.second) ≡ b → (others : List ℕ) × (bytes_in w (in_exchange volume pair fork) ≡ Some others)
+      by-second here away true that = (fork_of fork.resource one, ap (bytes_in w) (exchanged-second volume pair fork here away that) ∙ before (record fork { node = pair.first }) here ∙ ap (option_map (fork_of fork.resource)) first_is)
+      by-second here away false neither = (bytes, ap (bytes_in w) (exchanged-neither volume pair fork here away neither) ∙ had)
+
+      by-first : (fork.volume == volume) ≡ true → (b : Bool) → (fork.node == pair.first) ≡ b → (others : List ℕ) × (bytes_in w (in_exchange volume pair fork) ≡ Some others)
+      by-first here true that = (fork_of fork.resource two, ap (bytes_in w) (exchanged-first volume pair fork here that) ∙ before (record fork { node = pair.second }) here ∙ ap (option_map (fork_of fork.resource)) second_is)
+      by-first here false away = by-second here away (fork.node == pair.second) refl
+
+      by-volume : (b : Bool) → (fork.volume == volume) ≡ b → (others : List ℕ) × (bytes_in w (in_exchange volume pair fork) ≡ Some others)
+      by-volume true here = by-first here (fork.node == pair.first) refl
+      by-volume false other = (bytes, ap (bytes_in w) (exchanged-elsewhere volume pair fork other) ∙ had)
+
+  pub pair-changes : (fork : Fork) (bytes : List ℕ) → bytes_in w fork ≡ Some bytes → bytes_in (with_volume_state w volume new) fork ≡ Some (changed_by_all (exchanged_for w volume fork (Some pair)) bytes)
+  pair-changes fork bytes had = by (is_one_fork (in_exchange volume pair fork) fork) refl
+    where
+      by : (b : Bool) → is_one_fork (in_exchange volume pair fork) fork ≡ b
+          → bytes_in (with_volume_state w volume new) fork ≡ Some (changed_by_all (cond b [] (becomes_all (bytes_in w (in_exchange volume pair fork)))) bytes)
+      by true same = exchanged-bytes fork ∙ ap (bytes_in w) ((one_fork (in_exchange volume pair fork) fork).0 same) ∙ had
+      by false apart =
+          let other = other-has fork bytes had in
+          exchanged-bytes fork ∙ other.1 ∙ ap (λ q. Some (changed_by_all (becomes_all q) bytes)) (sym other.1)
+
+pub exchange-changes : (volume dir second_dir : ℕ) (path second_path : PathValue) (w : World) (s : Session) (fork : Fork) (bytes : List ℕ) → IsSound w
+    → first_holding ((exchange_files_row volume dir second_dir path second_path).refusals w s) ≡ None → bytes_in w fork ≡ Some bytes
+    → bytes_in ((exchange_files_row volume dir second_dir path second_path).effect w s).world fork ≡ Some (changed_by_all (exchanged_for w volume fork (pair_on (volume_at w.volumes volume) dir path second_dir second_path)) bytes)
+exchange-changes volume dir second_dir path second_path w s fork bytes h passes had =
+    let e : Exchanged volume dir second_dir path second_path w s = exchanged-left volume dir second_dir path second_path w s passes h in
+    let pair : Pair = e.exchange.pair in
+    let may : MayExchange e.state pair.first pair.second = e.exchange.may in
+    let is : pair_on (volume_at w.volumes volume) dir path second_dir second_path ≡ Some pair = ap (λ o. pair_on o dir path second_dir second_path) e.there ∙ e.exchange.is in
+    ap (λ x. bytes_in x fork) e.left
+    ∙ pair-changes w volume e.state (after_call e.state w.latest (Exchanges pair.first pair.second ∷ [])) pair may.first may.second e.there may.first_found may.second_found (pair-exchanged e.state w.latest pair may) fork bytes had
+    ∙ ap (λ q. Some (changed_by_all (exchanged_for w volume fork q) bytes)) (sym is)
+
 rejoins-volumes : (w : World) (s : Session) (old : Option Session) → (rejoins w s old).world.volumes ≡ w.volumes
 rejoins-volumes w s None = refl
 rejoins-volumes w s (Some o) = refl
@@ -299,5 +420,21 @@ call-changes w s fork bytes h there had (calls.SetForkParms reference bits rest)
 call-changes w s fork bytes h there had (calls.SetVolParms volume bits rest) passes = (tree-leaves volume.0 (trees.SetVolParms bits rest) (λ v. Empty)).leaves w s fork bytes there passes had
 call-changes w s fork bytes h there had (calls.Write flag reference offset count piece) passes = write-changes reference.0 (record { from_end = is_from_end flag; offset = offset; count = pos count; piece = piece }) (λ end. End end) w s fork bytes h had
 call-changes w s fork bytes h there had (calls.WriteExt flag reference offset count piece) passes = write-changes reference.0 (record { from_end = is_from_end flag; offset = offset; count = count; piece = piece }) (λ end. EndExt end) w s fork bytes h had
+call-changes w s fork bytes h there had (calls.AddAPPL dt dir creator tag path) passes = (changes-leave dt (volumes.AddAPPL dir.0 creator tag path) (λ v. Empty) (add-appl-gentle dir.0 creator tag path)).leaves w s fork bytes there passes had
+call-changes w s fork bytes h there had (calls.AddComment dt dir path comment) passes = (changes-leave dt (volumes.AddComment dir.0 path comment) (λ v. Empty) (add-comment-gentle dir.0 path comment)).leaves w s fork bytes there passes had
+call-changes w s fork bytes h there had (calls.AddIcon dt creator kind icon_kind tag size piece) passes = (changes-leave dt (volumes.AddIcon (icon_of creator kind icon_kind tag piece)) (λ v. Empty) (add-icon-gentle (icon_of creator kind icon_kind tag piece))).leaves w s fork bytes there passes had
+call-changes w s fork bytes h there had (calls.CloseDT dt) passes = let l : LeavesForks (close_dt_row dt) = tells-leave dt _ _ in l.leaves w s fork bytes there passes had
+call-changes w s fork bytes h there had (calls.CopyFile volume dir target_volume target_dir path target_path new_path) passes = (copies-leave (record { volume = volume.0; dir = dir.0; path = path; target = target_volume.0; target_dir = target_dir.0; target_path = target_path; new_path = new_path })).leaves w s fork bytes there passes had
+call-changes w s fork bytes h there had (calls.CreateID volume dir path) passes = (changes-leave volume.0 (volumes.CreateID dir.0 path) (λ v. open_dir_reply (created_id v dir.0 path)) (create-id-gentle dir.0 path)).leaves w s fork bytes there passes had
+call-changes w s fork bytes h there had (calls.DeleteID volume id) passes = (changes-leave volume.0 (volumes.DeleteID id.0) (λ v. Empty) (delete-id-gentle id.0)).leaves w s fork bytes there passes had
+call-changes w s fork bytes h there had (calls.ExchangeFiles volume dir second_dir path second_path) passes = exchange-changes volume.0 dir.0 second_dir.0 path second_path w s fork bytes h passes had
+call-changes w s fork bytes h there had (calls.GetAPPL dt creator index bits) passes = let l : LeavesForks (get_appl_row dt creator index bits) = tells-leave dt _ _ in l.leaves w s fork bytes there passes had
+call-changes w s fork bytes h there had (calls.GetComment dt dir path) passes = let l : LeavesForks (get_comment_row dt dir.0 path) = tells-leave dt _ _ in l.leaves w s fork bytes there passes had
+call-changes w s fork bytes h there had (calls.GetIcon dt creator kind icon_kind count) passes = let l : LeavesForks (get_icon_row dt creator kind icon_kind count) = tells-leave dt _ _ in l.leaves w s fork bytes there passes had
+call-changes w s fork bytes h there had (calls.GetIconInfo dt creator index) passes = let l : LeavesForks (get_icon_info_row dt creator index) = tells-leave dt _ _ in l.leaves w s fork bytes there passes had
+call-changes w s fork bytes h there had (calls.OpenDT volume) passes = let l : LeavesForks (open_dt_row volume.0) = tells-leave volume.0 _ _ in l.leaves w s fork bytes there passes had
+call-changes w s fork bytes h there had (calls.RemoveAPPL dt dir creator path) passes = (changes-leave dt (volumes.RemoveAPPL dir.0 creator path) (λ v. Empty) (remove-appl-gentle dir.0 creator path)).leaves w s fork bytes there passes had
+call-changes w s fork bytes h there had (calls.RemoveComment dt dir path) passes = (changes-leave dt (volumes.RemoveComment dir.0 path) (λ v. Empty) (remove-comment-gentle dir.0 path)).leaves w s fork bytes there passes had
+call-changes w s fork bytes h there had (calls.ResolveID volume id bits) passes = let l : LeavesForks (resolve_id_row volume.0 id.0 bits) = tells-leave volume.0 _ _ in l.leaves w s fork bytes there passes had
 call-changes w s fork bytes h there had calls.Logout passes = had
 call-changes w s fork bytes h there had call passes = had

@@ -81,7 +81,7 @@ file-answer v opens bits id file found is_file sound typed =
     subst (λ (dir : Bool). IsAnswer (cond dir 2 1) (cond dir bits bits) (cond dir (Dir (dir_values v.rows bits file)) (FileParams (file_values opens bits file)))) is_file
     (node-told v opens bits bits id file found sound typed)
 
-file-params-told : (call : Call) (bits : ℕ) (file : FileValues) → Asks call (Params bits (FileParams file)) → IsAnswer 1 bits (FileParams file) → is_outside file_mask bits ≡ false → IsToldTo call (Params bits (FileParams file))
+pub file-params-told : (call : Call) (bits : ℕ) (file : FileValues) → Asks call (Params bits (FileParams file)) → IsAnswer 1 bits (FileParams file) → is_outside file_mask bits ≡ false → IsToldTo call (Params bits (FileParams file))
 file-params-told call bits file asks answer inside =
     let values : Values = FileParams file in
     let size = params-size 1 bits values answer in

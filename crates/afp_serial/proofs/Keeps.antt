@@ -11,7 +11,6 @@ use Rattle.afp_serial.specs.declared.ask.Ask.TheVariants as ask
 use Rattle.afp_serial.specs.declared.ask.Entry.{Entry}
 use Rattle.afp_serial.specs.declared.ask.Outcome.{Outcome}
 use Rattle.afp_serial.specs.declared.ask.Outcome.TheVariants as outcome
-use Rattle.afp_serial.specs.declared.ask.Told.{Told}
 use Rattle.afp_serial.specs.declared.attachment.Attachment.TheVariants.{Detached}
 use Rattle.afp_serial.specs.Answer.{request, is_full, with_new_session, after_verdict, after_call, after_lost, after_parting, drain_moment, losing, newly_kept, told_verdict, after_at, after, Verdict, repeats, refused, runs, verdict}
 use Rattle.afp_serial.specs.KeptAnswers.{block_of, enclosed_of, keeping, kept_in}

@@ -1,8 +1,8 @@
 -- One more answer that is kept keeps a sound world sound.
-use Rattle.std.proofs.Common.{◌≡◌, ◌∙◌, ap, sym, refl, subst, ℕ, zero, suc, ◌+◌, ◌-◌, ◌≤◌, Bool, true, false, not, ◌&&◌, ◌||◌, cond, eqb, List, [], ◌∷◌, ◌++◌, length, drop, map, arith, Option, Some, None, length-append, length-drop}
+use Rattle.std.proofs.Common.{◌≡◌, ◌∙◌, ap, sym, refl, ℕ, zero, suc, ◌-◌, ◌≤◌, Bool, true, false, not, ◌&&◌, ◌||◌, cond, eqb, List, [], ◌∷◌, ◌++◌, length, drop, arith, Option, Some, None, length-drop}
 use Rattle.std.specs.Prelude.{◌==◌, nat_le, nat_lt, is_none, count_by}
 use Rattle.std.specs.List.{list_all, list_any}
-use Rattle.std.proofs.lemmas.Bool.{and_parts, and_from, cond_both, eqb-true, eq-eqb, or_left, or_right, false_from_ne_true, le-leb}
+use Rattle.std.proofs.lemmas.Bool.{and_parts, and_from, cond_both, le-leb}
 use Rattle.afp_base.specs.Apart.{are_apart}
 use Rattle.afp_base.specs.Cached.{Request, Answer, Kept, cached_answer, either, is_repeat, with_kept}
 use Rattle.afp_base.specs.Limits.{payload_limit, replay_cache_size, most_forks}

@@ -1,8 +1,8 @@
 -- Answers that are kept are found behind one more.
-use Rattle.std.proofs.Common.{◌≡◌, ◌∙◌, ap, sym, refl, arith, ℕ, zero, suc, ◌+◌, ◌-◌, ◌<◌, ◌≤◌, true, false, List, [], ◌∷◌, ◌++◌, length, Some}
+use Rattle.std.proofs.Common.{◌≡◌, ◌∙◌, ap, sym, refl, arith, ℕ, zero, suc, ◌+◌, ◌-◌, ◌≤◌, false, List, [], ◌∷◌, ◌++◌, length, Some}
 use Rattle.std.specs.Prelude.{drop}
 use Rattle.std.proofs.lemmas.List.{length-append}
-use Rattle.afp_base.specs.Cached.{Answer, FindsNewest, Kept, PassesOthers, Request, cached_answer, either, is_repeat, with_kept}
+use Rattle.afp_base.specs.Cached.{Answer, FindsNewest, Kept, PassesOthers, Request, cached_answer, is_repeat, with_kept}
 use Rattle.afp_base.specs.Limits.{replay_cache_size}
 use Rattle.afp_serial.specs.KeptLaws.{BringsNoOther, FindsKept, KeepsOthers, LosesOldest}
 

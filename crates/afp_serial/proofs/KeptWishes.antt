@@ -1,24 +1,22 @@
 -- What requests wish of sessions, and which of them are kept.
-use Rattle.std.proofs.Common.{◌≡◌, ◌∙◌, ap, sym, refl, ℕ, Bool, true, false, not, ◌&&◌, cond, List, [], ◌∷◌, ◌++◌, take, Option, Some, None, inl, inr}
+use Rattle.std.proofs.Common.{◌≡◌, ◌∙◌, ap, sym, refl, ℕ, Bool, true, false, ◌&&◌, cond, List, [], ◌∷◌, ◌++◌, take, Option, Some, None, inl, inr}
 use Rattle.std.specs.List.{list_all}
 use Rattle.std.proofs.lemmas.Bool.{and_parts, cond_both}
 use Rattle.afp_base.proofs.DefinitionLaws.{repeats}
 use Rattle.afp_base.specs.Cached.{Request, Answer, Kept, cached_answer, either, is_repeat}
-use Rattle.afp_base.specs.Limits.{replay_cache_size}
 use Rattle.afp_base.specs.declared.code.Code.{Code}
 use Rattle.afp_calls_grammar.proofs.CallLemmas.{readers_sound}
 use Rattle.afp_calls_grammar.proofs.ReaderLemmas.{spelt_spells}
 use Rattle.afp_calls_grammar.specs.Call.{Spells}
 use Rattle.afp_calls_grammar.specs.Commands.{disconnect_old_session_command, get_session_token_command, logout_command}
 use Rattle.afp_calls_grammar.specs.Spelt.{spelt_call}
-use Rattle.afp_calls_grammar.specs.declared.call.Call.{Call}
 use Rattle.afp_calls_grammar.specs.declared.call.Call.TheVariants.{DisconnectOldSession, GetSessionToken, Logout}
 use Rattle.afp_serial.proofs.RowsSound.{row-sound}
 use Rattle.afp_serial.proofs.SoundRow.{no_more-kept, no_more-parts}
 use Rattle.afp_serial.proofs.StaysSound.{is_kept_one, kept-cache}
 use Rattle.afp_serial.proofs.Verdicts.{refused-by}
 use Rattle.afp_serial.specs.Answer.{refused, verdict}
-use Rattle.afp_serial.specs.KeptAnswers.{block_of, enclosed_of, is_kept, is_kept_code, is_kept_command}
+use Rattle.afp_serial.specs.KeptAnswers.{block_of, is_kept, is_kept_code, is_kept_command}
 use Rattle.afp_serial.specs.Sound.{IsSound, is_lawful_cache}
 use Rattle.afp_serial.specs.World.{Refused, World, Session}
 

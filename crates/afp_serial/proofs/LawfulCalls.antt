@@ -1,9 +1,9 @@
 -- What bytes spell is lawful.
-use Rattle.std.proofs.Common.{◌≡◌, ◌∙◌, ap, sym, refl, ℕ, zero, suc, pos, negsuc, ◌+◌, ◌-◌, ◌<◌, ◌^◌, arith, Bool, true, false, ◌&&◌, cond, List, [], ◌∷◌, ◌++◌, length, drop, take, ltb, Option, Some, None, w32, w64}
+use Rattle.std.proofs.Common.{◌==◌, ◌≡◌, ◌∙◌, ap, sym, refl, ℕ, zero, suc, pos, negsuc, ◌+◌, ◌-◌, ◌<◌, ◌^◌, arith, Bool, true, false, ◌&&◌, cond, List, [], ◌∷◌, ◌++◌, length, drop, take, ltb, Option, Some, None, w32, w64}
 use Rattle.std.specs.Prelude.{slice_get}
 use Rattle.std.specs.List.{list_all}
 use Rattle.std.specs.Int.{cast_signed}
-use Rattle.std.proofs.lemmas.Bool.{and_parts, and_from, cond_both, lt-ltb, ltb-true, ltb-false}
+use Rattle.std.proofs.lemmas.Bool.{and_parts, and_from, cond_both, eq-eqb, lt-ltb, ltb-true, ltb-false}
 use Rattle.std.proofs.lemmas.List.Folds.{list_all-append}
 use Rattle.byteorder.specs.Endian.{big_number}
 use Rattle.byteorder.specs.Numbers.{big_from-lt}
@@ -76,7 +76,7 @@ value-lawful (Count n) x place first rest small h = number-lawful n x first smal
 value-lawful (Optional there n) x place first rest small h = optional-lawful there n x first small h
 value-lawful Signed32 x place first rest small h = ap (is_signed 2147483648) (sym h.1) ∙ signed32 (big_number 4 first) (big_from-lt 0 4 first (small-bytes first small))
 value-lawful Signed64 x place first rest small h = ap (is_signed 9223372036854775808) (sym h.1) ∙ signed64 (big_number 8 first) (big_from-lt 0 8 first (small-bytes first small))
-value-lawful (Plain n) x place first rest small h = ap are_bytes (sym h.1) ∙ small
+value-lawful (Plain n) x place first rest small h = and_from (length x == n) (are_bytes x) (eq-eqb (length x) n (ap length (sym h.1) ∙ h.0)) (ap are_bytes (sym h.1) ∙ small)
 value-lawful (Counted n) x place first rest small h = counted-lawful n x first small h
 value-lawful Pathname x place first rest small h = path-lawful x first small h
 value-lawful Tail x place first rest small h = ap are_bytes (sym h.0) ∙ small
@@ -104,6 +104,11 @@ pub field-lawful : (call : Call) (place : ℕ) (f : RequestField) → is_lawful_
 unfolding is_lawful_call
 field-lawful call place f h at_place =
     all-place is_lawful_field (layout_of call).fields place f (and_parts (list_all is_lawful_field (layout_of call).fields) (is_lawful_piece (layout_of call).enclosed) h).0 at_place
+
+-- what comes with the block of a lawful call
+pub enclosed-lawful : (call : Call) → is_lawful_call call ≡ true → is_lawful_piece (layout_of call).enclosed ≡ true
+unfolding is_lawful_call
+enclosed-lawful call h = (and_parts (list_all is_lawful_field (layout_of call).fields) (is_lawful_piece (layout_of call).enclosed) h).1
 
 -- the request of an ask in its ranges spells lawful calls alone
 request-lawful : (r : Request) (call : Call) → are_bytes r.payload ≡ true → spelt_call (block_of r) (enclosed_of r) ≡ Some call → is_lawful_call call ≡ true

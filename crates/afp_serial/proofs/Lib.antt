@@ -13,6 +13,7 @@ pub mod SoundRow
 pub mod VolumeCodes
 pub mod VolumeStates
 pub mod OnVolumeRows
+pub mod VolumeRows
 pub mod ParamsSize
 pub mod ToldReplies
 pub mod LoginRows
@@ -22,8 +23,13 @@ pub mod OpenVolRow
 pub mod CloseVolRow
 pub mod TellRows
 pub mod TreeRows
+pub mod EditRows
 pub mod OnForkRows
 pub mod ForkRows
+pub mod DeskRows
+pub mod CopyRow
+pub mod ExchangedForks
+pub mod ExchangeRow
 pub mod WriteRows
 pub mod PlacedLists
 pub mod LockRows
@@ -47,7 +53,9 @@ pub mod ShownAnswers
 pub mod RefusedAnswers
 pub mod CallLaws
 pub mod OpenForkBytes
+pub mod EditedForks
 pub mod ForkChanges
+pub mod ExchangedBytes
 pub mod ForksInHistories
 pub mod DrawnOnce
 pub mod KeptFound

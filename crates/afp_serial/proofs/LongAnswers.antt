@@ -19,7 +19,7 @@ use Rattle.afp_replies.specs.Replies.{canonical_reply}
 use Rattle.afp_replies.specs.declared.reply.Reply.{Reply}
 use Rattle.afp_replies.specs.declared.reply.Reply.TheVariants.{Opened, Start, StartExt}
 use Rattle.afp_calls_grammar.specs.declared.call.Call.{Call}
-use Rattle.afp_calls_grammar.specs.declared.call.Call.TheVariants.{ByteRangeLock, ByteRangeLockExt, CloseDir, CloseFork, CloseVol, CreateDir, CreateFile, Delete, DisconnectOldSession, Enumerate, EnumerateExt, EnumerateExt2, Flush, FlushFork, GetFileDirParms, GetForkParms, GetSessionToken, GetSrvrInfo, GetSrvrMsg, GetSrvrParms, GetUserInfo, GetVolParms, Login, LoginExt, Logout, MapID, MapName, MoveAndRename, OpenDir, OpenFork, OpenVol, Read, ReadExt, Rename, SetDirParms, SetFileDirParms, SetFileParms, SetForkParms, SetVolParms, Write, WriteExt}
+use Rattle.afp_calls_grammar.specs.declared.call.Call.TheVariants.{AddAPPL, AddComment, AddIcon, ByteRangeLock, ByteRangeLockExt, CloseDT, CloseDir, CloseFork, CloseVol, CopyFile, CreateDir, CreateFile, CreateID, Delete, DeleteID, DisconnectOldSession, Enumerate, EnumerateExt, EnumerateExt2, ExchangeFiles, Flush, FlushFork, GetAPPL, GetComment, GetFileDirParms, GetForkParms, GetIcon, GetIconInfo, GetSessionToken, GetSrvrInfo, GetSrvrMsg, GetSrvrParms, GetUserInfo, GetVolParms, Login, LoginExt, Logout, MapID, MapName, MoveAndRename, OpenDT, OpenDir, OpenFork, OpenVol, Read, ReadExt, RemoveAPPL, RemoveComment, Rename, ResolveID, SetDirParms, SetFileDirParms, SetFileParms, SetForkParms, SetVolParms, Write, WriteExt}
 use Rattle.afp_serial.proofs.ForkRows.{file-answer}
 use Rattle.afp_serial.proofs.OnVolumeRows.{refused_before-none}
 use Rattle.afp_serial.proofs.OpenForkRow.{IsFileFound, found-file, opens-passed}
@@ -31,6 +31,7 @@ use Rattle.volume_spec.specs.CreateDir.{create_dir_id}
 use Rattle.afp_serial.specs.Lock.{LockAsked, lock_asked, locks_range, range_asked}
 use Rattle.afp_serial.specs.OnFork.{OpenFile, committed_with, done_with, open_file}
 use Rattle.afp_serial.specs.OnVolume.{done_on, opened_on}
+use Rattle.afp_serial.specs.OpenDir.{open_dir_reply}
 use Rattle.afp_serial.specs.OpenVol.{open_vol_reply, opens_volume, state_named, volume_named}
 use Rattle.afp_serial.specs.Rows.{effect, row}
 use Rattle.afp_serial.specs.SessionToken.{old_session_in, rejoins}
@@ -38,6 +39,7 @@ use Rattle.afp_serial.specs.Sound.{IsSound}
 use Rattle.afp_serial.specs.World.{Effect, plain, refused_before, volume_at, World, Session}
 use Rattle.volume_spec.proofs.Formed.{formed-parts}
 use Rattle.afp_base.proofs.ListFacts.{find-all}
+use Rattle.volume_spec.specs.FileIds.{created_id}
 use Rattle.volume_spec.specs.GetVolParms.{get_vol_parms_refusal, volume_values}
 use Rattle.volume_spec.specs.NodeValues.{file_values}
 use Rattle.volume_spec.specs.OpenFork.{is_resource}
@@ -149,6 +151,11 @@ locks-short : (most : ℕ) (w : World) (asked : LockAsked) (f : OpenFile) (reply
 locks-short most w asked f reply None short = omega arith
 locks-short most w asked f reply (Some range) short = short range.from
 
+-- the id that was found, or nothing
+found-short : (o : Option ℕ) → Within 4 (open_dir_reply o)
+found-short None = omega arith
+found-short (Some id) = u32-short 4 id (omega arith)
+
 -- the rows
 
 -- a row that tells so few bytes, or that changes nothing
@@ -166,24 +173,36 @@ keeps (Some f) = refl
 
 pub long-tells : LongTellsAlone
 unfolding row
+long-tells w s (AddAPPL dt dir creator tag path) h passes = short-row w s (AddAPPL dt dir creator tag path) 0 (on-volume-short 0 w (volume_at w.volumes dt) _ (λ v. omega arith))
+long-tells w s (AddComment dt dir path comment) h passes = short-row w s (AddComment dt dir path comment) 0 (on-volume-short 0 w (volume_at w.volumes dt) _ (λ v. omega arith))
+long-tells w s (AddIcon dt creator kind icon_kind tag size piece) h passes = short-row w s (AddIcon dt creator kind icon_kind tag size piece) 0 (on-volume-short 0 w (volume_at w.volumes dt) _ (λ v. omega arith))
 long-tells w s (ByteRangeLock flags reference offset length) h passes = short-row w s (ByteRangeLock flags reference offset length) 4
     (on-fork-short 4 w (open_file w s reference.0) _ (λ f. locks-short 4 w (lock_asked flags offset length) f (λ start. Start start) (range_asked f (lock_asked flags offset length)) (λ start. u32-short 4 start (omega arith))))
 long-tells w s (ByteRangeLockExt flags reference offset length) h passes = short-row w s (ByteRangeLockExt flags reference offset length) 8
     (on-fork-short 8 w (open_file w s reference.0) _ (λ f. locks-short 8 w (lock_asked flags offset length) f (λ start. StartExt start) (range_asked f (lock_asked flags offset length)) (λ start. u64-short start)))
+long-tells w s (CloseDT dt) h passes = λ long. record { world = on-volume-stands w (volume_at w.volumes dt) _ (λ v. refl); keeper = refl }
 long-tells w s (CloseDir volume dir) h passes = λ long. record { world = refl; keeper = refl }
 long-tells w s (CloseFork reference) h passes = short-row w s (CloseFork reference) 0 (on-fork-short 0 w (open_file w s reference.0) _ (λ f. omega arith))
 long-tells w s (CloseVol volume) h passes = short-row w s (CloseVol volume) 0 (omega arith)
+long-tells w s (CopyFile volume dir target_volume target_dir path target_path new_path) h passes = short-row w s (CopyFile volume dir target_volume target_dir path target_path new_path) 0 (on-volume-short 0 w (volume_at w.volumes target_volume.0) _ (λ v. omega arith))
 long-tells w s (CreateDir volume dir path) h passes = short-row w s (CreateDir volume dir path) 4 (on-volume-short 4 w (volume_at w.volumes volume.0) _ (λ v. u32-short 4 (create_dir_id v) (omega arith)))
 long-tells w s (CreateFile flag volume dir path) h passes = short-row w s (CreateFile flag volume dir path) 0 (on-volume-short 0 w (volume_at w.volumes volume.0) _ (λ v. omega arith))
+long-tells w s (CreateID volume dir path) h passes = short-row w s (CreateID volume dir path) 4 (on-volume-short 4 w (volume_at w.volumes volume.0) _ (λ v. found-short (created_id v dir.0 path)))
 long-tells w s (Delete volume dir path) h passes = short-row w s (Delete volume dir path) 0 (on-volume-short 0 w (volume_at w.volumes volume.0) _ (λ v. omega arith))
+long-tells w s (DeleteID volume id) h passes = short-row w s (DeleteID volume id) 0 (on-volume-short 0 w (volume_at w.volumes volume.0) _ (λ v. omega arith))
 long-tells w s (DisconnectOldSession kind token) h passes = short-row w s (DisconnectOldSession kind token) 0 (rejoins-short w s (old_session_in w s token))
 long-tells w s (Enumerate volume dir file_bits dir_bits count start size path) h passes = λ long. record { world = on-volume-stands w (volume_at w.volumes volume.0) _ (λ v. refl); keeper = refl }
 long-tells w s (EnumerateExt volume dir file_bits dir_bits count start size path) h passes = λ long. record { world = on-volume-stands w (volume_at w.volumes volume.0) _ (λ v. refl); keeper = refl }
 long-tells w s (EnumerateExt2 volume dir file_bits dir_bits count start size path) h passes = λ long. record { world = on-volume-stands w (volume_at w.volumes volume.0) _ (λ v. refl); keeper = refl }
+long-tells w s (ExchangeFiles volume dir second_dir path second_path) h passes = short-row w s (ExchangeFiles volume dir second_dir path second_path) 0 (on-volume-short 0 w (volume_at w.volumes volume.0) _ (λ v. omega arith))
 long-tells w s (Flush volume) h passes = short-row w s (Flush volume) 0 (omega arith)
 long-tells w s (FlushFork reference) h passes = short-row w s (FlushFork reference) 0 (on-fork-short 0 w (open_file w s reference.0) _ (λ f. omega arith))
+long-tells w s (GetAPPL dt creator index bits) h passes = λ long. record { world = on-volume-stands w (volume_at w.volumes dt) _ (λ v. refl); keeper = refl }
+long-tells w s (GetComment dt dir path) h passes = λ long. record { world = on-volume-stands w (volume_at w.volumes dt) _ (λ v. refl); keeper = refl }
 long-tells w s (GetFileDirParms volume dir file_bits dir_bits path) h passes = λ long. record { world = on-volume-stands w (volume_at w.volumes volume.0) _ (λ v. refl); keeper = refl }
 long-tells w s (GetForkParms reference bits) h passes = λ long. record { world = on-fork-stands w (open_file w s reference.0) _ (λ f. refl); keeper = keeps (open_file w s reference.0) }
+long-tells w s (GetIcon dt creator kind icon_kind count) h passes = λ long. record { world = on-volume-stands w (volume_at w.volumes dt) _ (λ v. refl); keeper = refl }
+long-tells w s (GetIconInfo dt creator index) h passes = λ long. record { world = on-volume-stands w (volume_at w.volumes dt) _ (λ v. refl); keeper = refl }
 long-tells w s (GetSessionToken kind stamp id) h passes = λ long. record { world = refl; keeper = refl }
 long-tells w s GetSrvrInfo h passes = λ long. record { world = refl; keeper = refl }
 long-tells w s (GetSrvrMsg kind bits) h passes = λ long. record { world = refl; keeper = refl }
@@ -196,12 +215,16 @@ long-tells w s Logout h passes = short-row w s Logout 0 (omega arith)
 long-tells w s (MapID function id) h passes = λ long. record { world = refl; keeper = refl }
 long-tells w s (MapName function name) h passes = λ long. record { world = refl; keeper = refl }
 long-tells w s (MoveAndRename volume dir target_dir path target_path new_path) h passes = short-row w s (MoveAndRename volume dir target_dir path target_path new_path) 0 (on-volume-short 0 w (volume_at w.volumes volume.0) _ (λ v. omega arith))
+long-tells w s (OpenDT volume) h passes = λ long. record { world = on-volume-stands w (volume_at w.volumes volume.0) _ (λ v. refl); keeper = refl }
 long-tells w s (OpenDir volume dir path) h passes = λ long. record { world = on-volume-stands w (volume_at w.volumes volume.0) _ (λ v. refl); keeper = refl }
 long-tells w s (OpenFork flag volume dir bits mode path) h passes = short-row w s (OpenFork flag volume dir bits mode path) 612 (open-short w s (record { volume = volume.0; bits = bits; resource = is_resource flag; access = access_of mode }) dir.0 path h passes)
 long-tells w s (OpenVol bits name) h passes = short-row w s (OpenVol bits name) 308 (open-vol-short w s bits name h passes)
 long-tells w s (Read reference offset count mask character) h passes = λ long. record { world = on-fork-stands w (open_file w s reference.0) _ (λ f. refl); keeper = keeps (open_file w s reference.0) }
 long-tells w s (ReadExt reference offset count) h passes = λ long. record { world = on-fork-stands w (open_file w s reference.0) _ (λ f. refl); keeper = keeps (open_file w s reference.0) }
+long-tells w s (RemoveAPPL dt dir creator path) h passes = short-row w s (RemoveAPPL dt dir creator path) 0 (on-volume-short 0 w (volume_at w.volumes dt) _ (λ v. omega arith))
+long-tells w s (RemoveComment dt dir path) h passes = short-row w s (RemoveComment dt dir path) 0 (on-volume-short 0 w (volume_at w.volumes dt) _ (λ v. omega arith))
 long-tells w s (Rename volume dir path new_path) h passes = short-row w s (Rename volume dir path new_path) 0 (on-volume-short 0 w (volume_at w.volumes volume.0) _ (λ v. omega arith))
+long-tells w s (ResolveID volume id bits) h passes = λ long. record { world = on-volume-stands w (volume_at w.volumes volume.0) _ (λ v. refl); keeper = refl }
 long-tells w s (SetDirParms volume dir bits path tail) h passes = short-row w s (SetDirParms volume dir bits path tail) 0 (on-volume-short 0 w (volume_at w.volumes volume.0) _ (λ v. omega arith))
 long-tells w s (SetFileDirParms volume dir bits path tail) h passes = short-row w s (SetFileDirParms volume dir bits path tail) 0 (on-volume-short 0 w (volume_at w.volumes volume.0) _ (λ v. omega arith))
 long-tells w s (SetFileParms volume dir bits path tail) h passes = short-row w s (SetFileParms volume dir bits path tail) 0 (on-volume-short 0 w (volume_at w.volumes volume.0) _ (λ v. omega arith))
@@ -209,4 +232,3 @@ long-tells w s (SetForkParms reference bits tail) h passes = short-row w s (SetF
 long-tells w s (SetVolParms volume bits tail) h passes = short-row w s (SetVolParms volume bits tail) 0 (on-volume-short 0 w (volume_at w.volumes volume.0) _ (λ v. omega arith))
 long-tells w s (Write flag reference offset count piece) h passes = short-row w s (Write flag reference offset count piece) 4 (on-fork-short 4 w (open_file w s reference.0) _ (λ f. u32-short 4 (write_end f (record { from_end = is_from_end flag; offset = offset; count = pos count; piece = piece })) (omega arith)))
 long-tells w s (WriteExt flag reference offset count piece) h passes = short-row w s (WriteExt flag reference offset count piece) 8 (on-fork-short 8 w (open_file w s reference.0) _ (λ f. u64-short (write_end f (record { from_end = is_from_end flag; offset = offset; count = count; piece = piece }))))
-long-tells w s call h passes = absurd (cc)

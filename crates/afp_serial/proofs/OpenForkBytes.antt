@@ -28,15 +28,15 @@ abbrev pub Has : ℕ → Bool → List ℕ → VolumeState → Type 0
 Has id resource bytes v = option_map (fork_of resource) (row_at v.rows id) ≡ Some bytes
 
 -- a volume has them where another has
-abbrev LetsBe : ℕ → VolumeState → VolumeState → Type 0
+abbrev pub LetsBe : ℕ → VolumeState → VolumeState → Type 0
 LetsBe id v w = (resource : Bool) (bytes : List ℕ) → Has id resource bytes v → Has id resource bytes w
 
 -- a change that keeps the forks of a row
-record KeepsForks (change : File → File) : Type 0 where
-  ids : (row : File) → (change row).id ≡ row.id
-  forks : (resource : Bool) (row : File) → fork_of resource (change row) ≡ fork_of resource row
+pub record KeepsForks (change : File → File) : Type 0 where
+  pub ids : (row : File) → (change row).id ≡ row.id
+  pub forks : (resource : Bool) (row : File) → fork_of resource (change row) ≡ fork_of resource row
 
-changed-be : (id : ℕ) (v : VolumeState) (at_id : ℕ) (change : File → File) → KeepsForks change → LetsBe id v (record v { rows = with_changed at_id change v.rows })
+pub changed-be : (id : ℕ) (v : VolumeState) (at_id : ℕ) (change : File → File) → KeepsForks change → LetsBe id v (record v { rows = with_changed at_id change v.rows })
 changed-be id v at_id change keeps resource bytes h = by (id == at_id) refl
   where
     of-row : (o : Option File) → option_map (fork_of resource) (option_map change o) ≡ option_map (fork_of resource) o
@@ -61,7 +61,7 @@ find-longer test (y ∷ xs) ys x h =
     (λ other k. ap (λ b. cond b (Some y) (find test (xs ++ ys))) other ∙ find-longer test xs ys x k)
     h
 
-new-be : (id : ℕ) (v : VolumeState) (row : File) → LetsBe id v (with_row row v)
+pub new-be : (id : ℕ) (v : VolumeState) (row : File) → LetsBe id v (with_row row v)
 unfolding row_at
 new-be id v row resource bytes h = by (find (λ (r : File). r.id == id) v.rows) refl h
   where

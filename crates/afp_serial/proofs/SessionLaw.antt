@@ -1,8 +1,8 @@
 -- Each legal entry changes the view of a session in one of few ways.
-use Rattle.std.proofs.Common.{◌≡◌, ◌≢◌, ◌∙◌, ◌⊎◌, inl, inr, refl, sym, ap, subst, ℕ, suc, ◌+◌, ◌<◌, Bool, true, false, not, ◌&&◌, cond, List, [], ◌∷◌, ◌++◌, take, Option, Some, None, arith}
-use Rattle.std.specs.Prelude.{nat_eq, nat_lt, is_none, is_some, ◌==◌, bytes_eq, find}
+use Rattle.std.proofs.Common.{◌≡◌, ◌≢◌, ◌∙◌, ◌⊎◌, inl, inr, refl, sym, ap, subst, ℕ, suc, ◌+◌, ◌<◌, Bool, true, false, not, ◌&&◌, cond, List, [], ◌∷◌, Option, Some, None, arith}
+use Rattle.std.specs.Prelude.{nat_eq, nat_lt, is_none, is_some, ◌==◌, bytes_eq}
 use Rattle.std.specs.List.{list_all}
-use Rattle.std.proofs.lemmas.Bool.{and_from, cond_both, eqb-true, eqb-false, eq-eqb, ne_eqb, false≢true, cond-true, cond-false, and_parts, ltb-true}
+use Rattle.std.proofs.lemmas.Bool.{and_from, cond_both, eqb-true, eq-eqb, ne_eqb, false≢true, cond-true, cond-false, and_parts, ltb-true}
 use Rattle.afp_base.proofs.Facts.{bytes_same}
 use Rattle.afp_base.proofs.ListFacts.{find-all}
 use Rattle.afp_base.specs.Cached.{Request, Answer, Kept, cached_answer, with_kept}
@@ -21,7 +21,7 @@ use Rattle.afp_serial.proofs.Keeps.{IsKnown}
 use Rattle.afp_serial.proofs.Refusals.{refuses_shortly, verdict-short}
 use Rattle.afp_serial.proofs.RowsSound.{row-sound}
 use Rattle.afp_serial.proofs.SessionLists.{NumbersDiffer, or_else, differ-filter, found-by, of-number, of-push, of-without, put-changed}
-use Rattle.afp_serial.proofs.SessionSteps.{adopting, changing, detaching, storing_in, view-adopted, view-detached, view-stored}
+use Rattle.afp_serial.proofs.SessionSteps.{adopting, detaching, view-adopted, view-detached, view-stored}
 use Rattle.afp_serial.proofs.SessionViews.{holder_of, OnLink, on-link, view-ended, view-swept, row-view, Has, holder-is, has-holds, holds-has, sound-numbers, sound-links}
 use Rattle.afp_serial.proofs.SoundRow.{is_ok, is_short}
 use Rattle.afp_serial.proofs.SoundParts.{caches-parts, is_below, sessions-parts}
@@ -29,16 +29,14 @@ use Rattle.afp_serial.proofs.StaysSound.{IsLawful, after-sound, legal-lawful, le
 use Rattle.afp_serial.proofs.Verdicts.{comes-to, kept-verdict, repeats-kept, runs-of}
 use Rattle.afp_serial.specs.declared.ask.Ask.{Ask}
 use Rattle.afp_serial.specs.declared.ask.Ask.TheVariants as ask
-use Rattle.afp_serial.specs.declared.ask.Entry.{Entry}
 use Rattle.afp_serial.specs.declared.ask.Outcome.{Outcome}
 use Rattle.afp_serial.specs.declared.ask.Outcome.TheVariants as outcome
 use Rattle.afp_serial.specs.declared.ask.Told.{Told}
 use Rattle.afp_serial.specs.declared.ask.Told.TheVariants as told
 use Rattle.afp_serial.specs.declared.attachment.Attachment.{Attachment}
 use Rattle.afp_serial.specs.declared.attachment.Attachment.TheVariants.{Attached, Detached}
-use Rattle.afp_serial.specs.Answer.{after, after_at, after_call, after_lost, after_parting, after_verdict, answer, answer_at, committed_at, committed_by, committed_in, committed_of, effect_reply, is_full, is_legal, is_legal_outcome, link_number, losing, needs_user, new_session, newly_kept, refusal_reply, request, told_call, told_parting, told_pulse, told_verdict, with_new_session, without_expired, Verdict, repeats, refused, runs, verdict}
+use Rattle.afp_serial.specs.Answer.{after_at, after_call, after_lost, after_parting, after_verdict, answer_at, committed_at, committed_by, committed_in, committed_of, effect_reply, is_full, is_legal_outcome, link_number, losing, needs_user, new_session, newly_kept, refusal_reply, request, told_call, told_parting, told_pulse, told_verdict, with_new_session, Verdict, repeats, refused, runs, verdict}
 use Rattle.afp_serial.specs.KeptAnswers.{block_of, enclosed_of, is_kept, is_kept_code, is_kept_command, keeping, kept_answer, kept_in}
-use Rattle.afp_serial.specs.Laws.{ComesToCall}
 use Rattle.afp_serial.specs.Ranges.{is_typed_entry}
 use Rattle.afp_serial.specs.Rows.{committed, effect, ends_session, refusal, row}
 use Rattle.afp_serial.specs.SessionLaws.{moves_sessions}

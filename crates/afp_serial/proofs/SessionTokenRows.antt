@@ -1,9 +1,8 @@
 -- What FPGetSessionToken and FPDisconnectOldSession owe.
-use Rattle.std.proofs.Common.{◌≡◌, ◌∙◌, ap, sym, refl, ℕ, ◌+◌, ◌≤◌, ◌<◌, Bool, true, not, ◌&&◌, List, [], ◌++◌, Option, Some, None, length, arith, length-append}
-use Rattle.std.specs.Prelude.{◌==◌, find, bytes_eq}
+use Rattle.std.proofs.Common.{◌≡◌, refl, ℕ, ◌+◌, true, not, ◌&&◌, List, [], ◌++◌, Option, Some, None, length, arith, length-append}
+use Rattle.std.specs.Prelude.{◌==◌, bytes_eq}
 use Rattle.std.specs.List.{list_all}
 use Rattle.std.proofs.lemmas.Bool.{and_parts, le-leb}
-use Rattle.afp_base.specs.Cached.{Kept}
 use Rattle.afp_base.specs.Limits.{payload_limit}
 use Rattle.byteorder.specs.Endian.{big_bytes}
 use Rattle.afp_replies.specs.Replies.{canonical_reply}

@@ -1,8 +1,7 @@
 -- What the proof of once across breaks sees of a world, and how calls change it.
-use Rattle.std.proofs.Common.{◌≡◌, ◌≢◌, ◌∙◌, ◌⊎◌, inl, inr, refl, sym, ap, ℕ, suc, Bool, true, false, cond, List, [], Option, Some, None}
+use Rattle.std.proofs.Common.{◌≡◌, ◌≢◌, ◌∙◌, ◌⊎◌, inl, inr, refl, sym, ap, ℕ, Bool, true, false, cond, List, [], Option, Some, None}
 use Rattle.std.specs.Prelude.{nat_eq, not, is_some}
 use Rattle.std.proofs.lemmas.Bool.{cond_both, eqb-true, eqb-false, eq-eqb, ne_eqb, false≢true, cond-true, cond-false, cases_eq}
-use Rattle.afp_base.specs.Cached.{Kept}
 use Rattle.afp_calls_grammar.specs.declared.call.Call.{Call}
 use Rattle.afp_serial.specs.declared.attachment.Attachment.{Attachment}
 use Rattle.afp_serial.specs.declared.attachment.Attachment.TheVariants.{Attached}
@@ -13,7 +12,7 @@ use Rattle.afp_serial.specs.Sound.{IsSound}
 use Rattle.afp_serial.specs.World.{is_expired, Session, World, session_at, without_session}
 use Rattle.afp_serial.proofs.RowsSound.{row-sound}
 use Rattle.afp_serial.specs.SessionLaws.{SessionsAfter, all_stay, asking_changes, logs_in, moves_sessions}
-use Rattle.afp_serial.specs.SessionViews.{View, view_at, number_of, cache_of, session_of, set, ended, opened, swept}
+use Rattle.afp_serial.specs.SessionViews.{view_at, number_of, cache_of, session_of, set, ended, swept}
 use Rattle.afp_serial.proofs.SessionLists.{session_on, NumbersDiffer, with_one, of-filter, pick, of-without, of-with, at-found, at-none, links-from, numbers-from}
 use Rattle.afp_serial.proofs.SoundParts.{sessions-parts}
 

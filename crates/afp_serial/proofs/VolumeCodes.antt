@@ -5,13 +5,19 @@ use Rattle.std.specs.List.{list_all}
 use Rattle.std.proofs.lemmas.Bool.{and_parts, cond_both}
 use Rattle.afp_base.specs.Choice.{first_holding}
 use Rattle.afp_base.specs.declared.code.Code.{Code}
-use Rattle.afp_base.specs.declared.code.Code.TheVariants.{AccessDenied, BitmapErr, CantMove, CantRename, DirNotEmpty, DirNotFound, DiskFull, FileBusy, ObjectExists, ObjectLocked, ObjectNotFound, ObjectTypeErr, ParamErr}
+use Rattle.afp_base.specs.declared.code.Code.TheVariants.{AccessDenied, BadIDErr, BitmapErr, CantMove, CantRename, DirNotEmpty, DirNotFound, DiskFull, FileBusy, IDExists, IDNotFound, ItemNotFound, ObjectExists, ObjectLocked, ObjectNotFound, ObjectTypeErr, ParamErr, SameObjectErr}
 use Rattle.afp_bitmap.specs.Bits.{dir_mask, file_mask, is_outside}
 use Rattle.afp_names.specs.Name.{name_key}
 use Rattle.afp_names.specs.Path.{PathValue}
 use Rattle.afp_names.specs.declared.path.Step.{Step}
 use Rattle.afp_names.specs.declared.path.Step.TheVariants.{Down, Up}
 use Rattle.afp_serial.proofs.SoundRow.{tells_no_more}
+use Rattle.volume_spec.specs.Appls.{add_appl_refusal, get_appl_refusal, remove_appl_refusal}
+use Rattle.volume_spec.specs.Comments.{add_comment_refusal, comment_there_refusal}
+use Rattle.volume_spec.specs.CopyFile.{copied_refusal}
+use Rattle.volume_spec.specs.ExchangeFiles.{exchange_files_refusal}
+use Rattle.volume_spec.specs.FileIds.{create_id_refusal, delete_id_refusal, resolve_id_refusal}
+use Rattle.volume_spec.specs.Icons.{add_icon_refusal, get_icon_info_refusal, get_icon_refusal}
 use Rattle.volume_spec.specs.Shared.{Opened, behind, first_or}
 use Rattle.volume_spec.specs.CreateDir.{create_dir_refusal}
 use Rattle.volume_spec.specs.CreateFile.{create_file_refusal, create_file_there}
@@ -26,7 +32,7 @@ use Rattle.volume_spec.specs.Rename.{rename_refusal}
 use Rattle.volume_spec.specs.SetFileDirParms.{set_dir_parms_refusal, set_file_dir_parms_refusal, set_file_parms_refusal}
 use Rattle.volume_spec.specs.SetVolParms.{set_vol_parms_refusal}
 use Rattle.volume_spec.specs.TreeSteps.{TreeCall, CreateDir, CreateFile, Delete, MoveAndRename, Rename, SetDirParms, SetFileDirParms, SetFileParms, SetVolParms, tree_refusal}
-use Rattle.volume_spec.specs.VolumeState.{Row, VolumeState, root_parent}
+use Rattle.volume_spec.specs.VolumeState.{Icon, Row, VolumeState, root_parent}
 use Rattle.volume_spec.specs.Walk.{before_down, child, child_by_key, failed_down, found, has_directory, is_start, named_in, new_place, not_above_root, one_down, one_down_or, onward, parent_at, place_behind, walk, walk_from}
 
 -- such a code, or none
@@ -88,7 +94,7 @@ walk-fails rows kind missing dir steps h =
     (λ starts. above-fails (walk_from rows kind missing steps dir) (from-fails rows kind missing steps dir h))
     (λ no. refl)
 
-found-fails : (rows : List Row) (dir : ℕ) (path : PathValue) → fails_rightly (found rows dir path) ≡ true
+pub found-fails : (rows : List Row) (dir : ℕ) (path : PathValue) → fails_rightly (found rows dir path) ≡ true
 found-fails rows dir path = walk-fails rows path.kind ObjectNotFound dir path.steps refl
 
 place-fails : (rows : List Row) (dir : ℕ) (path : PathValue) → fails_rightly (new_place rows dir path) ≡ true
@@ -109,7 +115,7 @@ down-fails (Up ∷ steps) = refl
 down-fails (Down name ∷ []) = refl
 down-fails (Down name ∷ step ∷ steps) = refl
 
-down-or-fails : (old : List ℕ) (steps : List Step) → fails_rightly (one_down_or old steps) ≡ true
+pub down-or-fails : (old : List ℕ) (steps : List Step) → fails_rightly (one_down_or old steps) ≡ true
 down-or-fails old [] = refl
 down-or-fails old (Up ∷ steps) = refl
 down-or-fails old (Down name ∷ []) = refl
@@ -168,3 +174,60 @@ list-refuses v opens asked dir path =
 pub open-fork-refuses : (v : VolumeState) (bits : ℕ) (writes : Bool) (dir : ℕ) (path : PathValue) → is_refusal (open_fork_refusal v bits writes dir path) ≡ true
 unfolding open_fork_refusal
 open-fork-refuses v bits writes dir path = or-refuses ((_, BitmapErr) ∷ []) _ refl (behind-refuses (found v.rows dir path) _ (found-fails v.rows dir path) (λ id. first-refuses ((_, ObjectTypeErr) ∷ (_, ObjectLocked) ∷ []) refl))
+
+-- the calls that change a volume by edits
+
+pub create-id-refuses : (v : VolumeState) (dir : ℕ) (path : PathValue) → is_refusal (create_id_refusal v dir path) ≡ true
+unfolding create_id_refusal
+create-id-refuses v dir path = behind-refuses (found v.rows dir path) _ (found-fails v.rows dir path) (λ id. first-refuses ((_, ObjectTypeErr) ∷ (_, IDExists) ∷ []) refl)
+
+pub delete-id-refuses : (v : VolumeState) (id : ℕ) → is_refusal (delete_id_refusal v id) ≡ true
+unfolding delete_id_refusal
+delete-id-refuses v id = first-refuses ((_, BadIDErr) ∷ (_, IDNotFound) ∷ []) refl
+
+pub exchange-refuses : (v : VolumeState) (dir : ℕ) (path : PathValue) (second_dir : ℕ) (second_path : PathValue) → is_refusal (exchange_files_refusal v dir path second_dir second_path) ≡ true
+unfolding exchange_files_refusal
+exchange-refuses v dir path second_dir second_path = behind-refuses (found v.rows dir path) _ (found-fails v.rows dir path) (λ a. or-refuses ((_, ObjectTypeErr) ∷ []) _ refl
+    (behind-refuses (found v.rows second_dir second_path) _ (found-fails v.rows second_dir second_path) (λ b. first-refuses ((_, ObjectTypeErr) ∷ (_, SameObjectErr) ∷ []) refl)))
+
+pub add-icon-refuses : (v : VolumeState) (icon : Icon) → is_refusal (add_icon_refusal v icon) ≡ true
+unfolding add_icon_refusal
+add-icon-refuses v icon = first-refuses ((_, DiskFull) ∷ []) refl
+
+pub add-appl-refuses : (v : VolumeState) (dir : ℕ) (creator : List ℕ) (path : PathValue) → is_refusal (add_appl_refusal v dir creator path) ≡ true
+unfolding add_appl_refusal
+add-appl-refuses v dir creator path = behind-refuses (found v.rows dir path) _ (found-fails v.rows dir path) (λ id. first-refuses ((_, ObjectTypeErr) ∷ (_, DiskFull) ∷ []) refl)
+
+pub remove-appl-refuses : (v : VolumeState) (dir : ℕ) (creator : List ℕ) (path : PathValue) → is_refusal (remove_appl_refusal v dir creator path) ≡ true
+unfolding remove_appl_refusal
+remove-appl-refuses v dir creator path = behind-refuses (found v.rows dir path) _ (found-fails v.rows dir path) (λ id. first-refuses ((_, ObjectTypeErr) ∷ (_, ItemNotFound) ∷ []) refl)
+
+pub add-comment-refuses : (v : VolumeState) (dir : ℕ) (path : PathValue) → is_refusal (add_comment_refusal v dir path) ≡ true
+unfolding add_comment_refusal
+add-comment-refuses v dir path = behind-refuses (found v.rows dir path) _ (found-fails v.rows dir path) (λ id. refl)
+
+pub comment-there-refuses : (v : VolumeState) (dir : ℕ) (path : PathValue) → is_refusal (comment_there_refusal v dir path) ≡ true
+unfolding comment_there_refusal
+comment-there-refuses v dir path = behind-refuses (found v.rows dir path) _ (found-fails v.rows dir path) (λ id. first-refuses ((_, ItemNotFound) ∷ []) refl)
+
+-- a file that is copied, and what is told of ids and of the desktop database
+
+pub copied-refuses : (v : VolumeState) (dir : ℕ) (path : PathValue) → is_refusal (copied_refusal v dir path) ≡ true
+unfolding copied_refusal
+copied-refuses v dir path = behind-refuses (found v.rows dir path) _ (found-fails v.rows dir path) (λ id. first-refuses ((_, ObjectTypeErr) ∷ []) refl)
+
+pub resolve-id-refuses : (v : VolumeState) (id bits : ℕ) → is_refusal (resolve_id_refusal v id bits) ≡ true
+unfolding resolve_id_refusal
+resolve-id-refuses v id bits = first-refuses ((_, BitmapErr) ∷ (_, BadIDErr) ∷ (_, IDNotFound) ∷ (_, ObjectTypeErr) ∷ []) refl
+
+pub get-icon-refuses : (v : VolumeState) (creator kind : List ℕ) (icon_kind : ℕ) → is_refusal (get_icon_refusal v creator kind icon_kind) ≡ true
+unfolding get_icon_refusal
+get-icon-refuses v creator kind icon_kind = first-refuses ((_, ItemNotFound) ∷ []) refl
+
+pub get-icon-info-refuses : (v : VolumeState) (creator : List ℕ) (index : ℕ) → is_refusal (get_icon_info_refusal v creator index) ≡ true
+unfolding get_icon_info_refusal
+get-icon-info-refuses v creator index = first-refuses ((_, ParamErr) ∷ (_, ItemNotFound) ∷ []) refl
+
+pub get-appl-refuses : (v : VolumeState) (creator : List ℕ) (index bits : ℕ) → is_refusal (get_appl_refusal v creator index bits) ≡ true
+unfolding get_appl_refusal
+get-appl-refuses v creator index bits = first-refuses ((_, BitmapErr) ∷ (_, ItemNotFound) ∷ []) refl

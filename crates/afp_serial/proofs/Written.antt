@@ -18,7 +18,7 @@ use Rattle.afp_serial.specs.ForkBytes.{WriteAsked, ahead, meets_end, most_read, 
 use Rattle.afp_serial.specs.OnFork.{OpenFile, bytes_of, done_with, file_on, file_under, open_file, own_fork, with_bytes}
 use Rattle.afp_serial.specs.OnVolume.{with_state}
 use Rattle.afp_serial.specs.Sound.{IsSound}
-use Rattle.afp_serial.specs.WriteLaws.{ForkChange, puts, sets_length, bytes_under, changed_by, changed_by_all, misses, read_of}
+use Rattle.afp_serial.specs.WriteLaws.{becomes, ForkChange, puts, sets_length, bytes_under, changed_by, changed_by_all, misses, read_of}
 use Rattle.volume_spec.proofs.ForkEffects.{fork-given, fork-lets-be}
 use Rattle.volume_spec.specs.ForkEffect.{fork_effect, fork_of, written}
 use Rattle.volume_spec.specs.VolumeState.{Row as File, VolumeState}
@@ -166,6 +166,7 @@ change-holds s bytes at piece (sets_length n) missed h =
       reach = omega (arith, far, len);
       same = λ k low. s.front bytes n (at + k) (omega (arith, far, low)) ∙ h.same k low;
     }
+change-holds s bytes at piece (becomes others) missed h = absurd (cc)
 change-holds s bytes at piece (puts place []) missed h = h
 change-holds s bytes at piece (puts place (b ∷ bs)) missed h =
     let len : length (splice bytes place (b ∷ bs)) ≡ max (length bytes) (place + length (b ∷ bs)) = s.reaches bytes (b ∷ bs) place (omega arith) in

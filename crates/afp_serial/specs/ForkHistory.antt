@@ -4,7 +4,8 @@ use Rattle.std.specs.List.{list_any}
 use Rattle.afp_base.specs.Cached.{Request}
 use Rattle.afp_base.specs.DenyMode.{Fork, is_one_fork}
 use Rattle.afp_calls_grammar.specs.declared.call.Call.{Call}
-use Rattle.afp_calls_grammar.specs.declared.call.Call.TheVariants.{SetForkParms, Write, WriteExt}
+use Rattle.afp_calls_grammar.specs.declared.call.Call.TheVariants.{ExchangeFiles, SetForkParms, Write, WriteExt}
+use Rattle.volume_spec.specs.ExchangeFiles.{Pair}
 use Rattle.volume_spec.specs.ForkEffect.{fork_of}
 use Rattle.volume_spec.specs.VolumeState.{VolumeState}
 use Rattle.volume_spec.specs.Walk.{row_at}
@@ -14,11 +15,12 @@ use Rattle.afp_serial.specs.declared.ask.Entry.{Entry}
 use Rattle.afp_serial.specs.declared.ask.Outcome.{Outcome}
 use Rattle.afp_serial.specs.declared.ask.Outcome.TheVariants as outcome
 use Rattle.afp_serial.specs.Answer.{after, request, Verdict, refused, repeats, runs, verdict}
+use Rattle.afp_serial.specs.ExchangeFiles.{in_exchange, pair_on}
 use Rattle.afp_serial.specs.Fork.{length_for}
 use Rattle.afp_serial.specs.ForkBytes.{WriteAsked, is_from_end, write_start}
 use Rattle.afp_serial.specs.OnFork.{OpenFile, open_file}
 use Rattle.afp_serial.specs.World.{session_at, volume_at, World, Session, OpenFork, at_moment}
-use Rattle.afp_serial.specs.WriteLaws.{ForkChange, puts, sets_length}
+use Rattle.afp_serial.specs.WriteLaws.{ForkChange, becomes, puts, sets_length}
 
 -- the bytes of a fork, where its volume and its file are there
 abbrev pub bytes_on : Option VolumeState → Fork → Option (List ℕ)
@@ -40,11 +42,22 @@ through (Some f) fork change = if is_one_fork f.fork.fork fork then change f ∷
 abbrev pub put_of : WriteAsked → OpenFile → ForkChange
 put_of asked f = puts (nat_abs (write_start f asked)) asked.piece
 
--- what a call that has its effect does to the bytes of a fork that is open: FPWrite, FPWriteExt and FPSetForkParms alone do something
+-- the bytes of another fork, where its file is there
+abbrev pub becomes_all : Option (List ℕ) → List ForkChange
+becomes_all None = []
+becomes_all (Some bytes) = becomes bytes ∷ []
+
+-- what is done to a fork whose file changes its forks with another: it gets the bytes of the other's fork
+abbrev pub exchanged_for : World → ℕ → Fork → Option Pair → List ForkChange
+exchanged_for w volume fork None = []
+exchanged_for w volume fork (Some pair) = if is_one_fork (in_exchange volume pair fork) fork then [] else becomes_all (bytes_in w (in_exchange volume pair fork))
+
+-- what a call that has its effect does to the bytes of a fork that is open: FPWrite, FPWriteExt, FPSetForkParms and FPExchangeFiles alone do something
 abbrev pub changes_by : World → Session → Fork → Call → List ForkChange
 changes_by w s fork (Write flag reference offset count piece) = through (open_file w s reference.0) fork (put_of (record { from_end = is_from_end flag; offset = offset; count = pos count; piece = piece }))
 changes_by w s fork (WriteExt flag reference offset count piece) = through (open_file w s reference.0) fork (put_of (record { from_end = is_from_end flag; offset = offset; count = count; piece = piece }))
 changes_by w s fork (SetForkParms reference bits tail) = through (open_file w s reference.0) fork (λ f. sets_length (length_for bits tail f))
+changes_by w s fork (ExchangeFiles volume dir second_dir path second_path) = exchanged_for w volume.0 fork (pair_on (volume_at w.volumes volume.0) dir.0 path second_dir.0 second_path)
 changes_by w s fork call = []
 
 abbrev pub changes_of : World → Session → Fork → Verdict → Outcome → List ForkChange

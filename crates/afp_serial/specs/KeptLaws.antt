@@ -1,5 +1,5 @@
 -- What keeping one more answer does to those that a session keeps: the last 32 are found (this profile).
-use Rattle.std.specs.Prelude.{◌≡◌, ℕ, ◌<◌, true, false, List, ◌∷◌, length, Some}
+use Rattle.std.specs.Prelude.{◌≡◌, ◌<◌, true, false, List, ◌∷◌, length, Some}
 use Rattle.afp_base.specs.Cached.{Answer, Kept, Request, cached_answer, is_repeat, with_kept}
 use Rattle.afp_base.specs.Limits.{replay_cache_size}
 

@@ -1,5 +1,5 @@
 -- What is known of a call that bytes spell: its numbers are in the ranges of their fields, its texts are bytes, and its paths go down to names (AFP Reference, "Command formats", "Pathnames").
-use Rattle.std.specs.Prelude.{ℕ, ℤ, pos, negsuc, ◌^◌, nat_lt, Bool, true, ◌&&◌, List, Option, None, Some}
+use Rattle.std.specs.Prelude.{ℕ, ℤ, pos, negsuc, ◌^◌, ◌==◌, nat_lt, Bool, true, ◌&&◌, List, length, Option, None, Some}
 use Rattle.std.specs.List.{list_all}
 use Rattle.afp_calls_grammar.specs.Call.{layout_of}
 use Rattle.afp_calls_grammar.specs.Words.{Word, Value, RequestField, Enclosed, Nothing, Piece, Literal, Pad, LastPad, Even, Number, Within, Count, Optional, Signed32, Signed64, Plain, Counted, Pathname, Tail}
@@ -32,7 +32,7 @@ is_lawful_value (Count n) x = is_number n x
 is_lawful_value (Optional there n) x = is_number_or_none n x
 is_lawful_value Signed32 x = is_signed 2147483648 x
 is_lawful_value Signed64 x = is_signed 9223372036854775808 x
-is_lawful_value (Plain n) x = are_bytes x
+is_lawful_value (Plain n) x = (length x == n) && are_bytes x
 is_lawful_value (Counted n) x = are_bytes x
 is_lawful_value Pathname x = is_named_path x
 is_lawful_value Tail x = are_bytes x

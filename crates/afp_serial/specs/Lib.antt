@@ -12,6 +12,7 @@ pub mod Users
 pub mod Sound
 pub mod ReplyKinds
 pub mod OnVolume
+pub mod VolumeRows
 pub mod OnFork
 pub mod ListReply
 pub mod Login
@@ -39,6 +40,13 @@ pub mod SetFileDirParms
 pub mod Fork
 pub mod ForkBytes
 pub mod Lock
+pub mod CopyFile
+pub mod ExchangeFiles
+pub mod FileIds
+pub mod OpenDT
+pub mod Icons
+pub mod Appls
+pub mod Comments
 pub mod Rows
 pub mod SessionLaws
 pub mod ToldAtMost
@@ -52,6 +60,7 @@ pub mod ParmsReplies
 pub mod SessionViews
 pub mod Laws
 pub mod ForkExamples
+pub mod DeskExamples
 pub mod SessionExamples
 pub mod LoginLaws
 pub mod ForkLaws

@@ -1,5 +1,5 @@
 -- FPOpenVol (AFP Reference, "FPOpenVol").
-use Rattle.std.specs.Prelude.{ℕ, ◌+◌, if◌then◌else◌, List, [], ◌∷◌, ◌++◌, position, Option, Some, None, is_none, option_map, bytes_eq}
+use Rattle.std.specs.Prelude.{ℕ, ◌+◌, if◌then◌else◌, List, [], ◌∷◌, position, Option, Some, None, is_none, option_map, bytes_eq}
 use Rattle.afp_base.specs.declared.code.Code.TheVariants.{ObjectNotFound}
 use Rattle.afp_bitmap.specs.declared.params.Values.TheVariants.{Volume}
 use Rattle.afp_replies.specs.declared.reply.Reply.{Reply}

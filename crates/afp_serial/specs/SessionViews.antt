@@ -2,7 +2,6 @@
 -- its effects, its repeats and the way back to a session are looked at.
 use Rattle.std.specs.Prelude.{◌≡◌, ◌≢◌, ◌⊎◌, ◌<◌, ℕ, suc, nat_eq, Bool, true, false, if◌then◌else◌, List, [], Option, None, Some, find, is_some}
 use Rattle.afp_base.specs.Cached.{Request, Answer, Kept, cached_answer, with_kept}
-use Rattle.afp_base.specs.declared.code.Code.{Code}
 use Rattle.afp_base.specs.declared.code.Code.TheVariants.{MiscErr, NoMemory, Ok}
 use Rattle.afp_calls_grammar.specs.Spelt.{spelt_call}
 use Rattle.afp_calls_grammar.specs.declared.call.Call.{Call}

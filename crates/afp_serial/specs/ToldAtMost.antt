@@ -2,7 +2,7 @@
 use Rattle.std.specs.Prelude.{◌≡◌, ◌<◌, ℕ, length, None}
 use Rattle.afp_replies.specs.Replies.{canonical_reply}
 use Rattle.afp_calls_grammar.specs.declared.call.Call.{Call}
-use Rattle.afp_calls_grammar.specs.declared.call.Call.TheVariants.{ByteRangeLock, ByteRangeLockExt, CreateDir, OpenFork, OpenVol, Write, WriteExt}
+use Rattle.afp_calls_grammar.specs.declared.call.Call.TheVariants.{ByteRangeLock, ByteRangeLockExt, CreateDir, CreateID, OpenFork, OpenVol, Write, WriteExt}
 use Rattle.afp_serial.specs.Rows.{committed, effect, refusal}
 use Rattle.afp_serial.specs.Sound.{IsSound}
 use Rattle.afp_serial.specs.World.{World, Session}
@@ -12,6 +12,7 @@ abbrev pub told_at_most : Call → ℕ
 told_at_most (ByteRangeLock flags reference offset length) = 4
 told_at_most (ByteRangeLockExt flags reference offset length) = 8
 told_at_most (CreateDir volume dir path) = 4
+told_at_most (CreateID volume dir path) = 4
 told_at_most (OpenFork flag volume dir bits mode path) = 612
 told_at_most (OpenVol bits name) = 308
 told_at_most (Write flag reference offset count piece) = 4

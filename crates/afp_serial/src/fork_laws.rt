@@ -1,4 +1,5 @@
 //! Laws of the calls on open forks. Each function says one, and does nothing.
+ghost use Rattle.afp_serial.specs.DeskExamples as desks;
 ghost use Rattle.afp_serial.specs.ForkExamples as worked;
 ghost use Rattle.afp_serial.specs.ForkLaws as laws;
 ghost use Rattle.afp_serial.specs.HistoryLaws as history_laws;
@@ -72,6 +73,22 @@ pub fn told_refusals_are_shown()
     ensures end { laws.EndIsShown }
     ensures denial { laws.DenialIsShown }
     ensures all { laws.RefusalsAreShown }
+{}
+
+/// Where two files change their forks, each open fork of each session has the bytes that it had, and is open as it was; all locks stay.
+pub fn exchanged_forks_keep_their_bytes()
+    ensures bytes { write_laws.ExchangesKeepBytes }
+    ensures opens { write_laws.ExchangesKeepOpens }
+{}
+
+/// What the calls are told that exchange files and tell of ids, and those on the desktop database, one after another, in values that were worked by hand.
+pub fn worked_desks_hold()
+    ensures exchanged { desks.ForksGoAlong }
+    ensures denials { desks.DenialsGoAlong }
+    ensures ids { desks.IdsAreTold }
+    ensures open { desks.DesksAreOpen }
+    ensures icons { desks.IconsAreTold }
+    ensures appls { desks.ApplsAreTold }
 {}
 
 /// Of the calls on open forks FPWrite, FPWriteExt and FPSetForkParms change a volume, and commit that to its keeper: where they commit nothing they

@@ -27,6 +27,7 @@ pub fn told_at_most(call: &Call) -> usize
         Call::ByteRangeLock { .. } => PLACE,
         Call::ByteRangeLockExt { .. } => WIDE_PLACE,
         Call::CreateDir { .. } => NODE,
+        Call::CreateID { .. } => NODE,
         Call::OpenFork { .. } => FORK,
         Call::OpenVol { .. } => VOLUME,
         Call::Write { .. } => PLACE,
