@@ -1,4 +1,5 @@
 pub mod Calls
+pub mod Copies
 pub mod Passing
 pub mod TreeCalls
 pub mod TreeEdits

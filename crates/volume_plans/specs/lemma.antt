@@ -1,2 +1,3 @@
 -- What the code goes by and what its proofs speak of; no public contract cites it.
+pub mod Copied
 pub mod One
