@@ -1,7 +1,7 @@
 -- Files that are copied, and the edits of a copy.
-use Rattle.std.proofs.Common.{◌≡◌, ◌∙◌, ◌==◌, ◌≤◌, ℕ, Bool, true, false, not, cond, List, [], ◌∷◌, Option, Some, None, Ok, refl, sym, ap, arith, inl, inr, min, ◌+◌, length}
+use Rattle.std.proofs.Common.{◌≡◌, ◌∙◌, ◌==◌, ℕ, Bool, true, false, not, List, [], ◌∷◌, Option, Some, None, Ok, refl, sym, ap, arith, inl, inr, min, ◌+◌}
 use Rattle.std.specs.Prelude.{nat_lt, option_map, unwrap_or}
-use Rattle.std.proofs.lemmas.Bool.{cases_lt, cond-false, cond-true, cond_both, lt-ltb}
+use Rattle.std.proofs.lemmas.Bool.{cases_lt, cond_both, lt-ltb}
 use Rattle.afp_base.proofs.ListFacts.{find-all}
 use Rattle.afp_base.specs.Limits.{most_fork_bytes}
 use Rattle.afp_names.specs.Path.{PathValue}

@@ -1,4 +1,4 @@
-use Rattle.std.proofs.Common.{◌∙◌, [], ◌∷◌, ap, refl}
+use Rattle.std.proofs.Common.{◌∙◌, [], ◌∷◌, ap}
 use Rattle.std.proofs.lemmas.Bool.{and_from}
 use Rattle.volume_spec.specs.CopyFile.{Source, copy_at}
 use Rattle.volume_spec.specs.Edit as edit
