@@ -17,7 +17,7 @@ use Rattle.volume_spec.specs.OpenFork.{is_resource}
 use Rattle.volume_spec.specs.VolumeState.{Row as File, VolumeState}
 
 -- a volume that has no keeper is none
-no-keeper-same : (w : World) (volume : ℕ) (v : VolumeState) → keeper_of volume ≡ None → with_volume_state w volume v ≡ w
+pub no-keeper-same : (w : World) (volume : ℕ) (v : VolumeState) → keeper_of volume ≡ None → with_volume_state w volume v ≡ w
 no-keeper-same w zero v none = refl
 no-keeper-same w (suc index) v none = absurd (cc)
 

@@ -37,6 +37,7 @@ pub mod FreeReferences
 pub mod Written
 pub mod ForkFacts
 pub mod ForkCommits
+pub mod EditCommits
 pub mod OpenForkRow
 pub mod LawfulRows
 pub mod RowsSound

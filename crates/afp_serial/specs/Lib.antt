@@ -64,6 +64,7 @@ pub mod DeskExamples
 pub mod SessionExamples
 pub mod LoginLaws
 pub mod ForkLaws
+pub mod CommitLaws
 pub mod WriteLaws
 pub mod ForkHistory
 pub mod HistoryLaws

@@ -1,4 +1,5 @@
 //! Laws of the serial answer. Each function says one, and does nothing.
+ghost use Rattle.afp_serial.specs.CommitLaws as commit_laws;
 ghost use Rattle.afp_serial.specs.IdLaws as id_laws;
 ghost use Rattle.afp_serial.specs.KeptLaws as kept_laws;
 ghost use Rattle.afp_serial.specs.Laws as laws;
@@ -127,6 +128,14 @@ pub fn sessions_that_are_gone_end_one_by_one()
 /// In a sound world a call that is told more than `told_at_most` says of it changes nothing, and commits to no volume's keeper and settles none.
 pub fn what_tells_much_changes_nothing()
     ensures { told_at_most.LongTellsAlone }
+{}
+
+/// A call that changes a volume by edits, copies a file or exchanges two commits what it changes to the volume's keeper: where it commits nothing it changes
+/// nothing at all.
+pub fn edits_are_committed()
+    ensures edits { commit_laws.EditsAreCommitted }
+    ensures copies { commit_laws.CopiesAreCommitted }
+    ensures exchanges { commit_laws.ExchangesAreCommitted }
 {}
 
 /// No two sessions have one token.
