@@ -1,9 +1,8 @@
 -- What is owed where a fork gets other bytes.
-use Rattle.std.proofs.Common.{◌==◌, ◌≡◌, ◌∙◌, ap, sym, refl, subst, ℕ, ◌+◌, ◌<◌, ◌≤◌, arith, Bool, true, false, not, List, [], ◌∷◌, ◌++◌, ◌-◌, length, max, min, replicate, take, append-nil, Option, Some, None, inl, inr}
+use Rattle.std.proofs.Common.{◌==◌, ◌≡◌, ◌∙◌, ap, sym, refl, subst, ℕ, ◌+◌, ◌<◌, ◌≤◌, arith, Bool, true, false, not, List, [], ◌∷◌, ◌++◌, ◌-◌, length, max, min, replicate, take, append-nil, Some, inl, inr}
 use Rattle.std.specs.Prelude.{Result, Ok, Err, nat_lt}
 use Rattle.std.proofs.Math.Seq.{take-length}
 use Rattle.std.proofs.lemmas.Bool.{cases_lt, eq-eqb, le-ltb, lt-ltb}
-use Rattle.std.proofs.lemmas.Option.{same_Some}
 use Rattle.afp_base.proofs.DefinitionLaws.{length-resized}
 use Rattle.afp_base.specs.ForkBytes.{Reaches, resized, splice}
 use Rattle.fork_bytes.specs.Plan.{ForkWriteState}
