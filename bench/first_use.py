@@ -101,6 +101,9 @@ def show_volumes(program, folder):
     status, report = server.ended()
     step("it ends behind one link", status, 0)
     contains("  its report", report, "sessions 1")
+    for name in ("a.db", "b.db"):
+        log = os.path.join(folder, name + "-wal")
+        step(f"  the log beside {name} has so many bytes", os.path.getsize(log) if os.path.exists(log) else 0, 0)
 
 
 def main():
