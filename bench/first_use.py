@@ -7,6 +7,8 @@ Each line is what was done. It ends with status 1 at the first answer that is an
 """
 import argparse
 import os
+import shutil
+import sqlite3
 import sys
 import tempfile
 
@@ -101,6 +103,17 @@ def show_volumes(program, folder):
     status, report = server.ended()
     step("it ends behind one link", status, 0)
     contains("  its report", report, "sessions 1")
+    step("  nodes in the first file, without the log beside it", nodes_alone(os.path.join(folder, "a.db")), 2)
+
+
+def nodes_alone(path):
+    """How many nodes a file has, read from a copy of it alone."""
+    alone = path + ".alone"
+    shutil.copy(path, alone)
+    database = sqlite3.connect(alone)
+    nodes = database.execute("SELECT count(*) FROM records WHERE substr(key, 1, 1) = x'01'").fetchone()[0]
+    database.close()
+    return nodes
 
 
 def main():

@@ -1,6 +1,6 @@
 /* Loads a file server, or an echo of its frames, over so many links at once: load PORT LINKS CALLS KIND. Each link is a session of its own, with the
-   volume Share open, and a file of its own where KIND is read or write; it makes CALLS calls, one after the other, and closes. KIND is parms
-   (FPGetVolParms), read or write (64 KiB of its file, which is 1 MiB, at one place after another; what is written differs each time).
+   volume Share open, and a file of its own where KIND is read or write; it makes CALLS calls, one after the other, and closes. KIND is status
+   (DSIGetStatus), parms (FPGetVolParms), read or write (64 KiB of its file, which is 1 MiB, at one place after another; what is written differs each time).
    It prints the seconds from the first connection to the last reply, and ends with status 1 at the first answer that is not the wanted one. */
 #include "frames.h"
 #include <netinet/in.h>
@@ -15,7 +15,7 @@
 #include <unistd.h>
 
 enum { PIECE = 65536, PIECES = 16, ROOM = HEADER + PAYLOAD };
-enum kind { PARMS, READ, WRITE };
+enum kind { STATUS, PARMS, READ, WRITE };
 
 struct peer {
   int link, number, fails;
@@ -55,6 +55,8 @@ static int ask_block(struct peer *p, const void *block, uint32_t length) {
   return ask(p, 2, 0, length) != 0 || p->code != 0 ? -1 : 0;
 }
 
+static int ask_status(struct peer *p) { return ask(p, 3, 0, 0) != 0 || p->code != 0 ? -1 : 0; }
+
 static uint32_t put_path(unsigned char *at, int number) {
   int size = sprintf((char *)at + 2, "file %d", number);
   at[0] = 2, at[1] = (unsigned char)size;
@@ -92,9 +94,9 @@ static int talk(struct peer *p) {
   if (ask(p, 4, 0, 6) != 0) return -1;
   if (ask_block(p, "\x12\6AFP3.3\xfNo User Authent", 24) != 0) return -1;
   if (ask_block(p, "\x18\0\0\x20\5Share", 10) != 0) return -1;
-  if (kind != PARMS && open_file(p) != 0) return -1;
+  if (kind >= READ && open_file(p) != 0) return -1;
   for (int turn = 0; turn < calls; turn++) {
-    int fails = kind == PARMS ? ask_block(p, parms, sizeof parms) : kind == READ ? read_piece(p, turn) : write_piece(p, turn + turn / PIECES + 1);
+    int fails = kind == STATUS ? ask_status(p) : kind == PARMS ? ask_block(p, parms, sizeof parms) : kind == READ ? read_piece(p, turn) : write_piece(p, turn + turn / PIECES + 1);
     if (fails != 0) return -1;
   }
   memset(p->out, 0, HEADER);
@@ -117,7 +119,7 @@ int main(int count, char **words) {
   if (count != 5) return 2;
   port = atoi(words[1]), calls = atoi(words[3]);
   int links = atoi(words[2]), fails = 0;
-  kind = strcmp(words[4], "read") == 0 ? READ : strcmp(words[4], "write") == 0 ? WRITE : PARMS;
+  kind = strcmp(words[4], "read") == 0 ? READ : strcmp(words[4], "write") == 0 ? WRITE : strcmp(words[4], "status") == 0 ? STATUS : PARMS;
   struct peer *peers = calloc((size_t)links, sizeof *peers);
   pthread_t *threads = calloc((size_t)links, sizeof *threads);
   struct timespec since, now;

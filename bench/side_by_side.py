@@ -157,7 +157,7 @@ def load(program, port, links, calls, kind):
 
 
 def show_rates(program):
-    kinds = (("parms", "a small call (FPGetVolParms)", 24000), ("read", "a read of 64 KiB", 6000), ("write", "a write of 64 KiB", 3000))
+    kinds = (("status", "DSIGetStatus", 24000), ("parms", "a small call (FPGetVolParms)", 24000), ("read", "a read of 64 KiB", 6000), ("write", "a write of 64 KiB", 3000))
     with tempfile.TemporaryDirectory() as folder:
         loads, echoes = built(folder, "load"), built(folder, "echo")
         print("| call | workers | links | calls in a second, median of five (least, most) | over the echo's |")

@@ -3,6 +3,7 @@
 
 ghost use Rattle.std.specs.Prelude.{◌≡◌, All, false};
 
+mod closing;
 mod doors;
 mod opening;
 
@@ -14,6 +15,7 @@ use afpd_lib::notes::NoNotes;
 use afpd_lib::server::{Finish, afpd};
 use afpd_lib::setup::{ServerSettings, VolumePlace, setup};
 use afpd_words::WordFault;
+use closing::close_logs;
 use doors::doors_at;
 use opening::{PlaceKeeper, open_place};
 use record_keeper::Keeper;
@@ -104,9 +106,13 @@ fn serve_kept<R: Threads + Wait + Sync, P: Sink>(
         }
     }
     let clock = SystemClock::new(rt);
-    let Finish { status, .. } = afpd(
+    let Finish { status, trace, .. } = afpd(
         threads, alloc, words, keepers, doors, &clock, &OpenGate, key, report, notes,
     );
+    // Where the doors were served each file was opened, and its keeper is gone.
+    if trace.is_some() {
+        close_logs(rt, places);
+    }
     status
 }
 

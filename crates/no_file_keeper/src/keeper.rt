@@ -63,3 +63,10 @@ impl Keeper for FileKeeper {
         self.kept.settle()
     }
 }
+
+/// Empties no log, at any path.
+pub fn empty_log(_rt: &HostRuntime, _path: &str) -> Result<(), &'static str>
+    ensures { IfOk result (λ _. ⊥) }
+{
+    Err("this build keeps nothing in files")
+}

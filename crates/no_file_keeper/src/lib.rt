@@ -3,4 +3,4 @@
 
 mod keeper;
 
-pub use keeper::{FileKeeper, OpenFault};
+pub use keeper::{FileKeeper, OpenFault, empty_log};
