@@ -56,6 +56,8 @@ impl<D: Dialer> Talk<D> {
         ensures idle { result.idle ≡ 0 }
         ensures cost { result.cost ≡ 0 }
         ensures out { result.out ≡ out }
+        ensures turns { result.turns ≡ turns }
+        ensures room { length result.room.items ≡ length room.items }
     {
         Talk {
             core,
@@ -195,6 +197,7 @@ impl<D: Dialer> Talk<D> {
     pub fn leave(&mut self)
         requires linked { IsSome self.old.link }
         ensures link { self.new.link ≡ None }
+        ensures turns { self.new.turns ≡ self.old.turns }
         ensures leaves { (first : Start) (old : DialerState D.Link) (past : List (Part D.Link)) (all : List Happening)
             → TalkAt D.Link.link_state first old past all self.old.link self.old.core self.old.replied self.old.idle self.old.cost (D.dialer_state self.old.dialer)
             → LeavesOpen D.Link.link_state first old past all (D.dialer_state self.new.dialer) }
