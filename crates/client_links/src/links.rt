@@ -11,7 +11,7 @@ ghost use Rattle.client_links.specs.OnLink.{Start, OnLink, spot};
 ghost use Rattle.client_links.specs.Links.{Part, Between, Over};
 ghost use Rattle.client_links.specs.lemma.Coming.{CameOn, BreaksLink, OpensOn};
 ghost use Rattle.client_links.specs.lemma.Rejoining.{Dialled, Rejoins, Leaves};
-ghost use Rattle.client_links.specs.Talk.{end_of, Answers, Connects, OpensLeft, TellsLeft, ClosesTalk};
+ghost use Rattle.client_links.specs.Talk.{end_of, Answers, Connects, OpensLeft, TellsLeft, ClosesTalk, LeavesOpen};
 
 use crate::came::Came;
 use crate::round::{await_sent, put_close};
@@ -350,4 +350,13 @@ pub(crate) fn close_over<D: Dialer>(
     flush(&mut link, out, pulse);
     dialer.back(link);
     Ok(())
+}
+
+/// Leaves a link: nothing is written, and it is handed back.
+pub(crate) fn leave_over<D: Dialer>(dialer: &mut D, link: D::Link)
+    ensures leaves { (first : Start) (old : DialerState D.Link) (past : List (Part D.Link)) (all : List Happening) (c : Client) (replied : Bool) (idle cost : ℕ)
+        → Over D.Link.link_state first old past all (spot c [] (D.Link.link_state link) replied cost) idle (D.dialer_state dialer.old)
+        → LeavesOpen D.Link.link_state first old past all (D.dialer_state dialer.new) }
+{
+    dialer.back(link);
 }

@@ -7,9 +7,9 @@ ghost use Rattle.afp_outside.specs.Dialer.{DialerState};
 ghost use Rattle.client_links.specs.History.{Happening};
 ghost use Rattle.client_links.specs.OnLink.{Start, spot};
 ghost use Rattle.client_links.specs.Links.{Part, Over};
-ghost use Rattle.client_links.specs.Talk.{AsksTalk, ClosesTalk, OpensTalk, TalkAt};
+ghost use Rattle.client_links.specs.Talk.{AsksTalk, ClosesTalk, LeavesOpen, OpensTalk, TalkAt};
 
-use crate::links::{Answered, TalkEnd, ask_over, close_over, connect};
+use crate::links::{Answered, TalkEnd, ask_over, close_over, connect, leave_over};
 use afp_base::{Bytes, Code, Moment, OutOfMemory};
 use afp_calls_grammar::Call;
 use afp_client::ClientCore;
@@ -56,6 +56,8 @@ impl<D: Dialer> Talk<D> {
         ensures idle { result.idle ≡ 0 }
         ensures cost { result.cost ≡ 0 }
         ensures out { result.out ≡ out }
+        ensures turns { result.turns ≡ turns }
+        ensures room { length result.room.items ≡ length room.items }
     {
         Talk {
             core,
@@ -189,5 +191,41 @@ impl<D: Dialer> Talk<D> {
             return Ok(());
         };
         close_over(&mut self.dialer, link, &mut self.out, &mut self.pulse)
+    }
+
+    /// Leaves the link that it has: nothing is written, and it is handed back.
+    pub fn leave(&mut self)
+        requires linked { IsSome self.old.link }
+        ensures link { self.new.link ≡ None }
+        ensures turns { self.new.turns ≡ self.old.turns }
+        ensures leaves { (first : Start) (old : DialerState D.Link) (past : List (Part D.Link)) (all : List Happening)
+            → TalkAt D.Link.link_state first old past all self.old.link self.old.core self.old.replied self.old.idle self.old.cost (D.dialer_state self.old.dialer)
+            → LeavesOpen D.Link.link_state first old past all (D.dialer_state self.new.dialer) }
+    {
+        let Some(link) = self.link.take() else {
+            return;
+        };
+        leave_over(&mut self.dialer, link);
+    }
+
+    /// What was spent: the bytes that came, the quiets, and 1 for each link that was dialled.
+    pub fn cost(&self) -> u64
+        ensures { result ≡ self.now.cost }
+    {
+        self.cost
+    }
+
+    /// From now on it may spend so much in all.
+    pub fn limit(&mut self, turns: u64)
+        ensures { self.new ≡ record self.old { turns = turns } }
+    {
+        self.turns = turns;
+    }
+
+    /// Who dialled its links.
+    pub fn into_dialer(self) -> D
+        ensures { result ≡ self.dialer }
+    {
+        self.dialer
     }
 }

@@ -5,7 +5,7 @@ ghost use Rattle.client_script_calls.specs.Places.{IsPlace};
 ghost use Rattle.client_script_commands.specs.Replies.{piece_in};
 ghost use Rattle.client_script_get.specs.Get.{get, reads, reads_behind};
 ghost use Rattle.client_script_get.specs.lemma.Reading.{ReadsAll, ReadsOnce, ReadsPiece};
-ghost use Rattle.client_script_parts.specs.Parts.{Comes, Exchange};
+ghost use Rattle.client_script_parts.specs.Parts.{Asked, Comes};
 ghost use Rattle.client_script_parts.specs.declared.asker.Stop.{Stop};
 
 use afp_base::{Bytes, Code, ForkRef, OutOfMemory, VolumeId};
@@ -80,9 +80,9 @@ fn read_piece<A: Asker>(
 
 /// Where the next read may begin: a law of reads.
 fn reads_go_on<A: Asker>()
-    ensures within { (before final : List Exchange) (reference : ForkRef) (got : List ℕ) (result : Result (List ℕ) (Stop A.End)) → length got < 2 ^ 31
+    ensures within { (before final : Asked A.Fixed) (reference : ForkRef) (got : List ℕ) (result : Result (List ℕ) (Stop A.End)) → length got < 2 ^ 31
         → Comes before (reads reference got) result final → Comes before (reads_behind reference got) result final }
-    ensures past { (before : List Exchange) (reference : ForkRef) (got : List ℕ) (result : Result (List ℕ) (Stop A.End)) → 2 ^ 31 ≤ length got → result ≡ Err Stop.BadReply
+    ensures past { (before : Asked A.Fixed) (reference : ForkRef) (got : List ℕ) (result : Result (List ℕ) (Stop A.End)) → 2 ^ 31 ≤ length got → result ≡ Err Stop.BadReply
         → Comes before (reads_behind reference got) result before }
 {
     parts_end::<A>();

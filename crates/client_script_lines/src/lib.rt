@@ -9,6 +9,8 @@ mod number;
 mod read;
 mod words;
 
+pub use escape::plain;
 pub use limits::{LONGEST_LINE, LONGEST_TEXT};
 pub use line::{LineFault, ScriptLine};
 pub use read::read_line;
+pub use words::{first_element, has_slash};

@@ -11,12 +11,12 @@ use Rattle.client_script_texts.specs.Texts.{error_text, numbered}
 use Rattle.client_script_parts.specs.declared.asker.Answer.{Answer}
 use Rattle.client_script_parts.specs.declared.asker.Stop.{Stop}
 use Rattle.client_script_parts.specs.declared.asker.Stop.TheVariants as stops
-use Rattle.client_script_parts.specs.Parts.{Next, asks, bad_reply, bad, done, Part, Exchange, Comes}
+use Rattle.client_script_parts.specs.Parts.{Next, asks, bad_reply, bad, done, Part, Asked, Comes}
 use Rattle.client_script_parts.specs.Told.{Carries}
 use Rattle.client_script_ls.specs.Ls.{by_rows, if_within, list_told, lists, lists_behind, rows_in, rows_text}
 use Rattle.client_script_ls.specs.lemma.Listing.{PutsList}
 
-abbrev pub Told : (E : Type 0) → Call → List Exchange → Answer → List Exchange → Type 0
+abbrev pub Told : (E : Type 0) {F : Type 0} → Call → Asked F → Answer → Asked F → Type 0
 Told E call before answer mid = (part : Part) → part [] ≡ asks call → Carries E before part mid (λ answers. part (answer ∷ answers))
 
 -- what the next list leads to
@@ -24,7 +24,7 @@ abbrev pub more_of : VolumeId → List ℕ → ℕ → List ℕ → List Answer 
 more_of volume path count text answers rows = if_within (count + length rows) (lists volume path (count + length rows) (text ++ rows_text rows) answers)
 
 -- what a list is told, as a part
-told_part : {E : Type 0} → (volume : VolumeId) (path : List ℕ) (count : ℕ) (text : List ℕ) (call : Call) (before : List Exchange) (answer : Answer) (mid : List Exchange) → call ≡ list volume path (count + 1) → Told E call before answer mid
+told_part : {E F : Type 0} → (volume : VolumeId) (path : List ℕ) (count : ℕ) (text : List ℕ) (call : Call) (before : Asked F) (answer : Answer) (mid : Asked F) → call ≡ list volume path (count + 1) → Told E call before answer mid
     → Carries E before (lists volume path count text) mid (λ answers. list_told answer.code (rows_in answer.reply) count text (more_of volume path count text answers) answers)
 unfolding lists
 told_part volume path count text call before answer mid is told result final h = told (lists volume path count text) (ap asks (sym is)) result final h
@@ -36,7 +36,7 @@ same-some : (m n : ℕ) → Some m ≡ Some n → m ≡ n
 same-some m n h = cc
 
 -- a list has entries
-pub lists_more : {E : Type 0} → (volume : VolumeId) (path : List ℕ) (count : ℕ) (text : List ℕ) (call : Call) (before : List Exchange) (answer : Answer) (mid : List Exchange) → call ≡ list volume path (count + 1) → Told E call before answer mid
+pub lists_more : {E F : Type 0} → (volume : VolumeId) (path : List ℕ) (count : ℕ) (text : List ℕ) (call : Call) (before : Asked F) (answer : Answer) (mid : Asked F) → call ≡ list volume path (count + 1) → Told E call before answer mid
     → answer.code ≡ code.Ok → (found : Option (List ListEntry)) → rows_in answer.reply ≡ found → (size : ℕ) (now : List ℕ) → PutsList found text now (Some size)
     → Carries E before (lists volume path count text) mid (lists_behind volume path (count + size) now)
 unfolding lists_behind
@@ -49,7 +49,7 @@ lists_more {E} volume path count text call before answer mid is told ok (Some ro
     (subst (λ (n : ℕ). Comes mid (λ answers. if_within (count + n) (lists volume path (count + n) now answers)) result final) (same-some size (length rows) puts.0) h))))
 
 -- a reply is no list
-pub lists_bad : (E : Type 0) → (volume : VolumeId) (path : List ℕ) (count : ℕ) (text : List ℕ) (call : Call) (before : List Exchange) (answer : Answer) (mid : List Exchange) → call ≡ list volume path (count + 1) → Told E call before answer mid
+pub lists_bad : (E : Type 0) {F : Type 0} → (volume : VolumeId) (path : List ℕ) (count : ℕ) (text : List ℕ) (call : Call) (before : Asked F) (answer : Answer) (mid : Asked F) → call ≡ list volume path (count + 1) → Told E call before answer mid
     → answer.code ≡ code.Ok → (found : Option (List ListEntry)) → rows_in answer.reply ≡ found → (now : List ℕ) → PutsList found text now None
     → Comes {E = E} mid bad (Err stops.BadReply) mid → Comes {E = E} before (lists volume path count text) (Err stops.BadReply) mid
 unfolding bad
@@ -60,7 +60,7 @@ lists_bad E volume path count text call before answer mid is told ok None e now 
 lists_bad E volume path count text call before answer mid is told ok (Some rows) e now puts h = absurd (some-none None (length rows) puts.0 refl)
 
 -- there are no more
-pub lists_end : {E : Type 0} → (volume : VolumeId) (path : List ℕ) (count : ℕ) (text : List ℕ) (call : Call) (before : List Exchange) (answer : Answer) (mid : List Exchange) → call ≡ list volume path (count + 1) → Told E call before answer mid
+pub lists_end : {E F : Type 0} → (volume : VolumeId) (path : List ℕ) (count : ℕ) (text : List ℕ) (call : Call) (before : Asked F) (answer : Answer) (mid : Asked F) → call ≡ list volume path (count + 1) → Told E call before answer mid
     → answer.code ≡ code.ObjectNotFound → Carries E before (lists volume path count text) mid (done (text ++ numbered (codes "listed ") count))
 lists_end {E} volume path count text call before answer mid is told ended result final h =
     told_part {E = E} volume path count text call before answer mid is told result final
@@ -73,31 +73,31 @@ refused_list code.ObjectNotFound rows count text more h k = absurd (k refl)
 refused_list c rows count text more h k = refl
 
 -- a list was refused
-pub lists_refused : {E : Type 0} → (volume : VolumeId) (path : List ℕ) (count : ℕ) (text : List ℕ) (call : Call) (before : List Exchange) (answer : Answer) (mid : List Exchange) → call ≡ list volume path (count + 1) → Told E call before answer mid
+pub lists_refused : {E F : Type 0} → (volume : VolumeId) (path : List ℕ) (count : ℕ) (text : List ℕ) (call : Call) (before : Asked F) (answer : Answer) (mid : Asked F) → call ≡ list volume path (count + 1) → Told E call before answer mid
     → (answer.code ≡ code.Ok → ⊥) → (answer.code ≡ code.ObjectNotFound → ⊥) → Carries E before (lists volume path count text) mid (done (text ++ error_text answer.code))
 lists_refused {E} volume path count text call before answer mid is told ok ended result final h =
     told_part {E = E} volume path count text call before answer mid is told result final
     (subst (λ (part : Part). Comes mid part result final) (sym (refused_list answer.code (rows_in answer.reply) count text (more_of volume path count text) ok ended)) h)
 
 -- a list waits for its answer
-pub lists_stop : {E : Type 0} → (volume : VolumeId) (path : List ℕ) (count : ℕ) (text : List ℕ) (call : Call) (before mid : List Exchange) (stop : Stop E) → call ≡ list volume path (count + 1)
+pub lists_stop : {E F : Type 0} → (volume : VolumeId) (path : List ℕ) (count : ℕ) (text : List ℕ) (call : Call) (before mid : Asked F) (stop : Stop E) → call ≡ list volume path (count + 1)
     → ((part : Part) → part [] ≡ asks call → Comes before part (Err stop) mid) → Comes before (lists volume path count text) (Err stop) mid
 unfolding lists
 lists_stop volume path count text call before mid stop is told = told (lists volume path count text) (ap asks (sym is))
 
 -- there was no memory for what was listed
-pub lists_lack : {E : Type 0} → (volume : VolumeId) (path : List ℕ) (count : ℕ) (text : List ℕ) (call : Call) (before : List Exchange) (answer : Answer) (mid : List Exchange) → call ≡ list volume path (count + 1) → Told E call before answer mid
+pub lists_lack : {E F : Type 0} → (volume : VolumeId) (path : List ℕ) (count : ℕ) (text : List ℕ) (call : Call) (before : Asked F) (answer : Answer) (mid : Asked F) → call ≡ list volume path (count + 1) → Told E call before answer mid
     → ((part : Part) → Comes {E = E} mid part (Err stops.Memory) mid) → Comes {E = E} before (lists volume path count text) (Err stops.Memory) mid
 lists_lack {E} volume path count text call before answer mid is told lacks =
     told_part {E = E} volume path count text call before answer mid is told (Err stops.Memory) mid (lacks (λ answers. list_told answer.code (rows_in answer.reply) count text (more_of volume path count text answers) answers))
 
 -- where the next list may begin
-pub behind_within : {E : Type 0} → (before final : List Exchange) (volume : VolumeId) (path : List ℕ) (count : ℕ) (text : List ℕ) (result : Result (List ℕ) (Stop E)) → nat_lt (count + 1) (2 ^ 32) ≡ true
+pub behind_within : {E F : Type 0} → (before final : Asked F) (volume : VolumeId) (path : List ℕ) (count : ℕ) (text : List ℕ) (result : Result (List ℕ) (Stop E)) → nat_lt (count + 1) (2 ^ 32) ≡ true
     → Comes before (lists volume path count text) result final → Comes before (lists_behind volume path count text) result final
 unfolding lists_behind
 behind_within before final volume path count text result fits h = subst (λ (b : Bool). Comes before (λ answers. cond b (lists volume path count text answers) bad_reply) result final) (sym fits) h
 
-pub behind_past : {E : Type 0} → (before : List Exchange) (volume : VolumeId) (path : List ℕ) (count : ℕ) (text : List ℕ) (result : Result (List ℕ) (Stop E)) → nat_lt (count + 1) (2 ^ 32) ≡ false
+pub behind_past : {E F : Type 0} → (before : Asked F) (volume : VolumeId) (path : List ℕ) (count : ℕ) (text : List ℕ) (result : Result (List ℕ) (Stop E)) → nat_lt (count + 1) (2 ^ 32) ≡ false
     → Comes before bad result before → Comes before (lists_behind volume path count text) result before
 unfolding lists_behind bad
 behind_past before volume path count text result past h = subst (λ (b : Bool). Comes before (λ answers. cond b (lists volume path count text answers) bad_reply) result before) (sym past) h

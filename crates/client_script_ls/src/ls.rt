@@ -4,7 +4,7 @@ ghost use Rattle.afp_base.specs.declared.ids.VolumeId.{VolumeId};
 ghost use Rattle.client_script_calls.specs.Places.{IsPlace};
 ghost use Rattle.client_script_ls.specs.Ls.{lists, lists_behind, ls};
 ghost use Rattle.client_script_ls.specs.lemma.Listing.{ListsOnce, ListsPage};
-ghost use Rattle.client_script_parts.specs.Parts.{Comes, Exchange};
+ghost use Rattle.client_script_parts.specs.Parts.{Asked, Comes};
 ghost use Rattle.client_script_parts.specs.declared.asker.Stop.{Stop};
 
 use crate::rows::put_answer;
@@ -71,9 +71,9 @@ fn list_page<A: Asker>(
 
 /// Where the next list may begin: a law of lists.
 fn lists_go_on<A: Asker>()
-    ensures within { (before final : List Exchange) (volume : VolumeId) (path : List ℕ) (count : ℕ) (text : List ℕ) (result : Result (List ℕ) (Stop A.End)) → count + 1 < 2 ^ 32
+    ensures within { (before final : Asked A.Fixed) (volume : VolumeId) (path : List ℕ) (count : ℕ) (text : List ℕ) (result : Result (List ℕ) (Stop A.End)) → count + 1 < 2 ^ 32
         → Comes before (lists volume path count text) result final → Comes before (lists_behind volume path count text) result final }
-    ensures past { (before : List Exchange) (volume : VolumeId) (path : List ℕ) (count : ℕ) (text : List ℕ) (result : Result (List ℕ) (Stop A.End)) → 2 ^ 32 ≤ count + 1 → result ≡ Err Stop.BadReply
+    ensures past { (before : Asked A.Fixed) (volume : VolumeId) (path : List ℕ) (count : ℕ) (text : List ℕ) (result : Result (List ℕ) (Stop A.End)) → 2 ^ 32 ≤ count + 1 → result ≡ Err Stop.BadReply
         → Comes before (lists_behind volume path count text) result before }
 {
     parts_end::<A>();

@@ -77,31 +77,40 @@ pub record Exchange : Type 0 where
   pub call : Call
   pub answer : Answer
 
+-- The exchanges so far of whoever asks, and what stays the same of it.
+pub record Asked (F : Type 0) : Type 0 where
+  pub fixed : F
+  pub exchanges : List Exchange
+
+-- with more of them
+abbrev pub with_more : {F : Type 0} → Asked F → List Exchange → Asked F
+with_more before more = record { fixed = before.fixed; exchanges = before.exchanges ++ more }
+
 -- The part asks the calls of these exchanges, one after the other, and what is left of it behind their answers is this.
 abbrev pub Leads : Part → List Exchange → Part → Type 0
 Leads part [] left = (answers : List Answer) → part answers ≡ left answers
 Leads part (x ∷ exchanges) left = (part [] ≡ asks x.call) × Leads (λ answers. part (x.answer ∷ answers)) exchanges left
 
 -- Of two logs of exchanges the second has, behind the first, those of the part.
-pub record Runs (before : List Exchange) (part left : Part) (after : List Exchange) : Type 0 where
+pub record Runs {F : Type 0} (before : Asked F) (part left : Part) (after : Asked F) : Type 0 where
   pub exchanges : List Exchange
-  pub log : after ≡ before ++ exchanges
+  pub log : after ≡ with_more before exchanges
   pub leads : Leads part exchanges left
 
 -- A call of the part waits for its answer.
-pub record Waits (before : List Exchange) (part : Part) (after : List Exchange) : Type 0 where
+pub record Waits {F : Type 0} (before : Asked F) (part : Part) (after : Asked F) : Type 0 where
   pub call : Call
   pub left : Part
   pub next : left [] ≡ asks call
   pub runs : Runs before part left after
 
 -- what asking a call does to the log
-abbrev pub AsksCall : {E : Type 0} → Call → List Exchange → Result Answer E → List Exchange → Type 0
-AsksCall call before (Ok answer) after = after ≡ before ++ (record { call = call; answer = answer }) ∷ []
+abbrev pub AsksCall : {E F : Type 0} → Call → Asked F → Result Answer E → Asked F → Type 0
+AsksCall call before (Ok answer) after = after ≡ with_more before ((record { call = call; answer = answer }) ∷ [])
 AsksCall call before (Err end) after = after ≡ before
 
 -- A part comes to this: it prints a line; it is refused; a call waits for its answer; the last reply may not come; or there was no memory.
-unfoldable pub Comes : {E : Type 0} → List Exchange → Part → Result (List ℕ) (Stop E) → List Exchange → Type 0
+unfoldable pub Comes : {E F : Type 0} → Asked F → Part → Result (List ℕ) (Stop E) → Asked F → Type 0
 Comes before part (Ok text) after = Runs before part (done text) after
 Comes before part (Err (stops.Refused c)) after = Runs before part (refuses c) after
 Comes before part (Err (stops.Ended end)) after = Waits before part after

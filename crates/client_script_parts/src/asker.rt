@@ -36,15 +36,18 @@ impl<E> From<OutOfMemory> for Stop<E> {
 
 /// Asks calls, one after the other.
 pub trait Asker {
-    ghost use Rattle.std.specs.Prelude.{List, ℕ, ◌<◌, OnOk};
+    ghost use Rattle.std.specs.Prelude.{ℕ, ◌<◌, OnOk};
     ghost use Rattle.client_script_calls.specs.Asked.{IsAskable};
-    ghost use Rattle.client_script_parts.specs.Parts.{Exchange, AsksCall};
+    ghost use Rattle.client_script_parts.specs.Parts.{Asked, AsksCall};
 
     /// Why no answer comes.
     type End: Drop;
 
-    /// The calls that were answered, with their answers.
-    ghost exchanges: { Self → List Exchange };
+    /// What stays the same of whoever asks.
+    type Fixed;
+
+    /// The calls that were answered, with their answers, and what stays the same.
+    ghost exchanges: { Self → Asked Self.Fixed };
 
     /// How many answers may still come, at most.
     ghost left: { Self → ℕ };

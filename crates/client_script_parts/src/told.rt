@@ -4,7 +4,7 @@ ghost use Rattle.afp_base.specs.declared.code.Code.{Code};
 ghost use Rattle.afp_calls_grammar.specs.declared.call.Call.{Call};
 ghost use Rattle.afp_replies.specs.declared.reply.Reply.{Reply};
 ghost use Rattle.client_script_calls.specs.Asked.{IsAskable};
-ghost use Rattle.client_script_parts.specs.Parts.{Comes, Exchange, Part, bad, done, needs, must, must_tell, refuses};
+ghost use Rattle.client_script_parts.specs.Parts.{Asked, Comes, Part, bad, done, needs, must, must_tell, refuses};
 ghost use Rattle.client_script_parts.specs.Told.{AnyTells, AskTells, Carries, ClosesRefused, InForkTells, MustDo, MustTell, MustTells};
 ghost use Rattle.client_script_parts.specs.declared.asker.Stop.{Stop};
 
@@ -103,21 +103,21 @@ pub fn must_do<A: Asker>(asker: &mut A, call: Call) -> Result<(), Stop<A::End>>
 
 /// What a reply that must tell a value leads to. The function does nothing: its contract is the law.
 pub fn replies_tell<A: Asker, T>()
-    ensures value { (told : Reply → Option T) (call : Call) (before after : List Exchange) (reply : Reply) (value : T)
+    ensures value { (told : Reply → Option T) (call : Call) (before after : Asked A.Fixed) (reply : Reply) (value : T)
         → MustTells {E = A.End} call before (Ok reply) after → told reply ≡ Some value → MustTell {E = A.End} told call before (Ok value) after }
-    ensures none { (told : Reply → Option T) (call : Call) (before after : List Exchange) (reply : Reply)
+    ensures none { (told : Reply → Option T) (call : Call) (before after : Asked A.Fixed) (reply : Reply)
         → MustTells {E = A.End} call before (Ok reply) after → told reply ≡ None → MustTell {E = A.End} told call before (Err Stop.BadReply) after }
-    ensures memory { (told : Reply → Option T) (call : Call) (before after : List Exchange) (reply : Reply)
+    ensures memory { (told : Reply → Option T) (call : Call) (before after : Asked A.Fixed) (reply : Reply)
         → MustTells {E = A.End} call before (Ok reply) after → MustTell {E = A.End} told call before (Err Stop.Memory) after }
-    ensures stops { (told : Reply → Option T) (call : Call) (before after : List Exchange) (stop : Stop A.End)
+    ensures stops { (told : Reply → Option T) (call : Call) (before after : Asked A.Fixed) (stop : Stop A.End)
         → MustTells call before (Err stop) after → MustTell told call before (Err stop) after }
 {}
 
 /// How a part of a script ends: it is done, it is refused, its last reply may not come, or there is no memory. The function does nothing:
 /// its contract is the law.
 pub fn parts_end<A: Asker>()
-    ensures memory { (before : List Exchange) (part : Part) (result : Result (List ℕ) (Stop A.End)) → result ≡ Err Stop.Memory → Comes before part result before }
-    ensures bad { (before : List Exchange) (result : Result (List ℕ) (Stop A.End)) → result ≡ Err Stop.BadReply → Comes before bad result before }
-    ensures refused { (before : List Exchange) (c : Code) (result : Result (List ℕ) (Stop A.End)) → result ≡ Err (Stop.Refused c) → Comes before (refuses c) result before }
-    ensures done { (before : List Exchange) (text : List ℕ) (result : Result (List ℕ) (Stop A.End)) → result ≡ Ok text → Comes before (done text) result before }
+    ensures memory { (before : Asked A.Fixed) (part : Part) (result : Result (List ℕ) (Stop A.End)) → result ≡ Err Stop.Memory → Comes before part result before }
+    ensures bad { (before : Asked A.Fixed) (result : Result (List ℕ) (Stop A.End)) → result ≡ Err Stop.BadReply → Comes before bad result before }
+    ensures refused { (before : Asked A.Fixed) (c : Code) (result : Result (List ℕ) (Stop A.End)) → result ≡ Err (Stop.Refused c) → Comes before (refuses c) result before }
+    ensures done { (before : Asked A.Fixed) (text : List ℕ) (result : Result (List ℕ) (Stop A.End)) → result ≡ Ok text → Comes before (done text) result before }
 {}

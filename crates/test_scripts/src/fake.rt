@@ -127,7 +127,9 @@ impl Asker for Fake {
 
     type End = FakeEnd;
 
-    ghost exchanges = { λ f. zipped f.exchanges.calls.items f.exchanges.answers.items };
+    type Fixed = ();
+
+    ghost exchanges = { λ f. record { fixed = tt; exchanges = zipped f.exchanges.calls.items f.exchanges.answers.items } };
 
     ghost left = { λ f. length f.given.items };
 

@@ -3,25 +3,25 @@ use Rattle.std.specs.Prelude.{◌≡◌, ℕ, Bool, true, false, List, [], ◌++
 use Rattle.afp_base.specs.declared.ids.ForkRef.{ForkRef}
 use Rattle.client_script_texts.specs.Texts.{got_text}
 use Rattle.client_script_parts.specs.declared.asker.Stop.{Stop}
-use Rattle.client_script_parts.specs.Parts.{Comes, Exchange}
+use Rattle.client_script_parts.specs.Parts.{Comes, Asked}
 use Rattle.client_script_parts.specs.Told.{Carries}
 use Rattle.client_script_get.specs.declared.get.ReadPiece.{ReadPiece}
 use Rattle.client_script_get.specs.declared.get.ReadPiece.TheVariants.{More, Last}
 use Rattle.client_script_get.specs.Get.{closes, reads, reads_behind}
 
 -- one read, over all bytes before it
-abbrev pub ReadsPiece : {E : Type 0} → ForkRef → ℕ → List Exchange → Result ReadPiece (Stop E) → List Exchange → Type 0
+abbrev pub ReadsPiece : {E F : Type 0} → ForkRef → ℕ → Asked F → Result ReadPiece (Stop E) → Asked F → Type 0
 ReadsPiece {E} reference offset before (Ok (More piece)) after = (got : List ℕ) → length got ≡ offset → Carries E before (reads reference got) after (reads_behind reference (got ++ piece))
 ReadsPiece {E} reference offset before (Ok (Last piece)) after = (got : List ℕ) → length got ≡ offset → Carries E before (reads reference got) after (closes reference (got_text (got ++ piece)))
 ReadsPiece reference offset before (Err stop) after = (got : List ℕ) → length got ≡ offset → Comes before (reads reference got) (Err stop) after
 
 -- the same, with the bytes behind it
-abbrev pub ReadsOnce : {E : Type 0} → ForkRef → List ℕ → List Exchange → Result Bool (Stop E) → List ℕ → List Exchange → Type 0
+abbrev pub ReadsOnce : {E F : Type 0} → ForkRef → List ℕ → Asked F → Result Bool (Stop E) → List ℕ → Asked F → Type 0
 ReadsOnce {E} reference got before (Ok true) now after = Carries E before (reads reference got) after (reads reference now)
 ReadsOnce {E} reference got before (Ok false) now after = Carries E before (reads reference got) after (closes reference (got_text now))
 ReadsOnce reference got before (Err stop) now after = Comes before (reads reference got) (Err stop) after
 
 -- reads until the end
-abbrev pub ReadsAll : {E : Type 0} → ForkRef → List Exchange → Result (List ℕ) (Stop E) → List Exchange → Type 0
+abbrev pub ReadsAll : {E F : Type 0} → ForkRef → Asked F → Result (List ℕ) (Stop E) → Asked F → Type 0
 ReadsAll {E} reference before (Ok all) after = Carries E before (reads reference []) after (closes reference (got_text all))
 ReadsAll reference before (Err stop) after = Comes before (reads reference []) (Err stop) after

@@ -4,7 +4,7 @@ use Rattle.afp_base.specs.declared.ids.VolumeId.{VolumeId}
 use Rattle.afp_replies.specs.declared.list.ListEntry.{ListEntry}
 use Rattle.client_script_texts.specs.Texts.{error_text, numbered}
 use Rattle.client_script_parts.specs.declared.asker.Stop.{Stop}
-use Rattle.client_script_parts.specs.Parts.{Comes, Exchange, done}
+use Rattle.client_script_parts.specs.Parts.{Comes, Asked, done}
 use Rattle.client_script_parts.specs.Told.{Carries}
 use Rattle.client_script_ls.specs.declared.ls.Page.{Page}
 use Rattle.client_script_ls.specs.declared.ls.Page.TheVariants.{Listed, Ended, Refused}
@@ -16,14 +16,14 @@ PutsList None old new size = size ≡ None
 PutsList (Some rows) old new size = (size ≡ Some (length rows)) × (new ≡ old ++ rows_text rows)
 
 -- one list
-abbrev pub ListsPage : {E : Type 0} → VolumeId → List ℕ → ℕ → List ℕ → List Exchange → Result Page (Stop E) → List ℕ → List Exchange → Type 0
+abbrev pub ListsPage : {E F : Type 0} → VolumeId → List ℕ → ℕ → List ℕ → Asked F → Result Page (Stop E) → List ℕ → Asked F → Type 0
 ListsPage {E} volume path count text before (Ok (Listed size)) now after = Carries E before (lists volume path count text) after (lists_behind volume path (count + size) now)
 ListsPage {E} volume path count text before (Ok Ended) now after = (now ≡ text) × Carries E before (lists volume path count text) after (done (text ++ numbered (codes "listed ") count))
 ListsPage {E} volume path count text before (Ok (Refused c)) now after = (now ≡ text) × Carries E before (lists volume path count text) after (done (text ++ error_text c))
 ListsPage volume path count text before (Err stop) now after = Comes before (lists volume path count text) (Err stop) after
 
 -- the same, with what stands behind it: there may be more, or this is the text
-abbrev pub ListsOnce : {E : Type 0} → VolumeId → List ℕ → ℕ → List ℕ → List Exchange → Result Bool (Stop E) → ℕ → List ℕ → List Exchange → Type 0
+abbrev pub ListsOnce : {E F : Type 0} → VolumeId → List ℕ → ℕ → List ℕ → Asked F → Result Bool (Stop E) → ℕ → List ℕ → Asked F → Type 0
 ListsOnce {E} volume path count text before (Ok true) count_now now after = Carries E before (lists volume path count text) after (lists volume path count_now now)
 ListsOnce {E} volume path count text before (Ok false) count_now now after = Carries E before (lists volume path count text) after (done now)
 ListsOnce volume path count text before (Err stop) count_now now after = Comes before (lists volume path count text) (Err stop) after

@@ -1,0 +1,282 @@
+//! Commands that need a volume.
+ghost use Rattle.std.specs.Prelude.{◌≡◌, IfOk, codes};
+ghost use Rattle.afp_base.specs.declared.ids.VolumeId.{VolumeId};
+ghost use Rattle.client_script_commands.specs.Cp.{cp};
+ghost use Rattle.client_script_commands.specs.Find.{find};
+ghost use Rattle.client_script_commands.specs.Hold.{hold};
+ghost use Rattle.client_script_commands.specs.Id.{id};
+ghost use Rattle.client_script_commands.specs.Mkdir.{mkdir};
+ghost use Rattle.client_script_commands.specs.Mv.{mv};
+ghost use Rattle.client_script_commands.specs.Note.{note};
+ghost use Rattle.client_script_commands.specs.Put.{put};
+ghost use Rattle.client_script_commands.specs.Rm.{rm};
+ghost use Rattle.client_script_commands.specs.Show.{show};
+ghost use Rattle.client_script_commands.specs.Swap.{swap};
+ghost use Rattle.client_script_get.specs.Get.{get};
+ghost use Rattle.client_script_ls.specs.Ls.{ls};
+ghost use Rattle.client_script_parts.specs.Parts.{Comes};
+ghost use Rattle.client_script_run.specs.Run.{in_volume, node_of};
+ghost use Rattle.client_script_run.specs.Values.{directory_text, name_text, path_text, text_of};
+
+use crate::values::{number_of, path_of, piece_of, short_text, target_of};
+use afp_base::{Bytes, NodeId, OutOfMemory, VolumeId};
+use client_script_commands as commands;
+use client_script_get::get::get;
+use client_script_ls::ls::ls;
+use client_script_parts::{Asker, Stop, parts_end};
+use std::alloc::Global;
+
+/// What is printed where no volume is mounted.
+fn no_volume(alloc: Global) -> Result<Bytes, OutOfMemory>
+    ensures { IfOk result (λ text. text ≡ codes "no volume") }
+{
+    Bytes::of(alloc, b"no volume")
+}
+
+/// The ids of nodes lie below this.
+const IDS: u64 = 1 << 32;
+
+/// `mkdir PATH`, in a volume.
+pub(crate) fn run_mkdir<A: Asker>(
+    alloc: Global,
+    asker: &mut A,
+    mounted: Option<VolumeId>,
+    path: &[u8],
+) -> Result<Bytes, Stop<A::End>>
+    ensures { Comes (A.exchanges asker.old) (in_volume mounted (λ (volume : VolumeId). mkdir volume (path_text path.now))) result (A.exchanges asker.new) }
+{
+    parts_end::<A>();
+    let Some(volume) = mounted else {
+        return Ok(no_volume(alloc)?);
+    };
+    let path = path_of(alloc, path)?;
+    commands::mkdir::mkdir(alloc, asker, volume, path.as_slice())
+}
+
+/// `get PATH`, in a volume.
+pub(crate) fn run_get<A: Asker>(
+    alloc: Global,
+    asker: &mut A,
+    mounted: Option<VolumeId>,
+    path: &[u8],
+) -> Result<Bytes, Stop<A::End>>
+    ensures { Comes (A.exchanges asker.old) (in_volume mounted (λ (volume : VolumeId). get volume (path_text path.now))) result (A.exchanges asker.new) }
+{
+    parts_end::<A>();
+    let Some(volume) = mounted else {
+        return Ok(no_volume(alloc)?);
+    };
+    let path = path_of(alloc, path)?;
+    get(alloc, asker, volume, path.as_slice())
+}
+
+/// `ls PATH`, in a volume.
+pub(crate) fn run_ls<A: Asker>(
+    alloc: Global,
+    asker: &mut A,
+    mounted: Option<VolumeId>,
+    path: &[u8],
+) -> Result<Bytes, Stop<A::End>>
+    ensures { Comes (A.exchanges asker.old) (in_volume mounted (λ (volume : VolumeId). ls volume (path_text path.now))) result (A.exchanges asker.new) }
+{
+    parts_end::<A>();
+    let Some(volume) = mounted else {
+        return Ok(no_volume(alloc)?);
+    };
+    let path = path_of(alloc, path)?;
+    ls(alloc, asker, volume, path.as_slice())
+}
+
+/// `rm PATH`, in a volume.
+pub(crate) fn run_rm<A: Asker>(
+    alloc: Global,
+    asker: &mut A,
+    mounted: Option<VolumeId>,
+    path: &[u8],
+) -> Result<Bytes, Stop<A::End>>
+    ensures { Comes (A.exchanges asker.old) (in_volume mounted (λ (volume : VolumeId). rm volume (path_text path.now))) result (A.exchanges asker.new) }
+{
+    parts_end::<A>();
+    let Some(volume) = mounted else {
+        return Ok(no_volume(alloc)?);
+    };
+    let path = path_of(alloc, path)?;
+    commands::rm::rm(alloc, asker, volume, path.as_slice())
+}
+
+/// `hold PATH`, in a volume.
+pub(crate) fn run_hold<A: Asker>(
+    alloc: Global,
+    asker: &mut A,
+    mounted: Option<VolumeId>,
+    path: &[u8],
+) -> Result<Bytes, Stop<A::End>>
+    ensures { Comes (A.exchanges asker.old) (in_volume mounted (λ (volume : VolumeId). hold volume (path_text path.now))) result (A.exchanges asker.new) }
+{
+    parts_end::<A>();
+    let Some(volume) = mounted else {
+        return Ok(no_volume(alloc)?);
+    };
+    let path = path_of(alloc, path)?;
+    commands::hold::hold(alloc, asker, volume, path.as_slice())
+}
+
+/// `id PATH`, in a volume.
+pub(crate) fn run_id<A: Asker>(
+    alloc: Global,
+    asker: &mut A,
+    mounted: Option<VolumeId>,
+    path: &[u8],
+) -> Result<Bytes, Stop<A::End>>
+    ensures { Comes (A.exchanges asker.old) (in_volume mounted (λ (volume : VolumeId). id volume (path_text path.now))) result (A.exchanges asker.new) }
+{
+    parts_end::<A>();
+    let Some(volume) = mounted else {
+        return Ok(no_volume(alloc)?);
+    };
+    let path = path_of(alloc, path)?;
+    commands::id::id(alloc, asker, volume, path.as_slice())
+}
+
+/// `show PATH`, in a volume.
+pub(crate) fn run_show<A: Asker>(
+    alloc: Global,
+    asker: &mut A,
+    mounted: Option<VolumeId>,
+    path: &[u8],
+) -> Result<Bytes, Stop<A::End>>
+    ensures { Comes (A.exchanges asker.old) (in_volume mounted (λ (volume : VolumeId). show volume (path_text path.now))) result (A.exchanges asker.new) }
+{
+    parts_end::<A>();
+    let Some(volume) = mounted else {
+        return Ok(no_volume(alloc)?);
+    };
+    let path = path_of(alloc, path)?;
+    commands::show::show(alloc, asker, volume, path.as_slice())
+}
+
+/// `put PATH BYTES`, in a volume.
+pub(crate) fn run_put<A: Asker>(
+    alloc: Global,
+    asker: &mut A,
+    mounted: Option<VolumeId>,
+    path: &[u8],
+    piece: &[u8],
+) -> Result<Bytes, Stop<A::End>>
+    ensures { Comes (A.exchanges asker.old) (in_volume mounted (λ (volume : VolumeId). put volume (path_text path.now) (text_of piece.now))) result (A.exchanges asker.new) }
+{
+    parts_end::<A>();
+    let Some(volume) = mounted else {
+        return Ok(no_volume(alloc)?);
+    };
+    let path = path_of(alloc, path)?;
+    let piece = piece_of(alloc, piece)?;
+    commands::put::put(alloc, asker, volume, path.as_slice(), piece.as_slice())
+}
+
+/// `note PATH TEXT`, in a volume.
+pub(crate) fn run_note<A: Asker>(
+    alloc: Global,
+    asker: &mut A,
+    mounted: Option<VolumeId>,
+    path: &[u8],
+    text: &[u8],
+) -> Result<Bytes, Stop<A::End>>
+    ensures { Comes (A.exchanges asker.old) (in_volume mounted (λ (volume : VolumeId). note volume (path_text path.now) (text_of text.now))) result (A.exchanges asker.new) }
+{
+    parts_end::<A>();
+    let Some(volume) = mounted else {
+        return Ok(no_volume(alloc)?);
+    };
+    let path = path_of(alloc, path)?;
+    let text = short_text(alloc, text)?;
+    commands::note::note(alloc, asker, volume, path.as_slice(), text.as_slice())
+}
+
+/// `mv PATH TARGET`, in a volume.
+pub(crate) fn run_mv<A: Asker>(
+    alloc: Global,
+    asker: &mut A,
+    mounted: Option<VolumeId>,
+    path: &[u8],
+    target: &[u8],
+) -> Result<Bytes, Stop<A::End>>
+    ensures { Comes (A.exchanges asker.old) (in_volume mounted (λ (volume : VolumeId). mv volume (path_text path.now) (directory_text target.now) (name_text target.now))) result (A.exchanges asker.new) }
+{
+    parts_end::<A>();
+    let Some(volume) = mounted else {
+        return Ok(no_volume(alloc)?);
+    };
+    let path = path_of(alloc, path)?;
+    let target = target_of(alloc, target)?;
+    commands::mv::mv(
+        alloc,
+        asker,
+        volume,
+        path.as_slice(),
+        target.directory.as_slice(),
+        target.name.as_slice(),
+    )
+}
+
+/// `cp PATH TARGET`, in a volume.
+pub(crate) fn run_cp<A: Asker>(
+    alloc: Global,
+    asker: &mut A,
+    mounted: Option<VolumeId>,
+    path: &[u8],
+    target: &[u8],
+) -> Result<Bytes, Stop<A::End>>
+    ensures { Comes (A.exchanges asker.old) (in_volume mounted (λ (volume : VolumeId). cp volume (path_text path.now) (directory_text target.now) (name_text target.now))) result (A.exchanges asker.new) }
+{
+    parts_end::<A>();
+    let Some(volume) = mounted else {
+        return Ok(no_volume(alloc)?);
+    };
+    let path = path_of(alloc, path)?;
+    let target = target_of(alloc, target)?;
+    commands::cp::cp(
+        alloc,
+        asker,
+        volume,
+        path.as_slice(),
+        target.directory.as_slice(),
+        target.name.as_slice(),
+    )
+}
+
+/// `swap PATH TARGET`, in a volume.
+pub(crate) fn run_swap<A: Asker>(
+    alloc: Global,
+    asker: &mut A,
+    mounted: Option<VolumeId>,
+    path: &[u8],
+    target: &[u8],
+) -> Result<Bytes, Stop<A::End>>
+    ensures { Comes (A.exchanges asker.old) (in_volume mounted (λ (volume : VolumeId). swap volume (path_text path.now) (path_text target.now))) result (A.exchanges asker.new) }
+{
+    parts_end::<A>();
+    let Some(volume) = mounted else {
+        return Ok(no_volume(alloc)?);
+    };
+    let path = path_of(alloc, path)?;
+    let target = path_of(alloc, target)?;
+    commands::swap::swap(alloc, asker, volume, path.as_slice(), target.as_slice())
+}
+
+/// `find ID`, in a volume.
+pub(crate) fn run_find<A: Asker>(
+    alloc: Global,
+    asker: &mut A,
+    mounted: Option<VolumeId>,
+    node: &[u8],
+) -> Result<Bytes, Stop<A::End>>
+    ensures { Comes (A.exchanges asker.old) (in_volume mounted (λ (volume : VolumeId). find volume (node_of node.now))) result (A.exchanges asker.new) }
+{
+    parts_end::<A>();
+    let Some(volume) = mounted else {
+        return Ok(no_volume(alloc)?);
+    };
+    let number = number_of(node, IDS)?;
+    commands::find::find(alloc, asker, volume, NodeId(number as u32))
+}
