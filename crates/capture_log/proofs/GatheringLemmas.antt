@@ -10,7 +10,7 @@ use Rattle.capture_log.specs.lemma.Gathering.{ReaderState, IsOneLine, AreLines, 
 use Rattle.capture_log.specs.Judged.{Decides, DecidesEnd, JudgedAt, Judged}
 use Rattle.capture_log.specs.Reading.{is_newline, pieces, last_line, lines_of, lines_in, Undecided}
 use Rattle.capture_log_server.specs.CaptureState.{CaptureState, TakesGoodLine, Leads, begins, is_bad}
-use Rattle.capture_log.specs.lemma.Taking.{HeldCapture, IsCapture, TakesRawLine}
+use Rattle.capture_log.specs.Taking.{HeldCapture, IsCapture, TakesRawLine}
 use Rattle.capture_log.specs.declared.replay_end.ReplayEnd.{ReplayEnd}
 use Rattle.capture_log.specs.declared.replay_end.ReplayEnd.TheVariants.{BadCapture}
 

@@ -3,3 +3,4 @@ pub mod LineLemmas
 pub mod SetUpLemmas
 pub mod SoFar
 pub mod TakingLemmas
+pub mod StandingLemmas

@@ -9,7 +9,7 @@ use Rattle.capture_log_lines.specs.Lines.{line_in, headed, event_in, title_in, n
 use Rattle.afp_base.specs.Limits.{last_moment}
 use Rattle.capture_log_lines.specs.declared.line.Line.{Line}
 use Rattle.capture_log_lines.specs.declared.line.Line.TheVariants.{Title, Server, Signature, User as UserLine, Volume, Key, At, End}
-use Rattle.capture_log.specs.lemma.Taking.{IsLink, IsLinked}
+use Rattle.capture_log.specs.Taking.{IsLink, IsLinked}
 use Rattle.capture_log_lines.proofs.Values.{value-least}
 
 -- something that may be read, if it names a connection that there may be

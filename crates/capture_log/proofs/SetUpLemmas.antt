@@ -17,8 +17,8 @@ use Rattle.capture_log_lines.specs.declared.line.What.{What}
 use Rattle.capture_log_server.specs.CaptureState.{part_after, user_behind}
 use Rattle.capture_log_server.specs.declared.part.Part.{Part}
 use Rattle.capture_log_server.specs.declared.part.Part.TheVariants as parts
-use Rattle.capture_log.specs.lemma.SetUp.{IsSetUp, has_server, has_volume}
-use Rattle.capture_log.specs.lemma.Taking.{house_with, refused_by}
+use Rattle.capture_log.specs.SetUp.{IsSetUp, has_server, has_volume}
+use Rattle.capture_log.specs.Taking.{house_with, refused_by}
 
 -- what a line that may come adds
 

@@ -19,8 +19,8 @@ use Rattle.capture_log_server.specs.Running.{IsFreshRunning}
 use Rattle.capture_log_server.specs.Running.{HappensBy}
 use Rattle.capture_log_server.specs.CaptureState.{CaptureState, Says, Happens, FeedsUnless, PulsesIf, LosesIf, part_after, is_refused, is_refused_on, is_bad, start_at}
 use Rattle.capture_log_server.specs.States.{ConnectionState, RunningState, IsConnection, IsRunning, unused_state}
-use Rattle.capture_log.specs.lemma.SetUp.{IsSetUp}
-use Rattle.capture_log.specs.lemma.Taking.{Acts, begun, HeldCapture, house_with, refused_by, is_event, IsIdle, is_past_house, IsBegun, IsServer, IsCapture, RunsFrom, LeadsLine, TakesLine, TakesRawLine}
+use Rattle.capture_log.specs.SetUp.{IsSetUp}
+use Rattle.capture_log.specs.Taking.{Acts, begun, HeldCapture, house_with, refused_by, is_event, IsIdle, is_past_house, IsBegun, IsServer, IsCapture, RunsFrom, LeadsLine, TakesLine, TakesRawLine}
 use Rattle.capture_log.proofs.SetUpLemmas.{kept-set-up}
 use Rattle.capture_log_server.specs.declared.difference.Difference.{Difference}
 use Rattle.capture_log_server.specs.declared.part.Part.{Part}

@@ -1,4 +1,2 @@
 pub mod Gathering
 pub mod Judged
-pub mod SetUp
-pub mod Taking

@@ -3,8 +3,8 @@ ghost use Rattle.std.specs.Prelude.{◌≡◌, ◌<◌, ◌+◌, ℕ, suc, lengt
 ghost use Rattle.capture_log_lines.specs.declared.line.Line.{Line};
 ghost use Rattle.capture_log.specs.Judged.{DecidesEnd};
 ghost use Rattle.capture_log_server.specs.CaptureState.{CaptureState, is_refused_on, no_house};
-ghost use Rattle.capture_log.specs.lemma.Taking.{IsCapture, IsLink, IsLinked, IsServer, RunsFrom, Acts, TakesLine, TakesRawLine};
-ghost use Rattle.capture_log.specs.lemma.SetUp.{IsSetUp};
+ghost use Rattle.capture_log.specs.Taking.{IsCapture, IsLink, IsLinked, IsServer, RunsFrom, Acts, TakesLine, TakesRawLine};
+ghost use Rattle.capture_log.specs.SetUp.{IsSetUp};
 ghost use Rattle.capture_log_server.specs.Running.{IsFreshRunning};
 ghost use Rattle.capture_log_server.specs.States.{IsRunning};
 ghost use Rattle.capture_log_server.specs.declared.part.Part.{Part};
@@ -12,7 +12,7 @@ ghost use Rattle.capture_log.specs.declared.replay_end.ReplayEnd.{ReplayEnd};
 
 use crate::replay_end::ReplayEnd;
 use crate::setup::Setup;
-use afp_base::{Moment, OutOfMemory};
+use afp_base::{Moment, OutOfMemory, VolumeId};
 use afp_serial::HouseFault;
 use capture_log_lines::{Line, What, read_line};
 use capture_log_server::{Difference, NewKeepers, Part, ReplayCounts, Running, part_after};
@@ -20,8 +20,8 @@ use record_keeper::Keeper;
 use std::alloc::Global;
 use std::marker::Model;
 
-/// What may come next, the house that the lines make, the keepers, until something happens, and from there on the server; and how many
-/// lines there were.
+/// A capture, line by line: what may come next, the house that the lines make, the keepers, until something happens, and from there on
+/// the server; and how many lines there were.
 #[derive(Drop)]
 pub struct Capture<K: Keeper> {
     alloc: Global,
@@ -34,7 +34,7 @@ pub struct Capture<K: Keeper> {
 
 impl<K: Keeper> Model for Capture<K> {
     ghost use Rattle.std.specs.Prelude.{is_some};
-    ghost use Rattle.capture_log.specs.lemma.Taking.{HeldCapture};
+    ghost use Rattle.capture_log.specs.Taking.{HeldCapture};
 
     ghost Value = { HeldCapture };
 
@@ -142,12 +142,14 @@ fn same_of(counts: ReplayCounts) -> ReplayEnd
 impl<K: Keeper> Capture<K> {
     ghost use Rattle.std.specs.Prelude.{false, Some};
     ghost use Rattle.capture_log.specs.lemma.Judged.{IsSame};
-    ghost use Rattle.capture_log_server.specs.CaptureState.{part_after};
-    ghost use Rattle.capture_log.specs.lemma.Taking.{is_event};
+    ghost use Rattle.capture_log_server.specs.CaptureState.{begins, part_after};
+    ghost use Rattle.capture_log.specs.Taking.{is_event};
+    ghost use Rattle.capture_log.specs.Standing.{nodes_of, uncompared};
 
     /// No line was taken.
     pub fn new(alloc: Global, fresh: NewKeepers<K>) -> Capture<K>
-        ensures { result ≡ record { part = Part.Title; house = no_house; waiting = true; running = None; number = 0 } }
+        ensures value { result ≡ record { part = Part.Title; house = no_house; waiting = true; running = None; number = 0 } }
+        ensures begins { IsCapture result begins }
     {
         Capture {
             alloc,
@@ -236,6 +238,29 @@ impl<K: Keeper> Capture<K> {
         let verdict = self.take_line(&line, number)?;
         self.number = number;
         Ok(verdict)
+    }
+
+    /// What of the output of a connection was not compared yet.
+    pub fn uncompared(&self, link: u32) -> &[u8]
+        requires link { IsLink link }
+        requires is { (s : CaptureState) × IsCapture self.now s }
+        ensures { (s : CaptureState) → IsCapture self.now s → result.now ≡ uncompared (s.connections link) }
+    {
+        match &self.running {
+            Some(running) => running.uncompared((link - 1) as usize),
+            None => &[],
+        }
+    }
+
+    /// How many nodes the volume of an id has in the world that the history makes, its root among them. `None`: there is no such
+    /// volume, or nothing has happened.
+    pub fn nodes(&self, volume: VolumeId) -> Option<usize>
+        ensures { (s : CaptureState) → IsCapture self.now s → result ≡ nodes_of s volume.0 }
+    {
+        match &self.running {
+            Some(running) => running.nodes(volume),
+            None => None,
+        }
     }
 
     /// The counts, where all is the same.

@@ -1,4 +1,4 @@
-//! Captures: the judgement of a whole one, and its replay on a server over keepers that nobody has used.
+//! Captures: the judgement of a whole one, line by line, and its replay on a server over keepers that nobody has used.
 #![tactic(auto)]
 
 mod capture;
@@ -7,5 +7,6 @@ mod replay_end;
 mod replaying;
 mod setup;
 
+pub use capture::Capture;
 pub use replay_end::ReplayEnd;
 pub use replaying::replay;

@@ -5,7 +5,7 @@ ghost use Rattle.afp_serial.specs.Household.{household};
 ghost use Rattle.afp_serial.specs.Limits.{longest_server, most_users};
 ghost use Rattle.afp_serial.specs.Limits.{most_volumes};
 ghost use Rattle.capture_log_server.specs.CaptureState.{no_house, user_behind};
-ghost use Rattle.capture_log.specs.lemma.Taking.{house_with, refused_by};
+ghost use Rattle.capture_log.specs.Taking.{house_with, refused_by};
 
 use afp_base::{Bytes, OutOfMemory};
 use afp_serial::limits::{

@@ -11,7 +11,7 @@ use Rattle.afp_serial.specs.World.{World, fresh_world}
 use Rattle.afp_serial.specs.StatusBlock.{status_block}
 use Rattle.afp_serial.specs.Went.{Step, step}
 use Rattle.afp_serial.specs.declared.ask.Entry.{Entry}
-use Rattle.capture_log_server.specs.Connections.{Connection, fed_with, entries_of, AreServed}
+use Rattle.capture_log_server.specs.Connections.{Connection, fed_with, output, entries_of, AreServed}
 use Rattle.afp_base.specs.Counts.{counted, last_count}
 use Rattle.afp_serial.specs.Household.{Household}
 use Rattle.afp_server.specs.Tally.{replies_after, refused_after, refused_more}
@@ -331,3 +331,17 @@ pub lost-there : (r : RunningState) (s : CaptureState) (first index : ℕ) (slot
 lost-there r s first index slots lost is within same told =
     let at = slice_get-get_or r.connections index unused_state within in
     told _ (ap (λ (l : List ConnectionState). slice_get l index) same ∙ at) ∙ (is.connections index _ at).lost
+
+-- what was not compared yet
+
+pub uncompared-there : (r : RunningState) (s : CaptureState) (first index : ℕ) (slots : List ConnectionState) (rest : List ℕ) → IsRunning r s first → index < length r.connections → slots ≡ r.connections
+    → ((c : ConnectionState) → slice_get slots index ≡ Some c → rest ≡ drop c.place c.out) → rest ≡ drop (s.connections (suc index)).named (output (s.connections (suc index)))
+uncompared-there r s first index slots rest is within same told =
+    let at = slice_get-get_or r.connections index unused_state within in
+    told _ (ap (λ (l : List ConnectionState). slice_get l index) same ∙ at) ∙ (is.connections index _ at).rest
+
+-- the world that the history makes
+
+pub world-there : (r : RunningState) (s : CaptureState) (first : ℕ) (t : Shown) → IsRunning r s first → t ≡ r.teller → stand t.start t.history ≡ stand (fresh_world s.house first) s.history
+world-there r s first t is same =
+    ap (λ (x : Shown). stand x.start x.history) same ∙ ap (λ (w : World). stand w r.teller.history) is.teller.start ∙ ap (λ (h : List Entry). stand (fresh_world s.house first) h) is.teller.history

@@ -1,6 +1,6 @@
 //! One connection of a capture.
 ghost use Rattle.std.specs.Prelude.{◌≡◌, ◌≢◌, ◌+◌, ◌^◌, ◌<◌, ◌≤◌, List, ℕ, false, None, Some, IfOk, OnOk, length, drop};
-ghost use Rattle.afp_core.specs.Telling.{start_of, shown_of};
+ghost use Rattle.capture_log_teller.specs.Telling.{start_of, shown_of};
 ghost use Rattle.afp_serial.specs.StatusBlock.{status_block};
 ghost use Rattle.afp_serial.specs.declared.ask.Told.{Told};
 ghost use Rattle.capture_log_server.specs.lemma.Moves.{wire_or};
@@ -13,9 +13,9 @@ ghost use Rattle.capture_log_server.specs.lemma.States.{FeedsWire, GoesOn, is_en
 
 use crate::difference::{Difference, first_difference};
 use afp_base::{Bytes, LinkNumber, Moment, OutOfMemory};
-use afp_core::ListTeller;
 use afp_serial::{Ask, House, Teller, Told};
 use afp_server::{Tally, Wire, WireEnd};
+use capture_log_teller::SureTeller;
 use record_keeper::Keeper;
 use std::alloc::Global;
 use std::marker::Model;
@@ -68,7 +68,7 @@ fn feed_wire<K: Keeper>(
     wire: &mut Wire,
     piece: &[u8],
     now: Moment,
-    teller: &mut ListTeller<K>,
+    teller: &mut SureTeller<K>,
     out: &mut Bytes,
 ) -> Result<bool, OutOfMemory>
     requires goes_on { wire.old.end ≡ None }
@@ -154,7 +154,7 @@ impl Connection {
         house: &House,
         piece: &[u8],
         now: Moment,
-        teller: &mut ListTeller<K>,
+        teller: &mut SureTeller<K>,
     ) -> Result<Tally, OutOfMemory>
         requires is { (s : Peer) × IsConnection (status_block house.now) self.old s }
         requires takes { self.old.over ≡ false }
@@ -214,7 +214,7 @@ impl Connection {
     pub fn idle<K: Keeper>(
         &mut self,
         now: Moment,
-        teller: &mut ListTeller<K>,
+        teller: &mut SureTeller<K>,
     ) -> Result<(), OutOfMemory>
         requires sure { AreSure (start_of teller.old) }
         ensures fixed { start_of teller.new ≡ start_of teller.old }
@@ -242,7 +242,7 @@ impl Connection {
     pub fn lose<K: Keeper>(
         &mut self,
         now: Moment,
-        teller: &mut ListTeller<K>,
+        teller: &mut SureTeller<K>,
     ) -> Result<(), OutOfMemory>
         requires sure { AreSure (start_of teller.old) }
         ensures fixed { start_of teller.new ≡ start_of teller.old }
@@ -279,7 +279,7 @@ impl Connection {
     }
 
     /// What of its output was not compared yet.
-    fn uncompared(&self) -> &[u8]
+    pub fn uncompared(&self) -> &[u8]
         ensures { result.now ≡ drop self.now.place self.now.out }
     {
         let out = self.out.as_slice();

@@ -1,22 +1,27 @@
 //! The server that a capture is replayed on, and its connections.
-ghost use Rattle.std.specs.Prelude.{◌≡◌, ◌<◌, ℕ, suc, false, Some, IfOk, OnOk, length};
+ghost use Rattle.std.specs.Prelude.{◌≡◌, ◌<◌, ℕ, suc, false, Some, IfOk, OnOk, length, drop, option_map};
 ghost use Rattle.capture_log_lines.specs.declared.line.What.{What};
 ghost use Rattle.capture_log_server.specs.Running.{AreUnused, Happened};
 ghost use Rattle.capture_log_server.specs.Running.{HappensBy};
 ghost use Rattle.capture_log_server.specs.CaptureState.{CaptureState, is_refused_on};
 ghost use Rattle.afp_core.specs.Sureness.{AreSure};
-ghost use Rattle.afp_serial.specs.World.{fresh_world};
+ghost use Rattle.afp_serial.specs.History.{stand};
+ghost use Rattle.afp_serial.specs.World.{fresh_world, volume_at};
+ghost use Rattle.capture_log_server.specs.Connections.{output};
 
 use crate::connection::Connection;
 use crate::difference::Difference;
 use crate::new_keepers::NewKeepers;
 use crate::replay_counts::ReplayCounts;
-use crate::slots::{compare_at, feed_at, idle_at, is_lost_at, is_over_at, is_used_at, lose_at};
-use afp_base::{Moment, OutOfMemory};
-use afp_core::{Core, CoreFault, ListTeller};
+use crate::slots::{
+    compare_at, feed_at, idle_at, is_lost_at, is_over_at, is_used_at, lose_at, uncompared_at,
+};
+use afp_base::{Moment, OutOfMemory, VolumeId};
+use afp_core::{Core, CoreFault};
 use afp_serial::House;
 use afp_server::Tally;
 use capture_log_lines::{LAST_LINK, What};
+use capture_log_teller::SureTeller;
 use record_keeper::Keeper;
 use std::alloc::Global;
 use std::marker::Model;
@@ -26,7 +31,7 @@ use std::marker::Model;
 pub struct Running<K: Keeper> {
     alloc: Global,
     house: House,
-    teller: ListTeller<K>,
+    teller: SureTeller<K>,
     connections: Vec<Connection>,
     links: u64,
     replies: u64,
@@ -34,7 +39,7 @@ pub struct Running<K: Keeper> {
 }
 
 impl<K: Keeper> Model for Running<K> {
-    ghost use Rattle.afp_core.specs.Telling.{start_of, shown_of};
+    ghost use Rattle.capture_log_teller.specs.Telling.{start_of, shown_of};
     ghost use Rattle.capture_log_server.specs.States.{RunningState};
     ghost use Rattle.afp_core.specs.Sureness.{AreSure};
 
@@ -77,7 +82,7 @@ fn core_of<K: Keeper>(
     ensures world { IfOk result (λ core. core.world ≡ fresh_world house.now now) }
     ensures sure { IfOk result (λ core. AreSure core) }
 {
-    let keepers = fresh.first(house.volumes().len());
+    let keepers = fresh.first(house.volumes().len())?;
     match Core::new(alloc, house, keepers, now) {
         Ok(core) => Ok(core),
         Err(fault) => match fault {
@@ -93,7 +98,8 @@ impl<K: Keeper> Running<K> {
     ghost use Rattle.capture_log_server.specs.Running.{IsFreshRunning};
     ghost use Rattle.capture_log_server.specs.Counting.{AreCaptureCounts};
 
-    /// A server that nobody has asked, from a moment on, over new keepers; those that it has no volume for are let go.
+    /// A server that nobody has asked, from a moment on, over new keepers; those that it has no volume for are let go. With fewer
+    /// keepers than volumes there is no memory.
     pub fn new(
         alloc: Global,
         house: House,
@@ -107,7 +113,7 @@ impl<K: Keeper> Running<K> {
         Ok(Running {
             alloc,
             house,
-            teller: ListTeller::new(alloc, core),
+            teller: SureTeller::new(core),
             connections,
             links: 0,
             replies: 0,
@@ -123,13 +129,30 @@ impl<K: Keeper> Running<K> {
         is_lost_at(self.connections.as_slice(), index)
     }
 
+    /// How many nodes the volume of an id has, its root among them. `None`: there is no such volume.
+    pub fn nodes(&self, volume: VolumeId) -> Option<usize>
+        ensures { (s : CaptureState) (first : ℕ) → IsRunning self.now s first
+            → result ≡ option_map (λ v. length v.rows) (volume_at (stand (fresh_world s.house first) s.history).volumes volume.0) }
+    {
+        self.teller.core().nodes(volume)
+    }
+
+    /// What of the output of the connection at a place was not compared yet.
+    pub fn uncompared(&self, index: usize) -> &[u8]
+        requires { index < length self.now.connections }
+        ensures { (s : CaptureState) (first : ℕ) → IsRunning self.now s first
+            → result.now ≡ drop (s.connections (suc index)).named (output (s.connections (suc index))) }
+    {
+        uncompared_at(self.connections.as_slice(), index)
+    }
+
     /// What was counted.
     pub fn counts(&self) -> ReplayCounts
         ensures { (s : CaptureState) (first : ℕ) → IsRunning self.now s first → AreCaptureCounts s result.links result.entries result.replies result.refused }
     {
         ReplayCounts {
             links: self.links,
-            entries: self.teller.entries().len() as u64,
+            entries: self.teller.entries(),
             replies: self.replies,
             refused: self.refused,
         }

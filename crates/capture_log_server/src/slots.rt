@@ -1,6 +1,6 @@
 //! Connections by their places.
-ghost use Rattle.std.specs.Prelude.{◌≡◌, ◌<◌, Some, length, slice_get, IfOk, OnOk};
-ghost use Rattle.afp_core.specs.Telling.{start_of, shown_of};
+ghost use Rattle.std.specs.Prelude.{◌≡◌, ◌<◌, Some, length, drop, slice_get, IfOk, OnOk};
+ghost use Rattle.capture_log_teller.specs.Telling.{start_of, shown_of};
 ghost use Rattle.afp_serial.specs.StatusBlock.{status_block};
 ghost use Rattle.capture_log_server.specs.lemma.Slots.{FeedsAt, IdlesAt, LosesAt, ComparesAt, IsFit};
 ghost use Rattle.afp_core.specs.Sureness.{AreSure};
@@ -9,9 +9,9 @@ ghost use Rattle.capture_log_server.specs.States.{ConnectionState};
 use crate::connection::Connection;
 use crate::difference::Difference;
 use afp_base::{Moment, OutOfMemory};
-use afp_core::ListTeller;
 use afp_serial::House;
 use afp_server::Tally;
+use capture_log_teller::SureTeller;
 use record_keeper::Keeper;
 use std::alloc::Global;
 
@@ -53,7 +53,7 @@ pub fn feed_at<K: Keeper>(
     house: &House,
     piece: &[u8],
     now: Moment,
-    teller: &mut ListTeller<K>,
+    teller: &mut SureTeller<K>,
 ) -> Result<Tally, OutOfMemory>
     requires within { index < length slots.old }
     requires fit { (c : ConnectionState) → slice_get slots.old index ≡ Some c → IsFit (status_block house.now) c }
@@ -69,7 +69,7 @@ pub fn idle_at<K: Keeper>(
     slots: &mut [Connection],
     index: usize,
     now: Moment,
-    teller: &mut ListTeller<K>,
+    teller: &mut SureTeller<K>,
 ) -> Result<(), OutOfMemory>
     requires within { index < length slots.old }
     requires sure { AreSure (start_of teller.old) }
@@ -84,7 +84,7 @@ pub fn lose_at<K: Keeper>(
     slots: &mut [Connection],
     index: usize,
     now: Moment,
-    teller: &mut ListTeller<K>,
+    teller: &mut SureTeller<K>,
 ) -> Result<(), OutOfMemory>
     requires within { index < length slots.old }
     requires sure { AreSure (start_of teller.old) }
@@ -104,4 +104,14 @@ pub fn compare_at(
     ensures { IfOk result (λ found. ComparesAt wanted.now slots.old index found slots.new) }
 {
     slots[index].compare(wanted)
+}
+
+/// What of its output was not compared yet.
+pub fn uncompared_at(slots: &[Connection], index: usize) -> &[u8]
+    ensures { (c : ConnectionState) → slice_get slots.now index ≡ Some c → result.now ≡ drop c.place c.out }
+{
+    match slots.get(index) {
+        Some(connection) => connection.uncompared(),
+        None => &[],
+    }
 }

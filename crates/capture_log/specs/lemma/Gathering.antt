@@ -4,7 +4,7 @@ use Rattle.capture_log_lines.specs.Lines.{longest_line}
 use Rattle.capture_log.specs.Judged.{JudgedAt}
 use Rattle.capture_log.specs.Reading.{is_newline, lines_in}
 use Rattle.capture_log_server.specs.CaptureState.{CaptureState, Leads, begins}
-use Rattle.capture_log.specs.lemma.Taking.{HeldCapture, IsCapture}
+use Rattle.capture_log.specs.Taking.{HeldCapture, IsCapture}
 use Rattle.capture_log.specs.declared.replay_end.ReplayEnd.{ReplayEnd}
 
 -- A capture as far as its lines were taken, and what stands behind the last newline.

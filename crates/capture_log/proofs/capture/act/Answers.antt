@@ -1,6 +1,6 @@
 use Rattle.std.proofs.Common.{◌≡◌, sym, ◌∙◌, suc, ◌-◌, arith, refl}
 use Rattle.capture_log_server.specs.CaptureState.{start_at}
-use Rattle.capture_log.specs.lemma.Taking.{begun}
+use Rattle.capture_log.specs.Taking.{begun}
 use Rattle.capture_log.proofs.TakingLemmas.{acted, event_refused, begun-running}
 use Rattle.capture_log.proofs.capture.act.Goals as goal
 

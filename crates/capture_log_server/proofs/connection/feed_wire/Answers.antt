@@ -1,7 +1,7 @@
 use Rattle.std.proofs.Common.{sym, ap, ◌∙◌}
 use Rattle.std.proofs.lemmas.Bool.{not-false}
 use Rattle.afp_core.specs.ServerState.{ServerState}
-use Rattle.afp_core.specs.Telling.{shown_of}
+use Rattle.capture_log_teller.specs.Telling.{shown_of}
 use Rattle.afp_server.specs.declared.tally.Tally.{Tally}
 use Rattle.capture_log_server.proofs.Alone.{alone, alone-after}
 use Rattle.capture_log_server.proofs.Feeding.{at_none, fed_wire}

@@ -1,6 +1,6 @@
 use Rattle.std.proofs.Common.{ℕ, ap, subst}
 use Rattle.std.specs.Prelude.{is_some}
-use Rattle.capture_log.specs.lemma.Taking.{HeldCapture, TakesRawLine}
+use Rattle.capture_log.specs.Taking.{HeldCapture, TakesRawLine}
 use Rattle.capture_log.proofs.LineLemmas.{linked}
 use Rattle.capture_log.proofs.TakingLemmas.{line_taken}
 use Rattle.capture_log.proofs.capture.Capture.take.Goals as goal

@@ -1,7 +1,7 @@
 use Rattle.std.proofs.Common.{sym, ap, ◌∙◌, refl}
 use Rattle.std.specs.Prelude.{is_some}
 use Rattle.std.proofs.lemmas.Result.{IfOk-weaker}
-use Rattle.capture_log.specs.lemma.Taking.{HeldCapture}
+use Rattle.capture_log.specs.Taking.{HeldCapture}
 use Rattle.capture_log.proofs.TakingLemmas.{event_taken, served}
 use Rattle.capture_log.proofs.capture.Capture.take_event.Goals as goal
 

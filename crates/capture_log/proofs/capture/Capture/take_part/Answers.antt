@@ -1,6 +1,6 @@
 use Rattle.std.proofs.Common.{sym, ap, ◌∙◌}
 use Rattle.std.specs.Prelude.{is_some}
-use Rattle.capture_log.specs.lemma.Taking.{HeldCapture, house_with, refused_by}
+use Rattle.capture_log.specs.Taking.{HeldCapture, house_with, refused_by}
 use Rattle.capture_log.proofs.TakingLemmas.{part_taken}
 use Rattle.capture_log.proofs.capture.Capture.take_part.Goals as goal
 

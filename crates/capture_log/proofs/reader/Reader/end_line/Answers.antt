@@ -2,7 +2,7 @@ use Rattle.std.proofs.Common.{List, ℕ, ◌+◌, ◌∷◌, ◌++◌, false, sy
 use Rattle.capture_log.specs.lemma.Gathering.{ReaderState}
 use Rattle.capture_log.specs.Judged.{JudgedAt}
 use Rattle.capture_log.specs.Reading.{lines_in}
-use Rattle.capture_log.specs.lemma.Taking.{IsCapture, TakesRawLine}
+use Rattle.capture_log.specs.Taking.{IsCapture, TakesRawLine}
 use Rattle.capture_log.specs.declared.replay_end.ReplayEnd.{ReplayEnd}
 use Rattle.capture_log.proofs.GatheringLemmas.{ends-line, long-line}
 use Rattle.capture_log.proofs.reader.Reader.end_line.Goals as goal

@@ -3,7 +3,7 @@ use Rattle.std.proofs.lemmas.List.{nil_from_length}
 use Rattle.std.proofs.lemmas.Result.{IfOk-weaker}
 use Rattle.capture_log.specs.lemma.Gathering.{ReaderState}
 use Rattle.capture_log.specs.Judged.{DecidesEnd}
-use Rattle.capture_log.specs.lemma.Taking.{IsCapture}
+use Rattle.capture_log.specs.Taking.{IsCapture}
 use Rattle.capture_log.proofs.GatheringLemmas.{ended-empty}
 use Rattle.capture_log.proofs.reader.Reader.finish.Goals as goal
 

@@ -2,7 +2,7 @@ use Rattle.std.proofs.Common.{ℕ, ◌+◌, List, sym, ap, ◌∙◌, subst}
 use Rattle.std.specs.Prelude.{Option, Some, None}
 use Rattle.std.proofs.lemmas.Result.{IfOk-weaker}
 use Rattle.capture_log.specs.lemma.Gathering.{ReaderState}
-use Rattle.capture_log.specs.lemma.Taking.{IsCapture, TakesRawLine}
+use Rattle.capture_log.specs.Taking.{IsCapture, TakesRawLine}
 use Rattle.capture_log.specs.declared.replay_end.ReplayEnd.{ReplayEnd}
 use Rattle.capture_log.proofs.GatheringLemmas.{some-held, ended-last, ended-line}
 use Rattle.capture_log.proofs.reader.Reader.finish_line.Goals as goal

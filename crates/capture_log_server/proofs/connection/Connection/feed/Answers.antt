@@ -1,6 +1,6 @@
 use Rattle.std.proofs.Common.{sym, ap, ◌∙◌, arith, true}
 use Rattle.std.specs.Prelude.{Option, Some}
-use Rattle.afp_core.specs.Telling.{shown_of}
+use Rattle.capture_log_teller.specs.Telling.{shown_of}
 use Rattle.afp_serial.specs.StatusBlock.{status_block}
 use Rattle.afp_server.specs.Wire.{WireState}
 use Rattle.capture_log_server.specs.lemma.Moves.{wire_or}

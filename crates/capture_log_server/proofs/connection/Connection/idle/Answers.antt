@@ -1,6 +1,6 @@
 use Rattle.std.proofs.Common.{ap}
 use Rattle.afp_core.specs.ServerState.{ServerState}
-use Rattle.afp_core.specs.Telling.{shown_of}
+use Rattle.capture_log_teller.specs.Telling.{shown_of}
 use Rattle.capture_log_server.proofs.Alone.{alone, alone-after}
 use Rattle.capture_log_server.proofs.ConnectionLemmas.{idled}
 use Rattle.capture_log_server.proofs.connection.Connection.idle.Goals as goal

@@ -7,4 +7,4 @@ use Rattle.capture_log_server.proofs.new_keepers.NewKeepers.first.Goals as goal
 pub returns-clause-new : goal.returns-clause-new
 returns-clause-new g c =
     subst (λ (l : List _). AreNew (steadily g.K.Keeper.steady g.K.Keeper.records) g.K.Keeper.sure l) (sym c.truncate.ensures.items)
-    (some-new (steadily g.K.Keeper.steady g.K.Keeper.records) g.K.Keeper.sure c.args.count c.self.inside.keepers.items c.self.invariant.new)
+    (some-new (steadily g.K.Keeper.steady g.K.Keeper.records) g.K.Keeper.sure c.args.count c.self.inside.keepers.items c.self.invariant)

@@ -1,6 +1,6 @@
 use Rattle.std.proofs.Common.{List, length, arith, ap, ◌∙◌, subst}
 use Rattle.std.proofs.lemmas.Result.{IfOk-weaker}
-use Rattle.afp_core.specs.Telling.{shown_of}
+use Rattle.capture_log_teller.specs.Telling.{shown_of}
 use Rattle.capture_log_server.specs.States.{ConnectionState, RunningState}
 use Rattle.capture_log_server.specs.lemma.Slots.{ComparesAt}
 use Rattle.capture_log_server.proofs.RunningLemmas.{lent_back, compare-there}

@@ -1,7 +1,7 @@
 use Rattle.std.proofs.Common.{List, length, arith, sym, ap, ◌∙◌, subst}
 use Rattle.std.specs.Prelude.{slice_get, if◌then◌else◌}
 use Rattle.afp_base.specs.Counts.{counted}
-use Rattle.afp_core.specs.Telling.{shown_of}
+use Rattle.capture_log_teller.specs.Telling.{shown_of}
 use Rattle.afp_serial.specs.StatusBlock.{status_block}
 use Rattle.capture_log_server.specs.lemma.Slots.{FeedsAt, IsFit}
 use Rattle.capture_log_server.specs.States.{ConnectionState, RunningState}

@@ -1,5 +1,5 @@
 use Rattle.std.proofs.Common.{List, length, arith, ap, ◌∙◌, subst}
-use Rattle.afp_core.specs.Telling.{shown_of}
+use Rattle.capture_log_teller.specs.Telling.{shown_of}
 use Rattle.capture_log_server.specs.States.{ConnectionState, RunningState}
 use Rattle.capture_log_server.specs.lemma.Slots.{LosesAt}
 use Rattle.capture_log_server.proofs.RunningLemmas.{lent_back, on_ok_with, loss-there}

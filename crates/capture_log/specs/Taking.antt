@@ -10,7 +10,7 @@ use Rattle.capture_log_lines.specs.declared.line.What.{What}
 use Rattle.capture_log_lines.specs.declared.line.What.TheVariants.{Out}
 use Rattle.capture_log_server.specs.Connections.{difference, output, unused}
 use Rattle.capture_log.specs.Judged.{Decides}
-use Rattle.capture_log.specs.lemma.SetUp.{IsSetUp}
+use Rattle.capture_log.specs.SetUp.{IsSetUp}
 use Rattle.afp_serial.specs.Limits.{most_volumes}
 use Rattle.capture_log_server.specs.Running.{Happened}
 use Rattle.capture_log_server.specs.CaptureState.{is_refused_on, CaptureState, Says, TakesGoodLine, part_after, is_refused, is_bad, user_behind, start_at}

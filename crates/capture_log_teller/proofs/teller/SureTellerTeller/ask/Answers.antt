@@ -1,0 +1,71 @@
+use Rattle.std.proofs.Common.{◌≡◌, ◌∙◌, ◌∷◌, ◌++◌, [], ap, sym, refl, subst, true, List, length, append-nil, length-append, arith}
+use Rattle.afp_serial.specs.Answer.{answer}
+use Rattle.afp_serial.specs.History.{entry, faults_in, is_lawful, stand}
+use Rattle.afp_serial.specs.Sound.{IsSound}
+use Rattle.afp_serial.specs.Shown.{fits_frame, is_answer_to}
+use Rattle.afp_serial.specs.declared.ask.Ask.{Ask}
+use Rattle.afp_serial.specs.declared.ask.Entry.{Entry}
+use Rattle.afp_serial.specs.declared.ask.Outcome.TheVariants.{Done}
+use Rattle.afp_serial.proofs.Grows.{asked-adds}
+use Rattle.afp_serial.proofs.StaysSound.{answer-fits, answer-kind, stand-sound, stood-sound}
+use Rattle.afp_core.specs.Places.{upto}
+use Rattle.afp_core.specs.Turn.{Turned}
+use Rattle.afp_core.specs.lemma.Places.{upto-longer}
+use Rattle.afp_core.proofs.TurnLemmas.{answer-told, turn-faults, turn-lawful, turn-stands, turn-tells, turn-kept}
+use Rattle.capture_log_teller.proofs.TellerLemmas.{turned_done, still_faultless}
+use Rattle.capture_log_teller.proofs.teller.SureTellerTeller.ask.Goals as goal
+
+pub invariant_of-self-in-Some-turn : goal.invariant_of-self-in-Some-turn
+invariant_of-self-in-Some-turn g c =
+    let begin = c.args.self.now.start.value in
+    let h = c.args.self.now.log.items in
+    let e : Entry = entry c.args.now c.args.link c.args.ask Done in
+    let kept = ap (λ (a : Ask). entry c.args.now c.args.link a Done) c.in-Ok.ensures in
+    let items = c.and-self.ensures ∙ (λ i. h ++ kept i ∷ []) in
+    let stands = c.args.self.now.stands in
+    let t : Turned c.args.self.now.core e c.in-Some-turn.told c.turn.new.core = turned_done begin c.args.self.now.core c.turn.new.core h c.args.now c.args.link c.args.ask c.in-Some-turn.told c.args.self.now.sure c.args.self.now.keepers c.args.self.now.faultless c.in-Some-turn.ensures in
+    let lawful = subst (λ (l : List Entry). is_lawful begin.world l ≡ true) (sym items) (turn-lawful begin.world h c.args.self.now.core c.turn.new.core e c.in-Some-turn.told stands t c.args.self.now.lawful) in
+    record {
+      sure = c.args.self.now.sure;
+      sound = c.args.self.now.sound;
+      sound_at = stand-sound begin.world c.and-self.result.items c.args.self.now.sound lawful;
+      lawful = lawful;
+      stands = turn-stands begin.world h c.args.self.now.core c.turn.new.core e c.in-Some-turn.told stands t ∙ ap (stand begin.world) (sym items);
+      keepers = turn-kept begin c.args.self.now.core c.turn.new.core e c.in-Some-turn.told t c.args.self.now.keepers;
+      faultless = ap faults_in items ∙ still_faultless begin c.args.self.now.core c.turn.new.core h e c.in-Some-turn.told c.args.self.now.sure c.args.self.now.keepers c.args.self.now.faultless t;
+      counted = omega (arith, ap length items, length-append h (e ∷ []), c.args.self.now.counted, c.in-Some.ensures);
+    }
+
+pub returns-in-Some-turn-clause-asked : goal.returns-in-Some-turn-clause-asked
+returns-in-Some-turn-clause-asked g c =
+    let begin = c.args.self.now.start.value in
+    let h = c.args.self.now.log.items in
+    let e : Entry = entry c.args.now c.args.link c.args.ask Done in
+    let kept = ap (λ (a : Ask). entry c.args.now c.args.link a Done) c.in-Ok.ensures in
+    let items = c.and-self.ensures ∙ (λ i. h ++ kept i ∷ []) in
+    let t : Turned c.args.self.now.core e c.in-Some-turn.told c.turn.new.core = turned_done begin c.args.self.now.core c.turn.new.core h c.args.now c.args.link c.args.ask c.in-Some-turn.told c.args.self.now.sure c.args.self.now.keepers c.args.self.now.faultless c.in-Some-turn.ensures in
+    let none : h ≡ h ++ [] = sym (append-nil h) in
+    asked-adds _ _ c.args.now c.args.link c.args.ask c.in-Some-turn.told (answer-told c.args.self.now.core.world e c.in-Some-turn.told t.serial) record {
+      between = [];
+      outcome = Done;
+      start = refl;
+      history = items ∙ ap (λ (l : List Entry). l ++ e ∷ []) none;
+      mine = ap (λ (l : List Entry). upto (length l)) items ∙ upto-longer h e ∙ ap (λ (l : List Entry). upto (length h) ++ length l ∷ []) none;
+      serial = turn-tells begin.world h c.args.self.now.core c.turn.new.core e c.in-Some-turn.told c.args.self.now.stands t ∙ ap (λ (l : List Entry). answer (stand begin.world l) e) none;
+      faults = turn-faults c.args.self.now.core c.turn.new.core e c.in-Some-turn.told t;
+    }
+
+pub returns-in-Some-turn-clause-answers : goal.returns-in-Some-turn-clause-answers
+returns-in-Some-turn-clause-answers g c =
+    let e : Entry = entry c.args.now c.args.link c.args.ask Done in
+    let t : Turned c.args.self.now.core e c.in-Some-turn.told c.turn.new.core = turned_done c.args.self.now.start.value c.args.self.now.core c.turn.new.core c.args.self.now.log.items c.args.now c.args.link c.args.ask c.in-Some-turn.told c.args.self.now.sure c.args.self.now.keepers c.args.self.now.faultless c.in-Some-turn.ensures in
+    ap (is_answer_to c.args.ask) t.serial ∙ answer-kind c.args.self.now.core.world e
+
+pub returns-in-Some-turn-clause-size : goal.returns-in-Some-turn-clause-size
+returns-in-Some-turn-clause-size g c =
+    let begin = c.args.self.now.start.value.world in
+    let h = c.args.self.now.log.items in
+    let e : Entry = entry c.args.now c.args.link c.args.ask Done in
+    let t : Turned c.args.self.now.core e c.in-Some-turn.told c.turn.new.core = turned_done c.args.self.now.start.value c.args.self.now.core c.turn.new.core h c.args.now c.args.link c.args.ask c.in-Some-turn.told c.args.self.now.sure c.args.self.now.keepers c.args.self.now.faultless c.in-Some-turn.ensures in
+    let sound = subst IsSound (sym c.args.self.now.stands) (stood-sound begin h c.args.self.now.sound c.args.self.now.lawful) in
+    ap fits_frame t.serial ∙ answer-fits c.args.self.now.core.world e sound t.legal

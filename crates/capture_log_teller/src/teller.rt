@@ -1,0 +1,109 @@
+//! A teller over sure keepers that stores no history.
+ghost use Rattle.std.specs.Prelude.{◌≡◌, ℕ, [], take, length, true};
+ghost use Rattle.afp_serial.specs.History.{faults_in, is_lawful, stand};
+ghost use Rattle.afp_serial.specs.Sound.{IsSound};
+ghost use Rattle.afp_core.specs.Sureness.{AreSure, SureKept};
+
+use crate::turning::turn;
+use afp_base::{LinkNumber, Moment};
+use afp_core::Core;
+use afp_serial::{Ask, Entry, Outcome, Teller, Told};
+use ghost_log::Log;
+use record_keeper::Keeper;
+use std::snapshot::Snapshot;
+
+/// A core over sure keepers, and how many entries its history has since it came here. It alone asks the core, and none of its asks
+/// meets a fault.
+#[derive(Drop)]
+pub struct SureTeller<K: Keeper> {
+    start: Snapshot<Core<K>>,
+    core: Core<K>,
+    count: u64,
+    log: Log<Entry>,
+    pub ghost sure: { AreSure start.value },
+    pub ghost sound: { IsSound start.value.world },
+    pub ghost lawful: { is_lawful start.value.world log.items ≡ true },
+    pub ghost sound_at: { (k : ℕ) → IsSound (stand start.value.world (take k log.items)) },
+    pub ghost stands: { core.world ≡ stand start.value.world log.items },
+    pub ghost keepers: { SureKept start.value core },
+    pub ghost faultless: { faults_in log.items ≡ 0 },
+    pub ghost counted: { count ≡ length log.items },
+}
+
+impl<K: Keeper> SureTeller<K> {
+    ghost use Rattle.capture_log_teller.specs.Telling.{start_of, core_of, history_of};
+
+    /// A teller that begins at the core's world, with no history.
+    pub fn new(core: Core<K>) -> SureTeller<K>
+        requires { AreSure core }
+        ensures start { start_of result ≡ core }
+        ensures core { core_of result ≡ core }
+        ensures history { history_of result ≡ [] }
+    {
+        let _sound = core.counts();
+        SureTeller {
+            start: Snapshot::of(&core),
+            core,
+            count: 0,
+            log: Log::new(),
+        }
+    }
+
+    /// How many entries the history has.
+    pub fn entries(&self) -> u64
+        ensures { result ≡ length (history_of self.now) }
+    {
+        self.count
+    }
+
+    /// The core. Its world is what the history makes of the world at the start.
+    pub fn core(&self) -> &Core<K>
+        ensures value { result.now ≡ core_of self.now }
+        ensures stands { result.now.world ≡ stand (start_of self.now).world (history_of self.now) }
+    {
+        &self.core
+    }
+}
+
+impl<K: Keeper> Teller for SureTeller<K> {
+    ghost use Rattle.std.specs.Prelude.{length};
+    ghost use Rattle.afp_core.specs.lemma.Places.{upto-within};
+    ghost use Rattle.capture_log_teller.specs.Telling.{start_of, shown_of};
+
+    /// The core as it was at the start.
+    type Fixed = Core<K>;
+
+    ghost fixed = { λ t. start_of t };
+
+    ghost shown = { λ t. shown_of t };
+
+    ghost sound = { λ t. record {
+      start = t.sound;
+      lawful = t.lawful;
+      stands = t.sound_at;
+      within = upto-within (length t.log.items);
+    } };
+
+    fn ask(&mut self, now: Moment, link: LinkNumber, ask: Ask) -> Told {
+        let Some(count) = self.count.checked_add(1) else {
+            return Told::Memory;
+        };
+        let Ok(kept) = ask.copy() else {
+            return Told::Memory;
+        };
+        match turn(&mut self.core, now, link, ask) {
+            None => Told::Memory,
+            Some(told) => {
+                let entry = Entry {
+                    link,
+                    at: now,
+                    ask: kept,
+                    outcome: Outcome::Done,
+                };
+                self.log = self.log.and(&entry);
+                self.count = count;
+                told
+            }
+        }
+    }
+}
