@@ -7,3 +7,7 @@ pub mod RowLemmas
 pub mod OnVolumeLemmas
 pub mod HoldingLemmas
 pub mod SettleLemmas
+mod ExchangedForks
+mod HeldFiles
+pub mod PlannedRows
+pub mod TellRows

@@ -8,3 +8,5 @@ pub mod OnForks
 pub mod Holding
 pub mod Replies
 pub mod lemma
+pub mod Planned
+pub mod RowKinds

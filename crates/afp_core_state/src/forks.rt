@@ -1,12 +1,16 @@
 //! The open forks of all sessions, with their locks.
-ghost use Rattle.std.specs.Prelude.{◌≡◌, ◌==◌, ◌<◌, ◌&&◌, [], not, true, length, option_map, IfSome};
+ghost use Rattle.std.specs.Prelude.{◌≡◌, ◌==◌, ◌<◌, ◌&&◌, ◌||◌, [], false, not, true, length, option_map, IfSome, Some};
+ghost use Rattle.std.specs.List.{list_any};
+ghost use Rattle.afp_base.specs.DenyMode.{is_one_fork};
 ghost use Rattle.afp_base.specs.Limits.{most_opens};
+ghost use Rattle.afp_serial.specs.CopyFile.{is_held};
+ghost use Rattle.afp_serial.specs.ExchangeFiles.{opens_exchanged};
 ghost use Rattle.afp_serial.specs.OnFork.{is_locked, own_fork};
 ghost use Rattle.afp_serial.specs.OnVolume.{opened_on};
 ghost use Rattle.afp_serial.specs.World.{is_open, World, Session, OpenFork as Opened};
-ghost use Rattle.afp_core_state.specs.Forks.{AllHeld, HasForks, LocksRange, OpensFork, UnlocksRange, left_of, open_of, shown_opens};
+ghost use Rattle.afp_core_state.specs.Forks.{AllHeld, HasForks, LocksRange, OpensFork, UnlocksRange, left_of, open_of, shown_opens, with_opens};
 
-use afp_base::{ForkRef, LAST_BYTE, SessionNumber, VolumeId};
+use afp_base::{ForkRef, LAST_BYTE, NodeId, SessionNumber, VolumeId};
 use afp_serial::fork_laws::{forks_are_shared_by_their_rules, references_are_lowest};
 use deny_modes::{ForkKey, Mode, VolumeOpens};
 use fork_table::{ForkTable, OpenFault, OpenFork};
@@ -31,6 +35,35 @@ impl Model for OpenForks {
     ghost view = { λ f. forks_of f.table };
 
     ghost invariant = { λ f. AreInRange f.table.locks };
+}
+
+/// A fork of a file of a volume.
+fn fork_key(volume: VolumeId, node: NodeId, resource: bool) -> ForkKey
+    ensures { result ≡ record { volume = volume.0; node = node.0; resource = resource } }
+{
+    ForkKey {
+        volume,
+        node,
+        resource,
+    }
+}
+
+/// How a file is opened that is copied: it is read, and nobody is to write it.
+fn copying() -> Mode
+    ensures { result ≡ record { read = true; write = false; deny_read = false; deny_write = true } }
+{
+    Mode {
+        read: true,
+        write: false,
+        deny_read: false,
+        deny_write: true,
+    }
+}
+
+fn either(a: bool, b: bool) -> bool
+    ensures { result ≡ (a || b) }
+{
+    a || b
 }
 
 impl OpenForks {
@@ -98,6 +131,18 @@ impl OpenForks {
         self.table.close_session(s)
     }
 
+    /// Exchanges the open forks of two files of a volume, and so their locks: each open of a fork of the one is one of the other's of the same kind.
+    pub fn exchange(&mut self, volume: VolumeId, a: NodeId, b: NodeId)
+        ensures { self.new ≡ with_opens self.old (opens_exchanged volume.0 (Some (record { first = a.0; second = b.0 })) self.old.opens) }
+    {
+        let a_data = fork_key(volume, a, false);
+        let b_data = fork_key(volume, b, false);
+        let a_resource = fork_key(volume, a, true);
+        let b_resource = fork_key(volume, b, true);
+        self.table.swap(&a_data, &b_data);
+        self.table.swap(&a_resource, &b_resource);
+    }
+
     /// The open forks of a volume, of all sessions.
     pub fn on(&self, v: VolumeId) -> VolumeOpens<'_>
         ensures { (w : World) → HasForks w self.now → shown_opens result ≡ opened_on w v.0 }
@@ -120,6 +165,25 @@ impl OpenForks {
         }
         let to = from.saturating_add(count - 1).min(LAST_BYTE);
         self.table.blocks(r, &Range { from, to })
+    }
+
+    /// Whether an open of a fork writes or denies reading.
+    fn denies_copying(&self, fork: &ForkKey) -> bool
+        ensures { result ≡ list_any (λ o. is_one_fork o.fork fork.now && (o.access.write || o.access.deny_read)) self.now.opens }
+    {
+        let mode = copying();
+        !self.table.may_open(fork, &mode)
+    }
+
+    /// Whether an open of either fork of a file, of any session, writes or denies reading, so that the file must not be copied.
+    pub fn is_held(&self, volume: VolumeId, node: NodeId) -> bool
+        ensures { (w : World) → HasForks w self.now → result ≡ is_held w volume.0 node.0 }
+    {
+        let data_fork = fork_key(volume, node, false);
+        let resource_fork = fork_key(volume, node, true);
+        let data = self.denies_copying(&data_fork);
+        let resource = self.denies_copying(&resource_fork);
+        either(data, resource)
     }
 
     /// Locks a range of the fork of a reference that is open. A refusal changes nothing.

@@ -6,10 +6,12 @@ mod keepers;
 pub mod laws;
 mod on_fork;
 mod on_volume;
+mod planned;
 mod replies;
 mod state;
 
 pub use forks::OpenForks;
 pub use on_fork::OwnFork;
+pub use planned::{commit_at, latest, run_plan, told_committed, whole_at};
 pub use replies::{done, refused, told_changed, told_of, told_settled};
 pub use state::State;
