@@ -1,0 +1,2 @@
+pub mod ListedIcons
+pub mod Mappings

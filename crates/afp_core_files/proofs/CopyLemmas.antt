@@ -1,0 +1,58 @@
+-- Copies that are planned or refused.
+use Rattle.std.proofs.Common.{◌≡◌, ◌∙◌, ap, sym, refl, subst, ℕ, ◌+◌, ◌<◌, length, Some, None}
+use Rattle.std.specs.Prelude.{Err, slice_get}
+use Rattle.afp_base.specs.declared.code.Code.{Code}
+use Rattle.afp_base.specs.declared.code.Code.TheVariants.{ParamErr}
+use Rattle.afp_serial.specs.CopyFile.{CopyAsked, copy_call}
+use Rattle.afp_serial.specs.World.{volume_at}
+use Rattle.volume_edits.specs.Planned.{PlanValue}
+use Rattle.volume_plans.specs.Plans.{Plans}
+use Rattle.volume_spec.specs.CopyFile.{Source, copied_refusal, copy_file_refusal}
+use Rattle.volume_spec.specs.OpenFork.{open_fork_file}
+use Rattle.volume_spec.specs.VolumeState.{Row, VolumeState}
+use Rattle.volume_tree.specs.Answered.{Refuses}
+use Rattle.volume_tree.specs.declared.resolve.PlanFault.{PlanFault}
+use Rattle.volume_tree.specs.declared.resolve.PlanFault.TheVariants as fault
+use Rattle.afp_core_state.specs.KeptWorld.{KeptWorld}
+use Rattle.afp_core_state.proofs.KeeperLemmas.{volume_at-index}
+use Rattle.afp_core_files.specs.lemma.Copying.{IsCopyPlanned, PlansCopy, RefusesCopy, source_is}
+use Rattle.afp_core_files.proofs.CopyRows.{copy-refused-by, file-refused}
+
+module _ (k : KeptWorld) (index : ℕ) (asked : CopyAsked) (from : VolumeState) (there : slice_get k.world.volumes index ≡ Some from) where
+  -- the volume of the file refuses
+  pub source-fault : (f : PlanFault) → Refuses {A = Row} (Err f) (copied_refusal from asked.dir asked.path) → PlansCopy k index asked (Err f)
+  source-fault (fault.Code code) refused = record { from = from; from_there = there; refused = file-refused k.world asked from code refused }
+  source-fault fault.Memory refused = tt
+
+  module _ (file : Row) (passes : copied_refusal from asked.dir asked.path ≡ None) (found : open_fork_file from asked.dir asked.path ≡ Some file) where
+    -- there is no volume for the copy
+    pub no-target : volume_at k.world.volumes asked.target ≡ None → RefusesCopy k index asked ParamErr
+    no-target none = record { from = from; from_there = there; refused = copy-refused-by k.world asked from file None ParamErr passes found none refl }
+
+    module _ (target : ℕ) (to : VolumeState) (id : asked.target ≡ target + 1) (within : target < length k.world.volumes) (to_there : slice_get k.world.volumes target ≡ Some to) where
+      -- that volume refuses
+      target-fault : (f : PlanFault) → Refuses {A = PlanValue} (Err f) (copy_file_refusal to (source_is k.world asked file) asked.target_dir asked.target_path asked.new_path) → PlansCopy k index asked (Err f)
+      target-fault (fault.Code code) refused =
+          record { from = from; from_there = there; refused = copy-refused-by k.world asked from file (Some to) code passes found (volume_at-index k.world.volumes asked.target target id ∙ to_there) refused }
+      target-fault fault.Memory refused = tt
+
+      pub target-refuses : (now : ℕ) (held : Source) (f : PlanFault) → held ≡ source_is k.world asked file
+          → Refuses {A = PlanValue} (Err f) (copy_file_refusal to held asked.target_dir asked.target_path asked.new_path) → PlansCopy k index asked (Err f)
+      target-refuses now held f is refused =
+          target-fault f (subst (λ (s : Source). Refuses {A = PlanValue} (Err f) (copy_file_refusal to s asked.target_dir asked.target_path asked.new_path)) is refused)
+
+      pub target-plans : (now : ℕ) (held : Source) (plan : PlanValue) → now ≡ k.world.latest → held ≡ source_is k.world asked file → copy_file_refusal to held asked.target_dir asked.target_path asked.new_path ≡ None
+          → Plans to now (copy_call asked held) plan → IsCopyPlanned k index asked target plan
+      target-plans now held plan at_now is refused plans = record {
+        from = from;
+        from_there = there;
+        may = passes;
+        file = file;
+        found = found;
+        id = id;
+        within = within;
+        to = to;
+        to_there = to_there;
+        passes = ap (λ (s : Source). copy_file_refusal to s asked.target_dir asked.target_path asked.new_path) (sym is) ∙ refused;
+        plans = subst (λ (n : ℕ). Plans to n (copy_call asked (source_is k.world asked file)) plan) at_now (subst (λ (s : Source). Plans to now (copy_call asked s) plan) is plans);
+      }

@@ -1,0 +1,105 @@
+-- The row of FPExchangeFiles.
+use Rattle.std.proofs.Common.{◌≡◌, ◌∙◌, ap, sym, refl, subst, ℕ, false, List, [], Option, Some, None}
+use Rattle.std.specs.Prelude.{Result, Ok as with_ok, Err, option_map, slice_get}
+use Rattle.afp_base.specs.Choice.{first_holding}
+use Rattle.afp_base.specs.declared.bytes.OutOfMemory.{OutOfMemory}
+use Rattle.afp_base.specs.declared.code.Code.{Code}
+use Rattle.afp_base.specs.declared.code.Code.TheVariants.{Ok, MiscErr, ParamErr}
+use Rattle.afp_names.specs.Path.{PathValue}
+use Rattle.afp_replies.specs.declared.reply.Reply.TheVariants.{Empty}
+use Rattle.afp_calls_grammar.specs.declared.call.Call.{Call}
+use Rattle.afp_serial.specs.Answer.{refusal_reply}
+use Rattle.afp_serial.specs.ExchangeFiles.{exchange_files_row, exchanging, opens_exchanged, pair_on}
+use Rattle.afp_serial.specs.World.{Effect, CallRow, plain, volume_at, World, Session}
+use Rattle.afp_serial.specs.OnVolume.{done_on, opened_on}
+use Rattle.afp_serial.specs.VolumeRows.{edits_on, keeper_of_edits, with_edits}
+use Rattle.afp_serial.specs.Rows.{effect, ends_session, refusal, row}
+use Rattle.afp_serial.specs.declared.ask.Outcome.{Outcome}
+use Rattle.afp_serial.specs.declared.ask.Outcome.TheVariants as outcome
+use Rattle.afp_serial.specs.declared.ask.Told.{Told}
+use Rattle.afp_serial.specs.declared.ask.Told.TheVariants.{Reply}
+use Rattle.volume_edits.specs.Planned.{PlanValue}
+use Rattle.volume_plans.specs.Plans.{Plans}
+use Rattle.volume_spec.specs.ExchangeFiles.{Pair, exchange_files_refusal, exchanged_files}
+use Rattle.volume_spec.specs.VolumeCalls.{ExchangeFiles, call_edits, volume_refusal}
+use Rattle.volume_spec.specs.VolumeState.{VolumeState}
+use Rattle.volume_tree.specs.Answered.{Refuses}
+use Rattle.volume_tree.specs.declared.resolve.PlanFault.{PlanFault}
+use Rattle.volume_tree.specs.declared.resolve.PlanFault.TheVariants as fault
+use Rattle.record_keeper.specs.declared.keeper.KeeperFault.{KeeperFault}
+use Rattle.record_keeper.specs.declared.keeper.KeeperFault.TheVariants as keeper
+use Rattle.session_table.specs.Sessions.{session_of}
+use Rattle.afp_core_state.specs.KeptWorld.{KeptWorld}
+use Rattle.afp_core_state.specs.OnVolumes.{BecomesKept, IsOpen, IsOpenAt}
+use Rattle.afp_core_state.specs.Planned.{CommitsPlan, TellsCommitted}
+use Rattle.afp_core_state.specs.Replies.{Tells}
+use Rattle.afp_core_state.specs.Running.{done, RunsRow}
+use Rattle.afp_core_state.proofs.RowLemmas.{has_effect, is_refused}
+use Rattle.afp_core_state.proofs.OnVolumeLemmas.{found-at, refused-on, told-effect}
+use Rattle.afp_core_state.proofs.PlannedRows.{commit-fails, commit-memory, committed-world}
+use Rattle.afp_core_files.specs.lemma.Exchanging.{RunsExchange, exchanged_behind, with_exchanged}
+
+module _ (k : KeptWorld) (number : ℕ) (call : Call) (volume dir second_dir : ℕ) (path second_path : PathValue) (row_is : row call ≡ exchange_files_row volume dir second_dir path second_path) (goes : ends_session call ≡ false) where
+  pub exchange-unopened : (told : Told) → IsOpen k number volume None → told ≡ refusal_reply ParamErr → RunsRow k number call (with_ok (done told)) k
+  exchange-unopened told stands is = λ s at.
+      is_refused k k s call ParamErr told (ap (λ (r : CallRow). first_holding (r.refusals k.world s)) row_is ∙ stands s at (λ v. exchange_files_refusal v dir path second_dir second_path)) is refl
+
+  exchange-refuses : (index : ℕ) (v : VolumeState) → IsOpenAt k number volume index → slice_get k.world.volumes index ≡ Some v → (s : Session) → session_of k.world.sessions number ≡ Some s
+      → refusal k.world s call ≡ option_map plain (exchange_files_refusal v dir path second_dir second_path)
+  exchange-refuses index v stands there s at =
+      ap (λ (r : CallRow). first_holding (r.refusals k.world s)) row_is
+      ∙ refused-on k.world s volume v (λ x. exchange_files_refusal x dir path second_dir second_path) (stands.opened s at) (found-at k number volume index v stands there)
+
+  exchange-refused : (index : ℕ) (v : VolumeState) (code : Code) (told : Told) → IsOpenAt k number volume index → slice_get k.world.volumes index ≡ Some v
+      → exchange_files_refusal v dir path second_dir second_path ≡ Some code → told ≡ refusal_reply code → RunsRow k number call (with_ok (done told)) k
+  exchange-refused index v code told stands there refused is = λ s at.
+      is_refused k k s call code told (exchange-refuses index v stands there s at ∙ ap (option_map plain) refused) is refl
+
+  pub exchange-told : (index : ℕ) (v : VolumeState) (f : PlanFault) (block : List ℕ) (result : Result (Told × Outcome) OutOfMemory) → IsOpenAt k number volume index → slice_get k.world.volumes index ≡ Some v
+      → Refuses {A = PlanValue} (Err f) (exchange_files_refusal v dir path second_dir second_path) → Tells (Err f) block result → RunsRow k number call result k
+  exchange-told index v (fault.Code code) block (with_ok r) stands there refused told =
+      subst (λ (x : Told × Outcome). RunsRow k number call (with_ok x) k) (sym told) (exchange-refused index v code (refusal_reply code) stands there refused refl)
+  exchange-told index v (fault.Code code) block (Err e) stands there refused told = absurd told
+  exchange-told index v fault.Memory block (with_ok r) stands there refused told = absurd told
+  exchange-told index v fault.Memory block (Err e) stands there refused told = refl
+
+  module _ (index : ℕ) (v : VolumeState) (plan : PlanValue) (pair : Pair) (stands : IsOpenAt k number volume index) (there : slice_get k.world.volumes index ≡ Some v)
+      (passes : exchange_files_refusal v dir path second_dir second_path ≡ None) (plans : Plans v k.world.latest (ExchangeFiles dir path second_dir second_path) plan) (found : exchanged_files v dir path second_dir second_path ≡ Some pair) where
+    exchange-done : (between new : KeptWorld) (told : Told) → BecomesKept k index (λ old one. CommitsPlan old plan (with_ok tt) one) between → new ≡ with_exchanged volume pair between → told ≡ Reply Ok [] false
+        → RunsRow k number call (with_ok (done told)) new
+    exchange-done between new told b behind is = λ s at.
+        let edits = call_edits v k.world.latest (ExchangeFiles dir path second_dir second_path) in
+        let with = with_edits k.world volume v edits in
+        let next : World = record with { opens = opens_exchanged volume (Some pair) with.opens } in
+        let of : Effect = record { world = next; reply = Empty } in
+        let at_volume = found-at k number volume index v stands there in
+        let does : effect k.world s call ≡ of =
+        ap (λ (r : CallRow). r.effect k.world s) row_is
+        ∙ ap (λ (o : Option VolumeState). exchanging volume (pair_on o dir path second_dir second_path) (done_on o k.world (λ x. record { world = with_edits k.world volume x (call_edits x k.world.latest (ExchangeFiles dir path second_dir second_path)); reply = Empty }))) at_volume
+        ∙ ap (λ (p : Option Pair). exchanging volume p (record { world = with; reply = Empty })) found in
+        has_effect k new s call told next (exchange-refuses index v stands there s at ∙ ap (option_map plain) passes)
+        (is ∙ told-effect call (effect k.world s call) of [] does goes refl)
+        (behind ∙ ap (with_exchanged volume pair) (committed-world k index v (ExchangeFiles dir path second_dir second_path) plan there plans between volume stands.id b))
+        (ap (λ (e : Effect). e.world) (sym does))
+
+    exchange-fails : (new : KeptWorld) (told : Told) → BecomesKept k index (λ old one. CommitsPlan old plan (Err keeper.Failed) one) new → told ≡ refusal_reply MiscErr → RunsRow k number call (with_ok (told, outcome.Fault)) new
+    exchange-fails new told b is = λ s at.
+        rw (exchange-refuses index v stands there s at ∙ ap (option_map plain) passes)
+        (commit-fails k index v (ExchangeFiles dir path second_dir second_path) plan there plans new _ told _ volume _ stands.id
+        (ap (λ (r : CallRow). r.committed k.world s) row_is
+        ∙ ap (λ (o : Option VolumeState). keeper_of_edits volume (edits_on o (λ x. call_edits x k.world.latest (ExchangeFiles dir path second_dir second_path)))) (found-at k number volume index v stands there)) is refl b)
+
+    exchange-ends : (between new : KeptWorld) (answer : Result (Unit {0}) KeeperFault) (result : Result (Told × Outcome) OutOfMemory) → BecomesKept k index (λ old one. CommitsPlan old plan answer one) between
+        → new ≡ exchanged_behind answer volume pair between → TellsCommitted answer [] result → RunsRow k number call result new
+    exchange-ends between new (with_ok committed) (with_ok r) b behind told =
+        subst (λ (x : Told × Outcome). RunsRow k number call (with_ok x) new) (sym told) (exchange-done between new (Reply Ok [] false) b behind refl)
+    exchange-ends between new (with_ok committed) (Err e) b behind told = absurd told
+    exchange-ends between new (Err keeper.Failed) (with_ok r) b behind told =
+        subst (λ (x : KeptWorld). RunsRow k number call (with_ok r) x) (sym behind)
+        (subst (λ (x : Told × Outcome). RunsRow k number call (with_ok x) between) (sym told) (exchange-fails between (refusal_reply MiscErr) b refl))
+    exchange-ends between new (Err keeper.Failed) (Err e) b behind told = absurd told
+    exchange-ends between new (Err keeper.Memory) (with_ok r) b behind told = absurd told
+    exchange-ends between new (Err keeper.Memory) (Err e) b behind told = behind ∙ commit-memory k index v (ExchangeFiles dir path second_dir second_path) plan there plans between b
+
+    pub exchange-runs : (new : KeptWorld) (result : Result (Told × Outcome) OutOfMemory) → RunsExchange k index volume pair plan result new → RunsRow k number call result new
+    exchange-runs new result runs = exchange-ends runs.between new runs.answer result runs.becomes runs.behind runs.tells

@@ -1,0 +1,6 @@
+pub mod FileRows
+mod FileLemmas
+mod ExchangeRows
+mod CopyRows
+mod CopyLemmas
+mod PairLemmas
