@@ -88,7 +88,7 @@ def show(program, path, what, wanted, rounds):
     for _ in range(rounds):
         theirs, count, length = query(path)
         seconds, came, memory = start(program, path)
-        step(f"{what}, {count} records of {length / MIB:.1f} MiB", came if memory else (came[0], came[1][:11]), wanted)
+        step(f"{what}, {count} records of {length / MIB:.1f} MiB", came if memory else (came[0], came[1].split()[:3] + came[1].split()[4:]), wanted)
         ratios.append(seconds / theirs)
         own.append(seconds)
     ratios.sort()
@@ -140,7 +140,7 @@ def main():
     with tempfile.TemporaryDirectory() as folder:
         show_commits(words.program, folder, words.rounds + 2)
         for what, files, size, wanted, rounds in [("no bytes", 0, 0, f"(nodes {NODES})", words.rounds), ("256 MiB", 16, 16 * MIB, f"(nodes {NODES})", words.rounds),
-                                                  ("1 GiB", 64, 16 * MIB, (3, "load 1 bad "), 1)]:
+                                                  ("1 GiB", 64, 16 * MIB, (3, ["load", "1", "bad", "limit"]), 1)]:
             path = os.path.join(folder, "volume.db")
             make(path, files, size)
             show(words.program, path, what, wanted, rounds)
