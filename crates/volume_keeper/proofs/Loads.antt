@@ -19,9 +19,8 @@ use Rattle.volume_keeper_records.specs.Image.{entries_of, image, kept_image, rec
 use Rattle.volume_keeper_records.specs.KeyOrder.{with_head_and_root}
 use Rattle.volume_keeper_records.specs.Laws.{ImagesRise}
 use Rattle.volume_keeper.specs.declared.loading.LoadFault.{LoadFault}
-use Rattle.volume_keeper.specs.Changes.{put_of}
 use Rattle.volume_keeper.specs.Loading.{Becomes, IsFaultIn, IsLoad}
-use Rattle.volume_keeper.specs.lemma.Loading.{IsMadeOf, IsMake, IsReadFault}
+use Rattle.volume_keeper.specs.lemma.Loading.{IsMadeOf, IsMake, IsReadFault, put_of}
 use Rattle.volume_keeper.specs.Whole.{HeldValue}
 use Rattle.volume_keeper.proofs.LookUps.{all_put, sorted_entries}
 

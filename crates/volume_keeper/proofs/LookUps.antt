@@ -1,7 +1,7 @@
 -- What is found at a key in the records of rows, and after changes.
-use Rattle.std.proofs.Common.{◌≡◌, ◌∙◌, ℕ, Bool, true, false, cond, not, List, [], ◌∷◌, ◌++◌, ◌||◌, map, refl, sym, ap, subst}
+use Rattle.std.proofs.Common.{◌≡◌, ◌∙◌, ℕ, Bool, true, false, cond, List, [], ◌∷◌, ◌||◌, map, refl, sym, ap, subst}
 use Rattle.std.specs.Prelude.{Option, Some, None, T}
-use Rattle.std.specs.List.{filter, list_any}
+use Rattle.std.specs.List.{list_any}
 use Rattle.std.specs.Cmp.{tied_itself}
 use Rattle.std.specs.Cmp.Lexicographic.{nat_list_cmp_total}
 use Rattle.std.specs.Ordering.{is_eq, is_lt, eq_by_cmp, ordering_reverse}
@@ -18,7 +18,7 @@ use Rattle.record_keeper.proofs.KeptRows.{by_bytes, one_key, alike}
 use Rattle.volume_keeper_records.specs.declared.rows.TableRow.{TableRow}
 use Rattle.volume_keeper_records.specs.Records.{record_of}
 use Rattle.volume_keeper_records.specs.Image.{entries_of}
-use Rattle.volume_keeper.specs.Changes.{put_of, removal_of}
+use Rattle.volume_keeper.specs.lemma.Loading.{put_of}
 use Rattle.afp_base.proofs.Facts.{T_both}
 
 abbrev pub are_one : List ℕ → List ℕ → Bool
@@ -45,18 +45,6 @@ abbrev pub found : List TableRow → List ℕ → Option (List ℕ)
 found [] q = None
 found (x ∷ xs) q = cond (are_one q (key_of_row x)) (Some (record_of x).value) (found xs q)
 
-abbrev pub or_then : Option (List ℕ) → Option (List ℕ) → Option (List ℕ)
-or_then None other = other
-or_then (Some v) other = Some v
-
-or_cond : (b : Bool) (v : List ℕ) (o p : Option (List ℕ)) → cond b (Some v) (or_then o p) ≡ or_then (cond b (Some v) o) p
-or_cond true v o p = refl
-or_cond false v o p = refl
-
-pub found-append : (xs ys : List TableRow) (q : List ℕ) → found (xs ++ ys) q ≡ or_then (found xs q) (found ys q)
-found-append [] ys q = refl
-found-append (x ∷ xs) ys q = ap (cond (are_one q (key_of_row x)) (Some (record_of x).value)) (found-append xs ys q) ∙ or_cond (are_one q (key_of_row x)) (record_of x).value (found xs q) (found ys q)
-
 found_entries : (xs : List TableRow) (q : List ℕ) → find by_bytes q (entries_of (map record_of xs)) ≡ found xs q
 found_entries [] q = refl
 found_entries (x ∷ xs) q = ap (cond (are_one q (key_of_row x)) (Some (record_of x).value)) (found_entries xs q)
@@ -78,21 +66,6 @@ got xs q s = get-from_sorted by_bytes (entries_of (map record_of xs)) q (sorted_
 abbrev pub any_at : List TableRow → List ℕ → Bool
 any_at xs q = list_any (λ x. are_one q (key_of_row x)) xs
 
-none_below : (k : List ℕ) (xs : List TableRow) → IsBelow k (map record_of xs) → found xs k ≡ None
-none_below k [] b = refl
-none_below k (x ∷ xs) b = ap (λ o. cond (is_eq o) (Some (record_of x).value) (found xs k)) b.0 ∙ none_below k xs b.1
-
-any_below : (k : List ℕ) (xs : List TableRow) → IsBelow k (map record_of xs) → any_at xs k ≡ false
-any_below k [] b = refl
-any_below k (x ∷ xs) b = ap (λ o. is_eq o || any_at xs k) b.0 ∙ any_below k xs b.1
-
-pub below_filter : (k : List ℕ) (p : TableRow → Bool) (xs : List TableRow) → IsBelow k (map record_of xs) → IsBelow k (map record_of (filter p xs))
-below_filter k p [] b = tt
-below_filter k p (x ∷ xs) b = elim (p x) as (λ t. IsBelow k (map record_of (cond t (x ∷ filter p xs) (filter p xs)))) [
-  | true ↦ (b.0, below_filter k p xs b.1)
-  | false ↦ below_filter k p xs b.1
-]
-
 -- each row is found under its key
 abbrev pub AreFound : List TableRow → List TableRow → Type 0
 AreFound all [] = Unit {0}
@@ -109,10 +82,6 @@ pub each_found : (xs : List TableRow) → RisesByKey (map record_of xs) → AreF
 each_found [] s = tt
 each_found (x ∷ xs) s = (ap (λ b. cond b (Some (record_of x).value) (found xs (key_of_row x))) (itself (key_of_row x)), found_behind x xs xs s.0 (each_found xs s.1))
 
-pub first_found : (all xs ys : List TableRow) → AreFound all (xs ++ ys) → AreFound all xs
-first_found all [] ys f = tt
-first_found all (x ∷ xs) ys f = (f.0, first_found all xs ys f.1)
-
 -- ---- look-ups after changes
 
 -- what stands at a key after changes
@@ -125,11 +94,6 @@ pub got_changed : (cs : List Change) (m : Records) (q : List ℕ) → get (chang
 got_changed [] m q = refl
 got_changed (Put k v ∷ cs) m q = got_changed cs (insert m k v) q ∙ ap (after cs q) (get-insert nat_list_cmp_total m k v q)
 got_changed (Remove k ∷ cs) m q = got_changed cs (remove m k) q ∙ ap (after cs q) (get-remove nat_list_cmp_total m k q)
-
-pub after-append : (cs ds : List Change) (q : List ℕ) (o : Option (List ℕ)) → after (cs ++ ds) q o ≡ after ds q (after cs q o)
-after-append [] ds q o = refl
-after-append (Put k v ∷ cs) ds q o = after-append cs ds q (cond (are_one q k) (Some v) o)
-after-append (Remove k ∷ cs) ds q o = after-append cs ds q (cond (are_one q k) None o)
 
 -- rows that are found in others are put: there is what those have
 pub after_puts : (all xs : List TableRow) (q : List ℕ) (o : Option (List ℕ)) → AreFound all xs → after (map put_of xs) q o ≡ cond (any_at xs q) (found all q) o
@@ -144,39 +108,6 @@ after_puts all (x ∷ xs) q o f =
     same_both : (b : Bool) (p : Option (List ℕ)) → cond b p p ≡ p
     same_both true p = refl
     same_both false p = refl
-
-after_taken : (xs : List TableRow) (q : List ℕ) (o : Option (List ℕ)) → after (map removal_of xs) q o ≡ cond (any_at xs q) None o
-after_taken [] q o = refl
-after_taken (x ∷ xs) q o = after_taken xs q (cond (are_one q (key_of_row x)) None o) ∙ joined (any_at xs q) (are_one q (key_of_row x)) o
-  where
-    joined : (b c : Bool) (o : Option (List ℕ)) → cond b None (cond c None o) ≡ cond (c || b) None o
-    joined true true o = refl
-    joined true false o = refl
-    joined false true o = refl
-    joined false false o = refl
-
--- some rows among rising ones are taken away: the others are left
-pub left_over : (p : TableRow → Bool) (xs : List TableRow) → RisesByKey (map record_of xs) → (q : List ℕ) → cond (any_at (filter p xs) q) None (found xs q) ≡ found (filter (λ x. not (p x)) xs) q
-left_over p [] s q = refl
-left_over p (x ∷ xs) s q = elim (are_one q (key_of_row x)) as (λ b. are_one q (key_of_row x) ≡ b
-    → cond (any_at (cond (p x) (x ∷ filter p xs) (filter p xs)) q) None (cond b (Some (record_of x).value) (found xs q)) ≡ found (cond (not (p x)) (x ∷ filter (λ x. not (p x)) xs) (filter (λ x. not (p x)) xs)) q) [
-      | true ↦ λ e.
-          let is = one_of q (key_of_row x) e in
-          let any : any_at (filter p xs) q ≡ false = ap (any_at (filter p xs)) is ∙ any_below (key_of_row x) (filter p xs) (below_filter (key_of_row x) p xs s.0) in
-          let none : found (filter (λ x. not (p x)) xs) q ≡ None = ap (found (filter (λ x. not (p x)) xs)) is ∙ none_below (key_of_row x) (filter (λ x. not (p x)) xs) (below_filter (key_of_row x) (λ x. not (p x)) xs s.0) in
-          elim (p x) as (λ t. cond (any_at (cond t (x ∷ filter p xs) (filter p xs)) q) None (Some (record_of x).value) ≡ found (cond (not t) (x ∷ filter (λ x. not (p x)) xs) (filter (λ x. not (p x)) xs)) q) [
-            | true ↦ ap (λ b. cond (b || any_at (filter p xs) q) None (Some (record_of x).value)) e ∙ sym none
-            | false ↦ ap (λ b. cond b None (Some (record_of x).value)) any ∙ sym (ap (λ b. cond b (Some (record_of x).value) (found (filter (λ x. not (p x)) xs) q)) e)
-          ]
-      | false ↦ λ e.
-          elim (p x) as (λ t. cond (any_at (cond t (x ∷ filter p xs) (filter p xs)) q) None (found xs q) ≡ found (cond (not t) (x ∷ filter (λ x. not (p x)) xs) (filter (λ x. not (p x)) xs)) q) [
-            | true ↦ ap (λ b. cond (b || any_at (filter p xs) q) None (found xs q)) e ∙ left_over p xs s.1 q
-            | false ↦ left_over p xs s.1 q ∙ sym (ap (λ b. cond b (Some (record_of x).value) (found (filter (λ x. not (p x)) xs) q)) e)
-          ]
-    ] refl
-
-pub after_gone : (p : TableRow → Bool) (xs : List TableRow) → RisesByKey (map record_of xs) → (q : List ℕ) → after (map removal_of (filter p xs)) q (found xs q) ≡ found (filter (λ x. not (p x)) xs) q
-after_gone p xs s q = after_taken (filter p xs) q (found xs q) ∙ left_over p xs s q
 
 -- where no row has the key, none is found
 none_there : (xs : List TableRow) (q : List ℕ) → cond (any_at xs q) (found xs q) None ≡ found xs q

@@ -5,7 +5,7 @@ use Rattle.volume_spec.specs.VolumeState.{VolumeState, fresh_volume}
 use Rattle.record_keeper.specs.declared.record.Record.{Record}
 use Rattle.record_keeper.specs.Records.{Records}
 use Rattle.volume_keeper_records.specs.FirstBad.{first_bad_record}
-use Rattle.volume_keeper_records.specs.Image.{image, kept_image, records_in}
+use Rattle.volume_keeper_records.specs.Image.{kept_image, records_in}
 use Rattle.volume_keeper.specs.declared.loading.LoadFault.{LoadFault}
 use Rattle.volume_keeper.specs.declared.loading.LoadFault.TheVariants.{BadRecord, Failed, Memory}
 use Rattle.volume_keeper.specs.Whole.{HeldValue}

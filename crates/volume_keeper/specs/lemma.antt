@@ -1,5 +1,3 @@
-pub mod ForkChanges
 pub mod Loading
 pub mod Rebuilt
-pub mod Steps
 pub mod Whole

@@ -1,19 +1,18 @@
 //! A volume that nobody has used, and its records.
-ghost use Rattle.std.specs.Prelude.{◌≡◌, None, map, IfOk, true, List, ℕ};
+ghost use Rattle.std.specs.Prelude.{◌≡◌, ◌++◌, ◌∷◌, [], None, map, IfOk, OnOk, true, List, ℕ};
 ghost use Rattle.afp_names.specs.Name.{name_fault};
 ghost use Rattle.volume_spec.specs.VolumeState.{fresh_volume, new_row, root_id, root_parent};
+ghost use Rattle.record_keeper.specs.declared.record.Change.TheVariants.{Put};
 ghost use Rattle.record_keeper.specs.Records.{TellsOn};
 ghost use Rattle.volume_keeper_records.specs.Image.{node_of, rows_of, tables_of};
-ghost use Rattle.volume_keeper.specs.Changes.{put_of as the_put};
 ghost use Rattle.volume_keeper.specs.Loading.{Becomes, HasLoadCause};
-ghost use Rattle.volume_keeper.specs.lemma.Loading.{IsMake};
+ghost use Rattle.volume_keeper.specs.lemma.Loading.{IsMake, put_of as the_put};
 
-use crate::changes::put;
 use crate::held::Held;
 use crate::loading::LoadFault;
 use afp_base::{Bytes, Moment, OutOfMemory};
 use desktop_db::Desktop;
-use record_keeper::{Change, Keeper, KeeperFault};
+use record_keeper::{Change, Keeper, KeeperFault, Record};
 use std::alloc::Global;
 use volume_keeper_records::laws::records_are_images;
 use volume_keeper_records::{Head, Node, head_record, node_record};
@@ -53,6 +52,15 @@ fn root_of(alloc: Global, name: &str, now: Moment) -> Result<Node, OutOfMemory>
         resource_length: 0,
         name: Bytes::of(alloc, name.as_bytes())?,
     })
+}
+
+/// Puts a record.
+fn put(changes: &mut Vec<Change>, kept: Record) -> Result<(), OutOfMemory>
+    ensures { OnOk result (changes.new.items ≡ changes.old.items ++ Put kept.key kept.value ∷ []) }
+{
+    let Record { key, value } = kept;
+    changes.push(Change::Put { key, value })?;
+    Ok(())
 }
 
 /// The records of a volume that is made at a moment, to be put.

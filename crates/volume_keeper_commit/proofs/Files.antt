@@ -16,7 +16,7 @@ use Rattle.volume_spec.specs.SoundVolume.{IsSoundVolume, has_file, has_node}
 use Rattle.volume_spec.specs.VolumeState.{Row, VolumeState}
 use Rattle.volume_spec.specs.Walk.{row_at}
 use Rattle.volume_tree.specs.Shown.{fork_at}
-use Rattle.volume_keeper.proofs.GoneRecords.{ids_rise}
+use Rattle.volume_keeper.proofs.SoundRows.{ids_rise}
 use Rattle.afp_base.proofs.Facts.{left_true, or-false, right_true}
 
 -- a node that was found is a file

@@ -3,10 +3,14 @@ use Rattle.std.specs.Prelude.{◌≡◌, ℕ, List, [], None, Result, Ok, Err}
 use Rattle.std.specs.FinMap.{entries}
 use Rattle.volume_spec.specs.VolumeState.{VolumeState}
 use Rattle.record_keeper.specs.declared.record.Record.{Record}
+use Rattle.record_keeper.specs.declared.record.Change.{Change}
+use Rattle.record_keeper.specs.declared.record.Change.TheVariants.{Put}
 use Rattle.record_keeper.specs.declared.reading.ReadAllFault.{ReadAllFault}
 use Rattle.record_keeper.specs.declared.reading.ReadAllFault.TheVariants as read
 use Rattle.record_keeper.specs.Records.{Records}
 use Rattle.volume_keeper_records.specs.declared.rows.Reason.TheVariants.{Shape, Limit}
+use Rattle.volume_keeper_records.specs.declared.rows.TableRow.{TableRow}
+use Rattle.volume_keeper_records.specs.Records.{record_of}
 use Rattle.volume_keeper_records.specs.FirstBad.{first_bad_record}
 use Rattle.volume_keeper_records.specs.Image.{image, kept_image}
 use Rattle.volume_keeper.specs.declared.loading.LoadFault.{LoadFault}
@@ -30,6 +34,10 @@ abbrev pub IsNotBad : LoadFault → Type 0
 IsNotBad (BadRecord key reason) = ⊥
 IsNotBad Failed = Unit {0}
 IsNotBad Memory = Unit {0}
+
+-- the record that says a row is put
+abbrev pub put_of : TableRow → Change
+put_of x = Put (record_of x).key (record_of x).value
 
 -- what making a fresh volume does to the records
 abbrev pub IsMake : List ℕ → ℕ → Result HeldValue LoadFault → Records → Records → Type 0
