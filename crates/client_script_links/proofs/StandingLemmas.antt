@@ -1,0 +1,230 @@
+-- A script's client, one call further.
+use Rattle.std.proofs.Common.{◌≡◌, ℕ, ◌+◌, ◌<◌, ◌≤◌, ◌^◌, Bool, true, false, List, [], ◌∷◌, ◌++◌, length, Option, Some, None, Result, Ok, Err, inl, inr, refl, sym, ap, subst, ◌∙◌, arith, rules}
+use Rattle.std.specs.Prelude.{IsSome}
+use Rattle.afp_base.specs.declared.bytes.OutOfMemory.{OutOfMemory}
+use Rattle.afp_calls_grammar.specs.declared.call.Call.{Call}
+use Rattle.afp_calls_grammar.specs.declared.call.Call.TheVariants as calls
+use Rattle.afp_client.specs.Run.{Result as CallResult}
+use Rattle.afp_client.specs.State.{Client, ClientState, IsReady, is_of_opening}
+use Rattle.afp_outside.specs.Dialer.{DialerState}
+use Rattle.afp_outside.specs.Link.{LinkState}
+use Rattle.afp_replies.specs.Replies.{Shows}
+use Rattle.afp_replies.specs.declared.reply.Reply.{Reply}
+use Rattle.client_links.specs.History.{Happening, asks}
+use Rattle.client_links.specs.Links.{Part, Over, all_results}
+use Rattle.client_links.specs.OnLink.{Start}
+use Rattle.client_links.specs.Talk.{AsksTalk, ClosesTalk, EndsTalk, LeavesOpen, OpensTalk, TalkAt, TellsCall, TellsEnd}
+use Rattle.client_links.specs.lemma.Coming.{StandsAt}
+use Rattle.client_links.specs.declared.links.TalkEnd.{TalkEnd}
+use Rattle.client_links.specs.declared.talk.Told.{Told}
+use Rattle.client_script_calls.specs.Asked.{IsCommand}
+use Rattle.client_script_parts.specs.declared.asker.Answer.{Answer}
+use Rattle.client_script_parts.specs.Parts.{Exchange}
+use Rattle.client_script_links.specs.Kinds.{reply_kind}
+use Rattle.client_script_links.specs.Read.{AreRead, IsRead}
+use Rattle.client_script_links.specs.Standing.{AnswersBy, Ends, HasEnded, HasLeft, OpensNone, IsOpen, Stands, TellsBad, TellsOn, first_of}
+use Rattle.client_script_links.specs.declared.asker.AskEnd.{AskEnd}
+use Rattle.client_script_links.specs.declared.asker.AskEnd.TheVariants as ends
+
+-- a command opens no session
+pub of-no-opening : (call : Call) → IsCommand call → is_of_opening call ≡ false
+of-no-opening (calls.Login version uam rest) h = absurd h
+of-no-opening (calls.LoginExt flags version uam name path_kind path rest) h = absurd h
+of-no-opening (calls.GetSessionToken kind stamp id) h = absurd h
+of-no-opening (calls.DisconnectOldSession kind token) h = absurd h
+of-no-opening call h = refl
+
+-- one more was read
+pub read-more : (xs : List Exchange) (rs : List CallResult) (x : Exchange) (r : CallResult) → AreRead xs rs → IsRead x r → AreRead (xs ++ x ∷ []) (rs ++ r ∷ [])
+read-more [] [] x r h i = (i, tt)
+read-more [] (s ∷ rs) x r h i = absurd h
+read-more (y ∷ xs) [] x r h i = absurd h
+read-more (y ∷ xs) (s ∷ rs) x r h i = (h.0, read-more xs rs x r h.1 i)
+
+-- a link is there, and what was told stands on it
+told-on : {L : Type 0} (state : L → LinkState) (turns : ℕ) (first : Start) (old : DialerState L) (past : List (Part L)) (all : List Happening) (s : ClientState) (call : Call) (told : Told) (link : Option L) (core : Client)
+    (replied : Bool) (idle cost : ℕ) (dialer : DialerState L)
+    → AsksTalk state turns first old past all s call (Ok told) link core replied idle cost dialer
+    → (later : List (Part L)) × (now : List Happening) × TalkAt state first old later now link core replied idle cost dialer
+    × (all_results None later now ≡ all_results None past all ++ record { call = call; code = told.code; block = told.block } ∷ [])
+told-on state turns first old past all s call told (Some link) core replied idle cost dialer t = (t.later, t.now, t.over, t.results None)
+told-on state turns first old past all s call told None core replied idle cost dialer t = absurd t
+
+-- an answer was read
+pub stays-open : {L : Type 0} (state : L → LinkState) (first : Start) (old : DialerState L) (turns : ℕ) (exchanges after : List Exchange) (call : Call) (answer : Answer) (told : Told) (link : Option L) (core : Client) (out : List ℕ) (size : ℕ)
+    (replied : Bool) (idle cost : ℕ) (dialer : DialerState L)
+    → TellsOn state first old turns exchanges call told link core out size replied idle cost dialer
+    → AnswersBy call told (Ok answer) → after ≡ exchanges ++ (record { call = call; answer = answer }) ∷ []
+    → IsOpen state first old turns after link core out size replied idle cost dialer
+stays-open state first old turns exchanges after call answer told link core out size replied idle cost dialer t a is =
+    let on = told-on state turns first old t.past t.all t.s call told link core replied idle cost dialer t.asks in
+    let r : CallResult = record { call = call; code = told.code; block = told.block } in
+    record {
+      past = on.0;
+      all = on.1;
+      at = on.2;
+      read = subst (λ (xs : List Exchange). AreRead xs (all_results None on.0 on.1)) (sym is)
+          (subst (λ (rs : List CallResult). AreRead (exchanges ++ (record { call = call; answer = answer }) ∷ []) rs) (sym on.3)
+          (read-more exchanges (all_results None t.past t.all) (record { call = call; answer = answer }) r t.read (record { call = refl; code = a.0; shows = a.1 })));
+      linked = t.linked;
+      empty = t.empty;
+      ready = t.ready;
+      some = t.some;
+      small = t.small;
+      below = t.below;
+      fits = t.fits;
+      within = t.within;
+    }
+
+-- no answer was read, and the link was left
+bad-told : {L : Type 0} (state : L → LinkState) (first : Start) (old : DialerState L) (turns : ℕ) (exchanges : List Exchange) (call : Call) (told : Told) (link : Option L) (core : Client) (out : List ℕ) (size : ℕ)
+    (replied : Bool) (idle cost : ℕ) (dialer new : DialerState L) (past : List (Part L)) (all : List Happening) (s : ClientState) (at : ℕ)
+    → AsksTalk state turns first old past all s call (Ok told) link core replied idle cost dialer → (at ≡ told.at) × ((reply : Reply) → Shows reply (reply_kind call) told.code told.block → ⊥)
+    → ((f : Start) (d : DialerState L) (p : List (Part L)) (h : List Happening) → TalkAt state f d p h link core replied idle cost dialer → LeavesOpen state f d p h new)
+    → TellsBad state first old past all at new
+bad-told state first old turns exchanges call told (Some link) core out size replied idle cost dialer new past all s at t bad leaves = record {
+  later = t.later;
+  now = t.now;
+  told = record { call = call; code = told.code; block = told.block };
+  results = t.results None;
+  bad = bad.1;
+  before = t.before;
+  behind = t.behind;
+  stands = subst (λ (n : ℕ). StandsAt t.before n) (sym bad.0) t.stands;
+  leaves = leaves first old t.later t.now t.over;
+}
+bad-told state first old turns exchanges call told None core out size replied idle cost dialer new past all s at t bad leaves = absurd t
+
+pub leaves-bad : {L : Type 0} (state : L → LinkState) (first : Start) (old : DialerState L) (turns : ℕ) (exchanges after : List Exchange) (call : Call) (told : Told) (end : AskEnd) (link : Option L) (core : Client) (out : List ℕ) (size : ℕ)
+    (replied : Bool) (idle cost : ℕ) (dialer new : DialerState L)
+    → TellsOn state first old turns exchanges call told link core out size replied idle cost dialer → AnswersBy call told (Err end) → after ≡ exchanges
+    → ((f : Start) (d : DialerState L) (p : List (Part L)) (h : List Happening) → TalkAt state f d p h link core replied idle cost dialer → LeavesOpen state f d p h new)
+    → (limit spent : ℕ) → HasEnded state first old limit after end spent new
+leaves-bad state first old turns exchanges after call told (ends.BadReply at) link core out size replied idle cost dialer new t a is leaves limit spent = record {
+  past = t.past;
+  all = t.all;
+  read = subst (λ (xs : List Exchange). AreRead xs (all_results None t.past t.all)) (sym is) t.read;
+  ends = bad-told state first old turns exchanges call told link core out size replied idle cost dialer new t.past t.all t.s at t.asks a leaves;
+}
+leaves-bad state first old turns exchanges after call told ends.Memory link core out size replied idle cost dialer new t a is leaves limit spent =
+    let on = told-on state turns first old t.past t.all t.s call told link core replied idle cost dialer t.asks in
+    record {
+      past = t.past;
+      all = t.all;
+      read = subst (λ (xs : List Exchange). AreRead xs (all_results None t.past t.all)) (sym is) t.read;
+      ends = record { later = on.0; now = on.1; leaves = leaves first old on.0 on.1 on.2 };
+    }
+leaves-bad state first old turns exchanges after call told (ends.Links end) link core out size replied idle cost dialer new t a is leaves limit spent = absurd a
+
+-- it is asked no more
+pub leaves-unasked : {L : Type 0} (state : L → LinkState) (first : Start) (old : DialerState L) (turns : ℕ) (exchanges : List Exchange) (link : Option L) (core : Client) (out : List ℕ) (size : ℕ)
+    (replied : Bool) (idle cost : ℕ) (dialer new : DialerState L)
+    → IsOpen state first old turns exchanges link core out size replied idle cost dialer
+    → ((f : Start) (d : DialerState L) (p : List (Part L)) (h : List Happening) → TalkAt state f d p h link core replied idle cost dialer → LeavesOpen state f d p h new)
+    → (limit spent : ℕ) → HasEnded state first old limit exchanges ends.Memory spent new
+leaves-unasked state first old turns exchanges link core out size replied idle cost dialer new o leaves limit spent = record {
+  past = o.past;
+  all = o.all;
+  read = o.read;
+  ends = record { later = o.past; now = o.all; leaves = leaves first old o.past o.all o.at };
+}
+
+-- its links ended behind a call
+ended-on : {L : Type 0} (state : L → LinkState) (turns : ℕ) (first : Start) (old : DialerState L) (past : List (Part L)) (all : List Happening) (s : ClientState) (call : Call) (end : TalkEnd) (link : Option L) (core : Client)
+    (replied : Bool) (idle cost : ℕ) (dialer : DialerState L)
+    → AsksTalk state turns first old past all s call (Err end) link core replied idle cost dialer → TellsEnd state turns first old past all (asks s call) end cost dialer
+ended-on state turns first old past all s call end (Some link) core replied idle cost dialer t = absurd t
+ended-on state turns first old past all s call end None core replied idle cost dialer t = t
+
+pub links-end : {L : Type 0} (state : L → LinkState) (first : Start) (old : DialerState L) (turns : ℕ) (exchanges : List Exchange) (link now : Option L) (before core : Client) (out : List ℕ) (size : ℕ)
+    (was replied : Bool) (was_idle idle was_cost cost : ℕ) (dialer new : DialerState L) (call : Call) (end : TalkEnd)
+    → (o : IsOpen state first old turns exchanges link before out size was was_idle was_cost dialer)
+    → ((f : Start) (d : DialerState L) (p : List (Part L)) (h : List Happening) → TalkAt state f d p h link before was was_idle was_cost dialer
+    → AsksTalk state turns f d p h before.state call (Err end) now core replied idle cost new)
+    → HasEnded state first old turns exchanges (ends.Links end) cost new
+links-end state first old turns exchanges link now before core out size was replied was_idle idle was_cost cost dialer new call end o tells = record {
+  past = o.past;
+  all = o.all;
+  read = o.read;
+  ends = (before.state, call, ended-on state turns first old o.past o.all before.state call end now core replied idle cost new (tells first old o.past o.all o.at));
+}
+
+-- a first link was opened
+opened-on : {L : Type 0} (state : L → LinkState) (turns : ℕ) (first : Start) (old : DialerState L) (link : Option L) (core : Client) (replied : Bool) (idle cost : ℕ) (dialer : DialerState L) (done : Unit {0})
+    → OpensTalk state turns first old [] (Ok done) link core replied idle cost dialer
+    → (later : List (Part L)) × (now : List Happening) × TalkAt state first old later now link core replied idle cost dialer × (all_results None later now ≡ [])
+opened-on state turns first old (Some link) core replied idle cost dialer done o = (o.later, o.now, o.over, o.same.results None)
+opened-on state turns first old None core replied idle cost dialer done o = absurd o
+
+pub opens-asker : {L : Type 0} (state : L → LinkState) (client value : Client) (before told : DialerState L) (given turns : ℕ) (exchanges : List Exchange) (was link : Option L) (began core : Client) (out : List ℕ) (size : ℕ)
+    (replied_was replied : Bool) (idle_was idle cost_was cost : ℕ) (dialer_was dialer : DialerState L) (done : Unit {0})
+    → value ≡ client → told ≡ before → TalkAt state (first_of client) before [] [] was began replied_was idle_was cost_was dialer_was
+    → ((f : Start) (d : DialerState L) (p : List (Part L)) → TalkAt state f d p [] was began replied_was idle_was cost_was dialer_was → OpensTalk state given f d p (Ok done) link core replied idle cost dialer)
+    → exchanges ≡ [] → IsSome link → out ≡ [] → IsReady core.state → 0 < size → size < 2 ^ 20 → idle < 8 → core.held.place + length core.held.rest ≤ cost → turns < 2 ^ 63
+    → IsOpen state (first_of value) told turns exchanges link core out size replied idle cost dialer
+opens-asker {L = L} state client value before told given turns exchanges was link began core out size replied_was replied idle_was idle cost_was cost dialer_was dialer done is same at opens none linked empty ready some small below fits within =
+    let on = opened-on state given (first_of client) before link core replied idle cost dialer done (opens (first_of client) before [] at) in
+    subst (λ (c : Client). IsOpen state (first_of c) told turns exchanges link core out size replied idle cost dialer) (sym is)
+    (subst (λ (d : DialerState L). IsOpen state (first_of client) d turns exchanges link core out size replied idle cost dialer) (sym same)
+    (record {
+      past = on.0;
+      all = on.1;
+      at = on.2;
+      read = subst (λ (xs : List Exchange). AreRead xs (all_results None on.0 on.1)) (sym none) (subst (λ (rs : List CallResult). AreRead [] rs) (sym on.3) tt);
+      linked = linked;
+      empty = empty;
+      ready = ready;
+      some = some;
+      small = small;
+      below = below;
+      fits = fits;
+      within = within;
+    }))
+
+-- while it has not ended
+pub stands-open : {L : Type 0} (state : L → LinkState) (first : Start) (old : DialerState L) (turns : ℕ) (exchanges : List Exchange) (ended : Option AskEnd) (link : Option L) (core : Client) (out : List ℕ) (size : ℕ)
+    (replied : Bool) (idle cost : ℕ) (dialer : DialerState L) → ended ≡ None → IsOpen state first old turns exchanges link core out size replied idle cost dialer
+    → Stands state first old turns exchanges ended link core out size replied idle cost dialer
+stands-open state first old turns exchanges ended link core out size replied idle cost dialer none o =
+    subst (λ (e : Option AskEnd). Stands state first old turns exchanges e link core out size replied idle cost dialer) (sym none) o
+
+-- another limit
+pub limits-open : {L : Type 0} (state : L → LinkState) (first : Start) (old : DialerState L) (turns now : ℕ) (exchanges : List Exchange) (link : Option L) (core : Client) (out : List ℕ) (size : ℕ)
+    (replied : Bool) (idle cost : ℕ) (dialer : DialerState L) → IsOpen state first old turns exchanges link core out size replied idle cost dialer → now < 2 ^ 63
+    → IsOpen state first old now exchanges link core out size replied idle cost dialer
+limits-open state first old turns now exchanges link core out size replied idle cost dialer o within = record {
+  past = o.past;
+  all = o.all;
+  at = o.at;
+  read = o.read;
+  linked = o.linked;
+  empty = o.empty;
+  ready = o.ready;
+  some = o.some;
+  small = o.small;
+  below = o.below;
+  fits = o.fits;
+  within = within;
+}
+
+-- no first link was opened
+pub opens-none : {L : Type 0} (state : L → LinkState) (given turns : ℕ) (first : Start) (old : DialerState L) (end : TalkEnd) (link : Option L) (core : Client) (replied : Bool) (idle cost : ℕ) (dialer : DialerState L)
+    → OpensTalk state given first old [] (Err end) link core replied idle cost dialer → given ≡ turns → OpensNone state turns first old (ends.Links end) dialer
+opens-none state given turns first old end (Some link) core replied idle cost dialer o e = absurd o
+opens-none state given turns first old end None core replied idle cost dialer o e = (cost, subst (λ (n : ℕ). EndsTalk state n first old [] [] end cost dialer) e o)
+
+-- the link is left, with CloseSession or without
+pub closes-on : {L : Type 0} (state : L → LinkState) (first : Start) (old : DialerState L) (turns : ℕ) (exchanges : List Exchange) (link : Option L) (core : Client) (out : List ℕ) (size : ℕ)
+    (replied : Bool) (idle cost : ℕ) (dialer new : DialerState L) (closed : Result (Unit {0}) OutOfMemory)
+    → IsOpen state first old turns exchanges link core out size replied idle cost dialer
+    → ((f : Start) (d : DialerState L) (p : List (Part L)) (h : List Happening) → TalkAt state f d p h link core replied idle cost dialer → ClosesTalk state f d p h closed new)
+    → HasLeft state first old exchanges new
+closes-on state first old turns exchanges link core out size replied idle cost dialer new (Ok done) o closes = record { past = o.past; all = o.all; read = o.read; leaves = inl (closes first old o.past o.all o.at) }
+closes-on state first old turns exchanges link core out size replied idle cost dialer new (Err e) o closes = record { past = o.past; all = o.all; read = o.read; leaves = inr (closes first old o.past o.all o.at) }
+
+pub leaves-on : {L : Type 0} (state : L → LinkState) (first : Start) (old : DialerState L) (turns : ℕ) (exchanges : List Exchange) (link : Option L) (core : Client) (out : List ℕ) (size : ℕ)
+    (replied : Bool) (idle cost : ℕ) (dialer new : DialerState L)
+    → IsOpen state first old turns exchanges link core out size replied idle cost dialer
+    → ((f : Start) (d : DialerState L) (p : List (Part L)) (h : List Happening) → TalkAt state f d p h link core replied idle cost dialer → LeavesOpen state f d p h new)
+    → HasLeft state first old exchanges new
+leaves-on state first old turns exchanges link core out size replied idle cost dialer new o leaves = record { past = o.past; all = o.all; read = o.read; leaves = inr (leaves first old o.past o.all o.at) }

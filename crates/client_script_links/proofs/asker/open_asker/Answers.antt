@@ -1,0 +1,27 @@
+use Rattle.std.proofs.Common.{length, ◌∙◌, arith, rules}
+use Rattle.client_script_links.specs.Read.{zipped}
+use Rattle.client_script_links.proofs.StandingLemmas.{opens-asker}
+use Rattle.client_script_links.proofs.asker.open_asker.Goals as goal
+
+pub open-requires-clause-some : goal.open-requires-clause-some
+open-requires-clause-some g c = omega (arith, c.new-talk.ensures.room, c.requires.some)
+
+pub open-requires-clause-small : goal.open-requires-clause-small
+open-requires-clause-small g c = omega (arith, c.new-talk.ensures.room, c.requires.small)
+
+pub open-requires-clause-turns : goal.open-requires-clause-turns
+open-requires-clause-turns g c = omega (arith, c.new-talk.ensures.turns, c.requires.turns)
+
+pub invariant_of-result : goal.invariant_of-result
+invariant_of-result g c =
+    let was = c.new-talk.result in
+    let now = c.open.new.self in
+    let is_turns = c.open.ensures.turns ∙ c.new-talk.ensures.turns in (
+      is_turns,
+      opens-asker g.D.Link.Link.link_state c.args.core c.of.result.value (g.D.Dialer.dialer_state c.args.dialer) (g.D.Dialer.dialer_state c.of-2.result.value) was.turns now.turns
+          (zipped c.new-in-Ok.result.calls.items c.new-in-Ok.result.answers.items) was.link now.link was.core now.core now.out (length now.room.items)
+          was.replied now.replied was.idle now.idle was.cost now.cost (g.D.Dialer.dialer_state was.dialer) (g.D.Dialer.dialer_state now.dialer) c.in-Ok.field-0
+          (search rules) (search rules) c.new-talk.ensures.stands c.in-Ok.ensures.opens c.new-in-Ok.ensures c.in-Ok.ensures.link c.in-Ok.ensures.empty c.in-Ok.ensures.ready
+          (omega (arith, c.open.ensures.room, c.new-talk.ensures.room, c.requires.some)) (omega (arith, c.open.ensures.room, c.new-talk.ensures.room, c.requires.small)) c.in-Ok.ensures.below c.in-Ok.ensures.fits
+          (omega (arith, is_turns, c.requires.turns)),
+    )

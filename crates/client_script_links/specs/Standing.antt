@@ -1,0 +1,139 @@
+-- Where a script's client stands over its links (this profile).
+use Rattle.std.specs.Prelude.{◌≡◌, ◌⊎◌, ℕ, ◌+◌, ◌<◌, ◌≤◌, ◌^◌, Bool, List, [], ◌∷◌, ◌++◌, length, Option, Some, None, IsSome, Result, Ok, Err}
+use Rattle.afp_base.specs.declared.code.Code.{Code}
+use Rattle.afp_calls_grammar.specs.declared.call.Call.{Call}
+use Rattle.afp_client.specs.Run.{Result as CallResult}
+use Rattle.afp_client.specs.State.{Client, ClientState, IsReady}
+use Rattle.afp_outside.specs.Dialer.{DialerState}
+use Rattle.afp_outside.specs.Link.{LinkState}
+use Rattle.afp_replies.specs.Replies.{Shows}
+use Rattle.afp_replies.specs.declared.reply.Reply.{Reply}
+use Rattle.client_links.specs.History.{Happening, asks}
+use Rattle.client_links.specs.Links.{Part, all_results}
+use Rattle.client_links.specs.OnLink.{Start}
+use Rattle.client_links.specs.Talk.{AsksTalk, ClosesLink, EndsTalk, IsBehind, LeavesOpen, TalkAt, TellsEnd}
+use Rattle.client_links.specs.lemma.Coming.{StandsAt}
+use Rattle.client_links.specs.declared.talk.Told.{Told}
+use Rattle.client_script_parts.specs.declared.asker.Answer.{Answer}
+use Rattle.client_script_parts.specs.Parts.{Asked, Exchange}
+use Rattle.client_script_links.specs.Kinds.{reply_kind}
+use Rattle.client_script_links.specs.Read.{AreRead}
+use Rattle.client_script_links.specs.declared.asker.AskEnd.{AskEnd}
+use Rattle.client_script_links.specs.declared.asker.AskEnd.TheVariants as ends
+
+-- what a script's client is seen as: its exchanges, with what stays the same of it, how many calls it answered, and why it ended, where it did
+pub record AskerValue (F : Type 0) : Type 0 where
+  pub asked : Asked F
+  pub answered : ℕ
+  pub ended : Option AskEnd
+
+-- the client before its first link
+abbrev pub first_of : Client → Start
+first_of client = record { state = client.state; spent = 0 }
+
+-- It has a link and can be asked; its exchanges are the results so far.
+pub record IsOpen {L : Type 0} (state : L → LinkState) (first : Start) (old : DialerState L) (turns : ℕ) (exchanges : List Exchange) (link : Option L) (core : Client) (out : List ℕ) (size : ℕ)
+    (replied : Bool) (idle cost : ℕ) (dialer : DialerState L) : Type 0 where
+  pub past : List (Part L)
+  pub all : List Happening
+  pub at : TalkAt state first old past all link core replied idle cost dialer
+  pub read : AreRead exchanges (all_results None past all)
+  pub linked : IsSome link
+  pub empty : out ≡ []
+  pub ready : IsReady core.state
+  pub some : 0 < size
+  pub small : size < 2 ^ 20
+  pub below : idle < 8
+  pub fits : core.held.place + length core.held.rest ≤ cost
+  pub within : turns < 2 ^ 63
+
+-- A call was told a block that shows none of its replies, by a frame from this place on; the link is handed back with all others.
+pub record TellsBad {L : Type 0} (state : L → LinkState) (first : Start) (old : DialerState L) (past : List (Part L)) (all : List Happening) (at : ℕ) (dialer : DialerState L) : Type 0 where
+  pub later : List (Part L)
+  pub now : List Happening
+  pub told : CallResult
+  pub results : all_results None later now ≡ all_results None past all ++ told ∷ []
+  pub bad : (reply : Reply) → Shows reply (reply_kind told.call) told.code told.block → ⊥
+  pub before : List Happening
+  pub behind : IsBehind before now
+  pub stands : StandsAt before at
+  pub leaves : LeavesOpen state first old later now dialer
+
+-- all links that were dialled are handed back, where no memory was left
+pub record LacksMemory {L : Type 0} (state : L → LinkState) (first : Start) (old : DialerState L) (dialer : DialerState L) : Type 0 where
+  pub later : List (Part L)
+  pub now : List Happening
+  pub leaves : LeavesOpen state first old later now dialer
+
+-- by the end
+abbrev pub Ends : {L : Type 0} → (L → LinkState) → ℕ → Start → DialerState L → List (Part L) → List Happening → AskEnd → ℕ → DialerState L → Type 0
+Ends state turns first old past all (ends.Links end) cost dialer =
+    (s : ClientState) × (call : Call) × TellsEnd state turns first old past all (asks s call) end cost dialer
+Ends state turns first old past all (ends.BadReply at) cost dialer = TellsBad state first old past all at dialer
+Ends state turns first old past all ends.Memory cost dialer = LacksMemory state first old dialer
+
+-- It has ended so, behind its exchanges.
+pub record HasEnded {L : Type 0} (state : L → LinkState) (first : Start) (old : DialerState L) (turns : ℕ) (exchanges : List Exchange) (end : AskEnd) (cost : ℕ) (dialer : DialerState L) : Type 0 where
+  pub past : List (Part L)
+  pub all : List Happening
+  pub read : AreRead exchanges (all_results None past all)
+  pub ends : Ends state turns first old past all end cost dialer
+
+abbrev pub Stands : {L : Type 0} → (L → LinkState) → Start → DialerState L → ℕ → List Exchange → Option AskEnd → Option L → Client → List ℕ → ℕ → Bool → ℕ → ℕ → DialerState L → Type 0
+Stands state first old turns exchanges None link core out size replied idle cost dialer = IsOpen state first old turns exchanges link core out size replied idle cost dialer
+Stands state first old turns exchanges (Some end) link core out size replied idle cost dialer = HasEnded state first old turns exchanges end cost dialer
+
+-- what a block that was told to a call shows
+abbrev pub AnswersBy : Call → Told → Result Answer AskEnd → Type 0
+AnswersBy call told (Ok answer) = (answer.code ≡ told.code) × Shows answer.reply (reply_kind call) told.code told.block
+AnswersBy call told (Err (ends.BadReply at)) = (at ≡ told.at) × ((reply : Reply) → Shows reply (reply_kind call) told.code told.block → ⊥)
+AnswersBy call told (Err ends.Memory) = Unit {0}
+AnswersBy call told (Err (ends.Links end)) = ⊥
+
+-- an answer is logged
+abbrev pub LogsAnswer : Call → List Exchange → Result Answer AskEnd → List Exchange → Type 0
+LogsAnswer call before (Ok answer) after = after ≡ before ++ (record { call = call; answer = answer }) ∷ []
+LogsAnswer call before (Err end) after = after ≡ before
+
+-- The call was told this, behind the exchanges before it, and the client can be asked again.
+pub record TellsOn {L : Type 0} (state : L → LinkState) (first : Start) (old : DialerState L) (turns : ℕ) (exchanges : List Exchange) (call : Call) (told : Told) (link : Option L) (core : Client) (out : List ℕ) (size : ℕ)
+    (replied : Bool) (idle cost : ℕ) (dialer : DialerState L) : Type 0 where
+  pub past : List (Part L)
+  pub all : List Happening
+  pub read : AreRead exchanges (all_results None past all)
+  pub s : ClientState
+  pub asks : AsksTalk state turns first old past all s call (Ok told) link core replied idle cost dialer
+  pub linked : IsSome link
+  pub empty : out ≡ []
+  pub ready : IsReady core.state
+  pub some : 0 < size
+  pub small : size < 2 ^ 20
+  pub below : idle < 8
+  pub fits : core.held.place + length core.held.rest ≤ cost
+  pub within : turns < 2 ^ 63
+
+-- The script's client left its link: CloseSession was written last, or nothing more was.
+pub record HasLeft {L : Type 0} (state : L → LinkState) (first : Start) (old : DialerState L) (exchanges : List Exchange) (dialer : DialerState L) : Type 0 where
+  pub past : List (Part L)
+  pub all : List Happening
+  pub read : AreRead exchanges (all_results None past all)
+  pub leaves : ClosesLink state first old past all dialer ⊎ LeavesOpen state first old past all dialer
+
+-- it had ended before, or left its link now
+abbrev pub Finishes : {L : Type 0} → (L → LinkState) → Start → DialerState L → ℕ → List Exchange → Option AskEnd → DialerState L → Type 0
+Finishes state first old turns exchanges None dialer = HasLeft state first old exchanges dialer
+Finishes state first old turns exchanges (Some end) dialer = (cost : ℕ) × HasEnded state first old turns exchanges end cost dialer
+
+-- no link was opened
+abbrev pub OpensNone : {L : Type 0} → (L → LinkState) → ℕ → Start → DialerState L → AskEnd → DialerState L → Type 0
+OpensNone state turns first old (ends.Links end) dialer = (cost : ℕ) × EndsTalk state turns first old [] [] end cost dialer
+OpensNone state turns first old (ends.BadReply at) dialer = ⊥
+OpensNone state turns first old ends.Memory dialer = dialer ≡ old
+
+-- It has a link, and was asked nothing yet: what stays the same of it is what it began with.
+pub record IsNew {D : Type 0} (core : Client) (dialer : D) (turns : ℕ) (core_now : Client) (dialer_now : D) (turns_now : ℕ) (exchanges : List Exchange) (ended : Option AskEnd) : Type 0 where
+  pub core_is : core_now ≡ core
+  pub dialer_is : dialer_now ≡ dialer
+  pub turns_is : turns_now ≡ turns
+  pub none : exchanges ≡ []
+  pub open_yet : ended ≡ None
