@@ -39,7 +39,8 @@ NeverByteTwice =
     → Contains (stand start (take place h)).opens x → Contains (stand start (take place h)).opens y → x.reference ≡ a.reference → y.reference ≡ b.reference → x.fork ≡ y.fork
     → Covers a.range byte → Covers b.range byte → ⊥
 
--- while a fork stays open, its bytes are those at the start with all that was written through open forks in between, in order
+-- while a fork stays open, its bytes are those at the start with all that was written through open forks in between, and all that it got from a file which changed forks with its own,
+-- in order
 abbrev pub ForksHaveTheirChanges : Type 0
 ForksHaveTheirChanges =
     (start : World) (h : List Entry) (fork : Fork) (bytes : List ℕ) → IsSound start → is_lawful start h ≡ true → stays_open start h fork ≡ true

@@ -105,8 +105,8 @@ pub fn forks_are_shared_in_each_history()
     ensures locks { history_laws.NeverByteTwice }
 {}
 
-/// A write puts its piece where it starts. While a fork stays open its bytes are those from before, with all that was written in between. So what was written is there until bytes of it are
-/// written again or cut off, and any session that may read them is not refused, and is told them.
+/// A write puts its piece where it starts. While a fork stays open its bytes are those from before, with all that was written in between, and all that it got from a file
+/// which changed forks with its own. So what was written is there until bytes of it are written again, cut off or exchanged, and any session that may read them is not refused, and is told them.
 pub fn what_is_written_is_read()
     ensures changes { history_laws.ForksHaveTheirChanges }
     ensures puts { history_laws.WritesPutTheirPiece }
