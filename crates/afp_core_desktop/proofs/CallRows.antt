@@ -1,10 +1,9 @@
 -- The rows of calls by their names.
-use Rattle.std.proofs.Common.{◌≡◌, ap, sym, refl, subst, ℕ, List, Option, Some, None}
+use Rattle.std.proofs.Common.{refl, ℕ, List, None}
 use Rattle.afp_base.specs.declared.ids.NodeId.{NodeId}
 use Rattle.afp_base.specs.declared.ids.VolumeId.{VolumeId}
 use Rattle.afp_names.specs.Path.{PathValue}
 use Rattle.afp_replies.specs.declared.reply.Reply.TheVariants as replies
-use Rattle.afp_calls_grammar.specs.declared.call.Call.{Call}
 use Rattle.afp_calls_grammar.specs.declared.call.Call.TheVariants as call
 use Rattle.afp_serial.specs.Rows.{row}
 use Rattle.afp_serial.specs.OnVolume.{opened_on}

@@ -1,5 +1,5 @@
 -- The row of FPCopyFile.
-use Rattle.std.proofs.Common.{◌≡◌, ◌∙◌, ap, sym, refl, subst, ℕ, ◌+◌, ◌<◌, length, Bool, true, false, not, List, [], ◌∷◌, Option, Some, None}
+use Rattle.std.proofs.Common.{◌≡◌, ◌∙◌, ap, sym, refl, subst, ℕ, Bool, true, false, not, List, [], ◌∷◌, Option, Some, None}
 use Rattle.std.specs.Prelude.{Result, Ok as with_ok, Err, option_map, slice_get}
 use Rattle.afp_base.specs.Choice.{first_holding}
 use Rattle.afp_base.proofs.Facts.{some-none}
@@ -10,7 +10,7 @@ use Rattle.afp_replies.specs.declared.reply.Reply.TheVariants.{Empty}
 use Rattle.afp_calls_grammar.specs.declared.call.Call.{Call}
 use Rattle.afp_serial.specs.Answer.{refusal_reply}
 use Rattle.afp_serial.specs.CopyFile.{CopyAsked, copies, copy_call, copy_edits, copy_refused, source_of, source_on}
-use Rattle.afp_serial.specs.World.{Effect, CallRow, Refused, has_opened, plain, refused_before, volume_at, with_empty_reply, World, Session}
+use Rattle.afp_serial.specs.World.{Effect, CallRow, has_opened, plain, refused_before, volume_at, with_empty_reply, World, Session}
 use Rattle.afp_serial.specs.OnVolume.{done_on, on_volume, refused_on}
 use Rattle.afp_serial.specs.VolumeRows.{edits_on, keeper_of_edits, with_edits}
 use Rattle.afp_serial.specs.Rows.{effect, ends_session, refusal, row}

@@ -10,8 +10,8 @@ use Rattle.afp_replies.specs.declared.reply.Reply.TheVariants.{Empty}
 use Rattle.afp_calls_grammar.specs.declared.call.Call.{Call}
 use Rattle.afp_serial.specs.Answer.{refusal_reply}
 use Rattle.afp_serial.specs.ExchangeFiles.{exchange_files_row, exchanging, opens_exchanged, pair_on}
-use Rattle.afp_serial.specs.World.{Effect, CallRow, plain, volume_at, World, Session}
-use Rattle.afp_serial.specs.OnVolume.{done_on, opened_on}
+use Rattle.afp_serial.specs.World.{Effect, CallRow, plain, World, Session}
+use Rattle.afp_serial.specs.OnVolume.{done_on}
 use Rattle.afp_serial.specs.VolumeRows.{edits_on, keeper_of_edits, with_edits}
 use Rattle.afp_serial.specs.Rows.{effect, ends_session, refusal, row}
 use Rattle.afp_serial.specs.declared.ask.Outcome.{Outcome}
@@ -21,7 +21,7 @@ use Rattle.afp_serial.specs.declared.ask.Told.TheVariants.{Reply}
 use Rattle.volume_edits.specs.Planned.{PlanValue}
 use Rattle.volume_plans.specs.Plans.{Plans}
 use Rattle.volume_spec.specs.ExchangeFiles.{Pair, exchange_files_refusal, exchanged_files}
-use Rattle.volume_spec.specs.VolumeCalls.{ExchangeFiles, call_edits, volume_refusal}
+use Rattle.volume_spec.specs.VolumeCalls.{ExchangeFiles, call_edits}
 use Rattle.volume_spec.specs.VolumeState.{VolumeState}
 use Rattle.volume_tree.specs.Answered.{Refuses}
 use Rattle.volume_tree.specs.declared.resolve.PlanFault.{PlanFault}

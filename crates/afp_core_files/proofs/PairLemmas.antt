@@ -1,13 +1,12 @@
 -- The two files of an exchange.
-use Rattle.std.proofs.Common.{◌≡◌, ◌∙◌, sym, refl, ℕ, Bool, true, false, not, List, [], ◌∷◌, Some, None}
-use Rattle.std.specs.Prelude.{Result, Ok, Err}
+use Rattle.std.proofs.Common.{◌≡◌, ◌∙◌, sym, refl, ℕ, Bool, true, false, not, [], ◌∷◌, Some, None}
+use Rattle.std.specs.Prelude.{Ok, Err}
 use Rattle.afp_base.proofs.Facts.{some-none}
-use Rattle.afp_base.specs.Choice.{first_holding}
 use Rattle.afp_base.specs.declared.code.Code.{Code}
 use Rattle.afp_base.specs.declared.code.Code.TheVariants.{ObjectTypeErr}
 use Rattle.afp_names.specs.Path.{PathValue}
-use Rattle.volume_spec.specs.ExchangeFiles.{Pair, exchange_files_refusal, exchanged_files}
-use Rattle.volume_spec.specs.Shared.{behind, done_at, first_or}
+use Rattle.volume_spec.specs.ExchangeFiles.{exchange_files_refusal, exchanged_files}
+use Rattle.volume_spec.specs.Shared.{first_or}
 use Rattle.volume_spec.specs.SoundVolume.{has_file}
 use Rattle.volume_spec.specs.VolumeState.{VolumeState}
 use Rattle.volume_spec.specs.Walk.{found}

@@ -7,13 +7,12 @@ use Rattle.afp_base.specs.DenyMode.{Fork, is_one_fork}
 use Rattle.afp_serial.specs.ExchangeFiles.{opens_exchanged, in_exchange as exchanged}
 use Rattle.afp_serial.specs.ForkLaws.{is_lock_range}
 use Rattle.afp_serial.specs.World.{OpenFork, Lock}
-use Rattle.afp_core_state.specs.Forks.{Forks, forks_of, lock_of, open_of, with_opens}
+use Rattle.afp_core_state.specs.Forks.{forks_of, lock_of, open_of, with_opens}
 use Rattle.afp_core_state.specs.lemma.LockRanges.{AreInRange}
 use Rattle.deny_modes.specs.Opens.{in_exchange}
 use Rattle.fork_table.specs.ForkTable as table
 use Rattle.fork_table.specs.declared.open_fork.OpenFork as held
-use Rattle.range_locks.specs.Locks.{ForkLock, exchange_lock, exchanged_locks}
-use Rattle.volume_spec.specs.ExchangeFiles.{Pair}
+use Rattle.range_locks.specs.Locks.{ForkLock, exchanged_locks}
 
 -- a fork of a file of a volume
 abbrev pub fork_key : ℕ → ℕ → Bool → Fork

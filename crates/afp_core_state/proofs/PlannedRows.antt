@@ -9,8 +9,8 @@ use Rattle.afp_replies.specs.Replies.{canonical_reply}
 use Rattle.afp_replies.specs.declared.reply.Reply.{Reply as AfpReply}
 use Rattle.afp_calls_grammar.specs.declared.call.Call.{Call}
 use Rattle.afp_serial.specs.Answer.{refusal_reply}
-use Rattle.afp_serial.specs.World.{Effect, CallRow, plain, volume_at, World, Session}
-use Rattle.afp_serial.specs.OnVolume.{done_on, keeper_of, on_volume, opened_on}
+use Rattle.afp_serial.specs.World.{Effect, CallRow, plain, World, Session}
+use Rattle.afp_serial.specs.OnVolume.{done_on, opened_on}
 use Rattle.volume_keeper_commit.specs.Commits.{Commits}
 use Rattle.afp_serial.specs.VolumeRows.{edits_on, keeper_of_edits, with_edits}
 use Rattle.afp_serial.specs.Rows.{effect, refusal}
@@ -21,7 +21,6 @@ use Rattle.afp_serial.specs.declared.ask.Told.TheVariants.{Reply}
 use Rattle.volume_edits.specs.Planned.{EditValue, PlanValue, edits_of}
 use Rattle.volume_plans.specs.Plans.{Plans}
 use Rattle.volume_spec.specs.Edit.{Edit, after_call}
-use Rattle.volume_spec.specs.Shared.{Opened}
 use Rattle.volume_spec.specs.VolumeCalls.{VolumeCall, call_edits, volume_refusal}
 use Rattle.volume_spec.specs.VolumeState.{VolumeState}
 use Rattle.volume_tree.specs.Answered.{Refuses}

@@ -1,46 +1,32 @@
 -- Rows of calls that tell something of a volume that the session has open.
-use Rattle.std.proofs.Common.{◌≡◌, ◌∙◌, ap, sym, refl, subst, ℕ, true, false, List, [], ◌++◌, Option, Some, None}
-use Rattle.std.specs.Prelude.{IfOk, OnOk, Result, Ok as with_ok, Err, option_map, slice_get, slice_set}
+use Rattle.std.proofs.Common.{◌≡◌, ◌∙◌, ap, sym, refl, subst, ℕ, false, List, [], ◌++◌, Option, Some, None}
+use Rattle.std.specs.Prelude.{OnOk, Result, Ok as with_ok, Err, option_map, slice_get}
 use Rattle.afp_base.specs.Choice.{first_holding}
 use Rattle.afp_base.specs.declared.bytes.OutOfMemory.{OutOfMemory}
 use Rattle.afp_base.specs.declared.code.Code.{Code}
-use Rattle.afp_base.specs.declared.code.Code.TheVariants.{Ok, MiscErr, ParamErr}
+use Rattle.afp_base.specs.declared.code.Code.TheVariants.{Ok, ParamErr}
 use Rattle.afp_replies.specs.Replies.{canonical_reply}
 use Rattle.afp_replies.specs.declared.reply.Reply.{Reply as AfpReply}
-use Rattle.afp_replies.specs.declared.reply.Reply.TheVariants.{Empty, Node}
 use Rattle.afp_calls_grammar.specs.declared.call.Call.{Call}
-use Rattle.afp_calls_grammar.specs.declared.call.Call.TheVariants.{CloseDir, Flush}
-use Rattle.afp_base.specs.declared.ids.NodeId.{NodeId}
-use Rattle.afp_base.specs.declared.ids.VolumeId.{VolumeId}
 use Rattle.afp_serial.specs.Answer.{refusal_reply}
-use Rattle.afp_serial.specs.World.{Effect, CallRow, plain, has_opened, World, Session}
-use Rattle.afp_serial.specs.OnVolume.{done_on, opened_on, with_volume_state}
-use Rattle.afp_serial.specs.Rows.{committed, effect, refusal, row}
+use Rattle.afp_serial.specs.World.{Effect, CallRow, plain, World, Session}
+use Rattle.afp_serial.specs.OnVolume.{done_on}
+use Rattle.afp_serial.specs.Rows.{effect, refusal}
 use Rattle.afp_serial.specs.declared.ask.Outcome.{Outcome}
-use Rattle.afp_serial.specs.declared.ask.Outcome.TheVariants as outcome
 use Rattle.afp_serial.specs.declared.ask.Told.{Told}
 use Rattle.afp_serial.specs.declared.ask.Told.TheVariants.{Reply}
-use Rattle.volume_spec.specs.TreeSteps.{TreeCall, tree_effect, tree_refusal}
 use Rattle.volume_spec.specs.VolumeState.{VolumeState}
 use Rattle.afp_core_state.specs.RowKinds.{TellsOf}
-use Rattle.afp_core_state.specs.KeeperSettles.{SettlesRow}
-use Rattle.afp_core_state.specs.OnVolumes.{BecomesKept, IsOpen, IsOpenAt, with_kept}
-use Rattle.afp_core_state.specs.Replies.{Tells, TellsChanged, TellsSettled}
+use Rattle.afp_core_state.specs.OnVolumes.{IsOpen, IsOpenAt}
+use Rattle.afp_core_state.specs.Replies.{Tells}
 use Rattle.afp_core_state.specs.KeptWorld.{KeptWorld}
 use Rattle.session_table.specs.Sessions.{session_of}
 use Rattle.afp_core_state.specs.Running.{done, RunsRow}
-use Rattle.afp_core_state.proofs.RowLemmas.{IsRowOf, has_effect, is_refused}
-use Rattle.afp_core_state.proofs.SettleLemmas.{fails-alone, names-keeper, refused-settles, settled-apart, settled-one, settles-row, wanting-stays}
-use Rattle.volume_keeper_commit.specs.Changing.{Changes, Settles}
-use Rattle.volume_keeper_commit.specs.declared.change.ChangeFault.{ChangeFault}
-use Rattle.volume_keeper_commit.specs.declared.change.ChangeFault.TheVariants as change
-use Rattle.record_keeper.specs.Settling.{settled_in}
-use Rattle.record_keeper.specs.declared.keeper.KeeperFault.{KeeperFault}
-use Rattle.record_keeper.specs.declared.keeper.KeeperFault.TheVariants as keeper
+use Rattle.afp_core_state.proofs.RowLemmas.{has_effect, is_refused}
 use Rattle.volume_tree.specs.Answered.{Refuses}
 use Rattle.volume_tree.specs.declared.resolve.PlanFault.{PlanFault}
 use Rattle.volume_tree.specs.declared.resolve.PlanFault.TheVariants as fault
-use Rattle.afp_core_state.proofs.OnVolumeLemmas.{found-at, keeper-at, keeper-fails, kept-stays, refused-on, state-at, state-changes, told-effect}
+use Rattle.afp_core_state.proofs.OnVolumeLemmas.{found-at, refused-on, told-effect}
 
 -- a call that tells something of a volume
 module _ (k : KeptWorld) (number : ℕ) (call : Call) (volume : ℕ) (refuses : World → VolumeState → Option Code) (reply : World → VolumeState → AfpReply) (tells : TellsOf call volume refuses reply) where

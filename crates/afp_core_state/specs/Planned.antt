@@ -1,5 +1,5 @@
 -- A call that was planned of a volume comes to its end: its plan is committed to the volume's keeper and carried out, or it was refused (this profile).
-use Rattle.std.specs.Prelude.{◌≡◌, ◌==◌, ℕ, true, false, List, [], length, Result, Ok, Err, Some, slice_get}
+use Rattle.std.specs.Prelude.{◌≡◌, ◌==◌, ℕ, true, false, List, length, Result, Ok, Err, Some, slice_get}
 use Rattle.std.specs.List.{list_all}
 use Rattle.afp_base.specs.declared.bytes.OutOfMemory.{OutOfMemory}
 use Rattle.afp_base.specs.declared.code.Code.TheVariants as code

@@ -32,7 +32,7 @@ use Rattle.volume_spec.specs.GetVolParms.{get_vol_parms_refusal, volume_values}
 use Rattle.volume_spec.specs.OpenDir.{open_dir_id, open_dir_refusal}
 use Rattle.volume_spec.specs.TreeSteps as tree
 use Rattle.afp_core_volumes.specs.VolumeRows.{ChangesAlone, ChangesTree}
-use Rattle.afp_core_volumes.specs.lemma.VolumeRows.{TellsOf}
+use Rattle.afp_core_state.specs.RowKinds.{TellsOf}
 use Rattle.afp_base.proofs.Facts.{right_false, some-none}
 
 pub get_vol_parms-tells : (volume : VolumeId) (bits : ℕ) → TellsOf (call.GetVolParms volume bits) volume.0 (λ w v. get_vol_parms_refusal bits) (λ w v. Params bits (Volume (volume_values v volume.0 bits)))

@@ -1,6 +1,6 @@
 -- Rows of calls on a volume that the session has open.
-use Rattle.std.proofs.Common.{◌≡◌, ◌∙◌, ap, sym, refl, subst, ℕ, true, false, List, [], ◌++◌, Option, Some, None}
-use Rattle.std.specs.Prelude.{IfOk, OnOk, Result, Ok as with_ok, Err, option_map, slice_get, slice_set}
+use Rattle.std.proofs.Common.{◌≡◌, ◌∙◌, ap, sym, refl, subst, ℕ, true, false, List, [], Option, Some, None}
+use Rattle.std.specs.Prelude.{IfOk, Result, Ok as with_ok, Err, option_map, slice_get, slice_set}
 use Rattle.afp_base.specs.Choice.{first_holding}
 use Rattle.afp_base.specs.declared.bytes.OutOfMemory.{OutOfMemory}
 use Rattle.afp_base.specs.declared.code.Code.{Code}
@@ -22,11 +22,13 @@ use Rattle.afp_serial.specs.declared.ask.Told.{Told}
 use Rattle.afp_serial.specs.declared.ask.Told.TheVariants.{Reply}
 use Rattle.volume_spec.specs.TreeSteps.{TreeCall, tree_effect, tree_refusal}
 use Rattle.volume_spec.specs.VolumeState.{VolumeState}
-use Rattle.afp_core_volumes.specs.lemma.VolumeRows.{AreToldOf, TellsNode, TellsOf}
+use Rattle.afp_core_state.proofs.TellRows.{tells-done, tells-refused}
+use Rattle.afp_core_state.specs.RowKinds.{TellsOf}
+use Rattle.afp_core_volumes.specs.lemma.VolumeRows.{AreToldOf, TellsNode}
 use Rattle.afp_core_volumes.specs.VolumeRows.{ChangesTree}
 use Rattle.afp_core_state.specs.KeeperSettles.{SettlesRow}
 use Rattle.afp_core_state.specs.OnVolumes.{BecomesKept, IsOpen, IsOpenAt, with_kept}
-use Rattle.afp_core_state.specs.Replies.{Tells, TellsChanged, TellsSettled}
+use Rattle.afp_core_state.specs.Replies.{TellsChanged, TellsSettled}
 use Rattle.afp_core_state.specs.KeptWorld.{KeptWorld}
 use Rattle.session_table.specs.Sessions.{session_of}
 use Rattle.afp_core_state.specs.Running.{done, RunsRow}
@@ -43,55 +45,16 @@ use Rattle.volume_tree.specs.declared.resolve.PlanFault.{PlanFault}
 use Rattle.volume_tree.specs.declared.resolve.PlanFault.TheVariants as fault
 use Rattle.afp_core_state.proofs.OnVolumeLemmas.{found-at, keeper-at, keeper-fails, kept-stays, refused-on, state-at, state-changes, told-effect}
 
--- a call that tells something of a volume
+-- a call that tells of a node that is found
 module _ (k : KeptWorld) (number : ℕ) (call : Call) (volume : ℕ) (refuses : World → VolumeState → Option Code) (reply : World → VolumeState → AfpReply) (tells : TellsOf call volume refuses reply) where
-  pub tells-unopened : (told : Told) → IsOpen k number volume None → told ≡ refusal_reply ParamErr → RunsRow k number call (with_ok (done told)) k
-  tells-unopened told stands is = λ s at.
-      is_refused k k s call ParamErr told (ap (λ (r : CallRow). first_holding (r.refusals k.world s)) tells.row_is ∙ stands s at (refuses k.world)) is refl
-
-  tells-refuses : (index : ℕ) (v : VolumeState) → IsOpenAt k number volume index → slice_get k.world.volumes index ≡ Some v → (s : Session) → session_of k.world.sessions number ≡ Some s
-      → refusal k.world s call ≡ option_map plain (refuses k.world v)
-  tells-refuses index v stands there s at =
-      ap (λ (r : CallRow). first_holding (r.refusals k.world s)) tells.row_is
-      ∙ refused-on k.world s volume v (refuses k.world) (stands.opened s at) (found-at k number volume index v stands there)
-
-  tells-refused : (index : ℕ) (v : VolumeState) (code : Code) (told : Told) → IsOpenAt k number volume index → slice_get k.world.volumes index ≡ Some v → refuses k.world v ≡ Some code
-      → told ≡ refusal_reply code → RunsRow k number call (with_ok (done told)) k
-  tells-refused index v code told stands there refused is = λ s at.
-      is_refused k k s call code told (tells-refuses index v stands there s at ∙ ap (option_map plain) refused) is refl
-
-  tells-done : (index : ℕ) (v : VolumeState) (block : List ℕ) (told : Told) → IsOpenAt k number volume index → slice_get k.world.volumes index ≡ Some v → refuses k.world v ≡ None
-      → block ≡ canonical_reply (reply k.world v) → told ≡ Reply Ok block false → RunsRow k number call (with_ok (done told)) k
-  tells-done index v block told stands there passes bytes is = λ s at.
-      let of : Effect = record { world = k.world; reply = reply k.world v } in
-      let does : effect k.world s call ≡ of =
-      ap (λ (r : CallRow). r.effect k.world s) tells.row_is
-      ∙ ap (λ (o : Option VolumeState). done_on o k.world (λ x. record { world = k.world; reply = reply k.world x })) (found-at k number volume index v stands there) in
-      has_effect k k s call told k.world (tells-refuses index v stands there s at ∙ ap (option_map plain) passes)
-      (is ∙ told-effect call (effect k.world s call) of block does tells.goes_on bytes) refl (ap (λ (e : Effect). e.world) (sym does))
-
-  pub tells-runs : (index : ℕ) (v : VolumeState) (code : Option Code) (shown : AfpReply) (answer : Result (Unit {0}) PlanFault) (before block : List ℕ) (result : Result (Told × Outcome) OutOfMemory)
-      → IsOpenAt k number volume index → slice_get k.world.volumes index ≡ Some v → refuses k.world v ≡ code → reply k.world v ≡ shown → Refuses answer code
-      → before ≡ [] → OnOk answer (block ≡ before ++ canonical_reply shown) → Tells answer block result → RunsRow k number call result k
-  tells-runs index v code shown (with_ok read) before block (with_ok r) stands there refuse show refused none bytes told =
-      subst (λ (x : Told × Outcome). RunsRow k number call (with_ok x) k) (sym told)
-      (tells-done index v block (Reply Ok block false) stands there (refuse ∙ refused) (bytes ∙ ap (λ (l : List ℕ). l ++ canonical_reply shown) none ∙ ap canonical_reply (sym show)) refl)
-  tells-runs index v code shown (with_ok read) before block (Err e) stands there refuse show refused none bytes told = absurd told
-  tells-runs index v code shown (Err (fault.Code c)) before block (with_ok r) stands there refuse show refused none bytes told =
-      subst (λ (x : Told × Outcome). RunsRow k number call (with_ok x) k) (sym told) (tells-refused index v c (refusal_reply c) stands there (refuse ∙ refused) refl)
-  tells-runs index v code shown (Err (fault.Code c)) before block (Err e) stands there refuse show refused none bytes told = absurd told
-  tells-runs index v code shown (Err fault.Memory) before block (with_ok r) stands there refuse show refused none bytes told = absurd told
-  tells-runs index v code shown (Err fault.Memory) before block (Err e) stands there refuse show refused none bytes told = refl
-
-  -- the same of a node that was found
   pub tells-node : (index : ℕ) (v : VolumeState) (answer : Result NodeId PlanFault) (result : Result (Told × Outcome) OutOfMemory) → IsOpenAt k number volume index
       → slice_get k.world.volumes index ≡ Some v → Refuses answer (refuses k.world v) → IfOk answer (λ id. reply k.world v ≡ Node id) → TellsNode answer result → RunsRow k number call result k
   tells-node index v (with_ok id) (with_ok r) stands there refused shown told =
       subst (λ (x : Told × Outcome). RunsRow k number call (with_ok x) k) (sym told)
-      (tells-done index v (canonical_reply (Node id)) (Reply Ok (canonical_reply (Node id)) false) stands there refused (ap canonical_reply (sym shown)) refl)
+      (tells-done k number call volume refuses reply tells index v (canonical_reply (Node id)) (Reply Ok (canonical_reply (Node id)) false) stands there refused (ap canonical_reply (sym shown)) refl)
   tells-node index v (with_ok id) (Err e) stands there refused shown told = refl
   tells-node index v (Err (fault.Code c)) (with_ok r) stands there refused shown told =
-      subst (λ (x : Told × Outcome). RunsRow k number call (with_ok x) k) (sym told) (tells-refused index v c (refusal_reply c) stands there refused refl)
+      subst (λ (x : Told × Outcome). RunsRow k number call (with_ok x) k) (sym told) (tells-refused k number call volume refuses reply tells index v c (refusal_reply c) stands there refused refl)
   tells-node index v (Err (fault.Code c)) (Err e) stands there refused shown told = absurd told
   tells-node index v (Err fault.Memory) (with_ok r) stands there refused shown told = absurd told
   tells-node index v (Err fault.Memory) (Err e) stands there refused shown told = refl

@@ -1,5 +1,5 @@
 -- What the code and the proofs go by beside VolumeRows; no public contract cites it.
-use Rattle.std.specs.Prelude.{◌≡◌, ℕ, false, List, Option, Some, None, Result, Ok, Err}
+use Rattle.std.specs.Prelude.{◌≡◌, ℕ, false, List, Some, None, Result, Ok, Err}
 use Rattle.afp_base.specs.declared.bytes.OutOfMemory.{OutOfMemory}
 use Rattle.afp_base.specs.declared.code.Code.{Code}
 use Rattle.afp_base.specs.declared.code.Code.TheVariants as code
@@ -7,14 +7,12 @@ use Rattle.afp_replies.specs.Replies.{canonical_reply}
 use Rattle.afp_replies.specs.declared.reply.Reply.{Reply as AfpReply}
 use Rattle.afp_replies.specs.declared.reply.Reply.TheVariants.{Node}
 use Rattle.afp_base.specs.declared.ids.NodeId.{NodeId}
-use Rattle.afp_calls_grammar.specs.declared.call.Call.{Call}
 use Rattle.afp_core_state.specs.KeptWorld.{KeptWorld}
 use Rattle.afp_core_state.specs.Running.{done}
 use Rattle.afp_serial.specs.Answer.{refusal_reply}
 use Rattle.afp_serial.specs.World.{volume_at, World}
-use Rattle.afp_serial.specs.OnVolume.{opened_on, tells_of}
+use Rattle.afp_serial.specs.OnVolume.{opened_on}
 use Rattle.afp_serial.specs.OpenVol.{volume_named}
-use Rattle.afp_serial.specs.Rows.{ends_session, row}
 use Rattle.afp_serial.specs.declared.ask.Outcome.{Outcome}
 use Rattle.afp_serial.specs.declared.ask.Told.{Told}
 use Rattle.afp_serial.specs.declared.ask.Told.TheVariants.{Reply}
@@ -31,11 +29,6 @@ TellsNode (Err (fault.Code code)) (Ok r) = r ≡ done (refusal_reply code)
 TellsNode (Err (fault.Code code)) (Err e) = ⊥
 TellsNode (Err fault.Memory) (Ok r) = ⊥
 TellsNode (Err fault.Memory) (Err e) = Unit {0}
-
--- the call's row tells something of this volume, and its session goes on
-pub record TellsOf (call : Call) (volume : ℕ) (refuses : World → VolumeState → Option Code) (reply : World → VolumeState → AfpReply) : Type 0 where
-  pub row_is : row call ≡ tells_of volume refuses reply
-  pub goes_on : ends_session call ≡ false
 
 -- the bytes are the reply to the change, where it is not refused
 abbrev pub AreToldOf : KeptWorld → ℕ → TreeCall → (VolumeState → AfpReply) → List ℕ → Type 0

@@ -1,10 +1,9 @@
-use Rattle.std.proofs.Common.{◌∙◌, ap, ℕ}
+use Rattle.std.proofs.Common.{◌∙◌, ap}
 use Rattle.afp_serial.specs.CopyFile.{CopyAsked, is_held}
 use Rattle.afp_core_state.specs.KeptWorld.{KeptWorld}
 use Rattle.afp_core_state.specs.lemma.KeptWorld.{forks_in}
 use Rattle.afp_core_state.proofs.ForkLemmas.{has-forks}
 use Rattle.volume_spec.specs.CopyFile.{Source}
-use Rattle.afp_core_files.specs.lemma.Copying.{source_is}
 use Rattle.afp_core_files.proofs.CopyLemmas.{no-target, source-fault, target-plans, target-refuses}
 use Rattle.afp_core_files.proofs.copy_file.plan_copy.Goals as goal
 

@@ -1,6 +1,6 @@
 use Rattle.std.proofs.Common.{◌∙◌, ap}
 use Rattle.afp_core_state.specs.Forks.{Forks}
-use Rattle.afp_core_state.specs.KeptWorld.{KeptWorld, kept_world, volumes_of, with_token_key, world_of}
+use Rattle.afp_core_state.specs.KeptWorld.{kept_world, volumes_of, with_token_key, world_of}
 use Rattle.afp_core_state.specs.lemma.KeptWorld.{with_forks}
 use Rattle.afp_core_files.specs.lemma.Exchanging.{with_exchanged}
 use Rattle.afp_core_files.proofs.exchange_files.exchange_forks.Goals as goal

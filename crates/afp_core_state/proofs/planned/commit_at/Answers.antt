@@ -1,4 +1,4 @@
-use Rattle.std.proofs.Common.{◌<◌, ap, subst, length, arith, get_or, List, [], refl}
+use Rattle.std.proofs.Common.{◌<◌, ap, subst, length, arith, List, [], refl}
 use Rattle.std.proofs.lemmas.List.{length-map}
 use Rattle.volume_keeper_commit.specs.Kept.{KeptState}
 use Rattle.afp_core_state.specs.KeptWorld.{KeptWorld, with_token_key, world_of}

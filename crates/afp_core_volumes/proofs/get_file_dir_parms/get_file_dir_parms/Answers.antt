@@ -7,7 +7,7 @@ use Rattle.afp_core_state.specs.KeptWorld.{KeptWorld}
 use Rattle.afp_core_state.specs.lemma.KeptWorld.{forks_in}
 use Rattle.afp_core_volumes.proofs.CallRows.{get_file_dir_parms-tells}
 use Rattle.afp_core_state.proofs.ForkLemmas.{has-forks}
-use Rattle.afp_core_volumes.proofs.OnVolumeRows.{tells-runs, tells-unopened}
+use Rattle.afp_core_state.proofs.TellRows.{tells-runs, tells-unopened}
 use Rattle.afp_core_volumes.proofs.get_file_dir_parms.get_file_dir_parms.Goals as goal
 
 pub returns-in_default : goal.returns-in_default

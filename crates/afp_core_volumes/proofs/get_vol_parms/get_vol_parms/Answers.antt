@@ -1,7 +1,7 @@
 use Rattle.std.proofs.Common.{refl, subst}
 use Rattle.afp_core_state.specs.OnVolumes.{IsOpen}
 use Rattle.afp_core_volumes.proofs.CallRows.{get_vol_parms-tells}
-use Rattle.afp_core_volumes.proofs.OnVolumeRows.{tells-runs, tells-unopened}
+use Rattle.afp_core_state.proofs.TellRows.{tells-runs, tells-unopened}
 use Rattle.afp_core_volumes.proofs.get_vol_parms.get_vol_parms.Goals as goal
 
 pub returns-in_default : goal.returns-in_default

@@ -1,7 +1,8 @@
 use Rattle.std.proofs.Common.{subst}
 use Rattle.afp_core_state.specs.OnVolumes.{IsOpen}
 use Rattle.afp_core_volumes.proofs.CallRows.{open_dir-shown, open_dir-tells}
-use Rattle.afp_core_volumes.proofs.OnVolumeRows.{tells-node, tells-unopened}
+use Rattle.afp_core_state.proofs.TellRows.{tells-unopened}
+use Rattle.afp_core_volumes.proofs.OnVolumeRows.{tells-node}
 use Rattle.afp_core_volumes.proofs.open_dir.open_dir.Goals as goal
 
 pub returns-in_default : goal.returns-in_default
