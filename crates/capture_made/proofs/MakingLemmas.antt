@@ -1,0 +1,122 @@
+-- What was written of a made capture, and what waits.
+use Rattle.std.proofs.Common.{◌≡◌, ℕ, ◌+◌, ◌-◌, Bool, true, false, List, [], ◌∷◌, ◌++◌, suc, length, take, drop, refl, sym, ap, ◌∙◌, subst, append_assoc, arith}
+use Rattle.std.specs.Prelude.{Option, option_map}
+use Rattle.afp_base.proofs.Facts.{added-added, nothing-added}
+use Rattle.afp_base.proofs.ListFacts.{cut_at}
+use Rattle.afp_base.specs.Counts.{CountsOn}
+use Rattle.afp_outside.specs.Sink.{SinkState, SinkTakes, SinkFails}
+use Rattle.capture_log.specs.Taking.{HeldCapture, IsCapture}
+use Rattle.capture_log_server.specs.CaptureState.{CaptureState, TakesGoodLine}
+use Rattle.capture_made_lines.specs.Lines.{ended_lines, house_lines, end_line}
+use Rattle.capture_made_requests.specs.Requests.{StepState, first_state, request_of}
+use Rattle.capture_made.specs.Made.{IsMade}
+use Rattle.capture_made.specs.Making.{MakesBy, Writes, WritesMade, WritesPart, WritesSome}
+use Rattle.capture_made.specs.declared.making.MakeEnd.{MakeEnd}
+use Rattle.capture_made.specs.declared.making.MakeEnd.TheVariants as ends
+use Rattle.capture_made.specs.lemma.Adding.{Exchanged, FinishesBy, HasMade, HasRun, HasWritten, StepsBy, WritesFront, after_steps}
+use Rattle.capture_made.proofs.AddingLemmas.{ended-append, made, run-more}
+
+-- writes, one after the other
+
+pub writes-none : (s : SinkState) → Writes s [] s
+writes-none s = record { written = nothing-added s.written; faults = refl }
+
+pub writes-join : (a b c : SinkState) (x y : List ℕ) → Writes a x b → Writes b y c → Writes a (x ++ y) c
+writes-join a b c x y r s = record {
+  written = s.written ∙ ap (λ (o : Option (List ℕ)). option_map (λ before. before ++ y) o) r.written ∙ added-added a.written x y;
+  faults = s.faults ∙ r.faults;
+}
+
+pub part-behind : (a b c : SinkState) (x : List ℕ) → Writes a x b → WritesPart b c → WritesPart a c
+part-behind a b c x r s = record {
+  part = x ++ s.part;
+  written = s.written ∙ ap (λ (o : Option (List ℕ)). option_map (λ before. before ++ s.part) o) r.written ∙ added-added a.written x s.part;
+  fault = subst (λ (n : ℕ). CountsOn 1 n c.faults) r.faults s.fault;
+}
+
+pub writes-more : (a b c : SinkState) (text sent left : List ℕ) (n : ℕ) → text ≡ sent ++ left → Writes a sent b → SinkTakes b left n c
+    → (x : List ℕ) × (text ≡ x ++ take (length left - n) (drop n left)) × Writes a x c
+writes-more a b c text sent left n split so_far w = (
+  sent ++ take n left,
+  split ∙ ap (λ (rest : List ℕ). sent ++ rest) (cut_at left n w.most) ∙ sym (append_assoc sent (take n left) (take (length left - n) (drop n left))),
+  record {
+    written = w.written ∙ ap (λ o. option_map (λ before. before ++ take n left) o) so_far.written ∙ added-added a.written sent (take n left);
+    faults = w.faults ∙ so_far.faults;
+  },
+)
+
+pub writes-failed : (a b c : SinkState) (sent : List ℕ) → Writes a sent b → SinkFails b c → WritesPart a c
+writes-failed a b c sent r f = record { part = sent; written = f.written ∙ r.written; fault = subst (λ (n : ℕ). CountsOn 1 n c.faults) r.faults f.faults }
+
+-- a step, and the text that is written behind it
+
+pub written-more : (number count : ℕ) (start sink : SinkState) (capture new : HeldCapture) (held held_then : List ℕ) → (h : HasWritten number count start capture held sink)
+    → ((s : CaptureState) → IsCapture capture s → Exchanged s (request_of (after_steps (first_state number) count) ∷ []) held new held_then) → HasWritten number (suc count) start new held_then sink
+written-more number count start sink capture new held held_then h exchanged =
+    let x = exchanged h.made.runs.now h.made.runs.is in
+    let all : h.part ++ held_then ≡ (h.part ++ held) ++ ended_lines x.lines = ap (λ (t : List ℕ). h.part ++ t) x.text_is ∙ sym (append_assoc h.part held (ended_lines x.lines)) in
+    record {
+      part = h.part;
+      writes = h.writes;
+      made = record {
+        lines = h.made.lines ++ x.lines;
+        runs = run-more number count capture new h.made.lines held held_then h.made.runs x;
+        text_is =
+            all ∙ ap (λ (t : List ℕ). t ++ ended_lines x.lines) h.made.text_is ∙ sym (ended-append (house_lines ++ h.made.lines) x.lines)
+            ∙ ap (λ (ls : List (List ℕ)). ended_lines ls) (append_assoc house_lines h.made.lines x.lines);
+      };
+    }
+
+pub written-front : (number count : ℕ) (start sink sink_then : SinkState) (capture : HeldCapture) (held left : List ℕ) → HasWritten number count start capture held sink
+    → WritesFront sink held left true sink_then → HasWritten number count start capture left sink_then
+written-front number count start sink sink_then capture held left h (p, e, w) = record {
+  part = h.part ++ p;
+  writes = writes-join start sink sink_then h.part p h.writes w;
+  made = record {
+    lines = h.made.lines;
+    runs = h.made.runs;
+    text_is = append_assoc h.part p left ∙ ap (λ (t : List ℕ). h.part ++ t) (sym e) ∙ h.made.text_is;
+  };
+}
+
+pub written-none : (number : ℕ) (start : SinkState) (capture : HeldCapture) (text : List ℕ) → HasMade number 0 capture text → HasWritten number 0 start capture text start
+written-none number start capture text h = record { part = []; writes = writes-none start; made = h }
+
+-- the end
+
+pub finished : (number steps : ℕ) (start sink sink_then : SinkState) (capture : HeldCapture) (held : List ℕ) (end : MakeEnd) → HasWritten number steps start capture held sink
+    → FinishesBy capture held sink end sink_then → MakesBy number steps end start sink_then
+finished number steps start sink sink_then capture held ends.Done h f =
+    let t = f h.made.runs.now h.made.runs.is in
+    let all : h.part ++ (held ++ ended_lines (end_line ∷ [])) ≡ ended_lines (house_lines ++ (h.made.lines ++ end_line ∷ [])) =
+    sym (append_assoc h.part held (ended_lines (end_line ∷ []))) ∙ ap (λ (x : List ℕ). x ++ ended_lines (end_line ∷ [])) h.made.text_is
+    ∙ sym (ended-append (house_lines ++ h.made.lines) (end_line ∷ [])) ∙ ap (λ (ls : List (List ℕ)). ended_lines ls) (append_assoc house_lines h.made.lines (end_line ∷ [])) in
+    record {
+      lines = house_lines ++ (h.made.lines ++ end_line ∷ []);
+      standing = t.0;
+      made = made number steps h.made.runs.opened h.made.runs.now t.0 h.made.lines h.made.runs.house h.made.runs.exchanges t.1;
+      writes = subst (λ (x : List ℕ). Writes start x sink_then) all (writes-join start sink sink_then h.part (held ++ ended_lines (end_line ∷ [])) h.writes t.2);
+    }
+finished number steps start sink sink_then capture held ends.WriteFault h f = part-behind start sink sink_then h.part h.writes f
+finished number steps start sink sink_then capture held ends.Memory h f = record { part = h.part ++ f.part; writes = writes-join start sink sink_then h.part f.part h.writes f.writes }
+
+-- a step that is written
+
+pub written-on : (number i : ℕ) (start sink sink_then : SinkState) (capture new : HeldCapture) (steps steps_then : StepState) (held held_then : List ℕ) → HasWritten number i start capture held sink
+    → steps ≡ after_steps (first_state number) i → StepsBy steps capture held sink ends.Done steps_then new held_then sink_then → HasWritten number (i + 1) start new held_then sink_then
+written-on number i start sink sink_then capture new steps steps_then held held_then h e by =
+    let same : suc i ≡ i + 1 = omega arith in
+    subst (λ (n : ℕ). HasWritten number n start new held_then sink_then) same
+    (written-front number (suc i) start sink sink_then new by.middle held_then
+    (written-more number i start sink capture new held by.middle h
+    (λ s is. subst (λ (st : StepState). Exchanged s (request_of st ∷ []) held new by.middle) e (by.exchanged s is)))
+    by.front)
+
+pub written-all : (number i count : ℕ) (start sink : SinkState) (capture : HeldCapture) (held : List ℕ) → i ≡ count → HasWritten number i start capture held sink → HasWritten number count start capture held sink
+written-all number i count start sink capture held e h = subst (λ (n : ℕ). HasWritten number n start capture held sink) e h
+
+pub some-written : (number i : ℕ) (start sink sink_then : SinkState) (capture : HeldCapture) (held : List ℕ) → HasWritten number i start capture held sink → sink_then ≡ sink → WritesSome start sink_then
+some-written number i start sink sink_then capture held h e = subst (λ (s : SinkState). WritesSome start s) (sym e) (record { part = h.part; writes = h.writes })
+
+pub part-written : (number i : ℕ) (start sink sink_then : SinkState) (capture : HeldCapture) (held : List ℕ) → HasWritten number i start capture held sink → WritesPart sink sink_then → WritesPart start sink_then
+part-written number i start sink sink_then capture held h p = part-behind start sink sink_then h.part h.writes p
