@@ -18,7 +18,7 @@ use Rattle.volume_spec.specs.SetFileDirParms.{Settings, with_settings}
 use Rattle.volume_spec.specs.Shared.{directory_of}
 use Rattle.volume_spec.specs.SoundVolume.{IsSoundVolume, fork_bytes, has_node, is_in_place, row_bytes}
 use Rattle.volume_spec.specs.VolumeState.{Row, VolumeState, first_id, root_id}
-use Rattle.volume_tree.proofs.Applied.{all-changed, all-gone, blank-gone, blank-gone-resource, bytes-changed, bytes-gone, gone-drawn, none-gone, shown-changed, shown-left, with-same}
+use Rattle.volume_tree.proofs.KeptEdits.{all-changed, all-gone, blank-gone, blank-gone-resource, bytes-changed, bytes-gone, gone-drawn, none-gone, shown-changed, shown-left, with-same}
 use Rattle.volume_spec.specs.Walk.{parent_at, row_at}
 use Rattle.volume_tree.proofs.Placing.{renamed-is}
 use Rattle.volume_tree.proofs.Showing.{any-shown, ids-differ}

@@ -21,7 +21,7 @@ use Rattle.volume_spec.specs.OpenFork.{file_of}
 use Rattle.volume_spec.specs.SoundVolume.{IsSoundVolume, fork_bytes, has_node, row_bytes}
 use Rattle.volume_spec.specs.VolumeState.{Row, VolumeState}
 use Rattle.volume_spec.specs.Walk.{row_at}
-use Rattle.volume_tree.proofs.Applied.{all-changed, gone-drawn, with-same}
+use Rattle.volume_tree.proofs.KeptEdits.{all-changed, gone-drawn, with-same}
 use Rattle.volume_tree.proofs.Edited.{row-node, spare-still}
 use Rattle.volume_tree.proofs.FileForks.{found-id, found-kept}
 use Rattle.volume_tree.proofs.Showing.{found-shown, ids-differ, missing-shown}

@@ -1,13 +1,13 @@
 -- Another modified date of a row that was found.
 use Rattle.std.proofs.Common.{◌==◌, ◌≡◌, ◌∙◌, ap, refl, ℕ, true, List, [], ◌∷◌, map, Some, None}
-use Rattle.std.specs.Prelude.{ℤ, Bool, pos}
+use Rattle.std.specs.Prelude.{ℤ, Bool}
 use Rattle.std.specs.List.{find}
 use Rattle.std.proofs.lemmas.Bool.{cond_both, cond-false}
 use Rattle.node_rows.specs.Kept.{marked}
 use Rattle.node_rows.specs.declared.node.Marks.{Marks}
 use Rattle.volume_spec.proofs.Orders.{rising-ids-differ}
 use Rattle.volume_spec.proofs.SoundEdits.{changed-same}
-use Rattle.volume_spec.specs.Edits.{with_changed, change_at, filed_as, modified_at}
+use Rattle.volume_spec.specs.Edits.{with_changed, change_at, filed_as}
 use Rattle.volume_spec.specs.SetFileDirParms.{Settings, with_settings}
 use Rattle.volume_spec.specs.SoundVolume.{has_rising_ids}
 use Rattle.volume_spec.specs.VolumeState.{Row}
@@ -30,10 +30,6 @@ changed-missing (row ∷ rows) id change found =
 pub marked-same : (rows : List Row) (id : ℕ) (marks : Marks) (change : Row → Row) (s : Row) → has_rising_ids rows ≡ true → row_at rows id ≡ Some s → marked marks s ≡ change s → with_changed id (marked marks) rows ≡ with_changed id change rows
 unfolding row_at with_changed
 marked-same rows id marks change s rising found same = changed-same rows id (marked marks) change s (rising-ids-differ rows rising) found same
-
-pub modified-same : (rows : List Row) (id now : ℕ) (marks new : Marks) → has_rising_ids rows ≡ true → IsMarks (Some marks) (row_at rows id) → new ≡ record marks { modified = pos now } → with_changed id (marked new) rows ≡ with_changed id (modified_at now) rows
-modified-same rows id now marks new rising found is =
-    marked-same rows id new (modified_at now) found.0 rising found.1 (ap (λ (m : Marks). marked m found.0) (is ∙ ap (λ (m : Marks). let n : Marks = record m { modified = pos now } in n) found.2))
 
 pub filed-same : (rows : List Row) (id : ℕ) (filed : Bool) (marks new : Marks) → has_rising_ids rows ≡ true → IsMarks (Some marks) (row_at rows id) → new ≡ record marks { filed = filed } → with_changed id (marked new) rows ≡ with_changed id (filed_as filed) rows
 filed-same rows id filed marks new rising found is =

@@ -26,9 +26,11 @@ use Rattle.volume_tree.specs.declared.head.Dates.{Dates}
 use Rattle.volume_tree.specs.declared.head.VolumeHead.{VolumeHead}
 use Rattle.volume_tree.specs.declared.forks.FileForks.{FileForks}
 use Rattle.volume_tree.specs.declared.restore.LoadedNode.{LoadedNode}
-use Rattle.volume_tree.proofs.Touching.{other-way}
-use Rattle.afp_base.proofs.Facts.{never, or-true}
+use Rattle.afp_base.proofs.Facts.{never, never_both, or-true}
 use Rattle.afp_base.proofs.ListFacts.{any-at, apart-map, find-none, none-all}
+
+other-way : (a b : ℕ) → (a == b) ≡ false → (b == a) ≡ false
+other-way a b h = cond_both (b == a) true false (λ t. (b == a) ≡ false) (λ is. absurd (never_both (a == b) (eq-eqb a b (sym (eqb-true b a is))) h)) (λ other. other)
 
 -- one more node
 

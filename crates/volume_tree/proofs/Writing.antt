@@ -15,13 +15,13 @@ use Rattle.afp_base.specs.Limits.{most_fork_bytes}
 use Rattle.volume_spec.specs.SoundVolume.{IsSoundVolume, has_node, fork_bytes}
 use Rattle.volume_spec.specs.VolumeState.{Row}
 use Rattle.volume_spec.specs.Walk.{row_at}
-use Rattle.volume_tree.proofs.Applied.{gone-drawn, all-modified}
+use Rattle.volume_tree.proofs.KeptEdits.{gone-drawn, all-modified}
 use Rattle.volume_tree.proofs.FileForks.{found-id, found-kept}
 use Rattle.volume_tree.proofs.Showing.{found-shown, missing-shown}
 use Rattle.volume_tree.specs.lemma.ForkEffect.{IsChanged, kept_fork}
 use Rattle.volume_tree.specs.Kept.{Forks, data_of, resource_of, with_forks, rows_of, state_of}
 use Rattle.volume_tree.specs.lemma.Kept.{IsKeptVolume, has_forks}
-use Rattle.volume_tree.specs.Planned.{modified_rows}
+use Rattle.volume_tree.specs.lemma.Edited.{modified_rows}
 use Rattle.volume_spec.specs.OpenFork.{file_of}
 use Rattle.volume_tree.specs.Shown.{fork_at}
 use Rattle.volume_tree.specs.declared.head.Dates.{Dates}
@@ -102,7 +102,7 @@ if-modified : (w : Bool) (now : ℕ) (dates : Dates) → (if w then (record date
 if-modified true now dates = refl
 if-modified false now dates = refl
 
--- a plan of a fork, and what was done of it
+-- a fork with other bytes, and what is kept then
 pub record Written (name : List ℕ) (dates new_dates : Dates) (rows new_rows : RowsValue) (forks new_forks : Forks) (used left : ℕ) (id : NodeId) (now : ℕ) (resource writes : Bool) (before after : List ℕ) : Type 0 where
   pub kept : IsKeptVolume name dates rows forks used
   pub file : FileThere forks rows.rows id.0 resource before

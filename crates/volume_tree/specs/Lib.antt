@@ -1,11 +1,7 @@
 pub mod Shown
-pub mod Planned
 pub mod Kept
 pub mod Answered
 pub mod Requests
-pub mod ForkEffect
-pub mod TouchedNodes
-pub mod TreeLaws
 pub mod Restored
 pub mod Filled
 pub mod lemma

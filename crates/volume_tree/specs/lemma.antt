@@ -4,7 +4,5 @@ pub mod Answered
 pub mod Edited
 pub mod ForkEffect
 pub mod Kept
-pub mod Planned
 pub mod Restored
 pub mod Tails
-pub mod TouchedNodes

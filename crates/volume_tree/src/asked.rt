@@ -19,6 +19,12 @@ use node_rows::Node;
 use std::alloc::Global;
 use volume_spec::limits::MOST_NODES;
 
+/// The attribute of a node that may not be deleted (AFP Reference, "File attributes").
+pub const DELETE_INHIBIT: u16 = 0x0100;
+
+/// The attribute of a node that may not get another name or place (AFP Reference, "File attributes").
+pub const RENAME_INHIBIT: u16 = 0x0080;
+
 /// The element by which a path of long names spells a name.
 #[tactic(auto, unfolding(afp_names::specs::Path::element_of))]
 fn long_element(alloc: Global, name: &Name) -> Result<Bytes, OutOfMemory>

@@ -5,10 +5,10 @@ ghost use Rattle.volume_spec.specs.Edits.{filed_as, is_taken, renamed, with_chan
 ghost use Rattle.volume_spec.specs.SetFileDirParms.{has_sized_finder, with_settings};
 ghost use Rattle.volume_spec.specs.SoundVolume.{IsSoundVolume, has_file, has_node, last_next_id};
 
-use crate::apply::{set_node, take_out, used_by};
-use crate::apply_fork::put_back;
 use crate::forks::FileForks;
-use crate::marks::file_node;
+use crate::going::{take_out, used_by};
+use crate::kept_forks::put_back;
+use crate::marks::{file_node, set_node};
 use crate::parts::{NewName, NodeWithForks, with_id};
 use crate::settings::Settings;
 use crate::volume::Volume;

@@ -10,8 +10,8 @@ ghost use Rattle.volume_spec.specs.Walk.{row_at};
 ghost use Rattle.volume_tree.specs.Shown.{fork_at};
 ghost use Rattle.volume_tree.specs.lemma.ForkEffect.{IsChanged, kept_fork};
 
-use crate::apply_fork::{kept_len, lift, put_back};
 use crate::forks::FileForks;
+use crate::kept_forks::{kept_len, lift, put_back};
 use crate::marks::set_modified;
 use crate::volume::Volume;
 use afp_base::{Moment, NodeId};

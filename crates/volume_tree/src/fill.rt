@@ -8,8 +8,8 @@ ghost use Rattle.sorted_map.specs.Entries.{at};
 ghost use Rattle.volume_tree.specs.Filled.{FitsFork, filled};
 ghost use Rattle.volume_tree.specs.lemma.ForkEffect.{kept_fork};
 
-use crate::apply_fork::change_fork;
 use crate::forks::FileForks;
+use crate::kept_forks::change_fork;
 use crate::volume::Volume;
 use afp_base::laws::splice_puts_between;
 use afp_base::{NodeId, OutOfMemory};

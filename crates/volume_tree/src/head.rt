@@ -1,5 +1,5 @@
 //! The dates of a volume, and its next node id.
-ghost use Rattle.std.specs.Prelude.{◌≡◌, pos, unwrap_or, if◌then◌else◌};
+ghost use Rattle.std.specs.Prelude.{◌≡◌, pos};
 ghost use Rattle.volume_spec.specs.VolumeState.{never};
 
 use afp_base::Moment;
@@ -48,28 +48,6 @@ impl Dates {
             created: self.created,
             modified: self.modified,
             backup: date,
-        }
-    }
-}
-
-impl Dates {
-    /// The dates of a volume that is changed at a moment, or not at all.
-    pub fn touched_if(self, now: Moment, changed: bool) -> Dates
-        ensures { result ≡ (if changed then (record self { modified = pos now }) else self) }
-    {
-        if changed { self.touched(now) } else { self }
-    }
-
-    /// The dates of a volume that is changed at a moment, and whose backup date is set or stays.
-    pub fn changed(self, now: Moment, backup: Option<i32>) -> Dates
-        ensures { result ≡ record self { modified = pos now; backup = unwrap_or backup self.backup } }
-    {
-        match backup {
-            Some(backup) => Dates {
-                backup,
-                ..self.touched(now)
-            },
-            None => self.touched(now),
         }
     }
 }

@@ -1,9 +1,12 @@
 //! Marks of nodes that change by themselves. None of these takes memory.
 ghost use Rattle.std.specs.Prelude.{◌≡◌, ◌≤◌};
 ghost use Rattle.volume_spec.specs.Edits.{filed_as, with_changed};
+ghost use Rattle.volume_spec.specs.SetFileDirParms.{with_settings};
+ghost use Rattle.volume_spec.specs.Walk.{row_at};
 ghost use Rattle.volume_tree.specs.lemma.Edited.{modified_on};
+ghost use Rattle.volume_tree.specs.lemma.Kept.{IsMarks, IsMarksSet};
 
-use crate::apply::marks_at;
+use crate::settings::Settings;
 use afp_base::NodeId;
 use node_rows::{Marks, Rows};
 
@@ -47,5 +50,45 @@ pub(crate) fn modified_marks(marks: Marks, date: i32) -> Marks
     Marks {
         modified: date,
         ..marks
+    }
+}
+
+/// Gives the node of an id its settings.
+pub(crate) fn set_node(rows: &mut Rows, id: NodeId, settings: &Settings)
+    ensures rows { rows.new.rows ≡ with_changed id.0 (with_settings settings.now) rows.old.rows }
+    ensures next { rows.new.next_id ≡ rows.old.next_id }
+    ensures spare { rows.old.spare ≤ rows.new.spare }
+{
+    let _nodes = rows.nodes();
+    match marks_set(rows, id, settings) {
+        Some(marks) => rows.mark(id, marks),
+        None => {}
+    }
+}
+
+/// The marks of the node of an id, with its settings.
+fn marks_set(rows: &Rows, id: NodeId, settings: &Settings) -> Option<Marks>
+    ensures { IsMarksSet settings.now result (row_at rows.now.rows id.0) }
+{
+    match rows.get(id) {
+        Some(node) => Some(settings.marks(node)),
+        None => None,
+    }
+}
+
+/// The marks of the node of an id.
+pub(crate) fn marks_at(rows: &Rows, id: NodeId) -> Option<Marks>
+    ensures { IsMarks result (row_at rows.now.rows id.0) }
+{
+    match rows.get(id) {
+        Some(node) => Some(Marks {
+            attributes: node.attributes,
+            created: node.created,
+            modified: node.modified,
+            backup: node.backup,
+            finder: node.finder,
+            filed: node.filed,
+        }),
+        None => None,
     }
 }

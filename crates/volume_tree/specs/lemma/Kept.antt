@@ -1,5 +1,5 @@
 -- That what is kept of a volume's tree is sound, and its parts (this profile).
-use Rattle.std.specs.Prelude.{◌≡◌, ℕ, ◌<◌, ◌+◌, ◌||◌, Bool, true, if◌then◌else◌, List, [], length, Option, Some, None, is_some}
+use Rattle.std.specs.Prelude.{◌≡◌, ℕ, ◌<◌, ◌+◌, ◌==◌, ◌||◌, Bool, true, false, if◌then◌else◌, List, [], length, Option, Some, None, is_some}
 use Rattle.std.specs.List.{list_all}
 use Rattle.std.specs.Ordering.{nat_cmp}
 use Rattle.sorted_map.specs.Entries.{at}
@@ -7,9 +7,9 @@ use Rattle.afp_base.specs.declared.ids.NodeId.{NodeId}
 use Rattle.node_rows.specs.Kept.{RowsValue, marked}
 use Rattle.node_rows.specs.declared.node.Marks.{Marks}
 use Rattle.volume_spec.specs.VolumeState.{Row}
+use Rattle.volume_spec.specs.Edits.{without}
 use Rattle.volume_spec.specs.SetFileDirParms.{Settings, with_settings}
 use Rattle.volume_spec.specs.SoundVolume.{IsSoundVolume, fork_bytes}
-use Rattle.volume_tree.specs.Planned.{is_gone}
 use Rattle.volume_tree.specs.declared.forks.FileForks.{FileForks}
 use Rattle.volume_tree.specs.declared.head.Dates.{Dates}
 use Rattle.volume_tree.specs.Kept.{Forks, data_of, resource_of, rows_of, state_of}
@@ -32,6 +32,16 @@ pub record IsKeptVolume (name : List ℕ) (dates : Dates) (rows : RowsValue) (fo
   pub no_resource : resource_of (at nat_cmp forks rows.next_id) ≡ []
   pub none_behind : (id : ℕ) → rows.next_id < id → at nat_cmp forks id ≡ None
   pub bytes : used ≡ fork_bytes (rows_of forks rows.rows)
+
+-- whether a node goes
+abbrev pub is_gone : Option NodeId → ℕ → Bool
+is_gone None id = false
+is_gone (Some gone) id = id == gone.0
+
+-- rows without the node that goes
+abbrev pub gone_rows : Option NodeId → List Row → List Row
+gone_rows None rows = rows
+gone_rows (Some gone) rows = without gone.0 rows
 
 -- the bytes of the forks of a node that goes
 abbrev pub bytes_of : Option NodeId → Forks → ℕ

@@ -6,7 +6,7 @@ use Rattle.volume_spec.specs.Edits.{exchanged_at, with_changed}
 use Rattle.volume_spec.specs.SoundVolume.{IsSoundVolume}
 use Rattle.volume_spec.specs.VolumeState.{Row}
 use Rattle.volume_spec.specs.Walk.{row_at}
-use Rattle.volume_tree.proofs.Applied.{gone-drawn}
+use Rattle.volume_tree.proofs.KeptEdits.{gone-drawn}
 use Rattle.volume_tree.proofs.Edited.{row-node}
 use Rattle.volume_tree.proofs.ForksEdited.{Swapped, found-under, swapped-kept, swapped-spare, swapped-state}
 use Rattle.volume_tree.proofs.Showing.{found-shown}

@@ -1,48 +1,15 @@
-//! Plans of forks carried out. None of these takes memory.
-ghost use Rattle.std.specs.Prelude.{◌≡◌, ◌==◌, ℕ, List, true, false, Some, None, length, is_some, if◌then◌else◌};
+//! Forks that are kept of a file, and change in place. None of these takes memory.
+ghost use Rattle.std.specs.Prelude.{◌≡◌, ◌==◌, ℕ, List, true, false, Some, length, is_some, if◌then◌else◌};
 ghost use Rattle.std.specs.Ordering.{nat_cmp};
 ghost use Rattle.fork_bytes.specs.Plan.{IsForkPlan as IsForkPlan};
 ghost use Rattle.sorted_map.specs.Entries.{at};
-ghost use Rattle.volume_spec.specs.ForkEffect.{fork_effect};
-ghost use Rattle.volume_tree.specs.ForkEffect.{IsForkChange};
 ghost use Rattle.volume_tree.specs.lemma.ForkEffect.{IsChanged, kept_fork};
 
-use crate::apply::set_date;
 use crate::forks::FileForks;
-use crate::volume::Volume;
-use afp_base::{Moment, NodeId};
+use afp_base::NodeId;
 use fork_bytes::ForkPlan;
 use sorted_map::SortedMap;
 use std::alloc::Global;
-
-impl Volume {
-    /// Carries out a plan of a fork of a file as it is. Where it writes a byte or changes the length, the file's and the
-    /// volume's modified dates are the moment. It takes no memory.
-    pub fn apply_fork(
-        &mut self,
-        alloc: Global,
-        now: Moment,
-        id: NodeId,
-        resource: bool,
-        plan: ForkPlan,
-    )
-        requires { IsForkChange self.old.state id.0 resource plan }
-        ensures { (change : IsForkChange self.old.state id.0 resource plan) → self.new.state ≡ fork_effect now id.0 resource change.after plan.writes self.old.state }
-    {
-        let writes = plan.writes();
-        let rest = self.used - kept_len(&self.forks, id, resource);
-        self.used = rest + plan.len();
-        change_fork(&mut self.forks, alloc, id, resource, plan);
-        set_date(&mut self.rows, now, id_if(writes, id));
-        self.dates = self.dates.touched_if(now, writes);
-    }
-}
-
-fn id_if(writes: bool, id: NodeId) -> Option<NodeId>
-    ensures { result ≡ (if writes then Some id else None) }
-{
-    if writes { Some(id) } else { None }
-}
 
 /// How many bytes a fork has that is kept.
 pub(crate) fn kept_len(forks: &SortedMap<u64, FileForks>, id: NodeId, resource: bool) -> u64

@@ -1,7 +1,7 @@
 use Rattle.std.proofs.Common.{◌∙◌, sym}
 use Rattle.volume_spec.specs.SetFileDirParms.{with_settings}
 use Rattle.volume_tree.proofs.ModifiedDates.{changed-missing, set-same}
-use Rattle.volume_tree.proofs.apply.set_node.Goals as goal
+use Rattle.volume_tree.proofs.marks.set_node.Goals as goal
 
 pub returns-in-Some-clause-rows : goal.returns-in-Some-clause-rows
 returns-in-Some-clause-rows c =
