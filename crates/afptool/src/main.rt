@@ -1,4 +1,4 @@
-//! The tool: it replays captures, and checks streams of frames, from the standard input.
+//! The tool: it replays captures, and checks streams of frames, from the standard input; it makes captures, and counts in them.
 #![tactic(auto)]
 
 use afp_base::NO_LIMIT;

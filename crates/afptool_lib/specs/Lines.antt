@@ -5,6 +5,7 @@ use Rattle.dsi_frame.specs.Frame.{Frame, command_number, header_of, header_lengt
 use Rattle.dsi_frame.specs.declared.frame.Header.{Header}
 use Rattle.dsi_frame.specs.declared.frame.Reason.{Reason}
 use Rattle.dsi_frame.specs.declared.frame.Reason.TheVariants as reasons
+use Rattle.capture_made.specs.declared.counting.Tallied.{Tallied}
 use Rattle.capture_log.specs.declared.replay_end.ReplayEnd.{ReplayEnd}
 use Rattle.capture_log.specs.declared.replay_end.ReplayEnd.TheVariants as ends
 
@@ -51,6 +52,12 @@ replay_status (ends.BadCapture line) = 3
 replay_status ends.ReadFault = 4
 replay_status ends.Spent = 8
 replay_status ends.Memory = 6
+
+-- what is counted in a made capture
+abbrev pub tally_line : Tallied → List ℕ
+tally_line tallied =
+    codes "links " ++ (decimal tallied.links ++ (codes " entries " ++ (decimal tallied.entries ++ (codes " replies " ++ (decimal tallied.replies ++ (codes " refused " ++ (decimal tallied.refused
+    ++ (codes " nodes " ++ (decimal tallied.nodes ++ codes "\n")))))))))
 
 abbrev pub kind_word : Bool → List ℕ
 kind_word true = codes " reply"

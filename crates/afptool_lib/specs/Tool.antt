@@ -1,25 +1,61 @@
 -- What a run of the tool prints, and its exit status (this profile).
-use Rattle.std.specs.Prelude.{◌≡◌, ℕ, List, [], ◌∷◌, codes, bytes_eq, if◌then◌else◌, Option, Some, None}
+use Rattle.std.specs.Prelude.{◌≡◌, ◌≤◌, ◌⊎◌, ℕ, ◌-◌, ◌^◌, ◌==◌, ◌&&◌, nat_le, not, List, [], ◌∷◌, length, codes, bytes_eq, if◌then◌else◌, Option, Some, None}
+use Rattle.std.specs.List.{list_all}
 use Rattle.afp_outside.specs.Sink.{SinkState}
 use Rattle.afp_outside.specs.Source.{SourceState}
 use Rattle.capture_log.specs.Reading.{Replays}
 use Rattle.capture_log.specs.declared.replay_end.ReplayEnd.{ReplayEnd}
 use Rattle.afptool_lib.specs.Checking.{RunsCheck}
 use Rattle.afpd_lib.specs.Reporting.{bad_words}
-use Rattle.afptool_lib.specs.Lines.{replay_text, replay_status}
+use Rattle.capture_log_lines.specs.Fields.{is_digit, value_behind}
+use Rattle.capture_made.specs.Making.{MakesBy, Tallies}
+use Rattle.capture_made.specs.declared.making.MakeEnd.{MakeEnd}
+use Rattle.capture_made.specs.declared.making.MakeEnd.TheVariants as make_ends
+use Rattle.capture_made.specs.declared.counting.Tallied.{Tallied}
+use Rattle.capture_made_requests.specs.Requests.{most_steps}
+use Rattle.afptool_lib.specs.Lines.{replay_text, replay_status, tally_line}
 use Rattle.afptool_lib.specs.Telling.{Tells}
 use Rattle.afptool_lib.specs.declared.words.Command.{Command}
-use Rattle.afptool_lib.specs.declared.words.Command.TheVariants.{Replay, Check}
+use Rattle.afptool_lib.specs.declared.words.Command.TheVariants.{Replay, Check, Make, Tally}
+
+-- the number that a word spells in decimal, if it is one of at most so much; it may have leading zeros
+abbrev pub number_in : ℕ → List ℕ → Option ℕ
+number_in most word = if not (length word == 0) && list_all is_digit word && nat_le (value_behind 0 word) most then Some (value_behind 0 word) else None
+
+-- the largest number that a capture is made of
+abbrev pub last_number : ℕ
+last_number = 2 ^ 64 - 1
+
+-- what a word asks of a made capture
+abbrev pub made_of : List ℕ → ℕ → ℕ → Option Command
+made_of word number steps =
+    if bytes_eq word (codes "make") then Some (Make number steps) else if bytes_eq word (codes "tally") then Some (Tally number steps) else None
+
+-- the same, where both numbers are spelt
+abbrev pub made_in : List ℕ → Option ℕ → Option ℕ → Option Command
+made_in word None steps = None
+made_in word (Some number) None = None
+made_in word (Some number) (Some steps) = made_of word number steps
 
 -- what one word asks
 abbrev pub command_of : List ℕ → Option Command
 command_of word = if bytes_eq word (codes "replay") then Some Replay else if bytes_eq word (codes "check") then Some Check else None
 
--- what the words ask: there is one, and it is a command
+-- what the words ask: one is a command, and three are one with its numbers
 abbrev pub command_in : List (List ℕ) → Option Command
 command_in [] = None
 command_in (word ∷ []) = command_of word
-command_in (word ∷ other ∷ words) = None
+command_in (word ∷ other ∷ []) = None
+command_in (word ∷ number ∷ steps ∷ []) = made_in word (number_in last_number number) (number_in most_steps steps)
+command_in (word ∷ number ∷ steps ∷ other ∷ words) = None
+
+-- a made capture has so many steps at most
+abbrev pub FitsSteps : Option Command → Type 0
+FitsSteps None = Unit {0}
+FitsSteps (Some Replay) = Unit {0}
+FitsSteps (Some Check) = Unit {0}
+FitsSteps (Some (Make number steps)) = steps ≤ most_steps
+FitsSteps (Some (Tally number steps)) = steps ≤ most_steps
 
 -- A capture is replayed: what is printed, and the status, are those of its answer.
 pub record RunsReplay (turns : ℕ) (old new : SourceState) (before after : SinkState) (status : ℕ) : Type 0 where
@@ -27,8 +63,31 @@ pub record RunsReplay (turns : ℕ) (old new : SourceState) (before after : Sink
   pub replays : Replays turns old answer new
   pub told : Tells (replay_text answer) (replay_status answer) before after status
 
+-- A capture is made: it is printed, and the status is 0; or some of it is, and a write failed, with status 5, or there was no memory, with
+-- status 6.
+abbrev pub make_status : MakeEnd → ℕ
+make_status make_ends.Done = 0
+make_status make_ends.WriteFault = 5
+make_status make_ends.Memory = 6
+
+pub record RunsMake (number steps : ℕ) (before after : SinkState) (status : ℕ) : Type 0 where
+  pub answer : MakeEnd
+  pub makes : MakesBy number steps answer before after
+  pub status_is : status ≡ make_status answer
+
+-- It is counted in a made capture: the counts are printed; or there was no memory, and nothing is printed.
+pub record TellsTally (number steps : ℕ) (before after : SinkState) (status : ℕ) : Type 0 where
+  pub answer : Tallied
+  pub tallies : Tallies number steps answer
+  pub told : Tells (tally_line answer) 0 before after status
+
+abbrev pub RunsTally : ℕ → ℕ → SinkState → SinkState → ℕ → Type 0
+RunsTally number steps before after status = TellsTally number steps before after status ⊎ ((status ≡ 6) × (after ≡ before))
+
 -- what the tool does with a command, or with words that are none
 abbrev pub RunsTool : Option Command → ℕ → SourceState → SourceState → SinkState → SinkState → ℕ → Type 0
 RunsTool None turns old new before after status = (new ≡ old) × Tells bad_words 2 before after status
 RunsTool (Some Replay) turns old new before after status = RunsReplay turns old new before after status
 RunsTool (Some Check) turns old new before after status = RunsCheck turns old new before after status
+RunsTool (Some (Make number steps)) turns old new before after status = (new ≡ old) × RunsMake number steps before after status
+RunsTool (Some (Tally number steps)) turns old new before after status = (new ≡ old) × RunsTally number steps before after status

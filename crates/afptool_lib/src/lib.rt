@@ -3,6 +3,7 @@
 
 mod checking;
 mod lines;
+mod made;
 mod replays;
 mod tool;
 mod words;

@@ -1,15 +1,20 @@
 //! The lines that are printed. They take no memory.
-ghost use Rattle.std.specs.Prelude.{◌≡◌, ◌≤◌, ◌++◌, ◌<◌, ◌+◌, ◌∷◌, [], length, drop};
+ghost use Rattle.std.specs.Prelude.{◌≡◌, ◌≤◌, ◌++◌, ◌<◌, ◌+◌, ◌∷◌, [], length, drop, codes};
+ghost use Rattle.std.specs.Fmt.{decimal};
 ghost use Rattle.dsi_frame.specs.Frame.{command_number};
 ghost use Rattle.afpd_lib.specs.Reporting.{ReportsAll};
-ghost use Rattle.afptool_lib.specs.Lines.{hex_digit, hex_byte, same_line, got_word, differs_line, bad_line, kind_word, sizes_text, frame_line, rest_line, reason_word, bad_frame_line};
+ghost use Rattle.afptool_lib.specs.Lines.{hex_digit, hex_byte, same_line, got_word, differs_line, bad_line, kind_word, sizes_text, tally_line, frame_line, rest_line, reason_word, bad_frame_line};
 
 use afp_outside::Sink;
 use afpd_lib::report::{put_before, put_number_before, report_all};
+use capture_made::Tallied;
 use dsi_frame::{DsiCommand, Header, Reason};
 
 /// The room that a line takes at most.
 const LINE: usize = 128;
+
+/// The room that a line of five counts takes at most.
+const TALLY_LINE: usize = 192;
 
 /// A hexadecimal digit.
 fn hex_digit(value: u8) -> u8
@@ -49,6 +54,44 @@ pub fn report_same<O: Sink>(out: &mut O, links: u64, entries: u64) -> bool
 {
     let mut line = [0; LINE];
     let start = put_same(&mut line, links, entries);
+    report_all(out, &line[start..])
+}
+
+/// Puts the last two counts in a made capture at the end of the room.
+fn put_refused_and_nodes(line: &mut [u8], refused: u64, nodes: u64) -> usize
+    requires { length line.old ≡ 192 }
+    ensures start { (135 ≤ result) × (result ≤ 192) }
+    ensures length { length line.new ≡ length line.old }
+    ensures line { drop result line.new ≡ codes " refused " ++ (decimal refused ++ (codes " nodes " ++ (decimal nodes ++ codes "\n"))) }
+{
+    let end = put_before(line, line.len(), b"\n");
+    let end = put_number_before(line, end, nodes);
+    let end = put_before(line, end, b" nodes ");
+    let end = put_number_before(line, end, refused);
+    put_before(line, end, b" refused ")
+}
+
+/// Puts the counts in a made capture at the end of the room, and gives the place where they begin.
+fn put_tally(line: &mut [u8], tallied: &Tallied) -> usize
+    requires { length line.old ≡ 192 }
+    ensures start { result ≤ length line.new }
+    ensures line { drop result line.new ≡ tally_line tallied.now }
+{
+    let end = put_refused_and_nodes(line, tallied.refused, tallied.nodes);
+    let end = put_number_before(line, end, tallied.replies);
+    let end = put_before(line, end, b" replies ");
+    let end = put_number_before(line, end, tallied.entries);
+    let end = put_before(line, end, b" entries ");
+    let end = put_number_before(line, end, tallied.links);
+    put_before(line, end, b"links ")
+}
+
+/// Prints what is counted in a made capture.
+pub fn report_tally<O: Sink>(out: &mut O, tallied: &Tallied) -> bool
+    ensures { ReportsAll (O.sink_state out.old) (tally_line tallied.now) result (O.sink_state out.new) }
+{
+    let mut line = [0; TALLY_LINE];
+    let start = put_tally(&mut line, tallied);
     report_all(out, &line[start..])
 }
 

@@ -7,6 +7,7 @@ ghost use Rattle.afptool_lib.specs.Telling.{Tells};
 ghost use Rattle.afptool_lib.specs.Tool.{RunsTool, command_in};
 
 use crate::checking::run_check;
+use crate::made::{run_make, run_tally};
 use crate::replays::run_replay;
 use crate::words::{Command, asked};
 use afp_outside::{Sink, Source};
@@ -25,11 +26,12 @@ fn refuse<O: Sink>(out: &mut O) -> u8
     }
 }
 
-/// Does what the one word behind the program's name asks, over what the source gives, and gives the exit status.
+/// Does what the words behind the program's name ask, over what the source gives, and gives the exit status.
 ///
 /// `replay` replays a capture, over the first of eight keepers that hold nothing and never fail. It prints `links L entries E same` with status 0, `differs link L at P want XX got YY` with
 /// status 1, or `bad line N` with status 3. `check` prints a line for each frame of a stream of the Data Stream Interface, and
-/// then `rest N`, with status 0 where N is 0 and else 3, or `bad at A REASON` with status 3. The status is 2 for other words,
+/// then `rest N`, with status 0 where N is 0 and else 3, or `bad at A REASON` with status 3. `make N K` prints the capture of a number
+/// N below 2^64 and K steps, at most 100,000; `tally N K` prints what is counted in it. Both read nothing. The status is 2 for other words,
 /// with the line `bad words`; 4 where a read failed; 5 where a write failed; 6 for want of memory; and 8 where it would read
 /// again and `turns` bytes were taken.
 pub fn afptool_plain<K: Keeper, S: Source, O: Sink>(
@@ -48,6 +50,8 @@ pub fn afptool_plain<K: Keeper, S: Source, O: Sink>(
     match asked(words) {
         Some(Command::Replay) => run_replay(alloc, fresh, source, out, turns),
         Some(Command::Check) => run_check(alloc, source, out, turns),
+        Some(Command::Make { number, steps }) => run_make(alloc, fresh, number, steps, out),
+        Some(Command::Tally { number, steps }) => run_tally(alloc, fresh, number, steps, out),
         None => refuse(out),
     }
 }
