@@ -1,0 +1,101 @@
+-- What comes of a line.
+use Rattle.std.proofs.Common.{◌≡◌, ℕ, List, ◌++◌, Option, Some, Result, Ok, Err, refl}
+use Rattle.afp_base.specs.declared.code.Code.{Code}
+use Rattle.afp_base.specs.declared.ids.VolumeId.{VolumeId}
+use Rattle.afp_outside.specs.Sink.{SinkState}
+use Rattle.client_script_lines.specs.declared.line.ScriptLine.{ScriptLine}
+use Rattle.client_script_lines.specs.declared.line.ScriptLine.TheVariants as lines
+use Rattle.client_script_texts.specs.Texts.{error_text, newline}
+use Rattle.client_script_parts.specs.declared.asker.Stop.{Stop}
+use Rattle.client_script_parts.specs.declared.asker.Stop.TheVariants as stops
+use Rattle.client_script_parts.specs.Parts.{Asked, Comes, Exchange, Leads, Part, Runs, Waits, bad, done, refuses}
+use Rattle.client_script_run.specs.Run.{Mounts, line_part}
+use Rattle.client_run.specs.Printing.{Prints, PrintsPart}
+use Rattle.client_run.specs.Script.{CarriesOut, GoesBehind, TakesBye, TakesCut, TakesLine, TakesOn, TakesText, own, refusal}
+use Rattle.client_run.specs.declared.line.Taken.{Taken}
+use Rattle.client_run.specs.declared.line.Taken.TheVariants as takes
+use Rattle.client_script_lines.specs.Lines.{line_in}
+
+goes-own : (part : Part) (exchanges : List Exchange) (text : List ℕ) (line : ScriptLine) (leads : Leads part exchanges (done text)) → (line ≡ lines.Bye → ⊥) → GoesBehind {part = part} {exchanges = exchanges} {text = text} line (own leads)
+goes-own part exchanges text lines.Bye leads h = absurd (h refl)
+goes-own part exchanges text line leads h = tt
+
+goes-refused : (part : Part) (exchanges : List Exchange) (line : ScriptLine) (c : Code) (leads : Leads part exchanges (refuses c)) → GoesBehind {part = part} {exchanges = exchanges} {text = error_text c} line (refusal c leads refl)
+goes-refused part exchanges lines.Bye c leads = tt
+goes-refused part exchanges line c leads = tt
+
+pub takes_on : (E : Type 0) {F : Type 0} (mounted now : Option VolumeId) (line : ScriptLine) (before after : Asked F) (text : List ℕ) (old new : SinkState) → Comes {E = E} before (line_part mounted line) (Ok text) after
+    → Mounts mounted line before after now → Prints old (text ++ newline) new → (line ≡ lines.Bye → ⊥) → TakesOn mounted line before old now after new
+unfolding Comes
+takes_on E mounted now line before after text old new runs mounts prints other = record {
+  text = text;
+  carried = record { exchanges = runs.exchanges; log = runs.log; says = own runs.leads; mounts = mounts runs.exchanges runs.log };
+  printed = prints;
+  goes = goes-own (line_part mounted line) runs.exchanges text line runs.leads other;
+}
+
+pub takes_refused : (E : Type 0) {F : Type 0} (mounted now : Option VolumeId) (line : ScriptLine) (before after : Asked F) (c : Code) (old new : SinkState) → Comes {E = E} before (line_part mounted line) (Err (stops.Refused c)) after
+    → Mounts mounted line before after now → Prints old (error_text c ++ newline) new → TakesOn mounted line before old now after new
+unfolding Comes
+takes_refused E mounted now line before after c old new runs mounts prints = record {
+  text = error_text c;
+  carried = record { exchanges = runs.exchanges; log = runs.log; says = refusal c runs.leads refl; mounts = mounts runs.exchanges runs.log };
+  printed = prints;
+  goes = goes-refused (line_part mounted line) runs.exchanges line c runs.leads;
+}
+
+pub takes_bye : (E : Type 0) {F : Type 0} (mounted now : Option VolumeId) (line : ScriptLine) (before after : Asked F) (text : List ℕ) (old new : SinkState) → Comes {E = E} before (line_part mounted line) (Ok text) after
+    → Mounts mounted line before after now → Prints old (text ++ newline) new → line ≡ lines.Bye → TakesBye mounted line before old now after new
+unfolding Comes
+takes_bye E mounted now line before after text old new runs mounts prints bye = record {
+  bye = bye;
+  text = text;
+  carried = record { exchanges = runs.exchanges; log = runs.log; says = own runs.leads; mounts = mounts runs.exchanges runs.log };
+  printed = prints;
+}
+
+pub takes_cut : (E : Type 0) {F : Type 0} (mounted now : Option VolumeId) (line : ScriptLine) (before after : Asked F) (text : List ℕ) (old new : SinkState) → Comes {E = E} before (line_part mounted line) (Ok text) after
+    → Mounts mounted line before after now → PrintsPart old (text ++ newline) new → TakesCut mounted line before old now after new
+unfolding Comes
+takes_cut E mounted now line before after text old new runs mounts prints = record {
+  text = text;
+  carried = record { exchanges = runs.exchanges; log = runs.log; says = own runs.leads; mounts = mounts runs.exchanges runs.log };
+  printed = prints;
+}
+
+pub cut_refused : (E : Type 0) {F : Type 0} (mounted now : Option VolumeId) (line : ScriptLine) (before after : Asked F) (c : Code) (old new : SinkState) → Comes {E = E} before (line_part mounted line) (Err (stops.Refused c)) after
+    → Mounts mounted line before after now → PrintsPart old (error_text c ++ newline) new → TakesCut mounted line before old now after new
+unfolding Comes
+cut_refused E mounted now line before after c old new runs mounts prints = record {
+  text = error_text c;
+  carried = record { exchanges = runs.exchanges; log = runs.log; says = refusal c runs.leads refl; mounts = mounts runs.exchanges runs.log };
+  printed = prints;
+}
+
+-- it was not
+pub lacks_all : (E : Type 0) {F : Type 0} (before after : Asked F) (part : Part) (old new : SinkState) → Comes {E = E} before part (Err stops.Memory) after → new ≡ old → (left : Part) × Runs before part left after × (new ≡ old)
+unfolding Comes
+lacks_all E before after part old new runs same = (runs.0, runs.1, same)
+
+pub lacks_own : (E : Type 0) {F : Type 0} (before after : Asked F) (part : Part) (text : List ℕ) (old new : SinkState) → Comes {E = E} before part (Ok text) after → new ≡ old → (left : Part) × Runs before part left after × (new ≡ old)
+unfolding Comes
+lacks_own E before after part text old new runs same = (done text, runs, same)
+
+pub lacks_refused : (E : Type 0) {F : Type 0} (before after : Asked F) (part : Part) (c : Code) (old new : SinkState) → Comes {E = E} before part (Err (stops.Refused c)) after → new ≡ old → (left : Part) × Runs before part left after × (new ≡ old)
+unfolding Comes
+lacks_refused E before after part c old new runs same = (refuses c, runs, same)
+
+pub runs_bad : (E : Type 0) {F : Type 0} (before after : Asked F) (part : Part) → Comes {E = E} before part (Err stops.BadReply) after → Runs before part bad after
+unfolding Comes
+runs_bad E before after part runs = runs
+
+pub runs_wait : {E F : Type 0} (before after : Asked F) (part : Part) (end : E) → Comes before part (Err (stops.Ended end)) after → Waits before part after
+unfolding Comes
+runs_wait before after part end waits = waits
+
+-- a line that has one of the forms
+pub text_taken : {E F : Type 0} (mounted : Option VolumeId) (text : List ℕ) (before : Asked F) (old : SinkState) (taken : Taken E) (now : Option VolumeId) (after : Asked F) (new : SinkState) (line : ScriptLine)
+    → line_in text ≡ Some line → TakesLine mounted line before old taken now after new → TakesText mounted text before old taken now after new
+text_taken mounted text before old takes.BadLine now after new line reads t = absurd t
+text_taken mounted text before old takes.Unread now after new line reads t = absurd t
+text_taken mounted text before old taken now after new line reads t = record { line = line; reads = reads; takes = t }

@@ -1,0 +1,57 @@
+-- How a script's client ends, and the last line that it prints then (this profile).
+use Rattle.std.specs.Prelude.{ℕ, List, [], ◌++◌, codes}
+use Rattle.std.specs.Fmt.{decimal, signed_decimal}
+use Rattle.afp_base.specs.Code.{number_of}
+use Rattle.client_script_texts.specs.Texts.{newline}
+use Rattle.client_links.specs.declared.links.TalkEnd.{TalkEnd}
+use Rattle.client_links.specs.declared.links.TalkEnd.TheVariants as talks
+use Rattle.client_script_links.specs.declared.asker.AskEnd.{AskEnd}
+use Rattle.client_script_links.specs.declared.asker.AskEnd.TheVariants as asks
+use Rattle.client_run.specs.declared.ends.ClientEnd.{ClientEnd}
+use Rattle.client_run.specs.declared.ends.ClientEnd.TheVariants as ends
+use Rattle.client_run.specs.declared.line.Taken.{Taken}
+use Rattle.client_run.specs.declared.line.Taken.TheVariants as takes
+
+-- by why its links end, at the line of this number
+abbrev pub end_of_links : TalkEnd → ℕ → ClientEnd
+end_of_links (talks.Refused c) line = ends.Refused c
+end_of_links (talks.Lost c) line = ends.SessionLost line
+end_of_links (talks.Bad at) line = ends.BadReply at
+end_of_links talks.Broken line = ends.Broken
+end_of_links talks.DialFault line = ends.DialFault
+end_of_links talks.Spent line = ends.Spent
+end_of_links talks.Memory line = ends.Memory
+
+abbrev pub end_of_ask : AskEnd → ℕ → ClientEnd
+end_of_ask (asks.Links end) line = end_of_links end line
+end_of_ask (asks.BadReply at) line = ends.BadReply at
+end_of_ask asks.Memory line = ends.Memory
+
+-- behind what came of a line
+abbrev pub end_of_taken : Taken AskEnd → ℕ → ℕ → ClientEnd
+end_of_taken takes.Goes line at = ends.Done
+end_of_taken takes.Done line at = ends.Done
+end_of_taken takes.Cut line at = ends.WriteFault
+end_of_taken (takes.Ended end) line at = end_of_ask end line
+end_of_taken takes.BadReply line at = ends.BadReply at
+end_of_taken takes.Memory line at = ends.Memory
+end_of_taken takes.BadLine line at = ends.BadLine line
+end_of_taken takes.Unread line at = ends.Memory
+
+-- a word and what stands behind it
+abbrev pub worded_line : List ℕ → List ℕ → List ℕ
+worded_line word rest = word ++ (rest ++ newline)
+
+-- the last line
+abbrev pub last_line : ClientEnd → List ℕ
+last_line ends.Done = []
+last_line (ends.Refused c) = worded_line (codes "refused ") (signed_decimal (number_of c))
+last_line (ends.SessionLost line) = worded_line (codes "lost ") (decimal line)
+last_line (ends.BadReply at) = codes "bad reply\n"
+last_line (ends.BadLine line) = worded_line (codes "bad line ") (decimal line)
+last_line ends.ReadFault = codes "source fault\n"
+last_line ends.WriteFault = []
+last_line ends.Broken = codes "broken\n"
+last_line ends.DialFault = codes "dial fault\n"
+last_line ends.Spent = codes "spent\n"
+last_line ends.Memory = codes "no memory\n"

@@ -1,0 +1,116 @@
+//! A line, carried out and printed.
+ghost use Rattle.client_script_texts.specs.Texts.{error_text};
+ghost use Rattle.client_run.specs.Script.{PrintsTold, TakesLine, TakesText};
+
+use crate::print::{line_of, print_all};
+use afp_base::{Bytes, Code, VolumeId};
+use afp_outside::Sink;
+use client_script_lines::{LineFault, ScriptLine, read_line};
+use client_script_parts::{Asker, Stop};
+use client_script_run::run_line;
+use client_script_texts::error_text;
+use std::alloc::Global;
+
+/// What comes of a line.
+#[derive(Drop)]
+pub enum Taken<E> {
+    /// It was carried out and printed, and the script goes on.
+    Goes,
+    /// It was a `bye`, carried out and printed.
+    Done,
+    /// It was carried out, and a write of what it prints failed.
+    Cut,
+    /// One of its calls got no answer.
+    Ended(E),
+    /// Its last reply is none that may come.
+    BadReply,
+    /// There was no memory.
+    Memory,
+    /// It has none of the forms.
+    BadLine,
+    /// There was no memory to read it.
+    Unread,
+}
+
+/// What a print comes to.
+#[derive(Clone, Copy, Debug, PartialEq, Eq)]
+pub enum Printed {
+    /// All was printed.
+    All,
+    /// A write failed behind a first part.
+    Part,
+    /// There was no memory, and nothing was printed.
+    Nothing,
+}
+
+/// Prints a text and a newline.
+fn print_told<O: Sink>(out: &mut O, text: Bytes) -> Printed
+    ensures { PrintsTold text (O.sink_state out.old) result (O.sink_state out.new) }
+{
+    let Ok(line) = line_of(text) else {
+        return Printed::Nothing;
+    };
+    if print_all(out, line.as_slice()) {
+        Printed::All
+    } else {
+        Printed::Part
+    }
+}
+
+/// Prints a refusal.
+fn print_refusal<O: Sink>(alloc: Global, out: &mut O, code: Code) -> Printed
+    ensures { PrintsTold (error_text code) (O.sink_state out.old) result (O.sink_state out.new) }
+{
+    match error_text(alloc, code) {
+        Ok(text) => print_told(out, text),
+        Err(_) => Printed::Nothing,
+    }
+}
+
+/// Carries out a line, and prints what it comes to.
+#[tactic(auto, using(crate::proofs::ScriptLemmas::takes_on, crate::proofs::ScriptLemmas::takes_refused, crate::proofs::ScriptLemmas::takes_bye, crate::proofs::ScriptLemmas::takes_cut, crate::proofs::ScriptLemmas::cut_refused, crate::proofs::ScriptLemmas::lacks_all, crate::proofs::ScriptLemmas::lacks_own, crate::proofs::ScriptLemmas::lacks_refused, crate::proofs::ScriptLemmas::runs_bad, crate::proofs::ScriptLemmas::runs_wait))]
+fn take_line<A: Asker, O: Sink>(
+    alloc: Global,
+    asker: &mut A,
+    out: &mut O,
+    mounted: &mut Option<VolumeId>,
+    line: &ScriptLine,
+) -> Taken<A::End>
+    ensures { TakesLine mounted.old line.now (A.exchanges asker.old) (O.sink_state out.old) result mounted.new (A.exchanges asker.new) (O.sink_state out.new) }
+{
+    match run_line(alloc, asker, mounted, line) {
+        Ok(text) => match print_told(out, text) {
+            Printed::All => match line {
+                ScriptLine::Bye => Taken::Done,
+                _ => Taken::Goes,
+            },
+            Printed::Part => Taken::Cut,
+            Printed::Nothing => Taken::Memory,
+        },
+        Err(Stop::Refused(code)) => match print_refusal(alloc, out, code) {
+            Printed::All => Taken::Goes,
+            Printed::Part => Taken::Cut,
+            Printed::Nothing => Taken::Memory,
+        },
+        Err(Stop::Ended(end)) => Taken::Ended(end),
+        Err(Stop::BadReply) => Taken::BadReply,
+        Err(Stop::Memory) => Taken::Memory,
+    }
+}
+
+/// Reads the bytes of a line, and carries it out.
+pub(crate) fn take_text<A: Asker, O: Sink>(
+    alloc: Global,
+    asker: &mut A,
+    out: &mut O,
+    mounted: &mut Option<VolumeId>,
+    text: &[u8],
+) -> Taken<A::End>
+    ensures { TakesText mounted.old text.now (A.exchanges asker.old) (O.sink_state out.old) result mounted.new (A.exchanges asker.new) (O.sink_state out.new) }
+{
+    match read_line(alloc, text) {
+        Ok(line) => take_line(alloc, asker, out, mounted, &line),
+        Err(LineFault::Bad) => Taken::BadLine,
+        Err(LineFault::Memory) => Taken::Unread,
+    }
+}
