@@ -21,11 +21,18 @@ use crate::server::{get_srvr_info, get_srvr_msg, get_srvr_parms};
 use crate::session_token::{disconnect_old_session, get_session_token};
 use crate::spelling::{Stop, spelled_call};
 use crate::user_calls::{get_user_info, map_id, map_name};
-use afp_base::{Bytes, Code, LinkNumber, OutOfMemory, Room, SessionNumber};
+use afp_base::{Bytes, LinkNumber, OutOfMemory, Room, SessionNumber};
 use afp_calls::Call;
 use afp_core_bytes::byte_range_lock::{byte_range_lock, byte_range_lock_ext};
 use afp_core_bytes::read::{read, read_ext};
 use afp_core_bytes::write::{write, write_ext};
+use afp_core_desktop::appls::{add_appl, get_appl, remove_appl};
+use afp_core_desktop::comments::{add_comment, get_comment, remove_comment};
+use afp_core_desktop::icons::{add_icon, get_icon, get_icon_info};
+use afp_core_desktop::open_dt::{close_dt, open_dt};
+use afp_core_files::copy_file::copy_file;
+use afp_core_files::exchange_files::exchange_files;
+use afp_core_files::file_ids::{create_id, delete_id, resolve_id};
 use afp_core_forks::close_fork::close_fork;
 use afp_core_forks::flush_fork::flush_fork;
 use afp_core_forks::get_fork_parms::get_fork_parms;
@@ -145,7 +152,7 @@ fn run_kept<K: Keeper>(
     Ok((told, outcome))
 }
 
-/// The row of a call of a session. A call whose row is not there yet is not supported.
+/// The row of a call of a session.
 fn row<K: Keeper>(
     state: &mut State<K>,
     session: SessionNumber,
@@ -345,21 +352,92 @@ fn row<K: Keeper>(
             *count,
             piece.as_slice(),
         ),
-        Call::CopyFile { .. }
-        | Call::CreateID { .. }
-        | Call::DeleteID { .. }
-        | Call::ResolveID { .. }
-        | Call::ExchangeFiles { .. }
-        | Call::OpenDT { .. }
-        | Call::CloseDT { .. }
-        | Call::GetIcon { .. }
-        | Call::GetIconInfo { .. }
-        | Call::AddAPPL { .. }
-        | Call::RemoveAPPL { .. }
-        | Call::GetAPPL { .. }
-        | Call::AddComment { .. }
-        | Call::RemoveComment { .. }
-        | Call::GetComment { .. }
-        | Call::AddIcon { .. } => Ok((refused(state.alloc, Code::CallNotSupported), Outcome::Done)),
+        Call::CopyFile {
+            volume,
+            dir,
+            target_volume,
+            target_dir,
+            path,
+            target_path,
+            new_path,
+        } => copy_file(
+            state,
+            session,
+            *volume,
+            *dir,
+            *target_volume,
+            *target_dir,
+            path,
+            target_path,
+            new_path,
+        ),
+        Call::CreateID { volume, dir, path } => create_id(state, session, *volume, *dir, path),
+        Call::DeleteID { volume, id } => delete_id(state, session, *volume, *id),
+        Call::ResolveID { volume, id, bits } => resolve_id(state, session, *volume, *id, *bits),
+        Call::ExchangeFiles {
+            volume,
+            dir,
+            second_dir,
+            path,
+            second_path,
+        } => exchange_files(
+            state,
+            session,
+            *volume,
+            *dir,
+            *second_dir,
+            path,
+            second_path,
+        ),
+        Call::OpenDT { volume } => open_dt(state, session, *volume),
+        Call::CloseDT { dt } => close_dt(state, session, *dt),
+        Call::GetIcon {
+            dt,
+            creator,
+            kind,
+            icon_kind,
+            length,
+        } => get_icon(state, session, *dt, *creator, *kind, *icon_kind, *length),
+        Call::GetIconInfo { dt, creator, index } => {
+            get_icon_info(state, session, *dt, *creator, *index)
+        }
+        Call::AddAPPL {
+            dt,
+            dir,
+            creator,
+            tag,
+            path,
+        } => add_appl(state, session, *dt, *dir, *creator, *tag, path),
+        Call::RemoveAPPL {
+            dt,
+            dir,
+            creator,
+            path,
+        } => remove_appl(state, session, *dt, *dir, *creator, path),
+        Call::GetAPPL {
+            dt,
+            creator,
+            index,
+            bits,
+        } => get_appl(state, session, *dt, *creator, *index, *bits),
+        Call::AddComment {
+            dt,
+            dir,
+            path,
+            comment,
+        } => add_comment(state, session, *dt, *dir, path, comment),
+        Call::RemoveComment { dt, dir, path } => remove_comment(state, session, *dt, *dir, path),
+        Call::GetComment { dt, dir, path } => get_comment(state, session, *dt, *dir, path),
+        Call::AddIcon {
+            dt,
+            creator,
+            kind,
+            icon_kind,
+            tag,
+            piece,
+            ..
+        } => add_icon(
+            state, session, *dt, *creator, *kind, *icon_kind, *tag, piece,
+        ),
     }
 }

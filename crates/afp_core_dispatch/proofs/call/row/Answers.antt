@@ -1,14 +1,8 @@
-use Rattle.std.proofs.Common.{◌≡◌, ◌∙◌, ap, of_z, rules, refl, sym, to_z, w32, w64}
-use Rattle.afp_base.specs.declared.code.Code.TheVariants.{CallNotSupported}
+use Rattle.std.proofs.Common.{◌≡◌, ◌∙◌, ap, of_z, rules, sym, to_z, w32, w64}
 use Rattle.afp_calls_grammar.specs.declared.call.Call.TheVariants.{DisconnectOldSession, Login, LoginExt, MapName, SetForkParms, Write, WriteExt}
-use Rattle.afp_serial.specs.Rows.{row}
 use Rattle.afp_core_volumes.proofs.CallRows.{create_file-changes, delete-changes, move_and_rename-changes, rename-changes, set_dir_parms-changes, set_file_dir_parms-changes, set_file_parms-changes, set_vol_parms-changes}
-use Rattle.afp_core_state.proofs.RowLemmas.{call-as, is_refused, row-as}
+use Rattle.afp_core_state.proofs.RowLemmas.{call-as, row-as}
 use Rattle.afp_core_dispatch.proofs.call.row.Goals as goal
-
-pub returns-in-CopyFile : goal.returns-in-CopyFile
-unfolding row
-returns-in-CopyFile g c = λ s at. is_refused c.args.state.now _ s c.args.call.now CallNotSupported _ (search rules) c.refused.ensures refl
 
 pub returns-in-GetSessionToken : goal.returns-in-GetSessionToken
 returns-in-GetSessionToken g c =
@@ -102,3 +96,6 @@ change_alone-requires-in-SetFileParms g c = let x = c.in-SetFileParms in set_fil
 
 pub change_alone-requires-in-SetVolParms : goal.change_alone-requires-in-SetVolParms
 change_alone-requires-in-SetVolParms g c = let x = c.in-SetVolParms in set_vol_parms-changes c.args.call.now x.volume x.bits x.tail x.is
+
+pub returns-in-AddIcon : goal.returns-in-AddIcon
+returns-in-AddIcon g c = let x = c.in-AddIcon in call-as c.args.state.now _ c.args.session.0 _ _ _ x.is (c.add_icon.ensures x.size)
