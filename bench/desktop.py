@@ -2,14 +2,16 @@
 """Copies, exchanges, file ids and the desktop database over loopback: a file with both forks, a comment and an icon is copied within a volume and to another,
 exchanged, and found by its id after it was renamed and moved; then the server is killed, started again over the same files, and all is there.
 
-desktop.py [--program PATH]
+desktop.py [--program PATH] [--mib N]
 
-Each line is what was asked and what came of it. It ends with status 1 at the first answer that is another.
+Each line is what was asked and what came of it. It ends with status 1 at the first answer that is another. With --mib, two files of so many MiB (100 at most) in a
+volume in memory are exchanged, and one of a third so many is copied, and each line has milliseconds and what the server has in memory.
 """
 import argparse
 import os
 import struct
 import tempfile
+import time
 
 import afp
 import afp_files
@@ -208,13 +210,59 @@ def show_kept(session):
     step("the comment is taken away", [session.ask(2, session.on_path(57, 1, b"letter"))[0], session.comment(1, b"letter")[0]], [afp.OK, ITEM_NOT_FOUND])
 
 
+def resident(server):
+    """KiB that the server has in memory, and the most that it had."""
+    with open(f"/proc/{server.process.pid}/status") as status:
+        found = dict(line.split(":") for line in status)
+    return tuple(int(found[name].split()[0]) for name in ("VmRSS", "VmHWM"))
+
+
+def timed(server, what, call):
+    before = resident(server)
+    since = time.perf_counter()
+    got = call()
+    passed = (time.perf_counter() - since) * 1000
+    print(f"{passed:9.1f} ms, from {before[0]} KiB to {resident(server)[0]}, at most {resident(server)[1]}: {what}")
+    if got != afp.OK:
+        raise ValueError(f"it was refused with {got}")
+
+
+def write_mib(session, name, mib, seed):
+    session.create_file(name)
+    fork = session.open_fork(name, 0x0003)[1]
+    piece = bytes((seed + n) % 251 for n in range(65536))
+    for at in range(0, mib << 20, len(piece)):
+        session.write(fork, at, piece)
+    session.close_fork(fork)
+
+
+def show_large(program, mib):
+    port = afp.free_port()
+    server = Server(words_for(port, "Share=memory", "Other=memory", links=1), program)
+    server.wait_listening()
+    session = Desk(afp.connect(port))
+    write_mib(session, b"one", mib, 1)
+    write_mib(session, b"two", mib, 2)
+    for turn in ("once", "again"):
+        timed(server, f"two files of {mib} MiB are exchanged {turn}", lambda: session.exchange(b"one", b"two"))
+    write_mib(session, b"third", mib // 3, 3)
+    timed(server, f"one of {mib // 3} MiB is copied to another volume", lambda: session.copy_file(b"third", OTHER, b"copy"))
+    session.close_session()
+    step("the server's end", server.ended()[0], 0)
+
+
 def main():
     words = argparse.ArgumentParser(description="copies, exchanges, file ids and the desktop database over loopback")
     words.add_argument("--program", help="another file server than ./run afpd's")
-    program = words.parse_args().program
+    words.add_argument("--mib", type=int, help="exchange two files of so many MiB, and copy one of a third")
+    asked = words.parse_args()
+    program = asked.program
     if program is None:
         afp_files.build()
         program = afp_files.PROGRAM
+    if asked.mib:
+        show_large(program, asked.mib)
+        return
     with tempfile.TemporaryDirectory() as folder:
         places = [f"{name}={os.path.join(folder, name)}.db" for name in ("Share", "Other")]
         port = afp.free_port()

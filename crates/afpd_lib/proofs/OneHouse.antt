@@ -1,9 +1,8 @@
 -- The words ask for one house.
-use Rattle.std.proofs.Common.{◌≡◌, ◌∙◌, ℕ, List, [], ◌∷◌, map, refl, sym, ap, subst, arith}
+use Rattle.std.proofs.Common.{◌≡◌, ◌∙◌, ℕ, List, [], ◌∷◌, map, refl, sym, ap, subst}
 use Rattle.std.specs.Prelude.{Option, Some, None}
 use Rattle.std.specs.List.{list_any, after_first, before_first}
-use Rattle.std.specs.Fmt.{decimal}
-use Rattle.std.proofs.lemmas.Fmt.{decimal_injective}
+use Rattle.std.specs.Str.Parse.{digits_value, without_leading_plus}
 use Rattle.std.proofs.lemmas.Option.{same_Some}
 use Rattle.hex.specs.Hex.{decode_sized}
 use Rattle.afp_base.proofs.Facts.{never_both}
@@ -71,4 +70,5 @@ one_house words key s t a b =
 -- and for one number of workers
 pub one_workers : (words : List (List ℕ)) (s t : WordValues) → SaysWords words s → SaysWords words t → s.workers ≡ t.workers
 one_workers words s t a b =
-    decimal_injective s.workers t.workers (omega (arith, a.says.few_workers)) (omega (arith, b.says.few_workers)) (same_Some (decimal s.workers) (decimal t.workers) (sym a.says.workers ∙ b.says.workers))
+    let text : a.says.workers.text ≡ b.says.workers.text = same_Some a.says.workers.text b.says.workers.text (sym a.says.workers.found ∙ b.says.workers.found) in
+    sym a.says.workers.spells.1 ∙ ap (λ word. digits_value 10 (without_leading_plus word)) text ∙ b.says.workers.spells.1
