@@ -26,7 +26,7 @@ def contains(what, text, part):
 
 def show_words(program):
     for words, part in [([], "VOLUME=PLACE"), (["--port", "99999", "Share=memory"], "--port"), (["--signature", "12", "Share=memory"], "32 hexadecimal digits"),
-                        (["--links", "-1", "Share=memory"], "--links"), (["--users", "ann", "Share=memory"], "NAME:PASSWORD"), (["Share"], "NAME=PLACE"),
+                        (["--links", "1000001", "Share=memory"], "--links"), (["--users", "ann", "Share=memory"], "NAME:PASSWORD"), (["Share"], "NAME=PLACE"),
                         (["--workers", "0", "Share=memory"], "--workers"), (["Share=memory", "Share=memory"], "no two volumes"), (["--prot", "1", "Share=memory"], "--prot")]:
         server = Server(words, program)
         step(f"words {words}", server.ended(), (2, "bad words\n"))
