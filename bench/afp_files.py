@@ -121,3 +121,20 @@ class Files(afp.Session):
 
 def session(port):
     return Files(afp.connect(port))
+
+
+def show(shown, text):
+    """Runs what the words of the command line name, or all, over the program behind `--program`, or else `./run afpd`'s. Other words print the text."""
+    words = sys.argv[1:]
+    program = PROGRAM
+    if "--program" in words:
+        at = words.index("--program")
+        program = words[at + 1]
+        del words[at:at + 2]
+    if any(it not in shown for it in words):
+        print(text)
+        sys.exit(2)
+    if program == PROGRAM:
+        build()
+    for it in words or shown:
+        shown[it](program)

@@ -130,21 +130,5 @@ def show_quiet(program):
 SHOWN = {"caches": show_caches, "quiet": show_quiet}
 
 
-def main():
-    words = sys.argv[1:]
-    program = afp_files.PROGRAM
-    if "--program" in words:
-        at = words.index("--program")
-        program = words[at + 1]
-        del words[at:at + 2]
-    else:
-        afp_files.build()
-    if any(it not in SHOWN for it in words):
-        print(__doc__)
-        sys.exit(2)
-    for it in words or SHOWN:
-        SHOWN[it](program)
-
-
 if __name__ == "__main__":
-    main()
+    afp_files.show(SHOWN, __doc__)
