@@ -134,7 +134,7 @@ impl ForkTable {
     {
         match self.fork_of(r) {
             Some(fork) => self.locks.lock(&fork, r, range),
-            None => Err(LockFault::Memory),
+            None => unreachable!(),
         }
     }
 
@@ -146,7 +146,7 @@ impl ForkTable {
     {
         match self.fork_of(r) {
             Some(fork) => self.locks.unlock(&fork, r, range),
-            None => Err(NotLocked),
+            None => unreachable!(),
         }
     }
 
@@ -157,7 +157,7 @@ impl ForkTable {
     {
         match self.fork_of(r) {
             Some(fork) => self.locks.blocks(&fork, r, range),
-            None => false,
+            None => unreachable!(),
         }
     }
 

@@ -12,7 +12,7 @@ ghost use Rattle.volume_tree.specs.Shown.{fork_at};
 use crate::forks::{FileForks, keep};
 use crate::head::{Dates, VolumeHead};
 use afp_base::{Moment, NodeId, OutOfMemory};
-use afp_names::Name;
+use afp_names::{Name, NameFault};
 use fork_bytes::Fork;
 use node_rows::{Node, Rows};
 use sorted_map::SortedMap;
@@ -78,7 +78,8 @@ fn name_of(alloc: Global, text: &str) -> Result<Name, OutOfMemory>
 {
     match Name::new(alloc, text.as_bytes()) {
         Ok(name) => Ok(name),
-        Err(_) => Err(OutOfMemory),
+        Err(NameFault::Memory) => Err(OutOfMemory),
+        Err(_) => unreachable!(),
     }
 }
 
