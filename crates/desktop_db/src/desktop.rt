@@ -233,13 +233,6 @@ impl Desktop {
         self.comments.as_slice()
     }
 
-    /// All icons, by rising key.
-    pub fn all_icons(&self) -> &[Icon]
-        ensures { result.now ≡ self.now.icons }
-    {
-        self.icons.as_slice()
-    }
-
     /// All mappings, by rising creator and file.
     pub fn all_appls(&self) -> &[Appl]
         ensures { result.now ≡ self.now.appls }
