@@ -11,7 +11,7 @@ use Rattle.afp_serial.specs.OnVolume.{changes_tree}
 use Rattle.afp_serial.specs.Rows.{ends_session, row}
 use Rattle.volume_spec.specs.TreeSteps.{TreeCall}
 use Rattle.volume_spec.specs.VolumeState.{VolumeState}
-use Rattle.volume_tree.specs.Requests.{tree_call}
+use Rattle.volume_plans.specs.Requests.{tree_call}
 
 -- the call's row is this change of the volume's tree, and its session goes on
 pub record ChangesTree (call : Call) (volume : ℕ) (change : TreeCall) (reply : VolumeState → AfpReply) : Type 0 where

@@ -10,7 +10,7 @@ ghost use Rattle.afp_core_volumes.specs.VolumeRows.{ChangesAlone, ChangesTree};
 ghost use Rattle.afp_core_state.specs.OnVolumes.{BecomesKept};
 ghost use Rattle.afp_core_state.specs.Running.{RunsRow};
 ghost use Rattle.volume_keeper_commit.specs.Changing.{Changes};
-ghost use Rattle.volume_tree.specs.Requests.{tree_call};
+ghost use Rattle.volume_plans.specs.Requests.{tree_call};
 
 use afp_base::{Bytes, Code, OutOfMemory, SessionNumber, VolumeId};
 use afp_calls::Call;

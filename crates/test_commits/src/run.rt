@@ -1,6 +1,6 @@
 //! What comes of lines.
 ghost use Rattle.std.specs.Prelude.{IsSome};
-ghost use Rattle.volume_tree.specs.Requests.{tree_call};
+ghost use Rattle.volume_plans.specs.Requests.{tree_call};
 
 use crate::noting::NotingKeeper;
 use crate::spent::spent_keeper;

@@ -7,7 +7,7 @@ ghost use Rattle.volume_spec.specs.EditRanges.{is_typed_edit};
 ghost use Rattle.volume_edits.specs.Planned.{StandOn, edits_of};
 ghost use Rattle.volume_keeper_commit.specs.Changing.{Changes};
 ghost use Rattle.volume_keeper_commit.specs.lemma.CarriedOut.{IsCarriedOut};
-ghost use Rattle.volume_tree.specs.Requests.{tree_call};
+ghost use Rattle.volume_plans.specs.Requests.{tree_call};
 ghost use Rattle.volume_tree.specs.Shown.{opened};
 
 use crate::kept::KeptVolume;

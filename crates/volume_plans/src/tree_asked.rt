@@ -4,7 +4,7 @@ ghost use Rattle.afp_names.specs.Name.{name_key};
 ghost use Rattle.volume_spec.specs.Edits.{has_children, is_below, is_taken};
 ghost use Rattle.volume_spec.specs.Shared.{directory_of, has_attribute, has_no_ids, has_no_room, name_of};
 ghost use Rattle.volume_spec.specs.Walk.{child_by_key, found, has_directory, new_place};
-ghost use Rattle.volume_tree.specs.lemma.Answered.{FailsAs, IsFoundNode};
+ghost use Rattle.volume_tree.specs.Answered.{FailsAs, IsFoundNode};
 
 use afp_base::NodeId;
 use afp_names::{Name, Path};

@@ -5,7 +5,7 @@ ghost use Rattle.volume_spec.specs.Edit.{after_call};
 ghost use Rattle.volume_spec.specs.EditLaws.{volume_call};
 ghost use Rattle.volume_spec.specs.TreeSteps.{tree_effect, tree_refusal};
 ghost use Rattle.volume_tree.specs.Answered.{Refuses};
-ghost use Rattle.volume_tree.specs.Requests.{tree_call};
+ghost use Rattle.volume_plans.specs.Requests.{tree_call};
 ghost use Rattle.volume_tree.specs.Shown.{opened};
 ghost use Rattle.volume_edits.specs.Planned.{edits_of};
 ghost use Rattle.volume_plans.specs.Plans.{Plans};

@@ -16,7 +16,7 @@ use Rattle.volume_spec.specs.SoundVolume.{IsSoundVolume, fork_bytes}
 use Rattle.volume_spec.specs.VolumeState.{Row, fresh_volume, never, new_row}
 use Rattle.afp_names.specs.Name.{name_fault}
 use Rattle.volume_tree.proofs.Showing.{any-shown}
-use Rattle.volume_tree.specs.lemma.Answered.{IsFoundNode}
+use Rattle.volume_tree.specs.Answered.{IsFoundNode}
 use Rattle.volume_tree.specs.Kept.{Forks, data_of, resource_of, rows_of, state_of, spare_of}
 use Rattle.volume_tree.specs.lemma.Kept.{IsKeptVolume, IsShownAs, has_forks}
 use Rattle.volume_tree.specs.Shown.{TreeValue}

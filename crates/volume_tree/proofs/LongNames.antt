@@ -13,7 +13,8 @@ use Rattle.volume_spec.specs.Order.{in_order, put_in, rises_from, stands_before}
 use Rattle.volume_spec.specs.SoundVolume.{IsSoundVolume, has_rising_ids}
 use Rattle.volume_spec.specs.VolumeState.{Row, VolumeState}
 use Rattle.volume_spec.specs.Walk.{child_by_long_name}
-use Rattle.volume_tree.specs.lemma.Answered.{IsFoundNode, lower, option_id}
+use Rattle.volume_tree.specs.Answered.{IsFoundNode}
+use Rattle.volume_tree.specs.lemma.Answered.{lower, option_id}
 
 -- whether a row has this long name
 abbrev pub has_long : List ℕ → Row → Bool

@@ -68,9 +68,5 @@ sibling-at v dir i child s is = by (slice_get (listed v.rows dir) i) refl (sym (
           rest = drop-cons (listed v.rows dir) i row inside ∙ (λ k. is_row k ∷ drop (sym (add-one i) k) (listed v.rows dir));
         }
 
-pub sibling-found : (v : VolumeState) (dir i : ℕ) (child : Child) → IsSoundVolume v → slice_get (map child_of (listed v.rows dir)) i ≡ Some child
-    → option_map bare (row_at v.rows child.id.0) ≡ option_map bare (slice_get (listed v.rows dir) i)
-sibling-found v dir i child s is = let h = sibling-at v dir i child s is in ap (λ (o : Option Row). option_map bare o) (h.at_id ∙ sym h.here)
-
 pub sibling-here : (v : VolumeState) (dir i : ℕ) (siblings : List Child) (child : Child) → IsSoundVolume v → siblings ≡ map child_of (listed v.rows dir) → i < length siblings → child ≡ slice_index_or siblings i child → IsSibling v dir i child
 sibling-here v dir i siblings child s are within read = sibling-at v dir i child s (ap (λ l. slice_get l i) (sym are) ∙ slice_get_read siblings (length siblings) i child refl within read)

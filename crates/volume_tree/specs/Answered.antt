@@ -1,4 +1,4 @@
--- What answers say that may also be want of memory.
+-- What answers say that may also be want of memory, or that no node was found.
 use Rattle.std.specs.Prelude.{◌≡◌, ℕ, Option, Some, None, Result, Ok, Err}
 use Rattle.afp_base.specs.declared.code.Code.{Code}
 use Rattle.afp_base.specs.declared.ids.NodeId.{NodeId}
@@ -16,3 +16,14 @@ abbrev pub Refuses : {A : Type 0} → Result A PlanFault → Option Code → Typ
 Refuses (Ok planned) refused = refused ≡ None
 Refuses (Err (fault.Code code)) refused = refused ≡ Some code
 Refuses (Err fault.Memory) refused = Unit {0}
+
+-- where an answer is a code, that is what was wanted
+abbrev pub FailsAs : {A B : Type 0} → Result A PlanFault → Result B Code → Type 0
+FailsAs (Ok at_end) wanted = Unit {0}
+FailsAs (Err (fault.Code code)) wanted = wanted ≡ Err code
+FailsAs (Err fault.Memory) wanted = Unit {0}
+
+-- the node that was found, if one was, is the one that is wanted
+abbrev pub IsFoundNode : Option NodeId → Option ℕ → Type 0
+IsFoundNode None wanted = wanted ≡ None
+IsFoundNode (Some id) wanted = wanted ≡ Some id.0

@@ -1,7 +1,6 @@
 pub mod Shown
 pub mod Kept
 pub mod Answered
-pub mod Requests
 pub mod Restored
 pub mod Filled
 pub mod lemma

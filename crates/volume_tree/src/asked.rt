@@ -8,7 +8,8 @@ ghost use Rattle.volume_spec.specs.Shared.{directory_of, has_attribute, has_no_i
 ghost use Rattle.volume_spec.specs.SoundVolume.{has_file};
 ghost use Rattle.volume_spec.specs.VolumeState.{Row};
 ghost use Rattle.volume_spec.specs.Walk.{parent_at, has_directory, child_by_key, child_by_long_name, row_at};
-ghost use Rattle.volume_tree.specs.lemma.Answered.{IsFoundNode, lower, option_id};
+ghost use Rattle.volume_tree.specs.Answered.{IsFoundNode};
+ghost use Rattle.volume_tree.specs.lemma.Answered.{lower, option_id};
 ghost use Rattle.volume_tree.specs.Shown.{opened};
 
 use crate::volume::{ROOT_PARENT, Volume};

@@ -1,12 +1,11 @@
 //! The children of directories, in the order of their lists.
-ghost use Rattle.std.specs.Prelude.{◌≡◌, length, map, option_copied, option_map, slice_get};
-ghost use Rattle.volume_spec.specs.Edits.{bare};
+ghost use Rattle.std.specs.Prelude.{◌≡◌, length, map};
 ghost use Rattle.volume_spec.specs.Listing.{children, listed};
 ghost use Rattle.node_rows.specs.Children.{child_of};
 
 use crate::volume::Volume;
 use afp_base::NodeId;
-use node_rows::{Child, Node};
+use node_rows::Child;
 
 impl Volume {
     /// The children of a directory in the order of its list, each by its id and the key of its name. They are found by two
@@ -22,18 +21,5 @@ impl Volume {
         ensures { result ≡ length (children self.now.state.rows dir.0) }
     {
         self.siblings(dir).len()
-    }
-
-    /// The child at a place of a directory's list, which counts from 0, without its forks.
-    pub fn nth_child(&self, dir: NodeId, i: usize) -> Option<&Node>
-        ensures { option_copied result ≡ option_map bare (slice_get (listed self.now.state.rows dir.0) i) }
-    {
-        self.keeps_sound();
-        let siblings = self.siblings(dir);
-        if i >= siblings.len() {
-            return None;
-        }
-        let child = &siblings[i];
-        self.node(child.id)
     }
 }

@@ -18,17 +18,15 @@ mod resolve;
 mod restore;
 mod settings;
 mod tails;
-mod typed;
 mod volume;
 
 pub use after::NodeAfter;
 pub use asked::{DELETE_INHIBIT, RENAME_INHIBIT, is_busy};
 pub use head::VolumeHead;
 pub use parts::{NewName, NodeWithForks};
-pub use places::{last_name, new_name, only_name, steps_are_named};
+pub use places::{new_name, only_name, steps_are_named};
 pub use resolve::PlanFault;
 pub use restore::LoadedNode;
 pub use settings::Settings;
 pub use tails::{is_short_tail, settings_in};
-pub use typed::requests_are_typed;
 pub use volume::Volume;

@@ -2,7 +2,7 @@
 ghost use Rattle.std.specs.Prelude.{◌≡◌, ◌-◌, true, None, Some, Ok, Err, take, length, IfOk, MatchOption};
 ghost use Rattle.volume_spec.specs.Shared.{name_of};
 ghost use Rattle.volume_spec.specs.Walk.{found, before_down, new_place, one_down, one_down_or, is_named_path, is_named_step};
-ghost use Rattle.volume_tree.specs.lemma.Answered.{FailsAs};
+ghost use Rattle.volume_tree.specs.Answered.{FailsAs};
 
 use crate::resolve::PlanFault;
 use crate::volume::Volume;
@@ -12,7 +12,7 @@ use std::alloc::Global;
 use volume_spec::laws::rows_are_changed_in_place;
 
 /// The name to which the last step of a path goes down.
-pub fn last_name(path: &Path) -> Option<&Name>
+fn last_name(path: &Path) -> Option<&Name>
     ensures { MatchOption result (before_down path.now.steps ≡ None) (λ name. before_down path.now.steps ≡ Some (take (length path.now.steps - 1) path.now.steps, name.now)) }
 {
     if path.len() == 0 {

@@ -1,8 +1,7 @@
 //! Walking a path through the tree.
 ghost use Rattle.std.specs.Prelude.{◌≡◌, ◌≤◌, IfOk, length, take};
 ghost use Rattle.volume_spec.specs.Walk.{child, walk_from, walk, found};
-ghost use Rattle.volume_tree.specs.Answered.{Answers};
-ghost use Rattle.volume_tree.specs.lemma.Answered.{IsFoundNode};
+ghost use Rattle.volume_tree.specs.Answered.{Answers, IsFoundNode};
 
 use crate::volume::{ROOT_PARENT, Volume};
 use afp_base::{Code, NodeId, OutOfMemory};

@@ -2,7 +2,7 @@ use Rattle.std.proofs.Common.{subst}
 use Rattle.afp_serial.specs.OnVolume.{opened_on}
 use Rattle.volume_spec.specs.TreeSteps.{TreeCall}
 use Rattle.volume_keeper_commit.specs.Changing.{Changes}
-use Rattle.volume_tree.specs.Requests.{tree_call}
+use Rattle.volume_plans.specs.Requests.{tree_call}
 use Rattle.afp_core_state.specs.OnVolumes.{BecomesKept, IsOpen}
 use Rattle.afp_core_volumes.proofs.OnVolumeRows.{changes-runs, changes-unopened}
 use Rattle.afp_core_state.proofs.OnVolumeLemmas.{some-holds}

@@ -5,7 +5,7 @@ use Rattle.volume_spec.specs.Shared.{Opened}
 use Rattle.volume_spec.specs.TreeSteps.{TreeCall}
 use Rattle.volume_keeper_commit.specs.Changing.{Changes}
 use Rattle.volume_keeper_commit.specs.Kept.{KeptState}
-use Rattle.volume_tree.specs.Requests.{tree_call}
+use Rattle.volume_plans.specs.Requests.{tree_call}
 use Rattle.volume_tree.specs.Shown.{opened}
 use Rattle.afp_core_state.specs.KeptWorld.{KeptWorld, with_token_key, world_of}
 use Rattle.afp_core_state.specs.lemma.KeptWorld.{forks_in}

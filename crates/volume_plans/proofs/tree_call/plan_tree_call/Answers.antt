@@ -1,4 +1,4 @@
-use Rattle.volume_tree.specs.Requests.{tree_call}
+use Rattle.volume_plans.specs.Requests.{tree_call}
 use Rattle.volume_tree.specs.Shown.{opened}
 use Rattle.volume_plans.proofs.TreeCalls.{tree-effect, tree-some}
 use Rattle.volume_plans.proofs.tree_call.plan_tree_call.Goals as goal
