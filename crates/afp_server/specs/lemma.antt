@@ -1,7 +1,6 @@
 -- What the code goes by and what its proofs speak of; no public contract cites it.
 pub mod Feeding
 pub mod Passing
-pub mod Reading
 pub mod Requesting
 pub mod Sending
 pub mod Serving

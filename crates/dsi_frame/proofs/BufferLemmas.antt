@@ -3,6 +3,7 @@ use Rattle.std.proofs.Common.{◌≡◌, ℕ, ◌+◌, ◌-◌, ◌<◌, ◌≤�
 use Rattle.std.proofs.lemmas.List.{drop_at, drop-take, drop-drop, drop-append-le, length-take-le, length-drop, get_or-take, get_or-drop, ext_get_or}
 use Rattle.std.proofs.lemmas.Slice.{take-put_mid}
 use borrow.Rule.Slice.PartMut.{put_mid}
+use Rattle.std.proofs.Math.Seq.{take-add}
 use Rattle.dsi_frame.specs.Buffered.{Buffered}
 
 -- as many bytes are held as the buffer says
@@ -46,3 +47,13 @@ pub advanced : (items first more : List ℕ) (start held n place from : ℕ) (ol
 advanced items first more start held n place from old size same_place same fits =
     let rest = behind-first items first more start held n size same fits in
     λ i. record { place = same_place i + size i; rest = rest i }
+
+-- the bytes held before, with those that came behind them, where the front of the buffer stayed
+pub filled : (start held n old : ℕ) (xs middle new : List ℕ) → start + held ≤ length middle
+    → take (start + held) new ≡ take (start + held) middle
+    → take held (drop start middle) ≡ take held (drop old xs)
+    → take (held + n) (drop start new) ≡ take held (drop old xs) ++ take n (drop (start + held) new)
+filled start held n old xs middle new fits front same =
+    take-add held n (drop start new)
+    ∙ ap (λ (l : List ℕ). l ++ take n (drop held (drop start new))) (sym (drop-take start held new) ∙ ap (drop start) front ∙ drop-take start held middle ∙ same)
+    ∙ ap (λ (l : List ℕ). take held (drop old xs) ++ take n l) (drop-drop held start new)

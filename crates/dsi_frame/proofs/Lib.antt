@@ -1,4 +1,5 @@
 pub mod BufferLemmas
+pub mod Filling
 pub mod FrameLemmas
 pub mod HeaderLemmas
 pub mod StreamLemmas

@@ -1,3 +1,4 @@
 -- What the code goes by and what its proofs speak of; no public contract cites it.
+pub mod BufferFilling
 pub mod GivenOut
 pub mod GoodHeader

@@ -1,12 +1,16 @@
 //! A deframer: the frames of a stream that comes in pieces.
 ghost use Rattle.std.specs.Prelude.{◌≡◌, ◌+◌, ◌-◌, ◌<◌, ◌≤◌, ◌^◌, ◌++◌, [], List, ℕ, length, take, drop, min, IfOk};
+ghost use Rattle.afp_outside.specs.Link.{Reads};
 ghost use Rattle.dsi_frame.specs.Buffered.{Buffered, buffer_length};
 ghost use Rattle.dsi_frame.specs.Deframe.{IsHead};
+ghost use Rattle.dsi_frame.specs.Filling.{ReadsMore, TakesAtMost};
 ghost use Rattle.dsi_frame.specs.Frame.{Frame, IsSpelling, payload_length_in};
 ghost use Rattle.dsi_frame.specs.Stream.{Begins, HasFrame};
+ghost use Rattle.dsi_frame.specs.lemma.BufferFilling.{Fills};
 
 use crate::frame::{BadFrame, Head, numbers_in, read_header};
 use afp_base::{MAX_PAYLOAD, OutOfMemory};
+use afp_outside::{Link, ReadResult};
 use std::alloc::Global;
 use std::marker::Model;
 
@@ -61,8 +65,12 @@ fn make_room(buffer: &mut [u8], start: usize, held: usize, more: usize) -> usize
     requires held { start + held ≤ length buffer.old }
     requires room { held + more ≤ length buffer.old }
     ensures room { result + held + more ≤ length buffer.old }
+    ensures size { length buffer.new ≡ length buffer.old }
     ensures same { take held (drop result buffer.new) ≡ take held (drop start buffer.old) }
 {
+    if held == 0 {
+        return 0;
+    }
     if buffer.len() - start - held < more {
         move_to_front(buffer, start, held);
         return 0;
@@ -81,6 +89,37 @@ fn put_behind(buffer: &mut [u8], start: usize, held: usize, piece: &[u8]) -> usi
     let end = start + held;
     buffer[end..end + piece.len()].copy_from_slice(piece);
     start
+}
+
+// Reads once, into the buffer from `end` on, and no further than `stop`.
+fn read_into<L: Link>(link: &mut L, buffer: &mut [u8], end: usize, stop: usize) -> ReadResult
+    requires some { end < stop }
+    requires within { stop ≤ length buffer.old }
+    ensures same { take end buffer.new ≡ take end buffer.old }
+    ensures size { length buffer.new ≡ length buffer.old }
+    ensures reads { Reads (L.link_state link.old) (take (stop - end) (drop end buffer.new)) result (L.link_state link.new) }
+{
+    link.read(&mut buffer[end..stop])
+}
+
+// Reads once, behind the bytes `held` from `start`, and answers where they begin then.
+fn read_behind<L: Link>(
+    link: &mut L,
+    buffer: &mut [u8],
+    start: usize,
+    held: usize,
+    most: usize,
+) -> (usize, ReadResult)
+    requires held { start + held ≤ length buffer.old }
+    requires room { held < length buffer.old }
+    requires most { 0 < most }
+    ensures reads { Fills (take held (drop start buffer.old)) most (L.link_state link.old) result.1 result.0 held buffer.new (L.link_state link.new) }
+{
+    let size = (buffer.len() - held).min(most);
+    let start = make_room(buffer, start, held, size);
+    let behind = start + held;
+    let gave = read_into(link, buffer, behind, behind + size);
+    (start, gave)
 }
 
 /// The frames of a stream that comes in pieces. Its buffer holds the longest frame, 131,088 bytes.
@@ -136,6 +175,29 @@ impl Deframer {
         );
         self.held += taken;
         taken
+    }
+
+    /// Reads once, at most so many bytes, and no more than there is room for, straight into its buffer. Fewer than
+    /// 2^64 bytes are fed in all.
+    pub fn read_from<L: Link>(&mut self, link: &mut L, most: usize) -> ReadResult
+        requires some { 0 < most }
+        requires free { length self.old.rest < buffer_length }
+        requires fits { self.old.place + length self.old.rest + most < 2 ^ 64 }
+        ensures reads { ReadsMore self.old (L.link_state link.old) result self.new (L.link_state link.new) }
+        ensures most { TakesAtMost result most }
+    {
+        let (start, gave) = read_behind(
+            link,
+            self.buffer.as_mut_slice(),
+            self.start,
+            self.held,
+            most,
+        );
+        self.start = start;
+        if let ReadResult::Got(n) = gave {
+            self.held += n;
+        }
+        gave
     }
 
     /// What stands at the front of the rest. Where that is less than a frame, there is room for more.

@@ -20,7 +20,7 @@ ReadsMore old before results.Quiet new after = ReadsQuiet before after × (new �
 ReadsMore old before results.End new after = ReadsEnd before after × (new ≡ old)
 ReadsMore old before results.Failed new after = FailsToRead before after × (new ≡ old)
 
--- no more bytes came than the room has
+-- no more bytes came than this
 abbrev pub TakesAtMost : ReadResult → ℕ → Type 0
 TakesAtMost (results.Got n) most = n ≤ most
 TakesAtMost results.Quiet most = Unit {0}
