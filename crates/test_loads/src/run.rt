@@ -6,7 +6,8 @@ use afp_names::Name;
 use record_keeper::{Change, Keeper, KeeperFault, MemoryKeeper, Record, RecordKey, read_all};
 use std::alloc::Global;
 use test_lines::{AnswersLines, LineResult};
-use volume_keeper::{Held, LoadFault, load};
+use volume_edits::WholeVolume;
+use volume_keeper::{LoadFault, load};
 use volume_keeper_records::{Reason, TableRow, record_of};
 
 /// A keeper, whose records lines put.
@@ -83,9 +84,12 @@ fn of_bad(alloc: Global, key: &RecordKey, reason: Reason) -> Result<LineResult, 
 }
 
 /// The result of a load: how many nodes there are, or why there are none.
-fn of_load(alloc: Global, loaded: Result<Held, LoadFault>) -> Result<LineResult, OutOfMemory> {
+fn of_load(
+    alloc: Global,
+    loaded: Result<WholeVolume, LoadFault>,
+) -> Result<LineResult, OutOfMemory> {
     match loaded {
-        Ok(held) => Ok(LineResult::Number(held.volume.count() as u64)),
+        Ok(whole) => Ok(LineResult::Number(whole.tree.count() as u64)),
         Err(LoadFault::BadRecord { key, reason }) => of_bad(alloc, &key, reason),
         Err(LoadFault::Failed) => Ok(LineResult::Word("failed")),
         Err(LoadFault::Memory) => Ok(LineResult::Word("memory")),

@@ -1,22 +1,22 @@
 -- The desktop database of a volume, put in again one after the other.
-use Rattle.std.proofs.Common.{◌≡◌, ◌∙◌, ℕ, zero, suc, ◌≤◌, Bool, true, false, cond, not, List, [], ◌∷◌, ◌++◌, map, length, take, refl, sym, ap, arith, append_assoc}
-use Rattle.std.specs.Prelude.{nat_le, ◌==◌, bytes_eq, flat_map}
+use Rattle.std.proofs.Common.{◌≡◌, ◌∙◌, ℕ, zero, suc, ◌+◌, ◌<◌, ◌≤◌, Bool, true, false, cond, not, List, [], ◌∷◌, ◌++◌, map, length, take, refl, sym, ap, subst, arith, append_assoc}
+use Rattle.std.specs.Prelude.{nat_le, ◌==◌, ◌&&◌, bytes_eq, flat_map, is_none}
 use Rattle.std.specs.List.{filter, list_all}
 use Rattle.std.specs.Cmp.{tied_itself}
 use Rattle.std.specs.Cmp.Lexicographic.{nat_list_cmp_total}
 use Rattle.std.specs.Ordering.{is_lt}
 use Rattle.std.proofs.lemmas.Slice.Eq.{bytes_eq-Decides}
 use Rattle.std.proofs.lemmas.Bool.{and_from, eqb-true}
-use Rattle.std.proofs.lemmas.List.{append-nil}
+use Rattle.std.proofs.lemmas.List.{append-nil, length-append}
 use Rattle.volume_spec.specs.VolumeState.{Comment, Icon, Appl, VolumeState}
 use Rattle.volume_spec.specs.Order.{put_in, rises, stands_before}
-use Rattle.volume_spec.specs.SoundVolume.{appl_key, code_size, icon_key, is_comment, is_icon, longest_comment, longest_icon}
-use Rattle.volume_spec.specs.Desktop.{IsDesktop, comment_key, icon_under, with_appl, with_comment, with_icon}
+use Rattle.volume_spec.specs.SoundVolume.{appl_key, code_size, icon_key, is_comment, is_icon, longest_comment, longest_icon, most_appls, most_icons}
+use Rattle.volume_spec.specs.Desktop.{IsDesktop, appl_at, comment_key, has_no_appl_room, has_no_icon_room, icon_at, icon_under, with_appl, with_comment, with_icon}
 use Rattle.volume_spec.specs.DesktopLaws.{IconHasParts}
 use Rattle.volume_keeper_records.specs.declared.rows.TableRow.{TableRow}
 use Rattle.volume_keeper_records.specs.declared.rows.TableRow.TheVariants as row
 use Rattle.volume_keeper_records.specs.Image.{fork_blocks, node_of, rows_of, tables_of}
-use Rattle.volume_keeper.specs.lemma.Rebuilt.{appls_with, comments_with, icons_with, with_all}
+use Rattle.volume_keeper.specs.lemma.Rebuilt.{HasApplRoom, HasIconRoom, HaveRoom, appls_with, comments_with, icons_with, with_all}
 use Rattle.afp_base.proofs.Facts.{left_true, right_true}
 use Rattle.afp_base.proofs.ListFacts.{all-always, all-snoc, all-weaker, filter-all}
 use Rattle.volume_spec.proofs.Ordered.{not-back}
@@ -76,6 +76,22 @@ module _ {A : Type 0} (key : A → List ℕ) where
     pub list_again : (xs : List A) → list_all good xs ≡ true → rises key xs ≡ true → with_all put (map make xs) [] ≡ xs
     list_again xs g r = all_in [] xs g r (none_done xs)
 
+    module _ (HasRoom : TableRow → List A → Type 0) (most : ℕ) (room : (x : A) (done : List A) → length done < most → HasRoom (make x) done) where
+      room_in : (done xs : List A) → list_all good xs ≡ true → rises key xs ≡ true → list_all (λ y. list_all (λ d. stands_before (key d) (key y)) done) xs ≡ true → length done + length xs ≤ most
+          → HaveRoom HasRoom put (map make xs) done
+      room_in done [] g r e few = tt
+      room_in done (x ∷ xs) g r e few =
+          let longer : length (done ++ x ∷ []) ≡ length done + 1 = length-append done (x ∷ []) in (
+            room x done (omega arith),
+            subst (HaveRoom HasRoom put (map make xs)) (sym (step x done (left_true (good x) _ g) (left_true (list_all (λ d. stands_before (key d) (key x)) done) _ e)))
+                (room_in (done ++ x ∷ []) xs (right_true (good x) _ g) (right_true (list_all (λ y. stands_before (key x) (key y)) xs) _ r)
+                (later_too x done xs (right_true (list_all (λ d. stands_before (key d) (key x)) done) _ e) (left_true (list_all (λ y. stands_before (key x) (key y)) xs) _ r))
+                (grind (arith, longer, few))),
+          )
+
+      pub list_has_room : (xs : List A) → list_all good xs ≡ true → rises key xs ≡ true → nat_le (length xs) most ≡ true → HaveRoom HasRoom put (map make xs) []
+      list_has_room xs g r few = room_in [] xs g r (none_done xs) (grind (arith, few))
+
 -- ---- each kind
 
 comment_in : (c : Comment) (done : List Comment) → is_comment c ≡ true → list_all (λ d. stands_before (comment_key d) (comment_key c)) done ≡ true → with_comment c.node c.text done ≡ done ++ c ∷ []
@@ -121,6 +137,23 @@ with-append put (x ∷ xs) ys a = with-append put xs ys (put x a)
 with-none : {A B : Type 0} (put : TableRow → A → A) (make : B → TableRow) → ((b : B) (a : A) → put (make b) a ≡ a) → (xs : List B) (a : A) → with_all put (map make xs) a ≡ a
 with-none put make none [] a = refl
 with-none put make none (x ∷ xs) a = ap (with_all put (map make xs)) (none x a) ∙ with-none put make none xs a
+
+have-append : {A : Type 0} (HasRoom : TableRow → A → Type 0) (put : TableRow → A → A) (xs ys : List TableRow) (a : A) → HaveRoom HasRoom put xs a → HaveRoom HasRoom put ys (with_all put xs a) → HaveRoom HasRoom put (xs ++ ys) a
+have-append HasRoom put [] ys a h k = k
+have-append HasRoom put (x ∷ xs) ys a h k = (h.0, have-append HasRoom put xs ys (put x a) h.1 k)
+
+have-none : {A B : Type 0} (HasRoom : TableRow → A → Type 0) (put : TableRow → A → A) (make : B → TableRow) → ((b : B) (a : A) → HasRoom (make b) a) → (xs : List B) (a : A) → HaveRoom HasRoom put (map make xs) a
+have-none HasRoom put make none [] a = tt
+have-none HasRoom put make none (x ∷ xs) a = (none x a, have-none HasRoom put make none xs (put (make x) a))
+
+not_full : (few most : ℕ) → few < most → nat_le most few ≡ false
+not_full few most less = grind (arith, less)
+
+icon_room : (x : Icon) (done : List Icon) → length done < most_icons → has_no_icon_room (icon_key x) done ≡ false
+icon_room x done less = ap (λ b. b && is_none (icon_at (icon_key x) done)) (not_full (length done) most_icons less)
+
+appl_room : (a : Appl) (done : List Appl) → length done < most_appls → has_no_appl_room a.creator a.node done ≡ false
+appl_room a done less = ap (λ b. b && is_none (appl_at a.creator a.node done)) (not_full (length done) most_appls less)
 
 module _ (v : VolumeState) where
   abbrev nodes : List TableRow
@@ -168,3 +201,26 @@ module _ (v : VolumeState) where
         parts_of appls_with refl
         ∙ ap (with_all appls_with appls) (with-none appls_with (λ i. row.Icon i) (λ i l. refl) v.icons _ ∙ with-none appls_with (λ c. row.Comment c) (λ c l. refl) v.comments _ ∙ with-none appls_with (λ b. row.Block b) (λ b l. refl) (flat_map fork_blocks v.rows) _ ∙ with-none appls_with (λ n. row.Node n) (λ n l. refl) (map node_of v.rows) [])
         ∙ list_again appl_key appls_with (λ a. row.Appl a) (λ a. true) (λ a done g e. appl_in a done e) v.appls (all-always v.appls) desktop.appls_rise
+
+    pub icons_have_room : IconHasParts → HaveRoom HasIconRoom icons_with (rows_of (tables_of v)) []
+    icons_have_room parts =
+        let none = with-none icons_with (λ c. row.Comment c) (λ c l. refl) v.comments _ ∙ with-none icons_with (λ b. row.Block b) (λ b l. refl) (flat_map fork_blocks v.rows) _ ∙ with-none icons_with (λ n. row.Node n) (λ n l. refl) (map node_of v.rows) [] in (
+          tt,
+          have-append HasIconRoom icons_with nodes (blocks ++ (comments ++ (icons ++ appls))) [] (have-none HasIconRoom icons_with (λ n. row.Node n) (λ n l. tt) (map node_of v.rows) [])
+              (have-append HasIconRoom icons_with blocks (comments ++ (icons ++ appls)) _ (have-none HasIconRoom icons_with (λ b. row.Block b) (λ b l. tt) (flat_map fork_blocks v.rows) _)
+              (have-append HasIconRoom icons_with comments (icons ++ appls) _ (have-none HasIconRoom icons_with (λ c. row.Comment c) (λ c l. tt) v.comments _)
+              (have-append HasIconRoom icons_with icons appls _
+              (subst (HaveRoom HasIconRoom icons_with icons) (sym none) (list_has_room icon_key icons_with (λ i. row.Icon i) is_icon (icon_in parts) HasIconRoom most_icons icon_room v.icons desktop.icons_formed desktop.icons_rise desktop.few_icons))
+              (have-none HasIconRoom icons_with (λ a. row.Appl a) (λ a l. tt) v.appls _)))),
+        )
+
+    pub appls_have_room : HaveRoom HasApplRoom appls_with (rows_of (tables_of v)) []
+    appls_have_room =
+        let none = with-none appls_with (λ i. row.Icon i) (λ i l. refl) v.icons _ ∙ with-none appls_with (λ c. row.Comment c) (λ c l. refl) v.comments _ ∙ with-none appls_with (λ b. row.Block b) (λ b l. refl) (flat_map fork_blocks v.rows) _ ∙ with-none appls_with (λ n. row.Node n) (λ n l. refl) (map node_of v.rows) [] in (
+          tt,
+          have-append HasApplRoom appls_with nodes (blocks ++ (comments ++ (icons ++ appls))) [] (have-none HasApplRoom appls_with (λ n. row.Node n) (λ n l. tt) (map node_of v.rows) [])
+              (have-append HasApplRoom appls_with blocks (comments ++ (icons ++ appls)) _ (have-none HasApplRoom appls_with (λ b. row.Block b) (λ b l. tt) (flat_map fork_blocks v.rows) _)
+              (have-append HasApplRoom appls_with comments (icons ++ appls) _ (have-none HasApplRoom appls_with (λ c. row.Comment c) (λ c l. tt) v.comments _)
+              (have-append HasApplRoom appls_with icons appls _ (have-none HasApplRoom appls_with (λ i. row.Icon i) (λ i l. tt) v.icons _)
+              (subst (HaveRoom HasApplRoom appls_with appls) (sym none) (list_has_room appl_key appls_with (λ a. row.Appl a) (λ a. true) (λ a done g e. appl_in a done e) HasApplRoom most_appls appl_room v.appls (all-always v.appls) desktop.appls_rise desktop.few_appls))))),
+        )

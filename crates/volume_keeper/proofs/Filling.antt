@@ -31,8 +31,7 @@ use Rattle.volume_tree.specs.Filled.{filled, filled_row, FitsFork}
 use Rattle.volume_spec.specs.OpenFork.{file_of}
 use Rattle.volume_spec.specs.ForkEffect.{fork_of}
 use Rattle.volume_tree.specs.Shown.{fork_at}
-use Rattle.volume_keeper.specs.lemma.Rebuilt.{FitRows, FitsRow, with_block, with_blocks}
-use Rattle.volume_keeper.specs.Whole.{without_desktop}
+use Rattle.volume_keeper.specs.lemma.Rebuilt.{FitRows, FitsRow, with_block, with_blocks, without_desktop}
 use Rattle.volume_keeper.proofs.SoundRows.{HasFitForks, fit_forks, ids_rise, rows_formed}
 use Rattle.volume_keeper.proofs.Zeroed.{find-map, start, zeroed}
 use Rattle.afp_base.proofs.Facts.{eqb-itself, left_false, left_true, right_false, right_true}

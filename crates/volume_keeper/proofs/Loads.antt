@@ -21,23 +21,23 @@ use Rattle.volume_keeper_records.specs.Laws.{ImagesRise}
 use Rattle.volume_keeper.specs.declared.loading.LoadFault.{LoadFault}
 use Rattle.volume_keeper.specs.Loading.{Becomes, IsFaultIn, IsLoad}
 use Rattle.volume_keeper.specs.lemma.Loading.{IsMadeOf, IsMake, IsReadFault, put_of}
-use Rattle.volume_keeper.specs.Whole.{HeldValue}
+use Rattle.volume_edits.specs.Whole.{VolumeValue}
 use Rattle.volume_keeper.proofs.LookUps.{all_put, sorted_entries}
 
 -- ---- a fresh volume
 
-made_one : ImagesRise → (name : List ℕ) (now : ℕ) → IsSoundVolume (fresh_volume name now) → (held : HeldValue) → held.state ≡ fresh_volume name now → (cs : List Change) → cs ≡ map put_of (rows_of (tables_of (fresh_volume name now)))
-    → (old new : Records) → new ≡ changed cs old → entries old ≡ [] → kept_image held.state ≡ new
-made_one rising name now sound held is cs all old new e none =
+made_one : ImagesRise → (name : List ℕ) (now : ℕ) → IsSoundVolume (fresh_volume name now) → (whole : VolumeValue) → whole.state ≡ fresh_volume name now → (cs : List Change) → cs ≡ map put_of (rows_of (tables_of (fresh_volume name now)))
+    → (old new : Records) → new ≡ changed cs old → entries old ≡ [] → kept_image whole.state ≡ new
+made_one rising name now sound whole is cs all old new e none =
     ap kept_image is
     ∙ sym (all_put (rows_of (tables_of (fresh_volume name now))) (rising (fresh_volume name now) sound) old none)
     ∙ ap (λ l. changed l old) (sym all) ∙ sym e
 
-pub made : ImagesRise → (name : List ℕ) (now : ℕ) → IsSoundVolume (fresh_volume name now) → (held : HeldValue) → held.state ≡ fresh_volume name now → (cs : List Change) → cs ≡ map put_of (rows_of (tables_of (fresh_volume name now)))
-    → (old new : Option Records) → Makes (changed cs) old new → Becomes (IsMake name now (Ok held)) old new
-made rising name now sound held is cs all old None m = tt
-made rising name now sound held is cs all None (Some new) m = absurd (cc)
-made rising name now sound held is cs all (Some old) (Some new) m = made_one rising name now sound held is cs all old new (same_Some new (changed cs old) m)
+pub made : ImagesRise → (name : List ℕ) (now : ℕ) → IsSoundVolume (fresh_volume name now) → (whole : VolumeValue) → whole.state ≡ fresh_volume name now → (cs : List Change) → cs ≡ map put_of (rows_of (tables_of (fresh_volume name now)))
+    → (old new : Option Records) → Makes (changed cs) old new → Becomes (IsMake name now (Ok whole)) old new
+made rising name now sound whole is cs all old None m = tt
+made rising name now sound whole is cs all None (Some new) m = absurd (cc)
+made rising name now sound whole is cs all (Some old) (Some new) m = made_one rising name now sound whole is cs all old new (same_Some new (changed cs old) m)
 
 -- ---- records and entries
 
@@ -59,19 +59,19 @@ no_entries (r ∷ rs) e = absurd (cc)
 
 -- ---- a volume that was there
 
-loaded_one : (name : List ℕ) (now : ℕ) (records : List Record) → RisesByKey records → (records ≡ [] → ⊥) → (result : Result HeldValue LoadFault) → IfOk result (λ held. IsMadeOf name records held.state) → IfErr result (IsFaultIn name records)
+loaded_one : (name : List ℕ) (now : ℕ) (records : List Record) → RisesByKey records → (records ≡ [] → ⊥) → (result : Result VolumeValue LoadFault) → IfOk result (λ whole. IsMadeOf name records whole.state) → IfErr result (IsFaultIn name records)
     → (old new : Records) → new ≡ old → IsAll new records → IsLoad name now result old new
-loaded_one name now records rises some (Ok held) ok err old new same all =
+loaded_one name now records rises some (Ok whole) ok err old new same all =
     let told : records_in old ≡ records = ap records_in (sym same) ∙ records_are new records all in
     record {
       good = ap (first_bad_record name) told ∙ ok.good;
-      image = image_is held.state new records rises all ok.image;
+      image = image_is whole.state new records rises all ok.image;
       fresh = λ none. absurd (some (no_entries records (sym all ∙ ap entries same ∙ none)));
       same = λ n. same;
     }
 loaded_one name now records rises some (Err f) ok err old new same all = (same, subst (λ (rs : List Record). IsFaultIn name rs f) (sym (ap records_in (sym same) ∙ records_are new records all)) err)
 
-pub loaded : (name : List ℕ) (now : ℕ) (records : List Record) → RisesByKey records → (records ≡ [] → ⊥) → (result : Result HeldValue LoadFault) → IfOk result (λ held. IsMadeOf name records held.state) → IfErr result (IsFaultIn name records)
+pub loaded : (name : List ℕ) (now : ℕ) (records : List Record) → RisesByKey records → (records ≡ [] → ⊥) → (result : Result VolumeValue LoadFault) → IfOk result (λ whole. IsMadeOf name records whole.state) → IfErr result (IsFaultIn name records)
     → (old new : Option Records) → Makes same_records old new → IfSome new (λ kept. IsAll kept records) → Becomes (IsLoad name now result) old new
 loaded name now records rises some result ok err old None m all = tt
 loaded name now records rises some result ok err None (Some new) m all = absurd (cc)

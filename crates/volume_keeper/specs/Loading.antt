@@ -8,7 +8,7 @@ use Rattle.volume_keeper_records.specs.FirstBad.{first_bad_record}
 use Rattle.volume_keeper_records.specs.Image.{kept_image, records_in}
 use Rattle.volume_keeper.specs.declared.loading.LoadFault.{LoadFault}
 use Rattle.volume_keeper.specs.declared.loading.LoadFault.TheVariants.{BadRecord, Failed, Memory}
-use Rattle.volume_keeper.specs.Whole.{HeldValue}
+use Rattle.volume_edits.specs.Whole.{VolumeValue}
 
 -- where records are told afterwards, they were told before, and both are so
 abbrev pub FromTold : (Records → Records → Type 0) → Option Records → Records → Type 0
@@ -33,8 +33,8 @@ pub record IsLoaded (name : List ℕ) (now : ℕ) (old new : Records) (v : Volum
   pub same : (entries old ≡ [] → ⊥) → new ≡ old
 
 -- what a load does to the records
-abbrev pub IsLoad : List ℕ → ℕ → Result HeldValue LoadFault → Records → Records → Type 0
-IsLoad name now (Ok held) old new = IsLoaded name now old new held.state
+abbrev pub IsLoad : List ℕ → ℕ → Result VolumeValue LoadFault → Records → Records → Type 0
+IsLoad name now (Ok whole) old new = IsLoaded name now old new whole.state
 IsLoad name now (Err fault) old new = (new ≡ old) × IsFaultIn name (records_in old) fault
 
 -- the count of the keeper's faults beside a fault: it rose beside Failed alone

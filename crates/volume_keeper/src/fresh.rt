@@ -8,12 +8,12 @@ ghost use Rattle.volume_keeper_records.specs.Image.{node_of, rows_of, tables_of}
 ghost use Rattle.volume_keeper.specs.Loading.{Becomes, HasLoadCause};
 ghost use Rattle.volume_keeper.specs.lemma.Loading.{IsMake, put_of as the_put};
 
-use crate::held::Held;
 use crate::loading::LoadFault;
 use afp_base::{Bytes, Moment, OutOfMemory};
 use desktop_db::Desktop;
 use record_keeper::{Change, Keeper, KeeperFault, Record};
 use std::alloc::Global;
+use volume_edits::WholeVolume;
 use volume_keeper_records::laws::records_are_images;
 use volume_keeper_records::{Head, Node, head_record, node_record};
 use volume_spec::laws::{fresh_volumes_are_sound, numbers_stay_in_their_ranges};
@@ -76,16 +76,16 @@ fn fresh_changes(alloc: Global, name: &str, now: Moment) -> Result<Vec<Change>, 
 }
 
 /// A volume that is made at a moment, with an empty desktop database.
-fn fresh_held(alloc: Global, name: &str, now: Moment) -> Result<Held, OutOfMemory>
+fn fresh_whole(alloc: Global, name: &str, now: Moment) -> Result<WholeVolume, OutOfMemory>
     requires { name_fault name.now ≡ None }
-    ensures { IfOk result (λ held. held.state ≡ fresh_volume name.now now) }
+    ensures { IfOk result (λ whole. whole.state ≡ fresh_volume name.now now) }
 {
     fresh_volumes_are_sound();
     numbers_stay_in_their_ranges();
     let _ = now.seconds();
-    let volume = Volume::fresh(alloc, name, now)?;
-    Ok(Held {
-        volume,
+    let tree = Volume::fresh(alloc, name, now)?;
+    Ok(WholeVolume {
+        tree,
         desktop: Desktop::new(alloc),
     })
 }
@@ -96,9 +96,9 @@ pub(crate) fn make_fresh<K: Keeper>(
     keeper: &mut K,
     name: &str,
     now: Moment,
-) -> Result<Held, LoadFault>
+) -> Result<WholeVolume, LoadFault>
     requires { name_fault name.now ≡ None }
-    ensures fresh { IfOk result (λ held. held.state ≡ fresh_volume name.now now) }
+    ensures fresh { IfOk result (λ whole. whole.state ≡ fresh_volume name.now now) }
     ensures records { Becomes (IsMake name.now now result) (K.records keeper.old) (K.records keeper.new) }
     ensures cause { HasLoadCause (K.sure keeper.old) (K.faults keeper.old) (K.faults keeper.new) result }
     ensures told { TellsOn (K.steady keeper.old) (K.faults keeper.old) (K.faults keeper.new) (K.records keeper.old) (K.records keeper.new) }
@@ -107,14 +107,14 @@ pub(crate) fn make_fresh<K: Keeper>(
 {
     fresh_volumes_are_sound();
     records_are_images();
-    let Ok(held) = fresh_held(alloc, name, now) else {
+    let Ok(whole) = fresh_whole(alloc, name, now) else {
         return Err(LoadFault::Memory);
     };
     let Ok(changes) = fresh_changes(alloc, name, now) else {
         return Err(LoadFault::Memory);
     };
     match keeper.commit(alloc, changes.as_slice()) {
-        Ok(()) => Ok(held),
+        Ok(()) => Ok(whole),
         Err(KeeperFault::Failed) => Err(LoadFault::Failed),
         Err(KeeperFault::Memory) => Err(LoadFault::Memory),
     }

@@ -2,9 +2,7 @@
 #![tactic(auto)]
 
 mod fresh;
-mod held;
 mod loading;
 mod rebuild;
 
-pub use held::Held;
 pub use loading::{LoadFault, load};

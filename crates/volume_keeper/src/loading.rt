@@ -7,11 +7,11 @@ ghost use Rattle.volume_keeper.specs.Loading.{Becomes, HasLoadCause, IsFaultIn, 
 ghost use Rattle.volume_keeper.specs.lemma.Loading.{IsMadeOf, IsNotFailed, IsReadFault};
 
 use crate::fresh::make_fresh;
-use crate::held::Held;
-use crate::rebuild::held_of;
+use crate::rebuild::whole_of;
 use afp_base::Moment;
 use record_keeper::{Keeper, ReadAllFault, Record, RecordKey, read_all};
 use std::alloc::Global;
+use volume_edits::WholeVolume;
 use volume_keeper_records::{Loaded, Reason, load_records};
 
 /// Why a volume was not loaded.
@@ -26,17 +26,17 @@ pub enum LoadFault {
 }
 
 /// The volume that records say, by rising key.
-fn held_in(alloc: Global, name: &[u8], records: Vec<Record>) -> Result<Held, LoadFault>
+fn whole_in(alloc: Global, name: &[u8], records: Vec<Record>) -> Result<WholeVolume, LoadFault>
     requires order { RisesByKey records.items }
     requires some { records.items ≡ [] → ⊥ }
-    ensures ok { IfOk result (λ held. IsMadeOf name.now records.items held.state) }
+    ensures ok { IfOk result (λ whole. IsMadeOf name.now records.items whole.state) }
     ensures err { IfErr result (IsFaultIn name.now records.items) }
     ensures failed { IfErr result IsNotFailed }
 {
     let mut records = records;
     match load_records(alloc, name, &mut records) {
-        Ok(Loaded::Good(rows)) => match held_of(alloc, rows) {
-            Ok(held) => Ok(held),
+        Ok(Loaded::Good(rows)) => match whole_of(alloc, rows) {
+            Ok(whole) => Ok(whole),
             Err(_) => Err(LoadFault::Memory),
         },
         Ok(Loaded::Bad(bad)) => Err(LoadFault::BadRecord {
@@ -72,9 +72,9 @@ pub fn load<K: Keeper>(
     keeper: &mut K,
     name: &str,
     now: Moment,
-) -> Result<Held, LoadFault>
+) -> Result<WholeVolume, LoadFault>
     requires { name_fault name.now ≡ None }
-    ensures named { IfOk result (λ held. held.state.name ≡ name.now) }
+    ensures named { IfOk result (λ whole. whole.state.name ≡ name.now) }
     ensures records { Becomes (IsLoad name.now now result) (K.records keeper.old) (K.records keeper.new) }
     ensures cause { HasLoadCause (K.sure keeper.old) (K.faults keeper.old) (K.faults keeper.new) result }
     ensures told { TellsOn (K.steady keeper.old) (K.faults keeper.old) (K.faults keeper.new) (K.records keeper.old) (K.records keeper.new) }
@@ -86,7 +86,7 @@ pub fn load<K: Keeper>(
             if records.is_empty() {
                 make_fresh(alloc, keeper, name, now)
             } else {
-                held_in(alloc, name.as_bytes(), records)
+                whole_in(alloc, name.as_bytes(), records)
             }
         }
         Err(fault) => Err(fault_of(fault)),

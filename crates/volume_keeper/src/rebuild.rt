@@ -1,21 +1,24 @@
 //! The volume that rows say.
-ghost use Rattle.std.specs.Prelude.{◌≡◌, ◌<◌, ◌++◌, ◌∷◌, [], List, length, flat_map, IfOk, OnOk};
+ghost use Rattle.std.specs.Prelude.{◌≡◌, ◌<◌, ◌++◌, ◌∷◌, [], List, None, false, flat_map, length, true, IfOk, OnOk};
+ghost use Rattle.std.specs.List.{list_all};
+ghost use Rattle.afp_names.specs.Name.{name_fault};
+ghost use Rattle.volume_spec.specs.Desktop.{has_no_appl_room, has_no_icon_room};
+ghost use Rattle.volume_spec.specs.SoundVolume.{icon_key as icon_key_of};
 ghost use Rattle.volume_spec.specs.VolumeState.{VolumeState};
 ghost use Rattle.volume_keeper_records.specs.declared.rows.TableRow.{TableRow};
 ghost use Rattle.volume_keeper_records.specs.declared.rows.TableRow.TheVariants as row;
 ghost use Rattle.volume_keeper_records.specs.Image.{rows_of, tables_of};
-ghost use Rattle.volume_keeper.specs.lemma.Rebuilt.{FitRows, FitsRow, appls_with, comments_with, head_said, icons_with, nodes_said, with_all, with_block, with_blocks};
-ghost use Rattle.volume_keeper.specs.Whole.{without_desktop};
-ghost use Rattle.volume_keeper.specs.lemma.Whole.{IsHeld};
+ghost use Rattle.volume_keeper.specs.lemma.Rebuilt.{FitRows, FitsRow, HasApplRoom, HasIconRoom, HaveRoom, appls_with, comments_with, has_name, head_said, icons_with, nodes_said, with_all, with_block, with_blocks, without_desktop};
+ghost use Rattle.volume_edits.specs.lemma.Whole.{IsWhole};
 
-use crate::held::Held;
 use afp_base::laws::splice_puts_between;
 use afp_base::{NodeId, OutOfMemory};
-use afp_names::Name;
-use desktop_db::{Desktop, icon_key};
+use afp_names::{Name, NameFault};
+use desktop_db::{DeskFault, Desktop, icon_key};
 use fork_bytes::laws::{blocks_are_bytes, blocks_of_bytes_are_kept};
 use node_rows::Node as TreeNode;
 use std::alloc::Global;
+use volume_edits::WholeVolume;
 use volume_keeper_records::laws::{records_are_images, tables_say_volumes};
 use volume_keeper_records::{Appl, Comment, ForkBlock, Icon, Node, TableRow};
 use volume_spec::desktop_laws::{desktops_keep_volumes_sound, icons_have_their_keys};
@@ -57,6 +60,7 @@ fn head_in(rows: &[TableRow]) -> VolumeHead
 
 /// A node with the lengths of its forks.
 fn loaded_of(alloc: Global, node: &Node) -> Result<LoadedNode, OutOfMemory>
+    requires { name_fault node.now.name ≡ None }
     ensures { IfOk result (λ loaded. loaded ∷ [] ≡ nodes_said (row.Node node.now)) }
 {
     match Name::new(alloc, node.name.as_slice()) {
@@ -76,11 +80,15 @@ fn loaded_of(alloc: Global, node: &Node) -> Result<LoadedNode, OutOfMemory>
             data_len: node.data_length,
             resource_len: node.resource_length,
         }),
-        Err(_) => Err(OutOfMemory),
+        Err(fault) => match fault {
+            NameFault::Memory => Err(OutOfMemory),
+            _ => unreachable!(),
+        },
     }
 }
 
 fn put_loaded(alloc: Global, nodes: &mut Vec<LoadedNode>, row: &TableRow) -> Result<(), OutOfMemory>
+    requires { has_name row.now ≡ true }
     ensures { OnOk result (nodes.new.items ≡ nodes.old.items ++ nodes_said row.now) }
 {
     match row {
@@ -98,6 +106,7 @@ fn put_loaded(alloc: Global, nodes: &mut Vec<LoadedNode>, row: &TableRow) -> Res
 
 /// The nodes among rows, with the lengths of their forks.
 fn all_loaded(alloc: Global, rows: &[TableRow]) -> Result<Vec<LoadedNode>, OutOfMemory>
+    requires { list_all has_name rows.now ≡ true }
     ensures { IfOk result (λ nodes. nodes.items ≡ flat_map nodes_said rows.now) }
 {
     let mut nodes = Vec::new(alloc);
@@ -155,6 +164,7 @@ fn put_comment(desktop: &mut Desktop, comment: &Comment) -> Result<(), OutOfMemo
 }
 
 fn put_icon(desktop: &mut Desktop, icon: &Icon) -> Result<(), OutOfMemory>
+    requires { has_no_icon_room (icon_key_of icon.now) desktop.old.icons ≡ false }
     ensures icons { OnOk result (desktop.new.icons ≡ icons_with (row.Icon icon.now) desktop.old.icons) }
     ensures comments { desktop.new.comments ≡ desktop.old.comments }
     ensures appls { desktop.new.appls ≡ desktop.old.appls }
@@ -162,23 +172,28 @@ fn put_icon(desktop: &mut Desktop, icon: &Icon) -> Result<(), OutOfMemory>
     let key = icon_key(icon.creator, icon.kind, icon.icon_kind);
     match desktop.put_icon(key, icon.tag, icon.bits.copy()?) {
         Ok(()) => Ok(()),
-        Err(_) => Err(OutOfMemory),
+        Err(DeskFault::Full) => unreachable!(),
+        Err(DeskFault::Memory) => Err(OutOfMemory),
     }
 }
 
 fn put_appl(desktop: &mut Desktop, appl: &Appl) -> Result<(), OutOfMemory>
+    requires { has_no_appl_room appl.now.creator appl.now.node desktop.old.appls ≡ false }
     ensures appls { OnOk result (desktop.new.appls ≡ appls_with (row.Appl appl.now) desktop.old.appls) }
     ensures comments { desktop.new.comments ≡ desktop.old.comments }
     ensures icons { desktop.new.icons ≡ desktop.old.icons }
 {
     match desktop.put_appl(appl.creator, NodeId(appl.node), appl.tag) {
         Ok(()) => Ok(()),
-        Err(_) => Err(OutOfMemory),
+        Err(DeskFault::Full) => unreachable!(),
+        Err(DeskFault::Memory) => Err(OutOfMemory),
     }
 }
 
 /// Puts what a row is into the desktop database, where it belongs there.
 fn put_row(desktop: &mut Desktop, row: &TableRow) -> Result<(), OutOfMemory>
+    requires icon { HasIconRoom row.now desktop.old.icons }
+    requires appl { HasApplRoom row.now desktop.old.appls }
     ensures comments { OnOk result (desktop.new.comments ≡ comments_with row.now desktop.old.comments) }
     ensures icons { OnOk result (desktop.new.icons ≡ icons_with row.now desktop.old.icons) }
     ensures appls { OnOk result (desktop.new.appls ≡ appls_with row.now desktop.old.appls) }
@@ -195,6 +210,8 @@ fn put_row(desktop: &mut Desktop, row: &TableRow) -> Result<(), OutOfMemory>
 
 /// Puts what rows are into the desktop database.
 fn put_all(desktop: &mut Desktop, rows: &[TableRow]) -> Result<(), OutOfMemory>
+    requires icons { HaveRoom HasIconRoom icons_with rows.now desktop.old.icons }
+    requires appls { HaveRoom HasApplRoom appls_with rows.now desktop.old.appls }
     ensures comments { OnOk result (desktop.new.comments ≡ with_all comments_with rows.now desktop.old.comments) }
     ensures icons { OnOk result (desktop.new.icons ≡ with_all icons_with rows.now desktop.old.icons) }
     ensures appls { OnOk result (desktop.new.appls ≡ with_all appls_with rows.now desktop.old.appls) }
@@ -207,8 +224,8 @@ fn put_all(desktop: &mut Desktop, rows: &[TableRow]) -> Result<(), OutOfMemory>
 
 /// The tree that rows say.
 fn tree_of(alloc: Global, rows: &[TableRow]) -> Result<Volume, OutOfMemory>
-    requires { (v : VolumeState) × IsHeld v × (rows.now ≡ rows_of (tables_of v)) }
-    ensures { IfOk result (λ volume. (v : VolumeState) → IsHeld v → rows.now ≡ rows_of (tables_of v) → volume.state ≡ without_desktop v) }
+    requires { (v : VolumeState) × IsWhole v × (rows.now ≡ rows_of (tables_of v)) }
+    ensures { IfOk result (λ volume. (v : VolumeState) → IsWhole v → rows.now ≡ rows_of (tables_of v) → volume.state ≡ without_desktop v) }
 {
     tables_say_volumes();
     blocks_are_bytes();
@@ -224,9 +241,10 @@ fn tree_of(alloc: Global, rows: &[TableRow]) -> Result<Volume, OutOfMemory>
 
 /// The desktop database that rows say.
 fn desktop_of(alloc: Global, rows: &[TableRow]) -> Result<Desktop, OutOfMemory>
-    ensures comments { IfOk result (λ desktop. (v : VolumeState) → IsHeld v → rows.now ≡ rows_of (tables_of v) → desktop.comments ≡ v.comments) }
-    ensures icons { IfOk result (λ desktop. (v : VolumeState) → IsHeld v → rows.now ≡ rows_of (tables_of v) → desktop.icons ≡ v.icons) }
-    ensures appls { IfOk result (λ desktop. (v : VolumeState) → IsHeld v → rows.now ≡ rows_of (tables_of v) → desktop.appls ≡ v.appls) }
+    requires { (v : VolumeState) × IsWhole v × (rows.now ≡ rows_of (tables_of v)) }
+    ensures comments { IfOk result (λ desktop. (v : VolumeState) → IsWhole v → rows.now ≡ rows_of (tables_of v) → desktop.comments ≡ v.comments) }
+    ensures icons { IfOk result (λ desktop. (v : VolumeState) → IsWhole v → rows.now ≡ rows_of (tables_of v) → desktop.icons ≡ v.icons) }
+    ensures appls { IfOk result (λ desktop. (v : VolumeState) → IsWhole v → rows.now ≡ rows_of (tables_of v) → desktop.appls ≡ v.appls) }
 {
     desktops_keep_volumes_sound();
     icons_have_their_keys();
@@ -236,11 +254,11 @@ fn desktop_of(alloc: Global, rows: &[TableRow]) -> Result<Desktop, OutOfMemory>
 }
 
 /// The volume that these rows say, with its desktop database. The one error is want of memory.
-pub(crate) fn held_of(alloc: Global, rows: Vec<TableRow>) -> Result<Held, OutOfMemory>
-    requires { (v : VolumeState) × IsHeld v × (rows.items ≡ rows_of (tables_of v)) }
-    ensures { IfOk result (λ held. (v : VolumeState) → IsHeld v → rows.items ≡ rows_of (tables_of v) → held.state ≡ v) }
+pub(crate) fn whole_of(alloc: Global, rows: Vec<TableRow>) -> Result<WholeVolume, OutOfMemory>
+    requires { (v : VolumeState) × IsWhole v × (rows.items ≡ rows_of (tables_of v)) }
+    ensures { IfOk result (λ whole. (v : VolumeState) → IsWhole v → rows.items ≡ rows_of (tables_of v) → whole.state ≡ v) }
 {
-    let volume = tree_of(alloc, rows.as_slice())?;
+    let tree = tree_of(alloc, rows.as_slice())?;
     let desktop = desktop_of(alloc, rows.as_slice())?;
-    Ok(Held { volume, desktop })
+    Ok(WholeVolume { tree, desktop })
 }

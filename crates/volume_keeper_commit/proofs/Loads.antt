@@ -8,7 +8,7 @@ use Rattle.volume_spec.specs.VolumeState.{fresh_volume}
 use Rattle.volume_keeper_commit.specs.Loading.{IsLoadedFrom}
 use Rattle.record_keeper.specs.Records.{Records, steady_records}
 use Rattle.volume_keeper.specs.Loading.{Becomes, IsLoad}
-use Rattle.volume_keeper.specs.Whole.{HeldValue}
+use Rattle.volume_edits.specs.Whole.{VolumeValue}
 
 none_there : (entries : List (List ℕ × List ℕ)) → length entries ≡ 0 → entries ≡ []
 none_there [] none = refl
@@ -21,32 +21,32 @@ told_no_more : IsSome {T = Records} None → ⊥
 told_no_more there = absurd (cc)
 
 -- where the keeper held nothing, it is one that nobody has used
-pub fresh_where_empty : (name : List ℕ) (now : ℕ) (held : HeldValue) (old new : Option Records) → Becomes (IsLoad name now (Ok held)) old new → (IsSome old → IsSome new)
-    → IfSome old (λ (kept : Records). kept ≡ map.empty → held.state ≡ fresh_volume name now)
-fresh_where_empty name now held None new becomes told = tt
-fresh_where_empty name now held (Some old) None becomes told = absurd (told_no_more (told refl))
-fresh_where_empty name now held (Some old) (Some new) becomes told = λ is. becomes.fresh (empty_has_none old is)
+pub fresh_where_empty : (name : List ℕ) (now : ℕ) (whole : VolumeValue) (old new : Option Records) → Becomes (IsLoad name now (Ok whole)) old new → (IsSome old → IsSome new)
+    → IfSome old (λ (kept : Records). kept ≡ map.empty → whole.state ≡ fresh_volume name now)
+fresh_where_empty name now whole None new becomes told = tt
+fresh_where_empty name now whole (Some old) None becomes told = absurd (told_no_more (told refl))
+fresh_where_empty name now whole (Some old) (Some new) becomes told = λ is. becomes.fresh (empty_has_none old is)
 
 empty_of_none : (kept : Records) → map.entries kept ≡ [] → kept ≡ map.empty
 empty_of_none kept none = map.empty_of_len kept (map.len-entries kept ∙ ap length none)
 
 -- and where it held records, they are those of the volume
-pub loaded_from : (name : List ℕ) (now : ℕ) (held : HeldValue) (old new : Option Records) → Becomes (IsLoad name now (Ok held)) old new → (IsSome old → IsSome new)
-    → IfSome old (λ (kept : Records). IsLoadedFrom name kept held.state)
-loaded_from name now held None new becomes told = tt
-loaded_from name now held (Some old) None becomes told = absurd (told_no_more (told refl))
-loaded_from name now held (Some old) (Some new) becomes told = record {
+pub loaded_from : (name : List ℕ) (now : ℕ) (whole : VolumeValue) (old new : Option Records) → Becomes (IsLoad name now (Ok whole)) old new → (IsSome old → IsSome new)
+    → IfSome old (λ (kept : Records). IsLoadedFrom name kept whole.state)
+loaded_from name now whole None new becomes told = tt
+loaded_from name now whole (Some old) None becomes told = absurd (told_no_more (told refl))
+loaded_from name now whole (Some old) (Some new) becomes told = record {
   good = becomes.good;
   image = λ some. becomes.image ∙ becomes.same (λ none. some (empty_of_none old none));
 }
 
 -- the same of the records of a keeper that goes on telling them
-pub fresh_where_steady : (steady : Bool) (name : List ℕ) (now : ℕ) (held : HeldValue) (old new : Option Records) → Becomes (IsLoad name now (Ok held)) old new → (steady ≡ true → IsSome old → IsSome new)
-    → IfSome (steady_records steady old) (λ (kept : Records). kept ≡ map.empty → held.state ≡ fresh_volume name now)
-fresh_where_steady true name now held old new becomes told = fresh_where_empty name now held old new becomes (told refl)
-fresh_where_steady false name now held old new becomes told = tt
+pub fresh_where_steady : (steady : Bool) (name : List ℕ) (now : ℕ) (whole : VolumeValue) (old new : Option Records) → Becomes (IsLoad name now (Ok whole)) old new → (steady ≡ true → IsSome old → IsSome new)
+    → IfSome (steady_records steady old) (λ (kept : Records). kept ≡ map.empty → whole.state ≡ fresh_volume name now)
+fresh_where_steady true name now whole old new becomes told = fresh_where_empty name now whole old new becomes (told refl)
+fresh_where_steady false name now whole old new becomes told = tt
 
-pub loaded_steady : (steady : Bool) (name : List ℕ) (now : ℕ) (held : HeldValue) (old new : Option Records) → Becomes (IsLoad name now (Ok held)) old new → (steady ≡ true → IsSome old → IsSome new)
-    → IfSome (steady_records steady old) (λ (kept : Records). IsLoadedFrom name kept held.state)
-loaded_steady true name now held old new becomes told = loaded_from name now held old new becomes (told refl)
-loaded_steady false name now held old new becomes told = tt
+pub loaded_steady : (steady : Bool) (name : List ℕ) (now : ℕ) (whole : VolumeValue) (old new : Option Records) → Becomes (IsLoad name now (Ok whole)) old new → (steady ≡ true → IsSome old → IsSome new)
+    → IfSome (steady_records steady old) (λ (kept : Records). IsLoadedFrom name kept whole.state)
+loaded_steady true name now whole old new becomes told = loaded_from name now whole old new becomes (told refl)
+loaded_steady false name now whole old new becomes told = tt

@@ -10,20 +10,7 @@ use crate::kept::KeptVolume;
 use afp_base::Moment;
 use record_keeper::Keeper;
 use std::alloc::Global;
-use volume_edits::WholeVolume;
-use volume_keeper::{Held, LoadFault, load};
-
-/// A held volume as a whole.
-fn whole_of(held: Held) -> WholeVolume
-    ensures { result.state ≡ held.state }
-{
-    held.keeps_sound();
-    let Held { volume, desktop } = held;
-    WholeVolume {
-        tree: volume,
-        desktop,
-    }
-}
+use volume_keeper::{LoadFault, load};
 
 impl<K: Keeper> KeptVolume<K> {
     /// The volume of that name that the keeper holds, or a new one, made at the moment, where it holds nothing. `BadRecord` comes exactly where a
@@ -42,8 +29,7 @@ impl<K: Keeper> KeptVolume<K> {
     {
         let mut keeper = keeper;
         match load(alloc, &mut keeper, name, now) {
-            Ok(held) => {
-                let whole = whole_of(held);
+            Ok(whole) => {
                 whole.keeps_sound();
                 Ok(KeptVolume { keeper, whole })
             }

@@ -15,7 +15,7 @@ use Rattle.volume_keeper_records.specs.FirstBad.{first_bad_record}
 use Rattle.volume_keeper_records.specs.Image.{image, kept_image}
 use Rattle.volume_keeper.specs.declared.loading.LoadFault.{LoadFault}
 use Rattle.volume_keeper.specs.declared.loading.LoadFault.TheVariants.{BadRecord, Failed, Memory}
-use Rattle.volume_keeper.specs.Whole.{HeldValue}
+use Rattle.volume_edits.specs.Whole.{VolumeValue}
 
 -- From here on for private contracts: a volume that was made of records, where some are there
 pub record IsMadeOf (name : List ℕ) (records : List Record) (v : VolumeState) : Type 0 where
@@ -40,8 +40,8 @@ abbrev pub put_of : TableRow → Change
 put_of x = Put (record_of x).key (record_of x).value
 
 -- what making a fresh volume does to the records
-abbrev pub IsMake : List ℕ → ℕ → Result HeldValue LoadFault → Records → Records → Type 0
-IsMake name now (Ok held) old new = entries old ≡ [] → kept_image held.state ≡ new
+abbrev pub IsMake : List ℕ → ℕ → Result VolumeValue LoadFault → Records → Records → Type 0
+IsMake name now (Ok whole) old new = entries old ≡ [] → kept_image whole.state ≡ new
 IsMake name now (Err fault) old new = (new ≡ old) × IsNotBad fault
 
 -- what a keeper that was not read whole is

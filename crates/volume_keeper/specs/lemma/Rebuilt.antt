@@ -1,8 +1,10 @@
 -- A volume made of its rows, one after the other: what the code does, for private contracts.
-use Rattle.std.specs.Prelude.{pos, List, [], ◌∷◌}
+use Rattle.std.specs.Prelude.{◌≡◌, pos, Bool, true, false, List, [], ◌∷◌, is_none}
+use Rattle.afp_names.specs.Name.{name_fault}
 use Rattle.volume_spec.specs.VolumeState.{Comment, Icon, Appl, VolumeState}
 use Rattle.volume_spec.specs.SoundVolume.{icon_key}
-use Rattle.volume_spec.specs.Desktop.{icon_under, with_appl, with_comment, with_icon}
+use Rattle.volume_spec.specs.Desktop.{has_no_appl_room, has_no_icon_room, icon_under, with_appl, with_comment, with_icon}
+use Rattle.volume_spec.specs.DesktopLaws.{with_desktop}
 use Rattle.volume_keeper_records.specs.declared.rows.TableRow.{TableRow}
 use Rattle.volume_keeper_records.specs.declared.rows.TableRow.TheVariants as row
 use Rattle.volume_keeper_records.specs.Shape.{bare_row}
@@ -31,6 +33,19 @@ nodes_said (row.Block block) = []
 nodes_said (row.Comment comment) = []
 nodes_said (row.Icon icon) = []
 nodes_said (row.Appl appl) = []
+
+-- the node that a row is has a name
+abbrev pub has_name : TableRow → Bool
+has_name (row.Head head) = true
+has_name (row.Node node) = is_none (name_fault node.name)
+has_name (row.Block block) = true
+has_name (row.Comment comment) = true
+has_name (row.Icon icon) = true
+has_name (row.Appl appl) = true
+
+-- a volume with nothing in its desktop database
+abbrev pub without_desktop : VolumeState → VolumeState
+without_desktop v = with_desktop v [] [] []
 
 -- a volume with the block that a row is
 abbrev pub with_block : TableRow → VolumeState → VolumeState
@@ -87,3 +102,25 @@ appls_with (row.Appl appl) list = with_appl appl list
 abbrev pub with_all : {A : Type 0} → (TableRow → A → A) → List TableRow → A → A
 with_all put [] a = a
 with_all put (x ∷ rows) a = with_all put rows (put x a)
+
+-- there is room for the icon that a row is, and for the mapping
+abbrev pub HasIconRoom : TableRow → List Icon → Type 0
+HasIconRoom (row.Head head) list = Unit {0}
+HasIconRoom (row.Node node) list = Unit {0}
+HasIconRoom (row.Block block) list = Unit {0}
+HasIconRoom (row.Comment comment) list = Unit {0}
+HasIconRoom (row.Icon icon) list = has_no_icon_room (icon_key icon) list ≡ false
+HasIconRoom (row.Appl appl) list = Unit {0}
+
+abbrev pub HasApplRoom : TableRow → List Appl → Type 0
+HasApplRoom (row.Head head) list = Unit {0}
+HasApplRoom (row.Node node) list = Unit {0}
+HasApplRoom (row.Block block) list = Unit {0}
+HasApplRoom (row.Comment comment) list = Unit {0}
+HasApplRoom (row.Icon icon) list = Unit {0}
+HasApplRoom (row.Appl appl) list = has_no_appl_room appl.creator appl.node list ≡ false
+
+-- there is room for what all rows are, one after the other
+abbrev pub HaveRoom : {A : Type 0} → (TableRow → A → Type 0) → (TableRow → A → A) → List TableRow → A → Type 0
+HaveRoom HasRoom put [] a = Unit {0}
+HaveRoom HasRoom put (x ∷ rows) a = HasRoom x a × HaveRoom HasRoom put rows (put x a)
