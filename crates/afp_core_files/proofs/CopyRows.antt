@@ -30,7 +30,8 @@ use Rattle.record_keeper.specs.declared.keeper.KeeperFault.TheVariants as keeper
 use Rattle.session_table.specs.Sessions.{session_of}
 use Rattle.afp_core_state.specs.KeptWorld.{KeptWorld}
 use Rattle.afp_core_state.specs.OnVolumes.{BecomesKept, IsOpen, IsOpenAt}
-use Rattle.afp_core_state.specs.Planned.{CommitsPlan, TellsCommitted}
+use Rattle.volume_keeper_commit.specs.Commits.{Commits}
+use Rattle.afp_core_state.specs.Planned.{TellsCommitted}
 use Rattle.afp_core_state.specs.Replies.{Tells}
 use Rattle.afp_core_state.specs.Running.{done, RunsRow}
 use Rattle.afp_core_state.proofs.KeeperLemmas.{volume_at-index}
@@ -110,7 +111,7 @@ module _ (k : KeptWorld) (number : ℕ) (call : Call) (asked : CopyAsked) (row_i
       passes-none : (s : Session) → session_of k.world.sessions number ≡ Some s → refusal k.world s call ≡ None
       passes-none s at = refuses p.from p.from_there s at ∙ copy-passes k.world asked p.from p.file p.to p.may p.found to-at p.passes
 
-      copy-done : (new : KeptWorld) (block : List ℕ) (told : Told) → block ≡ [] → BecomesKept k target (λ old one. CommitsPlan old plan (with_ok tt) one) new → told ≡ Reply Ok block false → RunsRow k number call (with_ok (done told)) new
+      copy-done : (new : KeptWorld) (block : List ℕ) (told : Told) → block ≡ [] → BecomesKept k target (λ old one. Commits old plan (with_ok tt) one) new → told ≡ Reply Ok block false → RunsRow k number call (with_ok (done told)) new
       copy-done new block told none b is = λ s at.
           let source = source_is k.world asked p.file in
           let next = with_edits k.world asked.target p.to (call_edits p.to k.world.latest (copy_call asked source)) in
@@ -123,7 +124,7 @@ module _ (k : KeptWorld) (number : ℕ) (call : Call) (asked : CopyAsked) (row_i
           (committed-world k target p.to (copy_call asked source) plan p.to_there p.plans new asked.target p.id b)
           (ap (λ (e : Effect). e.world) (sym does))
 
-      copy-fails : (new : KeptWorld) (told : Told) → BecomesKept k target (λ old one. CommitsPlan old plan (Err keeper.Failed) one) new → told ≡ refusal_reply MiscErr → RunsRow k number call (with_ok (told, outcome.Fault)) new
+      copy-fails : (new : KeptWorld) (told : Told) → BecomesKept k target (λ old one. Commits old plan (Err keeper.Failed) one) new → told ≡ refusal_reply MiscErr → RunsRow k number call (with_ok (told, outcome.Fault)) new
       copy-fails new told b is = λ s at.
           rw (passes-none s at)
           (commit-fails k target p.to (copy_call asked (source_is k.world asked p.file)) plan p.to_there p.plans new _ told _ asked.target _ p.id
@@ -131,7 +132,7 @@ module _ (k : KeptWorld) (number : ℕ) (call : Call) (asked : CopyAsked) (row_i
           ∙ ap (λ (o : Option VolumeState). keeper_of_edits asked.target (edits_on o (copy_edits k.world asked (source_of k.world asked)))) to-at
           ∙ ap (λ (o : Option Source). keeper_of_edits asked.target (copy_edits k.world asked o p.to)) source-at) is refl b)
 
-      pub copy-runs : (new : KeptWorld) (answer : Result (Unit {0}) KeeperFault) (block : List ℕ) (result : Result (Told × Outcome) OutOfMemory) → block ≡ [] → BecomesKept k target (λ old one. CommitsPlan old plan answer one) new
+      pub copy-runs : (new : KeptWorld) (answer : Result (Unit {0}) KeeperFault) (block : List ℕ) (result : Result (Told × Outcome) OutOfMemory) → block ≡ [] → BecomesKept k target (λ old one. Commits old plan answer one) new
           → TellsCommitted answer block result → RunsRow k number call result new
       copy-runs new (with_ok committed) block (with_ok r) none b told =
           subst (λ (x : Told × Outcome). RunsRow k number call (with_ok x) new) (sym told) (copy-done new block (Reply Ok block false) none b refl)

@@ -31,7 +31,8 @@ use Rattle.record_keeper.specs.declared.keeper.KeeperFault.TheVariants as keeper
 use Rattle.session_table.specs.Sessions.{session_of}
 use Rattle.afp_core_state.specs.KeptWorld.{KeptWorld}
 use Rattle.afp_core_state.specs.OnVolumes.{BecomesKept, IsOpen, IsOpenAt}
-use Rattle.afp_core_state.specs.Planned.{CommitsPlan, TellsCommitted}
+use Rattle.volume_keeper_commit.specs.Commits.{Commits}
+use Rattle.afp_core_state.specs.Planned.{TellsCommitted}
 use Rattle.afp_core_state.specs.Replies.{Tells}
 use Rattle.afp_core_state.specs.Running.{done, RunsRow}
 use Rattle.afp_core_state.proofs.RowLemmas.{has_effect, is_refused}
@@ -65,7 +66,7 @@ module _ (k : KeptWorld) (number : ℕ) (call : Call) (volume dir second_dir : �
 
   module _ (index : ℕ) (v : VolumeState) (plan : PlanValue) (pair : Pair) (stands : IsOpenAt k number volume index) (there : slice_get k.world.volumes index ≡ Some v)
       (passes : exchange_files_refusal v dir path second_dir second_path ≡ None) (plans : Plans v k.world.latest (ExchangeFiles dir path second_dir second_path) plan) (found : exchanged_files v dir path second_dir second_path ≡ Some pair) where
-    exchange-done : (between new : KeptWorld) (told : Told) → BecomesKept k index (λ old one. CommitsPlan old plan (with_ok tt) one) between → new ≡ with_exchanged volume pair between → told ≡ Reply Ok [] false
+    exchange-done : (between new : KeptWorld) (told : Told) → BecomesKept k index (λ old one. Commits old plan (with_ok tt) one) between → new ≡ with_exchanged volume pair between → told ≡ Reply Ok [] false
         → RunsRow k number call (with_ok (done told)) new
     exchange-done between new told b behind is = λ s at.
         let edits = call_edits v k.world.latest (ExchangeFiles dir path second_dir second_path) in
@@ -82,14 +83,14 @@ module _ (k : KeptWorld) (number : ℕ) (call : Call) (volume dir second_dir : �
         (behind ∙ ap (with_exchanged volume pair) (committed-world k index v (ExchangeFiles dir path second_dir second_path) plan there plans between volume stands.id b))
         (ap (λ (e : Effect). e.world) (sym does))
 
-    exchange-fails : (new : KeptWorld) (told : Told) → BecomesKept k index (λ old one. CommitsPlan old plan (Err keeper.Failed) one) new → told ≡ refusal_reply MiscErr → RunsRow k number call (with_ok (told, outcome.Fault)) new
+    exchange-fails : (new : KeptWorld) (told : Told) → BecomesKept k index (λ old one. Commits old plan (Err keeper.Failed) one) new → told ≡ refusal_reply MiscErr → RunsRow k number call (with_ok (told, outcome.Fault)) new
     exchange-fails new told b is = λ s at.
         rw (exchange-refuses index v stands there s at ∙ ap (option_map plain) passes)
         (commit-fails k index v (ExchangeFiles dir path second_dir second_path) plan there plans new _ told _ volume _ stands.id
         (ap (λ (r : CallRow). r.committed k.world s) row_is
         ∙ ap (λ (o : Option VolumeState). keeper_of_edits volume (edits_on o (λ x. call_edits x k.world.latest (ExchangeFiles dir path second_dir second_path)))) (found-at k number volume index v stands there)) is refl b)
 
-    exchange-ends : (between new : KeptWorld) (answer : Result (Unit {0}) KeeperFault) (result : Result (Told × Outcome) OutOfMemory) → BecomesKept k index (λ old one. CommitsPlan old plan answer one) between
+    exchange-ends : (between new : KeptWorld) (answer : Result (Unit {0}) KeeperFault) (result : Result (Told × Outcome) OutOfMemory) → BecomesKept k index (λ old one. Commits old plan answer one) between
         → new ≡ exchanged_behind answer volume pair between → TellsCommitted answer [] result → RunsRow k number call result new
     exchange-ends between new (with_ok committed) (with_ok r) b behind told =
         subst (λ (x : Told × Outcome). RunsRow k number call (with_ok x) new) (sym told) (exchange-done between new (Reply Ok [] false) b behind refl)

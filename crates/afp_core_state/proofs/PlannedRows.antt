@@ -36,7 +36,7 @@ use Rattle.afp_core_state.specs.OnVolumes.{BecomesKept, IsOpen, IsOpenAt, with_k
 use Rattle.afp_core_state.specs.Running.{done, IsOutcomeOf, RunsRow}
 use Rattle.afp_core_state.proofs.RowLemmas.{has_effect, is_refused}
 use Rattle.afp_core_state.proofs.OnVolumeLemmas.{found-at, keeper-at, keeper-fails, kept-stays, refused-on, set-same, state-at, state-changes, told-effect}
-use Rattle.afp_core_state.specs.Planned.{CommitsPlan, MayCommit, MayCommitAt, RunsPlan, TellsCommitted}
+use Rattle.afp_core_state.specs.Planned.{MayCommit, MayCommitAt, RunsPlan, TellsCommitted}
 use Rattle.afp_core_state.specs.RowKinds.{ChangesVolume, IsToldWhereDone}
 use Rattle.std.proofs.lemmas.Bool.{eqb-true}
 use Rattle.std.proofs.lemmas.Option.{same_Some}
@@ -55,7 +55,7 @@ edits-keeper volume index (e ∷ es) edits is same some = ap (keeper_of_edits vo
 
 -- What becomes of the world where the plan of a call is committed: the volume has the call's edits; or the keeper failed; or there was no memory.
 module _ (k : KeptWorld) (index : ℕ) (v : VolumeState) (asked : VolumeCall) (plan : PlanValue) (there : slice_get k.world.volumes index ≡ Some v) (plans : Plans v k.world.latest asked plan) where
-  pub committed-world : (new : KeptWorld) (volume : ℕ) → volume ≡ index + 1 → BecomesKept k index (λ old one. CommitsPlan old plan (with_ok tt) one) new
+  pub committed-world : (new : KeptWorld) (volume : ℕ) → volume ≡ index + 1 → BecomesKept k index (λ old one. Commits old plan (with_ok tt) one) new
       → new ≡ record k { world = with_edits k.world volume v (call_edits v k.world.latest asked) }
   committed-world new volume id b =
       let was : b.old.state ≡ v = same_Some b.old.state v (sym b.was.state ∙ there) in
@@ -66,13 +66,13 @@ module _ (k : KeptWorld) (index : ℕ) (v : VolumeState) (asked : VolumeCall) (p
       ∙ ap (λ (w : World). record k { world = w }) (edits-become k.world volume index v (call_edits v k.world.latest asked) id there)
 
   pub commit-fails : (new : KeptWorld) (want told : Told) (after : World) (volume : ℕ) (to : Option ℕ) → volume ≡ index + 1 → to ≡ keeper_of_edits volume (call_edits v k.world.latest asked) → told ≡ want → k.world ≡ after
-      → BecomesKept k index (λ old one. CommitsPlan old plan (Err keeper.Failed) one) new → IsOutcomeOf want after to outcome.Fault told k new
+      → BecomesKept k index (λ old one. Commits old plan (Err keeper.Failed) one) new → IsOutcomeOf want after to outcome.Fault told k new
   commit-fails new want told after volume to id commits is same b =
       keeper-fails k new want after to told index (commits ∙ edits-keeper volume index plan.edits (call_edits v k.world.latest asked) id plans.edits b.is.0) is same
       record { old = b.old; one = b.one; was = b.was; is = b.is.1; now = b.now }
 
-  pub commit-memory : (new : KeptWorld) → BecomesKept k index (λ old one. CommitsPlan old plan (Err keeper.Memory) one) new → new ≡ k
-  commit-memory new b = b.now ∙ ap (with_kept k index) b.is ∙ kept-stays k index b.old b.was
+  pub commit-memory : (new : KeptWorld) → BecomesKept k index (λ old one. Commits old plan (Err keeper.Memory) one) new → new ≡ k
+  commit-memory new b = b.now ∙ ap (with_kept k index) b.is.1 ∙ kept-stays k index b.old b.was
 
 -- a plan of a call may be committed
 pub plans-commit : (k : KeptWorld) (index : ℕ) (v : VolumeState) (now : ℕ) (asked : VolumeCall) (answer : Result PlanValue PlanFault) → slice_get k.world.volumes index ≡ Some v
@@ -80,20 +80,6 @@ pub plans-commit : (k : KeptWorld) (index : ℕ) (v : VolumeState) (now : ℕ) (
 plans-commit k index v now asked (with_ok plan) there plans = λ x at.
     subst (λ (y : VolumeState). MayCommit y plan) (same_Some v x (sym there ∙ at)) record { may = plans.may; before = plans.before; typed = plans.typed }
 plans-commit k index v now asked (Err e) there plans = tt
-
--- a commit of a plan that has edits
-pub commits-plan : (old : KeptState) (plan : PlanValue) (answer : Result (Unit {0}) KeeperFault) (one : KeptState) (empty : Bool) → empty ≡ (length plan.edits == 0) → empty ≡ false → Commits old plan answer one → CommitsPlan old plan answer one
-commits-plan old plan (with_ok committed) one empty is some does = does
-commits-plan old plan (Err keeper.Failed) one empty is some does = (sym is ∙ some, does.0, does.1)
-commits-plan old plan (Err keeper.Memory) one empty is some does = does
-
--- a volume at an index, that stays
-pub becomes-same : (w : World) (kept : List KeptState) (index : ℕ) (becomes : KeptState → KeptState → Type 0) (k : KeptWorld) → kept_world (record w { volumes = volumes_of kept }) kept ≡ k → index < length kept
-    → ((one : KeptState) → becomes one one) → BecomesKept k index becomes k
-becomes-same w [] index becomes k is within same = absurd (omega (arith, within))
-becomes-same w (x ∷ kept) index becomes k is within same =
-    let b = becomes-kept w (x ∷ kept) index x (get_or (x ∷ kept) index x) becomes k _ is within (same (get_or (x ∷ kept) index x)) refl in
-    record { old = b.old; one = b.old; was = b.was; is = same b.old; now = sym (kept-stays k index b.old b.was) }
 
 -- the volume at an index, and a plan of it
 volume-there : (kept : List KeptState) (index : ℕ) (d : KeptState) → index < length kept → slice_get (volumes_of kept) index ≡ Some (get_or kept index d).state
@@ -105,14 +91,6 @@ pub may-commit : (w : World) (kept : List KeptState) (index : ℕ) (d : KeptStat
     → MayCommitAt k index plan → MayCommit d.state plan
 may-commit w kept index d k plan is within same may =
     may d.state (subst (λ (x : KeptWorld). slice_get x.world.volumes index ≡ Some d.state) is (volume-there kept index d within ∙ ap (λ (x : KeptState). Some x.state) (sym same)))
-
--- a plan of no edits changes nothing
-pub nothing-commits : (plan : PlanValue) (empty : Bool) → empty ≡ (length plan.edits == 0) → empty ≡ true → (one : KeptState) → CommitsPlan one plan (with_ok tt) one
-nothing-commits plan empty is none one = ap (λ (l : List Edit). record one { state = after_call one.state plan.moment l }) (sym (no-edits plan.edits (sym is ∙ none)))
-  where
-    no-edits : (edits : List EditValue) → (length edits == 0) ≡ true → edits_of edits ≡ []
-    no-edits [] h = refl
-    no-edits (e ∷ es) h = absurd (omega (arith, eqb-true (suc (length es)) 0 h))
 
 -- a call that changes a volume
 module _ (k : KeptWorld) (number : ℕ) (call : Call) (volume : ℕ) (asked : VolumeCall) (reply : VolumeState → AfpReply) (changes : ChangesVolume call volume asked reply) where
@@ -134,7 +112,7 @@ module _ (k : KeptWorld) (number : ℕ) (call : Call) (volume : ℕ) (asked : Vo
   module _ (index : ℕ) (v : VolumeState) (plan : PlanValue) (stands : IsOpenAt k number volume index) (there : slice_get k.world.volumes index ≡ Some v)
       (passes : volume_refusal v (opened_on k.world volume) asked ≡ None) (plans : Plans v k.world.latest asked plan) where
     planned-done : (new : KeptWorld) (block : List ℕ) (told : Told) → block ≡ canonical_reply (reply v)
-        → BecomesKept k index (λ old one. CommitsPlan old plan (with_ok tt) one) new → told ≡ Reply Ok block false → RunsRow k number call (with_ok (done told)) new
+        → BecomesKept k index (λ old one. Commits old plan (with_ok tt) one) new → told ≡ Reply Ok block false → RunsRow k number call (with_ok (done told)) new
     planned-done new block told bytes b is = λ s at.
         let next = with_edits k.world volume v (call_edits v k.world.latest asked) in
         let of : Effect = record { world = next; reply = reply v } in
@@ -146,7 +124,7 @@ module _ (k : KeptWorld) (number : ℕ) (call : Call) (volume : ℕ) (asked : Vo
         (committed-world k index v asked plan there plans new volume stands.id b)
         (ap (λ (e : Effect). e.world) (sym does))
 
-    planned-fails : (new : KeptWorld) (told : Told) → BecomesKept k index (λ old one. CommitsPlan old plan (Err keeper.Failed) one) new → told ≡ refusal_reply MiscErr
+    planned-fails : (new : KeptWorld) (told : Told) → BecomesKept k index (λ old one. Commits old plan (Err keeper.Failed) one) new → told ≡ refusal_reply MiscErr
         → RunsRow k number call (with_ok (told, outcome.Fault)) new
     planned-fails new told b is = λ s at.
         rw (volume-refuses index v stands there s at ∙ ap (option_map plain) passes)
@@ -155,7 +133,7 @@ module _ (k : KeptWorld) (number : ℕ) (call : Call) (volume : ℕ) (asked : Vo
         ∙ ap (λ (o : Option VolumeState). keeper_of_edits volume (edits_on o (λ x. call_edits x k.world.latest asked))) (found-at k number volume index v stands there)) is refl b)
 
     commit-runs : (new : KeptWorld) (answer : Result (Unit {0}) KeeperFault) (block : List ℕ) (result : Result (Told × Outcome) OutOfMemory) → block ≡ canonical_reply (reply v)
-        → BecomesKept k index (λ old one. CommitsPlan old plan answer one) new → TellsCommitted answer block result → RunsRow k number call result new
+        → BecomesKept k index (λ old one. Commits old plan answer one) new → TellsCommitted answer block result → RunsRow k number call result new
     commit-runs new (with_ok committed) block (with_ok r) bytes b told =
         subst (λ (x : Told × Outcome). RunsRow k number call (with_ok x) new) (sym told) (planned-done new block (Reply Ok block false) bytes b refl)
     commit-runs new (with_ok committed) block (Err e) bytes b told = absurd told

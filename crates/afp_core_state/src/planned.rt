@@ -1,7 +1,8 @@
 //! Calls that were planned of a volume.
 ghost use Rattle.std.specs.Prelude.{◌≡◌, ◌<◌, Some, length, slice_get, IfOk};
-ghost use Rattle.afp_core_state.specs.Planned.{CommitsPlan, MayCommitAt, RunsPlan, TellsCommitted};
+ghost use Rattle.afp_core_state.specs.Planned.{MayCommitAt, RunsPlan, TellsCommitted};
 ghost use Rattle.afp_core_state.specs.OnVolumes.{BecomesKept};
+ghost use Rattle.volume_keeper_commit.specs.Commits.{Commits};
 
 use crate::replies::{done, refused};
 use crate::state::State;
@@ -35,12 +36,9 @@ pub fn commit_at<K: Keeper>(
 ) -> Result<(), KeeperFault>
     requires within { index < length state.old.world.volumes }
     requires may { MayCommitAt state.old index plan }
-    ensures { BecomesKept state.old index (λ old one. CommitsPlan old plan result one) state.new }
+    ensures { BecomesKept state.old index (λ old one. Commits old plan result one) state.new }
 {
     let alloc = state.alloc;
-    if plan.is_empty() {
-        return Ok(());
-    }
     state.kept[index].commit(alloc, plan)
 }
 

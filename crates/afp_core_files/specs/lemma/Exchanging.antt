@@ -3,7 +3,8 @@ use Rattle.std.specs.Prelude.{◌≡◌, ℕ, [], Some, Result, Ok, Err}
 use Rattle.afp_base.specs.declared.bytes.OutOfMemory.{OutOfMemory}
 use Rattle.afp_core_state.specs.KeptWorld.{KeptWorld}
 use Rattle.afp_core_state.specs.OnVolumes.{BecomesKept}
-use Rattle.afp_core_state.specs.Planned.{CommitsPlan, TellsCommitted}
+use Rattle.volume_keeper_commit.specs.Commits.{Commits}
+use Rattle.afp_core_state.specs.Planned.{TellsCommitted}
 use Rattle.afp_serial.specs.ExchangeFiles.{opens_exchanged}
 use Rattle.afp_serial.specs.declared.ask.Outcome.{Outcome}
 use Rattle.afp_serial.specs.declared.ask.Told.{Told}
@@ -24,6 +25,6 @@ exchanged_behind (Err e) volume pair k = k
 pub record RunsExchange (k : KeptWorld) (index volume : ℕ) (pair : Pair) (plan : PlanValue) (result : Result (Told × Outcome) OutOfMemory) (new : KeptWorld) : Type 0 where
   pub answer : Result (Unit {0}) KeeperFault
   pub between : KeptWorld
-  pub becomes : BecomesKept k index (λ old one. CommitsPlan old plan answer one) between
+  pub becomes : BecomesKept k index (λ old one. Commits old plan answer one) between
   pub behind : new ≡ exchanged_behind answer volume pair between
   pub tells : TellsCommitted answer [] result

@@ -3,8 +3,8 @@ use Rattle.std.proofs.lemmas.List.{length-map}
 use Rattle.volume_keeper_commit.specs.Kept.{KeptState}
 use Rattle.afp_core_state.specs.KeptWorld.{KeptWorld, with_token_key, world_of}
 use Rattle.afp_core_state.proofs.KeeperLemmas.{becomes-kept}
-use Rattle.afp_core_state.specs.Planned.{CommitsPlan}
-use Rattle.afp_core_state.proofs.PlannedRows.{becomes-same, commits-plan, may-commit, nothing-commits}
+use Rattle.volume_keeper_commit.specs.Commits.{Commits}
+use Rattle.afp_core_state.proofs.PlannedRows.{may-commit}
 use Rattle.afp_core_state.proofs.planned.commit_at.Goals as goal
 
 pub returns : goal.returns
@@ -12,16 +12,8 @@ returns g c =
     let a = c.state.inside in
     let kept : List KeptState = a.kept.items in
     let within : c.args.index < length kept = omega (arith, c.requires.within, ap (λ (k : KeptWorld). length k.world.volumes) c.state.view_is, length-map kept (λ (k : KeptState). k.state)) in
-    becomes-kept (world_of (with_token_key a.house a.sessions.token_key) a.latest a.drain a.sessions.next_link a.sessions.sessions a.forks []) kept c.args.index c.index_mut.result.now c.commit.new.self (λ old one. CommitsPlan old c.args.plan c.commit.result one) c.args.state.now _
-    c.state.view_is within (subst (λ (k : KeptState). CommitsPlan k c.args.plan c.commit.result c.commit.new.self) c.index_mut.ensures.value (commits-plan c.index_mut.result.now c.args.plan c.commit.result c.commit.new.self _ c.is_empty.ensures c.if-is_empty.false c.commit.ensures)) refl
-
-pub returns-then-is_empty : goal.returns-then-is_empty
-returns-then-is_empty g c =
-    let a = c.state.inside in
-    let kept : List KeptState = a.kept.items in
-    let within : c.args.index < length kept = omega (arith, c.requires.within, ap (λ (k : KeptWorld). length k.world.volumes) c.state.view_is, length-map kept (λ (k : KeptState). k.state)) in
-    becomes-same (world_of (with_token_key a.house a.sessions.token_key) a.latest a.drain a.sessions.next_link a.sessions.sessions a.forks []) kept c.args.index _ c.args.state.now
-    c.state.view_is within (nothing-commits c.args.plan c.is_empty.result c.is_empty.ensures c.if-is_empty.true)
+    becomes-kept (world_of (with_token_key a.house a.sessions.token_key) a.latest a.drain a.sessions.next_link a.sessions.sessions a.forks []) kept c.args.index c.index_mut.result.now c.commit.new.self (λ old one. Commits old c.args.plan c.commit.result one) c.args.state.now _
+    c.state.view_is within (subst (λ (k : KeptState). Commits k c.args.plan c.commit.result c.commit.new.self) c.index_mut.ensures.value c.commit.ensures) refl
 
 pub commit-requires-clause-may : goal.commit-requires-clause-may
 commit-requires-clause-may g c =
