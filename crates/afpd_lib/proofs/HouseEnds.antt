@@ -139,8 +139,8 @@ words-end state passed door kept_by words keepers key clock doors values run.Ref
 words-end state passed door kept_by words keepers key clock doors values (run.Helped text) trace back asks e = absurd e
 words-end state passed door kept_by words keepers key clock doors values run.Memory trace back asks (inl none) = inl none
 words-end state passed door kept_by words keepers key clock doors values run.Memory trace back asks (inr s) = inr record { values = values; asks = asks; many = s.many; closing = s.closing; serves = s.serves; comes = s.comes }
-words-end state passed door kept_by words keepers key clock doors values (run.BadRecord index hex reason) trace back asks e = (e.0, (e.1.0, e.1.1, record { values = values; asks = asks; fails = e.1.2 }))
-words-end state passed door kept_by words keepers key clock doors values (run.LoadFailed index) trace back asks e = (e.0, record { values = values; asks = asks; fails = e.1 })
+words-end state passed door kept_by words keepers key clock doors values (run.BadRecord index hex reason) trace back asks e = (e.0, (e.1.0, e.1.1, record { values = values; asks = asks; kept = e.1.2.kept; many = e.1.2.many; fails = e.1.2.fails }))
+words-end state passed door kept_by words keepers key clock doors values (run.LoadFailed index) trace back asks e = (e.0, record { values = values; asks = asks; kept = e.1.kept; many = e.1.many; fails = e.1.fails })
 words-end state passed door kept_by words keepers key clock doors values (run.DoorFailed counts) trace back asks e =
     (record { values = values; asks = asks; many = e.0.many; closing = e.0.closing; serves = e.0.serves; comes = e.0.comes }, e.1)
 words-end state passed door kept_by words keepers key clock doors values (run.Served counts) trace back asks e =

@@ -73,9 +73,9 @@ loads-all kept_by house keepers clock index fault good f =
     let holds = good index s.name s.keeper s.named s.kept_by in
     cause-none s.name (steady_in kept_by s.keeper) holds.held (kept_by.sure s.keeper) fault holds.told holds.sure holds.good s.cause
 
-words-load : {K : Type 0} (kept_by : Keeping K) (words : List (List ℕ)) (keepers : List K) (key : List ℕ) (clock : Option ℕ) (values : WordValues) (index : ℕ) (fault : LoadFault) → Asks words key values
-    → HoldGood kept_by (house_of values key).volumes keepers → WordsFailToLoad kept_by words keepers key clock index fault → ⊥
-words-load kept_by words keepers key clock values index fault asks good f =
+words-load : {Y K : Type 0} (kept_by : Keeping K) (words : List (List ℕ)) (keepers : List K) (key : List ℕ) (clock : Option ℕ) (doors : List Y) (values : WordValues) (index : ℕ) (fault : LoadFault) → Asks words key values
+    → HoldGood kept_by (house_of values key).volumes keepers → WordsFailToLoad kept_by words keepers key clock doors index fault → ⊥
+words-load kept_by words keepers key clock doors values index fault asks good f =
     let same = one_house words key values f.values asks.words_are f.asks.words_are in
     loads-all kept_by (house_of f.values key) keepers clock index fault (subst (λ (h : Household). HoldGood kept_by h.volumes keepers) same good) f.fails
 
@@ -86,9 +86,9 @@ by_good_end state passed door kept_by words keepers key clock values doors trace
 by_good_end state passed door kept_by words keepers key clock values doors trace back before after status run.Refused e s asks many as_many none same low good = absurd (e.0 values asks many as_many)
 by_good_end state passed door kept_by words keepers key clock values doors trace back before after status run.Memory e s asks many as_many none same low good = inr s.0
 by_good_end state passed door kept_by words keepers key clock values doors trace back before after status (run.BadRecord index hex reason) e s asks many as_many none same low good =
-    absurd (words-load kept_by words keepers key clock values index _ asks good e.1.2)
+    absurd (words-load kept_by words keepers key clock doors values index _ asks good e.1.2)
 by_good_end state passed door kept_by words keepers key clock values doors trace back before after status (run.LoadFailed index) e s asks many as_many none same low good =
-    absurd (words-load kept_by words keepers key clock values index load.Failed asks good e.1)
+    absurd (words-load kept_by words keepers key clock doors values index load.Failed asks good e.1)
 by_good_end state passed door kept_by words keepers key clock values doors trace back before after status (run.DoorFailed counts) e s asks many as_many none same low good =
     absurd (no-door state passed door kept_by words keepers key clock doors trace back e.0 none)
 by_good_end state passed door kept_by words keepers key clock values doors trace back before after status (run.Served counts) e s asks many as_many none same low good =

@@ -72,9 +72,12 @@ pub record ServesWords {L P Y K : Type 0} (state : L → LinkState) (passed : P 
   pub serves : ServesAll state passed door kept_by (house_of values key) keepers values.turns clock doors closing
   pub comes : ComesBack closing end trace back
 
-pub record WordsFailToLoad {K : Type 0} (kept_by : Keeping K) (words : List (List ℕ)) (keepers : List K) (key : List ℕ) (clock : Option ℕ) (index : ℕ) (fault : LoadFault) : Type 0 where
+-- The words ask for a house that is taken, of as many volumes as there are keepers, and for as many workers as there are doors; and a load gave none.
+pub record WordsFailToLoad {Y K : Type 0} (kept_by : Keeping K) (words : List (List ℕ)) (keepers : List K) (key : List ℕ) (clock : Option ℕ) (doors : List Y) (index : ℕ) (fault : LoadFault) : Type 0 where
   pub values : WordValues
   pub asks : Asks words key values
+  pub kept : length keepers ≡ length (house_of values key).volumes
+  pub many : length doors ≡ values.workers
   pub fails : FailsToLoad kept_by (house_of values key) keepers clock index fault
 
 -- How a run ends, by its answer: the words ask for help; they, or the numbers of keepers or doors, are refused; there was no memory, before a door was served or for a link;
@@ -84,8 +87,8 @@ EndsRun state passed door kept_by words keepers key clock doors (run.Helped text
 EndsRun state passed door kept_by words keepers key clock doors run.Refused trace back = IsRefused words key (length keepers) (length doors) × ServesNone doors trace back
 EndsRun state passed door kept_by words keepers key clock doors run.Memory trace back = ServesNone doors trace back ⊎ ServesWords state passed door kept_by words keepers key clock doors ends.Memory trace back
 EndsRun state passed door kept_by words keepers key clock doors (run.BadRecord index hex reason) trace back =
-    ServesNone doors trace back × ((key_of : List ℕ) × (string_bytes hex ≡ encode_lower key_of) × WordsFailToLoad kept_by words keepers key clock index (load.BadRecord key_of reason))
-EndsRun state passed door kept_by words keepers key clock doors (run.LoadFailed index) trace back = ServesNone doors trace back × WordsFailToLoad kept_by words keepers key clock index load.Failed
+    ServesNone doors trace back × ((key_of : List ℕ) × (string_bytes hex ≡ encode_lower key_of) × WordsFailToLoad kept_by words keepers key clock doors index (load.BadRecord key_of reason))
+EndsRun state passed door kept_by words keepers key clock doors (run.LoadFailed index) trace back = ServesNone doors trace back × WordsFailToLoad kept_by words keepers key clock doors index load.Failed
 EndsRun state passed door kept_by words keepers key clock doors (run.DoorFailed counts) trace back =
     (s : ServesWords state passed door kept_by words keepers key clock doors ends.Failed trace back) × (counts ≡ s.closing.counts)
 EndsRun state passed door kept_by words keepers key clock doors (run.Served counts) trace back =

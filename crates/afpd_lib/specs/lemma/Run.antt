@@ -55,13 +55,19 @@ pub record ServesTo {L P Y K : Type 0} (state : L → LinkState) (passed : P →
   pub serves : ServesAll state passed door kept_by house keepers turns clock doors closing
   pub comes : ComesBack closing end trace back
 
+-- a house of as many volumes as there are keepers was to be served over so many doors, and the load at an index gave no volume
+pub record StopsHouse {Y K : Type 0} (kept_by : Keeping K) (house : Household) (keepers : List K) (count : ℕ) (clock : Option ℕ) (doors : List Y) (index : ℕ) (fault : LoadFault) : Type 0 where
+  pub kept : length keepers ≡ length house.volumes
+  pub many : length doors ≡ count
+  pub fails : FailsToLoad kept_by house keepers clock index fault
+
 abbrev pub EndsHouse : {L P Y K : Type 0} → (L → LinkState) → (P → Passed) → (Y → DoorState L) → Keeping K → Household → List K → ℕ → ℕ → Option ℕ → List Y → RunEnd → Option Trace → List Y → Type 0
 EndsHouse state passed door kept_by house keepers many turns clock doors run.Refused trace back = (length keepers ≡ length house.volumes → length doors ≡ many → ⊥) × ServesNone doors trace back
 EndsHouse state passed door kept_by house keepers many turns clock doors (run.Helped text) trace back = ⊥
 EndsHouse state passed door kept_by house keepers many turns clock doors run.Memory trace back = ServesNone doors trace back ⊎ ServesTo state passed door kept_by house keepers many turns clock doors ends.Memory trace back
 EndsHouse state passed door kept_by house keepers many turns clock doors (run.BadRecord index hex reason) trace back =
-    ServesNone doors trace back × ((key : List ℕ) × (string_bytes hex ≡ encode_lower key) × FailsToLoad kept_by house keepers clock index (load.BadRecord key reason))
-EndsHouse state passed door kept_by house keepers many turns clock doors (run.LoadFailed index) trace back = ServesNone doors trace back × FailsToLoad kept_by house keepers clock index load.Failed
+    ServesNone doors trace back × ((key : List ℕ) × (string_bytes hex ≡ encode_lower key) × StopsHouse kept_by house keepers many clock doors index (load.BadRecord key reason))
+EndsHouse state passed door kept_by house keepers many turns clock doors (run.LoadFailed index) trace back = ServesNone doors trace back × StopsHouse kept_by house keepers many clock doors index load.Failed
 EndsHouse state passed door kept_by house keepers many turns clock doors (run.DoorFailed counts) trace back =
     (s : ServesTo state passed door kept_by house keepers many turns clock doors ends.Failed trace back) × (counts ≡ s.closing.counts)
 EndsHouse state passed door kept_by house keepers many turns clock doors (run.Served counts) trace back =
