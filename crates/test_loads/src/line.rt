@@ -1,8 +1,8 @@
 //! The lines of a run.
 use test_lines::{kind_of, last_word, small_number_at, word_at};
 
-/// What a line does: it takes a new keeper, puts a record or takes one away, puts the records of many directories, one in the other,
-/// loads the volume, or reads a value.
+/// What a line does: it takes a new keeper, puts a record or takes one away, puts the records of many directories, one in the other, of
+/// many icons or of many APPL mappings, loads the volume, also to show what it has of a creator, or reads a value.
 #[derive(Clone, Copy, PartialEq, Eq)]
 pub enum Kind {
     New,
@@ -11,30 +11,40 @@ pub enum Kind {
     File,
     Block,
     Comment,
+    Icon,
+    Bits,
+    Icons,
     Appl,
+    Appls,
     Put,
     Remove,
     Chain,
     Ring,
     Load,
+    Desktop,
     Read,
     Count,
 }
 
 /// The word of each kind.
-const KINDS: [(&str, Kind); 14] = [
+const KINDS: [(&str, Kind); 19] = [
     ("new", Kind::New),
     ("head", Kind::Head),
     ("dir", Kind::Dir),
     ("file", Kind::File),
     ("block", Kind::Block),
     ("comment", Kind::Comment),
+    ("icon", Kind::Icon),
+    ("bits", Kind::Bits),
+    ("icons", Kind::Icons),
     ("appl", Kind::Appl),
+    ("appls", Kind::Appls),
     ("put", Kind::Put),
     ("remove", Kind::Remove),
     ("chain", Kind::Chain),
     ("ring", Kind::Ring),
     ("load", Kind::Load),
+    ("desktop", Kind::Desktop),
     ("read", Kind::Read),
     ("count", Kind::Count),
 ];

@@ -2,6 +2,7 @@
 //! its result. A line that is empty or begins with `#` is passed over.
 #![tactic(auto)]
 
+mod desktop;
 mod line;
 mod rows;
 mod run;

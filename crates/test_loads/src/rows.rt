@@ -3,7 +3,7 @@ use crate::line::{Kind, Line};
 use afp_base::{Bytes, OutOfMemory};
 use std::alloc::Global;
 use test_lines::bytes_of;
-use volume_keeper_records::{Appl, Comment, ForkBlock, Head, Node, TableRow};
+use volume_keeper_records::{Appl, Comment, ForkBlock, Head, Icon, Node, TableRow};
 
 /// The bytes that hexadecimal digits spell; none, where they spell none.
 pub fn owned(alloc: Global, digits: &str) -> Result<Bytes, OutOfMemory> {
@@ -48,8 +48,59 @@ pub fn node(
     }))
 }
 
-/// The creator of all APPL mappings.
-const CREATOR: [u8; 4] = [0x54, 0x54, 0x58, 0x54];
+/// Four bytes of a word from a place on; zeros behind its end.
+pub fn code_at(word: &str, place: usize) -> [u8; 4] {
+    let bytes = word.as_bytes();
+    let mut code = [0; 4];
+    for i in 0..4 {
+        let at = place.saturating_add(i);
+        if at < bytes.len() {
+            code[i] = bytes[at];
+        }
+    }
+    code
+}
+
+/// The icon that a line tells, with this tag and these bits. The line's second word has the creator and the type; its first number is the
+/// icon type.
+fn icon(line: &Line<'_>, tag: u32, bits: Bytes) -> TableRow {
+    TableRow::Icon(Icon {
+        creator: code_at(line.second, 0),
+        kind: code_at(line.second, 4),
+        icon_kind: line.numbers[1].to_be_bytes()[3],
+        tag,
+        bits,
+    })
+}
+
+/// The icon of a number among many: its type is the number, and all else of it is zeros.
+pub fn icon_of(alloc: Global, number: u32) -> TableRow {
+    TableRow::Icon(Icon {
+        creator: [0; 4],
+        kind: number.to_be_bytes(),
+        icon_kind: 0,
+        tag: 0,
+        bits: Bytes::new(alloc),
+    })
+}
+
+/// The APPL mapping of a number among many, to this file: its creator is the number.
+pub fn appl_of(node: u32, number: u32) -> TableRow {
+    TableRow::Appl(Appl {
+        creator: number.to_be_bytes(),
+        node,
+        tag: 0,
+    })
+}
+
+/// So many bytes, each 1.
+fn ones(alloc: Global, count: u32) -> Result<Bytes, OutOfMemory> {
+    let mut bytes = Bytes::new(alloc);
+    for _ in 0..count {
+        bytes.push_u8(1)?;
+    }
+    Ok(bytes)
+}
 
 /// The row that a line tells.
 pub fn row_of(alloc: Global, line: &Line<'_>) -> Result<TableRow, OutOfMemory> {
@@ -67,8 +118,10 @@ pub fn row_of(alloc: Global, line: &Line<'_>) -> Result<TableRow, OutOfMemory> {
             node: first,
             text: Bytes::of(alloc, line.text.as_bytes())?,
         })),
+        Kind::Icon => Ok(icon(line, third, owned(alloc, line.text)?)),
+        Kind::Bits => Ok(icon(line, 0, ones(alloc, third)?)),
         Kind::Appl => Ok(TableRow::Appl(Appl {
-            creator: CREATOR,
+            creator: code_at(line.text, 0),
             node: first,
             tag: second,
         })),

@@ -1,6 +1,7 @@
 //! What comes of lines.
+use crate::desktop::of_creator;
 use crate::line::{Kind, Line, line_of};
-use crate::rows::{node, owned, row_of};
+use crate::rows::{appl_of, code_at, icon_of, node, owned, row_of};
 use afp_base::{Moment, OutOfMemory};
 use afp_names::Name;
 use record_keeper::{Change, Keeper, KeeperFault, MemoryKeeper, Record, RecordKey, read_all};
@@ -58,6 +59,27 @@ fn put_chain(
     Ok(())
 }
 
+/// So many icons.
+fn put_icons(alloc: Global, changes: &mut Vec<Change>, count: u32) -> Result<(), OutOfMemory> {
+    for number in 0..count {
+        put(alloc, changes, &icon_of(alloc, number))?;
+    }
+    Ok(())
+}
+
+/// So many APPL mappings to a file.
+fn put_appls(
+    alloc: Global,
+    changes: &mut Vec<Change>,
+    node: u32,
+    count: u32,
+) -> Result<(), OutOfMemory> {
+    for number in 0..count {
+        put(alloc, changes, &appl_of(node, number))?;
+    }
+    Ok(())
+}
+
 /// The changes that a line tells.
 fn changes_of(alloc: Global, line: &Line<'_>) -> Result<Vec<Change>, OutOfMemory> {
     let mut changes = Vec::new(alloc);
@@ -71,6 +93,8 @@ fn changes_of(alloc: Global, line: &Line<'_>) -> Result<Vec<Change>, OutOfMemory
         })?,
         Kind::Chain => put_chain(alloc, &mut changes, line.numbers[0], 2)?,
         Kind::Ring => put_chain(alloc, &mut changes, line.numbers[0], 17)?,
+        Kind::Icons => put_icons(alloc, &mut changes, line.numbers[0])?,
+        Kind::Appls => put_appls(alloc, &mut changes, line.numbers[0], line.numbers[1])?,
         _ => put(alloc, &mut changes, &row_of(alloc, line)?)?,
     }
     Ok(changes)
@@ -83,13 +107,26 @@ fn of_bad(alloc: Global, key: &RecordKey, reason: Reason) -> Result<LineResult, 
     Ok(LineResult::Text(format!(in alloc; "bad {digits} {word}")?))
 }
 
-/// The result of a load: how many nodes there are, or why there are none.
+/// The result of a volume that was loaded: what it has of a creator, where that is asked for; else how many nodes there are.
+fn of_whole(
+    alloc: Global,
+    line: &Line<'_>,
+    whole: &WholeVolume,
+) -> Result<LineResult, OutOfMemory> {
+    match line.kind {
+        Kind::Desktop => of_creator(alloc, &whole.desktop, &code_at(line.second, 0)),
+        _ => Ok(LineResult::Number(whole.tree.count() as u64)),
+    }
+}
+
+/// The result of a load: of the volume, or why there is none.
 fn of_load(
     alloc: Global,
+    line: &Line<'_>,
     loaded: Result<WholeVolume, LoadFault>,
 ) -> Result<LineResult, OutOfMemory> {
     match loaded {
-        Ok(whole) => Ok(LineResult::Number(whole.tree.count() as u64)),
+        Ok(whole) => of_whole(alloc, line, &whole),
         Err(LoadFault::BadRecord { key, reason }) => of_bad(alloc, &key, reason),
         Err(LoadFault::Failed) => Ok(LineResult::Word("failed")),
         Err(LoadFault::Memory) => Ok(LineResult::Word("memory")),
@@ -116,7 +153,7 @@ impl Run {
             return Ok(LineResult::Word("no moment"));
         };
         match Name::new(alloc, line.text.as_bytes()) {
-            Ok(_) => of_load(alloc, load(alloc, &mut self.keeper, line.text, now)),
+            Ok(_) => of_load(alloc, line, load(alloc, &mut self.keeper, line.text, now)),
             Err(_) => Ok(LineResult::Word("no name")),
         }
     }
@@ -145,6 +182,7 @@ impl Run {
                 Ok(LineResult::Nothing)
             }
             Kind::Load => self.load(alloc, line),
+            Kind::Desktop => self.load(alloc, line),
             Kind::Read => self.read(alloc, line),
             Kind::Count => Ok(self.count(alloc)),
             _ => self.change(alloc, line),
