@@ -63,8 +63,8 @@ pub record RunsReplay (turns : ℕ) (old new : SourceState) (before after : Sink
   pub replays : Replays turns old answer new
   pub told : Tells (replay_text answer) (replay_status answer) before after status
 
--- A capture is made: it is printed, and the status is 0; or some of it is, and a write failed, with status 5, or there was no memory, with
--- status 6.
+-- A capture is made: it is printed, and the status is 0; or a first part of it is, and a write failed, with status 5, or there was no memory,
+-- with status 6.
 abbrev pub make_status : MakeEnd → ℕ
 make_status make_ends.Done = 0
 make_status make_ends.WriteFault = 5

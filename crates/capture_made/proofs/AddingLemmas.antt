@@ -1,5 +1,5 @@
 -- Lines that are added, one after the other.
-use Rattle.std.proofs.Common.{◌≡◌, ℕ, ◌+◌, ◌-◌, ◌<◌, ◌≤◌, List, [], ◌∷◌, ◌++◌, zero, suc, length, take, refl, sym, ap, ◌∙◌, subst, append_assoc, append-nil, length-append, arith}
+use Rattle.std.proofs.Common.{◌≡◌, ℕ, ◌+◌, ◌-◌, ◌<◌, ◌≤◌, List, [], ◌∷◌, ◌++◌, zero, suc, length, take, refl, sym, ap, ◌∙◌, subst, append_assoc, length-append, arith}
 use Rattle.std.specs.Prelude.{Option, Some, None, Result, Ok, Err, OnOk}
 use Rattle.std.proofs.Math.Seq.{take-append_seam}
 use Rattle.capture_log.specs.Standing.{uncompared}
@@ -10,10 +10,9 @@ use Rattle.capture_log.specs.declared.replay_end.ReplayEnd.TheVariants.{Same}
 use Rattle.capture_log_server.specs.Counting.{AreCaptureCounts}
 use Rattle.capture_log_server.specs.CaptureState.{CaptureState, Leads, TakesGoodLine, begins}
 use Rattle.capture_made_lines.specs.Lines.{ended_lines, house_lines, in_line, out_line, end_line}
-use Rattle.capture_made_requests.specs.Drawing.{drawn}
 use Rattle.capture_made_requests.specs.Requests.{StepState, after, first_state, most_steps, opening, request_of, requests, step_requests}
 use Rattle.capture_made_requests.specs.declared.request.Request.{Request}
-use Rattle.capture_made.specs.Made.{Exchange, Exchanges, IsMade}
+use Rattle.capture_made.specs.Made.{Exchanges, IsMade}
 use Rattle.capture_made.specs.lemma.Adding.{Adds, Exchanged, HasRun, Takes, after_steps}
 
 -- a line in front of its newline

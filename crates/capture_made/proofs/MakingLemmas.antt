@@ -1,19 +1,18 @@
 -- What was written of a made capture, and what waits.
-use Rattle.std.proofs.Common.{◌≡◌, ℕ, ◌+◌, ◌-◌, Bool, true, false, List, [], ◌∷◌, ◌++◌, suc, length, take, drop, refl, sym, ap, ◌∙◌, subst, append_assoc, arith}
+use Rattle.std.proofs.Common.{◌≡◌, ℕ, ◌+◌, ◌-◌, ◌<◌, ◌≤◌, true, List, [], ◌∷◌, ◌++◌, suc, length, take, drop, refl, sym, ap, ◌∙◌, subst, append_assoc, arith, inl, inr}
 use Rattle.std.specs.Prelude.{Option, option_map}
 use Rattle.afp_base.proofs.Facts.{added-added, nothing-added}
 use Rattle.afp_base.proofs.ListFacts.{cut_at}
 use Rattle.afp_base.specs.Counts.{CountsOn}
 use Rattle.afp_outside.specs.Sink.{SinkState, SinkTakes, SinkFails}
 use Rattle.capture_log.specs.Taking.{HeldCapture, IsCapture}
-use Rattle.capture_log_server.specs.CaptureState.{CaptureState, TakesGoodLine}
+use Rattle.capture_log_server.specs.CaptureState.{CaptureState}
 use Rattle.capture_made_lines.specs.Lines.{ended_lines, house_lines, end_line}
 use Rattle.capture_made_requests.specs.Requests.{StepState, first_state, request_of}
-use Rattle.capture_made.specs.Made.{IsMade}
-use Rattle.capture_made.specs.Making.{MakesBy, Writes, WritesMade, WritesPart, WritesSome}
+use Rattle.capture_made.specs.Making.{AreFirst, MakesBy, MakesPart, MakesSome, Writes, WritesPart}
 use Rattle.capture_made.specs.declared.making.MakeEnd.{MakeEnd}
 use Rattle.capture_made.specs.declared.making.MakeEnd.TheVariants as ends
-use Rattle.capture_made.specs.lemma.Adding.{Exchanged, FinishesBy, HasMade, HasRun, HasWritten, StepsBy, WritesFront, after_steps}
+use Rattle.capture_made.specs.lemma.Adding.{Exchanged, FailedStep, FinishesBy, HasMade, HasRun, HasWritten, StepsBy, WritesFront, after_steps}
 use Rattle.capture_made.proofs.AddingLemmas.{ended-append, made, run-more}
 
 -- writes, one after the other
@@ -27,9 +26,11 @@ writes-join a b c x y r s = record {
   faults = s.faults ∙ r.faults;
 }
 
-pub part-behind : (a b c : SinkState) (x : List ℕ) → Writes a x b → WritesPart b c → WritesPart a c
-part-behind a b c x r s = record {
+pub part-behind : (a b c : SinkState) (x y text : List ℕ) → x ++ y ≡ text → Writes a x b → WritesPart b y c → WritesPart a text c
+part-behind a b c x y text e r s = record {
   part = x ++ s.part;
+  lost = s.lost;
+  cut = append_assoc x s.part s.lost ∙ ap (λ (l : List ℕ). x ++ l) s.cut ∙ e;
   written = s.written ∙ ap (λ (o : Option (List ℕ)). option_map (λ before. before ++ s.part) o) r.written ∙ added-added a.written x s.part;
   fault = subst (λ (n : ℕ). CountsOn 1 n c.faults) r.faults s.fault;
 }
@@ -45,8 +46,14 @@ writes-more a b c text sent left n split so_far w = (
   },
 )
 
-pub writes-failed : (a b c : SinkState) (sent : List ℕ) → Writes a sent b → SinkFails b c → WritesPart a c
-writes-failed a b c sent r f = record { part = sent; written = f.written ∙ r.written; fault = subst (λ (n : ℕ). CountsOn 1 n c.faults) r.faults f.faults }
+pub writes-failed : (a b c : SinkState) (text sent left : List ℕ) → text ≡ sent ++ left → Writes a sent b → SinkFails b c → WritesPart a text c
+writes-failed a b c text sent left split r f = record {
+  part = sent;
+  lost = left;
+  cut = sym split;
+  written = f.written ∙ r.written;
+  fault = subst (λ (n : ℕ). CountsOn 1 n c.faults) r.faults f.faults;
+}
 
 -- a step, and the text that is written behind it
 
@@ -82,23 +89,69 @@ written-front number count start sink sink_then capture held left h (p, e, w) = 
 pub written-none : (number : ℕ) (start : SinkState) (capture : HeldCapture) (text : List ℕ) → HasMade number 0 capture text → HasWritten number 0 start capture text start
 written-none number start capture text h = record { part = []; writes = writes-none start; made = h }
 
+-- the first lines of a capture
+
+begun : (number count steps : ℕ) (capture : HeldCapture) (lines : List (List ℕ)) → count ≤ steps → HasRun number count capture lines → AreFirst number steps (house_lines ++ lines)
+begun number count steps capture lines most h = inl record {
+  count = count;
+  most = most;
+  opened = h.opened;
+  events = lines;
+  answered = h.now;
+  house = h.house;
+  exchanges = h.exchanges;
+  lines_are = refl;
+}
+
+pub some-written : (number count steps : ℕ) (start sink sink_then : SinkState) (capture : HeldCapture) (held : List ℕ) → count ≤ steps → HasWritten number count start capture held sink → sink_then ≡ sink
+    → MakesSome number steps start sink_then
+some-written number count steps start sink sink_then capture held most h e =
+    subst (λ (s : SinkState). MakesSome number steps start s) (sym e) record {
+      part = h.part;
+      front = inr record { lines = house_lines ++ h.made.lines; first = begun number count steps capture h.made.lines most h.made.runs; lost = held; cut = h.made.text_is };
+      writes = h.writes;
+    }
+
+pub part-written : (number i count : ℕ) (start sink sink_then : SinkState) (capture new : HeldCapture) (steps : StepState) (held : List ℕ) → i < count → HasWritten number i start capture held sink
+    → steps ≡ after_steps (first_state number) i → FailedStep steps capture held sink new sink_then → MakesPart number count start sink_then
+part-written number i count start sink sink_then capture new steps held within h e f =
+    let m =
+    written-more number i start sink capture new held f.middle h (λ s is. subst (λ (st : StepState). Exchanged s (request_of st ∷ []) held new f.middle) e (f.exchanged s is)) in
+    record {
+      lines = house_lines ++ m.made.lines;
+      first = begun number (suc i) count new m.made.lines (omega (arith, within)) m.made.runs;
+      writes = part-behind start sink sink_then m.part f.middle (ended_lines (house_lines ++ m.made.lines)) m.made.text_is m.writes f.front;
+    }
+
 -- the end
+
+text-ends : (part held : List ℕ) (lines : List (List ℕ)) → part ++ held ≡ ended_lines (house_lines ++ lines)
+    → part ++ (held ++ ended_lines (end_line ∷ [])) ≡ ended_lines (house_lines ++ (lines ++ end_line ∷ []))
+text-ends part held lines e =
+    sym (append_assoc part held (ended_lines (end_line ∷ []))) ∙ ap (λ (x : List ℕ). x ++ ended_lines (end_line ∷ [])) e
+    ∙ sym (ended-append (house_lines ++ lines) (end_line ∷ [])) ∙ ap (λ (ls : List (List ℕ)). ended_lines ls) (append_assoc house_lines lines (end_line ∷ []))
 
 pub finished : (number steps : ℕ) (start sink sink_then : SinkState) (capture : HeldCapture) (held : List ℕ) (end : MakeEnd) → HasWritten number steps start capture held sink
     → FinishesBy capture held sink end sink_then → MakesBy number steps end start sink_then
 finished number steps start sink sink_then capture held ends.Done h f =
     let t = f h.made.runs.now h.made.runs.is in
-    let all : h.part ++ (held ++ ended_lines (end_line ∷ [])) ≡ ended_lines (house_lines ++ (h.made.lines ++ end_line ∷ [])) =
-    sym (append_assoc h.part held (ended_lines (end_line ∷ []))) ∙ ap (λ (x : List ℕ). x ++ ended_lines (end_line ∷ [])) h.made.text_is
-    ∙ sym (ended-append (house_lines ++ h.made.lines) (end_line ∷ [])) ∙ ap (λ (ls : List (List ℕ)). ended_lines ls) (append_assoc house_lines h.made.lines (end_line ∷ [])) in
     record {
       lines = house_lines ++ (h.made.lines ++ end_line ∷ []);
       standing = t.0;
       made = made number steps h.made.runs.opened h.made.runs.now t.0 h.made.lines h.made.runs.house h.made.runs.exchanges t.1;
-      writes = subst (λ (x : List ℕ). Writes start x sink_then) all (writes-join start sink sink_then h.part (held ++ ended_lines (end_line ∷ [])) h.writes t.2);
+      writes = subst (λ (x : List ℕ). Writes start x sink_then) (text-ends h.part held h.made.lines h.made.text_is)
+          (writes-join start sink sink_then h.part (held ++ ended_lines (end_line ∷ [])) h.writes t.2);
     }
-finished number steps start sink sink_then capture held ends.WriteFault h f = part-behind start sink sink_then h.part h.writes f
-finished number steps start sink sink_then capture held ends.Memory h f = record { part = h.part ++ f.part; writes = writes-join start sink sink_then h.part f.part h.writes f.writes }
+finished number steps start sink sink_then capture held ends.WriteFault h f =
+    let t = f h.made.runs.now h.made.runs.is in
+    record {
+      lines = house_lines ++ (h.made.lines ++ end_line ∷ []);
+      first = inr (t.after, made number steps h.made.runs.opened h.made.runs.now t.after h.made.lines h.made.runs.house h.made.runs.exchanges t.good);
+      writes =
+          part-behind start sink sink_then h.part (held ++ ended_lines (end_line ∷ [])) (ended_lines (house_lines ++ (h.made.lines ++ end_line ∷ [])))
+          (text-ends h.part held h.made.lines h.made.text_is) h.writes t.part;
+    }
+finished number steps start sink sink_then capture held ends.Memory h f = some-written number steps steps start sink sink_then capture held (omega arith) h f
 
 -- a step that is written
 
@@ -114,9 +167,3 @@ written-on number i start sink sink_then capture new steps steps_then held held_
 
 pub written-all : (number i count : ℕ) (start sink : SinkState) (capture : HeldCapture) (held : List ℕ) → i ≡ count → HasWritten number i start capture held sink → HasWritten number count start capture held sink
 written-all number i count start sink capture held e h = subst (λ (n : ℕ). HasWritten number n start capture held sink) e h
-
-pub some-written : (number i : ℕ) (start sink sink_then : SinkState) (capture : HeldCapture) (held : List ℕ) → HasWritten number i start capture held sink → sink_then ≡ sink → WritesSome start sink_then
-some-written number i start sink sink_then capture held h e = subst (λ (s : SinkState). WritesSome start s) (sym e) (record { part = h.part; writes = h.writes })
-
-pub part-written : (number i : ℕ) (start sink sink_then : SinkState) (capture : HeldCapture) (held : List ℕ) → HasWritten number i start capture held sink → WritesPart sink sink_then → WritesPart start sink_then
-part-written number i start sink sink_then capture held h p = part-behind start sink sink_then h.part h.writes p

@@ -9,7 +9,7 @@ use Rattle.capture_made_lines.specs.Lines.{ended_lines, house_lines, end_line}
 use Rattle.capture_made_requests.specs.Requests.{StepState, after, request_of, requests}
 use Rattle.capture_made_requests.specs.declared.request.Request.{Request}
 use Rattle.capture_made.specs.Made.{Exchanges}
-use Rattle.capture_made.specs.Making.{Writes, WritesPart, WritesSome}
+use Rattle.capture_made.specs.Making.{MakesPart, MakesSome, Writes, WritesPart}
 use Rattle.capture_made.specs.declared.making.MakeEnd.{MakeEnd}
 use Rattle.capture_made.specs.declared.making.MakeEnd.TheVariants as ends
 use Rattle.capture_made.specs.declared.counting.Tallied.{Tallied}
@@ -63,12 +63,12 @@ pub record HasWritten (number count : ℕ) (start : SinkState) (capture : HeldCa
 -- by the answer: whether all was written
 abbrev pub WritesBy : SinkState → List ℕ → Bool → SinkState → Type 0
 WritesBy old text true new = Writes old text new
-WritesBy old text false new = WritesPart old new
+WritesBy old text false new = WritesPart old text new
 
 -- The text stays where it was not written, and is gone where it was.
 abbrev pub WritesFront : SinkState → List ℕ → List ℕ → Bool → SinkState → Type 0
 WritesFront old text left true new = (part : List ℕ) × (text ≡ part ++ left) × Writes old part new
-WritesFront old text left false new = WritesPart old new
+WritesFront old text left false new = WritesPart old text new
 
 -- A step was made, and its lines stand in the text, which may have been written.
 pub record MadeStep (steps : StepState) (capture : HeldCapture) (text : List ℕ) (old : SinkState) (steps_then : StepState) (new : HeldCapture) (left : List ℕ) (sink : SinkState) : Type 0 where
@@ -77,22 +77,34 @@ pub record MadeStep (steps : StepState) (capture : HeldCapture) (text : List ℕ
   pub exchanged : (s : CaptureState) → IsCapture capture s → Exchanged s (request_of steps ∷ []) text new middle
   pub front : WritesFront old middle left true sink
 
+-- A step was made, and a write of the text failed.
+pub record FailedStep (steps : StepState) (capture : HeldCapture) (text : List ℕ) (old : SinkState) (new : HeldCapture) (sink : SinkState) : Type 0 where
+  pub middle : List ℕ
+  pub exchanged : (s : CaptureState) → IsCapture capture s → Exchanged s (request_of steps ∷ []) text new middle
+  pub front : WritesPart old middle sink
+
 abbrev pub StepsBy : StepState → HeldCapture → List ℕ → SinkState → MakeEnd → StepState → HeldCapture → List ℕ → SinkState → Type 0
 StepsBy steps capture text old ends.Done steps_then new left sink = MadeStep steps capture text old steps_then new left sink
-StepsBy steps capture text old ends.WriteFault steps_then new left sink = WritesPart old sink
+StepsBy steps capture text old ends.WriteFault steps_then new left sink = FailedStep steps capture text old new sink
 StepsBy steps capture text old ends.Memory steps_then new left sink = sink ≡ old
 
 -- so many steps were made, by the answer
 abbrev pub MakesTo : ℕ → ℕ → SinkState → HeldCapture → List ℕ → MakeEnd → SinkState → Type 0
 MakesTo number count old capture text ends.Done new = HasWritten number count old capture text new
-MakesTo number count old capture text ends.WriteFault new = WritesPart old new
-MakesTo number count old capture text ends.Memory new = WritesSome old new
+MakesTo number count old capture text ends.WriteFault new = MakesPart number count old new
+MakesTo number count old capture text ends.Memory new = MakesSome number count old new
+
+-- The last line was added, and a write of the text failed.
+pub record FailedEnd (s : CaptureState) (text : List ℕ) (old new : SinkState) : Type 0 where
+  pub after : CaptureState
+  pub good : TakesGoodLine s end_line after
+  pub part : WritesPart old (text ++ ended_lines (end_line ∷ [])) new
 
 -- the last line was added, and all text was written, by the answer
 abbrev pub FinishesBy : HeldCapture → List ℕ → SinkState → MakeEnd → SinkState → Type 0
 FinishesBy capture text old ends.Done new = (s : CaptureState) → IsCapture capture s → (t : CaptureState) × TakesGoodLine s end_line t × Writes old (text ++ ended_lines (end_line ∷ [])) new
-FinishesBy capture text old ends.WriteFault new = WritesPart old new
-FinishesBy capture text old ends.Memory new = WritesSome old new
+FinishesBy capture text old ends.WriteFault new = (s : CaptureState) → IsCapture capture s → FailedEnd s text old new
+FinishesBy capture text old ends.Memory new = new ≡ old
 
 -- the counts of a capture that has ended
 abbrev pub CountsEnd : HeldCapture → Tallied → Type 0

@@ -1,13 +1,9 @@
-use Rattle.std.proofs.Common.{ℕ, List, ◌∙◌, subst, [], Bool}
+use Rattle.std.proofs.Common.{ℕ, List, ◌∙◌, subst, Bool}
 use Rattle.capture_made_lines.specs.Lines.{end_line}
-use Rattle.capture_made.specs.Making.{Writes}
+use Rattle.capture_made.specs.Making.{Writes, WritesPart}
 use Rattle.capture_made.specs.lemma.Adding.{WritesBy}
 use Rattle.capture_made.proofs.AddingLemmas.{good-line}
-use Rattle.capture_made.proofs.MakingLemmas.{writes-none}
 use Rattle.capture_made.proofs.making.finish.Goals as goal
-
-pub returns-in_default : goal.returns-in_default
-returns-in_default g c = record { part = []; writes = writes-none (g.O.Sink.sink_state c.args.out.now) }
 
 pub returns-then-write_text : goal.returns-then-write_text
 returns-then-write_text g c = λ s is.
@@ -17,3 +13,13 @@ returns-then-write_text g c = λ s is.
       subst (λ (t : List ℕ). Writes (g.O.Sink.sink_state c.args.out.now) t (g.O.Sink.sink_state c.write_text.new.out)) (c.as_slice.ensures ∙ a.text_is)
           (subst (λ (b : Bool). WritesBy (g.O.Sink.sink_state c.args.out.now) c.as_slice.result.now b (g.O.Sink.sink_state c.write_text.new.out)) c.if-write_text.true c.write_text.ensures),
     )
+
+pub returns-else-write_text : goal.returns-else-write_text
+returns-else-write_text g c = λ s is.
+    let a = c.in-Ok.ensures.adds s is in
+    record {
+      after = a.after;
+      good = good-line s a.after end_line a.leads;
+      part = subst (λ (t : List ℕ). WritesPart (g.O.Sink.sink_state c.args.out.now) t (g.O.Sink.sink_state c.write_text.new.out)) (c.as_slice.ensures ∙ a.text_is)
+          (subst (λ (b : Bool). WritesBy (g.O.Sink.sink_state c.args.out.now) c.as_slice.result.now b (g.O.Sink.sink_state c.write_text.new.out)) c.if-write_text.false c.write_text.ensures);
+    }

@@ -9,3 +9,10 @@ returns-then-write_long g c = record {
   exchanged = c.in-Ok.ensures.exchanged;
   front = subst (λ (b : Bool). WritesFront (g.O.Sink.sink_state c.args.out.now) c.add_step.new.text c.write_long.new.text b (g.O.Sink.sink_state c.write_long.new.out)) c.if-write_long.true c.write_long.ensures;
 }
+
+pub returns-else-write_long : goal.returns-else-write_long
+returns-else-write_long g c = record {
+  middle = c.add_step.new.text;
+  exchanged = c.in-Ok.ensures.exchanged;
+  front = subst (λ (b : Bool). WritesFront (g.O.Sink.sink_state c.args.out.now) c.add_step.new.text c.write_long.new.text b (g.O.Sink.sink_state c.write_long.new.out)) c.if-write_long.false c.write_long.ensures;
+}

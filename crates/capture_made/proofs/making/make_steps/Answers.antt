@@ -26,10 +26,12 @@ loop-step-preserved g c =
     }
 
 pub returns-in-WriteFault : goal.returns-in-WriteFault
-returns-in-WriteFault g c = part-written c.args.number c.loop-step._step _ _ _ _ _ c.loop-step.invariant.written c.in-WriteFault.ensures
+returns-in-WriteFault g c = let i = c.loop-step.invariant in part-written c.args.number c.loop-step._step c.args.count _ _ _ _ _ _ _ c.loop-step-test.true i.written i.steps_are c.in-WriteFault.ensures
 
 pub returns-in-Memory : goal.returns-in-Memory
-returns-in-Memory g c = some-written c.args.number c.loop-step._step _ _ _ _ _ c.loop-step.invariant.written c.in-Memory.ensures
+returns-in-Memory g c =
+    let i = c.loop-step.invariant in
+    some-written c.args.number c.loop-step._step c.args.count _ _ _ _ _ (omega (arith, c.loop-step-test.true)) i.written c.in-Memory.ensures
 
 pub returns : goal.returns
 returns g c = written-all c.args.number c.loop-step._step c.args.count _ _ _ _ (omega (arith, c.loop-step-test.false, c.loop-step.invariant.most)) c.loop-step.invariant.written

@@ -7,4 +7,4 @@ loop-left-preserved g c =
     writes-more _ _ _ _ _ _ _ so_far.1 so_far.2 c.in-Took.ensures
 
 pub returns-in-Failed : goal.returns-in-Failed
-returns-in-Failed g c = let so_far = c.loop-left.invariant in writes-failed _ _ _ _ so_far.2 c.in-Failed.ensures
+returns-in-Failed g c = let so_far = c.loop-left.invariant in writes-failed _ _ _ _ _ _ so_far.1 so_far.2 c.in-Failed.ensures
