@@ -1,0 +1,12 @@
+use Rattle.once_across_breaks.proofs.Effects.{effects-are, written-is-read}
+use Rattle.once_across_breaks.proofs.Wishes.{token-carried}
+use Rattle.once_across_breaks.proofs.laws.effects_are_those_of_the_history.Goals as goal
+
+pub returns-clause-same : goal.returns-clause-same
+returns-clause-same c = effects-are c.what_is_written_is_read_again.ensures.again
+
+pub returns-clause-read : goal.returns-clause-read
+returns-clause-read c = written-is-read c.what_is_written_is_read_again.ensures.again
+
+pub returns-clause-carried : goal.returns-clause-carried
+returns-clause-carried c = token-carried

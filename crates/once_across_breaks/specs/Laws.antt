@@ -1,0 +1,23 @@
+-- The laws, over the serial file server: for each key of its tokens, and whatever the client logs in with.
+use Rattle.once_across_breaks.specs.Once.{CommandsOnce, NoneWithoutToken}
+use Rattle.once_across_breaks.specs.Frames.{CommandsOnceCarried, OneFrame}
+use Rattle.once_across_breaks.specs.Bytes.{CommandsOnceInBytes}
+use Rattle.once_across_breaks.specs.Serial.{IsSoundUnder, Setup, machine}
+
+-- each command of the client has its effect once and in order, over every schedule
+abbrev pub OnceInOrderAlways : Type 0
+OnceInOrderAlways = (u : Setup) → CommandsOnce (IsSoundUnder u.key) (machine u)
+
+abbrev pub NoTokenNoResults : Type 0
+NoTokenNoResults = (u : Setup) → NoneWithoutToken (IsSoundUnder u.key) (machine u)
+
+-- the same over links that carry lists of frames
+abbrev pub OnceInOrderCarried : Type 0
+OnceInOrderCarried = (u : Setup) → CommandsOnceCarried (IsSoundUnder u.key) (machine u)
+
+abbrev pub OneFrameEach : Type 0
+OneFrameEach = (u : Setup) → OneFrame (machine u)
+
+-- and over bytes, of which each event moves some; a frame is handled once it is whole
+abbrev pub OnceInOrderInBytes : Type 0
+OnceInOrderInBytes = (u : Setup) → CommandsOnceInBytes (IsSoundUnder u.key) (machine u)

@@ -1,0 +1,11 @@
+pub mod Messages
+pub mod Server
+pub mod Run
+pub mod Once
+pub mod Laws
+pub mod Frames
+pub mod Bytes
+pub mod Serial
+pub mod Counting
+pub mod Example
+pub mod Effects

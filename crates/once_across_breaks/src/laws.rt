@@ -1,0 +1,57 @@
+//! The laws. Each function says one, and does nothing.
+ghost use Rattle.once_across_breaks.specs.Effects as history;
+ghost use Rattle.once_across_breaks.specs.Example as example;
+ghost use Rattle.once_across_breaks.specs.Laws as laws;
+
+use afp_calls_grammar::laws::what_is_written_is_read_again;
+use afp_serial::laws::{
+    asks_change_sessions_in_few_ways, fault_hides_no_refusal, sound_worlds_stay_sound,
+    tokens_tell_sessions_apart,
+};
+
+/// Whatever breaks, is lost, comes late or is told want of memory: the calls in effect on the client's session are the requests of its
+/// results in order, each told its result, and behind them at most the command that has no result. So it is over links with one place,
+/// over links that carry lists of frames, and over bytes of which each event moves some. A client without a token has no results. On each
+/// link at most one frame is under way.
+pub fn commands_take_effect_once_in_order()
+    ensures once { laws.OnceInOrderAlways }
+    ensures carried { laws.OnceInOrderCarried }
+    ensures bytes { laws.OnceInOrderInBytes }
+    ensures none { laws.NoTokenNoResults }
+    ensures frames { laws.OneFrameEach }
+{
+    asks_change_sessions_in_few_ways();
+    fault_hides_no_refusal();
+    sound_worlds_stay_sound();
+    tokens_tell_sessions_apart();
+    what_is_written_is_read_again();
+}
+
+/// Over one such schedule both commands run, each once, though the reply of the first is lost with its link.
+pub fn a_lost_reply_is_told_again()
+    ensures { example.RunsOnce }
+{}
+
+/// Without the premise on want of memory behind a break a command can run twice.
+pub fn want_of_memory_behind_a_break_is_left_out()
+    ensures { example.RunsTwice }
+{}
+
+/// What the law calls in effect is in effect in the history of the serial file server: the same calls, in the same order, each told the same.
+/// What the client writes is read as what it asks, and the token of any session can be carried.
+pub fn effects_are_those_of_the_history()
+    ensures same { history.EffectsAreTheHistorys }
+    ensures read { history.WrittenIsRead }
+    ensures carried { history.TokensAreCarried }
+{
+    what_is_written_is_read_again();
+}
+
+/// A world at the start, over sound volumes of its house, is sound under the key of that house, with its next link number in its range; a legal entry
+/// keeps it so.
+pub fn sound_worlds_keep_their_key()
+    ensures starts { history.StartsUnderItsKey }
+    ensures keeps { history.StaysUnderItsKey }
+{
+    sound_worlds_stay_sound();
+}

@@ -1,0 +1,4 @@
+//! Each command of a client has its effect once and in order, over every schedule of breaks and rejoinings.
+#![tactic(auto)]
+
+pub mod laws;
