@@ -1,14 +1,12 @@
 -- The serial file server meets the laws of asks.
-use Rattle.std.proofs.Common.{◌≡◌, ◌≢◌, ◌∙◌, ◌⊎◌, inl, inr, refl, sym, ap, subst, ℕ, Bool, true, false, List, [], Option, Some, None}
-use Rattle.std.specs.Prelude.{nat_eq, ◌&&◌}
+use Rattle.std.proofs.Common.{◌≡◌, ◌≢◌, ◌∙◌, ◌⊎◌, inl, inr, refl, sym, ap, subst, ℕ, true, false, List, [], Option, Some, None}
+use Rattle.std.specs.Prelude.{nat_eq}
 use Rattle.std.proofs.lemmas.Bool.{and_parts, eq-eqb, false≢true}
 use Rattle.afp_base.specs.Cached as base
 use Rattle.afp_base.specs.Cached.{Request, cached_answer}
 use Rattle.afp_base.specs.declared.code.Code.{Code}
 use Rattle.afp_base.specs.declared.code.Code.TheVariants as code
 use Rattle.afp_calls_grammar.specs.Laws.{CanonicalIsReadAgain}
-use Rattle.afp_serial.specs.declared.ask.Ask.TheVariants as ask
-use Rattle.afp_serial.specs.declared.ask.Outcome as outcomes
 use Rattle.afp_serial.specs.declared.ask.Outcome.TheVariants as outcome
 use Rattle.afp_serial.specs.declared.ask.Told as tolds
 use Rattle.afp_serial.specs.declared.ask.Told.TheVariants as told
@@ -16,11 +14,11 @@ use Rattle.afp_serial.specs.KeptAnswers.{block_of, is_kept, is_kept_code, is_kep
 use Rattle.afp_serial.specs.SessionViews as views
 use Rattle.afp_serial.specs.SessionViews.{AskChanges, AsksKept, AsksToken, AsksUnkept, CallChanges, ComesBack, IsAnswered, LogsOut, SessionWish, wish_of}
 use Rattle.afp_serial.specs.Token.{session_token}
-use Rattle.once_across_breaks.specs.Messages.{Answer, Body, Command, Does, Fine, Login, Logout, MiscErr, Other, Rejoin, Sent, Token, body_by, cached_call, is_fine, is_miss, request_of, token_in}
-use Rattle.once_across_breaks.specs.Server.{Answers, Ask, AskLaw, Bye, CallLaw, Calls, Displaced, Drain, Fault, Live, Lost, Open, Opened, Outcome, Parted, Pulse, Ran, Reply, Sends, Told, View, adopted, ended, storing}
-use Rattle.once_across_breaks.specs.Serial.{Setup, answer_by, ask_of, carried, newest_first, outcome_of, told_of, view_of, written}
+use Rattle.once_across_breaks.specs.Messages.{Body, Command, Does, Login, Logout, Other, Rejoin, Sent, Token, body_by, cached_call, is_fine, is_miss, request_of, token_in}
+use Rattle.once_across_breaks.specs.Server.{Answers, Ask, AskLaw, Bye, CallLaw, Calls, Displaced, Drain, Fault, Live, Lost, Open, Outcome, Pulse, Ran, Sends, ended}
+use Rattle.once_across_breaks.specs.Serial.{Setup, answer_by, ask_of, carried, outcome_of, told_of, view_of, written}
 use Rattle.once_across_breaks.proofs.Caches.{cached-newest, read, read_option}
-use Rattle.once_across_breaks.proofs.Views.{view-adopted, view-detached, view-ended, view-opened, view-stored, view-swept}
+use Rattle.once_across_breaks.proofs.Views.{view-adopted, view-ended, view-opened, view-stored}
 use Rattle.once_across_breaks.proofs.Wishes.{back-wish, carried-is, carried-small, fine-is, logout-wish, reply-token, token-long, token-wish}
 
 -- ---- answers

@@ -3,19 +3,23 @@ use Rattle.std.proofs.Common.{◌≡◌, ◌∙◌, refl, sym, ap, ℕ, Bool, tr
 use Rattle.std.specs.Prelude.{map, is_none}
 use Rattle.afp_base.specs.Cached as base
 use Rattle.afp_base.specs.Cached.{Request, cached_answer}
+use Rattle.afp_calls_grammar.specs.Call.{canonical_call}
 use Rattle.afp_calls_grammar.specs.Laws.{CanonicalIsReadAgain}
+use Rattle.afp_calls_grammar.specs.declared.call.Call.TheVariants as calls
+use Rattle.volume_spec.specs.TypedVolume.{are_bytes, is_long}
+use Rattle.std.proofs.lemmas.Bool.{and_from}
 use Rattle.afp_serial.specs.declared.ask.Told as tolds
 use Rattle.afp_serial.specs.Answer.{after, answer}
 use Rattle.afp_serial.specs.SessionViews as views
 use Rattle.afp_serial.specs.SessionViews.{AsksKept, AsksToken, AsksUnkept, ComesBack, LogsOut, SessionWish, is_number, view_at, wish_of}
 use Rattle.afp_serial.specs.World.{World}
-use Rattle.once_across_breaks.specs.Messages.{Answer, Body, Command, Does, Done, Login, Logout, Other, Rejoin, Sent, Token, body_by, cached_call, request_of, wire_id}
-use Rattle.once_across_breaks.specs.Server.{Ask, Bye, Calls, Drain, Entry, Fault, Lost, Open, Outcome, Pulse, Ran, Sends}
+use Rattle.once_across_breaks.specs.Messages.{Body, Command, Does, Done, Login, Logout, Other, Rejoin, Sent, Token, body_by, cached_call, request_of, wire_id}
+use Rattle.once_across_breaks.specs.Server.{Ask, Bye, Calls, Drain, Fault, Lost, Open, Outcome, Pulse, Ran, Sends}
 use Rattle.once_across_breaks.specs.Once.{answer_of, effective, picked, picked_call}
 use Rattle.once_across_breaks.specs.Serial.{Setup, ask_of, carried, entry_of, machine, newest_first, outcome_of, told_of, view_of}
-use Rattle.once_across_breaks.specs.Effects.{Commanded, Effect, EffectsAreTheHistorys, LoggedOut, WrittenIsRead, answered, effect_at, effect_by, effect_of, effects, request_for, wish_for}
+use Rattle.once_across_breaks.specs.Effects.{Commanded, Effect, EffectsAreTheHistorys, LoggedOut, LoginsAreSetups, WrittenIsRead, answered, effect_at, effect_by, effect_of, effects, request_for, wish_for}
 use Rattle.once_across_breaks.proofs.Caches.{cached-newest, read_option}
-use Rattle.once_across_breaks.proofs.Wishes.{back-wish, carried-small, logout-wish, token-wish}
+use Rattle.once_across_breaks.proofs.Wishes.{back-wish, carried-small, login-wish, logout-wish, token-wish}
 
 pub written-is-read : CanonicalIsReadAgain → WrittenIsRead
 written-is-read again u id Login = u.unkept
@@ -23,6 +27,18 @@ written-is-read again u id Token = token-wish again (request_for u id Token).id
 written-is-read again u id (Rejoin token) = back-wish again (request_for u id (Rejoin token)).id (carried token) (carried-small token)
 written-is-read again u id (Does Logout) = logout-wish again (request_for u id (Does Logout)).id
 written-is-read again u id (Does (Other command)) = command.kept
+
+pub logins-are : CanonicalIsReadAgain → LoginsAreSetups
+logins-are again key version uam rest small small' typed = (
+  record {
+    key = key;
+    login = record { write = false; offset = 0; payload = canonical_call (calls.Login version uam rest); typed = and_from (is_long 0) (are_bytes (canonical_call (calls.Login version uam rest))) refl typed };
+    unkept = login-wish again (wire_id 0) version uam rest small small';
+  },
+  refl,
+  refl,
+  refl,
+)
 
 -- ---- one call
 

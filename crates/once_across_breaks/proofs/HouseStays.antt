@@ -1,5 +1,5 @@
 -- No entry changes what the server is set up with, and link numbers stay in their range.
-use Rattle.std.proofs.Common.{◌≡◌, ◌==◌, ◌∙◌, refl, sym, subst, ℕ, ◌+◌, ◌≤◌, arith, Bool, true, false, not, List, [], Option, Some, None, pos}
+use Rattle.std.proofs.Common.{◌≡◌, ◌==◌, ◌∙◌, refl, sym, subst, ℕ, ◌+◌, ◌≤◌, arith, Bool, true, false, not, List, Option, Some, None, pos}
 use Rattle.std.proofs.lemmas.Bool.{leb-false}
 use Rattle.std.specs.Prelude.{nat_le, ◌||◌, length}
 use Rattle.afp_base.specs.ForkBytes.{resized}
@@ -15,7 +15,7 @@ use Rattle.afp_serial.proofs.OpenVolRow.{opens-keeps}
 use Rattle.afp_serial.proofs.RowsSound.{row-sound}
 use Rattle.afp_serial.proofs.VolumeRows.{edits-keep}
 use Rattle.afp_serial.specs.declared.ask.Entry.{Entry}
-use Rattle.afp_serial.specs.Answer.{after, is_full, with_new_session}
+use Rattle.afp_serial.specs.Answer.{after, is_full}
 use Rattle.afp_serial.specs.Household.{Household}
 use Rattle.afp_serial.specs.Limits.{links_end, most_sessions}
 use Rattle.afp_serial.specs.Appls.{get_appl_row}
@@ -37,12 +37,12 @@ use Rattle.afp_serial.specs.OpenDT.{close_dt_row, open_dt_row}
 use Rattle.afp_serial.specs.OpenDir.{close_dir_row, open_dir_reply, open_dir_row}
 use Rattle.afp_serial.specs.Lock.{LockAsked, byte_range_lock_ext_row, byte_range_lock_row, lock_asked, locks_range, range_asked}
 use Rattle.afp_serial.specs.OnFork.{OpenFile, bytes_of, done_with, open_file, with_bytes}
-use Rattle.afp_serial.specs.OnVolume.{changes_tree, done_on, tells_of, with_volume_state}
+use Rattle.afp_serial.specs.OnVolume.{changes_tree, tells_of, with_volume_state}
 use Rattle.afp_serial.specs.OpenVol.{open_vol_row, state_named, volume_named}
 use Rattle.afp_serial.specs.Rows.{effect, row}
 use Rattle.afp_serial.specs.SessionToken.{old_session_in, rejoins}
 use Rattle.afp_serial.specs.VolumeRows.{changes_volume, with_edits}
-use Rattle.afp_serial.specs.World.{CallRow, Effect, closing, ending, volume_at, with_empty_reply, World, Session, OpenFork}
+use Rattle.afp_serial.specs.World.{CallRow, Effect, closing, volume_at, with_empty_reply, World, Session, OpenFork}
 use Rattle.volume_spec.specs.CreateDir.{create_dir_id}
 use Rattle.volume_spec.specs.CreateFile.{is_hard}
 use Rattle.volume_spec.specs.OpenFork.{is_resource}

@@ -1,10 +1,10 @@
 -- No kept request has the next id.
-use Rattle.std.proofs.Common.{◌≡◌, ◌∙◌, refl, sym, ℕ, zero, suc, ◌+◌, ◌*◌, ◌<◌, ◌≤◌, false, cond, eqb, List, [], ◌∷◌, length, take, Some, None, arith}
+use Rattle.std.proofs.Common.{◌≡◌, ◌∙◌, refl, sym, ℕ, zero, suc, ◌+◌, ◌*◌, ◌<◌, ◌≤◌, false, eqb, List, [], ◌∷◌, length, take, Some, None, arith}
 use Rattle.std.specs.Prelude.{◌&&◌, Bool, true, nat_eq, ◌%◌}
 use Rattle.std.specs.Cmp.Lexicographic.{pointwise}
 use Rattle.afp_base.specs.Cached.{Request, is_repeat, is_same_frame}
 use Rattle.std.proofs.lemmas.Bool.{cond-false, cond-true, and_left, ne_eqb, eq-eqb}
-use Rattle.once_across_breaks.specs.Messages.{Sent, Command, request_of, Kept, Answer, cached, store}
+use Rattle.once_across_breaks.specs.Messages.{Sent, request_of, Kept, Answer, cached, store}
 use Rattle.once_across_breaks.specs.Run.{id_of}
 use Rattle.once_across_breaks.proofs.Scene.{Spaced, Fits}
 

@@ -1,15 +1,12 @@
 -- The serial file server as a server over which the law is proved.
-use Rattle.std.proofs.Common.{arith, lit≤, ◌≡◌, ◌∙◌, refl, sym, ap, subst, ℕ, ◌<◌, ◌≤◌, Bool, true, false, ◌&&◌, List, []}
-use Rattle.std.proofs.lemmas.Bool.{and_from, cond_both, lt-ltb, le-leb}
+use Rattle.std.proofs.Common.{arith, lit≤, ◌≡◌, ◌∙◌, refl, ap, subst, ℕ, ◌<◌, true, false, ◌&&◌, List, []}
+use Rattle.std.proofs.lemmas.Bool.{and_from, cond_both, lt-ltb}
 use Rattle.std.proofs.Math.Nat.{mod-lt}
-use Rattle.std.specs.Prelude.{◌%◌, nat_le, nat_lt}
 use Rattle.afp_base.specs.Limits.{last_moment}
 use Rattle.afp_base.specs.declared.code.Code.TheVariants as code
 use Rattle.afp_calls_grammar.specs.Laws.{CanonicalIsReadAgain}
 use Rattle.volume_spec.specs.TypedVolume.{are_bytes, is_long, is_quad, is_word}
-use Rattle.afp_serial.specs.declared.ask.Ask as serial
 use Rattle.afp_serial.specs.declared.ask.Entry as entries
-use Rattle.afp_serial.specs.declared.ask.Outcome.TheVariants as outcome
 use Rattle.afp_serial.specs.declared.ask.Told.TheVariants as told
 use Rattle.afp_serial.specs.Answer.{after, answer, committed_of, is_legal, is_legal_outcome}
 use Rattle.afp_serial.specs.Laws.{HidesNoRefusal, KeepsSound, StartsSound}
@@ -17,7 +14,7 @@ use Rattle.afp_serial.specs.Ranges.{is_moment, is_typed_ask, is_typed_entry}
 use Rattle.afp_serial.specs.SessionViews.{AskChanges, ChangesViews, HolderIsThere, view_at}
 use Rattle.afp_serial.specs.Token.{TokensDiffer, session_token}
 use Rattle.afp_serial.specs.World.{World}
-use Rattle.once_across_breaks.specs.Messages.{Body, Does, Login, Logout, Other, Rejoin, Sent, Token, wire_id}
+use Rattle.once_across_breaks.specs.Messages.{Body, Does, Login, Logout, Other, Rejoin, Token, wire_id}
 use Rattle.once_across_breaks.specs.Server.{Ask, AskLaw, Bye, Calls, Drain, Entry, Fault, Lost, Open, Pulse, Ran, Sends, Server, entry, numbers_end}
 use Rattle.once_across_breaks.specs.Serial.{IsSoundUnder, Setup, ask_of, entry_of, machine, moment_of, outcome_of, told_of, view_of, written}
 use Rattle.once_across_breaks.specs.Effects.{StartsUnderItsKey, StaysUnderItsKey}

@@ -1,11 +1,11 @@
 -- The views of the serial file server, and how asks change them, as such a server has them.
-use Rattle.std.proofs.Common.{◌≡◌, ◌∙◌, refl, sym, ap, ℕ, Bool, true, false, cond, List, [], Option}
+use Rattle.std.proofs.Common.{◌≡◌, refl, ℕ, Bool, true, false, cond, List, []}
 use Rattle.std.specs.Prelude.{nat_eq}
 use Rattle.afp_base.specs.Cached as base
 use Rattle.afp_base.specs.Cached.{Request, with_kept}
 use Rattle.afp_serial.specs.SessionViews as views
-use Rattle.once_across_breaks.specs.Messages.{Command, Kept, request_of, store}
-use Rattle.once_across_breaks.specs.Server.{View, adopted, detached, ended, opened, set, storing, swept}
+use Rattle.once_across_breaks.specs.Messages.{Command, request_of, store}
+use Rattle.once_across_breaks.specs.Server.{adopted, detached, ended, opened, storing, swept}
 use Rattle.once_across_breaks.specs.Serial.{newest_first, view_of}
 use Rattle.once_across_breaks.proofs.Caches.{newest-kept, read}
 

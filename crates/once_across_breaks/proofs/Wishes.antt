@@ -1,5 +1,5 @@
 -- What the client's requests ask, as their bytes say it.
-use Rattle.std.proofs.Common.{◌≡◌, ◌∙◌, refl, sym, ap, ℕ, zero, suc, ◌/◌, ◌<◌, ◌^◌, Bool, true, false, cond, List, [], ◌∷◌, ◌++◌, length, drop, Option, Some, None, arith, lit≤, eq-eqb, append-nil, length-append}
+use Rattle.std.proofs.Common.{◌≡◌, ◌∙◌, refl, sym, ap, ℕ, zero, suc, ◌/◌, ◌<◌, ◌^◌, Bool, true, false, cond, List, [], ◌++◌, length, Some, None, arith, lit≤, eq-eqb, append-nil, length-append}
 use Rattle.std.specs.Prelude.{◌&&◌, ◌==◌, nat_lt, ◌+◌, ◌≤◌}
 use Rattle.std.proofs.Math.Nat.{mod-lt}
 use Rattle.std.specs.Int.{byte_at, bytes_high_first, bytes_low_first, to_le_bytes, w32}
@@ -19,9 +19,9 @@ use Rattle.afp_replies.specs.declared.reply.Reply.TheVariants as replies
 use Rattle.volume_spec.specs.TypedVolume.{are_bytes, is_byte}
 use Rattle.afp_serial.specs.Answer.{request}
 use Rattle.afp_serial.specs.KeptAnswers.{is_kept_command}
-use Rattle.afp_serial.specs.SessionViews.{AsksToken, ComesBack, LogsOut, wish_of, wish_of_call}
+use Rattle.afp_serial.specs.SessionViews.{AsksToken, AsksUnkept, ComesBack, LogsOut, wish_of, wish_of_call}
 use Rattle.afp_serial.specs.Token.{session_token, token_word}
-use Rattle.once_across_breaks.specs.Messages.{Answer, Fine, most_token, token_in}
+use Rattle.once_across_breaks.specs.Messages.{Fine, most_token, token_in}
 use Rattle.once_across_breaks.specs.Serial.{answer_by, can_carry, carried}
 
 -- a call that comes in a Command frame is what its canonical block spells
@@ -55,6 +55,19 @@ pub back-wish : CanonicalIsReadAgain → (id : ℕ) (token : List ℕ) → lengt
 back-wish again id token small =
     wish-again again id (calls.DisconnectOldSession 0 token) (tt, (tt, (lit≤ tt, (tt, tt))))
     (record { fields = (tt, (tt, (tt, (small, tt)))); encloses = tt }) (back-alone token)
+
+login-alone : (version uam rest : List ℕ) → canonical_data (calls.Login version uam rest) ≡ None
+unfolding canonical_data
+login-alone version uam rest = refl
+
+login-unkept : (version uam rest : List ℕ) → is_kept_command (canonical_call (calls.Login version uam rest)) ≡ false
+unfolding canonical_call
+login-unkept version uam rest = refl
+
+pub login-wish : CanonicalIsReadAgain → (id : ℕ) (version uam rest : List ℕ) → length version < 256 → length uam < 256 → wish_of (request id false 0 (canonical_call (calls.Login version uam rest))) ≡ AsksUnkept
+login-wish again id version uam rest small small' =
+    wish-again again id (calls.Login version uam rest) (tt, (tt, (tt, (tt, tt)))) (record { fields = (tt, (small, (small', (tt, tt)))); encloses = tt }) (login-alone version uam rest)
+    ∙ ap (λ kept. wish_of_call kept (Some (calls.Login version uam rest))) (login-unkept version uam rest)
 
 -- ---- their bytes are bytes
 

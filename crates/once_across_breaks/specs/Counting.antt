@@ -1,9 +1,9 @@
 -- A small server for worked schedules: it has sessions, their tokens and the answers that they keep, and counts the commands that ran.
-use Rattle.std.specs.Prelude.{ℕ, suc, nat_eq, bytes_eq, Bool, true, false, not, ◌&&◌, if◌then◌else◌, List, [], ◌∷◌, ◌++◌, map, filter, find, Option, Some, None, is_some}
+use Rattle.std.specs.Prelude.{ℕ, suc, nat_eq, bytes_eq, true, false, not, ◌&&◌, if◌then◌else◌, List, [], ◌∷◌, ◌++◌, map, filter, find, Option, Some, None, is_some}
 use Rattle.afp_base.specs.Cached.{Request}
 use Rattle.afp_base.specs.declared.code.Code.TheVariants.{ItemNotFound}
-use Rattle.once_across_breaks.specs.Messages.{Answer, Body, Does, Fine, Kept, Login, Logout, Other, Refuses, Rejoin, Sent, Token, body_of, cached, request_of, store}
-use Rattle.once_across_breaks.specs.Server.{Ask, Bye, Calls, Displaced, Drain, Entry, Live, Lost, Machine, Open, Opened, Parted, Pulse, Reply, Sends, Told, View, is_some_of}
+use Rattle.once_across_breaks.specs.Messages.{Answer, Body, Does, Fine, Kept, Login, Logout, Other, Refuses, Rejoin, Token, body_of, cached, request_of, store}
+use Rattle.once_across_breaks.specs.Server.{Ask, Bye, Calls, Displaced, Drain, Live, Lost, Machine, Open, Opened, Parted, Pulse, Reply, Sends, Told, is_some_of}
 
 pub record Session : Type 0 where
   pub number : ℕ

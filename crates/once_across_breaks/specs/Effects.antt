@@ -1,5 +1,5 @@
 -- The calls in effect on a session, in a history of the serial file server; and that these are what the law speaks of.
-use Rattle.std.specs.Prelude.{◌≡◌, ℕ, Bool, true, false, ◌&&◌, if◌then◌else◌, List, [], ◌∷◌, ◌++◌, map, None, is_none}
+use Rattle.std.specs.Prelude.{◌≡◌, ◌<◌, ℕ, length, Bool, true, false, ◌&&◌, if◌then◌else◌, List, [], ◌∷◌, ◌++◌, map, None, is_none}
 use Rattle.afp_base.specs.Cached.{Request, cached_answer}
 use Rattle.afp_serial.specs.declared.ask.Ask as serial
 use Rattle.afp_serial.specs.declared.ask.Ask.TheVariants as ask
@@ -7,6 +7,9 @@ use Rattle.afp_serial.specs.declared.ask.Entry as entries
 use Rattle.afp_serial.specs.declared.ask.Outcome as outcomes
 use Rattle.afp_serial.specs.declared.ask.Outcome.TheVariants as outcome
 use Rattle.afp_serial.specs.declared.ask.Told as tolds
+use Rattle.afp_calls_grammar.specs.Call.{canonical_call}
+use Rattle.afp_calls_grammar.specs.declared.call.Call.TheVariants as calls
+use Rattle.volume_spec.specs.TypedVolume.{are_bytes}
 use Rattle.volume_spec.specs.VolumeState.{VolumeState}
 use Rattle.afp_serial.specs.Answer.{after, answer, is_legal, request}
 use Rattle.afp_serial.specs.Household.{Household}
@@ -88,6 +91,15 @@ WrittenIsRead = (u : Setup) (id : ℕ) (body : Body) → wish_of (request_for u 
 -- and the token of any session can be carried
 abbrev pub TokensAreCarried : Type 0
 TokensAreCarried = (key : List ℕ) (number : ℕ) → can_carry (session_token key number) ≡ true
+
+-- each login whose words fit their counts is one that a client may have
+abbrev pub LoginsAreSetups : Type 0
+LoginsAreSetups =
+    (key version uam rest : List ℕ)
+    → length version < 256
+    → length uam < 256
+    → are_bytes (canonical_call (calls.Login version uam rest)) ≡ true
+    → (u : Setup) × (u.key ≡ key) × (u.login.write ≡ false) × (u.login.payload ≡ canonical_call (calls.Login version uam rest))
 
 -- ---- sound worlds under a key
 

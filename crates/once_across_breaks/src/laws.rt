@@ -38,11 +38,13 @@ pub fn want_of_memory_behind_a_break_is_left_out()
 {}
 
 /// What the law calls in effect is in effect in the history of the serial file server: the same calls, in the same order, each told the same.
-/// What the client writes is read as what it asks, and the token of any session can be carried.
+/// What the client writes is read as what it asks, the token of any session can be carried, and a client may log in
+/// by any FPLogin whose words fit their counts.
 pub fn effects_are_those_of_the_history()
     ensures same { history.EffectsAreTheHistorys }
     ensures read { history.WrittenIsRead }
     ensures carried { history.TokensAreCarried }
+    ensures logins { history.LoginsAreSetups }
 {
     what_is_written_is_read_again();
 }

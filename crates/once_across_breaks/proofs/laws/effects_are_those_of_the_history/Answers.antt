@@ -1,4 +1,4 @@
-use Rattle.once_across_breaks.proofs.Effects.{effects-are, written-is-read}
+use Rattle.once_across_breaks.proofs.Effects.{effects-are, logins-are, written-is-read}
 use Rattle.once_across_breaks.proofs.Wishes.{token-carried}
 use Rattle.once_across_breaks.proofs.laws.effects_are_those_of_the_history.Goals as goal
 
@@ -10,3 +10,6 @@ returns-clause-read c = written-is-read c.what_is_written_is_read_again.ensures.
 
 pub returns-clause-carried : goal.returns-clause-carried
 returns-clause-carried c = token-carried
+
+pub returns-clause-logins : goal.returns-clause-logins
+returns-clause-logins c = logins-are c.what_is_written_is_read_again.ensures.again
