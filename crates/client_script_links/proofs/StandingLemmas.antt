@@ -1,7 +1,6 @@
 -- A script's client, one call further.
-use Rattle.std.proofs.Common.{◌≡◌, ℕ, ◌+◌, ◌<◌, ◌≤◌, ◌^◌, Bool, true, false, List, [], ◌∷◌, ◌++◌, length, Option, Some, None, Result, Ok, Err, inl, inr, refl, sym, ap, subst, ◌∙◌, arith, rules}
+use Rattle.std.proofs.Common.{◌≡◌, ℕ, ◌+◌, ◌<◌, ◌≤◌, ◌^◌, Bool, true, false, List, [], ◌∷◌, ◌++◌, length, Option, Some, None, Result, Ok, Err, refl, sym, ap, subst, ◌∙◌, arith, rules}
 use Rattle.std.specs.Prelude.{IsSome}
-use Rattle.afp_base.specs.declared.bytes.OutOfMemory.{OutOfMemory}
 use Rattle.afp_calls_grammar.specs.declared.call.Call.{Call}
 use Rattle.afp_calls_grammar.specs.declared.call.Call.TheVariants as calls
 use Rattle.afp_client.specs.Run.{Result as CallResult}
@@ -10,10 +9,10 @@ use Rattle.afp_outside.specs.Dialer.{DialerState}
 use Rattle.afp_outside.specs.Link.{LinkState}
 use Rattle.afp_replies.specs.Replies.{Shows}
 use Rattle.afp_replies.specs.declared.reply.Reply.{Reply}
-use Rattle.client_links.specs.History.{Happening, asks}
-use Rattle.client_links.specs.Links.{Part, Over, all_results}
+use Rattle.client_links.specs.History.{Happening, asks, cost_in}
+use Rattle.client_links.specs.Links.{Part, Over, Past, all_results}
 use Rattle.client_links.specs.OnLink.{Start}
-use Rattle.client_links.specs.Talk.{AsksTalk, ClosesTalk, EndsTalk, LeavesOpen, OpensTalk, TalkAt, TellsCall, TellsEnd}
+use Rattle.client_links.specs.Talk.{AsksTalk, ClosesTalk, EndsTalk, IsBehind, LeavesOpen, OpensTalk, TalkAt, TellsCall, TellsEnd}
 use Rattle.client_links.specs.lemma.Coming.{StandsAt}
 use Rattle.client_links.specs.declared.links.TalkEnd.{TalkEnd}
 use Rattle.client_links.specs.declared.talk.Told.{Told}
@@ -22,7 +21,7 @@ use Rattle.client_script_parts.specs.declared.asker.Answer.{Answer}
 use Rattle.client_script_parts.specs.Parts.{Exchange}
 use Rattle.client_script_links.specs.Kinds.{reply_kind}
 use Rattle.client_script_links.specs.Read.{AreRead, IsRead}
-use Rattle.client_script_links.specs.Standing.{AnswersBy, Ends, HasEnded, HasLeft, OpensNone, IsOpen, Stands, TellsBad, TellsOn, first_of}
+use Rattle.client_script_links.specs.Standing.{AnswersBy, Ends, HasClosed, HasEnded, HasLeft, OpensNone, IsOpen, Stands, TellsBad, TellsOn, ToldAt, first_of, spent_behind, spent_on}
 use Rattle.client_script_links.specs.declared.asker.AskEnd.{AskEnd}
 use Rattle.client_script_links.specs.declared.asker.AskEnd.TheVariants as ends
 
@@ -41,13 +40,31 @@ read-more [] (s ∷ rs) x r h i = absurd h
 read-more (y ∷ xs) [] x r h i = absurd h
 read-more (y ∷ xs) (s ∷ rs) x r h i = (h.0, read-more xs rs x r h.1 i)
 
+-- the frame of one more
+told-more : (xs : List Exchange) (x : Exchange) (all before : List Happening) (place : ℕ) → IsBehind before all → StandsAt before place → ToldAt (xs ++ x ∷ []) all place
+told-more [] x all before place behind stands = (before, behind, stands)
+told-more (y ∷ xs) x all before place behind stands = (before, behind, stands)
+
+-- what was spent on links that all broke, and on one more
+spent-past : {L : Type 0} (state : L → LinkState) (first from : Start) (past : List (Part L)) → Past state first past from → from.spent ≡ spent_behind first past
+spent-past state first from [] is = ap (λ (s : Start). s.spent) is
+spent-past state first from (p ∷ past) is = ap (λ (s : Start). s.spent) is.3
+
+spent-at : {L : Type 0} (state : L → LinkState) (first : Start) (old : DialerState L) (past : List (Part L)) (all : List Happening) (link : Option L) (core : Client) (replied : Bool) (idle cost : ℕ) (dialer : DialerState L)
+    → TalkAt state first old past all link core replied idle cost dialer → IsSome link → cost ≡ spent_on first past all
+spent-at state first old past all (Some link) core replied idle cost dialer at some =
+    at.on.cost ∙ ap (λ (n : ℕ). n + 1 + cost_in all) (spent-past state first at.from past at.past_is)
+spent-at state first old past all None core replied idle cost dialer at some = absurd (cc some)
+
 -- a link is there, and what was told stands on it
 told-on : {L : Type 0} (state : L → LinkState) (turns : ℕ) (first : Start) (old : DialerState L) (past : List (Part L)) (all : List Happening) (s : ClientState) (call : Call) (told : Told) (link : Option L) (core : Client)
     (replied : Bool) (idle cost : ℕ) (dialer : DialerState L)
     → AsksTalk state turns first old past all s call (Ok told) link core replied idle cost dialer
     → (later : List (Part L)) × (now : List Happening) × TalkAt state first old later now link core replied idle cost dialer
     × (all_results None later now ≡ all_results None past all ++ record { call = call; code = told.code; block = told.block } ∷ [])
-told-on state turns first old past all s call told (Some link) core replied idle cost dialer t = (t.later, t.now, t.over, t.results None)
+    × ((xs : List Exchange) (x : Exchange) → ToldAt (xs ++ x ∷ []) now told.at)
+told-on state turns first old past all s call told (Some link) core replied idle cost dialer t =
+    (t.later, t.now, t.over, t.results None, λ xs x. told-more xs x t.now t.before told.at t.behind t.stands)
 told-on state turns first old past all s call told None core replied idle cost dialer t = absurd t
 
 -- an answer was read
@@ -55,7 +72,7 @@ pub stays-open : {L : Type 0} (state : L → LinkState) (first : Start) (old : D
     (replied : Bool) (idle cost : ℕ) (dialer : DialerState L)
     → TellsOn state first old turns exchanges call told link core out size replied idle cost dialer
     → AnswersBy call told (Ok answer) → after ≡ exchanges ++ (record { call = call; answer = answer }) ∷ []
-    → IsOpen state first old turns after link core out size replied idle cost dialer
+    → IsOpen state first old turns after link core out size replied idle cost told.at dialer
 stays-open state first old turns exchanges after call answer told link core out size replied idle cost dialer t a is =
     let on = told-on state turns first old t.past t.all t.s call told link core replied idle cost dialer t.asks in
     let r : CallResult = record { call = call; code = told.code; block = told.block } in
@@ -66,6 +83,7 @@ stays-open state first old turns exchanges after call answer told link core out 
       read = subst (λ (xs : List Exchange). AreRead xs (all_results None on.0 on.1)) (sym is)
           (subst (λ (rs : List CallResult). AreRead (exchanges ++ (record { call = call; answer = answer }) ∷ []) rs) (sym on.3)
           (read-more exchanges (all_results None t.past t.all) (record { call = call; answer = answer }) r t.read (record { call = refl; code = a.0; shows = a.1 })));
+      told = subst (λ (xs : List Exchange). ToldAt xs on.1 told.at) (sym is) (on.4 exchanges (record { call = call; answer = answer }));
       linked = t.linked;
       empty = t.empty;
       ready = t.ready;
@@ -118,11 +136,11 @@ leaves-bad state first old turns exchanges after call told (ends.Links end) link
 
 -- it is asked no more
 pub leaves-unasked : {L : Type 0} (state : L → LinkState) (first : Start) (old : DialerState L) (turns : ℕ) (exchanges : List Exchange) (link : Option L) (core : Client) (out : List ℕ) (size : ℕ)
-    (replied : Bool) (idle cost : ℕ) (dialer new : DialerState L)
-    → IsOpen state first old turns exchanges link core out size replied idle cost dialer
+    (replied : Bool) (idle cost place : ℕ) (dialer new : DialerState L)
+    → IsOpen state first old turns exchanges link core out size replied idle cost place dialer
     → ((f : Start) (d : DialerState L) (p : List (Part L)) (h : List Happening) → TalkAt state f d p h link core replied idle cost dialer → LeavesOpen state f d p h new)
     → (limit spent : ℕ) → HasEnded state first old limit exchanges ends.Memory spent new
-leaves-unasked state first old turns exchanges link core out size replied idle cost dialer new o leaves limit spent = record {
+leaves-unasked state first old turns exchanges link core out size replied idle cost place dialer new o leaves limit spent = record {
   past = o.past;
   all = o.all;
   read = o.read;
@@ -137,12 +155,12 @@ ended-on state turns first old past all s call end (Some link) core replied idle
 ended-on state turns first old past all s call end None core replied idle cost dialer t = t
 
 pub links-end : {L : Type 0} (state : L → LinkState) (first : Start) (old : DialerState L) (turns : ℕ) (exchanges : List Exchange) (link now : Option L) (before core : Client) (out : List ℕ) (size : ℕ)
-    (was replied : Bool) (was_idle idle was_cost cost : ℕ) (dialer new : DialerState L) (call : Call) (end : TalkEnd)
-    → (o : IsOpen state first old turns exchanges link before out size was was_idle was_cost dialer)
+    (was replied : Bool) (was_idle idle was_cost cost place : ℕ) (dialer new : DialerState L) (call : Call) (end : TalkEnd)
+    → (o : IsOpen state first old turns exchanges link before out size was was_idle was_cost place dialer)
     → ((f : Start) (d : DialerState L) (p : List (Part L)) (h : List Happening) → TalkAt state f d p h link before was was_idle was_cost dialer
     → AsksTalk state turns f d p h before.state call (Err end) now core replied idle cost new)
     → HasEnded state first old turns exchanges (ends.Links end) cost new
-links-end state first old turns exchanges link now before core out size was replied was_idle idle was_cost cost dialer new call end o tells = record {
+links-end state first old turns exchanges link now before core out size was replied was_idle idle was_cost cost place dialer new call end o tells = record {
   past = o.past;
   all = o.all;
   read = o.read;
@@ -157,20 +175,21 @@ opened-on state turns first old (Some link) core replied idle cost dialer done o
 opened-on state turns first old None core replied idle cost dialer done o = absurd o
 
 pub opens-asker : {L : Type 0} (state : L → LinkState) (client value : Client) (before told : DialerState L) (given turns : ℕ) (exchanges : List Exchange) (was link : Option L) (began core : Client) (out : List ℕ) (size : ℕ)
-    (replied_was replied : Bool) (idle_was idle cost_was cost : ℕ) (dialer_was dialer : DialerState L) (done : Unit {0})
+    (replied_was replied : Bool) (idle_was idle cost_was cost place : ℕ) (dialer_was dialer : DialerState L) (done : Unit {0})
     → value ≡ client → told ≡ before → TalkAt state (first_of client) before [] [] was began replied_was idle_was cost_was dialer_was
     → ((f : Start) (d : DialerState L) (p : List (Part L)) → TalkAt state f d p [] was began replied_was idle_was cost_was dialer_was → OpensTalk state given f d p (Ok done) link core replied idle cost dialer)
     → exchanges ≡ [] → IsSome link → out ≡ [] → IsReady core.state → 0 < size → size < 2 ^ 20 → idle < 8 → core.held.place + length core.held.rest ≤ cost → turns < 2 ^ 63
-    → IsOpen state (first_of value) told turns exchanges link core out size replied idle cost dialer
-opens-asker {L = L} state client value before told given turns exchanges was link began core out size replied_was replied idle_was idle cost_was cost dialer_was dialer done is same at opens none linked empty ready some small below fits within =
+    → IsOpen state (first_of value) told turns exchanges link core out size replied idle cost place dialer
+opens-asker {L = L} state client value before told given turns exchanges was link began core out size replied_was replied idle_was idle cost_was cost place dialer_was dialer done is same at opens none linked empty ready some small below fits within =
     let on = opened-on state given (first_of client) before link core replied idle cost dialer done (opens (first_of client) before [] at) in
-    subst (λ (c : Client). IsOpen state (first_of c) told turns exchanges link core out size replied idle cost dialer) (sym is)
-    (subst (λ (d : DialerState L). IsOpen state (first_of client) d turns exchanges link core out size replied idle cost dialer) (sym same)
+    subst (λ (c : Client). IsOpen state (first_of c) told turns exchanges link core out size replied idle cost place dialer) (sym is)
+    (subst (λ (d : DialerState L). IsOpen state (first_of client) d turns exchanges link core out size replied idle cost place dialer) (sym same)
     (record {
       past = on.0;
       all = on.1;
       at = on.2;
       read = subst (λ (xs : List Exchange). AreRead xs (all_results None on.0 on.1)) (sym none) (subst (λ (rs : List CallResult). AreRead [] rs) (sym on.3) tt);
+      told = subst (λ (xs : List Exchange). ToldAt xs on.1 place) (sym none) tt;
       linked = linked;
       empty = empty;
       ready = ready;
@@ -183,20 +202,21 @@ opens-asker {L = L} state client value before told given turns exchanges was lin
 
 -- while it has not ended
 pub stands-open : {L : Type 0} (state : L → LinkState) (first : Start) (old : DialerState L) (turns : ℕ) (exchanges : List Exchange) (ended : Option AskEnd) (link : Option L) (core : Client) (out : List ℕ) (size : ℕ)
-    (replied : Bool) (idle cost : ℕ) (dialer : DialerState L) → ended ≡ None → IsOpen state first old turns exchanges link core out size replied idle cost dialer
-    → Stands state first old turns exchanges ended link core out size replied idle cost dialer
-stands-open state first old turns exchanges ended link core out size replied idle cost dialer none o =
-    subst (λ (e : Option AskEnd). Stands state first old turns exchanges e link core out size replied idle cost dialer) (sym none) o
+    (replied : Bool) (idle cost place : ℕ) (dialer : DialerState L) → ended ≡ None → IsOpen state first old turns exchanges link core out size replied idle cost place dialer
+    → Stands state first old turns exchanges ended link core out size replied idle cost place dialer
+stands-open state first old turns exchanges ended link core out size replied idle cost place dialer none o =
+    subst (λ (e : Option AskEnd). Stands state first old turns exchanges e link core out size replied idle cost place dialer) (sym none) o
 
 -- another limit
 pub limits-open : {L : Type 0} (state : L → LinkState) (first : Start) (old : DialerState L) (turns now : ℕ) (exchanges : List Exchange) (link : Option L) (core : Client) (out : List ℕ) (size : ℕ)
-    (replied : Bool) (idle cost : ℕ) (dialer : DialerState L) → IsOpen state first old turns exchanges link core out size replied idle cost dialer → now < 2 ^ 63
-    → IsOpen state first old now exchanges link core out size replied idle cost dialer
-limits-open state first old turns now exchanges link core out size replied idle cost dialer o within = record {
+    (replied : Bool) (idle cost place : ℕ) (dialer : DialerState L) → IsOpen state first old turns exchanges link core out size replied idle cost place dialer → now < 2 ^ 63
+    → IsOpen state first old now exchanges link core out size replied idle cost place dialer
+limits-open state first old turns now exchanges link core out size replied idle cost place dialer o within = record {
   past = o.past;
   all = o.all;
   at = o.at;
   read = o.read;
+  told = o.told;
   linked = o.linked;
   empty = o.empty;
   ready = o.ready;
@@ -215,16 +235,28 @@ opens-none state given turns first old end None core replied idle cost dialer o 
 
 -- the link is left, with CloseSession or without
 pub closes-on : {L : Type 0} (state : L → LinkState) (first : Start) (old : DialerState L) (turns : ℕ) (exchanges : List Exchange) (link : Option L) (core : Client) (out : List ℕ) (size : ℕ)
-    (replied : Bool) (idle cost : ℕ) (dialer new : DialerState L) (closed : Result (Unit {0}) OutOfMemory)
-    → IsOpen state first old turns exchanges link core out size replied idle cost dialer
-    → ((f : Start) (d : DialerState L) (p : List (Part L)) (h : List Happening) → TalkAt state f d p h link core replied idle cost dialer → ClosesTalk state f d p h closed new)
-    → HasLeft state first old exchanges new
-closes-on state first old turns exchanges link core out size replied idle cost dialer new (Ok done) o closes = record { past = o.past; all = o.all; read = o.read; leaves = inl (closes first old o.past o.all o.at) }
-closes-on state first old turns exchanges link core out size replied idle cost dialer new (Err e) o closes = record { past = o.past; all = o.all; read = o.read; leaves = inr (closes first old o.past o.all o.at) }
+    (replied : Bool) (idle cost place : ℕ) (dialer new : DialerState L) (done : Unit {0})
+    → IsOpen state first old turns exchanges link core out size replied idle cost place dialer
+    → ((f : Start) (d : DialerState L) (p : List (Part L)) (h : List Happening) → TalkAt state f d p h link core replied idle cost dialer → ClosesTalk state f d p h (Ok done) new)
+    → HasClosed state first old exchanges cost new
+closes-on state first old turns exchanges link core out size replied idle cost place dialer new done o closes = record {
+  past = o.past;
+  all = o.all;
+  read = o.read;
+  spent = spent-at state first old o.past o.all link core replied idle cost dialer o.at o.linked;
+  closes = closes first old o.past o.all o.at;
+}
 
 pub leaves-on : {L : Type 0} (state : L → LinkState) (first : Start) (old : DialerState L) (turns : ℕ) (exchanges : List Exchange) (link : Option L) (core : Client) (out : List ℕ) (size : ℕ)
-    (replied : Bool) (idle cost : ℕ) (dialer new : DialerState L)
-    → IsOpen state first old turns exchanges link core out size replied idle cost dialer
+    (replied : Bool) (idle cost place : ℕ) (dialer new : DialerState L)
+    → IsOpen state first old turns exchanges link core out size replied idle cost place dialer
     → ((f : Start) (d : DialerState L) (p : List (Part L)) (h : List Happening) → TalkAt state f d p h link core replied idle cost dialer → LeavesOpen state f d p h new)
-    → HasLeft state first old exchanges new
-leaves-on state first old turns exchanges link core out size replied idle cost dialer new o leaves = record { past = o.past; all = o.all; read = o.read; leaves = inr (leaves first old o.past o.all o.at) }
+    → HasLeft state first old exchanges cost place new
+leaves-on state first old turns exchanges link core out size replied idle cost place dialer new o leaves = record {
+  past = o.past;
+  all = o.all;
+  read = o.read;
+  told = o.told;
+  spent = spent-at state first old o.past o.all link core replied idle cost dialer o.at o.linked;
+  leaves = leaves first old o.past o.all o.at;
+}

@@ -1,5 +1,5 @@
 -- Where a script's client stands over its links (this profile).
-use Rattle.std.specs.Prelude.{◌≡◌, ◌⊎◌, ℕ, ◌+◌, ◌<◌, ◌≤◌, ◌^◌, Bool, List, [], ◌∷◌, ◌++◌, length, Option, Some, None, IsSome, Result, Ok, Err}
+use Rattle.std.specs.Prelude.{◌≡◌, ℕ, ◌+◌, ◌<◌, ◌≤◌, ◌^◌, Bool, List, [], ◌∷◌, ◌++◌, length, Option, Some, None, IsSome, Result, Ok, Err}
 use Rattle.afp_base.specs.declared.code.Code.{Code}
 use Rattle.afp_calls_grammar.specs.declared.call.Call.{Call}
 use Rattle.afp_client.specs.Run.{Result as CallResult}
@@ -8,7 +8,7 @@ use Rattle.afp_outside.specs.Dialer.{DialerState}
 use Rattle.afp_outside.specs.Link.{LinkState}
 use Rattle.afp_replies.specs.Replies.{Shows}
 use Rattle.afp_replies.specs.declared.reply.Reply.{Reply}
-use Rattle.client_links.specs.History.{Happening, asks}
+use Rattle.client_links.specs.History.{Happening, asks, cost_in}
 use Rattle.client_links.specs.Links.{Part, all_results}
 use Rattle.client_links.specs.OnLink.{Start}
 use Rattle.client_links.specs.Talk.{AsksTalk, ClosesLink, EndsTalk, IsBehind, LeavesOpen, TalkAt, TellsEnd}
@@ -21,23 +21,41 @@ use Rattle.client_script_links.specs.Read.{AreRead}
 use Rattle.client_script_links.specs.declared.asker.AskEnd.{AskEnd}
 use Rattle.client_script_links.specs.declared.asker.AskEnd.TheVariants as ends
 
--- what a script's client is seen as: its exchanges, with what stays the same of it, how many calls it answered, and why it ended, where it did
+-- what a script's client is seen as: its exchanges, with what stays the same of it, how many calls it answered, why it ended, where it did, what
+-- was spent, and the place on its link of the last reply
 pub record AskerValue (F : Type 0) : Type 0 where
   pub asked : Asked F
   pub answered : ℕ
   pub ended : Option AskEnd
+  pub cost : ℕ
+  pub place : ℕ
 
 -- the client before its first link
 abbrev pub first_of : Client → Start
 first_of client = record { state = client.state; spent = 0 }
 
+-- what was spent on the links so far: the bytes that came, the quiets, and 1 for each that was dialled
+abbrev pub spent_behind : {L : Type 0} → Start → List (Part L) → ℕ
+spent_behind first [] = first.spent
+spent_behind first (p ∷ past) = p.cost
+
+-- and on the newest
+abbrev pub spent_on : {L : Type 0} → Start → List (Part L) → List Happening → ℕ
+spent_on first past all = spent_behind first past + 1 + cost_in all
+
+-- The frame that told the last answer, where there is one, was the last that was taken, and begins at this place of its link.
+abbrev pub ToldAt : List Exchange → List Happening → ℕ → Type 0
+ToldAt [] all place = Unit {0}
+ToldAt (x ∷ exchanges) all place = (before : List Happening) × IsBehind before all × StandsAt before place
+
 -- It has a link and can be asked; its exchanges are the results so far.
 pub record IsOpen {L : Type 0} (state : L → LinkState) (first : Start) (old : DialerState L) (turns : ℕ) (exchanges : List Exchange) (link : Option L) (core : Client) (out : List ℕ) (size : ℕ)
-    (replied : Bool) (idle cost : ℕ) (dialer : DialerState L) : Type 0 where
+    (replied : Bool) (idle cost place : ℕ) (dialer : DialerState L) : Type 0 where
   pub past : List (Part L)
   pub all : List Happening
   pub at : TalkAt state first old past all link core replied idle cost dialer
   pub read : AreRead exchanges (all_results None past all)
+  pub told : ToldAt exchanges all place
   pub linked : IsSome link
   pub empty : out ≡ []
   pub ready : IsReady core.state
@@ -79,9 +97,9 @@ pub record HasEnded {L : Type 0} (state : L → LinkState) (first : Start) (old 
   pub read : AreRead exchanges (all_results None past all)
   pub ends : Ends state turns first old past all end cost dialer
 
-abbrev pub Stands : {L : Type 0} → (L → LinkState) → Start → DialerState L → ℕ → List Exchange → Option AskEnd → Option L → Client → List ℕ → ℕ → Bool → ℕ → ℕ → DialerState L → Type 0
-Stands state first old turns exchanges None link core out size replied idle cost dialer = IsOpen state first old turns exchanges link core out size replied idle cost dialer
-Stands state first old turns exchanges (Some end) link core out size replied idle cost dialer = HasEnded state first old turns exchanges end cost dialer
+abbrev pub Stands : {L : Type 0} → (L → LinkState) → Start → DialerState L → ℕ → List Exchange → Option AskEnd → Option L → Client → List ℕ → ℕ → Bool → ℕ → ℕ → ℕ → DialerState L → Type 0
+Stands state first old turns exchanges None link core out size replied idle cost place dialer = IsOpen state first old turns exchanges link core out size replied idle cost place dialer
+Stands state first old turns exchanges (Some end) link core out size replied idle cost place dialer = HasEnded state first old turns exchanges end cost dialer
 
 -- what a block that was told to a call shows
 abbrev pub AnswersBy : Call → Told → Result Answer AskEnd → Type 0
@@ -112,17 +130,35 @@ pub record TellsOn {L : Type 0} (state : L → LinkState) (first : Start) (old :
   pub fits : core.held.place + length core.held.rest ≤ cost
   pub within : turns < 2 ^ 63
 
--- The script's client left its link: CloseSession was written last, or nothing more was.
-pub record HasLeft {L : Type 0} (state : L → LinkState) (first : Start) (old : DialerState L) (exchanges : List Exchange) (dialer : DialerState L) : Type 0 where
+-- The script's client left its link in silence, behind these exchanges; so much was spent, and the last reply stood at this place.
+pub record HasLeft {L : Type 0} (state : L → LinkState) (first : Start) (old : DialerState L) (exchanges : List Exchange) (cost place : ℕ) (dialer : DialerState L) : Type 0 where
   pub past : List (Part L)
   pub all : List Happening
   pub read : AreRead exchanges (all_results None past all)
-  pub leaves : ClosesLink state first old past all dialer ⊎ LeavesOpen state first old past all dialer
+  pub told : ToldAt exchanges all place
+  pub spent : cost ≡ spent_on first past all
+  pub leaves : LeavesOpen state first old past all dialer
+
+-- It left its link with CloseSession, whatever became of that write.
+pub record HasClosed {L : Type 0} (state : L → LinkState) (first : Start) (old : DialerState L) (exchanges : List Exchange) (cost : ℕ) (dialer : DialerState L) : Type 0 where
+  pub past : List (Part L)
+  pub all : List Happening
+  pub read : AreRead exchanges (all_results None past all)
+  pub spent : cost ≡ spent_on first past all
+  pub closes : ClosesLink state first old past all dialer
 
 -- it had ended before, or left its link now
-abbrev pub Finishes : {L : Type 0} → (L → LinkState) → Start → DialerState L → ℕ → List Exchange → Option AskEnd → DialerState L → Type 0
-Finishes state first old turns exchanges None dialer = HasLeft state first old exchanges dialer
-Finishes state first old turns exchanges (Some end) dialer = (cost : ℕ) × HasEnded state first old turns exchanges end cost dialer
+abbrev pub Finishes : {L : Type 0} → (L → LinkState) → Start → DialerState L → ℕ → List Exchange → Option AskEnd → ℕ → ℕ → DialerState L → Type 0
+Finishes state first old turns exchanges None cost place dialer = HasLeft state first old exchanges cost place dialer
+Finishes state first old turns exchanges (Some end) cost place dialer = HasEnded state first old turns exchanges end cost dialer
+
+-- By why it had ended before, and how it ends now: CloseSession was written, or there was no memory for it.
+abbrev pub Closes : {L : Type 0} → (L → LinkState) → Start → DialerState L → ℕ → List Exchange → Option AskEnd → Option AskEnd → ℕ → ℕ → DialerState L → Type 0
+Closes state first old turns exchanges None None cost place dialer = HasClosed state first old exchanges cost dialer
+Closes state first old turns exchanges None (Some ends.Memory) cost place dialer = HasLeft state first old exchanges cost place dialer
+Closes state first old turns exchanges None (Some (ends.Links end)) cost place dialer = ⊥
+Closes state first old turns exchanges None (Some (ends.BadReply at)) cost place dialer = ⊥
+Closes state first old turns exchanges (Some end) told cost place dialer = (told ≡ Some end) × HasEnded state first old turns exchanges end cost dialer
 
 -- no link was opened
 abbrev pub OpensNone : {L : Type 0} → (L → LinkState) → ℕ → Start → DialerState L → AskEnd → DialerState L → Type 0

@@ -3,7 +3,7 @@ ghost use Rattle.std.specs.Prelude.{◌≡◌, ◌<◌, ◌^◌, ◌-◌, false,
 ghost use Rattle.afp_client.specs.State.{is_lost};
 ghost use Rattle.client_script_calls.specs.Asked.{IsAskable};
 ghost use Rattle.client_script_links.specs.Read.{zipped};
-ghost use Rattle.client_script_links.specs.Standing.{AnswersBy, Finishes, IsNew, IsOpen, LogsAnswer, OpensNone, Stands, TellsOn, first_of};
+ghost use Rattle.client_script_links.specs.Standing.{AnswersBy, Closes, Finishes, IsNew, IsOpen, LogsAnswer, OpensNone, Stands, TellsOn, first_of};
 
 use crate::exchanges::Exchanges;
 use crate::kind::reply_kind;
@@ -62,10 +62,12 @@ impl<D: Dialer> Model for LinkAsker<D> {
       asked = record { fixed = a.beginning; exchanges = zipped a.exchanges.calls.items a.exchanges.answers.items };
       answered = a.answered;
       ended = a.ended;
+      cost = a.talk.cost;
+      place = a.place;
     } };
 
     ghost invariant = { λ a. (a.talk.turns ≡ a.beginning.turns) × Stands D.Link.link_state (first_of a.beginning.core.value) (D.dialer_state a.beginning.dialer.value) a.talk.turns (zipped a.exchanges.calls.items a.exchanges.answers.items) a.ended
-        a.talk.link a.talk.core a.talk.out (length a.talk.room.items) a.talk.replied a.talk.idle a.talk.cost (D.dialer_state a.talk.dialer) };
+        a.talk.link a.talk.core a.talk.out (length a.talk.room.items) a.talk.replied a.talk.idle a.talk.cost a.place (D.dialer_state a.talk.dialer) };
 }
 
 /// A dialer whose links were all handed back, and why no client was opened over it.
@@ -159,7 +161,7 @@ fn take_told<D: Dialer>(
     ensures logs { LogsAnswer call.now (zipped exchanges.old.calls.items exchanges.old.answers.items) result (zipped exchanges.new.calls.items exchanges.new.answers.items) }
     ensures turns { talk.new.turns ≡ talk.old.turns }
     ensures stands { TellsOn D.Link.link_state (first_of beginning.now.core.value) (D.dialer_state beginning.now.dialer.value) talk.old.turns (zipped exchanges.old.calls.items exchanges.old.answers.items) call.now told talk.old.link talk.old.core talk.old.out (length talk.old.room.items) talk.old.replied talk.old.idle talk.old.cost (D.dialer_state talk.old.dialer)
-        → Stands D.Link.link_state (first_of beginning.now.core.value) (D.dialer_state beginning.now.dialer.value) talk.new.turns (zipped exchanges.new.calls.items exchanges.new.answers.items) ended.new talk.new.link talk.new.core talk.new.out (length talk.new.room.items) talk.new.replied talk.new.idle talk.new.cost (D.dialer_state talk.new.dialer) }
+        → Stands D.Link.link_state (first_of beginning.now.core.value) (D.dialer_state beginning.now.dialer.value) talk.new.turns (zipped exchanges.new.calls.items exchanges.new.answers.items) ended.new talk.new.link talk.new.core talk.new.out (length talk.new.room.items) talk.new.replied talk.new.idle talk.new.cost told.at (D.dialer_state talk.new.dialer) }
 {
     match answer_of(alloc, call, &told) {
         Ok(answer) => {
@@ -187,11 +189,11 @@ fn ask_open<D: Dialer>(
 ) -> Result<Answer, AskEnd>
     requires askable { IsAskable call.now }
     requires none { ended.old ≡ None }
-    requires open { IsOpen D.Link.link_state (first_of beginning.now.core.value) (D.dialer_state beginning.now.dialer.value) talk.old.turns (zipped exchanges.old.calls.items exchanges.old.answers.items) talk.old.link talk.old.core talk.old.out (length talk.old.room.items) talk.old.replied talk.old.idle talk.old.cost (D.dialer_state talk.old.dialer) }
+    requires open { IsOpen D.Link.link_state (first_of beginning.now.core.value) (D.dialer_state beginning.now.dialer.value) talk.old.turns (zipped exchanges.old.calls.items exchanges.old.answers.items) talk.old.link talk.old.core talk.old.out (length talk.old.room.items) talk.old.replied talk.old.idle talk.old.cost place.old (D.dialer_state talk.old.dialer) }
     ensures logs { LogsAnswer call.now (zipped exchanges.old.calls.items exchanges.old.answers.items) result (zipped exchanges.new.calls.items exchanges.new.answers.items) }
     ensures falls { OnOk result (2 ^ 64 - answered.new < 2 ^ 64 - answered.old) }
     ensures turns { talk.new.turns ≡ talk.old.turns }
-    ensures stands { Stands D.Link.link_state (first_of beginning.now.core.value) (D.dialer_state beginning.now.dialer.value) talk.new.turns (zipped exchanges.new.calls.items exchanges.new.answers.items) ended.new talk.new.link talk.new.core talk.new.out (length talk.new.room.items) talk.new.replied talk.new.idle talk.new.cost (D.dialer_state talk.new.dialer) }
+    ensures stands { Stands D.Link.link_state (first_of beginning.now.core.value) (D.dialer_state beginning.now.dialer.value) talk.new.turns (zipped exchanges.new.calls.items exchanges.new.answers.items) ended.new talk.new.link talk.new.core talk.new.out (length talk.new.room.items) talk.new.replied talk.new.idle talk.new.cost place.new (D.dialer_state talk.new.dialer) }
 {
     if *answered == u64::MAX {
         talk.leave();
@@ -213,12 +215,16 @@ fn ask_open<D: Dialer>(
 
 impl<D: Dialer> LinkAsker<D> {
     /// What was spent: the bytes that came, the quiets, and 1 for each link that was dialled.
-    pub fn cost(&self) -> u64 {
+    pub fn cost(&self) -> u64
+        ensures { result ≡ self.now.cost }
+    {
         self.talk.cost()
     }
 
     /// The place on its link of the last reply.
-    pub fn place(&self) -> u64 {
+    pub fn place(&self) -> u64
+        ensures { result ≡ self.now.place }
+    {
         self.place
     }
 
@@ -236,6 +242,8 @@ impl<D: Dialer> LinkAsker<D> {
         ensures core { self.new.asked.fixed.core ≡ self.old.asked.fixed.core }
         ensures dialer { self.new.asked.fixed.dialer ≡ self.old.asked.fixed.dialer }
         ensures ended { self.new.ended ≡ self.old.ended }
+        ensures cost { self.new.cost ≡ self.old.cost }
+        ensures place { self.new.place ≡ self.old.place }
         ensures turns { self.old.ended ≡ None → self.new.asked.fixed.turns ≡ turns }
     {
         match self.ended {
@@ -247,20 +255,23 @@ impl<D: Dialer> LinkAsker<D> {
         }
     }
 
-    /// Ends the session, where it has a link: CloseSession is written, whatever becomes of the write.
+    /// Ends the session, where it has a link: CloseSession is written, whatever becomes of the write. Where there is no memory for it, the
+    /// link is left in silence, and `Memory` tells so.
     pub fn close(self) -> Finished<D>
-        ensures end { result.end ≡ self.ended }
-        ensures finishes { Finishes D.Link.link_state (first_of self.asked.fixed.core.value) (D.dialer_state self.asked.fixed.dialer.value) self.asked.fixed.turns self.asked.exchanges self.ended (D.dialer_state result.dialer) }
+        ensures { Closes D.Link.link_state (first_of self.asked.fixed.core.value) (D.dialer_state self.asked.fixed.dialer.value) self.asked.fixed.turns self.asked.exchanges self.ended result.end self.cost self.place (D.dialer_state result.dialer) }
     {
         let mut talk = self.talk;
         match self.ended {
-            None => {
-                let _closed = talk.close();
-                Finished {
+            None => match talk.close() {
+                Ok(()) => Finished {
                     dialer: talk.into_dialer(),
                     end: None,
-                }
-            }
+                },
+                Err(_) => Finished {
+                    dialer: talk.into_dialer(),
+                    end: Some(AskEnd::Memory),
+                },
+            },
             Some(end) => Finished {
                 dialer: talk.into_dialer(),
                 end: Some(end),
@@ -271,7 +282,7 @@ impl<D: Dialer> LinkAsker<D> {
     /// Leaves the link, where it has one: nothing more is written.
     pub fn leave(self) -> Finished<D>
         ensures end { result.end ≡ self.ended }
-        ensures finishes { Finishes D.Link.link_state (first_of self.asked.fixed.core.value) (D.dialer_state self.asked.fixed.dialer.value) self.asked.fixed.turns self.asked.exchanges self.ended (D.dialer_state result.dialer) }
+        ensures finishes { Finishes D.Link.link_state (first_of self.asked.fixed.core.value) (D.dialer_state self.asked.fixed.dialer.value) self.asked.fixed.turns self.asked.exchanges self.ended self.cost self.place (D.dialer_state result.dialer) }
     {
         let mut talk = self.talk;
         match self.ended {

@@ -14,5 +14,5 @@ returns-in-Err-clause-stands g c =
     let first = first_of c.args.beginning.now.core.value in
     let old = g.D.Dialer.dialer_state c.args.beginning.now.dialer.value in
     subst (λ (n : ℕ). HasEnded state first old n exchanges (ends.Links c.in-Err.end) now.cost (g.D.Dialer.dialer_state now.dialer)) (sym c.ask.ensures.turns)
-    (links-end state first old was.turns exchanges was.link now.link was.core now.core was.out (length was.room.items) was.replied now.replied was.idle now.idle was.cost now.cost
+    (links-end state first old was.turns exchanges was.link now.link was.core now.core was.out (length was.room.items) was.replied now.replied was.idle now.idle was.cost now.cost c.args.place.now
     (g.D.Dialer.dialer_state was.dialer) (g.D.Dialer.dialer_state now.dialer) c.args.call.now c.in-Err.end c.requires.open c.in-Err.ensures.answers)

@@ -20,7 +20,7 @@ invariant_of-result g c =
       is_turns,
       opens-asker g.D.Link.Link.link_state c.args.core c.of.result.value (g.D.Dialer.dialer_state c.args.dialer) (g.D.Dialer.dialer_state c.of-2.result.value) was.turns now.turns
           (zipped c.new-in-Ok.result.calls.items c.new-in-Ok.result.answers.items) was.link now.link was.core now.core now.out (length now.room.items)
-          was.replied now.replied was.idle now.idle was.cost now.cost (g.D.Dialer.dialer_state was.dialer) (g.D.Dialer.dialer_state now.dialer) c.in-Ok.field-0
+          was.replied now.replied was.idle now.idle was.cost now.cost 0 (g.D.Dialer.dialer_state was.dialer) (g.D.Dialer.dialer_state now.dialer) c.in-Ok.field-0
           (search rules) (search rules) c.new-talk.ensures.stands c.in-Ok.ensures.opens c.new-in-Ok.ensures c.in-Ok.ensures.link c.in-Ok.ensures.empty c.in-Ok.ensures.ready
           (omega (arith, c.open.ensures.room, c.new-talk.ensures.room, c.requires.some)) (omega (arith, c.open.ensures.room, c.new-talk.ensures.room, c.requires.small)) c.in-Ok.ensures.below c.in-Ok.ensures.fits
           (omega (arith, is_turns, c.requires.turns)),

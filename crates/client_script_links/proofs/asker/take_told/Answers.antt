@@ -11,7 +11,7 @@ returns-in-Ok-clause-stands g c = λ tells.
     let after = zipped c.and.result.calls.items c.and.result.answers.items in
     let first = first_of c.args.beginning.now.core.value in
     let old = g.D.Dialer.dialer_state c.args.beginning.now.dialer.value in
-    stands-open g.D.Link.Link.link_state first old talk.turns after c.args.ended.now talk.link talk.core talk.out (length talk.room.items) talk.replied talk.idle talk.cost (g.D.Dialer.dialer_state talk.dialer) c.requires.none
+    stands-open g.D.Link.Link.link_state first old talk.turns after c.args.ended.now talk.link talk.core talk.out (length talk.room.items) talk.replied talk.idle talk.cost c.args.told.at (g.D.Dialer.dialer_state talk.dialer) c.requires.none
     (stays-open g.D.Link.Link.link_state first old talk.turns exchanges after c.args.call.now c.in-Ok.answer c.args.told talk.link talk.core talk.out (length talk.room.items) talk.replied talk.idle talk.cost (g.D.Dialer.dialer_state talk.dialer)
     tells c.in-Ok.ensures c.and.ensures)
 

@@ -1,12 +1,12 @@
 use Rattle.std.proofs.Common.{length, subst, sym, Option}
 use Rattle.client_script_links.specs.Read.{zipped}
-use Rattle.client_script_links.specs.Standing.{HasLeft, Stands, first_of}
+use Rattle.client_script_links.specs.Standing.{HasClosed, HasLeft, Stands, first_of}
 use Rattle.client_script_links.specs.declared.asker.AskEnd.{AskEnd}
-use Rattle.client_script_links.proofs.StandingLemmas.{closes-on}
+use Rattle.client_script_links.proofs.StandingLemmas.{closes-on, leaves-on}
 use Rattle.client_script_links.proofs.asker.LinkAsker.close.Goals as goal
 
-pub returns-in-None-clause-finishes : goal.returns-in-None-clause-finishes
-returns-in-None-clause-finishes g c =
+pub returns-in-Ok : goal.returns-in-Ok
+returns-in-Ok g c =
     let state = g.D.Link.Link.link_state in
     let inside = c.self.inside in
     let talk = inside.talk in
@@ -14,8 +14,23 @@ returns-in-None-clause-finishes g c =
     let first = first_of inside.beginning.core.value in
     let old = g.D.Dialer.dialer_state inside.beginning.dialer.value in
     let dialer = g.D.Dialer.dialer_state talk.dialer in
-    let stands = subst (λ (e : Option AskEnd). Stands state first old talk.turns exchanges e talk.link talk.core talk.out (length talk.room.items) talk.replied talk.idle talk.cost dialer) c.in-None.is c.self.invariant.1 in
+    let stands = subst (λ (e : Option AskEnd). Stands state first old talk.turns exchanges e talk.link talk.core talk.out (length talk.room.items) talk.replied talk.idle talk.cost inside.place dialer) c.in-None.is c.self.invariant.1 in
     rw (← c.self.view_is) (rw c.in-None.is
-    (subst (λ (d : g.row.D.Denot). HasLeft state first old exchanges (g.D.Dialer.dialer_state d)) (sym c.into_dialer.ensures)
-    (closes-on state first old talk.turns exchanges talk.link talk.core talk.out (length talk.room.items) talk.replied talk.idle talk.cost dialer
-    (g.D.Dialer.dialer_state c.close-closed.new.self.dialer) c.close-closed.result stands c.close-closed.ensures.closes)))
+    (subst (λ (d : g.row.D.Denot). HasClosed state first old exchanges talk.cost (g.D.Dialer.dialer_state d)) (sym c.into_dialer.ensures)
+    (closes-on state first old talk.turns exchanges talk.link talk.core talk.out (length talk.room.items) talk.replied talk.idle talk.cost inside.place dialer
+    (g.D.Dialer.dialer_state c.close.new.self.dialer) c.in-Ok.field-0 stands c.in-Ok.ensures.closes)))
+
+pub returns-in-None : goal.returns-in-None
+returns-in-None g c =
+    let state = g.D.Link.Link.link_state in
+    let inside = c.self.inside in
+    let talk = inside.talk in
+    let exchanges = zipped inside.exchanges.calls.items inside.exchanges.answers.items in
+    let first = first_of inside.beginning.core.value in
+    let old = g.D.Dialer.dialer_state inside.beginning.dialer.value in
+    let dialer = g.D.Dialer.dialer_state talk.dialer in
+    let stands = subst (λ (e : Option AskEnd). Stands state first old talk.turns exchanges e talk.link talk.core talk.out (length talk.room.items) talk.replied talk.idle talk.cost inside.place dialer) c.in-None.is c.self.invariant.1 in
+    rw (← c.self.view_is) (rw c.in-None.is
+    (subst (λ (d : g.row.D.Denot). HasLeft state first old exchanges talk.cost inside.place (g.D.Dialer.dialer_state d)) (sym c.into_dialer-in-Err.ensures)
+    (leaves-on state first old talk.turns exchanges talk.link talk.core talk.out (length talk.room.items) talk.replied talk.idle talk.cost inside.place dialer
+    (g.D.Dialer.dialer_state c.close.new.self.dialer) stands c.in-Err.ensures.closes)))
