@@ -1,3 +1,5 @@
 pub mod PrintLemmas
 pub mod LineLemmas
 pub mod ScriptLemmas
+pub mod StopLemmas
+pub mod FaultLemmas

@@ -17,3 +17,8 @@ pub less-left : (longest : ℕ) (old new : Unread) (before after : SourceState) 
     → rest_of new < rest_of old
 less-left longest old new before after line taken t is within =
     omega (arith, next-shorter longest (old.bytes ++ t.read) line new.bytes new.ended t.is_next, length-append old.bytes t.read, t.reads.taken, is, within)
+
+-- and so there are no more lines than bytes that were read
+pub counts-on : (longest number : ℕ) (old new : Unread) (before after : SourceState) (line : List ℕ) → TakesLine longest old before line new after → number + length old.bytes ≤ old.taken → number + 1 + length new.bytes ≤ new.taken
+counts-on longest number old new before after line t within =
+    omega (arith, next-shorter longest (old.bytes ++ t.read) line new.bytes new.ended t.is_next, length-append old.bytes t.read, t.reads.taken, within)

@@ -51,6 +51,7 @@ takes_bye E mounted now line before after text old new runs mounts prints bye = 
   bye = bye;
   text = text;
   carried = record { exchanges = runs.exchanges; log = runs.log; says = own runs.leads; mounts = mounts runs.exchanges runs.log };
+  own = runs.leads;
   printed = prints;
 }
 

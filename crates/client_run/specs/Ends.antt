@@ -9,8 +9,6 @@ use Rattle.client_script_links.specs.declared.asker.AskEnd.{AskEnd}
 use Rattle.client_script_links.specs.declared.asker.AskEnd.TheVariants as asks
 use Rattle.client_run.specs.declared.ends.ClientEnd.{ClientEnd}
 use Rattle.client_run.specs.declared.ends.ClientEnd.TheVariants as ends
-use Rattle.client_run.specs.declared.line.Taken.{Taken}
-use Rattle.client_run.specs.declared.line.Taken.TheVariants as takes
 
 -- by why its links end, at the line of this number
 abbrev pub end_of_links : TalkEnd → ℕ → ClientEnd
@@ -26,17 +24,6 @@ abbrev pub end_of_ask : AskEnd → ℕ → ClientEnd
 end_of_ask (asks.Links end) line = end_of_links end line
 end_of_ask (asks.BadReply at) line = ends.BadReply at
 end_of_ask asks.Memory line = ends.Memory
-
--- behind what came of a line
-abbrev pub end_of_taken : Taken AskEnd → ℕ → ℕ → ClientEnd
-end_of_taken takes.Goes line at = ends.Done
-end_of_taken takes.Done line at = ends.Done
-end_of_taken takes.Cut line at = ends.WriteFault
-end_of_taken (takes.Ended end) line at = end_of_ask end line
-end_of_taken takes.BadReply line at = ends.BadReply at
-end_of_taken takes.Memory line at = ends.Memory
-end_of_taken takes.BadLine line at = ends.BadLine line
-end_of_taken takes.Unread line at = ends.Memory
 
 -- a word and what stands behind it
 abbrev pub worded_line : List ℕ → List ℕ → List ℕ

@@ -1,3 +1,7 @@
 pub mod Printing
 pub mod Ends
 pub mod Script
+pub mod Carried
+pub mod Stops
+pub mod Runs
+pub mod lemma

@@ -39,11 +39,12 @@ pub record TakesOn {F : Type 0} (mounted : Option VolumeId) (line : ScriptLine) 
   pub printed : Prints old (text ++ newline) new
   pub goes : GoesBehind line carried.says
 
--- It was a bye, and was printed.
+-- It was a bye that was answered Ok, and was printed.
 pub record TakesBye {F : Type 0} (mounted : Option VolumeId) (line : ScriptLine) (before : Asked F) (old : SinkState) (now : Option VolumeId) (after : Asked F) (new : SinkState) : Type 0 where
   pub bye : line ≡ lines.Bye
   pub text : List ℕ
   pub carried : CarriesOut mounted line before text now after
+  pub own : Leads (line_part mounted line) carried.exchanges (done text)
   pub printed : Prints old (text ++ newline) new
 
 -- It was carried out, and a write of its text failed.

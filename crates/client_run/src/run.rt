@@ -1,7 +1,11 @@
 //! A script, line by line.
-ghost use Rattle.std.specs.Prelude.{◌≡◌, ◌<◌, ◌^◌, IfOk, length};
+ghost use Rattle.std.specs.Prelude.{◌≡◌, ◌<◌, ◌^◌, [], None, IfOk, length};
+ghost use Rattle.afp_base.specs.Counts.{CountsOn};
 ghost use Rattle.afp_client.specs.Opening.{FitsLogin};
-ghost use Rattle.client_run.specs.Ends.{end_of_taken};
+ghost use Rattle.client_script_links.specs.Standing.{first_of};
+ghost use Rattle.client_run.specs.Runs.{RunsClient, first_client};
+ghost use Rattle.client_run.specs.declared.ends.ClientEnd.{ClientEnd};
+ghost use Rattle.client_run.specs.lemma.Taking.{RunsPrinted, StopsLines, stood_at, stop_by};
 
 use crate::ends::{ClientEnd, end_of_ask};
 use crate::line::{Taken, take_text};
@@ -31,19 +35,32 @@ pub struct ScriptEnd {
     pub closes: bool,
 }
 
-/// How a script ends behind what came of a line.
-fn end_of_taken(taken: Taken<AskEnd>, line: u64, at: u64) -> ClientEnd
-    ensures { result ≡ end_of_taken taken line at }
+/// Why a script stops behind what came of the line of this number; none where it goes on. `ended` is why its client had no answer for a call,
+/// where it had none, and `at` the place on its link of the last reply.
+fn stop_by(taken: Taken<AskEnd>, ended: Option<AskEnd>, line: u64, at: u64) -> Option<ClientEnd>
+    ensures { result ≡ stop_by taken ended line at }
 {
     match taken {
-        Taken::Goes => ClientEnd::Done,
-        Taken::Done => ClientEnd::Done,
-        Taken::Cut => ClientEnd::WriteFault,
-        Taken::Ended(end) => end_of_ask(end, line),
-        Taken::BadReply => ClientEnd::BadReply { at },
-        Taken::Memory => ClientEnd::Memory,
-        Taken::BadLine => ClientEnd::BadLine { line },
-        Taken::Unread => ClientEnd::Memory,
+        Taken::Goes => match ended {
+            None => None,
+            Some(_) => Some(ClientEnd::Memory),
+        },
+        Taken::Done => Some(ClientEnd::Done),
+        Taken::Cut => Some(ClientEnd::WriteFault),
+        Taken::Ended(_) => match ended {
+            None => Some(ClientEnd::Memory),
+            Some(end) => Some(end_of_ask(end, line)),
+        },
+        Taken::BadReply => match ended {
+            None => Some(ClientEnd::BadReply { at }),
+            Some(_) => Some(ClientEnd::Memory),
+        },
+        Taken::Memory => Some(ClientEnd::Memory),
+        Taken::BadLine => match ended {
+            None => Some(ClientEnd::BadLine { line }),
+            Some(_) => Some(ClientEnd::Memory),
+        },
+        Taken::Unread => Some(ClientEnd::Memory),
     }
 }
 
@@ -56,6 +73,11 @@ fn take_lines<S: Source, O: Sink, D: Dialer>(
     turns: u64,
 ) -> ScriptEnd
     requires turns { turns < 2 ^ 63 }
+    requires live { asker.old.ended ≡ None }
+    requires none { asker.old.asked.exchanges ≡ [] }
+    ensures core { asker.new.asked.fixed.core ≡ asker.old.asked.fixed.core }
+    ensures dialer { asker.new.asked.fixed.dialer ≡ asker.old.asked.fixed.dialer }
+    ensures stops { StopsLines turns (S.source_state source.old) (O.sink_state out.old) result.end (stood_at asker.new.asked.exchanges asker.new.ended asker.new.cost asker.new.place asker.new.asked.fixed.turns result.closes) (S.source_state source.new) (O.sink_state out.new) }
 {
     let mut lines = Lines::new(alloc);
     let mut mounted = None;
@@ -64,15 +86,13 @@ fn take_lines<S: Source, O: Sink, D: Dialer>(
         let most = turns.saturating_sub(asker.cost());
         match lines.next(source, LONGEST_LINE, most) {
             NextLine::Line(text) => {
-                number = number.saturating_add(1);
                 asker.limit(turns.saturating_sub(lines.taken()));
-                match take_text(alloc, asker, out, &mut mounted, text.as_slice()) {
-                    Taken::Goes => {}
-                    taken => {
-                        return ScriptEnd {
-                            end: end_of_taken(taken, number, asker.place()),
-                            closes: false,
-                        };
+                number += 1;
+                let taken = take_text(alloc, asker, out, &mut mounted, text.as_slice());
+                match stop_by(taken, asker.ended(), number, asker.place()) {
+                    None => {}
+                    Some(end) => {
+                        return ScriptEnd { end, closes: false };
                     }
                 }
             }
@@ -123,17 +143,30 @@ fn run_open<S: Source, O: Sink, D: Dialer>(
     turns: u64,
 ) -> Ran<D>
     requires turns { turns < 2 ^ 63 }
+    requires live { asker.ended ≡ None }
+    requires none { asker.asked.exchanges ≡ [] }
+    ensures { RunsPrinted D.Link.link_state turns (first_of asker.asked.fixed.core.value) (D.dialer_state asker.asked.fixed.dialer.value) (S.source_state source.old) (O.sink_state out.old) result.end (D.dialer_state result.dialer) (S.source_state source.new) (O.sink_state out.new) }
 {
     let mut asker = asker;
     let ended = take_lines(alloc, &mut asker, source, out, turns);
-    let finished = if ended.closes {
-        asker.close()
+    if ended.closes {
+        let finished = asker.close();
+        match finished.end {
+            None => Ran {
+                dialer: finished.dialer,
+                end: ended.end,
+            },
+            Some(_) => Ran {
+                dialer: finished.dialer,
+                end: ClientEnd::Memory,
+            },
+        }
     } else {
-        asker.leave()
-    };
-    Ran {
-        dialer: finished.dialer,
-        end: ended.end,
+        let finished = asker.leave();
+        Ran {
+            dialer: finished.dialer,
+            end: ended.end,
+        }
     }
 }
 
@@ -148,6 +181,7 @@ fn run_script<S: Source, O: Sink, D: Dialer>(
 ) -> Ran<D>
     requires login { FitsLogin login }
     requires turns { turns < 2 ^ 63 }
+    ensures { RunsPrinted D.Link.link_state turns (first_of (first_client login)) (D.dialer_state dialer) (S.source_state source.old) (O.sink_state out.old) result.end (D.dialer_state result.dialer) (S.source_state source.new) (O.sink_state out.new) }
 {
     let Ok(core) = ClientCore::new(alloc, login) else {
         return Ran {
@@ -170,8 +204,35 @@ fn run_script<S: Source, O: Sink, D: Dialer>(
     }
 }
 
+/// Carries out a script, and prints how it ended.
+fn run_whole<S: Source, O: Sink, D: Dialer>(
+    alloc: Global,
+    login: Login,
+    source: &mut S,
+    out: &mut O,
+    dialer: D,
+    turns: u64,
+) -> Ran<D>
+    requires login { FitsLogin login }
+    requires turns { turns < 2 ^ 63 }
+    ensures { RunsClient D.Link.link_state turns login (D.dialer_state dialer) (S.source_state source.old) (O.sink_state out.old) result.end (D.dialer_state result.dialer) (S.source_state source.new) (O.sink_state out.new) }
+{
+    let ran = run_script(alloc, login, source, out, dialer, turns);
+    if print_end(out, ran.end) {
+        return ran;
+    }
+    Ran {
+        dialer: ran.dialer,
+        end: ClientEnd::WriteFault,
+    }
+}
+
 /// Carries out the script that the source gives, line by line, over links of the dialer, and prints what each line comes to at once; where it
 /// does not end well, a last line says how it ended.
+///
+/// It logs in first. Then the lines of the source are carried out in order, each read whole before its calls are asked (AFP Reference, "AFP
+/// Calls"; AFP over TCP). `turns` counts bytes of the source and of the links, quiets, and 1 for each link that is dialled: no more is read or
+/// dialled once they reach it. A line's number counts from 1. The dialer is given back with all its links.
 pub fn run_client<S: Source, O: Sink, D: Dialer>(
     alloc: Global,
     login: Login,
@@ -182,13 +243,9 @@ pub fn run_client<S: Source, O: Sink, D: Dialer>(
 ) -> Ran<D>
     requires login { FitsLogin login }
     requires turns { turns < 2 ^ 63 }
+    ensures runs { RunsClient D.Link.link_state turns login (D.dialer_state dialer) (S.source_state source.old) (O.sink_state out.old) result.end (D.dialer_state result.dialer) (S.source_state source.new) (O.sink_state out.new) }
+    ensures source { result.end ≡ ClientEnd.ReadFault → CountsOn 1 (S.source_state source.old).faults (S.source_state source.new).faults }
+    ensures sink { result.end ≡ ClientEnd.WriteFault → CountsOn 1 (O.sink_state out.old).faults (O.sink_state out.new).faults }
 {
-    let ran = run_script(alloc, login, source, out, dialer, turns);
-    if print_end(out, ran.end) {
-        return ran;
-    }
-    Ran {
-        dialer: ran.dialer,
-        end: ClientEnd::WriteFault,
-    }
+    run_whole(alloc, login, source, out, dialer, turns)
 }

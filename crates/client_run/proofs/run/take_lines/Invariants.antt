@@ -1,10 +1,15 @@
-use Rattle.std.proofs.Common.{◌≡◌, true}
+use Rattle.std.proofs.Common.{◌≡◌, ◌+◌, ◌≤◌, true, length}
+use Rattle.client_run.specs.lemma.Taking.{SoFar}
 use Rattle.client_run.proofs.LineLemmas.{rest_of}
 use Rattle.client_run.proofs.run.take_lines.Given as goal
 
 abbrev pub invariant-loop-text : goal.invariant-loop-text
 invariant-loop-text g l = record {
   ended : l.lines.ended ≡ true → (g.S.Source.source_state l.source).ended ≡ true;
+  counted : l.number + length l.lines.bytes ≤ l.lines.taken;
+  core : l.asker.asked.fixed.core ≡ l.initial.asker.asked.fixed.core;
+  dialer : l.asker.asked.fixed.dialer ≡ l.initial.asker.asked.fixed.dialer;
+  so_far : SoFar (g.S.Source.source_state l.initial.source) (g.O.Sink.sink_state l.initial.out) l.lines (g.S.Source.source_state l.source) l.mounted l.asker.asked.exchanges l.asker.ended l.number (g.O.Sink.sink_state l.out);
 }
 
 abbrev pub decreases-loop-text : goal.decreases-loop-text

@@ -1,0 +1,590 @@
+-- Why a script stops, behind the lines that were carried out.
+use Rattle.std.proofs.Common.{◌≡◌, ℕ, ◌+◌, ◌-◌, ◌≤◌, Bool, true, false, List, [], ◌∷◌, ◌++◌, length, Option, Some, None, inl, inr, length-append, refl, sym, ap, subst, ◌∙◌, arith}
+use Rattle.std.specs.Prelude.{option_map}
+use Rattle.std.proofs.lemmas.List.{append-nil}
+use Rattle.afp_base.specs.Counts.{CountsOn}
+use Rattle.afp_base.specs.declared.ids.VolumeId.{VolumeId}
+use Rattle.afp_outside.specs.Dialer.{DialerState}
+use Rattle.afp_outside.specs.Link.{LinkState}
+use Rattle.afp_outside.specs.Sink.{SinkState}
+use Rattle.afp_outside.specs.Source.{SourceState}
+use Rattle.afp_outside_lines.specs.Lines as Read
+use Rattle.client_links.specs.OnLink.{Start}
+use Rattle.client_links.specs.declared.links.TalkEnd.TheVariants as talks
+use Rattle.client_script_lines.specs.Lines.{line_in}
+use Rattle.client_script_lines.specs.Words.{longest_line}
+use Rattle.client_script_lines.specs.declared.line.ScriptLine.{ScriptLine}
+use Rattle.client_script_lines.specs.declared.line.ScriptLine.TheVariants as lines
+use Rattle.client_script_texts.specs.Texts.{newline}
+use Rattle.client_script_parts.specs.Parts as Parts
+use Rattle.client_script_parts.specs.Parts.{Asked, Exchange, Leads, Part, bad, done, with_more}
+use Rattle.client_script_run.specs.Run.{line_part}
+use Rattle.client_script_links.specs.Standing.{Closes, Finishes, OpensNone}
+use Rattle.client_script_links.specs.declared.asker.AskEnd.{AskEnd}
+use Rattle.client_script_links.specs.declared.asker.AskEnd.TheVariants as asks
+use Rattle.client_run.specs.Carried.{AreCarried, Carried, ReadsLine, exchanges_of, mounted_behind, printed_of, source_behind, unread_behind}
+use Rattle.client_run.specs.Ends.{end_of_ask, last_line}
+use Rattle.client_run.specs.Printing.{Prints, PrintsAll}
+use Rattle.client_run.specs.Runs.{LeavesLinks, PrintsLines, PrintsWhole}
+use Rattle.client_run.specs.Script.{TakesRead, TakesText}
+use Rattle.client_run.specs.Stops.{AtCall, AtEnd, Lacks, Stood, Stops}
+use Rattle.client_run.specs.lemma.Taking.{RunsPrinted, SoFar, StopsLines, StopsOr, stood_at, stop_by}
+use Rattle.client_run.specs.declared.ends.ClientEnd.{ClientEnd}
+use Rattle.client_run.specs.declared.ends.ClientEnd.TheVariants as ends
+use Rattle.client_run.specs.declared.line.Taken.{Taken}
+use Rattle.client_run.specs.declared.line.Taken.TheVariants as takes
+use Rattle.client_run.proofs.PrintLemmas.{prints-both}
+
+-- what was read for a line
+some-read : (start : SourceState) (carried : List Carried) (bytes : List ℕ) (unread : Read.Unread) (source : SourceState) → ReadsLine start carried bytes unread source
+    → Read.TakesSome (unread_behind carried) (source_behind start carried) source
+some-read start carried bytes unread source next = record { read = next.read; given = next.reads.given; faults = next.reads.faults }
+
+-- nothing more was
+none-given : (given : Option (List ℕ)) → given ≡ option_map (λ g. g ++ []) given
+none-given None = refl
+none-given (Some g) = ap Some (sym (append-nil g))
+
+none-read : (unread : Read.Unread) (source : SourceState) → Read.TakesSome unread source source
+none-read unread source = record { read = []; given = none-given source.given; faults = refl }
+
+-- no memory, where the client had ended too
+lacks-call : (turns : ℕ) (start : SourceState) (carried : List Carried) (end : AskEnd) (text : List ℕ) (stood : Stood) (source : SourceState) → AtCall turns start carried end text stood source → Lacks start carried text stood source
+lacks-call turns start carried end text stood source a = record {
+  some = some-read start carried a.bytes a.unread source a.next;
+  exchanges = a.exchanges;
+  begun = inr (record { bytes = a.bytes; unread = a.unread; next = a.next; line = a.line; reads = a.reads; left = a.left; leads = a.leads });
+  told = a.told;
+  closes = a.closes;
+  prints = a.prints;
+}
+
+stops-call : (turns : ℕ) (start : SourceState) (carried : List Carried) (end : AskEnd) (text : List ℕ) (stood : Stood) (source : SourceState) → AtCall turns start carried end text stood source
+    → Stops turns start carried (end_of_ask end (length carried + 1)) text stood source
+stops-call turns start carried (asks.Links (talks.Refused c)) text stood source a = a
+stops-call turns start carried (asks.Links (talks.Lost c)) text stood source a = (refl, c, a)
+stops-call turns start carried (asks.Links (talks.Bad at)) text stood source a = inl (inl a)
+stops-call turns start carried (asks.Links talks.Broken) text stood source a = a
+stops-call turns start carried (asks.Links talks.DialFault) text stood source a = a
+stops-call turns start carried (asks.Links talks.Spent) text stood source a = inl a
+stops-call turns start carried (asks.Links talks.Memory) text stood source a = lacks-call turns start carried (asks.Links talks.Memory) text stood source a
+stops-call turns start carried (asks.BadReply at) text stood source a = inl (inr a)
+stops-call turns start carried asks.Memory text stood source a = lacks-call turns start carried asks.Memory text stood source a
+
+prints-call : (end : AskEnd) (line : ℕ) (sink printed : SinkState) (text : List ℕ) → Prints sink text printed → PrintsLines sink text (end_of_ask end line) printed
+prints-call (asks.Links (talks.Refused c)) line sink printed text p = p
+prints-call (asks.Links (talks.Lost c)) line sink printed text p = p
+prints-call (asks.Links (talks.Bad at)) line sink printed text p = p
+prints-call (asks.Links talks.Broken) line sink printed text p = p
+prints-call (asks.Links talks.DialFault) line sink printed text p = p
+prints-call (asks.Links talks.Spent) line sink printed text p = p
+prints-call (asks.Links talks.Memory) line sink printed text p = p
+prints-call (asks.BadReply at) line sink printed text p = p
+prints-call asks.Memory line sink printed text p = p
+
+-- what is told of all calls, with more
+told-more : {F : Type 0} (before after : Asked F) (all more : List Exchange) → before.exchanges ≡ all → after ≡ with_more before more → after.exchanges ≡ all ++ more
+told-more {F} before after all more told log = ap (λ (a : Asked F). a.exchanges) log ∙ ap (λ (xs : List Exchange). xs ++ more) told
+
+-- what stays the same of whoever asks
+pub keeps-fixed : {F : Type 0} (mounted : Option VolumeId) (bytes : List ℕ) (before : Asked F) (printed : SinkState) (taken : Taken AskEnd) (now : Option VolumeId) (after : Asked F) (new : SinkState) → TakesText mounted bytes before printed taken now after new
+    → after.fixed ≡ before.fixed
+keeps-fixed {F} mounted bytes before printed takes.Goes now after new t = ap (λ (a : Asked F). a.fixed) t.takes.carried.log
+keeps-fixed {F} mounted bytes before printed takes.Done now after new t = ap (λ (a : Asked F). a.fixed) t.takes.carried.log
+keeps-fixed {F} mounted bytes before printed takes.Cut now after new t = ap (λ (a : Asked F). a.fixed) t.takes.carried.log
+keeps-fixed {F} mounted bytes before printed (takes.Ended end) now after new t = ap (λ (a : Asked F). a.fixed) t.takes.0.runs.log
+keeps-fixed {F} mounted bytes before printed takes.BadReply now after new t = ap (λ (a : Asked F). a.fixed) t.takes.0.log
+keeps-fixed {F} mounted bytes before printed takes.Memory now after new t = ap (λ (a : Asked F). a.fixed) t.takes.1.log
+keeps-fixed {F} mounted bytes before printed takes.BadLine now after new t = ap (λ (a : Asked F). a.fixed) t.1
+keeps-fixed {F} mounted bytes before printed takes.Unread now after new t = ap (λ (a : Asked F). a.fixed) t.0
+
+-- a line that was carried out, and what comes of it
+abbrev pub carried_by : {F : Type 0} → (mounted : Option VolumeId) → (bytes : List ℕ) → (unread : Read.Unread) → (source : SourceState) → (before after : Asked F) → (printed new : SinkState) → (now : Option VolumeId)
+    → TakesRead {E = AskEnd} mounted bytes before printed takes.Goes now after new → Carried
+carried_by mounted bytes unread source before after printed new now t = record { bytes = bytes; unread = unread; source = source; line = t.line; exchanges = t.takes.carried.exchanges; text = t.takes.text }
+
+bye-leads : (mounted : Option VolumeId) (line : ScriptLine) (exchanges : List Exchange) (said : List ℕ) → line ≡ lines.Bye → Leads (line_part mounted line) exchanges (done said) → Leads (line_part mounted lines.Bye) exchanges (done said)
+bye-leads mounted line exchanges said is leads = subst (λ (l : ScriptLine). Leads (line_part mounted l) exchanges (done said)) is leads
+
+module _ {F : Type 0} (turns : ℕ) (start : SourceState) (sink : SinkState) (carried : List Carried) (are : AreCarried start carried) (bytes : List ℕ) (unread : Read.Unread) (source : SourceState) (next : ReadsLine start carried bytes unread source)
+    (before after : Asked F) (told : before.exchanges ≡ exchanges_of carried) (printed new : SinkState) (prints : Prints sink (printed_of carried) printed) (now : Option VolumeId) where
+  -- the script goes on
+  goes-none : (t : TakesRead {E = AskEnd} (mounted_behind carried) bytes before printed takes.Goes now after new) → SoFar start sink unread source now after.exchanges None (length carried + 1) new
+  goes-none t = record {
+    carried = carried_by (mounted_behind carried) bytes unread source before after printed new now t ∷ carried;
+    are = (are, record { next = next; reads = t.reads; says = t.takes.carried.says; goes = t.takes.goes });
+    unread_is = refl;
+    source_is = refl;
+    mounted_is = t.takes.carried.mounts;
+    told = told-more before after (exchanges_of carried) t.takes.carried.exchanges told t.takes.carried.log;
+    live = refl;
+    number_is = omega arith;
+    prints = prints-both sink printed new (printed_of carried) (t.takes.text ++ newline) true prints t.takes.printed;
+  }
+
+  -- or its client has ended
+  goes-some : (ended : Option AskEnd) (cost place limit : ℕ) (t : TakesRead {E = AskEnd} (mounted_behind carried) bytes before printed takes.Goes now after new)
+      → StopsLines turns start sink ends.Memory (stood_at after.exchanges ended cost place limit false) source new
+  unfolding goes-none
+  goes-some ended cost place limit t =
+      let s = goes-none t in
+      record {
+        carried = s.carried;
+        are = s.are;
+        text = printed_of s.carried;
+        stops = record {
+          some = none-read unread source;
+          exchanges = [];
+          begun = inl refl;
+          told = s.told ∙ sym (append-nil (exchanges_of s.carried));
+          closes = refl;
+          prints = refl;
+        };
+        prints = s.prints;
+      }
+
+  -- a bye
+  stops-bye : (ended : Option AskEnd) (cost place limit : ℕ) (t : TakesRead {E = AskEnd} (mounted_behind carried) bytes before printed takes.Done now after new)
+      → StopsLines turns start sink ends.Done (stood_at after.exchanges ended cost place limit false) source new
+  stops-bye ended cost place limit t = record {
+    carried = carried;
+    are = are;
+    text = printed_of carried ++ (t.takes.text ++ newline);
+    stops = inr (record {
+      bytes = bytes;
+      unread = unread;
+      next = next;
+      reads = t.reads ∙ ap Some t.takes.bye;
+      exchanges = t.takes.carried.exchanges;
+      said = t.takes.text;
+      leads = bye-leads (mounted_behind carried) t.line t.takes.carried.exchanges t.takes.text t.takes.bye t.takes.own;
+      told = told-more before after (exchanges_of carried) t.takes.carried.exchanges told t.takes.carried.log;
+      closes = refl;
+      prints = refl;
+    });
+    prints = prints-both sink printed new (printed_of carried) (t.takes.text ++ newline) true prints t.takes.printed;
+  }
+
+  -- a line whose text was not printed whole
+  stops-cut : (ended : Option AskEnd) (cost place limit : ℕ) (t : TakesRead {E = AskEnd} (mounted_behind carried) bytes before printed takes.Cut now after new)
+      → StopsLines turns start sink ends.WriteFault (stood_at after.exchanges ended cost place limit false) source new
+  stops-cut ended cost place limit t = record {
+    carried = carried;
+    are = are;
+    text = printed_of carried ++ (t.takes.text ++ newline);
+    stops = record {
+      bytes = bytes;
+      unread = unread;
+      next = next;
+      line = t.line;
+      reads = t.reads;
+      exchanges = t.takes.carried.exchanges;
+      said = t.takes.text;
+      says = t.takes.carried.says;
+      told = told-more before after (exchanges_of carried) t.takes.carried.exchanges told t.takes.carried.log;
+      closes = refl;
+      prints = refl;
+    };
+    prints = prints-both sink printed new (printed_of carried) (t.takes.text ++ newline) false prints t.takes.printed;
+  }
+
+  -- a call without an answer, since the client has ended
+  stops-call-at : (end why : AskEnd) (cost place limit : ℕ) → limit ≡ turns - unread.taken → (t : TakesRead (mounted_behind carried) bytes before printed (takes.Ended end) now after new)
+      → StopsLines turns start sink (end_of_ask why (length carried + 1)) (stood_at after.exchanges (Some why) cost place limit false) source new
+  stops-call-at end why cost place limit is t =
+      let w = t.takes.0 in
+      record {
+        carried = carried;
+        are = are;
+        text = printed_of carried;
+        stops = stops-call turns start carried why (printed_of carried) (stood_at after.exchanges (Some why) cost place limit false) source (record {
+          bytes = bytes;
+          unread = unread;
+          next = next;
+          line = t.line;
+          reads = t.reads;
+          exchanges = w.runs.exchanges;
+          call = w.call;
+          left = w.left;
+          waits = w.next;
+          leads = w.runs.leads;
+          told = told-more before after (exchanges_of carried) w.runs.exchanges told w.runs.log;
+          ended = refl;
+          limit = is;
+          closes = refl;
+          prints = refl;
+        });
+        prints = prints-call why (length carried + 1) sink new (printed_of carried) (subst (λ (s : SinkState). Prints sink (printed_of carried) s) (sym t.takes.1) prints);
+      }
+
+  -- a reply that may not come
+  stops-reply : (cost place limit : ℕ) (t : TakesRead {E = AskEnd} (mounted_behind carried) bytes before printed takes.BadReply now after new)
+      → StopsLines turns start sink (ends.BadReply place) (stood_at after.exchanges None cost place limit false) source new
+  stops-reply cost place limit t =
+      let r = t.takes.0 in
+      record {
+        carried = carried;
+        are = are;
+        text = printed_of carried;
+        stops = inr (record {
+          bytes = bytes;
+          unread = unread;
+          next = next;
+          line = t.line;
+          reads = t.reads;
+          exchanges = r.exchanges;
+          leads = r.leads;
+          told = told-more before after (exchanges_of carried) r.exchanges told r.log;
+          live = refl;
+          place = refl;
+          closes = refl;
+          prints = refl;
+        });
+        prints = subst (λ (s : SinkState). Prints sink (printed_of carried) s) (sym t.takes.1) prints;
+      }
+
+  -- a line of no form
+  stops-line : (cost place limit : ℕ) → line_in bytes ≡ None → after ≡ before → new ≡ printed
+      → StopsLines turns start sink (ends.BadLine (length carried + 1)) (stood_at after.exchanges None cost place limit false) source new
+  stops-line cost place limit none same still = record {
+    carried = carried;
+    are = are;
+    text = printed_of carried;
+    stops = record {
+      bytes = bytes;
+      unread = unread;
+      next = next;
+      reads = none;
+      is_next = refl;
+      told = ap (λ (a : Asked F). a.exchanges) same ∙ told;
+      live = refl;
+      closes = refl;
+      prints = refl;
+    };
+    prints = subst (λ (s : SinkState). Prints sink (printed_of carried) s) (sym still) prints;
+  }
+
+  -- no memory for the line
+  lacks-line : (ended : Option AskEnd) (cost place limit : ℕ) → after ≡ before → new ≡ printed
+      → StopsLines turns start sink ends.Memory (stood_at after.exchanges ended cost place limit false) source new
+  lacks-line ended cost place limit same still = record {
+    carried = carried;
+    are = are;
+    text = printed_of carried;
+    stops = record {
+      some = some-read start carried bytes unread source next;
+      exchanges = [];
+      begun = inl refl;
+      told = ap (λ (a : Asked F). a.exchanges) same ∙ told ∙ sym (append-nil (exchanges_of carried));
+      closes = refl;
+      prints = refl;
+    };
+    prints = subst (λ (s : SinkState). Prints sink (printed_of carried) s) (sym still) prints;
+  }
+
+  -- or for what comes of it
+  lacks-rest : (ended : Option AskEnd) (cost place limit : ℕ) (line : ScriptLine) (left : Part) → line_in bytes ≡ Some line → Parts.Runs before (line_part (mounted_behind carried) line) left after → new ≡ printed
+      → StopsLines turns start sink ends.Memory (stood_at after.exchanges ended cost place limit false) source new
+  lacks-rest ended cost place limit line left reads r still = record {
+    carried = carried;
+    are = are;
+    text = printed_of carried;
+    stops = record {
+      some = some-read start carried bytes unread source next;
+      exchanges = r.exchanges;
+      begun = inr (record { bytes = bytes; unread = unread; next = next; line = line; reads = reads; left = left; leads = r.leads });
+      told = told-more before after (exchanges_of carried) r.exchanges told r.log;
+      closes = refl;
+      prints = refl;
+    };
+    prints = subst (λ (s : SinkState). Prints sink (printed_of carried) s) (sym still) prints;
+  }
+
+  -- by what came of the line
+  behind-line : (taken : Taken AskEnd) (ended : Option AskEnd) (cost place limit : ℕ) → limit ≡ turns - unread.taken → TakesText (mounted_behind carried) bytes before printed taken now after new
+      → StopsOr turns start sink (stop_by taken ended (length carried + 1) place) unread source now after.exchanges ended cost place limit (length carried + 1) new
+  behind-line takes.Goes None cost place limit is t = goes-none t
+  behind-line takes.Goes (Some e) cost place limit is t = goes-some (Some e) cost place limit t
+  behind-line takes.Done ended cost place limit is t = stops-bye ended cost place limit t
+  behind-line takes.Cut ended cost place limit is t = stops-cut ended cost place limit t
+  behind-line (takes.Ended end) None cost place limit is t = lacks-rest None cost place limit t.line t.takes.0.left t.reads t.takes.0.runs t.takes.1
+  behind-line (takes.Ended end) (Some why) cost place limit is t = stops-call-at end why cost place limit is t
+  behind-line takes.BadReply None cost place limit is t = stops-reply cost place limit t
+  behind-line takes.BadReply (Some e) cost place limit is t = lacks-rest (Some e) cost place limit t.line bad t.reads t.takes.0 t.takes.1
+  behind-line takes.Memory ended cost place limit is t = lacks-rest ended cost place limit t.line t.takes.0 t.reads t.takes.1 t.takes.2
+  behind-line takes.BadLine None cost place limit is t = stops-line cost place limit t.0 t.1 t.2
+  behind-line takes.BadLine (Some e) cost place limit is t = lacks-line (Some e) cost place limit t.1 t.2
+  behind-line takes.Unread ended cost place limit is t = lacks-line ended cost place limit t.0 t.1
+
+-- the same, behind what was carried out so far
+pub line-comes : {F : Type 0} (turns : ℕ) (start : SourceState) (sink : SinkState) (was unread : Read.Unread) (before_source source : SourceState) (mounted now : Option VolumeId) (exchanges : List Exchange) (was_ended ended told_ended : Option AskEnd)
+    (number next_number : ℕ) (printed new : SinkState) (bytes lent : List ℕ) (before after : Asked F) (taken : Taken AskEnd) (cost place told_place limit : ℕ) (stop : Option ClientEnd)
+    → SoFar start sink was before_source mounted exchanges was_ended number printed → Read.TakesLine longest_line was before_source bytes unread source → before.exchanges ≡ exchanges → next_number ≡ number + 1 → limit ≡ turns - unread.taken
+    → TakesText mounted lent before printed taken now after new → lent ≡ bytes → stop ≡ stop_by taken told_ended next_number told_place → told_ended ≡ ended → told_place ≡ place
+    → StopsOr turns start sink stop unread source now after.exchanges ended cost place limit next_number new
+line-comes {F} turns start sink was unread before_source source mounted now exchanges was_ended ended told_ended number next_number printed new bytes lent before after taken cost place told_place limit stop so next told is_next is t same_bytes stops same_ended same_place =
+    let many = is_next ∙ ap (λ (n : ℕ). n + 1) so.number_is in
+    subst (λ (o : Option ClientEnd). StopsOr turns start sink o unread source now after.exchanges ended cost place limit next_number new)
+    (sym (stops ∙ ap (λ (o : Option AskEnd). stop_by taken o next_number told_place) same_ended ∙ ap (λ (n : ℕ). stop_by taken ended next_number n) same_place))
+    (subst (λ (n : ℕ). StopsOr turns start sink (stop_by taken ended n place) unread source now after.exchanges ended cost place limit n new) (sym many)
+    (behind-line turns start sink so.carried so.are bytes unread source
+    (subst (λ (u : Read.Unread). Read.TakesLine longest_line u (source_behind start so.carried) bytes unread source) so.unread_is
+    (subst (λ (s : SourceState). Read.TakesLine longest_line was s bytes unread source) so.source_is next))
+    before after (told ∙ so.told) printed new so.prints now taken ended cost place limit is
+    (subst (λ (m : Option VolumeId). TakesText m bytes before printed taken now after new) so.mounted_is
+    (subst (λ (b : List ℕ). TakesText mounted b before printed taken now after new) same_bytes t))))
+
+-- where it stops
+pub line-stops : (turns : ℕ) (start : SourceState) (sink : SinkState) (stop : Option ClientEnd) (why : ClientEnd) (unread : Read.Unread) (source : SourceState) (now : Option VolumeId) (after : List Exchange) (ended : Option AskEnd) (cost place limit number : ℕ) (new : SinkState)
+    → StopsOr turns start sink stop unread source now after ended cost place limit number new → stop ≡ Some why → StopsLines turns start sink why (stood_at after ended cost place limit false) source new
+line-stops turns start sink stop why unread source now after ended cost place limit number new s is =
+    subst (λ (o : Option ClientEnd). StopsOr turns start sink o unread source now after ended cost place limit number new) is s
+
+-- and where it goes on
+pub line-goes : (turns : ℕ) (start : SourceState) (sink : SinkState) (stop : Option ClientEnd) (unread : Read.Unread) (source : SourceState) (now : Option VolumeId) (after : List Exchange) (ended : Option AskEnd) (cost place limit number : ℕ) (new : SinkState)
+    → StopsOr turns start sink stop unread source now after ended cost place limit number new → stop ≡ None → SoFar start sink unread source now after ended number new
+line-goes turns start sink stop unread source now after ended cost place limit number new s is =
+    subst (λ (o : Option ClientEnd). StopsOr turns start sink o unread source now after ended cost place limit number new) is s
+
+-- nothing was read yet
+pub starts : (start : SourceState) (sink : SinkState) (unread : Read.Unread) (exchanges : List Exchange) (ended : Option AskEnd) → unread ≡ unread_behind [] → exchanges ≡ [] → ended ≡ None → SoFar start sink unread start None exchanges ended 0 sink
+starts start sink unread exchanges ended is none live = record {
+  carried = [];
+  are = tt;
+  unread_is = is;
+  source_is = refl;
+  mounted_is = refl;
+  told = none;
+  live = live;
+  number_is = refl;
+  prints = record { written = none-given sink.written; faults = refl };
+}
+
+pub starts-ended : {A : Type 0} (unread : Read.Unread) → unread ≡ unread_behind [] → unread.ended ≡ true → A
+starts-ended unread is ended = absurd (cc (sym (ap (λ (u : Read.Unread). u.ended) is) ∙ ended))
+
+pub starts-counted : (unread : Read.Unread) → unread ≡ unread_behind [] → 0 + length unread.bytes ≤ unread.taken
+starts-counted unread is = omega (arith, ap (λ (u : Read.Unread). length u.bytes) is, ap (λ (u : Read.Unread). u.taken) is)
+
+-- what is next of the source is no line
+pub source-ends : (turns : ℕ) (start : SourceState) (sink : SinkState) (was unread : Read.Unread) (before_source source : SourceState) (mounted : Option VolumeId) (exchanges : List Exchange) (ended : Option AskEnd) (number cost place limit : ℕ) (printed : SinkState)
+    → SoFar start sink was before_source mounted exchanges ended number printed → Read.TakesNone was before_source unread source
+    → StopsLines turns start sink ends.Done (stood_at exchanges ended cost place limit true) source printed
+source-ends turns start sink was unread before_source source mounted exchanges ended number cost place limit printed so t = record {
+  carried = so.carried;
+  are = so.are;
+  text = printed_of so.carried;
+  stops = inl (record {
+    unread = unread;
+    none = subst (λ (u : Read.Unread). Read.TakesNone u (source_behind start so.carried) unread source) so.unread_is (subst (λ (s : SourceState). Read.TakesNone was s unread source) so.source_is t);
+    told = so.told;
+    live = so.live;
+    closes = refl;
+    prints = refl;
+  });
+  prints = so.prints;
+}
+
+pub source-fails : (turns : ℕ) (start : SourceState) (sink : SinkState) (was unread : Read.Unread) (before_source source : SourceState) (mounted : Option VolumeId) (exchanges : List Exchange) (ended : Option AskEnd) (number cost place limit most : ℕ) (printed : SinkState)
+    → SoFar start sink was before_source mounted exchanges ended number printed → most ≡ turns - cost → Read.TakesFault longest_line most was before_source unread source
+    → StopsLines turns start sink ends.ReadFault (stood_at exchanges ended cost place limit false) source printed
+source-fails turns start sink was unread before_source source mounted exchanges ended number cost place limit most printed so is t = record {
+  carried = so.carried;
+  are = so.are;
+  text = printed_of so.carried;
+  stops = record {
+    unread = unread;
+    fault = subst (λ (u : Read.Unread). Read.TakesFault longest_line (turns - cost) u (source_behind start so.carried) unread source) so.unread_is (subst (λ (s : SourceState). Read.TakesFault longest_line (turns - cost) was s unread source) so.source_is
+        (subst (λ (n : ℕ). Read.TakesFault longest_line n was before_source unread source) is t));
+    told = so.told;
+    live = so.live;
+    closes = refl;
+    prints = refl;
+  };
+  prints = so.prints;
+}
+
+pub source-spent : (turns : ℕ) (start : SourceState) (sink : SinkState) (was unread : Read.Unread) (before_source source : SourceState) (mounted : Option VolumeId) (exchanges : List Exchange) (ended : Option AskEnd) (number cost place limit most : ℕ) (printed : SinkState)
+    → SoFar start sink was before_source mounted exchanges ended number printed → most ≡ turns - cost → Read.TakesAll longest_line most was before_source unread source
+    → StopsLines turns start sink ends.Spent (stood_at exchanges ended cost place limit false) source printed
+source-spent turns start sink was unread before_source source mounted exchanges ended number cost place limit most printed so is t = record {
+  carried = so.carried;
+  are = so.are;
+  text = printed_of so.carried;
+  stops = inr (record {
+    unread = unread;
+    reached = subst (λ (u : Read.Unread). Read.TakesAll longest_line (turns - cost) u (source_behind start so.carried) unread source) so.unread_is (subst (λ (s : SourceState). Read.TakesAll longest_line (turns - cost) was s unread source) so.source_is
+        (subst (λ (n : ℕ). Read.TakesAll longest_line n was before_source unread source) is t));
+    told = so.told;
+    live = so.live;
+    closes = refl;
+    prints = refl;
+  });
+  prints = so.prints;
+}
+
+pub source-lacks : (turns : ℕ) (start : SourceState) (sink : SinkState) (was : Read.Unread) (before_source source : SourceState) (mounted : Option VolumeId) (exchanges : List Exchange) (ended : Option AskEnd) (number cost place limit : ℕ) (printed : SinkState)
+    → SoFar start sink was before_source mounted exchanges ended number printed → Read.TakesSome was before_source source
+    → StopsLines turns start sink ends.Memory (stood_at exchanges ended cost place limit false) source printed
+source-lacks turns start sink was before_source source mounted exchanges ended number cost place limit printed so t = record {
+  carried = so.carried;
+  are = so.are;
+  text = printed_of so.carried;
+  stops = record {
+    some = subst (λ (u : Read.Unread). Read.TakesSome u (source_behind start so.carried) source) so.unread_is (subst (λ (s : SourceState). Read.TakesSome was s source) so.source_is t);
+    exchanges = [];
+    begun = inl refl;
+    told = so.told ∙ sym (append-nil (exchanges_of so.carried));
+    closes = refl;
+    prints = refl;
+  };
+  prints = so.prints;
+}
+
+-- The session is closed at the source's end alone.
+never-closes : {A : Type 0} → false ≡ true → A
+never-closes e = absurd (cc e)
+
+at-end : (turns : ℕ) (start : SourceState) (carried : List Carried) (why : ClientEnd) (text : List ℕ) (stood : Stood) (source : SourceState) → Stops turns start carried why text stood source → stood.closes ≡ true
+    → (why ≡ ends.Done) × AtEnd start carried text stood source
+at-end turns start carried ends.Done text stood source (inl a) is = (refl, a)
+at-end turns start carried ends.Done text stood source (inr a) is = never-closes (sym a.closes ∙ is)
+at-end turns start carried (ends.Refused c) text stood source a is = never-closes (sym a.closes ∙ is)
+at-end turns start carried (ends.SessionLost line) text stood source a is = never-closes (sym a.2.closes ∙ is)
+at-end turns start carried (ends.BadReply at) text stood source (inl (inl a)) is = never-closes (sym a.closes ∙ is)
+at-end turns start carried (ends.BadReply at) text stood source (inl (inr a)) is = never-closes (sym a.closes ∙ is)
+at-end turns start carried (ends.BadReply at) text stood source (inr a) is = never-closes (sym a.closes ∙ is)
+at-end turns start carried (ends.BadLine line) text stood source a is = never-closes (sym a.closes ∙ is)
+at-end turns start carried ends.ReadFault text stood source a is = never-closes (sym a.closes ∙ is)
+at-end turns start carried ends.WriteFault text stood source a is = never-closes (sym a.closes ∙ is)
+at-end turns start carried ends.Broken text stood source a is = never-closes (sym a.closes ∙ is)
+at-end turns start carried ends.DialFault text stood source a is = never-closes (sym a.closes ∙ is)
+at-end turns start carried ends.Spent text stood source (inl a) is = never-closes (sym a.closes ∙ is)
+at-end turns start carried ends.Spent text stood source (inr a) is = never-closes (sym a.closes ∙ is)
+at-end turns start carried ends.Memory text stood source a is = never-closes (sym a.closes ∙ is)
+
+-- it was closed
+pub runs-closed : {L : Type 0} (state : L → LinkState) (turns : ℕ) (first : Start) (old : DialerState L) (start : SourceState) (sink : SinkState) (why : ClientEnd) (exchanges : List Exchange) (ended : Option AskEnd) (cost place limit : ℕ) (closes : Bool) (dialer : DialerState L)
+    (source : SourceState) (printed : SinkState)
+    → StopsLines turns start sink why (stood_at exchanges ended cost place limit closes) source printed → closes ≡ true → Closes state first old limit exchanges ended None cost place dialer
+    → RunsPrinted state turns first old start sink why dialer source printed
+runs-closed state turns first old start sink why exchanges ended cost place limit closes dialer source printed s is c =
+    let e = at-end turns start s.carried why s.text (stood_at exchanges ended cost place limit closes) source s.stops is in
+    record {
+      text = s.text;
+      runs = inr (record {
+        carried = s.carried;
+        are = s.are;
+        stood = stood_at exchanges ended cost place limit closes;
+        stops = s.stops;
+        leaves = subst (λ (b : Bool). LeavesLinks state first old (stood_at exchanges ended cost place limit closes) b dialer) (sym is)
+            (subst (λ (o : Option AskEnd). Closes state first old limit exchanges o None cost place dialer) e.1.live c);
+      });
+      prints = s.prints;
+    }
+
+-- there was no memory for CloseSession
+lacks-close : {L : Type 0} (state : L → LinkState) (first : Start) (old : DialerState L) (limit : ℕ) (exchanges : List Exchange) (told : AskEnd) (cost place : ℕ) (dialer : DialerState L)
+    → Closes state first old limit exchanges None (Some told) cost place dialer → Finishes state first old limit exchanges None cost place dialer
+lacks-close state first old limit exchanges (asks.Links end) cost place dialer c = absurd c
+lacks-close state first old limit exchanges (asks.BadReply at) cost place dialer c = absurd c
+lacks-close state first old limit exchanges asks.Memory cost place dialer c = c
+
+pub runs-unclosed : {L : Type 0} (state : L → LinkState) (turns : ℕ) (first : Start) (old : DialerState L) (start : SourceState) (sink : SinkState) (why : ClientEnd) (exchanges : List Exchange) (ended : Option AskEnd) (told : AskEnd) (cost place limit : ℕ) (closes : Bool)
+    (dialer : DialerState L) (source : SourceState) (printed : SinkState)
+    → StopsLines turns start sink why (stood_at exchanges ended cost place limit closes) source printed → closes ≡ true → Closes state first old limit exchanges ended (Some told) cost place dialer
+    → RunsPrinted state turns first old start sink ends.Memory dialer source printed
+runs-unclosed state turns first old start sink why exchanges ended told cost place limit closes dialer source printed s is c =
+    let e = at-end turns start s.carried why s.text (stood_at exchanges ended cost place limit closes) source s.stops is in
+    let live = e.1.live in
+    record {
+      text = s.text;
+      runs = inr (record {
+        carried = s.carried;
+        are = s.are;
+        stood = stood_at exchanges ended cost place limit false;
+        stops = record {
+          some = record { read = []; given = e.1.none.reads.given; faults = e.1.none.reads.faults };
+          exchanges = [];
+          begun = inl refl;
+          told = e.1.told ∙ sym (append-nil (exchanges_of s.carried));
+          closes = refl;
+          prints = e.1.prints;
+        };
+        leaves = subst (λ (o : Option AskEnd). Finishes state first old limit exchanges o cost place dialer) (sym live)
+            (lacks-close state first old limit exchanges told cost place dialer (subst (λ (o : Option AskEnd). Closes state first old limit exchanges o (Some told) cost place dialer) live c));
+      });
+      prints = subst (λ (w : ClientEnd). PrintsLines sink s.text w printed) e.0 s.prints;
+    }
+
+-- its link was left
+pub runs-left : {L : Type 0} (state : L → LinkState) (turns : ℕ) (first : Start) (old : DialerState L) (start : SourceState) (sink : SinkState) (why : ClientEnd) (exchanges : List Exchange) (ended : Option AskEnd) (cost place limit : ℕ) (closes : Bool) (dialer : DialerState L)
+    (source : SourceState) (printed : SinkState)
+    → StopsLines turns start sink why (stood_at exchanges ended cost place limit closes) source printed → closes ≡ false → Finishes state first old limit exchanges ended cost place dialer
+    → RunsPrinted state turns first old start sink why dialer source printed
+runs-left state turns first old start sink why exchanges ended cost place limit closes dialer source printed s is f = record {
+  text = s.text;
+  runs = inr (record {
+    carried = s.carried;
+    are = s.are;
+    stood = stood_at exchanges ended cost place limit closes;
+    stops = s.stops;
+    leaves = subst (λ (b : Bool). LeavesLinks state first old (stood_at exchanges ended cost place limit closes) b dialer) (sym is) f;
+  });
+  prints = s.prints;
+}
+
+-- no client was opened
+pub runs-none : {L : Type 0} (state : L → LinkState) (turns : ℕ) (first first_now : Start) (old : DialerState L) (start : SourceState) (sink : SinkState) (end : AskEnd) (why : ClientEnd) (dialer : DialerState L)
+    → first_now ≡ first → why ≡ end_of_ask end 1 → OpensNone state turns first_now old end dialer → RunsPrinted state turns first old start sink why dialer start sink
+runs-none {L} state turns first first_now old start sink end why dialer same is o = record {
+  text = [];
+  runs = inl (record { end = end; opens = subst (λ (f : Start). OpensNone state turns f old end dialer) same o; is = is; unread = refl; prints = refl });
+  prints = subst (λ (w : ClientEnd). PrintsLines sink [] w sink) (sym is) (prints-call end 1 sink sink [] (record { written = none-given sink.written; faults = refl }));
+}
+
+-- the last line, behind the lines
+pub prints-end : (old mid new : SinkState) (text : List ℕ) (why : ClientEnd) → PrintsLines old text why mid → PrintsAll mid (last_line why) true new → PrintsWhole old text why why new
+prints-end old mid new text ends.WriteFault p q = record {
+  part = p.part;
+  lost = p.lost;
+  some_lost = p.some_lost;
+  cut = p.cut ∙ sym (append-nil text);
+  written = q.written ∙ sym (none-given mid.written) ∙ p.written;
+  fault = subst (λ (n : ℕ). CountsOn 1 old.faults n) (sym q.faults) p.fault;
+}
+prints-end old mid new text why p q = (refl, prints-both old mid new text (last_line why) true p q)
+
+pub prints-part : (old mid new : SinkState) (text : List ℕ) (why : ClientEnd) → PrintsLines old text why mid → PrintsAll mid (last_line why) false new → PrintsWhole old text why ends.WriteFault new
+prints-part old mid new text ends.WriteFault p q = absurd (omega (arith, ap length q.cut, length-append q.part q.lost, q.some_lost))
+prints-part old mid new text why p q = prints-both old mid new text (last_line why) false p q
+
+-- the same, of a client that began with these
+module _ {L : Type 0} (state : L → LinkState) (turns : ℕ) (first first_now : Start) (old old_now : DialerState L) (start : SourceState) (sink : SinkState) (why : ClientEnd) (exchanges : List Exchange) (ended : Option AskEnd) (cost place limit : ℕ) (closes : Bool)
+    (dialer : DialerState L) (source : SourceState) (printed : SinkState) (s : StopsLines turns start sink why (stood_at exchanges ended cost place limit closes) source printed) (same_first : first_now ≡ first) (same_old : old_now ≡ old) where
+  pub closed-runs : (told : Option AskEnd) → told ≡ None → closes ≡ true → Closes state first_now old_now limit exchanges ended told cost place dialer → RunsPrinted state turns first old start sink why dialer source printed
+  closed-runs told none is c =
+      runs-closed state turns first old start sink why exchanges ended cost place limit closes dialer source printed s is
+      (subst (λ (o : Option AskEnd). Closes state first old limit exchanges ended o cost place dialer) none
+      (subst (λ (f : Start). Closes state f old limit exchanges ended told cost place dialer) same_first
+      (subst (λ (d : DialerState L). Closes state first_now d limit exchanges ended told cost place dialer) same_old c)))
+
+  pub unclosed-runs : (told : Option AskEnd) (end : AskEnd) → told ≡ Some end → closes ≡ true → Closes state first_now old_now limit exchanges ended told cost place dialer → RunsPrinted state turns first old start sink ends.Memory dialer source printed
+  unclosed-runs told end some is c =
+      runs-unclosed state turns first old start sink why exchanges ended end cost place limit closes dialer source printed s is
+      (subst (λ (o : Option AskEnd). Closes state first old limit exchanges ended o cost place dialer) some
+      (subst (λ (f : Start). Closes state f old limit exchanges ended told cost place dialer) same_first
+      (subst (λ (d : DialerState L). Closes state first_now d limit exchanges ended told cost place dialer) same_old c)))
+
+  pub left-runs : closes ≡ false → Finishes state first_now old_now limit exchanges ended cost place dialer → RunsPrinted state turns first old start sink why dialer source printed
+  left-runs is f =
+      runs-left state turns first old start sink why exchanges ended cost place limit closes dialer source printed s is
+      (subst (λ (g : Start). Finishes state g old limit exchanges ended cost place dialer) same_first
+      (subst (λ (d : DialerState L). Finishes state first_now d limit exchanges ended cost place dialer) same_old f))
+
+-- and of one that was opened so
+pub opened-runs : {L : Type 0} (state : L → LinkState) (turns : ℕ) (first first_now : Start) (old old_now : DialerState L) (start : SourceState) (sink : SinkState) (why : ClientEnd) (dialer : DialerState L) (source : SourceState) (printed : SinkState)
+    → first_now ≡ first → old_now ≡ old → RunsPrinted state turns first_now old_now start sink why dialer source printed → RunsPrinted state turns first old start sink why dialer source printed
+opened-runs {L} state turns first first_now old old_now start sink why dialer source printed same_first same_old r =
+    subst (λ (f : Start). RunsPrinted state turns f old start sink why dialer source printed) same_first
+    (subst (λ (d : DialerState L). RunsPrinted state turns first_now d start sink why dialer source printed) same_old r)

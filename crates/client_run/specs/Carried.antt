@@ -1,0 +1,63 @@
+-- The lines of a script that were carried out, the newest first (this profile).
+use Rattle.std.specs.Prelude.{◌≡◌, ℕ, false, List, [], ◌∷◌, ◌++◌, Option, Some, None}
+use Rattle.afp_base.specs.declared.ids.VolumeId.{VolumeId}
+use Rattle.afp_outside.specs.Source.{SourceState}
+use Rattle.afp_outside_lines.specs.Lines as Read
+use Rattle.client_script_lines.specs.Lines.{line_in}
+use Rattle.client_script_lines.specs.Words.{longest_line}
+use Rattle.client_script_lines.specs.declared.line.ScriptLine.{ScriptLine}
+use Rattle.client_script_texts.specs.Texts.{newline}
+use Rattle.client_script_parts.specs.Parts.{Exchange}
+use Rattle.client_script_run.specs.Run.{line_part, mounted_by}
+use Rattle.client_run.specs.Script.{GoesBehind, Says}
+
+-- A line that was carried out and printed, and behind which the script went on: its bytes; what was read of the source then and stands in no
+-- line, and the source; what the line says; what its calls were told, in order; and the text that they lead to.
+pub record Carried : Type 0 where
+  pub bytes : List ℕ
+  pub unread : Read.Unread
+  pub source : SourceState
+  pub line : ScriptLine
+  pub exchanges : List Exchange
+  pub text : List ℕ
+
+-- what was read and stands in no line yet
+abbrev pub unread_behind : List Carried → Read.Unread
+unread_behind [] = record { bytes = []; ended = false; taken = 0 }
+unread_behind (c ∷ carried) = c.unread
+
+-- the source, which began so
+abbrev pub source_behind : SourceState → List Carried → SourceState
+source_behind start [] = start
+source_behind start (c ∷ carried) = c.source
+
+-- the volume that is mounted
+abbrev pub mounted_behind : List Carried → Option VolumeId
+mounted_behind [] = None
+mounted_behind (c ∷ carried) = mounted_by (mounted_behind carried) c.line c.exchanges
+
+-- what all calls were told, in order
+abbrev pub exchanges_of : List Carried → List Exchange
+exchanges_of [] = []
+exchanges_of (c ∷ carried) = exchanges_of carried ++ c.exchanges
+
+-- what was printed: the text of each line, in order
+abbrev pub printed_of : List Carried → List ℕ
+printed_of [] = []
+printed_of (c ∷ carried) = printed_of carried ++ (c.text ++ newline)
+
+-- The next line behind these is that of these bytes: its newline was read, it is too long, or the source ended.
+abbrev pub ReadsLine : SourceState → List Carried → List ℕ → Read.Unread → SourceState → Type 0
+ReadsLine start carried bytes unread source = Read.TakesLine longest_line (unread_behind carried) (source_behind start carried) bytes unread source
+
+-- A line behind those before it: it is the next one of the source and has a form; its calls, in the volume that is mounted then, were told what
+-- leads to its text; and it is no bye, or a bye that was refused.
+pub record IsCarried (start : SourceState) (before : List Carried) (c : Carried) : Type 0 where
+  pub next : ReadsLine start before c.bytes c.unread c.source
+  pub reads : line_in c.bytes ≡ Some c.line
+  pub says : Says (line_part (mounted_behind before) c.line) c.exchanges c.text
+  pub goes : GoesBehind c.line says
+
+abbrev pub AreCarried : SourceState → List Carried → Type 0
+AreCarried start [] = Unit {0}
+AreCarried start (c ∷ before) = AreCarried start before × IsCarried start before c

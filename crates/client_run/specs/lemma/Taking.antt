@@ -1,0 +1,70 @@
+-- How far a script has come, and what its next line comes to.
+use Rattle.std.specs.Prelude.{◌≡◌, ℕ, Bool, false, List, length, Option, Some, None}
+use Rattle.afp_base.specs.declared.ids.VolumeId.{VolumeId}
+use Rattle.afp_outside.specs.Dialer.{DialerState}
+use Rattle.afp_outside.specs.Link.{LinkState}
+use Rattle.afp_outside.specs.Sink.{SinkState}
+use Rattle.afp_outside.specs.Source.{SourceState}
+use Rattle.afp_outside_lines.specs.Lines as Read
+use Rattle.client_links.specs.OnLink.{Start}
+use Rattle.client_script_parts.specs.Parts.{Exchange}
+use Rattle.client_script_links.specs.declared.asker.AskEnd.{AskEnd}
+use Rattle.client_run.specs.Carried.{AreCarried, Carried, exchanges_of, mounted_behind, printed_of, source_behind, unread_behind}
+use Rattle.client_run.specs.Ends.{end_of_ask}
+use Rattle.client_run.specs.Printing.{Prints}
+use Rattle.client_run.specs.Runs.{PrintsLines, Runs}
+use Rattle.client_run.specs.Stops.{Stood, Stops}
+use Rattle.client_run.specs.declared.ends.ClientEnd.{ClientEnd}
+use Rattle.client_run.specs.declared.ends.ClientEnd.TheVariants as ends
+use Rattle.client_run.specs.declared.line.Taken.{Taken}
+use Rattle.client_run.specs.declared.line.Taken.TheVariants as takes
+
+-- Why a script stops behind what came of the line of this number, where the client has ended so, and the last reply stands there; none where it
+-- goes on.
+abbrev pub stop_by : Taken AskEnd → Option AskEnd → ℕ → ℕ → Option ClientEnd
+stop_by takes.Goes None line at = None
+stop_by takes.Goes (Some end) line at = Some ends.Memory
+stop_by takes.Done ended line at = Some ends.Done
+stop_by takes.Cut ended line at = Some ends.WriteFault
+stop_by (takes.Ended end) None line at = Some ends.Memory
+stop_by (takes.Ended end) (Some why) line at = Some (end_of_ask why line)
+stop_by takes.BadReply None line at = Some (ends.BadReply at)
+stop_by takes.BadReply (Some end) line at = Some ends.Memory
+stop_by takes.Memory ended line at = Some ends.Memory
+stop_by takes.BadLine None line at = Some (ends.BadLine line)
+stop_by takes.BadLine (Some end) line at = Some ends.Memory
+stop_by takes.Unread ended line at = Some ends.Memory
+
+abbrev pub stood_at : List Exchange → Option AskEnd → ℕ → ℕ → ℕ → Bool → Stood
+stood_at exchanges ended cost place limit closes = record { exchanges = exchanges; ended = ended; cost = cost; place = place; limit = limit; closes = closes }
+
+-- These lines were carried out, and their text was printed.
+pub record SoFar (start : SourceState) (sink : SinkState) (unread : Read.Unread) (source : SourceState) (mounted : Option VolumeId) (exchanges : List Exchange) (ended : Option AskEnd) (number : ℕ) (printed : SinkState) : Type 0 where
+  pub carried : List Carried
+  pub are : AreCarried start carried
+  pub unread_is : unread ≡ unread_behind carried
+  pub source_is : source ≡ source_behind start carried
+  pub mounted_is : mounted ≡ mounted_behind carried
+  pub told : exchanges ≡ exchanges_of carried
+  pub live : ended ≡ None
+  pub number_is : number ≡ length carried
+  pub prints : Prints sink (printed_of carried) printed
+
+-- They were, and then the script stopped.
+pub record StopsLines (turns : ℕ) (start : SourceState) (sink : SinkState) (why : ClientEnd) (stood : Stood) (source : SourceState) (printed : SinkState) : Type 0 where
+  pub carried : List Carried
+  pub are : AreCarried start carried
+  pub text : List ℕ
+  pub stops : Stops turns start carried why text stood source
+  pub prints : PrintsLines sink text why printed
+
+-- by why it stops, where it does
+abbrev pub StopsOr : ℕ → SourceState → SinkState → Option ClientEnd → Read.Unread → SourceState → Option VolumeId → List Exchange → Option AskEnd → ℕ → ℕ → ℕ → ℕ → SinkState → Type 0
+StopsOr turns start sink None unread source mounted exchanges ended cost place limit number printed = SoFar start sink unread source mounted exchanges ended number printed
+StopsOr turns start sink (Some why) unread source mounted exchanges ended cost place limit number printed = StopsLines turns start sink why (stood_at exchanges ended cost place limit false) source printed
+
+-- A script ran, and the text of its lines was printed.
+pub record RunsPrinted {L : Type 0} (state : L → LinkState) (turns : ℕ) (first : Start) (old : DialerState L) (start : SourceState) (sink : SinkState) (why : ClientEnd) (dialer : DialerState L) (source : SourceState) (printed : SinkState) : Type 0 where
+  pub text : List ℕ
+  pub runs : Runs state turns first old start why text dialer source
+  pub prints : PrintsLines sink text why printed
