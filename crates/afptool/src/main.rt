@@ -5,7 +5,7 @@ use afp_base::NO_LIMIT;
 use afp_outside::{StdSink, StdSource};
 use afpd_lib::given::given_words;
 use afptool_lib::afptool_plain;
-use capture_log_server::memory_keepers;
+use capture_log_teller::memory_keepers;
 use std::process::ExitCode;
 
 /// The exit status for want of memory.

@@ -1,6 +1,6 @@
 //! Making a capture, and counting in it.
 ghost use Rattle.std.specs.Prelude.{◌≡◌, ◌≤◌};
-ghost use Rattle.capture_log_server.specs.Keepers.{AreFresh};
+ghost use Rattle.capture_log_teller.specs.Keepers.{AreFresh};
 ghost use Rattle.capture_made_requests.specs.Requests.{most_steps};
 ghost use Rattle.record_keeper.specs.Records.{steadily};
 ghost use Rattle.afptool_lib.specs.Telling.{Tells};
@@ -9,6 +9,7 @@ ghost use Rattle.afptool_lib.specs.Tool.{RunsMake, RunsTally, make_status};
 
 use crate::lines::report_tally;
 use afp_outside::Sink;
+use capture_log_teller::NewKeepers;
 use capture_made::{MakeEnd, Tallied, make, tally};
 use record_keeper::Keeper;
 use std::alloc::Global;
@@ -36,7 +37,7 @@ pub fn run_make<K: Keeper, O: Sink>(
     requires most { steps ≤ most_steps }
     ensures { RunsMake number steps (O.sink_state out.old) (O.sink_state out.new) result }
 {
-    status_of(make(alloc, fresh, number, steps, out))
+    status_of(make(alloc, NewKeepers::new(fresh), number, steps, out))
 }
 
 /// Prints what was counted, and gives the exit status.
@@ -58,7 +59,7 @@ pub fn run_tally<K: Keeper, O: Sink>(
     requires most { steps ≤ most_steps }
     ensures { RunsTally number steps (O.sink_state out.old) (O.sink_state out.new) result }
 {
-    match tally(alloc, fresh, number, steps) {
+    match tally(alloc, NewKeepers::new(fresh), number, steps) {
         Ok(tallied) => tell(out, &tallied),
         Err(_) => 6,
     }

@@ -1,6 +1,6 @@
 //! Replaying a capture, and saying how it ended.
 ghost use Rattle.std.specs.Prelude.{◌≡◌, ◌<◌, ◌^◌, false};
-ghost use Rattle.capture_log_server.specs.Keepers.{AreFresh};
+ghost use Rattle.capture_log_teller.specs.Keepers.{AreFresh};
 ghost use Rattle.record_keeper.specs.Records.{steadily};
 ghost use Rattle.afpd_lib.specs.Reporting.{ReportsAll};
 ghost use Rattle.afptool_lib.specs.Lines.{replay_text, replay_status};
@@ -10,6 +10,7 @@ use crate::lines::{report_bad_line, report_differs, report_same};
 use afp_outside::{Sink, Source};
 use afpd_lib::report::report_all;
 use capture_log::{ReplayEnd, replay};
+use capture_log_teller::NewKeepers;
 use record_keeper::Keeper;
 use std::alloc::Global;
 
@@ -58,7 +59,7 @@ pub fn run_replay<K: Keeper, S: Source, O: Sink>(
     requires fresh { (S.source_state source.old).ended ≡ false }
     ensures { RunsReplay turns (S.source_state source.old) (S.source_state source.new) (O.sink_state out.old) (O.sink_state out.new) result }
 {
-    let end = replay(alloc, fresh, source, turns);
+    let end = replay(alloc, NewKeepers::new(fresh), source, turns);
     if report_end(out, end) {
         status_of(end)
     } else {

@@ -1,6 +1,6 @@
 //! The tool's top call.
 ghost use Rattle.std.specs.Prelude.{◌≡◌, ◌<◌, ◌^◌, false, map, string_bytes};
-ghost use Rattle.capture_log_server.specs.Keepers.{AreFresh};
+ghost use Rattle.capture_log_teller.specs.Keepers.{AreFresh};
 ghost use Rattle.record_keeper.specs.Records.{steadily};
 ghost use Rattle.afpd_lib.specs.Reporting.{bad_words};
 ghost use Rattle.afptool_lib.specs.Telling.{Tells};

@@ -15,24 +15,25 @@ use crate::setup::Setup;
 use afp_base::{Moment, OutOfMemory, VolumeId};
 use afp_serial::HouseFault;
 use capture_log_lines::{Line, What, read_line};
-use capture_log_server::{Difference, NewKeepers, Part, ReplayCounts, Running, part_after};
-use record_keeper::Keeper;
+use capture_log_server::{
+    Difference, Part, ReplayCounts, Running, SoleTeller, TellerMaker, part_after,
+};
 use std::alloc::Global;
 use std::marker::Model;
 
 /// A capture, line by line: what may come next, the house that the lines make, the keepers, until something happens, and from there on
 /// the server; and how many lines there were.
 #[derive(Drop)]
-pub struct Capture<K: Keeper> {
+pub struct Capture<M: TellerMaker> {
     alloc: Global,
     part: Part,
     setup: Setup,
-    fresh: Option<NewKeepers<K>>,
-    running: Option<Running<K>>,
+    fresh: Option<M>,
+    running: Option<Running<M::Made>>,
     number: u64,
 }
 
-impl<K: Keeper> Model for Capture<K> {
+impl<M: TellerMaker> Model for Capture<M> {
     ghost use Rattle.std.specs.Prelude.{is_some};
     ghost use Rattle.capture_log.specs.Taking.{HeldCapture};
 
@@ -42,12 +43,12 @@ impl<K: Keeper> Model for Capture<K> {
 }
 
 /// A server of the house that the lines made, from now on. The house was found good line by line, so it is made, or there is no memory.
-fn begin_running<K: Keeper>(
+fn begin_running<M: TellerMaker>(
     alloc: Global,
-    fresh: Option<NewKeepers<K>>,
+    fresh: Option<M>,
     setup: &mut Setup,
     now: Moment,
-) -> Result<Running<K>, OutOfMemory>
+) -> Result<Running<M::Made>, OutOfMemory>
     requires waiting { is_some fresh ≡ true }
     requires set_up { IsSetUp Part.Events setup.old }
     ensures { IfOk result (λ r. IsFreshRunning setup.old now r) }
@@ -56,7 +57,10 @@ fn begin_running<K: Keeper>(
         unreachable!();
     };
     match setup.house(alloc) {
-        Ok(house) => Running::new(alloc, house, fresh, now),
+        Ok(house) => {
+            let teller = fresh.make(alloc, &house, now)?;
+            Running::new(alloc, house, teller)
+        }
         Err(fault) => match fault {
             HouseFault::Memory => Err(OutOfMemory),
             _ => unreachable!(),
@@ -65,13 +69,13 @@ fn begin_running<K: Keeper>(
 }
 
 /// The server that is there, or one that begins now.
-fn running_from<K: Keeper>(
+fn running_from<M: TellerMaker>(
     alloc: Global,
-    there: Option<Running<K>>,
-    fresh: Option<NewKeepers<K>>,
+    there: Option<Running<M::Made>>,
+    fresh: Option<M>,
     setup: &mut Setup,
     now: Moment,
-) -> Result<Running<K>, OutOfMemory>
+) -> Result<Running<M::Made>, OutOfMemory>
     requires { (s : CaptureState) × IsServer there setup.old (is_some fresh) s × (s.part ≡ Part.Events) }
     ensures { IfOk result (λ r. (s : CaptureState) → IsServer there setup.old (is_some fresh) s → RunsFrom s now r) }
 {
@@ -82,7 +86,7 @@ fn running_from<K: Keeper>(
 }
 
 /// Whether bytes come on a connection that was lost.
-fn is_refused_on<K: Keeper>(running: &Running<K>, index: usize, what: &What) -> bool
+fn is_refused_on<T: SoleTeller>(running: &Running<T>, index: usize, what: &What) -> bool
     requires { index < length running.now.connections }
     ensures { (s : CaptureState) (first : ℕ) → IsRunning running.now s first → result ≡ is_refused_on (s.connections (suc index)) what.now }
 {
@@ -108,8 +112,8 @@ fn verdict_on(link: u32, found: Option<Difference>) -> Option<ReplayEnd>
 }
 
 /// What happens on the connection of a number, and what it decides, if it does.
-fn act<K: Keeper>(
-    running: &mut Running<K>,
+fn act<T: SoleTeller>(
+    running: &mut Running<T>,
     link: u32,
     now: Moment,
     what: &What,
@@ -139,7 +143,7 @@ fn same_of(counts: ReplayCounts) -> ReplayEnd
     }
 }
 
-impl<K: Keeper> Capture<K> {
+impl<M: TellerMaker> Capture<M> {
     ghost use Rattle.std.specs.Prelude.{false, Some};
     ghost use Rattle.capture_log.specs.lemma.Judged.{IsSame};
     ghost use Rattle.capture_log_server.specs.CaptureState.{begins, part_after};
@@ -147,7 +151,7 @@ impl<K: Keeper> Capture<K> {
     ghost use Rattle.capture_log.specs.Standing.{nodes_of, uncompared};
 
     /// No line was taken.
-    pub fn new(alloc: Global, fresh: NewKeepers<K>) -> Capture<K>
+    pub fn new(alloc: Global, fresh: M) -> Capture<M>
         ensures value { result ≡ record { part = Part.Title; house = no_house; waiting = true; running = None; number = 0 } }
         ensures begins { IsCapture result begins }
     {

@@ -1,4 +1,4 @@
-//! Captures: the judgement of a whole one, line by line, and its replay on a server over keepers that nobody has used.
+//! Captures: the judgement of a whole one, line by line, and its replay on a server that nobody has used.
 #![tactic(auto)]
 
 mod capture;

@@ -10,19 +10,18 @@ use crate::capture::Capture;
 use crate::replay_end::ReplayEnd;
 use afp_base::{Bytes, OutOfMemory};
 use capture_log_lines::LONGEST_LINE;
-use capture_log_server::NewKeepers;
-use record_keeper::Keeper;
+use capture_log_server::TellerMaker;
 use std::alloc::Global;
 use std::marker::Model;
 
 /// A capture, and what stands behind its last newline.
 #[derive(Drop)]
-pub struct Reader<K: Keeper> {
-    capture: Capture<K>,
+pub struct Reader<M: TellerMaker> {
+    capture: Capture<M>,
     held: Bytes,
 }
 
-impl<K: Keeper> Model for Reader<K> {
+impl<M: TellerMaker> Model for Reader<M> {
     ghost use Rattle.capture_log.specs.lemma.Gathering.{ReaderState};
 
     ghost Value = { ReaderState };
@@ -44,9 +43,9 @@ fn first_line(bytes: &[u8]) -> Option<(&[u8], &[u8])>
     None
 }
 
-impl<K: Keeper> Reader<K> {
+impl<M: TellerMaker> Reader<M> {
     /// Nothing was read.
-    pub fn new(alloc: Global, fresh: NewKeepers<K>) -> Reader<K>
+    pub fn new(alloc: Global, fresh: M) -> Reader<M>
         ensures { Holds result [] }
     {
         Reader {

@@ -1,22 +1,23 @@
 //! Replaying a capture that is read from a source.
 ghost use Rattle.std.specs.Prelude.{◌≡◌, ◌<◌, ◌^◌, false, []};
-ghost use Rattle.capture_log_server.specs.Keepers.{AreFresh};
-ghost use Rattle.record_keeper.specs.Records.{steadily};
 ghost use Rattle.capture_log.specs.lemma.Gathering.{Holds};
 ghost use Rattle.capture_log.specs.Reading.{Replays};
 
 use crate::reader::Reader;
 use crate::replay_end::ReplayEnd;
 use afp_outside::{ReadResult, Source};
-use capture_log_server::NewKeepers;
-use record_keeper::Keeper;
+use capture_log_server::TellerMaker;
 use std::alloc::Global;
 
 /// The bytes of a read at most.
 const ROOM: usize = 4096;
 
 /// Reads until a line decides, or the source ends.
-fn read_all<K: Keeper, S: Source>(reader: &mut Reader<K>, source: &mut S, turns: u64) -> ReplayEnd
+fn read_all<M: TellerMaker, S: Source>(
+    reader: &mut Reader<M>,
+    source: &mut S,
+    turns: u64,
+) -> ReplayEnd
     requires turns { turns < 2 ^ 63 }
     requires fresh { (S.source_state source.old).ended ≡ false }
     requires new { Holds reader.old [] }
@@ -47,20 +48,18 @@ fn read_all<K: Keeper, S: Source>(reader: &mut Reader<K>, source: &mut S, turns:
     ReplayEnd::Spent
 }
 
-/// Replays the capture that the source gives, on a server that nobody has used, until a line decides or the source ends. Its volumes are new
-/// ones over the first of eight keepers that hold nothing and never fail; the others are let go. It reads again only where fewer than
-/// `turns` bytes were taken. It holds one line at most, and the server.
-pub fn replay<K: Keeper, S: Source>(
+/// Replays the capture that the source gives, on a server that nobody has used, until a line decides or the source ends. Its teller is made
+/// once the house is known. It reads again only where fewer than `turns` bytes were taken. It holds one line at most, and the server.
+pub fn replay<M: TellerMaker, S: Source>(
     alloc: Global,
-    fresh: Vec<K>,
+    fresh: M,
     source: &mut S,
     turns: u64,
 ) -> ReplayEnd
-    requires keepers { AreFresh (steadily K.steady K.records) K.sure fresh.items }
     requires turns { turns < 2 ^ 63 }
     requires fresh { (S.source_state source.old).ended ≡ false }
     ensures { Replays turns (S.source_state source.old) result (S.source_state source.new) }
 {
-    let mut reader = Reader::new(alloc, NewKeepers::new(fresh));
+    let mut reader = Reader::new(alloc, fresh);
     read_all(&mut reader, source, turns)
 }

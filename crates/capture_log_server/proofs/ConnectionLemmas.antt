@@ -24,9 +24,9 @@ use Rattle.afp_server.proofs.Traces.{spelling_of-append}
 use Rattle.capture_log_server.specs.Connections.{Connection, fed_with, difference, output}
 use Rattle.capture_log_server.specs.lemma.Moves.{Extends, FeedsConnection, IdlesConnection, LosesConnection, Compares, wire_or}
 use Rattle.capture_log_server.specs.CaptureState.{after_quiet, after_loss}
+use Rattle.capture_log_server.specs.Sole.{IsSole}
 use Rattle.capture_log_server.specs.States.{ConnectionState, IsConnection, IsLive, IsWire}
 use Rattle.capture_log_server.specs.lemma.States.{FeedsWire, GoesOn}
-use Rattle.capture_log_server.proofs.Alone.{IsAlone}
 use Rattle.capture_log_server.proofs.Histories.{Asks, asks}
 
 -- the wire that bytes are fed to
@@ -115,11 +115,12 @@ told-true told.Done other = refl
 told-true told.Displaced other = refl
 told-true told.Memory other = absurd (other refl)
 
-pub one : (t u : Shown) (now : ℕ) (link : LinkNumber) (ask : Ask) (a : Told) → Asked t now link ask a u → IsAlone t → IsAlone u → u.start ≡ t.start → a ≢ told.Memory
+pub one : (t u : Shown) (now : ℕ) (link : LinkNumber) (ask : Ask) (a : Told) → Asked t now link ask a u → IsSole t → IsSole u → a ≢ told.Memory
     → Extends t (step now link ask a ∷ []) u
-one t u now link ask a asked alone still fixed other =
-    let x : Asks t (step now link ask a ∷ []) u = asks t u (step now link ask a ∷ []) alone.mine still.mine still.faults (went-one t u now link ask a asked) (told-true a other) in
-    record { start = fixed; history = x.history; served = x.served }
+one t u now link ask a asked sole still other =
+    let went = went-one t u now link ask a asked in
+    let x : Asks t (step now link ask a ∷ []) u = asks t u (step now link ask a ∷ []) sole.mine still.mine still.faultless went (told-true a other) in
+    record { start = went.start; history = x.history; served = x.served }
 
 -- a connection without a wire
 
@@ -172,16 +173,16 @@ compared block wanted c d s named is none rest inside others sum_is =
 -- a quiet came, or a loss
 
 pub idled : (now : ℕ) (link : LinkNumber) (a : Told) (c d : ConnectionState) (t u : Shown) (o : Option LinkNumber) (r : Result (Unit {0}) OutOfMemory)
-    → ((block : List ℕ) (s : Connection) → IsConnection block c s → o ≡ open_link s.stage) → o ≡ Some link → Asked t now link asks_of.Pulse a u → IsAlone t → IsAlone u → u.start ≡ t.start
+    → ((block : List ℕ) (s : Connection) → IsConnection block c s → o ≡ open_link s.stage) → o ≡ Some link → Asked t now link asks_of.Pulse a u → IsSole t → IsSole u
     → OnOk r (a ≢ told.Memory) → OnOk r ((block : List ℕ) (s : Connection) → IsConnection block c s → IsConnection block d (after_quiet a s))
     → OnOk r ((block : List ℕ) (s : Connection) → IsConnection block c s → IdlesConnection (open_link s.stage) block now s t d u)
-idled now link a c d t u o (Ok x) opens there asked alone still fixed other kept = λ block s is.
-    subst (λ (l : Option LinkNumber). IdlesConnection l block now s t d u) (sym there ∙ opens block s is) (a, one t u now link asks_of.Pulse a asked alone still fixed other, kept block s is)
-idled now link a c d t u o (Err e) opens there asked alone still fixed other kept = tt
+idled now link a c d t u o (Ok x) opens there asked sole still other kept = λ block s is.
+    subst (λ (l : Option LinkNumber). IdlesConnection l block now s t d u) (sym there ∙ opens block s is) (a, one t u now link asks_of.Pulse a asked sole still other, kept block s is)
+idled now link a c d t u o (Err e) opens there asked sole still other kept = tt
 
 pub ended : (now : ℕ) (link : LinkNumber) (a : Told) (c d : ConnectionState) (t u : Shown) (o : Option LinkNumber)
-    → ((block : List ℕ) (s : Connection) → IsConnection block c s → o ≡ open_link s.stage) → o ≡ Some link → Asked t now link asks_of.Lost a u → IsAlone t → IsAlone u → u.start ≡ t.start
+    → ((block : List ℕ) (s : Connection) → IsConnection block c s → o ≡ open_link s.stage) → o ≡ Some link → Asked t now link asks_of.Lost a u → IsSole t → IsSole u
     → a ≢ told.Memory → ((block : List ℕ) (s : Connection) → IsConnection block c s → IsConnection block d (after_loss s))
     → (block : List ℕ) (s : Connection) → IsConnection block c s → LosesConnection (open_link s.stage) block now s t d u
-ended now link a c d t u o opens there asked alone still fixed other kept block s is =
-    subst (λ (l : Option LinkNumber). LosesConnection l block now s t d u) (sym there ∙ opens block s is) (a, one t u now link asks_of.Lost a asked alone still fixed other, kept block s is)
+ended now link a c d t u o opens there asked sole still other kept block s is =
+    subst (λ (l : Option LinkNumber). LosesConnection l block now s t d u) (sym there ∙ opens block s is) (a, one t u now link asks_of.Lost a asked sole still other, kept block s is)

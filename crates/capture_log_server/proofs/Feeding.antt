@@ -17,17 +17,17 @@ use Rattle.afp_server.specs.declared.wire.WireEnd.TheVariants as wires
 use Rattle.afp_server.proofs.Traces.{fills-one}
 use Rattle.capture_log_server.specs.Connections.{FramesEnd}
 use Rattle.capture_log_server.specs.lemma.States.{FeedsWire, is_end}
-use Rattle.capture_log_server.proofs.Alone.{IsAlone}
+use Rattle.capture_log_server.specs.Sole.{IsSole}
 use Rattle.capture_log_server.proofs.Histories.{Asks, asks}
 
 made : (now : ℕ) (bytes : List ℕ) (past : List Frame) (piece : List ℕ) (old : WireState) (out : List ℕ) (t : Shown) (over : Bool) (new : WireState) (sent : List ℕ) (u : Shown)
     → (frames : List Frame) (end : Option FrameEnd)
     → Handled (record { block = old.block; now = now; bytes = bytes; past = past; stage = old.stage; out = out; shown = t }) frames end (feed_point new.stage new.tally sent u)
-    → new.tally.answered ≡ true → IsAlone t → IsAlone u → u.start ≡ t.start → FramesEnd (bytes ++ piece) (past ++ frames) end over → (over ≡ false → GivenOut (bytes ++ piece) (past ++ frames) new.held)
+    → new.tally.answered ≡ true → IsSole t → IsSole u → FramesEnd (bytes ++ piece) (past ++ frames) end over → (over ≡ false → GivenOut (bytes ++ piece) (past ++ frames) new.held)
     → FeedsWire now bytes past piece old out t over new sent u
-made now bytes past piece old out t over new sent u frames end h answered alone still fixed framed given =
+made now bytes past piece old out t over new sent u frames end h answered sole still framed given =
     let all : answered_after true h.steps ≡ true = sym (ap (λ (x : Tally). x.answered) h.tally) ∙ answered in
-    let a : Asks t h.steps u = asks t u h.steps alone.mine still.mine still.faults h.went all in
+    let a : Asks t h.steps u = asks t u h.steps sole.mine still.mine still.faultless h.went all in
     record {
       frames = frames;
       steps = h.steps;
@@ -39,7 +39,7 @@ made now bytes past piece old out t over new sent u frames end h answered alone 
       given = given;
       sent_is = h.sent;
       tally = h.tally;
-      start = fixed;
+      start = h.went.start;
       history = a.history;
       served = a.served;
     }
@@ -47,18 +47,18 @@ made now bytes past piece old out t over new sent u frames end h answered alone 
 fed : (now : ℕ) (bytes : List ℕ) (past : List Frame) (piece : List ℕ) (old : WireState) (out : List ℕ) (t : Shown) (over : Bool) (new : WireState) (sent : List ℕ) (u : Shown)
     → (end : Option WireEnd) → over ≡ is_end end → end ≢ Some wires.Memory
     → Feeds (record { block = old.block; now = now; bytes = bytes; past = past; stage = old.stage; out = out; shown = t }) (bytes ++ piece) end new.held (feed_point new.stage new.tally sent u)
-    → new.tally.answered ≡ true → IsAlone t → IsAlone u → u.start ≡ t.start → FeedsWire now bytes past piece old out t over new sent u
-fed now bytes past piece old out t over new sent u None is not_memory (s, unfinished) answered alone still fixed =
-    made now bytes past piece old out t over new sent u s.frames None s.handled answered alone still fixed
+    → new.tally.answered ≡ true → IsSole t → IsSole u → FeedsWire now bytes past piece old out t over new sent u
+fed now bytes past piece old out t over new sent u None is not_memory (s, unfinished) answered sole still =
+    made now bytes past piece old out t over new sent u s.frames None s.handled answered sole still
     (inl (new.held.rest, record { filled = s.given.filled; spelled = s.given.spelled; whole = s.given.whole; unfinished = unfinished }, is))
     (λ e. s.given)
-fed now bytes past piece old out t over new sent u (Some wires.Closed) is not_memory s answered alone still fixed =
-    made now bytes past piece old out t over new sent u s.frames (Some ends.Closed) s.handled answered alone still fixed (s.left, s.fills, is) (λ e. absurd (cc (is, e)))
-fed now bytes past piece old out t over new sent u (Some wires.Displaced) is not_memory s answered alone still fixed =
-    made now bytes past piece old out t over new sent u s.frames (Some ends.Displaced) s.handled answered alone still fixed (s.left, s.fills, is) (λ e. absurd (cc (is, e)))
-fed now bytes past piece old out t over new sent u (Some (wires.Bad b)) is not_memory s answered alone still fixed = elim s [
-  | inl h ↦ made now bytes past piece old out t over new sent u h.frames None h.handled answered alone still fixed (inr (b.at, b.reason, h.stopped, is)) (λ e. absurd (cc (is, e)))
-  | inr f ↦ made now bytes past piece old out t over new sent u (f.before ++ f.last ∷ []) (Some (ends.Bad b.reason)) f.handled answered alone still fixed (
+fed now bytes past piece old out t over new sent u (Some wires.Closed) is not_memory s answered sole still =
+    made now bytes past piece old out t over new sent u s.frames (Some ends.Closed) s.handled answered sole still (s.left, s.fills, is) (λ e. absurd (cc (is, e)))
+fed now bytes past piece old out t over new sent u (Some wires.Displaced) is not_memory s answered sole still =
+    made now bytes past piece old out t over new sent u s.frames (Some ends.Displaced) s.handled answered sole still (s.left, s.fills, is) (λ e. absurd (cc (is, e)))
+fed now bytes past piece old out t over new sent u (Some (wires.Bad b)) is not_memory s answered sole still = elim s [
+  | inl h ↦ made now bytes past piece old out t over new sent u h.frames None h.handled answered sole still (inr (b.at, b.reason, h.stopped, is)) (λ e. absurd (cc (is, e)))
+  | inr f ↦ made now bytes past piece old out t over new sent u (f.before ++ f.last ∷ []) (Some (ends.Bad b.reason)) f.handled answered sole still (
     f.begins.more,
     subst (λ (fs : List Frame). Fills (bytes ++ piece) fs f.begins.more) (append_assoc past f.before (f.last ∷ []))
         (fills-one (bytes ++ piece) f.left f.begins.first f.begins.more (past ++ f.before) f.last f.fills f.begins.spelling f.begins.whole),
@@ -66,7 +66,7 @@ fed now bytes past piece old out t over new sent u (Some (wires.Bad b)) is not_m
   )
       (λ e. absurd (cc (is, e)))
 ]
-fed now bytes past piece old out t over new sent u (Some wires.Memory) is not_memory s answered alone still fixed = absurd (not_memory refl)
+fed now bytes past piece old out t over new sent u (Some wires.Memory) is not_memory s answered sole still = absurd (not_memory refl)
 
 pub at_none : {X : Type 0} (o : Option X) (P : Type 0) → o ≡ None → IfNone o P → P
 at_none None P e p = p
@@ -76,7 +76,7 @@ at_none (Some x) P e p = absurd (cc e)
 pub fed_wire : (now : ℕ) (piece : List ℕ) (old : WireState) (out : List ℕ) (t : Shown) (new : WireState) (sent : List ℕ) (u : Shown) (end : Option WireEnd) (r : Result Bool OutOfMemory)
     → ((bytes : List ℕ) (past : List Frame) → GivenOut bytes past old.held
     → Feeds (record { block = old.block; now = now; bytes = bytes; past = past; stage = old.stage; out = out; shown = t }) (bytes ++ piece) end new.held (feed_point new.stage new.tally sent u))
-    → new.tally.answered ≡ true → IsAlone t → IsAlone u → u.start ≡ t.start → IfOk r (λ over. (over ≡ is_end end) × (end ≢ Some wires.Memory))
+    → new.tally.answered ≡ true → IsSole t → IsSole u → IfOk r (λ over. (over ≡ is_end end) × (end ≢ Some wires.Memory))
     → IfOk r (λ over. (bytes : List ℕ) (past : List Frame) → GivenOut bytes past old.held → FeedsWire now bytes past piece old out t over new sent u)
-fed_wire now piece old out t new sent u end (Ok over) feeds answered alone still fixed (is, not_memory) = λ bytes past given. fed now bytes past piece old out t over new sent u end is not_memory (feeds bytes past given) answered alone still fixed
-fed_wire now piece old out t new sent u end (Err e) feeds answered alone still fixed is = tt
+fed_wire now piece old out t new sent u end (Ok over) feeds answered sole still (is, not_memory) = λ bytes past given. fed now bytes past piece old out t over new sent u end is not_memory (feeds bytes past given) answered sole still
+fed_wire now piece old out t new sent u end (Err e) feeds answered sole still is = tt

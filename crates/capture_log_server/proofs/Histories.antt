@@ -2,7 +2,6 @@
 use Rattle.std.proofs.Common.{◌≡◌, ℕ, ◌+◌, Bool, true, false, List, [], ◌∷◌, ◌++◌, zero, suc, length, map, refl, sym, ap, ◌∙◌, append-nil, append_assoc, length-append, arith}
 use Rattle.std.specs.Prelude.{Option, Some, slice_get}
 use Rattle.std.proofs.lemmas.List.{append_cancel_left}
-use Rattle.afp_core.specs.Places.{upto}
 use Rattle.afp_serial.specs.Answer.{answer, after}
 use Rattle.afp_serial.specs.History.{Own, own, own_at, stand, answers, fault_of, faults_in}
 use Rattle.afp_serial.specs.Shown.{Shown}
@@ -16,6 +15,7 @@ use Rattle.afp_serial.specs.declared.ask.Told.TheVariants.{Opened, Reply, Live, 
 use Rattle.afp_serial.proofs.Grows.{faults-append, stand-append, take-all}
 use Rattle.afp_server.specs.Tally.{and_told, answered_after}
 use Rattle.capture_log_server.specs.Connections.{entries_of, told_of, AreServed}
+use Rattle.capture_log_server.specs.Sole.{places_below}
 
 -- every step was answered
 
@@ -63,12 +63,12 @@ from-last n zero = let e : n + 0 ≡ n = omega arith in ap (λ (k : ℕ). k ∷ 
 from-last n (suc m) = let e : suc n + m ≡ n + suc m = omega arith in
     ap (λ (l : List ℕ). n ∷ l) (from-last (suc n) m) ∙ ap (λ (k : ℕ). (n ∷ from (suc n) m) ++ k ∷ []) e
 
-upto-from : (n m : ℕ) → upto (n + m) ≡ upto n ++ from n m
+places-from : (n m : ℕ) → places_below (n + m) ≡ places_below n ++ from n m
 unfolding from
-upto-from n zero = let e : n + 0 ≡ n = omega arith in ap upto e ∙ sym (append-nil (upto n))
-upto-from n (suc m) = let e : n + suc m ≡ suc (n + m) = omega arith in
-    ap upto e ∙ ap (λ (l : List ℕ). l ++ (n + m) ∷ []) (upto-from n m) ∙ append_assoc (upto n) (from n m) ((n + m) ∷ [])
-    ∙ ap (λ (l : List ℕ). upto n ++ l) (sym (from-last n m))
+places-from n zero = let e : n + 0 ≡ n = omega arith in ap places_below e ∙ sym (append-nil (places_below n))
+places-from n (suc m) = let e : n + suc m ≡ suc (n + m) = omega arith in
+    ap places_below e ∙ ap (λ (l : List ℕ). l ++ (n + m) ∷ []) (places-from n m) ∙ append_assoc (places_below n) (from n m) ((n + m) ∷ [])
+    ∙ ap (λ (l : List ℕ). places_below n ++ l) (sym (from-last n m))
 
 -- the entries from there on, each with its answer
 
@@ -122,13 +122,13 @@ pub record Asks (a : Shown) (steps : List Step) (b : Shown) : Type 0 where
   pub history : b.history ≡ a.history ++ entries_of steps
   pub served : AreServed (stand a.start a.history) steps
 
-pub asks : (a b : Shown) (steps : List Step) → a.mine ≡ upto (length a.history) → b.mine ≡ upto (length b.history) → faults_in b.history ≡ 0 → Went a steps b → answered_after true steps ≡ true
+pub asks : (a b : Shown) (steps : List Step) → a.mine ≡ places_below (length a.history) → b.mine ≡ places_below (length b.history) → faults_in b.history ≡ 0 → Went a steps b → answered_after true steps ≡ true
     → Asks a steps b
 asks a b steps mine theirs none went all =
     let size : length b.history ≡ length a.history + length went.between = ap length went.history ∙ length-append a.history went.between in
     let places : went.places ≡ from (length a.history) (length went.between) =
-    append_cancel_left (upto (length a.history)) went.places (from (length a.history) (length went.between))
-    (ap (λ (l : List ℕ). l ++ went.places) (sym mine) ∙ sym went.mine ∙ theirs ∙ ap upto size ∙ upto-from (length a.history) (length went.between)) in
+    append_cancel_left (places_below (length a.history)) went.places (from (length a.history) (length went.between))
+    (ap (λ (l : List ℕ). l ++ went.places) (sym mine) ∙ sym went.mine ∙ theirs ∙ ap places_below size ∙ places-from (length a.history) (length went.between)) in
     let steps_are : steps_of (owned (stand a.start a.history) went.between) ≡ steps =
     ap steps_of (sym (own-from a.start a.history went.between)
     ∙ ap (λ (l : List ℕ). own a.start (a.history ++ went.between) l) (sym places)

@@ -1,7 +1,7 @@
 pub mod Connections
 pub mod Counting
-pub mod Keepers
 pub mod Running
 pub mod CaptureState
+pub mod Sole
 pub mod States
 pub mod lemma

@@ -1,10 +1,8 @@
 //! One connection of a capture.
 ghost use Rattle.std.specs.Prelude.{◌≡◌, ◌≢◌, ◌+◌, ◌^◌, ◌<◌, ◌≤◌, List, ℕ, false, None, Some, IfOk, OnOk, length, drop};
-ghost use Rattle.capture_log_teller.specs.Telling.{start_of, shown_of};
 ghost use Rattle.afp_serial.specs.StatusBlock.{status_block};
 ghost use Rattle.afp_serial.specs.declared.ask.Told.{Told};
 ghost use Rattle.capture_log_server.specs.lemma.Moves.{wire_or};
-ghost use Rattle.afp_core.specs.Sureness.{AreSure};
 ghost use Rattle.capture_log_server.specs.CaptureState.{after_quiet, after_loss};
 ghost use Rattle.afp_server.specs.declared.stage.Stage.{Stage};
 ghost use Rattle.dsi_frame.specs.Deframe.{GivenOut};
@@ -12,11 +10,10 @@ ghost use Rattle.dsi_frame.specs.Frame.{Frame};
 ghost use Rattle.capture_log_server.specs.lemma.States.{FeedsWire, GoesOn, is_end};
 
 use crate::difference::{Difference, first_difference};
+use crate::teller::SoleTeller;
 use afp_base::{Bytes, LinkNumber, Moment, OutOfMemory};
 use afp_serial::{Ask, House, Teller, Told};
 use afp_server::{Tally, Wire, WireEnd};
-use capture_log_teller::SureTeller;
-use record_keeper::Keeper;
 use std::alloc::Global;
 use std::marker::Model;
 
@@ -64,20 +61,18 @@ fn is_over(end: Option<WireEnd>) -> Result<bool, OutOfMemory>
 }
 
 /// Feeds bytes to a wire, and says whether it takes no more.
-fn feed_wire<K: Keeper>(
+fn feed_wire<T: SoleTeller>(
     wire: &mut Wire,
     piece: &[u8],
     now: Moment,
-    teller: &mut SureTeller<K>,
+    teller: &mut T,
     out: &mut Bytes,
 ) -> Result<bool, OutOfMemory>
     requires goes_on { wire.old.end ≡ None }
     requires live { wire.old.stage ≢ Stage.Closing }
-    requires sure { AreSure (start_of teller.old) }
     requires total { wire.old.held.place + length wire.old.held.rest + length piece.now < 2 ^ 64 }
     ensures fed { IfOk result (λ over. (bytes : List ℕ) (past : List Frame) → GivenOut bytes past wire.old.held
-        → FeedsWire now bytes past piece.now wire.old out.old (shown_of teller.old) over wire.new out.new (shown_of teller.new)) }
-    ensures fixed { start_of teller.new ≡ start_of teller.old }
+        → FeedsWire now bytes past piece.now wire.old out.old (T.shown teller.old) over wire.new out.new (T.shown teller.new)) }
     ensures goes_on { IfOk result (λ over. GoesOn over wire.new) }
     ensures block { wire.new.block ≡ wire.old.block }
     ensures total { wire.new.held.place + length wire.new.held.rest ≤ wire.old.held.place + length wire.old.held.rest + length piece.now }
@@ -148,21 +143,19 @@ impl Connection {
     }
 
     /// Feeds bytes, and tells what was answered. An error leaves it without its wire.
-    pub fn feed<K: Keeper>(
+    pub fn feed<T: SoleTeller>(
         &mut self,
         alloc: Global,
         house: &House,
         piece: &[u8],
         now: Moment,
-        teller: &mut SureTeller<K>,
+        teller: &mut T,
     ) -> Result<Tally, OutOfMemory>
         requires is { (s : Peer) × IsConnection (status_block house.now) self.old s }
         requires takes { self.old.over ≡ false }
         requires there { self.old.lost ≡ false }
-        requires sure { AreSure (start_of teller.old) }
-        ensures fixed { start_of teller.new ≡ start_of teller.old }
-        ensures fed { IfOk result (λ tally. (s : Peer) → IsConnection (status_block house.now) self.old s
-            → FeedsConnection (status_block house.now) now piece.now s (shown_of teller.old) tally self.new (shown_of teller.new)) }
+        ensures { IfOk result (λ tally. (s : Peer) → IsConnection (status_block house.now) self.old s
+            → FeedsConnection (status_block house.now) now piece.now s (T.shown teller.old) tally self.new (T.shown teller.new)) }
     {
         let Some(fed) = self.fed.checked_add(piece.len() as u64) else {
             return Err(OutOfMemory);
@@ -211,15 +204,9 @@ impl Connection {
     }
 
     /// A quiet.
-    pub fn idle<K: Keeper>(
-        &mut self,
-        now: Moment,
-        teller: &mut SureTeller<K>,
-    ) -> Result<(), OutOfMemory>
-        requires sure { AreSure (start_of teller.old) }
-        ensures fixed { start_of teller.new ≡ start_of teller.old }
-        ensures idles { OnOk result ((block : List ℕ) (s : Peer) → IsConnection block self.old s
-            → IdlesConnection (open_link s.stage) block now s (shown_of teller.old) self.new (shown_of teller.new)) }
+    pub fn idle<T: SoleTeller>(&mut self, now: Moment, teller: &mut T) -> Result<(), OutOfMemory>
+        ensures { OnOk result ((block : List ℕ) (s : Peer) → IsConnection block self.old s
+            → IdlesConnection (open_link s.stage) block now s (T.shown teller.old) self.new (T.shown teller.new)) }
     {
         match self.link() {
             Some(link) => {
@@ -239,15 +226,9 @@ impl Connection {
     }
 
     /// A loss.
-    pub fn lose<K: Keeper>(
-        &mut self,
-        now: Moment,
-        teller: &mut SureTeller<K>,
-    ) -> Result<(), OutOfMemory>
-        requires sure { AreSure (start_of teller.old) }
-        ensures fixed { start_of teller.new ≡ start_of teller.old }
-        ensures loses { OnOk result ((block : List ℕ) (s : Peer) → IsConnection block self.old s
-            → LosesConnection (open_link s.stage) block now s (shown_of teller.old) self.new (shown_of teller.new)) }
+    pub fn lose<T: SoleTeller>(&mut self, now: Moment, teller: &mut T) -> Result<(), OutOfMemory>
+        ensures { OnOk result ((block : List ℕ) (s : Peer) → IsConnection block self.old s
+            → LosesConnection (open_link s.stage) block now s (T.shown teller.old) self.new (T.shown teller.new)) }
     {
         match self.link() {
             Some(link) => {

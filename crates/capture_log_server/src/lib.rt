@@ -3,16 +3,14 @@
 
 mod connection;
 mod difference;
-mod in_memory;
-mod new_keepers;
 mod part;
 mod replay_counts;
 mod running;
 mod slots;
+mod teller;
 
 pub use difference::Difference;
-pub use in_memory::memory_keepers;
-pub use new_keepers::NewKeepers;
 pub use part::{Part, part_after};
 pub use replay_counts::ReplayCounts;
 pub use running::Running;
+pub use teller::{SoleTeller, TellerMaker};

@@ -4,57 +4,49 @@ ghost use Rattle.capture_log_lines.specs.declared.line.What.{What};
 ghost use Rattle.capture_log_server.specs.Running.{AreUnused, Happened};
 ghost use Rattle.capture_log_server.specs.Running.{HappensBy};
 ghost use Rattle.capture_log_server.specs.CaptureState.{CaptureState, is_refused_on};
-ghost use Rattle.afp_core.specs.Sureness.{AreSure};
 ghost use Rattle.afp_serial.specs.History.{stand};
 ghost use Rattle.afp_serial.specs.World.{fresh_world, volume_at};
 ghost use Rattle.capture_log_server.specs.Connections.{output};
 
 use crate::connection::Connection;
 use crate::difference::Difference;
-use crate::new_keepers::NewKeepers;
 use crate::replay_counts::ReplayCounts;
 use crate::slots::{
     compare_at, feed_at, idle_at, is_lost_at, is_over_at, is_used_at, lose_at, uncompared_at,
 };
+use crate::teller::SoleTeller;
 use afp_base::{Moment, OutOfMemory, VolumeId};
-use afp_core::{Core, CoreFault};
 use afp_serial::House;
 use afp_server::Tally;
 use capture_log_lines::{LAST_LINK, What};
-use capture_log_teller::SureTeller;
-use record_keeper::Keeper;
 use std::alloc::Global;
 use std::marker::Model;
 
-/// A house, a teller over a core that serves it, its connections, and what was counted.
+/// A house, a teller that serves it, its connections, and what was counted.
 #[derive(Drop)]
-pub struct Running<K: Keeper> {
+pub struct Running<T: SoleTeller> {
     alloc: Global,
     house: House,
-    teller: SureTeller<K>,
+    teller: T,
     connections: Vec<Connection>,
     links: u64,
     replies: u64,
     refused: u64,
 }
 
-impl<K: Keeper> Model for Running<K> {
-    ghost use Rattle.capture_log_teller.specs.Telling.{start_of, shown_of};
+impl<T: SoleTeller> Model for Running<T> {
     ghost use Rattle.capture_log_server.specs.States.{RunningState};
-    ghost use Rattle.afp_core.specs.Sureness.{AreSure};
 
     ghost Value = { RunningState };
 
     ghost view = { λ r. record {
       house = r.house;
-      teller = shown_of r.teller;
+      teller = T.shown r.teller;
       connections = r.connections.items;
       links = r.links;
       replies = r.replies;
       refused = r.refused;
     } };
-
-    ghost invariant = { λ r. AreSure (start_of r.teller) };
 }
 
 /// As many connections as there may be, one of each number.
@@ -72,48 +64,21 @@ fn no_connections(alloc: Global) -> Result<Vec<Connection>, OutOfMemory>
     Ok(connections)
 }
 
-/// The core of a house over new keepers. Their volumes are new, so each load gives one, or there is no memory.
-fn core_of<K: Keeper>(
-    alloc: Global,
-    house: &House,
-    fresh: NewKeepers<K>,
-    now: Moment,
-) -> Result<Core<K>, OutOfMemory>
-    ensures world { IfOk result (λ core. core.world ≡ fresh_world house.now now) }
-    ensures sure { IfOk result (λ core. AreSure core) }
-{
-    let keepers = fresh.first(house.volumes().len())?;
-    match Core::new(alloc, house, keepers, now) {
-        Ok(core) => Ok(core),
-        Err(fault) => match fault {
-            CoreFault::Memory => Err(OutOfMemory),
-            CoreFault::Count => unreachable!(),
-            CoreFault::Load { .. } => unreachable!(),
-        },
-    }
-}
-
-impl<K: Keeper> Running<K> {
+impl<T: SoleTeller> Running<T> {
     ghost use Rattle.std.specs.Prelude.{if◌then◌else◌};
     ghost use Rattle.capture_log_server.specs.Running.{IsFreshRunning};
+    ghost use Rattle.capture_log_server.specs.Sole.{IsFreshTeller};
     ghost use Rattle.capture_log_server.specs.Counting.{AreCaptureCounts};
 
-    /// A server that nobody has asked, from a moment on, over new keepers; those that it has no volume for are let go. With fewer
-    /// keepers than volumes there is no memory.
-    pub fn new(
-        alloc: Global,
-        house: House,
-        fresh: NewKeepers<K>,
-        now: Moment,
-    ) -> Result<Running<K>, OutOfMemory>
-        ensures { IfOk result (λ running. IsFreshRunning house now running) }
+    /// A server over a teller that nobody has asked, which serves this house from a moment on.
+    pub fn new(alloc: Global, house: House, teller: T) -> Result<Running<T>, OutOfMemory>
+        ensures { IfOk result (λ running. (now : ℕ) → IsFreshTeller house now (T.shown teller) → IsFreshRunning house now running) }
     {
-        let core = core_of(alloc, &house, fresh, now)?;
         let connections = no_connections(alloc)?;
         Ok(Running {
             alloc,
             house,
-            teller: SureTeller::new(core),
+            teller,
             connections,
             links: 0,
             replies: 0,
@@ -134,7 +99,7 @@ impl<K: Keeper> Running<K> {
         ensures { (s : CaptureState) (first : ℕ) → IsRunning self.now s first
             → result ≡ option_map (λ v. length v.rows) (volume_at (stand (fresh_world s.house first) s.history).volumes volume.0) }
     {
-        self.teller.core().nodes(volume)
+        self.teller.nodes(volume)
     }
 
     /// What of the output of the connection at a place was not compared yet.

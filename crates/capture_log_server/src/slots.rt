@@ -1,18 +1,15 @@
 //! Connections by their places.
 ghost use Rattle.std.specs.Prelude.{◌≡◌, ◌<◌, Some, length, drop, slice_get, IfOk, OnOk};
-ghost use Rattle.capture_log_teller.specs.Telling.{start_of, shown_of};
 ghost use Rattle.afp_serial.specs.StatusBlock.{status_block};
 ghost use Rattle.capture_log_server.specs.lemma.Slots.{FeedsAt, IdlesAt, LosesAt, ComparesAt, IsFit};
-ghost use Rattle.afp_core.specs.Sureness.{AreSure};
 ghost use Rattle.capture_log_server.specs.States.{ConnectionState};
 
 use crate::connection::Connection;
 use crate::difference::Difference;
+use crate::teller::SoleTeller;
 use afp_base::{Moment, OutOfMemory};
 use afp_serial::House;
 use afp_server::Tally;
-use capture_log_teller::SureTeller;
-use record_keeper::Keeper;
 use std::alloc::Global;
 
 /// Whether the connection at a place takes no more bytes.
@@ -46,50 +43,44 @@ pub fn is_lost_at(slots: &[Connection], index: usize) -> bool
 }
 
 /// Feeds bytes to it.
-pub fn feed_at<K: Keeper>(
+pub fn feed_at<T: SoleTeller>(
     slots: &mut [Connection],
     index: usize,
     alloc: Global,
     house: &House,
     piece: &[u8],
     now: Moment,
-    teller: &mut SureTeller<K>,
+    teller: &mut T,
 ) -> Result<Tally, OutOfMemory>
     requires within { index < length slots.old }
     requires fit { (c : ConnectionState) → slice_get slots.old index ≡ Some c → IsFit (status_block house.now) c }
-    requires sure { AreSure (start_of teller.old) }
-    ensures fixed { start_of teller.new ≡ start_of teller.old }
-    ensures feeds { IfOk result (λ tally. FeedsAt (status_block house.now) now piece.now slots.old index (shown_of teller.old) tally slots.new (shown_of teller.new)) }
+    ensures { IfOk result (λ tally. FeedsAt (status_block house.now) now piece.now slots.old index (T.shown teller.old) tally slots.new (T.shown teller.new)) }
 {
     slots[index].feed(alloc, house, piece, now, teller)
 }
 
 /// A quiet of it.
-pub fn idle_at<K: Keeper>(
+pub fn idle_at<T: SoleTeller>(
     slots: &mut [Connection],
     index: usize,
     now: Moment,
-    teller: &mut SureTeller<K>,
+    teller: &mut T,
 ) -> Result<(), OutOfMemory>
-    requires within { index < length slots.old }
-    requires sure { AreSure (start_of teller.old) }
-    ensures fixed { start_of teller.new ≡ start_of teller.old }
-    ensures idles { OnOk result (IdlesAt now slots.old index (shown_of teller.old) slots.new (shown_of teller.new)) }
+    requires { index < length slots.old }
+    ensures { OnOk result (IdlesAt now slots.old index (T.shown teller.old) slots.new (T.shown teller.new)) }
 {
     slots[index].idle(now, teller)
 }
 
 /// Its loss.
-pub fn lose_at<K: Keeper>(
+pub fn lose_at<T: SoleTeller>(
     slots: &mut [Connection],
     index: usize,
     now: Moment,
-    teller: &mut SureTeller<K>,
+    teller: &mut T,
 ) -> Result<(), OutOfMemory>
-    requires within { index < length slots.old }
-    requires sure { AreSure (start_of teller.old) }
-    ensures fixed { start_of teller.new ≡ start_of teller.old }
-    ensures loses { OnOk result (LosesAt now slots.old index (shown_of teller.old) slots.new (shown_of teller.new)) }
+    requires { index < length slots.old }
+    ensures { OnOk result (LosesAt now slots.old index (T.shown teller.old) slots.new (T.shown teller.new)) }
 {
     slots[index].lose(now, teller)
 }

@@ -1,1 +1,2 @@
+pub mod FreshVolumes
 pub mod TellerLemmas

@@ -1,2 +1,4 @@
+pub mod Keepers
 pub mod Telling
 pub mod Turning
+pub mod lemma

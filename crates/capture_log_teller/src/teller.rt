@@ -5,9 +5,10 @@ ghost use Rattle.afp_serial.specs.Sound.{IsSound};
 ghost use Rattle.afp_core.specs.Sureness.{AreSure, SureKept};
 
 use crate::turning::turn;
-use afp_base::{LinkNumber, Moment};
+use afp_base::{LinkNumber, Moment, VolumeId};
 use afp_core::Core;
 use afp_serial::{Ask, Entry, Outcome, Teller, Told};
+use capture_log_server::SoleTeller;
 use ghost_log::Log;
 use record_keeper::Keeper;
 use std::snapshot::Snapshot;
@@ -48,21 +49,6 @@ impl<K: Keeper> SureTeller<K> {
             log: Log::new(),
         }
     }
-
-    /// How many entries the history has.
-    pub fn entries(&self) -> u64
-        ensures { result ≡ length (history_of self.now) }
-    {
-        self.count
-    }
-
-    /// The core. Its world is what the history makes of the world at the start.
-    pub fn core(&self) -> &Core<K>
-        ensures value { result.now ≡ core_of self.now }
-        ensures stands { result.now.world ≡ stand (start_of self.now).world (history_of self.now) }
-    {
-        &self.core
-    }
 }
 
 impl<K: Keeper> Teller for SureTeller<K> {
@@ -88,22 +74,35 @@ impl<K: Keeper> Teller for SureTeller<K> {
         let Some(count) = self.count.checked_add(1) else {
             return Told::Memory;
         };
-        let Ok(kept) = ask.copy() else {
-            return Told::Memory;
+        let entry = Entry {
+            link,
+            at: now,
+            ask,
+            outcome: Outcome::Done,
         };
-        match turn(&mut self.core, now, link, ask) {
+        let log = self.log.and(&entry);
+        match turn(&mut self.core, now, link, entry.ask) {
             None => Told::Memory,
             Some(told) => {
-                let entry = Entry {
-                    link,
-                    at: now,
-                    ask: kept,
-                    outcome: Outcome::Done,
-                };
-                self.log = self.log.and(&entry);
+                self.log = log;
                 self.count = count;
                 told
             }
         }
+    }
+}
+
+impl<K: Keeper> SoleTeller for SureTeller<K> {
+    ghost use Rattle.std.specs.Prelude.{length};
+    ghost use Rattle.capture_log_teller.specs.lemma.Places.{same-places};
+
+    ghost sole = { λ t. record { mine = same-places (length t.log.items); faultless = t.faultless } };
+
+    fn entries(&self) -> u64 {
+        self.count
+    }
+
+    fn nodes(&self, volume: VolumeId) -> Option<usize> {
+        self.core.nodes(volume)
     }
 }

@@ -9,13 +9,13 @@ ghost use Rattle.capture_made.specs.lemma.Adding.{Adds, Exchanged, Takes};
 
 use afp_base::{Bytes, OutOfMemory};
 use capture_log::Capture;
+use capture_log_server::TellerMaker;
 use capture_made_lines::{put_in_line, put_out_line};
 use capture_made_requests::{Request, Steps, login, open_session, open_volume};
-use record_keeper::Keeper;
 use std::alloc::Global;
 
 /// Takes a line. None of those that are made is refused.
-fn take<K: Keeper>(capture: &mut Capture<K>, line: &[u8]) -> Result<(), OutOfMemory>
+fn take<M: TellerMaker>(capture: &mut Capture<M>, line: &[u8]) -> Result<(), OutOfMemory>
     requires { (s : CaptureState) × IsCapture capture.old s }
     ensures takes { OnOk result ((s : CaptureState) → IsCapture capture.old s → Takes s line.now capture.new) }
     ensures stands { OnOk result ((s : CaptureState) × IsCapture capture.new s) }
@@ -27,8 +27,8 @@ fn take<K: Keeper>(capture: &mut Capture<K>, line: &[u8]) -> Result<(), OutOfMem
 }
 
 /// Takes a line that ends with its newline, and appends it to the text.
-fn add<K: Keeper>(
-    capture: &mut Capture<K>,
+fn add<M: TellerMaker>(
+    capture: &mut Capture<M>,
     ended: &[u8],
     text: &mut Bytes,
 ) -> Result<(), OutOfMemory>
@@ -43,8 +43,8 @@ fn add<K: Keeper>(
 }
 
 /// Adds the lines of the house.
-pub(crate) fn add_house<K: Keeper>(
-    capture: &mut Capture<K>,
+pub(crate) fn add_house<M: TellerMaker>(
+    capture: &mut Capture<M>,
     text: &mut Bytes,
 ) -> Result<(), OutOfMemory>
     requires { (s : CaptureState) × IsCapture capture.old s }
@@ -67,8 +67,8 @@ pub(crate) fn add_house<K: Keeper>(
 }
 
 /// Adds the last line.
-pub(crate) fn add_end<K: Keeper>(
-    capture: &mut Capture<K>,
+pub(crate) fn add_end<M: TellerMaker>(
+    capture: &mut Capture<M>,
     text: &mut Bytes,
 ) -> Result<(), OutOfMemory>
     requires { (s : CaptureState) × IsCapture capture.old s }
@@ -79,9 +79,9 @@ pub(crate) fn add_end<K: Keeper>(
 }
 
 /// Adds a request.
-fn add_request<K: Keeper>(
+fn add_request<M: TellerMaker>(
     alloc: Global,
-    capture: &mut Capture<K>,
+    capture: &mut Capture<M>,
     request: &Request,
     text: &mut Bytes,
 ) -> Result<(), OutOfMemory>
@@ -102,9 +102,9 @@ fn add_request<K: Keeper>(
 }
 
 /// Adds the reply to it.
-fn add_reply<K: Keeper>(
+fn add_reply<M: TellerMaker>(
     alloc: Global,
-    capture: &mut Capture<K>,
+    capture: &mut Capture<M>,
     request: &Request,
     text: &mut Bytes,
 ) -> Result<(), OutOfMemory>
@@ -126,9 +126,9 @@ fn add_reply<K: Keeper>(
 }
 
 /// Adds a request and the reply to it.
-fn exchange<K: Keeper>(
+fn exchange<M: TellerMaker>(
     alloc: Global,
-    capture: &mut Capture<K>,
+    capture: &mut Capture<M>,
     request: &Request,
     text: &mut Bytes,
 ) -> Result<(), OutOfMemory>
@@ -142,9 +142,9 @@ fn exchange<K: Keeper>(
 }
 
 /// Adds DSIOpenSession, with its reply.
-fn add_open_session<K: Keeper>(
+fn add_open_session<M: TellerMaker>(
     alloc: Global,
-    capture: &mut Capture<K>,
+    capture: &mut Capture<M>,
     link: u32,
     text: &mut Bytes,
 ) -> Result<(), OutOfMemory>
@@ -158,9 +158,9 @@ fn add_open_session<K: Keeper>(
 }
 
 /// Adds FPLogin, with its reply.
-fn add_login<K: Keeper>(
+fn add_login<M: TellerMaker>(
     alloc: Global,
-    capture: &mut Capture<K>,
+    capture: &mut Capture<M>,
     link: u32,
     text: &mut Bytes,
 ) -> Result<(), OutOfMemory>
@@ -174,9 +174,9 @@ fn add_login<K: Keeper>(
 }
 
 /// Adds FPOpenVol, with its reply.
-fn add_open_volume<K: Keeper>(
+fn add_open_volume<M: TellerMaker>(
     alloc: Global,
-    capture: &mut Capture<K>,
+    capture: &mut Capture<M>,
     link: u32,
     text: &mut Bytes,
 ) -> Result<(), OutOfMemory>
@@ -190,9 +190,9 @@ fn add_open_volume<K: Keeper>(
 }
 
 /// Adds the requests that open a connection, with their replies.
-pub(crate) fn add_connection<K: Keeper>(
+pub(crate) fn add_connection<M: TellerMaker>(
     alloc: Global,
-    capture: &mut Capture<K>,
+    capture: &mut Capture<M>,
     link: u32,
     text: &mut Bytes,
 ) -> Result<(), OutOfMemory>
@@ -207,9 +207,9 @@ pub(crate) fn add_connection<K: Keeper>(
 }
 
 /// Adds the request of the next step, with its reply.
-pub(crate) fn add_step<K: Keeper>(
+pub(crate) fn add_step<M: TellerMaker>(
     alloc: Global,
-    capture: &mut Capture<K>,
+    capture: &mut Capture<M>,
     steps: &mut Steps,
     text: &mut Bytes,
 ) -> Result<(), OutOfMemory>

@@ -2,19 +2,16 @@
 ghost use Rattle.std.specs.Prelude.{◌≤◌, ℕ, List, IfOk, OnOk};
 ghost use Rattle.capture_log.specs.Taking.{IsCapture};
 ghost use Rattle.capture_log_server.specs.CaptureState.{begins};
-ghost use Rattle.capture_log_server.specs.Keepers.{AreNew};
 ghost use Rattle.capture_made_requests.specs.Requests.{most_steps};
 ghost use Rattle.capture_made.specs.Making.{Tallies};
 ghost use Rattle.capture_made.specs.lemma.Adding.{CountsEnd, HasMade, HasRun};
-ghost use Rattle.record_keeper.specs.Records.{steadily};
 
 use crate::adding::{add_end, add_step};
 use crate::making::begin;
 use afp_base::{Bytes, OutOfMemory, VolumeId};
 use capture_log::{Capture, ReplayEnd};
-use capture_log_server::NewKeepers;
+use capture_log_server::TellerMaker;
 use capture_made_requests::Steps;
-use record_keeper::Keeper;
 use std::alloc::Global;
 
 /// What is counted in a made capture: the connections that were fed, the entries of the history, the replies, those of them with a
@@ -29,9 +26,9 @@ pub struct Tallied {
 }
 
 /// Makes so many steps, and keeps no text.
-fn run_steps<K: Keeper>(
+fn run_steps<M: TellerMaker>(
     alloc: Global,
-    capture: &mut Capture<K>,
+    capture: &mut Capture<M>,
     number: u64,
     count: u32,
     text: &mut Bytes,
@@ -49,7 +46,7 @@ fn run_steps<K: Keeper>(
 }
 
 /// The counts of a capture that has ended.
-fn counts_of<K: Keeper>(capture: &Capture<K>) -> Result<Tallied, OutOfMemory>
+fn counts_of<M: TellerMaker>(capture: &Capture<M>) -> Result<Tallied, OutOfMemory>
     ensures { IfOk result (λ tallied. CountsEnd capture.now tallied) }
 {
     let Some(nodes) = capture.nodes(VolumeId(1)) else {
@@ -73,9 +70,9 @@ fn counts_of<K: Keeper>(capture: &Capture<K>) -> Result<Tallied, OutOfMemory>
 }
 
 /// Makes a new capture, and counts in it.
-fn tally_all<K: Keeper>(
+fn tally_all<M: TellerMaker>(
     alloc: Global,
-    capture: &mut Capture<K>,
+    capture: &mut Capture<M>,
     number: u64,
     steps: u32,
 ) -> Result<Tallied, OutOfMemory>
@@ -91,16 +88,15 @@ fn tally_all<K: Keeper>(
 }
 
 /// Counts in the capture that `make` writes of the same number and steps. It holds a line or two, and the server.
-pub fn tally<K: Keeper>(
+pub fn tally<M: TellerMaker>(
     alloc: Global,
-    fresh: Vec<K>,
+    fresh: M,
     number: u64,
     steps: u32,
 ) -> Result<Tallied, OutOfMemory>
-    requires keepers { AreNew (steadily K.steady K.records) K.sure fresh.items }
-    requires most { steps ≤ most_steps }
+    requires { steps ≤ most_steps }
     ensures { IfOk result (λ tallied. Tallies number steps tallied) }
 {
-    let mut capture = Capture::new(alloc, NewKeepers::new(fresh));
+    let mut capture = Capture::new(alloc, fresh);
     tally_all(alloc, &mut capture, number, steps)
 }

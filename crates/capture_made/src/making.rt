@@ -2,20 +2,17 @@
 ghost use Rattle.std.specs.Prelude.{◌≡◌, ◌<◌, ◌≤◌, [], ℕ, OnOk};
 ghost use Rattle.capture_log.specs.Taking.{IsCapture};
 ghost use Rattle.capture_log_server.specs.CaptureState.{CaptureState, begins};
-ghost use Rattle.capture_log_server.specs.Keepers.{AreNew};
 ghost use Rattle.capture_made_requests.specs.Requests.{most_steps};
 ghost use Rattle.capture_made.specs.Making.{MakesBy};
 ghost use Rattle.capture_made.specs.lemma.Adding.{FinishesBy, HasMade, MakesTo, StepsBy, WritesFront};
-ghost use Rattle.record_keeper.specs.Records.{steadily};
 
 use crate::adding::{add_connection, add_end, add_house, add_step};
 use crate::writing::write_text;
 use afp_base::{Bytes, OutOfMemory};
 use afp_outside::Sink;
 use capture_log::Capture;
-use capture_log_server::NewKeepers;
+use capture_log_server::TellerMaker;
 use capture_made_requests::Steps;
-use record_keeper::Keeper;
 use std::alloc::Global;
 
 /// How making a capture ends.
@@ -33,9 +30,9 @@ pub enum MakeEnd {
 const ROOM: usize = 65_536;
 
 /// Makes the house of a new capture, and opens its three connections.
-pub(crate) fn begin<K: Keeper>(
+pub(crate) fn begin<M: TellerMaker>(
     alloc: Global,
-    capture: &mut Capture<K>,
+    capture: &mut Capture<M>,
     text: &mut Bytes,
 ) -> Result<(), OutOfMemory>
     requires { IsCapture capture.old begins }
@@ -48,9 +45,9 @@ pub(crate) fn begin<K: Keeper>(
 }
 
 /// Makes a step, and writes what is made where it is long.
-fn make_step<K: Keeper, O: Sink>(
+fn make_step<M: TellerMaker, O: Sink>(
     alloc: Global,
-    capture: &mut Capture<K>,
+    capture: &mut Capture<M>,
     steps: &mut Steps,
     text: &mut Bytes,
     out: &mut O,
@@ -70,9 +67,9 @@ fn make_step<K: Keeper, O: Sink>(
 }
 
 /// Makes so many steps, and writes what is made as it comes.
-fn make_steps<K: Keeper, O: Sink>(
+fn make_steps<M: TellerMaker, O: Sink>(
     alloc: Global,
-    capture: &mut Capture<K>,
+    capture: &mut Capture<M>,
     number: u64,
     count: u32,
     text: &mut Bytes,
@@ -108,7 +105,11 @@ fn write_long<O: Sink>(text: &mut Bytes, out: &mut O) -> bool
 }
 
 /// Writes what is left, behind the last line.
-fn finish<K: Keeper, O: Sink>(capture: &mut Capture<K>, text: &mut Bytes, out: &mut O) -> MakeEnd
+fn finish<M: TellerMaker, O: Sink>(
+    capture: &mut Capture<M>,
+    text: &mut Bytes,
+    out: &mut O,
+) -> MakeEnd
     requires { (s : CaptureState) × IsCapture capture.old s }
     ensures { FinishesBy capture.old text.old (O.sink_state out.old) result (O.sink_state out.new) }
 {
@@ -123,9 +124,9 @@ fn finish<K: Keeper, O: Sink>(capture: &mut Capture<K>, text: &mut Bytes, out: &
 }
 
 /// Makes a new capture, and writes it.
-fn make_all<K: Keeper, O: Sink>(
+fn make_all<M: TellerMaker, O: Sink>(
     alloc: Global,
-    capture: &mut Capture<K>,
+    capture: &mut Capture<M>,
     number: u64,
     steps: u32,
     out: &mut O,
@@ -145,19 +146,17 @@ fn make_all<K: Keeper, O: Sink>(
     }
 }
 
-/// Makes the capture of a number and so many steps, over the first of keepers that hold nothing and never fail, and writes it to
-/// the sink. Its replies are those of the server. It holds 65,536 bytes of text and a line or two at most, and the server.
-pub fn make<K: Keeper, O: Sink>(
+/// Makes the capture of a number and so many steps, and writes it to the sink. Its replies are those of the server. It holds 65,536 bytes of text and a line or two at most, and the server.
+pub fn make<M: TellerMaker, O: Sink>(
     alloc: Global,
-    fresh: Vec<K>,
+    fresh: M,
     number: u64,
     steps: u32,
     out: &mut O,
 ) -> MakeEnd
-    requires keepers { AreNew (steadily K.steady K.records) K.sure fresh.items }
-    requires most { steps ≤ most_steps }
+    requires { steps ≤ most_steps }
     ensures { MakesBy number steps result (O.sink_state out.old) (O.sink_state out.new) }
 {
-    let mut capture = Capture::new(alloc, NewKeepers::new(fresh));
+    let mut capture = Capture::new(alloc, fresh);
     make_all(alloc, &mut capture, number, steps, out)
 }

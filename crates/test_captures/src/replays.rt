@@ -2,7 +2,7 @@
 use afp_base::NO_LIMIT;
 use afp_outside::StdSource;
 use capture_log::{ReplayEnd, replay};
-use capture_log_server::memory_keepers;
+use capture_log_teller::new_memory_keepers;
 use std::fs::File;
 use std::io;
 
@@ -10,7 +10,7 @@ use std::io;
 fn replay_file(rt: &HostRuntime, name: &str) -> io::Result<ReplayEnd> {
     let path = format!(in rt.alloc(); "captures/{name}")?;
     let mut source = StdSource::new(File::open(rt, path.as_str())?);
-    match memory_keepers(rt.alloc()) {
+    match new_memory_keepers(rt.alloc()) {
         Ok(keepers) => Ok(replay(rt.alloc(), keepers, &mut source, NO_LIMIT)),
         Err(_) => Ok(ReplayEnd::Memory),
     }

@@ -2,7 +2,7 @@
 use afp_base::NO_LIMIT;
 use afp_outside::{StdSink, StdSource};
 use afptool_lib::afptool_plain;
-use capture_log_server::memory_keepers;
+use capture_log_teller::memory_keepers;
 use std::fs::File;
 use std::io;
 use std::io::ErrorKind;

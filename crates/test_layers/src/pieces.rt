@@ -5,7 +5,7 @@ ghost use Rattle.afp_outside.specs.Tape.{source_of};
 use afp_base::{Bytes, OutOfMemory};
 use afp_outside::TapeSource;
 use capture_log::{ReplayEnd, replay};
-use capture_log_server::memory_keepers;
+use capture_log_teller::new_memory_keepers;
 use std::alloc::Global;
 
 /// The status of a server, and the first two bytes of the reply.
@@ -35,7 +35,7 @@ fn capture_source(
 /// How its replay ends.
 fn replayed(alloc: Global, reads: &[usize], failing: &[u64]) -> Result<ReplayEnd, OutOfMemory> {
     let mut source = capture_source(alloc, reads, failing)?;
-    let keepers = memory_keepers(alloc)?;
+    let keepers = new_memory_keepers(alloc)?;
     Ok(replay(alloc, keepers, &mut source, 1000))
 }
 

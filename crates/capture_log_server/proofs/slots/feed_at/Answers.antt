@@ -13,8 +13,8 @@ feed-requires-clause-takes g c = (c.requires.fit _ (slice_get-get_or c.args.slot
 pub feed-requires-clause-there : goal.feed-requires-clause-there
 feed-requires-clause-there g c = (c.requires.fit _ (slice_get-get_or c.args.slots.now c.args.index c.index-slots-index.result c.requires.within)).there
 
-pub returns-clause-feeds : goal.returns-clause-feeds
-returns-clause-feeds g c =
+pub returns : goal.returns
+returns g c =
     IfOk-weaker c.feed.result _ _
     (λ tally h. record { old = _; then_is = c.feed.new.self; there = slice_get-get_or c.args.slots.now c.args.index c.index-slots-index.result c.requires.within; set = refl; feeds = h })
-    c.feed.ensures.fed
+    c.feed.ensures

@@ -1,12 +1,7 @@
-use Rattle.std.proofs.Common.{ap}
-use Rattle.afp_core.specs.ServerState.{ServerState}
-use Rattle.capture_log_teller.specs.Telling.{shown_of}
-use Rattle.capture_log_server.proofs.Alone.{alone, alone-after}
 use Rattle.capture_log_server.proofs.ConnectionLemmas.{idled}
 use Rattle.capture_log_server.proofs.connection.Connection.idle.Goals as goal
 
-pub returns-in-Some-clause-idles : goal.returns-in-Some-clause-idles
-returns-in-Some-clause-idles g c =
-    idled c.args.now c.in-Some.link c.ask-told.result c.args.self.now c.pulsed.new.self (shown_of c.args.teller.now) (shown_of c.ask-told.new.self) c.link.result c.pulsed.result c.link.ensures c.in-Some.is
-    c.ask-told.ensures.asked (alone c.args.teller.now c.requires.sure) (alone-after c.args.teller.now c.ask-told.new.self c.ask-told.ensures.fixed c.requires.sure)
-    (ap (λ (x : ServerState). x.world) c.ask-told.ensures.fixed) c.pulsed.ensures.memory c.pulsed.ensures.is
+pub returns-in-Some : goal.returns-in-Some
+returns-in-Some g c =
+    idled c.args.now c.in-Some.link c.ask-told.result c.args.self.now c.pulsed.new.self (g.T.Teller.shown c.args.teller.now) (g.T.Teller.shown c.ask-told.new.self) c.link.result c.pulsed.result c.link.ensures c.in-Some.is
+    c.ask-told.ensures.asked (g.met.T.SoleTeller.sole c.args.teller.now) (g.met.T.SoleTeller.sole c.ask-told.new.self) c.pulsed.ensures.memory c.pulsed.ensures.is

@@ -1,7 +1,6 @@
 use Rattle.std.proofs.Common.{List, length, arith, sym, ap, ◌∙◌, subst}
 use Rattle.std.specs.Prelude.{slice_get, if◌then◌else◌}
 use Rattle.afp_base.specs.Counts.{counted}
-use Rattle.capture_log_teller.specs.Telling.{shown_of}
 use Rattle.afp_serial.specs.StatusBlock.{status_block}
 use Rattle.capture_log_server.specs.lemma.Slots.{FeedsAt, IsFit}
 use Rattle.capture_log_server.specs.States.{ConnectionState, RunningState}
@@ -28,11 +27,11 @@ pub returns : goal.returns
 returns g c = λ s first is started.
     let same = ap (λ (x : RunningState). x.connections) (sym c.self.view_is) ∙ sym c.as_slice.ensures.value in
     let again = ap (λ (x : RunningState). x.connections) (sym c.self.view_is) ∙ sym c.as_slice-2.ensures.value in
-    let u = shown_of c.feed_at.new.teller in
+    let u = g.T.Teller.shown c.feed_at.new.teller in
     let slots = c.feed_at.new.slots in
     let tally = c.in_ok-tally.tally in
-    let inside : FeedsAt (status_block c.self.inside.house) c.args.now c.args.piece.now c.self.inside.connections.items c.args.index (shown_of c.self.inside.teller) tally slots u =
-    subst (λ (l : List ConnectionState). FeedsAt (status_block c.self.inside.house) c.args.now c.args.piece.now l c.args.index (shown_of c.self.inside.teller) tally slots u) c.as_mut_slice.ensures.value c.in_ok-tally.ensures.feeds in
+    let inside : FeedsAt (status_block c.self.inside.house) c.args.now c.args.piece.now c.self.inside.connections.items c.args.index (g.T.Teller.shown c.self.inside.teller) tally slots u =
+    subst (λ (l : List ConnectionState). FeedsAt (status_block c.self.inside.house) c.args.now c.args.piece.now l c.args.index (g.T.Teller.shown c.self.inside.teller) tally slots u) c.as_mut_slice.ensures.value c.in_ok-tally.ensures in
     fed-there c.args.self.now c.count.new.self s first c.args.now c.args.index c.args.piece.now tally c.is_over_at.result c.is_used_at-used.result slots u is started
     (λ x at. c.is_over_at.ensures x (ap (λ (l : List ConnectionState). slice_get l c.args.index) (sym same) ∙ at)) c.if-is_over_at.false
     (λ x at. c.is_used_at-used.ensures x (ap (λ (l : List ConnectionState). slice_get l c.args.index) (sym again) ∙ at))

@@ -8,4 +8,4 @@ use Rattle.capture_log_server.proofs.running.Running.nodes.Goals as goal
 pub returns : goal.returns
 returns g c = λ s first is.
     c.nodes.ensures ∙ ap (λ (w : World). option_map (λ v. length v.rows) (volume_at w.volumes c.args.volume.0))
-    (c.core.ensures.stands ∙ world-there c.args.self.now s first _ is (ap (λ (x : RunningState). x.teller) c.self.view_is))
+    (world-there c.args.self.now s first _ is (ap (λ (x : RunningState). x.teller) c.self.view_is))

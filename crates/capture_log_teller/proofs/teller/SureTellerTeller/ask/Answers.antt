@@ -3,7 +3,6 @@ use Rattle.afp_serial.specs.Answer.{answer}
 use Rattle.afp_serial.specs.History.{entry, faults_in, is_lawful, stand}
 use Rattle.afp_serial.specs.Sound.{IsSound}
 use Rattle.afp_serial.specs.Shown.{fits_frame, is_answer_to}
-use Rattle.afp_serial.specs.declared.ask.Ask.{Ask}
 use Rattle.afp_serial.specs.declared.ask.Entry.{Entry}
 use Rattle.afp_serial.specs.declared.ask.Outcome.TheVariants.{Done}
 use Rattle.afp_serial.proofs.Grows.{asked-adds}
@@ -20,15 +19,14 @@ invariant_of-self-in-Some-turn g c =
     let begin = c.args.self.now.start.value in
     let h = c.args.self.now.log.items in
     let e : Entry = entry c.args.now c.args.link c.args.ask Done in
-    let kept = ap (λ (a : Ask). entry c.args.now c.args.link a Done) c.in-Ok.ensures in
-    let items = c.and-self.ensures ∙ (λ i. h ++ kept i ∷ []) in
+    let items = c.and-log.ensures in
     let stands = c.args.self.now.stands in
     let t : Turned c.args.self.now.core e c.in-Some-turn.told c.turn.new.core = turned_done begin c.args.self.now.core c.turn.new.core h c.args.now c.args.link c.args.ask c.in-Some-turn.told c.args.self.now.sure c.args.self.now.keepers c.args.self.now.faultless c.in-Some-turn.ensures in
     let lawful = subst (λ (l : List Entry). is_lawful begin.world l ≡ true) (sym items) (turn-lawful begin.world h c.args.self.now.core c.turn.new.core e c.in-Some-turn.told stands t c.args.self.now.lawful) in
     record {
       sure = c.args.self.now.sure;
       sound = c.args.self.now.sound;
-      sound_at = stand-sound begin.world c.and-self.result.items c.args.self.now.sound lawful;
+      sound_at = stand-sound begin.world c.and-log.result.items c.args.self.now.sound lawful;
       lawful = lawful;
       stands = turn-stands begin.world h c.args.self.now.core c.turn.new.core e c.in-Some-turn.told stands t ∙ ap (stand begin.world) (sym items);
       keepers = turn-kept begin c.args.self.now.core c.turn.new.core e c.in-Some-turn.told t c.args.self.now.keepers;
@@ -41,8 +39,7 @@ returns-in-Some-turn-clause-asked g c =
     let begin = c.args.self.now.start.value in
     let h = c.args.self.now.log.items in
     let e : Entry = entry c.args.now c.args.link c.args.ask Done in
-    let kept = ap (λ (a : Ask). entry c.args.now c.args.link a Done) c.in-Ok.ensures in
-    let items = c.and-self.ensures ∙ (λ i. h ++ kept i ∷ []) in
+    let items = c.and-log.ensures in
     let t : Turned c.args.self.now.core e c.in-Some-turn.told c.turn.new.core = turned_done begin c.args.self.now.core c.turn.new.core h c.args.now c.args.link c.args.ask c.in-Some-turn.told c.args.self.now.sure c.args.self.now.keepers c.args.self.now.faultless c.in-Some-turn.ensures in
     let none : h ≡ h ++ [] = sym (append-nil h) in
     asked-adds _ _ c.args.now c.args.link c.args.ask c.in-Some-turn.told (answer-told c.args.self.now.core.world e c.in-Some-turn.told t.serial) record {

@@ -1,6 +1,6 @@
 //! Keepers that nobody has used.
 ghost use Rattle.std.specs.Prelude.{◌≡◌, length, IfOk};
-ghost use Rattle.capture_log_server.specs.Keepers.{AreNew};
+ghost use Rattle.capture_log_teller.specs.Keepers.{AreNew};
 ghost use Rattle.record_keeper.specs.Records.{steadily};
 
 use afp_base::OutOfMemory;
@@ -17,7 +17,7 @@ pub struct NewKeepers<K: Keeper> {
 
 impl<K: Keeper> Model for NewKeepers<K> {
     ghost use Rattle.std.specs.Prelude.{ℕ, length};
-    ghost use Rattle.capture_log_server.specs.Keepers.{AreNew};
+    ghost use Rattle.capture_log_teller.specs.Keepers.{AreNew};
     ghost use Rattle.record_keeper.specs.Records.{steadily};
 
     ghost Value = { ℕ };

@@ -1,8 +1,8 @@
 use Rattle.std.proofs.Common.{◌≤◌, ◌-◌, length}
 use Rattle.std.specs.Prelude.{Some}
 use Rattle.record_keeper.specs.Planned.{MemoryState, never_fails}
-use Rattle.capture_log_server.specs.Keepers.{AreNew}
-use Rattle.capture_log_server.proofs.in_memory.memory_keepers.Given as goal
+use Rattle.capture_log_teller.specs.Keepers.{AreNew}
+use Rattle.capture_log_teller.proofs.in_memory.memory_keepers.Given as goal
 
 abbrev pub invariant-loop-alloc : goal.invariant-loop-alloc
 invariant-loop-alloc l = record {

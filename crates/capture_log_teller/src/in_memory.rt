@@ -1,8 +1,10 @@
 //! Keepers in memory for a replay.
-ghost use Rattle.std.specs.Prelude.{Some, IfOk};
+ghost use Rattle.std.specs.Prelude.{◌≡◌, Some, IfOk};
+ghost use Rattle.afp_serial.specs.Limits.{most_volumes};
 ghost use Rattle.record_keeper.specs.Planned.{never_fails};
-ghost use Rattle.capture_log_server.specs.Keepers.{AreFresh};
+ghost use Rattle.capture_log_teller.specs.Keepers.{AreFresh};
 
+use crate::new_keepers::NewKeepers;
 use afp_base::OutOfMemory;
 use afp_serial::limits::MOST_VOLUMES;
 use record_keeper::MemoryKeeper;
@@ -17,4 +19,12 @@ pub fn memory_keepers(alloc: Global) -> Result<Vec<MemoryKeeper>, OutOfMemory>
         keepers.push(MemoryKeeper::new(alloc, Vec::new(alloc)))?;
     }
     Ok(keepers)
+}
+
+/// The same, as what a teller is made of.
+pub fn new_memory_keepers(alloc: Global) -> Result<NewKeepers<MemoryKeeper>, OutOfMemory>
+    ensures { IfOk result (λ keepers. keepers ≡ most_volumes) }
+{
+    let keepers = memory_keepers(alloc)?;
+    Ok(NewKeepers::new(keepers))
 }

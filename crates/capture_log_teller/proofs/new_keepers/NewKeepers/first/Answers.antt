@@ -1,8 +1,8 @@
 use Rattle.std.proofs.Common.{List, sym, subst}
-use Rattle.capture_log_server.specs.Keepers.{AreNew}
-use Rattle.capture_log_server.proofs.FreshVolumes.{some-new}
+use Rattle.capture_log_teller.specs.Keepers.{AreNew}
+use Rattle.capture_log_teller.proofs.FreshVolumes.{some-new}
 use Rattle.record_keeper.specs.Records.{steadily}
-use Rattle.capture_log_server.proofs.new_keepers.NewKeepers.first.Goals as goal
+use Rattle.capture_log_teller.proofs.new_keepers.NewKeepers.first.Goals as goal
 
 pub returns-clause-new : goal.returns-clause-new
 returns-clause-new g c =

@@ -1,6 +1,6 @@
-use Rattle.capture_log_server.proofs.FreshVolumes.{new-world, new-sure, not-load}
+use Rattle.capture_log_teller.proofs.FreshVolumes.{new-world, new-sure, not-load}
 use Rattle.record_keeper.specs.Records.{steadily}
-use Rattle.capture_log_server.proofs.running.core_of.Goals as goal
+use Rattle.capture_log_teller.proofs.making.core_of.Goals as goal
 
 pub returns-in-Ok-clause-world : goal.returns-in-Ok-clause-world
 returns-in-Ok-clause-world g c = new-world (steadily g.K.Keeper.steady g.K.Keeper.records) g.K.Keeper.sure g.K.Keeper.faults c.args.house.now c.args.now c.in_ok-keepers.keepers.items c.in-Ok.core c.in-Ok.ensures.start c.in_ok-keepers.ensures.new

@@ -2,9 +2,9 @@ use Rattle.std.proofs.Common.{rules, ◌≡◌, ap, ◌∙◌, sym, subst, [], �
 use Rattle.std.specs.Prelude.{Some, Option}
 use Rattle.record_keeper.specs.Planned.{MemoryState, never_fails}
 use Rattle.record_keeper.specs.Records.{Records}
-use Rattle.capture_log_server.specs.Keepers.{AreNew, IsNew}
-use Rattle.capture_log_server.proofs.FreshVolumes.{one-more}
-use Rattle.capture_log_server.proofs.in_memory.memory_keepers.Goals as goal
+use Rattle.capture_log_teller.specs.Keepers.{AreNew, IsNew}
+use Rattle.capture_log_teller.proofs.FreshVolumes.{one-more}
+use Rattle.capture_log_teller.proofs.in_memory.memory_keepers.Goals as goal
 
 pub loop-alloc-preserved : goal.loop-alloc-preserved
 loop-alloc-preserved c =

@@ -16,7 +16,7 @@ use Rattle.afp_core_keepers.specs.declared.core_fault.CoreFault.TheVariants as c
 use Rattle.afp_serial.specs.Household.{Household}
 use Rattle.afp_serial.specs.World.{fresh_world, start_world}
 use Rattle.volume_spec.specs.VolumeState.{VolumeState, fresh_volume}
-use Rattle.capture_log_server.specs.Keepers.{AreNew, IsNew}
+use Rattle.capture_log_teller.specs.Keepers.{AreNew, IsNew}
 use Rattle.volume_keeper_commit.specs.Kept.{KeptState}
 use Rattle.record_keeper.specs.Records.{Records}
 use Rattle.volume_keeper.specs.Loading.{IsFaultIn}
