@@ -1,7 +1,8 @@
 /* Answers frames of the sizes that the file server answers, and does nothing else: a read with as many bytes as it asks for, any other
-   request with four bytes. echo PORT LARGEST serves one link, where a read of the link takes at most LARGEST bytes. echo PORT LARGEST WORKERS serves
-   links until it is killed, so many at once, each worker one after the other. With a fourth word it keeps the bytes of writes in a store of 1 MiB for
-   each worker, and answers reads with those, which is the one copy that no file server can do without. */
+   request with as many as the last four bytes of its header say, or else with four. echo PORT LARGEST WORKERS serves links until it is killed, so many at once,
+   each worker one after the other; a read of the link takes at most LARGEST bytes. With a fourth word it keeps the bytes of writes in a store of 1 MiB for
+   each worker, and answers reads with those, which is the one copy that no file server can do without. Store and buffers are filled first, so that no page
+   of zeros stands for them all. */
 #include "frames.h"
 #include <netinet/in.h>
 #include <netinet/tcp.h>
@@ -27,13 +28,14 @@ static unsigned char *place_of(struct worker *w, uint32_t at, uint32_t size) { r
 /* The size of the reply to the frame in `in`; its bytes come from the store, where there is one, and those of a write go there. */
 static uint32_t reply_size(struct worker *w, uint32_t length) {
   unsigned char *block = w->in + HEADER;
+  uint32_t wanted = word(w->in + 12);
   if (length >= 12 && block[0] == FPREAD) {
     uint32_t count = word(block + 8), size = count > PAYLOAD ? PAYLOAD : count;
     if (w->store) memcpy(w->out + HEADER, place_of(w, word(block + 4), size), size);
     return size;
   }
   if (w->store && length > 12 && block[0] == FPWRITE) memcpy(place_of(w, word(block + 4), length - 12), block + 12, length - 12);
-  return 4;
+  return wanted == 0 ? 4 : wanted > PAYLOAD ? PAYLOAD : wanted;
 }
 
 static int serve(struct worker *w, int link) {
@@ -79,21 +81,19 @@ static void *work(void *given) {
 
 static struct worker *worker_at(int door, size_t largest, int stores) {
   struct worker *w = calloc(1, sizeof *w);
-  w->door = door, w->largest = largest, w->store = stores ? calloc(1, STORE) : NULL;
+  w->door = door, w->largest = largest, w->store = stores ? malloc(STORE) : NULL;
+  memset(w->out, 1, sizeof w->out);
+  if (w->store) memset(w->store, 1, STORE);
   return w;
 }
 
 int main(int count, char **words) {
-  if (count < 3) return 2;
-  int one = 1, door = socket(AF_INET, SOCK_STREAM, 0), workers = count > 3 ? atoi(words[3]) : 0;
+  if (count < 4) return 2;
+  int one = 1, door = socket(AF_INET, SOCK_STREAM, 0), workers = atoi(words[3]);
   struct sockaddr_in place = {.sin_family = AF_INET, .sin_port = htons((uint16_t)atoi(words[1])), .sin_addr.s_addr = htonl(INADDR_LOOPBACK)};
   setsockopt(door, SOL_SOCKET, SO_REUSEADDR, &one, sizeof one);
   if (bind(door, (struct sockaddr *)&place, sizeof place) != 0 || listen(door, 128) != 0) return 4;
   size_t largest = (size_t)atoi(words[2]);
-  if (workers == 0) {
-    int link = next_link(door);
-    return link < 0 ? 4 : serve(worker_at(door, largest, 0), link);
-  }
   pthread_t last;
   for (int i = 0; i < workers; i++) pthread_create(&last, NULL, work, worker_at(door, largest, count > 4));
   pthread_join(last, NULL);
