@@ -5,7 +5,7 @@ use Rattle.once_across_breaks.specs.Messages.{token_in}
 use Rattle.once_across_breaks.specs.Messages.{Call, Body, Login, Token, Rejoin, Does, Answer, Fine, MiscErr, NoMemory, Refuses}
 use Rattle.once_across_breaks.specs.Server.{set, Ask, Open, Calls, Pulse, Bye, Lost, Told, Opened, Reply, Live, Parted, Displaced, Ran, Entry, entry, Machine}
 use Rattle.once_across_breaks.specs.Run.{token_told, Request, Opens, Asks, Slot, Idle, Coming, Going, Link, blank, Stage, Opening, Entering, Joining, Ready, Gone, Wait, Client, Run, Wish, Event, Commands, ToServer, ToClient, Quiet, Loses, Drains, Ends, Breaks, Others, id_of, with_slot, with_link, with_client, tells, ends_link, drops, replies, calls_by, calls, sweeps, opens_by, opens_told, opens, arrives, to_server, quiet_by, quiet, parts, commands, draws, opens_with, in_stage, holding, again, same_request, steps_on, takes_step, with_result, sent_again, takes_reply, takes_for, takes, to_client, stage_anew, begins, breaks, step, run_of, start}
-use Rattle.once_across_breaks.specs.Frames.{token_taken, End, Handled, dropped, replied, call_told, call_entry, call_by, handles_call, open_told, handles_open, handles, Taken, wrote, again_writes, step_taken, opening_taken, reply_taken, waiting_taken, client_takes, Carrier, Net, fresh_end, net_tells, net_ends, net_commands, replies_of, net_handled, net_arrives, net_to_server, net_taken, net_to_client, net_breaks, net_quiet_by, net_quiet, net_parts, net_step, net_run, net_start}
+use Rattle.once_across_breaks.specs.Frames.{HeardOpen, HeardCall, heard, tag_of, token_taken, End, Handled, dropped, replied, call_told, call_entry, call_by, handles_call, open_told, handles_open, handles, Taken, wrote, again_writes, step_taken, opening_taken, reply_taken, waiting_taken, client_takes, Carrier, Net, fresh_end, net_tells, net_ends, net_commands, replies_of, net_handled, net_arrives, net_to_server, net_taken, net_to_client, net_breaks, net_quiet_by, net_quiet, net_parts, net_step, net_run, net_start}
 use Rattle.once_across_breaks.specs.Once.{is_again, Allowed, AllAllowed, OnceInOrder}
 use Rattle.once_across_breaks.specs.Frames.{is_again_first, NetAllowed, AllNetAllowed, NetOnce, CommandsOnceCarried, OneFrame}
 use Rattle.once_across_breaks.specs.Server.{Server}
@@ -212,12 +212,12 @@ reply-both run r w NoMemory going =
     (both-client run r NoMemory (sent_again run.client w) (Coming again) (again ∷ []) going refl refl (locked-some run.client.stage (record { id = id_of run.client.first run.client.drawn; seq = run.client.drawn; call = w.call; tries = suc w.tries }) (Coming again)))
     (result-both run r w NoMemory going)
 
-waiting-both : {W : Type 0} (run : Run W) (wait : Option Wait) (r : Request) (a : Answer) → Locked run → (run.links run.top).slot ≡ Going r a → Both run (takes_for run wait r a) (waiting_taken run.client wait r a)
+waiting-both : {W : Type 0} (run : Run W) (wait : Option Wait) (r : Request) (a : Answer) → Locked run → (run.links run.top).slot ≡ Going r a → Both run (takes_for run wait r a) (waiting_taken run.client wait (tag_of (heard r)) a)
 waiting-both run None r a l going = record { same = refl; locked = l }
 waiting-both run (Some w) Opens a l going = record { same = refl; locked = l }
 waiting-both run (Some w) (Asks id body again) a l going = both-cond run (nat_eq id w.id) (takes_reply run w a) run (reply_taken run.client w a) None (reply-both run (Asks id body again) w a going) (record { same = refl; locked = l })
 
-takes-both : {W : Type 0} (run : Run W) (stage : Stage) (r : Request) (a : Answer) → run.client.stage ≡ stage → Locked run → (run.links run.top).slot ≡ Going r a → Both run (takes run stage r a) (client_takes run.client stage r a)
+takes-both : {W : Type 0} (run : Run W) (stage : Stage) (r : Request) (a : Answer) → run.client.stage ≡ stage → Locked run → (run.links run.top).slot ≡ Going r a → Both run (takes run stage r a) (client_takes run.client stage (tag_of (heard r)) a)
 takes-both run Opening r a is l going = opening-both run r a (λ ready. absurd (let e : Opening ≡ Ready = sym is ∙ ready in cc)) l going
 takes-both run Entering r a is l going = opening-both run r a (λ ready. absurd (let e : Entering ≡ Ready = sym is ∙ ready in cc)) l going
 takes-both run Joining r a is l going = opening-both run r a (λ ready. absurd (let e : Joining ≡ Ready = sym is ∙ ready in cc)) l going
@@ -337,7 +337,7 @@ arrives-same s run i moment wish (Some link) Idle is number l = record { same = 
 arrives-same s run i moment wish None (Going r a) is number l = record { same = refl; locked = l }
 arrives-same s run i moment wish (Some link) (Going r a) is number l = record { same = refl; locked = l }
 arrives-same s run i moment wish None (Coming Opens) coming number l =
-    subst (λ o. Same (opens s (sweeps s run 0 moment wish.no_sweep) i moment wish.memory) (net_handled (flat run) i Opens [] (handles s run.world moment wish (end_of (run.links i)) o Opens))) (sym number)
+    subst (λ o. Same (opens s (sweeps s run 0 moment wish.no_sweep) i moment wish.memory) (net_handled (flat run) i Opens [] (handles s run.world moment wish (end_of (run.links i)) o HeardOpen))) (sym number)
     (by wish.no_sweep)
   where
     e : Entry
@@ -347,13 +347,13 @@ arrives-same s run i moment wish None (Coming Opens) coming number l =
     by true = subst (λ h. Same (opens s (record { client = run.client; top = run.top; links = run.links; world = run.world; history = h }) i moment wish.memory) (net_handled (flat run) i Opens [] (handles_open s run.world [] moment wish (end_of (run.links i))))) (append-nil run.history) (opens-same s run run.world [] i moment wish coming l)
     by false = opens-same s run (s.after run.world e) (e ∷ []) i moment wish coming l
 arrives-same s run i moment wish (Some link) (Coming Opens) coming number l =
-    subst (λ o. Same (drops run i) (net_handled (flat run) i Opens [] (handles s run.world moment wish (end_of (run.links i)) o Opens))) (sym number)
+    subst (λ o. Same (drops run i) (net_handled (flat run) i Opens [] (handles s run.world moment wish (end_of (run.links i)) o HeardOpen))) (sym number)
     (handled-same run i Opens (dropped run.world [] (end_of (run.links i))) run.history coming (sym (append-nil run.history)) l)
 arrives-same s run i moment wish None (Coming (Asks id body again)) coming number l =
-    subst (λ o. Same (drops run i) (net_handled (flat run) i (Asks id body again) [] (handles s run.world moment wish (end_of (run.links i)) o (Asks id body again)))) (sym number)
+    subst (λ o. Same (drops run i) (net_handled (flat run) i (Asks id body again) [] (handles s run.world moment wish (end_of (run.links i)) o (HeardCall id body)))) (sym number)
     (handled-same run i (Asks id body again) (dropped run.world [] (end_of (run.links i))) run.history coming (sym (append-nil run.history)) l)
 arrives-same s run i moment wish (Some link) (Coming (Asks id body again)) coming number l =
-    subst (λ o. Same (calls s run i link moment wish id body again) (net_handled (flat run) i (Asks id body again) [] (handles s run.world moment wish (end_of (run.links i)) o (Asks id body again)))) (sym number)
+    subst (λ o. Same (calls s run i link moment wish id body again) (net_handled (flat run) i (Asks id body again) [] (handles s run.world moment wish (end_of (run.links i)) o (HeardCall id body)))) (sym number)
     (calls-same s run i link moment wish id body again coming l)
 
 to-server-same : {W : Type 0} (s : Machine W) (run : Run W) (i moment : ℕ) (wish : Wish) (ended : Bool) → Locked run → Same (to_server s run i moment wish ended) (net_to_server s (flat run) i moment wish ended)

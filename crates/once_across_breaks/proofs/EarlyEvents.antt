@@ -378,7 +378,7 @@ early-breaks s n w0 run h =
 pub data Always {W : Type 0} {Sound : W → Type 0} (s : Server W Sound) (n : ℕ) (w0 : W) (run : Run W) : Type 0 where
   early : EarlyRun s n w0 run → Always s n w0 run
   holds : Holds s n w0 run → Always s n w0 run
-  elsewhere : (t : List ℕ) → run.client.token ≡ Some t → (t ≡ s.token n → ⊥) → Always s n w0 run
+  elsewhere : (k : ℕ) → run.client.token ≡ Some (s.token k) → (s.token k ≡ s.token n → ⊥) → Always s n w0 run
 
 -- it reads its token: that of n
 
@@ -499,7 +499,7 @@ early-joins s n w0 run r b joins going h =
     subst (λ o. Always s n w0 (token_told run o)) (sym of.2)
     (elim (cases_eq of.0 n) [
       | inl same ↦ holds (None, reads-token s n w0 run (s.token of.0) (ap s.token same) (of.1 ∙ ap (λ k. Some k) same) h)
-      | inr other ↦ elsewhere (s.token of.0) refl (λ e. other (s.tokens_differ of.0 n within h.small e))
+      | inr other ↦ elsewhere of.0 refl (λ e. other (s.tokens_differ of.0 n within h.small e))
     ])
 
 early-steps-on : {W : Type 0} {Sound : W → Type 0} (s : Server W Sound) (n : ℕ) (w0 : W) (run : Run W) (r : Request) (stage : Stage) (token : Option (List ℕ)) (b : List ℕ)

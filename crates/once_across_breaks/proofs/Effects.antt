@@ -1,13 +1,14 @@
 -- What the law calls in effect is in effect in the history of the serial file server.
 use Rattle.std.proofs.Common.{◌≡◌, ◌∙◌, refl, sym, ap, ℕ, Bool, true, false, ◌&&◌, cond, List, [], ◌∷◌, ◌++◌, Option, Some, None}
-use Rattle.std.specs.Prelude.{map, is_none}
+use Rattle.std.specs.Prelude.{map, is_none, length, nat_le}
 use Rattle.afp_base.specs.Cached as base
 use Rattle.afp_base.specs.Cached.{Request, cached_answer}
+use Rattle.afp_base.specs.Limits.{payload_limit}
 use Rattle.afp_calls_grammar.specs.Call.{canonical_call}
 use Rattle.afp_calls_grammar.specs.Laws.{CanonicalIsReadAgain}
 use Rattle.afp_calls_grammar.specs.declared.call.Call.TheVariants as calls
 use Rattle.volume_spec.specs.TypedVolume.{are_bytes, is_long}
-use Rattle.std.proofs.lemmas.Bool.{and_from}
+use Rattle.std.proofs.lemmas.Bool.{and_from, le-leb}
 use Rattle.afp_serial.specs.declared.ask.Told as tolds
 use Rattle.afp_serial.specs.Answer.{after, answer}
 use Rattle.afp_serial.specs.SessionViews as views
@@ -29,10 +30,10 @@ written-is-read again u id (Does Logout) = logout-wish again (request_for u id (
 written-is-read again u id (Does (Other command)) = command.kept
 
 pub logins-are : CanonicalIsReadAgain → LoginsAreSetups
-logins-are again key version uam rest small small' typed = (
+logins-are again key version uam rest small small' typed short = (
   record {
     key = key;
-    login = record { write = false; offset = 0; payload = canonical_call (calls.Login version uam rest); typed = and_from (is_long 0) (are_bytes (canonical_call (calls.Login version uam rest))) refl typed };
+    login = record { write = false; offset = 0; payload = canonical_call (calls.Login version uam rest); typed = and_from (is_long 0) (are_bytes (canonical_call (calls.Login version uam rest))) refl typed; sized = and_from (nat_le (length (canonical_call (calls.Login version uam rest))) payload_limit) true (le-leb (length (canonical_call (calls.Login version uam rest))) payload_limit short) refl };
     unkept = login-wish again (wire_id 0) version uam rest small small';
   },
   refl,

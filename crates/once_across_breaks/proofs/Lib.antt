@@ -10,6 +10,7 @@ pub mod Early
 pub mod EarlyEvents
 pub mod Theorem
 pub mod Carried
+pub mod Fitting
 pub mod Spelt
 pub mod HouseStays
 pub mod Caches

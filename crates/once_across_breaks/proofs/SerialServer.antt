@@ -1,26 +1,29 @@
 -- The serial file server as a server over which the law is proved.
-use Rattle.std.proofs.Common.{arith, lit≤, ◌≡◌, ◌∙◌, refl, ap, subst, ℕ, ◌<◌, true, false, ◌&&◌, List, []}
+use Rattle.std.proofs.Common.{arith, lit≤, ◌≡◌, ◌∙◌, refl, ap, subst, ℕ, ◌<◌, ◌≤◌, Bool, true, false, ◌&&◌, List, [], length}
 use Rattle.std.proofs.lemmas.Bool.{and_from, cond_both, lt-ltb}
 use Rattle.std.proofs.Math.Nat.{mod-lt}
-use Rattle.afp_base.specs.Limits.{last_moment}
+use Rattle.afp_base.specs.Limits.{last_moment, payload_limit}
+use Rattle.afp_base.specs.declared.code.Code.{Code}
 use Rattle.afp_base.specs.declared.code.Code.TheVariants as code
 use Rattle.afp_calls_grammar.specs.Laws.{CanonicalIsReadAgain}
 use Rattle.volume_spec.specs.TypedVolume.{are_bytes, is_long, is_quad, is_word}
 use Rattle.afp_serial.specs.declared.ask.Entry as entries
+use Rattle.afp_serial.specs.declared.ask.Told as tolds
 use Rattle.afp_serial.specs.declared.ask.Told.TheVariants as told
 use Rattle.afp_serial.specs.Answer.{after, answer, committed_of, is_legal, is_legal_outcome}
-use Rattle.afp_serial.specs.Laws.{HidesNoRefusal, KeepsSound, StartsSound}
+use Rattle.afp_serial.specs.Laws.{FitsFrame, HidesNoRefusal, KeepsSound, StartsSound}
 use Rattle.afp_serial.specs.Ranges.{is_moment, is_typed_ask, is_typed_entry}
 use Rattle.afp_serial.specs.SessionViews.{AskChanges, ChangesViews, HolderIsThere, view_at}
 use Rattle.afp_serial.specs.Token.{TokensDiffer, session_token}
 use Rattle.afp_serial.specs.World.{World}
-use Rattle.once_across_breaks.specs.Messages.{Body, Does, Login, Logout, Other, Rejoin, Token, wire_id}
-use Rattle.once_across_breaks.specs.Server.{Ask, AskLaw, Bye, Calls, Drain, Entry, Fault, Lost, Open, Pulse, Ran, Sends, Server, entry, numbers_end}
-use Rattle.once_across_breaks.specs.Serial.{IsSoundUnder, Setup, ask_of, entry_of, machine, moment_of, outcome_of, told_of, view_of, written}
+use Rattle.once_across_breaks.specs.Fits.{FitsAnswer}
+use Rattle.once_across_breaks.specs.Messages.{Answer, Body, Does, Login, Logout, Other, Rejoin, Token, wire_id}
+use Rattle.once_across_breaks.specs.Server.{Ask, AskLaw, Bye, Calls, Drain, Entry, Fault, Lost, Open, Pulse, Ran, Reply, Sends, Server, entry, numbers_end}
+use Rattle.once_across_breaks.specs.Serial.{IsSoundUnder, Setup, answer_by, ask_of, entry_of, machine, moment_of, outcome_of, told_of, view_of, written}
 use Rattle.once_across_breaks.specs.Effects.{StartsUnderItsKey, StaysUnderItsKey}
 use Rattle.once_across_breaks.proofs.AskLaws.{ask-law}
 use Rattle.once_across_breaks.proofs.HouseStays.{OfHouse, entry-of-house}
-use Rattle.once_across_breaks.proofs.Wishes.{carried-typed, logout-typed, token-typed}
+use Rattle.once_across_breaks.proofs.Wishes.{carried-typed, logout-typed, token-fits, token-typed}
 
 -- what the crates below say
 pub record Laws : Type 0 where
@@ -28,11 +31,12 @@ pub record Laws : Type 0 where
   pub there : HolderIsThere
   pub faults : HidesNoRefusal
   pub keeps : KeepsSound
+  pub fits : FitsFrame
   pub differ : TokensDiffer
   pub again : CanonicalIsReadAgain
 
-pub laws-of : ChangesViews → HolderIsThere → HidesNoRefusal → KeepsSound → TokensDiffer → CanonicalIsReadAgain → Laws
-laws-of changes there faults keeps differ again = record { changes = changes; there = there; faults = faults; keeps = keeps; differ = differ; again = again }
+pub laws-of : ChangesViews → HolderIsThere → HidesNoRefusal → KeepsSound → FitsFrame → TokensDiffer → CanonicalIsReadAgain → Laws
+laws-of changes there faults keeps fits differ again = record { changes = changes; there = there; faults = faults; keeps = keeps; fits = fits; differ = differ; again = again }
 
 -- ---- what is asked is in the ranges of its fields
 
@@ -92,6 +96,24 @@ asks-answered laws u w n e sound legal =
     ask-law laws.again u n (view_at w n) (view_at (after w e') n) e.link ((view_at w n).holder e.link) e.ask e.outcome (answer w e') (λ fault. fault-tells laws u w e legal fault)
     (subst (λ key. AskChanges key n (view_at w n) e.link ((view_at w n).holder e.link) e'.ask e'.outcome (answer w e') (view_at (after w e') n)) sound.under (laws.changes w e' n sound.sound legal))
 
+-- what is told fits a frame
+answer-fits : (c : Code) (block : List ℕ) → length block ≤ payload_limit → FitsAnswer (answer_by c block)
+answer-fits code.Ok block short = short
+answer-fits code.MiscErr block short = tt
+answer-fits code.NoMemory block short = tt
+answer-fits c block short = (refl, short)
+
+told-fits : (t : tolds.Told) (a : Answer) (ends : Bool) → ((c : Code) (block : List ℕ) (last : Bool) → t ≡ told.Reply c block last → length block ≤ payload_limit) → told_of t ≡ Reply a ends → FitsAnswer a
+told-fits (told.Reply c block last) a ends short is = let same : answer_by c block ≡ a = cc in subst FitsAnswer same (answer-fits c block (short c block last refl))
+told-fits (told.Opened link) a ends short is = absurd (cc)
+told-fits (told.Live drain) a ends short is = absurd (cc)
+told-fits told.Done a ends short is = absurd (cc)
+told-fits told.Displaced a ends short is = absurd (cc)
+told-fits told.Memory a ends short is = absurd (cc)
+
+pub tells-fit : Laws → (u : Setup) (w : World) (e : Entry) (a : Answer) (ends : Bool) → IsSoundUnder u.key w → is_legal w (entry_of u e) ≡ true → told_of (answer w (entry_of u e)) ≡ Reply a ends → FitsAnswer a
+tells-fit laws u w e a ends sound legal is = told-fits (answer w (entry_of u e)) a ends (λ c block last tells. laws.fits w (entry_of u e) c block last sound.sound legal tells) is
+
 abbrev pub serial-server : Laws → (u : Setup) → Server World (IsSoundUnder u.key)
 serial-server laws u = record {
   machine = machine u;
@@ -101,5 +123,7 @@ serial-server laws u = record {
   stays_sound = λ w e sound legal. stays-under laws.keeps u.key w (entry_of u e) sound legal;
   held_is_alive = λ w n l sound holds. (laws.there w n l sound.sound holds).0;
   held_is_drawn = λ w n l sound holds. (laws.there w n l sound.sound holds).1;
+  tokens_fit = λ n. token-fits u.key n;
+  tells_fit = λ w e a ends sound legal is. tells-fit laws u w e a ends sound legal is;
   answers = λ w n e sound legal. asks-answered laws u w n e sound legal;
 }

@@ -127,16 +127,16 @@ keeps-token s t run (Others e) h = h
 
 -- ---- every run
 
-always-step : {W : Type 0} {Sound : W → Type 0} (s : Server W Sound) (n : ℕ) (w0 : W) (run : Run W) (e : Event) → Allowed s.machine n run e → run.client.row < 1900 → Always s n w0 run → Always s n w0 (step s.machine run e)
+pub always-step : {W : Type 0} {Sound : W → Type 0} (s : Server W Sound) (n : ℕ) (w0 : W) (run : Run W) (e : Event) → Allowed s.machine n run e → run.client.row < 1900 → Always s n w0 run → Always s n w0 (step s.machine run e)
 always-step s n w0 run e ok less (early h) = step-early s n w0 run e ok h
 always-step s n w0 run e ok less (holds (ex, h)) = holds (step-held s n w0 ex run e ok less h)
-always-step s n w0 run e ok less (elsewhere t is other) = elsewhere t (keeps-token s t run e is) other
+always-step s n w0 run e ok less (elsewhere k is other) = elsewhere k (keeps-token s (s.token k) run e is) other
 
 always-run : {W : Type 0} {Sound : W → Type 0} (s : Server W Sound) (n : ℕ) (w0 : W) (run : Run W) (events : List Event) → AllAllowed s.machine n run events → run.client.row < 1900 → Always s n w0 run → Always s n w0 (run_of s.machine run events)
 always-run s n w0 run [] ok less h = h
 always-run s n w0 run (e ∷ es) (first, next, rest) less h = always-run s n w0 (step s.machine run e) es rest next (always-step s n w0 run e first less h)
 
-starts : {W : Type 0} {Sound : W → Type 0} (s : Server W Sound) (n : ℕ) (w : W) → Sound w → n < numbers_end → EarlyRun s n w (start w)
+pub starts : {W : Type 0} {Sound : W → Type 0} (s : Server W Sound) (n : ℕ) (w : W) → Sound w → n < numbers_end → EarlyRun s n w (start w)
 starts s n w sound small =
     record {
       small = small;
@@ -170,7 +170,7 @@ outstanding-is (Some w) (Some a) = (refl, refl)
 reads : {W : Type 0} {Sound : W → Type 0} (s : Server W Sound) (n : ℕ) (w0 : W) (run : Run W) → Always s n w0 run → run.client.token ≡ Some (s.token n) → OnceInOrder s.machine n w0 run
 reads s n w0 run (early h) is = absurd (let e : None ≡ Some (s.token n) = sym h.token ∙ is in cc)
 reads s n w0 run (holds (ex, h)) is = record { more = outstanding run.client.wait ex; effects = h.held.effects; at_most = outstanding-is run.client.wait ex }
-reads s n w0 run (elsewhere t has other) is = absurd (other (let e : Some t ≡ Some (s.token n) = sym has ∙ is in cc))
+reads s n w0 run (elsewhere k has other) is = absurd (other (let e : Some (s.token k) ≡ Some (s.token n) = sym has ∙ is in cc))
 
 pub commands-once : {W : Type 0} {Sound : W → Type 0} (s : Server W Sound) → CommandsOnce Sound s.machine
 commands-once s w n events sound small ok is = reads s n w (run_of s.machine (start w) events) (always-run s n w (start w) events ok (omega arith) (early (starts s n w sound small))) is
@@ -178,7 +178,7 @@ commands-once s w n events sound small ok is = reads s n w (run_of s.machine (st
 reads-none : {W : Type 0} {Sound : W → Type 0} (s : Server W Sound) (n : ℕ) (w0 : W) (run : Run W) → Always s n w0 run → run.client.token ≡ None → run.client.results ≡ []
 reads-none s n w0 run (early h) is = h.results
 reads-none s n w0 run (holds (ex, h)) is = absurd (let e : None ≡ Some (s.token n) = sym is ∙ h.held.token in cc)
-reads-none s n w0 run (elsewhere t has other) is = absurd (let e : None ≡ Some t = sym is ∙ has in cc)
+reads-none s n w0 run (elsewhere k has other) is = absurd (let e : None ≡ Some (s.token k) = sym is ∙ has in cc)
 
 pub none-without-token : {W : Type 0} {Sound : W → Type 0} (s : Server W Sound) → NoneWithoutToken Sound s.machine
 none-without-token s w n events sound small ok is = reads-none s n w (run_of s.machine (start w) events) (always-run s n w (start w) events ok (omega arith) (early (starts s n w sound small))) is

@@ -21,6 +21,7 @@ use Rattle.afp_serial.specs.Answer.{request}
 use Rattle.afp_serial.specs.KeptAnswers.{is_kept_command}
 use Rattle.afp_serial.specs.SessionViews.{AsksToken, AsksUnkept, ComesBack, LogsOut, wish_of, wish_of_call}
 use Rattle.afp_serial.specs.Token.{session_token, token_word}
+use Rattle.once_across_breaks.specs.Fits.{fits_token}
 use Rattle.once_across_breaks.specs.Messages.{Fine, most_token, token_in}
 use Rattle.once_across_breaks.specs.Serial.{answer_by, can_carry, carried}
 
@@ -119,6 +120,12 @@ token-bytes key number =
     let first : List ℕ = to_le_bytes w32 (token_word key number 0) in
     let last : List ℕ = to_le_bytes w32 (token_word key number 1) in
     all-append is_byte (big_bytes 8 number) (first ++ last) (high-typed 8 number) (all-append is_byte first last (low-typed 0 4 (token_word key number 0)) (low-typed 0 4 (token_word key number 1)))
+
+pub token-fits : (key : List ℕ) (number : ℕ) → fits_token (session_token key number) ≡ true
+token-fits key number =
+    let long = token-long key number in
+    let room : 17 ≤ most_token + 1 = lit≤ tt in
+    and_from (nat_lt (length (session_token key number)) (most_token + 1)) (are_bytes (session_token key number)) (lt-ltb (length (session_token key number)) (most_token + 1) (omega (arith, long, room))) (token-bytes key number)
 
 back-typed : (key : List ℕ) (number : ℕ) → are_bytes (canonical_call (calls.DisconnectOldSession 0 (session_token key number))) ≡ true
 unfolding canonical_call session_token

@@ -1,27 +1,49 @@
--- The same schedule over bytes: events move so many of them, and a frame is handled once it is whole.
+-- The same schedule over bytes: events move so many of them, and a frame is handled once it is whole. Of a request the bytes need not tell whether it was written
+-- before a break, and of a reply only what the client reads of it.
 use Rattle.std.specs.Prelude.{◌≡◌, ◌≢◌, ℕ, suc, ◌<◌, Bool, true, false, ◌||◌, if◌then◌else◌, List, [], ◌∷◌, ◌++◌, take, drop, Option, Some, None}
 use Rattle.once_across_breaks.specs.Messages.{Call, Does, Answer, Done, kept}
 use Rattle.once_across_breaks.specs.Server.{numbers_end, Ask, Pulse, Bye, Lost, Told, Opened, Reply, Live, Parted, Displaced, Ran, Entry, entry, set, Machine}
 use Rattle.once_across_breaks.specs.Run.{Request, Opens, Asks, Stage, Opening, Entering, Joining, Ready, Gone, Wait, Client, Wish, begins, draws, id_of, fresh_client}
 use Rattle.once_across_breaks.specs.Once.{IsOutstanding, carries, effective}
-use Rattle.once_across_breaks.specs.Frames.{End, Handled, handles, Taken, client_takes, ended_end, fresh_end}
+use Rattle.once_across_breaks.specs.Fits.{FitsAnswer, FitsBody, FitsOpening, IsId}
+use Rattle.once_across_breaks.specs.Frames.{End, Handled, Heard, HeardCall, HeardOpen, Tag, Taken, client_takes, ended_end, fresh_end, handles, heard, is_again_first, tag_of}
 
--- how a message is spelt, and the first whole one of bytes with what follows it
-pub record Codec (F : Type 0) : Type 0 where
+-- how a message is spelt, and what is read of the first whole one of bytes, with what follows it
+pub record Codec (F G : Type 0) : Type 0 where
   pub spell : F → List ℕ
-  pub front : List ℕ → Option (F × List ℕ)
+  pub front : List ℕ → Option (G × List ℕ)
 
--- a spelling is read again, and no proper first part of it is whole
-pub record IsCodec {F : Type 0} (c : Codec F) : Type 0 where
+-- the spelling of a message that fits is read again, as far as it is seen, and no proper first part of it is whole
+pub record IsCodec {F G : Type 0} (Fits : F → Type 0) (seen : F → G) (c : Codec F G) : Type 0 where
   pub nothing : c.front [] ≡ None
-  pub whole : (f : F) → c.front (c.spell f) ≡ Some (f, [])
-  pub part : (f : F) (a b : List ℕ) → a ++ b ≡ c.spell f → (b ≡ [] → ⊥) → c.front a ≡ None
+  pub whole : (f : F) → Fits f → c.front (c.spell f) ≡ Some (seen f, [])
+  pub part : (f : F) (a b : List ℕ) → Fits f → a ++ b ≡ c.spell f → (b ≡ [] → ⊥) → c.front a ≡ None
 
+-- requests, and replies with what was read of their requests
 pub record Codecs : Type 0 where
-  pub up : Codec Request
-  pub down : Codec (Request × Answer)
+  pub up : Codec Request Heard
+  pub down : Codec (Heard × Answer) (Tag × Answer)
 
--- Each link: its server end; the bytes under way to it, those that it holds, and those under way to the client. And the bytes of the newest link that the client holds.
+abbrev pub FitsRequest : Request → Type 0
+FitsRequest Opens = Unit {0}
+FitsRequest (Asks id body again) = IsId id × FitsBody body
+
+abbrev pub FitsReplyTo : Heard → Answer → Type 0
+FitsReplyTo HeardOpen a = FitsAnswer a × FitsOpening a
+FitsReplyTo (HeardCall id body) a = IsId id × FitsAnswer a
+
+abbrev pub FitsReply : Heard × Answer → Type 0
+FitsReply x = FitsReplyTo x.0 x.1
+
+abbrev pub seen_reply : Heard × Answer → Tag × Answer
+seen_reply x = (tag_of x.0, x.1)
+
+pub record AreCodecs (c : Codecs) : Type 0 where
+  pub up : IsCodec FitsRequest heard c.up
+  pub down : IsCodec FitsReply seen_reply c.down
+
+-- Each link: its server end; the bytes under way to it, those that it holds, and those under way to the client; and, which no byte tells, whether the request under
+-- way on it was written before a break. And the bytes of the newest link that the client holds.
 pub record Line (W : Type 0) : Type 0 where
   pub client : Client
   pub top : ℕ
@@ -31,6 +53,7 @@ pub record Line (W : Type 0) : Type 0 where
   pub up : ℕ → List ℕ
   pub held : ℕ → List ℕ
   pub down : ℕ → List ℕ
+  pub again : ℕ → Bool
   pub taken : List ℕ
 
 pub data ByteEvent : Type 0 where
@@ -44,18 +67,18 @@ pub data ByteEvent : Type 0 where
   Breaks : ByteEvent
   Others : (e : Entry) → ByteEvent
 
-abbrev pub spelt : {F : Type 0} → Codec F → List F → List ℕ
+abbrev pub spelt : {F G : Type 0} → Codec F G → List F → List ℕ
 spelt c [] = []
 spelt c (f ∷ fs) = c.spell f ++ spelt c fs
 
-abbrev pub spelt_reply : Codec (Request × Answer) → Request → Option Answer → List ℕ
-spelt_reply c r None = []
-spelt_reply c r (Some a) = c.spell (r, a)
+abbrev pub spelt_reply : Codec (Heard × Answer) (Tag × Answer) → Heard → Option Answer → List ℕ
+spelt_reply c h None = []
+spelt_reply c h (Some a) = c.spell (h, a)
 
 -- it asks its next command
 abbrev pub line_commands : {W : Type 0} → Codecs → Line W → Stage → Option Wait → Call → Line W
 line_commands c x Ready None call =
-    record x { client = draws x.client call 0 x.client.row x.client.results; up = set x.up x.top (x.up x.top ++ c.up.spell (Asks (id_of x.client.first x.client.drawn) (Does call) false)) }
+    record x { client = draws x.client call 0 x.client.row x.client.results; up = set x.up x.top (x.up x.top ++ c.up.spell (Asks (id_of x.client.first x.client.drawn) (Does call) false)); again = set x.again x.top false }
 line_commands c x Ready (Some w) call = x
 line_commands c x Opening w call = x
 line_commands c x Entering w call = x
@@ -63,8 +86,8 @@ line_commands c x Joining w call = x
 line_commands c x Gone w call = x
 
 -- bytes reach a server end: those that it holds then, and those still under way
-abbrev pub line_handled : {W : Type 0} → Codecs → Line W → ℕ → Request → List ℕ → List ℕ → Handled W → Line W
-line_handled c x i r rest under h =
+abbrev pub line_handled : {W : Type 0} → Codecs → Line W → ℕ → Heard → List ℕ → List ℕ → Handled W → Line W
+line_handled c x i read rest under h =
     record {
       client = x.client;
       top = x.top;
@@ -74,10 +97,11 @@ line_handled c x i r rest under h =
       ends = set x.ends i h.end;
       up = set x.up i under;
       held = set x.held i rest;
-      down = set x.down i (x.down i ++ spelt_reply c.down r h.reply);
+      down = set x.down i (x.down i ++ spelt_reply c.down read h.reply);
+      again = x.again;
     }
 
-abbrev pub line_front : {W : Type 0} → Codecs → Machine W → Line W → ℕ → ℕ → Wish → List ℕ → List ℕ → Option (Request × List ℕ) → Line W
+abbrev pub line_front : {W : Type 0} → Codecs → Machine W → Line W → ℕ → ℕ → Wish → List ℕ → List ℕ → Option (Heard × List ℕ) → Line W
 line_front c s x i moment wish holds under None = record x { up = set x.up i under; held = set x.held i holds }
 line_front c s x i moment wish holds under (Some f) = line_handled c x i f.0 f.1 under (handles s x.world moment wish (x.ends i) (x.ends i).number f.0)
 
@@ -102,9 +126,10 @@ line_taken c x holds rest under (Some t) =
       ends = set x.ends x.top (record { number = (x.ends x.top).number; ended = (x.ends x.top).ended; got = (x.ends x.top).got || t.got });
       up = set x.up x.top (x.up x.top ++ spelt c.up t.writes);
       down = set x.down x.top under;
+      again = set x.again x.top (is_again_first t.writes);
     }
 
-abbrev pub line_reply : {W : Type 0} → Codecs → Line W → List ℕ → List ℕ → Option ((Request × Answer) × List ℕ) → Line W
+abbrev pub line_reply : {W : Type 0} → Codecs → Line W → List ℕ → List ℕ → Option ((Tag × Answer) × List ℕ) → Line W
 line_reply c x holds under None = record x { down = set x.down x.top under; taken = holds }
 line_reply c x holds under (Some f) = line_taken c x holds f.1 under (client_takes x.client x.client.stage f.0.0 f.0.1)
 
@@ -123,10 +148,11 @@ line_breaks c x =
       up = set x.up (suc x.top) (c.up.spell Opens);
       held = set x.held (suc x.top) [];
       down = set x.down (suc x.top) [];
+      again = set x.again (suc x.top) false;
     }
 
 abbrev pub line_tells : {W : Type 0} → Machine W → Line W → Entry → Line W
-line_tells s x e = record { client = x.client; top = x.top; ends = x.ends; world = s.after x.world e; history = x.history ++ e ∷ []; up = x.up; held = x.held; down = x.down; taken = x.taken }
+line_tells s x e = record { client = x.client; top = x.top; ends = x.ends; world = s.after x.world e; history = x.history ++ e ∷ []; up = x.up; held = x.held; down = x.down; again = x.again; taken = x.taken }
 
 abbrev pub line_ends : {W : Type 0} → Line W → ℕ → Line W
 line_ends x i = record x { ends = set x.ends i (ended_end (x.ends i)) }
@@ -164,17 +190,14 @@ line_run c s x [] = x
 line_run c s x (e ∷ es) = line_run c s (line_step c s x e) es
 
 abbrev pub line_start : {W : Type 0} → Codecs → W → Line W
-line_start c w = record { client = fresh_client; top = 0; ends = set (λ j. fresh_end) 0 fresh_end; world = w; history = []; up = set (λ j. []) 0 (c.up.spell Opens); held = λ j. []; down = λ j. []; taken = [] }
+line_start c w = record { client = fresh_client; top = 0; ends = set (λ j. fresh_end) 0 fresh_end; world = w; history = []; up = set (λ j. []) 0 (c.up.spell Opens); held = λ j. []; down = λ j. []; again = λ j. false; taken = [] }
 
 -- ---- the premises and the theorem
 
-abbrev pub is_again_at : Option (Request × List ℕ) → Bool
-is_again_at None = false
-is_again_at (Some f) = is_again_request f.0
-  where
-    is_again_request : Request → Bool
-    is_again_request Opens = false
-    is_again_request (Asks id body again) = again
+-- a request is whole, and was written before a break
+abbrev pub is_again_at : Option (Heard × List ℕ) → Bool → Bool
+is_again_at None again = false
+is_again_at (Some f) again = again
 
 pub record OthersKeepOutOfLine {W : Type 0} (s : Machine W) (n : ℕ) (x : Line W) (e : Entry) : Type 0 where
   pub legal : s.is_legal x.world e ≡ true
@@ -183,7 +206,7 @@ pub record OthersKeepOutOfLine {W : Type 0} (s : Machine W) (n : ℕ) (x : Line 
 
 abbrev pub LineAllowed : {W : Type 0} → Codecs → Machine W → ℕ → Line W → ByteEvent → Type 0
 LineAllowed c s n x (Others e) = OthersKeepOutOfLine s n x e
-LineAllowed c s n x (ToServer i k moment wish) = wish.memory ≡ true → (x.ends i).ended ≡ false → is_again_at (c.up.front (x.held i ++ take k (x.up i))) ≡ false
+LineAllowed c s n x (ToServer i k moment wish) = wish.memory ≡ true → (x.ends i).ended ≡ false → is_again_at (c.up.front (x.held i ++ take k (x.up i))) (x.again i) ≡ false
 LineAllowed c s n x (Commands call) = Unit {0}
 LineAllowed c s n x (ToClient k) = Unit {0}
 LineAllowed c s n x (Quiet i moment wish) = Unit {0}
@@ -204,7 +227,7 @@ pub record LineOnce {W : Type 0} (s : Machine W) (n : ℕ) (w : W) (x : Line W) 
 abbrev pub CommandsOnceInBytes : {W : Type 0} → (W → Type 0) → Machine W → Type 0
 CommandsOnceInBytes {W} Sound s =
     (c : Codecs) (w : W) (n : ℕ) (events : List ByteEvent)
-    → IsCodec c.up → IsCodec c.down
+    → AreCodecs c
     → Sound w
     → n < numbers_end
     → AllLineAllowed c s n (line_start c w) events

@@ -1,6 +1,7 @@
 -- The calls in effect on a session, in a history of the serial file server; and that these are what the law speaks of.
-use Rattle.std.specs.Prelude.{◌≡◌, ◌<◌, ℕ, length, Bool, true, false, ◌&&◌, if◌then◌else◌, List, [], ◌∷◌, ◌++◌, map, None, is_none}
+use Rattle.std.specs.Prelude.{◌≡◌, ◌<◌, ◌≤◌, ℕ, length, Bool, true, false, ◌&&◌, if◌then◌else◌, List, [], ◌∷◌, ◌++◌, map, None, is_none}
 use Rattle.afp_base.specs.Cached.{Request, cached_answer}
+use Rattle.afp_base.specs.Limits.{payload_limit}
 use Rattle.afp_serial.specs.declared.ask.Ask as serial
 use Rattle.afp_serial.specs.declared.ask.Ask.TheVariants as ask
 use Rattle.afp_serial.specs.declared.ask.Entry as entries
@@ -92,13 +93,14 @@ WrittenIsRead = (u : Setup) (id : ℕ) (body : Body) → wish_of (request_for u 
 abbrev pub TokensAreCarried : Type 0
 TokensAreCarried = (key : List ℕ) (number : ℕ) → can_carry (session_token key number) ≡ true
 
--- each login whose words fit their counts is one that a client may have
+-- each login whose words fit their counts, and which a frame can carry, is one that a client may have
 abbrev pub LoginsAreSetups : Type 0
 LoginsAreSetups =
     (key version uam rest : List ℕ)
     → length version < 256
     → length uam < 256
     → are_bytes (canonical_call (calls.Login version uam rest)) ≡ true
+    → length (canonical_call (calls.Login version uam rest)) ≤ payload_limit
     → (u : Setup) × (u.key ≡ key) × (u.login.write ≡ false) × (u.login.payload ≡ canonical_call (calls.Login version uam rest))
 
 -- ---- sound worlds under a key

@@ -18,10 +18,10 @@ opening link rest = ToServer link 5 calm ∷ ToClient ∷ ToServer link 5 calm �
 
 -- two requests whose bytes no command begins
 abbrev pub first_sent : Sent
-first_sent = record { write = false; offset = 0; payload = 0 ∷ []; typed = λ i. true }
+first_sent = record { write = false; offset = 0; payload = 0 ∷ []; typed = λ i. true; sized = λ i. true }
 
 abbrev pub second_sent : Sent
-second_sent = record { write = false; offset = 0; payload = 0 ∷ 0 ∷ []; typed = λ i. true }
+second_sent = record { write = false; offset = 0; payload = 0 ∷ 0 ∷ []; typed = λ i. true; sized = λ i. true }
 
 abbrev pub FirstIsKept : Type 0
 FirstIsKept = wish_of (request_of 0 first_sent) ≡ AsksKept

@@ -7,6 +7,26 @@ use Rattle.once_across_breaks.specs.Run.{Request, Opens, Asks, Stage, Opening, E
 use Rattle.once_across_breaks.specs.Messages.{Done, kept}
 use Rattle.once_across_breaks.specs.Once.{IsOutstanding, carries, effective}
 
+-- ---- what is read of messages
+
+-- what a server end reads of a request: all but the mark
+pub data Heard : Type 0 where
+  HeardOpen : Heard
+  HeardCall : (id : ℕ) (body : Body) → Heard
+
+abbrev pub heard : Request → Heard
+heard Opens = HeardOpen
+heard (Asks id body again) = HeardCall id body
+
+-- what the client reads of the request that a reply answers: that it was OpenSession, or another one's id
+pub data Tag : Type 0 where
+  OfOpening : Tag
+  OfCall : (id : ℕ) → Tag
+
+abbrev pub tag_of : Heard → Tag
+tag_of HeardOpen = OfOpening
+tag_of (HeardCall id body) = OfCall id
+
 -- ---- a server end: what one request does there
 
 pub record End : Type 0 where
@@ -57,12 +77,12 @@ open_told w entries e Displaced = dropped w entries e
 abbrev pub handles_open : {W : Type 0} → Machine W → W → List Entry → ℕ → Wish → End → Handled W
 handles_open s w swept moment wish e = if wish.memory then replied w swept e NoMemory else open_told (s.after w (entry 0 moment Open Ran)) (swept ++ entry 0 moment Open Ran ∷ []) e (s.told w (entry 0 moment Open Ran))
 
-abbrev pub handles : {W : Type 0} → Machine W → W → ℕ → Wish → End → Option ℕ → Request → Handled W
-handles s w moment wish e None Opens =
+abbrev pub handles : {W : Type 0} → Machine W → W → ℕ → Wish → End → Option ℕ → Heard → Handled W
+handles s w moment wish e None HeardOpen =
     if wish.no_sweep then handles_open s w [] moment wish e else handles_open s (s.after w (entry 0 moment Pulse Ran)) (entry 0 moment Pulse Ran ∷ []) moment wish e
-handles s w moment wish e (Some link) Opens = dropped w [] e
-handles s w moment wish e None (Asks id body again) = dropped w [] e
-handles s w moment wish e (Some link) (Asks id body again) = handles_call s w moment wish e link id body
+handles s w moment wish e (Some link) HeardOpen = dropped w [] e
+handles s w moment wish e None (HeardCall id body) = dropped w [] e
+handles s w moment wish e (Some link) (HeardCall id body) = handles_call s w moment wish e link id body
 
 -- ---- the client: what it takes of a reply, and writes
 
@@ -103,17 +123,17 @@ reply_taken c w (Fine block) = wrote (with_result c w (Fine block)) []
 reply_taken c w MiscErr = wrote (with_result c w MiscErr) []
 reply_taken c w (Refuses code block) = wrote (with_result c w (Refuses code block)) []
 
-abbrev pub waiting_taken : Client → Option Wait → Request → Answer → Option Taken
-waiting_taken c None r a = None
-waiting_taken c (Some w) Opens a = None
-waiting_taken c (Some w) (Asks id body again) a = if nat_eq id w.id then reply_taken c w a else None
+abbrev pub waiting_taken : Client → Option Wait → Tag → Answer → Option Taken
+waiting_taken c None tag a = None
+waiting_taken c (Some w) OfOpening a = None
+waiting_taken c (Some w) (OfCall id) a = if nat_eq id w.id then reply_taken c w a else None
 
-abbrev pub client_takes : Client → Stage → Request → Answer → Option Taken
-client_takes c Opening r a = opening_taken c a
-client_takes c Entering r a = opening_taken c a
-client_takes c Joining r a = opening_taken c a
-client_takes c Ready r a = waiting_taken c c.wait r a
-client_takes c Gone r a = None
+abbrev pub client_takes : Client → Stage → Tag → Answer → Option Taken
+client_takes c Opening tag a = opening_taken c a
+client_takes c Entering tag a = opening_taken c a
+client_takes c Joining tag a = opening_taken c a
+client_takes c Ready tag a = waiting_taken c c.wait tag a
+client_takes c Gone tag a = None
 
 -- ---- links with lists of frames
 
@@ -175,7 +195,7 @@ net_handled net i r rest h =
 
 abbrev pub net_arrives : {W : Type 0} → Machine W → Net W → ℕ → ℕ → Wish → List Request → Net W
 net_arrives s net i moment wish [] = net
-net_arrives s net i moment wish (r ∷ rest) = net_handled net i r rest (handles s net.world moment wish (net.links i).end (net.links i).end.number r)
+net_arrives s net i moment wish (r ∷ rest) = net_handled net i r rest (handles s net.world moment wish (net.links i).end (net.links i).end.number (heard r))
 
 abbrev pub net_to_server : {W : Type 0} → Machine W → Net W → ℕ → ℕ → Wish → Bool → Net W
 net_to_server s net i moment wish true = net
@@ -199,7 +219,7 @@ net_taken net rest (Some t) =
 
 abbrev pub net_to_client : {W : Type 0} → Net W → List (Request × Answer) → Net W
 net_to_client net [] = net
-net_to_client net (x ∷ rest) = net_taken net rest (client_takes net.client net.client.stage x.0 x.1)
+net_to_client net (x ∷ rest) = net_taken net rest (client_takes net.client net.client.stage (tag_of (heard x.0)) x.1)
 
 abbrev pub net_breaks : {W : Type 0} → Net W → Net W
 net_breaks net = record { client = begins net.client; top = suc net.top; world = net.world; history = net.history; links = set net.links (suc net.top) (record { end = fresh_end; up = Opens ∷ []; down = [] }) }

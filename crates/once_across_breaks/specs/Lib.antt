@@ -1,4 +1,5 @@
 pub mod Messages
+pub mod Fits
 pub mod Server
 pub mod Run
 pub mod Once

@@ -1,6 +1,7 @@
 -- Requests and answers, as far as effects that come once depend on them (AFP Reference, "Login Commands" and "AFP Calls"; what is kept is this profile's).
-use Rattle.std.specs.Prelude.{◌≡◌, ℕ, ◌+◌, ◌%◌, ◌==◌, nat_lt, Bool, true, false, ◌&&◌, not, if◌then◌else◌, List, [], ◌∷◌, filter, length, drop, Option, Some, None, take}
+use Rattle.std.specs.Prelude.{◌≡◌, ℕ, ◌+◌, ◌%◌, ◌==◌, nat_eq, nat_le, nat_lt, Bool, true, false, ◌&&◌, not, if◌then◌else◌, List, [], ◌∷◌, filter, length, drop, Option, Some, None, take}
 use Rattle.afp_base.specs.Cached.{Request, is_repeat}
+use Rattle.afp_base.specs.Limits.{payload_limit}
 use Rattle.afp_base.specs.declared.code.Code.{Code}
 use Rattle.byteorder.specs.Endian.{big_number}
 use Rattle.volume_spec.specs.TypedVolume.{are_bytes, is_long}
@@ -11,12 +12,19 @@ use Rattle.afp_serial.specs.SessionViews.{SessionWish, LogsOut, AsksToken, Comes
 abbrev pub wire_id : ℕ → ℕ
 wire_id id = id % 65536
 
--- What a request of AFP carries beside its id: whether it comes in a Write, the place of a Write's data, and the payload; each in its range.
+-- what a frame can carry: at most 131,072 bytes, with the place of a Write's data among them or at their end; a Command has no such place, and 0 there
+abbrev pub is_carried : Bool → ℕ → List ℕ → Bool
+is_carried true offset payload = nat_le (length payload) payload_limit && nat_le offset (length payload)
+is_carried false offset payload = nat_le (length payload) payload_limit && nat_eq offset 0
+
+-- What a request of AFP carries beside its id: whether it comes in a Write, the place of a Write's data, and the payload; each in its range, and a frame
+-- can carry them.
 pub record Sent : Type 0 where
   pub write : Bool
   pub offset : ℕ
   pub payload : List ℕ
   pub typed : (is_long offset && are_bytes payload) ≡ true
+  pub sized : is_carried write offset payload ≡ true
 
 abbrev pub request_of : ℕ → Sent → Request
 request_of id sent = request (wire_id id) sent.write sent.offset sent.payload

@@ -2,6 +2,7 @@
 use Rattle.std.specs.Prelude.{◌≡◌, ◌≢◌, ◌⊎◌, ℕ, suc, ◌<◌, ◌≤◌, Bool, true, false, if◌then◌else◌, List, [], Option, Some, None, nat_eq}
 use Rattle.once_across_breaks.specs.Messages.{Logout, Other, Command, Sent, request_of, Body, Login, Token, Rejoin, Does, body_of, token_in, Answer, Fine, MiscErr, is_miss, is_fine, Kept, cached_call, store}
 use Rattle.afp_serial.specs.SessionViews as views
+use Rattle.once_across_breaks.specs.Fits.{FitsAnswer, fits_token}
 
 -- How many link numbers there are. A session's number is that of its first link.
 abbrev pub numbers_end : ℕ
@@ -155,4 +156,6 @@ pub record Server (W : Type 0) (Sound : W → Type 0) : Type 0 where
   pub stays_sound : (w : W) (e : Entry) → Sound w → is_legal w e ≡ true → Sound (after w e)
   pub held_is_alive : (w : W) (n l : ℕ) → Sound w → (view w n).holder l ≡ Some n → (view w n).alive ≡ true
   pub held_is_drawn : (w : W) (n l : ℕ) → Sound w → (view w n).holder l ≡ Some n → n < (view w n).next
+  pub tokens_fit : (n : ℕ) → fits_token (token n) ≡ true
+  pub tells_fit : (w : W) (e : Entry) (a : Answer) (ends : Bool) → Sound w → is_legal w e ≡ true → told w e ≡ Reply a ends → FitsAnswer a
   pub answers : (w : W) (n : ℕ) (e : Entry) → Sound w → is_legal w e ≡ true → AskLaw token n (view w n) e.link ((view w n).holder e.link) e.ask e.outcome (told w e) (view (after w e) n)

@@ -6,16 +6,16 @@ use Rattle.once_across_breaks.specs.Serial.{machine}
 use Rattle.once_across_breaks.proofs.laws.commands_take_effect_once_in_order.Goals as goal
 
 pub returns-clause-once : goal.returns-clause-once
-returns-clause-once c = λ u. commands-once (serial-server (laws-of c.asks_change_sessions_in_few_ways.ensures.changes c.asks_change_sessions_in_few_ways.ensures.there c.fault_hides_no_refusal.ensures.hides c.sound_worlds_stay_sound.ensures.keeps c.tokens_tell_sessions_apart.ensures c.what_is_written_is_read_again.ensures.again) u)
+returns-clause-once c = λ u. commands-once (serial-server (laws-of c.asks_change_sessions_in_few_ways.ensures.changes c.asks_change_sessions_in_few_ways.ensures.there c.fault_hides_no_refusal.ensures.hides c.sound_worlds_stay_sound.ensures.keeps c.sound_worlds_stay_sound.ensures.fits c.tokens_tell_sessions_apart.ensures c.what_is_written_is_read_again.ensures.again) u)
 
 pub returns-clause-carried : goal.returns-clause-carried
-returns-clause-carried c = λ u. carried-once (serial-server (laws-of c.asks_change_sessions_in_few_ways.ensures.changes c.asks_change_sessions_in_few_ways.ensures.there c.fault_hides_no_refusal.ensures.hides c.sound_worlds_stay_sound.ensures.keeps c.tokens_tell_sessions_apart.ensures c.what_is_written_is_read_again.ensures.again) u)
+returns-clause-carried c = λ u. carried-once (serial-server (laws-of c.asks_change_sessions_in_few_ways.ensures.changes c.asks_change_sessions_in_few_ways.ensures.there c.fault_hides_no_refusal.ensures.hides c.sound_worlds_stay_sound.ensures.keeps c.sound_worlds_stay_sound.ensures.fits c.tokens_tell_sessions_apart.ensures c.what_is_written_is_read_again.ensures.again) u)
 
 pub returns-clause-bytes : goal.returns-clause-bytes
-returns-clause-bytes c = λ u. bytes-once (serial-server (laws-of c.asks_change_sessions_in_few_ways.ensures.changes c.asks_change_sessions_in_few_ways.ensures.there c.fault_hides_no_refusal.ensures.hides c.sound_worlds_stay_sound.ensures.keeps c.tokens_tell_sessions_apart.ensures c.what_is_written_is_read_again.ensures.again) u)
+returns-clause-bytes c = λ u. bytes-once (serial-server (laws-of c.asks_change_sessions_in_few_ways.ensures.changes c.asks_change_sessions_in_few_ways.ensures.there c.fault_hides_no_refusal.ensures.hides c.sound_worlds_stay_sound.ensures.keeps c.sound_worlds_stay_sound.ensures.fits c.tokens_tell_sessions_apart.ensures c.what_is_written_is_read_again.ensures.again) u)
 
 pub returns-clause-none : goal.returns-clause-none
-returns-clause-none c = λ u. none-without-token (serial-server (laws-of c.asks_change_sessions_in_few_ways.ensures.changes c.asks_change_sessions_in_few_ways.ensures.there c.fault_hides_no_refusal.ensures.hides c.sound_worlds_stay_sound.ensures.keeps c.tokens_tell_sessions_apart.ensures c.what_is_written_is_read_again.ensures.again) u)
+returns-clause-none c = λ u. none-without-token (serial-server (laws-of c.asks_change_sessions_in_few_ways.ensures.changes c.asks_change_sessions_in_few_ways.ensures.there c.fault_hides_no_refusal.ensures.hides c.sound_worlds_stay_sound.ensures.keeps c.sound_worlds_stay_sound.ensures.fits c.tokens_tell_sessions_apart.ensures c.what_is_written_is_read_again.ensures.again) u)
 
 pub returns-clause-frames : goal.returns-clause-frames
 returns-clause-frames c = λ u. one-frame (machine u)
