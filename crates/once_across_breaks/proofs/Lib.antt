@@ -20,3 +20,6 @@ pub mod AskLaws
 pub mod SerialServer
 pub mod Examples
 pub mod Effects
+pub mod DsiFront
+pub mod DsiUp
+pub mod DsiDown

@@ -49,7 +49,7 @@ word-typed id = lt-ltb (wire_id id) 65536 (mod-lt id (omega arith))
 call-typed : (id offset : ℕ) (payload : List ℕ) → (is_long offset && are_bytes payload) ≡ true → (is_word (wire_id id) && (is_long offset && are_bytes payload)) ≡ true
 call-typed id offset payload typed = and_from (is_word (wire_id id)) (is_long offset && are_bytes payload) (word-typed id) typed
 
-body-typed : (u : Setup) (body : Body) → (is_long (written u body).offset && are_bytes (written u body).payload) ≡ true
+pub body-typed : (u : Setup) (body : Body) → (is_long (written u body).offset && are_bytes (written u body).payload) ≡ true
 body-typed u Login = u.login.typed
 body-typed u Token = token-typed
 body-typed u (Rejoin token) = carried-typed token

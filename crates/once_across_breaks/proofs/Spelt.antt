@@ -481,7 +481,7 @@ starts-rel {W} c w codec =
     cell = record { end = fresh_end; up = Opens ∷ []; down = [] }
 
 pub bytes-once : {W : Type 0} {Sound : W → Type 0} (s : Server W Sound) → CommandsOnceInBytes Sound s.machine
-bytes-once {W} s c w n events codecs sound small ok has =
+bytes-once {W} s c codecs w n events sound small ok has =
     let r = line-runs c s n w (start w) (line_start c w) events codecs (fitting-start s n w sound small) (starts-rel c w codecs.up) ok in
     let once : OnceInOrder s.machine n w (run_of s.machine (start w) r.events) = commands-once s w n r.events sound small r.allowed (ap (λ (y : Line W). y.client.token) (sym r.next.is) ∙ has) in
     subst (LineOnce s.machine n w) (sym r.next.is) (record { more = once.more; effects = once.effects; at_most = once.at_most })

@@ -7,6 +7,7 @@ use Rattle.std.proofs.lemmas.Bool.{and_from, and_parts, cond_both, ltb-true, lt-
 use Rattle.byteorder.specs.Endian.{big_bytes, big_number}
 use Rattle.afp_base.proofs.ListFacts.{all-append}
 use Rattle.afp_base.proofs.Numbers.{number_again}
+use Rattle.afp_base.specs.Limits.{payload_limit}
 use Rattle.afp_base.specs.declared.code.Code.{Code}
 use Rattle.afp_base.specs.declared.code.Code.TheVariants as code
 use Rattle.afp_calls_grammar.specs.Call.{IsSpellable, IsTypedCall, canonical_call, canonical_data}
@@ -80,6 +81,14 @@ pub token-typed : are_bytes (canonical_call (calls.GetSessionToken 0 None [])) �
 unfolding canonical_call
 token-typed = refl
 
+pub logout-size : length (canonical_call calls.Logout) ≤ payload_limit
+unfolding canonical_call
+logout-size = lit≤ tt
+
+pub token-size : length (canonical_call (calls.GetSessionToken 0 None [])) ≤ payload_limit
+unfolding canonical_call
+token-size = lit≤ tt
+
 empty-typed : are_bytes (canonical_call (calls.DisconnectOldSession 0 [])) ≡ true
 unfolding canonical_call
 empty-typed = refl
@@ -106,7 +115,7 @@ byte-small : (k x : ℕ) → is_byte (byte_at k x) ≡ true
 byte-small zero x = lt-ltb (byte_at 0 x) 256 (mod-lt x (omega arith))
 byte-small (suc k) x = lt-ltb (byte_at (suc k) x) 256 (mod-lt (x / 256 ^ suc k) (omega arith))
 
-high-typed : (n x : ℕ) → are_bytes (bytes_high_first n x) ≡ true
+pub high-typed : (n x : ℕ) → are_bytes (bytes_high_first n x) ≡ true
 high-typed zero x = refl
 high-typed (suc n) x = and_from (is_byte (byte_at n x)) (are_bytes (bytes_high_first n x)) (byte-small n x) (high-typed n x)
 

@@ -224,12 +224,15 @@ pub record LineOnce {W : Type 0} (s : Machine W) (n : ℕ) (w : W) (x : Line W) 
   pub effects : effective s n w x.history ≡ kept x.client.results ++ more
   pub at_most : IsOutstanding more x.client.wait
 
-abbrev pub CommandsOnceInBytes : {W : Type 0} → (W → Type 0) → Machine W → Type 0
-CommandsOnceInBytes {W} Sound s =
-    (c : Codecs) (w : W) (n : ℕ) (events : List ByteEvent)
-    → AreCodecs c
+-- over these codecs
+abbrev pub CommandsOnceOver : {W : Type 0} → (W → Type 0) → Machine W → Codecs → Type 0
+CommandsOnceOver {W} Sound s c =
+    (w : W) (n : ℕ) (events : List ByteEvent)
     → Sound w
     → n < numbers_end
     → AllLineAllowed c s n (line_start c w) events
     → (line_run c s (line_start c w) events).client.token ≡ Some (s.token n)
     → LineOnce s n w (line_run c s (line_start c w) events)
+
+abbrev pub CommandsOnceInBytes : {W : Type 0} → (W → Type 0) → Machine W → Type 0
+CommandsOnceInBytes Sound s = (c : Codecs) → AreCodecs c → CommandsOnceOver Sound s c

@@ -1,7 +1,8 @@
 -- The laws, over the serial file server: for each key of its tokens, and whatever the client logs in with.
 use Rattle.once_across_breaks.specs.Once.{CommandsOnce, NoneWithoutToken}
 use Rattle.once_across_breaks.specs.Frames.{CommandsOnceCarried, OneFrame}
-use Rattle.once_across_breaks.specs.Bytes.{CommandsOnceInBytes}
+use Rattle.once_across_breaks.specs.Bytes.{CommandsOnceInBytes, CommandsOnceOver}
+use Rattle.once_across_breaks.specs.Dsi.{dsi}
 use Rattle.once_across_breaks.specs.Serial.{IsSoundUnder, Setup, machine}
 
 -- each command of the client has its effect once and in order, over every schedule
@@ -21,3 +22,7 @@ OneFrameEach = (u : Setup) → OneFrame (machine u)
 -- and over bytes, of which each event moves some; a frame is handled once it is whole
 abbrev pub OnceInOrderInBytes : Type 0
 OnceInOrderInBytes = (u : Setup) → CommandsOnceInBytes (IsSoundUnder u.key) (machine u)
+
+-- so over the frames of the Data Stream Interface
+abbrev pub OnceInOrderOverDsi : Type 0
+OnceInOrderOverDsi = (u : Setup) → CommandsOnceOver (IsSoundUnder u.key) (machine u) (dsi u)

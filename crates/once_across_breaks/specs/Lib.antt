@@ -10,3 +10,4 @@ pub mod Serial
 pub mod Counting
 pub mod Example
 pub mod Effects
+pub mod Dsi

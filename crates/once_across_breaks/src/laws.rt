@@ -1,4 +1,5 @@
 //! The laws. Each function says one, and does nothing.
+ghost use Rattle.once_across_breaks.specs.Dsi as frames;
 ghost use Rattle.once_across_breaks.specs.Effects as history;
 ghost use Rattle.once_across_breaks.specs.Example as example;
 ghost use Rattle.once_across_breaks.specs.Laws as laws;
@@ -11,12 +12,14 @@ use afp_serial::laws::{
 
 /// Whatever breaks, is lost, comes late or is told want of memory: the calls in effect on the client's session are the requests of its
 /// results in order, each told its result, and behind them at most the command that has no result. So it is over links with one place,
-/// over links that carry lists of frames, and over bytes of which each event moves some. A client without a token has no results. On each
-/// link at most one frame is under way.
+/// over links that carry lists of frames, and over bytes of which each event moves some: for any spellings of what fits a link of which no
+/// proper first part is whole, and so for frames of the Data Stream Interface. A client without a token has no results. On each link at most
+/// one frame is under way.
 pub fn commands_take_effect_once_in_order()
     ensures once { laws.OnceInOrderAlways }
     ensures carried { laws.OnceInOrderCarried }
     ensures bytes { laws.OnceInOrderInBytes }
+    ensures dsi { laws.OnceInOrderOverDsi }
     ensures none { laws.NoTokenNoResults }
     ensures frames { laws.OneFrameEach }
 {
@@ -24,6 +27,15 @@ pub fn commands_take_effect_once_in_order()
     fault_hides_no_refusal();
     sound_worlds_stay_sound();
     tokens_tell_sessions_apart();
+    what_is_written_is_read_again();
+}
+
+/// The client's requests as frames of the Data Stream Interface, and the replies to them, are such spellings. A frame is found at the front of
+/// bytes just where a deframer gives it out.
+pub fn frames_of_dsi_are_such_spellings()
+    ensures codecs { frames.FramesAreCodecs }
+    ensures finds { frames.FindsFrame }
+{
     what_is_written_is_read_again();
 }
 

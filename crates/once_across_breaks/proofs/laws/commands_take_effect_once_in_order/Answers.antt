@@ -2,6 +2,8 @@ use Rattle.once_across_breaks.proofs.Carried.{carried-once, one-frame}
 use Rattle.once_across_breaks.proofs.SerialServer.{laws-of, serial-server}
 use Rattle.once_across_breaks.proofs.Spelt.{bytes-once}
 use Rattle.once_across_breaks.proofs.Theorem.{commands-once, none-without-token}
+use Rattle.once_across_breaks.proofs.DsiDown.{dsi-codecs}
+use Rattle.once_across_breaks.specs.Dsi.{dsi}
 use Rattle.once_across_breaks.specs.Serial.{machine}
 use Rattle.once_across_breaks.proofs.laws.commands_take_effect_once_in_order.Goals as goal
 
@@ -13,6 +15,9 @@ returns-clause-carried c = λ u. carried-once (serial-server (laws-of c.asks_cha
 
 pub returns-clause-bytes : goal.returns-clause-bytes
 returns-clause-bytes c = λ u. bytes-once (serial-server (laws-of c.asks_change_sessions_in_few_ways.ensures.changes c.asks_change_sessions_in_few_ways.ensures.there c.fault_hides_no_refusal.ensures.hides c.sound_worlds_stay_sound.ensures.keeps c.sound_worlds_stay_sound.ensures.fits c.tokens_tell_sessions_apart.ensures c.what_is_written_is_read_again.ensures.again) u)
+
+pub returns-clause-dsi : goal.returns-clause-dsi
+returns-clause-dsi c = λ u. bytes-once (serial-server (laws-of c.asks_change_sessions_in_few_ways.ensures.changes c.asks_change_sessions_in_few_ways.ensures.there c.fault_hides_no_refusal.ensures.hides c.sound_worlds_stay_sound.ensures.keeps c.sound_worlds_stay_sound.ensures.fits c.tokens_tell_sessions_apart.ensures c.what_is_written_is_read_again.ensures.again) u) (dsi u) (dsi-codecs c.what_is_written_is_read_again.ensures.again u)
 
 pub returns-clause-none : goal.returns-clause-none
 returns-clause-none c = λ u. none-without-token (serial-server (laws-of c.asks_change_sessions_in_few_ways.ensures.changes c.asks_change_sessions_in_few_ways.ensures.there c.fault_hides_no_refusal.ensures.hides c.sound_worlds_stay_sound.ensures.keeps c.sound_worlds_stay_sound.ensures.fits c.tokens_tell_sessions_apart.ensures c.what_is_written_is_read_again.ensures.again) u)
