@@ -12,6 +12,7 @@ pub mod Theorem
 pub mod Carried
 pub mod Fitting
 pub mod Spelt
+pub mod LastRequest
 pub mod HouseStays
 pub mod Caches
 pub mod Views

@@ -303,3 +303,34 @@ CommandsOnceCarried {W} Sound s =
 -- on each link at most one frame is under way, both directions together, whatever the schedule and the server
 abbrev pub OneFrame : {W : Type 0} → Machine W → Type 0
 OneFrame {W} s = (w : W) (events : List Event) (i : ℕ) → length ((net_run s (net_start w) events).links i).up + length ((net_run s (net_start w) events).links i).down ≤ 1
+
+-- ---- what is under way on the newest link
+
+abbrev pub waiting_request : Option Wait → Option Heard
+waiting_request None = None
+waiting_request (Some w) = Some (HeardCall w.id (Does w.call))
+
+-- the request whose reply the client waits for, if it waits for one
+abbrev pub request_that_waits : Client → Stage → Option Heard
+request_that_waits c Opening = Some HeardOpen
+request_that_waits c Entering = Some (HeardCall c.opening_id Login)
+request_that_waits c Joining = Some (HeardCall c.opening_id (last_body c.token))
+request_that_waits c Ready = waiting_request c.wait
+request_that_waits c Gone = None
+
+-- all these are that request; and all these are replies to it
+abbrev pub AreThat : Option Heard → List Request → Type 0
+AreThat o [] = Unit {0}
+AreThat o (r ∷ rs) = (o ≡ Some (heard r)) × AreThat o rs
+
+abbrev pub AreToThat : Option Heard → List (Request × Answer) → Type 0
+AreToThat o [] = Unit {0}
+AreToThat o (x ∷ xs) = (o ≡ Some (heard x.0)) × AreToThat o xs
+
+-- Whatever the schedule and the server: all that is under way on the newest link of a client that is not lost is its request that waits, or the reply to it.
+abbrev pub OnlyTheWaiting : {W : Type 0} → Machine W → Type 0
+OnlyTheWaiting {W} s =
+    (w : W) (events : List Event)
+    → ((net_run s (net_start w) events).client.stage ≡ Gone → ⊥)
+    → AreThat (request_that_waits (net_run s (net_start w) events).client (net_run s (net_start w) events).client.stage) ((net_run s (net_start w) events).links (net_run s (net_start w) events).top).up
+    × AreToThat (request_that_waits (net_run s (net_start w) events).client (net_run s (net_start w) events).client.stage) ((net_run s (net_start w) events).links (net_run s (net_start w) events).top).down

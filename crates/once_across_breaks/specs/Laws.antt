@@ -1,6 +1,6 @@
 -- The laws, over the serial file server: for each key of its tokens, and whatever the client logs in with.
 use Rattle.once_across_breaks.specs.Once.{CommandsOnce, NoneWithoutToken}
-use Rattle.once_across_breaks.specs.Frames.{CommandsOnceCarried, OneFrame}
+use Rattle.once_across_breaks.specs.Frames.{CommandsOnceCarried, OneFrame, OnlyTheWaiting}
 use Rattle.once_across_breaks.specs.Bytes.{CommandsOnceInBytes, CommandsOnceOver}
 use Rattle.once_across_breaks.specs.Dsi.{dsi}
 use Rattle.once_across_breaks.specs.Serial.{IsSoundUnder, Setup, machine}
@@ -18,6 +18,9 @@ OnceInOrderCarried = (u : Setup) → CommandsOnceCarried (IsSoundUnder u.key) (m
 
 abbrev pub OneFrameEach : Type 0
 OneFrameEach = (u : Setup) → OneFrame (machine u)
+
+abbrev pub OnlyTheWaitingEach : Type 0
+OnlyTheWaitingEach = (u : Setup) → OnlyTheWaiting (machine u)
 
 -- and over bytes, of which each event moves some; a frame is handled once it is whole
 abbrev pub OnceInOrderInBytes : Type 0

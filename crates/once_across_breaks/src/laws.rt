@@ -14,7 +14,7 @@ use afp_serial::laws::{
 /// results in order, each told its result, and behind them at most the command that has no result. So it is over links with one place,
 /// over links that carry lists of frames, and over bytes of which each event moves some: for any spellings of what fits a link of which no
 /// proper first part is whole, and so for frames of the Data Stream Interface. A client without a token has no results. On each link at most
-/// one frame is under way.
+/// one frame is under way; on the newest link of a client that is not lost it is its request that waits, or the reply to it.
 pub fn commands_take_effect_once_in_order()
     ensures once { laws.OnceInOrderAlways }
     ensures carried { laws.OnceInOrderCarried }
@@ -22,6 +22,7 @@ pub fn commands_take_effect_once_in_order()
     ensures dsi { laws.OnceInOrderOverDsi }
     ensures none { laws.NoTokenNoResults }
     ensures frames { laws.OneFrameEach }
+    ensures waiting { laws.OnlyTheWaitingEach }
 {
     asks_change_sessions_in_few_ways();
     fault_hides_no_refusal();

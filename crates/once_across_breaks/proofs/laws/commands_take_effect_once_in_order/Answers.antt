@@ -5,6 +5,7 @@ use Rattle.once_across_breaks.proofs.Theorem.{commands-once, none-without-token}
 use Rattle.once_across_breaks.proofs.DsiDown.{dsi-codecs}
 use Rattle.once_across_breaks.specs.Dsi.{dsi}
 use Rattle.once_across_breaks.specs.Serial.{machine}
+use Rattle.once_across_breaks.proofs.LastRequest.{only-the-waiting}
 use Rattle.once_across_breaks.proofs.laws.commands_take_effect_once_in_order.Goals as goal
 
 pub returns-clause-once : goal.returns-clause-once
@@ -24,3 +25,6 @@ returns-clause-none c = λ u. none-without-token (serial-server (laws-of c.asks_
 
 pub returns-clause-frames : goal.returns-clause-frames
 returns-clause-frames c = λ u. one-frame (machine u)
+
+pub returns-clause-waiting : goal.returns-clause-waiting
+returns-clause-waiting c = λ u. only-the-waiting (machine u)
