@@ -6,7 +6,7 @@ use Rattle.afp_base.specs.declared.code.Code.TheVariants as code
 use Rattle.dsi_frame.specs.Frame.{IsGood}
 use Rattle.dsi_frame.specs.Replies.{code_word}
 use Rattle.once_across_breaks.specs.Messages.{Answer, Fine, MiscErr, NoMemory, Refuses}
-use Rattle.once_across_breaks.specs.Fits.{FitsAnswer, FitsOpening, is_refusal}
+use Rattle.once_across_breaks.specs.Fits.{FitsAnswer, FitsOpening, IsId, is_refusal}
 use Rattle.once_across_breaks.specs.Frames.{Heard, HeardCall, HeardOpen, OfCall, OfOpening}
 use Rattle.once_across_breaks.specs.Serial.{Setup, answer_by, written}
 use Rattle.afp_calls_grammar.specs.Laws.{CanonicalIsReadAgain}
@@ -90,9 +90,9 @@ options-short MiscErr fits = lit≤ tt
 options-short NoMemory fits = lit≤ tt
 options-short (Refuses c block) fits = fits.1
 
-reply-good : (u : Setup) (h : Heard) (a : Answer) → FitsReplyTo h a → IsGood (reply_frame u h a)
-reply-good u HeardOpen a fits = record { id = lit< tt; word = (word-of (answered_code a)).small; payload = options-short a fits.0; offset = tt }
-reply-good u (HeardCall id body) a fits = record { id = omega (arith, fits.0); word = (word-of (answered_code a)).small; payload = block-short a fits.1; offset = tt }
+reply-good : (u : Setup) (last : ℕ) (h : Heard) (a : Answer) → IsId last → FitsReplyTo h a → IsGood (reply_frame u (last, h) a)
+reply-good u last HeardOpen a small fits = record { id = omega (arith, small); word = (word-of (answered_code a)).small; payload = options-short a fits.0; offset = tt }
+reply-good u last (HeardCall id body) a small fits = record { id = omega (arith, fits.0); word = (word-of (answered_code a)).small; payload = block-short a fits.1; offset = tt }
 
 -- ---- and it is read again
 
@@ -100,11 +100,11 @@ call-read : (write : Bool) (id : ℕ) (c : Code) (payload : List ℕ) → read_r
 call-read true id c payload = refl
 call-read false id c payload = refl
 
-reply-again : (u : Setup) (h : Heard) (a : Answer) → FitsReplyTo h a → read_down (Some (reply_frame u h a, [])) ≡ Some (seen_reply (h, a), [])
-reply-again u HeardOpen a fits =
-    ap (λ o. read_reply true (reply_frame u HeardOpen a).command (reply_frame u HeardOpen a).id o (told_options a) []) (word-of (answered_code a)).again
+reply-again : (u : Setup) (last : ℕ) (h : Heard) (a : Answer) → FitsReplyTo h a → read_down (Some (reply_frame u (last, h) a, [])) ≡ Some (seen_reply ((last, h), a), [])
+reply-again u last HeardOpen a fits =
+    ap (λ o. read_reply true (reply_frame u (last, HeardOpen) a).command last o (told_options a) []) (word-of (answered_code a)).again
     ∙ ap (λ x. Some ((OfOpening, x), [])) (opening-again a fits.0 fits.1)
-reply-again u (HeardCall id body) a fits =
+reply-again u last (HeardCall id body) a fits =
     ap (λ o. read_reply true (call_command (written u body).write) id o (answered_block a) []) (word-of (answered_code a)).again
     ∙ call-read (written u body).write id (answered_code a) (answered_block a)
     ∙ ap (λ x. Some ((OfCall id, x), [])) (answer-again a fits.1)
@@ -112,8 +112,8 @@ reply-again u (HeardCall id body) a fits =
 down-codec : (u : Setup) → IsCodec FitsReply seen_reply (dsi_down u)
 down-codec u = record {
   nothing = refl;
-  whole = λ x fits. ap read_down (frame-whole (reply_frame u x.0 x.1) (reply-good u x.0 x.1 fits)) ∙ reply-again u x.0 x.1 fits;
-  part = λ x a b fits same some. ap read_down (frame-part (reply_frame u x.0 x.1) a b (reply-good u x.0 x.1 fits) same some);
+  whole = λ x fits. ap read_down (frame-whole (reply_frame u x.0 x.1) (reply-good u x.0.0 x.0.1 x.1 fits.0 fits.1)) ∙ reply-again u x.0.0 x.0.1 x.1 fits.1;
+  part = λ x a b fits same some. ap read_down (frame-part (reply_frame u x.0 x.1) a b (reply-good u x.0.0 x.0.1 x.1 fits.0 fits.1) same some);
 }
 
 pub dsi-codecs : CanonicalIsReadAgain → FramesAreCodecs

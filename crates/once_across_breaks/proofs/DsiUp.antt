@@ -17,7 +17,7 @@ use Rattle.once_across_breaks.specs.Fits.{FitsBody, IsId, fits_token}
 use Rattle.once_across_breaks.specs.Run.{Asks, Opens, Request}
 use Rattle.once_across_breaks.specs.Frames.{HeardCall, heard}
 use Rattle.once_across_breaks.specs.Serial.{Setup, can_carry, carried, written}
-use Rattle.once_across_breaks.specs.Bytes.{FitsRequest, IsCodec}
+use Rattle.once_across_breaks.specs.Bytes.{FitsNumbered, IsCodec, seen_request}
 use Rattle.once_across_breaks.specs.Dsi.{call_command, dsi_up, open_frame, read_call, read_request, read_up, request_frame, sent_by, sent_of}
 use Rattle.once_across_breaks.proofs.DsiFront.{frame-part, frame-whole}
 use Rattle.once_across_breaks.proofs.Effects.{written-is-read}
@@ -69,12 +69,12 @@ call-good false id offset payload small sized =
     let none : offset ≡ 0 = eqb-true offset 0 p.1 in
     record { id = omega (arith, small); word = omega (arith, none); payload = leb-true (length payload) payload_limit p.0; offset = tt }
 
-open-good : IsGood open_frame
-open-good = record { id = lit< tt; word = lit< tt; payload = lit≤ tt; offset = tt }
+open-good : (id : ℕ) → IsId id → IsGood (open_frame id)
+open-good id small = record { id = omega (arith, small); word = lit< tt; payload = lit≤ tt; offset = tt }
 
-request-good : (u : Setup) (r : Request) → FitsRequest r → IsGood (request_frame u (heard r))
-request-good u Opens fits = open-good
-request-good u (Asks id body again) fits = call-good (written u body).write id (written u body).offset (written u body).payload fits.0 (body-sized u body fits.1)
+request-good : (u : Setup) (last : ℕ) (r : Request) → FitsNumbered (last, r) → IsGood (request_frame u last (heard r))
+request-good u last Opens fits = open-good last fits.0
+request-good u last (Asks id body again) fits = call-good (written u body).write id (written u body).offset (written u body).payload fits.0 (body-sized u body fits.1.1)
 
 -- ---- and it is read again
 
@@ -146,20 +146,20 @@ sent_for u body fits = record { write = (written u body).write; offset = (writte
 body-again : CanonicalIsReadAgain → (u : Setup) (body : Body) (fits : FitsBody body) → sent_of (written u body).write (written u body).offset (written u body).payload ≡ Some (sent_for u body fits)
 body-again again u body fits = sent-again (sent_for u body fits)
 
-asked-again : CanonicalIsReadAgain → (u : Setup) (id : ℕ) (body : Body) → FitsBody body → read_call id [] (sent_of (written u body).write (written u body).offset (written u body).payload) ≡ Some (HeardCall id body, [])
-asked-again again u id Login fits = ap (read_call id []) (sent-again u.login) ∙ ap (λ b. Some (HeardCall id b, [])) (by-login u.login (wish_here u.login) (λ i. wish_here u.login) u.unkept)
+asked-again : CanonicalIsReadAgain → (u : Setup) (id : ℕ) (body : Body) → FitsBody body → read_call id [] (sent_of (written u body).write (written u body).offset (written u body).payload) ≡ Some ((id, HeardCall id body), [])
+asked-again again u id Login fits = ap (read_call id []) (sent-again u.login) ∙ ap (λ b. Some ((id, HeardCall id b), [])) (by-login u.login (wish_here u.login) (λ i. wish_here u.login) u.unkept)
 asked-again again u id Token fits =
     let sent : Sent = sent_for u Token fits in
-    ap (read_call id []) (body-again again u Token fits) ∙ ap (λ b. Some (HeardCall id b, [])) (by-token sent (wish_here sent) (λ i. wish_here sent) (written-is-read again u 0 Token))
+    ap (read_call id []) (body-again again u Token fits) ∙ ap (λ b. Some ((id, HeardCall id b), [])) (by-token sent (wish_here sent) (λ i. wish_here sent) (written-is-read again u 0 Token))
 asked-again again u id (Rejoin token) fits =
     let sent : Sent = sent_for u (Rejoin token) fits in
     ap (read_call id []) (body-again again u (Rejoin token) fits)
-    ∙ ap (λ b. Some (HeardCall id b, [])) (by-back sent token (wish_here sent) (λ i. wish_here sent) (written-is-read again u 0 (Rejoin token) ∙ ap ComesBack (carried-whole token fits)))
+    ∙ ap (λ b. Some ((id, HeardCall id b), [])) (by-back sent token (wish_here sent) (λ i. wish_here sent) (written-is-read again u 0 (Rejoin token) ∙ ap ComesBack (carried-whole token fits)))
 asked-again again u id (Does Logout) fits =
     let sent : Sent = sent_for u (Does Logout) fits in
-    ap (read_call id []) (body-again again u (Does Logout) fits) ∙ ap (λ b. Some (HeardCall id b, [])) (by-logout sent (wish_here sent) (λ i. wish_here sent) (written-is-read again u 0 (Does Logout)))
+    ap (read_call id []) (body-again again u (Does Logout) fits) ∙ ap (λ b. Some ((id, HeardCall id b), [])) (by-logout sent (wish_here sent) (λ i. wish_here sent) (written-is-read again u 0 (Does Logout)))
 asked-again again u id (Does (Other command)) fits =
-    ap (read_call id []) (sent-again command.sent) ∙ ap (λ b. Some (HeardCall id b, [])) (by-command command (wish_here command.sent) (λ i. wish_here command.sent) command.kept)
+    ap (read_call id []) (sent-again command.sent) ∙ ap (λ b. Some ((id, HeardCall id b), [])) (by-command command (wish_here command.sent) (λ i. wish_here command.sent) command.kept)
 
 -- a Command has no place of data
 read-is : (write : Bool) (id offset : ℕ) (payload : List ℕ) → is_carried write offset payload ≡ true → read_request false (call_command write) id offset payload [] ≡ read_call id [] (sent_of write offset payload)
@@ -168,13 +168,13 @@ read-is false id offset payload sized =
     let none : offset ≡ 0 = eqb-true offset 0 (and_parts (nat_le (length payload) payload_limit) (nat_eq offset 0) sized).1 in
     ap (λ o. read_call id [] (sent_of false o payload)) (sym none)
 
-read-again : CanonicalIsReadAgain → (u : Setup) (r : Request) → FitsRequest r → read_up (Some (request_frame u (heard r), [])) ≡ Some (heard r, [])
-read-again again u Opens fits = refl
-read-again again u (Asks id body mark) fits = read-is (written u body).write id (written u body).offset (written u body).payload (body-sized u body fits.1) ∙ asked-again again u id body fits.1
+read-again : CanonicalIsReadAgain → (u : Setup) (last : ℕ) (r : Request) → FitsNumbered (last, r) → read_up (Some (request_frame u last (heard r), [])) ≡ Some (seen_request (last, r), [])
+read-again again u last Opens fits = refl
+read-again again u last (Asks id body mark) fits = read-is (written u body).write id (written u body).offset (written u body).payload (body-sized u body fits.1.1) ∙ asked-again again u id body fits.1.1
 
-pub up-codec : CanonicalIsReadAgain → (u : Setup) → IsCodec FitsRequest heard (dsi_up u)
+pub up-codec : CanonicalIsReadAgain → (u : Setup) → IsCodec FitsNumbered seen_request (dsi_up u)
 up-codec again u = record {
   nothing = refl;
-  whole = λ r fits. ap read_up (frame-whole (request_frame u (heard r)) (request-good u r fits)) ∙ read-again again u r fits;
-  part = λ r a b fits same some. ap read_up (frame-part (request_frame u (heard r)) a b (request-good u r fits) same some);
+  whole = λ x fits. ap read_up (frame-whole (request_frame u x.0 (heard x.1)) (request-good u x.0 x.1 fits)) ∙ read-again again u x.0 x.1 fits;
+  part = λ x a b fits same some. ap read_up (frame-part (request_frame u x.0 (heard x.1)) a b (request-good u x.0 x.1 fits) same some);
 }

@@ -9,7 +9,7 @@ use Rattle.once_across_breaks.specs.Server.{Ask, AskLaw, Bye, Calls, Displaced, 
 use Rattle.once_across_breaks.specs.Run.{Asks, Breaks, Client, Coming, Commands, Drains, Ends, Entering, Event, Going, Gone, Joining, Loses, Opening, Opens, Others, Quiet, Ready, Request, Run, Slot, Stage, ToClient, ToServer, Wait, Wish, id_of, in_stage, last_body, opens_with, run_of, same_request, sent_again, stage_anew, start, step, with_result}
 use Rattle.once_across_breaks.specs.Once.{AllAllowed, Allowed}
 use Rattle.once_across_breaks.specs.Frames.{Carrier, End, Handled, Heard, HeardCall, HeardOpen, Net, OfCall, OfOpening, Tag, Taken, again_writes, call_by, call_entry, call_told, client_takes, ended_end, fresh_end, handles, handles_call, handles_open, heard, net_arrives, net_breaks, net_commands, net_ends, net_parts, net_quiet, net_quiet_by, net_step, net_taken, net_tells, net_to_client, net_to_server, open_told, opening_taken, replied, replies_of, reply_taken, step_taken, tag_of, token_taken, waiting_taken, wrote}
-use Rattle.once_across_breaks.specs.Bytes.{FitsReplyTo, FitsRequest}
+use Rattle.once_across_breaks.specs.Bytes.{FitsReplyTo, FitsRequest, own_id}
 use Rattle.once_across_breaks.proofs.Steps.{upd}
 use Rattle.once_across_breaks.proofs.EarlyEvents.{Always, early, elsewhere, holds}
 use Rattle.once_across_breaks.proofs.Theorem.{always-step, starts}
@@ -18,6 +18,11 @@ use Rattle.once_across_breaks.proofs.Carried.{Locked, downs, end_of, flat, locke
 abbrev pub AllFit : List Request → Type 0
 AllFit [] = Unit {0}
 AllFit (r ∷ rs) = FitsRequest r × AllFit rs
+
+-- their ids, in an opening with that last id
+abbrev pub AllIds : ℕ → List Request → Type 0
+AllIds last [] = Unit {0}
+AllIds last (r ∷ rs) = IsId (own_id last r) × AllIds last rs
 
 abbrev pub MayReply : Heard → Option Answer → Type 0
 MayReply h None = Unit {0}
@@ -48,6 +53,7 @@ record ClientFits (c : Client) : Type 0 where
 record TakenFits (t : Taken) : Type 0 where
   client : ClientFits t.client
   writes : AllFit t.writes
+  ids : AllIds t.client.opening_id t.writes
 
 abbrev MayTake : Option Taken → Type 0
 MayTake None = Unit {0}
@@ -60,6 +66,10 @@ again-fits : (wait : Option Wait) → WaitFits wait → AllFit (again_writes wai
 again-fits None fits = tt
 again-fits (Some w) fits = ((fits, tt), tt)
 
+again-ids : (last : ℕ) (wait : Option Wait) → WaitFits wait → AllIds last (again_writes wait)
+again-ids last None fits = tt
+again-ids last (Some w) fits = (fits, tt)
+
 last-fits : (token : Option (List ℕ)) → TokenFits token → FitsBody (last_body token)
 last-fits None fits = tt
 last-fits (Some token) fits = fits
@@ -71,6 +81,21 @@ again-few Joining tries id less few = (omega (arith, less), omega (arith, few.1)
 again-few Ready tries id less few = tt
 again-few Gone tries id less few = tt
 
+-- a stage of an opening
+abbrev Opens-in : Stage → Type 0
+Opens-in Opening = Unit {0}
+Opens-in Entering = Unit {0}
+Opens-in Joining = Unit {0}
+Opens-in Ready = ⊥
+Opens-in Gone = ⊥
+
+same-id : (c : Client) (stage : Stage) → Opens-in stage → FewAt stage c.tries c.opening_id → IsId (own_id (suc c.opening_id) (same_request c stage))
+same-id c Opening op few = omega (arith, few.0, few.1)
+same-id c Entering op few = omega (arith, few.0, few.1)
+same-id c Joining op few = omega (arith, few.0, few.1)
+same-id c Ready op few = absurd op
+same-id c Gone op few = absurd op
+
 same-fits : (c : Client) (stage : Stage) → FewAt stage c.tries c.opening_id → TokenFits c.token → FitsRequest (same_request c stage)
 same-fits c Opening few fits = tt
 same-fits c Entering few fits = (omega (arith, few.0, few.1), tt)
@@ -80,34 +105,34 @@ same-fits c Gone few fits = tt
 
 token-fits : (c : Client) (token : Option (List ℕ)) → WaitFits c.wait → MayTake (token_taken c token)
 token-fits c None wait = tt
-token-fits c (Some token) wait = record { client = record { few = tt; wait = wait }; writes = again-fits c.wait wait }
+token-fits c (Some token) wait = record { client = record { few = tt; wait = wait }; writes = again-fits c.wait wait; ids = again-ids c.opening_id c.wait wait }
 
 steps-fit : (c : Client) (stage : Stage) (token : Option (List ℕ)) (block : List ℕ) → FewAt stage c.tries c.opening_id → WaitFits c.wait → TokenFits token → MayTake (step_taken c stage token block)
-steps-fit c Opening None block few wait fits = record { client = record { few = (omega arith, omega (arith, few.0, few.1)); wait = wait }; writes = ((omega (arith, few.0, few.1), tt), tt) }
-steps-fit c Opening (Some t) block few wait fits = record { client = record { few = (omega arith, omega (arith, few.0, few.1)); wait = wait }; writes = ((omega (arith, few.0, few.1), tt), tt) }
-steps-fit c Entering None block few wait fits = record { client = record { few = (omega arith, omega (arith, few.0, few.1)); wait = wait }; writes = ((omega (arith, few.0, few.1), tt), tt) }
-steps-fit c Entering (Some t) block few wait fits = record { client = record { few = (omega arith, omega (arith, few.0, few.1)); wait = wait }; writes = ((omega (arith, few.0, few.1), fits), tt) }
+steps-fit c Opening None block few wait fits = record { client = record { few = (omega arith, omega (arith, few.0, few.1)); wait = wait }; writes = ((omega (arith, few.0, few.1), tt), tt); ids = (omega (arith, few.0, few.1), tt) }
+steps-fit c Opening (Some t) block few wait fits = record { client = record { few = (omega arith, omega (arith, few.0, few.1)); wait = wait }; writes = ((omega (arith, few.0, few.1), tt), tt); ids = (omega (arith, few.0, few.1), tt) }
+steps-fit c Entering None block few wait fits = record { client = record { few = (omega arith, omega (arith, few.0, few.1)); wait = wait }; writes = ((omega (arith, few.0, few.1), tt), tt); ids = (omega (arith, few.0, few.1), tt) }
+steps-fit c Entering (Some t) block few wait fits = record { client = record { few = (omega arith, omega (arith, few.0, few.1)); wait = wait }; writes = ((omega (arith, few.0, few.1), fits), tt); ids = (omega (arith, few.0, few.1), tt) }
 steps-fit c Joining None block few wait fits = token-fits c (token_in block) wait
-steps-fit c Joining (Some t) block few wait fits = record { client = record { few = tt; wait = wait }; writes = again-fits c.wait wait }
+steps-fit c Joining (Some t) block few wait fits = record { client = record { few = tt; wait = wait }; writes = again-fits c.wait wait; ids = again-ids c.opening_id c.wait wait }
 steps-fit c Ready None block few wait fits = tt
 steps-fit c Ready (Some t) block few wait fits = tt
 steps-fit c Gone None block few wait fits = tt
 steps-fit c Gone (Some t) block few wait fits = tt
 
 gone-fits : (c : Client) → ClientFits c → MayTake (wrote (in_stage c Gone) [])
-gone-fits c h = record { client = record { few = tt; wait = h.wait }; writes = tt }
+gone-fits c h = record { client = record { few = tt; wait = h.wait }; writes = tt; ids = tt }
 
-opening-fits : (c : Client) (a : Answer) → ClientFits c → TokenFits c.token → MayTake (opening_taken c a)
-opening-fits c (Fine block) h fits = steps-fit c c.stage c.token block h.few h.wait fits
-opening-fits c NoMemory h fits =
+opening-fits : (c : Client) (a : Answer) → Opens-in c.stage → ClientFits c → TokenFits c.token → MayTake (opening_taken c a)
+opening-fits c (Fine block) op h fits = steps-fit c c.stage c.token block h.few h.wait fits
+opening-fits c NoMemory op h fits =
     cond_both (nat_lt c.tries 3) (wrote (opens_with c c.stage (suc c.tries)) (same_request c c.stage ∷ [])) (wrote (in_stage c Gone) []) MayTake
-    (λ e. record { client = record { few = again-few c.stage c.tries c.opening_id (ltb-true c.tries 3 e) h.few; wait = h.wait }; writes = (same-fits c c.stage h.few fits, tt) })
+    (λ e. record { client = record { few = again-few c.stage c.tries c.opening_id (ltb-true c.tries 3 e) h.few; wait = h.wait }; writes = (same-fits c c.stage h.few fits, tt); ids = (same-id c c.stage op h.few, tt) })
     (λ e. gone-fits c h)
-opening-fits c MiscErr h fits = gone-fits c h
-opening-fits c (Refuses code block) h fits = gone-fits c h
+opening-fits c MiscErr op h fits = gone-fits c h
+opening-fits c (Refuses code block) op h fits = gone-fits c h
 
 result-fits : (c : Client) (w : Wait) (a : Answer) → ClientFits c → MayTake (wrote (with_result c w a) [])
-result-fits c w a h = record { client = record { few = h.few; wait = tt }; writes = tt }
+result-fits c w a h = record { client = record { few = h.few; wait = tt }; writes = tt; ids = tt }
 
 reply-fits : (c : Client) (w : Wait) (a : Answer) → ClientFits c → MayTake (reply_taken c w a)
 reply-fits c w (Fine block) h = result-fits c w (Fine block) h
@@ -115,7 +140,7 @@ reply-fits c w MiscErr h = result-fits c w MiscErr h
 reply-fits c w (Refuses code block) h = result-fits c w (Refuses code block) h
 reply-fits c w NoMemory h =
     cond_both (nat_lt w.tries 3) (wrote (sent_again c w) (Asks (id_of c.first c.drawn) (Does w.call) false ∷ [])) (wrote (with_result c w NoMemory) []) MayTake
-    (λ e. record { client = record { few = h.few; wait = mod-lt (c.first + c.drawn) (omega arith) }; writes = (command-fits c.first c.drawn w.call, tt) })
+    (λ e. record { client = record { few = h.few; wait = mod-lt (c.first + c.drawn) (omega arith) }; writes = (command-fits c.first c.drawn w.call, tt); ids = (mod-lt (c.first + c.drawn) (omega arith), tt) })
     (λ e. result-fits c w NoMemory h)
 
 waiting-fits : (c : Client) (wait : Option Wait) (tag : Tag) (a : Answer) → ClientFits c → MayTake (waiting_taken c wait tag a)
@@ -123,12 +148,12 @@ waiting-fits c None tag a h = tt
 waiting-fits c (Some w) OfOpening a h = tt
 waiting-fits c (Some w) (OfCall id) a h = cond_both (nat_eq id w.id) (reply_taken c w a) None MayTake (λ e. reply-fits c w a h) (λ e. tt)
 
-takes-fit : (c : Client) (stage : Stage) (tag : Tag) (a : Answer) → ClientFits c → TokenFits c.token → MayTake (client_takes c stage tag a)
-takes-fit c Opening tag a h fits = opening-fits c a h fits
-takes-fit c Entering tag a h fits = opening-fits c a h fits
-takes-fit c Joining tag a h fits = opening-fits c a h fits
-takes-fit c Ready tag a h fits = waiting-fits c c.wait tag a h
-takes-fit c Gone tag a h fits = tt
+takes-fit : (c : Client) (stage : Stage) (tag : Tag) (a : Answer) → c.stage ≡ stage → ClientFits c → TokenFits c.token → MayTake (client_takes c stage tag a)
+takes-fit c Opening tag a is h fits = opening-fits c a (subst Opens-in (sym is) tt) h fits
+takes-fit c Entering tag a is h fits = opening-fits c a (subst Opens-in (sym is) tt) h fits
+takes-fit c Joining tag a is h fits = opening-fits c a (subst Opens-in (sym is) tt) h fits
+takes-fit c Ready tag a is h fits = waiting-fits c c.wait tag a h
+takes-fit c Gone tag a is h fits = tt
 
 anew-few : (stage : Stage) → FewAt (stage_anew stage) 0 0
 anew-few Opening = (omega arith, omega arith)
@@ -291,7 +316,7 @@ taken-fits Sound net rest (Some t) fits takes h =
 to-client-fits : {W : Type 0} (Sound : W → Type 0) (net : Net W) (down : List (Request × Answer)) → AllDown down → TokenFits net.client.token → NetFits Sound net → NetFits Sound (net_to_client net down)
 to-client-fits Sound net [] fits token h = h
 to-client-fits Sound net (x ∷ rest) fits token h =
-    taken-fits Sound net rest (client_takes net.client net.client.stage (tag_of (heard x.0)) x.1) fits.1 (takes-fit net.client net.client.stage (tag_of (heard x.0)) x.1 h.client token) h
+    taken-fits Sound net rest (client_takes net.client net.client.stage (tag_of (heard x.0)) x.1) fits.1 (takes-fit net.client net.client.stage (tag_of (heard x.0)) x.1 refl h.client token) h
 
 ends-fit : {W : Type 0} (Sound : W → Type 0) (net : Net W) (i : ℕ) → NetFits Sound net → NetFits Sound (net_ends net i)
 ends-fit Sound net i h =
@@ -418,7 +443,7 @@ pub record Facts {W : Type 0} (s : Machine W) (run : Run W) : Type 0 where
   pub ups_fit : (i : ℕ) (r : Request) → (run.links i).slot ≡ Coming r → FitsRequest r
   pub downs_fit : (i : ℕ) (r : Request) (a : Answer) → (run.links i).slot ≡ Going r a → FitsReplyTo (heard r) a
   pub replies_fit : (i moment : ℕ) (wish : Wish) (r : Request) → (run.links i).slot ≡ Coming r → MayReply (heard r) (handles s run.world moment wish (end_of (run.links i)) (run.links i).number (heard r)).reply
-  pub writes_fit : (tag : Tag) (a : Answer) (t : Taken) → client_takes run.client run.client.stage tag a ≡ Some t → AllFit t.writes
+  pub writes_fit : (tag : Tag) (a : Answer) (t : Taken) → client_takes run.client run.client.stage tag a ≡ Some t → AllFit t.writes × AllIds t.client.opening_id t.writes
 
 pub facts : {W : Type 0} {Sound : W → Type 0} (s : Server W Sound) (n : ℕ) (w0 : W) (run : Run W) → Fitting s n w0 run → Facts s.machine run
 facts s n w0 run f =
@@ -426,8 +451,11 @@ facts s n w0 run f =
       ups_fit = λ i r is. fits i r is;
       downs_fit = λ i r a is. (subst (λ (sl : Slot). AllDown (downs sl)) is (f.net.each i).down).0;
       replies_fit = λ i moment wish r is. (handles-fit s run.world moment wish (end_of (run.links i)) (run.links i).number (heard r) f.net.sound (f.net.each i).number (f.net.each i).number (heard-fits r (fits i r is))).reply;
-      writes_fit = λ tag a t is. (subst MayTake is (takes-fit run.client run.client.stage tag a f.net.client (token-of s n w0 run f.always))).writes;
+      writes_fit = λ tag a t is. written t (subst MayTake is (takes-fit run.client run.client.stage tag a refl f.net.client (token-of s n w0 run f.always)));
     }
   where
     fits : (i : ℕ) (r : Request) → (run.links i).slot ≡ Coming r → FitsRequest r
     fits i r is = (subst (λ (sl : Slot). AllFit (ups sl)) is (f.net.each i).up).0
+
+    written : (t : Taken) → TakenFits t → AllFit t.writes × AllIds t.client.opening_id t.writes
+    written t fit = (fit.writes, fit.ids)

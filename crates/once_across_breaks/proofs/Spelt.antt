@@ -1,5 +1,5 @@
 -- Bytes and lists of frames are one.
-use Rattle.std.proofs.Common.{◌≡◌, ◌∙◌, ◌⊎◌, inl, inr, refl, sym, ap, subst, ℕ, zero, suc, ◌<◌, Bool, true, false, cond, List, [], ◌∷◌, ◌++◌, take, drop, Option, Some, None, append-nil, append_assoc}
+use Rattle.std.proofs.Common.{◌≡◌, ◌∙◌, ◌⊎◌, inl, inr, refl, sym, ap, subst, ℕ, zero, suc, ◌<◌, Bool, true, false, cond, List, [], ◌∷◌, ◌++◌, take, drop, Option, Some, None, append-nil, append_assoc, lit<}
 use Rattle.std.specs.Prelude.{nat_eq, ◌||◌}
 use Rattle.std.proofs.lemmas.Bool.{cases_eq}
 use Rattle.once_across_breaks.specs.Messages.{Call, Answer, Does}
@@ -8,23 +8,24 @@ use Rattle.once_across_breaks.specs.Run.{Request, Opens, Asks, Slot, Idle, Comin
 use Rattle.once_across_breaks.specs.Run.{Commands as FCommands, ToServer as FToServer, ToClient as FToClient, Quiet as FQuiet, Loses as FLoses, Drains as FDrains, Ends as FEnds, Breaks as FBreaks, Others as FOthers}
 use Rattle.once_across_breaks.specs.Once.{Allowed, AllAllowed, OnceInOrder, is_again}
 use Rattle.once_across_breaks.specs.Frames.{Heard, heard, Tag, tag_of, Handled, handles, Taken, client_takes, Carrier, Net, ended_end, fresh_end, is_again_first, net_commands, net_handled, net_arrives, net_to_server, net_taken, net_to_client, net_breaks, net_ends, net_tells, net_quiet, net_quiet_by, net_parts, net_step, replies_of}
-use Rattle.once_across_breaks.specs.Bytes.{AreCodecs, Codec, IsCodec, Codecs, FitsReply, FitsRequest, seen_reply, Line, ByteEvent, Commands, ToServer, ToClient, Quiet, Loses, Drains, Ends, Breaks, Others, spelt, spelt_reply, line_commands, line_front, line_fed, line_to_server, line_taken, line_reply, line_to_client, line_breaks, line_tells, line_ends, line_quiet_by, line_quiet, line_parts, line_step, line_run, line_start, is_again_at, LineAllowed, AllLineAllowed, LineOnce, CommandsOnceInBytes}
+use Rattle.once_across_breaks.specs.Bytes.{AreCodecs, Codec, IsCodec, Codecs, FitsNumbered, FitsReply, own_id, seen_reply, seen_request, Line, ByteEvent, Commands, ToServer, ToClient, Quiet, Loses, Drains, Ends, Breaks, Others, spelt, spelt_reply, line_commands, line_front, line_fed, line_to_server, line_taken, line_reply, line_to_client, line_breaks, line_tells, line_ends, line_quiet_by, line_quiet, line_parts, line_step, line_run, line_start, is_again_at, LineAllowed, AllLineAllowed, LineOnce, CommandsOnceInBytes}
 use Rattle.once_across_breaks.proofs.Steps.{upd}
 use Rattle.once_across_breaks.proofs.Events.{set-at, set-off}
 use Rattle.once_across_breaks.proofs.Carried.{Same, Locked, LockedAt, ups, downs, flat, cond-map, step-same, locked-start, starts-same}
-use Rattle.once_across_breaks.proofs.Fitting.{AllFit, Facts, Fitting, MayReply, command-fits, facts, fitting-run, fitting-start}
+use Rattle.once_across_breaks.specs.Fits.{IsId}
+use Rattle.once_across_breaks.proofs.Fitting.{AllFit, AllIds, Facts, Fitting, MayReply, command-fits, facts, fitting-run, fitting-start}
 use Rattle.once_across_breaks.proofs.Theorem.{commands-once}
 
 -- ---- how bytes stand for the frames of lists
 
-abbrev UpOk : Codec Request Heard → List Request → Bool → List ℕ → List ℕ → Bool → Type 0
+abbrev UpOk : Codec (ℕ × Request) (ℕ × Heard) → List Request → Bool → List ℕ → List ℕ → Bool → Type 0
 UpOk c [] ended held up mark = (held ≡ []) × (up ≡ [])
-UpOk c (r ∷ []) ended held up mark = (held ++ up ≡ c.spell r) × (ended ≡ false → up ≡ [] → ⊥) × (mark ≡ is_again_first (r ∷ []))
+UpOk c (r ∷ []) ended held up mark = (last : ℕ) × IsId (own_id last r) × (held ++ up ≡ c.spell (last, r)) × (ended ≡ false → up ≡ [] → ⊥) × (mark ≡ is_again_first (r ∷ []))
 UpOk c (r ∷ q ∷ rs) ended held up mark = ⊥
 
-abbrev DownOk : Codec (Heard × Answer) (Tag × Answer) → Client → List (Request × Answer) → List ℕ → List ℕ → Type 0
+abbrev DownOk : Codec ((ℕ × Heard) × Answer) (Tag × Answer) → Client → List (Request × Answer) → List ℕ → List ℕ → Type 0
 DownOk c client [] taken down = (taken ≡ []) × (down ≡ [])
-DownOk c client (x ∷ []) taken down = (taken ++ down ≡ c.spell (heard x.0, x.1)) × (down ≡ [] → client_takes client client.stage (tag_of (heard x.0)) x.1 ≡ None)
+DownOk c client (x ∷ []) taken down = (id : ℕ) × IsId id × (taken ++ down ≡ c.spell ((id, heard x.0), x.1)) × (down ≡ [] → client_takes client client.stage (tag_of (heard x.0)) x.1 ≡ None)
 DownOk c client (x ∷ y ∷ zs) taken down = ⊥
 
 abbrev made : {W : Type 0} → Net W → (ℕ → List ℕ) → (ℕ → List ℕ) → (ℕ → List ℕ) → (ℕ → Bool) → List ℕ → Line W
@@ -94,17 +95,17 @@ none-or (x ∷ xs) = inr (λ e. absurd (cc))
 front-whole : {F G : Type 0} (Fits : F → Type 0) (seen : F → G) (c : Codec F G) → IsCodec Fits seen c → (f : F) (holds under : List ℕ) → Fits f → holds ++ under ≡ c.spell f → under ≡ [] → c.front holds ≡ Some (seen f, [])
 front-whole Fits seen c ok f holds under fits e none = ap c.front (sym (append-nil holds) ∙ ap (λ ys. holds ++ ys) (sym none) ∙ e) ∙ ok.whole f fits
 
-up-write : (c : Codec Request Heard) → IsCodec FitsRequest heard c → (us : List Request) (r : Request) (ended : Bool) (held up : List ℕ) (mark : Bool) → FitsRequest r → us ≡ [] → UpOk c us ended held up mark → UpOk c (us ++ r ∷ []) ended held (up ++ c.spell r) (is_again_first (r ∷ []))
-up-write c codec [] r ended held up mark fits e ok = ((λ i. ok.0 i ++ (ok.1 i ++ c.spell r)), (λ f g. spell-some FitsRequest heard c codec r fits ((λ i. sym ok.1 i ++ c.spell r) ∙ g)), refl)
-up-write c codec (u ∷ us) r ended held up mark fits e ok = absurd (cc)
+up-write : (c : Codec (ℕ × Request) (ℕ × Heard)) → IsCodec FitsNumbered seen_request c → (us : List Request) (last : ℕ) (r : Request) (ended : Bool) (held up : List ℕ) (mark : Bool) → FitsNumbered (last, r) → us ≡ [] → UpOk c us ended held up mark → UpOk c (us ++ r ∷ []) ended held (up ++ c.spell (last, r)) (is_again_first (r ∷ []))
+up-write c codec [] last r ended held up mark fits e ok = (last, fits.0, (λ i. ok.0 i ++ (ok.1 i ++ c.spell (last, r))), (λ f g. spell-some FitsNumbered seen_request c codec (last, r) fits ((λ i. sym ok.1 i ++ c.spell (last, r)) ∙ g)), refl)
+up-write c codec (u ∷ us) last r ended held up mark fits e ok = absurd (cc)
 
-down-idle : (c : Codec (Heard × Answer) (Tag × Answer)) (client next : Client) (ds : List (Request × Answer)) (taken down : List ℕ) → ds ≡ [] → DownOk c client ds taken down → DownOk c next ds taken down
+down-idle : (c : Codec ((ℕ × Heard) × Answer) (Tag × Answer)) (client next : Client) (ds : List (Request × Answer)) (taken down : List ℕ) → ds ≡ [] → DownOk c client ds taken down → DownOk c next ds taken down
 down-idle c client next [] taken down e ok = ok
 down-idle c client next (x ∷ xs) taken down e ok = absurd (cc)
 
-up-ended : (c : Codec Request Heard) (us : List Request) (ended : Bool) (held up : List ℕ) (mark : Bool) → UpOk c us ended held up mark → UpOk c us true held up mark
+up-ended : (c : Codec (ℕ × Request) (ℕ × Heard)) (us : List Request) (ended : Bool) (held up : List ℕ) (mark : Bool) → UpOk c us ended held up mark → UpOk c us true held up mark
 up-ended c [] ended held up mark ok = ok
-up-ended c (r ∷ []) ended held up mark ok = (ok.0, (λ f. absurd (cc)), ok.2)
+up-ended c (r ∷ []) ended held up mark ok = (ok.0, ok.1, ok.2, (λ f. absurd (cc)), ok.4)
 up-ended c (r ∷ q ∷ rs) ended held up mark ok = ok
 
 -- an end of a link in both
@@ -117,7 +118,7 @@ end-kept links i c e j = sym (upd links i c (λ k y. y.end ≡ (links k).end) e 
 -- ---- the client asks
 
 commands-res : {W : Type 0} (c : Codecs) (s : Machine W) (n : ℕ) (run : Run W) (up held down : ℕ → List ℕ) (marks : ℕ → Bool) (taken : List ℕ) (stage : Stage) (wait : Option Wait) (call : Call)
-    → IsCodec FitsRequest heard c.up → run.client.stage ≡ stage → run.client.wait ≡ wait → Locked run → Spells c (flat run) up held down marks taken
+    → IsCodec FitsNumbered seen_request c.up → run.client.stage ≡ stage → run.client.wait ≡ wait → Locked run → Spells c (flat run) up held down marks taken
     → (line_commands c (made (flat run) up held down marks taken) stage wait call).client.row < 1900
     → Res c s n run (line_commands c (made (flat run) up held down marks taken) stage wait call)
 commands-res {W} c s n run up held down marks taken Ready None call codec ready none l ok less =
@@ -126,14 +127,14 @@ commands-res {W} c s n run up held down marks taken Ready None call codec ready 
     let cell : Carrier = record { end = ((flat run).links run.top).end; up = ((flat run).links run.top).up ++ r ∷ []; down = ((flat run).links run.top).down } in
     let same = step-same s run (FCommands call) l in
     res-one c s n run (line_commands c (made (flat run) up held down marks taken) Ready None call) (FCommands call) (net_commands (flat run) Ready None call)
-    (set up run.top (up run.top ++ c.up.spell r)) held down (set marks run.top false) taken tt
+    (set up run.top (up run.top ++ c.up.spell (run.client.opening_id, r))) held down (set marks run.top false) taken tt
     (record { same = same.same ∙ (λ k. net_commands (flat run) (ready k) (none k) call); locked = same.locked })
-    (λ k. record { client = draws run.client call 0 run.client.row run.client.results; top = run.top; ends = λ j. end-kept (flat run).links run.top cell refl j k; world = run.world; history = run.history; up = set up run.top (up run.top ++ c.up.spell r); held = held; down = down; again = set marks run.top false; taken = taken })
+    (λ k. record { client = draws run.client call 0 run.client.row run.client.results; top = run.top; ends = λ j. end-kept (flat run).links run.top cell refl j k; world = run.world; history = run.history; up = set up run.top (up run.top ++ c.up.spell (run.client.opening_id, r)); held = held; down = down; again = set marks run.top false; taken = taken })
     (record {
       ups_ok = λ j. elim (cases_eq j run.top) [
-        | inl at_top ↦ subst (λ (y : Carrier × List ℕ × ℕ × Bool). UpOk c.up y.0.up y.0.end.ended (held y.2) y.1 y.3) (λ k. (sym (set-at (flat run).links run.top cell j at_top) k, sym (set-at up run.top (up run.top ++ c.up.spell r) j at_top) k, sym at_top k, sym (set-at marks run.top false j at_top) k))
-            (up-write c.up codec (ups (run.links run.top).slot) r (run.links run.top).ended (held run.top) (up run.top) (marks run.top) (command-fits run.client.first run.client.drawn call) (ap ups idle) (ok.ups_ok run.top))
-        | inr off ↦ subst (λ (y : Carrier × List ℕ × Bool). UpOk c.up y.0.up y.0.end.ended (held j) y.1 y.2) (λ k. (sym (set-off (flat run).links run.top cell j off) k, sym (set-off up run.top (up run.top ++ c.up.spell r) j off) k, sym (set-off marks run.top false j off) k)) (ok.ups_ok j)
+        | inl at_top ↦ subst (λ (y : Carrier × List ℕ × ℕ × Bool). UpOk c.up y.0.up y.0.end.ended (held y.2) y.1 y.3) (λ k. (sym (set-at (flat run).links run.top cell j at_top) k, sym (set-at up run.top (up run.top ++ c.up.spell (run.client.opening_id, r)) j at_top) k, sym at_top k, sym (set-at marks run.top false j at_top) k))
+            (up-write c.up codec (ups (run.links run.top).slot) run.client.opening_id r (run.links run.top).ended (held run.top) (up run.top) (marks run.top) ((command-fits run.client.first run.client.drawn call).0, command-fits run.client.first run.client.drawn call) (ap ups idle) (ok.ups_ok run.top))
+        | inr off ↦ subst (λ (y : Carrier × List ℕ × Bool). UpOk c.up y.0.up y.0.end.ended (held j) y.1 y.2) (λ k. (sym (set-off (flat run).links run.top cell j off) k, sym (set-off up run.top (up run.top ++ c.up.spell (run.client.opening_id, r)) j off) k, sym (set-off marks run.top false j off) k)) (ok.ups_ok j)
       ];
       down_ok = subst (λ (y : Carrier). DownOk c.down (draws run.client call 0 run.client.row run.client.results) y.down taken (down run.top)) (sym (set-at (flat run).links run.top cell run.top refl))
           (down-idle c.down run.client (draws run.client call 0 run.client.row run.client.results) (downs (run.links run.top).slot) taken (down run.top) (ap downs idle) ok.down_ok);
@@ -156,10 +157,10 @@ spells-at c net up held down marks taken holds under i here ok =
       down_ok = ok.down_ok;
     }
 
-reply-ok : (c : Codec (Heard × Answer) (Tag × Answer)) → IsCodec FitsReply seen_reply c → (client : Client) (r : Request) (o : Option Answer) (ds : List (Request × Answer)) (taken down : List ℕ) → MayReply (heard r) o → ds ≡ [] → DownOk c client ds taken down → DownOk c client (ds ++ replies_of r o) taken (down ++ spelt_reply c (heard r) o)
-reply-ok c codec client r None [] taken down fits e ok = (ok.0, append-nil down ∙ ok.1)
-reply-ok c codec client r (Some a) [] taken down fits e ok = ((λ i. ok.0 i ++ (ok.1 i ++ c.spell (heard r, a))), λ f. absurd (spell-some FitsReply seen_reply c codec (heard r, a) fits ((λ i. sym ok.1 i ++ c.spell (heard r, a)) ∙ f)))
-reply-ok c codec client r o (x ∷ xs) taken down fits e ok = absurd (cc)
+reply-ok : (c : Codec ((ℕ × Heard) × Answer) (Tag × Answer)) → IsCodec FitsReply seen_reply c → (client : Client) (id : ℕ) (r : Request) (o : Option Answer) (ds : List (Request × Answer)) (taken down : List ℕ) → IsId id → MayReply (heard r) o → ds ≡ [] → DownOk c client ds taken down → DownOk c client (ds ++ replies_of r o) taken (down ++ spelt_reply c (id, heard r) o)
+reply-ok c codec client id r None [] taken down small fits e ok = (ok.0, append-nil down ∙ ok.1)
+reply-ok c codec client id r (Some a) [] taken down small fits e ok = (id, small, (λ i. ok.0 i ++ (ok.1 i ++ c.spell ((id, heard r), a))), λ f. absurd (spell-some FitsReply seen_reply c codec ((id, heard r), a) (small, fits) ((λ i. sym ok.1 i ++ c.spell ((id, heard r), a)) ∙ f)))
+reply-ok c codec client id r o (x ∷ xs) taken down small fits e ok = absurd (cc)
 
 again-of : (r : Request) → is_again_first (r ∷ []) ≡ is_again (Coming r)
 again-of Opens = refl
@@ -179,9 +180,9 @@ stale c s n run up held down marks taken i moment wish holds under f none here =
     (ap (λ o. line_front c s (made (flat run) up held down marks taken) i moment wish holds under o) none)
     (spells-at c (flat run) up held down marks taken holds under i here f.ok)
 
-whole : {W : Type 0} (c : Codecs) (s : Machine W) (n : ℕ) (run : Run W) (up held down : ℕ → List ℕ) (marks : ℕ → Bool) (taken : List ℕ) (i moment : ℕ) (wish : Wish) (holds under : List ℕ) (r : Request) → IsCodec FitsReply seen_reply c.down → Facts s run → Fed c s n run up held down marks taken i moment wish holds under
-    → (run.links i).slot ≡ Coming r → c.up.front holds ≡ Some (heard r, []) → under ≡ [] → marks i ≡ is_again_first (r ∷ []) → Res c s n run (line_fed c s (made (flat run) up held down marks taken) i moment wish holds under)
-whole {W} c s n run up held down marks taken i moment wish holds under r codec fits f coming front none mark =
+whole : {W : Type 0} (c : Codecs) (s : Machine W) (n : ℕ) (run : Run W) (up held down : ℕ → List ℕ) (marks : ℕ → Bool) (taken : List ℕ) (i moment : ℕ) (wish : Wish) (holds under : List ℕ) (last : ℕ) (r : Request) → IsId (own_id last r) → IsCodec FitsReply seen_reply c.down → Facts s run → Fed c s n run up held down marks taken i moment wish holds under
+    → (run.links i).slot ≡ Coming r → c.up.front holds ≡ Some ((own_id last r, heard r), []) → under ≡ [] → marks i ≡ is_again_first (r ∷ []) → Res c s n run (line_fed c s (made (flat run) up held down marks taken) i moment wish holds under)
+whole {W} c s n run up held down marks taken i moment wish holds under last r small codec fits f coming front none mark =
     res-one c s n run (line_fed c s (made (flat run) up held down marks taken) i moment wish holds under) (FToServer i moment wish) net (set up i under) (set held i []) down' marks taken
     (λ memory stands. ap is_again coming ∙ sym (again-of r) ∙ sym mark ∙ ap (λ o. is_again_at o (marks i)) (sym front) ∙ f.first memory)
     (record {
@@ -196,9 +197,9 @@ whole {W} c s n run up held down marks taken i moment wish holds under r codec f
         | inr off ↦ subst (λ (y : Carrier × List ℕ × List ℕ). UpOk c.up y.0.up y.0.end.ended y.1 y.2 (marks j)) (λ k. (sym (set-off (flat run).links i cell j off) k, sym (set-off held i [] j off) k, sym (set-off up i under j off) k)) (f.ok.ups_ok j)
       ];
       down_ok = elim (cases_eq run.top i) [
-        | inl at_i ↦ subst (λ (y : Carrier × List ℕ). DownOk c.down run.client y.0.down taken y.1) (λ k. (sym (set-at (flat run).links i cell run.top at_i) k, sym (set-at down i (down i ++ spelt_reply c.down (heard r) h.reply) run.top at_i) k))
-            (reply-ok c.down codec run.client r h.reply (downs (run.links i).slot) taken (down i) (fits.replies_fit i moment wish r coming) (ap downs coming) (subst (λ m. DownOk c.down run.client (downs (run.links m).slot) taken (down m)) at_i f.ok.down_ok))
-        | inr off ↦ subst (λ (y : Carrier × List ℕ). DownOk c.down run.client y.0.down taken y.1) (λ k. (sym (set-off (flat run).links i cell run.top off) k, sym (set-off down i (down i ++ spelt_reply c.down (heard r) h.reply) run.top off) k)) f.ok.down_ok
+        | inl at_i ↦ subst (λ (y : Carrier × List ℕ). DownOk c.down run.client y.0.down taken y.1) (λ k. (sym (set-at (flat run).links i cell run.top at_i) k, sym (set-at down i (down i ++ spelt_reply c.down (own_id last r, heard r) h.reply) run.top at_i) k))
+            (reply-ok c.down codec run.client (own_id last r) r h.reply (downs (run.links i).slot) taken (down i) small (fits.replies_fit i moment wish r coming) (ap downs coming) (subst (λ m. DownOk c.down run.client (downs (run.links m).slot) taken (down m)) at_i f.ok.down_ok))
+        | inr off ↦ subst (λ (y : Carrier × List ℕ). DownOk c.down run.client y.0.down taken y.1) (λ k. (sym (set-off (flat run).links i cell run.top off) k, sym (set-off down i (down i ++ spelt_reply c.down (own_id last r, heard r) h.reply) run.top off) k)) f.ok.down_ok
       ];
     }) f.less
   where
@@ -212,7 +213,7 @@ whole {W} c s n run up held down marks taken i moment wish holds under r codec f
     cell = record { end = h.end; up = []; down = downs (run.links i).slot ++ replies_of r h.reply }
 
     down' : ℕ → List ℕ
-    down' = set down i (down i ++ spelt_reply c.down (heard r) h.reply)
+    down' = set down i (down i ++ spelt_reply c.down (own_id last r, heard r) h.reply)
 
     same : Same (step s run (FToServer i moment wish)) (net_to_server s (flat run) i moment wish (run.links i).ended)
     same = step-same s run (FToServer i moment wish) f.locked
@@ -228,11 +229,11 @@ fed-res c s n run up held down marks taken i k moment wish (Going r a) codecs fi
     let none : held i ++ take k (up i) ≡ [] = λ m. ok.0 m ++ take-none k (up i) ok.1 m in
     stale c s n run up held down marks taken i moment wish (held i ++ take k (up i)) (drop k (up i)) f (ap c.up.front none ∙ codecs.up.nothing) (subst (λ sl. UpOk c.up (ups sl) (run.links i).ended (held i ++ take k (up i)) (drop k (up i)) (marks i)) (sym is) (none, drop-none k (up i) ok.1))
 fed-res c s n run up held down marks taken i k moment wish (Coming r) codecs fits is f ok =
-    let all : (held i ++ take k (up i)) ++ drop k (up i) ≡ c.up.spell r = moved k (held i) (up i) (c.up.spell r) ok.0 in
-    let fit : FitsRequest r = fits.ups_fit i r is in
+    let all : (held i ++ take k (up i)) ++ drop k (up i) ≡ c.up.spell (ok.0, r) = moved k (held i) (up i) (c.up.spell (ok.0, r)) ok.2 in
+    let fit : FitsNumbered (ok.0, r) = (ok.1, fits.ups_fit i r is) in
     elim (none-or (drop k (up i))) [
-      | inl none ↦ whole c s n run up held down marks taken i moment wish (held i ++ take k (up i)) (drop k (up i)) r codecs.down fits f is (front-whole FitsRequest heard c.up codecs.up r (held i ++ take k (up i)) (drop k (up i)) fit all none) none ok.2
-      | inr some ↦ stale c s n run up held down marks taken i moment wish (held i ++ take k (up i)) (drop k (up i)) f (codecs.up.part r (held i ++ take k (up i)) (drop k (up i)) fit all some) (subst (λ sl. UpOk c.up (ups sl) (run.links i).ended (held i ++ take k (up i)) (drop k (up i)) (marks i)) (sym is) (all, (λ e. some), ok.2))
+      | inl none ↦ whole c s n run up held down marks taken i moment wish (held i ++ take k (up i)) (drop k (up i)) ok.0 r ok.1 codecs.down fits f is (front-whole FitsNumbered seen_request c.up codecs.up (ok.0, r) (held i ++ take k (up i)) (drop k (up i)) fit all none) none ok.4
+      | inr some ↦ stale c s n run up held down marks taken i moment wish (held i ++ take k (up i)) (drop k (up i)) f (codecs.up.part (ok.0, r) (held i ++ take k (up i)) (drop k (up i)) fit all some) (subst (λ sl. UpOk c.up (ups sl) (run.links i).ended (held i ++ take k (up i)) (drop k (up i)) (marks i)) (sym is) (ok.0, ok.1, all, (λ e. some), ok.4))
     ]
 
 to-server-res : {W : Type 0} (c : Codecs) (s : Machine W) (n : ℕ) (run : Run W) (up held down : ℕ → List ℕ) (marks : ℕ → Bool) (taken : List ℕ) (i k moment : ℕ) (wish : Wish) (ended : Bool) → AreCodecs c → Facts s run → (run.links i).ended ≡ ended → Locked run → Spells c (flat run) up held down marks taken
@@ -245,11 +246,17 @@ to-server-res c s n run up held down marks taken i k moment wish false codecs fi
 
 -- ---- bytes reach the client
 
-writes-ok : (c : Codec Request Heard) → IsCodec FitsRequest heard c → (us ws : List Request) (ended : Bool) (held up : List ℕ) (mark : Bool) → AllFit ws → us ≡ [] → ((a b : Request) (cs : List Request) → us ++ ws ≡ a ∷ b ∷ cs → ⊥) → UpOk c us ended held up mark → UpOk c (us ++ ws) ended held (up ++ spelt c ws) (is_again_first ws)
-writes-ok c codec [] [] ended held up mark fits e short ok = (ok.0, append-nil up ∙ ok.1)
-writes-ok c codec [] (r ∷ []) ended held up mark fits e short ok = ((λ i. ok.0 i ++ (ok.1 i ++ (c.spell r ++ []))) ∙ append-nil (c.spell r), (λ f g. absurd (spell-some FitsRequest heard c codec r fits.0 (sym (append-nil (c.spell r)) ∙ (λ i. sym ok.1 i ++ (c.spell r ++ [])) ∙ g))), refl)
-writes-ok c codec [] (r ∷ q ∷ rs) ended held up mark fits e short ok = absurd (short r q rs refl)
-writes-ok c codec (u ∷ us) ws ended held up mark fits e short ok = absurd (cc)
+writes-ok : (c : Codec (ℕ × Request) (ℕ × Heard)) → IsCodec FitsNumbered seen_request c → (us : List Request) (last : ℕ) (ws : List Request) (ended : Bool) (held up : List ℕ) (mark : Bool) → AllFit ws × AllIds last ws → us ≡ [] → ((a b : Request) (cs : List Request) → us ++ ws ≡ a ∷ b ∷ cs → ⊥) → UpOk c us ended held up mark → UpOk c (us ++ ws) ended held (up ++ spelt c last ws) (is_again_first ws)
+writes-ok c codec [] last [] ended held up mark fits e short ok = (ok.0, append-nil up ∙ ok.1)
+writes-ok c codec [] last (r ∷ []) ended held up mark fits e short ok = (
+  last,
+  fits.1.0,
+  (λ i. ok.0 i ++ (ok.1 i ++ (c.spell (last, r) ++ []))) ∙ append-nil (c.spell (last, r)),
+  (λ f g. absurd (spell-some FitsNumbered seen_request c codec (last, r) (fits.1.0, fits.0.0) (sym (append-nil (c.spell (last, r))) ∙ (λ i. sym ok.1 i ++ (c.spell (last, r) ++ [])) ∙ g))),
+  refl,
+)
+writes-ok c codec [] last (r ∷ q ∷ rs) ended held up mark fits e short ok = absurd (short r q rs refl)
+writes-ok c codec (u ∷ us) last ws ended held up mark fits e short ok = absurd (cc)
 
 short-ups : (slot : Slot) (a b : Request) (cs : List Request) → ups slot ≡ a ∷ b ∷ cs → ⊥
 short-ups Idle a b cs e = absurd (cc)
@@ -259,24 +266,24 @@ short-ups (Going r x) a b cs e = absurd (cc)
 spells-down : {W : Type 0} (c : Codecs) (net : Net W) (up held down : ℕ → List ℕ) (marks : ℕ → Bool) (taken holds under : List ℕ) → DownOk c.down net.client (net.links net.top).down holds under → Spells c net up held down marks taken → Spells c net up held (set down net.top under) marks holds
 spells-down c net up held down marks taken holds under here ok = record { ups_ok = ok.ups_ok; down_ok = subst (λ y. DownOk c.down net.client (net.links net.top).down holds y) (sym (set-at down net.top under net.top refl)) here }
 
-taken-res : {W : Type 0} (c : Codecs) (s : Machine W) (n : ℕ) (run : Run W) (up held down : ℕ → List ℕ) (marks : ℕ → Bool) (taken holds under : List ℕ) (r : Request) (a : Answer) (t : Option Taken) → IsCodec FitsRequest heard c.up → Facts s run → Locked run → Spells c (flat run) up held down marks taken
-    → (run.links run.top).slot ≡ Going r a → client_takes run.client run.client.stage (tag_of (heard r)) a ≡ t → holds ++ under ≡ c.down.spell (heard r, a) → under ≡ []
+taken-res : {W : Type 0} (c : Codecs) (s : Machine W) (n : ℕ) (run : Run W) (up held down : ℕ → List ℕ) (marks : ℕ → Bool) (taken holds under : List ℕ) (id : ℕ) (r : Request) (a : Answer) (t : Option Taken) → IsId id → IsCodec FitsNumbered seen_request c.up → Facts s run → Locked run → Spells c (flat run) up held down marks taken
+    → (run.links run.top).slot ≡ Going r a → client_takes run.client run.client.stage (tag_of (heard r)) a ≡ t → holds ++ under ≡ c.down.spell ((id, heard r), a) → under ≡ []
     → (line_taken c (made (flat run) up held down marks taken) holds [] under t).client.row < 1900
     → Res c s n run (line_taken c (made (flat run) up held down marks taken) holds [] under t)
-taken-res c s n run up held down marks taken holds under r a None codec fits l ok going is all none less =
+taken-res c s n run up held down marks taken holds under id r a None small codec fits l ok going is all none less =
     res-none c s n run (line_taken c (made (flat run) up held down marks taken) holds [] under None) up held (set down run.top under) marks holds l refl
-    (spells-down c (flat run) up held down marks taken holds under (subst (λ sl. DownOk c.down run.client (downs sl) holds under) (sym going) (all, λ e. is)) ok)
-taken-res {W} c s n run up held down marks taken holds under r a (Some t) codec fits l ok going is all none less =
+    (spells-down c (flat run) up held down marks taken holds under (subst (λ sl. DownOk c.down run.client (downs sl) holds under) (sym going) (id, small, all, λ e. is)) ok)
+taken-res {W} c s n run up held down marks taken holds under id r a (Some t) small codec fits l ok going is all none less =
     res-one c s n run (line_taken c (made (flat run) up held down marks taken) holds [] under (Some t)) FToClient net up' held (set down run.top under) marks' [] tt
     (record { same = same_is; locked = same.locked })
     (λ k. record { client = t.client; top = run.top; ends = λ j. end-set (flat run).links run.top cell j k; world = run.world; history = run.history; up = up'; held = held; down = set down run.top under; again = marks'; taken = [] })
     (record {
       ups_ok = λ j. elim (cases_eq j run.top) [
-        | inl at_top ↦ subst (λ (y : Carrier × List ℕ × ℕ × Bool). UpOk c.up y.0.up y.0.end.ended (held y.2) y.1 y.3) (λ k. (sym (set-at (flat run).links run.top cell j at_top) k, sym (set-at up run.top (up run.top ++ spelt c.up t.writes) j at_top) k, sym at_top k, sym (set-at marks run.top (is_again_first t.writes) j at_top) k))
-            (writes-ok c.up codec (ups (run.links run.top).slot) t.writes (run.links run.top).ended (held run.top) (up run.top) (marks run.top) (fits.writes_fit (tag_of (heard r)) a t is) (ap ups going)
+        | inl at_top ↦ subst (λ (y : Carrier × List ℕ × ℕ × Bool). UpOk c.up y.0.up y.0.end.ended (held y.2) y.1 y.3) (λ k. (sym (set-at (flat run).links run.top cell j at_top) k, sym (set-at up run.top (up run.top ++ spelt c.up t.client.opening_id t.writes) j at_top) k, sym at_top k, sym (set-at marks run.top (is_again_first t.writes) j at_top) k))
+            (writes-ok c.up codec (ups (run.links run.top).slot) t.client.opening_id t.writes (run.links run.top).ended (held run.top) (up run.top) (marks run.top) (fits.writes_fit (tag_of (heard r)) a t is) (ap ups going)
             (λ p q rs e. short-ups ((step s run FToClient).links run.top).slot p q rs (ap (λ (y : Net W). (y.links run.top).up) same_is ∙ ap (λ (y : Carrier). y.up) (set-at (flat run).links run.top cell run.top refl) ∙ e))
             (ok.ups_ok run.top))
-        | inr off ↦ subst (λ (y : Carrier × List ℕ × Bool). UpOk c.up y.0.up y.0.end.ended (held j) y.1 y.2) (λ k. (sym (set-off (flat run).links run.top cell j off) k, sym (set-off up run.top (up run.top ++ spelt c.up t.writes) j off) k, sym (set-off marks run.top (is_again_first t.writes) j off) k)) (ok.ups_ok j)
+        | inr off ↦ subst (λ (y : Carrier × List ℕ × Bool). UpOk c.up y.0.up y.0.end.ended (held j) y.1 y.2) (λ k. (sym (set-off (flat run).links run.top cell j off) k, sym (set-off up run.top (up run.top ++ spelt c.up t.client.opening_id t.writes) j off) k, sym (set-off marks run.top (is_again_first t.writes) j off) k)) (ok.ups_ok j)
       ];
       down_ok = subst (λ (y : Carrier × List ℕ). DownOk c.down t.client y.0.down [] y.1) (λ k. (sym (set-at (flat run).links run.top cell run.top refl) k, sym (set-at down run.top under run.top refl) k)) (refl, none);
     }) less
@@ -288,7 +295,7 @@ taken-res {W} c s n run up held down marks taken holds under r a (Some t) codec 
     net = net_taken (flat run) [] (Some t)
 
     up' : ℕ → List ℕ
-    up' = set up run.top (up run.top ++ spelt c.up t.writes)
+    up' = set up run.top (up run.top ++ spelt c.up t.client.opening_id t.writes)
 
     marks' : ℕ → Bool
     marks' = set marks run.top (is_again_first t.writes)
@@ -316,16 +323,16 @@ to-client-res c s n run up held down marks taken k (Coming r) codecs fits is l o
 to-client-res {W} c s n run up held down marks taken k (Going r a) codecs fits is l ok down_ok less =
     let holds : List ℕ = taken ++ take k (down run.top) in
     let under : List ℕ = drop k (down run.top) in
-    let all : holds ++ under ≡ c.down.spell (heard r, a) = moved k taken (down run.top) (c.down.spell (heard r, a)) down_ok.0 in
-    let fit : FitsReply (heard r, a) = fits.downs_fit run.top r a is in
+    let all : holds ++ under ≡ c.down.spell ((down_ok.0, heard r), a) = moved k taken (down run.top) (c.down.spell ((down_ok.0, heard r), a)) down_ok.2 in
+    let fit : FitsReply ((down_ok.0, heard r), a) = (down_ok.1, fits.downs_fit run.top r a is) in
     elim (none-or under) [
       | inl none ↦
-          let path : line_to_client c (made (flat run) up held down marks taken) holds under ≡ line_taken c (made (flat run) up held down marks taken) holds [] under (client_takes run.client run.client.stage (tag_of (heard r)) a) = ap (λ o. line_reply c (made (flat run) up held down marks taken) holds under o) (front-whole FitsReply seen_reply c.down codecs.down (heard r, a) holds under fit all none) in
-          subst (Res c s n run) (sym path) (taken-res c s n run up held down marks taken holds under r a (client_takes run.client run.client.stage (tag_of (heard r)) a) codecs.up fits l ok is refl all none (subst (λ (y : Line W). y.client.row < 1900) path less))
+          let path : line_to_client c (made (flat run) up held down marks taken) holds under ≡ line_taken c (made (flat run) up held down marks taken) holds [] under (client_takes run.client run.client.stage (tag_of (heard r)) a) = ap (λ o. line_reply c (made (flat run) up held down marks taken) holds under o) (front-whole FitsReply seen_reply c.down codecs.down ((down_ok.0, heard r), a) holds under fit all none) in
+          subst (Res c s n run) (sym path) (taken-res c s n run up held down marks taken holds under down_ok.0 r a (client_takes run.client run.client.stage (tag_of (heard r)) a) down_ok.1 codecs.up fits l ok is refl all none (subst (λ (y : Line W). y.client.row < 1900) path less))
       | inr some ↦
           res-none c s n run (line_to_client c (made (flat run) up held down marks taken) holds under) up held (set down run.top under) marks holds l
-          (ap (λ o. line_reply c (made (flat run) up held down marks taken) holds under o) (codecs.down.part (heard r, a) holds under fit all some))
-          (spells-down c (flat run) up held down marks taken holds under (subst (λ sl. DownOk c.down run.client (downs sl) holds under) (sym is) (all, λ e. absurd (some e))) ok)
+          (ap (λ o. line_reply c (made (flat run) up held down marks taken) holds under o) (codecs.down.part ((down_ok.0, heard r), a) holds under fit all some))
+          (spells-down c (flat run) up held down marks taken holds under (subst (λ sl. DownOk c.down run.client (downs sl) holds under) (sym is) (down_ok.0, down_ok.1, all, λ e. absurd (some e))) ok)
     ]
 
 -- ---- all else moves no bytes
@@ -384,19 +391,19 @@ goes-parts c s net up held down marks taken i moment wish ask false (Some link) 
     by true = goes-ends c net up held down marks taken i ok
     by false = goes-ends c (net_tells s net e) up held down marks taken i (spells-tells c s net e up held down marks taken ok)
 
-breaks-res : {W : Type 0} (c : Codecs) (s : Machine W) (n : ℕ) (run : Run W) (up held down : ℕ → List ℕ) (marks : ℕ → Bool) (taken : List ℕ) → IsCodec FitsRequest heard c.up → Locked run → Spells c (flat run) up held down marks taken
+breaks-res : {W : Type 0} (c : Codecs) (s : Machine W) (n : ℕ) (run : Run W) (up held down : ℕ → List ℕ) (marks : ℕ → Bool) (taken : List ℕ) → IsCodec FitsNumbered seen_request c.up → Locked run → Spells c (flat run) up held down marks taken
     → (line_breaks c (made (flat run) up held down marks taken)).client.row < 1900 → Res c s n run (line_breaks c (made (flat run) up held down marks taken))
 breaks-res c s n run up held down marks taken codec l ok less =
     let cell : Carrier = record { end = fresh_end; up = Opens ∷ []; down = [] } in
     let i : ℕ = suc run.top in
-    res-one c s n run (line_breaks c (made (flat run) up held down marks taken)) FBreaks (net_breaks (flat run)) (set up i (c.up.spell Opens)) (set held i []) (set down i []) (set marks i false) [] tt
+    res-one c s n run (line_breaks c (made (flat run) up held down marks taken)) FBreaks (net_breaks (flat run)) (set up i (c.up.spell (0, Opens))) (set held i []) (set down i []) (set marks i false) [] tt
     (step-same s run FBreaks l)
-    (λ k. record { client = begins run.client; top = i; ends = λ j. end-set (flat run).links i cell j k; world = run.world; history = run.history; up = set up i (c.up.spell Opens); held = set held i []; down = set down i []; again = set marks i false; taken = [] })
+    (λ k. record { client = begins run.client; top = i; ends = λ j. end-set (flat run).links i cell j k; world = run.world; history = run.history; up = set up i (c.up.spell (0, Opens)); held = set held i []; down = set down i []; again = set marks i false; taken = [] })
     (record {
       ups_ok = λ j. elim (cases_eq j i) [
-        | inl at_i ↦ subst (λ (y : Carrier × List ℕ × List ℕ × Bool). UpOk c.up y.0.up y.0.end.ended y.1 y.2 y.3) (λ k. (sym (set-at (flat run).links i cell j at_i) k, sym (set-at held i [] j at_i) k, sym (set-at up i (c.up.spell Opens) j at_i) k, sym (set-at marks i false j at_i) k))
-            (refl, (λ e f. spell-some FitsRequest heard c.up codec Opens tt f), refl)
-        | inr off ↦ subst (λ (y : Carrier × List ℕ × List ℕ × Bool). UpOk c.up y.0.up y.0.end.ended y.1 y.2 y.3) (λ k. (sym (set-off (flat run).links i cell j off) k, sym (set-off held i [] j off) k, sym (set-off up i (c.up.spell Opens) j off) k, sym (set-off marks i false j off) k)) (ok.ups_ok j)
+        | inl at_i ↦ subst (λ (y : Carrier × List ℕ × List ℕ × Bool). UpOk c.up y.0.up y.0.end.ended y.1 y.2 y.3) (λ k. (sym (set-at (flat run).links i cell j at_i) k, sym (set-at held i [] j at_i) k, sym (set-at up i (c.up.spell (0, Opens)) j at_i) k, sym (set-at marks i false j at_i) k))
+            (0, lit< tt, refl, (λ e f. spell-some FitsNumbered seen_request c.up codec (0, Opens) (lit< tt, tt) f), refl)
+        | inr off ↦ subst (λ (y : Carrier × List ℕ × List ℕ × Bool). UpOk c.up y.0.up y.0.end.ended y.1 y.2 y.3) (λ k. (sym (set-off (flat run).links i cell j off) k, sym (set-off held i [] j off) k, sym (set-off up i (c.up.spell (0, Opens)) j off) k, sym (set-off marks i false j off) k)) (ok.ups_ok j)
       ];
       down_ok = subst (λ (y : Carrier × List ℕ). DownOk c.down (begins run.client) y.0.down [] y.1) (λ k. (sym (set-at (flat run).links i cell i refl) k, sym (set-at down i [] i refl) k)) (refl, refl);
     }) less
@@ -454,21 +461,21 @@ line-runs c s n w0 run x (e ∷ es) codecs fits r ok =
       next = subst (λ y. Rel c y (line_run c s.machine (line_step c s.machine x e) es)) (run-joined s.machine run first.events rest.events) rest.next;
     }
 
-starts-rel : {W : Type 0} (c : Codecs) (w : W) → IsCodec FitsRequest heard c.up → Rel c (start w) (line_start c w)
+starts-rel : {W : Type 0} (c : Codecs) (w : W) → IsCodec FitsNumbered seen_request c.up → Rel c (start w) (line_start c w)
 starts-rel {W} c w codec =
     record {
       locked = locked-start w;
-      up = set (λ j. []) 0 (c.up.spell Opens);
+      up = set (λ j. []) 0 (c.up.spell (0, Opens));
       held = λ j. [];
       down = λ j. [];
       marks = λ j. false;
       taken = [];
-      is = (λ k. record { client = (start w).client; top = 0; ends = λ j. end-set (λ m. blank_cell) 0 cell j k; world = w; history = []; up = set (λ j. []) 0 (c.up.spell Opens); held = λ j. []; down = λ j. []; again = λ j. false; taken = [] }) ∙ ap (λ (y : Net W). made y (set (λ j. []) 0 (c.up.spell Opens)) (λ j. []) (λ j. []) (λ j. false) []) (sym (starts-same w));
-      ok = subst (λ (y : Net W). Spells c y (set (λ j. []) 0 (c.up.spell Opens)) (λ j. []) (λ j. []) (λ j. false) []) (sym (starts-same w))
+      is = (λ k. record { client = (start w).client; top = 0; ends = λ j. end-set (λ m. blank_cell) 0 cell j k; world = w; history = []; up = set (λ j. []) 0 (c.up.spell (0, Opens)); held = λ j. []; down = λ j. []; again = λ j. false; taken = [] }) ∙ ap (λ (y : Net W). made y (set (λ j. []) 0 (c.up.spell (0, Opens))) (λ j. []) (λ j. []) (λ j. false) []) (sym (starts-same w));
+      ok = subst (λ (y : Net W). Spells c y (set (λ j. []) 0 (c.up.spell (0, Opens))) (λ j. []) (λ j. []) (λ j. false) []) (sym (starts-same w))
           (record {
             ups_ok = λ j. elim (cases_eq j 0) [
-              | inl at_i ↦ subst (λ (y : Carrier × List ℕ). UpOk c.up y.0.up y.0.end.ended [] y.1 false) (λ k. (sym (set-at (λ m. blank_cell) 0 cell j at_i) k, sym (set-at (λ m. []) 0 (c.up.spell Opens) j at_i) k)) (refl, (λ e f. spell-some FitsRequest heard c.up codec Opens tt f), refl)
-              | inr off ↦ subst (λ (y : Carrier × List ℕ). UpOk c.up y.0.up y.0.end.ended [] y.1 false) (λ k. (sym (set-off (λ m. blank_cell) 0 cell j off) k, sym (set-off (λ m. []) 0 (c.up.spell Opens) j off) k)) (refl, refl)
+              | inl at_i ↦ subst (λ (y : Carrier × List ℕ). UpOk c.up y.0.up y.0.end.ended [] y.1 false) (λ k. (sym (set-at (λ m. blank_cell) 0 cell j at_i) k, sym (set-at (λ m. []) 0 (c.up.spell (0, Opens)) j at_i) k)) (0, lit< tt, refl, (λ e f. spell-some FitsNumbered seen_request c.up codec (0, Opens) (lit< tt, tt) f), refl)
+              | inr off ↦ subst (λ (y : Carrier × List ℕ). UpOk c.up y.0.up y.0.end.ended [] y.1 false) (λ k. (sym (set-off (λ m. blank_cell) 0 cell j off) k, sym (set-off (λ m. []) 0 (c.up.spell (0, Opens)) j off) k)) (refl, refl)
             ];
             down_ok = (refl, refl);
           });

@@ -19,27 +19,38 @@ pub record IsCodec {F G : Type 0} (Fits : F → Type 0) (seen : F → G) (c : Co
   pub whole : (f : F) → Fits f → c.front (c.spell f) ≡ Some (seen f, [])
   pub part : (f : F) (a b : List ℕ) → Fits f → a ++ b ≡ c.spell f → (b ≡ [] → ⊥) → c.front a ≡ None
 
--- requests, and replies with what was read of their requests
+-- requests, each with the last id of its opening, and replies with what was read of their requests and its id
 pub record Codecs : Type 0 where
-  pub up : Codec Request Heard
-  pub down : Codec (Heard × Answer) (Tag × Answer)
+  pub up : Codec (ℕ × Request) (ℕ × Heard)
+  pub down : Codec ((ℕ × Heard) × Answer) (Tag × Answer)
+
+-- the id of a request: an OpenSession has the last one of its opening
+abbrev pub own_id : ℕ → Request → ℕ
+own_id last Opens = last
+own_id last (Asks id body again) = id
+
+abbrev pub seen_request : ℕ × Request → ℕ × Heard
+seen_request x = (own_id x.0 x.1, heard x.1)
 
 abbrev pub FitsRequest : Request → Type 0
 FitsRequest Opens = Unit {0}
 FitsRequest (Asks id body again) = IsId id × FitsBody body
 
+abbrev pub FitsNumbered : ℕ × Request → Type 0
+FitsNumbered x = IsId (own_id x.0 x.1) × FitsRequest x.1
+
 abbrev pub FitsReplyTo : Heard → Answer → Type 0
 FitsReplyTo HeardOpen a = FitsAnswer a × FitsOpening a
 FitsReplyTo (HeardCall id body) a = IsId id × FitsAnswer a
 
-abbrev pub FitsReply : Heard × Answer → Type 0
-FitsReply x = FitsReplyTo x.0 x.1
+abbrev pub FitsReply : (ℕ × Heard) × Answer → Type 0
+FitsReply x = IsId x.0.0 × FitsReplyTo x.0.1 x.1
 
-abbrev pub seen_reply : Heard × Answer → Tag × Answer
-seen_reply x = (tag_of x.0, x.1)
+abbrev pub seen_reply : (ℕ × Heard) × Answer → Tag × Answer
+seen_reply x = (tag_of x.0.1, x.1)
 
 pub record AreCodecs (c : Codecs) : Type 0 where
-  pub up : IsCodec FitsRequest heard c.up
+  pub up : IsCodec FitsNumbered seen_request c.up
   pub down : IsCodec FitsReply seen_reply c.down
 
 -- Each link: its server end; the bytes under way to it, those that it holds, and those under way to the client; and, which no byte tells, whether the request under
@@ -67,18 +78,18 @@ pub data ByteEvent : Type 0 where
   Breaks : ByteEvent
   Others : (e : Entry) → ByteEvent
 
-abbrev pub spelt : {F G : Type 0} → Codec F G → List F → List ℕ
-spelt c [] = []
-spelt c (f ∷ fs) = c.spell f ++ spelt c fs
+abbrev pub spelt : Codec (ℕ × Request) (ℕ × Heard) → ℕ → List Request → List ℕ
+spelt c last [] = []
+spelt c last (r ∷ rs) = c.spell (last, r) ++ spelt c last rs
 
-abbrev pub spelt_reply : Codec (Heard × Answer) (Tag × Answer) → Heard → Option Answer → List ℕ
-spelt_reply c h None = []
-spelt_reply c h (Some a) = c.spell (h, a)
+abbrev pub spelt_reply : Codec ((ℕ × Heard) × Answer) (Tag × Answer) → ℕ × Heard → Option Answer → List ℕ
+spelt_reply c read None = []
+spelt_reply c read (Some a) = c.spell (read, a)
 
 -- it asks its next command
 abbrev pub line_commands : {W : Type 0} → Codecs → Line W → Stage → Option Wait → Call → Line W
 line_commands c x Ready None call =
-    record x { client = draws x.client call 0 x.client.row x.client.results; up = set x.up x.top (x.up x.top ++ c.up.spell (Asks (id_of x.client.first x.client.drawn) (Does call) false)); again = set x.again x.top false }
+    record x { client = draws x.client call 0 x.client.row x.client.results; up = set x.up x.top (x.up x.top ++ c.up.spell (x.client.opening_id, Asks (id_of x.client.first x.client.drawn) (Does call) false)); again = set x.again x.top false }
 line_commands c x Ready (Some w) call = x
 line_commands c x Opening w call = x
 line_commands c x Entering w call = x
@@ -86,7 +97,7 @@ line_commands c x Joining w call = x
 line_commands c x Gone w call = x
 
 -- bytes reach a server end: those that it holds then, and those still under way
-abbrev pub line_handled : {W : Type 0} → Codecs → Line W → ℕ → Heard → List ℕ → List ℕ → Handled W → Line W
+abbrev pub line_handled : {W : Type 0} → Codecs → Line W → ℕ → ℕ × Heard → List ℕ → List ℕ → Handled W → Line W
 line_handled c x i read rest under h =
     record {
       client = x.client;
@@ -101,9 +112,9 @@ line_handled c x i read rest under h =
       again = x.again;
     }
 
-abbrev pub line_front : {W : Type 0} → Codecs → Machine W → Line W → ℕ → ℕ → Wish → List ℕ → List ℕ → Option (Heard × List ℕ) → Line W
+abbrev pub line_front : {W : Type 0} → Codecs → Machine W → Line W → ℕ → ℕ → Wish → List ℕ → List ℕ → Option ((ℕ × Heard) × List ℕ) → Line W
 line_front c s x i moment wish holds under None = record x { up = set x.up i under; held = set x.held i holds }
-line_front c s x i moment wish holds under (Some f) = line_handled c x i f.0 f.1 under (handles s x.world moment wish (x.ends i) (x.ends i).number f.0)
+line_front c s x i moment wish holds under (Some f) = line_handled c x i f.0 f.1 under (handles s x.world moment wish (x.ends i) (x.ends i).number f.0.1)
 
 abbrev pub line_fed : {W : Type 0} → Codecs → Machine W → Line W → ℕ → ℕ → Wish → List ℕ → List ℕ → Line W
 line_fed c s x i moment wish holds under = line_front c s x i moment wish holds under (c.up.front holds)
@@ -124,7 +135,7 @@ line_taken c x holds rest under (Some t) =
       taken = rest;
       held = x.held;
       ends = set x.ends x.top (record { number = (x.ends x.top).number; ended = (x.ends x.top).ended; got = (x.ends x.top).got || t.got });
-      up = set x.up x.top (x.up x.top ++ spelt c.up t.writes);
+      up = set x.up x.top (x.up x.top ++ spelt c.up t.client.opening_id t.writes);
       down = set x.down x.top under;
       again = set x.again x.top (is_again_first t.writes);
     }
@@ -145,7 +156,7 @@ line_breaks c x =
       history = x.history;
       taken = [];
       ends = set x.ends (suc x.top) fresh_end;
-      up = set x.up (suc x.top) (c.up.spell Opens);
+      up = set x.up (suc x.top) (c.up.spell (0, Opens));
       held = set x.held (suc x.top) [];
       down = set x.down (suc x.top) [];
       again = set x.again (suc x.top) false;
@@ -190,12 +201,12 @@ line_run c s x [] = x
 line_run c s x (e ∷ es) = line_run c s (line_step c s x e) es
 
 abbrev pub line_start : {W : Type 0} → Codecs → W → Line W
-line_start c w = record { client = fresh_client; top = 0; ends = set (λ j. fresh_end) 0 fresh_end; world = w; history = []; up = set (λ j. []) 0 (c.up.spell Opens); held = λ j. []; down = λ j. []; again = λ j. false; taken = [] }
+line_start c w = record { client = fresh_client; top = 0; ends = set (λ j. fresh_end) 0 fresh_end; world = w; history = []; up = set (λ j. []) 0 (c.up.spell (0, Opens)); held = λ j. []; down = λ j. []; again = λ j. false; taken = [] }
 
 -- ---- the premises and the theorem
 
 -- a request is whole, and was written before a break
-abbrev pub is_again_at : Option (Heard × List ℕ) → Bool → Bool
+abbrev pub is_again_at : Option ((ℕ × Heard) × List ℕ) → Bool → Bool
 is_again_at None again = false
 is_again_at (Some f) again = again
 

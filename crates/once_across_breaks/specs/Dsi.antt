@@ -12,7 +12,6 @@ use Rattle.dsi_frame.specs.Stream.{Begins}
 use Rattle.dsi_frame.specs.declared.frame.DsiCommand.{DsiCommand}
 use Rattle.dsi_frame.specs.declared.frame.DsiCommand.TheVariants as commands
 use Rattle.dsi_session.specs.Options.{attention_quantum_type, number_option, option_spelling, server_options}
-use Rattle.dsi_session.specs.RequestIds.{first_request_id}
 use Rattle.volume_spec.specs.TypedVolume.{are_bytes, is_long}
 use Rattle.once_across_breaks.specs.Messages.{Answer, Fine, MiscErr, NoMemory, Refuses, Sent, body_of, is_carried}
 use Rattle.once_across_breaks.specs.Run.{Request}
@@ -54,16 +53,16 @@ FindsFrame = (bytes rest : List ℕ) (f : Frame) → IsBytes bytes → (frame_at
 abbrev pub told_quantum : ℕ
 told_quantum = 1024
 
-abbrev pub open_frame : Frame
-open_frame = record { reply = false; command = commands.OpenSession; id = first_request_id; word = 0; payload = option_spelling (number_option attention_quantum_type told_quantum) }
+abbrev pub open_frame : ℕ → Frame
+open_frame id = record { reply = false; command = commands.OpenSession; id = id; word = 0; payload = option_spelling (number_option attention_quantum_type told_quantum) }
 
 abbrev pub call_command : Bool → DsiCommand
 call_command true = commands.Write
 call_command false = commands.Command
 
-abbrev pub request_frame : Setup → Heard → Frame
-request_frame u HeardOpen = open_frame
-request_frame u (HeardCall id body) = record { reply = false; command = call_command (written u body).write; id = id; word = (written u body).offset; payload = (written u body).payload }
+abbrev pub request_frame : Setup → ℕ → Heard → Frame
+request_frame u last HeardOpen = open_frame last
+request_frame u last (HeardCall id body) = record { reply = false; command = call_command (written u body).write; id = id; word = (written u body).offset; payload = (written u body).payload }
 
 -- what a Command or a Write carries, where its fields are in their ranges
 abbrev pub sent_by : (write : Bool) (offset : ℕ) (payload : List ℕ) (a b : Bool) → (is_long offset && are_bytes payload) ≡ a → is_carried write offset payload ≡ b → Option Sent
@@ -74,14 +73,14 @@ sent_by write offset payload false b typed sized = None
 abbrev pub sent_of : Bool → ℕ → List ℕ → Option Sent
 sent_of write offset payload = sent_by write offset payload (is_long offset && are_bytes payload) (is_carried write offset payload) (λ i. is_long offset && are_bytes payload) (λ i. is_carried write offset payload)
 
-abbrev pub read_call : ℕ → List ℕ → Option Sent → Option (Heard × List ℕ)
+abbrev pub read_call : ℕ → List ℕ → Option Sent → Option ((ℕ × Heard) × List ℕ)
 read_call id rest None = None
-read_call id rest (Some sent) = Some (HeardCall id (body_of sent), rest)
+read_call id rest (Some sent) = Some ((id, HeardCall id (body_of sent)), rest)
 
 -- As the server's end reads it: a Command's word is nothing to it.
-abbrev pub read_request : Bool → DsiCommand → ℕ → ℕ → List ℕ → List ℕ → Option (Heard × List ℕ)
+abbrev pub read_request : Bool → DsiCommand → ℕ → ℕ → List ℕ → List ℕ → Option ((ℕ × Heard) × List ℕ)
 read_request true command id word payload rest = None
-read_request false commands.OpenSession id word payload rest = Some (HeardOpen, rest)
+read_request false commands.OpenSession id word payload rest = Some ((id, HeardOpen), rest)
 read_request false commands.Command id word payload rest = read_call id rest (sent_of false 0 payload)
 read_request false commands.Write id word payload rest = read_call id rest (sent_of true word payload)
 read_request false commands.CloseSession id word payload rest = None
@@ -89,12 +88,12 @@ read_request false commands.GetStatus id word payload rest = None
 read_request false commands.Tickle id word payload rest = None
 read_request false commands.Attention id word payload rest = None
 
-abbrev pub read_up : Option (Frame × List ℕ) → Option (Heard × List ℕ)
+abbrev pub read_up : Option (Frame × List ℕ) → Option ((ℕ × Heard) × List ℕ)
 read_up None = None
 read_up (Some x) = read_request x.0.reply x.0.command x.0.id x.0.word x.0.payload x.1
 
-abbrev pub dsi_up : Setup → Codec Request Heard
-dsi_up u = record { spell = λ r. canonical_frame (request_frame u (heard r)); front = λ bytes. read_up (frame_at bytes) }
+abbrev pub dsi_up : Setup → Codec (ℕ × Request) (ℕ × Heard)
+dsi_up u = record { spell = λ x. canonical_frame (request_frame u x.0 (heard x.1)); front = λ bytes. read_up (frame_at bytes) }
 
 -- ---- replies
 
@@ -127,8 +126,8 @@ abbrev pub reply_block : Heard → Answer → List ℕ
 reply_block HeardOpen a = told_options a
 reply_block (HeardCall id body) a = answered_block a
 
-abbrev pub reply_frame : Setup → Heard → Answer → Frame
-reply_frame u h a = reply_to (request_frame u h) (answered_code a) (reply_block h a)
+abbrev pub reply_frame : Setup → ℕ × Heard → Answer → Frame
+reply_frame u read a = reply_to (request_frame u read.0 read.1) (answered_code a) (reply_block read.1 a)
 
 abbrev pub all_codes : List Code
 all_codes =
@@ -157,7 +156,7 @@ abbrev pub read_down : Option (Frame × List ℕ) → Option ((Tag × Answer) ×
 read_down None = None
 read_down (Some x) = read_reply x.0.reply x.0.command x.0.id (code_in x.0.word) x.0.payload x.1
 
-abbrev pub dsi_down : Setup → Codec (Heard × Answer) (Tag × Answer)
+abbrev pub dsi_down : Setup → Codec ((ℕ × Heard) × Answer) (Tag × Answer)
 dsi_down u = record { spell = λ x. canonical_frame (reply_frame u x.0 x.1); front = λ bytes. read_down (frame_at bytes) }
 
 -- ---- both

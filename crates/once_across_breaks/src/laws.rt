@@ -52,7 +52,7 @@ pub fn want_of_memory_behind_a_break_is_left_out()
 
 /// What the law calls in effect is in effect in the history of the serial file server: the same calls, in the same order, each told the same.
 /// What the client writes is read as what it asks, the token of any session can be carried, and a client may log in
-/// by any FPLogin whose words fit their counts.
+/// by any FPLogin whose words fit their counts and that a frame can carry.
 pub fn effects_are_those_of_the_history()
     ensures same { history.EffectsAreTheHistorys }
     ensures read { history.WrittenIsRead }
