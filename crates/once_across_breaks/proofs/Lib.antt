@@ -24,3 +24,4 @@ pub mod Effects
 pub mod DsiFront
 pub mod DsiUp
 pub mod DsiDown
+pub mod WithoutPremises

@@ -74,7 +74,7 @@ push-by : (b : Bool) (r : Done) (rs more after : List Done) → after ≡ rs ++ 
 push-by true r rs more after e = ap (λ xs. r ∷ xs) e
 push-by false r rs more after e = e
 
-kept-push : (rs : List Done) (d : Done) → kept (rs ++ d ∷ []) ≡ kept rs ++ cond (not (is_miss d.answer)) (d ∷ []) []
+pub kept-push : (rs : List Done) (d : Done) → kept (rs ++ d ∷ []) ≡ kept rs ++ cond (not (is_miss d.answer)) (d ∷ []) []
 kept-push [] d = refl
 kept-push (r ∷ rs) d = push-by (not (is_miss r.answer)) r (kept rs) (cond (not (is_miss d.answer)) (d ∷ []) []) (kept (rs ++ d ∷ [])) (kept-push rs d)
 

@@ -9,5 +9,6 @@ pub mod Bytes
 pub mod Serial
 pub mod Counting
 pub mod Example
+pub mod Premises
 pub mod Effects
 pub mod Dsi

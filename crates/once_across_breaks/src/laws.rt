@@ -3,6 +3,7 @@ ghost use Rattle.once_across_breaks.specs.Dsi as frames;
 ghost use Rattle.once_across_breaks.specs.Effects as history;
 ghost use Rattle.once_across_breaks.specs.Example as example;
 ghost use Rattle.once_across_breaks.specs.Laws as laws;
+ghost use Rattle.once_across_breaks.specs.Premises as premises;
 
 use afp_calls_grammar::laws::what_is_written_is_read_again;
 use afp_serial::laws::{
@@ -48,6 +49,19 @@ pub fn a_lost_reply_is_told_again()
 /// Without the premise on want of memory behind a break a command can run twice.
 pub fn want_of_memory_behind_a_break_is_left_out()
     ensures { example.RunsTwice }
+{}
+
+/// Without the premise on others they can act in the client's session, with its token or on its link: their command is in effect there, and the client has no
+/// result of it.
+pub fn others_in_the_clients_session_are_left_out()
+    ensures token { premises.OthersTookTheSession }
+    ensures link { premises.OthersAskedOnTheLink }
+{}
+
+/// Without the premise on commands in a row that have no effect their ids can come round: a command is told the answer that is kept of an older one, equal
+/// to it with an equal id, and does not run.
+pub fn long_rows_without_effect_are_left_out()
+    ensures { premises.AnOldAnswerIsTold }
 {}
 
 /// What the law calls in effect is in effect in the history of the serial file server: the same calls, in the same order, each told the same.
