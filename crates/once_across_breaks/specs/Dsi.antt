@@ -79,7 +79,7 @@ read_call id rest (Some sent) = Some ((id, HeardCall id (body_of sent)), rest)
 
 -- As the server's end reads it: a Command's word is nothing to it.
 abbrev pub read_request : Bool → DsiCommand → ℕ → ℕ → List ℕ → List ℕ → Option ((ℕ × Heard) × List ℕ)
-read_request true command id word payload rest = None
+read_request true kind id word payload rest = None
 read_request false commands.OpenSession id word payload rest = Some ((id, HeardOpen), rest)
 read_request false commands.Command id word payload rest = read_call id rest (sent_of false 0 payload)
 read_request false commands.Write id word payload rest = read_call id rest (sent_of true word payload)
@@ -142,8 +142,8 @@ abbrev pub code_in : ℕ → Option Code
 code_in word = find (λ c. nat_eq (code_word c) word) all_codes
 
 abbrev pub read_reply : Bool → DsiCommand → ℕ → Option Code → List ℕ → List ℕ → Option ((Tag × Answer) × List ℕ)
-read_reply false command id c payload rest = None
-read_reply true command id None payload rest = None
+read_reply false kind id c payload rest = None
+read_reply true kind id None payload rest = None
 read_reply true commands.OpenSession id (Some c) payload rest = Some ((OfOpening, without_options (answer_by c payload)), rest)
 read_reply true commands.Command id (Some c) payload rest = Some ((OfCall id, answer_by c payload), rest)
 read_reply true commands.Write id (Some c) payload rest = Some ((OfCall id, answer_by c payload), rest)
