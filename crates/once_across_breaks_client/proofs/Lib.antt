@@ -1,0 +1,9 @@
+mod Ids
+mod Breaking
+mod Asking
+mod Opened
+mod Told
+mod Replying
+mod Calling
+mod Running
+mod Eventing

@@ -1,0 +1,5 @@
+pub mod Requests
+pub mod Related
+pub mod Moves
+pub mod Steps
+pub mod Runs

@@ -1,0 +1,47 @@
+//! The laws. Each function says some, and does nothing.
+ghost use Rattle.once_across_breaks_client.specs.Moves.{MovesAreEvents};
+ghost use Rattle.once_across_breaks_client.specs.Runs.{FirstRunsAreMoves, LinksAreMoves, RunsAreMoves};
+ghost use Rattle.once_across_breaks_client.specs.Steps.{AsksAreCommands, BeginsAreBreaks, BreaksStay, CallsAreCommands, LoginsAreTheirs, OnlyRepliesAreTaken, RepliesAreTaken, RequestsLeaveAll, TagsAreShown};
+
+use afp_calls_grammar::laws::one_request_for_each;
+use dsi_session::ids_count_in_rounds;
+use once_across_breaks::laws::effects_are_those_of_the_history;
+
+/// Each step of the client is one of the law's client, or leaves it as it is, and writes the same: a break, the beginning of a link, a call
+/// that is asked, a reply that comes.
+pub fn steps_are_those_of_the_law()
+    ensures breaks { BreaksStay }
+    ensures begins { BeginsAreBreaks }
+    ensures asks { AsksAreCommands }
+    ensures replies { RepliesAreTaken }
+    ensures tags { TagsAreShown }
+    ensures others { OnlyRepliesAreTaken }
+    ensures requests { RequestsLeaveAll }
+{
+    ids_count_in_rounds();
+}
+
+/// Each call that the client can be asked is a command of the law, and each login is one that the law's client may have.
+pub fn calls_are_commands()
+    ensures calls { CallsAreCommands }
+    ensures logins { LoginsAreTheirs }
+{
+    one_request_for_each();
+    effects_are_those_of_the_history();
+}
+
+/// Whatever the client does, step by step, the law's client does: it makes these moves, writes the same requests, and has the same results; so
+/// too on one link, whatever bytes come on it.
+pub fn runs_are_those_of_the_law()
+    ensures runs { RunsAreMoves }
+    ensures first { FirstRunsAreMoves }
+    ensures link { LinksAreMoves }
+{
+    ids_count_in_rounds();
+    one_request_for_each();
+}
+
+/// The moves of the law's client are its events over links that carry lists of frames.
+pub fn moves_are_events()
+    ensures { MovesAreEvents }
+{}
