@@ -5,5 +5,8 @@ mod Opened
 mod Told
 mod Replying
 mod Calling
+mod Typed
 mod Running
 mod Eventing
+mod Few
+mod Reading

@@ -16,9 +16,10 @@ use Rattle.afp_client.specs.declared.stage.Stage as real
 use Rattle.afp_client.specs.declared.stage.Stage.TheVariants as stages
 use Rattle.once_across_breaks.specs.Messages.{Answer, Does, Fine, Login, MiscErr, NoMemory, Refuses, wire_id}
 use Rattle.once_across_breaks.specs.Run.{Client, Entering, Gone, Joining, Opening, Ready, Stage, Wait, last_body}
+use Rattle.once_across_breaks.specs.Dsi.{call_command}
 use Rattle.once_across_breaks.specs.Frames.{Heard, HeardCall, HeardOpen, OfCall, Tag, Taken, client_takes, opening_taken, reply_taken, request_that_waits, step_taken, tag_of, waiting_request, waiting_taken}
 use Rattle.once_across_breaks.specs.Serial.{Framed, Setup, answer_by, written}
-use Rattle.once_across_breaks_client.specs.Requests.{IsAnswer, kind_of, request_frame, tag_by, tag_in, without_block}
+use Rattle.once_across_breaks_client.specs.Requests.{IsAnswer, request_frame, tag_by, tag_in, without_block}
 use Rattle.once_across_breaks_client.specs.Related.{IsClient, IsStage, stage_at, waiting_of}
 use Rattle.once_across_breaks_client.specs.Steps.{AreSame, IsReplyTo, IsTaken, OnlyRepliesAreTaken, RepliesAreTaken, RequestsLeaveAll, Stays, TagsAreShown}
 use Rattle.once_across_breaks_client.proofs.Opened.{opening-same}
@@ -49,8 +50,8 @@ written-last u (Some token) = refl
 
 opening-kind : (u : Setup) (c : Client) (s : ClientState) (at_step : OpeningStep) → IsClient u c s → (request_frame u c.opening_id (opening_heard c at_step)).command ≡ opening_command at_step
 opening-kind u c s steps.OpenSession h = refl
-opening-kind u c s steps.Login h = ap (λ (f : Framed). kind_of f.write) h.login
-opening-kind u c s steps.Session h = ap kind_of (written-last u c.token)
+opening-kind u c s steps.Login h = ap (λ (f : Framed). call_command f.write) h.login
+opening-kind u c s steps.Session h = ap call_command (written-last u c.token)
 
 opening-id : (u : Setup) (c : Client) (at_step : OpeningStep) → (request_frame u c.opening_id (opening_heard c at_step)).id ≡ wire_id c.opening_id
 opening-id u c steps.OpenSession = refl
@@ -89,10 +90,10 @@ alike c steps.Login a b there is = ap (λ (x : Answer). opening_taken c x) is
 alike c steps.Session a b there is = ap (λ (x : Answer). opening_taken c x) is
 
 -- a reply to a Command or a Write shows its id
-call-tag : (write : Bool) (id : ℕ) (command : DsiCommand) (shown : ℕ) → ((command_number command == command_number (kind_of write)) && (shown == id)) ≡ true → tag_by command shown ≡ OfCall id
+call-tag : (write : Bool) (id : ℕ) (command : DsiCommand) (shown : ℕ) → ((command_number command == command_number (call_command write)) && (shown == id)) ≡ true → tag_by command shown ≡ OfCall id
 call-tag true id commands.OpenSession shown is = absurd (cc)
 call-tag false id commands.OpenSession shown is = absurd (cc)
-call-tag write id command shown is = ap (λ (n : ℕ). OfCall n) (eqb-true shown id (and_parts (command_number command == command_number (kind_of write)) (shown == id) is).1)
+call-tag write id command shown is = ap (λ (n : ℕ). OfCall n) (eqb-true shown id (and_parts (command_number command == command_number (call_command write)) (shown == id) is).1)
 
 its-tag : (u : Setup) (c : Client) (s : ClientState) (w : Wait) (f : Frame) → IsClient u c s → c.wait ≡ Some w → answers (its_waiting u w).request.command (its_waiting u w).request.id f ≡ true → tag_in f ≡ OfCall w.id
 its-tag u c s w f h waits is =
@@ -173,6 +174,20 @@ shown-in u c s r a f Gone h waits reply = refl
 
 pub tags-are-shown : TagsAreShown
 tags-are-shown u c s r a f h waits reply = shown-in u c s r a f c.stage h waits reply
+
+-- and what it takes does not depend on what it does not read
+alike-in : (c : Client) (r : Heard) (tag : Tag) (a b : Answer) (stage : Stage) (wait : Option Wait) → c.stage ≡ stage → c.wait ≡ wait → request_that_waits c stage ≡ Some r → IsAnswer r a b → client_takes c stage tag a ≡ client_takes c stage tag b
+alike-in c r tag a b Opening wait there is waits says = alike c steps.OpenSession a b there (subst (λ (x : Heard). IsAnswer x a b) (same-request r HeardOpen (sym waits)) says)
+alike-in c r tag a b Entering wait there is waits says = alike c steps.Login a b there (subst (λ (x : Heard). IsAnswer x a b) (same-request r (HeardCall c.opening_id Login) (sym waits)) says)
+alike-in c r tag a b Joining wait there is waits says = alike c steps.Session a b there (subst (λ (x : Heard). IsAnswer x a b) (same-request r (HeardCall c.opening_id (last_body c.token)) (sym waits)) says)
+alike-in c r tag a b Ready None there is waits says = absurd (let e : None ≡ Some r = sym (ap waiting_request is) ∙ waits in cc)
+alike-in c r tag a b Ready (Some w) there is waits says =
+    let same : r ≡ HeardCall w.id (Does w.call) = same-request r (HeardCall w.id (Does w.call)) (sym waits ∙ ap waiting_request is) in
+    ap (λ (x : Answer). waiting_taken c c.wait tag x) (subst (λ (x : Heard). IsAnswer x a b) same says)
+alike-in c r tag a b Gone wait there is waits says = refl
+
+pub alike-taken : (c : Client) (r : Heard) (tag : Tag) (a b : Answer) → request_that_waits c c.stage ≡ Some r → IsAnswer r a b → client_takes c c.stage tag a ≡ client_takes c c.stage tag b
+alike-taken c r tag a b waits says = alike-in c r tag a b c.stage c.wait refl refl waits says
 
 -- ---- what is taken is a reply to it
 

@@ -1,15 +1,13 @@
 -- Whatever a client does, step by step, the law's client does.
-use Rattle.std.proofs.Common.{◌≡◌, ◌∙◌, refl, sym, ap, subst, ℕ, suc, Bool, true, false, not, cond, List, [], ◌∷◌, ◌++◌, Option, Some, None, IfSome, inl, inr, append-nil, append_assoc}
+use Rattle.std.proofs.Common.{◌≡◌, ◌∙◌, refl, sym, ap, subst, ℕ, Bool, true, false, not, cond, List, [], ◌∷◌, ◌++◌, Option, Some, None, IfSome, inl, inr, append-nil, append_assoc}
 use Rattle.std.specs.Prelude.{map}
-use Rattle.std.proofs.lemmas.Bool.{and_from, cases_Bool, lt-ltb}
+use Rattle.std.proofs.lemmas.Bool.{cases_Bool}
 use Rattle.std.proofs.lemmas.List.Elements.{filter-append}
 use Rattle.std.specs.List.{AllByRecursion}
 use Rattle.afp_base.proofs.ListFacts.{all-ends}
-use Rattle.afp_base.specs.Bytes.{IsBytes}
 use Rattle.afp_base.specs.declared.code.Code.{Code}
-use Rattle.dsi_frame.specs.Frame.{Frame, header}
+use Rattle.dsi_frame.specs.Frame.{Frame}
 use Rattle.dsi_frame.specs.Replies.{code_word, listed}
-use Rattle.dsi_frame.specs.Stream.{Spelled}
 use Rattle.dsi_session.specs.RequestIds.{CountsInRounds, first_request_id}
 use Rattle.afp_calls_grammar.specs.Laws.{IsFunction}
 use Rattle.afp_calls_grammar.specs.declared.call.Call as grammar
@@ -34,6 +32,7 @@ use Rattle.once_across_breaks_client.specs.Runs.{AreResults, FirstRunsAreMoves, 
 use Rattle.once_across_breaks_client.proofs.Breaking.{breaks-stay, begun-client}
 use Rattle.once_across_breaks_client.proofs.Asking.{command_taken, is-asked}
 use Rattle.once_across_breaks_client.proofs.Replying.{only-replies-are-taken, requests-leave-all}
+use Rattle.once_across_breaks_client.proofs.Typed.{bytes-typed, frames-typed}
 use Rattle.once_across_breaks_client.proofs.Calling.{calls-are-commands}
 
 -- ---- frames that are requests
@@ -181,17 +180,6 @@ first-runs-are-moves counts spelt u login t actions frames logs given f =
     run-moves counts spelt u t actions fresh_client (begun (made_client login)) None frames start tt given.calls given.frames f
 
 -- ---- frames of bytes
-
-bytes-typed : (xs : List ℕ) → IsBytes xs → are_bytes xs ≡ true
-bytes-typed [] h = refl
-bytes-typed (x ∷ xs) h = and_from (is_byte x) (are_bytes xs) (lt-ltb x 256 (h 0)) (bytes-typed xs (λ i. h (suc i)))
-
-frames-typed : (bytes : List ℕ) (frames : List Frame) → are_bytes bytes ≡ true → Spelled bytes frames → AllByRecursion IsOfBytes frames
-frames-typed bytes [] typed s = tt
-frames-typed bytes (f ∷ frames) typed s =
-    let parts = all-ends is_byte s.0 s.1 (subst (λ (xs : List ℕ). are_bytes xs ≡ true) s.2 typed) in
-    let payload = all-ends is_byte (header s.3.reserved f) f.payload (subst (λ (xs : List ℕ). are_bytes xs ≡ true) s.3.whole parts.0) in
-    (payload.1, frames-typed s.1 frames parts.1 s.4)
 
 pub links-are-moves : CountsInRounds → IsFunction → LinksAreMoves
 links-are-moves counts spelt u c start now call bytes actions frames h waits are asked_calls link =

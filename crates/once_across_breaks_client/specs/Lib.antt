@@ -3,3 +3,4 @@ pub mod Related
 pub mod Moves
 pub mod Steps
 pub mod Runs
+pub mod OverBytes

@@ -1,5 +1,5 @@
 -- The frames of what the law's client asks, and which command a call is.
-use Rattle.std.specs.Prelude.{◌≡◌, ℕ, ◌+◌, ◌≤◌, Bool, true, false, List, [], ◌++◌, length, Option, Some, None}
+use Rattle.std.specs.Prelude.{◌≡◌, ℕ, ◌+◌, ◌≤◌, true, false, List, [], ◌++◌, length, Option, Some, None}
 use Rattle.afp_base.specs.Limits.{payload_limit}
 use Rattle.dsi_frame.specs.Frame.{Frame}
 use Rattle.dsi_frame.specs.declared.frame.DsiCommand.{DsiCommand}
@@ -7,26 +7,27 @@ use Rattle.dsi_frame.specs.declared.frame.DsiCommand.TheVariants as commands
 use Rattle.afp_calls_grammar.specs.Call.{canonical_call, canonical_data, canonical_piece}
 use Rattle.afp_calls_grammar.specs.declared.call.Call as grammar
 use Rattle.volume_spec.specs.TypedVolume.{are_bytes}
-use Rattle.afp_client.specs.Opening.{login_call, open_session_frame}
+use Rattle.afp_client.specs.Opening.{login_call}
 use Rattle.afp_client.specs.State.{is_of_opening}
 use Rattle.afp_client.specs.declared.login.Login as logins
 use Rattle.once_across_breaks.specs.Messages.{Answer, Call, Does, Fine, MiscErr, NoMemory, Refuses, wire_id}
 use Rattle.once_across_breaks.specs.Run.{Request}
+use Rattle.once_across_breaks.specs.Dsi as dsi
+use Rattle.once_across_breaks.specs.Dsi.{call_command}
 use Rattle.once_across_breaks.specs.Frames.{Heard, HeardCall, HeardOpen, OfCall, OfOpening, Tag, heard}
 use Rattle.once_across_breaks.specs.Serial.{Framed, Setup, framed, in_command, written}
 
-abbrev pub kind_of : Bool → DsiCommand
-kind_of true = commands.Write
-kind_of false = commands.Command
-
 -- the frame of a request of AFP, with this id
 abbrev pub framed_frame : ℕ → Framed → Frame
-framed_frame id f = record { reply = false; command = kind_of f.write; id = id; word = f.offset; payload = f.payload }
+framed_frame id f = record { reply = false; command = call_command f.write; id = id; word = f.offset; payload = f.payload }
 
--- The frame of a request that the law's client writes. OpenSession has the id of its opening.
+-- The frame of a request that the law's client writes, where the opening's last id is this one; ids less whole rounds.
+abbrev pub on_wire : Heard → Heard
+on_wire HeardOpen = HeardOpen
+on_wire (HeardCall id body) = HeardCall (wire_id id) body
+
 abbrev pub request_frame : Setup → ℕ → Heard → Frame
-request_frame u opening HeardOpen = open_session_frame (wire_id opening)
-request_frame u opening (HeardCall id body) = framed_frame (wire_id id) (written u body)
+request_frame u opening h = dsi.request_frame u (wire_id opening) (on_wire h)
 
 abbrev pub frame_of : Setup → ℕ → Request → Frame
 frame_of u opening r = request_frame u opening (heard r)

@@ -1,11 +1,14 @@
 //! The laws. Each function says some, and does nothing.
 ghost use Rattle.once_across_breaks_client.specs.Moves.{MovesAreEvents};
+ghost use Rattle.once_across_breaks_client.specs.OverBytes.{AsksAreSpelt, BeginsAreSpelt, TakenIsRead, UnfinishedIsUnread, WritesAreSpelt};
 ghost use Rattle.once_across_breaks_client.specs.Runs.{FirstRunsAreMoves, LinksAreMoves, RunsAreMoves};
 ghost use Rattle.once_across_breaks_client.specs.Steps.{AsksAreCommands, BeginsAreBreaks, BreaksStay, CallsAreCommands, LoginsAreTheirs, OnlyRepliesAreTaken, RepliesAreTaken, RequestsLeaveAll, TagsAreShown};
 
 use afp_calls_grammar::laws::one_request_for_each;
 use dsi_session::ids_count_in_rounds;
-use once_across_breaks::laws::effects_are_those_of_the_history;
+use once_across_breaks::laws::{
+    effects_are_those_of_the_history, frames_of_dsi_are_such_spellings,
+};
 
 /// Each step of the client is one of the law's client, or leaves it as it is, and writes the same: a break, the beginning of a link, a call
 /// that is asked, a reply that comes.
@@ -45,3 +48,16 @@ pub fn runs_are_those_of_the_law()
 pub fn moves_are_events()
     ensures { MovesAreEvents }
 {}
+
+/// Over bytes: what the client writes is what the law's client spells, and what it takes of the bytes that came is what the law's client
+/// reads of them.
+pub fn bytes_are_those_of_the_law()
+    ensures writes { WritesAreSpelt }
+    ensures asks { AsksAreSpelt }
+    ensures begins { BeginsAreSpelt }
+    ensures taken { TakenIsRead }
+    ensures unfinished { UnfinishedIsUnread }
+{
+    ids_count_in_rounds();
+    frames_of_dsi_are_such_spellings();
+}
