@@ -65,6 +65,7 @@ command_taken c command = record { client = draws c command 0 c.row c.results; w
 
 pub record IsAsked (u : Setup) (c : Client) (s : ClientState) (command : Call) (call : grammar.Call) : Type 0 where
   pub moves : commanded c c.stage c.wait command ≡ Some (command_taken c command)
+  pub opened : c.stage ≡ Ready
   pub idle : c.wait ≡ None
   pub client : IsClient u (draws c command 0 c.row c.results) (asked s call)
   pub writes : call_frame s.next_id call ∷ [] ≡ frames_of u (command_taken c command)
@@ -76,6 +77,7 @@ is-asked counts u c s command call h ready is =
     let frame = call-framed s.next_id (wire_id (id_of c.first c.drawn)) u command call is (next-frame-id u c s h there.1) in
     record {
       moves = λ i. commanded c (there.0 i) (waits i) command;
+      opened = there.0;
       idle = waits;
       client = draws-one counts u c s command 0 c.row c.results (call_frame s.next_id call) 0 h there.1 frame refl;
       writes = λ i. frame i ∷ [];

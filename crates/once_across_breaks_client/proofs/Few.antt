@@ -45,7 +45,7 @@ again-own : (wait : Option Wait) → IfSome wait (λ w. w.id ≡ wire_id w.id) �
 again-own None own = tt
 again-own (Some w) own = (sym own, tt)
 
-anew-few : (stage : Stage) → AreFew (stage_anew stage) 0 0
+pub anew-few : (stage : Stage) → AreFew (stage_anew stage) 0 0
 anew-few Opening = (lit≤ tt, lit≤ tt)
 anew-few Entering = (lit≤ tt, lit≤ tt)
 anew-few Joining = (lit≤ tt, lit≤ tt)

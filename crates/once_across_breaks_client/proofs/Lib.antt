@@ -10,3 +10,4 @@ mod Running
 mod Eventing
 mod Few
 mod Reading
+mod Lines

@@ -18,13 +18,14 @@ use Rattle.afp_client.specs.Run as real
 use Rattle.afp_client.specs.State.{ClientState, call_frame}
 use Rattle.afp_client.specs.Takes.{IsCodeIn, asked, begun, broken, takes}
 use Rattle.afp_client.specs.Takes as real_steps
+use Rattle.afp_client.specs.declared.login.Login as logins
 use Rattle.afp_client.specs.declared.event.Event.{Event}
 use Rattle.afp_client.specs.declared.event.Event.TheVariants as events
 use Rattle.once_across_breaks.specs.Messages.{Call, Done}
 use Rattle.once_across_breaks.specs.Run.{Asks, Client, Opens, Request, Wait, begins, fresh_client}
 use Rattle.once_across_breaks.specs.Frames.{Taken}
 use Rattle.once_across_breaks.specs.Serial.{Setup, answer_by}
-use Rattle.once_across_breaks_client.specs.Requests.{IsAskable, IsCall, frame_of, tag_in}
+use Rattle.once_across_breaks_client.specs.Requests.{IsAskable, IsCall, LogsIn, frame_of, tag_in}
 use Rattle.once_across_breaks_client.specs.Related.{IsClient, made_client}
 use Rattle.once_across_breaks_client.specs.Moves.{Breaks, Commands, Move, Takes, frames_of, moved}
 use Rattle.once_across_breaks_client.specs.Steps.{IsTaken, Stays, call_of, is_told, results_with, waits_behind}
@@ -174,10 +175,12 @@ run-moves counts spelt u t (real.takes_frame g st ∷ actions) c s call frames h
 pub runs-are-moves : CountsInRounds → IsFunction → RunsAreMoves
 runs-are-moves counts spelt u c s t call actions frames h waits given f = run-moves counts spelt u t actions c s call frames h waits given.calls given.frames f
 
+-- the first link is begun
+pub fresh-is : (u : Setup) (login : logins.Login) → LogsIn u login → IsClient u fresh_client (begun (made_client login))
+fresh-is u login logs = record { login = logs; stage = (refl, refl, refl); token = refl; carried = tt; waiting = refl; wait_id = tt; next_id = refl }
+
 pub first-runs-are-moves : CountsInRounds → IsFunction → FirstRunsAreMoves
-first-runs-are-moves counts spelt u login t actions frames logs given f =
-    let start : IsClient u fresh_client (begun (made_client login)) = record { login = logs; stage = (refl, refl, refl); token = refl; carried = tt; waiting = refl; wait_id = tt; next_id = refl } in
-    run-moves counts spelt u t actions fresh_client (begun (made_client login)) None frames start tt given.calls given.frames f
+first-runs-are-moves counts spelt u login t actions frames logs given f = run-moves counts spelt u t actions fresh_client (begun (made_client login)) None frames (fresh-is u login logs) tt given.calls given.frames f
 
 -- ---- frames of bytes
 

@@ -4,3 +4,4 @@ pub mod Moves
 pub mod Steps
 pub mod Runs
 pub mod OverBytes
+pub mod OnLines

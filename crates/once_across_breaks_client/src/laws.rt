@@ -1,5 +1,6 @@
 //! The laws. Each function says some, and does nothing.
 ghost use Rattle.once_across_breaks_client.specs.Moves.{MovesAreEvents};
+ghost use Rattle.once_across_breaks_client.specs.OnLines.{LinesAsk, LinesBreak, LinesHold, LinesStart, LinesTake};
 ghost use Rattle.once_across_breaks_client.specs.OverBytes.{AsksAreSpelt, BeginsAreSpelt, TakenIsRead, UnfinishedIsUnread, WritesAreSpelt};
 ghost use Rattle.once_across_breaks_client.specs.Runs.{FirstRunsAreMoves, LinksAreMoves, RunsAreMoves};
 ghost use Rattle.once_across_breaks_client.specs.Steps.{AsksAreCommands, BeginsAreBreaks, BreaksStay, CallsAreCommands, LoginsAreTheirs, OnlyRepliesAreTaken, RepliesAreTaken, RequestsLeaveAll, TagsAreShown};
@@ -57,6 +58,19 @@ pub fn bytes_are_those_of_the_law()
     ensures begins { BeginsAreSpelt }
     ensures taken { TakenIsRead }
     ensures unfinished { UnfinishedIsUnread }
+{
+    ids_count_in_rounds();
+    frames_of_dsi_are_such_spellings();
+}
+
+/// On the law's links of bytes each call of the client is an event of the law's schedules: the beginning of a link, a call that is asked, and
+/// bytes that are fed with what comes of them. What it writes is under way there.
+pub fn clients_are_on_the_laws_lines()
+    ensures start { LinesStart }
+    ensures breaks { LinesBreak }
+    ensures asks { LinesAsk }
+    ensures takes { LinesTake }
+    ensures holds { LinesHold }
 {
     ids_count_in_rounds();
     frames_of_dsi_are_such_spellings();
