@@ -72,7 +72,7 @@ call-good false id offset payload small sized =
 open-good : (id : ℕ) → IsId id → IsGood (open_frame id)
 open-good id small = record { id = omega (arith, small); word = lit< tt; payload = lit≤ tt; offset = tt }
 
-request-good : (u : Setup) (last : ℕ) (r : Request) → FitsNumbered (last, r) → IsGood (request_frame u last (heard r))
+pub request-good : (u : Setup) (last : ℕ) (r : Request) → FitsNumbered (last, r) → IsGood (request_frame u last (heard r))
 request-good u last Opens fits = open-good last fits.0
 request-good u last (Asks id body again) fits = call-good (written u body).write id (written u body).offset (written u body).payload fits.0 (body-sized u body fits.1.1)
 

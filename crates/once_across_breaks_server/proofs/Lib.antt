@@ -1,0 +1,10 @@
+pub mod AskedLemmas
+pub mod Entries
+pub mod HandledFrames
+pub mod ServedFrames
+pub mod Partings
+pub mod Courses
+pub mod Arriving
+pub mod Writings
+pub mod PieceFrames
+pub mod FedPieces

@@ -1,0 +1,181 @@
+-- The server end of a link among the entries of others, as events of a schedule of the law (this profile).
+use Rattle.std.specs.Prelude.{◌≡◌, ◌≢◌, ℕ, Bool, true, false, ◌||◌, List, [], ◌∷◌, ◌++◌, map, Option, None}
+use Rattle.afp_serial.specs.declared.ask.Ask as asks
+use Rattle.afp_serial.specs.declared.ask.Ask.TheVariants as ask
+use Rattle.afp_serial.specs.declared.ask.Entry as entries
+use Rattle.afp_serial.specs.Answer.{is_legal}
+use Rattle.afp_serial.specs.Shown.{IsSoundShown}
+use Rattle.afp_serial.specs.Sound.{IsSound}
+use Rattle.afp_serial.specs.Went.{Step}
+use Rattle.afp_serial.specs.World.{World}
+use Rattle.afp_server.specs.Did.{Did}
+use Rattle.afp_server.specs.LinkRun.{Parts}
+use Rattle.afp_server.specs.Requests.{Requests}
+use Rattle.afp_server.specs.Script.{Does, Script}
+use Rattle.afp_server.specs.Trace.{Cause, Idled, Idles}
+use Rattle.afp_server.specs.Wire as wires
+use Rattle.afp_server.specs.declared.stage.FrameEnd.{FrameEnd}
+use Rattle.afp_server.specs.declared.stage.Stage.{Stage}
+use Rattle.afp_server.specs.declared.stage.Stage.TheVariants as stages
+use Rattle.dsi_frame.specs.Frame.{Frame}
+use Rattle.dsi_frame.specs.Replies.{listed}
+use Rattle.once_across_breaks.specs.Bytes.{seen_request}
+use Rattle.once_across_breaks.specs.Frames.{Heard, Net, heard, net_run, net_step}
+use Rattle.once_across_breaks.specs.Messages.{Answer, is_carried}
+use Rattle.once_across_breaks.specs.Run.{Breaks, Commands, Drains, Ends, Event, Loses, Others, Quiet, Request, ToClient, ToServer}
+use Rattle.once_across_breaks.specs.Serial.{Setup, entry_of, machine}
+use Rattle.once_across_breaks.specs.Server.{Entry}
+use Rattle.once_across_breaks_server.specs.Asked.{AskedAmong, world_of}
+use Rattle.once_across_breaks_server.specs.Handling.{is_memory, last_unasked}
+use Rattle.once_across_breaks_server.specs.Ties.{AllCarry, AreEntries, Carries, IsEnd, IsEndBehind, reply_frames}
+
+-- ---- entries that frames can carry
+
+abbrev pub is_carried_ask : asks.Ask → Bool
+is_carried_ask (ask.Open attention) = true
+is_carried_ask (ask.Call id write offset payload) = is_carried write offset payload
+is_carried_ask ask.Pulse = true
+is_carried_ask ask.Bye = true
+is_carried_ask ask.Lost = true
+is_carried_ask ask.Drain = true
+
+abbrev pub AllCarried : List entries.Entry → Type 0
+AllCarried [] = Unit {0}
+AllCarried (e ∷ es) = (is_carried_ask e.ask ≡ true) × AllCarried es
+
+-- ---- events at one link
+
+-- An event at the link i: a request arrives there, it is quiet, lost or drained; or others ask what is legal.
+abbrev pub IsAtLink : Setup → ℕ → Net World → Event → Type 0
+IsAtLink u i net (ToServer j moment wish) = j ≡ i
+IsAtLink u i net (Quiet j moment wish) = j ≡ i
+IsAtLink u i net (Loses j moment wish) = j ≡ i
+IsAtLink u i net (Drains j moment wish) = j ≡ i
+IsAtLink u i net (Others e) = is_legal net.world (entry_of u e) ≡ true
+IsAtLink u i net (Commands call) = ⊥
+IsAtLink u i net ToClient = ⊥
+IsAtLink u i net (Ends j) = ⊥
+IsAtLink u i net Breaks = ⊥
+
+abbrev pub AreAtLink : Setup → ℕ → Net World → List Event → Type 0
+AreAtLink u i net [] = Unit {0}
+AreAtLink u i net (e ∷ es) = IsAtLink u i net e × AreAtLink u i (net_step (machine u) net e) es
+
+-- whether a request is told want of memory
+abbrev pub wants_memory : Event → Bool
+wants_memory (ToServer i moment wish) = wish.memory
+wants_memory (Quiet i moment wish) = false
+wants_memory (Loses i moment wish) = false
+wants_memory (Drains i moment wish) = false
+wants_memory (Others e) = false
+wants_memory (Commands call) = false
+wants_memory ToClient = false
+wants_memory (Ends i) = false
+wants_memory Breaks = false
+
+abbrev pub any_wants_memory : List Event → Bool
+any_wants_memory [] = false
+any_wants_memory (e ∷ es) = wants_memory e || any_wants_memory es
+
+-- ---- where they lead
+
+abbrev pub heard_reply : Request × Answer → Heard × Answer
+heard_reply x = (heard x.0, x.1)
+
+abbrev pub unnumbered : (ℕ × Heard) × Answer → Heard × Answer
+unnumbered x = (x.0.1, x.1)
+
+abbrev pub request_only : ℕ × Request → Request
+request_only x = x.1
+
+-- The law's net comes to another world by these entries, and its link i to where the link comes: these requests are left to it, and the
+-- replies are under way on it. The client stays, and each other link.
+pub record Passes (u : Setup) (i : ℕ) (stage : Stage) (end : Option FrameEnd) (left : List Request) (replies : List Frame) (es : List entries.Entry) (behind : World) (old new : Net World) : Type 0 where
+  pub world : new.world ≡ behind
+  pub comes : IsEndBehind stage end (new.links i).end
+  pub more : List Entry
+  pub history : new.history ≡ old.history ++ more
+  pub asked : AreEntries u more es
+  pub client : new.client ≡ old.client
+  pub top : new.top ≡ old.top
+  pub elsewhere : (j : ℕ) → j ≢ i → new.links j ≡ old.links j
+  pub up : (new.links i).up ≡ left
+  pub told : List (Request × Answer)
+  pub down : (new.links i).down ≡ (old.links i).down ++ told
+  pub read : List ((ℕ × Heard) × Answer)
+  pub same : map unnumbered read ≡ map heard_reply told
+  pub says : replies ≡ reply_frames u read
+
+-- There are events at the link i that lead there.
+pub record Course (u : Setup) (i : ℕ) (net : Net World) (memory : Bool) (stage : Stage) (end : Option FrameEnd) (left : List Request) (replies : List Frame) (es : List entries.Entry) (behind : World) : Type 0 where
+  pub events : List Event
+  pub here : AreAtLink u i net events
+  pub wants : any_wants_memory events ≡ memory
+  pub passes : Passes u i stage end left replies es behind net (net_run (machine u) net events)
+
+-- ---- the laws
+
+-- A frame of a request does what such events do. A request is told want of memory where the last of its steps was.
+abbrev pub FramesArrive : Type 0
+FramesArrive =
+    (u : Setup) (block : List ℕ) (now : ℕ) (stage : Stage) (f : Frame) (did : Did) (x : ℕ × Request) (left : List Request) (es : List entries.Entry) (behind : World) (net : Net World) (i : ℕ)
+    → IsSound net.world
+    → Does block now stage f did
+    → Carries u (seen_request x) f
+    → AskedAmong net.world did.steps es behind
+    → AllCarried es
+    → IsEnd stage (net.links i).end
+    → (net.links i).up ≡ x.1 ∷ left
+    → Course u i net (last_unasked did.steps) did.stage did.end left (listed did.reply) es behind
+
+-- So do frames in order; a request is told want of memory only where a step was.
+abbrev pub any_unasked : List Step → Bool
+any_unasked [] = false
+any_unasked (s ∷ ss) = is_memory s.told || any_unasked ss
+
+abbrev pub ScriptsArrive : Type 0
+ScriptsArrive =
+    (u : Setup) (block : List ℕ) (stage after : Stage) (frames : List Frame) (steps : List Step) (replies : List Frame) (end : Option FrameEnd)
+    (requests : List (ℕ × Request)) (left : List Request) (es : List entries.Entry) (behind : World) (net : Net World) (i : ℕ)
+    → IsSound net.world
+    → Script block stage frames steps replies after end
+    → AllCarry u (map seen_request requests) frames
+    → AskedAmong net.world steps es behind
+    → AllCarried es
+    → IsEnd stage (net.links i).end
+    → (net.links i).up ≡ map request_only requests ++ left
+    → (memory : Bool) × (memory ≡ true → any_unasked steps ≡ true) × Course u i net memory after end left replies es behind
+
+-- so do the frames of a piece that is fed to a wire
+abbrev pub PiecesArrive : Type 0
+PiecesArrive =
+    (u : Setup) (start : wires.FeedStart) (frames : List Frame) (end : Option FrameEnd) (p : wires.FeedPoint) (handled : wires.Handled start frames end p)
+    (requests : List (ℕ × Request)) (left : List Request) (net : Net World) (i : ℕ)
+    → IsSoundShown start.shown
+    → IsSoundShown p.shown
+    → AllCarry u (map seen_request requests) frames
+    → AllCarried handled.went.between
+    → net.world ≡ world_of start.shown
+    → IsEnd start.stage (net.links i).end
+    → (net.links i).up ≡ map request_only requests ++ left
+    → (memory : Bool) × (memory ≡ true → any_unasked handled.steps ≡ true) × Course u i net memory p.stage end left handled.replies handled.went.between (world_of p.shown)
+
+-- so does a quiet
+abbrev pub QuietsArrive : Type 0
+QuietsArrive =
+    (u : Setup) (last_read now : ℕ) (stage : Stage) (requests : Requests) (idled : Idled) (cause : Option Cause) (es : List entries.Entry) (behind : World) (net : Net World) (i : ℕ)
+    → Idles last_read now stage requests idled cause
+    → AskedAmong net.world idled.steps es behind
+    → AllCarried es
+    → IsEnd stage (net.links i).end
+    → Course u i net false idled.stage None (net.links i).up [] es behind
+
+-- and so does the end of a link
+abbrev pub PartingsArrive : Type 0
+PartingsArrive =
+    (u : Setup) (now : ℕ) (stage : Stage) (steps : List Step) (es : List entries.Entry) (behind : World) (net : Net World) (i : ℕ)
+    → Parts stage now steps
+    → AskedAmong net.world steps es behind
+    → AllCarried es
+    → IsEnd stage (net.links i).end
+    → Course u i net false stages.Closing None (net.links i).up [] es behind
