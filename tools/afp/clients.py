@@ -58,7 +58,9 @@ class Writer:
 
     def __init__(self):
         self.lines, self.links, self.printed, self.end, self.capture = [], [], "", "", []
-        self.moment, self.pieces, self.user, self.is_server = 100, LONGEST_READ, None, False
+        self.moment, self.pieces, self.user = 100, LONGEST_READ, None
+        # Whether a server of this project answers so, and the name of its capture among those of test_captures.
+        self.is_server, self.capture_name = False, ""
         # The next id, and the request that waits, of openings and of commands.
         self.ids, self.asked, self.is_opened = {"opening": 0, "command": 0}, {}, False
 
@@ -92,8 +94,8 @@ class Writer:
     # A line.
     def line(self, said):
         word, _, rest = said.partition(" ")
-        if said == "server":
-            self.is_server = True
+        if word == "server":
+            self.is_server, self.capture_name = True, rest
         elif word == ">":
             self.lines.append(f"script {rest}")
         elif word == ">>":
