@@ -1,0 +1,94 @@
+//! A user's name and password, in one word.
+ghost use Rattle.std.specs.Prelude.{◌≡◌, ◌≤◌, ◌<◌, length, Some, None, option_map, IfOk, IfSome, IfNone, MatchOption};
+ghost use Rattle.std.specs.List.{list_all};
+ghost use Rattle.afp_base.specs.Limits.{password_size};
+ghost use Rattle.afp_client.specs.Opening.{FitsLogin};
+ghost use Rattle.afp_serial.specs.HouseFault.{is_name, is_printable};
+ghost use Rattle.afp_serial.specs.Limits.{longest_user};
+ghost use Rattle.afptool_client.specs.Words.{as_user, filled, login_in, user_in};
+
+use afp_base::{Bytes, OutOfMemory};
+use afp_client::Login;
+use afp_serial::limits::{FIRST_PRINTABLE, LAST_PRINTABLE, LONGEST_USER};
+use std::alloc::Global;
+
+/// Bytes of a password.
+const PASSWORD_SIZE: usize = 8;
+
+/// A user's name, and its password, filled with zeros.
+#[derive(Clone, Copy)]
+struct UserWord<'a> {
+    name: &'a str,
+    password: [u8; 8],
+}
+
+fn is_printable(character: u8) -> bool
+    ensures { result ≡ is_printable character }
+{
+    character >= FIRST_PRINTABLE && character <= LAST_PRINTABLE
+}
+
+fn are_printable(text: &[u8]) -> bool
+    ensures { result ≡ list_all is_printable text.now }
+{
+    text.iter().all(|character| is_printable(*character))
+}
+
+/// Whether a user of a house may have the name.
+fn is_user_name(text: &[u8]) -> bool
+    ensures { result ≡ is_name longest_user text.now }
+{
+    text.len() >= 1 && text.len() <= LONGEST_USER && are_printable(text)
+}
+
+/// A password of at most 8 bytes, filled with zeros.
+fn password_of(text: &str) -> Option<[u8; 8]>
+    ensures { MatchOption result (password_size < length text.now) (λ password. (length text.now ≤ password_size) × (password ≡ filled text.now)) }
+{
+    let bytes = text.as_bytes();
+    if bytes.len() > PASSWORD_SIZE {
+        return None;
+    }
+    let mut password = [0; PASSWORD_SIZE];
+    password[..bytes.len()].copy_from_slice(bytes);
+    Some(password)
+}
+
+/// The user that a word is.
+fn user_of<'a>(text: &'a str) -> Option<UserWord<'a>>
+    ensures found { IfSome result (λ user. user_in text.entry.now ≡ Some (user.name.now, user.password)) }
+    ensures none { IfNone result (user_in text.entry.now ≡ None) }
+    ensures name { IfSome result (λ user. length user.name.now ≤ longest_user) }
+{
+    let (name, password) = text.split_once(':')?;
+    if !is_user_name(name.as_bytes()) {
+        return None;
+    }
+    let password = password_of(password)?;
+    Some(UserWord { name, password })
+}
+
+/// The login of a user, where the word is one.
+fn login_of(alloc: Global, text: &str) -> Result<Option<Login>, OutOfMemory>
+    ensures login { IfOk result (λ login. login ≡ option_map as_user (user_in text.now)) }
+    ensures fits { IfOk result (λ login. IfSome login FitsLogin) }
+{
+    let Some(user) = user_of(text) else {
+        return Ok(None);
+    };
+    let name = Bytes::of(alloc, user.name.as_bytes())?;
+    Ok(Some(Login {
+        user: Some((name, user.password)),
+    }))
+}
+
+/// The login that a word says, and a guest's where there is none.
+pub(crate) fn login_in(alloc: Global, text: Option<&str>) -> Result<Option<Login>, OutOfMemory>
+    ensures login { IfOk result (λ login. login ≡ login_in (option_map (λ word. word.now) text.entry)) }
+    ensures fits { IfOk result (λ login. IfSome login FitsLogin) }
+{
+    match text {
+        Some(text) => login_of(alloc, text),
+        None => Ok(Some(Login { user: None })),
+    }
+}
