@@ -1,6 +1,8 @@
 -- What a run of the tool prints, and its exit status (this profile).
-use Rattle.std.specs.Prelude.{◌≡◌, ◌≤◌, ◌⊎◌, ℕ, ◌-◌, ◌^◌, ◌==◌, ◌&&◌, nat_le, not, List, [], ◌∷◌, length, codes, bytes_eq, if◌then◌else◌, Option, Some, None}
+use Rattle.std.specs.Prelude.{◌≡◌, ◌≤◌, ◌⊎◌, ℕ, ◌-◌, ◌^◌, ◌==◌, ◌&&◌, nat_le, not, true, List, [], ◌∷◌, length, codes, bytes_eq, if◌then◌else◌, Option, Some, None}
 use Rattle.std.specs.List.{list_all}
+use Rattle.afp_outside.specs.Dialer.{DialerState}
+use Rattle.afp_outside.specs.Link.{LinkState}
 use Rattle.afp_outside.specs.Sink.{SinkState}
 use Rattle.afp_outside.specs.Source.{SourceState}
 use Rattle.capture_log.specs.Reading.{Replays}
@@ -13,10 +15,14 @@ use Rattle.capture_made.specs.declared.making.MakeEnd.{MakeEnd}
 use Rattle.capture_made.specs.declared.making.MakeEnd.TheVariants as make_ends
 use Rattle.capture_made.specs.declared.counting.Tallied.{Tallied}
 use Rattle.capture_made_requests.specs.Requests.{most_steps}
+use Rattle.afptool_client.specs.Running.{RunsScript}
+use Rattle.afptool_client.specs.Words.{asks_client, client_in}
+use Rattle.afptool_client.specs.declared.words.ClientWords.{ClientWords}
+use Rattle.afptool_lib.specs.Parcelling.{RunsParcel}
 use Rattle.afptool_lib.specs.Lines.{replay_text, replay_status, tally_line}
 use Rattle.afptool_lib.specs.Telling.{Tells}
 use Rattle.afptool_lib.specs.declared.words.Command.{Command}
-use Rattle.afptool_lib.specs.declared.words.Command.TheVariants.{Replay, Check, Make, Tally}
+use Rattle.afptool_lib.specs.declared.words.Command.TheVariants.{Replay, Check, Parcel as ParcelWord, Make, Tally}
 
 -- the number that a word spells in decimal, if it is one of at most so much; it may have leading zeros
 abbrev pub number_in : ℕ → List ℕ → Option ℕ
@@ -39,7 +45,10 @@ made_in word (Some number) (Some steps) = made_of word number steps
 
 -- what one word asks
 abbrev pub command_of : List ℕ → Option Command
-command_of word = if bytes_eq word (codes "replay") then Some Replay else if bytes_eq word (codes "check") then Some Check else None
+command_of word =
+    if bytes_eq word (codes "replay") then Some Replay
+    else if bytes_eq word (codes "check") then Some Check
+    else if bytes_eq word (codes "parcel") then Some ParcelWord else None
 
 -- what the words ask: one is a command, and three are one with its numbers
 abbrev pub command_in : List (List ℕ) → Option Command
@@ -54,6 +63,7 @@ abbrev pub FitsSteps : Option Command → Type 0
 FitsSteps None = Unit {0}
 FitsSteps (Some Replay) = Unit {0}
 FitsSteps (Some Check) = Unit {0}
+FitsSteps (Some ParcelWord) = Unit {0}
 FitsSteps (Some (Make number steps)) = steps ≤ most_steps
 FitsSteps (Some (Tally number steps)) = steps ≤ most_steps
 
@@ -84,10 +94,29 @@ pub record TellsTally (number steps : ℕ) (before after : SinkState) (status : 
 abbrev pub RunsTally : ℕ → ℕ → SinkState → SinkState → ℕ → Type 0
 RunsTally number steps before after status = TellsTally number steps before after status ⊎ ((status ≡ 6) × (after ≡ before))
 
--- what the tool does with a command, or with words that are none
-abbrev pub RunsTool : Option Command → ℕ → SourceState → SourceState → SinkState → SinkState → ℕ → Type 0
-RunsTool None turns old new before after status = (new ≡ old) × Tells bad_words 2 before after status
-RunsTool (Some Replay) turns old new before after status = RunsReplay turns old new before after status
-RunsTool (Some Check) turns old new before after status = RunsCheck turns old new before after status
-RunsTool (Some (Make number steps)) turns old new before after status = (new ≡ old) × RunsMake number steps before after status
-RunsTool (Some (Tally number steps)) turns old new before after status = (new ≡ old) × RunsTally number steps before after status
+-- what the tool does with a command that dials nothing, or with words that are none
+abbrev pub RunsPlain : Option Command → ℕ → SourceState → SourceState → SinkState → SinkState → ℕ → Type 0
+RunsPlain None turns old new before after status = (new ≡ old) × Tells bad_words 2 before after status
+RunsPlain (Some Replay) turns old new before after status = RunsReplay turns old new before after status
+RunsPlain (Some Check) turns old new before after status = RunsCheck turns old new before after status
+RunsPlain (Some ParcelWord) turns old new before after status = RunsParcel turns old new before after status
+RunsPlain (Some (Make number steps)) turns old new before after status = (new ≡ old) × RunsMake number steps before after status
+RunsPlain (Some (Tally number steps)) turns old new before after status = (new ≡ old) × RunsTally number steps before after status
+
+-- A script is carried out by a client that logs in as the words say; or, where they are none of a client's, nothing is dialled.
+abbrev pub RunsBy : {L : Type 0} → (L → LinkState) → Option ClientWords → Option Command → ℕ → DialerState L → DialerState L → SourceState → SourceState → SinkState → SinkState → ℕ → Type 0
+RunsBy state (Some client) command turns first dialer old new before after status = RunsScript state turns client.login first dialer old new before after status
+RunsBy state None command turns first dialer old new before after status = (dialer ≡ first) × RunsPlain command turns old new before after status
+
+-- There was no memory in which a client's words could be read; nothing was done.
+pub record LacksMemory {L : Type 0} (words : List (List ℕ)) (first dialer : DialerState L) (old new : SourceState) (before after : SinkState) (status : ℕ) : Type 0 where
+  pub asks : asks_client words ≡ true
+  pub status_is : status ≡ 6
+  pub dials_none : dialer ≡ first
+  pub reads_none : new ≡ old
+  pub prints_none : after ≡ before
+
+-- what the tool does with the words behind its name
+abbrev pub RunsTool : {L : Type 0} → (L → LinkState) → List (List ℕ) → ℕ → DialerState L → DialerState L → SourceState → SourceState → SinkState → SinkState → ℕ → Type 0
+RunsTool state words turns first dialer old new before after status =
+    RunsBy state (client_in words) (command_in words) turns first dialer old new before after status ⊎ LacksMemory words first dialer old new before after status

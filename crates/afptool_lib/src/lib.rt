@@ -1,11 +1,12 @@
-//! The tool: it replays captures, and checks streams of frames.
+//! The tool: a client's scripts, captures, streams of frames and parcels.
 #![tactic(auto)]
 
 mod checking;
 mod lines;
 mod made;
+mod parcels;
 mod replays;
 mod tool;
 mod words;
 
-pub use tool::afptool_plain;
+pub use tool::afptool;

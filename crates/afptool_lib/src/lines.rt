@@ -3,10 +3,12 @@ ghost use Rattle.std.specs.Prelude.{◌≡◌, ◌≤◌, ◌++◌, ◌<◌, ◌
 ghost use Rattle.std.specs.Fmt.{decimal};
 ghost use Rattle.dsi_frame.specs.Frame.{command_number};
 ghost use Rattle.afpd_lib.specs.Reporting.{ReportsAll};
+ghost use Rattle.afptool_lib.specs.Parcelling.{parcel_line, shape_word};
 ghost use Rattle.afptool_lib.specs.Lines.{hex_digit, hex_byte, same_line, got_word, differs_line, bad_line, kind_word, sizes_text, tally_line, frame_line, rest_line, reason_word, bad_frame_line};
 
 use afp_outside::Sink;
 use afpd_lib::report::{put_before, put_number_before, report_all};
+use apple_double::Shape;
 use capture_made::Tallied;
 use dsi_frame::{DsiCommand, Header, Reason};
 
@@ -276,5 +278,39 @@ pub fn report_bad_frame<O: Sink>(out: &mut O, at: u64, reason: Reason) -> bool
 {
     let mut line = [0; LINE];
     let start = put_bad_frame(&mut line, at, reason);
+    report_all(out, &line[start..])
+}
+
+/// The word of a format.
+fn shape_word(shape: Shape) -> &'static [u8]
+    ensures word { result.now ≡ shape_word shape }
+    ensures size { length result.now ≡ 6 }
+{
+    match shape {
+        Shape::Single => b"single",
+        Shape::Double => b"double",
+    }
+}
+
+/// Puts the line of a parcel, whose forks have so many bytes.
+fn put_parcel(line: &mut [u8], shape: Shape, data_size: u64, resource_size: u64) -> usize
+    requires { length line.old ≡ 128 }
+    ensures start { result ≤ length line.new }
+    ensures line { drop result line.new ≡ parcel_line shape data_size resource_size }
+{
+    let end = put_before(line, line.len(), b"\n");
+    let end = put_number_before(line, end, resource_size);
+    let end = put_before(line, end, b" resource ");
+    let end = put_number_before(line, end, data_size);
+    let end = put_before(line, end, b" data ");
+    put_before(line, end, shape_word(shape))
+}
+
+/// Prints the format of a parcel, and how many bytes its forks have.
+pub fn report_parcel<O: Sink>(out: &mut O, shape: Shape, data_size: u64, resource_size: u64) -> bool
+    ensures { ReportsAll (O.sink_state out.old) (parcel_line shape data_size resource_size) result (O.sink_state out.new) }
+{
+    let mut line = [0; LINE];
+    let start = put_parcel(&mut line, shape, data_size, resource_size);
     report_all(out, &line[start..])
 }

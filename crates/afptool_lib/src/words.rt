@@ -7,13 +7,15 @@ ghost use Rattle.afptool_lib.specs.Tool.{FitsSteps, command_in, command_of, last
 
 use capture_made_requests::MOST_STEPS;
 
-/// What the tool is asked to do.
+/// What the tool is asked to do that dials nothing.
 #[derive(Clone, Copy)]
 pub enum Command {
     /// Replay a capture.
     Replay,
     /// Check a stream of frames.
     Check,
+    /// Read a parcel.
+    Parcel,
     /// Make the capture of a number and so many steps.
     Make { number: u64, steps: u32 },
     /// Count in that capture.
@@ -30,6 +32,9 @@ fn command_of(word: &[u8]) -> Option<Command>
     }
     if word == b"check".as_slice() {
         return Some(Command::Check);
+    }
+    if word == b"parcel".as_slice() {
+        return Some(Command::Parcel);
     }
     None
 }

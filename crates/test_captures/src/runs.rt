@@ -1,7 +1,7 @@
 //! Runs of the tool over files.
 use afp_base::NO_LIMIT;
-use afp_outside::{StdSink, StdSource};
-use afptool_lib::afptool_plain;
+use afp_outside::{StdSink, StdSource, TapeDialer};
+use afptool_lib::afptool;
 use capture_log_teller::memory_keepers;
 use std::fs::File;
 use std::io;
@@ -16,7 +16,7 @@ fn words_of(rt: &HostRuntime, line: &str) -> io::Result<Vec<String>> {
     Ok(words)
 }
 
-/// Runs the tool over a file and keepers in memory, and gives its exit status.
+/// Runs the tool over a file, keepers in memory and a dialer that has no link, and gives its exit status.
 fn run(rt: &HostRuntime, words: &[String], name: &str) -> io::Result<u8> {
     let Ok(keepers) = memory_keepers(rt.alloc()) else {
         return Err(io::Error::from(ErrorKind::OutOfMemory));
@@ -24,7 +24,19 @@ fn run(rt: &HostRuntime, words: &[String], name: &str) -> io::Result<u8> {
     let path = format!(in rt.alloc(); "tool/{name}")?;
     let mut source = StdSource::new(File::open(rt, path.as_str())?);
     let mut out = StdSink::new(rt);
-    Ok(afptool_plain(rt.alloc(), words, keepers, &mut source, &mut out, NO_LIMIT))
+    let Ok(dialer) = TapeDialer::new(rt.alloc(), Vec::new(rt.alloc()), Vec::new(rt.alloc())) else {
+        return Err(io::Error::from(ErrorKind::OutOfMemory));
+    };
+    let finished = afptool(
+        rt.alloc(),
+        words,
+        keepers,
+        &mut source,
+        &mut out,
+        dialer,
+        NO_LIMIT,
+    );
+    Ok(finished.status)
 }
 
 /// Prints a line, what the tool prints with these words over the file that the last of them names, and its exit status.
