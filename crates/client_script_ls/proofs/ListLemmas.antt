@@ -1,5 +1,5 @@
 -- Lists of a directory, one by one.
-use Rattle.std.proofs.Common.{◌≡◌, ℕ, ◌+◌, ◌<◌, ◌≤◌, ◌^◌, List, [], ◌∷◌, ◌++◌, length, Bool, true, false, nat_lt, Option, Some, None, Result, Ok, Err, refl, ap, sym, subst, ◌∙◌, cond}
+use Rattle.std.proofs.Common.{◌≡◌, ℕ, ◌+◌, ◌^◌, List, [], ◌∷◌, ◌++◌, length, Bool, true, false, nat_lt, Option, Some, None, Result, Err, refl, ap, sym, subst, cond}
 use Rattle.std.specs.Prelude.{codes}
 use Rattle.afp_base.specs.declared.code.Code.{Code}
 use Rattle.afp_base.specs.declared.code.Code.TheVariants as code
@@ -40,7 +40,7 @@ pub lists_more : {E F : Type 0} → (volume : VolumeId) (path : List ℕ) (count
     → answer.code ≡ code.Ok → (found : Option (List ListEntry)) → rows_in answer.reply ≡ found → (size : ℕ) (now : List ℕ) → PutsList found text now (Some size)
     → Carries E before (lists volume path count text) mid (lists_behind volume path (count + size) now)
 unfolding lists_behind
-lists_more {E} volume path count text call before answer mid is told ok None e size now puts result final h = absurd (some-none (Some size) size refl puts)
+lists_more {E} volume path count text call before answer mid is told ok None e size now puts result final h = absurd (some-none (Some size) size refl puts.0)
 lists_more {E} volume path count text call before answer mid is told ok (Some rows) e size now puts result final h =
     told_part {E = E} volume path count text call before answer mid is told result final
     (subst (λ (c : Code). Comes mid (λ answers. list_told c (rows_in answer.reply) count text (more_of volume path count text answers) answers) result final) (sym ok)

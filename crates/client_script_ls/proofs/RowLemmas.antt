@@ -1,5 +1,5 @@
 -- The lines of entries, one by one.
-use Rattle.std.proofs.Common.{◌≡◌, ℕ, ◌<◌, List, [], ◌∷◌, ◌++◌, length, drop, get_or, refl, sym, ap, ◌∙◌, arith, append_assoc, append-nil, take, ◌-◌, subst, length-drop}
+use Rattle.std.proofs.Common.{◌≡◌, ℕ, ◌<◌, List, [], ◌∷◌, ◌++◌, length, drop, get_or, sym, ap, ◌∙◌, arith, append_assoc, append-nil, take, ◌-◌, subst, length-drop}
 use Rattle.std.proofs.Math.Seq.{take-length}
 use Rattle.afp_replies.specs.declared.list.ListEntry.{ListEntry}
 use Rattle.client_script_ls.specs.Ls.{node_line, rows_text}

@@ -1,5 +1,5 @@
 -- ls PATH: lists of a directory until there are no more entries (this profile).
-use Rattle.std.specs.Prelude.{ℕ, ◌+◌, ◌^◌, nat_lt, if◌then◌else◌, List, [], ◌∷◌, ◌++◌, length, Option, Some, None, codes}
+use Rattle.std.specs.Prelude.{◌≡◌, ℕ, ◌+◌, ◌^◌, nat_lt, if◌then◌else◌, List, [], ◌∷◌, ◌++◌, length, Option, Some, None, Result, Err, codes}
 use Rattle.afp_base.specs.declared.code.Code.{Code}
 use Rattle.afp_base.specs.declared.code.Code.TheVariants as code
 use Rattle.afp_base.specs.declared.ids.VolumeId.{VolumeId}
@@ -10,8 +10,9 @@ use Rattle.afp_replies.specs.declared.reply.Reply.{Reply}
 use Rattle.afp_replies.specs.declared.reply.Reply.TheVariants as replies
 use Rattle.client_script_calls.specs.Requests.{list}
 use Rattle.client_script_texts.specs.Texts.{entry_line, error_text, numbered}
-use Rattle.client_script_parts.specs.declared.asker.Answer.{Answer}
-use Rattle.client_script_parts.specs.Parts.{Next, asks, bad_reply, Part, done}
+use Rattle.client_script_parts.specs.declared.asker.Stop.{Stop}
+use Rattle.client_script_parts.specs.declared.asker.Stop.TheVariants as stops
+use Rattle.client_script_parts.specs.Parts.{Asked, Exchange, Next, asks, bad_reply, Part, done, with_more}
 
 -- the entries of a list
 abbrev pub rows_in : Reply → Option (List ListEntry)
@@ -55,3 +56,24 @@ lists_behind volume path count text answers = if_within count (lists volume path
 
 abbrev pub ls : VolumeId → List ℕ → Part
 ls volume path = lists volume path 0 []
+
+-- the lines of the entries that an answer tells: it is Ok, and its reply is a list
+abbrev pub lines_told : Code → Option (List ListEntry) → List ℕ
+lines_told code.Ok (Some rows) = rows_text rows
+lines_told code.Ok None = []
+lines_told c rows = []
+
+-- the lines of the entries of each list that was told, in order
+abbrev pub entries_told : List Exchange → List ℕ
+entries_told [] = []
+entries_told (x ∷ exchanges) = lines_told x.answer.code (rows_in x.answer.reply) ++ entries_told exchanges
+
+-- a part stops in its middle: a call got no answer, or the last reply is none that may come
+abbrev pub StopsShort : {E : Type 0} → Result (List ℕ) (Stop E) → Type 0
+StopsShort (Err (stops.Ended end)) = Unit {0}
+StopsShort (Err stops.BadReply) = Unit {0}
+StopsShort result = ⊥
+
+-- What a part said, by the exchanges of its calls, stands behind what stood there, where the part stops in its middle.
+abbrev pub IsSaid : {E F : Type 0} → (List Exchange → List ℕ) → Asked F → List ℕ → Result (List ℕ) (Stop E) → List ℕ → Asked F → Type 0
+IsSaid told before old result new after = StopsShort result → (exchanges : List Exchange) → after ≡ with_more before exchanges → new ≡ old ++ told exchanges

@@ -1,16 +1,19 @@
 //! `ls PATH`.
 ghost use Rattle.std.specs.Prelude.{◌≡◌, ◌+◌, ◌<◌, ◌≤◌, ◌^◌, List, ℕ, true, OnOk, Ok, Err, Result};
 ghost use Rattle.afp_base.specs.declared.ids.VolumeId.{VolumeId};
+ghost use Rattle.client_script_calls.specs.Asked.{IsAskable};
 ghost use Rattle.client_script_calls.specs.Places.{IsPlace};
-ghost use Rattle.client_script_ls.specs.Ls.{lists, lists_behind, ls};
-ghost use Rattle.client_script_ls.specs.lemma.Listing.{ListsOnce, ListsPage};
+ghost use Rattle.client_script_ls.specs.Ls.{IsSaid, entries_told, lists, lists_behind, ls};
+ghost use Rattle.client_script_ls.specs.lemma.Listing.{ListsOnce, ListsPage, Logs, ShowsOnce, ShowsPage};
 ghost use Rattle.client_script_parts.specs.Parts.{Asked, Comes};
+ghost use Rattle.client_script_parts.specs.Told.{AnyTells};
 ghost use Rattle.client_script_parts.specs.declared.asker.Stop.{Stop};
 
 use crate::rows::put_answer;
 use afp_base::{Bytes, Code, VolumeId};
+use afp_calls_grammar::Call;
 use client_script_calls as calls;
-use client_script_parts::{Answer, Asker, Stop, ask, parts_end};
+use client_script_parts::{Answer, Asker, Stop, parts_end};
 use client_script_texts::{error_text, numbered};
 use std::alloc::Global;
 
@@ -28,6 +31,25 @@ enum Page {
 /// Lets an answer go.
 fn let_go(_answer: Answer) {}
 
+/// Lets a call go.
+fn let_call_go(_call: Call) {}
+
+/// Asks for a list.
+#[tactic(auto, using(client_script_parts::proofs::PartLemmas::any_told, client_script_parts::proofs::PartLemmas::any_waits))]
+fn ask_list<A: Asker>(asker: &mut A, call: Call) -> Result<Answer, Stop<A::End>>
+    requires { IsAskable call }
+    ensures any { AnyTells call (A.exchanges asker.old) result (A.exchanges asker.new) }
+    ensures log { Logs call (A.exchanges asker.old) result (A.exchanges asker.new) }
+    ensures falls { OnOk result (A.left asker.new < A.left asker.old) }
+{
+    let told = asker.ask(&call);
+    let_call_go(call);
+    match told {
+        Ok(answer) => Ok(answer),
+        Err(end) => Err(Stop::Ended(end)),
+    }
+}
+
 /// Lists once, behind so many entries.
 #[tactic(auto, using(crate::proofs::ListLemmas::lists_more, crate::proofs::ListLemmas::lists_bad, crate::proofs::ListLemmas::lists_end, crate::proofs::ListLemmas::lists_refused, crate::proofs::ListLemmas::lists_stop, crate::proofs::ListLemmas::lists_lack))]
 fn list_page<A: Asker>(
@@ -41,6 +63,7 @@ fn list_page<A: Asker>(
     requires place { IsPlace path.now }
     requires within { count + 1 < 2 ^ 32 }
     ensures page { ListsPage volume path.now count text.old (A.exchanges asker.old) result text.new (A.exchanges asker.new) }
+    ensures shows { ShowsPage (A.exchanges asker.old) text.old result text.new (A.exchanges asker.new) }
     ensures falls { OnOk result (A.left asker.new < A.left asker.old) }
 {
     parts_end::<A>();
@@ -48,7 +71,7 @@ fn list_page<A: Asker>(
         Ok(call) => call,
         Err(_) => return Err(Stop::Memory),
     };
-    match ask(asker, call) {
+    match ask_list(asker, call) {
         Ok(answer) => match answer.code {
             Code::Ok => match put_answer(alloc, text, answer) {
                 Ok(Some(size)) => Ok(Page::Listed(size)),
@@ -91,6 +114,7 @@ fn list_once<A: Asker>(
     requires place { IsPlace path.now }
     requires within { count.old + 1 < 2 ^ 32 }
     ensures lists { ListsOnce volume path.now count.old text.old (A.exchanges asker.old) result count.new text.new (A.exchanges asker.new) }
+    ensures shows { ShowsOnce (A.exchanges asker.old) text.old result text.new (A.exchanges asker.new) }
     ensures within { result ≡ Ok true → count.new + 1 < 2 ^ 32 }
     ensures falls { OnOk result (A.left asker.new < A.left asker.old) }
 {
@@ -121,15 +145,18 @@ fn list_once<A: Asker>(
     }
 }
 
-/// `ls PATH`: a line for each entry, and how many there are; or a refusal behind those that came before it.
+/// `ls PATH`: a line for each entry, and how many there are; or a refusal behind those that came before it. Where it stops in the middle, the
+/// lines of the entries of the lists that were told are appended to `said`.
 pub fn ls<A: Asker>(
     alloc: Global,
     asker: &mut A,
     volume: VolumeId,
     path: &[u8],
+    said: &mut Bytes,
 ) -> Result<Bytes, Stop<A::End>>
     requires { IsPlace path.now }
-    ensures { Comes (A.exchanges asker.old) (ls volume path.now) result (A.exchanges asker.new) }
+    ensures comes { Comes (A.exchanges asker.old) (ls volume path.now) result (A.exchanges asker.new) }
+    ensures said { IsSaid entries_told (A.exchanges asker.old) said.old result said.new (A.exchanges asker.new) }
 {
     parts_end::<A>();
     let mut text = Bytes::new(alloc);
@@ -138,7 +165,12 @@ pub fn ls<A: Asker>(
         match list_once(alloc, asker, volume, path, &mut count, &mut text) {
             Ok(true) => {}
             Ok(false) => return Ok(text),
-            Err(stop) => return Err(stop),
+            Err(stop) => {
+                let Ok(()) = said.extend(text.as_slice()) else {
+                    return Err(Stop::Memory);
+                };
+                return Err(stop);
+            }
         }
     }
 }

@@ -1,5 +1,5 @@
 -- What FPOpenVol was told leads to.
-use Rattle.std.proofs.Common.{◌≡◌, ℕ, List, [], ◌∷◌, ◌++◌, length, Option, Some, None, Result, Ok, Err, refl, sym, ap, subst, ◌∙◌, arith, length-append, codes, rules}
+use Rattle.std.proofs.Common.{◌≡◌, ℕ, List, [], ◌∷◌, ◌++◌, Option, Some, None, Result, Ok, Err, refl, sym, ap, subst, ◌∙◌, codes, rules}
 use Rattle.std.proofs.lemmas.List.{append-nil}
 use Rattle.afp_base.specs.declared.code.Code.{Code}
 use Rattle.afp_base.specs.declared.code.Code.TheVariants as code
@@ -14,7 +14,7 @@ use Rattle.client_script_parts.specs.declared.asker.Stop.TheVariants as stops
 use Rattle.client_script_parts.specs.Parts.{ask, asks, bad, by_code, done, must, must_tell, needs, refuses, with_more, Asked, Comes, Exchange, Part, Runs}
 use Rattle.client_script_commands.specs.Mount.{mount}
 use Rattle.client_script_commands.specs.Replies.{volume_in}
-use Rattle.client_script_run.specs.Run.{IsTold, Mounts, OpensVolume, mounted_by, opened_by, volume_by, volume_told}
+use Rattle.client_script_run.specs.Run.{IsTold, Mounts, OpensVolume, opened_by, volume_by, volume_told}
 
 cancel : {A : Type 0} (ys xs zs : List A) → ys ++ xs ≡ ys ++ zs → xs ≡ zs
 cancel [] xs zs e = e

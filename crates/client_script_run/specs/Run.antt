@@ -1,5 +1,5 @@
 -- What a line of a script asks and prints (this profile).
-use Rattle.std.specs.Prelude.{◌≡◌, ℕ, List, [], ◌∷◌, ◌++◌, Option, Some, None, Result, Ok, Err, codes}
+use Rattle.std.specs.Prelude.{◌≡◌, ℕ, List, [], ◌∷◌, Option, Some, None, Result, Ok, Err, codes}
 use Rattle.afp_base.specs.declared.code.Code.{Code}
 use Rattle.afp_base.specs.declared.code.Code.TheVariants as code
 use Rattle.afp_base.specs.declared.ids.ForkRef.{ForkRef}
@@ -30,7 +30,7 @@ use Rattle.client_script_commands.specs.Note.{note}
 use Rattle.client_script_commands.specs.Show.{show}
 use Rattle.client_script_commands.specs.Bye.{bye}
 use Rattle.client_script_get.specs.Get.{get}
-use Rattle.client_script_ls.specs.Ls.{ls}
+use Rattle.client_script_ls.specs.Ls.{entries_told, ls}
 use Rattle.client_script_run.specs.Values.{text_of, number_of, path_text, directory_text, name_text}
 
 -- a command in the volume that is mounted
@@ -64,6 +64,16 @@ line_part mounted (lines.Find node) = in_volume mounted (λ volume. find volume 
 line_part mounted (lines.Note path text) = in_volume mounted (λ volume. note volume (path_text path) (text_of text))
 line_part mounted (lines.Show path) = in_volume mounted (λ volume. show volume (path_text path))
 line_part mounted lines.Bye = bye
+
+-- what a list in the volume that is mounted said, by the exchanges of its calls
+abbrev pub said_in : Option VolumeId → List Exchange → List ℕ
+said_in None exchanges = []
+said_in (Some volume) exchanges = entries_told exchanges
+
+-- What a line that stops in its middle said, by the exchanges of its calls: of a list the entries of each that was told; no other line says a thing.
+abbrev pub said_by : Option VolumeId → ScriptLine → List Exchange → List ℕ
+said_by mounted (lines.Ls path) exchanges = said_in mounted exchanges
+said_by mounted line exchanges = []
 
 -- the volume that an answer opens, or the one before
 abbrev pub volume_told : Option VolumeId → Code → Option VolumeId → Option VolumeId

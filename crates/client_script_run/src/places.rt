@@ -13,9 +13,9 @@ ghost use Rattle.client_script_commands.specs.Rm.{rm};
 ghost use Rattle.client_script_commands.specs.Show.{show};
 ghost use Rattle.client_script_commands.specs.Swap.{swap};
 ghost use Rattle.client_script_get.specs.Get.{get};
-ghost use Rattle.client_script_ls.specs.Ls.{ls};
+ghost use Rattle.client_script_ls.specs.Ls.{IsSaid, ls};
 ghost use Rattle.client_script_parts.specs.Parts.{Comes};
-ghost use Rattle.client_script_run.specs.Run.{in_volume, node_of};
+ghost use Rattle.client_script_run.specs.Run.{in_volume, node_of, said_in};
 ghost use Rattle.client_script_run.specs.Values.{directory_text, name_text, path_text, text_of};
 
 use crate::values::{number_of, path_of, piece_of, short_text, target_of};
@@ -76,15 +76,17 @@ pub(crate) fn run_ls<A: Asker>(
     asker: &mut A,
     mounted: Option<VolumeId>,
     path: &[u8],
+    said: &mut Bytes,
 ) -> Result<Bytes, Stop<A::End>>
-    ensures { Comes (A.exchanges asker.old) (in_volume mounted (λ (volume : VolumeId). ls volume (path_text path.now))) result (A.exchanges asker.new) }
+    ensures comes { Comes (A.exchanges asker.old) (in_volume mounted (λ (volume : VolumeId). ls volume (path_text path.now))) result (A.exchanges asker.new) }
+    ensures said { IsSaid (said_in mounted) (A.exchanges asker.old) said.old result said.new (A.exchanges asker.new) }
 {
     parts_end::<A>();
     let Some(volume) = mounted else {
         return Ok(no_volume(alloc)?);
     };
     let path = path_of(alloc, path)?;
-    ls(alloc, asker, volume, path.as_slice())
+    ls(alloc, asker, volume, path.as_slice(), said)
 }
 
 /// `rm PATH`, in a volume.

@@ -1,6 +1,7 @@
 //! A line, carried out.
+ghost use Rattle.client_script_ls.specs.Ls.{IsSaid};
 ghost use Rattle.client_script_parts.specs.Parts.{Comes};
-ghost use Rattle.client_script_run.specs.Run.{Mounts, line_part};
+ghost use Rattle.client_script_run.specs.Run.{Mounts, line_part, said_by};
 
 use crate::forks::{run_drop, run_lock, run_unlock};
 use crate::mounting::run_mount;
@@ -15,7 +16,7 @@ use client_script_parts::{Asker, Stop};
 use std::alloc::Global;
 
 /// Carries out a line over whoever asks its calls: what it prints, or why it prints nothing of its own. Where no volume is mounted, a command
-/// that needs one prints `no volume`, and asks nothing.
+/// that needs one prints `no volume`, and asks nothing. What a line that stops in its middle said until then is appended to `said`.
 ///
 /// The words are those of a line that was read. Of others it may answer that there is no memory.
 pub fn run_line<A: Asker>(
@@ -23,9 +24,11 @@ pub fn run_line<A: Asker>(
     asker: &mut A,
     mounted: &mut Option<VolumeId>,
     line: &ScriptLine,
+    said: &mut Bytes,
 ) -> Result<Bytes, Stop<A::End>>
     ensures comes { Comes (A.exchanges asker.old) (line_part mounted.old line.now) result (A.exchanges asker.new) }
     ensures mounts { Mounts mounted.old line.now (A.exchanges asker.old) (A.exchanges asker.new) mounted.new }
+    ensures said { IsSaid (said_by mounted.old line.now) (A.exchanges asker.old) said.old result said.new (A.exchanges asker.new) }
 {
     match line {
         ScriptLine::Mount { volume } => run_mount(alloc, asker, mounted, volume.as_slice()),
@@ -38,7 +41,7 @@ pub fn run_line<A: Asker>(
             piece.as_slice(),
         ),
         ScriptLine::Get { path } => run_get(alloc, asker, *mounted, path.as_slice()),
-        ScriptLine::Ls { path } => run_ls(alloc, asker, *mounted, path.as_slice()),
+        ScriptLine::Ls { path } => run_ls(alloc, asker, *mounted, path.as_slice(), said),
         ScriptLine::Mv { path, target } => run_mv(
             alloc,
             asker,

@@ -1,4 +1,4 @@
-use Rattle.std.proofs.Common.{◌≡◌, true, false, nat_lt, rules}
+use Rattle.std.proofs.Common.{rules}
 use Rattle.client_script_ls.proofs.ListLemmas.{behind_within, behind_past}
 use Rattle.client_script_ls.proofs.ls.lists_go_on.Goals as goal
 

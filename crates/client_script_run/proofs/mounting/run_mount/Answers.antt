@@ -1,7 +1,4 @@
-use Rattle.std.proofs.Common.{subst, List, ℕ, rules, Ok, Err, ◌∙◌, sym, ap}
-use Rattle.client_script_commands.specs.Mount.{mount}
-use Rattle.client_script_parts.specs.Parts.{Comes}
-use Rattle.client_script_parts.specs.declared.asker.Stop.TheVariants as stops
+use Rattle.std.proofs.Common.{subst, List, ℕ, rules, Ok, Err, ◌∙◌}
 use Rattle.client_script_run.specs.Values.{text_of}
 use Rattle.client_script_run.specs.Run.{OpensVolume}
 use Rattle.client_script_run.proofs.MountLemmas.{comes-lack, comes-stop, comes-told, comes-unasked, mounts-stop, mounts-unasked}
