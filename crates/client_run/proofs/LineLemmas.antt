@@ -1,5 +1,5 @@
 -- Lines that are taken leave less of a script.
-use Rattle.std.proofs.Common.{◌≡◌, ℕ, ◌+◌, ◌-◌, ◌<◌, ◌≤◌, ◌^◌, List, [], ◌∷◌, ◌++◌, length, length-append, ap, sym, ◌∙◌, arith}
+use Rattle.std.proofs.Common.{◌≡◌, ℕ, ◌+◌, ◌-◌, ◌<◌, ◌≤◌, ◌^◌, List, ◌∷◌, ◌++◌, length, length-append, ap, arith}
 use Rattle.afp_outside.specs.Source.{SourceState}
 use Rattle.afp_outside_lines.specs.Lines.{Unread, TakesLine, IsNext, whole, too_long, last}
 

@@ -1,17 +1,17 @@
 -- What comes of a line.
-use Rattle.std.proofs.Common.{◌≡◌, ℕ, List, ◌++◌, Option, Some, Result, Ok, Err, refl}
+use Rattle.std.proofs.Common.{◌≡◌, ℕ, List, [], ◌++◌, Option, Some, Ok, Err, refl, ap, ◌∙◌}
 use Rattle.afp_base.specs.declared.code.Code.{Code}
 use Rattle.afp_base.specs.declared.ids.VolumeId.{VolumeId}
 use Rattle.afp_outside.specs.Sink.{SinkState}
 use Rattle.client_script_lines.specs.declared.line.ScriptLine.{ScriptLine}
 use Rattle.client_script_lines.specs.declared.line.ScriptLine.TheVariants as lines
 use Rattle.client_script_texts.specs.Texts.{error_text, newline}
-use Rattle.client_script_parts.specs.declared.asker.Stop.{Stop}
 use Rattle.client_script_parts.specs.declared.asker.Stop.TheVariants as stops
 use Rattle.client_script_parts.specs.Parts.{Asked, Comes, Exchange, Leads, Part, Runs, Waits, bad, done, refuses}
-use Rattle.client_script_run.specs.Run.{Mounts, line_part}
+use Rattle.client_script_ls.specs.Ls.{IsSaid}
+use Rattle.client_script_run.specs.Run.{Mounts, line_part, said_by}
 use Rattle.client_run.specs.Printing.{Prints, PrintsPart}
-use Rattle.client_run.specs.Script.{CarriesOut, GoesBehind, TakesBye, TakesCut, TakesLine, TakesOn, TakesText, own, refusal}
+use Rattle.client_run.specs.Script.{GoesBehind, TakesBye, TakesCut, TakesLine, TakesOn, TakesText, own, refusal}
 use Rattle.client_run.specs.declared.line.Taken.{Taken}
 use Rattle.client_run.specs.declared.line.Taken.TheVariants as takes
 use Rattle.client_script_lines.specs.Lines.{line_in}
@@ -86,13 +86,18 @@ pub lacks_refused : (E : Type 0) {F : Type 0} (before after : Asked F) (part : P
 unfolding Comes
 lacks_refused E before after part c old new runs same = (refuses c, runs, same)
 
-pub runs_bad : (E : Type 0) {F : Type 0} (before after : Asked F) (part : Part) → Comes {E = E} before part (Err stops.BadReply) after → Runs before part bad after
+-- it stops in its middle, and this is what it had said
+pub takes_wait : {E F : Type 0} (mounted : Option VolumeId) (line : ScriptLine) (before after : Asked F) (end : E) (none said : List ℕ) (old : SinkState) → Comes before (line_part mounted line) (Err (stops.Ended end)) after
+    → IsSaid {E = E} (said_by mounted line) before none (Err (stops.Ended end)) said after → none ≡ [] → (w : Waits before (line_part mounted line) after) × (said ≡ said_by mounted line w.runs.exchanges) × (old ≡ old)
 unfolding Comes
-runs_bad E before after part runs = runs
+takes_wait mounted line before after end none said old w s is =
+    (w, s tt w.runs.exchanges w.runs.log ∙ ap (λ (t : List ℕ). t ++ said_by mounted line w.runs.exchanges) is, refl)
 
-pub runs_wait : {E F : Type 0} (before after : Asked F) (part : Part) (end : E) → Comes before part (Err (stops.Ended end)) after → Waits before part after
+pub takes_bad : (E : Type 0) {F : Type 0} (mounted : Option VolumeId) (line : ScriptLine) (before after : Asked F) (none said : List ℕ) (old : SinkState) → Comes {E = E} before (line_part mounted line) (Err stops.BadReply) after
+    → IsSaid {E = E} (said_by mounted line) before none (Err stops.BadReply) said after → none ≡ [] → (r : Runs before (line_part mounted line) bad after) × (said ≡ said_by mounted line r.exchanges) × (old ≡ old)
 unfolding Comes
-runs_wait before after part end waits = waits
+takes_bad E mounted line before after none said old r s is =
+    (r, s tt r.exchanges r.log ∙ ap (λ (t : List ℕ). t ++ said_by mounted line r.exchanges) is, refl)
 
 -- a line that has one of the forms
 pub text_taken : {E F : Type 0} (mounted : Option VolumeId) (text : List ℕ) (before : Asked F) (old : SinkState) (taken : Taken E) (now : Option VolumeId) (after : Asked F) (new : SinkState) (line : ScriptLine)

@@ -1,6 +1,6 @@
 -- Why a script stops, behind the lines that were carried out.
 use Rattle.std.proofs.Common.{◌≡◌, ℕ, ◌+◌, ◌-◌, ◌≤◌, Bool, true, false, List, [], ◌∷◌, ◌++◌, length, Option, Some, None, inl, inr, length-append, refl, sym, ap, subst, ◌∙◌, arith}
-use Rattle.std.specs.Prelude.{option_map}
+use Rattle.std.specs.Prelude.{◌⊎◌, option_map}
 use Rattle.std.proofs.lemmas.List.{append-nil}
 use Rattle.afp_base.specs.Counts.{CountsOn}
 use Rattle.afp_base.specs.declared.ids.VolumeId.{VolumeId}
@@ -24,11 +24,11 @@ use Rattle.client_script_links.specs.declared.asker.AskEnd.{AskEnd}
 use Rattle.client_script_links.specs.declared.asker.AskEnd.TheVariants as asks
 use Rattle.client_run.specs.Carried.{AreCarried, Carried, ReadsLine, exchanges_of, mounted_behind, printed_of, source_behind, unread_behind}
 use Rattle.client_run.specs.Ends.{end_of_ask, last_line}
-use Rattle.client_run.specs.Printing.{Prints, PrintsAll}
+use Rattle.client_run.specs.Printing.{Prints, PrintsAll, PrintsPart}
 use Rattle.client_run.specs.Runs.{LeavesLinks, PrintsLines, PrintsWhole}
 use Rattle.client_run.specs.Script.{TakesRead, TakesText}
-use Rattle.client_run.specs.Stops.{AtCall, AtEnd, Lacks, Stood, Stops}
-use Rattle.client_run.specs.lemma.Taking.{RunsPrinted, SoFar, StopsLines, StopsOr, stood_at, stop_by}
+use Rattle.client_run.specs.Stops.{AtBadReply, AtCall, AtEnd, AtWrite, Stood, Stops}
+use Rattle.client_run.specs.lemma.Taking.{PrintsSaid, RunsPrinted, SoFar, StopsBy, StopsLines, StopsOr, stood_at}
 use Rattle.client_run.specs.declared.ends.ClientEnd.{ClientEnd}
 use Rattle.client_run.specs.declared.ends.ClientEnd.TheVariants as ends
 use Rattle.client_run.specs.declared.line.Taken.{Taken}
@@ -48,28 +48,67 @@ none-given (Some g) = ap Some (sym (append-nil g))
 none-read : (unread : Read.Unread) (source : SourceState) → Read.TakesSome unread source source
 none-read unread source = record { read = []; given = none-given source.given; faults = refl }
 
--- no memory, where the client had ended too
-lacks-call : (turns : ℕ) (start : SourceState) (carried : List Carried) (end : AskEnd) (text : List ℕ) (stood : Stood) (source : SourceState) → AtCall turns start carried end text stood source → Lacks start carried text stood source
-lacks-call turns start carried end text stood source a = record {
-  some = some-read start carried a.bytes a.unread source a.next;
-  exchanges = a.exchanges;
-  begun = inr (record { bytes = a.bytes; unread = a.unread; next = a.next; line = a.line; reads = a.reads; left = a.left; leads = a.leads });
-  told = a.told;
-  closes = a.closes;
-  prints = a.prints;
-}
+-- what a line had said, and how that ends the script
+pub said_whole : (old : SinkState) (said : List ℕ) (why : ClientEnd) (new : SinkState) → (why ≡ ends.Memory → ⊥) → Prints old said new → PrintsSaid old said why why new
+said_whole old said ends.Memory new some p = absurd (some refl)
+said_whole old said why new some p = inl (refl, p)
 
-stops-call : (turns : ℕ) (start : SourceState) (carried : List Carried) (end : AskEnd) (text : List ℕ) (stood : Stood) (source : SourceState) → AtCall turns start carried end text stood source
-    → Stops turns start carried (end_of_ask end (length carried + 1)) text stood source
-stops-call turns start carried (asks.Links (talks.Refused c)) text stood source a = a
-stops-call turns start carried (asks.Links (talks.Lost c)) text stood source a = (refl, c, a)
-stops-call turns start carried (asks.Links (talks.Bad at)) text stood source a = inl (inl a)
-stops-call turns start carried (asks.Links talks.Broken) text stood source a = a
-stops-call turns start carried (asks.Links talks.DialFault) text stood source a = a
-stops-call turns start carried (asks.Links talks.Spent) text stood source a = inl a
-stops-call turns start carried (asks.Links talks.Memory) text stood source a = lacks-call turns start carried (asks.Links talks.Memory) text stood source a
-stops-call turns start carried (asks.BadReply at) text stood source a = inl (inr a)
-stops-call turns start carried asks.Memory text stood source a = lacks-call turns start carried asks.Memory text stood source a
+pub said_part : (old : SinkState) (said : List ℕ) (why : ClientEnd) (new : SinkState) → (why ≡ ends.Memory → ⊥) → PrintsPart old said new → PrintsSaid old said why ends.WriteFault new
+said_part old said ends.Memory new some p = absurd (some refl)
+said_part old said why new some p = inr (refl, p)
+
+module _ (turns : ℕ) (start : SourceState) (sink : SinkState) (carried : List Carried) (are : AreCarried start carried) (said : List ℕ) (stood : Stood) (source : SourceState) (mid new : SinkState) (prints : Prints sink (printed_of carried) mid) where
+  -- all of it was printed, or a write failed
+  stops-said : (why told : ClientEnd) → Stops turns start carried why (printed_of carried ++ said) stood source → AtWrite turns start carried (printed_of carried ++ said) stood source
+      → (Prints sink (printed_of carried ++ said) new → PrintsLines sink (printed_of carried ++ said) why new)
+      → ((told ≡ why) × Prints mid said new) ⊎ ((told ≡ ends.WriteFault) × PrintsPart mid said new) → StopsLines turns start sink told stood source new
+  stops-said why told whole part lines (inl p) =
+      subst (λ (e : ClientEnd). StopsLines turns start sink e stood source new) (sym p.0) (record {
+        carried = carried;
+        are = are;
+        text = printed_of carried ++ said;
+        stops = whole;
+        prints = lines (prints-both sink mid new (printed_of carried) said true prints p.1);
+      })
+  stops-said why told whole part lines (inr p) =
+      subst (λ (e : ClientEnd). StopsLines turns start sink e stood source new) (sym p.0) (record {
+        carried = carried;
+        are = are;
+        text = printed_of carried ++ said;
+        stops = part;
+        prints = prints-both sink mid new (printed_of carried) said false prints p.1;
+      })
+
+  -- there was no memory, where the client had ended so
+  lacks-call : (end : AskEnd) (told : ClientEnd) → AtCall turns start carried end (printed_of carried ++ said) stood source → told ≡ ends.Memory → new ≡ mid → StopsLines turns start sink told stood source new
+  lacks-call end told a is same =
+      subst (λ (e : ClientEnd). StopsLines turns start sink e stood source new) (sym is) (record {
+        carried = carried;
+        are = are;
+        text = printed_of carried;
+        stops = record {
+          some = some-read start carried a.bytes a.unread source a.next;
+          exchanges = a.exchanges;
+          begun = inr (record { bytes = a.bytes; unread = a.unread; next = a.next; line = a.line; reads = a.reads; left = a.left; leads = a.leads });
+          told = a.told;
+          closes = a.closes;
+          prints = refl;
+        };
+        prints = subst (λ (s : SinkState). Prints sink (printed_of carried) s) (sym same) prints;
+      })
+
+  -- a call got no answer, by why the client had ended
+  said-call : (end : AskEnd) (told : ClientEnd) → AtCall turns start carried end (printed_of carried ++ said) stood source → PrintsSaid mid said (end_of_ask end (length carried + 1)) told new
+      → StopsLines turns start sink told stood source new
+  said-call (asks.Links (talks.Refused c)) told a p = stops-said (ends.Refused c) told a (inl (inr (asks.Links (talks.Refused c), a))) (λ q. q) p
+  said-call (asks.Links (talks.Lost c)) told a p = stops-said (ends.SessionLost (length carried + 1)) told (refl, c, a) (inl (inr (asks.Links (talks.Lost c), a))) (λ q. q) p
+  said-call (asks.Links (talks.Bad at)) told a p = stops-said (ends.BadReply at) told (inl (inl a)) (inl (inr (asks.Links (talks.Bad at), a))) (λ q. q) p
+  said-call (asks.Links talks.Broken) told a p = stops-said ends.Broken told a (inl (inr (asks.Links talks.Broken, a))) (λ q. q) p
+  said-call (asks.Links talks.DialFault) told a p = stops-said ends.DialFault told a (inl (inr (asks.Links talks.DialFault, a))) (λ q. q) p
+  said-call (asks.Links talks.Spent) told a p = stops-said ends.Spent told (inl a) (inl (inr (asks.Links talks.Spent, a))) (λ q. q) p
+  said-call (asks.Links talks.Memory) told a p = lacks-call (asks.Links talks.Memory) told a p.0 p.1
+  said-call (asks.BadReply at) told a p = stops-said (ends.BadReply at) told (inl (inr a)) (inl (inr (asks.BadReply at, a))) (λ q. q) p
+  said-call asks.Memory told a p = lacks-call asks.Memory told a p.0 p.1
 
 prints-call : (end : AskEnd) (line : ℕ) (sink printed : SinkState) (text : List ℕ) → Prints sink text printed → PrintsLines sink text (end_of_ask end line) printed
 prints-call (asks.Links (talks.Refused c)) line sink printed text p = p
@@ -92,8 +131,8 @@ pub keeps-fixed : {F : Type 0} (mounted : Option VolumeId) (bytes : List ℕ) (b
 keeps-fixed {F} mounted bytes before printed takes.Goes now after new t = ap (λ (a : Asked F). a.fixed) t.takes.carried.log
 keeps-fixed {F} mounted bytes before printed takes.Done now after new t = ap (λ (a : Asked F). a.fixed) t.takes.carried.log
 keeps-fixed {F} mounted bytes before printed takes.Cut now after new t = ap (λ (a : Asked F). a.fixed) t.takes.carried.log
-keeps-fixed {F} mounted bytes before printed (takes.Ended end) now after new t = ap (λ (a : Asked F). a.fixed) t.takes.0.runs.log
-keeps-fixed {F} mounted bytes before printed takes.BadReply now after new t = ap (λ (a : Asked F). a.fixed) t.takes.0.log
+keeps-fixed {F} mounted bytes before printed (takes.Ended end said) now after new t = ap (λ (a : Asked F). a.fixed) t.takes.0.runs.log
+keeps-fixed {F} mounted bytes before printed (takes.BadReply said) now after new t = ap (λ (a : Asked F). a.fixed) t.takes.0.log
 keeps-fixed {F} mounted bytes before printed takes.Memory now after new t = ap (λ (a : Asked F). a.fixed) t.takes.1.log
 keeps-fixed {F} mounted bytes before printed takes.BadLine now after new t = ap (λ (a : Asked F). a.fixed) t.1
 keeps-fixed {F} mounted bytes before printed takes.Unread now after new t = ap (λ (a : Asked F). a.fixed) t.0
@@ -172,7 +211,7 @@ module _ {F : Type 0} (turns : ℕ) (start : SourceState) (sink : SinkState) (ca
     carried = carried;
     are = are;
     text = printed_of carried ++ (t.takes.text ++ newline);
-    stops = record {
+    stops = inl (inl (record {
       bytes = bytes;
       unread = unread;
       next = next;
@@ -184,64 +223,54 @@ module _ {F : Type 0} (turns : ℕ) (start : SourceState) (sink : SinkState) (ca
       told = told-more before after (exchanges_of carried) t.takes.carried.exchanges told t.takes.carried.log;
       closes = refl;
       prints = refl;
-    };
+    }));
     prints = prints-both sink printed new (printed_of carried) (t.takes.text ++ newline) false prints t.takes.printed;
   }
 
   -- a call without an answer, since the client has ended
-  stops-call-at : (end why : AskEnd) (cost place limit : ℕ) → limit ≡ turns - unread.taken → (t : TakesRead (mounted_behind carried) bytes before printed (takes.Ended end) now after new)
-      → StopsLines turns start sink (end_of_ask why (length carried + 1)) (stood_at after.exchanges (Some why) cost place limit false) source new
-  stops-call-at end why cost place limit is t =
+  stops-call-at : (end why : AskEnd) (said : List ℕ) (cost place limit : ℕ) (told_end : ClientEnd) (final : SinkState) → limit ≡ turns - unread.taken → (t : TakesRead (mounted_behind carried) bytes before printed (takes.Ended end said) now after new)
+      → PrintsSaid new said (end_of_ask why (length carried + 1)) told_end final → StopsLines turns start sink told_end (stood_at after.exchanges (Some why) cost place limit false) source final
+  stops-call-at end why said cost place limit told_end final is t p =
       let w = t.takes.0 in
-      record {
-        carried = carried;
-        are = are;
-        text = printed_of carried;
-        stops = stops-call turns start carried why (printed_of carried) (stood_at after.exchanges (Some why) cost place limit false) source (record {
-          bytes = bytes;
-          unread = unread;
-          next = next;
-          line = t.line;
-          reads = t.reads;
-          exchanges = w.runs.exchanges;
-          call = w.call;
-          left = w.left;
-          waits = w.next;
-          leads = w.runs.leads;
-          told = told-more before after (exchanges_of carried) w.runs.exchanges told w.runs.log;
-          ended = refl;
-          limit = is;
-          closes = refl;
-          prints = refl;
-        });
-        prints = prints-call why (length carried + 1) sink new (printed_of carried) (subst (λ (s : SinkState). Prints sink (printed_of carried) s) (sym t.takes.1) prints);
-      }
+      said-call turns start sink carried are said (stood_at after.exchanges (Some why) cost place limit false) source new final (subst (λ (s : SinkState). Prints sink (printed_of carried) s) (sym t.takes.2) prints) why told_end (record {
+        bytes = bytes;
+        unread = unread;
+        next = next;
+        line = t.line;
+        reads = t.reads;
+        exchanges = w.runs.exchanges;
+        call = w.call;
+        left = w.left;
+        waits = w.next;
+        leads = w.runs.leads;
+        told = told-more before after (exchanges_of carried) w.runs.exchanges told w.runs.log;
+        ended = refl;
+        limit = is;
+        closes = refl;
+        prints = ap (λ (s : List ℕ). printed_of carried ++ s) t.takes.1;
+      }) p
 
   -- a reply that may not come
-  stops-reply : (cost place limit : ℕ) (t : TakesRead {E = AskEnd} (mounted_behind carried) bytes before printed takes.BadReply now after new)
-      → StopsLines turns start sink (ends.BadReply place) (stood_at after.exchanges None cost place limit false) source new
-  stops-reply cost place limit t =
+  stops-reply : (said : List ℕ) (cost place limit : ℕ) (told_end : ClientEnd) (final : SinkState) (t : TakesRead {E = AskEnd} (mounted_behind carried) bytes before printed (takes.BadReply said) now after new)
+      → PrintsSaid new said (ends.BadReply place) told_end final → StopsLines turns start sink told_end (stood_at after.exchanges None cost place limit false) source final
+  stops-reply said cost place limit told_end final t p =
       let r = t.takes.0 in
-      record {
-        carried = carried;
-        are = are;
-        text = printed_of carried;
-        stops = inr (record {
-          bytes = bytes;
-          unread = unread;
-          next = next;
-          line = t.line;
-          reads = t.reads;
-          exchanges = r.exchanges;
-          leads = r.leads;
-          told = told-more before after (exchanges_of carried) r.exchanges told r.log;
-          live = refl;
-          place = refl;
-          closes = refl;
-          prints = refl;
-        });
-        prints = subst (λ (s : SinkState). Prints sink (printed_of carried) s) (sym t.takes.1) prints;
-      }
+      let stood = stood_at after.exchanges None cost place limit false in
+      let bad_reply : AtBadReply start carried place (printed_of carried ++ said) stood source = record {
+        bytes = bytes;
+        unread = unread;
+        next = next;
+        line = t.line;
+        reads = t.reads;
+        exchanges = r.exchanges;
+        leads = r.leads;
+        told = told-more before after (exchanges_of carried) r.exchanges told r.log;
+        live = refl;
+        place = refl;
+        closes = refl;
+        prints = ap (λ (s : List ℕ). printed_of carried ++ s) t.takes.1;
+      } in
+      stops-said turns start sink carried are said stood source new final (subst (λ (s : SinkState). Prints sink (printed_of carried) s) (sym t.takes.2) prints) (ends.BadReply place) told_end (inr bad_reply) (inr (place, bad_reply)) (λ q. q) p
 
   -- a line of no form
   stops-line : (cost place limit : ℕ) → line_in bytes ≡ None → after ≡ before → new ≡ printed
@@ -300,39 +329,59 @@ module _ {F : Type 0} (turns : ℕ) (start : SourceState) (sink : SinkState) (ca
     prints = subst (λ (s : SinkState). Prints sink (printed_of carried) s) (sym still) prints;
   }
 
+  -- nothing was printed behind it
+  stops-still : (ended : Option AskEnd) (cost place limit : ℕ) (why stop : Option ClientEnd) (final : SinkState) → (stop ≡ why) × (final ≡ new)
+      → StopsOr turns start sink why unread source now after.exchanges ended cost place limit (length carried + 1) new → StopsOr turns start sink stop unread source now after.exchanges ended cost place limit (length carried + 1) final
+  stops-still ended cost place limit why stop final still s =
+      subst (λ (o : Option ClientEnd). StopsOr turns start sink o unread source now after.exchanges ended cost place limit (length carried + 1) final) (sym still.0)
+      (subst (λ (k : SinkState). StopsOr turns start sink why unread source now after.exchanges ended cost place limit (length carried + 1) k) (sym still.1) s)
+
+  -- it stops so
+  stops-some : (ended : Option AskEnd) (cost place limit : ℕ) (why : ClientEnd) (stop : Option ClientEnd) (final : SinkState) → stop ≡ Some why
+      → StopsLines turns start sink why (stood_at after.exchanges ended cost place limit false) source final → StopsOr turns start sink stop unread source now after.exchanges ended cost place limit (length carried + 1) final
+  stops-some ended cost place limit why stop final is s =
+      subst (λ (o : Option ClientEnd). StopsOr turns start sink o unread source now after.exchanges ended cost place limit (length carried + 1) final) (sym is) s
+
   -- by what came of the line
-  behind-line : (taken : Taken AskEnd) (ended : Option AskEnd) (cost place limit : ℕ) → limit ≡ turns - unread.taken → TakesText (mounted_behind carried) bytes before printed taken now after new
-      → StopsOr turns start sink (stop_by taken ended (length carried + 1) place) unread source now after.exchanges ended cost place limit (length carried + 1) new
-  behind-line takes.Goes None cost place limit is t = goes-none t
-  behind-line takes.Goes (Some e) cost place limit is t = goes-some (Some e) cost place limit t
-  behind-line takes.Done ended cost place limit is t = stops-bye ended cost place limit t
-  behind-line takes.Cut ended cost place limit is t = stops-cut ended cost place limit t
-  behind-line (takes.Ended end) None cost place limit is t = lacks-rest None cost place limit t.line t.takes.0.left t.reads t.takes.0.runs t.takes.1
-  behind-line (takes.Ended end) (Some why) cost place limit is t = stops-call-at end why cost place limit is t
-  behind-line takes.BadReply None cost place limit is t = stops-reply cost place limit t
-  behind-line takes.BadReply (Some e) cost place limit is t = lacks-rest (Some e) cost place limit t.line bad t.reads t.takes.0 t.takes.1
-  behind-line takes.Memory ended cost place limit is t = lacks-rest ended cost place limit t.line t.takes.0 t.reads t.takes.1 t.takes.2
-  behind-line takes.BadLine None cost place limit is t = stops-line cost place limit t.0 t.1 t.2
-  behind-line takes.BadLine (Some e) cost place limit is t = lacks-line (Some e) cost place limit t.1 t.2
-  behind-line takes.Unread ended cost place limit is t = lacks-line ended cost place limit t.0 t.1
+  behind-line : (taken : Taken AskEnd) (ended : Option AskEnd) (cost place limit : ℕ) (stop : Option ClientEnd) (final : SinkState) → limit ≡ turns - unread.taken → TakesText (mounted_behind carried) bytes before printed taken now after new
+      → StopsBy taken ended (length carried + 1) place new stop final → StopsOr turns start sink stop unread source now after.exchanges ended cost place limit (length carried + 1) final
+  behind-line takes.Goes None cost place limit stop final is t s = stops-still None cost place limit None stop final s (goes-none t)
+  behind-line takes.Goes (Some e) cost place limit stop final is t s = stops-still (Some e) cost place limit (Some ends.Memory) stop final s (goes-some (Some e) cost place limit t)
+  behind-line takes.Done ended cost place limit stop final is t s = stops-still ended cost place limit (Some ends.Done) stop final s (stops-bye ended cost place limit t)
+  behind-line takes.Cut ended cost place limit stop final is t s = stops-still ended cost place limit (Some ends.WriteFault) stop final s (stops-cut ended cost place limit t)
+  behind-line (takes.Ended end said) None cost place limit stop final is t s =
+      stops-still None cost place limit (Some ends.Memory) stop final s (lacks-rest None cost place limit t.line t.takes.0.left t.reads t.takes.0.runs t.takes.2)
+  behind-line (takes.Ended end said) (Some why) cost place limit stop final is t s =
+      stops-some (Some why) cost place limit s.0 stop final s.1 (stops-call-at end why said cost place limit s.0 final is t s.2)
+  behind-line (takes.BadReply said) None cost place limit stop final is t s =
+      stops-some None cost place limit s.0 stop final s.1 (stops-reply said cost place limit s.0 final t s.2)
+  behind-line (takes.BadReply said) (Some e) cost place limit stop final is t s =
+      stops-still (Some e) cost place limit (Some ends.Memory) stop final s (lacks-rest (Some e) cost place limit t.line bad t.reads t.takes.0 t.takes.2)
+  behind-line takes.Memory ended cost place limit stop final is t s =
+      stops-still ended cost place limit (Some ends.Memory) stop final s (lacks-rest ended cost place limit t.line t.takes.0 t.reads t.takes.1 t.takes.2)
+  behind-line takes.BadLine None cost place limit stop final is t s =
+      stops-still None cost place limit (Some (ends.BadLine (length carried + 1))) stop final s (stops-line cost place limit t.0 t.1 t.2)
+  behind-line takes.BadLine (Some e) cost place limit stop final is t s = stops-still (Some e) cost place limit (Some ends.Memory) stop final s (lacks-line (Some e) cost place limit t.1 t.2)
+  behind-line takes.Unread ended cost place limit stop final is t s = stops-still ended cost place limit (Some ends.Memory) stop final s (lacks-line ended cost place limit t.0 t.1)
 
 -- the same, behind what was carried out so far
 pub line-comes : {F : Type 0} (turns : ℕ) (start : SourceState) (sink : SinkState) (was unread : Read.Unread) (before_source source : SourceState) (mounted now : Option VolumeId) (exchanges : List Exchange) (was_ended ended told_ended : Option AskEnd)
-    (number next_number : ℕ) (printed new : SinkState) (bytes lent : List ℕ) (before after : Asked F) (taken : Taken AskEnd) (cost place told_place limit : ℕ) (stop : Option ClientEnd)
+    (number next_number : ℕ) (printed new final : SinkState) (bytes lent : List ℕ) (before after : Asked F) (taken : Taken AskEnd) (cost place told_place limit : ℕ) (stop : Option ClientEnd)
     → SoFar start sink was before_source mounted exchanges was_ended number printed → Read.TakesLine longest_line was before_source bytes unread source → before.exchanges ≡ exchanges → next_number ≡ number + 1 → limit ≡ turns - unread.taken
-    → TakesText mounted lent before printed taken now after new → lent ≡ bytes → stop ≡ stop_by taken told_ended next_number told_place → told_ended ≡ ended → told_place ≡ place
-    → StopsOr turns start sink stop unread source now after.exchanges ended cost place limit next_number new
-line-comes {F} turns start sink was unread before_source source mounted now exchanges was_ended ended told_ended number next_number printed new bytes lent before after taken cost place told_place limit stop so next told is_next is t same_bytes stops same_ended same_place =
+    → TakesText mounted lent before printed taken now after new → lent ≡ bytes → StopsBy taken told_ended next_number told_place new stop final → told_ended ≡ ended → told_place ≡ place
+    → StopsOr turns start sink stop unread source now after.exchanges ended cost place limit next_number final
+line-comes {F} turns start sink was unread before_source source mounted now exchanges was_ended ended told_ended number next_number printed new final bytes lent before after taken cost place told_place limit stop so next told is_next is t same_bytes stops same_ended same_place =
     let many = is_next ∙ ap (λ (n : ℕ). n + 1) so.number_is in
-    subst (λ (o : Option ClientEnd). StopsOr turns start sink o unread source now after.exchanges ended cost place limit next_number new)
-    (sym (stops ∙ ap (λ (o : Option AskEnd). stop_by taken o next_number told_place) same_ended ∙ ap (λ (n : ℕ). stop_by taken ended next_number n) same_place))
-    (subst (λ (n : ℕ). StopsOr turns start sink (stop_by taken ended n place) unread source now after.exchanges ended cost place limit n new) (sym many)
+    subst (λ (n : ℕ). StopsOr turns start sink stop unread source now after.exchanges ended cost place limit n final) (sym many)
     (behind-line turns start sink so.carried so.are bytes unread source
     (subst (λ (u : Read.Unread). Read.TakesLine longest_line u (source_behind start so.carried) bytes unread source) so.unread_is
     (subst (λ (s : SourceState). Read.TakesLine longest_line was s bytes unread source) so.source_is next))
-    before after (told ∙ so.told) printed new so.prints now taken ended cost place limit is
+    before after (told ∙ so.told) printed new so.prints now taken ended cost place limit stop final is
     (subst (λ (m : Option VolumeId). TakesText m bytes before printed taken now after new) so.mounted_is
-    (subst (λ (b : List ℕ). TakesText mounted b before printed taken now after new) same_bytes t))))
+    (subst (λ (b : List ℕ). TakesText mounted b before printed taken now after new) same_bytes t))
+    (subst (λ (n : ℕ). StopsBy taken ended n place new stop final) many
+    (subst (λ (o : Option AskEnd). StopsBy taken o next_number place new stop final) same_ended
+    (subst (λ (n : ℕ). StopsBy taken told_ended next_number n new stop final) same_place stops))))
 
 -- where it stops
 pub line-stops : (turns : ℕ) (start : SourceState) (sink : SinkState) (stop : Option ClientEnd) (why : ClientEnd) (unread : Read.Unread) (source : SourceState) (now : Option VolumeId) (after : List Exchange) (ended : Option AskEnd) (cost place limit number : ℕ) (new : SinkState)
@@ -456,7 +505,9 @@ at-end turns start carried (ends.BadReply at) text stood source (inl (inr a)) is
 at-end turns start carried (ends.BadReply at) text stood source (inr a) is = never-closes (sym a.closes ∙ is)
 at-end turns start carried (ends.BadLine line) text stood source a is = never-closes (sym a.closes ∙ is)
 at-end turns start carried ends.ReadFault text stood source a is = never-closes (sym a.closes ∙ is)
-at-end turns start carried ends.WriteFault text stood source a is = never-closes (sym a.closes ∙ is)
+at-end turns start carried ends.WriteFault text stood source (inl (inl a)) is = never-closes (sym a.closes ∙ is)
+at-end turns start carried ends.WriteFault text stood source (inl (inr a)) is = never-closes (sym a.1.closes ∙ is)
+at-end turns start carried ends.WriteFault text stood source (inr a) is = never-closes (sym a.1.closes ∙ is)
 at-end turns start carried ends.Broken text stood source a is = never-closes (sym a.closes ∙ is)
 at-end turns start carried ends.DialFault text stood source a is = never-closes (sym a.closes ∙ is)
 at-end turns start carried ends.Spent text stood source (inl a) is = never-closes (sym a.closes ∙ is)

@@ -1,5 +1,5 @@
 -- How a script's lines are carried out (this profile).
-use Rattle.std.specs.Prelude.{◌≡◌, ◌⊎◌, ℕ, List, ◌++◌, Option, Some, None}
+use Rattle.std.specs.Prelude.{◌≡◌, ℕ, List, ◌++◌, Option, Some, None}
 use Rattle.afp_base.specs.declared.code.Code.{Code}
 use Rattle.afp_base.specs.declared.ids.VolumeId.{VolumeId}
 use Rattle.afp_outside.specs.Sink.{SinkState}
@@ -8,7 +8,7 @@ use Rattle.client_script_lines.specs.declared.line.ScriptLine.{ScriptLine}
 use Rattle.client_script_lines.specs.declared.line.ScriptLine.TheVariants as lines
 use Rattle.client_script_texts.specs.Texts.{error_text, newline}
 use Rattle.client_script_parts.specs.Parts.{Asked, Exchange, Leads, Part, Runs, Waits, bad, done, refuses, with_more}
-use Rattle.client_script_run.specs.Run.{line_part, mounted_by}
+use Rattle.client_script_run.specs.Run.{line_part, mounted_by, said_by}
 use Rattle.client_run.specs.Printing.{Prints, PrintsPart}
 use Rattle.client_run.specs.declared.line.Printed.{Printed}
 use Rattle.client_run.specs.declared.line.Printed.TheVariants as prints
@@ -53,13 +53,13 @@ pub record TakesCut {F : Type 0} (mounted : Option VolumeId) (line : ScriptLine)
   pub carried : CarriesOut mounted line before text now after
   pub printed : PrintsPart old (text ++ newline) new
 
--- A line that has one of the forms, by what comes of it: else nothing is printed of it.
+-- A line that has one of the forms, by what comes of it: else nothing is printed of it. Where it stops in its middle, this is what it had said.
 abbrev pub TakesLine : {E F : Type 0} → Option VolumeId → ScriptLine → Asked F → SinkState → Taken E → Option VolumeId → Asked F → SinkState → Type 0
 TakesLine mounted line before old takes.Goes now after new = TakesOn mounted line before old now after new
 TakesLine mounted line before old takes.Done now after new = TakesBye mounted line before old now after new
 TakesLine mounted line before old takes.Cut now after new = TakesCut mounted line before old now after new
-TakesLine mounted line before old (takes.Ended end) now after new = Waits before (line_part mounted line) after × (new ≡ old)
-TakesLine mounted line before old takes.BadReply now after new = Runs before (line_part mounted line) bad after × (new ≡ old)
+TakesLine mounted line before old (takes.Ended end said) now after new = (w : Waits before (line_part mounted line) after) × (said ≡ said_by mounted line w.runs.exchanges) × (new ≡ old)
+TakesLine mounted line before old (takes.BadReply said) now after new = (r : Runs before (line_part mounted line) bad after) × (said ≡ said_by mounted line r.exchanges) × (new ≡ old)
 TakesLine mounted line before old takes.Memory now after new = (left : Part) × Runs before (line_part mounted line) left after × (new ≡ old)
 TakesLine mounted line before old takes.BadLine now after new = ⊥
 TakesLine mounted line before old takes.Unread now after new = ⊥

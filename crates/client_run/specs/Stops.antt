@@ -10,7 +10,7 @@ use Rattle.client_script_lines.specs.declared.line.ScriptLine.{ScriptLine}
 use Rattle.client_script_lines.specs.declared.line.ScriptLine.TheVariants as lines
 use Rattle.client_script_texts.specs.Texts.{newline}
 use Rattle.client_script_parts.specs.Parts.{Exchange, Leads, Part, asks, bad, done}
-use Rattle.client_script_run.specs.Run.{line_part}
+use Rattle.client_script_run.specs.Run.{line_part, said_by}
 use Rattle.client_links.specs.declared.links.TalkEnd.TheVariants as talks
 use Rattle.client_script_links.specs.declared.asker.AskEnd.{AskEnd}
 use Rattle.client_script_links.specs.declared.asker.AskEnd.TheVariants as asked_ends
@@ -65,7 +65,7 @@ pub record AtCut (start : SourceState) (carried : List Carried) (text : List ℕ
   pub closes : stood.closes ≡ false
   pub prints : text ≡ printed_of carried ++ (said ++ newline)
 
--- A call of the next line got no answer, since the client ended so; what the source gave counts as spent.
+-- A call of the next line got no answer, since the client ended so; what the source gave counts as spent. What the line had said was to be printed.
 pub record AtCall (turns : ℕ) (start : SourceState) (carried : List Carried) (end : AskEnd) (text : List ℕ) (stood : Stood) (source : SourceState) : Type 0 where
   pub bytes : List ℕ
   pub unread : Read.Unread
@@ -81,9 +81,9 @@ pub record AtCall (turns : ℕ) (start : SourceState) (carried : List Carried) (
   pub ended : stood.ended ≡ Some end
   pub limit : stood.limit ≡ turns - unread.taken
   pub closes : stood.closes ≡ false
-  pub prints : text ≡ printed_of carried
+  pub prints : text ≡ printed_of carried ++ said_by (mounted_behind carried) line exchanges
 
--- The last reply to the next line is none that may come; its frame begins at this place of its link.
+-- The last reply to the next line is none that may come; its frame begins at this place of its link. What the line had said was to be printed.
 pub record AtBadReply (start : SourceState) (carried : List Carried) (at : ℕ) (text : List ℕ) (stood : Stood) (source : SourceState) : Type 0 where
   pub bytes : List ℕ
   pub unread : Read.Unread
@@ -96,7 +96,7 @@ pub record AtBadReply (start : SourceState) (carried : List Carried) (at : ℕ) 
   pub live : stood.ended ≡ None
   pub place : stood.place ≡ at
   pub closes : stood.closes ≡ false
-  pub prints : text ≡ printed_of carried
+  pub prints : text ≡ printed_of carried ++ said_by (mounted_behind carried) line exchanges
 
 -- The next line has none of the forms.
 pub record AtBadLine (start : SourceState) (carried : List Carried) (number : ℕ) (text : List ℕ) (stood : Stood) (source : SourceState) : Type 0 where
@@ -147,7 +147,12 @@ pub record Lacks (start : SourceState) (carried : List Carried) (text : List ℕ
   pub closes : stood.closes ≡ false
   pub prints : text ≡ printed_of carried
 
--- By why it stops; this is the text of the lines that were carried out, printed or not.
+-- A write failed: of the text of a line that was carried out, or of what a line had said that stopped in its middle.
+abbrev pub AtWrite : ℕ → SourceState → List Carried → List ℕ → Stood → SourceState → Type 0
+AtWrite turns start carried text stood source =
+    (AtCut start carried text stood source ⊎ ((end : AskEnd) × AtCall turns start carried end text stood source)) ⊎ ((at : ℕ) × AtBadReply start carried at text stood source)
+
+-- By why it stops; this is the text of the lines that were carried out, and what the next one had said, printed or not.
 abbrev pub Stops : ℕ → SourceState → List Carried → ClientEnd → List ℕ → Stood → SourceState → Type 0
 Stops turns start carried ends.Done text stood source = AtEnd start carried text stood source ⊎ AtBye start carried text stood source
 Stops turns start carried (ends.Refused c) text stood source = AtCall turns start carried (asked_ends.Links (talks.Refused c)) text stood source
@@ -157,7 +162,7 @@ Stops turns start carried (ends.BadReply at) text stood source =
     (AtCall turns start carried (asked_ends.Links (talks.Bad at)) text stood source ⊎ AtCall turns start carried (asked_ends.BadReply at) text stood source) ⊎ AtBadReply start carried at text stood source
 Stops turns start carried (ends.BadLine line) text stood source = AtBadLine start carried line text stood source
 Stops turns start carried ends.ReadFault text stood source = AtFault turns start carried text stood source
-Stops turns start carried ends.WriteFault text stood source = AtCut start carried text stood source
+Stops turns start carried ends.WriteFault text stood source = AtWrite turns start carried text stood source
 Stops turns start carried ends.Broken text stood source = AtCall turns start carried (asked_ends.Links talks.Broken) text stood source
 Stops turns start carried ends.DialFault text stood source = AtCall turns start carried (asked_ends.Links talks.DialFault) text stood source
 Stops turns start carried ends.Spent text stood source = AtCall turns start carried (asked_ends.Links talks.Spent) text stood source ⊎ AtLimit turns start carried text stood source

@@ -20,10 +20,10 @@ pub enum Taken<E> {
     Done,
     /// It was carried out, and a write of what it prints failed.
     Cut,
-    /// One of its calls got no answer.
-    Ended(E),
-    /// Its last reply is none that may come.
-    BadReply,
+    /// One of its calls got no answer, and this is what it had said.
+    Ended(E, Bytes),
+    /// Its last reply is none that may come, and this is what it had said.
+    BadReply(Bytes),
     /// There was no memory.
     Memory,
     /// It has none of the forms.
@@ -67,8 +67,11 @@ fn print_refusal<O: Sink>(alloc: Global, out: &mut O, code: Code) -> Printed
     }
 }
 
+/// Lets a text go.
+fn let_go(_text: Bytes) {}
+
 /// Carries out a line, and prints what it comes to.
-#[tactic(auto, using(crate::proofs::ScriptLemmas::takes_on, crate::proofs::ScriptLemmas::takes_refused, crate::proofs::ScriptLemmas::takes_bye, crate::proofs::ScriptLemmas::takes_cut, crate::proofs::ScriptLemmas::cut_refused, crate::proofs::ScriptLemmas::lacks_all, crate::proofs::ScriptLemmas::lacks_own, crate::proofs::ScriptLemmas::lacks_refused, crate::proofs::ScriptLemmas::runs_bad, crate::proofs::ScriptLemmas::runs_wait))]
+#[tactic(auto, using(crate::proofs::ScriptLemmas::takes_on, crate::proofs::ScriptLemmas::takes_refused, crate::proofs::ScriptLemmas::takes_bye, crate::proofs::ScriptLemmas::takes_cut, crate::proofs::ScriptLemmas::cut_refused, crate::proofs::ScriptLemmas::lacks_all, crate::proofs::ScriptLemmas::lacks_own, crate::proofs::ScriptLemmas::lacks_refused))]
 fn take_line<A: Asker, O: Sink>(
     alloc: Global,
     asker: &mut A,
@@ -78,23 +81,33 @@ fn take_line<A: Asker, O: Sink>(
 ) -> Taken<A::End>
     ensures { TakesLine mounted.old line.now (A.exchanges asker.old) (O.sink_state out.old) result mounted.new (A.exchanges asker.new) (O.sink_state out.new) }
 {
-    match run_line(alloc, asker, mounted, line) {
-        Ok(text) => match print_told(out, text) {
-            Printed::All => match line {
-                ScriptLine::Bye => Taken::Done,
-                _ => Taken::Goes,
-            },
-            Printed::Part => Taken::Cut,
-            Printed::Nothing => Taken::Memory,
-        },
-        Err(Stop::Refused(code)) => match print_refusal(alloc, out, code) {
-            Printed::All => Taken::Goes,
-            Printed::Part => Taken::Cut,
-            Printed::Nothing => Taken::Memory,
-        },
-        Err(Stop::Ended(end)) => Taken::Ended(end),
-        Err(Stop::BadReply) => Taken::BadReply,
-        Err(Stop::Memory) => Taken::Memory,
+    let mut said = Bytes::new(alloc);
+    match run_line(alloc, asker, mounted, line, &mut said) {
+        Ok(text) => {
+            let_go(said);
+            match print_told(out, text) {
+                Printed::All => match line {
+                    ScriptLine::Bye => Taken::Done,
+                    _ => Taken::Goes,
+                },
+                Printed::Part => Taken::Cut,
+                Printed::Nothing => Taken::Memory,
+            }
+        }
+        Err(Stop::Refused(code)) => {
+            let_go(said);
+            match print_refusal(alloc, out, code) {
+                Printed::All => Taken::Goes,
+                Printed::Part => Taken::Cut,
+                Printed::Nothing => Taken::Memory,
+            }
+        }
+        Err(Stop::Ended(end)) => Taken::Ended(end, said),
+        Err(Stop::BadReply) => Taken::BadReply(said),
+        Err(Stop::Memory) => {
+            let_go(said);
+            Taken::Memory
+        }
     }
 }
 

@@ -5,12 +5,12 @@ ghost use Rattle.afp_client.specs.Opening.{FitsLogin};
 ghost use Rattle.client_script_links.specs.Standing.{first_of};
 ghost use Rattle.client_run.specs.Runs.{RunsClient, first_client};
 ghost use Rattle.client_run.specs.declared.ends.ClientEnd.{ClientEnd};
-ghost use Rattle.client_run.specs.lemma.Taking.{RunsPrinted, StopsLines, stood_at, stop_by};
+ghost use Rattle.client_run.specs.lemma.Taking.{PrintsSaid, RunsPrinted, StopsBy, StopsLines, stood_at};
 
 use crate::ends::{ClientEnd, end_of_ask};
 use crate::line::{Taken, take_text};
-use crate::print::print_end;
-use afp_base::OutOfMemory;
+use crate::print::{print_all, print_end};
+use afp_base::{Bytes, OutOfMemory};
 use afp_client::{ClientCore, Login};
 use afp_outside::{Dialer, Sink, Source};
 use afp_outside_lines::{Lines, NextLine};
@@ -35,10 +35,33 @@ pub struct ScriptEnd {
     pub closes: bool,
 }
 
+/// Prints what the last line had said, and tells why the script stops. Where there is no memory nothing is printed.
+#[tactic(auto, using(crate::proofs::StopLemmas::said_whole, crate::proofs::StopLemmas::said_part))]
+fn print_said<O: Sink>(out: &mut O, said: Bytes, why: ClientEnd) -> ClientEnd
+    ensures { PrintsSaid (O.sink_state out.old) said why result (O.sink_state out.new) }
+{
+    match why {
+        ClientEnd::Memory => why,
+        _ => {
+            if print_all(out, said.as_slice()) {
+                why
+            } else {
+                ClientEnd::WriteFault
+            }
+        }
+    }
+}
+
 /// Why a script stops behind what came of the line of this number; none where it goes on. `ended` is why its client had no answer for a call,
-/// where it had none, and `at` the place on its link of the last reply.
-fn stop_by(taken: Taken<AskEnd>, ended: Option<AskEnd>, line: u64, at: u64) -> Option<ClientEnd>
-    ensures { result ≡ stop_by taken ended line at }
+/// where it had none, and `at` the place on its link of the last reply. What a line had said that stops in its middle is printed.
+fn stop_by<O: Sink>(
+    out: &mut O,
+    taken: Taken<AskEnd>,
+    ended: Option<AskEnd>,
+    line: u64,
+    at: u64,
+) -> Option<ClientEnd>
+    ensures { StopsBy taken ended line at (O.sink_state out.old) result (O.sink_state out.new) }
 {
     match taken {
         Taken::Goes => match ended {
@@ -47,12 +70,12 @@ fn stop_by(taken: Taken<AskEnd>, ended: Option<AskEnd>, line: u64, at: u64) -> O
         },
         Taken::Done => Some(ClientEnd::Done),
         Taken::Cut => Some(ClientEnd::WriteFault),
-        Taken::Ended(_) => match ended {
+        Taken::Ended(_, said) => match ended {
             None => Some(ClientEnd::Memory),
-            Some(end) => Some(end_of_ask(end, line)),
+            Some(end) => Some(print_said(out, said, end_of_ask(end, line))),
         },
-        Taken::BadReply => match ended {
-            None => Some(ClientEnd::BadReply { at }),
+        Taken::BadReply(said) => match ended {
+            None => Some(print_said(out, said, ClientEnd::BadReply { at })),
             Some(_) => Some(ClientEnd::Memory),
         },
         Taken::Memory => Some(ClientEnd::Memory),
@@ -89,7 +112,7 @@ fn take_lines<S: Source, O: Sink, D: Dialer>(
                 asker.limit(turns.saturating_sub(lines.taken()));
                 number += 1;
                 let taken = take_text(alloc, asker, out, &mut mounted, text.as_slice());
-                match stop_by(taken, asker.ended(), number, asker.place()) {
+                match stop_by(out, taken, asker.ended(), number, asker.place()) {
                     None => {}
                     Some(end) => {
                         return ScriptEnd { end, closes: false };

@@ -1,5 +1,5 @@
 -- How far a script has come, and what its next line comes to.
-use Rattle.std.specs.Prelude.{◌≡◌, ℕ, Bool, false, List, length, Option, Some, None}
+use Rattle.std.specs.Prelude.{◌≡◌, ◌⊎◌, ℕ, Bool, false, List, length, Option, Some, None}
 use Rattle.afp_base.specs.declared.ids.VolumeId.{VolumeId}
 use Rattle.afp_outside.specs.Dialer.{DialerState}
 use Rattle.afp_outside.specs.Link.{LinkState}
@@ -11,7 +11,7 @@ use Rattle.client_script_parts.specs.Parts.{Exchange}
 use Rattle.client_script_links.specs.declared.asker.AskEnd.{AskEnd}
 use Rattle.client_run.specs.Carried.{AreCarried, Carried, exchanges_of, mounted_behind, printed_of, source_behind, unread_behind}
 use Rattle.client_run.specs.Ends.{end_of_ask}
-use Rattle.client_run.specs.Printing.{Prints}
+use Rattle.client_run.specs.Printing.{Prints, PrintsPart}
 use Rattle.client_run.specs.Runs.{PrintsLines, Runs}
 use Rattle.client_run.specs.Stops.{Stood, Stops}
 use Rattle.client_run.specs.declared.ends.ClientEnd.{ClientEnd}
@@ -26,14 +26,25 @@ stop_by takes.Goes None line at = None
 stop_by takes.Goes (Some end) line at = Some ends.Memory
 stop_by takes.Done ended line at = Some ends.Done
 stop_by takes.Cut ended line at = Some ends.WriteFault
-stop_by (takes.Ended end) None line at = Some ends.Memory
-stop_by (takes.Ended end) (Some why) line at = Some (end_of_ask why line)
-stop_by takes.BadReply None line at = Some (ends.BadReply at)
-stop_by takes.BadReply (Some end) line at = Some ends.Memory
+stop_by (takes.Ended end said) None line at = Some ends.Memory
+stop_by (takes.Ended end said) (Some why) line at = Some (end_of_ask why line)
+stop_by (takes.BadReply said) None line at = Some (ends.BadReply at)
+stop_by (takes.BadReply said) (Some end) line at = Some ends.Memory
 stop_by takes.Memory ended line at = Some ends.Memory
 stop_by takes.BadLine None line at = Some (ends.BadLine line)
 stop_by takes.BadLine (Some end) line at = Some ends.Memory
 stop_by takes.Unread ended line at = Some ends.Memory
+
+-- What a line had said is printed, and this is the end: why the script stops, or that a write failed. Where there is no memory nothing is printed.
+abbrev pub PrintsSaid : SinkState → List ℕ → ClientEnd → ClientEnd → SinkState → Type 0
+PrintsSaid old said ends.Memory end new = (end ≡ ends.Memory) × (new ≡ old)
+PrintsSaid old said why end new = ((end ≡ why) × Prints old said new) ⊎ ((end ≡ ends.WriteFault) × PrintsPart old said new)
+
+-- By what came of the line: why a script stops, and what is printed of the line then.
+abbrev pub StopsBy : Taken AskEnd → Option AskEnd → ℕ → ℕ → SinkState → Option ClientEnd → SinkState → Type 0
+StopsBy (takes.Ended end said) (Some why) line at old stop new = (told : ClientEnd) × (stop ≡ Some told) × PrintsSaid old said (end_of_ask why line) told new
+StopsBy (takes.BadReply said) None line at old stop new = (told : ClientEnd) × (stop ≡ Some told) × PrintsSaid old said (ends.BadReply at) told new
+StopsBy taken ended line at old stop new = (stop ≡ stop_by taken ended line at) × (new ≡ old)
 
 abbrev pub stood_at : List Exchange → Option AskEnd → ℕ → ℕ → ℕ → Bool → Stood
 stood_at exchanges ended cost place limit closes = record { exchanges = exchanges; ended = ended; cost = cost; place = place; limit = limit; closes = closes }

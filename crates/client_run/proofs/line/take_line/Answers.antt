@@ -1,8 +1,9 @@
 use Rattle.std.proofs.Common.{subst, Err, refl}
 use Rattle.client_script_parts.specs.Parts.{Comes}
 use Rattle.client_script_parts.specs.declared.asker.Stop.{Stop}
-use Rattle.client_script_run.specs.Run.{line_part}
-use Rattle.client_run.proofs.ScriptLemmas.{lacks_all, lacks_own, lacks_refused}
+use Rattle.client_script_ls.specs.Ls.{IsSaid}
+use Rattle.client_script_run.specs.Run.{line_part, said_by}
+use Rattle.client_run.proofs.ScriptLemmas.{lacks_all, lacks_own, lacks_refused, takes_bad, takes_wait}
 use Rattle.client_run.proofs.line.take_line.Goals as goal
 
 pub returns-in-Nothing : goal.returns-in-Nothing
@@ -25,3 +26,23 @@ returns-in-Err-Memory g c =
     let part = line_part c.args.mounted.now c.args.line.now in
     lacks_all g.row.A-End.Denot before after part (g.O.Sink.sink_state c.args.out.now) (g.O.Sink.sink_state c.args.out.now)
     (subst (λ (s : Stop g.row.A-End.Denot). Comes before part (Err s) after) c.in-Err-Memory.field-0-is c.in-Err-Memory.ensures.comes) refl
+
+pub returns-in-Err-Ended : goal.returns-in-Err-Ended
+returns-in-Err-Ended g c =
+    let before = g.A.Asker.exchanges c.args.asker.now in
+    let after = g.A.Asker.exchanges c.run_line.new.asker in
+    let part = line_part c.args.mounted.now c.args.line.now in
+    takes_wait c.args.mounted.now c.args.line.now before after c.in-Err-Ended.end c.new-said.result c.run_line.new.said (g.O.Sink.sink_state c.args.out.now)
+    (subst (λ (s : Stop g.row.A-End.Denot). Comes before part (Err s) after) c.in-Err-Ended.field-0-is c.in-Err-Ended.ensures.comes)
+    (subst (λ (s : Stop g.row.A-End.Denot). IsSaid (said_by c.args.mounted.now c.args.line.now) before c.new-said.result (Err s) c.run_line.new.said after) c.in-Err-Ended.field-0-is c.in-Err-Ended.ensures.said)
+    c.new-said.ensures
+
+pub returns-in-Err-BadReply : goal.returns-in-Err-BadReply
+returns-in-Err-BadReply g c =
+    let before = g.A.Asker.exchanges c.args.asker.now in
+    let after = g.A.Asker.exchanges c.run_line.new.asker in
+    let part = line_part c.args.mounted.now c.args.line.now in
+    takes_bad g.row.A-End.Denot c.args.mounted.now c.args.line.now before after c.new-said.result c.run_line.new.said (g.O.Sink.sink_state c.args.out.now)
+    (subst (λ (s : Stop g.row.A-End.Denot). Comes before part (Err s) after) c.in-Err-BadReply.field-0-is c.in-Err-BadReply.ensures.comes)
+    (subst (λ (s : Stop g.row.A-End.Denot). IsSaid (said_by c.args.mounted.now c.args.line.now) before c.new-said.result (Err s) c.run_line.new.said after) c.in-Err-BadReply.field-0-is c.in-Err-BadReply.ensures.said)
+    c.new-said.ensures

@@ -1,4 +1,4 @@
-use Rattle.std.proofs.Common.{subst, Bool, false, ◌++◌, List, ℕ}
+use Rattle.std.proofs.Common.{subst, Bool, false, ◌++◌}
 use Rattle.client_script_texts.specs.Texts.{newline}
 use Rattle.client_run.specs.Printing.{PrintsAll}
 use Rattle.client_run.proofs.PrintLemmas.{prints-both, prints-cut}

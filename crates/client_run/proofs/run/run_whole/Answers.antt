@@ -1,4 +1,4 @@
-use Rattle.std.proofs.Common.{Bool, subst, true, false}
+use Rattle.std.proofs.Common.{Bool, subst}
 use Rattle.client_run.specs.Ends.{last_line}
 use Rattle.client_run.specs.Printing.{PrintsAll}
 use Rattle.client_run.proofs.StopLemmas.{prints-end, prints-part}

@@ -35,9 +35,9 @@ loop-text-preserved g c =
       counted = counts-on _ was.number was.lines c.next.new.self (src was.source) (src c.next.new.source) c.in-Line.text c.in-Line.ensures was.invariant.counted;
       core = ap (λ b. b.core) fixed ∙ c.limit.ensures.core ∙ was.invariant.core;
       dialer = ap (λ b. b.dialer) fixed ∙ c.limit.ensures.dialer ∙ was.invariant.dialer;
-      so_far = line-goes c.args.turns (src c.args.source.now) (snk c.args.out.now) c.stop_by.result c.next.new.self (src c.next.new.source) took.new.mounted asker.asked.exchanges asker.ended asker.cost asker.place asker.asked.fixed.turns (was.number + 1) (snk took.new.out)
+      so_far = line-goes c.args.turns (src c.args.source.now) (snk c.args.out.now) c.stop_by.result c.next.new.self (src c.next.new.source) took.new.mounted asker.asked.exchanges asker.ended asker.cost asker.place asker.asked.fixed.turns (was.number + 1) (snk c.stop_by.new.out)
           (line-comes c.args.turns (src c.args.source.now) (snk c.args.out.now) was.lines c.next.new.self (src was.source) (src c.next.new.source) was.mounted took.new.mounted was.asker.asked.exchanges was.asker.ended asker.ended c.ended.result
-          was.number (was.number + 1) (snk was.out) (snk took.new.out) c.in-Line.text c.as_slice.result.now c.limit.new.self.asked asker.asked took.result asker.cost asker.place c.place.result asker.asked.fixed.turns c.stop_by.result
+          was.number (was.number + 1) (snk was.out) (snk took.new.out) (snk c.stop_by.new.out) c.in-Line.text c.as_slice.result.now c.limit.new.self.asked asker.asked took.result asker.cost asker.place c.place.result asker.asked.fixed.turns c.stop_by.result
           so c.in-Line.ensures c.limit.ensures.exchanges refl
           (ap (λ b. b.turns) fixed ∙ c.limit.ensures.turns so.live ∙ c.saturating_sub.ensures ∙ ap (λ (n : ℕ). c.args.turns - n) c.taken.ensures)
           took.ensures c.as_slice.ensures c.stop_by.ensures c.ended.ensures c.place.ensures)
@@ -53,9 +53,9 @@ returns-in-Some-clause-stops g c =
     let asker = took.new.asker in
     let fixed = keeps-fixed was.mounted c.as_slice.result.now c.limit.new.self.asked (snk was.out) took.result took.new.mounted asker.asked (snk took.new.out) took.ensures in
     let so = was.invariant.so_far in
-    line-stops c.args.turns (src c.args.source.now) (snk c.args.out.now) c.stop_by.result c.in-Some.end c.next.new.self (src c.next.new.source) took.new.mounted asker.asked.exchanges asker.ended asker.cost asker.place asker.asked.fixed.turns (was.number + 1) (snk took.new.out)
+    line-stops c.args.turns (src c.args.source.now) (snk c.args.out.now) c.stop_by.result c.in-Some.end c.next.new.self (src c.next.new.source) took.new.mounted asker.asked.exchanges asker.ended asker.cost asker.place asker.asked.fixed.turns (was.number + 1) (snk c.stop_by.new.out)
     (line-comes c.args.turns (src c.args.source.now) (snk c.args.out.now) was.lines c.next.new.self (src was.source) (src c.next.new.source) was.mounted took.new.mounted was.asker.asked.exchanges was.asker.ended asker.ended c.ended.result
-    was.number (was.number + 1) (snk was.out) (snk took.new.out) c.in-Line.text c.as_slice.result.now c.limit.new.self.asked asker.asked took.result asker.cost asker.place c.place.result asker.asked.fixed.turns c.stop_by.result
+    was.number (was.number + 1) (snk was.out) (snk took.new.out) (snk c.stop_by.new.out) c.in-Line.text c.as_slice.result.now c.limit.new.self.asked asker.asked took.result asker.cost asker.place c.place.result asker.asked.fixed.turns c.stop_by.result
     so c.in-Line.ensures c.limit.ensures.exchanges refl
     (ap (λ b. b.turns) fixed ∙ c.limit.ensures.turns so.live ∙ c.saturating_sub.ensures ∙ ap (λ (n : ℕ). c.args.turns - n) c.taken.ensures)
     took.ensures c.as_slice.ensures c.stop_by.ensures c.ended.ensures c.place.ensures)
