@@ -1,5 +1,5 @@
 -- A script's client, one call further.
-use Rattle.std.proofs.Common.{◌≡◌, ℕ, ◌+◌, ◌<◌, ◌≤◌, ◌^◌, Bool, true, false, List, [], ◌∷◌, ◌++◌, length, Option, Some, None, Result, Ok, Err, refl, sym, ap, subst, ◌∙◌, arith, rules}
+use Rattle.std.proofs.Common.{◌≡◌, ℕ, ◌+◌, ◌<◌, ◌≤◌, ◌^◌, Bool, false, List, [], ◌∷◌, ◌++◌, length, Option, Some, None, Ok, Err, refl, sym, ap, subst, ◌∙◌}
 use Rattle.std.specs.Prelude.{IsSome}
 use Rattle.afp_calls_grammar.specs.declared.call.Call.{Call}
 use Rattle.afp_calls_grammar.specs.declared.call.Call.TheVariants as calls
@@ -10,9 +10,9 @@ use Rattle.afp_outside.specs.Link.{LinkState}
 use Rattle.afp_replies.specs.Replies.{Shows}
 use Rattle.afp_replies.specs.declared.reply.Reply.{Reply}
 use Rattle.client_links.specs.History.{Happening, asks, cost_in}
-use Rattle.client_links.specs.Links.{Part, Over, Past, all_results}
+use Rattle.client_links.specs.Links.{Part, Past, all_results}
 use Rattle.client_links.specs.OnLink.{Start}
-use Rattle.client_links.specs.Talk.{AsksTalk, ClosesTalk, EndsTalk, IsBehind, LeavesOpen, OpensTalk, TalkAt, TellsCall, TellsEnd}
+use Rattle.client_links.specs.Talk.{AsksTalk, ClosesTalk, EndsTalk, IsBehind, LeavesOpen, OpensTalk, TalkAt, TellsEnd}
 use Rattle.client_links.specs.lemma.Coming.{StandsAt}
 use Rattle.client_links.specs.declared.links.TalkEnd.{TalkEnd}
 use Rattle.client_links.specs.declared.talk.Told.{Told}
@@ -21,7 +21,7 @@ use Rattle.client_script_parts.specs.declared.asker.Answer.{Answer}
 use Rattle.client_script_parts.specs.Parts.{Exchange}
 use Rattle.client_script_links.specs.Kinds.{reply_kind}
 use Rattle.client_script_links.specs.Read.{AreRead, IsRead}
-use Rattle.client_script_links.specs.Standing.{AnswersBy, Ends, HasClosed, HasEnded, HasLeft, OpensNone, IsOpen, Stands, TellsBad, TellsOn, ToldAt, first_of, spent_behind, spent_on}
+use Rattle.client_script_links.specs.Standing.{AnswersBy, HasClosed, HasEnded, HasLeft, OpensNone, IsOpen, Stands, TellsBad, TellsOn, ToldAt, first_of, spent_behind, spent_on}
 use Rattle.client_script_links.specs.declared.asker.AskEnd.{AskEnd}
 use Rattle.client_script_links.specs.declared.asker.AskEnd.TheVariants as ends
 

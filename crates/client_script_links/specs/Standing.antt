@@ -1,6 +1,5 @@
 -- Where a script's client stands over its links (this profile).
 use Rattle.std.specs.Prelude.{◌≡◌, ℕ, ◌+◌, ◌<◌, ◌≤◌, ◌^◌, Bool, List, [], ◌∷◌, ◌++◌, length, Option, Some, None, IsSome, Result, Ok, Err}
-use Rattle.afp_base.specs.declared.code.Code.{Code}
 use Rattle.afp_calls_grammar.specs.declared.call.Call.{Call}
 use Rattle.afp_client.specs.Run.{Result as CallResult}
 use Rattle.afp_client.specs.State.{Client, ClientState, IsReady}
