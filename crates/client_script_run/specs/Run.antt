@@ -70,7 +70,7 @@ abbrev pub said_in : Option VolumeId → List Exchange → List ℕ
 said_in None exchanges = []
 said_in (Some volume) exchanges = entries_told exchanges
 
--- What a line that stops in its middle said, by the exchanges of its calls: of a list the entries of each that was told; no other line says a thing.
+-- What a line that stops in its middle said, by the exchanges of its calls: of a list the entries of each that was told; no other line says a thing before its last answer.
 abbrev pub said_by : Option VolumeId → ScriptLine → List Exchange → List ℕ
 said_by mounted (lines.Ls path) exchanges = said_in mounted exchanges
 said_by mounted line exchanges = []
