@@ -3,7 +3,7 @@
 //!
 //! A line is a command, its words, and the answers in order, each a code and a block. The volume is 1, and a path is its bytes: names
 //! parted by zero bytes. Printed are the requests, each its block, with `+` and its data where it has some; and behind `:` the text, `error
-//! CODE`, `bad reply`, or `waits` where an answer is missing.
+//! CODE`, `bad reply`, `no reply`, or `waits` where an answer is missing; of `ls` behind the entries of the lists that were told.
 #![tactic(auto)]
 
 mod asked;

@@ -90,7 +90,21 @@ fn given(alloc: Global, words: &[&str], first: usize) -> Result<Vec<Given>, OutO
 
 /// What is printed.
 fn told(alloc: Global, fake: &Fake, comes: Comes) -> Result<LineResult, OutOfMemory> {
+    told_behind(alloc, fake, b"", comes)
+}
+
+/// What is printed of a command that may stop in its middle: then what it had said comes first.
+fn told_behind(
+    alloc: Global,
+    fake: &Fake,
+    said: &[u8],
+    comes: Comes,
+) -> Result<LineResult, OutOfMemory> {
     let asked = fake.asked();
+    let said = match str::from_utf8(said) {
+        Ok(said) => said,
+        Err(_) => "no text ",
+    };
     let text = match comes {
         Ok(text) => match str::from_utf8(text.as_slice()) {
             Ok(text) => format!(in alloc; "asks{asked} : {text}")?,
@@ -100,9 +114,9 @@ fn told(alloc: Global, fake: &Fake, comes: Comes) -> Result<LineResult, OutOfMem
             let number = code.number();
             format!(in alloc; "asks{asked} : error {number}")?
         }
-        Err(Stop::BadReply) => format!(in alloc; "asks{asked} : bad reply")?,
-        Err(Stop::Ended(FakeEnd::NoMore)) => format!(in alloc; "asks{asked} : waits")?,
-        Err(Stop::Ended(FakeEnd::Bad)) => format!(in alloc; "asks{asked} : no reply")?,
+        Err(Stop::BadReply) => format!(in alloc; "asks{asked} : {said}bad reply")?,
+        Err(Stop::Ended(FakeEnd::NoMore)) => format!(in alloc; "asks{asked} : {said}waits")?,
+        Err(Stop::Ended(FakeEnd::Bad)) => format!(in alloc; "asks{asked} : {said}no reply")?,
         Err(_) => return Err(OutOfMemory),
     };
     Ok(LineResult::Text(text))
@@ -140,8 +154,9 @@ fn get_line(alloc: Global, words: &[&str]) -> Result<LineResult, OutOfMemory> {
 fn ls_line(alloc: Global, words: &[&str]) -> Result<LineResult, OutOfMemory> {
     let path = place(alloc, word_at(words, 1))?;
     let mut fake = Fake::new(alloc, given(alloc, words, 2)?);
-    let comes = ls(alloc, &mut fake, VOLUME, path.as_slice());
-    told(alloc, &fake, comes)
+    let mut said = Bytes::new(alloc);
+    let comes = ls(alloc, &mut fake, VOLUME, path.as_slice(), &mut said);
+    told_behind(alloc, &fake, said.as_slice(), comes)
 }
 
 fn mv(alloc: Global, words: &[&str]) -> Result<LineResult, OutOfMemory> {
