@@ -100,14 +100,14 @@ module _ (turns : ℕ) (start : SourceState) (sink : SinkState) (carried : List 
   -- a call got no answer, by why the client had ended
   said-call : (end : AskEnd) (told : ClientEnd) → AtCall turns start carried end (printed_of carried ++ said) stood source → PrintsSaid mid said (end_of_ask end (length carried + 1)) told new
       → StopsLines turns start sink told stood source new
-  said-call (asks.Links (talks.Refused c)) told a p = stops-said (ends.Refused c) told a (inl (inr (asks.Links (talks.Refused c), a))) (λ q. q) p
-  said-call (asks.Links (talks.Lost c)) told a p = stops-said (ends.SessionLost (length carried + 1)) told (refl, c, a) (inl (inr (asks.Links (talks.Lost c), a))) (λ q. q) p
-  said-call (asks.Links (talks.Bad at)) told a p = stops-said (ends.BadReply at) told (inl (inl a)) (inl (inr (asks.Links (talks.Bad at), a))) (λ q. q) p
-  said-call (asks.Links talks.Broken) told a p = stops-said ends.Broken told a (inl (inr (asks.Links talks.Broken, a))) (λ q. q) p
-  said-call (asks.Links talks.DialFault) told a p = stops-said ends.DialFault told a (inl (inr (asks.Links talks.DialFault, a))) (λ q. q) p
-  said-call (asks.Links talks.Spent) told a p = stops-said ends.Spent told (inl a) (inl (inr (asks.Links talks.Spent, a))) (λ q. q) p
+  said-call (asks.Links (talks.Refused c)) told a p = stops-said (ends.Refused c) told a (inl (inr (asks.Links (talks.Refused c), λ e. cc e, a))) (λ q. q) p
+  said-call (asks.Links (talks.Lost c)) told a p = stops-said (ends.SessionLost (length carried + 1)) told (refl, c, a) (inl (inr (asks.Links (talks.Lost c), λ e. cc e, a))) (λ q. q) p
+  said-call (asks.Links (talks.Bad at)) told a p = stops-said (ends.BadReply at) told (inl (inl a)) (inl (inr (asks.Links (talks.Bad at), λ e. cc e, a))) (λ q. q) p
+  said-call (asks.Links talks.Broken) told a p = stops-said ends.Broken told a (inl (inr (asks.Links talks.Broken, λ e. cc e, a))) (λ q. q) p
+  said-call (asks.Links talks.DialFault) told a p = stops-said ends.DialFault told a (inl (inr (asks.Links talks.DialFault, λ e. cc e, a))) (λ q. q) p
+  said-call (asks.Links talks.Spent) told a p = stops-said ends.Spent told (inl a) (inl (inr (asks.Links talks.Spent, λ e. cc e, a))) (λ q. q) p
   said-call (asks.Links talks.Memory) told a p = lacks-call (asks.Links talks.Memory) told a p.0 p.1
-  said-call (asks.BadReply at) told a p = stops-said (ends.BadReply at) told (inl (inr a)) (inl (inr (asks.BadReply at, a))) (λ q. q) p
+  said-call (asks.BadReply at) told a p = stops-said (ends.BadReply at) told (inl (inr a)) (inl (inr (asks.BadReply at, λ e. cc e, a))) (λ q. q) p
   said-call asks.Memory told a p = lacks-call asks.Memory told a p.0 p.1
 
 prints-call : (end : AskEnd) (line : ℕ) (sink printed : SinkState) (text : List ℕ) → Prints sink text printed → PrintsLines sink text (end_of_ask end line) printed
@@ -506,7 +506,7 @@ at-end turns start carried (ends.BadReply at) text stood source (inr a) is = nev
 at-end turns start carried (ends.BadLine line) text stood source a is = never-closes (sym a.closes ∙ is)
 at-end turns start carried ends.ReadFault text stood source a is = never-closes (sym a.closes ∙ is)
 at-end turns start carried ends.WriteFault text stood source (inl (inl a)) is = never-closes (sym a.closes ∙ is)
-at-end turns start carried ends.WriteFault text stood source (inl (inr a)) is = never-closes (sym a.1.closes ∙ is)
+at-end turns start carried ends.WriteFault text stood source (inl (inr a)) is = never-closes (sym a.2.closes ∙ is)
 at-end turns start carried ends.WriteFault text stood source (inr a) is = never-closes (sym a.1.closes ∙ is)
 at-end turns start carried ends.Broken text stood source a is = never-closes (sym a.closes ∙ is)
 at-end turns start carried ends.DialFault text stood source a is = never-closes (sym a.closes ∙ is)

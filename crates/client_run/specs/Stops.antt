@@ -15,6 +15,7 @@ use Rattle.client_links.specs.declared.links.TalkEnd.TheVariants as talks
 use Rattle.client_script_links.specs.declared.asker.AskEnd.{AskEnd}
 use Rattle.client_script_links.specs.declared.asker.AskEnd.TheVariants as asked_ends
 use Rattle.client_run.specs.Carried.{Carried, ReadsLine, exchanges_of, mounted_behind, printed_of, source_behind, unread_behind}
+use Rattle.client_run.specs.Ends.{end_of_ask}
 use Rattle.client_run.specs.Script.{Says}
 use Rattle.client_run.specs.declared.ends.ClientEnd.{ClientEnd}
 use Rattle.client_run.specs.declared.ends.ClientEnd.TheVariants as ends
@@ -147,10 +148,10 @@ pub record Lacks (start : SourceState) (carried : List Carried) (text : List ℕ
   pub closes : stood.closes ≡ false
   pub prints : text ≡ printed_of carried
 
--- A write failed: of the text of a line that was carried out, or of what a line had said that stopped in its middle.
+-- A write failed: of the text of a line that was carried out, or of what a line had said that stopped in its middle, though not for want of memory.
 abbrev pub AtWrite : ℕ → SourceState → List Carried → List ℕ → Stood → SourceState → Type 0
 AtWrite turns start carried text stood source =
-    (AtCut start carried text stood source ⊎ ((end : AskEnd) × AtCall turns start carried end text stood source)) ⊎ ((at : ℕ) × AtBadReply start carried at text stood source)
+    (AtCut start carried text stood source ⊎ ((end : AskEnd) × (end_of_ask end 1 ≡ ends.Memory → ⊥) × AtCall turns start carried end text stood source)) ⊎ ((at : ℕ) × AtBadReply start carried at text stood source)
 
 -- By why it stops; this is the text of the lines that were carried out, and what the next one had said, printed or not.
 abbrev pub Stops : ℕ → SourceState → List Carried → ClientEnd → List ℕ → Stood → SourceState → Type 0
