@@ -40,3 +40,7 @@ worded word bytes = word ++ shown bytes
 -- a file or a directory of a list: a word, its id and its name
 abbrev pub entry_line : List ℕ → ℕ → List ℕ → List ℕ
 entry_line word id name = numbered word id ++ codes " " ++ shown name ++ newline
+
+-- the bytes of a parcel
+abbrev pub packed_text : List ℕ → List ℕ
+packed_text bytes = numbered (codes "packed ") (length bytes) ++ codes " " ++ encode_lower bytes

@@ -7,4 +7,4 @@ mod text;
 
 pub use number::put_number;
 pub use shown::put_shown;
-pub use text::{error_text, got_text, numbered, put_entry, worded};
+pub use text::{error_text, got_text, numbered, packed_text, put_entry, worded};

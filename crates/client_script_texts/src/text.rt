@@ -1,7 +1,7 @@
 //! The lines of commands.
 ghost use Rattle.std.specs.Prelude.{◌≡◌, ◌++◌, IfOk, OnOk};
 ghost use Rattle.hex.specs.Hex.{encode_lower};
-ghost use Rattle.client_script_texts.specs.Texts.{entry_line, error_text, got_text, newline, numbered, worded};
+ghost use Rattle.client_script_texts.specs.Texts.{entry_line, error_text, got_text, newline, numbered, packed_text, worded};
 
 use crate::number::put_number;
 use crate::shown::put_shown;
@@ -52,6 +52,16 @@ pub fn got_text(alloc: Global, bytes: &[u8]) -> Result<Bytes, OutOfMemory>
         return Bytes::of(alloc, b"got 0");
     }
     let mut text = numbered(alloc, b"got ", bytes.len() as u64)?;
+    text.extend(b" ")?;
+    put_digits(alloc, &mut text, bytes)?;
+    Ok(text)
+}
+
+/// The bytes of a parcel, in hexadecimal.
+pub fn packed_text(alloc: Global, bytes: &[u8]) -> Result<Bytes, OutOfMemory>
+    ensures { IfOk result (λ text. text ≡ packed_text bytes.now) }
+{
+    let mut text = numbered(alloc, b"packed ", bytes.len() as u64)?;
     text.extend(b" ")?;
     put_digits(alloc, &mut text, bytes)?;
     Ok(text)
