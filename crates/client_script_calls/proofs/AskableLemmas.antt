@@ -77,6 +77,10 @@ pub askable_get_comment : (dt : ℕ) (dir : NodeId) (path : PathValue) → lengt
 askable_get_comment dt dir path h-path =
     askable (calls.GetComment dt dir path) tt (record { fields = (tt, (tt, (tt, (tt, (tt, tt))))); encloses = tt }) (omega (arith, h-path))
 
+pub askable_set_file : (volume : VolumeId) (dir : NodeId) (bits : ℕ) (path : PathValue) (tail : List ℕ) → length (canonical_path path) ≤ 4096 → length tail ≤ 44 → IsAskable (calls.SetFileParms volume dir bits path tail)
+askable_set_file volume dir bits path tail h-path h-tail =
+    askable (calls.SetFileParms volume dir bits path tail) tt (record { fields = (tt, (tt, (tt, (tt, (tt, (tt, (tt, (tt, tt)))))))); encloses = tt }) (omega (arith, h-path, h-tail))
+
 pub askable_resolve : (volume : VolumeId) (id : NodeId) (bits : ℕ) → IsAskable (calls.ResolveID volume id bits)
 askable_resolve volume id bits =
     askable (calls.ResolveID volume id bits) tt (record { fields = (tt, (tt, (tt, (tt, (tt, tt))))); encloses = tt }) (omega (arith))

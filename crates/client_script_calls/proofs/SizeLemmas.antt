@@ -13,6 +13,7 @@ use Rattle.afp_calls_grammar.specs.Call.{IsSpellable, canonical_call, canonical_
 use Rattle.afp_calls_grammar.specs.Words.{RequestField, Value, Word, Literal, Pad, LastPad, Even, Number, Within, Count, Optional, Signed32, Signed64, Plain, Counted, Pathname, Tail, canonical, canonical_fields, count_size, enclosed_bytes, hint_size, optional_bytes}
 use Rattle.client_script_calls.specs.Asked.{IsAskable, IsCommand}
 use Rattle.client_script_calls.specs.Places.{place}
+use Rattle.client_script_calls.specs.Requests.{date_bytes, settings_of}
 use Rattle.client_script_calls.specs.lemma.Sizes.{fields_size, word_size}
 
 -- the path that is read is the one that the bytes spell
@@ -62,3 +63,11 @@ fields-fit (f ∷ fs) at =
 pub askable : (call : Call) → IsCommand call → IsSpellable call → fields_size (layout_of call).fields + length (enclosed_bytes (layout_of call).enclosed) ≤ payload_limit → IsAskable call
 unfolding canonical_call canonical_piece
 askable call c s h = record { command = c; spellable = s; size = omega (arith, fields-fit (layout_of call).fields 0, h) }
+
+-- three dates and 32 bytes
+pub settings_size : (created modified backup : ℤ) (finder : List ℕ) → length finder ≡ 32 → length (settings_of created modified backup finder) ≤ 44
+settings_size created modified backup finder h =
+    let c = date_bytes created in
+    let m = date_bytes modified in
+    let b = date_bytes backup in
+    omega (arith, h, length-append c m, length-append (c ++ m) b, length-append (c ++ m ++ b) finder, length-big_bytes 4 (cast_unsigned w32 created), length-big_bytes 4 (cast_unsigned w32 modified), length-big_bytes 4 (cast_unsigned w32 backup))

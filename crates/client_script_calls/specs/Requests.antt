@@ -1,5 +1,7 @@
 -- The requests of a script's commands (AFP Reference, "AFP Calls"; their numbers are this profile's).
-use Rattle.std.specs.Prelude.{ℕ, ℤ, pos, List, length}
+use Rattle.std.specs.Prelude.{ℕ, ℤ, pos, List, ◌++◌, length}
+use Rattle.std.specs.Int.{w32, cast_unsigned}
+use Rattle.byteorder.specs.Endian.{big_bytes}
 use Rattle.afp_base.specs.declared.ids.ForkRef.{ForkRef}
 use Rattle.afp_base.specs.declared.ids.NodeId.{NodeId}
 use Rattle.afp_base.specs.declared.ids.VolumeId.{VolumeId}
@@ -16,6 +18,17 @@ node_id_bit = 0x100
 
 abbrev pub name_bit : ℕ
 name_bit = 0x2000
+
+-- of a file its three dates and its Finder information; and these with its name in UTF-8
+abbrev pub settings_bits : ℕ
+settings_bits = 0x3c
+
+abbrev pub shown_bits : ℕ
+shown_bits = 0x203c
+
+-- the flag of a resource fork
+abbrev pub resource_flag : ℕ
+resource_flag = 0x80
 
 -- ways to open a fork: to read; to read and write; to write, with others kept from writing
 abbrev pub to_read : ℕ
@@ -57,6 +70,9 @@ create_file volume path = calls.CreateFile hard volume root (place path)
 abbrev pub open_fork : VolumeId → ℕ → List ℕ → Call
 open_fork volume mode path = calls.OpenFork 0 volume root 0 mode (place path)
 
+abbrev pub open_resource_fork : VolumeId → ℕ → List ℕ → Call
+open_resource_fork volume mode path = calls.OpenFork resource_flag volume root 0 mode (place path)
+
 abbrev pub write : ForkRef → List ℕ → Call
 write reference piece = calls.Write 0 reference (pos 0) (length piece) piece
 
@@ -89,6 +105,20 @@ unlock reference from size = calls.ByteRangeLockExt unlocking reference (pos fro
 
 abbrev pub get_id : VolumeId → List ℕ → Call
 get_id volume path = calls.GetFileDirParms volume root node_id_bit node_id_bit (place path)
+
+-- what is shown of a file; of a directory its id alone
+abbrev pub get_shown : VolumeId → List ℕ → Call
+get_shown volume path = calls.GetFileDirParms volume root shown_bits node_id_bit (place path)
+
+-- the bytes of a file's dates and its Finder information
+abbrev pub date_bytes : ℤ → List ℕ
+date_bytes date = big_bytes 4 (cast_unsigned w32 date)
+
+abbrev pub settings_of : ℤ → ℤ → ℤ → List ℕ → List ℕ
+settings_of created modified backup finder = date_bytes created ++ date_bytes modified ++ date_bytes backup ++ finder
+
+abbrev pub set_file : VolumeId → List ℕ → List ℕ → Call
+set_file volume path settings = calls.SetFileParms volume root settings_bits (place path) settings
 
 abbrev pub resolve : VolumeId → NodeId → Call
 resolve volume id = calls.ResolveID volume id name_bit

@@ -2,7 +2,7 @@
 ghost use Rattle.std.specs.Prelude.{◌≡◌, ◌<◌, ◌≤◌, ◌^◌, length, IfOk};
 ghost use Rattle.client_script_calls.specs.Asked.{IsAskable};
 ghost use Rattle.client_script_calls.specs.Places.{IsPlace, longest_place};
-ghost use Rattle.client_script_calls.specs.Requests.{close_fork, lock, open_fork, read, unlock, write};
+ghost use Rattle.client_script_calls.specs.Requests.{close_fork, lock, open_fork, open_resource_fork, read, unlock, write};
 
 use crate::path::{ROOT, path_of};
 use afp_base::{Bytes, ForkRef, OutOfMemory, VolumeId};
@@ -23,6 +23,28 @@ pub fn open_fork(
 {
     Ok(Call::OpenFork {
         flag: 0,
+        volume,
+        dir: ROOT,
+        bits: 0,
+        mode,
+        path: path_of(alloc, path)?,
+    })
+}
+
+/// FPOpenFork of a resource fork.
+#[tactic(auto, using(crate::proofs::AskableLemmas::askable_open_fork))]
+pub fn open_resource_fork(
+    alloc: Global,
+    volume: VolumeId,
+    mode: u16,
+    path: &[u8],
+) -> Result<Call, OutOfMemory>
+    requires { IsPlace path.now }
+    ensures call { IfOk result (λ call. call ≡ open_resource_fork volume mode path.now) }
+    ensures askable { IfOk result (λ call. IsAskable call) }
+{
+    Ok(Call::OpenFork {
+        flag: 0x80,
         volume,
         dir: ROOT,
         bits: 0,
