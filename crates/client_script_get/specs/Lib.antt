@@ -1,2 +1,4 @@
+pub mod Reads
 pub mod Get
+pub mod Told
 pub mod lemma

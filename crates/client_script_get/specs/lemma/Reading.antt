@@ -1,27 +1,28 @@
 -- One read, and all reads, over whatever follows.
 use Rattle.std.specs.Prelude.{◌≡◌, ℕ, Bool, true, false, List, [], ◌++◌, length, Result, Ok, Err}
 use Rattle.afp_base.specs.declared.ids.ForkRef.{ForkRef}
-use Rattle.client_script_texts.specs.Texts.{got_text}
 use Rattle.client_script_parts.specs.declared.asker.Stop.{Stop}
-use Rattle.client_script_parts.specs.Parts.{Comes, Asked}
+use Rattle.client_script_parts.specs.Parts.{Comes, Asked, Part}
 use Rattle.client_script_parts.specs.Told.{Carries}
-use Rattle.client_script_get.specs.declared.get.ReadPiece.{ReadPiece}
-use Rattle.client_script_get.specs.declared.get.ReadPiece.TheVariants.{More, Last}
-use Rattle.client_script_get.specs.Get.{closes, reads, reads_behind}
+use Rattle.client_script_get.specs.declared.reads.ReadPiece.{ReadPiece}
+use Rattle.client_script_get.specs.declared.reads.ReadPiece.TheVariants.{More, Last}
+use Rattle.client_script_get.specs.Reads.{closes, reads, reads_behind}
 
 -- one read, over all bytes before it
 abbrev pub ReadsPiece : {E F : Type 0} → ForkRef → ℕ → Asked F → Result ReadPiece (Stop E) → Asked F → Type 0
-ReadsPiece {E} reference offset before (Ok (More piece)) after = (got : List ℕ) → length got ≡ offset → Carries E before (reads reference got) after (reads_behind reference (got ++ piece))
-ReadsPiece {E} reference offset before (Ok (Last piece)) after = (got : List ℕ) → length got ≡ offset → Carries E before (reads reference got) after (closes reference (got_text (got ++ piece)))
-ReadsPiece reference offset before (Err stop) after = (got : List ℕ) → length got ≡ offset → Comes before (reads reference got) (Err stop) after
+ReadsPiece {E} reference offset before (Ok (More piece)) after =
+    (next : List ℕ → Part) (got : List ℕ) → length got ≡ offset → Carries E before (reads reference next got) after (reads_behind reference next (got ++ piece))
+ReadsPiece {E} reference offset before (Ok (Last piece)) after =
+    (next : List ℕ → Part) (got : List ℕ) → length got ≡ offset → Carries E before (reads reference next got) after (closes reference (next (got ++ piece)))
+ReadsPiece reference offset before (Err stop) after = (next : List ℕ → Part) (got : List ℕ) → length got ≡ offset → Comes before (reads reference next got) (Err stop) after
 
 -- the same, with the bytes behind it
 abbrev pub ReadsOnce : {E F : Type 0} → ForkRef → List ℕ → Asked F → Result Bool (Stop E) → List ℕ → Asked F → Type 0
-ReadsOnce {E} reference got before (Ok true) now after = Carries E before (reads reference got) after (reads reference now)
-ReadsOnce {E} reference got before (Ok false) now after = Carries E before (reads reference got) after (closes reference (got_text now))
-ReadsOnce reference got before (Err stop) now after = Comes before (reads reference got) (Err stop) after
+ReadsOnce {E} reference got before (Ok true) now after = (next : List ℕ → Part) → Carries E before (reads reference next got) after (reads reference next now)
+ReadsOnce {E} reference got before (Ok false) now after = (next : List ℕ → Part) → Carries E before (reads reference next got) after (closes reference (next now))
+ReadsOnce reference got before (Err stop) now after = (next : List ℕ → Part) → Comes before (reads reference next got) (Err stop) after
 
 -- reads until the end
 abbrev pub ReadsAll : {E F : Type 0} → ForkRef → Asked F → Result (List ℕ) (Stop E) → Asked F → Type 0
-ReadsAll {E} reference before (Ok all) after = Carries E before (reads reference []) after (closes reference (got_text all))
-ReadsAll reference before (Err stop) after = Comes before (reads reference []) (Err stop) after
+ReadsAll {E} reference before (Ok all) after = (next : List ℕ → Part) → Carries E before (reads reference next []) after (closes reference (next all))
+ReadsAll reference before (Err stop) after = (next : List ℕ → Part) → Comes before (reads reference next []) (Err stop) after
