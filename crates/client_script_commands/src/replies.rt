@@ -127,7 +127,7 @@ fn desk_of(reply: &Reply) -> Option<u16>
 }
 
 /// Asks a call whose reply tells a desktop database.
-pub(crate) fn ask_desk<A: Asker>(asker: &mut A, call: Call) -> Result<u16, Stop<A::End>>
+pub fn ask_desk<A: Asker>(asker: &mut A, call: Call) -> Result<u16, Stop<A::End>>
     requires { IsAskable call }
     ensures { MustTell desk_in call (A.exchanges asker.old) result (A.exchanges asker.new) }
 {
