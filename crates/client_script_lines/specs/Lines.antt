@@ -5,7 +5,7 @@ use Rattle.client_script_lines.specs.declared.line.ScriptLine.{ScriptLine}
 use Rattle.client_script_lines.specs.declared.line.ScriptLine.TheVariants as lines
 use Rattle.client_script_lines.specs.declared.read.Moves.{Moves}
 use Rattle.client_script_lines.specs.declared.read.Range.{Range}
-use Rattle.client_script_lines.specs.Words.{longest_line, is_space, is_path, is_deep_path, is_bytes, is_text, is_number}
+use Rattle.client_script_lines.specs.Words.{longest_line, is_space, is_path, is_deep_path, is_bytes, is_hex, is_text, is_number}
 
 -- the word in front of the first space, and what stands behind that space
 abbrev pub first : List ℕ → List ℕ
@@ -25,6 +25,10 @@ target_in word = if is_deep_path word then Some word else None
 -- BYTES
 abbrev pub bytes_in : List ℕ → Option (List ℕ)
 bytes_in word = if is_bytes word then Some word else None
+
+-- HEX
+abbrev pub hex_in : List ℕ → Option (List ℕ)
+hex_in word = if is_hex word then Some word else None
 
 -- VOLUME or TEXT, of at most 255 bytes
 abbrev pub text_in : List ℕ → Option (List ℕ)
@@ -55,7 +59,7 @@ path_and_target None target = None
 abbrev pub moves_in : List ℕ → Option Moves
 moves_in text = path_and_target (path_in (first text)) (target_in (rest text))
 
--- PATH BYTES, or PATH TEXT
+-- PATH BYTES, PATH TEXT or PATH HEX
 abbrev pub path_and_more : (List ℕ → List ℕ → ScriptLine) → Option (List ℕ) → Option (List ℕ) → Option ScriptLine
 path_and_more line (Some path) (Some more) = Some (line path more)
 path_and_more line (Some path) None = None
@@ -66,6 +70,9 @@ put_in text = path_and_more lines.Put (path_in (first text)) (bytes_in (rest tex
 
 abbrev pub note_in : List ℕ → Option ScriptLine
 note_in text = path_and_more lines.Note (path_in (first text)) (text_in (rest text))
+
+abbrev pub unpack_in : List ℕ → Option ScriptLine
+unpack_in text = path_and_more lines.Unpack (path_in (first text)) (hex_in (rest text))
 
 -- REFERENCE FROM LENGTH
 abbrev pub reference_and_sizes : Option (List ℕ) → Option (List ℕ) → Option (List ℕ) → Option Range
@@ -87,6 +94,7 @@ path_line word text =
     else if bytes_eq word (codes "hold") then option_map lines.Hold (path_in text)
     else if bytes_eq word (codes "id") then option_map lines.Id (path_in text)
     else if bytes_eq word (codes "show") then option_map lines.Show (path_in text)
+    else if bytes_eq word (codes "pack") then option_map lines.Pack (path_in text)
     else None
 
 -- a line that begins with this word, of what stands behind the space that follows it
@@ -102,6 +110,7 @@ headed word text =
     else if bytes_eq word (codes "drop") then option_map lines.Drop (reference_in text)
     else if bytes_eq word (codes "find") then option_map lines.Find (id_in text)
     else if bytes_eq word (codes "note") then note_in text
+    else if bytes_eq word (codes "unpack") then unpack_in text
     else path_line word text
 
 -- what a line says; none where it has none of the forms, or is too long

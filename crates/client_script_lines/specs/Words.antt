@@ -2,7 +2,7 @@
 use Rattle.std.specs.Prelude.{ℕ, ◌+◌, ◌*◌, ◌-◌, ◌==◌, ◌&&◌, ◌||◌, nat_le, nat_lt, not, Bool, false, if◌then◌else◌, List, [], ◌∷◌, length, codes, bytes_eq, Option, Some, None, option_map, is_some, is_none}
 use Rattle.std.specs.List.{list_all, list_any, slice_split}
 use Rattle.std.specs.Result.{result_ok}
-use Rattle.hex.specs.Hex.{decode_sized}
+use Rattle.hex.specs.Hex.{decode_of, decode_sized}
 use Rattle.afp_names.specs.Name.{name_fault}
 
 -- the most bytes of a line (this profile)
@@ -78,6 +78,14 @@ is_bytes word = is_word word && is_some (plain word)
 -- a text of at most 255 bytes
 abbrev pub is_text : List ℕ → Bool
 is_text word = is_word word && is_short longest_text (plain word)
+
+-- the bytes that hexadecimal digits of either case spell, two for each byte
+abbrev pub spelt : List ℕ → Option (List ℕ)
+spelt word = result_ok (decode_of word)
+
+-- hexadecimal digits, two for each byte
+abbrev pub is_hex : List ℕ → Bool
+is_hex word = not (length word == 0) && is_some (spelt word)
 
 -- the number that digits spell behind a first part of this value
 abbrev pub value_behind : ℕ → List ℕ → ℕ

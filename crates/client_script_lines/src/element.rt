@@ -1,9 +1,10 @@
 //! Paths, and the other words.
 ghost use Rattle.std.specs.Prelude.{◌≡◌, IfOk};
 ghost use Rattle.std.specs.List.{list_all, slice_split};
-ghost use Rattle.client_script_lines.specs.Words.{is_name, is_short, is_element, is_slash, is_deep_path, is_path, is_bytes, is_text, longest_text, plain};
+ghost use Rattle.client_script_lines.specs.Words.{is_hex, is_name, is_short, is_element, is_slash, is_deep_path, is_path, is_bytes, is_text, longest_text, plain};
 
 use crate::escape::plain;
+use crate::hexadecimal::spelt;
 use crate::limits::LONGEST_TEXT;
 use crate::words::{first_element, has_slash, is_word};
 use afp_base::{Bytes, OutOfMemory};
@@ -74,6 +75,13 @@ pub fn is_bytes(alloc: Global, word: &[u8]) -> Result<bool, OutOfMemory>
     ensures { IfOk result (λ is. is ≡ is_bytes word.now) }
 {
     Ok(is_word(word) && plain(alloc, word)?.is_some())
+}
+
+/// Whether a word is hexadecimal digits, two for each byte.
+pub fn is_hex(alloc: Global, word: &[u8]) -> Result<bool, OutOfMemory>
+    ensures { IfOk result (λ is. is ≡ is_hex word.now) }
+{
+    Ok(word.len() != 0 && spelt(alloc, word)?.is_some())
 }
 
 /// Whether bytes are of a text that is not too long.

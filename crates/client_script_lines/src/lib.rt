@@ -3,6 +3,7 @@
 
 mod element;
 mod escape;
+mod hexadecimal;
 mod limits;
 mod line;
 mod number;
@@ -10,6 +11,7 @@ mod read;
 mod words;
 
 pub use escape::plain;
+pub use hexadecimal::spelt;
 pub use limits::{LONGEST_LINE, LONGEST_TEXT};
 pub use line::{LineFault, ScriptLine};
 pub use read::read_line;

@@ -85,6 +85,15 @@ pub enum ScriptLine {
     Show {
         path: Bytes,
     },
+    /// `pack PATH`.
+    Pack {
+        path: Bytes,
+    },
+    /// `unpack PATH HEX`, in hexadecimal digits.
+    Unpack {
+        path: Bytes,
+        piece: Bytes,
+    },
     /// `bye`.
     Bye,
 }

@@ -2,9 +2,9 @@
 ghost use Rattle.std.specs.Prelude.{◌≡◌, ◌<◌, ◌≤◌, ◌^◌, List, ℕ, None, Some, IfOk, if◌then◌else◌, Err};
 ghost use Rattle.client_script_lines.specs.declared.line.LineFault.{LineFault};
 ghost use Rattle.client_script_lines.specs.declared.line.ScriptLine.TheVariants as lines;
-ghost use Rattle.client_script_lines.specs.Lines.{path_in, target_in, bytes_in, text_in, number_in, first, rest, moves_in, put_in, note_in, range_in, path_line, headed, line_in};
+ghost use Rattle.client_script_lines.specs.Lines.{path_in, target_in, bytes_in, hex_in, text_in, number_in, first, rest, moves_in, put_in, note_in, unpack_in, range_in, path_line, headed, line_in};
 
-use crate::element::{is_bytes, is_deep_path, is_path, is_text};
+use crate::element::{is_bytes, is_deep_path, is_hex, is_path, is_text};
 use crate::limits::LONGEST_LINE;
 use crate::line::{LineFault, ScriptLine};
 use crate::number::is_number;
@@ -46,6 +46,12 @@ fn piece(alloc: Global, word: &[u8]) -> Result<Option<Bytes>, OutOfMemory>
     ensures { IfOk result (λ found. found ≡ bytes_in word.now) }
 {
     word_if(alloc, is_bytes(alloc, word)?, word)
+}
+
+fn digits(alloc: Global, word: &[u8]) -> Result<Option<Bytes>, OutOfMemory>
+    ensures { IfOk result (λ found. found ≡ hex_in word.now) }
+{
+    word_if(alloc, is_hex(alloc, word)?, word)
 }
 
 fn volume(alloc: Global, word: &[u8]) -> Result<Option<Bytes>, OutOfMemory>
@@ -115,6 +121,19 @@ fn note(alloc: Global, line: &[u8]) -> Result<Option<ScriptLine>, OutOfMemory>
     }
 }
 
+fn unpack(alloc: Global, text: &[u8]) -> Result<Option<ScriptLine>, OutOfMemory>
+    ensures { IfOk result (λ line. line ≡ unpack_in text.now) }
+{
+    let (word, more) = first_word(text);
+    let Some(path) = path(alloc, word)? else {
+        return Ok(None);
+    };
+    match digits(alloc, more)? {
+        Some(piece) => Ok(Some(ScriptLine::Unpack { path, piece })),
+        None => Ok(None),
+    }
+}
+
 /// A range of a fork.
 #[derive(Drop)]
 struct Range {
@@ -168,6 +187,9 @@ fn path_line(alloc: Global, word: &[u8], text: &[u8]) -> Result<Option<ScriptLin
     }
     if word == b"show".as_slice() {
         return Ok(path(alloc, text)?.map(|path| ScriptLine::Show { path }));
+    }
+    if word == b"pack".as_slice() {
+        return Ok(path(alloc, text)?.map(|path| ScriptLine::Pack { path }));
     }
     Ok(None)
 }
@@ -252,6 +274,9 @@ fn headed(alloc: Global, word: &[u8], text: &[u8]) -> Result<Option<ScriptLine>,
     }
     if word == b"note".as_slice() {
         return note(alloc, text);
+    }
+    if word == b"unpack".as_slice() {
+        return unpack(alloc, text);
     }
     path_line(alloc, word, text)
 }

@@ -31,7 +31,9 @@ use Rattle.client_script_commands.specs.Show.{show}
 use Rattle.client_script_commands.specs.Bye.{bye}
 use Rattle.client_script_get.specs.Get.{get}
 use Rattle.client_script_ls.specs.Ls.{entries_told, ls}
-use Rattle.client_script_run.specs.Values.{text_of, number_of, path_text, directory_text, name_text}
+use Rattle.client_script_parcels.specs.Pack.{pack}
+use Rattle.client_script_parcels.specs.Unpack.{unpack}
+use Rattle.client_script_run.specs.Values.{text_of, spelt_text, number_of, path_text, directory_text, name_text}
 
 -- a command in the volume that is mounted
 abbrev pub in_volume : Option VolumeId → (VolumeId → Part) → Part
@@ -63,6 +65,8 @@ line_part mounted (lines.Id path) = in_volume mounted (λ volume. id volume (pat
 line_part mounted (lines.Find node) = in_volume mounted (λ volume. find volume (node_of node))
 line_part mounted (lines.Note path text) = in_volume mounted (λ volume. note volume (path_text path) (text_of text))
 line_part mounted (lines.Show path) = in_volume mounted (λ volume. show volume (path_text path))
+line_part mounted (lines.Pack path) = in_volume mounted (λ volume. pack volume (path_text path))
+line_part mounted (lines.Unpack path piece) = in_volume mounted (λ volume. unpack volume (path_text path) (spelt_text piece))
 line_part mounted lines.Bye = bye
 
 -- what a list in the volume that is mounted said, by the exchanges of its calls

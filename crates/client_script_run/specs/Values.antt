@@ -1,7 +1,7 @@
 -- What the words of a script's line stand for (this profile).
 use Rattle.std.specs.Prelude.{ℕ, List, [], ◌∷◌, ◌++◌, Option, Some, None, if◌then◌else◌}
 use Rattle.std.specs.List.{slice_split}
-use Rattle.client_script_lines.specs.Words.{is_root, is_slash, plain, value_behind}
+use Rattle.client_script_lines.specs.Words.{is_root, is_slash, plain, spelt, value_behind}
 
 abbrev pub or_none : Option (List ℕ) → List ℕ
 or_none (Some bytes) = bytes
@@ -10,6 +10,10 @@ or_none None = []
 -- the bytes that a word stands for
 abbrev pub text_of : List ℕ → List ℕ
 text_of word = or_none (plain word)
+
+-- the bytes that a word's hexadecimal digits spell
+abbrev pub spelt_text : List ℕ → List ℕ
+spelt_text word = or_none (spelt word)
 
 -- the number that a word spells
 abbrev pub number_of : List ℕ → ℕ

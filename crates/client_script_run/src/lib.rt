@@ -3,6 +3,7 @@
 
 mod forks;
 mod mounting;
+mod parcels;
 mod places;
 mod run;
 mod values;

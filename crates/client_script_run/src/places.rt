@@ -27,7 +27,7 @@ use client_script_parts::{Asker, Stop, parts_end};
 use std::alloc::Global;
 
 /// What is printed where no volume is mounted.
-fn no_volume(alloc: Global) -> Result<Bytes, OutOfMemory>
+pub(crate) fn no_volume(alloc: Global) -> Result<Bytes, OutOfMemory>
     ensures { IfOk result (λ text. text ≡ codes "no volume") }
 {
     Bytes::of(alloc, b"no volume")

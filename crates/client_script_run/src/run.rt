@@ -5,6 +5,7 @@ ghost use Rattle.client_script_run.specs.Run.{Mounts, line_part, said_by};
 
 use crate::forks::{run_drop, run_lock, run_unlock};
 use crate::mounting::run_mount;
+use crate::parcels::{run_pack, run_unpack};
 use crate::places::{
     run_cp, run_find, run_get, run_hold, run_id, run_ls, run_mkdir, run_mv, run_note, run_put,
     run_rm, run_show, run_swap,
@@ -98,6 +99,14 @@ pub fn run_line<A: Asker>(
             text.as_slice(),
         ),
         ScriptLine::Show { path } => run_show(alloc, asker, *mounted, path.as_slice()),
+        ScriptLine::Pack { path } => run_pack(alloc, asker, *mounted, path.as_slice()),
+        ScriptLine::Unpack { path, piece } => run_unpack(
+            alloc,
+            asker,
+            *mounted,
+            path.as_slice(),
+            piece.as_slice(),
+        ),
         ScriptLine::Bye => bye(alloc, asker),
     }
 }

@@ -2,11 +2,11 @@
 ghost use Rattle.std.specs.Prelude.{◌≡◌, ◌≤◌, ◌<◌, ◌^◌, ◌++◌, ◌∷◌, [], length, IfOk, IfSome, OnOk};
 ghost use Rattle.client_script_calls.specs.Places.{IsPlace, longest_place};
 ghost use Rattle.client_script_lines.specs.Words.{value_behind};
-ghost use Rattle.client_script_run.specs.Values.{directory_text, ended, but_last, last_of, name_text, names_in, number_of, path_text, text_of};
+ghost use Rattle.client_script_run.specs.Values.{directory_text, ended, but_last, last_of, name_text, names_in, number_of, path_text, spelt_text, text_of};
 
 use afp_base::{Bytes, OutOfMemory};
 use afp_names::{Path, UTF8_NAMES};
-use client_script_lines::{first_element, has_slash, plain};
+use client_script_lines::{first_element, has_slash, plain, spelt};
 use std::alloc::Global;
 
 /// The most bytes of a line, and of what its words stand for.
@@ -40,6 +40,28 @@ pub(crate) fn piece_of(alloc: Global, word: &[u8]) -> Result<Bytes, OutOfMemory>
     ensures short { IfOk result (λ text. length text ≤ longest_place) }
 {
     let text = text_of(alloc, word)?;
+    if text.as_slice().len() > LONGEST {
+        return Err(OutOfMemory);
+    }
+    Ok(text)
+}
+
+/// The bytes that a word's hexadecimal digits spell.
+fn spelt_text(alloc: Global, word: &[u8]) -> Result<Bytes, OutOfMemory>
+    ensures { IfOk result (λ text. text ≡ spelt_text word.now) }
+{
+    match spelt(alloc, word)? {
+        Some(text) => Ok(text),
+        None => Ok(Bytes::new(alloc)),
+    }
+}
+
+/// The same, at most the bytes of a line.
+pub(crate) fn spelt_of(alloc: Global, word: &[u8]) -> Result<Bytes, OutOfMemory>
+    ensures text { IfOk result (λ text. text ≡ spelt_text word.now) }
+    ensures short { IfOk result (λ text. length text ≤ longest_place) }
+{
+    let text = spelt_text(alloc, word)?;
     if text.as_slice().len() > LONGEST {
         return Err(OutOfMemory);
     }

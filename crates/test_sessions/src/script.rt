@@ -59,6 +59,8 @@ fn told_other(alloc: Global, line: &ScriptLine) -> Result<LineResult, OutOfMemor
         ScriptLine::Find { id } => told(alloc, "find", &[id]),
         ScriptLine::Note { path, text } => told(alloc, "note", &[path, text]),
         ScriptLine::Show { path } => told(alloc, "show", &[path]),
+        ScriptLine::Pack { path } => told(alloc, "pack", &[path]),
+        ScriptLine::Unpack { path, piece } => told(alloc, "unpack", &[path, piece]),
         ScriptLine::Bye => told(alloc, "bye", &[]),
         _ => Ok(LineResult::Nothing),
     }
