@@ -71,8 +71,8 @@ pub struct Fake {
     exchanges: Exchanges,
 }
 
-/// Appends a request.
-fn put_request(alloc: Global, asked: &mut String, call: &Call) -> Result<u8, OutOfMemory>
+/// Appends a request, and gives its block.
+fn put_request(alloc: Global, asked: &mut String, call: &Call) -> Result<Bytes, OutOfMemory>
     requires { IsSpellable call.now }
 {
     let mut block = Bytes::new(alloc);
@@ -84,21 +84,12 @@ fn put_request(alloc: Global, asked: &mut String, call: &Call) -> Result<u8, Out
         asked.push('+')?;
         asked.push_str(digits_of(alloc, piece.as_slice())?.as_str())?;
     }
-    Ok(if block.as_slice().is_empty() {
-        0
-    } else {
-        block.as_slice()[0]
-    })
+    Ok(block)
 }
 
 /// The reply of an answer.
-fn reply_of(alloc: Global, command: u8, given: &Given) -> Result<Reply, FakeEnd> {
-    match read_reply(
-        alloc,
-        &kind_of(&[command]),
-        given.code,
-        given.block.as_slice(),
-    ) {
+fn reply_of(alloc: Global, request: &[u8], given: &Given) -> Result<Reply, FakeEnd> {
+    match read_reply(alloc, &kind_of(request), given.code, given.block.as_slice()) {
         Ok(reply) => Ok(reply),
         Err(ReplyFault::Bad { .. }) => Err(FakeEnd::Bad),
         Err(ReplyFault::Memory) => Err(FakeEnd::Memory),
@@ -134,13 +125,13 @@ impl Asker for Fake {
     ghost left = { λ f. length f.given.items };
 
     fn ask(&mut self, call: &Call) -> Result<Answer, FakeEnd> {
-        let Ok(command) = put_request(self.alloc, &mut self.asked, call) else {
+        let Ok(request) = put_request(self.alloc, &mut self.asked, call) else {
             return Err(FakeEnd::Memory);
         };
         let Some(given) = self.given.pop() else {
             return Err(FakeEnd::NoMore);
         };
-        match reply_of(self.alloc, command, &given) {
+        match reply_of(self.alloc, request.as_slice(), &given) {
             Ok(reply) => {
                 let answer = Answer {
                     code: given.code,

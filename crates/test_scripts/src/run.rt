@@ -9,6 +9,8 @@ use afp_names::{Path, UTF8_NAMES};
 use client_script_commands as commands;
 use client_script_get::get::get;
 use client_script_ls::ls::ls;
+use client_script_parcels::pack::pack;
+use client_script_parcels::unpack::unpack;
 use client_script_parts::Stop;
 use std::alloc::Global;
 use test_lines::{AnswersLines, LineResult, number_at, small_number_at, word_at};
@@ -271,6 +273,21 @@ fn note(alloc: Global, words: &[&str]) -> Result<LineResult, OutOfMemory> {
     told(alloc, &fake, comes)
 }
 
+fn pack_line(alloc: Global, words: &[&str]) -> Result<LineResult, OutOfMemory> {
+    let path = place(alloc, word_at(words, 1))?;
+    let mut fake = Fake::new(alloc, given(alloc, words, 2)?);
+    let comes = pack(alloc, &mut fake, VOLUME, path.as_slice());
+    told(alloc, &fake, comes)
+}
+
+fn unpack_line(alloc: Global, words: &[&str]) -> Result<LineResult, OutOfMemory> {
+    let path = place(alloc, word_at(words, 1))?;
+    let bytes = piece(alloc, word_at(words, 2))?;
+    let mut fake = Fake::new(alloc, given(alloc, words, 3)?);
+    let comes = unpack(alloc, &mut fake, VOLUME, path.as_slice(), bytes.as_slice());
+    told(alloc, &fake, comes)
+}
+
 fn bye(alloc: Global, words: &[&str]) -> Result<LineResult, OutOfMemory> {
     let mut fake = Fake::new(alloc, given(alloc, words, 1)?);
     let comes = commands::bye::bye(alloc, &mut fake);
@@ -287,6 +304,8 @@ fn of_path(alloc: Global, words: &[&str]) -> Result<LineResult, OutOfMemory> {
         "id" => id(alloc, words),
         "show" => show(alloc, words),
         "put" => put(alloc, words),
+        "pack" => pack_line(alloc, words),
+        "unpack" => unpack_line(alloc, words),
         _ => Ok(LineResult::Word("no command")),
     }
 }
