@@ -11,3 +11,4 @@ mod Eventing
 mod Few
 mod Reading
 mod Lines
+mod Playing

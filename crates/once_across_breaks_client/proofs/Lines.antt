@@ -39,11 +39,13 @@ pub lines-ask : CountsInRounds → LinesAsk
 lines-ask counts u x k command call on ready is =
     let one = is-asked counts u x.client k.state command call on.client ready is in
     let bytes : List ℕ = (dsi_up u).spell (x.client.opening_id, Asks (id_of x.client.first x.client.drawn) (Does command) false) in
-    let there : IsCommanded u x (line_commands (dsi u) x Ready None command) k call = record {
+    let there : IsCommanded u x (line_commands (dsi u) x Ready None command) k command call = record {
       on = record { client = one.client; few = on.few; held = on.held };
       wrote = at-place x.up x.top (x.up x.top ++ bytes) ∙ ap (λ (b : List ℕ). x.up x.top ++ b) (sym (asks-are-spelt counts u x.client k.state command call on.client ready is));
+      results = refl;
+      waits = refl;
     } in
-    subst (λ (y : Line World). IsCommanded u x y k call) (λ i. line_commands (dsi u) x (sym one.opened i) (sym one.idle i) command) there
+    subst (λ (y : Line World). IsCommanded u x y k command call) (λ i. line_commands (dsi u) x (sym one.opened i) (sym one.idle i) command) there
 
 -- what the client holds, fed
 holds-same : (x : Line World) (n : ℕ) (k fed : states.Client) → k.held.rest ≡ x.taken → IsFed x n k fed → fed.held.rest ≡ x.taken ++ take n (x.down x.top)
@@ -64,6 +66,7 @@ told-there u x n holds out out_after event fed new r =
       up = at-place x.up x.top (x.up x.top ++ bytes);
       down = at-place x.down x.top (drop n (x.down x.top));
       results = r.results;
+      waits = r.waits;
     }
 
 pub lines-take : CountsInRounds → FindsFrame → LinesTake

@@ -111,7 +111,7 @@ results-join u None (Some call) event done actions waits are = absurd waits
 results-join u (Some w) (Some call) (events.Told code block) done actions waits are = (record { call = waits; answer = refl }, are)
 results-join u (Some w) (Some call) event done actions waits are = are
 
-waits-on : (u : Setup) (event : Event) (command : Option Call) (call : Option grammar.Call) → Waits u command call → Waits u (waits_behind event command) (waits_behind event call)
+pub waits-on : (u : Setup) (event : Event) (command : Option Call) (call : Option grammar.Call) → Waits u command call → Waits u (waits_behind event command) (waits_behind event call)
 waits-on u (events.Told code block) command call waits = tt
 waits-on u event command call waits = waits
 

@@ -5,3 +5,4 @@ pub mod Steps
 pub mod Runs
 pub mod OverBytes
 pub mod OnLines
+pub mod Playing

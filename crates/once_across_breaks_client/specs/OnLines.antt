@@ -1,5 +1,5 @@
 -- The client on the law's links of bytes: each call of it is an event of the law's schedules.
-use Rattle.std.specs.Prelude.{◌≡◌, ◌⊎◌, ℕ, true, List, [], ◌++◌, take, drop}
+use Rattle.std.specs.Prelude.{◌≡◌, ◌⊎◌, ℕ, true, List, [], ◌++◌, Some, take, drop}
 use Rattle.afp_base.specs.Bytes.{IsBytes}
 use Rattle.dsi_frame.specs.Frame.{canonical_frame}
 use Rattle.dsi_frame.specs.Stream.{IsUnfinished}
@@ -20,7 +20,7 @@ use Rattle.once_across_breaks.specs.Serial.{Setup, machine}
 use Rattle.once_across_breaks_client.specs.Requests.{IsCall, LogsIn}
 use Rattle.once_across_breaks_client.specs.Related.{IsClient, made_client}
 use Rattle.once_across_breaks_client.specs.OverBytes.{HasFewIds}
-use Rattle.once_across_breaks_client.specs.Steps.{results_with}
+use Rattle.once_across_breaks_client.specs.Steps.{call_of, results_with, waits_behind}
 
 -- the client is the law's, and holds the bytes of the newest link that the law's client holds
 pub record IsOnLine (u : Setup) (x : Line World) (k : states.Client) : Type 0 where
@@ -44,9 +44,11 @@ abbrev pub LinesBreak : Type 0
 LinesBreak = (u : Setup) (x : Line World) (s : ClientState) → IsClient u x.client s → IsBegun u x (line_step (dsi u) (machine u) x Breaks) s
 
 -- it is asked a call, whose bytes come behind those under way
-pub record IsCommanded (u : Setup) (x after : Line World) (k : states.Client) (call : grammar.Call) : Type 0 where
+pub record IsCommanded (u : Setup) (x after : Line World) (k : states.Client) (command : Call) (call : grammar.Call) : Type 0 where
   pub on : IsOnLine u after (record k { state = asked k.state call })
   pub wrote : after.up x.top ≡ x.up x.top ++ canonical_frame (call_frame k.state.next_id call)
+  pub results : after.client.results ≡ x.client.results
+  pub waits : call_of after.client.wait ≡ Some command
 
 abbrev pub LinesAsk : Type 0
 LinesAsk =
@@ -54,7 +56,7 @@ LinesAsk =
     → IsOnLine u x k
     → IsReady k.state
     → IsCall u command call
-    → IsCommanded u x (line_step (dsi u) (machine u) x (Commands command)) k call
+    → IsCommanded u x (line_step (dsi u) (machine u) x (Commands command)) k command call
 
 -- it is fed so many of the bytes under way
 pub record IsFed (x : Line World) (n : ℕ) (k fed : states.Client) : Type 0 where
@@ -69,6 +71,7 @@ pub record IsTold (u : Setup) (x after : Line World) (n : ℕ) (out : List ℕ) 
   pub up : after.up x.top ≡ x.up x.top ++ writes
   pub down : after.down x.top ≡ drop n (x.down x.top)
   pub results : after.client.results ≡ x.client.results ++ results_with event x.client.wait
+  pub waits : call_of after.client.wait ≡ waits_behind event (call_of x.client.wait)
 
 abbrev pub LinesTake : Type 0
 LinesTake =

@@ -2,13 +2,15 @@
 ghost use Rattle.once_across_breaks_client.specs.Moves.{MovesAreEvents};
 ghost use Rattle.once_across_breaks_client.specs.OnLines.{LinesAsk, LinesBreak, LinesHold, LinesStart, LinesTake};
 ghost use Rattle.once_across_breaks_client.specs.OverBytes.{AsksAreSpelt, BeginsAreSpelt, TakenIsRead, UnfinishedIsUnread, WritesAreSpelt};
+ghost use Rattle.once_across_breaks_client.specs.Playing.{ClientsCommandsOnce};
 ghost use Rattle.once_across_breaks_client.specs.Runs.{FirstRunsAreMoves, LinksAreMoves, RunsAreMoves};
 ghost use Rattle.once_across_breaks_client.specs.Steps.{AsksAreCommands, BeginsAreBreaks, BreaksStay, CallsAreCommands, LoginsAreTheirs, OnlyRepliesAreTaken, RepliesAreTaken, RequestsLeaveAll, TagsAreShown};
 
 use afp_calls_grammar::laws::one_request_for_each;
 use dsi_session::ids_count_in_rounds;
 use once_across_breaks::laws::{
-    effects_are_those_of_the_history, frames_of_dsi_are_such_spellings,
+    commands_take_effect_once_in_order, effects_are_those_of_the_history,
+    frames_of_dsi_are_such_spellings,
 };
 
 /// Each step of the client is one of the law's client, or leaves it as it is, and writes the same: a break, the beginning of a link, a call
@@ -74,4 +76,15 @@ pub fn clients_are_on_the_laws_lines()
 {
     ids_count_in_rounds();
     frames_of_dsi_are_such_spellings();
+}
+
+/// So over every schedule of the law over bytes along which the client makes its calls, whatever breaks, is lost, comes late or is told want
+/// of memory: the calls in effect on its session are those that it was told of, each once, in order, each told the same, and behind them at
+/// most the call that waits.
+pub fn commands_of_the_client_take_effect_once_in_order()
+    ensures { ClientsCommandsOnce }
+{
+    ids_count_in_rounds();
+    frames_of_dsi_are_such_spellings();
+    commands_take_effect_once_in_order();
 }
