@@ -62,6 +62,17 @@ fn places_of(alloc: Global, house: &House, frames: &[u8]) -> Result<Vec<Place>, 
     Ok(places)
 }
 
+/// What comes of all frames, and what the keeper holds behind each of the first ones.
+fn seen_in(
+    alloc: Global,
+    house: &House,
+    frames: &[u8],
+) -> Result<(Served, Vec<Place>), OutOfMemory> {
+    let whole = whole_of(alloc, house, frames)?;
+    let places = places_of(alloc, house, frames)?;
+    Ok((whole, places))
+}
+
 fn whole_of(alloc: Global, house: &House, frames: &[u8]) -> Result<Served, OutOfMemory> {
     let place = new_place(alloc)?;
     run(alloc, house, &place, frames, NOTHING)
@@ -70,8 +81,7 @@ fn whole_of(alloc: Global, house: &House, frames: &[u8]) -> Result<Served, OutOf
 /// The run of a script in which nothing fails.
 pub fn base_of(alloc: Global, script: Script) -> Result<Base, OutOfMemory> {
     let house = house(alloc)?;
-    let whole = whole_of(alloc, &house, script.frames())?;
-    let places = places_of(alloc, &house, script.frames())?;
+    let (whole, places) = seen_in(alloc, &house, script.frames())?;
     Ok(Base {
         house,
         script,

@@ -20,17 +20,23 @@ fn house_of(alloc: Global, volumes: Vec<Bytes>) -> Result<House, OutOfMemory> {
     }
 }
 
+/// Appends the name of a volume.
+fn put(alloc: Global, volumes: &mut Vec<Bytes>, name: &[u8]) -> Result<(), OutOfMemory> {
+    volumes.push(Bytes::of(alloc, name)?)?;
+    Ok(())
+}
+
 /// A server `Mac` with the volume `Share`.
 pub fn house(alloc: Global) -> Result<House, OutOfMemory> {
     let mut volumes = Vec::new(alloc);
-    volumes.push(Bytes::of(alloc, b"Share")?)?;
+    put(alloc, &mut volumes, b"Share")?;
     house_of(alloc, volumes)
 }
 
 /// The same with the volume `Other` beside it.
 pub fn house_of_two(alloc: Global) -> Result<House, OutOfMemory> {
     let mut volumes = Vec::new(alloc);
-    volumes.push(Bytes::of(alloc, b"Share")?)?;
-    volumes.push(Bytes::of(alloc, b"Other")?)?;
+    put(alloc, &mut volumes, b"Share")?;
+    put(alloc, &mut volumes, b"Other")?;
     house_of(alloc, volumes)
 }

@@ -41,9 +41,10 @@ fn print_tally(
         return Err(memory_of());
     };
     let (runs, seen, held) = (tally.runs, tally.told, tally.held);
-    println!(rt; "{what}: {runs} runs, {seen} {told}, {held} images of what was done")?;
     let (last, replied) = (tally.last, tally.replied);
-    println!(rt; "{what}, {again}: {last} last images, {replied} with all replies")
+    println!(rt;
+        "{what}: {runs} runs, {seen} {told}, {held} images of what was done\n{what}, {again}: {last} last images, {replied} with all replies"
+    )
 }
 
 fn print_link(rt: &HostRuntime, base: &Base) -> io::Result<()> {
@@ -84,14 +85,17 @@ fn print_load(rt: &HostRuntime, what: &str, records: &[Record]) -> io::Result<()
     }
 }
 
-fn print_retiring(rt: &HostRuntime, base: &Base) -> io::Result<()> {
+fn print_one(rt: &HostRuntime, base: &Base) -> io::Result<()> {
     match retire_one(rt.alloc(), base) {
         Ok((failed, held)) => {
             let word = if held { "as before" } else { "others" };
-            println!(rt; "the settle at the end: {failed} failed, the records {word}")?;
+            println!(rt; "the settle at the end: {failed} failed, the records {word}")
         }
-        Err(OutOfMemory) => return Err(memory_of()),
+        Err(OutOfMemory) => Err(memory_of()),
     }
+}
+
+fn print_two(rt: &HostRuntime) -> io::Result<()> {
     match retire_two(rt.alloc()) {
         Ok(retired) => {
             let (volumes, failed, memory) = (retired.volumes, retired.failed, retired.memory);
@@ -108,7 +112,8 @@ pub fn print_all(rt: &HostRuntime, base: &Base) -> io::Result<()> {
     print_base(rt, base)?;
     print_link(rt, base)?;
     print_keeper(rt, base)?;
-    print_retiring(rt, base)?;
+    print_one(rt, base)?;
+    print_two(rt)?;
     print_load(rt, "nothing", &[])?;
     print_load(rt, "the last image", base.last_records())
 }

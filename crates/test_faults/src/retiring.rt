@@ -21,10 +21,16 @@ fn keeper_of(alloc: Global, fails: bool) -> Result<MemoryKeeper, OutOfMemory> {
     Ok(MemoryKeeper::new(alloc, calls))
 }
 
+/// Appends such a keeper.
+fn put(alloc: Global, keepers: &mut Vec<MemoryKeeper>, fails: bool) -> Result<(), OutOfMemory> {
+    keepers.push(keeper_of(alloc, fails)?)?;
+    Ok(())
+}
+
 fn two_keepers(alloc: Global) -> Result<Vec<MemoryKeeper>, OutOfMemory> {
     let mut keepers = Vec::new(alloc);
-    keepers.push(keeper_of(alloc, false)?)?;
-    keepers.push(keeper_of(alloc, true)?)?;
+    put(alloc, &mut keepers, false)?;
+    put(alloc, &mut keepers, true)?;
     Ok(keepers)
 }
 
@@ -39,11 +45,15 @@ fn retire_over(
     }
 }
 
+fn retire_in(alloc: Global, house: &House) -> Result<Retired, OutOfMemory> {
+    let keepers = two_keepers(alloc)?;
+    retire_over(alloc, house, keepers)
+}
+
 /// What is counted at the end of a server with two keepers, the second of which does not settle.
 pub fn retire_two(alloc: Global) -> Result<Retired, OutOfMemory> {
     let house = house_of_two(alloc)?;
-    let keepers = two_keepers(alloc)?;
-    retire_over(alloc, &house, keepers)
+    retire_in(alloc, &house)
 }
 
 /// How many keepers of a server of one did not settle at its end, and whether the records are those of a new volume all the same.

@@ -127,9 +127,9 @@ pub fn run(
     plan: Plan,
 ) -> Result<Served, OutOfMemory> {
     let mut teller = teller_of(alloc, house, place, plan.keeper)?;
-    let served = serve(alloc, house, &mut teller, frames, plan.link)?;
+    let served = serve(alloc, house, &mut teller, frames, plan.link);
     let _ = settle(teller);
-    Ok(served)
+    served
 }
 
 /// A run of no link: how many keepers did not settle at its end.
@@ -184,7 +184,7 @@ pub fn run_both(
     want: &[u8],
 ) -> Result<bool, OutOfMemory> {
     let mut teller = teller_of(alloc, house, place, None)?;
-    let replied = serve_both(alloc, house, &mut teller, script, failing, want)?;
+    let replied = serve_both(alloc, house, &mut teller, script, failing, want);
     let _ = settle(teller);
-    Ok(replied)
+    replied
 }
