@@ -16,7 +16,7 @@ import tempfile
 
 import afp
 import afp_files
-from afp_files import Server, step, words_for
+from afp_files import Server, step
 
 DATA = bytes(range(256)) + b"data fork"
 RESOURCE = b"resource fork " * 9
@@ -127,7 +127,8 @@ def main():
     if words.program is None:
         afp_files.build()
     port = afp.free_port()
-    server = Server(words_for(port, "Share=memory"), words.program or afp_files.PROGRAM)
+    # one link for this script's own session, and one for the tool's
+    server = Server(["--port", str(port), "--workers", "2", "--links", "0", "Share=memory"], words.program or afp_files.PROGRAM)
     server.wait_listening()
     try:
         desk = Desk(afp.connect(port))
