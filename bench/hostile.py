@@ -1,7 +1,7 @@
 #!/usr/bin/env python3
 """Hostile links beside one that works: the file server over memory is sent what no client sends, by links that come and go, while one session goes on with its calls.
 
-hostile.py [--links N] [--at-once N] [--batch N] [--workers N] [--seed N] [--program PATH]
+hostile.py [--links N] [--at-once N] [--batch N] [--workers N] [--seed N] [--seconds N] [--program PATH]
 
 Of the hostile links (10,000, in batches of 1,000, up to 100 at once) each is of one of these kinds, by a random number of its seed:
 
@@ -13,7 +13,7 @@ deaf     a session that asks and asks, reads nothing, and breaks off a moment la
 
 Each 250th is of another kind: `left` logs in and goes. The server keeps its session for 600 seconds, and has 64 at most.
 
-One process sends them, another is the session that works: it writes a piece, reads it back, compares, and asks for the volume's values, again and again. Its times beside the hostile links are told as ratios over those before them. Then for each
+One process sends them, another is the session that works, for 10 seconds before and then beside them: it writes a piece, reads it back, compares, and asks for the volume's values, again and again. Its times beside the hostile links are told as ratios over those before them. Then for each
 kind is told how many links there were, and what they were told, with how the link ended. It ends with status 1 where a call of the session that works had another
 answer, where the server ended, or where a link was told what it may not be told.
 """
@@ -23,6 +23,7 @@ import json
 import os
 import random
 import resource
+import select
 import socket
 import statistics
 import struct
@@ -134,10 +135,11 @@ def tell(port, sent):
 
 
 def deaf(port, chance):
-    """A link that asks, reads nothing, and breaks off."""
+    """A link that asks, reads nothing, and breaks off. The server has begun to serve it."""
     link = connected(port)
     try:
         link.sendall(OPEN_SESSION)
+        select.select([link], [], [], SECONDS)  # it is served now
         asked, at = b"".join(frame(1 + n, b"", command=3) for n in range(2000)), 0
         link.settimeout(0.05)
         for _ in range(128):
@@ -250,7 +252,7 @@ def resident(server):
 
 def main():
     parser = argparse.ArgumentParser(description=__doc__, formatter_class=argparse.RawDescriptionHelpFormatter)
-    for name, least in (("links", 10000), ("at-once", 100), ("batch", 1000), ("workers", 8), ("seed", 1)):
+    for name, least in (("links", 10000), ("at-once", 100), ("batch", 1000), ("workers", 8), ("seed", 1), ("seconds", 10)):
         parser.add_argument("--" + name, type=int, default=least)
     parser.add_argument("--program", default=afp_files.PROGRAM)
     parser.add_argument("--send", type=int, nargs=3, metavar=("PORT", "FIRST", "COUNT"), help=argparse.SUPPRESS)
@@ -266,7 +268,7 @@ def main():
         print(server.told())
         return 1
     worker = Worker(port)
-    until = time.monotonic() + 3
+    until = time.monotonic() + options.seconds
     fault = None
     while time.monotonic() < until and not fault:
         fault = worker.go()
