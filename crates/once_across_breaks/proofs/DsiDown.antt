@@ -90,7 +90,7 @@ options-short MiscErr fits = lit≤ tt
 options-short NoMemory fits = lit≤ tt
 options-short (Refuses c block) fits = fits.1
 
-reply-good : (u : Setup) (last : ℕ) (h : Heard) (a : Answer) → IsId last → FitsReplyTo h a → IsGood (reply_frame u (last, h) a)
+pub reply-good : (u : Setup) (last : ℕ) (h : Heard) (a : Answer) → IsId last → FitsReplyTo h a → IsGood (reply_frame u (last, h) a)
 reply-good u last HeardOpen a small fits = record { id = omega (arith, small); word = (word-of (answered_code a)).small; payload = options-short a fits.0; offset = tt }
 reply-good u last (HeardCall id body) a small fits = record { id = omega (arith, fits.0); word = (word-of (answered_code a)).small; payload = block-short a fits.1; offset = tt }
 

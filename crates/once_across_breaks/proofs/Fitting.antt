@@ -8,47 +8,19 @@ use Rattle.once_across_breaks.specs.Fits.{FitsAnswer, FitsBody, FitsOpening, IsI
 use Rattle.once_across_breaks.specs.Server.{Ask, AskLaw, Bye, Calls, Displaced, Entry, Fault, Live, Lost, Machine, Open, Opened, Outcome, Parted, Pulse, Ran, Reply, Server, Told, View, entry, numbers_end}
 use Rattle.once_across_breaks.specs.Run.{Asks, Breaks, Client, Coming, Commands, Drains, Ends, Entering, Event, Going, Gone, Joining, Loses, Opening, Opens, Others, Quiet, Ready, Request, Run, Slot, Stage, ToClient, ToServer, Wait, Wish, id_of, in_stage, last_body, opens_with, run_of, same_request, sent_again, stage_anew, start, step, with_result}
 use Rattle.once_across_breaks.specs.Once.{AllAllowed, Allowed}
-use Rattle.once_across_breaks.specs.Frames.{Carrier, End, Handled, Heard, HeardCall, HeardOpen, Net, OfCall, OfOpening, Tag, Taken, again_writes, call_by, call_entry, call_told, client_takes, ended_end, fresh_end, handles, handles_call, handles_open, heard, net_arrives, net_breaks, net_commands, net_ends, net_parts, net_quiet, net_quiet_by, net_step, net_taken, net_tells, net_to_client, net_to_server, open_told, opening_taken, replied, replies_of, reply_taken, step_taken, tag_of, token_taken, waiting_taken, wrote}
+use Rattle.once_across_breaks.specs.Frames.{Carrier, End, Handled, Heard, HeardCall, HeardOpen, Net, OfCall, OfOpening, Tag, Taken, again_writes, call_by, call_entry, call_told, client_takes, ended_end, fresh_end, handles, handles_call, handles_open, heard, net_arrives, net_breaks, net_commands, net_ends, net_parts, net_quiet, net_quiet_by, net_start, net_step, net_taken, net_tells, net_to_client, net_to_server, open_told, opening_taken, replied, replies_of, reply_taken, step_taken, tag_of, token_taken, waiting_taken, wrote}
 use Rattle.once_across_breaks.specs.Bytes.{FitsReplyTo, FitsRequest, own_id}
+use Rattle.once_across_breaks.specs.UnderWay.{AllDown, AllFit, AllIds, ClientFits, EventsKeepFitting, FewAt, IsLegal, LinkFits, NetFits, NumberFits, StartsFitting, TokenFits, WaitFits}
 use Rattle.once_across_breaks.proofs.Steps.{upd}
 use Rattle.once_across_breaks.proofs.EarlyEvents.{Always, early, elsewhere, holds}
 use Rattle.once_across_breaks.proofs.Theorem.{always-step, starts}
 use Rattle.once_across_breaks.proofs.Carried.{Locked, downs, end_of, flat, locked-start, starts-same, step-same, ups}
-
-abbrev pub AllFit : List Request → Type 0
-AllFit [] = Unit {0}
-AllFit (r ∷ rs) = FitsRequest r × AllFit rs
-
--- their ids, in an opening with that last id
-abbrev pub AllIds : ℕ → List Request → Type 0
-AllIds last [] = Unit {0}
-AllIds last (r ∷ rs) = IsId (own_id last r) × AllIds last rs
 
 abbrev pub MayReply : Heard → Option Answer → Type 0
 MayReply h None = Unit {0}
 MayReply h (Some a) = FitsReplyTo h a
 
 -- ---- the client
-
--- an opening takes few ids: three requests, each of them four times at most
-abbrev FewAt : Stage → ℕ → ℕ → Type 0
-FewAt Opening tries id = (tries ≤ 3) × (id ≤ tries)
-FewAt Entering tries id = (tries ≤ 3) × (id ≤ 4 + tries)
-FewAt Joining tries id = (tries ≤ 3) × (id ≤ 8 + tries)
-FewAt Ready tries id = Unit {0}
-FewAt Gone tries id = Unit {0}
-
-abbrev WaitFits : Option Wait → Type 0
-WaitFits None = Unit {0}
-WaitFits (Some w) = IsId w.id
-
-abbrev TokenFits : Option (List ℕ) → Type 0
-TokenFits None = Unit {0}
-TokenFits (Some token) = fits_token token ≡ true
-
-record ClientFits (c : Client) : Type 0 where
-  few : FewAt c.stage c.tries c.opening_id
-  wait : WaitFits c.wait
 
 record TakenFits (t : Taken) : Type 0 where
   client : ClientFits t.client
@@ -164,10 +136,6 @@ anew-few Gone = tt
 
 -- ---- a server end
 
-abbrev NumberFits : Option ℕ → Type 0
-NumberFits None = Unit {0}
-NumberFits (Some link) = link < numbers_end
-
 abbrev HeardFits : Heard → Type 0
 HeardFits HeardOpen = Unit {0}
 HeardFits (HeardCall id body) = IsId id
@@ -241,20 +209,6 @@ handles-fit s w moment wish e None (HeardCall id body) sound fits within small =
 handles-fit s w moment wish e (Some link) (HeardCall id body) sound fits within small = handles-call-fits s w moment wish e link id body sound fits within small
 
 -- ---- all links
-
-abbrev AllDown : List (Request × Answer) → Type 0
-AllDown [] = Unit {0}
-AllDown (x ∷ xs) = FitsReplyTo (heard x.0) x.1 × AllDown xs
-
-record LinkFits (c : Carrier) : Type 0 where
-  number : NumberFits c.end.number
-  up : AllFit c.up
-  down : AllDown c.down
-
-record NetFits {W : Type 0} (Sound : W → Type 0) (net : Net W) : Type 0 where
-  sound : Sound net.world
-  client : ClientFits net.client
-  each : (i : ℕ) → LinkFits (net.links i)
 
 ups-append : (xs ys : List Request) → AllFit xs → AllFit ys → AllFit (xs ++ ys)
 ups-append [] ys p q = q
@@ -361,18 +315,7 @@ breaks-fit Sound net h =
       each = upd net.links (suc net.top) (record { end = fresh_end; up = Opens ∷ []; down = [] }) (λ k y. LinkFits y) (record { number = tt; up = (tt, tt); down = tt }) (λ k other. h.each k);
     }
 
-abbrev IsLegal : {W : Type 0} → Machine W → W → Event → Type 0
-IsLegal s w (Others e) = s.is_legal w e ≡ true
-IsLegal s w (Commands call) = Unit {0}
-IsLegal s w (ToServer i moment wish) = Unit {0}
-IsLegal s w ToClient = Unit {0}
-IsLegal s w (Quiet i moment wish) = Unit {0}
-IsLegal s w (Loses i moment wish) = Unit {0}
-IsLegal s w (Drains i moment wish) = Unit {0}
-IsLegal s w (Ends i) = Unit {0}
-IsLegal s w Breaks = Unit {0}
-
-net-fits : {W : Type 0} {Sound : W → Type 0} (s : Server W Sound) (net : Net W) (e : Event) → TokenFits net.client.token → IsLegal s.machine net.world e → NetFits Sound net → NetFits Sound (net_step s.machine net e)
+pub net-fits : {W : Type 0} {Sound : W → Type 0} (s : Server W Sound) (net : Net W) (e : Event) → TokenFits net.client.token → IsLegal s.machine net.world e → NetFits Sound net → NetFits Sound (net_step s.machine net e)
 net-fits {W} {Sound} s net (Commands call) token legal h = commands-fit Sound net net.client.stage net.client.wait call h
 net-fits s net (ToServer i moment wish) token legal h = to-server-fits s net i moment wish (net.links i).end.ended h
 net-fits {W} {Sound} s net ToClient token legal h = to-client-fits Sound net (net.links net.top).down (h.each net.top).down token h
@@ -421,22 +364,24 @@ pub fitting-run : {W : Type 0} {Sound : W → Type 0} (s : Server W Sound) (n : 
 fitting-run s n w0 run [] ok f = f
 fitting-run s n w0 run (e ∷ es) ok f = fitting-run s n w0 (step s.machine run e) es ok.2 (fitting-step s n w0 run e ok.0 ok.1 f)
 
+pub net-starts : {W : Type 0} (Sound : W → Type 0) (w : W) → Sound w → NetFits Sound (net_start w)
+net-starts {W} Sound w sound = record {
+  sound = sound;
+  client = record { few = (omega arith, omega arith); wait = tt };
+  each = upd (λ j. blank_cell) 0 (record { end = fresh_end; up = Opens ∷ []; down = [] }) (λ k y. LinkFits y) (record { number = tt; up = (tt, tt); down = tt }) (λ k other. record { number = tt; up = tt; down = tt });
+}
+  where
+    blank_cell : Carrier
+    blank_cell = record { end = fresh_end; up = []; down = [] }
+
 pub fitting-start : {W : Type 0} {Sound : W → Type 0} (s : Server W Sound) (n : ℕ) (w : W) → Sound w → n < numbers_end → Fitting s n w (start w)
 fitting-start {W} {Sound} s n w sound small =
     record {
-      net = subst (NetFits Sound) (sym (starts-same w))
-          (record {
-            sound = sound;
-            client = record { few = (omega arith, omega arith); wait = tt };
-            each = upd (λ j. blank_cell) 0 (record { end = fresh_end; up = Opens ∷ []; down = [] }) (λ k y. LinkFits y) (record { number = tt; up = (tt, tt); down = tt }) (λ k other. record { number = tt; up = tt; down = tt });
-          });
+      net = subst (NetFits Sound) (sym (starts-same w)) (net-starts Sound w sound);
       always = early (starts s n w sound small);
       less = omega arith;
       locked = locked-start w;
     }
-  where
-    blank_cell : Carrier
-    blank_cell = record { end = fresh_end; up = []; down = [] }
 
 -- what is under way fits, and so does what would be replied and written
 pub record Facts {W : Type 0} (s : Machine W) (run : Run W) : Type 0 where

@@ -13,7 +13,8 @@ use Rattle.once_across_breaks.proofs.Steps.{upd}
 use Rattle.once_across_breaks.proofs.Events.{set-at, set-off}
 use Rattle.once_across_breaks.proofs.Carried.{Same, Locked, LockedAt, ups, downs, flat, cond-map, step-same, locked-start, starts-same}
 use Rattle.once_across_breaks.specs.Fits.{IsId}
-use Rattle.once_across_breaks.proofs.Fitting.{AllFit, AllIds, Facts, Fitting, MayReply, command-fits, facts, fitting-run, fitting-start}
+use Rattle.once_across_breaks.specs.UnderWay.{AllFit, AllIds}
+use Rattle.once_across_breaks.proofs.Fitting.{Facts, Fitting, MayReply, command-fits, facts, fitting-run, fitting-start}
 use Rattle.once_across_breaks.proofs.Theorem.{commands-once}
 
 -- ---- how bytes stand for the frames of lists

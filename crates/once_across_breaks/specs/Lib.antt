@@ -12,3 +12,4 @@ pub mod Example
 pub mod Premises
 pub mod Effects
 pub mod Dsi
+pub mod UnderWay

@@ -4,6 +4,7 @@ ghost use Rattle.once_across_breaks.specs.Effects as history;
 ghost use Rattle.once_across_breaks.specs.Example as example;
 ghost use Rattle.once_across_breaks.specs.Laws as laws;
 ghost use Rattle.once_across_breaks.specs.Premises as premises;
+ghost use Rattle.once_across_breaks.specs.UnderWay as under_way;
 
 use afp_calls_grammar::laws::what_is_written_is_read_again;
 use afp_serial::laws::{
@@ -38,6 +39,20 @@ pub fn frames_of_dsi_are_such_spellings()
     ensures codecs { frames.FramesAreCodecs }
     ensures finds { frames.FindsFrame }
 {
+    what_is_written_is_read_again();
+}
+
+/// All that is under way on links that carry lists of frames fits them, at the start and behind each event, where the token fits that the client
+/// holds: ids of 16 bits, payloads and tokens that a frame can carry. And the frames of such replies are good.
+pub fn what_is_under_way_fits()
+    ensures starts { under_way.StartsFitting }
+    ensures keeps { under_way.EventsKeepFitting }
+    ensures good { under_way.RepliesAreGood }
+{
+    asks_change_sessions_in_few_ways();
+    fault_hides_no_refusal();
+    sound_worlds_stay_sound();
+    tokens_tell_sessions_apart();
     what_is_written_is_read_again();
 }
 
