@@ -1,0 +1,10 @@
+mod Spelled
+mod Courses
+mod Replies
+mod AtServer
+mod Feeding
+mod Taking
+mod AtClient
+mod ClientSteps
+mod Alone
+mod Whole

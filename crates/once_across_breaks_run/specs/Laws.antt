@@ -1,0 +1,51 @@
+-- The law: whatever is done, there is a schedule of the law that leads to what is there.
+use Rattle.std.specs.Prelude.{◌≡◌, ◌<◌, ℕ, List, [], ◌++◌, map, Some}
+use Rattle.afp_client.specs.declared.login.Login as logins
+use Rattle.afp_serial.specs.Shown.{IsSoundShown, Shown}
+use Rattle.afp_serial.specs.Token.{session_token}
+use Rattle.afp_serial.specs.World.{World}
+use Rattle.once_across_breaks.specs.Effects.{answered, effect_of, effects}
+use Rattle.once_across_breaks.specs.Frames.{AllNetAllowed, Net, net_run, net_start}
+use Rattle.once_across_breaks.specs.Messages.{Done, kept}
+use Rattle.once_across_breaks.specs.Once.{IsOutstanding}
+use Rattle.once_across_breaks.specs.Run.{Event}
+use Rattle.once_across_breaks.specs.Serial.{IsSoundUnder, Setup, machine}
+use Rattle.once_across_breaks.specs.Server.{numbers_end}
+use Rattle.once_across_breaks_client.specs.Requests.{LogsIn}
+use Rattle.once_across_breaks_server.specs.Ties.{plain}
+use Rattle.once_across_breaks_run.specs.Doings.{Doing, IsAlone, Runs, RunsAlone}
+use Rattle.once_across_breaks_run.specs.Mirrors.{Mirrors}
+use Rattle.once_across_breaks_run.specs.Things.{Things, begun_things}
+
+-- Of the session n the calls in effect are the requests of the results, each once, in order, each told its result; and at most one more, which is the one that waits.
+pub record AreOnce (u : Setup) (n : ℕ) (start : World) (t : Things) (net : Net World) : Type 0 where
+  pub more : List Done
+  pub in_effect : map answered (effects n start (map plain t.shown.history)) ≡ map effect_of (kept net.client.results ++ more)
+  pub at_most : IsOutstanding more net.client.wait
+
+-- These events lead to what is there; and where they meet the law's premises for a session whose token the client holds, its calls are in effect once and in order.
+pub record IsSchedule (u : Setup) (start : World) (t : Things) (events : List Event) : Type 0 where
+  pub mirrors : Mirrors u t (net_run (machine u) (net_start start) events)
+  pub once : (n : ℕ) → n < numbers_end → AllNetAllowed (machine u) n (net_start start) events → (net_run (machine u) (net_start start) events).client.token ≡ Some (session_token u.key n)
+      → AreOnce u n start t (net_run (machine u) (net_start start) events)
+
+abbrev pub RunsAreSchedules : Type 0
+RunsAreSchedules =
+    (u : Setup) (login : logins.Login) (block : List ℕ) (shown : Shown) (doings : List Doing) (last : Things)
+    → LogsIn u login
+    → IsSoundShown shown
+    → shown.history ≡ []
+    → IsSoundUnder u.key shown.start
+    → Runs (begun_things block login shown) doings last
+    → (events : List Event) × IsSchedule u shown.start last events
+
+-- so it is over a teller that nobody else asks, where frames can carry what others ask
+abbrev pub SoleRunsAreSchedules : Type 0
+SoleRunsAreSchedules =
+    (u : Setup) (login : logins.Login) (block : List ℕ) (shown : Shown) (doings : List Doing) (last : Things)
+    → LogsIn u login
+    → IsAlone shown
+    → shown.history ≡ []
+    → IsSoundUnder u.key shown.start
+    → RunsAlone (begun_things block login shown) doings last
+    → (events : List Event) × IsSchedule u shown.start last events

@@ -1,0 +1,4 @@
+pub mod Things
+pub mod Doings
+pub mod Mirrors
+pub mod Laws

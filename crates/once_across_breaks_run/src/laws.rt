@@ -1,0 +1,34 @@
+//! The laws. Each function says one, and does nothing.
+ghost use Rattle.once_across_breaks_run.specs.Laws.{RunsAreSchedules, SoleRunsAreSchedules};
+
+use afp_client::the_next_frame_decides;
+use dsi_frame::{one_frame, read_again};
+use once_across_breaks::laws::{
+    commands_take_effect_once_in_order, effects_are_those_of_the_history, what_is_under_way_fits,
+};
+use once_across_breaks_client::laws::{calls_are_commands, steps_are_those_of_the_law};
+use once_across_breaks_server::laws::{
+    frames_are_those_of_the_law, links_go_as_the_law_says_among_others,
+    pieces_that_are_fed_do_as_the_law_says, tellers_are_asked_in_order,
+};
+
+/// Whatever is done with a client, the server ends of its links and the teller behind them, as their contracts say it: there is a schedule of
+/// the law that leads to what is there. So the calls in effect on its session are the requests of its results, each once and in order,
+/// and at most one more. So over a teller that nobody else asks.
+pub fn runs_are_schedules()
+    ensures runs { RunsAreSchedules }
+    ensures alone { SoleRunsAreSchedules }
+{
+    the_next_frame_decides();
+    one_frame();
+    read_again();
+    commands_take_effect_once_in_order();
+    effects_are_those_of_the_history();
+    what_is_under_way_fits();
+    calls_are_commands();
+    steps_are_those_of_the_law();
+    frames_are_those_of_the_law();
+    links_go_as_the_law_says_among_others();
+    pieces_that_are_fed_do_as_the_law_says();
+    tellers_are_asked_in_order();
+}
