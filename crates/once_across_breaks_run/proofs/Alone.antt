@@ -1,15 +1,13 @@
 -- What a wire asks, where nobody else does.
-use Rattle.std.proofs.Common.{◌≡◌, ◌≢◌, ◌∙◌, ◌⊎◌, inl, inr, refl, sym, ap, subst, ℕ, ◌≤◌, Bool, true, false, List, [], ◌∷◌, ◌++◌, Option, Some, None, append-nil}
+use Rattle.std.proofs.Common.{◌≡◌, ◌∙◌, inl, inr, refl, sym, ap, subst, ℕ, Bool, true, false, List, [], ◌∷◌, ◌++◌, Option, Some, None, append-nil}
 use Rattle.std.specs.Prelude.{length, MatchOption}
 use Rattle.std.proofs.lemmas.Bool.{and_from, le-leb}
 use Rattle.afp_base.specs.Limits.{payload_limit}
 use Rattle.afp_base.specs.declared.ids.LinkNumber.{LinkNumber}
-use Rattle.afp_serial.proofs.Grows.{went-one}
 use Rattle.afp_serial.specs.Shown.{IsSoundShown, Shown}
-use Rattle.afp_serial.specs.Went.{Step, Went, step}
+use Rattle.afp_serial.specs.Went.{Step, Went}
 use Rattle.afp_serial.specs.World.{World}
 use Rattle.afp_serial.specs.declared.ask.Ask as serial
-use Rattle.afp_serial.specs.declared.ask.Ask.TheVariants as ask
 use Rattle.afp_serial.specs.declared.ask.Entry as entries
 use Rattle.afp_serial.specs.declared.ask.Told as tolds
 use Rattle.afp_serial.specs.declared.ask.Told.TheVariants as told
@@ -72,13 +70,10 @@ pub carried-alone : SoleTellersAreAskedAlone → (a b : Shown) (ss : List Step) 
 carried-alone sole a b ss sound first last went fits more history =
     subst AllCarried (same-rest a.history went.between more (sym went.history ∙ history)) (alone-carried (world_of a) ss went.between (world_of b) (sole a b ss sound.lawful first last went) fits)
 
-none-since : (a b : Shown) → b ≡ a → CarriedSince a b
-none-since a b same more history =
+pub nothing-since : (a b : Shown) → b ≡ a → CarriedSince a b
+nothing-since a b same more history =
     let e : a.history ++ [] ≡ a.history ++ more = append-nil a.history ∙ sym (ap (λ (x : Shown). x.history) same) ∙ history in
     subst AllCarried (same-rest a.history [] more e) tt
-
-pub nothing-since : (a b : Shown) → b ≡ a → CarriedSince a b
-nothing-since a b same = none-since a b same
 
 -- ---- what a frame asks
 

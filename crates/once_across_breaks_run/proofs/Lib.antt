@@ -7,4 +7,5 @@ mod Taking
 mod AtClient
 mod ClientSteps
 mod Alone
+mod Plainly
 mod Whole

@@ -17,7 +17,7 @@ use Rattle.once_across_breaks.specs.UnderWay.{StartsFitting}
 use Rattle.once_across_breaks_client.specs.Related.{IsClient, made_client}
 use Rattle.once_across_breaks_client.specs.Requests.{LogsIn}
 use Rattle.once_across_breaks_server.specs.Ties.{plain}
-use Rattle.once_across_breaks_run.specs.Doings.{Asks, Breaks, Brings, Does, Doing, Feeds_in, IsCarriedOn, Loses, Others, Quiets, Runs, Takes, CanCarry, IsAlone, RunsAlone, fed_at}
+use Rattle.once_across_breaks_run.specs.Doings.{Asks, Breaks, Brings, Does, Doing, Reaches, IsCarriedOn, Loses, Others, Quiets, Runs, Takes, CanCarry, IsAlone, RunsAlone, fed_at}
 use Rattle.once_across_breaks_run.specs.Laws.{IsSchedule, RunsAreSchedules, SoleRunsAreSchedules}
 use Rattle.once_across_breaks_run.specs.Mirrors.{IsLane, Mirrors}
 use Rattle.once_across_breaks_run.specs.Things.{Things, begun_lane, begun_things}
@@ -32,6 +32,7 @@ use Rattle.once_across_breaks_run.proofs.AtClient.{ClientLaws, brought-keeps}
 use Rattle.once_across_breaks_run.proofs.AtServer.{lost-keeps, others-keep, quiet-keeps}
 use Rattle.once_across_breaks_run.proofs.ClientSteps.{asked-keeps, broken-keeps, begun_carrier, new-lane, taken-keeps}
 use Rattle.once_across_breaks_run.proofs.Courses.{Kept}
+use Rattle.once_across_breaks_run.proofs.Plainly.{same-effects}
 use Rattle.once_across_breaks_run.proofs.Feeding.{FeedLaws, fed-keeps}
 
 pub record RunLaws : Type 0 where
@@ -90,7 +91,7 @@ first laws u login block shown logs sound none under =
 
 does-keep : RunLaws → (u : Setup) (w : World) (d : Doing) (t s : Things) (net : Net World) → Does d t s → IsCarriedOn t.shown s.shown → Kept u w t net → (after : Net World) × Kept u w s after
 does-keep laws u w (Asks call) t s net x on k = asked-keeps laws.client u w call t s net x k
-does-keep laws u w (Feeds_in link now) t s net x on k = fed-keeps laws.feed u w link now t s net x on k
+does-keep laws u w (Reaches link now) t s net x on k = fed-keeps laws.feed u w link now t s net x on k
 does-keep laws u w Brings t s net x on k = (net, brought-keeps u w t s net x k)
 does-keep laws u w (Takes event) t s net x on k = taken-keeps laws.client u w event t s net x k
 does-keep laws u w (Quiets link now) t s net x on k = quiet-keeps laws.feed.server u w link now t s net x on k
@@ -111,7 +112,7 @@ carried-by laws u w (Asks call) t s net x can first last k = nothing-since t.sho
 carried-by laws u w Brings t s net x can first last k = nothing-since t.shown s.shown x.shown
 carried-by laws u w (Takes event) t s net x can first last k = nothing-since t.shown s.shown x.grows.shown
 carried-by laws u w Breaks t s net x can first last k = nothing-since t.shown s.shown x.shown
-carried-by laws u w (Feeds_in i now) t s net x can first last k =
+carried-by laws u w (Reaches i now) t s net x can first last k =
     let g = (k.mirrors.each i x.link).live x.live in
     let start : wires.FeedStart = fed_at (t.lanes i) now t.shown g.bytes g.past in
     let p : wires.FeedPoint = wires.feed_point (s.lanes i).wire.stage (s.lanes i).wire.tally (s.lanes i).down s.shown in
@@ -144,7 +145,7 @@ schedule laws u w last net under k =
             let o = laws.once u w n events under small allowed token in
             record {
               more = o.more;
-              in_effect = ap (λ (es : List entries.Entry). map answered (effects n w es)) (sym m.history) ∙ laws.effects u n w after.history ∙ ap (map effect_of) o.effects;
+              in_effect = ap (map answered) (sym (same-effects n w last.shown.history)) ∙ ap (λ (es : List entries.Entry). map answered (effects n w es)) (sym m.history) ∙ laws.effects u n w after.history ∙ ap (map effect_of) o.effects;
               at_most = o.at_most;
             };
       },

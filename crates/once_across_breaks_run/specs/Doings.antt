@@ -31,7 +31,7 @@ use Rattle.once_across_breaks_run.specs.Things.{Lane, Things, begun_lane}
 -- or lost; the client's link breaks, and it begins the next one; others ask. Each with its moment, where it has one.
 pub data Doing : Type 0 where
   Asks : (call : grammar.Call) → Doing
-  Feeds_in : (link now : ℕ) → Doing
+  Reaches : (link now : ℕ) → Doing
   Brings : Doing
   Takes : (event : Event) → Doing
   Quiets : (link now : ℕ) → Doing
@@ -169,7 +169,7 @@ pub record IsBroken (old new : Things) : Type 0 where
 
 abbrev pub Does : Doing → Things → Things → Type 0
 Does (Asks call) old new = IsAsked call old new
-Does (Feeds_in link now) old new = IsFed link now old new
+Does (Reaches link now) old new = IsFed link now old new
 Does Brings old new = IsBrought old new
 Does (Takes event) old new = IsTaken event old new
 Does (Quiets link now) old new = IsQuiet link now old new
@@ -196,7 +196,7 @@ pub record IsAlone (new : Shown) : Type 0 where
 abbrev pub CanCarry : Doing → Type 0
 CanCarry (Others now link asks) = is_carried_ask asks ≡ true
 CanCarry (Asks call) = Unit {0}
-CanCarry (Feeds_in link now) = Unit {0}
+CanCarry (Reaches link now) = Unit {0}
 CanCarry Brings = Unit {0}
 CanCarry (Takes event) = Unit {0}
 CanCarry (Quiets link now) = Unit {0}

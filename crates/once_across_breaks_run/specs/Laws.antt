@@ -12,7 +12,6 @@ use Rattle.once_across_breaks.specs.Run.{Event}
 use Rattle.once_across_breaks.specs.Serial.{IsSoundUnder, Setup, machine}
 use Rattle.once_across_breaks.specs.Server.{numbers_end}
 use Rattle.once_across_breaks_client.specs.Requests.{LogsIn}
-use Rattle.once_across_breaks_server.specs.Ties.{plain}
 use Rattle.once_across_breaks_run.specs.Doings.{Doing, IsAlone, Runs, RunsAlone}
 use Rattle.once_across_breaks_run.specs.Mirrors.{Mirrors}
 use Rattle.once_across_breaks_run.specs.Things.{Things, begun_things}
@@ -20,7 +19,7 @@ use Rattle.once_across_breaks_run.specs.Things.{Things, begun_things}
 -- Of the session n the calls in effect are the requests of the results, each once, in order, each told its result; and at most one more, which is the one that waits.
 pub record AreOnce (u : Setup) (n : ℕ) (start : World) (t : Things) (net : Net World) : Type 0 where
   pub more : List Done
-  pub in_effect : map answered (effects n start (map plain t.shown.history)) ≡ map effect_of (kept net.client.results ++ more)
+  pub in_effect : map answered (effects n start t.shown.history) ≡ map effect_of (kept net.client.results ++ more)
   pub at_most : IsOutstanding more net.client.wait
 
 -- These events lead to what is there; and where they meet the law's premises for a session whose token the client holds, its calls are in effect once and in order.
