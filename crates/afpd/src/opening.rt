@@ -28,7 +28,7 @@ fn tell_fault(rt: &HostRuntime, name: &str, fault: &OpenFault) {
     };
 }
 
-/// The keeper over a file; where that cannot be opened, the one that stands for it.
+/// The keeper over a file; where that cannot be opened, the one that stands for it. A person is told why; want of memory is an error.
 fn open_file(rt: &HostRuntime, name: &str) -> Result<PlaceKeeper, OutOfMemory>
     ensures { IfOk result (λ keeper. OpensFile keeper) }
 {
@@ -36,6 +36,9 @@ fn open_file(rt: &HostRuntime, name: &str) -> Result<PlaceKeeper, OutOfMemory>
         Ok(keeper) => Ok(PlaceKeeper::File(keeper)),
         Err(fault) => {
             tell_fault(rt, name, &fault);
+            if fault.is_memory() {
+                return Err(OutOfMemory);
+            }
             Ok(PlaceKeeper::Unopened(unopened_keeper(rt.alloc())?))
         }
     }

@@ -1,5 +1,5 @@
 //! A keeper over a file that is never there.
-ghost use Rattle.std.specs.Prelude.{IfOk};
+ghost use Rattle.std.specs.Prelude.{◌≡◌, false, IfOk};
 
 use afp_base::Bytes;
 use record_keeper::{Change, Keeper, KeeperFault, MemoryKeeper, RecordKey};
@@ -18,6 +18,15 @@ pub enum OpenFault {
     File(&'static str),
     /// No open answers it.
     Start(&'static str),
+}
+
+impl OpenFault {
+    /// Whether there was no memory: that is never why no file is opened.
+    pub fn is_memory(&self) -> bool
+        ensures { result ≡ false }
+    {
+        false
+    }
 }
 
 impl FileKeeper {

@@ -5,7 +5,7 @@ ghost use Rattle.sqlite.specs.State.{store_error};
 
 use afp_base::Bytes;
 use record_keeper::{Change, Keeper, KeeperFault, RecordKey};
-use sqlite::{Connection, Error, File, FileStore};
+use sqlite::{Connection, Error, ErrorCode, File, FileStore};
 use sqlite_durable::{DurableKeeper, StartFault};
 use std::alloc::Global;
 
@@ -22,6 +22,21 @@ pub enum OpenFault {
     File(Error),
     /// It is a database in which no keeper starts.
     Start(StartFault),
+}
+
+impl OpenFault {
+    /// Whether there was no memory.
+    pub fn is_memory(&self) -> bool
+        ensures file { self.now ≡ OpenFault.File (Error.SqliteFailure ErrorCode.OutOfMemory) → result ≡ true }
+        ensures start { self.now ≡ OpenFault.Start StartFault.Memory → result ≡ true }
+        ensures only { result ≡ true → (self.now ≡ OpenFault.File (Error.SqliteFailure ErrorCode.OutOfMemory)) ⊎ (self.now ≡ OpenFault.Start StartFault.Memory) }
+    {
+        match self {
+            OpenFault::File(Error::SqliteFailure(ErrorCode::OutOfMemory)) => true,
+            OpenFault::Start(StartFault::Memory) => true,
+            _ => false,
+        }
+    }
 }
 
 impl FileKeeper {
