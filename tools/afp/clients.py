@@ -1,9 +1,8 @@
 """Scripts of client runs: what a client is asked, what it writes and reads on its links, and what it prints (tools/README.md)."""
-from struct import error
+import re
 
-from afp.blocks import Unread
 from afp.frames import Request, frame_of, reply_of, status_block
-from afp.scripts import items, statements
+from afp.scripts import items, statements, take_lines, without_rounds
 from afp.tables import CODES
 from afp.texts import BadText, data_of, number_of, tokens
 
@@ -23,23 +22,17 @@ def token(session):
     return '"' + "".join(f"\\x{byte:02x}" for byte in session.to_bytes(8, "big") + bytes.fromhex(SECRETS[session])) + '"'
 
 
-def without_rounds(lines):
-    """The lines, each `for NAME in WORD..:` said in full: {NAME} is the word, and {NAME#} the number of the code."""
-    at = 0
-    while at < len(lines):
-        number, indent, said = lines[at]
-        at += 1
-        if not (said.startswith("for ") and said.endswith(":")):
-            yield number, said
-            continue
-        end = at
-        while end < len(lines) and lines[end][1] > indent:
-            end += 1
-        name, values = said[4:-1].split(" in ")
-        for value in values.split():
-            put = lambda text: text.replace("{" + name + "}", value).replace("{" + name + "#}", str(CODES.get(value, value)))
-            yield from without_rounds([[number, indent, put(text)] for number, indent, text in lines[at:end]])
-        at = end
+def rounds_of_words(head):
+    """The name and the values of `for NAME in WORD..:`."""
+    found = re.fullmatch(r"for (\S+) in (.+):", head)
+    if not found:
+        raise BadText(f"{head} is no round")
+    return found[1], found[2].split()
+
+
+def word_in(text, name, word):
+    """{NAME} is the word, and {NAME#} the number of the code."""
+    return text.replace("{" + name + "}", word).replace("{" + name + "#}", str(CODES.get(word, word)))
 
 
 class Link:
@@ -217,11 +210,5 @@ class Writer:
 def read(text):
     """What a script makes."""
     writer = Writer()
-    for number, said in without_rounds(statements(text)):
-        try:
-            writer.line(said)
-        except (BadText, Unread) as reason:
-            raise BadText(f"line {number}: {reason}")
-        except (ArithmeticError, AttributeError, LookupError, TypeError, ValueError, error) as reason:
-            raise BadText(f"line {number}: {said} says nothing ({reason})")
+    take_lines(writer, without_rounds(statements(text), rounds_of_words, word_in), "says nothing")
     return writer

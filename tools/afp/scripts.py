@@ -31,8 +31,8 @@ def statements(text):
     return found
 
 
-def without_rounds(lines):
-    """The lines with each round said in full."""
+def without_rounds(lines, heads=rounds, put=value_at):
+    """The lines with each round said in full: `heads` tells the name and the values of its first line, and `put` puts a value into a text."""
     at = 0
     while at < len(lines):
         number, indent, said = lines[at]
@@ -44,12 +44,23 @@ def without_rounds(lines):
         while end < len(lines) and lines[end][1] > indent:
             end += 1
         try:
-            name, values = rounds(said)
+            name, values = heads(said)
         except BadText as reason:
             raise BadScript(number, reason)
         for value in values:
-            yield from without_rounds([[number, indent, value_at(said, name, value)] for number, indent, said in lines[at:end]])
+            yield from without_rounds([[number, indent, put(said, name, value)] for number, indent, said in lines[at:end]], heads, put)
         at = end
+
+
+def take_lines(writer, lines, wrong):
+    """Has a writer take each line. A line that says nothing is told with its number, by its own reason or by `wrong`."""
+    for number, said in lines:
+        try:
+            writer.line(said)
+        except (BadText, Unread) as reason:
+            raise BadScript(number, reason)
+        except (ArithmeticError, AttributeError, LookupError, TypeError, ValueError, error):
+            raise BadScript(number, f"{said} {wrong}")
 
 
 def items(words):
@@ -129,13 +140,7 @@ class Writer:
 def write(text):
     """The capture that a script says."""
     writer = Writer()
-    for number, said in without_rounds(statements(text)):
-        try:
-            writer.line(said)
-        except (BadText, Unread) as reason:
-            raise BadScript(number, reason)
-        except (ArithmeticError, LookupError, TypeError, ValueError, error):
-            raise BadScript(number, f"{said} says no line of a capture")
+    take_lines(writer, without_rounds(statements(text)), "says no line of a capture")
     return ("\n".join(writer.out) + "\n" * text.endswith("\n")).encode("latin-1")
 
 
