@@ -63,7 +63,7 @@ def words_for(port, *volumes, links=0):
 
 
 class Files(afp.Session):
-    """A session with the calls on files and directories of the root."""
+    """A session with the calls on files and directories of the root, and on their comments."""
 
     @staticmethod
     def name3(name):
@@ -77,6 +77,23 @@ class Files(afp.Session):
 
     def set_length(self, fork, length):
         return self.ask(2, struct.pack(">BBHHI", 31, 0, fork, 0x0200, length))[0]
+
+    def open_desk(self, volume):
+        """The code, and the reference number of the volume's desktop database."""
+        code, reply = self.ask(2, struct.pack(">BBH", 48, 0, volume))
+        return code, struct.unpack(">H", reply)[0] if reply else 0
+
+    def on_path(self, command, desk, name, middle=b""):
+        return struct.pack(">BBHI", command, 0, desk, afp.ROOT) + middle + self.path(name)
+
+    def add_comment(self, desk, name, text):
+        block = self.on_path(56, desk, name)
+        return self.ask(2, block + bytes(len(block) % 2) + bytes([len(text)]) + text)[0]
+
+    def comment(self, desk, name):
+        """The code, and the comment."""
+        code, reply = self.ask(2, self.on_path(58, desk, name))
+        return code, reply[1:1 + reply[0]] if reply else b""
 
     def names(self):
         """The long names of the root, and whether each is a directory."""

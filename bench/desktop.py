@@ -27,7 +27,7 @@ NEVER = -0x80000000
 
 
 class Desk(afp_files.Files):
-    """A session with both volumes open, and the calls on ids, copies and the desktop database."""
+    """A session with both volumes open, and the calls on ids, copies, icons and applications."""
 
     def __init__(self, link):
         super().__init__(link)
@@ -80,21 +80,6 @@ class Desk(afp_files.Files):
     def move(self, name, to, new):
         head = struct.pack(">BBHII", 23, 0, afp.SHARE, afp.ROOT, to)
         return self.ask(2, head + self.path(name) + self.path(b"") + self.path(new))[0]
-
-    def open_desk(self, volume):
-        code, reply = self.ask(2, struct.pack(">BBH", 48, 0, volume))
-        return code, struct.unpack(">H", reply)[0] if reply else 0
-
-    def on_path(self, command, desk, name, middle=b""):
-        return struct.pack(">BBHI", command, 0, desk, afp.ROOT) + middle + self.path(name)
-
-    def add_comment(self, desk, name, text):
-        block = self.on_path(56, desk, name)
-        return self.ask(2, block + bytes(len(block) % 2) + bytes([len(text)]) + text)[0]
-
-    def comment(self, desk, name):
-        code, reply = self.ask(2, self.on_path(58, desk, name))
-        return code, reply[1:1 + reply[0]] if reply else b""
 
     def add_icon(self, desk, creator, kind, tag, bits):
         return self.ask(6, struct.pack(">BBH4s4sBBIH", 192, 0, desk, creator, kind, 1, 0, tag, len(bits)), bits)[0]

@@ -28,7 +28,7 @@ EPOCH = 946684800
 
 
 class Desk(afp_files.Files):
-    """A session with the calls on dates, Finder info and comments."""
+    """A session with the calls on dates, Finder info and whole forks."""
 
     def set_parms(self, name):
         block = struct.pack(">BBHIH", 30, 0, afp.SHARE, afp.ROOT, 0x003C) + self.path(name)
@@ -38,14 +38,6 @@ class Desk(afp_files.Files):
         """The dates, the Finder info and the lengths of both forks."""
         code, reply = self.ask(2, struct.pack(">BBHIHH", 34, 0, afp.SHARE, afp.ROOT, 0x063C, 0) + self.path(name))
         return struct.unpack(">iii32sII", reply[6:58]) if code == afp.OK else code
-
-    def add_comment(self, name, text):
-        block = struct.pack(">BBHI", 56, 0, afp.SHARE, afp.ROOT) + self.path(name)
-        return self.ask(2, block + bytes(len(block) % 2) + bytes([len(text)]) + text)[0]
-
-    def comment(self, name):
-        code, reply = self.ask(2, struct.pack(">BBHI", 58, 0, afp.SHARE, afp.ROOT) + self.path(name))
-        return reply[1:] if code == afp.OK else code
 
     def put(self, name, data, resource):
         fork = self.open_fork(name, 0x0022, resource)[1]
@@ -136,7 +128,9 @@ def main():
         step("data fork", desk.put(b"plain", DATA, False), afp.OK)
         step("resource fork", desk.put(b"plain", RESOURCE, True), afp.OK)
         step("dates and Finder info", desk.set_parms(b"plain"), afp.OK)
-        step("comment", desk.add_comment(b"plain", COMMENT), afp.OK)
+        code, number = desk.open_desk(afp.SHARE)
+        step("desktop database", code, afp.OK)
+        step("comment", desk.add_comment(number, b"plain", COMMENT), afp.OK)
         was = desk.parms(b"plain")
         status, lines = script(words.tool, port, "mount Share", "pack plain", "rm plain", "pack plain")
         word, size, text = lines[1].split()
@@ -147,7 +141,7 @@ def main():
         step("the data fork is the same", desk.get(b"again", False) == DATA, True)
         step("the resource fork is the same", desk.get(b"again", True) == RESOURCE, True)
         step("dates, Finder info and lengths are the same", desk.parms(b"again") == was, True)
-        step("the comment is the same", desk.comment(b"again"), COMMENT)
+        step("the comment is the same", desk.comment(number, b"again"), (afp.OK, COMMENT))
         status, lines = script(words.tool, port, "mount Share", "pack again", "unpack bad 00")
         step("packed again: as long as before", (status, len(bytes.fromhex(lines[1].split()[2]))), (0, len(packed)))
         step("no parcel", lines[2], "bad parcel")
