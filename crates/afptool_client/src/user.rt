@@ -1,15 +1,14 @@
 //! A user's name and password, in one word.
 ghost use Rattle.std.specs.Prelude.{◌≡◌, ◌≤◌, ◌<◌, length, Some, None, option_map, IfOk, IfSome, IfNone, MatchOption};
-ghost use Rattle.std.specs.List.{list_all};
 ghost use Rattle.afp_base.specs.Limits.{password_size};
 ghost use Rattle.afp_client.specs.Opening.{FitsLogin};
-ghost use Rattle.afp_serial.specs.HouseFault.{is_name, is_printable};
 ghost use Rattle.afp_serial.specs.Limits.{longest_user};
 ghost use Rattle.afptool_client.specs.Words.{as_user, filled, login_in, user_in};
 
 use afp_base::{Bytes, OutOfMemory};
 use afp_client::Login;
-use afp_serial::limits::{FIRST_PRINTABLE, LAST_PRINTABLE, LONGEST_USER};
+use afp_serial::is_name;
+use afp_serial::limits::LONGEST_USER;
 use std::alloc::Global;
 
 /// Bytes of a password.
@@ -20,25 +19,6 @@ const PASSWORD_SIZE: usize = 8;
 struct UserWord<'a> {
     name: &'a str,
     password: [u8; 8],
-}
-
-fn is_printable(character: u8) -> bool
-    ensures { result ≡ is_printable character }
-{
-    character >= FIRST_PRINTABLE && character <= LAST_PRINTABLE
-}
-
-fn are_printable(text: &[u8]) -> bool
-    ensures { result ≡ list_all is_printable text.now }
-{
-    text.iter().all(|character| is_printable(*character))
-}
-
-/// Whether a user of a house may have the name.
-fn is_user_name(text: &[u8]) -> bool
-    ensures { result ≡ is_name longest_user text.now }
-{
-    text.len() >= 1 && text.len() <= LONGEST_USER && are_printable(text)
 }
 
 /// A password of at most 8 bytes, filled with zeros.
@@ -61,7 +41,7 @@ fn user_of<'a>(text: &'a str) -> Option<UserWord<'a>>
     ensures name { IfSome result (λ user. length user.name.now ≤ longest_user) }
 {
     let (name, password) = text.split_once(':')?;
-    if !is_user_name(name.as_bytes()) {
+    if !is_name(LONGEST_USER, name.as_bytes()) {
         return None;
     }
     let password = password_of(password)?;

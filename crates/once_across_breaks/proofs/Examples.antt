@@ -42,11 +42,11 @@ calm-all m n run (e ∷ es) c =
     let b = and_parts (nat_lt (step m run e).client.row 1900) (all_calm m (step m run e) es) a.1 in
     (calm-allowed m n run e a.0, ltb-true (step m run e).client.row 1900 b.0, calm-all m n (step m run e) es b.1)
 
-first-kept : FirstIsKept
+pub first-kept : FirstIsKept
 unfolding spelt_call
 first-kept = refl
 
-second-kept : SecondIsKept
+pub second-kept : SecondIsKept
 unfolding spelt_call
 second-kept = refl
 

@@ -2,7 +2,6 @@
 use Rattle.std.proofs.Common.{◌≡◌, ◌∙◌, refl, sym, ap, subst, ℕ, zero, suc, ◌+◌, true, false, List, [], ◌∷◌, ◌++◌, Option, Some, None, arith, append-nil}
 use Rattle.std.specs.Prelude.{nat_eq, nat_lt, ◌*◌}
 use Rattle.std.proofs.lemmas.Bool.{cond-true, eq-eqb}
-use Rattle.afp_calls_grammar.specs.Spelt.{spelt_call}
 use Rattle.once_across_breaks.specs.Messages.{Answer, Call, Does, Done, Fine, NoMemory, Other, kept}
 use Rattle.once_across_breaks.specs.Server.{Entry, set}
 use Rattle.once_across_breaks.specs.Run.{Asks, Client, Coming, Event, Going, Idle, Link, Ready, Run, Slot, Wait, Commands, ToClient, ToServer, id_of, run_of, start, step, takes, takes_for, takes_reply, to_client, with_client, with_result, with_slot}
@@ -10,15 +9,8 @@ use Rattle.once_across_breaks.specs.Once.{effective}
 use Rattle.once_across_breaks.specs.Counting.{Counting, counting, empty}
 use Rattle.once_across_breaks.specs.Example.{FirstIsKept, SecondIsKept, calm, first_done, first_sent, second_sent}
 use Rattle.once_across_breaks.specs.Premises.{AnOldAnswerIsTold, OthersAskedOnTheLink, OthersTookTheSession, around_run, lacks, many, missed, until_told}
+use Rattle.once_across_breaks.proofs.Examples.{first-kept, second-kept}
 use Rattle.once_across_breaks.proofs.Steps.{kept-push}
-
-first-kept : FirstIsKept
-unfolding spelt_call
-first-kept = refl
-
-second-kept : SecondIsKept
-unfolding spelt_call
-second-kept = refl
 
 pub others-took : OthersTookTheSession
 others-took = record { first = first-kept; token = refl; results = refl; effects = refl }
