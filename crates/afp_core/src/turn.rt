@@ -3,6 +3,7 @@ ghost use Rattle.std.specs.Prelude.{◌≡◌, ◌≢◌, ◌↔◌, ◌-◌, Er
 ghost use Rattle.afp_serial.specs.World.{volume_at};
 ghost use Rattle.afp_serial.specs.Sound.{IsSound};
 ghost use Rattle.afp_core_state.specs.Holding.{AreHeld};
+ghost use Rattle.afp_core_state.specs.KeptWorld.{with_token_key};
 ghost use Rattle.record_keeper.specs.Records.{Records};
 ghost use Rattle.volume_keeper_records.specs.Image.{kept_image};
 ghost use Rattle.afp_core_keepers.specs.Loads.{IsCoreFault};
@@ -115,6 +116,13 @@ impl<K: Keeper> Core<K> {
             entries: self.entries,
             sessions: self.opened,
         }
+    }
+
+    /// The house that it serves, whose status block its server ends answer with. The key of its tokens is the one of the table of sessions.
+    pub fn house(&self) -> &House
+        ensures { with_token_key result.now self.now.world.house.token_key ≡ self.now.world.house }
+    {
+        &self.state.house
     }
 
     /// How many nodes the volume of an id has, its root among them. `None`: there is no such volume.
