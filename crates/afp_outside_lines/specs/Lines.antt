@@ -1,7 +1,7 @@
 -- The lines of a source (this profile).
-use Rattle.std.specs.Prelude.{◌≡◌, ℕ, ◌+◌, ◌≤◌, ◌<◌, ◌==◌, Bool, true, false, List, [], ◌∷◌, ◌++◌, length, All, option_map}
+use Rattle.std.specs.Prelude.{◌≡◌, ℕ, ◌+◌, ◌-◌, ◌≤◌, ◌<◌, ◌==◌, Bool, true, false, List, [], ◌∷◌, ◌++◌, length, All, option_map}
 use Rattle.afp_base.specs.Counts.{CountsOn}
-use Rattle.afp_outside.specs.Source.{SourceState}
+use Rattle.afp_outside.specs.Source.{SourceState, ReadWithin}
 use Rattle.afp_outside_lines.specs.declared.lines.NextLine.{NextLine}
 use Rattle.afp_outside_lines.specs.declared.lines.NextLine.TheVariants as nexts
 
@@ -32,19 +32,21 @@ pub record ReadsOn (old : Unread) (before : SourceState) (read : List ℕ) (new 
   pub ended : new.ended ≡ true → after.ended ≡ true
   pub faults : after.faults ≡ before.faults
 
--- This is the next line.
-pub record TakesLine (longest : ℕ) (old : Unread) (before : SourceState) (line : List ℕ) (new : Unread) (after : SourceState) : Type 0 where
+-- This is the next line. No read was made where as many bytes as `turns` had been taken.
+pub record TakesLine (longest turns : ℕ) (old : Unread) (before : SourceState) (line : List ℕ) (new : Unread) (after : SourceState) : Type 0 where
   pub read : List ℕ
   pub reads : ReadsOn old before read new after
   pub one_line : IsOneLine line
   pub is_next : IsNext longest (old.bytes ++ read) new.ended line new.bytes
+  pub within : ReadWithin (turns - old.taken) read before after
 
 -- No line is left, and the source ended.
-pub record TakesNone (old : Unread) (before : SourceState) (new : Unread) (after : SourceState) : Type 0 where
+pub record TakesNone (turns : ℕ) (old : Unread) (before : SourceState) (new : Unread) (after : SourceState) : Type 0 where
   pub reads : ReadsOn old before [] new after
   pub nothing : old.bytes ≡ []
   pub nothing_left : new.bytes ≡ []
   pub ended : new.ended ≡ true
+  pub within : ReadWithin (turns - old.taken) [] before after
 
 -- What stands there is no line yet, and is not longer than one may be.
 pub record TakesPart (longest : ℕ) (old : Unread) (before : SourceState) (new : Unread) (after : SourceState) : Type 0 where
@@ -67,17 +69,19 @@ pub record TakesFault (longest turns : ℕ) (old : Unread) (before : SourceState
 pub record TakesAll (longest turns : ℕ) (old : Unread) (before : SourceState) (new : Unread) (after : SourceState) : Type 0 where
   pub part : TakesPart longest old before new after
   pub reached : turns ≤ new.taken
+  pub within : ReadWithin (turns - old.taken) part.read before after
 
 -- There was no memory.
-pub record TakesSome (old : Unread) (before : SourceState) (after : SourceState) : Type 0 where
+pub record TakesSome (turns : ℕ) (old : Unread) (before : SourceState) (after : SourceState) : Type 0 where
   pub read : List ℕ
   pub given : after.given ≡ option_map (λ given. given ++ read) before.given
   pub faults : after.faults ≡ before.faults
+  pub within : ReadWithin (turns - old.taken) read before after
 
 -- by what is next
 abbrev pub Takes : ℕ → ℕ → Unread → SourceState → NextLine → Unread → SourceState → Type 0
-Takes longest turns old before (nexts.Line line) new after = TakesLine longest old before line new after
-Takes longest turns old before nexts.End new after = TakesNone old before new after
+Takes longest turns old before (nexts.Line line) new after = TakesLine longest turns old before line new after
+Takes longest turns old before nexts.End new after = TakesNone turns old before new after
 Takes longest turns old before nexts.ReadFault new after = TakesFault longest turns old before new after
 Takes longest turns old before nexts.Spent new after = TakesAll longest turns old before new after
-Takes longest turns old before nexts.Memory new after = TakesSome old before after
+Takes longest turns old before nexts.Memory new after = TakesSome turns old before after

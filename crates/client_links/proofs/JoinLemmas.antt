@@ -1,5 +1,5 @@
 -- From one link to the next.
-use Rattle.std.proofs.Common.{◌≡◌, ℕ, ◌+◌, Bool, List, [], ◌∷◌, ◌++◌, refl, ap, ◌∙◌, append-nil, append_assoc, arith}
+use Rattle.std.proofs.Common.{◌≡◌, ℕ, ◌+◌, ◌<◌, ◌≤◌, Bool, true, false, List, [], ◌∷◌, ◌++◌, refl, ap, ◌∙◌, append-nil, append_assoc, arith}
 use Rattle.std.specs.Prelude.{if◌then◌else◌}
 use Rattle.afp_outside.specs.Link.{LinkState}
 use Rattle.afp_client.specs.Run.{Result}
@@ -8,27 +8,32 @@ use Rattle.afp_client.specs.Takes.{broken}
 use Rattle.afp_outside.specs.Dialer.{DialerState, TakesBack}
 use Rattle.client_links.specs.History.{Happening, results_in}
 use Rattle.client_links.specs.OnLink.{Start, spot}
-use Rattle.client_links.specs.Links.{Part, Between, Over, SameOver, behind, dialled, links_of, asked_of, results_of}
+use Rattle.client_links.specs.Links.{Part, Between, Over, SameOver, behind, dialled, links_of, asked_of, limits_of, results_of}
 use Rattle.client_links.specs.lemma.Coming.{Same, BreaksLink, CameOn}
 use Rattle.client_links.specs.lemma.Rejoining.{LeavesLink}
 use Rattle.client_links.specs.declared.came.Came.{Came}
 
 pub same_over-same : {L : Type 0} (past : List (Part L)) (all : List Happening) → SameOver past all past all
-same_over-same past all = record { results = λ was. refl; asked = λ was. refl }
+same_over-same past all = record { results = λ was. refl; asked = λ was. refl; limits = λ was. refl }
 
 pub same_over-join : {L : Type 0} (past mid after : List (Part L)) (all some now : List Happening) → SameOver past all mid some → SameOver mid some after now → SameOver past all after now
-same_over-join past mid after all some now a b = record { results = λ was. b.results was ∙ a.results was; asked = λ was. b.asked was ∙ a.asked was }
+same_over-join past mid after all some now a b = record { results = λ was. b.results was ∙ a.results was; asked = λ was. b.asked was ∙ a.asked was; limits = λ was. b.limits was ∙ a.limits was }
 
 -- what happened on the newest link, one step further
 pub same_over-on : {L : Type 0} (past : List (Part L)) (all now : List Happening) → Same all now → SameOver past all past now
 same_over-on past all now s = record {
   results = λ was. ap (λ (rs : List Result). results_of was past ++ rs) (s.results (asked_of was past));
   asked = λ was. s.asked (asked_of was past);
+  limits = λ was. s.limits (limits_of was past);
 }
 
 -- the newest link broke
 same_over-broke : {L : Type 0} (past : List (Part L)) (p : Part L) → SameOver past p.all (p ∷ past) []
-same_over-broke past p = record { results = λ was. append-nil (results_of was past ++ results_in (asked_of was past) p.all); asked = λ was. refl }
+same_over-broke past p = record { results = λ was. append-nil (results_of was past ++ results_in (asked_of was past) p.all); asked = λ was. refl; limits = λ was. refl }
+
+in-a-row : (replied : Bool) (n : ℕ) → n < 8 → (if replied then 0 else (n + 1)) ≤ 8
+in-a-row true n h = omega arith
+in-a-row false n h = omega (arith, h)
 
 pub record Rejoining {L : Type 0} (state : L → LinkState) (first : Start) (old : DialerState L) (past : List (Part L)) (all : List Happening) (c : Client) (idle cost : ℕ) (after : DialerState L) : Type 0 where
   pub later : List (Part L)
@@ -46,11 +51,12 @@ breaks-over {L = L} state first old past all before c d out link after was repli
       later = p ∷ past;
       same = same_over-join past past (p ∷ past) all b.now [] (same_over-on past all b.now b.same) (same_over-broke past p);
       between = record {
-        at = behind p;
+        at = behind o.from p;
         past_is = (o.from, o.past_is, record { on = b.on; broke = b.broke; lacks = b.lacks }, refl);
         stands = breaks;
         spent = refl;
         in_a_row = counts ∙ ap (λ (n : ℕ). if replied then 0 else (n + 1)) o.in_a_row;
+        most = in-a-row replied o.from.idle o.on.below;
         hands = record {
           handed = omega (arith, gives.handed, o.hands.handed);
           back = gives.back ∙ ap (λ (ls : List L). ls ++ after ∷ []) o.hands.back ∙ append_assoc old.back (links_of past) (after ∷ []);

@@ -7,3 +7,5 @@ pub mod RoundLemmas
 pub mod JoinLemmas
 pub mod TalkLemmas
 pub mod LawLemmas
+pub mod LimitLemmas
+pub mod RejoinLemmas

@@ -1,5 +1,5 @@
 -- A link, one step further.
-use Rattle.std.proofs.Common.{◌≡◌, ℕ, ◌+◌, Bool, ◌||◌, List, [], ◌∷◌, ◌++◌, take, refl, sym, ap, subst, ◌∙◌, append_assoc, length-append, length-take, arith}
+use Rattle.std.proofs.Common.{◌≡◌, ℕ, ◌+◌, ◌<◌, Bool, ◌||◌, List, [], ◌∷◌, ◌++◌, take, refl, sym, ap, subst, ◌∙◌, append_assoc, length-append, length-take, arith}
 use Rattle.std.specs.Prelude.{Option, Some, None, IfSome, option_map}
 use Rattle.afp_outside.specs.Link.{Event, piece, quiet, LinkState, ReadsPiece, ReadsQuiet}
 use Rattle.afp_calls_grammar.specs.declared.call.Call.{Call}
@@ -9,8 +9,9 @@ use Rattle.afp_client.specs.State.{Client, ClientState, IsReady, call_frame, is_
 use Rattle.afp_client.specs.Takes.{asked, step, written}
 use Rattle.afp_client.specs.Happens.{TakesNext}
 use Rattle.afp_client.specs.declared.event.Event.{Event as ClientEvent}
-use Rattle.client_links.specs.History.{Happening, received, was_quiet, tickled, closes, asks, took, events_in, taken_in, to_write, is_reply, tickle_frame, close_session_frame, Leads}
-use Rattle.client_links.specs.OnLink.{Start, spot, OnLink}
+use Rattle.client_links.specs.History.{Happening, received, was_quiet, tickled, closes, limited, asks, took, allowed, cost_in, events_in, limits_in, taken_in, to_write, is_reply, tickle_frame, close_session_frame, Leads}
+use Rattle.client_links.specs.OnLink.{Affords, Start, spot, OnLink}
+use Rattle.client_links.specs.declared.talk.Limit.{Limit}
 use Rattle.client_links.specs.lemma.Sending.{Sends}
 
 -- what is told goes on with what happens
@@ -36,6 +37,10 @@ sent-more (Some w) out more all h = sym (append_assoc w out more) ∙ ap (λ (x 
 sent-same : (o n : Option (List ℕ)) (out all : List ℕ) → n ≡ o → IfSome o (λ w. w ++ out ≡ all) → IfSome n (λ w. w ++ out ≡ all)
 sent-same o n out all e h = subst (λ (x : Option (List ℕ)). IfSome x (λ w. w ++ out ≡ all)) (sym e) h
 
+-- less was spent than may be
+pub affords : (start : Start) (all : List Happening) (cost : ℕ) → cost ≡ start.spent + cost_in all → cost < allowed (limits_in start.limits all) → Affords start all
+affords start all cost is less = subst (λ (n : ℕ). n < allowed (limits_in start.limits all)) is less
+
 -- bytes were written
 pub on-sends : (start : Start) (all : List Happening) (c : Client) (out wrote rest : List ℕ) (link new : LinkState) (replied : Bool) (cost : ℕ)
     → OnLink start all (spot c out link replied cost) → out ≡ wrote ++ rest → Sends link wrote new → OnLink start all (spot c rest new replied cost)
@@ -49,6 +54,8 @@ on-sends start all c out wrote rest link new replied cost on cut s = record {
   sent = sent-part link.written new.written wrote rest out (to_write all) s.written cut on.sent;
   replied = on.replied;
   cost = on.cost;
+  below = on.below;
+  within = on.within;
 }
 
 -- a frame was taken
@@ -65,13 +72,15 @@ on-takes start all old new out out_after link replied now_replied cost event on 
   sent = subst (λ (x : List ℕ). IfSome link.written (λ w. w ++ x ≡ to_write all ++ written t.writes)) (sym t.sent) (sent-more link.written out (written t.writes) (to_write all) on.sent);
   replied = is ∙ ap (λ (b : Bool). is_reply (is_opened old.state.stage) event || b) on.replied;
   cost = on.cost;
+  below = on.below;
+  within = on.within;
 }
 
 -- bytes came
 pub on-receives : (start : Start) (all : List Happening) (old new : Client) (link after : LinkState) (room : List ℕ) (n : ℕ) (replied : Bool) (cost : ℕ)
-    → OnLink start all (spot old [] link replied cost) → ReadsPiece link room n after → new.state ≡ old.state → new.held.place ≡ old.held.place → new.held.rest ≡ old.held.rest ++ take n room
+    → cost < allowed (limits_in start.limits all) → OnLink start all (spot old [] link replied cost) → ReadsPiece link room n after → new.state ≡ old.state → new.held.place ≡ old.held.place → new.held.rest ≡ old.held.rest ++ take n room
     → OnLink start (received link.written after.now (take n room) ∷ all) (spot new [] after replied (cost + n))
-on-receives start all old new link after room n replied cost on r state place rest = record {
+on-receives start all old new link after room n replied cost less on r state place rest = record {
   leads = subst (λ (s : ClientState). Leads start.state all s) (sym state) on.leads;
   told = told-more link.events after.events (piece link.written after.now (take n room) ∷ []) (events_in all) r.events on.told;
   filled = on.filled;
@@ -81,13 +90,15 @@ on-receives start all old new link after room n replied cost on r state place re
   sent = sent-same link.written after.written [] (to_write all) r.written on.sent;
   replied = on.replied;
   cost = omega (arith, on.cost, length-take n room, r.most);
+  below = on.below;
+  within = (on.within, affords start all cost on.cost less);
 }
 
 -- a quiet came
 pub on-quiet : (start : Start) (all : List Happening) (c : Client) (link after : LinkState) (replied : Bool) (cost : ℕ)
-    → OnLink start all (spot c [] link replied cost) → ReadsQuiet link after
+    → cost < allowed (limits_in start.limits all) → OnLink start all (spot c [] link replied cost) → ReadsQuiet link after
     → OnLink start (was_quiet link.written after.now ∷ all) (spot c [] after replied (cost + 1))
-on-quiet start all c link after replied cost on r = record {
+on-quiet start all c link after replied cost less on r = record {
   leads = on.leads;
   told = told-more link.events after.events (quiet link.written after.now ∷ []) (events_in all) r.events on.told;
   filled = on.filled;
@@ -97,6 +108,8 @@ on-quiet start all c link after replied cost on r = record {
   sent = sent-same link.written after.written [] (to_write all) r.written on.sent;
   replied = on.replied;
   cost = omega (arith, on.cost);
+  below = on.below;
+  within = (on.within, affords start all cost on.cost less);
 }
 
 -- a Tickle is to be written
@@ -112,6 +125,8 @@ on-tickles start all c out out_after link replied cost on is = record {
   sent = subst (λ (x : List ℕ). IfSome link.written (λ w. w ++ x ≡ to_write all ++ canonical_frame tickle_frame)) (sym is) (sent-more link.written out (canonical_frame tickle_frame) (to_write all) on.sent);
   replied = on.replied;
   cost = on.cost;
+  below = on.below;
+  within = on.within;
 }
 
 -- CloseSession is to be written
@@ -127,6 +142,8 @@ on-closes start all c out out_after link replied cost on is = record {
   sent = subst (λ (x : List ℕ). IfSome link.written (λ w. w ++ x ≡ to_write all ++ canonical_frame close_session_frame)) (sym is) (sent-more link.written out (canonical_frame close_session_frame) (to_write all) on.sent);
   replied = on.replied;
   cost = on.cost;
+  below = on.below;
+  within = on.within;
 }
 
 -- a call is asked
@@ -145,4 +162,23 @@ on-asks start all old new call out out_after link replied cost on ready is sends
           (sent-more link.written out (canonical_frame (call_frame old.state.next_id call)) (to_write all) on.sent);
       replied = on.replied;
       cost = on.cost;
+      below = on.below;
+      within = on.within;
     }
+
+-- a limit is set
+pub on-limits : (start : Start) (all : List Happening) (c : Client) (out : List ℕ) (link : LinkState) (replied : Bool) (cost : ℕ) (l : Limit) → OnLink start all (spot c out link replied cost) → l.spent ≡ cost
+    → OnLink start (limited l ∷ all) (spot c out link replied cost)
+on-limits start all c out link replied cost l on is = record {
+  leads = on.leads;
+  told = on.told;
+  filled = on.filled;
+  spelled = on.spelled;
+  came = on.came;
+  place = on.place;
+  sent = on.sent;
+  replied = on.replied;
+  cost = on.cost;
+  below = on.below;
+  within = (on.within, is ∙ on.cost);
+}

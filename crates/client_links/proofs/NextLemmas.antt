@@ -29,7 +29,7 @@ stays-on start all old new out link after replied cost on s sends = record {
   now = all;
   on = on-sent start all new [] link after replied cost (subst (λ (c : Client). OnLink start all (spot c [] link replied cost)) (sym s.client) on)
       (subst (λ (x : List ℕ). Sends link x after) s.nothing_written sends);
-  same = record { results = λ was. refl; asked = λ was. refl };
+  same = record { results = λ was. refl; asked = λ was. refl; limits = λ was. refl };
 }
 
 took-on : (start : Start) (all : List Happening) (old new : Client) (out : List ℕ) (link after : LinkState) (replied now_replied : Bool) (cost : ℕ) (event : Event)
@@ -49,7 +49,7 @@ comes-on start all old new out link after replied now_replied cost event on t is
   step = step new.state t.writes event;
   on = took-on start all old new out link after replied now_replied cost event on t is sends;
   is = refl;
-  same = record { results = λ was. refl; asked = λ was. refl };
+  same = record { results = λ was. refl; asked = λ was. refl; limits = λ was. refl };
 }
 
 -- events that bring no result
@@ -58,17 +58,17 @@ IsQuietEvent (events.Told c block) = ⊥
 IsQuietEvent event = Unit {0}
 
 same-took : (all : List Happening) (s : ClientState) (f : Frame) (t : ClientState) (writes : Option Frame) (event : Event) → IsQuietEvent event → Same all (took s f (step t writes event) ∷ all)
-same-took all s f t writes events.NotYet q = record { results = λ was. refl; asked = λ was. refl }
-same-took all s f t writes (events.Bad at) q = record { results = λ was. refl; asked = λ was. refl }
-same-took all s f t writes events.Memory q = record { results = λ was. refl; asked = λ was. refl }
-same-took all s f t writes events.Step q = record { results = λ was. refl; asked = λ was. refl }
-same-took all s f t writes events.Ready q = record { results = λ was. refl; asked = λ was. refl }
+same-took all s f t writes events.NotYet q = record { results = λ was. refl; asked = λ was. refl; limits = λ was. refl }
+same-took all s f t writes (events.Bad at) q = record { results = λ was. refl; asked = λ was. refl; limits = λ was. refl }
+same-took all s f t writes events.Memory q = record { results = λ was. refl; asked = λ was. refl; limits = λ was. refl }
+same-took all s f t writes events.Step q = record { results = λ was. refl; asked = λ was. refl; limits = λ was. refl }
+same-took all s f t writes events.Ready q = record { results = λ was. refl; asked = λ was. refl; limits = λ was. refl }
 same-took all s f t writes (events.Told c block) q = absurd q
-same-took all s f t writes (events.Refused c) q = record { results = λ was. refl; asked = λ was. refl }
-same-took all s f t writes (events.Lost c) q = record { results = λ was. refl; asked = λ was. refl }
-same-took all s f t writes events.Tickle q = record { results = λ was. refl; asked = λ was. refl }
-same-took all s f t writes (events.Attention word) q = record { results = λ was. refl; asked = λ was. refl }
-same-took all s f t writes events.Closed q = record { results = λ was. refl; asked = λ was. refl }
+same-took all s f t writes (events.Refused c) q = record { results = λ was. refl; asked = λ was. refl; limits = λ was. refl }
+same-took all s f t writes (events.Lost c) q = record { results = λ was. refl; asked = λ was. refl; limits = λ was. refl }
+same-took all s f t writes events.Tickle q = record { results = λ was. refl; asked = λ was. refl; limits = λ was. refl }
+same-took all s f t writes (events.Attention word) q = record { results = λ was. refl; asked = λ was. refl; limits = λ was. refl }
+same-took all s f t writes events.Closed q = record { results = λ was. refl; asked = λ was. refl; limits = λ was. refl }
 
 goes-on : (start : Start) (all : List Happening) (old new : Client) (out : List ℕ) (link after : LinkState) (replied now_replied : Bool) (cost : ℕ) (event : Event) → IsQuietEvent event
     → OnLink start all (spot old [] link replied cost) → (t : TakesNext old [] event new out) → now_replied ≡ (is_reply (is_opened old.state.stage) event || replied) → Sends link out after
@@ -107,7 +107,7 @@ next-on start turns all old new out link after replied now_replied cost opening 
     step = step new.state h.writes (events.Told c block);
     on = took-on start all old new out link after replied now_replied cost (events.Told c block) on h is sends;
     is = refl;
-    same = record { results = λ was. refl; asked = λ was. refl };
+    same = record { results = λ was. refl; asked = λ was. refl; limits = λ was. refl };
   };
   stands = record { filled = on.filled; spelled = on.spelled; place = place ∙ on.place };
 }

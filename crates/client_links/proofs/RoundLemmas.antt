@@ -1,25 +1,29 @@
 -- A round on a link.
-use Rattle.std.proofs.Common.{◌≡◌, ℕ, ◌+◌, ◌≤◌, Bool, List, [], ◌∷◌, ◌++◌, take, Option, Some, None, refl, sym, subst, ◌∙◌, arith}
+use Rattle.std.proofs.Common.{◌≡◌, ℕ, ◌+◌, ◌<◌, ◌≤◌, Bool, List, [], ◌∷◌, ◌++◌, take, Option, Some, None, refl, sym, ap, subst, ◌∙◌, arith}
 use Rattle.std.specs.Prelude.{IfSome}
 use Rattle.afp_outside.specs.Link.{Event, LinkState, ReadsQuiet, ReadsEnd, FailsToRead}
 use Rattle.dsi_frame.specs.Frame.{canonical_frame}
 use Rattle.dsi_session.specs.Pulse.{silence_limit, seconds_between}
 use Rattle.afp_client.specs.State.{Client}
-use Rattle.client_links.specs.History.{Happening, received, was_quiet, tickled, tickle_frame, events_in, to_write}
+use Rattle.client_links.specs.History.{Happening, received, was_quiet, tickled, tickle_frame, allowed, events_in, limits_in, to_write}
 use Rattle.client_links.specs.OnLink.{Start, spot, OnLink, Broke, ended, failed_read, failed_write, silent}
 use Rattle.client_links.specs.lemma.Reading.{Holds}
 use Rattle.client_links.specs.lemma.Sending.{Sends, SendsPart}
 use Rattle.client_links.specs.lemma.Coming.{Same, GoesOn, BreaksLink, CameOn, RoundOn}
 use Rattle.client_links.specs.declared.came.Came.{Came}
 use Rattle.client_links.specs.declared.came.Came.TheVariants as comes
-use Rattle.client_links.proofs.LinkLemmas.{on-sends, on-receives, on-quiet, on-tickles}
+use Rattle.client_links.proofs.LinkLemmas.{affords, on-sends, on-receives, on-quiet, on-tickles}
 use Rattle.client_links.proofs.NextLemmas.{on-sent}
 
 pub same-same : (all : List Happening) → Same all all
-same-same all = record { results = λ was. refl; asked = λ was. refl }
+same-same all = record { results = λ was. refl; asked = λ was. refl; limits = λ was. refl }
 
 pub same-then : (all mid now : List Happening) → Same all mid → Same mid now → Same all now
-same-then all mid now a b = record { results = λ was. b.results was ∙ a.results was; asked = λ was. b.asked was ∙ a.asked was }
+same-then all mid now a b = record { results = λ was. b.results was ∙ a.results was; asked = λ was. b.asked was ∙ a.asked was; limits = λ was. b.limits was ∙ a.limits was }
+
+-- less is spent than may be, where no limit was set since
+pub afford-still : (start : Start) (turns cost : ℕ) (all mid now : List Happening) → turns ≡ allowed (limits_in start.limits all) → Same all mid → Same mid now → cost < turns → cost < allowed (limits_in start.limits now)
+afford-still start turns cost all mid now is a b less = subst (λ (n : ℕ). cost < n) (is ∙ ap allowed (sym (b.limits start.limits ∙ a.limits start.limits))) less
 
 pub goes-here : (start : Start) (all : List Happening) (c : Client) (link : LinkState) (replied : Bool) (cost : ℕ) → OnLink start all (spot c [] link replied cost) → GoesOn start all c link replied cost
 goes-here start all c link replied cost on = record { now = all; on = on; same = same-same all }
@@ -53,7 +57,7 @@ pub came-then : (start : Start) (turns : ℕ) (all : List Happening) (came : Cam
 came-then start turns all came c d link after replied then_replied cost then_cost h f = came-after start turns all h.now came d after then_replied then_cost h.same (f h.on)
 
 -- a link broke where nothing was to be written
-breaks-here : (start : Start) (all : List Happening) (c : Client) (link : LinkState) (replied : Bool) (cost : ℕ) → OnLink start all (spot c [] link replied cost) → Broke all link → BreaksLink start all c link replied cost
+breaks-here : (start : Start) (all : List Happening) (c : Client) (link : LinkState) (replied : Bool) (cost : ℕ) → OnLink start all (spot c [] link replied cost) → Broke start all link → BreaksLink start all c link replied cost
 breaks-here start all c link replied cost on broke = record { now = all; lost = []; on = on; same = same-same all; broke = broke; lacks = λ some. omega (arith, some) }
 
 pub silent-breaks : (start : Start) (all : List Happening) (c : Client) (link : LinkState) (replied : Bool) (cost : ℕ) → OnLink start all (spot c [] link replied cost)
@@ -66,7 +70,7 @@ pub tickles : (start : Start) (all : List Happening) (c : Client) (out : List �
 tickles start all c out link after replied cost on is s = record {
   now = tickled ∷ all;
   on = on-sent start (tickled ∷ all) c out link after replied cost (on-tickles start all c [] out link replied cost on is) s;
-  same = record { results = λ was. refl; asked = λ was. refl };
+  same = record { results = λ was. refl; asked = λ was. refl; limits = λ was. refl };
 }
 
 pub tickle-unsent : (start : Start) (all : List Happening) (c : Client) (out : List ℕ) (link after : LinkState) (replied : Bool) (cost : ℕ) → OnLink start all (spot c [] link replied cost)
@@ -75,27 +79,27 @@ tickle-unsent start all c out link after replied cost on is s = record {
   now = tickled ∷ all;
   lost = s.lost;
   on = on-sends start (tickled ∷ all) c out s.part s.lost link after replied cost (on-tickles start all c [] out link replied cost on is) s.cut s.sends;
-  same = record { results = λ was. refl; asked = λ was. refl };
+  same = record { results = λ was. refl; asked = λ was. refl; limits = λ was. refl };
   broke = failed_write s.fault;
   lacks = λ some. s.fault;
 }
 
 -- what a read gave
-pub round-receives : (start : Start) (all : List Happening) (old new : Client) (link after : LinkState) (n : ℕ) (replied : Bool) (cost : ℕ) → OnLink start all (spot old [] link replied cost)
+pub round-receives : (start : Start) (all : List Happening) (old new : Client) (link after : LinkState) (n : ℕ) (replied : Bool) (cost : ℕ) → cost < allowed (limits_in start.limits all) → OnLink start all (spot old [] link replied cost)
     → Holds old link n new after → GoesOn start all new after replied (cost + n)
-round-receives start all old new link after n replied cost on h = record {
+round-receives start all old new link after n replied cost less on h = record {
   now = received link.written after.now (take n h.room) ∷ all;
-  on = on-receives start all old new link after h.room n replied cost on h.reads h.state h.place h.rest;
-  same = record { results = λ was. refl; asked = λ was. refl };
+  on = on-receives start all old new link after h.room n replied cost less on h.reads h.state h.place h.rest;
+  same = record { results = λ was. refl; asked = λ was. refl; limits = λ was. refl };
 }
 
 pub round-quiet : (start : Start) (turns : ℕ) (all : List Happening) (old new : Client) (link mid after : LinkState) (replied : Bool) (cost then_cost : ℕ) (came : Option Came)
-    → OnLink start all (spot old [] link replied cost) → ReadsQuiet link mid → new ≡ old → then_cost ≡ cost + 1
+    → cost < allowed (limits_in start.limits all) → OnLink start all (spot old [] link replied cost) → ReadsQuiet link mid → new ≡ old → then_cost ≡ cost + 1
     → ((all : List Happening) → OnLink start all (spot new [] mid replied then_cost) → RoundOn start turns all came new after replied then_cost)
     → RoundOn start turns all came new after replied then_cost
-round-quiet start turns all old new link mid after replied cost then_cost came on r same is f =
-    let moved : OnLink start (was_quiet link.written mid.now ∷ all) (spot old [] mid replied (cost + 1)) = on-quiet start all old link mid replied cost on r in
-    round-after start turns all (was_quiet link.written mid.now ∷ all) came new after replied then_cost (record { results = λ was. refl; asked = λ was. refl })
+round-quiet start turns all old new link mid after replied cost then_cost came less on r same is f =
+    let moved : OnLink start (was_quiet link.written mid.now ∷ all) (spot old [] mid replied (cost + 1)) = on-quiet start all old link mid replied cost less on r in
+    round-after start turns all (was_quiet link.written mid.now ∷ all) came new after replied then_cost (record { results = λ was. refl; asked = λ was. refl; limits = λ was. refl })
     (f (was_quiet link.written mid.now ∷ all)
     (subst (λ (c : Client). OnLink start (was_quiet link.written mid.now ∷ all) (spot c [] mid replied then_cost)) (sym same)
     (subst (λ (n : ℕ). OnLink start (was_quiet link.written mid.now ∷ all) (spot old [] mid replied n)) (sym is) moved)))
@@ -113,17 +117,19 @@ on-read start all c d link after replied cost on events written same =
       sent = subst (λ (o : Option (List ℕ)). IfSome o (λ w. w ++ [] ≡ to_write all)) (sym written) on.sent;
       replied = on.replied;
       cost = on.cost;
+      below = on.below;
+      within = on.within;
     }
 
-pub round-ends : (start : Start) (all : List Happening) (old new : Client) (link after : LinkState) (replied : Bool) (cost : ℕ) → OnLink start all (spot old [] link replied cost)
+pub round-ends : (start : Start) (all : List Happening) (old new : Client) (link after : LinkState) (replied : Bool) (cost : ℕ) → cost < allowed (limits_in start.limits all) → OnLink start all (spot old [] link replied cost)
     → ReadsEnd link after → new ≡ old → BreaksLink start all new after replied cost
-round-ends start all old new link after replied cost on r same =
-    breaks-here start all new after replied cost (on-read start all old new link after replied cost on r.events r.written same) (ended r.ended)
+round-ends start all old new link after replied cost less on r same =
+    breaks-here start all new after replied cost (on-read start all old new link after replied cost on r.events r.written same) (ended r.ended (affords start all cost on.cost less))
 
-pub round-fails : (start : Start) (all : List Happening) (old new : Client) (link after : LinkState) (replied : Bool) (cost : ℕ) → OnLink start all (spot old [] link replied cost)
+pub round-fails : (start : Start) (all : List Happening) (old new : Client) (link after : LinkState) (replied : Bool) (cost : ℕ) → cost < allowed (limits_in start.limits all) → OnLink start all (spot old [] link replied cost)
     → FailsToRead link after → new ≡ old → BreaksLink start all new after replied cost
-round-fails start all old new link after replied cost on r same =
-    breaks-here start all new after replied cost (on-read start all old new link after replied cost on r.events r.written same) (failed_read (omega (arith, r.read_faults.1)))
+round-fails start all old new link after replied cost less on r same =
+    breaks-here start all new after replied cost (on-read start all old new link after replied cost on r.events r.written same) (failed_read (omega (arith, r.read_faults.1)) (affords start all cost on.cost less))
 
 -- what was to be written was not written whole
 pub unsent : (start : Start) (all : List Happening) (c : Client) (out : List ℕ) (link after : LinkState) (replied : Bool) (cost : ℕ) → OnLink start all (spot c out link replied cost)

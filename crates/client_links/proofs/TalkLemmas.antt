@@ -12,7 +12,8 @@ use Rattle.afp_client.specs.declared.event.Event.TheVariants as events
 use Rattle.afp_outside.specs.Dialer.{DialerState, TakesBack}
 use Rattle.client_links.specs.History.{Happening, asks, closes, close_session_frame, took, asked_in, results_in, asked_by, result_by, told_to}
 use Rattle.client_links.specs.OnLink.{Start, spot, OnLink}
-use Rattle.client_links.specs.Links.{Part, Over, Hands, dialled, links_of, asked_of, results_of, all_asked, all_results}
+use Rattle.client_links.specs.Links.{Part, Over, Hands, dialled, links_of, asked_of, limits_of, results_of, all_asked, all_limits, all_results}
+use Rattle.client_links.specs.declared.talk.Limit.{Limit}
 use Rattle.client_links.specs.lemma.Coming.{ComesBy, ComesTold, CameOn}
 use Rattle.client_links.specs.lemma.Rejoining.{HasNone, LeavesLink, LeavesNone}
 use Rattle.client_links.specs.Talk.{AsksTalk, TalkAt, Connects, OpensLeft, TellsCall, TellsLeft, EndsOnLink, EndsTalk, Answers, ClosesLink, LeavesOpen, end_of}
@@ -35,9 +36,10 @@ result-told was call c block event before waits is =
 pub tells-call : {L : Type 0} (state : L → LinkState) (turns : ℕ) (first : Start) (old : DialerState L) (past : List (Part L)) (all asked_all : List Happening) (call : Call) (link : L) (at : ℕ) (c : Code) (block : List ℕ)
     (client : Client) (replied : Bool) (idle cost : ℕ) (new : DialerState L)
     → ((was : Option Call) → all_results was past asked_all ≡ all_results was past all) → ((was : Option Call) → all_asked was past asked_all ≡ Some call)
+    → ((was : List Limit) → all_limits was past asked_all ≡ all_limits was past all)
     → LeavesLink state turns first old past asked_all link (comes.Told at c block) client replied idle cost new
     → TellsCall state first old past all call at c block (spot client [] (state link) replied cost) idle new
-tells-call {L = L} state turns first old past all asked_all call link at c block client replied idle cost new stay waits l =
+tells-call {L = L} state turns first old past all asked_all call link at c block client replied idle cost new stay waits unlimited l =
     let told : ComesTold (dialled l.from) l.now at (events.Told c block) client (state link) replied cost = l.comes in
     let b : ComesBy (dialled l.from) l.now (events.Told c block) client (state link) replied cost = told.by in record {
       later = l.later;
@@ -50,6 +52,7 @@ tells-call {L = L} state turns first old past all asked_all call link at c block
           ∙ sym (append_assoc (results_of was l.later) (results_in w b.before) (record { call = call; code = c; block = block } ∷ []))
           ∙ ap (λ (rs : List CallResult). rs ++ record { call = call; code = c; block = block } ∷ [])
           (ap (λ (rs : List CallResult). results_of was l.later ++ rs) (b.same.results w) ∙ l.same.results was ∙ stay was);
+      limits = λ was. b.same.limits (limits_of was l.later) ∙ l.same.limits was ∙ unlimited was;
       before = b.before;
       behind = (b.mid, b.frame, b.step, refl);
       stands = told.stands;
@@ -101,7 +104,7 @@ ends-unasked {L = L} state turns first old past all link client replied idle cos
   link = link;
   replied = replied;
   cost = cost;
-  comes_so = record { now = all; on = o.on; same = record { results = λ was. refl; asked = λ was. refl } };
+  comes_so = record { now = all; on = o.on; same = record { results = λ was. refl; asked = λ was. refl; limits = λ was. refl } };
   why = refl;
   hands = record {
     handed = gives.handed ∙ o.hands.handed;
@@ -117,7 +120,7 @@ pub answers-left : {L : Type 0} (state : L → LinkState) (turns : ℕ) (first :
     → Answers state turns first old past all s call result client replied idle cost new
 answers-left {L = L} state turns first old past all s call link came (Ok told) client replied idle cost mid new l t =
     let l' = subst (λ (x : Came). LeavesLink state turns first old past (asks s call ∷ all) link x client replied idle cost mid) t.1 l in
-    let tells = tells-call state turns first old past all (asks s call ∷ all) call link told.at told.code told.block client replied idle cost mid (λ was. refl) (λ was. refl) l' in
+    let tells = tells-call state turns first old past all (asks s call ∷ all) call link told.at told.code told.block client replied idle cost mid (λ was. refl) (λ was. refl) (λ was. refl) l' in
     subst (λ (x : DialerState L). TellsCall state first old past all call told.at told.code told.block (spot client [] (state told.link) replied cost) idle x) (sym t.2)
     (subst (λ (x : L). TellsCall state first old past all call told.at told.code told.block (spot client [] (state x) replied cost) idle mid) (sym t.0) tells)
 answers-left state turns first old past all s call link came (Err end) client replied idle cost mid new l t =
@@ -151,6 +154,7 @@ opens-left {L = L} state turns first old past link came (Ok same) client replied
       same = record {
         results = λ was. ap (λ (rs : List CallResult). results_of was l.later ++ rs) (ap (λ (e : Event). result_by (asked_in (asked_of was l.later) b.before) e (results_in (asked_of was l.later) b.before)) b.is ∙ b.same.results (asked_of was l.later)) ∙ l.same.results was;
         asked = λ was. ap (λ (e : Event). asked_by (asked_in (asked_of was l.later) b.before) e) b.is ∙ b.same.asked (asked_of was l.later) ∙ l.same.asked was;
+        limits = λ was. b.same.limits (limits_of was l.later) ∙ l.same.limits was;
       };
       over = subst (λ (x : DialerState L). Over state first old l.later (took b.mid b.frame b.step ∷ b.before) (spot client [] (state same) replied cost) idle x) (sym t.2)
           (subst (λ (x : L). Over state first old l.later (took b.mid b.frame b.step ∷ b.before) (spot client [] (state x) replied cost) idle mid) (sym t.0) over);

@@ -13,6 +13,7 @@ use Rattle.afp_client.specs.Takes as S
 use Rattle.afp_client.specs.Run.{Result}
 use Rattle.afp_client.specs.declared.event.Event.{Event as ClientEvent}
 use Rattle.afp_client.specs.declared.event.Event.TheVariants as events
+use Rattle.client_links.specs.declared.talk.Limit.{Limit}
 
 -- Frames of the client's own that draw no id (AFP over TCP, "DSITickle" and "DSICloseSession").
 abbrev pub tickle_frame : Frame
@@ -21,13 +22,14 @@ tickle_frame = record { reply = false; command = commands.Tickle; id = 0; word =
 abbrev pub close_session_frame : Frame
 close_session_frame = record { reply = false; command = commands.CloseSession; id = 0; word = 0; payload = [] }
 
--- A read gave bytes; a quiet came; a Tickle was written; CloseSession was written; the client, in this state, asked a call; or, in this state, it took a frame by this
--- step. Of a read first what had been written before it, where the link tells that, and its moment.
+-- A read gave bytes; a quiet came; a Tickle was written; CloseSession was written; a limit was set to what may be spent; the client, in this
+-- state, asked a call; or, in this state, it took a frame by this step. Of a read first what had been written before it, where the link tells that, and its moment.
 pub data Happening : Type 0 where
   received : Option (List ℕ) → ℕ → List ℕ → Happening
   was_quiet : Option (List ℕ) → ℕ → Happening
   tickled : Happening
   closes : Happening
+  limited : Limit → Happening
   asks : ClientState → Call → Happening
   took : ClientState → Frame → S.Step → Happening
 
@@ -38,6 +40,7 @@ events_in (received before now bytes ∷ all) = events_in all ++ piece before no
 events_in (was_quiet before now ∷ all) = events_in all ++ quiet before now ∷ []
 events_in (tickled ∷ all) = events_in all
 events_in (closes ∷ all) = events_in all
+events_in (limited l ∷ all) = events_in all
 events_in (asks s call ∷ all) = events_in all
 events_in (took s f st ∷ all) = events_in all
 
@@ -48,6 +51,7 @@ came_in (received before now bytes ∷ all) = came_in all ++ bytes
 came_in (was_quiet before now ∷ all) = came_in all
 came_in (tickled ∷ all) = came_in all
 came_in (closes ∷ all) = came_in all
+came_in (limited l ∷ all) = came_in all
 came_in (asks s call ∷ all) = came_in all
 came_in (took s f st ∷ all) = came_in all
 
@@ -58,6 +62,7 @@ taken_in (received before now bytes ∷ all) = taken_in all
 taken_in (was_quiet before now ∷ all) = taken_in all
 taken_in (tickled ∷ all) = taken_in all
 taken_in (closes ∷ all) = taken_in all
+taken_in (limited l ∷ all) = taken_in all
 taken_in (asks s call ∷ all) = taken_in all
 taken_in (took s f st ∷ all) = taken_in all ++ f ∷ []
 
@@ -68,6 +73,7 @@ to_write (received before now bytes ∷ all) = to_write all
 to_write (was_quiet before now ∷ all) = to_write all
 to_write (tickled ∷ all) = to_write all ++ canonical_frame tickle_frame
 to_write (closes ∷ all) = to_write all ++ canonical_frame close_session_frame
+to_write (limited l ∷ all) = to_write all
 to_write (asks s call ∷ all) = to_write all ++ canonical_frame (call_frame s.next_id call)
 to_write (took s f st ∷ all) = to_write all ++ written st.writes
 
@@ -78,8 +84,28 @@ cost_in (received before now bytes ∷ all) = cost_in all + length bytes
 cost_in (was_quiet before now ∷ all) = cost_in all + 1
 cost_in (tickled ∷ all) = cost_in all
 cost_in (closes ∷ all) = cost_in all
+cost_in (limited l ∷ all) = cost_in all
 cost_in (asks s call ∷ all) = cost_in all
 cost_in (took s f st ∷ all) = cost_in all
+
+-- the limits that were set, the oldest first, with those before
+abbrev pub limits_in : List Limit → List Happening → List Limit
+limits_in was [] = was
+limits_in was (received before now bytes ∷ all) = limits_in was all
+limits_in was (was_quiet before now ∷ all) = limits_in was all
+limits_in was (tickled ∷ all) = limits_in was all
+limits_in was (closes ∷ all) = limits_in was all
+limits_in was (limited l ∷ all) = limits_in was all ++ l ∷ []
+limits_in was (asks s call ∷ all) = limits_in was all
+limits_in was (took s f st ∷ all) = limits_in was all
+
+-- how much may be spent in all, by the last limit
+abbrev pub allowed_by : ℕ → List Limit → ℕ
+allowed_by most [] = most
+allowed_by most (l ∷ limits) = allowed_by l.turns limits
+
+abbrev pub allowed : List Limit → ℕ
+allowed limits = allowed_by 0 limits
 
 -- the step is the reply to a command: its result, or one that is asked again since there was no memory
 abbrev pub is_reply : Bool → ClientEvent → Bool
@@ -94,6 +120,7 @@ replied_in (received before now bytes ∷ all) = replied_in all
 replied_in (was_quiet before now ∷ all) = replied_in all
 replied_in (tickled ∷ all) = replied_in all
 replied_in (closes ∷ all) = replied_in all
+replied_in (limited l ∷ all) = replied_in all
 replied_in (asks s call ∷ all) = replied_in all
 replied_in (took s f st ∷ all) = is_reply (is_opened s.stage) st.event || replied_in all
 
@@ -119,6 +146,7 @@ asked_in was (received before now bytes ∷ all) = asked_in was all
 asked_in was (was_quiet before now ∷ all) = asked_in was all
 asked_in was (tickled ∷ all) = asked_in was all
 asked_in was (closes ∷ all) = asked_in was all
+asked_in was (limited l ∷ all) = asked_in was all
 asked_in was (asks s call ∷ all) = Some call
 asked_in was (took s f st ∷ all) = asked_by (asked_in was all) st.event
 
@@ -129,6 +157,7 @@ results_in was (received before now bytes ∷ all) = results_in was all
 results_in was (was_quiet before now ∷ all) = results_in was all
 results_in was (tickled ∷ all) = results_in was all
 results_in was (closes ∷ all) = results_in was all
+results_in was (limited l ∷ all) = results_in was all
 results_in was (asks s call ∷ all) = results_in was all
 results_in was (took s f st ∷ all) = result_by (asked_in was all) st.event (results_in was all)
 
@@ -139,5 +168,6 @@ Leads s (received before now bytes ∷ all) t = Leads s all t
 Leads s (was_quiet before now ∷ all) t = Leads s all t
 Leads s (tickled ∷ all) t = Leads s all t
 Leads s (closes ∷ all) t = Leads s all t
+Leads s (limited l ∷ all) t = Leads s all t
 Leads s (asks mid call ∷ all) t = Leads s all mid × IsReady mid × (t ≡ asked mid call)
 Leads s (took mid f st ∷ all) t = Leads s all mid × (is_lost mid.stage ≡ false) × (found : Option Code) × IsCodeIn f.word found × (S.takes mid found f ≡ Some st) × (t ≡ st.state)

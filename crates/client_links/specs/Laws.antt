@@ -8,7 +8,7 @@ use Rattle.dsi_session.specs.RequestIds.{first_request_id}
 use Rattle.afp_client.specs.Opening.{open_session_frame}
 use Rattle.afp_client.specs.State.{ClientState, call_frame}
 use Rattle.afp_client.specs.Run as R
-use Rattle.client_links.specs.History.{Happening, received, was_quiet, tickled, closes, asks, took, events_in, came_in, to_write, tickle_frame, close_session_frame, Leads}
+use Rattle.client_links.specs.History.{Happening, received, was_quiet, tickled, closes, limited, asks, took, events_in, came_in, to_write, tickle_frame, close_session_frame, Leads}
 
 -- the steps of the client on the link, the oldest first
 abbrev pub actions_in : List Happening → List R.Action
@@ -17,6 +17,7 @@ actions_in (received before now bytes ∷ all) = actions_in all
 actions_in (was_quiet before now ∷ all) = actions_in all
 actions_in (tickled ∷ all) = actions_in all
 actions_in (closes ∷ all) = actions_in all
+actions_in (limited l ∷ all) = actions_in all
 actions_in (asks s call ∷ all) = actions_in all ++ R.asks call ∷ []
 actions_in (took s f st ∷ all) = actions_in all ++ R.takes_frame f st ∷ []
 
@@ -27,6 +28,7 @@ frames_in (received before now bytes ∷ all) = frames_in all
 frames_in (was_quiet before now ∷ all) = frames_in all
 frames_in (tickled ∷ all) = frames_in all
 frames_in (closes ∷ all) = frames_in all
+frames_in (limited l ∷ all) = frames_in all
 frames_in (asks s call ∷ all) = frames_in all ++ call_frame s.next_id call ∷ []
 frames_in (took s f st ∷ all) = frames_in all ++ listed st.writes
 
@@ -37,6 +39,7 @@ all_frames_in (received before now bytes ∷ all) = all_frames_in all
 all_frames_in (was_quiet before now ∷ all) = all_frames_in all
 all_frames_in (tickled ∷ all) = all_frames_in all ++ tickle_frame ∷ []
 all_frames_in (closes ∷ all) = all_frames_in all ++ close_session_frame ∷ []
+all_frames_in (limited l ∷ all) = all_frames_in all
 all_frames_in (asks s call ∷ all) = all_frames_in all ++ call_frame s.next_id call ∷ []
 all_frames_in (took s f st ∷ all) = all_frames_in all ++ listed st.writes
 

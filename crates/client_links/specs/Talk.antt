@@ -10,7 +10,8 @@ use Rattle.afp_client.specs.State.{Client, ClientState}
 use Rattle.afp_outside.specs.Dialer.{DialerState, TakesBack}
 use Rattle.client_links.specs.History.{Happening, asks, closes, took}
 use Rattle.client_links.specs.OnLink.{Start, Spot, spot, OnLink}
-use Rattle.client_links.specs.Links.{Part, Past, Hands, Between, Over, SameOver, dialled, links_of, all_results}
+use Rattle.client_links.specs.Links.{Part, Past, Hands, Between, Over, SameOver, dialled, links_of, all_limits, all_results}
+use Rattle.client_links.specs.declared.talk.Limit.{Limit}
 use Rattle.client_links.specs.lemma.Coming.{CameOn, StandsAt}
 use Rattle.client_links.specs.lemma.Rejoining.{LeavesNone}
 use Rattle.client_links.specs.declared.came.Came.{Came}
@@ -62,6 +63,7 @@ pub record TellsCall {L : Type 0} (state : L → LinkState) (first : Start) (old
   pub now : List Happening
   pub over : Over state first old later now here idle new
   pub results : (was : Option Call) → all_results was later now ≡ all_results was past all ++ record { call = call; code = c; block = block } ∷ []
+  pub limits : (was : List Limit) → all_limits was later now ≡ all_limits was past all
   pub before : List Happening
   pub behind : IsBehind before now
   pub stands : StandsAt before at

@@ -11,4 +11,4 @@ mod talk;
 pub use came::{Came, Next};
 pub use laws::histories_are_steps;
 pub use links::TalkEnd;
-pub use talk::{Talk, Told};
+pub use talk::{Limit, Talk, Told};

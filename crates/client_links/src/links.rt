@@ -6,9 +6,9 @@ ghost use Rattle.afp_calls_grammar.specs.Call.{IsSpellable, canonical_call, cano
 ghost use Rattle.afp_client.specs.State.{Client, IsReady, is_lost, is_opened, is_of_opening};
 ghost use Rattle.afp_client.specs.Takes.{begun, broken};
 ghost use Rattle.afp_outside.specs.Dialer.{DialerState, TakesBack};
-ghost use Rattle.client_links.specs.History.{Happening};
+ghost use Rattle.client_links.specs.History.{Happening, allowed};
 ghost use Rattle.client_links.specs.OnLink.{Start, OnLink, spot};
-ghost use Rattle.client_links.specs.Links.{Part, Between, Over};
+ghost use Rattle.client_links.specs.Links.{Part, Between, Over, all_limits, limits_of};
 ghost use Rattle.client_links.specs.lemma.Coming.{CameOn, BreaksLink, OpensOn};
 ghost use Rattle.client_links.specs.lemma.Rejoining.{Dialled, Rejoins, Leaves};
 ghost use Rattle.client_links.specs.Talk.{end_of, Answers, Connects, OpensLeft, TellsLeft, ClosesTalk, LeavesOpen};
@@ -108,7 +108,7 @@ fn rejoin<D: Dialer>(
     ensures below { OnOk result (idle < 8) }
     ensures grows { OnOk result ((cost.new ≡ cost.old + 1) × (cost.old < turns)) }
     ensures begins { OnOk result (core.new.state ≡ begun core.old.state) }
-    ensures rejoins { (first : Start) (old : DialerState D.Link) (past : List (Part D.Link)) → Between D.Link.link_state first old past core.old idle cost.old (D.dialer_state dialer.old)
+    ensures rejoins { (first : Start) (old : DialerState D.Link) (past : List (Part D.Link)) → turns ≡ allowed (limits_of first.limits past) → Between D.Link.link_state first old past core.old idle cost.old (D.dialer_state dialer.old)
         → Rejoins D.Link.link_state turns first old past result core.new out.new idle cost.new (D.dialer_state dialer.new) }
 {
     match dial_next(dialer, idle, turns, cost) {
@@ -161,7 +161,7 @@ fn await_links<D: Dialer>(
     ensures ready { IfOk result (λ left. (at : ℕ) (c : Code) (block : List ℕ) → left.came ≡ Came.Told at c block → IsReady core.new.state) }
     ensures fits { OnOk result (core.new.held.place + length core.new.held.rest ≤ cost.new) }
     ensures opens { opening ≡ true → IfOk result (λ left. OpensOn core.old.state left.came core.new.state) }
-    ensures leaves { (first : Start) (old : DialerState D.Link) (past : List (Part D.Link)) (all : List Happening)
+    ensures leaves { (first : Start) (old : DialerState D.Link) (past : List (Part D.Link)) (all : List Happening) → turns ≡ allowed (all_limits first.limits past all)
         → Over D.Link.link_state first old past all (spot core.old out.old (D.Link.link_state link) replied.old cost.old) idle.old (D.dialer_state dialer.old)
         → Leaves D.Link.link_state turns first old past all result core.new replied.new idle.new cost.new (D.dialer_state dialer.new) }
 {
@@ -262,7 +262,7 @@ pub(crate) fn ask_over<D: Dialer>(
     ensures below { OnOk result (idle.new < 8) }
     ensures fits { OnOk result (core.new.held.place + length core.new.held.rest ≤ cost.new) }
     ensures ready { OnOk result (IsReady core.new.state) }
-    ensures answers { (first : Start) (old : DialerState D.Link) (past : List (Part D.Link)) (all : List Happening)
+    ensures answers { (first : Start) (old : DialerState D.Link) (past : List (Part D.Link)) (all : List Happening) → turns ≡ allowed (all_limits first.limits past all)
         → Over D.Link.link_state first old past all (spot core.old [] (D.Link.link_state link) replied.old cost.old) idle.old (D.dialer_state dialer.old)
         → Answers D.Link.link_state turns first old past all core.old.state call.now result core.new replied.new idle.new cost.new (D.dialer_state dialer.new) }
 {
@@ -314,7 +314,7 @@ pub(crate) fn connect<D: Dialer>(
     ensures below { OnOk result (idle.new < 8) }
     ensures fits { OnOk result (core.new.held.place + length core.new.held.rest ≤ cost.new) }
     ensures ready { OnOk result (core.old.state.waiting ≡ None → IsReady core.new.state) }
-    ensures connects { (first : Start) (old : DialerState D.Link) (past : List (Part D.Link))
+    ensures connects { (first : Start) (old : DialerState D.Link) (past : List (Part D.Link)) → turns ≡ allowed (limits_of first.limits past)
         → Between D.Link.link_state first old past core.old idle.old cost.old (D.dialer_state dialer.old)
         → Connects D.Link.link_state turns first old past result core.new replied.new idle.new cost.new (D.dialer_state dialer.new) }
 {

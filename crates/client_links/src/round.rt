@@ -2,7 +2,7 @@
 ghost use Rattle.std.specs.Prelude.{◌≡◌, ◌+◌, ◌<◌, ◌≤◌, ◌^◌, ◌||◌, Bool, true, false, None, ◌≢◌, [], ◌++◌, List, ℕ, length, OnOk, OnErr};
 ghost use Rattle.dsi_frame.specs.Buffered.{buffer_length};
 ghost use Rattle.dsi_frame.specs.Frame.{canonical_frame};
-ghost use Rattle.client_links.specs.History.{Happening, is_reply, tickle_frame, close_session_frame};
+ghost use Rattle.client_links.specs.History.{Happening, allowed, limits_in, is_reply, tickle_frame, close_session_frame};
 ghost use Rattle.afp_client.specs.State.{Client, IsReady, is_lost, is_opened};
 ghost use Rattle.afp_base.specs.declared.code.Code.{Code};
 ghost use Rattle.client_links.specs.OnLink.{Start, OnLink, spot};
@@ -197,7 +197,8 @@ fn read_round<L: Link>(
     ensures opened { result ≢ Some Came.Opened }
     ensures told { (at : ℕ) (c : Code) (block : List ℕ) → result ≢ Some (Came.Told at c block) }
     ensures state { core.new.state ≡ core.old.state }
-    ensures comes { (start : Start) (turns : ℕ) (all : List Happening) (replied : Bool) → OnLink start all (spot core.old [] (L.link_state link.old) replied cost.old)
+    ensures comes { (start : Start) (turns : ℕ) (all : List Happening) (replied : Bool) → cost.old < allowed (limits_in start.limits all)
+        → OnLink start all (spot core.old [] (L.link_state link.old) replied cost.old)
         → RoundOn start turns all result core.new (L.link_state link.new) replied cost.new }
 {
     match read_more(core, link, room) {
@@ -240,7 +241,7 @@ fn await_on<L: Link>(
     ensures ready { (at : ℕ) (c : Code) (block : List ℕ) → result ≡ Came.Told at c block → IsReady core.new.state }
     ensures lives { LivesOn result core.new.state }
     ensures opens { opening ≡ true → OpensOn core.old.state result core.new.state }
-    ensures comes { (start : Start) (all : List Happening) → OnLink start all (spot core.old [] (L.link_state link.old) replied.old cost.old)
+    ensures comes { (start : Start) (all : List Happening) → turns ≡ allowed (limits_in start.limits all) → OnLink start all (spot core.old [] (L.link_state link.old) replied.old cost.old)
         → CameOn start turns all result core.new (L.link_state link.new) replied.new cost.new }
 {
     loop {
@@ -281,7 +282,7 @@ pub(crate) fn await_sent<L: Link>(
     ensures ready { (at : ℕ) (c : Code) (block : List ℕ) → result ≡ Came.Told at c block → IsReady core.new.state }
     ensures lives { LivesOn result core.new.state }
     ensures opens { opening ≡ true → OpensOn core.old.state result core.new.state }
-    ensures comes { (start : Start) (all : List Happening) → OnLink start all (spot core.old out.old (L.link_state link.old) replied.old cost.old)
+    ensures comes { (start : Start) (all : List Happening) → turns ≡ allowed (limits_in start.limits all) → OnLink start all (spot core.old out.old (L.link_state link.old) replied.old cost.old)
         → CameOn start turns all result core.new (L.link_state link.new) replied.new cost.new }
 {
     if flush(link, out, pulse) {

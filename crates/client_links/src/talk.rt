@@ -1,12 +1,12 @@
 //! A client that talks over a dialer.
-ghost use Rattle.std.specs.Prelude.{◌≡◌, ◌+◌, ◌<◌, ◌≤◌, ◌^◌, Bool, true, false, Some, None, IsSome, IsTrue, ◌↔◌, [], List, ℕ, length, IfOk, OnOk};
+ghost use Rattle.std.specs.Prelude.{◌≡◌, ◌+◌, ◌<◌, ◌≤◌, ◌^◌, Bool, true, false, Some, None, IsSome, IsTrue, ◌↔◌, [], ◌∷◌, List, ℕ, length, IfOk, OnOk};
 ghost use Rattle.afp_base.specs.Limits.{payload_limit};
 ghost use Rattle.afp_calls_grammar.specs.Call.{IsSpellable, canonical_call, canonical_piece};
 ghost use Rattle.afp_client.specs.State.{IsReady, is_lost, is_of_opening};
 ghost use Rattle.afp_outside.specs.Dialer.{DialerState};
-ghost use Rattle.client_links.specs.History.{Happening};
+ghost use Rattle.client_links.specs.History.{Happening, allowed, limited};
 ghost use Rattle.client_links.specs.OnLink.{Start, spot};
-ghost use Rattle.client_links.specs.Links.{Part, Over};
+ghost use Rattle.client_links.specs.Links.{Part, Over, all_limits, limits_of};
 ghost use Rattle.client_links.specs.Talk.{AsksTalk, ClosesTalk, LeavesOpen, OpensTalk, TalkAt};
 
 use crate::links::{Answered, TalkEnd, ask_over, close_over, connect, leave_over};
@@ -31,6 +31,13 @@ pub struct Talk<D: Dialer> {
     cost: u64,
 }
 
+/// A limit: so much may be spent in all, set where so much was spent.
+#[derive(Clone, Copy, Debug, Drop)]
+pub struct Limit {
+    pub turns: u64,
+    pub spent: u64,
+}
+
 /// What a call was told.
 #[derive(Debug, Drop)]
 pub struct Told {
@@ -50,7 +57,7 @@ impl<D: Dialer> Talk<D> {
         now: Moment,
         turns: u64,
     ) -> Talk<D>
-        ensures stands { TalkAt D.Link.link_state (record { state = core.state; spent = 0 }) (D.dialer_state dialer) [] [] result.link result.core result.replied result.idle result.cost (D.dialer_state result.dialer) }
+        ensures stands { TalkAt D.Link.link_state (record { state = core.state; spent = 0; idle = 0; limits = (record { turns = turns; spent = 0 }) ∷ [] }) (D.dialer_state dialer) [] [] result.link result.core result.replied result.idle result.cost (D.dialer_state result.dialer) }
         ensures link { result.link ≡ None }
         ensures core { result.core ≡ core }
         ensures idle { result.idle ≡ 0 }
@@ -95,6 +102,7 @@ impl<D: Dialer> Talk<D> {
         ensures turns { self.new.turns ≡ self.old.turns }
         ensures room { length self.new.room.items ≡ length self.old.room.items }
         ensures opens { (first : Start) (old : DialerState D.Link) (past : List (Part D.Link))
+            → self.old.turns ≡ allowed (limits_of first.limits past)
             → TalkAt D.Link.link_state first old past [] self.old.link self.old.core self.old.replied self.old.idle self.old.cost (D.dialer_state self.old.dialer)
             → OpensTalk D.Link.link_state self.old.turns first old past result self.new.link self.new.core self.new.replied self.new.idle self.new.cost (D.dialer_state self.new.dialer) }
     {
@@ -145,6 +153,7 @@ impl<D: Dialer> Talk<D> {
         ensures turns { self.new.turns ≡ self.old.turns }
         ensures room { length self.new.room.items ≡ length self.old.room.items }
         ensures answers { (first : Start) (old : DialerState D.Link) (past : List (Part D.Link)) (all : List Happening)
+            → self.old.turns ≡ allowed (all_limits first.limits past all)
             → TalkAt D.Link.link_state first old past all self.old.link self.old.core self.old.replied self.old.idle self.old.cost (D.dialer_state self.old.dialer)
             → AsksTalk D.Link.link_state self.old.turns first old past all self.old.core.state call.now result self.new.link self.new.core self.new.replied self.new.idle self.new.cost (D.dialer_state self.new.dialer) }
     {
@@ -216,8 +225,12 @@ impl<D: Dialer> Talk<D> {
     }
 
     /// From now on it may spend so much in all.
+    #[tactic(auto, using(crate::proofs::LimitLemmas::limits_talk))]
     pub fn limit(&mut self, turns: u64)
-        ensures { self.new ≡ record self.old { turns = turns } }
+        ensures same { self.new ≡ record self.old { turns = turns } }
+        ensures limits { (first : Start) (old : DialerState D.Link) (past : List (Part D.Link)) (all : List Happening) → IsSome self.old.link
+            → TalkAt D.Link.link_state first old past all self.old.link self.old.core self.old.replied self.old.idle self.old.cost (D.dialer_state self.old.dialer)
+            → TalkAt D.Link.link_state first old past (limited (record { turns = turns; spent = self.old.cost }) ∷ all) self.old.link self.old.core self.old.replied self.old.idle self.old.cost (D.dialer_state self.old.dialer) }
     {
         self.turns = turns;
     }

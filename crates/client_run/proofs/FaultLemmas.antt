@@ -18,9 +18,9 @@ use Rattle.client_run.specs.declared.ends.ClientEnd.{ClientEnd}
 use Rattle.client_run.specs.declared.ends.ClientEnd.TheVariants as ends
 
 -- no line was carried out behind a fault of the source
-source-faults : (start : SourceState) (carried : List Carried) → AreCarried start carried → (source_behind start carried).faults ≡ start.faults
-source-faults start [] are = refl
-source-faults start (c ∷ before) are = are.1.next.reads.faults ∙ source-faults start before are.0
+source-faults : (turns : ℕ) (start : SourceState) (carried : List Carried) → AreCarried turns start carried → (source_behind start carried).faults ≡ start.faults
+source-faults turns start [] are = refl
+source-faults turns start (c ∷ before) are = are.1.next.reads.faults ∙ source-faults turns start before are.0
 
 -- links do not end by a fault of the source
 no-source : {A : Type 0} (end : AskEnd) (line : ℕ) → ends.ReadFault ≡ end_of_ask end line → A
@@ -38,13 +38,13 @@ fault-of : {L : Type 0} (state : L → LinkState) (turns : ℕ) (first : Start) 
     → CountsOn 1 start.faults source.faults
 fault-of state turns first old start text dialer source (inl r) = no-source r.end 1 r.is
 fault-of state turns first old start text dialer source (inr r) =
-    subst (λ (n : ℕ). CountsOn 1 n source.faults) (r.stops.fault.part.reads.faults ∙ source-faults start r.carried r.are) r.stops.fault.fault
+    subst (λ (n : ℕ). CountsOn 1 n source.faults) (r.stops.fault.part.reads.faults ∙ source-faults turns start r.carried r.are) r.stops.fault.fault
 
 pub source-counted : {L : Type 0} (state : L → LinkState) (turns : ℕ) (login : Login) (old : DialerState L) (start : SourceState) (sink : SinkState) (end : ClientEnd) (dialer : DialerState L) (source : SourceState) (printed : SinkState)
     → RunsClient state turns login old start sink end dialer source printed → end ≡ ends.ReadFault → CountsOn 1 start.faults source.faults
 source-counted state turns login old start sink end dialer source printed r is =
     let told = subst (λ (e : ClientEnd). PrintsWhole sink r.text r.why e printed) is r.prints in
-    fault-of state turns (first_of (first_client login)) old start r.text dialer source (subst (λ (e : ClientEnd). Runs state turns (first_of (first_client login)) old start e r.text dialer source) (sym told.0) r.runs)
+    fault-of state turns (first_of (first_client login) turns) old start r.text dialer source (subst (λ (e : ClientEnd). Runs state turns (first_of (first_client login) turns) old start e r.text dialer source) (sym told.0) r.runs)
 
 pub sink-counted : {L : Type 0} (state : L → LinkState) (turns : ℕ) (login : Login) (old : DialerState L) (start : SourceState) (sink : SinkState) (end : ClientEnd) (dialer : DialerState L) (source : SourceState) (printed : SinkState)
     → RunsClient state turns login old start sink end dialer source printed → end ≡ ends.WriteFault → CountsOn 1 sink.faults printed.faults

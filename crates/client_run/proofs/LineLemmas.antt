@@ -13,12 +13,12 @@ next-shorter longest bytes line rest ended (last e end some none) = omega (arith
 abbrev pub rest_of : Unread → ℕ
 rest_of unread = 2 ^ 64 - unread.taken + length unread.bytes
 
-pub less-left : (longest : ℕ) (old new : Unread) (before after : SourceState) (line : List ℕ) (taken : ℕ) → TakesLine longest old before line new after → taken ≡ new.taken → taken < 2 ^ 64
+pub less-left : (longest turns : ℕ) (old new : Unread) (before after : SourceState) (line : List ℕ) (taken : ℕ) → TakesLine longest turns old before line new after → taken ≡ new.taken → taken < 2 ^ 64
     → rest_of new < rest_of old
-less-left longest old new before after line taken t is within =
+less-left longest turns old new before after line taken t is within =
     omega (arith, next-shorter longest (old.bytes ++ t.read) line new.bytes new.ended t.is_next, length-append old.bytes t.read, t.reads.taken, is, within)
 
 -- and so there are no more lines than bytes that were read
-pub counts-on : (longest number : ℕ) (old new : Unread) (before after : SourceState) (line : List ℕ) → TakesLine longest old before line new after → number + length old.bytes ≤ old.taken → number + 1 + length new.bytes ≤ new.taken
-counts-on longest number old new before after line t within =
+pub counts-on : (longest turns number : ℕ) (old new : Unread) (before after : SourceState) (line : List ℕ) → TakesLine longest turns old before line new after → number + length old.bytes ≤ old.taken → number + 1 + length new.bytes ≤ new.taken
+counts-on longest turns number old new before after line t within =
     omega (arith, next-shorter longest (old.bytes ++ t.read) line new.bytes new.ended t.is_next, length-append old.bytes t.read, t.reads.taken, within)

@@ -11,6 +11,7 @@ use Rattle.afp_outside.specs.Source.{SourceState}
 use Rattle.afp_outside_lines.specs.Lines as Read
 use Rattle.client_links.specs.OnLink.{Start}
 use Rattle.client_links.specs.declared.links.TalkEnd.TheVariants as talks
+use Rattle.client_links.specs.declared.talk.Limit.{Limit}
 use Rattle.client_script_lines.specs.Lines.{line_in}
 use Rattle.client_script_lines.specs.Words.{longest_line}
 use Rattle.client_script_lines.specs.declared.line.ScriptLine.{ScriptLine}
@@ -22,7 +23,7 @@ use Rattle.client_script_run.specs.Run.{line_part}
 use Rattle.client_script_links.specs.Standing.{Closes, Finishes, OpensNone}
 use Rattle.client_script_links.specs.declared.asker.AskEnd.{AskEnd}
 use Rattle.client_script_links.specs.declared.asker.AskEnd.TheVariants as asks
-use Rattle.client_run.specs.Carried.{AreCarried, Carried, ReadsLine, exchanges_of, mounted_behind, printed_of, source_behind, unread_behind}
+use Rattle.client_run.specs.Carried.{AreCarried, Carried, ReadsLine, exchanges_of, limits_behind, limits_with, line_limit, mounted_behind, printed_of, source_behind, unread_behind}
 use Rattle.client_run.specs.Ends.{end_of_ask, last_line}
 use Rattle.client_run.specs.Printing.{Prints, PrintsAll, PrintsPart}
 use Rattle.client_run.specs.Runs.{LeavesLinks, PrintsLines, PrintsWhole}
@@ -36,17 +37,17 @@ use Rattle.client_run.specs.declared.line.Taken.TheVariants as takes
 use Rattle.client_run.proofs.PrintLemmas.{prints-both}
 
 -- what was read for a line
-some-read : (start : SourceState) (carried : List Carried) (bytes : List ℕ) (unread : Read.Unread) (source : SourceState) → ReadsLine start carried bytes unread source
-    → Read.TakesSome (unread_behind carried) (source_behind start carried) source
-some-read start carried bytes unread source next = record { read = next.read; given = next.reads.given; faults = next.reads.faults }
+some-read : (turns : ℕ) (start : SourceState) (carried : List Carried) (cost : ℕ) (bytes : List ℕ) (unread : Read.Unread) (source : SourceState) → ReadsLine turns start carried cost bytes unread source
+    → Read.TakesSome (turns - cost) (unread_behind carried) (source_behind start carried) source
+some-read turns start carried cost bytes unread source next = record { read = next.read; given = next.reads.given; faults = next.reads.faults; within = next.within }
 
 -- nothing more was
 none-given : (given : Option (List ℕ)) → given ≡ option_map (λ g. g ++ []) given
 none-given None = refl
 none-given (Some g) = ap Some (sym (append-nil g))
 
-none-read : (unread : Read.Unread) (source : SourceState) → Read.TakesSome unread source source
-none-read unread source = record { read = []; given = none-given source.given; faults = refl }
+none-read : (most : ℕ) (unread : Read.Unread) (source : SourceState) → Read.TakesSome most unread source source
+none-read most unread source = record { read = []; given = none-given source.given; faults = refl; within = inl (refl, refl) }
 
 -- what a line had said, and how that ends the script
 pub said_whole : (old : SinkState) (said : List ℕ) (why : ClientEnd) (new : SinkState) → (why ≡ ends.Memory → ⊥) → Prints old said new → PrintsSaid old said why why new
@@ -57,7 +58,7 @@ pub said_part : (old : SinkState) (said : List ℕ) (why : ClientEnd) (new : Sin
 said_part old said ends.Memory new some p = absurd (some refl)
 said_part old said why new some p = inr (refl, p)
 
-module _ (turns : ℕ) (start : SourceState) (sink : SinkState) (carried : List Carried) (are : AreCarried start carried) (said : List ℕ) (stood : Stood) (source : SourceState) (mid new : SinkState) (prints : Prints sink (printed_of carried) mid) where
+module _ (turns : ℕ) (start : SourceState) (sink : SinkState) (carried : List Carried) (are : AreCarried turns start carried) (said : List ℕ) (stood : Stood) (source : SourceState) (mid new : SinkState) (prints : Prints sink (printed_of carried) mid) where
   -- all of it was printed, or a write failed
   stops-said : (why told : ClientEnd) → Stops turns start carried why (printed_of carried ++ said) stood source → AtWrite turns start carried (printed_of carried ++ said) stood source
       → (Prints sink (printed_of carried ++ said) new → PrintsLines sink (printed_of carried ++ said) why new)
@@ -87,9 +88,10 @@ module _ (turns : ℕ) (start : SourceState) (sink : SinkState) (carried : List 
         are = are;
         text = printed_of carried;
         stops = record {
-          some = some-read start carried a.bytes a.unread source a.next;
+          cost = a.cost;
+          some = some-read turns start carried a.cost a.bytes a.unread source a.next;
           exchanges = a.exchanges;
-          begun = inr (record { bytes = a.bytes; unread = a.unread; next = a.next; line = a.line; reads = a.reads; left = a.left; leads = a.leads });
+          begun = inr (record { bytes = a.bytes; unread = a.unread; next = a.next; limits = a.limits; begun = inr (record { line = a.line; reads = a.reads; left = a.left; leads = a.leads }) });
           told = a.told;
           closes = a.closes;
           prints = refl;
@@ -138,43 +140,46 @@ keeps-fixed {F} mounted bytes before printed takes.BadLine now after new t = ap 
 keeps-fixed {F} mounted bytes before printed takes.Unread now after new t = ap (λ (a : Asked F). a.fixed) t.0
 
 -- a line that was carried out, and what comes of it
-abbrev pub carried_by : {F : Type 0} → (mounted : Option VolumeId) → (bytes : List ℕ) → (unread : Read.Unread) → (source : SourceState) → (before after : Asked F) → (printed new : SinkState) → (now : Option VolumeId)
+abbrev pub carried_by : {F : Type 0} → (mounted : Option VolumeId) → (bytes : List ℕ) → (unread : Read.Unread) → (source : SourceState) → (line_cost : ℕ) → (before after : Asked F) → (printed new : SinkState) → (now : Option VolumeId)
     → TakesRead {E = AskEnd} mounted bytes before printed takes.Goes now after new → Carried
-carried_by mounted bytes unread source before after printed new now t = record { bytes = bytes; unread = unread; source = source; line = t.line; exchanges = t.takes.carried.exchanges; text = t.takes.text }
+carried_by mounted bytes unread source line_cost before after printed new now t = record { bytes = bytes; unread = unread; source = source; cost = line_cost; line = t.line; exchanges = t.takes.carried.exchanges; text = t.takes.text }
 
 bye-leads : (mounted : Option VolumeId) (line : ScriptLine) (exchanges : List Exchange) (said : List ℕ) → line ≡ lines.Bye → Leads (line_part mounted line) exchanges (done said) → Leads (line_part mounted lines.Bye) exchanges (done said)
 bye-leads mounted line exchanges said is leads = subst (λ (l : ScriptLine). Leads (line_part mounted l) exchanges (done said)) is leads
 
-module _ {F : Type 0} (turns : ℕ) (start : SourceState) (sink : SinkState) (carried : List Carried) (are : AreCarried start carried) (bytes : List ℕ) (unread : Read.Unread) (source : SourceState) (next : ReadsLine start carried bytes unread source)
+module _ {F : Type 0} (turns : ℕ) (start : SourceState) (sink : SinkState) (carried : List Carried) (are : AreCarried turns start carried) (bytes : List ℕ) (unread : Read.Unread) (source : SourceState) (line_cost : ℕ) (next : ReadsLine turns start carried line_cost bytes unread source)
+    (limits : List Limit) (set : limits ≡ limits_with turns carried unread line_cost)
     (before after : Asked F) (told : before.exchanges ≡ exchanges_of carried) (printed new : SinkState) (prints : Prints sink (printed_of carried) printed) (now : Option VolumeId) where
   -- the script goes on
-  goes-none : (t : TakesRead {E = AskEnd} (mounted_behind carried) bytes before printed takes.Goes now after new) → SoFar start sink unread source now after.exchanges None (length carried + 1) new
+  goes-none : (t : TakesRead {E = AskEnd} (mounted_behind carried) bytes before printed takes.Goes now after new) → SoFar turns start sink unread source now after.exchanges None limits (length carried + 1) new
   goes-none t = record {
-    carried = carried_by (mounted_behind carried) bytes unread source before after printed new now t ∷ carried;
+    carried = carried_by (mounted_behind carried) bytes unread source line_cost before after printed new now t ∷ carried;
     are = (are, record { next = next; reads = t.reads; says = t.takes.carried.says; goes = t.takes.goes });
     unread_is = refl;
     source_is = refl;
     mounted_is = t.takes.carried.mounts;
     told = told-more before after (exchanges_of carried) t.takes.carried.exchanges told t.takes.carried.log;
     live = refl;
+    limits_are = set;
     number_is = omega arith;
     prints = prints-both sink printed new (printed_of carried) (t.takes.text ++ newline) true prints t.takes.printed;
   }
 
   -- or its client has ended
-  goes-some : (ended : Option AskEnd) (cost place limit : ℕ) (t : TakesRead {E = AskEnd} (mounted_behind carried) bytes before printed takes.Goes now after new)
-      → StopsLines turns start sink ends.Memory (stood_at after.exchanges ended cost place limit false) source new
+  goes-some : (ended : Option AskEnd) (cost place : ℕ) (t : TakesRead {E = AskEnd} (mounted_behind carried) bytes before printed takes.Goes now after new)
+      → StopsLines turns start sink ends.Memory (stood_at after.exchanges ended cost place limits false) source new
   unfolding goes-none
-  goes-some ended cost place limit t =
+  goes-some ended cost place t =
       let s = goes-none t in
       record {
         carried = s.carried;
         are = s.are;
         text = printed_of s.carried;
         stops = record {
-          some = none-read unread source;
+          cost = cost;
+          some = none-read (turns - cost) unread source;
           exchanges = [];
-          begun = inl refl;
+          begun = inl (record { none = refl; cost_is = refl; limits = s.limits_are });
           told = s.told ∙ sym (append-nil (exchanges_of s.carried));
           closes = refl;
           prints = refl;
@@ -183,16 +188,18 @@ module _ {F : Type 0} (turns : ℕ) (start : SourceState) (sink : SinkState) (ca
       }
 
   -- a bye
-  stops-bye : (ended : Option AskEnd) (cost place limit : ℕ) (t : TakesRead {E = AskEnd} (mounted_behind carried) bytes before printed takes.Done now after new)
-      → StopsLines turns start sink ends.Done (stood_at after.exchanges ended cost place limit false) source new
-  stops-bye ended cost place limit t = record {
+  stops-bye : (ended : Option AskEnd) (cost place : ℕ) (t : TakesRead {E = AskEnd} (mounted_behind carried) bytes before printed takes.Done now after new)
+      → StopsLines turns start sink ends.Done (stood_at after.exchanges ended cost place limits false) source new
+  stops-bye ended cost place t = record {
     carried = carried;
     are = are;
     text = printed_of carried ++ (t.takes.text ++ newline);
     stops = inr (record {
       bytes = bytes;
       unread = unread;
+      cost = line_cost;
       next = next;
+      limits = set;
       reads = t.reads ∙ ap Some t.takes.bye;
       exchanges = t.takes.carried.exchanges;
       said = t.takes.text;
@@ -205,16 +212,18 @@ module _ {F : Type 0} (turns : ℕ) (start : SourceState) (sink : SinkState) (ca
   }
 
   -- a line whose text was not printed whole
-  stops-cut : (ended : Option AskEnd) (cost place limit : ℕ) (t : TakesRead {E = AskEnd} (mounted_behind carried) bytes before printed takes.Cut now after new)
-      → StopsLines turns start sink ends.WriteFault (stood_at after.exchanges ended cost place limit false) source new
-  stops-cut ended cost place limit t = record {
+  stops-cut : (ended : Option AskEnd) (cost place : ℕ) (t : TakesRead {E = AskEnd} (mounted_behind carried) bytes before printed takes.Cut now after new)
+      → StopsLines turns start sink ends.WriteFault (stood_at after.exchanges ended cost place limits false) source new
+  stops-cut ended cost place t = record {
     carried = carried;
     are = are;
     text = printed_of carried ++ (t.takes.text ++ newline);
     stops = inl (inl (record {
       bytes = bytes;
       unread = unread;
+      cost = line_cost;
       next = next;
+      limits = set;
       line = t.line;
       reads = t.reads;
       exchanges = t.takes.carried.exchanges;
@@ -228,14 +237,16 @@ module _ {F : Type 0} (turns : ℕ) (start : SourceState) (sink : SinkState) (ca
   }
 
   -- a call without an answer, since the client has ended
-  stops-call-at : (end why : AskEnd) (said : List ℕ) (cost place limit : ℕ) (told_end : ClientEnd) (final : SinkState) → limit ≡ turns - unread.taken → (t : TakesRead (mounted_behind carried) bytes before printed (takes.Ended end said) now after new)
-      → PrintsSaid new said (end_of_ask why (length carried + 1)) told_end final → StopsLines turns start sink told_end (stood_at after.exchanges (Some why) cost place limit false) source final
-  stops-call-at end why said cost place limit told_end final is t p =
+  stops-call-at : (end why : AskEnd) (said : List ℕ) (cost place : ℕ) (told_end : ClientEnd) (final : SinkState) → (t : TakesRead (mounted_behind carried) bytes before printed (takes.Ended end said) now after new)
+      → PrintsSaid new said (end_of_ask why (length carried + 1)) told_end final → StopsLines turns start sink told_end (stood_at after.exchanges (Some why) cost place limits false) source final
+  stops-call-at end why said cost place told_end final t p =
       let w = t.takes.0 in
-      said-call turns start sink carried are said (stood_at after.exchanges (Some why) cost place limit false) source new final (subst (λ (s : SinkState). Prints sink (printed_of carried) s) (sym t.takes.2) prints) why told_end (record {
+      said-call turns start sink carried are said (stood_at after.exchanges (Some why) cost place limits false) source new final (subst (λ (s : SinkState). Prints sink (printed_of carried) s) (sym t.takes.2) prints) why told_end (record {
         bytes = bytes;
         unread = unread;
+        cost = line_cost;
         next = next;
+        limits = set;
         line = t.line;
         reads = t.reads;
         exchanges = w.runs.exchanges;
@@ -245,21 +256,22 @@ module _ {F : Type 0} (turns : ℕ) (start : SourceState) (sink : SinkState) (ca
         leads = w.runs.leads;
         told = told-more before after (exchanges_of carried) w.runs.exchanges told w.runs.log;
         ended = refl;
-        limit = is;
         closes = refl;
         prints = ap (λ (s : List ℕ). printed_of carried ++ s) t.takes.1;
       }) p
 
   -- a reply that may not come
-  stops-reply : (said : List ℕ) (cost place limit : ℕ) (told_end : ClientEnd) (final : SinkState) (t : TakesRead {E = AskEnd} (mounted_behind carried) bytes before printed (takes.BadReply said) now after new)
-      → PrintsSaid new said (ends.BadReply place) told_end final → StopsLines turns start sink told_end (stood_at after.exchanges None cost place limit false) source final
-  stops-reply said cost place limit told_end final t p =
+  stops-reply : (said : List ℕ) (cost place : ℕ) (told_end : ClientEnd) (final : SinkState) (t : TakesRead {E = AskEnd} (mounted_behind carried) bytes before printed (takes.BadReply said) now after new)
+      → PrintsSaid new said (ends.BadReply place) told_end final → StopsLines turns start sink told_end (stood_at after.exchanges None cost place limits false) source final
+  stops-reply said cost place told_end final t p =
       let r = t.takes.0 in
-      let stood = stood_at after.exchanges None cost place limit false in
-      let bad_reply : AtBadReply start carried place (printed_of carried ++ said) stood source = record {
+      let stood = stood_at after.exchanges None cost place limits false in
+      let bad_reply : AtBadReply turns start carried place (printed_of carried ++ said) stood source = record {
         bytes = bytes;
         unread = unread;
+        cost = line_cost;
         next = next;
+        limits = set;
         line = t.line;
         reads = t.reads;
         exchanges = r.exchanges;
@@ -273,16 +285,18 @@ module _ {F : Type 0} (turns : ℕ) (start : SourceState) (sink : SinkState) (ca
       stops-said turns start sink carried are said stood source new final (subst (λ (s : SinkState). Prints sink (printed_of carried) s) (sym t.takes.2) prints) (ends.BadReply place) told_end (inr bad_reply) (inr (place, bad_reply)) (λ q. q) p
 
   -- a line of no form
-  stops-line : (cost place limit : ℕ) → line_in bytes ≡ None → after ≡ before → new ≡ printed
-      → StopsLines turns start sink (ends.BadLine (length carried + 1)) (stood_at after.exchanges None cost place limit false) source new
-  stops-line cost place limit none same still = record {
+  stops-line : (cost place : ℕ) → line_in bytes ≡ None → after ≡ before → new ≡ printed
+      → StopsLines turns start sink (ends.BadLine (length carried + 1)) (stood_at after.exchanges None cost place limits false) source new
+  stops-line cost place none same still = record {
     carried = carried;
     are = are;
     text = printed_of carried;
     stops = record {
       bytes = bytes;
       unread = unread;
+      cost = line_cost;
       next = next;
+      limits = set;
       reads = none;
       is_next = refl;
       told = ap (λ (a : Asked F). a.exchanges) same ∙ told;
@@ -294,16 +308,17 @@ module _ {F : Type 0} (turns : ℕ) (start : SourceState) (sink : SinkState) (ca
   }
 
   -- no memory for the line
-  lacks-line : (ended : Option AskEnd) (cost place limit : ℕ) → after ≡ before → new ≡ printed
-      → StopsLines turns start sink ends.Memory (stood_at after.exchanges ended cost place limit false) source new
-  lacks-line ended cost place limit same still = record {
+  lacks-line : (ended : Option AskEnd) (cost place : ℕ) → after ≡ before → new ≡ printed
+      → StopsLines turns start sink ends.Memory (stood_at after.exchanges ended cost place limits false) source new
+  lacks-line ended cost place same still = record {
     carried = carried;
     are = are;
     text = printed_of carried;
     stops = record {
-      some = some-read start carried bytes unread source next;
+      cost = line_cost;
+      some = some-read turns start carried line_cost bytes unread source next;
       exchanges = [];
-      begun = inl refl;
+      begun = inr (record { bytes = bytes; unread = unread; next = next; limits = set; begun = inl refl });
       told = ap (λ (a : Asked F). a.exchanges) same ∙ told ∙ sym (append-nil (exchanges_of carried));
       closes = refl;
       prints = refl;
@@ -312,16 +327,17 @@ module _ {F : Type 0} (turns : ℕ) (start : SourceState) (sink : SinkState) (ca
   }
 
   -- or for what comes of it
-  lacks-rest : (ended : Option AskEnd) (cost place limit : ℕ) (line : ScriptLine) (left : Part) → line_in bytes ≡ Some line → Parts.Runs before (line_part (mounted_behind carried) line) left after → new ≡ printed
-      → StopsLines turns start sink ends.Memory (stood_at after.exchanges ended cost place limit false) source new
-  lacks-rest ended cost place limit line left reads r still = record {
+  lacks-rest : (ended : Option AskEnd) (cost place : ℕ) (line : ScriptLine) (left : Part) → line_in bytes ≡ Some line → Parts.Runs before (line_part (mounted_behind carried) line) left after → new ≡ printed
+      → StopsLines turns start sink ends.Memory (stood_at after.exchanges ended cost place limits false) source new
+  lacks-rest ended cost place line left reads r still = record {
     carried = carried;
     are = are;
     text = printed_of carried;
     stops = record {
-      some = some-read start carried bytes unread source next;
+      cost = line_cost;
+      some = some-read turns start carried line_cost bytes unread source next;
       exchanges = r.exchanges;
-      begun = inr (record { bytes = bytes; unread = unread; next = next; line = line; reads = reads; left = left; leads = r.leads });
+      begun = inr (record { bytes = bytes; unread = unread; next = next; limits = set; begun = inr (record { line = line; reads = reads; left = left; leads = r.leads }) });
       told = told-more before after (exchanges_of carried) r.exchanges told r.log;
       closes = refl;
       prints = refl;
@@ -330,53 +346,56 @@ module _ {F : Type 0} (turns : ℕ) (start : SourceState) (sink : SinkState) (ca
   }
 
   -- nothing was printed behind it
-  stops-still : (ended : Option AskEnd) (cost place limit : ℕ) (why stop : Option ClientEnd) (final : SinkState) → (stop ≡ why) × (final ≡ new)
-      → StopsOr turns start sink why unread source now after.exchanges ended cost place limit (length carried + 1) new → StopsOr turns start sink stop unread source now after.exchanges ended cost place limit (length carried + 1) final
-  stops-still ended cost place limit why stop final still s =
-      subst (λ (o : Option ClientEnd). StopsOr turns start sink o unread source now after.exchanges ended cost place limit (length carried + 1) final) (sym still.0)
-      (subst (λ (k : SinkState). StopsOr turns start sink why unread source now after.exchanges ended cost place limit (length carried + 1) k) (sym still.1) s)
+  stops-still : (ended : Option AskEnd) (cost place : ℕ) (why stop : Option ClientEnd) (final : SinkState) → (stop ≡ why) × (final ≡ new)
+      → StopsOr turns start sink why unread source now after.exchanges ended cost place limits (length carried + 1) new → StopsOr turns start sink stop unread source now after.exchanges ended cost place limits (length carried + 1) final
+  stops-still ended cost place why stop final still s =
+      subst (λ (o : Option ClientEnd). StopsOr turns start sink o unread source now after.exchanges ended cost place limits (length carried + 1) final) (sym still.0)
+      (subst (λ (k : SinkState). StopsOr turns start sink why unread source now after.exchanges ended cost place limits (length carried + 1) k) (sym still.1) s)
 
   -- it stops so
-  stops-some : (ended : Option AskEnd) (cost place limit : ℕ) (why : ClientEnd) (stop : Option ClientEnd) (final : SinkState) → stop ≡ Some why
-      → StopsLines turns start sink why (stood_at after.exchanges ended cost place limit false) source final → StopsOr turns start sink stop unread source now after.exchanges ended cost place limit (length carried + 1) final
-  stops-some ended cost place limit why stop final is s =
-      subst (λ (o : Option ClientEnd). StopsOr turns start sink o unread source now after.exchanges ended cost place limit (length carried + 1) final) (sym is) s
+  stops-some : (ended : Option AskEnd) (cost place : ℕ) (why : ClientEnd) (stop : Option ClientEnd) (final : SinkState) → stop ≡ Some why
+      → StopsLines turns start sink why (stood_at after.exchanges ended cost place limits false) source final → StopsOr turns start sink stop unread source now after.exchanges ended cost place limits (length carried + 1) final
+  stops-some ended cost place why stop final is s =
+      subst (λ (o : Option ClientEnd). StopsOr turns start sink o unread source now after.exchanges ended cost place limits (length carried + 1) final) (sym is) s
 
   -- by what came of the line
-  behind-line : (taken : Taken AskEnd) (ended : Option AskEnd) (cost place limit : ℕ) (stop : Option ClientEnd) (final : SinkState) → limit ≡ turns - unread.taken → TakesText (mounted_behind carried) bytes before printed taken now after new
-      → StopsBy taken ended (length carried + 1) place new stop final → StopsOr turns start sink stop unread source now after.exchanges ended cost place limit (length carried + 1) final
-  behind-line takes.Goes None cost place limit stop final is t s = stops-still None cost place limit None stop final s (goes-none t)
-  behind-line takes.Goes (Some e) cost place limit stop final is t s = stops-still (Some e) cost place limit (Some ends.Memory) stop final s (goes-some (Some e) cost place limit t)
-  behind-line takes.Done ended cost place limit stop final is t s = stops-still ended cost place limit (Some ends.Done) stop final s (stops-bye ended cost place limit t)
-  behind-line takes.Cut ended cost place limit stop final is t s = stops-still ended cost place limit (Some ends.WriteFault) stop final s (stops-cut ended cost place limit t)
-  behind-line (takes.Ended end said) None cost place limit stop final is t s =
-      stops-still None cost place limit (Some ends.Memory) stop final s (lacks-rest None cost place limit t.line t.takes.0.left t.reads t.takes.0.runs t.takes.2)
-  behind-line (takes.Ended end said) (Some why) cost place limit stop final is t s =
-      stops-some (Some why) cost place limit s.0 stop final s.1 (stops-call-at end why said cost place limit s.0 final is t s.2)
-  behind-line (takes.BadReply said) None cost place limit stop final is t s =
-      stops-some None cost place limit s.0 stop final s.1 (stops-reply said cost place limit s.0 final t s.2)
-  behind-line (takes.BadReply said) (Some e) cost place limit stop final is t s =
-      stops-still (Some e) cost place limit (Some ends.Memory) stop final s (lacks-rest (Some e) cost place limit t.line bad t.reads t.takes.0 t.takes.2)
-  behind-line takes.Memory ended cost place limit stop final is t s =
-      stops-still ended cost place limit (Some ends.Memory) stop final s (lacks-rest ended cost place limit t.line t.takes.0 t.reads t.takes.1 t.takes.2)
-  behind-line takes.BadLine None cost place limit stop final is t s =
-      stops-still None cost place limit (Some (ends.BadLine (length carried + 1))) stop final s (stops-line cost place limit t.0 t.1 t.2)
-  behind-line takes.BadLine (Some e) cost place limit stop final is t s = stops-still (Some e) cost place limit (Some ends.Memory) stop final s (lacks-line (Some e) cost place limit t.1 t.2)
-  behind-line takes.Unread ended cost place limit stop final is t s = stops-still ended cost place limit (Some ends.Memory) stop final s (lacks-line ended cost place limit t.0 t.1)
+  behind-line : (taken : Taken AskEnd) (ended : Option AskEnd) (cost place : ℕ) (stop : Option ClientEnd) (final : SinkState) → TakesText (mounted_behind carried) bytes before printed taken now after new
+      → StopsBy taken ended (length carried + 1) place new stop final → StopsOr turns start sink stop unread source now after.exchanges ended cost place limits (length carried + 1) final
+  behind-line takes.Goes None cost place stop final t s = stops-still None cost place None stop final s (goes-none t)
+  behind-line takes.Goes (Some e) cost place stop final t s = stops-still (Some e) cost place (Some ends.Memory) stop final s (goes-some (Some e) cost place t)
+  behind-line takes.Done ended cost place stop final t s = stops-still ended cost place (Some ends.Done) stop final s (stops-bye ended cost place t)
+  behind-line takes.Cut ended cost place stop final t s = stops-still ended cost place (Some ends.WriteFault) stop final s (stops-cut ended cost place t)
+  behind-line (takes.Ended end said) None cost place stop final t s =
+      stops-still None cost place (Some ends.Memory) stop final s (lacks-rest None cost place t.line t.takes.0.left t.reads t.takes.0.runs t.takes.2)
+  behind-line (takes.Ended end said) (Some why) cost place stop final t s =
+      stops-some (Some why) cost place s.0 stop final s.1 (stops-call-at end why said cost place s.0 final t s.2)
+  behind-line (takes.BadReply said) None cost place stop final t s =
+      stops-some None cost place s.0 stop final s.1 (stops-reply said cost place s.0 final t s.2)
+  behind-line (takes.BadReply said) (Some e) cost place stop final t s =
+      stops-still (Some e) cost place (Some ends.Memory) stop final s (lacks-rest (Some e) cost place t.line bad t.reads t.takes.0 t.takes.2)
+  behind-line takes.Memory ended cost place stop final t s =
+      stops-still ended cost place (Some ends.Memory) stop final s (lacks-rest ended cost place t.line t.takes.0 t.reads t.takes.1 t.takes.2)
+  behind-line takes.BadLine None cost place stop final t s =
+      stops-still None cost place (Some (ends.BadLine (length carried + 1))) stop final s (stops-line cost place t.0 t.1 t.2)
+  behind-line takes.BadLine (Some e) cost place stop final t s = stops-still (Some e) cost place (Some ends.Memory) stop final s (lacks-line (Some e) cost place t.1 t.2)
+  behind-line takes.Unread ended cost place stop final t s = stops-still ended cost place (Some ends.Memory) stop final s (lacks-line ended cost place t.0 t.1)
 
 -- the same, behind what was carried out so far
 pub line-comes : {F : Type 0} (turns : ℕ) (start : SourceState) (sink : SinkState) (was unread : Read.Unread) (before_source source : SourceState) (mounted now : Option VolumeId) (exchanges : List Exchange) (was_ended ended told_ended : Option AskEnd)
-    (number next_number : ℕ) (printed new final : SinkState) (bytes lent : List ℕ) (before after : Asked F) (taken : Taken AskEnd) (cost place told_place limit : ℕ) (stop : Option ClientEnd)
-    → SoFar start sink was before_source mounted exchanges was_ended number printed → Read.TakesLine longest_line was before_source bytes unread source → before.exchanges ≡ exchanges → next_number ≡ number + 1 → limit ≡ turns - unread.taken
+    (number next_number : ℕ) (printed new final : SinkState) (bytes lent : List ℕ) (before after : Asked F) (taken : Taken AskEnd) (line_cost most cost place told_place : ℕ) (was_limits limits : List Limit) (stop : Option ClientEnd)
+    → SoFar turns start sink was before_source mounted exchanges was_ended was_limits number printed → most ≡ turns - line_cost → Read.TakesLine longest_line most was before_source bytes unread source → before.exchanges ≡ exchanges → next_number ≡ number + 1
+    → limits ≡ was_limits ++ line_limit turns unread line_cost ∷ []
     → TakesText mounted lent before printed taken now after new → lent ≡ bytes → StopsBy taken told_ended next_number told_place new stop final → told_ended ≡ ended → told_place ≡ place
-    → StopsOr turns start sink stop unread source now after.exchanges ended cost place limit next_number final
-line-comes {F} turns start sink was unread before_source source mounted now exchanges was_ended ended told_ended number next_number printed new final bytes lent before after taken cost place told_place limit stop so next told is_next is t same_bytes stops same_ended same_place =
+    → StopsOr turns start sink stop unread source now after.exchanges ended cost place limits next_number final
+line-comes {F} turns start sink was unread before_source source mounted now exchanges was_ended ended told_ended number next_number printed new final bytes lent before after taken line_cost most cost place told_place was_limits limits stop so most_is next told is_next is t same_bytes stops same_ended same_place =
     let many = is_next ∙ ap (λ (n : ℕ). n + 1) so.number_is in
-    subst (λ (n : ℕ). StopsOr turns start sink stop unread source now after.exchanges ended cost place limit n final) (sym many)
-    (behind-line turns start sink so.carried so.are bytes unread source
-    (subst (λ (u : Read.Unread). Read.TakesLine longest_line u (source_behind start so.carried) bytes unread source) so.unread_is
-    (subst (λ (s : SourceState). Read.TakesLine longest_line was s bytes unread source) so.source_is next))
-    before after (told ∙ so.told) printed new so.prints now taken ended cost place limit stop final is
+    subst (λ (n : ℕ). StopsOr turns start sink stop unread source now after.exchanges ended cost place limits n final) (sym many)
+    (behind-line turns start sink so.carried so.are bytes unread source line_cost
+    (subst (λ (u : Read.Unread). Read.TakesLine longest_line (turns - line_cost) u (source_behind start so.carried) bytes unread source) so.unread_is
+    (subst (λ (s : SourceState). Read.TakesLine longest_line (turns - line_cost) was s bytes unread source) so.source_is
+    (subst (λ (n : ℕ). Read.TakesLine longest_line n was before_source bytes unread source) most_is next)))
+    limits (is ∙ ap (λ (ls : List Limit). ls ++ line_limit turns unread line_cost ∷ []) so.limits_are)
+    before after (told ∙ so.told) printed new so.prints now taken ended cost place stop final
     (subst (λ (m : Option VolumeId). TakesText m bytes before printed taken now after new) so.mounted_is
     (subst (λ (b : List ℕ). TakesText mounted b before printed taken now after new) same_bytes t))
     (subst (λ (n : ℕ). StopsBy taken ended n place new stop final) many
@@ -384,20 +403,21 @@ line-comes {F} turns start sink was unread before_source source mounted now exch
     (subst (λ (n : ℕ). StopsBy taken told_ended next_number n new stop final) same_place stops))))
 
 -- where it stops
-pub line-stops : (turns : ℕ) (start : SourceState) (sink : SinkState) (stop : Option ClientEnd) (why : ClientEnd) (unread : Read.Unread) (source : SourceState) (now : Option VolumeId) (after : List Exchange) (ended : Option AskEnd) (cost place limit number : ℕ) (new : SinkState)
-    → StopsOr turns start sink stop unread source now after ended cost place limit number new → stop ≡ Some why → StopsLines turns start sink why (stood_at after ended cost place limit false) source new
-line-stops turns start sink stop why unread source now after ended cost place limit number new s is =
-    subst (λ (o : Option ClientEnd). StopsOr turns start sink o unread source now after ended cost place limit number new) is s
+pub line-stops : (turns : ℕ) (start : SourceState) (sink : SinkState) (stop : Option ClientEnd) (why : ClientEnd) (unread : Read.Unread) (source : SourceState) (now : Option VolumeId) (after : List Exchange) (ended : Option AskEnd) (cost place : ℕ) (limits : List Limit) (number : ℕ) (new : SinkState)
+    → StopsOr turns start sink stop unread source now after ended cost place limits number new → stop ≡ Some why → StopsLines turns start sink why (stood_at after ended cost place limits false) source new
+line-stops turns start sink stop why unread source now after ended cost place limits number new s is =
+    subst (λ (o : Option ClientEnd). StopsOr turns start sink o unread source now after ended cost place limits number new) is s
 
 -- and where it goes on
-pub line-goes : (turns : ℕ) (start : SourceState) (sink : SinkState) (stop : Option ClientEnd) (unread : Read.Unread) (source : SourceState) (now : Option VolumeId) (after : List Exchange) (ended : Option AskEnd) (cost place limit number : ℕ) (new : SinkState)
-    → StopsOr turns start sink stop unread source now after ended cost place limit number new → stop ≡ None → SoFar start sink unread source now after ended number new
-line-goes turns start sink stop unread source now after ended cost place limit number new s is =
-    subst (λ (o : Option ClientEnd). StopsOr turns start sink o unread source now after ended cost place limit number new) is s
+pub line-goes : (turns : ℕ) (start : SourceState) (sink : SinkState) (stop : Option ClientEnd) (unread : Read.Unread) (source : SourceState) (now : Option VolumeId) (after : List Exchange) (ended : Option AskEnd) (cost place : ℕ) (limits : List Limit) (number : ℕ) (new : SinkState)
+    → StopsOr turns start sink stop unread source now after ended cost place limits number new → stop ≡ None → SoFar turns start sink unread source now after ended limits number new
+line-goes turns start sink stop unread source now after ended cost place limits number new s is =
+    subst (λ (o : Option ClientEnd). StopsOr turns start sink o unread source now after ended cost place limits number new) is s
 
 -- nothing was read yet
-pub starts : (start : SourceState) (sink : SinkState) (unread : Read.Unread) (exchanges : List Exchange) (ended : Option AskEnd) → unread ≡ unread_behind [] → exchanges ≡ [] → ended ≡ None → SoFar start sink unread start None exchanges ended 0 sink
-starts start sink unread exchanges ended is none live = record {
+pub starts : (turns : ℕ) (start : SourceState) (sink : SinkState) (unread : Read.Unread) (exchanges : List Exchange) (ended : Option AskEnd) (limits : List Limit) → unread ≡ unread_behind [] → exchanges ≡ [] → ended ≡ None → limits ≡ limits_behind turns []
+    → SoFar turns start sink unread start None exchanges ended limits 0 sink
+starts turns start sink unread exchanges ended limits is none live set = record {
   carried = [];
   are = tt;
   unread_is = is;
@@ -405,6 +425,7 @@ starts start sink unread exchanges ended is none live = record {
   mounted_is = refl;
   told = none;
   live = live;
+  limits_are = set;
   number_is = refl;
   prints = record { written = none-given sink.written; faults = refl };
 }
@@ -416,16 +437,18 @@ pub starts-counted : (unread : Read.Unread) → unread ≡ unread_behind [] → 
 starts-counted unread is = omega (arith, ap (λ (u : Read.Unread). length u.bytes) is, ap (λ (u : Read.Unread). u.taken) is)
 
 -- what is next of the source is no line
-pub source-ends : (turns : ℕ) (start : SourceState) (sink : SinkState) (was unread : Read.Unread) (before_source source : SourceState) (mounted : Option VolumeId) (exchanges : List Exchange) (ended : Option AskEnd) (number cost place limit : ℕ) (printed : SinkState)
-    → SoFar start sink was before_source mounted exchanges ended number printed → Read.TakesNone was before_source unread source
-    → StopsLines turns start sink ends.Done (stood_at exchanges ended cost place limit true) source printed
-source-ends turns start sink was unread before_source source mounted exchanges ended number cost place limit printed so t = record {
+pub source-ends : (turns : ℕ) (start : SourceState) (sink : SinkState) (was unread : Read.Unread) (before_source source : SourceState) (mounted : Option VolumeId) (exchanges : List Exchange) (ended : Option AskEnd) (number cost place : ℕ) (limits : List Limit) (most : ℕ) (printed : SinkState)
+    → SoFar turns start sink was before_source mounted exchanges ended limits number printed → most ≡ turns - cost → Read.TakesNone most was before_source unread source
+    → StopsLines turns start sink ends.Done (stood_at exchanges ended cost place limits true) source printed
+source-ends turns start sink was unread before_source source mounted exchanges ended number cost place limits most printed so is t = record {
   carried = so.carried;
   are = so.are;
   text = printed_of so.carried;
   stops = inl (record {
     unread = unread;
-    none = subst (λ (u : Read.Unread). Read.TakesNone u (source_behind start so.carried) unread source) so.unread_is (subst (λ (s : SourceState). Read.TakesNone was s unread source) so.source_is t);
+    none = subst (λ (u : Read.Unread). Read.TakesNone (turns - cost) u (source_behind start so.carried) unread source) so.unread_is (subst (λ (s : SourceState). Read.TakesNone (turns - cost) was s unread source) so.source_is
+        (subst (λ (n : ℕ). Read.TakesNone n was before_source unread source) is t));
+    limits = so.limits_are;
     told = so.told;
     live = so.live;
     closes = refl;
@@ -434,10 +457,10 @@ source-ends turns start sink was unread before_source source mounted exchanges e
   prints = so.prints;
 }
 
-pub source-fails : (turns : ℕ) (start : SourceState) (sink : SinkState) (was unread : Read.Unread) (before_source source : SourceState) (mounted : Option VolumeId) (exchanges : List Exchange) (ended : Option AskEnd) (number cost place limit most : ℕ) (printed : SinkState)
-    → SoFar start sink was before_source mounted exchanges ended number printed → most ≡ turns - cost → Read.TakesFault longest_line most was before_source unread source
-    → StopsLines turns start sink ends.ReadFault (stood_at exchanges ended cost place limit false) source printed
-source-fails turns start sink was unread before_source source mounted exchanges ended number cost place limit most printed so is t = record {
+pub source-fails : (turns : ℕ) (start : SourceState) (sink : SinkState) (was unread : Read.Unread) (before_source source : SourceState) (mounted : Option VolumeId) (exchanges : List Exchange) (ended : Option AskEnd) (number cost place : ℕ) (limits : List Limit) (most : ℕ) (printed : SinkState)
+    → SoFar turns start sink was before_source mounted exchanges ended limits number printed → most ≡ turns - cost → Read.TakesFault longest_line most was before_source unread source
+    → StopsLines turns start sink ends.ReadFault (stood_at exchanges ended cost place limits false) source printed
+source-fails turns start sink was unread before_source source mounted exchanges ended number cost place limits most printed so is t = record {
   carried = so.carried;
   are = so.are;
   text = printed_of so.carried;
@@ -445,6 +468,7 @@ source-fails turns start sink was unread before_source source mounted exchanges 
     unread = unread;
     fault = subst (λ (u : Read.Unread). Read.TakesFault longest_line (turns - cost) u (source_behind start so.carried) unread source) so.unread_is (subst (λ (s : SourceState). Read.TakesFault longest_line (turns - cost) was s unread source) so.source_is
         (subst (λ (n : ℕ). Read.TakesFault longest_line n was before_source unread source) is t));
+    limits = so.limits_are;
     told = so.told;
     live = so.live;
     closes = refl;
@@ -453,10 +477,10 @@ source-fails turns start sink was unread before_source source mounted exchanges 
   prints = so.prints;
 }
 
-pub source-spent : (turns : ℕ) (start : SourceState) (sink : SinkState) (was unread : Read.Unread) (before_source source : SourceState) (mounted : Option VolumeId) (exchanges : List Exchange) (ended : Option AskEnd) (number cost place limit most : ℕ) (printed : SinkState)
-    → SoFar start sink was before_source mounted exchanges ended number printed → most ≡ turns - cost → Read.TakesAll longest_line most was before_source unread source
-    → StopsLines turns start sink ends.Spent (stood_at exchanges ended cost place limit false) source printed
-source-spent turns start sink was unread before_source source mounted exchanges ended number cost place limit most printed so is t = record {
+pub source-spent : (turns : ℕ) (start : SourceState) (sink : SinkState) (was unread : Read.Unread) (before_source source : SourceState) (mounted : Option VolumeId) (exchanges : List Exchange) (ended : Option AskEnd) (number cost place : ℕ) (limits : List Limit) (most : ℕ) (printed : SinkState)
+    → SoFar turns start sink was before_source mounted exchanges ended limits number printed → most ≡ turns - cost → Read.TakesAll longest_line most was before_source unread source
+    → StopsLines turns start sink ends.Spent (stood_at exchanges ended cost place limits false) source printed
+source-spent turns start sink was unread before_source source mounted exchanges ended number cost place limits most printed so is t = record {
   carried = so.carried;
   are = so.are;
   text = printed_of so.carried;
@@ -464,6 +488,7 @@ source-spent turns start sink was unread before_source source mounted exchanges 
     unread = unread;
     reached = subst (λ (u : Read.Unread). Read.TakesAll longest_line (turns - cost) u (source_behind start so.carried) unread source) so.unread_is (subst (λ (s : SourceState). Read.TakesAll longest_line (turns - cost) was s unread source) so.source_is
         (subst (λ (n : ℕ). Read.TakesAll longest_line n was before_source unread source) is t));
+    limits = so.limits_are;
     told = so.told;
     live = so.live;
     closes = refl;
@@ -472,17 +497,19 @@ source-spent turns start sink was unread before_source source mounted exchanges 
   prints = so.prints;
 }
 
-pub source-lacks : (turns : ℕ) (start : SourceState) (sink : SinkState) (was : Read.Unread) (before_source source : SourceState) (mounted : Option VolumeId) (exchanges : List Exchange) (ended : Option AskEnd) (number cost place limit : ℕ) (printed : SinkState)
-    → SoFar start sink was before_source mounted exchanges ended number printed → Read.TakesSome was before_source source
-    → StopsLines turns start sink ends.Memory (stood_at exchanges ended cost place limit false) source printed
-source-lacks turns start sink was before_source source mounted exchanges ended number cost place limit printed so t = record {
+pub source-lacks : (turns : ℕ) (start : SourceState) (sink : SinkState) (was : Read.Unread) (before_source source : SourceState) (mounted : Option VolumeId) (exchanges : List Exchange) (ended : Option AskEnd) (number cost place : ℕ) (limits : List Limit) (most : ℕ) (printed : SinkState)
+    → SoFar turns start sink was before_source mounted exchanges ended limits number printed → most ≡ turns - cost → Read.TakesSome most was before_source source
+    → StopsLines turns start sink ends.Memory (stood_at exchanges ended cost place limits false) source printed
+source-lacks turns start sink was before_source source mounted exchanges ended number cost place limits most printed so is t = record {
   carried = so.carried;
   are = so.are;
   text = printed_of so.carried;
   stops = record {
-    some = subst (λ (u : Read.Unread). Read.TakesSome u (source_behind start so.carried) source) so.unread_is (subst (λ (s : SourceState). Read.TakesSome was s source) so.source_is t);
+    cost = cost;
+    some = subst (λ (u : Read.Unread). Read.TakesSome (turns - cost) u (source_behind start so.carried) source) so.unread_is (subst (λ (s : SourceState). Read.TakesSome (turns - cost) was s source) so.source_is
+        (subst (λ (n : ℕ). Read.TakesSome n was before_source source) is t));
     exchanges = [];
-    begun = inl refl;
+    begun = inl (record { none = refl; cost_is = refl; limits = so.limits_are });
     told = so.told ∙ sym (append-nil (exchanges_of so.carried));
     closes = refl;
     prints = refl;
@@ -495,7 +522,7 @@ never-closes : {A : Type 0} → false ≡ true → A
 never-closes e = absurd (cc e)
 
 at-end : (turns : ℕ) (start : SourceState) (carried : List Carried) (why : ClientEnd) (text : List ℕ) (stood : Stood) (source : SourceState) → Stops turns start carried why text stood source → stood.closes ≡ true
-    → (why ≡ ends.Done) × AtEnd start carried text stood source
+    → (why ≡ ends.Done) × AtEnd turns start carried text stood source
 at-end turns start carried ends.Done text stood source (inl a) is = (refl, a)
 at-end turns start carried ends.Done text stood source (inr a) is = never-closes (sym a.closes ∙ is)
 at-end turns start carried (ends.Refused c) text stood source a is = never-closes (sym a.closes ∙ is)
@@ -515,72 +542,73 @@ at-end turns start carried ends.Spent text stood source (inr a) is = never-close
 at-end turns start carried ends.Memory text stood source a is = never-closes (sym a.closes ∙ is)
 
 -- it was closed
-pub runs-closed : {L : Type 0} (state : L → LinkState) (turns : ℕ) (first : Start) (old : DialerState L) (start : SourceState) (sink : SinkState) (why : ClientEnd) (exchanges : List Exchange) (ended : Option AskEnd) (cost place limit : ℕ) (closes : Bool) (dialer : DialerState L)
+pub runs-closed : {L : Type 0} (state : L → LinkState) (turns : ℕ) (first : Start) (old : DialerState L) (start : SourceState) (sink : SinkState) (why : ClientEnd) (exchanges : List Exchange) (ended : Option AskEnd) (cost place : ℕ) (limits : List Limit) (closes : Bool) (dialer : DialerState L)
     (source : SourceState) (printed : SinkState)
-    → StopsLines turns start sink why (stood_at exchanges ended cost place limit closes) source printed → closes ≡ true → Closes state first old limit exchanges ended None cost place dialer
+    → StopsLines turns start sink why (stood_at exchanges ended cost place limits closes) source printed → closes ≡ true → Closes state first old limits exchanges ended None cost place dialer
     → RunsPrinted state turns first old start sink why dialer source printed
-runs-closed state turns first old start sink why exchanges ended cost place limit closes dialer source printed s is c =
-    let e = at-end turns start s.carried why s.text (stood_at exchanges ended cost place limit closes) source s.stops is in
+runs-closed state turns first old start sink why exchanges ended cost place limits closes dialer source printed s is c =
+    let e = at-end turns start s.carried why s.text (stood_at exchanges ended cost place limits closes) source s.stops is in
     record {
       text = s.text;
       runs = inr (record {
         carried = s.carried;
         are = s.are;
-        stood = stood_at exchanges ended cost place limit closes;
+        stood = stood_at exchanges ended cost place limits closes;
         stops = s.stops;
-        leaves = subst (λ (b : Bool). LeavesLinks state first old (stood_at exchanges ended cost place limit closes) b dialer) (sym is)
-            (subst (λ (o : Option AskEnd). Closes state first old limit exchanges o None cost place dialer) e.1.live c);
+        leaves = subst (λ (b : Bool). LeavesLinks state first old (stood_at exchanges ended cost place limits closes) b dialer) (sym is)
+            (subst (λ (o : Option AskEnd). Closes state first old limits exchanges o None cost place dialer) e.1.live c);
       });
       prints = s.prints;
     }
 
 -- there was no memory for CloseSession
-lacks-close : {L : Type 0} (state : L → LinkState) (first : Start) (old : DialerState L) (limit : ℕ) (exchanges : List Exchange) (told : AskEnd) (cost place : ℕ) (dialer : DialerState L)
-    → Closes state first old limit exchanges None (Some told) cost place dialer → Finishes state first old limit exchanges None cost place dialer
-lacks-close state first old limit exchanges (asks.Links end) cost place dialer c = absurd c
-lacks-close state first old limit exchanges (asks.BadReply at) cost place dialer c = absurd c
-lacks-close state first old limit exchanges asks.Memory cost place dialer c = c
+lacks-close : {L : Type 0} (state : L → LinkState) (first : Start) (old : DialerState L) (limits : List Limit) (exchanges : List Exchange) (told : AskEnd) (cost place : ℕ) (dialer : DialerState L)
+    → Closes state first old limits exchanges None (Some told) cost place dialer → Finishes state first old limits exchanges None cost place dialer
+lacks-close state first old limits exchanges (asks.Links end) cost place dialer c = absurd c
+lacks-close state first old limits exchanges (asks.BadReply at) cost place dialer c = absurd c
+lacks-close state first old limits exchanges asks.Memory cost place dialer c = c
 
-pub runs-unclosed : {L : Type 0} (state : L → LinkState) (turns : ℕ) (first : Start) (old : DialerState L) (start : SourceState) (sink : SinkState) (why : ClientEnd) (exchanges : List Exchange) (ended : Option AskEnd) (told : AskEnd) (cost place limit : ℕ) (closes : Bool)
+pub runs-unclosed : {L : Type 0} (state : L → LinkState) (turns : ℕ) (first : Start) (old : DialerState L) (start : SourceState) (sink : SinkState) (why : ClientEnd) (exchanges : List Exchange) (ended : Option AskEnd) (told : AskEnd) (cost place : ℕ) (limits : List Limit) (closes : Bool)
     (dialer : DialerState L) (source : SourceState) (printed : SinkState)
-    → StopsLines turns start sink why (stood_at exchanges ended cost place limit closes) source printed → closes ≡ true → Closes state first old limit exchanges ended (Some told) cost place dialer
+    → StopsLines turns start sink why (stood_at exchanges ended cost place limits closes) source printed → closes ≡ true → Closes state first old limits exchanges ended (Some told) cost place dialer
     → RunsPrinted state turns first old start sink ends.Memory dialer source printed
-runs-unclosed state turns first old start sink why exchanges ended told cost place limit closes dialer source printed s is c =
-    let e = at-end turns start s.carried why s.text (stood_at exchanges ended cost place limit closes) source s.stops is in
+runs-unclosed state turns first old start sink why exchanges ended told cost place limits closes dialer source printed s is c =
+    let e = at-end turns start s.carried why s.text (stood_at exchanges ended cost place limits closes) source s.stops is in
     let live = e.1.live in
     record {
       text = s.text;
       runs = inr (record {
         carried = s.carried;
         are = s.are;
-        stood = stood_at exchanges ended cost place limit false;
+        stood = stood_at exchanges ended cost place limits false;
         stops = record {
-          some = record { read = []; given = e.1.none.reads.given; faults = e.1.none.reads.faults };
+          cost = cost;
+          some = record { read = []; given = e.1.none.reads.given; faults = e.1.none.reads.faults; within = e.1.none.within };
           exchanges = [];
-          begun = inl refl;
+          begun = inl (record { none = refl; cost_is = refl; limits = e.1.limits });
           told = e.1.told ∙ sym (append-nil (exchanges_of s.carried));
           closes = refl;
           prints = e.1.prints;
         };
-        leaves = subst (λ (o : Option AskEnd). Finishes state first old limit exchanges o cost place dialer) (sym live)
-            (lacks-close state first old limit exchanges told cost place dialer (subst (λ (o : Option AskEnd). Closes state first old limit exchanges o (Some told) cost place dialer) live c));
+        leaves = subst (λ (o : Option AskEnd). Finishes state first old limits exchanges o cost place dialer) (sym live)
+            (lacks-close state first old limits exchanges told cost place dialer (subst (λ (o : Option AskEnd). Closes state first old limits exchanges o (Some told) cost place dialer) live c));
       });
       prints = subst (λ (w : ClientEnd). PrintsLines sink s.text w printed) e.0 s.prints;
     }
 
 -- its link was left
-pub runs-left : {L : Type 0} (state : L → LinkState) (turns : ℕ) (first : Start) (old : DialerState L) (start : SourceState) (sink : SinkState) (why : ClientEnd) (exchanges : List Exchange) (ended : Option AskEnd) (cost place limit : ℕ) (closes : Bool) (dialer : DialerState L)
+pub runs-left : {L : Type 0} (state : L → LinkState) (turns : ℕ) (first : Start) (old : DialerState L) (start : SourceState) (sink : SinkState) (why : ClientEnd) (exchanges : List Exchange) (ended : Option AskEnd) (cost place : ℕ) (limits : List Limit) (closes : Bool) (dialer : DialerState L)
     (source : SourceState) (printed : SinkState)
-    → StopsLines turns start sink why (stood_at exchanges ended cost place limit closes) source printed → closes ≡ false → Finishes state first old limit exchanges ended cost place dialer
+    → StopsLines turns start sink why (stood_at exchanges ended cost place limits closes) source printed → closes ≡ false → Finishes state first old limits exchanges ended cost place dialer
     → RunsPrinted state turns first old start sink why dialer source printed
-runs-left state turns first old start sink why exchanges ended cost place limit closes dialer source printed s is f = record {
+runs-left state turns first old start sink why exchanges ended cost place limits closes dialer source printed s is f = record {
   text = s.text;
   runs = inr (record {
     carried = s.carried;
     are = s.are;
-    stood = stood_at exchanges ended cost place limit closes;
+    stood = stood_at exchanges ended cost place limits closes;
     stops = s.stops;
-    leaves = subst (λ (b : Bool). LeavesLinks state first old (stood_at exchanges ended cost place limit closes) b dialer) (sym is) f;
+    leaves = subst (λ (b : Bool). LeavesLinks state first old (stood_at exchanges ended cost place limits closes) b dialer) (sym is) f;
   });
   prints = s.prints;
 }
@@ -611,27 +639,27 @@ prints-part old mid new text ends.WriteFault p q = absurd (omega (arith, ap leng
 prints-part old mid new text why p q = prints-both old mid new text (last_line why) false p q
 
 -- the same, of a client that began with these
-module _ {L : Type 0} (state : L → LinkState) (turns : ℕ) (first first_now : Start) (old old_now : DialerState L) (start : SourceState) (sink : SinkState) (why : ClientEnd) (exchanges : List Exchange) (ended : Option AskEnd) (cost place limit : ℕ) (closes : Bool)
-    (dialer : DialerState L) (source : SourceState) (printed : SinkState) (s : StopsLines turns start sink why (stood_at exchanges ended cost place limit closes) source printed) (same_first : first_now ≡ first) (same_old : old_now ≡ old) where
-  pub closed-runs : (told : Option AskEnd) → told ≡ None → closes ≡ true → Closes state first_now old_now limit exchanges ended told cost place dialer → RunsPrinted state turns first old start sink why dialer source printed
+module _ {L : Type 0} (state : L → LinkState) (turns : ℕ) (first first_now : Start) (old old_now : DialerState L) (start : SourceState) (sink : SinkState) (why : ClientEnd) (exchanges : List Exchange) (ended : Option AskEnd) (cost place : ℕ) (limits : List Limit) (closes : Bool)
+    (dialer : DialerState L) (source : SourceState) (printed : SinkState) (s : StopsLines turns start sink why (stood_at exchanges ended cost place limits closes) source printed) (same_first : first_now ≡ first) (same_old : old_now ≡ old) where
+  pub closed-runs : (told : Option AskEnd) → told ≡ None → closes ≡ true → Closes state first_now old_now limits exchanges ended told cost place dialer → RunsPrinted state turns first old start sink why dialer source printed
   closed-runs told none is c =
-      runs-closed state turns first old start sink why exchanges ended cost place limit closes dialer source printed s is
-      (subst (λ (o : Option AskEnd). Closes state first old limit exchanges ended o cost place dialer) none
-      (subst (λ (f : Start). Closes state f old limit exchanges ended told cost place dialer) same_first
-      (subst (λ (d : DialerState L). Closes state first_now d limit exchanges ended told cost place dialer) same_old c)))
+      runs-closed state turns first old start sink why exchanges ended cost place limits closes dialer source printed s is
+      (subst (λ (o : Option AskEnd). Closes state first old limits exchanges ended o cost place dialer) none
+      (subst (λ (f : Start). Closes state f old limits exchanges ended told cost place dialer) same_first
+      (subst (λ (d : DialerState L). Closes state first_now d limits exchanges ended told cost place dialer) same_old c)))
 
-  pub unclosed-runs : (told : Option AskEnd) (end : AskEnd) → told ≡ Some end → closes ≡ true → Closes state first_now old_now limit exchanges ended told cost place dialer → RunsPrinted state turns first old start sink ends.Memory dialer source printed
+  pub unclosed-runs : (told : Option AskEnd) (end : AskEnd) → told ≡ Some end → closes ≡ true → Closes state first_now old_now limits exchanges ended told cost place dialer → RunsPrinted state turns first old start sink ends.Memory dialer source printed
   unclosed-runs told end some is c =
-      runs-unclosed state turns first old start sink why exchanges ended end cost place limit closes dialer source printed s is
-      (subst (λ (o : Option AskEnd). Closes state first old limit exchanges ended o cost place dialer) some
-      (subst (λ (f : Start). Closes state f old limit exchanges ended told cost place dialer) same_first
-      (subst (λ (d : DialerState L). Closes state first_now d limit exchanges ended told cost place dialer) same_old c)))
+      runs-unclosed state turns first old start sink why exchanges ended end cost place limits closes dialer source printed s is
+      (subst (λ (o : Option AskEnd). Closes state first old limits exchanges ended o cost place dialer) some
+      (subst (λ (f : Start). Closes state f old limits exchanges ended told cost place dialer) same_first
+      (subst (λ (d : DialerState L). Closes state first_now d limits exchanges ended told cost place dialer) same_old c)))
 
-  pub left-runs : closes ≡ false → Finishes state first_now old_now limit exchanges ended cost place dialer → RunsPrinted state turns first old start sink why dialer source printed
+  pub left-runs : closes ≡ false → Finishes state first_now old_now limits exchanges ended cost place dialer → RunsPrinted state turns first old start sink why dialer source printed
   left-runs is f =
-      runs-left state turns first old start sink why exchanges ended cost place limit closes dialer source printed s is
-      (subst (λ (g : Start). Finishes state g old limit exchanges ended cost place dialer) same_first
-      (subst (λ (d : DialerState L). Finishes state first_now d limit exchanges ended cost place dialer) same_old f))
+      runs-left state turns first old start sink why exchanges ended cost place limits closes dialer source printed s is
+      (subst (λ (g : Start). Finishes state g old limits exchanges ended cost place dialer) same_first
+      (subst (λ (d : DialerState L). Finishes state first_now d limits exchanges ended cost place dialer) same_old f))
 
 -- and of one that was opened so
 pub opened-runs : {L : Type 0} (state : L → LinkState) (turns : ℕ) (first first_now : Start) (old old_now : DialerState L) (start : SourceState) (sink : SinkState) (why : ClientEnd) (dialer : DialerState L) (source : SourceState) (printed : SinkState)

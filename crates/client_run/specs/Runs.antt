@@ -26,13 +26,13 @@ first_client login = record {
 
 -- Its links, where the script stops: the session was closed, or its link was left in silence, or its links had ended. All are handed back.
 abbrev pub LeavesLinks : {L : Type 0} → (L → LinkState) → Start → DialerState L → Stood → Bool → DialerState L → Type 0
-LeavesLinks state first old stood true dialer = HasClosed state first old stood.exchanges stood.cost dialer
-LeavesLinks state first old stood false dialer = Finishes state first old stood.limit stood.exchanges stood.ended stood.cost stood.place dialer
+LeavesLinks state first old stood true dialer = HasClosed state first old stood.limits stood.exchanges stood.cost dialer
+LeavesLinks state first old stood false dialer = Finishes state first old stood.limits stood.exchanges stood.ended stood.cost stood.place dialer
 
 -- A client was opened. These lines were carried out, and then the script stopped.
 pub record RunsLines {L : Type 0} (state : L → LinkState) (turns : ℕ) (first : Start) (old : DialerState L) (start : SourceState) (why : ClientEnd) (text : List ℕ) (dialer : DialerState L) (source : SourceState) : Type 0 where
   pub carried : List Carried
-  pub are : AreCarried start carried
+  pub are : AreCarried turns start carried
   pub stood : Stood
   pub stops : Stops turns start carried why text stood source
   pub leaves : LeavesLinks state first old stood stood.closes dialer
@@ -63,5 +63,5 @@ PrintsWhole old text why end new = (end ≡ why) × Prints old (text ++ last_lin
 pub record RunsClient {L : Type 0} (state : L → LinkState) (turns : ℕ) (login : Login) (old : DialerState L) (start : SourceState) (sink : SinkState) (end : ClientEnd) (dialer : DialerState L) (source : SourceState) (printed : SinkState) : Type 0 where
   pub why : ClientEnd
   pub text : List ℕ
-  pub runs : Runs state turns (first_of (first_client login)) old start why text dialer source
+  pub runs : Runs state turns (first_of (first_client login) turns) old start why text dialer source
   pub prints : PrintsWhole sink text why end printed

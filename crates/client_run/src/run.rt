@@ -1,5 +1,5 @@
 //! A script, line by line.
-ghost use Rattle.std.specs.Prelude.{◌≡◌, ◌<◌, ◌^◌, [], None, IfOk, length};
+ghost use Rattle.std.specs.Prelude.{◌≡◌, ◌<◌, ◌^◌, ◌∷◌, [], None, IfOk, length};
 ghost use Rattle.afp_base.specs.Counts.{CountsOn};
 ghost use Rattle.afp_client.specs.Opening.{FitsLogin};
 ghost use Rattle.client_script_links.specs.Standing.{first_of};
@@ -98,9 +98,11 @@ fn take_lines<S: Source, O: Sink, D: Dialer>(
     requires turns { turns < 2 ^ 63 }
     requires live { asker.old.ended ≡ None }
     requires none { asker.old.asked.exchanges ≡ [] }
+    requires limits { asker.old.asked.fixed.limits.items ≡ (record { turns = turns; spent = 0 }) ∷ [] }
     ensures core { asker.new.asked.fixed.core ≡ asker.old.asked.fixed.core }
     ensures dialer { asker.new.asked.fixed.dialer ≡ asker.old.asked.fixed.dialer }
-    ensures stops { StopsLines turns (S.source_state source.old) (O.sink_state out.old) result.end (stood_at asker.new.asked.exchanges asker.new.ended asker.new.cost asker.new.place asker.new.asked.fixed.turns result.closes) (S.source_state source.new) (O.sink_state out.new) }
+    ensures turns { asker.new.asked.fixed.turns ≡ asker.old.asked.fixed.turns }
+    ensures stops { StopsLines turns (S.source_state source.old) (O.sink_state out.old) result.end (stood_at asker.new.asked.exchanges asker.new.ended asker.new.cost asker.new.place asker.new.asked.fixed.limits.items result.closes) (S.source_state source.new) (O.sink_state out.new) }
 {
     let mut lines = Lines::new(alloc);
     let mut mounted = None;
@@ -168,7 +170,8 @@ fn run_open<S: Source, O: Sink, D: Dialer>(
     requires turns { turns < 2 ^ 63 }
     requires live { asker.ended ≡ None }
     requires none { asker.asked.exchanges ≡ [] }
-    ensures { RunsPrinted D.Link.link_state turns (first_of asker.asked.fixed.core.value) (D.dialer_state asker.asked.fixed.dialer.value) (S.source_state source.old) (O.sink_state out.old) result.end (D.dialer_state result.dialer) (S.source_state source.new) (O.sink_state out.new) }
+    requires limits { asker.asked.fixed.limits.items ≡ (record { turns = turns; spent = 0 }) ∷ [] }
+    ensures { RunsPrinted D.Link.link_state turns (first_of asker.asked.fixed.core.value asker.asked.fixed.turns) (D.dialer_state asker.asked.fixed.dialer.value) (S.source_state source.old) (O.sink_state out.old) result.end (D.dialer_state result.dialer) (S.source_state source.new) (O.sink_state out.new) }
 {
     let mut asker = asker;
     let ended = take_lines(alloc, &mut asker, source, out, turns);
@@ -204,7 +207,7 @@ fn run_script<S: Source, O: Sink, D: Dialer>(
 ) -> Ran<D>
     requires login { FitsLogin login }
     requires turns { turns < 2 ^ 63 }
-    ensures { RunsPrinted D.Link.link_state turns (first_of (first_client login)) (D.dialer_state dialer) (S.source_state source.old) (O.sink_state out.old) result.end (D.dialer_state result.dialer) (S.source_state source.new) (O.sink_state out.new) }
+    ensures { RunsPrinted D.Link.link_state turns (first_of (first_client login) turns) (D.dialer_state dialer) (S.source_state source.old) (O.sink_state out.old) result.end (D.dialer_state result.dialer) (S.source_state source.new) (O.sink_state out.new) }
 {
     let Ok(core) = ClientCore::new(alloc, login) else {
         return Ran {

@@ -9,19 +9,20 @@ use Rattle.afp_outside.specs.Dialer.{DialerState}
 use Rattle.afp_outside.specs.Link.{LinkState}
 use Rattle.afp_replies.specs.Replies.{Shows}
 use Rattle.afp_replies.specs.declared.reply.Reply.{Reply}
-use Rattle.client_links.specs.History.{Happening, asks, cost_in}
-use Rattle.client_links.specs.Links.{Part, Past, all_results}
+use Rattle.client_links.specs.History.{Happening, allowed, allowed_by, asks, cost_in, limited}
+use Rattle.client_links.specs.Links.{Part, Past, all_limits, all_results, limits_of}
 use Rattle.client_links.specs.OnLink.{Start}
 use Rattle.client_links.specs.Talk.{AsksTalk, ClosesTalk, EndsTalk, IsBehind, LeavesOpen, OpensTalk, TalkAt, TellsEnd}
 use Rattle.client_links.specs.lemma.Coming.{StandsAt}
 use Rattle.client_links.specs.declared.links.TalkEnd.{TalkEnd}
+use Rattle.client_links.specs.declared.talk.Limit.{Limit}
 use Rattle.client_links.specs.declared.talk.Told.{Told}
 use Rattle.client_script_calls.specs.Asked.{IsCommand}
 use Rattle.client_script_parts.specs.declared.asker.Answer.{Answer}
 use Rattle.client_script_parts.specs.Parts.{Exchange}
 use Rattle.client_script_links.specs.Kinds.{reply_kind}
 use Rattle.client_script_links.specs.Read.{AreRead, IsRead}
-use Rattle.client_script_links.specs.Standing.{AnswersBy, HasClosed, HasEnded, HasLeft, OpensNone, IsOpen, Stands, TellsBad, TellsOn, ToldAt, first_of, spent_behind, spent_on}
+use Rattle.client_script_links.specs.Standing.{AnswersBy, before_limits, HasClosed, HasEnded, HasLeft, OpensNone, IsOpen, Stands, TellsBad, TellsOn, ToldAt, first_of, spent_behind, spent_on}
 use Rattle.client_script_links.specs.declared.asker.AskEnd.{AskEnd}
 use Rattle.client_script_links.specs.declared.asker.AskEnd.TheVariants as ends
 
@@ -40,10 +41,24 @@ read-more [] (s ∷ rs) x r h i = absurd h
 read-more (y ∷ xs) [] x r h i = absurd h
 read-more (y ∷ xs) (s ∷ rs) x r h i = (h.0, read-more xs rs x r h.1 i)
 
+-- no limit was set behind a frame that was taken last
+still-behind : (before all : List Happening) → IsBehind before all → IsBehind before (before_limits all)
+still-behind before all b = (b.0, b.1, b.2, ap before_limits b.3)
+
+-- a limit takes no frame
+told-limited : (xs : List Exchange) (all : List Happening) (l : Limit) (place : ℕ) → ToldAt xs all place → ToldAt xs (limited l ∷ all) place
+told-limited [] all l place h = h
+told-limited (x ∷ xs) all l place h = h
+
 -- the frame of one more
 told-more : (xs : List Exchange) (x : Exchange) (all before : List Happening) (place : ℕ) → IsBehind before all → StandsAt before place → ToldAt (xs ++ x ∷ []) all place
-told-more [] x all before place behind stands = (before, behind, stands)
-told-more (y ∷ xs) x all before place behind stands = (before, behind, stands)
+told-more [] x all before place behind stands = (before, still-behind before all behind, stands)
+told-more (y ∷ xs) x all before place behind stands = (before, still-behind before all behind, stands)
+
+-- the last limit is the one that holds
+allowed-more : (most : ℕ) (limits : List Limit) (l : Limit) → allowed_by most (limits ++ l ∷ []) ≡ l.turns
+allowed-more most [] l = refl
+allowed-more most (m ∷ limits) l = allowed-more m.turns limits l
 
 -- what was spent on links that all broke, and on one more
 spent-past : {L : Type 0} (state : L → LinkState) (first from : Start) (past : List (Part L)) → Past state first past from → from.spent ≡ spent_behind first past
@@ -62,18 +77,18 @@ told-on : {L : Type 0} (state : L → LinkState) (turns : ℕ) (first : Start) (
     → AsksTalk state turns first old past all s call (Ok told) link core replied idle cost dialer
     → (later : List (Part L)) × (now : List Happening) × TalkAt state first old later now link core replied idle cost dialer
     × (all_results None later now ≡ all_results None past all ++ record { call = call; code = told.code; block = told.block } ∷ [])
-    × ((xs : List Exchange) (x : Exchange) → ToldAt (xs ++ x ∷ []) now told.at)
+    × ((xs : List Exchange) (x : Exchange) → ToldAt (xs ++ x ∷ []) now told.at) × (all_limits first.limits later now ≡ all_limits first.limits past all)
 told-on state turns first old past all s call told (Some link) core replied idle cost dialer t =
-    (t.later, t.now, t.over, t.results None, λ xs x. told-more xs x t.now t.before told.at t.behind t.stands)
+    (t.later, t.now, t.over, t.results None, λ xs x. told-more xs x t.now t.before told.at t.behind t.stands, t.limits first.limits)
 told-on state turns first old past all s call told None core replied idle cost dialer t = absurd t
 
 -- an answer was read
-pub stays-open : {L : Type 0} (state : L → LinkState) (first : Start) (old : DialerState L) (turns : ℕ) (exchanges after : List Exchange) (call : Call) (answer : Answer) (told : Told) (link : Option L) (core : Client) (out : List ℕ) (size : ℕ)
+pub stays-open : {L : Type 0} (state : L → LinkState) (first : Start) (old : DialerState L) (limits : List Limit) (turns : ℕ) (exchanges after : List Exchange) (call : Call) (answer : Answer) (told : Told) (link : Option L) (core : Client) (out : List ℕ) (size : ℕ)
     (replied : Bool) (idle cost : ℕ) (dialer : DialerState L)
-    → TellsOn state first old turns exchanges call told link core out size replied idle cost dialer
+    → TellsOn state first old limits turns exchanges call told link core out size replied idle cost dialer
     → AnswersBy call told (Ok answer) → after ≡ exchanges ++ (record { call = call; answer = answer }) ∷ []
-    → IsOpen state first old turns after link core out size replied idle cost told.at dialer
-stays-open state first old turns exchanges after call answer told link core out size replied idle cost dialer t a is =
+    → IsOpen state first old limits turns after link core out size replied idle cost told.at dialer
+stays-open state first old limits turns exchanges after call answer told link core out size replied idle cost dialer t a is =
     let on = told-on state turns first old t.past t.all t.s call told link core replied idle cost dialer t.asks in
     let r : CallResult = record { call = call; code = told.code; block = told.block } in
     record {
@@ -84,6 +99,8 @@ stays-open state first old turns exchanges after call answer told link core out 
           (subst (λ (rs : List CallResult). AreRead (exchanges ++ (record { call = call; answer = answer }) ∷ []) rs) (sym on.3)
           (read-more exchanges (all_results None t.past t.all) (record { call = call; answer = answer }) r t.read (record { call = refl; code = a.0; shows = a.1 })));
       told = subst (λ (xs : List Exchange). ToldAt xs on.1 told.at) (sym is) (on.4 exchanges (record { call = call; answer = answer }));
+      limits_are = t.limits_are ∙ sym on.5;
+      limit = t.limit ∙ ap allowed (sym on.5);
       linked = t.linked;
       empty = t.empty;
       ready = t.ready;
@@ -95,56 +112,60 @@ stays-open state first old turns exchanges after call answer told link core out 
     }
 
 -- no answer was read, and the link was left
-bad-told : {L : Type 0} (state : L → LinkState) (first : Start) (old : DialerState L) (turns : ℕ) (exchanges : List Exchange) (call : Call) (told : Told) (link : Option L) (core : Client) (out : List ℕ) (size : ℕ)
+bad-told : {L : Type 0} (state : L → LinkState) (first : Start) (old : DialerState L) (limits : List Limit) (turns : ℕ) (exchanges : List Exchange) (call : Call) (told : Told) (link : Option L) (core : Client) (out : List ℕ) (size : ℕ)
     (replied : Bool) (idle cost : ℕ) (dialer new : DialerState L) (past : List (Part L)) (all : List Happening) (s : ClientState) (at : ℕ)
     → AsksTalk state turns first old past all s call (Ok told) link core replied idle cost dialer → (at ≡ told.at) × ((reply : Reply) → Shows reply (reply_kind call) told.code told.block → ⊥)
     → ((f : Start) (d : DialerState L) (p : List (Part L)) (h : List Happening) → TalkAt state f d p h link core replied idle cost dialer → LeavesOpen state f d p h new)
     → TellsBad state first old past all at new
-bad-told state first old turns exchanges call told (Some link) core out size replied idle cost dialer new past all s at t bad leaves = record {
+bad-told state first old limits turns exchanges call told (Some link) core out size replied idle cost dialer new past all s at t bad leaves = record {
   later = t.later;
   now = t.now;
   told = record { call = call; code = told.code; block = told.block };
   results = t.results None;
+  limits = t.limits first.limits;
   bad = bad.1;
   before = t.before;
   behind = t.behind;
   stands = subst (λ (n : ℕ). StandsAt t.before n) (sym bad.0) t.stands;
   leaves = leaves first old t.later t.now t.over;
 }
-bad-told state first old turns exchanges call told None core out size replied idle cost dialer new past all s at t bad leaves = absurd t
+bad-told state first old limits turns exchanges call told None core out size replied idle cost dialer new past all s at t bad leaves = absurd t
 
-pub leaves-bad : {L : Type 0} (state : L → LinkState) (first : Start) (old : DialerState L) (turns : ℕ) (exchanges after : List Exchange) (call : Call) (told : Told) (end : AskEnd) (link : Option L) (core : Client) (out : List ℕ) (size : ℕ)
+pub leaves-bad : {L : Type 0} (state : L → LinkState) (first : Start) (old : DialerState L) (limits : List Limit) (turns : ℕ) (exchanges after : List Exchange) (call : Call) (told : Told) (end : AskEnd) (link : Option L) (core : Client) (out : List ℕ) (size : ℕ)
     (replied : Bool) (idle cost : ℕ) (dialer new : DialerState L)
-    → TellsOn state first old turns exchanges call told link core out size replied idle cost dialer → AnswersBy call told (Err end) → after ≡ exchanges
+    → TellsOn state first old limits turns exchanges call told link core out size replied idle cost dialer → AnswersBy call told (Err end) → after ≡ exchanges
     → ((f : Start) (d : DialerState L) (p : List (Part L)) (h : List Happening) → TalkAt state f d p h link core replied idle cost dialer → LeavesOpen state f d p h new)
-    → (limit spent : ℕ) → HasEnded state first old limit after end spent new
-leaves-bad state first old turns exchanges after call told (ends.BadReply at) link core out size replied idle cost dialer new t a is leaves limit spent = record {
+    → (spent : ℕ) → HasEnded state first old limits after end spent new
+leaves-bad state first old limits turns exchanges after call told (ends.BadReply at) link core out size replied idle cost dialer new t a is leaves spent = record {
   past = t.past;
   all = t.all;
   read = subst (λ (xs : List Exchange). AreRead xs (all_results None t.past t.all)) (sym is) t.read;
-  ends = bad-told state first old turns exchanges call told link core out size replied idle cost dialer new t.past t.all t.s at t.asks a leaves;
+  limits_are = t.limits_are;
+  ends = bad-told state first old limits turns exchanges call told link core out size replied idle cost dialer new t.past t.all t.s at t.asks a leaves;
 }
-leaves-bad state first old turns exchanges after call told ends.Memory link core out size replied idle cost dialer new t a is leaves limit spent =
+leaves-bad state first old limits turns exchanges after call told ends.Memory link core out size replied idle cost dialer new t a is leaves spent =
     let on = told-on state turns first old t.past t.all t.s call told link core replied idle cost dialer t.asks in
     record {
       past = t.past;
       all = t.all;
       read = subst (λ (xs : List Exchange). AreRead xs (all_results None t.past t.all)) (sym is) t.read;
-      ends = record { later = on.0; now = on.1; leaves = leaves first old on.0 on.1 on.2 };
+      limits_are = t.limits_are;
+      ends = record { later = on.0; now = on.1; limits_are = t.limits_are ∙ sym on.5; leaves = leaves first old on.0 on.1 on.2 };
     }
-leaves-bad state first old turns exchanges after call told (ends.Links end) link core out size replied idle cost dialer new t a is leaves limit spent = absurd a
+leaves-bad state first old limits turns exchanges after call told (ends.Links end) link core out size replied idle cost dialer new t a is leaves spent = absurd a
 
 -- it is asked no more
-pub leaves-unasked : {L : Type 0} (state : L → LinkState) (first : Start) (old : DialerState L) (turns : ℕ) (exchanges : List Exchange) (link : Option L) (core : Client) (out : List ℕ) (size : ℕ)
+pub leaves-unasked : {L : Type 0} (state : L → LinkState) (first : Start) (old : DialerState L) (limits : List Limit) (turns : ℕ) (exchanges : List Exchange) (link : Option L) (core : Client) (out : List ℕ) (size : ℕ)
     (replied : Bool) (idle cost place : ℕ) (dialer new : DialerState L)
-    → IsOpen state first old turns exchanges link core out size replied idle cost place dialer
+    → IsOpen state first old limits turns exchanges link core out size replied idle cost place dialer
     → ((f : Start) (d : DialerState L) (p : List (Part L)) (h : List Happening) → TalkAt state f d p h link core replied idle cost dialer → LeavesOpen state f d p h new)
-    → (limit spent : ℕ) → HasEnded state first old limit exchanges ends.Memory spent new
-leaves-unasked state first old turns exchanges link core out size replied idle cost place dialer new o leaves limit spent = record {
+    → (spent : ℕ) → HasEnded state first old limits exchanges ends.Memory spent new
+leaves-unasked state first old limits turns exchanges link core out size replied idle cost place dialer new o leaves spent = record {
   past = o.past;
   all = o.all;
   read = o.read;
-  ends = record { later = o.past; now = o.all; leaves = leaves first old o.past o.all o.at };
+  limits_are = o.limits_are;
+  ends = record { later = o.past; now = o.all; limits_are = o.limits_are; leaves = leaves first old o.past o.all o.at };
 }
 
 -- its links ended behind a call
@@ -154,42 +175,50 @@ ended-on : {L : Type 0} (state : L → LinkState) (turns : ℕ) (first : Start) 
 ended-on state turns first old past all s call end (Some link) core replied idle cost dialer t = absurd t
 ended-on state turns first old past all s call end None core replied idle cost dialer t = t
 
-pub links-end : {L : Type 0} (state : L → LinkState) (first : Start) (old : DialerState L) (turns : ℕ) (exchanges : List Exchange) (link now : Option L) (before core : Client) (out : List ℕ) (size : ℕ)
+pub links-end : {L : Type 0} (state : L → LinkState) (first : Start) (old : DialerState L) (limits : List Limit) (turns : ℕ) (exchanges : List Exchange) (link now : Option L) (before core : Client) (out : List ℕ) (size : ℕ)
     (was replied : Bool) (was_idle idle was_cost cost place : ℕ) (dialer new : DialerState L) (call : Call) (end : TalkEnd)
-    → (o : IsOpen state first old turns exchanges link before out size was was_idle was_cost place dialer)
-    → ((f : Start) (d : DialerState L) (p : List (Part L)) (h : List Happening) → TalkAt state f d p h link before was was_idle was_cost dialer
+    → (o : IsOpen state first old limits turns exchanges link before out size was was_idle was_cost place dialer)
+    → ((f : Start) (d : DialerState L) (p : List (Part L)) (h : List Happening) → turns ≡ allowed (all_limits f.limits p h) → TalkAt state f d p h link before was was_idle was_cost dialer
     → AsksTalk state turns f d p h before.state call (Err end) now core replied idle cost new)
-    → HasEnded state first old turns exchanges (ends.Links end) cost new
-links-end state first old turns exchanges link now before core out size was replied was_idle idle was_cost cost place dialer new call end o tells = record {
+    → HasEnded state first old limits exchanges (ends.Links end) cost new
+links-end state first old limits turns exchanges link now before core out size was replied was_idle idle was_cost cost place dialer new call end o tells = record {
   past = o.past;
   all = o.all;
   read = o.read;
-  ends = (before.state, call, ended-on state turns first old o.past o.all before.state call end now core replied idle cost new (tells first old o.past o.all o.at));
+  limits_are = o.limits_are;
+  ends = (
+    before.state,
+    call,
+    subst (λ (n : ℕ). TellsEnd state n first old o.past o.all (asks before.state call) end cost new) (o.limit ∙ ap allowed (sym o.limits_are))
+        (ended-on state turns first old o.past o.all before.state call end now core replied idle cost new (tells first old o.past o.all o.limit o.at)),
+  );
 }
 
 -- a first link was opened
 opened-on : {L : Type 0} (state : L → LinkState) (turns : ℕ) (first : Start) (old : DialerState L) (link : Option L) (core : Client) (replied : Bool) (idle cost : ℕ) (dialer : DialerState L) (done : Unit {0})
     → OpensTalk state turns first old [] (Ok done) link core replied idle cost dialer
-    → (later : List (Part L)) × (now : List Happening) × TalkAt state first old later now link core replied idle cost dialer × (all_results None later now ≡ [])
-opened-on state turns first old (Some link) core replied idle cost dialer done o = (o.later, o.now, o.over, o.same.results None)
+    → (later : List (Part L)) × (now : List Happening) × TalkAt state first old later now link core replied idle cost dialer × (all_results None later now ≡ []) × (all_limits first.limits later now ≡ first.limits)
+opened-on state turns first old (Some link) core replied idle cost dialer done o = (o.later, o.now, o.over, o.same.results None, o.same.limits first.limits)
 opened-on state turns first old None core replied idle cost dialer done o = absurd o
 
-pub opens-asker : {L : Type 0} (state : L → LinkState) (client value : Client) (before told : DialerState L) (given turns : ℕ) (exchanges : List Exchange) (was link : Option L) (began core : Client) (out : List ℕ) (size : ℕ)
+pub opens-asker : {L : Type 0} (state : L → LinkState) (client value : Client) (before told : DialerState L) (given turns first_turns : ℕ) (limits : List Limit) (exchanges : List Exchange) (was link : Option L) (began core : Client) (out : List ℕ) (size : ℕ)
     (replied_was replied : Bool) (idle_was idle cost_was cost place : ℕ) (dialer_was dialer : DialerState L) (done : Unit {0})
-    → value ≡ client → told ≡ before → TalkAt state (first_of client) before [] [] was began replied_was idle_was cost_was dialer_was
-    → ((f : Start) (d : DialerState L) (p : List (Part L)) → TalkAt state f d p [] was began replied_was idle_was cost_was dialer_was → OpensTalk state given f d p (Ok done) link core replied idle cost dialer)
-    → exchanges ≡ [] → IsSome link → out ≡ [] → IsReady core.state → 0 < size → size < 2 ^ 20 → idle < 8 → core.held.place + length core.held.rest ≤ cost → turns < 2 ^ 63
-    → IsOpen state (first_of value) told turns exchanges link core out size replied idle cost place dialer
-opens-asker {L = L} state client value before told given turns exchanges was link began core out size replied_was replied idle_was idle cost_was cost place dialer_was dialer done is same at opens none linked empty ready some small below fits within =
-    let on = opened-on state given (first_of client) before link core replied idle cost dialer done (opens (first_of client) before [] at) in
-    subst (λ (c : Client). IsOpen state (first_of c) told turns exchanges link core out size replied idle cost place dialer) (sym is)
-    (subst (λ (d : DialerState L). IsOpen state (first_of client) d turns exchanges link core out size replied idle cost place dialer) (sym same)
+    → value ≡ client → told ≡ before → TalkAt state (first_of client first_turns) before [] [] was began replied_was idle_was cost_was dialer_was
+    → ((f : Start) (d : DialerState L) (p : List (Part L)) → given ≡ allowed (limits_of f.limits p) → TalkAt state f d p [] was began replied_was idle_was cost_was dialer_was → OpensTalk state given f d p (Ok done) link core replied idle cost dialer)
+    → given ≡ first_turns → turns ≡ first_turns → limits ≡ record { turns = first_turns; spent = 0 } ∷ [] → exchanges ≡ [] → IsSome link → out ≡ [] → IsReady core.state → 0 < size → size < 2 ^ 20 → idle < 8 → core.held.place + length core.held.rest ≤ cost → turns < 2 ^ 63
+    → IsOpen state (first_of value first_turns) told limits turns exchanges link core out size replied idle cost place dialer
+opens-asker {L = L} state client value before told given turns first_turns limits exchanges was link began core out size replied_was replied idle_was idle cost_was cost place dialer_was dialer done is same at opens given_is turns_is limits_is none linked empty ready some small below fits within =
+    let on = opened-on state given (first_of client first_turns) before link core replied idle cost dialer done (opens (first_of client first_turns) before [] given_is at) in
+    subst (λ (c : Client). IsOpen state (first_of c first_turns) told limits turns exchanges link core out size replied idle cost place dialer) (sym is)
+    (subst (λ (d : DialerState L). IsOpen state (first_of client first_turns) d limits turns exchanges link core out size replied idle cost place dialer) (sym same)
     (record {
       past = on.0;
       all = on.1;
       at = on.2;
       read = subst (λ (xs : List Exchange). AreRead xs (all_results None on.0 on.1)) (sym none) (subst (λ (rs : List CallResult). AreRead [] rs) (sym on.3) tt);
       told = subst (λ (xs : List Exchange). ToldAt xs on.1 place) (sym none) tt;
+      limits_are = limits_is ∙ sym on.4;
+      limit = turns_is ∙ ap allowed (sym on.4);
       linked = linked;
       empty = empty;
       ready = ready;
@@ -201,22 +230,27 @@ opens-asker {L = L} state client value before told given turns exchanges was lin
     }))
 
 -- while it has not ended
-pub stands-open : {L : Type 0} (state : L → LinkState) (first : Start) (old : DialerState L) (turns : ℕ) (exchanges : List Exchange) (ended : Option AskEnd) (link : Option L) (core : Client) (out : List ℕ) (size : ℕ)
-    (replied : Bool) (idle cost place : ℕ) (dialer : DialerState L) → ended ≡ None → IsOpen state first old turns exchanges link core out size replied idle cost place dialer
-    → Stands state first old turns exchanges ended link core out size replied idle cost place dialer
-stands-open state first old turns exchanges ended link core out size replied idle cost place dialer none o =
-    subst (λ (e : Option AskEnd). Stands state first old turns exchanges e link core out size replied idle cost place dialer) (sym none) o
+pub stands-open : {L : Type 0} (state : L → LinkState) (first : Start) (old : DialerState L) (limits : List Limit) (turns : ℕ) (exchanges : List Exchange) (ended : Option AskEnd) (link : Option L) (core : Client) (out : List ℕ) (size : ℕ)
+    (replied : Bool) (idle cost place : ℕ) (dialer : DialerState L) → ended ≡ None → IsOpen state first old limits turns exchanges link core out size replied idle cost place dialer
+    → Stands state first old limits turns exchanges ended link core out size replied idle cost place dialer
+stands-open state first old limits turns exchanges ended link core out size replied idle cost place dialer none o =
+    subst (λ (e : Option AskEnd). Stands state first old limits turns exchanges e link core out size replied idle cost place dialer) (sym none) o
 
--- another limit
-pub limits-open : {L : Type 0} (state : L → LinkState) (first : Start) (old : DialerState L) (turns now : ℕ) (exchanges : List Exchange) (link : Option L) (core : Client) (out : List ℕ) (size : ℕ)
-    (replied : Bool) (idle cost place : ℕ) (dialer : DialerState L) → IsOpen state first old turns exchanges link core out size replied idle cost place dialer → now < 2 ^ 63
-    → IsOpen state first old now exchanges link core out size replied idle cost place dialer
-limits-open state first old turns now exchanges link core out size replied idle cost place dialer o within = record {
+-- another limit is set
+pub limits-open : {L : Type 0} (state : L → LinkState) (first : Start) (old : DialerState L) (limits now_limits : List Limit) (turns now : ℕ) (exchanges : List Exchange) (link : Option L) (core : Client) (out : List ℕ) (size : ℕ)
+    (replied : Bool) (idle cost place : ℕ) (dialer : DialerState L) → IsOpen state first old limits turns exchanges link core out size replied idle cost place dialer → now < 2 ^ 63
+    → ((f : Start) (d : DialerState L) (p : List (Part L)) (h : List Happening) → IsSome link → TalkAt state f d p h link core replied idle cost dialer
+    → TalkAt state f d p (limited (record { turns = now; spent = cost }) ∷ h) link core replied idle cost dialer)
+    → now_limits ≡ limits ++ (record { turns = now; spent = cost }) ∷ []
+    → IsOpen state first old now_limits now exchanges link core out size replied idle cost place dialer
+limits-open state first old limits now_limits turns now exchanges link core out size replied idle cost place dialer o within limits_at is = record {
   past = o.past;
-  all = o.all;
-  at = o.at;
+  all = limited (record { turns = now; spent = cost }) ∷ o.all;
+  at = limits_at first old o.past o.all o.linked o.at;
   read = o.read;
-  told = o.told;
+  told = told-limited exchanges o.all (record { turns = now; spent = cost }) place o.told;
+  limits_are = is ∙ ap (λ (ls : List Limit). ls ++ (record { turns = now; spent = cost }) ∷ []) o.limits_are;
+  limit = sym (allowed-more 0 (all_limits first.limits o.past o.all) (record { turns = now; spent = cost }));
   linked = o.linked;
   empty = o.empty;
   ready = o.ready;
@@ -234,29 +268,31 @@ opens-none state given turns first old end (Some link) core replied idle cost di
 opens-none state given turns first old end None core replied idle cost dialer o e = (cost, subst (λ (n : ℕ). EndsTalk state n first old [] [] end cost dialer) e o)
 
 -- the link is left, with CloseSession or without
-pub closes-on : {L : Type 0} (state : L → LinkState) (first : Start) (old : DialerState L) (turns : ℕ) (exchanges : List Exchange) (link : Option L) (core : Client) (out : List ℕ) (size : ℕ)
+pub closes-on : {L : Type 0} (state : L → LinkState) (first : Start) (old : DialerState L) (limits : List Limit) (turns : ℕ) (exchanges : List Exchange) (link : Option L) (core : Client) (out : List ℕ) (size : ℕ)
     (replied : Bool) (idle cost place : ℕ) (dialer new : DialerState L) (done : Unit {0})
-    → IsOpen state first old turns exchanges link core out size replied idle cost place dialer
+    → IsOpen state first old limits turns exchanges link core out size replied idle cost place dialer
     → ((f : Start) (d : DialerState L) (p : List (Part L)) (h : List Happening) → TalkAt state f d p h link core replied idle cost dialer → ClosesTalk state f d p h (Ok done) new)
-    → HasClosed state first old exchanges cost new
-closes-on state first old turns exchanges link core out size replied idle cost place dialer new done o closes = record {
+    → HasClosed state first old limits exchanges cost new
+closes-on state first old limits turns exchanges link core out size replied idle cost place dialer new done o closes = record {
   past = o.past;
   all = o.all;
   read = o.read;
   spent = spent-at state first old o.past o.all link core replied idle cost dialer o.at o.linked;
+  limits_are = o.limits_are;
   closes = closes first old o.past o.all o.at;
 }
 
-pub leaves-on : {L : Type 0} (state : L → LinkState) (first : Start) (old : DialerState L) (turns : ℕ) (exchanges : List Exchange) (link : Option L) (core : Client) (out : List ℕ) (size : ℕ)
+pub leaves-on : {L : Type 0} (state : L → LinkState) (first : Start) (old : DialerState L) (limits : List Limit) (turns : ℕ) (exchanges : List Exchange) (link : Option L) (core : Client) (out : List ℕ) (size : ℕ)
     (replied : Bool) (idle cost place : ℕ) (dialer new : DialerState L)
-    → IsOpen state first old turns exchanges link core out size replied idle cost place dialer
+    → IsOpen state first old limits turns exchanges link core out size replied idle cost place dialer
     → ((f : Start) (d : DialerState L) (p : List (Part L)) (h : List Happening) → TalkAt state f d p h link core replied idle cost dialer → LeavesOpen state f d p h new)
-    → HasLeft state first old exchanges cost place new
-leaves-on state first old turns exchanges link core out size replied idle cost place dialer new o leaves = record {
+    → HasLeft state first old limits exchanges cost place new
+leaves-on state first old limits turns exchanges link core out size replied idle cost place dialer new o leaves = record {
   past = o.past;
   all = o.all;
   read = o.read;
   told = o.told;
   spent = spent-at state first old o.past o.all link core replied idle cost dialer o.at o.linked;
+  limits_are = o.limits_are;
   leaves = leaves first old o.past o.all o.at;
 }

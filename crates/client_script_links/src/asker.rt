@@ -1,5 +1,5 @@
 //! A script's client over its links.
-ghost use Rattle.std.specs.Prelude.{◌≡◌, ◌<◌, ◌^◌, ◌-◌, false, None, IsSome, IfOk, IfErr, OnOk, length};
+ghost use Rattle.std.specs.Prelude.{◌≡◌, ◌<◌, ◌^◌, ◌-◌, ◌∷◌, ◌++◌, [], false, None, IsSome, IfOk, IfErr, OnOk, length};
 ghost use Rattle.afp_client.specs.State.{is_lost};
 ghost use Rattle.client_script_calls.specs.Asked.{IsAskable};
 ghost use Rattle.client_script_links.specs.Read.{zipped};
@@ -12,8 +12,9 @@ use afp_calls_grammar::Call;
 use afp_client::ClientCore;
 use afp_outside::Dialer;
 use afp_replies::{ReplyFault, read_reply};
-use client_links::{Talk, TalkEnd, Told};
+use client_links::{Limit, Talk, TalkEnd, Told};
 use client_script_parts::{Answer, Asker};
+use ghost_log::Log;
 use std::alloc::Global;
 use std::marker::Model;
 use std::snapshot::Snapshot;
@@ -29,13 +30,14 @@ pub enum AskEnd {
     Memory,
 }
 
-/// What stays the same of a script's client while it is asked: the client and the dialer as they were before the first link, and how much it
-/// may spend.
+/// What stays the same of a script's client while it is asked: the client and the dialer as they were before the first link, how much it
+/// might spend then, and each limit that was set to that, this one first.
 #[derive(Drop)]
 pub struct Beginning<D> {
     pub core: Snapshot<ClientCore>,
     pub dialer: Snapshot<D>,
     pub turns: u64,
+    pub limits: Log<Limit>,
 }
 
 /// A script's client, who is asked calls. It has a link while it has not ended.
@@ -66,7 +68,7 @@ impl<D: Dialer> Model for LinkAsker<D> {
       place = a.place;
     } };
 
-    ghost invariant = { λ a. (a.talk.turns ≡ a.beginning.turns) × Stands D.Link.link_state (first_of a.beginning.core.value) (D.dialer_state a.beginning.dialer.value) a.talk.turns (zipped a.exchanges.calls.items a.exchanges.answers.items) a.ended
+    ghost invariant = { λ a. Stands D.Link.link_state (first_of a.beginning.core.value a.beginning.turns) (D.dialer_state a.beginning.dialer.value) a.beginning.limits.items a.talk.turns (zipped a.exchanges.calls.items a.exchanges.answers.items) a.ended
         a.talk.link a.talk.core a.talk.out (length a.talk.room.items) a.talk.replied a.talk.idle a.talk.cost a.place (D.dialer_state a.talk.dialer) };
 }
 
@@ -97,13 +99,17 @@ pub fn open_asker<D: Dialer>(
     requires some { 0 < length room.items }
     requires small { length room.items < 2 ^ 20 }
     requires turns { turns < 2 ^ 63 }
-    ensures opened { IfOk result (λ a. IsNew core dialer turns a.asked.fixed.core.value a.asked.fixed.dialer.value a.asked.fixed.turns a.asked.exchanges a.ended) }
-    ensures failed { IfErr result (λ f. OpensNone D.Link.link_state turns (first_of core) (D.dialer_state dialer) f.end (D.dialer_state f.dialer)) }
+    ensures opened { IfOk result (λ a. IsNew core dialer turns a.asked.fixed.core.value a.asked.fixed.dialer.value a.asked.fixed.turns a.asked.fixed.limits.items a.asked.exchanges a.ended) }
+    ensures failed { IfErr result (λ f. OpensNone D.Link.link_state turns (first_of core turns) (D.dialer_state dialer) f.end (D.dialer_state f.dialer)) }
 {
+    let first = Limit { turns, spent: 0 };
+    let none = Log::new();
+    let limits = none.and(&first);
     let beginning = Beginning {
         core: Snapshot::of(&core),
         dialer: Snapshot::of(&dialer),
         turns,
+        limits,
     };
     let Some(now) = Moment::new(0) else {
         return Err(Unopened {
@@ -160,8 +166,8 @@ fn take_told<D: Dialer>(
     requires none { ended.old ≡ None }
     ensures logs { LogsAnswer call.now (zipped exchanges.old.calls.items exchanges.old.answers.items) result (zipped exchanges.new.calls.items exchanges.new.answers.items) }
     ensures turns { talk.new.turns ≡ talk.old.turns }
-    ensures stands { TellsOn D.Link.link_state (first_of beginning.now.core.value) (D.dialer_state beginning.now.dialer.value) talk.old.turns (zipped exchanges.old.calls.items exchanges.old.answers.items) call.now told talk.old.link talk.old.core talk.old.out (length talk.old.room.items) talk.old.replied talk.old.idle talk.old.cost (D.dialer_state talk.old.dialer)
-        → Stands D.Link.link_state (first_of beginning.now.core.value) (D.dialer_state beginning.now.dialer.value) talk.new.turns (zipped exchanges.new.calls.items exchanges.new.answers.items) ended.new talk.new.link talk.new.core talk.new.out (length talk.new.room.items) talk.new.replied talk.new.idle talk.new.cost told.at (D.dialer_state talk.new.dialer) }
+    ensures stands { TellsOn D.Link.link_state (first_of beginning.now.core.value beginning.now.turns) (D.dialer_state beginning.now.dialer.value) beginning.now.limits.items talk.old.turns (zipped exchanges.old.calls.items exchanges.old.answers.items) call.now told talk.old.link talk.old.core talk.old.out (length talk.old.room.items) talk.old.replied talk.old.idle talk.old.cost (D.dialer_state talk.old.dialer)
+        → Stands D.Link.link_state (first_of beginning.now.core.value beginning.now.turns) (D.dialer_state beginning.now.dialer.value) beginning.now.limits.items talk.new.turns (zipped exchanges.new.calls.items exchanges.new.answers.items) ended.new talk.new.link talk.new.core talk.new.out (length talk.new.room.items) talk.new.replied talk.new.idle talk.new.cost told.at (D.dialer_state talk.new.dialer) }
 {
     match answer_of(alloc, call, &told) {
         Ok(answer) => {
@@ -189,11 +195,11 @@ fn ask_open<D: Dialer>(
 ) -> Result<Answer, AskEnd>
     requires askable { IsAskable call.now }
     requires none { ended.old ≡ None }
-    requires open { IsOpen D.Link.link_state (first_of beginning.now.core.value) (D.dialer_state beginning.now.dialer.value) talk.old.turns (zipped exchanges.old.calls.items exchanges.old.answers.items) talk.old.link talk.old.core talk.old.out (length talk.old.room.items) talk.old.replied talk.old.idle talk.old.cost place.old (D.dialer_state talk.old.dialer) }
+    requires open { IsOpen D.Link.link_state (first_of beginning.now.core.value beginning.now.turns) (D.dialer_state beginning.now.dialer.value) beginning.now.limits.items talk.old.turns (zipped exchanges.old.calls.items exchanges.old.answers.items) talk.old.link talk.old.core talk.old.out (length talk.old.room.items) talk.old.replied talk.old.idle talk.old.cost place.old (D.dialer_state talk.old.dialer) }
     ensures logs { LogsAnswer call.now (zipped exchanges.old.calls.items exchanges.old.answers.items) result (zipped exchanges.new.calls.items exchanges.new.answers.items) }
     ensures falls { OnOk result (2 ^ 64 - answered.new < 2 ^ 64 - answered.old) }
     ensures turns { talk.new.turns ≡ talk.old.turns }
-    ensures stands { Stands D.Link.link_state (first_of beginning.now.core.value) (D.dialer_state beginning.now.dialer.value) talk.new.turns (zipped exchanges.new.calls.items exchanges.new.answers.items) ended.new talk.new.link talk.new.core talk.new.out (length talk.new.room.items) talk.new.replied talk.new.idle talk.new.cost place.new (D.dialer_state talk.new.dialer) }
+    ensures stands { Stands D.Link.link_state (first_of beginning.now.core.value beginning.now.turns) (D.dialer_state beginning.now.dialer.value) beginning.now.limits.items talk.new.turns (zipped exchanges.new.calls.items exchanges.new.answers.items) ended.new talk.new.link talk.new.core talk.new.out (length talk.new.room.items) talk.new.replied talk.new.idle talk.new.cost place.new (D.dialer_state talk.new.dialer) }
 {
     if *answered == u64::MAX {
         talk.leave();
@@ -244,12 +250,17 @@ impl<D: Dialer> LinkAsker<D> {
         ensures ended { self.new.ended ≡ self.old.ended }
         ensures cost { self.new.cost ≡ self.old.cost }
         ensures place { self.new.place ≡ self.old.place }
-        ensures turns { self.old.ended ≡ None → self.new.asked.fixed.turns ≡ turns }
+        ensures turns { self.new.asked.fixed.turns ≡ self.old.asked.fixed.turns }
+        ensures limits { self.old.ended ≡ None → self.new.asked.fixed.limits.items ≡ self.old.asked.fixed.limits.items ++ (record { turns = turns; spent = self.old.cost }) ∷ [] }
     {
         match self.ended {
             None => {
+                let limit = Limit {
+                    turns,
+                    spent: self.talk.cost(),
+                };
                 self.talk.limit(turns);
-                self.beginning.turns = turns;
+                self.beginning.limits = self.beginning.limits.and(&limit);
             }
             Some(_) => {}
         }
@@ -258,7 +269,7 @@ impl<D: Dialer> LinkAsker<D> {
     /// Ends the session, where it has a link: CloseSession is written, whatever becomes of the write. Where there is no memory for it, the
     /// link is left in silence, and `Memory` tells so.
     pub fn close(self) -> Finished<D>
-        ensures { Closes D.Link.link_state (first_of self.asked.fixed.core.value) (D.dialer_state self.asked.fixed.dialer.value) self.asked.fixed.turns self.asked.exchanges self.ended result.end self.cost self.place (D.dialer_state result.dialer) }
+        ensures { Closes D.Link.link_state (first_of self.asked.fixed.core.value self.asked.fixed.turns) (D.dialer_state self.asked.fixed.dialer.value) self.asked.fixed.limits.items self.asked.exchanges self.ended result.end self.cost self.place (D.dialer_state result.dialer) }
     {
         let mut talk = self.talk;
         match self.ended {
@@ -282,7 +293,7 @@ impl<D: Dialer> LinkAsker<D> {
     /// Leaves the link, where it has one: nothing more is written.
     pub fn leave(self) -> Finished<D>
         ensures end { result.end ≡ self.ended }
-        ensures finishes { Finishes D.Link.link_state (first_of self.asked.fixed.core.value) (D.dialer_state self.asked.fixed.dialer.value) self.asked.fixed.turns self.asked.exchanges self.ended self.cost self.place (D.dialer_state result.dialer) }
+        ensures finishes { Finishes D.Link.link_state (first_of self.asked.fixed.core.value self.asked.fixed.turns) (D.dialer_state self.asked.fixed.dialer.value) self.asked.fixed.limits.items self.asked.exchanges self.ended self.cost self.place (D.dialer_state result.dialer) }
     {
         let mut talk = self.talk;
         match self.ended {

@@ -1,16 +1,17 @@
 -- How far a line was read (this profile).
-use Rattle.std.specs.Prelude.{◌≡◌, ℕ, ◌<◌, length, true, List, [], ◌∷◌, ◌++◌, Option, Some, None, Result, Ok, Err}
+use Rattle.std.specs.Prelude.{◌≡◌, ℕ, ◌-◌, ◌<◌, length, true, List, [], ◌∷◌, ◌++◌, Option, Some, None, Result, Ok, Err}
 use Rattle.afp_base.specs.declared.bytes.OutOfMemory.{OutOfMemory}
-use Rattle.afp_outside.specs.Source.{SourceState}
+use Rattle.afp_outside.specs.Source.{SourceState, ReadWithin}
 use Rattle.afp_outside_lines.specs.Lines.{Unread, IsOneLine, ReadsOn}
 use Rattle.afp_outside_lines.specs.declared.lines.NextLine.{NextLine}
 use Rattle.afp_outside_lines.specs.declared.lines.NextLine.TheVariants as nexts
 
--- These bytes more stand there than at first.
-pub record HasRead (old : Unread) (before : SourceState) (now : Unread) (source : SourceState) : Type 0 where
+-- These bytes more stand there than at first, and each read of them was made where fewer than `turns` had been taken.
+pub record HasRead (turns : ℕ) (old : Unread) (before : SourceState) (now : Unread) (source : SourceState) : Type 0 where
   pub read : List ℕ
   pub reads : ReadsOn old before read now source
   pub bytes : now.bytes ≡ old.bytes ++ read
+  pub within : ReadWithin (turns - old.taken) read before source
 
 -- the first line that its newline ends, and the bytes behind it, of bytes that are told apart
 abbrev pub Cuts : List ℕ → Option (List ℕ) → List ℕ → Type 0

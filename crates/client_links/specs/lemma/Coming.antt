@@ -10,7 +10,8 @@ use Rattle.afp_client.specs.Happens.{IsBadNext}
 use Rattle.afp_client.specs.declared.stage.Stage.TheVariants as stages
 use Rattle.afp_client.specs.declared.event.Event.{Event}
 use Rattle.afp_client.specs.declared.event.Event.TheVariants as events
-use Rattle.client_links.specs.History.{Happening, took, asked_in, results_in, taken_in}
+use Rattle.client_links.specs.History.{Happening, took, asked_in, limits_in, results_in, taken_in}
+use Rattle.client_links.specs.declared.talk.Limit.{Limit}
 use Rattle.client_links.specs.OnLink.{Start, spot, OnLink, Broke}
 use Rattle.client_links.specs.declared.came.Came.{Came}
 use Rattle.client_links.specs.declared.came.Came.TheVariants as comes
@@ -34,10 +35,11 @@ next_of opening at events.Closed = nexts.Comes comes.Broke
 next_of opening at (events.Bad place) = nexts.Comes (comes.Bad place)
 next_of opening at events.Memory = nexts.Comes comes.Memory
 
--- no result came, and the same call waits
+-- no result came, the same call waits, and no limit was set
 pub record Same (all now : List Happening) : Type 0 where
   pub results : (was : Option Call) → results_in was now ≡ results_in was all
   pub asked : (was : Option Call) → asked_in was now ≡ asked_in was all
+  pub limits : (was : List Limit) → limits_in was now ≡ limits_in was all
 
 -- The link goes on: without a result, and with all written.
 pub record GoesOn (start : Start) (all : List Happening) (c : Client) (link : LinkState) (replied : Bool) (cost : ℕ) : Type 0 where
@@ -72,7 +74,7 @@ pub record BreaksLink (start : Start) (all : List Happening) (c : Client) (link 
   pub lost : List ℕ
   pub on : OnLink start now (spot c lost link replied cost)
   pub same : Same all now
-  pub broke : Broke now link
+  pub broke : Broke start now link
   pub lacks : 0 < length lost → 0 < link.write_faults
 
 -- A frame that is none that may come is next, and begins at this place.

@@ -6,7 +6,7 @@ use Rattle.afp_client.specs.State.{Client}
 use Rattle.afp_outside.specs.Dialer.{DialerState, DialsLink, FailsToDial}
 use Rattle.client_links.specs.History.{Happening}
 use Rattle.client_links.specs.OnLink.{Start, spot}
-use Rattle.client_links.specs.Links.{Part, Past, Hands, Over, SameOver, dialled, fruitless, links_of}
+use Rattle.client_links.specs.Links.{Part, Past, Hands, Over, SameOver, dialled, links_of}
 use Rattle.client_links.specs.lemma.Coming.{CameOn}
 use Rattle.client_links.specs.declared.came.Came.{Came}
 use Rattle.client_links.specs.declared.links.Left.{Left}
@@ -16,8 +16,8 @@ use Rattle.client_links.specs.declared.links.TalkEnd.TheVariants as ends
 -- nothing was dialled, and why
 abbrev pub NotDialled : {L : Type 0} → ℕ → ℕ → ℕ → DialerState L → TalkEnd → DialerState L → Type 0
 NotDialled idle turns cost old ends.Broken new = (8 ≤ idle) × (new ≡ old)
-NotDialled idle turns cost old ends.Spent new = (turns ≤ cost) × (new ≡ old)
-NotDialled idle turns cost old ends.DialFault new = FailsToDial old new
+NotDialled idle turns cost old ends.Spent new = (idle < 8) × (turns ≤ cost) × (new ≡ old)
+NotDialled idle turns cost old ends.DialFault new = (idle < 8) × (cost < turns) × FailsToDial old new
 NotDialled idle turns cost old ends.Memory new = new ≡ old
 NotDialled idle turns cost old (ends.Refused c) new = ⊥
 NotDialled idle turns cost old (ends.Lost c) new = ⊥
@@ -27,15 +27,16 @@ abbrev pub Dialled : {L : Type 0} → (L → LinkState) → ℕ → ℕ → ℕ 
 Dialled state idle turns cost old (Ok link) then_cost new = DialsLink state old link new × (then_cost ≡ cost + 1) × (idle < 8) × (cost < turns)
 Dialled state idle turns cost old (Err end) then_cost new = NotDialled idle turns cost old end new × (then_cost ≡ cost)
 
--- why no link is dialled any more
-abbrev pub EndsBetween : {L : Type 0} → ℕ → List (Part L) → ℕ → DialerState L → TalkEnd → DialerState L → Type 0
-EndsBetween turns past cost old ends.Broken new = 8 ≤ fruitless past
-EndsBetween turns past cost old ends.Spent new = turns ≤ cost
-EndsBetween turns past cost old ends.DialFault new = Rises 1 old.faults new.faults
-EndsBetween turns past cost old ends.Memory new = Unit {0}
-EndsBetween turns past cost old (ends.Refused c) new = ⊥
-EndsBetween turns past cost old (ends.Lost c) new = ⊥
-EndsBetween turns past cost old (ends.Bad at) new = ⊥
+-- Why no link is dialled any more, behind so many in a row that broke without a reply to a command: they are eight; they are fewer, and no more
+-- may be spent; or they are fewer, more may be spent, and the dial failed.
+abbrev pub EndsBetween : {L : Type 0} → ℕ → ℕ → ℕ → DialerState L → TalkEnd → DialerState L → Type 0
+EndsBetween turns idle cost old ends.Broken new = 8 ≡ idle
+EndsBetween turns idle cost old ends.Spent new = (idle < 8) × (turns ≤ cost)
+EndsBetween turns idle cost old ends.DialFault new = (idle < 8) × (cost < turns) × Rises 1 old.faults new.faults
+EndsBetween turns idle cost old ends.Memory new = Unit {0}
+EndsBetween turns idle cost old (ends.Refused c) new = ⊥
+EndsBetween turns idle cost old (ends.Lost c) new = ⊥
+EndsBetween turns idle cost old (ends.Bad at) new = ⊥
 
 -- The client has no link: all that were dialled broke, but for one at most that was never begun, for want of memory; all are handed back.
 pub record HasNone {L : Type 0} (state : L → LinkState) (turns : ℕ) (first : Start) (old : DialerState L) (past : List (Part L)) (end : TalkEnd) (cost : ℕ) (new : DialerState L) : Type 0 where
@@ -44,7 +45,8 @@ pub record HasNone {L : Type 0} (state : L → LinkState) (turns : ℕ) (first :
   pub unbegun : List L
   pub handed : new.handed ≡ old.handed + length past + length unbegun
   pub back : new.back ≡ old.back ++ links_of past ++ unbegun
-  pub why : EndsBetween turns past cost old end new
+  pub spent : cost ≡ at.spent + length unbegun
+  pub why : EndsBetween turns at.idle at.spent old end new
 
 -- the next link was begun, or not
 abbrev pub Rejoins : {L : Type 0} → (L → LinkState) → ℕ → Start → DialerState L → List (Part L) → Result L TalkEnd → Client → List ℕ → ℕ → ℕ → DialerState L → Type 0
@@ -60,7 +62,7 @@ pub record LeavesLink {L : Type 0} (state : L → LinkState) (turns : ℕ) (firs
   pub from : Start
   pub past_is : Past state first later from
   pub comes : CameOn (dialled from) turns now came c (state link) replied cost
-  pub in_a_row : idle ≡ fruitless later
+  pub in_a_row : idle ≡ from.idle
   pub hands : Hands old (length later + 1) (links_of later) new
 
 -- No link is left.

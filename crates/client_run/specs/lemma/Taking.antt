@@ -7,9 +7,10 @@ use Rattle.afp_outside.specs.Sink.{SinkState}
 use Rattle.afp_outside.specs.Source.{SourceState}
 use Rattle.afp_outside_lines.specs.Lines as Read
 use Rattle.client_links.specs.OnLink.{Start}
+use Rattle.client_links.specs.declared.talk.Limit.{Limit}
 use Rattle.client_script_parts.specs.Parts.{Exchange}
 use Rattle.client_script_links.specs.declared.asker.AskEnd.{AskEnd}
-use Rattle.client_run.specs.Carried.{AreCarried, Carried, exchanges_of, mounted_behind, printed_of, source_behind, unread_behind}
+use Rattle.client_run.specs.Carried.{AreCarried, Carried, exchanges_of, limits_behind, mounted_behind, printed_of, source_behind, unread_behind}
 use Rattle.client_run.specs.Ends.{end_of_ask}
 use Rattle.client_run.specs.Printing.{Prints, PrintsPart}
 use Rattle.client_run.specs.Runs.{PrintsLines, Runs}
@@ -46,33 +47,34 @@ StopsBy (takes.Ended end said) (Some why) line at old stop new = (told : ClientE
 StopsBy (takes.BadReply said) None line at old stop new = (told : ClientEnd) × (stop ≡ Some told) × PrintsSaid old said (ends.BadReply at) told new
 StopsBy taken ended line at old stop new = (stop ≡ stop_by taken ended line at) × (new ≡ old)
 
-abbrev pub stood_at : List Exchange → Option AskEnd → ℕ → ℕ → ℕ → Bool → Stood
-stood_at exchanges ended cost place limit closes = record { exchanges = exchanges; ended = ended; cost = cost; place = place; limit = limit; closes = closes }
+abbrev pub stood_at : List Exchange → Option AskEnd → ℕ → ℕ → List Limit → Bool → Stood
+stood_at exchanges ended cost place limits closes = record { exchanges = exchanges; ended = ended; cost = cost; place = place; limits = limits; closes = closes }
 
 -- These lines were carried out, and their text was printed.
-pub record SoFar (start : SourceState) (sink : SinkState) (unread : Read.Unread) (source : SourceState) (mounted : Option VolumeId) (exchanges : List Exchange) (ended : Option AskEnd) (number : ℕ) (printed : SinkState) : Type 0 where
+pub record SoFar (turns : ℕ) (start : SourceState) (sink : SinkState) (unread : Read.Unread) (source : SourceState) (mounted : Option VolumeId) (exchanges : List Exchange) (ended : Option AskEnd) (limits : List Limit) (number : ℕ) (printed : SinkState) : Type 0 where
   pub carried : List Carried
-  pub are : AreCarried start carried
+  pub are : AreCarried turns start carried
   pub unread_is : unread ≡ unread_behind carried
   pub source_is : source ≡ source_behind start carried
   pub mounted_is : mounted ≡ mounted_behind carried
   pub told : exchanges ≡ exchanges_of carried
   pub live : ended ≡ None
+  pub limits_are : limits ≡ limits_behind turns carried
   pub number_is : number ≡ length carried
   pub prints : Prints sink (printed_of carried) printed
 
 -- They were, and then the script stopped.
 pub record StopsLines (turns : ℕ) (start : SourceState) (sink : SinkState) (why : ClientEnd) (stood : Stood) (source : SourceState) (printed : SinkState) : Type 0 where
   pub carried : List Carried
-  pub are : AreCarried start carried
+  pub are : AreCarried turns start carried
   pub text : List ℕ
   pub stops : Stops turns start carried why text stood source
   pub prints : PrintsLines sink text why printed
 
 -- by why it stops, where it does
-abbrev pub StopsOr : ℕ → SourceState → SinkState → Option ClientEnd → Read.Unread → SourceState → Option VolumeId → List Exchange → Option AskEnd → ℕ → ℕ → ℕ → ℕ → SinkState → Type 0
-StopsOr turns start sink None unread source mounted exchanges ended cost place limit number printed = SoFar start sink unread source mounted exchanges ended number printed
-StopsOr turns start sink (Some why) unread source mounted exchanges ended cost place limit number printed = StopsLines turns start sink why (stood_at exchanges ended cost place limit false) source printed
+abbrev pub StopsOr : ℕ → SourceState → SinkState → Option ClientEnd → Read.Unread → SourceState → Option VolumeId → List Exchange → Option AskEnd → ℕ → ℕ → List Limit → ℕ → SinkState → Type 0
+StopsOr turns start sink None unread source mounted exchanges ended cost place limits number printed = SoFar turns start sink unread source mounted exchanges ended limits number printed
+StopsOr turns start sink (Some why) unread source mounted exchanges ended cost place limits number printed = StopsLines turns start sink why (stood_at exchanges ended cost place limits false) source printed
 
 -- A script ran, and the text of its lines was printed.
 pub record RunsPrinted {L : Type 0} (state : L → LinkState) (turns : ℕ) (first : Start) (old : DialerState L) (start : SourceState) (sink : SinkState) (why : ClientEnd) (dialer : DialerState L) (source : SourceState) (printed : SinkState) : Type 0 where

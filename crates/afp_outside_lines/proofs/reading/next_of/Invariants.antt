@@ -4,7 +4,7 @@ use Rattle.afp_outside_lines.proofs.reading.next_of.Given as goal
 
 abbrev pub invariant-loop-line : goal.invariant-loop-line
 invariant-loop-line g l =
-    HasRead (record { bytes = l.initial.held; ended = l.initial.ended; taken = l.initial.taken }) (g.S.Source.source_state l.initial.source)
+    HasRead l.turns (record { bytes = l.initial.held; ended = l.initial.ended; taken = l.initial.taken }) (g.S.Source.source_state l.initial.source)
     (record { bytes = l.held; ended = l.ended; taken = l.taken }) (g.S.Source.source_state l.source)
 
 abbrev pub decreases-loop-line : goal.decreases-loop-line

@@ -1,4 +1,6 @@
-use Rattle.std.proofs.Common.{rules, arith, ◌≡◌, ◌∙◌, [], ap, subst, length}
+use Rattle.std.proofs.Common.{rules, arith, ◌≡◌, ◌∙◌, [], ap, sym, subst, length}
+use Rattle.client_links.specs.History.{allowed}
+use Rattle.client_links.proofs.LimitLemmas.{allowed-here}
 use Rattle.dsi_frame.specs.Buffered.{Buffered}
 use Rattle.afp_client.specs.State.{Client}
 use Rattle.client_links.specs.Links.{dialled}
@@ -10,25 +12,26 @@ use Rattle.client_links.proofs.JoinLemmas.{breaks-over, leaves-link, same_over-j
 use Rattle.client_links.proofs.links.await_links.Goals as goal
 
 pub returns-then-not-is_break-clause-leaves : goal.returns-then-not-is_break-clause-leaves
-returns-then-not-is_break-clause-leaves g c = λ first old past all over.
-    let here = c.loop-link.invariant.over first old past all over in
+returns-then-not-is_break-clause-leaves g c = λ first old past all is over.
+    let here = c.loop-link.invariant.over first old past all is over in
     leaves-link g.D.Link.Link.link_state c.args.turns first old past here.0 all here.1 c.loop-link.core c.await_sent-came.new.core c.loop-link.out c.loop-link.link c.await_sent-came.new.link
     c.loop-link.replied c.await_sent-came.new.replied c.loop-link.cost c.await_sent-came.new.cost c.loop-link.idle (g.D.Dialer.dialer_state c.loop-link.dialer) c.await_sent-came.result
-    here.2 here.3 (c.await_sent-came.ensures.comes (dialled here.3.from) here.1 here.3.on)
+    here.2 here.3 (c.await_sent-came.ensures.comes (dialled here.3.from) here.1 (allowed-here g.D.Link.Link.link_state c.args.turns first here.3.from past here.0 all here.1 is here.2 here.3.past_is) here.3.on)
 
 pub returns-in-Err-clause-leaves : goal.returns-in-Err-clause-leaves
-returns-in-Err-clause-leaves g c = λ first old past all over.
-    let here = c.loop-link.invariant.over first old past all over in
+returns-in-Err-clause-leaves g c = λ first old past all is over.
+    let here = c.loop-link.invariant.over first old past all is over in
     let broke : c.await_sent-came.result ≡ comes.Broke = search rules in
     let b = subst (λ (came : Came). CameOn (dialled here.3.from) c.args.turns here.1 came c.await_sent-came.new.core (g.D.Link.Link.link_state c.await_sent-came.new.link) c.await_sent-came.new.replied c.await_sent-came.new.cost) broke
-    (c.await_sent-came.ensures.comes (dialled here.3.from) here.1 here.3.on) in
+    (c.await_sent-came.ensures.comes (dialled here.3.from) here.1 (allowed-here g.D.Link.Link.link_state c.args.turns first here.3.from past here.0 all here.1 is here.2 here.3.past_is) here.3.on) in
     let next = breaks-over g.D.Link.Link.link_state first old here.0 here.1 c.loop-link.core c.await_sent-came.new.core c.break_link.new.core c.loop-link.out c.loop-link.link c.await_sent-came.new.link
     c.loop-link.replied c.await_sent-came.new.replied c.loop-link.cost c.await_sent-came.new.cost c.loop-link.idle c.break_link.new.idle (g.D.Dialer.dialer_state c.loop-link.dialer) (g.D.Dialer.dialer_state c.break_link.new.dialer)
     here.3 b (ap (λ (x : Client). x.state) c.break_link.ensures.core) c.break_link.ensures.idle c.break_link.ensures.back in
+    let same = same_over-join past here.0 next.later all here.1 [] here.2 next.same in
     record {
       later = next.later;
-      same = same_over-join past here.0 next.later all here.1 [] here.2 next.same;
-      none = c.in-Err.ensures.rejoins first old next.later next.between;
+      same = same;
+      none = c.in-Err.ensures.rejoins first old next.later (is ∙ ap allowed (sym (same.limits first.limits))) next.between;
     }
 
 pub loop-link-preserved : goal.loop-link-preserved
@@ -42,15 +45,16 @@ loop-link-preserved g c = record {
       let kept = subst (λ (came : Came). OpensOn c.loop-link.core.state came c.await_sent-came.new.core.state) broke (c.await_sent-came.ensures.opens is) in
       rejoined_opening c.args.core.now.state c.await_sent-came.new.core.state _ _ (kept ∙ (c.loop-link.invariant.opening is).waits) (ap (λ (x : Client). x.state) c.break_link.ensures.core) c.in-Ok.ensures.begins;
   fits = omega (arith, ap (λ (h : Buffered). h.place) c.in-Ok.ensures.held, ap (λ (h : Buffered). length h.rest) c.in-Ok.ensures.held);
-  over = λ first old past all over.
-      let here = c.loop-link.invariant.over first old past all over in
+  over = λ first old past all is over.
+      let here = c.loop-link.invariant.over first old past all is over in
       let broke : c.await_sent-came.result ≡ comes.Broke = search rules in
       let b = subst (λ (came : Came). CameOn (dialled here.3.from) c.args.turns here.1 came c.await_sent-came.new.core (g.D.Link.Link.link_state c.await_sent-came.new.link) c.await_sent-came.new.replied c.await_sent-came.new.cost) broke
-      (c.await_sent-came.ensures.comes (dialled here.3.from) here.1 here.3.on) in
+      (c.await_sent-came.ensures.comes (dialled here.3.from) here.1 (allowed-here g.D.Link.Link.link_state c.args.turns first here.3.from past here.0 all here.1 is here.2 here.3.past_is) here.3.on) in
       let next = breaks-over g.D.Link.Link.link_state first old here.0 here.1 c.loop-link.core c.await_sent-came.new.core c.break_link.new.core c.loop-link.out c.loop-link.link c.await_sent-came.new.link
       c.loop-link.replied c.await_sent-came.new.replied c.loop-link.cost c.await_sent-came.new.cost c.loop-link.idle c.break_link.new.idle (g.D.Dialer.dialer_state c.loop-link.dialer) (g.D.Dialer.dialer_state c.break_link.new.dialer)
       here.3 b (ap (λ (x : Client). x.state) c.break_link.ensures.core) c.break_link.ensures.idle c.break_link.ensures.back in
-      (next.later, [], same_over-join past here.0 next.later all here.1 [] here.2 next.same, c.in-Ok.ensures.rejoins first old next.later next.between);
+      let same = same_over-join past here.0 next.later all here.1 [] here.2 next.same in
+      (next.later, [], same, c.in-Ok.ensures.rejoins first old next.later (is ∙ ap allowed (sym (same.limits first.limits))) next.between);
 }
 
 pub returns-then-not-is_break-clause-opens : goal.returns-then-not-is_break-clause-opens

@@ -1,8 +1,8 @@
 use Rattle.std.proofs.Common.{◌≡◌, true, false, ◌+◌, ◌<◌, ◌≤◌, ◌-◌, List, length}
 use Rattle.afp_outside.specs.Dialer.{DialerState}
-use Rattle.client_links.specs.History.{Happening}
+use Rattle.client_links.specs.History.{Happening, allowed}
 use Rattle.client_links.specs.OnLink.{Start, spot}
-use Rattle.client_links.specs.Links.{Part, Over, SameOver}
+use Rattle.client_links.specs.Links.{Part, Over, SameOver, all_limits}
 use Rattle.afp_client.specs.State.{is_lost}
 use Rattle.client_links.specs.lemma.Coming.{Opening}
 use Rattle.client_links.proofs.links.await_links.Given as goal
@@ -13,7 +13,7 @@ invariant-loop-link g l = record {
   live : is_lost l.core.state.stage ≡ false;
   opening : l.opening ≡ true → Opening l.initial.core.state l.core.state;
   fits : l.core.held.place + length l.core.held.rest ≤ l.cost;
-  over : (first : Start) (old : DialerState g.row.D-Link.Denot) (past : List (Part g.row.D-Link.Denot)) (all : List Happening)
+  over : (first : Start) (old : DialerState g.row.D-Link.Denot) (past : List (Part g.row.D-Link.Denot)) (all : List Happening) → l.turns ≡ allowed (all_limits first.limits past all)
       → Over g.D.Link.Link.link_state first old past all (spot l.initial.core l.initial.out (g.D.Link.Link.link_state l.initial.link) l.initial.replied l.initial.cost) l.initial.idle (g.D.Dialer.dialer_state l.initial.dialer)
       → (later : List (Part g.row.D-Link.Denot)) × (now : List Happening) × SameOver past all later now
       × Over g.D.Link.Link.link_state first old later now (spot l.core l.out (g.D.Link.Link.link_state l.link) l.replied l.cost) l.idle (g.D.Dialer.dialer_state l.dialer);

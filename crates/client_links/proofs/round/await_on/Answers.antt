@@ -1,26 +1,26 @@
-use Rattle.std.proofs.Common.{arith, ap, Some}
+use Rattle.std.proofs.Common.{arith, rules, ap, Some}
 use Rattle.client_links.proofs.GoingLemmas.{opening-then, opens-after, opens-read, lives-came, kept-live, kept-opening}
-use Rattle.client_links.proofs.RoundLemmas.{goes-after, came-after}
+use Rattle.client_links.proofs.RoundLemmas.{afford-still, goes-after, came-after}
 use Rattle.client_links.proofs.round.await_on.Goals as goal
 
 pub returns-in-Some-clause-comes : goal.returns-in-Some-clause-comes
-returns-in-Some-clause-comes g c = λ start all on.
-    let here = c.loop-came.invariant.goes start all on in
+returns-in-Some-clause-comes g c = λ start all is on.
+    let here = c.loop-came.invariant.goes start all is on in
     came-after start c.args.turns all here.now c.in-Some.came _ _ _ _ here.same (c.in-Some.ensures.comes start c.args.turns here.now _ here.on)
 
 pub returns-then-cost-turns-clause-comes : goal.returns-then-cost-turns-clause-comes
-returns-then-cost-turns-clause-comes g c = λ start all on.
-    let here = c.loop-came.invariant.goes start all on in record {
+returns-then-cost-turns-clause-comes g c = λ start all is on.
+    let here = c.loop-came.invariant.goes start all is on in record {
       goes_on = goes-after start all here.now _ _ _ _ here.same (c.in_default.ensures.comes start c.args.turns here.now _ here.on);
       reached = c.if-cost-turns.true;
     }
 
 pub returns-in-Some-read_round-clause-comes : goal.returns-in-Some-read_round-clause-comes
-returns-in-Some-read_round-clause-comes g c = λ start all on.
-    let here = c.loop-came.invariant.goes start all on in
+returns-in-Some-read_round-clause-comes g c = λ start all is on.
+    let here = c.loop-came.invariant.goes start all is on in
     let taken = c.in_default.ensures.comes start c.args.turns here.now _ here.on in
     came-after start c.args.turns all here.now c.in-Some-read_round.came _ _ _ _ here.same
-    (came-after start c.args.turns here.now taken.now c.in-Some-read_round.came _ _ _ _ taken.same (c.in-Some-read_round.ensures.comes start c.args.turns taken.now _ taken.on))
+    (came-after start c.args.turns here.now taken.now c.in-Some-read_round.came _ _ _ _ taken.same (c.in-Some-read_round.ensures.comes start c.args.turns taken.now _ (afford-still start c.args.turns c.loop-came.cost all here.now taken.now is here.same taken.same (search rules)) taken.on))
 
 pub loop-came-preserved : goal.loop-came-preserved
 loop-came-preserved g c = record {
@@ -29,11 +29,11 @@ loop-came-preserved g c = record {
   live = kept-live _ _ c.in_default-read_round.ensures.state c.in_default.ensures.lives;
   opening = λ is. kept-opening c.args.core.now.state _ _ (opening-then c.args.core.now.state c.loop-came.core.state _ (c.loop-came.invariant.opening is) (c.in_default.ensures.opens is)) c.in_default-read_round.ensures.state;
   rises = omega (arith, c.loop-came.invariant.rises, c.in_default-read_round.ensures.rises);
-  goes = λ start all on.
-      let here = c.loop-came.invariant.goes start all on in
+  goes = λ start all is on.
+      let here = c.loop-came.invariant.goes start all is on in
       let taken = c.in_default.ensures.comes start c.args.turns here.now _ here.on in
       goes-after start all here.now _ _ _ _ here.same
-      (goes-after start here.now taken.now _ _ _ _ taken.same (c.in_default-read_round.ensures.comes start c.args.turns taken.now _ taken.on));
+      (goes-after start here.now taken.now _ _ _ _ taken.same (c.in_default-read_round.ensures.comes start c.args.turns taken.now _ (afford-still start c.args.turns c.loop-came.cost all here.now taken.now is here.same taken.same (search rules)) taken.on));
 }
 
 pub returns-in-Some-clause-opens : goal.returns-in-Some-clause-opens

@@ -1,6 +1,6 @@
 use Rattle.std.proofs.Common.{◌≡◌, true, false, ◌+◌, ◌≤◌, ◌-◌, List, [], length}
 use Rattle.afp_client.specs.State.{is_lost}
-use Rattle.client_links.specs.History.{Happening}
+use Rattle.client_links.specs.History.{Happening, allowed, limits_in}
 use Rattle.client_links.specs.OnLink.{Start, OnLink, spot}
 use Rattle.client_links.specs.lemma.Coming.{GoesOn, Opening}
 use Rattle.client_links.proofs.round.await_on.Given as goal
@@ -12,7 +12,7 @@ invariant-loop-came g l = record {
   opening : l.opening ≡ true → Opening l.initial.core.state l.core.state;
   fits : l.core.held.place + length l.core.held.rest ≤ l.cost;
   rises : l.initial.cost ≤ l.cost;
-  goes : (start : Start) (all : List Happening) → OnLink start all (spot l.initial.core [] (g.L.Link.link_state l.initial.link) l.initial.replied l.initial.cost)
+  goes : (start : Start) (all : List Happening) → l.turns ≡ allowed (limits_in start.limits all) → OnLink start all (spot l.initial.core [] (g.L.Link.link_state l.initial.link) l.initial.replied l.initial.cost)
       → GoesOn start all l.core (g.L.Link.link_state l.link) l.replied l.cost;
 }
 

@@ -10,9 +10,9 @@ returns-in-None g c =
     let now = took.new.asker in
     let src = g.S.Source.source_state in
     let snk = g.O.Sink.sink_state in
-    closed-runs state c.args.turns (first_of was.core.value) (first_of now.asked.fixed.core.value) (g.D.Dialer.dialer_state was.dialer.value) (g.D.Dialer.dialer_state now.asked.fixed.dialer.value) (src c.args.source.now) (snk c.args.out.now)
-    took.result.end now.asked.exchanges now.ended now.cost now.place now.asked.fixed.turns took.result.closes (g.D.Dialer.dialer_state c.close-finished.result.dialer) (src took.new.source) (snk took.new.out)
-    took.ensures.stops (cc took.ensures.core) (cc took.ensures.dialer) c.close-finished.result.end c.in-None.is c.if-ended.true c.close-finished.ensures
+    closed-runs state c.args.turns (first_of was.core.value was.turns) (first_of now.asked.fixed.core.value now.asked.fixed.turns) (g.D.Dialer.dialer_state was.dialer.value) (g.D.Dialer.dialer_state now.asked.fixed.dialer.value) (src c.args.source.now) (snk c.args.out.now)
+    took.result.end now.asked.exchanges now.ended now.cost now.place now.asked.fixed.limits.items took.result.closes (g.D.Dialer.dialer_state c.close-finished.result.dialer) (src took.new.source) (snk took.new.out)
+    took.ensures.stops (cc took.ensures.core took.ensures.turns) (cc took.ensures.dialer) c.close-finished.result.end c.in-None.is c.if-ended.true c.close-finished.ensures
 
 pub returns-in-Some : goal.returns-in-Some
 returns-in-Some g c =
@@ -22,9 +22,9 @@ returns-in-Some g c =
     let now = took.new.asker in
     let src = g.S.Source.source_state in
     let snk = g.O.Sink.sink_state in
-    unclosed-runs state c.args.turns (first_of was.core.value) (first_of now.asked.fixed.core.value) (g.D.Dialer.dialer_state was.dialer.value) (g.D.Dialer.dialer_state now.asked.fixed.dialer.value) (src c.args.source.now) (snk c.args.out.now)
-    took.result.end now.asked.exchanges now.ended now.cost now.place now.asked.fixed.turns took.result.closes (g.D.Dialer.dialer_state c.close-finished.result.dialer) (src took.new.source) (snk took.new.out)
-    took.ensures.stops (cc took.ensures.core) (cc took.ensures.dialer) c.close-finished.result.end c.in-Some.field-0 c.in-Some.is c.if-ended.true c.close-finished.ensures
+    unclosed-runs state c.args.turns (first_of was.core.value was.turns) (first_of now.asked.fixed.core.value now.asked.fixed.turns) (g.D.Dialer.dialer_state was.dialer.value) (g.D.Dialer.dialer_state now.asked.fixed.dialer.value) (src c.args.source.now) (snk c.args.out.now)
+    took.result.end now.asked.exchanges now.ended now.cost now.place now.asked.fixed.limits.items took.result.closes (g.D.Dialer.dialer_state c.close-finished.result.dialer) (src took.new.source) (snk took.new.out)
+    took.ensures.stops (cc took.ensures.core took.ensures.turns) (cc took.ensures.dialer) c.close-finished.result.end c.in-Some.field-0 c.in-Some.is c.if-ended.true c.close-finished.ensures
 
 pub returns-else-ended : goal.returns-else-ended
 returns-else-ended g c =
@@ -34,6 +34,6 @@ returns-else-ended g c =
     let now = took.new.asker in
     let src = g.S.Source.source_state in
     let snk = g.O.Sink.sink_state in
-    left-runs state c.args.turns (first_of was.core.value) (first_of now.asked.fixed.core.value) (g.D.Dialer.dialer_state was.dialer.value) (g.D.Dialer.dialer_state now.asked.fixed.dialer.value) (src c.args.source.now) (snk c.args.out.now)
-    took.result.end now.asked.exchanges now.ended now.cost now.place now.asked.fixed.turns took.result.closes (g.D.Dialer.dialer_state c.leave-finished.result.dialer) (src took.new.source) (snk took.new.out)
-    took.ensures.stops (cc took.ensures.core) (cc took.ensures.dialer) c.if-ended.false c.leave-finished.ensures.finishes
+    left-runs state c.args.turns (first_of was.core.value was.turns) (first_of now.asked.fixed.core.value now.asked.fixed.turns) (g.D.Dialer.dialer_state was.dialer.value) (g.D.Dialer.dialer_state now.asked.fixed.dialer.value) (src c.args.source.now) (snk c.args.out.now)
+    took.result.end now.asked.exchanges now.ended now.cost now.place now.asked.fixed.limits.items took.result.closes (g.D.Dialer.dialer_state c.leave-finished.result.dialer) (src took.new.source) (snk took.new.out)
+    took.ensures.stops (cc took.ensures.core took.ensures.turns) (cc took.ensures.dialer) c.if-ended.false c.leave-finished.ensures.finishes

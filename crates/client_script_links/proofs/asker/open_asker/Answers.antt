@@ -1,4 +1,5 @@
-use Rattle.std.proofs.Common.{length, ◌∙◌, arith, rules}
+use Rattle.std.proofs.Common.{List, [], ◌∷◌, ◌++◌, ap, length, ◌∙◌, arith, rules}
+use Rattle.client_links.specs.declared.talk.Limit.{Limit}
 use Rattle.client_script_links.specs.Read.{zipped}
 use Rattle.client_script_links.proofs.StandingLemmas.{opens-asker}
 use Rattle.client_script_links.proofs.asker.open_asker.Goals as goal
@@ -16,12 +17,12 @@ pub invariant_of-result : goal.invariant_of-result
 invariant_of-result g c =
     let was = c.new-talk.result in
     let now = c.open.new.self in
-    let is_turns = c.open.ensures.turns ∙ c.new-talk.ensures.turns in (
-      is_turns,
-      opens-asker g.D.Link.Link.link_state c.args.core c.of.result.value (g.D.Dialer.dialer_state c.args.dialer) (g.D.Dialer.dialer_state c.of-2.result.value) was.turns now.turns
-          (zipped c.new-in-Ok.result.calls.items c.new-in-Ok.result.answers.items) was.link now.link was.core now.core now.out (length now.room.items)
-          was.replied now.replied was.idle now.idle was.cost now.cost 0 (g.D.Dialer.dialer_state was.dialer) (g.D.Dialer.dialer_state now.dialer) c.in-Ok.field-0
-          (search rules) (search rules) c.new-talk.ensures.stands c.in-Ok.ensures.opens c.new-in-Ok.ensures c.in-Ok.ensures.link c.in-Ok.ensures.empty c.in-Ok.ensures.ready
-          (omega (arith, c.open.ensures.room, c.new-talk.ensures.room, c.requires.some)) (omega (arith, c.open.ensures.room, c.new-talk.ensures.room, c.requires.small)) c.in-Ok.ensures.below c.in-Ok.ensures.fits
-          (omega (arith, is_turns, c.requires.turns)),
-    )
+    let first : Limit = record { turns = c.args.turns; spent = 0 } in
+    let is_turns = c.open.ensures.turns ∙ c.new-talk.ensures.turns in
+    opens-asker g.D.Link.Link.link_state c.args.core c.of.result.value (g.D.Dialer.dialer_state c.args.dialer) (g.D.Dialer.dialer_state c.of-2.result.value) was.turns now.turns c.args.turns c.and-limits.result.items
+    (zipped c.new-in-Ok.result.calls.items c.new-in-Ok.result.answers.items) was.link now.link was.core now.core now.out (length now.room.items)
+    was.replied now.replied was.idle now.idle was.cost now.cost 0 (g.D.Dialer.dialer_state was.dialer) (g.D.Dialer.dialer_state now.dialer) c.in-Ok.field-0
+    (search rules) (search rules) c.new-talk.ensures.stands c.in-Ok.ensures.opens c.new-talk.ensures.turns is_turns (c.and-limits.ensures ∙ ap (λ (ls : List Limit). ls ++ first ∷ []) c.new-none.ensures)
+    c.new-in-Ok.ensures c.in-Ok.ensures.link c.in-Ok.ensures.empty c.in-Ok.ensures.ready
+    (omega (arith, c.open.ensures.room, c.new-talk.ensures.room, c.requires.some)) (omega (arith, c.open.ensures.room, c.new-talk.ensures.room, c.requires.small)) c.in-Ok.ensures.below c.in-Ok.ensures.fits
+    (omega (arith, is_turns, c.requires.turns))
