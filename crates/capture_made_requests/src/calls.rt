@@ -149,8 +149,8 @@ fn enumerate(alloc: Global) -> Result<Call, OutOfMemory>
     })
 }
 
-/// The call of a step, by the numbers that were drawn for it.
-pub(crate) fn call_of(alloc: Global, o: u64, a: u64, b: u64) -> Result<Call, OutOfMemory>
+/// The call of a step, by the numbers that were drawn for it. The one error is want of memory.
+pub fn call_of(alloc: Global, o: u64, a: u64, b: u64) -> Result<Call, OutOfMemory>
     ensures call { IfOk result (λ call. call ≡ call_of o a b) }
     ensures spellable { IfOk result (λ call. IsSpellable call) }
 {
@@ -185,8 +185,8 @@ pub(crate) fn login(alloc: Global) -> Result<Call, OutOfMemory>
     })
 }
 
-/// FPOpenVol, which asks the volume's id.
-pub(crate) fn open_volume(alloc: Global) -> Result<Call, OutOfMemory>
+/// FPOpenVol, which asks the volume's id. The one error is want of memory.
+pub fn open_volume_call(alloc: Global) -> Result<Call, OutOfMemory>
     ensures call { IfOk result (λ call. call ≡ open_volume) }
     ensures spellable { IfOk result (λ call. IsSpellable call) }
 {

@@ -21,15 +21,24 @@ fn number_of(state: u64) -> u64
 
 /// The four numbers of a step.
 #[derive(Clone, Copy)]
-pub(crate) struct Draws {
-    pub(crate) c: u64,
-    pub(crate) o: u64,
-    pub(crate) a: u64,
-    pub(crate) b: u64,
+pub struct Draws {
+    pub c: u64,
+    pub o: u64,
+    pub a: u64,
+    pub b: u64,
+}
+
+/// Draws one number, and gives the state behind it.
+pub fn draw_one(state: u64) -> (u64, u64)
+    ensures number { result.0 ≡ number_of (next_state state) }
+    ensures state { result.1 ≡ next_state state }
+{
+    let next = next_state(state);
+    (number_of(next), next)
 }
 
 /// Draws the numbers of a step, in their order, and gives the state behind them.
-pub(crate) fn draw(state: u64) -> (Draws, u64)
+pub fn draw_step(state: u64) -> (Draws, u64)
     ensures c { result.0.c ≡ (drawn state).c }
     ensures o { result.0.o ≡ (drawn state).o }
     ensures a { result.0.a ≡ (drawn state).a }

@@ -104,7 +104,7 @@ pub(crate) fn login_bytes(alloc: Global) -> Result<Bytes, OutOfMemory>
 pub(crate) fn open_volume_bytes(alloc: Global) -> Result<Bytes, OutOfMemory>
     ensures { IfOk result (λ bytes. bytes ≡ canonical_frame (call_frame 2 open_volume)) }
 {
-    let call = calls::open_volume(alloc)?;
+    let call = calls::open_volume_call(alloc)?;
     call_bytes(alloc, 2, &call)
 }
 

@@ -2,7 +2,7 @@
 ghost use Rattle.std.specs.Prelude.{◌≡◌, ◌+◌, ◌%◌, ◌^◌, ◌<◌, IfOk, OnOk};
 ghost use Rattle.capture_made_requests.specs.Requests.{after, first_state, most_steps, request_of};
 
-use crate::draw::draw;
+use crate::draw::draw_step;
 use crate::frames::step_bytes;
 use crate::opening::moment_at;
 use crate::request::Request;
@@ -59,7 +59,7 @@ impl Steps {
         ensures request { IfOk result (λ r. r ≡ request_of self.old) }
         ensures after { OnOk result (self.new ≡ after self.old) }
     {
-        let (draws, state) = draw(self.state);
+        let (draws, state) = draw_step(self.state);
         let place = (draws.c % 3) as usize;
         let id = self.ids[place];
         let at = moment_at(101 + self.steps)?;

@@ -1,0 +1,5 @@
+pub mod Rows
+pub mod Asking
+pub mod Rejoining
+pub mod Changing
+pub mod Opening
