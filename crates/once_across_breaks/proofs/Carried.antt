@@ -74,9 +74,6 @@ locked-link run i x here l = upd run.links i x (λ k y. k ≡ run.top → Locked
 locked-coming : {W : Type 0} (run : Run W) (i : ℕ) (r : Request) (x : Link) → (run.links i).slot ≡ Coming r → Locked run → Locked (with_link run i x)
 locked-coming run i r x coming l = locked-link run i x (λ e. locked-busy run.client.stage run.client.wait r x.slot (subst (λ sl. LockedAt run.client.stage run.client.wait sl) (ap (λ m. (run.links m).slot) (sym e) ∙ coming) l)) l
 
-locked-drops : {W : Type 0} (run : Run W) (i : ℕ) → Locked run → Locked (drops run i)
-locked-drops run i l = locked-link run i (record { number = (run.links i).number; ended = true; slot = Idle; got = (run.links i).got }) (λ e. locked-idle run.client.stage run.client.wait) l
-
 locked-ends : {W : Type 0} (run : Run W) (i : ℕ) → Locked run → Locked (ends_link run i)
 locked-ends run i l = locked-link run i (record { number = (run.links i).number; ended = true; slot = (run.links i).slot; got = (run.links i).got }) (λ e. subst (λ m. LockedAt run.client.stage run.client.wait (run.links m).slot) (sym e) l) l
 

@@ -58,13 +58,13 @@ word-of code.BadIDErr = record { small = lit< tt; again = refl }
 
 -- ---- an answer, from its code and block
 
-refuses-again : (c : Code) (block : List ℕ) → is_refusal c ≡ true → answer_by c block ≡ Refuses c block
+pub refuses-again : (c : Code) (block : List ℕ) → is_refusal c ≡ true → answer_by c block ≡ Refuses c block
 refuses-again code.Ok block is = absurd (cc)
 refuses-again code.MiscErr block is = absurd (cc)
 refuses-again code.NoMemory block is = absurd (cc)
 refuses-again c block is = refl
 
-answer-again : (a : Answer) → FitsAnswer a → answer_by (answered_code a) (answered_block a) ≡ a
+pub answer-again : (a : Answer) → FitsAnswer a → answer_by (answered_code a) (answered_block a) ≡ a
 answer-again (Fine block) fits = refl
 answer-again MiscErr fits = refl
 answer-again NoMemory fits = refl

@@ -183,8 +183,9 @@ open-told-fits : {W : Type 0} {Sound : W → Type 0} (s : Server W Sound) (w : W
 open-told-fits {W} {Sound} s w entries e x sound number legal (inl (told, left)) =
     let after : Sound (s.after w x) = s.stays_sound w x sound legal in
     let next : suc (s.view w 0).next ≡ (s.view (s.after w x) 0).next = ap (λ (v : View). v.next) (sym left) in
+    let least = s.drawn_begins w 0 sound in
     let ends = s.drawn_ends (s.after w x) 0 after in
-    subst (λ t. HandledFits Sound HeardOpen (open_told (s.after w x) entries e t)) (sym told) (record { sound = after; number = omega (arith, next, ends); reply = (omega arith, refl) })
+    subst (λ t. HandledFits Sound HeardOpen (open_told (s.after w x) entries e t)) (sym told) (record { sound = after; number = (least, omega (arith, next, ends)); reply = (omega arith, refl) })
 open-told-fits {W} {Sound} s w entries e x sound number legal (inr (a, told, bad, left)) =
     subst (λ t. HandledFits Sound HeardOpen (open_told (s.after w x) entries e t)) (sym told)
     (record { sound = s.stays_sound w x sound legal; number = number; reply = (s.tells_fit w x a false sound legal told, not-fine-fits a bad) })
@@ -206,7 +207,7 @@ handles-fit {W} {Sound} s w moment wish e None HeardOpen sound fits within small
     (λ f. handles-open-fits s (s.after w x) (x ∷ []) moment wish e (s.stays_sound w x sound (s.ran_is_legal w 0 moment Pulse (omega arith))) fits)
 handles-fit s w moment wish e (Some link) HeardOpen sound fits within small = record { sound = sound; number = fits; reply = tt }
 handles-fit s w moment wish e None (HeardCall id body) sound fits within small = record { sound = sound; number = fits; reply = tt }
-handles-fit s w moment wish e (Some link) (HeardCall id body) sound fits within small = handles-call-fits s w moment wish e link id body sound fits within small
+handles-fit s w moment wish e (Some link) (HeardCall id body) sound fits within small = handles-call-fits s w moment wish e link id body sound fits within.1 small
 
 -- ---- all links
 
@@ -297,7 +298,7 @@ quiet-fits s net i moment wish false None within h = h
 quiet-fits {W} {Sound} s net i moment wish false (Some link) within h =
     let e : Entry = entry link moment Pulse Ran in
     cond_both wish.memory net (net_quiet_by (net_tells s.machine net e) i (s.told net.world e)) (NetFits Sound) (λ f. h)
-    (λ f. quiet-by-fits Sound (net_tells s.machine net e) i (s.told net.world e) (tells-fit s net e (s.ran_is_legal net.world link moment Pulse within) h))
+    (λ f. quiet-by-fits Sound (net_tells s.machine net e) i (s.told net.world e) (tells-fit s net e (s.ran_is_legal net.world link moment Pulse within.1) h))
 
 parts-fit : {W : Type 0} {Sound : W → Type 0} (s : Server W Sound) (net : Net W) (i moment : ℕ) (wish : Wish) (ask : Ask) (ended : Bool) (number : Option ℕ) → NumberFits number → NetFits Sound net → NetFits Sound (net_parts s.machine net i moment wish ask ended number)
 parts-fit s net i moment wish ask true number within h = h
@@ -305,7 +306,7 @@ parts-fit {W} {Sound} s net i moment wish ask false None within h = ends-fit Sou
 parts-fit {W} {Sound} s net i moment wish ask false (Some link) within h =
     let e : Entry = entry link moment ask Ran in
     cond_both wish.memory net (net_tells s.machine net e) (λ y. NetFits Sound (net_ends y i)) (λ f. ends-fit Sound net i h)
-    (λ f. ends-fit Sound (net_tells s.machine net e) i (tells-fit s net e (s.ran_is_legal net.world link moment ask within) h))
+    (λ f. ends-fit Sound (net_tells s.machine net e) i (tells-fit s net e (s.ran_is_legal net.world link moment ask within.1) h))
 
 breaks-fit : {W : Type 0} (Sound : W → Type 0) (net : Net W) → NetFits Sound net → NetFits Sound (net_breaks net)
 breaks-fit Sound net h =

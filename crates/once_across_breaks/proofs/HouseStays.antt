@@ -179,6 +179,7 @@ call-house w s call = refl
 -- a world of that house, whose next link number is in its range
 pub record OfHouse (house : Household) (w : World) : Type 0 where
   pub same : w.house ≡ house
+  pub from_one : 1 ≤ w.next_link
   pub within : w.next_link ≤ links_end
 
 or-false : (a b : Bool) → (a || b) ≡ false → b ≡ false
@@ -191,13 +192,13 @@ has-room w room = let less = leb-false links_end w.next_link (or-false (nat_le m
 
 keeps-of : (house : Household) → Keeps AnyCall (OfHouse house)
 keeps-of house = record {
-  opens = λ w room h. record { same = h.same; within = has-room w room };
-  calls = λ w s call test known found passes h. record { same = call-house w s call ∙ h.same; within = subst (λ n. n ≤ links_end) (sym ((row-sound call).next w s)) h.within };
-  ends = λ w stays h. record { same = h.same; within = h.within };
-  drains = λ w h. record { same = h.same; within = h.within };
-  loses = λ w s test found h. record { same = h.same; within = h.within };
-  stores = λ w s r test o a known found new h behind. record { same = behind.same; within = behind.within };
+  opens = λ w room h. record { same = h.same; from_one = omega arith; within = has-room w room };
+  calls = λ w s call test known found passes h. record { same = call-house w s call ∙ h.same; from_one = subst (λ n. 1 ≤ n) (sym ((row-sound call).next w s)) h.from_one; within = subst (λ n. n ≤ links_end) (sym ((row-sound call).next w s)) h.within };
+  ends = λ w stays h. record { same = h.same; from_one = h.from_one; within = h.within };
+  drains = λ w h. record { same = h.same; from_one = h.from_one; within = h.within };
+  loses = λ w s test found h. record { same = h.same; from_one = h.from_one; within = h.within };
+  stores = λ w s r test o a known found new h behind. record { same = behind.same; from_one = behind.from_one; within = behind.within };
 }
 
 pub entry-of-house : (house : Household) (w : World) (e : Entry) → OfHouse house w → OfHouse house (after w e)
-entry-of-house house w e h = after-keeps (keeps-of house) w e (nothing-known e.ask) (record { same = h.same; within = h.within })
+entry-of-house house w e h = after-keeps (keeps-of house) w e (nothing-known e.ask) (record { same = h.same; from_one = h.from_one; within = h.within })

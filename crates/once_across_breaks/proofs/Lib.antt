@@ -19,6 +19,7 @@ pub mod Views
 pub mod Wishes
 pub mod AskLaws
 pub mod SerialServer
+pub mod Drawn
 pub mod Examples
 pub mod Effects
 pub mod DsiFront

@@ -83,11 +83,11 @@ fault-tells laws u w e legal fault = (laws.faults w (entry_of u e) (ap outcome_o
 
 pub stays-under : KeepsSound → StaysUnderItsKey
 stays-under keeps key w e sound legal =
-    let h : OfHouse w.house (after w e) = entry-of-house w.house w e (record { same = refl; within = sound.within }) in
-    record { sound = keeps w e sound.sound legal; under = ap (λ house. house.token_key) h.same ∙ sound.under; within = h.within }
+    let h : OfHouse w.house (after w e) = entry-of-house w.house w e (record { same = refl; from_one = sound.from_one; within = sound.within }) in
+    record { sound = keeps w e sound.sound legal; under = ap (λ house. house.token_key) h.same ∙ sound.under; from_one = h.from_one; within = h.within }
 
 pub starts-under : StartsSound → StartsUnderItsKey
-starts-under starts house now volumes fine typed moment serves = record { sound = starts house now volumes fine typed moment serves; under = refl; within = lit≤ tt }
+starts-under starts house now volumes fine typed moment serves = record { sound = starts house now volumes fine typed moment serves; under = refl; from_one = lit≤ tt; within = lit≤ tt }
 
 pub asks-answered : Laws → (u : Setup) (w : World) (n : ℕ) (e : Entry) → IsSoundUnder u.key w → is_legal w (entry_of u e) ≡ true
     → AskLaw (session_token u.key) n (view_of (view_at w n)) e.link ((view_at w n).holder e.link) e.ask e.outcome (told_of (answer w (entry_of u e))) (view_of (view_at (after w (entry_of u e)) n))
@@ -119,6 +119,7 @@ serial-server laws u = record {
   machine = machine u;
   tokens_differ = λ m n a b same. laws.differ u.key m n a b same;
   ran_is_legal = λ w link moment ask within. ran-legal u w link moment ask within;
+  drawn_begins = λ w n sound. sound.from_one;
   drawn_ends = λ w n sound. sound.within;
   stays_sound = λ w e sound legal. stays-under laws.keeps u.key w (entry_of u e) sound legal;
   held_is_alive = λ w n l sound holds. (laws.there w n l sound.sound holds).0;

@@ -22,12 +22,6 @@ view-ended n v l k = λ i. record { holder = (ended n (view_of v) l k).holder; a
 pub view-adopted : (n : ℕ) (v : views.View) (l k m : ℕ) → view_of (views.adopted n v l k m) ≡ adopted n (view_of v) l k m
 view-adopted n v l k m = λ i. record { holder = (adopted n (view_of v) l k m).holder; alive = (adopted n (view_of v) l k m).alive; cache = emptied (nat_eq k n) v.cache i; next = v.next }
 
-pub view-detached : (v : views.View) (l : ℕ) → view_of (views.detached v l) ≡ detached (view_of v) l
-view-detached v l = refl
-
-pub view-swept : (v : views.View) → view_of (views.swept v) ≡ swept (view_of v)
-view-swept v = refl
-
 kept-one : (b : Bool) (c : List base.Kept) (r : Request) (a : base.Answer) → newest_first (cond b (with_kept c (record { request = r; answer = a })) c) ≡ cond b (store (newest_first c) r (read a)) (newest_first c)
 kept-one true c r a = newest-kept c r a
 kept-one false c r a = refl

@@ -13,3 +13,4 @@ pub mod Premises
 pub mod Effects
 pub mod Dsi
 pub mod UnderWay
+pub mod Tokens

@@ -116,8 +116,9 @@ machine u = record {
   is_legal = λ w e. is_legal w (entry_of u e);
 }
 
--- A sound world of a server with that key, whose next link number is in its range. So is each at the start, and each that legal entries leave.
+-- A sound world of a server with that key, whose next link number is in its range, and is not 0: no session has the link 0. So is each at the start, and each that legal entries leave.
 pub record IsSoundUnder (key : List ℕ) (w : World) : Type 0 where
   pub sound : IsSound w
   pub under : w.house.token_key ≡ key
+  pub from_one : 1 ≤ w.next_link
   pub within : w.next_link ≤ numbers_end

@@ -152,6 +152,7 @@ pub record Server (W : Type 0) (Sound : W → Type 0) : Type 0 where
   pub open machine use *
   pub tokens_differ : (m n : ℕ) → m < numbers_end → n < numbers_end → token m ≡ token n → m ≡ n
   pub ran_is_legal : (w : W) (link moment : ℕ) (ask : Ask) → link < numbers_end → is_legal w (entry link moment ask Ran) ≡ true
+  pub drawn_begins : (w : W) (n : ℕ) → Sound w → 1 ≤ (view w n).next
   pub drawn_ends : (w : W) (n : ℕ) → Sound w → (view w n).next ≤ numbers_end
   pub stays_sound : (w : W) (e : Entry) → Sound w → is_legal w e ≡ true → Sound (after w e)
   pub held_is_alive : (w : W) (n l : ℕ) → Sound w → (view w n).holder l ≡ Some n → (view w n).alive ≡ true

@@ -45,9 +45,10 @@ abbrev pub AllDown : List (Request × Answer) → Type 0
 AllDown [] = Unit {0}
 AllDown (x ∷ xs) = FitsReplyTo (heard x.0) x.1 × AllDown xs
 
+-- a number that is drawn is in its range, and is not 0
 abbrev pub NumberFits : Option ℕ → Type 0
 NumberFits None = Unit {0}
-NumberFits (Some link) = link < numbers_end
+NumberFits (Some link) = (1 ≤ link) × (link < numbers_end)
 
 pub record LinkFits (c : Carrier) : Type 0 where
   pub number : NumberFits c.end.number

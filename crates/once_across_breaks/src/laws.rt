@@ -4,6 +4,7 @@ ghost use Rattle.once_across_breaks.specs.Effects as history;
 ghost use Rattle.once_across_breaks.specs.Example as example;
 ghost use Rattle.once_across_breaks.specs.Laws as laws;
 ghost use Rattle.once_across_breaks.specs.Premises as premises;
+ghost use Rattle.once_across_breaks.specs.Tokens as tokens;
 ghost use Rattle.once_across_breaks.specs.UnderWay as under_way;
 
 use afp_calls_grammar::laws::what_is_written_is_read_again;
@@ -48,6 +49,18 @@ pub fn what_is_under_way_fits()
     ensures starts { under_way.StartsFitting }
     ensures keeps { under_way.EventsKeepFitting }
     ensures good { under_way.RepliesAreGood }
+{
+    asks_change_sessions_in_few_ways();
+    fault_hides_no_refusal();
+    sound_worlds_stay_sound();
+    tokens_tell_sessions_apart();
+    what_is_written_is_read_again();
+}
+
+/// Over links that carry lists of frames, where what others ask is legal: a client without a token has no results, and a token that it holds
+/// is that of a session whose number was drawn.
+pub fn tokens_are_drawn()
+    ensures { tokens.TokensAreDrawn }
 {
     asks_change_sessions_in_few_ways();
     fault_hides_no_refusal();

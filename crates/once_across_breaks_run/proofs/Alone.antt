@@ -61,7 +61,7 @@ alone-carried w [] es behind (none, same) fits = subst AllCarried (sym none) tt
 alone-carried w (s ∷ ss) es behind (first, rest, mid, asked, later, all) fits =
     subst AllCarried (sym all) (carried-append first rest (step-carried w s s.told first mid asked fits.0) (alone-carried mid ss rest behind later fits.1))
 
-same-rest : (xs ys zs : List entries.Entry) → xs ++ ys ≡ xs ++ zs → ys ≡ zs
+pub same-rest : (xs ys zs : List entries.Entry) → xs ++ ys ≡ xs ++ zs → ys ≡ zs
 same-rest [] ys zs e = e
 same-rest (x ∷ xs) ys zs e = let f : xs ++ ys ≡ xs ++ zs = cc in same-rest xs ys zs f
 

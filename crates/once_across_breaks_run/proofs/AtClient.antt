@@ -1,5 +1,5 @@
 -- What is done at the client.
-use Rattle.std.proofs.Common.{◌≡◌, ◌≢◌, ◌∙◌, inl, inr, refl, sym, ap, subst, ℕ, ◌≤◌, true, false, List, [], ◌∷◌, ◌++◌, Option, Some, None, arith, append_assoc}
+use Rattle.std.proofs.Common.{◌≡◌, ◌≢◌, ◌∙◌, inl, inr, refl, sym, ap, subst, ℕ, ◌≤◌, ◌<◌, Bool, true, false, List, [], ◌∷◌, ◌++◌, Option, Some, None, arith, append_assoc}
 use Rattle.std.specs.Prelude.{map}
 use Rattle.std.proofs.lemmas.Bool.{cases_eq}
 use Rattle.afp_client.specs.Laws.{FrameDecides}
@@ -15,12 +15,13 @@ use Rattle.afp_server.specs.declared.stage.Stage as server_stage
 use Rattle.dsi_frame.specs.Frame.{Frame, IsGood, IsSpelling, canonical_frame}
 use Rattle.dsi_frame.specs.Replies.{listed}
 use Rattle.once_across_breaks.proofs.Events.{set-at, set-off}
-use Rattle.once_across_breaks.specs.Frames.{AreThat, AreToThat, Carrier, End, Heard, Net, heard, net_run, net_start, net_step}
+use Rattle.once_across_breaks.specs.Frames.{AllNetAllowed, AreThat, AreToThat, Carrier, End, Heard, Net, NetAllowed, heard, net_run, net_start, net_step}
 use Rattle.once_across_breaks.specs.Laws.{OneFrameEach, OnlyTheWaitingEach}
 use Rattle.once_across_breaks.specs.Messages.{Answer, wire_id}
 use Rattle.once_across_breaks.specs.Run.{Client, Entering, Event, Gone, Joining, Opening, Ready, Request, Stage, Wait}
 use Rattle.once_across_breaks.specs.Serial.{IsSoundUnder, Setup, machine}
 use Rattle.once_across_breaks.specs.Server.{set}
+use Rattle.once_across_breaks.specs.Tokens.{AllLegal}
 use Rattle.once_across_breaks.specs.UnderWay.{AllFit, EventsKeepFitting, IsLegal, NetFits, TokenFits}
 use Rattle.once_across_breaks_client.specs.Related.{IsClient, IsStage, waiting_of}
 use Rattle.once_across_breaks_client.specs.Requests.{frame_of}
@@ -31,6 +32,9 @@ use Rattle.once_across_breaks_server.specs.Ties.{AreEntries, IsEnd}
 use Rattle.once_across_breaks_run.specs.Doings.{IsBrought, OnlyAt, UpGrows}
 use Rattle.once_across_breaks_run.specs.Mirrors.{AreComing, AreTold, AreUnderWay, IsLane, AreAsked, calls_of}
 use Rattle.once_across_breaks_run.specs.Things.{Lane, Things}
+use Rattle.once_across_breaks_run.specs.Premises.{Notes}
+use Rattle.once_across_breaks_run.proofs.Allowed.{AreFirst, IsAmong, allowed-append}
+use Rattle.once_across_breaks_run.proofs.AtLink.{legal-append}
 use Rattle.once_across_breaks_run.proofs.Courses.{Kept, more-run}
 use Rattle.once_across_breaks_run.proofs.Spelled.{more-under, writes-under}
 
@@ -46,7 +50,7 @@ redown u l d c h = record {
   ended = h.ended;
 }
 
-pub still : (u : Setup) (w : World) (t s : Things) (net : Net World) → Kept u w t net
+pub still : (u : Setup) (w : World) (n : ℕ) (b : Bool) (notes : Notes) (t s : Things) (net : Net World) → Kept u w n b notes t net
     → s.client.state ≡ t.client.state
     → s.client.held.rest ++ (s.lanes t.top).down ≡ t.client.held.rest ++ (t.lanes t.top).down
     → s.lanes t.top ≡ with_down (t.lanes t.top) (s.lanes t.top).down
@@ -54,8 +58,8 @@ pub still : (u : Setup) (w : World) (t s : Things) (net : Net World) → Kept u 
     → s.calls ≡ t.calls
     → s.results ≡ t.results
     → s.shown ≡ t.shown
-    → Kept u w s net
-still u w t s net k state bytes lane only calls results shown =
+    → Kept u w n b notes s net
+still u w n b notes t s net k state bytes lane only calls results shown =
     let m = k.mirrors in
     record {
       events = k.events;
@@ -81,26 +85,37 @@ still u w t s net k state bytes lane only calls results shown =
       fits = k.fits;
       start = ap (λ (x : Shown). x.start) shown ∙ k.start;
       shown = subst IsSoundShown (sym shown) k.shown;
+      legal = k.legal;
+      row = k.row;
+      first = k.first;
+      numbers = k.numbers;
+      allowed = k.allowed;
     }
 
-pub brought-keeps : (u : Setup) (w : World) (t s : Things) (net : Net World) → IsBrought t s → Kept u w t net → Kept u w s net
-brought-keeps u w t s net x k =
+pub brought-keeps : (u : Setup) (w : World) (n : ℕ) (b : Bool) (notes : Notes) (t s : Things) (net : Net World) → IsBrought t s → Kept u w n b notes t net → Kept u w n b notes s net
+brought-keeps u w n b notes t s net x k =
     let bytes : s.client.held.rest ++ (s.lanes t.top).down ≡ t.client.held.rest ++ (t.lanes t.top).down =
     ap (λ (l : List ℕ). l ++ (s.lanes t.top).down) x.held ∙ append_assoc t.client.held.rest x.piece (s.lanes t.top).down ∙ ap (λ (l : List ℕ). t.client.held.rest ++ l) (sym x.moved) in
-    still u w t s net k x.state bytes x.lane x.only x.calls x.results x.shown
+    still u w n b notes t s net k x.state bytes x.lane x.only x.calls x.results x.shown
 
 -- ---- where the client writes
 
 -- The law's client is another behind an event, and wrote these requests on its newest link, on which nothing else is under way to its end.
-pub record Writes (u : Setup) (t s : Things) (net after : Net World) (more : List ℕ) : Type 0 where
+pub record Writes (u : Setup) (notes new : Notes) (t s : Things) (net after : Net World) (more : List ℕ) : Type 0 where
   pub event : Event
   pub step : net_step (machine u) net event ≡ after
   pub legal : IsLegal (machine u) net.world event
+  pub allowed : (n : ℕ) → NetAllowed (machine u) n net event
   pub writes : List Request
   pub left : List (Request × Answer)
   pub end : End
   pub client : Client
   pub is : after ≡ record { client = client; top = net.top; world = net.world; history = net.history; links = set net.links net.top (record { end = end; up = (net.links net.top).up ++ writes; down = left }) }
+  pub row : client.row ≡ new.row
+  pub numbers : new.numbers ≡ notes.numbers
+  pub again : (j : ℕ) → (j ≡ t.top → ⊥) → new.again j ≡ notes.again j
+  pub first : new.again t.top ≡ false → AreFirst writes
+  pub number : end.number ≡ (net.links net.top).end.number
   pub stands : (stage : server_stage.Stage) → IsEnd stage (net.links net.top).end → IsEnd stage end
   pub ended : (net.links net.top).end.ended ≡ true → end.ended ≡ true
   pub empty : (net.links net.top).up ≡ []
@@ -117,11 +132,11 @@ pub record Writes (u : Setup) (t s : Things) (net after : Net World) (more : Lis
 abbrev grown : Lane → List ℕ → Lane
 grown l more = record { wire = l.wire; ended = l.ended; up = l.up ++ more; down = l.down }
 
-pub writes-keep : EventsKeepFitting → (u : Setup) (w : World) (t s : Things) (net after : Net World) (more : List ℕ) → Kept u w t net → UpGrows t.top more t s → Writes u t s net after more → Kept u w s after
-writes-keep keeps u w t s net after more k grows x =
+pub writes-keep : EventsKeepFitting → (u : Setup) (w : World) (n : ℕ) (b : Bool) (notes new : Notes) (t s : Things) (net after : Net World) (more : List ℕ) → (b ≡ true → new.row < 1900) → Kept u w n b notes t net → UpGrows t.top more t s → Writes u notes new t s net after more → Kept u w n b new s after
+writes-keep keeps u w n b notes new t s net after more less k grows x =
     let m = k.mirrors in
     let here : Carrier = record { end = x.end; up = (net.links net.top).up ++ x.writes; down = x.left } in
-    let run : after ≡ net_run (machine u) (net_start w) (k.events ++ x.event ∷ []) = sym x.step ∙ more-run u w t net k (x.event ∷ []) in
+    let run : after ≡ net_run (machine u) (net_start w) (k.events ++ x.event ∷ []) = sym x.step ∙ more-run u w n b notes t net k (x.event ∷ []) in
     let fits : NetFits (IsSoundUnder u.key) after = subst (NetFits (IsSoundUnder u.key)) x.step (keeps u net x.event m.token x.legal k.fits) in
     let there : after.links t.top ≡ here = ap (λ (n : Net World). n.links t.top) x.is ∙ set-at net.links net.top here t.top (sym m.top) in
     let off : (j : ℕ) → (j ≡ t.top → ⊥) → after.links j ≡ net.links j = λ j other. ap (λ (n : Net World). n.links j) x.is ∙ set-off net.links net.top here j (λ e. other (e ∙ m.top)) in
@@ -176,6 +191,24 @@ writes-keep keeps u w t s net after more k grows x =
       fits = fits;
       start = ap (λ (y : Shown). y.start) grows.shown ∙ k.start;
       shown = subst IsSoundShown (sym grows.shown) k.shown;
+      legal = legal-append u (net_start w) k.events (x.event ∷ []) k.legal (subst (λ (a : Net World). AllLegal u a (x.event ∷ [])) k.is_run (x.legal, tt));
+      row = ap (λ (c : Client). c.row) client ∙ x.row;
+      first = λ j unset. elim (cases_eq j t.top) [
+        | inl same ↦ subst (λ (l : ℕ). AreFirst (after.links l).up) (sym same) (subst (λ (c : Carrier). AreFirst c.up) (sym there) (subst AreFirst (sym ups) (x.first (ap new.again (sym same) ∙ unset))))
+        | inr other ↦ subst (λ (c : Carrier). AreFirst c.up) (sym (off j other)) (k.first j (sym (x.again j other) ∙ unset))
+      ];
+      numbers = λ j l is. subst (IsAmong l) (sym x.numbers) (k.numbers j l (elim (cases_eq j t.top) [
+        | inl same ↦
+            let at_top : (after.links t.top).end.number ≡ Some l = subst (λ (a : ℕ). (after.links a).end.number ≡ Some l) same is in
+            subst (λ (a : ℕ). (net.links a).end.number ≡ Some l) (m.top ∙ sym same) (sym x.number ∙ ap (λ (c : Carrier). c.end.number) (sym there) ∙ at_top)
+        | inr other ↦ ap (λ (c : Carrier). c.end.number) (sym (off j other)) ∙ is
+      ]));
+      allowed = λ so.
+          let row : (net_step (machine u) net x.event).client.row < 1900 =
+          let e = ap (λ (a : Net World). a.client.row) x.step ∙ ap (λ (c : Client). c.row) client ∙ x.row in
+          let small = less so in
+          omega (arith, e, small) in
+          allowed-append u n (net_start w) k.events (x.event ∷ []) (k.allowed so) (subst (λ (a : Net World). AllNetAllowed (machine u) n a (x.event ∷ [])) k.is_run (x.allowed n, row, tt));
     }
 
 -- ---- what is seen of its stage
@@ -197,10 +230,6 @@ waits-none u (Some w) e = absurd (cc)
 pub none-that : (rs : List Request) (o : Option Heard) → o ≡ None → AreThat o rs → rs ≡ []
 none-that [] o none h = refl
 none-that (r ∷ rs) o none h = let e : None ≡ Some (heard r) = sym none ∙ h.0 in absurd (cc)
-
-pub none-to-that : (xs : List (Request × Answer)) (o : Option Heard) → o ≡ None → AreToThat o xs → xs ≡ []
-none-to-that [] o none h = refl
-none-to-that (x ∷ xs) o none h = let e : None ≡ Some (heard x.0) = sym none ∙ h.0 in absurd (cc)
 
 pub record ClientLaws : Type 0 where
   pub keeps : EventsKeepFitting

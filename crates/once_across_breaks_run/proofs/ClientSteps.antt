@@ -1,5 +1,5 @@
 -- A call that is asked, a link that breaks, and a frame that is taken.
-use Rattle.std.proofs.Common.{◌≡◌, ◌≢◌, ◌∙◌, inl, inr, refl, sym, ap, subst, ℕ, suc, ◌+◌, ◌≤◌, Bool, true, false, List, [], ◌∷◌, ◌++◌, Option, Some, None, arith, append-nil, append_assoc}
+use Rattle.std.proofs.Common.{◌≡◌, ◌≢◌, ◌∙◌, inl, inr, refl, sym, ap, subst, ℕ, suc, ◌+◌, ◌≤◌, ◌<◌, Bool, true, false, List, [], ◌∷◌, ◌++◌, Option, Some, None, arith, append-nil, append_assoc}
 use Rattle.std.specs.Prelude.{length, ◌||◌, map, option_to_list}
 use Rattle.std.proofs.lemmas.Bool.{cases_eq, cases_order}
 use Rattle.afp_base.specs.declared.code.Code.{Code}
@@ -24,11 +24,11 @@ use Rattle.dsi_frame.specs.Stream.{Begins}
 use Rattle.volume_spec.specs.TypedVolume.{are_bytes}
 use Rattle.once_across_breaks.proofs.Events.{set-at, set-off}
 use Rattle.once_across_breaks.specs.Dsi.{answered_block}
-use Rattle.once_across_breaks.specs.Frames.{AreToThat, Carrier, End, Heard, HeardCall, Net, Taken, client_takes, fresh_end, heard, net_breaks, net_commands, net_taken, net_to_client, request_that_waits, tag_of, waiting_request}
+use Rattle.once_across_breaks.specs.Frames.{AllNetAllowed, AreToThat, Carrier, End, Heard, HeardCall, Net, Taken, client_takes, fresh_end, heard, net_breaks, net_commands, net_start, net_taken, net_to_client, request_that_waits, tag_of, waiting_request}
 use Rattle.once_across_breaks.specs.Messages.{Answer, Does, Done, Call}
 use Rattle.once_across_breaks.specs.Run as run
 use Rattle.once_across_breaks.specs.Run.{Asks, Client, Event, Gone, Joining, Opens, Ready, Request, Stage, Wait, begins, draws, id_of, last_body}
-use Rattle.once_across_breaks.specs.Serial.{Setup, answer_by}
+use Rattle.once_across_breaks.specs.Serial.{Setup, answer_by, machine}
 use Rattle.once_across_breaks.specs.Server.{set}
 use Rattle.once_across_breaks_client.specs.Moves.{commanded, frames_of}
 use Rattle.once_across_breaks_client.specs.Related.{IsClient, IsStage, waiting_of}
@@ -40,7 +40,11 @@ use Rattle.once_across_breaks_run.specs.Doings.{IsAsked, IsBroken, IsTaken, told
 use Rattle.once_across_breaks_run.specs.Mirrors.{AreComing, AreTold, AreUnderWay, IsLane, IsReplyWith, AreAsked, calls_of, waiting_call}
 use Rattle.once_across_breaks_run.specs.Things.{Lane, Things, begun_lane}
 use Rattle.once_across_breaks_run.proofs.AtClient.{ClientLaws, live-stage, none-that, still, waits-none, writes-keep, with_down}
+use Rattle.once_across_breaks_run.specs.Premises.{Notes, noted_event}
+use Rattle.once_across_breaks_run.proofs.Allowed.{AreFirst, allowed-append}
+use Rattle.once_across_breaks_run.proofs.AtLink.{legal-append}
 use Rattle.once_across_breaks_run.proofs.Courses.{Kept, more-run, one-each}
+use Rattle.once_across_breaks_run.proofs.Noting.{NotedBy, noted-by, takes-kind}
 use Rattle.once_across_breaks_run.proofs.Feeding.{first-none, only-waits}
 use Rattle.once_across_breaks_run.proofs.Taking.{takes-well, token-stays-fit, told-more, typed-answer}
 
@@ -96,8 +100,8 @@ same-calls c tk event results waits told =
 
 -- ---- a call
 
-pub asked-keeps : ClientLaws → (u : Setup) (w : World) (call : grammar.Call) (t s : Things) (net : Net World) → IsAsked call t s → Kept u w t net → (after : Net World) × Kept u w s after
-asked-keeps laws u w call t s net x k =
+pub asked-keeps : ClientLaws → (u : Setup) (w : World) (n : ℕ) (b : Bool) (notes : Notes) (call : grammar.Call) (t s : Things) (net : Net World) → IsAsked call t s → (b ≡ true → notes.row < 1900) → Kept u w n b notes t net → (after : Net World) × Kept u w n b notes s after
+asked-keeps laws u w n b notes call t s net x less k =
     let m = k.mirrors in
     let c : Client = net.client in
     let command = laws.calls u call x.askable in
@@ -109,16 +113,22 @@ asked-keeps laws u w call t s net x k =
     let is_taken : taken ≡ does.0 = some-same taken does.0 (sym (λ i. commanded c (ready i) (idle i) command.0) ∙ does.1) in
     let that : request_that_waits c c.stage ≡ None = ap (request_that_waits c) ready ∙ ap waiting_request idle in
     let alive : c.stage ≢ Gone = λ gone. let e : Ready ≡ Gone = sym ready ∙ gone in absurd (cc) in
-    let only = only-waits laws.waiting u w t net k alive in
+    let only = only-waits laws.waiting u w n b notes t net k alive in
     let comes : AreComing u c.opening_id (s.client.held.rest ++ (t.lanes t.top).down) (net.links net.top).down =
     subst (λ (y : states.Client). AreComing u c.opening_id (y.held.rest ++ (t.lanes t.top).down) (net.links net.top).down) (sym x.client)
     (subst (λ (l : ℕ). AreComing u c.opening_id (t.client.held.rest ++ (t.lanes t.top).down) (net.links l).down) (sym m.top) (m.coming alive)) in (
       after,
-      writes-keep laws.keeps u w t s net after (canonical_frame (call_frame t.client.state.next_id call)) k x.grows
+      writes-keep laws.keeps u w n b notes notes t s net after (canonical_frame (call_frame t.client.state.next_id call)) less k x.grows
           (record {
             event = run.Commands command.0;
             step = λ i. net_commands net (ready i) (idle i) command.0;
             legal = tt;
+            allowed = λ j. tt;
+            row = k.row;
+            numbers = refl;
+            again = λ j off. refl;
+            first = λ unset. (refl, tt);
+            number = refl;
             writes = taken.writes;
             left = (net.links net.top).down;
             end = (net.links net.top).end;
@@ -170,8 +180,8 @@ new-lane u block = record {
   ended = λ e. absurd (cc);
 }
 
-pub broken-keeps : ClientLaws → (u : Setup) (w : World) (t s : Things) (net : Net World) → IsBroken t s → Kept u w t net → (after : Net World) × Kept u w s after
-broken-keeps laws u w t s net x k =
+pub broken-keeps : ClientLaws → (u : Setup) (w : World) (n : ℕ) (b : Bool) (notes : Notes) (t s : Things) (net : Net World) → IsBroken t s → (b ≡ true → notes.row < 1900) → Kept u w n b notes t net → (after : Net World) × Kept u w n b notes s after
+broken-keeps laws u w n b notes t s net x less k =
     let m = k.mirrors in
     let c : Client = net.client in
     let does = laws.begins u c (broken t.client.state) (laws.breaks u c t.client.state m.client) in
@@ -185,7 +195,7 @@ broken-keeps laws u w t s net x k =
       after,
       record {
         events = k.events ++ run.Breaks ∷ [];
-        is_run = more-run u w t net k (run.Breaks ∷ []);
+        is_run = more-run u w n b notes t net k (run.Breaks ∷ []);
         mirrors = record {
           client = subst (λ (y : states.Client). IsClient u (begins c) y.state) (sym x.client) (subst (λ (y : Taken). IsClient u y.client (begun (broken t.client.state))) (sym is_taken) does.2);
           linked = subst (λ (y : states.Client). y.state.stage ≢ stages.Unlinked) (sym x.client) (begun-linked t.client.state.stage);
@@ -207,6 +217,21 @@ broken-keeps laws u w t s net x k =
         fits = laws.keeps u net run.Breaks m.token tt k.fits;
         start = ap (λ (y : Shown). y.start) x.shown ∙ k.start;
         shown = subst IsSoundShown (sym x.shown) k.shown;
+        legal = legal-append u (net_start w) k.events (run.Breaks ∷ []) k.legal (tt, tt);
+        row = k.row;
+        first = λ j unset. elim (cases_eq j (suc t.top)) [
+          | inl same ↦ subst (λ (l : ℕ). AreFirst (after.links l).up) (sym same) (subst (λ (y : Carrier). AreFirst y.up) (sym there) (refl, tt))
+          | inr other ↦ subst (λ (y : Carrier). AreFirst y.up) (sym (off j other)) (k.first j unset)
+        ];
+        numbers = λ j l is. elim (cases_eq j (suc t.top)) [
+          | inl same ↦
+              let fresh : None ≡ Some l = ap (λ (y : Carrier). y.end.number) (sym there) ∙ subst (λ (a : ℕ). (after.links a).end.number ≡ Some l) same is in
+              absurd (cc)
+          | inr other ↦ k.numbers j l (ap (λ (y : Carrier). y.end.number) (sym (off j other)) ∙ is)
+        ];
+        allowed = λ so.
+            let row : after.client.row < 1900 = let a = k.row in let d = less so in omega (arith, a, d) in
+            allowed-append u n (net_start w) k.events (run.Breaks ∷ []) (k.allowed so) (subst (λ (a : Net World). AllNetAllowed (machine u) n a (run.Breaks ∷ [])) k.is_run (tt, row, tt));
       },
     )
 
@@ -246,7 +271,7 @@ net_after net tk =
       });
     }
 
-taken-one : ClientLaws → (u : Setup) (w : World) (event : client_event.Event) (t s : Things) (net : Net World) (x : IsTaken event t s) (k : Kept u w t net) (y : Request × Answer) (f : Frame) (st : Step) (tk : Taken)
+taken-one : ClientLaws → (u : Setup) (w : World) (n : ℕ) (b : Bool) (notes : Notes) (event : client_event.Event) (t s : Things) (net : Net World) (x : IsTaken event t s) (less : b ≡ true → (noted_event event t.client.state t.top notes).row < 1900) (k : Kept u w n b notes t net) (y : Request × Answer) (f : Frame) (st : Step) (tk : Taken)
     → (reply : IsReplyWith u net.client.opening_id y.0 y.1 f)
     → (net.links net.top).down ≡ y ∷ []
     → request_that_waits net.client net.client.stage ≡ Some (heard y.0)
@@ -257,16 +282,23 @@ taken-one : ClientLaws → (u : Setup) (w : World) (event : client_event.Event) 
     → s.client.state ≡ st.state
     → (t.lanes t.top).up ++ x.more ≡ (t.lanes t.top).up ++ written st.writes
     → s.client.held.rest ++ (t.lanes t.top).down ≡ []
-    → Kept u w s (net_after net tk)
-taken-one laws u w event t s net x k y f st tk reply downs waits takes_st takes_tk one comes state sent rest =
+    → Kept u w n b (noted_event event t.client.state t.top notes) s (net_after net tk)
+taken-one laws u w n b notes event t s net x less k y f st tk reply downs waits takes_st takes_tk one comes state sent rest =
     let m = k.mirrors in
     let c : Client = net.client in
     let well = takes-well t.client.state (Some reply.code) f st reply.reply.reply takes_st in
-    writes-keep laws.keeps u w t s net (net_after net tk) x.more k x.grows
+    let told = subst (λ (e : client_event.Event). NotedBy notes (noted_event e t.client.state t.top notes) t.top tk) (sym comes) (noted-by u c t.client.state notes t.top (tag_of (heard y.0)) y.1 tk st m.client one well.linked (takes-kind t.client.state (Some reply.code) f st reply.reply.reply takes_st) takes_tk k.row) in
+    writes-keep laws.keeps u w n b notes (noted_event event t.client.state t.top notes) t s net (net_after net tk) x.more less k x.grows
     (record {
       event = run.ToClient;
       step = ap (net_to_client net) downs ∙ ap (net_taken net []) takes_tk;
       legal = tt;
+      allowed = λ j. tt;
+      row = told.row;
+      numbers = told.numbers;
+      again = told.again;
+      first = told.first;
+      number = refl;
       writes = tk.writes;
       left = [];
       end = record { number = (net.links net.top).end.number; ended = (net.links net.top).end.ended; got = (net.links net.top).end.got || tk.got };
@@ -274,7 +306,7 @@ taken-one laws u w event t s net x k y f st tk reply downs waits takes_st takes_
       is = refl;
       stands = λ stage h. got-stands (net.links net.top).end ((net.links net.top).end.got || tk.got) stage h;
       ended = λ h. h;
-      empty = up-none (net.links net.top).up y (subst (λ (l : List (Request × Answer)). length (net.links net.top).up + length l ≤ 1) downs (one-each laws.one u w t net k net.top));
+      empty = up-none (net.links net.top).up y (subst (λ (l : List (Request × Answer)). length (net.links net.top).up + length l ≤ 1) downs (one-each laws.one u w n b notes t net k net.top));
       one = subst (IsClient u tk.client) (sym state) one.client;
       linked = subst (λ (z : ClientState). z.stage ≢ stages.Unlinked) (sym state) well.linked;
       token = token-stays-fit c (tag_of (heard y.0)) y.1 tk m.token (block-typed c (heard y.0) y.1 reply.code f.payload waits reply.answer reply.typed) takes_tk;
@@ -289,7 +321,7 @@ taken-one laws u w event t s net x k y f st tk reply downs waits takes_st takes_
     })
 
 -- by what both do with it
-taken-both : ClientLaws → (u : Setup) (w : World) (event : client_event.Event) (t s : Things) (net : Net World) (x : IsTaken event t s) (k : Kept u w t net) (y : Request × Answer) (f : Frame) (o : Option Step) (p : Option Taken)
+taken-both : ClientLaws → (u : Setup) (w : World) (n : ℕ) (b : Bool) (notes : Notes) (event : client_event.Event) (t s : Things) (net : Net World) (x : IsTaken event t s) (less : b ≡ true → (noted_event event t.client.state t.top notes).row < 1900) (k : Kept u w n b notes t net) (y : Request × Answer) (f : Frame) (o : Option Step) (p : Option Taken)
     → (reply : IsReplyWith u net.client.opening_id y.0 y.1 f)
     → (net.links net.top).down ≡ y ∷ []
     → request_that_waits net.client net.client.stage ≡ Some (heard y.0)
@@ -300,25 +332,25 @@ taken-both : ClientLaws → (u : Setup) (w : World) (event : client_event.Event)
     → event ≢ events.Memory
     → ((place : ℕ) → event ≢ events.Bad place)
     → s.client.held.rest ++ (t.lanes t.top).down ≡ []
-    → (after : Net World) × Kept u w s after
-taken-both laws u w event t s net x k y f None p reply downs waits takes_o takes_p same (inl bad) no_memory no_bad rest = absurd (no_bad t.client.held.place bad)
-taken-both laws u w event t s net x k y f None p reply downs waits takes_o takes_p same (inr memory) no_memory no_bad rest = absurd (no_memory memory)
-taken-both laws u w event t s net x k y f (Some st) p reply downs waits takes_o takes_p same (inr memory) no_memory no_bad rest = absurd (no_memory memory)
-taken-both laws u w event t s net x k y f (Some st) None reply downs waits takes_o takes_p same (inl made) no_memory no_bad rest = absurd same
-taken-both laws u w event t s net x k y f (Some st) (Some tk) reply downs waits takes_o takes_p same (inl made) no_memory no_bad rest =
-    (net_after net tk, taken-one laws u w event t s net x k y f st tk reply downs waits takes_o takes_p same made.comes made.state made.sent rest)
+    → (after : Net World) × Kept u w n b (noted_event event t.client.state t.top notes) s after
+taken-both laws u w n b notes event t s net x less k y f None p reply downs waits takes_o takes_p same (inl bad) no_memory no_bad rest = absurd (no_bad t.client.held.place bad)
+taken-both laws u w n b notes event t s net x less k y f None p reply downs waits takes_o takes_p same (inr memory) no_memory no_bad rest = absurd (no_memory memory)
+taken-both laws u w n b notes event t s net x less k y f (Some st) p reply downs waits takes_o takes_p same (inr memory) no_memory no_bad rest = absurd (no_memory memory)
+taken-both laws u w n b notes event t s net x less k y f (Some st) None reply downs waits takes_o takes_p same (inl made) no_memory no_bad rest = absurd same
+taken-both laws u w n b notes event t s net x less k y f (Some st) (Some tk) reply downs waits takes_o takes_p same (inl made) no_memory no_bad rest =
+    (net_after net tk, taken-one laws u w n b notes event t s net x less k y f st tk reply downs waits takes_o takes_p same made.comes made.state made.sent rest)
 
 no-frame : (first : List ℕ) (f : Frame) → IsSpelling first f → first ≡ [] → ⊥
 no-frame first f spelt none = let e : [] ≡ header spelt.reserved f ++ f.payload = sym none ∙ spelt.whole in absurd (cc)
 
-taken-by : ClientLaws → (u : Setup) (w : World) (event : client_event.Event) (t s : Things) (net : Net World) (x : IsTaken event t s) (k : Kept u w t net) → TakesNext t.client (t.lanes t.top).up event s.client ((t.lanes t.top).up ++ x.more)
+taken-by : ClientLaws → (u : Setup) (w : World) (n : ℕ) (b : Bool) (notes : Notes) (event : client_event.Event) (t s : Things) (net : Net World) (x : IsTaken event t s) (less : b ≡ true → (noted_event event t.client.state t.top notes).row < 1900) (k : Kept u w n b notes t net) → TakesNext t.client (t.lanes t.top).up event s.client ((t.lanes t.top).up ++ x.more)
     → event ≢ events.Memory → ((place : ℕ) → event ≢ events.Bad place)
     → AreToThat (request_that_waits net.client net.client.stage) (net.links net.top).down
-    → (downs : List (Request × Answer)) → (net.links net.top).down ≡ downs → AreComing u net.client.opening_id (t.client.held.rest ++ (t.lanes t.top).down) downs → (after : Net World) × Kept u w s after
-taken-by laws u w event t s net x k next no_memory no_bad that [] downs way =
+    → (downs : List (Request × Answer)) → (net.links net.top).down ≡ downs → AreComing u net.client.opening_id (t.client.held.rest ++ (t.lanes t.top).down) downs → (after : Net World) × Kept u w n b (noted_event event t.client.state t.top notes) s after
+taken-by laws u w n b notes event t s net x less k next no_memory no_bad that [] downs way =
     let none : t.client.held.rest ≡ [] = first-none t.client.held.rest (t.lanes t.top).down way in
     absurd (no-frame next.first next.frame next.spelling (first-none next.first s.client.held.rest (sym next.whole ∙ none)))
-taken-by laws u w event t s net x k next no_memory no_bad that (y ∷ []) downs (f, bytes, reply) =
+taken-by laws u w n b notes event t s net x less k next no_memory no_bad that (y ∷ []) downs (f, bytes, reply) =
     let m = k.mirrors in
     let spelt = laws.spelling f reply.good in
     let e : next.first ++ (s.client.held.rest ++ (t.lanes t.top).down) ≡ canonical_frame f ++ [] =
@@ -327,40 +359,40 @@ taken-by laws u w event t s net x k next no_memory no_bad that (y ∷ []) downs 
     let none : s.client.held.rest ≡ [] = first-none s.client.held.rest (t.lanes t.top).down two.1 in
     let begins_f : Begins t.client.held.rest f = record { first = canonical_frame f; more = []; whole = next.whole ∙ (λ i. two.0 i ++ none i); spelling = spelt } in
     let waits : request_that_waits net.client net.client.stage ≡ Some (heard y.0) = (subst (AreToThat (request_that_waits net.client net.client.stage)) downs that).0 in
-    taken-both laws u w event t s net x k y f (takes t.client.state (Some reply.code) f) (client_takes net.client net.client.stage (tag_of (heard y.0)) y.1) reply downs waits refl refl
+    taken-both laws u w n b notes event t s net x less k y f (takes t.client.state (Some reply.code) f) (client_takes net.client net.client.stage (tag_of (heard y.0)) y.1) reply downs waits refl refl
     (laws.replies u net.client t.client.state (heard y.0) y.1 reply.code f m.client m.linked waits reply.reply reply.typed reply.answer)
     (laws.decides t.client s.client (t.lanes t.top).up ((t.lanes t.top).up ++ x.more) event f (Some reply.code) next.live begins_f reply.word x.happens) no_memory no_bad two.1
-taken-by laws u w event t s net x k next no_memory no_bad that (y ∷ z ∷ zs) downs way = absurd way
+taken-by laws u w n b notes event t s net x less k next no_memory no_bad that (y ∷ z ∷ zs) downs way = absurd way
 
-taken-next : ClientLaws → (u : Setup) (w : World) (event : client_event.Event) (t s : Things) (net : Net World) (x : IsTaken event t s) (k : Kept u w t net) → TakesNext t.client (t.lanes t.top).up event s.client ((t.lanes t.top).up ++ x.more)
-    → event ≢ events.Memory → ((place : ℕ) → event ≢ events.Bad place) → (after : Net World) × Kept u w s after
-taken-next laws u w event t s net x k next no_memory no_bad =
+taken-next : ClientLaws → (u : Setup) (w : World) (n : ℕ) (b : Bool) (notes : Notes) (event : client_event.Event) (t s : Things) (net : Net World) (x : IsTaken event t s) (less : b ≡ true → (noted_event event t.client.state t.top notes).row < 1900) (k : Kept u w n b notes t net) → TakesNext t.client (t.lanes t.top).up event s.client ((t.lanes t.top).up ++ x.more)
+    → event ≢ events.Memory → ((place : ℕ) → event ≢ events.Bad place) → (after : Net World) × Kept u w n b (noted_event event t.client.state t.top notes) s after
+taken-next laws u w n b notes event t s net x less k next no_memory no_bad =
     let m = k.mirrors in
     let c : Client = net.client in
     let alive = live-stage c.stage c.tries c.opening_id c.token t.client.state.stage m.client.stage m.linked next.live in
-    let only = only-waits laws.waiting u w t net k alive in
-    taken-by laws u w event t s net x k next no_memory no_bad only.1 (net.links net.top).down refl
+    let only = only-waits laws.waiting u w n b notes t net k alive in
+    taken-by laws u w n b notes event t s net x less k next no_memory no_bad only.1 (net.links net.top).down refl
     (subst (λ (l : ℕ). AreComing u c.opening_id (t.client.held.rest ++ (t.lanes t.top).down) (net.links l).down) (sym m.top) (m.coming alive))
 
-taken-none : (u : Setup) (w : World) (event : client_event.Event) (t s : Things) (net : Net World) (x : IsTaken event t s) → Kept u w t net → StaysAsItIs t.client (t.lanes t.top).up s.client ((t.lanes t.top).up ++ x.more) → told_in event ≡ [] → (after : Net World) × Kept u w s after
-taken-none u w event t s net x k stays untold =
+taken-none : (u : Setup) (w : World) (n : ℕ) (b : Bool) (notes : Notes) (event : client_event.Event) (t s : Things) (net : Net World) (x : IsTaken event t s) → Kept u w n b notes t net → StaysAsItIs t.client (t.lanes t.top).up s.client ((t.lanes t.top).up ++ x.more) → told_in event ≡ [] → (after : Net World) × Kept u w n b notes s after
+taken-none u w n b notes event t s net x k stays untold =
     let l : Lane = t.lanes t.top in
     let down : (s.lanes t.top).down ≡ l.down = ap (λ (y : Lane). y.down) x.grows.up in
     let lane : s.lanes t.top ≡ with_down l (s.lanes t.top).down = x.grows.up ∙ (λ i. record { wire = l.wire; ended = l.ended; up = stays.nothing_written i; down = sym down i }) in (
       net,
-      still u w t s net k (ap (λ (y : states.Client). y.state) stays.client) (λ i. (stays.client i).held.rest ++ down i) lane x.grows.only
+      still u w n b notes t s net k (ap (λ (y : states.Client). y.state) stays.client) (λ i. (stays.client i).held.rest ++ down i) lane x.grows.only
           x.calls (x.results ∙ ap (λ (r : List cached.Answer). t.results ++ r) untold ∙ append-nil t.results) x.grows.shown,
     )
 
-pub taken-keeps : ClientLaws → (u : Setup) (w : World) (event : client_event.Event) (t s : Things) (net : Net World) → IsTaken event t s → Kept u w t net → (after : Net World) × Kept u w s after
-taken-keeps laws u w events.NotYet t s net x k = taken-none u w events.NotYet t s net x k x.happens.stays refl
-taken-keeps laws u w (events.Bad place) t s net x k = taken-none u w (events.Bad place) t s net x k x.happens.stays refl
-taken-keeps laws u w events.Memory t s net x k = taken-none u w events.Memory t s net x k x.happens refl
-taken-keeps laws u w events.Step t s net x k = taken-next laws u w events.Step t s net x k x.happens (λ e. cc) (λ place e. cc)
-taken-keeps laws u w events.Ready t s net x k = taken-next laws u w events.Ready t s net x k x.happens (λ e. cc) (λ place e. cc)
-taken-keeps laws u w (events.Told code block) t s net x k = taken-next laws u w (events.Told code block) t s net x k x.happens (λ e. cc) (λ place e. cc)
-taken-keeps laws u w (events.Refused code) t s net x k = taken-next laws u w (events.Refused code) t s net x k x.happens (λ e. cc) (λ place e. cc)
-taken-keeps laws u w (events.Lost code) t s net x k = taken-next laws u w (events.Lost code) t s net x k x.happens (λ e. cc) (λ place e. cc)
-taken-keeps laws u w events.Tickle t s net x k = taken-next laws u w events.Tickle t s net x k x.happens (λ e. cc) (λ place e. cc)
-taken-keeps laws u w (events.Attention word) t s net x k = taken-next laws u w (events.Attention word) t s net x k x.happens (λ e. cc) (λ place e. cc)
-taken-keeps laws u w events.Closed t s net x k = taken-next laws u w events.Closed t s net x k x.happens (λ e. cc) (λ place e. cc)
+pub taken-keeps : ClientLaws → (u : Setup) (w : World) (n : ℕ) (b : Bool) (notes : Notes) (event : client_event.Event) (t s : Things) (net : Net World) → IsTaken event t s → (b ≡ true → (noted_event event t.client.state t.top notes).row < 1900) → Kept u w n b notes t net → (after : Net World) × Kept u w n b (noted_event event t.client.state t.top notes) s after
+taken-keeps laws u w n b notes events.NotYet t s net x less k = taken-none u w n b notes events.NotYet t s net x k x.happens.stays refl
+taken-keeps laws u w n b notes (events.Bad place) t s net x less k = taken-none u w n b notes (events.Bad place) t s net x k x.happens.stays refl
+taken-keeps laws u w n b notes events.Memory t s net x less k = taken-none u w n b notes events.Memory t s net x k x.happens refl
+taken-keeps laws u w n b notes events.Step t s net x less k = taken-next laws u w n b notes events.Step t s net x less k x.happens (λ e. cc) (λ place e. cc)
+taken-keeps laws u w n b notes events.Ready t s net x less k = taken-next laws u w n b notes events.Ready t s net x less k x.happens (λ e. cc) (λ place e. cc)
+taken-keeps laws u w n b notes (events.Told code block) t s net x less k = taken-next laws u w n b notes (events.Told code block) t s net x less k x.happens (λ e. cc) (λ place e. cc)
+taken-keeps laws u w n b notes (events.Refused code) t s net x less k = taken-next laws u w n b notes (events.Refused code) t s net x less k x.happens (λ e. cc) (λ place e. cc)
+taken-keeps laws u w n b notes (events.Lost code) t s net x less k = taken-next laws u w n b notes (events.Lost code) t s net x less k x.happens (λ e. cc) (λ place e. cc)
+taken-keeps laws u w n b notes events.Tickle t s net x less k = taken-next laws u w n b notes events.Tickle t s net x less k x.happens (λ e. cc) (λ place e. cc)
+taken-keeps laws u w n b notes (events.Attention word) t s net x less k = taken-next laws u w n b notes (events.Attention word) t s net x less k x.happens (λ e. cc) (λ place e. cc)
+taken-keeps laws u w n b notes events.Closed t s net x less k = taken-next laws u w n b notes events.Closed t s net x less k x.happens (λ e. cc) (λ place e. cc)

@@ -1,8 +1,15 @@
 -- Bytes that reach a server end.
-use Rattle.std.proofs.Common.{◌≡◌, ◌≢◌, ◌∙◌, inl, inr, refl, sym, ap, subst, ℕ, ◌+◌, ◌≤◌, Bool, true, false, List, [], ◌∷◌, ◌++◌, Option, Some, None, arith, append-nil, append_assoc}
-use Rattle.std.specs.Prelude.{length, is_some}
+use Rattle.std.proofs.Common.{◌≡◌, ◌≢◌, ◌∙◌, inl, inr, refl, sym, ap, subst, ℕ, ◌+◌, ◌≤◌, Bool, true, false, List, [], ◌∷◌, ◌++◌, Option, Some, None, arith, append-nil, append_assoc, eq-eqb}
+use Rattle.std.specs.Prelude.{◌||◌, length, is_some, nat_eq}
+use Rattle.std.specs.List.{list_any}
 use Rattle.std.proofs.lemmas.Bool.{cases_eq}
+use Rattle.afp_serial.specs.Token.{session_token}
+use Rattle.afp_serial.specs.Went.{Step}
 use Rattle.afp_serial.specs.World.{World}
+use Rattle.afp_serial.specs.declared.ask.Entry as entries
+use Rattle.afp_server.specs.Script.{Script}
+use Rattle.afp_server.specs.declared.tally.Tally.{Tally}
+use Rattle.afp_server.specs.declared.stage.Stage.TheVariants as stages
 use Rattle.afp_server.specs.Wire as wires
 use Rattle.afp_server.specs.declared.stage.FrameEnd.{FrameEnd}
 use Rattle.afp_server.specs.declared.stage.FrameEnd.TheVariants as ends
@@ -22,16 +29,20 @@ use Rattle.once_across_breaks.specs.Messages.{Answer, wire_id}
 use Rattle.once_across_breaks.specs.Run.{Asks, Client, Gone, Opens, Request}
 use Rattle.once_across_breaks.specs.Serial.{Setup, machine}
 use Rattle.once_across_breaks.specs.UnderWay.{AllDown, RepliesAreGood}
-use Rattle.once_across_breaks_server.specs.Among.{Course, PiecesArrive}
-use Rattle.once_across_breaks_server.specs.Asked.{world_of}
+use Rattle.once_across_breaks_server.specs.Among.{Course, PiecesArrive, any_unasked, or_sweep}
+use Rattle.once_across_breaks_server.specs.Asked.{OthersPassSince, world_of}
 use Rattle.once_across_breaks_server.specs.Pieces.{EndsAs, HoldsOn, PiecesHaveFrames, TakesFrame}
-use Rattle.once_across_breaks_server.specs.Ties.{IsEndBehind, WrittenCarries, WrittenIsGood}
-use Rattle.once_across_breaks_run.specs.Doings.{IsCarriedOn, IsFed, fed_at}
+use Rattle.once_across_breaks_server.specs.Ties.{IsEnd, IsEndBehind, WrittenCarries, WrittenIsGood}
+use Rattle.once_across_breaks_server.proofs.FedPieces.{not-answered}
+use Rattle.once_across_breaks_run.specs.Doings.{IsCarriedOn, IsFed, Reaches, fed_at}
+use Rattle.once_across_breaks_run.specs.Premises.{Keeps, Notes, number_at}
 use Rattle.once_across_breaks_run.specs.Mirrors.{AreComing, AreUnderWay, GoesOn}
 use Rattle.once_across_breaks_run.specs.Things.{Things}
-use Rattle.once_across_breaks_run.proofs.AtServer.{ServerLaws, coming-on, stays-by}
-use Rattle.once_across_breaks_run.proofs.Courses.{Kept, course-keeps, fits-along, more-run, one-each}
-use Rattle.once_across_breaks_run.proofs.Replies.{replies-come, script-id}
+use Rattle.once_across_breaks_run.proofs.Allowed.{AreFirst, HasOpens, IsAmong, KeepsOut, Remembers, fate-along, kept-number, numbered-along}
+use Rattle.once_across_breaks_run.proofs.AtLink.{fits-along}
+use Rattle.once_across_breaks_run.proofs.AtServer.{ServerLaws, asks_out, coming-on, pass-since, stays-by, swept-by}
+use Rattle.once_across_breaks_run.proofs.Courses.{Kept, NotesBehind, course-keeps, more-run, one-each}
+use Rattle.once_across_breaks_run.proofs.Replies.{IsOpenedTo, replies-come, script-id, script-opened}
 
 pub record FeedLaws : Type 0 where
   pub server : ServerLaws
@@ -69,8 +80,8 @@ OnlyWaitsAt n =
     (n.client.stage ≡ Gone → ⊥)
     → AreThat (request_that_waits n.client n.client.stage) (n.links n.top).up × AreToThat (request_that_waits n.client n.client.stage) (n.links n.top).down
 
-pub only-waits : OnlyTheWaitingEach → (u : Setup) (w : World) (t : Things) (net : Net World) → Kept u w t net → OnlyWaitsAt net
-only-waits waiting u w t net k = subst OnlyWaitsAt (sym k.is_run) (waiting u w k.events)
+pub only-waits : OnlyTheWaitingEach → (u : Setup) (w : World) (n : ℕ) (b : Bool) (notes : Notes) (t : Things) (net : Net World) → Kept u w n b notes t net → OnlyWaitsAt net
+only-waits waiting u w n b notes t net k = subst OnlyWaitsAt (sym k.is_run) (waiting u w k.events)
 
 -- ---- how a wire ends
 
@@ -102,8 +113,8 @@ record Under (u : Setup) (t : Things) (net : Net World) (i : ℕ) : Type 0 where
   way : AreUnderWay u last ((t.lanes i).wire.held.rest ++ (t.lanes i).up) (net.links i).up
   newest : i ≡ t.top → last ≡ wire_id net.client.opening_id
 
-under : (u : Setup) (w : World) (t : Things) (net : Net World) (i : ℕ) → Kept u w t net → (t.lanes i).ended ≡ false → GoesOn u (t.lanes i) (net.links i) → Under u t net i
-under u w t net i k live g = elim (cases_eq i t.top) [
+under : (u : Setup) (w : World) (n : ℕ) (b : Bool) (notes : Notes) (t : Things) (net : Net World) (i : ℕ) → Kept u w n b notes t net → (t.lanes i).ended ≡ false → GoesOn u (t.lanes i) (net.links i) → Under u t net i
+under u w n b notes t net i k live g = elim (cases_eq i t.top) [
   | inl same ↦ record {
     last = wire_id net.client.opening_id;
     way = subst (λ (j : ℕ). (t.lanes j).ended ≡ false → AreUnderWay u (wire_id net.client.opening_id) ((t.lanes j).wire.held.rest ++ (t.lanes j).up) (net.links j).up) (sym same) k.mirrors.going live;
@@ -112,17 +123,99 @@ under u w t net i k live g = elim (cases_eq i t.top) [
   | inr off ↦ record { last = g.last; way = g.under_way; newest = λ e. absurd (off e) }
 ]
 
+-- ---- what is noted behind a piece
+
+abbrev pub fed_notes : Notes → Things → ℕ → Notes
+fed_notes notes s i = record { numbers = number_at (s.lanes i).wire.stage ++ notes.numbers; again = notes.again; row = notes.row }
+
+or-second : (a c : Bool) → c ≡ true → (a || c) ≡ true
+or-second true c e = refl
+or-second false c e = e
+
+among-more : (stage : Stage) (l : ℕ) (numbers : List ℕ) → IsAmong l numbers → IsAmong l (number_at stage ++ numbers)
+among-more stages.Fresh l numbers is = is
+among-more (stages.Open link) l numbers is = or-second (nat_eq link.0 l) (list_any (λ number. nat_eq number l) numbers) is
+among-more stages.Closing l numbers is = is
+
+-- a step that was told want of memory shows in the tally
+tally-told : (start : wires.FeedStart) (frames : List Frame) (end : Option FrameEnd) (p : wires.FeedPoint) (handled : wires.Handled start frames end p) (m : Bool) → (m ≡ true → any_unasked handled.steps ≡ true) → m ≡ true → p.tally.answered ≡ false
+tally-told start frames end p handled m told is = ap (λ (y : Tally). y.answered) handled.tally ∙ not-answered true handled.steps (told is)
+
+not-memory : (m answered : Bool) → (m ≡ true → answered ≡ false) → answered ≡ true → m ≡ false
+not-memory true answered told is = absurd (let e : true ≡ false = sym is ∙ told refl in cc)
+not-memory false answered told is = refl
+
+fed-notes : (u : Setup) (w : World) (n : ℕ) (b : Bool) (notes : Notes) (q : entries.Entry → Bool) (i now : ℕ) (t s : Things) (net : Net World) (m : Bool) (stage : Stage) (end : Option FrameEnd) (left : List Request) (replies : List Frame) (es : List entries.Entry)
+    → (k : Kept u w n b notes t net)
+    → (c : Course u q i net m stage end left replies es (world_of s.shown))
+    → (m ≡ true → (s.lanes i).wire.tally.answered ≡ false)
+    → ((l : ℕ) → ((net_run (machine u) net c.events).links i).end.number ≡ Some l → IsAmong l (fed_notes notes s i).numbers)
+    → (AreFirst (net.links i).up → AreFirst left)
+    → (b ≡ true → Keeps u.key n (fed_notes notes s i) (Reaches i now) t s)
+    → (b ≡ true → (e : entries.Entry) → q e ≡ true → KeepsOut (fed_notes notes s i).numbers (session_token u.key n) e)
+    → NotesBehind u n b notes (fed_notes notes s i) q i net c.events
+fed-notes u w n b notes q i now t s net m stage end left replies es k c told drawn firsts keep out = record {
+  row = refl;
+  again = refl;
+  more = λ l is. among-more (s.lanes i).wire.stage l notes.numbers is;
+  drawn = drawn;
+  first = λ none first. subst AreFirst (sym c.passes.up) (firsts first);
+  out = out;
+  remembers = λ so. by (notes.again i) refl so;
+  less = λ so. (keep so).row;
+}
+  where
+    by : (a : Bool) → notes.again i ≡ a → b ≡ true → Remembers c.events (net.links i).up
+    by true is so = inl (c.wants ∙ not-memory m (s.lanes i).wire.tally.answered told ((keep so).answered is))
+    by false is so = inr (k.first i is)
+
+opens-one : (r : Request) → HasOpens (r ∷ []) → heard r ≡ HeardOpen
+opens-one Opens has = refl
+opens-one (Asks id body again) has = absurd has
+
+drawn-at : (stage : Stage) (e : End) (l : ℕ) (numbers : List ℕ) → IsOpenedTo stage → IsEnd stage e → e.number ≡ Some l → IsAmong l (number_at stage ++ numbers)
+drawn-at stages.Fresh e l numbers to is number = absurd (let f : None ≡ Some l = sym is.0 ∙ number in cc)
+drawn-at (stages.Open link) e l numbers to is number =
+    let f : Some link.0 ≡ Some l = sym is.0 ∙ number in
+    let same : link.0 ≡ l = cc in
+    ap (λ (b : Bool). b || list_any (λ number. nat_eq number l) numbers) (eq-eqb link.0 l same)
+drawn-at stages.Closing e l numbers to is number = absurd to
+
+-- behind a frame the link has the number that it had, or the one that its OpenSession drew
+drawn-there : (u : Setup) (n : ℕ) (b : Bool) (w : World) (notes : Notes) (q : entries.Entry → Bool) (i : ℕ) (t s : Things) (net : Net World) (r : Request) (last : ℕ) (m : Bool) (end : Option FrameEnd) (left : List Request) (replies : List Frame) (es : List entries.Entry) (ss : List Step)
+    → (k : Kept u w n b notes t net)
+    → (c : Course u q i net m (s.lanes i).wire.stage end left replies es (world_of s.shown))
+    → (net.links i).up ≡ r ∷ []
+    → IsEnd (t.lanes i).wire.stage (net.links i).end
+    → Script (t.lanes i).wire.block (t.lanes i).wire.stage (request_frame u last (heard r) ∷ []) ss replies (s.lanes i).wire.stage end
+    → (l : ℕ) → ((net_run (machine u) net c.events).links i).end.number ≡ Some l → IsAmong l (fed_notes notes s i).numbers
+drawn-there u n b w notes q i t s net r last m end left replies es ss k c up there script l is = by (net.links i).end.number refl
+  where
+    by : (o : Option ℕ) → (net.links i).end.number ≡ o → IsAmong l (fed_notes notes s i).numbers
+    by (Some j) has = among-more (s.lanes i).wire.stage l notes.numbers (k.numbers i l (has ∙ sym (numbered-along u q i net c.events c.here i j has) ∙ is))
+    by None has = elim ((fate-along u q i net c.events c.here).0 has) [
+      | inl still ↦ absurd (let e : None ≡ Some l = sym still.0 ∙ is in cc)
+      | inr opened ↦
+          let f = open-frame u last r (opens-one r (subst HasOpens up opened.opens)) in
+          let to = script-opened (t.lanes i).wire.block (t.lanes i).wire.stage (s.lanes i).wire.stage (request_frame u last (heard r)) ss replies end script f.0 f.1 (net.links i).end there has in
+          drawn-at (s.lanes i).wire.stage ((net_run (machine u) net c.events).links i).end l notes.numbers to.1 (subst (λ (o : Option FrameEnd). IsEndBehind (s.lanes i).wire.stage o ((net_run (machine u) net c.events).links i).end) to.0 c.passes.comes) is
+    ]
+
 -- ---- a piece that does not end the frame
 
-holds-keep : FeedLaws → (u : Setup) (w : World) (i now : ℕ) (t s : Things) (net : Net World) (x : IsFed i now t s) → IsCarriedOn t.shown s.shown → (k : Kept u w t net) → (g : GoesOn u (t.lanes i) (net.links i))
+holds-keep : FeedLaws → (u : Setup) (w : World) (n : ℕ) (b : Bool) (notes : Notes) (i now : ℕ) (t s : Things) (net : Net World) (x : IsFed i now t s) → IsCarriedOn t.shown s.shown → (b ≡ true → Keeps u.key n (fed_notes notes s i) (Reaches i now) t s) → (k : Kept u w n b notes t net) → (g : GoesOn u (t.lanes i) (net.links i))
     → HoldsOn (fed_at (t.lanes i) now t.shown g.bytes g.past) ((t.lanes i).wire.held.rest ++ x.piece) (s.lanes i).up x.result (s.lanes i).wire.held (wires.feed_point (s.lanes i).wire.stage (s.lanes i).wire.tally (s.lanes i).down s.shown)
-    → (after : Net World) × Kept u w s after
-holds-keep laws u w i now t s net x on k g h =
+    → (after : Net World) × Kept u w n b (fed_notes notes s i) s after
+holds-keep laws u w n b notes i now t s net x on keep k g h =
     let start : wires.FeedStart = fed_at (t.lanes i) now t.shown g.bytes g.past in
     let p : wires.FeedPoint = wires.feed_point (s.lanes i).wire.stage (s.lanes i).wire.tally (s.lanes i).down s.shown in
     let went = h.handled.went in
-    let got = laws.arrive u start [] None p h.handled [] (net.links i).up net i k.shown on.sound tt (on.carried went.between went.history) k.mirrors.world g.end refl in
-    let c : Course u i net got.0 p.stage None (net.links i).up [] went.between (world_of s.shown) = subst (λ (fs : List Frame). Course u i net got.0 p.stage None (net.links i).up fs went.between (world_of s.shown)) h.handled.script.1 got.2 in
+    let y : Notes = fed_notes notes s i in
+    let token : List ℕ = session_token u.key n in
+    let q : entries.Entry → Bool = asks_out b y.numbers token in
+    let others : OthersPassSince q t.shown s.shown = pass-since b y.numbers token t.shown s.shown (λ so. (keep so).others) in
+    let got = laws.arrive u q start [] None p h.handled [] (net.links i).up net i k.shown on.sound others tt (on.carried went.between went.history) k.mirrors.world g.end refl in
+    let c : Course u (or_sweep q) i net got.0 p.stage None (net.links i).up [] went.between (world_of s.shown) = subst (λ (fs : List Frame). Course u (or_sweep q) i net got.0 p.stage None (net.links i).up fs went.between (world_of s.shown)) h.handled.script.1 got.2 in
     let after : Net World = net_run (machine u) net c.events in
     let down : (s.lanes i).down ≡ (t.lanes i).down = h.handled.sent ∙ ap (λ (fs : List Frame). (t.lanes i).down ++ spelling_of fs) h.handled.script.1 ∙ append-nil (t.lanes i).down in
     let bytes : (s.lanes i).wire.held.rest ++ (s.lanes i).up ≡ (t.lanes i).wire.held.rest ++ (t.lanes i).up =
@@ -130,7 +223,10 @@ holds-keep laws u w i now t s net x on k g h =
     let live : (s.lanes i).ended ≡ false = x.ended ∙ ap is_some h.goes_on in
     let given = fed-given start (g.bytes ++ x.piece) x.result (s.lanes i).wire.held p (x.feeds g.bytes g.past g.given) h.goes_on in (
       after,
-      course-keeps laws.server.keeps u w t s net i got.0 p.stage None (net.links i).up [] went.between k c (stays-by i h.handled.steps t s x.stays x.only on.sound went)
+      course-keeps laws.server.tokens laws.server.keeps u w n b notes y (or_sweep q) t s net i got.0 p.stage None (net.links i).up [] went.between k c
+          (fed-notes u w n b notes (or_sweep q) i now t s net got.0 p.stage None (net.links i).up [] went.between k c (tally-told start [] None p h.handled got.0 got.1)
+          (λ l is. among-more (s.lanes i).wire.stage l notes.numbers (k.numbers i l (kept-number u (or_sweep q) i net c.events l c.here c.passes.up is))) (λ firsts. firsts) keep (swept-by b y.numbers token))
+          (stays-by i h.handled.steps t s x.stays x.only on.sound went)
           (λ l. record {
             live = λ e. record {
               end = c.passes.comes;
@@ -145,30 +241,30 @@ holds-keep laws u w i now t s net x on k g h =
           (λ same e. subst (λ (rs : List Request). AreUnderWay u (wire_id net.client.opening_id) ((s.lanes i).wire.held.rest ++ (s.lanes i).up) rs) (sym c.passes.up)
           (subst (λ (l : List ℕ). AreUnderWay u (wire_id net.client.opening_id) l (net.links i).up) (sym bytes)
           (subst (λ (j : ℕ). (t.lanes j).ended ≡ false → AreUnderWay u (wire_id net.client.opening_id) ((t.lanes j).wire.held.rest ++ (t.lanes j).up) (net.links j).up) (sym same) k.mirrors.going x.live)))
-          (λ same l. coming-on u w t s net i p.stage None (net.links i).up went.between k c.passes same down l),
+          (λ same l. coming-on u w n b notes t s net i p.stage None (net.links i).up went.between k c.passes same down l),
     )
 
 -- ---- and one that does
 
 -- the reply to the request comes to the client, where the link is its newest
-reply-comes : FeedLaws → (u : Setup) (w : World) (i now : ℕ) (t s : Things) (net : Net World) (r : Request) (x : IsFed i now t s) → IsCarriedOn t.shown s.shown → (k : Kept u w t net) → (g : GoesOn u (t.lanes i) (net.links i))
+reply-comes : FeedLaws → (u : Setup) (w : World) (n : ℕ) (b : Bool) (notes : Notes) (i now : ℕ) (t s : Things) (net : Net World) (r : Request) (x : IsFed i now t s) → IsCarriedOn t.shown s.shown → (b ≡ true → Keeps u.key n (fed_notes notes s i) (Reaches i now) t s) → (k : Kept u w n b notes t net) → (g : GoesOn u (t.lanes i) (net.links i))
     → (v : Under u t net i) → (net.links i).up ≡ r ∷ [] → AreUnderWay u v.last ((t.lanes i).wire.held.rest ++ (t.lanes i).up) (r ∷ [])
     → (h : TakesFrame (fed_at (t.lanes i) now t.shown g.bytes g.past) (request_frame u v.last (heard r)) (s.lanes i).up x.result (s.lanes i).wire.held (wires.feed_point (s.lanes i).wire.stage (s.lanes i).wire.tally (s.lanes i).down s.shown))
-    → (m : Bool) (c : Course u i net m (s.lanes i).wire.stage h.end [] h.handled.replies h.handled.went.between (world_of s.shown))
+    → (q : entries.Entry → Bool) (m : Bool) (c : Course u q i net m (s.lanes i).wire.stage h.end [] h.handled.replies h.handled.went.between (world_of s.shown))
     → i ≡ t.top → net.client.stage ≢ Gone
     → AreComing u net.client.opening_id (t.client.held.rest ++ (s.lanes i).down) ((net_run (machine u) net c.events).links i).down
-reply-comes laws u w i now t s net r x on k g v up way h m c same live =
+reply-comes laws u w n b notes i now t s net r x on keep k g v up way h q m c same live =
     let after : Net World = net_run (machine u) net c.events in
     let top : net.top ≡ i = k.mirrors.top ∙ sym same in
-    let none : (net.links i).down ≡ [] = down-none r (net.links i).down (subst (λ (rs : List Request). length rs + length (net.links i).down ≤ 1) up (one-each laws.one u w t net k i)) in
+    let none : (net.links i).down ≡ [] = down-none r (net.links i).down (subst (λ (rs : List Request). length rs + length (net.links i).down ≤ 1) up (one-each laws.one u w n b notes t net k i)) in
     let told : (after.links i).down ≡ c.passes.told = c.passes.down ∙ ap (λ (l : List (Request × Answer)). l ++ c.passes.told) none in
-    let run : after ≡ net_run (machine u) (net_start w) (k.events ++ c.events) = more-run u w t net k c.events in
+    let run : after ≡ net_run (machine u) (net_start w) (k.events ++ c.events) = more-run u w n b notes t net k c.events in
     let short : length (after.links i).up + length (after.links i).down ≤ 1 = subst (λ (n : Net World). length (n.links i).up + length (n.links i).down ≤ 1) (sym run) (laws.one u w (k.events ++ c.events) i) in
     let short_told : length c.passes.told ≤ 1 =
     let e = ap (λ (l : List (Request × Answer)). length l) told in
     omega (arith, short, e) in
-    let fits = fits-along laws.server.keeps u i net c.events c.here k.mirrors.token k.fits in
-    let before = only-waits laws.waiting u w t net k live in
+    let fits = fits-along laws.server.keeps u q i net c.events c.here k.mirrors.token k.fits in
+    let before = only-waits laws.waiting u w n b notes t net k live in
     let that : request_that_waits net.client net.client.stage ≡ Some (heard r) = (subst (AreThat (request_that_waits net.client net.client.stage)) (subst (λ (j : ℕ). (net.links j).up ≡ r ∷ []) (sym top) up) before.0).0 in
     let behind = subst OnlyWaitsAt (sym run) (laws.waiting u w (k.events ++ c.events)) (λ gone. live (ap (λ (y : Client). y.stage) (sym c.passes.client) ∙ gone)) in
     let same_that : request_that_waits after.client after.client.stage ≡ Some (heard r) = ap (λ (y : Client). request_that_waits y y.stage) c.passes.client ∙ that in
@@ -189,23 +285,30 @@ reply-comes laws u w i now t s net r x on k g v up way h m c same live =
     script-id (t.lanes i).wire.block (t.lanes i).wire.stage (s.lanes i).wire.stage (request_frame u v.last (heard r)) fr h.handled.steps h.handled.replies h.end h.handled.script o.0 o.1 one ∙ o.2 ∙ v.newest same)
     empty bytes typed)
 
-takes-keep : FeedLaws → (u : Setup) (w : World) (i now : ℕ) (t s : Things) (net : Net World) (r : Request) (x : IsFed i now t s) → IsCarriedOn t.shown s.shown → (k : Kept u w t net) → (g : GoesOn u (t.lanes i) (net.links i))
+takes-keep : FeedLaws → (u : Setup) (w : World) (n : ℕ) (b : Bool) (notes : Notes) (i now : ℕ) (t s : Things) (net : Net World) (r : Request) (x : IsFed i now t s) → IsCarriedOn t.shown s.shown → (b ≡ true → Keeps u.key n (fed_notes notes s i) (Reaches i now) t s) → (k : Kept u w n b notes t net) → (g : GoesOn u (t.lanes i) (net.links i))
     → (v : Under u t net i) → (net.links i).up ≡ r ∷ [] → AreUnderWay u v.last ((t.lanes i).wire.held.rest ++ (t.lanes i).up) (r ∷ [])
     → TakesFrame (fed_at (t.lanes i) now t.shown g.bytes g.past) (request_frame u v.last (heard r)) (s.lanes i).up x.result (s.lanes i).wire.held (wires.feed_point (s.lanes i).wire.stage (s.lanes i).wire.tally (s.lanes i).down s.shown)
-    → (after : Net World) × Kept u w s after
-takes-keep laws u w i now t s net r x on k g v up way h =
+    → (after : Net World) × Kept u w n b (fed_notes notes s i) s after
+takes-keep laws u w n b notes i now t s net r x on keep k g v up way h =
     let start : wires.FeedStart = fed_at (t.lanes i) now t.shown g.bytes g.past in
     let p : wires.FeedPoint = wires.feed_point (s.lanes i).wire.stage (s.lanes i).wire.tally (s.lanes i).down s.shown in
     let f : Frame = request_frame u v.last (heard r) in
     let went = h.handled.went in
-    let got = laws.arrive u start (f ∷ []) h.end p h.handled ((v.last, r) ∷ []) [] net i k.shown on.sound (laws.carry u (v.last, r) way.0, tt) (on.carried went.between went.history) k.mirrors.world g.end up in
-    let c : Course u i net got.0 p.stage h.end [] h.handled.replies went.between (world_of s.shown) = got.2 in
+    let y : Notes = fed_notes notes s i in
+    let token : List ℕ = session_token u.key n in
+    let q : entries.Entry → Bool = asks_out b y.numbers token in
+    let others : OthersPassSince q t.shown s.shown = pass-since b y.numbers token t.shown s.shown (λ so. (keep so).others) in
+    let got = laws.arrive u q start (f ∷ []) h.end p h.handled ((v.last, r) ∷ []) [] net i k.shown on.sound others (laws.carry u (v.last, r) way.0, tt) (on.carried went.between went.history) k.mirrors.world g.end up in
+    let c : Course u (or_sweep q) i net got.0 p.stage h.end [] h.handled.replies went.between (world_of s.shown) = got.2 in
     let after : Net World = net_run (machine u) net c.events in
     let goes : (s.lanes i).ended ≡ false → x.result ≡ None = λ e. none-of x.result (sym x.ended ∙ e) in
     let under_way : (last : ℕ) → (s.lanes i).ended ≡ false → AreUnderWay u last ((s.lanes i).wire.held.rest ++ (s.lanes i).up) (after.links i).up =
     λ last e. subst (λ (rs : List Request). AreUnderWay u last ((s.lanes i).wire.held.rest ++ (s.lanes i).up) rs) (sym c.passes.up) (λ j. (ends-on h.end x.result (s.lanes i).wire.held h.ends (goes e)).1 j ++ h.none_left j) in (
       after,
-      course-keeps laws.server.keeps u w t s net i got.0 p.stage h.end [] h.handled.replies went.between k c (stays-by i h.handled.steps t s x.stays x.only on.sound went)
+      course-keeps laws.server.tokens laws.server.keeps u w n b notes y (or_sweep q) t s net i got.0 p.stage h.end [] h.handled.replies went.between k c
+          (fed-notes u w n b notes (or_sweep q) i now t s net got.0 p.stage h.end [] h.handled.replies went.between k c (tally-told start (f ∷ []) h.end p h.handled got.0 got.1)
+          (λ l is. drawn-there u n b w notes (or_sweep q) i t s net r v.last got.0 h.end [] h.handled.replies went.between h.handled.steps k c up g.end h.handled.script l is) (λ firsts. tt) keep (swept-by b y.numbers token))
+          (stays-by i h.handled.steps t s x.stays x.only on.sound went)
           (λ l. record {
             live = λ e.
                 let given = fed-given start (g.bytes ++ x.piece) x.result (s.lanes i).wire.held p (x.feeds g.bytes g.past g.given) (goes e) in
@@ -220,28 +323,28 @@ takes-keep laws u w i now t s net r x on k g v up way h =
             ended = λ e. ends-dead p.stage h.end x.result (s.lanes i).wire.held (after.links i).end h.ends x.memory (sym x.ended ∙ e) c.passes.comes;
           })
           (λ same e. under_way (wire_id net.client.opening_id) e)
-          (λ same l. reply-comes laws u w i now t s net r x on k g v up way h got.0 c same l),
+          (λ same l. reply-comes laws u w n b notes i now t s net r x on keep k g v up way h (or_sweep q) got.0 c same l),
     )
 
-fed-by : FeedLaws → (u : Setup) (w : World) (i now : ℕ) (t s : Things) (net : Net World) (x : IsFed i now t s) → IsCarriedOn t.shown s.shown → (k : Kept u w t net) → (g : GoesOn u (t.lanes i) (net.links i))
-    → (v : Under u t net i) → (rs : List Request) → (net.links i).up ≡ rs → AreUnderWay u v.last ((t.lanes i).wire.held.rest ++ (t.lanes i).up) rs → (after : Net World) × Kept u w s after
-fed-by laws u w i now t s net x on k g v [] up way =
+fed-by : FeedLaws → (u : Setup) (w : World) (n : ℕ) (b : Bool) (notes : Notes) (i now : ℕ) (t s : Things) (net : Net World) (x : IsFed i now t s) → IsCarriedOn t.shown s.shown → (b ≡ true → Keeps u.key n (fed_notes notes s i) (Reaches i now) t s) → (k : Kept u w n b notes t net) → (g : GoesOn u (t.lanes i) (net.links i))
+    → (v : Under u t net i) → (rs : List Request) → (net.links i).up ≡ rs → AreUnderWay u v.last ((t.lanes i).wire.held.rest ++ (t.lanes i).up) rs → (after : Net World) × Kept u w n b (fed_notes notes s i) s after
+fed-by laws u w n b notes i now t s net x on keep k g v [] up way =
     let e : (t.lanes i).wire.held.rest ++ (x.piece ++ (s.lanes i).up) ≡ [] = ap (λ (l : List ℕ). (t.lanes i).wire.held.rest ++ l) (sym x.moved) ∙ way in
     absurd (x.some (middle-none (t.lanes i).wire.held.rest x.piece (s.lanes i).up e))
-fed-by laws u w i now t s net x on k g v (r ∷ []) up way =
+fed-by laws u w n b notes i now t s net x on keep k g v (r ∷ []) up way =
     let start : wires.FeedStart = fed_at (t.lanes i) now t.shown g.bytes g.past in
     let p : wires.FeedPoint = wires.feed_point (s.lanes i).wire.stage (s.lanes i).wire.tally (s.lanes i).down s.shown in
     let whole : ((t.lanes i).wire.held.rest ++ x.piece) ++ (s.lanes i).up ≡ canonical_frame (request_frame u v.last (heard r)) =
     append_assoc (t.lanes i).wire.held.rest x.piece (s.lanes i).up ∙ ap (λ (l : List ℕ). (t.lanes i).wire.held.rest ++ l) (sym x.moved) ∙ way.1 in
     elim (laws.have start (request_frame u v.last (heard r)) x.piece (s.lanes i).up (t.lanes i).wire.held (s.lanes i).wire.held x.result p (laws.good_requests u (v.last, r) way.0) g.given whole (x.feeds g.bytes g.past g.given)) [
-      | inl h ↦ holds-keep laws u w i now t s net x on k g h
-      | inr (inl h) ↦ takes-keep laws u w i now t s net r x on k g v up way h
+      | inl h ↦ holds-keep laws u w n b notes i now t s net x on keep k g h
+      | inr (inl h) ↦ takes-keep laws u w n b notes i now t s net r x on keep k g v up way h
       | inr (inr h) ↦ absurd (x.memory h.memory)
     ]
-fed-by laws u w i now t s net x on k g v (r ∷ q ∷ rs) up way = absurd way
+fed-by laws u w n b notes i now t s net x on keep k g v (r ∷ q ∷ rs) up way = absurd way
 
-pub fed-keeps : FeedLaws → (u : Setup) (w : World) (i now : ℕ) (t s : Things) (net : Net World) → IsFed i now t s → IsCarriedOn t.shown s.shown → Kept u w t net → (after : Net World) × Kept u w s after
-fed-keeps laws u w i now t s net x on k =
+pub fed-keeps : FeedLaws → (u : Setup) (w : World) (n : ℕ) (b : Bool) (notes : Notes) (i now : ℕ) (t s : Things) (net : Net World) → IsFed i now t s → IsCarriedOn t.shown s.shown → (b ≡ true → Keeps u.key n (fed_notes notes s i) (Reaches i now) t s) → Kept u w n b notes t net → (after : Net World) × Kept u w n b (fed_notes notes s i) s after
+fed-keeps laws u w n b notes i now t s net x on keep k =
     let g = (k.mirrors.each i x.link).live x.live in
-    let v = under u w t net i k x.live g in
-    fed-by laws u w i now t s net x on k g v (net.links i).up refl v.way
+    let v = under u w n b notes t net i k x.live g in
+    fed-by laws u w n b notes i now t s net x on keep k g v (net.links i).up refl v.way

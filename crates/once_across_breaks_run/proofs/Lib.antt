@@ -1,11 +1,15 @@
 mod Spelled
+mod AtLink
+mod Allowed
 mod Courses
 mod Replies
 mod AtServer
 mod Feeding
 mod Taking
+mod Noting
 mod AtClient
 mod ClientSteps
 mod Alone
+mod Sole
 mod Plainly
 mod Whole

@@ -19,13 +19,13 @@ use Rattle.volume_spec.specs.TypedVolume.{are_bytes}
 use Rattle.once_across_breaks.specs.Bytes.{FitsRequest}
 use Rattle.once_across_breaks.specs.Dsi.{reply_frame}
 use Rattle.once_across_breaks.specs.Fits.{FitsBody, IsId}
-use Rattle.once_across_breaks.specs.Frames.{AreToThat, Heard, HeardCall, HeardOpen, heard}
+use Rattle.once_across_breaks.specs.Frames.{AreToThat, End, Heard, HeardCall, HeardOpen, heard}
 use Rattle.once_across_breaks.specs.Messages.{Answer, wire_id}
 use Rattle.once_across_breaks.specs.Run.{Asks, Opens, Request}
 use Rattle.once_across_breaks.specs.Serial.{Setup}
 use Rattle.once_across_breaks.specs.UnderWay.{AllDown, RepliesAreGood}
 use Rattle.once_across_breaks_server.specs.Among.{heard_reply, unnumbered}
-use Rattle.once_across_breaks_server.specs.Ties.{reply_frames}
+use Rattle.once_across_breaks_server.specs.Ties.{IsEnd, reply_frames}
 use Rattle.once_across_breaks_run.specs.Mirrors.{AreComing}
 use Rattle.once_across_breaks_run.proofs.Spelled.{payload-typed, reply-with}
 
@@ -67,6 +67,44 @@ script-id block stage after g f steps replies end (now, did, others, more, does,
     let none : more ≡ [] = more-none block did did.end end others more after rest in
     let said : listed did.reply ≡ f ∷ [] = sym (append-nil (listed did.reply)) ∙ ap (λ (l : List Frame). listed did.reply ++ l) (sym none) ∙ sym says ∙ same in
     frame-id block now stage g f did (subst (λ (b : Bool). FrameDoes block now stage b g did) request does) is said
+
+-- ---- how far an OpenSession takes a link
+
+-- a session is open, or the link stays as it was
+abbrev pub IsOpenedTo : Stage → Type 0
+IsOpenedTo stages.Fresh = Unit {0}
+IsOpenedTo (stages.Open link) = Unit {0}
+IsOpenedTo stages.Closing = ⊥
+
+told-opened : (g : Frame) (t : tolds.Told) (reply : Option Frame) (stage : Stage) → OpenTold g t reply stage → IsOpenedTo stage
+told-opened g (told.Opened link) reply stage (is, at_stage) = subst IsOpenedTo (sym at_stage) tt
+told-opened g (told.Reply c block ends) reply stage (is, at_stage) = subst IsOpenedTo (sym at_stage) tt
+told-opened g told.Memory reply stage (is, at_stage) = subst IsOpenedTo (sym at_stage) tt
+told-opened g (told.Live drain) reply stage t = absurd t
+told-opened g told.Done reply stage t = absurd t
+told-opened g told.Displaced reply stage t = absurd t
+
+opens-to : (now : ℕ) (g : Frame) (did : Did) → OpensSession now g did → (did.end ≡ None) × IsOpenedTo did.stage
+opens-to now g did (inl o) = (o.end, told-opened g o.opened did.reply did.stage o.answer)
+opens-to now g did (inr r) = (ap (λ (d : Did). d.end) r.is, subst (λ (d : Did). IsOpenedTo d.stage) (sym r.is) tt)
+
+frame-opened : (block : List ℕ) (now : ℕ) (stage : Stage) (g : Frame) (did : Did) (e : End) → FrameDoes block now stage false g did → g.command ≡ commands.OpenSession → IsEnd stage e → e.number ≡ None → (did.end ≡ None) × IsOpenedTo did.stage
+frame-opened block now stages.Fresh g did e does is there none = opens-to now g did (subst (λ (c : DsiCommand). FreshDoes block now c g did) is does)
+frame-opened block now (stages.Open link) g did e does is there none = absurd (let f : Some link.0 ≡ None = sym there.0 ∙ none in cc)
+frame-opened block now stages.Closing g did e does is there none = absurd does
+
+nothing-more : (block : List ℕ) (did : Did) (end last : Option FrameEnd) (others : List Step) (more : List Frame) (after : Stage)
+    → MatchOption end (Script block did.stage [] others more after last) (λ e. (◌≡◌ {A = List Frame} [] []) × (others ≡ []) × (more ≡ []) × (after ≡ did.stage) × (last ≡ Some e))
+    → end ≡ None → (last ≡ None) × (after ≡ did.stage)
+nothing-more block did None last others more after m is = (m.3, m.2)
+nothing-more block did (Some e) last others more after m is = absurd (cc)
+
+pub script-opened : (block : List ℕ) (stage after : Stage) (g : Frame) (steps : List Step) (replies : List Frame) (end : Option FrameEnd) → Script block stage (g ∷ []) steps replies after end → g.reply ≡ false → g.command ≡ commands.OpenSession
+    → (e : End) → IsEnd stage e → e.number ≡ None → (end ≡ None) × IsOpenedTo after
+script-opened block stage after g steps replies end (now, did, others, more, does, asked, says, rest) request is e there none =
+    let f = frame-opened block now stage g did e (subst (λ (b : Bool). FrameDoes block now stage b g did) request does) is there none in
+    let m = nothing-more block did did.end end others more after rest f.0 in
+    (m.0, subst IsOpenedTo (sym m.1) f.1)
 
 -- ---- the reply that is under way
 

@@ -11,6 +11,7 @@ use Rattle.dsi_frame.specs.declared.frame.DsiCommand.TheVariants as commands
 use Rattle.volume_spec.specs.TypedVolume.{are_bytes, is_byte}
 use Rattle.afp_client.specs.Takes.{answers}
 use Rattle.afp_client.specs.Takes as client_takes
+use Rattle.once_across_breaks.proofs.DsiDown.{answer-again, refuses-again}
 use Rattle.once_across_breaks.specs.Bytes.{FitsReplyTo, FitsRequest, own_id}
 use Rattle.once_across_breaks.specs.Dsi.{answered_block, answered_code, call_command, reply_frame, request_frame, told_options}
 use Rattle.once_across_breaks.specs.Fits.{FitsAnswer, IsId, is_refusal}
@@ -53,18 +54,6 @@ more-under u last held up more rs none under =
 
 -- ---- replies
 
-refuses-again : (c : Code) (block : List ℕ) → is_refusal c ≡ true → answer_by c block ≡ Refuses c block
-refuses-again code.Ok block is = absurd (cc)
-refuses-again code.MiscErr block is = absurd (cc)
-refuses-again code.NoMemory block is = absurd (cc)
-refuses-again c block is = refl
-
-answer-again : (a : Answer) → FitsAnswer a → a ≡ answer_by (answered_code a) (answered_block a)
-answer-again (Fine block) fits = refl
-answer-again MiscErr fits = refl
-answer-again NoMemory fits = refl
-answer-again (Refuses c block) fits = sym (refuses-again c block fits.0)
-
 opening-again : (a : Answer) → FitsAnswer a → without_block a ≡ without_block (answer_by (answered_code a) (told_options a))
 opening-again (Fine block) fits = refl
 opening-again MiscErr fits = refl
@@ -102,7 +91,7 @@ reply-with good u k n (Asks id body again) a f fits told is numbered typed =
       };
       code = answered_code a;
       word = sym (ap (λ (g : Frame). g.word) is);
-      answer = answer-again a told.1 ∙ ap (λ (g : Frame). answer_by (answered_code a) g.payload) (sym is);
+      answer = sym (answer-again a told.1) ∙ ap (λ (g : Frame). answer_by (answered_code a) g.payload) (sym is);
       typed = typed;
     }
 

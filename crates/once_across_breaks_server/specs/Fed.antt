@@ -16,8 +16,8 @@ use Rattle.once_across_breaks.specs.Dsi.{request_frame}
 use Rattle.once_across_breaks.specs.Frames.{Net, heard}
 use Rattle.once_across_breaks.specs.Run.{Request}
 use Rattle.once_across_breaks.specs.Serial.{Setup}
-use Rattle.once_across_breaks_server.specs.Among.{AllCarried, Course}
-use Rattle.once_across_breaks_server.specs.Asked.{world_of}
+use Rattle.once_across_breaks_server.specs.Among.{AllCarried, Course, or_sweep}
+use Rattle.once_across_breaks_server.specs.Asked.{OthersPassSince, world_of}
 use Rattle.once_across_breaks_server.specs.Ties.{IsEnd}
 use Rattle.once_across_breaks_server.specs.Pieces.{EndsAs}
 
@@ -26,20 +26,20 @@ abbrev pub CarriedSince : Shown → Shown → Type 0
 CarriedSince a b = (more : List entries.Entry) → b.history ≡ a.history ++ more → AllCarried more
 
 -- The link stays as it was, and nothing is replied; others may have asked.
-pub record Rests (u : Setup) (i : ℕ) (net : Net World) (requests : List Request) (start : wires.FeedStart) (p : wires.FeedPoint) : Type 0 where
+pub record Rests (u : Setup) (q : entries.Entry → Bool) (i : ℕ) (net : Net World) (requests : List Request) (start : wires.FeedStart) (p : wires.FeedPoint) : Type 0 where
   pub nothing_out : p.out ≡ start.out
   pub es : List entries.Entry
-  pub course : Course u i net false p.stage None requests [] es (world_of p.shown)
+  pub course : Course u q i net false p.stage None requests [] es (world_of p.shown)
 
 -- Some of the request is under way still: the wire holds all that it was fed of it.
-pub record WaitsForMore (u : Setup) (i : ℕ) (net : Net World) (requests : List Request) (start : wires.FeedStart) (holds rest : List ℕ) (result : Option WireEnd) (held : Buffered) (p : wires.FeedPoint) : Type 0 where
+pub record WaitsForMore (u : Setup) (q : entries.Entry → Bool) (i : ℕ) (net : Net World) (requests : List Request) (start : wires.FeedStart) (holds rest : List ℕ) (result : Option WireEnd) (held : Buffered) (p : wires.FeedPoint) : Type 0 where
   pub some_left : rest ≡ [] → ⊥
   pub goes_on : result ≡ None
   pub all : held.rest ≡ holds
-  pub rests : Rests u i net requests start p
+  pub rests : Rests u q i net requests start p
 
 -- The request is whole, and it arrives: its reply is put out. It is told want of memory only where the wire tells that not all was answered.
-pub record Arrives (u : Setup) (i : ℕ) (net : Net World) (left : List Request) (start : wires.FeedStart) (rest : List ℕ) (result : Option WireEnd) (held : Buffered) (p : wires.FeedPoint) : Type 0 where
+pub record Arrives (u : Setup) (q : entries.Entry → Bool) (i : ℕ) (net : Net World) (left : List Request) (start : wires.FeedStart) (rest : List ℕ) (result : Option WireEnd) (held : Buffered) (p : wires.FeedPoint) : Type 0 where
   pub none_left : rest ≡ []
   pub end : Option FrameEnd
   pub ends : EndsAs end result held
@@ -48,17 +48,17 @@ pub record Arrives (u : Setup) (i : ℕ) (net : Net World) (left : List Request)
   pub es : List entries.Entry
   pub memory : Bool
   pub told : memory ≡ true → p.tally.answered ≡ false
-  pub course : Course u i net memory p.stage end left replies es (world_of p.shown)
+  pub course : Course u q i net memory p.stage end left replies es (world_of p.shown)
 
 -- There was no memory, and the wire ends.
-pub record HasEnded (u : Setup) (i : ℕ) (net : Net World) (requests : List Request) (start : wires.FeedStart) (result : Option WireEnd) (p : wires.FeedPoint) : Type 0 where
+pub record HasEnded (u : Setup) (q : entries.Entry → Bool) (i : ℕ) (net : Net World) (requests : List Request) (start : wires.FeedStart) (result : Option WireEnd) (p : wires.FeedPoint) : Type 0 where
   pub memory : result ≡ Some wire_ends.Memory
-  pub rests : Rests u i net requests start p
+  pub rests : Rests u q i net requests start p
 
 -- The law: a piece is fed, behind what the wire holds, of the client's request that is under way; the rest of its frame is what is left.
 abbrev pub FeedsArrive : Type 0
 FeedsArrive =
-    (u : Setup) (start : wires.FeedStart) (x : ℕ × Request) (left : List Request) (piece rest : List ℕ) (old new : Buffered) (result : Option WireEnd) (p : wires.FeedPoint) (net : Net World) (i : ℕ)
+    (u : Setup) (q : entries.Entry → Bool) (start : wires.FeedStart) (x : ℕ × Request) (left : List Request) (piece rest : List ℕ) (old new : Buffered) (result : Option WireEnd) (p : wires.FeedPoint) (net : Net World) (i : ℕ)
     → FitsNumbered x
     → GivenOut start.bytes start.past old
     → (old.rest ++ piece) ++ rest ≡ canonical_frame (request_frame u x.0 (heard x.1))
@@ -66,7 +66,8 @@ FeedsArrive =
     → IsSoundShown start.shown
     → IsSoundShown p.shown
     → CarriedSince start.shown p.shown
+    → OthersPassSince q start.shown p.shown
     → net.world ≡ world_of start.shown
     → IsEnd start.stage (net.links i).end
     → (net.links i).up ≡ x.1 ∷ left
-    → WaitsForMore u i net (x.1 ∷ left) start (old.rest ++ piece) rest result new p ⊎ (Arrives u i net left start rest result new p ⊎ HasEnded u i net (x.1 ∷ left) start result p)
+    → WaitsForMore u (or_sweep q) i net (x.1 ∷ left) start (old.rest ++ piece) rest result new p ⊎ (Arrives u (or_sweep q) i net left start rest result new p ⊎ HasEnded u (or_sweep q) i net (x.1 ∷ left) start result p)
