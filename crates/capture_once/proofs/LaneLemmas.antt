@@ -67,9 +67,9 @@ given-after : (start : wires.FeedStart) (bytes : List ℕ) (result : Option Wire
 given-after start bytes None w p f none = (bytes, start.past ++ f.0.frames, f.0.given)
 given-after start bytes (Some e) w p f none = absurd (cc none)
 
-pub feeds-some : (n now size : ℕ) (w : WireState) (l new : Lane) (x : things.Lane) (a b : Shown) → IsLane l x → l.wire ≡ Some w → size ≡ min (length l.up) n → (size ≡ 0 → ⊥)
-    → FedWith size now w (record { wire = None; fed = l.fed; up = l.up; down = l.down }) a new b → FeedsLane n now x a new b
-feeds-some n now size w l new x a b is there size_is some f =
+pub feeds-some : (n now size : ℕ) (w : WireState) (o : Option WireState) (l new : Lane) (x : things.Lane) (a b : Shown) → IsLane l x → l.wire ≡ Some w → size ≡ min (length l.up) n → (size ≡ 0 → ⊥)
+    → FedWith size now w (record { wire = o; fed = l.fed; up = l.up; down = l.down }) a new b → FeedsLane n now x a new b
+feeds-some n now size w o l new x a b is there size_is some f =
     let live : IsLive w l x = subst (λ (o : Option WireState). HasEnd o l x) there is.end in
     let within : size ≤ length l.up = omega (arith, size_is) in
     let full : length (take size l.up) ≡ size = length-take-le size l.up within in
@@ -158,3 +158,15 @@ loses-some now l new x a b w is there same parts =
       lane = subst (λ (y : Lane). IsLane y (record { wire = x.wire; ended = true; up = x.up; down = x.down })) (sym same) (ends-pulsed l x is);
       went_on = went-goes a b parts.steps parts.went;
     }
+
+-- ---- what holds of a wire that is there
+
+pub at_none : {X : Type 0} (o : Option X) (P : Type 0) → o ≡ None → IfNone o P → P
+at_none None P e p = p
+at_none (Some x) P e p = absurd (cc e)
+
+pub live-of : (l : Lane) (x : things.Lane) (w : WireState) → IsLane l x → l.wire ≡ Some w → IsLive w l x
+live-of l x w is there = subst (λ (o : Option WireState). HasEnd o l x) there is.end
+
+pub ended-where : (l : Lane) (x : things.Lane) (b : Bool) → IsLane l x → b ≡ true → IsLane (record { wire = None; fed = l.fed; up = l.up; down = l.down }) (record { wire = x.wire; ended = b; up = x.up; down = x.down })
+ended-where l x b is same = record { up = is.up; down = is.down; end = same }

@@ -46,7 +46,7 @@ pub record CanBeQuiet (t : Things) (link : ℕ) : Type 0 where
 
 pub record CanAsk (t : Things) (call : grammar.Call) : Type 0 where
   pub ready : IsReady t.client.state
-  pub call : CanBeAsked call
+  pub takes_call : CanBeAsked call
 
 -- A happening that cannot be is skipped.
 abbrev pub CanBe : Happening → Things → Type 0

@@ -3,6 +3,7 @@ ghost use Rattle.std.specs.Prelude.{◌≡◌, ◌≢◌, ◌+◌, ◌-◌, ◌<
 ghost use Rattle.afp_client.specs.Happens.{Happens};
 ghost use Rattle.once_across_breaks_run.specs.Doings.{told_in};
 ghost use Rattle.capture_once.specs.Happens.{is_last};
+ghost use Rattle.capture_once.specs.lemma.Lanes.{ChangesAt};
 ghost use Rattle.capture_once.specs.lemma.Near.{AsksNear, BringsNear, TakesAll, TakesOne, near};
 
 use crate::askable::is_askable;
@@ -61,8 +62,12 @@ impl ClientEnd {
         ensures takes { OnOk result (TakesAll (near self.old up.old) (near self.new up.new)) }
         ensures came { OnOk result (self.new.came ≡ self.old.came) }
     {
-        while self.next(up)? {}
-        Ok(())
+        loop {
+            let goes_on = self.next(up)?;
+            if !goes_on {
+                return Ok(());
+            }
+        }
     }
 
     /// At most so many bytes under way reach the client, and it takes what came.
@@ -82,7 +87,8 @@ impl ClientEnd {
         let taken = self.client.feed(&lane.down.as_slice()[..size]);
         self.came = came;
         take_away(alloc, &mut lane.down, taken)?;
-        self.take_all(&mut lane.up)
+        self.take_all(&mut lane.up)?;
+        Ok(())
     }
 
     /// Asks a call, where the client takes it.
@@ -94,9 +100,42 @@ impl ClientEnd {
     ) -> Result<(), OutOfMemory>
         ensures { OnOk result (AsksNear call.now self.old lane.old self.new lane.new) }
     {
-        if self.client.ready() && is_askable(alloc, call)? {
-            self.client.ask(call, &mut lane.up)?;
+        if !self.client.ready() {
+            return Ok(());
         }
-        Ok(())
+        let can = is_askable(alloc, call)?;
+        if !can {
+            return Ok(());
+        }
+        self.client.ask(call, &mut lane.up)
     }
+}
+
+/// Asks a call on the link at a place.
+pub(crate) fn ask_at(
+    end: &mut ClientEnd,
+    lanes: &mut [Lane],
+    index: usize,
+    alloc: Global,
+    call: &Call,
+) -> Result<(), OutOfMemory>
+    requires { index < length lanes.old }
+    ensures { OnOk result (ChangesAt index lanes.old lanes.new (λ old new. AsksNear call.now end.old old end.new new)) }
+{
+    end.ask(alloc, call, &mut lanes[index])
+}
+
+/// Brings bytes to the client on the link at a place.
+pub(crate) fn bring_at(
+    end: &mut ClientEnd,
+    lanes: &mut [Lane],
+    index: usize,
+    alloc: Global,
+    most: u32,
+) -> Result<(), OutOfMemory>
+    requires within { index < length lanes.old }
+    requires most { end.old.client.held.place + length end.old.client.held.rest ≤ end.old.came }
+    ensures { OnOk result (ChangesAt index lanes.old lanes.new (λ old new. BringsNear most end.old old end.new new)) }
+{
+    end.bring(alloc, most, &mut lanes[index])
 }

@@ -1,7 +1,8 @@
 //! A link: its server end, and the bytes under way on it.
-ghost use Rattle.std.specs.Prelude.{◌≡◌, ◌≢◌, ◌+◌, ◌<◌, ◌≤◌, ◌^◌, true, None, Some, length, take, drop, OnOk, IfOk};
+ghost use Rattle.std.specs.Prelude.{◌≡◌, ◌≢◌, ◌+◌, ◌<◌, ◌≤◌, ◌^◌, true, false, None, Some, length, slice_get, OnOk, IfOk};
 ghost use Rattle.afp_server.specs.Wire.{PartsBy};
 ghost use Rattle.afp_server.specs.declared.stage.Stage.{Stage};
+ghost use Rattle.once_across_breaks_run.specs.Doings.{is_displaced};
 ghost use Rattle.once_across_breaks_run.specs.Things as things;
 ghost use Rattle.capture_once.specs.lemma.Lanes.{ChangesAt, FedWith, FeedsLane, IdlesLane, IsLane, IsStill, LosesLane, open_at};
 
@@ -35,28 +36,43 @@ fn still(wire: Wire, end: Option<WireEnd>) -> Result<Option<Wire>, OutOfMemory>
     }
 }
 
+/// Whether no session has the link any more.
+fn is_displaced(told: Told) -> bool
+    ensures { result ≡ is_displaced told }
+{
+    match told {
+        Told::Displaced => true,
+        Told::Opened { .. } => false,
+        Told::Reply { .. } => false,
+        Told::Live { .. } => false,
+        Told::Done => false,
+        Told::Memory => false,
+    }
+}
+
 impl Lane {
     /// Feeds the first bytes under way to the server end.
     fn feed_wire<T: Teller>(
         &mut self,
         alloc: Global,
-        there: Wire,
+        begun: Wire,
         size: usize,
         now: Moment,
         teller: &mut T,
     ) -> Result<(), OutOfMemory>
         requires within { size ≤ length self.old.up }
-        requires goes_on { there.end ≡ None }
-        requires live { there.stage ≢ Stage.Closing }
-        requires most { there.held.place + length there.held.rest ≤ self.old.fed }
-        ensures { OnOk result (FedWith size now there self.old (T.shown teller.old) self.new (T.shown teller.new)) }
+        requires goes_on { begun.end ≡ None }
+        requires live { begun.stage ≢ Stage.Closing }
+        requires most { begun.held.place + length begun.held.rest ≤ self.old.fed }
+        ensures { OnOk result (FedWith size now begun self.old (T.shown teller.old) self.new (T.shown teller.new)) }
     {
         let Some(fed) = self.fed.checked_add(size as u64) else {
             return Err(OutOfMemory);
         };
-        let mut wire = there;
+        let mut wire = begun;
         let end = wire.feed(&self.up.as_slice()[..size], now, teller, &mut self.down);
-        self.wire = still(wire, end)?;
+        let there = still(wire, end)?;
+        self.wire = there;
         self.fed = fed;
         bytes_in_range(self.down.as_slice());
         take_away(alloc, &mut self.up, size)
@@ -70,6 +86,7 @@ impl Lane {
         now: Moment,
         teller: &mut T,
     ) -> Result<(), OutOfMemory>
+        requires { (x : things.Lane) × IsLane self.old x }
         ensures { OnOk result ((x : things.Lane) → IsLane self.old x → FeedsLane most now x (T.shown teller.old) self.new (T.shown teller.new)) }
     {
         let size = moved(&self.up, most);
@@ -92,20 +109,26 @@ impl Lane {
         }
     }
 
-    /// The server end reads nothing for a while; where it is told Displaced it has ended.
+    /// Its server end has ended, where that is so.
+    fn end_where(&mut self, ends: bool)
+        ensures { (x : things.Lane) → IsLane self.old x → x.ended ≡ false → IsLane self.new (record { wire = x.wire; ended = ends; up = x.up; down = x.down }) }
+    {
+        if !ends {
+            return;
+        }
+        self.wire = None;
+    }
+
+    /// The server end reads nothing for a while.
     pub(crate) fn idle<T: Teller>(&mut self, now: Moment, teller: &mut T)
         ensures { (x : things.Lane) → IsLane self.old x → IdlesLane now x (T.shown teller.old) self.new (T.shown teller.new) }
     {
         match self.link() {
             None => {}
-            Some(link) => match teller.ask(now, link, Ask::Pulse) {
-                Told::Displaced => self.wire = None,
-                Told::Opened { .. }
-                | Told::Reply { .. }
-                | Told::Live { .. }
-                | Told::Done
-                | Told::Memory => {}
-            },
+            Some(link) => {
+                let told = teller.ask(now, link, Ask::Pulse);
+                self.end_where(is_displaced(told))
+            }
         }
     }
 
@@ -121,10 +144,10 @@ impl Lane {
 }
 
 /// The end of a wire that is lost.
-fn lose_wire<T: Teller>(there: Wire, now: Moment, teller: &mut T)
-    ensures { PartsBy there.stage now (T.shown teller.old) (T.shown teller.new) }
+fn lose_wire<T: Teller>(begun: Wire, now: Moment, teller: &mut T)
+    ensures { PartsBy begun.stage now (T.shown teller.old) (T.shown teller.new) }
 {
-    let mut wire = there;
+    let mut wire = begun;
     wire.lost(now, teller);
 }
 
@@ -137,7 +160,8 @@ pub(crate) fn feed_at<T: Teller>(
     now: Moment,
     teller: &mut T,
 ) -> Result<(), OutOfMemory>
-    requires { index < length lanes.old }
+    requires within { index < length lanes.old }
+    requires is { (l : Lane) → slice_get lanes.old index ≡ Some l → (x : things.Lane) × IsLane l x }
     ensures { OnOk result (ChangesAt index lanes.old lanes.new (λ old new. (x : things.Lane) → IsLane old x → FeedsLane most now x (T.shown teller.old) new (T.shown teller.new))) }
 {
     lanes[index].feed(alloc, most, now, teller)

@@ -1,14 +1,11 @@
 //! A client with its links and the teller, from one happening to the next.
-ghost use Rattle.std.specs.Prelude.{◌≡◌, ◌<◌, ◌≤◌, ◌-◌, List, length, IfOk, OnOk};
+ghost use Rattle.std.specs.Prelude.{List, ℕ, IfOk, OnOk};
 ghost use Rattle.afp_client.specs.Opening.{FitsLogin};
 ghost use Rattle.afp_serial.specs.StatusBlock.{status_block};
-ghost use Rattle.afp_serial.specs.declared.ask.Ask as serial;
-ghost use Rattle.afp_calls_grammar.specs.declared.call.Call as grammar;
 ghost use Rattle.once_across_breaks_run.specs.Things.{Things, begun_things};
-ghost use Rattle.capture_once.specs.declared.happening.Happening as happenings;
-ghost use Rattle.capture_once.specs.lemma.Running.{BeginsLane, Comes, IsPlace, Stands};
+ghost use Rattle.capture_once.specs.lemma.Running.{BeginsLane, Comes, IsPlace, IsStanding, Stands};
 
-use crate::client_end::ClientEnd;
+use crate::client_end::{ClientEnd, ask_at, bring_at};
 use crate::happening::Happening;
 use crate::lane::{Lane, feed_at, idle_at, lose_at};
 use afp_base::{Bytes, LinkNumber, Moment, OutOfMemory};
@@ -45,11 +42,12 @@ fn begin(alloc: Global, house: &House, client: &mut ClientCore) -> Result<Lane, 
     let wire = Wire::new(alloc, house, Moment::new(0).unwrap())?;
     let mut up = Bytes::new(alloc);
     client.start(&mut up)?;
+    let down = Bytes::new(alloc);
     Ok(Lane {
         wire: Some(wire),
         fed: 0,
         up,
-        down: Bytes::new(alloc),
+        down,
     })
 }
 
@@ -68,14 +66,14 @@ impl<T: Teller + Drop> Running<T> {
         let lane = begin(alloc, house, &mut client)?;
         let mut lanes = Vec::new(alloc);
         lanes.push(lane)?;
-        let end = ClientEnd {
-            client,
-            came: 0,
-            results: Vec::new(alloc),
-        };
+        let results = Vec::new(alloc);
         Ok(Running {
             alloc,
-            end,
+            end: ClientEnd {
+                client,
+                came: 0,
+                results,
+            },
             lanes,
             teller,
         })
@@ -83,66 +81,89 @@ impl<T: Teller + Drop> Running<T> {
 
     /// The client asks a call.
     fn asks(&mut self, call: &Call) -> Result<(), OutOfMemory>
+        requires { IsStanding self.old.end self.old.lanes.items (T.shown self.old.teller) }
         ensures { OnOk result ((block : List ℕ) (t : Things) → Stands self.old.end self.old.lanes.items (T.shown self.old.teller) t
-            → Comes block (happenings.Asks call.now) t self.new.end self.new.lanes.items (T.shown self.new.teller)) }
+            → Comes block (Happening.Asks call.now) t self.new.end self.new.lanes.items (T.shown self.new.teller)) }
     {
         let newest = self.lanes.len() - 1;
         let lanes = self.lanes.as_mut_slice();
-        self.end.ask(self.alloc, call, &mut lanes[newest])
+        ask_at(&mut self.end, lanes, newest, self.alloc, call)
     }
 
     /// Bytes reach a server end.
-    fn to_server(&mut self, link: u32, most: u32, now: Moment) -> Result<(), OutOfMemory> {
+    fn to_server(&mut self, link: u32, most: u32, now: Moment) -> Result<(), OutOfMemory>
+        requires { IsStanding self.old.end self.old.lanes.items (T.shown self.old.teller) }
+        ensures { OnOk result ((block : List ℕ) (t : Things) → Stands self.old.end self.old.lanes.items (T.shown self.old.teller) t
+            → Comes block (Happening.ToServer link most now) t self.new.end self.new.lanes.items (T.shown self.new.teller)) }
+    {
         match place_of(link, self.lanes.len()) {
             None => Ok(()),
-            Some(place) => feed_at(
-                self.lanes.as_mut_slice(),
-                place,
-                self.alloc,
-                most,
-                now,
-                &mut self.teller,
-            ),
+            Some(place) => {
+                let lanes = self.lanes.as_mut_slice();
+                feed_at(lanes, place, self.alloc, most, now, &mut self.teller)
+            }
         }
     }
 
     /// Bytes reach the client.
-    fn to_client(&mut self, link: u32, most: u32) -> Result<(), OutOfMemory> {
-        let newest = self.lanes.len() - 1;
+    fn to_client(&mut self, link: u32, most: u32) -> Result<(), OutOfMemory>
+        requires { IsStanding self.old.end self.old.lanes.items (T.shown self.old.teller) }
+        ensures { OnOk result ((block : List ℕ) (t : Things) → Stands self.old.end self.old.lanes.items (T.shown self.old.teller) t
+            → Comes block (Happening.ToClient link most) t self.new.end self.new.lanes.items (T.shown self.new.teller)) }
+    {
         if link as usize != self.lanes.len() {
             return Ok(());
         }
+        let newest = self.lanes.len() - 1;
         let lanes = self.lanes.as_mut_slice();
-        self.end.bring(self.alloc, most, &mut lanes[newest])
+        bring_at(&mut self.end, lanes, newest, self.alloc, most)
     }
 
     /// A server end is quiet.
-    fn quiet(&mut self, link: u32, now: Moment) {
+    fn quiet(&mut self, link: u32, now: Moment)
+        ensures { (block : List ℕ) (t : Things) → Stands self.old.end self.old.lanes.items (T.shown self.old.teller) t
+            → Comes block (Happening.Quiet link now) t self.new.end self.new.lanes.items (T.shown self.new.teller) }
+    {
         match place_of(link, self.lanes.len()) {
             None => {}
-            Some(place) => idle_at(self.lanes.as_mut_slice(), place, now, &mut self.teller),
+            Some(place) => {
+                let lanes = self.lanes.as_mut_slice();
+                idle_at(lanes, place, now, &mut self.teller)
+            }
         }
     }
 
     /// A server end is lost.
-    fn lost(&mut self, link: u32, now: Moment) {
+    fn lost(&mut self, link: u32, now: Moment)
+        ensures { (block : List ℕ) (t : Things) → Stands self.old.end self.old.lanes.items (T.shown self.old.teller) t
+            → Comes block (Happening.Lost link now) t self.new.end self.new.lanes.items (T.shown self.new.teller) }
+    {
         match place_of(link, self.lanes.len()) {
             None => {}
-            Some(place) => lose_at(self.lanes.as_mut_slice(), place, now, &mut self.teller),
+            Some(place) => {
+                let lanes = self.lanes.as_mut_slice();
+                lose_at(lanes, place, now, &mut self.teller)
+            }
         }
     }
 
     /// The client's link breaks, and it begins the next one.
-    fn breaks(&mut self, house: &House) -> Result<(), OutOfMemory> {
+    fn breaks(&mut self, house: &House) -> Result<(), OutOfMemory>
+        ensures { OnOk result ((t : Things) → Stands self.old.end self.old.lanes.items (T.shown self.old.teller) t
+            → Comes (status_block house.now) Happening.Breaks t self.new.end self.new.lanes.items (T.shown self.new.teller)) }
+    {
         self.end.client.broke();
-        self.end.came = 0;
         let lane = begin(self.alloc, house, &mut self.end.client)?;
+        self.end.came = 0;
         self.lanes.push(lane)?;
         Ok(())
     }
 
     /// Others ask.
-    fn others(&mut self, now: Moment, link: LinkNumber, ask: &Ask) -> Result<(), OutOfMemory> {
+    fn others(&mut self, now: Moment, link: LinkNumber, ask: &Ask) -> Result<(), OutOfMemory>
+        ensures { OnOk result ((block : List ℕ) (t : Things) → Stands self.old.end self.old.lanes.items (T.shown self.old.teller) t
+            → Comes block (Happening.Others now link ask.now) t self.new.end self.new.lanes.items (T.shown self.new.teller)) }
+    {
         let asked = ask.copy()?;
         let _told = self.teller.ask(now, link, asked);
         Ok(())
@@ -150,6 +171,7 @@ impl<T: Teller + Drop> Running<T> {
 
     /// What happens.
     pub(crate) fn happen(&mut self, house: &House, event: &Happening) -> Result<(), OutOfMemory>
+        requires { IsStanding self.old.end self.old.lanes.items (T.shown self.old.teller) }
         ensures { OnOk result ((t : Things) → Stands self.old.end self.old.lanes.items (T.shown self.old.teller) t
             → Comes (status_block house.now) event.now t self.new.end self.new.lanes.items (T.shown self.new.teller)) }
     {

@@ -21,6 +21,9 @@ pub record Stands (end : ClientEnd) (lanes : List Lane) (shown : Shown) (t : Thi
   pub size : length lanes ≡ suc t.top
   pub each : (i : ℕ) (l : Lane) → slice_get lanes i ≡ Some l → IsLane l (t.lanes i)
 
+abbrev pub IsStanding : ClientEnd → List Lane → Shown → Type 0
+IsStanding end lanes shown = (t : Things) × Stands end lanes shown t
+
 -- a happening leads from these things to what is held then
 pub record Comes (block : List ℕ) (h : Happening) (t : Things) (end : ClientEnd) (lanes : List Lane) (shown : Shown) : Type 0 where
   pub doings : List Doing
@@ -36,4 +39,4 @@ IsPlace link links (Some i) = (0 < link) × (i ≡ link - 1) × (i < links)
 -- a link that the client begins
 pub record BeginsLane (block : List ℕ) (old : Client) (lane : Lane) (new : Client) : Type 0 where
   pub client : new ≡ record { state = begun old.state; held = record { place = 0; rest = [] } }
-  pub lane : IsLane lane (begun_lane block)
+  pub begun_is : IsLane lane (begun_lane block)
