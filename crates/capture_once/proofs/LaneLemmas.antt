@@ -1,12 +1,11 @@
 -- What is done at a link.
-use Rattle.std.proofs.Common.{◌≡◌, ◌≢◌, ◌∙◌, ◌⊎◌, refl, sym, ap, subst, ℕ, ◌+◌, ◌<◌, ◌≤◌, Bool, true, false, List, [], ◌∷◌, ◌++◌, length, min, take, drop, Option, Some, None, inl, inr, arith}
+use Rattle.std.proofs.Common.{◌≡◌, ◌≢◌, ◌∙◌, refl, sym, ap, subst, ℕ, ◌+◌, ◌≤◌, Bool, true, false, List, [], ◌∷◌, ◌++◌, length, min, take, drop, Option, Some, None, inl, inr, arith}
 use Rattle.std.specs.Prelude.{IfNone, is_some}
 use Rattle.std.proofs.lemmas.List.{drop_min, length-take-le, take-append-drop}
 use Rattle.afp_base.specs.declared.ids.LinkNumber.{LinkNumber}
 use Rattle.afp_serial.specs.Shown.{Asked, Shown}
 use Rattle.afp_serial.specs.declared.ask.Ask.TheVariants as ask
 use Rattle.afp_serial.specs.declared.ask.Told as tolds
-use Rattle.afp_serial.specs.declared.ask.Told.TheVariants as told
 use Rattle.afp_server.specs.Wire as wires
 use Rattle.afp_server.specs.Wire.{Feeds, PartsBy, WireState, feed_point, open_link}
 use Rattle.afp_server.specs.declared.stage.Stage.{Stage}
@@ -15,10 +14,10 @@ use Rattle.afp_server.specs.declared.wire.WireEnd.{WireEnd}
 use Rattle.afp_server.specs.declared.wire.WireEnd.TheVariants as wire_ends
 use Rattle.dsi_frame.specs.Deframe.{GivenOut}
 use Rattle.dsi_frame.specs.Frame.{Frame}
-use Rattle.once_across_breaks_run.specs.Doings.{fed_at, is_displaced}
+use Rattle.once_across_breaks_run.specs.Doings.{is_displaced}
 use Rattle.once_across_breaks_run.specs.Things as things
 use Rattle.capture_once.specs.declared.lane.Lane.{Lane}
-use Rattle.capture_once.specs.lemma.Lanes.{FedWith, FeedsLane, HasEnd, IdlesLane, IsFedLane, IsLane, IsLive, IsStill, LosesLane, Rests, open_at}
+use Rattle.capture_once.specs.lemma.Lanes.{FedWith, FeedsLane, HasEnd, IdlesLane, IsLane, IsLive, IsStill, LosesLane, open_at}
 use Rattle.capture_once.proofs.Going.{asked-goes, feeds-goes, went-goes}
 
 no-length : (xs : List ℕ) → length xs ≡ 0 → xs ≡ []

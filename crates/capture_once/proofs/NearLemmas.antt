@@ -14,11 +14,11 @@ use Rattle.dsi_frame.proofs.FrameLemmas.{length-spelling}
 use Rattle.dsi_frame.specs.Buffered.{buffer_length}
 use Rattle.dsi_frame.specs.Frame.{canonical_frame}
 use Rattle.once_across_breaks_run.specs.Doings.{told_in}
-use Rattle.capture_once.specs.Happens.{GoesOn, is_last}
+use Rattle.capture_once.specs.Happens.{is_last}
 use Rattle.capture_once.specs.Skips.{CanBeAsked}
 use Rattle.capture_once.specs.declared.client_end.ClientEnd.{ClientEnd}
 use Rattle.capture_once.specs.declared.lane.Lane.{Lane}
-use Rattle.capture_once.specs.lemma.Near.{AsksNear, BringsNear, IsTakenNear, Near, Takings, TakesAll, TakesOne, came_to, near}
+use Rattle.capture_once.specs.lemma.Near.{AsksNear, BringsNear, Near, Takings, TakesAll, TakesOne, came_to, near}
 
 -- what is written comes behind what was, as many bytes came, and of those that are held each frame takes some
 record Wrote (event : Event) (old new : Client) (out after : List ℕ) : Type 0 where

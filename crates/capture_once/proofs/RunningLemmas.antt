@@ -1,10 +1,9 @@
 -- What comes of a happening.
-use Rattle.std.proofs.Common.{◌≡◌, ◌≢◌, ◌∙◌, refl, sym, ap, subst, ℕ, ◌+◌, ◌-◌, ◌<◌, ◌≤◌, zero, suc, true, false, List, [], ◌∷◌, ◌++◌, length, min, take, drop, get_or, Option, Some, None, inl, inr, arith}
+use Rattle.std.proofs.Common.{◌≡◌, ◌≢◌, ◌∙◌, refl, sym, ap, subst, ℕ, ◌+◌, ◌-◌, ◌<◌, ◌≤◌, zero, suc, true, List, [], ◌∷◌, ◌++◌, length, min, take, drop, get_or, Option, Some, None, inl, inr, arith}
 use Rattle.std.specs.Prelude.{map, slice_get, slice_set}
 use Rattle.std.specs.List.{AllByRecursion}
 use Rattle.std.proofs.Math.Seq.{drop-cons}
 use Rattle.std.proofs.lemmas.List.{drop_min, take-append-drop, take-append-le, take_all}
-use Rattle.afp_base.specs.Cached.{Answer}
 use Rattle.afp_base.specs.declared.ids.LinkNumber.{LinkNumber}
 use Rattle.afp_calls_grammar.specs.declared.call.Call as grammar
 use Rattle.afp_client.specs.Happens as client
@@ -32,9 +31,9 @@ use Rattle.capture_once.specs.declared.client_end.ClientEnd.{ClientEnd}
 use Rattle.capture_once.specs.declared.happening.Happening.{Happening}
 use Rattle.capture_once.specs.declared.happening.Happening.TheVariants as happenings
 use Rattle.capture_once.specs.declared.lane.Lane.{Lane}
-use Rattle.capture_once.specs.Happens.{AllHappen, GoesOn, Happens, room}
+use Rattle.capture_once.specs.Happens.{AllHappen, GoesOn, room}
 use Rattle.capture_once.specs.Once.{ComesTo, HappeningsAreSchedules}
-use Rattle.capture_once.specs.Skips.{CanBe, CanBeAsked, place_of}
+use Rattle.capture_once.specs.Skips.{CanBe, place_of}
 use Rattle.capture_once.specs.Steps.{Steps}
 use Rattle.capture_once.specs.lemma.Lanes.{ChangesAt, FeedsLane, HasEnd, IdlesLane, IsFedLane, IsLane, LosesLane}
 use Rattle.capture_once.specs.lemma.Near.{AsksNear, BringsNear, IsTakenNear, Near, Takings, came_to, near}
@@ -187,14 +186,14 @@ lost-by block link now end lanes a b t l st first last sound (inr (cannot, rests
     skips-at block (happenings.Lost link now) t end lanes a b (place_of link) l st rests.shown rests.lane (λ can. cannot can.live)
 
 -- what was done at the place of a link is done at the link's own
-record AtPlace (link : ℕ) (end : ClientEnd) (lanes new : List Lane) (a : Shown) (t : Things) (does : things.Lane → Shown → Lane → Type 0) : Type 0 where
+record AtPlace (link : ℕ) (lanes new : List Lane) (t : Things) (does : things.Lane → Shown → Lane → Type 0) : Type 0 where
   lane : Lane
   set_there : new ≡ slice_set lanes (place_of link) lane
   last : link ≤ suc t.top
   done : does (t.lanes (place_of link)) t.shown lane
 
 at-place : (link i : ℕ) (end : ClientEnd) (lanes new : List Lane) (a : Shown) (t : Things) (does : things.Lane → Shown → Lane → Type 0) → Stands end lanes a t → IsPlace link (length lanes) (Some i)
-    → ChangesAt i lanes new (λ old l. (x : things.Lane) → IsLane old x → does x a l) → AtPlace link end lanes new a t does
+    → ChangesAt i lanes new (λ old l. (x : things.Lane) → IsLane old x → does x a l) → AtPlace link lanes new t does
 at-place link i end lanes new a t does st (first, place, within) ch = record {
   lane = ch.new;
   set_there = ch.set_there ∙ ap (λ (j : ℕ). slice_set lanes j ch.new) place;

@@ -1,5 +1,5 @@
 -- What happens is a run, and so a schedule of the law.
-use Rattle.std.proofs.Common.{◌≡◌, ◌∙◌, refl, sym, ap, subst, ℕ, ◌+◌, ◌≤◌, true, List, [], ◌∷◌, ◌++◌, length, length-append, append_assoc, inl, inr, arith}
+use Rattle.std.proofs.Common.{◌≡◌, ◌∙◌, sym, ap, subst, ℕ, ◌≤◌, List, [], ◌∷◌, ◌++◌, length, length-append, append_assoc, inl, inr, arith}
 use Rattle.std.specs.Prelude.{map}
 use Rattle.std.specs.List.{AllByRecursion}
 use Rattle.afp_client.specs.declared.event.Event.{Event}
@@ -9,7 +9,7 @@ use Rattle.afp_serial.specs.declared.ask.Entry.{Entry}
 use Rattle.once_across_breaks.specs.Run as law
 use Rattle.once_across_breaks.specs.Serial.{IsSoundUnder, Setup}
 use Rattle.once_across_breaks_client.specs.Requests.{LogsIn}
-use Rattle.once_across_breaks_server.specs.Among.{AllCarried, is_carried_ask}
+use Rattle.once_across_breaks_server.specs.Among.{AllCarried}
 use Rattle.once_across_breaks_server.specs.Asked.{AsksAlone}
 use Rattle.once_across_breaks_server.specs.Fed.{CarriedSince}
 use Rattle.once_across_breaks_run.specs.Doings.{Doing, Runs, RunsAlone}
@@ -18,9 +18,9 @@ use Rattle.once_across_breaks_run.specs.Laws.{IsSchedule, RunsAreSchedules, Sole
 use Rattle.once_across_breaks_run.specs.Things.{Things, begun_things}
 use Rattle.capture_once.specs.declared.happening.Happening.{Happening}
 use Rattle.capture_once.specs.declared.happening.Happening.TheVariants as happenings
-use Rattle.capture_once.specs.Happens.{AllHappen, AreStepsOf, AreTakings, Happens}
-use Rattle.capture_once.specs.Once.{CanCarry, HappeningsAreSchedules, IsCarried, IsScheduled}
-use Rattle.capture_once.specs.Steps.{IsStep, Steps, WentOn}
+use Rattle.capture_once.specs.Happens.{AllHappen, AreStepsOf, Happens}
+use Rattle.capture_once.specs.Once.{CanCarry, HappeningsAreSchedules, IsCarried}
+use Rattle.capture_once.specs.Steps.{Steps, WentOn}
 use Rattle.capture_once.proofs.Going.{rising-most, same-goes, then-goes}
 
 -- ---- steps one after the other

@@ -1,7 +1,7 @@
 //! Which calls a client can be asked.
 ghost use Rattle.std.specs.Prelude.{◌≡◌, ◌↔◌, ◌+◌, ◌^◌, ◌≤◌, true, false, length, IsTrue, IfOk};
 ghost use Rattle.afp_base.specs.Limits.{payload_limit};
-ghost use Rattle.afp_calls_grammar.specs.Call.{IsSpellable, canonical_call, canonical_piece};
+ghost use Rattle.afp_calls_grammar.specs.Call.{IsSpellable};
 ghost use Rattle.afp_calls_grammar.specs.ForkBytes.{piece_size};
 ghost use Rattle.afp_calls_grammar.specs.User.{name_count};
 ghost use Rattle.afp_client.specs.State.{is_of_opening};

@@ -1,6 +1,5 @@
 //! The client, and what it was told.
-ghost use Rattle.std.specs.Prelude.{◌≡◌, ◌≢◌, ◌+◌, ◌-◌, ◌<◌, ◌≤◌, ◌^◌, ◌++◌, true, false, not, length, min, drop, take, IfOk, OnOk};
-ghost use Rattle.afp_client.specs.Happens.{Happens};
+ghost use Rattle.std.specs.Prelude.{◌≡◌, ◌≢◌, ◌+◌, ◌<◌, ◌≤◌, ◌++◌, not, length, IfOk, OnOk};
 ghost use Rattle.once_across_breaks_run.specs.Doings.{told_in};
 ghost use Rattle.capture_once.specs.Happens.{is_last};
 ghost use Rattle.capture_once.specs.lemma.Lanes.{ChangesAt};

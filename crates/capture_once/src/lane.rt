@@ -1,5 +1,5 @@
 //! A link: its server end, and the bytes under way on it.
-ghost use Rattle.std.specs.Prelude.{◌≡◌, ◌≢◌, ◌+◌, ◌<◌, ◌≤◌, ◌^◌, true, false, None, Some, length, slice_get, OnOk, IfOk};
+ghost use Rattle.std.specs.Prelude.{◌≡◌, ◌≢◌, ◌+◌, ◌<◌, ◌≤◌, false, None, Some, length, slice_get, OnOk, IfOk};
 ghost use Rattle.afp_server.specs.Wire.{PartsBy};
 ghost use Rattle.afp_server.specs.declared.stage.Stage.{Stage};
 ghost use Rattle.once_across_breaks_run.specs.Doings.{is_displaced};

@@ -1,5 +1,5 @@
 //! A client over links that break.
-ghost use Rattle.std.specs.Prelude.{◌≡◌, IfOk};
+ghost use Rattle.std.specs.Prelude.{IfOk};
 ghost use Rattle.afp_client.specs.Opening.{FitsLogin};
 ghost use Rattle.afp_serial.specs.StatusBlock.{status_block};
 ghost use Rattle.capture_once.specs.Once.{ComesTo};

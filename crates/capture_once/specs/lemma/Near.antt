@@ -1,5 +1,5 @@
 -- What the calls at the client's end do.
-use Rattle.std.specs.Prelude.{◌≡◌, ◌≢◌, ◌⊎◌, ℕ, ◌+◌, ◌-◌, ◌<◌, ◌≤◌, Bool, true, false, not, List, [], ◌∷◌, ◌++◌, length, take, drop, min}
+use Rattle.std.specs.Prelude.{◌≡◌, ◌⊎◌, ℕ, ◌+◌, ◌-◌, ◌<◌, ◌≤◌, Bool, true, not, List, [], ◌∷◌, ◌++◌, length, take, drop, min}
 use Rattle.afp_base.specs.Cached.{Answer}
 use Rattle.afp_calls_grammar.specs.declared.call.Call as grammar
 use Rattle.afp_client.specs.Happens as client

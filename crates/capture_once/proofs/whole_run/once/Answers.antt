@@ -1,7 +1,7 @@
-use Rattle.std.proofs.Common.{sym, arith}
+use Rattle.std.proofs.Common.{arith}
 use Rattle.afp_serial.specs.StatusBlock.{status_block}
 use Rattle.once_across_breaks_run.specs.Things.{begun_things}
-use Rattle.capture_once.proofs.RunningLemmas.{all-come, comes-on, has-begun, next-behind}
+use Rattle.capture_once.proofs.RunningLemmas.{all-come, comes-on, next-behind}
 use Rattle.capture_once.proofs.whole_run.once.Goals as goal
 
 pub loop-event-preserved : goal.loop-event-preserved

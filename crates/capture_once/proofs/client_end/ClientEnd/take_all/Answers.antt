@@ -1,6 +1,6 @@
 use Rattle.std.proofs.Common.{Bool, subst, ◌∙◌}
 use Rattle.capture_once.specs.lemma.Near.{TakesOne, near}
-use Rattle.capture_once.proofs.NearLemmas.{leads-all, leads-here, leads-on}
+use Rattle.capture_once.proofs.NearLemmas.{leads-all, leads-on}
 use Rattle.capture_once.proofs.client_end.ClientEnd.take_all.Goals as goal
 
 pub loop-goes_on-preserved : goal.loop-goes_on-preserved

@@ -1,11 +1,11 @@
 use Rattle.std.proofs.Common.{List, length, arith, ap, sym, subst, ◌∙◌, Some, None}
-use Rattle.std.specs.Prelude.{Option, slice_get}
+use Rattle.std.specs.Prelude.{slice_get}
 use Rattle.std.proofs.lemmas.Result.{on_ok_weaker}
 use Rattle.once_across_breaks_run.specs.Things as things
 use Rattle.capture_once.specs.declared.happening.Happening.TheVariants as happenings
 use Rattle.capture_once.specs.declared.lane.Lane.{Lane}
 use Rattle.capture_once.specs.lemma.Lanes.{ChangesAt, FeedsLane, IsLane}
-use Rattle.capture_once.specs.lemma.Running.{Comes, IsPlace}
+use Rattle.capture_once.specs.lemma.Running.{Comes}
 use Rattle.capture_once.proofs.RunningLemmas.{lent_back, placed, server-comes, server-none}
 use Rattle.capture_once.proofs.running.Running.to_server.Goals as goal
 
