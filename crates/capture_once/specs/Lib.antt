@@ -1,0 +1,5 @@
+pub mod Skips
+pub mod Steps
+pub mod Happens
+pub mod Once
+pub mod lemma

@@ -1,0 +1,50 @@
+-- What a client, the server ends of its links and the teller come to (this profile).
+use Rattle.std.specs.Prelude.{◌≡◌, ◌⊎◌, ℕ, true, List, []}
+use Rattle.std.specs.List.{AllByRecursion}
+use Rattle.afp_base.specs.Cached.{Answer}
+use Rattle.afp_client.specs.State.{Client}
+use Rattle.afp_client.specs.declared.login.Login as logins
+use Rattle.afp_serial.specs.Shown.{IsSoundShown, Shown}
+use Rattle.once_across_breaks.specs.Run.{Event}
+use Rattle.once_across_breaks.specs.Serial.{IsSoundUnder, Setup}
+use Rattle.once_across_breaks_client.specs.Requests.{LogsIn}
+use Rattle.once_across_breaks_server.specs.Among.{is_carried_ask}
+use Rattle.once_across_breaks_server.specs.Asked.{AsksAlone}
+use Rattle.once_across_breaks_server.specs.Fed.{CarriedSince}
+use Rattle.once_across_breaks_run.specs.Doings.{Doing}
+use Rattle.once_across_breaks_run.specs.Laws.{IsSchedule}
+use Rattle.once_across_breaks_run.specs.Things.{Things, begun_things}
+use Rattle.capture_once.specs.declared.happening.Happening.{Happening}
+use Rattle.capture_once.specs.declared.happening.Happening.TheVariants as happenings
+use Rattle.capture_once.specs.Happens.{AllHappen}
+
+-- a frame can carry what others ask
+abbrev pub CanCarry : Happening → Type 0
+CanCarry (happenings.Others now link ask) = is_carried_ask ask ≡ true
+CanCarry h = Unit {0}
+
+-- A frame can carry all that was asked since. So it is where nobody else asked the teller, and a frame can carry what others ask.
+abbrev pub IsCarried : List Happening → Shown → Shown → Type 0
+IsCarried hs a b = CarriedSince a b ⊎ (AsksAlone b × AllByRecursion CanCarry hs)
+
+-- There is a schedule of the law that leads to these things, by which each command takes effect once, in order.
+abbrev pub IsScheduled : logins.Login → Shown → List Happening → Things → Type 0
+IsScheduled login first hs last =
+    (u : Setup) → LogsIn u login → IsSoundShown first → first.history ≡ [] → IsSoundUnder u.key first.start → IsCarried hs first last.shown
+    → (events : List Event) × IsSchedule u first.start last events
+
+-- The happenings lead to these things, from a client that has begun its first link: its own state, what the teller shows, and the results are theirs.
+pub record ComesTo (block : List ℕ) (login : logins.Login) (first : Shown) (hs : List Happening) (client : Client) (shown : Shown) (results : List Answer) : Type 0 where
+  pub doings : List Doing
+  pub last : Things
+  pub happened : AllHappen block hs (begun_things block login first) doings last
+  pub client_is : last.client ≡ client
+  pub shown_is : last.shown ≡ shown
+  pub results_are : last.results ≡ results
+  pub once : IsScheduled login first hs last
+
+-- The law: whatever happens is a schedule.
+abbrev pub HappeningsAreSchedules : Type 0
+HappeningsAreSchedules =
+    (block : List ℕ) (login : logins.Login) (first : Shown) (hs : List Happening) (doings : List Doing) (last : Things)
+    → AllHappen block hs (begun_things block login first) doings last → IsScheduled login first hs last
