@@ -1,7 +1,9 @@
-use Rattle.std.proofs.Common.{List, [], ◌∷◌, ◌++◌, ap, length, ◌∙◌, arith, rules}
+use Rattle.std.proofs.Common.{List, [], ◌∷◌, ◌++◌, ap, length, subst, sym, ◌∙◌, arith, rules}
 use Rattle.client_links.specs.declared.talk.Limit.{Limit}
 use Rattle.client_script_links.specs.Read.{zipped}
-use Rattle.client_script_links.proofs.StandingLemmas.{opens-asker}
+use Rattle.client_script_links.specs.Standing.{OpensNone, first_of}
+use Rattle.client_script_links.specs.declared.asker.AskEnd.TheVariants as ends
+use Rattle.client_script_links.proofs.StandingLemmas.{opens-asker, opens-none}
 use Rattle.client_script_links.proofs.asker.open_asker.Goals as goal
 
 pub open-requires-clause-some : goal.open-requires-clause-some
@@ -26,3 +28,14 @@ invariant_of-result g c =
     c.new-in-Ok.ensures c.in-Ok.ensures.link c.in-Ok.ensures.empty c.in-Ok.ensures.ready
     (omega (arith, c.open.ensures.room, c.new-talk.ensures.room, c.requires.some)) (omega (arith, c.open.ensures.room, c.new-talk.ensures.room, c.requires.small)) c.in-Ok.ensures.below c.in-Ok.ensures.fits
     (omega (arith, is_turns, c.requires.turns))
+
+pub returns-in-Err-clause-failed : goal.returns-in-Err-clause-failed
+returns-in-Err-clause-failed g c =
+    let state = g.D.Link.Link.link_state in
+    let was = c.new-talk.result in
+    let now = c.open.new.self in
+    let first = first_of c.args.core c.args.turns in
+    let old = g.D.Dialer.dialer_state c.args.dialer in
+    subst (λ (d : g.row.D.Denot). OpensNone state c.args.turns first old (ends.Links c.in-Err.end) (g.D.Dialer.dialer_state d)) (sym c.into_dialer.ensures)
+    (opens-none state was.turns c.args.turns first old c.in-Err.end now.link now.core now.replied now.idle now.cost (g.D.Dialer.dialer_state now.dialer)
+    (c.in-Err.ensures.opens first old [] c.new-talk.ensures.turns c.new-talk.ensures.stands) c.new-talk.ensures.turns)
