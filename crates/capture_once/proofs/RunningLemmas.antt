@@ -32,7 +32,7 @@ use Rattle.capture_once.specs.declared.happening.Happening.{Happening}
 use Rattle.capture_once.specs.declared.happening.Happening.TheVariants as happenings
 use Rattle.capture_once.specs.declared.lane.Lane.{Lane}
 use Rattle.capture_once.specs.Happens.{AllHappen, GoesOn, room}
-use Rattle.capture_once.specs.Once.{ComesTo, HappeningsAreSchedules}
+use Rattle.capture_once.specs.Once.{ComesTo, HappeningsAreSchedules, HappeningsTakeEffectOnce}
 use Rattle.capture_once.specs.Skips.{CanBe, place_of}
 use Rattle.capture_once.specs.Steps.{Steps}
 use Rattle.capture_once.specs.lemma.Lanes.{ChangesAt, FeedsLane, HasEnd, IdlesLane, IsFedLane, IsLane, LosesLane}
@@ -546,9 +546,9 @@ none-behind (suc n) (h ∷ hs) e = none-behind n hs (omega (arith, e))
 pub next-behind : (hs : List Happening) (i : ℕ) (h : Happening) → i < length hs → h ≡ get_or hs i h → drop i hs ≡ h ∷ drop (i + 1) hs
 next-behind hs i h within is = drop-cons hs i h within ∙ (λ j. sym is j ∷ drop (suc i) hs) ∙ ap (λ (k : ℕ). h ∷ drop k hs) (let e : suc i ≡ i + 1 = omega arith in e)
 
-pub all-come : (block : List ℕ) (login : logins.Login) (first : Shown) (hs : List Happening) (n : ℕ) (end : ClientEnd) (lanes : List Lane) (a : Shown) → HappeningsAreSchedules → HasCome block hs (drop n hs) (begun_things block login first) end lanes a → length hs ≤ n
+pub all-come : (block : List ℕ) (login : logins.Login) (first : Shown) (hs : List Happening) (n : ℕ) (end : ClientEnd) (lanes : List Lane) (a : Shown) → HappeningsAreSchedules → HappeningsTakeEffectOnce → HasCome block hs (drop n hs) (begun_things block login first) end lanes a → length hs ≤ n
     → ComesTo block login first hs end.client a end.results.items
-all-come block login first hs n end lanes a law has over =
+all-come block login first hs n end lanes a schedules once has over =
     let all = has.leads [] has.now (subst (λ (rest : List Happening). AllHappen block rest has.now [] has.now) (sym (none-behind n hs over)) (refl, refl)) in
     record {
       doings = all.0;
@@ -557,5 +557,6 @@ all-come block login first hs n end lanes a law has over =
       client_is = has.stands.client;
       shown_is = has.stands.shown_is;
       results_are = has.stands.results;
-      once = law block login first hs all.0 has.now all.1;
+      schedule = schedules block login first hs all.0 has.now all.1;
+      once = once block login first hs all.0 has.now all.1;
     }

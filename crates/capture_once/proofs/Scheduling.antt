@@ -1,4 +1,4 @@
--- What happens is a run, and so a schedule of the law.
+-- What happens is a run, and so a schedule of the law, and takes effect once.
 use Rattle.std.proofs.Common.{◌≡◌, ◌∙◌, sym, ap, subst, ℕ, ◌≤◌, List, [], ◌∷◌, ◌++◌, length, length-append, append_assoc, inl, inr, arith}
 use Rattle.std.specs.Prelude.{map}
 use Rattle.std.specs.List.{AllByRecursion}
@@ -12,14 +12,14 @@ use Rattle.once_across_breaks_client.specs.Requests.{LogsIn}
 use Rattle.once_across_breaks_server.specs.Among.{AllCarried}
 use Rattle.once_across_breaks_server.specs.Asked.{AsksAlone}
 use Rattle.once_across_breaks_server.specs.Fed.{CarriedSince}
-use Rattle.once_across_breaks_run.specs.Doings.{Doing, Runs, RunsAlone}
+use Rattle.once_across_breaks_run.specs.Doings.{Doing, IsAlone, Runs, RunsAlone}
 use Rattle.once_across_breaks_run.specs.Doings as doings
-use Rattle.once_across_breaks_run.specs.Laws.{IsSchedule, RunsAreSchedules, SoleRunsAreSchedules}
+use Rattle.once_across_breaks_run.specs.Laws.{HoldsToken, IsSchedule, RunsAreSchedules, RunsHoldTokens, RunsTakeEffectOnce, SoleRunsAreSchedules, SoleRunsHoldTokens, SoleRunsTakeEffectOnce}
 use Rattle.once_across_breaks_run.specs.Things.{Things, begun_things}
 use Rattle.capture_once.specs.declared.happening.Happening.{Happening}
 use Rattle.capture_once.specs.declared.happening.Happening.TheVariants as happenings
 use Rattle.capture_once.specs.Happens.{AllHappen, AreStepsOf, Happens}
-use Rattle.capture_once.specs.Once.{CanCarry, HappeningsAreSchedules, IsCarried}
+use Rattle.capture_once.specs.Once.{CanCarry, HappeningsAreSchedules, HappeningsTakeEffectOnce, IsCarried}
 use Rattle.capture_once.specs.Steps.{Steps, WentOn}
 use Rattle.capture_once.proofs.Going.{rising-most, same-goes, then-goes}
 
@@ -111,18 +111,56 @@ all-can block [] t s ds (none, same) can = subst (AllByRecursion doings.CanCarry
 all-can block (h ∷ hs) t s ds (first, rest, mid, one, later, all) can =
     subst (AllByRecursion doings.CanCarry) (sym all) (can-append first rest (happens-can block h t mid first one can.0) (all-can block hs mid s rest later can.1))
 
--- ---- the law
+-- ---- the run
+
+ran : (block : List ℕ) (login : logins.Login) (first : Shown) (hs : List Happening) (ds : List Doing) (last : Things) → AllHappen block hs (begun_things block login first) ds last → CarriedSince first last.shown
+    → Runs (begun_things block login first) ds last
+ran block login first hs ds last all carried = steps-run (begun_things block login first) last ds (all-steps block hs (begun_things block login first) last ds all) carried
+
+ran-alone : (block : List ℕ) (login : logins.Login) (first : Shown) (hs : List Happening) (ds : List Doing) (last : Things) → AllHappen block hs (begun_things block login first) ds last → AsksAlone last.shown → AllByRecursion CanCarry hs
+    → RunsAlone (begun_things block login first) ds last
+ran-alone block login first hs ds last all alone can =
+    steps-alone (begun_things block login first) last ds (all-steps block hs (begun_things block login first) last ds all) alone (all-can block hs (begun_things block login first) last ds all can)
+
+began-alone : (block : List ℕ) (login : logins.Login) (first : Shown) (hs : List Happening) (ds : List Doing) (last : Things) → AllHappen block hs (begun_things block login first) ds last → IsSoundShown first → AsksAlone last.shown → IsAlone first
+began-alone block login first hs ds last all sound alone = record {
+  sound = sound;
+  alone = alone-first first last.shown sound (steps-go (begun_things block login first) last ds (all-steps block hs (begun_things block login first) last ds all)) alone;
+}
+
+-- ---- the laws
 
 scheduled : RunsAreSchedules → SoleRunsAreSchedules → (block : List ℕ) (u : Setup) (login : logins.Login) (first : Shown) (hs : List Happening) (ds : List Doing) (last : Things)
     → AllHappen block hs (begun_things block login first) ds last → LogsIn u login → IsSoundShown first → first.history ≡ [] → IsSoundUnder u.key first.start → IsCarried hs first last.shown
     → (events : List law.Event) × IsSchedule u first.start last events
 scheduled runs sole block u login first hs ds last all logs sound none under (inl carried) =
-    runs u login block first ds last logs sound none under (steps-run (begun_things block login first) last ds (all-steps block hs (begun_things block login first) last ds all) carried)
+    runs u login block first ds last logs sound none under (ran block login first hs ds last all carried)
 scheduled runs sole block u login first hs ds last all logs sound none under (inr (alone, can)) =
-    let steps = all-steps block hs (begun_things block login first) last ds all in
-    sole u login block first ds last logs
-    (record { sound = sound; alone = alone-first first last.shown sound (steps-go (begun_things block login first) last ds steps) alone }) none under
-    (steps-alone (begun_things block login first) last ds steps alone (all-can block hs (begun_things block login first) last ds all can))
+    sole u login block first ds last logs (began-alone block login first hs ds last all sound alone) none under (ran-alone block login first hs ds last all alone can)
 
 pub happenings-are : RunsAreSchedules → SoleRunsAreSchedules → HappeningsAreSchedules
 happenings-are runs sole block login first hs ds last all = λ u logs sound none under carried. scheduled runs sole block u login first hs ds last all logs sound none under carried
+
+held : RunsHoldTokens → SoleRunsHoldTokens → (block : List ℕ) (u : Setup) (login : logins.Login) (first : Shown) (hs : List Happening) (ds : List Doing) (last : Things)
+    → AllHappen block hs (begun_things block login first) ds last → LogsIn u login → IsSoundShown first → first.history ≡ [] → IsSoundUnder u.key first.start → IsCarried hs first last.shown → HoldsToken u last
+held runs sole block u login first hs ds last all logs sound none under (inl carried) =
+    runs u login block first ds last logs sound none under (ran block login first hs ds last all carried)
+held runs sole block u login first hs ds last all logs sound none under (inr (alone, can)) =
+    sole u login block first ds last logs (began-alone block login first hs ds last all sound alone) none under (ran-alone block login first hs ds last all alone can)
+
+pub record TokenLaws : Type 0 where
+  pub runs : RunsHoldTokens
+  pub sole : SoleRunsHoldTokens
+
+pub happenings-once : RunsTakeEffectOnce → SoleRunsTakeEffectOnce → TokenLaws → HappeningsTakeEffectOnce
+happenings-once runs sole tokens block login first hs ds last all = λ u logs sound none under. record {
+  among = λ carried. record {
+    runs = ran block login first hs ds last all carried;
+    once = λ n run. runs u login block first ds last n logs sound none under run;
+  };
+  alone = λ alone can. record {
+    runs = ran-alone block login first hs ds last all alone can;
+    once = λ n run. sole u login block first ds last n logs (began-alone block login first hs ds last all sound alone) none under run;
+  };
+  token = held tokens.runs tokens.sole block u login first hs ds last all logs sound none under;
+}

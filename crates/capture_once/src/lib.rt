@@ -13,5 +13,5 @@ mod whole_run;
 
 pub use askable::is_askable;
 pub use happening::Happening;
-pub use laws::what_happens_is_a_schedule;
+pub use laws::{what_happens_is_a_schedule, what_happens_takes_effect_once};
 pub use whole_run::{OnceRun, once};

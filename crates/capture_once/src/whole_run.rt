@@ -5,7 +5,7 @@ ghost use Rattle.afp_serial.specs.StatusBlock.{status_block};
 ghost use Rattle.capture_once.specs.Once.{ComesTo};
 
 use crate::happening::Happening;
-use crate::laws::what_happens_is_a_schedule;
+use crate::laws::{what_happens_is_a_schedule, what_happens_takes_effect_once};
 use crate::running::Running;
 use afp_base::OutOfMemory;
 use afp_client::{ClientCore, Login};
@@ -22,7 +22,8 @@ pub struct OnceRun<T: Teller + Drop> {
 }
 
 /// Runs a client that logs in so, over these happenings: its links and their server ends are those of a server with this house, which asks this
-/// teller. A happening that cannot be is skipped. So each call of the client takes effect once, in order. The one error is want of memory.
+/// teller. A happening that cannot be is skipped. So each command of the client takes effect once, in order, where the run keeps the premises of
+/// `once_across_breaks_run`. The one error is want of memory.
 pub fn once<T: Teller + Drop>(
     alloc: Global,
     login: Login,
@@ -34,6 +35,7 @@ pub fn once<T: Teller + Drop>(
     ensures { IfOk result (λ run. ComesTo (status_block house.now) login (T.shown teller) events.now run.client (T.shown run.teller) run.results.items) }
 {
     what_happens_is_a_schedule();
+    what_happens_takes_effect_once();
     let mut running = Running::new(alloc, login, house, teller)?;
     for event in events {
         running.happen(house, event)?;

@@ -13,4 +13,4 @@ loop-event-preserved g c =
 pub returns : goal.returns
 returns g c =
     all-come (status_block c.args.house.now) c.args.login (g.T.Teller.shown c.args.teller) c.args.events.now c.loop-event.event-index c.loop-event.running.end c.loop-event.running.lanes.items (g.T.Teller.shown c.loop-event.running.teller)
-    c.what_happens_is_a_schedule.ensures c.loop-event.invariant (omega arith)
+    c.what_happens_is_a_schedule.ensures c.what_happens_takes_effect_once.ensures c.loop-event.invariant (omega arith)
