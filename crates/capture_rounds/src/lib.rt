@@ -1,0 +1,6 @@
+//! Rounds between a client and a server that it is alone at: whole requests go to the server end of a link, and whole replies come back.
+#![tactic(auto)]
+
+mod line;
+
+pub use line::Line;
