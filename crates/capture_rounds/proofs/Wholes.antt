@@ -139,6 +139,7 @@ taken now bytes piece past f old out t over new sent u result is other answered 
         does = one.does;
         moments = subst (λ (ss : List Step). All (λ (s : Step). s.at ≡ now) ss) one.steps_are h.moments;
         extends = subst (λ (ss : List Step). Extends t ss u) one.steps_are (record { start = h.went.start; history = a.history; served = a.served });
+        answered = subst (λ (ss : List Step). answered_after true ss ≡ true) one.steps_are all;
         sent_is = h.sent ∙ ap (λ (rs : List Frame). out ++ spelling_of rs) one.replies_are;
       };
       ends = subst (λ (e : Option FrameEnd). EndsBy over e) one.end_is (ends-by over x.end result new.held is other x.ends);

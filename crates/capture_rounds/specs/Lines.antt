@@ -1,5 +1,5 @@
 -- The server end of a link, to which whole requests go (this profile).
-use Rattle.std.specs.Prelude.{◌≡◌, ◌≢◌, ◌≤◌, ℕ, List, [], ◌∷◌, ◌++◌, All, Option, Some, None}
+use Rattle.std.specs.Prelude.{◌≡◌, ◌≢◌, ◌≤◌, ℕ, true, List, [], ◌∷◌, ◌++◌, All, Option, Some, None}
 use Rattle.afp_base.specs.declared.ids.LinkNumber.{LinkNumber}
 use Rattle.afp_serial.specs.Shown.{Shown}
 use Rattle.afp_serial.specs.Went.{Step, step}
@@ -7,6 +7,7 @@ use Rattle.afp_serial.specs.declared.ask.Ask.TheVariants as asks
 use Rattle.afp_serial.specs.declared.ask.Told.{Told}
 use Rattle.afp_server.specs.Did.{Did}
 use Rattle.afp_server.specs.Script.{Does}
+use Rattle.afp_server.specs.Tally.{answered_after}
 use Rattle.afp_server.specs.Wire.{WireState}
 use Rattle.afp_server.specs.declared.stage.FrameEnd.{FrameEnd}
 use Rattle.afp_server.specs.declared.stage.Stage.{Stage}
@@ -32,13 +33,14 @@ pub record IsBetween (w : WireState) (fed : ℕ) : Type 0 where
   pub given : GivenOut bytes past w.held
 
 -- The frame of a request does this at a server, at a moment: it asks these steps, and nobody else asks; each is
--- told the serial answer where no fault is met, and its reply, if there is one, stands behind the bytes in `out`.
+-- told the serial answer where no fault is met, and none want of memory, and its reply, if there is one, stands behind the bytes in `out`.
 pub record Serves (now : ℕ) (f : Frame) (old : LineState) (out : List ℕ) (t : Shown) (sent : List ℕ) (u : Shown) : Type 0 where
   pub moment : ℕ
   pub did : Did
   pub does : Does old.block moment old.stage f did
   pub moments : All (λ s. s.at ≡ now) did.steps
   pub extends : Extends t did.steps u
+  pub answered : answered_after true did.steps ≡ true
   pub sent_is : sent ≡ out ++ spelling_of (listed did.reply)
 
 -- The line behind it, where the link goes on.

@@ -1,6 +1,7 @@
 //! Rounds between a client and a server that it is alone at: whole requests go to the server end of a link, and whole replies come back.
 #![tactic(auto)]
 
+pub mod laws;
 mod line;
 
 pub use line::Line;
