@@ -1,2 +1,3 @@
 pub mod Wholes
 pub mod Requests
+pub mod Taking

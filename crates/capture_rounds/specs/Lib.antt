@@ -1,3 +1,4 @@
 pub mod Lines
 pub mod Laws
+pub mod Callers
 pub mod lemma

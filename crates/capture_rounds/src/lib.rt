@@ -1,7 +1,9 @@
 //! Rounds between a client and a server that it is alone at: whole requests go to the server end of a link, and whole replies come back.
 #![tactic(auto)]
 
+mod caller;
 pub mod laws;
 mod line;
 
+pub use caller::Caller;
 pub use line::Line;

@@ -1,5 +1,7 @@
--- What feeding a whole request to a wire does; no public contract cites it.
+-- What feeding a whole request to a wire does, and which event tells that there was no memory; no public contract cites it.
 use Rattle.std.specs.Prelude.{◌≡◌, ◌≢◌, ℕ, Bool, true, false, List, [], ◌∷◌, ◌++◌, Option, Some, None}
+use Rattle.afp_client.specs.declared.event.Event.{Event}
+use Rattle.afp_client.specs.declared.event.Event.TheVariants as events
 use Rattle.afp_serial.specs.Shown.{Shown}
 use Rattle.afp_server.specs.Wire.{WireState}
 use Rattle.afp_server.specs.declared.stage.FrameEnd.{FrameEnd}
@@ -26,3 +28,7 @@ pub record FeedsWhole (now : ℕ) (bytes : List ℕ) (past : List Frame) (f : Fr
   pub block : new.block ≡ old.block
   pub stage : new.stage ≡ serves.did.stage
   pub goes_on : over ≡ false → (new.end ≡ None) × (new.stage ≢ Closing) × (new.held.rest ≡ []) × GivenOut (bytes ++ canonical_frame f) (past ++ f ∷ []) new.held
+
+abbrev pub is_memory : Event → Bool
+is_memory events.Memory = true
+is_memory event = false
