@@ -1,10 +1,10 @@
 -- Requests of a client at a line.
-use Rattle.std.proofs.Common.{◌≡◌, ◌⊎◌, ℕ, Bool, true, false, List, [], ◌∷◌, ◌++◌, All, refl, sym, ap, ◌∙◌, subst, inl, inr, append-nil}
+use Rattle.std.proofs.Common.{◌≡◌, ℕ, true, false, List, [], ◌∷◌, ◌++◌, All, refl, sym, ap, ◌∙◌, subst, inl, inr, append-nil}
 use Rattle.std.proofs.lemmas.List.Elements.{All-head}
 use Rattle.std.specs.Prelude.{Option, Some, None}
 use Rattle.afp_base.specs.declared.code.Code.{Code}
 use Rattle.afp_base.specs.declared.ids.LinkNumber.{LinkNumber}
-use Rattle.afp_calls_grammar.specs.Call.{canonical_call, canonical_data}
+use Rattle.afp_calls_grammar.specs.Call.{canonical_data}
 use Rattle.afp_calls_grammar.specs.declared.call.Call.{Call}
 use Rattle.afp_client.specs.Opening.{open_session_frame}
 use Rattle.afp_client.specs.State.{call_frame, framed_call}
@@ -13,7 +13,6 @@ use Rattle.afp_serial.specs.History.{answers, stand}
 use Rattle.afp_serial.specs.Shown.{Shown}
 use Rattle.afp_serial.specs.Went.{Step, step}
 use Rattle.afp_serial.specs.World.{World}
-use Rattle.afp_serial.specs.declared.ask.Ask.{Ask}
 use Rattle.afp_serial.specs.declared.ask.Ask.TheVariants as asks
 use Rattle.afp_serial.specs.declared.ask.Entry.{Entry}
 use Rattle.afp_serial.specs.declared.ask.Told.{Told}
@@ -21,7 +20,7 @@ use Rattle.afp_serial.specs.declared.ask.Told.TheVariants as tells
 use Rattle.afp_serial.proofs.Grows.{stand-append}
 use Rattle.afp_server.specs.Calls.{AsksCall, CallTold}
 use Rattle.afp_server.specs.Did.{Did}
-use Rattle.afp_server.specs.OpenSession.{OpenTold, OpensByOptions, OpensSession, RefusesOptions, no_link}
+use Rattle.afp_server.specs.OpenSession.{OpenTold, OpensSession, no_link}
 use Rattle.afp_server.specs.Script.{Does}
 use Rattle.afp_server.specs.Tally.{and_told, answered_after}
 use Rattle.afp_server.specs.declared.stage.FrameEnd.{FrameEnd}
@@ -34,8 +33,8 @@ use Rattle.dsi_frame.specs.Replies.{listed, reply_to, spelling_of}
 use Rattle.dsi_session.specs.OptionLaws.{HasOneList, IsReadOneWay}
 use Rattle.dsi_session.specs.Options.{AreOptions, SessionOption, attention_of, attention_quantum_type, number_option}
 use Rattle.once_across_breaks_drill.specs.Steps.{ask_with, call_ask, calls_on, quantum}
-use Rattle.capture_rounds.specs.Laws.{CallsAreTold, OpeningsAreTold, OpeningsGoOn, TellsCall, TellsOpening, opening, sweep}
-use Rattle.capture_rounds.specs.Lines.{LineState, Serves, ServesLine}
+use Rattle.capture_rounds.specs.Laws.{CallsAreTold, OpeningsAreTold, OpeningsGoOn, TellsCall, opening, sweep}
+use Rattle.capture_rounds.specs.Lines.{LineState, Serves}
 
 -- ---- a call
 

@@ -1,18 +1,18 @@
 -- A whole reply comes to a client.
-use Rattle.std.proofs.Common.{◌≡◌, ◌⊎◌, ℕ, ◌+◌, ◌≤◌, ◌-◌, Bool, true, false, List, [], ◌∷◌, ◌++◌, length, take, min, refl, sym, ap, ◌∙◌, subst, inl, inr, append-nil, length-append, arith, Option, Some, None}
+use Rattle.std.proofs.Common.{◌≡◌, ℕ, ◌+◌, ◌≤◌, ◌-◌, true, false, List, [], ◌++◌, length, take, min, sym, ap, ◌∙◌, subst, inl, inr, append-nil, arith, Option, Some}
 use Rattle.std.proofs.lemmas.List.{take_all}
 use Rattle.afp_base.specs.declared.code.Code.{Code}
 use Rattle.afp_client.specs.Happens.{Happens, TakesNext}
 use Rattle.afp_client.specs.Laws.{FrameDecides, IsDecided, IsMade}
 use Rattle.afp_client.specs.State.{Client, ClientState, is_lost}
-use Rattle.afp_client.specs.Takes.{Step, takes, written}
+use Rattle.afp_client.specs.Takes.{Step, takes}
 use Rattle.afp_client.specs.declared.event.Event.{Event}
 use Rattle.afp_client.specs.declared.event.Event.TheVariants as events
-use Rattle.dsi_frame.proofs.FrameLemmas.{canonical_begins, canonical_spelling, length-spelling}
+use Rattle.dsi_frame.proofs.FrameLemmas.{canonical_spelling, length-spelling}
 use Rattle.dsi_frame.specs.Buffered.{buffer_length}
 use Rattle.dsi_frame.specs.Frame.{Frame, IsSpelling, canonical_frame}
 use Rattle.dsi_frame.specs.Stream.{Begins}
-use Rattle.capture_rounds.specs.Callers.{IsAwaiting, IsNextStep, is_taken}
+use Rattle.capture_rounds.specs.Callers.{IsNextStep, is_taken}
 use Rattle.capture_rounds.specs.lemma.Whole.{is_memory}
 
 next-of : (event : Event) (old : Client) (out : List ℕ) (new : Client) (after : List ℕ) → is_taken event ≡ true → Happens old out event new after → TakesNext old out event new after

@@ -1,5 +1,5 @@
 -- What a wire does with a whole request, over a teller that alone asks.
-use Rattle.std.proofs.Common.{◌≡◌, ◌≢◌, ◌⊎◌, ℕ, Bool, true, false, List, [], ◌∷◌, ◌++◌, length, All, refl, sym, ap, ◌∙◌, subst, inl, inr, append-nil, append_assoc, length-append, arith}
+use Rattle.std.proofs.Common.{◌≡◌, ◌≢◌, ℕ, Bool, true, false, List, [], ◌∷◌, ◌++◌, length, All, refl, sym, ap, ◌∙◌, subst, inl, inr, append-nil, length-append, arith}
 use Rattle.std.specs.Prelude.{◌+◌, ◌≤◌, Option, Some, None, Result, Ok, Err, IfOk, IfNone, OnOk, MatchOption}
 use Rattle.afp_base.specs.declared.bytes.OutOfMemory.{OutOfMemory}
 use Rattle.afp_base.specs.declared.ids.LinkNumber.{LinkNumber}
@@ -17,7 +17,7 @@ use Rattle.afp_server.specs.Did.{Did}
 use Rattle.afp_server.specs.LinkRun.{Fills}
 use Rattle.afp_server.specs.Script.{Does, Script}
 use Rattle.afp_server.specs.Tally.{answered_after}
-use Rattle.afp_server.specs.Wire.{FeedPoint, FeedStart, Feeds, Handled, WireState, feed_point, open_link}
+use Rattle.afp_server.specs.Wire.{FeedStart, Feeds, WireState, feed_point, open_link}
 use Rattle.afp_server.specs.declared.stage.FrameEnd.{FrameEnd}
 use Rattle.afp_server.specs.declared.stage.FrameEnd.TheVariants as ends
 use Rattle.afp_server.specs.declared.stage.Stage.{Stage}
@@ -30,8 +30,8 @@ use Rattle.capture_log_server.specs.lemma.Moves.{Extends}
 use Rattle.capture_log_server.proofs.ConnectionLemmas.{one}
 use Rattle.capture_log_server.specs.Sole.{IsSole}
 use Rattle.capture_log_server.proofs.Histories.{Asks, asks}
-use Rattle.once_across_breaks_server.specs.Pieces.{EndsAs, HasNoMemory, HoldsOn, PiecesHaveFrames, TakesFrame}
-use Rattle.capture_rounds.specs.Lines.{IsBetween, LineState, Loses, Serves, ServesLine}
+use Rattle.once_across_breaks_server.specs.Pieces.{EndsAs, PiecesHaveFrames, TakesFrame}
+use Rattle.capture_rounds.specs.Lines.{IsBetween, LineState, Loses, ServesLine}
 use Rattle.capture_rounds.specs.lemma.Whole.{EndsBy, FeedsWhole, is_end}
 
 -- ---- one frame of a script
@@ -147,8 +147,7 @@ taken now bytes piece past f old out t over new sent u result is other answered 
       stage = one.after_is;
       goes_on = λ goes.
           let no_end : result ≡ None = goes-none over result is goes in
-          let empty : new.held.rest ≡ [] = rest-none x.end result new.held no_end x.ends in
-          (
+          let empty : new.held.rest ≡ [] = rest-none x.end result new.held no_end x.ends in (
             ended ∙ no_end,
             live-now new.end (new.stage ≢ Closing) (ended ∙ no_end) live,
             empty,

@@ -2,7 +2,7 @@
 use Rattle.std.specs.Prelude.{◌≡◌, ◌≢◌, ◌≤◌, ℕ, true, List, [], ◌∷◌, ◌++◌, All, Option, Some, None}
 use Rattle.afp_base.specs.declared.ids.LinkNumber.{LinkNumber}
 use Rattle.afp_serial.specs.Shown.{Shown}
-use Rattle.afp_serial.specs.Went.{Step, step}
+use Rattle.afp_serial.specs.Went.{step}
 use Rattle.afp_serial.specs.declared.ask.Ask.TheVariants as asks
 use Rattle.afp_serial.specs.declared.ask.Told.{Told}
 use Rattle.afp_server.specs.Did.{Did}

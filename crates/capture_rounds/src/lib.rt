@@ -4,6 +4,8 @@
 mod caller;
 pub mod laws;
 mod line;
+mod round;
 
 pub use caller::Caller;
 pub use line::Line;
+pub use round::{Round, call_round};

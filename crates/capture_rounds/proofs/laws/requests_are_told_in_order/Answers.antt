@@ -1,4 +1,4 @@
-use Rattle.capture_rounds.proofs.Requests.{OptionLaws, calls-told, openings-go, openings-told}
+use Rattle.capture_rounds.proofs.Requests.{calls-told, openings-go, openings-told}
 use Rattle.capture_rounds.proofs.laws.requests_are_told_in_order.Goals as goal
 
 pub returns-clause-calls : goal.returns-clause-calls

@@ -1,8 +1,4 @@
-use Rattle.std.proofs.Common.{◌≡◌, ◌∙◌, sym, arith, length}
-use Rattle.afp_base.specs.declared.code.Code.{Code}
-use Rattle.afp_client.specs.Takes.{Step}
-use Rattle.dsi_frame.specs.Frame.{Frame}
-use Rattle.capture_rounds.specs.Callers.{IsNextStep}
+use Rattle.std.proofs.Common.{◌∙◌, sym, arith}
 use Rattle.capture_rounds.proofs.Taking.{IsTakenWhole, taken-whole}
 use Rattle.capture_rounds.proofs.caller.Caller.take.Goals as goal
 
