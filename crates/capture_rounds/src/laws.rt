@@ -1,5 +1,6 @@
-//! The laws. The function says them, and does nothing.
+//! The laws. The functions say them, and do nothing.
 ghost use Rattle.capture_rounds.specs.Laws.{CallsAreTold, OpeningsAreTold, OpeningsGoOn};
+ghost use Rattle.capture_rounds.specs.Rounds.{OpeningIsTaken, WaitingIsTaken};
 
 use dsi_session::one_way_to_read;
 
@@ -12,3 +13,10 @@ pub fn requests_are_told_in_order()
 {
     one_way_to_read();
 }
+
+/// A client takes each reply to a call that waits on a link that is opened, whatever it tells. One that comes back, and so has a token, takes each reply to
+/// the calls of its opening.
+pub fn replies_are_taken()
+    ensures waiting { WaitingIsTaken }
+    ensures opening { OpeningIsTaken }
+{}

@@ -1,7 +1,8 @@
-//! A round: a request that waits goes to the line, and its reply to the client.
-ghost use Rattle.std.specs.Prelude.{ℕ, IfOk};
+//! A round: a call that was written goes to the line, and its reply to the client.
+ghost use Rattle.std.specs.Prelude.{ℕ, List, IfOk};
+ghost use Rattle.afp_base.specs.declared.code.Code.{Code};
 ghost use Rattle.afp_calls_grammar.specs.declared.call.Call.{Call};
-ghost use Rattle.afp_client.specs.State.{Waiting};
+ghost use Rattle.afp_client.specs.Takes.{Step};
 ghost use Rattle.capture_rounds.specs.Rounds.{ComesTo, IsAsked};
 
 use crate::caller::Caller;
@@ -21,7 +22,7 @@ pub struct Round {
     pub event: Event,
 }
 
-/// The call that waits goes to the line, and its reply to the client; what the client writes with it is appended to `out`. `None`: the call ended the
+/// A call that was written goes to the line, and its reply to the client; what the client writes with it is appended to `out`. `None`: the call ended the
 /// link. The one error is want of memory.
 pub fn call_round<T: SoleTeller>(
     alloc: Global,
@@ -32,9 +33,9 @@ pub fn call_round<T: SoleTeller>(
     teller: &mut T,
     out: &mut Bytes,
 ) -> Result<Option<Round>, OutOfMemory>
-    requires { (link : ℕ) × (id : ℕ) × (call : Call) × (w : Waiting) × IsAsked caller line request.now link id call w }
-    ensures { IfOk result (λ round. (link id : ℕ) (call : Call) (w : Waiting) → IsAsked caller line request.now link id call w
-        → ComesTo now link id call w caller line out.old (T.shown teller.old) round out.new (T.shown teller.new)) }
+    requires { (link : ℕ) × (id : ℕ) × (call : Call) × (does : Code → List ℕ → Step) × IsAsked now caller line request.now (T.shown teller.old) link id call does }
+    ensures { IfOk result (λ round. (link id : ℕ) (call : Call) (does : Code → List ℕ → Step) → IsAsked now caller line request.now (T.shown teller.old) link id call does
+        → ComesTo now link id call does line out.old (T.shown teller.old) round out.new (T.shown teller.new)) }
 {
     requests_are_told_in_order();
     sound_worlds_stay_sound();
