@@ -1,0 +1,4 @@
+pub mod Wholes
+pub mod Requests
+pub mod Taking
+pub mod Exchanging

@@ -1,0 +1,22 @@
+//! The laws. The functions say them, and do nothing.
+ghost use Rattle.capture_rounds.specs.Laws.{CallsAreTold, OpeningsAreTold, OpeningsGoOn};
+ghost use Rattle.capture_rounds.specs.Rounds.{OpeningIsTaken, WaitingIsTaken};
+
+use dsi_session::one_way_to_read;
+
+/// At a line a call is one entry of the history, and OpenSession is two: a Pulse at link 0, and Open. Each is told the serial answer, in the reply to
+/// its frame. No OpenSession ends its link.
+pub fn requests_are_told_in_order()
+    ensures calls { CallsAreTold }
+    ensures openings { OpeningsAreTold }
+    ensures goes_on { OpeningsGoOn }
+{
+    one_way_to_read();
+}
+
+/// A client takes each reply to a call that waits on a link that is opened, whatever it tells. One that comes back, and so has a token, takes each reply to
+/// the calls of its opening.
+pub fn replies_are_taken()
+    ensures waiting { WaitingIsTaken }
+    ensures opening { OpeningIsTaken }
+{}
