@@ -44,7 +44,7 @@ use Rattle.volume_spec.specs.GetVolParms.{get_vol_parms_refusal, volume_values}
 use Rattle.volume_spec.specs.NodeValues.{file_values}
 use Rattle.volume_spec.specs.OpenFork.{is_resource}
 use Rattle.volume_spec.specs.Shared.{Opened as OpenNode}
-use Rattle.volume_spec.specs.SoundVolume.{IsSoundVolume, is_formed, is_named}
+use Rattle.volume_spec.specs.SoundVolume.{IsSoundVolume, has_fit_privileges, is_formed, is_named}
 use Rattle.volume_spec.specs.VolumeState.{Row as File, VolumeState}
 use Rattle.volume_spec.specs.Walk.{row_at}
 use Rattle.afp_serial.proofs.ParamsSize.{file-small, volume-small}
@@ -90,7 +90,7 @@ name-short : (v : VolumeState) (file : File) (f : IsFileFound v file) → IsSoun
 unfolding row_at
 name-short v file f sound =
     let good : is_formed file ≡ true = find-all (λ (row : File). row.id == f.id) is_formed v.rows file f.row (formed-parts v sound.formed).rows in
-    (name_fault-parts file.name (no-fault (name_fault file.name) (and_parts (is_none (name_fault file.name)) (length file.finder == 32) (and_parts (is_named file) _ good).0).0)).1
+    (name_fault-parts file.name (no-fault (name_fault file.name) (and_parts (is_none (name_fault file.name)) (length file.finder == 32) (and_parts (is_named file) _ (and_parts (has_fit_privileges file.dir file.privileges) _ good).1).0).0)).1
   where
     no-fault : {F : Type 0} (o : Option F) → is_none o ≡ true → o ≡ None
     no-fault None h = refl

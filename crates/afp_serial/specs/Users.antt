@@ -3,17 +3,18 @@ use Rattle.std.specs.Prelude.{ℕ, ◌==◌, Bool, true, ◌||◌, if◌then◌e
 use Rattle.std.specs.List.{list_any}
 use Rattle.afp_replies.specs.Numbers.{group_id_to_name, group_id_to_utf8_name, user_id_to_name, user_id_to_utf8_name}
 use Rattle.afp_serial.specs.declared.user.User.{User}
+use Rattle.volume_spec.specs.VolumeState.{guest, only_group}
 
--- the user that logs in without a name, by its id and its name
+-- the user that logs in without a name, by its id, which owns the root of a fresh volume, and its name
 abbrev pub guest_id : ℕ
-guest_id = 500
+guest_id = guest
 
 abbrev pub guest_name : List ℕ
 guest_name = codes "guest"
 
 -- the one group, which each user is in
 abbrev pub everyone_id : ℕ
-everyone_id = 500
+everyone_id = only_group
 
 abbrev pub everyone_name : List ℕ
 everyone_name = codes "everyone"

@@ -13,7 +13,7 @@ use Rattle.volume_spec.proofs.NameBytes.{name-bytes}
 use Rattle.volume_spec.proofs.NewCalls.{formed-name, node-there}
 use Rattle.volume_spec.proofs.Refusals.{at-each, at-found, down-named, down-or-named, none-first, none-holds, place-there, IsPlaceThere}
 use Rattle.volume_spec.proofs.Trees.{tree-parts}
-use Rattle.volume_spec.proofs.TypedEdits.{TypedParts, any-date, directory-long, row-parts, row-whole, tail-typed, typed-parts}
+use Rattle.volume_spec.proofs.TypedEdits.{TypedParts, any-date, directory-long, row-parts, row-whole, tail-typed, typed-parts, new-typed}
 use Rattle.volume_spec.proofs.Walks.{row-there, walk-there}
 use Rattle.volume_spec.specs.Appls.{add_appl_refusal}
 use Rattle.volume_spec.specs.Comments.{does_comment}
@@ -66,6 +66,7 @@ creates-brings v dir now place there moment left t =
       modified = moment;
       backup = refl;
       finder = refl;
+      privileges = new-typed dir;
       name = name-bytes place.name there.named;
       data_fork = refl;
       resource_fork = refl;
@@ -156,6 +157,7 @@ copy-brings v now source dir path new moment typed formed named passes t =
       modified = r.modified;
       backup = refl;
       finder = r.finder;
+      privileges = r.privileges;
       name = name-bytes name good;
       data_fork = r.data_fork;
       resource_fork = r.resource_fork;

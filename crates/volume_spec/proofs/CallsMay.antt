@@ -46,7 +46,7 @@ use Rattle.afp_names.specs.Name.{name_fault}
 use Rattle.volume_spec.proofs.Formed.{formed-parts, new-formed}
 use Rattle.volume_spec.proofs.Refusals.{down-named, down-or-named, none-first}
 use Rattle.volume_spec.specs.Shared.{directory_of, name_of, rename_inhibit}
-use Rattle.volume_spec.specs.SoundVolume.{fork_bytes, has_file, is_formed, is_named}
+use Rattle.volume_spec.specs.SoundVolume.{fork_bytes, has_file, is_formed, is_named, has_fit_privileges}
 use Rattle.volume_spec.specs.VolumeState.{new_row}
 use Rattle.volume_spec.specs.Walk.{found, one_down, one_down_or, parent_at, row_at}
 
@@ -61,7 +61,7 @@ unfolding row_at
 name-good v id s is formed =
     let good : is_formed s ≡ true = find-all (λ (row : Row). row.id == id) is_formed v.rows s is formed in
     ap (λ o. name_fault (unwrap_or (option_map (λ (row : Row). row.name) o) [])) is
-    ∙ none_from_is_none (name_fault s.name) (and_parts (is_none (name_fault s.name)) (length s.finder == 32) (and_parts (is_named s) _ good).0).0
+    ∙ none_from_is_none (name_fault s.name) (and_parts (is_none (name_fault s.name)) (length s.finder == 32) (and_parts (is_named s) _ (and_parts (has_fit_privileges s.dir s.privileges) _ good).1).0).0
 
 abbrev comes : Bool → ℕ → ℕ → Place → Row
 comes dir next now place = new_row dir next place.dir place.name now

@@ -18,7 +18,7 @@ use Rattle.volume_spec.specs.EditLaws.{MayEdit, MayEditAll, MayCome, MayMove, Ma
 use Rattle.volume_spec.specs.Edits.{change_at, put, with_changed, exchanged_at, filed_as}
 use Rattle.volume_spec.specs.ForkEffect.{fork_effect, written}
 use Rattle.volume_spec.specs.SetFileDirParms.{Settings, has_sized_finder, with_settings}
-use Rattle.volume_spec.specs.SoundVolume.{dir_attributes, file_attributes, fork_bytes, has_file, has_node, is_formed, is_named, is_tree, has_apart_names, has_noted_nodes, keeps_limits, is_formed_volume, is_in_order, IsSoundVolume}
+use Rattle.volume_spec.specs.SoundVolume.{dir_attributes, file_attributes, fork_bytes, has_file, has_node, is_formed, is_named, is_tree, has_apart_names, has_noted_nodes, keeps_limits, is_formed_volume, is_in_order, IsSoundVolume, has_fit_privileges}
 use Rattle.volume_spec.specs.VolumeState.{Appl, Icon, Row, VolumeState}
 use Rattle.volume_spec.specs.Walk.{row_at}
 
@@ -56,8 +56,10 @@ file-sound v id filed there s =
     still-formed row is_file h =
         let one : Bool → Bool = λ f. cond f ((bit_and row.attributes dir_attributes == row.attributes) && ((length row.data_fork == 0) && ((length row.resource_fork == 0) && not row.filed))) (bit_and row.attributes file_attributes == row.attributes) in
         let other : Bool → Bool = λ f. cond f ((bit_and row.attributes dir_attributes == row.attributes) && ((length row.data_fork == 0) && ((length row.resource_fork == 0) && not filed))) (bit_and row.attributes file_attributes == row.attributes) in
-        let e = and_parts (is_named row) (one row.dir) h in
-        and_from (is_named row) (other row.dir) e.0 (ap other is_file ∙ sym (ap one is_file) ∙ e.1)
+        let fit : Bool = has_fit_privileges row.dir row.privileges in
+        let both = and_parts fit (is_named row && one row.dir) h in
+        let e = and_parts (is_named row) (one row.dir) both.1 in
+        and_from fit (is_named row && other row.dir) both.0 (and_from (is_named row) (other row.dir) e.0 (ap other is_file ∙ sym (ap one is_file) ∙ e.1))
 
 -- the volume's own date does not matter
 undated : (v : VolumeState) (now : ℕ) → IsSoundVolume (record v { modified = pos now }) → IsSoundVolume v

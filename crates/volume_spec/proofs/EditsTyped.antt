@@ -25,7 +25,7 @@ forks-typed : (from to : Row) → is_typed_row from ≡ true → is_typed_row to
 forks-typed from to f t =
     let a = row-parts from f in
     let b = row-parts to t in
-    row-whole (with_forks_of from to) (record { id = b.id; parent = b.parent; attributes = b.attributes; created = b.created; modified = a.modified; backup = b.backup; finder = b.finder; name = b.name; data_fork = a.data_fork; resource_fork = a.resource_fork })
+    row-whole (with_forks_of from to) (record { id = b.id; parent = b.parent; attributes = b.attributes; created = b.created; modified = a.modified; backup = b.backup; finder = b.finder; privileges = b.privileges; name = b.name; data_fork = a.data_fork; resource_fork = a.resource_fork })
 
 pub exchanged-typed : (v : VolumeState) (a b : ℕ) (s t : Row) → row_at v.rows a ≡ Some s → row_at v.rows b ≡ Some t → is_typed_volume v ≡ true → is_typed_volume (exchanged a b s t v) ≡ true
 unfolding row_at
@@ -59,7 +59,7 @@ set-whole s t =
 filed-typed : (filed : Bool) → KeepsTyped (filed_as filed)
 filed-typed filed row h =
     let r = row-parts row h in
-    row-whole (filed_as filed row) (record { id = r.id; parent = r.parent; attributes = r.attributes; created = r.created; modified = r.modified; backup = r.backup; finder = r.finder; name = r.name; data_fork = r.data_fork; resource_fork = r.resource_fork })
+    row-whole (filed_as filed row) (record { id = r.id; parent = r.parent; attributes = r.attributes; created = r.created; modified = r.modified; backup = r.backup; finder = r.finder; privileges = r.privileges; name = r.name; data_fork = r.data_fork; resource_fork = r.resource_fork })
 
 comments-typed : (node : ℕ) (text : List ℕ) (comments : List Comment) → is_long node ≡ true → are_bytes text ≡ true → list_all is_typed_comment comments ≡ true → list_all is_typed_comment (with_comment node text comments) ≡ true
 comments-typed node text comments long small h =

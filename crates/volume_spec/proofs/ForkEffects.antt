@@ -13,7 +13,7 @@ use Rattle.volume_spec.proofs.TypedEdits.{KeepsTyped, TypedParts, row-parts, row
 use Rattle.volume_spec.specs.Edits.{change_at, put, with_changed}
 use Rattle.volume_spec.specs.ForkEffect.{fork_effect, fork_of, would_pass, written}
 use Rattle.afp_base.specs.Limits.{most_fork_bytes}
-use Rattle.volume_spec.specs.SoundVolume.{IsSoundVolume, TakesRow, is_formed, is_named, file_attributes, dir_attributes, fork_bytes, has_file, row_bytes}
+use Rattle.volume_spec.specs.SoundVolume.{IsSoundVolume, TakesRow, is_formed, is_named, file_attributes, dir_attributes, fork_bytes, has_file, row_bytes, has_fit_privileges}
 use Rattle.volume_spec.specs.TypedVolume.{are_bytes, is_date, is_typed_row, is_typed_volume}
 use Rattle.volume_spec.specs.VolumeState.{Row, VolumeState}
 use Rattle.volume_spec.specs.Walk.{row_at}
@@ -27,8 +27,8 @@ written-formed now resource writes bytes s file h = go s.dir file h
     rest : Row → Bool
     rest row = (bit_and row.attributes dir_attributes == row.attributes) && ((length row.data_fork == 0) && ((length row.resource_fork == 0) && not row.filed))
 
-    go : (dir : Bool) → dir ≡ false → (is_named s && cond dir (rest s) (bit_and s.attributes file_attributes == s.attributes)) ≡ true
-        → (is_named s && cond dir (rest (written now resource bytes writes s)) (bit_and s.attributes file_attributes == s.attributes)) ≡ true
+    go : (dir : Bool) → dir ≡ false → (has_fit_privileges dir s.privileges && (is_named s && cond dir (rest s) (bit_and s.attributes file_attributes == s.attributes))) ≡ true
+        → (has_fit_privileges dir s.privileges && (is_named s && cond dir (rest (written now resource bytes writes s)) (bit_and s.attributes file_attributes == s.attributes))) ≡ true
     go true is h = absurd (cc)
     go false is h = h
 
@@ -110,6 +110,7 @@ written-typed now resource writes bytes moment small row h =
       modified = date-either now writes row.modified moment r.modified;
       backup = r.backup;
       finder = r.finder;
+      privileges = r.privileges;
       name = r.name;
       data_fork = bytes-either resource row.data_fork bytes r.data_fork small;
       resource_fork = bytes-either resource bytes row.resource_fork small r.resource_fork;

@@ -24,7 +24,7 @@ use Rattle.volume_spec.specs.FileIds.{create_id_refusal, delete_id_refusal, is_f
 use Rattle.volume_spec.specs.ForkEffect.{would_pass}
 use Rattle.volume_spec.specs.Icons.{add_icon_refusal}
 use Rattle.volume_spec.specs.Shared.{has_no_ids, has_no_room}
-use Rattle.volume_spec.specs.SoundVolume.{code_size, dir_attributes, file_attributes, has_file, has_node, icon_key, is_formed, is_icon, is_named, last_next_id, most_nodes, row_bytes, IsSoundVolume}
+use Rattle.volume_spec.specs.SoundVolume.{code_size, dir_attributes, file_attributes, has_file, has_node, icon_key, is_formed, is_icon, is_named, last_next_id, most_nodes, row_bytes, IsSoundVolume, has_fit_privileges}
 use Rattle.volume_spec.specs.VolumeCalls.{AddAPPL, AddComment, AddIcon, CopyFile, CreateID, DeleteID, ExchangeFiles, RemoveAPPL, RemoveComment, call_edits}
 use Rattle.volume_spec.specs.VolumeState.{Icon, Row, VolumeState, first_id}
 use Rattle.volume_spec.specs.Walk.{child_by_key, found, has_directory, is_named_path, one_down_or, row_at}
@@ -33,8 +33,10 @@ use Rattle.volume_spec.specs.Walk.{child_by_key, found, has_directory, is_named_
 unfiled-formed : (row : Row) → is_formed row ≡ true → is_formed (record row { filed = false }) ≡ true
 unfiled-formed row h =
     let f : Bool → Bool = λ filed. cond row.dir ((bit_and row.attributes dir_attributes == row.attributes) && ((length row.data_fork == 0) && ((length row.resource_fork == 0) && not filed))) (bit_and row.attributes file_attributes == row.attributes) in
-    let e = and_parts (is_named row) (f row.filed) h in
-    and_from (is_named row) (f false) e.0 (by row.dir e.1)
+    let fit : Bool = has_fit_privileges row.dir row.privileges in
+    let both = and_parts fit (is_named row && f row.filed) h in
+    let e = and_parts (is_named row) (f row.filed) both.1 in
+    and_from fit (is_named row && f false) both.0 (and_from (is_named row) (f false) e.0 (by row.dir e.1))
   where
     by : (d : Bool) → cond d ((bit_and row.attributes dir_attributes == row.attributes) && ((length row.data_fork == 0) && ((length row.resource_fork == 0) && not row.filed))) (bit_and row.attributes file_attributes == row.attributes) ≡ true
         → cond d ((bit_and row.attributes dir_attributes == row.attributes) && ((length row.data_fork == 0) && ((length row.resource_fork == 0) && true))) (bit_and row.attributes file_attributes == row.attributes) ≡ true
@@ -50,7 +52,7 @@ copy-formed target name file good h = unfiled-formed (at_place target name file)
 
 pub formed-name : (row : Row) → is_formed row ≡ true → name_fault row.name ≡ None
 formed-name row h =
-    let e = and_parts (is_named row) _ h in
+    let e = and_parts (is_named row) _ (and_parts (has_fit_privileges row.dir row.privileges) _ h).1 in
     none-is (name_fault row.name) (and_parts (is_none (name_fault row.name)) (length row.finder == 32) e.0).0
   where
     none-is : {A : Type 0} (o : Option A) → is_none o ≡ true → o ≡ None

@@ -12,7 +12,7 @@ use Rattle.volume_spec.proofs.Trees.{TreeParts, KeepsPlace, KeepsTree, keeps-tre
 use Rattle.volume_spec.specs.EditLaws.{MayCome}
 use Rattle.volume_spec.specs.Edits.{is_taken, is_below, has_children, with_changed, change_at, at_place, changed_at, with_row, without_node, with_moved, named, renamed}
 use Rattle.afp_base.specs.Apart.{are_apart}
-use Rattle.volume_spec.specs.SoundVolume.{IsSoundVolume, is_tree, has_apart_names, has_noted_nodes, keeps_limits, is_formed_volume, is_in_order, is_formed, is_named, file_attributes, dir_attributes}
+use Rattle.volume_spec.specs.SoundVolume.{IsSoundVolume, is_tree, has_apart_names, has_noted_nodes, keeps_limits, is_formed_volume, is_in_order, is_formed, is_named, file_attributes, dir_attributes, has_fit_privileges}
 use Rattle.volume_spec.specs.VolumeState.{Row, VolumeState, root_id}
 use Rattle.volume_spec.specs.Walk.{has_directory, row_at}
 use Rattle.afp_base.proofs.ListFacts.{none-all}
@@ -83,8 +83,11 @@ sound-without v id other childless s =
 pub renamed-formed : (parent : ℕ) (name : List ℕ) → name_fault name ≡ None → (row : Row) → is_formed row ≡ true → is_formed (at_place parent name row) ≡ true
 renamed-formed parent name good row h =
     let form : Bool = cond row.dir ((bit_and row.attributes dir_attributes == row.attributes) && ((length row.data_fork == 0) && ((length row.resource_fork == 0) && not row.filed))) (bit_and row.attributes file_attributes == row.attributes) in
-    let e : (is_named row ≡ true) × (form ≡ true) = and_parts (is_named row) form h in
-    and_from (is_named (at_place parent name row)) form (and_from (is_none (name_fault name)) (length row.finder == 32) (ap is_none good) (and_parts (is_none (name_fault row.name)) (length row.finder == 32) e.0).1) e.1
+    let fit : Bool = has_fit_privileges row.dir row.privileges in
+    let both = and_parts fit (is_named row && form) h in
+    let e : (is_named row ≡ true) × (form ≡ true) = and_parts (is_named row) form both.1 in
+    and_from fit (is_named (at_place parent name row) && form) both.0
+    (and_from (is_named (at_place parent name row)) form (and_from (is_none (name_fault name)) (length row.finder == 32) (ap is_none good) (and_parts (is_none (name_fault row.name)) (length row.finder == 32) e.0).1) e.1)
 
 pub sound-moved : (v : VolumeState) (id target : ℕ) (name : List ℕ) → (id == root_id) ≡ false → has_directory v.rows target ≡ true → is_below v.rows (length v.rows) id target ≡ false
     → is_taken v.rows id target name ≡ false → name_fault name ≡ None → IsSoundVolume v → IsSoundVolume (with_moved id target name v)

@@ -14,7 +14,7 @@ use Rattle.volume_spec.proofs.Trees.{TreeParts, KeepsPlace, tree-parts, tree-who
 use Rattle.volume_spec.specs.Edits.{with_changed, change_at, put, with_forks_of, exchanged}
 use Rattle.afp_base.specs.Apart.{are_apart}
 use Rattle.afp_base.specs.Limits.{most_fork_bytes}
-use Rattle.volume_spec.specs.SoundVolume.{is_named, dir_attributes, file_attributes, TakesRow, row_bytes, IsSoundVolume, has_apart_names, is_formed, fork_bytes, most_nodes}
+use Rattle.volume_spec.specs.SoundVolume.{is_named, dir_attributes, file_attributes, TakesRow, row_bytes, IsSoundVolume, has_apart_names, is_formed, fork_bytes, most_nodes, has_fit_privileges}
 use Rattle.volume_spec.specs.VolumeState.{Row, VolumeState}
 use Rattle.volume_spec.specs.Walk.{row_at}
 use Rattle.afp_base.proofs.ListFacts.{find-all, find-passes, length-mapped, none-all}
@@ -72,8 +72,8 @@ forks-formed from to file h = go to.dir file h
     rest : Row → Bool
     rest row = (bit_and row.attributes dir_attributes == row.attributes) && ((length row.data_fork == 0) && ((length row.resource_fork == 0) && not row.filed))
 
-    go : (dir : Bool) → dir ≡ false → (is_named to && cond dir (rest to) (bit_and to.attributes file_attributes == to.attributes)) ≡ true
-        → (is_named to && cond dir (rest (with_forks_of from to)) (bit_and to.attributes file_attributes == to.attributes)) ≡ true
+    go : (dir : Bool) → dir ≡ false → (has_fit_privileges dir to.privileges && (is_named to && cond dir (rest to) (bit_and to.attributes file_attributes == to.attributes))) ≡ true
+        → (has_fit_privileges dir to.privileges && (is_named to && cond dir (rest (with_forks_of from to)) (bit_and to.attributes file_attributes == to.attributes))) ≡ true
     go true is h = absurd (cc)
     go false is h = h
 

@@ -10,7 +10,7 @@ use Rattle.afp_bitmap.specs.Bits.{is_asked}
 use Rattle.afp_names.specs.Name.{name_fault}
 use Rattle.volume_spec.proofs.SoundEdits.{KeepsRow}
 use Rattle.volume_spec.specs.SetFileDirParms.{Settings, has_sized_finder, set_fields, asked_bytes, is_short_tail, field_in, settings_in, attributes_by, with_settings}
-use Rattle.volume_spec.specs.SoundVolume.{is_formed, is_named, file_attributes, dir_attributes}
+use Rattle.volume_spec.specs.SoundVolume.{is_formed, is_named, file_attributes, dir_attributes, has_fit_privileges}
 use Rattle.volume_spec.specs.VolumeState.{Row}
 
 masked : (mask word : ℕ) → bit_and (bit_and mask word) mask ≡ bit_and mask word
@@ -50,11 +50,14 @@ settings-keep s sized = record {
     formed : (row : Row) → is_formed row ≡ true → is_formed (with_settings s row) ≡ true
     formed row h =
         let rest : Bool = (length row.data_fork == 0) && ((length row.resource_fork == 0) && not row.filed) in
-        let e = and_parts (is_named row) (may-have row.dir rest row.attributes) h in
+        let fit : Bool = has_fit_privileges row.dir row.privileges in
+        let both = and_parts fit (is_named row && may-have row.dir rest row.attributes) h in
+        let e = and_parts (is_named row) (may-have row.dir rest row.attributes) both.1 in
         let n = and_parts (is_none (name_fault row.name)) (length row.finder == 32) e.0 in
-        and_from (is_named (with_settings s row)) (may-have row.dir rest (with_settings s row).attributes)
+        and_from fit (is_named (with_settings s row) && may-have row.dir rest (with_settings s row).attributes) both.0
+        (and_from (is_named (with_settings s row)) (may-have row.dir rest (with_settings s row).attributes)
         (and_from (is_none (name_fault row.name)) (length (unwrap_or s.finder row.finder) == 32) n.0 (some-sized s.finder row.finder sized n.1))
-        (some-may-have row.dir rest s.attributes row.attributes e.1)
+        (some-may-have row.dir rest s.attributes row.attributes e.1))
 
 -- where eight fields are there, of which the fifth has 32 bytes, so many bytes are behind the four before it
 room : (a b c d e f g h n : ℕ) → e ≡ 32 → 0 + a + b + c + d + e + f + g + h ≤ n → 32 ≤ n - (0 + a + b + c + d)

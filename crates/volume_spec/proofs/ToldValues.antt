@@ -31,7 +31,7 @@ use Rattle.volume_spec.specs.GetVolParms.{free_bytes, volume_values}
 use Rattle.volume_spec.specs.Listing.{children}
 use Rattle.volume_spec.specs.NodeValues.{has_open_fork, told_attributes, file_values, dir_values, bits_of, node_values}
 use Rattle.afp_base.specs.Limits.{most_fork_bytes}
-use Rattle.volume_spec.specs.SoundVolume.{IsSoundVolume, is_formed, is_named, fork_bytes, row_bytes, is_in_place, leads_to_root}
+use Rattle.volume_spec.specs.SoundVolume.{IsSoundVolume, is_formed, is_named, fork_bytes, row_bytes, is_in_place, leads_to_root, has_fit_privileges}
 use Rattle.volume_spec.specs.TypedVolume.{is_date, is_typed_row, is_typed_volume}
 use Rattle.volume_spec.specs.VolumeState.{Row, VolumeState, root_id, root_parent, first_id}
 use Rattle.volume_spec.specs.Walk.{found, has_directory, row_at}
@@ -93,7 +93,7 @@ bytes-within p (x ∷ xs) row h =
 
 formed-short : (row : Row) → is_formed row ≡ true → length row.name < 256
 formed-short row formed =
-    let e = and_parts (is_none (name_fault row.name)) (length row.finder == 32) (and_parts (is_named row) _ formed).0 in
+    let e = and_parts (is_none (name_fault row.name)) (length row.finder == 32) (and_parts (is_named row) _ (and_parts (has_fit_privileges row.dir row.privileges) _ formed).1).0 in
     let named = (name_fault-parts row.name (none_from_is_none (name_fault row.name) e.0)).1 in
     omega arith
 
@@ -103,7 +103,7 @@ row-facts v id row at_id s t =
     let is : Row → Bool = λ (r : Row). r.id == id in
     let typed : TypedRow row = row-parts row (find-all is is_typed_row v.rows row at_id (typed-parts v t).rows) in
     let formed : is_formed row ≡ true = find-all is is_formed v.rows row at_id (formed-parts v s.formed).rows in
-    let e = and_parts (is_none (name_fault row.name)) (length row.finder == 32) (and_parts (is_named row) _ formed).0 in
+    let e = and_parts (is_none (name_fault row.name)) (length row.finder == 32) (and_parts (is_named row) _ (and_parts (has_fit_privileges row.dir row.privileges) _ formed).1).0 in
     let limits : LimitParts v = limit-parts v s.limits in
     let all : fork_bytes v.rows ≤ most_fork_bytes = limits.bytes in
     let bytes : row_bytes row ≤ fork_bytes v.rows = bytes-within is v.rows row at_id in

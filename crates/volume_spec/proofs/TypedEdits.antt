@@ -11,8 +11,8 @@ use Rattle.volume_spec.specs.Edits.{with_changed, change_at, at_place, changed_a
 use Rattle.volume_spec.specs.Parms.{date_in}
 use Rattle.volume_spec.specs.SetFileDirParms.{Settings, set_fields, asked_bytes, field_in, settings_in, attributes_by, with_settings}
 use Rattle.volume_spec.specs.SoundVolume.{file_attributes, dir_attributes, last_next_id}
-use Rattle.volume_spec.specs.TypedVolume.{is_byte, is_word, is_long, are_bytes, is_date, is_typed_row, is_typed_comment, is_typed_icon, is_typed_appl, is_typed_volume}
-use Rattle.volume_spec.specs.VolumeState.{Row, Comment, Appl, VolumeState}
+use Rattle.volume_spec.specs.TypedVolume.{is_byte, is_word, is_long, are_bytes, is_date, is_typed_row, is_typed_comment, is_typed_icon, is_typed_appl, is_typed_volume, are_typed}
+use Rattle.volume_spec.specs.VolumeState.{Row, Comment, Appl, VolumeState, guest, new_privileges}
 use Rattle.volume_spec.specs.Walk.{has_directory}
 use Rattle.afp_base.proofs.ListFacts.{all-filter, all-map-where, all-snoc, any-at}
 
@@ -25,6 +25,7 @@ pub record TypedRow (row : Row) : Type 0 where
   pub modified : is_date row.modified ≡ true
   pub backup : is_date row.backup ≡ true
   pub finder : are_bytes row.finder ≡ true
+  pub privileges : are_typed row.privileges ≡ true
   pub name : are_bytes row.name ≡ true
   pub data_fork : are_bytes row.data_fork ≡ true
   pub resource_fork : are_bytes row.resource_fork ≡ true
@@ -38,9 +39,10 @@ row-parts row h =
     let e = and_parts (is_date row.modified) _ d.1 in
     let f = and_parts (is_date row.backup) _ e.1 in
     let g = and_parts (are_bytes row.finder) _ f.1 in
-    let i = and_parts (are_bytes row.name) _ g.1 in
+    let p = and_parts (are_typed row.privileges) _ g.1 in
+    let i = and_parts (are_bytes row.name) _ p.1 in
     let j = and_parts (are_bytes row.data_fork) (are_bytes row.resource_fork) i.1 in
-    record { id = a.0; parent = b.0; attributes = c.0; created = d.0; modified = e.0; backup = f.0; finder = g.0; name = i.0; data_fork = j.0; resource_fork = j.1 }
+    record { id = a.0; parent = b.0; attributes = c.0; created = d.0; modified = e.0; backup = f.0; finder = g.0; privileges = p.0; name = i.0; data_fork = j.0; resource_fork = j.1 }
 
 pub row-whole : (row : Row) → TypedRow row → is_typed_row row ≡ true
 row-whole row t =
@@ -51,8 +53,14 @@ row-whole row t =
     (and_from (is_date row.modified) _ t.modified
     (and_from (is_date row.backup) _ t.backup
     (and_from (are_bytes row.finder) _ t.finder
+    (and_from (are_typed row.privileges) _ t.privileges
     (and_from (are_bytes row.name) _ t.name
-    (and_from (are_bytes row.data_fork) (are_bytes row.resource_fork) t.data_fork t.resource_fork))))))))
+    (and_from (are_bytes row.data_fork) (are_bytes row.resource_fork) t.data_fork t.resource_fork)))))))))
+
+-- the owner and the group of a new directory or file
+pub new-typed : (dir : Bool) → are_typed (new_privileges dir guest) ≡ true
+new-typed true = refl
+new-typed false = refl
 
 -- a volume's numbers, each list apart
 pub record TypedParts (v : VolumeState) : Type 0 where
@@ -119,7 +127,7 @@ typed-come v row typed left t = record {
   modified = t.modified;
   backup = t.backup;
   next = le-leb (v.next_id + 1) 4294967296 (omega arith);
-  rows = all-snoc is_typed_row v.rows new t.rows (row-whole new (record { id = lt-ltb v.next_id 4294967296 left; parent = r.parent; attributes = r.attributes; created = r.created; modified = r.modified; backup = r.backup; finder = r.finder; name = r.name; data_fork = r.data_fork; resource_fork = r.resource_fork }));
+  rows = all-snoc is_typed_row v.rows new t.rows (row-whole new (record { id = lt-ltb v.next_id 4294967296 left; parent = r.parent; attributes = r.attributes; created = r.created; modified = r.modified; backup = r.backup; finder = r.finder; privileges = r.privileges; name = r.name; data_fork = r.data_fork; resource_fork = r.resource_fork }));
   comments = t.comments;
   icons = t.icons;
   appls = t.appls;
@@ -150,12 +158,12 @@ typed-without v id t = record {
 pub typed-moved : (v : VolumeState) (id parent : ℕ) (name : List ℕ) → is_long parent ≡ true → are_bytes name ≡ true → TypedParts v → TypedParts (with_moved id parent name v)
 typed-moved v id parent name long bytes t = typed-at v id (at_place parent name) (λ row h.
     let r = row-parts row h in
-    row-whole (at_place parent name row) (record { id = r.id; parent = long; attributes = r.attributes; created = r.created; modified = r.modified; backup = r.backup; finder = r.finder; name = bytes; data_fork = r.data_fork; resource_fork = r.resource_fork })) t
+    row-whole (at_place parent name row) (record { id = r.id; parent = long; attributes = r.attributes; created = r.created; modified = r.modified; backup = r.backup; finder = r.finder; privileges = r.privileges; name = bytes; data_fork = r.data_fork; resource_fork = r.resource_fork })) t
 
 pub typed-renamed : (v : VolumeState) (id : ℕ) (name : List ℕ) → are_bytes name ≡ true → TypedParts v → TypedParts (renamed id name v)
 typed-renamed v id name bytes t = typed-at v id (named name) (λ row h.
     let r = row-parts row h in
-    row-whole (named name row) (record { id = r.id; parent = r.parent; attributes = r.attributes; created = r.created; modified = r.modified; backup = r.backup; finder = r.finder; name = bytes; data_fork = r.data_fork; resource_fork = r.resource_fork })) t
+    row-whole (named name row) (record { id = r.id; parent = r.parent; attributes = r.attributes; created = r.created; modified = r.modified; backup = r.backup; finder = r.finder; privileges = r.privileges; name = bytes; data_fork = r.data_fork; resource_fork = r.resource_fork })) t
 
 -- what is set
 
@@ -217,6 +225,7 @@ settings-typed s t row h =
       modified = either is_date s.modified row.modified t.modified r.modified;
       backup = either is_date s.backup row.backup t.backup r.backup;
       finder = either are_bytes s.finder row.finder t.finder r.finder;
+      privileges = r.privileges;
       name = r.name;
       data_fork = r.data_fork;
       resource_fork = r.resource_fork;

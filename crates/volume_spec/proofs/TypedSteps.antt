@@ -49,7 +49,7 @@ fresh-typed name now good moment =
       modified = moment;
       backup = refl;
       next = refl;
-      rows = and_from (is_typed_row root) true (row-whole root (record { id = refl; parent = refl; attributes = refl; created = moment; modified = moment; backup = refl; finder = refl; name = bytes; data_fork = refl; resource_fork = refl })) refl;
+      rows = and_from (is_typed_row root) true (row-whole root (record { id = refl; parent = refl; attributes = refl; created = moment; modified = moment; backup = refl; finder = refl; privileges = refl; name = bytes; data_fork = refl; resource_fork = refl })) refl;
       comments = refl;
       icons = refl;
       appls = refl;

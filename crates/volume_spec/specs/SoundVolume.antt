@@ -5,7 +5,7 @@ use Rattle.std.specs.List.{list_all, list_any}
 use Rattle.afp_base.specs.Apart.{are_apart}
 use Rattle.afp_names.specs.Name.{name_fault, name_key}
 use Rattle.volume_spec.specs.Order.{rises, rises_from}
-use Rattle.volume_spec.specs.VolumeState.{Row, Comment, Icon, Appl, VolumeState, finder_size, root_id, root_parent, first_id}
+use Rattle.volume_spec.specs.VolumeState.{Row, Privileges, Comment, Icon, Appl, VolumeState, all_rights, finder_size, root_id, root_parent, first_id}
 
 -- whether some row has this id
 abbrev pub has_node : List Row → ℕ → Bool
@@ -53,11 +53,21 @@ dir_attributes = 0x01c5
 abbrev pub is_named : Row → Bool
 is_named row = is_none (name_fault row.name) && (length row.finder == finder_size)
 
--- attributes that can be set; a directory has no bytes and is not filed
+-- a rights byte is at most 7; a file's owner, group and rights are 0
+abbrev pub are_rights : Privileges → Bool
+are_rights p = nat_le p.everyone_rights all_rights && (nat_le p.group_rights all_rights && nat_le p.owner_rights all_rights)
+
+abbrev pub are_none : Privileges → Bool
+are_none p = ((p.owner == 0) && (p.group == 0)) && ((p.everyone_rights == 0) && ((p.group_rights == 0) && (p.owner_rights == 0)))
+
+abbrev pub has_fit_privileges : Bool → Privileges → Bool
+has_fit_privileges dir p = if dir then are_rights p else are_none p
+
+-- owner, group and rights as its kind has them; attributes that can be set; a directory has no bytes and is not filed
 abbrev pub is_formed : Row → Bool
-is_formed row = is_named row &&
+is_formed row = has_fit_privileges row.dir row.privileges && (is_named row &&
     (if row.dir then (bit_and row.attributes dir_attributes == row.attributes) && ((length row.data_fork == 0) && ((length row.resource_fork == 0) && not row.filed))
-    else (bit_and row.attributes file_attributes == row.attributes))
+    else (bit_and row.attributes file_attributes == row.attributes)))
 
 -- the size of a creator and of a type (Inside Macintosh, "Finder Interface")
 abbrev pub code_size : ℕ

@@ -3,7 +3,7 @@ use Rattle.std.specs.Prelude.{ℕ, ℤ, pos, negsuc, nat_le, nat_lt, Bool, ◌&&
 use Rattle.std.specs.List.{list_all}
 use Rattle.afp_base.specs.Limits.{last_moment}
 use Rattle.volume_spec.specs.SoundVolume.{last_next_id}
-use Rattle.volume_spec.specs.VolumeState.{Appl, Comment, Icon, Row, VolumeState}
+use Rattle.volume_spec.specs.VolumeState.{Appl, Comment, Icon, Privileges, Row, VolumeState}
 
 -- numbers of one byte, of two, of four, and of eight
 abbrev pub is_byte : ℕ → Bool
@@ -26,6 +26,10 @@ abbrev pub is_date : ℤ → Bool
 is_date (pos n) = nat_le n last_moment
 is_date (negsuc n) = nat_le n last_moment
 
+-- an owner and a group; what the rights may be is a matter of soundness
+abbrev pub are_typed : Privileges → Bool
+are_typed p = is_long p.owner && is_long p.group
+
 -- the fields of a file or directory, of a comment, of an icon, and of an APPL mapping
 abbrev pub is_typed_row : Row → Bool
 is_typed_row row =
@@ -36,9 +40,10 @@ is_typed_row row =
     && (is_date row.modified
     && (is_date row.backup
     && (are_bytes row.finder
+    && (are_typed row.privileges
     && (are_bytes row.name
     && (are_bytes row.data_fork
-    && are_bytes row.resource_fork))))))))
+    && are_bytes row.resource_fork)))))))))
 
 abbrev pub is_typed_comment : Comment → Bool
 is_typed_comment comment = is_long comment.node && are_bytes comment.text

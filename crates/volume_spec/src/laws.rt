@@ -163,9 +163,15 @@ pub fn forks_do_not_matter()
     ensures gone { laws.GoneBare }
 {}
 
-/// What is told of a volume that nobody has used, and what a tail sets, in numbers that were worked by hand.
+/// What is told of a volume that nobody has used, who owns its root, what rights there are, and what a tail sets, in numbers that were worked by hand.
 pub fn worked_examples_hold()
     ensures volume { worked.FreshVolumeIsTold }
+    ensures root { worked.RootIsTheGuests }
+    ensures new_file { worked.NewFileIsNobodys }
+    ensures rights { worked.RightsAreInOrder }
+    ensures directory_rights { worked.DirectoryHasRights }
+    ensures file_rights { worked.FileHasNoRights }
+    ensures three_bits { worked.RightsAreThreeBits }
     ensures tail { worked.TailIsRead }
     ensures long_enough { worked.TailIsLongEnough }
     ensures too_short { worked.TailIsTooShort }

@@ -1,7 +1,7 @@
 //! The numbers of a volume that code above goes by.
 ghost use Rattle.std.specs.Prelude.{◌≡◌};
 ghost use Rattle.volume_spec.specs.SoundVolume.{dir_attributes, file_attributes, last_next_id, longest_comment, longest_icon, most_appls, most_icons, most_nodes};
-ghost use Rattle.volume_spec.specs.VolumeState.{first_id, root_id, root_parent};
+ghost use Rattle.volume_spec.specs.VolumeState.{all_rights, first_id, guest, only_group, root_id, root_parent};
 
 /// The id of the root (AFP Reference, "Directory IDs").
 pub const ROOT_ID: u32 = 2;
@@ -23,6 +23,15 @@ pub const FILE_ATTRIBUTES: u16 = 0x01e5;
 
 /// The attributes that a call may set of a directory (AFP Reference, "Directory attributes").
 pub const DIRECTORY_ATTRIBUTES: u16 = 0x01c5;
+
+/// The id of the user who logged in without a name, who owns the root of a fresh volume.
+pub const GUEST: u32 = 500;
+
+/// The id of the one group, which is each user's.
+pub const ONLY_GROUP: u32 = 500;
+
+/// Search, read and write (AFP Reference, "Access rights").
+pub const ALL_RIGHTS: u8 = 7;
 
 /// The most nodes of a volume.
 pub const MOST_NODES: usize = 100_000;
@@ -47,6 +56,9 @@ pub fn limits_are_told()
     ensures last { LAST_NEXT_ID ≡ last_next_id }
     ensures files { FILE_ATTRIBUTES ≡ file_attributes }
     ensures directories { DIRECTORY_ATTRIBUTES ≡ dir_attributes }
+    ensures guest { GUEST ≡ guest }
+    ensures group { ONLY_GROUP ≡ only_group }
+    ensures rights { ALL_RIGHTS ≡ all_rights }
     ensures nodes { MOST_NODES ≡ most_nodes }
     ensures icons { MOST_ICONS ≡ most_icons }
     ensures appls { MOST_APPLS ≡ most_appls }
