@@ -7,6 +7,7 @@ use afp_names::Name;
 use node_rows::{Node, Rows};
 use std::alloc::Global;
 use volume_spec::laws::tables_tell_the_tree;
+use volume_spec::limits::{ALL_RIGHTS, GUEST, ONLY_GROUP};
 
 /// The root directory.
 pub const ROOT: NodeId = NodeId(2);
@@ -27,6 +28,9 @@ pub fn node(id: NodeId, parent: NodeId, name: Name) -> Node
         backup: -1,
         finder: [0; 32],
         filed: false,
+        owner: GUEST,
+        group: ONLY_GROUP,
+        rights: [ALL_RIGHTS; 3],
         name,
     }
 }

@@ -1,6 +1,6 @@
 -- What is kept of a volume's nodes (AFP Reference, "Catalog node IDs"; the form is this profile's).
 use Rattle.std.specs.Prelude.{ℕ, nat_lt, List, [], ◌∷◌, if◌then◌else◌}
-use Rattle.volume_spec.specs.VolumeState.{Row}
+use Rattle.volume_spec.specs.VolumeState.{Row, privileges_of}
 use Rattle.node_rows.specs.declared.node.Marks.{Marks}
 
 -- a volume's rows, with no bytes in their forks; the next id; and room for so many rows more
@@ -23,4 +23,5 @@ marked marks row = record row {
   backup = marks.backup;
   finder = marks.finder;
   filed = marks.filed;
+  privileges = privileges_of marks.owner marks.group marks.rights;
 }

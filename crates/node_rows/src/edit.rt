@@ -67,6 +67,10 @@ impl Node {
         let finder = marks.finder;
         self.finder = finder;
         self.filed = marks.filed;
+        self.owner = marks.owner;
+        self.group = marks.group;
+        let rights = marks.rights;
+        self.rights = rights;
     }
 
     fn put_at(&mut self, parent: NodeId, name: Name)

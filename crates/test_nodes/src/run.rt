@@ -94,6 +94,9 @@ fn marks(attributes: u32) -> Marks {
         backup: 3,
         finder: [7; 32],
         filed: true,
+        owner: 501,
+        group: 502,
+        rights: [1, 2, 4],
     }
 }
 
@@ -104,6 +107,11 @@ fn is_marked(node: &Node) -> bool {
         && node.modified == 2
         && node.backup == 3
         && node.finder[31] == 7
+        && node.owner == 501
+        && node.group == 502
+        && node.rights[0] == 1
+        && node.rights[1] == 2
+        && node.rights[2] == 4
 }
 
 /// What is told of the node of an id: its attributes, whether it has those marks or that name, or its parent.

@@ -8,6 +8,7 @@ use afp_names::Name;
 use node_rows::{Node, Rows};
 use std::alloc::Global;
 use volume_spec::laws::tables_tell_the_tree;
+use volume_spec::limits::{ALL_RIGHTS, GUEST, ONLY_GROUP};
 
 /// A directory of no attributes.
 fn node(id: NodeId, parent: NodeId, name: Name) -> Node
@@ -25,6 +26,9 @@ fn node(id: NodeId, parent: NodeId, name: Name) -> Node
         backup: -1,
         finder: [0; 32],
         filed: false,
+        owner: GUEST,
+        group: ONLY_GROUP,
+        rights: [ALL_RIGHTS; 3],
         name,
     }
 }

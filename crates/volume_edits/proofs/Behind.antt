@@ -9,7 +9,7 @@ use Rattle.volume_spec.specs.EditLaws.{EditKeepsSound, MayEdit, MayEditAll}
 use Rattle.volume_spec.specs.Edits.{bare, exchanged_at}
 use Rattle.volume_spec.specs.ForkEffect.{fork_of}
 use Rattle.volume_spec.specs.OpenFork.{file_of}
-use Rattle.volume_spec.specs.SoundVolume.{IsSoundVolume, is_formed, is_named, last_next_id}
+use Rattle.volume_spec.specs.SoundVolume.{IsSoundVolume, has_fit_privileges, is_formed, is_named, last_next_id}
 use Rattle.volume_spec.specs.VolumeState.{Row, VolumeState}
 use Rattle.volume_spec.specs.Walk.{row_at}
 use Rattle.volume_tree.specs.Shown.{fork_at}
@@ -208,7 +208,7 @@ whole (Some row) node kept resource formed is data_is resource_is =
     let n : node ≡ bare row = cc in
     (λ i. Some (record (n i) { data_fork = data_is i; resource_fork = resource_is i })) ∙ elim (cases_Bool row.dir) [
       | inl dir ↦
-          (let parts = and_parts (is_named row) _ (formed row refl) in
+          (let parts = and_parts (is_named row) _ (and_parts (has_fit_privileges row.dir row.privileges) _ (formed row refl)).1 in
           let of_dir = sym (cond-true row.dir _ _ dir) ∙ parts.1 in
           let forks = (and_parts _ _ of_dir).1 in
           let data_none : [] ≡ row.data_fork = sym (nothing-there row.data_fork (and_parts _ _ forks).0) in

@@ -94,6 +94,9 @@ fn node_copied(node: &Node, parent: NodeId, name: Name) -> Node
         backup: NEVER,
         finder: node.finder,
         filed: false,
+        owner: node.owner,
+        group: node.group,
+        rights: node.rights,
         name,
     }
 }

@@ -7,27 +7,7 @@ use afp_names::Name;
 use fork_bytes::Fork;
 use node_rows::Node;
 use std::alloc::Global;
-use volume_spec::limits::NEVER;
 use volume_tree::NodeWithForks;
-
-/// A new file or directory of no attributes (AFP Reference, "FPCreateFile", "FPCreateDir").
-fn new_node(dir: bool, id: NodeId, parent: NodeId, name: Name, now: Moment) -> Node
-    ensures { result ≡ new_row dir id.0 parent.0 name now }
-{
-    let date = now.seconds() as i32;
-    Node {
-        id,
-        parent,
-        dir,
-        attributes: 0,
-        created: date,
-        modified: date,
-        backup: NEVER,
-        finder: [0; 32],
-        filed: false,
-        name,
-    }
-}
 
 /// A new file or directory, with forks of no bytes. The one error is want of memory.
 pub(crate) fn new_with_forks(
@@ -41,6 +21,6 @@ pub(crate) fn new_with_forks(
     ensures { IfOk result (λ new. new ≡ new_row dir id.0 parent.0 name.now now) }
 {
     let name = name.copy(alloc)?;
-    let node = new_node(dir, id, parent, name, now);
+    let node = Node::new(dir, id, parent, name, now);
     NodeWithForks::new(alloc, node, Fork::new(alloc), Fork::new(alloc))
 }

@@ -33,11 +33,11 @@ marked-same rows id marks change s rising found same = changed-same rows id (mar
 
 pub filed-same : (rows : List Row) (id : ℕ) (filed : Bool) (marks new : Marks) → has_rising_ids rows ≡ true → IsMarks (Some marks) (row_at rows id) → new ≡ record marks { filed = filed } → with_changed id (marked new) rows ≡ with_changed id (filed_as filed) rows
 filed-same rows id filed marks new rising found is =
-    marked-same rows id new (filed_as filed) found.0 rising found.1 (ap (λ (m : Marks). marked m found.0) (is ∙ ap (λ (m : Marks). let n : Marks = record m { filed = filed } in n) found.2))
+    marked-same rows id new (filed_as filed) found.0 rising found.1 (ap (λ (m : Marks). marked m found.0) is ∙ ap (filed_as filed) found.2)
 
 pub dated-same : (rows : List Row) (id : ℕ) (date : ℤ) (marks new : Marks) → has_rising_ids rows ≡ true → IsMarks (Some marks) (row_at rows id) → new ≡ record marks { modified = date } → with_changed id (marked new) rows ≡ with_changed id (modified_on date) rows
 dated-same rows id date marks new rising found is =
-    marked-same rows id new (modified_on date) found.0 rising found.1 (ap (λ (m : Marks). marked m found.0) (is ∙ ap (λ (m : Marks). let n : Marks = record m { modified = date } in n) found.2))
+    marked-same rows id new (modified_on date) found.0 rising found.1 (ap (λ (m : Marks). marked m found.0) is ∙ ap (modified_on date) found.2)
 
 pub set-same : (rows : List Row) (id : ℕ) (settings : Settings) (marks : Marks) → has_rising_ids rows ≡ true → IsMarksSet settings (Some marks) (row_at rows id) → with_changed id (marked marks) rows ≡ with_changed id (with_settings settings) rows
 set-same rows id settings marks rising found = marked-same rows id marks (with_settings settings) found.0 rising found.1 found.2

@@ -10,7 +10,7 @@ use Rattle.afp_base.specs.Apart.{are_apart}
 use Rattle.volume_spec.specs.Shared.{name_of}
 use Rattle.volume_spec.specs.Order.{rises_from}
 use Rattle.afp_base.specs.Limits.{most_fork_bytes}
-use Rattle.volume_spec.specs.SoundVolume.{IsSoundVolume, are_named_alike, fork_bytes, has_apart_names, has_node, has_rising_ids, is_formed, is_in_place, is_named, dir_attributes, file_attributes, row_bytes, last_next_id}
+use Rattle.volume_spec.specs.SoundVolume.{IsSoundVolume, are_named_alike, fork_bytes, has_apart_names, has_fit_privileges, has_node, has_rising_ids, is_formed, is_in_place, is_named, dir_attributes, file_attributes, row_bytes, last_next_id}
 use Rattle.volume_spec.specs.VolumeState.{Row, VolumeState, root_id, first_id}
 use Rattle.volume_spec.specs.Walk.{row_at}
 use Rattle.volume_spec.proofs.Formed.{formed-parts, limit-parts}
@@ -148,7 +148,8 @@ empty-dir l formed dir =
     let attributes : ℕ = l.node.attributes in
     let as_dir : Bool = (bit_and attributes dir_attributes == attributes) && ((length bytes == 0) && ((length resource == 0) && not l.node.filed)) in
     let as_file : Bool = bit_and attributes file_attributes == attributes in
-    let a = and_parts (is_named (loaded_row l)) (cond l.node.dir as_dir as_file) formed in
+    let f = and_parts (has_fit_privileges l.node.dir l.node.privileges) (is_named (loaded_row l) && cond l.node.dir as_dir as_file) formed in
+    let a = and_parts (is_named (loaded_row l)) (cond l.node.dir as_dir as_file) f.1 in
     let b = and_parts (bit_and attributes dir_attributes == attributes) ((length bytes == 0) && ((length resource == 0) && not l.node.filed)) (sym (cond-true l.node.dir as_dir as_file dir) ∙ a.1) in
     let d = and_parts (length bytes == 0) ((length resource == 0) && not l.node.filed) b.1 in
     let e = and_parts (length resource == 0) (not l.node.filed) d.1 in

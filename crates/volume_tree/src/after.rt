@@ -24,11 +24,11 @@ pub struct NodeAfter<'a> {
 
 impl<'a> Model for NodeAfter<'a> {
     ghost use Rattle.std.specs.Prelude.{[]};
-    ghost use Rattle.volume_spec.specs.VolumeState.{Row};
+    ghost use Rattle.volume_spec.specs.VolumeState.{Row, privileges_of};
 
     ghost Value = { Row };
 
-    ghost view = { λ a. record { id = a.id.0; parent = a.parent.0; dir = a.dir; attributes = a.marks.attributes; created = a.marks.created; modified = a.marks.modified; backup = a.marks.backup; finder = a.marks.finder; filed = a.marks.filed; name = a.name.now; data_fork = []; resource_fork = [] } };
+    ghost view = { λ a. record { id = a.id.0; parent = a.parent.0; dir = a.dir; attributes = a.marks.attributes; created = a.marks.created; modified = a.marks.modified; backup = a.marks.backup; finder = a.marks.finder; filed = a.marks.filed; privileges = privileges_of a.marks.owner a.marks.group a.marks.rights; name = a.name.now; data_fork = []; resource_fork = [] } };
 }
 
 impl<'a> NodeAfter<'a> {
@@ -40,14 +40,7 @@ impl<'a> NodeAfter<'a> {
             id: node.id,
             parent: node.parent,
             dir: node.dir,
-            marks: Marks {
-                attributes: node.attributes,
-                created: node.created,
-                modified: node.modified,
-                backup: node.backup,
-                finder: node.finder,
-                filed: node.filed,
-            },
+            marks: Marks::of(node),
             name: &node.name,
         }
     }

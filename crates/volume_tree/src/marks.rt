@@ -81,14 +81,7 @@ pub(crate) fn marks_at(rows: &Rows, id: NodeId) -> Option<Marks>
     ensures { IsMarks result (row_at rows.now.rows id.0) }
 {
     match rows.get(id) {
-        Some(node) => Some(Marks {
-            attributes: node.attributes,
-            created: node.created,
-            modified: node.modified,
-            backup: node.backup,
-            finder: node.finder,
-            filed: node.filed,
-        }),
+        Some(node) => Some(Marks::of(node)),
         None => None,
     }
 }

@@ -3,7 +3,6 @@ ghost use Rattle.std.specs.Prelude.{◌≡◌, pos, Some, None, unwrap_or, optio
 ghost use Rattle.volume_spec.specs.SetFileDirParms.{attributes_by, with_settings};
 ghost use Rattle.node_rows.specs.Kept.{marked};
 ghost use Rattle.volume_tree.specs.lemma.After.{marks_after};
-ghost use Rattle.volume_tree.specs.lemma.Kept.{marks_in};
 
 use afp_base::Moment;
 use node_rows::{Marks, Node};
@@ -53,7 +52,7 @@ impl Settings {
     pub(crate) fn marks(&self, node: &Node) -> Marks
         ensures { marked result node.now ≡ with_settings self.now node.now }
     {
-        self.marks_after(node.dir, marks_of(node))
+        self.marks_after(node.dir, Marks::of(node))
     }
 
     /// Marks with these settings, of a node of that kind.
@@ -65,20 +64,6 @@ impl Settings {
         let marks = with_modified(marks, self.modified);
         let marks = with_backup(marks, self.backup);
         with_finder(marks, self.finder)
-    }
-}
-
-/// The marks of a node.
-fn marks_of(node: &Node) -> Marks
-    ensures { result ≡ marks_in node.now }
-{
-    Marks {
-        attributes: node.attributes,
-        created: node.created,
-        modified: node.modified,
-        backup: node.backup,
-        finder: node.finder,
-        filed: node.filed,
     }
 }
 

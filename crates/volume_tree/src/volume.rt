@@ -4,7 +4,7 @@ ghost use Rattle.afp_names.specs.Name.{name_fault};
 ghost use Rattle.volume_spec.specs.DesktopLaws.{with_desktop};
 ghost use Rattle.volume_spec.specs.Edits.{bare, changed_at};
 ghost use Rattle.volume_spec.specs.SoundVolume.{IsSoundVolume, fork_bytes};
-ghost use Rattle.volume_spec.specs.VolumeState.{fresh_volume, new_row};
+ghost use Rattle.volume_spec.specs.VolumeState.{fresh_volume};
 ghost use Rattle.volume_spec.specs.Walk.{row_at};
 ghost use Rattle.volume_spec.specs.OpenFork.{file_of};
 ghost use Rattle.volume_tree.specs.Shown.{fork_at};
@@ -19,7 +19,7 @@ use sorted_map::SortedMap;
 use std::alloc::Global;
 use std::marker::Model;
 use volume_spec::laws::fresh_volumes_are_sound;
-use volume_spec::limits::{LAST_NEXT_ID, NEVER, ROOT_ID, ROOT_PARENT_ID};
+use volume_spec::limits::{LAST_NEXT_ID, ROOT_ID, ROOT_PARENT_ID};
 
 /// The id of the root directory, and that of its parent (AFP Reference, "Directory IDs").
 pub(crate) const ROOT: NodeId = NodeId(ROOT_ID);
@@ -50,25 +50,6 @@ impl Model for Volume {
     ghost view = { λ a. record { state = state_of a.name a.dates a.rows a.forks; spare = spare_of a.rows a.forks } };
 
     ghost invariant = { λ a. IsKeptVolume a.name a.dates a.rows a.forks a.used };
-}
-
-/// A new file or directory of no attributes (AFP Reference, "FPCreateFile", "FPCreateDir").
-pub(crate) fn new_node(dir: bool, id: NodeId, parent: NodeId, name: Name, now: Moment) -> Node
-    ensures { result ≡ new_row dir id.0 parent.0 name now }
-{
-    let date = now.seconds() as i32;
-    Node {
-        id,
-        parent,
-        dir,
-        attributes: 0,
-        created: date,
-        modified: date,
-        backup: NEVER,
-        finder: [0; 32],
-        filed: false,
-        name,
-    }
 }
 
 /// The name of this text.
@@ -111,7 +92,7 @@ impl Volume {
     {
         fresh_volumes_are_sound();
         let name = name_of(alloc, name)?;
-        let root = new_node(true, ROOT, ROOT_PARENT, name.copy(alloc)?, now);
+        let root = Node::new(true, ROOT, ROOT_PARENT, name.copy(alloc)?, now);
         let rows = Rows::new(alloc, root, 17)?;
         Ok(Volume {
             name,

@@ -12,4 +12,7 @@ marks_after s dir marks = record {
   backup = unwrap_or s.backup marks.backup;
   finder = unwrap_or s.finder marks.finder;
   filed = marks.filed;
+  owner = marks.owner;
+  group = marks.group;
+  rights = marks.rights;
 }

@@ -52,14 +52,10 @@ bytes_of (Some gone) forks = length (data_of (at nat_cmp forks gone.0)) + length
 abbrev pub at_gone : Option NodeId → ℕ → Option FileForks → Option FileForks
 at_gone gone id kept = if is_gone gone id then None else kept
 
--- the marks of a row
-abbrev pub marks_in : Row → Marks
-marks_in row = record { attributes = row.attributes; created = row.created; modified = row.modified; backup = row.backup; finder = row.finder; filed = row.filed }
-
 -- the marks are those of a row that was found
 abbrev pub IsMarks : Option Marks → Option Row → Type 0
 IsMarks None found = found ≡ None
-IsMarks (Some marks) found = (row : Row) × (found ≡ Some row) × (marks ≡ marks_in row)
+IsMarks (Some marks) found = (row : Row) × (found ≡ Some row) × (marked marks row ≡ row)
 
 -- the marks are those of a row that was found, with its settings
 abbrev pub IsMarksSet : Settings → Option Marks → Option Row → Type 0

@@ -7,14 +7,14 @@ use Rattle.volume_tree.proofs.volume.Volume.fresh.Goals as goal
 
 pub invariant_of-result : goal.invariant_of-result
 invariant_of-result c =
-    let root = c.new_node-root.ensures ∙ ap (λ name. new_row true 2 1 name c.args.now) (c.in_ok-copy.ensures ∙ c.in_ok-name.ensures) in
+    let root = c.new-root.ensures ∙ ap (λ name. new_row true 2 1 name c.args.now) (c.in_ok-copy.ensures ∙ c.in_ok-name.ensures) in
     subst (λ name. IsKeptVolume name c.new-2.result c.in_ok-rows.rows c.new-3.result 0) (sym c.in_ok-name.ensures)
-    (fresh-kept c.args.name.now c.args.now c.new-2.result c.in_ok-rows.rows c.new-3.result c.new_node-root.result c.requires c.new-2.ensures.created c.new-2.ensures.modified c.new-2.ensures.backup
+    (fresh-kept c.args.name.now c.args.now c.new-2.result c.in_ok-rows.rows c.new-3.result c.new-root.result c.requires c.new-2.ensures.created c.new-2.ensures.modified c.new-2.ensures.backup
     c.in_ok-rows.ensures.rows root c.in_ok-rows.ensures.next c.new-3.ensures)
 
 pub returns : goal.returns
 returns c =
-    let root = c.new_node-root.ensures ∙ ap (λ name. new_row true 2 1 name c.args.now) (c.in_ok-copy.ensures ∙ c.in_ok-name.ensures) in
+    let root = c.new-root.ensures ∙ ap (λ name. new_row true 2 1 name c.args.now) (c.in_ok-copy.ensures ∙ c.in_ok-name.ensures) in
     ap (λ name. state_of name c.new-2.result c.in_ok-rows.rows c.new-3.result) c.in_ok-name.ensures
-    ∙ fresh-state c.args.name.now c.args.now c.new-2.result c.in_ok-rows.rows c.new-3.result c.new_node-root.result c.new-2.ensures.created c.new-2.ensures.modified c.new-2.ensures.backup
+    ∙ fresh-state c.args.name.now c.args.now c.new-2.result c.in_ok-rows.rows c.new-3.result c.new-root.result c.new-2.ensures.created c.new-2.ensures.modified c.new-2.ensures.backup
     c.in_ok-rows.ensures.rows root c.in_ok-rows.ensures.next c.new-3.ensures
