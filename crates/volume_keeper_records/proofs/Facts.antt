@@ -1,23 +1,23 @@
 -- What is known of each table of whole tables.
 use Rattle.std.proofs.Common.{◌≡◌, ◌∙◌, ℕ, ◌≤◌, Bool, true, false, List, ◌++◌, map, length, refl, sym, ap, arith}
-use Rattle.std.specs.Prelude.{None, is_none, nat_le, nat_lt, ◌&&◌, ◌==◌, bytes_eq}
+use Rattle.std.specs.Prelude.{None, is_none, nat_le, nat_lt, ◌&&◌, ◌==◌, bytes_eq, unwrap_or}
 use Rattle.std.specs.List.{list_all}
 use Rattle.std.proofs.lemmas.Bool.{and_from, leb-true, lt-ltb}
 use Rattle.std.proofs.lemmas.List.Folds.{list_all-map}
-use Rattle.volume_spec.specs.VolumeState.{Comment, Appl}
-use Rattle.volume_spec.specs.SoundVolume.{is_comment, is_formed as is_formed_row, is_named}
+use Rattle.volume_spec.specs.VolumeState.{Comment, Appl, guest, new_privileges}
+use Rattle.volume_spec.specs.SoundVolume.{is_comment, is_formed as is_formed_row, is_named, has_fit_privileges}
 use Rattle.volume_spec.specs.TypedVolume.{is_typed_row, is_long, are_bytes, is_typed_comment, is_typed_appl}
 use Rattle.volume_keeper_records.specs.declared.rows.Node.{Node}
 use Rattle.volume_keeper_records.specs.declared.rows.ForkBlock.{ForkBlock}
 use Rattle.volume_keeper_records.specs.declared.rows.Reason.TheVariants.{Parent, Twin, Range, Limit}
 use Rattle.volume_keeper_records.specs.declared.rows.TableRow.{TableRow}
 use Rattle.volume_keeper_records.specs.declared.rows.TableRow.TheVariants as row
-use Rattle.volume_keeper_records.specs.Shape.{is_formed_record, is_formed_node, is_formed_block, is_formed_comment, is_formed_appl, bare_row, has_fit_forks, is_root_or_other}
+use Rattle.volume_keeper_records.specs.Shape.{is_formed_record, is_formed_block, is_formed_comment, is_formed_appl, bare_row, has_fit_forks, is_root_or_other, Label, is_sound_node}
 use Rattle.volume_keeper_records.specs.Records.{record_of}
 use Rattle.volume_keeper_records.specs.KeyOrder.{RisesByKey}
 use Rattle.volume_keeper_records.specs.Image.{Tables, rows_of}
 use Rattle.volume_keeper_records.specs.FirstBad.{first_of, lacks_parent, is_twin, is_out_of_range, passes_limit}
-use Rattle.volume_keeper_records.proofs.ReadBack.{node_parts}
+use Rattle.volume_keeper_records.proofs.ReadBack.{node_parts, sound_nodes}
 use Rattle.volume_keeper_records.proofs.Chains.{Chain}
 use Rattle.volume_keeper_records.proofs.RowOrder.{rows_ends, nodes_in_chain, comments_in_chain, icons_in_chain, appls_in_chain, blocks_in_chain, block_before, icon_before, appl_before, is_fit_block, is_fit_appl}
 use Rattle.volume_keeper_records.proofs.Whole.{IsWhole, is_clear}
@@ -115,9 +115,9 @@ fit_appl a f =
     and_from (is_long a.node) _ (left_true (is_long a.node) (is_long a.tag) typed) (right_true (is_typed_appl a) _ f)
 
 -- what stands behind the head, where its rows are formed and rise
-pub order_behind : (name : List ℕ) (t : Tables) → RisesByKey (map record_of (behind_head t)) → list_all (is_formed_record name) (behind_head t) ≡ true → InOrder t
-order_behind name t rises e =
-    let p : TableRow → Bool = is_formed_record name in
+pub order_behind : (label : Label) (t : Tables) → RisesByKey (map record_of (behind_head t)) → list_all (is_formed_record label) (behind_head t) ≡ true → InOrder t
+order_behind label t rises e =
+    let p : TableRow → Bool = is_formed_record label in
     let appls : List TableRow = map (λ x. row.Appl x) t.appls in
     let icons : List TableRow = map (λ x. row.Icon x) t.icons in
     let comments : List TableRow = map (λ x. row.Comment x) t.comments in
@@ -127,24 +127,24 @@ order_behind name t rises e =
     let two = rows_ends blocks (comments ++ (icons ++ appls)) one.1 in
     let three = rows_ends comments (icons ++ appls) two.1 in
     let four = rows_ends icons appls three.1 in
-    let f1 = all-ends (is_formed_record name) nodes (blocks ++ (comments ++ (icons ++ appls))) e in
-    let f2 = all-ends (is_formed_record name) blocks (comments ++ (icons ++ appls)) f1.1 in
-    let f3 = all-ends (is_formed_record name) comments (icons ++ appls) f2.1 in
-    let f4 = all-ends (is_formed_record name) icons appls f3.1 in
-    let fn : list_all (is_formed_node name) t.nodes ≡ true = sym (list_all-map (is_formed_record name) (λ x. row.Node x) t.nodes) ∙ f1.0 in
-    let fb : list_all is_formed_block t.blocks ≡ true = sym (list_all-map (is_formed_record name) (λ x. row.Block x) t.blocks) ∙ f2.0 in
-    let fc : list_all is_formed_comment t.comments ≡ true = sym (list_all-map (is_formed_record name) (λ x. row.Comment x) t.comments) ∙ f3.0 in
-    let fa : list_all is_formed_appl t.appls ≡ true = sym (list_all-map (is_formed_record name) (λ x. row.Appl x) t.appls) ∙ f4.1 in
+    let f1 = all-ends (is_formed_record label) nodes (blocks ++ (comments ++ (icons ++ appls))) e in
+    let f2 = all-ends (is_formed_record label) blocks (comments ++ (icons ++ appls)) f1.1 in
+    let f3 = all-ends (is_formed_record label) comments (icons ++ appls) f2.1 in
+    let f4 = all-ends (is_formed_record label) icons appls f3.1 in
+    let fn : list_all (is_sound_node label.name) t.nodes ≡ true = sound_nodes label t.nodes (sym (list_all-map (is_formed_record label) (λ x. row.Node x) t.nodes) ∙ f1.0) in
+    let fb : list_all is_formed_block t.blocks ≡ true = sym (list_all-map (is_formed_record label) (λ x. row.Block x) t.blocks) ∙ f2.0 in
+    let fc : list_all is_formed_comment t.comments ≡ true = sym (list_all-map (is_formed_record label) (λ x. row.Comment x) t.comments) ∙ f3.0 in
+    let fa : list_all is_formed_appl t.appls ≡ true = sym (list_all-map (is_formed_record label) (λ x. row.Appl x) t.appls) ∙ f4.1 in
     record {
-      nodes = nodes_in_chain t.nodes (all-weaker (is_formed_node name) (λ n. is_long n.id) t.nodes (λ n f. (node_parts name n f).id) fn) one.0;
+      nodes = nodes_in_chain t.nodes (all-weaker (is_sound_node label.name) (λ n. is_long n.id) t.nodes (λ n f. (node_parts label.name n f).id) fn) one.0;
       blocks = blocks_in_chain t.blocks (all-weaker is_formed_block is_fit_block t.blocks fit_block fb) two.0;
       comments = comments_in_chain t.comments (all-weaker is_formed_comment (λ c. is_long c.node) t.comments (λ c f. left_true (is_long c.node) (are_bytes c.text) (left_true (is_typed_comment c) (is_comment c) f)) fc) three.0;
       icons = icons_in_chain t.icons four.0;
       appls = appls_in_chain t.appls (all-weaker is_formed_appl is_fit_appl t.appls fit_appl fa) four.1;
     }
 
-pub in_order : (name : List ℕ) (t : Tables) → IsWhole name t → InOrder t
-in_order name t w = order_behind name t w.rises.1 (right_true (is_formed_record name (row.Head t.head)) (list_all (is_formed_record name) (behind_head t)) w.formed)
+pub in_order : (label : Label) (t : Tables) → IsWhole label t → InOrder t
+in_order label t w = order_behind label t w.rises.1 (right_true (is_formed_record label (row.Head t.head)) (list_all (is_formed_record label) (behind_head t)) w.formed)
 
 -- a formed block is short, and a formed node has a name
 pub short_block : (b : ForkBlock) → is_formed_block b ≡ true → nat_lt (length b.bytes) 5000 ≡ true
@@ -153,7 +153,7 @@ short_block b f =
     let short = left_true (nat_le (length b.bytes) block_size) (bytes_eq (trimmed b.bytes) b.bytes) (right_true (nat_le 1 (length b.bytes)) (nat_le (length b.bytes) block_size && bytes_eq (trimmed b.bytes) b.bytes) rest) in
     lt-ltb (length b.bytes) 5000 (let l : length b.bytes ≤ 4096 = leb-true _ _ short in omega arith)
 
-pub node_name : (name : List ℕ) (n : Node) → is_formed_node name n ≡ true → name_fault n.name ≡ None
+pub node_name : (name : List ℕ) (n : Node) → is_sound_node name n ≡ true → name_fault n.name ≡ None
 node_name name n f =
     let formed = left_true (is_formed_row (bare_row n)) (has_fit_forks n && is_root_or_other name n) (right_true (is_typed_row (bare_row n)) (is_formed_row (bare_row n) && (has_fit_forks n && is_root_or_other name n)) f) in
-    none_from_is_none (name_fault n.name) (left_true (is_none (name_fault n.name)) (length n.finder == 32) (left_true (is_named (bare_row n)) _ formed))
+    none_from_is_none (name_fault n.name) (left_true (is_none (name_fault n.name)) (length n.finder == 32) (left_true (is_named (bare_row n)) _ (right_true (has_fit_privileges n.is_directory (unwrap_or n.privileges (new_privileges n.is_directory guest))) _ formed)))

@@ -1,6 +1,6 @@
 -- The blocks of a volume's forks: their shape, their order, and the forks that they tell.
-use Rattle.std.proofs.Common.{◌≡◌, ◌∙◌, ℕ, zero, suc, ◌+◌, ◌*◌, ◌<◌, ◌≤◌, Bool, true, false, not, List, [], ◌∷◌, ◌++◌, map, length, drop, refl, sym, ap, subst, arith, append_assoc, length-append}
-use Rattle.std.specs.Prelude.{nat_le, nat_lt, ◌&&◌, ◌==◌, bytes_eq, flat_map}
+use Rattle.std.proofs.Common.{◌≡◌, ◌∙◌, ℕ, zero, suc, ◌+◌, ◌*◌, ◌<◌, ◌≤◌, Bool, true, false, cond, not, List, [], ◌∷◌, ◌++◌, map, length, drop, refl, sym, ap, subst, arith, append_assoc, length-append}
+use Rattle.std.specs.Prelude.{nat_le, nat_lt, ◌&&◌, ◌==◌, bytes_eq, flat_map, unwrap_or, Some, None}
 use Rattle.std.specs.List.{list_all}
 use Rattle.std.proofs.lemmas.Bool.{and_from, and_parts, eq-eqb, eqb-true, le-leb, leb-true, lt-ltb, ltb-true, ne_eqb, or_left, or_right}
 use Rattle.std.proofs.lemmas.List.{append-nil}
@@ -11,10 +11,10 @@ use Rattle.fork_bytes.specs.declared.block.Block.{Block}
 use Rattle.afp_base.specs.Limits.{block_size}
 use Rattle.fork_bytes.specs.Blocks.{block_at, block_count, before_zeros, trimmed, with_block, blocks_from, blocks_of}
 use Rattle.fork_bytes.specs.Kept.{bytes_of, are_rising, is_kept, is_empty}
-use Rattle.volume_spec.specs.VolumeState.{Row as VolumeRow}
+use Rattle.volume_spec.specs.VolumeState.{Row as VolumeRow, Privileges, guest, new_privileges}
 use Rattle.volume_spec.specs.TypedVolume.{is_byte, is_long, are_bytes}
 use Rattle.volume_keeper_records.specs.declared.rows.ForkBlock.{ForkBlock}
-use Rattle.volume_keeper_records.specs.Records.{flag_byte}
+use Rattle.volume_keeper_records.specs.Records.{flag_byte, old_version}
 use Rattle.volume_keeper_records.specs.Shape.{is_formed_block}
 use Rattle.volume_keeper_records.specs.Image.{node_of, fork_block_of, fork_blocks}
 use Rattle.volume_keeper_records.proofs.Chains.{Chain, chain-map, chain-more}
@@ -187,15 +187,24 @@ resource_pieces r =
     ++ filter-all (λ (b : ForkBlock). 1 == flag_byte b.is_resource) (map (fork_block_of r.id true) (blocks_of r.resource_fork)) (list_all-map (λ (b : ForkBlock). 1 == flag_byte b.is_resource) (fork_block_of r.id true) (blocks_of r.resource_fork) ∙ all-always (blocks_of r.resource_fork)) i))
     ∙ to_pieces r.id true (blocks_of r.resource_fork)
 
-row_again : ForkLaw → (blocks : List ForkBlock) (r : VolumeRow) → own blocks r.id ≡ fork_blocks r → row_from blocks (node_of r) ≡ r
-row_again law blocks r e =
+row_again : (version : ℕ) → ForkLaw → (blocks : List ForkBlock) (r : VolumeRow) → own blocks r.id ≡ fork_blocks r → unwrap_or (cond (version == old_version) None (Some r.privileges)) (new_privileges r.dir guest) ≡ r.privileges → row_from blocks (node_of version r) ≡ r
+row_again version law blocks r e said =
     let data_fork = ap (λ l. bytes_of (length r.data_fork) (map piece_of (fork_part l 0))) e ∙ ap (bytes_of (length r.data_fork)) (data_pieces r) ∙ law.back r.data_fork in
     let resource_fork = ap (λ l. bytes_of (length r.resource_fork) (map piece_of (fork_part l 1))) e ∙ ap (bytes_of (length r.resource_fork)) (resource_pieces r) ∙ law.back r.resource_fork in
-    λ i. record r { data_fork = data_fork i; resource_fork = resource_fork i }
+    λ i. record r { privileges = said i; data_fork = data_fork i; resource_fork = resource_fork i }
 
-pub rows_again : ForkLaw → (blocks : List ForkBlock) (rs : List VolumeRow) → Owns blocks rs → map (row_from blocks) (map node_of rs) ≡ rs
-rows_again law blocks [] o = refl
-rows_again law blocks (r ∷ rs) o = λ i. row_again law blocks r o.0 i ∷ rows_again law blocks rs o.1 i
+abbrev head_or : Privileges → List Privileges → Privileges
+head_or p [] = p
+head_or p (q ∷ qs) = q
+
+abbrev rest_of : List Privileges → List Privileges
+rest_of [] = []
+rest_of (q ∷ qs) = qs
+
+pub rows_again : (version : ℕ) → ForkLaw → (blocks : List ForkBlock) (rs : List VolumeRow) → Owns blocks rs
+    → map (λ (r : VolumeRow). unwrap_or (cond (version == old_version) None (Some r.privileges)) (new_privileges r.dir guest)) rs ≡ map (λ (r : VolumeRow). r.privileges) rs → map (row_from blocks) (map (node_of version) rs) ≡ rs
+rows_again version law blocks [] o said = refl
+rows_again version law blocks (r ∷ rs) o said = λ i. row_again version law blocks r o.0 (ap (head_or r.privileges) said) i ∷ rows_again version law blocks rs o.1 (ap rest_of said) i
 
 -- ---- how many there are
 

@@ -15,7 +15,7 @@ use Rattle.volume_keeper_records.specs.declared.rows.Node.{Node}
 use Rattle.volume_keeper_records.specs.declared.rows.TableRow.{TableRow}
 use Rattle.volume_keeper_records.specs.declared.rows.TableRow.TheVariants as row
 use Rattle.volume_keeper_records.specs.Records.{record_of}
-use Rattle.volume_keeper_records.specs.Image.{Tables, image, rows_of, tables_of, node_of, fork_block_of, fork_blocks}
+use Rattle.volume_keeper_records.specs.Image.{Tables, rows_of, tables_of, node_of, fork_block_of, fork_blocks, image_in}
 use Rattle.volume_keeper_records.specs.KeyOrder.{RisesByKey}
 use Rattle.volume_keeper_records.proofs.Chains.{chain-map}
 use Rattle.volume_keeper_records.proofs.Counts.{sum_each}
@@ -102,15 +102,15 @@ fit_blocks law (r ∷ rs) e =
     (fit_fork law r.id false r.data_fork id (omega (arith, small))) (fit_fork law r.id true r.resource_fork id (omega (arith, small))))
     (fit_blocks law rs (right_true (is_small r) (list_all is_small rs) e))
 
-pub image_rises : ForkLaw → (v : VolumeState) → IsSoundVolume v → RisesByKey (image v)
-image_rises law v sound =
+pub image_rises : (version : ℕ) → ForkLaw → (v : VolumeState) → IsSoundVolume v → RisesByKey (image_in version v)
+image_rises version law v sound =
     let s = sound_facts v sound in
     let ids = long_rows v s in
     let small = all-and (λ (r : VolumeRow). is_long r.id) (λ r. nat_le (length r.data_fork + length r.resource_fork) most_fork_bytes) v.rows ids (sum_each (λ (r : VolumeRow). length r.data_fork + length r.resource_fork) v.rows most_fork_bytes s.few_bytes) in
     let on_node : (id : ℕ) → has_node v.rows id ≡ true → is_long id ≡ true = λ id. on_row (λ (r : VolumeRow). r.id == id) v.rows id (λ r t. eqb-true r.id id t) ids in
     let on_file : (id : ℕ) → has_file v.rows id ≡ true → is_long id ≡ true = λ id. on_row (λ (r : VolumeRow). (r.id == id) && not r.dir) v.rows id (λ r t. eqb-true r.id id (left_true (r.id == id) (not r.dir) t)) ids in
-    rows_rise (tables_of v)
-    (nodes_up (map node_of v.rows) (list_all-map (λ (n : Node). is_long n.id) node_of v.rows ∙ ids) (chain-map (λ (a : Node) b. nat_lt a.id b.id) node_of v.rows s.ids))
+    rows_rise (tables_of version v)
+    (nodes_up (map (node_of version) v.rows) (list_all-map (λ (n : Node). is_long n.id) (node_of version) v.rows ∙ ids) (chain-map (λ (a : Node) b. nat_lt a.id b.id) (node_of version) v.rows s.ids))
     (blocks_up (flat_map fork_blocks v.rows) (fit_blocks law v.rows small) (all_chain law v.rows s.ids))
     (comments_up v.comments (all-weaker (λ (c : Comment). has_node v.rows c.node) (λ (c : Comment). is_long c.node) v.comments (λ c e. on_node c.node e) s.commented) s.comment_order)
     (icons_up v.icons s.icon_order)

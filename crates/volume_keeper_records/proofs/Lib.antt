@@ -17,7 +17,11 @@ pub mod ImageBlocks
 pub mod ImageRises
 pub mod ImageWhole
 pub mod ImageClear
+pub mod LookUps
+pub mod Migrating
+pub mod RaisedRows
 pub mod ImageLaw
+pub mod Versions
 pub mod ShapeCode
 pub mod Climbing
 pub mod SeenLemmas

@@ -1,6 +1,7 @@
 -- A key that counts as there.
-use Rattle.std.proofs.Common.{◌≡◌, ℕ, true, false, List, [], ◌∷◌, refl, sym, ap, ◌∙◌}
-use Rattle.std.specs.Prelude.{None, ◌||◌, bytes_eq}
+use Rattle.std.proofs.Common.{◌≡◌, ℕ, true, false, List, [], ◌∷◌, refl, sym, ap, ◌∙◌, Bool, cond}
+use Rattle.std.specs.Prelude.{None, ◌||◌, bytes_eq, ◌&&◌, ◌==◌, Some, Option, is_none, not, drop, option_map, unwrap_or}
+use Rattle.std.specs.List.{find}
 use Rattle.std.specs.Cmp.{tied_itself}
 use Rattle.std.specs.Cmp.Lexicographic.{slice_cmp, nat_list_cmp_total}
 use Rattle.std.specs.Ordering.{nat_cmp, ordering_reverse, match_ordering}
@@ -10,16 +11,18 @@ use Rattle.std.specs.declared.cmp.Ordering.TheVariants.{Less, Equal, Greater}
 use Rattle.std.proofs.lemmas.Slice.Eq.{bytes_eq-Decides}
 use Rattle.std.proofs.lemmas.Bool.{or_right}
 use Rattle.record_keeper.specs.declared.record.Record.{Record}
-use Rattle.volume_keeper_records.specs.Shape.{row_in}
+use Rattle.volume_keeper_records.specs.Shape.{row_in, Label, guess, is_formed_record, node_in, is_sound_node, privileges_at, word_at}
+use Rattle.volume_keeper_records.specs.FirstBad.{version_in}
 use Rattle.volume_keeper_records.specs.KeyOrder.{IsBelow, RisesByKey, with_key, root_key}
-use Rattle.volume_keeper_records.specs.Records.{head_key}
+use Rattle.volume_keeper_records.specs.Records.{head_key, old_version, version}
 use Rattle.volume_keeper_records.specs.lemma.KeyOrder.{has_key}
 use Rattle.afp_names.specs.Name.{name_fault}
+use Rattle.volume_spec.specs.VolumeState.{Privileges}
 
 -- no record is of another shape than a volume's
-abbrev pub AllShaped : List ℕ → List Record → Type 0
-AllShaped name [] = Unit {0}
-AllShaped name (r ∷ records) = (row_in name r ≡ None → ⊥) × AllShaped name records
+abbrev pub AllShaped : Label → List Record → Type 0
+AllShaped label [] = Unit {0}
+AllShaped label (r ∷ records) = (row_in label r ≡ None → ⊥) × AllShaped label records
 
 abbrev pub by_bytes : List ℕ → List ℕ → Ordering
 by_bytes = slice_cmp nat_cmp
@@ -70,29 +73,57 @@ still_has q k (r ∷ rs) e = elim (by_bytes k r.key) as (λ o. has_key q (match_
 ]
 
 -- where nothing is refused for its shape, no key is missing
-pub none_missing : (name k : List ℕ) → row_in name (record { key = k; value = [] }) ≡ None → (rs : List Record) → AllShaped name (with_key k rs) → with_key k rs ≡ rs
-none_missing name k n [] a = absurd (a.0 n)
-none_missing name k n (r ∷ rs) a = elim (by_bytes k r.key) as (λ o. AllShaped name (match_ordering o (record { key = k; value = [] } ∷ r ∷ rs) (r ∷ rs) (r ∷ with_key k rs)) → match_ordering o (record { key = k; value = [] } ∷ r ∷ rs) (r ∷ rs) (r ∷ with_key k rs) ≡ r ∷ rs) [
+pub none_missing : (label : Label) (k : List ℕ) → row_in label (record { key = k; value = [] }) ≡ None → (rs : List Record) → AllShaped label (with_key k rs) → with_key k rs ≡ rs
+none_missing label k n [] a = absurd (a.0 n)
+none_missing label k n (r ∷ rs) a = elim (by_bytes k r.key) as (λ o. AllShaped label (match_ordering o (record { key = k; value = [] } ∷ r ∷ rs) (r ∷ rs) (r ∷ with_key k rs)) → match_ordering o (record { key = k; value = [] } ∷ r ∷ rs) (r ∷ rs) (r ∷ with_key k rs) ≡ r ∷ rs) [
   | Less ↦ λ h. absurd (h.0 n)
   | Equal ↦ λ h. refl
-  | Greater ↦ λ h. ap (λ x. r ∷ x) (none_missing name k n rs h.1)
+  | Greater ↦ λ h. ap (λ x. r ∷ x) (none_missing label k n rs h.1)
 ] a
 
-pub empty_head : (name : List ℕ) → row_in name (record { key = head_key; value = [] }) ≡ None
-unfolding row_in
-empty_head name = refl
+no_row : {A : Type 0} (a b : Bool) (x : A) → a ≡ false → cond (a && b) (Some x) None ≡ None
+no_row a b x e = ap (λ t. cond (t && b) (Some x) None) e
 
-pub empty_root : (name : List ℕ) → row_in name (record { key = root_key; value = [] }) ≡ None
-unfolding row_in name_fault
-empty_root name = refl
+pub empty_head : (label : Label) → row_in label (record { key = head_key; value = [] }) ≡ None
+unfolding row_in
+empty_head label = no_row (is_formed_record label (guess label.version (record { key = head_key; value = [] }))) _ _ (second_false ((0 == label.version) && true))
+  where
+    second_false : (a : Bool) → (a && false) ≡ false
+    second_false true = refl
+    second_false false = refl
+
+-- what an empty value says has no name, in each version
+abbrev nothing_said : Bool → Option Privileges
+nothing_said old = cond old None (Some (privileges_at [] 17))
+
+unnamed_root : (name : List ℕ) (old : Bool) → (cond old (is_none (nothing_said old)) (not (is_none (nothing_said old))) && is_sound_node name (record (node_in 1 root_key [] [] []) { privileges = nothing_said old; name = drop (cond old 17 28) [] })) ≡ false
+unfolding name_fault
+unnamed_root name true = refl
+unnamed_root name false = refl
+
+pub empty_root : (label : Label) → row_in label (record { key = root_key; value = [] }) ≡ None
+unfolding row_in
+empty_root label = no_row (is_formed_record label (guess label.version (record { key = root_key; value = [] }))) _ _ (unnamed_root label.name (label.version == old_version))
 
 -- a key above which all keys are is not among them
+other_key : (k q : List ℕ) → by_bytes k q ≡ Less → bytes_eq q k ≡ false
+other_key k q less = elim (bytes_eq q k) as (λ t. bytes_eq q k ≡ t → t ≡ false) [
+  | true ↦ λ t. absurd (let i : Less ≡ Equal = sym less ∙ ap (by_bytes k) ((bytes_eq-Decides q k).0 t) ∙ tied_itself nat_list_cmp_total k in cc)
+  | false ↦ λ t. refl
+] refl
+
 not_there : (k : List ℕ) (rs : List Record) → IsBelow k rs → has_key k rs ≡ false
 not_there k [] b = refl
-not_there k (r ∷ rs) b = elim (bytes_eq r.key k) as (λ t. bytes_eq r.key k ≡ t → (t || has_key k rs) ≡ false) [
-  | true ↦ λ t. absurd (let i : Less ≡ Equal = sym b.0 ∙ ap (by_bytes k) ((bytes_eq-Decides r.key k).0 t) ∙ tied_itself nat_list_cmp_total k in cc)
-  | false ↦ λ t. not_there k rs b.1
-] refl
+not_there k (r ∷ rs) b = λ i. other_key k r.key b.0 i || not_there k rs b.1 i
+
+not_found : (k : List ℕ) (rs : List Record) → IsBelow k rs → find (λ (r : Record). bytes_eq r.key k) rs ≡ None
+not_found k [] b = refl
+not_found k (r ∷ rs) b = λ i. cond (other_key k r.key b.0 i) (Some r) (not_found k rs b.1 i)
+
+-- where all keys are above the head's, no version is said
+pub unsaid_version : (r : Record) (rs : List Record) → by_bytes head_key r.key ≡ Less → IsBelow r.key rs → version_in (r ∷ rs) ≡ version
+unsaid_version r rs e b =
+    ap (λ (o : Option Record). cond (word_at (unwrap_or (option_map (λ (r : Record). r.value) o) []) 0 == old_version) old_version version) (not_found head_key (r ∷ rs) (e, below_through head_key r.key rs e b))
 
 pub present_same : (k : List ℕ) (rs : List Record) → RisesByKey rs → has_key k rs ≡ true → with_key k rs ≡ rs
 present_same k [] s h = absurd (cc)

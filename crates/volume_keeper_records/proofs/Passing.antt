@@ -25,14 +25,14 @@ use Rattle.volume_keeper_records.specs.declared.rows.TableRow.{TableRow}
 use Rattle.volume_keeper_records.specs.declared.rows.TableRow.TheVariants as row
 use Rattle.volume_keeper_records.specs.declared.tree.Place.{Place}
 use Rattle.volume_keeper_records.specs.Records.{record_of}
-use Rattle.volume_keeper_records.specs.Shape.{row_in, bare_row, is_formed_record}
+use Rattle.volume_keeper_records.specs.Shape.{row_in, bare_row, is_formed_record, Label}
 use Rattle.volume_keeper_records.specs.Image.{Tables, tables_in, first_head, as_head, as_node, as_icon, as_appl}
 use Rattle.volume_keeper_records.specs.KeyOrder.{IsBelow, RisesByKey}
 use Rattle.volume_keeper_records.specs.FirstBad.{rows_in, fork_length, nodes_to, icons_to, appls_to, lacks_parent, is_twin, is_out_of_range, passes_limit, first_of, reason_of, bad_or, first_in}
 use Rattle.volume_keeper_records.specs.lemma.Climb.{id_of, climbs_to_root}
 use Rattle.volume_keeper_records.specs.lemma.Judged.{place_of, said_node, places_in, is_there, is_file_there, length_of, is_stray_here, is_outside_here, Before, is_twin_here, fork_sum, is_over_here, reason_here, and_row, next_in, next_or, said_rows, is_short_row, IsNamedRow}
 use Rattle.volume_keeper_records.proofs.Chains.{Chain}
-use Rattle.volume_keeper_records.proofs.ReadBack.{row_is}
+use Rattle.volume_keeper_records.proofs.ReadBack.{row_is, sound_node}
 use Rattle.volume_keeper_records.proofs.RowKinds.{by_kind, behind_head}
 use Rattle.volume_keeper_records.proofs.RowOrder.{rows_ends, icon_before, appl_before, before_itself}
 use Rattle.volume_keeper_records.proofs.Facts.{InOrder, order_behind, short_block, node_name}
@@ -54,10 +54,10 @@ pub said_push : (rows : List (Option TableRow)) (o : Option TableRow) → said_r
 unfolding said_rows
 said_push rows o = filter_map-append (λ o. o) rows (o ∷ [])
 
-pub said_all : (name : List ℕ) (records : List Record) → said_rows (map (row_in name) records) ≡ rows_in name records
+pub said_all : (label : Label) (records : List Record) → said_rows (map (row_in label) records) ≡ rows_in label records
 unfolding said_rows
-said_all name [] = refl
-said_all name (r ∷ records) = unfold said_rows in ap (cons_option (row_in name r)) (said_all name records)
+said_all label [] = refl
+said_all label (r ∷ records) = unfold said_rows in ap (cons_option (row_in label r)) (said_all label records)
 
 pub pushed_places : (rows : List (Option TableRow)) (i : ℕ) (o : Option TableRow) → i < length rows → o ≡ get_or rows i o → places_in (take (i + 1) rows) ≡ places_in (take i rows) ++ map place_of (cons_option (said_node o) [])
 pushed_places rows i o h e =
@@ -76,9 +76,9 @@ one_said : (o : Option TableRow) (ns : List Node) (xs : List TableRow) → ns �
 one_said None ns xs e = e
 one_said (Some x) ns xs e = λ i. cons_option (said_as x i) (e i)
 
-nodes_said : (name : List ℕ) (records : List Record) → filter_map said_node (map (row_in name) records) ≡ filter_map as_node (rows_in name records)
-nodes_said name [] = refl
-nodes_said name (r ∷ records) = one_said (row_in name r) (filter_map said_node (map (row_in name) records)) (rows_in name records) (nodes_said name records)
+nodes_said : (label : Label) (records : List Record) → filter_map said_node (map (row_in label) records) ≡ filter_map as_node (rows_in label records)
+nodes_said label [] = refl
+nodes_said label (r ∷ records) = one_said (row_in label r) (filter_map said_node (map (row_in label) records)) (rows_in label records) (nodes_said label records)
 
 one_next : (o : Option TableRow) (next : ℕ) (xs : List TableRow) → next ≡ (first_head (filter_map as_head xs)).next_id → next_or o next ≡ (first_head (filter_map as_head (cons_option o xs))).next_id
 one_next None next xs e = e
@@ -89,44 +89,44 @@ one_next (Some (row.Comment c)) next xs e = e
 one_next (Some (row.Icon i)) next xs e = e
 one_next (Some (row.Appl a)) next xs e = e
 
-next_said : (name : List ℕ) (records : List Record) → next_in (map (row_in name) records) ≡ (first_head (filter_map as_head (rows_in name records))).next_id
-next_said name [] = refl
-next_said name (r ∷ records) = one_next (row_in name r) (next_in (map (row_in name) records)) (rows_in name records) (next_said name records)
+next_said : (label : Label) (records : List Record) → next_in (map (row_in label) records) ≡ (first_head (filter_map as_head (rows_in label records))).next_id
+next_said label [] = refl
+next_said label (r ∷ records) = one_next (row_in label r) (next_in (map (row_in label) records)) (rows_in label records) (next_said label records)
 
 -- ---- what was read stands in order
 
-below_read : (k : List ℕ) (name : List ℕ) (o : Option TableRow) (r : Record) (xs : List TableRow) → ((x : TableRow) → o ≡ Some x → record_of x ≡ r) → slice_cmp nat_cmp k r.key ≡ Less → IsBelow k (map record_of xs) → IsBelow k (map record_of (cons_option o xs))
-below_read k name None r xs is e b = b
-below_read k name (Some x) r xs is e b = (ap (λ (q : Record). slice_cmp nat_cmp k q.key) (is x refl) ∙ e, b)
+below_read : (k : List ℕ) (label : Label) (o : Option TableRow) (r : Record) (xs : List TableRow) → ((x : TableRow) → o ≡ Some x → record_of x ≡ r) → slice_cmp nat_cmp k r.key ≡ Less → IsBelow k (map record_of xs) → IsBelow k (map record_of (cons_option o xs))
+below_read k label None r xs is e b = b
+below_read k label (Some x) r xs is e b = (ap (λ (q : Record). slice_cmp nat_cmp k q.key) (is x refl) ∙ e, b)
 
-below_rows : (k : List ℕ) (name : List ℕ) (records : List Record) → IsBelow k records → IsBelow k (map record_of (rows_in name records))
-below_rows k name [] b = tt
-below_rows k name (r ∷ records) b = below_read k name (row_in name r) r (rows_in name records) (λ x e. (row_is name r x e).1) b.0 (below_rows k name records b.1)
+below_rows : (k : List ℕ) (label : Label) (records : List Record) → IsBelow k records → IsBelow k (map record_of (rows_in label records))
+below_rows k label [] b = tt
+below_rows k label (r ∷ records) b = below_read k label (row_in label r) r (rows_in label records) (λ x e. (row_is label r x e).1) b.0 (below_rows k label records b.1)
 
-rises_read : (name : List ℕ) (o : Option TableRow) (r : Record) (xs : List TableRow) → ((x : TableRow) → o ≡ Some x → record_of x ≡ r) → IsBelow r.key (map record_of xs) → RisesByKey (map record_of xs) → RisesByKey (map record_of (cons_option o xs))
-rises_read name None r xs is b s = s
-rises_read name (Some x) r xs is b s = (subst (λ (q : Record). IsBelow q.key (map record_of xs)) (sym (is x refl)) b, s)
+rises_read : (label : Label) (o : Option TableRow) (r : Record) (xs : List TableRow) → ((x : TableRow) → o ≡ Some x → record_of x ≡ r) → IsBelow r.key (map record_of xs) → RisesByKey (map record_of xs) → RisesByKey (map record_of (cons_option o xs))
+rises_read label None r xs is b s = s
+rises_read label (Some x) r xs is b s = (subst (λ (q : Record). IsBelow q.key (map record_of xs)) (sym (is x refl)) b, s)
 
-rows_rise : (name : List ℕ) (records : List Record) → RisesByKey records → RisesByKey (map record_of (rows_in name records))
-rows_rise name [] s = tt
-rows_rise name (r ∷ records) s = rises_read name (row_in name r) r (rows_in name records) (λ x e. (row_is name r x e).1) (below_rows r.key name records s.0) (rows_rise name records s.1)
+rows_rise : (label : Label) (records : List Record) → RisesByKey records → RisesByKey (map record_of (rows_in label records))
+rows_rise label [] s = tt
+rows_rise label (r ∷ records) s = rises_read label (row_in label r) r (rows_in label records) (λ x e. (row_is label r x e).1) (below_rows r.key label records s.0) (rows_rise label records s.1)
 
-formed_read : (name : List ℕ) (o : Option TableRow) (xs : List TableRow) → ((x : TableRow) → o ≡ Some x → is_formed_record name x ≡ true) → list_all (is_formed_record name) xs ≡ true → list_all (is_formed_record name) (cons_option o xs) ≡ true
-formed_read name None xs is e = e
-formed_read name (Some x) xs is e = and_from (is_formed_record name x) (list_all (is_formed_record name) xs) (is x refl) e
+formed_read : (label : Label) (o : Option TableRow) (xs : List TableRow) → ((x : TableRow) → o ≡ Some x → is_formed_record label x ≡ true) → list_all (is_formed_record label) xs ≡ true → list_all (is_formed_record label) (cons_option o xs) ≡ true
+formed_read label None xs is e = e
+formed_read label (Some x) xs is e = and_from (is_formed_record label x) (list_all (is_formed_record label) xs) (is x refl) e
 
-rows_formed : (name : List ℕ) (records : List Record) → list_all (is_formed_record name) (rows_in name records) ≡ true
-rows_formed name [] = refl
-rows_formed name (r ∷ records) = formed_read name (row_in name r) (rows_in name records) (λ x e. (row_is name r x e).0) (rows_formed name records)
+rows_formed : (label : Label) (records : List Record) → list_all (is_formed_record label) (rows_in label records) ≡ true
+rows_formed label [] = refl
+rows_formed label (r ∷ records) = formed_read label (row_in label r) (rows_in label records) (λ x e. (row_is label r x e).0) (rows_formed label records)
 
-order_read : (name : List ℕ) (records : List Record) → RisesByKey records → InOrder (tables_in (rows_in name records))
-order_read name records s =
-    let rows : List TableRow = rows_in name records in
-    let whole = by_kind (rows_in name records) (rows_rise name records s) in
-    let heads : List TableRow = map (λ h. row.Head h) (filter_map as_head (rows_in name records)) in
-    let rest = (rows_ends heads (behind_head (tables_in (rows_in name records))) (subst (λ (l : List TableRow). RisesByKey (map record_of l)) (sym whole) (rows_rise name records s))).1 in
-    let formed = (all-ends (is_formed_record name) heads (behind_head (tables_in (rows_in name records))) (ap (list_all (is_formed_record name)) whole ∙ rows_formed name records)).1 in
-    order_behind name (tables_in (rows_in name records)) rest formed
+order_read : (label : Label) (records : List Record) → RisesByKey records → InOrder (tables_in (rows_in label records))
+order_read label records s =
+    let rows : List TableRow = rows_in label records in
+    let whole = by_kind (rows_in label records) (rows_rise label records s) in
+    let heads : List TableRow = map (λ h. row.Head h) (filter_map as_head (rows_in label records)) in
+    let rest = (rows_ends heads (behind_head (tables_in (rows_in label records))) (subst (λ (l : List TableRow). RisesByKey (map record_of l)) (sym whole) (rows_rise label records s))).1 in
+    let formed = (all-ends (is_formed_record label) heads (behind_head (tables_in (rows_in label records))) (ap (list_all (is_formed_record label)) whole ∙ rows_formed label records)).1 in
+    order_behind label (tables_in (rows_in label records)) rest formed
 
 below_each : (id : ℕ) (ns : List Node) → list_all (λ (n : Node). nat_lt id n.id) ns ≡ true → AllByRecursion (λ y. nat_cmp id y ≡ Less) (map id_of (map place_of ns))
 below_each id [] b = tt
@@ -264,36 +264,36 @@ same_reason t xs ys x e order = λ i. first_of (stray_same t x i) Parent (first_
 around : (records : List Record) (i : ℕ) (r : Record) → i < length records → r ≡ get_or records i r → records ≡ take i records ++ r ∷ drop (suc i) records
 around records i r h e = sym (take-append-drop i records) ∙ ap (λ (x : List Record). take i records ++ x) (drop-cons records i r h ∙ ap (λ (x : Record). x ∷ drop (suc i) records) (sym e))
 
-pub row_read : (name : List ℕ) (records : List Record) (rows : List (Option TableRow)) → rows ≡ map (row_in name) records → (i : ℕ) (r : Record) (o : Option TableRow) → i < length records → r ≡ get_or records i r → o ≡ get_or rows i o → o ≡ row_in name r
-row_read name records rows parsed i r o h e f = f ∙ ap (λ (x : List (Option TableRow)). get_or x i o) parsed ∙ get_or-map (row_in name) records i r o h ∙ ap (row_in name) (sym e)
+pub row_read : (label : Label) (records : List Record) (rows : List (Option TableRow)) → rows ≡ map (row_in label) records → (i : ℕ) (r : Record) (o : Option TableRow) → i < length records → r ≡ get_or records i r → o ≡ get_or rows i o → o ≡ row_in label r
+row_read label records rows parsed i r o h e f = f ∙ ap (λ (x : List (Option TableRow)). get_or x i o) parsed ∙ get_or-map (row_in label) records i r o h ∙ ap (row_in label) (sym e)
 
-pub places_sorted : (name : List ℕ) (records : List Record) (rows : List (Option TableRow)) → rows ≡ map (row_in name) records → RisesByKey records → IsStrictlySortedBy nat_cmp (map id_of (places_in rows))
-places_sorted name records rows parsed s =
-    subst (λ (ns : List Node). IsStrictlySortedBy nat_cmp (map id_of (map place_of ns))) (sym (ap (filter_map said_node) parsed ∙ nodes_said name records)) (ids_sorted (filter_map as_node (rows_in name records)) (order_read name records s).nodes)
+pub places_sorted : (label : Label) (records : List Record) (rows : List (Option TableRow)) → rows ≡ map (row_in label) records → RisesByKey records → IsStrictlySortedBy nat_cmp (map id_of (places_in rows))
+places_sorted label records rows parsed s =
+    subst (λ (ns : List Node). IsStrictlySortedBy nat_cmp (map id_of (map place_of ns))) (sym (ap (filter_map said_node) parsed ∙ nodes_said label records)) (ids_sorted (filter_map as_node (rows_in label records)) (order_read label records s).nodes)
 
-short_formed : (name : List ℕ) (o : Option TableRow) → ((x : TableRow) → o ≡ Some x → is_formed_record name x ≡ true) → is_short_row o ≡ true
-short_formed name None f = refl
-short_formed name (Some (row.Head h)) f = refl
-short_formed name (Some (row.Node n)) f = refl
-short_formed name (Some (row.Block b)) f = short_block b (f (row.Block b) refl)
-short_formed name (Some (row.Comment c)) f = refl
-short_formed name (Some (row.Icon i)) f = refl
-short_formed name (Some (row.Appl a)) f = refl
+short_formed : (label : Label) (o : Option TableRow) → ((x : TableRow) → o ≡ Some x → is_formed_record label x ≡ true) → is_short_row o ≡ true
+short_formed label None f = refl
+short_formed label (Some (row.Head h)) f = refl
+short_formed label (Some (row.Node n)) f = refl
+short_formed label (Some (row.Block b)) f = short_block b (f (row.Block b) refl)
+short_formed label (Some (row.Comment c)) f = refl
+short_formed label (Some (row.Icon i)) f = refl
+short_formed label (Some (row.Appl a)) f = refl
 
-pub short_read : (name : List ℕ) (r : Record) (o : Option TableRow) → o ≡ row_in name r → is_short_row o ≡ true
-short_read name r o e = short_formed name o (λ x h. (row_is name r x (sym e ∙ h)).0)
+pub short_read : (label : Label) (r : Record) (o : Option TableRow) → o ≡ row_in label r → is_short_row o ≡ true
+short_read label r o e = short_formed label o (λ x h. (row_is label r x (sym e ∙ h)).0)
 
-named_formed : (name : List ℕ) (o : Option TableRow) → ((x : TableRow) → o ≡ Some x → is_formed_record name x ≡ true) → IsNamedRow o
-named_formed name None f = tt
-named_formed name (Some (row.Head h)) f = tt
-named_formed name (Some (row.Node n)) f = node_name name n (f (row.Node n) refl)
-named_formed name (Some (row.Block b)) f = tt
-named_formed name (Some (row.Comment c)) f = tt
-named_formed name (Some (row.Icon i)) f = tt
-named_formed name (Some (row.Appl a)) f = tt
+named_formed : (label : Label) (o : Option TableRow) → ((x : TableRow) → o ≡ Some x → is_formed_record label x ≡ true) → IsNamedRow o
+named_formed label None f = tt
+named_formed label (Some (row.Head h)) f = tt
+named_formed label (Some (row.Node n)) f = node_name label.name n (sound_node label n (f (row.Node n) refl))
+named_formed label (Some (row.Block b)) f = tt
+named_formed label (Some (row.Comment c)) f = tt
+named_formed label (Some (row.Icon i)) f = tt
+named_formed label (Some (row.Appl a)) f = tt
 
-pub named_read : (name : List ℕ) (r : Record) (o : Option TableRow) → o ≡ row_in name r → IsNamedRow o
-named_read name r o e = named_formed name o (λ x h. (row_is name r x (sym e ∙ h)).0)
+pub named_read : (label : Label) (r : Record) (o : Option TableRow) → o ≡ row_in label r → IsNamedRow o
+named_read label r o e = named_formed label o (λ x h. (row_is label r x (sym e ∙ h)).0)
 
 one_more : (xs : List TableRow) (o : Option TableRow) → and_row (before_of xs) o ≡ before_of (xs ++ cons_option o [])
 one_more xs None = ap before_of (sym (append-nil xs))
@@ -304,35 +304,35 @@ one_more xs (Some (row.Comment h)) = λ i. record { nodes = sym (filter_map-appe
 one_more xs (Some (row.Icon n)) = λ i. record { nodes = sym (filter_map-append as_node xs (row.Icon n ∷ []) ∙ append-nil (filter_map as_node xs)) i; icons = sym (ap length (filter_map-append as_icon xs (row.Icon n ∷ [])) ∙ length_push (filter_map as_icon xs) n) i; appls = length (sym (filter_map-append as_appl xs (row.Icon n ∷ []) ∙ append-nil (filter_map as_appl xs)) i) }
 one_more xs (Some (row.Appl n)) = λ i. record { nodes = sym (filter_map-append as_node xs (row.Appl n ∷ []) ∙ append-nil (filter_map as_node xs)) i; icons = length (sym (filter_map-append as_icon xs (row.Appl n ∷ []) ∙ append-nil (filter_map as_icon xs)) i); appls = sym (ap length (filter_map-append as_appl xs (row.Appl n ∷ [])) ∙ length_push (filter_map as_appl xs) n) i }
 
-pub pushed_before : (name : List ℕ) (records : List Record) (i : ℕ) (r : Record) (o : Option TableRow) → i < length records → r ≡ get_or records i r → o ≡ row_in name r → before_of (rows_in name (take (i + 1) records)) ≡ and_row (before_of (rows_in name (take i records))) o
-pushed_before name records i r o h e f =
-    ap (λ (x : List Record). before_of (rows_in name x)) (take_more records i r h ∙ ap (λ (x : Record). take i records ++ x ∷ []) (sym e))
-    ∙ ap before_of (filter_map-append (row_in name) (take i records) (r ∷ []))
-    ∙ ap (λ (p : Option TableRow). before_of (rows_in name (take i records) ++ cons_option p [])) (sym f)
-    ∙ sym (one_more (rows_in name (take i records)) o)
+pub pushed_before : (label : Label) (records : List Record) (i : ℕ) (r : Record) (o : Option TableRow) → i < length records → r ≡ get_or records i r → o ≡ row_in label r → before_of (rows_in label (take (i + 1) records)) ≡ and_row (before_of (rows_in label (take i records))) o
+pushed_before label records i r o h e f =
+    ap (λ (x : List Record). before_of (rows_in label x)) (take_more records i r h ∙ ap (λ (x : Record). take i records ++ x ∷ []) (sym e))
+    ∙ ap before_of (filter_map-append (row_in label) (take i records) (r ∷ []))
+    ∙ ap (λ (p : Option TableRow). before_of (rows_in label (take i records) ++ cons_option p [])) (sym f)
+    ∙ sym (one_more (rows_in label (take i records)) o)
 
-reason_read : (name : List ℕ) (records : List Record) → RisesByKey records → (xs : List Record) (r : Record) (ys : List Record) → records ≡ xs ++ r ∷ ys → (o : Option TableRow) → o ≡ row_in name r
-    → reason_of (tables_in (rows_in name records)) o ≡ reason_here (map place_of (tables_in (rows_in name records)).nodes) (tables_in (rows_in name records)).head.next_id (before_of (rows_in name xs)) o
-reason_read name records s xs r ys e None f = refl
-reason_read name records s xs r ys e (Some x) f =
-    same_reason (tables_in (rows_in name records)) (rows_in name xs) (rows_in name ys) x
-    (ap (λ (l : List Record). tables_in (rows_in name l)) e ∙ ap tables_in (filter_map-append (row_in name) xs (r ∷ ys) ∙ ap (λ (p : Option TableRow). rows_in name xs ++ cons_option p (rows_in name ys)) (sym f)))
-    (order_read name records s)
+reason_read : (label : Label) (records : List Record) → RisesByKey records → (xs : List Record) (r : Record) (ys : List Record) → records ≡ xs ++ r ∷ ys → (o : Option TableRow) → o ≡ row_in label r
+    → reason_of (tables_in (rows_in label records)) o ≡ reason_here (map place_of (tables_in (rows_in label records)).nodes) (tables_in (rows_in label records)).head.next_id (before_of (rows_in label xs)) o
+reason_read label records s xs r ys e None f = refl
+reason_read label records s xs r ys e (Some x) f =
+    same_reason (tables_in (rows_in label records)) (rows_in label xs) (rows_in label ys) x
+    (ap (λ (l : List Record). tables_in (rows_in label l)) e ∙ ap tables_in (filter_map-append (row_in label) xs (r ∷ ys) ∙ ap (λ (p : Option TableRow). rows_in label xs ++ cons_option p (rows_in label ys)) (sym f)))
+    (order_read label records s)
 
-pub one_judged : (name : List ℕ) (records : List Record) (rows : List (Option TableRow)) → rows ≡ map (row_in name) records → RisesByKey records → (i : ℕ) (r : Record) (o : Option TableRow) (reason : Option Reason) → i < length records → r ≡ get_or records i r → o ≡ get_or rows i o
-    → reason ≡ reason_here (places_in rows) (next_in rows) (before_of (rows_in name (take i records))) o
-    → first_in name (tables_in (rows_in name records)) (drop i records) ≡ bad_or r.key reason (first_in name (tables_in (rows_in name records)) (drop (i + 1) records))
-one_judged name records rows parsed s i r o reason h e f why =
-    let t : Tables = tables_in (rows_in name records) in
-    let read = row_read name records rows parsed i r o h e f in
-    let nodes : filter_map said_node rows ≡ filter_map as_node (rows_in name records) = ap (filter_map said_node) parsed ∙ nodes_said name records in
-    let next : next_in rows ≡ (first_head (filter_map as_head (rows_in name records))).next_id = ap next_in parsed ∙ next_said name records in
-    ap (first_in name (tables_in (rows_in name records))) (drop-cons records i r h ∙ ap (λ (x : Record). x ∷ drop (suc i) records) (sym e))
-    ∙ ap (λ w. bad_or r.key w (first_in name (tables_in (rows_in name records)) (drop (suc i) records)))
-    (ap (reason_of (tables_in (rows_in name records))) (sym read)
-    ∙ reason_read name records s (take i records) r (drop (suc i) records) (around records i r h e) o read
-    ∙ (λ k. reason_here (map place_of (sym nodes k)) (sym next k) (before_of (rows_in name (take i records))) o) ∙ sym why)
-    ∙ ap (λ n. bad_or r.key reason (first_in name (tables_in (rows_in name records)) (drop n records))) (let n : suc i ≡ i + 1 = omega arith in n)
+pub one_judged : (label : Label) (records : List Record) (rows : List (Option TableRow)) → rows ≡ map (row_in label) records → RisesByKey records → (i : ℕ) (r : Record) (o : Option TableRow) (reason : Option Reason) → i < length records → r ≡ get_or records i r → o ≡ get_or rows i o
+    → reason ≡ reason_here (places_in rows) (next_in rows) (before_of (rows_in label (take i records))) o
+    → first_in label (tables_in (rows_in label records)) (drop i records) ≡ bad_or r.key reason (first_in label (tables_in (rows_in label records)) (drop (i + 1) records))
+one_judged label records rows parsed s i r o reason h e f why =
+    let t : Tables = tables_in (rows_in label records) in
+    let read = row_read label records rows parsed i r o h e f in
+    let nodes : filter_map said_node rows ≡ filter_map as_node (rows_in label records) = ap (filter_map said_node) parsed ∙ nodes_said label records in
+    let next : next_in rows ≡ (first_head (filter_map as_head (rows_in label records))).next_id = ap next_in parsed ∙ next_said label records in
+    ap (first_in label (tables_in (rows_in label records))) (drop-cons records i r h ∙ ap (λ (x : Record). x ∷ drop (suc i) records) (sym e))
+    ∙ ap (λ w. bad_or r.key w (first_in label (tables_in (rows_in label records)) (drop (suc i) records)))
+    (ap (reason_of (tables_in (rows_in label records))) (sym read)
+    ∙ reason_read label records s (take i records) r (drop (suc i) records) (around records i r h e) o read
+    ∙ (λ k. reason_here (map place_of (sym nodes k)) (sym next k) (before_of (rows_in label (take i records))) o) ∙ sym why)
+    ∙ ap (λ n. bad_or r.key reason (first_in label (tables_in (rows_in label records)) (drop n records))) (let n : suc i ≡ i + 1 = omega arith in n)
 
 -- the same reason with equal places and next ids
 pub why_among : (reason : Option Reason) (places there : List Place) (next here : ℕ) (before : Before) (o : Option TableRow) → reason ≡ reason_here places next before o → places ≡ there → next ≡ here → reason ≡ reason_here there here before o

@@ -3,30 +3,31 @@ use Rattle.std.proofs.Common.{◌≡◌, ◌∙◌, ℕ, zero, suc, ◌-◌, ◌
 use Rattle.std.specs.Prelude.{Some, None, nat_le, ◌&&◌, ◌==◌, bytes_eq, slice_index}
 use Rattle.std.proofs.lemmas.Bool.{and_left, and_right, eq-eqb, le-leb, ne_eqb}
 use Rattle.fork_bytes.specs.Blocks.{trimmed, before_zeros}
-use Rattle.volume_spec.specs.SoundVolume.{is_formed as is_formed_row, is_named}
+use Rattle.volume_spec.specs.SoundVolume.{is_formed as is_formed_row, is_named, has_fit_privileges}
 use Rattle.volume_spec.specs.TypedVolume.{is_typed_row}
 use Rattle.record_keeper.specs.declared.record.Record.{Record}
 use Rattle.volume_keeper_records.specs.declared.rows.TableRow.TheVariants as row
 use Rattle.volume_keeper_records.specs.Records.{record_of}
-use Rattle.volume_keeper_records.specs.Shape.{row_in, guess, is_formed_record, is_formed_node, bare_row, has_fit_forks, is_root_or_other, head_in, node_in, block_in, comment_in, icon_in, appl_in, are_same}
+use Rattle.volume_keeper_records.specs.Shape.{row_in, guess, is_formed_record, is_formed_node, bare_row, has_fit_forks, is_root_or_other, head_in, node_in, block_in, comment_in, icon_in, appl_in, are_same, Label, is_sound_node, is_of_version}
 use Rattle.afp_base.proofs.Facts.{bytes_true}
 
 -- a record under a node's key is guessed as a node
-pub node_guess : (r : Record) → slice_index r.key 0 ≡ 1 → guess r ≡ row.Node (node_in r.key r.value (take 32 (drop 19 r.value)) (drop 51 r.value))
-node_guess r tag =
-    ap (λ t. cond (t == 0) (row.Head (head_in r.value)) (cond (t == 1) (row.Node (node_in r.key r.value (take 32 (drop 19 r.value)) (drop 51 r.value))) (cond (t == 2) (row.Block (block_in r.key r.value))
+pub node_guess : (version : ℕ) (r : Record) → slice_index r.key 0 ≡ 1 → guess version r ≡ row.Node (node_in version r.key r.value (take 32 (drop 19 r.value)) (drop 51 r.value))
+node_guess version r tag =
+    ap (λ t. cond (t == 0) (row.Head (head_in r.value)) (cond (t == 1) (row.Node (node_in version r.key r.value (take 32 (drop 19 r.value)) (drop 51 r.value))) (cond (t == 2) (row.Block (block_in r.key r.value))
     (cond (t == 3) (row.Comment (comment_in r.key r.value)) (cond (t == 4) (row.Icon (icon_in r.key r.value)) (row.Appl (appl_in r.key r.value))))))) tag
 
 -- a node's value that ends before its Finder info does is of no shape
-pub short_node : (name : List ℕ) (r : Record) → slice_index r.key 0 ≡ 1 → length r.value < 51 → row_in name r ≡ None
+pub short_node : (label : Label) (r : Record) → slice_index r.key 0 ≡ 1 → length r.value < 51 → row_in label r ≡ None
 unfolding row_in
-short_node name r tag short =
-    let finder : List ℕ = take 32 (drop 19 r.value) in
-    let len : (length finder == 32) ≡ false = ne_eqb (length finder) 32 (λ e. absurd (let a = length-take 32 (drop 19 r.value) in let b = length-drop 19 r.value in omega arith)) in
-    let node = node_in r.key r.value (take 32 (drop 19 r.value)) (drop 51 r.value) in
-    let unnamed : is_named (bare_row node) ≡ false = and_right _ (length finder == 32) len in
-    let unformed : is_formed_node name node ≡ false = and_right (is_typed_row (bare_row node)) (is_formed_row (bare_row node) && (has_fit_forks node && is_root_or_other name node)) (and_left (is_formed_row (bare_row node)) (has_fit_forks node && is_root_or_other name node) (and_left (is_named (bare_row node)) _ unnamed)) in
-    ap (λ g. cond (is_formed_record name g && are_same (record_of g) r) (Some g) None) (node_guess r tag)
+short_node label r tag short =
+    let len : (length (take 32 (drop 19 r.value)) == 32) ≡ false = ne_eqb (length (take 32 (drop 19 r.value))) 32 (λ e. absurd (let a = length-take 32 (drop 19 r.value) in let b = length-drop 19 r.value in omega arith)) in
+    let node = node_in label.version r.key r.value (take 32 (drop 19 r.value)) (drop 51 r.value) in
+    let unnamed : is_named (bare_row node) ≡ false = and_right _ (length (take 32 (drop 19 r.value)) == 32) len in
+    let unsound : is_sound_node label.name node ≡ false = and_right (is_typed_row (bare_row node)) (is_formed_row (bare_row node) && (has_fit_forks node && is_root_or_other label.name node))
+    (and_left (is_formed_row (bare_row node)) (has_fit_forks node && is_root_or_other label.name node) (and_right (has_fit_privileges (bare_row node).dir (bare_row node).privileges) _ (and_left (is_named (bare_row node)) _ unnamed))) in
+    let unformed : is_formed_node label node ≡ false = and_right (is_of_version label.version node.privileges) (is_sound_node label.name node) unsound in
+    ap (λ g. cond (is_formed_record label g && are_same (record_of g) r) (Some g) None) (node_guess label.version r tag)
     ∙ ap (λ t. cond (t && are_same (record_of (row.Node node)) r) (Some (row.Node node)) None) unformed
 
 more_in_front : (b c : ℕ) (cs ts : List ℕ) → bytes_eq ts (c ∷ cs) ≡ bytes_eq (before_zeros b ts) (b ∷ c ∷ cs)

@@ -1,19 +1,19 @@
 -- The volume that whole tables say is sound.
 use Rattle.std.proofs.Common.{◌≡◌, ◌∙◌, ℕ, zero, suc, ◌+◌, ◌<◌, ◌≤◌, Bool, true, false, cond, not, List, [], ◌∷◌, ◌++◌, map, length, refl, sym, ap, arith}
-use Rattle.std.specs.Prelude.{nat_le, nat_lt, ◌&&◌, ◌||◌, ◌==◌, bytes_eq, bit_and, sum_by}
+use Rattle.std.specs.Prelude.{nat_le, nat_lt, ◌&&◌, ◌||◌, ◌==◌, bytes_eq, bit_and, sum_by, unwrap_or}
 use Rattle.std.specs.List.{list_all, list_any, filter}
 use Rattle.std.proofs.lemmas.Bool.{and_from, eqb-true, le-leb, lt-ltb, ltb-false, ltb-true, ne_eqb, not-false, not-true, not_from_false, or_parts}
 use Rattle.std.proofs.lemmas.List.Folds.{list_all-map}
-use Rattle.volume_spec.specs.VolumeState.{Comment, Icon, Appl, root_id, root_parent, first_id, Row as VolumeRow}
+use Rattle.volume_spec.specs.VolumeState.{Comment, Icon, Appl, root_id, root_parent, first_id, Row as VolumeRow, guest, new_privileges}
 use Rattle.volume_spec.specs.Order.{stands_before}
 use Rattle.afp_base.specs.Apart.{are_apart}
 use Rattle.afp_base.specs.Limits.{most_fork_bytes}
-use Rattle.volume_spec.specs.SoundVolume.{IsSoundVolume, is_tree, is_in_place, has_apart_names, are_named_alike, has_noted_nodes, keeps_limits, is_formed_volume, is_in_order, has_rising_ids, has_node, has_file, leads_to_root, is_named, is_comment, is_icon, are_one_icon, are_one_appl, icon_key, appl_key, most_nodes, most_icons, most_appls, last_next_id, code_size, file_attributes, dir_attributes, is_formed as is_formed_row}
-use Rattle.volume_spec.specs.TypedVolume.{is_date, is_quad, is_typed_row, is_typed_comment, is_typed_icon, is_typed_appl}
+use Rattle.volume_spec.specs.SoundVolume.{IsSoundVolume, is_tree, is_in_place, has_apart_names, are_named_alike, has_noted_nodes, keeps_limits, is_formed_volume, is_in_order, has_rising_ids, has_node, has_file, leads_to_root, is_named, is_comment, is_icon, are_one_icon, are_one_appl, icon_key, appl_key, most_nodes, most_icons, most_appls, last_next_id, code_size, file_attributes, dir_attributes, is_formed as is_formed_row, has_fit_privileges}
+use Rattle.volume_spec.specs.TypedVolume.{is_date, is_quad, is_typed_row, is_typed_comment, is_typed_icon, is_typed_appl, is_word}
 use Rattle.volume_keeper_records.specs.declared.rows.Node.{Node}
 use Rattle.volume_keeper_records.specs.declared.rows.ForkBlock.{ForkBlock}
 use Rattle.volume_keeper_records.specs.declared.rows.TableRow.TheVariants as row
-use Rattle.volume_keeper_records.specs.Shape.{bare_row, is_formed_record, is_formed_node, is_formed_comment, is_formed_icon, is_formed_appl, has_fit_forks, is_root_or_other}
+use Rattle.volume_keeper_records.specs.Shape.{bare_row, is_formed_record, is_formed_comment, is_formed_icon, is_formed_appl, has_fit_forks, is_root_or_other, Label, is_sound_node, is_sound_head}
 use Rattle.volume_keeper_records.specs.Image.{Tables}
 use Rattle.volume_keeper_records.specs.FirstBad.{tree_of, nodes_to, icons_to, appls_to}
 use Rattle.volume_keeper_records.proofs.Chains.{Chain, chain-map, chain-apart, top, sum-map, chain-rises, all-from}
@@ -25,6 +25,7 @@ use Rattle.afp_base.proofs.Facts.{bytes_same, cases, left_true, pick, rest_false
 use Rattle.afp_base.proofs.ListFacts.{all-and, all-weaker, any-map, any-none, any-same, filter-all, length-mapped, none-any}
 use Rattle.volume_keeper_records.proofs.Passing.{below_le}
 use Rattle.volume_spec.proofs.Ordered.{before-not-back}
+use Rattle.volume_keeper_records.proofs.ReadBack.{sound_nodes}
 
 -- ---- the tree
 
@@ -46,7 +47,10 @@ not_both : (a b : Bool) → a ≡ false → (not a && not b) ≡ false → b ≡
 not_both true b e f = absurd (cc)
 not_both false b e f = not-false b f
 
-in_place_one : (name : List ℕ) (t : Tables) (n : Node) → is_formed_node name n ≡ true → IsFree t (row.Node n) → is_in_place (volume_of name t) (row_from t.blocks n) ≡ true
+not_le : (a b : ℕ) → nat_le b a ≡ false → nat_lt a b ≡ true
+not_le a b e = grind (arith, e)
+
+in_place_one : (name : List ℕ) (t : Tables) (n : Node) → is_sound_node name n ≡ true → IsFree t (row.Node n) → is_in_place (volume_of name t) (row_from t.blocks n) ≡ true
 in_place_one name t n f free =
     let formed = right_true (has_fit_forks n) (is_root_or_other name n) (right_true (is_formed_row (bare_row n)) (has_fit_forks n && is_root_or_other name n) (right_true (is_typed_row (bare_row n)) (is_formed_row (bare_row n) && (has_fit_forks n && is_root_or_other name n)) f)) in
     pick (n.id == root_id) (n.is_directory && ((n.parent == root_parent) && bytes_eq n.name name))
@@ -61,26 +65,24 @@ in_place_one name t n f free =
     let same : leads_to_root (map (row_from t.blocks) t.nodes) (length (map (row_from t.blocks) t.nodes)) n.parent ≡ true =
     ap (λ k. leads_to_root (map (row_from t.blocks) t.nodes) k n.parent) (length-mapped (row_from t.blocks) t.nodes ∙ sym (length-mapped bare_row t.nodes)) ∙ leads_alike t.blocks t.nodes (length (map bare_row t.nodes)) n.parent ∙ leads in
     λ i. (low i && high i) && same i)
-  where
-    not_le : (a b : ℕ) → nat_le b a ≡ false → nat_lt a b ≡ true
-    not_le a b e = grind (arith, e)
 
 lower_differ : (a b : VolumeRow) → nat_lt a.id b.id ≡ true → (a.id == b.id) ≡ false
 lower_differ a b e = ne_eqb a.id b.id (λ h. absurd (let l : a.id < b.id = ltb-true _ _ e in omega arith))
 
-tree_made : (name : List ℕ) (t : Tables) → IsWhole name t → is_tree (volume_of name t) ≡ true
+tree_made : (label : Label) (t : Tables) → IsWhole label t → is_tree (volume_of label.name t) ≡ true
 unfolding is_tree
-tree_made name t w =
-    let formed = each_kind (is_formed_record name) t w.formed in
+tree_made label t w =
+    let formed = each_kind (is_formed_record label) t w.formed in
     let clear = each_kind (is_clear t) t w.clear in
-    let order = in_order name t w in
+    let order = in_order label t w in
     let rows : List VolumeRow = map (row_from t.blocks) t.nodes in
     let apart = chain-apart (λ (a : VolumeRow) b. nat_lt a.id b.id) (λ a b. a.id == b.id) lower_differ (map (row_from t.blocks) t.nodes) (chain-map (λ (a : VolumeRow) b. nat_lt a.id b.id) (row_from t.blocks) t.nodes order.nodes) in
     let root = nodes_alike t.blocks t.nodes root_id ∙ w.root in
-    let places = list_all-map (is_in_place (volume_of name t)) (row_from t.blocks) t.nodes
-    ∙ all-weaker (λ n. is_formed_node name n && is_clear t (row.Node n)) (λ n. is_in_place (volume_of name t) (row_from t.blocks n)) t.nodes
-    (λ n e. in_place_one name t n (left_true (is_formed_node name n) (is_clear t (row.Node n)) e) (is_free t (row.Node n) (right_true (is_formed_node name n) (is_clear t (row.Node n)) e)))
-    (all-and (is_formed_node name) (λ n. is_clear t (row.Node n)) t.nodes formed.nodes clear.nodes) in
+    let nodes = sound_nodes label t.nodes formed.nodes in
+    let places = list_all-map (is_in_place (volume_of label.name t)) (row_from t.blocks) t.nodes
+    ∙ all-weaker (λ n. is_sound_node label.name n && is_clear t (row.Node n)) (λ n. is_in_place (volume_of label.name t) (row_from t.blocks n)) t.nodes
+    (λ n e. in_place_one label.name t n (left_true (is_sound_node label.name n) (is_clear t (row.Node n)) e) (is_free t (row.Node n) (right_true (is_sound_node label.name n) (is_clear t (row.Node n)) e)))
+    (all-and (is_sound_node label.name) (λ n. is_clear t (row.Node n)) t.nodes nodes clear.nodes) in
     λ i. apart i && (root i && places i)
 
 -- ---- names
@@ -115,20 +117,20 @@ apart_map : (f : Node → VolumeRow) → ((a b : Node) → are_named_alike (f a)
 apart_map f h [] = refl
 apart_map f h (n ∷ ns) = λ i. not ((any-map (are_named_alike (f n)) f ns ∙ any-same (λ m. are_named_alike (f n) (f m)) (alike n) ns (h n)) i) && apart_map f h ns i
 
-names_made : (name : List ℕ) (t : Tables) → IsWhole name t → has_apart_names (volume_of name t) ≡ true
+names_made : (label : Label) (t : Tables) → IsWhole label t → has_apart_names (volume_of label.name t) ≡ true
 unfolding has_apart_names
-names_made name t w =
+names_made label t w =
     let clear = each_kind (is_clear t) t w.clear in
-    let order = in_order name t w in
+    let order = in_order label t w in
     let twins = all-weaker (λ n. is_clear t (row.Node n)) (λ (n : Node). list_all (λ (o : Node). not (nat_lt o.id n.id && alike o n)) t.nodes) t.nodes
     (λ n e. none-any (λ (o : Node). nat_lt o.id n.id && alike o n) t.nodes (is_free t (row.Node n) e).lone) clear.nodes in
     apart_map (row_from t.blocks) (λ a b. refl) t.nodes ∙ apart_made t.nodes order.nodes twins
 
 -- ---- comments and APPL mappings
 
-notes_made : (name : List ℕ) (t : Tables) → IsWhole name t → has_noted_nodes (volume_of name t) ≡ true
+notes_made : (label : Label) (t : Tables) → IsWhole label t → has_noted_nodes (volume_of label.name t) ≡ true
 unfolding has_noted_nodes
-notes_made name t w =
+notes_made label t w =
     let clear = each_kind (is_clear t) t w.clear in
     let comments = all-weaker (λ c. is_clear t (row.Comment c)) (λ (c : Comment). has_node (map (row_from t.blocks) t.nodes) c.node) t.comments
     (λ c e. nodes_alike t.blocks t.nodes c.node ∙ not-false _ (is_free t (row.Comment c) e).placed) clear.comments in
@@ -146,11 +148,11 @@ at_top R le h s count most none (x ∷ xs) c e =
     let last = t.2 (λ m. not (nat_lt most (count (filter (λ o. le o m) (x ∷ xs))))) e in
     le-leb _ _ (ltb-false most (count (x ∷ xs)) (ap (λ l. nat_lt most (count l)) (sym (filter-all (λ o. le o t.0) (x ∷ xs) t.1)) ∙ not-true _ last))
 
-limits_made : ForkLaw → (name : List ℕ) (t : Tables) → IsWhole name t → keeps_limits (volume_of name t) ≡ true
+limits_made : ForkLaw → (label : Label) (t : Tables) → IsWhole label t → keeps_limits (volume_of label.name t) ≡ true
 unfolding keeps_limits
-limits_made law name t w =
+limits_made law label t w =
     let clear = each_kind (is_clear t) t w.clear in
-    let order = in_order name t w in
+    let order = in_order label t w in
     let both = λ (n : Node) (e : is_clear t (row.Node n) ≡ true). or_parts (nat_lt most_nodes (length (nodes_to n t))) (nat_lt most_fork_bytes (sum_by (λ (o : Node). o.data_length + o.resource_length) (nodes_to n t))) (is_free t (row.Node n) e).few in
     let nodes = at_top (λ (a : Node) b. nat_lt a.id b.id) (λ a b. nat_le a.id b.id) below_le (λ a. le-leb _ _ (let l : a.id ≤ a.id = omega arith in l)) length most_nodes refl t.nodes order.nodes
     (all-weaker (λ n. is_clear t (row.Node n)) (λ n. not (nat_lt most_nodes (length (nodes_to n t)))) t.nodes (λ n e. not_from_false _ (both n e).0) clear.nodes) in
@@ -173,15 +175,18 @@ fit_lengths true named attr_d attr_f filed true false e f = absurd (cc)
 fit_lengths true named attr_d attr_f filed false y e f = absurd (cc)
 fit_lengths false named attr_d attr_f filed x y e f = e
 
-row_formed : ForkLaw → (name : List ℕ) (blocks : List ForkBlock) (n : Node) → is_formed_node name n ≡ true → is_formed_row (row_from blocks n) ≡ true
+row_formed : ForkLaw → (name : List ℕ) (blocks : List ForkBlock) (n : Node) → is_sound_node name n ≡ true → is_formed_row (row_from blocks n) ≡ true
 row_formed law name blocks n f =
     let behind = right_true (is_typed_row (bare_row n)) (is_formed_row (bare_row n) && (has_fit_forks n && is_root_or_other name n)) f in
     let formed = left_true (is_formed_row (bare_row n)) (has_fit_forks n && is_root_or_other name n) behind in
     let forks = left_true (has_fit_forks n) (is_root_or_other name n) (right_true (is_formed_row (bare_row n)) (has_fit_forks n && is_root_or_other name n) behind) in
+    let fit = left_true (has_fit_privileges n.is_directory (unwrap_or n.privileges (new_privileges n.is_directory guest))) _ formed in
+    let shape = right_true (has_fit_privileges n.is_directory (unwrap_or n.privileges (new_privileges n.is_directory guest))) _ formed in
     let lengths = right_true (is_quad n.data_length && is_quad n.resource_length) (cond n.is_directory ((n.data_length == 0) && (n.resource_length == 0)) true) forks in
-    (λ i. is_named (bare_row n) && cond n.is_directory ((bit_and n.attributes dir_attributes == n.attributes) && ((law.size n.data_length (pieces blocks n.id 0) i == 0) && ((law.size n.resource_length (pieces blocks n.id 1) i == 0) && not n.is_filed)))
+    and_from (has_fit_privileges n.is_directory (unwrap_or n.privileges (new_privileges n.is_directory guest))) _ fit
+    ((λ i. is_named (bare_row n) && cond n.is_directory ((bit_and n.attributes dir_attributes == n.attributes) && ((law.size n.data_length (pieces blocks n.id 0) i == 0) && ((law.size n.resource_length (pieces blocks n.id 1) i == 0) && not n.is_filed)))
     (bit_and n.attributes file_attributes == n.attributes))
-    ∙ fit_lengths n.is_directory (is_named (bare_row n)) (bit_and n.attributes dir_attributes == n.attributes) (bit_and n.attributes file_attributes == n.attributes) n.is_filed (n.data_length == 0) (n.resource_length == 0) formed lengths
+    ∙ fit_lengths n.is_directory (is_named (bare_row n)) (bit_and n.attributes dir_attributes == n.attributes) (bit_and n.attributes file_attributes == n.attributes) n.is_filed (n.data_length == 0) (n.resource_length == 0) shape lengths)
 
 -- what is one icon, or one mapping, has one key
 icon_apart : (a b : Icon) → icon_before a b ≡ true → are_one_icon a b ≡ false
@@ -207,13 +212,15 @@ appl_apart a b e = cases (are_one_appl a b)
 comment_apart : (a b : Comment) → nat_lt a.node b.node ≡ true → (a.node == b.node) ≡ false
 comment_apart a b e = ne_eqb a.node b.node (λ h. absurd (let l : a.node < b.node = ltb-true _ _ e in omega arith))
 
-formed_made : ForkLaw → (name : List ℕ) (t : Tables) → IsWhole name t → is_formed_volume (volume_of name t) ≡ true
+formed_made : ForkLaw → (label : Label) (t : Tables) → IsWhole label t → is_formed_volume (volume_of label.name t) ≡ true
 unfolding is_formed_volume
-formed_made law name t w =
-    let formed = each_kind (is_formed_record name) t w.formed in
-    let order = in_order name t w in
-    let next = right_true (is_date t.head.created && (is_date t.head.modified && is_date t.head.backup)) (nat_le first_id t.head.next_id && nat_le t.head.next_id last_next_id) formed.head in
-    let rows = list_all-map is_formed_row (row_from t.blocks) t.nodes ∙ all-weaker (is_formed_node name) (λ n. is_formed_row (row_from t.blocks n)) t.nodes (row_formed law name t.blocks) formed.nodes in
+formed_made law label t w =
+    let formed = each_kind (is_formed_record label) t w.formed in
+    let head = right_true ((t.head.version == label.version) && is_word t.head.version) (is_sound_head t.head) formed.head in
+    let nodes = sound_nodes label t.nodes formed.nodes in
+    let order = in_order label t w in
+    let next = right_true (is_date t.head.created && (is_date t.head.modified && is_date t.head.backup)) (nat_le first_id t.head.next_id && nat_le t.head.next_id last_next_id) head in
+    let rows = list_all-map is_formed_row (row_from t.blocks) t.nodes ∙ all-weaker (is_sound_node label.name) (λ n. is_formed_row (row_from t.blocks n)) t.nodes (row_formed law label.name t.blocks) nodes in
     let comments = chain-apart (λ (a : Comment) b. nat_lt a.node b.node) (λ a b. a.node == b.node) comment_apart t.comments order.comments in
     let texts = all-weaker is_formed_comment is_comment t.comments (λ c f. right_true (is_typed_comment c) (is_comment c) f) formed.comments in
     let icons = chain-apart icon_before are_one_icon icon_apart t.icons order.icons in
@@ -237,11 +244,11 @@ above_there (n ∷ ns) id e h = cases (n.id == id)
     (λ t. ap (nat_lt 0) (sym (eqb-true n.id id t)) ∙ left_true (nat_lt 0 n.id) (list_all (λ (n : Node). nat_lt 0 n.id) ns) e)
     (λ t. above_there ns id (right_true (nat_lt 0 n.id) (list_all (λ (n : Node). nat_lt 0 n.id) ns) e) (ap (λ b. b || has_node (map bare_row ns) id) (sym t) ∙ h))
 
-order_made : (name : List ℕ) (t : Tables) → IsWhole name t → is_in_order (volume_of name t) ≡ true
+order_made : (label : Label) (t : Tables) → IsWhole label t → is_in_order (volume_of label.name t) ≡ true
 unfolding is_in_order has_rising_ids
-order_made name t w =
+order_made label t w =
     let clear = each_kind (is_clear t) t w.clear in
-    let order = in_order name t w in
+    let order = in_order label t w in
     let low = all-weaker (λ n. is_clear t (row.Node n)) (λ (n : Node). nat_lt 0 n.id) t.nodes (λ n e. id_above t n (is_free t (row.Node n) e)) clear.nodes in
     let rows = all-from (λ (r : VolumeRow). r.id) 0 (map (row_from t.blocks) t.nodes) (list_all-map (λ (r : VolumeRow). nat_lt 0 r.id) (row_from t.blocks) t.nodes ∙ low) (chain-map (λ (a : VolumeRow) b. nat_lt a.id b.id) (row_from t.blocks) t.nodes order.nodes) in
     let comments = all-from (λ (c : Comment). c.node) 0 t.comments
@@ -250,12 +257,12 @@ order_made name t w =
     let appls = chain-rises appl_key t.appls order.appls in
     λ i. rows i && (comments i && (icons i && appls i))
 
-pub volume_sound : ForkLaw → (name : List ℕ) (t : Tables) → IsWhole name t → IsSoundVolume (volume_of name t)
-volume_sound law name t w = record {
-  tree = tree_made name t w;
-  names = names_made name t w;
-  notes = notes_made name t w;
-  limits = limits_made law name t w;
-  formed = formed_made law name t w;
-  order = order_made name t w;
+pub volume_sound : ForkLaw → (label : Label) (t : Tables) → IsWhole label t → IsSoundVolume (volume_of label.name t)
+volume_sound law label t w = record {
+  tree = tree_made label t w;
+  names = names_made label t w;
+  notes = notes_made label t w;
+  limits = limits_made law label t w;
+  formed = formed_made law label t w;
+  order = order_made label t w;
 }

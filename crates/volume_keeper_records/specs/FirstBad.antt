@@ -1,7 +1,7 @@
 -- The first record that breaks a rule of a volume (this profile).
 use Rattle.record_keeper.specs.Reading.{most_records}
-use Rattle.std.specs.Prelude.{ℕ, ◌+◌, ◌*◌, ◌==◌, nat_le, nat_lt, Bool, false, not, ◌&&◌, ◌||◌, if◌then◌else◌, List, [], ◌∷◌, map, length, drop, sum_by, Option, Some, None}
-use Rattle.std.specs.List.{list_any, filter, filter_map}
+use Rattle.std.specs.Prelude.{ℕ, ◌+◌, ◌*◌, ◌==◌, nat_le, nat_lt, Bool, false, not, ◌&&◌, ◌||◌, if◌then◌else◌, List, [], ◌∷◌, map, length, drop, sum_by, bytes_eq, option_map, unwrap_or, Option, Some, None}
+use Rattle.std.specs.List.{list_any, filter, filter_map, find}
 use Rattle.afp_base.specs.Limits.{block_size, most_fork_bytes}
 use Rattle.volume_spec.specs.VolumeState.{Row as VolumeRow, Icon, Appl, root_id, first_id}
 use Rattle.volume_spec.specs.Order.{stands_before}
@@ -13,12 +13,13 @@ use Rattle.volume_keeper_records.specs.declared.rows.Reason.{Reason}
 use Rattle.volume_keeper_records.specs.declared.rows.Reason.TheVariants.{Shape, Parent, Twin, Range, Limit}
 use Rattle.volume_keeper_records.specs.declared.rows.TableRow.{TableRow}
 use Rattle.volume_keeper_records.specs.declared.rows.TableRow.TheVariants as row
-use Rattle.volume_keeper_records.specs.Shape.{bare_row, row_in}
+use Rattle.volume_keeper_records.specs.Shape.{Label, bare_row, row_in, word_at}
+use Rattle.volume_keeper_records.specs.Records.{version, old_version, head_key}
 use Rattle.volume_keeper_records.specs.KeyOrder.{with_head_and_root}
 use Rattle.volume_keeper_records.specs.Image.{Tables, tables_in}
 
 -- what the records of a volume's shape say: a record of another shape is no node
-abbrev pub rows_in : List ℕ → List Record → List TableRow
+abbrev pub rows_in : Label → List Record → List TableRow
 rows_in name records = filter_map (row_in name) records
 
 -- the nodes as rows of a volume
@@ -84,11 +85,11 @@ bad_or key None other = other
 bad_or key (Some reason) other = Some (record { key = key; reason = reason })
 
 -- the first of some records that is refused, by what all records say
-abbrev pub first_in : List ℕ → Tables → List Record → Option BadRecord
+abbrev pub first_in : Label → Tables → List Record → Option BadRecord
 first_in name t [] = None
 first_in name t (r ∷ records) = bad_or r.key (reason_of t (row_in name r)) (first_in name t records)
 
-abbrev pub first_bad_among : List ℕ → List Record → Option BadRecord
+abbrev pub first_bad_among : Label → List Record → Option BadRecord
 first_bad_among name records = first_in name (tables_in (rows_in name records)) records
 
 -- a record with which a keeper passes that limit
@@ -96,9 +97,20 @@ abbrev pub too_many : List Record → Option BadRecord
 too_many [] = None
 too_many (r ∷ records) = Some (record { key = r.key; reason = Limit })
 
+-- the value of the head's record, or an empty one
+abbrev pub head_value : List Record → List ℕ
+head_value records = unwrap_or (option_map (λ (r : Record). r.value) (find (λ (r : Record). bytes_eq r.key head_key) records)) []
+
+-- records are of the older version where the head's value begins with its number, and else of the one that is written
+abbrev pub version_in : List Record → ℕ
+version_in records = if word_at (head_value records) 0 == old_version then old_version else version
+
+abbrev pub label_of : List ℕ → List Record → Label
+label_of name records = record { version = version_in records; name = name }
+
 -- The first record by rising key that breaks a rule of a volume of that name, with the first rule. No record is no volume, and none is bad.
 -- Where there are more than 480,000, the one behind them is refused with Limit, whatever stands before it.
 abbrev pub first_bad_record : List ℕ → List Record → Option BadRecord
 first_bad_record name [] = None
 first_bad_record name (r ∷ records) =
-    if nat_lt most_records (length (r ∷ records)) then too_many (drop most_records (r ∷ records)) else first_bad_among name (with_head_and_root (r ∷ records))
+    if nat_lt most_records (length (r ∷ records)) then too_many (drop most_records (r ∷ records)) else first_bad_among (label_of name (r ∷ records)) (with_head_and_root (r ∷ records))

@@ -1,9 +1,9 @@
 -- The volume that tables say (this profile).
-use Rattle.std.specs.Prelude.{ℕ, ◌==◌, List, map}
+use Rattle.std.specs.Prelude.{ℕ, ◌==◌, List, unwrap_or, map}
 use Rattle.std.specs.List.{filter}
 use Rattle.fork_bytes.specs.declared.block.Block.{Block}
 use Rattle.fork_bytes.specs.Kept.{bytes_of}
-use Rattle.volume_spec.specs.VolumeState.{VolumeState, Row as VolumeRow}
+use Rattle.volume_spec.specs.VolumeState.{VolumeState, guest, new_privileges, Row as VolumeRow}
 use Rattle.volume_keeper_records.specs.declared.rows.Node.{Node}
 use Rattle.volume_keeper_records.specs.declared.rows.ForkBlock.{ForkBlock}
 use Rattle.volume_keeper_records.specs.Records.{flag_byte}
@@ -35,6 +35,7 @@ row_from blocks n = record {
   backup = n.backup;
   finder = n.finder;
   filed = n.is_filed;
+  privileges = unwrap_or n.privileges (new_privileges n.is_directory guest);
   name = n.name;
   data_fork = bytes_of n.data_length (pieces blocks n.id 0);
   resource_fork = bytes_of n.resource_length (pieces blocks n.id 1);

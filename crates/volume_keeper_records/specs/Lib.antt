@@ -3,6 +3,7 @@ pub mod Shape
 pub mod Image
 pub mod FromTables
 pub mod KeyOrder
+pub mod Migration
 pub mod Laws
 pub mod FirstBad
 pub mod Loaded

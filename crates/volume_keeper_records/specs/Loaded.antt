@@ -6,13 +6,13 @@ use Rattle.volume_keeper_records.specs.declared.rows.TableRow.{TableRow}
 use Rattle.volume_keeper_records.specs.declared.load.Loaded.{Loaded}
 use Rattle.volume_keeper_records.specs.declared.load.Loaded.TheVariants as loaded
 use Rattle.volume_keeper_records.specs.Image.{rows_of, tables_of}
-use Rattle.volume_keeper_records.specs.FirstBad.{first_bad_record}
+use Rattle.volume_keeper_records.specs.FirstBad.{version_in, first_bad_record}
 use Rattle.volume_keeper_records.specs.Laws.{HasRecords}
 
 -- a volume that has just these records, and the rows that say it
 pub record IsVolumeOf (name : List ℕ) (records : List Record) (rows : List TableRow) (v : VolumeState) : Type 0 where
   pub has_records : HasRecords name records v
-  pub has_rows : rows ≡ rows_of (tables_of v)
+  pub has_rows : rows ≡ rows_of (tables_of (version_in records) v)
 
 -- the first bad record; or, where none is bad, the rows of the volume whose records they are
 abbrev pub IsLoadedRows : List ℕ → List Record → Loaded → Type 0

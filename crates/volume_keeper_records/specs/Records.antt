@@ -1,8 +1,8 @@
 -- The records of a volume, one definition each (this profile). Numbers stand with their highest byte first.
-use Rattle.std.specs.Prelude.{ℕ, ℤ, Bool, List, [], ◌∷◌, ◌++◌, if◌then◌else◌}
+use Rattle.std.specs.Prelude.{ℕ, ℤ, Bool, List, [], ◌∷◌, ◌++◌, Option, Some, None, if◌then◌else◌}
 use Rattle.std.specs.Int.{cast_unsigned, w32}
 use Rattle.byteorder.specs.Endian.{big_bytes}
-use Rattle.volume_spec.specs.VolumeState.{Comment, Icon, Appl}
+use Rattle.volume_spec.specs.VolumeState.{Privileges, Comment, Icon, Appl}
 use Rattle.volume_spec.specs.SoundVolume.{icon_key}
 use Rattle.record_keeper.specs.declared.record.Record.{Record}
 use Rattle.volume_keeper_records.specs.declared.rows.Head.{Head}
@@ -30,9 +30,12 @@ icon_tag = 4
 abbrev pub appl_tag : ℕ
 appl_tag = 5
 
--- the version of a volume's records
+-- the version of a volume's records, and the older one, whose nodes have no owner, group and rights
 abbrev pub version : ℕ
-version = 1
+version = 2
+
+abbrev pub old_version : ℕ
+old_version = 1
 
 -- numbers of two, of four and of eight bytes, and a date, which has a sign
 abbrev pub word_bytes : ℕ → List ℕ
@@ -71,10 +74,15 @@ appl_record_key creator node = appl_tag ∷ (creator ++ long_bytes node)
 unfoldable pub head_record : Head → Record
 head_record head = record {
   key = head_key;
-  value = word_bytes version ++ (date_bytes head.created ++ (date_bytes head.modified ++ (date_bytes head.backup ++ quad_bytes head.next_id)));
+  value = word_bytes head.version ++ (date_bytes head.created ++ (date_bytes head.modified ++ (date_bytes head.backup ++ quad_bytes head.next_id)));
 }
 
--- a node: its kind (0 a file, 1 a directory), parent, attributes, dates, Finder info, whether it is filed, the lengths of its forks, its name
+-- owner, group and the rights of everyone, of the group and of the owner, where the version has them
+abbrev pub privilege_bytes : Option Privileges → List ℕ
+privilege_bytes None = []
+privilege_bytes (Some p) = long_bytes p.owner ++ (long_bytes p.group ++ (p.everyone_rights ∷ p.group_rights ∷ p.owner_rights ∷ []))
+
+-- a node: its kind (0 a file, 1 a directory), parent, attributes, dates, Finder info, whether it is filed, the lengths of its forks, owner, group and rights, its name
 unfoldable pub node_record : Node → Record
 node_record node = record {
   key = node_key node.id;
@@ -88,7 +96,8 @@ node_record node = record {
       ++ (flag_byte node.is_filed
       ∷ (quad_bytes node.data_length
       ++ (quad_bytes node.resource_length
-      ++ node.name)))))))));
+      ++ (privilege_bytes node.privileges
+      ++ node.name))))))))));
 }
 
 -- a block of a fork (0 the data fork, 1 the resource fork): its bytes without the zeros at their end

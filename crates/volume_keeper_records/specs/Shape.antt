@@ -1,19 +1,24 @@
 -- Which records are of a volume's shape, and what they say (this profile).
-use Rattle.std.specs.Prelude.{ℕ, ℤ, ◌==◌, nat_le, Bool, true, ◌&&◌, if◌then◌else◌, List, [], ◌++◌, length, take, drop, replicate, slice_index, bytes_eq, Option, Some, None}
+use Rattle.std.specs.Prelude.{ℕ, ℤ, ◌==◌, nat_le, Bool, true, ◌&&◌, not, if◌then◌else◌, List, [], ◌++◌, length, take, drop, replicate, slice_index, bytes_eq, ◌+◌, unwrap_or, is_none, Option, Some, None}
 use Rattle.std.specs.Int.{cast_signed, w32}
 use Rattle.byteorder.specs.Endian.{big_number}
 use Rattle.afp_base.specs.Limits.{block_size}
 use Rattle.fork_bytes.specs.Blocks.{trimmed}
-use Rattle.volume_spec.specs.VolumeState.{Comment, Icon, Appl, root_id, root_parent, first_id, Row as VolumeRow}
+use Rattle.volume_spec.specs.VolumeState.{Privileges, Comment, Icon, Appl, root_id, root_parent, first_id, guest, new_privileges, Row as VolumeRow}
 use Rattle.volume_spec.specs.SoundVolume.{is_formed as is_formed_row, is_comment, is_icon, code_size, last_next_id}
-use Rattle.volume_spec.specs.TypedVolume.{is_long, is_quad, is_date, are_bytes, is_typed_row, is_typed_comment, is_typed_icon, is_typed_appl}
+use Rattle.volume_spec.specs.TypedVolume.{is_long, is_word, is_quad, is_date, are_bytes, is_typed_row, is_typed_comment, is_typed_icon, is_typed_appl}
 use Rattle.record_keeper.specs.declared.record.Record.{Record}
 use Rattle.volume_keeper_records.specs.declared.rows.Head.{Head}
 use Rattle.volume_keeper_records.specs.declared.rows.Node.{Node}
 use Rattle.volume_keeper_records.specs.declared.rows.ForkBlock.{ForkBlock}
 use Rattle.volume_keeper_records.specs.declared.rows.TableRow.{TableRow}
 use Rattle.volume_keeper_records.specs.declared.rows.TableRow.TheVariants as row
-use Rattle.volume_keeper_records.specs.Records.{head_tag, node_tag, block_tag, comment_tag, icon_tag, record_of}
+use Rattle.volume_keeper_records.specs.Records.{head_tag, node_tag, block_tag, comment_tag, icon_tag, old_version, record_of}
+
+-- of what version records are, and of a volume of what name
+pub record Label : Type 0 where
+  pub version : ℕ
+  pub name : List ℕ
 
 -- a node as a row of a volume, with no bytes in its forks
 abbrev pub bare_row : Node → VolumeRow
@@ -27,6 +32,7 @@ bare_row node = record {
   backup = node.backup;
   finder = node.finder;
   filed = node.is_filed;
+  privileges = unwrap_or node.privileges (new_privileges node.is_directory guest);
   name = node.name;
   data_fork = [];
   resource_fork = [];
@@ -34,9 +40,9 @@ bare_row node = record {
 
 -- What holds of the value of one record: numbers and dates in their ranges, and
 
--- the next id is from 17 to 2 ^ 32
-abbrev pub is_formed_head : Head → Bool
-is_formed_head head = (is_date head.created && (is_date head.modified && is_date head.backup)) && (nat_le first_id head.next_id && nat_le head.next_id last_next_id)
+-- the version is that of the others, and the next id is from 17 to 2 ^ 32
+abbrev pub is_sound_head : Head → Bool
+is_sound_head head = (is_date head.created && (is_date head.modified && is_date head.backup)) && (nat_le first_id head.next_id && nat_le head.next_id last_next_id)
 
 -- a directory has no bytes in its forks
 abbrev pub has_fit_forks : Node → Bool
@@ -46,9 +52,19 @@ has_fit_forks node = (is_quad node.data_length && is_quad node.resource_length) 
 abbrev pub is_root_or_other : List ℕ → Node → Bool
 is_root_or_other name node = if node.id == root_id then node.is_directory && ((node.parent == root_parent) && bytes_eq node.name name) else true
 
+abbrev pub is_formed_head : ℕ → Head → Bool
+is_formed_head version head = ((head.version == version) && is_word head.version) && is_sound_head head
+
+-- owner, group and rights are there but in the older version
+abbrev pub is_of_version : ℕ → Option Privileges → Bool
+is_of_version version privileges = if version == old_version then is_none privileges else not (is_none privileges)
+
 -- a node is formed as each row of a volume
-abbrev pub is_formed_node : List ℕ → Node → Bool
-is_formed_node name node = is_typed_row (bare_row node) && (is_formed_row (bare_row node) && (has_fit_forks node && is_root_or_other name node))
+abbrev pub is_sound_node : List ℕ → Node → Bool
+is_sound_node name node = is_typed_row (bare_row node) && (is_formed_row (bare_row node) && (has_fit_forks node && is_root_or_other name node))
+
+abbrev pub is_formed_node : Label → Node → Bool
+is_formed_node label node = is_of_version label.version node.privileges && is_sound_node label.name node
 
 -- a block has 1 to 4,096 bytes, and no zero at their end
 abbrev pub is_formed_block : ForkBlock → Bool
@@ -67,13 +83,13 @@ abbrev pub is_formed_appl : Appl → Bool
 is_formed_appl appl = is_typed_appl appl && (length appl.creator == code_size)
 
 -- a row of a volume of that name
-abbrev pub is_formed_record : List ℕ → TableRow → Bool
-is_formed_record name (row.Head head) = is_formed_head head
-is_formed_record name (row.Node node) = is_formed_node name node
-is_formed_record name (row.Block block) = is_formed_block block
-is_formed_record name (row.Comment comment) = is_formed_comment comment
-is_formed_record name (row.Icon icon) = is_formed_icon icon
-is_formed_record name (row.Appl appl) = is_formed_appl appl
+abbrev pub is_formed_record : Label → TableRow → Bool
+is_formed_record label (row.Head head) = is_formed_head label.version head
+is_formed_record label (row.Node node) = is_formed_node label node
+is_formed_record label (row.Block block) = is_formed_block block
+is_formed_record label (row.Comment comment) = is_formed_comment comment
+is_formed_record label (row.Icon icon) = is_formed_icon icon
+is_formed_record label (row.Appl appl) = is_formed_appl appl
 
 -- Numbers of two, four and eight bytes at a place, a date, and four bytes as they are. Bytes behind the end count as 0.
 abbrev pub word_at : List ℕ → ℕ → ℕ
@@ -93,11 +109,14 @@ four_at bytes i = take 4 (drop i bytes ++ replicate 4 0)
 
 -- what a record says if it is of a volume's shape, by the first byte of its key
 abbrev pub head_in : List ℕ → Head
-head_in value = record { created = date_at value 2; modified = date_at value 6; backup = date_at value 10; next_id = quad_at value 14 }
+head_in value = record { version = word_at value 0; created = date_at value 2; modified = date_at value 6; backup = date_at value 10; next_id = quad_at value 14 }
 
 -- of a node's value: what stands before the Finder info, that, and what stands behind it
-abbrev pub node_in : List ℕ → List ℕ → List ℕ → List ℕ → Node
-node_in key front finder behind = record {
+abbrev pub privileges_at : List ℕ → ℕ → Privileges
+privileges_at bytes i = record { owner = long_at bytes i; group = long_at bytes (i + 4); everyone_rights = slice_index bytes (i + 8); group_rights = slice_index bytes (i + 9); owner_rights = slice_index bytes (i + 10) }
+
+abbrev pub node_in : ℕ → List ℕ → List ℕ → List ℕ → List ℕ → Node
+node_in version key front finder behind = record {
   id = long_at key 1;
   is_directory = slice_index front 0 == 1;
   parent = long_at front 1;
@@ -109,7 +128,8 @@ node_in key front finder behind = record {
   is_filed = slice_index behind 0 == 1;
   data_length = quad_at behind 1;
   resource_length = quad_at behind 9;
-  name = drop 17 behind;
+  privileges = if version == old_version then None else Some (privileges_at behind 17);
+  name = drop (if version == old_version then 17 else 28) behind;
 }
 
 abbrev pub block_in : List ℕ → List ℕ → ForkBlock
@@ -125,10 +145,10 @@ abbrev pub appl_in : List ℕ → List ℕ → Appl
 appl_in key value = record { creator = four_at key 1; node = long_at key 5; tag = long_at value 0 }
 
 -- the only row whose record this can be
-abbrev pub guess : Record → TableRow
-guess r =
+abbrev pub guess : ℕ → Record → TableRow
+guess version r =
     if slice_index r.key 0 == head_tag then row.Head (head_in r.value)
-    else (if slice_index r.key 0 == node_tag then row.Node (node_in r.key r.value (take 32 (drop 19 r.value)) (drop 51 r.value))
+    else (if slice_index r.key 0 == node_tag then row.Node (node_in version r.key r.value (take 32 (drop 19 r.value)) (drop 51 r.value))
     else (if slice_index r.key 0 == block_tag then row.Block (block_in r.key r.value)
     else (if slice_index r.key 0 == comment_tag then row.Comment (comment_in r.key r.value)
     else (if slice_index r.key 0 == icon_tag then row.Icon (icon_in r.key r.value)
@@ -138,5 +158,5 @@ abbrev pub are_same : Record → Record → Bool
 are_same a b = bytes_eq a.key b.key && bytes_eq a.value b.value
 
 -- the row of a volume of that name whose record this is: the one whose record, written again, is the same
-unfoldable pub row_in : List ℕ → Record → Option TableRow
-row_in name r = if is_formed_record name (guess r) && are_same (record_of (guess r)) r then Some (guess r) else None
+unfoldable pub row_in : Label → Record → Option TableRow
+row_in label r = if is_formed_record label (guess label.version r) && are_same (record_of (guess label.version r)) r then Some (guess label.version r) else None

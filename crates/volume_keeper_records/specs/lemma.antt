@@ -1,3 +1,4 @@
 pub mod Climb
 pub mod Judged
 pub mod KeyOrder
+pub mod Raising

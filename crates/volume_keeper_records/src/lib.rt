@@ -6,6 +6,7 @@ mod judge;
 pub mod laws;
 mod limits;
 mod load;
+mod migration;
 mod numbers;
 mod pass;
 mod read;
@@ -14,9 +15,13 @@ mod shape;
 mod tree;
 mod write;
 
+pub use limits::{VERSION, versions_are_told};
 pub use load::{Loaded, load_records};
+pub use migration::{are_of_older_version, guest_privileges, migration_of, raise_rows};
 pub use read::read_row;
-pub use rows::{Appl, BadRecord, Comment, ForkBlock, Head, Icon, Node, Reason, TableRow};
+pub use rows::{
+    Appl, BadRecord, Comment, ForkBlock, Head, Icon, Node, Privileges, Reason, TableRow,
+};
 pub use write::{
     appl_key, appl_record, block_key, block_record, comment_key, comment_record, head_record,
     icon_key, icon_record, node_key, node_record, record_of,

@@ -19,14 +19,15 @@ use std::collections::BTreeSet;
 /// What each record says.
 pub(crate) fn read_all_rows(
     alloc: Global,
+    version: u16,
     name: &[u8],
     records: &[Record],
 ) -> Result<Vec<Option<TableRow>>, OutOfMemory>
-    ensures { IfOk result (λ rows. rows.items ≡ map (row_in name.now) records.now) }
+    ensures { IfOk result (λ rows. rows.items ≡ map (row_in (record { version = version; name = name.now })) records.now) }
 {
     let mut rows = Vec::new(alloc);
     for kept in records {
-        let row = read_row(alloc, name, kept)?;
+        let row = read_row(alloc, version, name, kept)?;
         push(&mut rows, row)?;
     }
     Ok(rows)
@@ -79,14 +80,15 @@ fn next_of(rows: &[Option<TableRow>]) -> u64
 /// The first record that is refused, of records that have been read.
 pub(crate) fn judge_all(
     alloc: Global,
+    version: u16,
     name: &[u8],
     records: &[Record],
     rows: &[Option<TableRow>],
 ) -> Result<Option<BadRecord>, OutOfMemory>
-    requires parsed { rows.now ≡ map (row_in name.now) records.now }
+    requires parsed { rows.now ≡ map (row_in (record { version = version; name = name.now })) records.now }
     requires order { RisesByKey records.now }
     requires room { length rows.now < 2 ^ 60 }
-    ensures { IfOk result (λ bad. bad ≡ first_bad_among name.now records.now) }
+    ensures { IfOk result (λ bad. bad ≡ first_bad_among (record { version = version; name = name.now }) records.now) }
 {
     let places = all_places(alloc, rows)?;
     let tree = grow(alloc, places)?;

@@ -1,10 +1,11 @@
 //! The row of a record.
-ghost use Rattle.std.specs.Prelude.{◌≡◌, ◌≤◌, length, take, drop, slice_index, IfOk};
-ghost use Rattle.volume_keeper_records.specs.Shape.{head_in, node_in, block_in, comment_in, icon_in, appl_in, guess, are_same, row_in};
+ghost use Rattle.std.specs.Prelude.{◌≡◌, ◌≤◌, length, take, drop, slice_index, IfOk, Some, None, ◌==◌, if◌then◌else◌};
+ghost use Rattle.volume_keeper_records.specs.Records.{old_version};
+ghost use Rattle.volume_keeper_records.specs.Shape.{head_in, node_in, block_in, comment_in, icon_in, appl_in, privileges_at, guess, are_same, row_in};
 
-use crate::limits::{BLOCK, COMMENT, HEAD, ICON, NODE};
+use crate::limits::{BLOCK, COMMENT, HEAD, ICON, NODE, OLD_VERSION};
 use crate::numbers::{byte_at, date_at, four_at, long_at, quad_at, word_at};
-use crate::rows::{Appl, Comment, ForkBlock, Head, Icon, Node, TableRow};
+use crate::rows::{Appl, Comment, ForkBlock, Head, Icon, Node, Privileges, TableRow};
 use crate::shape::is_formed;
 use crate::write::record_of;
 use afp_base::{Bytes, OutOfMemory, rest_of};
@@ -20,6 +21,7 @@ fn head_of(value: &[u8]) -> Head
     ensures { result ≡ head_in value.now }
 {
     Head {
+        version: word_at(value, 0),
         created: date_at(value, 2),
         modified: date_at(value, 6),
         backup: date_at(value, 10),
@@ -36,12 +38,46 @@ fn finder_of(value: &[u8]) -> [u8; 32]
     finder
 }
 
-fn node_of(alloc: Global, key: &[u8], value: &[u8]) -> Result<Node, OutOfMemory>
+/// The owner, group and rights that stand behind the lengths of a node's forks.
+fn privileges_of(behind: &[u8]) -> Privileges
+    ensures { result ≡ privileges_at behind.now 17 }
+{
+    Privileges {
+        owner: long_at(behind, 17),
+        group: long_at(behind, 21),
+        rights: [
+            byte_at(behind, 25),
+            byte_at(behind, 26),
+            byte_at(behind, 27),
+        ],
+    }
+}
+
+/// The same, where the version has them.
+fn said_privileges(version: u16, behind: &[u8]) -> Option<Privileges>
+    ensures { result ≡ (if version == old_version then None else Some (privileges_at behind.now 17)) }
+{
+    if version == OLD_VERSION {
+        None
+    } else {
+        Some(privileges_of(behind))
+    }
+}
+
+/// Where the name stands behind the Finder info.
+fn name_place(version: u16) -> usize
+    ensures { result ≡ (if version == old_version then 17 else 28) }
+{
+    if version == OLD_VERSION { 17 } else { 28 }
+}
+
+fn node_of(alloc: Global, version: u16, key: &[u8], value: &[u8]) -> Result<Node, OutOfMemory>
     requires { 51 ≤ length value.now }
-    ensures { IfOk result (λ n. n ≡ node_in key.now value.now (take 32 (drop 19 value.now)) (drop 51 value.now)) }
+    ensures { IfOk result (λ n. n ≡ node_in version key.now value.now (take 32 (drop 19 value.now)) (drop 51 value.now)) }
 {
     let behind = rest_of(value, BEHIND);
-    let name = Bytes::of(alloc, rest_of(behind, 17))?;
+    let name = Bytes::of(alloc, rest_of(behind, name_place(version)))?;
+    let privileges = said_privileges(version, behind);
     let finder = finder_of(value);
     Ok(Node {
         id: long_at(key, 1),
@@ -55,6 +91,7 @@ fn node_of(alloc: Global, key: &[u8], value: &[u8]) -> Result<Node, OutOfMemory>
         is_filed: byte_at(behind, 0) == 1,
         data_length: quad_at(behind, 1),
         resource_length: quad_at(behind, 9),
+        privileges,
         name,
     })
 }
@@ -102,9 +139,9 @@ fn appl_of(key: &[u8], value: &[u8]) -> Appl
 }
 
 /// The only row whose record this can be.
-fn guess_row(alloc: Global, kept: &Record) -> Result<TableRow, OutOfMemory>
+fn guess_row(alloc: Global, version: u16, kept: &Record) -> Result<TableRow, OutOfMemory>
     requires { slice_index kept.now.key 0 ≡ 1 → 51 ≤ length kept.now.value }
-    ensures { IfOk result (λ row. row ≡ guess kept.now) }
+    ensures { IfOk result (λ row. row ≡ guess version kept.now) }
 {
     let key = kept.key.as_slice();
     let value = kept.value.as_slice();
@@ -112,7 +149,7 @@ fn guess_row(alloc: Global, kept: &Record) -> Result<TableRow, OutOfMemory>
     if tag == HEAD {
         Ok(TableRow::Head(head_of(value)))
     } else if tag == NODE {
-        Ok(TableRow::Node(node_of(alloc, key, value)?))
+        Ok(TableRow::Node(node_of(alloc, version, key, value)?))
     } else if tag == BLOCK {
         Ok(TableRow::Block(block_of(alloc, key, value)?))
     } else if tag == COMMENT {
@@ -132,15 +169,20 @@ fn are_alike(a: &Record, b: &Record) -> bool
 
 /// The row of a volume of that name whose record this is, or none: the row that is written again just so. The one error is want of memory.
 #[tactic(auto, unfolding(crate::specs::Shape::row_in))]
-pub fn read_row(alloc: Global, name: &[u8], kept: &Record) -> Result<Option<TableRow>, OutOfMemory>
-    ensures { IfOk result (λ row. row ≡ row_in name.now kept.now) }
+pub fn read_row(
+    alloc: Global,
+    version: u16,
+    name: &[u8],
+    kept: &Record,
+) -> Result<Option<TableRow>, OutOfMemory>
+    ensures { IfOk result (λ row. row ≡ row_in (record { version = version; name = name.now }) kept.now) }
 {
     if byte_at(kept.key.as_slice(), 0) == NODE && kept.value.as_slice().len() < BEHIND {
         return Ok(None);
     }
-    let row = guess_row(alloc, kept)?;
+    let row = guess_row(alloc, version, kept)?;
     let written = record_of(alloc, &row)?;
-    if is_formed(alloc, name, &row)? && are_alike(&written, kept) {
+    if is_formed(alloc, version, name, &row)? && are_alike(&written, kept) {
         Ok(Some(row))
     } else {
         Ok(None)

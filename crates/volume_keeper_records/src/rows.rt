@@ -2,13 +2,32 @@
 use afp_base::Bytes;
 use std::marker::Model;
 
-/// A volume's dates, in seconds from 2000-01-01 00:00 GMT, and the next id that it draws (17 to 2^32, where the ids have ended).
+/// The version of a volume's records, its dates, in seconds from 2000-01-01 00:00 GMT, and the next id that it draws (17 to 2^32, where the ids have ended).
 #[derive(Drop)]
 pub struct Head {
+    pub version: u16,
     pub created: i32,
     pub modified: i32,
     pub backup: i32,
     pub next_id: u64,
+}
+
+/// Who owns a directory, its group, and the rights of everyone, of the group and of the owner; a file's are 0. Contracts see it as the
+/// definition's.
+#[derive(Drop)]
+pub struct Privileges {
+    pub owner: u32,
+    pub group: u32,
+    pub rights: [u8; 3],
+}
+
+impl Model for Privileges {
+    ghost use Rattle.volume_spec.specs.VolumeState.{privileges_of};
+    ghost use Rattle.volume_spec.specs.VolumeState.{Privileges as PrivilegesState};
+
+    ghost Value = { PrivilegesState };
+
+    ghost view = { λ a. privileges_of a.owner a.group a.rights };
 }
 
 /// A file or directory, with the lengths of its forks in bytes. Dates are seconds from 2000-01-01 00:00 GMT.
@@ -25,6 +44,7 @@ pub struct Node {
     pub is_filed: bool,
     pub data_length: u64,
     pub resource_length: u64,
+    pub privileges: Option<Privileges>,
     pub name: Bytes,
 }
 

@@ -1,28 +1,31 @@
 //! Whether a row is of a volume's shape.
-ghost use Rattle.std.specs.Prelude.{◌≡◌, ◌==◌, ◌&&◌, nat_le, bytes_eq, length, true, IfOk, is_none, not, bit_and, if◌then◌else◌};
+ghost use Rattle.std.specs.Prelude.{◌≡◌, ◌==◌, ◌&&◌, nat_le, bytes_eq, length, true, IfOk, is_none, not, bit_and, unwrap_or, if◌then◌else◌};
 ghost use Rattle.afp_names.specs.Name.{name_fault};
-ghost use Rattle.volume_spec.specs.TypedVolume.{are_bytes};
+ghost use Rattle.volume_spec.specs.TypedVolume.{are_bytes, are_typed};
+ghost use Rattle.volume_spec.specs.SoundVolume.{has_fit_privileges};
+ghost use Rattle.volume_spec.specs.VolumeState.{guest, new_privileges};
 ghost use Rattle.fork_bytes.specs.Blocks.{trimmed};
-ghost use Rattle.volume_keeper_records.specs.Shape.{is_formed_record as the_form, is_formed_head, is_formed_node, is_formed_block, is_formed_comment, is_formed_icon, is_formed_appl, is_root_or_other, has_fit_forks};
+ghost use Rattle.volume_keeper_records.specs.Shape.{is_formed_record as the_form, is_formed_head, is_formed_node, is_formed_block, is_formed_comment, is_formed_icon, is_formed_appl, is_root_or_other, has_fit_forks, is_of_version};
 
-use crate::rows::{Appl, Comment, ForkBlock, Head, Icon, Node, TableRow};
+use crate::limits::OLD_VERSION;
+use crate::rows::{Appl, Comment, ForkBlock, Head, Icon, Node, Privileges, TableRow};
 use afp_base::OutOfMemory;
 use afp_names::{Name, NameFault};
 use fork_bytes::BLOCK_SIZE;
 use std::alloc::Global;
 use volume_spec::bytes_in_range;
 use volume_spec::limits::{
-    DIRECTORY_ATTRIBUTES, FILE_ATTRIBUTES, FIRST_ID, LAST_NEXT_ID, LONGEST_COMMENT, LONGEST_ICON,
-    ROOT_ID, ROOT_PARENT_ID,
+    ALL_RIGHTS, DIRECTORY_ATTRIBUTES, FILE_ATTRIBUTES, FIRST_ID, LAST_NEXT_ID, LONGEST_COMMENT,
+    LONGEST_ICON, ROOT_ID, ROOT_PARENT_ID,
 };
 
-fn is_head_formed(head: &Head) -> bool
-    ensures { result ≡ is_formed_head head.now }
+fn is_head_formed(version: u16, head: &Head) -> bool
+    ensures { result ≡ is_formed_head version head.now }
 {
     let _created = head.created;
     let _modified = head.modified;
     let _backup = head.backup;
-    FIRST_ID as u64 <= head.next_id && head.next_id <= LAST_NEXT_ID
+    head.version == version && FIRST_ID as u64 <= head.next_id && head.next_id <= LAST_NEXT_ID
 }
 
 /// Whether bytes are a name.
@@ -74,8 +77,46 @@ fn are_attributes_fit(node: &Node) -> bool
     }
 }
 
-fn is_node_formed(alloc: Global, name: &[u8], node: &Node) -> Result<bool, OutOfMemory>
-    ensures { IfOk result (λ is. is ≡ is_formed_node name.now node.now) }
+/// Whether owner, group and rights are as a node of its kind has them.
+fn are_privileges_fit(node: &Node) -> bool
+    ensures fit { result ≡ has_fit_privileges node.now.is_directory (unwrap_or node.now.privileges (new_privileges node.now.is_directory guest)) }
+    ensures typed { are_typed (unwrap_or node.now.privileges (new_privileges node.now.is_directory guest)) ≡ true }
+{
+    match &node.privileges {
+        None => true,
+        Some(privileges) => {
+            let owner = privileges.owner;
+            let group = privileges.group;
+            let everyone = privileges.rights[0];
+            let by_group = privileges.rights[1];
+            let by_owner = privileges.rights[2];
+            if node.is_directory {
+                everyone <= ALL_RIGHTS && (by_group <= ALL_RIGHTS && by_owner <= ALL_RIGHTS)
+            } else {
+                (owner == 0 && group == 0) && (everyone == 0 && (by_group == 0 && by_owner == 0))
+            }
+        }
+    }
+}
+
+/// Whether owner, group and rights are there but in the older version.
+fn are_of_version(version: u16, privileges: &Option<Privileges>) -> bool
+    ensures { result ≡ is_of_version version privileges.now }
+{
+    if version == OLD_VERSION {
+        privileges.is_none()
+    } else {
+        !privileges.is_none()
+    }
+}
+
+fn is_node_formed(
+    alloc: Global,
+    version: u16,
+    name: &[u8],
+    node: &Node,
+) -> Result<bool, OutOfMemory>
+    ensures { IfOk result (λ is. is ≡ is_formed_node (record { version = version; name = name.now }) node.now) }
 {
     let _id = node.id;
     let _parent = node.parent;
@@ -88,7 +129,9 @@ fn is_node_formed(alloc: Global, name: &[u8], node: &Node) -> Result<bool, OutOf
     let fit = are_attributes_fit(node);
     let forks = are_forks_fit(node);
     let root = is_root_named(name, node);
-    Ok(named && (fit && (forks && root)))
+    let privileges = are_privileges_fit(node);
+    let of_version = are_of_version(version, &node.privileges);
+    Ok(of_version && ((privileges && (named && fit)) && (forks && root)))
 }
 
 /// Whether bytes end without a zero.
@@ -151,12 +194,17 @@ fn is_appl_formed(appl: &Appl) -> bool
 }
 
 /// Whether a row is of the shape of a volume of that name. The one error is want of memory.
-pub(crate) fn is_formed(alloc: Global, name: &[u8], row: &TableRow) -> Result<bool, OutOfMemory>
-    ensures { IfOk result (λ is. is ≡ the_form name.now row.now) }
+pub(crate) fn is_formed(
+    alloc: Global,
+    version: u16,
+    name: &[u8],
+    row: &TableRow,
+) -> Result<bool, OutOfMemory>
+    ensures { IfOk result (λ is. is ≡ the_form (record { version = version; name = name.now }) row.now) }
 {
     match row {
-        TableRow::Head(head) => Ok(is_head_formed(head)),
-        TableRow::Node(node) => is_node_formed(alloc, name, node),
+        TableRow::Head(head) => Ok(is_head_formed(version, head)),
+        TableRow::Node(node) => is_node_formed(alloc, version, name, node),
         TableRow::Block(block) => Ok(is_block_formed(block)),
         TableRow::Comment(comment) => Ok(is_comment_formed(comment)),
         TableRow::Icon(icon) => Ok(is_icon_formed(icon)),

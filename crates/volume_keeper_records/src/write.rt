@@ -1,9 +1,9 @@
 //! The record of a row.
-ghost use Rattle.std.specs.Prelude.{◌≡◌, ◌∷◌, ◌++◌, IfOk};
-ghost use Rattle.volume_keeper_records.specs.Records.{head_record as the_head, node_record as the_node, block_record as the_block, comment_record as the_comment, icon_record as the_icon, appl_record as the_appl, node_key as the_node_key, block_key as the_block_key, comment_record_key as the_comment_key, appl_record_key as the_appl_key, record_of as the_record, icon_tag, flag_byte, word_bytes, long_bytes, quad_bytes, date_bytes};
+ghost use Rattle.std.specs.Prelude.{◌≡◌, ◌∷◌, ◌++◌, IfOk, OnOk};
+ghost use Rattle.volume_keeper_records.specs.Records.{head_record as the_head, node_record as the_node, block_record as the_block, comment_record as the_comment, icon_record as the_icon, appl_record as the_appl, node_key as the_node_key, block_key as the_block_key, comment_record_key as the_comment_key, appl_record_key as the_appl_key, record_of as the_record, icon_tag, flag_byte, privilege_bytes, word_bytes, long_bytes, quad_bytes, date_bytes};
 
-use crate::limits::{APPL, BLOCK, COMMENT, HEAD, ICON, NODE, VERSION};
-use crate::rows::{Appl, Comment, ForkBlock, Head, Icon, Node, TableRow};
+use crate::limits::{APPL, BLOCK, COMMENT, HEAD, ICON, NODE};
+use crate::rows::{Appl, Comment, ForkBlock, Head, Icon, Node, Privileges, TableRow};
 use afp_base::{Bytes, OutOfMemory};
 use record_keeper::{Record, RecordKey};
 use std::alloc::Global;
@@ -74,7 +74,7 @@ pub fn head_record(alloc: Global, head: &Head) -> Result<Record, OutOfMemory>
 {
     let key = Bytes::of(alloc, &[HEAD])?;
     let mut value = Bytes::new(alloc);
-    value.push_u16(VERSION)?;
+    value.push_u16(head.version)?;
     value.push_u32(head.created.cast_unsigned())?;
     value.push_u32(head.modified.cast_unsigned())?;
     value.push_u32(head.backup.cast_unsigned())?;
@@ -96,13 +96,31 @@ fn front_of(alloc: Global, node: &Node) -> Result<Bytes, OutOfMemory>
     Ok(front)
 }
 
+/// Owner, group and rights, where they are there.
+fn push_privileges(bytes: &mut Bytes, privileges: &Option<Privileges>) -> Result<(), OutOfMemory>
+    ensures { OnOk result (bytes.new ≡ bytes.old ++ privilege_bytes privileges.now) }
+{
+    match privileges {
+        None => Ok(()),
+        Some(privileges) => {
+            bytes.push_u32(privileges.owner)?;
+            bytes.push_u32(privileges.group)?;
+            bytes.push_u8(privileges.rights[0])?;
+            bytes.push_u8(privileges.rights[1])?;
+            bytes.push_u8(privileges.rights[2])?;
+            Ok(())
+        }
+    }
+}
+
 /// What stands behind it.
 fn behind_of(alloc: Global, node: &Node) -> Result<Bytes, OutOfMemory>
-    ensures { IfOk result (λ b. b ≡ flag_byte node.now.is_filed ∷ (quad_bytes node.now.data_length ++ (quad_bytes node.now.resource_length ++ node.now.name))) }
+    ensures { IfOk result (λ b. b ≡ flag_byte node.now.is_filed ∷ (quad_bytes node.now.data_length ++ (quad_bytes node.now.resource_length ++ (privilege_bytes node.now.privileges ++ node.now.name)))) }
 {
     let mut behind = Bytes::of(alloc, &[flag(node.is_filed)])?;
     behind.push_u64(node.data_length)?;
     behind.push_u64(node.resource_length)?;
+    push_privileges(&mut behind, &node.privileges)?;
     behind.extend(node.name.as_slice())?;
     Ok(behind)
 }

@@ -1,6 +1,6 @@
 use Rattle.volume_keeper_records.proofs.laws.records_are_images.Goals as goal
 use Rattle.volume_keeper_records.proofs.ForkParts.{ForkLaw}
-use Rattle.volume_keeper_records.proofs.ImageLaw.{images_rise, images_good, good_images, images_differ}
+use Rattle.volume_keeper_records.proofs.ImageLaw.{images_rise, images_good, good_images, images_differ, old_good}
 
 pub returns : goal.returns
 returns c =
@@ -12,4 +12,4 @@ returns c =
       kept = c.blocks_of_bytes_are_kept.ensures.kept;
       few = c.blocks_of_bytes_are_kept.ensures.few;
     } in
-    record { rising = images_rise law; good = images_good law; image = good_images law; one = images_differ law }
+    record { rising = images_rise law; good = images_good law; old = old_good law; image = good_images law; one = images_differ law }

@@ -3,7 +3,7 @@ use Rattle.std.specs.Prelude.{Some, None}
 use Rattle.volume_keeper_records.specs.declared.rows.Reason.TheVariants.{Limit}
 use Rattle.volume_keeper_records.specs.Shape.{row_in}
 use Rattle.volume_keeper_records.specs.KeyOrder.{RisesByKey, with_head_and_root}
-use Rattle.volume_keeper_records.specs.FirstBad.{first_bad_among}
+use Rattle.volume_keeper_records.specs.FirstBad.{first_bad_among, label_of}
 use Rattle.volume_keeper_records.proofs.ForkParts.{ForkLaw}
 use Rattle.volume_keeper_records.proofs.Loading.{over_many, judged_counted, counted_rises, loaded_good, said_counted}
 use Rattle.volume_keeper_records.proofs.load.load_records.Goals as goal
@@ -22,7 +22,7 @@ judge_all-requires-clause-order c =
 pub returns-in-Some : goal.returns-in-Some
 returns-in-Some c =
     let few : length c.args.records.now.items ≤ 480000 = search rules in
-    let bad : Some c.in-Some.bad ≡ first_bad_among c.args.name.now (with_head_and_root c.args.records.now.items) = search rules in
+    let bad : Some c.in-Some.bad ≡ first_bad_among (label_of c.args.name.now c.args.records.now.items) (with_head_and_root c.args.records.now.items) = search rules in
     judged_counted c.args.name.now c.args.records.now.items c.requires.some few ∙ sym bad
 
 pub returns-in_ok-list-in-None : goal.returns-in_ok-list-in-None
@@ -36,7 +36,7 @@ returns-in_ok-list-in-None c =
       few = c.blocks_of_bytes_are_kept.ensures.few;
     } in
     let few : length c.args.records.now.items ≤ 480000 = search rules in
-    let none : first_bad_among c.args.name.now (with_head_and_root c.args.records.now.items) ≡ None = search rules in
-    let parsed : c.in_ok-rows.rows.items ≡ map (row_in c.args.name.now) (with_head_and_root c.args.records.now.items) = search rules in
+    let none : first_bad_among (label_of c.args.name.now c.args.records.now.items) (with_head_and_root c.args.records.now.items) ≡ None = search rules in
+    let parsed : c.in_ok-rows.rows.items ≡ map (row_in (label_of c.args.name.now c.args.records.now.items)) (with_head_and_root c.args.records.now.items) = search rules in
     loaded_good law c.args.name.now c.args.records.now.items c.in_ok-list-in-None.list.items c.requires.order c.requires.some few none
-    (said_counted c.args.name.now c.args.records.now.items c.in_ok-list-in-None.list.items c.in_ok-rows.rows.items c.in_ok-list-in-None.ensures parsed)
+    (said_counted (label_of c.args.name.now c.args.records.now.items) c.args.records.now.items c.in_ok-list-in-None.list.items c.in_ok-rows.rows.items c.in_ok-list-in-None.ensures parsed)

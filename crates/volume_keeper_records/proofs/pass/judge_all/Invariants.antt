@@ -10,6 +10,6 @@ invariant-loop-i l = record {
   tree : IsTreeOf (places_in l.rows) l.pass.tree;
   next : l.pass.next ≡ next_in l.rows;
   few : l.pass.bytes ≤ 268435456;
-  before : HasBefore (before_of (rows_in l.name (take l.i l.records))) l.pass;
-  rest : first_in l.name (tables_in (rows_in l.name l.records)) l.records ≡ first_in l.name (tables_in (rows_in l.name l.records)) (drop l.i l.records);
+  before : HasBefore (before_of (rows_in (record { version = l.version; name = l.name }) (take l.i l.records))) l.pass;
+  rest : first_in (record { version = l.version; name = l.name }) (tables_in (rows_in (record { version = l.version; name = l.name }) l.records)) l.records ≡ first_in (record { version = l.version; name = l.name }) (tables_in (rows_in (record { version = l.version; name = l.name }) l.records)) (drop l.i l.records);
 }

@@ -9,5 +9,5 @@ returns-in_ok-node_of c =
     let key = c.as_slice-key.ensures in
     let value = c.as_slice-value.ensures in
     let tag : slice_index c.args.kept.now.key 0 ≡ 1 = ap (λ l. slice_index l 0) (sym key) ∙ sym c.byte_at-tag.ensures ∙ c.if-tag-eq-NODE.true in
-    ap row.Node (c.in_ok-node_of.ensures ∙ (λ i. node_in (key i) (value i) (take 32 (drop 19 (value i))) (drop 51 (value i))))
-    ∙ sym (node_guess c.args.kept.now tag)
+    ap row.Node (c.in_ok-node_of.ensures ∙ (λ i. node_in c.args.version (key i) (value i) (take 32 (drop 19 (value i))) (drop 51 (value i))))
+    ∙ sym (node_guess c.args.version c.args.kept.now tag)

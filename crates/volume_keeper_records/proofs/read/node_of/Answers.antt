@@ -1,6 +1,7 @@
-use Rattle.std.proofs.Common.{rules, ◌≡◌, ◌∙◌, ap, drop, slice_index, nat_eq, w32, to_z, of_z}
-use Rattle.volume_keeper_records.specs.Shape.{date_at, quad_at}
+use Rattle.std.proofs.Common.{rules, ◌≡◌, ◌∙◌, ap, drop, slice_index, nat_eq, w32, to_z, of_z, cond, Some, None, ◌==◌}
+use Rattle.volume_keeper_records.specs.Shape.{date_at, quad_at, privileges_at}
 use Rattle.volume_keeper_records.proofs.read.node_of.Goals as goal
+use Rattle.volume_keeper_records.specs.Records.{old_version}
 
 pub returns : goal.returns
 returns c =
@@ -12,7 +13,8 @@ returns c =
     let is_filed = ap (λ k. nat_eq k 1) (c.byte_at-2.ensures ∙ ap (λ l. slice_index l 0) behind) in
     let data_length = c.quad_at.ensures ∙ ap (λ l. quad_at l 1) behind in
     let resource_length = c.quad_at-2.ensures ∙ ap (λ l. quad_at l 9) behind in
-    let name : c.in_ok-name.name ≡ drop 17 (drop 51 c.args.value.now) = search rules in
+    let privileges = c.said_privileges-privileges.ensures ∙ ap (λ l. cond (c.args.version == old_version) None (Some (privileges_at l 17))) behind in
+    let name : c.in_ok-name.name ≡ drop (cond (c.args.version == old_version) 17 28) (drop 51 c.args.value.now) = search rules in
     λ i. record {
       id = c.long_at.ensures i;
       is_directory = is_directory i;
@@ -25,5 +27,6 @@ returns c =
       is_filed = is_filed i;
       data_length = data_length i;
       resource_length = resource_length i;
+      privileges = privileges i;
       name = name i;
     }

@@ -6,4 +6,4 @@ pub returns-then-as_slice-lt-BEHIND : goal.returns-then-as_slice-lt-BEHIND
 returns-then-as_slice-lt-BEHIND c =
     let size = ap length c.as_slice-then-byte_at-eq-NODE.ensures in
     let short : length c.args.kept.now.value < 51 = omega (arith, size, c.if-as_slice-lt-BEHIND.true) in
-    sym (short_node c.args.name.now c.args.kept.now (ap (λ k. get_or k 0 0) (sym c.as_slice.ensures) ∙ sym c.byte_at.ensures ∙ c.if-byte_at-eq-NODE.true) short)
+    sym (short_node (record { version = c.args.version; name = c.args.name.now }) c.args.kept.now (ap (λ k. get_or k 0 0) (sym c.as_slice.ensures) ∙ sym c.byte_at.ensures ∙ c.if-byte_at-eq-NODE.true) short)
