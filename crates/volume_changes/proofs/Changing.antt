@@ -13,6 +13,7 @@ use Rattle.volume_spec.proofs.Trees.{tree-parts}
 use Rattle.volume_changes.specs.Values.{fork_at}
 use Rattle.record_keeper.specs.Records.{changed}
 use Rattle.volume_keeper_records.specs.Image.{kept_image}
+use Rattle.volume_keeper_records.specs.Records.{version}
 use Rattle.volume_keeper_records.proofs.Counts.{sum_each}
 use Rattle.volume_keeper_records.proofs.ForkParts.{ForkLaw}
 use Rattle.volume_keeper_records.proofs.ImageRises.{fit_blocks, image_rises, long_rows, on_row}
@@ -35,7 +36,7 @@ facts law v sound =
     let on_node : (id : ℕ) → has_node v.rows id ≡ true → is_long id ≡ true = λ id. on_row (λ (r : VolumeRow). r.id == id) v.rows id (λ r t. eqb-true r.id id t) ids in
     let on_file : (id : ℕ) → has_file v.rows id ≡ true → is_long id ≡ true = λ id. on_row (λ (r : VolumeRow). (r.id == id) && not r.dir) v.rows id (λ r t. eqb-true r.id id (left_true (r.id == id) (not r.dir) t)) ids in
     record {
-      rising = image_rises law v sound;
+      rising = image_rises version law v sound;
       apart = (tree-parts v sound.tree).apart;
       small = small;
       blocks = fit_blocks law v.rows small;

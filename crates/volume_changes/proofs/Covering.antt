@@ -15,7 +15,7 @@ use Rattle.volume_spec.specs.Walk.{row_at}
 use Rattle.fork_bytes.specs.Blocks.{block_at}
 use Rattle.volume_keeper_records.specs.declared.rows.TableRow.{TableRow}
 use Rattle.volume_keeper_records.specs.declared.rows.TableRow.TheVariants as row
-use Rattle.volume_keeper_records.specs.Records.{appl_record, appl_record_key, block_key, block_record, comment_record, comment_record_key, head_key, head_record, icon_record, icon_tag, node_key, node_record, record_of}
+use Rattle.volume_keeper_records.specs.Records.{appl_record, appl_record_key, block_key, block_record, comment_record, comment_record_key, head_key, head_record, icon_record, icon_tag, node_key, node_record, record_of, version}
 use Rattle.volume_keeper_records.specs.Image.{fork_blocks, kept_image, node_of, rows_of, tables_of}
 use Rattle.volume_keeper_records.proofs.ImageRises.{is_small}
 use Rattle.volume_keeper_records.proofs.RowOrder.{is_fit_appl, is_fit_block}
@@ -64,16 +64,16 @@ always (x ∷ xs) = always xs
 long_of : (n : ℕ) → is_long n ≡ true → n < 2 ^ 32
 long_of n h = grind (arith, h)
 
-nodes-long : (rows : List VolumeRow) → list_all (λ (r : VolumeRow). is_long r.id) rows ≡ true → AllShaped (map (λ n. row.Node n) (map node_of rows))
+nodes-long : (rows : List VolumeRow) → list_all (λ (r : VolumeRow). is_long r.id) rows ≡ true → AllShaped (map (λ n. row.Node n) (map (node_of version) rows))
 unfolding node_record
 nodes-long [] h = tt
 nodes-long (r ∷ rows) h = let e = and_parts (is_long r.id) (list_all (λ (r : VolumeRow). is_long r.id) rows) h in (of_node r.id (long_of r.id e.0) refl, nodes-long rows e.1)
 
-all_shaped : (v : VolumeState) → Facts v → AllShaped (rows_of (tables_of v))
+all_shaped : (v : VolumeState) → Facts v → AllShaped (rows_of (tables_of version v))
 unfolding head_record block_record comment_record icon_record appl_record
 all_shaped v f = (
   of_head refl,
-  shaped-append (map (λ n. row.Node n) (map node_of v.rows)) _ (nodes-long v.rows (longs v.rows f.small))
+  shaped-append (map (λ n. row.Node n) (map (node_of version) v.rows)) _ (nodes-long v.rows (longs v.rows f.small))
       (shaped-append (map (λ b. row.Block b) (flat_map fork_blocks v.rows)) _
       (shaped-map (λ b. row.Block b) is_fit_block (flat_map fork_blocks v.rows)
       (λ b fit. let e = and_parts (is_long b.node) (is_long b.index) fit in of_block b.node b.is_resource b.index (long_of b.node e.0) (long_of b.index e.1) refl) f.blocks)
@@ -86,7 +86,7 @@ all_shaped v f = (
 )
 
 there_shaped : (v : VolumeState) (q x : List ℕ) → Facts v → get (kept_image v) q ≡ Some x → HasShape q
-there_shaped v q x f h = shape_found (rows_of (tables_of v)) q x (all_shaped v f) (sym (got (rows_of (tables_of v)) q f.rising) ∙ h)
+there_shaped v q x f h = shape_found (rows_of (tables_of version v)) q x (all_shaped v f) (sym (got (rows_of (tables_of version v)) q f.rising) ∙ h)
 
 -- what is not among keys
 

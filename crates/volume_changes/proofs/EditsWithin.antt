@@ -17,7 +17,7 @@ use Rattle.volume_spec.specs.SoundVolume.{appl_key, icon_key, longest_comment}
 use Rattle.volume_spec.specs.VolumeState.{Appl, Comment, Row as VolumeRow, VolumeState}
 use Rattle.volume_spec.specs.Walk.{row_at}
 use Rattle.volume_keeper_records.specs.Image.{node_of}
-use Rattle.volume_keeper_records.specs.Records.{node_record}
+use Rattle.volume_keeper_records.specs.Records.{node_record, version}
 use Rattle.volume_changes.specs.EditTouches.{all_touched, forks_of, joined, node_alone, nothing, touches}
 use Rattle.volume_changes.specs.declared.touched.ForkPlace.{ForkPlace}
 use Rattle.volume_changes.specs.declared.touched.Mapping.{Mapping}
@@ -30,7 +30,7 @@ pub record DeskLaws : Type 0 where
   pub appl_taken : FindsNoTakenAppl
 
 abbrev value_of : Option VolumeRow → Option (List ℕ)
-value_of o = option_map (λ (r : VolumeRow). (node_record (node_of r)).value) o
+value_of o = option_map (λ (r : VolumeRow). (node_record (node_of version r)).value) o
 
 first-false : (a b : Bool) → (a || b) ≡ false → a ≡ false
 first-false true b e = e

@@ -13,7 +13,7 @@ use Rattle.fork_bytes.specs.declared.block.Block.{Block}
 use Rattle.fork_bytes.specs.Blocks.{block_at, block_count, blocks_from, blocks_of, trimmed, with_block}
 use Rattle.volume_keeper_records.specs.declared.rows.TableRow.{TableRow}
 use Rattle.volume_keeper_records.specs.declared.rows.TableRow.TheVariants as row
-use Rattle.volume_keeper_records.specs.Records.{node_record, node_key, block_record, block_key, flag_byte, long_bytes}
+use Rattle.volume_keeper_records.specs.Records.{node_record, node_key, block_record, block_key, flag_byte, long_bytes, version}
 use Rattle.volume_keeper_records.specs.Image.{fork_block_of, fork_blocks, node_of}
 use Rattle.volume_changes.specs.Values.{unless_empty}
 use Rattle.volume_changes.proofs.LookUps.{are_one, found, found-append, itself, one_of, or_then}
@@ -38,7 +38,7 @@ eqb-is a b e = ap (λ n. a == n) (sym e) ∙ eqb-refl a
 -- nodes
 
 abbrev pub value_of_node : VolumeRow → List ℕ
-value_of_node r = (node_record (node_of r)).value
+value_of_node r = (node_record (node_of version r)).value
 
 abbrev pub rest_of : List ℕ → List ℕ
 rest_of [] = []
@@ -48,14 +48,14 @@ node_keys : (id other : ℕ) → id < 2 ^ 32 → other < 2 ^ 32 → are_one (nod
 node_keys id other l m = same_key (node_key id) (node_key other) (other == id) (λ e. ap node_key (sym (eqb-true other id e))) (λ e. eqb-is other id (sym (long_same id other l m (ap rest_of e))))
 
 pub nodes_found : (rows : List VolumeRow) (id : ℕ) → id < 2 ^ 32 → list_all (λ (r : VolumeRow). is_long r.id) rows ≡ true
-    → found (map (λ n. row.Node n) (map node_of rows)) (node_key id) ≡ option_map value_of_node (find (λ (r : VolumeRow). r.id == id) rows)
+    → found (map (λ n. row.Node n) (map (node_of version) rows)) (node_key id) ≡ option_map value_of_node (find (λ (r : VolumeRow). r.id == id) rows)
 unfolding node_record
 nodes_found [] id l longs = refl
 nodes_found (r ∷ rows) id l longs =
     let e = and_parts (is_long r.id) (list_all (λ (r : VolumeRow). is_long r.id) rows) longs in
     let few : r.id < 2 ^ 32 = grind (arith, e.0) in
-    ap (λ b. cond b (Some (value_of_node r)) (found (map (λ n. row.Node n) (map node_of rows)) (node_key id))) (node_keys id r.id l few)
-    ∙ elim (r.id == id) as (λ b. cond b (Some (value_of_node r)) (found (map (λ n. row.Node n) (map node_of rows)) (node_key id)) ≡ option_map value_of_node (cond b (Some r) (find (λ (r : VolumeRow). r.id == id) rows))) [
+    ap (λ b. cond b (Some (value_of_node r)) (found (map (λ n. row.Node n) (map (node_of version) rows)) (node_key id))) (node_keys id r.id l few)
+    ∙ elim (r.id == id) as (λ b. cond b (Some (value_of_node r)) (found (map (λ n. row.Node n) (map (node_of version) rows)) (node_key id)) ≡ option_map value_of_node (cond b (Some r) (find (λ (r : VolumeRow). r.id == id) rows))) [
       | true ↦ refl
       | false ↦ nodes_found rows id l e.1
     ]

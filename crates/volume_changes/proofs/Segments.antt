@@ -14,7 +14,7 @@ use Rattle.volume_spec.specs.Walk.{row_at}
 use Rattle.record_keeper.specs.Reading.{RisesByKey}
 use Rattle.volume_keeper_records.specs.declared.rows.TableRow.{TableRow}
 use Rattle.volume_keeper_records.specs.declared.rows.TableRow.TheVariants as row
-use Rattle.volume_keeper_records.specs.Records.{appl_record, appl_record_key, block_key, block_record, comment_record, comment_record_key, head_key, head_record, icon_record, icon_tag, long_bytes, node_key, node_record, record_of}
+use Rattle.volume_keeper_records.specs.Records.{appl_record, appl_record_key, block_key, block_record, comment_record, comment_record_key, head_key, head_record, icon_record, icon_tag, long_bytes, node_key, node_record, record_of, version}
 use Rattle.volume_keeper_records.specs.Image.{fork_blocks, image, kept_image, node_of, rows_of, tables_of}
 use Rattle.volume_keeper_records.proofs.ImageRises.{is_small}
 use Rattle.volume_keeper_records.proofs.RowOrder.{is_fit_appl, is_fit_block}
@@ -49,10 +49,10 @@ table_missed make q (x ∷ xs) h = ap (λ b. cond b (Some (record_of (make x)).v
 
 -- the tables of a volume, one after another
 abbrev heads : VolumeState → List TableRow
-heads v = row.Head (tables_of v).head ∷ []
+heads v = row.Head (tables_of version v).head ∷ []
 
 abbrev nodes : VolumeState → List TableRow
-nodes v = map (λ n. row.Node n) (map node_of v.rows)
+nodes v = map (λ n. row.Node n) (map (node_of version) v.rows)
 
 abbrev blocks : VolumeState → List TableRow
 blocks v = map (λ b. row.Block b) (flat_map fork_blocks v.rows)
@@ -71,7 +71,7 @@ at v q = or_then (found (heads v) q) (or_then (found (nodes v) q) (or_then (foun
 
 pub whole_at : (v : VolumeState) (q : List ℕ) → RisesByKey (image v) → get (kept_image v) q ≡ at v q
 whole_at v q rising =
-    got (rows_of (tables_of v)) q rising
+    got (rows_of (tables_of version v)) q rising
     ∙ found-append (heads v) (nodes v ++ (blocks v ++ (comments v ++ (icons v ++ appls v)))) q
     ∙ ap (or_then (found (heads v) q)) (found-append (nodes v) (blocks v ++ (comments v ++ (icons v ++ appls v))) q
     ∙ ap (or_then (found (nodes v) q)) (found-append (blocks v) (comments v ++ (icons v ++ appls v)) q
@@ -103,10 +103,10 @@ sixth h a b c d e nh na nb nc nd = (λ i. or_then (nh i) (or_then (na i) (or_the
 
 -- keys of one kind are none of another: their first bytes differ
 
-pub head_at : (v : VolumeState) → Facts v → get (kept_image v) head_key ≡ Some (head_record (tables_of v).head).value
+pub head_at : (v : VolumeState) → Facts v → get (kept_image v) head_key ≡ Some (head_record (tables_of version v).head).value
 unfolding head_record node_record block_record comment_record icon_record appl_record
 head_at v f = whole_at v head_key f.rising ∙ first (found (heads v) head_key) _ _ _ _ _
-    (table_missed (λ n. row.Node n) head_key (map node_of v.rows) (λ n. refl))
+    (table_missed (λ n. row.Node n) head_key (map (node_of version) v.rows) (λ n. refl))
     (table_missed (λ b. row.Block b) head_key (flat_map fork_blocks v.rows) (λ b. refl))
     (table_missed (λ c. row.Comment c) head_key v.comments (λ c. refl))
     (table_missed (λ i. row.Icon i) head_key v.icons (λ i. refl))
@@ -130,7 +130,7 @@ node_at v id f l = whole_at v (node_key id) f.rising ∙ second _ (found (nodes 
 pub block_at_key : (v : VolumeState) (id : ℕ) (r : Bool) (i : ℕ) → Facts v → id < 2 ^ 32 → i < 2 ^ 32 → get (kept_image v) (block_key id r i) ≡ and_then (row_at v.rows id) (block_value r i)
 unfolding row_at head_record node_record block_record comment_record icon_record appl_record
 block_at_key v id r i f l m = whole_at v (block_key id r i) f.rising ∙ third _ _ (found (blocks v) (block_key id r i)) _ _ _ refl
-    (table_missed (λ n. row.Node n) (block_key id r i) (map node_of v.rows) (λ n. refl))
+    (table_missed (λ n. row.Node n) (block_key id r i) (map (node_of version) v.rows) (λ n. refl))
     (table_missed (λ c. row.Comment c) (block_key id r i) v.comments (λ c. refl))
     (table_missed (λ i. row.Icon i) (block_key id r i) v.icons (λ i. refl))
     (table_missed (λ a. row.Appl a) (block_key id r i) v.appls (λ a. refl))
@@ -144,7 +144,7 @@ comment_keys node c l m = same_key (comment_record_key node) (comment_record_key
 pub comment_value : (v : VolumeState) (node : ℕ) → Facts v → node < 2 ^ 32 → get (kept_image v) (comment_record_key node) ≡ option_map (λ (c : Comment). c.text) (comment_at node v.comments)
 unfolding head_record node_record block_record comment_record icon_record appl_record
 comment_value v node f l = whole_at v (comment_record_key node) f.rising ∙ fourth _ _ _ (found (comments v) (comment_record_key node)) _ _ refl
-    (table_missed (λ n. row.Node n) (comment_record_key node) (map node_of v.rows) (λ n. refl))
+    (table_missed (λ n. row.Node n) (comment_record_key node) (map (node_of version) v.rows) (λ n. refl))
     (table_missed (λ b. row.Block b) (comment_record_key node) (flat_map fork_blocks v.rows) (λ b. refl))
     (table_missed (λ i. row.Icon i) (comment_record_key node) v.icons (λ i. refl))
     (table_missed (λ a. row.Appl a) (comment_record_key node) v.appls (λ a. refl))
@@ -162,7 +162,7 @@ always (x ∷ xs) = always xs
 pub icon_value : (v : VolumeState) (key : List ℕ) → Facts v → get (kept_image v) (icon_tag ∷ key) ≡ option_map (λ (i : Icon). (icon_record i).value) (icon_at key v.icons)
 unfolding head_record node_record block_record comment_record icon_record appl_record
 icon_value v key f = whole_at v (icon_tag ∷ key) f.rising ∙ fifth _ _ _ _ (found (icons v) (icon_tag ∷ key)) _ refl
-    (table_missed (λ n. row.Node n) (icon_tag ∷ key) (map node_of v.rows) (λ n. refl))
+    (table_missed (λ n. row.Node n) (icon_tag ∷ key) (map (node_of version) v.rows) (λ n. refl))
     (table_missed (λ b. row.Block b) (icon_tag ∷ key) (flat_map fork_blocks v.rows) (λ b. refl))
     (table_missed (λ c. row.Comment c) (icon_tag ∷ key) v.comments (λ c. refl))
     (table_missed (λ a. row.Appl a) (icon_tag ∷ key) v.appls (λ a. refl))
@@ -200,7 +200,7 @@ appl_keys creator node a m l fit =
 pub appl_value : (v : VolumeState) (creator : List ℕ) (node : ℕ) → Facts v → length creator ≡ 4 → node < 2 ^ 32 → get (kept_image v) (appl_record_key creator node) ≡ option_map (λ (a : Appl). (appl_record a).value) (appl_at creator node v.appls)
 unfolding head_record node_record block_record comment_record icon_record appl_record
 appl_value v creator node f m l = whole_at v (appl_record_key creator node) f.rising ∙ sixth _ _ _ _ _ (found (appls v) (appl_record_key creator node)) refl
-    (table_missed (λ n. row.Node n) (appl_record_key creator node) (map node_of v.rows) (λ n. refl))
+    (table_missed (λ n. row.Node n) (appl_record_key creator node) (map (node_of version) v.rows) (λ n. refl))
     (table_missed (λ b. row.Block b) (appl_record_key creator node) (flat_map fork_blocks v.rows) (λ b. refl))
     (table_missed (λ c. row.Comment c) (appl_record_key creator node) v.comments (λ c. refl))
     (table_missed (λ i. row.Icon i) (appl_record_key creator node) v.icons (λ i. refl))

@@ -10,7 +10,7 @@ use Rattle.volume_spec.specs.Walk.{row_at}
 use Rattle.volume_changes.specs.declared.touched.ForkPlace.{ForkPlace}
 use Rattle.volume_changes.specs.declared.touched.Mapping.{Mapping}
 use Rattle.volume_keeper_records.specs.Image.{node_of}
-use Rattle.volume_keeper_records.specs.Records.{appl_record_key, block_key, comment_record_key, head_key, icon_tag, node_key, node_record}
+use Rattle.volume_keeper_records.specs.Records.{appl_record_key, block_key, comment_record_key, head_key, icon_tag, node_key, node_record, version}
 
 -- the nodes whose records may differ, the forks whose blocks may, and the comments, icons and mappings
 pub record Touched : Type 0 where
@@ -45,7 +45,7 @@ keys_of t =
 
 -- what the record of a node has, where it is there
 abbrev pub node_value : VolumeState → ℕ → Option (List ℕ)
-node_value v id = option_map (λ (r : Row). (node_record (node_of r)).value) (row_at v.rows id)
+node_value v id = option_map (λ (r : Row). (node_record (node_of version r)).value) (row_at v.rows id)
 
 -- the bytes of a fork, where its node is there
 abbrev pub bytes_at : VolumeState → ℕ → Bool → Option (List ℕ)

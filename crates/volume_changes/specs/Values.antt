@@ -8,12 +8,12 @@ use Rattle.record_keeper.specs.declared.record.Change.TheVariants.{Put, Remove}
 use Rattle.volume_spec.specs.Desktop.{appl_at, comment_at, icon_at}
 use Rattle.volume_spec.specs.VolumeState.{Appl, Comment, Icon, VolumeState}
 use Rattle.volume_keeper_records.specs.Image.{tables_of}
-use Rattle.volume_keeper_records.specs.Records.{block_key, head_record, icon_record, long_bytes}
+use Rattle.volume_keeper_records.specs.Records.{block_key, head_record, icon_record, long_bytes, version}
 use Rattle.volume_changes.specs.Touched.{bytes_at}
 
 -- the value of the head's record
 abbrev pub head_value : VolumeState → List ℕ
-head_value v = (head_record (tables_of v).head).value
+head_value v = (head_record (tables_of version v).head).value
 
 -- the bytes of a fork, none where it is not there
 abbrev pub fork_at : VolumeState → ℕ → Bool → List ℕ

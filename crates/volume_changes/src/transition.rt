@@ -6,6 +6,7 @@ ghost use Rattle.volume_spec.specs.Walk.{row_at};
 ghost use Rattle.fork_bytes.specs.Plan.{changes_of};
 ghost use Rattle.record_keeper.specs.Records.{changed};
 ghost use Rattle.volume_keeper_records.specs.Image.{kept_image, node_of, tables_of};
+ghost use Rattle.volume_keeper_records.specs.Records.{version};
 ghost use Rattle.volume_changes.specs.Differences.{differences};
 ghost use Rattle.volume_changes.specs.Laws.{IsExact};
 ghost use Rattle.volume_changes.specs.Touched.{IsWithin, keys_of};
@@ -23,7 +24,7 @@ use record_keeper::Change;
 use std::alloc::Global;
 use volume_keeper_records::{Head, Node};
 
-/// A volume as it is, and as it will be: what there is of each kind of record. The one error is want of memory.
+/// A volume as it is, and as it will be: what there is of each kind of record, in the version that is written. The one error is want of memory.
 pub trait Transition {
     ghost before: { Self → VolumeState };
 
@@ -31,19 +32,19 @@ pub trait Transition {
 
     /// The head as it is.
     fn head_before(&self) -> Head
-        ensures { result ≡ (tables_of (before self.now)).head };
+        ensures { result ≡ (tables_of version (before self.now)).head };
 
     /// The head as it will be.
     fn head_after(&self) -> Head
-        ensures { result ≡ (tables_of (after self.now)).head };
+        ensures { result ≡ (tables_of version (after self.now)).head };
 
     /// A node as it is, with the lengths of its forks, where it is there.
     fn node_before(&self, alloc: Global, id: u32) -> Result<Option<Node>, OutOfMemory>
-        ensures { IfOk result (λ node. node ≡ option_map node_of (row_at (before self.now).rows id)) };
+        ensures { IfOk result (λ node. node ≡ option_map (node_of version) (row_at (before self.now).rows id)) };
 
     /// A node as it will be.
     fn node_after(&self, alloc: Global, id: u32) -> Result<Option<Node>, OutOfMemory>
-        ensures { IfOk result (λ node. node ≡ option_map node_of (row_at (after self.now).rows id)) };
+        ensures { IfOk result (λ node. node ≡ option_map (node_of version) (row_at (after self.now).rows id)) };
 
     /// The blocks of a fork that differ, by rising index, as they will be. A fork that is not there has no bytes.
     fn blocks(&self, alloc: Global, id: u32, resource: bool) -> Result<Vec<Block>, OutOfMemory>

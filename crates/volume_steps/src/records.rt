@@ -3,19 +3,21 @@ ghost use Rattle.std.specs.Prelude.{◌≡◌, option_map, IfOk};
 ghost use Rattle.std.specs.Option.{option_copied};
 ghost use Rattle.desktop_db.specs.Kept.{shown_icon};
 ghost use Rattle.volume_keeper_records.specs.Image as image;
+ghost use Rattle.volume_keeper_records.specs.Records.{version};
 ghost use Rattle.volume_steps.specs.lemma.Records as bytes;
 
 use afp_base::{Bytes, OutOfMemory};
 use std::alloc::Global;
 use volume_edits::WholeNode;
-use volume_keeper_records::{Head, Node};
+use volume_keeper_records::{Head, Node, Privileges, VERSION};
 use volume_tree::{NodeAfter, VolumeHead};
 
-/// The head of a volume.
+/// The head of a volume, of the version that is written.
 pub(crate) fn head_of(head: VolumeHead) -> Head
-    ensures { result ≡ record { created = head.created; modified = head.modified; backup = head.backup; next_id = head.next_id } }
+    ensures { result ≡ record { version = version; created = head.created; modified = head.modified; backup = head.backup; next_id = head.next_id } }
 {
     Head {
+        version: VERSION,
         created: head.created,
         modified: head.modified,
         backup: head.backup,
@@ -44,13 +46,18 @@ fn sized(
         is_filed: node.marks.filed,
         data_length,
         resource_length,
+        privileges: Some(Privileges {
+            owner: node.marks.owner,
+            group: node.marks.group,
+            rights: node.marks.rights,
+        }),
         name: Bytes::of(alloc, node.name.as_str().as_bytes())?,
     })
 }
 
 /// A node with the lengths of its forks in place of these.
 fn node_made(alloc: Global, node: &WholeNode<'_>) -> Result<Node, OutOfMemory>
-    ensures { IfOk result (λ made. made ≡ image.node_of node.now) }
+    ensures { IfOk result (λ made. made ≡ image.node_of version node.now) }
 {
     let data_length = node.data_fork.len();
     let resource_length = node.resource_fork.len();
@@ -62,7 +69,7 @@ pub(crate) fn node_of(
     alloc: Global,
     node: Option<WholeNode<'_>>,
 ) -> Result<Option<Node>, OutOfMemory>
-    ensures { IfOk result (λ made. made ≡ option_map image.node_of node.entry) }
+    ensures { IfOk result (λ made. made ≡ option_map (image.node_of version) node.entry) }
 {
     match node {
         Some(node) => Ok(Some(node_made(alloc, &node)?)),

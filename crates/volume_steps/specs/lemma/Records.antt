@@ -1,10 +1,10 @@
 -- Records of a volume from what is lent of it; no public contract cites it.
-use Rattle.std.specs.Prelude.{ℕ, List, ◌++◌}
+use Rattle.std.specs.Prelude.{ℕ, List, ◌++◌, Some}
 use Rattle.volume_keeper_records.specs.declared.rows.Node.{Node}
 use Rattle.volume_keeper_records.specs.Records.{long_bytes}
 use Rattle.volume_spec.specs.VolumeState.{Row}
 
--- a node whose forks have so many bytes
+-- a node of the version that is written, whose forks have so many bytes
 abbrev pub sized : Row → ℕ → ℕ → Node
 sized r data_length resource_length = record {
   id = r.id;
@@ -18,6 +18,7 @@ sized r data_length resource_length = record {
   is_filed = r.filed;
   data_length = data_length;
   resource_length = resource_length;
+  privileges = Some r.privileges;
   name = r.name;
 }
 
